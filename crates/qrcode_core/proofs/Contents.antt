@@ -1,0 +1,32 @@
+-- The raw bits of a grid tell the codewords, and so the data.
+use Rattle.std.proofs.Common.{◌≡◌, ℕ, ◌+◌, ◌*◌, ◌<◌, refl, ap, sym, ◌∙◌, arith, List, [], ◌∷◌, ◌++◌, length, Bool, length-append}
+use Rattle.std.proofs.lemmas.List.{length-replicate}
+use Rattle.std.proofs.lemmas.List.Elements.{All-head, All-tail}
+use Rattle.qrcode_base.specs.Numbers.{byte_bits, zero_bits}
+use Rattle.qrcode_bits.proofs.Numbers.{number_front, front_is, length-byte_bits}
+use Rattle.qrcode_grid.specs.Codes.{AreBytes}
+
+-- bytes are told by their bits
+pub bytes-of_bits : (xs ys : List ℕ) → AreBytes xs → AreBytes ys → length xs ≡ length ys → byte_bits xs ≡ byte_bits ys → xs ≡ ys
+bytes-of_bits [] [] hx hy l e = refl
+bytes-of_bits [] (y ∷ ys) hx hy l e = absurd (omega arith)
+bytes-of_bits (x ∷ xs) [] hx hy l e = absurd (omega arith)
+bytes-of_bits (x ∷ xs) (y ∷ ys) hx hy l e =
+    let bx : x < 256 = All-head (λ x. x < 256) x xs hx in let by : y < 256 = All-head (λ x. x < 256) y ys hy in
+    let first = number_front 8 x y (byte_bits xs) (byte_bits ys) (omega arith) (omega arith) e in
+    let rest : xs ≡ ys = bytes-of_bits xs ys (All-tail (λ x. x < 256) x xs hx) (All-tail (λ x. x < 256) y ys hy) (omega arith) first.1 in
+    let same : x ≡ y = first.0 in
+    cc
+
+-- the bits that are drawn, of bytes of which some last bits are not
+pub length-drawn : (xs : List ℕ) (drawn : List Bool) (missing : ℕ) → byte_bits xs ≡ drawn ++ zero_bits missing → length drawn + missing ≡ length xs * 8
+length-drawn xs drawn missing e =
+    omega (arith, ap (λ (b : List Bool). length b) e, length-append drawn (zero_bits missing), length-replicate missing Bool.false, length-byte_bits xs)
+
+-- Two lists of as many bytes, drawn in front of one list of bits, are the same.
+pub bytes-of_drawn : (xs ys : List ℕ) (missing : ℕ) (dx dy rx ry : List Bool) → AreBytes xs → AreBytes ys → length xs ≡ length ys →
+    byte_bits xs ≡ dx ++ zero_bits missing → byte_bits ys ≡ dy ++ zero_bits missing → dx ++ rx ≡ dy ++ ry → xs ≡ ys
+bytes-of_drawn xs ys missing dx dy rx ry hx hy l ex ey e =
+    let lx = length-drawn xs dx missing ex in let ly = length-drawn ys dy missing ey in
+    let same = (front_is dx dy rx ry (omega arith) e).0 in
+    bytes-of_bits xs ys hx hy l (ex ∙ ap (λ d. d ++ zero_bits missing) same ∙ sym ey)

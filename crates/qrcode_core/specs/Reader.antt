@@ -1,0 +1,65 @@
+-- What a grid of colours says: the reader of a symbol, as a relation (ISO/IEC 18004, reference decode algorithm, without the
+-- correction of errors). Nothing here writes a symbol.
+use Rattle.std.specs.Prelude.{◌≡◌, ℕ, ◌*◌, Bool, List, ◌++◌, length, map, Option, Some}
+use Rattle.qrcode_base.specs.declared.symbols.BlockLayout.{BlockLayout}
+use Rattle.qrcode_base.specs.declared.types.Color.{Color}
+use Rattle.qrcode_base.specs.declared.types.EcLevel.{EcLevel}
+use Rattle.qrcode_base.specs.declared.types.Version.{Version}
+use Rattle.qrcode_base.specs.Numbers.{byte_bits, zero_bits}
+use Rattle.qrcode_base.specs.Symbols.{blocks_of, block_sizes, missing_bits, width_of}
+use Rattle.qrcode_bits.specs.Frame.{Header, IsFrame}
+use Rattle.qrcode_grid.specs.declared.canvas.MaskPattern.{MaskPattern}
+use Rattle.qrcode_grid.specs.Blocks.{AreCodewords}
+use Rattle.qrcode_grid.specs.Codes.{AreBytes}
+use Rattle.qrcode_grid.specs.Counts.{left_over}
+use Rattle.qrcode_grid.specs.Masks.{IsOfFamily, raw_colors}
+use Rattle.qrcode_grid.specs.Penalty.{is_dark}
+use Rattle.qrcode_grid.specs.Symbol.{HasFunctionalColors}
+
+-- What is read from a grid: the bytes, the symbol that carries them, perhaps the header of a sequence, and how many bits
+-- stand before the terminator.
+pub record Reading : Type 0 where
+  pub bytes : List ℕ
+  pub version : Version
+  pub level : EcLevel
+  pub mask : MaskPattern
+  pub header : Option Header
+  pub payload : ℕ
+
+abbrev pub reading_of : List ℕ → Version → EcLevel → MaskPattern → Option Header → ℕ → Reading
+reading_of bytes version level mask header payload =
+    record { bytes = bytes; version = version; level = level; mask = mask; header = header; payload = payload }
+
+-- The bits in the data cells, in their order and with the mask taken off: dark is one.
+abbrev pub raw_bits : Version → MaskPattern → List Color → List Bool
+raw_bits version mask grid = map is_dark (raw_colors version mask grid)
+
+-- A grid is read so.
+--
+-- The functional modules are those of the version, and show the level and the mask. The data cells hold the interleaved data
+-- codewords, then the interleaved correction codewords, then zeros in the cells that are left over. Put back in their order the
+-- codewords are sound blocks, and their data are a frame of the bytes.
+--
+-- In M1 and M3 symbols the last data codeword has four bits: its low half is not drawn, and counts as zeros.
+pub record Reads (grid : List Color) (reading : Reading) : Type 0 where
+  pub blocks : BlockLayout
+  pub interleaved : List ℕ
+  pub correction : List ℕ
+  pub codewords : List ℕ
+  pub drawn : List Bool
+  pub frame : List Bool
+  pub has_level : blocks_of reading.version reading.level ≡ Some blocks
+  pub has_mask : IsOfFamily reading.version reading.mask
+  pub is_square : length grid ≡ width_of reading.version * width_of reading.version
+  pub functional : HasFunctionalColors reading.version reading.level reading.mask grid
+  pub cells : raw_bits reading.version reading.mask grid ≡ drawn ++ (byte_bits correction ++ zero_bits (left_over reading.version))
+  pub drawn_is : byte_bits interleaved ≡ drawn ++ zero_bits (missing_bits reading.version)
+  pub bytes_interleaved : AreBytes interleaved
+  pub bytes_correction : AreBytes correction
+  pub sound : AreCodewords blocks.correction (block_sizes blocks) codewords interleaved correction
+  pub frame_is : byte_bits codewords ≡ frame ++ zero_bits (missing_bits reading.version)
+  pub framed : IsFrame reading.version reading.level reading.header reading.bytes reading.payload frame
+
+-- No grid is read in two ways.
+abbrev pub HaveOneReading : Type 0
+HaveOneReading = (grid : List Color) (first second : Reading) → Reads grid first → Reads grid second → first ≡ second
