@@ -14,10 +14,10 @@ use Rattle.qrcode_bits.specs.Frame.{terminator_width, tail, half_byte, half_byte
 use Rattle.qrcode_bits.proofs.Streams.{length-tail, length-ended}
 
 -- no bits are missing, or four of at least one byte
-abbrev Lacks : Version → BlockLayout → Type 0
+abbrev pub Lacks : Version → BlockLayout → Type 0
 Lacks v b = (missing_bits v ≡ 0) ⊎ ((missing_bits v ≡ 4) × (1 ≤ data_bytes b))
 
-lacks : (v : Version) (l : EcLevel) (b : BlockLayout) → blocks_of v l ≡ Some b → Lacks v b
+pub lacks : (v : Version) (l : EcLevel) (b : BlockLayout) → blocks_of v l ≡ Some b → Lacks v b
 lacks (Normal n) l b e = inl refl
 lacks (Micro (negsuc n)) l b e = inl refl
 lacks (Micro (pos zero)) l b e = absurd (none-some b e)

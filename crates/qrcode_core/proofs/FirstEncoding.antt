@@ -1,5 +1,5 @@
 -- One segment of at most 17 bytes in version 1 at level L.
-use Rattle.std.proofs.Common.{◌≡◌, ℕ, pos, ◌+◌, ◌-◌, ◌*◌, ◌%◌, ◌<◌, ◌≤◌, refl, ap, sym, ◌∙◌, arith, subst, List, [], ◌∷◌, ◌++◌, length, Bool, length-append, append-nil}
+use Rattle.std.proofs.Common.{◌≡◌, ℕ, pos, ◌+◌, ◌-◌, ◌%◌, ◌<◌, ◌≤◌, refl, ap, sym, ◌∙◌, arith, subst, List, [], ◌∷◌, ◌++◌, length, Bool, append-nil}
 use Rattle.std.specs.Prelude.{Some, None, All}
 use Rattle.std.proofs.lemmas.Option.{same_Some}
 use Rattle.qrcode_base.specs.declared.types.EcLevel.TheVariants.{L}
@@ -8,7 +8,7 @@ use Rattle.qrcode_base.specs.declared.types.Version.{Version}
 use Rattle.qrcode_base.specs.declared.types.Version.TheVariants.{Normal}
 use Rattle.qrcode_base.specs.declared.types.errors.QrError.{QrError}
 use Rattle.qrcode_base.specs.declared.types.errors.QrError.TheVariants.{DataTooLong, InvalidVersion, OutOfMemory}
-use Rattle.qrcode_base.specs.Numbers.{byte_bits, zero_bits, number_bits}
+use Rattle.qrcode_base.specs.Numbers.{byte_bits, zero_bits}
 use Rattle.qrcode_base.specs.Symbols.{blocks, capacity}
 use Rattle.qrcode_bits.specs.Frame.{AreSpelled, spellings, message, ended}
 use Rattle.qrcode_bits.specs.Push.{piece, EndsAtLevel, IsLevelRefused}

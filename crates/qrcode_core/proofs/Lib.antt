@@ -1,9 +1,9 @@
-pub mod Sizes
 pub mod Formats
 pub mod Contents
 pub mod OneReading
 pub mod HalfBytes
 pub mod DrawnReading
 pub mod Ending
+pub mod Lengths
 pub mod Encoding
 pub mod FirstEncoding

@@ -9,24 +9,20 @@ use Rattle.qrcode_base.specs.declared.types.Color.{Color}
 use Rattle.qrcode_base.specs.declared.types.EcLevel.{EcLevel}
 use Rattle.qrcode_base.specs.declared.types.Version.{Version}
 use Rattle.qrcode_base.specs.declared.symbols.BlockLayout.{BlockLayout}
-use Rattle.qrcode_base.specs.Symbols.{blocks_of, block_sizes, missing_bits, IsVersion, IsSymbol}
+use Rattle.qrcode_base.specs.Symbols.{blocks_of, block_sizes, missing_bits, IsSymbol}
 use Rattle.qrcode_base.specs.Numbers.{byte_bits, zero_bits}
 use Rattle.qrcode_bits.specs.Frame.{Header, IsFrame}
 use Rattle.qrcode_bits.proofs.Reading.{frame_one_reading}
 use Rattle.qrcode_grid.specs.declared.canvas.MaskPattern.{MaskPattern}
 use Rattle.qrcode_grid.specs.Counts.{left_over}
-use Rattle.qrcode_grid.proofs.SymbolVersions.{version_of_symbol}
 use Rattle.qrcode_grid.specs.Blocks.{blocks_in}
 use Rattle.qrcode_core.specs.Reader.{Reading, Reads, HaveOneReading}
-use Rattle.qrcode_core.proofs.Sizes.{version-of_size}
+use Rattle.qrcode_base.proofs.Widths.{version-of_blocks, version-of_size}
 use Rattle.qrcode_core.proofs.Formats.{same_format}
 use Rattle.qrcode_core.proofs.Contents.{bytes-of_drawn}
 
-pub is_symbol : (v : Version) (l : EcLevel) (b : BlockLayout) → blocks_of v l ≡ Some b → IsSymbol v l
+is_symbol : (v : Version) (l : EcLevel) (b : BlockLayout) → blocks_of v l ≡ Some b → IsSymbol v l
 is_symbol v l b e = ap is_some e
-
-pub version-of_blocks : (v : Version) (l : EcLevel) (b : BlockLayout) → blocks_of v l ≡ Some b → IsVersion v
-version-of_blocks v l b e = version_of_symbol v l (is_symbol v l b e)
 
 pub same_version : (grid : List Color) (r s : Reading) → Reads grid r → Reads grid s → r.version ≡ s.version
 same_version grid r s f g =

@@ -1,5 +1,5 @@
 //! The symbol of some bytes: segments, codewords, modules.
-ghost use Rattle.std.specs.Prelude.{◌≡◌, pos, ◌<◌, [], length, None, OnOk, IfOk, IfErr};
+ghost use Rattle.std.specs.Prelude.{◌≡◌, pos, ◌<◌, [], length, None, IsTrue, ◌↔◌, OnOk, IfOk, IfErr};
 ghost use Rattle.qrcode_base.specs.declared.types.EcLevel.TheVariants.{L};
 ghost use Rattle.qrcode_base.specs.declared.types.Version.TheVariants.{Normal};
 ghost use Rattle.qrcode_bits.specs.Frame.{spellings};
@@ -24,20 +24,32 @@ pub fn symbol(alloc: Global, bytes: &[u8], level: EcLevel) -> QrResult<Vec<Color
     ensures asked { OnOk result (IsAsked bytes.now level) }
     ensures refused { IfErr result (IsRefusal bytes.now level) }
 {
-    if level != EcLevel::L || bytes.len() > MOST_BYTES {
+    if !is_asked(bytes, level) {
         return Err(QrError::DataTooLong);
     }
     let version = Version::Normal(1);
     let codewords = byte_codewords(alloc, bytes)?;
-    let (interleaved, correction) = construct_codewords(alloc, &codewords, version, level)?;
-    draw_symbol_with_mask(
-        alloc,
-        version,
-        level,
-        MaskPattern::Checkerboard,
-        &interleaved,
-        &correction,
-    )
+    match construct_codewords(alloc, &codewords, version, EcLevel::L) {
+        Ok((interleaved, correction)) => match draw_symbol_with_mask(
+            alloc,
+            version,
+            EcLevel::L,
+            MaskPattern::Checkerboard,
+            &interleaved,
+            &correction,
+        ) {
+            Ok(grid) => Ok(grid),
+            Err(error) => Err(error),
+        },
+        Err(error) => Err(error),
+    }
+}
+
+// Whether the symbol is one that the first path draws.
+fn is_asked(bytes: &[u8], level: EcLevel) -> bool
+    ensures { IsTrue result ↔ IsAsked bytes.now level }
+{
+    matches!(level, EcLevel::L) && bytes.len() <= MOST_BYTES
 }
 
 // The data codewords of one segment of bytes in version 1 at level L.

@@ -1,5 +1,5 @@
 -- The stream of the segment, ended and turned into bytes.
-use Rattle.std.proofs.Common.{◌<◌, List, Bool, ℕ, arith, subst}
+use Rattle.std.proofs.Common.{◌<◌, arith}
 use Rattle.std.specs.Prelude.{All}
 use Rattle.qrcode_bits.proofs.Pairs.{bytes_valid}
 use Rattle.qrcode_core.proofs.FirstEncoding.{bytes_encoded, end_wants_memory}
