@@ -67,4 +67,3 @@ cut_at bits front m n e long =
     let whole : length front + m ≡ n = omega (arith, sym (ap (λ (b : List Bool). length b) e), length-append front (zero_bits m), length-replicate m Bool.false, long) in
     let at : take (n - m) bits ≡ front = ap (take (n - m)) e ∙ take_at front (zero_bits m) (n - m) (omega (arith, whole)) in
     e ∙ ap (λ f. f ++ zero_bits m) (sym at)
-

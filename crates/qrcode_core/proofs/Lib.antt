@@ -7,3 +7,4 @@ pub mod Ending
 pub mod Lengths
 pub mod Encoding
 pub mod FirstEncoding
+pub mod Printed

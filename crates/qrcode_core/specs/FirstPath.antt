@@ -35,3 +35,7 @@ abbrev pub IsRefusal : List ℕ → EcLevel → QrError → Type 0
 IsRefusal bytes level DataTooLong = IsAsked bytes level → ⊥
 IsRefusal bytes level OutOfMemory = IsAsked bytes level
 IsRefusal bytes level other = ⊥
+
+-- as many modules as the square of a width
+abbrev pub IsSquare : List Color → Type 0
+IsSquare grid = (width : ℕ) × (length grid ≡ width * width)

@@ -1,3 +1,6 @@
 pub mod Reader
+pub mod Example
 pub mod Layers
 pub mod FirstPath
+pub use Rattle.qrcode_base.specs.ErrorTexts
+pub use Rattle.qrcode_base.specs.Names

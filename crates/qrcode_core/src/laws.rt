@@ -1,8 +1,14 @@
 //! What holds of grids and of what is read from them.
-ghost use Rattle.qrcode_core.specs.Reader.{HaveOneReading};
+ghost use Rattle.qrcode_core.specs.Example.{printed, printed_reading};
+ghost use Rattle.qrcode_core.specs.Reader.{HaveOneReading, Reads};
 
 /// No grid is read in two ways: the bytes, the version, the level, the mask, the header and the payload bits that a reader
 /// finds are the only ones.
 pub fn have_one_reading()
     ensures { HaveOneReading }
+{}
+
+/// The reader reads a printed symbol: the digits `12345` in M1 at level L under the mask Diamonds, with 20 payload bits.
+pub fn printed_symbol_is_read()
+    ensures { Reads printed printed_reading }
 {}

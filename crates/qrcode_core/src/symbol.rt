@@ -3,7 +3,7 @@ ghost use Rattle.std.specs.Prelude.{◌≡◌, pos, ◌<◌, [], length, None, I
 ghost use Rattle.qrcode_base.specs.declared.types.EcLevel.TheVariants.{L};
 ghost use Rattle.qrcode_base.specs.declared.types.Version.TheVariants.{Normal};
 ghost use Rattle.qrcode_bits.specs.Frame.{spellings};
-ghost use Rattle.qrcode_core.specs.FirstPath.{byte_pieces, byte_segment_bits, IsAsked, IsFirstSymbol, IsRefusal};
+ghost use Rattle.qrcode_core.specs.FirstPath.{byte_pieces, byte_segment_bits, IsAsked, IsFirstSymbol, IsRefusal, IsSquare};
 ghost use Rattle.qrcode_core.specs.Layers.{IsEncoded};
 
 use qrcode_base::types::{Color, EcLevel, QrError, QrResult, Version};
@@ -21,6 +21,7 @@ const MOST_BYTES: usize = 17;
 /// 17 bytes; of another level, or of more bytes, the answer is `DataTooLong`. `OutOfMemory` comes where a growth was refused.
 pub fn symbol(alloc: Global, bytes: &[u8], level: EcLevel) -> QrResult<Vec<Color>>
     ensures read { IfOk result (λ grid. IsFirstSymbol bytes.now grid.items) }
+    ensures square { IfOk result (λ grid. IsSquare grid.items) }
     ensures asked { OnOk result (IsAsked bytes.now level) }
     ensures refused { IfErr result (IsRefusal bytes.now level) }
 {

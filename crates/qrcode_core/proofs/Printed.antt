@@ -1,0 +1,126 @@
+-- The printed symbol of the digits 12345 in M1 is read as these digits: its parts are computed.
+use Rattle.std.proofs.Common.{◌≡◌, ℕ, zero, suc, pos, ◌+◌, ◌*◌, ◌<◌, refl, ap, sym, ◌∙◌, arith, List, [], ◌∷◌, Bool, true, false, take, subst, rules}
+use Rattle.std.specs.Prelude.{Option, Some, None, slice_get, codes}
+use Rattle.std.proofs.lemmas.Bool.{false≢true}
+use Rattle.qrcode_base.specs.declared.types.Color.{Color}
+use Rattle.qrcode_base.specs.declared.types.Color.TheVariants.{Light, Dark}
+use Rattle.qrcode_base.specs.declared.types.EcLevel.TheVariants.{L}
+use Rattle.qrcode_base.specs.declared.types.Mode.TheVariants.{Numeric}
+use Rattle.qrcode_base.specs.declared.types.Version.{Version}
+use Rattle.qrcode_base.specs.declared.types.Version.TheVariants.{Micro}
+use Rattle.qrcode_base.specs.Numbers.{number_bits, byte_bits}
+use Rattle.qrcode_base.specs.Symbols.{blocks}
+use Rattle.qrcode_bits.specs.Frame.{IsFrame, bytes_in_turn}
+use Rattle.qrcode_bits.specs.Spelling.{Piece, numeric_bits}
+use Rattle.qrcode_grid.specs.declared.canvas.MaskPattern.TheVariants.{Diamonds}
+use Rattle.qrcode_grid.specs.Blocks.{place, block_in, blocks_in, codeword_block, AreCodewords}
+use Rattle.qrcode_grid.specs.Codes.{value_at, IsSound}
+use Rattle.qrcode_grid.specs.Field.{double, shift_and_add, product, power}
+use Rattle.qrcode_grid.specs.Masks.{format_word}
+use Rattle.qrcode_grid.specs.Penalty.{same_color}
+use Rattle.qrcode_grid.specs.Regions.{functional_color}
+use Rattle.qrcode_grid.specs.Symbol.{HasFunctionalColors}
+use Rattle.qrcode_grid.proofs.Tests.{all_pass, passes}
+use Rattle.qrcode_core.specs.Example.{printed, printed_reading}
+use Rattle.qrcode_core.specs.Reader.{Reads}
+
+-- ---- Functional colours, computed
+
+abbrev pub shows : Option Color → Option Color → Bool
+shows None seen = true
+shows (Some c) None = false
+shows (Some c) (Some d) = same_color c d
+
+from_same_color : (c d : Color) → same_color c d ≡ true → d ≡ c
+from_same_color Dark Dark e = refl
+from_same_color Dark Light e = absurd (false≢true e)
+from_same_color Light Dark e = absurd (false≢true e)
+from_same_color Light Light e = refl
+
+from_shows : (wanted seen : Option Color) (c : Color) → shows wanted seen ≡ true → wanted ≡ Some c → seen ≡ Some c
+from_shows None seen c e h = cc
+from_shows (Some d) None c e h = absurd (false≢true e)
+from_shows (Some d) (Some s) c e h = ap (λ s. Some s) (from_same_color d s e) ∙ h
+
+abbrev pub shows_functional : Version → ℕ → ℕ → List Color → Bool
+shows_functional version word w grid =
+    all_pass (λ y. all_pass (λ x. shows (functional_color version word x y) (slice_get grid (y * w + x))) 0 w) 0 w
+
+pub functional-of_test : (version : Version) (word w : ℕ) (grid : List Color) → shows_functional version word w grid ≡ true →
+    (x y : ℕ) (c : Color) → x < w → y < w → functional_color version word x y ≡ Some c → slice_get grid (y * w + x) ≡ Some c
+functional-of_test version word w grid test x y c l m e =
+    let row = passes (λ y. all_pass (λ x. shows (functional_color version word x y) (slice_get grid (y * w + x))) 0 w) 0 w y test (omega arith) (omega arith) in
+    let here = passes (λ x. shows (functional_color version word x y) (slice_get grid (y * w + x))) 0 w x row (omega arith) (omega arith) in
+    from_shows (functional_color version word x y) (slice_get grid (y * w + x)) c here e
+
+-- ---- The symbol
+
+printed_word : format_word (Micro (pos 1)) L Diamonds ≡ 0x4E2B
+printed_word = refl
+
+printed_test : shows_functional (Micro (pos 1)) 0x4E2B 11 printed ≡ true
+printed_test = refl
+
+printed_functional : HasFunctionalColors (Micro (pos 1)) L Diamonds printed
+printed_functional =
+    subst (λ (word : ℕ). (x y : ℕ) (c : Color) → x < 11 → y < 11 → functional_color (Micro (pos 1)) word x y ≡ Some c → slice_get printed (y * 11 + x) ≡ Some c)
+    (sym printed_word) (functional-of_test (Micro (pos 1)) 0x4E2B 11 printed printed_test)
+
+abbrev words : List ℕ
+words = 0xA3 ∷ 0xDA ∷ 0xD0 ∷ []
+
+abbrev checks : List ℕ
+checks = 0x6E ∷ 0xC7 ∷ []
+
+printed_sound : (block : ℕ) → block < 1 → IsSound 2 (codeword_block 2 (3 ∷ []) words checks block)
+unfolding IsSound value_at power product shift_and_add double block_in place
+printed_sound zero h = λ i below. at i below
+  where
+    at : (i : ℕ) → i < 2 → value_at (0xA3 ∷ 0xDA ∷ 0xD0 ∷ 0x6E ∷ 0xC7 ∷ []) (power 2 i) ≡ 0
+    at zero h = refl
+    at (suc zero) h = refl
+    at (suc (suc i)) h = absurd (omega arith)
+printed_sound (suc block) h = absurd (omega arith)
+
+printed_codewords : AreCodewords 2 (3 ∷ []) words words checks
+unfolding blocks_in block_in place
+printed_codewords = record { stream_length = refl; correction_length = refl; in_order = refl; sound = printed_sound }
+
+abbrev digits : Piece
+digits = record { mode = Numeric; text = codes "12345" }
+
+printed_frame : IsFrame (Micro (pos 1)) L None (codes "12345") 20 (take 20 (byte_bits words))
+unfolding number_bits numeric_bits bytes_in_turn
+printed_frame = record {
+  limit = 20;
+  pieces = digits ∷ [];
+  limit_is = refl;
+  header_fits = tt;
+  spelled = ((record { mode = omega arith; valid = search rules; counted = omega arith }, λ e. cc), tt);
+  bytes_are = refl;
+  payload_is = refl;
+  fits = omega arith;
+  bits_are = refl;
+}
+
+pub printed_reads : Reads printed printed_reading
+unfolding number_bits
+printed_reads = record {
+  blocks = blocks 2 3 1 0 0;
+  interleaved = words;
+  correction = checks;
+  codewords = words;
+  drawn = take 20 (byte_bits words);
+  frame = take 20 (byte_bits words);
+  has_level = refl;
+  has_mask = refl;
+  is_square = refl;
+  functional = printed_functional;
+  cells = refl;
+  drawn_is = refl;
+  bytes_interleaved = search rules;
+  bytes_correction = search rules;
+  sound = printed_codewords;
+  frame_is = refl;
+  framed = printed_frame;
+}

@@ -1,0 +1,84 @@
+//! A plain reader for the tests, of all versions. It walks the cells by their numbers and calls nothing of the product.
+mod blocks;
+mod cells;
+mod frame;
+
+use crate::types::{Color, EcLevel};
+use std::alloc::Global;
+
+/// The shape of a grid: its width, and the number of its version.
+#[derive(Clone, Copy, Debug, PartialEq, Eq)]
+pub struct Shape {
+    pub width: usize,
+    pub number: usize,
+    pub micro: bool,
+}
+
+/// What a grid says.
+#[derive(Drop)]
+pub struct Seen {
+    pub shape: Shape,
+    pub level: EcLevel,
+
+    /// The format word as it is drawn.
+    pub format: u32,
+
+    /// The number of the mask in the family of the version.
+    pub mask: usize,
+
+    /// The data codewords, in the order of the blocks.
+    pub codewords: Vec<u8>,
+
+    /// The position, the total and the parity of a sequence, where the frame begins with a header.
+    pub header: Option<(u8, u8, u8)>,
+
+    /// How many bits stand before the terminator.
+    pub payload: usize,
+    pub bytes: Vec<u8>,
+}
+
+/// Reads a grid: `None` where it is no symbol, or where memory was wanting.
+pub fn read(alloc: Global, grid: &[Color]) -> Option<Seen> {
+    let shape = shape_of(grid)?;
+    let (level, mask) = cells::format_of(grid, shape)?;
+    if !cells::has_patterns(grid, shape) {
+        return None;
+    }
+    let bits = cells::raw_bits(alloc, grid, shape, mask)?;
+    let codewords = blocks::data_codewords(alloc, &bits, shape, level)?;
+    let text = frame::read(alloc, &codewords, shape)?;
+    Some(Seen {
+        shape,
+        level,
+        format: cells::drawn_format(grid, shape)?,
+        mask,
+        codewords,
+        header: text.header,
+        payload: text.payload,
+        bytes: text.bytes,
+    })
+}
+
+fn shape_of(grid: &[Color]) -> Option<Shape> {
+    let width = grid.len().isqrt();
+    if width.wrapping_mul(width) != grid.len() {
+        return None;
+    }
+    if width >= 21 && width <= 177 && width % 4 == 1 {
+        let number = (width - 17) / 4;
+        return Some(Shape {
+            width,
+            number,
+            micro: false,
+        });
+    }
+    if width >= 11 && width <= 17 && width % 2 == 1 {
+        let number = (width - 9) / 2;
+        return Some(Shape {
+            width,
+            number,
+            micro: true,
+        });
+    }
+    None
+}

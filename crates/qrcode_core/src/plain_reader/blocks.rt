@@ -1,0 +1,219 @@
+//! Blocks of codewords, and whether they are sound.
+use crate::plain_reader::Shape;
+use crate::types::EcLevel;
+use std::alloc::Global;
+
+// The correction codewords of each block, by level and version.
+const CORRECTION: [[u8; 40]; 4] = [
+    [
+        7, 10, 15, 20, 26, 18, 20, 24, 30, 18, 20, 24, 26, 30, 22, 24, 28, 30, 28, 28, 28, 28, 30,
+        30, 26, 28, 30, 30, 30, 30, 30, 30, 30, 30, 30, 30, 30, 30, 30, 30,
+    ],
+    [
+        10, 16, 26, 18, 24, 16, 18, 22, 22, 26, 30, 22, 22, 24, 24, 28, 28, 26, 26, 26, 26, 28, 28,
+        28, 28, 28, 28, 28, 28, 28, 28, 28, 28, 28, 28, 28, 28, 28, 28, 28,
+    ],
+    [
+        13, 22, 18, 26, 18, 24, 18, 22, 20, 24, 28, 26, 24, 20, 30, 24, 28, 28, 26, 30, 28, 30, 30,
+        30, 30, 28, 30, 30, 30, 30, 30, 30, 30, 30, 30, 30, 30, 30, 30, 30,
+    ],
+    [
+        17, 28, 22, 16, 22, 28, 26, 26, 24, 28, 24, 28, 22, 24, 24, 30, 28, 28, 26, 28, 30, 24, 30,
+        30, 30, 30, 30, 30, 30, 30, 30, 30, 30, 30, 30, 30, 30, 30, 30, 30,
+    ],
+];
+
+// How many blocks there are, by level and version.
+const BLOCKS: [[u8; 40]; 4] = [
+    [
+        1, 1, 1, 1, 1, 2, 2, 2, 2, 4, 4, 4, 4, 4, 6, 6, 6, 6, 7, 8, 8, 9, 9, 10, 12, 12, 12, 13,
+        14, 15, 16, 17, 18, 19, 19, 20, 21, 22, 24, 25,
+    ],
+    [
+        1, 1, 1, 2, 2, 4, 4, 4, 5, 5, 5, 8, 9, 9, 10, 10, 11, 13, 14, 16, 17, 17, 18, 20, 21, 23,
+        25, 26, 28, 29, 31, 33, 35, 37, 38, 40, 43, 45, 47, 49,
+    ],
+    [
+        1, 1, 2, 2, 4, 4, 6, 6, 8, 8, 8, 10, 12, 16, 12, 17, 16, 18, 21, 20, 23, 23, 25, 27, 29,
+        34, 34, 35, 38, 40, 43, 45, 48, 51, 53, 56, 59, 62, 65, 68,
+    ],
+    [
+        1, 1, 2, 4, 4, 4, 5, 6, 8, 8, 11, 11, 16, 16, 18, 16, 19, 21, 25, 25, 25, 34, 30, 32, 35,
+        37, 40, 42, 45, 48, 51, 54, 57, 60, 63, 66, 70, 74, 77, 81,
+    ],
+];
+
+// How the codewords are cut: so many blocks, each with so many correction codewords.
+#[derive(Clone, Copy)]
+struct Layout {
+    blocks: usize,
+    correction: usize,
+    data: usize,
+    missing: usize,
+}
+
+fn column(level: EcLevel) -> usize {
+    match level {
+        EcLevel::L => 0,
+        EcLevel::M => 1,
+        EcLevel::Q => 2,
+        EcLevel::H => 3,
+    }
+}
+
+// The correction codewords of a Micro symbol, and all its codewords.
+fn micro_layout(number: usize, level: EcLevel) -> Option<(usize, usize)> {
+    match (number, level) {
+        (1, EcLevel::L) => Some((2, 5)),
+        (2, EcLevel::L) => Some((5, 10)),
+        (2, EcLevel::M) => Some((6, 10)),
+        (3, EcLevel::L) => Some((6, 17)),
+        (3, EcLevel::M) => Some((8, 17)),
+        (4, EcLevel::L) => Some((8, 24)),
+        (4, EcLevel::M) => Some((10, 24)),
+        (4, EcLevel::Q) => Some((14, 24)),
+        _ => None,
+    }
+}
+
+fn layout_of(shape: Shape, level: EcLevel, cells: usize) -> Option<Layout> {
+    if shape.micro {
+        let (correction, all) = micro_layout(shape.number, level)?;
+        let missing = if shape.number % 2 == 1 { 4 } else { 0 };
+        return Some(Layout {
+            blocks: 1,
+            correction,
+            data: all.wrapping_sub(correction),
+            missing,
+        });
+    }
+    let place = shape.number.wrapping_sub(1);
+    let blocks = usize::from(*BLOCKS.get(column(level))?.get(place)?);
+    let correction = usize::from(*CORRECTION.get(column(level))?.get(place)?);
+    Some(Layout {
+        blocks,
+        correction,
+        data: (cells / 8).wrapping_sub(blocks.wrapping_mul(correction)),
+        missing: 0,
+    })
+}
+
+// The byte that eight bits are. Bits past the end are zeros.
+fn byte_at(bits: &[bool], from: usize) -> u8 {
+    let mut byte = 0u8;
+    for place in 0usize..8 {
+        let bit = bits.get(from.wrapping_add(place)).copied().unwrap_or(false);
+        byte = byte << 1 | u8::from(bit);
+    }
+    byte
+}
+
+// The stream of codewords. The last data codeword of M1 and M3 has four bits.
+fn codewords(alloc: Global, bits: &[bool], layout: Layout) -> Option<Vec<u8>> {
+    let mut all = Vec::new(alloc);
+    let end = layout.data.wrapping_mul(8).wrapping_sub(layout.missing);
+    let count = layout
+        .data
+        .wrapping_add(layout.blocks.wrapping_mul(layout.correction));
+    for place in 0..count {
+        let from = place.wrapping_mul(8);
+        let byte = if place >= layout.data {
+            byte_at(bits, from.wrapping_sub(layout.missing))
+        } else if from.wrapping_add(8) > end {
+            byte_at(bits, from) & 0xf0
+        } else {
+            byte_at(bits, from)
+        };
+        all.push(byte).ok()?;
+    }
+    Some(all)
+}
+
+// Whether the cells that no codeword takes hold zeros.
+fn rest_is_light(bits: &[bool], layout: Layout) -> bool {
+    let count = layout
+        .data
+        .wrapping_add(layout.blocks.wrapping_mul(layout.correction));
+    let end = count.wrapping_mul(8).wrapping_sub(layout.missing);
+    bits.iter().skip(end).all(|bit| !*bit)
+}
+
+fn times_two(a: u8) -> u8 {
+    let shifted = (a & 0x7f) << 1;
+    if a >= 0x80 { shifted ^ 0x1d } else { shifted }
+}
+
+fn product(a: u8, b: u8) -> u8 {
+    let mut sum = 0;
+    let mut term = a;
+    for place in 0u32..8 {
+        if (b >> place) & 1 == 1 {
+            sum ^= term;
+        }
+        term = times_two(term);
+    }
+    sum
+}
+
+// Whether a block vanishes at the first powers of 2.
+fn is_sound(block: &[u8], correction: usize) -> bool {
+    let mut point = 1;
+    for _ in 0..correction {
+        let mut value = 0;
+        for byte in block {
+            value = product(value, point) ^ *byte;
+        }
+        if value != 0 {
+            return false;
+        }
+        point = times_two(point);
+    }
+    true
+}
+
+// A block of the streams: its data codewords, and then its correction codewords.
+fn block(alloc: Global, stream: &[u8], layout: Layout, number: usize) -> Option<(Vec<u8>, usize)> {
+    let short = layout.data.checked_div(layout.blocks)?;
+    let long = layout.data.checked_rem(layout.blocks)?;
+    let first_long = layout.blocks.wrapping_sub(long);
+    let mut all = Vec::new(alloc);
+    for row in 0..short {
+        all.push(*stream.get(row.wrapping_mul(layout.blocks).wrapping_add(number))?)
+            .ok()?;
+    }
+    if number >= first_long {
+        let from = short.wrapping_mul(layout.blocks);
+        all.push(*stream.get(from.wrapping_add(number.wrapping_sub(first_long)))?)
+            .ok()?;
+    }
+    let size = all.len();
+    for row in 0..layout.correction {
+        let place = row.wrapping_mul(layout.blocks).wrapping_add(number);
+        all.push(*stream.get(layout.data.wrapping_add(place))?)
+            .ok()?;
+    }
+    Some((all, size))
+}
+
+/// The data codewords of all blocks, one block after the other, where every block is sound and the cells left over are light.
+pub fn data_codewords(
+    alloc: Global,
+    bits: &[bool],
+    shape: Shape,
+    level: EcLevel,
+) -> Option<Vec<u8>> {
+    let layout = layout_of(shape, level, bits.len())?;
+    let stream = codewords(alloc, bits, layout)?;
+    if !rest_is_light(bits, layout) {
+        return None;
+    }
+    let mut data = Vec::new(alloc);
+    for number in 0..layout.blocks {
+        let (block, size) = block(alloc, &stream, layout, number)?;
+        if !is_sound(&block, layout.correction) {
+            return None;
+        }
+        data.extend_from_slice(block.get(..size)?).ok()?;
+    }
+    Some(data)
+}

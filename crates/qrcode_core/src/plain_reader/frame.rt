@@ -1,0 +1,232 @@
+//! The data bits: segments, terminator and padding.
+use crate::plain_reader::Shape;
+use std::alloc::Global;
+
+/// What the data bits say.
+#[derive(Drop)]
+pub struct Text {
+    pub header: Option<(u8, u8, u8)>,
+    pub payload: usize,
+    pub bytes: Vec<u8>,
+}
+
+// Codewords, of which the last bits may be missing, and the place of the next bit.
+#[derive(Drop)]
+struct Cursor<'a> {
+    codewords: &'a [u8],
+    end: usize,
+    at: usize,
+}
+
+impl Cursor<'_> {
+    fn left(&self) -> usize {
+        self.end.saturating_sub(self.at)
+    }
+
+    fn bit(&self, place: usize) -> usize {
+        match self.codewords.get(place / 8) {
+            Some(byte) => usize::from(byte >> (7 - place % 8) & 1),
+            None => 0,
+        }
+    }
+
+    // The number in the next bits, without taking them.
+    fn look(&self, count: usize) -> Option<usize> {
+        if count > self.left() || count > 32 {
+            return None;
+        }
+        let mut number = 0usize;
+        for place in 0..count {
+            number = number
+                .wrapping_mul(2)
+                .wrapping_add(self.bit(self.at.wrapping_add(place)));
+        }
+        Some(number)
+    }
+
+    fn take(&mut self, count: usize) -> Option<usize> {
+        let number = self.look(count)?;
+        self.at = self.at.wrapping_add(count);
+        Some(number)
+    }
+}
+
+// A mode: its number of the four, from Numeric to Kanji.
+#[derive(Clone, Copy, PartialEq, Eq)]
+enum Kind {
+    Digits,
+    Signs,
+    Bytes,
+    Pairs,
+}
+
+fn kind_of(shape: Shape, indicator: usize) -> Option<Kind> {
+    match (shape.micro, indicator) {
+        (true, 0) | (false, 1) => Some(Kind::Digits),
+        (true, 1) | (false, 2) => Some(Kind::Signs),
+        (true, 2) | (false, 4) => Some(Kind::Bytes),
+        (true, 3) | (false, 8) => Some(Kind::Pairs),
+        _ => None,
+    }
+}
+
+fn count_width(shape: Shape, kind: Kind) -> usize {
+    let class = if shape.number < 10 {
+        0
+    } else if shape.number < 27 {
+        1
+    } else {
+        2
+    };
+    match (shape.micro, kind) {
+        (true, Kind::Digits) => shape.number.wrapping_add(2),
+        (true, Kind::Signs | Kind::Bytes) => shape.number.wrapping_add(1),
+        (true, Kind::Pairs) => shape.number,
+        (false, Kind::Digits) => [10, 12, 14][class],
+        (false, Kind::Signs) => [9, 11, 13][class],
+        (false, Kind::Bytes) => [8, 16, 16][class],
+        (false, Kind::Pairs) => [8, 10, 12][class],
+    }
+}
+
+fn read_digits(cursor: &mut Cursor, count: usize, bytes: &mut Vec<u8>) -> Option<()> {
+    for group in 0..count.div_ceil(3) {
+        let size = count.wrapping_sub(group.wrapping_mul(3)).min(3);
+        let (width, limit) = match size {
+            1 => (4, 10),
+            2 => (7, 100),
+            _ => (10, 1000),
+        };
+        let number = cursor.take(width)?;
+        if number >= limit {
+            return None;
+        }
+        let digits = [number / 100, number / 10 % 10, number % 10];
+        for digit in digits.iter().skip(3usize.saturating_sub(size)) {
+            bytes.push(b'0'.wrapping_add((*digit & 15) as u8)).ok()?;
+        }
+    }
+    Some(())
+}
+
+fn read_signs(cursor: &mut Cursor, count: usize, bytes: &mut Vec<u8>) -> Option<()> {
+    let signs = b"0123456789ABCDEFGHIJKLMNOPQRSTUVWXYZ $%*+-./:";
+    for pair in 0..count.div_ceil(2) {
+        if count.wrapping_sub(pair.wrapping_mul(2)) == 1 {
+            bytes.push(*signs.get(cursor.take(6)?)?).ok()?;
+        } else {
+            let number = cursor.take(11)?;
+            bytes.push(*signs.get(number / 45)?).ok()?;
+            bytes.push(signs[number % 45]).ok()?;
+        }
+    }
+    Some(())
+}
+
+fn read_pairs(cursor: &mut Cursor, count: usize, bytes: &mut Vec<u8>) -> Option<()> {
+    for _ in 0..count {
+        let number = cursor.take(13)?;
+        let code = (number / 192).wrapping_mul(256).wrapping_add(number % 192);
+        let code = if code < 0x1f00 {
+            code.wrapping_add(0x8140)
+        } else {
+            code.wrapping_add(0xc140)
+        };
+        bytes.push((code / 256 & 255) as u8).ok()?;
+        bytes.push((code & 255) as u8).ok()?;
+    }
+    Some(())
+}
+
+fn read_segment(cursor: &mut Cursor, shape: Shape, bytes: &mut Vec<u8>) -> Option<()> {
+    let width = if shape.micro {
+        shape.number.wrapping_sub(1)
+    } else {
+        4
+    };
+    let kind = kind_of(shape, cursor.take(width)?)?;
+    let count = cursor.take(count_width(shape, kind))?;
+    match kind {
+        Kind::Digits => read_digits(cursor, count, bytes),
+        Kind::Signs => read_signs(cursor, count, bytes),
+        Kind::Bytes => {
+            for _ in 0..count {
+                bytes.push((cursor.take(8)? & 255) as u8).ok()?;
+            }
+            Some(())
+        }
+        Kind::Pairs => read_pairs(cursor, count, bytes),
+    }
+}
+
+fn terminator(shape: Shape) -> usize {
+    if shape.micro {
+        shape.number.wrapping_mul(2).wrapping_add(1)
+    } else {
+        4
+    }
+}
+
+// Whether the rest is a terminator and padding.
+fn is_ended(cursor: &Cursor, shape: Shape) -> bool {
+    let width = terminator(shape).min(cursor.left());
+    let zeros = cursor.at.wrapping_add(width);
+    let bytes = zeros.div_ceil(8);
+    for place in cursor.at..cursor.end {
+        let pad = match (place / 8).wrapping_sub(bytes) % 2 {
+            0 => 0xecusize,
+            _ => 0x11,
+        };
+        let whole = (place / 8).wrapping_add(1).wrapping_mul(8) <= cursor.end;
+        let bit = if place / 8 < bytes || !whole {
+            0
+        } else {
+            pad >> (7 - place % 8) & 1
+        };
+        if cursor.bit(place) != bit {
+            return false;
+        }
+    }
+    true
+}
+
+/// Reads the segments, and checks that terminator and padding follow them.
+pub fn read(alloc: Global, codewords: &[u8], shape: Shape) -> Option<Text> {
+    let missing = if shape.micro && shape.number % 2 == 1 {
+        4
+    } else {
+        0
+    };
+    let end = codewords.len().wrapping_mul(8).wrapping_sub(missing);
+    let mut cursor = Cursor {
+        codewords,
+        end,
+        at: 0,
+    };
+    let mut header = None;
+    if !shape.micro && cursor.look(4) == Some(3) {
+        cursor.take(4)?;
+        let (position, total, parity) = (cursor.take(4)?, cursor.take(4)?, cursor.take(8)?);
+        header = Some((
+            (position & 15) as u8 + 1,
+            (total & 15) as u8 + 1,
+            (parity & 255) as u8,
+        ));
+    }
+    let mut bytes = Vec::new(alloc);
+    for _ in 0..end {
+        let width = terminator(shape);
+        if cursor.left() < width || cursor.look(width) == Some(0) {
+            break;
+        }
+        read_segment(&mut cursor, shape, &mut bytes)?;
+    }
+    if !is_ended(&cursor, shape) {
+        return None;
+    }
+    Some(Text {
+        header,
+        payload: cursor.at,
+        bytes,
+    })
+}

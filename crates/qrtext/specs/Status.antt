@@ -1,0 +1,42 @@
+-- What the program says, and the status that it ends with.
+use Rattle.std.specs.Prelude.{◌≡◌, ◌⊎◌, ℕ, Bool, List, ◌++◌, [], ◌∷◌, Option, codes, Result, Ok, Err}
+use Rattle.qrcode_core.specs.ErrorTexts.{error_text}
+use Rattle.std.specs.Bool.{OnTrue, OnFalse}
+use Rattle.std.specs.Io.KnownBytes.{Keeps}
+use Rattle.qrcode_core.specs.declared.types.errors.QrError.TheVariants.{DataTooLong}
+use Rattle.qrtext.specs.declared.draw.TextError.{TextError}
+use Rattle.qrtext.specs.declared.draw.TextError.TheVariants.{Symbol, Read, Write}
+use Rattle.qrtext.specs.Devices.{Writes}
+use Rattle.qrtext.specs.Outcome.{Gives}
+use Rattle.qrtext.specs.Words.{Request}
+
+-- the words of a fault
+abbrev pub words_of : TextError → List ℕ
+words_of (Symbol error) = error_text error
+words_of Read = codes "read failed"
+words_of Write = codes "write failed"
+
+-- the line that tells of what a drawing answered: none where all was drawn
+abbrev pub told : Result (Unit {0}) TextError → List ℕ
+told (Ok done) = []
+told (Err error) = codes "qrtext: " ++ words_of error ++ 10 ∷ []
+
+abbrev pub usage : List ℕ
+usage = codes "usage: qrtext L|M|Q|H [micro]" ++ 10 ∷ []
+
+-- 0 where all was drawn, and 1 where there was a fault
+abbrev pub status_of : Result (Unit {0}) TextError → ℕ
+status_of (Ok done) = 0
+status_of (Err error) = 1
+
+-- the line was written, or it found no memory and was left out
+abbrev pub Says : Option (List ℕ) → Option (List ℕ) → Bool → List ℕ → Type 0
+Says before after mute line = Writes before after mute line ⊎ Keeps before after
+
+-- the request was drawn, and the status and the line are those of what the drawing answered
+pub record Serves (request : Request) (unread left written now before after : Option (List ℕ)) (mute : Bool) (status : ℕ) : Type 0 where
+  pub outcome : Result (Unit {0}) TextError
+  pub gives : OnFalse request.micro (Gives request.level unread left written now outcome)
+  pub no_micro : OnTrue request.micro (outcome ≡ Err (Symbol DataTooLong))
+  pub status_is : status ≡ status_of outcome
+  pub says : Says before after mute (told outcome)

@@ -1,0 +1,79 @@
+//! From the words of the command line to the status.
+ghost use Rattle.std.specs.Prelude.{◌≡◌, ℕ, map, codes, ◌↔◌, IsTrue, IsFalse, MatchOption, Err};
+ghost use Rattle.qrtext.specs.Devices.{Writes};
+ghost use Rattle.qrtext.specs.Words.{Request, request, Ask, AskForNone};
+ghost use Rattle.qrtext.specs.Status.{told, usage, Says, Serves};
+
+use crate::devices::{Sink, Source};
+use crate::draw::{TextError, draw, write_all};
+use qrcode_core::types::EcLevel;
+use std::alloc::Global;
+
+// What the words ask for: a level, and whether the symbol is to be Micro.
+fn request_of(words: &[&str]) -> Option<(EcLevel, bool)>
+    ensures { MatchOption result
+        (AskForNone (map (λ word. word.now) words.now))
+        (λ asked. Ask (map (λ word. word.now) words.now) (request asked.1 asked.0)) }
+{
+    match words {
+        [word] => Some((word.parse().ok()?, false)),
+        [word, second] => {
+            if !is_micro(second) {
+                return None;
+            }
+            Some((word.parse().ok()?, true))
+        }
+        _ => None,
+    }
+}
+
+fn is_micro(word: &str) -> bool
+    ensures { IsTrue result ↔ (word.now ≡ codes "micro") }
+{
+    word == "micro"
+}
+
+/// Serves the words after the program's name, and answers the status: 0 where the text was written, 1 where there was a fault,
+/// 2 where the words ask for nothing.
+///
+/// A fault is told on `errors` in one line, and so is the usage; a fault of `errors` itself is dropped.
+pub fn run<R: Source, W: Sink, E: Sink>(
+    alloc: Global,
+    words: &[&str],
+    reader: &mut R,
+    writer: &mut W,
+    errors: &mut E,
+) -> u8
+    requires reader_sound { IsFalse (R.has_failed reader.old) }
+    requires writer_sound { IsFalse (W.has_failed writer.old) }
+    requires errors_sound { IsFalse (E.has_failed errors.old) }
+
+    // Words that ask for nothing have the status 2, and nothing is read or drawn.
+    ensures misused { AskForNone (map (λ word. word.now) words.now) → (result ≡ 2)
+        × (reader.new ≡ reader.old) × (writer.new ≡ writer.old) × Writes (E.written errors.old) (E.written errors.new) (E.has_failed errors.new) usage }
+    ensures served { (asked : Request) → Ask (map (λ word. word.now) words.now) asked → Serves asked
+        (R.remaining reader.old) (R.remaining reader.new) (W.written writer.old) (W.written writer.new)
+        (E.written errors.old) (E.written errors.new) (E.has_failed errors.new) result }
+{
+    let Some((level, micro)) = request_of(words) else {
+        let _ = write_all(errors, b"usage: qrtext L|M|Q|H [micro]\n");
+        return 2;
+    };
+    match draw(alloc, reader, writer, level, micro) {
+        Ok(()) => 0,
+        Err(error) => {
+            tell(alloc, errors, error);
+            1
+        }
+    }
+}
+
+// Tells a fault in one line, where there is memory for the line.
+fn tell<E: Sink>(alloc: Global, errors: &mut E, error: TextError)
+    requires { IsFalse (E.has_failed errors.old) }
+    ensures { Says (E.written errors.old) (E.written errors.new) (E.has_failed errors.new) (told (Err error)) }
+{
+    if let Ok(line) = format!(in alloc; "qrtext: {error}\n") {
+        let _ = write_all(errors, line.as_bytes());
+    }
+}

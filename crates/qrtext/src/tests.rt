@@ -1,0 +1,225 @@
+//! Devices that fail, and the words of the command line.
+use crate::devices::{FromReader, FromWriter};
+use crate::draw::{TextError, draw};
+use crate::run::run;
+use qrcode_core::types::{EcLevel, QrError};
+use std::io;
+use std::io::{ErrorKind, Read, Write};
+use std::test::Fail;
+
+// Gives its bytes, at most three a call, and fails at one of the calls.
+#[derive(Drop)]
+struct Fragile<'a> {
+    bytes: &'a [u8],
+    calls_left: usize,
+    kind: ErrorKind,
+}
+
+impl Read for Fragile<'_> {
+    fn read(&mut self, buf: &mut [u8]) -> io::Result<usize> {
+        if self.calls_left == 0 {
+            return Err(io::Error::from(self.kind));
+        }
+        self.calls_left -= 1;
+        let room = buf.len().min(3);
+        self.bytes.read(&mut buf[..room])
+    }
+}
+
+// Never ends, and counts the bytes that it gave.
+#[derive(Drop)]
+struct Endless {
+    given: usize,
+}
+
+impl Read for Endless {
+    fn read(&mut self, buf: &mut [u8]) -> io::Result<usize> {
+        buf.fill(b'a');
+        self.given = self.given.saturating_add(buf.len());
+        Ok(buf.len())
+    }
+}
+
+// How a writer goes on after some calls.
+#[derive(Clone, Copy)]
+enum Then {
+    Fails(ErrorKind),
+    TakesNothing,
+}
+
+// Keeps at most `most` bytes a call, for some calls.
+#[derive(Drop)]
+struct Narrow<'a> {
+    kept: &'a mut Vec<u8>,
+    most: usize,
+    calls_left: usize,
+    then: Then,
+}
+
+impl Write for Narrow<'_> {
+    fn write(&mut self, buf: &[u8]) -> io::Result<usize> {
+        if self.calls_left == 0 {
+            return match self.then {
+                Then::Fails(kind) => Err(io::Error::from(kind)),
+                Then::TakesNothing => Ok(0),
+            };
+        }
+        self.calls_left -= 1;
+        let count = buf.len().min(self.most);
+        self.kept.extend_from_slice(&buf[..count])?;
+        Ok(count)
+    }
+
+    fn flush(&mut self) -> io::Result<()> {
+        if self.calls_left == 0 {
+            return Err(io::Error::from(ErrorKind::Other));
+        }
+        Ok(())
+    }
+}
+
+// The symbol of `hello` at level L, as the original crate draws it under the same mask.
+const HELLO: &str = "\
+#######..#.##.#######\n\
+#.....#..###..#.....#\n\
+#.###.#.##.##.#.###.#\n\
+#.###.#..#.#..#.###.#\n\
+#.###.#...#.#.#.###.#\n\
+#.....#.....#.#.....#\n\
+#######.#.#.#.#######\n\
+........##.##........\n\
+###.########.##...#..\n\
+.#####.###....#....##\n\
+.######.#...#...#####\n\
+..##..........#....#.\n\
+....#.##.##.#.#.#....\n\
+........##.#.#.#..###\n\
+#######.####.###..###\n\
+#.....#.######.##....\n\
+#.###.#.####.###...##\n\
+#.###.#...#...##..##.\n\
+#.###.#.###.#...#.#.#\n\
+#.....#.##....#.#..#.\n\
+#######.#.#.#.##...##\n\
+";
+
+#[test]
+fn draws_all(rt: HostRuntime) -> Result<(), Fail> {
+    let mut text = Vec::new(rt.alloc());
+    let mut bytes: &[u8] = b"hello";
+    let mut reader = FromReader::new(&mut bytes);
+    let mut writer = FromWriter::new(&mut text);
+    let outcome = draw(rt.alloc(), &mut reader, &mut writer, EcLevel::L, false);
+    assert_eq!(rt; outcome, Ok(()));
+    assert_eq!(rt; text.as_slice(), HELLO.as_bytes());
+    Ok(())
+}
+
+#[test]
+fn reads_fail(rt: HostRuntime) -> Result<(), Fail> {
+    for kind in [ErrorKind::Other, ErrorKind::Interrupted] {
+        for calls in 0..3 {
+            let mut text: Vec<u8> = Vec::new(rt.alloc());
+            let mut reader = FromReader::new(Fragile {
+                bytes: b"hello",
+                calls_left: calls,
+                kind,
+            });
+            let mut writer = FromWriter::new(&mut text);
+            let outcome = draw(rt.alloc(), &mut reader, &mut writer, EcLevel::L, false);
+            assert_eq!(rt; outcome, Err(TextError::Read), "after {calls} calls");
+            assert_eq!(rt; text.len(), 0);
+        }
+    }
+    Ok(())
+}
+
+#[test]
+fn reads_no_more_than_is_too_many(rt: HostRuntime) -> Result<(), Fail> {
+    let mut text: Vec<u8> = Vec::new(rt.alloc());
+    let mut endless = Endless { given: 0 };
+    let mut reader = FromReader::new(&mut endless);
+    let mut writer = FromWriter::new(&mut text);
+    let outcome = draw(rt.alloc(), &mut reader, &mut writer, EcLevel::L, false);
+    assert_eq!(rt; outcome, Err(TextError::Symbol(QrError::DataTooLong)));
+    assert_eq!(rt; text.len(), 0);
+    assert_eq!(rt; endless.given, 7090);
+    Ok(())
+}
+
+#[test]
+fn writes_fail(rt: HostRuntime) -> Result<(), Fail> {
+    let (is_due, whole) = drawn(&rt, usize::MAX, usize::MAX, Then::TakesNothing)?;
+    assert!(rt; is_due);
+    assert_eq!(rt; whole.len(), 21 * 22);
+    for then in [
+        Then::Fails(ErrorKind::Other),
+        Then::Fails(ErrorKind::Interrupted),
+        Then::TakesNothing,
+    ] {
+        for calls in 0..4 {
+            let (is_due, text) = drawn(&rt, 100, calls, then)?;
+            assert!(rt; is_due);
+            assert_eq!(rt; text.len(), 100 * calls, "after {calls} calls");
+            assert!(rt; whole.as_slice().starts_with(text.as_slice()));
+        }
+    }
+    let (is_due, text) = drawn(&rt, 1, usize::MAX, Then::TakesNothing)?;
+    assert!(rt; is_due);
+    assert_eq!(rt; text.as_slice(), whole.as_slice());
+    Ok(())
+}
+
+// Whether a writer that takes at most `most` bytes a call, for some calls, has the outcome that
+// is due, and what it keeps.
+fn drawn(rt: &HostRuntime, most: usize, calls: usize, then: Then) -> Result<(bool, Vec<u8>), Fail> {
+    let mut kept = Vec::new(rt.alloc());
+    let mut bytes: &[u8] = b"hello";
+    let mut reader = FromReader::new(&mut bytes);
+    let mut writer = FromWriter::new(Narrow {
+        kept: &mut kept,
+        most,
+        calls_left: calls,
+        then,
+    });
+    let outcome = draw(rt.alloc(), &mut reader, &mut writer, EcLevel::L, false);
+    let wanted = if calls < usize::MAX {
+        Err(TextError::Write)
+    } else {
+        Ok(())
+    };
+    Ok((outcome == wanted, kept))
+}
+
+#[test]
+fn runs(rt: HostRuntime) -> Result<(), Fail> {
+    let usage = "usage: qrtext L|M|Q|H [micro]\n";
+    let too_long = "qrtext: data too long to encode\n";
+    let rows: [(&[&str], &[u8], u8, usize, &str); 9] = [
+        (&["L"], b"hello", 0, 21 * 22, ""),
+        (&[" l "], b"hello", 0, 21 * 22, ""),
+        (&["L"], b"aaaaaaaaaaaaaaaaaa", 1, 0, too_long),
+        (&["H"], b"hello", 1, 0, too_long),
+        (&["L", "micro"], b"hello", 1, 0, too_long),
+        (&["X"], b"hello", 2, 0, usage),
+        (&["L", "mikro"], b"hello", 2, 0, usage),
+        (&["L", "micro", "L"], b"hello", 2, 0, usage),
+        (&[], b"hello", 2, 0, usage),
+    ];
+    for (words, input, status, length, line) in rows {
+        let mut bytes = input;
+        let mut text: Vec<u8> = Vec::new(rt.alloc());
+        let mut said: Vec<u8> = Vec::new(rt.alloc());
+        let mut reader = FromReader::new(&mut bytes);
+        let mut writer = FromWriter::new(&mut text);
+        let mut errors = FromWriter::new(&mut said);
+        let answer = run(rt.alloc(), words, &mut reader, &mut writer, &mut errors);
+        assert_eq!(rt; answer, status, "{words:?}");
+        assert_eq!(rt; text.len(), length, "{words:?}");
+        assert_eq!(rt; said.as_slice(), line.as_bytes());
+        if status == 2 || words.len() == 2 {
+            assert_eq!(rt; bytes.len(), input.len(), "{words:?}");
+        }
+    }
+    Ok(())
+}
