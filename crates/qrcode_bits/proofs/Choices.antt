@@ -1,0 +1,367 @@
+-- The choice of the version: a chosen plan fits wherever some plan does, and the first class of versions whose chosen plan fits
+-- decides.
+use Rattle.std.proofs.Common.{◌≡◌, ℕ, zero, suc, pos, ◌+◌, ◌-◌, ◌^◌, ◌<◌, ◌≤◌, List, [], ◌∷◌, ◌++◌, Some, length, refl, sym, ap, ◌∙◌, subst, arith, inl, inr}
+use Rattle.std.specs.Prelude.{All, Option, None, nat_abs}
+use Rattle.std.proofs.lemmas.Bool.{cases_lt, cases_eq}
+use Rattle.std.proofs.lemmas.Nat.{pow_below}
+use Rattle.std.proofs.lemmas.List.Elements.{All-head, All-tail, All-nil, All-cons, All-append}
+use Rattle.qrcode_base.specs.declared.types.Version.{Version}
+use Rattle.qrcode_base.specs.declared.types.Version.TheVariants.{Normal, Micro}
+use Rattle.qrcode_base.specs.declared.types.EcLevel.{EcLevel}
+use Rattle.qrcode_base.specs.declared.types.EcLevel.TheVariants.{L, M, Q, H}
+use Rattle.qrcode_base.specs.declared.types.Mode.{Mode}
+use Rattle.qrcode_base.specs.declared.types.Mode.TheVariants.{Numeric, Alphanumeric, Byte, Kanji}
+use Rattle.qrcode_base.specs.Modes.{IsWithin, same, digits, bytes, join, HasMode}
+use Rattle.std.proofs.lemmas.Option.{slice_get_past}
+use Rattle.qrcode_base.specs.declared.symbols.BlockLayout.{BlockLayout}
+use Rattle.qrcode_base.specs.Symbols.{normal_blocks, capacity, capacity_with}
+use Rattle.qrcode_base.proofs.Joins.{join-upper, join-upper_second}
+use Rattle.qrcode_base.proofs.Fields.{SameClass, capacity-rises, capacity-held, capacity-double}
+use Rattle.qrcode_bits.specs.declared.optimize.Segment.{Segment}
+use Rattle.qrcode_bits.specs.Parsing.{parsed}
+use Rattle.qrcode_bits.specs.Merging.{merged, total_bits, IsChosenPlan}
+use Rattle.qrcode_bits.specs.Cuttings.{joined, AreNonEmpty, merged_pieces}
+use Rattle.qrcode_bits.specs.Choice.{IsMergePlan, Fits, FitsNot, IsLeastBits, normal, micro, FitsNone, IsChoice, IsLeastHolding, IsClass}
+use Rattle.qrcode_bits.proofs.Growth.{total_bits-rise, total_bits-same, total_bits-double, chosen-same}
+use Rattle.qrcode_bits.proofs.CuttingPlans.{chosen-cutting, chosen-least}
+
+-- ---- Modes of a version
+
+-- every Normal version has every mode
+pub has_every : (n : ℕ) (m : Mode) → HasMode (normal n) m
+has_every n Numeric = omega arith
+has_every n Alphanumeric = omega arith
+has_every n Byte = omega arith
+has_every n Kanji = omega arith
+
+-- a version with the mode of bytes has two bits to tell modes
+wide_enough : (p : ℕ) → 2 < 2 ^ p → 3 < 2 ^ p
+wide_enough p h = elim (cases_lt p 2) [
+  | inl few ↦ elim (cases_eq p 1) [
+    | inl e ↦ absurd (let two : 2 ^ p ≡ 2 = ap (λ (n : ℕ). 2 ^ n) e in omega arith)
+    | inr ne ↦ absurd (let one : 2 ^ p ≡ 1 = ap (λ (n : ℕ). 2 ^ n) (let z : p ≡ 0 = omega arith in z) in omega arith)
+  ]
+  | inr many ↦ (let four = pow_below 1 p (omega arith) in
+      elim (cases_eq p 2) [ inl e ↦ (let whole : 2 ^ p ≡ 4 = ap (λ (n : ℕ). 2 ^ n) e in omega arith) | inr ne ↦ (let more = pow_below 2 p (omega arith) in omega arith) ])
+]
+
+-- a version that has a mode has those that it takes in
+has_within : {m k : Mode} (v : Version) → IsWithin m k → HasMode v k → HasMode v m
+has_within v same h = h
+has_within (Normal n) digits h = omega arith
+has_within (Micro n) digits h = omega arith
+has_within {m = Numeric} (Normal n) bytes h = omega arith
+has_within {m = Alphanumeric} (Normal n) bytes h = omega arith
+has_within {m = Byte} (Normal n) bytes h = omega arith
+has_within {m = Kanji} (Normal n) bytes h = omega arith
+has_within {m = Numeric} (Micro n) bytes h = omega arith
+has_within {m = Alphanumeric} (Micro n) bytes h = omega arith
+has_within {m = Byte} (Micro n) bytes h = h
+has_within {m = Kanji} (Micro n) bytes h = wide_enough (nat_abs n - 1) h
+
+-- a version that has two modes has their join
+has_join : (v : Version) (a b : Mode) → HasMode v a → HasMode v b → HasMode v (join a b)
+has_join (Normal n) Numeric Numeric h k = h
+has_join (Normal n) Numeric Alphanumeric h k = k
+has_join (Normal n) Numeric Byte h k = k
+has_join (Normal n) Numeric Kanji h k = omega arith
+has_join (Normal n) Alphanumeric Numeric h k = h
+has_join (Normal n) Alphanumeric Alphanumeric h k = h
+has_join (Normal n) Alphanumeric Byte h k = k
+has_join (Normal n) Alphanumeric Kanji h k = omega arith
+has_join (Normal n) Byte Numeric h k = h
+has_join (Normal n) Byte Alphanumeric h k = h
+has_join (Normal n) Byte Byte h k = h
+has_join (Normal n) Byte Kanji h k = h
+has_join (Normal n) Kanji Numeric h k = omega arith
+has_join (Normal n) Kanji Alphanumeric h k = omega arith
+has_join (Normal n) Kanji Byte h k = k
+has_join (Normal n) Kanji Kanji h k = h
+has_join (Micro n) Numeric Numeric h k = h
+has_join (Micro n) Numeric Alphanumeric h k = k
+has_join (Micro n) Numeric Byte h k = k
+has_join (Micro n) Numeric Kanji h k = omega arith
+has_join (Micro n) Alphanumeric Numeric h k = h
+has_join (Micro n) Alphanumeric Alphanumeric h k = h
+has_join (Micro n) Alphanumeric Byte h k = k
+has_join (Micro n) Alphanumeric Kanji h k = omega arith
+has_join (Micro n) Byte Numeric h k = h
+has_join (Micro n) Byte Alphanumeric h k = h
+has_join (Micro n) Byte Byte h k = h
+has_join (Micro n) Byte Kanji h k = h
+has_join (Micro n) Kanji Numeric h k = omega arith
+has_join (Micro n) Kanji Alphanumeric h k = omega arith
+has_join (Micro n) Kanji Byte h k = k
+has_join (Micro n) Kanji Kanji h k = h
+
+module _ (v : Version) where
+  abbrev Had : Segment → Type 0
+  Had part = HasMode v part.mode
+
+  merged-had : (s : Segment) (ss : List Segment) → All Had (s ∷ ss) → HasMode v (merged s ss).mode
+  merged-had s [] h = All-head Had s [] h
+  merged-had s (t ∷ ts) h = has_join v s.mode (merged t ts).mode (All-head Had s (t ∷ ts) h) (merged-had t ts (All-tail Had s (t ∷ ts) h))
+
+  had-merged : (s : Segment) (ss : List Segment) → HasMode v (merged s ss).mode → All Had (s ∷ ss)
+  had-merged s [] h = All-cons Had s [] h (All-nil Had)
+  had-merged s (t ∷ ts) h =
+      All-cons Had s (t ∷ ts) (has_within v (join-upper s.mode (merged t ts).mode) h)
+      (had-merged t ts (has_within v (join-upper_second s.mode (merged t ts).mode) h))
+
+  had-front : (xs ys : List Segment) → All Had (xs ++ ys) → All Had xs
+  had-front [] ys h = All-nil Had
+  had-front (x ∷ xs) ys h = All-cons Had x xs (All-head Had x (xs ++ ys) h) (had-front xs ys (All-tail Had x (xs ++ ys) h))
+
+  had-back : (xs ys : List Segment) → All Had (xs ++ ys) → All Had ys
+  had-back [] ys h = h
+  had-back (x ∷ xs) ys h = had-back xs ys (All-tail Had x (xs ++ ys) h)
+
+  -- A version has the modes of a plan if and only if it has those of the segments.
+  pub pieces-had : (pieces : List (List Segment)) → AreNonEmpty pieces → All Had (joined pieces) → All Had (merged_pieces pieces)
+  pieces-had [] some h = h
+  pieces-had ([] ∷ ps) some h = absurd (let n = some.0 in omega arith)
+  pieces-had ((s ∷ ss) ∷ ps) some h =
+      All-append Had (merged s ss ∷ []) (merged_pieces ps)
+      (All-cons Had (merged s ss) [] (merged-had s ss (had-front (s ∷ ss) (joined ps) h)) (All-nil Had))
+      (pieces-had ps some.1 (had-back (s ∷ ss) (joined ps) h))
+
+  pub had-pieces : (pieces : List (List Segment)) → AreNonEmpty pieces → All Had (merged_pieces pieces) → All Had (joined pieces)
+  had-pieces [] some h = h
+  had-pieces ([] ∷ ps) some h = absurd (let n = some.0 in omega arith)
+  had-pieces ((s ∷ ss) ∷ ps) some h =
+      All-append Had (s ∷ ss) (joined ps)
+      (had-merged s ss (All-head Had (merged s ss) (merged_pieces ps) h))
+      (had-pieces ps some.1 (All-tail Had (merged s ss) (merged_pieces ps) h))
+
+  -- All plans of some bytes have their modes in a version, or none has.
+  plans-had : (message : List ℕ) (plan other : List Segment) → IsMergePlan message plan → IsMergePlan message other → All Had other → All Had plan
+  plans-had message plan other p q h =
+      let inside = had-pieces q.pieces q.cutting.nonempty (subst (λ (z : List Segment). All Had z) q.merges h) in
+      let all : All Had (joined p.pieces) = subst (λ (z : List Segment). All Had z) (q.cutting.whole ∙ sym p.cutting.whole) inside in
+      subst (λ (z : List Segment). All Had z) (sym p.merges) (pieces-had p.pieces p.cutting.nonempty all)
+
+-- ---- Chosen plans
+
+pub chosen_is_plan : (message : List ℕ) (v : Version) (plan : List Segment) → IsChosenPlan (parsed message) v plan → IsMergePlan message plan
+chosen_is_plan message v plan h = let w = chosen-cutting (parsed message) v plan h in record { pieces = w.0; cutting = w.1; merges = w.2 }
+
+-- no plan takes fewer bits than the chosen one
+pub chosen_bits : (message : List ℕ) (v : Version) (plan other : List Segment) → IsChosenPlan (parsed message) v plan → IsMergePlan message other →
+    total_bits v plan ≤ total_bits v other
+chosen_bits message v plan other h q =
+    subst (λ (z : List Segment). total_bits v plan ≤ total_bits v z) (sym q.merges) (chosen-least (parsed message) v plan q.pieces h q.cutting)
+
+pub chosen_least : (front : ℕ) (message : List ℕ) (v : Version) (plan : List Segment) → IsChosenPlan (parsed message) v plan →
+    IsLeastBits front message v (front + total_bits v plan)
+chosen_least front message v plan h = record {
+  plan = plan;
+  planned = chosen_is_plan message v plan h;
+  reached = refl;
+  least = λ other q. let fewer = chosen_bits message v plan other h q in omega arith;
+}
+
+-- Where some plan fits, the chosen plan fits.
+pub chosen_fits : (front : ℕ) (v : Version) (l : EcLevel) (message : List ℕ) (plan other : List Segment) → IsChosenPlan (parsed message) v plan →
+    Fits front message v l other → Fits front message v l plan
+chosen_fits front v l message plan other h fits = record {
+  planned = chosen_is_plan message v plan h;
+  limit = fits.limit;
+  has_level = fits.has_level;
+  has_modes = plans-had v message plan other (chosen_is_plan message v plan h) fits.planned fits.has_modes;
+  within = let fewer = chosen_bits message v plan other h fits.planned in omega (arith, fits.within);
+}
+
+-- Where the chosen plan does not fit, no plan fits.
+pub chosen_decides : (front : ℕ) (v : Version) (l : EcLevel) (message : List ℕ) (plan : List Segment) → IsChosenPlan (parsed message) v plan →
+    (Fits front message v l plan → ⊥) → FitsNot front message v l
+chosen_decides front v l message plan h unfit other w = unfit (chosen_fits front v l message plan other h w)
+
+-- ---- Capacities
+
+pub some_same : (a b : ℕ) (o : Option ℕ) → o ≡ Some a → o ≡ Some b → a ≡ b
+some_same a b o h k = let e : ◌≡◌ {A = Option ℕ} (Some a) (Some b) = sym h ∙ k in cc
+
+-- a later version holds no less
+pub capacity-grows : (l : EcLevel) (n m c d : ℕ) → n ≤ m → capacity (normal n) l ≡ Some c → capacity (normal m) l ≡ Some d → c ≤ d
+capacity-grows l n m c d h p q = elim (cases_eq n m) [
+  | inl e ↦ (let same : c ≡ d = some_same c d (capacity (normal m) l) (subst (λ (k : ℕ). capacity (normal k) l ≡ Some c) e p) q in omega arith)
+  | inr ne ↦ (let less = capacity-rises l n m c d (omega arith) p q in omega arith)
+]
+
+-- ---- Classes of versions
+
+same_class : (n m : ℕ) → SameClass n m → SameClass m n
+same_class n m (inl h) = inl (h.1, h.0)
+same_class n m (inr (inl h)) = inr (inl (h.2, h.3, h.0, h.1))
+same_class n m (inr (inr h)) = inr (inr (h.1, h.0))
+
+pub all_had : (n : ℕ) (plan : List Segment) → All (λ part. HasMode (normal n) part.mode) plan
+all_had n [] = All-nil (λ part. HasMode (normal n) part.mode)
+all_had n (s ∷ ss) = All-cons (λ part. HasMode (normal n) part.mode) s ss (has_every n s.mode) (all_had n ss)
+
+chosen_same : (segments plan : List Segment) (n m : ℕ) → 1 ≤ n → 1 ≤ m → SameClass n m → IsChosenPlan segments (normal n) plan → IsChosenPlan segments (normal m) plan
+chosen_same segments plan n m h k class w = record { cuts = w.cuts; chosen = chosen-same segments n m (length segments) w.cuts h k class w.chosen; merges = w.merges }
+
+-- a version that holds the bits of a plan fits it, if it is a Normal one
+fits_normal : (front n c : ℕ) (message : List ℕ) (l : EcLevel) (plan : List Segment) → IsMergePlan message plan → capacity (normal n) l ≡ Some c →
+    front + total_bits (normal n) plan ≤ c → Fits front message (normal n) l plan
+fits_normal front n c message l plan h known few = record { planned = h; limit = c; has_level = known; has_modes = all_had n plan; within = few }
+
+module _ (front : ℕ) (message : List ℕ) (l : EcLevel) (before last : ℕ) (plan : List Segment) (c : ℕ)
+    (class : IsClass before last) (too_long : FitsNone normal front message l before)
+    (chosen : IsChosenPlan (parsed message) (normal last) plan) (known : capacity (normal last) l ≡ Some c) where
+  -- a plan that fits a version of the class has at least the bits of the chosen plan of the last one
+  least_in : (n : ℕ) → before < n → n ≤ last → (other : List Segment) → (w : Fits front message (normal n) l other) → front + total_bits (normal last) plan ≤ w.limit
+  least_in n h k other w =
+      let fewer = chosen_bits message (normal last) plan other chosen w.planned in
+      let equal = total_bits-same n last (omega arith) (omega arith) (class n h k) other in
+      omega (arith, w.within)
+
+  -- If the chosen plan of the last version of a class does not fit there, no plan fits any version of the class.
+  pub class_too_long : c < front + total_bits (normal last) plan → FitsNone normal front message l last
+  class_too_long over n k other w = elim (cases_lt before n) [
+    | inl h ↦ (let few = least_in n h k other w in let more = capacity-grows l n last w.limit c k w.has_level known in absurd (omega arith))
+    | inr h ↦ too_long n h other w
+  ]
+
+  -- If it fits, the least version that holds its bits is the choice.
+  pub class_choice : (limit number : ℕ) → last ≤ limit → front + total_bits (normal last) plan ≤ c → IsLeastHolding (front + total_bits (normal last) plan) l number →
+      IsChoice normal front message l limit number plan
+  class_choice limit number h fits w =
+      let some : 1 ≤ number = (capacity-held l number w.limit w.limit_is).0 in
+      let early : number ≤ last = w.least last c known fits in
+      let held = w.holds in
+      let planned = chosen_is_plan message (normal last) plan chosen in
+      let rise = total_bits-rise number last some early plan in
+      let late : before < number = elim (cases_lt before number) [
+        | inl k ↦ k
+        | inr k ↦ absurd (too_long number k plan (fits_normal front number w.limit message l plan planned w.limit_is (omega arith)))
+      ] in
+      let equal = total_bits-same number last some (omega arith) (class number late early) plan in
+      let here = chosen_same (parsed message) plan last number (omega arith) some (same_class number last (class number late early)) chosen in
+      record {
+        from_one = some;
+        up_to = omega arith;
+        chosen = here;
+        fits = fits_normal front number w.limit message l plan planned w.limit_is (omega arith);
+        smallest = λ n k other q. elim (cases_lt before n) [
+          | inl o ↦ (let few = least_in n o (omega arith) other q in let least = w.least n q.limit q.has_level few in absurd (omega arith))
+          | inr o ↦ too_long n o other q
+        ];
+        fewest = chosen_least front message (normal number) plan here;
+      }
+
+-- nothing fits where there is no version
+pub none_before : (front : ℕ) (message : List ℕ) (l : EcLevel) → FitsNone normal front message l 0
+none_before front message l n h plan w = let some : 1 ≤ n = (capacity-held l n w.limit w.has_level).0 in absurd (omega arith)
+
+-- ---- Version 40
+
+last_capacity : (l : EcLevel) → (d : ℕ) × (capacity (normal 40) l ≡ Some d) × (d ≤ 23648)
+last_capacity L = (23648, refl, omega arith)
+last_capacity M = (18672, refl, omega arith)
+last_capacity Q = (13328, refl, omega arith)
+last_capacity H = (10208, refl, omega arith)
+
+middle_capacity : (l : EcLevel) → (c : ℕ) × (capacity (normal 26) l ≡ Some c) × (c ≤ 10960)
+middle_capacity L = (10960, refl, omega arith)
+middle_capacity M = (8496, refl, omega arith)
+middle_capacity Q = (6032, refl, omega arith)
+middle_capacity H = (4768, refl, omega arith)
+
+-- the capacities of the versions up to 40, and of those up to 26
+pub capacity-most : (l : EcLevel) (n c : ℕ) → n ≤ 40 → capacity (normal n) l ≡ Some c → c ≤ 23648
+capacity-most l n c h known = let d = last_capacity l in let grows = capacity-grows l n 40 c d.0 h known d.1 in omega (arith, d.2)
+
+pub capacity-middle : (l : EcLevel) (n c : ℕ) → n ≤ 26 → capacity (normal n) l ≡ Some c → c ≤ 10960
+capacity-middle l n c h known = let d = middle_capacity l in let grows = capacity-grows l n 26 c d.0 h known d.1 in omega (arith, d.2)
+
+-- What fits some version fits version 40: from 27 on the bits stay, and before they at most double, and so does what is in front.
+pub fits_last : (front n : ℕ) (message : List ℕ) (l : EcLevel) (plan : List Segment) → n ≤ 40 → Fits front message (normal n) l plan → Fits front message (normal 40) l plan
+fits_last front n message l plan h w =
+    let some : 1 ≤ n = (capacity-held l n w.limit w.has_level).0 in
+    let c = middle_capacity l in
+    let d = last_capacity l in
+    let doubled = total_bits-double n 40 some (omega arith) plan in
+    let room = capacity-double l c.0 d.0 c.1 d.1 in
+    let few = w.within in
+    fits_normal front 40 d.0 message l plan w.planned d.1 (elim (cases_lt n 27) [
+      | inl early ↦ (let low = capacity-grows l n 26 w.limit c.0 (omega arith) w.has_level c.1 in omega arith)
+      | inr late ↦ (let low = capacity-grows l n 40 w.limit d.0 h w.has_level d.1 in
+          let equal = total_bits-same n 40 some (omega arith) (inr (inr (late, omega arith))) plan in omega arith)
+    ])
+
+-- ---- The least version that holds so many bits
+
+-- no version before a number holds so many bits
+abbrev pub HoldsLess : ℕ → EcLevel → ℕ → Type 0
+HoldsLess size l number = (n c : ℕ) → n < number → capacity (normal n) l ≡ Some c → c < size
+
+pub holds_less_first : (size : ℕ) (l : EcLevel) → HoldsLess size l 1
+holds_less_first size l n c h k = let some : 1 ≤ n = (capacity-held l n c k).0 in absurd (omega arith)
+
+pub holds_less_next : (size : ℕ) (l : EcLevel) (number held : ℕ) → HoldsLess size l number → capacity (normal number) l ≡ Some held → held < size → HoldsLess size l (number + 1)
+holds_less_next size l number held w known over n c h k = elim (cases_eq n number) [
+  | inl e ↦ (let same : c ≡ held = some_same c held (capacity (normal number) l) (subst (λ (j : ℕ). capacity (normal j) l ≡ Some c) e k) known in omega arith)
+  | inr ne ↦ w n c (omega arith) k
+]
+
+pub least_found : (size : ℕ) (l : EcLevel) (number held : ℕ) → HoldsLess size l number → capacity (normal number) l ≡ Some held → size ≤ held → IsLeastHolding size l number
+least_found size l number held w known fits = record {
+  limit = held;
+  limit_is = known;
+  holds = fits;
+  least = λ n c e f. elim (cases_lt n number) [ inl k ↦ absurd (let under = w n c k e in omega arith) | inr k ↦ k ];
+}
+
+-- ---- Micro versions, one after the other
+
+none_at_zero : (l : EcLevel) (c : ℕ) → capacity (micro 0) l ≡ Some c → ⊥
+none_at_zero L c h = cc
+none_at_zero M c h = cc
+none_at_zero Q c h = cc
+none_at_zero H c h = cc
+
+pub micro_first : (message : List ℕ) (l : EcLevel) → FitsNone micro 0 message l 0
+micro_first message l n h plan w =
+    let zero_is : n ≡ 0 = omega arith in
+    none_at_zero l w.limit (subst (λ (k : ℕ). capacity (micro k) l ≡ Some w.limit) zero_is w.has_level)
+
+pub micro_next : (message : List ℕ) (l : EcLevel) (number : ℕ) → FitsNone micro 0 message l number → FitsNot 0 message (micro (number + 1)) l →
+    FitsNone micro 0 message l (number + 1)
+micro_next message l number w unfit n h = elim (cases_eq n (number + 1)) [
+  | inl e ↦ subst (λ (k : ℕ). FitsNot 0 message (micro k) l) (sym e) unfit
+  | inr ne ↦ w n (omega arith)
+]
+
+pub micro_lacks : (message : List ℕ) (l : EcLevel) (v : Version) → capacity v l ≡ None → FitsNot 0 message v l
+micro_lacks message l v none plan w = let clash : ◌≡◌ {A = Option ℕ} None (Some w.limit) = sym none ∙ w.has_level in cc
+
+pub micro_choice : (message : List ℕ) (l : EcLevel) (number : ℕ) (plan : List Segment) → number < 4 → FitsNone micro 0 message l number →
+    IsChosenPlan (parsed message) (micro (number + 1)) plan → Fits 0 message (micro (number + 1)) l plan → IsChoice micro 0 message l 4 (number + 1) plan
+micro_choice message l number plan h none chosen fits = record {
+  from_one = omega arith;
+  up_to = omega arith;
+  chosen = chosen;
+  fits = fits;
+  smallest = λ n k. none n (omega arith);
+  fewest = chosen_least 0 message (micro (number + 1)) plan chosen;
+}
+
+-- ---- No version holds so many bits
+
+past_last : (l : EcLevel) (n c : ℕ) → capacity (normal n) l ≡ Some c → n ≤ 40
+past_last l zero c h = omega arith
+past_last l (suc n) c h = elim (cases_lt n 40) [
+  | inl k ↦ omega arith
+  | inr k ↦ absurd (let none = slice_get_past (normal_blocks l) n (omega (arith, all l)) in
+      let clash : ◌≡◌ {A = Option ℕ} None (Some c) = subst (λ (o : Option BlockLayout). capacity_with (normal (suc n)) o ≡ Some c) none h in cc)
+] where
+  all : (l : EcLevel) → length (normal_blocks l) ≡ 40
+  all L = refl
+  all M = refl
+  all Q = refl
+  all H = refl
+
+pub none_holds : (size : ℕ) (l : EcLevel) (number : ℕ) → 41 ≤ number → HoldsLess size l number → (other c : ℕ) → capacity (normal other) l ≡ Some c → c < size
+none_holds size l number h w other c known = w other c (let last = past_last l other c known in omega arith) known

@@ -1,0 +1,107 @@
+-- The stream of a plan that fits: no push is refused but for memory, and up to the capacity it is a frame.
+use Rattle.std.proofs.Common.{◌≡◌, ℕ, ◌+◌, ◌<◌, ◌≤◌, Bool, List, [], ◌∷◌, ◌++◌, Some, length, take, refl, sym, ap, ◌∙◌, subst, arith, inl, inr}
+use Rattle.std.specs.Prelude.{All, Option, None, slice_get}
+use Rattle.std.proofs.lemmas.Bool.{cases_lt}
+use Rattle.std.proofs.lemmas.Option.{slice_get_past}
+use Rattle.std.proofs.Math.Seq.{take-length}
+use Rattle.qrcode_base.specs.declared.types.Version.{Version}
+use Rattle.qrcode_base.specs.declared.types.EcLevel.{EcLevel}
+use Rattle.qrcode_base.specs.declared.types.errors.QrError.{QrError}
+use Rattle.qrcode_base.specs.declared.types.errors.QrError.TheVariants.{InvalidVersion, DataTooLong, UnsupportedCharacterSet, InvalidCharacter, OutOfMemory}
+use Rattle.qrcode_base.specs.Symbols.{capacity}
+use Rattle.qrcode_base.specs.Characters.{IsValid, IsFirstInvalid}
+use Rattle.qrcode_bits.specs.declared.bits.modes.EncodingModes.{EncodingModes}
+use Rattle.qrcode_bits.specs.declared.optimize.Segment.{Segment}
+use Rattle.qrcode_bits.specs.Merging.{total_bits}
+use Rattle.qrcode_bits.specs.ModeSets.{no_modes}
+use Rattle.qrcode_bits.specs.Spelling.{Piece, IsSpellable}
+use Rattle.qrcode_bits.specs.Frame.{AreSpelled, spellings, ended, header_bits, IsFrame}
+use Rattle.qrcode_bits.specs.Stream.{Stream}
+use Rattle.qrcode_bits.specs.Push.{SpellsAll, StopsAt, IsRefused, EndsAtLevel, IsLevelRefused, with_modes}
+use Rattle.qrcode_bits.specs.Pieces.{segment_pieces}
+use Rattle.qrcode_bits.specs.Choice.{Fits}
+use Rattle.qrcode_bits.specs.Encoding.{IsPlanStream}
+use Rattle.qrcode_bits.proofs.Choices.{some_same}
+use Rattle.qrcode_bits.proofs.PlanFrames.{spelled_plan, plan_frame}
+
+-- ---- Refusals
+
+got_within : (s : List ℕ) (i x : ℕ) → slice_get s i ≡ Some x → i < length s
+got_within s i x h = elim (cases_lt i (length s)) [
+  | inl w ↦ w
+  | inr w ↦ absurd (let none : ◌≡◌ {A = Option ℕ} None (Some x) = sym (slice_get_past s i w) ∙ h in cc)
+]
+
+-- a valid text has no first invalid byte
+none_invalid : (piece : Piece) (position byte : ℕ) → IsValid piece.mode piece.text → IsFirstInvalid (IsValid piece.mode) piece.text position byte → ⊥
+none_invalid piece position byte valid h =
+    h.longest (length piece.text) (got_within piece.text position byte h.byte_is) (omega arith) (subst (λ (z : List ℕ). IsValid piece.mode z) (sym (take-length piece.text)) valid)
+
+-- a piece that can be spelled is refused for memory alone
+spellable_refused : (old : Stream) (piece : Piece) (e : QrError) → IsSpellable old.version piece → IsRefused old piece e → e ≡ OutOfMemory
+spellable_refused old piece UnsupportedCharacterSet h r = absurd (r h.mode)
+spellable_refused old piece (InvalidCharacter position byte) h r = absurd (none_invalid piece position byte h.valid r.1)
+spellable_refused old piece DataTooLong h r = absurd (let c = h.counted in let d = r.1.1 in omega arith)
+spellable_refused old piece OutOfMemory h r = refl
+spellable_refused old piece other h r = absurd r
+
+spelled_at : (v : Version) (done : List Piece) (next : Piece) (rest : List Piece) → AreSpelled v (done ++ (next ∷ rest)) → IsSpellable v next
+spelled_at v [] next rest h = h.0.0
+spelled_at v (d ∷ done) next rest h = spelled_at v done next rest h.1
+
+pub spelled_stop : (old new : Stream) (pieces : List Piece) (e : QrError) → AreSpelled old.version pieces → StopsAt old new pieces e → e ≡ OutOfMemory
+spelled_stop old new pieces e spelled w =
+    let can = spelled_at old.version w.done w.next w.rest (subst (λ (z : List Piece). AreSpelled old.version z) w.pieces_are spelled) in
+    spellable_refused new w.next e (subst (λ (v : Version). IsSpellable v w.next) (sym w.pushed.version_is) can) w.refused
+
+-- an end that fits is refused for memory alone
+pub end_refused : (old : Stream) (level : EcLevel) (limit : ℕ) (e : QrError) → capacity old.version level ≡ Some limit → length old.bits ≤ limit → IsLevelRefused old level e → e ≡ OutOfMemory
+end_refused old level limit (InvalidVersion version asked) known fits r = absurd (let none : ◌≡◌ {A = Option ℕ} None (Some limit) = sym r.1.1 ∙ known in cc)
+end_refused old level limit DataTooLong known fits r =
+    absurd (let same : ◌≡◌ {A = Option ℕ} (Some r.0) (Some limit) = sym r.1 ∙ known in let equal : r.0 ≡ limit = cc in let over = r.2 in omega arith)
+end_refused old level limit OutOfMemory known fits r = refl
+end_refused old level limit other known fits r = absurd r.2
+
+-- ---- The stream of a plan
+
+module _ (bytes : List ℕ) (are : All (λ c. c < 256) bytes) (v : Version) (level : EcLevel) (plan : List Segment) (fits : Fits 0 bytes v level plan)
+    (start : Stream) (empty : start.bits ≡ []) (version : start.version ≡ v) where
+  abbrev pieces : List Piece
+  pieces = segment_pieces bytes plan
+
+  pub plan_stop : (new : Stream) (e : QrError) → StopsAt start new (segment_pieces bytes plan) e → e ≡ OutOfMemory
+  plan_stop new e w =
+      spelled_stop start new pieces e (subst (λ (u : Version). AreSpelled u pieces) (sym version) (spelled_plan 0 v level bytes plan are fits).spelled) w
+
+  pushed_bits : (middle : Stream) → SpellsAll start middle (segment_pieces bytes plan) → middle.bits ≡ spellings v (segment_pieces bytes plan)
+  pushed_bits middle w = w.bits_are ∙ (ap (λ (z : List Bool). z ++ spellings start.version pieces) empty ∙ ap (λ (u : Version). spellings u pieces) version)
+
+  pushed_version : (middle : Stream) → SpellsAll start middle (segment_pieces bytes plan) → middle.version ≡ v
+  pushed_version middle w = w.version_is ∙ version
+
+  pushed_size : (middle : Stream) → SpellsAll start middle (segment_pieces bytes plan) → length middle.bits ≡ total_bits v plan
+  pushed_size middle w = ap (λ (z : List Bool). length z) (pushed_bits middle w) ∙ (spelled_plan 0 v level bytes plan are fits).bits
+
+  pub plan_end_refused : (middle : Stream) (e : QrError) → SpellsAll start middle (segment_pieces bytes plan) → IsLevelRefused middle level e → e ≡ OutOfMemory
+  plan_end_refused middle e w r =
+      end_refused middle level fits.limit e (subst (λ (u : Version). capacity u level ≡ Some fits.limit) (sym (pushed_version middle w)) fits.has_level)
+      (omega (arith, pushed_size middle w, fits.within)) r
+
+  pub plan_stream : (middle last : Stream) → start.modes ≡ no_modes → SpellsAll start middle (segment_pieces bytes plan) → EndsAtLevel middle last level → IsPlanStream bytes v level plan last
+  plan_stream middle last modes w e =
+      let same : e.limit ≡ fits.limit = some_same e.limit fits.limit (capacity v level) (subst (λ (u : Version). capacity u level ≡ Some e.limit) (pushed_version middle w) e.limit_is) fits.has_level in
+      let bits : last.bits ≡ ended v fits.limit (spellings v pieces) =
+      e.ends.bits_are ∙ (ap (λ (u : Version). ended u e.limit middle.bits) (pushed_version middle w)
+      ∙ (ap (λ (n : ℕ). ended v n middle.bits) same ∙ ap (λ (z : List Bool). ended v fits.limit z) (pushed_bits middle w))) in
+      let size : length (header_bits None) + total_bits v plan ≡ total_bits v plan = omega arith in
+      let framed : IsFrame v level None bytes (total_bits v plan) (take fits.limit (ended v fits.limit (spellings v pieces))) =
+      subst (λ (n : ℕ). IsFrame v level None bytes n (take fits.limit (ended v fits.limit (spellings v pieces)))) size (plan_frame v level None bytes plan are tt fits) in
+      record {
+        limit = fits.limit;
+        limit_is = fits.has_level;
+        version_is = e.ends.version_is ∙ pushed_version middle w;
+        bits_are = bits;
+        modes_are = e.ends.modes_are ∙ (w.modes_are ∙ ap (λ (m : EncodingModes). with_modes m pieces) modes);
+        payload_is = e.ends.payload_is ∙ ap (λ (n : ℕ). Some n) (pushed_size middle w);
+        frame = subst (λ (z : List Bool). IsFrame v level None bytes (total_bits v plan) (take fits.limit z)) (sym bits) framed;
+      }

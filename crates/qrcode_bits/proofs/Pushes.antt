@@ -1,0 +1,103 @@
+-- Several pushes, one after the other.
+use Rattle.std.proofs.Common.{◌≡◌, ℕ, ◌+◌, ◌≤◌, Bool, List, [], ◌∷◌, ◌++◌, length, refl, sym, ap, ◌∙◌, subst, append_assoc, append-nil, arith, length-append, Result, Ok, Err, inl, inr, ◌⊎◌}
+use Rattle.std.specs.Prelude.{Option, None, All}
+use Rattle.std.proofs.lemmas.List.Elements.{All-nil, All-cons, All-head, All-tail}
+use Rattle.qrcode_base.specs.declared.types.Version.{Version}
+use Rattle.qrcode_base.specs.declared.types.errors.QrError.{QrError}
+use Rattle.qrcode_bits.specs.declared.bits.modes.EncodingModes.{EncodingModes}
+use Rattle.qrcode_bits.specs.declared.optimize.Segment.{Segment}
+use Rattle.qrcode_bits.specs.Spelling.{Piece, IsSpellable, spelling}
+use Rattle.qrcode_bits.specs.Frame.{spellings}
+use Rattle.qrcode_bits.specs.Pieces.{segment_piece, segment_pieces}
+use Rattle.qrcode_bits.specs.Stream.{Stream}
+use Rattle.qrcode_bits.specs.Push.{Spells, SpellsAll, StopsAt, PushesPieces, IsRefused, with_modes, payload_after}
+
+pub spells_none : (s : Stream) → SpellsAll s s []
+spells_none s = record {
+  spellable = All-nil (IsSpellable s.version);
+  bits_are = sym (append-nil s.bits);
+  version_is = refl;
+  modes_are = refl;
+  payload_is = refl;
+  room_left = omega arith;
+}
+
+forgotten : (payload : Option ℕ) (ps : List Piece) → payload ≡ None → payload_after payload ps ≡ None
+forgotten payload [] e = e
+forgotten payload (p ∷ ps) e = refl
+
+-- one push more, in front
+spells_first : (old next new : Stream) (p : Piece) (ps : List Piece) → Spells old next p → SpellsAll next new ps → SpellsAll old new (p ∷ ps)
+spells_first old next new p ps h w =
+    let rest : spellings next.version ps ≡ spellings old.version ps = ap (λ (v : Version). spellings v ps) h.version_is in
+    record {
+      spellable = All-cons (IsSpellable old.version) p ps h.spellable (subst (λ (v : Version). All (IsSpellable v) ps) h.version_is w.spellable);
+      bits_are = w.bits_are
+          ∙ (ap (λ (z : List Bool). next.bits ++ z) rest
+          ∙ (ap (λ (z : List Bool). z ++ spellings old.version ps) h.bits_are
+          ∙ append_assoc old.bits (spelling old.version p) (spellings old.version ps)));
+      version_is = w.version_is ∙ h.version_is;
+      modes_are = w.modes_are ∙ ap (λ (m : EncodingModes). with_modes m ps) h.modes_are;
+      payload_is = w.payload_is ∙ forgotten next.payload ps h.payload_is;
+      room_left = omega (arith, h.room_left, w.room_left, ap (λ (z : List Bool). length z) rest, length-append (spelling old.version p) (spellings old.version ps));
+    }
+
+push_first : (old next new : Stream) (p : Piece) (ps : List Piece) (result : Result Unit QrError) → Spells old next p → PushesPieces next ps result new →
+    PushesPieces old (p ∷ ps) result new
+push_first old next new p ps (Ok u) h w = spells_first old next new p ps h w
+push_first old next new p ps (Err e) h w = record {
+  done = p ∷ w.done;
+  next = w.next;
+  rest = w.rest;
+  pieces_are = ap (λ (z : List Piece). p ∷ z) w.pieces_are;
+  pushed = spells_first old next new p w.done h w.pushed;
+  refused = w.refused;
+}
+
+push_refused : (old new : Stream) (p : Piece) (ps : List Piece) (e : QrError) → new ≡ old → IsRefused old p e → StopsAt old new (p ∷ ps) e
+push_refused old new p ps e same why = subst (λ (s : Stream). StopsAt old s (p ∷ ps) e) (sym same) (record {
+  done = [];
+  next = p;
+  rest = ps;
+  pieces_are = refl;
+  pushed = spells_none old;
+  refused = why;
+})
+
+-- ---- In turn
+
+-- One push after the other, up to the first that is refused.
+abbrev pub PushesInTurn : Stream → List Piece → Result Unit QrError → Stream → Type 0
+PushesInTurn old [] result new = (result ≡ Ok tt) × (new ≡ old)
+PushesInTurn old (piece ∷ rest) result new =
+    ((next : Stream) × Spells old next piece × PushesInTurn next rest result new)
+    ⊎ ((e : QrError) × (result ≡ Err e) × IsRefused old piece e × (new ≡ old))
+
+pub in_turn : (old new : Stream) (ps : List Piece) (result : Result Unit QrError) → PushesInTurn old ps result new → PushesPieces old ps result new
+in_turn old new [] result h =
+    subst (λ (r : Result Unit QrError). PushesPieces old [] r new) (sym h.0) (subst (λ (s : Stream). SpellsAll old s []) (sym h.1) (spells_none old))
+in_turn old new (p ∷ ps) result (inl w) = push_first old w.0 new p ps result w.1 (in_turn w.0 new ps result w.2)
+in_turn old new (p ∷ ps) result (inr w) =
+    subst (λ (r : Result Unit QrError). PushesPieces old (p ∷ ps) r new) (sym w.1) (push_refused old new p ps w.0 w.3 w.2)
+
+-- what stops a beginning of some pieces stops them all
+pub stops_longer : (old new : Stream) (ps qs : List Piece) (e : QrError) → StopsAt old new ps e → StopsAt old new (ps ++ qs) e
+stops_longer old new ps qs e w = record {
+  done = w.done;
+  next = w.next;
+  rest = w.rest ++ qs;
+  pieces_are = ap (λ (z : List Piece). z ++ qs) w.pieces_are ∙ append_assoc w.done (w.next ∷ w.rest) qs;
+  pushed = w.pushed;
+  refused = w.refused;
+}
+
+-- ---- Segments
+
+pub pieces_more : (bytes : List ℕ) (ys : List Segment) (s : Segment) (rest : List Piece) → segment_pieces bytes (ys ++ s ∷ []) ++ rest ≡ segment_pieces bytes ys ++ (segment_piece bytes s ∷ rest)
+pieces_more bytes [] s rest = refl
+pieces_more bytes (y ∷ ys) s rest = ap (λ (z : List Piece). segment_piece bytes y ∷ z) (pieces_more bytes ys s rest)
+
+-- what holds of each of some segments holds of the last
+pub last_of : (P : Segment → Type 0) (ys : List Segment) (s : Segment) → All P (ys ++ s ∷ []) → P s
+last_of P [] s h = All-head P s [] h
+last_of P (y ∷ ys) s h = last_of P ys s (All-tail P y (ys ++ s ∷ []) h)

@@ -1,0 +1,78 @@
+-- What a mode can write, each mode above it can write too.
+use Rattle.std.proofs.Common.{◌≡◌, ℕ, ◌+◌, ◌-◌, ◌<◌, Bool, true, List, [], ◌∷◌, ◌++◌, refl, ◌∙◌, subst, arith, get_or, inl, inr}
+use Rattle.std.specs.Prelude.{All, Contains, nat_lt, ◌==◌}
+use Rattle.std.proofs.lemmas.Grind.{get_or_default_zero}
+use Rattle.std.proofs.lemmas.Bool.{ltb-true, eqb-true}
+use Rattle.std.proofs.lemmas.List.Elements.{All-head, All-tail, All-nil, All-cons, All-append}
+use Rattle.qrcode_base.specs.declared.types.Mode.{Mode}
+use Rattle.qrcode_base.specs.declared.types.Mode.TheVariants.{Numeric, Alphanumeric, Byte, Kanji}
+use Rattle.qrcode_base.specs.Modes.{IsWithin, same, digits, bytes}
+use Rattle.qrcode_base.specs.Characters.{IsDigit, alphabet, alphanumeric_value, IsKanjiText, IsValid}
+use Rattle.qrcode_base.proofs.Alphabet.{each_below, from_each_below}
+use Rattle.qrcode_bits.proofs.Characters.{value_below, character_at_value, kanji_trail, lead_bounds}
+
+-- Two texts of a mode, one after the other, are one.
+pub valid-append : (m : Mode) (s t : List ℕ) → IsValid m s → IsValid m t → IsValid m (s ++ t)
+valid-append Numeric s t h k = All-append IsDigit s t h k
+valid-append Alphanumeric s t h k = All-append (λ c. Contains alphabet c) s t h k
+valid-append Byte s t h k = All-append (λ c. c < 256) s t h k
+valid-append Kanji s t h k = kanji-append s t h k where
+  kanji-append : (s t : List ℕ) → IsKanjiText s → IsKanjiText t → IsKanjiText (s ++ t)
+  kanji-append [] t h k = k
+  kanji-append (a ∷ []) t h k = absurd h
+  kanji-append (a ∷ b ∷ s) t h k = (h.0, kanji-append s t h.1 k)
+
+-- a property of each element, weakened
+pub All-map : {X : Type 0} (P Q : X → Type 0) → ((x : X) → P x → Q x) → (xs : List X) → All P xs → All Q xs
+All-map P Q f [] h = All-nil Q
+All-map P Q f (x ∷ xs) h = All-cons Q x xs (f x (All-head P x xs h)) (All-map P Q f xs (All-tail P x xs h))
+
+-- ---- Digits are in the alphabet
+
+in_alphabet : (k : ℕ) → k < 45 → Contains alphabet (get_or alphabet k 0)
+in_alphabet k h = (k, h, get_or_default_zero alphabet k (get_or alphabet k 0) h)
+
+alphabet_digits : each_below 10 (λ k. get_or alphabet k 0 == k + 48) ≡ true
+unfolding each_below
+alphabet_digits = refl
+
+digit_sign : (c : ℕ) → IsDigit c → Contains alphabet c
+digit_sign c h =
+    let place : c - 48 < 10 = omega arith in
+    let same : get_or alphabet (c - 48) 0 ≡ c - 48 + 48 =
+    eqb-true (get_or alphabet (c - 48) 0) (c - 48 + 48) (from_each_below 10 (λ k. get_or alphabet k 0 == k + 48) alphabet_digits (c - 48) place) in
+    subst (λ (z : ℕ). Contains alphabet z) (same ∙ omega arith) (in_alphabet (c - 48) (omega arith))
+
+-- ---- Each character is a byte
+
+abbrev small_at : ℕ → Bool
+small_at k = nat_lt (get_or alphabet k 0) 256
+
+alphabet_small : each_below 45 small_at ≡ true
+unfolding each_below
+alphabet_small = refl
+
+sign_byte : (c : ℕ) → Contains alphabet c → c < 256
+sign_byte c h =
+    let small = ltb-true (get_or alphabet (alphanumeric_value c) 0) 256 (from_each_below 45 small_at alphabet_small (alphanumeric_value c) (value_below c h)) in
+    subst (λ (z : ℕ). z < 256) (character_at_value c h) small
+
+kanji_bytes : (s : List ℕ) → IsKanjiText s → All (λ c. c < 256) s
+kanji_bytes [] h = All-nil (λ c. c < 256)
+kanji_bytes (a ∷ []) h = absurd h
+kanji_bytes (a ∷ b ∷ s) h =
+    let t = kanji_trail a b h.0 in
+    let low : a < 256 = elim (lead_bounds a b h.0) [ inl w ↦ omega (arith, w.1) | inr w ↦ omega (arith, w.1) ] in
+    All-cons (λ c. c < 256) a (b ∷ s) low (All-cons (λ c. c < 256) b s (omega (arith, t.1)) (kanji_bytes s h.1))
+
+pub valid_bytes : (m : Mode) (s : List ℕ) → IsValid m s → All (λ c. c < 256) s
+valid_bytes Numeric s h = All-map IsDigit (λ c. c < 256) (λ c d. omega arith) s h
+valid_bytes Alphanumeric s h = All-map (λ c. Contains alphabet c) (λ c. c < 256) sign_byte s h
+valid_bytes Byte s h = h
+valid_bytes Kanji s h = kanji_bytes s h
+
+-- What a mode can write, each mode above it can write.
+pub valid-upward : {m k : Mode} (s : List ℕ) → IsWithin m k → IsValid m s → IsValid k s
+valid-upward s same h = h
+valid-upward s digits h = All-map IsDigit (λ c. Contains alphabet c) digit_sign s h
+valid-upward {m} s bytes h = valid_bytes m s h

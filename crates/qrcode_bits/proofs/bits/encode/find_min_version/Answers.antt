@@ -1,0 +1,7 @@
+-- No version was found that holds so many bits.
+use Rattle.std.proofs.Common.{refl, inr, arith}
+use Rattle.qrcode_bits.proofs.Choices.{none_holds}
+use Rattle.qrcode_bits.proofs.bits.encode.find_min_version.Goals as goal
+
+pub returns : goal.returns
+returns c = inr (refl, none_holds c.args.length c.args.level c.loop-number.number (omega arith) c.loop-number.invariant)
