@@ -1,0 +1,8 @@
+use Rattle.std.proofs.Common.{ap, ◌∙◌, arith, get_or}
+use Rattle.qrcode_grid.specs.Field.{power}
+use Rattle.qrcode_grid.specs.declared.ec.field.TheConstants.{LOGS}
+use Rattle.qrcode_grid.proofs.FieldTables.{LOGS-at}
+use Rattle.qrcode_grid.proofs.ec.field.logarithm.Goals as goal
+
+pub returns : goal.returns
+returns c = ap (λ t. power 2 (get_or LOGS t 0)) c.from.ensures ∙ LOGS-at c.args.a (omega arith) c.requires
