@@ -17,7 +17,7 @@ use Rattle.qrcode_grid.specs.Codewords.{AreCodewordsOf}
 use Rattle.qrcode_grid.specs.Counts.{left_over}
 use Rattle.qrcode_grid.specs.Data.{bit_color, symbol_bits}
 use Rattle.qrcode_grid.specs.Masks.{IsOfFamily}
-use Rattle.qrcode_grid.specs.Penalty.{is_dark}
+use Rattle.qrcode_grid.specs.Canvas.{is_dark}
 use Rattle.qrcode_grid.specs.Symbol.{CarriesCodewords}
 use Rattle.qrcode_core.specs.Layers.{IsEncoded, AreStreams}
 use Rattle.qrcode_core.specs.Reader.{Reads, reading_of}

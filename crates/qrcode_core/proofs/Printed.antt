@@ -17,7 +17,6 @@ use Rattle.qrcode_grid.specs.Blocks.{place, block_in, blocks_in, codeword_block,
 use Rattle.qrcode_grid.specs.Codes.{value_at, IsSound}
 use Rattle.qrcode_grid.specs.Field.{double, shift_and_add, product, power}
 use Rattle.qrcode_grid.specs.Masks.{format_word}
-use Rattle.qrcode_grid.specs.Penalty.{same_color}
 use Rattle.qrcode_grid.specs.Regions.{functional_color}
 use Rattle.qrcode_grid.specs.Symbol.{HasFunctionalColors}
 use Rattle.qrcode_grid.proofs.Tests.{all_pass, passes}
@@ -25,6 +24,11 @@ use Rattle.qrcode_core.specs.Example.{printed, printed_reading}
 use Rattle.qrcode_core.specs.Reader.{Reads}
 
 -- ---- Functional colours, computed
+
+abbrev pub same_color : Color → Color → Bool
+same_color Dark Dark = true
+same_color Light Light = true
+same_color _ _ = false
 
 abbrev pub shows : Option Color → Option Color → Bool
 shows None seen = true

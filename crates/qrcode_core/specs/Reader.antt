@@ -13,7 +13,7 @@ use Rattle.qrcode_grid.specs.Blocks.{AreCodewords}
 use Rattle.qrcode_grid.specs.Codes.{AreBytes}
 use Rattle.qrcode_grid.specs.Counts.{left_over}
 use Rattle.qrcode_grid.specs.Masks.{IsOfFamily, raw_colors}
-use Rattle.qrcode_grid.specs.Penalty.{is_dark}
+use Rattle.qrcode_grid.specs.Canvas.{is_dark}
 use Rattle.qrcode_grid.specs.Symbol.{HasFunctionalColors}
 
 -- What is read from a grid: the bytes, the symbol that carries them, perhaps the header of a sequence, and how many bits
