@@ -1,13 +1,17 @@
 -- What the layers below a symbol promise, in the words in which the symbol needs it.
-use Rattle.std.specs.Prelude.{◌≡◌, ℕ, List, ◌++◌, Bool, Option, Some}
+use Rattle.std.specs.Prelude.{◌≡◌, ℕ, List, ◌++◌, Bool, Option, Some, IsSomeAnd}
 use Rattle.qrcode_base.specs.declared.symbols.BlockLayout.{BlockLayout}
 use Rattle.qrcode_base.specs.declared.types.EcLevel.{EcLevel}
 use Rattle.qrcode_base.specs.declared.types.Version.{Version}
 use Rattle.qrcode_base.specs.Numbers.{byte_bits, zero_bits}
-use Rattle.qrcode_base.specs.Symbols.{blocks_of, block_sizes, missing_bits}
+use Rattle.qrcode_base.specs.Symbols.{blocks_of, block_sizes, data_bytes, missing_bits}
 use Rattle.qrcode_bits.specs.Frame.{Header, IsFrame}
 use Rattle.qrcode_grid.specs.Blocks.{AreCodewords}
 use Rattle.qrcode_grid.specs.Codes.{AreBytes}
+use Rattle.qrcode_grid.specs.Penalty.{IsFirstLeastMask}
+use Rattle.qrcode_grid.specs.Symbol.{CarriesCodewords}
+use Rattle.qrcode_grid.specs.declared.canvas.MaskPattern.{MaskPattern}
+use Rattle.qrcode_base.specs.declared.types.Color.{Color}
 
 -- The data codewords hold a frame of the bytes, and zeros where the last codeword has no low half.
 pub record IsEncoded (version : Version) (level : EcLevel) (header : Option Header) (bytes : List ℕ) (payload : ℕ) (codewords : List ℕ) : Type 0 where
@@ -22,3 +26,16 @@ pub record AreStreams (version : Version) (level : EcLevel) (codewords interleav
   pub bytes_interleaved : AreBytes interleaved
   pub bytes_correction : AreBytes correction
   pub sound : AreCodewords blocks.correction (block_sizes blocks) codewords interleaved correction
+
+-- So many data codewords are those of the symbol.
+abbrev pub AreAllCodewords : Version → EcLevel → ℕ → Type 0
+AreAllCodewords version level count = IsSomeAnd (blocks_of version level) (λ b. count ≡ data_bytes b)
+
+-- The grid carries the streams of the data codewords, under the first mask of least penalty.
+pub record IsDrawn (version : Version) (level : EcLevel) (codewords : List ℕ) (grid : List Color) : Type 0 where
+  pub mask : MaskPattern
+  pub interleaved : List ℕ
+  pub correction : List ℕ
+  pub streams : AreStreams version level codewords interleaved correction
+  pub carries : CarriesCodewords version level mask interleaved correction grid
+  pub best : IsFirstLeastMask version level mask grid

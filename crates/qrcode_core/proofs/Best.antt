@@ -1,0 +1,50 @@
+-- The grid that is drawn of the best frame, under the first mask of least penalty, is the best symbol.
+use Rattle.std.proofs.Common.{◌≡◌, ℕ, zero, suc, ◌<◌, refl, List, length, subst}
+use Rattle.std.specs.Prelude.{Option, Some, slice_get}
+use Rattle.std.proofs.lemmas.Option.{none-some, same_Some}
+use Rattle.qrcode_base.specs.declared.types.Color.{Color}
+use Rattle.qrcode_base.specs.declared.types.EcLevel.{EcLevel}
+use Rattle.qrcode_base.specs.declared.types.Version.{Version}
+use Rattle.qrcode_base.specs.declared.types.Version.TheVariants.{Normal, Micro}
+use Rattle.qrcode_bits.specs.declared.optimize.Segment.{Segment}
+use Rattle.qrcode_bits.specs.Choice.{Fits, FitsNot, IsLeastBits}
+use Rattle.qrcode_bits.specs.Frame.{Header, header_bits}
+use Rattle.qrcode_grid.specs.declared.canvas.MaskPattern.{MaskPattern}
+use Rattle.qrcode_grid.specs.Masks.{IsOfFamily, family}
+use Rattle.qrcode_core.specs.Headline.{IsBest}
+use Rattle.qrcode_core.specs.Layers.{IsEncoded, IsDrawn}
+use Rattle.qrcode_core.specs.Reader.{Reads, reading_of}
+use Rattle.qrcode_core.proofs.DrawnReading.{drawn_reading}
+use Rattle.qrcode_core.proofs.OneReading.{one_reading}
+
+-- a mask at a place of the family is one of the family
+of_family : (version : Version) (i : ℕ) (mask : MaskPattern) → slice_get (family version) i ≡ Some mask → IsOfFamily version mask
+of_family (Normal n) i mask e = tt
+of_family (Micro n) zero mask e = subst (λ (m : MaskPattern). IsOfFamily (Micro n) m) (same_Some _ mask e) refl
+of_family (Micro n) (suc zero) mask e = subst (λ (m : MaskPattern). IsOfFamily (Micro n) m) (same_Some _ mask e) refl
+of_family (Micro n) (suc (suc zero)) mask e = subst (λ (m : MaskPattern). IsOfFamily (Micro n) m) (same_Some _ mask e) refl
+of_family (Micro n) (suc (suc (suc zero))) mask e = subst (λ (m : MaskPattern). IsOfFamily (Micro n) m) (same_Some _ mask e) refl
+of_family (Micro n) (suc (suc (suc (suc i)))) mask e = absurd (none-some mask e)
+
+pub best_symbol : (kind : ℕ → Version) (header : Option Header) (bytes : List ℕ) (level : EcLevel) (number payload : ℕ) (plan : List Segment) (codewords : List ℕ) (grid : List Color) →
+    IsEncoded (kind number) level header bytes payload codewords → IsDrawn (kind number) level codewords grid →
+    Fits (length (header_bits header)) bytes (kind number) level plan →
+    ((smaller : ℕ) → smaller < number → FitsNot (length (header_bits header)) bytes (kind smaller) level) →
+    IsLeastBits (length (header_bits header)) bytes (kind number) payload → IsBest kind header bytes level grid
+best_symbol kind header bytes level number payload plan codewords grid code drawn fits smallest fewest =
+    let has_mask = of_family (kind number) drawn.best.0 drawn.mask drawn.best.1 in
+    let reads : Reads grid (reading_of bytes (kind number) level drawn.mask header payload) =
+    drawn_reading (kind number) level drawn.mask header bytes payload codewords drawn.interleaved drawn.correction grid has_mask code drawn.streams drawn.carries in
+    record {
+      number = number;
+      mask = drawn.mask;
+      payload = payload;
+      plan = plan;
+      reads = reads;
+      only = λ other seen. one_reading grid other (reading_of bytes (kind number) level drawn.mask header payload) seen reads;
+      functional = drawn.carries.functional;
+      fits = fits;
+      smallest = smallest;
+      fewest = fewest;
+      best_mask = drawn.best;
+    }

@@ -1,0 +1,109 @@
+-- The stream of the chosen plan in the smallest version, turned into bytes and drawn, is the best symbol.
+use Rattle.std.proofs.Common.{◌≡◌, ℕ, ◌+◌, ◌-◌, ◌%◌, ◌<◌, ◌≤◌, refl, ap, sym, ◌∙◌, arith, zero-add, List, ◌++◌, length, take, Bool, subst}
+use Rattle.std.specs.Prelude.{Option, Some, None, All, IsSomeAnd}
+use Rattle.std.proofs.lemmas.Bool.{cases_lt}
+use Rattle.std.proofs.Common.{inl, inr}
+use Rattle.std.proofs.lemmas.Option.{none-some}
+use Rattle.qrcode_base.specs.declared.symbols.BlockLayout.{BlockLayout}
+use Rattle.qrcode_base.specs.declared.types.Color.{Color}
+use Rattle.qrcode_base.specs.declared.types.EcLevel.{EcLevel}
+use Rattle.qrcode_base.specs.declared.types.Version.{Version}
+use Rattle.qrcode_base.specs.declared.types.errors.QrError.{QrError}
+use Rattle.qrcode_base.specs.declared.types.errors.QrError.TheVariants.{DataTooLong, InvalidVersion, OutOfMemory}
+use Rattle.qrcode_base.specs.Numbers.{byte_bits, zero_bits}
+use Rattle.qrcode_base.specs.Symbols.{blocks_of, capacity, capacity_with, data_bytes, missing_bits}
+use Rattle.qrcode_bits.specs.Choice.{normal, IsLeastBits}
+use Rattle.qrcode_bits.specs.Encoding.{IsEncoding, IsUnencodable, IsMicroRefused}
+use Rattle.qrcode_bits.specs.Frame.{spellings, ended}
+use Rattle.qrcode_bits.specs.Merging.{total_bits}
+use Rattle.qrcode_bits.specs.Pieces.{segment_pieces}
+use Rattle.qrcode_bits.specs.Stream.{Stream}
+use Rattle.qrcode_bits.proofs.Choices.{fits_last}
+use Rattle.qrcode_bits.proofs.Lengths.{long_message}
+use Rattle.qrcode_bits.proofs.PlanFrames.{spelled_plan}
+use Rattle.qrcode_core.specs.Headline.{IsBest, IsTooLong, IsRefusal, IsMicroRefusal}
+use Rattle.qrcode_core.specs.Layers.{IsEncoded, IsDrawn, AreAllCodewords}
+use Rattle.qrcode_core.proofs.Best.{best_symbol}
+use Rattle.qrcode_core.proofs.Ending.{bytes_of_ended}
+use Rattle.qrcode_core.proofs.Lengths.{length-encoded}
+
+-- a symbol with a capacity has blocks
+has_blocks : (v : Version) (l : EcLevel) (limit : ℕ) → capacity v l ≡ Some limit → (b : BlockLayout) × (blocks_of v l ≡ Some b)
+has_blocks v l limit e = go (blocks_of v l) refl e
+  where
+    go : (o : Option BlockLayout) → blocks_of v l ≡ o → capacity_with v o ≡ Some limit → (b : BlockLayout) × (blocks_of v l ≡ Some b)
+    go None q e = absurd (none-some limit e)
+    go (Some b) q e = (b, q)
+
+-- the bytes into which a stream is turned
+abbrev pub AreBytesOf : List ℕ → List Bool → Type 0
+AreBytesOf words bits = byte_bits words ≡ bits ++ zero_bits ((8 - length bits % 8) % 8)
+
+module _ (kind : ℕ → Version) (bytes : List ℕ) (level : EcLevel) (limit : ℕ) (stream : Stream) (words : List ℕ) (are : All (λ c. c < 256) bytes)
+    (encoding : IsEncoding kind bytes level limit stream) (turned : AreBytesOf words stream.bits) where
+  abbrev version : Version
+  version = kind encoding.number
+
+  abbrev payload : List Bool
+  payload = spellings version (segment_pieces bytes encoding.plan)
+
+  encoded : IsEncoded version level None bytes (total_bits version encoding.plan) words
+  encoded =
+      let held = encoding.stream_is in
+      let blocks = has_blocks version level held.limit held.limit_is in
+      let spelled = spelled_plan 0 version level bytes encoding.plan are encoding.choice.fits in
+      let short = held.frame.fits in
+      let room : held.frame.limit ≡ held.limit = same_limit held.frame.limit held.limit (sym held.frame.limit_is ∙ held.limit_is) in
+      let within : length payload ≤ held.limit = omega (arith, spelled.bits, short, room) in
+      record {
+        frame = take held.limit stream.bits;
+        framed = held.frame;
+        frame_is = subst (λ (bits : List Bool). byte_bits words ≡ take held.limit bits ++ zero_bits (missing_bits version)) (sym held.bits_are)
+            (bytes_of_ended version level blocks.0 held.limit payload words blocks.1 held.limit_is within
+            (subst (λ (bits : List Bool). AreBytesOf words bits) held.bits_are turned));
+      }
+    where
+      same_limit : (a b : ℕ) → ◌≡◌ {A = Option ℕ} (Some a) (Some b) → a ≡ b
+      same_limit a b e = cc
+
+  -- The codewords are those of the symbol.
+  pub all_codewords : AreAllCodewords stream.version level (length words)
+  all_codewords =
+      let held = encoding.stream_is in
+      let blocks = has_blocks version level held.limit held.limit_is in
+      let long = length-encoded version level None bytes (total_bits version encoding.plan) words blocks.0 encoded blocks.1 in
+      subst (λ (v : Version). AreAllCodewords v level (length words)) (sym held.version_is)
+      (subst (λ (o : Option BlockLayout). IsSomeAnd o (λ b. length words ≡ data_bytes b)) (sym blocks.1) long)
+
+  -- Drawn, they are the best symbol.
+  pub best : (grid : List Color) → IsDrawn stream.version level words grid → IsBest kind None bytes level grid
+  best grid drawn =
+      let choice = encoding.choice in
+      let bits = total_bits version encoding.plan in
+      best_symbol kind None bytes level encoding.number bits encoding.plan words grid encoded
+      (subst (λ (v : Version). IsDrawn v level words grid) encoding.stream_is.version_is drawn) choice.fits choice.smallest
+      (subst (λ (n : ℕ). IsLeastBits 0 bytes version n) (zero-add bits) choice.fewest)
+
+-- What is encoded fits version 40.
+pub encoded_fits : (bytes : List ℕ) (level : EcLevel) (limit : ℕ) (stream : Stream) → limit ≤ 40 → IsEncoding normal bytes level limit stream → IsTooLong bytes level → ⊥
+encoded_fits bytes level limit stream h encoding long =
+    let choice = encoding.choice in
+    long encoding.plan (fits_last 0 encoding.number bytes level encoding.plan (let up = choice.up_to in omega arith) choice.fits)
+
+-- It has at most 7089 bytes.
+pub encoded_short : (bytes : List ℕ) (level : EcLevel) (limit : ℕ) (stream : Stream) → limit ≤ 40 → All (λ c. c < 256) bytes → IsEncoding normal bytes level limit stream → length bytes ≤ 7089
+encoded_short bytes level limit stream h are encoding = elim (cases_lt 7089 (length bytes)) [
+  | inl long ↦ absurd (long_message 0 bytes level limit h are long encoding.number encoding.choice.up_to encoding.plan encoding.choice.fits)
+  | inr short ↦ omega (arith, short)
+]
+
+pub normal_refused : (bytes : List ℕ) (level : EcLevel) (e : QrError) → IsUnencodable normal bytes level 40 e → IsRefusal bytes level e
+normal_refused bytes level DataTooLong none = none 40 (omega arith)
+normal_refused bytes level OutOfMemory none = tt
+normal_refused bytes level other none = none
+
+pub micro_refused : (bytes : List ℕ) (level : EcLevel) (e : QrError) → IsMicroRefused bytes level e → IsMicroRefusal bytes level e
+micro_refused bytes level (InvalidVersion v l) why = why
+micro_refused bytes level DataTooLong why = why
+micro_refused bytes level OutOfMemory why = why.0
+micro_refused bytes level other why = why.1

@@ -1,0 +1,70 @@
+-- What the symbol of some bytes at a level is: the smallest and best one, read in one way (ISO/IEC 18004, encode procedure).
+use Rattle.std.specs.Prelude.{◌≡◌, ◌≢◌, ℕ, pos, ◌*◌, ◌<◌, List, length, Option, None}
+use Rattle.qrcode_base.specs.declared.types.Color.{Color}
+use Rattle.qrcode_base.specs.declared.types.EcLevel.{EcLevel}
+use Rattle.qrcode_base.specs.declared.types.EcLevel.TheVariants.{H}
+use Rattle.qrcode_base.specs.declared.types.Version.{Version}
+use Rattle.qrcode_base.specs.declared.types.Version.TheVariants.{Micro}
+use Rattle.qrcode_base.specs.declared.types.errors.QrError.{QrError}
+use Rattle.qrcode_base.specs.declared.types.errors.QrError.TheVariants.{DataTooLong, InvalidVersion, OutOfMemory}
+use Rattle.qrcode_bits.specs.declared.optimize.Segment.{Segment}
+use Rattle.qrcode_bits.specs.Choice.{normal, micro, Fits, FitsNot, FitsNone, IsLeastBits}
+use Rattle.qrcode_bits.specs.Frame.{Header, header_bits}
+use Rattle.qrcode_grid.specs.declared.canvas.MaskPattern.{MaskPattern}
+use Rattle.qrcode_grid.specs.Penalty.{IsFirstLeastMask}
+use Rattle.qrcode_grid.specs.Symbol.{HasFunctionalColors}
+use Rattle.qrcode_core.specs.Reader.{Reading, Reads, reading_of}
+
+-- ---- Symbols
+
+-- The best symbol of some bytes at a level, with or without the header of a sequence, among the versions of one kind, which are
+-- told by their numbers.
+--
+-- It is read as the bytes at the level, and as nothing else: whatever a reader finds in it (bytes, version, level, mask, header,
+-- payload bits) is this. Its functional modules have their colours. Some plan of the bytes fits its version, and none a smaller
+-- one. The payload bits are the fewest of all plans there. The mask is the first under which the grid's sibling has the least
+-- penalty.
+pub record IsBest (kind : ℕ → Version) (header : Option Header) (bytes : List ℕ) (level : EcLevel) (grid : List Color) : Type 0 where
+  pub number : ℕ
+  pub mask : MaskPattern
+  pub payload : ℕ
+  pub plan : List Segment
+  pub reads : Reads grid (reading_of bytes (kind number) level mask header payload)
+  pub only : (other : Reading) → Reads grid other → other ≡ reading_of bytes (kind number) level mask header payload
+  pub functional : HasFunctionalColors (kind number) level mask grid
+  pub fits : Fits (length (header_bits header)) bytes (kind number) level plan
+  pub smallest : (smaller : ℕ) → smaller < number → FitsNot (length (header_bits header)) bytes (kind smaller) level
+  pub fewest : IsLeastBits (length (header_bits header)) bytes (kind number) payload
+  pub best_mask : IsFirstLeastMask (kind number) level mask grid
+
+abbrev pub IsBestSymbol : List ℕ → EcLevel → List Color → Type 0
+IsBestSymbol bytes level grid = IsBest normal None bytes level grid
+
+abbrev pub IsBestMicroSymbol : List ℕ → EcLevel → List Color → Type 0
+IsBestMicroSymbol bytes level grid = IsBest micro None bytes level grid
+
+-- as many modules as the square of a width
+abbrev pub IsSquare : List Color → Type 0
+IsSquare grid = (width : ℕ) × (length grid ≡ width * width)
+
+-- ---- Refusals
+
+-- No plan fits the greatest version.
+abbrev pub IsTooLong : List ℕ → EcLevel → Type 0
+IsTooLong bytes level = FitsNot 0 bytes (normal 40) level
+
+-- No plan fits any Micro version.
+abbrev pub IsTooLongForMicro : List ℕ → EcLevel → Type 0
+IsTooLongForMicro bytes level = FitsNone micro 0 bytes level 4
+
+-- Which refusal comes when. Of a want of memory nothing is said.
+abbrev pub IsRefusal : List ℕ → EcLevel → QrError → Type 0
+IsRefusal bytes level DataTooLong = IsTooLong bytes level
+IsRefusal bytes level OutOfMemory = Unit {0}
+IsRefusal bytes level other = ⊥
+
+abbrev pub IsMicroRefusal : List ℕ → EcLevel → QrError → Type 0
+IsMicroRefusal bytes level DataTooLong = (level ≢ H) × IsTooLongForMicro bytes level
+IsMicroRefusal bytes level (InvalidVersion version named) = (level ≡ H) × (version ≡ Micro (pos 4)) × (named ≡ H)
+IsMicroRefusal bytes level OutOfMemory = level ≢ H
+IsMicroRefusal bytes level other = ⊥
