@@ -75,7 +75,9 @@ mode_order-equal Kanji Kanji h = refl
 mode_order-equal _ _ h = cc
 
 -- The laws beside any test of equality.
-pub mode_order-laws : (E : Mode → Mode → Bool) → ((x : Mode) → E x x ≡ true) → ((x y : Mode) → E x y ≡ true → x ≡ y) →
+pub mode_order-laws : (E : Mode → Mode → Bool) →
+    ((x : Mode) → E x x ≡ true) →
+    ((x y : Mode) → E x y ≡ true → x ≡ y) →
     IsPartialOrder E mode_order
 mode_order-laws E itself same = record {
   antisymm = mode_order-antisymm;
