@@ -203,7 +203,7 @@ chosen_same : (segments plan : List Segment) (n m : ℕ) → 1 ≤ n → 1 ≤ m
 chosen_same segments plan n m h k class w = record { cuts = w.cuts; chosen = chosen-same segments n m (length segments) w.cuts h k class w.chosen; merges = w.merges }
 
 -- a version that holds the bits of a plan fits it, if it is a Normal one
-fits_normal : (front n c : ℕ) (message : List ℕ) (l : EcLevel) (plan : List Segment) → IsMergePlan message plan → capacity (normal n) l ≡ Some c →
+pub fits_normal : (front n c : ℕ) (message : List ℕ) (l : EcLevel) (plan : List Segment) → IsMergePlan message plan → capacity (normal n) l ≡ Some c →
     front + total_bits (normal n) plan ≤ c → Fits front message (normal n) l plan
 fits_normal front n c message l plan h known few = record { planned = h; limit = c; has_level = known; has_modes = all_had n plan; within = few }
 
@@ -350,7 +350,7 @@ micro_choice message l number plan h none chosen fits = record {
 
 -- ---- No version holds so many bits
 
-past_last : (l : EcLevel) (n c : ℕ) → capacity (normal n) l ≡ Some c → n ≤ 40
+pub past_last : (l : EcLevel) (n c : ℕ) → capacity (normal n) l ≡ Some c → n ≤ 40
 past_last l zero c h = omega arith
 past_last l (suc n) c h = elim (cases_lt n 40) [
   | inl k ↦ omega arith

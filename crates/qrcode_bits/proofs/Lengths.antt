@@ -1,9 +1,11 @@
 -- No message of more than 7089 bytes fits a symbol.
-use Rattle.std.proofs.Common.{◌≡◌, ℕ, ◌+◌, ◌-◌, ◌*◌, ◌%◌, ◌<◌, ◌≤◌, List, [], ◌∷◌, length, refl, ◌∙◌, arith, inl, inr}
+use Rattle.std.proofs.Common.{◌≡◌, ℕ, zero, suc, ◌+◌, ◌-◌, ◌*◌, ◌%◌, ◌<◌, ◌≤◌, List, [], ◌∷◌, Some, length, refl, ◌∙◌, arith, inl, inr}
 use Rattle.std.specs.Prelude.{All, slice_range}
 use Rattle.std.proofs.lemmas.Bool.{cases_lt}
 use Rattle.qrcode_base.specs.declared.types.Version.{Version}
 use Rattle.qrcode_base.specs.declared.types.EcLevel.{EcLevel}
+use Rattle.qrcode_base.specs.declared.types.EcLevel.TheVariants.{L, M, Q, H}
+use Rattle.qrcode_base.specs.Symbols.{capacity}
 use Rattle.qrcode_base.specs.declared.types.Mode.{Mode}
 use Rattle.qrcode_base.specs.declared.types.Mode.TheVariants.{Numeric, Alphanumeric, Byte, Kanji}
 use Rattle.qrcode_base.specs.Modes.{count_width, indicator_width, data_bits, characters}
@@ -12,7 +14,7 @@ use Rattle.qrcode_base.proofs.Fields.{capacity-held, count_width-same}
 use Rattle.qrcode_bits.specs.declared.optimize.Segment.{Segment}
 use Rattle.qrcode_bits.specs.Merging.{total_bits}
 use Rattle.qrcode_bits.specs.Parsing.{AreTexts}
-use Rattle.qrcode_bits.specs.Choice.{normal, FitsNone}
+use Rattle.qrcode_bits.specs.Choice.{normal, micro, FitsNone}
 use Rattle.qrcode_bits.proofs.Choices.{capacity-middle, capacity-most}
 use Rattle.qrcode_bits.proofs.PlanFrames.{length-slice}
 use Rattle.qrcode_bits.proofs.Texts.{texts-reach, texts-plan}
@@ -75,3 +77,36 @@ long_message front message l limit last are long n k plan w =
       | inr late ↦ (let held = capacity-most l n w.limit (omega arith) w.has_level in
           let headed = texts-headed message (normal n) 16 0 (length message) plan (long_header n late) (omega arith) texts (omega arith) in omega arith)
     ]
+
+-- ---- Micro
+
+micro-most : (l : EcLevel) (n c : ℕ) → n ≤ 4 → capacity (micro n) l ≡ Some c → c ≤ 128
+micro-most L zero c k h = absurd (cc)
+micro-most L (suc zero) c k h = let e : 20 ≡ c = cc in omega arith
+micro-most L (suc (suc zero)) c k h = let e : 40 ≡ c = cc in omega arith
+micro-most L (suc (suc (suc zero))) c k h = let e : 84 ≡ c = cc in omega arith
+micro-most L (suc (suc (suc (suc zero)))) c k h = let e : 128 ≡ c = cc in omega arith
+micro-most M zero c k h = absurd (cc)
+micro-most M (suc zero) c k h = absurd (cc)
+micro-most M (suc (suc zero)) c k h = let e : 32 ≡ c = cc in omega arith
+micro-most M (suc (suc (suc zero))) c k h = let e : 68 ≡ c = cc in omega arith
+micro-most M (suc (suc (suc (suc zero)))) c k h = let e : 112 ≡ c = cc in omega arith
+micro-most Q zero c k h = absurd (cc)
+micro-most Q (suc zero) c k h = absurd (cc)
+micro-most Q (suc (suc zero)) c k h = absurd (cc)
+micro-most Q (suc (suc (suc zero))) c k h = absurd (cc)
+micro-most Q (suc (suc (suc (suc zero)))) c k h = let e : 80 ≡ c = cc in omega arith
+micro-most H zero c k h = absurd (cc)
+micro-most H (suc zero) c k h = absurd (cc)
+micro-most H (suc (suc zero)) c k h = absurd (cc)
+micro-most H (suc (suc (suc zero))) c k h = absurd (cc)
+micro-most H (suc (suc (suc (suc zero)))) c k h = absurd (cc)
+micro-most l (suc (suc (suc (suc (suc n))))) c k h = absurd (omega arith)
+
+-- No plan of more than 7089 bytes fits a Micro version.
+pub long_for_micro : (message : List ℕ) (l : EcLevel) → All (λ c. c < 256) message → 7089 < length message → FitsNone micro 0 message l 4
+long_for_micro message l are long n k plan w =
+    let held = micro-most l n w.limit k w.has_level in
+    let few = w.within in
+    let bare = texts-dense message (micro n) 0 (length message) plan (texts-plan message are plan w.planned) (omega arith) in
+    absurd (omega arith)

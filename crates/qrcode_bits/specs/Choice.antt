@@ -1,6 +1,6 @@
 -- Which version some bytes take: the smallest in which a plan fits (ISO/IEC 18004, "Data analysis" of the encode procedure and
 -- "Optimisation of bit stream length").
-use Rattle.std.specs.Prelude.{◌≡◌, ℕ, pos, ◌+◌, ◌<◌, ◌≤◌, List, All, Some, ◌⊎◌}
+use Rattle.std.specs.Prelude.{◌≡◌, ℕ, pos, ◌+◌, ◌<◌, ◌≤◌, List, [], ◌∷◌, All, Some, ◌⊎◌}
 use Rattle.qrcode_base.specs.declared.types.Version.{Version}
 use Rattle.qrcode_base.specs.declared.types.Version.TheVariants.{Normal, Micro}
 use Rattle.qrcode_base.specs.declared.types.EcLevel.{EcLevel}
@@ -80,3 +80,8 @@ IsMinVersion length level version =
 abbrev pub IsClass : ℕ → ℕ → Type 0
 IsClass before last = (n : ℕ) → before < n → n ≤ last →
     ((n ≤ 9) × (last ≤ 9)) ⊎ (((10 ≤ n) × (n ≤ 26) × (10 ≤ last) × (last ≤ 26)) ⊎ ((27 ≤ n) × (27 ≤ last)))
+
+-- These are the last versions of the classes up to a limit, behind one number.
+abbrev pub ClassesUpTo : ℕ → List ℕ → ℕ → Type 0
+ClassesUpTo before [] limit = limit ≤ before
+ClassesUpTo before (last ∷ rest) limit = IsClass before last × (1 ≤ last) × (last ≤ limit) × ClassesUpTo last rest limit

@@ -1,0 +1,236 @@
+-- A chosen plan decides for its version, and that of the last version of a class for the class.
+use Rattle.std.proofs.Common.{◌≡◌, ℕ, zero, suc, ℤ, false, true, Bool, pos, negsuc, ◌+◌, ◌-◌, ◌*◌, ◌^◌, ◌<◌, ◌≤◌, List, [], ◌∷◌, length, refl, sym, ap, ◌∙◌, subst, arith, inl, inr, drop, get_or, Result, Ok, Err, add-one, drop-cons}
+use Rattle.std.specs.Prelude.{All, Option, Some, None, nat_abs, nat_le, ◌&&◌, if◌then◌else◌, MatchOption, slice_get}
+use Rattle.std.proofs.lemmas.Bool.{cases_lt, cases_eq}
+use Rattle.std.proofs.lemmas.List.{drop_all}
+use Rattle.qrcode_base.specs.declared.types.Version.{Version}
+use Rattle.qrcode_base.specs.declared.types.Version.TheVariants.{Normal, Micro}
+use Rattle.qrcode_base.specs.declared.types.EcLevel.{EcLevel}
+use Rattle.qrcode_base.specs.declared.types.EcLevel.TheVariants.{L, M, Q, H}
+use Rattle.qrcode_base.specs.declared.types.Mode.{Mode}
+use Rattle.qrcode_base.specs.declared.types.Mode.TheVariants.{Numeric, Alphanumeric, Byte, Kanji}
+use Rattle.qrcode_base.specs.declared.types.errors.QrError.{QrError}
+use Rattle.qrcode_base.specs.declared.types.errors.QrError.TheVariants.{DataTooLong, InvalidResourceLimits, OutOfMemory}
+use Rattle.qrcode_base.specs.declared.symbols.BlockLayout.{BlockLayout}
+use Rattle.qrcode_base.specs.Symbols.{normal_blocks, capacity, capacity_with}
+use Rattle.qrcode_base.specs.Modes.{by_class, HasMode, indicator_width, count_width, data_bits, characters}
+use Rattle.qrcode_base.specs.Versions.{HasMicroNumber}
+use Rattle.qrcode_base.proofs.Fields.{capacity-held, SameClass}
+use Rattle.std.proofs.lemmas.Option.{slice_get-get_or}
+use lib.Signed.{lt_z}
+use Rattle.std.specs.Int.Signed.{lt_z_no}
+use Rattle.std.proofs.lemmas.Float.{T_from_false}
+use Rattle.qrcode_bits.specs.declared.optimize.Segment.{Segment}
+use Rattle.qrcode_bits.specs.Parsing.{parsed, AreTexts}
+use Rattle.qrcode_bits.specs.Merging.{HasLinearCosts, IsChosenPlan, total_bits}
+use Rattle.qrcode_bits.specs.Stream.{Stream}
+use Rattle.qrcode_bits.specs.Pieces.{LiesIn}
+use Rattle.qrcode_bits.specs.Choice.{IsMergePlan, Fits, FitsNot, FitsNone, normal, micro, IsChoice, IsLeastHolding, IsMinVersion, IsClass, ClassesUpTo}
+use Rattle.qrcode_bits.specs.Encoding.{IsPlanStream, IsEncoding, IsUnencodable, IsLimit, IsEncodingRefused}
+use Rattle.qrcode_bits.proofs.Adjoining.{parsed-linear}
+use Rattle.qrcode_bits.proofs.Growth.{total_bits-rise, total_bits-same}
+use Rattle.qrcode_bits.proofs.Upward.{All-map}
+use Rattle.qrcode_bits.proofs.Texts.{texts-reach, texts-plan, plan_lies}
+use Rattle.qrcode_bits.proofs.Choices.{chosen_is_plan, chosen_decides, fits_normal, capacity-grows, class_choice, past_last}
+
+-- ---- Costs are small
+
+abbrev pub HasSmallHeaders : Version → Type 0
+HasSmallHeaders v = (m : Mode) → indicator_width v + count_width v m ≤ 20
+
+by_class-most : (n a b c : ℕ) → a ≤ 16 → b ≤ 16 → c ≤ 16 → by_class n a b c ≤ 16
+by_class-most n a b c h k l = go (nat_le 1 n && nat_le n 9) (nat_le 10 n && nat_le n 26) where
+  go : (t u : Bool) → (if t then a else if u then b else c) ≤ 16
+  go true u = h
+  go false true = k
+  go false false = l
+
+pub normal_headers : (n : ℕ) → HasSmallHeaders (normal n)
+normal_headers n Numeric = let w = by_class-most n 10 12 14 (omega arith) (omega arith) (omega arith) in omega arith
+normal_headers n Alphanumeric = let w = by_class-most n 9 11 13 (omega arith) (omega arith) (omega arith) in omega arith
+normal_headers n Byte = let w = by_class-most n 8 16 16 (omega arith) (omega arith) (omega arith) in omega arith
+normal_headers n Kanji = let w = by_class-most n 8 10 12 (omega arith) (omega arith) (omega arith) in omega arith
+
+pub micro_headers : (n : ℕ) → n ≤ 4 → HasSmallHeaders (micro n)
+micro_headers n h Numeric = omega arith
+micro_headers n h Alphanumeric = omega arith
+micro_headers n h Byte = omega arith
+micro_headers n h Kanji = omega arith
+
+data_small : (m : Mode) (n : ℕ) → data_bits m (characters m n) ≤ 13 * n
+data_small Numeric n = omega arith
+data_small Alphanumeric n = omega arith
+data_small Byte n = omega arith
+data_small Kanji n = omega arith
+
+module _ (message : List ℕ) (v : Version) (small : HasSmallHeaders v) (short : length message ≤ 7089) where
+  pub short-linear : HasLinearCosts (parsed message) v
+  short-linear = parsed-linear message v (λ m. omega (arith, small m))
+
+  texts-small : (from to : ℕ) (ss : List Segment) → AreTexts message from ss to → total_bits v ss ≤ 33 * (to - from)
+  texts-small from to [] t = omega arith
+  texts-small from to (s ∷ ss) t =
+      let r = texts-reach message s.end to ss t.3 in
+      let b = t.0 in
+      let f = t.1 in
+      let rest = texts-small s.end to ss t.3 in
+      let few = small s.mode in
+      let size = data_small s.mode (s.end - s.begin) in
+      omega arith
+
+  pub plan_small : (plan : List Segment) → All (λ c. c < 256) message → IsMergePlan message plan → total_bits v plan < 2 ^ 64
+  plan_small plan are w = let few = texts-small 0 (length message) plan (texts-plan message are plan w) in omega arith
+
+pub plan_ordered : (message : List ℕ) (plan : List Segment) → All (λ c. c < 256) message → IsMergePlan message plan → All (λ s. s.begin ≤ s.end) plan
+plan_ordered message plan are w = All-map (LiesIn (length message)) (λ s. s.begin ≤ s.end) (λ s h. h.0) plan (plan_lies message are plan w)
+
+-- ---- One version
+
+pub known_limit : (o : Option ℕ) (limit : ℕ) (e : QrError) →
+    MatchOption o (◌≡◌ {A = Result ℕ QrError} (Ok limit) (Err e)) (λ c. ◌≡◌ {A = Result ℕ QrError} (Ok limit) (Ok c)) → o ≡ Some limit
+known_limit None limit e h = absurd (cc)
+known_limit (Some c) limit e h = let same : c ≡ limit = cc in ap (λ (n : ℕ). Some n) same
+
+module _ (message : List ℕ) (v : Version) (l : EcLevel) (plan : List Segment) (limit : ℕ)
+    (chosen : IsChosenPlan (parsed message) v plan) (known : capacity v l ≡ Some limit) where
+  -- the chosen plan fits,
+  pub chosen_fits_here : All (λ part. HasMode v part.mode) plan → total_bits v plan ≤ limit → Fits 0 message v l plan
+  chosen_fits_here has few = record { planned = chosen_is_plan message v plan chosen; limit = limit; has_level = known; has_modes = has; within = omega arith }
+
+  -- or the version lacks a mode of it,
+  pub lacks_mode : (All (λ part. HasMode v part.mode) plan → ⊥) → FitsNot 0 message v l
+  lacks_mode lacks = chosen_decides 0 v l message plan chosen (λ fits. lacks fits.has_modes)
+
+  -- or it takes too many bits.
+  pub too_many : limit < total_bits v plan → FitsNot 0 message v l
+  too_many over = chosen_decides 0 v l message plan chosen (λ fits.
+      let same : ◌≡◌ {A = Option ℕ} (Some limit) (Some fits.limit) = sym known ∙ fits.has_level in
+      let equal : limit ≡ fits.limit = cc in
+      let within = fits.within in omega arith)
+
+-- ---- A class of versions
+
+no_blocks : BlockLayout
+no_blocks = record { correction = 0; first_size = 0; first_count = 0; second_size = 0; second_count = 0 }
+
+all_blocks : (l : EcLevel) → length (normal_blocks l) ≡ 40
+all_blocks L = refl
+all_blocks M = refl
+all_blocks Q = refl
+all_blocks H = refl
+
+last_capacity : (l : EcLevel) (n : ℕ) → 1 ≤ n → n ≤ 40 → (c : ℕ) × (capacity (normal n) l ≡ Some c)
+last_capacity l zero some h = absurd (omega arith)
+last_capacity l (suc n) some h =
+    let row = slice_get-get_or (normal_blocks l) n no_blocks (omega (arith, all_blocks l)) in
+    (_, ap (λ (o : Option BlockLayout). capacity_with (normal (suc n)) o) row)
+
+-- what fits a version fits a later one of its class
+fits_later : (front n m : ℕ) (message : List ℕ) (l : EcLevel) (plan : List Segment) → n ≤ m → m ≤ 40 → SameClass n m →
+    Fits front message (normal n) l plan → Fits front message (normal m) l plan
+fits_later front n m message l plan h most class w =
+    let some : 1 ≤ n = (capacity-held l n w.limit w.has_level).0 in
+    let c = last_capacity l m (omega arith) most in
+    let grows = capacity-grows l n m w.limit c.0 h w.has_level c.1 in
+    let same = total_bits-same n m some (omega arith) class plan in
+    let few = w.within in
+    fits_normal front m c.0 message l plan w.planned c.1 (omega arith)
+
+-- Where no plan fits the last version of a class, none fits any version of the class.
+pub class_fits_not : (front : ℕ) (message : List ℕ) (l : EcLevel) (before last : ℕ) → last ≤ 40 → IsClass before last → FitsNone normal front message l before →
+    FitsNot front message (normal last) l → FitsNone normal front message l last
+class_fits_not front message l before last most class none unfit n h plan w = elim (cases_lt before n) [
+  | inl late ↦ unfit plan (fits_later front n last message l plan h most (class n late h) w)
+  | inr early ↦ none n early plan w
+]
+
+pub min_number : (size : ℕ) (l : EcLevel) (version : Version) (last c : ℕ) → capacity (normal last) l ≡ Some c → size ≤ c → IsMinVersion size l version →
+    (number : ℕ) × (version ≡ normal number) × IsLeastHolding size l number
+min_number size l version last c known fits (inl w) = w
+min_number size l version last c known fits (inr w) = absurd (let less = w.1 last c known in omega arith)
+
+module _ (message : List ℕ) (l : EcLevel) (last : ℕ) (plan : List Segment)
+    (chosen : IsChosenPlan (parsed message) (normal last) plan) (fits : Fits 0 message (normal last) l plan)
+    (version : Version) (least : IsMinVersion (total_bits (normal last) plan) l version) where
+  abbrev Least : Type 0
+  Least = (number : ℕ) × (version ≡ normal number) × IsLeastHolding (total_bits (normal last) plan) l number
+
+  least_version : Least
+  least_version = let few = fits.within in min_number (total_bits (normal last) plan) l version last fits.limit fits.has_level (omega arith) least
+
+  -- The chosen plan of the last version of a class fits the least version that holds its bits,
+  pub class_fits : Fits 0 message version l plan
+  class_fits =
+      let m = least_version in
+      let few = fits.within in
+      let holding = m.2 in
+      let some : 1 ≤ m.0 = (capacity-held l m.0 holding.limit holding.limit_is).0 in
+      let early : m.0 ≤ last = holding.least last fits.limit fits.has_level (omega arith) in
+      let held = holding.holds in
+      let rise = total_bits-rise m.0 last some early plan in
+      subst (λ (v : Version). Fits 0 message v l plan) (sym m.1) (fits_normal 0 m.0 holding.limit message l plan fits.planned holding.limit_is (omega arith))
+
+  pub class_number : HasMicroNumber version
+  class_number = let m = least_version in subst (λ (v : Version). HasMicroNumber v) (sym m.1) tt
+
+  -- and is the choice there, where no plan fits a version before the class.
+  pub class_encoding : (stream : Stream) → IsPlanStream message version l plan stream → (before limit : ℕ) → IsClass before last → last ≤ limit →
+      FitsNone normal 0 message l before → IsEncoding normal message l limit stream
+  class_encoding stream s before limit class within none =
+      let m = least_version in
+      let few = fits.within in
+      let same : total_bits (normal last) plan ≡ 0 + total_bits (normal last) plan = omega arith in
+      let holding : IsLeastHolding (0 + total_bits (normal last) plan) l m.0 = subst (λ (n : ℕ). IsLeastHolding n l m.0) same m.2 in
+      record {
+        number = m.0;
+        plan = plan;
+        choice = class_choice 0 message l before last plan fits.limit class none chosen fits.has_level limit m.0 within (omega arith) holding;
+        stream_is = subst (λ (v : Version). IsPlanStream message v l plan stream) m.1 s;
+      }
+
+-- ---- The last versions of the classes
+
+first_class : (last : ℕ) → last ≤ 9 → IsClass 0 last
+first_class last h = λ n a b. inl (omega arith, h)
+
+second_class : (last : ℕ) → 10 ≤ last → last ≤ 26 → IsClass 9 last
+second_class last h k = λ n a b. inr (inl (a, omega arith, h, k))
+
+third_class : (last : ℕ) → 27 ≤ last → IsClass 26 last
+third_class last h = λ n a b. inr (inr (a, h))
+
+pub one_class : (limit : ℕ) → 1 ≤ limit → limit ≤ 9 → ClassesUpTo 0 (limit ∷ []) limit
+one_class limit some h = (first_class limit h, some, omega arith, omega arith)
+
+pub two_classes : (limit : ℕ) → 9 < limit → limit ≤ 26 → ClassesUpTo 0 (9 ∷ limit ∷ []) limit
+two_classes limit h k = (first_class 9 (omega arith), omega arith, omega arith, (second_class limit (omega arith) k, omega arith, omega arith, omega arith))
+
+pub three_classes : (limit : ℕ) → 26 < limit → ClassesUpTo 0 (9 ∷ 26 ∷ limit ∷ []) limit
+three_classes limit h =
+    (first_class 9 (omega arith), omega arith, omega arith, (second_class 26 (omega arith) (omega arith), omega arith, omega arith, (third_class limit (omega arith), omega arith, omega arith, omega arith)))
+
+-- the last version that comes next
+pub classes_here : (before limit : ℕ) (xs : List ℕ) (i : ℕ) → i < length xs → ClassesUpTo before (drop i xs) limit →
+    ClassesUpTo before (get_or xs i 0 ∷ drop (i + 1) xs) limit
+classes_here before limit xs i h w =
+    let here : drop i xs ≡ get_or xs i 0 ∷ drop (i + 1) xs = drop-cons xs i 0 h ∙ ap (λ (n : ℕ). get_or xs i 0 ∷ drop n xs) (sym (add-one i)) in
+    subst (λ (z : List ℕ). ClassesUpTo before z limit) here w
+
+-- no class is left
+pub classes_end : (before limit : ℕ) (xs : List ℕ) (i : ℕ) → length xs ≤ i → ClassesUpTo before (drop i xs) limit → limit ≤ before
+classes_end before limit xs i h w = subst (λ (z : List ℕ). ClassesUpTo before z limit) (drop_all i xs h) w
+
+-- What is known before a last version of a class, in the words of the loop.
+abbrev pub IsSearched : List ℕ → EcLevel → ℕ → List ℕ → Type 0
+IsSearched message l limit left = (before : ℕ) × ClassesUpTo before left limit × FitsNone normal 0 message l before
+
+-- ---- Refusals
+
+pub refused_limit : (message : List ℕ) (l : EcLevel) (z : ℤ) (n : ℕ) (e : QrError) → IsLimit z → n ≡ nat_abs z → IsUnencodable normal message l n e → IsEncodingRefused message l z e
+refused_limit message l z n DataTooLong h same r = (h, subst (λ (k : ℕ). FitsNone normal 0 message l k) same r)
+refused_limit message l z n OutOfMemory h same r = (h, tt)
+refused_limit message l z n other h same r = absurd r
+
+pub limit_of : (z y : ℤ) → y ≡ z → lt_z y (pos 1) ≡ false → lt_z (pos 40) y ≡ false → IsLimit z
+limit_of z y e low high =
+    subst (λ (x : ℤ). IsLimit x) e (lt_z_no (T_from_false (lt_z y (pos 1)) low), lt_z_no (T_from_false (lt_z (pos 40) y) high))

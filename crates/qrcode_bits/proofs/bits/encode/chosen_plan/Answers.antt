@@ -1,0 +1,57 @@
+-- The chosen plan decides whether some plan fits.
+use Rattle.std.proofs.Common.{◌≡◌, refl, true, false, ◌<◌, ◌≤◌, ◌^◌, ℕ, List, ap, ◌∙◌, sym, subst, arith, Some}
+use Rattle.std.specs.Prelude.{All}
+use Rattle.qrcode_bits.specs.declared.optimize.Segment.{Segment}
+use Rattle.qrcode_base.specs.declared.types.errors.QrError.TheVariants.{InvalidVersion}
+use Rattle.qrcode_base.specs.Symbols.{capacity}
+use Rattle.qrcode_base.specs.Modes.{HasMode}
+use Rattle.qrcode_bits.specs.Merging.{HasLinearCosts, IsChosenPlan, total_bits}
+use Rattle.qrcode_bits.proofs.Pairs.{bytes_valid}
+use Rattle.qrcode_bits.proofs.Choices.{chosen_is_plan}
+use Rattle.qrcode_bits.proofs.Classes.{known_limit, short-linear, plan_small, plan_ordered, chosen_fits_here, lacks_mode, too_many}
+use Rattle.qrcode_bits.proofs.bits.encode.chosen_plan.Goals as goal
+
+pub optimize_segments-requires-clause-linear : goal.optimize_segments-requires-clause-linear
+optimize_segments-requires-clause-linear c = λ h.
+    subst (λ (s : List Segment). HasLinearCosts s c.args.version) (sym c.requires.segments)
+    (short-linear c.args.bytes.now c.args.version c.requires.small c.requires.short)
+
+pub returns-then-not-has_modes-clause-none : goal.returns-then-not-has_modes-clause-none
+returns-then-not-has_modes-clause-none c =
+    let chosen = subst (λ (s : List Segment). IsChosenPlan s c.args.version c.in-Ok-optimize_segments.plan.items) c.requires.segments c.in-Ok-optimize_segments.ensures.plan in
+    let known = known_limit (capacity c.args.version c.args.level) c.in-Ok.limit (InvalidVersion c.args.version c.args.level) c.in-Ok.ensures.is in
+    lacks_mode c.args.bytes.now c.args.version c.args.level c.in-Ok-optimize_segments.plan.items c.in-Ok.limit chosen known
+    (λ has.
+    let no : false ≡ true = c.if-not-has_modes.ensures.1 (subst (λ (p : List Segment). All (λ part. HasMode c.args.version part.mode) p) (sym c.deref.ensures.value) has) in
+    absurd (cc))
+
+pub total_encoded_len-requires-clause-ordered : goal.total_encoded_len-requires-clause-ordered
+total_encoded_len-requires-clause-ordered c =
+    let chosen = subst (λ (s : List Segment). IsChosenPlan s c.args.version c.in-Ok-optimize_segments.plan.items) c.requires.segments c.in-Ok-optimize_segments.ensures.plan in
+    subst (λ (p : List Segment). All (λ s. s.begin ≤ s.end) p) (sym c.deref-2.ensures.value)
+    (plan_ordered c.args.bytes.now c.in-Ok-optimize_segments.plan.items (bytes_valid c.args.bytes.now (λ i. omega (arith, c.type_inv.bytes i)))
+    (chosen_is_plan c.args.bytes.now c.args.version c.in-Ok-optimize_segments.plan.items chosen))
+
+pub total_encoded_len-requires-clause-fits : goal.total_encoded_len-requires-clause-fits
+total_encoded_len-requires-clause-fits c =
+    let chosen = subst (λ (s : List Segment). IsChosenPlan s c.args.version c.in-Ok-optimize_segments.plan.items) c.requires.segments c.in-Ok-optimize_segments.ensures.plan in
+    subst (λ (p : List Segment). total_bits c.args.version p < 2 ^ 64) (sym c.deref-2.ensures.value)
+    (plan_small c.args.bytes.now c.args.version c.requires.small c.requires.short c.in-Ok-optimize_segments.plan.items
+    (bytes_valid c.args.bytes.now (λ i. omega (arith, c.type_inv.bytes i))) (chosen_is_plan c.args.bytes.now c.args.version c.in-Ok-optimize_segments.plan.items chosen))
+
+pub returns-then-total_encoded_len-limit-clause-none : goal.returns-then-total_encoded_len-limit-clause-none
+returns-then-total_encoded_len-limit-clause-none c =
+    let chosen = subst (λ (s : List Segment). IsChosenPlan s c.args.version c.in-Ok-optimize_segments.plan.items) c.requires.segments c.in-Ok-optimize_segments.ensures.plan in
+    let known = known_limit (capacity c.args.version c.args.level) c.in-Ok.limit (InvalidVersion c.args.version c.args.level) c.in-Ok.ensures.is in
+    let size = c.total_encoded_len.ensures ∙ ap (λ (p : List Segment). total_bits c.args.version p) c.deref-2.ensures.value in
+    too_many c.args.bytes.now c.args.version c.args.level c.in-Ok-optimize_segments.plan.items c.in-Ok.limit chosen known
+    (subst (λ (n : ℕ). c.in-Ok.limit < n) size c.if-total_encoded_len-limit.true)
+
+pub returns-clause-fits : goal.returns-clause-fits
+returns-clause-fits c =
+    let chosen = subst (λ (s : List Segment). IsChosenPlan s c.args.version c.in-Ok-optimize_segments.plan.items) c.requires.segments c.in-Ok-optimize_segments.ensures.plan in
+    let known = known_limit (capacity c.args.version c.args.level) c.in-Ok.limit (InvalidVersion c.args.version c.args.level) c.in-Ok.ensures.is in
+    let size = c.total_encoded_len.ensures ∙ ap (λ (p : List Segment). total_bits c.args.version p) c.deref-2.ensures.value in
+    chosen_fits_here c.args.bytes.now c.args.version c.args.level c.in-Ok-optimize_segments.plan.items c.in-Ok.limit chosen known
+    (subst (λ (p : List Segment). All (λ part. HasMode c.args.version part.mode) p) c.deref.ensures.value (c.if-not-has_modes.ensures.0 refl))
+    (subst (λ (n : ℕ). n ≤ c.in-Ok.limit) size c.if-total_encoded_len-limit.false)

@@ -1,0 +1,304 @@
+//! Worked rows of plans, and that both bodies agree.
+
+ghost use Rattle.std.specs.Prelude.{◌≡◌, ◌<◌, length};
+ghost use Rattle.qrcode_base.specs.Versions.{HasMicroNumber};
+ghost use Rattle.qrcode_bits.specs.Merging.{HasLinearCosts};
+
+use super::*;
+
+const ONE: Version = Version::Normal(1);
+
+const fn segment(mode: Mode, begin: usize, end: usize) -> Segment {
+    Segment { mode, begin, end }
+}
+
+/// The plan of segments whose costs are linear, by the call and by the iterator, and its bits.
+fn planned(rt: &HostRuntime, segments: &[Segment], version: Version) -> QrResult<Vec<Segment>>
+    requires { HasMicroNumber version }
+{
+    if segments.len() >= 2 && !supports_linear_costs(segments, version) {
+        return Err(QrError::DataTooLong);
+    }
+    let plan = optimize_segments(rt.alloc(), segments, version)?;
+    let given = Optimizer::new(rt.alloc(), segments.iter().copied(), version)?;
+    if given.len() != plan.len() {
+        return Err(QrError::DataTooLong);
+    }
+    let again: Vec<Segment> = given.collect(rt.alloc())?;
+    if again.as_slice() == plan.as_slice() {
+        Ok(plan)
+    } else {
+        Err(QrError::DataTooLong)
+    }
+}
+
+/// The bits of segments that are not too long for it.
+fn bits_of(segments: &[Segment], version: Version) -> usize
+    requires { HasMicroNumber version }
+{
+    let mut bits = 0usize;
+    for segment in segments {
+        if segment.begin <= segment.end && segment.end < 100_000 {
+            bits = bits.saturating_add(segment.encoded_len(version));
+        }
+    }
+    bits
+}
+
+#[test]
+fn chosen_plans(rt: HostRuntime) -> QrResult<()> {
+    let digits = [
+        segment(Mode::Numeric, 0, 3),
+        segment(Mode::Alphanumeric, 3, 4),
+    ];
+    let tie = [
+        segment(Mode::Numeric, 0, 7),
+        segment(Mode::Alphanumeric, 7, 8),
+        segment(Mode::Numeric, 8, 15),
+    ];
+    let mut short = tie;
+    short[2] = segment(Mode::Numeric, 8, 9);
+    let plan = planned(&rt, &tie, ONE)?;
+    assert!(rt;
+        plan.as_slice()
+            == [
+                segment(Mode::Alphanumeric, 0, 8),
+                segment(Mode::Numeric, 8, 15)
+            ]
+            .as_slice()
+    );
+    assert_eq!(rt; bits_of(&plan, ONE), 95);
+    let plan = planned(&rt, &short, ONE)?;
+    assert!(rt;
+        plan.as_slice()
+            == [
+                segment(Mode::Numeric, 0, 7),
+                segment(Mode::Alphanumeric, 7, 9)
+            ]
+            .as_slice()
+    );
+    let plan = planned(&rt, &digits, Version::Micro(2))?;
+    assert!(rt; plan.as_slice() == digits.as_slice() && bits_of(&plan, Version::Micro(2)) == 25);
+    let plan = planned(&rt, &digits, Version::Micro(3))?;
+    assert!(rt;
+        plan.as_slice() == [segment(Mode::Alphanumeric, 0, 4)].as_slice()
+            && bits_of(&plan, Version::Micro(3)) == 28
+    );
+    let backwards = [segment(Mode::Byte, 2, 1)];
+    let plan = planned(&rt, &backwards, ONE)?;
+    assert!(rt; plan.as_slice() == backwards.as_slice());
+    Ok(())
+}
+
+#[test]
+fn letters_and_digits_in_turn(rt: HostRuntime) -> QrResult<()> {
+    for (count, bits) in [(32usize, 189usize), (33, 195), (1024, 5645)] {
+        let mut segments = Vec::new(rt.alloc());
+        for place in 0..count {
+            let mode = if place % 2 == 0 {
+                Mode::Alphanumeric
+            } else {
+                Mode::Numeric
+            };
+            segments.push(segment(mode, place, place + 1))?;
+        }
+        let plan = planned(&rt, &segments, ONE)?;
+        assert!(rt; plan.as_slice() == [segment(Mode::Alphanumeric, 0, count)].as_slice());
+        assert_eq!(rt; bits_of(&plan, ONE), bits);
+    }
+    Ok(())
+}
+
+#[test]
+fn linear_costs(rt: HostRuntime) {
+    let backwards = [segment(Mode::Byte, 2, 1), segment(Mode::Byte, 2, 1)];
+    let far = usize::MAX / 4;
+    let wide = [segment(Mode::Byte, 0, 0), segment(Mode::Byte, far, far)];
+    assert!(rt; !supports_linear_costs(&backwards, ONE) && !supports_linear_costs(&wide, ONE));
+    assert!(rt; supports_linear_costs(&[], ONE));
+    let parts = [
+        Segment {
+            mode: Mode::Alphanumeric,
+            begin: 0,
+            end: 8,
+        },
+        Segment {
+            mode: Mode::Numeric,
+            begin: 8,
+            end: 15,
+        },
+    ];
+    assert_eq!(rt; total_encoded_len(&parts, ONE), 95);
+}
+
+#[test]
+fn parsed_segments(rt: HostRuntime) -> QrResult<()> {
+    let all: Vec<Segment> = Parser::new(&[0x82, 0xa0, 0x81, 0x41, 0x41, 0xb1, 0x81, 0xf0]).collect(
+        rt.alloc(),
+    )?;
+    let wanted = [
+        segment(Mode::Kanji, 0, 4),
+        segment(Mode::Alphanumeric, 4, 5),
+        segment(Mode::Byte, 5, 6),
+        segment(Mode::Kanji, 6, 8),
+    ];
+    assert!(rt; all.as_slice() == wanted.as_slice());
+    let all: Vec<Segment> = Parser::new(&[0xeb, 0xe0, 0x40]).collect(rt.alloc())?;
+    assert!(rt;
+        all.as_slice() == [segment(Mode::Byte, 0, 1), segment(Mode::Kanji, 1, 3)].as_slice()
+    );
+    let all: Vec<Segment> = Parser::new(&[0xeb, 0xc0]).collect(rt.alloc())?;
+    assert!(rt;
+        all.as_slice() == [segment(Mode::Byte, 0, 1), segment(Mode::Byte, 1, 2)].as_slice()
+    );
+    let plan = Parser::new(b"ABC123abcd").optimize(rt.alloc(), ONE)?;
+    let plan: Vec<Segment> = plan.collect(rt.alloc())?;
+    assert!(rt;
+        plan.as_slice()
+            == [
+                segment(Mode::Alphanumeric, 0, 6),
+                segment(Mode::Byte, 6, 10)
+            ]
+            .as_slice()
+    );
+    assert_eq!(rt; bits_of(&plan, ONE), 90);
+    Ok(())
+}
+
+// ---- Both bodies
+
+fn version_of(case: usize) -> Version
+    ensures { HasMicroNumber result }
+{
+    match case {
+        0 => Version::Normal(1),
+        1 => Version::Normal(10),
+        2 => Version::Normal(27),
+        3 => Version::Micro(1),
+        4 => Version::Micro(2),
+        5 => Version::Micro(3),
+        _ => Version::Micro(4),
+    }
+}
+
+fn agree_counted<L: Ledger>(
+    alloc: Global,
+    segments: &[Segment],
+    version: Version,
+    comparisons: &mut Comparisons<L>,
+) -> QrResult<bool>
+    requires micro { HasMicroNumber version }
+    requires some { 0 < length segments.now }
+    requires linear { HasLinearCosts segments.now version }
+{
+    let linear = optimize_linear(alloc, segments, version, comparisons)?;
+    let quadratic = optimize_quadratic(alloc, segments, version, comparisons)?;
+    Ok(linear.as_slice() == quadratic.as_slice())
+}
+
+fn agree_from<L: Ledger>(
+    alloc: Global,
+    segments: &[Segment],
+    version: Version,
+    blank: Blank,
+) -> QrResult<bool>
+    requires micro { HasMicroNumber version }
+    requires some { 0 < length segments.now }
+    requires linear { HasLinearCosts segments.now version }
+    requires name { blank.name ≡ L.name }
+    requires parts { blank.parts ≡ L.parts }
+    requires part { 0 < L.parts }
+{
+    let mut comparisons: Comparisons<L> = Comparisons::new(blank);
+    agree_counted(alloc, segments, version, &mut comparisons)
+}
+
+/// Whether both bodies give one plan of these segments, whose costs are linear, in seven versions.
+fn agree(rt: &HostRuntime, segments: &[Segment]) -> QrResult<bool> {
+    for case in 0..7usize {
+        let version = version_of(case);
+        if segments.is_empty() || !supports_linear_costs(segments, version) {
+            return Ok(false);
+        }
+        if !agree_from::<Brand>(rt.alloc(), segments, version, Blank::new(1))? {
+            return Ok(false);
+        }
+    }
+    Ok(true)
+}
+
+fn mode_of(number: usize) -> Mode {
+    match number % 4 {
+        0 => Mode::Numeric,
+        1 => Mode::Alphanumeric,
+        2 => Mode::Byte,
+        _ => Mode::Kanji,
+    }
+}
+
+/// The mode list of a number in base four, each segment of one length, or of the lengths 1, 2, .. in turn for the length 9.
+fn mode_list(rt: &HostRuntime, count: usize, number: usize, size: usize) -> QrResult<Vec<Segment>> {
+    let mut segments = Vec::new(rt.alloc());
+    let mut digits = number;
+    let mut begin = 0usize;
+    for place in 0..count {
+        let end = begin.saturating_add(if size == 9 { place + 1 } else { size });
+        segments.push(segment(mode_of(digits), begin, end))?;
+        digits /= 4;
+        begin = end;
+    }
+    Ok(segments)
+}
+
+#[test]
+fn bodies_agree_on_short_lists(rt: HostRuntime) -> QrResult<()> {
+    let mut lists = 1usize;
+    for count in 1..7usize {
+        lists = lists.saturating_mul(4);
+        for number in 0..lists {
+            for size in [0, 1, 2, 3, 7, 9] {
+                let segments = mode_list(&rt, count, number, size)?;
+                assert!(rt; agree(&rt, &segments)?);
+            }
+        }
+    }
+    assert_eq!(rt; lists, 4096);
+    Ok(())
+}
+
+/// The next number of a fixed run, below a bound.
+fn next_below(state: &mut u64, bound: u64) -> usize
+    requires { 0 < bound }
+{
+    *state = state
+        .wrapping_mul(6364136223846793005)
+        .wrapping_add(1442695040888963407);
+    ((*state >> 33) % bound) as usize
+}
+
+/// 33 to 256 segments from a fixed seed, some with gaps between them.
+fn long_list(rt: &HostRuntime, state: &mut u64, from: usize) -> QrResult<Vec<Segment>> {
+    let mut segments = Vec::new(rt.alloc());
+    let mut begin = from;
+    for _place in 0..33 + next_below(state, 224) {
+        let end = begin.saturating_add(next_below(state, 12));
+        segments.push(segment(mode_of(next_below(state, 4)), begin, end))?;
+        begin = end.saturating_add(next_below(state, 3));
+    }
+    Ok(segments)
+}
+
+#[test]
+fn bodies_agree_on_long_lists(rt: HostRuntime) -> QrResult<()> {
+    let mut state = 7u64;
+    for case in 0..512usize {
+        let from = if case % 4 == 3 {
+            usize::MAX - 4096
+        } else {
+            case
+        };
+        let segments = long_list(&rt, &mut state, from)?;
+        assert!(rt; segments.len() > 32 && agree(&rt, &segments)?);
+    }
+    Ok(())
+}
