@@ -13,7 +13,7 @@ apply_mask-requires c = subst (λ (v : Version). IsOfFamily v c.args.pattern) (s
 pub returns : goal.returns
 returns c =
     let d = c.in_ok-canvas.canvas in
-    let colors : c.in_ok-colors.colors.items ≡ colors_of (with_mask c.args.pattern d) = c.in_ok-colors.ensures.colors ∙ ap colors_of c.apply_mask.ensures in
+    let colors : c.in_ok-colors.colors.items ≡ colors_of (with_mask c.args.pattern d) = c.in_ok-colors.ensures.colors ∙ ap colors_of c.apply_mask.ensures.masked in
     let carried = subst (λ (colors : List Color). CarriesCodewords c.args.version c.args.level c.args.pattern c.args.codewords.now c.args.correction.now colors) (sym colors)
     (carries c.args.version c.args.level c.requires.symbol c.args.codewords.now c.args.correction.now c.args.pattern d c.in_ok-canvas.ensures.takes c.requires.some c.requires.whole) in
     record { carries = carried; memory = tt }

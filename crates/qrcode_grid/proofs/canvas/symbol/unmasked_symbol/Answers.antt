@@ -5,5 +5,5 @@ use Rattle.qrcode_grid.proofs.canvas.symbol.unmasked_symbol.Goals as goal
 pub returns : goal.returns
 returns c =
     let first : c.draw_all_functional_patterns.new.self ≡ with_functional 0 (blank c.args.version c.args.level) =
-    c.draw_all_functional_patterns.ensures ∙ ap (with_functional 0) c.in_ok-canvas.ensures.blank in
-    record { takes = subst (λ (d : Drawing). TakesCodewords c.args.codewords.now c.args.correction.now d c.draw_data.new.self) first c.draw_data.ensures; memory = tt }
+    c.draw_all_functional_patterns.ensures.drawn ∙ ap (with_functional 0) c.in_ok-canvas.ensures.blank in
+    record { takes = subst (λ (d : Drawing). TakesCodewords c.args.codewords.now c.args.correction.now d c.draw_data.new.self) first c.draw_data.ensures.takes; memory = tt }

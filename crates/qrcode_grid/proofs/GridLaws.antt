@@ -1,0 +1,115 @@
+-- The laws of the regions, of the alignment patterns and of the walk.
+use Rattle.std.proofs.Common.{◌≡◌, ◌≢◌, ℕ, pos, negsuc, ◌+◌, ◌-◌, ◌*◌, ◌/◌, ◌%◌, ◌<◌, ◌≤◌, ◌==◌, ◌&&◌, ◌||◌, nat_le, nat_lt, Bool, true, false, Option, Some, None, unwrap_or, cond, ap, sym, ◌∙◌, subst, refl, arith}
+use Rattle.std.specs.Int.{abs_diff}
+use Rattle.std.proofs.lemmas.Bool.{eqb-true, leb-true, ltb-true}
+use Rattle.std.proofs.lemmas.Bool.Decides.{nat_tests}
+use Rattle.qrcode_base.specs.declared.types.Version.{Version}
+use Rattle.qrcode_base.specs.declared.types.Version.TheVariants.{Normal, Micro}
+use Rattle.qrcode_base.specs.Symbols.{IsVersion, width_of}
+use Rattle.qrcode_grid.specs.Regions.{near, alignment, alignments, pattern_at, alignment_count, alignment_step, alignment_coordinate, alignment_coordinates, is_at_finder, ring}
+use Rattle.qrcode_grid.specs.Walk.{timing_column}
+use Rattle.qrcode_grid.specs.Laws.{AreConsistentRegions, HasEveryAlignment, HasItsAlignments, IsWalkOf}
+use Rattle.qrcode_grid.proofs.Tests.{all_pass, passes, both}
+use Rattle.qrcode_grid.proofs.WalkLaws.{cell_number-numbered_cell, numbered_cell-cell_number, cell_number_below, numbered_cell_inside}
+use Rattle.qrcode_grid.proofs.Areas.{is_some-functional_color}
+use Rattle.qrcode_grid.proofs.DrawnSymbols.{odd_width, timing_inside}
+
+-- each centre coordinate is the one near the five coordinates around it, computed
+abbrev is_near_its_own : ℕ → ℕ → ℕ → Bool
+is_near_its_own n i u =
+    nat_le 6 (alignment_coordinate n i) && unwrap_or (near (alignment_coordinates n) (alignment_coordinate n i + u - 2)) 0 == alignment_coordinate n i
+
+abbrev are_near_their_own : ℕ → Bool
+are_near_their_own n = all_pass (λ i. all_pass (is_near_its_own n i) 0 5) 0 (alignment_count n)
+
+near_test : all_pass are_near_their_own 0 41 ≡ true
+near_test = refl
+
+some_of : (o : Option ℕ) (c : ℕ) → unwrap_or o 0 ≡ c → 6 ≤ c → o ≡ Some c
+some_of None c e h = absurd (omega (arith, e))
+some_of (Some x) c e h = ap Some e
+
+around : (c x : ℕ) → 6 ≤ c → abs_diff c x ≤ 2 → c + (x + 2 - c) - 2 ≡ x
+around c x six close = omega (arith, close)
+
+near_center : (n i x : ℕ) → n ≤ 40 → i < alignment_count n → abs_diff (alignment_coordinate n i) x ≤ 2 → near (alignment_coordinates n) x ≡ Some (alignment_coordinate n i)
+near_center n i x high within close =
+    let c = alignment_coordinate n i in
+    let row = passes are_near_their_own 0 41 n near_test (omega arith) (omega arith) in
+    let at = passes (λ j. all_pass (is_near_its_own n j) 0 5) 0 (alignment_count n) i row (omega arith) (omega arith) in
+    let u = x + 2 - c in
+    let here = both _ _ (passes (is_near_its_own n i) 0 5 u at (omega arith) (omega (arith, close))) in
+    let six : 6 ≤ c = leb-true 6 c here.0 in
+    let same : c + u - 2 ≡ x = around c x six close in
+    subst (λ (y : ℕ). near (alignment_coordinates n) y ≡ Some c) same (some_of _ c (eqb-true _ _ here.1) six)
+
+every_drawn : (n i j x y : ℕ) → n ≤ 40 → i < alignment_count n → j < alignment_count n → is_at_finder (4 * n + 17) (alignment_coordinate n i) (alignment_coordinate n j) ≡ false →
+    ring (alignment_coordinate n i) (alignment_coordinate n j) x y ≤ 2 →
+    alignments (4 * n + 17) (alignment_coordinates n) x y ≡ alignment (alignment_coordinate n i) (alignment_coordinate n j) x y
+every_drawn n i j x y high hi hj apart close =
+    let a : near (alignment_coordinates n) x ≡ Some (alignment_coordinate n i) = near_center n i x high hi (omega (arith, close)) in
+    let b : near (alignment_coordinates n) y ≡ Some (alignment_coordinate n j) = near_center n j y high hj (omega (arith, close)) in
+    ap (λ u. pattern_at (4 * n + 17) u (near (alignment_coordinates n) y) x y) a
+    ∙ ap (λ v. pattern_at (4 * n + 17) (Some (alignment_coordinate n i)) v x y) b
+    ∙ ap (λ t. cond t None (alignment (alignment_coordinate n i) (alignment_coordinate n j) x y)) apart
+
+-- the step of the alignment patterns is the least even one that reaches, but at 32: computed
+abbrev is_least_step : ℕ → Bool
+is_least_step n =
+    alignment_step n % 2 == 0 &&
+    (nat_le n 1 || n == 32 ||
+    (nat_le (4 * n + 4) ((alignment_count n - 1) * alignment_step n) && nat_lt ((alignment_count n - 1) * (alignment_step n - 2)) (4 * n + 4)))
+
+least_steps : all_pass is_least_step 1 40 ≡ true
+least_steps = refl
+
+abbrev step_reaches : ℕ → ℕ → ℕ → Bool
+step_reaches n c s = nat_le (4 * n + 4) ((c - 1) * s) && nat_lt ((c - 1) * (s - 2)) (4 * n + 4)
+
+step_of_test : (n c s : ℕ) → (s % 2 == 0 && (nat_le n 1 || n == 32 || step_reaches n c s)) ≡ true →
+    (s % 2 ≡ 0) × ((2 ≤ n → n ≢ 32 → 4 * n + 4 ≤ (c - 1) * s) × (2 ≤ n → n ≢ 32 → (c - 1) * (s - 2) < 4 * n + 4))
+step_of_test n c s h =
+    let parts = both _ _ h in (
+      eqb-true _ _ parts.0,
+      (
+        λ low ne. leb-true _ _ (both _ _ (third n c s low ne parts.1)).0,
+        λ low ne. ltb-true _ _ (both _ _ (third n c s low ne parts.1)).1,
+      ),
+    )
+  where
+    third : (n c s : ℕ) → 2 ≤ n → n ≢ 32 → (nat_le n 1 || n == 32 || step_reaches n c s) ≡ true → step_reaches n c s ≡ true
+    third n c s low ne h =
+        let a : nat_le n 1 ≡ false = grind (arith, nat_tests) in
+        let b : (n == 32) ≡ false = grind (arith, nat_tests) in
+        ap (λ t. t || step_reaches n c s) (sym b) ∙ ap (λ t. t || n == 32 || step_reaches n c s) (sym a) ∙ h
+
+has_every_alignment : (n : ℕ) → 1 ≤ n → n ≤ 40 → HasEveryAlignment n
+has_every_alignment n low high =
+    let step = step_of_test n (alignment_count n) (alignment_step n) (passes is_least_step 1 40 n least_steps low (omega arith)) in
+    record {
+      drawn = λ i j x y hi hj apart close. every_drawn n i j x y high hi hj apart close;
+      even = step.0;
+      reaches = step.1.0;
+      least = step.1.1;
+    }
+
+pub has_its_alignments : (version : Version) → IsVersion version → HasItsAlignments version
+unfolding HasItsAlignments
+has_its_alignments (Normal (pos n)) h = has_every_alignment n h.0 h.1
+has_its_alignments (Normal (negsuc n)) h = tt
+has_its_alignments (Micro z) h = tt
+
+pub consistent_regions : (version : Version) → IsVersion version → AreConsistentRegions version
+consistent_regions version h = record { areas = λ format x y l m. is_some-functional_color version format x y h l m }
+
+pub walk_of : (version : Version) → IsVersion version → IsWalkOf version
+walk_of version h =
+    let w = width_of version in
+    let t = timing_column version in
+    let odd : w ≡ 2 * (w / 2) + 1 = odd_width version h in
+    let low : t < w = timing_inside version h in
+    record {
+      inside = λ k l. numbered_cell_inside w (w / 2) t k odd low l;
+      every = λ x y l m ne. (cell_number_below w (w / 2) t x y odd l m ne low, numbered_cell-cell_number w t x y l m ne low);
+      once = λ k l. cell_number-numbered_cell w (w / 2) t k odd l;
+    }

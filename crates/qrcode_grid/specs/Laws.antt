@@ -1,0 +1,65 @@
+-- What holds of the definitions of a symbol's grid beyond what each says by itself.
+use Rattle.std.specs.Prelude.{◌≡◌, ◌≢◌, ℕ, pos, negsuc, ◌+◌, ◌-◌, ◌*◌, ◌%◌, ◌<◌, ◌≤◌, false, is_some}
+use Rattle.qrcode_base.specs.declared.types.EcLevel.{EcLevel}
+use Rattle.qrcode_base.specs.declared.types.Version.{Version}
+use Rattle.qrcode_base.specs.declared.types.Version.TheVariants.{Normal, Micro}
+use Rattle.qrcode_base.specs.Symbols.{width_of}
+use Rattle.qrcode_grid.specs.declared.canvas.MaskPattern.{MaskPattern}
+use Rattle.qrcode_grid.specs.Words.{normal_format_word, micro_format_word, version_word, differing_digits}
+use Rattle.qrcode_grid.specs.Regions.{functional_color, is_functional_cell, alignment, alignments, alignment_count, alignment_step, alignment_coordinate, alignment_coordinates, is_at_finder, ring}
+use Rattle.qrcode_grid.specs.Masks.{format_data, format_word}
+use Rattle.qrcode_grid.specs.Walk.{timing_column, cell_number, numbered_cell}
+
+-- the format word of five data digits, in the family of the version
+abbrev pub word_of_data : Version → ℕ → ℕ
+word_of_data (Normal _) data_digits = normal_format_word data_digits
+word_of_data (Micro _) data_digits = micro_format_word data_digits
+
+-- A format word differs in at least 7 of its 15 digits from that of every other level or symbol and mask.
+unfoldable pub IsFarFormatWord : Version → EcLevel → MaskPattern → Type 0
+IsFarFormatWord version level pattern =
+    (other : ℕ) → other < 32 → other ≢ format_data version level pattern →
+    7 ≤ differing_digits 15 (format_word version level pattern) (word_of_data version other)
+
+-- A version word differs in at least 8 of its 18 digits from that of every other version.
+unfoldable pub IsFarVersionWord : Version → Type 0
+IsFarVersionWord (Normal (pos n)) =
+    7 ≤ n → (other : ℕ) → 7 ≤ other → other ≤ 40 → other ≢ n → 8 ≤ differing_digits 18 (version_word n) (version_word other)
+IsFarVersionWord (Normal (negsuc n)) = Unit {0}
+IsFarVersionWord (Micro z) = Unit {0}
+
+-- What any region says of a cell is its colour, and the cells that have one are those of the areas.
+pub record AreConsistentRegions (version : Version) : Type 0 where
+  pub areas : (format x y : ℕ) → x < width_of version → y < width_of version → is_some (functional_color version format x y) ≡ is_functional_cell version x y
+
+-- Every pair of centre coordinates but the three at the finder patterns has its pattern, and the step is the least even one that reaches.
+pub record HasEveryAlignment (n : ℕ) : Type 0 where
+  pub drawn :
+      (i j x y : ℕ) → i < alignment_count n → j < alignment_count n → is_at_finder (4 * n + 17) (alignment_coordinate n i) (alignment_coordinate n j) ≡ false →
+      ring (alignment_coordinate n i) (alignment_coordinate n j) x y ≤ 2 →
+      alignments (4 * n + 17) (alignment_coordinates n) x y ≡ alignment (alignment_coordinate n i) (alignment_coordinate n j) x y
+  pub even : alignment_step n % 2 ≡ 0
+  pub reaches : 2 ≤ n → n ≢ 32 → 4 * n + 4 ≤ (alignment_count n - 1) * alignment_step n
+  pub least : 2 ≤ n → n ≢ 32 → (alignment_count n - 1) * (alignment_step n - 2) < 4 * n + 4
+
+unfoldable pub HasItsAlignments : Version → Type 0
+HasItsAlignments (Normal (pos n)) = HasEveryAlignment n
+HasItsAlignments (Normal (negsuc n)) = Unit {0}
+HasItsAlignments (Micro z) = Unit {0}
+
+-- The walk comes once to every cell outside the timing column: numbers and cells are one to one.
+pub record IsWalkOf (version : Version) : Type 0 where
+  pub inside :
+      (k : ℕ) → k < width_of version * (width_of version - 1) →
+      ((numbered_cell (width_of version) (timing_column version) k).0 < width_of version) ×
+      ((numbered_cell (width_of version) (timing_column version) k).1 < width_of version) ×
+      ((numbered_cell (width_of version) (timing_column version) k).0 ≢ timing_column version)
+  pub every :
+      (x y : ℕ) → x < width_of version → y < width_of version → x ≢ timing_column version →
+      (cell_number (width_of version) (timing_column version) x y < width_of version * (width_of version - 1)) ×
+      (numbered_cell (width_of version) (timing_column version) (cell_number (width_of version) (timing_column version) x y) ≡ (x, y))
+  pub once :
+      (k : ℕ) → k < width_of version * (width_of version - 1) →
+      cell_number (width_of version) (timing_column version)
+      (numbered_cell (width_of version) (timing_column version) k).0
+      (numbered_cell (width_of version) (timing_column version) k).1 ≡ k
