@@ -5,6 +5,6 @@ pub mod HalfBytes
 pub mod DrawnReading
 pub mod Ending
 pub mod Lengths
-pub mod Encoding
-pub mod FirstEncoding
 pub mod Printed
+pub mod Best
+pub mod StreamEncoding

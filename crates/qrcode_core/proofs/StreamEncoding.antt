@@ -12,14 +12,14 @@ use Rattle.qrcode_base.specs.declared.types.errors.QrError.{QrError}
 use Rattle.qrcode_base.specs.declared.types.errors.QrError.TheVariants.{DataTooLong, InvalidVersion, OutOfMemory}
 use Rattle.qrcode_base.specs.Numbers.{byte_bits, zero_bits}
 use Rattle.qrcode_base.specs.Symbols.{blocks_of, capacity, capacity_with, data_bytes, missing_bits}
-use Rattle.qrcode_bits.specs.Choice.{normal, IsLeastBits}
+use Rattle.qrcode_bits.specs.Choice.{normal, micro, IsLeastBits}
 use Rattle.qrcode_bits.specs.Encoding.{IsEncoding, IsUnencodable, IsMicroRefused}
 use Rattle.qrcode_bits.specs.Frame.{spellings, ended}
 use Rattle.qrcode_bits.specs.Merging.{total_bits}
 use Rattle.qrcode_bits.specs.Pieces.{segment_pieces}
 use Rattle.qrcode_bits.specs.Stream.{Stream}
 use Rattle.qrcode_bits.proofs.Choices.{fits_last}
-use Rattle.qrcode_bits.proofs.Lengths.{long_message}
+use Rattle.qrcode_bits.proofs.Lengths.{long_message, long_for_micro}
 use Rattle.qrcode_bits.proofs.PlanFrames.{spelled_plan}
 use Rattle.qrcode_core.specs.Headline.{IsBest, IsTooLong, IsRefusal, IsMicroRefusal}
 use Rattle.qrcode_core.specs.Layers.{IsEncoded, IsDrawn, AreAllCodewords}
@@ -94,6 +94,12 @@ encoded_fits bytes level limit stream h encoding long =
 pub encoded_short : (bytes : List ℕ) (level : EcLevel) (limit : ℕ) (stream : Stream) → limit ≤ 40 → All (λ c. c < 256) bytes → IsEncoding normal bytes level limit stream → length bytes ≤ 7089
 encoded_short bytes level limit stream h are encoding = elim (cases_lt 7089 (length bytes)) [
   | inl long ↦ absurd (long_message 0 bytes level limit h are long encoding.number encoding.choice.up_to encoding.plan encoding.choice.fits)
+  | inr short ↦ omega (arith, short)
+]
+
+pub encoded_micro_short : (bytes : List ℕ) (level : EcLevel) (stream : Stream) → All (λ c. c < 256) bytes → IsEncoding micro bytes level 4 stream → length bytes ≤ 7089
+encoded_micro_short bytes level stream are encoding = elim (cases_lt 7089 (length bytes)) [
+  | inl long ↦ absurd (long_for_micro bytes level are long encoding.number encoding.choice.up_to encoding.plan encoding.choice.fits)
   | inr short ↦ omega (arith, short)
 ]
 

@@ -1,86 +1,82 @@
 //! The symbol of some bytes: segments, codewords, modules.
-ghost use Rattle.std.specs.Prelude.{◌≡◌, pos, ◌<◌, [], length, None, IsTrue, ◌↔◌, OnOk, IfOk, IfErr};
-ghost use Rattle.qrcode_base.specs.declared.types.EcLevel.TheVariants.{L};
-ghost use Rattle.qrcode_base.specs.declared.types.Version.TheVariants.{Normal};
-ghost use Rattle.qrcode_bits.specs.Frame.{spellings};
-ghost use Rattle.qrcode_core.specs.FirstPath.{byte_pieces, byte_segment_bits, IsAsked, IsFirstSymbol, IsRefusal, IsSquare};
-ghost use Rattle.qrcode_core.specs.Layers.{IsEncoded};
+ghost use Rattle.std.specs.Prelude.{◌≡◌, ◌≤◌, length, OnOk, IfOk, IfErr};
+ghost use Rattle.qrcode_core.specs.Headline.{IsBestSymbol, IsBestMicroSymbol, IsSquare, IsTooLong, IsRefusal, IsMicroRefusal};
+ghost use Rattle.qrcode_core.specs.Layers.{AreAllCodewords, IsDrawn};
 
 use qrcode_base::types::{Color, EcLevel, QrError, QrResult, Version};
-use qrcode_bits::bits::Bits;
-use qrcode_grid::canvas::{MaskPattern, draw_symbol_with_mask};
+use qrcode_bits::bits::{encode_auto, encode_auto_micro};
+use qrcode_grid::canvas::draw_symbol;
 use qrcode_grid::ec::construct_codewords;
 use std::alloc::Global;
 
-// How many bytes version 1 holds at level L in one segment.
-const MOST_BYTES: usize = 17;
-
-/// The colours of the symbol of some bytes, row by row from the upper left corner.
+/// The modules of the best symbol of some bytes at a level, row by row from the upper left corner; the width is the square root
+/// of their number.
 ///
-/// Until the whole path stands, it is version 1 at level L with one segment of bytes, under the mask Checkerboard, for at most
-/// 17 bytes; of another level, or of more bytes, the answer is `DataTooLong`. `OutOfMemory` comes where a growth was refused.
+/// It is the smallest Normal version in which some way to merge the parsed segments fits, with the fewest payload bits of all
+/// such ways, under the first mask of least penalty. A reader finds in it exactly the bytes (ISO/IEC 18004, encode procedure).
+///
+/// `DataTooLong` comes exactly where nothing fits version 40 at the level; more than 7089 bytes are refused without memory.
+/// `OutOfMemory` comes where a growth was refused.
 pub fn symbol(alloc: Global, bytes: &[u8], level: EcLevel) -> QrResult<Vec<Color>>
-    ensures read { IfOk result (λ grid. IsFirstSymbol bytes.now grid.items) }
+    ensures best { IfOk result (λ grid. IsBestSymbol bytes.now level grid.items) }
     ensures square { IfOk result (λ grid. IsSquare grid.items) }
-    ensures asked { OnOk result (IsAsked bytes.now level) }
+    ensures fitting { OnOk result (IsTooLong bytes.now level → ⊥) }
+    ensures limit { OnOk result (length bytes.now ≤ 7089) }
     ensures refused { IfErr result (IsRefusal bytes.now level) }
 {
-    if !is_asked(bytes, level) {
-        return Err(QrError::DataTooLong);
-    }
-    let version = Version::Normal(1);
-    let codewords = byte_codewords(alloc, bytes)?;
-    match construct_codewords(alloc, &codewords, version, EcLevel::L) {
-        Ok((interleaved, correction)) => match draw_symbol_with_mask(
-            alloc,
-            version,
-            EcLevel::L,
-            MaskPattern::Checkerboard,
-            &interleaved,
-            &correction,
-        ) {
-            Ok(grid) => Ok(grid),
-            Err(error) => Err(error),
-        },
+    let bits = match encode_auto(alloc, bytes, level) {
+        Ok(bits) => bits,
+        Err(error) => return Err(error),
+    };
+    let version = bits.version();
+    let codewords = bits.into_bytes();
+    match draw(alloc, version, level, &codewords) {
+        Ok(grid) => Ok(grid),
         Err(error) => Err(error),
     }
 }
 
-// Whether the symbol is one that the first path draws.
-fn is_asked(bytes: &[u8], level: EcLevel) -> bool
-    ensures { IsTrue result ↔ IsAsked bytes.now level }
+/// The same of the Micro versions: the first of M1 to M4 that has the level and the modes of the data, and in which some way to
+/// merge the segments fits.
+///
+/// Level H, which no Micro version has, is `InvalidVersion` with `Micro(4)`. Then `DataTooLong` comes exactly where nothing fits
+/// any of them, and `OutOfMemory` where a growth was refused.
+pub fn symbol_micro(alloc: Global, bytes: &[u8], level: EcLevel) -> QrResult<Vec<Color>>
+    ensures best { IfOk result (λ grid. IsBestMicroSymbol bytes.now level grid.items) }
+    ensures square { IfOk result (λ grid. IsSquare grid.items) }
+    ensures limit { OnOk result (length bytes.now ≤ 7089) }
+    ensures refused { IfErr result (IsMicroRefusal bytes.now level) }
 {
-    matches!(level, EcLevel::L) && bytes.len() <= MOST_BYTES
-}
-
-// The data codewords of one segment of bytes in version 1 at level L.
-fn byte_codewords(alloc: Global, bytes: &[u8]) -> QrResult<Vec<u8>>
-    requires { length bytes.now < 18 }
-    ensures encoded { IfOk result (λ codewords. IsEncoded (Normal (pos 1)) L None bytes.now (byte_segment_bits bytes.now) codewords.items) }
-    ensures memory { IfErr result (λ e. e ≡ QrError.OutOfMemory) }
-{
-    let mut bits = Bits::new(alloc, Version::Normal(1));
-    push_bytes(&mut bits, bytes)?;
-    match bits.push_terminator(EcLevel::L) {
-        Ok(()) => Ok(bits.into_bytes()),
+    let bits = match encode_auto_micro(alloc, bytes, level) {
+        Ok(bits) => bits,
+        Err(error) => return Err(error),
+    };
+    let version = bits.version();
+    let codewords = bits.into_bytes();
+    match draw(alloc, version, level, &codewords) {
+        Ok(grid) => Ok(grid),
         Err(error) => Err(error),
     }
 }
 
-// One segment of the bytes, or none where there are no bytes.
-fn push_bytes(bits: &mut Bits, bytes: &[u8]) -> QrResult<()>
-    requires version { bits.old.version ≡ Normal (pos 1) }
-    requires empty { bits.old.bits ≡ [] }
-    requires few { length bytes.now < 18 }
-    ensures version { bits.new.version ≡ Normal (pos 1) }
-    ensures spelled { OnOk result (bits.new.bits ≡ spellings (Normal (pos 1)) (byte_pieces bytes.now)) }
+// The modules of the symbol with these data codewords, under the first mask of least penalty.
+fn draw(
+    alloc: Global,
+    version: Version,
+    level: EcLevel,
+    codewords: &[u8],
+) -> QrResult<Vec<Color>>
+    requires { AreAllCodewords version level (length codewords.now) }
+    ensures drawn { IfOk result (λ grid. IsDrawn version level codewords.now grid.items) }
     ensures memory { IfErr result (λ e. e ≡ QrError.OutOfMemory) }
 {
-    if bytes.is_empty() {
-        return Ok(());
-    }
-    match bits.push_byte_data(bytes) {
-        Ok(()) => Ok(()),
+    match construct_codewords(alloc, codewords, version, level) {
+        Ok((interleaved, correction)) => {
+            match draw_symbol(alloc, version, level, &interleaved, &correction) {
+                Ok((grid, _mask)) => Ok(grid),
+                Err(error) => Err(error),
+            }
+        }
         Err(error) => Err(error),
     }
 }
