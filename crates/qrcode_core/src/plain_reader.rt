@@ -59,6 +59,31 @@ pub fn read(alloc: Global, grid: &[Color]) -> Option<Seen> {
     })
 }
 
+/// The shape of a version.
+pub fn blank_shape(number: usize, micro: bool) -> Shape {
+    let width = if micro {
+        number.wrapping_mul(2).wrapping_add(9)
+    } else {
+        number.wrapping_mul(4).wrapping_add(17)
+    };
+    Shape {
+        width,
+        number,
+        micro,
+    }
+}
+
+/// How many data codewords a version has at a level, if it has the level.
+pub fn data_count(shape: Shape, level: EcLevel) -> Option<usize> {
+    let mut cells: usize = 0;
+    for number in 0..shape.width.wrapping_mul(shape.width.wrapping_sub(1)) {
+        if cells::is_data(shape, number) {
+            cells = cells.wrapping_add(1);
+        }
+    }
+    blocks::data_count(shape, level, cells)
+}
+
 fn shape_of(grid: &[Color]) -> Option<Shape> {
     let width = grid.len().isqrt();
     if width.wrapping_mul(width) != grid.len() {

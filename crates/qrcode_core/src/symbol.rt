@@ -60,12 +60,7 @@ pub fn symbol_micro(alloc: Global, bytes: &[u8], level: EcLevel) -> QrResult<Vec
 }
 
 // The modules of the symbol with these data codewords, under the first mask of least penalty.
-fn draw(
-    alloc: Global,
-    version: Version,
-    level: EcLevel,
-    codewords: &[u8],
-) -> QrResult<Vec<Color>>
+fn draw(alloc: Global, version: Version, level: EcLevel, codewords: &[u8]) -> QrResult<Vec<Color>>
     requires { AreAllCodewords version level (length codewords.now) }
     ensures drawn { IfOk result (λ grid. IsDrawn version level codewords.now grid.items) }
     ensures memory { IfErr result (λ e. e ≡ QrError.OutOfMemory) }

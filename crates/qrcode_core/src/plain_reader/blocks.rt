@@ -98,6 +98,11 @@ fn layout_of(shape: Shape, level: EcLevel, cells: usize) -> Option<Layout> {
     })
 }
 
+/// How many data codewords a symbol with so many data cells has, if the version has the level.
+pub fn data_count(shape: Shape, level: EcLevel, cells: usize) -> Option<usize> {
+    Some(layout_of(shape, level, cells)?.data)
+}
+
 // The byte that eight bits are. Bits past the end are zeros.
 fn byte_at(bits: &[bool], from: usize) -> u8 {
     let mut byte = 0u8;

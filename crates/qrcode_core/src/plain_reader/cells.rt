@@ -7,19 +7,23 @@ fn is_dark(grid: &[Color], width: usize, x: usize, y: usize) -> bool {
     grid.get(y.wrapping_mul(width).wrapping_add(x)) == Some(&Color::Dark)
 }
 
-// How many centre coordinates the alignment patterns have, and how far they lie apart.
+// How many steps lie between the first and the last centre of the alignment patterns, and how far a step is: the least even
+// number that reaches, but 26 in version 32.
 fn alignment(number: usize) -> (usize, usize) {
     if number < 2 {
         return (0, 0);
     }
     let steps = number / 7 + 1;
-    let mut step: usize = 2;
-    for _ in 0..100 {
-        if steps.wrapping_mul(step) < number.wrapping_mul(4).wrapping_add(4) {
-            step = step.wrapping_add(2);
-        }
+    if number == 32 {
+        return (steps, 26);
     }
-    (steps, if number == 32 { 26 } else { step })
+    let half = number
+        .wrapping_mul(2)
+        .wrapping_add(2)
+        .wrapping_add(steps)
+        .wrapping_sub(1)
+        / steps;
+    (steps, half.wrapping_mul(2))
 }
 
 // The centre coordinate at most two away, if there is one.
@@ -307,6 +311,12 @@ fn cell(shape: Shape, number: usize) -> (usize, usize) {
         row
     };
     (x, y)
+}
+
+/// Whether the cell that has a number in the walk is a data cell.
+pub fn is_data(shape: Shape, number: usize) -> bool {
+    let (x, y) = cell(shape, number);
+    !is_functional(shape, x, y)
 }
 
 /// The bits of the data cells in order, with the mask taken off.
