@@ -1,38 +1,37 @@
 -- What a drawing leaves, by the bytes that the reader had before and has after, and those that the writer had and has.
-use Rattle.std.specs.Prelude.{◌≢◌, ℕ, Option, List, Result, Ok, Err}
+use Rattle.std.specs.Prelude.{◌≢◌, ℕ, Bool, Option, List, Result, Ok, Err}
 use Rattle.std.specs.Io.KnownBytes.{Keeps, Appends}
 use Rattle.qrcode_core.specs.declared.types.EcLevel.{EcLevel}
 use Rattle.qrcode_core.specs.declared.types.errors.QrError.{QrError}
 use Rattle.qrcode_core.specs.declared.types.errors.QrError.TheVariants.{OutOfMemory}
 use Rattle.qrtext.specs.declared.draw.TextError.{TextError}
 use Rattle.qrtext.specs.declared.draw.TextError.TheVariants.{Symbol, Read, Write}
-use Rattle.qrcode_core.specs.FirstPath.{IsRefusal}
-use Rattle.qrtext.specs.Drawing.{Shows}
+use Rattle.qrtext.specs.Drawing.{Shows, IsRefusalOf}
 use Rattle.qrtext.specs.Devices.{ReadsAll, ReadsEnough, AppendsBeginning}
 
 -- the text shows the symbol of all bytes that were there to be read, and nothing is left
-pub record IsDrawing (level : EcLevel) (unread left : Option (List ℕ)) (text : List ℕ) : Type 0 where
+pub record IsDrawing (micro : Bool) (level : EcLevel) (unread left : Option (List ℕ)) (text : List ℕ) : Type 0 where
   pub bytes : List ℕ
   pub read : ReadsAll unread left bytes
-  pub shows : Shows level bytes text
+  pub shows : Shows micro level bytes text
 
 -- the drawing was written
-pub record Draws (level : EcLevel) (unread left written now : Option (List ℕ)) : Type 0 where
+pub record Draws (micro : Bool) (level : EcLevel) (unread left written now : Option (List ℕ)) : Type 0 where
   pub text : List ℕ
-  pub drawing : IsDrawing level unread left text
+  pub drawing : IsDrawing micro level unread left text
   pub appends : Appends written now text
 
 -- a beginning of the drawing was written
-pub record Begins (level : EcLevel) (unread left written now : Option (List ℕ)) : Type 0 where
+pub record Begins (micro : Bool) (level : EcLevel) (unread left written now : Option (List ℕ)) : Type 0 where
   pub text : List ℕ
-  pub drawing : IsDrawing level unread left text
+  pub drawing : IsDrawing micro level unread left text
   pub beginning : AppendsBeginning written now text
 
 -- the refusal is that of the bytes that were read
-pub record IsRefused (level : EcLevel) (error : QrError) (unread left : Option (List ℕ)) : Type 0 where
+pub record IsRefused (micro : Bool) (level : EcLevel) (error : QrError) (unread left : Option (List ℕ)) : Type 0 where
   pub bytes : List ℕ
   pub read : ReadsEnough unread left bytes
-  pub refusal : IsRefusal bytes level error
+  pub refusal : IsRefusalOf micro bytes level error
 
 -- the fact for a refusal of the symbol's call other than want of memory
 abbrev pub IfRefused : (QrError → Type 0) → TextError → Type 0
@@ -42,8 +41,8 @@ IfRefused P Write = Unit {0}
 
 -- What a drawing answers. All was drawn, and nothing else was written; or a refusal of the symbol's call, and nothing
 -- was written; or the reader failed, and nothing was written; or the writer failed, and a beginning was written.
-abbrev pub Gives : EcLevel → Option (List ℕ) → Option (List ℕ) → Option (List ℕ) → Option (List ℕ) → Result (Unit {0}) TextError → Type 0
-Gives level unread left written now (Ok done) = Draws level unread left written now
-Gives level unread left written now (Err (Symbol error)) = (error ≢ OutOfMemory → IsRefused level error unread left) × Keeps written now
-Gives level unread left written now (Err Read) = Keeps written now
-Gives level unread left written now (Err Write) = Begins level unread left written now
+abbrev pub Gives : Bool → EcLevel → Option (List ℕ) → Option (List ℕ) → Option (List ℕ) → Option (List ℕ) → Result (Unit {0}) TextError → Type 0
+Gives micro level unread left written now (Ok done) = Draws micro level unread left written now
+Gives micro level unread left written now (Err (Symbol error)) = (error ≢ OutOfMemory → IsRefused micro level error unread left) × Keeps written now
+Gives micro level unread left written now (Err Read) = Keeps written now
+Gives micro level unread left written now (Err Write) = Begins micro level unread left written now

@@ -1,9 +1,7 @@
 -- What the program says, and the status that it ends with.
 use Rattle.std.specs.Prelude.{◌≡◌, ◌⊎◌, ℕ, Bool, List, ◌++◌, [], ◌∷◌, Option, codes, Result, Ok, Err}
 use Rattle.qrcode_core.specs.ErrorTexts.{error_text}
-use Rattle.std.specs.Bool.{OnTrue, OnFalse}
 use Rattle.std.specs.Io.KnownBytes.{Keeps}
-use Rattle.qrcode_core.specs.declared.types.errors.QrError.TheVariants.{DataTooLong}
 use Rattle.qrtext.specs.declared.draw.TextError.{TextError}
 use Rattle.qrtext.specs.declared.draw.TextError.TheVariants.{Symbol, Read, Write}
 use Rattle.qrtext.specs.Devices.{Writes}
@@ -36,7 +34,6 @@ Says before after mute line = Writes before after mute line ⊎ Keeps before aft
 -- the request was drawn, and the status and the line are those of what the drawing answered
 pub record Serves (request : Request) (unread left written now before after : Option (List ℕ)) (mute : Bool) (status : ℕ) : Type 0 where
   pub outcome : Result (Unit {0}) TextError
-  pub gives : OnFalse request.micro (Gives request.level unread left written now outcome)
-  pub no_micro : OnTrue request.micro (outcome ≡ Err (Symbol DataTooLong))
+  pub gives : Gives request.micro request.level unread left written now outcome
   pub status_is : status ≡ status_of outcome
   pub says : Says before after mute (told outcome)

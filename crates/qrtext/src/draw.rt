@@ -1,17 +1,17 @@
 //! From the bytes of a source to the text of their symbol.
-ghost use Rattle.std.specs.Prelude.{◌≡◌, ℕ, ◌≢◌, ◌*◌, ◌≤◌, ◌↔◌, ◌⊎◌, length, take, IsTrue, IsFalse, IfOk, IfErr, OnOk, OnErr, IsErrOf, is_err, Some, Err};
-ghost use Rattle.std.specs.Bool.{OnTrue, OnFalse};
+ghost use Rattle.std.specs.Prelude.{◌≡◌, ℕ, ◌≢◌, ◌*◌, ◌≤◌, ◌↔◌, ◌⊎◌, length, take, IsTrue, IsFalse, IfOk, IfErr, OnOk, OnErr, IsErrOf, is_err, Some};
 ghost use Rattle.std.specs.Io.KnownBytes.{Keeps, Appends, Consumes, IsAtEnd};
 ghost use Rattle.qrtext.specs.Devices.{ReadsEnough, Writes};
 ghost use Rattle.qrtext.specs.Outcome.{IsDrawing, IsRefused, IfRefused, Gives};
-ghost use Rattle.qrcode_core.specs.FirstPath.{IsSquare};
+ghost use Rattle.qrcode_core.specs.Headline.{IsSquare};
+ghost use Rattle.qrtext.specs.Drawing.{IsSymbolOf, IsRefusalOf};
 ghost use Rattle.qrcode_core.specs.declared.types.errors.QrError.TheVariants.{OutOfMemory};
 ghost use Rattle.qrtext.specs.Status.{words_of};
 ghost use Rattle.qrtext.specs.declared.draw.TextError.TheVariants.{Symbol};
 
 use crate::devices::{Sink, Source};
 use crate::text::text_of;
-use qrcode_core::symbol::symbol;
+use qrcode_core::symbol::{symbol, symbol_micro};
 use qrcode_core::types::{Color, EcLevel, QrError};
 use std::alloc::{AllocError, Global};
 use std::fmt;
@@ -63,34 +63,32 @@ pub fn draw<R: Source, W: Sink>(
     requires reader_sound { IsFalse (R.has_failed reader.old) }
     requires writer_sound { IsFalse (W.has_failed writer.old) }
 
-    ensures outcome { OnFalse micro (Gives level (R.remaining reader.old) (R.remaining reader.new)
-        (W.written writer.old) (W.written writer.new) result) }
-
-    // Micro symbols are not drawn yet.
-    ensures no_micro { OnTrue micro ((result ≡ Err (TextError.Symbol QrError.DataTooLong))
-        × (reader.new ≡ reader.old) × (writer.new ≡ writer.old)) }
+    ensures outcome { Gives micro level (R.remaining reader.old) (R.remaining reader.new)
+        (W.written writer.old) (W.written writer.new) result }
 
     // A device's fault is answered exactly where that device failed.
     ensures read { IsErrOf result TextError.Read ↔ IsTrue (R.has_failed reader.new) }
     ensures write { IsErrOf result TextError.Write ↔ IsTrue (W.has_failed writer.new) }
 {
-    if micro {
-        return Err(TextError::Symbol(QrError::DataTooLong));
-    }
-    let text = drawing(alloc, reader, level)?;
+    let text = drawing(alloc, reader, level, micro)?;
     write_all(writer, &text)
 }
 
 // Reads to the end, and answers the text of the symbol of all that was read.
-fn drawing<R: Source>(alloc: Global, reader: &mut R, level: EcLevel) -> Result<Vec<u8>, TextError>
+fn drawing<R: Source>(
+    alloc: Global,
+    reader: &mut R,
+    level: EcLevel,
+    micro: bool,
+) -> Result<Vec<u8>, TextError>
     requires { IsFalse (R.has_failed reader.old) }
-    ensures drawn { IfOk result (λ text. IsDrawing level (R.remaining reader.old) (R.remaining reader.new) text.items) }
-    ensures refused { IfErr result (IfRefused (λ error. IsRefused level error (R.remaining reader.old) (R.remaining reader.new))) }
+    ensures drawn { IfOk result (λ text. IsDrawing micro level (R.remaining reader.old) (R.remaining reader.new) text.items) }
+    ensures refused { IfErr result (IfRefused (λ error. IsRefused micro level error (R.remaining reader.old) (R.remaining reader.new))) }
     ensures read { IsErrOf result TextError.Read ↔ IsTrue (R.has_failed reader.new) }
     ensures no_write { IfErr result (λ e. e ≢ TextError.Write) }
 {
     let bytes = read_all(alloc, reader)?;
-    let grid = symbol(alloc, &bytes, level)?;
+    let grid = encoded(alloc, &bytes, level, micro)?;
     let width = width_of(&grid);
     Ok(text_of(alloc, &grid, width)?)
 }
@@ -101,6 +99,20 @@ fn width_of(grid: &[Color]) -> usize
     ensures { length grid.now ≡ result * result }
 {
     grid.len().isqrt()
+}
+
+// The grid of the symbol, or of the Micro symbol, of the bytes.
+fn encoded(alloc: Global, bytes: &[u8], level: EcLevel, micro: bool) -> Result<Vec<Color>, QrError>
+    ensures grid { IfOk result (λ grid. IsSymbolOf micro bytes.now level grid.items) }
+    ensures square { IfOk result (λ grid. IsSquare grid.items) }
+    ensures limit { OnOk result (length bytes.now ≤ 7089) }
+    ensures refused { IfErr result (IsRefusalOf micro bytes.now level) }
+{
+    if micro {
+        symbol_micro(alloc, bytes, level)
+    } else {
+        symbol(alloc, bytes, level)
+    }
 }
 
 // More bytes than any symbol holds.

@@ -78,40 +78,58 @@ impl Write for Narrow<'_> {
     }
 }
 
-// The symbol of `hello` at level L, as the original crate draws it under the same mask.
+// The symbol of `hello` at level L, as the original crate draws it.
 const HELLO: &str = "\
 #######..#.##.#######\n\
-#.....#..###..#.....#\n\
-#.###.#.##.##.#.###.#\n\
+#.....#.##.#..#.....#\n\
+#.###.#.##..#.#.###.#\n\
 #.###.#..#.#..#.###.#\n\
-#.###.#...#.#.#.###.#\n\
-#.....#.....#.#.....#\n\
+#.###.#.#...#.#.###.#\n\
+#.....#.#..##.#.....#\n\
 #######.#.#.#.#######\n\
-........##.##........\n\
-###.########.##...#..\n\
+........#####........\n\
+##.#..##.##...###.##.\n\
 .#####.###....#....##\n\
-.######.#...#...#####\n\
-..##..........#....#.\n\
+..##.####.#.##...##.#\n\
+...#.#..#..#.....#.##\n\
 ....#.##.##.#.#.#....\n\
-........##.#.#.#..###\n\
-#######.####.###..###\n\
-#.....#.######.##....\n\
-#.###.#.####.###...##\n\
-#.###.#...#...##..##.\n\
-#.###.#.###.#...#.#.#\n\
-#.....#.##....#.#..#.\n\
-#######.#.#.#.##...##\n\
+........####...##.#.#\n\
+#######.###..#.#.###.\n\
+#.....#..#####.##....\n\
+#.###.#..#.#..###...#\n\
+#.###.#.#.##...#.####\n\
+#.###.#..##.#...#.#.#\n\
+#.....#.###..##......\n\
+#######.#.###..#.#.#.\n\
+";
+
+// The Micro symbol of `12345` at level L, as it is printed.
+const DIGITS: &str = "\
+#######.#.#\n\
+#.....#.##.\n\
+#.###.#.#..\n\
+#.###.#....\n\
+#.###.#.###\n\
+#.....#..##\n\
+#######.#..\n\
+.........##\n\
+##..###..##\n\
+.#.#...##..\n\
+####.....##\n\
 ";
 
 #[test]
 fn draws_all(rt: HostRuntime) -> Result<(), Fail> {
-    let mut text = Vec::new(rt.alloc());
-    let mut bytes: &[u8] = b"hello";
-    let mut reader = FromReader::new(&mut bytes);
-    let mut writer = FromWriter::new(&mut text);
-    let outcome = draw(rt.alloc(), &mut reader, &mut writer, EcLevel::L, false);
-    assert_eq!(rt; outcome, Ok(()));
-    assert_eq!(rt; text.as_slice(), HELLO.as_bytes());
+    let rows: [(&[u8], bool, &str); 2] = [(b"hello", false, HELLO), (b"12345", true, DIGITS)];
+    for (input, micro, wanted) in rows {
+        let mut text = Vec::new(rt.alloc());
+        let mut bytes = input;
+        let mut reader = FromReader::new(&mut bytes);
+        let mut writer = FromWriter::new(&mut text);
+        let outcome = draw(rt.alloc(), &mut reader, &mut writer, EcLevel::L, micro);
+        assert_eq!(rt; outcome, Ok(()));
+        assert_eq!(rt; text.as_slice(), wanted.as_bytes());
+    }
     Ok(())
 }
 
@@ -193,14 +211,15 @@ fn drawn(rt: &HostRuntime, most: usize, calls: usize, then: Then) -> Result<(boo
 
 #[test]
 fn runs(rt: HostRuntime) -> Result<(), Fail> {
+    let long = vec![in rt.alloc(); b'a'; 2954]?;
     let usage = "usage: qrtext L|M|Q|H [micro]\n";
-    let too_long = "qrtext: data too long to encode\n";
+    let lacking = "qrtext: invalid version Micro(4) for error correction level H\n";
     let rows: [(&[&str], &[u8], u8, usize, &str); 9] = [
         (&["L"], b"hello", 0, 21 * 22, ""),
-        (&[" l "], b"hello", 0, 21 * 22, ""),
-        (&["L"], b"aaaaaaaaaaaaaaaaaa", 1, 0, too_long),
-        (&["H"], b"hello", 1, 0, too_long),
-        (&["L", "micro"], b"hello", 1, 0, too_long),
+        (&[" h "], b"hello", 0, 21 * 22, ""),
+        (&["q", "micro"], b"hello", 0, 17 * 18, ""),
+        (&["L"], &long, 1, 0, "qrtext: data too long to encode\n"),
+        (&["H", "micro"], b"hello", 1, 0, lacking),
         (&["X"], b"hello", 2, 0, usage),
         (&["L", "mikro"], b"hello", 2, 0, usage),
         (&["L", "micro", "L"], b"hello", 2, 0, usage),
@@ -217,7 +236,7 @@ fn runs(rt: HostRuntime) -> Result<(), Fail> {
         assert_eq!(rt; answer, status, "{words:?}");
         assert_eq!(rt; text.len(), length, "{words:?}");
         assert_eq!(rt; said.as_slice(), line.as_bytes());
-        if status == 2 || words.len() == 2 {
+        if status == 2 {
             assert_eq!(rt; bytes.len(), input.len(), "{words:?}");
         }
     }

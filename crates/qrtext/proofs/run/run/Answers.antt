@@ -1,0 +1,21 @@
+-- The words ask for one request, which was drawn.
+use Rattle.std.proofs.Common.{◌≡◌, Ok, refl, subst, map, inl}
+use Rattle.qrtext.specs.Status.{Serves}
+use Rattle.qrtext.specs.Words.{Request, request}
+use Rattle.qrtext.proofs.DeviceLemmas.{Appends-none}
+use Rattle.qrtext.proofs.Requests.{ask_for_one}
+use Rattle.qrtext.proofs.run.run.Goals as goal
+
+pub returns-in-Ok-clause-served : goal.returns-in-Ok-clause-served
+returns-in-Ok-clause-served g c = λ asked asks.
+    let one : request c.in-Some.micro c.in-Some.level ≡ asked =
+    ask_for_one (map (λ word. word.now) c.args.words.now) (request c.in-Some.micro c.in-Some.level) asked c.in-Some.ensures asks in
+    let before = g.E.Sink.written c.args.errors.now in
+    subst (λ (r : Request). Serves r (g.R.Source.remaining c.args.reader.now) (g.R.Source.remaining c.draw.new.reader)
+    (g.W.Sink.written c.args.writer.now) (g.W.Sink.written c.draw.new.writer) before before (g.E.Sink.has_failed c.args.errors.now) 0) one
+    (record {
+      outcome = Ok tt;
+      gives = c.in-Ok.ensures.outcome;
+      status_is = refl;
+      says = inl (record { beginning = record { count = 0; appends = Appends-none before }; whole = λ sound. Appends-none before });
+    })
