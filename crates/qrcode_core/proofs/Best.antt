@@ -14,7 +14,9 @@ use Rattle.qrcode_grid.specs.Masks.{IsOfFamily, family}
 use Rattle.qrcode_core.specs.Headline.{IsBest}
 use Rattle.qrcode_core.specs.Layers.{IsEncoded, IsDrawn}
 use Rattle.qrcode_core.specs.Reader.{Reads, reading_of}
+use Rattle.qrcode_core.proofs.BlocksApart.{blocks_apart}
 use Rattle.qrcode_core.proofs.DrawnReading.{drawn_reading}
+use Rattle.qrcode_core.proofs.GridsApart.{grids_apart}
 use Rattle.qrcode_core.proofs.OneReading.{one_reading}
 
 -- a mask at a place of the family is one of the family
@@ -47,4 +49,6 @@ best_symbol kind header bytes level number payload plan codewords grid code draw
       smallest = smallest;
       fewest = fewest;
       best_mask = drawn.best;
+      apart = blocks_apart grid (reading_of bytes (kind number) level drawn.mask header payload) reads;
+      far = grids_apart grid (reading_of bytes (kind number) level drawn.mask header payload) reads;
     }

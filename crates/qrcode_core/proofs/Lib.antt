@@ -6,5 +6,7 @@ pub mod DrawnReading
 pub mod Ending
 pub mod Lengths
 pub mod Printed
+pub mod BlocksApart
+pub mod GridsApart
 pub mod Best
 pub mod StreamEncoding

@@ -1,5 +1,5 @@
 -- The stream of the chosen plan in the smallest version, turned into bytes and drawn, is the best symbol.
-use Rattle.std.proofs.Common.{◌≡◌, ℕ, ◌+◌, ◌-◌, ◌%◌, ◌<◌, ◌≤◌, refl, ap, sym, ◌∙◌, arith, zero-add, List, ◌++◌, length, take, Bool, subst}
+use Rattle.std.proofs.Common.{◌≡◌, ℕ, ◌-◌, ◌%◌, ◌<◌, ◌≤◌, refl, sym, ◌∙◌, arith, zero-add, List, ◌++◌, length, take, Bool, subst}
 use Rattle.std.specs.Prelude.{Option, Some, None, All, IsSomeAnd}
 use Rattle.std.proofs.lemmas.Bool.{cases_lt}
 use Rattle.std.proofs.Common.{inl, inr}
@@ -14,7 +14,7 @@ use Rattle.qrcode_base.specs.Numbers.{byte_bits, zero_bits}
 use Rattle.qrcode_base.specs.Symbols.{blocks_of, capacity, capacity_with, data_bytes, missing_bits}
 use Rattle.qrcode_bits.specs.Choice.{normal, micro, IsLeastBits}
 use Rattle.qrcode_bits.specs.Encoding.{IsEncoding, IsUnencodable, IsMicroRefused}
-use Rattle.qrcode_bits.specs.Frame.{spellings, ended}
+use Rattle.qrcode_bits.specs.Frame.{spellings}
 use Rattle.qrcode_bits.specs.Merging.{total_bits}
 use Rattle.qrcode_bits.specs.Pieces.{segment_pieces}
 use Rattle.qrcode_bits.specs.Stream.{Stream}

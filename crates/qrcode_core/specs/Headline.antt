@@ -10,10 +10,38 @@ use Rattle.qrcode_base.specs.declared.types.errors.QrError.TheVariants.{DataTooL
 use Rattle.qrcode_bits.specs.declared.optimize.Segment.{Segment}
 use Rattle.qrcode_bits.specs.Choice.{normal, micro, Fits, FitsNot, FitsNone, IsLeastBits}
 use Rattle.qrcode_bits.specs.Frame.{Header, header_bits}
+use Rattle.qrcode_base.specs.Symbols.{block_sizes}
 use Rattle.qrcode_grid.specs.declared.canvas.MaskPattern.{MaskPattern}
+use Rattle.qrcode_grid.specs.Blocks.{codeword_block}
+use Rattle.qrcode_grid.specs.Codes.{IsApart, distance}
 use Rattle.qrcode_grid.specs.Penalty.{IsFirstLeastMask}
 use Rattle.qrcode_grid.specs.Symbol.{HasFunctionalColors}
 use Rattle.qrcode_core.specs.Reader.{Reading, Reads, reading_of}
+
+-- ---- Distance
+
+-- In each block, every other sound list of codewords of its length differs from it in more places than the block has correction
+-- codewords.
+abbrev pub HasBlocksApart : (grid : List Color) (reading : Reading) → Reads grid reading → Type 0
+HasBlocksApart grid reading r =
+    (block : ℕ) → block < length (block_sizes r.blocks) →
+    IsApart r.blocks.correction (codeword_block r.blocks.correction (block_sizes r.blocks) r.interleaved r.correction block)
+
+-- A grid differs from another one, each as it is read, in some block in more codewords than the block has correction codewords.
+abbrev pub AreFarApart : (grid other : List Color) (r s : Reading) → Reads grid r → Reads other s → Type 0
+AreFarApart grid other r s f g =
+    (block : ℕ) × (block < length (block_sizes f.blocks)) ×
+    (f.blocks.correction < distance (codeword_block f.blocks.correction (block_sizes f.blocks) f.interleaved f.correction block)
+    (codeword_block f.blocks.correction (block_sizes f.blocks) g.interleaved g.correction block))
+
+-- Every other grid that is read at the same version and level as other bytes is far apart from this one.
+abbrev pub IsFarFromOthers : (grid : List Color) (reading : Reading) → Reads grid reading → Type 0
+IsFarFromOthers grid r f =
+    (other : List Color) (s : Reading) (g : Reads other s) → s.version ≡ r.version → s.level ≡ r.level → s.bytes ≢ r.bytes → AreFarApart grid other r s f g
+
+-- So are any two grids.
+abbrev pub HaveDistance : Type 0
+HaveDistance = (grid : List Color) (r : Reading) (f : Reads grid r) → IsFarFromOthers grid r f
 
 -- ---- Symbols
 
@@ -23,7 +51,7 @@ use Rattle.qrcode_core.specs.Reader.{Reading, Reads, reading_of}
 -- It is read as the bytes at the level, and as nothing else: whatever a reader finds in it (bytes, version, level, mask, header,
 -- payload bits) is this. Its functional modules have their colours. Some plan of the bytes fits its version, and none a smaller
 -- one. The payload bits are the fewest of all plans there. The mask is the first under which the grid's sibling has the least
--- penalty.
+-- penalty. In each block different contents differ in more codewords than the block has correction codewords.
 pub record IsBest (kind : ℕ → Version) (header : Option Header) (bytes : List ℕ) (level : EcLevel) (grid : List Color) : Type 0 where
   pub number : ℕ
   pub mask : MaskPattern
@@ -36,6 +64,8 @@ pub record IsBest (kind : ℕ → Version) (header : Option Header) (bytes : Lis
   pub smallest : (smaller : ℕ) → smaller < number → FitsNot (length (header_bits header)) bytes (kind smaller) level
   pub fewest : IsLeastBits (length (header_bits header)) bytes (kind number) payload
   pub best_mask : IsFirstLeastMask (kind number) level mask grid
+  pub apart : HasBlocksApart grid (reading_of bytes (kind number) level mask header payload) reads
+  pub far : IsFarFromOthers grid (reading_of bytes (kind number) level mask header payload) reads
 
 abbrev pub IsBestSymbol : List ℕ → EcLevel → List Color → Type 0
 IsBestSymbol bytes level grid = IsBest normal None bytes level grid

@@ -1,5 +1,6 @@
 //! What holds of grids and of what is read from them.
 ghost use Rattle.qrcode_core.specs.Example.{printed, printed_reading};
+ghost use Rattle.qrcode_core.specs.Headline.{HaveDistance};
 ghost use Rattle.qrcode_core.specs.Reader.{HaveOneReading, Reads};
 
 /// No grid is read in two ways: the bytes, the version, the level, the mask, the header and the payload bits that a reader
@@ -11,4 +12,10 @@ pub fn have_one_reading()
 /// The reader reads a printed symbol: the digits `12345` in M1 at level L under the mask Diamonds, with 20 payload bits.
 pub fn printed_symbol_is_read()
     ensures { Reads printed printed_reading }
+{}
+
+/// Two grids that are read as different bytes, at one version and level, differ in some block in more codewords than the block
+/// has correction codewords (ISO/IEC 18004, error correction).
+pub fn have_distance()
+    ensures { HaveDistance }
 {}

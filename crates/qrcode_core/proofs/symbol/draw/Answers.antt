@@ -1,6 +1,5 @@
 -- The streams of the codewords, drawn.
 use Rattle.std.proofs.Common.{ℕ, List, subst}
-use Rattle.qrcode_grid.specs.Penalty.{IsFirstLeastMask}
 use Rattle.qrcode_grid.specs.Symbol.{CarriesCodewords}
 use Rattle.qrcode_core.proofs.DrawnReading.{are_streams}
 use Rattle.qrcode_core.proofs.symbol.draw.Goals as goal

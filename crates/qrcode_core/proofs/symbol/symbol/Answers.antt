@@ -1,9 +1,8 @@
 -- The best encoding, drawn, is the best symbol.
-use Rattle.std.proofs.Common.{◌≡◌, ℕ, ◌<◌, arith, List, length, subst, sym}
+use Rattle.std.proofs.Common.{◌<◌, arith}
 use Rattle.std.specs.Prelude.{All}
 use Rattle.qrcode_bits.specs.Choice.{normal}
 use Rattle.qrcode_bits.proofs.Pairs.{bytes_valid}
-use Rattle.qrcode_core.specs.Layers.{AreAllCodewords, IsDrawn}
 use Rattle.qrcode_core.proofs.StreamEncoding.{all_codewords, best, encoded_fits, encoded_short, normal_refused}
 use Rattle.qrcode_core.proofs.symbol.symbol.Goals as goal
 
