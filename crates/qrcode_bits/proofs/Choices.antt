@@ -21,7 +21,8 @@ use Rattle.qrcode_bits.specs.declared.optimize.Segment.{Segment}
 use Rattle.qrcode_bits.specs.Parsing.{parsed}
 use Rattle.qrcode_bits.specs.Merging.{merged, total_bits, IsChosenPlan}
 use Rattle.qrcode_bits.specs.Cuttings.{joined, AreNonEmpty, merged_pieces}
-use Rattle.qrcode_bits.specs.Choice.{IsMergePlan, Fits, FitsNot, IsLeastBits, normal, micro, FitsNone, IsChoice, IsLeastHolding, IsClass}
+use Rattle.qrcode_bits.specs.Choice.{IsMergePlan, Fits, FitsNot, IsLeastBits, normal, micro, FitsNone, IsChoice, IsLeastHolding}
+use Rattle.qrcode_bits.specs.Classes.{IsClass}
 use Rattle.qrcode_bits.proofs.Growth.{total_bits-rise, total_bits-same, total_bits-double, chosen-same}
 use Rattle.qrcode_bits.proofs.CuttingPlans.{chosen-cutting, chosen-least}
 

@@ -25,7 +25,8 @@ use Rattle.qrcode_bits.specs.Parsing.{parsed, AreTexts}
 use Rattle.qrcode_bits.specs.Merging.{HasLinearCosts, IsChosenPlan, total_bits}
 use Rattle.qrcode_bits.specs.Stream.{Stream}
 use Rattle.qrcode_bits.specs.Pieces.{LiesIn}
-use Rattle.qrcode_bits.specs.Choice.{IsMergePlan, Fits, FitsNot, FitsNone, normal, micro, IsChoice, IsLeastHolding, IsMinVersion, IsClass, ClassesUpTo}
+use Rattle.qrcode_bits.specs.Choice.{IsMergePlan, Fits, FitsNot, FitsNone, normal, micro, IsChoice, IsLeastHolding, IsMinVersion}
+use Rattle.qrcode_bits.specs.Classes.{IsClass, ClassesUpTo}
 use Rattle.qrcode_bits.specs.Encoding.{IsPlanStream, IsEncoding, IsUnencodable, IsLimit, IsEncodingRefused}
 use Rattle.qrcode_bits.proofs.Adjoining.{parsed-linear}
 use Rattle.qrcode_bits.proofs.Growth.{total_bits-rise, total_bits-same}

@@ -10,7 +10,8 @@ ghost use Rattle.qrcode_base.specs.Modes.{HasMode, indicator_width, count_width}
 ghost use Rattle.qrcode_base.specs.Versions.{HasMicroNumber};
 ghost use Rattle.qrcode_bits.specs.Parsing.{parsed};
 ghost use Rattle.qrcode_bits.specs.Merging.{IsChosenPlan};
-ghost use Rattle.qrcode_bits.specs.Choice.{Fits, FitsNot, FitsNone, normal, micro, IsMinVersion, IsClass, ClassesUpTo};
+ghost use Rattle.qrcode_bits.specs.Choice.{Fits, FitsNot, FitsNone, normal, micro, IsMinVersion};
+ghost use Rattle.qrcode_bits.specs.Classes.{IsClass, ClassesUpTo};
 ghost use Rattle.qrcode_bits.specs.Encoding.{IsPlanStream, IsEncoding, IsUnencodable, IsEncodingRefused, IsMicroRefused};
 
 use super::Bits;
