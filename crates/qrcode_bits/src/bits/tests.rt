@@ -666,5 +666,9 @@ fn segments_up_to_a_refusal(rt: HostRuntime) -> QrResult<()> {
     let mut bits = Bits::new(rt.alloc(), ONE);
     bits.push_optimal_data(b"ABC123abcd")?;
     assert_eq!(rt; bits.len(), 90);
+    let modes = bits.encoding_modes();
+    assert!(rt; modes.len() == 2 && modes.contains(Mode::Byte) && modes.iter().len() == 2);
+    let modes: Vec<Mode> = modes.iter().collect(rt.alloc())?;
+    assert!(rt; modes.as_slice() == [Mode::Alphanumeric, Mode::Byte].as_slice());
     Ok(())
 }
