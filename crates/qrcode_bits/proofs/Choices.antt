@@ -1,6 +1,6 @@
 -- The choice of the version: a chosen plan fits wherever some plan does, and the first class of versions whose chosen plan fits
 -- decides.
-use Rattle.std.proofs.Common.{◌≡◌, ℕ, zero, suc, pos, ◌+◌, ◌-◌, ◌^◌, ◌<◌, ◌≤◌, List, [], ◌∷◌, ◌++◌, Some, length, refl, sym, ap, ◌∙◌, subst, arith, inl, inr}
+use Rattle.std.proofs.Common.{◌≡◌, ℕ, zero, suc, ◌+◌, ◌-◌, ◌^◌, ◌<◌, ◌≤◌, List, [], ◌∷◌, ◌++◌, Some, length, refl, sym, ap, ◌∙◌, subst, arith, inl, inr}
 use Rattle.std.specs.Prelude.{All, Option, None, nat_abs}
 use Rattle.std.proofs.lemmas.Bool.{cases_lt, cases_eq}
 use Rattle.std.proofs.lemmas.Nat.{pow_below}
@@ -21,7 +21,8 @@ use Rattle.qrcode_bits.specs.declared.optimize.Segment.{Segment}
 use Rattle.qrcode_bits.specs.Parsing.{parsed}
 use Rattle.qrcode_bits.specs.Merging.{merged, total_bits, IsChosenPlan}
 use Rattle.qrcode_bits.specs.Cuttings.{joined, AreNonEmpty, merged_pieces}
-use Rattle.qrcode_bits.specs.Choice.{IsMergePlan, Fits, FitsNot, IsLeastBits, normal, micro, FitsNone, IsChoice, IsLeastHolding, IsClass}
+use Rattle.qrcode_bits.specs.Choice.{IsMergePlan, Fits, FitsNot, IsLeastBits, normal, micro, FitsNone, IsChoice, IsLeastHolding}
+use Rattle.qrcode_bits.specs.Classes.{IsClass}
 use Rattle.qrcode_bits.proofs.Growth.{total_bits-rise, total_bits-same, total_bits-double, chosen-same}
 use Rattle.qrcode_bits.proofs.CuttingPlans.{chosen-cutting, chosen-least}
 

@@ -10,7 +10,7 @@ use Rattle.qrcode_base.specs.declared.types.Mode.{Mode}
 use Rattle.qrcode_base.specs.declared.types.Mode.TheVariants.{Numeric, Alphanumeric, Byte, Kanji}
 use Rattle.qrcode_base.specs.Modes.{count_width, indicator_width, data_bits, characters}
 use Rattle.qrcode_base.specs.Characters.{IsValid, IsKanjiText}
-use Rattle.qrcode_base.proofs.Fields.{capacity-held, count_width-same}
+use Rattle.qrcode_base.proofs.Fields.{count_width-same}
 use Rattle.qrcode_bits.specs.declared.optimize.Segment.{Segment}
 use Rattle.qrcode_bits.specs.Merging.{total_bits}
 use Rattle.qrcode_bits.specs.Parsing.{AreTexts}

@@ -1,5 +1,5 @@
 -- The parts of a plan that fits, spelled one after the other, are the front of a frame of the bytes.
-use Rattle.std.proofs.Common.{◌≡◌, ◌≢◌, ℕ, ◌+◌, ◌-◌, ◌^◌, ◌<◌, ◌≤◌, Bool, List, [], ◌∷◌, ◌++◌, Some, length, take, drop, refl, sym, ap, subst, arith, length-append, length-drop}
+use Rattle.std.proofs.Common.{◌≡◌, ◌≢◌, ℕ, ◌+◌, ◌-◌, ◌^◌, ◌<◌, ◌≤◌, Bool, List, [], ◌∷◌, ◌++◌, length, take, drop, refl, sym, ap, subst, arith, length-append, length-drop}
 use Rattle.std.specs.Prelude.{All, Option, slice_range}
 use Rattle.std.proofs.lemmas.List.{length-take-le}
 use Rattle.std.proofs.lemmas.List.Elements.{All-head, All-tail}
@@ -7,14 +7,13 @@ use Rattle.qrcode_base.specs.declared.types.Version.{Version}
 use Rattle.qrcode_base.specs.declared.types.EcLevel.{EcLevel}
 use Rattle.qrcode_base.specs.Modes.{HasMode, count_width, data_bits, characters}
 use Rattle.qrcode_base.specs.Characters.{IsValid}
-use Rattle.qrcode_base.specs.Symbols.{capacity}
 use Rattle.qrcode_bits.specs.declared.optimize.Segment.{Segment}
 use Rattle.qrcode_bits.specs.Parsing.{AreTexts}
 use Rattle.qrcode_bits.specs.Merging.{segment_bits, total_bits}
-use Rattle.qrcode_bits.specs.Spelling.{IsSpellable, character_count, character_bits, spelling}
+use Rattle.qrcode_bits.specs.Spelling.{IsSpellable, character_count, spelling}
 use Rattle.qrcode_bits.specs.Frame.{Header, HasHeader, header_bits, AreSpelled, spellings, message, ended, IsFrame}
 use Rattle.qrcode_bits.specs.Pieces.{segment_piece, segment_pieces}
-use Rattle.qrcode_bits.specs.Choice.{IsMergePlan, Fits}
+use Rattle.qrcode_bits.specs.Choice.{Fits}
 use Rattle.qrcode_bits.proofs.Growth.{CountsFit, fits-counts}
 use Rattle.qrcode_bits.proofs.Reading.{length-spelling}
 use Rattle.qrcode_bits.proofs.Segments.{length-character_bits}

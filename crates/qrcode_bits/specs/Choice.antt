@@ -1,6 +1,6 @@
--- Which version some bytes take: the smallest in which a plan fits (ISO/IEC 18004, "Data analysis" of the encode procedure and
--- "Optimisation of bit stream length").
-use Rattle.std.specs.Prelude.{◌≡◌, ℕ, pos, ◌+◌, ◌<◌, ◌≤◌, List, [], ◌∷◌, All, Some, ◌⊎◌}
+-- Which version some bytes take: the smallest in which a plan fits (ISO/IEC 18004, "Data analysis" of the encode
+-- procedure and "Optimisation of bit stream length").
+use Rattle.std.specs.Prelude.{◌≡◌, ℕ, pos, ◌+◌, ◌<◌, ◌≤◌, List, All, Some, ◌⊎◌}
 use Rattle.qrcode_base.specs.declared.types.Version.{Version}
 use Rattle.qrcode_base.specs.declared.types.Version.TheVariants.{Normal, Micro}
 use Rattle.qrcode_base.specs.declared.types.EcLevel.{EcLevel}
@@ -13,14 +13,15 @@ use Rattle.qrcode_bits.specs.Cuttings.{IsCutting, merged_pieces}
 
 -- ---- Plans
 
--- A merge plan of some bytes: their parsed segments, cut into consecutive pieces, none of them empty, each merged into one segment.
+-- A merge plan of some bytes: their parsed segments, cut into consecutive pieces, none of them empty, each merged
+-- into one segment.
 pub record IsMergePlan (bytes : List ℕ) (plan : List Segment) : Type 0 where
   pub pieces : List (List Segment)
   pub cutting : IsCutting (parsed bytes) pieces
   pub merges : plan ≡ merged_pieces pieces
 
--- A plan fits a version at a level: the version has the level and the modes of all parts, and holds their bits behind so many
--- bits in front. (In front of a symbol of a sequence stand the 20 bits of its header, else none.)
+-- A plan fits a version at a level: the version has the level and the modes of all parts, and holds their bits
+-- behind so many bits in front. (In front of a symbol of a sequence stand the 20 bits of its header, else none.)
 pub record Fits (front : ℕ) (bytes : List ℕ) (version : Version) (level : EcLevel) (plan : List Segment) : Type 0 where
   pub planned : IsMergePlan bytes plan
   pub limit : ℕ
@@ -52,9 +53,10 @@ micro number = Micro (pos number)
 abbrev pub FitsNone : (ℕ → Version) → ℕ → List ℕ → EcLevel → ℕ → Type 0
 FitsNone kind front bytes level limit = (number : ℕ) → number ≤ limit → FitsNot front bytes (kind number) level
 
--- The smallest version of a kind, of those from 1 to a limit, in which some plan fits, and the chosen plan there, which takes the
--- least bits of all.
-pub record IsChoice (kind : ℕ → Version) (front : ℕ) (bytes : List ℕ) (level : EcLevel) (limit number : ℕ) (plan : List Segment) : Type 0 where
+-- The smallest version of a kind, of those from 1 to a limit, in which some plan fits, and the chosen plan there,
+-- which takes the least bits of all.
+pub record IsChoice (kind : ℕ → Version) (front : ℕ) (bytes : List ℕ) (level : EcLevel)
+    (limit number : ℕ) (plan : List Segment) : Type 0 where
   pub from_one : 1 ≤ number
   pub up_to : number ≤ limit
   pub chosen : IsChosenPlan (parsed bytes) (kind number) plan
@@ -74,14 +76,3 @@ abbrev pub IsMinVersion : ℕ → EcLevel → Version → Type 0
 IsMinVersion length level version =
     ((number : ℕ) × (version ≡ normal number) × IsLeastHolding length level number)
     ⊎ ((version ≡ normal 40) × ((other c : ℕ) → capacity (normal other) level ≡ Some c → c < length))
-
--- The versions after one number up to another are of one class: 1 to 9, 10 to 26 or 27 to 40. In a class the character count
--- indicators have the same widths (table 3). Only private functions speak of it.
-abbrev pub IsClass : ℕ → ℕ → Type 0
-IsClass before last = (n : ℕ) → before < n → n ≤ last →
-    ((n ≤ 9) × (last ≤ 9)) ⊎ (((10 ≤ n) × (n ≤ 26) × (10 ≤ last) × (last ≤ 26)) ⊎ ((27 ≤ n) × (27 ≤ last)))
-
--- These are the last versions of the classes up to a limit, behind one number.
-abbrev pub ClassesUpTo : ℕ → List ℕ → ℕ → Type 0
-ClassesUpTo before [] limit = limit ≤ before
-ClassesUpTo before (last ∷ rest) limit = IsClass before last × (1 ≤ last) × (last ≤ limit) × ClassesUpTo last rest limit

@@ -16,9 +16,10 @@ use Rattle.qrcode_bits.specs.Push.{with_modes}
 use Rattle.qrcode_bits.specs.Pieces.{segment_pieces}
 use Rattle.qrcode_bits.specs.Choice.{normal, micro, FitsNone, IsChoice}
 
--- The stream holds the spellings of a plan of the bytes, ended at the capacity, with the modes of the plan, and its bits as
--- payload. Up to the capacity it is a frame of the bytes.
-pub record IsPlanStream (bytes : List ℕ) (version : Version) (level : EcLevel) (plan : List Segment) (stream : Stream) : Type 0 where
+-- The stream holds the spellings of a plan of the bytes, ended at the capacity, with the modes of the plan, and
+-- its bits as payload. Up to the capacity it is a frame of the bytes.
+pub record IsPlanStream (bytes : List ℕ) (version : Version) (level : EcLevel)
+    (plan : List Segment) (stream : Stream) : Type 0 where
   pub limit : ℕ
   pub limit_is : capacity version level ≡ Some limit
   pub version_is : stream.version ≡ version
@@ -27,8 +28,10 @@ pub record IsPlanStream (bytes : List ℕ) (version : Version) (level : EcLevel)
   pub payload_is : stream.payload ≡ Some (total_bits version plan)
   pub frame : IsFrame version level None bytes (total_bits version plan) (take limit stream.bits)
 
--- The stream of the chosen plan in the smallest version of a kind, of those from 1 to a limit, in which some plan fits.
-pub record IsEncoding (kind : ℕ → Version) (bytes : List ℕ) (level : EcLevel) (limit : ℕ) (stream : Stream) : Type 0 where
+-- The stream of the chosen plan in the smallest version of a kind, of those from 1 to a limit, in which some plan
+-- fits.
+pub record IsEncoding (kind : ℕ → Version) (bytes : List ℕ) (level : EcLevel)
+    (limit : ℕ) (stream : Stream) : Type 0 where
   pub number : ℕ
   pub plan : List Segment
   pub choice : IsChoice kind 0 bytes level limit number plan

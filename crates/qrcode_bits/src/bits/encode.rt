@@ -1,4 +1,8 @@
-//! The choice of the version: the smallest in which the data fits.
+//! The choice of the version: the smallest in which some way to merge the parsed segments of the data fits (ISO/IEC 18004, "Data
+//! analysis").
+//!
+//! Normal versions fall into three classes, 1 to 9, 10 to 26 and 27 to 40. In a class a plan takes the same bits in each version, so
+//! one plan for the last version of a class decides for the class.
 
 ghost use Rattle.std.specs.Prelude.{◌≡◌, ℕ, ◌+◌, ◌≤◌, length, nat_abs, IfOk, IfErr, IfSome, IfNone, All, IsTrue, ◌↔◌};
 ghost use Rattle.qrcode_base.specs.declared.types.Mode.{Mode};
@@ -6,7 +10,8 @@ ghost use Rattle.qrcode_base.specs.Modes.{HasMode, indicator_width, count_width}
 ghost use Rattle.qrcode_base.specs.Versions.{HasMicroNumber};
 ghost use Rattle.qrcode_bits.specs.Parsing.{parsed};
 ghost use Rattle.qrcode_bits.specs.Merging.{IsChosenPlan};
-ghost use Rattle.qrcode_bits.specs.Choice.{Fits, FitsNot, FitsNone, normal, micro, IsMinVersion, IsClass, ClassesUpTo};
+ghost use Rattle.qrcode_bits.specs.Choice.{Fits, FitsNot, FitsNone, normal, micro, IsMinVersion};
+ghost use Rattle.qrcode_bits.specs.Classes.{IsClass, ClassesUpTo};
 ghost use Rattle.qrcode_bits.specs.Encoding.{IsPlanStream, IsEncoding, IsUnencodable, IsEncodingRefused, IsMicroRefused};
 
 use super::Bits;
@@ -20,10 +25,10 @@ use std::alloc::Global;
 /// The longest data that some symbol holds: 7089 digits in version 40 at level L.
 const MAX_DATA_LEN: usize = 7089;
 
-/// The bits of some data in the smallest Normal version in which some way to merge its parsed segments fits, by the plan that
-/// takes the fewest bits there (ISO/IEC 18004, "Data analysis" and "Data encodation"). They end with terminator and padding.
+/// The bits of some data in the smallest Normal version in which some plan fits, by the plan that takes the fewest bits there, up
+/// to terminator and padding.
 ///
-/// The answer is `DataTooLong` where no plan fits version 40 at this level, and `OutOfMemory` where memory was wanting.
+/// `DataTooLong` comes where no plan fits version 40 at this level, so for more than 7089 bytes before any memory is taken.
 pub fn encode_auto(alloc: Global, bytes: &[u8], level: EcLevel) -> QrResult<Bits>
     ensures ok { IfOk result (λ bits. IsEncoding normal bytes.now level 40 bits) }
     ensures err { IfErr result (λ e. IsUnencodable normal bytes.now level 40 e) }
@@ -31,9 +36,9 @@ pub fn encode_auto(alloc: Global, bytes: &[u8], level: EcLevel) -> QrResult<Bits
     encode_up_to(alloc, bytes, level, 40)
 }
 
-/// As `encode_auto`, but no version past `max_version` is taken.
+/// As `encode_auto`, but with no version past `max_version`.
 ///
-/// A maximum outside 1 to 40 is `InvalidResourceLimits`.
+/// A maximum outside 1 to 40 is `InvalidResourceLimits`, which is tested first.
 pub fn encode_auto_with_max_version(
     alloc: Global,
     bytes: &[u8],
@@ -52,10 +57,10 @@ pub fn encode_auto_with_max_version(
     }
 }
 
-/// The bits of some data in the smallest of the versions M1 to M4 that has the level and the modes of the data, and in which
-/// some plan fits, as `encode_auto` chooses it.
+/// The bits of some data in the smallest of M1 to M4 that has the level and the modes and in which some plan fits, as with
+/// `encode_auto`.
 ///
-/// Level H, which no Micro version has, is `InvalidVersion` with M4. Then `DataTooLong` comes where no plan fits any of them.
+/// Level H, which no Micro version has, is `InvalidVersion` with M4. Then `DataTooLong` comes where no plan fits any of the four.
 pub fn encode_auto_micro(alloc: Global, bytes: &[u8], level: EcLevel) -> QrResult<Bits>
     ensures ok { IfOk result (λ bits. IsEncoding micro bytes.now level 4 bits) }
     ensures err { IfErr result (λ e. IsMicroRefused bytes.now level e) }

@@ -1,6 +1,7 @@
 //! Worked rows of pushes.
 
 use super::*;
+use crate::optimize::Segment;
 use qrcode_base::mode::{AlphanumericMode, EncodingMode};
 use qrcode_base::types::{EcLevel, Mode};
 
@@ -536,5 +537,138 @@ fn bytes_at_each_offset(rt: HostRuntime) -> QrResult<()> {
         assert_eq!(rt; whole.len(), offset + 44);
         assert!(rt; whole.into_bytes().as_slice() == single.into_bytes().as_slice());
     }
+    Ok(())
+}
+
+/// What data takes: the version, and the bits before the terminator.
+fn taken(bits: QrResult<Bits>) -> QrResult<(Version, usize)> {
+    let bits = bits?;
+    Ok((bits.version(), bits.payload_bits_len()))
+}
+
+#[test]
+fn smallest_versions(rt: HostRuntime) -> QrResult<()> {
+    let mut letters = Vec::new(rt.alloc());
+    let mut digits = Vec::new(rt.alloc());
+    for _place in 0..7090usize {
+        letters.push(b'a')?;
+        digits.push(b'7')?;
+    }
+    let long = QrError::DataTooLong;
+    let rows = [
+        (17, 1, Ok((ONE, 148))),
+        (18, 1, Err(QrError::DataTooLong)),
+        (1, 0, Err(QrError::InvalidResourceLimits)),
+        (1, 41, Err(QrError::InvalidResourceLimits)),
+        (230, 40, Ok((Version::Normal(9), 1852))),
+        (231, 40, Ok((Version::Normal(10), 1868))),
+        (2953, 40, Ok((Version::Normal(40), 23644))),
+        (2954, 40, Err(long)),
+    ];
+    for (count, limit, wanted) in &rows {
+        if *count <= letters.len() {
+            let bits = encode_auto_with_max_version(
+                rt.alloc(),
+                &letters[..*count],
+                EcLevel::L,
+                *limit,
+            );
+            assert!(rt; taken(bits) == *wanted);
+        }
+    }
+    assert!(rt; taken(encode_auto(rt.alloc(), &digits, EcLevel::L)) == Err(QrError::DataTooLong));
+    let _ = digits.pop();
+    assert!(rt;
+        taken(encode_auto(rt.alloc(), &digits, EcLevel::L)) == Ok((Version::Normal(40), 23648))
+    );
+    Ok(())
+}
+
+#[test]
+fn encoded_bytes(rt: HostRuntime) -> QrResult<()> {
+    let bits = encode_auto(rt.alloc(), b"HELLO WORLD", EcLevel::M)?;
+    assert!(rt; bits.version() == ONE && bits.payload_bits_len() == 74);
+    let wanted = [
+        0x20, 0x5b, 0x0b, 0x78, 0xd1, 0x72, 0xdc, 0x4d, 0x43, 0x40, 0xec, 0x11, 0xec, 0x11, 0xec,
+        0x11,
+    ];
+    assert!(rt; bits.into_bytes().as_slice() == wanted.as_slice());
+    let bits = encode_auto(rt.alloc(), b"", EcLevel::L)?;
+    assert!(rt; bits.payload_bits_len() == 0 && bits.encoding_modes().is_empty());
+    assert!(rt; bits.into_bytes().as_slice() == &ENDED[..19]);
+    let mut bits = encode_auto_micro(rt.alloc(), b"1", EcLevel::L)?;
+    assert!(rt;
+        bits.version() == Version::Micro(1) && bits.payload_bits_len() == 7 && bits.len() == 24
+    );
+    assert!(rt; bits.push_terminator(EcLevel::L) == Err(QrError::DataTooLong));
+    assert!(rt; bits.into_bytes().as_slice() == [0x22, 0, 0].as_slice());
+    let bits = encode_auto_micro(rt.alloc(), b"", EcLevel::L)?;
+    assert!(rt;
+        bits.version() == Version::Micro(1) && bits.payload_bits_len() == 0 && bits.len() == 24
+    );
+    assert!(rt; bits.into_bytes().as_slice() == [0, 0xec, 0].as_slice());
+    let rows = [
+        (EcLevel::M, Ok((Version::Micro(2), 0))),
+        (EcLevel::Q, Ok((Version::Micro(4), 0))),
+        (
+            EcLevel::H,
+            Err(QrError::InvalidVersion {
+                version: Version::Micro(4),
+                ec_level: EcLevel::H,
+            }),
+        ),
+    ];
+    for (level, wanted) in &rows {
+        assert!(rt; taken(encode_auto_micro(rt.alloc(), b"", *level)) == *wanted);
+    }
+    let rows = [
+        (35, Ok((Version::Micro(4), 126))),
+        (36, Err(QrError::DataTooLong)),
+    ];
+    for (count, wanted) in &rows {
+        let digits = [b'7'; 36];
+        if *count <= digits.len() {
+            assert!(rt;
+                taken(encode_auto_micro(rt.alloc(), &digits[..*count], EcLevel::L)) == *wanted
+            );
+        }
+    }
+    Ok(())
+}
+
+#[test]
+fn segments_up_to_a_refusal(rt: HostRuntime) -> QrResult<()> {
+    let mut bits = Bits::new(rt.alloc(), ONE);
+    let segments = [
+        Segment {
+            mode: Mode::Numeric,
+            begin: 0,
+            end: 2,
+        },
+        Segment {
+            mode: Mode::Numeric,
+            begin: 2,
+            end: 3,
+        },
+    ];
+    let refusal = bits.push_segments(b"12a", segments.iter().copied());
+    assert!(rt;
+        refusal
+            == Err(QrError::InvalidCharacter {
+                position: 0,
+                byte: 0x61
+            })
+    );
+    assert!(rt;
+        bits.len() == 21 && bits.encoding_modes() == EncodingModes::from_mode(Mode::Numeric)
+    );
+    assert!(rt; bits.into_bytes().as_slice() == [0x10, 0x08, 0x60].as_slice());
+    let mut bits = Bits::new(rt.alloc(), ONE);
+    bits.push_optimal_data(b"ABC123abcd")?;
+    assert_eq!(rt; bits.len(), 90);
+    let modes = bits.encoding_modes();
+    assert!(rt; modes.len() == 2 && modes.contains(Mode::Byte) && modes.iter().len() == 2);
+    let modes: Vec<Mode> = modes.iter().collect(rt.alloc())?;
+    assert!(rt; modes.as_slice() == [Mode::Alphanumeric, Mode::Byte].as_slice());
     Ok(())
 }

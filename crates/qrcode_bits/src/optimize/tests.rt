@@ -1,6 +1,6 @@
 //! Worked rows of plans, and that both bodies agree.
 
-ghost use Rattle.std.specs.Prelude.{◌≡◌, ◌<◌, length};
+ghost use Rattle.std.specs.Prelude.{◌≡◌, ◌<◌, ◌≤◌, length};
 ghost use Rattle.qrcode_base.specs.Versions.{HasMicroNumber};
 ghost use Rattle.qrcode_bits.specs.Merging.{HasLinearCosts};
 
@@ -12,7 +12,22 @@ const fn segment(mode: Mode, begin: usize, end: usize) -> Segment {
     Segment { mode, begin, end }
 }
 
-/// The plan of segments whose costs are linear, by the call and by the iterator, and its bits.
+/// The plan of segments whose costs are linear, by the iterator.
+fn given(rt: &HostRuntime, segments: &[Segment], version: Version) -> QrResult<Vec<Segment>>
+    requires micro { HasMicroNumber version }
+    requires linear { 2 ≤ length segments.now → HasLinearCosts segments.now version }
+{
+    let plan = Optimizer::new(rt.alloc(), segments.iter().copied(), version)?;
+    let count = plan.len();
+    let parts: Vec<Segment> = plan.collect(rt.alloc())?;
+    if parts.len() == count {
+        Ok(parts)
+    } else {
+        Err(QrError::DataTooLong)
+    }
+}
+
+/// The plan of segments whose costs are linear, by the call and by the iterator.
 fn planned(rt: &HostRuntime, segments: &[Segment], version: Version) -> QrResult<Vec<Segment>>
     requires { HasMicroNumber version }
 {
@@ -20,11 +35,7 @@ fn planned(rt: &HostRuntime, segments: &[Segment], version: Version) -> QrResult
         return Err(QrError::DataTooLong);
     }
     let plan = optimize_segments(rt.alloc(), segments, version)?;
-    let given = Optimizer::new(rt.alloc(), segments.iter().copied(), version)?;
-    if given.len() != plan.len() {
-        return Err(QrError::DataTooLong);
-    }
-    let again: Vec<Segment> = given.collect(rt.alloc())?;
+    let again = given(rt, segments, version)?;
     if again.as_slice() == plan.as_slice() {
         Ok(plan)
     } else {
@@ -269,6 +280,7 @@ fn bodies_agree_on_short_lists(rt: HostRuntime) -> QrResult<()> {
 /// The next number of a fixed run, below a bound.
 fn next_below(state: &mut u64, bound: u64) -> usize
     requires { 0 < bound }
+    ensures { result < bound }
 {
     *state = state
         .wrapping_mul(6364136223846793005)

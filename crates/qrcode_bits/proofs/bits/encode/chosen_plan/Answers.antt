@@ -1,5 +1,5 @@
 -- The chosen plan decides whether some plan fits.
-use Rattle.std.proofs.Common.{◌≡◌, refl, true, false, ◌<◌, ◌≤◌, ◌^◌, ℕ, List, ap, ◌∙◌, sym, subst, arith, Some}
+use Rattle.std.proofs.Common.{◌≡◌, refl, true, false, ◌<◌, ◌≤◌, ◌^◌, ℕ, List, ap, ◌∙◌, sym, subst, arith}
 use Rattle.std.specs.Prelude.{All}
 use Rattle.qrcode_bits.specs.declared.optimize.Segment.{Segment}
 use Rattle.qrcode_base.specs.declared.types.errors.QrError.TheVariants.{InvalidVersion}

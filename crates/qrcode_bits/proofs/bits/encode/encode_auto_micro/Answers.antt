@@ -1,13 +1,13 @@
 -- The first Micro version whose chosen plan fits is the choice.
-use Rattle.std.proofs.Common.{◌≡◌, ℕ, ◌+◌, List, sym, subst, refl, arith, true, false}
+use Rattle.std.proofs.Common.{◌≡◌, ℕ, ◌+◌, List, subst, arith, true, false}
 use Rattle.qrcode_base.specs.declared.types.Version.{Version}
 use Rattle.qrcode_bits.specs.declared.optimize.Segment.{Segment}
 use Rattle.qrcode_bits.specs.Parsing.{parsed}
 use Rattle.qrcode_bits.specs.Merging.{IsChosenPlan}
-use Rattle.qrcode_bits.specs.Choice.{micro, Fits, FitsNot}
+use Rattle.qrcode_bits.specs.Choice.{Fits, FitsNot}
 use Rattle.qrcode_bits.specs.Encoding.{IsPlanStream}
 use Rattle.qrcode_bits.proofs.Pairs.{bytes_valid}
-use Rattle.qrcode_bits.proofs.Choices.{micro_first, micro_next, micro_choice}
+use Rattle.qrcode_bits.proofs.Choices.{micro_next, micro_choice}
 use Rattle.qrcode_bits.proofs.Lengths.{long_for_micro}
 use Rattle.qrcode_bits.proofs.bits.encode.encode_auto_micro.Goals as goal
 

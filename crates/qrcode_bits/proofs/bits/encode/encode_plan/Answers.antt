@@ -1,8 +1,8 @@
 -- The parts of a plan that fits are spelled and ended; only memory can be wanting.
-use Rattle.std.proofs.Common.{rules, ◌≡◌, ℕ, List, length, arith, refl, subst, Ok, Err}
+use Rattle.std.proofs.Common.{rules, length, arith, Ok, Err}
 use Rattle.std.proofs.lemmas.Iterator.{YieldsList-from_slice}
 use Rattle.std.proofs.lemmas.Iterator.Consumers.{YieldsList-from_copied}
-use Rattle.qrcode_bits.specs.Pieces.{LiesIn, segment_pieces}
+use Rattle.qrcode_bits.specs.Pieces.{LiesIn}
 use Rattle.qrcode_bits.proofs.Pairs.{bytes_valid}
 use Rattle.qrcode_bits.proofs.Texts.{plan_lies}
 use Rattle.qrcode_bits.proofs.Listed.{given_all, pushes_all}

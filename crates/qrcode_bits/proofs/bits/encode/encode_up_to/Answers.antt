@@ -1,6 +1,6 @@
 -- The first class whose last version holds the chosen plan decides.
-use Rattle.std.proofs.Common.{◌≡◌, ℕ, List, drop, get_or, sym, subst, refl, arith}
-use Rattle.qrcode_bits.specs.Choice.{normal, FitsNot, FitsNone, ClassesUpTo}
+use Rattle.std.proofs.Common.{ℕ, List, get_or, sym, subst, arith}
+use Rattle.qrcode_bits.specs.Classes.{ClassesUpTo}
 use Rattle.qrcode_bits.proofs.Pairs.{bytes_valid}
 use Rattle.qrcode_bits.proofs.Choices.{none_before}
 use Rattle.qrcode_bits.proofs.Lengths.{long_message}
