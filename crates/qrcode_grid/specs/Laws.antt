@@ -1,5 +1,5 @@
 -- What holds of the definitions of a symbol's grid beyond what each says by itself.
-use Rattle.std.specs.Prelude.{IfSome, All, ◌≡◌, ◌≢◌, ℕ, pos, negsuc, ◌+◌, ◌-◌, ◌*◌, ◌%◌, ◌<◌, ◌≤◌, false, is_some}
+use Rattle.std.specs.Prelude.{Some, IfSome, All, ◌≡◌, ◌≢◌, ℕ, pos, negsuc, ◌+◌, ◌-◌, ◌*◌, ◌%◌, ◌<◌, ◌≤◌, false, is_some}
 use Rattle.qrcode_base.specs.declared.types.EcLevel.{EcLevel}
 use Rattle.qrcode_base.specs.declared.types.Version.{Version}
 use Rattle.qrcode_base.specs.declared.types.Version.TheVariants.{Normal, Micro}
