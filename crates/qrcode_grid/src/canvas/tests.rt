@@ -4,6 +4,7 @@ ghost use Rattle.qrcode_base.specs.Symbols.{IsSymbol};
 ghost use Rattle.qrcode_grid.specs.Penalty.{IsFirstLeastMask};
 
 use super::*;
+use crate::ec::construct_codewords;
 use qrcode_base::symbols::block_layout;
 use qrcode_base::types::QrError;
 
@@ -285,12 +286,27 @@ fn draws_12345(rt: HostRuntime) -> QrResult<()> {
     Ok(())
 }
 
+/// The grid of some padded data.
+fn grid(
+    alloc: Global,
+    bytes: &[u8],
+    version: Version,
+    level: EcLevel,
+) -> QrResult<(Vec<Color>, MaskPattern)>
+    requires { IsSymbol version level }
+    ensures mask { IfOk result (λ r. IsFirstLeastMask version level r.1 r.0.items) }
+{
+    let (codewords, correction) = construct_codewords(alloc, bytes, version, level)?;
+    let symbol = draw_symbol(alloc, version, level, &codewords, &correction)?;
+    Ok(symbol)
+}
+
 #[test]
 fn draws_symbols(rt: HostRuntime) -> QrResult<()> {
     let alloc = rt.alloc();
     let data = [0xA3, 0xDA, 0xD0];
     let correction = [0x6E, 0xC7];
-    let (colors, pattern) = draw_symbol(alloc, Version::Micro(1), EcLevel::L, &data, &correction)?;
+    let (colors, pattern) = grid(alloc, &data, Version::Micro(1), EcLevel::L)?;
     assert!(rt; pattern == MaskPattern::Diamonds);
     let same = draw_symbol_with_mask(
         alloc,
@@ -336,7 +352,10 @@ fn scores_written_canvases(rt: HostRuntime) -> QrResult<()> {
     let alloc = rt.alloc();
     let all = versions(alloc)?;
     for seed in 0..200u32 {
-        let version = all[seed as usize % 44];
+        let version = all
+            .get(seed as usize % 44)
+            .copied()
+            .unwrap_or(Version::Normal(1));
         let mut canvas = new_canvas(alloc, version, EcLevel::L)?;
         fill(&mut canvas, seed);
         assert!(rt; is_scored(alloc, &canvas)?, "{version:?}, seed {seed}");
@@ -446,7 +465,7 @@ fn fits_grid(alloc: Global, version: Version, level: EcLevel) -> QrResult<bool> 
     let data = usize::from(layout.first_size) * first + usize::from(layout.second_size) * second;
     let codewords = data + usize::from(layout.correction) * (first + second);
     let (left, missing) = left_over(version);
-    Ok(cells + missing == 8 * codewords + left)
+    Ok(cells.wrapping_add(missing) == codewords.wrapping_mul(8).wrapping_add(left))
 }
 
 #[test]
