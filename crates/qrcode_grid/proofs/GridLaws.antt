@@ -12,6 +12,7 @@ use Rattle.qrcode_grid.specs.Laws.{AreConsistentRegions, HasEveryAlignment, HasI
 use Rattle.qrcode_grid.proofs.Tests.{all_pass, passes, both}
 use Rattle.qrcode_grid.proofs.WalkLaws.{cell_number-numbered_cell, numbered_cell-cell_number, cell_number_below, numbered_cell_inside}
 use Rattle.qrcode_grid.proofs.Areas.{is_some-functional_color}
+use Rattle.qrcode_grid.proofs.RegionsAgree.{regions_say}
 use Rattle.qrcode_grid.proofs.DrawnSymbols.{odd_width, timing_inside}
 
 -- each centre coordinate is the one near the five coordinates around it, computed
@@ -100,7 +101,7 @@ has_its_alignments (Normal (negsuc n)) h = tt
 has_its_alignments (Micro z) h = tt
 
 pub consistent_regions : (version : Version) → IsVersion version → AreConsistentRegions version
-consistent_regions version h = record { areas = λ format x y l m. is_some-functional_color version format x y h l m }
+consistent_regions version h = record { areas = λ format x y l m. is_some-functional_color version format x y h l m; agree = λ format x y l m. regions_say version format x y h l m }
 
 pub walk_of : (version : Version) → IsVersion version → IsWalkOf version
 walk_of version h =

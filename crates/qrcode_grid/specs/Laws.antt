@@ -1,12 +1,12 @@
 -- What holds of the definitions of a symbol's grid beyond what each says by itself.
-use Rattle.std.specs.Prelude.{◌≡◌, ◌≢◌, ℕ, pos, negsuc, ◌+◌, ◌-◌, ◌*◌, ◌%◌, ◌<◌, ◌≤◌, false, is_some}
+use Rattle.std.specs.Prelude.{Some, IfSome, All, ◌≡◌, ◌≢◌, ℕ, pos, negsuc, ◌+◌, ◌-◌, ◌*◌, ◌%◌, ◌<◌, ◌≤◌, false, is_some}
 use Rattle.qrcode_base.specs.declared.types.EcLevel.{EcLevel}
 use Rattle.qrcode_base.specs.declared.types.Version.{Version}
 use Rattle.qrcode_base.specs.declared.types.Version.TheVariants.{Normal, Micro}
 use Rattle.qrcode_base.specs.Symbols.{width_of}
 use Rattle.qrcode_grid.specs.declared.canvas.MaskPattern.{MaskPattern}
 use Rattle.qrcode_grid.specs.Words.{normal_format_word, micro_format_word, version_word, differing_digits}
-use Rattle.qrcode_grid.specs.Regions.{functional_color, is_functional_cell, alignment, alignments, alignment_count, alignment_step, alignment_coordinate, alignment_coordinates, is_at_finder, ring}
+use Rattle.qrcode_grid.specs.Regions.{regions, functional_color, is_functional_cell, alignment, alignments, alignment_count, alignment_step, alignment_coordinate, alignment_coordinates, is_at_finder, ring}
 use Rattle.qrcode_grid.specs.Masks.{format_data, format_word}
 use Rattle.qrcode_grid.specs.Walk.{timing_column, cell_number, numbered_cell}
 
@@ -30,9 +30,15 @@ IsFarVersionWord (Micro z) = Unit {0}
 
 -- What any region says of a cell is its colour, and the cells that have one are those of the areas.
 pub record AreConsistentRegions (version : Version) : Type 0 where
-  pub areas : (format x y : ℕ) → x < width_of version → y < width_of version → is_some (functional_color version format x y) ≡ is_functional_cell version x y
+  pub areas :
+      (format x y : ℕ) → x < width_of version → y < width_of version →
+      is_some (functional_color version format x y) ≡ is_functional_cell version x y
+  pub agree :
+      (format x y : ℕ) → x < width_of version → y < width_of version →
+      All (λ says. IfSome says (λ c. functional_color version format x y ≡ Some c)) (regions version format x y)
 
--- Every pair of centre coordinates but the three at the finder patterns has its pattern, and the step is the least even one that reaches.
+-- Every pair of centre coordinates but the three at the finder patterns has its pattern, and the step is the least even
+-- one that reaches (but at version 32).
 pub record HasEveryAlignment (n : ℕ) : Type 0 where
   pub drawn :
       (i j x y : ℕ) → i < alignment_count n → j < alignment_count n → is_at_finder (4 * n + 17) (alignment_coordinate n i) (alignment_coordinate n j) ≡ false →
