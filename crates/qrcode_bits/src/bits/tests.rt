@@ -20,6 +20,7 @@ enum Push {
     Kanji(&'static [u8]),
     AlphanumericType(&'static [u8]),
     CarelessType(&'static [u8]),
+    StubbornType(&'static [u8]),
     Optimal(&'static [u8]),
     Terminator(EcLevel),
     Reserve(usize),
@@ -30,19 +31,34 @@ struct Careless;
 
 impl EncodingMode for Careless {
     ghost use Rattle.qrcode_base.specs.declared.types.Mode.TheVariants.{Numeric};
+    ghost use Rattle.std.specs.Prelude.{◌≡◌, None};
 
     ghost MODE = { Numeric };
 
     const MODE: Mode = Mode::Numeric;
 
-    ghost valid = { λ _. Unit {0} };
-
-    fn validate(_bytes: &[u8]) -> bool {
-        true
-    }
+    ghost answers = { λ _ first. first ≡ None };
 
     fn invalid_character(_bytes: &[u8]) -> Option<(usize, u8)> {
         None
+    }
+}
+
+/// A mode type that always finds the same byte, which need not be there.
+struct Stubborn;
+
+impl EncodingMode for Stubborn {
+    ghost use Rattle.qrcode_base.specs.declared.types.Mode.TheVariants.{Byte};
+    ghost use Rattle.std.specs.Prelude.{◌≡◌, Some};
+
+    ghost MODE = { Byte };
+
+    const MODE: Mode = Mode::Byte;
+
+    ghost answers = { λ _ first. first ≡ Some (9, 122) };
+
+    fn invalid_character(_bytes: &[u8]) -> Option<(usize, u8)> {
+        Some((9, 0x7a))
     }
 }
 
@@ -63,6 +79,7 @@ impl Push {
             Push::Kanji(text) => bits.push_kanji_data(text),
             Push::AlphanumericType(text) => bits.push_mode_data::<AlphanumericMode>(text),
             Push::CarelessType(text) => bits.push_mode_data::<Careless>(text),
+            Push::StubbornType(text) => bits.push_mode_data::<Stubborn>(text),
             Push::Optimal(text) => bits.push_optimal_data(text),
             Push::Terminator(level) => bits.push_terminator(level),
             Push::Reserve(room) => bits.reserve(room),
@@ -375,6 +392,18 @@ fn refusals_and_unusual_orders(rt: HostRuntime) -> QrResult<()> {
             QrError::InvalidCharacter {
                 position: 1,
                 byte: 0x61,
+            },
+            0,
+            0,
+            &[],
+        ),
+        refused(
+            ONE,
+            &[],
+            Push::StubbornType(b"a"),
+            QrError::InvalidCharacter {
+                position: 9,
+                byte: 0x7a,
             },
             0,
             0,
