@@ -6,21 +6,35 @@ ghost use Rattle.qrcode_grid.specs.Lanes.{byte_of};
 ghost use Rattle.qrcode_grid.specs.Masks.{drawn_over, format_color, is_inverted, masked, masked_cell, masked_cells};
 ghost use Rattle.qrcode_grid.specs.Penalty.{modules_penalty};
 
-use crate::canvas::drawing::drawn;
 use crate::canvas::masks::inverts;
 use crate::canvas::penalty::{penalty_of_micro, penalty_of_normal};
 use crate::canvas::regions::format_color_at;
 use crate::canvas::{MaskPattern, Module};
 use qrcode_base::types::{Color, Version};
 
-/// The colour of a module as a byte.
-fn byte_of_module(cell: Module) -> u8
-    ensures { result ≡ byte_of (color_of_module cell) }
+/// A colour as a byte.
+fn byte_of_color(color: Color) -> u8
+    ensures { result ≡ byte_of color }
 {
-    match cell {
-        Module::Masked(Color::Dark) | Module::Unmasked(Color::Dark) => 1,
-        _ => 0,
+    match color {
+        Color::Dark => 1,
+        Color::Light => 0,
     }
+}
+
+/// The colour of a module after masking, as a byte.
+fn masked_byte(cell: Module, inverted: bool) -> u8
+    ensures { result ≡ byte_of (color_of_module (masked inverted cell)) }
+{
+    let is_dark = match cell {
+        Module::Masked(Color::Dark) | Module::Unmasked(Color::Dark) => true,
+        _ => false,
+    };
+    let turns = match cell {
+        Module::Masked(_) => false,
+        _ => inverted,
+    };
+    u8::from(is_dark != turns)
 }
 
 /// The first six cells of a row, where a pattern inverts them. Each later cell is like the sixth before it.
@@ -59,8 +73,10 @@ fn candidate_byte(
     requires { 9 ≤ width }
     ensures { result ≡ byte_of (color_of_module (drawn_over (format_color version width format x y) (masked inverted old))) }
 {
-    let color = format_color_at(version, width, format, x, y);
-    byte_of_module(drawn(color, old.mask(inverted)))
+    match format_color_at(version, width, format, x, y) {
+        Some(color) => byte_of_color(color),
+        None => masked_byte(old, inverted),
+    }
 }
 
 /// Writes the colours of a row of the modules under a mask, as bytes. What comes before it stays.
