@@ -1,4 +1,4 @@
--- The modules before the cell are written.
+-- The rows before this one are written.
 use Rattle.std.proofs.Common.{◌≡◌, ◌<◌, ◌+◌, ◌*◌, ◌/◌, ◌%◌, ℕ, get_or}
 use Rattle.qrcode_grid.specs.declared.canvas.Module.TheVariants.{Empty}
 use Rattle.qrcode_grid.specs.Canvas.{color_of_module}
@@ -6,9 +6,5 @@ use Rattle.qrcode_grid.specs.Lanes.{byte_of}
 use Rattle.qrcode_grid.specs.Masks.{masked_cell}
 use Rattle.qrcode_grid.proofs.canvas.candidates.write_candidate.Given as goal
 
-abbrev pub invariant-loop-i : goal.invariant-loop-i
-invariant-loop-i l = record {
-  written : (k : ℕ) → k < l.i → get_or l.candidate k 0 ≡ byte_of (color_of_module (masked_cell l.version l.width l.format l.pattern (k % l.width) (k / l.width) (get_or l.modules k Empty)));
-  column : l.x < l.width;
-  place : l.y * l.width + l.x ≡ l.i;
-}
+abbrev pub invariant-loop-y : goal.invariant-loop-y
+invariant-loop-y l = (k : ℕ) → k < l.y * l.width → get_or l.candidate k 0 ≡ byte_of (color_of_module (masked_cell l.version l.width l.format l.pattern (k % l.width) (k / l.width) (get_or l.modules k Empty)))
