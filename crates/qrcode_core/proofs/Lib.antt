@@ -10,3 +10,7 @@ pub mod BlocksApart
 pub mod GridsApart
 pub mod Best
 pub mod StreamEncoding
+mod RowCounts
+mod TextMaps
+mod StepLemmas
+mod RegistrationLemmas

@@ -4,3 +4,15 @@ pub mod Layers
 pub mod Headline
 pub use Rattle.qrcode_base.specs.ErrorTexts
 pub use Rattle.qrcode_base.specs.Names
+pub mod Grids
+pub mod Views
+pub mod Budgets
+pub mod Texts
+pub mod Configs
+pub mod Outputs
+pub mod LentModules
+pub mod PluginErrors
+pub mod Steps
+pub mod Registered
+pub mod Registries
+pub mod NamesLeft

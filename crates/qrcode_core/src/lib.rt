@@ -1,4 +1,4 @@
-//! QR codes and Micro QR codes: from bytes to a grid of light and dark modules.
+//! QR codes and Micro QR codes: from bytes to a grid of light and dark modules, with views of grids and a registry of renderers.
 #![tactic(auto)]
 
 pub use qrcode_base::{cast, mode, types, version};
@@ -6,8 +6,28 @@ pub use qrcode_bits::{bits, optimize};
 pub use qrcode_grid::{canvas, ec};
 
 pub mod laws;
+pub mod limits;
+pub mod plugin;
+pub mod symbol;
+pub mod traits;
+
+pub use limits::{DEFAULT_MAX_DATA_LENGTH, DEFAULT_MAX_RENDER_SIZE, ResourceLimits};
+pub use plugin::{
+    DynEncoder, DynRenderer, EncodeConfig, EncodedOutput, ModuleGrid, Names, PluginError,
+    PluginRegistry, PostProcessor, QrPlugin, RenderConfig, RenderOutput,
+};
+pub use qrcode_base::cast::{As, Truncate};
+pub use qrcode_base::mode::{AlphanumericMode, ByteMode, EncodingMode, KanjiMode, NumericMode};
+pub use qrcode_base::types::{Color, EcLevel, Mode, QrError, QrResult, Version};
+pub use qrcode_base::version::{ConstVersion, StaticVersion};
+pub use qrcode_bits::bits::EncodingModes;
+pub use traits::{
+    Builder, Encoder, ModuleSource, ModuleStorage, ModuleView, QrCodeRef, QrSymbol, Renderer,
+};
+
 #[cfg(test)]
 mod plain_reader;
-pub mod symbol;
 #[cfg(test)]
 mod tests;
+#[cfg(test)]
+mod view_tests;

@@ -1,0 +1,74 @@
+-- A tree of strings, read as a map from texts: what `insert` and `get` do to it.
+use Rattle.std.proofs.Common.{ℕ, ◌≡◌, List, [], ◌∷◌, Some, option_map, true, false, cond, refl, ap, subst, sym, String, map}
+use Rattle.std.specs.List.{AllZip, AllByRecursion}
+use Rattle.std.specs.List.Sorted.{IsStrictlySortedBy}
+use Rattle.std.specs.declared.cmp.Ordering.TheVariants.{Less, Equal, Greater}
+use Rattle.std.specs.declared.alloc.Global.{Global}
+use Rattle.std.specs.Ordering.{match_ordering}
+use Rattle.std.specs.String.{string_bytes, string_cmp}
+use Rattle.std.specs.BTreeMap.{insert_entry, is_at}
+use Rattle.std.specs.Map.{lookup, keys_of}
+use Rattle.qrcode_core.specs.Texts.{TextMap, text_cmp, text_entries, text_values, with_entry, at_key, key_texts}
+
+-- what `insert` makes of the entries
+pub text_entries_insert : {V : Type 0} (es : List (String Global × V)) (k : String Global) (v : V) → text_entries (insert_entry string_cmp es k v) ≡ with_entry (text_entries es) (string_bytes k) v
+text_entries_insert [] k v = refl
+text_entries_insert {V = V} (e ∷ es) k v =
+    elim (text_cmp (string_bytes k) (string_bytes e.0)) as (λ o. text_entries (match_ordering o ((k, v) ∷ e ∷ es) ((e.0, v) ∷ es) (e ∷ insert_entry string_cmp es k v)) ≡ match_ordering o ((string_bytes k, v) ∷ text_entries (e ∷ es)) ((string_bytes e.0, v) ∷ text_entries es) ((string_bytes e.0, e.1) ∷ with_entry (text_entries es) (string_bytes k) v))
+    [ Less ↦ refl | Equal ↦ refl | Greater ↦ ap (λ (t : TextMap V). (string_bytes e.0, e.1) ∷ t) (text_entries_insert es k v) ]
+
+-- what a look-up by a text finds
+pub text_entries_lookup : {V : Type 0} (bs : List ℕ) (es : List (String Global × V)) → at_key (text_entries es) bs ≡ lookup (is_at (λ k. text_cmp bs (string_bytes k))) es
+text_entries_lookup bs [] = refl
+text_entries_lookup bs (e ∷ es) = ap (cond (is_at (text_cmp bs) (string_bytes e.0)) (Some e.1)) (text_entries_lookup bs es)
+
+-- the same where the values are read as texts too
+pub text_values_insert : (m : TextMap (String Global)) (k : List ℕ) (v : String Global) → text_values (with_entry m k v) ≡ with_entry (text_values m) k (string_bytes v)
+text_values_insert [] k v = refl
+text_values_insert (e ∷ es) k v =
+    elim (text_cmp k e.0) as (λ o. text_values (match_ordering o ((k, v) ∷ e ∷ es) ((e.0, v) ∷ es) (e ∷ with_entry es k v)) ≡ match_ordering o ((k, string_bytes v) ∷ text_values (e ∷ es)) ((e.0, string_bytes v) ∷ text_values es) ((e.0, string_bytes e.1) ∷ with_entry (text_values es) k (string_bytes v)))
+    [ Less ↦ refl | Equal ↦ refl | Greater ↦ ap (λ (t : TextMap (List ℕ)). (e.0, string_bytes e.1) ∷ t) (text_values_insert es k v) ]
+
+pub text_values_lookup : (bs : List ℕ) (m : TextMap (String Global)) → at_key (text_values m) bs ≡ option_map string_bytes (at_key m bs)
+text_values_lookup bs [] = refl
+text_values_lookup bs (e ∷ es) =
+    elim (is_at (text_cmp bs) e.0) as (λ b. cond b (Some (string_bytes e.1)) (at_key (text_values es) bs) ≡ option_map string_bytes (cond b (Some e.1) (at_key es bs)))
+    [ true ↦ refl | false ↦ text_values_lookup bs es ]
+
+-- the names of a tree of strings
+pub text_entries_keys : {V : Type 0} (es : List (String Global × V)) → map string_bytes (keys_of es) ≡ key_texts (text_entries es)
+text_entries_keys [] = refl
+text_entries_keys (e ∷ es) = ap (λ (ks : List (List ℕ)). string_bytes e.0 ∷ ks) (text_entries_keys es)
+
+-- the same where the values are read as texts too
+pub text_values_keys : (m : TextMap (String Global)) → key_texts (text_values m) ≡ key_texts m
+text_values_keys [] = refl
+text_values_keys (e ∷ es) = ap (λ (ks : List (List ℕ)). e.0 ∷ ks) (text_values_keys es)
+
+-- a tree whose strings have the same bytes
+pub text_values_clone : (es fs : List (String Global × String Global))
+    → AllZip (λ p q. (string_bytes q.0 ≡ string_bytes p.0) × (string_bytes q.1 ≡ string_bytes p.1)) es fs
+    → text_values (text_entries fs) ≡ text_values (text_entries es)
+text_values_clone [] [] same = refl
+text_values_clone [] (f ∷ fs) same = absurd same
+text_values_clone (e ∷ es) [] same = absurd same
+text_values_clone (e ∷ es) (f ∷ fs) same = rw (same.0.0, same.0.1, text_values_clone es fs same.1) refl
+
+-- strings after one string, read as texts
+texts_after : (k : String Global) (ks : List (String Global))
+    → AllByRecursion (λ (y : String Global). string_cmp k y ≡ Less) ks
+    → AllByRecursion (λ (bs : List ℕ). text_cmp (string_bytes k) bs ≡ Less) (map string_bytes ks)
+texts_after k [] after = tt
+texts_after k (x ∷ ks) after = (after.0, texts_after k ks after.1)
+
+strings_sorted : (ks : List (String Global)) → IsStrictlySortedBy string_cmp ks → IsStrictlySortedBy text_cmp (map string_bytes ks)
+unfolding IsStrictlySortedBy
+strings_sorted [] sorted = tt
+strings_sorted (k ∷ ks) sorted = (texts_after k ks sorted.0, strings_sorted ks sorted.1)
+
+-- the names of strings in order are in order
+pub texts_sorted : (names : List (List ℕ)) (ks : List (String Global))
+    → names ≡ map string_bytes ks → IsStrictlySortedBy string_cmp ks → IsStrictlySortedBy text_cmp names
+texts_sorted names ks are sorted =
+    let P : List (List ℕ) → Type 0 = λ ns. IsStrictlySortedBy text_cmp ns in
+    subst P (sym are) (strings_sorted ks sorted)

@@ -1,0 +1,39 @@
+//! The names in a registry's map, in the order of their bytes.
+ghost use Rattle.std.specs.Prelude.{◌≡◌, map};
+ghost use Rattle.std.specs.Iterator.{item_count, YieldsFirstRef};
+ghost use Rattle.std.specs.String.{string_bytes};
+ghost use Rattle.qrcode_core.specs.NamesLeft.{names_left};
+
+use std::collections::btree_map::Keys;
+use std::iter::FusedIterator;
+
+/// Gives each name of a registry's map once, in the order of their bytes.
+#[derive(Drop)]
+pub struct Names<'a, V> {
+    keys: Keys<'a, String, V>,
+}
+
+impl<'a, V> Names<'a, V> {
+    pub(crate) fn new(keys: Keys<'a, String, V>) -> Names<'a, V>
+        ensures { names_left result ≡ map string_bytes keys.entry }
+    {
+        Names { keys }
+    }
+}
+
+impl<'a, V> Iterator for Names<'a, V> {
+    type Item = &'a str;
+
+    ghost next_gives = { YieldsFirstRef names_left };
+
+    ghost remaining = { item_count names_left };
+
+    fn next(&mut self) -> Option<&'a str> {
+        match self.keys.next() {
+            Some(key) => Some(key.as_str()),
+            None => None,
+        }
+    }
+}
+
+impl<'a, V> FusedIterator for Names<'a, V> {}

@@ -1,0 +1,202 @@
+//! How a caller registers objects.
+ghost use Rattle.std.specs.Prelude.{◌≡◌, [], ◌∷◌, map, IfOk, OnOk, OnErr, IsOkUnless};
+ghost use Rattle.std.specs.String.{string_bytes};
+ghost use Rattle.qrcode_core.specs.Registered.{Registers, with_registration, version_of, renderer_of, encoder_of, postprocessor_of};
+ghost use Rattle.qrcode_core.specs.Registries.{registered, registrations, named_renderer, named_encoder};
+ghost use Rattle.qrcode_core.specs.Texts.{at_key};
+ghost use Rattle.qrcode_core.specs.declared.plugin.error.PluginError.TheVariants.{OutOfMemory};
+
+use crate::plugin::error::PluginError;
+use crate::plugin::registry::{PluginRegistry, QrPlugin};
+use crate::plugin::{DynEncoder, DynRenderer, PostProcessor};
+
+impl PluginRegistry {
+    /// Registers all of a plugin: its name and version, then its renderers, encoders and postprocessors, each list in
+    /// order. An object whose name was taken is dropped for the new one. Without memory the registrations so far
+    /// stay, and the others are dropped.
+    pub fn register_plugin(&mut self, plugin: QrPlugin) -> Result<(), PluginError>
+        ensures { Registers (registered self.old) (registrations plugin)
+            result (registered self.new) }
+    {
+        let QrPlugin {
+            name,
+            version,
+            renderers,
+            encoders,
+            postprocessors,
+        } = plugin;
+        if let Err(e) = self.put_version(name, version) {
+            return Err(e);
+        }
+        if let Err(e) = self.put_renderers(renderers) {
+            return Err(e);
+        }
+        if let Err(e) = self.put_encoders(encoders) {
+            return Err(e);
+        }
+        self.put_postprocessors(postprocessors)
+    }
+
+    /// Registers a renderer, and gives back the one that had the name. Without memory nothing changes, and the
+    /// renderer is dropped.
+    pub fn register_renderer(
+        &mut self,
+        name: &str,
+        renderer: Box<dyn DynRenderer>,
+    ) -> Result<Option<Box<dyn DynRenderer>>, PluginError>
+        ensures ok { OnOk result
+            (registered self.new ≡ with_registration (registered self.old) (renderer_of name.now renderer)) }
+        ensures replaced { IfOk result (λ old. old ≡ at_key (registered self.old).renderers name.now) }
+        ensures refused { OnErr result (registered self.new ≡ registered self.old) }
+        ensures memory { IsOkUnless result OutOfMemory }
+    {
+        let key = String::from_str(self.alloc, name)?;
+        let replaced = self.insert_renderer(key, renderer)?;
+        Ok(replaced)
+    }
+
+    /// Registers an encoder, and gives back the one that had the name. Without memory nothing changes, and the
+    /// encoder is dropped.
+    pub fn register_encoder(
+        &mut self,
+        name: &str,
+        encoder: Box<dyn DynEncoder>,
+    ) -> Result<Option<Box<dyn DynEncoder>>, PluginError>
+        ensures ok { OnOk result
+            (registered self.new ≡ with_registration (registered self.old) (encoder_of name.now encoder)) }
+        ensures replaced { IfOk result (λ old. old ≡ at_key (registered self.old).encoders name.now) }
+        ensures refused { OnErr result (registered self.new ≡ registered self.old) }
+        ensures memory { IsOkUnless result OutOfMemory }
+    {
+        let key = String::from_str(self.alloc, name)?;
+        let replaced = self.insert_encoder(key, encoder)?;
+        Ok(replaced)
+    }
+
+    /// Registers a postprocessor after all others. Without memory nothing changes, and the postprocessor is dropped.
+    pub fn register_postprocessor(
+        &mut self,
+        postprocessor: Box<dyn PostProcessor>,
+    ) -> Result<(), PluginError>
+        ensures ok { OnOk result
+            (registered self.new ≡ with_registration (registered self.old) (postprocessor_of postprocessor)) }
+        ensures refused { OnErr result (registered self.new ≡ registered self.old) }
+        ensures memory { IsOkUnless result OutOfMemory }
+    {
+        self.postprocessors.push(postprocessor)?;
+        Ok(())
+    }
+
+    #[tactic(auto, using(crate::proofs::TextMaps::text_entries_insert, crate::proofs::TextMaps::text_values_insert))]
+    fn put_version(&mut self, name: String, version: String) -> Result<(), PluginError>
+        ensures { Registers (registered self.old) (version_of (string_bytes name) (string_bytes version) ∷ [])
+            result (registered self.new) }
+    {
+        match self.plugins.insert(name, version) {
+            Ok(_) => Ok(()),
+            Err(_) => Err(PluginError::OutOfMemory),
+        }
+    }
+
+    fn insert_renderer(
+        &mut self,
+        name: String,
+        renderer: Box<dyn DynRenderer>,
+    ) -> Result<Option<Box<dyn DynRenderer>>, PluginError>
+        ensures ok { OnOk result
+            (registered self.new ≡ with_registration (registered self.old) (renderer_of (string_bytes name) renderer)) }
+        ensures replaced { IfOk result (λ old. old ≡ at_key (registered self.old).renderers (string_bytes name)) }
+        ensures refused { OnErr result (registered self.new ≡ registered self.old) }
+        ensures memory { IsOkUnless result OutOfMemory }
+    {
+        let replaced = self.renderers.insert(name, renderer)?;
+        Ok(replaced)
+    }
+
+    fn put_renderers(&mut self, all: Vec<(String, Box<dyn DynRenderer>)>) -> Result<(), PluginError>
+        ensures { Registers (registered self.old) (map named_renderer all.items)
+            result (registered self.new) }
+    {
+        for (name, renderer) in all {
+            match self.put_renderer(name, renderer) {
+                Ok(()) => {}
+                Err(e) => return Err(e),
+            }
+        }
+        Ok(())
+    }
+
+    fn put_renderer(
+        &mut self,
+        name: String,
+        renderer: Box<dyn DynRenderer>,
+    ) -> Result<(), PluginError>
+        ensures { Registers (registered self.old) (renderer_of (string_bytes name) renderer ∷ [])
+            result (registered self.new) }
+    {
+        self.insert_renderer(name, renderer)?;
+        Ok(())
+    }
+
+    fn insert_encoder(
+        &mut self,
+        name: String,
+        encoder: Box<dyn DynEncoder>,
+    ) -> Result<Option<Box<dyn DynEncoder>>, PluginError>
+        ensures ok { OnOk result
+            (registered self.new ≡ with_registration (registered self.old) (encoder_of (string_bytes name) encoder)) }
+        ensures replaced { IfOk result (λ old. old ≡ at_key (registered self.old).encoders (string_bytes name)) }
+        ensures refused { OnErr result (registered self.new ≡ registered self.old) }
+        ensures memory { IsOkUnless result OutOfMemory }
+    {
+        let replaced = self.encoders.insert(name, encoder)?;
+        Ok(replaced)
+    }
+
+    fn put_encoders(&mut self, all: Vec<(String, Box<dyn DynEncoder>)>) -> Result<(), PluginError>
+        ensures { Registers (registered self.old) (map named_encoder all.items)
+            result (registered self.new) }
+    {
+        for (name, encoder) in all {
+            match self.put_encoder(name, encoder) {
+                Ok(()) => {}
+                Err(e) => return Err(e),
+            }
+        }
+        Ok(())
+    }
+
+    fn put_encoder(&mut self, name: String, encoder: Box<dyn DynEncoder>) -> Result<(), PluginError>
+        ensures { Registers (registered self.old) (encoder_of (string_bytes name) encoder ∷ [])
+            result (registered self.new) }
+    {
+        self.insert_encoder(name, encoder)?;
+        Ok(())
+    }
+
+    fn put_postprocessors(&mut self, all: Vec<Box<dyn PostProcessor>>) -> Result<(), PluginError>
+        ensures { Registers (registered self.old) (map postprocessor_of all.items)
+            result (registered self.new) }
+    {
+        for postprocessor in all {
+            match self.put_postprocessor(postprocessor) {
+                Ok(()) => {}
+                Err(e) => return Err(e),
+            }
+        }
+        Ok(())
+    }
+
+    fn put_postprocessor(
+        &mut self,
+        postprocessor: Box<dyn PostProcessor>,
+    ) -> Result<(), PluginError>
+        ensures { Registers (registered self.old) (postprocessor_of postprocessor ∷ [])
+            result (registered self.new) }
+    {
+        match self.postprocessors.push(postprocessor) {
+            Ok(()) => Ok(()),
+            Err(_) => Err(PluginError::OutOfMemory),
+        }
+    }
+}

@@ -1,0 +1,542 @@
+//! Views, limits, and a registry with objects of the tests' own.
+ghost use Rattle.std.specs.Prelude.{◌≡◌, length, Ok};
+ghost use Rattle.qrcode_core.specs.Grids.{grid_of};
+
+use crate::limits::ResourceLimits;
+use crate::plugin::{
+    DynEncoder, DynRenderer, EncodeConfig, EncodedOutput, ModuleGrid, PluginError, PluginRegistry,
+    PostProcessor, QrPlugin, RenderConfig, RenderOutput,
+};
+use crate::traits::{
+    Builder, Encoder, ModuleSource, ModuleStorage, ModuleView, QrCodeRef, QrSymbol, Renderer,
+};
+use qrcode_base::types::{Color, EcLevel, QrError, Version};
+use std::alloc::{AllocError, Global};
+use std::test::Fail;
+
+/// The symbol of `12345` in M1, a row a number, dark as one.
+const SYMBOL: [u16; 11] = [
+    0b11111110101,
+    0b10000010110,
+    0b10111010100,
+    0b10111010000,
+    0b10111010111,
+    0b10000010011,
+    0b11111110100,
+    0b00000000011,
+    0b11001110011,
+    0b01010001100,
+    0b11110000011,
+];
+
+/// What is printed of it.
+const PRINTED: [&str; 11] = [
+    "#######.#.#",
+    "#.....#.##.",
+    "#.###.#.#..",
+    "#.###.#....",
+    "#.###.#.###",
+    "#.....#..##",
+    "#######.#..",
+    ".........##",
+    "##..###..##",
+    ".#.#...##..",
+    "####.....##",
+];
+
+/// A list of colors, dark where the text has `#`.
+fn colors(alloc: Global, text: &str) -> Result<Vec<Color>, AllocError> {
+    let mut list = Vec::new(alloc);
+    for byte in text.as_bytes() {
+        list.push(if *byte == b'#' {
+            Color::Dark
+        } else {
+            Color::Light
+        })?;
+    }
+    Ok(list)
+}
+
+/// The colors of the symbol.
+fn symbol_colors(alloc: Global) -> Result<Vec<Color>, AllocError> {
+    let mut list = Vec::new(alloc);
+    for row in SYMBOL {
+        for column in 0..11u32 {
+            let is_dark = (row >> (10 - column)) & 1 == 1;
+            list.push(if is_dark { Color::Dark } else { Color::Light })?;
+        }
+    }
+    Ok(list)
+}
+
+/// A text with a mark for each module: `dark` for a dark one, and a point for a light one.
+fn text_of_marks(alloc: Global, modules: &[Color], dark: &str) -> Result<String, AllocError> {
+    let mut text = String::new(alloc);
+    for color in modules {
+        text.push_str(color.select(dark, "."))?;
+    }
+    Ok(text)
+}
+
+/// Four modules.
+#[derive(Drop)]
+struct Square {
+    modules: [Color; 4],
+}
+
+impl ModuleStorage for Square {
+    ghost grid = { λ s. grid_of s.modules 2 2 };
+
+    fn get(&self, x: usize, y: usize) -> Color {
+        self.modules[y * 2 + x]
+    }
+
+    fn set(&mut self, x: usize, y: usize, color: Color) {
+        self.modules[y * 2 + x] = color;
+    }
+
+    fn width(&self) -> usize {
+        2
+    }
+
+    fn height(&self) -> usize {
+        2
+    }
+
+    fn modules(&self) -> &[Color] {
+        &self.modules
+    }
+}
+
+/// Renders a mark for each module.
+struct Marks;
+
+impl<Code: ModuleSource> Renderer<Code> for Marks {
+    type Output = String;
+
+    type Error = AllocError;
+
+    ghost renders = { λ _ _ _. Unit {0} };
+
+    fn render(&self, alloc: Global, code: &Code) -> Result<String, AllocError> {
+        text_of_marks(alloc, code.modules(), "#")
+    }
+}
+
+/// Counts bytes.
+struct Count;
+
+impl Encoder for Count {
+    type Output = usize;
+
+    type Error = QrError;
+
+    ghost encodes = { λ _ input r. r ≡ Ok (length input) };
+
+    fn encode(&self, _alloc: Global, input: &[u8]) -> Result<usize, QrError> {
+        Ok(input.len())
+    }
+}
+
+/// Builds a grid of one module.
+#[derive(Drop)]
+struct Lone(Color);
+
+impl Builder for Lone {
+    type Output = ModuleGrid;
+
+    type Error = PluginError;
+
+    ghost builds = { λ _ _. Unit {0} };
+
+    fn build(self, alloc: Global) -> Result<ModuleGrid, PluginError> {
+        let mut modules = Vec::new(alloc);
+        modules.push(self.0)?;
+        ModuleGrid::new(modules, 1, 1)
+    }
+}
+
+/// Renders a mark for each module, with the option `dark` for dark ones; refuses the option `light`.
+#[derive(Drop)]
+struct Text;
+
+impl DynRenderer for Text {
+    ghost renders = { λ _ _ _ _. Unit {0} };
+
+    ghost validates = { λ _ _ _. Unit {0} };
+
+    fn render(
+        &self,
+        alloc: Global,
+        code: &dyn ModuleSource,
+        config: &RenderConfig,
+    ) -> Result<RenderOutput, PluginError> {
+        let dark = config.option("dark").unwrap_or("#");
+        Ok(RenderOutput::Text(text_of_marks(alloc, code.modules(), dark)?))
+    }
+
+    fn validate_config(&self, alloc: Global, config: &RenderConfig) -> Result<(), PluginError> {
+        match config.option("light") {
+            Some(_) => Err(PluginError::InvalidConfig(String::from_str(alloc, "light")?)),
+            None => Ok(()),
+        }
+    }
+}
+
+/// Encodes bytes as they are.
+#[derive(Drop)]
+struct Plain;
+
+impl DynEncoder for Plain {
+    ghost encodes = { λ _ _ _ _. Unit {0} };
+
+    fn encode(
+        &self,
+        alloc: Global,
+        input: &[u8],
+        _config: &EncodeConfig,
+    ) -> Result<EncodedOutput, PluginError> {
+        Ok(EncodedOutput::Bytes(Vec::from_slice(alloc, input)?))
+    }
+}
+
+/// Sets a module of the top row dark.
+#[derive(Drop)]
+struct Darken {
+    x: usize,
+}
+
+impl PostProcessor for Darken {
+    ghost processes = { λ _ _ _ _. Unit {0} };
+
+    fn process(&self, _alloc: Global, modules: &mut dyn ModuleStorage) -> Result<(), PluginError> {
+        if self.x < modules.width() && 0 < modules.height() {
+            modules.set(self.x, 0, Color::Dark);
+        }
+        Ok(())
+    }
+}
+
+/// Refuses with `boom`.
+#[derive(Drop)]
+struct Boom;
+
+impl PostProcessor for Boom {
+    ghost processes = { λ _ _ _ _. Unit {0} };
+
+    fn process(&self, alloc: Global, _modules: &mut dyn ModuleStorage) -> Result<(), PluginError> {
+        Err(PluginError::PostProcessFailed(String::from_str(alloc, "boom")?))
+    }
+}
+
+/// A grid of the modules that the text shows.
+fn grid_of_text(
+    alloc: Global,
+    text: &str,
+    width: usize,
+    height: usize,
+) -> Result<ModuleGrid, PluginError> {
+    ModuleGrid::new(colors(alloc, text)?, width, height)
+}
+
+/// The plugin `demo` with a renderer `text`, an encoder `length` and a postprocessor.
+fn demo(
+    alloc: Global,
+    renderer: Box<dyn DynRenderer>,
+    encoder: Box<dyn DynEncoder>,
+    postprocessor: Box<dyn PostProcessor>,
+) -> Result<QrPlugin, PluginError> {
+    Ok(QrPlugin {
+        name: String::from_str(alloc, "demo")?,
+        version: String::from_str(alloc, "0.1.0")?,
+        renderers: Vec::from_array(alloc, [(String::from_str(alloc, "text")?, renderer)])?,
+        encoders: Vec::from_array(alloc, [(String::from_str(alloc, "length")?, encoder)])?,
+        postprocessors: Vec::from_array(alloc, [postprocessor])?,
+    })
+}
+
+/// What the renderer `text` prints of two by two modules.
+fn printed(
+    registry: &PluginRegistry,
+    alloc: Global,
+    config: &RenderConfig,
+) -> Result<RenderOutput, PluginError> {
+    let grid = grid_of_text(alloc, "#..#", 2, 2)?;
+    match registry.build_renderer("text", config).ok() {
+        Some(renderer) => renderer.render(alloc, &grid, config),
+        None => Err(PluginError::InvalidModuleGrid),
+    }
+}
+
+/// The texts of the errors, with `x` as the kept text.
+const ERROR_TEXTS: [&str; 8] = [
+    "renderer plugin not found: x",
+    "encoder plugin not found: x",
+    "invalid plugin config: x",
+    "invalid module grid",
+    "renderer plugin failed: x",
+    "encoder plugin failed: x",
+    "postprocessor plugin failed: x",
+    "out of memory",
+];
+
+/// The errors in the order of their texts.
+fn error_with(number: usize, text: String) -> PluginError {
+    match number {
+        0 => PluginError::RendererNotFound(text),
+        1 => PluginError::EncoderNotFound(text),
+        2 => PluginError::InvalidConfig(text),
+        3 => PluginError::InvalidModuleGrid,
+        4 => PluginError::RenderFailed(text),
+        5 => PluginError::EncodeFailed(text),
+        6 => PluginError::PostProcessFailed(text),
+        _ => PluginError::OutOfMemory,
+    }
+}
+
+#[test]
+fn limits_are_validated(rt: HostRuntime) {
+    let normal = Version::Normal(40);
+    for (version, size, time, want) in [
+        (normal, (4096, 4096), None, true),
+        (Version::Normal(1), (1, 1), Some(1), true),
+        (Version::Normal(0), (1, 1), None, false),
+        (Version::Normal(41), (1, 1), None, false),
+        (Version::Micro(4), (1, 1), None, false),
+        (normal, (0, 1), None, false),
+        (normal, (1, 0), None, false),
+        (normal, (1, 1), Some(0), false),
+    ] {
+        let mut limits = ResourceLimits::new(7089, version, size);
+        if let Some(millis) = time {
+            limits = limits.with_encoding_timeout_millis(millis);
+        }
+        assert_eq!(rt; limits.validate().is_ok(), want);
+    }
+    let default = ResourceLimits::new(7089, normal, (4096, 4096));
+    assert_eq!(rt; ResourceLimits::default(), default);
+}
+
+#[test]
+fn views_lend_rows(rt: HostRuntime) -> Result<(), Fail> {
+    let list = colors(rt.alloc(), "##..#.#.#")?;
+    let view = ModuleView::new(&list, 3).ok_or("no view")?;
+    let lower = view.row_range(1, 3).ok_or("no rows")?;
+    assert!(rt; lower.modules() == &list[3..] && lower.height() == 2 && lower.width() == 3);
+    assert!(rt; view.row_range(2, 2).is_none() && view.row_range(2, 4).is_none());
+    assert!(rt; view.row(1) == &list[3..6] && view.get(1, 1) == Color::Dark && !view.is_empty());
+    assert!(rt; ModuleView::new(&list, 4).is_none() && ModuleView::new(&[], 0).is_none());
+    assert!(rt; ModuleView::new_rect(&list, usize::MAX, 2).is_none());
+    Ok(())
+}
+
+#[test]
+fn lent_symbols_keep_version_and_level(rt: HostRuntime) -> Result<(), Fail> {
+    let list = symbol_colors(rt.alloc())?;
+    let micro = QrCodeRef::new(&list, 11, Version::Micro(1), EcLevel::L).ok_or("no symbol")?;
+    assert!(rt; micro.version() == Version::Micro(1) && micro.quiet_zone() == 2);
+    assert!(rt; micro.error_correction_level() == EcLevel::L);
+    assert!(rt; micro.module_view() == ModuleView::new(&list, 11).ok_or("no view")?);
+    let normal = QrCodeRef::new(&list, 11, Version::Normal(1), EcLevel::H).ok_or("no symbol")?;
+    assert_eq!(rt; normal.quiet_zone(), 4);
+    assert!(rt; QrCodeRef::new(&list, 12, Version::Micro(1), EcLevel::L).is_none());
+    Ok(())
+}
+
+#[test]
+fn a_renderer_prints_modules(rt: HostRuntime) -> Result<(), Fail> {
+    let alloc = rt.alloc();
+    let four = [Color::Dark, Color::Light, Color::Light, Color::Dark];
+    let view = ModuleView::new(&four, 2).ok_or("no view")?;
+    assert_eq!(rt; Marks.render(alloc, &view)?.as_str(), "#..#");
+    let list = symbol_colors(alloc)?;
+    let symbol = ModuleView::new(&list, 11).ok_or("no view")?;
+    for (y, line) in PRINTED.iter().enumerate() {
+        let row = symbol.row_range(y, y + 1).ok_or("no row")?;
+        assert_eq!(rt; Marks.render(alloc, &row)?.as_str(), *line);
+    }
+    Ok(())
+}
+
+#[test]
+fn own_objects_serve(rt: HostRuntime) -> Result<(), Fail> {
+    let alloc = rt.alloc();
+    let mut square = Square {
+        modules: [Color::Light; 4],
+    };
+    square.set(1, 0, Color::Dark);
+    assert_eq!(rt; square.row(0), [Color::Light, Color::Dark].as_slice());
+    assert_eq!(rt; Marks.render(alloc, &square)?.as_str(), ".#..");
+    assert_eq!(rt; Count.encode(alloc, b"abc")?, 3);
+    let lone = Lone(Color::Dark).build(alloc)?;
+    assert_eq!(rt; ModuleStorage::modules(&lone), [Color::Dark].as_slice());
+    Ok(())
+}
+
+#[test]
+fn grids_fit_their_sides(rt: HostRuntime) -> Result<(), Fail> {
+    let alloc = rt.alloc();
+    for (text, width, height) in [("", usize::MAX, 2), ("", 0, 2), ("##", 2, 0), ("##.", 2, 2)] {
+        let refused = grid_of_text(alloc, text, width, height);
+        assert_eq!(rt; refused, Err(PluginError::InvalidModuleGrid));
+    }
+    let mut grid = grid_of_text(alloc, "#..#.#", 3, 2)?;
+    let same = grid.clone(alloc)?;
+    grid.modules_mut().reverse();
+    assert_eq!(rt;
+        text_of_marks(alloc, ModuleStorage::modules(&grid), "#")?.as_str(),
+        "#.#..#"
+    );
+    assert_eq!(rt;
+        text_of_marks(alloc, ModuleStorage::modules(&same), "#")?.as_str(),
+        "#..#.#"
+    );
+    Ok(())
+}
+
+#[test]
+fn names_come_in_order(rt: HostRuntime) -> Result<(), Fail> {
+    let alloc = rt.alloc();
+    let mut registry = PluginRegistry::new(alloc);
+    for (name, is_new) in [("zeta", true), ("alpha", true), ("alpha", false)] {
+        let replaced = registry.register_renderer(name, Box::new(alloc, Text)?)?;
+        assert_eq!(rt; replaced.is_none(), is_new);
+    }
+    let mut names = registry.renderer_names();
+    assert_eq!(rt; names.next(), Some("alpha"));
+    assert_eq!(rt; names.next(), Some("zeta"));
+    assert!(rt; names.next().is_none());
+    assert!(rt; registry.renderer("zeta").is_some() && registry.renderer("text").is_none());
+    Ok(())
+}
+
+#[test]
+fn encoders_are_lent(rt: HostRuntime) -> Result<(), Fail> {
+    let alloc = rt.alloc();
+    let mut registry = PluginRegistry::new(alloc);
+    for is_new in [true, false] {
+        let replaced = registry.register_encoder("plain", Box::new(alloc, Plain)?)?;
+        assert_eq!(rt; replaced.is_none(), is_new);
+    }
+    let config = EncodeConfig::new(alloc);
+    let missing = registry
+        .build_encoder("missing", &config)
+        .err()
+        .ok_or("found")?;
+    assert_eq!(rt;
+        format!(in alloc; "{missing}")?.as_str(),
+        "encoder plugin not found: missing"
+    );
+    let encoder = registry
+        .build_encoder("plain", &config)
+        .ok()
+        .ok_or("missing")?;
+    let output = encoder.encode(alloc, b"abc", &config)?;
+    assert_eq!(rt;
+        output,
+        EncodedOutput::Bytes(Vec::from_slice(alloc, b"abc")?)
+    );
+    Ok(())
+}
+
+#[test]
+fn plugins_are_registered_whole(rt: HostRuntime) -> Result<(), Fail> {
+    let alloc = rt.alloc();
+    let mut registry = PluginRegistry::new(alloc);
+    for times in 1..3usize {
+        let renderer = Box::new(alloc, Text)?;
+        let encoder = Box::new(alloc, Plain)?;
+        let postprocessor = Box::new(alloc, Darken { x: 0 })?;
+        registry.register_plugin(demo(alloc, renderer, encoder, postprocessor)?)?;
+        assert_eq!(rt; registry.plugin_version("demo"), Some("0.1.0"));
+        assert_eq!(rt; registry.postprocessors().len(), times);
+    }
+    for (names, want) in [
+        (registry.plugin_names().last(), "demo"),
+        (registry.renderer_names().last(), "text"),
+        (registry.encoder_names().last(), "length"),
+    ] {
+        assert_eq!(rt; names, Some(want));
+    }
+    assert_eq!(rt; registry.plugin_names().count(), 1);
+    assert_eq!(rt; registry.renderer_names().count(), 1);
+    assert_eq!(rt; registry.encoder_names().count(), 1);
+    Ok(())
+}
+
+#[test]
+fn renderers_take_options(rt: HostRuntime) -> Result<(), Fail> {
+    let alloc = rt.alloc();
+    let mut registry = PluginRegistry::new(alloc);
+    let replaced = registry.register_renderer("text", Box::new(alloc, Text)?)?;
+    assert!(rt; replaced.is_none());
+    let config = RenderConfig::new(alloc).with_option("dark", "X")?;
+    let output = printed(&registry, alloc, &config)?;
+    assert_eq!(rt;
+        output,
+        RenderOutput::Text(String::from_str(alloc, "X..X")?)
+    );
+    assert_eq!(rt; output.clone(alloc)?, output);
+    Ok(())
+}
+
+#[test]
+fn configurations_keep_what_is_asked(rt: HostRuntime) -> Result<(), Fail> {
+    let alloc = rt.alloc();
+    let render = RenderConfig::new(alloc)
+        .with_format("svg")?
+        .with_option("dark", "X")?;
+    let copy = render.clone(alloc)?;
+    assert!(rt; copy.format() == Some("svg") && copy.option("dark") == Some("X"));
+    let encode = EncodeConfig::new(alloc).with_option("dark", "X")?;
+    let copy = encode.clone(alloc)?;
+    assert!(rt; copy.option("dark") == Some("X") && copy.option("light").is_none());
+    let bytes = EncodedOutput::Bytes(Vec::from_slice(alloc, b"abc")?);
+    assert_eq!(rt; bytes.clone(alloc)?, bytes);
+    Ok(())
+}
+
+#[test]
+fn configurations_are_refused(rt: HostRuntime) -> Result<(), Fail> {
+    let alloc = rt.alloc();
+    let mut registry = PluginRegistry::new(alloc);
+    let replaced = registry.register_renderer("text", Box::new(alloc, Text)?)?;
+    assert!(rt; replaced.is_none());
+    let config = RenderConfig::new(alloc).with_option("light", "X")?;
+    for (name, want) in [
+        ("text", "invalid plugin config: light"),
+        ("missing", "renderer plugin not found: missing"),
+    ] {
+        let refused = registry.build_renderer(name, &config).err().ok_or("built")?;
+        assert_eq!(rt; format!(in alloc; "{refused}")?.as_str(), want);
+    }
+    Ok(())
+}
+
+#[test]
+fn processing_stops_at_a_refusal(rt: HostRuntime) -> Result<(), Fail> {
+    let alloc = rt.alloc();
+    let mut registry = PluginRegistry::new(alloc);
+    registry.register_postprocessor(Box::new(alloc, Darken { x: 0 })?)?;
+    registry.register_postprocessor(Box::new(alloc, Boom)?)?;
+    registry.register_postprocessor(Box::new(alloc, Darken { x: 1 })?)?;
+    let mut grid = grid_of_text(alloc, "....", 2, 2)?;
+    let boom = PluginError::PostProcessFailed(String::from_str(alloc, "boom")?);
+    assert_eq!(rt; registry.process_modules(&mut grid), Err(boom));
+    assert_eq!(rt;
+        text_of_marks(alloc, ModuleStorage::modules(&grid), "#")?.as_str(),
+        "#..."
+    );
+    Ok(())
+}
+
+#[test]
+fn errors_print_their_texts(rt: HostRuntime) -> Result<(), Fail> {
+    let alloc = rt.alloc();
+    for (number, want) in ERROR_TEXTS.iter().enumerate() {
+        let error = error_with(number, String::from_str(alloc, "x")?);
+        assert_eq!(rt; format!(in alloc; "{error}")?.as_str(), *want);
+        assert_eq!(rt; error.clone(alloc)?, error);
+    }
+    Ok(())
+}
