@@ -1,6 +1,6 @@
 -- Each row of a mask pattern repeats after six cells.
-use Rattle.std.proofs.Common.{◌≡◌, ℕ, ◌<◌, ◌+◌, ◌*◌, ◌/◌, ◌%◌, ◌==◌, ap, ◌∙◌, sym, arith, Bool, get_or, refl}
-use Rattle.std.proofs.Math.Nat.{mul-add-mod_self_left, add-mul, mul_assoc}
+use Rattle.std.proofs.Common.{◌≡◌, ℕ, ◌+◌, ◌*◌, ◌/◌, ◌%◌, ◌==◌, ap, ◌∙◌, arith, refl}
+use Rattle.std.proofs.Math.Nat.{add-mul, mul_assoc}
 use Rattle.qrcode_grid.specs.declared.canvas.MaskPattern.{MaskPattern}
 use Rattle.qrcode_grid.specs.declared.canvas.MaskPattern.TheVariants.{Checkerboard, HorizontalLines, VerticalLines, DiagonalLines, LargeCheckerboard, Fields, Diamonds, Meadow}
 use Rattle.qrcode_grid.specs.Masks.{condition, is_inverted}

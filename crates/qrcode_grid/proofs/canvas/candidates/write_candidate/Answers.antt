@@ -9,7 +9,6 @@ use Rattle.qrcode_grid.specs.Canvas.{color_of_module}
 use Rattle.qrcode_grid.specs.Lanes.{byte_of}
 use Rattle.qrcode_grid.specs.Masks.{masked_cell, masked_cells}
 use Rattle.qrcode_grid.proofs.CellSteps.{at_place, length-map_places, get_or-map_places}
-use Rattle.qrcode_grid.proofs.SymbolVersions.{width_some, width_within}
 use Rattle.qrcode_grid.proofs.canvas.candidates.write_candidate.Goals as goal
 
 pub loop-y-init : goal.loop-y-init

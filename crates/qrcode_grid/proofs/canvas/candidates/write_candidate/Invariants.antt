@@ -1,5 +1,5 @@
 -- The rows before this one are written.
-use Rattle.std.proofs.Common.{◌≡◌, ◌<◌, ◌+◌, ◌*◌, ◌/◌, ◌%◌, ℕ, get_or}
+use Rattle.std.proofs.Common.{◌≡◌, ◌<◌, ◌*◌, ◌/◌, ◌%◌, ℕ, get_or}
 use Rattle.qrcode_grid.specs.declared.canvas.Module.TheVariants.{Empty}
 use Rattle.qrcode_grid.specs.Canvas.{color_of_module}
 use Rattle.qrcode_grid.specs.Lanes.{byte_of}

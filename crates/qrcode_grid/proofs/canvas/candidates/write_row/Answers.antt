@@ -1,4 +1,4 @@
-use Rattle.std.proofs.Common.{refl, ◌≡◌, ◌+◌, ◌*◌, ◌%◌, ◌<◌, ◌≢◌, length, get_or, get_or-set_same, get_or-set_other, ap, ◌∙◌, sym, arith, below_more}
+use Rattle.std.proofs.Common.{refl, ◌+◌, ◌*◌, ◌<◌, ◌≢◌, length, get_or, get_or-set_same, get_or-set_other, ap, ◌∙◌, sym, arith, below_more}
 use Rattle.std.proofs.Math.Nat.{mul-le-mul_right}
 use Rattle.qrcode_grid.specs.declared.canvas.Module.TheVariants.{Empty}
 use Rattle.qrcode_grid.specs.Canvas.{color_of_module}
