@@ -10,6 +10,7 @@ pub mod BlocksApart
 pub mod GridsApart
 pub mod Best
 pub mod StreamEncoding
+pub mod OneMessage
 mod RowCounts
 mod TextMaps
 mod StepLemmas
