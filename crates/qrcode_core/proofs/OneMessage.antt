@@ -3,8 +3,8 @@ use Rattle.std.proofs.Common.{◌≡◌, ℕ, zero, suc, ◌+◌, ◌-◌, ◌<�
 use Rattle.std.specs.Prelude.{Some, All, Contains, IsPermutation, slice_range}
 use Rattle.std.specs.List.{concat}
 use Rattle.std.specs.List.Sorted.{IsNonDecreasing}
-use Rattle.std.proofs.lemmas.List.{same_lists, get_or_default, take-append-drop, drop-drop, append-nil}
-use Rattle.std.proofs.lemmas.List.Elements.{Contains-get_or, All-head, All-tail}
+use Rattle.std.proofs.lemmas.List.{same_lists, get_or_default, take-append-drop, drop-drop, append-nil, take_all, length-drop}
+use Rattle.std.proofs.lemmas.List.Elements.{Contains-get_or, All-cons, All-tail}
 use Rattle.std.proofs.lemmas.List.Sorted.{IsPermutation-sym, IsPermutation-trans, Contains-permutation, length_permutation}
 use Rattle.std.proofs.lemmas.Option.{same_Some}
 use Rattle.qrcode_base.specs.declared.types.Color.{Color}
@@ -60,7 +60,7 @@ concat-parts start [] message rise within = append-nil (drop start message)
 concat-parts start (cut ∷ cuts) message rise within =
     let up : start ≤ cut = rise 0 1 0 (omega arith) (omega arith) in
     let rest = concat-parts cut cuts message (λ i j d below inside. rise (suc i) (suc j) d (omega arith) (omega arith)) (All-tail (λ c. c ≤ length message) start (cut ∷ cuts) within) in
-    let after : drop cut message ≡ drop (cut - start) (drop start message) = ? in
+    let after : drop cut message ≡ drop (cut - start) (drop start message) = sym (drop-drop (cut - start) start message ∙ ap (λ (n : ℕ). drop n message) (let n : start + (cut - start) ≡ cut = omega arith in n)) in
     ap (λ (z : List ℕ). slice_range message start cut ++ z) (rest ∙ after) ∙ take-append-drop (cut - start) (drop start message)
 
 pub length-parts : (start : ℕ) (cuts message : List ℕ) → length (parts_from start cuts message) ≡ length cuts + 1
@@ -70,13 +70,23 @@ length-parts start (cut ∷ cuts) message = let rest = length-parts cut cuts mes
 -- Each part runs from the start or the cut before it to its own cut or the end.
 pub part_at : (start : ℕ) (cuts message : List ℕ) (i : ℕ) → i ≤ length cuts →
     get_or (parts_from start cuts message) i [] ≡ slice_range message (get_or (start ∷ cuts) i 0) (get_or (cuts ++ length message ∷ []) i 0)
-part_at start cuts message i inside = ?
+part_at start [] message zero inside = sym (take_all (length message - start) (drop start message) (omega (arith, length-drop start message)))
+part_at start [] message (suc i) inside = absurd (omega arith)
+part_at start (cut ∷ cuts) message zero inside = refl
+part_at start (cut ∷ cuts) message (suc i) inside = part_at cut cuts message i (omega arith)
 
 -- ---- Best symbols
 
 -- The parts between cuts that don't fall are together the message.
 parts_whole : (cuts message : List ℕ) → IsNonDecreasing cuts → All (λ cut. cut ≤ length message) cuts → message ≡ concat (parts_at cuts message)
-parts_whole cuts message rise within = ?
+parts_whole cuts message rise within =
+    let bounded : All (λ cut. cut ≤ length message) (0 ∷ cuts) = All-cons (λ cut. cut ≤ length message) 0 cuts (omega arith) within in
+    sym (concat-parts 0 cuts message from_start bounded)
+  where
+    from_start : IsNonDecreasing (0 ∷ cuts)
+    from_start zero j d below inside = omega arith
+    from_start (suc i) zero d below inside = absurd (omega arith)
+    from_start (suc i) (suc j) d below inside = rise i j d (omega arith) (omega arith)
 
 -- The best symbols of the parts, each with its header, are the answer.
 pub best_symbols : (message cuts : List ℕ) (level : EcLevel) (limit : ℕ) (grids : List (List Color)) →
