@@ -11,6 +11,7 @@ pub mod GridsApart
 pub mod Best
 pub mod StreamEncoding
 pub mod OneMessage
+pub mod Symbols
 mod RowCounts
 mod TextMaps
 mod StepLemmas

@@ -88,3 +88,8 @@ IsSequenceRefusal message cuts level limit DataTooLong =
     IsLimit limit × IsTotal (length cuts + 1) × IsSomePartTooLong message cuts level (nat_abs limit)
 IsSequenceRefusal message cuts level limit OutOfMemory = IsLimit limit × IsTotal (length cuts + 1)
 IsSequenceRefusal message cuts level limit other = ⊥
+
+abbrev pub IsPartUnencodable : List ℕ → EcLevel → ℕ → QrError → Type 0
+IsPartUnencodable part level limit DataTooLong = FitsNone normal 20 part level limit
+IsPartUnencodable part level limit OutOfMemory = Unit {0}
+IsPartUnencodable part level limit other = ⊥

@@ -3,6 +3,10 @@ ghost use Rattle.std.specs.Prelude.{◌≡◌, ◌≤◌, length, OnOk, IfOk, If
 ghost use Rattle.qrcode_core.specs.Headline.{IsBestSymbol, IsBestMicroSymbol, IsSquare, IsTooLong, IsRefusal, IsMicroRefusal};
 ghost use Rattle.qrcode_core.specs.Layers.{AreAllCodewords, IsDrawn};
 
+mod sequence;
+
+pub use sequence::symbol_sequence;
+
 use qrcode_base::types::{Color, EcLevel, QrError, QrResult, Version};
 use qrcode_bits::bits::{encode_auto, encode_auto_micro};
 use qrcode_grid::canvas::draw_symbol;
