@@ -62,6 +62,7 @@ IsMicroRefused bytes level error = (level ≡ H → ⊥) × IsUnencodable micro 
 -- in front of each plan.
 abbrev pub IsPartRefused : ℕ → ℕ → List ℕ → EcLevel → ℤ → QrError → Type 0
 IsPartRefused place total bytes level limit InvalidResourceLimits = IsLimit limit → ⊥
-IsPartRefused place total bytes level limit (InvalidStructuredAppend value) = IsLimit limit × IsPlaceRefused place total value
+IsPartRefused place total bytes level limit (InvalidStructuredAppend value) =
+    IsLimit limit × IsPlaceRefused place total (InvalidStructuredAppend value)
 IsPartRefused place total bytes level limit error =
     IsLimit limit × IsPlace place total × IsUnencodable normal 20 bytes level (nat_abs limit) error
