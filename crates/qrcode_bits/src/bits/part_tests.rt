@@ -5,7 +5,8 @@ use qrcode_base::types::EcLevel;
 
 const L: EcLevel = EcLevel::L;
 
-/// A part from outside, and what it comes to: the payload, and the first bytes. The rest is EC and 11 in turn.
+/// A part, and what it comes to: the payload, and the first bytes. The rest is EC and 11 in turn.
+#[derive(Drop)]
 struct Row {
     data: &'static [u8],
     position: u8,
@@ -56,11 +57,13 @@ fn parts_in_version_1(rt: HostRuntime) -> QrResult<()> {
         for byte in row.bytes {
             wanted.push(*byte)?;
         }
-        let mut next = 0xec;
-        let mut other = 0x11;
-        while wanted.len() < 19 {
-            wanted.push(next)?;
-            (next, other) = (other, next);
+        for place in row.bytes.len()..19 {
+            let pad = if (place - row.bytes.len()) % 2 == 0 {
+                0xec
+            } else {
+                0x11
+            };
+            wanted.push(pad)?;
         }
         let bits = encode_part(
             rt.alloc(),
