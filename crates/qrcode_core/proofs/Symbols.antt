@@ -1,16 +1,15 @@
 -- The symbols of a sequence, as they are made one after the other.
 use Rattle.std.proofs.Common.{◌≡◌, ℕ, ◌+◌, ◌<◌, ◌≤◌, refl, sym, ◌∙◌, subst, arith, inl, inr, List, [], ◌∷◌, ◌++◌, length, length-append, get_or, map}
-use Rattle.std.specs.Prelude.{All, ℤ, nat_abs}
+use Rattle.std.specs.Prelude.{All, ℤ}
 use Rattle.std.specs.List.Sorted.{IsNonDecreasing}
 use Rattle.std.proofs.lemmas.Bool.{cases_eq}
 use Rattle.std.proofs.lemmas.List.{get_or_append_left, get_or_push}
 use Rattle.qrcode_base.specs.declared.types.Color.{Color}
 use Rattle.qrcode_base.specs.declared.types.EcLevel.{EcLevel}
 use Rattle.qrcode_base.specs.declared.types.errors.QrError.{QrError}
-use Rattle.qrcode_base.specs.declared.types.errors.QrError.TheVariants.{DataTooLong, OutOfMemory}
-use Rattle.qrcode_bits.specs.Choice.{normal, FitsNone}
-use Rattle.qrcode_bits.specs.Encoding.{IsLimit}
-use Rattle.qrcode_core.specs.Sequence.{header_at, parts_at, IsTotal, IsPartSymbol, IsPartUnencodable, AreBestSymbols, IsSequenceRefusal}
+use Rattle.qrcode_base.specs.declared.types.errors.QrError.TheVariants.{DataTooLong, InvalidResourceLimits, InvalidStructuredAppend, OutOfMemory}
+use Rattle.qrcode_bits.specs.Encoding.{IsLimit, IsPartRefused}
+use Rattle.qrcode_core.specs.Sequence.{header_at, parts_at, IsTotal, IsPartSymbol, AreBestSymbols, IsSequenceRefusal}
 use Rattle.qrcode_core.proofs.OneMessage.{best_symbols}
 
 -- The first symbols of a sequence, for as many first parts.
@@ -48,9 +47,14 @@ all_symbols message cuts level limit total grids rise within few count first =
     best_symbols message cuts level limit grids rise within (subst IsTotal size few) (sym size ∙ count)
     (λ i inside. subst (λ (t : ℕ). IsPartSymbol (header_at (i + 1) t message) (get_or (parts_at cuts message) i []) level limit (get_or grids i [])) size (first.each_best i (omega (arith, inside, size))))
 
--- A part that is refused refuses the sequence.
-pub refused_part : (message cuts : List ℕ) (level : EcLevel) (given : ℤ) (limit i : ℕ) (e : QrError) → IsLimit given → nat_abs given ≡ limit → IsTotal (length cuts + 1) → i < length cuts + 1 →
-    IsPartUnencodable (get_or (parts_at cuts message) i []) level limit e → IsSequenceRefusal message cuts level given e
-refused_part message cuts level given limit i DataTooLong in_range same few inside none = (in_range, few, (i, inside, subst (λ (n : ℕ). FitsNone normal 20 (get_or (parts_at cuts message) i []) level n) (sym same) none))
-refused_part message cuts level given limit i OutOfMemory in_range same few inside none = (in_range, few)
-refused_part message cuts level given limit i other in_range same few inside none = absurd none
+-- A part that is refused for its length or for memory refuses the sequence so; the limit and the header are no reason.
+pub refused_part : (message cuts : List ℕ) (level : EcLevel) (limit : ℤ) (total i : ℕ) (e : QrError) → IsLimit limit → IsTotal total → total ≡ length cuts + 1 → i < total →
+    IsPartRefused (i + 1) total (get_or (parts_at cuts message) i []) level limit e → IsSequenceRefusal message cuts level limit e
+refused_part message cuts level limit total i InvalidResourceLimits in_range few count inside why = absurd (why in_range)
+refused_part message cuts level limit total i (InvalidStructuredAppend value) in_range few count inside why = elim why.1 [
+  | inl wrong ↦ (let past = wrong.1 few.0 in absurd (omega (arith, past, few.1)))
+  | inr wrong ↦ (let past = wrong.3 (omega arith) in absurd (omega (arith, past, inside)))
+]
+refused_part message cuts level limit total i DataTooLong in_range few count inside why = (in_range, subst IsTotal count few, (i, omega arith, why.2))
+refused_part message cuts level limit total i OutOfMemory in_range few count inside why = (in_range, subst IsTotal count few)
+refused_part message cuts level limit total i other in_range few count inside why = why.2

@@ -8,6 +8,7 @@ use Rattle.qrcode_base.specs.declared.types.errors.QrError.TheVariants.{DataTooL
 use Rattle.qrcode_bits.specs.Choice.{normal, FitsNone}
 use Rattle.qrcode_bits.specs.Encoding.{IsLimit}
 use Rattle.qrcode_bits.specs.Frame.{Header}
+use Rattle.qrcode_bits.specs.Push.{header}
 use Rattle.qrcode_core.specs.Headline.{IsBest}
 use Rattle.qrcode_core.specs.Reader.{Reading, Reads}
 
@@ -19,7 +20,7 @@ parity message = fold bit_xor 0 message
 
 -- The header of the symbol at a place, counted from 1, of so many that carry a message together.
 abbrev pub header_at : ℕ → ℕ → List ℕ → Header
-header_at place total message = record { place = place; total = total; parity = parity message }
+header_at place total message = header place total (parity message)
 
 -- So many symbols make a sequence.
 abbrev pub IsTotal : ℕ → Type 0
@@ -88,8 +89,3 @@ IsSequenceRefusal message cuts level limit DataTooLong =
     IsLimit limit × IsTotal (length cuts + 1) × IsSomePartTooLong message cuts level (nat_abs limit)
 IsSequenceRefusal message cuts level limit OutOfMemory = IsLimit limit × IsTotal (length cuts + 1)
 IsSequenceRefusal message cuts level limit other = ⊥
-
-abbrev pub IsPartUnencodable : List ℕ → EcLevel → ℕ → QrError → Type 0
-IsPartUnencodable part level limit DataTooLong = FitsNone normal 20 part level limit
-IsPartUnencodable part level limit OutOfMemory = Unit {0}
-IsPartUnencodable part level limit other = ⊥

@@ -1,11 +1,13 @@
 //! The symbols of a message that is spread over several of them.
 ghost use Rattle.std.specs.Prelude.{◌≡◌, ◌+◌, ◌≤◌, [], length, map, nat_abs, slice_index_or, All, OnOk, IfOk, IfErr, vec_items};
 ghost use Rattle.std.specs.List.Sorted.{IsNonDecreasing};
-ghost use Rattle.qrcode_bits.specs.Encoding.{IsLimit};
-ghost use Rattle.qrcode_bits.specs.Frame.{IsHeader};
-ghost use Rattle.qrcode_core.specs.Sequence.{parity, parts_at, IsPartSymbol, IsPartUnencodable, AreBestSymbols, IsSequenceRefusal};
+ghost use Rattle.qrcode_bits.specs.Encoding.{IsLimit, IsPartRefused};
+ghost use Rattle.qrcode_bits.specs.Push.{header};
+ghost use Rattle.qrcode_core.specs.Sequence.{parity, parts_at, IsPartSymbol, AreBestSymbols, IsSequenceRefusal};
 
+use crate::symbol::draw;
 use qrcode_base::types::{Color, EcLevel, QrError, QrResult};
+use qrcode_bits::bits::encode_part;
 use std::alloc::Global;
 
 /// The modules of 2 to 16 symbols that carry a message together, in the order of its parts (ISO/IEC 18004, "Structured Append").
@@ -86,10 +88,17 @@ fn part_symbol(
     level: EcLevel,
     max_version: i16,
 ) -> QrResult<Vec<Color>>
-    requires limit { IsLimit max_version }
-    requires placed { IsHeader (record { place = position; total = total; parity = parity }) }
-    ensures best { IfOk result (λ grid. IsPartSymbol (record { place = position; total = total; parity = parity }) part.now level (nat_abs max_version) grid.items) }
-    ensures refused { IfErr result (IsPartUnencodable part.now level (nat_abs max_version)) }
+    ensures best { IfOk result (λ grid. IsPartSymbol (header position total parity) part.now level (nat_abs max_version) grid.items) }
+    ensures refused { IfErr result (IsPartRefused position total part.now level max_version) }
 {
-    Err(QrError::OutOfMemory)
+    let bits = match encode_part(alloc, part, position, total, parity, level, max_version) {
+        Ok(bits) => bits,
+        Err(error) => return Err(error),
+    };
+    let version = bits.version();
+    let codewords = bits.into_bytes();
+    match draw(alloc, version, level, &codewords) {
+        Ok(grid) => Ok(grid),
+        Err(error) => Err(error),
+    }
 }
