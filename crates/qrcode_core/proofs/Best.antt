@@ -37,19 +37,21 @@ pub best_symbol : (kind : ℕ → Version) (header : Option Header) (bytes : Lis
 best_symbol kind header bytes level number payload plan codewords grid code drawn fits smallest fewest =
     let has_mask = of_family (kind number) drawn.best.0 drawn.mask drawn.best.1 in
     let reads : Reads grid (reading_of bytes (kind number) level drawn.mask header payload) =
-    drawn_reading (kind number) level drawn.mask header bytes payload codewords drawn.interleaved drawn.correction grid has_mask code drawn.streams drawn.carries in
-    (record {
-      number = number;
-      mask = drawn.mask;
-      payload = payload;
-      plan = plan;
-      reads = reads;
-      only = λ other seen. one_reading grid other (reading_of bytes (kind number) level drawn.mask header payload) seen reads;
-      functional = drawn.carries.functional;
-      fits = fits;
-      smallest = smallest;
-      fewest = fewest;
-      best_mask = drawn.best;
-      apart = blocks_apart grid (reading_of bytes (kind number) level drawn.mask header payload) reads;
-      far = grids_apart grid (reading_of bytes (kind number) level drawn.mask header payload) reads;
-    }, refl)
+    drawn_reading (kind number) level drawn.mask header bytes payload codewords drawn.interleaved drawn.correction grid has_mask code drawn.streams drawn.carries in (
+      record {
+        number = number;
+        mask = drawn.mask;
+        payload = payload;
+        plan = plan;
+        reads = reads;
+        only = λ other seen. one_reading grid other (reading_of bytes (kind number) level drawn.mask header payload) seen reads;
+        functional = drawn.carries.functional;
+        fits = fits;
+        smallest = smallest;
+        fewest = fewest;
+        best_mask = drawn.best;
+        apart = blocks_apart grid (reading_of bytes (kind number) level drawn.mask header payload) reads;
+        far = grids_apart grid (reading_of bytes (kind number) level drawn.mask header payload) reads;
+      },
+      refl,
+    )

@@ -1,6 +1,6 @@
 -- Some grids are read as one message at most, and the best symbols of its parts are read as the message.
-use Rattle.std.proofs.Common.{◌≡◌, ℕ, zero, suc, ◌+◌, ◌-◌, ◌<◌, ◌≤◌, refl, ap, sym, ◌∙◌, subst, arith, List, [], ◌∷◌, ◌++◌, length, get_or, take, drop}
-use Rattle.std.specs.Prelude.{Some, All, Contains, IsPermutation, slice_range}
+use Rattle.std.proofs.Common.{◌≡◌, ℕ, zero, suc, ◌+◌, ◌-◌, ◌<◌, ◌≤◌, refl, ap, sym, ◌∙◌, subst, arith, List, [], ◌∷◌, ◌++◌, length, get_or, drop}
+use Rattle.std.specs.Prelude.{Some, All, IsPermutation, slice_range}
 use Rattle.std.specs.List.{concat}
 use Rattle.std.specs.List.Sorted.{IsNonDecreasing}
 use Rattle.std.proofs.lemmas.List.{same_lists, get_or_default, take-append-drop, drop-drop, append-nil, take_all, length-drop}
@@ -11,7 +11,6 @@ use Rattle.qrcode_base.specs.declared.types.Color.{Color}
 use Rattle.qrcode_base.specs.declared.types.EcLevel.{EcLevel}
 use Rattle.qrcode_bits.specs.Choice.{normal}
 use Rattle.qrcode_bits.specs.Frame.{Header}
-use Rattle.qrcode_core.specs.Headline.{IsBest}
 use Rattle.qrcode_core.specs.Reader.{reading_of}
 use Rattle.qrcode_core.specs.Sequence.{ReadsPiece, ReadsMessage, HaveOneMessage, header_at, parts_from, parts_at, IsTotal, IsPartSymbol, AreBestSymbols}
 use Rattle.qrcode_core.proofs.OneReading.{one_reading}

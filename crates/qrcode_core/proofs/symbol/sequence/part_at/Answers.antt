@@ -25,7 +25,7 @@ returns c =
       | else-index-cuts w ↦ get_or_append_left cuts (length message ∷ []) 0 i (let few = c.requires.exists in omega arith) ∙ sym w.end-is
     ] in
     sym (
-      part_at 0 cuts message i c.requires.exists
-      ∙ ap (λ (a : ℕ). slice_range message a (get_or (cuts ++ length message ∷ []) i 0)) start
-      ∙ ap (λ (b : ℕ). slice_range message c.if-index-eq0.start b) end
+    part_at 0 cuts message i c.requires.exists
+    ∙ ap (λ (a : ℕ). slice_range message a (get_or (cuts ++ length message ∷ []) i 0)) start
+    ∙ ap (λ (b : ℕ). slice_range message c.if-index-eq0.start b) end
     )

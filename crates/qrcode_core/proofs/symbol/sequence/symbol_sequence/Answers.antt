@@ -1,5 +1,5 @@
 -- Each part's symbol is one more of the answer; a refused part refuses the whole.
-use Rattle.std.proofs.Common.{◌≡◌, ℕ, ℤ, ◌+◌, ◌<◌, arith, refl, sym, ap, ◌∙◌, subst, List, [], ◌∷◌, ◌++◌, length, map, get_or, vec_items, nat_abs}
+use Rattle.std.proofs.Common.{◌≡◌, ℕ, ℤ, ◌+◌, arith, sym, ap, ◌∙◌, subst, List, [], ◌∷◌, ◌++◌, map, get_or, vec_items, nat_abs}
 use mir.Val.{to_z, of_z}
 use mir.Syntax.{w16}
 use Rattle.std.proofs.lemmas.Int.{to_z-of_z}
