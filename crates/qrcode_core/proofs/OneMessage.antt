@@ -5,7 +5,7 @@ use Rattle.std.specs.List.{concat}
 use Rattle.std.specs.List.Sorted.{IsNonDecreasing}
 use Rattle.std.proofs.lemmas.List.{same_lists, get_or_default, take-append-drop, drop-drop, append-nil, take_all, length-drop}
 use Rattle.std.proofs.lemmas.List.Elements.{Contains-get_or, All-cons, All-tail}
-use Rattle.std.proofs.lemmas.List.Sorted.{IsPermutation-sym, IsPermutation-trans, Contains-permutation, length_permutation}
+use Rattle.std.proofs.lemmas.List.Sorted.{IsPermutation-refl, IsPermutation-sym, IsPermutation-trans, Contains-permutation, length_permutation}
 use Rattle.std.proofs.lemmas.Option.{same_Some}
 use Rattle.qrcode_base.specs.declared.types.Color.{Color}
 use Rattle.qrcode_base.specs.declared.types.EcLevel.{EcLevel}
@@ -24,32 +24,49 @@ one_piece grid g h a b p q =
     (same_Some g h (sym p.header_is ∙ ap (λ r. r.header) same ∙ q.header_is), sym p.piece_is ∙ ap (λ r. r.bytes) same ∙ q.piece_is)
 
 -- the piece at a place is the same in two readings
-same_piece : (grids : List (List Color)) (m n : List ℕ) (f : ReadsMessage grids m) (g : ReadsMessage grids n) (i : ℕ) → i < length grids → get_or f.pieces i [] ≡ get_or g.pieces i []
-same_piece grids m n f g i inside =
-    let total = length grids in
-    let sorted : length f.in_order ≡ total = length_permutation grids f.in_order f.same_grids in
-    let others : length g.in_order ≡ total = length_permutation grids g.in_order g.same_grids in
+same_piece : (grids shuffled : List (List Color)) (m n : List ℕ) → IsPermutation grids shuffled → (f : ReadsMessage grids m) (g : ReadsMessage shuffled n) (i : ℕ) → i < length grids →
+    get_or f.pieces i [] ≡ get_or g.pieces i []
+same_piece grids shuffled m n mixed f g i inside =
+    let size : length shuffled ≡ length grids = length_permutation grids shuffled mixed in
+    let sorted : length f.in_order ≡ length grids = length_permutation grids f.in_order f.same_grids in
+    let others : length g.in_order ≡ length shuffled = length_permutation shuffled g.in_order g.same_grids in
     let grid = get_or f.in_order i [] in
-    let back = IsPermutation-trans f.in_order grids g.in_order (IsPermutation-sym grids f.in_order f.same_grids) g.same_grids in
-    let found = Contains-permutation f.in_order g.in_order grid back (Contains-get_or f.in_order i [] (omega arith)) in
+    let moved = IsPermutation-trans f.in_order grids g.in_order (IsPermutation-sym grids f.in_order f.same_grids) (IsPermutation-trans grids shuffled g.in_order mixed g.same_grids) in
+    let found = Contains-permutation f.in_order g.in_order grid moved (Contains-get_or f.in_order i [] (omega arith)) in
     let j = found.0 in
-    let within : j < total = omega (arith, found.1, others) in
+    let within : j < length shuffled = omega (arith, found.1, others) in
     let here : get_or g.in_order j [] ≡ grid = get_or_default g.in_order j [] grid found.1 ∙ found.2 in
-    let there : ReadsPiece grid (header_at (j + 1) total n) (get_or g.pieces j []) =
-    subst (λ (x : List Color). ReadsPiece x (header_at (j + 1) total n) (get_or g.pieces j [])) here (g.each_read j within) in
-    let same = one_piece grid (header_at (i + 1) total m) (header_at (j + 1) total n) (get_or f.pieces i []) (get_or g.pieces j []) (f.each_read i inside) there in
+    let there : ReadsPiece grid (header_at (j + 1) (length shuffled) n) (get_or g.pieces j []) =
+    subst (λ (x : List Color). ReadsPiece x (header_at (j + 1) (length shuffled) n) (get_or g.pieces j [])) here (g.each_read j within) in
+    let same = one_piece grid (header_at (i + 1) (length grids) m) (header_at (j + 1) (length shuffled) n) (get_or f.pieces i []) (get_or g.pieces j []) (f.each_read i inside) there in
     let place : i + 1 ≡ j + 1 = ap (λ h. h.place) same.0 in
     let at : j ≡ i = omega arith in
     same.1 ∙ ap (λ k. get_or g.pieces k []) at
 
 pub one_message : HaveOneMessage
-one_message grids m n f g =
+one_message grids shuffled m n mixed f g =
+    let size : length grids ≡ length shuffled = sym (length_permutation grids shuffled mixed) in
     let pieces : f.pieces ≡ g.pieces =
-    same_lists f.pieces g.pieces (f.a_piece_each ∙ sym g.a_piece_each)
+    same_lists f.pieces g.pieces (f.a_piece_each ∙ size ∙ sym g.a_piece_each)
     (λ k d below.
     let inside : k < length grids = omega (arith, below, f.a_piece_each) in
-    get_or_default f.pieces k d [] below ∙ same_piece grids m n f g k inside ∙ get_or_default g.pieces k [] d (omega (arith, inside, g.a_piece_each))) in
+    get_or_default f.pieces k d [] below ∙ same_piece grids shuffled m n mixed f g k inside ∙ get_or_default g.pieces k [] d (omega (arith, inside, size, g.a_piece_each))) in
     f.message_is ∙ ap concat pieces ∙ sym g.message_is
+
+-- Grids that are read as a message are so in every order.
+in_any_order : (grids shuffled : List (List Color)) (message : List ℕ) → IsPermutation grids shuffled → ReadsMessage grids message → ReadsMessage shuffled message
+in_any_order grids shuffled message mixed seen =
+    let size : length grids ≡ length shuffled = sym (length_permutation grids shuffled mixed) in
+    record {
+      in_order = seen.in_order;
+      pieces = seen.pieces;
+      enough = subst IsTotal size seen.enough;
+      same_grids = IsPermutation-trans shuffled grids seen.in_order (IsPermutation-sym grids shuffled mixed) seen.same_grids;
+      a_piece_each = seen.a_piece_each ∙ size;
+      each_read = λ i inside.
+          subst (λ (total : ℕ). ReadsPiece (get_or seen.in_order i []) (header_at (i + 1) total message) (get_or seen.pieces i [])) size (seen.each_read i (omega (arith, inside, size)));
+      message_is = seen.message_is;
+    }
 
 -- ---- Parts
 
@@ -94,29 +111,26 @@ pub best_symbols : (message cuts : List ℕ) (level : EcLevel) (limit : ℕ) (gr
     AreBestSymbols message cuts level limit grids
 best_symbols message cuts level limit grids rise within few long best =
     let parts = parts_at cuts message in
-    let read : (shuffled : List (List Color)) → IsPermutation grids shuffled → ReadsMessage shuffled message =
-    λ shuffled mixed.
-    let size : length shuffled ≡ length grids = length_permutation grids shuffled mixed in
-    record {
+    let read : ReadsMessage grids message = record {
       in_order = grids;
       pieces = parts;
-      enough = (omega (arith, size, few.0), omega (arith, size, few.1));
-      same_grids = IsPermutation-sym grids shuffled mixed;
-      a_piece_each = length-parts 0 cuts message ∙ sym long ∙ sym size;
+      enough = few;
+      same_grids = IsPermutation-refl grids;
+      a_piece_each = length-parts 0 cuts message ∙ sym long;
       each_read = λ i inside.
-          let symbol = best i (omega arith) in
+          let symbol = best i inside in
           let header = header_at (i + 1) (length grids) message in
-          subst (λ (total : ℕ). ReadsPiece (get_or grids i []) (header_at (i + 1) total message) (get_or parts i [])) (sym size) (record {
+          record {
             reading = reading_of (get_or parts i []) (normal symbol.0.number) level symbol.0.mask (Some header) symbol.0.payload;
             reads = symbol.0.reads;
             header_is = refl;
             piece_is = refl;
-          });
+          };
       message_is = parts_whole cuts message rise within;
     } in
     record {
       a_grid_each = long;
       each_best = best;
-      reads = read;
-      only = λ shuffled other mixed seen. one_message shuffled other message seen (read shuffled mixed);
+      reads = λ shuffled mixed. in_any_order grids shuffled message mixed read;
+      only = λ shuffled other mixed seen. sym (one_message grids shuffled message other mixed read seen);
     }

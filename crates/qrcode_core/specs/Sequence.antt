@@ -46,9 +46,9 @@ pub record ReadsMessage (grids : List (List Color)) (message : List ℕ) : Type 
       ReadsPiece (slice_index_or in_order i []) (header_at (i + 1) (length grids) message) (slice_index_or pieces i [])
   pub message_is : message ≡ concat pieces
 
--- No grids are read as two messages.
+-- No grids are read as two messages, in whatever order they are given.
 abbrev pub HaveOneMessage : Type 0
-HaveOneMessage = (grids : List (List Color)) (first second : List ℕ) → ReadsMessage grids first → ReadsMessage grids second → first ≡ second
+HaveOneMessage = (grids shuffled : List (List Color)) (first second : List ℕ) → IsPermutation grids shuffled → ReadsMessage grids first → ReadsMessage shuffled second → first ≡ second
 
 -- ---- What is answered
 

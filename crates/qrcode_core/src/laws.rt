@@ -21,7 +21,7 @@ pub fn have_distance()
     ensures { HaveDistance }
 {}
 
-/// Grids are read as one message of a sequence at most, in whatever order they are given (ISO/IEC 18004, "Structured Append").
+/// No grids are read as two messages of a sequence, in whatever order they are given (ISO/IEC 18004, "Structured Append").
 pub fn have_one_message()
     ensures { HaveOneMessage }
 {}

@@ -12,10 +12,10 @@ use std::alloc::Global;
 
 /// The modules of 2 to 16 symbols that carry a message together, in the order of its parts (ISO/IEC 18004, "Structured Append").
 ///
-/// The parts lie between the start of the data, the cuts in order, and its end; they may be empty. Each symbol begins with a
-/// header that tells its position, how many there are, and the exclusive or of all bytes of the data. It is the best symbol of its
-/// part (as with `symbol`) in the versions from 1 to `max_version`, where the header takes 20 bits. Read in any order, the symbols
-/// are the data.
+/// The parts lie between the start of the message, the cuts in order, and its end; they may be empty. Each symbol begins with a
+/// header that tells its position, how many symbols there are, and the exclusive or of all bytes of the message. It is the best
+/// symbol of its part (as with `symbol`) in the versions from 1 to `max_version`, where the header takes 20 bits. Read in any
+/// order, the symbols are the message.
 ///
 /// A `max_version` outside 1 to 40 is `InvalidResourceLimits`. Then a number of parts other than 2 to 16 is
 /// `InvalidStructuredAppend` with this number, or with 255 where it is greater. Then `DataTooLong` comes exactly where some part
@@ -62,7 +62,7 @@ fn parity_of(bytes: &[u8]) -> u8
     bytes.iter().fold(0, |sum, byte| sum ^ *byte)
 }
 
-// The part of the data that begins at the start or a cut, and ends at the next cut or the end.
+// The part of the message that begins at the start or a cut, and ends at the next cut or the end.
 fn part_at<'a>(bytes: &'a [u8], cuts: &[usize], index: usize) -> &'a [u8]
     requires ordered { IsNonDecreasing cuts.now }
     requires within { All (λ cut. cut ≤ length bytes.now) cuts.now }
