@@ -27,7 +27,8 @@ pub record IsPlanStream (header : Option Header) (bytes : List ℕ) (version : V
   pub bits_are : stream.bits ≡ ended version limit (header_bits header ++ spellings version (segment_pieces bytes plan))
   pub modes_are : stream.modes ≡ with_modes no_modes (segment_pieces bytes plan)
   pub payload_is : stream.payload ≡ Some (length (header_bits header) + total_bits version plan)
-  pub frame : IsFrame version level header bytes (length (header_bits header) + total_bits version plan) (take limit stream.bits)
+  pub frame : IsFrame version level header bytes (length (header_bits header) + total_bits version plan)
+      (take limit stream.bits)
 
 -- The stream of the chosen plan in the smallest version of a kind, of those from 1 to a limit, in which some plan
 -- fits beside the header.

@@ -96,7 +96,8 @@ pub fn encode_part(
     level: EcLevel,
     max_version: i16,
 ) -> QrResult<Bits>
-    ensures ok { IfOk result (λ bits. IsEncoding normal (Some (header position total parity)) «data».now level (nat_abs max_version) bits) }
+    ensures ok { IfOk result (λ bits. IsEncoding normal (Some (header position total parity)) «data».now level
+        (nat_abs max_version) bits) }
     ensures limit { OnOk result (IsLimit max_version) }
     ensures err { IfErr result (λ e. IsPartRefused position total «data».now level max_version e) }
 {
@@ -270,8 +271,10 @@ fn encode_class(
     requires segments { segments.now ≡ parsed bytes.now }
     requires short { length bytes.now ≤ 7089 }
     ensures some { IfOk result (λ found. IfSome found (λ bits. (before limit : ℕ) → IsClass before last → last ≤ limit →
-        FitsNone normal (length (header_bits header.now)) bytes.now level before → IsEncoding normal header.now bytes.now level limit bits)) }
-    ensures none { IfOk result (λ found. IfNone found (FitsNot (length (header_bits header.now)) bytes.now (normal last) level)) }
+        FitsNone normal (length (header_bits header.now)) bytes.now level before →
+        IsEncoding normal header.now bytes.now level limit bits)) }
+    ensures none { IfOk result (λ found. IfNone found
+        (FitsNot (length (header_bits header.now)) bytes.now (normal last) level)) }
     ensures memory { IfErr result (λ e. e ≡ QrError.OutOfMemory) }
 {
     let front = front_bits(header);
