@@ -33,9 +33,9 @@ pub record ReadsPiece (grid : List Color) (header : Header) (piece : List ℕ) :
   pub header_is : reading.header ≡ Some header
   pub piece_is : reading.bytes ≡ piece
 
--- Two to 16 grids, in whatever order they are given, are read as a message. Each has a header that tells how many they are and the
--- parity of the whole message. In the order of the places that the headers tell, which are 1, 2 and so on, each once, their pieces
--- are the message.
+-- Two to 16 grids, in whatever order they are given, are read as a message. Each has a header that tells how many they
+-- are and the parity of the whole message. In the order of the places that the headers tell, which are 1, 2 and so on,
+-- each once, their pieces are the message.
 pub record ReadsMessage (grids : List (List Color)) (message : List ℕ) : Type 0 where
   pub in_order : List (List Color)
   pub pieces : List (List ℕ)
@@ -43,12 +43,15 @@ pub record ReadsMessage (grids : List (List Color)) (message : List ℕ) : Type 
   pub same_grids : IsPermutation grids in_order
   pub a_piece_each : length pieces ≡ length grids
   pub each_read : (i : ℕ) → i < length grids →
-      ReadsPiece (slice_index_or in_order i []) (header_at (i + 1) (length grids) message) (slice_index_or pieces i [])
+      ReadsPiece (slice_index_or in_order i []) (header_at (i + 1) (length grids) message)
+      (slice_index_or pieces i [])
   pub message_is : message ≡ concat pieces
 
 -- No grids are read as two messages, in whatever order they are given.
 abbrev pub HaveOneMessage : Type 0
-HaveOneMessage = (grids shuffled : List (List Color)) (first second : List ℕ) → IsPermutation grids shuffled → ReadsMessage grids first → ReadsMessage shuffled second → first ≡ second
+HaveOneMessage =
+    (grids shuffled : List (List Color)) (first second : List ℕ) → IsPermutation grids shuffled →
+    ReadsMessage grids first → ReadsMessage shuffled second → first ≡ second
 
 -- ---- What is answered
 
@@ -64,14 +67,17 @@ parts_at cuts message = parts_from 0 cuts message
 abbrev pub IsPartSymbol : Header → List ℕ → EcLevel → ℕ → List Color → Type 0
 IsPartSymbol header part level limit grid = (best : IsBest normal (Some header) part level grid) × (best.number ≤ limit)
 
--- There is a symbol for each part of the message. The one at each place carries the part of that place, and is the best one for
--- it. In every order the symbols are read as the message, and as no other.
-pub record AreBestSymbols (message cuts : List ℕ) (level : EcLevel) (limit : ℕ) (grids : List (List Color)) : Type 0 where
+-- There is a symbol for each part of the message. The one at each place carries the part of that place, and is the best
+-- one for it. In every order the symbols are read as the message, and as no other.
+pub record AreBestSymbols (message cuts : List ℕ) (level : EcLevel) (limit : ℕ)
+    (grids : List (List Color)) : Type 0 where
   pub a_grid_each : length grids ≡ length cuts + 1
   pub each_best : (i : ℕ) → i < length grids →
-      IsPartSymbol (header_at (i + 1) (length grids) message) (slice_index_or (parts_at cuts message) i []) level limit (slice_index_or grids i [])
+      IsPartSymbol (header_at (i + 1) (length grids) message) (slice_index_or (parts_at cuts message) i [])
+      level limit (slice_index_or grids i [])
   pub reads : (shuffled : List (List Color)) → IsPermutation grids shuffled → ReadsMessage shuffled message
-  pub only : (shuffled : List (List Color)) (other : List ℕ) → IsPermutation grids shuffled → ReadsMessage shuffled other → other ≡ message
+  pub only : (shuffled : List (List Color)) (other : List ℕ) → IsPermutation grids shuffled →
+      ReadsMessage shuffled other → other ≡ message
 
 -- ---- Which refusal comes when
 

@@ -10,16 +10,17 @@ use qrcode_base::types::{Color, EcLevel, QrError, QrResult};
 use qrcode_bits::bits::encode_part;
 use std::alloc::Global;
 
-/// The modules of 2 to 16 symbols that carry a message together, in the order of its parts (ISO/IEC 18004, "Structured Append").
+/// The modules of 2 to 16 symbols that carry a message together, in the order of its parts (ISO/IEC 18004, "Structured
+/// Append").
 ///
-/// The parts lie between the start of the message, the cuts in order, and its end; they may be empty. Each symbol begins with a
-/// header that tells its position, how many symbols there are, and the exclusive or of all bytes of the message. It is the best
-/// symbol of its part (as with `symbol`) in the versions from 1 to `max_version`, where the header takes 20 bits. Read in any
-/// order, the symbols are the message.
+/// The parts lie between the start of the message, the cuts in order, and its end; they may be empty. Each symbol begins
+/// with a header that tells its position, how many symbols there are, and the exclusive or of all bytes of the message.
+/// It is the best symbol of its part (as with `symbol`) in the versions from 1 to `max_version`, where the header takes
+/// 20 bits. Read in any order, the symbols are the message.
 ///
 /// A `max_version` outside 1 to 40 is `InvalidResourceLimits`. Then a number of parts other than 2 to 16 is
-/// `InvalidStructuredAppend` with this number, or with 255 where it is greater. Then `DataTooLong` comes exactly where some part
-/// fits none of the versions, and `OutOfMemory` where a growth was refused. A refused call gives no symbol.
+/// `InvalidStructuredAppend` with this number, or with 255 where it is greater. Then `DataTooLong` comes exactly where
+/// some part fits none of the versions, and `OutOfMemory` where a growth was refused. A refused call gives no symbol.
 pub fn symbol_sequence(
     alloc: Global,
     bytes: &[u8],
