@@ -28,6 +28,8 @@ pub use traits::{
 #[cfg(test)]
 mod plain_reader;
 #[cfg(test)]
+mod sequence_tests;
+#[cfg(test)]
 mod tests;
 #[cfg(test)]
 mod view_tests;
