@@ -196,8 +196,8 @@ fn input(alloc: Global, kind: usize, count: usize) -> Option<Vec<u8>> {
     Some(bytes)
 }
 
-// A hash of the modules (FNV-1a, a byte for each).
-fn hash(grid: &[Color]) -> u32 {
+/// A hash of the modules (FNV-1a, a byte for each).
+pub(crate) fn hash(grid: &[Color]) -> u32 {
     let mut sum = 0x811c_9dc5u32;
     for color in grid {
         sum = (sum ^ u32::from(*color == Color::Dark)).wrapping_mul(0x0100_0193);
