@@ -9,7 +9,7 @@ mod registry;
 use crate::bits::{encode_auto, encode_auto_micro, encode_auto_with_max_version};
 use crate::canvas::{Canvas, MaskPattern};
 use crate::ec::{construct_codewords, create_error_correction_code};
-use crate::optimize::{Optimizer, Parser, Segment, optimize_segments};
+use crate::optimize::{Parser, Segment, optimize_segments, supports_linear_costs};
 use crate::symbol::{symbol, symbol_micro};
 use crate::tests::hash;
 use crate::types::{EcLevel, Mode, QrError, QrResult, Version};
@@ -64,8 +64,11 @@ fn symbol_micro_of_five_digits(rt: HostRuntime) -> QrResult<()> {
 
 /// More digits than any symbol holds are refused without memory.
 #[test]
-fn symbol_of_too_many_digits(rt: HostRuntime) {
-    let refused = symbol(rt.alloc(), &[b'7'; 7090], EcLevel::L);
+fn symbols_of_too_many_digits(rt: HostRuntime) {
+    let digits = [b'7'; 7090];
+    let refused = symbol(rt.alloc(), &digits, EcLevel::L);
+    assert!(rt; matches!(refused, Err(QrError::DataTooLong)));
+    let refused = symbol_micro(rt.alloc(), &digits, EcLevel::L);
     assert!(rt; matches!(refused, Err(QrError::DataTooLong)));
 }
 
@@ -103,13 +106,12 @@ fn encode_auto_micro_of_digits(rt: HostRuntime) -> QrResult<()> {
 #[test]
 fn plans_of_three_segments(rt: HostRuntime) -> QrResult<()> {
     let segments: Vec<Segment> = Parser::new(b"ABC123abcd").collect(rt.alloc())?;
+    assert!(rt; supports_linear_costs(&segments, ONE));
     let plan = optimize_segments(rt.alloc(), &segments, ONE)?;
-    let again: Vec<Segment> = Optimizer::new(rt.alloc(), segments.iter().copied(), ONE)?.collect(
-        rt.alloc(),
-    )?;
-    assert_eq!(rt; plan.as_slice(), again.as_slice());
     let parts = plan.iter().map(|part| (part.mode, part.end));
     assert!(rt; parts.eq([(Mode::Alphanumeric, 6), (Mode::Byte, 10)].iter().copied()));
+    let parsed = Parser::new(b"ABC123abcd").optimize(rt.alloc(), ONE)?;
+    assert!(rt; parsed.eq(plan.iter().copied()));
     Ok(())
 }
 

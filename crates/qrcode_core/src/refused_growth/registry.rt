@@ -9,23 +9,21 @@ use crate::view_tests::{Darken, Plain, Text};
 use std::alloc::Global;
 
 /// A plugin of five registrations: its version, two renderers, an encoder and a postprocessor.
-fn bundle(alloc: Global) -> Result<QrPlugin, PluginError> {
-    let first: Box<dyn DynRenderer> = Box::new(alloc, Text)?;
-    let second: Box<dyn DynRenderer> = Box::new(alloc, Text)?;
-    let encoder: Box<dyn DynEncoder> = Box::new(alloc, Plain)?;
-    let darken: Box<dyn PostProcessor> = Box::new(alloc, Darken { x: 0 })?;
+fn bundle(
+    alloc: Global,
+    first: Box<dyn DynRenderer>,
+    second: Box<dyn DynRenderer>,
+    encoder: Box<dyn DynEncoder>,
+    postprocessor: Box<dyn PostProcessor>,
+) -> Result<QrPlugin, PluginError> {
+    let first = (String::from_str(alloc, "first")?, first);
+    let second = (String::from_str(alloc, "second")?, second);
     Ok(QrPlugin {
         name: String::from_str(alloc, "bundle")?,
         version: String::from_str(alloc, "0.1.0")?,
-        renderers: Vec::from_array(
-            alloc,
-            [
-                (String::from_str(alloc, "first")?, first),
-                (String::from_str(alloc, "second")?, second),
-            ],
-        )?,
+        renderers: Vec::from_array(alloc, [first, second])?,
         encoders: Vec::from_array(alloc, [(String::from_str(alloc, "third")?, encoder)])?,
-        postprocessors: Vec::from_array(alloc, [darken])?,
+        postprocessors: Vec::from_array(alloc, [postprocessor])?,
     })
 }
 
@@ -43,8 +41,18 @@ fn registrations(registry: &PluginRegistry) -> [bool; 5] {
 /// A refusal keeps the first registrations, and no other.
 #[test]
 fn register_plugin_of_five(rt: HostRuntime) -> Result<(), PluginError> {
-    let plugin = bundle(rt.alloc())?;
-    let mut registry = PluginRegistry::new(rt.alloc());
+    let alloc = rt.alloc();
+    let first = Box::new(alloc, Text)?;
+    let second = Box::new(alloc, Text)?;
+    let encoder = Box::new(alloc, Plain)?;
+    let plugin = bundle(
+        alloc,
+        first,
+        second,
+        encoder,
+        Box::new(alloc, Darken { x: 0 })?,
+    )?;
+    let mut registry = PluginRegistry::new(alloc);
     let answer = registry.register_plugin(plugin);
     let there = registrations(&registry);
     let kept = there.iter().take_while(|is| **is).count();
