@@ -28,6 +28,7 @@ pub use traits::{
 #[cfg(test)]
 mod plain_reader;
 #[cfg(test)]
+mod refused_growth;
 mod sequence_tests;
 #[cfg(test)]
 mod tests;
