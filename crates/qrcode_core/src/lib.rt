@@ -29,6 +29,7 @@ pub use traits::{
 mod plain_reader;
 #[cfg(test)]
 mod refused_growth;
+#[cfg(test)]
 mod sequence_tests;
 #[cfg(test)]
 mod tests;

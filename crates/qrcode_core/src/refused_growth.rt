@@ -6,11 +6,12 @@
 mod pushes;
 mod registry;
 
-use crate::bits::{encode_auto, encode_auto_micro, encode_auto_with_max_version};
+use crate::bits::{encode_auto, encode_auto_micro, encode_auto_with_max_version, encode_part};
 use crate::canvas::{Canvas, MaskPattern};
 use crate::ec::{construct_codewords, create_error_correction_code};
 use crate::optimize::{Parser, Segment, optimize_segments, supports_linear_costs};
-use crate::symbol::{symbol, symbol_micro};
+use crate::sequence_tests::answer;
+use crate::symbol::{symbol, symbol_micro, symbol_sequence};
 use crate::tests::hash;
 use crate::types::{EcLevel, Mode, QrError, QrResult, Version};
 
@@ -62,6 +63,37 @@ fn symbol_micro_of_five_digits(rt: HostRuntime) -> QrResult<()> {
     Ok(())
 }
 
+#[test]
+fn symbol_sequence_of_three(rt: HostRuntime) -> QrResult<()> {
+    let grids = symbol_sequence(rt.alloc(), b"AB12cd", &[2, 4], EcLevel::L, 40)?;
+    let hashes = [0xc43428a1, 0xf64cb6af, 0xd9083bff];
+    assert!(rt;
+        grids
+            .iter()
+            .map(|grid| hash(grid))
+            .eq(hashes.iter().copied())
+    );
+    Ok(())
+}
+
+#[test]
+fn symbol_sequence_of_sixteen(rt: HostRuntime) -> QrResult<()> {
+    let cuts = [1, 2, 3, 4, 5, 6, 7, 8, 9, 10, 11, 12, 13, 14, 15];
+    let grids = answer(rt.alloc(), b"abcdefghijklmnop", &cuts, 40).expect(&rt, "cuts in order")?;
+    let hashes = [
+        0x345666eb, 0x9f199b39, 0xb06ad7e3, 0xe7e97707, 0x001794e7, 0x38e1dccd, 0x24994a97,
+        0x58d81acf, 0x2329c377, 0xf6ae5043, 0xe5436a69, 0x11891f6d, 0x528fd71b, 0xe75e49cb,
+        0xc64aa0d7, 0x543a66a9,
+    ];
+    assert!(rt;
+        grids
+            .iter()
+            .map(|grid| hash(grid))
+            .eq(hashes.iter().copied())
+    );
+    Ok(())
+}
+
 /// More digits than any symbol holds are refused without memory.
 #[test]
 fn symbols_of_too_many_digits(rt: HostRuntime) {
@@ -99,6 +131,19 @@ fn encode_auto_micro_of_digits(rt: HostRuntime) -> QrResult<()> {
     let bits = encode_auto_micro(rt.alloc(), b"12345", EcLevel::L)?;
     assert_eq!(rt; bits.payload_bits_len(), 20);
     assert_eq!(rt; bits.into_bytes().as_slice(), &[0xa3, 0xda, 0xd0][..]);
+    Ok(())
+}
+
+#[test]
+fn encode_part_of_two_letters(rt: HostRuntime) -> QrResult<()> {
+    let bits = encode_part(rt.alloc(), b"AB", 1, 3, 7, EcLevel::L, 40)?;
+    assert_eq!(rt; bits.payload_bits_len(), 44);
+    let bytes = bits.into_bytes();
+    assert!(rt;
+        bytes
+            .as_slice()
+            .starts_with(&[0x30, 0x20, 0x72, 0x01, 0x1c, 0xd0, 0xec])
+    );
     Ok(())
 }
 

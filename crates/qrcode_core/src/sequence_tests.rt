@@ -61,7 +61,7 @@ const ROWS: [Row; 6] = [
 ];
 
 // The answer at level L, where the cuts don't fall and lie in the data.
-fn answer(
+pub(crate) fn answer(
     alloc: Global,
     bytes: &[u8],
     cuts: &[usize],

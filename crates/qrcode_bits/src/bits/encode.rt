@@ -68,6 +68,7 @@ pub fn encode_auto_with_max_version(
     max_version: i16,
 ) -> QrResult<Bits>
     ensures ok { IfOk result (λ bits. IsEncoding normal None bytes.now level (nat_abs max_version) bits) }
+    ensures limit { OnOk result (IsLimit max_version) }
     ensures err { IfErr result (λ e. IsEncodingRefused bytes.now level max_version e) }
 {
     if max_version < 1 || max_version > 40 {
@@ -89,17 +90,17 @@ pub fn encode_auto_with_max_version(
 /// `DataTooLong` where no plan fits, so for more than 7089 bytes before any memory is taken.
 pub fn encode_part(
     alloc: Global,
-    data: &[u8],
+    bytes: &[u8],
     position: u8,
     total: u8,
     parity: u8,
     level: EcLevel,
     max_version: i16,
 ) -> QrResult<Bits>
-    ensures ok { IfOk result (λ bits. IsEncoding normal (Some (header position total parity)) «data».now level
+    ensures ok { IfOk result (λ bits. IsEncoding normal (Some (header position total parity)) bytes.now level
         (nat_abs max_version) bits) }
     ensures limit { OnOk result (IsLimit max_version) }
-    ensures err { IfErr result (λ e. IsPartRefused position total «data».now level max_version e) }
+    ensures err { IfErr result (λ e. IsPartRefused position total bytes.now level max_version e) }
 {
     if max_version < 1 || max_version > 40 {
         return Err(QrError::InvalidResourceLimits);
@@ -112,7 +113,7 @@ pub fn encode_part(
         total,
         parity,
     };
-    match encode_up_to(alloc, &Some(header), data, level, max_version as usize) {
+    match encode_up_to(alloc, &Some(header), bytes, level, max_version as usize) {
         Ok(bits) => Ok(bits),
         Err(error) => Err(error),
     }
