@@ -92,6 +92,20 @@ fn least_time(mut call: impl FnMut() -> usize) -> f64 {
     (0..5).map(|_| round(&mut call)).fold(f64::INFINITY, f64::min)
 }
 
+// Times of full symbols, by their versions: how the cost grows with bytes and modules.
+fn print_growth() {
+    println!("\n| Version | Bytes `a` | Modules | Here, us | ns a module |");
+    println!("|---|---|---|---|---|");
+    let mut out = vec![0; MOST_MODULES];
+    for (version, count) in [(1, 17), (5, 106), (10, 271), (20, 858), (30, 1732), (40, 2953)] {
+        let bytes = repeated(b"a", count);
+        let modules = here(&bytes, &mut out);
+        assert!(modules == (17 + 4 * version) * (17 + 4 * version), "version {version}");
+        let time = least_time(|| here(&bytes, &mut out));
+        println!("| {version} | {count} | {modules} | {time:.1} | {:.1} |", 1e3 * time / modules as f64);
+    }
+}
+
 fn main() {
     let url = b"https://www.example.org/tickets/2026/11/22?seat=14C&row=7&gate=B12";
     let inputs: [(&str, Vec<u8>); 7] = [
@@ -119,4 +133,5 @@ fn main() {
             mine / second
         );
     }
+    print_growth();
 }
