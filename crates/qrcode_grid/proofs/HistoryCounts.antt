@@ -7,7 +7,7 @@ use Rattle.qrcode_grid.proofs.Histories.{history_is, read, is_hit}
 use Rattle.qrcode_grid.proofs.Runs.{sum_same}
 
 -- how many finder-like patterns a line has
-abbrev windows_count : List ℕ → ℕ
+abbrev pub windows_count : List ℕ → ℕ
 windows_count line = count_below (is_finder_like (quiet line)) (length line)
 
 -- fourteen light modules before a line
@@ -21,7 +21,7 @@ here line k = cond (is_finder_like line k) 1 0
 abbrev pub counted : List ℕ → ℕ → ℕ
 counted line j = sum_below (here (padded line)) j
 
-sum_add : (f : ℕ → ℕ) (m n : ℕ) → sum_below f (m + n) ≡ sum_below f m + sum_below (λ k. f (m + k)) n
+pub sum_add : (f : ℕ → ℕ) (m n : ℕ) → sum_below f (m + n) ≡ sum_below f m + sum_below (λ k. f (m + k)) n
 sum_add f m zero = let e : m + 0 ≡ m = omega arith in ap (sum_below f) e ∙ omega arith
 sum_add f m (suc n) = let e : m + suc n ≡ suc (m + n) = omega arith in ap (sum_below f) e ∙ omega (arith, sum_add f m n)
 
@@ -99,7 +99,7 @@ zeros_digits (suc n) line h = more_digits (zeros n line) (zeros_digits n line h)
 padded_digits : (line : List ℕ) → ((k : ℕ) → get_or line k 0 < 2) → (k : ℕ) → get_or (padded line) k 0 < 2
 padded_digits line h = zeros_digits 14 line h
 
-fourteen_less : (line : List ℕ) (j n : ℕ) → n ≡ suc (suc (suc (suc (suc (suc (suc (suc (suc (suc (suc (suc (suc (suc j))))))))))))) → get_or (padded line) n 0 ≡ get_or line j 0
+pub fourteen_less : (line : List ℕ) (j n : ℕ) → n ≡ suc (suc (suc (suc (suc (suc (suc (suc (suc (suc (suc (suc (suc (suc j))))))))))))) → get_or (padded line) n 0 ≡ get_or line j 0
 fourteen_less line j n e = ap (λ k. get_or (padded line) k 0) e
 
 pub read_next : (line : List ℕ) (h j m r : ℕ) → h ≡ read (padded line) (j + 14) % 32768 → m ≡ get_or line j 0 → r ≡ (2 * h + m) % 32768 → r ≡ read (padded line) (j + 1 + 14) % 32768

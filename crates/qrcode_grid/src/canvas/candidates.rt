@@ -125,7 +125,7 @@ fn write_candidate(
     }
 }
 
-/// The penalty of the modules under a mask. The candidate, as long as they are, is written over.
+/// The penalty of the modules under a mask. The candidate and the list for the transposed grid are written over.
 pub fn penalty_under_mask(
     modules: &[Module],
     version: Version,
@@ -133,16 +133,18 @@ pub fn penalty_under_mask(
     format: u32,
     pattern: MaskPattern,
     candidate: &mut [u8],
+    turned: &mut [u8],
 ) -> usize
     requires symbol { IsVersion version }
     requires wide { width ≡ width_of version }
     requires square { length modules.now ≡ width * width }
     requires long { length candidate.old ≡ width * width }
+    requires turned { length turned.old ≡ width * width }
     ensures { result ≡ modules_penalty version (map byte_of (map color_of_module (masked_cells version width format pattern modules.now))) }
 {
     write_candidate(modules, version, width, format, pattern, candidate);
     match version {
-        Version::Normal(_) => penalty_of_normal(width, candidate),
+        Version::Normal(_) => penalty_of_normal(width, candidate, turned),
         Version::Micro(_) => penalty_of_micro(width, candidate),
     }
 }
