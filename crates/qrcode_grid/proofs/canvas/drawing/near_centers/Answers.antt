@@ -1,4 +1,4 @@
-use Rattle.std.proofs.Common.{◌≡◌, ◌≢◌, ◌<◌, length, get_or, None, get_or-set_same, get_or-set_other, length-set, ◌∙◌, arith, below_more}
+use Rattle.std.proofs.Common.{◌≢◌, ◌<◌, length, None, get_or-set_same, get_or-set_other, length-set, ◌∙◌, arith, below_more}
 use Rattle.qrcode_grid.proofs.canvas.drawing.near_centers.Goals as goal
 
 pub loop-k-preserved : goal.loop-k-preserved
