@@ -1,20 +1,16 @@
 -- Modules as bytes, masked and formatted.
-use Rattle.std.proofs.Common.{◌≡◌, ◌≢◌, ℕ, ◌+◌, ◌-◌, ◌/◌, ◌%◌, ◌<◌, ◌==◌, Bool, true, false, List, map, length, get_or, Option, Some, None, option_map, [], ◌∷◌, ◌&&◌, refl, ap, ◌∙◌, sym, arith}
-use Rattle.std.proofs.lemmas.Bool.Decides.{nat_tests}
+use Rattle.std.proofs.Common.{◌≡◌, ℕ, ◌+◌, ◌/◌, ◌%◌, ◌<◌, Bool, true, false, List, map, length, get_or, Option, Some, None, refl, ap, ◌∙◌, sym, arith}
 use Rattle.std.proofs.lemmas.List.{get_or-map, length-map}
 use Rattle.std.proofs.lemmas.Grind.{same_number_lists}
 use Rattle.qrcode_base.specs.declared.types.Color.{Color}
 use Rattle.qrcode_base.specs.declared.types.Color.TheVariants.{Light, Dark}
 use Rattle.qrcode_base.specs.declared.types.Version.{Version}
-use Rattle.qrcode_base.specs.declared.types.Version.TheVariants.{Normal, Micro}
 use Rattle.qrcode_grid.specs.declared.canvas.MaskPattern.{MaskPattern}
 use Rattle.qrcode_grid.specs.declared.canvas.Module.{Module}
 use Rattle.qrcode_grid.specs.declared.canvas.Module.TheVariants.{Empty, Masked, Unmasked}
 use Rattle.qrcode_grid.specs.Canvas.{color_of_module}
 use Rattle.qrcode_grid.specs.Lanes.{byte_of, byte_under, code_of, masked_code}
 use Rattle.qrcode_grid.specs.Masks.{drawn_over, format_color, is_inverted, masked, masked_cell, masked_cells}
-use Rattle.qrcode_grid.specs.Regions.{digit_at, first_some, format_first, format_second, format_micro, where_true, written}
-use Rattle.qrcode_grid.specs.Words.{digit, digit_color}
 use Rattle.qrcode_grid.proofs.CellSteps.{length-map_places, get_or-map_places}
 
 masked_code_is : (b : Bool) (m : Module) → masked_code (code_of m) b ≡ byte_of (color_of_module (masked b m))
@@ -44,43 +40,6 @@ under_small None n h = h
 pub masked_small : (o : Option Color) (code : ℕ) (b : Bool) → byte_under o (masked_code code b) < 2
 masked_small o code true = under_small o (masked_code code true) (omega arith)
 masked_small o code false = under_small o (masked_code code false) (omega arith)
-
--- the format word and the dark module lie in row 8 and column 8
-first_none : (x y : ℕ) → x ≢ 8 → y ≢ 8 → digit_at format_first x y ≡ None
-first_none x y hx hy = grind (arith, nat_tests)
-
-and_false : (t : Bool) → (t && false) ≡ false
-and_false true = refl
-and_false false = refl
-
-second_none : (w x y : ℕ) → x ≢ 8 → y ≢ 8 → digit_at (format_second w) x y ≡ None
-second_none w x y hx hy =
-    let a : (x == 8) ≡ false = grind (arith, nat_tests) in
-    let b : (y == 8) ≡ false = grind (arith, nat_tests) in
-    rw (
-      a,
-      b,
-      and_false (x == w - 8),
-      and_false (x == w - 7),
-      and_false (x == w - 6),
-      and_false (x == w - 5),
-      and_false (x == w - 4),
-      and_false (x == w - 3),
-      and_false (x == w - 2),
-      and_false (x == w - 1),
-    ) refl
-
-micro_none : (x y : ℕ) → x ≢ 8 → y ≢ 8 → digit_at format_micro x y ≡ None
-micro_none x y hx hy = grind (arith, nat_tests)
-
-pub format_none : (version : Version) (w format x y : ℕ) → x ≢ 8 → y ≢ 8 → format_color version w format x y ≡ None
-format_none (Normal z) w format x y hx hy =
-    let a : (x == 8) ≡ false = grind (arith, nat_tests) in
-    let shown = λ (k : ℕ). digit_color (digit format k) in
-    ap (λ (o : Option ℕ). first_some (where_true (x == 8 && y == w - 8) Dark ∷ option_map shown o ∷ written format (format_second w) x y ∷ [])) (first_none x y hx hy)
-    ∙ ap (λ (o : Option ℕ). first_some (where_true (x == 8 && y == w - 8) Dark ∷ None ∷ option_map shown o ∷ [])) (second_none w x y hx hy)
-    ∙ ap (λ b. first_some (where_true (b && y == w - 8) Dark ∷ None ∷ None ∷ [])) a
-format_none (Micro z) w format x y hx hy = ap (λ (o : Option ℕ). option_map (λ k. digit_color (digit format k)) o) (micro_none x y hx hy)
 
 abbrev pub candidate_byte : Version → ℕ → ℕ → MaskPattern → List ℕ → ℕ → ℕ
 candidate_byte version w format pattern codes k =

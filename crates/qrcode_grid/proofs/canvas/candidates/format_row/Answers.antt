@@ -2,7 +2,7 @@ use Rattle.std.proofs.Common.{◌≢◌, ◌+◌, ◌*◌, ◌<◌, length, get_
 use Rattle.std.proofs.lemmas.Bool.{cases_eq}
 use Rattle.qrcode_grid.specs.Lanes.{byte_under}
 use Rattle.qrcode_grid.specs.Masks.{format_color}
-use Rattle.qrcode_grid.proofs.MaskedCodes.{format_none}
+use Rattle.qrcode_grid.proofs.FormatPlaces.{format_none}
 use Rattle.qrcode_grid.proofs.Transposed.{cell_within}
 use Rattle.qrcode_grid.proofs.canvas.candidates.format_row.Goals as goal
 
