@@ -1,5 +1,5 @@
 //! The candidates of a canvas, one for each mask of its family, each scored as a list of bytes.
-ghost use Rattle.std.specs.Prelude.{◌≡◌, false, ℕ, ◌+◌, ◌*◌, ◌/◌, ◌%◌, ◌<◌, ◌≤◌, List, length, map, slice_index, slice_index_or, IfOk};
+ghost use Rattle.std.specs.Prelude.{◌≡◌, false, ℕ, ◌+◌, ◌*◌, ◌/◌, ◌%◌, ◌<◌, ◌≤◌, List, length, map, slice_index, slice_index_or};
 ghost use Rattle.qrcode_base.specs.Symbols.{IsVersion, width_of};
 ghost use Rattle.qrcode_grid.specs.declared.canvas.Module.{Module};
 ghost use Rattle.qrcode_grid.specs.Canvas.{color_of_module};
@@ -12,7 +12,6 @@ use crate::canvas::penalty::{penalty_of_micro, penalty_of_normal};
 use crate::canvas::regions::format_color_at;
 use crate::canvas::{MaskPattern, Module};
 use qrcode_base::types::{Color, Version};
-use std::alloc::{AllocError, Global};
 
 /// A module as a byte: 1 where it is dark, and 2 more where a mask may invert it.
 fn code(old: Module) -> u8
@@ -26,11 +25,14 @@ fn code(old: Module) -> u8
     }
 }
 
-/// The modules as bytes.
-pub fn codes(alloc: Global, modules: &[Module]) -> Result<Vec<u8>, AllocError>
-    ensures { IfOk result (λ codes. codes.items ≡ map code_of modules.now) }
+/// Writes the modules as bytes.
+pub fn write_codes(modules: &[Module], codes: &mut [u8])
+    requires { length codes.old ≡ length modules.now }
+    ensures { codes.new ≡ map code_of modules.now }
 {
-    modules.iter().map(|module| code(*module)).collect(alloc)
+    for i in 0..modules.len() {
+        codes[i] = code(modules[i]);
+    }
 }
 
 /// The byte of a module after masking, by its code.
@@ -80,7 +82,7 @@ fn write_stripe(pattern: MaskPattern, width: usize, y: usize, stripes: &mut [boo
 }
 
 /// Writes where a pattern inverts the cells of twelve rows. Each later row is like the twelfth before it.
-fn write_stripes(pattern: MaskPattern, width: usize, stripes: &mut [bool])
+pub fn write_stripes(pattern: MaskPattern, width: usize, stripes: &mut [bool])
     requires wide { width ≤ 177 }
     requires long { length stripes.old ≡ 12 * width }
     ensures { (x : ℕ) → (y : ℕ) → x < width → y < 12 → slice_index_or stripes.new (y * width + x) false ≡ is_inverted pattern x y }
