@@ -26,6 +26,7 @@ fn code(old: Module) -> u8
 }
 
 /// Writes the modules as bytes.
+#[inline(never)]
 pub fn write_codes(modules: &[Module], codes: &mut [u8])
     requires { length codes.old ≡ length modules.now }
     ensures { codes.new ≡ map code_of modules.now }
@@ -93,6 +94,7 @@ pub fn write_stripes(pattern: MaskPattern, width: usize, stripes: &mut [bool])
 }
 
 /// Writes the bytes of a row after masking. What comes before the row stays.
+#[inline(never)]
 fn mask_row(codes: &[u8], stripes: &[bool], width: usize, y: usize, candidate: &mut [u8])
     requires wide { width ≤ 177 }
     requires square { length codes.now ≡ width * width }
@@ -136,6 +138,7 @@ fn format_eighth_row(version: Version, width: usize, format: u32, candidate: &mu
 
 /// Draws the format word and the dark module over a row, of which they take cells in row 8 and column 8. What comes before the
 /// row stays.
+#[inline(never)]
 fn format_row(version: Version, width: usize, format: u32, y: usize, candidate: &mut [u8])
     requires wide { (9 ≤ width) × (width ≤ 177) }
     requires long { length candidate.old ≡ width * width }
