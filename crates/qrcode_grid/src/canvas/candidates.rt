@@ -17,12 +17,15 @@ use qrcode_base::types::{Color, Version};
 fn code(old: Module) -> u8
     ensures { result ≡ code_of old }
 {
-    match old {
-        Module::Masked(Color::Light) => 0,
-        Module::Masked(Color::Dark) => 1,
-        Module::Empty | Module::Unmasked(Color::Light) => 2,
-        Module::Unmasked(Color::Dark) => 3,
-    }
+    let is_dark = match old {
+        Module::Masked(Color::Dark) | Module::Unmasked(Color::Dark) => true,
+        _ => false,
+    };
+    let is_masked = match old {
+        Module::Masked(_) => true,
+        _ => false,
+    };
+    u8::from(is_dark) + 2 * u8::from(!is_masked)
 }
 
 /// Writes the modules as bytes.
