@@ -22,11 +22,13 @@ use Rattle.std.proofs.lemmas.Float.{T_from_false}
 use Rattle.qrcode_bits.specs.declared.optimize.Segment.{Segment}
 use Rattle.qrcode_bits.specs.Parsing.{parsed, AreTexts}
 use Rattle.qrcode_bits.specs.Merging.{HasLinearCosts, IsChosenPlan, total_bits}
+use Rattle.qrcode_bits.specs.Frame.{Header, HasHeader, header_bits}
 use Rattle.qrcode_bits.specs.Stream.{Stream}
+use Rattle.qrcode_bits.specs.Push.{IsPlace}
 use Rattle.qrcode_bits.specs.Pieces.{LiesIn}
 use Rattle.qrcode_bits.specs.Choice.{IsMergePlan, Fits, FitsNot, FitsNone, normal, micro, IsLeastHolding, IsMinVersion}
 use Rattle.qrcode_bits.specs.Classes.{IsClass, ClassesUpTo}
-use Rattle.qrcode_bits.specs.Encoding.{IsPlanStream, IsEncoding, IsUnencodable, IsLimit, IsEncodingRefused}
+use Rattle.qrcode_bits.specs.Encoding.{IsPlanStream, IsEncoding, IsUnencodable, IsLimit, IsEncodingRefused, IsPartRefused}
 use Rattle.qrcode_bits.proofs.Adjoining.{parsed-linear}
 use Rattle.qrcode_bits.proofs.Growth.{total_bits-rise, total_bits-same}
 use Rattle.qrcode_bits.proofs.Upward.{All-map}
@@ -78,7 +80,7 @@ module _ (message : List ℕ) (v : Version) (small : HasSmallHeaders v) (short :
       let size = data_small s.mode (s.end - s.begin) in
       omega arith
 
-  pub plan_small : (plan : List Segment) → All (λ c. c < 256) message → IsMergePlan message plan → total_bits v plan < 2 ^ 64
+  pub plan_small : (plan : List Segment) → All (λ c. c < 256) message → IsMergePlan message plan → total_bits v plan < 2 ^ 32
   plan_small plan are w = let few = texts-small 0 (length message) plan (texts-plan message are plan w) in omega arith
 
 pub plan_ordered : (message : List ℕ) (plan : List Segment) → All (λ c. c < 256) message → IsMergePlan message plan → All (λ s. s.begin ≤ s.end) plan
@@ -91,19 +93,19 @@ pub known_limit : (o : Option ℕ) (limit : ℕ) (e : QrError) →
 known_limit None limit e h = absurd (cc)
 known_limit (Some c) limit e h = let same : c ≡ limit = cc in ap (λ (n : ℕ). Some n) same
 
-module _ (message : List ℕ) (v : Version) (l : EcLevel) (plan : List Segment) (limit : ℕ)
+module _ (front : ℕ) (message : List ℕ) (v : Version) (l : EcLevel) (plan : List Segment) (limit : ℕ)
     (chosen : IsChosenPlan (parsed message) v plan) (known : capacity v l ≡ Some limit) where
   -- the chosen plan fits,
-  pub chosen_fits_here : All (λ part. HasMode v part.mode) plan → total_bits v plan ≤ limit → Fits 0 message v l plan
-  chosen_fits_here has few = record { planned = chosen_is_plan message v plan chosen; limit = limit; has_level = known; has_modes = has; within = omega arith }
+  pub chosen_fits_here : All (λ part. HasMode v part.mode) plan → front + total_bits v plan ≤ limit → Fits front message v l plan
+  chosen_fits_here has few = record { planned = chosen_is_plan message v plan chosen; limit = limit; has_level = known; has_modes = has; within = few }
 
   -- or the version lacks a mode of it,
-  pub lacks_mode : (All (λ part. HasMode v part.mode) plan → ⊥) → FitsNot 0 message v l
-  lacks_mode lacks = chosen_decides 0 v l message plan chosen (λ fits. lacks fits.has_modes)
+  pub lacks_mode : (All (λ part. HasMode v part.mode) plan → ⊥) → FitsNot front message v l
+  lacks_mode lacks = chosen_decides front v l message plan chosen (λ fits. lacks fits.has_modes)
 
   -- or it takes too many bits.
-  pub too_many : limit < total_bits v plan → FitsNot 0 message v l
-  too_many over = chosen_decides 0 v l message plan chosen (λ fits.
+  pub too_many : limit < front + total_bits v plan → FitsNot front message v l
+  too_many over = chosen_decides front v l message plan chosen (λ fits.
       let same : ◌≡◌ {A = Option ℕ} (Some limit) (Some fits.limit) = sym known ∙ fits.has_level in
       let equal : limit ≡ fits.limit = cc in
       let within = fits.within in omega arith)
@@ -149,43 +151,59 @@ pub min_number : (size : ℕ) (l : EcLevel) (version : Version) (last c : ℕ) �
 min_number size l version last c known fits (inl w) = w
 min_number size l version last c known fits (inr w) = absurd (let less = w.1 last c known in omega arith)
 
-module _ (message : List ℕ) (l : EcLevel) (last : ℕ) (plan : List Segment)
-    (chosen : IsChosenPlan (parsed message) (normal last) plan) (fits : Fits 0 message (normal last) l plan)
-    (version : Version) (least : IsMinVersion (total_bits (normal last) plan) l version) where
+-- the same bits in front, in the same version
+pub front_fits : (message : List ℕ) (l : EcLevel) (last : ℕ) (plan : List Segment) (front bits : ℕ) (v : Version) → front ≡ bits → v ≡ normal last →
+    Fits front message v l plan → Fits bits message (normal last) l plan
+front_fits message l last plan front bits v same e h =
+    subst (λ (n : ℕ). Fits n message (normal last) l plan) same (subst (λ (u : Version). Fits front message u l plan) e h)
+
+pub front_not : (message : List ℕ) (l : EcLevel) (last front bits : ℕ) (v : Version) → front ≡ bits → v ≡ normal last → FitsNot front message v l → FitsNot bits message (normal last) l
+front_not message l last front bits v same e h =
+    subst (λ (n : ℕ). FitsNot n message (normal last) l) same (subst (λ (u : Version). FitsNot front message u l) e h)
+
+-- a header of some Normal version is one of each
+has_header : (n m : ℕ) (header : Option Header) → HasHeader (normal n) header → HasHeader (normal m) header
+has_header n m None h = tt
+has_header n m (Some header) h = h
+
+module _ (header : Option Header) (message : List ℕ) (l : EcLevel) (last : ℕ) (plan : List Segment)
+    (chosen : IsChosenPlan (parsed message) (normal last) plan) (fits : Fits (length (header_bits header)) message (normal last) l plan)
+    (version : Version) (least : IsMinVersion (length (header_bits header) + total_bits (normal last) plan) l version) where
   abbrev Least : Type 0
-  Least = (number : ℕ) × (version ≡ normal number) × IsLeastHolding (total_bits (normal last) plan) l number
+  Least = (number : ℕ) × (version ≡ normal number) × IsLeastHolding (length (header_bits header) + total_bits (normal last) plan) l number
 
   least_version : Least
-  least_version = let few = fits.within in min_number (total_bits (normal last) plan) l version last fits.limit fits.has_level (omega arith) least
+  least_version = min_number (length (header_bits header) + total_bits (normal last) plan) l version last fits.limit fits.has_level fits.within least
 
-  -- The chosen plan of the last version of a class fits the least version that holds its bits,
-  pub class_fits : Fits 0 message version l plan
+  -- The chosen plan of the last version of a class fits the least version that holds its bits and those of the header,
+  pub class_fits : Fits (length (header_bits header)) message version l plan
   class_fits =
       let m = least_version in
       let few = fits.within in
       let holding = m.2 in
       let some : 1 ≤ m.0 = (capacity-held l m.0 holding.limit holding.limit_is).0 in
-      let early : m.0 ≤ last = holding.least last fits.limit fits.has_level (omega arith) in
+      let early : m.0 ≤ last = holding.least last fits.limit fits.has_level few in
       let held = holding.holds in
       let rise = total_bits-rise m.0 last some early plan in
-      subst (λ (v : Version). Fits 0 message v l plan) (sym m.1) (fits_normal 0 m.0 holding.limit message l plan fits.planned holding.limit_is (omega arith))
+      subst (λ (v : Version). Fits (length (header_bits header)) message v l plan) (sym m.1)
+      (fits_normal (length (header_bits header)) m.0 holding.limit message l plan fits.planned holding.limit_is (omega arith))
 
   pub class_number : HasMicroNumber version
   class_number = let m = least_version in subst (λ (v : Version). HasMicroNumber v) (sym m.1) tt
 
+  pub class_header : HasHeader (normal last) header → HasHeader version header
+  class_header has = let m = least_version in subst (λ (v : Version). HasHeader v header) (sym m.1) (has_header last m.0 header has)
+
   -- and is the choice there, where no plan fits a version before the class.
-  pub class_encoding : (stream : Stream) → IsPlanStream message version l plan stream → (before limit : ℕ) → IsClass before last → last ≤ limit →
-      FitsNone normal 0 message l before → IsEncoding normal message l limit stream
+  pub class_encoding : (stream : Stream) → IsPlanStream header message version l plan stream → (before limit : ℕ) → IsClass before last → last ≤ limit →
+      FitsNone normal (length (header_bits header)) message l before → IsEncoding normal header message l limit stream
   class_encoding stream s before limit class within none =
       let m = least_version in
-      let few = fits.within in
-      let same : total_bits (normal last) plan ≡ 0 + total_bits (normal last) plan = omega arith in
-      let holding : IsLeastHolding (0 + total_bits (normal last) plan) l m.0 = subst (λ (n : ℕ). IsLeastHolding n l m.0) same m.2 in
       record {
         number = m.0;
         plan = plan;
-        choice = class_choice 0 message l before last plan fits.limit class none chosen fits.has_level limit m.0 within (omega arith) holding;
-        stream_is = subst (λ (v : Version). IsPlanStream message v l plan stream) m.1 s;
+        choice = class_choice (length (header_bits header)) message l before last plan fits.limit class none chosen fits.has_level limit m.0 within fits.within m.2;
+        stream_is = subst (λ (v : Version). IsPlanStream header message v l plan stream) m.1 s;
       }
 
 -- ---- The last versions of the classes
@@ -221,15 +239,22 @@ pub classes_end : (before limit : ℕ) (xs : List ℕ) (i : ℕ) → length xs �
 classes_end before limit xs i h w = subst (λ (z : List ℕ). ClassesUpTo before z limit) (drop_all i xs h) w
 
 -- What is known before a last version of a class, in the words of the loop.
-abbrev pub IsSearched : List ℕ → EcLevel → ℕ → List ℕ → Type 0
-IsSearched message l limit left = (before : ℕ) × ClassesUpTo before left limit × FitsNone normal 0 message l before
+abbrev pub IsSearched : ℕ → List ℕ → EcLevel → ℕ → List ℕ → Type 0
+IsSearched front message l limit left = (before : ℕ) × ClassesUpTo before left limit × FitsNone normal front message l before
 
 -- ---- Refusals
 
-pub refused_limit : (message : List ℕ) (l : EcLevel) (z : ℤ) (n : ℕ) (e : QrError) → IsLimit z → n ≡ nat_abs z → IsUnencodable normal message l n e → IsEncodingRefused message l z e
+pub refused_limit : (message : List ℕ) (l : EcLevel) (z : ℤ) (n : ℕ) (e : QrError) → IsLimit z → n ≡ nat_abs z → IsUnencodable normal 0 message l n e → IsEncodingRefused message l z e
 refused_limit message l z n DataTooLong h same r = (h, subst (λ (k : ℕ). FitsNone normal 0 message l k) same r)
 refused_limit message l z n OutOfMemory h same r = (h, tt)
 refused_limit message l z n other h same r = absurd r
+
+pub refused_part : (place total : ℕ) (message : List ℕ) (l : EcLevel) (z : ℤ) (n front : ℕ) (e : QrError) → IsLimit z → IsPlace place total → n ≡ nat_abs z → front ≡ 20 →
+    IsUnencodable normal front message l n e → IsPartRefused place total message l z e
+refused_part place total message l z n front DataTooLong h p same size r =
+    (h, p, subst (λ (f : ℕ). FitsNone normal f message l (nat_abs z)) size (subst (λ (k : ℕ). FitsNone normal front message l k) same r))
+refused_part place total message l z n front OutOfMemory h p same size r = (h, p, tt)
+refused_part place total message l z n front other h p same size r = absurd r
 
 pub limit_of : (z y : ℤ) → y ≡ z → lt_z y (pos 1) ≡ false → lt_z (pos 40) y ≡ false → IsLimit z
 limit_of z y e low high =

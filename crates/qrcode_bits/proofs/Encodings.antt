@@ -1,5 +1,5 @@
 -- The stream of a plan that fits: no push is refused but for memory, and up to the capacity it is a frame.
-use Rattle.std.proofs.Common.{◌≡◌, ℕ, ◌+◌, ◌<◌, ◌≤◌, Bool, List, [], ◌∷◌, ◌++◌, Some, length, take, refl, sym, ap, ◌∙◌, subst, arith, inl, inr}
+use Rattle.std.proofs.Common.{◌≡◌, ℕ, ◌+◌, ◌<◌, ◌≤◌, Bool, List, [], ◌∷◌, ◌++◌, Some, length, take, refl, sym, ap, ◌∙◌, subst, arith, inl, inr, length-append}
 use Rattle.std.specs.Prelude.{All, Option, None, slice_get}
 use Rattle.std.proofs.lemmas.Bool.{cases_lt}
 use Rattle.std.proofs.lemmas.Option.{slice_get_past}
@@ -15,7 +15,7 @@ use Rattle.qrcode_bits.specs.declared.optimize.Segment.{Segment}
 use Rattle.qrcode_bits.specs.Merging.{total_bits}
 use Rattle.qrcode_bits.specs.ModeSets.{no_modes}
 use Rattle.qrcode_bits.specs.Spelling.{Piece, IsSpellable}
-use Rattle.qrcode_bits.specs.Frame.{AreSpelled, spellings, ended, header_bits, IsFrame}
+use Rattle.qrcode_bits.specs.Frame.{Header, HasHeader, AreSpelled, spellings, ended, header_bits, IsFrame}
 use Rattle.qrcode_bits.specs.Stream.{Stream}
 use Rattle.qrcode_bits.specs.Push.{SpellsAll, StopsAt, IsRefused, EndsAtLevel, IsLevelRefused, with_modes}
 use Rattle.qrcode_bits.specs.Pieces.{segment_pieces}
@@ -62,40 +62,41 @@ end_refused old level limit DataTooLong known fits r =
 end_refused old level limit OutOfMemory known fits r = refl
 end_refused old level limit other known fits r = absurd r.2
 
--- ---- The stream of a plan
+-- ---- The stream of a plan, behind a header or none
 
-module _ (bytes : List ℕ) (are : All (λ c. c < 256) bytes) (v : Version) (level : EcLevel) (plan : List Segment) (fits : Fits 0 bytes v level plan)
-    (start : Stream) (empty : start.bits ≡ []) (version : start.version ≡ v) where
+module _ (header : Option Header) (bytes : List ℕ) (are : All (λ c. c < 256) bytes) (v : Version) (level : EcLevel) (plan : List Segment)
+    (fits : Fits (length (header_bits header)) bytes v level plan) (start : Stream) (begun : start.bits ≡ header_bits header) (version : start.version ≡ v) where
   abbrev pieces : List Piece
   pieces = segment_pieces bytes plan
 
   pub plan_stop : (new : Stream) (e : QrError) → StopsAt start new (segment_pieces bytes plan) e → e ≡ OutOfMemory
   plan_stop new e w =
-      spelled_stop start new pieces e (subst (λ (u : Version). AreSpelled u pieces) (sym version) (spelled_plan 0 v level bytes plan are fits).spelled) w
+      spelled_stop start new pieces e (subst (λ (u : Version). AreSpelled u pieces) (sym version) (spelled_plan (length (header_bits header)) v level bytes plan are fits).spelled) w
 
-  pushed_bits : (middle : Stream) → SpellsAll start middle (segment_pieces bytes plan) → middle.bits ≡ spellings v (segment_pieces bytes plan)
-  pushed_bits middle w = w.bits_are ∙ (ap (λ (z : List Bool). z ++ spellings start.version pieces) empty ∙ ap (λ (u : Version). spellings u pieces) version)
+  pushed_bits : (middle : Stream) → SpellsAll start middle (segment_pieces bytes plan) → middle.bits ≡ header_bits header ++ spellings v (segment_pieces bytes plan)
+  pushed_bits middle w =
+      w.bits_are ∙ (ap (λ (z : List Bool). z ++ spellings start.version pieces) begun ∙ ap (λ (u : Version). header_bits header ++ spellings u pieces) version)
 
   pushed_version : (middle : Stream) → SpellsAll start middle (segment_pieces bytes plan) → middle.version ≡ v
   pushed_version middle w = w.version_is ∙ version
 
-  pushed_size : (middle : Stream) → SpellsAll start middle (segment_pieces bytes plan) → length middle.bits ≡ total_bits v plan
-  pushed_size middle w = ap (λ (z : List Bool). length z) (pushed_bits middle w) ∙ (spelled_plan 0 v level bytes plan are fits).bits
+  pushed_size : (middle : Stream) → SpellsAll start middle (segment_pieces bytes plan) → length middle.bits ≡ length (header_bits header) + total_bits v plan
+  pushed_size middle w =
+      let size = (spelled_plan (length (header_bits header)) v level bytes plan are fits).bits in
+      omega (arith, ap (λ (z : List Bool). length z) (pushed_bits middle w), length-append (header_bits header) (spellings v pieces), size)
 
   pub plan_end_refused : (middle : Stream) (e : QrError) → SpellsAll start middle (segment_pieces bytes plan) → IsLevelRefused middle level e → e ≡ OutOfMemory
   plan_end_refused middle e w r =
       end_refused middle level fits.limit e (subst (λ (u : Version). capacity u level ≡ Some fits.limit) (sym (pushed_version middle w)) fits.has_level)
       (omega (arith, pushed_size middle w, fits.within)) r
 
-  pub plan_stream : (middle last : Stream) → start.modes ≡ no_modes → SpellsAll start middle (segment_pieces bytes plan) → EndsAtLevel middle last level → IsPlanStream bytes v level plan last
-  plan_stream middle last modes w e =
+  pub plan_stream : (middle last : Stream) → HasHeader v header → start.modes ≡ no_modes → SpellsAll start middle (segment_pieces bytes plan) → EndsAtLevel middle last level →
+      IsPlanStream header bytes v level plan last
+  plan_stream middle last has modes w e =
       let same : e.limit ≡ fits.limit = some_same e.limit fits.limit (capacity v level) (subst (λ (u : Version). capacity u level ≡ Some e.limit) (pushed_version middle w) e.limit_is) fits.has_level in
-      let bits : last.bits ≡ ended v fits.limit (spellings v pieces) =
+      let bits : last.bits ≡ ended v fits.limit (header_bits header ++ spellings v pieces) =
       e.ends.bits_are ∙ (ap (λ (u : Version). ended u e.limit middle.bits) (pushed_version middle w)
       ∙ (ap (λ (n : ℕ). ended v n middle.bits) same ∙ ap (λ (z : List Bool). ended v fits.limit z) (pushed_bits middle w))) in
-      let size : length (header_bits None) + total_bits v plan ≡ total_bits v plan = omega arith in
-      let framed : IsFrame v level None bytes (total_bits v plan) (take fits.limit (ended v fits.limit (spellings v pieces))) =
-      subst (λ (n : ℕ). IsFrame v level None bytes n (take fits.limit (ended v fits.limit (spellings v pieces)))) size (plan_frame v level None bytes plan are tt fits) in
       record {
         limit = fits.limit;
         limit_is = fits.has_level;
@@ -103,5 +104,6 @@ module _ (bytes : List ℕ) (are : All (λ c. c < 256) bytes) (v : Version) (lev
         bits_are = bits;
         modes_are = e.ends.modes_are ∙ (w.modes_are ∙ ap (λ (m : EncodingModes). with_modes m pieces) modes);
         payload_is = e.ends.payload_is ∙ ap (λ (n : ℕ). Some n) (pushed_size middle w);
-        frame = subst (λ (z : List Bool). IsFrame v level None bytes (total_bits v plan) (take fits.limit z)) (sym bits) framed;
+        frame = subst (λ (z : List Bool). IsFrame v level header bytes (length (header_bits header) + total_bits v plan) (take fits.limit z)) (sym bits)
+            (plan_frame v level header bytes plan are has fits);
       }

@@ -28,27 +28,30 @@ of_family (Micro n) (suc (suc zero)) mask e = subst (λ (m : MaskPattern). IsOfF
 of_family (Micro n) (suc (suc (suc zero))) mask e = subst (λ (m : MaskPattern). IsOfFamily (Micro n) m) (same_Some _ mask e) refl
 of_family (Micro n) (suc (suc (suc (suc i)))) mask e = absurd (none-some mask e)
 
+-- Its number is that of the frame's version.
 pub best_symbol : (kind : ℕ → Version) (header : Option Header) (bytes : List ℕ) (level : EcLevel) (number payload : ℕ) (plan : List Segment) (codewords : List ℕ) (grid : List Color) →
     IsEncoded (kind number) level header bytes payload codewords → IsDrawn (kind number) level codewords grid →
     Fits (length (header_bits header)) bytes (kind number) level plan →
     ((smaller : ℕ) → smaller < number → FitsNot (length (header_bits header)) bytes (kind smaller) level) →
-    IsLeastBits (length (header_bits header)) bytes (kind number) payload → IsBest kind header bytes level grid
+    IsLeastBits (length (header_bits header)) bytes (kind number) payload → (best : IsBest kind header bytes level grid) × (best.number ≡ number)
 best_symbol kind header bytes level number payload plan codewords grid code drawn fits smallest fewest =
     let has_mask = of_family (kind number) drawn.best.0 drawn.mask drawn.best.1 in
     let reads : Reads grid (reading_of bytes (kind number) level drawn.mask header payload) =
-    drawn_reading (kind number) level drawn.mask header bytes payload codewords drawn.interleaved drawn.correction grid has_mask code drawn.streams drawn.carries in
-    record {
-      number = number;
-      mask = drawn.mask;
-      payload = payload;
-      plan = plan;
-      reads = reads;
-      only = λ other seen. one_reading grid other (reading_of bytes (kind number) level drawn.mask header payload) seen reads;
-      functional = drawn.carries.functional;
-      fits = fits;
-      smallest = smallest;
-      fewest = fewest;
-      best_mask = drawn.best;
-      apart = blocks_apart grid (reading_of bytes (kind number) level drawn.mask header payload) reads;
-      far = grids_apart grid (reading_of bytes (kind number) level drawn.mask header payload) reads;
-    }
+    drawn_reading (kind number) level drawn.mask header bytes payload codewords drawn.interleaved drawn.correction grid has_mask code drawn.streams drawn.carries in (
+      record {
+        number = number;
+        mask = drawn.mask;
+        payload = payload;
+        plan = plan;
+        reads = reads;
+        only = λ other seen. one_reading grid other (reading_of bytes (kind number) level drawn.mask header payload) seen reads;
+        functional = drawn.carries.functional;
+        fits = fits;
+        smallest = smallest;
+        fewest = fewest;
+        best_mask = drawn.best;
+        apart = blocks_apart grid (reading_of bytes (kind number) level drawn.mask header payload) reads;
+        far = grids_apart grid (reading_of bytes (kind number) level drawn.mask header payload) reads;
+      },
+      refl,
+    )

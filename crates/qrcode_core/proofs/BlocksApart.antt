@@ -10,25 +10,9 @@ use Rattle.qrcode_grid.specs.Blocks.{place, block_in, codeword_block}
 use Rattle.qrcode_base.specs.Symbols.{block_sizes}
 use Rattle.qrcode_core.specs.Reader.{Reading, Reads}
 use Rattle.qrcode_core.specs.Headline.{HasBlocksApart}
+use Rattle.qrcode_grid.proofs.Apart.{AreBytes-block_in, length-block_in}
 use Rattle.qrcode_grid.proofs.Distance.{distance-sound}
 use Rattle.qrcode_grid.proofs.Layouts.{IsUsable-of_symbol}
-
-byte_at : (xs : List ℕ) (i : ℕ) → AreBytes xs → get_or xs i 0 < 256
-byte_at [] i h = omega arith
-byte_at (x ∷ xs) zero h = All-head (λ x. x < 256) x xs h
-byte_at (x ∷ xs) (suc i) h = byte_at xs i (All-tail (λ x. x < 256) x xs h)
-
-bytes_from : (f : ℕ → ℕ) (a n : ℕ) → ((k : ℕ) → f k < 256) → AreBytes (map f (range_with_len a n))
-bytes_from f a zero h = λ k d below. absurd (omega arith)
-bytes_from f a (suc n) h = All-cons (λ x. x < 256) (f a) (map f (range_with_len (a + 1) n)) (h a) (bytes_from f (a + 1) n h)
-
-bytes_block : (sizes stream : List ℕ) (block : ℕ) → AreBytes stream → AreBytes (block_in sizes stream block)
-unfolding block_in
-bytes_block sizes stream block h = bytes_from (λ row. get_or stream (place sizes row block) 0) 0 (get_or sizes block 0) (λ k. byte_at stream (place sizes k block) h)
-
-length-block : (sizes stream : List ℕ) (block : ℕ) → length (block_in sizes stream block) ≡ get_or sizes block 0
-unfolding block_in
-length-block sizes stream block = length-map-range_with_len (λ row. get_or stream (place sizes row block) 0) 0 (get_or sizes block 0)
 
 -- Every grid that is read has blocks that are apart from other sound lists.
 pub blocks_apart : (grid : List Color) (reading : Reading) (r : Reads grid reading) → HasBlocksApart grid reading r
@@ -40,12 +24,12 @@ blocks_apart grid reading r block within = λ other same bytes sound differ.
     omega (
       arith,
       length-append (block_in sizes r.interleaved block) (block_in (replicate (length sizes) n) r.correction block),
-      length-block sizes r.interleaved block,
-      length-block (replicate (length sizes) n) r.correction block,
+      length-block_in sizes r.interleaved block,
+      length-block_in (replicate (length sizes) n) r.correction block,
       get_or-replicate (length sizes) block n 0 within,
       usable.short block within,
     ) in
     let bytes_mine : AreBytes mine =
     All-append (λ x. x < 256) (block_in sizes r.interleaved block) (block_in (replicate (length sizes) n) r.correction block)
-    (bytes_block sizes r.interleaved block r.bytes_interleaved) (bytes_block (replicate (length sizes) n) r.correction block r.bytes_correction) in
+    (AreBytes-block_in sizes r.interleaved block r.bytes_interleaved) (AreBytes-block_in (replicate (length sizes) n) r.correction block r.bytes_correction) in
     distance-sound n mine other (sym same) long bytes_mine bytes (r.sound.sound block within) sound (λ e. differ (sym e))

@@ -10,6 +10,8 @@ pub mod BlocksApart
 pub mod GridsApart
 pub mod Best
 pub mod StreamEncoding
+pub mod OneMessage
+pub mod Symbols
 mod RowCounts
 mod TextMaps
 mod StepLemmas

@@ -1,5 +1,5 @@
--- The stream of the chosen plan in the smallest version, turned into bytes and drawn, is the best symbol.
-use Rattle.std.proofs.Common.{◌≡◌, ℕ, ◌-◌, ◌%◌, ◌<◌, ◌≤◌, refl, sym, ◌∙◌, arith, zero-add, List, ◌++◌, length, take, Bool, subst}
+-- The stream of the chosen plan in the smallest version, perhaps behind a header, turned into bytes and drawn, is the best symbol.
+use Rattle.std.proofs.Common.{◌≡◌, ℕ, ◌+◌, ◌-◌, ◌%◌, ◌<◌, ◌≤◌, refl, sym, ◌∙◌, arith, List, ◌++◌, length, length-append, take, Bool, subst}
 use Rattle.std.specs.Prelude.{Option, Some, None, All, IsSomeAnd}
 use Rattle.std.proofs.lemmas.Bool.{cases_lt}
 use Rattle.std.proofs.Common.{inl, inr}
@@ -12,9 +12,9 @@ use Rattle.qrcode_base.specs.declared.types.errors.QrError.{QrError}
 use Rattle.qrcode_base.specs.declared.types.errors.QrError.TheVariants.{DataTooLong, InvalidVersion, OutOfMemory}
 use Rattle.qrcode_base.specs.Numbers.{byte_bits, zero_bits}
 use Rattle.qrcode_base.specs.Symbols.{blocks_of, capacity, capacity_with, data_bytes, missing_bits}
-use Rattle.qrcode_bits.specs.Choice.{normal, micro, IsLeastBits}
+use Rattle.qrcode_bits.specs.Choice.{normal, micro}
 use Rattle.qrcode_bits.specs.Encoding.{IsEncoding, IsUnencodable, IsMicroRefused}
-use Rattle.qrcode_bits.specs.Frame.{spellings}
+use Rattle.qrcode_bits.specs.Frame.{Header, header_bits, spellings}
 use Rattle.qrcode_bits.specs.Merging.{total_bits}
 use Rattle.qrcode_bits.specs.Pieces.{segment_pieces}
 use Rattle.qrcode_bits.specs.Stream.{Stream}
@@ -39,22 +39,25 @@ has_blocks v l limit e = go (blocks_of v l) refl e
 abbrev pub AreBytesOf : List ℕ → List Bool → Type 0
 AreBytesOf words bits = byte_bits words ≡ bits ++ zero_bits ((8 - length bits % 8) % 8)
 
-module _ (kind : ℕ → Version) (bytes : List ℕ) (level : EcLevel) (limit : ℕ) (stream : Stream) (words : List ℕ) (are : All (λ c. c < 256) bytes)
-    (encoding : IsEncoding kind bytes level limit stream) (turned : AreBytesOf words stream.bits) where
+module _ (kind : ℕ → Version) (header : Option Header) (bytes : List ℕ) (level : EcLevel) (limit : ℕ) (stream : Stream) (words : List ℕ) (are : All (λ c. c < 256) bytes)
+    (encoding : IsEncoding kind header bytes level limit stream) (turned : AreBytesOf words stream.bits) where
   abbrev version : Version
   version = kind encoding.number
 
-  abbrev payload : List Bool
-  payload = spellings version (segment_pieces bytes encoding.plan)
+  abbrev front : ℕ
+  front = length (header_bits header)
 
-  encoded : IsEncoded version level None bytes (total_bits version encoding.plan) words
+  abbrev payload : List Bool
+  payload = header_bits header ++ spellings version (segment_pieces bytes encoding.plan)
+
+  encoded : IsEncoded version level header bytes (front + total_bits version encoding.plan) words
   encoded =
       let held = encoding.stream_is in
       let blocks = has_blocks version level held.limit held.limit_is in
-      let spelled = spelled_plan 0 version level bytes encoding.plan are encoding.choice.fits in
+      let spelled = spelled_plan front version level bytes encoding.plan are encoding.choice.fits in
       let short = held.frame.fits in
       let room : held.frame.limit ≡ held.limit = same_limit held.frame.limit held.limit (sym held.frame.limit_is ∙ held.limit_is) in
-      let within : length payload ≤ held.limit = omega (arith, spelled.bits, short, room) in
+      let within : length payload ≤ held.limit = omega (arith, length-append (header_bits header) (spellings version (segment_pieces bytes encoding.plan)), spelled.bits, short, room) in
       record {
         frame = take held.limit stream.bits;
         framed = held.frame;
@@ -71,39 +74,41 @@ module _ (kind : ℕ → Version) (bytes : List ℕ) (level : EcLevel) (limit : 
   all_codewords =
       let held = encoding.stream_is in
       let blocks = has_blocks version level held.limit held.limit_is in
-      let long = length-encoded version level None bytes (total_bits version encoding.plan) words blocks.0 encoded blocks.1 in
+      let long = length-encoded version level header bytes (front + total_bits version encoding.plan) words blocks.0 encoded blocks.1 in
       subst (λ (v : Version). AreAllCodewords v level (length words)) (sym held.version_is)
       (subst (λ (o : Option BlockLayout). IsSomeAnd o (λ b. length words ≡ data_bytes b)) (sym blocks.1) long)
 
-  -- Drawn, they are the best symbol.
-  pub best : (grid : List Color) → IsDrawn stream.version level words grid → IsBest kind None bytes level grid
-  best grid drawn =
+  -- Drawn, they are the best symbol, in a version up to the limit.
+  pub best_up_to : (grid : List Color) → IsDrawn stream.version level words grid → (best : IsBest kind header bytes level grid) × (best.number ≤ limit)
+  best_up_to grid drawn =
       let choice = encoding.choice in
-      let bits = total_bits version encoding.plan in
-      best_symbol kind None bytes level encoding.number bits encoding.plan words grid encoded
-      (subst (λ (v : Version). IsDrawn v level words grid) encoding.stream_is.version_is drawn) choice.fits choice.smallest
-      (subst (λ (n : ℕ). IsLeastBits 0 bytes version n) (zero-add bits) choice.fewest)
+      let best = best_symbol kind header bytes level encoding.number (front + total_bits version encoding.plan) encoding.plan words grid encoded
+      (subst (λ (v : Version). IsDrawn v level words grid) encoding.stream_is.version_is drawn) choice.fits choice.smallest choice.fewest in
+      (best.0, omega (arith, best.1, choice.up_to))
+
+  pub best : (grid : List Color) → IsDrawn stream.version level words grid → IsBest kind header bytes level grid
+  best grid drawn = (best_up_to grid drawn).0
 
 -- What is encoded fits version 40.
-pub encoded_fits : (bytes : List ℕ) (level : EcLevel) (limit : ℕ) (stream : Stream) → limit ≤ 40 → IsEncoding normal bytes level limit stream → IsTooLong bytes level → ⊥
+pub encoded_fits : (bytes : List ℕ) (level : EcLevel) (limit : ℕ) (stream : Stream) → limit ≤ 40 → IsEncoding normal None bytes level limit stream → IsTooLong bytes level → ⊥
 encoded_fits bytes level limit stream h encoding long =
     let choice = encoding.choice in
     long encoding.plan (fits_last 0 encoding.number bytes level encoding.plan (let up = choice.up_to in omega arith) choice.fits)
 
 -- It has at most 7089 bytes.
-pub encoded_short : (bytes : List ℕ) (level : EcLevel) (limit : ℕ) (stream : Stream) → limit ≤ 40 → All (λ c. c < 256) bytes → IsEncoding normal bytes level limit stream → length bytes ≤ 7089
+pub encoded_short : (bytes : List ℕ) (level : EcLevel) (limit : ℕ) (stream : Stream) → limit ≤ 40 → All (λ c. c < 256) bytes → IsEncoding normal None bytes level limit stream → length bytes ≤ 7089
 encoded_short bytes level limit stream h are encoding = elim (cases_lt 7089 (length bytes)) [
   | inl long ↦ absurd (long_message 0 bytes level limit h are long encoding.number encoding.choice.up_to encoding.plan encoding.choice.fits)
   | inr short ↦ omega (arith, short)
 ]
 
-pub encoded_micro_short : (bytes : List ℕ) (level : EcLevel) (stream : Stream) → All (λ c. c < 256) bytes → IsEncoding micro bytes level 4 stream → length bytes ≤ 7089
+pub encoded_micro_short : (bytes : List ℕ) (level : EcLevel) (stream : Stream) → All (λ c. c < 256) bytes → IsEncoding micro None bytes level 4 stream → length bytes ≤ 7089
 encoded_micro_short bytes level stream are encoding = elim (cases_lt 7089 (length bytes)) [
   | inl long ↦ absurd (long_for_micro bytes level are long encoding.number encoding.choice.up_to encoding.plan encoding.choice.fits)
   | inr short ↦ omega (arith, short)
 ]
 
-pub normal_refused : (bytes : List ℕ) (level : EcLevel) (e : QrError) → IsUnencodable normal bytes level 40 e → IsRefusal bytes level e
+pub normal_refused : (bytes : List ℕ) (level : EcLevel) (e : QrError) → IsUnencodable normal 0 bytes level 40 e → IsRefusal bytes level e
 normal_refused bytes level DataTooLong none = none 40 (omega arith)
 normal_refused bytes level OutOfMemory none = tt
 normal_refused bytes level other none = none

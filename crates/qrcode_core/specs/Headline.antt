@@ -12,8 +12,8 @@ use Rattle.qrcode_bits.specs.Choice.{normal, micro, Fits, FitsNot, FitsNone, IsL
 use Rattle.qrcode_bits.specs.Frame.{Header, header_bits}
 use Rattle.qrcode_base.specs.Symbols.{block_sizes}
 use Rattle.qrcode_grid.specs.declared.canvas.MaskPattern.{MaskPattern}
-use Rattle.qrcode_grid.specs.Blocks.{codeword_block}
-use Rattle.qrcode_grid.specs.Codes.{IsApart, distance}
+use Rattle.qrcode_grid.specs.Blocks.{AreBlocksApart, codeword_block}
+use Rattle.qrcode_grid.specs.Codes.{distance}
 use Rattle.qrcode_grid.specs.Penalty.{IsFirstLeastMask}
 use Rattle.qrcode_grid.specs.Symbol.{HasFunctionalColors}
 use Rattle.qrcode_core.specs.Reader.{Reading, Reads, reading_of}
@@ -24,8 +24,7 @@ use Rattle.qrcode_core.specs.Reader.{Reading, Reads, reading_of}
 -- codewords.
 abbrev pub HasBlocksApart : (grid : List Color) (reading : Reading) → Reads grid reading → Type 0
 HasBlocksApart grid reading r =
-    (block : ℕ) → block < length (block_sizes r.blocks) →
-    IsApart r.blocks.correction (codeword_block r.blocks.correction (block_sizes r.blocks) r.interleaved r.correction block)
+    AreBlocksApart r.blocks.correction (block_sizes r.blocks) r.interleaved r.correction
 
 -- A grid differs from another one, each as it is read, in some block in more codewords than the block has correction codewords.
 abbrev pub AreFarApart : (grid other : List Color) (r s : Reading) → Reads grid r → Reads other s → Type 0

@@ -2,6 +2,7 @@ pub mod Reader
 pub mod Example
 pub mod Layers
 pub mod Headline
+pub mod Sequence
 pub use Rattle.qrcode_base.specs.ErrorTexts
 pub use Rattle.qrcode_base.specs.Names
 pub mod Grids

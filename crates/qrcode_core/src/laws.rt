@@ -2,6 +2,7 @@
 ghost use Rattle.qrcode_core.specs.Example.{printed, printed_reading};
 ghost use Rattle.qrcode_core.specs.Headline.{HaveDistance};
 ghost use Rattle.qrcode_core.specs.Reader.{HaveOneReading, Reads};
+ghost use Rattle.qrcode_core.specs.Sequence.{HaveOneMessage};
 
 /// No grid is read in two ways: the bytes, the version, the level, the mask, the header and the payload bits that a reader
 /// finds are the only ones.
@@ -18,4 +19,9 @@ pub fn printed_symbol_is_read()
 /// has correction codewords (ISO/IEC 18004, error correction).
 pub fn have_distance()
     ensures { HaveDistance }
+{}
+
+/// No grids are read as two messages of a sequence, in whatever order they are given (ISO/IEC 18004, "Structured Append").
+pub fn have_one_message()
+    ensures { HaveOneMessage }
 {}

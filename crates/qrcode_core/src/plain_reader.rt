@@ -2,8 +2,10 @@
 mod blocks;
 mod cells;
 mod frame;
+mod sequence;
 
 use crate::types::{Color, EcLevel};
+pub use sequence::read_sequence;
 use std::alloc::Global;
 
 /// The shape of a grid: its width, and the number of its version.

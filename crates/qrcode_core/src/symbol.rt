@@ -3,10 +3,13 @@ ghost use Rattle.std.specs.Prelude.{◌≡◌, ◌≤◌, length, OnOk, IfOk, If
 ghost use Rattle.qrcode_core.specs.Headline.{IsBestSymbol, IsBestMicroSymbol, IsSquare, IsTooLong, IsRefusal, IsMicroRefusal};
 ghost use Rattle.qrcode_core.specs.Layers.{AreAllCodewords, IsDrawn};
 
+mod sequence;
+
 use qrcode_base::types::{Color, EcLevel, QrError, QrResult, Version};
 use qrcode_bits::bits::{encode_auto, encode_auto_micro};
 use qrcode_grid::canvas::draw_symbol;
 use qrcode_grid::ec::construct_codewords;
+pub use sequence::symbol_sequence;
 use std::alloc::Global;
 
 /// The modules of the best symbol of some bytes at a level, row by row from the upper left corner; the width is the square root

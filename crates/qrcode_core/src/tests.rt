@@ -103,16 +103,6 @@ fn refuses(rt: HostRuntime) -> Result<(), Fail> {
     Ok(())
 }
 
-// No byte is kept here, so the answer is the same where each growth is refused (`rt try --test --fail-alloc N`).
-#[test]
-fn refuses_too_many_digits_without_memory(rt: HostRuntime) {
-    let digits = [b'7'; 7090];
-    let answer = symbol(rt.alloc(), &digits, EcLevel::L);
-    assert_eq!(rt; answer.err(), Some(QrError::DataTooLong));
-    let answer = symbol_micro(rt.alloc(), &digits, EcLevel::L);
-    assert_eq!(rt; answer.err(), Some(QrError::DataTooLong));
-}
-
 // Whether the symbol of as many bytes as a version holds is read as these bytes, at this version and level.
 fn is_read_back(alloc: Global, shape: Shape, level: EcLevel) -> bool {
     let Some(room) = data_count(shape, level) else {
@@ -196,8 +186,8 @@ fn input(alloc: Global, kind: usize, count: usize) -> Option<Vec<u8>> {
     Some(bytes)
 }
 
-// A hash of the modules (FNV-1a, a byte for each).
-fn hash(grid: &[Color]) -> u32 {
+/// A hash of the modules (FNV-1a, a byte for each).
+pub(crate) fn hash(grid: &[Color]) -> u32 {
     let mut sum = 0x811c_9dc5u32;
     for color in grid {
         sum = (sum ^ u32::from(*color == Color::Dark)).wrapping_mul(0x0100_0193);

@@ -158,7 +158,7 @@ impl Builder for Lone {
 
 /// Renders a mark for each module, with the option `dark` for dark ones; refuses the option `light`.
 #[derive(Drop)]
-struct Text;
+pub(crate) struct Text;
 
 impl DynRenderer for Text {
     ghost renders = { λ _ _ _ _. Unit {0} };
@@ -185,7 +185,7 @@ impl DynRenderer for Text {
 
 /// Encodes bytes as they are.
 #[derive(Drop)]
-struct Plain;
+pub(crate) struct Plain;
 
 impl DynEncoder for Plain {
     ghost encodes = { λ _ _ _ _. Unit {0} };
@@ -202,8 +202,8 @@ impl DynEncoder for Plain {
 
 /// Sets a module of the top row dark.
 #[derive(Drop)]
-struct Darken {
-    x: usize,
+pub(crate) struct Darken {
+    pub(crate) x: usize,
 }
 
 impl PostProcessor for Darken {

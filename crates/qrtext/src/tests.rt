@@ -79,7 +79,7 @@ impl Write for Narrow<'_> {
 }
 
 // The symbol of `hello` at level L, as the original crate draws it.
-const HELLO: &str = "\
+pub(crate) const HELLO: &str = "\
 #######..#.##.#######\n\
 #.....#.##.#..#.....#\n\
 #.###.#.##..#.#.###.#\n\
@@ -175,10 +175,15 @@ fn writes_fail(rt: HostRuntime) -> Result<(), Fail> {
         Then::Fails(ErrorKind::Interrupted),
         Then::TakesNothing,
     ] {
-        for calls in 0..4 {
+        // After five calls all is written, and the flush fails.
+        for calls in 0..6 {
             let (is_due, text) = drawn(&rt, 100, calls, then)?;
             assert!(rt; is_due);
-            assert_eq!(rt; text.len(), 100 * calls, "after {calls} calls");
+            assert_eq!(rt;
+                text.len(),
+                whole.len().min(100 * calls),
+                "after {calls} calls"
+            );
             assert!(rt; whole.as_slice().starts_with(text.as_slice()));
         }
     }

@@ -1,10 +1,10 @@
 //! The choice of the version: the smallest in which some way to merge the parsed segments of the data fits (ISO/IEC 18004, "Data
-//! analysis").
+//! analysis"), in a symbol that is part of a sequence behind the 20 bits of its header ("Structured Append").
 //!
 //! Normal versions fall into three classes, 1 to 9, 10 to 26 and 27 to 40. In a class a plan takes the same bits in each version, so
 //! one plan for the last version of a class decides for the class.
 
-ghost use Rattle.std.specs.Prelude.{◌≡◌, ℕ, ◌+◌, ◌≤◌, length, nat_abs, IfOk, IfErr, IfSome, IfNone, All, IsTrue, ◌↔◌};
+ghost use Rattle.std.specs.Prelude.{◌≡◌, ℕ, ◌+◌, ◌≤◌, length, nat_abs, Some, None, OnOk, IfOk, IfErr, IfSome, IfNone, All, IsTrue, ◌↔◌};
 ghost use Rattle.qrcode_base.specs.declared.types.Mode.{Mode};
 ghost use Rattle.qrcode_base.specs.Modes.{HasMode, indicator_width, count_width};
 ghost use Rattle.qrcode_base.specs.Versions.{HasMicroNumber};
@@ -12,28 +12,50 @@ ghost use Rattle.qrcode_bits.specs.Parsing.{parsed};
 ghost use Rattle.qrcode_bits.specs.Merging.{IsChosenPlan};
 ghost use Rattle.qrcode_bits.specs.Choice.{Fits, FitsNot, FitsNone, normal, micro, IsMinVersion};
 ghost use Rattle.qrcode_bits.specs.Classes.{IsClass, ClassesUpTo};
-ghost use Rattle.qrcode_bits.specs.Encoding.{IsPlanStream, IsEncoding, IsUnencodable, IsEncodingRefused, IsMicroRefused};
+ghost use Rattle.qrcode_bits.specs.Encoding.{IsPlanStream, IsEncoding, IsUnencodable, IsLimit, IsEncodingRefused, IsMicroRefused, IsPartRefused};
+ghost use Rattle.qrcode_bits.specs.Frame.{HasHeader, header_bits};
+ghost use Rattle.qrcode_bits.specs.ModeSets.{no_modes};
+ghost use Rattle.qrcode_bits.specs.Push.{header};
 
 use super::Bits;
 use super::ending::data_capacity_bits;
+use super::headers::check_place;
 use super::widths::has_mode;
 use crate::optimize::{Parser, Segment, optimize_segments, total_encoded_len};
 use arrayvec::ArrayVec;
 use qrcode_base::types::{EcLevel, QrError, QrResult, Version};
 use std::alloc::Global;
+use std::marker::Model;
 
 /// The longest data that some symbol holds: 7089 digits in version 40 at level L.
 const MAX_DATA_LEN: usize = 7089;
+
+/// The header of a symbol that is part of a sequence.
+#[derive(Drop)]
+struct Part {
+    position: u8,
+    total: u8,
+    parity: u8,
+}
+
+// Clauses see the header.
+impl Model for Part {
+    ghost use Rattle.qrcode_bits.specs.Frame.{Header};
+
+    ghost Value = { Header };
+
+    ghost view = { λ p. record { place = p.position; total = p.total; parity = p.parity } };
+}
 
 /// The bits of some data in the smallest Normal version in which some plan fits, by the plan that takes the fewest bits there, up
 /// to terminator and padding.
 ///
 /// `DataTooLong` comes where no plan fits version 40 at this level, so for more than 7089 bytes before any memory is taken.
 pub fn encode_auto(alloc: Global, bytes: &[u8], level: EcLevel) -> QrResult<Bits>
-    ensures ok { IfOk result (λ bits. IsEncoding normal bytes.now level 40 bits) }
-    ensures err { IfErr result (λ e. IsUnencodable normal bytes.now level 40 e) }
+    ensures ok { IfOk result (λ bits. IsEncoding normal None bytes.now level 40 bits) }
+    ensures err { IfErr result (λ e. IsUnencodable normal 0 bytes.now level 40 e) }
 {
-    encode_up_to(alloc, bytes, level, 40)
+    encode_up_to(alloc, &None, bytes, level, 40)
 }
 
 /// As `encode_auto`, but with no version past `max_version`.
@@ -45,13 +67,53 @@ pub fn encode_auto_with_max_version(
     level: EcLevel,
     max_version: i16,
 ) -> QrResult<Bits>
-    ensures ok { IfOk result (λ bits. IsEncoding normal bytes.now level (nat_abs max_version) bits) }
+    ensures ok { IfOk result (λ bits. IsEncoding normal None bytes.now level (nat_abs max_version) bits) }
+    ensures limit { OnOk result (IsLimit max_version) }
     ensures err { IfErr result (λ e. IsEncodingRefused bytes.now level max_version e) }
 {
     if max_version < 1 || max_version > 40 {
         return Err(QrError::InvalidResourceLimits);
     }
-    match encode_up_to(alloc, bytes, level, max_version as usize) {
+    match encode_up_to(alloc, &None, bytes, level, max_version as usize) {
+        Ok(bits) => Ok(bits),
+        Err(error) => Err(error),
+    }
+}
+
+/// The bits of one symbol of a sequence (ISO/IEC 18004, "Structured Append"): the header of 20 bits with the symbol's place from 1
+/// on, how many symbols there are, and the exclusive or of all bytes of the message; behind it its part of the data, up to
+/// terminator and padding.
+///
+/// The version is the smallest up to `max_version` in which the header and some plan fit, and the plan takes the fewest bits there.
+/// The payload counts the header. The refusals are `InvalidResourceLimits` where the maximum is outside 1 to 40, then
+/// `InvalidStructuredAppend` with the total where it is not 2 to 16, else with the position where it is not 1 to the total, then
+/// `DataTooLong` where no plan fits, so for more than 7089 bytes before any memory is taken.
+pub fn encode_part(
+    alloc: Global,
+    bytes: &[u8],
+    position: u8,
+    total: u8,
+    parity: u8,
+    level: EcLevel,
+    max_version: i16,
+) -> QrResult<Bits>
+    ensures ok { IfOk result (λ bits. IsEncoding normal (Some (header position total parity)) bytes.now level
+        (nat_abs max_version) bits) }
+    ensures limit { OnOk result (IsLimit max_version) }
+    ensures err { IfErr result (λ e. IsPartRefused position total bytes.now level max_version e) }
+{
+    if max_version < 1 || max_version > 40 {
+        return Err(QrError::InvalidResourceLimits);
+    }
+    if let Err(error) = check_place(position, total) {
+        return Err(error);
+    }
+    let header = Part {
+        position,
+        total,
+        parity,
+    };
+    match encode_up_to(alloc, &Some(header), bytes, level, max_version as usize) {
         Ok(bits) => Ok(bits),
         Err(error) => Err(error),
     }
@@ -62,7 +124,7 @@ pub fn encode_auto_with_max_version(
 ///
 /// Level H, which no Micro version has, is `InvalidVersion` with M4. Then `DataTooLong` comes where no plan fits any of the four.
 pub fn encode_auto_micro(alloc: Global, bytes: &[u8], level: EcLevel) -> QrResult<Bits>
-    ensures ok { IfOk result (λ bits. IsEncoding micro bytes.now level 4 bits) }
+    ensures ok { IfOk result (λ bits. IsEncoding micro None bytes.now level 4 bits) }
     ensures err { IfErr result (λ e. IsMicroRefused bytes.now level e) }
 {
     if level == EcLevel::H {
@@ -79,11 +141,11 @@ pub fn encode_auto_micro(alloc: Global, bytes: &[u8], level: EcLevel) -> QrResul
     };
     for smaller in 0..4 {
         let version = micro(smaller + 1);
-        let Ok(found) = chosen_plan(alloc, bytes, &segments, version, level) else {
+        let Ok(found) = chosen_plan(alloc, 0, bytes, &segments, version, level) else {
             return Err(QrError::OutOfMemory);
         };
         if let Some(plan) = found {
-            let Ok(bits) = encode_plan(alloc, bytes, version, level, &plan) else {
+            let Ok(bits) = encode_plan(alloc, &None, bytes, version, level, &plan) else {
                 return Err(QrError::OutOfMemory);
             };
             return Ok(bits);
@@ -125,12 +187,30 @@ fn micro(number: usize) -> Version
     Version::Micro(number as i16)
 }
 
-// The bits of the data in the smallest Normal version up to a limit, told by its number.
-fn encode_up_to(alloc: Global, bytes: &[u8], level: EcLevel, limit: usize) -> QrResult<Bits>
+// How many bits stand in front of the data.
+fn front_bits(header: &Option<Part>) -> usize
+    ensures is { result ≡ length (header_bits header.now) }
+    ensures small { result ≤ 20 }
+{
+    match header {
+        Some(_) => 20,
+        None => 0,
+    }
+}
+
+// The bits of the data behind a header or none, in the smallest Normal version up to a limit, told by its number.
+fn encode_up_to(
+    alloc: Global,
+    header: &Option<Part>,
+    bytes: &[u8],
+    level: EcLevel,
+    limit: usize,
+) -> QrResult<Bits>
+    requires header { HasHeader (normal limit) header.now }
     requires from_one { 1 ≤ limit }
     requires to_forty { limit ≤ 40 }
-    ensures ok { IfOk result (λ bits. IsEncoding normal bytes.now level limit bits) }
-    ensures err { IfErr result (λ e. IsUnencodable normal bytes.now level limit e) }
+    ensures ok { IfOk result (λ bits. IsEncoding normal header.now bytes.now level limit bits) }
+    ensures err { IfErr result (λ e. IsUnencodable normal (length (header_bits header.now)) bytes.now level limit e) }
 {
     if bytes.len() > MAX_DATA_LEN {
         return Err(QrError::DataTooLong);
@@ -140,7 +220,7 @@ fn encode_up_to(alloc: Global, bytes: &[u8], level: EcLevel, limit: usize) -> Qr
     };
     let candidates = last_versions(limit);
     for last in candidates.as_slice() {
-        let Ok(found) = encode_class(alloc, bytes, &segments, level, *last) else {
+        let Ok(found) = encode_class(alloc, header, bytes, &segments, level, *last) else {
             return Err(QrError::OutOfMemory);
         };
         if let Some(bits) = found {
@@ -152,7 +232,8 @@ fn encode_up_to(alloc: Global, bytes: &[u8], level: EcLevel, limit: usize) -> Qr
 
 // The parsed segments of some bytes.
 fn parse(alloc: Global, bytes: &[u8]) -> QrResult<Vec<Segment>>
-    ensures { IfOk result (λ segments. segments.items ≡ parsed bytes.now) }
+    ensures parsed { IfOk result (λ segments. segments.items ≡ parsed bytes.now) }
+    ensures memory { IfErr result (λ e. e ≡ QrError.OutOfMemory) }
 {
     let segments: Vec<Segment> = Parser::new(bytes).collect(alloc)?;
     Ok(segments)
@@ -175,52 +256,60 @@ fn last_versions(limit: usize) -> ArrayVec<usize, 3>
     candidates
 }
 
-// The bits of the chosen plan of the last version of a class, where it fits, in the least version that holds them.
+// The bits of a header or none and of the chosen plan of the last version of a class, where both fit, in the least version that
+// holds them.
 fn encode_class(
     alloc: Global,
+    header: &Option<Part>,
     bytes: &[u8],
     segments: &[Segment],
     level: EcLevel,
     last: usize,
 ) -> QrResult<Option<Bits>>
+    requires header { HasHeader (normal last) header.now }
     requires from_one { 1 ≤ last }
     requires to_forty { last ≤ 40 }
     requires segments { segments.now ≡ parsed bytes.now }
     requires short { length bytes.now ≤ 7089 }
     ensures some { IfOk result (λ found. IfSome found (λ bits. (before limit : ℕ) → IsClass before last → last ≤ limit →
-        FitsNone normal 0 bytes.now level before → IsEncoding normal bytes.now level limit bits)) }
-    ensures none { IfOk result (λ found. IfNone found (FitsNot 0 bytes.now (normal last) level)) }
+        FitsNone normal (length (header_bits header.now)) bytes.now level before →
+        IsEncoding normal header.now bytes.now level limit bits)) }
+    ensures none { IfOk result (λ found. IfNone found
+        (FitsNot (length (header_bits header.now)) bytes.now (normal last) level)) }
     ensures memory { IfErr result (λ e. e ≡ QrError.OutOfMemory) }
 {
+    let front = front_bits(header);
     let version = normal(last);
-    let Ok(found) = chosen_plan(alloc, bytes, segments, version, level) else {
+    let Ok(found) = chosen_plan(alloc, front, bytes, segments, version, level) else {
         return Err(QrError::OutOfMemory);
     };
     let Some(plan) = found else {
         return Ok(None);
     };
-    let smallest = find_min_version(total_encoded_len(&plan, version), level);
-    match encode_plan(alloc, bytes, smallest, level, &plan) {
+    let smallest = find_min_version(front + total_encoded_len(&plan, version), level);
+    match encode_plan(alloc, header, bytes, smallest, level, &plan) {
         Ok(bits) => Ok(Some(bits)),
         Err(_) => Err(QrError::OutOfMemory),
     }
 }
 
-// The chosen plan of some bytes in a version, where it fits.
+// The chosen plan of some bytes in a version, where it fits behind so many bits in front.
 fn chosen_plan(
     alloc: Global,
+    front: usize,
     bytes: &[u8],
     segments: &[Segment],
     version: Version,
     level: EcLevel,
 ) -> QrResult<Option<Vec<Segment>>>
+    requires front { front ≤ 20 }
     requires number { HasMicroNumber version }
     requires small { (mode : Mode) → indicator_width version + count_width version mode ≤ 20 }
     requires segments { segments.now ≡ parsed bytes.now }
     requires short { length bytes.now ≤ 7089 }
     ensures chosen { IfOk result (λ found. IfSome found (λ plan. IsChosenPlan (parsed bytes.now) version plan.items)) }
-    ensures fits { IfOk result (λ found. IfSome found (λ plan. Fits 0 bytes.now version level plan.items)) }
-    ensures none { IfOk result (λ found. IfNone found (FitsNot 0 bytes.now version level)) }
+    ensures fits { IfOk result (λ found. IfSome found (λ plan. Fits front bytes.now version level plan.items)) }
+    ensures none { IfOk result (λ found. IfNone found (FitsNot front bytes.now version level)) }
     ensures memory { IfErr result (λ e. e ≡ QrError.OutOfMemory) }
 {
     let Ok(limit) = data_capacity_bits(version, level) else {
@@ -232,7 +321,7 @@ fn chosen_plan(
     if !has_modes(version, &plan) {
         return Ok(None);
     }
-    if total_encoded_len(&plan, version) > limit {
+    if front + total_encoded_len(&plan, version) > limit {
         return Ok(None);
     }
     Ok(Some(plan))
@@ -246,25 +335,51 @@ fn has_modes(version: Version, segments: &[Segment]) -> bool
     segments.iter().all(|part| has_mode(version, part.mode))
 }
 
-// The bits of a plan that fits a version: the spellings of its parts, terminator and padding.
+// The bits of a plan that fits a version: a header or none, the spellings of its parts, terminator and padding.
 fn encode_plan(
     alloc: Global,
+    header: &Option<Part>,
     bytes: &[u8],
     version: Version,
     level: EcLevel,
     plan: &[Segment],
 ) -> QrResult<Bits>
     requires number { HasMicroNumber version }
-    requires fits { Fits 0 bytes.now version level plan.now }
-    ensures ok { IfOk result (λ bits. IsPlanStream bytes.now version level plan.now bits) }
+    requires header { HasHeader version header.now }
+    requires fits { Fits (length (header_bits header.now)) bytes.now version level plan.now }
+    ensures ok { IfOk result (λ bits. IsPlanStream header.now bytes.now version level plan.now bits) }
     ensures memory { IfErr result (λ e. e ≡ QrError.OutOfMemory) }
 {
-    let mut bits = Bits::new(alloc, version);
+    let Ok(mut bits) = started(alloc, header, version) else {
+        return Err(QrError::OutOfMemory);
+    };
     if let Err(error) = bits.push_segments(bytes, plan.iter().copied()) {
         return Err(error);
     }
     if let Err(error) = bits.push_terminator(level) {
         return Err(error);
+    }
+    Ok(bits)
+}
+
+// A stream that begins with a header, or with nothing.
+fn started(alloc: Global, header: &Option<Part>, version: Version) -> QrResult<Bits>
+    requires number { HasMicroNumber version }
+    requires header { HasHeader version header.now }
+    ensures bits { IfOk result (λ bits. bits.bits ≡ header_bits header.now) }
+    ensures version { IfOk result (λ bits. bits.version ≡ version) }
+    ensures modes { IfOk result (λ bits. bits.modes ≡ no_modes) }
+    ensures memory { IfErr result (λ e. e ≡ QrError.OutOfMemory) }
+{
+    let mut bits = Bits::new(alloc, version);
+    if let Some(part) = header {
+        if let Err(error) = bits.push_structured_append_header(
+            part.position,
+            part.total,
+            part.parity,
+        ) {
+            return Err(error);
+        }
     }
     Ok(bits)
 }

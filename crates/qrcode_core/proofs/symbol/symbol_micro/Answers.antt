@@ -1,6 +1,6 @@
 -- The best encoding, drawn, is the best symbol.
 use Rattle.std.proofs.Common.{◌<◌, arith}
-use Rattle.std.specs.Prelude.{All}
+use Rattle.std.specs.Prelude.{All, None}
 use Rattle.qrcode_bits.specs.Choice.{micro}
 use Rattle.qrcode_bits.proofs.Pairs.{bytes_valid}
 use Rattle.qrcode_core.proofs.StreamEncoding.{all_codewords, best, encoded_micro_short}
@@ -9,13 +9,13 @@ use Rattle.qrcode_core.proofs.symbol.symbol_micro.Goals as goal
 pub draw-requires : goal.draw-requires
 draw-requires c =
     let are : All (λ b. b < 256) c.args.bytes.now = bytes_valid c.args.bytes.now (λ i. omega (arith, c.type_inv.bytes i)) in
-    let whole = all_codewords micro c.args.bytes.now c.args.level 4 c.in-Ok.bits c.into_bytes-codewords.result.items are c.in-Ok.ensures.ok c.into_bytes-codewords.ensures in
+    let whole = all_codewords micro None c.args.bytes.now c.args.level 4 c.in-Ok.bits c.into_bytes-codewords.result.items are c.in-Ok.ensures.ok c.into_bytes-codewords.ensures in
     rw (c.version-version.ensures, c.deref.ensures.value) whole
 
 pub returns-in-Ok-draw-clause-best : goal.returns-in-Ok-draw-clause-best
 returns-in-Ok-draw-clause-best c =
     let are : All (λ b. b < 256) c.args.bytes.now = bytes_valid c.args.bytes.now (λ i. omega (arith, c.type_inv.bytes i)) in
-    best micro c.args.bytes.now c.args.level 4 c.in-Ok.bits c.into_bytes-codewords.result.items are c.in-Ok.ensures.ok c.into_bytes-codewords.ensures c.in-Ok-draw.grid.items
+    best micro None c.args.bytes.now c.args.level 4 c.in-Ok.bits c.into_bytes-codewords.result.items are c.in-Ok.ensures.ok c.into_bytes-codewords.ensures c.in-Ok-draw.grid.items
     (rw (c.version-version.ensures, c.deref.ensures.value) at c.in-Ok-draw.ensures.drawn)
 
 pub returns-in-Ok-draw-clause-limit : goal.returns-in-Ok-draw-clause-limit

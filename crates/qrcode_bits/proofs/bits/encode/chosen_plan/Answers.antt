@@ -1,5 +1,5 @@
 -- The chosen plan decides whether some plan fits.
-use Rattle.std.proofs.Common.{◌≡◌, refl, true, false, ◌<◌, ◌≤◌, ◌^◌, ℕ, List, ap, ◌∙◌, sym, subst, arith}
+use Rattle.std.proofs.Common.{◌≡◌, refl, true, false, ◌+◌, ◌<◌, ◌≤◌, ◌^◌, ℕ, List, ap, ◌∙◌, sym, subst, arith}
 use Rattle.std.specs.Prelude.{All}
 use Rattle.qrcode_bits.specs.declared.optimize.Segment.{Segment}
 use Rattle.qrcode_base.specs.declared.types.errors.QrError.TheVariants.{InvalidVersion}
@@ -20,7 +20,7 @@ pub returns-then-not-has_modes-clause-none : goal.returns-then-not-has_modes-cla
 returns-then-not-has_modes-clause-none c =
     let chosen = subst (λ (s : List Segment). IsChosenPlan s c.args.version c.in-Ok-optimize_segments.plan.items) c.requires.segments c.in-Ok-optimize_segments.ensures.plan in
     let known = known_limit (capacity c.args.version c.args.level) c.in-Ok.limit (InvalidVersion c.args.version c.args.level) c.in-Ok.ensures.is in
-    lacks_mode c.args.bytes.now c.args.version c.args.level c.in-Ok-optimize_segments.plan.items c.in-Ok.limit chosen known
+    lacks_mode c.args.front c.args.bytes.now c.args.version c.args.level c.in-Ok-optimize_segments.plan.items c.in-Ok.limit chosen known
     (λ has.
     let no : false ≡ true = c.if-not-has_modes.ensures.1 (subst (λ (p : List Segment). All (λ part. HasMode c.args.version part.mode) p) (sym c.deref.ensures.value) has) in
     absurd (cc))
@@ -36,22 +36,30 @@ pub total_encoded_len-requires-clause-fits : goal.total_encoded_len-requires-cla
 total_encoded_len-requires-clause-fits c =
     let chosen = subst (λ (s : List Segment). IsChosenPlan s c.args.version c.in-Ok-optimize_segments.plan.items) c.requires.segments c.in-Ok-optimize_segments.ensures.plan in
     subst (λ (p : List Segment). total_bits c.args.version p < 2 ^ 64) (sym c.deref-2.ensures.value)
-    (plan_small c.args.bytes.now c.args.version c.requires.small c.requires.short c.in-Ok-optimize_segments.plan.items
-    (bytes_valid c.args.bytes.now (λ i. omega (arith, c.type_inv.bytes i))) (chosen_is_plan c.args.bytes.now c.args.version c.in-Ok-optimize_segments.plan.items chosen))
+    (let small = plan_small c.args.bytes.now c.args.version c.requires.small c.requires.short c.in-Ok-optimize_segments.plan.items
+    (bytes_valid c.args.bytes.now (λ i. omega (arith, c.type_inv.bytes i))) (chosen_is_plan c.args.bytes.now c.args.version c.in-Ok-optimize_segments.plan.items chosen) in omega arith)
 
-pub returns-then-total_encoded_len-limit-clause-none : goal.returns-then-total_encoded_len-limit-clause-none
-returns-then-total_encoded_len-limit-clause-none c =
+pub overflow_add-front : goal.overflow_add-front
+overflow_add-front c =
+    let chosen = subst (λ (s : List Segment). IsChosenPlan s c.args.version c.in-Ok-optimize_segments.plan.items) c.requires.segments c.in-Ok-optimize_segments.ensures.plan in
+    let small = plan_small c.args.bytes.now c.args.version c.requires.small c.requires.short c.in-Ok-optimize_segments.plan.items
+    (bytes_valid c.args.bytes.now (λ i. omega (arith, c.type_inv.bytes i))) (chosen_is_plan c.args.bytes.now c.args.version c.in-Ok-optimize_segments.plan.items chosen) in
+    let size = c.total_encoded_len.ensures ∙ ap (λ (p : List Segment). total_bits c.args.version p) c.deref-2.ensures.value in
+    omega arith
+
+pub returns-then-front-total_encoded_len-clause-none : goal.returns-then-front-total_encoded_len-clause-none
+returns-then-front-total_encoded_len-clause-none c =
     let chosen = subst (λ (s : List Segment). IsChosenPlan s c.args.version c.in-Ok-optimize_segments.plan.items) c.requires.segments c.in-Ok-optimize_segments.ensures.plan in
     let known = known_limit (capacity c.args.version c.args.level) c.in-Ok.limit (InvalidVersion c.args.version c.args.level) c.in-Ok.ensures.is in
     let size = c.total_encoded_len.ensures ∙ ap (λ (p : List Segment). total_bits c.args.version p) c.deref-2.ensures.value in
-    too_many c.args.bytes.now c.args.version c.args.level c.in-Ok-optimize_segments.plan.items c.in-Ok.limit chosen known
-    (subst (λ (n : ℕ). c.in-Ok.limit < n) size c.if-total_encoded_len-limit.true)
+    too_many c.args.front c.args.bytes.now c.args.version c.args.level c.in-Ok-optimize_segments.plan.items c.in-Ok.limit chosen known
+    (subst (λ (n : ℕ). c.in-Ok.limit < c.args.front + n) size c.if-front-total_encoded_len.true)
 
 pub returns-clause-fits : goal.returns-clause-fits
 returns-clause-fits c =
     let chosen = subst (λ (s : List Segment). IsChosenPlan s c.args.version c.in-Ok-optimize_segments.plan.items) c.requires.segments c.in-Ok-optimize_segments.ensures.plan in
     let known = known_limit (capacity c.args.version c.args.level) c.in-Ok.limit (InvalidVersion c.args.version c.args.level) c.in-Ok.ensures.is in
     let size = c.total_encoded_len.ensures ∙ ap (λ (p : List Segment). total_bits c.args.version p) c.deref-2.ensures.value in
-    chosen_fits_here c.args.bytes.now c.args.version c.args.level c.in-Ok-optimize_segments.plan.items c.in-Ok.limit chosen known
+    chosen_fits_here c.args.front c.args.bytes.now c.args.version c.args.level c.in-Ok-optimize_segments.plan.items c.in-Ok.limit chosen known
     (subst (λ (p : List Segment). All (λ part. HasMode c.args.version part.mode) p) c.deref.ensures.value (c.if-not-has_modes.ensures.0 refl))
-    (subst (λ (n : ℕ). n ≤ c.in-Ok.limit) size c.if-total_encoded_len-limit.false)
+    (subst (λ (n : ℕ). c.args.front + n ≤ c.in-Ok.limit) size c.if-front-total_encoded_len.false)

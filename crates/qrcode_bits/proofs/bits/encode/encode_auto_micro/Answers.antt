@@ -1,5 +1,5 @@
 -- The first Micro version whose chosen plan fits is the choice.
-use Rattle.std.proofs.Common.{◌≡◌, ℕ, ◌+◌, List, subst, arith, true, false}
+use Rattle.std.proofs.Common.{None, ◌≡◌, ℕ, ◌+◌, List, subst, arith, true, false}
 use Rattle.qrcode_base.specs.declared.types.Version.{Version}
 use Rattle.qrcode_bits.specs.declared.optimize.Segment.{Segment}
 use Rattle.qrcode_bits.specs.Parsing.{parsed}
@@ -22,8 +22,8 @@ returns-in-Some-clause-ok c =
     let number : ℕ = c.loop-smaller.smaller + 1 in
     let fits = subst (λ (v : Version). Fits 0 c.args.bytes.now v c.args.level c.in-Some.plan.items) c.micro-version.ensures.is (rw c.in-Some.is at c.in-Ok-chosen_plan.ensures.fits) in
     let chosen = subst (λ (v : Version). IsChosenPlan (parsed c.args.bytes.now) v c.in-Some.plan.items) c.micro-version.ensures.is (rw c.in-Some.is at c.in-Ok-chosen_plan.ensures.chosen) in
-    let stream = subst (λ (v : Version). IsPlanStream c.args.bytes.now v c.args.level c.in-Some.plan.items c.in-Ok-encode_plan.bits) c.micro-version.ensures.is
-    (subst (λ (p : List Segment). IsPlanStream c.args.bytes.now c.micro-version.result c.args.level p c.in-Ok-encode_plan.bits) c.deref-in-Some.ensures.value c.in-Ok-encode_plan.ensures.ok) in
+    let stream = subst (λ (v : Version). IsPlanStream None c.args.bytes.now v c.args.level c.in-Some.plan.items c.in-Ok-encode_plan.bits) c.micro-version.ensures.is
+    (subst (λ (p : List Segment). IsPlanStream None c.args.bytes.now c.micro-version.result c.args.level p c.in-Ok-encode_plan.bits) c.deref-in-Some.ensures.value c.in-Ok-encode_plan.ensures.ok) in
     record {
       number = number;
       plan = c.in-Some.plan.items;

@@ -1,48 +1,67 @@
 -- The chosen plan of the last version of a class decides for the class.
-use Rattle.std.proofs.Common.{◌<◌, ◌≤◌, ◌^◌, ℕ, List, ap, ◌∙◌, sym, subst, arith}
+use Rattle.std.proofs.Common.{◌≡◌, ◌+◌, length, ◌<◌, ◌≤◌, ◌^◌, ℕ, List, ap, ◌∙◌, sym, subst, arith}
 use Rattle.std.specs.Prelude.{All}
 use Rattle.qrcode_base.specs.declared.types.Version.{Version}
 use Rattle.qrcode_bits.specs.declared.optimize.Segment.{Segment}
+use Rattle.qrcode_bits.specs.Frame.{header_bits}
 use Rattle.qrcode_bits.specs.Parsing.{parsed}
 use Rattle.qrcode_bits.specs.Merging.{IsChosenPlan, total_bits}
-use Rattle.qrcode_bits.specs.Choice.{normal, Fits, FitsNot, IsMinVersion}
+use Rattle.qrcode_bits.specs.Choice.{normal, Fits, IsMinVersion}
 use Rattle.qrcode_bits.specs.Encoding.{IsPlanStream}
 use Rattle.qrcode_bits.proofs.Pairs.{bytes_valid}
-use Rattle.qrcode_bits.proofs.Classes.{normal_headers, plan_small, plan_ordered, class_fits, class_encoding}
+use Rattle.qrcode_bits.proofs.Classes.{normal_headers, plan_small, plan_ordered, front_fits, front_not, class_fits, class_header, class_encoding}
 use Rattle.qrcode_bits.proofs.bits.encode.encode_class.Goals as goal
 
 pub returns-in_default-found-clause-none : goal.returns-in_default-found-clause-none
 returns-in_default-found-clause-none c =
-    subst (λ (v : Version). FitsNot 0 c.args.bytes.now v c.args.level) c.normal-version.ensures (rw c.in_default-found.is at c.in-Ok.ensures.none)
+    front_not c.args.bytes.now c.args.level c.args.last c.front_bits-front.result (length (header_bits c.args.header.now)) c.normal-version.result c.front_bits-front.ensures.is c.normal-version.ensures (rw c.in_default-found.is at c.in-Ok.ensures.none)
 
 pub total_encoded_len-requires-clause-ordered : goal.total_encoded_len-requires-clause-ordered
 total_encoded_len-requires-clause-ordered c =
-    let fits = subst (λ (v : Version). Fits 0 c.args.bytes.now v c.args.level c.in-Some.plan.items) c.normal-version.ensures (rw c.in-Some.is at c.in-Ok.ensures.fits) in
+    let fits = front_fits c.args.bytes.now c.args.level c.args.last c.in-Some.plan.items c.front_bits-front.result (length (header_bits c.args.header.now)) c.normal-version.result c.front_bits-front.ensures.is c.normal-version.ensures (rw c.in-Some.is at c.in-Ok.ensures.fits) in
     subst (λ (p : List Segment). All (λ s. s.begin ≤ s.end) p) (sym c.deref.ensures.value)
     (plan_ordered c.args.bytes.now c.in-Some.plan.items (bytes_valid c.args.bytes.now (λ i. omega (arith, c.type_inv.bytes i))) fits.planned)
 
 pub total_encoded_len-requires-clause-fits : goal.total_encoded_len-requires-clause-fits
 total_encoded_len-requires-clause-fits c =
-    let fits = subst (λ (v : Version). Fits 0 c.args.bytes.now v c.args.level c.in-Some.plan.items) c.normal-version.ensures (rw c.in-Some.is at c.in-Ok.ensures.fits) in
+    let fits = front_fits c.args.bytes.now c.args.level c.args.last c.in-Some.plan.items c.front_bits-front.result (length (header_bits c.args.header.now)) c.normal-version.result c.front_bits-front.ensures.is c.normal-version.ensures (rw c.in-Some.is at c.in-Ok.ensures.fits) in
     subst (λ (p : List Segment). total_bits c.normal-version.result p < 2 ^ 64) (sym c.deref.ensures.value)
     (subst (λ (v : Version). total_bits v c.in-Some.plan.items < 2 ^ 64) (sym c.normal-version.ensures)
-    (plan_small c.args.bytes.now (normal c.args.last) (normal_headers c.args.last) c.requires.short c.in-Some.plan.items (bytes_valid c.args.bytes.now (λ i. omega (arith, c.type_inv.bytes i))) fits.planned))
+    (let small = plan_small c.args.bytes.now (normal c.args.last) (normal_headers c.args.last) c.requires.short c.in-Some.plan.items (bytes_valid c.args.bytes.now (λ i. omega (arith, c.type_inv.bytes i))) fits.planned in omega arith))
+
+pub overflow_add-front : goal.overflow_add-front
+overflow_add-front c =
+    let fits = front_fits c.args.bytes.now c.args.level c.args.last c.in-Some.plan.items c.front_bits-front.result (length (header_bits c.args.header.now)) c.normal-version.result c.front_bits-front.ensures.is c.normal-version.ensures (rw c.in-Some.is at c.in-Ok.ensures.fits) in
+    let small = plan_small c.args.bytes.now (normal c.args.last) (normal_headers c.args.last) c.requires.short c.in-Some.plan.items (bytes_valid c.args.bytes.now (λ i. omega (arith, c.type_inv.bytes i))) fits.planned in
+    let size = c.total_encoded_len.ensures ∙ (ap (λ (v : Version). total_bits v c.deref.result.now) c.normal-version.ensures ∙ ap (λ (p : List Segment). total_bits (normal c.args.last) p) c.deref.ensures.value) in
+    omega (arith, size, c.front_bits-front.ensures.small)
 
 pub encode_plan-requires-clause-fits : goal.encode_plan-requires-clause-fits
 encode_plan-requires-clause-fits c =
-    let fits = subst (λ (v : Version). Fits 0 c.args.bytes.now v c.args.level c.in-Some.plan.items) c.normal-version.ensures (rw c.in-Some.is at c.in-Ok.ensures.fits) in
+    let fits = front_fits c.args.bytes.now c.args.level c.args.last c.in-Some.plan.items c.front_bits-front.result (length (header_bits c.args.header.now)) c.normal-version.result c.front_bits-front.ensures.is c.normal-version.ensures (rw c.in-Some.is at c.in-Ok.ensures.fits) in
     let chosen = subst (λ (v : Version). IsChosenPlan (parsed c.args.bytes.now) v c.in-Some.plan.items) c.normal-version.ensures (rw c.in-Some.is at c.in-Ok.ensures.chosen) in
     let size = c.total_encoded_len.ensures ∙ (ap (λ (v : Version). total_bits v c.deref.result.now) c.normal-version.ensures ∙ ap (λ (p : List Segment). total_bits (normal c.args.last) p) c.deref.ensures.value) in
-    let least = subst (λ (n : ℕ). IsMinVersion n c.args.level c.find_min_version-smallest.result) size c.find_min_version-smallest.ensures in
-    subst (λ (p : List Segment). Fits 0 c.args.bytes.now c.find_min_version-smallest.result c.args.level p) (sym c.deref-2.ensures.value)
-    (class_fits c.args.bytes.now c.args.level c.args.last c.in-Some.plan.items chosen fits c.find_min_version-smallest.result least)
+    let whole : c.front_bits-front.result + c.total_encoded_len.result ≡ length (header_bits c.args.header.now) + total_bits (normal c.args.last) c.in-Some.plan.items = omega (arith, size, c.front_bits-front.ensures.is) in
+    let least = subst (λ (n : ℕ). IsMinVersion n c.args.level c.find_min_version-smallest.result) whole c.find_min_version-smallest.ensures in
+    subst (λ (p : List Segment). Fits (length (header_bits c.args.header.now)) c.args.bytes.now c.find_min_version-smallest.result c.args.level p) (sym c.deref-2.ensures.value)
+    (class_fits c.args.header.now c.args.bytes.now c.args.level c.args.last c.in-Some.plan.items chosen fits c.find_min_version-smallest.result least)
+
+pub encode_plan-requires-clause-header : goal.encode_plan-requires-clause-header
+encode_plan-requires-clause-header c =
+    let fits = front_fits c.args.bytes.now c.args.level c.args.last c.in-Some.plan.items c.front_bits-front.result (length (header_bits c.args.header.now)) c.normal-version.result c.front_bits-front.ensures.is c.normal-version.ensures (rw c.in-Some.is at c.in-Ok.ensures.fits) in
+    let chosen = subst (λ (v : Version). IsChosenPlan (parsed c.args.bytes.now) v c.in-Some.plan.items) c.normal-version.ensures (rw c.in-Some.is at c.in-Ok.ensures.chosen) in
+    let size = c.total_encoded_len.ensures ∙ (ap (λ (v : Version). total_bits v c.deref.result.now) c.normal-version.ensures ∙ ap (λ (p : List Segment). total_bits (normal c.args.last) p) c.deref.ensures.value) in
+    let whole : c.front_bits-front.result + c.total_encoded_len.result ≡ length (header_bits c.args.header.now) + total_bits (normal c.args.last) c.in-Some.plan.items = omega (arith, size, c.front_bits-front.ensures.is) in
+    let least = subst (λ (n : ℕ). IsMinVersion n c.args.level c.find_min_version-smallest.result) whole c.find_min_version-smallest.ensures in
+    class_header c.args.header.now c.args.bytes.now c.args.level c.args.last c.in-Some.plan.items chosen fits c.find_min_version-smallest.result least c.requires.header
 
 pub returns-in-Ok-encode_plan-clause-some : goal.returns-in-Ok-encode_plan-clause-some
 returns-in-Ok-encode_plan-clause-some c = λ before limit class within none.
-    let fits = subst (λ (v : Version). Fits 0 c.args.bytes.now v c.args.level c.in-Some.plan.items) c.normal-version.ensures (rw c.in-Some.is at c.in-Ok.ensures.fits) in
+    let fits = front_fits c.args.bytes.now c.args.level c.args.last c.in-Some.plan.items c.front_bits-front.result (length (header_bits c.args.header.now)) c.normal-version.result c.front_bits-front.ensures.is c.normal-version.ensures (rw c.in-Some.is at c.in-Ok.ensures.fits) in
     let chosen = subst (λ (v : Version). IsChosenPlan (parsed c.args.bytes.now) v c.in-Some.plan.items) c.normal-version.ensures (rw c.in-Some.is at c.in-Ok.ensures.chosen) in
     let size = c.total_encoded_len.ensures ∙ (ap (λ (v : Version). total_bits v c.deref.result.now) c.normal-version.ensures ∙ ap (λ (p : List Segment). total_bits (normal c.args.last) p) c.deref.ensures.value) in
-    let least = subst (λ (n : ℕ). IsMinVersion n c.args.level c.find_min_version-smallest.result) size c.find_min_version-smallest.ensures in
-    let stream = subst (λ (p : List Segment). IsPlanStream c.args.bytes.now c.find_min_version-smallest.result c.args.level p c.in-Ok-encode_plan.bits) c.deref-2.ensures.value c.in-Ok-encode_plan.ensures.ok in
-    class_encoding c.args.bytes.now c.args.level c.args.last c.in-Some.plan.items chosen fits c.find_min_version-smallest.result least
+    let whole : c.front_bits-front.result + c.total_encoded_len.result ≡ length (header_bits c.args.header.now) + total_bits (normal c.args.last) c.in-Some.plan.items = omega (arith, size, c.front_bits-front.ensures.is) in
+    let least = subst (λ (n : ℕ). IsMinVersion n c.args.level c.find_min_version-smallest.result) whole c.find_min_version-smallest.ensures in
+    let stream = subst (λ (p : List Segment). IsPlanStream c.args.header.now c.args.bytes.now c.find_min_version-smallest.result c.args.level p c.in-Ok-encode_plan.bits) c.deref-2.ensures.value c.in-Ok-encode_plan.ensures.ok in
+    class_encoding c.args.header.now c.args.bytes.now c.args.level c.args.last c.in-Some.plan.items chosen fits c.find_min_version-smallest.result least
     c.in-Ok-encode_plan.bits stream before limit class within none

@@ -1,5 +1,6 @@
 -- The first class whose last version holds the chosen plan decides.
-use Rattle.std.proofs.Common.{ℕ, List, get_or, sym, subst, arith}
+use Rattle.std.proofs.Common.{ℕ, List, length, get_or, sym, subst, arith}
+use Rattle.qrcode_bits.specs.Frame.{header_bits}
 use Rattle.qrcode_bits.specs.Classes.{ClassesUpTo}
 use Rattle.qrcode_bits.proofs.Pairs.{bytes_valid}
 use Rattle.qrcode_bits.proofs.Choices.{none_before}
@@ -9,13 +10,13 @@ use Rattle.qrcode_bits.proofs.bits.encode.encode_up_to.Goals as goal
 
 pub returns-then-bytes-gt-MAX_DATA_LEN-clause-err : goal.returns-then-bytes-gt-MAX_DATA_LEN-clause-err
 returns-then-bytes-gt-MAX_DATA_LEN-clause-err c =
-    long_message 0 c.args.bytes.now c.args.level c.args.limit c.requires.to_forty (bytes_valid c.args.bytes.now (λ i. omega (arith, c.type_inv.bytes i))) c.if-bytes-gt-MAX_DATA_LEN.true
+    long_message (length (header_bits c.args.header.now)) c.args.bytes.now c.args.level c.args.limit c.requires.to_forty (bytes_valid c.args.bytes.now (λ i. omega (arith, c.type_inv.bytes i))) c.if-bytes-gt-MAX_DATA_LEN.true
 
 pub loop-last-init : goal.loop-last-init
 loop-last-init c = (
   0,
   subst (λ (z : List ℕ). ClassesUpTo 0 z c.args.limit) (sym c.as_slice-last-items.ensures.value) c.last_versions-candidates.ensures,
-  none_before 0 c.args.bytes.now c.args.level,
+  none_before (length (header_bits c.args.header.now)) c.args.bytes.now c.args.level,
 )
 
 pub returns-in-Some-clause-ok : goal.returns-in-Some-clause-ok
@@ -31,7 +32,7 @@ loop-last-preserved c =
     let here = classes_here i.0 c.args.limit c.as_slice-last-items.result.now c.loop-last.last-index c.loop-last-test.true i.1 in
     let none = rw c.in_default-found.is at c.in-Ok-encode_class.ensures.none in
     let last : ℕ = get_or c.as_slice-last-items.result.now c.loop-last.last-index 0 in
-    (last, here.3, class_fits_not 0 c.args.bytes.now c.args.level i.0 last (omega (arith, here.2, c.requires.to_forty)) here.0 i.2 none)
+    (last, here.3, class_fits_not (length (header_bits c.args.header.now)) c.args.bytes.now c.args.level i.0 last (omega (arith, here.2, c.requires.to_forty)) here.0 i.2 none)
 
 pub returns-clause-err : goal.returns-clause-err
 returns-clause-err c =

@@ -1,7 +1,8 @@
 -- No plan fits a version before the classes that are left.
-use Rattle.std.proofs.Common.{drop}
+use Rattle.std.proofs.Common.{drop, length}
+use Rattle.qrcode_bits.specs.Frame.{header_bits}
 use Rattle.qrcode_bits.proofs.Classes.{IsSearched}
 use Rattle.qrcode_bits.proofs.bits.encode.encode_up_to.Given as goal
 
 abbrev pub invariant-loop-last : goal.invariant-loop-last
-invariant-loop-last l = IsSearched l.bytes l.level l.limit (drop l.last-index l.last-items)
+invariant-loop-last l = IsSearched (length (header_bits l.header)) l.bytes l.level l.limit (drop l.last-index l.last-items)

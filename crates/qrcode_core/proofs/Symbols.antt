@@ -1,0 +1,60 @@
+-- The symbols of a sequence, as they are made one after the other.
+use Rattle.std.proofs.Common.{◌≡◌, ℕ, ◌+◌, ◌<◌, ◌≤◌, refl, sym, ◌∙◌, subst, arith, inl, inr, List, [], ◌∷◌, ◌++◌, length, length-append, get_or}
+use Rattle.std.specs.Prelude.{All, ℤ}
+use Rattle.std.specs.List.Sorted.{IsNonDecreasing}
+use Rattle.std.proofs.lemmas.Bool.{cases_eq}
+use Rattle.std.proofs.lemmas.List.{get_or_append_left, get_or_push}
+use Rattle.qrcode_base.specs.declared.types.Color.{Color}
+use Rattle.qrcode_base.specs.declared.types.EcLevel.{EcLevel}
+use Rattle.qrcode_base.specs.declared.types.errors.QrError.{QrError}
+use Rattle.qrcode_base.specs.declared.types.errors.QrError.TheVariants.{DataTooLong, InvalidResourceLimits, InvalidStructuredAppend, OutOfMemory}
+use Rattle.qrcode_bits.specs.Encoding.{IsLimit, IsPartRefused}
+use Rattle.qrcode_core.specs.Sequence.{header_at, parts_at, IsTotal, IsPartSymbol, AreBestSymbols, IsSequenceRefusal}
+use Rattle.qrcode_core.proofs.OneMessage.{best_symbols}
+
+-- The first symbols of a sequence, for as many first parts.
+pub record AreFirstSymbols (message cuts : List ℕ) (level : EcLevel) (limit total done : ℕ) (grids : List (List Color)) : Type 0 where
+  pub a_grid_each : length grids ≡ done
+  pub each_best : (i : ℕ) → i < done → IsPartSymbol (header_at (i + 1) total message) (get_or (parts_at cuts message) i []) level limit (get_or grids i [])
+
+pub no_symbols : (message cuts : List ℕ) (level : EcLevel) (limit total : ℕ) → AreFirstSymbols message cuts level limit total 0 []
+no_symbols message cuts level limit total = record { a_grid_each = refl; each_best = λ i below. absurd (omega arith) }
+
+pub one_more : (message cuts : List ℕ) (level : EcLevel) (limit total done : ℕ) (grids : List (List Color)) (grid : List Color) → AreFirstSymbols message cuts level limit total done grids →
+    IsPartSymbol (header_at (done + 1) total message) (get_or (parts_at cuts message) done []) level limit grid →
+    AreFirstSymbols message cuts level limit total (done + 1) (grids ++ grid ∷ [])
+one_more message cuts level limit total done grids grid first next =
+    let long : length (grids ++ grid ∷ []) ≡ done + 1 = omega (arith, length-append grids (grid ∷ []), first.a_grid_each) in
+    record {
+      a_grid_each = long;
+      each_best = λ i below. elim (cases_eq i done) [
+        | inl last ↦ (
+            let here : get_or (grids ++ grid ∷ []) i [] ≡ grid = get_or_push grids grid [] i (first.a_grid_each ∙ sym last) in
+            subst (λ (g : List Color). IsPartSymbol (header_at (i + 1) total message) (get_or (parts_at cuts message) i []) level limit g) (sym here)
+            (subst (λ (k : ℕ). IsPartSymbol (header_at (k + 1) total message) (get_or (parts_at cuts message) k []) level limit grid) (sym last) next))
+        | inr earlier ↦ (
+            let before : i < done = omega arith in
+            let same : get_or (grids ++ grid ∷ []) i [] ≡ get_or grids i [] = get_or_append_left grids (grid ∷ []) [] i (omega (arith, before, first.a_grid_each)) in
+            subst (λ (g : List Color). IsPartSymbol (header_at (i + 1) total message) (get_or (parts_at cuts message) i []) level limit g) (sym same) (first.each_best i before))
+      ];
+    }
+
+pub all_symbols : (message cuts : List ℕ) (level : EcLevel) (limit total : ℕ) (grids : List (List Color)) →
+    IsNonDecreasing cuts → All (λ cut. cut ≤ length message) cuts → IsTotal total → total ≡ length cuts + 1 → AreFirstSymbols message cuts level limit total total grids →
+    AreBestSymbols message cuts level limit grids
+all_symbols message cuts level limit total grids rise within few count first =
+    let size : total ≡ length grids = sym first.a_grid_each in
+    best_symbols message cuts level limit grids rise within (subst IsTotal size few) (sym size ∙ count)
+    (λ i inside. subst (λ (t : ℕ). IsPartSymbol (header_at (i + 1) t message) (get_or (parts_at cuts message) i []) level limit (get_or grids i [])) size (first.each_best i (omega (arith, inside, size))))
+
+-- A part that is refused for its length or for memory refuses the sequence so; the limit and the header are no reason.
+pub refused_part : (message cuts : List ℕ) (level : EcLevel) (limit : ℤ) (total i : ℕ) (e : QrError) → IsLimit limit → IsTotal total → total ≡ length cuts + 1 → i < total →
+    IsPartRefused (i + 1) total (get_or (parts_at cuts message) i []) level limit e → IsSequenceRefusal message cuts level limit e
+refused_part message cuts level limit total i InvalidResourceLimits in_range few count inside why = absurd (why in_range)
+refused_part message cuts level limit total i (InvalidStructuredAppend value) in_range few count inside why = elim why.1 [
+  | inl wrong ↦ (let past = wrong.1 few.0 in absurd (omega (arith, past, few.1)))
+  | inr wrong ↦ (let past = wrong.3 (omega arith) in absurd (omega (arith, past, inside)))
+]
+refused_part message cuts level limit total i DataTooLong in_range few count inside why = (in_range, subst IsTotal count few, (i, omega arith, why.2))
+refused_part message cuts level limit total i OutOfMemory in_range few count inside why = (in_range, subst IsTotal count few)
+refused_part message cuts level limit total i other in_range few count inside why = why.2

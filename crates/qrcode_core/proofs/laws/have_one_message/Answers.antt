@@ -1,0 +1,6 @@
+-- The law of one reading.
+use Rattle.qrcode_core.proofs.OneMessage.{one_message}
+use Rattle.qrcode_core.proofs.laws.have_one_message.Goals as goal
+
+pub returns : goal.returns
+returns c = one_message

@@ -1,0 +1,11 @@
+-- The segments lie in the bytes.
+use Rattle.std.proofs.Common.{rules, length}
+use Rattle.std.proofs.lemmas.Iterator.{YieldsList-from_slice}
+use Rattle.std.proofs.lemmas.Iterator.Consumers.{YieldsList-from_copied}
+use Rattle.qrcode_bits.specs.Pieces.{LiesIn}
+use Rattle.qrcode_bits.proofs.Listed.{given_all}
+use Rattle.qrcode_core.proofs.refused_growth.pushes.push_segments_of_three.Goals as goal
+
+pub push_segments-answer-requires-clause-within : goal.push_segments-answer-requires-clause-within
+push_segments-answer-requires-clause-within g c = λ xs came.
+    given_all c.copied.result c.iter.result.rest.now (YieldsList-from_copied (YieldsList-from_slice c.iter.result.rest.now (search rules))) (LiesIn (length c.forty_of_each.result)) ⊥ xs (search rules) came

@@ -1,0 +1,36 @@
+//! A message that is spread over several symbols.
+use crate::plain_reader::{Seen, read};
+use crate::types::Color;
+use std::alloc::Global;
+
+// The symbol whose header tells a position.
+fn at_position(symbols: &[Seen], position: usize) -> Option<&Seen> {
+    symbols.iter().find(|seen| {
+        seen.header
+            .is_some_and(|header| usize::from(header.0) == position)
+    })
+}
+
+/// The message of some symbols, taken in an order: `None` where they are no whole sequence, or where memory was wanting.
+pub fn read_sequence(alloc: Global, grids: &[Vec<Color>], order: &[usize]) -> Option<Vec<u8>> {
+    let mut symbols = Vec::new(alloc);
+    for index in order {
+        symbols.push(read(alloc, grids.get(*index)?)?).ok()?;
+    }
+    let total = symbols.len();
+    if !(2..17).contains(&total) {
+        return None;
+    }
+    let mut message = Vec::new(alloc);
+    for index in 0..total {
+        let piece = at_position(&symbols, index + 1)?;
+        for byte in &piece.bytes {
+            message.push(*byte).ok()?;
+        }
+    }
+    let parity = message.iter().fold(0, |sum, byte| sum ^ *byte);
+    let agree = symbols.iter().all(|seen| {
+        seen.header.is_some_and(|header| usize::from(header.1) == total && header.2 == parity)
+    });
+    if agree { Some(message) } else { None }
+}

@@ -1,0 +1,194 @@
+//! Calls that can want memory, each with its row. Where memory is found a test passes; where a growth is refused it ends with
+//! `OutOfMemory`, after it has seen what the call promises to leave; every other answer is a failed assertion.
+//!
+//! `tools/refuse-growth` refuses the growths of each test in turn.
+
+mod pushes;
+mod registry;
+
+use crate::bits::{encode_auto, encode_auto_micro, encode_auto_with_max_version, encode_part};
+use crate::canvas::{Canvas, MaskPattern};
+use crate::ec::{construct_codewords, create_error_correction_code};
+use crate::optimize::{Parser, Segment, optimize_segments, supports_linear_costs};
+use crate::sequence_tests::answer;
+use crate::symbol::{symbol, symbol_micro, symbol_sequence};
+use crate::tests::hash;
+use crate::types::{EcLevel, Mode, QrError, QrResult, Version};
+
+const ONE: Version = Version::Normal(1);
+
+/// The data codewords of `HELLO WORLD` in version 1 at level M, and their correction.
+const HELLO_WORLD: [u8; 16] = [
+    0x20, 0x5b, 0x0b, 0x78, 0xd1, 0x72, 0xdc, 0x4d, 0x43, 0x40, 0xec, 0x11, 0xec, 0x11, 0xec, 0x11,
+];
+
+const HELLO_WORLD_CORRECTION: [u8; 10] = [
+    0xc4, 0x23, 0x27, 0x77, 0xeb, 0xd7, 0xe7, 0xe2, 0x5d, 0x17,
+];
+
+// The hashes of these symbols are those of the original crate's.
+
+#[test]
+fn symbol_of_hello(rt: HostRuntime) -> QrResult<()> {
+    let grid = symbol(rt.alloc(), b"hello", EcLevel::L)?;
+    assert_eq!(rt; hash(&grid), 0xe729ee61);
+    Ok(())
+}
+
+#[test]
+fn symbol_of_hello_world(rt: HostRuntime) -> QrResult<()> {
+    let grid = symbol(rt.alloc(), b"HELLO WORLD", EcLevel::M)?;
+    assert_eq!(rt; hash(&grid), 0xa216eb75);
+    Ok(())
+}
+
+#[test]
+fn symbol_of_230_bytes(rt: HostRuntime) -> QrResult<()> {
+    let grid = symbol(rt.alloc(), &[b'a'; 230], EcLevel::L)?;
+    assert_eq!(rt; hash(&grid), 0xd45171ee);
+    Ok(())
+}
+
+#[test]
+fn symbol_of_231_bytes(rt: HostRuntime) -> QrResult<()> {
+    let grid = symbol(rt.alloc(), &[b'a'; 231], EcLevel::L)?;
+    assert_eq!(rt; hash(&grid), 0x031b148c);
+    Ok(())
+}
+
+#[test]
+fn symbol_micro_of_five_digits(rt: HostRuntime) -> QrResult<()> {
+    let grid = symbol_micro(rt.alloc(), b"12345", EcLevel::L)?;
+    assert_eq!(rt; hash(&grid), 0x31f2a162);
+    Ok(())
+}
+
+#[test]
+fn symbol_sequence_of_three(rt: HostRuntime) -> QrResult<()> {
+    let grids = symbol_sequence(rt.alloc(), b"AB12cd", &[2, 4], EcLevel::L, 40)?;
+    let hashes = [0xc43428a1, 0xf64cb6af, 0xd9083bff];
+    assert!(rt;
+        grids
+            .iter()
+            .map(|grid| hash(grid))
+            .eq(hashes.iter().copied())
+    );
+    Ok(())
+}
+
+#[test]
+fn symbol_sequence_of_sixteen(rt: HostRuntime) -> QrResult<()> {
+    let cuts = [1, 2, 3, 4, 5, 6, 7, 8, 9, 10, 11, 12, 13, 14, 15];
+    let grids = answer(rt.alloc(), b"abcdefghijklmnop", &cuts, 40).expect(&rt, "cuts in order")?;
+    let hashes = [
+        0x345666eb, 0x9f199b39, 0xb06ad7e3, 0xe7e97707, 0x001794e7, 0x38e1dccd, 0x24994a97,
+        0x58d81acf, 0x2329c377, 0xf6ae5043, 0xe5436a69, 0x11891f6d, 0x528fd71b, 0xe75e49cb,
+        0xc64aa0d7, 0x543a66a9,
+    ];
+    assert!(rt;
+        grids
+            .iter()
+            .map(|grid| hash(grid))
+            .eq(hashes.iter().copied())
+    );
+    Ok(())
+}
+
+/// More digits than any symbol holds are refused without memory.
+#[test]
+fn symbols_of_too_many_digits(rt: HostRuntime) {
+    let digits = [b'7'; 7090];
+    let refused = symbol(rt.alloc(), &digits, EcLevel::L);
+    assert!(rt; matches!(refused, Err(QrError::DataTooLong)));
+    let refused = symbol_micro(rt.alloc(), &digits, EcLevel::L);
+    assert!(rt; matches!(refused, Err(QrError::DataTooLong)));
+}
+
+#[test]
+fn encode_auto_of_hello_world(rt: HostRuntime) -> QrResult<()> {
+    let bits = encode_auto(rt.alloc(), b"HELLO WORLD", EcLevel::M)?;
+    assert_eq!(rt; bits.payload_bits_len(), 74);
+    assert_eq!(rt; bits.into_bytes().as_slice(), &HELLO_WORLD[..]);
+    Ok(())
+}
+
+#[test]
+fn encode_auto_with_max_version_of_digits(rt: HostRuntime) -> QrResult<()> {
+    let bits = encode_auto_with_max_version(rt.alloc(), b"01234567", EcLevel::M, 1)?;
+    assert_eq!(rt; bits.payload_bits_len(), 41);
+    assert_eq!(rt;
+        bits.into_bytes().as_slice(),
+        &[
+            0x10, 0x20, 0x0c, 0x56, 0x61, 0x80, 0xec, 0x11, 0xec, 0x11, 0xec, 0x11, 0xec, 0x11,
+            0xec, 0x11,
+        ][..]
+    );
+    Ok(())
+}
+
+#[test]
+fn encode_auto_micro_of_digits(rt: HostRuntime) -> QrResult<()> {
+    let bits = encode_auto_micro(rt.alloc(), b"12345", EcLevel::L)?;
+    assert_eq!(rt; bits.payload_bits_len(), 20);
+    assert_eq!(rt; bits.into_bytes().as_slice(), &[0xa3, 0xda, 0xd0][..]);
+    Ok(())
+}
+
+#[test]
+fn encode_part_of_two_letters(rt: HostRuntime) -> QrResult<()> {
+    let bits = encode_part(rt.alloc(), b"AB", 1, 3, 7, EcLevel::L, 40)?;
+    assert_eq!(rt; bits.payload_bits_len(), 44);
+    let bytes = bits.into_bytes();
+    assert!(rt;
+        bytes
+            .as_slice()
+            .starts_with(&[0x30, 0x20, 0x72, 0x01, 0x1c, 0xd0, 0xec])
+    );
+    Ok(())
+}
+
+/// Letters and digits, and then bytes: the least plan joins the first two.
+#[test]
+fn plans_of_three_segments(rt: HostRuntime) -> QrResult<()> {
+    let segments: Vec<Segment> = Parser::new(b"ABC123abcd").collect(rt.alloc())?;
+    assert!(rt; supports_linear_costs(&segments, ONE));
+    let plan = optimize_segments(rt.alloc(), &segments, ONE)?;
+    let parts = plan.iter().map(|part| (part.mode, part.end));
+    assert!(rt; parts.eq([(Mode::Alphanumeric, 6), (Mode::Byte, 10)].iter().copied()));
+    let parsed = Parser::new(b"ABC123abcd").optimize(rt.alloc(), ONE)?;
+    assert!(rt; parsed.eq(plan.iter().copied()));
+    Ok(())
+}
+
+#[test]
+fn create_error_correction_code_of_hello_world(rt: HostRuntime) -> QrResult<()> {
+    let code = create_error_correction_code(rt.alloc(), &HELLO_WORLD, 10)?;
+    assert_eq!(rt; code.as_slice(), &HELLO_WORLD_CORRECTION[..]);
+    Ok(())
+}
+
+#[test]
+fn construct_codewords_of_hello_world(rt: HostRuntime) -> QrResult<()> {
+    let (data, correction) = construct_codewords(rt.alloc(), &HELLO_WORLD, ONE, EcLevel::M)?;
+    assert_eq!(rt; data.as_slice(), &HELLO_WORLD[..]);
+    assert_eq!(rt; correction.as_slice(), &HELLO_WORLD_CORRECTION[..]);
+    Ok(())
+}
+
+/// The three choices of a mask agree on the symbol of `12345`, which is known with its score.
+#[test]
+fn best_masks_of_five_digits(rt: HostRuntime) -> QrResult<()> {
+    let mut canvas = Canvas::new(rt.alloc(), Version::Micro(1), EcLevel::L)?;
+    canvas.draw_all_functional_patterns();
+    canvas.draw_data(&[0xa3, 0xda, 0xd0], &[0x6e, 0xc7]);
+    let (scored, pattern, score) = canvas
+        .clone(rt.alloc())?
+        .apply_best_mask_with_score(rt.alloc())?;
+    assert_eq!(rt; (pattern, score), (MaskPattern::Diamonds, 85));
+    let (masked, pattern) = canvas.apply_best_mask_with_pattern(rt.alloc())?;
+    assert_eq!(rt; pattern, MaskPattern::Diamonds);
+    for best in [scored, masked, canvas.apply_best_mask(rt.alloc())?] {
+        assert_eq!(rt; hash(&best.into_colors(rt.alloc())?), 0x31f2a162);
+    }
+    Ok(())
+}

@@ -1,0 +1,206 @@
+//! Pushes whose growths are refused.
+
+use crate::bits::{Bits, EncodingModes, ExtendedMode};
+use crate::mode::ByteMode;
+use crate::optimize::Segment;
+use crate::types::{EcLevel, Mode, QrError, QrResult, Version};
+
+/// One push.
+#[derive(Clone, Copy)]
+enum Push {
+    Number(usize, usize),
+    Indicator(ExtendedMode),
+    Eci(u32),
+    Fnc1First,
+    Fnc1Second(u8),
+    Header(u8, u8, u8),
+    Numeric(&'static [u8]),
+    Alphanumeric(&'static [u8]),
+    Byte(&'static [u8]),
+    Kanji(&'static [u8]),
+    Typed(&'static [u8]),
+    Terminator(EcLevel),
+    Reserve(usize),
+}
+
+impl Push {
+    fn apply(self, bits: &mut Bits) -> QrResult<()> {
+        match self {
+            Push::Number(width, number) => bits.push_number_checked(width, number),
+            Push::Indicator(mode) => bits.push_mode_indicator(mode),
+            Push::Eci(designator) => bits.push_eci_designator(designator),
+            Push::Fnc1First => bits.push_fnc1_first_position(),
+            Push::Fnc1Second(application) => bits.push_fnc1_second_position(application),
+            Push::Header(position, total, parity) => {
+                bits.push_structured_append_header(position, total, parity)
+            }
+            Push::Numeric(text) => bits.push_numeric_data(text),
+            Push::Alphanumeric(text) => bits.push_alphanumeric_data(text),
+            Push::Byte(text) => bits.push_byte_data(text),
+            Push::Kanji(text) => bits.push_kanji_data(text),
+            Push::Typed(text) => bits.push_mode_data::<ByteMode>(text),
+            Push::Terminator(level) => bits.push_terminator(level),
+            Push::Reserve(room) => bits.reserve(room),
+        }
+    }
+}
+
+/// What each push writes into an empty stream of version 1: so many bits, and their bytes.
+const ROWS: [(Push, usize, &[u8]); 13] = [
+    (Push::Number(16, 65535), 16, &[0xff, 0xff]),
+    (Push::Indicator(ExtendedMode::Eci), 4, &[0x70]),
+    (Push::Eci(899), 20, &[0x78, 0x38, 0x30]),
+    (Push::Fnc1First, 4, &[0x50]),
+    (Push::Fnc1Second(37), 12, &[0x92, 0x50]),
+    (Push::Header(1, 3, 0x5a), 20, &[0x30, 0x25, 0xa0]),
+    (
+        Push::Numeric(b"01234567"),
+        41,
+        &[0x10, 0x20, 0x0c, 0x56, 0x61, 0x80],
+    ),
+    (
+        Push::Alphanumeric(b"AC-42"),
+        41,
+        &[0x20, 0x29, 0xce, 0xe7, 0x21, 0x00],
+    ),
+    (Push::Byte(b"a"), 20, &[0x40, 0x16, 0x10]),
+    (
+        Push::Kanji(&[0x93, 0x5f, 0xe4, 0xaa]),
+        38,
+        &[0x80, 0x26, 0xcf, 0xea, 0xa8],
+    ),
+    (Push::Typed(b"a"), 20, &[0x40, 0x16, 0x10]),
+    (
+        Push::Terminator(EcLevel::H),
+        72,
+        &[0, 0xec, 0x11, 0xec, 0x11, 0xec, 0x11, 0xec, 0x11],
+    ),
+    (Push::Reserve(1000), 0, &[]),
+];
+
+/// A refused push leaves an empty stream empty.
+#[test]
+fn single_pushes(rt: HostRuntime) -> QrResult<()> {
+    for (push, len, bytes) in ROWS {
+        let mut bits = Bits::new(rt.alloc(), Version::Normal(1));
+        let answer = push.apply(&mut bits);
+        if answer == Err(QrError::OutOfMemory) {
+            assert!(rt; bits.is_empty() && bits.payload_bits_len() == 0);
+            assert!(rt; bits.encoding_modes().is_empty());
+            assert!(rt; bits.into_bytes().is_empty());
+            return answer;
+        }
+        assert_eq!(rt; answer, Ok(()));
+        assert_eq!(rt; bits.len(), len);
+        assert_eq!(rt; bits.into_bytes().as_slice(), bytes);
+    }
+    Ok(())
+}
+
+/// The letter a in version 1, ended at level L.
+const ENDED: [u8; 19] = [
+    0x40, 0x16, 0x10, 0xec, 0x11, 0xec, 0x11, 0xec, 0x11, 0xec, 0x11, 0xec, 0x11, 0xec, 0x11, 0xec,
+    0x11, 0xec, 0x11,
+];
+
+/// Pushes that no room is left for, and how many bits they add.
+const LONG: [(Push, usize); 4] = [
+    (Push::Numeric(&[b'7'; 999]), 4 + 10 + 3330),
+    (Push::Alphanumeric(&[b'A'; 400]), 4 + 9 + 2200),
+    (Push::Byte(&[b'b'; 200]), 4 + 8 + 1600),
+    (Push::Reserve(5000), 0),
+];
+
+/// A refused push leaves an ended stream with its bits, its modes and its payload.
+#[test]
+fn pushes_behind_an_end(rt: HostRuntime) -> QrResult<()> {
+    for (push, added) in LONG {
+        let mut bits = Bits::new(rt.alloc(), Version::Normal(1));
+        bits.push_byte_data(b"a")?;
+        bits.push_terminator(EcLevel::L)?;
+        let answer = push.apply(&mut bits);
+        if answer == Err(QrError::OutOfMemory) {
+            assert_eq!(rt; (bits.len(), bits.payload_bits_len()), (152, 20));
+            assert_eq!(rt; bits.encoding_modes(), EncodingModes::from_mode(Mode::Byte));
+            assert_eq!(rt; bits.into_bytes().as_slice(), &ENDED[..]);
+            return answer;
+        }
+        assert_eq!(rt; answer, Ok(()));
+        assert_eq!(rt; bits.len(), 152 + added);
+        assert!(rt; bits.into_bytes().as_slice().starts_with(&ENDED));
+    }
+    Ok(())
+}
+
+/// After `reserve` no push of as many bits wants memory, so that only the one growth of `reserve` is met.
+#[test]
+fn pushes_after_reserve(rt: HostRuntime) -> QrResult<()> {
+    let mut bits = Bits::new(rt.alloc(), Version::Normal(1));
+    bits.reserve(20 + 4 + 20 + 41 + 67)?;
+    for push in [
+        Push::Header(1, 3, 0x5a),
+        Push::Fnc1First,
+        Push::Eci(899),
+        Push::Numeric(b"01234567"),
+        Push::Terminator(EcLevel::L),
+    ] {
+        assert_eq!(rt; push.apply(&mut bits), Ok(()));
+    }
+    assert_eq!(rt; (bits.len(), bits.payload_bits_len()), (152, 85));
+    Ok(())
+}
+
+/// How many bits stand after none, one, two and all of three segments: forty digits, forty letters a, forty letters A.
+const LENGTHS: [usize; 4] = [0, 148, 480, 713];
+
+fn forty_of_each() -> [u8; 120] {
+    let mut bytes = [b'7'; 120];
+    bytes[40..80].fill(b'a');
+    bytes[80..].fill(b'A');
+    bytes
+}
+
+// Whether exactly the first few segments are there, but not all, and their modes.
+fn has_first_segments(bits: &Bits) -> bool {
+    let modes = bits.encoding_modes();
+    let kept = modes.len();
+    kept < 3
+        && bits.len() == LENGTHS[kept]
+        && (kept < 1 || modes.contains(Mode::Numeric))
+        && (kept < 2 || modes.contains(Mode::Byte))
+}
+
+#[test]
+fn push_segments_of_three(rt: HostRuntime) -> QrResult<()> {
+    let segments = [
+        Segment {
+            mode: Mode::Numeric,
+            begin: 0,
+            end: 40,
+        },
+        Segment {
+            mode: Mode::Byte,
+            begin: 40,
+            end: 80,
+        },
+        Segment {
+            mode: Mode::Alphanumeric,
+            begin: 80,
+            end: 120,
+        },
+    ];
+    let mut bits = Bits::new(rt.alloc(), Version::Normal(1));
+    let answer = bits.push_segments(&forty_of_each(), segments.iter().copied());
+    assert!(rt; answer == Ok(()) || has_first_segments(&bits));
+    assert!(rt; answer.is_err() || bits.len() == LENGTHS[3]);
+    answer
+}
+
+#[test]
+fn push_optimal_data_of_three(rt: HostRuntime) -> QrResult<()> {
+    let mut bits = Bits::new(rt.alloc(), Version::Normal(1));
+    let answer = bits.push_optimal_data(&forty_of_each());
+    assert!(rt; answer == Ok(()) || has_first_segments(&bits));
+    assert!(rt; answer.is_err() || bits.len() == LENGTHS[3]);
+    answer
+}

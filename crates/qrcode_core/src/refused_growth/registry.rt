@@ -1,0 +1,140 @@
+//! Registrations and configurations whose growths are refused.
+
+use crate::plugin::{
+    DynEncoder, DynRenderer, EncodeConfig, EncodedOutput, ModuleGrid, PluginError, PluginRegistry,
+    PostProcessor, QrPlugin, RenderConfig, RenderOutput,
+};
+use crate::types::Color;
+use crate::view_tests::{Darken, Plain, Text};
+use std::alloc::Global;
+
+/// A plugin of five registrations: its version, two renderers, an encoder and a postprocessor.
+fn bundle(
+    alloc: Global,
+    first: Box<dyn DynRenderer>,
+    second: Box<dyn DynRenderer>,
+    encoder: Box<dyn DynEncoder>,
+    postprocessor: Box<dyn PostProcessor>,
+) -> Result<QrPlugin, PluginError> {
+    let first = (String::from_str(alloc, "first")?, first);
+    let second = (String::from_str(alloc, "second")?, second);
+    Ok(QrPlugin {
+        name: String::from_str(alloc, "bundle")?,
+        version: String::from_str(alloc, "0.1.0")?,
+        renderers: Vec::from_array(alloc, [first, second])?,
+        encoders: Vec::from_array(alloc, [(String::from_str(alloc, "third")?, encoder)])?,
+        postprocessors: Vec::from_array(alloc, [postprocessor])?,
+    })
+}
+
+// The registrations of the plugin that are there, in their order.
+fn registrations(registry: &PluginRegistry) -> [bool; 5] {
+    [
+        registry.plugin_version("bundle") == Some("0.1.0"),
+        registry.renderer("first").is_some(),
+        registry.renderer("second").is_some(),
+        registry.encoder("third").is_some(),
+        registry.postprocessors().len() == 1,
+    ]
+}
+
+/// A refusal keeps the first registrations, and no other.
+#[test]
+fn register_plugin_of_five(rt: HostRuntime) -> Result<(), PluginError> {
+    let alloc = rt.alloc();
+    let first = Box::new(alloc, Text)?;
+    let second = Box::new(alloc, Text)?;
+    let encoder = Box::new(alloc, Plain)?;
+    let plugin = bundle(
+        alloc,
+        first,
+        second,
+        encoder,
+        Box::new(alloc, Darken { x: 0 })?,
+    )?;
+    let mut registry = PluginRegistry::new(alloc);
+    let answer = registry.register_plugin(plugin);
+    let there = registrations(&registry);
+    let kept = there.iter().take_while(|is| **is).count();
+    assert!(rt; there.iter().skip(kept).all(|is| !*is));
+    assert_eq!(rt; answer.is_ok(), kept == 5);
+    answer
+}
+
+/// A refused registration leaves the registry as it was.
+#[test]
+fn single_registrations(rt: HostRuntime) -> Result<(), PluginError> {
+    let alloc = rt.alloc();
+    let mut registry = PluginRegistry::new(alloc);
+    let renderer = Box::new(alloc, Text)?;
+    let answer = registry.register_renderer("first", renderer);
+    assert_eq!(rt; registry.renderer("first").is_some(), answer.is_ok());
+    answer?;
+    let encoder = Box::new(alloc, Plain)?;
+    let answer = registry.register_encoder("third", encoder);
+    assert_eq!(rt; registry.encoder("third").is_some(), answer.is_ok());
+    answer?;
+    let darken = Box::new(alloc, Darken { x: 0 })?;
+    let answer = registry.register_postprocessor(darken);
+    assert_eq!(rt; registry.postprocessors().len() == 1, answer.is_ok());
+    assert!(rt; registry.renderer("first").is_some() && registry.encoder("third").is_some());
+    answer
+}
+
+#[test]
+fn missing_objects(rt: HostRuntime) -> Result<(), PluginError> {
+    let registry = PluginRegistry::new(rt.alloc());
+    match registry
+        .build_renderer("missing", &RenderConfig::new(rt.alloc()))
+        .err()
+    {
+        Some(PluginError::RendererNotFound(name)) => {
+            assert_eq!(rt; name.as_str(), "missing");
+        }
+        Some(error) => return Err(error),
+        None => assert!(rt; false, "a renderer"),
+    }
+    match registry
+        .build_encoder("missing", &EncodeConfig::new(rt.alloc()))
+        .err()
+    {
+        Some(PluginError::EncoderNotFound(name)) => {
+            assert_eq!(rt; name.as_str(), "missing");
+        }
+        Some(error) => return Err(error),
+        None => assert!(rt; false, "an encoder"),
+    }
+    Ok(())
+}
+
+#[test]
+fn configurations(rt: HostRuntime) -> Result<(), PluginError> {
+    let alloc = rt.alloc();
+    let render = RenderConfig::new(alloc)
+        .with_format("svg")?
+        .with_option("dark", "X")?
+        .clone(alloc)?;
+    assert_eq!(rt;
+        (render.format(), render.option("dark")),
+        (Some("svg"), Some("X"))
+    );
+    let encode = EncodeConfig::new(alloc)
+        .with_option("dark", "X")?
+        .clone(alloc)?;
+    assert_eq!(rt; encode.option("dark"), Some("X"));
+    Ok(())
+}
+
+#[test]
+fn copies(rt: HostRuntime) -> Result<(), PluginError> {
+    let alloc = rt.alloc();
+    let grid = ModuleGrid::new(Vec::from_array(alloc, [Color::Dark])?, 1, 1)?;
+    assert_eq!(rt; grid.clone(alloc)?, grid);
+    let text = RenderOutput::Text(String::from_str(alloc, "X")?);
+    assert_eq!(rt; text.clone(alloc)?, text);
+    let bytes = EncodedOutput::Bytes(Vec::from_slice(alloc, b"X")?);
+    assert_eq!(rt; bytes.clone(alloc)?, bytes);
+    let error = PluginError::RenderFailed(String::from_str(alloc, "X")?);
+    assert_eq!(rt; error.clone(alloc)?, error);
+    Ok(())
+}

@@ -1,0 +1,215 @@
+//! Sequences of symbols: worked rows, read back by the plain reader.
+use crate::plain_reader::{read, read_sequence};
+use crate::symbol::symbol_sequence;
+use crate::types::{Color, EcLevel, QrError, QrResult};
+use std::alloc::Global;
+use std::test::Fail;
+
+// Data, its cuts and the greatest version; then the version and the payload of each symbol, and the parity of the data.
+#[derive(Clone, Copy, Drop)]
+struct Row {
+    bytes: &'static [u8],
+    cuts: &'static [usize],
+    limit: i16,
+    symbols: &'static [(usize, usize)],
+    parity: u8,
+}
+
+const ROWS: [Row; 6] = [
+    Row {
+        bytes: b"AB12cd",
+        cuts: &[2, 4],
+        limit: 40,
+        symbols: &[(1, 44), (1, 41), (1, 48)],
+        parity: 0x07,
+    },
+    Row {
+        bytes: b"",
+        cuts: &[0],
+        limit: 40,
+        symbols: &[(1, 20), (1, 20)],
+        parity: 0,
+    },
+    Row {
+        bytes: b"abcdefghijklmnop",
+        cuts: &[1, 2, 3, 4, 5, 6, 7, 8, 9, 10, 11, 12, 13, 14, 15],
+        limit: 40,
+        symbols: &[(1, 40); 16],
+        parity: 0x10,
+    },
+    Row {
+        bytes: &[b'a'; 30],
+        cuts: &[15],
+        limit: 1,
+        symbols: &[(1, 152), (1, 152)],
+        parity: 0,
+    },
+    Row {
+        bytes: &[b'a'; 31],
+        cuts: &[15],
+        limit: 2,
+        symbols: &[(1, 152), (2, 160)],
+        parity: 0x61,
+    },
+    Row {
+        bytes: &[b'a'; 457],
+        cuts: &[228],
+        limit: 40,
+        symbols: &[(9, 1856), (10, 1872)],
+        parity: 0x61,
+    },
+];
+
+// The answer at level L, where the cuts don't fall and lie in the data.
+pub(crate) fn answer(
+    alloc: Global,
+    bytes: &[u8],
+    cuts: &[usize],
+    limit: i16,
+) -> Option<QrResult<Vec<Vec<Color>>>> {
+    if !cuts.is_sorted() || !cuts.iter().all(|cut| *cut <= bytes.len()) {
+        return None;
+    }
+    Some(symbol_sequence(alloc, bytes, cuts, EcLevel::L, limit))
+}
+
+fn grids(alloc: Global, row: &Row) -> Option<Vec<Vec<Color>>> {
+    answer(alloc, row.bytes, row.cuts, row.limit)?.ok()
+}
+
+#[test]
+fn draws_each_part(rt: HostRuntime) -> Result<(), Fail> {
+    for row in ROWS {
+        let grids = grids(rt.alloc(), &row).ok_or("no symbols")?;
+        assert_eq!(rt; grids.len(), row.symbols.len());
+        for (index, (grid, symbol)) in grids.iter().zip(row.symbols).enumerate() {
+            let seen = read(rt.alloc(), grid).ok_or("no symbol")?;
+            assert!(rt; !seen.shape.micro);
+            assert_eq!(rt; (seen.shape.number, seen.payload), *symbol);
+            assert_eq!(rt; seen.level, EcLevel::L);
+            let header = seen.header.ok_or("no header")?;
+            assert_eq!(rt; usize::from(header.0), index + 1);
+            assert_eq!(rt; usize::from(header.1), grids.len());
+            assert_eq!(rt; header.2, row.parity);
+        }
+    }
+    Ok(())
+}
+
+// The data codewords of one symbol of a row.
+fn codewords(alloc: Global, row: &Row, index: usize) -> Option<Vec<u8>> {
+    let grids = grids(alloc, row)?;
+    Some(read(alloc, grids.get(index)?)?.codewords)
+}
+
+// The first symbol of the first row, both of the second and the last of the third.
+const CODEWORDS: [(usize, usize, [u8; 19]); 4] = [
+    (
+        0,
+        0,
+        [
+            0x30, 0x20, 0x72, 0x01, 0x1c, 0xd0, 0xec, 0x11, 0xec, 0x11, 0xec, 0x11, 0xec, 0x11,
+            0xec, 0x11, 0xec, 0x11, 0xec,
+        ],
+    ),
+    (
+        1,
+        0,
+        [
+            0x30, 0x10, 0x00, 0xec, 0x11, 0xec, 0x11, 0xec, 0x11, 0xec, 0x11, 0xec, 0x11, 0xec,
+            0x11, 0xec, 0x11, 0xec, 0x11,
+        ],
+    ),
+    (
+        1,
+        1,
+        [
+            0x31, 0x10, 0x00, 0xec, 0x11, 0xec, 0x11, 0xec, 0x11, 0xec, 0x11, 0xec, 0x11, 0xec,
+            0x11, 0xec, 0x11, 0xec, 0x11,
+        ],
+    ),
+    (
+        2,
+        15,
+        [
+            0x3f, 0xf1, 0x04, 0x01, 0x70, 0x00, 0xec, 0x11, 0xec, 0x11, 0xec, 0x11, 0xec, 0x11,
+            0xec, 0x11, 0xec, 0x11, 0xec,
+        ],
+    ),
+];
+
+#[test]
+fn writes_header_and_part(rt: HostRuntime) -> Result<(), Fail> {
+    for (row, index, wanted) in CODEWORDS {
+        let row = ROWS.get(row).ok_or("no row")?;
+        let codewords = codewords(rt.alloc(), row, index).ok_or("no symbol")?;
+        assert_eq!(rt; codewords.as_slice(), wanted.as_slice());
+    }
+    Ok(())
+}
+
+// All symbols in order, reversed, and rotated by one.
+fn whole_orders(alloc: Global, total: usize) -> Option<[Vec<usize>; 3]> {
+    Some([
+        (0..total).collect(alloc).ok()?,
+        (0..total).rev().collect(alloc).ok()?,
+        (1..total).chain(0..1).collect(alloc).ok()?,
+    ])
+}
+
+// One symbol taken out, one given twice, and one given in the place of another.
+fn broken_orders(alloc: Global, total: usize) -> Option<[Vec<usize>; 3]> {
+    Some([
+        (1..total).collect(alloc).ok()?,
+        (0..total).chain(0..1).collect(alloc).ok()?,
+        (1..total).chain(1..2).collect(alloc).ok()?,
+    ])
+}
+
+#[test]
+fn reads_in_any_order(rt: HostRuntime) -> Result<(), Fail> {
+    for row in ROWS {
+        let grids = grids(rt.alloc(), &row).ok_or("no symbols")?;
+        for order in &whole_orders(rt.alloc(), grids.len()).ok_or("no order")? {
+            let message = read_sequence(rt.alloc(), &grids, order).ok_or("no message")?;
+            assert_eq!(rt; message.as_slice(), row.bytes);
+        }
+        for order in &broken_orders(rt.alloc(), grids.len()).ok_or("no order")? {
+            assert!(rt; read_sequence(rt.alloc(), &grids, order).is_none());
+        }
+    }
+    Ok(())
+}
+
+#[test]
+fn refuses_sequences(rt: HostRuntime) {
+    let many = [0; 300];
+    let long = [b'a'; 31];
+    let rows: [(&[u8], &[usize], i16, QrError); 6] = [
+        (
+            b"AB12cd",
+            &[],
+            40,
+            QrError::InvalidStructuredAppend { value: 1 },
+        ),
+        (b"AB12cd", &[2, 4], 41, QrError::InvalidResourceLimits),
+        (b"", &[], 0, QrError::InvalidResourceLimits),
+        (
+            b"",
+            &many[..16],
+            40,
+            QrError::InvalidStructuredAppend { value: 17 },
+        ),
+        (
+            b"",
+            &many,
+            40,
+            QrError::InvalidStructuredAppend { value: 255 },
+        ),
+        (&long, &[15], 1, QrError::DataTooLong),
+    ];
+    for (bytes, cuts, limit, error) in rows {
+        let refused = answer(rt.alloc(), bytes, cuts, limit).and_then(|answer| answer.err());
+        assert_eq!(rt; refused, Some(error));
+    }
+}

@@ -1,0 +1,105 @@
+//! The symbols of a message that is spread over several of them.
+ghost use Rattle.std.specs.Prelude.{◌≡◌, ◌+◌, ◌≤◌, [], length, map, nat_abs, slice_index_or, All, OnOk, IfOk, IfErr, vec_items};
+ghost use Rattle.std.specs.List.Sorted.{IsNonDecreasing};
+ghost use Rattle.qrcode_bits.specs.Encoding.{IsLimit, IsPartRefused};
+ghost use Rattle.qrcode_bits.specs.Push.{header};
+ghost use Rattle.qrcode_core.specs.Sequence.{parity, parts_at, IsPartSymbol, AreBestSymbols, IsSequenceRefusal};
+
+use crate::symbol::draw;
+use qrcode_base::types::{Color, EcLevel, QrError, QrResult};
+use qrcode_bits::bits::encode_part;
+use std::alloc::Global;
+
+/// The modules of 2 to 16 symbols that carry a message together, in the order of its parts (ISO/IEC 18004, "Structured
+/// Append").
+///
+/// The parts lie between the start of the message, the cuts in order, and its end; they may be empty. Each symbol begins
+/// with a header that tells its position, how many symbols there are, and the exclusive or of all bytes of the message.
+/// It is the best symbol of its part (as with `symbol`) in the versions from 1 to `max_version`, where the header takes
+/// 20 bits. Read in any order, the symbols are the message.
+///
+/// A `max_version` outside 1 to 40 is `InvalidResourceLimits`. Then a number of parts other than 2 to 16 is
+/// `InvalidStructuredAppend` with this number, or with 255 where it is greater. Then `DataTooLong` comes exactly where
+/// some part fits none of the versions, and `OutOfMemory` where a growth was refused. A refused call gives no symbol.
+pub fn symbol_sequence(
+    alloc: Global,
+    bytes: &[u8],
+    cuts: &[usize],
+    level: EcLevel,
+    max_version: i16,
+) -> QrResult<Vec<Vec<Color>>>
+    requires ordered { IsNonDecreasing cuts.now }
+    requires within { All (λ cut. cut ≤ length bytes.now) cuts.now }
+    ensures best { IfOk result (λ grids. AreBestSymbols bytes.now cuts.now level (nat_abs max_version) (map vec_items grids.items)) }
+    ensures limit { OnOk result (IsLimit max_version) }
+    ensures refused { IfErr result (IsSequenceRefusal bytes.now cuts.now level max_version) }
+{
+    if max_version < 1 || max_version > 40 {
+        return Err(QrError::InvalidResourceLimits);
+    }
+    let total = cuts.len().min(254) as u8 + 1;
+    if total < 2 || total > 16 {
+        return Err(QrError::InvalidStructuredAppend { value: total });
+    }
+    let parity = parity_of(bytes);
+    let mut grids = Vec::new(alloc);
+    for index in 0..total {
+        let part = part_at(bytes, cuts, usize::from(index));
+        let grid = match part_symbol(alloc, part, index + 1, total, parity, level, max_version) {
+            Ok(grid) => grid,
+            Err(error) => return Err(error),
+        };
+        let Ok(()) = grids.push(grid) else {
+            return Err(QrError::OutOfMemory);
+        };
+    }
+    Ok(grids)
+}
+
+// The exclusive or of some bytes.
+fn parity_of(bytes: &[u8]) -> u8
+    ensures { result ≡ parity bytes.now }
+{
+    bytes.iter().fold(0, |sum, byte| sum ^ *byte)
+}
+
+// The part of the message that begins at the start or a cut, and ends at the next cut or the end.
+fn part_at<'a>(bytes: &'a [u8], cuts: &[usize], index: usize) -> &'a [u8]
+    requires ordered { IsNonDecreasing cuts.now }
+    requires within { All (λ cut. cut ≤ length bytes.now) cuts.now }
+    requires exists { index ≤ length cuts.now }
+    ensures { result.now ≡ slice_index_or (parts_at cuts.now bytes.now) index [] }
+{
+    let start = if index == 0 { 0 } else { cuts[index - 1] };
+    let end = if index == cuts.len() {
+        bytes.len()
+    } else {
+        cuts[index]
+    };
+    &bytes[start..end]
+}
+
+// The best symbol of a part, with its header.
+fn part_symbol(
+    alloc: Global,
+    part: &[u8],
+    position: u8,
+    total: u8,
+    parity: u8,
+    level: EcLevel,
+    max_version: i16,
+) -> QrResult<Vec<Color>>
+    ensures best { IfOk result (λ grid. IsPartSymbol (header position total parity) part.now level (nat_abs max_version) grid.items) }
+    ensures refused { IfErr result (IsPartRefused position total part.now level max_version) }
+{
+    let bits = match encode_part(alloc, part, position, total, parity, level, max_version) {
+        Ok(bits) => bits,
+        Err(error) => return Err(error),
+    };
+    let version = bits.version();
+    let codewords = bits.into_bytes();
+    match draw(alloc, version, level, &codewords) {
+        Ok(grid) => Ok(grid),
+        Err(error) => Err(error),
+    }
+}
