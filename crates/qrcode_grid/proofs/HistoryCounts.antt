@@ -1,5 +1,5 @@
 -- The patterns that end within a line and the four light modules after it are the patterns of the line.
-use Rattle.std.proofs.Common.{◌≡◌, ℕ, zero, suc, ◌+◌, ◌*◌, ◌%◌, ◌<◌, ◌==◌, Bool, false, cond, ◌&&◌, ◌||◌, List, ◌∷◌, length, get_or, refl, ap, ◌∙◌, sym, arith}
+use Rattle.std.proofs.Common.{◌≡◌, ℕ, zero, suc, ◌+◌, ◌%◌, ◌<◌, ◌==◌, Bool, false, cond, ◌&&◌, ◌||◌, List, ◌∷◌, length, get_or, refl, ap, ◌∙◌, sym, arith}
 use Rattle.std.proofs.lemmas.List.{get_or_past}
 use Rattle.qrcode_grid.specs.Sums.{sum_below, count_below}
 use Rattle.qrcode_grid.specs.Penalty.{quiet, is_module, are_light, is_pattern, is_finder_like}
@@ -7,7 +7,7 @@ use Rattle.qrcode_grid.proofs.Histories.{history_is, read, is_hit}
 use Rattle.qrcode_grid.proofs.Runs.{sum_same}
 
 -- how many finder-like patterns a line has
-abbrev windows_count : List ℕ → ℕ
+abbrev pub windows_count : List ℕ → ℕ
 windows_count line = count_below (is_finder_like (quiet line)) (length line)
 
 -- fourteen light modules before a line
@@ -21,7 +21,7 @@ here line k = cond (is_finder_like line k) 1 0
 abbrev pub counted : List ℕ → ℕ → ℕ
 counted line j = sum_below (here (padded line)) j
 
-sum_add : (f : ℕ → ℕ) (m n : ℕ) → sum_below f (m + n) ≡ sum_below f m + sum_below (λ k. f (m + k)) n
+pub sum_add : (f : ℕ → ℕ) (m n : ℕ) → sum_below f (m + n) ≡ sum_below f m + sum_below (λ k. f (m + k)) n
 sum_add f m zero = let e : m + 0 ≡ m = omega arith in ap (sum_below f) e ∙ omega arith
 sum_add f m (suc n) = let e : m + suc n ≡ suc (m + n) = omega arith in ap (sum_below f) e ∙ omega (arith, sum_add f m n)
 
@@ -99,14 +99,8 @@ zeros_digits (suc n) line h = more_digits (zeros n line) (zeros_digits n line h)
 padded_digits : (line : List ℕ) → ((k : ℕ) → get_or line k 0 < 2) → (k : ℕ) → get_or (padded line) k 0 < 2
 padded_digits line h = zeros_digits 14 line h
 
-fourteen_less : (line : List ℕ) (j n : ℕ) → n ≡ suc (suc (suc (suc (suc (suc (suc (suc (suc (suc (suc (suc (suc (suc j))))))))))))) → get_or (padded line) n 0 ≡ get_or line j 0
+pub fourteen_less : (line : List ℕ) (j n : ℕ) → n ≡ suc (suc (suc (suc (suc (suc (suc (suc (suc (suc (suc (suc (suc (suc j))))))))))))) → get_or (padded line) n 0 ≡ get_or line j 0
 fourteen_less line j n e = ap (λ k. get_or (padded line) k 0) e
-
-pub read_next : (line : List ℕ) (h j m r : ℕ) → h ≡ read (padded line) (j + 14) % 32768 → m ≡ get_or line j 0 → r ≡ (2 * h + m) % 32768 → r ≡ read (padded line) (j + 1 + 14) % 32768
-read_next line h j m r eh em er =
-    let s : j + 1 + 14 ≡ suc (j + 14) = omega arith in
-    let step : read (padded line) (j + 1 + 14) ≡ 2 * read (padded line) (j + 14) + get_or (padded line) (j + 14) 0 = ap (read (padded line)) s in
-    omega (arith, eh, em, er, step, fourteen_less line j (j + 14) (omega arith))
 
 pub count_next : (line : List ℕ) → ((k : ℕ) → get_or line k 0 < 2) → (h j n : ℕ) (b t : Bool) → h ≡ read (padded line) (j + 1 + 14) % 32768 → n ≡ counted line j → t ≡ is_hit h → t ≡ b
     → n + cond b 1 0 ≡ counted line (j + 1)

@@ -1,12 +1,9 @@
 -- Rows and columns of a grid of bytes that are 0 or 1.
-use Rattle.std.proofs.Common.{ℕ, ◌+◌, ◌*◌, ◌<◌, List, map, length, get_or, arith, inl, inr, All}
+use Rattle.std.proofs.Common.{ℕ, ◌+◌, ◌*◌, ◌<◌, List, length, get_or, arith, inl, inr, All}
 use Rattle.std.specs.List.{range_with_len}
 use Rattle.std.proofs.lemmas.Bool.{cases_lt}
 use Rattle.std.proofs.lemmas.List.{get_or_past}
 use Rattle.std.proofs.lemmas.List.Elements.{All-get_or, All-from_get_or, All-map}
-use Rattle.qrcode_base.specs.declared.types.Color.{Color}
-use Rattle.qrcode_base.specs.declared.types.Color.TheVariants.{Light, Dark}
-use Rattle.qrcode_grid.specs.Lanes.{byte_of}
 use Rattle.qrcode_grid.specs.Penalty.{column}
 
 abbrev Binary : ℕ → Type 0
@@ -22,11 +19,3 @@ pub All-column : (w : ℕ) (modules : List ℕ) (x : ℕ) → All (λ m. m < 2) 
 All-column w modules x binary =
     All-map Binary (λ y. get_or modules (y * w + x) 0) (range_with_len 0 w)
     (All-from_get_or (λ y. Binary (get_or modules (y * w + x) 0)) (range_with_len 0 w) 0 (λ i h. binary_at modules binary (get_or (range_with_len 0 w) i 0 * w + x)))
-
-byte_binary : (c : Color) → byte_of c < 2
-byte_binary Light = omega arith
-byte_binary Dark = omega arith
-
-pub All-bytes : (colors : List Color) → All (λ m. m < 2) (map byte_of colors)
-All-bytes colors =
-    All-map Binary byte_of colors (All-from_get_or (λ c. Binary (byte_of c)) colors Light (λ i h. byte_binary (get_or colors i Light)))

@@ -1,9 +1,10 @@
 //! The candidates of a canvas, one for each mask of its family, each scored as a list of bytes.
-ghost use Rattle.std.specs.Prelude.{◌≡◌, false, ℕ, ◌+◌, ◌*◌, ◌%◌, ◌<◌, ◌≤◌, length, map, slice_index, slice_index_or};
+ghost use Rattle.std.specs.Prelude.{◌≡◌, false, ℕ, ◌+◌, ◌*◌, ◌/◌, ◌%◌, ◌<◌, ◌≤◌, List, length, map, slice_index, slice_index_or};
 ghost use Rattle.qrcode_base.specs.Symbols.{IsVersion, width_of};
+ghost use Rattle.qrcode_grid.specs.declared.canvas.Module.{Module};
 ghost use Rattle.qrcode_grid.specs.Canvas.{color_of_module};
-ghost use Rattle.qrcode_grid.specs.Lanes.{byte_of};
-ghost use Rattle.qrcode_grid.specs.Masks.{drawn_over, format_color, is_inverted, masked, masked_cell, masked_cells};
+ghost use Rattle.qrcode_grid.specs.Lanes.{byte_of, byte_under, code_of, masked_code};
+ghost use Rattle.qrcode_grid.specs.Masks.{format_color, is_inverted, masked_cells};
 ghost use Rattle.qrcode_grid.specs.Penalty.{modules_penalty};
 
 use crate::canvas::masks::inverts;
@@ -12,29 +13,37 @@ use crate::canvas::regions::format_color_at;
 use crate::canvas::{MaskPattern, Module};
 use qrcode_base::types::{Color, Version};
 
-/// A colour as a byte.
-fn byte_of_color(color: Color) -> u8
-    ensures { result ≡ byte_of color }
+/// A module as a byte: 1 where it is dark, and 2 more where a mask may invert it.
+fn code(old: Module) -> u8
+    ensures { result ≡ code_of old }
 {
-    match color {
-        Color::Dark => 1,
-        Color::Light => 0,
-    }
-}
-
-/// The colour of a module after masking, as a byte.
-fn masked_byte(cell: Module, inverted: bool) -> u8
-    ensures { result ≡ byte_of (color_of_module (masked inverted cell)) }
-{
-    let is_dark = match cell {
+    let is_dark = match old {
         Module::Masked(Color::Dark) | Module::Unmasked(Color::Dark) => true,
         _ => false,
     };
-    let turns = match cell {
-        Module::Masked(_) => false,
-        _ => inverted,
+    let is_masked = match old {
+        Module::Masked(_) => true,
+        _ => false,
     };
-    u8::from(is_dark != turns)
+    u8::from(is_dark) + 2 * u8::from(!is_masked)
+}
+
+/// Writes the modules as bytes.
+#[inline(never)]
+pub fn write_codes(modules: &[Module], codes: &mut [u8])
+    requires { length codes.old ≡ length modules.now }
+    ensures { codes.new ≡ map code_of modules.now }
+{
+    for i in 0..modules.len() {
+        codes[i] = code(modules[i]);
+    }
+}
+
+/// The byte of a module after masking, by its code.
+fn masked_code(code: u8, inverted: bool) -> u8
+    ensures { result ≡ masked_code code inverted }
+{
+    (code % 2 + if inverted { code / 2 } else { 0 }) % 2
 }
 
 /// The first six cells of a row, where a pattern inverts them. Each later cell is like the sixth before it.
@@ -60,89 +69,139 @@ fn next_turn(k: usize) -> usize
     if k == 5 { 0 } else { k + 1 }
 }
 
-/// The byte of a module at a cell under a mask, which inverts the cell or not.
-fn candidate_byte(
-    version: Version,
-    width: usize,
-    format: u32,
-    x: usize,
-    y: usize,
-    inverted: bool,
-    old: Module,
-) -> u8
-    requires { 9 ≤ width }
-    ensures { result ≡ byte_of (color_of_module (drawn_over (format_color version width format x y) (masked inverted old))) }
+/// Writes where a pattern inverts the cells of one of twelve rows. What comes before the row stays.
+fn write_stripe(pattern: MaskPattern, width: usize, y: usize, stripes: &mut [bool])
+    requires wide { width ≤ 177 }
+    requires within { y < 12 }
+    requires long { length stripes.old ≡ 12 * width }
+    ensures row { (x : ℕ) → x < width → slice_index_or stripes.new (y * width + x) false ≡ is_inverted pattern x y }
+    ensures before { (k : ℕ) → k < y * width → slice_index_or stripes.new k false ≡ slice_index_or stripes.old k false }
 {
-    match format_color_at(version, width, format, x, y) {
-        Some(color) => byte_of_color(color),
-        None => masked_byte(old, inverted),
-    }
-}
-
-/// Writes the colours of a row of the modules under a mask, as bytes. What comes before it stays.
-fn write_row(
-    modules: &[Module],
-    version: Version,
-    width: usize,
-    format: u32,
-    pattern: MaskPattern,
-    y: usize,
-    candidate: &mut [u8],
-)
-    requires wide { (9 ≤ width) × (width ≤ 177) }
-    requires square { length modules.now ≡ width * width }
-    requires long { length candidate.old ≡ width * width }
-    requires within { y < width }
-    ensures row { (x : ℕ) → x < width → slice_index candidate.new (y * width + x) ≡ byte_of (color_of_module (masked_cell version width format pattern x y (slice_index_or modules.now (y * width + x) Module.Empty))) }
-    ensures before { (k : ℕ) → k < y * width → slice_index candidate.new k ≡ slice_index candidate.old k }
-{
-    let stripe = first_inversions(pattern, y);
+    let first = first_inversions(pattern, y);
     let mut k = 0;
     for x in 0..width {
-        let i = y * width + x;
-        candidate[i] = candidate_byte(version, width, format, x, y, stripe[k], modules[i]);
+        stripes[y * width + x] = first[k];
         k = next_turn(k);
     }
 }
 
-/// Writes the colours of the modules under a mask, as bytes.
+/// Writes where a pattern inverts the cells of twelve rows. Each later row is like the twelfth before it.
+pub fn write_stripes(pattern: MaskPattern, width: usize, stripes: &mut [bool])
+    requires wide { width ≤ 177 }
+    requires long { length stripes.old ≡ 12 * width }
+    ensures { (x : ℕ) → (y : ℕ) → x < width → y < 12 → slice_index_or stripes.new (y * width + x) false ≡ is_inverted pattern x y }
+{
+    for y in 0..12 {
+        write_stripe(pattern, width, y, stripes);
+    }
+}
+
+/// Writes the bytes of a row after masking. What comes before the row stays.
+#[inline(never)]
+fn mask_row(codes: &[u8], stripes: &[bool], width: usize, y: usize, candidate: &mut [u8])
+    requires wide { width ≤ 177 }
+    requires square { length codes.now ≡ width * width }
+    requires stripes { length stripes.now ≡ 12 * width }
+    requires long { length candidate.old ≡ width * width }
+    requires within { y < width }
+    ensures row { (x : ℕ) → x < width → slice_index candidate.new (y * width + x) ≡ masked_code (slice_index codes.now (y * width + x)) (slice_index_or stripes.now (y % 12 * width + x) false) }
+    ensures before { (k : ℕ) → k < y * width → slice_index candidate.new k ≡ slice_index candidate.old k }
+{
+    let place = y * width;
+    let stripe = y % 12 * width;
+    for x in 0..width {
+        candidate[place + x] = masked_code(codes[place + x], stripes[stripe + x]);
+    }
+}
+
+/// A byte after the format word and the dark module are drawn over it.
+fn formatted(version: Version, width: usize, format: u32, x: usize, y: usize, byte: u8) -> u8
+    requires { 9 ≤ width }
+    ensures { result ≡ byte_under (format_color version width format x y) byte }
+{
+    match format_color_at(version, width, format, x, y) {
+        Some(Color::Dark) => 1,
+        Some(Color::Light) => 0,
+        None => byte,
+    }
+}
+
+/// Draws the format word and the dark module over row 8. What comes before the row stays.
+fn format_eighth_row(version: Version, width: usize, format: u32, candidate: &mut [u8])
+    requires wide { (9 ≤ width) × (width ≤ 177) }
+    requires long { length candidate.old ≡ width * width }
+    ensures row { (x : ℕ) → x < width → slice_index candidate.new (8 * width + x) ≡ byte_under (format_color version width format x 8) (slice_index candidate.old (8 * width + x)) }
+    ensures before { (k : ℕ) → k < 8 * width → slice_index candidate.new k ≡ slice_index candidate.old k }
+{
+    for x in 0..width {
+        let i = 8 * width + x;
+        candidate[i] = formatted(version, width, format, x, 8, candidate[i]);
+    }
+}
+
+/// Draws the format word and the dark module over a row, of which they take cells in row 8 and column 8. What comes before the
+/// row stays.
+#[inline(never)]
+fn format_row(version: Version, width: usize, format: u32, y: usize, candidate: &mut [u8])
+    requires wide { (9 ≤ width) × (width ≤ 177) }
+    requires long { length candidate.old ≡ width * width }
+    requires within { y < width }
+    ensures row { (x : ℕ) → x < width → slice_index candidate.new (y * width + x) ≡ byte_under (format_color version width format x y) (slice_index candidate.old (y * width + x)) }
+    ensures before { (k : ℕ) → k < y * width → slice_index candidate.new k ≡ slice_index candidate.old k }
+{
+    if y == 8 {
+        format_eighth_row(version, width, format, candidate);
+    } else {
+        let i = y * width + 8;
+        candidate[i] = formatted(version, width, format, 8, y, candidate[i]);
+    }
+}
+
+/// Writes the bytes of the modules with these codes under a mask.
 fn write_candidate(
-    modules: &[Module],
+    codes: &[u8],
     version: Version,
     width: usize,
     format: u32,
     pattern: MaskPattern,
     candidate: &mut [u8],
 )
-    requires symbol { IsVersion version }
-    requires wide { width ≡ width_of version }
-    requires square { length modules.now ≡ width * width }
+    requires wide { (9 ≤ width) × (width ≤ 177) }
+    requires square { length codes.now ≡ width * width }
     requires long { length candidate.old ≡ width * width }
-    ensures { candidate.new ≡ map byte_of (map color_of_module (masked_cells version width format pattern modules.now)) }
+    ensures { (k : ℕ) → k < width * width → slice_index candidate.new k ≡ byte_under (format_color version width format (k % width) (k / width)) (masked_code (slice_index codes.now k) (is_inverted pattern (k % width) (k / width))) }
 {
+    let mut buffer = [false; 2124];
+    let stripes = &mut buffer[..12 * width];
+    write_stripes(pattern, width, stripes);
     for y in 0..width {
-        write_row(modules, version, width, format, pattern, y, candidate);
+        mask_row(codes, stripes, width, y, candidate);
+        format_row(version, width, format, y, candidate);
     }
 }
 
-/// The penalty of the modules under a mask. The candidate, as long as they are, is written over.
+/// The penalty of the modules with these codes under a mask. The candidate becomes their bytes, and the list for the
+/// transposed grid is written over.
 pub fn penalty_under_mask(
-    modules: &[Module],
+    codes: &[u8],
     version: Version,
     width: usize,
     format: u32,
     pattern: MaskPattern,
     candidate: &mut [u8],
+    turned: &mut [u8],
 ) -> usize
     requires symbol { IsVersion version }
     requires wide { width ≡ width_of version }
-    requires square { length modules.now ≡ width * width }
+    requires square { length codes.now ≡ width * width }
     requires long { length candidate.old ≡ width * width }
-    ensures { result ≡ modules_penalty version (map byte_of (map color_of_module (masked_cells version width format pattern modules.now))) }
+    requires turned { length turned.old ≡ width * width }
+    ensures candidate { (modules : List Module) → codes.now ≡ map code_of modules → candidate.new ≡ map byte_of (map color_of_module (masked_cells version width format pattern modules)) }
+    ensures is { result ≡ modules_penalty version candidate.new }
 {
-    write_candidate(modules, version, width, format, pattern, candidate);
+    write_candidate(codes, version, width, format, pattern, candidate);
     match version {
-        Version::Normal(_) => penalty_of_normal(width, candidate),
+        Version::Normal(_) => penalty_of_normal(width, candidate, turned),
         Version::Micro(_) => penalty_of_micro(width, candidate),
     }
 }
