@@ -246,14 +246,14 @@ IsSearched front message l limit left = (before : ℕ) × ClassesUpTo before lef
 
 pub refused_limit : (message : List ℕ) (l : EcLevel) (z : ℤ) (n : ℕ) (e : QrError) → IsLimit z → n ≡ nat_abs z → IsUnencodable normal 0 message l n e → IsEncodingRefused message l z e
 refused_limit message l z n DataTooLong h same r = (h, subst (λ (k : ℕ). FitsNone normal 0 message l k) same r)
-refused_limit message l z n OutOfMemory h same r = (h, tt)
+refused_limit message l z n OutOfMemory h same r = (h, r)
 refused_limit message l z n other h same r = absurd r
 
 pub refused_part : (place total : ℕ) (message : List ℕ) (l : EcLevel) (z : ℤ) (n front : ℕ) (e : QrError) → IsLimit z → IsPlace place total → n ≡ nat_abs z → front ≡ 20 →
     IsUnencodable normal front message l n e → IsPartRefused place total message l z e
 refused_part place total message l z n front DataTooLong h p same size r =
     (h, p, subst (λ (f : ℕ). FitsNone normal f message l (nat_abs z)) size (subst (λ (k : ℕ). FitsNone normal front message l k) same r))
-refused_part place total message l z n front OutOfMemory h p same size r = (h, p, tt)
+refused_part place total message l z n front OutOfMemory h p same size r = (h, p, r)
 refused_part place total message l z n front other h p same size r = absurd r
 
 pub limit_of : (z y : ℤ) → y ≡ z → lt_z y (pos 1) ≡ false → lt_z (pos 40) y ≡ false → IsLimit z

@@ -1,6 +1,6 @@
 -- What some bytes are encoded as: the bit stream of the chosen plan in a version, perhaps behind the header of a
 -- sequence, ended at the capacity.
-use Rattle.std.specs.Prelude.{◌≡◌, ℕ, ℤ, pos, nat_abs, ◌≤ℤ◌, ◌+◌, List, ◌++◌, length, take, Option, Some}
+use Rattle.std.specs.Prelude.{◌≡◌, ℕ, ℤ, pos, nat_abs, ◌≤ℤ◌, ◌+◌, ◌≤◌, List, ◌++◌, length, take, Option, Some}
 use Rattle.qrcode_base.specs.declared.types.Version.{Version}
 use Rattle.qrcode_base.specs.declared.types.Version.TheVariants.{Micro}
 use Rattle.qrcode_base.specs.declared.types.EcLevel.{EcLevel}
@@ -40,10 +40,10 @@ pub record IsEncoding (kind : ℕ → Version) (header : Option Header) (bytes :
   pub stream_is : IsPlanStream header bytes (kind number) level plan stream
 
 -- Why bytes are not encoded: no plan fits any version up to the limit behind so many bits in front, or memory was
--- wanting.
+-- wanting. More than 7089 bytes, which is as many as the largest symbol has digits, are refused before any is wanted.
 abbrev pub IsUnencodable : (ℕ → Version) → ℕ → List ℕ → EcLevel → ℕ → QrError → Type 0
 IsUnencodable kind front bytes level limit DataTooLong = FitsNone kind front bytes level limit
-IsUnencodable kind front bytes level limit OutOfMemory = Unit {0}
+IsUnencodable kind front bytes level limit OutOfMemory = length bytes ≤ 7089
 IsUnencodable kind front bytes level limit other = ⊥
 
 -- The limit of a caller is tested first: it is one of 1 to 40.

@@ -96,9 +96,9 @@ encoded_fits bytes level limit stream h encoding long =
     long encoding.plan (fits_last 0 encoding.number bytes level encoding.plan (let up = choice.up_to in omega arith) choice.fits)
 
 -- It has at most 7089 bytes.
-pub encoded_short : (bytes : List ℕ) (level : EcLevel) (limit : ℕ) (stream : Stream) → limit ≤ 40 → All (λ c. c < 256) bytes → IsEncoding normal None bytes level limit stream → length bytes ≤ 7089
-encoded_short bytes level limit stream h are encoding = elim (cases_lt 7089 (length bytes)) [
-  | inl long ↦ absurd (long_message 0 bytes level limit h are long encoding.number encoding.choice.up_to encoding.plan encoding.choice.fits)
+pub encoded_short : (header : Option Header) (bytes : List ℕ) (level : EcLevel) (limit : ℕ) (stream : Stream) → limit ≤ 40 → All (λ c. c < 256) bytes → IsEncoding normal header bytes level limit stream → length bytes ≤ 7089
+encoded_short header bytes level limit stream h are encoding = elim (cases_lt 7089 (length bytes)) [
+  | inl long ↦ absurd (long_message (length (header_bits header)) bytes level limit h are long encoding.number encoding.choice.up_to encoding.plan encoding.choice.fits)
   | inr short ↦ omega (arith, short)
 ]
 
@@ -110,11 +110,11 @@ encoded_micro_short bytes level stream are encoding = elim (cases_lt 7089 (lengt
 
 pub normal_refused : (bytes : List ℕ) (level : EcLevel) (e : QrError) → IsUnencodable normal 0 bytes level 40 e → IsRefusal bytes level e
 normal_refused bytes level DataTooLong none = none 40 (omega arith)
-normal_refused bytes level OutOfMemory none = tt
+normal_refused bytes level OutOfMemory few = few
 normal_refused bytes level other none = none
 
 pub micro_refused : (bytes : List ℕ) (level : EcLevel) (e : QrError) → IsMicroRefused bytes level e → IsMicroRefusal bytes level e
 micro_refused bytes level (InvalidVersion v l) why = why
 micro_refused bytes level DataTooLong why = why
-micro_refused bytes level OutOfMemory why = why.0
+micro_refused bytes level OutOfMemory why = why
 micro_refused bytes level other why = why.1

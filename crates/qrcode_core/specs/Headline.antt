@@ -1,5 +1,5 @@
 -- What the symbol of some bytes at a level is: the smallest and best one, read in one way (ISO/IEC 18004, encode procedure).
-use Rattle.std.specs.Prelude.{◌≡◌, ◌≢◌, ℕ, pos, ◌*◌, ◌<◌, List, length, Option, None}
+use Rattle.std.specs.Prelude.{◌≡◌, ◌≢◌, ℕ, pos, ◌*◌, ◌<◌, ◌≤◌, List, length, Option, None}
 use Rattle.qrcode_base.specs.declared.types.Color.{Color}
 use Rattle.qrcode_base.specs.declared.types.EcLevel.{EcLevel}
 use Rattle.qrcode_base.specs.declared.types.EcLevel.TheVariants.{H}
@@ -86,14 +86,14 @@ IsTooLong bytes level = FitsNot 0 bytes (normal 40) level
 abbrev pub IsTooLongForMicro : List ℕ → EcLevel → Type 0
 IsTooLongForMicro bytes level = FitsNone micro 0 bytes level 4
 
--- Which refusal comes when. Of a want of memory nothing is said.
+-- Which refusal comes when. More than 7089 bytes want no memory.
 abbrev pub IsRefusal : List ℕ → EcLevel → QrError → Type 0
 IsRefusal bytes level DataTooLong = IsTooLong bytes level
-IsRefusal bytes level OutOfMemory = Unit {0}
+IsRefusal bytes level OutOfMemory = length bytes ≤ 7089
 IsRefusal bytes level other = ⊥
 
 abbrev pub IsMicroRefusal : List ℕ → EcLevel → QrError → Type 0
 IsMicroRefusal bytes level DataTooLong = (level ≢ H) × IsTooLongForMicro bytes level
 IsMicroRefusal bytes level (InvalidVersion version named) = (level ≡ H) × (version ≡ Micro (pos 4)) × (named ≡ H)
-IsMicroRefusal bytes level OutOfMemory = level ≢ H
+IsMicroRefusal bytes level OutOfMemory = (level ≢ H) × (length bytes ≤ 7089)
 IsMicroRefusal bytes level other = ⊥
