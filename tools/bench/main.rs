@@ -124,6 +124,7 @@ fn main() {
         let (modules, others) = (here(&bytes, &mut ours), original(&bytes, &mut theirs));
         assert!(modules > 0 && modules == others && ours == theirs, "{name}: the grids differ");
         let kanji = name.contains("four modes");
+        assert!(libqrencode(&bytes, kanji) > 0, "{name}: libqrencode refuses it");
         let mine = least_time(|| here(&bytes, &mut ours));
         let first = least_time(|| original(&bytes, &mut theirs));
         let second = least_time(|| libqrencode(&bytes, kanji));

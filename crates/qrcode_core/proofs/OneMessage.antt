@@ -121,8 +121,8 @@ best_symbols message cuts level limit grids rise within few long best =
           let symbol = best i inside in
           let header = header_at (i + 1) (length grids) message in
           record {
-            reading = reading_of (get_or parts i []) (normal symbol.0.number) level symbol.0.mask (Some header) symbol.0.payload;
-            reads = symbol.0.reads;
+            reading = reading_of (get_or parts i []) (normal symbol.best.number) level symbol.best.mask (Some header) symbol.best.payload;
+            reads = symbol.best.reads;
             header_is = refl;
             piece_is = refl;
           };

@@ -64,8 +64,9 @@ abbrev pub parts_at : List ℕ → List ℕ → List (List ℕ)
 parts_at cuts message = parts_from 0 cuts message
 
 -- The best symbol of a part, with a header, in a version up to a limit.
-abbrev pub IsPartSymbol : Header → List ℕ → EcLevel → ℕ → List Color → Type 0
-IsPartSymbol header part level limit grid = (best : IsBest normal (Some header) part level grid) × (best.number ≤ limit)
+pub record IsPartSymbol (header : Header) (part : List ℕ) (level : EcLevel) (limit : ℕ) (grid : List Color) : Type 0 where
+  pub best : IsBest normal (Some header) part level grid
+  pub up_to : best.number ≤ limit
 
 -- There is a symbol for each part of the message. The one at each place carries the part of that place, and is the best
 -- one for it. In every order the symbols are read as the message, and as no other.

@@ -50,7 +50,8 @@ impl Model for Part {
 /// The bits of some data in the smallest Normal version in which some plan fits, by the plan that takes the fewest bits there, up
 /// to terminator and padding.
 ///
-/// `DataTooLong` comes where no plan fits version 40 at this level, so for more than 7089 bytes before any memory is taken.
+/// `DataTooLong` comes where no plan fits version 40 at this level, so for more than 7089 bytes before any memory is taken;
+/// `OutOfMemory` where a growth was refused.
 pub fn encode_auto(alloc: Global, bytes: &[u8], level: EcLevel) -> QrResult<Bits>
     ensures ok { IfOk result (λ bits. IsEncoding normal None bytes.now level 40 bits) }
     ensures err { IfErr result (λ e. IsUnencodable normal 0 bytes.now level 40 e) }
@@ -60,7 +61,8 @@ pub fn encode_auto(alloc: Global, bytes: &[u8], level: EcLevel) -> QrResult<Bits
 
 /// As `encode_auto`, but with no version past `max_version`.
 ///
-/// A maximum outside 1 to 40 is `InvalidResourceLimits`, which is tested first.
+/// A maximum outside 1 to 40 is `InvalidResourceLimits`, which is tested first. Then `DataTooLong` comes where no plan fits any of
+/// the versions, and `OutOfMemory` where a growth was refused.
 pub fn encode_auto_with_max_version(
     alloc: Global,
     bytes: &[u8],
@@ -87,7 +89,8 @@ pub fn encode_auto_with_max_version(
 /// The version is the smallest up to `max_version` in which the header and some plan fit, and the plan takes the fewest bits there.
 /// The payload counts the header. The refusals are `InvalidResourceLimits` where the maximum is outside 1 to 40, then
 /// `InvalidStructuredAppend` with the total where it is not 2 to 16, else with the position where it is not 1 to the total, then
-/// `DataTooLong` where no plan fits, so for more than 7089 bytes before any memory is taken.
+/// `DataTooLong` where no plan fits, so for more than 7089 bytes before any memory is taken; `OutOfMemory` where a growth was
+/// refused.
 pub fn encode_part(
     alloc: Global,
     bytes: &[u8],
@@ -122,7 +125,8 @@ pub fn encode_part(
 /// The bits of some data in the smallest of M1 to M4 that has the level and the modes and in which some plan fits, as with
 /// `encode_auto`.
 ///
-/// Level H, which no Micro version has, is `InvalidVersion` with M4. Then `DataTooLong` comes where no plan fits any of the four.
+/// Level H, which no Micro version has, is `InvalidVersion` with M4. Then `DataTooLong` comes where no plan fits any of the four,
+/// and `OutOfMemory` where a growth was refused.
 pub fn encode_auto_micro(alloc: Global, bytes: &[u8], level: EcLevel) -> QrResult<Bits>
     ensures ok { IfOk result (λ bits. IsEncoding micro None bytes.now level 4 bits) }
     ensures err { IfErr result (λ e. IsMicroRefused bytes.now level e) }

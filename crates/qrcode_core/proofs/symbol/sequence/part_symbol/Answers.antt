@@ -27,9 +27,10 @@ returns-in-Ok-draw-clause-best c =
     let placed = header c.args.position c.args.total c.args.parity in
     let same : to_z w16 (of_z w16 c.args.max_version) ≡ c.args.max_version = to_z-of_z w16 c.args.max_version c.ranges.max_version in
     let limit = nat_abs (to_z w16 (of_z w16 c.args.max_version)) in
-    subst (λ (z : ℤ). IsPartSymbol placed c.args.part.now c.args.level (nat_abs z) c.in-Ok-draw.grid.items) same
-    (best_up_to normal (Some placed) c.args.part.now c.args.level limit c.in-Ok.bits c.into_bytes-codewords.result.items are c.in-Ok.ensures.ok c.into_bytes-codewords.ensures c.in-Ok-draw.grid.items
-    (rw (c.version-version.ensures, c.deref.ensures.value) at c.in-Ok-draw.ensures.drawn))
+    let found =
+    best_up_to normal (Some placed) c.args.part.now c.args.level limit c.in-Ok.bits c.into_bytes-codewords.result.items are c.in-Ok.ensures.ok c.into_bytes-codewords.ensures c.in-Ok-draw.grid.items
+    (rw (c.version-version.ensures, c.deref.ensures.value) at c.in-Ok-draw.ensures.drawn) in
+    subst (λ (z : ℤ). IsPartSymbol placed c.args.part.now c.args.level (nat_abs z) c.in-Ok-draw.grid.items) same (record { best = found.0; up_to = found.1 })
 
 pub returns-clause-refused : goal.returns-clause-refused
 returns-clause-refused c =
