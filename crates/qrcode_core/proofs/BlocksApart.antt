@@ -1,12 +1,10 @@
 -- The blocks of a grid that is read are sound, so other sound lists are far from them.
-use Rattle.std.proofs.Common.{◌≡◌, ℕ, zero, suc, ◌+◌, ◌<◌, ◌≤◌, sym, arith, List, [], ◌∷◌, length, map, get_or, replicate, length-append}
-use Rattle.std.specs.List.{range_with_len}
+use Rattle.std.proofs.Common.{◌<◌, ◌≤◌, sym, arith, List, length, replicate, length-append}
 use Rattle.std.proofs.lemmas.List.{get_or-replicate}
-use Rattle.std.proofs.lemmas.List.Elements.{All-head, All-tail, All-append, All-cons}
-use Rattle.std.proofs.lemmas.List.FromFn.{length-map-range_with_len}
+use Rattle.std.proofs.lemmas.List.Elements.{All-append}
 use Rattle.qrcode_base.specs.declared.types.Color.{Color}
 use Rattle.qrcode_grid.specs.Codes.{AreBytes}
-use Rattle.qrcode_grid.specs.Blocks.{place, block_in, codeword_block}
+use Rattle.qrcode_grid.specs.Blocks.{block_in, codeword_block}
 use Rattle.qrcode_base.specs.Symbols.{block_sizes}
 use Rattle.qrcode_core.specs.Reader.{Reading, Reads}
 use Rattle.qrcode_core.specs.Headline.{HasBlocksApart}
