@@ -1,4 +1,6 @@
 //! The symbol of some bytes: segments, codewords, modules.
+//!
+//! Answers of calls are matched, arm by arm, where `?` would do: the proofs use what is known in each arm.
 ghost use Rattle.std.specs.Prelude.{◌≡◌, ◌≤◌, length, OnOk, IfOk, IfErr};
 ghost use Rattle.qrcode_core.specs.Headline.{IsBestSymbol, IsBestMicroSymbol, IsSquare, IsTooLong, IsRefusal, IsMicroRefusal};
 ghost use Rattle.qrcode_core.specs.Layers.{AreAllCodewords, IsDrawn};

@@ -6,7 +6,7 @@ use qrcode_base::types::EcLevel;
 const L: EcLevel = EcLevel::L;
 
 /// A part, and what it comes to: the payload, and the first bytes. The rest is EC and 11 in turn.
-#[derive(Drop)]
+#[derive(Clone, Copy, Drop)]
 struct Row {
     data: &'static [u8],
     position: u8,
@@ -16,67 +16,69 @@ struct Row {
     bytes: &'static [u8],
 }
 
+const ROWS: [Row; 4] = [
+    Row {
+        data: b"AB",
+        position: 1,
+        total: 3,
+        parity: 0x07,
+        payload: 44,
+        bytes: &[0x30, 0x20, 0x72, 0x01, 0x1c, 0xd0],
+    },
+    Row {
+        data: b"",
+        position: 1,
+        total: 2,
+        parity: 0x00,
+        payload: 20,
+        bytes: &[0x30, 0x10, 0x00],
+    },
+    Row {
+        data: b"",
+        position: 2,
+        total: 2,
+        parity: 0x00,
+        payload: 20,
+        bytes: &[0x31, 0x10, 0x00],
+    },
+    Row {
+        data: b"p",
+        position: 16,
+        total: 16,
+        parity: 0x10,
+        payload: 40,
+        bytes: &[0x3f, 0xf1, 0x04, 0x01, 0x70, 0x00],
+    },
+];
+
+/// The first bytes, and EC and 11 in turn up to 19 bytes.
+fn padded(rt: &HostRuntime, first: &[u8]) -> QrResult<Vec<u8>> {
+    let mut bytes = Vec::new(rt.alloc());
+    bytes.extend_from_slice(first)?;
+    for place in first.len()..19 {
+        let is_even = (place - first.len()) % 2 == 0;
+        bytes.push(if is_even { 0xec } else { 0x11 })?;
+    }
+    Ok(bytes)
+}
+
 #[test]
 fn parts_in_version_1(rt: HostRuntime) -> QrResult<()> {
-    let rows = [
-        Row {
-            data: b"AB",
-            position: 1,
-            total: 3,
-            parity: 0x07,
-            payload: 44,
-            bytes: &[0x30, 0x20, 0x72, 0x01, 0x1c, 0xd0],
-        },
-        Row {
-            data: b"",
-            position: 1,
-            total: 2,
-            parity: 0x00,
-            payload: 20,
-            bytes: &[0x30, 0x10, 0x00],
-        },
-        Row {
-            data: b"",
-            position: 2,
-            total: 2,
-            parity: 0x00,
-            payload: 20,
-            bytes: &[0x31, 0x10, 0x00],
-        },
-        Row {
-            data: b"p",
-            position: 16,
-            total: 16,
-            parity: 0x10,
-            payload: 40,
-            bytes: &[0x3f, 0xf1, 0x04, 0x01, 0x70, 0x00],
-        },
-    ];
-    for row in &rows {
-        let mut wanted = Vec::new(rt.alloc());
-        for byte in row.bytes {
-            wanted.push(*byte)?;
-        }
-        for place in row.bytes.len()..19 {
-            let pad = if (place - row.bytes.len()) % 2 == 0 {
-                0xec
-            } else {
-                0x11
-            };
-            wanted.push(pad)?;
-        }
-        let bits = encode_part(
-            rt.alloc(),
-            row.data,
-            row.position,
-            row.total,
-            row.parity,
-            L,
-            40,
-        )?;
+    for row in ROWS {
+        let Row {
+            data,
+            position,
+            total,
+            parity,
+            ..
+        } = row;
+        let bits = encode_part(rt.alloc(), data, position, total, parity, L, 40)?;
         assert!(rt; bits.version() == Version::Normal(1) && bits.len() == 152);
         assert_eq!(rt; bits.payload_bits_len(), row.payload);
-        assert!(rt; bits.into_bytes().as_slice() == wanted.as_slice());
+        assert_eq!(rt;
+            bits.into_bytes().as_slice(),
+            padded(&rt, row.bytes)?.as_slice()
+        );
     }
     Ok(())
 }
