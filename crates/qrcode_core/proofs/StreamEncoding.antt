@@ -21,7 +21,7 @@ use Rattle.qrcode_bits.specs.Stream.{Stream}
 use Rattle.qrcode_bits.proofs.Choices.{fits_last}
 use Rattle.qrcode_bits.proofs.Lengths.{long_message, long_for_micro}
 use Rattle.qrcode_bits.proofs.PlanFrames.{spelled_plan}
-use Rattle.qrcode_core.specs.Headline.{IsBest, IsTooLong, IsRefusal, IsMicroRefusal}
+use Rattle.qrcode_core.specs.Headline.{IsBest, IsTooLong, IsTooLongForMicro, IsRefusal, IsMicroRefusal}
 use Rattle.qrcode_core.specs.Layers.{IsEncoded, IsDrawn, AreAllCodewords}
 use Rattle.qrcode_core.proofs.Best.{best_symbol}
 use Rattle.qrcode_core.proofs.Ending.{bytes_of_ended}
@@ -101,6 +101,9 @@ encoded_short header bytes level limit stream h are encoding = elim (cases_lt 70
   | inl long ↦ absurd (long_message (length (header_bits header)) bytes level limit h are long encoding.number encoding.choice.up_to encoding.plan encoding.choice.fits)
   | inr short ↦ omega (arith, short)
 ]
+
+pub encoded_micro_fits : (bytes : List ℕ) (level : EcLevel) (stream : Stream) → IsEncoding micro None bytes level 4 stream → IsTooLongForMicro bytes level → ⊥
+encoded_micro_fits bytes level stream encoding none = none encoding.number encoding.choice.up_to encoding.plan encoding.choice.fits
 
 pub encoded_micro_short : (bytes : List ℕ) (level : EcLevel) (stream : Stream) → All (λ c. c < 256) bytes → IsEncoding micro None bytes level 4 stream → length bytes ≤ 7089
 encoded_micro_short bytes level stream are encoding = elim (cases_lt 7089 (length bytes)) [

@@ -9,7 +9,9 @@ use Rattle.qrcode_base.specs.declared.types.EcLevel.{EcLevel}
 use Rattle.qrcode_base.specs.declared.types.errors.QrError.{QrError}
 use Rattle.qrcode_base.specs.declared.types.errors.QrError.TheVariants.{DataTooLong, InvalidResourceLimits, InvalidStructuredAppend, OutOfMemory}
 use Rattle.qrcode_bits.specs.Encoding.{IsLimit, IsPartRefused}
-use Rattle.qrcode_core.specs.Sequence.{header_at, parts_at, IsTotal, IsPartSymbol, AreBestSymbols, IsSequenceRefusal}
+use Rattle.qrcode_bits.proofs.Reading.{length-header}
+use Rattle.qrcode_bits.specs.Choice.{normal, Fits}
+use Rattle.qrcode_core.specs.Sequence.{header_at, parts_at, IsTotal, IsPartSymbol, AreBestSymbols, IsSomePartTooLong, IsSequenceRefusal}
 use Rattle.qrcode_core.proofs.OneMessage.{best_symbols}
 
 -- The first symbols of a sequence, for as many first parts.
@@ -58,3 +60,13 @@ refused_part message cuts level limit total i (InvalidStructuredAppend value) in
 refused_part message cuts level limit total i DataTooLong in_range few count inside why = (in_range, subst IsTotal count few, (i, omega arith, why.2))
 refused_part message cuts level limit total i OutOfMemory in_range few count inside why = (in_range, subst IsTotal count few)
 refused_part message cuts level limit total i other in_range few count inside why = why.2
+
+-- Where each part has its symbol, none is too long.
+pub none_too_long : (message cuts : List ℕ) (level : EcLevel) (limit : ℕ) (grids : List (List Color)) →
+    AreBestSymbols message cuts level limit grids → IsSomePartTooLong message cuts level limit → ⊥
+none_too_long message cuts level limit grids all (i, inside, none) =
+    let part = all.each_best i (omega (arith, all.a_grid_each)) in
+    let text = get_or (parts_at cuts message) i [] in
+    let fits = subst (λ (front : ℕ). Fits front text (normal part.best.number) level part.best.plan)
+    (length-header (header_at (i + 1) (length grids) message)) part.best.fits in
+    none part.best.number part.up_to part.best.plan fits

@@ -2,7 +2,7 @@
 //!
 //! Answers of calls are matched, arm by arm, where `?` would do: the proofs use what is known in each arm.
 ghost use Rattle.std.specs.Prelude.{◌≡◌, ◌≤◌, length, OnOk, IfOk, IfErr};
-ghost use Rattle.qrcode_core.specs.Headline.{IsBestSymbol, IsBestMicroSymbol, IsSquare, IsTooLong, IsRefusal, IsMicroRefusal};
+ghost use Rattle.qrcode_core.specs.Headline.{IsBestSymbol, IsBestMicroSymbol, IsSquare, IsTooLong, IsTooLongForMicro, IsRefusal, IsMicroRefusal};
 ghost use Rattle.qrcode_core.specs.Layers.{AreAllCodewords, IsDrawn};
 
 mod sequence;
@@ -49,6 +49,7 @@ pub fn symbol(alloc: Global, bytes: &[u8], level: EcLevel) -> QrResult<Vec<Color
 pub fn symbol_micro(alloc: Global, bytes: &[u8], level: EcLevel) -> QrResult<Vec<Color>>
     ensures best { IfOk result (λ grid. IsBestMicroSymbol bytes.now level grid.items) }
     ensures square { IfOk result (λ grid. IsSquare grid.items) }
+    ensures fitting { OnOk result (IsTooLongForMicro bytes.now level → ⊥) }
     ensures limit { OnOk result (length bytes.now ≤ 7089) }
     ensures refused { IfErr result (IsMicroRefusal bytes.now level) }
 {

@@ -3,7 +3,7 @@ ghost use Rattle.std.specs.Prelude.{◌≡◌, ◌+◌, ◌≤◌, [], length, m
 ghost use Rattle.std.specs.List.Sorted.{IsNonDecreasing};
 ghost use Rattle.qrcode_bits.specs.Encoding.{IsLimit, IsPartRefused};
 ghost use Rattle.qrcode_bits.specs.Push.{header};
-ghost use Rattle.qrcode_core.specs.Sequence.{parity, parts_at, IsPartSymbol, AreBestSymbols, IsSequenceRefusal};
+ghost use Rattle.qrcode_core.specs.Sequence.{parity, parts_at, IsPartSymbol, AreBestSymbols, IsSomePartTooLong, IsSequenceRefusal};
 
 use crate::symbol::draw;
 use qrcode_base::types::{Color, EcLevel, QrError, QrResult};
@@ -31,6 +31,7 @@ pub fn symbol_sequence(
     requires ordered { IsNonDecreasing cuts.now }
     requires within { All (λ cut. cut ≤ length bytes.now) cuts.now }
     ensures best { IfOk result (λ grids. AreBestSymbols bytes.now cuts.now level (nat_abs max_version) (map vec_items grids.items)) }
+    ensures fitting { OnOk result (IsSomePartTooLong bytes.now cuts.now level (nat_abs max_version) → ⊥) }
     ensures limit { OnOk result (IsLimit max_version) }
     ensures refused { IfErr result (IsSequenceRefusal bytes.now cuts.now level max_version) }
 {

@@ -9,7 +9,7 @@ use Rattle.qrcode_bits.specs.Encoding.{IsLimit, IsPartRefused}
 use Rattle.qrcode_bits.specs.Push.{header}
 use Rattle.qrcode_bits.proofs.Classes.{limit_of}
 use Rattle.qrcode_core.specs.Sequence.{parts_at, IsPartSymbol, AreBestSymbols}
-use Rattle.qrcode_core.proofs.Symbols.{AreFirstSymbols, one_more, all_symbols, refused_part}
+use Rattle.qrcode_core.proofs.Symbols.{AreFirstSymbols, one_more, all_symbols, none_too_long, refused_part}
 use Rattle.qrcode_core.proofs.symbol.sequence.symbol_sequence.Goals as goal
 
 pub returns-in-Err-clause-refused : goal.returns-in-Err-clause-refused
@@ -48,3 +48,7 @@ returns-clause-best c =
     subst (λ (z : ℤ). AreBestSymbols bytes cuts c.args.level (nat_abs z) grids) same
     (all_symbols bytes cuts c.args.level (nat_abs (to_z w16 (of_z w16 c.args.max_version))) total grids c.requires.ordered c.requires.within (omega arith, omega arith) (omega (arith, c.min.ensures))
     (subst (λ (n : ℕ). AreFirstSymbols bytes cuts c.args.level (nat_abs (to_z w16 (of_z w16 c.args.max_version))) total n grids) all c.loop-index.invariant))
+
+pub returns-clause-fitting : goal.returns-clause-fitting
+returns-clause-fitting c =
+    none_too_long c.args.bytes.now c.args.cuts.now c.args.level (nat_abs c.args.max_version) (map vec_items c.loop-index.grids.items) (returns-clause-best c)
