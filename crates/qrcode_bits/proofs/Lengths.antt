@@ -1,5 +1,5 @@
 -- No message of more than 7089 bytes fits a symbol.
-use Rattle.std.proofs.Common.{◌≡◌, ℕ, zero, suc, ◌+◌, ◌-◌, ◌*◌, ◌%◌, ◌<◌, ◌≤◌, List, [], ◌∷◌, Some, length, refl, ◌∙◌, arith, inl, inr}
+use Rattle.std.proofs.Common.{◌≡◌, ℕ, zero, suc, ◌+◌, ◌-◌, ◌*◌, ◌/◌, ◌%◌, ◌<◌, ◌≤◌, List, [], ◌∷◌, Some, length, refl, ◌∙◌, arith, inl, inr}
 use Rattle.std.specs.Prelude.{All, slice_range}
 use Rattle.std.proofs.lemmas.Bool.{cases_lt}
 use Rattle.qrcode_base.specs.declared.types.Version.{Version}
@@ -14,7 +14,7 @@ use Rattle.qrcode_base.proofs.Fields.{count_width-same}
 use Rattle.qrcode_bits.specs.declared.optimize.Segment.{Segment}
 use Rattle.qrcode_bits.specs.Merging.{total_bits}
 use Rattle.qrcode_bits.specs.Parsing.{AreTexts}
-use Rattle.qrcode_bits.specs.Choice.{normal, micro, FitsNone}
+use Rattle.qrcode_bits.specs.Choice.{normal, micro, FitsNot, FitsNone}
 use Rattle.qrcode_bits.proofs.Choices.{capacity-middle, capacity-most}
 use Rattle.qrcode_bits.proofs.PlanFrames.{length-slice}
 use Rattle.qrcode_bits.proofs.Texts.{texts-reach, texts-plan}
@@ -77,6 +77,16 @@ long_message front message l limit last are long n k plan w =
       | inr late ↦ (let held = capacity-most l n w.limit (omega arith) w.has_level in
           let headed = texts-headed message (normal n) 16 0 (length message) plan (long_header n late) (omega arith) texts (omega arith) in omega arith)
     ]
+
+-- No plan of more bytes than three for ten bits of the capacity fits a version.
+pub dense_message : (front : ℕ) (message : List ℕ) (v : Version) (l : EcLevel) (limit : ℕ) → All (λ c. c < 256) message → capacity v l ≡ Some limit →
+    limit < length message / 3 * 10 → FitsNot front message v l
+dense_message front message v l limit are known long plan w =
+    let bare = texts-dense message v 0 (length message) plan (texts-plan message are plan w.planned) (omega arith) in
+    let few = w.within in
+    let has = w.has_level in
+    let same : w.limit ≡ limit = cc in
+    omega arith
 
 -- ---- Micro
 

@@ -319,6 +319,10 @@ fn chosen_plan(
     let Ok(limit) = data_capacity_bits(version, level) else {
         return Ok(None);
     };
+    // No mode takes less than ten bits for three bytes.
+    if bytes.len() / 3 * 10 > limit {
+        return Ok(None);
+    }
     let Ok(plan) = optimize_segments(alloc, segments, version) else {
         return Err(QrError::OutOfMemory);
     };

@@ -8,6 +8,7 @@ use Rattle.qrcode_base.specs.Modes.{HasMode}
 use Rattle.qrcode_bits.specs.Merging.{HasLinearCosts, IsChosenPlan, total_bits}
 use Rattle.qrcode_bits.proofs.Pairs.{bytes_valid}
 use Rattle.qrcode_bits.proofs.Choices.{chosen_is_plan}
+use Rattle.qrcode_bits.proofs.Lengths.{dense_message}
 use Rattle.qrcode_bits.proofs.Classes.{known_limit, short-linear, plan_small, plan_ordered, chosen_fits_here, lacks_mode, too_many}
 use Rattle.qrcode_bits.proofs.bits.encode.chosen_plan.Goals as goal
 
@@ -15,6 +16,12 @@ pub optimize_segments-requires-clause-linear : goal.optimize_segments-requires-c
 optimize_segments-requires-clause-linear c = λ h.
     subst (λ (s : List Segment). HasLinearCosts s c.args.version) (sym c.requires.segments)
     (short-linear c.args.bytes.now c.args.version c.requires.small c.requires.short)
+
+pub returns-then-bytes-limit-clause-none : goal.returns-then-bytes-limit-clause-none
+returns-then-bytes-limit-clause-none c =
+    let are = bytes_valid c.args.bytes.now (λ i. omega (arith, c.type_inv.bytes i)) in
+    let known = known_limit (capacity c.args.version c.args.level) c.in-Ok.limit (InvalidVersion c.args.version c.args.level) c.in-Ok.ensures.is in
+    dense_message c.args.front c.args.bytes.now c.args.version c.args.level c.in-Ok.limit are known c.if-bytes-limit.true
 
 pub returns-then-not-has_modes-clause-none : goal.returns-then-not-has_modes-clause-none
 returns-then-not-has_modes-clause-none c =
