@@ -17,15 +17,11 @@ use qrcode_base::types::{Color, Version};
 fn code(old: Module) -> u8
     ensures { result ≡ code_of old }
 {
-    let is_dark = match old {
-        Module::Masked(Color::Dark) | Module::Unmasked(Color::Dark) => true,
-        _ => false,
-    };
-    let is_masked = match old {
-        Module::Masked(_) => true,
-        _ => false,
-    };
-    u8::from(is_dark) + 2 * u8::from(!is_masked)
+    match old {
+        Module::Empty => 2,
+        Module::Masked(color) => u8::from(color == Color::Dark),
+        Module::Unmasked(color) => 2 + u8::from(color == Color::Dark),
+    }
 }
 
 /// Writes the modules as bytes.
