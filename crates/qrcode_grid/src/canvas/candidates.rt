@@ -17,15 +17,11 @@ use qrcode_base::types::{Color, Version};
 fn code(old: Module) -> u8
     ensures { result ≡ code_of old }
 {
-    let is_dark = match old {
-        Module::Masked(Color::Dark) | Module::Unmasked(Color::Dark) => true,
-        _ => false,
-    };
-    let is_masked = match old {
-        Module::Masked(_) => true,
-        _ => false,
-    };
-    u8::from(is_dark) + 2 * u8::from(!is_masked)
+    match old {
+        Module::Empty => 2,
+        Module::Masked(color) => u8::from(color == Color::Dark),
+        Module::Unmasked(color) => 2 + u8::from(color == Color::Dark),
+    }
 }
 
 /// Writes the modules as bytes.
@@ -96,21 +92,32 @@ pub fn write_stripes(pattern: MaskPattern, width: usize, stripes: &mut [bool])
     }
 }
 
-/// Writes the bytes of a row after masking. What comes before the row stays.
+/// Writes the bytes of some places after masking, by the stripes from the first one on. What comes before them stays.
 #[inline(never)]
-fn mask_row(codes: &[u8], stripes: &[bool], width: usize, y: usize, candidate: &mut [u8])
+fn mask_part(codes: &[u8], stripes: &[bool], from: usize, count: usize, candidate: &mut [u8])
+    requires within { from + count ≤ length codes.now }
+    requires stripes { count ≤ length stripes.now }
+    requires long { length candidate.old ≡ length codes.now }
+    ensures part { (k : ℕ) → k < count → slice_index candidate.new (from + k) ≡ masked_code (slice_index codes.now (from + k)) (slice_index_or stripes.now k false) }
+    ensures before { (k : ℕ) → k < from → slice_index candidate.new k ≡ slice_index candidate.old k }
+{
+    for k in 0..count {
+        candidate[from + k] = masked_code(codes[from + k], stripes[k]);
+    }
+}
+
+/// Writes the bytes of all rows after masking, twelve rows at a time.
+fn mask_rows(codes: &[u8], stripes: &[bool], width: usize, candidate: &mut [u8])
     requires wide { width ≤ 177 }
     requires square { length codes.now ≡ width * width }
     requires stripes { length stripes.now ≡ 12 * width }
     requires long { length candidate.old ≡ width * width }
-    requires within { y < width }
-    ensures row { (x : ℕ) → x < width → slice_index candidate.new (y * width + x) ≡ masked_code (slice_index codes.now (y * width + x)) (slice_index_or stripes.now (y % 12 * width + x) false) }
-    ensures before { (k : ℕ) → k < y * width → slice_index candidate.new k ≡ slice_index candidate.old k }
+    ensures { (x : ℕ) → (y : ℕ) → x < width → y < width → slice_index candidate.new (y * width + x) ≡ masked_code (slice_index codes.now (y * width + x)) (slice_index_or stripes.now (y % 12 * width + x) false) }
 {
-    let place = y * width;
-    let stripe = y % 12 * width;
-    for x in 0..width {
-        candidate[place + x] = masked_code(codes[place + x], stripes[stripe + x]);
+    for part in 0..(width + 11) / 12 {
+        let first = 12 * part;
+        let rows = (width - first).min(12);
+        mask_part(codes, stripes, first * width, rows * width, candidate);
     }
 }
 
@@ -126,12 +133,13 @@ fn formatted(version: Version, width: usize, format: u32, x: usize, y: usize, by
     }
 }
 
-/// Draws the format word and the dark module over row 8. What comes before the row stays.
+/// Draws the format word and the dark module over row 8. The other rows stay.
 fn format_eighth_row(version: Version, width: usize, format: u32, candidate: &mut [u8])
     requires wide { (9 ≤ width) × (width ≤ 177) }
     requires long { length candidate.old ≡ width * width }
     ensures row { (x : ℕ) → x < width → slice_index candidate.new (8 * width + x) ≡ byte_under (format_color version width format x 8) (slice_index candidate.old (8 * width + x)) }
     ensures before { (k : ℕ) → k < 8 * width → slice_index candidate.new k ≡ slice_index candidate.old k }
+    ensures after { (k : ℕ) → 8 * width + width ≤ k → slice_index candidate.new k ≡ slice_index candidate.old k }
 {
     for x in 0..width {
         let i = 8 * width + x;
@@ -139,8 +147,7 @@ fn format_eighth_row(version: Version, width: usize, format: u32, candidate: &mu
     }
 }
 
-/// Draws the format word and the dark module over a row, of which they take cells in row 8 and column 8. What comes before the
-/// row stays.
+/// Draws the format word and the dark module over a row, of which they take cells in row 8 and column 8. The other rows stay.
 #[inline(never)]
 fn format_row(version: Version, width: usize, format: u32, y: usize, candidate: &mut [u8])
     requires wide { (9 ≤ width) × (width ≤ 177) }
@@ -148,6 +155,7 @@ fn format_row(version: Version, width: usize, format: u32, y: usize, candidate: 
     requires within { y < width }
     ensures row { (x : ℕ) → x < width → slice_index candidate.new (y * width + x) ≡ byte_under (format_color version width format x y) (slice_index candidate.old (y * width + x)) }
     ensures before { (k : ℕ) → k < y * width → slice_index candidate.new k ≡ slice_index candidate.old k }
+    ensures after { (k : ℕ) → y * width + width ≤ k → slice_index candidate.new k ≡ slice_index candidate.old k }
 {
     if y == 8 {
         format_eighth_row(version, width, format, candidate);
@@ -174,8 +182,8 @@ fn write_candidate(
     let mut buffer = [false; 2124];
     let stripes = &mut buffer[..12 * width];
     write_stripes(pattern, width, stripes);
+    mask_rows(codes, stripes, width, candidate);
     for y in 0..width {
-        mask_row(codes, stripes, width, y, candidate);
         format_row(version, width, format, y, candidate);
     }
 }

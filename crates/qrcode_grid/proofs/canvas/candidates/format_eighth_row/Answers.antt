@@ -1,4 +1,4 @@
-use Rattle.std.proofs.Common.{refl, ◌+◌, ◌*◌, ◌<◌, ◌≢◌, length, get_or-set_same, get_or-set_other, ap, ◌∙◌, arith, below_more}
+use Rattle.std.proofs.Common.{refl, ◌+◌, ◌*◌, ◌<◌, ◌≢◌, length, get_or, ◌-◌, ◌≤◌, ◌≡◌, sym, get_or-set_same, get_or-set_other, ap, ◌∙◌, arith, below_more}
 use Rattle.qrcode_grid.specs.Lanes.{byte_under}
 use Rattle.qrcode_grid.specs.Masks.{format_color}
 use Rattle.qrcode_grid.proofs.Transposed.{cell_within}
@@ -21,3 +21,11 @@ loop-x-preserved c =
       after = λ k h. let ne : 8 * w + k ≢ i = omega arith in get_or-set_other c.loop-x.candidate i (8 * w + k) v 0 ne ∙ c.loop-x.invariant.after k (omega arith);
       before = λ k h. let ne : k ≢ i = omega arith in get_or-set_other c.loop-x.candidate i k v 0 ne ∙ c.loop-x.invariant.before k h;
     }
+
+pub returns-clause-after : goal.returns-clause-after
+returns-clause-after c = λ k h.
+    let w = c.args.width in
+    let x = k - 8 * w in
+    let place : 8 * w + x ≡ k = omega arith in
+    let past : c.loop-x.x ≤ x = omega (arith, h, c.loop-x.auto.x-end) in
+    sym (ap (λ j. get_or c.loop-x.candidate j 0) place) ∙ c.loop-x.invariant.after x past ∙ ap (λ j. get_or c.args.candidate.now j 0) place
