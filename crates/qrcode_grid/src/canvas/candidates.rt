@@ -57,15 +57,19 @@ fn first_inversions(pattern: MaskPattern, y: usize) -> [bool; 6]
     ]
 }
 
-/// The next number below six, by turns.
-fn next_turn(k: usize) -> usize
-    requires { k < 6 }
-    ensures { result ≡ (k + 1) % 6 }
+/// Writes some of the first six cells of a row from a place on. What comes before the place stays.
+fn write_cells(first: &[bool; 6], count: usize, from: usize, stripes: &mut [bool])
+    requires few { count ≤ 6 }
+    requires within { from + count ≤ length stripes.old }
+    ensures cells { (k : ℕ) → k < count → slice_index_or stripes.new (from + k) false ≡ slice_index_or first.now k false }
+    ensures before { (k : ℕ) → k < from → slice_index_or stripes.new k false ≡ slice_index_or stripes.old k false }
 {
-    if k == 5 { 0 } else { k + 1 }
+    for k in 0..count {
+        stripes[from + k] = first[k];
+    }
 }
 
-/// Writes where a pattern inverts the cells of one of twelve rows. What comes before the row stays.
+/// Writes where a pattern inverts the cells of one of twelve rows, six cells at a time. What comes before the row stays.
 fn write_stripe(pattern: MaskPattern, width: usize, y: usize, stripes: &mut [bool])
     requires wide { width ≤ 177 }
     requires within { y < 12 }
@@ -74,11 +78,10 @@ fn write_stripe(pattern: MaskPattern, width: usize, y: usize, stripes: &mut [boo
     ensures before { (k : ℕ) → k < y * width → slice_index_or stripes.new k false ≡ slice_index_or stripes.old k false }
 {
     let first = first_inversions(pattern, y);
-    let mut k = 0;
-    for x in 0..width {
-        stripes[y * width + x] = first[k];
-        k = next_turn(k);
+    for six in 0..width / 6 {
+        write_cells(&first, 6, y * width + 6 * six, stripes);
     }
+    write_cells(&first, width % 6, y * width + width / 6 * 6, stripes);
 }
 
 /// Writes where a pattern inverts the cells of twelve rows. Each later row is like the twelfth before it.

@@ -1,26 +1,42 @@
-use Rattle.std.proofs.Common.{refl, ◌+◌, ◌*◌, ◌<◌, ◌≢◌, length, get_or, get_or-set_same, get_or-set_other, ap, ◌∙◌, sym, arith, below_more, false}
-use Rattle.std.proofs.Math.Nat.{mul-le-mul_right}
+use Rattle.std.proofs.Common.{refl, ◌≡◌, ◌+◌, ◌-◌, ◌*◌, ◌/◌, ◌%◌, ◌<◌, get_or, ap, ◌∙◌, sym, arith, false, inl, inr}
+use Rattle.std.proofs.lemmas.Bool.{cases_lt}
 use Rattle.qrcode_grid.specs.Masks.{is_inverted}
 use Rattle.qrcode_grid.proofs.Stripes.{is_inverted-repeats}
 use Rattle.qrcode_grid.proofs.canvas.candidates.write_stripe.Goals as goal
 
-pub loop-x-init : goal.loop-x-init
-loop-x-init c = record { row = λ k h. absurd (omega arith); before = λ k h. refl; turn = omega arith }
+pub loop-six-init : goal.loop-six-init
+loop-six-init c = record { row = λ x h. absurd (omega arith); before = λ k h. refl }
 
-pub loop-x-preserved : goal.loop-x-preserved
-loop-x-preserved c =
-    let x = c.loop-x.x in let y = c.args.y in
-    let i = y * c.args.width + x in
-    let v = get_or c.first_inversions-first.result c.loop-x.k false in
-    let inside : i < length c.loop-x.stripes = omega (arith, c.requires.long, c.loop-x.auto.stripes, mul-le-mul_right c.args.width c.requires.within) in
-    let inverted =
-    c.first_inversions-first.ensures c.loop-x.k (omega (arith, c.loop-x.invariant.turn))
-    ∙ ap (λ t. is_inverted c.args.pattern t y) c.loop-x.invariant.turn ∙ sym (is_inverted-repeats c.args.pattern x y) in
+pub loop-six-preserved : goal.loop-six-preserved
+loop-six-preserved c =
+    let w = c.args.width in let y = c.args.y in let at = 6 * c.loop-six.six in
     record {
-      row =
-          below_more _ _
-          (λ k h. let ne : y * c.args.width + k ≢ i = omega arith in get_or-set_other c.loop-x.stripes i (y * c.args.width + k) v false ne ∙ c.loop-x.invariant.row k h)
-          (get_or-set_same c.loop-x.stripes i v false inside ∙ inverted);
-      before = λ k h. let ne : k ≢ i = omega arith in get_or-set_other c.loop-x.stripes i k v false ne ∙ c.loop-x.invariant.before k h;
-      turn = omega (arith, c.next_turn-k.ensures, c.loop-x.invariant.turn);
+      row = λ x h. elim (cases_lt x at) [
+        | inl below ↦ c.write_cells.ensures.before (y * w + x) (omega (arith, below)) ∙ c.loop-six.invariant.row x below
+        | inr above ↦
+            let k = x - at in
+            let k_in : k < 6 = omega (arith, h, above) in
+            let place : y * w + at + k ≡ y * w + x = omega (arith, above) in
+            let turn : k ≡ x % 6 = omega (arith, h, above) in
+            sym (ap (λ j. get_or c.write_cells.new.stripes j false) place) ∙ c.write_cells.ensures.cells k k_in
+            ∙ c.first_inversions-first.ensures k k_in ∙ ap (λ t. is_inverted c.args.pattern t y) turn ∙ sym (is_inverted-repeats c.args.pattern x y)
+      ];
+      before = λ k h. c.write_cells.ensures.before k (omega (arith, h)) ∙ c.loop-six.invariant.before k h;
     }
+
+pub returns-clause-row : goal.returns-clause-row
+returns-clause-row c = λ x h.
+    let w = c.args.width in let y = c.args.y in let at = w / 6 * 6 in
+    elim (cases_lt x at) [
+      | inl below ↦
+          c.write_cells-2.ensures.before (y * w + x) (omega (arith, below))
+          ∙ c.loop-six.invariant.row x (omega (arith, below, c.loop-six-test.false))
+      | inr above ↦
+          let k = x - at in
+          let k_in : k < w % 6 = omega (arith, h, above) in
+          let six : k < 6 = omega (arith, k_in) in
+          let place : y * w + at + k ≡ y * w + x = omega (arith, above) in
+          let turn : k ≡ x % 6 = omega (arith, six, above) in
+          sym (ap (λ j. get_or c.write_cells-2.new.stripes j false) place) ∙ c.write_cells-2.ensures.cells k k_in
+          ∙ c.first_inversions-first.ensures k six ∙ ap (λ t. is_inverted c.args.pattern t y) turn ∙ sym (is_inverted-repeats c.args.pattern x y)
+    ]
