@@ -1,5 +1,5 @@
 //! The candidates of a canvas, one for each mask of its family, each scored as a list of bytes.
-ghost use Rattle.std.specs.Prelude.{◌≡◌, false, ℕ, ◌+◌, ◌*◌, ◌/◌, ◌%◌, ◌<◌, ◌≤◌, List, length, map, slice_index, slice_index_or};
+ghost use Rattle.std.specs.Prelude.{◌≡◌, false, ℕ, ◌+◌, ◌*◌, ◌/◌, ◌%◌, ◌<◌, ◌≤◌, List, [], length, map, slice_index, slice_index_or};
 ghost use Rattle.qrcode_base.specs.Symbols.{IsVersion, width_of};
 ghost use Rattle.qrcode_grid.specs.declared.canvas.Module.{Module};
 ghost use Rattle.qrcode_grid.specs.Canvas.{color_of_module};
@@ -69,29 +69,41 @@ fn write_cells(first: &[bool; 6], count: usize, from: usize, stripes: &mut [bool
     }
 }
 
-/// Writes where a pattern inverts the cells of one of twelve rows, six cells at a time. What comes before the row stays.
-fn write_stripe(pattern: MaskPattern, width: usize, y: usize, stripes: &mut [bool])
+/// The first six cells of twelve rows, where a pattern inverts them.
+fn rows_of_inversions(pattern: MaskPattern) -> [[bool; 6]; 12]
+    ensures { (k : ℕ) → (y : ℕ) → k < 6 → y < 12 → slice_index_or (slice_index_or result y []) k false ≡ is_inverted pattern k y }
+{
+    let mut rows = [[false; 6]; 12];
+    for y in 0..12 {
+        rows[y] = first_inversions(pattern, y);
+    }
+    rows
+}
+
+/// Writes one of twelve rows by its first six cells, six cells at a time. What comes before the row stays.
+fn write_stripe(first: &[bool; 6], width: usize, y: usize, stripes: &mut [bool])
     requires wide { width ≤ 177 }
     requires within { y < 12 }
     requires long { length stripes.old ≡ 12 * width }
-    ensures row { (x : ℕ) → x < width → slice_index_or stripes.new (y * width + x) false ≡ is_inverted pattern x y }
+    ensures row { (x : ℕ) → x < width → slice_index_or stripes.new (y * width + x) false ≡ slice_index_or first.now (x % 6) false }
     ensures before { (k : ℕ) → k < y * width → slice_index_or stripes.new k false ≡ slice_index_or stripes.old k false }
 {
-    let first = first_inversions(pattern, y);
     for six in 0..width / 6 {
-        write_cells(&first, 6, y * width + 6 * six, stripes);
+        write_cells(first, 6, y * width + 6 * six, stripes);
     }
-    write_cells(&first, width % 6, y * width + width / 6 * 6, stripes);
+    write_cells(first, width % 6, y * width + width / 6 * 6, stripes);
 }
 
-/// Writes where a pattern inverts the cells of twelve rows. Each later row is like the twelfth before it.
+/// Writes where a pattern inverts the cells of twelve rows. Each later row is like the twelfth before it. The first cells of all
+/// rows are found before any row is written, since to read a cell right after it is written is slow.
 pub fn write_stripes(pattern: MaskPattern, width: usize, stripes: &mut [bool])
     requires wide { width ≤ 177 }
     requires long { length stripes.old ≡ 12 * width }
     ensures { (x : ℕ) → (y : ℕ) → x < width → y < 12 → slice_index_or stripes.new (y * width + x) false ≡ is_inverted pattern x y }
 {
+    let rows = rows_of_inversions(pattern);
     for y in 0..12 {
-        write_stripe(pattern, width, y, stripes);
+        write_stripe(&rows[y], width, y, stripes);
     }
 }
 

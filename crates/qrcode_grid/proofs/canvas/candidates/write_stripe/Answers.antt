@@ -1,7 +1,5 @@
 use Rattle.std.proofs.Common.{refl, ◌≡◌, ◌+◌, ◌-◌, ◌*◌, ◌/◌, ◌%◌, ◌<◌, get_or, ap, ◌∙◌, sym, arith, false, inl, inr}
 use Rattle.std.proofs.lemmas.Bool.{cases_lt}
-use Rattle.qrcode_grid.specs.Masks.{is_inverted}
-use Rattle.qrcode_grid.proofs.Stripes.{is_inverted-repeats}
 use Rattle.qrcode_grid.proofs.canvas.candidates.write_stripe.Goals as goal
 
 pub loop-six-init : goal.loop-six-init
@@ -19,7 +17,7 @@ loop-six-preserved c =
             let place : y * w + at + k ≡ y * w + x = omega (arith, above) in
             let turn : k ≡ x % 6 = omega (arith, h, above) in
             sym (ap (λ j. get_or c.write_cells.new.stripes j false) place) ∙ c.write_cells.ensures.cells k k_in
-            ∙ c.first_inversions-first.ensures k k_in ∙ ap (λ t. is_inverted c.args.pattern t y) turn ∙ sym (is_inverted-repeats c.args.pattern x y)
+            ∙ ap (λ t. get_or c.args.first.now t false) turn
       ];
       before = λ k h. c.write_cells.ensures.before k (omega (arith, h)) ∙ c.loop-six.invariant.before k h;
     }
@@ -38,5 +36,5 @@ returns-clause-row c = λ x h.
           let place : y * w + at + k ≡ y * w + x = omega (arith, above) in
           let turn : k ≡ x % 6 = omega (arith, six, above) in
           sym (ap (λ j. get_or c.write_cells-2.new.stripes j false) place) ∙ c.write_cells-2.ensures.cells k k_in
-          ∙ c.first_inversions-first.ensures k six ∙ ap (λ t. is_inverted c.args.pattern t y) turn ∙ sym (is_inverted-repeats c.args.pattern x y)
+          ∙ ap (λ t. get_or c.args.first.now t false) turn
     ]
