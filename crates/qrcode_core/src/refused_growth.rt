@@ -10,7 +10,6 @@ use crate::bits::{encode_auto, encode_auto_micro, encode_auto_with_max_version, 
 use crate::canvas::{Canvas, MaskPattern};
 use crate::ec::{construct_codewords, create_error_correction_code};
 use crate::optimize::{Parser, Segment, optimize_segments, supports_linear_costs};
-use crate::sequence_tests::answer;
 use crate::symbol::{symbol, symbol_micro, symbol_sequence};
 use crate::tests::hash;
 use crate::types::{EcLevel, Mode, QrError, QrResult, Version};
@@ -67,24 +66,6 @@ fn symbol_micro_of_five_digits(rt: HostRuntime) -> QrResult<()> {
 fn symbol_sequence_of_three(rt: HostRuntime) -> QrResult<()> {
     let grids = symbol_sequence(rt.alloc(), b"AB12cd", &[2, 4], EcLevel::L, 40)?;
     let hashes = [0xc43428a1, 0xf64cb6af, 0xd9083bff];
-    assert!(rt;
-        grids
-            .iter()
-            .map(|grid| hash(grid))
-            .eq(hashes.iter().copied())
-    );
-    Ok(())
-}
-
-#[test]
-fn symbol_sequence_of_sixteen(rt: HostRuntime) -> QrResult<()> {
-    let cuts = [1, 2, 3, 4, 5, 6, 7, 8, 9, 10, 11, 12, 13, 14, 15];
-    let grids = answer(rt.alloc(), b"abcdefghijklmnop", &cuts, 40).expect(&rt, "cuts in order")?;
-    let hashes = [
-        0x345666eb, 0x9f199b39, 0xb06ad7e3, 0xe7e97707, 0x001794e7, 0x38e1dccd, 0x24994a97,
-        0x58d81acf, 0x2329c377, 0xf6ae5043, 0xe5436a69, 0x11891f6d, 0x528fd71b, 0xe75e49cb,
-        0xc64aa0d7, 0x543a66a9,
-    ];
     assert!(rt;
         grids
             .iter()

@@ -1,6 +1,7 @@
 //! Sequences of symbols: worked rows, read back by the plain reader.
 use crate::plain_reader::{read, read_sequence};
 use crate::symbol::symbol_sequence;
+use crate::tests::hash;
 use crate::types::{Color, EcLevel, QrError, QrResult};
 use std::alloc::Global;
 use std::test::Fail;
@@ -61,7 +62,7 @@ const ROWS: [Row; 6] = [
 ];
 
 // The answer at level L, where the cuts don't fall and lie in the data.
-pub(crate) fn answer(
+fn answer(
     alloc: Global,
     bytes: &[u8],
     cuts: &[usize],
@@ -93,6 +94,26 @@ fn draws_each_part(rt: HostRuntime) -> Result<(), Fail> {
             assert_eq!(rt; header.2, row.parity);
         }
     }
+    Ok(())
+}
+
+// The hashes of the symbols of the third row, which are those of the original crate's.
+const SIXTEEN: [u32; 16] = [
+    0x345666eb, 0x9f199b39, 0xb06ad7e3, 0xe7e97707, 0x001794e7, 0x38e1dccd, 0x24994a97, 0x58d81acf,
+    0x2329c377, 0xf6ae5043, 0xe5436a69, 0x11891f6d, 0x528fd71b, 0xe75e49cb, 0xc64aa0d7, 0x543a66a9,
+];
+
+#[test]
+fn draws_sixteen_symbols(rt: HostRuntime) -> Result<(), Fail> {
+    let row = ROWS.get(2).ok_or("no row")?;
+    let grids = grids(rt.alloc(), row).ok_or("no symbols")?;
+    assert_eq!(rt; grids.len(), SIXTEEN.len());
+    assert!(rt;
+        grids
+            .iter()
+            .map(|grid| hash(grid))
+            .eq(SIXTEEN.iter().copied())
+    );
     Ok(())
 }
 
