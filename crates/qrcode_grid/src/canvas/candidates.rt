@@ -180,13 +180,14 @@ fn format_row(version: Version, width: usize, format: u32, y: usize, candidate: 
     }
 }
 
-/// Writes the bytes of the modules with these codes under a mask.
+/// Writes the bytes of the modules with these codes under a mask. The stripes are written over.
 fn write_candidate(
     codes: &[u8],
     version: Version,
     width: usize,
     format: u32,
     pattern: MaskPattern,
+    stripes: &mut [bool; 2124],
     candidate: &mut [u8],
 )
     requires wide { (9 ≤ width) × (width ≤ 177) }
@@ -194,8 +195,7 @@ fn write_candidate(
     requires long { length candidate.old ≡ width * width }
     ensures { (k : ℕ) → k < width * width → slice_index candidate.new k ≡ byte_under (format_color version width format (k % width) (k / width)) (masked_code (slice_index codes.now k) (is_inverted pattern (k % width) (k / width))) }
 {
-    let mut buffer = [false; 2124];
-    let stripes = &mut buffer[..12 * width];
+    let stripes = &mut stripes[..12 * width];
     write_stripes(pattern, width, stripes);
     mask_rows(codes, stripes, width, candidate);
     for y in 0..width {
@@ -203,14 +203,15 @@ fn write_candidate(
     }
 }
 
-/// The penalty of the modules with these codes under a mask. The candidate becomes their bytes, and the list for the
-/// transposed grid is written over.
+/// The penalty of the modules with these codes under a mask. The candidate becomes their bytes, and the stripes and the list
+/// for the transposed grid are written over.
 pub fn penalty_under_mask(
     codes: &[u8],
     version: Version,
     width: usize,
     format: u32,
     pattern: MaskPattern,
+    stripes: &mut [bool; 2124],
     candidate: &mut [u8],
     turned: &mut [u8],
 ) -> usize
@@ -222,7 +223,7 @@ pub fn penalty_under_mask(
     ensures candidate { (modules : List Module) → codes.now ≡ map code_of modules → candidate.new ≡ map byte_of (map color_of_module (masked_cells version width format pattern modules)) }
     ensures is { result ≡ modules_penalty version candidate.new }
 {
-    write_candidate(codes, version, width, format, pattern, candidate);
+    write_candidate(codes, version, width, format, pattern, stripes, candidate);
     match version {
         Version::Normal(_) => penalty_of_normal(width, candidate, turned),
         Version::Micro(_) => penalty_of_micro(width, candidate),
