@@ -1,15 +1,18 @@
 //! The candidates of a canvas, one for each mask of its family, each scored as a list of bytes.
-ghost use Rattle.std.specs.Prelude.{◌≡◌, false, ℕ, ◌+◌, ◌*◌, ◌/◌, ◌%◌, ◌<◌, ◌≤◌, List, [], length, map, slice_index, slice_index_or};
+ghost use Rattle.std.specs.Prelude.{◌≡◌, ◌==◌, ◌&&◌, false, ℕ, ◌+◌, ◌-◌, ◌*◌, ◌/◌, ◌%◌, ◌<◌, ◌≤◌, List, [], ◌∷◌, length, map, slice_index, slice_index_or, All};
 ghost use Rattle.qrcode_base.specs.Symbols.{IsVersion, width_of};
 ghost use Rattle.qrcode_grid.specs.declared.canvas.Module.{Module};
 ghost use Rattle.qrcode_grid.specs.Canvas.{color_of_module};
 ghost use Rattle.qrcode_grid.specs.Lanes.{byte_of, byte_under, code_of, masked_code};
 ghost use Rattle.qrcode_grid.specs.Masks.{format_color, is_inverted, masked_cells};
 ghost use Rattle.qrcode_grid.specs.Penalty.{modules_penalty};
+ghost use Rattle.qrcode_grid.specs.Regions.{first_some, format_first, format_second, where_true, written};
+ghost use Rattle.qrcode_grid.specs.Words.{digit, digit_color};
+ghost use Rattle.qrcode_base.specs.declared.types.Color.TheVariants.{Dark};
 
 use crate::canvas::masks::inverts;
 use crate::canvas::penalty::{penalty_of_micro, penalty_of_normal};
-use crate::canvas::regions::format_color_at;
+use crate::canvas::regions::{FORMAT_FIRST, FORMAT_MICRO, color_of_digit, second_places};
 use crate::canvas::{MaskPattern, Module};
 use qrcode_base::types::{Color, Version};
 
@@ -136,47 +139,51 @@ fn mask_rows(codes: &[u8], stripes: &[bool], width: usize, candidate: &mut [u8])
     }
 }
 
-/// A byte after the format word and the dark module are drawn over it.
-fn formatted(version: Version, width: usize, format: u32, x: usize, y: usize, byte: u8) -> u8
-    requires { 9 ≤ width }
-    ensures { result ≡ byte_under (format_color version width format x y) byte }
+/// A binary digit of a word as a byte.
+fn byte_of_digit(word: u32, k: usize) -> u8
+    requires { k < 32 }
+    ensures { result ≡ byte_of (digit_color (digit word k)) }
 {
-    match format_color_at(version, width, format, x, y) {
-        Some(Color::Dark) => 1,
-        Some(Color::Light) => 0,
-        None => byte,
+    u8::from(color_of_digit(word, k) == Color::Dark)
+}
+
+/// Writes a word into a list of places, high digit first. It begins with the low digit, so that a place's first digit stays.
+#[inline]
+fn write_word(word: u32, places: &[(usize, usize)], width: usize, candidate: &mut [u8])
+    requires few { length places.now ≤ 32 }
+    requires within { All (λ place. (place.0 < width) × (place.1 < width)) places.now }
+    requires long { length candidate.old ≡ width * width }
+    ensures { (x : ℕ) → (y : ℕ) → x < width → y < width → slice_index candidate.new (y * width + x) ≡ byte_under (written word places.now x y) (slice_index candidate.old (y * width + x)) }
+{
+    let count = places.len();
+    for k in 0..count {
+        let (x, y) = places[count - 1 - k];
+        candidate[y * width + x] = byte_of_digit(word, k);
     }
 }
 
-/// Draws the format word and the dark module over row 8. The other rows stay.
-fn format_eighth_row(version: Version, width: usize, format: u32, candidate: &mut [u8])
+/// Writes both copies of the format word of a Normal symbol, and the dark module.
+#[inline]
+fn write_normal_format(width: usize, format: u32, candidate: &mut [u8])
     requires wide { (9 ≤ width) × (width ≤ 177) }
     requires long { length candidate.old ≡ width * width }
-    ensures row { (x : ℕ) → x < width → slice_index candidate.new (8 * width + x) ≡ byte_under (format_color version width format x 8) (slice_index candidate.old (8 * width + x)) }
-    ensures before { (k : ℕ) → k < 8 * width → slice_index candidate.new k ≡ slice_index candidate.old k }
-    ensures after { (k : ℕ) → 8 * width + width ≤ k → slice_index candidate.new k ≡ slice_index candidate.old k }
+    ensures { (x : ℕ) → (y : ℕ) → x < width → y < width → slice_index candidate.new (y * width + x) ≡ byte_under (first_some (where_true (x == 8 && y == width - 8) Dark ∷ written format format_first x y ∷ written format (format_second width) x y ∷ [])) (slice_index candidate.old (y * width + x)) }
 {
-    for x in 0..width {
-        let i = 8 * width + x;
-        candidate[i] = formatted(version, width, format, x, 8, candidate[i]);
-    }
+    write_word(format, &second_places(width), width, candidate);
+    write_word(format, &FORMAT_FIRST, width, candidate);
+    candidate[(width - 8) * width + 8] = 1;
 }
 
-/// Draws the format word and the dark module over a row, of which they take cells in row 8 and column 8. The other rows stay.
+/// Writes the format word and, in a Normal symbol, the dark module.
 #[inline(never)]
-fn format_row(version: Version, width: usize, format: u32, y: usize, candidate: &mut [u8])
+fn write_format(version: Version, width: usize, format: u32, candidate: &mut [u8])
     requires wide { (9 ≤ width) × (width ≤ 177) }
     requires long { length candidate.old ≡ width * width }
-    requires within { y < width }
-    ensures row { (x : ℕ) → x < width → slice_index candidate.new (y * width + x) ≡ byte_under (format_color version width format x y) (slice_index candidate.old (y * width + x)) }
-    ensures before { (k : ℕ) → k < y * width → slice_index candidate.new k ≡ slice_index candidate.old k }
-    ensures after { (k : ℕ) → y * width + width ≤ k → slice_index candidate.new k ≡ slice_index candidate.old k }
+    ensures { (x : ℕ) → (y : ℕ) → x < width → y < width → slice_index candidate.new (y * width + x) ≡ byte_under (format_color version width format x y) (slice_index candidate.old (y * width + x)) }
 {
-    if y == 8 {
-        format_eighth_row(version, width, format, candidate);
-    } else {
-        let i = y * width + 8;
-        candidate[i] = formatted(version, width, format, 8, y, candidate[i]);
+    match version {
+        Version::Normal(_) => write_normal_format(width, format, candidate),
+        Version::Micro(_) => write_word(format, &FORMAT_MICRO, width, candidate),
     }
 }
 
@@ -198,9 +205,7 @@ fn write_candidate(
     let stripes = &mut stripes[..12 * width];
     write_stripes(pattern, width, stripes);
     mask_rows(codes, stripes, width, candidate);
-    for y in 0..width {
-        format_row(version, width, format, y, candidate);
-    }
+    write_format(version, width, format, candidate);
 }
 
 /// The penalty of the modules with these codes under a mask. The candidate becomes their bytes, and the stripes and the list
