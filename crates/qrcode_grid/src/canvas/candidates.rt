@@ -60,14 +60,14 @@ fn first_inversions(pattern: MaskPattern, y: usize) -> [bool; 6]
     ]
 }
 
-/// Writes some of the first six cells of a row from a place on. What comes before the place stays.
-fn write_cells(first: &[bool; 6], count: usize, from: usize, stripes: &mut [bool])
-    requires few { count ≤ 6 }
-    requires within { from + count ≤ length stripes.old }
-    ensures cells { (k : ℕ) → k < count → slice_index_or stripes.new (from + k) false ≡ slice_index_or first.now k false }
+/// Writes the first six cells of a row from a place on. What comes before the place stays.
+#[inline]
+fn write_six(first: &[bool; 6], from: usize, stripes: &mut [bool])
+    requires { from + 6 ≤ length stripes.old }
+    ensures cells { (k : ℕ) → k < 6 → slice_index_or stripes.new (from + k) false ≡ slice_index_or first.now k false }
     ensures before { (k : ℕ) → k < from → slice_index_or stripes.new k false ≡ slice_index_or stripes.old k false }
 {
-    for k in 0..count {
+    for k in 0..6 {
         stripes[from + k] = first[k];
     }
 }
@@ -83,25 +83,25 @@ fn rows_of_inversions(pattern: MaskPattern) -> [[bool; 6]; 12]
     rows
 }
 
-/// Writes one of twelve rows by its first six cells, six cells at a time. What comes before the row stays.
+/// Writes one of twelve rows by its first six cells, six cells at a time, and up to five cells past its end. What comes before the
+/// row stays.
 fn write_stripe(first: &[bool; 6], width: usize, y: usize, stripes: &mut [bool])
     requires wide { width ≤ 177 }
     requires within { y < 12 }
-    requires long { length stripes.old ≡ 12 * width }
+    requires long { length stripes.old ≡ 12 * width + 6 }
     ensures row { (x : ℕ) → x < width → slice_index_or stripes.new (y * width + x) false ≡ slice_index_or first.now (x % 6) false }
     ensures before { (k : ℕ) → k < y * width → slice_index_or stripes.new k false ≡ slice_index_or stripes.old k false }
 {
-    for six in 0..width / 6 {
-        write_cells(first, 6, y * width + 6 * six, stripes);
+    for six in 0..(width + 5) / 6 {
+        write_six(first, y * width + 6 * six, stripes);
     }
-    write_cells(first, width % 6, y * width + width / 6 * 6, stripes);
 }
 
 /// Writes where a pattern inverts the cells of twelve rows. Each later row is like the twelfth before it. The first cells of all
 /// rows are found before any row is written, since to read a cell right after it is written is slow.
 pub fn write_stripes(pattern: MaskPattern, width: usize, stripes: &mut [bool])
     requires wide { width ≤ 177 }
-    requires long { length stripes.old ≡ 12 * width }
+    requires long { length stripes.old ≡ 12 * width + 6 }
     ensures { (x : ℕ) → (y : ℕ) → x < width → y < 12 → slice_index_or stripes.new (y * width + x) false ≡ is_inverted pattern x y }
 {
     let rows = rows_of_inversions(pattern);
@@ -128,7 +128,7 @@ fn mask_part(codes: &[u8], stripes: &[bool], from: usize, count: usize, candidat
 fn mask_rows(codes: &[u8], stripes: &[bool], width: usize, candidate: &mut [u8])
     requires wide { width ≤ 177 }
     requires square { length codes.now ≡ width * width }
-    requires stripes { length stripes.now ≡ 12 * width }
+    requires stripes { 12 * width ≤ length stripes.now }
     requires long { length candidate.old ≡ width * width }
     ensures { (x : ℕ) → (y : ℕ) → x < width → y < width → slice_index candidate.new (y * width + x) ≡ masked_code (slice_index codes.now (y * width + x)) (slice_index_or stripes.now (y % 12 * width + x) false) }
 {
@@ -194,7 +194,7 @@ fn write_candidate(
     width: usize,
     format: u32,
     pattern: MaskPattern,
-    stripes: &mut [bool; 2124],
+    stripes: &mut [bool; 2130],
     candidate: &mut [u8],
 )
     requires wide { (9 ≤ width) × (width ≤ 177) }
@@ -202,7 +202,7 @@ fn write_candidate(
     requires long { length candidate.old ≡ width * width }
     ensures { (k : ℕ) → k < width * width → slice_index candidate.new k ≡ byte_under (format_color version width format (k % width) (k / width)) (masked_code (slice_index codes.now k) (is_inverted pattern (k % width) (k / width))) }
 {
-    let stripes = &mut stripes[..12 * width];
+    let stripes = &mut stripes[..12 * width + 6];
     write_stripes(pattern, width, stripes);
     mask_rows(codes, stripes, width, candidate);
     write_format(version, width, format, candidate);
@@ -216,7 +216,7 @@ pub fn penalty_under_mask(
     width: usize,
     format: u32,
     pattern: MaskPattern,
-    stripes: &mut [bool; 2124],
+    stripes: &mut [bool; 2130],
     candidate: &mut [u8],
     turned: &mut [u8],
 ) -> usize
