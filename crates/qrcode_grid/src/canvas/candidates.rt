@@ -46,6 +46,7 @@ fn masked_code(code: u8, inverted: bool) -> u8
 }
 
 /// The first six cells of a row, where a pattern inverts them. Each later cell is like the sixth before it.
+#[inline(always)]
 fn first_inversions(pattern: MaskPattern, y: usize) -> [bool; 6]
     requires { y < 177 }
     ensures { (k : ℕ) → k < 6 → slice_index_or result k false ≡ is_inverted pattern k y }
@@ -73,7 +74,8 @@ fn write_six(first: &[bool; 6], from: usize, stripes: &mut [bool])
 }
 
 /// The first six cells of twelve rows, where a pattern inverts them.
-fn rows_of_inversions(pattern: MaskPattern) -> [[bool; 6]; 12]
+#[inline(always)]
+fn rows_inverted_by(pattern: MaskPattern) -> [[bool; 6]; 12]
     ensures { (k : ℕ) → (y : ℕ) → k < 6 → y < 12 → slice_index_or (slice_index_or result y []) k false ≡ is_inverted pattern k y }
 {
     let mut rows = [[false; 6]; 12];
@@ -81,6 +83,22 @@ fn rows_of_inversions(pattern: MaskPattern) -> [[bool; 6]; 12]
         rows[y] = first_inversions(pattern, y);
     }
     rows
+}
+
+/// The first six cells of twelve rows, where a pattern inverts them. They are constants of each pattern by its name.
+fn rows_of_inversions(pattern: MaskPattern) -> [[bool; 6]; 12]
+    ensures { (k : ℕ) → (y : ℕ) → k < 6 → y < 12 → slice_index_or (slice_index_or result y []) k false ≡ is_inverted pattern k y }
+{
+    match pattern {
+        MaskPattern::Checkerboard => rows_inverted_by(MaskPattern::Checkerboard),
+        MaskPattern::HorizontalLines => rows_inverted_by(MaskPattern::HorizontalLines),
+        MaskPattern::VerticalLines => rows_inverted_by(MaskPattern::VerticalLines),
+        MaskPattern::DiagonalLines => rows_inverted_by(MaskPattern::DiagonalLines),
+        MaskPattern::LargeCheckerboard => rows_inverted_by(MaskPattern::LargeCheckerboard),
+        MaskPattern::Fields => rows_inverted_by(MaskPattern::Fields),
+        MaskPattern::Diamonds => rows_inverted_by(MaskPattern::Diamonds),
+        MaskPattern::Meadow => rows_inverted_by(MaskPattern::Meadow),
+    }
 }
 
 /// Writes one of twelve rows by its first six cells, six cells at a time, and up to five cells past its end. What comes before the
