@@ -20,11 +20,11 @@ use qrcode_base::types::{Color, Version};
 fn code(old: Module) -> u8
     ensures { result ≡ code_of old }
 {
-    match old {
-        Module::Empty => 2,
-        Module::Masked(color) => u8::from(color == Color::Dark),
-        Module::Unmasked(color) => 2 + u8::from(color == Color::Dark),
-    }
+    let data = match old {
+        Module::Masked(_) => 0,
+        _ => 2,
+    };
+    data + u8::from(old.is_dark())
 }
 
 /// Writes the modules as bytes.
