@@ -1,4 +1,4 @@
-use Rattle.std.proofs.Common.{refl, ◌≡◌, ◌+◌, ◌-◌, ◌*◌, ◌/◌, ◌%◌, ◌<◌, get_or, ap, ◌∙◌, sym, arith, false, inl, inr}
+use Rattle.std.proofs.Common.{refl, ◌≡◌, ◌+◌, ◌-◌, ◌*◌, ◌%◌, ◌<◌, get_or, ap, ◌∙◌, sym, arith, false, inl, inr}
 use Rattle.std.proofs.lemmas.Bool.{cases_lt}
 use Rattle.qrcode_grid.proofs.canvas.candidates.write_stripe.Goals as goal
 
@@ -10,31 +10,14 @@ loop-six-preserved c =
     let w = c.args.width in let y = c.args.y in let at = 6 * c.loop-six.six in
     record {
       row = λ x h. elim (cases_lt x at) [
-        | inl below ↦ c.write_cells.ensures.before (y * w + x) (omega (arith, below)) ∙ c.loop-six.invariant.row x below
+        | inl below ↦ c.write_six.ensures.before (y * w + x) (omega (arith, below)) ∙ c.loop-six.invariant.row x below
         | inr above ↦
             let k = x - at in
             let k_in : k < 6 = omega (arith, h, above) in
             let place : y * w + at + k ≡ y * w + x = omega (arith, above) in
             let turn : k ≡ x % 6 = omega (arith, h, above) in
-            sym (ap (λ j. get_or c.write_cells.new.stripes j false) place) ∙ c.write_cells.ensures.cells k k_in
+            sym (ap (λ j. get_or c.write_six.new.stripes j false) place) ∙ c.write_six.ensures.cells k k_in
             ∙ ap (λ t. get_or c.args.first.now t false) turn
       ];
-      before = λ k h. c.write_cells.ensures.before k (omega (arith, h)) ∙ c.loop-six.invariant.before k h;
+      before = λ k h. c.write_six.ensures.before k (omega (arith, h)) ∙ c.loop-six.invariant.before k h;
     }
-
-pub returns-clause-row : goal.returns-clause-row
-returns-clause-row c = λ x h.
-    let w = c.args.width in let y = c.args.y in let at = w / 6 * 6 in
-    elim (cases_lt x at) [
-      | inl below ↦
-          c.write_cells-2.ensures.before (y * w + x) (omega (arith, below))
-          ∙ c.loop-six.invariant.row x (omega (arith, below, c.loop-six-test.false))
-      | inr above ↦
-          let k = x - at in
-          let k_in : k < w % 6 = omega (arith, h, above) in
-          let six : k < 6 = omega (arith, k_in) in
-          let place : y * w + at + k ≡ y * w + x = omega (arith, above) in
-          let turn : k ≡ x % 6 = omega (arith, six, above) in
-          sym (ap (λ j. get_or c.write_cells-2.new.stripes j false) place) ∙ c.write_cells-2.ensures.cells k k_in
-          ∙ ap (λ t. get_or c.args.first.now t false) turn
-    ]

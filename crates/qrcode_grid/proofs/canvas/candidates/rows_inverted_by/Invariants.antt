@@ -1,7 +1,7 @@
 -- The rows before this one are found.
 use Rattle.std.proofs.Common.{◌≡◌, ◌<◌, ℕ, length, get_or, false, []}
 use Rattle.qrcode_grid.specs.Masks.{is_inverted}
-use Rattle.qrcode_grid.proofs.canvas.candidates.rows_of_inversions.Given as goal
+use Rattle.qrcode_grid.proofs.canvas.candidates.rows_inverted_by.Given as goal
 
 abbrev pub invariant-loop-y : goal.invariant-loop-y
 invariant-loop-y l = record {

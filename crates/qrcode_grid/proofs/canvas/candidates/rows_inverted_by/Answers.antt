@@ -1,5 +1,5 @@
 use Rattle.std.proofs.Common.{◌≢◌, ◌<◌, List, Bool, length, get_or, false, [], get_or-set_same, get_or-set_other, length-set, ap, ◌∙◌, arith, below_more}
-use Rattle.qrcode_grid.proofs.canvas.candidates.rows_of_inversions.Goals as goal
+use Rattle.qrcode_grid.proofs.canvas.candidates.rows_inverted_by.Goals as goal
 
 pub loop-y-preserved : goal.loop-y-preserved
 loop-y-preserved c =

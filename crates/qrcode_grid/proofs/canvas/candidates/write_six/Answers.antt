@@ -1,5 +1,5 @@
 use Rattle.std.proofs.Common.{refl, false, ◌+◌, ◌<◌, ◌≢◌, length, get_or, get_or-set_same, get_or-set_other, ◌∙◌, arith, below_more}
-use Rattle.qrcode_grid.proofs.canvas.candidates.write_cells.Goals as goal
+use Rattle.qrcode_grid.proofs.canvas.candidates.write_six.Goals as goal
 
 pub loop-k-init : goal.loop-k-init
 loop-k-init c = record { cells = λ j h. absurd (omega arith); before = λ j h. refl }
@@ -8,7 +8,7 @@ pub loop-k-preserved : goal.loop-k-preserved
 loop-k-preserved c =
     let i = c.args.from + c.loop-k.k in
     let v = get_or c.args.first.now c.loop-k.k false in
-    let inside : i < length c.loop-k.stripes = omega (arith, c.loop-k.auto.stripes, c.requires.within, c.loop-k-test.true) in
+    let inside : i < length c.loop-k.stripes = omega (arith, c.loop-k.auto.stripes, c.requires, c.loop-k-test.true) in
     record {
       cells =
           below_more _ _

@@ -1,0 +1,12 @@
+-- The modules before the cell are drawn.
+use Rattle.std.proofs.Common.{◌+◌, ◌*◌}
+use Rattle.qrcode_grid.specs.Masks.{drawn_over}
+use Rattle.qrcode_grid.specs.Regions.{timing}
+use Rattle.qrcode_grid.proofs.CellSteps.{CellsChanged}
+use Rattle.qrcode_grid.proofs.canvas.drawing.draw_timing.Given as goal
+
+abbrev pub invariant-loop-y : goal.invariant-loop-y
+invariant-loop-y l = CellsChanged (λ x y m. drawn_over (timing l.fn.line l.fn.from l.fn.to x y) m) l.width l.fn.modules l.modules (l.y * l.width)
+
+abbrev pub invariant-loop-x : goal.invariant-loop-x
+invariant-loop-x l = CellsChanged (λ x y m. drawn_over (timing l.fn.line l.fn.from l.fn.to x y) m) l.width l.fn.modules l.modules (l.y * l.width + l.x)

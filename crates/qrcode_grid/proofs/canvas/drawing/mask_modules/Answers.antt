@@ -1,0 +1,28 @@
+use Rattle.std.proofs.Common.{◌≡◌, ◌≤◌, ◌+◌, ◌*◌, ◌/◌, ◌%◌, ◌<◌, get_or, set, length, ap, ◌∙◌, sym, arith, subst, ℕ, refl}
+use Rattle.std.proofs.Math.Nat.{mul-le-mul_right}
+use Rattle.qrcode_grid.specs.Masks.{is_inverted, masked}
+use Rattle.qrcode_grid.proofs.CellSteps.{ChangedBelow, changed_set, at_place}
+use Rattle.qrcode_grid.proofs.Stripes.{is_inverted-repeats_rows}
+use Rattle.qrcode_grid.proofs.Transposed.{cell_within}
+use Rattle.qrcode_grid.specs.declared.canvas.Module.TheVariants.{Empty}
+use Rattle.qrcode_grid.proofs.canvas.drawing.mask_modules.Goals as goal
+
+pub loop-x-preserved : goal.loop-x-preserved
+loop-x-preserved c =
+    let w = c.args.width in let x = c.loop-x.x in let y = c.loop-y.y in
+    let i = y * w + x in
+    let old = get_or c.loop-x.modules i Empty in
+    let inside : i < length c.args.modules.now = omega (arith, c.requires.square, cell_within w x y c.loop-x-test.true c.loop-y-test.true) in
+    let inverted = c.write_stripes.ensures x (y % 12) c.loop-x-test.true (omega arith) ∙ sym (is_inverted-repeats_rows c.args.pattern x y) in
+    let at = at_place (λ x y. masked (is_inverted c.args.pattern x y) old) w x y i c.loop-x-test.true (omega arith) in
+    let next : i + 1 ≡ y * w + (x + 1) = omega arith in
+    let step = changed_set _ _ _ _ _ Empty inside (c.mask.ensures ∙ ap (λ b. masked b old) inverted ∙ at) c.loop-x.invariant in
+    subst (λ (n : ℕ). ChangedBelow (λ i m. masked (is_inverted c.args.pattern (i % w) (i / w)) m) c.args.modules.now (set c.loop-x.modules i c.mask.result) n) next step
+
+pub returns : goal.returns
+returns c = λ x y l m.
+    let w = c.args.width in
+    let last : w ≤ c.loop-y.y = omega (arith, c.loop-y-test.false, c.loop-y.auto.y-end) in
+    let inside = cell_within w x y l m in
+    c.loop-y.invariant.below (y * w + x) Empty (omega (arith, inside, mul-le-mul_right w last)) (omega (arith, inside, c.requires.square))
+    ∙ sym (at_place (λ u v. masked (is_inverted c.args.pattern u v) (get_or c.args.modules.now (y * w + x) Empty)) w x y (y * w + x) l refl)
