@@ -16,6 +16,9 @@ use crate::canvas::regions::{FORMAT_FIRST, FORMAT_MICRO, color_of_digit, second_
 use crate::canvas::{MaskPattern, Module};
 use qrcode_base::types::{Color, Version};
 
+/// The cells of twelve rows of the widest symbol, and the six that may be written past their end.
+pub const STRIPE_CELLS: usize = 12 * 177 + 6;
+
 /// A module as a byte: 1 where it is dark, and 2 more where a mask may invert it.
 fn code(old: Module) -> u8
     ensures { result ≡ code_of old }
@@ -212,7 +215,7 @@ fn write_candidate(
     width: usize,
     format: u32,
     pattern: MaskPattern,
-    stripes: &mut [bool; 2130],
+    stripes: &mut [bool; STRIPE_CELLS],
     candidate: &mut [u8],
 )
     requires wide { (9 ≤ width) × (width ≤ 177) }
@@ -234,7 +237,7 @@ pub fn penalty_under_mask(
     width: usize,
     format: u32,
     pattern: MaskPattern,
-    stripes: &mut [bool; 2130],
+    stripes: &mut [bool; STRIPE_CELLS],
     candidate: &mut [u8],
     turned: &mut [u8],
 ) -> usize
