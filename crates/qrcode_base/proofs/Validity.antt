@@ -1,5 +1,5 @@
 -- Where the first invalid byte is answered, nothing is answered exactly for the valid texts.
-use Rattle.std.proofs.Common.{◌≡◌, ℕ, ◌<◌, ◌≤◌, refl, sym, arith, subst, List, length, take, Bool, true, false}
+use Rattle.std.proofs.Common.{ℕ, refl, sym, arith, subst, List, length, Bool, true, false}
 use Rattle.std.specs.Prelude.{Option, Some, None, is_none, IsTrue, ◌↔◌}
 use Rattle.std.proofs.Math.Seq.{take-length}
 use Rattle.std.proofs.lemmas.Bool.{false≢true}

@@ -1,5 +1,5 @@
 -- Which versions have blocks, and that the width of a symbol tells its version.
-use Rattle.std.proofs.Common.{◌≡◌, ℕ, zero, suc, pos, negsuc, ◌*◌, ◌%◌, ◌≤◌, ap, sym, ◌∙◌, arith, inl, inr, length}
+use Rattle.std.proofs.Common.{◌≡◌, ℕ, zero, suc, pos, negsuc, ◌*◌, ◌≤◌, ap, sym, ◌∙◌, arith, inl, inr, length}
 use Rattle.std.specs.Prelude.{Some}
 use Rattle.std.proofs.lemmas.Bool.{cases_order}
 use Rattle.std.proofs.lemmas.Nat.{mul-lt}
@@ -42,18 +42,6 @@ version-of_blocks (Micro (pos (suc n))) level b e = micro n level e
 version-of_blocks (Micro (negsuc n)) level b e = absurd (none-some b e)
 
 -- ---- Widths
-
-pub width_of-range : (version : Version) → IsVersion version → (11 ≤ width_of version) × (width_of version ≤ 177)
-width_of-range (Normal (pos n)) v = (omega (arith, v.0), omega (arith, v.1))
-width_of-range (Normal (negsuc n)) v = absurd v
-width_of-range (Micro (pos n)) v = (omega (arith, v.0), omega (arith, v.1))
-width_of-range (Micro (negsuc n)) v = absurd v
-
-pub width_of-odd : (version : Version) → IsVersion version → width_of version % 2 ≡ 1
-width_of-odd (Normal (pos n)) v = omega arith
-width_of-odd (Normal (negsuc n)) v = absurd v
-width_of-odd (Micro (pos n)) v = omega arith
-width_of-odd (Micro (negsuc n)) v = absurd v
 
 -- Versions of one width are the same.
 pub version-of_width : (v w : Version) → IsVersion v → IsVersion w → width_of v ≡ width_of w → v ≡ w

@@ -298,35 +298,7 @@ fits_last front n message l plan h w =
 abbrev pub HoldsLess : ℕ → EcLevel → ℕ → Type 0
 HoldsLess size l number = (n c : ℕ) → n < number → capacity (normal n) l ≡ Some c → c < size
 
-pub holds_less_first : (size : ℕ) (l : EcLevel) → HoldsLess size l 1
-holds_less_first size l n c h k = let some : 1 ≤ n = (capacity-held l n c k).0 in absurd (omega arith)
-
-pub holds_less_next : (size : ℕ) (l : EcLevel) (number held : ℕ) → HoldsLess size l number → capacity (normal number) l ≡ Some held → held < size → HoldsLess size l (number + 1)
-holds_less_next size l number held w known over n c h k = elim (cases_eq n number) [
-  | inl e ↦ (let same : c ≡ held = some_same c held (capacity (normal number) l) (subst (λ (j : ℕ). capacity (normal j) l ≡ Some c) e k) known in omega arith)
-  | inr ne ↦ w n c (omega arith) k
-]
-
-pub least_found : (size : ℕ) (l : EcLevel) (number held : ℕ) → HoldsLess size l number → capacity (normal number) l ≡ Some held → size ≤ held → IsLeastHolding size l number
-least_found size l number held w known fits = record {
-  limit = held;
-  limit_is = known;
-  holds = fits;
-  least = λ n c e f. elim (cases_lt n number) [ inl k ↦ absurd (let under = w n c k e in omega arith) | inr k ↦ k ];
-}
-
 -- ---- Micro versions, one after the other
-
-none_at_zero : (l : EcLevel) (c : ℕ) → capacity (micro 0) l ≡ Some c → ⊥
-none_at_zero L c h = cc
-none_at_zero M c h = cc
-none_at_zero Q c h = cc
-none_at_zero H c h = cc
-
-pub micro_first : (message : List ℕ) (l : EcLevel) → FitsNone micro 0 message l 0
-micro_first message l n h plan w =
-    let zero_is : n ≡ 0 = omega arith in
-    none_at_zero l w.limit (subst (λ (k : ℕ). capacity (micro k) l ≡ Some w.limit) zero_is w.has_level)
 
 pub micro_next : (message : List ℕ) (l : EcLevel) (number : ℕ) → FitsNone micro 0 message l number → FitsNot 0 message (micro (number + 1)) l →
     FitsNone micro 0 message l (number + 1)
@@ -334,9 +306,6 @@ micro_next message l number w unfit n h = elim (cases_eq n (number + 1)) [
   | inl e ↦ subst (λ (k : ℕ). FitsNot 0 message (micro k) l) (sym e) unfit
   | inr ne ↦ w n (omega arith)
 ]
-
-pub micro_lacks : (message : List ℕ) (l : EcLevel) (v : Version) → capacity v l ≡ None → FitsNot 0 message v l
-micro_lacks message l v none plan w = let clash : ◌≡◌ {A = Option ℕ} None (Some w.limit) = sym none ∙ w.has_level in cc
 
 pub micro_choice : (message : List ℕ) (l : EcLevel) (number : ℕ) (plan : List Segment) → number < 4 → FitsNone micro 0 message l number →
     IsChosenPlan (parsed message) (micro (number + 1)) plan → Fits 0 message (micro (number + 1)) l plan → IsChoice micro 0 message l 4 (number + 1) plan

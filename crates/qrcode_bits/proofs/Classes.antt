@@ -26,7 +26,7 @@ use Rattle.qrcode_bits.specs.Frame.{Header, HasHeader, header_bits}
 use Rattle.qrcode_bits.specs.Stream.{Stream}
 use Rattle.qrcode_bits.specs.Push.{IsPlace}
 use Rattle.qrcode_bits.specs.Pieces.{LiesIn}
-use Rattle.qrcode_bits.specs.Choice.{IsMergePlan, Fits, FitsNot, FitsNone, normal, micro, IsLeastHolding, IsMinVersion}
+use Rattle.qrcode_bits.specs.Choice.{IsMergePlan, Fits, FitsNot, FitsNone, normal, IsLeastHolding, IsMinVersion}
 use Rattle.qrcode_bits.specs.Classes.{IsClass, ClassesUpTo}
 use Rattle.qrcode_bits.specs.Encoding.{IsPlanStream, IsEncoding, IsUnencodable, IsLimit, IsEncodingRefused, IsPartRefused}
 use Rattle.qrcode_bits.proofs.Adjoining.{parsed-linear}
@@ -52,12 +52,6 @@ normal_headers n Numeric = let w = by_class-most n 10 12 14 (omega arith) (omega
 normal_headers n Alphanumeric = let w = by_class-most n 9 11 13 (omega arith) (omega arith) (omega arith) in omega arith
 normal_headers n Byte = let w = by_class-most n 8 16 16 (omega arith) (omega arith) (omega arith) in omega arith
 normal_headers n Kanji = let w = by_class-most n 8 10 12 (omega arith) (omega arith) (omega arith) in omega arith
-
-pub micro_headers : (n : ℕ) → n ≤ 4 → HasSmallHeaders (micro n)
-micro_headers n h Numeric = omega arith
-micro_headers n h Alphanumeric = omega arith
-micro_headers n h Byte = omega arith
-micro_headers n h Kanji = omega arith
 
 data_small : (m : Mode) (n : ℕ) → data_bits m (characters m n) ≤ 13 * n
 data_small Numeric n = omega arith
@@ -207,25 +201,6 @@ module _ (header : Option Header) (message : List ℕ) (l : EcLevel) (last : ℕ
       }
 
 -- ---- The last versions of the classes
-
-first_class : (last : ℕ) → last ≤ 9 → IsClass 0 last
-first_class last h = λ n a b. inl (omega arith, h)
-
-second_class : (last : ℕ) → 10 ≤ last → last ≤ 26 → IsClass 9 last
-second_class last h k = λ n a b. inr (inl (a, omega arith, h, k))
-
-third_class : (last : ℕ) → 27 ≤ last → IsClass 26 last
-third_class last h = λ n a b. inr (inr (a, h))
-
-pub one_class : (limit : ℕ) → 1 ≤ limit → limit ≤ 9 → ClassesUpTo 0 (limit ∷ []) limit
-one_class limit some h = (first_class limit h, some, omega arith, omega arith)
-
-pub two_classes : (limit : ℕ) → 9 < limit → limit ≤ 26 → ClassesUpTo 0 (9 ∷ limit ∷ []) limit
-two_classes limit h k = (first_class 9 (omega arith), omega arith, omega arith, (second_class limit (omega arith) k, omega arith, omega arith, omega arith))
-
-pub three_classes : (limit : ℕ) → 26 < limit → ClassesUpTo 0 (9 ∷ 26 ∷ limit ∷ []) limit
-three_classes limit h =
-    (first_class 9 (omega arith), omega arith, omega arith, (second_class 26 (omega arith) (omega arith), omega arith, omega arith, (third_class limit (omega arith), omega arith, omega arith, omega arith)))
 
 -- the last version that comes next
 pub classes_here : (before limit : ℕ) (xs : List ℕ) (i : ℕ) → i < length xs → ClassesUpTo before (drop i xs) limit →

@@ -1,19 +1,16 @@
 -- Data codewords that hold a frame are as many as their symbol has, so that only memory can be wanting for their streams.
-use Rattle.std.proofs.Common.{◌≡◌, ℕ, ◌+◌, ◌-◌, ◌*◌, ap, sym, ◌∙◌, refl, arith, inl, inr, List, length, Bool, false, length-append}
-use Rattle.std.specs.Prelude.{Option, Some, None, IsNone, IsSomeAnd, ◌≢◌}
+use Rattle.std.proofs.Common.{◌≡◌, ℕ, ◌+◌, ◌-◌, ◌*◌, ap, sym, ◌∙◌, arith, inl, inr, List, length, Bool, false, length-append}
+use Rattle.std.specs.Prelude.{Option, Some, None, IsSomeAnd, ◌≢◌}
 use Rattle.std.proofs.lemmas.List.{length-replicate}
 use Rattle.std.proofs.lemmas.Option.{same_Some}
 use Rattle.qrcode_base.specs.declared.symbols.BlockLayout.{BlockLayout}
 use Rattle.qrcode_base.specs.declared.types.EcLevel.{EcLevel}
 use Rattle.qrcode_base.specs.declared.types.Version.{Version}
-use Rattle.qrcode_base.specs.declared.types.errors.QrError.{QrError}
-use Rattle.qrcode_base.specs.declared.types.errors.QrError.TheVariants.{InvalidVersion, InvalidDataLength, OutOfMemory}
 use Rattle.qrcode_base.specs.Symbols.{blocks_of, capacity_with, data_bytes, missing_bits}
 use Rattle.qrcode_base.specs.Numbers.{zero_bits}
 use Rattle.qrcode_bits.specs.Frame.{Header}
 use Rattle.qrcode_bits.proofs.Frames.{length-frame}
 use Rattle.qrcode_bits.proofs.Numbers.{length-byte_bits}
-use Rattle.qrcode_grid.specs.Codewords.{IsRefusal}
 use Rattle.qrcode_core.specs.Layers.{IsEncoded}
 use Rattle.qrcode_core.proofs.Ending.{Lacks, lacks}
 
@@ -45,15 +42,3 @@ refused v l words b None e long expected actual why = why
 refused v l words b (Some c) e long expected actual why =
     let same : data_bytes c ≡ data_bytes b = ap data_bytes (same_Some c b e) in
     why.2 (why.1 ∙ long ∙ sym same ∙ sym why.0)
-
--- Only memory can be wanting for the streams of the codewords.
-pub streams_want_memory : (v : Version) (l : EcLevel) (words : List ℕ) (b : BlockLayout) (e : QrError) → blocks_of v l ≡ Some b → length words ≡ data_bytes b →
-    IsRefusal v l words e → e ≡ OutOfMemory
-streams_want_memory v l words b (InvalidVersion w m) known long why = absurd (some_not_none (blocks_of v l) b known why.2)
-  where
-    some_not_none : (o : Option BlockLayout) (b : BlockLayout) → o ≡ Some b → IsNone o → ⊥
-    some_not_none None b e h = cc
-    some_not_none (Some c) b e h = absurd cc
-streams_want_memory v l words b (InvalidDataLength expected actual) known long why = absurd (refused v l words b (blocks_of v l) known long expected actual why)
-streams_want_memory v l words b OutOfMemory known long why = refl
-streams_want_memory v l words b other known long why = absurd why

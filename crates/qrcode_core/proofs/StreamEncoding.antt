@@ -9,11 +9,11 @@ use Rattle.qrcode_base.specs.declared.types.Color.{Color}
 use Rattle.qrcode_base.specs.declared.types.EcLevel.{EcLevel}
 use Rattle.qrcode_base.specs.declared.types.Version.{Version}
 use Rattle.qrcode_base.specs.declared.types.errors.QrError.{QrError}
-use Rattle.qrcode_base.specs.declared.types.errors.QrError.TheVariants.{DataTooLong, InvalidVersion, OutOfMemory}
+use Rattle.qrcode_base.specs.declared.types.errors.QrError.TheVariants.{DataTooLong, OutOfMemory}
 use Rattle.qrcode_base.specs.Numbers.{byte_bits, zero_bits}
 use Rattle.qrcode_base.specs.Symbols.{blocks_of, capacity, capacity_with, data_bytes, missing_bits}
 use Rattle.qrcode_bits.specs.Choice.{normal, micro}
-use Rattle.qrcode_bits.specs.Encoding.{IsEncoding, IsUnencodable, IsMicroRefused}
+use Rattle.qrcode_bits.specs.Encoding.{IsEncoding, IsUnencodable}
 use Rattle.qrcode_bits.specs.Frame.{Header, header_bits, spellings}
 use Rattle.qrcode_bits.specs.Merging.{total_bits}
 use Rattle.qrcode_bits.specs.Pieces.{segment_pieces}
@@ -21,7 +21,7 @@ use Rattle.qrcode_bits.specs.Stream.{Stream}
 use Rattle.qrcode_bits.proofs.Choices.{fits_last}
 use Rattle.qrcode_bits.proofs.Lengths.{long_message, long_for_micro}
 use Rattle.qrcode_bits.proofs.PlanFrames.{spelled_plan}
-use Rattle.qrcode_core.specs.Headline.{IsBest, IsTooLong, IsTooLongForMicro, IsRefusal, IsMicroRefusal}
+use Rattle.qrcode_core.specs.Headline.{IsBest, IsTooLong, IsTooLongForMicro, IsRefusal}
 use Rattle.qrcode_core.specs.Layers.{IsEncoded, IsDrawn, AreAllCodewords}
 use Rattle.qrcode_core.proofs.Best.{best_symbol}
 use Rattle.qrcode_core.proofs.Ending.{bytes_of_ended}
@@ -115,9 +115,3 @@ pub normal_refused : (bytes : List ℕ) (level : EcLevel) (e : QrError) → IsUn
 normal_refused bytes level DataTooLong none = none 40 (omega arith)
 normal_refused bytes level OutOfMemory few = few
 normal_refused bytes level other none = none
-
-pub micro_refused : (bytes : List ℕ) (level : EcLevel) (e : QrError) → IsMicroRefused bytes level e → IsMicroRefusal bytes level e
-micro_refused bytes level (InvalidVersion v l) why = why
-micro_refused bytes level DataTooLong why = why
-micro_refused bytes level OutOfMemory why = why
-micro_refused bytes level other why = why.1

@@ -1,5 +1,5 @@
 -- The symbols of a sequence, as they are made one after the other.
-use Rattle.std.proofs.Common.{◌≡◌, ℕ, ◌+◌, ◌<◌, ◌≤◌, refl, sym, ◌∙◌, subst, arith, inl, inr, List, [], ◌∷◌, ◌++◌, length, length-append, get_or}
+use Rattle.std.proofs.Common.{◌≡◌, ℕ, ◌+◌, ◌<◌, ◌≤◌, sym, ◌∙◌, subst, arith, inl, inr, List, [], ◌∷◌, ◌++◌, length, length-append, get_or}
 use Rattle.std.specs.Prelude.{All, ℤ}
 use Rattle.std.specs.List.Sorted.{IsNonDecreasing}
 use Rattle.std.proofs.lemmas.Bool.{cases_eq}
@@ -18,9 +18,6 @@ use Rattle.qrcode_core.proofs.OneMessage.{best_symbols}
 pub record AreFirstSymbols (message cuts : List ℕ) (level : EcLevel) (limit total done : ℕ) (grids : List (List Color)) : Type 0 where
   pub a_grid_each : length grids ≡ done
   pub each_best : (i : ℕ) → i < done → IsPartSymbol (header_at (i + 1) total message) (get_or (parts_at cuts message) i []) level limit (get_or grids i [])
-
-pub no_symbols : (message cuts : List ℕ) (level : EcLevel) (limit total : ℕ) → AreFirstSymbols message cuts level limit total 0 []
-no_symbols message cuts level limit total = record { a_grid_each = refl; each_best = λ i below. absurd (omega arith) }
 
 pub one_more : (message cuts : List ℕ) (level : EcLevel) (limit total done : ℕ) (grids : List (List Color)) (grid : List Color) → AreFirstSymbols message cuts level limit total done grids →
     IsPartSymbol (header_at (done + 1) total message) (get_or (parts_at cuts message) done []) level limit grid →
