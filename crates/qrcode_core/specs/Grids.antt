@@ -1,5 +1,5 @@
 -- A grid of modules: a list of colors, row after row, with the width and the height.
-use Rattle.std.specs.Prelude.{◌≡◌, ℕ, ◌+◌, ◌*◌, ◌-◌, List, length, take, drop}
+use Rattle.std.specs.Prelude.{◌≡◌, ℕ, ◌+◌, ◌*◌, ◌-◌, ◌≤◌, List, length, take, drop}
 use Rattle.std.specs.Prelude.{Option, slice_get, slice_set, slice_range}
 use Rattle.qrcode_base.specs.declared.types.Color.{Color}
 use Rattle.qrcode_base.specs.declared.types.Version.{Version}
@@ -14,7 +14,11 @@ pub record Grid : Type 0 where
 abbrev pub grid_of : List Color → ℕ → ℕ → Grid
 grid_of cells columns rows = record { cells = cells; columns = columns; rows = rows }
 
--- The list has one color for each place of the grid.
+-- The list has a color for each place of the grid, and perhaps more behind.
+abbrev pub HasAllRows : Grid → Type 0
+HasAllRows g = g.rows * g.columns ≤ length g.cells
+
+-- The list has one color for each place of the grid, and no more.
 abbrev pub IsFull : Grid → Type 0
 IsFull g = length g.cells ≡ g.rows * g.columns
 

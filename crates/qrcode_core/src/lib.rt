@@ -26,12 +26,4 @@ pub use traits::{
 };
 
 #[cfg(test)]
-mod plain_reader;
-#[cfg(test)]
-mod refused_growth;
-#[cfg(test)]
-mod sequence_tests;
-#[cfg(test)]
 mod tests;
-#[cfg(test)]
-mod view_tests;

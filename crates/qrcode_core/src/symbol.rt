@@ -11,7 +11,7 @@ use qrcode_base::types::{Color, EcLevel, QrError, QrResult, Version};
 use qrcode_bits::bits::{encode_auto, encode_auto_micro};
 use qrcode_grid::canvas::draw_symbol;
 use qrcode_grid::ec::construct_codewords;
-pub use sequence::symbol_sequence;
+pub use sequence::{are_cuts, symbol_sequence};
 use std::alloc::Global;
 
 /// The modules of the best symbol of some bytes at a level, row by row from the upper left corner; the width is the square root

@@ -2,7 +2,7 @@
 ghost use Rattle.std.specs.Prelude.{◌≡◌, ℕ, ◌*◌, ◌<◌, ◌≤◌, ◌↔◌, ◌⊎◌, IsTrue, Some, length, List, Result, IfSome, IsSome};
 ghost use Rattle.qrcode_base.specs.declared.types.EcLevel.{EcLevel};
 ghost use Rattle.qrcode_base.specs.declared.types.Version.{Version};
-ghost use Rattle.qrcode_core.specs.Grids.{Grid, IsFull, color_at, row_of, with_color, grid_of, quiet_zone_of, rows_between};
+ghost use Rattle.qrcode_core.specs.Grids.{Grid, IsFull, HasAllRows, color_at, row_of, with_color, grid_of, quiet_zone_of, rows_between};
 
 use qrcode_base::types::{Color, EcLevel, Version};
 use std::alloc::Global;
@@ -83,7 +83,11 @@ impl ModuleSource for ModuleView<'_> {
         self.height
     }
 
-    fn modules(&self) -> &[Color] {
+    fn modules(&self) -> &[Color]
+        ensures list { result.now ≡ (view_grid self.now).cells }
+        ensures rows { HasAllRows (view_grid self.now) }
+        ensures full { IsFull (view_grid self.now) }
+    {
         self.modules
     }
 }
@@ -155,7 +159,11 @@ impl ModuleSource for QrCodeRef<'_> {
         self.width
     }
 
-    fn modules(&self) -> &[Color] {
+    fn modules(&self) -> &[Color]
+        ensures list { result.now ≡ (symbol_grid self.now).cells }
+        ensures rows { HasAllRows (symbol_grid self.now) }
+        ensures full { IsFull (symbol_grid self.now) }
+    {
         self.modules
     }
 }
@@ -238,14 +246,14 @@ pub trait ModuleSource {
     fn height(&self) -> usize
         ensures { result ≡ (grid self.now).rows };
 
-    /// All modules, row after row.
+    /// All modules, row after row. What may stand behind the last row is no part of the grid.
     fn modules(&self) -> &[Color]
         ensures list { result.now ≡ (grid self.now).cells }
-        ensures full { IsFull (grid self.now) };
+        ensures rows { HasAllRows (grid self.now) };
 
     /// The modules of row `y`.
     fn row(&self, y: usize) -> &[Color]
-        requires { y < (grid self.now).rows }
+        requires exists { y < (grid self.now).rows }
         ensures { result.now ≡ row_of (grid self.now) y }
     {
         let width = self.width();
@@ -336,7 +344,11 @@ impl<T: ModuleStorage> ModuleSource for T {
         ModuleStorage::height(self)
     }
 
-    fn modules(&self) -> &[Color] {
+    fn modules(&self) -> &[Color]
+        ensures list { result.now ≡ (T.ModuleStorage.grid self.now).cells }
+        ensures rows { HasAllRows (T.ModuleStorage.grid self.now) }
+        ensures full { IsFull (T.ModuleStorage.grid self.now) }
+    {
         ModuleStorage::modules(self)
     }
 

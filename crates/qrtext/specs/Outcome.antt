@@ -1,5 +1,5 @@
 -- What a drawing leaves, by the bytes that the reader had before and has after, and those that the writer had and has.
-use Rattle.std.specs.Prelude.{◌≢◌, ℕ, Bool, Option, List, Result, Ok, Err}
+use Rattle.std.specs.Prelude.{◌≡◌, ◌≢◌, ℕ, Bool, Option, List, Result, Ok, Err}
 use Rattle.std.specs.Io.KnownBytes.{Keeps, Appends}
 use Rattle.qrcode_core.specs.declared.types.EcLevel.{EcLevel}
 use Rattle.qrcode_core.specs.declared.types.errors.QrError.{QrError}
@@ -15,11 +15,12 @@ pub record IsDrawing (micro : Bool) (level : EcLevel) (unread left : Option (Lis
   pub read : ReadsAll unread left bytes
   pub shows : Shows micro level bytes text
 
--- the drawing was written
-pub record Draws (micro : Bool) (level : EcLevel) (unread left written now : Option (List ℕ)) : Type 0 where
+-- the drawing was written, and all that was written was handed on
+pub record Draws (micro : Bool) (level : EcLevel) (unread left written now handed_on : Option (List ℕ)) : Type 0 where
   pub text : List ℕ
   pub drawing : IsDrawing micro level unread left text
   pub appends : Appends written now text
+  pub flushed : handed_on ≡ now
 
 -- a beginning of the drawing was written
 pub record Begins (micro : Bool) (level : EcLevel) (unread left written now : Option (List ℕ)) : Type 0 where
@@ -39,10 +40,11 @@ IfRefused P (Symbol error) = error ≢ OutOfMemory → P error
 IfRefused P Read = Unit {0}
 IfRefused P Write = Unit {0}
 
--- What a drawing answers. All was drawn, and nothing else was written; or a refusal of the symbol's call, and nothing
+-- What a drawing answers. All was drawn and handed on, and nothing else was written; or a refusal of the symbol's call, and nothing
 -- was written; or the reader failed, and nothing was written; or the writer failed, and a beginning was written.
-abbrev pub Gives : Bool → EcLevel → Option (List ℕ) → Option (List ℕ) → Option (List ℕ) → Option (List ℕ) → Result (Unit {0}) TextError → Type 0
-Gives micro level unread left written now (Ok done) = Draws micro level unread left written now
-Gives micro level unread left written now (Err (Symbol error)) = (error ≢ OutOfMemory → IsRefused micro level error unread left) × Keeps written now
-Gives micro level unread left written now (Err Read) = Keeps written now
-Gives micro level unread left written now (Err Write) = Begins micro level unread left written now
+abbrev pub Gives : Bool → EcLevel → (unread left written now handed_on : Option (List ℕ)) → Result (Unit {0}) TextError → Type 0
+Gives micro level unread left written now handed_on (Ok done) = Draws micro level unread left written now handed_on
+Gives micro level unread left written now handed_on (Err (Symbol error)) =
+    (error ≢ OutOfMemory → IsRefused micro level error unread left) × Keeps written now
+Gives micro level unread left written now handed_on (Err Read) = Keeps written now
+Gives micro level unread left written now handed_on (Err Write) = Begins micro level unread left written now

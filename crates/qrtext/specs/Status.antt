@@ -1,6 +1,7 @@
 -- What the program says, and the status that it ends with.
-use Rattle.std.specs.Prelude.{◌≡◌, ◌⊎◌, ℕ, Bool, List, ◌++◌, [], ◌∷◌, Option, codes, Result, Ok, Err}
+use Rattle.std.specs.Prelude.{◌≡◌, ◌≢◌, ◌⊎◌, ◌↔◌, ℕ, Bool, IsTrue, IsErrOf, List, ◌++◌, [], ◌∷◌, Option, codes, Result, Ok, Err}
 use Rattle.qrcode_core.specs.ErrorTexts.{error_text}
+use Rattle.qrcode_core.specs.declared.types.errors.QrError.TheVariants.{OutOfMemory}
 use Rattle.std.specs.Io.KnownBytes.{Keeps}
 use Rattle.qrtext.specs.declared.draw.TextError.{TextError}
 use Rattle.qrtext.specs.declared.draw.TextError.TheVariants.{Symbol, Read, Write}
@@ -27,13 +28,17 @@ abbrev pub status_of : Result (Unit {0}) TextError → ℕ
 status_of (Ok done) = 0
 status_of (Err error) = 1
 
--- the line was written, or it found no memory and was left out
-abbrev pub Says : Option (List ℕ) → Option (List ℕ) → Bool → List ℕ → Type 0
-Says before after mute line = Writes before after mute line ⊎ Keeps before after
+-- The line was written; one that tells of anything but want of memory needs memory, and is left out where it finds none.
+abbrev pub Says : Option (List ℕ) → Option (List ℕ) → Bool → Result (Unit {0}) TextError → Type 0
+Says before after mute outcome =
+    Writes before after mute (told outcome) ⊎ ((outcome ≢ Err (Symbol OutOfMemory)) × Keeps before after)
 
--- the request was drawn, and the status and the line are those of what the drawing answered
-pub record Serves (request : Request) (unread left written now before after : Option (List ℕ)) (mute : Bool) (status : ℕ) : Type 0 where
+-- The request was drawn, and the status and the line are those of what the drawing answered: the fault of the reader
+-- exactly where it is deaf, that of the writer exactly where it is dumb.
+pub record Serves (request : Request) (unread left written now handed_on before after : Option (List ℕ)) (deaf dumb mute : Bool) (status : ℕ) : Type 0 where
   pub outcome : Result (Unit {0}) TextError
-  pub gives : Gives request.micro request.level unread left written now outcome
+  pub gives : Gives request.micro request.level unread left written now handed_on outcome
+  pub read : IsErrOf outcome Read ↔ IsTrue deaf
+  pub write : IsErrOf outcome Write ↔ IsTrue dumb
   pub status_is : status ≡ status_of outcome
-  pub says : Says before after mute (told outcome)
+  pub says : Says before after mute outcome

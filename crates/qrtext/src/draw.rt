@@ -1,7 +1,7 @@
 //! From the bytes of a source to the text of their symbol.
 ghost use Rattle.std.specs.Prelude.{◌≡◌, ℕ, ◌≢◌, ◌*◌, ◌≤◌, ◌↔◌, ◌⊎◌, length, take, IsTrue, IsFalse, IfOk, IfErr, OnOk, OnErr, IsErrOf, is_err, Some};
 ghost use Rattle.std.specs.Io.KnownBytes.{Keeps, Appends, Consumes, IsAtEnd};
-ghost use Rattle.qrtext.specs.Devices.{ReadsEnough, Writes};
+ghost use Rattle.qrtext.specs.Devices.{ReadsEnough, ReadsAtMost, Writes};
 ghost use Rattle.qrtext.specs.Outcome.{IsDrawing, IsRefused, IfRefused, Gives};
 ghost use Rattle.qrcode_core.specs.Headline.{IsSquare};
 ghost use Rattle.qrtext.specs.Drawing.{IsSymbolOf, IsRefusalOf};
@@ -52,7 +52,8 @@ impl From<QrError> for TextError {
     }
 }
 
-/// Reads to the end, and writes the text of the symbol of all that was read.
+/// Reads to the end, writes the text of the symbol of all that was read, and flushes. Of more than 7089 bytes, which no
+/// symbol holds, it reads 7090.
 pub fn draw<R: Source, W: Sink>(
     alloc: Global,
     reader: &mut R,
@@ -64,7 +65,11 @@ pub fn draw<R: Source, W: Sink>(
     requires writer_sound { IsFalse (W.has_failed writer.old) }
 
     ensures outcome { Gives micro level (R.remaining reader.old) (R.remaining reader.new)
-        (W.written writer.old) (W.written writer.new) result }
+        (W.written writer.old) (W.written writer.new) (W.handed_on writer.new) result }
+
+    // No more is read than is too many, and less where the reader failed.
+    ensures few { ReadsAtMost 7090 (R.remaining reader.old) (R.remaining reader.new) }
+    ensures fewer { IsErrOf result TextError.Read → ReadsAtMost 7089 (R.remaining reader.old) (R.remaining reader.new) }
 
     // A device's fault is answered exactly where that device failed.
     ensures read { IsErrOf result TextError.Read ↔ IsTrue (R.has_failed reader.new) }
@@ -74,7 +79,7 @@ pub fn draw<R: Source, W: Sink>(
     write_all(writer, &text)
 }
 
-// Reads to the end, and answers the text of the symbol of all that was read.
+/// Reads to the end, and answers the text of the symbol of all that was read.
 fn drawing<R: Source>(
     alloc: Global,
     reader: &mut R,
@@ -84,6 +89,8 @@ fn drawing<R: Source>(
     requires { IsFalse (R.has_failed reader.old) }
     ensures drawn { IfOk result (λ text. IsDrawing micro level (R.remaining reader.old) (R.remaining reader.new) text.items) }
     ensures refused { IfErr result (IfRefused (λ error. IsRefused micro level error (R.remaining reader.old) (R.remaining reader.new))) }
+    ensures few { ReadsAtMost 7090 (R.remaining reader.old) (R.remaining reader.new) }
+    ensures fewer { IsErrOf result TextError.Read → ReadsAtMost 7089 (R.remaining reader.old) (R.remaining reader.new) }
     ensures read { IsErrOf result TextError.Read ↔ IsTrue (R.has_failed reader.new) }
     ensures no_write { IfErr result (λ e. e ≢ TextError.Write) }
 {
@@ -93,7 +100,7 @@ fn drawing<R: Source>(
     Ok(text_of(alloc, &grid, width)?)
 }
 
-// How many modules a row of a square grid has.
+/// How many modules a row of a square grid has.
 fn width_of(grid: &[Color]) -> usize
     requires { IsSquare grid.now }
     ensures { length grid.now ≡ result * result }
@@ -101,7 +108,7 @@ fn width_of(grid: &[Color]) -> usize
     grid.len().isqrt()
 }
 
-// The grid of the symbol, or of the Micro symbol, of the bytes.
+/// The grid of the symbol, or of the Micro symbol, of the bytes.
 fn encoded(alloc: Global, bytes: &[u8], level: EcLevel, micro: bool) -> Result<Vec<Color>, QrError>
     ensures grid { IfOk result (λ grid. IsSymbolOf micro bytes.now level grid.items) }
     ensures square { IfOk result (λ grid. IsSquare grid.items) }
@@ -115,14 +122,16 @@ fn encoded(alloc: Global, bytes: &[u8], level: EcLevel, micro: bool) -> Result<V
     }
 }
 
-// More bytes than any symbol holds.
+/// More bytes than any symbol holds.
 const TOO_MANY: usize = 7090;
 
-// Reads to the end, or until there are too many bytes.
+/// Reads to the end, or until there are too many bytes.
 #[tactic(auto, using(crate::proofs::DeviceLemmas::reading))]
 fn read_all<R: Source>(alloc: Global, reader: &mut R) -> Result<Vec<u8>, TextError>
     requires { IsFalse (R.has_failed reader.old) }
     ensures read { IfOk result (λ bytes. ReadsEnough (R.remaining reader.old) (R.remaining reader.new) bytes.items) }
+    ensures few { ReadsAtMost 7090 (R.remaining reader.old) (R.remaining reader.new) }
+    ensures fewer { IsErrOf result TextError.Read → ReadsAtMost 7089 (R.remaining reader.old) (R.remaining reader.new) }
     ensures failure { IsErrOf result TextError.Read ↔ IsTrue (R.has_failed reader.new) }
     ensures fault { IfErr result (λ e. (e ≡ TextError.Read) ⊎ (e ≡ TextError.Symbol QrError.OutOfMemory)) }
 {
@@ -141,11 +150,12 @@ fn read_all<R: Source>(alloc: Global, reader: &mut R) -> Result<Vec<u8>, TextErr
     Ok(bytes)
 }
 
-// Writes all of the text and flushes.
+/// Writes all of the text and flushes.
 #[tactic(auto, using(crate::proofs::DeviceLemmas::writing))]
 pub fn write_all<W: Sink>(writer: &mut W, text: &[u8]) -> Result<(), TextError>
     requires { IsFalse (W.has_failed writer.old) }
     ensures writes { Writes (W.written writer.old) (W.written writer.new) (W.has_failed writer.new) text.now }
+    ensures handed_on { OnOk result (W.handed_on writer.new ≡ W.written writer.new) }
     ensures failure { W.has_failed writer.new ≡ is_err result }
     ensures fault { IfErr result (λ e. e ≡ TextError.Write) }
 {

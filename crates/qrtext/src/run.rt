@@ -2,14 +2,14 @@
 ghost use Rattle.std.specs.Prelude.{◌≡◌, ℕ, map, codes, ◌↔◌, IsTrue, IsFalse, MatchOption, Err};
 ghost use Rattle.qrtext.specs.Devices.{Writes};
 ghost use Rattle.qrtext.specs.Words.{Request, request, Ask, AskForNone};
-ghost use Rattle.qrtext.specs.Status.{told, usage, Says, Serves};
+ghost use Rattle.qrtext.specs.Status.{usage, Says, Serves};
 
 use crate::devices::{Sink, Source};
 use crate::draw::{TextError, draw, write_all};
-use qrcode_core::types::EcLevel;
+use qrcode_core::types::{EcLevel, QrError};
 use std::alloc::Global;
 
-// What the words ask for: a level, and whether the symbol is to be Micro.
+/// What the words ask for: a level, and whether the symbol is to be Micro.
 fn request_of(words: &[&str]) -> Option<(EcLevel, bool)>
     ensures { MatchOption result
         (AskForNone (map (λ word. word.now) words.now))
@@ -27,6 +27,7 @@ fn request_of(words: &[&str]) -> Option<(EcLevel, bool)>
     }
 }
 
+/// Whether the word is `micro`.
 fn is_micro(word: &str) -> bool
     ensures { IsTrue result ↔ (word.now ≡ codes "micro") }
 {
@@ -53,7 +54,8 @@ pub fn run<R: Source, W: Sink, E: Sink>(
         × (reader.new ≡ reader.old) × (writer.new ≡ writer.old) × Writes (E.written errors.old) (E.written errors.new) (E.has_failed errors.new) usage }
     ensures served { (asked : Request) → Ask (map (λ word. word.now) words.now) asked → Serves asked
         (R.remaining reader.old) (R.remaining reader.new) (W.written writer.old) (W.written writer.new)
-        (E.written errors.old) (E.written errors.new) (E.has_failed errors.new) result }
+        (W.handed_on writer.new) (E.written errors.old) (E.written errors.new)
+        (R.has_failed reader.new) (W.has_failed writer.new) (E.has_failed errors.new) result }
 {
     let Some((level, micro)) = request_of(words) else {
         let _ = write_all(errors, b"usage: qrtext L|M|Q|H [micro]\n");
@@ -61,19 +63,21 @@ pub fn run<R: Source, W: Sink, E: Sink>(
     };
     match draw(alloc, reader, writer, level, micro) {
         Ok(()) => 0,
-        Err(error) => {
-            tell(alloc, errors, error);
-            1
-        }
+        Err(error) => fail(alloc, errors, error),
     }
 }
 
-// Tells a fault in one line, where there is memory for the line.
-fn tell<E: Sink>(alloc: Global, errors: &mut E, error: TextError)
-    requires { IsFalse (E.has_failed errors.old) }
-    ensures { Says (E.written errors.old) (E.written errors.new) (E.has_failed errors.new) (told (Err error)) }
+/// Tells a fault in one line, and answers the status 1. Want of memory is told without memory; any other line is left out
+/// where there is none for it.
+pub fn fail<E: Sink>(alloc: Global, errors: &mut E, error: TextError) -> u8
+    requires sound { IsFalse (E.has_failed errors.old) }
+    ensures status { result ≡ 1 }
+    ensures says { Says (E.written errors.old) (E.written errors.new) (E.has_failed errors.new) (Err error) }
 {
-    if let Ok(line) = format!(in alloc; "qrtext: {error}\n") {
+    if error == TextError::Symbol(QrError::OutOfMemory) {
+        let _ = write_all(errors, b"qrtext: out of memory\n");
+    } else if let Ok(line) = format!(in alloc; "qrtext: {error}\n") {
         let _ = write_all(errors, line.as_bytes());
     }
+    1
 }

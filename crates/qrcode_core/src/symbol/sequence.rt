@@ -1,5 +1,5 @@
 //! The symbols of a message that is spread over several of them.
-ghost use Rattle.std.specs.Prelude.{◌≡◌, ◌+◌, ◌≤◌, [], length, map, nat_abs, slice_index_or, All, OnOk, IfOk, IfErr, vec_items};
+ghost use Rattle.std.specs.Prelude.{◌≡◌, ◌+◌, ◌≤◌, [], length, map, nat_abs, slice_index_or, All, OnOk, IfOk, IfErr, IsTrue, vec_items};
 ghost use Rattle.std.specs.List.Sorted.{IsNonDecreasing};
 ghost use Rattle.qrcode_bits.specs.Encoding.{IsLimit, IsPartRefused};
 ghost use Rattle.qrcode_bits.specs.Push.{header};
@@ -9,6 +9,17 @@ use crate::symbol::draw;
 use qrcode_base::types::{Color, EcLevel, QrError, QrResult};
 use qrcode_bits::bits::encode_part;
 use std::alloc::Global;
+
+/// Whether a message of this length can be cut there: no cut falls below the one before it, or lies behind the end.
+///
+/// It is what `symbol_sequence` asks of its cuts.
+pub fn are_cuts(cuts: &[usize], length: usize) -> bool
+    ensures ordered { IsTrue result → IsNonDecreasing cuts.now }
+    ensures within { IsTrue result → All (λ cut. cut ≤ length) cuts.now }
+    ensures refused { IsNonDecreasing cuts.now → All (λ cut. cut ≤ length) cuts.now → IsTrue result }
+{
+    cuts.is_sorted() && cuts.iter().all(|cut| *cut <= length)
+}
 
 /// The modules of 2 to 16 symbols that carry a message together, in the order of its parts (ISO/IEC 18004, "Structured
 /// Append").

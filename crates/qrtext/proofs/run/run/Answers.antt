@@ -12,10 +12,12 @@ returns-in-Ok-clause-served g c = λ asked asks.
     ask_for_one (map (λ word. word.now) c.args.words.now) (request c.in-Some.micro c.in-Some.level) asked c.in-Some.ensures asks in
     let before = g.E.Sink.written c.args.errors.now in
     subst (λ (r : Request). Serves r (g.R.Source.remaining c.args.reader.now) (g.R.Source.remaining c.draw.new.reader)
-    (g.W.Sink.written c.args.writer.now) (g.W.Sink.written c.draw.new.writer) before before (g.E.Sink.has_failed c.args.errors.now) 0) one
+    (g.W.Sink.written c.args.writer.now) (g.W.Sink.written c.draw.new.writer) (g.W.Sink.handed_on c.draw.new.writer) before before (g.R.Source.has_failed c.draw.new.reader) (g.W.Sink.has_failed c.draw.new.writer) (g.E.Sink.has_failed c.args.errors.now) 0) one
     (record {
       outcome = Ok tt;
       gives = c.in-Ok.ensures.outcome;
+      read = c.in-Ok.ensures.read;
+      write = c.in-Ok.ensures.write;
       status_is = refl;
       says = inl (record { beginning = record { count = 0; appends = Appends-none before }; whole = λ sound. Appends-none before });
     })

@@ -2,15 +2,15 @@
 ghost use Rattle.std.specs.Prelude.{◌≡◌, length, Ok};
 ghost use Rattle.qrcode_core.specs.Grids.{grid_of};
 
-use crate::limits::ResourceLimits;
-use crate::plugin::{
+use qrcode_core::limits::ResourceLimits;
+use qrcode_core::plugin::{
     DynEncoder, DynRenderer, EncodeConfig, EncodedOutput, ModuleGrid, PluginError, PluginRegistry,
     PostProcessor, QrPlugin, RenderConfig, RenderOutput,
 };
-use crate::traits::{
+use qrcode_core::traits::{
     Builder, Encoder, ModuleSource, ModuleStorage, ModuleView, QrCodeRef, QrSymbol, Renderer,
 };
-use qrcode_base::types::{Color, EcLevel, QrError, Version};
+use qrcode_core::types::{Color, EcLevel, QrError, Version};
 use std::alloc::{AllocError, Global};
 use std::test::Fail;
 

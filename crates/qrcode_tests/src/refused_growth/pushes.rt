@@ -1,9 +1,9 @@
 //! Pushes whose growths are refused.
 
-use crate::bits::{Bits, EncodingModes, ExtendedMode};
-use crate::mode::ByteMode;
-use crate::optimize::Segment;
-use crate::types::{EcLevel, Mode, QrError, QrResult, Version};
+use qrcode_core::bits::{Bits, EncodingModes, ExtendedMode};
+use qrcode_core::mode::ByteMode;
+use qrcode_core::optimize::Segment;
+use qrcode_core::types::{EcLevel, Mode, QrError, QrResult, Version};
 
 /// One push.
 #[derive(Clone, Copy)]
@@ -160,7 +160,7 @@ fn forty_of_each() -> [u8; 120] {
     bytes
 }
 
-// Whether exactly the first few segments are there, but not all, and their modes.
+/// Whether exactly the first few segments are there, but not all, and their modes.
 fn has_first_segments(bits: &Bits) -> bool {
     let modes = bits.encoding_modes();
     let kept = modes.len();

@@ -1,9 +1,8 @@
 //! Blocks of codewords, and whether they are sound.
-use crate::plain_reader::Shape;
-use crate::types::EcLevel;
+use crate::{Level, Shape};
 use std::alloc::Global;
 
-// The correction codewords of each block, by level and version.
+/// The correction codewords of each block, by level and version.
 const CORRECTION: [[u8; 40]; 4] = [
     [
         7, 10, 15, 20, 26, 18, 20, 24, 30, 18, 20, 24, 26, 30, 22, 24, 28, 30, 28, 28, 28, 28, 30,
@@ -23,7 +22,7 @@ const CORRECTION: [[u8; 40]; 4] = [
     ],
 ];
 
-// How many blocks there are, by level and version.
+/// How many blocks there are, by level and version.
 const BLOCKS: [[u8; 40]; 4] = [
     [
         1, 1, 1, 1, 1, 2, 2, 2, 2, 4, 4, 4, 4, 4, 6, 6, 6, 6, 7, 8, 8, 9, 9, 10, 12, 12, 12, 13,
@@ -43,7 +42,7 @@ const BLOCKS: [[u8; 40]; 4] = [
     ],
 ];
 
-// How the codewords are cut: so many blocks, each with so many correction codewords.
+/// How the codewords are cut: so many blocks, each with so many correction codewords.
 #[derive(Clone, Copy)]
 struct Layout {
     blocks: usize,
@@ -52,31 +51,31 @@ struct Layout {
     missing: usize,
 }
 
-fn column(level: EcLevel) -> usize {
+fn column(level: Level) -> usize {
     match level {
-        EcLevel::L => 0,
-        EcLevel::M => 1,
-        EcLevel::Q => 2,
-        EcLevel::H => 3,
+        Level::L => 0,
+        Level::M => 1,
+        Level::Q => 2,
+        Level::H => 3,
     }
 }
 
-// The correction codewords of a Micro symbol, and all its codewords.
-fn micro_layout(number: usize, level: EcLevel) -> Option<(usize, usize)> {
+/// The correction codewords of a Micro symbol, and all its codewords.
+fn micro_layout(number: usize, level: Level) -> Option<(usize, usize)> {
     match (number, level) {
-        (1, EcLevel::L) => Some((2, 5)),
-        (2, EcLevel::L) => Some((5, 10)),
-        (2, EcLevel::M) => Some((6, 10)),
-        (3, EcLevel::L) => Some((6, 17)),
-        (3, EcLevel::M) => Some((8, 17)),
-        (4, EcLevel::L) => Some((8, 24)),
-        (4, EcLevel::M) => Some((10, 24)),
-        (4, EcLevel::Q) => Some((14, 24)),
+        (1, Level::L) => Some((2, 5)),
+        (2, Level::L) => Some((5, 10)),
+        (2, Level::M) => Some((6, 10)),
+        (3, Level::L) => Some((6, 17)),
+        (3, Level::M) => Some((8, 17)),
+        (4, Level::L) => Some((8, 24)),
+        (4, Level::M) => Some((10, 24)),
+        (4, Level::Q) => Some((14, 24)),
         _ => None,
     }
 }
 
-fn layout_of(shape: Shape, level: EcLevel, cells: usize) -> Option<Layout> {
+fn layout_of(shape: Shape, level: Level, cells: usize) -> Option<Layout> {
     if shape.micro {
         let (correction, all) = micro_layout(shape.number, level)?;
         let missing = if shape.number % 2 == 1 { 4 } else { 0 };
@@ -99,11 +98,11 @@ fn layout_of(shape: Shape, level: EcLevel, cells: usize) -> Option<Layout> {
 }
 
 /// How many data codewords a symbol with so many data cells has, if the version has the level.
-pub fn data_count(shape: Shape, level: EcLevel, cells: usize) -> Option<usize> {
+pub fn data_count(shape: Shape, level: Level, cells: usize) -> Option<usize> {
     Some(layout_of(shape, level, cells)?.data)
 }
 
-// The byte that eight bits are. Bits past the end are zeros.
+/// The byte that eight bits are. Bits past the end are zeros.
 fn byte_at(bits: &[bool], from: usize) -> u8 {
     let mut byte = 0u8;
     for place in 0usize..8 {
@@ -113,7 +112,7 @@ fn byte_at(bits: &[bool], from: usize) -> u8 {
     byte
 }
 
-// The stream of codewords. The last data codeword of M1 and M3 has four bits.
+/// The stream of codewords. The last data codeword of M1 and M3 has four bits.
 fn codewords(alloc: Global, bits: &[bool], layout: Layout) -> Option<Vec<u8>> {
     let mut all = Vec::new(alloc);
     let end = layout.data.wrapping_mul(8).wrapping_sub(layout.missing);
@@ -134,7 +133,7 @@ fn codewords(alloc: Global, bits: &[bool], layout: Layout) -> Option<Vec<u8>> {
     Some(all)
 }
 
-// Whether the cells that no codeword takes hold zeros.
+/// Whether the cells that no codeword takes hold zeros.
 fn rest_is_light(bits: &[bool], layout: Layout) -> bool {
     let count = layout
         .data
@@ -160,7 +159,7 @@ fn product(a: u8, b: u8) -> u8 {
     sum
 }
 
-// Whether a block vanishes at the first powers of 2.
+/// Whether a block vanishes at the first powers of 2.
 fn is_sound(block: &[u8], correction: usize) -> bool {
     let mut point = 1;
     for _ in 0..correction {
@@ -176,7 +175,7 @@ fn is_sound(block: &[u8], correction: usize) -> bool {
     true
 }
 
-// A block of the streams: its data codewords, and then its correction codewords.
+/// A block of the streams: its data codewords, and then its correction codewords.
 fn block(alloc: Global, stream: &[u8], layout: Layout, number: usize) -> Option<(Vec<u8>, usize)> {
     let short = layout.data.checked_div(layout.blocks)?;
     let long = layout.data.checked_rem(layout.blocks)?;
@@ -205,7 +204,7 @@ pub fn data_codewords(
     alloc: Global,
     bits: &[bool],
     shape: Shape,
-    level: EcLevel,
+    level: Level,
 ) -> Option<Vec<u8>> {
     let layout = layout_of(shape, level, bits.len())?;
     let stream = codewords(alloc, bits, layout)?;

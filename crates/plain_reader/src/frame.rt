@@ -1,5 +1,5 @@
 //! The data bits: segments, terminator and padding.
-use crate::plain_reader::Shape;
+use crate::Shape;
 use std::alloc::Global;
 
 /// What the data bits say.
@@ -10,7 +10,7 @@ pub struct Text {
     pub bytes: Vec<u8>,
 }
 
-// Codewords, of which the last bits may be missing, and the place of the next bit.
+/// Codewords, of which the last bits may be missing, and the place of the next bit.
 #[derive(Drop)]
 struct Cursor<'a> {
     codewords: &'a [u8],
@@ -30,7 +30,7 @@ impl Cursor<'_> {
         }
     }
 
-    // The number in the next bits, without taking them.
+    /// The number in the next bits, without taking them.
     fn look(&self, count: usize) -> Option<usize> {
         if count > self.left() || count > 32 {
             return None;
@@ -51,7 +51,7 @@ impl Cursor<'_> {
     }
 }
 
-// A mode: its number of the four, from Numeric to Kanji.
+/// A mode: its number of the four, from Numeric to Kanji.
 #[derive(Clone, Copy, PartialEq, Eq)]
 enum Kind {
     Digits,
@@ -167,7 +167,7 @@ fn terminator(shape: Shape) -> usize {
     }
 }
 
-// Whether the rest is a terminator and padding.
+/// Whether the rest is a terminator and padding.
 fn is_ended(cursor: &Cursor, shape: Shape) -> bool {
     let width = terminator(shape).min(cursor.left());
     let zeros = cursor.at.wrapping_add(width);

@@ -1,12 +1,23 @@
-//! A plain reader for the tests, of all versions. It walks the cells by their numbers and calls nothing of the product.
+//! A plain reader of symbols, for the tests: of all versions, and of sequences. It names no other crate, so that what it reads
+//! rests on nothing of the product; it walks the cells by their numbers. A grid is a row-major list, `true` for a dark module.
+#![tactic(auto)]
+
 mod blocks;
 mod cells;
 mod frame;
 mod sequence;
 
-use crate::types::{Color, EcLevel};
 pub use sequence::read_sequence;
 use std::alloc::Global;
+
+/// A level of error correction.
+#[derive(Clone, Copy, Debug, PartialEq, Eq)]
+pub enum Level {
+    L,
+    M,
+    Q,
+    H,
+}
 
 /// The shape of a grid: its width, and the number of its version.
 #[derive(Clone, Copy, Debug, PartialEq, Eq)]
@@ -20,7 +31,7 @@ pub struct Shape {
 #[derive(Drop)]
 pub struct Seen {
     pub shape: Shape,
-    pub level: EcLevel,
+    pub level: Level,
 
     /// The format word as it is drawn.
     pub format: u32,
@@ -40,7 +51,7 @@ pub struct Seen {
 }
 
 /// Reads a grid: `None` where it is no symbol, or where memory was wanting.
-pub fn read(alloc: Global, grid: &[Color]) -> Option<Seen> {
+pub fn read(alloc: Global, grid: &[bool]) -> Option<Seen> {
     let shape = shape_of(grid)?;
     let (level, mask) = cells::format_of(grid, shape)?;
     if !cells::has_patterns(grid, shape) {
@@ -76,7 +87,7 @@ pub fn blank_shape(number: usize, micro: bool) -> Shape {
 }
 
 /// How many data codewords a version has at a level, if it has the level.
-pub fn data_count(shape: Shape, level: EcLevel) -> Option<usize> {
+pub fn data_count(shape: Shape, level: Level) -> Option<usize> {
     let mut cells: usize = 0;
     for number in 0..shape.width.wrapping_mul(shape.width.wrapping_sub(1)) {
         if cells::is_data(shape, number) {
@@ -86,7 +97,7 @@ pub fn data_count(shape: Shape, level: EcLevel) -> Option<usize> {
     blocks::data_count(shape, level, cells)
 }
 
-fn shape_of(grid: &[Color]) -> Option<Shape> {
+fn shape_of(grid: &[bool]) -> Option<Shape> {
     let width = grid.len().isqrt();
     if width.wrapping_mul(width) != grid.len() {
         return None;

@@ -1,13 +1,12 @@
 //! Where the modules stand, and what they show.
-use crate::plain_reader::Shape;
-use crate::types::{Color, EcLevel};
+use crate::{Level, Shape};
 use std::alloc::Global;
 
-fn is_dark(grid: &[Color], width: usize, x: usize, y: usize) -> bool {
-    grid.get(y.wrapping_mul(width).wrapping_add(x)) == Some(&Color::Dark)
+fn is_dark(grid: &[bool], width: usize, x: usize, y: usize) -> bool {
+    grid.get(y.wrapping_mul(width).wrapping_add(x)) == Some(&true)
 }
 
-// How many steps lie between the first and the last centre of the alignment patterns, and how far a step is: the least even
+/// How many steps lie between the first and the last centre of the alignment patterns, and how far a step is: the least even
 // number that reaches, but 26 in version 32.
 fn alignment(number: usize) -> (usize, usize) {
     if number < 2 {
@@ -26,7 +25,7 @@ fn alignment(number: usize) -> (usize, usize) {
     (steps, half.wrapping_mul(2))
 }
 
-// The centre coordinate at most two away, if there is one.
+/// The centre coordinate at most two away, if there is one.
 fn near_center(shape: Shape, coordinate: usize) -> Option<usize> {
     let (steps, step) = alignment(shape.number);
     if steps == 0 {
@@ -79,7 +78,7 @@ pub fn is_functional(shape: Shape, x: usize, y: usize) -> bool {
         || is_in_alignment(shape, x, y)
 }
 
-// The remainder of a word by a polynomial, both as bits.
+/// The remainder of a word by a polynomial, both as bits.
 fn remainder(word: u32, polynomial: u32, degree: u32) -> u32 {
     let mut rest = word;
     for shift in 0u32..8 {
@@ -91,7 +90,7 @@ fn remainder(word: u32, polynomial: u32, degree: u32) -> u32 {
     rest
 }
 
-fn format_word(grid: &[Color], width: usize, places: &[(usize, usize)]) -> u32 {
+fn format_word(grid: &[bool], width: usize, places: &[(usize, usize)]) -> u32 {
     let mut word = 0;
     for (x, y) in places {
         word = word << 1 & 0x7fff | u32::from(is_dark(grid, width, *x, *y));
@@ -157,7 +156,7 @@ fn second(width: usize) -> [(usize, usize); 15] {
 }
 
 /// The format word as it is drawn, where all copies agree.
-pub fn drawn_format(grid: &[Color], shape: Shape) -> Option<u32> {
+pub fn drawn_format(grid: &[bool], shape: Shape) -> Option<u32> {
     if shape.micro {
         return Some(format_word(grid, shape.width, &MICRO));
     }
@@ -169,8 +168,8 @@ pub fn drawn_format(grid: &[Color], shape: Shape) -> Option<u32> {
     }
 }
 
-// The five data bits of the format word, where the check bits are right.
-fn format_bits(grid: &[Color], shape: Shape) -> Option<u32> {
+/// The five data bits of the format word, where the check bits are right.
+fn format_bits(grid: &[bool], shape: Shape) -> Option<u32> {
     let family = if shape.micro { 0x4445 } else { 0x5412 };
     let word = drawn_format(grid, shape)? ^ family;
     if remainder(word, 0x537, 10) == 0 {
@@ -181,26 +180,26 @@ fn format_bits(grid: &[Color], shape: Shape) -> Option<u32> {
 }
 
 /// The level and the number of the mask that the format word shows.
-pub fn format_of(grid: &[Color], shape: Shape) -> Option<(EcLevel, usize)> {
+pub fn format_of(grid: &[bool], shape: Shape) -> Option<(Level, usize)> {
     let bits = format_bits(grid, shape)?;
     if !shape.micro {
         let level = match bits >> 3 {
-            0 => EcLevel::M,
-            1 => EcLevel::L,
-            2 => EcLevel::H,
-            _ => EcLevel::Q,
+            0 => Level::M,
+            1 => Level::L,
+            2 => Level::H,
+            _ => Level::Q,
         };
         return Some((level, (bits & 7) as usize));
     }
     let (number, level) = match bits >> 2 {
-        0 => (1, EcLevel::L),
-        1 => (2, EcLevel::L),
-        2 => (2, EcLevel::M),
-        3 => (3, EcLevel::L),
-        4 => (3, EcLevel::M),
-        5 => (4, EcLevel::L),
-        6 => (4, EcLevel::M),
-        _ => (4, EcLevel::Q),
+        0 => (1, Level::L),
+        1 => (2, Level::L),
+        2 => (2, Level::M),
+        3 => (3, Level::L),
+        4 => (3, Level::M),
+        5 => (4, Level::L),
+        6 => (4, Level::M),
+        _ => (4, Level::Q),
     };
     if number == shape.number {
         Some((level, (bits & 3) as usize))
@@ -209,7 +208,7 @@ pub fn format_of(grid: &[Color], shape: Shape) -> Option<(EcLevel, usize)> {
     }
 }
 
-// The colour that a finder pattern with its border has around a centre, if the cell is in it.
+/// The colour that a finder pattern with its border has around a centre, if the cell is in it.
 fn finder(cx: usize, cy: usize, x: usize, y: usize) -> Option<bool> {
     match cx.abs_diff(x).max(cy.abs_diff(y)) {
         0 | 1 | 3 => Some(true),
@@ -218,7 +217,7 @@ fn finder(cx: usize, cy: usize, x: usize, y: usize) -> Option<bool> {
     }
 }
 
-// The colour that a cell of a finder, timing or alignment pattern must have.
+/// The colour that a cell of a finder, timing or alignment pattern must have.
 fn pattern(shape: Shape, x: usize, y: usize) -> Option<bool> {
     let far = shape.width.wrapping_sub(4);
     let mut found = finder(3, 3, x, y);
@@ -239,8 +238,8 @@ fn pattern(shape: Shape, x: usize, y: usize) -> Option<bool> {
     found
 }
 
-// Whether a copy of the version word is right. The lowest bit stands first.
-fn has_version(grid: &[Color], shape: Shape, turned: bool) -> bool {
+/// Whether a copy of the version word is right. The lowest bit stands first.
+fn has_version(grid: &[bool], shape: Shape, turned: bool) -> bool {
     let mut word = 0;
     for place in 0usize..18 {
         let bit = 17 - place;
@@ -252,7 +251,7 @@ fn has_version(grid: &[Color], shape: Shape, turned: bool) -> bool {
 }
 
 /// Whether the finder, timing, alignment patterns, the dark module and the version words are as they must be.
-pub fn has_patterns(grid: &[Color], shape: Shape) -> bool {
+pub fn has_patterns(grid: &[bool], shape: Shape) -> bool {
     for y in 0..shape.width {
         for x in 0..shape.width {
             if let Some(dark) = pattern(shape, x, y) {
@@ -267,7 +266,7 @@ pub fn has_patterns(grid: &[Color], shape: Shape) -> bool {
         || (has_version(grid, shape, false) && has_version(grid, shape, true))
 }
 
-// Whether a mask inverts a cell, by its number in the family.
+/// Whether a mask inverts a cell, by its number in the family.
 fn inverts(shape: Shape, mask: usize, x: usize, y: usize) -> bool {
     let number = match (shape.micro, mask) {
         (true, 0) => 1,
@@ -291,7 +290,7 @@ fn inverts(shape: Shape, mask: usize, x: usize, y: usize) -> bool {
     value == 0
 }
 
-// The cell that has a number in the walk.
+/// The cell that has a number in the walk.
 fn cell(shape: Shape, number: usize) -> (usize, usize) {
     let last = shape.width.wrapping_sub(1);
     let pair = number.checked_div(shape.width.wrapping_mul(2)).unwrap_or(0);
@@ -320,7 +319,7 @@ pub fn is_data(shape: Shape, number: usize) -> bool {
 }
 
 /// The bits of the data cells in order, with the mask taken off.
-pub fn raw_bits(alloc: Global, grid: &[Color], shape: Shape, mask: usize) -> Option<Vec<bool>> {
+pub fn raw_bits(alloc: Global, grid: &[bool], shape: Shape, mask: usize) -> Option<Vec<bool>> {
     let mut bits = Vec::new(alloc);
     for number in 0..shape.width.wrapping_mul(shape.width.wrapping_sub(1)) {
         let (x, y) = cell(shape, number);

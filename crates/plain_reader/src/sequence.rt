@@ -1,9 +1,8 @@
 //! A message that is spread over several symbols.
-use crate::plain_reader::{Seen, read};
-use crate::types::Color;
+use crate::{Seen, read};
 use std::alloc::Global;
 
-// The symbol whose header tells a position.
+/// The symbol whose header tells a position.
 fn at_position(symbols: &[Seen], position: usize) -> Option<&Seen> {
     symbols.iter().find(|seen| {
         seen.header
@@ -12,7 +11,7 @@ fn at_position(symbols: &[Seen], position: usize) -> Option<&Seen> {
 }
 
 /// The message of some symbols, taken in an order: `None` where they are no whole sequence, or where memory was wanting.
-pub fn read_sequence(alloc: Global, grids: &[Vec<Color>], order: &[usize]) -> Option<Vec<u8>> {
+pub fn read_sequence(alloc: Global, grids: &[Vec<bool>], order: &[usize]) -> Option<Vec<u8>> {
     let mut symbols = Vec::new(alloc);
     for index in order {
         symbols.push(read(alloc, grids.get(*index)?)?).ok()?;

@@ -6,13 +6,13 @@
 mod pushes;
 mod registry;
 
-use crate::bits::{encode_auto, encode_auto_micro, encode_auto_with_max_version, encode_part};
-use crate::canvas::{Canvas, MaskPattern};
-use crate::ec::{construct_codewords, create_error_correction_code};
-use crate::optimize::{Parser, Segment, optimize_segments, supports_linear_costs};
-use crate::symbol::{symbol, symbol_micro, symbol_sequence};
-use crate::tests::hash;
-use crate::types::{EcLevel, Mode, QrError, QrResult, Version};
+use qrcode_core::bits::{encode_auto, encode_auto_micro, encode_auto_with_max_version, encode_part};
+use qrcode_core::canvas::{Canvas, MaskPattern};
+use qrcode_core::ec::{construct_codewords, create_error_correction_code};
+use qrcode_core::optimize::{Parser, Segment, optimize_segments, supports_linear_costs};
+use qrcode_core::symbol::{symbol, symbol_micro, symbol_sequence};
+use crate::grids::hash;
+use qrcode_core::types::{EcLevel, Mode, QrError, QrResult, Version};
 
 const ONE: Version = Version::Normal(1);
 

@@ -1,12 +1,13 @@
 //! Sequences of symbols: worked rows, read back by the plain reader.
-use crate::plain_reader::{read, read_sequence};
-use crate::symbol::symbol_sequence;
-use crate::tests::hash;
-use crate::types::{Color, EcLevel, QrError, QrResult};
+use crate::grids::{modules_of, read};
+use plain_reader::{Level, read_sequence};
+use qrcode_core::symbol::{are_cuts, symbol_sequence};
+use crate::grids::hash;
+use qrcode_core::types::{Color, EcLevel, QrError, QrResult};
 use std::alloc::Global;
 use std::test::Fail;
 
-// Data, its cuts and the greatest version; then the version and the payload of each symbol, and the parity of the data.
+/// Data, its cuts and the greatest version; then the version and the payload of each symbol, and the parity of the data.
 #[derive(Clone, Copy, Drop)]
 struct Row {
     bytes: &'static [u8],
@@ -61,14 +62,14 @@ const ROWS: [Row; 6] = [
     },
 ];
 
-// The answer at level L, where the cuts don't fall and lie in the data.
+/// The answer at level L, where the cuts don't fall and lie in the data.
 fn answer(
     alloc: Global,
     bytes: &[u8],
     cuts: &[usize],
     limit: i16,
 ) -> Option<QrResult<Vec<Vec<Color>>>> {
-    if !cuts.is_sorted() || !cuts.iter().all(|cut| *cut <= bytes.len()) {
+    if !are_cuts(cuts, bytes.len()) {
         return None;
     }
     Some(symbol_sequence(alloc, bytes, cuts, EcLevel::L, limit))
@@ -87,7 +88,7 @@ fn draws_each_part(rt: HostRuntime) -> Result<(), Fail> {
             let seen = read(rt.alloc(), grid).ok_or("no symbol")?;
             assert!(rt; !seen.shape.micro);
             assert_eq!(rt; (seen.shape.number, seen.payload), *symbol);
-            assert_eq!(rt; seen.level, EcLevel::L);
+            assert_eq!(rt; seen.level, Level::L);
             let header = seen.header.ok_or("no header")?;
             assert_eq!(rt; usize::from(header.0), index + 1);
             assert_eq!(rt; usize::from(header.1), grids.len());
@@ -97,7 +98,7 @@ fn draws_each_part(rt: HostRuntime) -> Result<(), Fail> {
     Ok(())
 }
 
-// The hashes of the symbols of the third row, which are those of the original crate's.
+/// The hashes of the symbols of the third row, which are those of the original crate's.
 const SIXTEEN: [u32; 16] = [
     0x345666eb, 0x9f199b39, 0xb06ad7e3, 0xe7e97707, 0x001794e7, 0x38e1dccd, 0x24994a97, 0x58d81acf,
     0x2329c377, 0xf6ae5043, 0xe5436a69, 0x11891f6d, 0x528fd71b, 0xe75e49cb, 0xc64aa0d7, 0x543a66a9,
@@ -117,13 +118,13 @@ fn draws_sixteen_symbols(rt: HostRuntime) -> Result<(), Fail> {
     Ok(())
 }
 
-// The data codewords of one symbol of a row.
+/// The data codewords of one symbol of a row.
 fn codewords(alloc: Global, row: &Row, index: usize) -> Option<Vec<u8>> {
     let grids = grids(alloc, row)?;
     Some(read(alloc, grids.get(index)?)?.codewords)
 }
 
-// The first symbol of the first row, both of the second and the last of the third.
+/// The first symbol of the first row, both of the second and the last of the third.
 const CODEWORDS: [(usize, usize, [u8; 19]); 4] = [
     (
         0,
@@ -169,7 +170,7 @@ fn writes_header_and_part(rt: HostRuntime) -> Result<(), Fail> {
     Ok(())
 }
 
-// All symbols in order, reversed, and rotated by one.
+/// All symbols in order, reversed, and rotated by one.
 fn whole_orders(alloc: Global, total: usize) -> Option<[Vec<usize>; 3]> {
     Some([
         (0..total).collect(alloc).ok()?,
@@ -178,7 +179,7 @@ fn whole_orders(alloc: Global, total: usize) -> Option<[Vec<usize>; 3]> {
     ])
 }
 
-// One symbol taken out, one given twice, and one given in the place of another.
+/// One symbol taken out, one given twice, and one given in the place of another.
 fn broken_orders(alloc: Global, total: usize) -> Option<[Vec<usize>; 3]> {
     Some([
         (1..total).collect(alloc).ok()?,
@@ -187,16 +188,26 @@ fn broken_orders(alloc: Global, total: usize) -> Option<[Vec<usize>; 3]> {
     ])
 }
 
+/// The modules of some grids, for the plain reader.
+fn all_modules(alloc: Global, grids: &[Vec<Color>]) -> Option<Vec<Vec<bool>>> {
+    let mut symbols = Vec::new(alloc);
+    for grid in grids {
+        symbols.push(modules_of(alloc, grid)?).ok()?;
+    }
+    Some(symbols)
+}
+
 #[test]
 fn reads_in_any_order(rt: HostRuntime) -> Result<(), Fail> {
     for row in ROWS {
         let grids = grids(rt.alloc(), &row).ok_or("no symbols")?;
+        let symbols = all_modules(rt.alloc(), &grids).ok_or("no memory")?;
         for order in &whole_orders(rt.alloc(), grids.len()).ok_or("no order")? {
-            let message = read_sequence(rt.alloc(), &grids, order).ok_or("no message")?;
+            let message = read_sequence(rt.alloc(), &symbols, order).ok_or("no message")?;
             assert_eq!(rt; message.as_slice(), row.bytes);
         }
         for order in &broken_orders(rt.alloc(), grids.len()).ok_or("no order")? {
-            assert!(rt; read_sequence(rt.alloc(), &grids, order).is_none());
+            assert!(rt; read_sequence(rt.alloc(), &symbols, order).is_none());
         }
     }
     Ok(())

@@ -1,10 +1,10 @@
 //! Registrations and configurations whose growths are refused.
 
-use crate::plugin::{
+use qrcode_core::plugin::{
     DynEncoder, DynRenderer, EncodeConfig, EncodedOutput, ModuleGrid, PluginError, PluginRegistry,
     PostProcessor, QrPlugin, RenderConfig, RenderOutput,
 };
-use crate::types::Color;
+use qrcode_core::types::Color;
 use crate::view_tests::{Darken, Plain, Text};
 use std::alloc::Global;
 
@@ -27,7 +27,7 @@ fn bundle(
     })
 }
 
-// The registrations of the plugin that are there, in their order.
+/// The registrations of the plugin that are there, in their order.
 fn registrations(registry: &PluginRegistry) -> [bool; 5] {
     [
         registry.plugin_version("bundle") == Some("0.1.0"),

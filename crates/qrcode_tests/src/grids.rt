@@ -1,0 +1,37 @@
+//! Grids of the product as the plain reader takes them, and a short sum of one.
+use plain_reader::{Level, Seen};
+use qrcode_core::types::{Color, EcLevel};
+use std::alloc::Global;
+
+/// The modules of a grid: `true` for a dark one.
+pub(crate) fn modules_of(alloc: Global, grid: &[Color]) -> Option<Vec<bool>> {
+    let mut modules = Vec::with_capacity(alloc, grid.len()).ok()?;
+    for color in grid {
+        modules.push(*color == Color::Dark).ok()?;
+    }
+    Some(modules)
+}
+
+/// What the plain reader sees in a grid.
+pub(crate) fn read(alloc: Global, grid: &[Color]) -> Option<Seen> {
+    plain_reader::read(alloc, &modules_of(alloc, grid)?)
+}
+
+/// The plain reader's word for a level.
+pub(crate) fn level_of(level: EcLevel) -> Level {
+    match level {
+        EcLevel::L => Level::L,
+        EcLevel::M => Level::M,
+        EcLevel::Q => Level::Q,
+        EcLevel::H => Level::H,
+    }
+}
+
+/// A hash of the modules (FNV-1a, a byte for each).
+pub(crate) fn hash(grid: &[Color]) -> u32 {
+    let mut sum = 0x811c_9dc5u32;
+    for color in grid {
+        sum = (sum ^ u32::from(*color == Color::Dark)).wrapping_mul(0x0100_0193);
+    }
+    sum
+}

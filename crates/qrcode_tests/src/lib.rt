@@ -1,0 +1,14 @@
+//! Tests that cross crates: symbols, sequences and views over `qrcode_core`, read back by `plain_reader`, and calls whose
+//! growths are refused (`tools/refuse-growth`).
+#![tactic(auto)]
+
+#[cfg(test)]
+mod grids;
+#[cfg(test)]
+mod refused_growth;
+#[cfg(test)]
+mod sequence_tests;
+#[cfg(test)]
+mod symbol_tests;
+#[cfg(test)]
+mod view_tests;

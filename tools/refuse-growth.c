@@ -1,0 +1,59 @@
+// Stands before malloc, realloc and free (by LD_PRELOAD), for tools/refuse-growth.
+//
+// REFUSED=N refuses the Nth growth of a run, REFUSED_FROM=N each one from the Nth on. At the end it writes a line to the file
+// COUNTS: how many growths were asked for, how many of these were refused, and how many blocks are still held.
+#include <errno.h>
+#include <fcntl.h>
+#include <stdio.h>
+#include <stdlib.h>
+#include <unistd.h>
+
+extern void *__libc_malloc(size_t);
+extern void *__libc_realloc(void *, size_t);
+extern void __libc_free(void *);
+
+static long asked, refused, held;
+static long first = -1, last = -1;
+
+__attribute__((constructor)) static void begin(void) {
+    const char *one = getenv("REFUSED"), *from = getenv("REFUSED_FROM");
+    if (one) first = last = atol(one);
+    if (from) first = atol(from), last = __LONG_MAX__;
+    // What the C library took before `main` is not the program's.
+    asked = held = 0;
+}
+
+static int refuses(void) {
+    asked++;
+    if (first < 0 || asked < first || asked > last) return 0;
+    refused++;
+    errno = ENOMEM;
+    return 1;
+}
+
+void *malloc(size_t size) {
+    if (refuses()) return NULL;
+    void *block = __libc_malloc(size);
+    if (block) held++;
+    return block;
+}
+
+void *realloc(void *block, size_t size) {
+    if (refuses()) return NULL;
+    void *grown = __libc_realloc(block, size);
+    if (!block && grown) held++;
+    return grown;
+}
+
+void free(void *block) {
+    if (block) held--;
+    __libc_free(block);
+}
+
+__attribute__((destructor)) static void end(void) {
+    const char *name = getenv("COUNTS");
+    int file = name ? open(name, O_WRONLY | O_CREAT | O_TRUNC, 0600) : -1;
+    if (file < 0) return;
+    dprintf(file, "%ld %ld %ld\n", asked, refused, held);
+    close(file);
+}
