@@ -4,6 +4,7 @@ use plain_reader::{Level, Seen, Shape, blank_shape, data_count};
 use qrcode_core::symbol::{symbol, symbol_micro};
 use qrcode_core::types::{EcLevel, QrError};
 use std::alloc::Global;
+use std::ops::Range;
 use std::test::Fail;
 
 const LEVELS: [EcLevel; 4] = [EcLevel::L, EcLevel::M, EcLevel::Q, EcLevel::H];
@@ -117,20 +118,53 @@ fn is_read_back(alloc: Global, shape: Shape, level: EcLevel) -> bool {
     })
 }
 
+/// The first of some versions that is not read back at some level.
+fn first_not_read_back(alloc: Global, versions: Range<usize>, micro: bool) -> Option<usize> {
+    for number in versions {
+        for level in LEVELS {
+            if !is_read_back(alloc, blank_shape(number, micro), level) {
+                return Some(number);
+            }
+        }
+    }
+    None
+}
+
+// All versions at all levels, in parts that `rt try --test` ends in its time.
+
 #[test]
-fn reads_all_versions_back(rt: HostRuntime) {
-    for number in 1..41 {
-        for level in LEVELS {
-            let shape = blank_shape(number, false);
-            assert!(rt; is_read_back(rt.alloc(), shape, level), "version {number}");
-        }
-    }
-    for number in 1..5 {
-        for level in LEVELS {
-            let shape = blank_shape(number, true);
-            assert!(rt; is_read_back(rt.alloc(), shape, level), "version M{number}");
-        }
-    }
+fn reads_versions_1_to_20_back(rt: HostRuntime) {
+    assert_eq!(rt; first_not_read_back(rt.alloc(), 1..21, false), None);
+}
+
+#[test]
+fn reads_versions_21_to_26_back(rt: HostRuntime) {
+    assert_eq!(rt; first_not_read_back(rt.alloc(), 21..27, false), None);
+}
+
+#[test]
+fn reads_versions_27_to_31_back(rt: HostRuntime) {
+    assert_eq!(rt; first_not_read_back(rt.alloc(), 27..32, false), None);
+}
+
+#[test]
+fn reads_versions_32_to_35_back(rt: HostRuntime) {
+    assert_eq!(rt; first_not_read_back(rt.alloc(), 32..36, false), None);
+}
+
+#[test]
+fn reads_versions_36_to_38_back(rt: HostRuntime) {
+    assert_eq!(rt; first_not_read_back(rt.alloc(), 36..39, false), None);
+}
+
+#[test]
+fn reads_versions_39_and_40_back(rt: HostRuntime) {
+    assert_eq!(rt; first_not_read_back(rt.alloc(), 39..41, false), None);
+}
+
+#[test]
+fn reads_micro_versions_back(rt: HostRuntime) {
+    assert_eq!(rt; first_not_read_back(rt.alloc(), 1..5, true), None);
 }
 
 /// An input of a kind: digits, signs, bytes, pairs of Shift JIS, all of them in turn, or one of three other rows.

@@ -108,6 +108,31 @@ impl ModuleStorage for Square {
     }
 }
 
+/// Two rows of three modules, with one more behind that is no part of the grid.
+struct Longer {
+    modules: [Color; 7],
+}
+
+impl ModuleSource for Longer {
+    ghost grid = { λ s. grid_of s.modules 3 2 };
+
+    fn get(&self, x: usize, y: usize) -> Color {
+        self.modules[y * 3 + x]
+    }
+
+    fn width(&self) -> usize {
+        3
+    }
+
+    fn height(&self) -> usize {
+        2
+    }
+
+    fn modules(&self) -> &[Color] {
+        &self.modules
+    }
+}
+
 /// Renders a mark for each module.
 struct Marks;
 
@@ -327,6 +352,9 @@ fn views_lend_rows(rt: HostRuntime) -> Result<(), Fail> {
     assert!(rt; view.row(1) == &list[3..6] && view.get(1, 1) == Color::Dark && !view.is_empty());
     assert!(rt; ModuleView::new(&list, 4).is_none() && ModuleView::new(&[], 0).is_none());
     assert!(rt; ModuleView::new_rect(&list, usize::MAX, 2).is_none());
+    let flat = ModuleView::new_rect(&list[..6], 3, 2).ok_or("no view")?;
+    assert!(rt; flat.width() == 3 && flat.height() == 2 && flat.modules() == &list[..6]);
+    assert!(rt; flat.get(2, 1) == Color::Light && flat.get(1, 1) == Color::Dark);
     Ok(())
 }
 
@@ -368,6 +396,11 @@ fn own_objects_serve(rt: HostRuntime) -> Result<(), Fail> {
     assert_eq!(rt; square.row(0), [Color::Light, Color::Dark].as_slice());
     assert_eq!(rt; Marks.render(alloc, &square)?.as_str(), ".#..");
     assert_eq!(rt; Count.encode(alloc, b"abc")?, 3);
+    let longer = Longer {
+        modules: [Color::Dark; 7],
+    };
+    assert_eq!(rt; longer.row(1), [Color::Dark; 3].as_slice());
+    assert!(rt; longer.modules().len() == 7 && !longer.is_empty());
     let lone = Lone(Color::Dark).build(alloc)?;
     assert_eq!(rt; ModuleStorage::modules(&lone), [Color::Dark].as_slice());
     Ok(())
@@ -391,6 +424,51 @@ fn grids_fit_their_sides(rt: HostRuntime) -> Result<(), Fail> {
         text_of_marks(alloc, ModuleStorage::modules(&same), "#")?.as_str(),
         "#..#.#"
     );
+    Ok(())
+}
+
+/// What a renderer prints of one dark module.
+fn mark_of(alloc: Global, renderer: &dyn DynRenderer) -> Result<RenderOutput, PluginError> {
+    let grid = grid_of_text(alloc, "#", 1, 1)?;
+    renderer.render(alloc, &grid, &RenderConfig::new(alloc))
+}
+
+/// Prints its own text, whatever the grid.
+#[derive(Drop)]
+struct Says(&'static str);
+
+impl DynRenderer for Says {
+    ghost renders = { λ _ _ _ _. Unit {0} };
+
+    ghost validates = { λ _ _ _. Unit {0} };
+
+    fn render(
+        &self,
+        alloc: Global,
+        _code: &dyn ModuleSource,
+        _config: &RenderConfig,
+    ) -> Result<RenderOutput, PluginError> {
+        Ok(RenderOutput::Text(String::from_str(alloc, self.0)?))
+    }
+
+    fn validate_config(&self, _alloc: Global, _config: &RenderConfig) -> Result<(), PluginError> {
+        Ok(())
+    }
+}
+
+#[test]
+fn a_replaced_box_is_given_back(rt: HostRuntime) -> Result<(), Fail> {
+    let alloc = rt.alloc();
+    let mut registry = PluginRegistry::new(alloc);
+    let none = registry.register_renderer("alpha", Box::new(alloc, Says("first"))?)?;
+    assert!(rt; none.is_none());
+    let replaced = registry.register_renderer("alpha", Box::new(alloc, Says("second"))?)?;
+    let replaced = replaced.ok_or("nothing came back")?;
+    let text = RenderOutput::Text(String::from_str(alloc, "first")?);
+    assert_eq!(rt; mark_of(alloc, &*replaced)?, text);
+    let there = registry.renderer("alpha").ok_or("no renderer")?;
+    let text = RenderOutput::Text(String::from_str(alloc, "second")?);
+    assert_eq!(rt; mark_of(alloc, there)?, text);
     Ok(())
 }
 
@@ -458,6 +536,17 @@ fn plugins_are_registered_whole(rt: HostRuntime) -> Result<(), Fail> {
     ] {
         assert_eq!(rt; names, Some(want));
     }
+    // The objects of the bundle are built and serve.
+    let config = RenderConfig::new(alloc);
+    let text = RenderOutput::Text(String::from_str(alloc, "#..#")?);
+    assert_eq!(rt; printed(&registry, alloc, &config)?, text);
+    let built = registry.build_encoder("length", &EncodeConfig::new(alloc)).ok();
+    let encoder = built.ok_or("no encoder")?;
+    let bytes = encoder.encode(alloc, b"abc", &EncodeConfig::new(alloc))?;
+    assert_eq!(rt; bytes, EncodedOutput::Bytes(Vec::from_slice(alloc, b"abc")?));
+    let mut grid = grid_of_text(alloc, "..", 2, 1)?;
+    assert_eq!(rt; registry.process_modules(&mut grid), Ok(()));
+    assert_eq!(rt; ModuleStorage::modules(&grid), [Color::Dark, Color::Light].as_slice());
     assert_eq!(rt; registry.plugin_names().count(), 1);
     assert_eq!(rt; registry.renderer_names().count(), 1);
     assert_eq!(rt; registry.encoder_names().count(), 1);

@@ -74,7 +74,7 @@ pub fn fail<E: Sink>(alloc: Global, errors: &mut E, error: TextError) -> u8
     ensures status { result ≡ 1 }
     ensures says { Says (E.written errors.old) (E.written errors.new) (E.has_failed errors.new) (Err error) }
 {
-    if error == TextError::Symbol(QrError::OutOfMemory) {
+    if let TextError::Symbol(QrError::OutOfMemory) = error {
         let _ = write_all(errors, b"qrtext: out of memory\n");
     } else if let Ok(line) = format!(in alloc; "qrtext: {error}\n") {
         let _ = write_all(errors, line.as_bytes());

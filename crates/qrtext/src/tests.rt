@@ -1,13 +1,14 @@
 //! Devices that fail, and the words of the command line.
-use crate::devices::{FromReader, FromWriter};
+use crate::devices::{FromReader, FromWriter, Sink, Source};
 use crate::draw::{TextError, draw};
-use crate::run::run;
+use crate::run::{fail, run};
 use qrcode_core::types::{EcLevel, QrError};
+use std::alloc::AllocError;
 use std::io;
 use std::io::{ErrorKind, Read, Write};
 use std::test::Fail;
 
-// Gives its bytes, at most three a call, and fails at one of the calls.
+/// Gives its bytes, at most three a call, and fails at one of the calls.
 #[derive(Drop)]
 struct Fragile<'a> {
     bytes: &'a [u8],
@@ -26,7 +27,7 @@ impl Read for Fragile<'_> {
     }
 }
 
-// Never ends, and counts the bytes that it gave.
+/// Never ends, and counts the bytes that it gave.
 #[derive(Drop)]
 struct Endless {
     given: usize,
@@ -40,14 +41,14 @@ impl Read for Endless {
     }
 }
 
-// How a writer goes on after some calls.
+/// How a writer goes on after some calls.
 #[derive(Clone, Copy)]
 enum Then {
     Fails(ErrorKind),
     TakesNothing,
 }
 
-// Keeps at most `most` bytes a call, for some calls.
+/// Keeps at most `most` bytes a call, for some calls.
 #[derive(Drop)]
 struct Narrow<'a> {
     kept: &'a mut Vec<u8>,
@@ -78,7 +79,7 @@ impl Write for Narrow<'_> {
     }
 }
 
-// The symbol of `hello` at level L, as the original crate draws it.
+/// The symbol of `hello` at level L, as the original crate draws it.
 pub(crate) const HELLO: &str = "\
 #######..#.##.#######\n\
 #.....#.##.#..#.....#\n\
@@ -103,7 +104,7 @@ pub(crate) const HELLO: &str = "\
 #######.#.###..#.#.#.\n\
 ";
 
-// The Micro symbol of `12345` at level L, as it is printed.
+/// The Micro symbol of `12345` at level L, as it is printed.
 const DIGITS: &str = "\
 #######.#.#\n\
 #.....#.##.\n\
@@ -193,8 +194,8 @@ fn writes_fail(rt: HostRuntime) -> Result<(), Fail> {
     Ok(())
 }
 
-// Whether a writer that takes at most `most` bytes a call, for some calls, has the outcome that
-// is due, and what it keeps.
+/// Whether a writer that takes at most `most` bytes a call, for some calls, has the outcome that
+/// is due, and what it keeps.
 fn drawn(rt: &HostRuntime, most: usize, calls: usize, then: Then) -> Result<(bool, Vec<u8>), Fail> {
     let mut kept = Vec::new(rt.alloc());
     let mut bytes: &[u8] = b"hello";
@@ -245,5 +246,62 @@ fn runs(rt: HostRuntime) -> Result<(), Fail> {
             assert_eq!(rt; bytes.len(), input.len(), "{words:?}");
         }
     }
+    Ok(())
+}
+
+/// A writer that keeps what it is given, up to `calls` calls, and then fails.
+fn bearing(kept: &mut Vec<u8>, calls: usize) -> FromWriter<Narrow<'_>> {
+    FromWriter::new(Narrow {
+        kept,
+        most: usize::MAX,
+        calls_left: calls,
+        then: Then::Fails(ErrorKind::Other),
+    })
+}
+
+/// Each device may fail, the one for errors too: how many calls the reader, the writer and that one bear, the words, and then
+/// the status and the line.
+#[test]
+fn runs_with_devices_that_fail(rt: HostRuntime) -> Result<(), Fail> {
+    let rows: [(usize, usize, usize, &[&str], u8, &str); 8] = [
+        (0, 9, 9, &["L"], 1, "qrtext: read failed\n"),
+        (1, 9, 9, &["L"], 1, "qrtext: read failed\n"),
+        (9, 0, 9, &["L"], 1, "qrtext: write failed\n"),
+        (0, 0, 9, &["L"], 1, "qrtext: read failed\n"),
+        (0, 9, 0, &["L"], 1, ""),
+        (9, 0, 0, &["L"], 1, ""),
+        (9, 9, 0, &["X"], 2, ""),
+        (9, 9, 0, &["L"], 0, ""),
+    ];
+    for (reads, writes, tells, words, status, line) in rows {
+        let mut text = Vec::new(rt.alloc());
+        let mut said = Vec::new(rt.alloc());
+        let mut reader = FromReader::new(Fragile {
+            bytes: b"hello",
+            calls_left: reads,
+            kind: ErrorKind::Other,
+        });
+        let mut writer = bearing(&mut text, writes);
+        let mut errors = bearing(&mut said, tells);
+        let answer = run(rt.alloc(), words, &mut reader, &mut writer, &mut errors);
+        assert_eq!(rt; answer, status, "{reads} {writes} {tells}");
+        let read_failed = status == 1 && reads < 9;
+        let write_failed = status == 1 && !read_failed;
+        assert_eq!(rt; reader.failed(), read_failed);
+        assert_eq!(rt; writer.failed(), write_failed);
+        assert_eq!(rt; errors.failed(), tells == 0 && status != 0);
+        assert_eq!(rt; text.len(), if status == 0 { 21 * 22 } else { 0 });
+        assert_eq!(rt; said.as_slice(), line.as_bytes());
+    }
+    Ok(())
+}
+
+#[test]
+fn tells_want_of_memory(rt: HostRuntime) -> Result<(), Fail> {
+    let mut said: Vec<u8> = Vec::new(rt.alloc());
+    let mut errors = FromWriter::new(&mut said);
+    let status = fail(rt.alloc(), &mut errors, TextError::from(AllocError));
+    assert_eq!(rt; status, 1);
+    assert_eq!(rt; said.as_slice(), "qrtext: out of memory\n".as_bytes());
     Ok(())
 }

@@ -160,6 +160,7 @@ impl PluginRegistry {
 
     /// Runs the postprocessors on the grid, in the order of registration, and stops at the first refusal, which it
     /// answers. The grid holds what they left so far.
+    #[tactic(auto, using(crate::proofs::StepLemmas::steps_refused, crate::proofs::StepLemmas::steps_further))]
     pub fn process_modules(&self, modules: &mut dyn ModuleStorage) -> Result<(), PluginError>
         ensures { StepsInOrder processes (registered self.now).postprocessors
             (grid modules.old) result (grid modules.new) }

@@ -38,27 +38,49 @@ fn registrations(registry: &PluginRegistry) -> [bool; 5] {
     ]
 }
 
-/// A refusal keeps the first registrations, and no other.
-#[test]
-fn register_plugin_of_five(rt: HostRuntime) -> Result<(), PluginError> {
-    let alloc = rt.alloc();
+/// Names for renderers that are there before.
+const EARLIER: [&str; 12] = ["a", "b", "c", "d", "e", "g", "h", "i", "j", "k", "l", "m"];
+
+/// How many registrations of the plugin there are after it was registered where some renderers were there: 5, or the first so
+/// many where a growth was refused.
+fn kept_after(alloc: Global, earlier: usize) -> Result<usize, PluginError> {
+    let mut registry = PluginRegistry::new(alloc);
+    for name in EARLIER.iter().take(earlier) {
+        registry.register_renderer(name, Box::new(alloc, Text)?)?;
+    }
     let first = Box::new(alloc, Text)?;
     let second = Box::new(alloc, Text)?;
     let encoder = Box::new(alloc, Plain)?;
-    let plugin = bundle(
-        alloc,
-        first,
-        second,
-        encoder,
-        Box::new(alloc, Darken { x: 0 })?,
-    )?;
-    let mut registry = PluginRegistry::new(alloc);
+    let postprocessor = Box::new(alloc, Darken { x: 0 })?;
+    let plugin = bundle(alloc, first, second, encoder, postprocessor)?;
     let answer = registry.register_plugin(plugin);
     let there = registrations(&registry);
     let kept = there.iter().take_while(|is| **is).count();
-    assert!(rt; there.iter().skip(kept).all(|is| !*is));
-    assert_eq!(rt; answer.is_ok(), kept == 5);
-    answer
+    if there.iter().skip(kept).any(|is| *is) || answer.is_ok() != (kept == 5) {
+        return Err(PluginError::InvalidModuleGrid);
+    }
+    Ok(kept)
+}
+
+/// A refused growth, and how many registrations stood before it; tools/refuse-growth wants to see each number from 0 to 4.
+#[derive(Debug, Drop)]
+enum Refused {
+    OutOfMemory { kept: usize },
+    Other(PluginError),
+}
+
+/// A refusal keeps the first registrations, and no other. (A map grows once for several names, so that the second renderer
+/// grows it only where others were there before.)
+#[test]
+fn register_plugin_of_five(rt: HostRuntime) -> Result<(), Refused> {
+    for earlier in 0..EARLIER.len() {
+        match kept_after(rt.alloc(), earlier) {
+            Ok(5) => {}
+            Ok(kept) => return Err(Refused::OutOfMemory { kept }),
+            Err(error) => return Err(Refused::Other(error)),
+        }
+    }
+    Ok(())
 }
 
 /// A refused registration leaves the registry as it was.

@@ -1,5 +1,5 @@
 -- The words ask for one request, which was drawn.
-use Rattle.std.proofs.Common.{◌≡◌, Ok, refl, subst, map, inl}
+use Rattle.std.proofs.Common.{◌≡◌, Ok, Err, refl, subst, map, inl}
 use Rattle.qrtext.specs.Status.{Serves}
 use Rattle.qrtext.specs.Words.{Request, request}
 use Rattle.qrtext.proofs.DeviceLemmas.{Appends-none}
@@ -12,7 +12,9 @@ returns-in-Ok-clause-served g c = λ asked asks.
     ask_for_one (map (λ word. word.now) c.args.words.now) (request c.in-Some.micro c.in-Some.level) asked c.in-Some.ensures asks in
     let before = g.E.Sink.written c.args.errors.now in
     subst (λ (r : Request). Serves r (g.R.Source.remaining c.args.reader.now) (g.R.Source.remaining c.draw.new.reader)
-    (g.W.Sink.written c.args.writer.now) (g.W.Sink.written c.draw.new.writer) (g.W.Sink.handed_on c.draw.new.writer) before before (g.R.Source.has_failed c.draw.new.reader) (g.W.Sink.has_failed c.draw.new.writer) (g.E.Sink.has_failed c.args.errors.now) 0) one
+    (g.W.Sink.written c.args.writer.now) (g.W.Sink.written c.draw.new.writer) (g.W.Sink.handed_on c.draw.new.writer)
+    before before (g.R.Source.has_failed c.draw.new.reader) (g.W.Sink.has_failed c.draw.new.writer)
+    (g.E.Sink.has_failed c.args.errors.now) 0) one
     (record {
       outcome = Ok tt;
       gives = c.in-Ok.ensures.outcome;
@@ -20,4 +22,21 @@ returns-in-Ok-clause-served g c = λ asked asks.
       write = c.in-Ok.ensures.write;
       status_is = refl;
       says = inl (record { beginning = record { count = 0; appends = Appends-none before }; whole = λ sound. Appends-none before });
+    })
+
+pub returns-in-Err-clause-served : goal.returns-in-Err-clause-served
+returns-in-Err-clause-served g c = λ asked asks.
+    let one : request c.in-Some.micro c.in-Some.level ≡ asked =
+    ask_for_one (map (λ word. word.now) c.args.words.now) (request c.in-Some.micro c.in-Some.level) asked c.in-Some.ensures asks in
+    subst (λ (r : Request). Serves r (g.R.Source.remaining c.args.reader.now) (g.R.Source.remaining c.draw.new.reader)
+    (g.W.Sink.written c.args.writer.now) (g.W.Sink.written c.draw.new.writer) (g.W.Sink.handed_on c.draw.new.writer)
+    (g.E.Sink.written c.args.errors.now) (g.E.Sink.written c.fail.new.errors) (g.R.Source.has_failed c.draw.new.reader)
+    (g.W.Sink.has_failed c.draw.new.writer) (g.E.Sink.has_failed c.fail.new.errors) c.fail.result) one
+    (record {
+      outcome = Err c.in-Err.error;
+      gives = c.in-Err.ensures.outcome;
+      read = c.in-Err.ensures.read;
+      write = c.in-Err.ensures.write;
+      status_is = c.fail.ensures.status;
+      says = c.fail.ensures.says;
     })
