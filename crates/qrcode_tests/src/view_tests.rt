@@ -109,6 +109,7 @@ impl ModuleStorage for Square {
 }
 
 /// Two rows of three modules, with one more behind that is no part of the grid.
+#[derive(Drop)]
 struct Longer {
     modules: [Color; 7],
 }
