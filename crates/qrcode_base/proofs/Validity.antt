@@ -174,3 +174,11 @@ nothing_found valid text (Some p) h = (λ v. absurd (not_valid valid text p.0 p.
 
 pub none_where_valid : (mode : Mode) (text : List ℕ) → (IsValid mode text) ↔ (first_invalid mode text ≡ None)
 none_where_valid mode text = nothing_found (IsValid mode) text (first_invalid mode text) (first_invalid-first mode text)
+
+-- ---- What a caller of the four types reads off
+
+pub valid_where_none : (mode : Mode) (text : List ℕ) → None ≡ first_invalid mode text → IsValid mode text
+valid_where_none mode text e = (none_where_valid mode text).1 (sym e)
+
+pub first_where_some : (mode : Mode) (text : List ℕ) (place byte : ℕ) → Some (place, byte) ≡ first_invalid mode text → IsFirstInvalid (IsValid mode) text place byte
+first_where_some mode text place byte e = subst (λ (found : Option (ℕ × ℕ)). FirstInvalid (IsValid mode) text found) (sym e) (first_invalid-first mode text)
