@@ -1,20 +1,184 @@
--- Where the first invalid byte is answered, nothing is answered exactly for the valid texts.
-use Rattle.std.proofs.Common.{ℕ, refl, sym, arith, subst, List, length, Bool, true, false}
-use Rattle.std.specs.Prelude.{Option, Some, None, is_none, IsTrue, ◌↔◌}
+-- The first invalid byte of a text is one, and one only; there is none exactly where the text is valid.
+use Rattle.std.proofs.Common.{◌≡◌, ℕ, zero, suc, ◌<◌, ◌≤◌, refl, sym, ap, ◌∙◌, arith, subst, List, [], ◌∷◌, length, take, Bool, true, false, inl, inr}
+use Rattle.std.specs.Prelude.{Option, Some, None, All, Contains, slice_get, option_map, ◌↔◌, if◌then◌else◌, ◌&&◌, nat_le}
+use Rattle.std.specs.List.{list_all}
 use Rattle.std.proofs.Math.Seq.{take-length}
-use Rattle.std.proofs.lemmas.Bool.{false≢true}
-use Rattle.std.proofs.lemmas.Option.{slice_get_within}
-use Rattle.qrcode_base.specs.Characters.{IsFirstInvalid, FirstInvalid, Validates}
+use Rattle.std.proofs.lemmas.Bool.{false≢true, cases_lt}
+use Rattle.std.proofs.lemmas.Bool.Decides.{nat_tests}
+use Rattle.std.proofs.lemmas.List.Sums.{AllPass-from_list_all, list_all-from_AllPass}
+use Rattle.std.proofs.lemmas.Option.{slice_get_within, slice_get-get_or}
+use Rattle.qrcode_base.specs.declared.types.Mode.{Mode}
+use Rattle.qrcode_base.specs.declared.types.Mode.TheVariants.{Numeric, Alphanumeric, Byte, Kanji}
+use Rattle.qrcode_base.specs.Characters.{is_between, IsDigit, alphabet, is_alphanumeric, is_kanji_pair, IsKanjiText, is_kanji_text, IsValid, is_valid, longest_beginning, first_invalid, IsFirstInvalid, FirstInvalid}
+use Rattle.qrcode_base.proofs.Alphabet.{and_left, and_right, is_alphanumeric-inside, is_alphanumeric-from_inside}
+
+-- ---- The test of a text
+
+passes_all : (P : ℕ → Type 0) (test : ℕ → Bool) (text : List ℕ) → ((c : ℕ) → P c → test c ≡ true) → All P text → list_all test text ≡ true
+passes_all P test text each h = list_all-from_AllPass test text (λ k d within. each _ (h k d within))
+
+holds_of_all : (P : ℕ → Type 0) (test : ℕ → Bool) (text : List ℕ) → ((c : ℕ) → test c ≡ true → P c) → list_all test text ≡ true → All P text
+holds_of_all P test text each h = λ k d within. each _ (AllPass-from_list_all test text h k d within)
+
+between-is : (low high c : ℕ) → low ≤ c → c ≤ high → is_between low high c ≡ true
+between-is low high c above below = grind (arith, nat_tests)
+
+above_low : (low high c : ℕ) → is_between low high c ≡ true → low ≤ c
+above_low low high c h = let test = and_left (nat_le low c) (nat_le c high) h in grind (arith, nat_tests)
+
+below_high : (low high c : ℕ) → is_between low high c ≡ true → c ≤ high
+below_high low high c h = let test = and_right (nat_le low c) (nat_le c high) h in grind (arith, nat_tests)
+
+both : (a b : Bool) → a ≡ true → b ≡ true → (a && b) ≡ true
+both true b h k = k
+both false b h k = h
+
+kanji-passes : (text : List ℕ) → IsKanjiText text → is_kanji_text text ≡ true
+unfolding is_kanji_text
+kanji-passes [] h = refl
+kanji-passes (a ∷ []) h = absurd h
+kanji-passes (a ∷ b ∷ rest) h = both (is_kanji_pair a b) (is_kanji_text rest) h.0 (kanji-passes rest h.1)
+
+kanji-holds : (text : List ℕ) → is_kanji_text text ≡ true → IsKanjiText text
+unfolding is_kanji_text
+kanji-holds [] h = tt
+kanji-holds (a ∷ []) h = false≢true h
+kanji-holds (a ∷ b ∷ rest) h = (and_left (is_kanji_pair a b) (is_kanji_text rest) h, kanji-holds rest (and_right (is_kanji_pair a b) (is_kanji_text rest) h))
+
+valid-passes : (mode : Mode) (text : List ℕ) → IsValid mode text → is_valid mode text ≡ true
+unfolding is_valid
+valid-passes Numeric text h = passes_all IsDigit (is_between 48 57) text (λ c d. between-is 48 57 c d.0 (omega (arith, d.1))) h
+valid-passes Alphanumeric text h = passes_all (λ c. Contains alphabet c) is_alphanumeric text is_alphanumeric-from_inside h
+valid-passes Byte text h = passes_all (λ c. c < 256) (is_between 0 255) text (λ c d. between-is 0 255 c (omega arith) (omega (arith, d))) h
+valid-passes Kanji text h = kanji-passes text h
+
+valid-holds : (mode : Mode) (text : List ℕ) → is_valid mode text ≡ true → IsValid mode text
+unfolding is_valid
+valid-holds Numeric text h = holds_of_all IsDigit (is_between 48 57) text (λ c d. (above_low 48 57 c d, omega (arith, below_high 48 57 c d))) h
+valid-holds Alphanumeric text h = holds_of_all (λ c. Contains alphabet c) is_alphanumeric text is_alphanumeric-inside h
+valid-holds Byte text h = holds_of_all (λ c. c < 256) (is_between 0 255) text (λ c d. omega (arith, below_high 0 255 c d)) h
+valid-holds Kanji text h = kanji-holds text h
+
+-- ---- The longest beginning that passes
+
+step_within : (b : Bool) (n m : ℕ) → m ≤ n → (if b then suc n else m) ≤ suc n
+step_within true n m h = omega arith
+step_within false n m h = omega arith
+
+longest-within : (test : List ℕ → Bool) (text : List ℕ) (n : ℕ) → longest_beginning test text n ≤ n
+unfolding longest_beginning
+longest-within test text zero = omega arith
+longest-within test text (suc n) = step_within (test (take (suc n) text)) n (longest_beginning test text n) (longest-within test text n)
+
+step_passes : (test : List ℕ → Bool) (text : List ℕ) (b : Bool) (n m : ℕ) → test (take (suc n) text) ≡ b → test (take m text) ≡ true → test (take (if b then suc n else m) text) ≡ true
+step_passes test text true n m e h = e
+step_passes test text false n m e h = h
+
+longest-passes : (test : List ℕ → Bool) (text : List ℕ) (n : ℕ) → test [] ≡ true → test (take (longest_beginning test text n) text) ≡ true
+unfolding longest_beginning
+longest-passes test text zero h = h
+longest-passes test text (suc n) h = step_passes test text (test (take (suc n) text)) n (longest_beginning test text n) refl (longest-passes test text n h)
+
+step_longest : (test : List ℕ → Bool) (text : List ℕ) (b : Bool) (n m : ℕ) → test (take (suc n) text) ≡ b → ((k : ℕ) → m < k → k ≤ n → test (take k text) ≡ true → ⊥) → (k : ℕ) → (if b then suc n else m) < k → k ≤ suc n → test (take k text) ≡ true → ⊥
+step_longest test text true n m e before k above within h = omega arith
+step_longest test text false n m e before k above within h =
+    elim (cases_lt k (suc n)) [
+      | inl below ↦ before k above (omega arith) h
+      | inr last ↦ let same : k ≡ suc n = omega arith in
+          false≢true (sym e ∙ subst (λ (z : ℕ). test (take z text) ≡ true) same h)
+    ]
+
+longest-longest : (test : List ℕ → Bool) (text : List ℕ) (n k : ℕ) → longest_beginning test text n < k → k ≤ n → test (take k text) ≡ true → ⊥
+unfolding longest_beginning
+longest-longest test text zero k above within h = omega arith
+longest-longest test text (suc n) k above within h = step_longest test text (test (take (suc n) text)) n (longest_beginning test text n) refl (longest-longest test text n) k above within h
+
+-- ---- What stands behind it
+
+past_end : (text : List ℕ) (k : ℕ) → slice_get text k ≡ None → k ≤ length text → k ≡ length text
+past_end text k none within =
+    elim (cases_lt k (length text)) [
+      | inl below ↦ let some = slice_get-get_or text k 0 below in absurd (cc)
+      | inr above ↦ omega arith
+    ]
+
+empty_valid : (mode : Mode) → is_valid mode [] ≡ true
+empty_valid Numeric = valid-passes Numeric [] (λ k d within. absurd (omega arith))
+empty_valid Alphanumeric = valid-passes Alphanumeric [] (λ k d within. absurd (omega arith))
+empty_valid Byte = valid-passes Byte [] (λ k d within. absurd (omega arith))
+empty_valid Kanji = valid-passes Kanji [] tt
+
+found_behind : (mode : Mode) (text : List ℕ) (place : ℕ) (found : Option ℕ) → slice_get text place ≡ found → place ≡ longest_beginning (is_valid mode) text (length text) → FirstInvalid (IsValid mode) text (option_map (λ byte. (place, byte)) found)
+found_behind mode text place None none at =
+    let within : place ≤ length text = omega (arith, longest-within (is_valid mode) text (length text)) in
+    let whole : take place text ≡ text = ap (λ (k : ℕ). take k text) (past_end text place none within) ∙ take-length text in
+    let passes = subst (λ (k : ℕ). is_valid mode (take k text) ≡ true) (sym at) (longest-passes (is_valid mode) text (length text) (empty_valid mode)) in
+    subst (λ (t : List ℕ). IsValid mode t) whole (valid-holds mode (take place text) passes)
+found_behind mode text place (Some byte) some at = record {
+  byte_is = some;
+  valid_before = valid-holds mode (take place text) (subst (λ (k : ℕ). is_valid mode (take k text) ≡ true) (sym at) (longest-passes (is_valid mode) text (length text) (empty_valid mode)));
+  longest = λ k above within valid. longest-longest (is_valid mode) text (length text) k (omega arith) within (valid-passes mode (take k text) valid);
+}
+
+pub first_invalid-first : (mode : Mode) (text : List ℕ) → FirstInvalid (IsValid mode) text (first_invalid mode text)
+unfolding first_invalid
+first_invalid-first mode text =
+    let place = longest_beginning (is_valid mode) text (length text) in
+    found_behind mode text place (slice_get text place) refl refl
+
+-- ---- No other is first
 
 not_valid : (valid : List ℕ → Type 0) (text : List ℕ) (position byte : ℕ) → IsFirstInvalid valid text position byte → valid text → ⊥
 not_valid valid text position byte first whole =
     let within = slice_get_within text position byte first.byte_is in
     first.longest (length text) within (omega arith) (subst valid (sym (take-length text)) whole)
 
-pub none_where_valid : (valid : List ℕ → Type 0) (text : List ℕ) (first : Option (ℕ × ℕ)) → FirstInvalid valid text first → (valid text) ↔ IsTrue (is_none first)
-none_where_valid valid text None h = (λ v. refl, λ t. h)
-none_where_valid valid text (Some p) h = (λ v. absurd (not_valid valid text p.0 p.1 h v), λ t. absurd (false≢true t))
+not_before : (valid : List ℕ → Type 0) (text : List ℕ) (p q : ℕ × ℕ) → IsFirstInvalid valid text p.0 p.1 → IsFirstInvalid valid text q.0 q.1 → p.0 < q.0 → ⊥
+not_before valid text p q first second before =
+    let within = slice_get_within text q.0 q.1 second.byte_is in
+    first.longest q.0 before (omega arith) second.valid_before
 
-pub validates_the_valid : (valid : List ℕ → Type 0) (text : List ℕ) (test : Bool) → Validates (FirstInvalid valid) text test → IsTrue test ↔ valid text
-validates_the_valid valid text true h = (λ t. h, λ v. refl)
-validates_the_valid valid text false h = (λ t. absurd (false≢true t), λ v. absurd (not_valid valid text h.0.0 h.0.1 h.1 v))
+place_and_byte : ℕ → ℕ → Option (ℕ × ℕ)
+place_and_byte place byte = Some (place, byte)
+
+same_pair : (a b c d : ℕ) → a ≡ c → b ≡ d → place_and_byte a b ≡ place_and_byte c d
+same_pair a b c d h k = cc
+
+same_found : (text : List ℕ) (p q : ℕ × ℕ) → p.0 ≡ q.0 → slice_get text p.0 ≡ Some p.1 → slice_get text q.0 ≡ Some q.1 → Some p ≡ Some q
+unfolding place_and_byte
+same_found text p q place first second =
+    let byte : Some p.1 ≡ Some q.1 = sym first ∙ (ap (λ (k : ℕ). slice_get text k) place ∙ second) in
+    let byte_is : p.1 ≡ q.1 = cc in
+    same_pair p.0 p.1 q.0 q.1 place byte_is
+
+one_first : (valid : List ℕ → Type 0) (text : List ℕ) (first second : Option (ℕ × ℕ)) → FirstInvalid valid text first → FirstInvalid valid text second → first ≡ second
+one_first valid text None None h k = refl
+one_first valid text None (Some q) h k = absurd (not_valid valid text q.0 q.1 k h)
+one_first valid text (Some p) None h k = absurd (not_valid valid text p.0 p.1 h k)
+one_first valid text (Some p) (Some q) h k =
+    elim (cases_lt p.0 q.0) [
+      | inl before ↦ absurd (not_before valid text p q h k before)
+      | inr after ↦ elim (cases_lt q.0 p.0) [
+        | inl before ↦ absurd (not_before valid text q p k h before)
+        | inr same ↦ same_found text p q (omega arith) h.byte_is k.byte_is
+      ]
+    ]
+
+-- What is first is what `first_invalid` tells.
+pub first_invalid-is : (mode : Mode) (text : List ℕ) (found : Option (ℕ × ℕ)) → FirstInvalid (IsValid mode) text found → found ≡ first_invalid mode text
+first_invalid-is mode text found h = one_first (IsValid mode) text found (first_invalid mode text) h (first_invalid-first mode text)
+
+nothing_found : (valid : List ℕ → Type 0) (text : List ℕ) (found : Option (ℕ × ℕ)) → FirstInvalid valid text found → (valid text) ↔ (found ≡ None)
+nothing_found valid text None h = (λ v. refl, λ e. h)
+nothing_found valid text (Some p) h = (λ v. absurd (not_valid valid text p.0 p.1 h v), λ e. absurd (cc))
+
+pub none_where_valid : (mode : Mode) (text : List ℕ) → (IsValid mode text) ↔ (first_invalid mode text ≡ None)
+none_where_valid mode text = nothing_found (IsValid mode) text (first_invalid mode text) (first_invalid-first mode text)
+
+-- ---- What a caller of the four types reads off
+
+pub valid_where_none : (mode : Mode) (text : List ℕ) → None ≡ first_invalid mode text → IsValid mode text
+valid_where_none mode text e = (none_where_valid mode text).1 (sym e)
+
+pub first_where_some : (mode : Mode) (text : List ℕ) (place byte : ℕ) → Some (place, byte) ≡ first_invalid mode text → IsFirstInvalid (IsValid mode) text place byte
+first_where_some mode text place byte e = subst (λ (found : Option (ℕ × ℕ)). FirstInvalid (IsValid mode) text found) (sym e) (first_invalid-first mode text)

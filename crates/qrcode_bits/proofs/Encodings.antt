@@ -49,9 +49,9 @@ spelled_at : (v : Version) (done : List Piece) (next : Piece) (rest : List Piece
 spelled_at v [] next rest h = h.0.0
 spelled_at v (d ∷ done) next rest h = spelled_at v done next rest h.1
 
-pub spelled_stop : (old new : Stream) (pieces : List Piece) (e : QrError) → AreSpelled old.version pieces → StopsAt old new pieces e → e ≡ OutOfMemory
-spelled_stop old new pieces e spelled w =
-    let can = spelled_at old.version w.done w.next w.rest (subst (λ (z : List Piece). AreSpelled old.version z) w.pieces_are spelled) in
+pub spelled_stop : (old new : Stream) (pieces rest : List Piece) (e : QrError) → AreSpelled old.version pieces → StopsAt old new pieces rest e → e ≡ OutOfMemory
+spelled_stop old new pieces rest e spelled w =
+    let can = spelled_at old.version w.done w.next rest (subst (λ (z : List Piece). AreSpelled old.version z) w.pieces_are spelled) in
     spellable_refused new w.next e (subst (λ (v : Version). IsSpellable v w.next) (sym w.pushed.version_is) can) w.refused
 
 -- an end that fits is refused for memory alone
@@ -69,9 +69,9 @@ module _ (header : Option Header) (bytes : List ℕ) (are : All (λ c. c < 256) 
   abbrev pieces : List Piece
   pieces = segment_pieces bytes plan
 
-  pub plan_stop : (new : Stream) (e : QrError) → StopsAt start new (segment_pieces bytes plan) e → e ≡ OutOfMemory
-  plan_stop new e w =
-      spelled_stop start new pieces e (subst (λ (u : Version). AreSpelled u pieces) (sym version) (spelled_plan (length (header_bits header)) v level bytes plan are fits).spelled) w
+  pub plan_stop : (new : Stream) (e : QrError) (rest : List Piece) → StopsAt start new (segment_pieces bytes plan) rest e → e ≡ OutOfMemory
+  plan_stop new e rest w =
+      spelled_stop start new pieces rest e (subst (λ (u : Version). AreSpelled u pieces) (sym version) (spelled_plan (length (header_bits header)) v level bytes plan are fits).spelled) w
 
   pushed_bits : (middle : Stream) → SpellsAll start middle (segment_pieces bytes plan) → middle.bits ≡ header_bits header ++ spellings v (segment_pieces bytes plan)
   pushed_bits middle w =

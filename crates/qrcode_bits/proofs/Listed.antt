@@ -11,7 +11,7 @@ use Rattle.qrcode_bits.specs.declared.optimize.Segment.{Segment}
 use Rattle.qrcode_bits.specs.Spelling.{Piece}
 use Rattle.qrcode_bits.specs.Stream.{Stream}
 use Rattle.qrcode_bits.specs.Pieces.{segment_piece, segment_pieces}
-use Rattle.qrcode_bits.specs.Push.{PushesPieces}
+use Rattle.qrcode_bits.specs.Push.{PushesPieces, PushesDrawn, StopsAt}
 use Rattle.qrcode_bits.proofs.Pushes.{stops_longer}
 
 module _ {S : Type 0} {steps : S → Option Segment → S → Type 0} (s : S) (all : List Segment) (gives : YieldsList steps (λ x. x) s all) where
@@ -25,14 +25,14 @@ module _ {S : Type 0} {steps : S → Option Segment → S → Type 0} (s : S) (a
 
   -- A push of what came is a push of the list: all came, or one that came was refused.
   pub pushes_all : (old new : Stream) (bytes : List ℕ) (xs : List Segment) (result : Result Unit QrError) → DrainsIf steps (IsOk result) s xs →
-      PushesPieces old (segment_pieces bytes xs) result new → PushesPieces old (segment_pieces bytes all) result new
+      PushesDrawn old (segment_pieces bytes xs) result new → PushesPieces old (segment_pieces bytes all) result new
   pushes_all old new bytes xs (Ok u) h w =
       let came : xs ≡ all = sym (map-id xs) ∙ items_from_drains xs (h.0, h.1, λ _. h.2 refl) gives in
-      subst (λ (z : List Segment). PushesPieces old (segment_pieces bytes z) (Ok u) new) came w
+      subst (λ (z : List Segment). PushesDrawn old (segment_pieces bytes z) (Ok u) new) came w
   pushes_all old new bytes xs (Err e) h w =
       let failed : Result Unit QrError = Err e in
       let rest : List Segment = drop (length xs) all in
       let whole : xs ++ rest ≡ all = ap (λ (z : List Segment). z ++ rest) (given_so_far (IsOk failed) xs h) ∙ take-append-drop (length xs) all in
       let pieces : segment_pieces bytes xs ++ segment_pieces bytes rest ≡ segment_pieces bytes all =
       sym (map-append (segment_piece bytes) xs rest) ∙ ap (λ (z : List Segment). segment_pieces bytes z) whole in
-      subst (λ (z : List Piece). PushesPieces old z (Err e) new) pieces (stops_longer old new (segment_pieces bytes xs) (segment_pieces bytes rest) e w)
+      (segment_pieces bytes rest, subst (λ (z : List Piece). StopsAt old new z (segment_pieces bytes rest) e) pieces (stops_longer old new (segment_pieces bytes xs) (segment_pieces bytes rest) e w))

@@ -10,7 +10,7 @@ use Rattle.qrcode_bits.specs.Spelling.{Piece, IsSpellable, spelling}
 use Rattle.qrcode_bits.specs.Frame.{spellings}
 use Rattle.qrcode_bits.specs.Pieces.{segment_piece, segment_pieces}
 use Rattle.qrcode_bits.specs.Stream.{Stream}
-use Rattle.qrcode_bits.specs.Push.{Spells, SpellsAll, StopsAt, PushesPieces, IsRefused, with_modes, payload_after}
+use Rattle.qrcode_bits.specs.Push.{Spells, SpellsAll, StopsAt, PushesDrawn, IsRefused, with_modes, payload_after}
 
 pub spells_none : (s : Stream) → SpellsAll s s []
 spells_none s = record {
@@ -42,23 +42,21 @@ spells_first old next new p ps h w =
       room_left = omega (arith, h.room_left, w.room_left, ap (λ (z : List Bool). length z) rest, length-append (spelling old.version p) (spellings old.version ps));
     }
 
-push_first : (old next new : Stream) (p : Piece) (ps : List Piece) (result : Result Unit QrError) → Spells old next p → PushesPieces next ps result new →
-    PushesPieces old (p ∷ ps) result new
+push_first : (old next new : Stream) (p : Piece) (ps : List Piece) (result : Result Unit QrError) → Spells old next p → PushesDrawn next ps result new →
+    PushesDrawn old (p ∷ ps) result new
 push_first old next new p ps (Ok u) h w = spells_first old next new p ps h w
 push_first old next new p ps (Err e) h w = record {
   done = p ∷ w.done;
   next = w.next;
-  rest = w.rest;
   pieces_are = ap (λ (z : List Piece). p ∷ z) w.pieces_are;
   pushed = spells_first old next new p w.done h w.pushed;
   refused = w.refused;
 }
 
-push_refused : (old new : Stream) (p : Piece) (ps : List Piece) (e : QrError) → new ≡ old → IsRefused old p e → StopsAt old new (p ∷ ps) e
-push_refused old new p ps e same why = subst (λ (s : Stream). StopsAt old s (p ∷ ps) e) (sym same) (record {
+push_refused : (old new : Stream) (p : Piece) (e : QrError) → new ≡ old → IsRefused old p e → StopsAt old new (p ∷ []) [] e
+push_refused old new p e same why = subst (λ (s : Stream). StopsAt old s (p ∷ []) [] e) (sym same) (record {
   done = [];
   next = p;
-  rest = ps;
   pieces_are = refl;
   pushed = spells_none old;
   refused = why;
@@ -66,27 +64,27 @@ push_refused old new p ps e same why = subst (λ (s : Stream). StopsAt old s (p 
 
 -- ---- In turn
 
--- One push after the other, up to the first that is refused.
+-- One push after the other, of which only the last may be refused.
 abbrev pub PushesInTurn : Stream → List Piece → Result Unit QrError → Stream → Type 0
 PushesInTurn old [] result new = (result ≡ Ok tt) × (new ≡ old)
 PushesInTurn old (piece ∷ rest) result new =
     ((next : Stream) × Spells old next piece × PushesInTurn next rest result new)
-    ⊎ ((e : QrError) × (result ≡ Err e) × IsRefused old piece e × (new ≡ old))
+    ⊎ ((e : QrError) × (result ≡ Err e) × IsRefused old piece e × (new ≡ old) × (rest ≡ []))
 
-pub in_turn : (old new : Stream) (ps : List Piece) (result : Result Unit QrError) → PushesInTurn old ps result new → PushesPieces old ps result new
+pub in_turn : (old new : Stream) (ps : List Piece) (result : Result Unit QrError) → PushesInTurn old ps result new → PushesDrawn old ps result new
 in_turn old new [] result h =
-    subst (λ (r : Result Unit QrError). PushesPieces old [] r new) (sym h.0) (subst (λ (s : Stream). SpellsAll old s []) (sym h.1) (spells_none old))
+    subst (λ (r : Result Unit QrError). PushesDrawn old [] r new) (sym h.0) (subst (λ (s : Stream). SpellsAll old s []) (sym h.1) (spells_none old))
 in_turn old new (p ∷ ps) result (inl w) = push_first old w.0 new p ps result w.1 (in_turn w.0 new ps result w.2)
 in_turn old new (p ∷ ps) result (inr w) =
-    subst (λ (r : Result Unit QrError). PushesPieces old (p ∷ ps) r new) (sym w.1) (push_refused old new p ps w.0 w.3 w.2)
+    subst (λ (z : List Piece). PushesDrawn old (p ∷ z) result new) (sym w.4)
+    (subst (λ (r : Result Unit QrError). PushesDrawn old (p ∷ []) r new) (sym w.1) (push_refused old new p w.0 w.3 w.2))
 
--- what stops a beginning of some pieces stops them all
-pub stops_longer : (old new : Stream) (ps qs : List Piece) (e : QrError) → StopsAt old new ps e → StopsAt old new (ps ++ qs) e
+-- what stops at the last of some pieces stops in a longer list too
+pub stops_longer : (old new : Stream) (ps qs : List Piece) (e : QrError) → StopsAt old new ps [] e → StopsAt old new (ps ++ qs) qs e
 stops_longer old new ps qs e w = record {
   done = w.done;
   next = w.next;
-  rest = w.rest ++ qs;
-  pieces_are = ap (λ (z : List Piece). z ++ qs) w.pieces_are ∙ append_assoc w.done (w.next ∷ w.rest) qs;
+  pieces_are = ap (λ (z : List Piece). z ++ qs) w.pieces_are ∙ append_assoc w.done (w.next ∷ []) qs;
   pushed = w.pushed;
   refused = w.refused;
 }

@@ -239,7 +239,10 @@ fn parse(alloc: Global, bytes: &[u8]) -> QrResult<Vec<Segment>>
     ensures parsed { IfOk result (λ segments. segments.items ≡ parsed bytes.now) }
     ensures memory { IfErr result (λ e. e ≡ QrError.OutOfMemory) }
 {
-    let segments: Vec<Segment> = Parser::new(bytes).collect(alloc)?;
+    let mut segments = Vec::new(alloc);
+    for segment in Parser::new(bytes) {
+        segments.push(segment)?;
+    }
     Ok(segments)
 }
 

@@ -37,7 +37,7 @@ impl EncodingMode for Careless {
 
     const MODE: Mode = Mode::Numeric;
 
-    ghost answers = { λ _ first. first ≡ None };
+    ghost finding = { λ _. None };
 
     fn invalid_character(_bytes: &[u8]) -> Option<(usize, u8)> {
         None
@@ -55,7 +55,7 @@ impl EncodingMode for Stubborn {
 
     const MODE: Mode = Mode::Byte;
 
-    ghost answers = { λ _ first. first ≡ Some (9, 122) };
+    ghost finding = { λ _. Some (9, 122) };
 
     fn invalid_character(_bytes: &[u8]) -> Option<(usize, u8)> {
         Some((9, 0x7a))

@@ -21,7 +21,7 @@ returns-in-Err-clause-memory c =
     let stopped = pushes_all c.copied.result c.args.plan.now (YieldsList-from_copied (YieldsList-from_slice c.args.plan.now (search rules)))
     c.in-Ok.bits c.push_segments.new.self c.args.bytes.now p.0 (Err c.in-Err.error) p.1 p.2 in
     plan_stop c.args.header.now c.args.bytes.now (bytes_valid c.args.bytes.now (λ i. omega (arith, c.type_inv.bytes i))) c.args.version c.args.level c.args.plan.now c.requires.fits
-    c.in-Ok.bits c.in-Ok.ensures.bits c.in-Ok.ensures.version c.push_segments.new.self c.in-Err.error stopped
+    c.in-Ok.bits c.in-Ok.ensures.bits c.in-Ok.ensures.version c.push_segments.new.self c.in-Err.error stopped.0 stopped.1
 
 pub returns-in-Err-push_terminator-clause-memory : goal.returns-in-Err-push_terminator-clause-memory
 returns-in-Err-push_terminator-clause-memory c =
