@@ -1,0 +1,102 @@
+-- The functional modules of a symbol are as many as the cells for which `is_functional` holds.
+use Rattle.std.proofs.Common.{◌≡◌, ℕ, pos, negsuc, zero, suc, ◌<◌, ◌≤◌, ◌+◌, ◌-◌, ◌*◌, ◌/◌, ap, ◌∙◌, sym, refl, arith, cond, Bool, true, false, not, length, nat_le, ◌&&◌}
+use Rattle.std.proofs.lemmas.Bool.Decides.{nat_tests}
+use Rattle.std.proofs.lemmas.List.Sums.{length-filter}
+use Rattle.qrcode_base.specs.declared.types.Version.{Version}
+use Rattle.qrcode_base.specs.declared.types.Version.TheVariants.{Normal, Micro}
+use Rattle.qrcode_base.specs.Symbols.{IsVersion, width_of}
+use Rattle.qrcode_grid.specs.Counts.{functional_cells}
+use Rattle.qrcode_grid.specs.Regions.{is_functional_cell, is_functional_at, is_in_bare_area}
+use Rattle.qrcode_grid.specs.Sums.{sum_below as total}
+use Rattle.qrcode_grid.specs.Walk.{data_cells, walk, walk_column, numbered_cell, timing_column}
+use Rattle.qrcode_grid.proofs.DrawnSymbols.{odd_width, timing_inside}
+use Rattle.qrcode_grid.proofs.Totals.{total-cong, total-walk, count_by-total}
+
+-- a sum by pairs
+total-pairs : (f : ℕ → ℕ) (h : ℕ) → total (λ p. f (2 * p) + f (2 * p + 1)) h ≡ total f (2 * h)
+total-pairs f zero = refl
+total-pairs f (suc h) =
+    let twice : 2 * suc h ≡ suc (suc (2 * h)) = omega arith in
+    let next : 2 * h + 1 ≡ suc (2 * h) = omega arith in
+    sym (ap (total f) twice ∙ omega (arith, total-pairs f h, ap f next))
+
+-- the columns that the walk comes to before it passes the timing column
+after_timing : (f : ℕ → ℕ) (w t m : ℕ) → m + t < w → total f (w - m) + total (λ d. f (walk_column w t d)) m ≡ total f w
+after_timing f w t zero h = let all : w - 0 ≡ w = omega arith in omega (arith, ap (total f) all)
+after_timing f w t (suc m) h =
+    let column : walk_column w t m ≡ w - suc m = grind (arith, nat_tests) in
+    let before : w - m ≡ suc (w - suc m) = omega arith in
+    omega (arith, after_timing f w t m (omega arith), ap f column, ap (total f) before)
+
+-- and all its columns, with the timing column
+around_timing : (f : ℕ → ℕ) (w t k : ℕ) → t < w → k ≤ t → total f (t - k) + f t + total (λ d. f (walk_column w t d)) (w - 1 - t + k) ≡ total f w
+around_timing f w t zero low h =
+    let left : w - (w - 1 - t) ≡ suc t = omega arith in
+    let first : t - 0 ≡ t = omega arith in
+    let same : w - 1 - t + 0 ≡ w - 1 - t = omega arith in
+    omega (arith, after_timing f w t (w - 1 - t) (omega arith), ap (total f) left, ap (total f) first, ap (total (λ d. f (walk_column w t d))) same)
+around_timing f w t (suc k) low h =
+    let column : walk_column w t (w - 1 - t + k) ≡ t - suc k = grind (arith, nat_tests) in
+    let before : t - k ≡ suc (t - suc k) = omega arith in
+    let more : w - 1 - t + suc k ≡ suc (w - 1 - t + k) = omega arith in
+    omega (arith, around_timing f w t k low (omega arith), ap f column, ap (total f) before, ap (total (λ d. f (walk_column w t d))) more)
+
+-- the sum over the pairs of columns, and the timing column
+total-columns : (f : ℕ → ℕ) (w t h : ℕ) → w ≡ 2 * h + 1 → t < w → total (λ p. f (walk_column w t (2 * p)) + f (walk_column w t (2 * p + 1))) h + f t ≡ total f w
+total-columns f w t h odd low =
+    let none : t - t ≡ 0 = omega arith in
+    let whole : w - 1 - t + t ≡ 2 * h = omega arith in
+    omega (arith, total-pairs (λ d. f (walk_column w t d)) h, around_timing f w t t low (omega arith), ap (total f) none, ap (total (λ d. f (walk_column w t d))) whole)
+
+-- those that pass a test and those that do not are all
+total-both : (p : ℕ → Bool) (n : ℕ) → total (λ k. cond (p k) 1 0) n + total (λ k. cond (not (p k)) 1 0) n ≡ n
+total-both p zero = refl
+total-both p (suc n) = step (p n) (total-both p n)
+  where
+    step : (b : Bool) → total (λ k. cond (p k) 1 0) n + total (λ k. cond (not (p k)) 1 0) n ≡ n →
+        total (λ k. cond (p k) 1 0) n + cond b 1 0 + (total (λ k. cond (not (p k)) 1 0) n + cond (not b) 1 0) ≡ suc n
+    step true e = omega (arith, e)
+    step false e = omega (arith, e)
+
+total-rows : (f g : ℕ → ℕ) (w n : ℕ) → ((x : ℕ) → x < n → f x + g x ≡ w) → total f n + total g n ≡ n * w
+total-rows f g w zero h = omega arith
+total-rows f g w (suc n) h = omega (arith, total-rows f g w n (λ x l. h x (omega arith)), h n (omega arith))
+
+total-none : (f : ℕ → ℕ) (n : ℕ) → ((k : ℕ) → f k ≡ 0) → total f n ≡ 0
+total-none f zero h = refl
+total-none f (suc n) h = omega (arith, total-none f n h, h n)
+
+-- where the version is one of the 44, both tests are the same
+same_test : (version : Version) (x y : ℕ) → IsVersion version → is_functional_at version (width_of version) x y ≡ is_functional_cell version x y
+same_test (Normal (pos n)) x y h =
+    let low : nat_le 1 n ≡ true = grind (arith, nat_tests, h.0) in
+    let high : nat_le n 40 ≡ true = grind (arith, nat_tests, h.1) in
+    ap (λ b. cond (b && nat_le n 40) (is_functional_cell (Normal (pos n)) x y) (is_in_bare_area (4 * n + 17) x y)) low
+    ∙ ap (λ b. cond b (is_functional_cell (Normal (pos n)) x y) (is_in_bare_area (4 * n + 17) x y)) high
+same_test (Normal (negsuc n)) x y h = absurd h
+same_test (Micro (pos n)) x y h = refl
+same_test (Micro (negsuc n)) x y h = absurd h
+
+on_timing : (version : Version) (y : ℕ) → IsVersion version → is_functional_cell version (timing_column version) y ≡ true
+on_timing (Normal (pos n)) y h = refl
+on_timing (Normal (negsuc n)) y h = absurd h
+on_timing (Micro (pos n)) y h = refl
+on_timing (Micro (negsuc n)) y h = absurd h
+
+-- The cells for which `is_functional` holds, and the data cells, are all cells.
+pub functional_cells-data_cells : (version : Version) → IsVersion version → functional_cells version + length (data_cells version) ≡ width_of version * width_of version
+functional_cells-data_cells version canonical =
+    let w = width_of version in let t = timing_column version in
+    let odd = odd_width version canonical in
+    let few : ℕ → ℕ = λ x. total (λ y. cond (not (is_functional_cell version x y)) 1 0) w in
+    let walked : length (data_cells version) ≡ total (λ p. few (walk_column w t (2 * p)) + few (walk_column w t (2 * p + 1))) (w / 2) =
+    length-filter (λ c. not (is_functional_cell version c.0 c.1)) (walk version)
+    ∙ count_by-total (λ c. not (is_functional_cell version c.0 c.1)) (numbered_cell w t) (w * (w - 1))
+    ∙ total-walk (λ x y. cond (not (is_functional_cell version x y)) 1 0) w (w / 2) t odd in
+    let timing : few t ≡ 0 = total-none _ w (λ y. ap (λ b. cond (not b) 1 0) (on_timing version y canonical)) in
+    let columns = total-columns few w t (w / 2) odd (timing_inside version canonical) in
+    let all : functional_cells version + total few w ≡ w * w =
+    total-rows _ few w w (λ x l.
+    ap (λ n. n + few x) (total-cong _ (λ y. cond (is_functional_cell version x y) 1 0) w (λ y m. ap (λ b. cond b 1 0) (same_test version x y canonical)))
+    ∙ total-both (is_functional_cell version x) w) in
+    omega (arith, walked, timing, columns, all)

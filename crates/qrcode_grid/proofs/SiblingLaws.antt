@@ -1,0 +1,124 @@
+-- What the siblings of a grid are: the law over any grid with the functional colours of its symbol.
+use Rattle.std.proofs.Common.{◌≡◌, ℕ, zero, suc, ◌<◌, ◌≤◌, ◌+◌, ◌-◌, ◌*◌, ◌/◌, ◌%◌, ap, ◌∙◌, sym, refl, arith, cond, Bool, true, false, not, List, ◌∷◌, map, filter, length, get_or, Some, None, Option, unwrap_or, subst}
+use Rattle.std.specs.List.{range_with_len}
+use Rattle.std.proofs.lemmas.Bool.{false≢true}
+use Rattle.std.proofs.lemmas.Nat.{mul-add-lt}
+use Rattle.std.proofs.lemmas.Option.{slice_get-get_or, get_or_from_slice_get}
+use Rattle.qrcode_base.specs.declared.types.Color.{Color}
+use Rattle.qrcode_base.specs.declared.types.Color.TheVariants.{Light, Dark}
+use Rattle.qrcode_base.specs.declared.types.EcLevel.{EcLevel}
+use Rattle.qrcode_base.specs.declared.types.Version.{Version}
+use Rattle.qrcode_base.specs.Symbols.{IsVersion, width_of}
+use Rattle.qrcode_grid.specs.declared.canvas.MaskPattern.{MaskPattern}
+use Rattle.qrcode_grid.specs.Cells.{map_cells, color_in}
+use Rattle.qrcode_grid.specs.Masks.{format_word, inverted_if, is_inverted, raw_colors, sibling}
+use Rattle.qrcode_grid.specs.Regions.{functional_color, is_functional_cell}
+use Rattle.qrcode_grid.specs.Siblings.{HasItsSiblings}
+use Rattle.qrcode_grid.specs.Symbol.{HasFunctionalColors}
+use Rattle.qrcode_grid.specs.Walk.{numbered_cell, timing_column}
+use Rattle.qrcode_grid.proofs.Areas.{is_some-functional_color}
+use Rattle.qrcode_grid.proofs.CellSteps.{length-map_places, get_or-map_places, at_place, cells_are}
+use Rattle.qrcode_grid.proofs.Drawn.{none_of}
+use Rattle.qrcode_grid.proofs.DrawnSymbols.{odd_width, timing_inside}
+use Rattle.qrcode_grid.proofs.WalkLaws.{numbered_cell_inside}
+
+twice : (b : Bool) (c : Color) → inverted_if b (inverted_if b c) ≡ c
+twice true Light = refl
+twice true Dark = refl
+twice false c = refl
+
+-- cells that pass a test are mapped alike where both functions agree on them
+map-passing : {X Y : Type 0} (p : X → Bool) (f g : X → Y) (at : ℕ → X) (a n : ℕ) →
+    ((k : ℕ) → a ≤ k → k < a + n → p (at k) ≡ true → f (at k) ≡ g (at k)) →
+    map f (filter p (map at (range_with_len a n))) ≡ map g (filter p (map at (range_with_len a n)))
+map-passing p f g at a zero same = refl
+map-passing p f g at a (suc n) same =
+    step (p (at a)) (same a (omega arith) (omega arith)) (map-passing p f g at (a + 1) n (λ k low high. same k (omega arith) (omega arith)))
+  where
+    step : (b : Bool) → (b ≡ true → f (at a) ≡ g (at a)) →
+        map f (filter p (map at (range_with_len (a + 1) n))) ≡ map g (filter p (map at (range_with_len (a + 1) n))) →
+        map f (cond b (at a ∷ filter p (map at (range_with_len (a + 1) n))) (filter p (map at (range_with_len (a + 1) n)))) ≡
+        map g (cond b (at a ∷ filter p (map at (range_with_len (a + 1) n))) (filter p (map at (range_with_len (a + 1) n))))
+    step true here rest = ap (λ y. y ∷ map f (filter p (map at (range_with_len (a + 1) n)))) (here refl) ∙ ap (λ l. g (at a) ∷ l) rest
+    step false here rest = rest
+
+not_functional : (b : Bool) → not b ≡ true → b ≡ false
+not_functional true e = absurd (false≢true e)
+not_functional false e = refl
+
+cell_at-map_cells : {X : Type 0} (w : ℕ) (f : ℕ → ℕ → X → X) (xs : List X) (d : X) (x y : ℕ) → length xs ≡ w * w → x < w → y < w →
+    get_or (map_cells w f xs) (y * w + x) d ≡ f x y (get_or xs (y * w + x) d)
+cell_at-map_cells w f xs d x y square l m =
+    let i = y * w + x in
+    let inside : i < length xs = subst (λ (n : ℕ). y * w + x < n) (sym square) (mul-add-lt y w x w m l) in
+    let from : 0 + (y * w + x) ≡ y * w + x = omega arith in
+    get_or-map_places (λ i c. f (i % w) (i / w) c) 0 xs i d inside
+    ∙ ap (λ j. f (j % w) (j / w) (get_or xs i d)) from
+    ∙ sym (at_place (λ u v. f u v (get_or xs i d)) w x y i l refl)
+
+-- the colour of a cell of a sibling
+abbrev sibling_color : Version → EcLevel → MaskPattern → MaskPattern → ℕ → ℕ → Color → Color
+sibling_color version level pattern other x y c =
+    unwrap_or (functional_color version (format_word version level other) x y) (inverted_if (is_inverted other x y) (inverted_if (is_inverted pattern x y) c))
+
+module _ (version : Version) (level : EcLevel) (pattern : MaskPattern) (colors : List Color) (canonical : IsVersion version)
+    (square : length colors ≡ width_of version * width_of version) (drawn : HasFunctionalColors version level pattern colors) where
+  sibling_at : (other : MaskPattern) (x y : ℕ) → x < width_of version → y < width_of version →
+      color_in (width_of version) (sibling version level pattern other colors) x y ≡ sibling_color version level pattern other x y (color_in (width_of version) colors x y)
+  sibling_at other x y l m = cell_at-map_cells (width_of version) (sibling_color version level pattern other) colors Light x y square l m
+
+  size : (other : MaskPattern) → length (sibling version level pattern other colors) ≡ length colors
+  size other = length-map_places _ 0 colors
+
+  functional : (other : MaskPattern) → HasFunctionalColors version level other (sibling version level pattern other colors)
+  functional other = λ x y c l m e.
+      let w = width_of version in
+      let inside : y * w + x < length (sibling version level pattern other colors) = subst (λ (n : ℕ). y * w + x < n) (sym (size other ∙ square)) (mul-add-lt y w x w m l) in
+      slice_get-get_or (sibling version level pattern other colors) (y * w + x) Light inside
+      ∙ ap Some (sibling_at other x y l m ∙ ap (λ o. unwrap_or o (inverted_if (is_inverted other x y) (inverted_if (is_inverted pattern x y) (color_in w colors x y)))) e)
+
+  data_at : (other : MaskPattern) (x y : ℕ) → x < width_of version → y < width_of version → is_functional_cell version x y ≡ false →
+      inverted_if (is_inverted other x y) (color_in (width_of version) (sibling version level pattern other colors) x y) ≡
+      inverted_if (is_inverted pattern x y) (color_in (width_of version) colors x y)
+  data_at other x y l m not_in =
+      let c = color_in (width_of version) colors x y in
+      let none = none_of (functional_color version (format_word version level other) x y) (is_some-functional_color version (format_word version level other) x y canonical l m ∙ not_in) in
+      ap (inverted_if (is_inverted other x y)) (sibling_at other x y l m ∙ ap (λ o. unwrap_or o (inverted_if (is_inverted other x y) (inverted_if (is_inverted pattern x y) c))) none)
+      ∙ twice (is_inverted other x y) (inverted_if (is_inverted pattern x y) c)
+
+  raw : (other : MaskPattern) → raw_colors version other (sibling version level pattern other colors) ≡ raw_colors version pattern colors
+  raw other =
+      let w = width_of version in let t = timing_column version in
+      map-passing (λ (c : ℕ × ℕ). not (is_functional_cell version c.0 c.1))
+      (λ c. inverted_if (is_inverted other c.0 c.1) (color_in w (sibling version level pattern other colors) c.0 c.1))
+      (λ c. inverted_if (is_inverted pattern c.0 c.1) (color_in w colors c.0 c.1))
+      (numbered_cell w t) 0 (w * (w - 1))
+      (λ k low high passes.
+      let at = numbered_cell_inside w (w / 2) t k (odd_width version canonical) (timing_inside version canonical) (omega arith) in
+      data_at other (numbered_cell w t k).0 (numbered_cell w t k).1 at.0 at.1 (not_functional _ passes))
+
+  itself : sibling version level pattern pattern colors ≡ colors
+  itself =
+      let w = width_of version in
+      sym (cells_are (sibling_color version level pattern pattern) w colors colors Light refl square
+      (λ x y l m. same x y l m (functional_color version (format_word version level pattern) x y) refl))
+    where
+      same : (x y : ℕ) → x < width_of version → y < width_of version → (o : Option Color) → functional_color version (format_word version level pattern) x y ≡ o →
+          color_in (width_of version) colors x y ≡ sibling_color version level pattern pattern x y (color_in (width_of version) colors x y)
+      same x y l m None e =
+          let c = color_in (width_of version) colors x y in
+          sym (ap (λ o. unwrap_or o (inverted_if (is_inverted pattern x y) (inverted_if (is_inverted pattern x y) c))) e ∙ twice (is_inverted pattern x y) c)
+      same x y l m (Some d) e =
+          let c = color_in (width_of version) colors x y in
+          get_or_from_slice_get colors (y * width_of version + x) d Light (drawn x y d l m e)
+          ∙ sym (ap (λ o. unwrap_or o (inverted_if (is_inverted pattern x y) (inverted_if (is_inverted pattern x y) c))) e)
+
+-- The siblings of a grid with the functional colours of its symbol.
+pub siblings : (version : Version) (level : EcLevel) (pattern : MaskPattern) (colors : List Color) → IsVersion version →
+    length colors ≡ width_of version * width_of version → HasFunctionalColors version level pattern colors → HasItsSiblings version level pattern colors
+siblings version level pattern colors canonical square drawn = record {
+  size = size version level pattern colors canonical square drawn;
+  raw = raw version level pattern colors canonical square drawn;
+  functional = functional version level pattern colors canonical square drawn;
+  itself = itself version level pattern colors canonical square drawn;
+}

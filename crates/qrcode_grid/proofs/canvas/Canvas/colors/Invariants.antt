@@ -1,0 +1,6 @@
+use Rattle.std.proofs.Common.{◌≡◌, map, take}
+use Rattle.qrcode_grid.specs.Canvas.{color_of_module}
+use Rattle.qrcode_grid.proofs.canvas.Canvas.colors.Given as goal
+
+abbrev pub invariant-loop-module : goal.invariant-loop-module
+invariant-loop-module l = l.colors.items ≡ map color_of_module (take l.module-index l.self.modules)
