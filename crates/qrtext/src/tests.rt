@@ -250,13 +250,13 @@ fn runs(rt: HostRuntime) -> Result<(), Fail> {
 }
 
 /// A writer that keeps what it is given, up to `calls` calls, and then fails.
-fn bearing(kept: &mut Vec<u8>, calls: usize) -> FromWriter<Narrow<'_>> {
-    FromWriter::new(Narrow {
+fn bearing(kept: &mut Vec<u8>, calls: usize) -> Narrow<'_> {
+    Narrow {
         kept,
         most: usize::MAX,
         calls_left: calls,
         then: Then::Fails(ErrorKind::Other),
-    })
+    }
 }
 
 /// Each device may fail, the one for errors too: how many calls the reader, the writer and that one bear, the words, and then
@@ -281,8 +281,8 @@ fn runs_with_devices_that_fail(rt: HostRuntime) -> Result<(), Fail> {
             calls_left: reads,
             kind: ErrorKind::Other,
         });
-        let mut writer = bearing(&mut text, writes);
-        let mut errors = bearing(&mut said, tells);
+        let mut writer = FromWriter::new(bearing(&mut text, writes));
+        let mut errors = FromWriter::new(bearing(&mut said, tells));
         let answer = run(rt.alloc(), words, &mut reader, &mut writer, &mut errors);
         assert_eq!(rt; answer, status, "{reads} {writes} {tells}");
         let read_failed = status == 1 && reads < 9;

@@ -39,7 +39,9 @@ fn registrations(registry: &PluginRegistry) -> [bool; 5] {
 }
 
 /// Names for renderers that are there before.
-const EARLIER: [&str; 12] = ["a", "b", "c", "d", "e", "g", "h", "i", "j", "k", "l", "m"];
+const EARLIER: [&str; 16] = [
+    "a", "b", "c", "d", "e", "g", "h", "i", "j", "k", "l", "m", "n", "o", "p", "q",
+];
 
 /// How many registrations of the plugin there are after it was registered where some renderers were there: 5, or the first so
 /// many where a growth was refused.
