@@ -176,6 +176,79 @@ fn parsed_segments(rt: HostRuntime) -> QrResult<()> {
     Ok(())
 }
 
+/// Segments of texts in UTF-8, as the original crate cuts them: bytes of one character can be pairs of the Kanji mode.
+#[test]
+fn parsed_utf_8(rt: HostRuntime) -> QrResult<()> {
+    let text = "\u{20ac}50 Z\u{fc}rich 2024";
+    let all: Vec<Segment> = Parser::new(text.as_bytes()).collect(rt.alloc())?;
+    let wanted = [
+        segment(Mode::Kanji, 0, 2),
+        segment(Mode::Byte, 2, 3),
+        segment(Mode::Numeric, 3, 5),
+        segment(Mode::Alphanumeric, 5, 7),
+        segment(Mode::Byte, 7, 13),
+        segment(Mode::Alphanumeric, 13, 14),
+        segment(Mode::Numeric, 14, 18),
+    ];
+    assert!(rt; all.as_slice() == wanted.as_slice());
+    let text = "\u{1f600}A1";
+    let all: Vec<Segment> = Parser::new(text.as_bytes()).collect(rt.alloc())?;
+    let wanted = [
+        segment(Mode::Byte, 0, 1),
+        segment(Mode::Kanji, 1, 3),
+        segment(Mode::Byte, 3, 4),
+        segment(Mode::Alphanumeric, 4, 5),
+        segment(Mode::Numeric, 5, 6),
+    ];
+    assert!(rt; all.as_slice() == wanted.as_slice());
+    Ok(())
+}
+
+/// The chosen plan with a count of the caller's.
+fn counted<L: Ledger>(
+    alloc: Global,
+    segments: &[Segment],
+    version: Version,
+    blank: Blank,
+) -> QrResult<Vec<Segment>>
+    requires micro { HasMicroNumber version }
+    requires linear { 2 ≤ length segments.now → HasLinearCosts segments.now version }
+    requires name { blank.name ≡ L.name }
+    requires parts { blank.parts ≡ L.parts }
+    requires part { 0 < L.parts }
+{
+    let mut comparisons: Comparisons<L> = Comparisons::new(blank);
+    optimize_counted(alloc, segments, version, &mut comparisons)
+}
+
+/// The same, with a count that is let go.
+fn plan_by_count(alloc: Global, segments: &[Segment], version: Version) -> QrResult<Vec<Segment>>
+    requires micro { HasMicroNumber version }
+    requires linear { 2 ≤ length segments.now → HasLinearCosts segments.now version }
+{
+    counted::<Brand>(alloc, segments, version, Blank::new(1))
+}
+
+#[test]
+fn counted_plans(rt: HostRuntime) -> QrResult<()> {
+    let segments = [
+        segment(Mode::Numeric, 0, 7),
+        segment(Mode::Alphanumeric, 7, 8),
+        segment(Mode::Numeric, 8, 15),
+    ];
+    if !supports_linear_costs(&segments, ONE) {
+        return Err(QrError::DataTooLong);
+    }
+    let plan = plan_by_count(rt.alloc(), &segments, ONE)?;
+    let wanted = [
+        segment(Mode::Alphanumeric, 0, 8),
+        segment(Mode::Numeric, 8, 15),
+    ];
+    assert!(rt; plan.as_slice() == wanted.as_slice());
+    assert_eq!(rt; bits_of(&plan, ONE), 95);
+    Ok(())
+}
+
 // ---- Both bodies
 
 fn version_of(case: usize) -> Version
