@@ -17,10 +17,5 @@ one_origin_of b p errors usable is = λ one content damaged other len len' len''
 pub returns-clause-one_origin : goal.returns-clause-one_origin
 returns-clause-one_origin c =
     let b = c.in-Some.layout in
-    let errors : ℕ = (c.from-3.result * (c.from.result + c.from-2.result) - c.protection_of.result) / 2 in
-    let is : errors ≡ (b.correction * block_count b - c.protection_of.result) / 2 =
-    ap (λ n. (n * (c.from.result + c.from-2.result) - c.protection_of.result) / 2) c.from-3.ensures
-    ∙ ap (λ n. (b.correction * (n + c.from-2.result) - c.protection_of.result) / 2) c.from.ensures
-    ∙ ap (λ n. (b.correction * (b.first_count + n) - c.protection_of.result) / 2) c.from-2.ensures in
-    subst (λ (o : Option BlockLayout). IfSome o (HasOneOrigin errors)) c.in-Some.ensures
-    (one_origin_of b c.protection_of.result errors (IsUsable-of_symbol c.args.version c.args.ec_level b (sym c.in-Some.ensures)) is)
+    subst (λ (o : Option BlockLayout). IfSome o (HasOneOrigin c.errors_of.result)) c.in-Some.ensures
+    (one_origin_of b c.protection_of.result c.errors_of.result (IsUsable-of_symbol c.args.version c.args.ec_level b (sym c.in-Some.ensures)) c.errors_of.ensures)
