@@ -1,0 +1,5 @@
+//! The penalties of eight candidates at once.
+mod counting;
+mod features;
+mod planes;
+mod tally;
