@@ -1,5 +1,5 @@
 -- Eight candidates in one list of bytes, a byte a module: bit m is the colour in candidate m.
-use Rattle.std.specs.Prelude.{ℕ, ◌+◌, ◌*◌, ◌<◌, ◌≡◌, ◌==◌, ◌&&◌, ◌||◌, Bool, if◌then◌else◌, List, map, length, slice_index}
+use Rattle.std.specs.Prelude.{ℕ, ◌+◌, ◌*◌, ◌<◌, ◌≡◌, ◌==◌, ◌&&◌, ◌||◌, Bool, if◌then◌else◌, ◌≤◌, List, map, length, slice_index, slice_range}
 use Rattle.std.specs.Int.{bit_at}
 use Rattle.qrcode_grid.specs.declared.canvas.scoring.planes.Planes.{Planes}
 use Rattle.qrcode_grid.specs.declared.canvas.scoring.features.Feature.{Feature}
@@ -70,3 +70,13 @@ reach Six w = 5 * w
 reach Finder w = 14 * w
 reach Square w = w + 1
 reach Dark w = 0
+
+-- A grid of width w stands in a list: four light rows, the grid, and light modules to the end.
+pub record IsPadded (w : ℕ) (padded : List ℕ) : Type 0 where
+  pub whole : length padded ≡ w * w + 20 * w + 16
+  pub before : (k : ℕ) → k < 4 * w → slice_index padded k ≡ 0
+  pub after : (k : ℕ) → 4 * w + w * w ≤ k → slice_index padded k ≡ 0
+
+-- the grid in such a list
+abbrev pub grid_in : ℕ → List ℕ → List ℕ
+grid_in w padded = slice_range padded (4 * w) (4 * w + w * w)

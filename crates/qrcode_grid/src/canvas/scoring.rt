@@ -3,3 +3,4 @@ mod counting;
 mod features;
 mod planes;
 mod tally;
+mod penalties;

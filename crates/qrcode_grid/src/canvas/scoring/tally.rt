@@ -59,7 +59,8 @@ pub fn count(feature: Feature, bytes: &[u8], width: usize, bound: usize) -> [usi
     requires wide { width ≤ 177 }
     requires few { bound ≤ 40000 }
     requires within { bound + reach feature width + 16 ≤ length bytes.now }
-    ensures { (m : ℕ) → m < 8 → slice_index result m ≡ count_below (has feature width (plane m bytes.now)) bound }
+    ensures is { (m : ℕ) → m < 8 → slice_index result m ≡ count_below (has feature width (plane m bytes.now)) bound }
+    ensures small { (m : ℕ) → m < 8 → slice_index result m ≤ bound }
 {
     let mut planes = no_bits();
     let mut sums = [0; 8];
