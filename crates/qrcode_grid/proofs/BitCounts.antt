@@ -70,7 +70,7 @@ three_rows a b c la lb lc m =
     (sum_at a b c la lb lc m)
 
 -- a count of a list is a sum over its places
-count_as_sum : (p : ℕ → Bool) (xs : List ℕ) (n : ℕ) → length xs ≡ n → count_by p xs ≡ sum_below (λ j. cond (p (get_or xs j 0)) 1 0) n
+pub count_as_sum : (p : ℕ → Bool) (xs : List ℕ) (n : ℕ) → length xs ≡ n → count_by p xs ≡ sum_below (λ j. cond (p (get_or xs j 0)) 1 0) n
 count_as_sum p xs n l = ap (count_by p) (sym (pick_l_whole 0 xs n l)) ∙ count_by-total p (λ k. get_or xs k 0) n
 
 bit_cond : (b t : ℕ) → b < 2 → 0 < t → cond (b * t == t) 1 0 ≡ b
