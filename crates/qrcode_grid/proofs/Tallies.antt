@@ -15,7 +15,7 @@ below k n h = grind arith
 not_below : (k n : ℕ) → n ≤ k → ltb k n ≡ false
 not_below k n h = grind arith
 
-eqb_true : (a b : ℕ) → eqb a b ≡ true → a ≡ b
+pub eqb_true : (a b : ℕ) → eqb a b ≡ true → a ≡ b
 eqb_true a b h = grind arith
 
 -- marks are counted

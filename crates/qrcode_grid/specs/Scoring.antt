@@ -1,10 +1,17 @@
 -- Eight candidates in one list of bytes, a byte a module: bit m is the colour in candidate m.
-use Rattle.std.specs.Prelude.{ℕ, ◌+◌, ◌*◌, ◌<◌, ◌≡◌, ◌==◌, ◌&&◌, ◌||◌, Bool, if◌then◌else◌, ◌≤◌, List, map, length, slice_index, slice_range}
+use Rattle.std.specs.Prelude.{ℕ, ◌+◌, ◌*◌, ◌<◌, ◌≡◌, ◌==◌, ◌&&◌, ◌||◌, Bool, if◌then◌else◌, ◌≤◌, List, map, length, slice_index, slice_index_or, slice_range}
 use Rattle.std.specs.Int.{bit_at}
 use Rattle.qrcode_grid.specs.declared.canvas.scoring.planes.Planes.{Planes}
+use Rattle.qrcode_grid.specs.declared.canvas.MaskPattern.{MaskPattern}
+use Rattle.qrcode_grid.specs.declared.canvas.MaskPattern.TheVariants.{Checkerboard}
+use Rattle.qrcode_grid.specs.Masks.{normal_patterns}
 use Rattle.qrcode_grid.specs.declared.canvas.scoring.features.Feature.{Feature}
 use Rattle.qrcode_grid.specs.declared.canvas.scoring.features.Feature.TheVariants.{Five, Six, Finder, Square, Dark}
 use Rattle.qrcode_grid.specs.Sums.{sum_below}
+
+-- the mask with number m
+abbrev pub pattern_of : ℕ → MaskPattern
+pattern_of m = slice_index_or normal_patterns m Checkerboard
 
 -- candidate m
 abbrev pub plane : ℕ → List ℕ → List ℕ

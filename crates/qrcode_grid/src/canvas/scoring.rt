@@ -4,3 +4,5 @@ mod features;
 mod planes;
 mod tally;
 mod penalties;
+mod candidates;
+mod conditions;
