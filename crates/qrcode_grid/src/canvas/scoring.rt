@@ -11,6 +11,7 @@ mod candidates;
 mod conditions;
 mod counting;
 mod features;
+pub mod formats;
 mod penalties;
 mod planes;
 mod tally;
