@@ -1,5 +1,5 @@
 -- Squares and dark modules of a grid, counted over its places.
-use Rattle.std.proofs.Common.{◌≡◌, ℕ, zero, suc, ◌+◌, ◌-◌, ◌*◌, ◌%◌, ◌/◌, ◌<◌, ◌≤◌, ◌==◌, ◌&&◌, not, Bool, true, false, cond, List, length, take, drop, get_or, count_by, refl, ap, ◌∙◌, sym, arith}
+use Rattle.std.proofs.Common.{◌≡◌, ℕ, zero, suc, ◌+◌, ◌-◌, ◌*◌, ◌%◌, ◌/◌, ◌<◌, ◌≤◌, ◌==◌, ◌&&◌, Bool, cond, List, length, take, drop, get_or, count_by, refl, ap, ◌∙◌, sym, arith}
 use Rattle.std.specs.List.{range_with_len}
 use Rattle.std.specs.Int.{bit_at}
 use Rattle.std.proofs.Math.Nat.{mul-le-mul_right, add-mul}
@@ -11,10 +11,10 @@ use Rattle.qrcode_grid.specs.Scoring.{IsPadded, grid_in, plane, cell, has_square
 use Rattle.qrcode_grid.proofs.BitCounts.{count_as_sum}
 use Rattle.qrcode_grid.proofs.FlatSquares.{squares_of_grid}
 use Rattle.qrcode_grid.proofs.MarkedLanes.{plane_at, plane_small}
-use Rattle.qrcode_grid.proofs.PaddedGrids.{from_grid, grid_same, grid_at}
+use Rattle.qrcode_grid.proofs.PaddedGrids.{from_grid, grid_same}
 use Rattle.qrcode_grid.proofs.SquareLanes.{count_one_more}
 use Rattle.qrcode_grid.proofs.Tallies.{dark_again}
-use Rattle.qrcode_grid.proofs.Transposed.{sum_same_below, IsTransposed, cell_within}
+use Rattle.qrcode_grid.proofs.Transposed.{sum_same_below, IsTransposed}
 
 count_places : (p : ℕ → Bool) (n : ℕ) → count_by p (range_with_len 0 n) ≡ count_below p n
 count_places p zero = refl

@@ -1,11 +1,11 @@
 -- What is counted over the places of a grid is what its columns count.
-use Rattle.std.proofs.Common.{◌≡◌, ℕ, zero, suc, ◌+◌, ◌-◌, ◌*◌, ◌<◌, ◌≤◌, ◌==◌, ◌&&◌, ◌||◌, Bool, true, false, cond, List, length, get_or, refl, ap, ◌∙◌, sym, arith, inl, inr}
+use Rattle.std.proofs.Common.{◌≡◌, ℕ, zero, suc, ◌+◌, ◌-◌, ◌*◌, ◌<◌, ◌≤◌, ◌==◌, ◌&&◌, ◌||◌, Bool, cond, List, length, get_or, refl, ap, ◌∙◌, sym, arith, inl, inr}
 use Rattle.std.proofs.Math.Nat.{mul-le-mul_right, add-mul, mul-add}
 use Rattle.std.proofs.lemmas.Bool.{cases_lt}
 use Rattle.qrcode_grid.specs.Sums.{sum_below, count_below}
-use Rattle.qrcode_grid.specs.Penalty.{column, quiet, are_light, is_pattern, is_finder_like, runs_penalty, windows_penalty, line_penalty}
+use Rattle.qrcode_grid.specs.Penalty.{column, quiet, are_light, is_pattern, is_finder_like, runs_penalty, windows_penalty}
 use Rattle.qrcode_grid.specs.Scoring.{cell, is_same_below, has_five, has_six, is_quiet, has_finder}
-use Rattle.qrcode_grid.proofs.ColumnWindows.{length-column, get_or-column, column_past}
+use Rattle.qrcode_grid.proofs.Columns.{length-column, get_or-column, column_past}
 use Rattle.qrcode_grid.proofs.LongRuns.{same_of, five_of, six_of, alikes, fives_are, sixes_are, runs_by_alikes, and_same}
 use Rattle.qrcode_grid.proofs.Totals.{total-mul, total-plus}
 use Rattle.qrcode_grid.proofs.Transposed.{sum_same_below, cell_within}

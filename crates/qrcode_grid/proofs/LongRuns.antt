@@ -1,9 +1,9 @@
 -- The runs of a line, by its fives and sixes of one colour: a run of n modules, n at least 5, has n - 4 fives and n - 5 sixes.
-use Rattle.std.proofs.Common.{◌≡◌, ℕ, zero, suc, ◌+◌, ◌-◌, ◌*◌, ◌<◌, ◌≤◌, ◌==◌, ◌&&◌, Bool, true, false, cond, List, [], ◌∷◌, length, get_or, refl, ap, subst, ◌∙◌, sym, arith, inl, inr}
+use Rattle.std.proofs.Common.{◌≡◌, ℕ, zero, suc, ◌+◌, ◌-◌, ◌*◌, ◌≤◌, ◌==◌, ◌&&◌, Bool, true, false, cond, List, [], ◌∷◌, length, get_or, refl, ap, subst, ◌∙◌, sym, arith, inl, inr}
 use Rattle.std.specs.Prelude.{nat_le}
 use Rattle.std.specs.List.{prefix_len}
 use Rattle.std.proofs.lemmas.Bool.Decides.{eqb_tells}
-use Rattle.qrcode_grid.specs.Sums.{sum_below, count_below}
+use Rattle.qrcode_grid.specs.Sums.{count_below}
 use Rattle.qrcode_grid.specs.Penalty.{length_penalty, run_penalty, runs_penalty}
 use Rattle.qrcode_grid.proofs.Runs.{new_runs, later_runs, sum_first, sum_same}
 

@@ -1,4 +1,4 @@
-use Rattle.std.proofs.Common.{◌≡◌, ◌≢◌, ◌<◌, get_or, ◌∙◌, arith, below_more}
+use Rattle.std.proofs.Common.{◌≡◌, ◌≢◌, get_or, ◌∙◌, arith, below_more}
 use Rattle.std.specs.Int.{bit_at}
 use Rattle.qrcode_grid.specs.Lanes.{byte_of}
 use Rattle.qrcode_grid.specs.Words.{digit, digit_color}

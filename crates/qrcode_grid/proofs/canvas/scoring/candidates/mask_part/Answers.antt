@@ -1,4 +1,4 @@
-use Rattle.std.proofs.Common.{refl, ◌≡◌, ◌+◌, ◌<◌, ◌==◌, ◌≢◌, map, length, get_or, get_or-set_same, get_or-set_other, ap, ◌∙◌, sym, arith, below_more}
+use Rattle.std.proofs.Common.{refl, ◌+◌, ◌<◌, ◌==◌, ◌≢◌, length, get_or, get_or-set_same, get_or-set_other, ap, ◌∙◌, sym, arith, below_more}
 use Rattle.std.specs.Int.{bit_at}
 use Rattle.std.proofs.lemmas.List.{get_or-map}
 use Rattle.qrcode_grid.specs.declared.canvas.Module.TheVariants.{Empty}

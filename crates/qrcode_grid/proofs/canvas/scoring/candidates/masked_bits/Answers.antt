@@ -1,8 +1,7 @@
-use Rattle.std.proofs.Common.{◌≡◌, ◌+◌, ◌/◌, ◌%◌, ◌==◌, cond, min, ap, ◌∙◌}
+use Rattle.std.proofs.Common.{◌+◌, ◌/◌, ◌%◌, ◌==◌, cond, min, ap, ◌∙◌}
 use Rattle.std.specs.Int.{bit_at}
 use Rattle.std.specs.Int.Bits.{bit_and}
 use Rattle.std.proofs.lemmas.Nat.Bits.{bit_at-lt, bit_at_xor, bit_at_and}
-use Rattle.qrcode_grid.specs.Lanes.{code_of}
 use Rattle.qrcode_grid.proofs.Conditions.{bits_masked}
 use Rattle.qrcode_grid.proofs.canvas.scoring.candidates.masked_bits.Goals as goal
 

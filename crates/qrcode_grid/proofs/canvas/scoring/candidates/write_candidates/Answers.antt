@@ -1,5 +1,4 @@
-use Rattle.std.proofs.Common.{◌≡◌, ◌+◌, ◌*◌, ◌/◌, ◌%◌, ◌<◌, ◌≤◌, ◌==◌, map, length, get_or, ap, ◌∙◌, sym, refl, arith, inl, inr}
-use Rattle.std.specs.Int.{bit_at}
+use Rattle.std.proofs.Common.{◌≡◌, ◌+◌, ◌*◌, ◌/◌, ◌%◌, ◌<◌, map, length, get_or, ap, ◌∙◌, sym, refl, arith, inl, inr}
 use Rattle.std.proofs.Math.Nat.{mul-le-mul_right}
 use Rattle.std.proofs.lemmas.Bool.{cases_lt}
 use Rattle.std.proofs.lemmas.List.{length-map}
@@ -9,7 +8,7 @@ use Rattle.qrcode_grid.specs.Scoring.{plane, pattern_of}
 use Rattle.qrcode_grid.proofs.Conditions.{set_again}
 use Rattle.qrcode_grid.proofs.EightSquares.{length-plane}
 use Rattle.qrcode_grid.proofs.MarkedLanes.{plane_at}
-use Rattle.qrcode_grid.proofs.MaskedCodes.{candidate_is, candidate_byte}
+use Rattle.qrcode_grid.proofs.MaskedCodes.{candidate_is}
 use Rattle.qrcode_grid.proofs.Stripes.{is_inverted-repeats_rows}
 use Rattle.qrcode_grid.proofs.canvas.scoring.candidates.write_candidates.Goals as goal
 

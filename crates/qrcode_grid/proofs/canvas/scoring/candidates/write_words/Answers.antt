@@ -1,4 +1,4 @@
-use Rattle.std.proofs.Common.{◌≡◌, ◌-◌, ◌+◌, ◌*◌, ◌<◌, ◌∙◌, List, ℕ, length, get_or, drop, set, arith, refl, subst, sym}
+use Rattle.std.proofs.Common.{◌-◌, ◌+◌, ◌*◌, ◌<◌, ◌∙◌, List, ℕ, length, get_or, drop, arith, refl, subst, sym}
 use Rattle.std.specs.Int.{bit_at}
 use Rattle.std.proofs.lemmas.List.{map-set}
 use Rattle.qrcode_grid.specs.Lanes.{byte_under}

@@ -1,4 +1,4 @@
-use Rattle.std.proofs.Common.{◌≡◌, ◌+◌, ◌*◌, ◌/◌, length, get_or, count_by, ap, ◌∙◌, sym, arith}
+use Rattle.std.proofs.Common.{◌≡◌, ◌*◌, ◌/◌, length, get_or, count_by, ap, ◌∙◌, sym, arith}
 use Rattle.std.specs.Int.{abs_diff}
 use Rattle.qrcode_grid.specs.Lanes.{is_dark_byte}
 use Rattle.qrcode_grid.specs.Penalty.{balance_penalty}

@@ -1,5 +1,5 @@
 -- The penalties of the candidates before this one are found.
-use Rattle.std.proofs.Common.{◌≡◌, ◌<◌, ◌≤◌, ◌+◌, ◌*◌, ◌/◌, ℕ, get_or, length}
+use Rattle.std.proofs.Common.{◌≡◌, ◌<◌, ◌+◌, ◌*◌, ◌/◌, ℕ, get_or, length}
 use Rattle.std.specs.Int.{abs_diff}
 use Rattle.qrcode_grid.proofs.canvas.scoring.penalties.penalties_of_normal.Given as goal
 

@@ -1,4 +1,4 @@
-use Rattle.std.proofs.Common.{◌≡◌, ◌≢◌, ℕ, ◌+◌, ◌-◌, ◌*◌, ◌<◌, ◌≤◌, List, length, get_or, slice_set, get_or-set_same, get_or-set_other, length-set, ap, ◌∙◌, arith, below_more}
+use Rattle.std.proofs.Common.{◌≡◌, ◌≢◌, ◌+◌, ◌-◌, ◌*◌, ◌≤◌, get_or, slice_set, get_or-set_same, get_or-set_other, length-set, ◌∙◌, arith, below_more}
 use Rattle.qrcode_grid.specs.Scoring.{has_square, plane}
 use Rattle.qrcode_grid.proofs.EightSquares.{squares_of_plane, written_count}
 use Rattle.qrcode_grid.proofs.PaddedGrids.{from_grid}

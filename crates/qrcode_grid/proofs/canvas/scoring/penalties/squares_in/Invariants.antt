@@ -1,5 +1,5 @@
 -- The squares of the candidates before this one are found.
-use Rattle.std.proofs.Common.{◌≡◌, ◌<◌, ◌≤◌, ◌+◌, ◌*◌, ℕ, get_or, length}
+use Rattle.std.proofs.Common.{◌≡◌, ◌<◌, ◌+◌, ℕ, get_or, length}
 use Rattle.qrcode_grid.proofs.canvas.scoring.penalties.squares_in.Given as goal
 
 abbrev pub invariant-loop-m : goal.invariant-loop-m

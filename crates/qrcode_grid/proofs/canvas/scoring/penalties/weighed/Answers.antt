@@ -1,4 +1,4 @@
-use Rattle.std.proofs.Common.{◌≡◌, ◌≢◌, ◌<◌, ◌≤◌, ◌+◌, ◌-◌, ◌*◌, get_or, get_or-set_same, get_or-set_other, length-set, slice_set, ap, ◌∙◌, arith, below_more}
+use Rattle.std.proofs.Common.{◌≡◌, ◌≢◌, ◌≤◌, ◌+◌, ◌-◌, ◌*◌, get_or, get_or-set_same, get_or-set_other, length-set, slice_set, ◌∙◌, arith, below_more}
 use Rattle.qrcode_grid.proofs.canvas.scoring.penalties.weighed.Goals as goal
 
 pub overflow_sub-penalties : goal.overflow_sub-penalties

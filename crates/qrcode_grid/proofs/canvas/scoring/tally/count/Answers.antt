@@ -1,4 +1,4 @@
-use Rattle.std.proofs.Common.{◌≡◌, ℕ, ◌+◌, ◌*◌, ◌<◌, ◌&&◌, ltb, ap, ◌∙◌, arith}
+use Rattle.std.proofs.Common.{◌≡◌, ℕ, ◌+◌, ◌*◌, ◌&&◌, ltb, ap, ◌∙◌, arith}
 use Rattle.qrcode_grid.specs.Sums.{count_below}
 use Rattle.qrcode_grid.specs.Scoring.{has, plane}
 use Rattle.qrcode_grid.proofs.BitCounts.{bit_count_le}
@@ -30,6 +30,6 @@ returns-clause-small c = λ m h.
     omega (
       arith,
       c.totals.ensures m h ∙ c.loop-chunk.invariant.so_far m h
-      ∙ count_bounded (has c.args.feature c.args.width (plane m c.args.bytes.now)) n past (omega (arith, c.loop-chunk-test.false, c.loop-chunk.auto.chunk-end)),
+          ∙ count_bounded (has c.args.feature c.args.width (plane m c.args.bytes.now)) n past (omega (arith, c.loop-chunk-test.false, c.loop-chunk.auto.chunk-end)),
       count_below_le (has c.args.feature c.args.width (plane m c.args.bytes.now)) n,
     )

@@ -1,4 +1,4 @@
-use Rattle.std.proofs.Common.{◌+◌, ◌-◌, ◌&&◌, ◌∙◌, ap, ltb, arith}
+use Rattle.std.proofs.Common.{◌+◌, ◌-◌, ◌&&◌, ap, ltb, arith}
 use Rattle.qrcode_grid.specs.Scoring.{has, plane}
 use Rattle.qrcode_grid.proofs.MarkedLanes.{marks_and, marks_as, marks_where, marks_none}
 use Rattle.qrcode_grid.proofs.Tallies.{marked_below, marked_within, ltb_moved}
