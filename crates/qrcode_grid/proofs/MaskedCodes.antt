@@ -29,18 +29,6 @@ drawn_byte : (o : Option Color) (b : Bool) (m : Module) → byte_under o (masked
 drawn_byte (Some c) b m = refl
 drawn_byte None b m = masked_code_is b m
 
-byte_small : (c : Color) → byte_of c < 2
-byte_small Light = omega arith
-byte_small Dark = omega arith
-
-under_small : (o : Option Color) (n : ℕ) → n < 2 → byte_under o n < 2
-under_small (Some c) n h = byte_small c
-under_small None n h = h
-
-pub masked_small : (o : Option Color) (code : ℕ) (b : Bool) → byte_under o (masked_code code b) < 2
-masked_small o code true = under_small o (masked_code code true) (omega arith)
-masked_small o code false = under_small o (masked_code code false) (omega arith)
-
 abbrev pub candidate_byte : Version → ℕ → ℕ → MaskPattern → List ℕ → ℕ → ℕ
 candidate_byte version w format pattern codes k =
     byte_under (format_color version w format (k % w) (k / w)) (masked_code (get_or codes k 0) (is_inverted pattern (k % w) (k / w)))

@@ -1,14 +1,12 @@
 -- The transposed grid: its columns are the rows.
-use Rattle.std.proofs.Common.{◌≡◌, ℕ, ◌+◌, ◌-◌, ◌*◌, ◌/◌, ◌%◌, ◌<◌, ◌≤◌, List, length, take, drop, get_or, refl, ap, ◌∙◌, sym, arith, All, zero, suc}
+use Rattle.std.proofs.Common.{◌≡◌, ℕ, ◌+◌, ◌-◌, ◌*◌, ◌/◌, ◌%◌, ◌<◌, ◌≤◌, List, length, take, drop, get_or, refl, ap, ◌∙◌, sym, arith, zero, suc}
 use Rattle.std.proofs.Math.Nat.{mul-le-mul_right}
 use Rattle.std.proofs.lemmas.Grind.{same_number_lists}
 use Rattle.std.proofs.lemmas.Simd.{length-chunk, get_or-chunk}
-use Rattle.std.proofs.lemmas.List.Elements.{All-from_get_or}
 use Rattle.std.proofs.lemmas.Nat.{mod-mul-add, div-mul-add}
 use Rattle.qrcode_grid.specs.Sums.{sum_below}
 use Rattle.qrcode_grid.specs.Penalty.{row, column, line_penalty, lines_penalty}
-use Rattle.qrcode_grid.proofs.ModuleBytes.{binary_at}
-use Rattle.qrcode_grid.proofs.ColumnWindows.{length-column, get_or-column}
+use Rattle.qrcode_grid.proofs.Columns.{length-column, get_or-column}
 
 abbrev pub IsTransposed : ℕ → List ℕ → List ℕ → Type 0
 IsTransposed w modules turned = (k : ℕ) → k < w * w → get_or turned k 0 ≡ get_or modules (k % w * w + k / w) 0
@@ -28,10 +26,6 @@ row_is_column w modules turned x square is h =
     let below : y < w = omega (arith, l, long) in
     let back : (y * w + x) % w * w + (y * w + x) / w ≡ x * w + y = ap (λ k. k * w + (y * w + x) / w) (mod-mul-add y w x h) ∙ ap (λ k. x * w + k) (div-mul-add y w x h) in
     get_or-chunk (x * w) w modules y 0 below ∙ sym (get_or-column w turned x y below ∙ is (y * w + x) (cell_within w x y h below) ∙ ap (λ k. get_or modules k 0) back))
-
-pub turned_binary : (w : ℕ) (modules turned : List ℕ) → length turned ≡ w * w → IsTransposed w modules turned → All (λ m. m < 2) modules → All (λ m. m < 2) turned
-turned_binary w modules turned long is binary =
-    All-from_get_or (λ m. m < 2) turned 0 (λ k h. let e = is k (omega (arith, h, long)) in omega (arith, e, binary_at modules binary (k % w * w + k / w)))
 
 pub sum_same_below : (f g : ℕ → ℕ) (n : ℕ) → ((k : ℕ) → k < n → f k ≡ g k) → sum_below f n ≡ sum_below g n
 sum_same_below f g zero h = refl

@@ -9,7 +9,7 @@ mod registry;
 use qrcode_core::bits::{encode_auto, encode_auto_micro, encode_auto_with_max_version, encode_part};
 use qrcode_core::canvas::{Canvas, MaskPattern};
 use qrcode_core::ec::{construct_codewords, create_error_correction_code};
-use qrcode_core::optimize::{Parser, Segment, optimize_segments, supports_linear_costs};
+use qrcode_core::optimize::{Parser, optimize_segments, supports_linear_costs};
 use qrcode_core::symbol::{symbol, symbol_micro, symbol_sequence};
 use crate::grids::hash;
 use qrcode_core::types::{EcLevel, Mode, QrError, QrResult, Version};
@@ -131,7 +131,10 @@ fn encode_part_of_two_letters(rt: HostRuntime) -> QrResult<()> {
 /// Letters and digits, and then bytes: the least plan joins the first two.
 #[test]
 fn plans_of_three_segments(rt: HostRuntime) -> QrResult<()> {
-    let segments: Vec<Segment> = Parser::new(b"ABC123abcd").collect(rt.alloc())?;
+    let mut segments = Vec::new(rt.alloc());
+    for segment in Parser::new(b"ABC123abcd") {
+        segments.push(segment)?;
+    }
     assert!(rt; supports_linear_costs(&segments, ONE));
     let plan = optimize_segments(rt.alloc(), &segments, ONE)?;
     let parts = plan.iter().map(|part| (part.mode, part.end));

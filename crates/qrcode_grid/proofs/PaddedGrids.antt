@@ -1,0 +1,45 @@
+-- A grid that stands between light modules, candidate by candidate.
+use Rattle.std.proofs.Common.{◌≡◌, ℕ, ◌+◌, ◌-◌, ◌*◌, ◌<◌, ◌≤◌, List, length, take, drop, get_or, ap, ◌∙◌, sym, arith}
+use Rattle.std.specs.Int.{bit_at}
+use Rattle.std.proofs.lemmas.List.{get_or-take, get_or-drop}
+use Rattle.std.proofs.lemmas.Nat.Bits.{bit_at-zero}
+use Rattle.qrcode_grid.specs.Sums.{sum_below, count_below}
+use Rattle.qrcode_grid.specs.Penalty.{column, line_penalty, runs_penalty, windows_penalty}
+use Rattle.qrcode_grid.specs.Scoring.{IsPadded, grid_in, plane, has_five, has_six, has_finder}
+use Rattle.qrcode_grid.proofs.GridColumns.{runs_of_columns, windows_of_columns}
+use Rattle.qrcode_grid.proofs.MarkedLanes.{plane_at}
+use Rattle.qrcode_grid.proofs.Totals.{total-plus}
+
+-- the list from the grid on
+abbrev pub from_grid : ℕ → List ℕ → List ℕ
+from_grid w padded = take (length padded - 4 * w) (drop (4 * w) padded)
+
+pub grid_at : (w : ℕ) (padded : List ℕ) (k : ℕ) → k < w * w → get_or (grid_in w padded) k 0 ≡ get_or padded (4 * w + k) 0
+grid_at w padded k h = get_or-take (4 * w + w * w - 4 * w) (drop (4 * w) padded) k 0 (omega (arith, h)) ∙ get_or-drop (4 * w) padded k 0
+
+module _ (w : ℕ) (padded : List ℕ) (is : IsPadded w padded) (m : ℕ) where
+  cell_at : (k : ℕ) → k < w * w → get_or (plane m (grid_in w padded)) k 0 ≡ bit_at (get_or padded (4 * w + k) 0) m
+  cell_at k h = plane_at m (grid_in w padded) k ∙ ap (λ n. bit_at n m) (grid_at w padded k h)
+
+  pub grid_same : (k : ℕ) → k < w * w → get_or (plane m (from_grid w padded)) k 0 ≡ get_or (plane m (grid_in w padded)) k 0
+  grid_same k h =
+      plane_at m (from_grid w padded) k
+      ∙ ap (λ n. bit_at n m) (get_or-take (length padded - 4 * w) (drop (4 * w) padded) k 0 (omega (arith, h, is.whole)) ∙ get_or-drop (4 * w) padded k 0)
+      ∙ sym (cell_at k h)
+
+  padded_same : (k : ℕ) → k < w * w → get_or (plane m padded) (4 * w + k) 0 ≡ get_or (plane m (grid_in w padded)) k 0
+  padded_same k h = plane_at m padded (4 * w + k) ∙ sym (cell_at k h)
+
+  light_at : (k : ℕ) → get_or padded k 0 ≡ 0 → get_or (plane m padded) k 0 ≡ 0
+  light_at k e = plane_at m padded k ∙ ap (λ n. bit_at n m) e ∙ bit_at-zero m
+
+  pub penalties_are : sum_below (λ x. line_penalty (column w (plane m (grid_in w padded)) x)) w + 2 * count_below (has_six w (plane m (from_grid w padded))) ((w - 5) * w)
+      ≡ 3 * count_below (has_five w (plane m (from_grid w padded))) ((w - 4) * w) + 40 * count_below (has_finder w (plane m padded)) (w * w)
+  penalties_are =
+      let cells = plane m (grid_in w padded) in
+      let runs = runs_of_columns w (plane m (from_grid w padded)) cells grid_same in
+      let windows = windows_of_columns w (plane m padded) cells (λ k h. light_at k (is.before k h)) padded_same (λ k h. light_at k (is.after k h)) in
+      omega (arith, runs, windows, total-plus (λ x. runs_penalty (column w cells x)) (λ x. windows_penalty (column w cells x)) w)
+
+  pub fewer_sixes : 2 * count_below (has_six w (plane m (from_grid w padded))) ((w - 5) * w) ≤ 3 * count_below (has_five w (plane m (from_grid w padded))) ((w - 4) * w)
+  fewer_sixes = omega (arith, runs_of_columns w (plane m (from_grid w padded)) (plane m (grid_in w padded)) grid_same)

@@ -1,0 +1,34 @@
+use Rattle.std.proofs.Common.{◌≡◌, ◌+◌, ◌-◌, ◌*◌, ◌%◌, ◌<◌, ◌≤◌, ◌==◌, map, get_or, ap, ◌∙◌, sym, arith, inl, inr}
+use Rattle.std.specs.Int.{bit_at}
+use Rattle.std.proofs.Math.Nat.{mul-le-mul_right, add-mul}
+use Rattle.std.proofs.lemmas.Bool.{cases_lt}
+use Rattle.qrcode_grid.specs.Lanes.{code_of, masked_code}
+use Rattle.qrcode_grid.proofs.canvas.scoring.candidates.mask_rows.Goals as goal
+
+pub loop-part-init : goal.loop-part-init
+loop-part-init c = λ m x y b h l n. absurd (omega arith)
+
+pub mask_part-requires-clause-within : goal.mask_part-requires-clause-within
+mask_part-requires-clause-within c =
+    let w = c.args.width in let first = 12 * c.loop-part.part in let rows = c.min-rows.result in
+    let inside : first + rows ≤ w = omega (arith, c.min-rows.ensures, c.loop-part-test.true, c.loop-part.auto.part-end) in
+    omega (arith, c.requires.square, add-mul first rows w, mul-le-mul_right w inside)
+
+pub loop-part-preserved : goal.loop-part-preserved
+loop-part-preserved c = λ m x y b h l n. elim (cases_lt y (12 * c.loop-part.part)) [
+  | inl below ↦
+      ap (λ t. bit_at t m) (c.mask_part.ensures.before (y * c.args.width + x) (omega (arith, h, mul-le-mul_right c.args.width below)))
+      ∙ c.loop-part.invariant m x y b h below n
+  | inr above ↦
+      let w = c.args.width in let first = 12 * c.loop-part.part in
+      let r = y - first in
+      let codes = map code_of c.args.modules.now in let stripes = c.args.stripes.now in
+      let rows : r < c.min-rows.result = omega (arith, c.min-rows.ensures, l, n, above) in
+      let whole : y ≡ first + r = omega arith in
+      let place : first * w + (r * w + x) ≡ y * w + x = omega (arith, ap (λ t. t * w) whole, add-mul first r w) in
+      let stripe : r ≡ y % 12 = omega (arith, l, above) in
+      sym (ap (λ j. bit_at (get_or c.mask_part.new.grid j 0) m) place)
+      ∙ c.mask_part.ensures.part m (r * w + x) b (omega (arith, h, mul-le-mul_right w rows))
+      ∙ ap (λ j. masked_code (get_or codes j 0) (bit_at (get_or stripes (r * w + x) 0) m == 1)) place
+      ∙ ap (λ t. masked_code (get_or codes (y * w + x) 0) (bit_at (get_or stripes (t * w + x) 0) m == 1)) stripe
+]

@@ -1,0 +1,32 @@
+use Rattle.std.proofs.Common.{◌≡◌, ◌+◌, ◌*◌, ◌/◌, ◌%◌, ◌<◌, map, length, get_or, ap, ◌∙◌, sym, refl, arith, inl, inr}
+use Rattle.std.proofs.Math.Nat.{mul-le-mul_right}
+use Rattle.std.proofs.lemmas.Bool.{cases_lt}
+use Rattle.std.proofs.lemmas.List.{length-map}
+use Rattle.qrcode_grid.specs.Lanes.{byte_under, code_of, masked_code}
+use Rattle.qrcode_grid.specs.Masks.{format_color, is_inverted}
+use Rattle.qrcode_grid.specs.Scoring.{plane, pattern_of}
+use Rattle.qrcode_grid.proofs.Conditions.{set_again}
+use Rattle.qrcode_grid.proofs.EightSquares.{length-plane}
+use Rattle.qrcode_grid.proofs.MarkedLanes.{plane_at}
+use Rattle.qrcode_grid.proofs.MaskedCodes.{candidate_is}
+use Rattle.qrcode_grid.proofs.Stripes.{is_inverted-repeats_rows}
+use Rattle.qrcode_grid.proofs.canvas.scoring.candidates.write_candidates.Goals as goal
+
+pub returns : goal.returns
+returns c = λ m h.
+    let w = c.args.width in let grid = c.write_formats.new.grid in let codes = map code_of c.args.modules.now in
+    let word = get_or c.args.words.now m 0 in
+    let coded : length codes ≡ w * w = length-map c.args.modules.now code_of ∙ c.requires.square in
+    let long : length (plane m grid) ≡ length codes = length-plane m grid ∙ c.write_formats.auto.grid ∙ c.mask_rows.auto.grid ∙ c.requires.long ∙ sym coded in
+    candidate_is c.args.version w word (pattern_of m) c.args.modules.now codes (plane m grid) refl long
+    (λ k inside.
+    let x = k % w in let y = k / w in
+    let column : x < w = omega (arith, c.requires.wide.0) in
+    let row : y < w = elim (cases_lt y w) [ inl below ↦ below | inr above ↦ absurd (omega (arith, inside, coded, mul-le-mul_right w above)) ] in
+    let place : y * w + x ≡ k = omega (arith, c.requires.wide.0) in
+    let inverted = set_again (is_inverted (pattern_of m) x (y % 12)) _ (c.write_stripes.ensures m x (y % 12) h column (omega arith)) ∙ sym (is_inverted-repeats_rows (pattern_of m) x y) in
+    let color = format_color c.args.version w word x y in
+    sym (ap (λ j. get_or (plane m grid) j 0) place)
+    ∙ c.write_formats.ensures m x y h column row
+    ∙ ap (byte_under color) (plane_at m c.mask_rows.new.grid (y * w + x) ∙ c.mask_rows.ensures m x y h column row ∙ ap (masked_code (get_or codes (y * w + x) 0)) inverted)
+    ∙ ap (λ j. byte_under color (masked_code (get_or codes j 0) (is_inverted (pattern_of m) x y))) place)

@@ -1,0 +1,26 @@
+use Rattle.std.proofs.Common.{◌≡◌, ◌+◌, ◌*◌, ap, ◌∙◌, sym, arith, inl, inr}
+use Rattle.std.proofs.lemmas.Bool.{cases_lt}
+use Rattle.std.proofs.lemmas.List.{get_or_past}
+use Rattle.qrcode_base.specs.declared.types.Version.TheVariants.{Normal}
+use Rattle.qrcode_base.specs.Symbols.{width_of}
+use Rattle.qrcode_grid.specs.Penalty.{normal_penalty, modules_penalty}
+use Rattle.qrcode_grid.specs.Scoring.{plane, grid_in}
+use Rattle.qrcode_grid.proofs.canvas.scoring.penalties_of.Goals as goal
+
+pub transpose_padded-requires-clause-light : goal.transpose_padded-requires-clause-light
+transpose_padded-requires-clause-light c = λ k.
+    let size = c.padded_length-size.result in let lists = c.split_at_mut-lists in
+    c.split_at_mut-padded.ensures.by_index.1 k 0
+    ∙ elim (cases_lt (size + k) (2 * size)) [
+      | inl inside ↦ lists.ensures.by_index.0 (size + k) 0 inside ∙ c.requires.light (size + k)
+      | inr past ↦ get_or_past lists.result.0.now (size + k) 0 (omega (arith, past, lists.ensures.front_len))
+    ]
+
+pub returns-in-Normal : goal.returns-in-Normal
+returns-in-Normal c = λ m h.
+    let cells = plane m (grid_in c.args.width c.write_padded.new.padded) in
+    let e : c.args.width ≡ width_of (Normal c.in-Normal.field-0) = c.requires.wide ∙ ap width_of c.in-Normal.is in
+    c.penalties_of_normal.ensures m h
+    ∙ ap (λ w. normal_penalty w cells) e
+    ∙ ap (λ v. modules_penalty v cells) (sym c.in-Normal.is)
+    ∙ ap (modules_penalty c.args.version) (c.write_padded.ensures.candidates m h)

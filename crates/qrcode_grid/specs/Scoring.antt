@@ -1,0 +1,89 @@
+-- Eight candidates in one list of bytes, a byte a module: bit m is the colour in candidate m.
+use Rattle.std.specs.Prelude.{ℕ, ◌+◌, ◌*◌, ◌<◌, ◌≡◌, ◌==◌, ◌&&◌, ◌||◌, Bool, if◌then◌else◌, ◌≤◌, List, map, length, slice_index, slice_index_or, slice_range}
+use Rattle.std.specs.Int.{bit_at}
+use Rattle.qrcode_grid.specs.declared.canvas.scoring.planes.Planes.{Planes}
+use Rattle.qrcode_grid.specs.declared.canvas.MaskPattern.{MaskPattern}
+use Rattle.qrcode_grid.specs.declared.canvas.MaskPattern.TheVariants.{Checkerboard}
+use Rattle.qrcode_grid.specs.Masks.{normal_patterns}
+use Rattle.qrcode_grid.specs.declared.canvas.scoring.features.Feature.{Feature}
+use Rattle.qrcode_grid.specs.declared.canvas.scoring.features.Feature.TheVariants.{Five, Six, Finder, Square, Dark}
+use Rattle.qrcode_grid.specs.Sums.{sum_below}
+
+-- the mask with number m
+abbrev pub pattern_of : ℕ → MaskPattern
+pattern_of m = slice_index_or normal_patterns m Checkerboard
+
+-- candidate m
+abbrev pub plane : ℕ → List ℕ → List ℕ
+plane m bytes = map (λ b. bit_at b m) bytes
+
+-- in how many of 16 lanes bit m is set
+unfoldable pub bit_count : ℕ → List ℕ → ℕ
+bit_count m lanes = sum_below (λ j. bit_at (slice_index lanes j) m) 16
+
+-- Bit m of lane j says whether the test of m and j holds.
+pub record Marks (lanes : List ℕ) (test : ℕ → ℕ → Bool) : Type 0 where
+  pub whole : length lanes ≡ 16
+  pub bits : (m j : ℕ) → m < 8 → j < 16 → bit_at (slice_index lanes j) m ≡ (if test m j then 1 else 0)
+
+-- what rows of lanes that weigh 1, 2, 4 and 8 hold of bit m
+abbrev pub held : ℕ → Planes → ℕ
+held m planes =
+    bit_count m planes.ones + 2 * bit_count m planes.twos + 4 * bit_count m planes.fours + 8 * bit_count m planes.eights
+
+-- the module so many rows below place k of a grid of width w
+abbrev pub cell : ℕ → List ℕ → ℕ → ℕ → ℕ
+cell w cells k row = slice_index cells (k + row * w)
+
+abbrev pub is_same_below : ℕ → List ℕ → ℕ → ℕ → Bool
+is_same_below w cells k row = cell w cells k row == cell w cells k (row + 1)
+
+abbrev pub has_five : ℕ → List ℕ → ℕ → Bool
+has_five w cells k =
+    is_same_below w cells k 0 && is_same_below w cells k 1 && is_same_below w cells k 2 && is_same_below w cells k 3
+
+abbrev pub has_six : ℕ → List ℕ → ℕ → Bool
+has_six w cells k = has_five w cells k && is_same_below w cells k 4
+
+-- four light modules from a row on
+abbrev pub is_quiet : ℕ → List ℕ → ℕ → ℕ → Bool
+is_quiet w cells k row =
+    cell w cells k row == 0 && cell w cells k (row + 1) == 0 && cell w cells k (row + 2) == 0 && cell w cells k (row + 3) == 0
+
+-- dark, light, three dark, light, dark from the fourth row on, and four light modules before or after them
+abbrev pub has_finder : ℕ → List ℕ → ℕ → Bool
+has_finder w cells k =
+    (cell w cells k 4 == 1 && cell w cells k 5 == 0 && cell w cells k 6 == 1 && cell w cells k 7 == 1 &&
+    cell w cells k 8 == 1 && cell w cells k 9 == 0 && cell w cells k 10 == 1) &&
+    (is_quiet w cells k 0 || is_quiet w cells k 11)
+
+abbrev pub has_square : ℕ → List ℕ → ℕ → Bool
+has_square w cells k =
+    (slice_index cells k == slice_index cells (k + 1)) &&
+    ((slice_index cells k == slice_index cells (k + w)) && (slice_index cells k == slice_index cells (k + w + 1)))
+
+-- whether place k of a grid of width w has what is looked for
+abbrev pub has : Feature → ℕ → List ℕ → ℕ → Bool
+has Five w cells k = has_five w cells k
+has Six w cells k = has_six w cells k
+has Finder w cells k = has_finder w cells k
+has Square w cells k = has_square w cells k
+has Dark w cells k = cell w cells k 0 == 1
+
+-- how many places after a place are looked at
+abbrev pub reach : Feature → ℕ → ℕ
+reach Five w = 4 * w
+reach Six w = 5 * w
+reach Finder w = 14 * w
+reach Square w = w + 1
+reach Dark w = 0
+
+-- A grid of width w stands in a list: four light rows, the grid, and light modules to the end.
+pub record IsPadded (w : ℕ) (padded : List ℕ) : Type 0 where
+  pub whole : length padded ≡ w * w + 20 * w + 16
+  pub before : (k : ℕ) → k < 4 * w → slice_index padded k ≡ 0
+  pub after : (k : ℕ) → 4 * w + w * w ≤ k → slice_index padded k ≡ 0
+
+-- the grid in such a list
+abbrev pub grid_in : ℕ → List ℕ → List ℕ
+grid_in w padded = slice_range padded (4 * w) (4 * w + w * w)

@@ -1,0 +1,166 @@
+//! Eight candidates in one list of bytes, one for each mask: a byte a module, and bit m of it is the colour under the mask with
+//! number m.
+ghost use Rattle.std.specs.Prelude.{◌≡◌, if◌then◌else◌, ◌==◌, ◌&&◌, ℕ, ◌+◌, ◌-◌, ◌*◌, ◌/◌, ◌%◌, ◌<◌, ◌≤◌, ◌∷◌, [], length, map, slice_index, All};
+ghost use Rattle.std.specs.Int.{bit_at};
+ghost use Rattle.qrcode_base.specs.declared.types.Color.TheVariants.{Dark};
+ghost use Rattle.qrcode_grid.specs.Canvas.{color_of_module};
+ghost use Rattle.qrcode_grid.specs.Lanes.{byte_of, byte_under, code_of, masked_code};
+ghost use Rattle.qrcode_grid.specs.Masks.{format_color, masked_cells};
+ghost use Rattle.qrcode_grid.specs.Regions.{first_some, format_first, format_second, where_true, written};
+ghost use Rattle.qrcode_grid.specs.Scoring.{plane, pattern_of};
+ghost use Rattle.qrcode_grid.specs.Words.{digit, digit_color};
+
+use crate::canvas::Module;
+use crate::canvas::regions::{FORMAT_FIRST, FORMAT_MICRO, color_of_digit, second_places};
+use crate::canvas::scoring::conditions::write_stripes;
+use qrcode_base::types::{Color, Version};
+
+/// A module as a byte: 1 where it is dark, and 2 more where a mask may invert it.
+fn code(old: Module) -> u8
+    ensures { result ≡ code_of old }
+{
+    let data = match old {
+        Module::Masked(_) => 0,
+        _ => 2,
+    };
+    data + u8::from(old.is_dark())
+}
+
+/// A bit in all eight places of a byte.
+fn spread(bit: bool) -> u8
+    ensures { (m : ℕ) → m < 8 → bit_at result m ≡ (if bit then 1 else 0) }
+{
+    if bit {
+        return 255;
+    }
+    0
+}
+
+/// The colours of a module under eight masks, by the conditions of its cell.
+fn masked_bits(old: Module, conditions: u8) -> u8
+    ensures { (m : ℕ) → m < 8 → bit_at result m ≡ masked_code (code_of old) (bit_at conditions m == 1) }
+{
+    let code = code(old);
+    spread(code % 2 == 1) ^ (spread(code / 2 == 1) & conditions)
+}
+
+/// Writes the colours of some modules under eight masks, by the stripes from the first one on. What comes before them stays.
+#[inline(never)]
+fn mask_part(modules: &[Module], stripes: &[u8], from: usize, count: usize, grid: &mut [u8])
+    requires within { from + count ≤ length modules.now }
+    requires stripes { count ≤ length stripes.now }
+    requires long { length grid.old ≡ length modules.now }
+    ensures part { (m : ℕ) → (k : ℕ) → m < 8 → k < count → bit_at (slice_index grid.new (from + k)) m ≡ masked_code (slice_index (map code_of modules.now) (from + k)) (bit_at (slice_index stripes.now k) m == 1) }
+    ensures before { (k : ℕ) → k < from → slice_index grid.new k ≡ slice_index grid.old k }
+{
+    for k in 0..count {
+        grid[from + k] = masked_bits(modules[from + k], stripes[k]);
+    }
+}
+
+/// Writes the colours of all rows under eight masks, twelve rows at a time.
+fn mask_rows(modules: &[Module], stripes: &[u8], width: usize, grid: &mut [u8])
+    requires wide { width ≤ 177 }
+    requires square { length modules.now ≡ width * width }
+    requires stripes { 12 * width ≤ length stripes.now }
+    requires long { length grid.old ≡ width * width }
+    ensures { (m : ℕ) → (x : ℕ) → (y : ℕ) → m < 8 → x < width → y < width → bit_at (slice_index grid.new (y * width + x)) m ≡ masked_code (slice_index (map code_of modules.now) (y * width + x)) (bit_at (slice_index stripes.now (y % 12 * width + x)) m == 1) }
+{
+    for part in 0..(width + 11) / 12 {
+        let first = 12 * part;
+        let rows = (width - first).min(12);
+        mask_part(modules, stripes, first * width, rows * width, grid);
+    }
+}
+
+/// A binary digit of a word as a byte.
+fn byte_of_digit(word: u32, k: usize) -> u8
+    requires { k < 32 }
+    ensures { result ≡ byte_of (digit_color (digit word k)) }
+{
+    u8::from(color_of_digit(word, k) == Color::Dark)
+}
+
+/// Some digits and one more.
+fn with_digit(digits: u8, m: usize, digit: u8) -> u8
+    requires within { m < 8 }
+    requires none { bit_at digits m ≡ 0 }
+    requires digit { digit < 2 }
+    ensures here { bit_at result m ≡ digit }
+    ensures others { (i : ℕ) → ¬ (i ≡ m) → bit_at result i ≡ bit_at digits i }
+{
+    if digit == 1 {
+        return digits | 1 << m;
+    }
+    digits
+}
+
+/// One digit of eight words as the bits of a byte.
+fn digits_of(words: &[u32; 8], k: usize) -> u8
+    requires { k < 32 }
+    ensures { (m : ℕ) → m < 8 → bit_at result m ≡ byte_of (digit_color (digit (slice_index words.now m) k)) }
+{
+    let mut digits = 0;
+    for m in 0..8 {
+        digits = with_digit(digits, m, byte_of_digit(words[m], k));
+    }
+    digits
+}
+
+/// Writes a word of each candidate into a list of places, high digit first. It begins with the low digit, so that a place's first
+/// digit stays.
+fn write_words(words: &[u32; 8], places: &[(usize, usize)], width: usize, grid: &mut [u8])
+    requires few { length places.now ≤ 32 }
+    requires within { All (λ place. (place.0 < width) × (place.1 < width)) places.now }
+    requires long { length grid.old ≡ width * width }
+    ensures { (m : ℕ) → (x : ℕ) → (y : ℕ) → m < 8 → x < width → y < width → slice_index (plane m grid.new) (y * width + x) ≡ byte_under (written (slice_index words.now m) places.now x y) (slice_index (plane m grid.old) (y * width + x)) }
+{
+    let count = places.len();
+    for k in 0..count {
+        let (x, y) = places[count - 1 - k];
+        grid[y * width + x] = digits_of(words, k);
+    }
+}
+
+/// Writes both copies of the format words of Normal symbols, and the dark module.
+fn write_normal_formats(words: &[u32; 8], width: usize, grid: &mut [u8])
+    requires wide { (9 ≤ width) × (width ≤ 177) }
+    requires long { length grid.old ≡ width * width }
+    ensures { (m : ℕ) → (x : ℕ) → (y : ℕ) → m < 8 → x < width → y < width → slice_index (plane m grid.new) (y * width + x) ≡ byte_under (first_some (where_true (x == 8 && y == width - 8) Dark ∷ written (slice_index words.now m) format_first x y ∷ written (slice_index words.now m) (format_second width) x y ∷ [])) (slice_index (plane m grid.old) (y * width + x)) }
+{
+    write_words(words, &second_places(width), width, grid);
+    write_words(words, &FORMAT_FIRST, width, grid);
+    grid[(width - 8) * width + 8] = 255;
+}
+
+/// Writes the format word of each candidate and, in Normal symbols, the dark module.
+fn write_formats(version: Version, words: &[u32; 8], width: usize, grid: &mut [u8])
+    requires wide { (9 ≤ width) × (width ≤ 177) }
+    requires long { length grid.old ≡ width * width }
+    ensures { (m : ℕ) → (x : ℕ) → (y : ℕ) → m < 8 → x < width → y < width → slice_index (plane m grid.new) (y * width + x) ≡ byte_under (format_color version width (slice_index words.now m) x y) (slice_index (plane m grid.old) (y * width + x)) }
+{
+    match version {
+        Version::Normal(_) => write_normal_formats(words, width, grid),
+        Version::Micro(_) => write_words(words, &FORMAT_MICRO, width, grid),
+    }
+}
+
+/// Writes the modules under eight masks, with a format word for each. The stripes are written over.
+pub fn write_candidates(
+    modules: &[Module],
+    version: Version,
+    width: usize,
+    words: &[u32; 8],
+    stripes: &mut [u8],
+    grid: &mut [u8],
+)
+    requires wide { (9 ≤ width) × (width ≤ 177) }
+    requires square { length modules.now ≡ width * width }
+    requires stripes { length stripes.old ≡ 12 * width + 6 }
+    requires long { length grid.old ≡ width * width }
+    ensures { (m : ℕ) → m < 8 → plane m grid.new ≡ map byte_of (map color_of_module (masked_cells version width (slice_index words.now m) (pattern_of m) modules.now)) }
+{
+    write_stripes(width, stripes);
+    mask_rows(modules, stripes, width, grid);
+    write_formats(version, words, width, grid);
+}

@@ -1,0 +1,110 @@
+//! Bits counted by their place in a byte, sixteen rows of lanes at a time.
+ghost use Rattle.std.specs.Prelude.{◌≡◌, ℕ, ◌+◌, ◌*◌, ◌<◌, ◌≤◌, [], length, slice_index, slice_index_or};
+ghost use Rattle.qrcode_grid.specs.Sums.{sum_below};
+ghost use Rattle.qrcode_grid.specs.Scoring.{bit_count, held};
+
+use crate::canvas::scoring::planes::Planes;
+use std::simd::prelude::*;
+
+/// The sum and the carry of three bits, at each bit.
+#[inline(always)]
+fn add_three(a: u8x16, b: u8x16, c: u8x16) -> (u8x16, u8x16)
+    requires lanes { (length a ≡ 16) × (length b ≡ 16) × (length c ≡ 16) }
+    ensures lanes { (length result.0 ≡ 16) × (length result.1 ≡ 16) }
+    ensures sum { (m : ℕ) → bit_count m result.0 + 2 * bit_count m result.1 ≡ bit_count m a + bit_count m b + bit_count m c }
+{
+    let u = a ^ b;
+    let v = a ^ c;
+    (u ^ c, a ^ (u & v))
+}
+
+/// Four rows of lanes more in the ones and twos, and the carry to the fours.
+#[inline(always)]
+fn add_four(ones: u8x16, twos: u8x16, rows: &[u8x16; 16], from: usize) -> (u8x16, u8x16, u8x16)
+    requires lanes { (length ones ≡ 16) × (length twos ≡ 16) }
+    requires rows { (i : ℕ) → i < 16 → length (slice_index_or rows.now i []) ≡ 16 }
+    requires within { from + 4 ≤ 16 }
+    ensures lanes { (length result.0 ≡ 16) × (length result.1 ≡ 16) × (length result.2 ≡ 16) }
+    ensures sum { (m : ℕ) → bit_count m result.0 + 2 * bit_count m result.1 + 4 * bit_count m result.2 ≡ bit_count m ones + 2 * bit_count m twos + sum_below (λ i. bit_count m (slice_index_or rows.now (from + i) [])) 4 }
+{
+    let (ones, first) = add_three(ones, rows[from], rows[from + 1]);
+    let (ones, second) = add_three(ones, rows[from + 2], rows[from + 3]);
+    let (twos, fours) = add_three(twos, first, second);
+    (ones, twos, fours)
+}
+
+/// No bit.
+#[inline(always)]
+pub fn no_bits() -> Planes
+    ensures { (m : ℕ) → held m result ≡ 0 }
+{
+    let zero = u8x16::splat(0);
+    Planes {
+        ones: zero,
+        twos: zero,
+        fours: zero,
+        eights: zero,
+    }
+}
+
+/// Sixteen rows of lanes more, and the carry to the sixteens.
+#[inline(always)]
+pub fn add_sixteen(planes: Planes, rows: &[u8x16; 16]) -> (Planes, u8x16)
+    requires rows { (i : ℕ) → i < 16 → length (slice_index_or rows.now i []) ≡ 16 }
+    ensures lanes { length result.1 ≡ 16 }
+    ensures sum { (m : ℕ) → held m result.0 + 16 * bit_count m result.1 ≡ held m planes + sum_below (λ i. bit_count m (slice_index_or rows.now i [])) 16 }
+{
+    let (ones, twos, a) = add_four(planes.ones, planes.twos, rows, 0);
+    let (ones, twos, b) = add_four(ones, twos, rows, 4);
+    let (ones, twos, c) = add_four(ones, twos, rows, 8);
+    let (ones, twos, d) = add_four(ones, twos, rows, 12);
+    let (fours, first) = add_three(planes.fours, a, b);
+    let (fours, second) = add_three(fours, c, d);
+    let (eights, sixteens) = add_three(planes.eights, first, second);
+    let planes = Planes {
+        ones,
+        twos,
+        fours,
+        eights,
+    };
+    (planes, sixteens)
+}
+
+/// In how many lanes a bit is set.
+#[inline(always)]
+fn count_bit(lanes: u8x16, m: usize) -> usize
+    requires lanes { length lanes ≡ 16 }
+    requires bit { m < 8 }
+    ensures is { result ≡ bit_count m lanes }
+    ensures small { result ≤ 16 }
+{
+    let bit = u8x16::splat(1 << m);
+    (lanes & bit).simd_eq(bit).to_bitmask().count_ones() as usize
+}
+
+/// Adds in how many lanes each bit is set.
+#[inline(always)]
+pub fn add_counts(sums: &mut [usize; 8], lanes: u8x16)
+    requires lanes { length lanes ≡ 16 }
+    requires room { (m : ℕ) → m < 8 → slice_index sums.old m ≤ 1000000 }
+    ensures { (m : ℕ) → m < 8 → slice_index sums.new m ≡ slice_index sums.old m + bit_count m lanes }
+{
+    for m in 0..8 {
+        sums[m] += count_bit(lanes, m);
+    }
+}
+
+/// What the rows of lanes and the sixteens hold of each bit.
+#[inline(always)]
+pub fn totals(planes: Planes, sums: &[usize; 8]) -> [usize; 8]
+    requires room { (m : ℕ) → m < 8 → slice_index sums.now m ≤ 1000000 }
+    ensures { (m : ℕ) → m < 8 → slice_index result m ≡ 16 * slice_index sums.now m + held m planes }
+{
+    let mut result = [0; 8];
+    for m in 0..8 {
+        let high = 8 * count_bit(planes.eights, m) + 4 * count_bit(planes.fours, m);
+        let low = 2 * count_bit(planes.twos, m) + count_bit(planes.ones, m);
+        result[m] = 16 * sums[m] + high + low;
+    }
+    result
+}
