@@ -6,12 +6,7 @@ use qrcode_base::types::QrResult;
 
 /// The penalties of a canvas under each mask of its family, as the crate counts them.
 fn counted_penalties(alloc: Global, canvas: &Canvas) -> QrResult<Vec<usize>> {
-    let size = canvas.modules.len();
-    let mut codes = vec![in alloc; 0; size]?;
-    write_codes(&canvas.modules, &mut codes);
-    let mut candidate = vec![in alloc; 0; size]?;
-    let mut turned = vec![in alloc; 0; size]?;
-    canvas.penalties(alloc, &codes, &mut candidate, &mut turned)
+    canvas.penalties(alloc)
 }
 
 /// The masks of a version.
