@@ -1,5 +1,8 @@
 -- Masks by their numbers.
-use Rattle.std.proofs.Common.{◌≡◌, ℕ, ◌<◌, List, map, refl, ap, ◌∙◌, arith}
+use Rattle.std.proofs.Common.{◌≡◌, ℕ, zero, suc, ◌<◌, List, [], ◌∷◌, ◌++◌, length, take, drop, map, refl, ap, ◌∙◌, sym, arith}
+use Rattle.std.proofs.lemmas.List.{take_at}
+use Rattle.qrcode_base.specs.declared.types.Color.{Color}
+use Rattle.qrcode_base.specs.declared.types.Color.TheVariants.{Light, Dark}
 use Rattle.qrcode_base.specs.declared.types.EcLevel.{EcLevel}
 use Rattle.qrcode_base.specs.declared.types.Version.{Version}
 use Rattle.qrcode_base.specs.Symbols.{width_of}
@@ -9,7 +12,6 @@ use Rattle.qrcode_grid.specs.declared.canvas.Module.{Module}
 use Rattle.qrcode_grid.specs.Canvas.{color_of_module}
 use Rattle.qrcode_grid.specs.Lanes.{byte_of}
 use Rattle.qrcode_grid.specs.Masks.{format_word, masked_cells, normal_number}
-use Rattle.qrcode_grid.specs.Penalty.{modules_penalty}
 use Rattle.qrcode_grid.specs.Scoring.{pattern_of}
 
 pub pattern_of-number : (p : MaskPattern) → pattern_of (normal_number p) ≡ p
@@ -32,14 +34,32 @@ number_small Fields = omega arith
 number_small Diamonds = omega arith
 number_small Meadow = omega arith
 
--- the penalty of modules under a mask, as the code names width, word and mask
-abbrev pub masked_penalty : Version → ℕ → ℕ → MaskPattern → List Module → ℕ
-masked_penalty version w word p modules = modules_penalty version (map byte_of (map color_of_module (masked_cells version w word p modules)))
+-- the bytes of modules under a mask, as the code names width, word and mask
+abbrev pub masked_bytes : Version → ℕ → ℕ → MaskPattern → List Module → List ℕ
+masked_bytes version w word p modules = map byte_of (map color_of_module (masked_cells version w word p modules))
 
-pub penalty_of_number : (version : Version) (level : EcLevel) (p : MaskPattern) (w word : ℕ) (held modules : List Module) → w ≡ width_of version → word ≡ format_word version level p → held ≡ modules
-    → masked_penalty version w word (pattern_of (normal_number p)) held ≡ masked_penalty version (width_of version) (format_word version level p) p modules
-penalty_of_number version level p w word held modules wide named same =
-    ap (λ v. masked_penalty version v word (pattern_of (normal_number p)) held) wide
-    ∙ ap (λ f. masked_penalty version (width_of version) f (pattern_of (normal_number p)) held) named
-    ∙ ap (λ q. masked_penalty version (width_of version) (format_word version level p) q held) (pattern_of-number p)
-    ∙ ap (masked_penalty version (width_of version) (format_word version level p) p) same
+pub bytes_of_number : (version : Version) (level : EcLevel) (p : MaskPattern) (w word : ℕ) (held modules : List Module) → w ≡ width_of version → word ≡ format_word version level p → held ≡ modules
+    → masked_bytes version w word (pattern_of (normal_number p)) held ≡ masked_bytes version (width_of version) (format_word version level p) p modules
+bytes_of_number version level p w word held modules wide named same =
+    ap (λ v. masked_bytes version v word (pattern_of (normal_number p)) held) wide
+    ∙ ap (λ f. masked_bytes version (width_of version) f (pattern_of (normal_number p)) held) named
+    ∙ ap (λ q. masked_bytes version (width_of version) (format_word version level p) q held) (pattern_of-number p)
+    ∙ ap (masked_bytes version (width_of version) (format_word version level p) p) same
+
+color_of_byte : ℕ → Color
+color_of_byte zero = Light
+color_of_byte (suc b) = Dark
+
+colors_again : (xs : List Color) → map color_of_byte (map byte_of xs) ≡ xs
+unfolding color_of_byte
+colors_again [] = refl
+colors_again (Light ∷ xs) = ap (λ (t : List Color). Light ∷ t) (colors_again xs)
+colors_again (Dark ∷ xs) = ap (λ (t : List Color). Dark ∷ t) (colors_again xs)
+
+-- colours with the same bytes are the same
+pub same_colors : (xs ys : List Color) → map byte_of xs ≡ map byte_of ys → xs ≡ ys
+same_colors xs ys e = sym (colors_again xs) ∙ ap (map color_of_byte) e ∙ colors_again ys
+
+-- a list that was written whole
+pub written_whole : {X : Type 0} (new old : List X) (n : ℕ) → length new ≡ n → take n (new ++ drop (length new) old) ≡ new
+written_whole new old n e = take_at new (drop (length new) old) n e

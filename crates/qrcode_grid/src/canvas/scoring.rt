@@ -21,7 +21,7 @@ use crate::canvas::penalty::penalty_of_micro;
 use crate::canvas::scoring::candidates::write_candidates;
 use crate::canvas::scoring::penalties::penalties_of_normal;
 use crate::canvas::transposing::transpose;
-use qrcode_base::types::Version;
+use qrcode_base::types::{Color, Version};
 
 /// How long a list is in which a grid stands between light modules.
 fn padded_length(width: usize) -> usize
@@ -101,7 +101,8 @@ fn penalties_of_micro(width: usize, grid: &[u8], candidate: &mut [u8]) -> [usize
     penalties
 }
 
-/// The penalties of the modules under eight masks, each with its format word, by the numbers of the masks.
+/// The penalties of the modules under eight masks, each with its format word, by the numbers of the masks. The scratch list then
+/// holds the candidates.
 pub fn penalties_of(
     modules: &[Module],
     version: Version,
@@ -114,7 +115,8 @@ pub fn penalties_of(
     requires square { length modules.now ≡ width * width }
     requires long { length scratch.old ≡ 2 * (width * width + 20 * width + 16) + (12 * width + 6) }
     requires light { (k : ℕ) → slice_index scratch.old k ≡ 0 }
-    ensures { (m : ℕ) → m < 8 → slice_index result m ≡ modules_penalty version (map byte_of (map color_of_module (masked_cells version width (slice_index words.now m) (pattern_of m) modules.now))) }
+    ensures penalties { (m : ℕ) → m < 8 → slice_index result m ≡ modules_penalty version (map byte_of (map color_of_module (masked_cells version width (slice_index words.now m) (pattern_of m) modules.now))) }
+    ensures candidates { (m : ℕ) → m < 8 → plane m (grid_in width scratch.new) ≡ map byte_of (map color_of_module (masked_cells version width (slice_index words.now m) (pattern_of m) modules.now)) }
 {
     let size = padded_length(width);
     let (lists, stripes) = scratch.split_at_mut(2 * size);
@@ -130,5 +132,20 @@ pub fn penalties_of(
             let end = first + width * width;
             penalties_of_micro(width, &padded[first..end], &mut turned[first..end])
         }
+    }
+}
+
+/// Writes the colours of one candidate.
+pub fn write_colors(grid: &[u8], m: usize, colors: &mut [Color])
+    requires bit { m < 8 }
+    requires long { length colors.old ≡ length grid.now }
+    ensures { map byte_of colors.new ≡ plane m grid.now }
+{
+    for k in 0..grid.len() {
+        colors[k] = if grid[k] >> m & 1 == 1 {
+            Color::Dark
+        } else {
+            Color::Light
+        };
     }
 }

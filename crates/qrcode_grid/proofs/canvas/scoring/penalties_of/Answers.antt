@@ -16,8 +16,8 @@ transpose_padded-requires-clause-light c = λ k.
       | inr past ↦ get_or_past lists.result.0.now (size + k) 0 (omega (arith, past, lists.ensures.front_len))
     ]
 
-pub returns-in-Normal : goal.returns-in-Normal
-returns-in-Normal c = λ m h.
+pub returns-in-Normal-clause-penalties : goal.returns-in-Normal-clause-penalties
+returns-in-Normal-clause-penalties c = λ m h.
     let cells = plane m (grid_in c.args.width c.write_padded.new.padded) in
     let e : c.args.width ≡ width_of (Normal c.in-Normal.field-0) = c.requires.wide ∙ ap width_of c.in-Normal.is in
     c.penalties_of_normal.ensures m h
