@@ -1,0 +1,31 @@
+-- Each group that goes is absorbed and cleared.
+use Rattle.std.proofs.Common.{rules, refl}
+use Rattle.qrcode_bits.proofs.optimize.groups.Groups.advance.Goals as goal
+
+pub returns-in-Byte-clause-advances : goal.returns-in-Byte-clause-advances
+returns-in-Byte-clause-advances g c =
+    rw c.in-Byte.is (
+      c.clear-in-Byte.ensures,
+      c.clear-in-Byte-2.ensures,
+      c.clear-in-Byte-3.ensures,
+      (
+        c.absorb-in-Byte.new.into,
+        c.absorb-in-Byte-2.new.into,
+        (search rules, c.absorb-in-Byte.ensures.better),
+        (search rules, c.absorb-in-Byte-2.ensures.better),
+        (search rules, c.absorb-in-Byte-3.ensures.better),
+      ),
+    )
+
+pub returns-in-Kanji-clause-advances : goal.returns-in-Kanji-clause-advances
+returns-in-Kanji-clause-advances g c =
+    rw c.in-Kanji.is (
+      c.clear-in-Kanji.ensures,
+      c.clear-in-Kanji-2.ensures,
+      refl,
+      (
+        c.absorb-in-Kanji.new.into,
+        (search rules, c.absorb-in-Kanji.ensures.better),
+        (search rules, c.absorb-in-Kanji-2.ensures.better),
+      ),
+    )

@@ -1,0 +1,7 @@
+use Rattle.std.proofs.Common.{◌≡◌, ℕ, ◌<◌, length}
+use Rattle.std.specs.Prelude.{None}
+use Rattle.qrcode_bits.specs.Buckets.{slot}
+use Rattle.qrcode_bits.proofs.optimize.groups.clear.Given as goal
+
+abbrev pub invariant-loop-j : goal.invariant-loop-j
+invariant-loop-j l = (length l.group ≡ 8) × ((k : ℕ) → k < l.j → slot l.group k ≡ None)
