@@ -38,6 +38,21 @@ fn places_below(feature: Feature, bytes: &[u8], width: usize, at: usize, bound: 
     first_lanes(bound - at) & places
 }
 
+/// Which of 256 places have a feature, in each candidate.
+#[inline(always)]
+fn rows_of(feature: Feature, bytes: &[u8], width: usize, at: usize) -> [u8x16; 16]
+    requires wide { width ≤ 177 }
+    requires few { at ≤ 40000 }
+    requires within { at + 256 + reach feature width ≤ length bytes.now }
+    ensures { (i : ℕ) → i < 16 → Marks (slice_index_or result i []) (λ m j. has feature width (plane m bytes.now) (at + 16 * i + j)) }
+{
+    let mut rows = [u8x16::splat(0); 16];
+    for i in 0..16 {
+        rows[i] = places_of(feature, bytes, width, at + 16 * i);
+    }
+    rows
+}
+
 /// Which of 256 places below a bound have a feature, in each candidate.
 #[inline(always)]
 fn rows_below(feature: Feature, bytes: &[u8], width: usize, at: usize, bound: usize) -> [u8x16; 16]
@@ -46,6 +61,9 @@ fn rows_below(feature: Feature, bytes: &[u8], width: usize, at: usize, bound: us
     requires within { bound + reach feature width + 16 ≤ length bytes.now }
     ensures { (i : ℕ) → i < 16 → Marks (slice_index_or result i []) (λ m j. nat_lt (at + 16 * i + j) bound && has feature width (plane m bytes.now) (at + 16 * i + j)) }
 {
+    if at + 256 <= bound {
+        return rows_of(feature, bytes, width, at);
+    }
     let mut rows = [u8x16::splat(0); 16];
     for i in 0..16 {
         rows[i] = places_below(feature, bytes, width, at + 16 * i, bound);
