@@ -38,44 +38,48 @@ scaled a f (suc n) = mul-add a (sum_below f n) (f n) ∙ ap (λ t. t + a * f n) 
 cell_below : (w x y r : ℕ) → y * w + x + r * w ≡ (y + r) * w + x
 cell_below w x y r = omega (arith, add-mul y r w)
 
--- a list that begins with a grid
-module _ (w : ℕ) (grid cells : List ℕ) (same : (k : ℕ) → k < w * w → get_or grid k 0 ≡ get_or cells k 0) where
-  in_column : (x y r : ℕ) → x < w → y + r < w → cell w grid (y * w + x) r ≡ get_or (column w cells x) (y + r) 0
-  in_column x y r hx hy =
-      ap (λ k. get_or grid k 0) (cell_below w x y r) ∙ same ((y + r) * w + x) (cell_within w x (y + r) hx hy) ∙ sym (get_or-column w cells x (y + r) hy)
+-- a list in which a grid begins after four rows
+module _ (w : ℕ) (padded cells : List ℕ) (same : (k : ℕ) → k < w * w → get_or padded (4 * w + k) 0 ≡ get_or cells k 0) where
+  in_column : (x y r i : ℕ) → i ≡ 4 + r → x < w → y + r < w → cell w padded (y * w + x) i ≡ get_or (column w cells x) (y + r) 0
+  in_column x y r i e hx hy =
+      let place : y * w + x + i * w ≡ 4 * w + ((y + r) * w + x) = omega (arith, cell_below w x y r, ap (λ t. t * w) e, add-mul 4 r w) in
+      ap (λ k. get_or padded k 0) place ∙ same ((y + r) * w + x) (cell_within w x (y + r) hx hy) ∙ sym (get_or-column w cells x (y + r) hy)
 
-  same_in_column : (x y r : ℕ) → x < w → y + (r + 1) < w → is_same_below w grid (y * w + x) r ≡ same_of (column w cells x) y r
-  same_in_column x y r hx hy =
-      ap (λ t. t == cell w grid (y * w + x) (r + 1)) (in_column x y r hx (omega (arith, hy)))
-      ∙ ap (λ t. get_or (column w cells x) (y + r) 0 == t) (in_column x y (r + 1) hx hy)
+  same_in_column : (x y r i : ℕ) → i ≡ 4 + r → x < w → y + (r + 1) < w → is_same_below w padded (y * w + x) i ≡ same_of (column w cells x) y r
+  same_in_column x y r i e hx hy =
+      ap (λ t. t == cell w padded (y * w + x) (i + 1)) (in_column x y r i e hx (omega (arith, hy)))
+      ∙ ap (λ t. get_or (column w cells x) (y + r) 0 == t) (in_column x y (r + 1) (i + 1) (omega (arith, e)) hx hy)
 
-  five_in_column : (x y : ℕ) → x < w → y + 4 < w → has_five w grid (y * w + x) ≡ five_of (column w cells x) y
+  five_in_column : (x y : ℕ) → x < w → y + 4 < w → has_five w padded (y * w + x) ≡ five_of (column w cells x) y
   five_in_column x y hx hy =
-      let k = y * w + x in let line = column w cells x in
-      ap (λ t. t && is_same_below w grid k 1 && is_same_below w grid k 2 && is_same_below w grid k 3) (same_in_column x y 0 hx (omega (arith, hy)))
-      ∙ ap (λ t. same_of line y 0 && t && is_same_below w grid k 2 && is_same_below w grid k 3) (same_in_column x y 1 hx (omega (arith, hy)))
-      ∙ ap (λ t. same_of line y 0 && same_of line y 1 && t && is_same_below w grid k 3) (same_in_column x y 2 hx (omega (arith, hy)))
-      ∙ ap (λ t. same_of line y 0 && same_of line y 1 && same_of line y 2 && t) (same_in_column x y 3 hx (omega (arith, hy)))
+      and_same _ _ _ _ _ _ _ _ (same_in_column x y 0 4 refl hx (omega (arith, hy))) (same_in_column x y 1 5 refl hx (omega (arith, hy)))
+      (same_in_column x y 2 6 refl hx (omega (arith, hy))) (same_in_column x y 3 7 refl hx (omega (arith, hy)))
 
-  six_in_column : (x y : ℕ) → x < w → y + 5 < w → has_six w grid (y * w + x) ≡ six_of (column w cells x) y
+  six_in_column : (x y : ℕ) → x < w → y + 5 < w → has_six w padded (y * w + x) ≡ six_of (column w cells x) y
   six_in_column x y hx hy =
-      ap (λ t. t && is_same_below w grid (y * w + x) 4) (five_in_column x y hx (omega (arith, hy)))
-      ∙ ap (λ t. five_of (column w cells x) y && t) (same_in_column x y 4 hx hy)
+      ap (λ t. t && is_same_below w padded (y * w + x) 8) (five_in_column x y hx (omega (arith, hy)))
+      ∙ ap (λ t. five_of (column w cells x) y && t) (same_in_column x y 4 8 refl hx hy)
 
-  fives_of_columns : count_below (has_five w grid) ((w - 4) * w) ≡ sum_below (λ x. alikes 4 (column w cells x)) w
+  fives_of_columns : count_below (has_five w padded) ((w - 4) * w) ≡ sum_below (λ x. alikes 4 (column w cells x)) w
   fives_of_columns =
-      count_grid (has_five w grid) (λ x y. five_of (column w cells x) y) w (w - 4) (λ x y hx hy. five_in_column x y hx (omega (arith, hy)))
+      count_grid (has_five w padded) (λ x y. five_of (column w cells x) y) w (w - 4) (λ x y hx hy. five_in_column x y hx (omega (arith, hy)))
       ∙ sum_same_below (λ x. count_below (five_of (column w cells x)) (w - 4)) (λ x. alikes 4 (column w cells x)) w
       (λ x hx. sym (fives_are (column w cells x) ∙ ap (λ n. count_below (five_of (column w cells x)) (n - 4)) (length-column w cells x)))
 
-  sixes_of_columns : count_below (has_six w grid) ((w - 5) * w) ≡ sum_below (λ x. alikes 5 (column w cells x)) w
+  sixes_of_columns : count_below (has_six w padded) ((w - 5) * w) ≡ sum_below (λ x. alikes 5 (column w cells x)) w
   sixes_of_columns =
-      count_grid (has_six w grid) (λ x y. six_of (column w cells x) y) w (w - 5) (λ x y hx hy. six_in_column x y hx (omega (arith, hy)))
+      count_grid (has_six w padded) (λ x y. six_of (column w cells x) y) w (w - 5) (λ x y hx hy. six_in_column x y hx (omega (arith, hy)))
       ∙ sum_same_below (λ x. count_below (six_of (column w cells x)) (w - 5)) (λ x. alikes 5 (column w cells x)) w
       (λ x hx. sym (sixes_are (column w cells x) ∙ ap (λ n. count_below (six_of (column w cells x)) (n - 5)) (length-column w cells x)))
 
-  pub runs_of_columns : sum_below (λ x. runs_penalty (column w cells x)) w + 2 * count_below (has_six w grid) ((w - 5) * w) ≡ 3 * count_below (has_five w grid) ((w - 4) * w)
-  runs_of_columns = omega (arith, fives_of_columns, sixes_of_columns, weighed (λ x. runs_penalty (column w cells x)) (λ x. alikes 5 (column w cells x)) (λ x. alikes 4 (column w cells x)) w (λ x. runs_by_alikes (column w cells x)))
+  pub runs_of_columns : sum_below (λ x. runs_penalty (column w cells x)) w + 2 * count_below (has_six w padded) ((w - 5) * w) ≡ 3 * count_below (has_five w padded) ((w - 4) * w)
+  runs_of_columns =
+      omega (
+        arith,
+        fives_of_columns,
+        sixes_of_columns,
+        weighed (λ x. runs_penalty (column w cells x)) (λ x. alikes 5 (column w cells x)) (λ x. alikes 4 (column w cells x)) w (λ x. runs_by_alikes (column w cells x)),
+      )
 
 and_seven : (a b c d e f g a' b' c' d' e' f' g' : Bool) → a ≡ a' → b ≡ b' → c ≡ c' → d ≡ d' → e ≡ e' → f ≡ f' → g ≡ g'
     → (a && b && c && d && e && f && g) ≡ (a' && b' && c' && d' && e' && f' && g')

@@ -38,12 +38,13 @@ cell w cells k row = slice_index cells (k + row * w)
 abbrev pub is_same_below : ℕ → List ℕ → ℕ → ℕ → Bool
 is_same_below w cells k row = cell w cells k row == cell w cells k (row + 1)
 
+-- five or six modules of one colour from the fourth row on
 abbrev pub has_five : ℕ → List ℕ → ℕ → Bool
 has_five w cells k =
-    is_same_below w cells k 0 && is_same_below w cells k 1 && is_same_below w cells k 2 && is_same_below w cells k 3
+    is_same_below w cells k 4 && is_same_below w cells k 5 && is_same_below w cells k 6 && is_same_below w cells k 7
 
 abbrev pub has_six : ℕ → List ℕ → ℕ → Bool
-has_six w cells k = has_five w cells k && is_same_below w cells k 4
+has_six w cells k = has_five w cells k && is_same_below w cells k 8
 
 -- four light modules from a row on
 abbrev pub is_quiet : ℕ → List ℕ → ℕ → ℕ → Bool
@@ -72,8 +73,8 @@ has Dark w cells k = cell w cells k 0 == 1
 
 -- how many places after a place are looked at
 abbrev pub reach : Feature → ℕ → ℕ
-reach Five w = 4 * w
-reach Six w = 5 * w
+reach Five w = 8 * w
+reach Six w = 9 * w
 reach Finder w = 14 * w
 reach Square w = w + 1
 reach Dark w = 0

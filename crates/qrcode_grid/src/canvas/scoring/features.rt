@@ -4,8 +4,8 @@ ghost use Rattle.qrcode_grid.specs.Scoring.{Marks, plane, cell, has, has_five, h
 
 use std::simd::prelude::*;
 
-/// What is looked for from a place on: five or six modules of one colour downwards, a finder-like pattern four rows below with light
-/// modules on one side, a square of one colour, a dark module.
+/// What is looked for from a place on: five or six modules of one colour from four rows below on, a finder-like pattern there with
+/// light modules on one side, a square of one colour, a dark module.
 #[derive(Clone, Copy)]
 pub enum Feature {
     Five,
@@ -51,34 +51,34 @@ fn same(bytes: &[u8], at: usize, other: usize) -> u8x16
 #[inline(always)]
 fn same_rows(bytes: &[u8], width: usize, at: usize, row: usize) -> u8x16
     requires wide { width ≤ 177 }
-    requires row { row ≤ 4 }
+    requires row { row ≤ 8 }
     requires within { at + (row + 1) * width + 16 ≤ length bytes.now }
     ensures { Marks result (λ m j. cell width (plane m bytes.now) (at + j) row == cell width (plane m bytes.now) (at + j) (row + 1)) }
 {
     same(bytes, at + row * width, at + (row + 1) * width)
 }
 
-/// Where five modules downwards have one colour.
+/// Where five modules from four rows below on have one colour.
 #[inline(always)]
 fn fives(bytes: &[u8], width: usize, at: usize) -> u8x16
     requires wide { width ≤ 177 }
-    requires within { at + 4 * width + 16 ≤ length bytes.now }
+    requires within { at + 8 * width + 16 ≤ length bytes.now }
     ensures { Marks result (λ m j. has_five width (plane m bytes.now) (at + j)) }
 {
-    same_rows(bytes, width, at, 0)
-        & same_rows(bytes, width, at, 1)
-        & same_rows(bytes, width, at, 2)
-        & same_rows(bytes, width, at, 3)
+    same_rows(bytes, width, at, 4)
+        & same_rows(bytes, width, at, 5)
+        & same_rows(bytes, width, at, 6)
+        & same_rows(bytes, width, at, 7)
 }
 
-/// Where six modules downwards have one colour.
+/// Where six modules from four rows below on have one colour.
 #[inline(always)]
 fn sixes(bytes: &[u8], width: usize, at: usize) -> u8x16
     requires wide { width ≤ 177 }
-    requires within { at + 5 * width + 16 ≤ length bytes.now }
+    requires within { at + 9 * width + 16 ≤ length bytes.now }
     ensures { Marks result (λ m j. has_six width (plane m bytes.now) (at + j)) }
 {
-    fives(bytes, width, at) & same_rows(bytes, width, at, 4)
+    fives(bytes, width, at) & same_rows(bytes, width, at, 8)
 }
 
 /// Where four modules downwards from a row on are light.

@@ -33,9 +33,8 @@ fn penalties_of_columns(width: usize, padded: &[u8]) -> [usize; 8]
     ensures is { (m : ℕ) → m < 8 → slice_index result m ≡ sum_below (λ x. line_penalty (column width (plane m (grid_in width padded.now)) x)) width }
     ensures small { (m : ℕ) → m < 8 → slice_index result m ≤ 2000000 }
 {
-    let grid = &padded[4 * width..];
-    let fives = count(Feature::Five, grid, width, (width - 4) * width);
-    let sixes = count(Feature::Six, grid, width, (width - 5) * width);
+    let fives = count(Feature::Five, padded, width, (width - 4) * width);
+    let sixes = count(Feature::Six, padded, width, (width - 5) * width);
     let finders = count(Feature::Finder, padded, width, width * width);
     weighed(&fives, &sixes, &finders)
 }
