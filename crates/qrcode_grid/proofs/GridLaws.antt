@@ -33,7 +33,7 @@ some_of (Some x) c e h = ap Some e
 around : (c x : ℕ) → 6 ≤ c → abs_diff c x ≤ 2 → c + (x + 2 - c) - 2 ≡ x
 around c x six close = omega (arith, close)
 
-near_center : (n i x : ℕ) → n ≤ 40 → i < alignment_count n → abs_diff (alignment_coordinate n i) x ≤ 2 → near (alignment_coordinates n) x ≡ Some (alignment_coordinate n i)
+pub near_center : (n i x : ℕ) → n ≤ 40 → i < alignment_count n → abs_diff (alignment_coordinate n i) x ≤ 2 → near (alignment_coordinates n) x ≡ Some (alignment_coordinate n i)
 near_center n i x high within close =
     let c = alignment_coordinate n i in
     let row = passes are_near_their_own 0 41 n near_test (omega arith) (omega arith) in

@@ -1,12 +1,16 @@
--- The modules before the cell are drawn.
+-- The modules before the cell are drawn; between two centres, those before the cells of the next one.
 use Rattle.std.proofs.Common.{◌+◌, ◌*◌}
 use Rattle.qrcode_grid.specs.Masks.{drawn_over}
 use Rattle.qrcode_grid.specs.Regions.{alignments, alignment_coordinates}
+use Rattle.qrcode_grid.proofs.AlignmentRows.{behind}
 use Rattle.qrcode_grid.proofs.CellSteps.{CellsChanged}
 use Rattle.qrcode_grid.proofs.canvas.drawing.draw_alignments.Given as goal
 
 abbrev pub invariant-loop-y : goal.invariant-loop-y
 invariant-loop-y l = CellsChanged (λ x y m. drawn_over (alignments l.fn.width (alignment_coordinates l.fn.n) x y) m) l.width l.fn.modules l.modules (l.y * l.width)
+
+abbrev pub invariant-loop-k : goal.invariant-loop-k
+invariant-loop-k l = CellsChanged (λ x y m. drawn_over (alignments l.fn.width (alignment_coordinates l.fn.n) x y) m) l.width l.fn.modules l.modules (l.y * l.width + behind l.fn.n l.k)
 
 abbrev pub invariant-loop-x : goal.invariant-loop-x
 invariant-loop-x l = CellsChanged (λ x y m. drawn_over (alignments l.fn.width (alignment_coordinates l.fn.n) x y) m) l.width l.fn.modules l.modules (l.y * l.width + l.x)
