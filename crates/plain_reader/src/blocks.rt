@@ -200,12 +200,7 @@ fn block(alloc: Global, stream: &[u8], layout: Layout, number: usize) -> Option<
 }
 
 /// The data codewords of all blocks, one block after the other, where every block is sound and the cells left over are light.
-pub fn data_codewords(
-    alloc: Global,
-    bits: &[bool],
-    shape: Shape,
-    level: Level,
-) -> Option<Vec<u8>> {
+pub fn data_codewords(alloc: Global, bits: &[bool], shape: Shape, level: Level) -> Option<Vec<u8>> {
     let layout = layout_of(shape, level, bits.len())?;
     let stream = codewords(alloc, bits, layout)?;
     if !rest_is_light(bits, layout) {

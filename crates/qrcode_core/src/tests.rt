@@ -24,8 +24,15 @@ fn draws_micro_symbol(rt: HostRuntime) -> Result<(), Fail> {
     assert_eq!(rt; grid.len(), 121);
     for (y, row) in ROWS.iter().enumerate() {
         for x in 0..11 {
-            let color = if *row >> (10 - x) & 1 == 1 { Color::Dark } else { Color::Light };
-            assert!(rt; grid.get(y * 11 + x) == Some(&color), "column {x} of row {y}");
+            let color = if *row >> (10 - x) & 1 == 1 {
+                Color::Dark
+            } else {
+                Color::Light
+            };
+            assert!(rt;
+                grid.get(y * 11 + x) == Some(&color),
+                "column {x} of row {y}"
+            );
         }
     }
     Ok(())

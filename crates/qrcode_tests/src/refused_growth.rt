@@ -6,12 +6,14 @@
 mod pushes;
 mod registry;
 
-use qrcode_core::bits::{encode_auto, encode_auto_micro, encode_auto_with_max_version, encode_part};
+use crate::grids::hash;
+use qrcode_core::bits::{
+    encode_auto, encode_auto_micro, encode_auto_with_max_version, encode_part,
+};
 use qrcode_core::canvas::{Canvas, MaskPattern};
 use qrcode_core::ec::{construct_codewords, create_error_correction_code};
 use qrcode_core::optimize::{Parser, optimize_segments, supports_linear_costs};
 use qrcode_core::symbol::{symbol, symbol_micro, symbol_sequence};
-use crate::grids::hash;
 use qrcode_core::types::{EcLevel, Mode, QrError, QrResult, Version};
 
 const ONE: Version = Version::Normal(1);

@@ -1,8 +1,7 @@
 //! Sequences of symbols: worked rows, read back by the plain reader.
-use crate::grids::{modules_of, read};
+use crate::grids::{hash, modules_of, read};
 use plain_reader::{Level, read_sequence};
 use qrcode_core::symbol::{are_cuts, symbol_sequence};
-use crate::grids::hash;
 use qrcode_core::types::{Color, EcLevel, QrError, QrResult};
 use std::alloc::Global;
 use std::test::Fail;

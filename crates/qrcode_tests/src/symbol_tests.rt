@@ -114,7 +114,9 @@ fn is_read_back(alloc: Global, shape: Shape, level: EcLevel) -> bool {
         seen(alloc, &bytes, level)
     };
     seen.is_some_and(|seen| {
-        seen.shape == shape && seen.level == level_of(level) && seen.bytes.as_slice() == bytes.as_slice()
+        seen.shape == shape
+            && seen.level == level_of(level)
+            && seen.bytes.as_slice() == bytes.as_slice()
     })
 }
 

@@ -541,13 +541,21 @@ fn plugins_are_registered_whole(rt: HostRuntime) -> Result<(), Fail> {
     let config = RenderConfig::new(alloc);
     let text = RenderOutput::Text(String::from_str(alloc, "#..#")?);
     assert_eq!(rt; printed(&registry, alloc, &config)?, text);
-    let built = registry.build_encoder("length", &EncodeConfig::new(alloc)).ok();
+    let built = registry
+        .build_encoder("length", &EncodeConfig::new(alloc))
+        .ok();
     let encoder = built.ok_or("no encoder")?;
     let bytes = encoder.encode(alloc, b"abc", &EncodeConfig::new(alloc))?;
-    assert_eq!(rt; bytes, EncodedOutput::Bytes(Vec::from_slice(alloc, b"abc")?));
+    assert_eq!(rt;
+        bytes,
+        EncodedOutput::Bytes(Vec::from_slice(alloc, b"abc")?)
+    );
     let mut grid = grid_of_text(alloc, "..", 2, 1)?;
     assert_eq!(rt; registry.process_modules(&mut grid), Ok(()));
-    assert_eq!(rt; ModuleStorage::modules(&grid), [Color::Dark, Color::Light].as_slice());
+    assert_eq!(rt;
+        ModuleStorage::modules(&grid),
+        [Color::Dark, Color::Light].as_slice()
+    );
     assert_eq!(rt; registry.plugin_names().count(), 1);
     assert_eq!(rt; registry.renderer_names().count(), 1);
     assert_eq!(rt; registry.encoder_names().count(), 1);

@@ -1,11 +1,11 @@
 //! Registrations and configurations whose growths are refused.
 
+use crate::view_tests::{Darken, Plain, Text};
 use qrcode_core::plugin::{
     DynEncoder, DynRenderer, EncodeConfig, EncodedOutput, ModuleGrid, PluginError, PluginRegistry,
     PostProcessor, QrPlugin, RenderConfig, RenderOutput,
 };
 use qrcode_core::types::Color;
-use crate::view_tests::{Darken, Plain, Text};
 use std::alloc::Global;
 
 /// A plugin of five registrations: its version, two renderers, an encoder and a postprocessor.
