@@ -1,5 +1,5 @@
 -- Places counted in rows of sixteen lanes.
-use Rattle.std.proofs.Common.{◌≡◌, ℕ, zero, suc, ◌+◌, ◌-◌, ◌*◌, ◌<◌, ◌≤◌, ◌==◌, ◌&&◌, ltb, eqb, Bool, true, false, cond, List, [], get_or, ap, ◌∙◌, sym, arith, inl, inr}
+use Rattle.std.proofs.Common.{◌≡◌, ℕ, zero, suc, ◌+◌, ◌-◌, ◌*◌, ◌<◌, ◌≤◌, ◌==◌, ◌&&◌, ltb, eqb, Bool, true, false, cond, List, [], length, get_or, get_or-set_same, get_or-set_other, slice_set, below_more, ◌≢◌, subst, ap, ◌∙◌, sym, arith, inl, inr}
 use Rattle.std.specs.Int.{bit_at}
 use Rattle.std.proofs.lemmas.Bool.{cases_lt}
 use Rattle.std.proofs.lemmas.Nat.Bits.{bit_at-zero, bit_at_ones}
@@ -80,3 +80,16 @@ ends_are ends test count j m h l b =
 pub dark_again : (b : Bool) (n : ℕ) → n ≡ cond b 1 0 → ◌≡◌ {A = ℕ} (cond (n == 1) 1 0) (cond b 1 0)
 dark_again true n e = ap (λ k. cond (k == 1) 1 0) e
 dark_again false n e = ap (λ k. cond (k == 1) 1 0) e
+
+-- all places before one that is not past the bound are counted
+pub count_inside : (test : ℕ → Bool) (n at : ℕ) → at ≤ n → count_below test at ≡ count_below (λ k. ltb k n && test k) at
+count_inside test n at h =
+    sum_same_below (λ k. cond (test k) 1 0) (λ k. cond (ltb k n && test k) 1 0) at (λ k l. ap (λ b. cond b 1 0) (marked_within n k (test k) (omega arith)))
+
+-- what holds of each row before one and of that one holds when it is set
+pub row_set : (P : ℕ → List ℕ → Type 0) (rows : List (List ℕ)) (n : ℕ) (v : List ℕ) → n < length rows → ((i : ℕ) → i < n → P i (get_or rows i [])) → P n v
+    → (i : ℕ) → i < n + 1 → P i (get_or (slice_set rows n v) i [])
+row_set P rows n v inside before here =
+    below_more (λ i. P i (get_or (slice_set rows n v) i [])) n
+    (λ i h. let ne : i ≢ n = omega arith in subst (P i) (sym (get_or-set_other rows n i v [] ne)) (before i h))
+    (subst (P n) (sym (get_or-set_same rows n v [] inside)) here)

@@ -2,6 +2,7 @@
 use Rattle.std.specs.Prelude.{ℕ, ◌+◌, ◌*◌, ◌<◌, ◌≡◌, ◌==◌, ◌&&◌, ◌||◌, Bool, if◌then◌else◌, ◌≤◌, List, map, length, slice_index, slice_index_or, slice_range}
 use Rattle.std.specs.Int.{bit_at}
 use Rattle.qrcode_grid.specs.declared.canvas.scoring.planes.Planes.{Planes}
+use Rattle.qrcode_grid.specs.declared.canvas.scoring.planes.Tally.{Tally}
 use Rattle.qrcode_grid.specs.declared.canvas.MaskPattern.{MaskPattern}
 use Rattle.qrcode_grid.specs.declared.canvas.MaskPattern.TheVariants.{Checkerboard}
 use Rattle.qrcode_grid.specs.Masks.{normal_patterns}
@@ -30,6 +31,10 @@ pub record Marks (lanes : List ℕ) (test : ℕ → ℕ → Bool) : Type 0 where
 abbrev pub held : ℕ → Planes → ℕ
 held m planes =
     bit_count m planes.ones + 2 * bit_count m planes.twos + 4 * bit_count m planes.fours + 8 * bit_count m planes.eights
+
+-- how often bit m was set
+abbrev pub tallied : ℕ → Tally → ℕ
+tallied m tally = 16 * slice_index tally.sums m + held m tally.planes
 
 -- the module so many rows below place k of a grid of width w
 abbrev pub cell : ℕ → List ℕ → ℕ → ℕ → ℕ

@@ -1,9 +1,9 @@
 //! Bits counted by their place in a byte, sixteen rows of lanes at a time.
 ghost use Rattle.std.specs.Prelude.{◌≡◌, ℕ, ◌+◌, ◌*◌, ◌<◌, ◌≤◌, [], length, slice_index, slice_index_or};
 ghost use Rattle.qrcode_grid.specs.Sums.{sum_below};
-ghost use Rattle.qrcode_grid.specs.Scoring.{bit_count, held};
+ghost use Rattle.qrcode_grid.specs.Scoring.{bit_count, held, tallied};
 
-use crate::canvas::scoring::planes::Planes;
+use crate::canvas::scoring::planes::{Planes, Tally};
 use std::simd::prelude::*;
 
 /// The sum and the carry of three bits, at each bit.
@@ -33,23 +33,28 @@ fn add_four(ones: u8x16, twos: u8x16, rows: &[u8x16; 16], from: usize) -> (u8x16
     (ones, twos, fours)
 }
 
-/// No bit.
+/// No bit was set.
 #[inline(always)]
-pub fn no_bits() -> Planes
-    ensures { (m : ℕ) → held m result ≡ 0 }
+pub fn no_bits() -> Tally
+    ensures none { (m : ℕ) → m < 8 → tallied m result ≡ 0 }
+    ensures small { (m : ℕ) → m < 8 → slice_index result.sums m ≡ 0 }
 {
     let zero = u8x16::splat(0);
-    Planes {
+    let planes = Planes {
         ones: zero,
         twos: zero,
         fours: zero,
         eights: zero,
+    };
+    Tally {
+        planes,
+        sums: [0; 8],
     }
 }
 
 /// Sixteen rows of lanes more, and the carry to the sixteens.
 #[inline(always)]
-pub fn add_sixteen(planes: Planes, rows: &[u8x16; 16]) -> (Planes, u8x16)
+fn add_sixteen(planes: Planes, rows: &[u8x16; 16]) -> (Planes, u8x16)
     requires rows { (i : ℕ) → i < 16 → length (slice_index_or rows.now i []) ≡ 16 }
     ensures lanes { length result.1 ≡ 16 }
     ensures sum { (m : ℕ) → held m result.0 + 16 * bit_count m result.1 ≡ held m planes + sum_below (λ i. bit_count m (slice_index_or rows.now i [])) 16 }
@@ -84,7 +89,7 @@ fn count_bit(lanes: u8x16, m: usize) -> usize
 
 /// Adds in how many lanes each bit is set.
 #[inline(always)]
-pub fn add_counts(sums: &mut [usize; 8], lanes: u8x16)
+fn add_counts(sums: &mut [usize; 8], lanes: u8x16)
     requires lanes { length lanes ≡ 16 }
     requires room { (m : ℕ) → m < 8 → slice_index sums.old m ≤ 1000000 }
     ensures { (m : ℕ) → m < 8 → slice_index sums.new m ≡ slice_index sums.old m + bit_count m lanes }
@@ -94,17 +99,32 @@ pub fn add_counts(sums: &mut [usize; 8], lanes: u8x16)
     }
 }
 
-/// What the rows of lanes and the sixteens hold of each bit.
+/// Sixteen rows of lanes more.
 #[inline(always)]
-pub fn totals(planes: Planes, sums: &[usize; 8]) -> [usize; 8]
-    requires room { (m : ℕ) → m < 8 → slice_index sums.now m ≤ 1000000 }
-    ensures { (m : ℕ) → m < 8 → slice_index result m ≡ 16 * slice_index sums.now m + held m planes }
+pub fn add_rows(tally: Tally, rows: &[u8x16; 16]) -> Tally
+    requires rows { (i : ℕ) → i < 16 → length (slice_index_or rows.now i []) ≡ 16 }
+    requires room { (m : ℕ) → m < 8 → slice_index tally.sums m ≤ 1000000 }
+    ensures more { (m : ℕ) → m < 8 → tallied m result ≡ tallied m tally + sum_below (λ i. bit_count m (slice_index_or rows.now i [])) 16 }
+    ensures small { (m : ℕ) → m < 8 → slice_index result.sums m ≤ slice_index tally.sums m + 16 }
 {
+    let (planes, sixteens) = add_sixteen(tally.planes, rows);
+    let mut sums = tally.sums;
+    add_counts(&mut sums, sixteens);
+    Tally { planes, sums }
+}
+
+/// How often each bit was set.
+#[inline(always)]
+pub fn totals(tally: Tally) -> [usize; 8]
+    requires room { (m : ℕ) → m < 8 → slice_index tally.sums m ≤ 1000000 }
+    ensures { (m : ℕ) → m < 8 → slice_index result m ≡ tallied m tally }
+{
+    let planes = tally.planes;
     let mut result = [0; 8];
     for m in 0..8 {
         let high = 8 * count_bit(planes.eights, m) + 4 * count_bit(planes.fours, m);
         let low = 2 * count_bit(planes.twos, m) + count_bit(planes.ones, m);
-        result[m] = 16 * sums[m] + high + low;
+        result[m] = 16 * tally.sums[m] + high + low;
     }
     result
 }

@@ -8,7 +8,7 @@ ghost use Rattle.qrcode_grid.specs.Penalty.{column, line_penalty, squares_penalt
 ghost use Rattle.qrcode_grid.specs.Scoring.{IsPadded, grid_in, plane, has_square};
 
 use crate::canvas::scoring::features::{Feature, places_of};
-use crate::canvas::scoring::tally::count;
+use crate::canvas::scoring::tally::{count, count_columns};
 
 /// What runs and finder-like patterns count: a run of n modules has n - 4 fives and n - 5 sixes, and counts n - 2.
 #[inline(always)]
@@ -33,9 +33,7 @@ fn penalties_of_columns(width: usize, padded: &[u8]) -> [usize; 8]
     ensures is { (m : ℕ) → m < 8 → slice_index result m ≡ sum_below (λ x. line_penalty (column width (plane m (grid_in width padded.now)) x)) width }
     ensures small { (m : ℕ) → m < 8 → slice_index result m ≤ 2000000 }
 {
-    let fives = count(Feature::Five, padded, width, (width - 4) * width);
-    let sixes = count(Feature::Six, padded, width, (width - 5) * width);
-    let finders = count(Feature::Finder, padded, width, width * width);
+    let (fives, sixes, finders) = count_columns(padded, width);
     weighed(&fives, &sixes, &finders)
 }
 

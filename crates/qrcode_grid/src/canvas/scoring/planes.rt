@@ -12,3 +12,10 @@ pub struct Planes {
     pub eights: u8x16,
     pub ghost lanes: { (length ones ≡ 16) × (length twos ≡ 16) × (length fours ≡ 16) × (length eights ≡ 16) },
 }
+
+/// How often each bit was set: rows of lanes of weights 1, 2, 4 and 8, and how many sixteens there are of each bit.
+#[derive(Clone, Copy)]
+pub struct Tally {
+    pub planes: Planes,
+    pub sums: [usize; 8],
+}

@@ -1,4 +1,4 @@
-use Rattle.std.proofs.Common.{◌≡◌, ◌<◌, map, length, get_or, ◌∙◌, sym, arith}
+use Rattle.std.proofs.Common.{◌<◌, map, length, ◌∙◌, sym, arith}
 use Rattle.std.proofs.lemmas.Grind.{same_number_lists}
 use Rattle.std.proofs.lemmas.List.{get_or-map, length-map}
 use Rattle.qrcode_base.specs.declared.types.Color.TheVariants.{Light}

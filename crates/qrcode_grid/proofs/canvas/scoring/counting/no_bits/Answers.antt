@@ -1,6 +1,10 @@
-use Rattle.std.proofs.Common.{arith}
+use Rattle.std.proofs.Common.{ℕ, arith}
+use Rattle.std.proofs.lemmas.Simd.{get_or-replicate}
 use Rattle.qrcode_grid.proofs.BitCounts.{no_bit}
 use Rattle.qrcode_grid.proofs.canvas.scoring.counting.no_bits.Goals as goal
 
-pub returns : goal.returns
-returns c = λ m. omega (arith, no_bit m)
+pub returns-clause-none : goal.returns-clause-none
+returns-clause-none c = λ m h. omega (arith, no_bit m, get_or-replicate {A = ℕ} 8 m 0 0 h)
+
+pub returns-clause-small : goal.returns-clause-small
+returns-clause-small c = λ m h. get_or-replicate {A = ℕ} 8 m 0 0 h

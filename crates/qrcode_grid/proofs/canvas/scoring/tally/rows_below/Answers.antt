@@ -1,4 +1,4 @@
-use Rattle.std.proofs.Common.{◌+◌, ◌*◌, ◌<◌, ℕ, arith}
+use Rattle.std.proofs.Common.{◌+◌, ◌*◌, arith}
 use Rattle.qrcode_grid.specs.Scoring.{has, plane}
 use Rattle.qrcode_grid.proofs.MarkedLanes.{marks_where}
 use Rattle.qrcode_grid.proofs.Tallies.{marked_within}

@@ -1,0 +1,12 @@
+-- The places of the chunks before this one are counted.
+use Rattle.std.proofs.Common.{◌≡◌, ◌<◌, ◌≤◌, ◌*◌, ◌&&◌, ltb, ℕ, get_or}
+use Rattle.qrcode_grid.specs.Sums.{count_below}
+use Rattle.qrcode_grid.specs.Scoring.{tallied, has, plane}
+use Rattle.qrcode_grid.proofs.canvas.scoring.tally.count_from.Given as goal
+
+abbrev pub invariant-loop-chunk : goal.invariant-loop-chunk
+invariant-loop-chunk l = record {
+  small : (m : ℕ) → m < 8 → get_or l.tally.sums m 0 ≤ 16 * l.chunk;
+  so_far :
+      (m : ℕ) → m < 8 → tallied m l.tally ≡ count_below (λ k. ltb k l.bound && has l.feature l.width (plane m l.bytes) k) (256 * l.chunk);
+}
