@@ -6,7 +6,8 @@ use qrcode_base::types::QrResult;
 
 /// The penalties of a canvas under each mask of its family, as the crate counts them.
 fn counted_penalties(alloc: Global, canvas: &Canvas) -> QrResult<Vec<usize>> {
-    canvas.penalties(alloc)
+    let (_, numbered) = canvas.candidates(alloc)?;
+    canvas.penalties(alloc, &numbered)
 }
 
 /// The masks of a version.
