@@ -6,7 +6,8 @@ use Rattle.qrcode_grid.specs.Codes.{AreBytes, value_at}
 -- Row i holds the multiples of 32 terms by i times a step.
 abbrev pub AreMultiples : ℕ → List ℕ → List (List ℕ) → Type 0
 AreMultiples step terms rows =
-    (i j : ℕ) → i < 16 → j < 32 → slice_index (slice_index_or rows i []) j ≡ product i (product step (slice_index terms j))
+    (i j : ℕ) → i < 16 → j < 32 →
+    slice_index (slice_index_or rows i []) j ≡ product i (product step (slice_index terms j))
 
 -- The terms of a monic divisor below its first, padded with zeros.
 abbrev pub AreTerms : List ℕ → List ℕ → Type 0
@@ -36,7 +37,8 @@ pub record IsRemainder (n : ℕ) (divisor seen lanes : List ℕ) : Type 0 where
   pub size : length lanes ≡ 32
   pub rest : (k : ℕ) → n ≤ k → slice_index lanes k ≡ 0
   pub congruent :
-      (a : ℕ) → value_at divisor a ≡ 0 → value_at (take n lanes) a ≡ value_at (seen ++ replicate n 0) a
+      (a : ℕ) → value_at divisor a ≡ 0 →
+      value_at (take n lanes) a ≡ value_at (seen ++ replicate n 0) a
 
 -- A list ends with n bytes more, with which the body vanishes where the divisor does.
 pub record AddsCode (n : ℕ) (divisor body old new : List ℕ) : Type 0 where

@@ -9,7 +9,8 @@ use Rattle.qrcode_grid.specs.Symbol.{HasFunctionalColors}
 
 -- Under each mask as many modules, the same raw colours and that mask's functional colours; under its own mask the grid
 -- itself.
-pub record HasItsSiblings (version : Version) (level : EcLevel) (pattern : MaskPattern) (colors : List Color) : Type 0 where
+pub record HasItsSiblings (version : Version) (level : EcLevel) (pattern : MaskPattern) (colors : List Color)
+    : Type 0 where
   pub size : (other : MaskPattern) → length (sibling version level pattern other colors) ≡ length colors
   pub raw :
       (other : MaskPattern) →

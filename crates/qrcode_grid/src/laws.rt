@@ -10,16 +10,17 @@ ghost use Rattle.qrcode_grid.specs.OneMultiple.{HasOneFormatWord, HasOneVersionW
 ghost use Rattle.qrcode_grid.specs.Siblings.{HasItsSiblings};
 ghost use Rattle.qrcode_grid.specs.Symbol.{HasFunctionalColors};
 
-/// The siblings of a grid with the functional colours of its symbol have its raw colours and the functional colours of their
-/// own masks. Under its own mask the sibling is the grid itself.
+/// The siblings of a grid with the functional colours of its symbol have its raw colours and the functional colours of
+/// their own masks. Under its own mask the sibling is the grid itself.
 pub fn siblings_have_the_same_data()
     ensures { (version : Version) (level : EcLevel) (pattern : MaskPattern) (colors : List Color) →
         IsVersion version → length colors ≡ width_of version * width_of version →
-        HasFunctionalColors version level pattern colors → HasItsSiblings version level pattern colors }
+        HasFunctionalColors version level pattern colors →
+        HasItsSiblings version level pattern colors }
 {}
 
-/// Of the multiples of a generator one begins with some data, and no other does: the code word. So each format word and each
-/// version word is there, and is the only one.
+/// Of the multiples of a generator one begins with some data, and no other does: the code word. So each format word and
+/// each version word is there, and is the only one.
 pub fn words_are_the_one_multiple()
     ensures format { (data_bits : ℕ) → data_bits < 32 → HasOneFormatWord data_bits }
     ensures version { (number : ℕ) → number < 64 → HasOneVersionWord number }

@@ -75,7 +75,8 @@ fn multiple_by(factor: u8, low: &[u8x32; 16], high: &[u8x32; 16]) -> u8x32
     requires low { All (λ row. length row ≡ 32) low.now }
     requires high { All (λ row. length row ≡ 32) high.now }
     ensures lanes { length result ≡ 32 }
-    ensures by_lane { (terms : List ℕ) → AreMultiples 1 terms low.now → AreMultiples 16 terms high.now →
+    ensures by_lane { (terms : List ℕ) →
+        AreMultiples 1 terms low.now → AreMultiples 16 terms high.now →
         (j : ℕ) → j < 32 → slice_index result j ≡ product factor (slice_index terms j) }
 {
     low[usize::from(factor % 16)] ^ high[usize::from(factor / 16)]
@@ -87,7 +88,8 @@ fn turned(lanes: u8x32, byte: u8, low: &[u8x32; 16], high: &[u8x32; 16]) -> u8x3
     requires low { All (λ row. length row ≡ 32) low.now }
     requires high { All (λ row. length row ≡ 32) high.now }
     ensures lanes { length result ≡ 32 }
-    ensures turn { (terms : List ℕ) → AreMultiples 1 terms low.now → AreMultiples 16 terms high.now →
+    ensures turn { (terms : List ℕ) →
+        AreMultiples 1 terms low.now → AreMultiples 16 terms high.now →
         IsTurn terms lanes byte result }
 {
     moved(lanes) ^ multiple_by(byte ^ lanes[0], low, high)
@@ -112,7 +114,8 @@ fn remainder(body: &[u8], low: &[u8x32; 16], high: &[u8x32; 16]) -> u8x32
     ensures lanes { length result ≡ 32 }
     ensures bytes { AreBytes result }
     ensures is { (n : ℕ) (divisor terms : List ℕ) →
-        IsDivisor n divisor → AreRows divisor terms low.now high.now → IsRemainder n divisor body.now result }
+        IsDivisor n divisor → AreRows divisor terms low.now high.now →
+        IsRemainder n divisor body.now result }
 {
     let mut lanes = u8x32::splat(0);
     for byte in body {

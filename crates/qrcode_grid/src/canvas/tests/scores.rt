@@ -38,8 +38,8 @@ fn told(version: Version, sum: usize) -> usize {
     sum.saturating_sub(less).min(65535)
 }
 
-/// Whether the penalties of a canvas under all masks are the plain sums, and the best mask and its score are those of the first
-/// least.
+/// Whether the penalties of a canvas under all masks are the plain sums, and the best mask and its score are those of
+/// the first least.
 fn is_scored(alloc: Global, canvas: &Canvas) -> QrResult<bool> {
     let masks = masks_of(canvas.version);
     let sums = plain_penalties(alloc, canvas, masks)?;
