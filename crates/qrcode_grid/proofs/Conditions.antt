@@ -1,7 +1,6 @@
 -- The table of the conditions of eight masks.
 use Rattle.std.proofs.Common.{◌≡◌, ℕ, zero, suc, ◌+◌, ◌/◌, ◌%◌, ◌<◌, ◌==◌, eqb, Bool, true, false, cond, min, [], get_or, refl, ap, arith}
 use Rattle.std.specs.Int.{bit_at}
-use Rattle.std.proofs.lemmas.Nat.Bits.{bit_at-zero, bit_at_ones}
 use Rattle.qrcode_base.specs.declared.types.Color.TheVariants.{Light, Dark}
 use Rattle.qrcode_grid.specs.declared.canvas.Module.{Module}
 use Rattle.qrcode_grid.specs.declared.canvas.Module.TheVariants.{Empty, Masked, Unmasked}
@@ -27,11 +26,6 @@ condition_at m k y hm hk hy =
 pub set_again : (b : Bool) (n : ℕ) → n ≡ cond b 1 0 → (n == 1) ≡ b
 set_again true n e = ap (λ k. k == 1) e
 set_again false n e = ap (λ k. k == 1) e
-
--- a byte of ones or zeros
-pub spread_at : (t : Bool) (m : ℕ) → m < 8 → bit_at (cond t 255 0) m ≡ cond t 1 0
-spread_at true m h = bit_at_ones 8 m h
-spread_at false m h = bit_at-zero m
 
 pub bits_masked : (old : Module) (b : ℕ) → b < 2 → (cond (code_of old % 2 == 1) 1 0 + min (cond (code_of old / 2 == 1) 1 0) b) % 2 ≡ masked_code (code_of old) (b == 1)
 bits_masked Empty zero h = refl

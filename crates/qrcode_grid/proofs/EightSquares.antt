@@ -37,9 +37,6 @@ module _ (w : ℕ) (grid cells : List ℕ) (square : length cells ≡ w * w) (wi
   abbrev lower : List ℕ
   lower = take (length cells - w) (drop w cells)
 
-  whole_rows : w ≤ w * w
-  whole_rows = let one : 1 ≤ w = omega (arith, wide) in omega (arith, mul-le-mul_right w one)
-
   upper_is : (k : ℕ) → k < w * w - w → get_or upper k 0 ≡ get_or cells k 0
   upper_is k h = get_or-take (length cells - w) cells k 0 (omega (arith, h, square))
 

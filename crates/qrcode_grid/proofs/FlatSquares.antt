@@ -100,7 +100,3 @@ one false = omega arith
 pub count_below_le : (p : ℕ → Bool) (n : ℕ) → count_below p n ≤ n
 count_below_le p zero = omega arith
 count_below_le p (suc n) = omega (arith, count_below_le p n, one (p n))
-
--- one place more of a count
-pub count_below_more : (p : ℕ → Bool) (n : ℕ) (b : Bool) → b ≡ p n → count_below p (n + 1) ≡ count_below p n + cond b 1 0
-count_below_more p n b is = sum_below_more (λ k. cond (p k) 1 0) n ∙ ap (λ t. count_below p n + cond t 1 0) (sym is)
