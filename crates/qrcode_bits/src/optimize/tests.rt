@@ -277,7 +277,12 @@ fn agree_counted<L: Ledger>(
 {
     let linear = optimize_linear(alloc, segments, version, comparisons)?;
     let quadratic = optimize_quadratic(alloc, segments, version, comparisons)?;
-    Ok(linear.as_slice() == quadratic.as_slice())
+    let short = if is_short(segments) {
+        optimize_short(alloc, segments, version, comparisons)?
+    } else {
+        optimize_linear(alloc, segments, version, comparisons)?
+    };
+    Ok(linear.as_slice() == quadratic.as_slice() && short.as_slice() == quadratic.as_slice())
 }
 
 fn agree_from<L: Ledger>(
@@ -297,7 +302,7 @@ fn agree_from<L: Ledger>(
     agree_counted(alloc, segments, version, &mut comparisons)
 }
 
-/// Whether both bodies give one plan of these segments, whose costs are linear, in seven versions.
+/// Whether the three bodies give one plan of these segments, whose costs are linear, in seven versions.
 fn agree(rt: &HostRuntime, segments: &[Segment]) -> QrResult<bool> {
     for case in 0..7usize {
         let version = version_of(case);

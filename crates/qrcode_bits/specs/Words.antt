@@ -1,0 +1,71 @@
+-- Starts as words of 64 bits.
+use Rattle.std.specs.Prelude.{◌≡◌, ◌≢◌, min, ℕ, ◌+◌, ◌-◌, ◌*◌, ◌/◌, ◌%◌, ◌^◌, ◌<◌, List, map, slice_index_or, nat_le, if◌then◌else◌, length, Option, Some, None}
+use Rattle.std.specs.List.{range_with_len}
+use Rattle.qrcode_bits.specs.declared.optimize.candidate.Candidate.{Candidate}
+use Rattle.qrcode_bits.specs.declared.optimize.groups.Groups.{Groups}
+use Rattle.qrcode_bits.specs.declared.optimize.words.Words.{Words}
+use Rattle.qrcode_bits.specs.declared.optimize.short.Headers.{Headers}
+use Rattle.qrcode_bits.specs.declared.optimize.Segment.{Segment}
+use Rattle.qrcode_base.specs.declared.types.Version.{Version}
+use Rattle.qrcode_base.specs.declared.types.Mode.{Mode}
+use Rattle.qrcode_base.specs.declared.types.Mode.TheVariants.{Numeric, Alphanumeric, Byte, Kanji}
+use Rattle.qrcode_base.specs.Modes.{indicator_width, count_width}
+use Rattle.qrcode_bits.specs.Merging.{segment_at}
+use Rattle.qrcode_bits.specs.Periods.{period_bits}
+use Rattle.qrcode_bits.specs.Buckets.{bucket_mode}
+
+-- The word of a start: fewer bits, then fewer parts, then a later start make it less.
+abbrev pub word_of : ℕ → ℕ → ℕ → ℕ
+word_of bits parts start = bits * 2 ^ 26 + parts * 2 ^ 13 + (8191 - start)
+
+-- the start that a word tells, with so many bits more
+abbrev pub start_told : ℕ → ℕ → Candidate
+start_told more word =
+    record { bits = word / 2 ^ 26 + more; parts = word % 2 ^ 26 / 2 ^ 13; start = 8191 - word % 2 ^ 26 % 2 ^ 13 }
+
+-- A word of 2^50 or more is no start. In a bucket the bits are less those of whole periods before the begin, and 2^13 periods; told they have 2^64.
+abbrev pub bucket_start : ℕ → ℕ → Option Candidate
+bucket_start j word =
+    if nat_le (2 ^ 50) word then None else Some (start_told (period_bits (bucket_mode j) * (2 ^ 64 - 2 ^ 13)) word)
+
+abbrev pub word_at : List ℕ → ℕ → ℕ
+word_at words j = slice_index_or words j 0
+
+unfoldable pub starts_in : List ℕ → List (Option Candidate)
+starts_in words = map (λ j. bucket_start j (word_at words j)) (range_with_len 0 8)
+
+-- The bucket has the lesser of its word and another one; the other buckets are as before.
+pub record IsOffered (bucket word : ℕ) (old new : List ℕ) : Type 0 where
+  pub lesser : word_at new bucket ≡ min (word_at old bucket) word
+  pub others : (j : ℕ) → j ≢ bucket → word_at new j ≡ word_at old j
+
+abbrev pub told : Words → Groups
+told words = record {
+  numeric = starts_in words.numeric;
+  alphanumeric = starts_in words.alphanumeric;
+  byte = starts_in words.byte;
+  kanji = starts_in words.kanji;
+}
+
+-- Each group has its eight buckets.
+pub record AreWhole (words : Words) : Type 0 where
+  pub numeric : length words.numeric ≡ 8
+  pub alphanumeric : length words.alphanumeric ≡ 8
+  pub byte : length words.byte ≡ 8
+  pub kanji : length words.kanji ≡ 8
+
+-- Data of fewer than 8192 segments and bytes.
+pub record IsShort (segments : List Segment) : Type 0 where
+  pub few : length segments < 8192
+  pub near : (i : ℕ) → i < length segments → (segment_at segments i).end < 8192
+
+abbrev pub header_in : Headers → Mode → ℕ
+header_in headers Numeric = headers.numeric
+header_in headers Alphanumeric = headers.alphanumeric
+header_in headers Byte = headers.byte
+header_in headers Kanji = headers.kanji
+
+-- How many bits stand in front of the characters of each mode.
+pub record AreHeaders (version : Version) (headers : Headers) : Type 0 where
+  pub are : (mode : Mode) → header_in headers mode ≡ indicator_width version + count_width version mode
+  pub small : (mode : Mode) → indicator_width version + count_width version mode < 2 ^ 16

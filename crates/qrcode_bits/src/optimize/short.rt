@@ -1,0 +1,199 @@
+//! The chosen plan of short data, in one pass over the segments with a word for each start.
+
+ghost use Rattle.std.specs.Prelude.{◌≡◌, ◌+◌, ◌*◌, ◌-◌, ◌/◌, ◌^◌, ◌<◌, ◌≤◌, length, IfOk, IfErr};
+ghost use Rattle.std.specs.Bool.{OnTrue};
+ghost use Rattle.qrcode_base.specs.Versions.{HasMicroNumber};
+ghost use Rattle.qrcode_base.specs.Modes.{indicator_width, count_width, data_bits, characters};
+ghost use Rattle.qrcode_bits.specs.Merging.{HasLinearCosts, IsChosenPlan, IsStep, AreSteps};
+ghost use Rattle.qrcode_bits.specs.Buckets.{bucket_mode, bucket_rest, AreGroups};
+ghost use Rattle.qrcode_bits.specs.Periods.{period_bits};
+ghost use Rattle.qrcode_bits.specs.Words.{told, header_in, AreWhole, IsShort, AreHeaders};
+
+use super::comparisons::Comparisons;
+use super::words::{Words, word};
+use super::{Segment, Step, bucket_mode, read_back};
+use qrcode_base::types::{Mode, QrError, QrResult, Version};
+use std::alloc::Global;
+use std::sync::ledger::Ledger;
+
+/// Whether there are fewer than 8192 segments that end before byte 8192.
+pub fn is_short(segments: &[Segment]) -> bool
+    ensures { OnTrue result (IsShort segments.now) }
+{
+    for i in 0..segments.len() {
+        if segments[i].end >= 8192 {
+            return false;
+        }
+    }
+    segments.len() < 8192
+}
+
+/// How many bits stand in front of the characters of each mode.
+#[derive(Clone, Copy)]
+struct Headers {
+    numeric: usize,
+    alphanumeric: usize,
+    byte: usize,
+    kanji: usize,
+}
+
+impl Headers {
+    fn new(version: Version) -> Self
+        requires { HasMicroNumber version }
+        ensures { AreHeaders version result }
+    {
+        let indicator = version.mode_bits_count();
+        Headers {
+            numeric: indicator + Mode::Numeric.length_bits_count(version),
+            alphanumeric: indicator + Mode::Alphanumeric.length_bits_count(version),
+            byte: indicator + Mode::Byte.length_bits_count(version),
+            kanji: indicator + Mode::Kanji.length_bits_count(version),
+        }
+    }
+
+    /// What a part of so many bytes takes in a mode.
+    fn cost(&self, mode: Mode, size: usize) -> u64
+        requires size { size < 8192 }
+        requires small { header_in self.now mode < 2 ^ 16 }
+        ensures cost { result ≡ header_in self.now mode + data_bits mode (characters mode size) }
+    {
+        let bits = match mode {
+            Mode::Numeric => self.numeric + (size * 10).div_ceil(3),
+            Mode::Alphanumeric => self.alphanumeric + (size * 11).div_ceil(2),
+            Mode::Byte => self.byte + size * 8,
+            Mode::Kanji => self.kanji + size / 2 * 13,
+        };
+        bits as u64
+    }
+}
+
+/// The bits of a period of bytes in a mode: three digits, two characters, one byte, a pair of bytes.
+fn period_bits(mode: Mode) -> u64
+    ensures is { result ≡ period_bits mode }
+    ensures small { result ≤ 13 }
+{
+    match mode {
+        Mode::Numeric => 10,
+        Mode::Alphanumeric => 11,
+        Mode::Byte => 8,
+        Mode::Kanji => 13,
+    }
+}
+
+/// The rest of the begins in a bucket.
+fn bucket_rest(bucket: usize) -> usize
+    requires { bucket < 8 }
+    ensures { result ≡ bucket_rest bucket }
+{
+    match bucket {
+        1 | 4 | 7 => 1,
+        2 => 2,
+        _ => 0,
+    }
+}
+
+/// The word of a bucket with the cost of its part, and without the periods that it has too many.
+fn with_cost(word: u64, cost: u64, periods: u64) -> u64
+    requires word { word < 2 ^ 50 }
+    requires cost { cost < 2 ^ 18 }
+    requires enough { periods ≤ word / 2 ^ 26 + cost }
+    ensures { result ≡ word + cost * 2 ^ 26 - periods * 2 ^ 26 }
+{
+    word + (cost << 26) - (periods << 26)
+}
+
+/// The last part of the chosen plan of as many segments as there are steps, found by trying the best start of each rest.
+fn last_step_short<L: Ledger>(
+    segments: &[Segment],
+    headers: &Headers,
+    version: Version,
+    steps: &[Step],
+    words: &Words,
+    comparisons: &mut Comparisons<L>,
+) -> Step
+    requires headers { AreHeaders version headers.now }
+    requires short { IsShort segments.now }
+    requires some { 0 < length steps.now }
+    requires within { length steps.now ≤ length segments.now }
+    requires linear { HasLinearCosts segments.now version }
+    requires right { AreSteps segments.now version steps.now }
+    requires whole { AreWhole words.now }
+    requires words { AreGroups segments.now version (length steps.now) (length steps.now) (told words.now) }
+    ensures step { IsStep segments.now version (length steps.now) result }
+    ensures ticked { comparisons.new ≤ comparisons.old + 8 }
+{
+    let end = steps.len();
+    let segment = segments[end - 1];
+    let last_end = segment.end;
+    let before = steps[end - 1];
+    let alone = headers.cost(segment.mode, last_end - segment.begin);
+    let mut best = word(before.bits as u64 + alone, before.parts + 1, end - 1);
+    let mut best_mode = segment.mode;
+    for bucket in 0..8 {
+        let mode = bucket_mode(bucket);
+        let found = words.best(mode, bucket);
+        if found < 1 << 50 {
+            let cost = headers.cost(mode, last_end - bucket_rest(bucket));
+            let candidate = with_cost(found, cost, 8192 * period_bits(mode));
+            comparisons.tick();
+            if candidate < best {
+                best = candidate;
+                best_mode = mode;
+            }
+        }
+    }
+    let start = 8191 - (best % (1 << 26) % (1 << 13)) as usize;
+    let part = Segment {
+        mode: best_mode,
+        begin: segments[start].begin,
+        end: last_end,
+    };
+    Step {
+        bits: (best >> 26) as u128,
+        parts: (best % (1 << 26) >> 13) as usize,
+        start,
+        part,
+    }
+}
+
+/// The chosen plan of short data, found in one pass over the segments.
+pub fn optimize_short<L: Ledger>(
+    alloc: Global,
+    segments: &[Segment],
+    version: Version,
+    comparisons: &mut Comparisons<L>,
+) -> QrResult<Vec<Segment>>
+    requires micro { HasMicroNumber version }
+    requires some { 0 < length segments.now }
+    requires linear { HasLinearCosts segments.now version }
+    requires short { IsShort segments.now }
+    ensures plan { IfOk result (λ plan. IsChosenPlan segments.now version plan.items) }
+    ensures memory { IfErr result (λ e. e ≡ QrError.OutOfMemory) }
+    ensures ticked { comparisons.new ≤ comparisons.old + 36 * length segments.now }
+{
+    let headers = Headers::new(version);
+    let mut steps = Vec::new(alloc);
+    let mut words = Words::new();
+    let mut before = Step {
+        bits: 0,
+        parts: 0,
+        start: 0,
+        part: segments[0],
+    };
+    steps.push(before)?;
+    for start in 0..segments.len() {
+        let segment = segments[start];
+        words.advance(segment.mode, comparisons);
+        words.enter(
+            segment.mode,
+            segment.begin,
+            before.bits as u64,
+            before.parts + 1,
+            start,
+            comparisons,
+        );
+        before = last_step_short(segments, &headers, version, &steps, &words, comparisons);
+        steps.push(before)?;
+    }
+    read_back(alloc, segments, version, &steps)
+}
