@@ -1,6 +1,10 @@
 //! The penalties as plain sums over lines and squares.
-use super::super::*;
-use qrcode_base::types::QrResult;
+ghost use Rattle.std.specs.Prelude.{◌≡◌};
+
+use super::side;
+use qrcode_base::types::{Color, QrResult, Version};
+use qrcode_grid::canvas::{Canvas, MaskPattern};
+use std::alloc::Global;
 
 /// The masks of a Normal symbol, in the order of their numbers.
 pub const NORMAL_MASKS: [MaskPattern; 8] = [
@@ -22,10 +26,12 @@ pub const MICRO_MASKS: [MaskPattern; 4] = [
     MaskPattern::Meadow,
 ];
 
+/// Whether a cell of a line is there and dark.
 fn is_dark_at(line: &[bool], i: usize) -> bool {
     line.get(i).copied().unwrap_or(false)
 }
 
+/// The penalty of runs of five and more.
 fn plain_runs(line: &[bool]) -> usize {
     let mut total = 0usize;
     for start in 0..line.len() {
@@ -43,6 +49,7 @@ fn plain_runs(line: &[bool]) -> usize {
     total
 }
 
+/// Whether the seven cells of a finder pattern begin at a cell.
 fn has_shape(line: &[bool], start: usize) -> bool {
     for (i, want) in [true, false, true, true, true, false, true]
         .iter()
@@ -55,6 +62,7 @@ fn has_shape(line: &[bool], start: usize) -> bool {
     true
 }
 
+/// Whether they do, with four light cells before or behind them.
 fn is_window(line: &[bool], start: usize) -> bool {
     if start.saturating_add(7) > line.len() || !has_shape(line, start) {
         return false;
@@ -70,6 +78,7 @@ fn is_window(line: &[bool], start: usize) -> bool {
     !(before && after)
 }
 
+/// The penalty of a line.
 fn plain_line(line: &[bool]) -> usize {
     let mut total = plain_runs(line);
     for start in 0..line.len() {
@@ -95,6 +104,7 @@ fn line_of(
     Ok(line)
 }
 
+/// The penalty of squares of one colour.
 fn plain_squares(width: usize, cells: &[bool]) -> usize {
     let mut total = 0usize;
     for i in 0..cells.len() {
@@ -112,6 +122,7 @@ fn plain_squares(width: usize, cells: &[bool]) -> usize {
     total
 }
 
+/// The penalty of a Normal symbol.
 fn plain_normal(alloc: Global, width: usize, cells: &[bool]) -> QrResult<usize> {
     let mut total = plain_squares(width, cells);
     for i in 0..width {
@@ -126,6 +137,7 @@ fn plain_normal(alloc: Global, width: usize, cells: &[bool]) -> QrResult<usize> 
     Ok(total.wrapping_add(share.abs_diff(100)))
 }
 
+/// The penalty of a Micro symbol.
 fn plain_micro(alloc: Global, width: usize, cells: &[bool]) -> QrResult<usize> {
     let last = width.wrapping_sub(1);
     let row = line_of(
@@ -142,9 +154,8 @@ fn plain_micro(alloc: Global, width: usize, cells: &[bool]) -> QrResult<usize> {
 }
 
 /// The penalty of a masked canvas as a plain sum.
-fn plain_penalty(alloc: Global, canvas: Canvas) -> QrResult<usize> {
-    let width = canvas.width;
-    let version = canvas.version;
+fn plain_penalty(alloc: Global, canvas: Canvas, version: Version) -> QrResult<usize> {
+    let width = side(version);
     let mut cells = Vec::new(alloc);
     for color in &canvas.into_colors(alloc)? {
         cells.push(matches!(color, Color::Dark))?;
@@ -156,8 +167,10 @@ fn plain_penalty(alloc: Global, canvas: Canvas) -> QrResult<usize> {
 }
 
 /// Masks a canvas by a pattern that its version has.
-fn apply(canvas: &mut Canvas, pattern: MaskPattern) {
-    match (canvas.version, pattern) {
+pub fn apply(canvas: &mut Canvas, version: Version, pattern: MaskPattern)
+    requires { canvas.old.version ≡ version }
+{
+    match (version, pattern) {
         (Version::Normal(_), _) => canvas.apply_mask(pattern),
         (Version::Micro(_), MaskPattern::HorizontalLines) => canvas.apply_mask(
             MaskPattern::HorizontalLines,
@@ -175,13 +188,16 @@ fn apply(canvas: &mut Canvas, pattern: MaskPattern) {
 pub fn plain_penalties(
     alloc: Global,
     canvas: &Canvas,
+    version: Version,
     masks: &[MaskPattern],
-) -> QrResult<Vec<usize>> {
+) -> QrResult<Vec<usize>>
+    requires { canvas.now.version ≡ version }
+{
     let mut sums = Vec::new(alloc);
     for pattern in masks {
         let mut candidate = canvas.clone(alloc)?;
-        apply(&mut candidate, *pattern);
-        sums.push(plain_penalty(alloc, candidate)?)?;
+        apply(&mut candidate, version, *pattern);
+        sums.push(plain_penalty(alloc, candidate, version)?)?;
     }
     Ok(sums)
 }

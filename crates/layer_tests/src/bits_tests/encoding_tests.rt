@@ -1,8 +1,11 @@
 //! Counts, capacities and encoded data.
 
-use super::*;
-use crate::optimize::Segment;
-use qrcode_base::types::{EcLevel, Mode};
+use qrcode_base::types::{EcLevel, Mode, QrError, QrResult, Version};
+use qrcode_bits::bits::{
+    Bits, EncodingModes, encode_auto, encode_auto_micro, encode_auto_with_max_version,
+    find_min_version,
+};
+use qrcode_bits::optimize::Segment;
 
 const ONE: Version = Version::Normal(1);
 

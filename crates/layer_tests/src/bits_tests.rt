@@ -1,13 +1,16 @@
 //! Worked rows of pushes.
 
-use super::*;
-use crate::optimize::Segment;
+mod encoding_tests;
+mod order_tests;
+mod part_tests;
+
 use qrcode_base::mode::{AlphanumericMode, EncodingMode};
-use qrcode_base::types::{EcLevel, Mode};
+use qrcode_base::types::{EcLevel, Mode, QrError, QrResult, Version};
+use qrcode_bits::bits::{Bits, EncodingModes, ExtendedMode};
 
 /// One push.
 #[derive(Clone, Copy)]
-pub(super) enum Push {
+pub enum Push {
     Number(usize, usize),
     Eci(u32),
     Fnc1First,
@@ -87,7 +90,7 @@ impl Push {
 
 /// Pushes that succeed, one push more with its answer, and where it succeeds what is there then.
 #[derive(Drop)]
-pub(super) struct Row<'a> {
+pub struct Row<'a> {
     version: Version,
     first: &'a [Push],
     last: Push,
@@ -108,12 +111,9 @@ fn started(rt: &HostRuntime, version: Version) -> Bits {
     }
 }
 
-fn set_of(modes: &[Mode]) -> EncodingModes {
-    let mut set = EncodingModes::empty();
-    for mode in modes {
-        set.insert(*mode);
-    }
-    set
+/// Whether a set has these modes and no other.
+fn has_modes(set: EncodingModes, modes: &[Mode]) -> bool {
+    set.len() == modes.len() && modes.iter().all(|mode| set.contains(*mode))
 }
 
 /// The stream after some pushes, which succeed.
@@ -126,16 +126,16 @@ fn pushed(rt: &HostRuntime, version: Version, pushes: &[Push]) -> QrResult<Bits>
 }
 
 /// Whether the row comes out.
-pub(super) fn holds(rt: &HostRuntime, row: &Row) -> QrResult<bool> {
+pub fn holds(rt: &HostRuntime, row: &Row) -> QrResult<bool> {
     let mut bits = pushed(rt, row.version, row.first)?;
     row.last.apply(&mut bits)?;
     let told = bits.len() == row.len && bits.payload_bits_len() == row.payload;
-    let noted = bits.encoding_modes() == set_of(row.modes) && bits.version() == row.version;
+    let noted = has_modes(bits.encoding_modes(), row.modes) && bits.version() == row.version;
     Ok(told && noted && bits.into_bytes().as_slice() == row.bytes)
 }
 
 /// Whether the push is refused so, and leaves length, payload, modes, version and bits as they were.
-pub(super) fn leaves_all(rt: &HostRuntime, row: &Row) -> QrResult<bool> {
+pub fn leaves_all(rt: &HostRuntime, row: &Row) -> QrResult<bool> {
     let before = pushed(rt, row.version, row.first)?;
     let mut after = pushed(rt, row.version, row.first)?;
     let answer = row.last.apply(&mut after);
@@ -150,15 +150,15 @@ pub(super) fn leaves_all(rt: &HostRuntime, row: &Row) -> QrResult<bool> {
     )
 }
 
-pub(super) const ONE: Version = Version::Normal(1);
+pub const ONE: Version = Version::Normal(1);
 
-pub(super) const M1: Version = Version::Micro(1);
+pub const M1: Version = Version::Micro(1);
 
-pub(super) const M3: Version = Version::Micro(3);
+pub const M3: Version = Version::Micro(3);
 
-pub(super) const M4: Version = Version::Micro(4);
+pub const M4: Version = Version::Micro(4);
 
-pub(super) const fn accepted<'a>(
+pub const fn accepted<'a>(
     version: Version,
     first: &'a [Push],
     last: Push,
@@ -179,7 +179,7 @@ pub(super) const fn accepted<'a>(
     }
 }
 
-pub(super) const fn refused<'a>(
+pub const fn refused<'a>(
     version: Version,
     first: &'a [Push],
     last: Push,
@@ -197,9 +197,9 @@ pub(super) const fn refused<'a>(
     }
 }
 
-pub(super) const DIGITS: &[Mode] = &[Mode::Numeric];
+pub const DIGITS: &[Mode] = &[Mode::Numeric];
 
-pub(super) const BYTES: &[Mode] = &[Mode::Byte];
+pub const BYTES: &[Mode] = &[Mode::Byte];
 
 #[test]
 fn data_and_terminators(rt: HostRuntime) -> QrResult<()> {

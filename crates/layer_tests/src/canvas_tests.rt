@@ -1,15 +1,21 @@
 //! Printed symbols, the grids of the table's codewords, and counts in lanes.
-ghost use Rattle.std.specs.Prelude.{IfOk};
-ghost use Rattle.qrcode_base.specs.Symbols.{IsSymbol};
+ghost use Rattle.std.specs.Prelude.{◌≡◌, ◌<◌, ◌≤◌, IfOk};
+ghost use Rattle.qrcode_base.specs.Symbols.{IsSymbol, width_of};
 ghost use Rattle.qrcode_grid.specs.Penalty.{IsFirstLeastMask};
 
 mod plain;
 mod scores;
+mod words;
 
-use super::*;
-use crate::ec::construct_codewords;
 use qrcode_base::symbols::block_layout;
-use qrcode_base::types::QrError;
+use qrcode_base::types::{Color, EcLevel, QrError, QrResult, Version};
+use qrcode_grid::canvas::{
+    Canvas, MaskPattern, Module, checkerboard, count_dark, count_squares, diagonal_lines, diamonds,
+    draw_symbol, fields, functional_module_count, horizontal_lines, is_functional,
+    large_checkerboard, meadow, vertical_lines,
+};
+use qrcode_grid::ec::construct_codewords;
+use std::alloc::Global;
 
 /// The symbol of the digits 12345, row by row.
 const PRINTED: [&str; 11] = [
@@ -40,8 +46,34 @@ fn versions(alloc: Global) -> QrResult<Vec<Version>> {
     Ok(all)
 }
 
+/// How many modules a side of a symbol has, and 0 where the version is none.
+fn side(version: Version) -> usize
+    ensures is { 0 < result → result ≡ width_of version }
+    ensures small { result ≤ 177 }
+{
+    match version {
+        Version::Normal(n) if n >= 1 && n <= 40 => n as usize * 4 + 17,
+        Version::Micro(n) if n >= 1 && n <= 4 => n as usize * 2 + 9,
+        _ => 0,
+    }
+}
+
+/// The module at a column and a row, and an empty one outside.
+fn module_at(canvas: &Canvas, version: Version, x: usize, y: usize) -> Module
+    requires { canvas.now.version ≡ version }
+{
+    let width = side(version);
+    if x < width && y < width {
+        canvas.get(x as i16, y as i16)
+    } else {
+        Module::Empty
+    }
+}
+
 /// A new canvas, where the version has the level.
-fn new_canvas(alloc: Global, version: Version, level: EcLevel) -> QrResult<Canvas> {
+fn new_canvas(alloc: Global, version: Version, level: EcLevel) -> QrResult<Canvas>
+    ensures { IfOk result (λ canvas. canvas.version ≡ version) }
+{
     let Some(_layout) = block_layout(version, level) else {
         return Err(QrError::InvalidVersion {
             version,
@@ -57,7 +89,9 @@ fn next_random(state: u32) -> u32 {
 }
 
 /// A symbol with codewords of a fixed sequence.
-fn draw(canvas: &mut Canvas, seed: u32) {
+fn draw(canvas: &mut Canvas, seed: u32)
+    ensures { canvas.new.version ≡ canvas.old.version }
+{
     let mut data = [0; 4000];
     let mut state = seed;
     for i in 0..4000usize {
@@ -134,13 +168,15 @@ fn drops_bits_past_the_last_cell(rt: HostRuntime) -> QrResult<()> {
     let mut short = Canvas::new(alloc, Version::Normal(1), EcLevel::L)?;
     short.draw_all_functional_patterns();
     short.draw_data(&data, &[]);
-    let placed = short
-        .modules
-        .iter()
-        .filter(|cell| matches!(cell, Module::Unmasked(_)))
-        .count();
+    let mut placed = 0usize;
+    for y in 0..21 {
+        for x in 0..21 {
+            let module = module_at(&short, Version::Normal(1), x, y);
+            placed = placed.wrapping_add(usize::from(matches!(module, Module::Unmasked(_))));
+            assert!(rt; module == module_at(&long, Version::Normal(1), x, y));
+        }
+    }
     assert!(rt; placed == 208);
-    assert!(rt; short.modules.as_slice() == long.modules.as_slice());
     Ok(())
 }
 
@@ -167,13 +203,15 @@ fn left_over(version: Version) -> (usize, usize) {
 fn data_cells(alloc: Global, version: Version) -> QrResult<usize> {
     let mut canvas = new_canvas(alloc, version, EcLevel::L)?;
     canvas.draw_all_functional_patterns();
-    Ok(
-        canvas
-            .modules
-            .iter()
-            .filter(|cell| matches!(cell, Module::Empty))
-            .count(),
-    )
+    let width = side(version);
+    let mut cells = 0usize;
+    for y in 0..width {
+        for x in 0..width {
+            let module = module_at(&canvas, version, x, y);
+            cells = cells.wrapping_add(usize::from(matches!(module, Module::Empty)));
+        }
+    }
+    Ok(cells)
 }
 
 /// The codewords of the table take all data cells of each grid but those left over.

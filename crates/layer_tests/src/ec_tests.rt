@@ -1,16 +1,10 @@
 //! Worked values of the error correction.
-use super::*;
+use qrcode_base::types::{EcLevel, QrError, QrResult, Version};
+use qrcode_grid::ec::{construct_codewords, create_error_correction_code, max_allowed_errors};
 
 const HELLO_WORLD: [u8; 16] = [
     0x20, 0x5B, 0x0B, 0x78, 0xD1, 0x72, 0xDC, 0x4D, 0x43, 0x40, 0xEC, 0x11, 0xEC, 0x11, 0xEC, 0x11,
 ];
-
-#[test]
-fn has_the_powers_of_two(rt: HostRuntime) {
-    for (exponent, want) in [(0, 0x01), (8, 0x1D), (255, 0x01)] {
-        assert_eq!(rt; power_of_two(exponent), want, "at {exponent}");
-    }
-}
 
 #[test]
 fn corrects(rt: HostRuntime) -> QrResult<()> {

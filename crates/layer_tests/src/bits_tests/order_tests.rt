@@ -1,8 +1,8 @@
 //! Rests of digits and letters, headers, unusual orders of pushes, and refusals.
 
-use super::tests::{BYTES, DIGITS, M1, M3, M4, ONE, Push, accepted, holds, leaves_all, refused};
-use super::*;
-use qrcode_base::types::{EcLevel, Mode};
+use super::{BYTES, DIGITS, M1, M3, M4, ONE, Push, accepted, holds, leaves_all, refused};
+use qrcode_base::types::{EcLevel, Mode, QrError, QrResult, Version};
+use qrcode_bits::bits::{Bits, EncodingModes, ExtendedMode};
 
 const M2: Version = Version::Micro(2);
 

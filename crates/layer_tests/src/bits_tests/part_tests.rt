@@ -1,7 +1,7 @@
 //! Worked rows of one symbol of a sequence.
 
-use super::*;
-use qrcode_base::types::EcLevel;
+use qrcode_base::types::{EcLevel, QrError, QrResult, Version};
+use qrcode_bits::bits::encode_part;
 
 const L: EcLevel = EcLevel::L;
 

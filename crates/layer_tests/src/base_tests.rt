@@ -1,9 +1,10 @@
-use crate::cast::{As, Truncate};
-use crate::characters::{alphanumeric_place, is_alphanumeric, is_kanji_pair, is_lead};
-use crate::mode::{AlphanumericMode, ByteMode, EncodingMode, KanjiMode, NumericMode};
-use crate::symbols::block_layout;
-use crate::types::{Color, EcLevel, EnumParseError, Mode, QrError, QrResult, Version};
-use crate::version::{ConstVersion, StaticVersion};
+//! Names, texts, tables and modes.
+use qrcode_base::cast::{As, Truncate};
+use qrcode_base::characters::{alphanumeric_place, is_alphanumeric, is_kanji_pair, is_lead};
+use qrcode_base::mode::{AlphanumericMode, ByteMode, EncodingMode, KanjiMode, NumericMode};
+use qrcode_base::symbols::block_layout;
+use qrcode_base::types::{Color, EcLevel, EnumParseError, Mode, QrError, QrResult, Version};
+use qrcode_base::version::{ConstVersion, StaticVersion};
 use std::cmp::Ordering;
 use std::test::Fail;
 
@@ -83,7 +84,7 @@ fn texts_name_levels_and_modes(rt: HostRuntime) {
     );
 }
 
-// What a text was refused with.
+/// What a text was refused with.
 fn refusal<T: Drop>(answer: Result<T, EnumParseError>) -> &'static str {
     match answer {
         Ok(_) => "",

@@ -1,14 +1,11 @@
 //! Scores beside plain sums of the penalties, and beside values of other programs.
-use super::super::*;
-use super::plain::{MICRO_MASKS, NORMAL_MASKS, plain_penalties};
-use super::{LEVELS, draw, new_canvas, next_random, versions};
-use qrcode_base::types::QrResult;
+ghost use Rattle.std.specs.Prelude.{◌≡◌, IfOk};
 
-/// The penalties of a canvas under each mask of its family, as the crate counts them.
-fn counted_penalties(alloc: Global, canvas: &Canvas) -> QrResult<Vec<usize>> {
-    let (_, numbered) = canvas.candidates(alloc)?;
-    canvas.penalties(alloc, &numbered)
-}
+use super::plain::{MICRO_MASKS, NORMAL_MASKS, plain_penalties};
+use super::{LEVELS, draw, new_canvas, next_random, side, versions};
+use qrcode_base::types::{Color, EcLevel, QrResult, Version};
+use qrcode_grid::canvas::{Canvas, MaskPattern, Module};
+use std::alloc::Global;
 
 /// The masks of a version.
 fn masks_of(version: Version) -> &'static [MaskPattern] {
@@ -40,21 +37,27 @@ fn told(version: Version, sum: usize) -> usize {
 
 /// Whether the penalties of a canvas under all masks are the plain sums, and the best mask and its score are those of
 /// the first least.
-fn is_scored(alloc: Global, canvas: &Canvas) -> QrResult<bool> {
-    let masks = masks_of(canvas.version);
-    let sums = plain_penalties(alloc, canvas, masks)?;
-    let counted = counted_penalties(alloc, canvas)?;
+fn is_scored(alloc: Global, canvas: &Canvas, version: Version) -> QrResult<bool>
+    requires { canvas.now.version ≡ version }
+{
+    let masks = masks_of(version);
+    let sums = plain_penalties(alloc, canvas, version, masks)?;
+    let counted = canvas.penalties(alloc)?;
     let (_best, pattern, score) = canvas.apply_best_mask_with_score(alloc)?;
     let first = first_of_least(&sums);
     let chosen = masks.get(first).copied() == Some(pattern);
     let least = sums.get(first).copied().unwrap_or(0);
-    let scored = usize::from(score) == told(canvas.version, least);
+    let scored = usize::from(score) == told(version, least);
     Ok(counted.as_slice() == sums.as_slice() && chosen && scored)
 }
 
 /// Writes a module in one of the seven ways.
-fn write(canvas: &mut Canvas, x: usize, y: usize, way: u32) {
-    if x >= canvas.width || y >= canvas.width || canvas.width > 177 {
+fn write(canvas: &mut Canvas, version: Version, x: usize, y: usize, way: u32)
+    requires { canvas.old.version ≡ version }
+    ensures { canvas.new.version ≡ version }
+{
+    let width = side(version);
+    if x >= width || y >= width {
         return;
     }
     let (x, y) = (x as i16, y as i16);
@@ -73,39 +76,47 @@ fn write(canvas: &mut Canvas, x: usize, y: usize, way: u32) {
 const RUNS: [u32; 8] = [1, 1, 2, 3, 4, 5, 7, 40];
 
 /// Writes every module, row by row or column by column, in runs of one kind from a fixed sequence.
-fn fill(canvas: &mut Canvas, seed: u32) {
+fn fill(canvas: &mut Canvas, version: Version, seed: u32)
+    requires { canvas.old.version ≡ version }
+    ensures { canvas.new.version ≡ version }
+{
     let mut state = seed;
     let mut left = 0;
-    for i in 0..canvas.width {
-        for j in 0..canvas.width {
+    for i in 0..side(version) {
+        for j in 0..side(version) {
             if left == 0 {
                 state = next_random(state);
                 left = RUNS[(state >> 21) as usize % 8];
             }
             left = left.saturating_sub(1);
             if seed % 2 == 0 {
-                write(canvas, j, i, state >> 24);
+                write(canvas, version, j, i, state >> 24);
             } else {
-                write(canvas, i, j, state >> 24);
+                write(canvas, version, i, j, state >> 24);
             }
         }
     }
 }
 
 /// Puts a checkerboard of squares of a size, dark at the corner where the first is 0 and light where it is 1.
-fn paint(canvas: &mut Canvas, size: usize, first: usize) {
-    for y in 0..canvas.width {
-        for x in 0..canvas.width {
+fn paint(canvas: &mut Canvas, version: Version, size: usize, first: usize)
+    requires { canvas.old.version ≡ version }
+    ensures { canvas.new.version ≡ version }
+{
+    for y in 0..side(version) {
+        for x in 0..side(version) {
             let column = x.checked_div(size).unwrap_or(0);
             let row = y.checked_div(size).unwrap_or(0);
             let light = column.wrapping_add(row).wrapping_add(first) % 2;
-            write(canvas, x, y, if light == 0 { 0 } else { 1 });
+            write(canvas, version, x, y, if light == 0 { 0 } else { 1 });
         }
     }
 }
 
 /// A symbol of a version with codewords of a fixed sequence.
-fn drawn(alloc: Global, version: Version, seed: u32) -> QrResult<Canvas> {
+fn drawn(alloc: Global, version: Version, seed: u32) -> QrResult<Canvas>
+    ensures { IfOk result (λ canvas. canvas.version ≡ version) }
+{
     let mut canvas = new_canvas(alloc, version, EcLevel::L)?;
     draw(&mut canvas, seed);
     Ok(canvas)
@@ -135,7 +146,7 @@ fn has_the_printed_penalties(rt: HostRuntime) -> QrResult<()> {
             [21784, 21990, 21944, 21332, 22036, 22241, 21923, 22068],
         ),
     ] {
-        let counted = counted_penalties(alloc, &drawn(alloc, version, 1)?)?;
+        let counted = drawn(alloc, version, 1)?.penalties(alloc)?;
         let same = counted
             .iter()
             .zip(want.iter())
@@ -148,7 +159,7 @@ fn has_the_printed_penalties(rt: HostRuntime) -> QrResult<()> {
         (Version::Micro(3), [133, 133, 136, 149]),
         (Version::Micro(4), [150, 169, 150, 165]),
     ] {
-        let counted = counted_penalties(alloc, &drawn(alloc, version, 1)?)?;
+        let counted = drawn(alloc, version, 1)?.penalties(alloc)?;
         assert!(rt; counted.as_slice() == &want[..], "{version:?}");
     }
     Ok(())
@@ -180,7 +191,7 @@ const SYMBOLS: [u32; 44] = [
 fn scores_symbols(rt: HostRuntime) -> QrResult<()> {
     let alloc = rt.alloc();
     for (version, want) in versions(alloc)?.iter().zip(SYMBOLS.iter()) {
-        let counted = counted_penalties(alloc, &drawn(alloc, *version, 1)?)?;
+        let counted = drawn(alloc, *version, 1)?.penalties(alloc)?;
         assert!(rt; mixed(START, &counted) == *want, "{version:?}");
     }
     Ok(())
@@ -203,11 +214,11 @@ fn scores_painted_canvases(rt: HostRuntime) -> QrResult<()> {
         let mut mix = START;
         for (size, first) in [(200, 0), (200, 1), (1, 0), (2, 1), (5, 1)] {
             let mut canvas = new_canvas(alloc, *version, EcLevel::L)?;
-            paint(&mut canvas, size, first);
-            mix = mixed(mix, &counted_penalties(alloc, &canvas)?);
+            paint(&mut canvas, *version, size, first);
+            mix = mixed(mix, &canvas.penalties(alloc)?);
         }
         let new = new_canvas(alloc, *version, EcLevel::L)?;
-        mix = mixed(mix, &counted_penalties(alloc, &new)?);
+        mix = mixed(mix, &new.penalties(alloc)?);
         assert!(rt; mix == *want, "{version:?}");
     }
     Ok(())
@@ -232,8 +243,8 @@ fn scores_written_canvases(rt: HostRuntime) -> QrResult<()> {
         for seed in (i as u32..200).step_by(44) {
             canvases = canvases.wrapping_add(1);
             let mut canvas = new_canvas(alloc, *version, EcLevel::L)?;
-            fill(&mut canvas, seed);
-            mix = mixed(mix, &counted_penalties(alloc, &canvas)?);
+            fill(&mut canvas, *version, seed);
+            mix = mixed(mix, &canvas.penalties(alloc)?);
         }
         assert!(rt; mix == *want, "{version:?}");
     }
@@ -254,13 +265,13 @@ fn scores_by_plain_sums(rt: HostRuntime) -> QrResult<()> {
         Version::Micro(4),
     ] {
         assert!(rt;
-            is_scored(alloc, &drawn(alloc, version, 1)?)?,
+            is_scored(alloc, &drawn(alloc, version, 1)?, version)?,
             "{version:?}"
         );
         for seed in 0..4u32 {
             let mut canvas = new_canvas(alloc, version, EcLevel::L)?;
-            fill(&mut canvas, seed);
-            assert!(rt; is_scored(alloc, &canvas)?, "{version:?}, seed {seed}");
+            fill(&mut canvas, version, seed);
+            assert!(rt; is_scored(alloc, &canvas, version)?, "{version:?}, seed {seed}");
         }
     }
     Ok(())
@@ -300,7 +311,7 @@ fn scores_new_canvases(rt: HostRuntime) -> QrResult<()> {
 /// The mask and the score of a canvas with every cell put in one colour: dark for 0, light for 1.
 fn score_of_color(alloc: Global, version: Version, first: usize) -> QrResult<(MaskPattern, u16)> {
     let mut canvas = new_canvas(alloc, version, EcLevel::L)?;
-    paint(&mut canvas, 200, first);
+    paint(&mut canvas, version, 200, first);
     let (_best, pattern, score) = canvas.apply_best_mask_with_score(alloc)?;
     Ok((pattern, score))
 }
