@@ -275,7 +275,10 @@ fn version_of(case: usize) -> Version
 fn parts_of(rt: &HostRuntime, segments: &[Segment], starts: &[usize]) -> QrResult<Vec<Segment>> {
     let mut backwards = Vec::new(rt.alloc());
     let mut end = segments.len();
-    while end > 0 && end <= segments.len() && end <= starts.len() {
+    for _part in 0..segments.len() {
+        if end == 0 || end > segments.len() || end > starts.len() {
+            break;
+        }
         let start = starts[end - 1];
         if start >= end {
             return Err(QrError::DataTooLong);
@@ -284,8 +287,8 @@ fn parts_of(rt: &HostRuntime, segments: &[Segment], starts: &[usize]) -> QrResul
         end = start;
     }
     let mut parts = Vec::new(rt.alloc());
-    while let Some(part) = backwards.pop() {
-        parts.push(part)?;
+    for part in backwards.iter().rev() {
+        parts.push(*part)?;
     }
     Ok(parts)
 }

@@ -169,6 +169,7 @@ fn plain_penalty(alloc: Global, canvas: Canvas, version: Version) -> QrResult<us
 /// Masks a canvas by a pattern that its version has.
 pub fn apply(canvas: &mut Canvas, version: Version, pattern: MaskPattern)
     requires { canvas.old.version ≡ version }
+    ensures { canvas.new.version ≡ version }
 {
     match (version, pattern) {
         (Version::Normal(_), _) => canvas.apply_mask(pattern),

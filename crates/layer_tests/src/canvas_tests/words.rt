@@ -102,11 +102,25 @@ fn format_words_are_far(rt: HostRuntime) -> QrResult<()> {
     let mut micro = Vec::new(alloc);
     for level in LEVELS {
         let version = Version::Normal(1);
-        push_words(alloc, &mut normal, version, level, &NORMAL_MASKS, &NORMAL_PLACES)?;
+        push_words(
+            alloc,
+            &mut normal,
+            version,
+            level,
+            &NORMAL_MASKS,
+            &NORMAL_PLACES,
+        )?;
         for n in 1..5i16 {
             let version = Version::Micro(n);
             if new_canvas(alloc, version, level).is_ok() {
-                push_words(alloc, &mut micro, version, level, &MICRO_MASKS, &MICRO_PLACES)?;
+                push_words(
+                    alloc,
+                    &mut micro,
+                    version,
+                    level,
+                    &MICRO_MASKS,
+                    &MICRO_PLACES,
+                )?;
             }
         }
     }
