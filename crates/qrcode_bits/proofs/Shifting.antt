@@ -1,14 +1,14 @@
 -- Bytes behind bits that are no whole byte yet: each place has the low bits of one byte and the high bits of the next.
 use Rattle.std.proofs.Common.{◌≡◌, ℕ, suc, ◌+◌, ◌-◌, ◌*◌, ◌/◌, ◌%◌, ◌^◌, ◌<◌, ◌≤◌, Bool, List, [], ◌∷◌, ◌++◌, length, refl, sym, ap, ◌∙◌, arith, take, drop, append_assoc, append-nil, add_comm}
-use Rattle.std.specs.Prelude.{slice_index_or}
-use Rattle.std.proofs.lemmas.Nat.{pow-add, pow_pos}
+use Rattle.std.specs.Prelude.{slice_index_or, bit_and}
+use Rattle.std.proofs.lemmas.Nat.{pow-add, pow_pos, and_mask}
 use Rattle.std.proofs.lemmas.List.{drop_all, length-drop}
 use Rattle.std.proofs.Math.Seq.{take-append_seam}
 use borrow.Rule.Slice.PartMut.{post_of}
 use Rattle.std.proofs.lemmas.Grind.{flat_map-append}
 use Rattle.qrcode_base.specs.Numbers.{number_bits, byte_bits}
 use Rattle.qrcode_bits.specs.Stream.{Stream, Appends, AreShifted, shifted, kept_bits, room_in, IsKept}
-use Rattle.qrcode_bits.proofs.Numbers.{number_bits-join, number_bits-cut, number_bits-mod, high_free, length-byte_bits}
+use Rattle.qrcode_bits.proofs.Numbers.{number_bits-join, number_bits-cut, number_bits-mod, high_free, length-byte_bits, length-number_bits}
 
 low_free : (used before byte : ℕ) → used < 8 → number_bits used (before * 2 ^ 8 + byte) ≡ number_bits used byte
 low_free used before byte part =
@@ -84,4 +84,51 @@ appends_shifted old bytes now text filled len len' cap cap' used partial left bi
   modes_are = refl;
   payload_is = refl;
   room_left = omega (arith, length-byte_bits text);
+}
+
+-- ---- Five bytes at once
+
+-- what a byte keeps of a number
+low_byte : (n : ℕ) → number_bits 8 (bit_and n 255) ≡ number_bits 8 n
+low_byte n = ap (λ (z : ℕ). number_bits 8 z) (and_mask n 8) ∙ number_bits-mod 8 n
+
+pub five_bytes_are : (n : ℕ) →
+    byte_bits (n / 2 ^ 32 ∷ bit_and (n / 2 ^ 24) 255 ∷ bit_and (n / 2 ^ 16) 255 ∷ bit_and (n / 2 ^ 8) 255 ∷ bit_and n 255 ∷ []) ≡ number_bits 40 n
+five_bytes_are n =
+    let last : number_bits 8 (bit_and n 255) ++ [] ≡ number_bits 8 n = append-nil (number_bits 8 (bit_and n 255)) ∙ low_byte n in
+    let two : number_bits 8 (bit_and (n / 2 ^ 8) 255) ++ (number_bits 8 (bit_and n 255) ++ []) ≡ number_bits 16 n = rw (low_byte (n / 2 ^ 8), last) (sym (number_bits-cut 8 8 n)) in
+    let three : number_bits 8 (bit_and (n / 2 ^ 16) 255) ++ (number_bits 8 (bit_and (n / 2 ^ 8) 255) ++ (number_bits 8 (bit_and n 255) ++ [])) ≡ number_bits 24 n =
+    rw (low_byte (n / 2 ^ 16), two) (sym (number_bits-cut 8 16 n)) in
+    let four : number_bits 8 (bit_and (n / 2 ^ 24) 255) ++ (number_bits 8 (bit_and (n / 2 ^ 16) 255) ++ (number_bits 8 (bit_and (n / 2 ^ 8) 255) ++ (number_bits 8 (bit_and n 255) ++ []))) ≡ number_bits 32 n =
+    rw (low_byte (n / 2 ^ 24), three) (sym (number_bits-cut 8 24 n)) in
+    ap (λ (z : List Bool). number_bits 8 (n / 2 ^ 32) ++ z) four ∙ sym (number_bits-cut 8 32 n)
+
+-- the stream with a number of 40 bits behind it, as five bytes
+pub kept_five : (old five : List ℕ) (used partial left n wide : ℕ) → used < 8 → n < 2 ^ 40 → wide ≡ partial * 2 ^ 40 + n → byte_bits five ≡ number_bits 40 (wide / 2 ^ used) →
+    left ≡ bit_and n 255 % 2 ^ used → kept_bits (old ++ five) used left ≡ kept_bits old used partial ++ number_bits 40 n
+kept_five old five used partial left n wide part small whole bytes is =
+    let low : number_bits used left ≡ number_bits used wide =
+    ap (λ (z : ℕ). number_bits used z) is ∙ (number_bits-mod used (bit_and n 255) ∙ (ap (λ (z : ℕ). number_bits used z) (and_mask n 8)
+    ∙ (sym (low_free used (partial * 2 ^ 32 + n / 2 ^ 8) (n % 2 ^ 8) part)
+    ∙ (let same : (partial * 2 ^ 32 + n / 2 ^ 8) * 2 ^ 8 + n % 2 ^ 8 ≡ wide = omega arith in ap (λ (z : ℕ). number_bits used z) same)))) in
+    let cut : number_bits 40 (wide / 2 ^ used) ++ number_bits used wide ≡ number_bits used partial ++ number_bits 40 n =
+    sym (number_bits-cut 40 used wide) ∙ (ap (λ (z : ℕ). number_bits z wide) (add_comm 40 used)
+    ∙ (ap (λ (z : ℕ). number_bits (used + 40) z) whole ∙ number_bits-join used 40 partial n small)) in
+    ap (λ (z : List Bool). z ++ number_bits used left) (flat_map-append (number_bits 8) old five)
+    ∙ (append_assoc (byte_bits old) (byte_bits five) (number_bits used left)
+    ∙ (ap (λ (z : List Bool). byte_bits old ++ (z ++ number_bits used left)) bytes
+    ∙ (ap (λ (z : List Bool). byte_bits old ++ (number_bits 40 (wide / 2 ^ used) ++ z)) low
+    ∙ (ap (λ (z : List Bool). byte_bits old ++ z) cut
+    ∙ sym (append_assoc (byte_bits old) (number_bits used partial) (number_bits 40 n))))))
+
+pub appends_five : (old : Stream) (bytes now five : List ℕ) (len len' cap cap' used partial left n wide : ℕ) → old.bits ≡ kept_bits bytes used partial → old.room ≡ room_in cap len used →
+    now ≡ bytes ++ five → len' ≡ len + 5 → cap ≤ cap' → used < 8 → n < 2 ^ 40 → wide ≡ partial * 2 ^ 40 + n → byte_bits five ≡ number_bits 40 (wide / 2 ^ used) → left ≡ bit_and n 255 % 2 ^ used →
+    Appends old (record { bits = kept_bits now used left; version = old.version; modes = old.modes; payload = old.payload; room = room_in cap' len' used }) (number_bits 40 n)
+appends_five old bytes now five len len' cap cap' used partial left n wide bits room is longer grows part small whole are last = record {
+  bits_are = ap (λ (z : List ℕ). kept_bits z used left) is
+      ∙ (kept_five bytes five used partial left n wide part small whole are last ∙ ap (λ (z : List Bool). z ++ number_bits 40 n) (sym bits));
+  version_is = refl;
+  modes_are = refl;
+  payload_is = refl;
+  room_left = omega (arith, length-number_bits 40 n);
 }
