@@ -1,41 +1,96 @@
--- The class of a byte by its place among the 45 characters, computed at each byte.
-use Rattle.std.proofs.Common.{◌≡◌, ℕ, suc, ◌+◌, ◌<◌, ◌≤◌, Bool, true, false, List, [], ◌∷◌, length, drop, get_or, refl, ap, sym, ◌∙◌, arith}
-use Rattle.std.specs.Prelude.{map, position, nat_lt, ◌==◌, ◌&&◌, if◌then◌else◌, Option, Some, None}
+-- The classes of bytes by their numbers, computed at each byte, and what stands at a place.
+use Rattle.std.proofs.Common.{◌≡◌, ℕ, suc, ◌+◌, ◌-◌, ◌<◌, ◌≤◌, Bool, true, false, List, [], ◌∷◌, length, drop, get_or, refl, ap, sym, ◌∙◌, arith, inl, inr, ◌⊎◌}
+use Rattle.std.specs.Prelude.{map, ◌&&◌, if◌then◌else◌}
 use Rattle.std.specs.List.{range_with_len}
 use Rattle.std.proofs.Math.Seq.{drop-cons}
-use Rattle.std.proofs.lemmas.Bool.Decides.{nat_tests}
+use Rattle.std.proofs.lemmas.Bool.{cases_lt}
+use Rattle.std.proofs.lemmas.List.{drop_all}
 use Rattle.std.proofs.lemmas.List.FromFn.{get_or-map-range_with_len}
-use Rattle.qrcode_base.specs.Characters.{alphabet, is_between, is_alphanumeric, is_lead, is_kanji_pair}
+use Rattle.qrcode_base.specs.Characters.{is_between, is_alphanumeric, is_lead, is_kanji_pair}
+use Rattle.qrcode_bits.specs.declared.optimize.parser.TheConstants.{CLASSES}
 use Rattle.qrcode_bits.specs.declared.optimize.parser.Class.{Class}
 use Rattle.qrcode_bits.specs.declared.optimize.parser.Class.TheVariants.{Pair, LoneLead, Digit, Sign, Other}
-use Rattle.qrcode_bits.specs.Parsing.{class_of, class_size, units}
+use Rattle.qrcode_bits.specs.Parsing.{class_of, class_number, class_numbered, class_size, units, joins, parsed_from, class_mode}
 use Rattle.qrcode_bits.proofs.Adjoining.{class_of-one}
+use Rattle.qrcode_bits.proofs.Runs.{IsRun, Run-first, Run-more, Run-apart, Run-last, joins-same}
 
--- what the place among the 45 characters tells of a byte
-abbrev pub class_told : ℕ → Option ℕ → Class
-class_told b (Some place) = if nat_lt place 10 then Digit else Sign
-class_told b None = if is_lead b then LoneLead else Other
+-- ---- The table
 
-abbrev class_by_place : ℕ → Class
-class_by_place b = class_told b (position (λ x. x == b) alphabet)
-
-told_are : map class_by_place (range_with_len 0 256) ≡ map class_of (range_with_len 0 256)
+classes_are : CLASSES ≡ map (λ b. class_number (class_of b)) (range_with_len 0 256)
 unfolding is_alphanumeric
-told_are = refl
+classes_are = refl
 
-pub class_told-is : (b : ℕ) (place : Option ℕ) → b < 256 → place ≡ position (λ x. x == b) alphabet → class_told b place ≡ class_of b
-class_told-is b place within is =
-    ap (class_told b) is ∙ (sym (get_or-map-range_with_len class_by_place 0 256 b b Other within (omega arith))
-    ∙ (ap (λ (z : List Class). get_or z b Other) told_are ∙ get_or-map-range_with_len class_of 0 256 b b Other within (omega arith)))
+pub CLASSES-at : (b : ℕ) → b < 256 → get_or CLASSES b 0 ≡ class_number (class_of b)
+CLASSES-at b within =
+    ap (λ (z : List ℕ). get_or z b 0) classes_are ∙ get_or-map-range_with_len (λ n. class_number (class_of n)) 0 256 b b 0 within (omega arith)
 
-pub sign_by_place : (b place : ℕ) → b < 256 → Some place ≡ position (λ x. x == b) alphabet → 10 ≤ place → Sign ≡ class_of b
-sign_by_place b place within is high =
-    let test : nat_lt place 10 ≡ false = grind (arith, nat_tests) in
-    sym (ap (λ (z : Bool). if z then Digit else Sign) test) ∙ class_told-is b (Some place) within is
+alone_numbered : (lead digit sign : Bool) → class_numbered (class_number (if lead then LoneLead else if digit then Digit else if sign then Sign else Other))
+    ≡ (if lead then LoneLead else if digit then Digit else if sign then Sign else Other)
+alone_numbered true digit sign = refl
+alone_numbered false true sign = refl
+alone_numbered false false true = refl
+alone_numbered false false false = refl
 
-pub other_by_place : (b : ℕ) → b < 256 → None ≡ position (λ x. x == b) alphabet → is_lead b ≡ false → Other ≡ class_of b
-other_by_place b within is none =
-    sym (ap (λ (z : Bool). if z then LoneLead else Other) none) ∙ class_told-is b None within is
+-- a byte's class by its number
+pub numbered-is : (b n : ℕ) → n ≡ class_number (class_of b) → class_numbered n ≡ class_of b
+numbered-is b n is = ap class_numbered is ∙ alone_numbered (is_lead b) (is_between 48 57 b) (is_alphanumeric b)
+
+not_pair : (b : ℕ) → class_of b ≡ Pair → ⊥
+not_pair b is = let one = class_of-one b in let two : class_size (class_of b) ≡ 2 = ap class_size is in omega arith
+
+joins-apart : (c d : Class) → (c ≡ d → ⊥) → joins c d ≡ false
+joins-apart c d apart = go (joins c d) refl where
+  go : (t : Bool) → joins c d ≡ t → joins c d ≡ false
+  go true e = absurd (apart (joins-same c d e))
+  go false e = e
+
+lone_apart : (d : Class) → joins LoneLead d ≡ false
+lone_apart Pair = refl
+lone_apart LoneLead = refl
+lone_apart Digit = refl
+lone_apart Sign = refl
+lone_apart Other = refl
+
+joins-self : (c : Class) → (c ≡ LoneLead → ⊥) → joins c c ≡ true
+joins-self Pair other = refl
+joins-self LoneLead other = absurd (other refl)
+joins-self Digit other = refl
+joins-self Sign other = refl
+joins-self Other other = refl
+
+-- ---- What stands at a place
+
+abbrev unit_or_pair : Bool → ℕ → ℕ → List ℕ → List Class
+unit_or_pair pair a b rest = elim pair [ true ↦ Pair ∷ units rest | false ↦ class_of a ∷ units (b ∷ rest) ]
+
+drop-two : (bytes : List ℕ) (at : ℕ) → at + 2 ≤ length bytes → drop at bytes ≡ get_or bytes at 0 ∷ get_or bytes (at + 1) 0 ∷ drop (at + 2) bytes
+drop-two bytes at within =
+    let one : suc at ≡ at + 1 = omega arith in
+    let two : suc (at + 1) ≡ at + 2 = omega arith in
+    drop-cons bytes at 0 (omega arith)
+    ∙ ap (λ (z : List ℕ). get_or bytes at 0 ∷ z) (ap (λ (n : ℕ). drop n bytes) one ∙ (drop-cons bytes (at + 1) 0 (omega arith)
+    ∙ ap (λ (n : ℕ). get_or bytes (at + 1) 0 ∷ drop n bytes) two))
+
+pub units_pair : (bytes : List ℕ) (at : ℕ) → at + 2 ≤ length bytes → is_kanji_pair (get_or bytes at 0) (get_or bytes (at + 1) 0) ≡ true → units (drop at bytes) ≡ Pair ∷ units (drop (at + 2) bytes)
+units_pair bytes at within pair =
+    ap units (drop-two bytes at within) ∙ ap (λ (z : Bool). unit_or_pair z (get_or bytes at 0) (get_or bytes (at + 1) 0) (drop (at + 2) bytes)) pair
+
+units_alone : (bytes : List ℕ) (at : ℕ) → at + 2 ≤ length bytes → is_kanji_pair (get_or bytes at 0) (get_or bytes (at + 1) 0) ≡ false →
+    units (drop at bytes) ≡ class_of (get_or bytes at 0) ∷ units (drop (at + 1) bytes)
+units_alone bytes at within pair =
+    let two : suc (at + 1) ≡ at + 2 = omega arith in
+    ap units (drop-two bytes at within) ∙ (ap (λ (z : Bool). unit_or_pair z (get_or bytes at 0) (get_or bytes (at + 1) 0) (drop (at + 2) bytes)) pair
+    ∙ ap (λ (z : List ℕ). class_of (get_or bytes at 0) ∷ units z) (sym (drop-cons bytes (at + 1) 0 (omega arith) ∙ ap (λ (n : ℕ). get_or bytes (at + 1) 0 ∷ drop n bytes) two)))
+
+pub units_last : (bytes : List ℕ) (at : ℕ) → length bytes - at < 2 → at < length bytes → units (drop at bytes) ≡ class_of (get_or bytes at 0) ∷ units (drop (at + 1) bytes)
+units_last bytes at short within =
+    let none : drop (suc at) bytes ≡ [] = drop_all (suc at) bytes (omega arith) in
+    let past : drop (at + 1) bytes ≡ [] = drop_all (at + 1) bytes (omega arith) in
+    ap units (drop-cons bytes at 0 within ∙ ap (λ (z : List ℕ). get_or bytes at 0 ∷ z) none) ∙ ap (λ (z : List ℕ). class_of (get_or bytes at 0) ∷ units z) (sym past)
+
+pub units_no_pair : (bytes : List ℕ) (at : ℕ) → 2 ≤ length bytes - at → is_kanji_pair (get_or bytes at 0) (get_or bytes (at + 1) 0) ≡ false → at < length bytes →
+    units (drop at bytes) ≡ class_of (get_or bytes at 0) ∷ units (drop (at + 1) bytes)
+units_no_pair bytes at long pair within = units_alone bytes at (omega arith) pair
 
 -- a byte of another class begins no pair
 no_lead : (lead : Bool) (rest : Class) → ((if lead then LoneLead else rest) ≡ LoneLead → ⊥) → lead ≡ false
@@ -46,32 +101,96 @@ not_both : (a b : Bool) → a ≡ false → (a && b) ≡ false
 not_both true b e = absurd (cc)
 not_both false b e = refl
 
-pub no_pair : (a b : ℕ) → (class_of a ≡ LoneLead → ⊥) → is_kanji_pair a b ≡ false
+no_pair : (a b : ℕ) → (class_of a ≡ LoneLead → ⊥) → is_kanji_pair a b ≡ false
 no_pair a b other =
     not_both (is_lead a) _ (no_lead (is_lead a) (if is_between 48 57 a then Digit else if is_alphanumeric a then Sign else Other) other)
 
--- ---- A byte that is a unit by itself
+units_other : (bytes : List ℕ) (at : ℕ) → at < length bytes → (class_of (get_or bytes at 0) ≡ LoneLead → ⊥) → units (drop at bytes) ≡ class_of (get_or bytes at 0) ∷ units (drop (at + 1) bytes)
+units_other bytes at within other = elim (cases_lt (at + 1) (length bytes)) [
+  | inl w ↦ units_alone bytes at (omega arith) (no_pair (get_or bytes at 0) (get_or bytes (at + 1) 0) other)
+  | inr w ↦ units_last bytes at (omega arith) within
+]
 
-unit_or_pair : Bool → ℕ → ℕ → List ℕ → List Class
-unit_or_pair pair a b rest = elim pair [ true ↦ Pair ∷ units rest | false ↦ class_of a ∷ units (b ∷ rest) ]
+-- the next unit is the byte's, or a pair
+abbrev NextUnit : List ℕ → ℕ → Type 0
+NextUnit bytes at = (d : Class) × ((d ≡ class_of (get_or bytes at 0)) ⊎ (d ≡ Pair)) × (units (drop at bytes) ≡ d ∷ units (drop (at + class_size d) bytes))
 
-units_alone : (a : ℕ) (rest : List ℕ) → (class_of a ≡ LoneLead → ⊥) → units (a ∷ rest) ≡ class_of a ∷ units rest
-unfolding unit_or_pair
-units_alone a [] other = refl
-units_alone a (b ∷ rest) other = ap (λ (z : Bool). unit_or_pair z a b rest) (no_pair a b other)
+next_alone : (bytes : List ℕ) (at : ℕ) → units (drop at bytes) ≡ class_of (get_or bytes at 0) ∷ units (drop (at + 1) bytes) → NextUnit bytes at
+next_alone bytes at h =
+    (class_of (get_or bytes at 0), inl refl, h ∙ ap (λ (n : ℕ). class_of (get_or bytes at 0) ∷ units (drop (at + n) bytes)) (sym (class_of-one (get_or bytes at 0))))
 
-pub unit_alone : (bytes : List ℕ) (at : ℕ) (class : Class) → at < length bytes → class ≡ class_of (get_or bytes at 0) → (class ≡ LoneLead → ⊥) →
-    units (drop at bytes) ≡ class ∷ units (drop (at + class_size class) bytes)
-unit_alone bytes at class within is other =
-    let a = get_or bytes at 0 in
-    let one : at + class_size class ≡ suc at = ap (λ (z : Class). at + class_size z) is ∙ omega (arith, class_of-one a) in
-    ap units (drop-cons bytes at 0 within)
-    ∙ (units_alone a (drop (suc at) bytes) (λ lone. other (is ∙ lone))
-    ∙ (ap (λ (z : Class). z ∷ units (drop (suc at) bytes)) (sym is)
-    ∙ ap (λ (n : ℕ). class ∷ units (drop n bytes)) (sym one)))
+next_by : (bytes : List ℕ) (at : ℕ) (t : Bool) → at + 2 ≤ length bytes → is_kanji_pair (get_or bytes at 0) (get_or bytes (at + 1) 0) ≡ t → NextUnit bytes at
+next_by bytes at true within e = (Pair, inr refl, units_pair bytes at within e)
+next_by bytes at false within e = next_alone bytes at (units_alone bytes at within e)
 
-pub alone_inside : (bytes : List ℕ) (at : ℕ) (class : Class) → at < length bytes → class ≡ class_of (get_or bytes at 0) → at + class_size class ≤ length bytes
-alone_inside bytes at class within is =
-    let a = get_or bytes at 0 in
-    let one : class_size class ≡ class_size (class_of a) = ap class_size is in
-    omega (arith, class_of-one a)
+next_unit : (bytes : List ℕ) (at : ℕ) → at < length bytes → NextUnit bytes at
+next_unit bytes at within = elim (cases_lt (at + 1) (length bytes)) [
+  | inl w ↦ next_by bytes at (is_kanji_pair (get_or bytes at 0) (get_or bytes (at + 1) 0)) (omega arith) refl
+  | inr w ↦ next_alone bytes at (units_last bytes at (omega arith) within)
+]
+
+-- ---- Runs
+
+-- a run ends with the data, or where a unit of another class stands
+run_stops : (bytes : List ℕ) (c : Class) (begin end : ℕ) → IsRun bytes c begin end →
+    (end < length bytes → (d : Class) × (joins c d ≡ false) × (units (drop end bytes) ≡ d ∷ units (drop (end + class_size d) bytes))) →
+    parsed_from begin (drop begin bytes) ≡ record { mode = class_mode c; begin = begin; end = end } ∷ parsed_from end (drop end bytes)
+run_stops bytes c begin end run next = elim (cases_lt end (length bytes)) [
+  | inl w ↦ let n = next w in Run-apart bytes c n.0 begin end n.1 n.2 run
+  | inr w ↦ Run-last bytes c begin end w run
+]
+
+module _ (bytes : List ℕ) (begin : ℕ) (within : begin < length bytes) where
+  abbrev class : Class
+  class = class_of (get_or bytes begin 0)
+
+  -- ---- of a class that is not that of pairs
+
+  pub alone_first : (class ≡ LoneLead → ⊥) → IsRun bytes class begin (begin + 1)
+  alone_first other =
+      let one = class_of-one (get_or bytes begin 0) in
+      Run-first bytes class begin 1 (sym one) (units_other bytes begin within other ∙ ap (λ (n : ℕ). class ∷ units (drop (begin + n) bytes)) (sym one))
+
+  pub alone_more : (end number next : ℕ) → end < length bytes → (class ≡ LoneLead → ⊥) → number ≡ class_number class → next ≡ class_number (class_of (get_or bytes end 0)) → next ≡ number →
+      IsRun bytes class begin end → IsRun bytes class begin (end + 1)
+  alone_more end number next below other is next_is same run =
+      let equal : class_of (get_or bytes end 0) ≡ class = sym (numbered-is (get_or bytes end 0) next next_is) ∙ numbered-is (get_or bytes begin 0) next (same ∙ is) in
+      let one = class_of-one (get_or bytes begin 0) in
+      let unit : units (drop end bytes) ≡ class ∷ units (drop (end + class_size class) bytes) =
+      units_other bytes end below (λ lone. other (sym equal ∙ lone))
+      ∙ (ap (λ (d : Class). d ∷ units (drop (end + 1) bytes)) equal ∙ ap (λ (n : ℕ). class ∷ units (drop (end + n) bytes)) (sym one)) in
+      Run-more bytes class class begin end 1 (sym one) (joins-self class other) unit run
+
+  pub alone_stops : (end number : ℕ) → number ≡ class_number class → IsRun bytes class begin end → (end < length bytes → class_number (class_of (get_or bytes end 0)) ≡ number → ⊥) →
+      parsed_from begin (drop begin bytes) ≡ record { mode = class_mode class; begin = begin; end = end } ∷ parsed_from end (drop end bytes)
+  alone_stops end number is run apart = run_stops bytes class begin end run (λ w.
+      let n = next_unit bytes end w in (
+        n.0,
+        joins-apart class n.0 (λ same. elim n.1 [
+          | inl byte ↦ apart w (ap class_number (sym (same ∙ byte)) ∙ sym is)
+          | inr pair ↦ not_pair (get_or bytes begin 0) (same ∙ pair)
+        ]),
+        n.2,
+      ))
+
+-- ---- of pairs, or of the first byte of one
+
+pub lone_stops : (bytes : List ℕ) (begin : ℕ) → begin < length bytes → class_of (get_or bytes begin 0) ≡ LoneLead → units (drop begin bytes) ≡ class_of (get_or bytes begin 0) ∷ units (drop (begin + 1) bytes) →
+    parsed_from begin (drop begin bytes) ≡ record { mode = class_mode LoneLead; begin = begin; end = begin + 1 } ∷ parsed_from (begin + 1) (drop (begin + 1) bytes)
+lone_stops bytes begin within lone unit =
+    run_stops bytes LoneLead begin (begin + 1) (Run-first bytes LoneLead begin 1 refl (unit ∙ ap (λ (d : Class). d ∷ units (drop (begin + 1) bytes)) lone)) (λ w.
+    let n = next_unit bytes (begin + 1) w in (n.0, lone_apart n.0, n.2))
+
+pub pair_first : (bytes : List ℕ) (begin : ℕ) → units (drop begin bytes) ≡ Pair ∷ units (drop (begin + 2) bytes) → IsRun bytes Pair begin (begin + 2)
+pair_first bytes begin unit = Run-first bytes Pair begin 2 refl unit
+
+pub pair_more : (bytes : List ℕ) (begin end : ℕ) → units (drop end bytes) ≡ Pair ∷ units (drop (end + 2) bytes) → IsRun bytes Pair begin end → IsRun bytes Pair begin (end + 2)
+pair_more bytes begin end unit run = Run-more bytes Pair Pair begin end 2 refl refl unit run
+
+pub pairs_stop : (bytes : List ℕ) (begin end : ℕ) → IsRun bytes Pair begin end → (end < length bytes → units (drop end bytes) ≡ class_of (get_or bytes end 0) ∷ units (drop (end + 1) bytes)) →
+    parsed_from begin (drop begin bytes) ≡ record { mode = class_mode Pair; begin = begin; end = end } ∷ parsed_from end (drop end bytes)
+pairs_stop bytes begin end run alone = run_stops bytes Pair begin end run (λ w. (
+  class_of (get_or bytes end 0),
+  joins-apart Pair (class_of (get_or bytes end 0)) (λ same. not_pair (get_or bytes end 0) (sym same)),
+  alone w ∙ ap (λ (n : ℕ). class_of (get_or bytes end 0) ∷ units (drop (end + n) bytes)) (sym (class_of-one (get_or bytes end 0))),
+))

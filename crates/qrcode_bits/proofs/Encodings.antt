@@ -1,23 +1,19 @@
 -- The stream of a plan that fits: no push is refused but for memory, and up to the capacity it is a frame.
-use Rattle.std.proofs.Common.{◌≡◌, ℕ, ◌+◌, ◌<◌, ◌≤◌, Bool, List, [], ◌∷◌, ◌++◌, Some, length, take, refl, sym, ap, ◌∙◌, subst, arith, inl, inr, length-append}
-use Rattle.std.specs.Prelude.{All, Option, None, slice_get}
-use Rattle.std.proofs.lemmas.Bool.{cases_lt}
-use Rattle.std.proofs.lemmas.Option.{slice_get_past}
-use Rattle.std.proofs.Math.Seq.{take-length}
+use Rattle.std.proofs.Common.{◌≡◌, ℕ, ◌+◌, ◌<◌, ◌≤◌, Bool, List, ◌++◌, Some, length, take, refl, sym, ap, ◌∙◌, subst, arith, length-append}
+use Rattle.std.specs.Prelude.{All, Option, None}
 use Rattle.qrcode_base.specs.declared.types.Version.{Version}
 use Rattle.qrcode_base.specs.declared.types.EcLevel.{EcLevel}
 use Rattle.qrcode_base.specs.declared.types.errors.QrError.{QrError}
-use Rattle.qrcode_base.specs.declared.types.errors.QrError.TheVariants.{InvalidVersion, DataTooLong, UnsupportedCharacterSet, InvalidCharacter, OutOfMemory}
+use Rattle.qrcode_base.specs.declared.types.errors.QrError.TheVariants.{InvalidVersion, DataTooLong, OutOfMemory}
 use Rattle.qrcode_base.specs.Symbols.{capacity}
-use Rattle.qrcode_base.specs.Characters.{IsValid, IsFirstInvalid}
 use Rattle.qrcode_bits.specs.declared.bits.modes.EncodingModes.{EncodingModes}
 use Rattle.qrcode_bits.specs.declared.optimize.Segment.{Segment}
 use Rattle.qrcode_bits.specs.Merging.{total_bits}
 use Rattle.qrcode_bits.specs.ModeSets.{no_modes}
-use Rattle.qrcode_bits.specs.Spelling.{Piece, IsSpellable}
-use Rattle.qrcode_bits.specs.Frame.{Header, HasHeader, AreSpelled, spellings, ended, header_bits, IsFrame}
+use Rattle.qrcode_bits.specs.Spelling.{Piece}
+use Rattle.qrcode_bits.specs.Frame.{Header, HasHeader, spellings, ended, header_bits, IsFrame}
 use Rattle.qrcode_bits.specs.Stream.{Stream}
-use Rattle.qrcode_bits.specs.Push.{SpellsAll, StopsAt, IsRefused, EndsAtLevel, IsLevelRefused, with_modes}
+use Rattle.qrcode_bits.specs.Push.{SpellsAll, EndsAtLevel, IsLevelRefused, with_modes}
 use Rattle.qrcode_bits.specs.Pieces.{segment_pieces}
 use Rattle.qrcode_bits.specs.Choice.{Fits}
 use Rattle.qrcode_bits.specs.Encoding.{IsPlanStream}
@@ -25,34 +21,6 @@ use Rattle.qrcode_bits.proofs.Choices.{some_same}
 use Rattle.qrcode_bits.proofs.PlanFrames.{spelled_plan, plan_frame}
 
 -- ---- Refusals
-
-got_within : (s : List ℕ) (i x : ℕ) → slice_get s i ≡ Some x → i < length s
-got_within s i x h = elim (cases_lt i (length s)) [
-  | inl w ↦ w
-  | inr w ↦ absurd (let none : ◌≡◌ {A = Option ℕ} None (Some x) = sym (slice_get_past s i w) ∙ h in cc)
-]
-
--- a valid text has no first invalid byte
-none_invalid : (piece : Piece) (position byte : ℕ) → IsValid piece.mode piece.text → IsFirstInvalid (IsValid piece.mode) piece.text position byte → ⊥
-none_invalid piece position byte valid h =
-    h.longest (length piece.text) (got_within piece.text position byte h.byte_is) (omega arith) (subst (λ (z : List ℕ). IsValid piece.mode z) (sym (take-length piece.text)) valid)
-
--- a piece that can be spelled is refused for memory alone
-spellable_refused : (old : Stream) (piece : Piece) (e : QrError) → IsSpellable old.version piece → IsRefused old piece e → e ≡ OutOfMemory
-spellable_refused old piece UnsupportedCharacterSet h r = absurd (r h.mode)
-spellable_refused old piece (InvalidCharacter position byte) h r = absurd (none_invalid piece position byte h.valid r.1)
-spellable_refused old piece DataTooLong h r = absurd (let c = h.counted in let d = r.1.1 in omega arith)
-spellable_refused old piece OutOfMemory h r = refl
-spellable_refused old piece other h r = absurd r
-
-spelled_at : (v : Version) (done : List Piece) (next : Piece) (rest : List Piece) → AreSpelled v (done ++ (next ∷ rest)) → IsSpellable v next
-spelled_at v [] next rest h = h.0.0
-spelled_at v (d ∷ done) next rest h = spelled_at v done next rest h.1
-
-pub spelled_stop : (old new : Stream) (pieces rest : List Piece) (e : QrError) → AreSpelled old.version pieces → StopsAt old new pieces rest e → e ≡ OutOfMemory
-spelled_stop old new pieces rest e spelled w =
-    let can = spelled_at old.version w.done w.next rest (subst (λ (z : List Piece). AreSpelled old.version z) w.pieces_are spelled) in
-    spellable_refused new w.next e (subst (λ (v : Version). IsSpellable v w.next) (sym w.pushed.version_is) can) w.refused
 
 -- an end that fits is refused for memory alone
 pub end_refused : (old : Stream) (level : EcLevel) (limit : ℕ) (e : QrError) → capacity old.version level ≡ Some limit → length old.bits ≤ limit → IsLevelRefused old level e → e ≡ OutOfMemory
@@ -68,10 +36,6 @@ module _ (header : Option Header) (bytes : List ℕ) (are : All (λ c. c < 256) 
     (fits : Fits (length (header_bits header)) bytes v level plan) (start : Stream) (begun : start.bits ≡ header_bits header) (version : start.version ≡ v) where
   abbrev pieces : List Piece
   pieces = segment_pieces bytes plan
-
-  pub plan_stop : (new : Stream) (e : QrError) (rest : List Piece) → StopsAt start new (segment_pieces bytes plan) rest e → e ≡ OutOfMemory
-  plan_stop new e rest w =
-      spelled_stop start new pieces rest e (subst (λ (u : Version). AreSpelled u pieces) (sym version) (spelled_plan (length (header_bits header)) v level bytes plan are fits).spelled) w
 
   pushed_bits : (middle : Stream) → SpellsAll start middle (segment_pieces bytes plan) → middle.bits ≡ header_bits header ++ spellings v (segment_pieces bytes plan)
   pushed_bits middle w =

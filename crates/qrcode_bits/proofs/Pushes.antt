@@ -1,13 +1,20 @@
 -- Several pushes, one after the other.
-use Rattle.std.proofs.Common.{◌≡◌, ℕ, Bool, List, [], ◌∷◌, ◌++◌, length, refl, sym, ap, ◌∙◌, subst, append_assoc, append-nil, arith, length-append, Result, Ok, Err, inl, inr, ◌⊎◌}
-use Rattle.std.specs.Prelude.{Option, None, All}
+use Rattle.std.proofs.Common.{◌≡◌, ℕ, ◌+◌, ◌<◌, ◌≤◌, Bool, List, [], ◌∷◌, ◌++◌, length, drop, drop-cons, add-one, refl, sym, ap, ◌∙◌, subst, append_assoc, append-nil, arith, length-append, Some, Result, Ok, Err, inl, inr, ◌⊎◌}
+use Rattle.std.specs.Prelude.{Option, None, All, slice_get}
+use Rattle.std.proofs.lemmas.Bool.{cases_lt}
+use Rattle.std.proofs.lemmas.List.{drop_all}
+use Rattle.std.proofs.lemmas.Option.{slice_get_past}
+use Rattle.std.proofs.Math.Seq.{take-length}
 use Rattle.std.proofs.lemmas.List.Elements.{All-nil, All-cons, All-head, All-tail}
 use Rattle.qrcode_base.specs.declared.types.Version.{Version}
 use Rattle.qrcode_base.specs.declared.types.errors.QrError.{QrError}
+use Rattle.qrcode_base.specs.declared.types.errors.QrError.TheVariants.{DataTooLong, UnsupportedCharacterSet, InvalidCharacter, OutOfMemory}
+use Rattle.qrcode_base.specs.Characters.{IsValid, IsFirstInvalid}
 use Rattle.qrcode_bits.specs.declared.bits.modes.EncodingModes.{EncodingModes}
 use Rattle.qrcode_bits.specs.declared.optimize.Segment.{Segment}
 use Rattle.qrcode_bits.specs.Spelling.{Piece, IsSpellable, spelling}
-use Rattle.qrcode_bits.specs.Frame.{spellings}
+use Rattle.qrcode_bits.specs.Frame.{AreSpelled, spellings}
+use Rattle.qrcode_bits.specs.Merging.{segment_at}
 use Rattle.qrcode_bits.specs.Pieces.{segment_piece, segment_pieces}
 use Rattle.qrcode_bits.specs.Stream.{Stream}
 use Rattle.qrcode_bits.specs.Push.{Spells, SpellsAll, StopsAt, PushesDrawn, IsRefused, with_modes, payload_after}
@@ -99,3 +106,49 @@ pieces_more bytes (y ∷ ys) s rest = ap (λ (z : List Piece). segment_piece byt
 pub last_of : (P : Segment → Type 0) (ys : List Segment) (s : Segment) → All P (ys ++ s ∷ []) → P s
 last_of P [] s h = All-head P s [] h
 last_of P (y ∷ ys) s h = last_of P ys s (All-tail P y (ys ++ s ∷ []) h)
+
+-- ---- Plans of which each part can be spelled
+
+got_within : (s : List ℕ) (i x : ℕ) → slice_get s i ≡ Some x → i < length s
+got_within s i x h = elim (cases_lt i (length s)) [
+  | inl w ↦ w
+  | inr w ↦ absurd (let none : ◌≡◌ {A = Option ℕ} None (Some x) = sym (slice_get_past s i w) ∙ h in cc)
+]
+
+-- a valid text has no first invalid byte
+none_invalid : (piece : Piece) (position byte : ℕ) → IsValid piece.mode piece.text → IsFirstInvalid (IsValid piece.mode) piece.text position byte → ⊥
+none_invalid piece position byte valid h =
+    h.longest (length piece.text) (got_within piece.text position byte h.byte_is) (omega arith) (subst (λ (z : List ℕ). IsValid piece.mode z) (sym (take-length piece.text)) valid)
+
+-- a piece that can be spelled is refused for memory alone
+pub spellable_refused : (old : Stream) (piece : Piece) (e : QrError) → IsSpellable old.version piece → IsRefused old piece e → e ≡ OutOfMemory
+spellable_refused old piece UnsupportedCharacterSet h r = absurd (r h.mode)
+spellable_refused old piece (InvalidCharacter position byte) h r = absurd (none_invalid piece position byte h.valid r.1)
+spellable_refused old piece DataTooLong h r = absurd (let c = h.counted in let d = r.1.1 in omega arith)
+spellable_refused old piece OutOfMemory h r = refl
+spellable_refused old piece other h r = absurd r
+
+-- the parts of a plan from a place on
+pub pieces_at : (bytes : List ℕ) (plan : List Segment) (i : ℕ) → i < length plan →
+    segment_pieces bytes (drop i plan) ≡ segment_piece bytes (segment_at plan i) ∷ segment_pieces bytes (drop (i + 1) plan)
+pieces_at bytes plan i within =
+    ap (λ (z : List Segment). segment_pieces bytes z) (drop-cons plan i (segment_at [] 0) within ∙ ap (λ (n : ℕ). segment_at plan i ∷ drop n plan) (sym (add-one i)))
+
+module _ (bytes : List ℕ) (plan : List Segment) (i : ℕ) (within : i < length plan) (old next : Stream) (spelled : AreSpelled old.version (segment_pieces bytes (drop i plan))) where
+  spelled_here : AreSpelled old.version (segment_piece bytes (segment_at plan i) ∷ segment_pieces bytes (drop (i + 1) plan))
+  spelled_here = subst (λ (z : List Piece). AreSpelled old.version z) (pieces_at bytes plan i within) spelled
+
+  pub part_spellable : IsSpellable old.version (segment_piece bytes (segment_at plan i))
+  part_spellable = spelled_here.0.0
+
+  pub later_spelled : Spells old next (segment_piece bytes (segment_at plan i)) → AreSpelled next.version (segment_pieces bytes (drop (i + 1) plan))
+  later_spelled h = subst (λ (v : Version). AreSpelled v (segment_pieces bytes (drop (i + 1) plan))) (sym h.version_is) spelled_here.1
+
+  pub part_pushed : (new : Stream) → Spells old next (segment_piece bytes (segment_at plan i)) → SpellsAll next new (segment_pieces bytes (drop (i + 1) plan)) →
+      SpellsAll old new (segment_pieces bytes (drop i plan))
+  part_pushed new h w =
+      subst (λ (z : List Piece). SpellsAll old new z) (sym (pieces_at bytes plan i within))
+      (spells_first old next new (segment_piece bytes (segment_at plan i)) (segment_pieces bytes (drop (i + 1) plan)) h w)
+
+pub none_left : (bytes : List ℕ) (plan : List Segment) (i : ℕ) (s : Stream) → length plan ≤ i → SpellsAll s s (segment_pieces bytes (drop i plan))
+none_left bytes plan i s past = subst (λ (z : List Segment). SpellsAll s s (segment_pieces bytes z)) (sym (drop_all i plan past)) (spells_none s)

@@ -10,7 +10,7 @@ use Rattle.qrcode_bits.specs.declared.optimize.candidate.Candidate.{Candidate}
 use Rattle.qrcode_bits.specs.Plans.{IsNoWorse}
 use Rattle.qrcode_bits.specs.Periods.{period, period_bits}
 use Rattle.qrcode_bits.specs.Buckets.{bucket_mode, bucket_rest, slot, IsBetterOf, Absorbs, IsEmptyGroup, key_of, Enters}
-use Rattle.qrcode_bits.specs.Words.{word_of, start_told, bucket_start, word_at, starts_in, IsOffered}
+use Rattle.qrcode_bits.specs.Words.{word_of, start_told, bucket_start, word_at, starts_in, IsOffered, AreNone, IsWhole}
 
 pub word-ahead : (more a b : ℕ) → a ≤ b →
     IsNoWorse (start_told more a).bits (start_told more a).parts (start_told more a).start (start_told more b).bits (start_told more b).parts (start_told more b).start
@@ -86,8 +86,27 @@ absorbs a b c least = (
   λ j inside. rw (slot-starts_in a j inside, slot-starts_in b j inside, slot-starts_in c j inside, least j inside) (bucket_start-min j (word_at a j) (word_at b j)),
 )
 
-pub empties : (words : List ℕ) → ((k : ℕ) → k < 8 → word_at words k ≡ 18446744073709551615) → IsEmptyGroup (starts_in words)
-empties words all = (length-starts_in words, λ j inside. slot-starts_in words j inside ∙ no_start j (word_at words j) (let e = all j inside in omega arith))
+-- no start is better than one that there is none of
+pub absorbs_none : (a b : List ℕ) → AreNone b → Absorbs (starts_in a) (starts_in b) (starts_in a)
+absorbs_none a b none = (
+  length-starts_in a,
+  λ j inside. rw (slot-starts_in a j inside, slot-starts_in b j inside) (better-none (bucket_start j (word_at a j)) (bucket_start j (word_at b j)) (bucket_start j (word_at a j)) (no_start j (word_at b j) (none j inside)) refl),
+)
+
+pub empties : (words : List ℕ) → AreNone words → IsEmptyGroup (starts_in words)
+empties words all = (length-starts_in words, λ j inside. slot-starts_in words j inside ∙ no_start j (word_at words j) (all j inside))
+
+-- what holds no start after an absorption held none before
+pub whole-absorbed : (a b c : List ℕ) → IsWhole a → IsWhole b → length c ≡ 8 → ((k : ℕ) → k < 8 → word_at c k ≡ min (word_at a k) (word_at b k)) → IsWhole c
+whole-absorbed a b c first second long least = record {
+  long = long;
+  empty = λ great k inside.
+      let five = least 5 (omega arith) in
+      let one = first.empty (omega arith) k inside in
+      let two = second.empty (omega arith) k inside in
+      let here = least k inside in
+      omega arith;
+}
 
 -- ---- A start enters
 
@@ -204,6 +223,10 @@ module _ (begin bits parts start : ℕ) (low : begin < 8192) (few : bits < 2 ^ 1
     kept (suc (suc (suc (suc (suc (suc zero)))))) inside ne = same-at 6 inside (past-character 0 (omega arith) ne)
     kept (suc (suc (suc (suc (suc (suc (suc zero))))))) inside ne = same-at 7 inside (past-character 1 (omega arith) ne)
     kept (suc (suc (suc (suc (suc (suc (suc (suc j)))))))) inside ne = absurd (omega arith)
+
+    -- the bucket of Byte has a start
+    pub still_whole : length new ≡ 8 → IsWhole new
+    still_whole long = record { long = long; empty = λ great k inside. absurd (let least = at-single in omega arith) }
 
     pub enters : Enters begin bits parts start (starts_in old) (starts_in new)
     enters = (length-starts_in new, entered, kept)

@@ -1,5 +1,5 @@
 -- Starts as words of 64 bits.
-use Rattle.std.specs.Prelude.{◌≡◌, ◌≢◌, min, ℕ, ◌+◌, ◌-◌, ◌*◌, ◌/◌, ◌%◌, ◌^◌, ◌<◌, List, map, slice_index_or, nat_le, if◌then◌else◌, length, Option, Some, None}
+use Rattle.std.specs.Prelude.{◌≡◌, ◌≢◌, min, ℕ, ◌+◌, ◌-◌, ◌*◌, ◌/◌, ◌%◌, ◌^◌, ◌<◌, ◌≤◌, List, map, slice_index_or, nat_le, if◌then◌else◌, length, Option, Some, None}
 use Rattle.std.specs.List.{range_with_len}
 use Rattle.qrcode_bits.specs.declared.optimize.candidate.Candidate.{Candidate}
 use Rattle.qrcode_bits.specs.declared.optimize.groups.Groups.{Groups}
@@ -47,12 +47,20 @@ told words = record {
   kanji = starts_in words.kanji;
 }
 
--- Each group has its eight buckets.
+-- There is no start in any bucket.
+abbrev pub AreNone : List ℕ → Type 0
+AreNone words = (k : ℕ) → k < 8 → 2 ^ 50 ≤ word_at words k
+
+-- A group has its eight buckets, and no start in any where the one of Byte has none.
+pub record IsWhole (words : List ℕ) : Type 0 where
+  pub long : length words ≡ 8
+  pub empty : 2 ^ 50 ≤ word_at words 5 → AreNone words
+
 pub record AreWhole (words : Words) : Type 0 where
-  pub numeric : length words.numeric ≡ 8
-  pub alphanumeric : length words.alphanumeric ≡ 8
-  pub byte : length words.byte ≡ 8
-  pub kanji : length words.kanji ≡ 8
+  pub numeric : IsWhole words.numeric
+  pub alphanumeric : IsWhole words.alphanumeric
+  pub byte : IsWhole words.byte
+  pub kanji : IsWhole words.kanji
 
 -- Data of fewer than 8192 segments and bytes.
 pub record IsShort (segments : List Segment) : Type 0 where

@@ -364,7 +364,7 @@ fn encode_plan(
     let Ok(mut bits) = started(alloc, header, version) else {
         return Err(QrError::OutOfMemory);
     };
-    if let Err(error) = bits.push_segments(bytes, plan.iter().copied()) {
+    if let Err(error) = bits.push_plan(bytes, plan) {
         return Err(error);
     }
     if let Err(error) = bits.push_terminator(level) {

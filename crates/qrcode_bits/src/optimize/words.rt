@@ -4,8 +4,9 @@
 //! starts is the lesser word, and no start is the greatest word.
 
 ghost use Rattle.std.specs.Prelude.{◌≡◌, ℕ, ◌+◌, ◌*◌, ◌-◌, ◌/◌, ◌%◌, ◌^◌, ◌<◌, ◌≤◌, length, min};
+ghost use Rattle.std.specs.Bool.{OnTrue};
 ghost use Rattle.qrcode_bits.specs.Buckets.{Absorbs, Advances, IsEmptyGroup, EntersGroup, Enters, group_of, slot};
-ghost use Rattle.qrcode_bits.specs.Words.{word_of, starts_in, told, word_at, bucket_start, IsOffered, AreWhole};
+ghost use Rattle.qrcode_bits.specs.Words.{word_of, starts_in, told, word_at, bucket_start, IsOffered, AreNone, IsWhole, AreWhole};
 
 use super::comparisons::Comparisons;
 use qrcode_base::types::Mode;
@@ -43,14 +44,25 @@ pub fn lesser<L: Ledger>(a: u64, b: u64, comparisons: &mut Comparisons<L>) -> u6
     if b < a { b } else { a }
 }
 
+/// Whether a group has no start: each start is in its Byte bucket.
+fn is_empty(group: &[u64]) -> bool
+    requires { IsWhole group.now }
+    ensures { OnTrue result (AreNone group.now) }
+{
+    group[5] >= 1 << 50
+}
+
 /// Takes from each bucket of one group what is less than in the other.
 fn absorb<L: Ledger>(into: &mut [u64], from: &[u64], comparisons: &mut Comparisons<L>)
-    requires into { length into.old ≡ 8 }
-    requires from { length from.now ≡ 8 }
+    requires into { IsWhole into.old }
+    requires from { IsWhole from.now }
     ensures absorbed { Absorbs (starts_in into.old) (starts_in from.now) (starts_in into.new) }
-    ensures long { length into.new ≡ 8 }
+    ensures whole { IsWhole into.new }
     ensures ticked { comparisons.new ≤ comparisons.old + 8 }
 {
+    if is_empty(from) {
+        return;
+    }
     for j in 0..8 {
         into[j] = lesser(into[j], from[j], comparisons);
     }
@@ -58,10 +70,13 @@ fn absorb<L: Ledger>(into: &mut [u64], from: &[u64], comparisons: &mut Compariso
 
 /// Takes all starts out of a group.
 fn clear(group: &mut [u64])
-    requires { length group.old ≡ 8 }
+    requires { IsWhole group.old }
     ensures empty { IsEmptyGroup (starts_in group.new) }
-    ensures long { length group.new ≡ 8 }
+    ensures whole { IsWhole group.new }
 {
+    if is_empty(group) {
+        return;
+    }
     for j in 0..8 {
         group[j] = NO_START;
     }
@@ -87,13 +102,13 @@ fn enter<L: Ledger>(
     start: usize,
     comparisons: &mut Comparisons<L>,
 )
-    requires group { length group.old ≡ 8 }
+    requires group { IsWhole group.old }
     requires begin { begin < 8192 }
     requires bits { bits < 2 ^ 18 }
     requires parts { parts < 8192 }
     requires start { start < 8192 }
     ensures entered { Enters begin bits parts start (starts_in group.old) (starts_in group.new) }
-    ensures long { length group.new ≡ 8 }
+    ensures whole { IsWhole group.new }
     ensures ticked { comparisons.new ≤ comparisons.old + 4 }
 {
     let bytes = begin as u64;
@@ -114,7 +129,7 @@ impl Words {
         ensures alphanumeric { IsEmptyGroup (told result).alphanumeric }
         ensures byte { IsEmptyGroup (told result).byte }
         ensures kanji { IsEmptyGroup (told result).kanji }
-        ensures long { AreWhole result }
+        ensures whole { AreWhole result }
     {
         let mut words = Words {
             numeric: [NO_START; 8],

@@ -12,7 +12,7 @@ pub loop-start-init : goal.loop-start-init
 loop-start-init g c =
     let segments = c.args.segments.now in
     let w = AreSteps-start segments c.args.version c.new-steps.result.items c.push.new.self.items (segment_at segments 0) c.new-steps.ensures.items c.in_ok-push.ensures.items in
-    (w.0, w.1, omega arith, w.2, AreGroups-none segments c.args.version (told c.new-words.result) c.new-words.ensures.numeric c.new-words.ensures.alphanumeric c.new-words.ensures.byte c.new-words.ensures.kanji, c.new-words.ensures.long)
+    (w.0, w.1, omega arith, w.2, AreGroups-none segments c.args.version (told c.new-words.result) c.new-words.ensures.numeric c.new-words.ensures.alphanumeric c.new-words.ensures.byte c.new-words.ensures.kanji, c.new-words.ensures.whole)
 
 pub last_step_short-before-requires-clause-words : goal.last_step_short-before-requires-clause-words
 last_step_short-before-requires-clause-words g c =

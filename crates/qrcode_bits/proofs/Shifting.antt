@@ -1,0 +1,134 @@
+-- Bytes behind bits that are no whole byte yet: each place has the low bits of one byte and the high bits of the next.
+use Rattle.std.proofs.Common.{◌≡◌, ℕ, suc, ◌+◌, ◌-◌, ◌*◌, ◌/◌, ◌%◌, ◌^◌, ◌<◌, ◌≤◌, Bool, List, [], ◌∷◌, ◌++◌, length, refl, sym, ap, ◌∙◌, arith, take, drop, append_assoc, append-nil, add_comm}
+use Rattle.std.specs.Prelude.{slice_index_or, bit_and}
+use Rattle.std.proofs.lemmas.Nat.{pow-add, pow_pos, and_mask}
+use Rattle.std.proofs.lemmas.List.{drop_all, length-drop}
+use Rattle.std.proofs.Math.Seq.{take-append_seam}
+use borrow.Rule.Slice.PartMut.{post_of}
+use Rattle.std.proofs.lemmas.Grind.{flat_map-append}
+use Rattle.qrcode_base.specs.Numbers.{number_bits, byte_bits}
+use Rattle.qrcode_bits.specs.Stream.{Stream, Appends, AreShifted, shifted, kept_bits, room_in, IsKept}
+use Rattle.qrcode_bits.proofs.Numbers.{number_bits-join, number_bits-cut, number_bits-mod, high_free, length-byte_bits, length-number_bits}
+
+low_free : (used before byte : ℕ) → used < 8 → number_bits used (before * 2 ^ 8 + byte) ≡ number_bits used byte
+low_free used before byte part =
+    let eight : 8 - used + used ≡ 8 = omega arith in
+    let power : 2 ^ 8 ≡ 2 ^ (8 - used) * 2 ^ used = ap (λ (n : ℕ). 2 ^ n) (sym eight) ∙ pow-add 2 (8 - used) used in
+    let split : before * 2 ^ 8 + byte ≡ before * 2 ^ (8 - used) * 2 ^ used + byte = rw power (omega arith) in
+    ap (λ (n : ℕ). number_bits used n) split ∙ high_free used (before * 2 ^ (8 - used)) byte
+
+-- one byte more
+one_shifted : (used before byte : ℕ) → used < 8 → byte < 2 ^ 8 →
+    number_bits used before ++ number_bits 8 byte ≡ number_bits 8 (shifted used before byte) ++ number_bits used byte
+one_shifted used before byte part small =
+    let wide : ℕ = before * 2 ^ 8 + byte in
+    sym (number_bits-join used 8 before byte small)
+    ∙ (ap (λ (n : ℕ). number_bits n wide) (add_comm used 8)
+    ∙ (number_bits-cut 8 used wide
+    ∙ (ap (λ (z : List Bool). z ++ number_bits used wide) (sym (number_bits-mod 8 (wide / 2 ^ used)))
+    ∙ ap (λ (z : List Bool). number_bits 8 (shifted used before byte) ++ z) (low_free used before byte part))))
+
+pub shifted_bits : (used partial : ℕ) (text bytes : List ℕ) → used < 8 → ((k : ℕ) → slice_index_or text k 0 < 2 ^ 8) → AreShifted used partial text bytes →
+    number_bits used partial ++ byte_bits text ≡ byte_bits bytes ++ number_bits used (slice_index_or (partial ∷ text) (length text) 0)
+shifted_bits used partial [] [] part small are = append-nil (number_bits used partial)
+shifted_bits used partial [] (c ∷ cs) part small are = absurd (let long = are.long in omega arith)
+shifted_bits used partial (b ∷ text) [] part small are = absurd (let long = are.long in omega arith)
+shifted_bits used partial (b ∷ text) (c ∷ cs) part small are =
+    let here : c ≡ shifted used partial b = are.are 0 (omega arith) in
+    let rest : AreShifted used b text cs = record { long = (let long = are.long in omega arith); are = λ k below. are.are (suc k) (omega arith) } in
+    sym (append_assoc (number_bits used partial) (number_bits 8 b) (byte_bits text))
+    ∙ (ap (λ (z : List Bool). z ++ byte_bits text) (one_shifted used partial b part (small 0))
+    ∙ (append_assoc (number_bits 8 (shifted used partial b)) (number_bits used b) (byte_bits text)
+    ∙ (ap (λ (n : ℕ). number_bits 8 n ++ (number_bits used b ++ byte_bits text)) (sym here)
+    ∙ (ap (λ (z : List Bool). number_bits 8 c ++ z) (shifted_bits used b text cs part (λ k. small (suc k)) rest)
+    ∙ sym (append_assoc (number_bits 8 c) (byte_bits cs) (number_bits used (slice_index_or (b ∷ text) (length text) 0)))))))
+
+-- the stream with the bytes in their places
+pub kept_shifted : (old : List ℕ) (used partial left : ℕ) (text bytes : List ℕ) → used < 8 → ((k : ℕ) → slice_index_or text k 0 < 2 ^ 8) → AreShifted used partial text bytes →
+    left ≡ slice_index_or (partial ∷ text) (length text) 0 % 2 ^ used → kept_bits (old ++ bytes) used left ≡ kept_bits old used partial ++ byte_bits text
+kept_shifted old used partial left text bytes part small are is =
+    let last : ℕ = slice_index_or (partial ∷ text) (length text) 0 in
+    ap (λ (z : List Bool). z ++ number_bits used left) (flat_map-append (number_bits 8) old bytes)
+    ∙ (append_assoc (byte_bits old) (byte_bits bytes) (number_bits used left)
+    ∙ (ap (λ (n : ℕ). byte_bits old ++ (byte_bits bytes ++ number_bits used n)) is
+    ∙ (ap (λ (z : List Bool). byte_bits old ++ (byte_bits bytes ++ z)) (number_bits-mod used last)
+    ∙ (ap (λ (z : List Bool). byte_bits old ++ z) (sym (shifted_bits used partial text bytes part small are))
+    ∙ sym (append_assoc (byte_bits old) (number_bits used partial) (byte_bits text))))))
+
+-- ---- The stream
+
+pub kept_more : (len cap cap' used partial left n word : ℕ) → IsKept len cap used partial → 8 * n ≤ room_in cap len used → cap ≤ cap' → left ≡ word % 2 ^ used → IsKept (len + n) cap' used left
+kept_more len cap cap' used partial left n word kept room grows is = record {
+  part = kept.part;
+  small = (let some = pow_pos used in omega arith);
+  placed = (let p = kept.placed in omega arith);
+  counted = (let c = kept.counted in omega arith);
+}
+
+-- the bytes that were there, and these in place of those behind them
+pub replaced : (bytes text whole filled : List ℕ) (start : ℕ) → whole ≡ bytes ++ text → start ≡ length bytes →
+    take start whole ++ (filled ++ post_of start (length whole - start) whole) ≡ bytes ++ filled
+replaced bytes text whole filled start is from =
+    let front : take start whole ≡ bytes = ap (λ (z : List ℕ). take start z) is ∙ (ap (λ (n : ℕ). take n (bytes ++ text)) from ∙ take-append_seam bytes text) in
+    let behind : post_of start (length whole - start) whole ≡ [] = drop_all (length whole - start) (drop start whole) (omega (arith, length-drop start whole)) in
+    rw (front, behind, append-nil filled) refl
+
+pub appends_shifted : (old : Stream) (bytes now text filled : List ℕ) (len len' cap cap' used partial left : ℕ) → old.bits ≡ kept_bits bytes used partial → old.room ≡ room_in cap len used →
+    now ≡ bytes ++ filled → len' ≡ len + length text → cap ≤ cap' → used < 8 → ((k : ℕ) → slice_index_or text k 0 < 2 ^ 8) → AreShifted used partial text filled →
+    left ≡ slice_index_or (partial ∷ text) (length text) 0 % 2 ^ used →
+    Appends old (record { bits = kept_bits now used left; version = old.version; modes = old.modes; payload = old.payload; room = room_in cap' len' used }) (byte_bits text)
+appends_shifted old bytes now text filled len len' cap cap' used partial left bits room is longer grows part small are last = record {
+  bits_are = ap (λ (z : List ℕ). kept_bits z used left) is
+      ∙ (kept_shifted bytes used partial left text filled part small are last ∙ ap (λ (z : List Bool). z ++ byte_bits text) (sym bits));
+  version_is = refl;
+  modes_are = refl;
+  payload_is = refl;
+  room_left = omega (arith, length-byte_bits text);
+}
+
+-- ---- Five bytes at once
+
+-- what a byte keeps of a number
+low_byte : (n : ℕ) → number_bits 8 (bit_and n 255) ≡ number_bits 8 n
+low_byte n = ap (λ (z : ℕ). number_bits 8 z) (and_mask n 8) ∙ number_bits-mod 8 n
+
+pub five_bytes_are : (n : ℕ) →
+    byte_bits (n / 2 ^ 32 ∷ bit_and (n / 2 ^ 24) 255 ∷ bit_and (n / 2 ^ 16) 255 ∷ bit_and (n / 2 ^ 8) 255 ∷ bit_and n 255 ∷ []) ≡ number_bits 40 n
+five_bytes_are n =
+    let last : number_bits 8 (bit_and n 255) ++ [] ≡ number_bits 8 n = append-nil (number_bits 8 (bit_and n 255)) ∙ low_byte n in
+    let two : number_bits 8 (bit_and (n / 2 ^ 8) 255) ++ (number_bits 8 (bit_and n 255) ++ []) ≡ number_bits 16 n = rw (low_byte (n / 2 ^ 8), last) (sym (number_bits-cut 8 8 n)) in
+    let three : number_bits 8 (bit_and (n / 2 ^ 16) 255) ++ (number_bits 8 (bit_and (n / 2 ^ 8) 255) ++ (number_bits 8 (bit_and n 255) ++ [])) ≡ number_bits 24 n =
+    rw (low_byte (n / 2 ^ 16), two) (sym (number_bits-cut 8 16 n)) in
+    let four : number_bits 8 (bit_and (n / 2 ^ 24) 255) ++ (number_bits 8 (bit_and (n / 2 ^ 16) 255) ++ (number_bits 8 (bit_and (n / 2 ^ 8) 255) ++ (number_bits 8 (bit_and n 255) ++ []))) ≡ number_bits 32 n =
+    rw (low_byte (n / 2 ^ 24), three) (sym (number_bits-cut 8 24 n)) in
+    ap (λ (z : List Bool). number_bits 8 (n / 2 ^ 32) ++ z) four ∙ sym (number_bits-cut 8 32 n)
+
+-- the stream with a number of 40 bits behind it, as five bytes
+pub kept_five : (old five : List ℕ) (used partial left n wide : ℕ) → used < 8 → n < 2 ^ 40 → wide ≡ partial * 2 ^ 40 + n → byte_bits five ≡ number_bits 40 (wide / 2 ^ used) →
+    left ≡ bit_and n 255 % 2 ^ used → kept_bits (old ++ five) used left ≡ kept_bits old used partial ++ number_bits 40 n
+kept_five old five used partial left n wide part small whole bytes is =
+    let low : number_bits used left ≡ number_bits used wide =
+    ap (λ (z : ℕ). number_bits used z) is ∙ (number_bits-mod used (bit_and n 255) ∙ (ap (λ (z : ℕ). number_bits used z) (and_mask n 8)
+    ∙ (sym (low_free used (partial * 2 ^ 32 + n / 2 ^ 8) (n % 2 ^ 8) part)
+    ∙ (let same : (partial * 2 ^ 32 + n / 2 ^ 8) * 2 ^ 8 + n % 2 ^ 8 ≡ wide = omega arith in ap (λ (z : ℕ). number_bits used z) same)))) in
+    let cut : number_bits 40 (wide / 2 ^ used) ++ number_bits used wide ≡ number_bits used partial ++ number_bits 40 n =
+    sym (number_bits-cut 40 used wide) ∙ (ap (λ (z : ℕ). number_bits z wide) (add_comm 40 used)
+    ∙ (ap (λ (z : ℕ). number_bits (used + 40) z) whole ∙ number_bits-join used 40 partial n small)) in
+    ap (λ (z : List Bool). z ++ number_bits used left) (flat_map-append (number_bits 8) old five)
+    ∙ (append_assoc (byte_bits old) (byte_bits five) (number_bits used left)
+    ∙ (ap (λ (z : List Bool). byte_bits old ++ (z ++ number_bits used left)) bytes
+    ∙ (ap (λ (z : List Bool). byte_bits old ++ (number_bits 40 (wide / 2 ^ used) ++ z)) low
+    ∙ (ap (λ (z : List Bool). byte_bits old ++ z) cut
+    ∙ sym (append_assoc (byte_bits old) (number_bits used partial) (number_bits 40 n))))))
+
+pub appends_five : (old : Stream) (bytes now five : List ℕ) (len len' cap cap' used partial left n wide : ℕ) → old.bits ≡ kept_bits bytes used partial → old.room ≡ room_in cap len used →
+    now ≡ bytes ++ five → len' ≡ len + 5 → cap ≤ cap' → used < 8 → n < 2 ^ 40 → wide ≡ partial * 2 ^ 40 + n → byte_bits five ≡ number_bits 40 (wide / 2 ^ used) → left ≡ bit_and n 255 % 2 ^ used →
+    Appends old (record { bits = kept_bits now used left; version = old.version; modes = old.modes; payload = old.payload; room = room_in cap' len' used }) (number_bits 40 n)
+appends_five old bytes now five len len' cap cap' used partial left n wide bits room is longer grows part small whole are last = record {
+  bits_are = ap (λ (z : List ℕ). kept_bits z used left) is
+      ∙ (kept_five bytes five used partial left n wide part small whole are last ∙ ap (λ (z : List Bool). z ++ number_bits 40 n) (sym bits));
+  version_is = refl;
+  modes_are = refl;
+  payload_is = refl;
+  room_left = omega (arith, length-number_bits 40 n);
+}

@@ -1,0 +1,16 @@
+-- What was pushed and what is left are the whole.
+use Rattle.std.proofs.Common.{length}
+use Rattle.std.specs.Prelude.{All}
+use Rattle.qrcode_base.specs.Characters.{IsDigit}
+use Rattle.qrcode_bits.specs.Spelling.{numeric_bits}
+use Rattle.qrcode_bits.proofs.Streams.{Continues}
+use Rattle.qrcode_bits.proofs.bits.Bits.push_last_digits.Given as goal
+
+abbrev pub invariant-loop-rest : goal.invariant-loop-rest
+invariant-loop-rest l = record {
+  so_far : Continues l.initial.self l.self (numeric_bits l.fn.digits) (numeric_bits l.rest);
+  digits : All IsDigit l.rest;
+}
+
+abbrev pub decreases-loop-rest : goal.decreases-loop-rest
+decreases-loop-rest l = length l.rest

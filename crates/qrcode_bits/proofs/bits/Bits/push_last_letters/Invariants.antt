@@ -1,0 +1,16 @@
+-- What was pushed and what is left are the whole.
+use Rattle.std.proofs.Common.{ℕ, length}
+use Rattle.std.specs.Prelude.{All, Contains}
+use Rattle.qrcode_base.specs.Characters.{alphabet}
+use Rattle.qrcode_bits.specs.Spelling.{alphanumeric_bits}
+use Rattle.qrcode_bits.proofs.Streams.{Continues}
+use Rattle.qrcode_bits.proofs.bits.Bits.push_last_letters.Given as goal
+
+abbrev pub invariant-loop-rest : goal.invariant-loop-rest
+invariant-loop-rest l = record {
+  so_far : Continues l.initial.self l.self (alphanumeric_bits l.fn.text) (alphanumeric_bits l.rest);
+  characters : All (λ (c : ℕ). Contains alphabet c) l.rest;
+}
+
+abbrev pub decreases-loop-rest : goal.decreases-loop-rest
+decreases-loop-rest l = length l.rest

@@ -1,0 +1,27 @@
+-- Eight characters, or the rest.
+use Rattle.std.proofs.Common.{arith}
+use Rattle.std.proofs.lemmas.List.Elements.{All-drop}
+use Rattle.qrcode_bits.proofs.Characters.{InAlphabet}
+use Rattle.qrcode_bits.proofs.Pairs.{pairs_step, pairs_all}
+use Rattle.qrcode_bits.proofs.Streams.{appends_low}
+use Rattle.qrcode_bits.proofs.Numbers.{length-number_bits}
+use Rattle.qrcode_bits.proofs.Segments.{length-alphanumeric_bits}
+use Rattle.qrcode_bits.proofs.bits.Bits.push_letters.Goals as goal
+
+pub push_five_bytes-requires-clause-room : goal.push_five_bytes-requires-clause-room
+push_five_bytes-requires-clause-room c =
+    omega (arith, c.loop-rest.invariant.so_far.room_for, length-alphanumeric_bits c.loop-rest.rest.now)
+
+pub append-requires-clause-room : goal.append-requires-clause-room
+append-requires-clause-room c =
+    omega (arith, c.loop-rest.invariant.so_far.room_for, length-alphanumeric_bits c.loop-rest.rest.now, c.push_five_bytes.ensures.room_left, length-number_bits)
+
+pub loop-rest-preserved : goal.loop-rest-preserved
+loop-rest-preserved c = record {
+  so_far = pairs_step _ _ _ _ c.loop-rest.rest.now c.split_at.result.0.now c.split_at.result.1.now 44 c.eight_letters-number.result c.split_at.ensures.by_index.0 (omega (arith, c.split_at.ensures.front_len))
+      c.eight_letters-number.ensures.bits c.loop-rest.invariant.so_far (appends_low _ _ _ 40 4 44 c.eight_letters-number.result (omega arith) c.push_five_bytes.ensures c.append.ensures);
+  characters = rw c.split_at.ensures.back (All-drop InAlphabet 8 c.loop-rest.rest.now c.loop-rest.invariant.characters);
+}
+
+pub returns : goal.returns
+returns c = pairs_all _ _ _ _ c.loop-rest.rest.now c.loop-rest.invariant.so_far c.push_last_letters.ensures

@@ -1,0 +1,229 @@
+//! The bits of characters: ISO/IEC 18004, "Numeric mode", "Alphanumeric mode", "Byte mode" and "Kanji mode".
+
+ghost use Rattle.std.specs.Prelude.{◌≡◌, ◌+◌, ◌*◌, ◌%◌, ◌^◌, ◌<◌, ◌≤◌, ◌∷◌, slice_index_or, length, All, Contains};
+ghost use Rattle.qrcode_base.specs.Characters.{IsDigit, digit as digit_of, alphabet, alphanumeric_value as alphanumeric_value_of, IsKanji, IsKanjiText, kanji_number as kanji_number_of};
+ghost use Rattle.qrcode_base.specs.Numbers.{number_bits, byte_bits};
+ghost use Rattle.qrcode_bits.specs.Spelling.{numeric_bits, alphanumeric_bits, kanji_bits};
+ghost use Rattle.qrcode_bits.specs.Stream.{Appends, AreShifted, shifted};
+
+use super::{Bits, joined, low_bits};
+use qrcode_base::characters::alphanumeric_place;
+
+impl Bits {
+    /// Writes digits, for which there is room: twelve at a time are five bytes.
+    pub(super) fn push_digits(&mut self, digits: &[u8])
+        requires digits { All IsDigit digits.now }
+        requires room { length (numeric_bits digits.now) ≤ self.old.room }
+        ensures { Appends self.old self.new (numeric_bits digits.now) }
+    {
+        let mut rest = digits;
+        while rest.len() >= 12 {
+            let (twelve, later) = rest.split_at(12);
+            self.push_five_bytes(twelve_digits(twelve));
+            rest = later;
+        }
+        self.push_last_digits(rest);
+    }
+
+    /// Writes digits in threes, and one or two that are left.
+    fn push_last_digits(&mut self, digits: &[u8])
+        requires digits { All IsDigit digits.now }
+        requires room { length (numeric_bits digits.now) ≤ self.old.room }
+        ensures { Appends self.old self.new (numeric_bits digits.now) }
+    {
+        let mut rest = digits;
+        while rest.len() >= 3 {
+            let (three, later) = rest.split_at(3);
+            self.push_number(10, three_digits(three) as u16);
+            rest = later;
+        }
+        if rest.len() == 2 {
+            self.push_number(7, (10 * digit(rest[0]) + digit(rest[1])) as u16);
+        } else if rest.len() == 1 {
+            self.push_number(4, digit(rest[0]) as u16);
+        }
+    }
+
+    /// Writes characters of the Alphanumeric mode, for which there is room: eight at a time are five bytes and a half.
+    pub(super) fn push_letters(&mut self, text: &[u8])
+        requires characters { All (λ c. Contains alphabet c) text.now }
+        requires room { length (alphanumeric_bits text.now) ≤ self.old.room }
+        ensures { Appends self.old self.new (alphanumeric_bits text.now) }
+    {
+        let mut rest = text;
+        while rest.len() >= 8 {
+            let (eight, later) = rest.split_at(8);
+            let number = eight_letters(eight);
+            self.push_five_bytes(number >> 4);
+            self.append(4, (number & 0xf) as u16);
+            rest = later;
+        }
+        self.push_last_letters(rest);
+    }
+
+    /// Writes characters in pairs, and one that is left.
+    fn push_last_letters(&mut self, text: &[u8])
+        requires characters { All (λ c. Contains alphabet c) text.now }
+        requires room { length (alphanumeric_bits text.now) ≤ self.old.room }
+        ensures { Appends self.old self.new (alphanumeric_bits text.now) }
+    {
+        let mut rest = text;
+        while rest.len() >= 2 {
+            let (two, later) = rest.split_at(2);
+            self.push_number(11, two_letters(two) as u16);
+            rest = later;
+        }
+        if rest.len() == 1 {
+            self.push_number(6, alphanumeric_value(rest[0]) as u16);
+        }
+    }
+
+    /// Writes bytes, for which there is room, each shifted by the bits that are no whole byte yet.
+    pub(super) fn push_bytes(&mut self, text: &[u8])
+        requires { length (byte_bits text.now) ≤ self.old.room }
+        ensures { Appends self.old self.new (byte_bits text.now) }
+    {
+        let start = self.bytes.len();
+        let _ = self.bytes.extend_from_slice(text);
+        self.partial = place_shifted(&mut self.bytes[start..], text, self.used, self.partial);
+    }
+
+    /// Writes double-byte characters, for which there is room.
+    pub(super) fn push_kanji(&mut self, text: &[u8])
+        requires characters { IsKanjiText text.now }
+        requires room { length (kanji_bits text.now) ≤ self.old.room }
+        ensures { Appends self.old self.new (kanji_bits text.now) }
+    {
+        let mut rest = text;
+        while let [lead, trail, tail @ ..] = rest {
+            self.push_number(13, kanji_number(*lead, *trail));
+            rest = tail;
+        }
+    }
+}
+
+/// A byte behind the one before it, both shifted to the right.
+fn shifted(before: u8, byte: u8, used: usize) -> u8
+    requires { used < 8 }
+    ensures { result ≡ shifted used before byte }
+{
+    ((joined(before, 8, u16::from(byte)) >> used) & 0xff) as u8
+}
+
+/// Writes bytes behind so many bits, each shifted by these, and answers the bits that are left.
+fn place_shifted(into: &mut [u8], text: &[u8], used: usize, partial: u8) -> u8
+    requires same { length into.old ≡ length text.now }
+    requires part { used < 8 }
+    requires small { partial < 2 ^ used }
+    ensures placed { AreShifted used partial text.now into.new }
+    ensures left { result ≡ slice_index_or (partial ∷ text.now) (length text.now) 0 % 2 ^ used }
+{
+    let Some(last) = text.last() else {
+        return partial;
+    };
+    into[0] = shifted(partial, text[0], used);
+    for i in 1..text.len() {
+        into[i] = shifted(text[i - 1], text[i], used);
+    }
+    low_bits(u16::from(*last), used)
+}
+
+/// The value of a digit.
+fn digit(c: u8) -> u64
+    requires { IsDigit c }
+    ensures value { result ≡ digit_of c }
+    ensures small { result < 10 }
+{
+    u64::from(c - b'0')
+}
+
+/// The number of three digits.
+fn three_digits(digits: &[u8]) -> u64
+    requires three { length digits.now ≡ 3 }
+    requires digits { All IsDigit digits.now }
+    ensures bits { number_bits 10 result ≡ numeric_bits digits.now }
+    ensures small { result < 2 ^ 10 }
+{
+    100 * digit(digits[0]) + 10 * digit(digits[1]) + digit(digits[2])
+}
+
+/// The numbers of twice three digits, one behind the other.
+fn six_digits(digits: &[u8]) -> u64
+    requires six { length digits.now ≡ 6 }
+    requires digits { All IsDigit digits.now }
+    ensures bits { number_bits 20 result ≡ numeric_bits digits.now }
+    ensures small { result < 2 ^ 20 }
+{
+    let (first, second) = digits.split_at(3);
+    three_digits(first) * 1024 + three_digits(second)
+}
+
+/// The numbers of four times three digits, one behind the other.
+fn twelve_digits(digits: &[u8]) -> u64
+    requires twelve { length digits.now ≡ 12 }
+    requires digits { All IsDigit digits.now }
+    ensures bits { number_bits 40 result ≡ numeric_bits digits.now }
+    ensures small { result < 2 ^ 40 }
+{
+    let (first, second) = digits.split_at(6);
+    six_digits(first) * 0x10_0000 + six_digits(second)
+}
+
+/// The value of a character of the Alphanumeric mode.
+fn alphanumeric_value(c: u8) -> u64
+    requires { Contains alphabet c }
+    ensures value { result ≡ alphanumeric_value_of c }
+    ensures small { result < 45 }
+{
+    match alphanumeric_place(c) {
+        Some(place) => place as u64,
+        None => 0,
+    }
+}
+
+/// The number of two characters of the Alphanumeric mode.
+fn two_letters(text: &[u8]) -> u64
+    requires two { length text.now ≡ 2 }
+    requires characters { All (λ c. Contains alphabet c) text.now }
+    ensures bits { number_bits 11 result ≡ alphanumeric_bits text.now }
+    ensures small { result < 2 ^ 11 }
+{
+    45 * alphanumeric_value(text[0]) + alphanumeric_value(text[1])
+}
+
+/// The numbers of twice two characters, one behind the other.
+fn four_letters(text: &[u8]) -> u64
+    requires four { length text.now ≡ 4 }
+    requires characters { All (λ c. Contains alphabet c) text.now }
+    ensures bits { number_bits 22 result ≡ alphanumeric_bits text.now }
+    ensures small { result < 2 ^ 22 }
+{
+    let (first, second) = text.split_at(2);
+    two_letters(first) * 2048 + two_letters(second)
+}
+
+/// The numbers of four times two characters, one behind the other.
+fn eight_letters(text: &[u8]) -> u64
+    requires eight { length text.now ≡ 8 }
+    requires characters { All (λ c. Contains alphabet c) text.now }
+    ensures bits { number_bits 44 result ≡ alphanumeric_bits text.now }
+    ensures small { result < 2 ^ 44 }
+{
+    let (first, second) = text.split_at(4);
+    four_letters(first) * 0x40_0000 + four_letters(second)
+}
+
+/// The 13-bit number of a double-byte character.
+fn kanji_number(lead: u8, trail: u8) -> u16
+    requires { IsKanji lead trail }
+    ensures value { result ≡ kanji_number_of lead trail }
+    ensures small { result < 8192 }
+{
+    let code = u16::from(lead) * 256 + u16::from(trail);
+    let offset = if code < 0xe040 {
+        code - 0x8140
+    } else {
+        code - 0xc140
+    };
+    offset / 256 * 0xc0 + offset % 256
+}
