@@ -8,7 +8,7 @@ ghost use Rattle.qrcode_grid.specs.Penalty.{micro_penalty, modules_penalty};
 ghost use Rattle.qrcode_grid.specs.Scoring.{IsPadded, grid_in, pattern_of, plane};
 
 mod candidates;
-mod conditions;
+pub mod conditions;
 mod counting;
 mod features;
 pub mod formats;

@@ -1,12 +1,12 @@
 //! Eight candidates in one list of bytes, one for each mask: a byte a module, and bit m of it is the colour under the mask with
 //! number m.
-ghost use Rattle.std.specs.Prelude.{◌≡◌, if◌then◌else◌, ◌==◌, ◌&&◌, ℕ, ◌+◌, ◌-◌, ◌*◌, ◌/◌, ◌%◌, ◌<◌, ◌≤◌, ◌∷◌, [], length, map, slice_index, All};
+ghost use Rattle.std.specs.Prelude.{◌≡◌, if◌then◌else◌, ◌==◌, ℕ, ◌+◌, ◌-◌, ◌*◌, ◌/◌, ◌%◌, ◌<◌, ◌≤◌, length, map, slice_index, All};
 ghost use Rattle.std.specs.Int.{bit_at};
 ghost use Rattle.qrcode_base.specs.declared.types.Color.TheVariants.{Dark};
 ghost use Rattle.qrcode_grid.specs.Canvas.{color_of_module};
 ghost use Rattle.qrcode_grid.specs.Lanes.{byte_of, byte_under, code_of, masked_code};
-ghost use Rattle.qrcode_grid.specs.Masks.{format_color, masked_cells};
-ghost use Rattle.qrcode_grid.specs.Regions.{first_some, format_first, format_second, where_true, written};
+ghost use Rattle.qrcode_grid.specs.Masks.{format_color, normal_format_color, masked_cells};
+ghost use Rattle.qrcode_grid.specs.Regions.{written};
 ghost use Rattle.qrcode_grid.specs.Scoring.{plane, pattern_of};
 ghost use Rattle.qrcode_grid.specs.Words.{digit, digit_color};
 
@@ -126,7 +126,7 @@ fn write_words(words: &[u32; 8], places: &[(usize, usize)], width: usize, grid: 
 fn write_normal_formats(words: &[u32; 8], width: usize, grid: &mut [u8])
     requires wide { (9 ≤ width) × (width ≤ 177) }
     requires long { length grid.old ≡ width * width }
-    ensures { (m : ℕ) → (x : ℕ) → (y : ℕ) → m < 8 → x < width → y < width → slice_index (plane m grid.new) (y * width + x) ≡ byte_under (first_some (where_true (x == 8 && y == width - 8) Dark ∷ written (slice_index words.now m) format_first x y ∷ written (slice_index words.now m) (format_second width) x y ∷ [])) (slice_index (plane m grid.old) (y * width + x)) }
+    ensures { (m : ℕ) → (x : ℕ) → (y : ℕ) → m < 8 → x < width → y < width → slice_index (plane m grid.new) (y * width + x) ≡ byte_under (normal_format_color width (slice_index words.now m) x y) (slice_index (plane m grid.old) (y * width + x)) }
 {
     write_words(words, &second_places(width), width, grid);
     write_words(words, &FORMAT_FIRST, width, grid);

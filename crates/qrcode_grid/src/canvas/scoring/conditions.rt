@@ -4,6 +4,9 @@ ghost use Rattle.std.specs.Int.{bit_at};
 ghost use Rattle.qrcode_grid.specs.Masks.{is_inverted};
 ghost use Rattle.qrcode_grid.specs.Scoring.{pattern_of};
 
+/// The cells of twelve rows of the widest symbol, and the six that may be written past their end.
+pub const STRIPE_CELLS: usize = 12 * 177 + 6;
+
 /// The conditions of the first six cells of the first twelve rows. Each later cell of a row is like the sixth before it, and each
 /// later row like the twelfth.
 const CONDITIONS: [[u8; 6]; 12] = [

@@ -2,6 +2,9 @@ use Rattle.std.proofs.Common.{◌≡◌, ◌≤◌, ◌+◌, ◌*◌, ◌/◌, �
 use Rattle.std.proofs.Math.Nat.{mul-le-mul_right}
 use Rattle.qrcode_grid.specs.Masks.{is_inverted, masked}
 use Rattle.qrcode_grid.proofs.CellSteps.{ChangedBelow, changed_set, at_place}
+use Rattle.qrcode_grid.specs.Scoring.{pattern_of}
+use Rattle.qrcode_grid.proofs.Conditions.{set_again}
+use Rattle.qrcode_grid.proofs.MaskNumbers.{pattern_of-number}
 use Rattle.qrcode_grid.proofs.Stripes.{is_inverted-repeats_rows}
 use Rattle.qrcode_grid.proofs.Transposed.{cell_within}
 use Rattle.qrcode_grid.specs.declared.canvas.Module.TheVariants.{Empty}
@@ -13,7 +16,11 @@ loop-x-preserved c =
     let i = y * w + x in
     let old = get_or c.loop-x.modules i Empty in
     let inside : i < length c.args.modules.now = omega (arith, c.requires.square, cell_within w x y c.loop-x-test.true c.loop-y-test.true) in
-    let inverted = c.write_stripes.ensures x (y % 12) c.loop-x-test.true (omega arith) ∙ sym (is_inverted-repeats_rows c.args.pattern x y) in
+    let m = c.mask_number-m.result in
+    let number : pattern_of m ≡ c.args.pattern = ap pattern_of c.mask_number-m.ensures.is ∙ pattern_of-number c.args.pattern in
+    let inverted =
+    set_again _ _ (c.write_stripes.ensures m x (y % 12) c.mask_number-m.ensures.small c.loop-x-test.true (omega arith))
+    ∙ ap (λ p. is_inverted p x (y % 12)) number ∙ sym (is_inverted-repeats_rows c.args.pattern x y) in
     let at = at_place (λ x y. masked (is_inverted c.args.pattern x y) old) w x y i c.loop-x-test.true (omega arith) in
     let next : i + 1 ≡ y * w + (x + 1) = omega arith in
     let step = changed_set _ _ _ _ _ Empty inside (c.mask.ensures ∙ ap (λ b. masked b old) inverted ∙ at) c.loop-x.invariant in
