@@ -1,5 +1,6 @@
 pub mod Reader
 pub mod Example
+pub mod Drawn
 pub mod Layers
 pub mod Headline
 pub mod Sequence

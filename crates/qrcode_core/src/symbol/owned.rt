@@ -1,0 +1,142 @@
+//! A symbol that owns its modules.
+//!
+//! Answers of calls are matched, arm by arm, where `?` would do: the proofs use what is known in each arm.
+ghost use Rattle.std.specs.Prelude.{◌≡◌, ◌≤◌, length, OnOk, IfOk, IfErr};
+ghost use Rattle.qrcode_base.specs.Symbols.{IsVersion, width_of};
+ghost use Rattle.qrcode_core.specs.Drawn.{TellsReading};
+ghost use Rattle.qrcode_core.specs.Headline.{IsBestSymbol, IsBestMicroSymbol, IsTooLong, IsTooLongForMicro, IsRefusal, IsMicroRefusal};
+ghost use Rattle.qrcode_core.specs.Layers.{AreAllCodewords, IsDrawn, FillsSymbol, IsDrawnStream};
+
+use qrcode_base::types::{Color, EcLevel, QrError, QrResult, Version};
+use qrcode_bits::bits::{Bits, encode_auto, encode_auto_micro};
+use qrcode_grid::canvas::{MaskPattern, draw_symbol};
+use qrcode_grid::ec::construct_codewords;
+use std::alloc::Global;
+use std::marker::Model;
+
+/// A symbol with modules of its own, and its version, level and mask.
+///
+/// The modules stand row by row from the upper left corner, with no quiet zone.
+#[derive(Debug, Drop)]
+pub struct Symbol {
+    modules: Vec<Color>,
+    width: usize,
+    version: Version,
+    level: EcLevel,
+    mask: MaskPattern,
+}
+
+// Clauses see the modules, the version, the level and the mask.
+impl Model for Symbol {
+    ghost use Rattle.std.specs.Prelude.{◌≡◌, ◌*◌, length};
+    ghost use Rattle.qrcode_base.specs.Symbols.{IsVersion, width_of};
+    ghost use Rattle.qrcode_core.specs.Drawn.{DrawnSymbol};
+
+    ghost Value = { DrawnSymbol };
+
+    ghost view = { λ s. record { modules = s.modules.items; version = s.version; level = s.level; mask = s.mask } };
+
+    ghost invariant = { λ s. IsVersion s.version × (s.width ≡ width_of s.version) × (length s.modules.items ≡ s.width * s.width) };
+}
+
+impl Symbol {
+    /// The best symbol of some bytes at a level (ISO/IEC 18004, encode procedure): the smallest Normal version in
+    /// which some way to merge the parsed segments fits, with the fewest payload bits of all such ways, under the
+    /// first mask of least penalty. A reader finds in it exactly the bytes, and the version, the level and the mask
+    /// that the symbol tells.
+    ///
+    /// `DataTooLong` comes exactly where nothing fits version 40 at the level; more than 7089 bytes are refused
+    /// without memory. `OutOfMemory` comes where a growth was refused.
+    pub fn new(alloc: Global, bytes: &[u8], level: EcLevel) -> QrResult<Symbol>
+        ensures best { IfOk result (λ symbol. IsBestSymbol bytes.now level symbol.modules) }
+        ensures reading { IfOk result TellsReading }
+        ensures fitting { OnOk result (IsTooLong bytes.now level → ⊥) }
+        ensures limit { OnOk result (length bytes.now ≤ 7089) }
+        ensures refused { IfErr result (IsRefusal bytes.now level) }
+    {
+        match encode_auto(alloc, bytes, level) {
+            Ok(bits) => symbol_of(alloc, bits, level),
+            Err(error) => Err(error),
+        }
+    }
+
+    /// The same of the Micro versions: the first of M1 to M4 that has the level and the modes of the data, and in
+    /// which some way to merge the segments fits (ISO/IEC 18004, "Micro QR Code").
+    ///
+    /// Level H, which no Micro version has, is `InvalidVersion` with `Micro(4)`. Then `DataTooLong` comes exactly
+    /// where nothing fits any of them, and `OutOfMemory` where a growth was refused.
+    pub fn micro(alloc: Global, bytes: &[u8], level: EcLevel) -> QrResult<Symbol>
+        ensures best { IfOk result (λ symbol. IsBestMicroSymbol bytes.now level symbol.modules) }
+        ensures reading { IfOk result TellsReading }
+        ensures fitting { OnOk result (IsTooLongForMicro bytes.now level → ⊥) }
+        ensures limit { OnOk result (length bytes.now ≤ 7089) }
+        ensures refused { IfErr result (IsMicroRefusal bytes.now level) }
+    {
+        match encode_auto_micro(alloc, bytes, level) {
+            Ok(bits) => symbol_of(alloc, bits, level),
+            Err(error) => Err(error),
+        }
+    }
+
+    /// The mask pattern that was applied.
+    pub fn mask(&self) -> MaskPattern
+        ensures { result ≡ self.now.mask }
+    {
+        self.mask
+    }
+
+    /// The modules alone, row by row from the upper left corner.
+    pub fn into_colors(self) -> Vec<Color>
+        ensures { result.items ≡ self.modules }
+    {
+        self.modules
+    }
+}
+
+/// The symbol of some bits that fill it.
+pub fn symbol_of(alloc: Global, bits: Bits, level: EcLevel) -> QrResult<Symbol>
+    requires { FillsSymbol bits level }
+    ensures drawn { IfOk result (IsDrawnStream bits level) }
+    ensures memory { IfErr result (λ e. e ≡ QrError.OutOfMemory) }
+{
+    let version = bits.version();
+    let codewords = bits.into_bytes();
+    match draw(alloc, version, level, &codewords) {
+        Ok(symbol) => Ok(symbol),
+        Err(error) => Err(error),
+    }
+}
+
+// The symbol with these data codewords, under the first mask of least penalty.
+fn draw(alloc: Global, version: Version, level: EcLevel, codewords: &[u8]) -> QrResult<Symbol>
+    requires { AreAllCodewords version level (length codewords.now) }
+    ensures drawn { IfOk result (IsDrawn version level codewords.now) }
+    ensures memory { IfErr result (λ e. e ≡ QrError.OutOfMemory) }
+{
+    match construct_codewords(alloc, codewords, version, level) {
+        Ok((interleaved, correction)) => {
+            match draw_symbol(alloc, version, level, &interleaved, &correction) {
+                Ok((modules, mask)) => Ok(Symbol {
+                    modules,
+                    width: side(version),
+                    version,
+                    level,
+                    mask,
+                }),
+                Err(error) => Err(error),
+            }
+        }
+        Err(error) => Err(error),
+    }
+}
+
+// How many modules a side of a symbol has.
+fn side(version: Version) -> usize
+    requires { IsVersion version }
+    ensures { result ≡ width_of version }
+{
+    match version {
+        Version::Normal(n) => n as usize * 4 + 17,
+        Version::Micro(n) => n as usize * 2 + 9,
+    }
+}
