@@ -3,10 +3,12 @@
 //! Answers of calls are matched, arm by arm, where `?` would do: the proofs use what is known in each arm.
 ghost use Rattle.std.specs.Prelude.{◌≡◌, ◌≤◌, length, OnOk, IfOk, IfErr};
 ghost use Rattle.qrcode_base.specs.Symbols.{IsVersion, width_of};
-ghost use Rattle.qrcode_core.specs.Drawn.{TellsReading};
+ghost use Rattle.qrcode_core.specs.Drawn.{TellsReading, drawn_grid};
 ghost use Rattle.qrcode_core.specs.Headline.{IsBestSymbol, IsBestMicroSymbol, IsTooLong, IsTooLongForMicro, IsRefusal, IsMicroRefusal};
+ghost use Rattle.qrcode_core.specs.Views.{view_grid};
 ghost use Rattle.qrcode_core.specs.Layers.{AreAllCodewords, IsDrawn, FillsSymbol, IsDrawnStream};
 
+use crate::traits::{ModuleSource, ModuleView, QrSymbol};
 use qrcode_base::types::{Color, EcLevel, QrError, QrResult, Version};
 use qrcode_bits::bits::{Bits, encode_auto, encode_auto_micro};
 use qrcode_grid::canvas::{MaskPattern, draw_symbol};
@@ -85,11 +87,90 @@ impl Symbol {
         self.mask
     }
 
+    /// The modules, lent as a view. It shows the same grid.
+    pub fn module_view(&self) -> ModuleView<'_>
+        ensures { view_grid result ≡ drawn_grid self.now }
+    {
+        match ModuleView::new(&self.modules, self.width) {
+            Some(view) => view,
+            None => unreachable!(),
+        }
+    }
+
+    /// The same symbol again, or `OutOfMemory`.
+    pub fn clone(&self, alloc: Global) -> QrResult<Symbol>
+        ensures same { IfOk result (λ symbol. symbol ≡ self.now) }
+        ensures memory { IfErr result (λ e. e ≡ QrError.OutOfMemory) }
+    {
+        let modules = Vec::from_slice(alloc, self.modules.as_slice())?;
+        Ok(Symbol {
+            modules,
+            width: self.width,
+            version: self.version,
+            level: self.level,
+            mask: self.mask,
+        })
+    }
+
     /// The modules alone, row by row from the upper left corner.
     pub fn into_colors(self) -> Vec<Color>
         ensures { result.items ≡ self.modules }
     {
         self.modules
+    }
+}
+
+impl ModuleSource for Symbol {
+    ghost use Rattle.std.specs.Prelude.{◌≤◌};
+    ghost use Rattle.qrcode_core.specs.Drawn.{drawn_grid};
+    ghost use Rattle.qrcode_core.specs.Grids.{HasAllRows, IsFull};
+
+    ghost grid = { drawn_grid };
+
+    fn get(&self, x: usize, y: usize) -> Color {
+        self.modules[y * self.width + x]
+    }
+
+    /// How many modules a row has: 21 to 177, and 11 to 17 in a Micro symbol.
+    fn width(&self) -> usize
+        ensures is { result ≡ (drawn_grid self.now).columns }
+        ensures some { 11 ≤ result }
+        ensures small { result ≤ 177 }
+    {
+        self.width
+    }
+
+    /// How many rows there are, as many as columns.
+    fn height(&self) -> usize
+        ensures is { result ≡ (drawn_grid self.now).rows }
+        ensures some { 11 ≤ result }
+        ensures small { result ≤ 177 }
+    {
+        self.width
+    }
+
+    fn modules(&self) -> &[Color]
+        ensures list { result.now ≡ (drawn_grid self.now).cells }
+        ensures rows { HasAllRows (drawn_grid self.now) }
+        ensures full { IsFull (drawn_grid self.now) }
+    {
+        self.modules.as_slice()
+    }
+}
+
+impl QrSymbol for Symbol {
+    ghost use Rattle.qrcode_core.specs.Drawn.{drawn_version, drawn_level};
+
+    ghost version_of = { drawn_version };
+
+    ghost level_of = { drawn_level };
+
+    fn version(&self) -> Version {
+        self.version
+    }
+
+    fn error_correction_level(&self) -> EcLevel {
+        self.level
     }
 }
 
