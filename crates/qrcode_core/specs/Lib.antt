@@ -9,6 +9,7 @@ pub use Rattle.qrcode_base.specs.Names
 pub mod Grids
 pub mod Views
 pub mod Budgets
+pub mod Limited
 pub mod Texts
 pub mod Configs
 pub mod Outputs

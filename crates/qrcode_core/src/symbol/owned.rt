@@ -3,14 +3,17 @@
 //! Answers of calls are matched, arm by arm, where `?` would do: the proofs use what is known in each arm.
 ghost use Rattle.std.specs.Prelude.{◌≡◌, ◌≤◌, length, OnOk, IfOk, IfErr};
 ghost use Rattle.qrcode_base.specs.Symbols.{IsVersion, width_of};
+ghost use Rattle.qrcode_core.specs.Budgets.{IsBudget};
+ghost use Rattle.qrcode_core.specs.Limited.{IsBestWithin, IsTooLongWithin, IsLimitedRefusal};
 ghost use Rattle.qrcode_core.specs.Drawn.{TellsReading, drawn_grid};
 ghost use Rattle.qrcode_core.specs.Headline.{IsBestSymbol, IsBestMicroSymbol, IsTooLong, IsTooLongForMicro, IsRefusal, IsMicroRefusal};
 ghost use Rattle.qrcode_core.specs.Views.{view_grid};
 ghost use Rattle.qrcode_core.specs.Layers.{AreAllCodewords, IsDrawn, FillsSymbol, IsDrawnStream};
 
+use crate::limits::ResourceLimits;
 use crate::traits::{ModuleSource, ModuleView, QrSymbol};
 use qrcode_base::types::{Color, EcLevel, QrError, QrResult, Version};
-use qrcode_bits::bits::{Bits, encode_auto, encode_auto_micro};
+use qrcode_bits::bits::{Bits, encode_auto, encode_auto_micro, encode_auto_with_max_version};
 use qrcode_grid::canvas::{MaskPattern, draw_symbol};
 use qrcode_grid::ec::construct_codewords;
 use std::alloc::Global;
@@ -75,6 +78,40 @@ impl Symbol {
         ensures refused { IfErr result (IsMicroRefusal bytes.now level) }
     {
         match encode_auto_micro(alloc, bytes, level) {
+            Ok(bits) => symbol_of(alloc, bits, level),
+            Err(error) => Err(error),
+        }
+    }
+
+    /// As `new`, in the versions up to the greatest that the limits allow, and for as many bytes.
+    ///
+    /// Limits that no encoding can keep, as `ResourceLimits::validate` tells, are `InvalidResourceLimits`. Then
+    /// `DataTooLong` comes exactly where the bytes are more than are allowed, or nothing fits any version that is; then
+    /// `OutOfMemory` where a growth was refused. The size of a drawn symbol and the time are no concern of this call.
+    pub fn with_limits(
+        alloc: Global,
+        bytes: &[u8],
+        level: EcLevel,
+        limits: &ResourceLimits,
+    ) -> QrResult<Symbol>
+        ensures best { IfOk result (λ symbol. IsBestWithin limits.now bytes.now level symbol.modules) }
+        ensures reading { IfOk result TellsReading }
+        ensures fitting { OnOk result (IsTooLongWithin limits.now bytes.now level → ⊥) }
+        ensures budget { OnOk result (IsBudget limits.now) }
+        ensures limit { OnOk result (length bytes.now ≤ 7089) }
+        ensures refused { IfErr result (IsLimitedRefusal limits.now bytes.now level) }
+    {
+        if limits.validate().is_err() {
+            return Err(QrError::InvalidResourceLimits);
+        }
+        if bytes.len() > limits.max_data_length {
+            return Err(QrError::DataTooLong);
+        }
+        let max_version = match limits.max_version {
+            Version::Normal(number) => number,
+            Version::Micro(_) => unreachable!(),
+        };
+        match encode_auto_with_max_version(alloc, bytes, level, max_version) {
             Ok(bits) => symbol_of(alloc, bits, level),
             Err(error) => Err(error),
         }

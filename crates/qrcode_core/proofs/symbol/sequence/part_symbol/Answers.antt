@@ -1,5 +1,5 @@
 -- The best encoding of a part behind its header, drawn, is the best symbol of the part.
-use Rattle.std.proofs.Common.{rules, ◌≡◌, ℤ, pos, negsuc, ◌<◌, ◌≤◌, arith, nat_abs, sym, subst}
+use Rattle.std.proofs.Common.{rules, ◌≡◌, ℤ, ◌<◌, ◌≤◌, arith, nat_abs, sym, subst}
 use Rattle.std.specs.Prelude.{All, Some}
 use Rattle.std.proofs.lemmas.Result.{IfOk-weaker, IfErr-weaker}
 use mir.Val.{to_z, of_z}
@@ -11,12 +11,9 @@ use Rattle.qrcode_bits.specs.Encoding.{IsLimit, IsPartRefused}
 use Rattle.qrcode_bits.specs.Push.{header, IsPlace}
 use Rattle.qrcode_bits.proofs.Pairs.{bytes_valid}
 use Rattle.qrcode_core.specs.Sequence.{IsPartSymbol}
+use Rattle.qrcode_core.proofs.Limited.{few_versions}
 use Rattle.qrcode_core.proofs.StreamEncoding.{best_of_stream, fills_symbol, encoded_short}
 use Rattle.qrcode_core.proofs.symbol.sequence.part_symbol.Goals as goal
-
-few_versions : (z : ℤ) → IsLimit z → nat_abs z ≤ 40
-few_versions (pos n) h = search (rules, h.1)
-few_versions (negsuc n) h = search (rules, h.0)
 
 pub symbol_of-requires : goal.symbol_of-requires
 symbol_of-requires c =
