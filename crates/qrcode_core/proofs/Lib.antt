@@ -12,6 +12,7 @@ pub mod Best
 pub mod StreamEncoding
 pub mod OneMessage
 pub mod Symbols
+mod Limited
 mod RowCounts
 mod TextMaps
 mod StepLemmas

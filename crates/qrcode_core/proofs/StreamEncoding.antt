@@ -1,11 +1,10 @@
 -- The stream of the chosen plan in the smallest version, perhaps behind a header, turned into bytes and drawn, is the best symbol.
-use Rattle.std.proofs.Common.{◌≡◌, ℕ, ◌+◌, ◌-◌, ◌%◌, ◌<◌, ◌≤◌, refl, sym, ◌∙◌, arith, List, ◌++◌, length, length-append, take, Bool, subst}
+use Rattle.std.proofs.Common.{◌≡◌, ℕ, ◌+◌, ◌<◌, ◌≤◌, refl, sym, ◌∙◌, arith, List, ◌++◌, length, length-append, take, Bool, subst}
 use Rattle.std.specs.Prelude.{Option, Some, None, All, IsSomeAnd}
 use Rattle.std.proofs.lemmas.Bool.{cases_lt}
 use Rattle.std.proofs.Common.{inl, inr}
 use Rattle.std.proofs.lemmas.Option.{none-some}
 use Rattle.qrcode_base.specs.declared.symbols.BlockLayout.{BlockLayout}
-use Rattle.qrcode_base.specs.declared.types.Color.{Color}
 use Rattle.qrcode_base.specs.declared.types.EcLevel.{EcLevel}
 use Rattle.qrcode_base.specs.declared.types.Version.{Version}
 use Rattle.qrcode_base.specs.declared.types.errors.QrError.{QrError}
@@ -22,7 +21,8 @@ use Rattle.qrcode_bits.proofs.Choices.{fits_last}
 use Rattle.qrcode_bits.proofs.Lengths.{long_message, long_for_micro}
 use Rattle.qrcode_bits.proofs.PlanFrames.{spelled_plan}
 use Rattle.qrcode_core.specs.Headline.{IsBest, IsTooLong, IsTooLongForMicro, IsRefusal}
-use Rattle.qrcode_core.specs.Layers.{IsEncoded, IsDrawn, AreAllCodewords}
+use Rattle.qrcode_core.specs.Drawn.{DrawnSymbol, TellsReading}
+use Rattle.qrcode_core.specs.Layers.{IsEncoded, IsDrawn, AreAllCodewords, AreBytesOf, FillsSymbol, IsDrawnStream}
 use Rattle.qrcode_core.proofs.Best.{best_symbol}
 use Rattle.qrcode_core.proofs.Ending.{bytes_of_ended}
 use Rattle.qrcode_core.proofs.Lengths.{length-encoded}
@@ -34,10 +34,6 @@ has_blocks v l limit e = go (blocks_of v l) refl e
     go : (o : Option BlockLayout) → blocks_of v l ≡ o → capacity_with v o ≡ Some limit → (b : BlockLayout) × (blocks_of v l ≡ Some b)
     go None q e = absurd (none-some limit e)
     go (Some b) q e = (b, q)
-
--- the bytes into which a stream is turned
-abbrev pub AreBytesOf : List ℕ → List Bool → Type 0
-AreBytesOf words bits = byte_bits words ≡ bits ++ zero_bits ((8 - length bits % 8) % 8)
 
 module _ (kind : ℕ → Version) (header : Option Header) (bytes : List ℕ) (level : EcLevel) (limit : ℕ) (stream : Stream) (words : List ℕ) (are : All (λ c. c < 256) bytes)
     (encoding : IsEncoding kind header bytes level limit stream) (turned : AreBytesOf words stream.bits) where
@@ -70,7 +66,7 @@ module _ (kind : ℕ → Version) (header : Option Header) (bytes : List ℕ) (l
       same_limit a b e = cc
 
   -- The codewords are those of the symbol.
-  pub all_codewords : AreAllCodewords stream.version level (length words)
+  all_codewords : AreAllCodewords stream.version level (length words)
   all_codewords =
       let held = encoding.stream_is in
       let blocks = has_blocks version level held.limit held.limit_is in
@@ -78,16 +74,25 @@ module _ (kind : ℕ → Version) (header : Option Header) (bytes : List ℕ) (l
       subst (λ (v : Version). AreAllCodewords v level (length words)) (sym held.version_is)
       (subst (λ (o : Option BlockLayout). IsSomeAnd o (λ b. length words ≡ data_bytes b)) (sym blocks.1) long)
 
-  -- Drawn, they are the best symbol, in a version up to the limit.
-  pub best_up_to : (grid : List Color) → IsDrawn stream.version level words grid → (best : IsBest kind header bytes level grid) × (best.number ≤ limit)
-  best_up_to grid drawn =
+  -- Drawn, they are the best symbol, in a version up to the limit, and it tells its reading.
+  best_of_words : (symbol : DrawnSymbol) → IsDrawn stream.version level words symbol → (best : IsBest kind header bytes level symbol.modules) × (best.number ≤ limit) × TellsReading symbol
+  best_of_words symbol drawn =
       let choice = encoding.choice in
-      let best = best_symbol kind header bytes level encoding.number (front + total_bits version encoding.plan) encoding.plan words grid encoded
-      (subst (λ (v : Version). IsDrawn v level words grid) encoding.stream_is.version_is drawn) choice.fits choice.smallest choice.fewest in
-      (best.0, omega (arith, best.1, choice.up_to))
+      let best = best_symbol kind header bytes level encoding.number (front + total_bits version encoding.plan) encoding.plan words symbol encoded
+      (subst (λ (v : Version). IsDrawn v level words symbol) encoding.stream_is.version_is drawn) choice.fits choice.smallest choice.fewest in
+      (best.0, omega (arith, best.1, choice.up_to), best.2)
 
-  pub best : (grid : List Color) → IsDrawn stream.version level words grid → IsBest kind header bytes level grid
-  best grid drawn = (best_up_to grid drawn).0
+-- What an encoding is turned into fills its symbol.
+pub fills_symbol : (kind : ℕ → Version) (header : Option Header) (bytes : List ℕ) (level : EcLevel) (limit : ℕ) (stream : Stream) → All (λ c. c < 256) bytes →
+    IsEncoding kind header bytes level limit stream → FillsSymbol stream level
+fills_symbol kind header bytes level limit stream are encoding = λ words turned. all_codewords kind header bytes level limit stream words are encoding turned
+
+-- The symbol that is drawn of it is the best one, in a version up to the limit, and it tells its reading.
+pub best_of_stream : (kind : ℕ → Version) (header : Option Header) (bytes : List ℕ) (level : EcLevel) (limit : ℕ) (stream : Stream) (symbol : DrawnSymbol) → All (λ c. c < 256) bytes →
+    IsEncoding kind header bytes level limit stream → IsDrawnStream stream level symbol →
+    (best : IsBest kind header bytes level symbol.modules) × (best.number ≤ limit) × TellsReading symbol
+best_of_stream kind header bytes level limit stream symbol are encoding held =
+    best_of_words kind header bytes level limit stream held.codewords are encoding held.turned symbol held.drawn
 
 -- What is encoded fits version 40.
 pub encoded_fits : (bytes : List ℕ) (level : EcLevel) (limit : ℕ) (stream : Stream) → limit ≤ 40 → IsEncoding normal None bytes level limit stream → IsTooLong bytes level → ⊥

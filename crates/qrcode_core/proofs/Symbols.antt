@@ -4,6 +4,7 @@ use Rattle.std.specs.Prelude.{All, ℤ}
 use Rattle.std.specs.List.Sorted.{IsNonDecreasing}
 use Rattle.std.proofs.lemmas.Bool.{cases_eq}
 use Rattle.std.proofs.lemmas.List.{get_or_append_left, get_or_push}
+use Rattle.std.proofs.lemmas.List.Sorted.{IsPermutation-refl}
 use Rattle.qrcode_base.specs.declared.types.Color.{Color}
 use Rattle.qrcode_base.specs.declared.types.EcLevel.{EcLevel}
 use Rattle.qrcode_base.specs.declared.types.errors.QrError.{QrError}
@@ -67,3 +68,7 @@ none_too_long message cuts level limit grids all (i, inside, none) =
     let fits = subst (λ (front : ℕ). Fits front text (normal part.best.number) level part.best.plan)
     (length-header (header_at (i + 1) (length grids) message)) part.best.fits in
     none part.best.number part.up_to part.best.plan fits
+
+-- The symbols of a sequence are 2 to 16.
+pub so_many : (message cuts : List ℕ) (level : EcLevel) (limit : ℕ) (grids : List (List Color)) → AreBestSymbols message cuts level limit grids → IsTotal (length cuts + 1)
+so_many message cuts level limit grids all = subst IsTotal all.a_grid_each (all.reads grids (IsPermutation-refl grids)).enough

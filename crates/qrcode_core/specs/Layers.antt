@@ -1,17 +1,17 @@
 -- What the layers below a symbol promise, in the words in which the symbol needs it.
-use Rattle.std.specs.Prelude.{◌≡◌, ℕ, List, ◌++◌, Bool, Option, Some, IsSomeAnd}
+use Rattle.std.specs.Prelude.{◌≡◌, ℕ, ◌-◌, ◌%◌, List, ◌++◌, length, Bool, Option, Some, IsSomeAnd}
 use Rattle.qrcode_base.specs.declared.symbols.BlockLayout.{BlockLayout}
 use Rattle.qrcode_base.specs.declared.types.EcLevel.{EcLevel}
 use Rattle.qrcode_base.specs.declared.types.Version.{Version}
 use Rattle.qrcode_base.specs.Numbers.{byte_bits, zero_bits}
 use Rattle.qrcode_base.specs.Symbols.{blocks_of, block_sizes, data_bytes, missing_bits}
 use Rattle.qrcode_bits.specs.Frame.{Header, IsFrame}
+use Rattle.qrcode_bits.specs.Stream.{Stream}
 use Rattle.qrcode_grid.specs.Blocks.{AreCodewords}
 use Rattle.qrcode_grid.specs.Codes.{AreBytes}
 use Rattle.qrcode_grid.specs.Penalty.{IsFirstLeastMask}
 use Rattle.qrcode_grid.specs.Symbol.{CarriesCodewords}
-use Rattle.qrcode_grid.specs.declared.canvas.MaskPattern.{MaskPattern}
-use Rattle.qrcode_base.specs.declared.types.Color.{Color}
+use Rattle.qrcode_core.specs.Drawn.{DrawnSymbol}
 
 -- The data codewords hold a frame of the bytes, and zeros where the last codeword has no low half.
 pub record IsEncoded (version : Version) (level : EcLevel) (header : Option Header) (bytes : List ℕ) (payload : ℕ) (codewords : List ℕ) : Type 0 where
@@ -31,11 +31,27 @@ pub record AreStreams (version : Version) (level : EcLevel) (codewords interleav
 abbrev pub AreAllCodewords : Version → EcLevel → ℕ → Type 0
 AreAllCodewords version level count = IsSomeAnd (blocks_of version level) (λ b. count ≡ data_bytes b)
 
--- The grid carries the streams of the data codewords, under the first mask of least penalty.
-pub record IsDrawn (version : Version) (level : EcLevel) (codewords : List ℕ) (grid : List Color) : Type 0 where
-  pub mask : MaskPattern
+-- The symbol carries the streams of the data codewords, under the first mask of least penalty.
+pub record IsDrawn (version : Version) (level : EcLevel) (codewords : List ℕ) (symbol : DrawnSymbol) : Type 0 where
+  pub version_is : symbol.version ≡ version
+  pub level_is : symbol.level ≡ level
   pub interleaved : List ℕ
   pub correction : List ℕ
   pub streams : AreStreams version level codewords interleaved correction
-  pub carries : CarriesCodewords version level mask interleaved correction grid
-  pub best : IsFirstLeastMask version level mask grid
+  pub carries : CarriesCodewords version level symbol.mask interleaved correction symbol.modules
+  pub best : IsFirstLeastMask version level symbol.mask symbol.modules
+
+-- the bytes into which some bits are turned
+abbrev pub AreBytesOf : List ℕ → List Bool → Type 0
+AreBytesOf codewords bits = byte_bits codewords ≡ bits ++ zero_bits ((8 - length bits % 8) % 8)
+
+-- The bytes of a stream are as many as the data codewords of its symbol at a level.
+abbrev pub FillsSymbol : Stream → EcLevel → Type 0
+FillsSymbol stream level =
+    (codewords : List ℕ) → AreBytesOf codewords stream.bits → AreAllCodewords stream.version level (length codewords)
+
+-- The symbol is drawn of the bytes of a stream.
+pub record IsDrawnStream (stream : Stream) (level : EcLevel) (symbol : DrawnSymbol) : Type 0 where
+  pub codewords : List ℕ
+  pub turned : AreBytesOf codewords stream.bits
+  pub drawn : IsDrawn stream.version level codewords symbol

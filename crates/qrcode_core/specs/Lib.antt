@@ -1,5 +1,6 @@
 pub mod Reader
 pub mod Example
+pub mod Drawn
 pub mod Layers
 pub mod Headline
 pub mod Sequence
@@ -8,6 +9,7 @@ pub use Rattle.qrcode_base.specs.Names
 pub mod Grids
 pub mod Views
 pub mod Budgets
+pub mod Limited
 pub mod Texts
 pub mod Configs
 pub mod Outputs

@@ -1,5 +1,8 @@
 //! Each call of `symbol` once, on the symbols of known rows. More tests stand in the crate `qrcode_tests`.
-use crate::symbol::{are_cuts, symbol, symbol_micro, symbol_sequence};
+use crate::canvas::MaskPattern;
+use crate::limits::ResourceLimits;
+use crate::symbol::{Symbol, are_cuts, symbol, symbol_micro, symbol_sequence};
+use crate::traits::{ModuleSource, QrSymbol};
 use crate::types::{Color, EcLevel, QrError, Version};
 use std::test::Fail;
 
@@ -35,6 +38,67 @@ fn draws_micro_symbol(rt: HostRuntime) -> Result<(), Fail> {
             );
         }
     }
+    Ok(())
+}
+
+#[test]
+fn tells_micro_symbol(rt: HostRuntime) -> Result<(), Fail> {
+    let symbol = Symbol::micro(rt.alloc(), b"12345", EcLevel::L)?;
+    assert_eq!(rt; symbol.version(), Version::Micro(1));
+    assert_eq!(rt; symbol.error_correction_level(), EcLevel::L);
+    assert_eq!(rt; symbol.mask(), MaskPattern::Diamonds);
+    assert_eq!(rt; symbol.quiet_zone(), 2);
+    assert_eq!(rt; (symbol.width(), symbol.height()), (11, 11));
+    assert_eq!(rt; symbol.get(9, 0), Color::Light);
+    assert_eq!(rt; symbol.get(10, 0), Color::Dark);
+    assert_eq!(rt; symbol.get(0, 9), Color::Light);
+    Ok(())
+}
+
+// The example of ISO/IEC 18004, annex I: version 1, level M, data mask pattern 010.
+#[test]
+fn tells_symbol(rt: HostRuntime) -> Result<(), Fail> {
+    let alloc = rt.alloc();
+    let symbol = Symbol::new(alloc, b"01234567", EcLevel::M)?;
+    assert_eq!(rt; symbol.version(), Version::Normal(1));
+    assert_eq!(rt; symbol.error_correction_level(), EcLevel::M);
+    assert_eq!(rt; symbol.mask(), MaskPattern::VerticalLines);
+    assert_eq!(rt; symbol.quiet_zone(), 4);
+    let again = symbol.clone(alloc)?;
+    assert_eq!(rt; again.mask(), MaskPattern::VerticalLines);
+    assert!(rt; again.modules() == symbol.modules());
+    assert!(rt; symbol.module_view().row(20) == symbol.row(20));
+    let colors = symbol.into_colors();
+    assert!(rt; again.modules() == colors.as_slice());
+    Ok(())
+}
+
+#[test]
+fn tells_sequence(rt: HostRuntime) -> Result<(), Fail> {
+    let cuts = [2, 4];
+    assert!(rt; are_cuts(&cuts, 6));
+    let symbols = Symbol::sequence(rt.alloc(), b"AB12cd", &cuts, EcLevel::Q, 40)?;
+    assert_eq!(rt; symbols.len(), 3);
+    for symbol in &symbols {
+        assert_eq!(rt; symbol.version(), Version::Normal(1));
+        assert_eq!(rt; symbol.error_correction_level(), EcLevel::Q);
+    }
+    Ok(())
+}
+
+#[test]
+fn keeps_limits(rt: HostRuntime) -> Result<(), Fail> {
+    let alloc = rt.alloc();
+    let limits = ResourceLimits::new(18, Version::Normal(1), (100, 100));
+    let symbol = Symbol::with_limits(alloc, b"seventeen letters", EcLevel::L, &limits)?;
+    assert_eq!(rt; symbol.version(), Version::Normal(1));
+    let wide = Symbol::with_limits(alloc, b"eighteen character", EcLevel::L, &limits);
+    assert_eq!(rt; wide.err(), Some(QrError::DataTooLong));
+    let long = Symbol::with_limits(alloc, b"0123456789012345678", EcLevel::L, &limits);
+    assert_eq!(rt; long.err(), Some(QrError::DataTooLong));
+    let none = ResourceLimits::new(18, Version::Micro(4), (100, 100));
+    let refused = Symbol::with_limits(alloc, b"", EcLevel::L, &none);
+    assert_eq!(rt; refused.err(), Some(QrError::InvalidResourceLimits));
     Ok(())
 }
 

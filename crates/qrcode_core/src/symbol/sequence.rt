@@ -3,9 +3,10 @@ ghost use Rattle.std.specs.Prelude.{◌≡◌, ◌+◌, ◌≤◌, [], length, m
 ghost use Rattle.std.specs.List.Sorted.{IsNonDecreasing};
 ghost use Rattle.qrcode_bits.specs.Encoding.{IsLimit, IsPartRefused};
 ghost use Rattle.qrcode_bits.specs.Push.{header};
+ghost use Rattle.qrcode_core.specs.Drawn.{TellsReading, modules_of};
 ghost use Rattle.qrcode_core.specs.Sequence.{parity, parts_at, IsPartSymbol, AreBestSymbols, IsSomePartTooLong, IsSequenceRefusal};
 
-use crate::symbol::draw;
+use crate::symbol::owned::{Symbol, symbol_of};
 use qrcode_base::types::{Color, EcLevel, QrError, QrResult};
 use qrcode_bits::bits::encode_part;
 use std::alloc::Global;
@@ -21,17 +22,69 @@ pub fn are_cuts(cuts: &[usize], length: usize) -> bool
     cuts.is_sorted() && cuts.iter().all(|cut| *cut <= length)
 }
 
-/// The modules of 2 to 16 symbols that carry a message together, in the order of its parts (ISO/IEC 18004, "Structured
-/// Append").
+impl Symbol {
+    /// The 2 to 16 symbols that carry some bytes together, in the order of the parts (ISO/IEC 18004, "Structured
+    /// Append"), as `symbol_sequence` tells them, with its refusals. A reader finds in each the version, the level
+    /// and the mask that it tells.
+    pub fn sequence(
+        alloc: Global,
+        bytes: &[u8],
+        cuts: &[usize],
+        level: EcLevel,
+        max_version: i16,
+    ) -> QrResult<Vec<Symbol>>
+        requires ordered { IsNonDecreasing cuts.now }
+        requires within { All (λ cut. cut ≤ length bytes.now) cuts.now }
+        ensures best { IfOk result (λ symbols.
+            AreBestSymbols bytes.now cuts.now level (nat_abs max_version) (map modules_of symbols.items)) }
+        ensures reading { IfOk result (λ symbols. All TellsReading symbols.items) }
+        ensures fitting { OnOk result (IsSomePartTooLong bytes.now cuts.now level (nat_abs max_version) → ⊥) }
+        ensures limit { OnOk result (IsLimit max_version) }
+        ensures refused { IfErr result (IsSequenceRefusal bytes.now cuts.now level max_version) }
+    {
+        if max_version < 1 || max_version > 40 {
+            return Err(QrError::InvalidResourceLimits);
+        }
+        let total = cuts.len().min(254) as u8 + 1;
+        if total < 2 || total > 16 {
+            return Err(QrError::InvalidStructuredAppend { value: total });
+        }
+        let parity = parity_of(bytes);
+        let mut symbols = Vec::new(alloc);
+        for index in 0..total {
+            let part = part_at(bytes, cuts, usize::from(index));
+            let symbol = match part_symbol(
+                alloc,
+                part,
+                index + 1,
+                total,
+                parity,
+                level,
+                max_version,
+            ) {
+                Ok(symbol) => symbol,
+                Err(error) => return Err(error),
+            };
+            let Ok(()) = symbols.push(symbol) else {
+                return Err(QrError::OutOfMemory);
+            };
+        }
+        Ok(symbols)
+    }
+}
+
+/// The modules of 2 to 16 symbols that carry a message together, in the order of its parts (ISO/IEC 18004,
+/// "Structured Append").
 ///
-/// The parts lie between the start of the message, the cuts in order, and its end; they may be empty. Each symbol begins
-/// with a header that tells its position, how many symbols there are, and the exclusive or of all bytes of the message.
-/// It is the best symbol of its part (as with `symbol`) in the versions from 1 to `max_version`, where the header takes
-/// 20 bits. Read in any order, the symbols are the message.
+/// The parts lie between the start of the message, the cuts in order, and its end; they may be empty. Each symbol
+/// begins with a header that tells its position, how many symbols there are, and the exclusive or of all bytes of the
+/// message. It is the best symbol of its part (as with `symbol`) in the versions from 1 to `max_version`, where the
+/// header takes 20 bits. Read in any order, the symbols are the message.
 ///
 /// A `max_version` outside 1 to 40 is `InvalidResourceLimits`. Then a number of parts other than 2 to 16 is
-/// `InvalidStructuredAppend` with this number, or with 255 where it is greater. Then `DataTooLong` comes exactly where
-/// some part fits none of the versions, and `OutOfMemory` where a growth was refused. A refused call gives no symbol.
+/// `InvalidStructuredAppend` with this number, or with 255 where it is greater. Then `DataTooLong` comes exactly
+/// where some part fits none of the versions, and `OutOfMemory` where a growth was refused. A refused call gives no
+/// symbol.
 pub fn symbol_sequence(
     alloc: Global,
     bytes: &[u8],
@@ -46,22 +99,20 @@ pub fn symbol_sequence(
     ensures limit { OnOk result (IsLimit max_version) }
     ensures refused { IfErr result (IsSequenceRefusal bytes.now cuts.now level max_version) }
 {
-    if max_version < 1 || max_version > 40 {
-        return Err(QrError::InvalidResourceLimits);
+    match Symbol::sequence(alloc, bytes, cuts, level, max_version) {
+        Ok(symbols) => colors_of_all(alloc, symbols),
+        Err(error) => Err(error),
     }
-    let total = cuts.len().min(254) as u8 + 1;
-    if total < 2 || total > 16 {
-        return Err(QrError::InvalidStructuredAppend { value: total });
-    }
-    let parity = parity_of(bytes);
+}
+
+// The modules of each symbol.
+fn colors_of_all(alloc: Global, symbols: Vec<Symbol>) -> QrResult<Vec<Vec<Color>>>
+    ensures all { IfOk result (λ grids. map vec_items grids.items ≡ map modules_of symbols.items) }
+    ensures memory { IfErr result (λ e. e ≡ QrError.OutOfMemory) }
+{
     let mut grids = Vec::new(alloc);
-    for index in 0..total {
-        let part = part_at(bytes, cuts, usize::from(index));
-        let grid = match part_symbol(alloc, part, index + 1, total, parity, level, max_version) {
-            Ok(grid) => grid,
-            Err(error) => return Err(error),
-        };
-        let Ok(()) = grids.push(grid) else {
+    for symbol in symbols {
+        let Ok(()) = grids.push(symbol.into_colors()) else {
             return Err(QrError::OutOfMemory);
         };
     }
@@ -100,18 +151,14 @@ fn part_symbol(
     parity: u8,
     level: EcLevel,
     max_version: i16,
-) -> QrResult<Vec<Color>>
-    ensures best { IfOk result (λ grid. IsPartSymbol (header position total parity) part.now level (nat_abs max_version) grid.items) }
+) -> QrResult<Symbol>
+    ensures best { IfOk result (λ symbol.
+        IsPartSymbol (header position total parity) part.now level (nat_abs max_version) symbol.modules) }
+    ensures reading { IfOk result TellsReading }
     ensures refused { IfErr result (IsPartRefused position total part.now level max_version) }
 {
-    let bits = match encode_part(alloc, part, position, total, parity, level, max_version) {
-        Ok(bits) => bits,
-        Err(error) => return Err(error),
-    };
-    let version = bits.version();
-    let codewords = bits.into_bytes();
-    match draw(alloc, version, level, &codewords) {
-        Ok(grid) => Ok(grid),
+    match encode_part(alloc, part, position, total, parity, level, max_version) {
+        Ok(bits) => symbol_of(alloc, bits, level),
         Err(error) => Err(error),
     }
 }

@@ -1,0 +1,12 @@
+-- So many first symbols are there, and each tells its reading.
+use Rattle.std.proofs.Common.{map, nat_abs}
+use Rattle.std.specs.Prelude.{All}
+use Rattle.qrcode_core.specs.Drawn.{TellsReading, modules_of}
+use Rattle.qrcode_core.proofs.Symbols.{AreFirstSymbols}
+use Rattle.qrcode_core.proofs.symbol.owned.Symbol.sequence.Given as goal
+
+abbrev pub invariant-loop-index : goal.invariant-loop-index
+invariant-loop-index l = record {
+  first : AreFirstSymbols l.bytes l.cuts l.level (nat_abs l.max_version) l.total l.index (map modules_of l.symbols.items);
+  reading : All TellsReading l.symbols.items;
+}

@@ -1,0 +1,38 @@
+-- The symbol of some bytes within what a caller allows.
+use Rattle.std.specs.Prelude.{ℕ, nat_abs, ◌<◌, ◌≤◌, ◌⊎◌, List, length}
+use Rattle.qrcode_base.specs.declared.types.Color.{Color}
+use Rattle.qrcode_base.specs.declared.types.EcLevel.{EcLevel}
+use Rattle.qrcode_base.specs.declared.types.Version.{Version}
+use Rattle.qrcode_base.specs.declared.types.Version.TheVariants.{Normal, Micro}
+use Rattle.qrcode_base.specs.declared.types.errors.QrError.{QrError}
+use Rattle.qrcode_base.specs.declared.types.errors.QrError.TheVariants.{DataTooLong, InvalidResourceLimits, OutOfMemory}
+use Rattle.qrcode_bits.specs.Choice.{normal, FitsNone}
+use Rattle.qrcode_core.specs.declared.limits.ResourceLimits.{ResourceLimits}
+use Rattle.qrcode_core.specs.Budgets.{IsBudget}
+use Rattle.qrcode_core.specs.Headline.{IsBestSymbol}
+
+-- the number of the greatest Normal version up to a version
+abbrev pub greatest_number : Version → ℕ
+greatest_number (Normal n) = nat_abs n
+greatest_number (Micro n) = 0
+
+-- The best symbol of some bytes, in a version up to the greatest that is allowed.
+pub record IsBestWithin (limits : ResourceLimits) (bytes : List ℕ) (level : EcLevel)
+    (grid : List Color) : Type 0 where
+  pub best : IsBestSymbol bytes level grid
+  pub up_to : best.number ≤ greatest_number limits.max_version
+
+-- The bytes are more than are allowed, or no plan of them fits any version that is allowed.
+abbrev pub IsTooLongWithin : ResourceLimits → List ℕ → EcLevel → Type 0
+IsTooLongWithin limits bytes level =
+    (limits.max_data_length < length bytes)
+    ⊎ FitsNone normal 0 bytes level (greatest_number limits.max_version)
+
+-- Which refusal comes when: the limits themselves are tested first. Want of memory comes only for bytes that are not
+-- too many.
+abbrev pub IsLimitedRefusal : ResourceLimits → List ℕ → EcLevel → QrError → Type 0
+IsLimitedRefusal limits bytes level InvalidResourceLimits = IsBudget limits → ⊥
+IsLimitedRefusal limits bytes level DataTooLong = IsBudget limits × IsTooLongWithin limits bytes level
+IsLimitedRefusal limits bytes level OutOfMemory =
+    IsBudget limits × (length bytes ≤ limits.max_data_length) × (length bytes ≤ 7089)
+IsLimitedRefusal limits bytes level other = ⊥
