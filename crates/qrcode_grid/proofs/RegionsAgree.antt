@@ -1,6 +1,6 @@
 -- Where the regions of a symbol meet they agree: what any of them says of a cell is its colour.
 -- Only the timing patterns and the alignment patterns meet.
-use Rattle.std.proofs.Common.{◌≡◌, ℕ, pos, negsuc, ◌<◌, ◌≤◌, ◌+◌, ◌-◌, ◌*◌, ap, ◌∙◌, sym, refl, subst, arith, inl, inr, ◌⊎◌, List, [], ◌∷◌, Bool, true, false, not, ◌==◌, ◌&&◌, ◌||◌, nat_le, nat_lt, cond, fold, All, IfSome, Option, Some, None, is_some}
+use Rattle.std.proofs.Common.{◌≡◌, ℕ, pos, negsuc, ◌<◌, ◌≤◌, ◌+◌, ◌-◌, ◌*◌, ap, ◌∙◌, sym, refl, subst, arith, inl, inr, ◌⊎◌, List, [], ◌∷◌, ◌++◌, Bool, true, false, not, ◌==◌, ◌&&◌, ◌||◌, nat_le, nat_lt, cond, fold, All, IfSome, Option, Some, None, is_some}
 use Rattle.std.specs.Option.{option_or}
 use Rattle.std.proofs.lemmas.Bool.{cases_lt, eqb-true, leb-true, ltb-true, false≢true}
 use Rattle.std.proofs.lemmas.Bool.Decides.{nat_tests}
@@ -76,99 +76,71 @@ copies_are n x y =
     ∙ ap (λ b. nat_le 7 n && (b || is_some (version_digit w y x))) (some-cond (copy_test w x y) (3 * x + (y - (w - 11))))
     ∙ ap (λ b. nat_le 7 n && (copy_test w x y || b)) (some-cond (copy_test w y x) (3 * y + (x - (w - 11))))
 
-and_comm : (a b : Bool) → (a && b) ≡ false → (b && a) ≡ false
-and_comm true b e = ap (λ t. t && true) e
-and_comm false b e = and_false b
+-- regions, each with the test that says where it lies
+abbrev Tested : List (Bool × Option Color) → Type 0
+Tested [] = Unit {0}
+Tested (r ∷ rs) = (is_some r.1 ≡ r.0) × Tested rs
 
-and_skip : (a b v : Bool) → (a && v) ≡ false → (a && (b && v)) ≡ false
-and_skip true true v e = e
-and_skip true false v e = refl
-and_skip false b v e = refl
+abbrev any_of : List (Bool × Option Color) → Bool
+any_of [] = false
+any_of (r ∷ rs) = r.0 || any_of rs
 
--- the regions but the alignment patterns lie apart
-f1_f2 : (w x y : ℕ) → 21 ≤ w → x < w → y < w → (finder_test 3 3 x y && finder_test (w - 4) 3 x y) ≡ false
-f1_f2 w x y wide l m = grind (arith, nat_tests)
+abbrev colors : List (Bool × Option Color) → List (Option Color)
+colors [] = []
+colors (r ∷ rs) = r.1 ∷ colors rs
 
-f1_f3 : (w x y : ℕ) → 21 ≤ w → x < w → y < w → (finder_test 3 3 x y && finder_test 3 (w - 4) x y) ≡ false
-f1_f3 w x y wide l m = grind (arith, nat_tests)
+-- no region meets a later one
+abbrev Apart : List (Bool × Option Color) → Type 0
+Apart [] = Unit {0}
+Apart (r ∷ rs) = ((r.0 && any_of rs) ≡ false) × Apart rs
 
-f1_t : (w x y : ℕ) → 21 ≤ w → x < w → y < w → (finder_test 3 3 x y && timing_test 6 8 (w - 9) x y) ≡ false
-f1_t w x y wide l m = grind (arith, nat_tests)
+and_or : (s t u : Bool) → (s && (t || u)) ≡ false → ((s && t) ≡ false) × ((s && u) ≡ false)
+and_or false t u e = (refl, refl)
+and_or true true u e = (e, absurd (false≢true (sym e)))
+and_or true false u e = (refl, e)
 
-f1_d : (w x y : ℕ) → 21 ≤ w → x < w → y < w → (finder_test 3 3 x y && (x == 8 && y == w - 8)) ≡ false
-f1_d w x y wide l m = grind (arith, nat_tests)
+each_apart : (s : Bool) (a : Option Color) (rs : List (Bool × Option Color)) → is_some a ≡ s → Tested rs → (s && any_of rs) ≡ false → EachAgrees a (colors rs)
+each_apart s a [] p q e = tt
+each_apart s a (r ∷ rs) p q e = let h = and_or s r.0 (any_of rs) e in (apart_agree a r.1 s r.0 p q.0 h.0, each_apart s a rs p q.1 h.1)
 
-f1_w1 : (w x y : ℕ) → 21 ≤ w → x < w → y < w → (finder_test 3 3 x y && first_test x y) ≡ false
-f1_w1 w x y wide l m = grind (arith, nat_tests)
+pairs_apart : (rs : List (Bool × Option Color)) → Tested rs → Apart rs → PairsAgree (colors rs)
+pairs_apart [] q e = tt
+pairs_apart (r ∷ rs) q e = (each_apart r.0 r.1 rs q.0 q.1 e.0, pairs_apart rs q.1 e.1)
 
-f1_w2 : (w x y : ℕ) → 21 ≤ w → x < w → y < w → (finder_test 3 3 x y && second_test w x y) ≡ false
-f1_w2 w x y wide l m = grind (arith, nat_tests)
+-- a region that agrees with others may stand among them
+each_insert : (r a : Option Color) (before after : List (Option Color)) → EachAgrees r (before ++ after) → Agree r a → EachAgrees r (before ++ a ∷ after)
+each_insert r a [] after h e = (e, h)
+each_insert r a (s ∷ before) after h e = (h.0, each_insert r a before after h.1 e)
 
-f2_f3 : (w x y : ℕ) → 21 ≤ w → x < w → y < w → (finder_test (w - 4) 3 x y && finder_test 3 (w - 4) x y) ≡ false
-f2_f3 w x y wide l m = grind (arith, nat_tests)
+pairs_insert : (a : Option Color) (before after : List (Option Color)) → PairsAgree (before ++ after) → EachAgrees a (before ++ after) → PairsAgree (before ++ a ∷ after)
+pairs_insert a [] after h e = (e, h)
+pairs_insert a (r ∷ before) after h e = (each_insert r a before after h.0 (λ c d p q. sym (e.0 d c q p)), pairs_insert a before after h.1 e.1)
 
-f2_t : (w x y : ℕ) → 21 ≤ w → x < w → y < w → (finder_test (w - 4) 3 x y && timing_test 6 8 (w - 9) x y) ≡ false
-f2_t w x y wide l m = grind (arith, nat_tests)
+abbrev any : List Bool → Bool
+any [] = false
+any (t ∷ ts) = t || any ts
 
-f2_d : (w x y : ℕ) → 21 ≤ w → x < w → y < w → (finder_test (w - 4) 3 x y && (x == 8 && y == w - 8)) ≡ false
-f2_d w x y wide l m = grind (arith, nat_tests)
+-- the regions but the alignment patterns lie apart; v says whether there are version words
+first_alone : (w x y : ℕ) (v : Bool) → 21 ≤ w → x < w → y < w → (finder_test 3 3 x y && any (finder_test (w - 4) 3 x y ∷ finder_test 3 (w - 4) x y ∷ timing_test 6 8 (w - 9) x y ∷ (x == 8 && y == w - 8) ∷ first_test x y ∷ second_test w x y ∷ (v && copies_test w x y) ∷ [])) ≡ false
+first_alone w x y v wide l m = grind (arith, nat_tests)
 
-f2_w1 : (w x y : ℕ) → 21 ≤ w → x < w → y < w → (finder_test (w - 4) 3 x y && first_test x y) ≡ false
-f2_w1 w x y wide l m = grind (arith, nat_tests)
+second_alone : (w x y : ℕ) (v : Bool) → 21 ≤ w → x < w → y < w → (finder_test (w - 4) 3 x y && any (finder_test 3 (w - 4) x y ∷ timing_test 6 8 (w - 9) x y ∷ (x == 8 && y == w - 8) ∷ first_test x y ∷ second_test w x y ∷ (v && copies_test w x y) ∷ [])) ≡ false
+second_alone w x y v wide l m = grind (arith, nat_tests)
 
-f2_w2 : (w x y : ℕ) → 21 ≤ w → x < w → y < w → (finder_test (w - 4) 3 x y && second_test w x y) ≡ false
-f2_w2 w x y wide l m = grind (arith, nat_tests)
+third_alone : (w x y : ℕ) (v : Bool) → 21 ≤ w → x < w → y < w → (finder_test 3 (w - 4) x y && any (timing_test 6 8 (w - 9) x y ∷ (x == 8 && y == w - 8) ∷ first_test x y ∷ second_test w x y ∷ (v && copies_test w x y) ∷ [])) ≡ false
+third_alone w x y v wide l m = grind (arith, nat_tests)
 
-f3_t : (w x y : ℕ) → 21 ≤ w → x < w → y < w → (finder_test 3 (w - 4) x y && timing_test 6 8 (w - 9) x y) ≡ false
-f3_t w x y wide l m = grind (arith, nat_tests)
+timing_alone : (w x y : ℕ) (v : Bool) → 21 ≤ w → x < w → y < w → (timing_test 6 8 (w - 9) x y && any ((x == 8 && y == w - 8) ∷ first_test x y ∷ second_test w x y ∷ (v && copies_test w x y) ∷ [])) ≡ false
+timing_alone w x y v wide l m = grind (arith, nat_tests)
 
-f3_d : (w x y : ℕ) → 21 ≤ w → x < w → y < w → (finder_test 3 (w - 4) x y && (x == 8 && y == w - 8)) ≡ false
-f3_d w x y wide l m = grind (arith, nat_tests)
+dark_alone : (w x y : ℕ) (v : Bool) → 21 ≤ w → x < w → y < w → ((x == 8 && y == w - 8) && any (first_test x y ∷ second_test w x y ∷ (v && copies_test w x y) ∷ [])) ≡ false
+dark_alone w x y v wide l m = grind (arith, nat_tests)
 
-f3_w1 : (w x y : ℕ) → 21 ≤ w → x < w → y < w → (finder_test 3 (w - 4) x y && first_test x y) ≡ false
-f3_w1 w x y wide l m = grind (arith, nat_tests)
+format_alone : (w x y : ℕ) (v : Bool) → 21 ≤ w → x < w → y < w → (first_test x y && any (second_test w x y ∷ (v && copies_test w x y) ∷ [])) ≡ false
+format_alone w x y v wide l m = grind (arith, nat_tests)
 
-f3_w2 : (w x y : ℕ) → 21 ≤ w → x < w → y < w → (finder_test 3 (w - 4) x y && second_test w x y) ≡ false
-f3_w2 w x y wide l m = grind (arith, nat_tests)
-
-t_d : (w x y : ℕ) → 21 ≤ w → x < w → y < w → (timing_test 6 8 (w - 9) x y && (x == 8 && y == w - 8)) ≡ false
-t_d w x y wide l m = grind (arith, nat_tests)
-
-t_w1 : (w x y : ℕ) → 21 ≤ w → x < w → y < w → (timing_test 6 8 (w - 9) x y && first_test x y) ≡ false
-t_w1 w x y wide l m = grind (arith, nat_tests)
-
-t_w2 : (w x y : ℕ) → 21 ≤ w → x < w → y < w → (timing_test 6 8 (w - 9) x y && second_test w x y) ≡ false
-t_w2 w x y wide l m = grind (arith, nat_tests)
-
-d_w1 : (w x y : ℕ) → 21 ≤ w → x < w → y < w → ((x == 8 && y == w - 8) && first_test x y) ≡ false
-d_w1 w x y wide l m = grind (arith, nat_tests)
-
-d_w2 : (w x y : ℕ) → 21 ≤ w → x < w → y < w → ((x == 8 && y == w - 8) && second_test w x y) ≡ false
-d_w2 w x y wide l m = grind (arith, nat_tests)
-
-w1_w2 : (w x y : ℕ) → 21 ≤ w → x < w → y < w → (first_test x y && second_test w x y) ≡ false
-w1_w2 w x y wide l m = grind (arith, nat_tests)
-
-f1_v : (w x y : ℕ) → 21 ≤ w → x < w → y < w → (finder_test 3 3 x y && copies_test w x y) ≡ false
-f1_v w x y wide l m = grind (arith, nat_tests)
-
-f2_v : (w x y : ℕ) → 21 ≤ w → x < w → y < w → (finder_test (w - 4) 3 x y && copies_test w x y) ≡ false
-f2_v w x y wide l m = grind (arith, nat_tests)
-
-f3_v : (w x y : ℕ) → 21 ≤ w → x < w → y < w → (finder_test 3 (w - 4) x y && copies_test w x y) ≡ false
-f3_v w x y wide l m = grind (arith, nat_tests)
-
-t_v : (w x y : ℕ) → 21 ≤ w → x < w → y < w → (timing_test 6 8 (w - 9) x y && copies_test w x y) ≡ false
-t_v w x y wide l m = grind (arith, nat_tests)
-
-d_v : (w x y : ℕ) → 21 ≤ w → x < w → y < w → ((x == 8 && y == w - 8) && copies_test w x y) ≡ false
-d_v w x y wide l m = grind (arith, nat_tests)
-
-w1_v : (w x y : ℕ) → 21 ≤ w → x < w → y < w → (first_test x y && copies_test w x y) ≡ false
-w1_v w x y wide l m = grind (arith, nat_tests)
-
-w2_v : (w x y : ℕ) → 21 ≤ w → x < w → y < w → (second_test w x y && copies_test w x y) ≡ false
-w2_v w x y wide l m = grind (arith, nat_tests)
+copy_alone : (w x y : ℕ) (v : Bool) → 21 ≤ w → x < w → y < w → (second_test w x y && any ((v && copies_test w x y) ∷ [])) ≡ false
+copy_alone w x y v wide l m = grind (arith, nat_tests)
 
 -- no alignment pattern meets the corners: computed
 abbrev corner_test : ℕ → ℕ → ℕ → Bool
@@ -177,23 +149,8 @@ corner_test w x y = (nat_lt x 9 && nat_lt y 9) || (nat_lt x 9 && nat_le (w - 8) 
 abbrev is_clear_at : ℕ → ℕ → ℕ → Bool
 is_clear_at n x y = not (is_some (alignments (4 * n + 17) (alignment_coordinates n) x y))
 
-f1_off : (w x y : ℕ) → 21 ≤ w → x < w → y < w → corner_test w x y ≡ false → finder_test 3 3 x y ≡ false
-f1_off w x y wide l m off = grind (arith, nat_tests)
-
-f2_off : (w x y : ℕ) → 21 ≤ w → x < w → y < w → corner_test w x y ≡ false → finder_test (w - 4) 3 x y ≡ false
-f2_off w x y wide l m off = grind (arith, nat_tests)
-
-f3_off : (w x y : ℕ) → 21 ≤ w → x < w → y < w → corner_test w x y ≡ false → finder_test 3 (w - 4) x y ≡ false
-f3_off w x y wide l m off = grind (arith, nat_tests)
-
-d_off : (w x y : ℕ) → 21 ≤ w → x < w → y < w → corner_test w x y ≡ false → (x == 8 && y == w - 8) ≡ false
-d_off w x y wide l m off = grind (arith, nat_tests)
-
-w1_off : (w x y : ℕ) → 21 ≤ w → x < w → y < w → corner_test w x y ≡ false → first_test x y ≡ false
-w1_off w x y wide l m off = grind (arith, nat_tests)
-
-w2_off : (w x y : ℕ) → 21 ≤ w → x < w → y < w → corner_test w x y ≡ false → second_test w x y ≡ false
-w2_off w x y wide l m off = grind (arith, nat_tests)
+off_corners : (w x y : ℕ) → 21 ≤ w → x < w → y < w → corner_test w x y ≡ false → any (finder_test 3 3 x y ∷ finder_test (w - 4) 3 x y ∷ finder_test 3 (w - 4) x y ∷ (x == 8 && y == w - 8) ∷ first_test x y ∷ second_test w x y ∷ []) ≡ false
+off_corners w x y wide l m off = grind (arith, nat_tests)
 
 abbrev corner_clear : ℕ → Bool
 corner_clear n =
@@ -346,15 +303,6 @@ module _ (n format x y : ℕ) (low : 1 ≤ n) (high : n ≤ 40) (l : x < 4 * n +
   in_dark : is_some (where_true (x == 8 && y == w - 8) Dark) ≡ (x == 8 && y == w - 8)
   in_dark = some-where_true (x == 8 && y == w - 8) Dark
 
-  in_alignment : is_some (alignments w (alignment_coordinates n) x y) ≡ is_some (alignments w (alignment_coordinates n) x y)
-  in_alignment = refl
-
-  off_corner : (t : Bool) → (corner_test w x y ≡ false → t ≡ false) → (t && is_some (alignments w (alignment_coordinates n) x y)) ≡ false
-  off_corner t off = elim (bool_cases (corner_test w x y)) [
-    | inl e ↦ ap (λ b. t && b) (clear_corner n x y low high l m e) ∙ and_false t
-    | inr e ↦ ap (λ b. b && is_some (alignments w (alignment_coordinates n) x y)) (off e)
-  ]
-
   off_copies : (is_some (alignments w (alignment_coordinates n) x y) && (nat_le 7 n && copies_test w x y)) ≡ false
   off_copies = elim (bool_cases (nat_le 7 n)) [
     | inl e ↦ elim (bool_cases (copies_test w x y)) [
@@ -365,164 +313,65 @@ module _ (n format x y : ℕ) (low : 1 ≤ n) (high : n ≤ 40) (l : x < 4 * n +
     | inr e ↦ ap (λ b. is_some (alignments w (alignment_coordinates n) x y) && (b && copies_test w x y)) e ∙ and_false (is_some (alignments w (alignment_coordinates n) x y))
   ]
 
-  first_finder : EachAgrees (finder 3 3 x y) (finder (w - 4) 3 x y ∷ finder 3 (w - 4) x y ∷ timing 6 8 (w - 9) x y ∷ where_true (x == 8 && y == w - 8) Dark ∷ alignments w (alignment_coordinates n) x y ∷ written format format_first x y ∷ written format (format_second w) x y ∷ version_copies n x y ∷ [])
-  first_finder = (
-    apart_agree (finder 3 3 x y) (finder (w - 4) 3 x y) (finder_test 3 3 x y) (finder_test (w - 4) 3 x y) (finder_is 3 3 x y) (finder_is (w - 4) 3 x y) (f1_f2 w x y wide l m),
-    (
-      apart_agree (finder 3 3 x y) (finder 3 (w - 4) x y) (finder_test 3 3 x y) (finder_test 3 (w - 4) x y) (finder_is 3 3 x y) (finder_is 3 (w - 4) x y) (f1_f3 w x y wide l m),
-      (
-        apart_agree (finder 3 3 x y) (timing 6 8 (w - 9) x y) (finder_test 3 3 x y) (timing_test 6 8 (w - 9) x y) (finder_is 3 3 x y) in_timing (f1_t w x y wide l m),
-        (
-          apart_agree (finder 3 3 x y) (where_true (x == 8 && y == w - 8) Dark) (finder_test 3 3 x y) (x == 8 && y == w - 8) (finder_is 3 3 x y) in_dark (f1_d w x y wide l m),
-          (
-            apart_agree (finder 3 3 x y) (alignments w (alignment_coordinates n) x y) (finder_test 3 3 x y) (is_some (alignments w (alignment_coordinates n) x y)) (finder_is 3 3 x y) in_alignment (off_corner (finder_test 3 3 x y) (f1_off w x y wide l m)),
-            (
-              apart_agree (finder 3 3 x y) (written format format_first x y) (finder_test 3 3 x y) (first_test x y) (finder_is 3 3 x y) in_first (f1_w1 w x y wide l m),
-              (
-                apart_agree (finder 3 3 x y) (written format (format_second w) x y) (finder_test 3 3 x y) (second_test w x y) (finder_is 3 3 x y) in_second (f1_w2 w x y wide l m),
-                (
-                  apart_agree (finder 3 3 x y) (version_copies n x y) (finder_test 3 3 x y) (nat_le 7 n && copies_test w x y) (finder_is 3 3 x y) (copies_are n x y) (and_skip (finder_test 3 3 x y) (nat_le 7 n) (copies_test w x y) (f1_v w x y wide l m)),
-                  tt,
-                ),
-              ),
-            ),
-          ),
-        ),
-      ),
-    ),
-  )
+  abbrev first_regions : List (Bool × Option Color)
+  first_regions = (finder_test 3 3 x y, finder 3 3 x y) ∷ (finder_test (w - 4) 3 x y, finder (w - 4) 3 x y) ∷ (finder_test 3 (w - 4) x y, finder 3 (w - 4) x y) ∷ []
 
-  second_finder : EachAgrees (finder (w - 4) 3 x y) (finder 3 (w - 4) x y ∷ timing 6 8 (w - 9) x y ∷ where_true (x == 8 && y == w - 8) Dark ∷ alignments w (alignment_coordinates n) x y ∷ written format format_first x y ∷ written format (format_second w) x y ∷ version_copies n x y ∷ [])
-  second_finder = (
-    apart_agree (finder (w - 4) 3 x y) (finder 3 (w - 4) x y) (finder_test (w - 4) 3 x y) (finder_test 3 (w - 4) x y) (finder_is (w - 4) 3 x y) (finder_is 3 (w - 4) x y) (f2_f3 w x y wide l m),
-    (
-      apart_agree (finder (w - 4) 3 x y) (timing 6 8 (w - 9) x y) (finder_test (w - 4) 3 x y) (timing_test 6 8 (w - 9) x y) (finder_is (w - 4) 3 x y) in_timing (f2_t w x y wide l m),
-      (
-        apart_agree (finder (w - 4) 3 x y) (where_true (x == 8 && y == w - 8) Dark) (finder_test (w - 4) 3 x y) (x == 8 && y == w - 8) (finder_is (w - 4) 3 x y) in_dark (f2_d w x y wide l m),
-        (
-          apart_agree (finder (w - 4) 3 x y) (alignments w (alignment_coordinates n) x y) (finder_test (w - 4) 3 x y) (is_some (alignments w (alignment_coordinates n) x y)) (finder_is (w - 4) 3 x y) in_alignment (off_corner (finder_test (w - 4) 3 x y) (f2_off w x y wide l m)),
-          (
-            apart_agree (finder (w - 4) 3 x y) (written format format_first x y) (finder_test (w - 4) 3 x y) (first_test x y) (finder_is (w - 4) 3 x y) in_first (f2_w1 w x y wide l m),
-            (
-              apart_agree (finder (w - 4) 3 x y) (written format (format_second w) x y) (finder_test (w - 4) 3 x y) (second_test w x y) (finder_is (w - 4) 3 x y) in_second (f2_w2 w x y wide l m),
-              (
-                apart_agree (finder (w - 4) 3 x y) (version_copies n x y) (finder_test (w - 4) 3 x y) (nat_le 7 n && copies_test w x y) (finder_is (w - 4) 3 x y) (copies_are n x y) (and_skip (finder_test (w - 4) 3 x y) (nat_le 7 n) (copies_test w x y) (f2_v w x y wide l m)),
-                tt,
-              ),
-            ),
-          ),
-        ),
-      ),
-    ),
-  )
+  abbrev last_regions : List (Bool × Option Color)
+  last_regions = (x == 8 && y == w - 8, where_true (x == 8 && y == w - 8) Dark) ∷ (first_test x y, written format format_first x y) ∷ (second_test w x y, written format (format_second w) x y) ∷ []
 
-  third_finder : EachAgrees (finder 3 (w - 4) x y) (timing 6 8 (w - 9) x y ∷ where_true (x == 8 && y == w - 8) Dark ∷ alignments w (alignment_coordinates n) x y ∷ written format format_first x y ∷ written format (format_second w) x y ∷ version_copies n x y ∷ [])
-  third_finder = (
-    apart_agree (finder 3 (w - 4) x y) (timing 6 8 (w - 9) x y) (finder_test 3 (w - 4) x y) (timing_test 6 8 (w - 9) x y) (finder_is 3 (w - 4) x y) in_timing (f3_t w x y wide l m),
-    (
-      apart_agree (finder 3 (w - 4) x y) (where_true (x == 8 && y == w - 8) Dark) (finder_test 3 (w - 4) x y) (x == 8 && y == w - 8) (finder_is 3 (w - 4) x y) in_dark (f3_d w x y wide l m),
-      (
-        apart_agree (finder 3 (w - 4) x y) (alignments w (alignment_coordinates n) x y) (finder_test 3 (w - 4) x y) (is_some (alignments w (alignment_coordinates n) x y)) (finder_is 3 (w - 4) x y) in_alignment (off_corner (finder_test 3 (w - 4) x y) (f3_off w x y wide l m)),
-        (
-          apart_agree (finder 3 (w - 4) x y) (written format format_first x y) (finder_test 3 (w - 4) x y) (first_test x y) (finder_is 3 (w - 4) x y) in_first (f3_w1 w x y wide l m),
-          (
-            apart_agree (finder 3 (w - 4) x y) (written format (format_second w) x y) (finder_test 3 (w - 4) x y) (second_test w x y) (finder_is 3 (w - 4) x y) in_second (f3_w2 w x y wide l m),
-            (
-              apart_agree (finder 3 (w - 4) x y) (version_copies n x y) (finder_test 3 (w - 4) x y) (nat_le 7 n && copies_test w x y) (finder_is 3 (w - 4) x y) (copies_are n x y) (and_skip (finder_test 3 (w - 4) x y) (nat_le 7 n) (copies_test w x y) (f3_v w x y wide l m)),
-              tt,
-            ),
-          ),
-        ),
-      ),
-    ),
-  )
-
-  of_timing : EachAgrees (timing 6 8 (w - 9) x y) (where_true (x == 8 && y == w - 8) Dark ∷ alignments w (alignment_coordinates n) x y ∷ written format format_first x y ∷ written format (format_second w) x y ∷ version_copies n x y ∷ [])
-  of_timing = (
-    apart_agree (timing 6 8 (w - 9) x y) (where_true (x == 8 && y == w - 8) Dark) (timing_test 6 8 (w - 9) x y) (x == 8 && y == w - 8) in_timing in_dark (t_d w x y wide l m),
-    (
-      timing_agree n x y low high l m,
-      (
-        apart_agree (timing 6 8 (w - 9) x y) (written format format_first x y) (timing_test 6 8 (w - 9) x y) (first_test x y) in_timing in_first (t_w1 w x y wide l m),
-        (
-          apart_agree (timing 6 8 (w - 9) x y) (written format (format_second w) x y) (timing_test 6 8 (w - 9) x y) (second_test w x y) in_timing in_second (t_w2 w x y wide l m),
-          (
-            apart_agree (timing 6 8 (w - 9) x y) (version_copies n x y) (timing_test 6 8 (w - 9) x y) (nat_le 7 n && copies_test w x y) in_timing (copies_are n x y) (and_skip (timing_test 6 8 (w - 9) x y) (nat_le 7 n) (copies_test w x y) (t_v w x y wide l m)),
-            tt,
-          ),
-        ),
-      ),
-    ),
-  )
-
-  of_dark : EachAgrees (where_true (x == 8 && y == w - 8) Dark) (alignments w (alignment_coordinates n) x y ∷ written format format_first x y ∷ written format (format_second w) x y ∷ version_copies n x y ∷ [])
-  of_dark = (
-    apart_agree (where_true (x == 8 && y == w - 8) Dark) (alignments w (alignment_coordinates n) x y) (x == 8 && y == w - 8) (is_some (alignments w (alignment_coordinates n) x y)) in_dark in_alignment (off_corner (x == 8 && y == w - 8) (d_off w x y wide l m)),
-    (
-      apart_agree (where_true (x == 8 && y == w - 8) Dark) (written format format_first x y) (x == 8 && y == w - 8) (first_test x y) in_dark in_first (d_w1 w x y wide l m),
-      (
-        apart_agree (where_true (x == 8 && y == w - 8) Dark) (written format (format_second w) x y) (x == 8 && y == w - 8) (second_test w x y) in_dark in_second (d_w2 w x y wide l m),
-        (
-          apart_agree (where_true (x == 8 && y == w - 8) Dark) (version_copies n x y) (x == 8 && y == w - 8) (nat_le 7 n && copies_test w x y) in_dark (copies_are n x y) (and_skip (x == 8 && y == w - 8) (nat_le 7 n) (copies_test w x y) (d_v w x y wide l m)),
-          tt,
-        ),
-      ),
-    ),
-  )
-
-  of_alignment : EachAgrees (alignments w (alignment_coordinates n) x y) (written format format_first x y ∷ written format (format_second w) x y ∷ version_copies n x y ∷ [])
-  of_alignment = (
-    apart_agree (alignments w (alignment_coordinates n) x y) (written format format_first x y) (is_some (alignments w (alignment_coordinates n) x y)) (first_test x y) in_alignment in_first (and_comm (first_test x y) (is_some (alignments w (alignment_coordinates n) x y)) (off_corner (first_test x y) (w1_off w x y wide l m))),
-    (
-      apart_agree (alignments w (alignment_coordinates n) x y) (written format (format_second w) x y) (is_some (alignments w (alignment_coordinates n) x y)) (second_test w x y) in_alignment in_second (and_comm (second_test w x y) (is_some (alignments w (alignment_coordinates n) x y)) (off_corner (second_test w x y) (w2_off w x y wide l m))),
-      (
-        apart_agree (alignments w (alignment_coordinates n) x y) (version_copies n x y) (is_some (alignments w (alignment_coordinates n) x y)) (nat_le 7 n && copies_test w x y) in_alignment (copies_are n x y) off_copies,
-        tt,
-      ),
-    ),
-  )
-
-  of_first : EachAgrees (written format format_first x y) (written format (format_second w) x y ∷ version_copies n x y ∷ [])
-  of_first = (
-    apart_agree (written format format_first x y) (written format (format_second w) x y) (first_test x y) (second_test w x y) in_first in_second (w1_w2 w x y wide l m),
-    (
-      apart_agree (written format format_first x y) (version_copies n x y) (first_test x y) (nat_le 7 n && copies_test w x y) in_first (copies_are n x y) (and_skip (first_test x y) (nat_le 7 n) (copies_test w x y) (w1_v w x y wide l m)),
-      tt,
-    ),
-  )
-
-  of_second : EachAgrees (written format (format_second w) x y) (version_copies n x y ∷ [])
-  of_second = (
-    apart_agree (written format (format_second w) x y) (version_copies n x y) (second_test w x y) (nat_le 7 n && copies_test w x y) in_second (copies_are n x y) (and_skip (second_test w x y) (nat_le 7 n) (copies_test w x y) (w2_v w x y wide l m)),
-    tt,
-  )
+  off_corner : (is_some (alignments w (alignment_coordinates n) x y) && any_of (first_regions ++ last_regions)) ≡ false
+  off_corner = elim (bool_cases (corner_test w x y)) [
+    | inl e ↦ ap (λ b. b && any_of (first_regions ++ last_regions)) (clear_corner n x y low high l m e)
+    | inr e ↦ ap (λ b. is_some (alignments w (alignment_coordinates n) x y) && b) (off_corners w x y wide l m e) ∙ and_false (is_some (alignments w (alignment_coordinates n) x y))
+  ]
 
   normal_pairs : PairsAgree (regions (Normal (pos n)) format x y)
-  normal_pairs = (first_finder, (second_finder, (third_finder, (of_timing, (of_dark, (of_alignment, (of_first, (of_second, (tt, tt)))))))))
+  normal_pairs =
+      let a = alignments w (alignment_coordinates n) x y in
+      let v = nat_le 7 n in
+      let tested : Tested last_regions = (in_dark, (in_first, (in_second, tt))) in
+      let others : PairsAgree (colors (first_regions ++ (timing_test 6 8 (w - 9) x y, timing 6 8 (w - 9) x y) ∷ last_regions ++ (v && copies_test w x y, version_copies n x y) ∷ [])) =
+      pairs_apart (first_regions ++ (timing_test 6 8 (w - 9) x y, timing 6 8 (w - 9) x y) ∷ last_regions ++ (v && copies_test w x y, version_copies n x y) ∷ [])
+      (finder_is 3 3 x y, (finder_is (w - 4) 3 x y, (finder_is 3 (w - 4) x y, (in_timing, (in_dark, (in_first, (in_second, (copies_are n x y, tt)))))))) (
+        first_alone w x y v wide l m,
+        (
+          second_alone w x y v wide l m,
+          (
+            third_alone w x y v wide l m,
+            (
+              timing_alone w x y v wide l m,
+              (
+                dark_alone w x y v wide l m,
+                (format_alone w x y v wide l m, (copy_alone w x y v wide l m, (and_false (v && copies_test w x y), tt))),
+              ),
+            ),
+          ),
+        ),
+      ) in
+      let each : EachAgrees a (colors (first_regions ++ last_regions)) =
+      each_apart (is_some a) a (first_regions ++ last_regions) refl (finder_is 3 3 x y, (finder_is (w - 4) 3 x y, (finder_is 3 (w - 4) x y, tested))) off_corner in
+      let on_timing : Agree a (timing 6 8 (w - 9) x y) = λ c d p q. sym (timing_agree n x y low high l m d c q p) in
+      let on_version : Agree a (version_copies n x y) = apart_agree a (version_copies n x y) (is_some a) (v && copies_test w x y) refl (copies_are n x y) off_copies in
+      let f = each.1.1.1 in
+      pairs_insert a (colors first_regions ++ timing 6 8 (w - 9) x y ∷ where_true (x == 8 && y == w - 8) Dark ∷ [])
+      (written format format_first x y ∷ written format (format_second w) x y ∷ version_copies n x y ∷ []) others
+      (each.0, (each.1.0, (each.1.1.0, (on_timing, (f.0, (f.1.0, (f.1.1.0, (on_version, tt))))))))
 
-micro_finder_timing : (w x y : ℕ) → 9 ≤ w → x < w → y < w → (finder_test 3 3 x y && timing_test 0 8 (w - 1) x y) ≡ false
-micro_finder_timing w x y wide l m = grind (arith, nat_tests)
+abbrev micro_format_test : ℕ → ℕ → Bool
+micro_format_test x y = (y == 8 && nat_lt x 9 && not (x == 0)) || (x == 8 && nat_lt y 9 && not (y == 0))
 
-micro_finder_format : (w x y : ℕ) → 9 ≤ w → (finder_test 3 3 x y && ((y == 8 && nat_lt x 9 && not (x == 0)) || (x == 8 && nat_lt y 9 && not (y == 0)))) ≡ false
-micro_finder_format w x y wide = grind (arith, nat_tests)
+micro_finder_alone : (w x y : ℕ) → 9 ≤ w → x < w → y < w → (finder_test 3 3 x y && any (timing_test 0 8 (w - 1) x y ∷ micro_format_test x y ∷ [])) ≡ false
+micro_finder_alone w x y wide l m = grind (arith, nat_tests)
 
-micro_timing_format : (w x y : ℕ) → 9 ≤ w → (timing_test 0 8 (w - 1) x y && ((y == 8 && nat_lt x 9 && not (x == 0)) || (x == 8 && nat_lt y 9 && not (y == 0)))) ≡ false
-micro_timing_format w x y wide = grind (arith, nat_tests)
+micro_timing_alone : (w x y : ℕ) → 9 ≤ w → (timing_test 0 8 (w - 1) x y && any (micro_format_test x y ∷ [])) ≡ false
+micro_timing_alone w x y wide = grind (arith, nat_tests)
 
 micro_pairs : (n format x y : ℕ) → x < 2 * n + 9 → y < 2 * n + 9 → PairsAgree (regions (Micro (pos n)) format x y)
 micro_pairs n format x y l m =
     let w = 2 * n + 9 in
-    let in_format = some-option_map (λ k. digit_color (digit format k)) (digit_at format_micro x y) ∙ micro_is x y in
-    let in_timing = some-where_true (timing_test 0 8 (w - 1) x y) (dark_if_even (x + y)) in (
-      (
-        apart_agree (finder 3 3 x y) (timing 0 8 (w - 1) x y) (finder_test 3 3 x y) (timing_test 0 8 (w - 1) x y) (finder_is 3 3 x y) in_timing (micro_finder_timing w x y (omega arith) l m),
-        (apart_agree (finder 3 3 x y) (written format format_micro x y) (finder_test 3 3 x y) _ (finder_is 3 3 x y) in_format (micro_finder_format w x y (omega arith)), tt),
-      ),
-      (
-        (apart_agree (timing 0 8 (w - 1) x y) (written format format_micro x y) (timing_test 0 8 (w - 1) x y) _ in_timing in_format (micro_timing_format w x y (omega arith)), tt),
-        (tt, tt),
-      ),
-    )
+    pairs_apart ((finder_test 3 3 x y, finder 3 3 x y) ∷ (timing_test 0 8 (w - 1) x y, timing 0 8 (w - 1) x y) ∷ (micro_format_test x y, written format format_micro x y) ∷ [])
+    (finder_is 3 3 x y, (some-where_true (timing_test 0 8 (w - 1) x y) (dark_if_even (x + y)), (some-option_map (λ k. digit_color (digit format k)) (digit_at format_micro x y) ∙ micro_is x y, tt)))
+    (micro_finder_alone w x y (omega arith) l m, (micro_timing_alone w x y (omega arith), (and_false (micro_format_test x y), tt)))
 
 -- What any region says of a cell is its functional colour.
 pub regions_say : (version : Version) (format x y : ℕ) → IsVersion version → x < width_of version → y < width_of version →

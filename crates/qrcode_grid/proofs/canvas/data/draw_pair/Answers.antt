@@ -24,7 +24,7 @@ offer-ahead-requires-in-loop-row-clause-within c =
     let w = c.args.width in
     omega (
       arith,
-      mul-add-lt c.row_after.result w c.column_after-left.result w c.row_after.ensures.within c.column_after-left.ensures.within,
+      mul-add-lt c.row_after.result w c.left_column-left.result w c.row_after.ensures.within c.left_column-left.ensures.within,
       c.loop-row.auto.modules,
       c.requires.square,
       ap length c.offer-ahead.ensures.modules,
@@ -45,12 +45,12 @@ loop-row-preserved c = record {
       let first_in : n < w * (w - 1) = omega (arith, second_in) in
       let line : c.row_after.result * w ≡ rows_before w pair row * w = ap (λ r. r * w) (c.row_after.ensures.is ∙ ap (λ u. cond u (w - 1 - row) row) c.requires.up) in
       let right = ap (λ p. p + c.column_after-right.result) line ∙ ap (λ x. rows_before w pair row * w + x) c.column_after-right.ensures.is ∙ place_right w t pair row c.loop-row-test.true in
-      let left = ap (λ p. p + c.column_after-left.result) line ∙ ap (λ x. rows_before w pair row * w + x) c.column_after-left.ensures.is ∙ place_left w t pair row c.loop-row-test.true in
+      let left = ap (λ p. p + c.left_column-left.result) line ∙ ap (λ x. rows_before w pair row * w + x) c.left_column-left.ensures.is ∙ place_left w t pair row c.loop-row-test.true in
       let first =
       offered_step w (w / 2) t bits xs c.loop-row.modules c.offer-ahead.new.modules n (c.row_after.result * w + c.column_after-right.result) (rest c.loop-row.ahead) (rest c.offer-ahead.result)
       odd c.requires.column square first_in right c.offer-ahead.ensures.modules c.offer-ahead.ensures.rest before in
       let both =
-      offered_step w (w / 2) t bits xs c.offer-ahead.new.modules c.offer-ahead-in-loop-row.new.modules (n + 1) (c.row_after.result * w + c.column_after-left.result) (rest c.offer-ahead.result) (rest c.offer-ahead-in-loop-row.result)
+      offered_step w (w / 2) t bits xs c.offer-ahead.new.modules c.offer-ahead-in-loop-row.new.modules (n + 1) (c.row_after.result * w + c.left_column-left.result) (rest c.offer-ahead.result) (rest c.offer-ahead-in-loop-row.result)
       odd c.requires.column square second_in left c.offer-ahead-in-loop-row.ensures.modules c.offer-ahead-in-loop-row.ensures.rest first in
       let next : n + 1 + 1 ≡ pair * (2 * w) + 2 * (row + 1) = omega arith in
       subst (λ (k : ℕ). FilledBelow w t bits xs c.offer-ahead-in-loop-row.new.modules k (rest c.offer-ahead-in-loop-row.result)) next both;
