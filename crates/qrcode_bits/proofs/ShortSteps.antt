@@ -19,6 +19,7 @@ use Rattle.qrcode_bits.specs.Periods.{period, period_bits}
 use Rattle.qrcode_bits.specs.Buckets.{bucket_mode, bucket_rest, part_mode, bits_before, parts_before, InBucket, IsBest, slot, AreGroups, group_of}
 use Rattle.qrcode_bits.specs.Words.{start_told, bucket_start, IsShort, AreHeaders, header_in, step_told, short_at, AreShortSteps}
 use Rattle.qrcode_bits.proofs.Ending.{data_bits-linear, bucket_of, bucket_of-is, group-right, IsTried, Tried-leads, Tried-keeps, Tried-takes, Tried-none, Tried-all, cost-is}
+use Rattle.qrcode_bits.proofs.Grouping.{has-own}
 use Rattle.qrcode_bits.proofs.Optimal.{IsGoodStart}
 use Rattle.qrcode_bits.proofs.ReadBack.{IsStep-none}
 use Rattle.qrcode_bits.proofs.WordStarts.{word-ahead, some_start, no_start, more_in}
@@ -49,6 +50,12 @@ step-small segments version headers end step heads short linear within h =
           let least = (h.chosen.least [] empty).bits in
           omega (arith, h.bits)
     ]
+
+rest-least : (mode : Mode) (b : ℕ) → b % period mode ≤ b
+rest-least Numeric b = omega arith
+rest-least Alphanumeric b = omega arith
+rest-least Byte b = omega arith
+rest-least Kanji b = omega arith
 
 -- what stands for whole periods is shifted away by the cost of a part from the rest on
 word-cost : (mode : Mode) (q cost head b r e before : ℕ) → b % period mode ≡ r → b ≤ e →
@@ -93,6 +100,21 @@ module _ (segments : List Segment) (version : Version) (end : ℕ) (within : end
         }))
   ]
 
+  -- the rest of a bucket with a start is no more than the end
+  pub short-rest : (j w rest : ℕ) (groups : Groups) (mode : Mode) → j < 8 → AreGroups segments version end end groups → mode ≡ bucket_mode j →
+      bucket_start j w ≡ slot (group_of mode groups) j → w < 2 ^ 50 → rest ≡ bucket_rest j → rest ≤ last_end
+  short-rest j w rest groups mode inside grouped mode-is at small is =
+      let here : slot (group_of (bucket_mode j) groups) j ≡ Some (start_told (more_in j) w) =
+      ap (λ m. slot (group_of m groups) j) (sym mode-is) ∙ (sym at ∙ some_start j w small) in
+      let best : IsBest segments version (bucket_mode j) (InBucket segments end end (bucket_mode j) j) (Some (start_told (more_in j) w)) =
+      subst (IsBest segments version (bucket_mode j) (InBucket segments end end (bucket_mode j) j)) here ((group-right (bucket_mode j) groups grouped).1 j (has-own j inside)) in
+      let s = (start_told (more_in j) w).start in
+      let below = best.0.below in
+      let order = linear.ordered s (end - 1) (omega arith) (omega arith) in
+      let least = rest-least (bucket_mode j) (segment_at segments s).begin in
+      let rest' = best.0.rest in
+      omega arith
+
   module _ (j w : ℕ) (inside : j < 8) (groups : Groups) (grouped : AreGroups segments version end end groups) (mode : Mode) (mode-is : mode ≡ bucket_mode j)
       (at : bucket_start j w ≡ slot (group_of mode groups) j) (small : w < 2 ^ 50)
       (headers : Headers) (heads : AreHeaders version headers) (rest cost : ℕ) (rest-is : rest ≡ bucket_rest j)
@@ -104,7 +126,7 @@ module _ (segments : List Segment) (version : Version) (end : ℕ) (within : end
     found-best =
         let here : slot (group_of (bucket_mode j) groups) j ≡ Some found =
         ap (λ m. slot (group_of m groups) j) (sym mode-is) ∙ (sym at ∙ some_start j w small) in
-        subst (IsBest segments version (bucket_mode j) (InBucket segments end end (bucket_mode j) j)) here ((group-right (bucket_mode j) groups grouped).1 j inside)
+        subst (IsBest segments version (bucket_mode j) (InBucket segments end end (bucket_mode j) j)) here ((group-right (bucket_mode j) groups grouped).1 j (has-own j inside))
 
     abbrev begin : ℕ
     begin = (segment_at segments found.start).begin
@@ -195,7 +217,7 @@ module _ (segments : List Segment) (version : Version) (end : ℕ) (within : end
   sought-nothing j w best best_mode mode groups before inside grouped mode-is at great =
       let nothing : slot (group_of (bucket_mode j) groups) j ≡ None = ap (λ m. slot (group_of m groups) j) (sym mode-is) ∙ (sym at ∙ no_start j w great) in
       let none : IsBest segments version (bucket_mode j) (InBucket segments end end (bucket_mode j) j) None =
-      subst (IsBest segments version (bucket_mode j) (InBucket segments end end (bucket_mode j) j)) nothing ((group-right (bucket_mode j) groups grouped).1 j inside) in
+      subst (IsBest segments version (bucket_mode j) (InBucket segments end end (bucket_mode j) j)) nothing ((group-right (bucket_mode j) groups grouped).1 j (has-own j inside)) in
       record {
         found = λ small. Tried-none segments version end within linear j (record { mode = best_mode; begin = (segment_at segments (start_told 0 best).start).begin; end = last_end }) (start_told 0 best) (before.found small) none;
         none = λ greater i t below v. elim (cases_eq i j) [

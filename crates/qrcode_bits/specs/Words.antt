@@ -14,7 +14,7 @@ use Rattle.qrcode_base.specs.declared.types.Mode.TheVariants.{Numeric, Alphanume
 use Rattle.qrcode_base.specs.Modes.{indicator_width, count_width}
 use Rattle.qrcode_bits.specs.Merging.{segment_at, IsStep}
 use Rattle.qrcode_bits.specs.Periods.{period_bits}
-use Rattle.qrcode_bits.specs.Buckets.{bucket_mode}
+use Rattle.qrcode_bits.specs.Buckets.{bucket_mode, HasBucket}
 
 -- The word of a start: fewer bits, then fewer parts, then a later start make it less.
 abbrev pub word_of : ℕ → ℕ → ℕ → ℕ
@@ -36,9 +36,9 @@ word_at words j = slice_index_or words j 0
 unfoldable pub starts_in : List ℕ → List (Option Candidate)
 starts_in words = map (λ j. bucket_start j (word_at words j)) (range_with_len 0 8)
 
--- The bucket has the lesser of its word and another one; the other buckets are as before.
-pub record IsOffered (bucket word : ℕ) (old new : List ℕ) : Type 0 where
-  pub lesser : word_at new bucket ≡ min (word_at old bucket) word
+-- Where the group needs the bucket, that has the lesser of its word and another one; the other buckets are as before.
+pub record IsOffered (mode : Mode) (bucket word : ℕ) (old new : List ℕ) : Type 0 where
+  pub lesser : HasBucket mode bucket → word_at new bucket ≡ min (word_at old bucket) word
   pub others : (j : ℕ) → j ≢ bucket → word_at new j ≡ word_at old j
 
 abbrev pub told : Words → Groups

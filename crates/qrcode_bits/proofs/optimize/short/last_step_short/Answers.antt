@@ -2,7 +2,7 @@
 use Rattle.std.proofs.Common.{◌≡◌, ℕ, ◌-◌, ◌*◌, arith, ap, subst}
 use Rattle.qrcode_bits.specs.Merging.{segment_at}
 use Rattle.qrcode_bits.specs.Words.{told}
-use Rattle.qrcode_bits.proofs.ShortSteps.{IsSought, cost-small, short-enough, sought-first, sought-keeps, sought-takes, sought-nothing, sought-last}
+use Rattle.qrcode_bits.proofs.ShortSteps.{IsSought, cost-small, short-rest, short-enough, sought-first, sought-keeps, sought-takes, sought-nothing, sought-last}
 use Rattle.qrcode_bits.proofs.optimize.short.last_step_short.Goals as goal
 use Rattle.qrcode_bits.proofs.optimize.short.last_step_short.Goals.{then-found+then-candidate-best, then-found+else-candidate-best, else-found}
 
@@ -12,6 +12,11 @@ loop-bucket-init g c = record {
   sought = sought-first c.args.segments.now c.args.version c.args.end c.requires.within c.requires.linear _;
   ticked = omega arith;
 }
+
+pub overflow_sub-last_end-then-found : goal.overflow_sub-last_end-then-found
+overflow_sub-last_end-then-found g c =
+    short-rest c.args.segments.now c.args.version c.args.end c.requires.within c.requires.linear c.loop-bucket.bucket c.best-found.result c.bucket_rest.result
+    (told c.args.words.now) c.bucket_mode-mode.result c.loop-bucket-test.true c.requires.words c.bucket_mode-mode.ensures c.best-found.ensures c.if-found.true c.bucket_rest.ensures
 
 pub with_cost-candidate-requires-clause-enough : goal.with_cost-candidate-requires-clause-enough
 with_cost-candidate-requires-clause-enough g c =
