@@ -1,6 +1,7 @@
 -- The last part of a chosen plan of short data, by words.
-use Rattle.std.proofs.Common.{◌≡◌, ℕ, ◌+◌, ◌-◌, ◌*◌, ◌/◌, ◌%◌, ◌^◌, ◌<◌, ◌≤◌, List, [], ◌∷◌, length, Some, refl, sym, ap, ◌∙◌, subst, arith, inl, inr}
-use Rattle.std.proofs.lemmas.Bool.{cases_lt}
+use Rattle.std.proofs.Common.{◌≡◌, ℕ, ◌+◌, ◌-◌, ◌*◌, ◌/◌, ◌%◌, ◌^◌, ◌<◌, ◌≤◌, List, [], ◌∷◌, ◌++◌, length, Some, None, refl, sym, ap, ◌∙◌, subst, arith, inl, inr}
+use Rattle.std.proofs.lemmas.List.{length_push, get_or_push, get_or_append_left}
+use Rattle.std.proofs.lemmas.Bool.{cases_lt, cases_eq}
 use Rattle.qrcode_base.specs.declared.types.Version.{Version}
 use Rattle.qrcode_base.specs.declared.types.Mode.{Mode}
 use Rattle.qrcode_base.specs.declared.types.Mode.TheVariants.{Numeric, Alphanumeric, Byte, Kanji}
@@ -10,13 +11,18 @@ use Rattle.qrcode_bits.specs.declared.optimize.Step.{Step}
 use Rattle.qrcode_bits.specs.declared.optimize.candidate.Candidate.{Candidate}
 use Rattle.qrcode_bits.specs.declared.optimize.groups.Groups.{Groups}
 use Rattle.qrcode_bits.specs.declared.optimize.short.Headers.{Headers}
+use Rattle.qrcode_bits.specs.declared.optimize.short.ShortStep.{ShortStep}
 use Rattle.qrcode_bits.specs.Plans.{IsNoWorse}
-use Rattle.qrcode_bits.specs.Merging.{segment_bits, segment_at, HasLinearCosts, IsStep}
+use Rattle.qrcode_bits.specs.Merging.{segment_bits, segment_at, part_bits, HasLinearCosts, IsStep}
+use Rattle.qrcode_bits.specs.PlanTable.{chosen_plan}
 use Rattle.qrcode_bits.specs.Periods.{period, period_bits}
 use Rattle.qrcode_bits.specs.Buckets.{bucket_mode, bucket_rest, part_mode, bits_before, parts_before, InBucket, IsBest, slot, AreGroups, group_of}
-use Rattle.qrcode_bits.specs.Words.{word_of, start_told, bucket_start, IsShort, AreHeaders, header_in}
-use Rattle.qrcode_bits.proofs.Ending.{data_bits-linear, group-right, IsTried, Tried-first, Tried-keeps, Tried-takes, Tried-nothing, cost-is}
-use Rattle.qrcode_bits.proofs.WordStarts.{word-ahead, word-told, some_start, no_start, more_in}
+use Rattle.qrcode_bits.specs.Words.{start_told, bucket_start, IsShort, AreHeaders, header_in, step_told, short_at, AreShortSteps}
+use Rattle.qrcode_bits.proofs.Ending.{data_bits-linear, bucket_of, bucket_of-is, group-right, IsTried, Tried-leads, Tried-keeps, Tried-takes, Tried-none, Tried-all, cost-is}
+use Rattle.qrcode_bits.proofs.Grouping.{has-own}
+use Rattle.qrcode_bits.proofs.Optimal.{IsGoodStart}
+use Rattle.qrcode_bits.proofs.ReadBack.{IsStep-none}
+use Rattle.qrcode_bits.proofs.WordStarts.{word-ahead, some_start, no_start, more_in}
 
 pub cost-small : (version : Version) (headers : Headers) (mode : Mode) (size cost : ℕ) → AreHeaders version headers → size < 8192 →
     cost ≡ header_in headers mode + data_bits mode (characters mode size) → cost < 2 ^ 18
@@ -45,20 +51,11 @@ step-small segments version headers end step heads short linear within h =
           omega (arith, h.bits)
     ]
 
--- at first, the last segment alone
-pub short-first : (segments : List Segment) (version : Version) (end : ℕ) (step : Step) (alone best : ℕ) → 0 < end → end ≤ length segments → end ≤ 8191 →
-    IsStep segments version (end - 1) step → alone ≡ segment_bits version (segment_at segments (end - 1)) → best ≡ word_of (step.bits + alone) (step.parts + 1) (end - 1) →
-    IsTried segments version end 0
-    (record { mode = (segment_at segments (end - 1)).mode; begin = (segment_at segments (start_told 0 best).start).begin; end = (segment_at segments (end - 1)).end }) (start_told 0 best)
-short-first segments version end step alone best some within short right counted is =
-    let last = segment_at segments (end - 1) in
-    let few = right.few in
-    let whole : step.bits + alone + 0 ≡ step.bits + alone = omega arith in
-    let told : start_told 0 best ≡ record { bits = step.bits + alone; parts = step.parts + 1; start = end - 1 } =
-    ap (start_told 0) is ∙ (word-told 0 (step.bits + alone) (step.parts + 1) (end - 1) (omega arith) (omega arith)
-    ∙ ap (λ (z : ℕ). record { bits = z; parts = step.parts + 1; start = end - 1 }) whole) in
-    subst (λ (c : Candidate). IsTried segments version end 0 (record { mode = last.mode; begin = (segment_at segments c.start).begin; end = last.end }) c) (sym told)
-    (Tried-first segments version end step alone some within right counted)
+rest-least : (mode : Mode) (b : ℕ) → b % period mode ≤ b
+rest-least Numeric b = omega arith
+rest-least Alphanumeric b = omega arith
+rest-least Byte b = omega arith
+rest-least Kanji b = omega arith
 
 -- what stands for whole periods is shifted away by the cost of a part from the rest on
 word-cost : (mode : Mode) (q cost head b r e before : ℕ) → b % period mode ≡ r → b ≤ e →
@@ -76,9 +73,47 @@ shifted-high w cost x cand h e = omega arith
 shifted-low : (w cost x cand : ℕ) → x ≤ w / 2 ^ 26 + cost → cand ≡ w + cost * 2 ^ 26 - x * 2 ^ 26 → cand % 2 ^ 26 ≡ w % 2 ^ 26
 shifted-low w cost x cand h e = omega arith
 
+-- The best start of the buckets so far, or none where these have no start.
+pub record IsSought (segments : List Segment) (version : Version) (end tried best : ℕ) (mode : Mode) : Type 0 where
+  pub found : best < 2 ^ 60 →
+      IsTried segments version end tried (record { mode = mode; begin = (segment_at segments (start_told 0 best).start).begin; end = (segment_at segments (end - 1)).end }) (start_told 0 best)
+  pub none : 2 ^ 60 ≤ best → (i t : ℕ) → i < tried → InBucket segments end end (bucket_mode i) i t → ⊥
+
 module _ (segments : List Segment) (version : Version) (end : ℕ) (within : end ≤ length segments) (linear : HasLinearCosts segments version) where
   abbrev last_end : ℕ
   last_end = (segment_at segments (end - 1)).end
+
+  pub sought-first : (mode : Mode) → IsSought segments version end 0 18446744073709551615 mode
+  sought-first mode = record { found = λ small. absurd (omega arith); none = λ great i t below. absurd (omega arith) }
+
+  -- some start was found in the end
+  pub sought-last : (best : ℕ) (mode : Mode) → 0 < end → IsSought segments version end 8 best mode → IsStep segments version end (step_told segments end (record { word = best; mode = mode }))
+  sought-last best mode some h = elim (cases_lt best (2 ^ 60)) [
+    | inl small ↦ Tried-all segments version end within linear (record { mode = mode; begin = (segment_at segments (start_told 0 best).start).begin; end = last_end }) (start_told 0 best) some (h.found small)
+    | inr great ↦
+        let m = part_mode segments 0 end in
+        let place = bucket_of-is m (segment_at segments 0).begin in
+        absurd (h.none great (bucket_of m (segment_at segments 0).begin) 0 place.0 (record {
+          below = some;
+          suffix = sym place.1;
+          rest = ap (λ x. (segment_at segments 0).begin % period x) place.1 ∙ sym place.2;
+        }))
+  ]
+
+  -- the rest of a bucket with a start is no more than the end
+  pub short-rest : (j w rest : ℕ) (groups : Groups) (mode : Mode) → j < 8 → AreGroups segments version end end groups → mode ≡ bucket_mode j →
+      bucket_start j w ≡ slot (group_of mode groups) j → w < 2 ^ 50 → rest ≡ bucket_rest j → rest ≤ last_end
+  short-rest j w rest groups mode inside grouped mode-is at small is =
+      let here : slot (group_of (bucket_mode j) groups) j ≡ Some (start_told (more_in j) w) =
+      ap (λ m. slot (group_of m groups) j) (sym mode-is) ∙ (sym at ∙ some_start j w small) in
+      let best : IsBest segments version (bucket_mode j) (InBucket segments end end (bucket_mode j) j) (Some (start_told (more_in j) w)) =
+      subst (IsBest segments version (bucket_mode j) (InBucket segments end end (bucket_mode j) j)) here ((group-right (bucket_mode j) groups grouped).1 j (has-own j inside)) in
+      let s = (start_told (more_in j) w).start in
+      let below = best.0.below in
+      let order = linear.ordered s (end - 1) (omega arith) (omega arith) in
+      let least = rest-least (bucket_mode j) (segment_at segments s).begin in
+      let rest' = best.0.rest in
+      omega arith
 
   module _ (j w : ℕ) (inside : j < 8) (groups : Groups) (grouped : AreGroups segments version end end groups) (mode : Mode) (mode-is : mode ≡ bucket_mode j)
       (at : bucket_start j w ≡ slot (group_of mode groups) j) (small : w < 2 ^ 50)
@@ -91,7 +126,7 @@ module _ (segments : List Segment) (version : Version) (end : ℕ) (within : end
     found-best =
         let here : slot (group_of (bucket_mode j) groups) j ≡ Some found =
         ap (λ m. slot (group_of m groups) j) (sym mode-is) ∙ (sym at ∙ some_start j w small) in
-        subst (IsBest segments version (bucket_mode j) (InBucket segments end end (bucket_mode j) j)) here ((group-right (bucket_mode j) groups grouped).1 j inside)
+        subst (IsBest segments version (bucket_mode j) (InBucket segments end end (bucket_mode j) j)) here ((group-right (bucket_mode j) groups grouped).1 j (has-own j inside))
 
     abbrev begin : ℕ
     begin = (segment_at segments found.start).begin
@@ -114,8 +149,7 @@ module _ (segments : List Segment) (version : Version) (end : ℕ) (within : end
     pub short-enough : (periods : ℕ) → periods ≡ 8192 * period_bits mode → periods ≤ w / 2 ^ 26 + cost
     short-enough periods is = let b = both.0 in let e : periods ≡ 8192 * period_bits (bucket_mode j) = is ∙ ap (λ m. 8192 * period_bits m) mode-is in omega arith
 
-    module _ (periods cand : ℕ) (periods-is : periods ≡ 8192 * period_bits mode) (cand-is : cand ≡ w + cost * 2 ^ 26 - periods * 2 ^ 26)
-        (best_part : Segment) (best : ℕ) (before : IsTried segments version end j best_part (start_told 0 best)) where
+    module _ (periods cand : ℕ) (periods-is : periods ≡ 8192 * period_bits mode) (cand-is : cand ≡ w + cost * 2 ^ 26 - periods * 2 ^ 26) (dear : cost < 2 ^ 18) where
       high : cand / 2 ^ 26 ≡ bits_before segments version found.start + (head + data_bits (bucket_mode j) (characters (bucket_mode j) (last_end - begin)))
       high =
           let e : periods ≡ 8192 * period_bits (bucket_mode j) = periods-is ∙ ap (λ m. 8192 * period_bits m) mode-is in
@@ -139,17 +173,87 @@ module _ (segments : List Segment) (version : Version) (end : ℕ) (within : end
       numbered : cand % 2 ^ 26 / 2 ^ 13 ≡ parts_before segments version found.start + 1
       numbered = ap (λ (x : ℕ). x / 2 ^ 13) low ∙ found-best.1.parts
 
-      pub short-keeps : best ≤ cand → IsTried segments version end (j + 1) best_part (start_told 0 best)
-      short-keeps h = Tried-keeps segments version end within linear j best_part (start_told 0 best) found before found-best here (cand / 2 ^ 26 + 0) (cand % 2 ^ 26 / 2 ^ 13) whole-is counted numbered
-          (subst (λ (s : ℕ). IsNoWorse (start_told 0 best).bits (start_told 0 best).parts (start_told 0 best).start (cand / 2 ^ 26 + 0) (cand % 2 ^ 26 / 2 ^ 13) s) (sym start-is) (word-ahead 0 best cand h))
+      small-here : cand < 2 ^ 60
+      small-here = omega arith
 
-      pub short-takes : cand ≤ best → IsTried segments version end (j + 1) (record { mode = mode; begin = (segment_at segments (start_told 0 cand).start).begin; end = last_end }) (start_told 0 cand)
-      short-takes h =
-          subst (λ (s : ℕ). IsTried segments version end (j + 1) (record { mode = mode; begin = (segment_at segments s).begin; end = last_end }) (record { bits = cand / 2 ^ 26 + 0; parts = cand % 2 ^ 26 / 2 ^ 13; start = s })) start-is
-          (Tried-takes segments version end within linear j best_part (start_told 0 best) found before found-best here (cand / 2 ^ 26 + 0) (cand % 2 ^ 26 / 2 ^ 13) whole-is counted numbered
-          (subst (λ (s : ℕ). IsNoWorse (cand / 2 ^ 26 + 0) (cand % 2 ^ 26 / 2 ^ 13) s (start_told 0 best).bits (start_told 0 best).parts (start_told 0 best).start) (sym start-is) (word-ahead 0 cand best h)))
+      abbrev part_here : ℕ → Segment
+      part_here s = record { mode = mode; begin = (segment_at segments s).begin; end = last_end }
 
-  pub short-nothing : (j w : ℕ) (best_part : Segment) (best : Candidate) (groups : Groups) (mode : Mode) → IsTried segments version end j best_part best → j < 8 →
-      AreGroups segments version end end groups → mode ≡ bucket_mode j → bucket_start j w ≡ slot (group_of mode groups) j → 2 ^ 50 ≤ w → IsTried segments version end (j + 1) best_part best
-  short-nothing j w best_part best groups mode before inside grouped mode-is at great =
-      Tried-nothing segments version end within linear j best_part best groups mode before inside grouped mode-is (sym (no_start j w great) ∙ at)
+      leads-here : ((i t : ℕ) → i < j → InBucket segments end end (bucket_mode i) i t → IsGoodStart (part_bits segments version) end (chosen_plan (part_bits segments version)) found.start t) →
+          IsTried segments version end (j + 1) (part_here (start_told 0 cand).start) (start_told 0 cand)
+      leads-here leads =
+          subst (λ (s : ℕ). IsTried segments version end (j + 1) (part_here s) (record { bits = cand / 2 ^ 26 + 0; parts = cand % 2 ^ 26 / 2 ^ 13; start = s })) start-is
+          (Tried-leads segments version end within linear j found found-best here (cand / 2 ^ 26 + 0) (cand % 2 ^ 26 / 2 ^ 13) whole-is counted numbered leads)
+
+      module _ (best : ℕ) (best_mode : Mode) (before : IsSought segments version end j best best_mode) where
+        abbrev best_part : Segment
+        best_part = record { mode = best_mode; begin = (segment_at segments (start_told 0 best).start).begin; end = last_end }
+
+        pub sought-keeps : best ≤ cand → IsSought segments version end (j + 1) best best_mode
+        sought-keeps h = record {
+          found = λ small. Tried-keeps segments version end within linear j found found-best here (cand / 2 ^ 26 + 0) (cand % 2 ^ 26 / 2 ^ 13) whole-is counted numbered best_part (start_told 0 best) (before.found small)
+              (subst (λ (s : ℕ). IsNoWorse (start_told 0 best).bits (start_told 0 best).parts (start_told 0 best).start (cand / 2 ^ 26 + 0) (cand % 2 ^ 26 / 2 ^ 13) s) (sym start-is) (word-ahead 0 best cand h));
+          none = λ great. absurd (let s = small-here in omega arith);
+        }
+
+        takes-some : cand ≤ best → best < 2 ^ 60 → IsTried segments version end (j + 1) (part_here (start_told 0 cand).start) (start_told 0 cand)
+        takes-some h small =
+            subst (λ (s : ℕ). IsTried segments version end (j + 1) (part_here s) (record { bits = cand / 2 ^ 26 + 0; parts = cand % 2 ^ 26 / 2 ^ 13; start = s })) start-is
+            (Tried-takes segments version end within linear j found found-best here (cand / 2 ^ 26 + 0) (cand % 2 ^ 26 / 2 ^ 13) whole-is counted numbered best_part (start_told 0 best) (before.found small)
+            (subst (λ (s : ℕ). IsNoWorse (cand / 2 ^ 26 + 0) (cand % 2 ^ 26 / 2 ^ 13) s (start_told 0 best).bits (start_told 0 best).parts (start_told 0 best).start) (sym start-is) (word-ahead 0 cand best h)))
+
+        pub sought-takes : cand ≤ best → IsSought segments version end (j + 1) cand mode
+        sought-takes h = record {
+          found = λ _. elim (cases_lt best (2 ^ 60)) [
+            | inl small ↦ takes-some h small
+            | inr great ↦ leads-here (λ i t below w. absurd (before.none great i t below w))
+          ];
+          none = λ great. absurd (let s = small-here in omega arith);
+        }
+
+  -- a bucket with no start
+  pub sought-nothing : (j w best : ℕ) (best_mode mode : Mode) (groups : Groups) → IsSought segments version end j best best_mode → j < 8 → AreGroups segments version end end groups → mode ≡ bucket_mode j →
+      bucket_start j w ≡ slot (group_of mode groups) j → 2 ^ 50 ≤ w → IsSought segments version end (j + 1) best best_mode
+  sought-nothing j w best best_mode mode groups before inside grouped mode-is at great =
+      let nothing : slot (group_of (bucket_mode j) groups) j ≡ None = ap (λ m. slot (group_of m groups) j) (sym mode-is) ∙ (sym at ∙ no_start j w great) in
+      let none : IsBest segments version (bucket_mode j) (InBucket segments end end (bucket_mode j) j) None =
+      subst (IsBest segments version (bucket_mode j) (InBucket segments end end (bucket_mode j) j)) nothing ((group-right (bucket_mode j) groups grouped).1 j (has-own j inside)) in
+      record {
+        found = λ small. Tried-none segments version end within linear j (record { mode = best_mode; begin = (segment_at segments (start_told 0 best).start).begin; end = last_end }) (start_told 0 best) (before.found small) none;
+        none = λ greater i t below v. elim (cases_eq i j) [
+          | inl e ↦ none t (subst (λ x. InBucket segments end end (bucket_mode x) x t) e v)
+          | inr ne ↦ before.none greater i t (omega arith) v
+        ];
+      }
+
+-- ---- Steps
+
+pub AreShortSteps-push : (segments : List Segment) (version : Version) (steps next : List ShortStep) (step : ShortStep) (k : ℕ) → length steps ≡ k + 1 → AreShortSteps segments version steps →
+    IsStep segments version (k + 1) (step_told segments (k + 1) step) → next ≡ steps ++ step ∷ [] →
+    (length next ≡ k + 1 + 1) × AreShortSteps segments version next × (step ≡ short_at next (k + 1))
+AreShortSteps-push segments version steps next step k long before right is =
+    let last : step ≡ short_at next (k + 1) = sym (ap (λ xs. short_at xs (k + 1)) is ∙ get_or_push steps step (short_at [] 0) (k + 1) long) in
+    let size : length next ≡ k + 1 + 1 = ap length is ∙ (let p = length_push steps step in omega arith) in (
+      size,
+      λ end h. elim (cases_lt end (k + 1)) [
+        | inl below ↦ subst (λ x. IsStep segments version end (step_told segments end x))
+            (sym (ap (λ xs. short_at xs end) is ∙ get_or_append_left steps (step ∷ []) (short_at [] 0) end (omega arith))) (before end (omega arith))
+        | inr above ↦
+            let e : k + 1 ≡ end = omega arith in
+            subst (λ x. IsStep segments version x (step_told segments x (short_at next x))) e (subst (λ x. IsStep segments version (k + 1) (step_told segments (k + 1) x)) last right)
+      ],
+      last,
+    )
+
+pub AreShortSteps-start : (segments : List Segment) (version : Version) (none steps : List ShortStep) (step : ShortStep) → none ≡ [] → step.word ≡ 8191 → steps ≡ none ++ step ∷ [] →
+    (length steps ≡ 1) × AreShortSteps segments version steps × (step ≡ short_at steps 0)
+AreShortSteps-start segments version none steps step empty word is =
+    let all : steps ≡ step ∷ [] = is ∙ ap (λ xs. xs ++ step ∷ []) empty in
+    let first : IsStep segments version 0 (step_told segments 0 step) =
+    subst (λ w. IsStep segments version 0 (step_told segments 0 (record { word = w; mode = step.mode }))) (sym word)
+    (IsStep-none segments version (record { mode = step.mode; begin = (segment_at segments 0).begin; end = (segment_at segments 0).end })) in (
+      ap length all,
+      λ end h. (let e : 0 ≡ end = (let one = ap length all in omega arith) in
+          subst (λ x. IsStep segments version x (step_told segments x (short_at steps x))) e (subst (λ xs. IsStep segments version 0 (step_told segments 0 (short_at xs 0))) (sym all) first)),
+      sym (ap (λ xs. short_at xs 0) all),
+    )

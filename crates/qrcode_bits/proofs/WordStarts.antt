@@ -9,7 +9,8 @@ use Rattle.qrcode_base.specs.declared.types.Mode.TheVariants.{Numeric, Alphanume
 use Rattle.qrcode_bits.specs.declared.optimize.candidate.Candidate.{Candidate}
 use Rattle.qrcode_bits.specs.Plans.{IsNoWorse}
 use Rattle.qrcode_bits.specs.Periods.{period, period_bits}
-use Rattle.qrcode_bits.specs.Buckets.{bucket_mode, bucket_rest, slot, IsBetterOf, Absorbs, IsEmptyGroup, key_of, Enters}
+use Rattle.qrcode_bits.specs.Buckets.{bucket_mode, bucket_rest, slot, IsBetterOf, HasBucket, Absorbs, IsEmptyGroup, key_of, Enters}
+use Rattle.qrcode_bits.proofs.Grouping.{has-inside}
 use Rattle.qrcode_bits.specs.Words.{word_of, start_told, bucket_start, word_at, starts_in, IsOffered, AreNone, IsWhole}
 
 pub word-ahead : (more a b : ℕ) → a ≤ b →
@@ -79,39 +80,51 @@ pub length-starts_in : (words : List ℕ) → length (starts_in words) ≡ 8
 unfolding starts_in
 length-starts_in words = length-map-range_with_len (λ (i : ℕ). bucket_start i (word_at words i)) 0 8
 
-pub absorbs : (a b c : List ℕ) → ((k : ℕ) → k < 8 → word_at c k ≡ min (word_at a k) (word_at b k)) →
-    Absorbs (starts_in a) (starts_in b) (starts_in c)
-absorbs a b c least = (
+pub absorbs : (first : ℕ) (a b c : List ℕ) → ((k : ℕ) → first ≤ k → k < 6 → word_at c k ≡ min (word_at a k) (word_at b k)) →
+    Absorbs first (starts_in a) (starts_in b) (starts_in c)
+absorbs first a b c least = (
   length-starts_in c,
-  λ j inside. rw (slot-starts_in a j inside, slot-starts_in b j inside, slot-starts_in c j inside, least j inside) (bucket_start-min j (word_at a j) (word_at b j)),
+  λ j from inside. rw (slot-starts_in a j (omega arith), slot-starts_in b j (omega arith), slot-starts_in c j (omega arith), least j from inside) (bucket_start-min j (word_at a j) (word_at b j)),
 )
 
 -- no start is better than one that there is none of
-pub absorbs_none : (a b : List ℕ) → AreNone b → Absorbs (starts_in a) (starts_in b) (starts_in a)
-absorbs_none a b none = (
+pub absorbs_none : (first : ℕ) (a b : List ℕ) → AreNone b → Absorbs first (starts_in a) (starts_in b) (starts_in a)
+absorbs_none first a b none = (
   length-starts_in a,
-  λ j inside. rw (slot-starts_in a j inside, slot-starts_in b j inside) (better-none (bucket_start j (word_at a j)) (bucket_start j (word_at b j)) (bucket_start j (word_at a j)) (no_start j (word_at b j) (none j inside)) refl),
+  λ j from inside. rw (slot-starts_in a j (omega arith), slot-starts_in b j (omega arith)) (better-none (bucket_start j (word_at a j)) (bucket_start j (word_at b j)) (bucket_start j (word_at a j)) (no_start j (word_at b j) (none j (omega arith))) refl),
 )
 
 pub empties : (words : List ℕ) → AreNone words → IsEmptyGroup (starts_in words)
 empties words all = (length-starts_in words, λ j inside. slot-starts_in words j inside ∙ no_start j (word_at words j) (all j inside))
 
 -- what holds no start after an absorption held none before
-pub whole-absorbed : (a b c : List ℕ) → IsWhole a → IsWhole b → length c ≡ 8 → ((k : ℕ) → k < 8 → word_at c k ≡ min (word_at a k) (word_at b k)) → IsWhole c
-whole-absorbed a b c first second long least = record {
+pub whole-absorbed : (first : ℕ) (a b c : List ℕ) → first ≤ 5 → IsWhole a → IsWhole b → length c ≡ 8 → ((k : ℕ) → first ≤ k → k < 6 → word_at c k ≡ min (word_at a k) (word_at b k)) →
+    ((k : ℕ) → k < first → word_at c k ≡ word_at a k) → ((k : ℕ) → 6 ≤ k → word_at c k ≡ word_at a k) → IsWhole c
+whole-absorbed first a b c early one two long least below above = record {
   long = long;
   empty = λ great k inside.
-      let five = least 5 (omega arith) in
-      let one = first.empty (omega arith) k inside in
-      let two = second.empty (omega arith) k inside in
-      let here = least k inside in
-      omega arith;
+      let five = least 5 (omega arith) (omega arith) in
+      let here = one.empty (omega arith) k inside in
+      let there = two.empty (omega arith) k inside in
+      elim (cases_lt k first) [
+        | inl less ↦ let same = below k less in omega arith
+        | inr more ↦ elim (cases_lt k 6) [
+          | inl less ↦ let same = least k more less in omega arith
+          | inr past ↦ let same = above k past in omega arith
+        ]
+      ];
 }
 
 -- ---- A start enters
 
-offered-there : (j bucket word : ℕ) (old new : List ℕ) → j < 8 → IsOffered bucket word old new → j ≡ bucket → word_at new j ≡ min (word_at old j) word
-offered-there j bucket word old new inside h e = ap (word_at new) e ∙ (h.lesser ∙ ap (λ (k : ℕ). min (word_at old k) word) (sym e))
+has-single : (mode : Mode) → HasBucket mode 5
+has-single Numeric = omega arith
+has-single Alphanumeric = (omega arith, omega arith)
+has-single Byte = refl
+has-single Kanji = (omega arith, omega arith)
+
+offered-there : (mode : Mode) (j bucket word : ℕ) (old new : List ℕ) → HasBucket mode j → IsOffered mode bucket word old new → j ≡ bucket → word_at new j ≡ min (word_at old j) word
+offered-there mode j bucket word old new has h e = ap (word_at new) e ∙ (h.lesser (subst (HasBucket mode) e has) ∙ ap (λ (k : ℕ). min (word_at old k) word) (sym e))
 
 candidate-is : (b p s b' p' s' : ℕ) → b ≡ b' → p ≡ p' → s ≡ s' →
     ◌≡◌ {A = Candidate} (record { bits = b; parts = p; start = s }) (record { bits = b'; parts = p'; start = s' })
@@ -162,8 +175,8 @@ module _ (begin bits parts start : ℕ) (low : begin < 8192) (few : bits < 2 ^ 1
       told-key j bits (13 * (8192 - begin / 2)) parts start (13 * (2 ^ 64 - begin / 2)) (13 * (2 ^ 64 - 2 ^ 13))
       (ap (λ (m : Mode). period_bits m * (2 ^ 64 - 2 ^ 13)) is) (omega arith) short early (omega arith)
 
-  module _ (old one two three new : List ℕ) (first : IsOffered (begin % 3) thirds old one) (second : IsOffered (3 + begin % 2) pairs one two)
-      (third : IsOffered 5 singles two three) (fourth : IsOffered (6 + begin % 2) characters three new) where
+  module _ (mode : Mode) (old one two three new : List ℕ) (first : IsOffered mode (begin % 3) thirds old one) (second : IsOffered mode (3 + begin % 2) pairs one two)
+      (third : IsOffered mode 5 singles two three) (fourth : IsOffered mode (6 + begin % 2) characters three new) where
     -- the lesser word in a bucket is the better start
     better-at : (j word : ℕ) (key : Candidate) → j < 8 → word_at new j ≡ min (word_at old j) word → bucket_start j word ≡ Some key →
         IsBetterOf (slot (starts_in old) j) (Some key) (slot (starts_in new) j)
@@ -173,45 +186,45 @@ module _ (begin bits parts start : ℕ) (low : begin < 8192) (few : bits < 2 ^ 1
     same-at : (j : ℕ) → j < 8 → word_at new j ≡ word_at old j → slot (starts_in new) j ≡ slot (starts_in old) j
     same-at j inside same = slot-starts_in new j inside ∙ (ap (bucket_start j) same ∙ sym (slot-starts_in old j inside))
 
-    at-third : (j : ℕ) → j < 3 → begin % 3 ≡ j → word_at new j ≡ min (word_at old j) thirds
-    at-third j b e = fourth.others j (λ w. omega arith) ∙ (third.others j (λ w. omega arith) ∙ (second.others j (λ w. omega arith)
-        ∙ offered-there j (begin % 3) thirds old one (omega arith) first (sym e)))
+    at-third : (j : ℕ) → HasBucket mode j → j < 3 → begin % 3 ≡ j → word_at new j ≡ min (word_at old j) thirds
+    at-third j has b e = fourth.others j (λ w. omega arith) ∙ (third.others j (λ w. omega arith) ∙ (second.others j (λ w. omega arith)
+        ∙ offered-there mode j (begin % 3) thirds old one has first (sym e)))
 
     past-third : (j : ℕ) → j < 3 → (begin % 3 ≡ j → ⊥) → word_at new j ≡ word_at old j
     past-third j b ne = fourth.others j (λ w. omega arith) ∙ (third.others j (λ w. omega arith) ∙ (second.others j (λ w. omega arith)
         ∙ first.others j (λ w. ne (sym w))))
 
-    at-pair : (r : ℕ) → r < 2 → begin % 2 ≡ r → word_at new (3 + r) ≡ min (word_at old (3 + r)) pairs
-    at-pair r b e = fourth.others (3 + r) (λ w. omega arith) ∙ (third.others (3 + r) (λ w. omega arith)
-        ∙ (offered-there (3 + r) (3 + begin % 2) pairs one two (omega arith) second (omega arith)
+    at-pair : (r : ℕ) → HasBucket mode (3 + r) → r < 2 → begin % 2 ≡ r → word_at new (3 + r) ≡ min (word_at old (3 + r)) pairs
+    at-pair r has b e = fourth.others (3 + r) (λ w. omega arith) ∙ (third.others (3 + r) (λ w. omega arith)
+        ∙ (offered-there mode (3 + r) (3 + begin % 2) pairs one two has second (omega arith)
         ∙ ap (λ (z : ℕ). min z pairs) (first.others (3 + r) (λ w. omega arith))))
 
     past-pair : (r : ℕ) → r < 2 → (begin % 2 ≡ r → ⊥) → word_at new (3 + r) ≡ word_at old (3 + r)
     past-pair r b ne = fourth.others (3 + r) (λ w. omega arith) ∙ (third.others (3 + r) (λ w. omega arith)
         ∙ (second.others (3 + r) (λ w. ne (omega arith)) ∙ first.others (3 + r) (λ w. omega arith)))
 
-    at-single : word_at new 5 ≡ min (word_at old 5) singles
-    at-single = fourth.others 5 (λ w. omega arith) ∙ (third.lesser ∙ ap (λ (z : ℕ). min z singles) (second.others 5 (λ w. omega arith) ∙ first.others 5 (λ w. omega arith)))
+    at-single : HasBucket mode 5 → word_at new 5 ≡ min (word_at old 5) singles
+    at-single has = fourth.others 5 (λ w. omega arith) ∙ (third.lesser has ∙ ap (λ (z : ℕ). min z singles) (second.others 5 (λ w. omega arith) ∙ first.others 5 (λ w. omega arith)))
 
-    at-character : (r : ℕ) → r < 2 → begin % 2 ≡ r → word_at new (6 + r) ≡ min (word_at old (6 + r)) characters
-    at-character r b e = offered-there (6 + r) (6 + begin % 2) characters three new (omega arith) fourth (omega arith)
+    at-character : (r : ℕ) → HasBucket mode (6 + r) → r < 2 → begin % 2 ≡ r → word_at new (6 + r) ≡ min (word_at old (6 + r)) characters
+    at-character r has b e = offered-there mode (6 + r) (6 + begin % 2) characters three new has fourth (omega arith)
         ∙ ap (λ (z : ℕ). min z characters) (third.others (6 + r) (λ w. omega arith) ∙ (second.others (6 + r) (λ w. omega arith) ∙ first.others (6 + r) (λ w. omega arith)))
 
     past-character : (r : ℕ) → r < 2 → (begin % 2 ≡ r → ⊥) → word_at new (6 + r) ≡ word_at old (6 + r)
     past-character r b ne = fourth.others (6 + r) (λ w. ne (omega arith)) ∙ (third.others (6 + r) (λ w. omega arith)
         ∙ (second.others (6 + r) (λ w. omega arith) ∙ first.others (6 + r) (λ w. omega arith)))
 
-    entered : (j : ℕ) → j < 8 → begin % period (bucket_mode j) ≡ bucket_rest j →
+    entered : (j : ℕ) → HasBucket mode j → j < 8 → begin % period (bucket_mode j) ≡ bucket_rest j →
         IsBetterOf (slot (starts_in old) j) (Some (key_of (bucket_mode j) begin bits parts start)) (slot (starts_in new) j)
-    entered zero inside e = better-at 0 thirds _ inside (at-third 0 (omega arith) e) (thirds-key 0 refl)
-    entered (suc zero) inside e = better-at 1 thirds _ inside (at-third 1 (omega arith) e) (thirds-key 1 refl)
-    entered (suc (suc zero)) inside e = better-at 2 thirds _ inside (at-third 2 (omega arith) e) (thirds-key 2 refl)
-    entered (suc (suc (suc zero))) inside e = better-at 3 pairs _ inside (at-pair 0 (omega arith) e) (pairs-key 3 refl)
-    entered (suc (suc (suc (suc zero)))) inside e = better-at 4 pairs _ inside (at-pair 1 (omega arith) e) (pairs-key 4 refl)
-    entered (suc (suc (suc (suc (suc zero))))) inside e = better-at 5 singles _ inside at-single (singles-key 5 refl)
-    entered (suc (suc (suc (suc (suc (suc zero)))))) inside e = better-at 6 characters _ inside (at-character 0 (omega arith) e) (characters-key 6 refl)
-    entered (suc (suc (suc (suc (suc (suc (suc zero))))))) inside e = better-at 7 characters _ inside (at-character 1 (omega arith) e) (characters-key 7 refl)
-    entered (suc (suc (suc (suc (suc (suc (suc (suc j)))))))) inside e = absurd (omega arith)
+    entered zero has inside e = better-at 0 thirds _ inside (at-third 0 has (omega arith) e) (thirds-key 0 refl)
+    entered (suc zero) has inside e = better-at 1 thirds _ inside (at-third 1 has (omega arith) e) (thirds-key 1 refl)
+    entered (suc (suc zero)) has inside e = better-at 2 thirds _ inside (at-third 2 has (omega arith) e) (thirds-key 2 refl)
+    entered (suc (suc (suc zero))) has inside e = better-at 3 pairs _ inside (at-pair 0 has (omega arith) e) (pairs-key 3 refl)
+    entered (suc (suc (suc (suc zero)))) has inside e = better-at 4 pairs _ inside (at-pair 1 has (omega arith) e) (pairs-key 4 refl)
+    entered (suc (suc (suc (suc (suc zero))))) has inside e = better-at 5 singles _ inside (at-single has) (singles-key 5 refl)
+    entered (suc (suc (suc (suc (suc (suc zero)))))) has inside e = better-at 6 characters _ inside (at-character 0 has (omega arith) e) (characters-key 6 refl)
+    entered (suc (suc (suc (suc (suc (suc (suc zero))))))) has inside e = better-at 7 characters _ inside (at-character 1 has (omega arith) e) (characters-key 7 refl)
+    entered (suc (suc (suc (suc (suc (suc (suc (suc j)))))))) has inside e = absurd (omega arith)
 
     kept : (j : ℕ) → j < 8 → (begin % period (bucket_mode j) ≡ bucket_rest j → ⊥) → slot (starts_in new) j ≡ slot (starts_in old) j
     kept zero inside ne = same-at 0 inside (past-third 0 (omega arith) ne)
@@ -226,7 +239,7 @@ module _ (begin bits parts start : ℕ) (low : begin < 8192) (few : bits < 2 ^ 1
 
     -- the bucket of Byte has a start
     pub still_whole : length new ≡ 8 → IsWhole new
-    still_whole long = record { long = long; empty = λ great k inside. absurd (let least = at-single in omega arith) }
+    still_whole long = let has-byte = has-single mode in record { long = long; empty = λ great k inside. absurd (let least = at-single has-byte in omega arith) }
 
-    pub enters : Enters begin bits parts start (starts_in old) (starts_in new)
-    enters = (length-starts_in new, entered, kept)
+    pub enters : Enters mode begin bits parts start (starts_in old) (starts_in new)
+    enters = (length-starts_in new, λ j has. entered j has (has-inside mode j has), λ j has. kept j (has-inside mode j has))

@@ -5,14 +5,16 @@ use Rattle.qrcode_bits.specs.declared.optimize.candidate.Candidate.{Candidate}
 use Rattle.qrcode_bits.specs.declared.optimize.groups.Groups.{Groups}
 use Rattle.qrcode_bits.specs.declared.optimize.words.Words.{Words}
 use Rattle.qrcode_bits.specs.declared.optimize.short.Headers.{Headers}
+use Rattle.qrcode_bits.specs.declared.optimize.short.ShortStep.{ShortStep}
 use Rattle.qrcode_bits.specs.declared.optimize.Segment.{Segment}
+use Rattle.qrcode_bits.specs.declared.optimize.Step.{Step}
 use Rattle.qrcode_base.specs.declared.types.Version.{Version}
 use Rattle.qrcode_base.specs.declared.types.Mode.{Mode}
 use Rattle.qrcode_base.specs.declared.types.Mode.TheVariants.{Numeric, Alphanumeric, Byte, Kanji}
 use Rattle.qrcode_base.specs.Modes.{indicator_width, count_width}
-use Rattle.qrcode_bits.specs.Merging.{segment_at}
+use Rattle.qrcode_bits.specs.Merging.{segment_at, IsStep}
 use Rattle.qrcode_bits.specs.Periods.{period_bits}
-use Rattle.qrcode_bits.specs.Buckets.{bucket_mode}
+use Rattle.qrcode_bits.specs.Buckets.{bucket_mode, HasBucket}
 
 -- The word of a start: fewer bits, then fewer parts, then a later start make it less.
 abbrev pub word_of : ℕ → ℕ → ℕ → ℕ
@@ -34,9 +36,9 @@ word_at words j = slice_index_or words j 0
 unfoldable pub starts_in : List ℕ → List (Option Candidate)
 starts_in words = map (λ j. bucket_start j (word_at words j)) (range_with_len 0 8)
 
--- The bucket has the lesser of its word and another one; the other buckets are as before.
-pub record IsOffered (bucket word : ℕ) (old new : List ℕ) : Type 0 where
-  pub lesser : word_at new bucket ≡ min (word_at old bucket) word
+-- Where the group needs the bucket, that has the lesser of its word and another one; the other buckets are as before.
+pub record IsOffered (mode : Mode) (bucket word : ℕ) (old new : List ℕ) : Type 0 where
+  pub lesser : HasBucket mode bucket → word_at new bucket ≡ min (word_at old bucket) word
   pub others : (j : ℕ) → j ≢ bucket → word_at new j ≡ word_at old j
 
 abbrev pub told : Words → Groups
@@ -77,3 +79,21 @@ header_in headers Kanji = headers.kanji
 pub record AreHeaders (version : Version) (headers : Headers) : Type 0 where
   pub are : (mode : Mode) → header_in headers mode ≡ indicator_width version + count_width version mode
   pub small : (mode : Mode) → indicator_width version + count_width version mode < 2 ^ 16
+
+-- what is kept of a plan of the first `end` segments, by the word of its last part's start and that part's mode
+abbrev pub step_told : List Segment → ℕ → ShortStep → Step
+step_told segments end step =
+    let told = start_told 0 step.word in
+    let last : Segment = record {
+      mode = step.mode;
+      begin = (segment_at segments told.start).begin;
+      end = (segment_at segments (end - 1)).end;
+    } in
+    record { bits = told.bits; parts = told.parts; start = told.start; part = last }
+
+abbrev pub short_at : List ShortStep → ℕ → ShortStep
+short_at steps i = slice_index_or steps i (record { word = 0; mode = Numeric })
+
+abbrev pub AreShortSteps : List Segment → Version → List ShortStep → Type 0
+AreShortSteps segments version steps =
+    (end : ℕ) → end < length steps → IsStep segments version end (step_told segments end (short_at steps end))

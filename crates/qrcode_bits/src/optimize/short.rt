@@ -1,17 +1,17 @@
 //! The chosen plan of short data, in one pass over the segments with a word for each start.
 
-ghost use Rattle.std.specs.Prelude.{◌≡◌, ◌+◌, ◌*◌, ◌-◌, ◌/◌, ◌^◌, ◌<◌, ◌≤◌, length, IfOk, IfErr};
+ghost use Rattle.std.specs.Prelude.{◌≡◌, ◌+◌, ◌*◌, ◌-◌, ◌/◌, ◌%◌, ◌^◌, ◌<◌, ◌≤◌, length, IfOk, IfErr};
 ghost use Rattle.std.specs.Bool.{OnTrue};
 ghost use Rattle.qrcode_base.specs.Versions.{HasMicroNumber};
 ghost use Rattle.qrcode_base.specs.Modes.{indicator_width, count_width, data_bits, characters};
-ghost use Rattle.qrcode_bits.specs.Merging.{HasLinearCosts, IsChosenPlan, IsStep, AreSteps};
+ghost use Rattle.qrcode_bits.specs.Merging.{HasLinearCosts, IsChosenPlan, IsStep};
 ghost use Rattle.qrcode_bits.specs.Buckets.{bucket_mode, bucket_rest, AreGroups};
 ghost use Rattle.qrcode_bits.specs.Periods.{period_bits};
-ghost use Rattle.qrcode_bits.specs.Words.{told, header_in, AreWhole, IsShort, AreHeaders};
+ghost use Rattle.qrcode_bits.specs.Words.{told, header_in, AreWhole, IsShort, AreHeaders, step_told, AreShortSteps};
 
 use super::comparisons::Comparisons;
-use super::words::{Words, word};
-use super::{Segment, Step, bucket_mode, read_back};
+use super::words::{NO_START, Words, word};
+use super::{Segment, bucket_mode};
 use qrcode_base::types::{Mode, QrError, QrResult, Version};
 use std::alloc::Global;
 use std::sync::ledger::Ledger;
@@ -102,33 +102,58 @@ fn with_cost(word: u64, cost: u64, periods: u64) -> u64
     word + (cost << 26) - (periods << 26)
 }
 
-/// The last part of the chosen plan of as many segments as there are steps, found by trying the best start of each rest.
+/// What is kept of the chosen plan of some first segments: the word of its last part's start, and that part's mode.
+#[derive(Clone, Copy)]
+struct ShortStep {
+    word: u64,
+    mode: Mode,
+}
+
+impl ShortStep {
+    /// The bits of the plan.
+    fn bits(&self) -> u64
+        ensures { result ≡ self.now.word / 2 ^ 26 }
+    {
+        self.word >> 26
+    }
+
+    /// How many parts the plan has.
+    fn parts(&self) -> usize
+        ensures { result ≡ self.now.word % 2 ^ 26 / 2 ^ 13 }
+    {
+        (self.word % (1 << 26) >> 13) as usize
+    }
+
+    /// Where the last part starts.
+    fn start(&self) -> usize
+        ensures { result ≡ 8191 - self.now.word % 2 ^ 26 % 2 ^ 13 }
+    {
+        8191 - (self.word % (1 << 26) % (1 << 13)) as usize
+    }
+}
+
+/// The last part of the chosen plan of the first `end` segments, found by trying the best start of each rest.
 fn last_step_short<L: Ledger>(
     segments: &[Segment],
     headers: &Headers,
     version: Version,
-    steps: &[Step],
+    end: usize,
     words: &Words,
     comparisons: &mut Comparisons<L>,
-) -> Step
+) -> ShortStep
     requires headers { AreHeaders version headers.now }
     requires short { IsShort segments.now }
-    requires some { 0 < length steps.now }
-    requires within { length steps.now ≤ length segments.now }
+    requires some { 0 < end }
+    requires within { end ≤ length segments.now }
     requires linear { HasLinearCosts segments.now version }
-    requires right { AreSteps segments.now version steps.now }
     requires whole { AreWhole words.now }
-    requires words { AreGroups segments.now version (length steps.now) (length steps.now) (told words.now) }
-    ensures step { IsStep segments.now version (length steps.now) result }
+    requires words { AreGroups segments.now version end end (told words.now) }
+    ensures step { IsStep segments.now version end (step_told segments.now end result) }
     ensures ticked { comparisons.new ≤ comparisons.old + 8 }
 {
-    let end = steps.len();
-    let segment = segments[end - 1];
-    let last_end = segment.end;
-    let before = steps[end - 1];
-    let alone = headers.cost(segment.mode, last_end - segment.begin);
-    let mut best = word(before.bits as u64 + alone, before.parts + 1, end - 1);
-    let mut best_mode = segment.mode;
+    let last_end = segments[end - 1].end;
+    let mut best = NO_START;
+    let mut best_mode = Mode::Byte;
     for bucket in 0..8 {
         let mode = bucket_mode(bucket);
         let found = words.best(mode, bucket);
@@ -142,18 +167,38 @@ fn last_step_short<L: Ledger>(
             }
         }
     }
-    let start = 8191 - (best % (1 << 26) % (1 << 13)) as usize;
-    let part = Segment {
+    ShortStep {
+        word: best,
         mode: best_mode,
-        begin: segments[start].begin,
-        end: last_end,
-    };
-    Step {
-        bits: (best >> 26) as u128,
-        parts: (best % (1 << 26) >> 13) as usize,
-        start,
-        part,
     }
+}
+
+/// The parts of the chosen plan of all segments, from what is kept of the chosen plans of first segments.
+fn read_back_short(
+    alloc: Global,
+    segments: &[Segment],
+    version: Version,
+    steps: &[ShortStep],
+) -> QrResult<Vec<Segment>>
+    requires all { length steps.now ≡ length segments.now + 1 }
+    requires right { AreShortSteps segments.now version steps.now }
+    ensures plan { IfOk result (λ plan. IsChosenPlan segments.now version plan.items) }
+    ensures memory { IfErr result (λ e. e ≡ QrError.OutOfMemory) }
+{
+    let mut plan = Vec::new(alloc);
+    let mut end = segments.len();
+    while end > 0 {
+        let step = steps[end];
+        let start = step.start();
+        plan.push(Segment {
+            mode: step.mode,
+            begin: segments[start].begin,
+            end: segments[end - 1].end,
+        })?;
+        end = start;
+    }
+    plan.reverse();
+    Ok(plan)
 }
 
 /// The chosen plan of short data, found in one pass over the segments.
@@ -172,13 +217,11 @@ pub fn optimize_short<L: Ledger>(
     ensures ticked { comparisons.new ≤ comparisons.old + 36 * length segments.now }
 {
     let headers = Headers::new(version);
-    let mut steps = Vec::new(alloc);
+    let mut steps = Vec::with_capacity(alloc, segments.len() + 1)?;
     let mut words = Words::new();
-    let mut before = Step {
-        bits: 0,
-        parts: 0,
-        start: 0,
-        part: segments[0],
+    let mut before = ShortStep {
+        word: word(0, 0, 0),
+        mode: Mode::Byte,
     };
     steps.push(before)?;
     for start in 0..segments.len() {
@@ -187,13 +230,13 @@ pub fn optimize_short<L: Ledger>(
         words.enter(
             segment.mode,
             segment.begin,
-            before.bits as u64,
-            before.parts + 1,
+            before.bits(),
+            before.parts() + 1,
             start,
             comparisons,
         );
-        before = last_step_short(segments, &headers, version, &steps, &words, comparisons);
+        before = last_step_short(segments, &headers, version, start + 1, &words, comparisons);
         steps.push(before)?;
     }
-    read_back(alloc, segments, version, &steps)
+    read_back_short(alloc, segments, version, &steps)
 }

@@ -3,9 +3,9 @@
 //! A word has the bits of the plan above, then 13 bits of its parts, then 13 bits that fall as the start grows. So the better of two
 //! starts is the lesser word, and no start is the greatest word.
 
-ghost use Rattle.std.specs.Prelude.{◌≡◌, ℕ, ◌+◌, ◌*◌, ◌-◌, ◌/◌, ◌%◌, ◌^◌, ◌<◌, ◌≤◌, length, min};
+ghost use Rattle.std.specs.Prelude.{◌≡◌, ℕ, ◌+◌, ◌*◌, ◌-◌, ◌/◌, ◌%◌, ◌^◌, ◌<◌, ◌≤◌, length, min, IsTrue, ◌↔◌};
 ghost use Rattle.std.specs.Bool.{OnTrue};
-ghost use Rattle.qrcode_bits.specs.Buckets.{Absorbs, Advances, IsEmptyGroup, EntersGroup, Enters, group_of, slot};
+ghost use Rattle.qrcode_bits.specs.Buckets.{HasBucket, Absorbs, Advances, IsEmptyGroup, EntersGroup, Enters, group_of, slot};
 ghost use Rattle.qrcode_bits.specs.Words.{word_of, starts_in, told, word_at, bucket_start, IsOffered, AreNone, IsWhole, AreWhole};
 
 use super::comparisons::Comparisons;
@@ -52,18 +52,19 @@ fn is_empty(group: &[u64]) -> bool
     group[5] >= 1 << 50
 }
 
-/// Takes from each bucket of one group what is less than in the other.
-fn absorb<L: Ledger>(into: &mut [u64], from: &[u64], comparisons: &mut Comparisons<L>)
+/// Takes from the buckets of one group, from the first one that the other needs to that of Byte, what is less than in the other.
+fn absorb<L: Ledger>(into: &mut [u64], from: &[u64], first: usize, comparisons: &mut Comparisons<L>)
     requires into { IsWhole into.old }
     requires from { IsWhole from.now }
-    ensures absorbed { Absorbs (starts_in into.old) (starts_in from.now) (starts_in into.new) }
+    requires first { first ≤ 5 }
+    ensures absorbed { Absorbs first (starts_in into.old) (starts_in from.now) (starts_in into.new) }
     ensures whole { IsWhole into.new }
     ensures ticked { comparisons.new ≤ comparisons.old + 8 }
 {
     if is_empty(from) {
         return;
     }
-    for j in 0..8 {
+    for j in first..6 {
         into[j] = lesser(into[j], from[j], comparisons);
     }
 }
@@ -82,20 +83,42 @@ fn clear(group: &mut [u64])
     }
 }
 
-/// Offers a word to a bucket.
-fn offer<L: Ledger>(group: &mut [u64], bucket: usize, word: u64, comparisons: &mut Comparisons<L>)
+/// Whether a group of a mode needs a bucket.
+fn has_bucket(mode: Mode, bucket: usize) -> bool
+    requires { bucket < 8 }
+    ensures { IsTrue result ↔ HasBucket mode bucket }
+{
+    match mode {
+        Mode::Numeric => bucket < 6,
+        Mode::Alphanumeric => 3 <= bucket && bucket < 6,
+        Mode::Byte => bucket == 5,
+        Mode::Kanji => 5 <= bucket,
+    }
+}
+
+/// Offers a word to a bucket, where the group needs it.
+fn offer<L: Ledger>(
+    group: &mut [u64],
+    mode: Mode,
+    bucket: usize,
+    word: u64,
+    comparisons: &mut Comparisons<L>,
+)
     requires long { length group.old ≡ 8 }
     requires inside { bucket < 8 }
-    ensures offered { IsOffered bucket word group.old group.new }
+    ensures offered { IsOffered mode bucket word group.old group.new }
     ensures long { length group.new ≡ 8 }
     ensures ticked { comparisons.new ≤ comparisons.old + 1 }
 {
-    group[bucket] = lesser(group[bucket], word, comparisons);
+    if has_bucket(mode, bucket) {
+        group[bucket] = lesser(group[bucket], word, comparisons);
+    }
 }
 
-/// Offers a start to the four buckets of its rests.
+/// Offers a start to the buckets of its rests.
 fn enter<L: Ledger>(
     group: &mut [u64],
+    mode: Mode,
     begin: usize,
     bits: u64,
     parts: usize,
@@ -107,7 +130,7 @@ fn enter<L: Ledger>(
     requires bits { bits < 2 ^ 18 }
     requires parts { parts < 8192 }
     requires start { start < 8192 }
-    ensures entered { Enters begin bits parts start (starts_in group.old) (starts_in group.new) }
+    ensures entered { Enters mode begin bits parts start (starts_in group.old) (starts_in group.new) }
     ensures whole { IsWhole group.new }
     ensures ticked { comparisons.new ≤ comparisons.old + 4 }
 {
@@ -116,10 +139,10 @@ fn enter<L: Ledger>(
     let pairs = word(bits + 11 * (8192 - bytes / 2), parts, start);
     let singles = word(bits + 8 * (8192 - bytes), parts, start);
     let characters = word(bits + 13 * (8192 - bytes / 2), parts, start);
-    offer(group, begin % 3, thirds, comparisons);
-    offer(group, 3 + begin % 2, pairs, comparisons);
-    offer(group, 5, singles, comparisons);
-    offer(group, 6 + begin % 2, characters, comparisons);
+    offer(group, mode, begin % 3, thirds, comparisons);
+    offer(group, mode, 3 + begin % 2, pairs, comparisons);
+    offer(group, mode, 5, singles, comparisons);
+    offer(group, mode, 6 + begin % 2, characters, comparisons);
 }
 
 impl Words {
@@ -153,26 +176,26 @@ impl Words {
     {
         match incoming {
             Mode::Numeric => {
-                absorb(&mut self.byte, &self.kanji, comparisons);
+                absorb(&mut self.byte, &self.kanji, 5, comparisons);
                 clear(&mut self.kanji);
             }
             Mode::Alphanumeric => {
-                absorb(&mut self.alphanumeric, &self.numeric, comparisons);
-                absorb(&mut self.byte, &self.kanji, comparisons);
+                absorb(&mut self.alphanumeric, &self.numeric, 3, comparisons);
+                absorb(&mut self.byte, &self.kanji, 5, comparisons);
                 clear(&mut self.numeric);
                 clear(&mut self.kanji);
             }
             Mode::Byte => {
-                absorb(&mut self.byte, &self.numeric, comparisons);
-                absorb(&mut self.byte, &self.alphanumeric, comparisons);
-                absorb(&mut self.byte, &self.kanji, comparisons);
+                absorb(&mut self.byte, &self.numeric, 5, comparisons);
+                absorb(&mut self.byte, &self.alphanumeric, 5, comparisons);
+                absorb(&mut self.byte, &self.kanji, 5, comparisons);
                 clear(&mut self.numeric);
                 clear(&mut self.alphanumeric);
                 clear(&mut self.kanji);
             }
             Mode::Kanji => {
-                absorb(&mut self.byte, &self.numeric, comparisons);
-                absorb(&mut self.byte, &self.alphanumeric, comparisons);
+                absorb(&mut self.byte, &self.numeric, 5, comparisons);
+                absorb(&mut self.byte, &self.alphanumeric, 5, comparisons);
                 clear(&mut self.numeric);
                 clear(&mut self.alphanumeric);
             }
@@ -199,17 +222,22 @@ impl Words {
         ensures ticked { comparisons.new ≤ comparisons.old + 4 }
     {
         match mode {
-            Mode::Numeric => enter(&mut self.numeric, begin, bits, parts, start, comparisons),
-            Mode::Alphanumeric => enter(
-                &mut self.alphanumeric,
-                begin,
-                bits,
-                parts,
-                start,
-                comparisons,
-            ),
-            Mode::Byte => enter(&mut self.byte, begin, bits, parts, start, comparisons),
-            Mode::Kanji => enter(&mut self.kanji, begin, bits, parts, start, comparisons),
+            Mode::Numeric => {
+                let group = &mut self.numeric;
+                enter(group, mode, begin, bits, parts, start, comparisons)
+            }
+            Mode::Alphanumeric => {
+                let group = &mut self.alphanumeric;
+                enter(group, mode, begin, bits, parts, start, comparisons)
+            }
+            Mode::Byte => {
+                let group = &mut self.byte;
+                enter(group, mode, begin, bits, parts, start, comparisons)
+            }
+            Mode::Kanji => {
+                let group = &mut self.kanji;
+                enter(group, mode, begin, bits, parts, start, comparisons)
+            }
         }
     }
 

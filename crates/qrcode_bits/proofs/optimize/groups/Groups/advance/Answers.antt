@@ -1,5 +1,5 @@
 -- Each group that goes is absorbed and cleared.
-use Rattle.std.proofs.Common.{rules, refl}
+use Rattle.std.proofs.Common.{rules, refl, arith}
 use Rattle.qrcode_bits.proofs.optimize.groups.Groups.advance.Goals as goal
 
 pub returns-in-Byte-clause-advances : goal.returns-in-Byte-clause-advances
@@ -11,9 +11,9 @@ returns-in-Byte-clause-advances g c =
       (
         c.absorb-in-Byte.new.into,
         c.absorb-in-Byte-2.new.into,
-        (search rules, c.absorb-in-Byte.ensures.better),
-        (search rules, c.absorb-in-Byte-2.ensures.better),
-        (search rules, c.absorb-in-Byte-3.ensures.better),
+        (search rules, λ j from inside. c.absorb-in-Byte.ensures.better j (omega arith)),
+        (search rules, λ j from inside. c.absorb-in-Byte-2.ensures.better j (omega arith)),
+        (search rules, λ j from inside. c.absorb-in-Byte-3.ensures.better j (omega arith)),
       ),
     )
 
@@ -25,7 +25,7 @@ returns-in-Kanji-clause-advances g c =
       refl,
       (
         c.absorb-in-Kanji.new.into,
-        (search rules, c.absorb-in-Kanji.ensures.better),
-        (search rules, c.absorb-in-Kanji-2.ensures.better),
+        (search rules, λ j from inside. c.absorb-in-Kanji.ensures.better j (omega arith)),
+        (search rules, λ j from inside. c.absorb-in-Kanji-2.ensures.better j (omega arith)),
       ),
     )

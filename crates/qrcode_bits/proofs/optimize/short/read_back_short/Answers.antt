@@ -1,0 +1,23 @@
+use Rattle.std.proofs.Common.{◌≡◌, arith, sym, subst}
+use Rattle.qrcode_bits.specs.Merging.{IsChosenPlan}
+use Rattle.qrcode_bits.specs.Words.{step_told, short_at}
+use Rattle.qrcode_bits.proofs.ReadBack.{IsStep-front, read-more, read-all}
+use Rattle.qrcode_bits.proofs.optimize.short.read_back_short.Goals as goal
+
+pub returns-clause-plan : goal.returns-clause-plan
+returns-clause-plan c =
+    let none : c.loop-end.end ≡ 0 = omega arith in
+    subst (IsChosenPlan c.args.segments.now c.args.version) (sym c.reverse.ensures.items)
+    (read-all c.args.segments.now c.args.version c.loop-end.plan.items (rw none at c.loop-end.invariant.1))
+
+pub loop-end-preserved : goal.loop-end-preserved
+loop-end-preserved c =
+    let end = c.loop-end.end in
+    let segments = c.args.segments.now in
+    let step = step_told segments end (short_at c.args.steps.now end) in
+    let right = c.requires.right end (omega arith) in
+    let front = (IsStep-front right c.loop-end-test.true).1 in
+    let read = read-more segments c.args.version end step c.loop-end.plan.items right c.loop-end-test.true c.loop-end.invariant.1 in (
+      omega arith,
+      (let here = rw (← c.start-start.ensures) at read in rw c.in_ok-push.ensures.items here),
+    )
