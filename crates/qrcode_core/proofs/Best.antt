@@ -20,7 +20,7 @@ use Rattle.qrcode_core.proofs.GridsApart.{grids_apart}
 use Rattle.qrcode_core.proofs.OneReading.{one_reading}
 
 -- a mask at a place of the family is one of the family
-of_family : (version : Version) (i : ℕ) (mask : MaskPattern) → slice_get (family version) i ≡ Some mask → IsOfFamily version mask
+pub of_family : (version : Version) (i : ℕ) (mask : MaskPattern) → slice_get (family version) i ≡ Some mask → IsOfFamily version mask
 of_family (Normal n) i mask e = tt
 of_family (Micro n) zero mask e = subst (λ (m : MaskPattern). IsOfFamily (Micro n) m) (same_Some _ mask e) refl
 of_family (Micro n) (suc zero) mask e = subst (λ (m : MaskPattern). IsOfFamily (Micro n) m) (same_Some _ mask e) refl

@@ -20,7 +20,7 @@ use Rattle.qrcode_grid.specs.Masks.{IsOfFamily}
 use Rattle.qrcode_grid.specs.Canvas.{is_dark}
 use Rattle.qrcode_grid.specs.Symbol.{CarriesCodewords}
 use Rattle.qrcode_core.specs.Layers.{IsEncoded, AreStreams}
-use Rattle.qrcode_core.specs.Reader.{Reads, reading_of}
+use Rattle.qrcode_core.specs.Reader.{Carries, Reads, reading_of}
 use Rattle.qrcode_core.proofs.HalfBytes.{low_half, cut_at}
 
 -- bits that are drawn are seen again
@@ -42,21 +42,20 @@ pub are_streams : (version : Version) (level : EcLevel) (codewords interleaved c
 are_streams version level codewords interleaved correction sound first second =
     with_layout version level codewords interleaved correction (blocks_of version level) refl sound first second
 
--- The grid of the codewords of a frame is read as the frame says.
-pub drawn_reading : (version : Version) (level : EcLevel) (mask : MaskPattern) (header : Option Header) (bytes : List ℕ) (payload : ℕ) (codewords interleaved correction : List ℕ) (grid : List Color) →
-    IsOfFamily version mask → IsEncoded version level header bytes payload codewords → AreStreams version level codewords interleaved correction →
-    CarriesCodewords version level mask interleaved correction grid → Reads grid (reading_of bytes version level mask header payload)
-drawn_reading version level mask header bytes payload codewords interleaved correction grid has_mask code streams carries =
+-- The grid of the codewords of some bits carries the bits.
+pub drawn_carries : (version : Version) (level : EcLevel) (mask : MaskPattern) (bits : List Bool) (codewords interleaved correction : List ℕ) (grid : List Color) →
+    IsOfFamily version mask → byte_bits codewords ≡ bits ++ zero_bits (missing_bits version) → AreStreams version level codewords interleaved correction →
+    CarriesCodewords version level mask interleaved correction grid → Carries grid version level mask bits
+drawn_carries version level mask bits codewords interleaved correction grid has_mask bits_are streams carries =
     let missing = missing_bits version in
     let drawn = take (8 * length interleaved - missing) (byte_bits interleaved) in
-    let low = low_half version level streams.blocks streams.blocks.correction codewords interleaved correction code.frame streams.has_level streams.sound code.frame_is in
+    let low = low_half version level streams.blocks streams.blocks.correction codewords interleaved correction bits streams.has_level streams.sound bits_are in
     record {
       blocks = streams.blocks;
       interleaved = interleaved;
       correction = correction;
       codewords = codewords;
       drawn = drawn;
-      frame = code.frame;
       has_level = streams.has_level;
       has_mask = has_mask;
       is_square = carries.size;
@@ -68,6 +67,15 @@ drawn_reading version level mask header bytes payload codewords interleaved corr
       bytes_interleaved = streams.bytes_interleaved;
       bytes_correction = streams.bytes_correction;
       sound = streams.sound;
-      frame_is = code.frame_is;
-      framed = code.framed;
+      bits_are = bits_are;
     }
+
+-- The grid of the codewords of a frame is read as the frame says.
+pub drawn_reading : (version : Version) (level : EcLevel) (mask : MaskPattern) (header : Option Header) (bytes : List ℕ) (payload : ℕ) (codewords interleaved correction : List ℕ) (grid : List Color) →
+    IsOfFamily version mask → IsEncoded version level header bytes payload codewords → AreStreams version level codewords interleaved correction →
+    CarriesCodewords version level mask interleaved correction grid → Reads grid (reading_of bytes version level mask header payload)
+drawn_reading version level mask header bytes payload codewords interleaved correction grid has_mask code streams carries = record {
+  frame = code.frame;
+  carries = drawn_carries version level mask code.frame codewords interleaved correction grid has_mask code.frame_is streams carries;
+  framed = code.framed;
+}

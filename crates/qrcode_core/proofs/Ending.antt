@@ -50,19 +50,30 @@ half_is : (t : Bool) (m : ℕ) → ((if t then m else 0) ≡ m) ⊎ ((if t then 
 half_is Bool.true m = inl refl
 half_is Bool.false m = inr refl
 
--- The bytes into which an ended stream is turned are those of its frame and the missing bits as zeros.
-pub bytes_of_ended : (v : Version) (l : EcLevel) (b : BlockLayout) (limit : ℕ) (payload : List Bool) (words : List ℕ) → blocks_of v l ≡ Some b → capacity v l ≡ Some limit → length payload ≤ limit →
-    byte_bits words ≡ ended v limit payload ++ zero_bits ((8 - length (ended v limit payload) % 8) % 8) → byte_bits words ≡ take limit (ended v limit payload) ++ zero_bits (missing_bits v)
-bytes_of_ended v l b limit payload words known limit_is fits are =
+-- what follows the payload of a stream reaches its capacity
+pub length-tailed : (v : Version) (limit : ℕ) (payload : List Bool) → length payload ≤ limit → length (payload ++ tail v limit (length payload)) ≡ limit
+length-tailed v limit payload fits = omega (arith, length-append payload (tail v limit (length payload)), length-tail v limit (length payload) fits)
+
+-- The bytes into which an ended stream is turned are its bits up to the capacity, and the missing bits as zeros.
+pub bytes_of_tailed : (v : Version) (l : EcLevel) (b : BlockLayout) (limit : ℕ) (payload : List Bool) (words : List ℕ) → blocks_of v l ≡ Some b → capacity v l ≡ Some limit → length payload ≤ limit →
+    byte_bits words ≡ ended v limit payload ++ zero_bits ((8 - length (ended v limit payload) % 8) % 8) → byte_bits words ≡ (payload ++ tail v limit (length payload)) ++ zero_bits (missing_bits v)
+bytes_of_tailed v l b limit payload words known limit_is fits are =
     let half = half_byte_width v limit (length payload) in
     let frame : List Bool = payload ++ tail v limit (length payload) in
-    let long : length frame ≡ limit = omega (arith, length-append payload (tail v limit (length payload)), length-tail v limit (length payload) fits) in
     let whole : ended v limit payload ≡ frame ++ zero_bits half = sym (append_assoc payload (tail v limit (length payload)) (half_byte v limit (length payload))) in
-    let front : take limit (ended v limit payload) ≡ frame = ap (take limit) whole ∙ take_at frame (zero_bits half) limit long in
     let sized : limit ≡ 8 * data_bytes b - missing_bits v = same_Some limit (8 * data_bytes b - missing_bits v) (sym limit_is ∙ ap (capacity_with v) known) in
     let rest = (8 - length (ended v limit payload) % 8) % 8 in
     let rest_is : half + rest ≡ missing_bits v =
     ap (λ (k : ℕ). half + (8 - k % 8) % 8) (length-ended v limit payload fits) ∙ zeros_are (missing_bits v) (data_bytes b) limit half (lacks v l b known) sized (half_is (nat_lt (length payload + terminator_width v) limit) (missing_bits v)) in
     are ∙ ap (λ (z : List Bool). z ++ zero_bits rest) whole ∙ append_assoc frame (zero_bits half) (zero_bits rest)
     ∙ ap (λ (z : List Bool). frame ++ z) (replicate-append-replicate half rest Bool.false ∙ ap zero_bits rest_is)
-    ∙ ap (λ (z : List Bool). z ++ zero_bits (missing_bits v)) (sym front)
+
+-- The same, where the bits up to the capacity are the first ones of the ended stream.
+pub bytes_of_ended : (v : Version) (l : EcLevel) (b : BlockLayout) (limit : ℕ) (payload : List Bool) (words : List ℕ) → blocks_of v l ≡ Some b → capacity v l ≡ Some limit → length payload ≤ limit →
+    byte_bits words ≡ ended v limit payload ++ zero_bits ((8 - length (ended v limit payload) % 8) % 8) → byte_bits words ≡ take limit (ended v limit payload) ++ zero_bits (missing_bits v)
+bytes_of_ended v l b limit payload words known limit_is fits are =
+    let half = half_byte_width v limit (length payload) in
+    let frame : List Bool = payload ++ tail v limit (length payload) in
+    let whole : ended v limit payload ≡ frame ++ zero_bits half = sym (append_assoc payload (tail v limit (length payload)) (half_byte v limit (length payload))) in
+    let front : take limit (ended v limit payload) ≡ frame = ap (take limit) whole ∙ take_at frame (zero_bits half) limit (length-tailed v limit payload fits) in
+    bytes_of_tailed v l b limit payload words known limit_is fits are ∙ ap (λ (z : List Bool). z ++ zero_bits (missing_bits v)) (sym front)

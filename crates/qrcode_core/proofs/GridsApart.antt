@@ -18,20 +18,20 @@ use Rattle.qrcode_core.proofs.BlocksApart.{blocks_apart}
 use Rattle.qrcode_grid.proofs.Apart.{AreApart-from_blocks}
 
 -- the data codewords tell the bytes
-bytes_of_codewords : (grid other : List Color) (r s : Reading) (f : Reads grid r) (g : Reads other s) → s.version ≡ r.version → s.level ≡ r.level → g.codewords ≡ f.codewords → s.bytes ≡ r.bytes
+bytes_of_codewords : (grid other : List Color) (r s : Reading) (f : Reads grid r) (g : Reads other s) → s.version ≡ r.version → s.level ≡ r.level → g.carries.codewords ≡ f.carries.codewords → s.bytes ≡ r.bytes
 bytes_of_codewords grid other r s f g same_version same_level same =
     let framed : IsFrame r.version r.level s.header s.bytes s.payload g.frame =
     subst (λ (l : EcLevel). IsFrame r.version l s.header s.bytes s.payload g.frame) same_level (subst (λ (v : Version). IsFrame v s.level s.header s.bytes s.payload g.frame) same_version g.framed) in
-    let ends : byte_bits g.codewords ≡ g.frame ++ zero_bits (missing_bits r.version) = g.frame_is ∙ ap (λ v. g.frame ++ zero_bits (missing_bits v)) same_version in
-    let frames : g.frame ≡ f.frame = append_cancel_right g.frame f.frame (zero_bits (missing_bits r.version)) (sym ends ∙ ap byte_bits same ∙ f.frame_is) in
+    let ends : byte_bits g.carries.codewords ≡ g.frame ++ zero_bits (missing_bits r.version) = g.carries.bits_are ∙ ap (λ v. g.frame ++ zero_bits (missing_bits v)) same_version in
+    let frames : g.frame ≡ f.frame = append_cancel_right g.frame f.frame (zero_bits (missing_bits r.version)) (sym ends ∙ ap byte_bits same ∙ f.carries.bits_are) in
     (frame_one_reading r.version r.level s.header r.header s.bytes r.bytes s.payload r.payload f.frame (subst (λ b. IsFrame r.version r.level s.header s.bytes s.payload b) frames framed) f.framed).1.0
 
 pub grids_apart : HaveDistance
 unfolding AreApart
 grids_apart grid r f other s g same_version same_level differ =
-    let known : blocks_of r.version r.level ≡ Some g.blocks = sym (ap (λ v. blocks_of v s.level) same_version ∙ ap (λ l. blocks_of r.version l) same_level) ∙ g.has_level in
-    let blocks : g.blocks ≡ f.blocks = same_Some g.blocks f.blocks (sym known ∙ f.has_level) in
-    let sound = subst (λ (b : BlockLayout). AreCodewords b.correction (block_sizes b) g.codewords g.interleaved g.correction) blocks g.sound in
-    AreApart-from_blocks f.blocks.correction (block_sizes f.blocks) f.codewords f.interleaved f.correction f.sound (blocks_apart grid r f)
-    g.codewords g.interleaved g.correction g.bytes_interleaved g.bytes_correction sound
+    let known : blocks_of r.version r.level ≡ Some g.carries.blocks = sym (ap (λ v. blocks_of v s.level) same_version ∙ ap (λ l. blocks_of r.version l) same_level) ∙ g.carries.has_level in
+    let blocks : g.carries.blocks ≡ f.carries.blocks = same_Some g.carries.blocks f.carries.blocks (sym known ∙ f.carries.has_level) in
+    let sound = subst (λ (b : BlockLayout). AreCodewords b.correction (block_sizes b) g.carries.codewords g.carries.interleaved g.carries.correction) blocks g.carries.sound in
+    AreApart-from_blocks f.carries.blocks.correction (block_sizes f.carries.blocks) f.carries.codewords f.carries.interleaved f.carries.correction f.carries.sound (blocks_apart grid r f)
+    g.carries.codewords g.carries.interleaved g.carries.correction g.carries.bytes_interleaved g.carries.bytes_correction sound
     (λ same. differ (bytes_of_codewords grid other r s f g same_version same_level same))

@@ -1,13 +1,13 @@
 -- Data codewords that hold a frame are as many as their symbol has, so that only memory can be wanting for their streams.
-use Rattle.std.proofs.Common.{◌≡◌, ℕ, ◌+◌, ◌-◌, ◌*◌, ap, sym, ◌∙◌, arith, inl, inr, List, length, Bool, false, length-append}
-use Rattle.std.specs.Prelude.{Option, Some, None, IsSomeAnd, ◌≢◌}
+use Rattle.std.proofs.Common.{◌≡◌, ℕ, ◌+◌, ◌-◌, ◌*◌, ap, sym, ◌∙◌, arith, inl, inr, List, ◌++◌, length, Bool, false, length-append}
+use Rattle.std.specs.Prelude.{Option, Some}
 use Rattle.std.proofs.lemmas.List.{length-replicate}
 use Rattle.std.proofs.lemmas.Option.{same_Some}
 use Rattle.qrcode_base.specs.declared.symbols.BlockLayout.{BlockLayout}
 use Rattle.qrcode_base.specs.declared.types.EcLevel.{EcLevel}
 use Rattle.qrcode_base.specs.declared.types.Version.{Version}
-use Rattle.qrcode_base.specs.Symbols.{blocks_of, capacity_with, data_bytes, missing_bits}
-use Rattle.qrcode_base.specs.Numbers.{zero_bits}
+use Rattle.qrcode_base.specs.Symbols.{blocks_of, capacity, capacity_with, data_bytes, missing_bits}
+use Rattle.qrcode_base.specs.Numbers.{byte_bits, zero_bits}
 use Rattle.qrcode_bits.specs.Frame.{Header}
 use Rattle.qrcode_bits.proofs.Frames.{length-frame}
 use Rattle.qrcode_bits.proofs.Numbers.{length-byte_bits}
@@ -18,27 +18,25 @@ whole : (v : Version) (b : BlockLayout) (count limit : ℕ) → Lacks v b → li
 whole v b count limit (inl none) sized e = omega (arith, none)
 whole v b count limit (inr four) sized e = omega (arith, four.0, four.1)
 
--- The codewords are as many as the data codewords of the symbol.
-pub length-encoded : (v : Version) (l : EcLevel) (h : Option Header) (bytes : List ℕ) (n : ℕ) (words : List ℕ) (b : BlockLayout) →
-    IsEncoded v l h bytes n words → blocks_of v l ≡ Some b → length words ≡ data_bytes b
-length-encoded v l h bytes n words b code known =
-    let limit = code.framed.limit in
+-- Codewords that hold as many bits as the capacity are as many as the data codewords of the symbol.
+pub length-filled : (v : Version) (l : EcLevel) (words : List ℕ) (b : BlockLayout) (limit : ℕ) (bits : List Bool) →
+    blocks_of v l ≡ Some b → capacity v l ≡ Some limit → length bits ≡ limit → byte_bits words ≡ bits ++ zero_bits (missing_bits v) → length words ≡ data_bytes b
+length-filled v l words b limit bits known limit_is size held =
     let sized : limit ≡ 8 * data_bytes b - missing_bits v =
-    same_Some limit (8 * data_bytes b - missing_bits v) (sym code.framed.limit_is ∙ ap (capacity_with v) known) in
+    same_Some limit (8 * data_bytes b - missing_bits v) (sym limit_is ∙ ap (capacity_with v) known) in
     let long : length words * 8 ≡ limit + missing_bits v =
     omega (
       arith,
       length-byte_bits words,
-      ap (λ (bits : List Bool). length bits) code.frame_is,
-      length-append code.frame (zero_bits (missing_bits v)),
+      ap (λ (bits : List Bool). length bits) held,
+      length-append bits (zero_bits (missing_bits v)),
       length-replicate (missing_bits v) false,
-      length-frame v l h bytes n code.frame code.framed,
+      size,
     ) in
     whole v b (length words) limit (lacks v l b known) sized long
 
-refused : (v : Version) (l : EcLevel) (words : List ℕ) (b : BlockLayout) (o : Option BlockLayout) → o ≡ Some b → length words ≡ data_bytes b →
-    (expected actual : ℕ) → IsSomeAnd o (λ b. (expected ≡ data_bytes b) × (actual ≡ length words) × (actual ≢ expected)) → ⊥
-refused v l words b None e long expected actual why = why
-refused v l words b (Some c) e long expected actual why =
-    let same : data_bytes c ≡ data_bytes b = ap data_bytes (same_Some c b e) in
-    why.2 (why.1 ∙ long ∙ sym same ∙ sym why.0)
+-- The codewords of a frame are as many as the data codewords of the symbol.
+pub length-encoded : (v : Version) (l : EcLevel) (h : Option Header) (bytes : List ℕ) (n : ℕ) (words : List ℕ) (b : BlockLayout) →
+    IsEncoded v l h bytes n words → blocks_of v l ≡ Some b → length words ≡ data_bytes b
+length-encoded v l h bytes n words b code known =
+    length-filled v l words b code.framed.limit code.frame known code.framed.limit_is (length-frame v l h bytes n code.frame code.framed) code.frame_is

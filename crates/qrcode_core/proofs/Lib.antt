@@ -13,6 +13,7 @@ pub mod StreamEncoding
 pub mod OneMessage
 pub mod Symbols
 mod Limited
+mod HeldBits
 mod RowCounts
 mod TextMaps
 mod StepLemmas

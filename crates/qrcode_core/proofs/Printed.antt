@@ -110,21 +110,23 @@ printed_frame = record {
 pub printed_reads : Reads printed printed_reading
 unfolding number_bits
 printed_reads = record {
-  blocks = blocks 2 3 1 0 0;
-  interleaved = words;
-  correction = checks;
-  codewords = words;
-  drawn = take 20 (byte_bits words);
   frame = take 20 (byte_bits words);
-  has_level = refl;
-  has_mask = refl;
-  is_square = refl;
-  functional = printed_functional;
-  cells = refl;
-  drawn_is = refl;
-  bytes_interleaved = search rules;
-  bytes_correction = search rules;
-  sound = printed_codewords;
-  frame_is = refl;
+  carries = record {
+    blocks = blocks 2 3 1 0 0;
+    interleaved = words;
+    correction = checks;
+    codewords = words;
+    drawn = take 20 (byte_bits words);
+    has_level = refl;
+    has_mask = refl;
+    is_square = refl;
+    functional = printed_functional;
+    cells = refl;
+    drawn_is = refl;
+    bytes_interleaved = search rules;
+    bytes_correction = search rules;
+    sound = printed_codewords;
+    bits_are = refl;
+  };
   framed = printed_frame;
 }

@@ -28,7 +28,7 @@ use Rattle.qrcode_core.proofs.Ending.{bytes_of_ended}
 use Rattle.qrcode_core.proofs.Lengths.{length-encoded}
 
 -- a symbol with a capacity has blocks
-has_blocks : (v : Version) (l : EcLevel) (limit : ℕ) → capacity v l ≡ Some limit → (b : BlockLayout) × (blocks_of v l ≡ Some b)
+pub has_blocks : (v : Version) (l : EcLevel) (limit : ℕ) → capacity v l ≡ Some limit → (b : BlockLayout) × (blocks_of v l ≡ Some b)
 has_blocks v l limit e = go (blocks_of v l) refl e
   where
     go : (o : Option BlockLayout) → blocks_of v l ≡ o → capacity_with v o ≡ Some limit → (b : BlockLayout) × (blocks_of v l ≡ Some b)

@@ -1,5 +1,5 @@
 -- What the symbol of some bytes at a level is: the smallest and best one, read in one way (ISO/IEC 18004, encode procedure).
-use Rattle.std.specs.Prelude.{◌≡◌, ◌≢◌, ℕ, pos, ◌*◌, ◌<◌, ◌≤◌, List, length, Option, None}
+use Rattle.std.specs.Prelude.{◌≡◌, ◌≢◌, ℕ, pos, ◌*◌, ◌<◌, ◌≤◌, Bool, List, length, Option, None}
 use Rattle.qrcode_base.specs.declared.types.Color.{Color}
 use Rattle.qrcode_base.specs.declared.types.EcLevel.{EcLevel}
 use Rattle.qrcode_base.specs.declared.types.EcLevel.TheVariants.{H}
@@ -16,22 +16,29 @@ use Rattle.qrcode_grid.specs.Blocks.{AreBlocksApart, codeword_block}
 use Rattle.qrcode_grid.specs.Codes.{distance}
 use Rattle.qrcode_grid.specs.Penalty.{IsFirstLeastMask}
 use Rattle.qrcode_grid.specs.Symbol.{HasFunctionalColors}
-use Rattle.qrcode_core.specs.Reader.{Reading, Reads, reading_of}
+use Rattle.qrcode_core.specs.Reader.{Reading, Carries, Reads, reading_of}
 
 -- ---- Distance
 
 -- In each block, every other sound list of codewords of its length differs from it in more places than the block has correction
 -- codewords.
+abbrev pub CarriesApart : (grid : List Color) (version : Version) (level : EcLevel) (mask : MaskPattern)
+    (bits : List Bool) → Carries grid version level mask bits → Type 0
+CarriesApart grid version level mask bits c =
+    AreBlocksApart c.blocks.correction (block_sizes c.blocks) c.interleaved c.correction
+
+-- So is each block of a grid that is read.
 abbrev pub HasBlocksApart : (grid : List Color) (reading : Reading) → Reads grid reading → Type 0
-HasBlocksApart grid reading r =
-    AreBlocksApart r.blocks.correction (block_sizes r.blocks) r.interleaved r.correction
+HasBlocksApart grid reading r = CarriesApart grid reading.version reading.level reading.mask r.frame r.carries
 
 -- A grid differs from another one, each as it is read, in some block in more codewords than the block has correction codewords.
 abbrev pub AreFarApart : (grid other : List Color) (r s : Reading) → Reads grid r → Reads other s → Type 0
 AreFarApart grid other r s f g =
-    (block : ℕ) × (block < length (block_sizes f.blocks)) ×
-    (f.blocks.correction < distance (codeword_block f.blocks.correction (block_sizes f.blocks) f.interleaved f.correction block)
-    (codeword_block f.blocks.correction (block_sizes f.blocks) g.interleaved g.correction block))
+    let blocks = f.carries.blocks in
+    (block : ℕ) × (block < length (block_sizes blocks)) ×
+    (blocks.correction <
+    distance (codeword_block blocks.correction (block_sizes blocks) f.carries.interleaved f.carries.correction block)
+    (codeword_block blocks.correction (block_sizes blocks) g.carries.interleaved g.carries.correction block))
 
 -- Every other grid that is read at the same version and level as other bytes is far apart from this one.
 abbrev pub IsFarFromOthers : (grid : List Color) (reading : Reading) → Reads grid reading → Type 0

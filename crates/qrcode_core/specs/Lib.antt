@@ -10,6 +10,7 @@ pub mod Grids
 pub mod Views
 pub mod Budgets
 pub mod Limited
+pub mod HeldBits
 pub mod Texts
 pub mod Configs
 pub mod Outputs

@@ -1,13 +1,18 @@
 //! What holds of grids and of what is read from them.
 ghost use Rattle.qrcode_core.specs.Example.{printed, printed_reading};
 ghost use Rattle.qrcode_core.specs.Headline.{HaveDistance};
-ghost use Rattle.qrcode_core.specs.Reader.{HaveOneReading, Reads};
+ghost use Rattle.qrcode_core.specs.Reader.{HaveOneContent, HaveOneReading, Reads};
 ghost use Rattle.qrcode_core.specs.Sequence.{HaveOneMessage};
 
 /// No grid is read in two ways: the bytes, the version, the level, the mask, the header and the payload bits that a reader
 /// finds are the only ones.
 pub fn have_one_reading()
     ensures { HaveOneReading }
+{}
+
+/// No grid carries two lists of data bits, nor bits in two versions, at two levels or under two masks.
+pub fn have_one_content()
+    ensures { HaveOneContent }
 {}
 
 /// The reader reads a printed symbol: the digits `12345` in M1 at level L under the mask Diamonds, with 20 payload bits.

@@ -1,4 +1,5 @@
 //! Each call of `symbol` once, on the symbols of known rows. More tests stand in the crate `qrcode_tests`.
+use crate::bits::Bits;
 use crate::canvas::MaskPattern;
 use crate::limits::ResourceLimits;
 use crate::symbol::{Symbol, are_cuts, symbol, symbol_micro, symbol_sequence};
@@ -83,6 +84,29 @@ fn tells_sequence(rt: HostRuntime) -> Result<(), Fail> {
         assert_eq!(rt; symbol.version(), Version::Normal(1));
         assert_eq!(rt; symbol.error_correction_level(), EcLevel::Q);
     }
+    Ok(())
+}
+
+#[test]
+fn holds_bits(rt: HostRuntime) -> Result<(), Fail> {
+    let alloc = rt.alloc();
+    let mut bits = Bits::new(alloc, Version::Micro(1));
+    bits.push_numeric_data(b"12345")?;
+    let symbol = Symbol::with_bits(alloc, bits, EcLevel::L)?;
+    assert_eq!(rt; symbol.mask(), MaskPattern::Diamonds);
+    let same = symbol_micro(alloc, b"12345", EcLevel::L)?;
+    assert!(rt; symbol.modules() == same.as_slice());
+    let none = Bits::new(alloc, Version::Normal(41));
+    let refused = Symbol::with_bits(alloc, none, EcLevel::L);
+    let lacking = QrError::InvalidVersion {
+        version: Version::Normal(41),
+        ec_level: EcLevel::L,
+    };
+    assert_eq!(rt; refused.err(), Some(lacking));
+    let mut long = Bits::new(alloc, Version::Normal(1));
+    long.push_byte_data(b"eighteen character")?;
+    let refused = Symbol::with_bits(alloc, long, EcLevel::L);
+    assert_eq!(rt; refused.err(), Some(QrError::DataTooLong));
     Ok(())
 }
 

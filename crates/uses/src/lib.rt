@@ -2,6 +2,7 @@
 #![tactic(auto)]
 
 pub mod grids;
+pub mod labels;
 pub mod plans;
 pub mod sequences;
 pub mod streams;

@@ -8,6 +8,7 @@ ghost use Rattle.qrcode_core.specs.Limited.{IsBestWithin, IsTooLongWithin, IsLim
 ghost use Rattle.qrcode_core.specs.Drawn.{TellsReading, drawn_grid};
 ghost use Rattle.qrcode_core.specs.Headline.{IsBestSymbol, IsBestMicroSymbol, IsTooLong, IsTooLongForMicro, IsRefusal, IsMicroRefusal};
 ghost use Rattle.qrcode_core.specs.Views.{view_grid};
+ghost use Rattle.qrcode_core.specs.HeldBits.{HoldsStream, IsStreamRefusal};
 ghost use Rattle.qrcode_core.specs.Layers.{AreAllCodewords, IsDrawn, FillsSymbol, IsDrawnStream};
 
 use crate::limits::ResourceLimits;
@@ -113,6 +114,26 @@ impl Symbol {
         };
         match encode_auto_with_max_version(alloc, bytes, level, max_version) {
             Ok(bits) => symbol_of(alloc, bits, level),
+            Err(error) => Err(error),
+        }
+    }
+
+    /// The symbol of bits that a caller pushed, in their version and at a level: headers, an ECI designator, FNC1,
+    /// segments, in the caller's order.
+    ///
+    /// The bits are ended by terminator and padding (ISO/IEC 18004, "Terminator" and "Bit stream to codeword
+    /// conversion"). The modules carry exactly these bits in sound blocks, under the first mask of least penalty. What
+    /// they say is the caller's concern. Bits that were ended before are taken as they are; in M1 and M3 they may be
+    /// half a byte too long then, and are refused.
+    ///
+    /// `InvalidVersion` comes where the version does not have the level. Then `DataTooLong` comes exactly where the bits
+    /// are past the capacity, and `OutOfMemory` where a growth was refused.
+    pub fn with_bits(alloc: Global, mut bits: Bits, level: EcLevel) -> QrResult<Symbol>
+        ensures holds { IfOk result (HoldsStream bits level) }
+        ensures refused { IfErr result (IsStreamRefusal bits level) }
+    {
+        match bits.push_terminator(level) {
+            Ok(()) => symbol_of(alloc, bits, level),
             Err(error) => Err(error),
         }
     }

@@ -1,0 +1,68 @@
+-- The bits that a caller pushed, ended and drawn, are what the symbol carries.
+use Rattle.std.proofs.Common.{◌≡◌, ℕ, sym, subst, Bool, List, ◌++◌, length}
+use Rattle.std.specs.Prelude.{Option, IsSomeAnd}
+use Rattle.qrcode_base.specs.declared.symbols.BlockLayout.{BlockLayout}
+use Rattle.qrcode_base.specs.declared.types.EcLevel.{EcLevel}
+use Rattle.qrcode_base.specs.declared.types.Version.{Version}
+use Rattle.qrcode_base.specs.declared.types.errors.QrError.{QrError}
+use Rattle.qrcode_base.specs.declared.types.errors.QrError.TheVariants.{DataTooLong, InvalidVersion, OutOfMemory}
+use Rattle.qrcode_base.specs.Numbers.{byte_bits, zero_bits}
+use Rattle.qrcode_base.specs.Symbols.{data_bytes, missing_bits}
+use Rattle.qrcode_bits.specs.Frame.{tail}
+use Rattle.qrcode_bits.specs.Push.{EndsAtLevel, IsLevelRefused}
+use Rattle.qrcode_bits.specs.Stream.{Stream}
+use Rattle.qrcode_core.specs.Drawn.{DrawnSymbol}
+use Rattle.qrcode_core.specs.HeldBits.{HoldsStream, IsStreamRefusal}
+use Rattle.qrcode_core.specs.Layers.{IsDrawn, AreAllCodewords, AreBytesOf, FillsSymbol, IsDrawnStream}
+use Rattle.qrcode_core.proofs.Best.{of_family}
+use Rattle.qrcode_core.proofs.BlocksApart.{carries_apart}
+use Rattle.qrcode_core.proofs.DrawnReading.{drawn_carries}
+use Rattle.qrcode_core.proofs.Ending.{bytes_of_tailed, length-tailed}
+use Rattle.qrcode_core.proofs.Lengths.{length-filled}
+use Rattle.qrcode_core.proofs.OneReading.{one_carried}
+use Rattle.qrcode_core.proofs.StreamEncoding.{has_blocks}
+
+module _ (old new : Stream) (level : EcLevel) (ended : EndsAtLevel old new level) where
+  abbrev bits : List Bool
+  bits = old.bits ++ tail old.version ended.limit (length old.bits)
+
+  tailed : (words : List ℕ) → AreBytesOf words new.bits → byte_bits words ≡ bits ++ zero_bits (missing_bits old.version)
+  tailed words turned =
+      let blocks = has_blocks old.version level ended.limit ended.limit_is in
+      bytes_of_tailed old.version level blocks.0 ended.limit old.bits words blocks.1 ended.limit_is ended.fits (subst (λ (z : List Bool). AreBytesOf words z) ended.ends.bits_are turned)
+
+  -- Ended bits fill their symbol.
+  pub ended_fills : FillsSymbol new level
+  ended_fills words turned =
+      let blocks = has_blocks old.version level ended.limit ended.limit_is in
+      let long = length-filled old.version level words blocks.0 ended.limit bits blocks.1 ended.limit_is (length-tailed old.version ended.limit old.bits ended.fits) (tailed words turned) in
+      subst (λ (v : Version). AreAllCodewords v level (length words)) (sym ended.ends.version_is)
+      (subst (λ (o : Option BlockLayout). IsSomeAnd o (λ b. length words ≡ data_bytes b)) (sym blocks.1) long)
+
+  -- The symbol that is drawn of them holds the bits as they were before.
+  pub holds_stream : (symbol : DrawnSymbol) → IsDrawnStream new level symbol → HoldsStream old level symbol
+  holds_stream symbol made =
+      let drawn = subst (λ (v : Version). IsDrawn v level made.codewords symbol) ended.ends.version_is made.drawn in
+      let has_mask = of_family old.version drawn.best.0 symbol.mask drawn.best.1 in
+      let carries =
+      drawn_carries old.version level symbol.mask bits made.codewords drawn.interleaved drawn.correction symbol.modules has_mask (tailed made.codewords made.turned) drawn.streams drawn.carries in
+      record {
+        limit = ended.limit;
+        limit_is = ended.limit_is;
+        fits = ended.fits;
+        holds = record {
+          version_is = drawn.version_is;
+          level_is = drawn.level_is;
+          carries = carries;
+          only = λ v l m other seen. one_carried symbol.modules v old.version l level m symbol.mask other bits seen carries;
+          best_mask = drawn.best;
+          apart = carries_apart symbol.modules old.version level symbol.mask bits carries;
+        };
+      }
+
+-- What refuses the end of the bits refuses the symbol.
+pub stream_refusal : (stream : Stream) (level : EcLevel) (e : QrError) → IsLevelRefused stream level e → IsStreamRefusal stream level e
+stream_refusal stream level (InvalidVersion version named) why = (why.0, why.1.0, why.1.1)
+stream_refusal stream level DataTooLong why = why
+stream_refusal stream level OutOfMemory why = (why.0, why.1, why.2.0)
+stream_refusal stream level other why = absurd why.2
