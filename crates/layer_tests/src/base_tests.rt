@@ -221,6 +221,26 @@ fn modes_find_the_first_invalid_character(rt: HostRuntime) {
     assert_eq!(rt; KanjiMode::MODE, Mode::Kanji);
 }
 
+#[test]
+fn widths_name_versions(rt: HostRuntime) {
+    for (width, want) in [
+        (21, Some(Version::Normal(1))),
+        (45, Some(Version::Normal(7))),
+        (177, Some(Version::Normal(40))),
+        (11, Some(Version::Micro(1))),
+        (17, Some(Version::Micro(4))),
+        (0, None),
+        (9, None),
+        (12, None),
+        (19, None),
+        (20, None),
+        (22, None),
+        (181, None),
+    ] {
+        assert_eq!(rt; Version::of_width(width), want, "at {width}");
+    }
+}
+
 fn fetched(version: Version, level: EcLevel) -> QrResult<u8> {
     let mut table = [[0; 4]; 44];
     table[39] = [1, 2, 3, 4];
