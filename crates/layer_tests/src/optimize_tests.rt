@@ -362,10 +362,16 @@ fn mode_of(number: usize) -> Mode {
 }
 
 /// The mode list of a number in base four, each segment of one length, or of the lengths 1, 2, .. in turn for the length 9.
-fn mode_list(rt: &HostRuntime, count: usize, number: usize, size: usize) -> QrResult<Vec<Segment>> {
+fn mode_list(
+    rt: &HostRuntime,
+    count: usize,
+    number: usize,
+    size: usize,
+    from: usize,
+) -> QrResult<Vec<Segment>> {
     let mut segments = Vec::new(rt.alloc());
     let mut digits = number;
-    let mut begin = 0usize;
+    let mut begin = from;
     for place in 0..count {
         let end = begin.saturating_add(if size == 9 { place + 1 } else { size });
         segments.push(segment(mode_of(digits), begin, end))?;
@@ -384,7 +390,12 @@ fn short_lists(rt: HostRuntime) -> QrResult<()> {
         for number in 0..lists {
             for (place, size) in [0, 1, 2, 3, 7, 9].iter().enumerate() {
                 if count < 4 || number % 6 == place {
-                    let segments = mode_list(&rt, count, number, *size)?;
+                    let from = if number % 3 == 2 {
+                        usize::MAX - 4096
+                    } else {
+                        0
+                    };
+                    let segments = mode_list(&rt, count, number, *size, from)?;
                     assert!(rt; agrees(&rt, &segments)?);
                 }
             }
