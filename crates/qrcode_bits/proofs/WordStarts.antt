@@ -143,7 +143,7 @@ told-key j bits product parts start key more is few d e same =
     ∙ ap (λ (z : ℕ). Some (record { bits = z; parts = parts; start = start })) (let w : bits + product + more ≡ bits + key = omega arith in w)))
 
 module _ (begin bits parts start : ℕ) (low : begin < 8192) (few : bits < 2 ^ 18) (short : parts < 8192) (early : start < 8192) where
-  abbrev pub thirds : ℕ
+  abbrev thirds : ℕ
   thirds = word_of (bits + 10 * (8192 - begin / 3)) parts start
 
   thirds-key : (j : ℕ) → bucket_mode j ≡ Numeric → bucket_start j thirds ≡ Some (key_of Numeric begin bits parts start)
@@ -151,7 +151,7 @@ module _ (begin bits parts start : ℕ) (low : begin < 8192) (few : bits < 2 ^ 1
       told-key j bits (10 * (8192 - begin / 3)) parts start (10 * (2 ^ 64 - begin / 3)) (10 * (2 ^ 64 - 2 ^ 13))
       (ap (λ (m : Mode). period_bits m * (2 ^ 64 - 2 ^ 13)) is) (omega arith) short early (omega arith)
 
-  abbrev pub pairs : ℕ
+  abbrev pairs : ℕ
   pairs = word_of (bits + 11 * (8192 - begin / 2)) parts start
 
   pairs-key : (j : ℕ) → bucket_mode j ≡ Alphanumeric → bucket_start j pairs ≡ Some (key_of Alphanumeric begin bits parts start)
@@ -159,7 +159,7 @@ module _ (begin bits parts start : ℕ) (low : begin < 8192) (few : bits < 2 ^ 1
       told-key j bits (11 * (8192 - begin / 2)) parts start (11 * (2 ^ 64 - begin / 2)) (11 * (2 ^ 64 - 2 ^ 13))
       (ap (λ (m : Mode). period_bits m * (2 ^ 64 - 2 ^ 13)) is) (omega arith) short early (omega arith)
 
-  abbrev pub singles : ℕ
+  abbrev singles : ℕ
   singles = word_of (bits + 8 * (8192 - begin)) parts start
 
   singles-key : (j : ℕ) → bucket_mode j ≡ Byte → bucket_start j singles ≡ Some (key_of Byte begin bits parts start)
@@ -167,7 +167,7 @@ module _ (begin bits parts start : ℕ) (low : begin < 8192) (few : bits < 2 ^ 1
       told-key j bits (8 * (8192 - begin)) parts start (8 * (2 ^ 64 - begin / 1)) (8 * (2 ^ 64 - 2 ^ 13))
       (ap (λ (m : Mode). period_bits m * (2 ^ 64 - 2 ^ 13)) is) (omega arith) short early (omega arith)
 
-  abbrev pub characters : ℕ
+  abbrev characters : ℕ
   characters = word_of (bits + 13 * (8192 - begin / 2)) parts start
 
   characters-key : (j : ℕ) → bucket_mode j ≡ Kanji → bucket_start j characters ≡ Some (key_of Kanji begin bits parts start)
@@ -238,8 +238,21 @@ module _ (begin bits parts start : ℕ) (low : begin < 8192) (few : bits < 2 ^ 1
     kept (suc (suc (suc (suc (suc (suc (suc (suc j)))))))) inside ne = absurd (omega arith)
 
     -- the bucket of Byte has a start
-    pub still_whole : length new ≡ 8 → IsWhole new
+    still_whole : length new ≡ 8 → IsWhole new
     still_whole long = let has-byte = has-single mode in record { long = long; empty = λ great k inside. absurd (let least = at-single has-byte in omega arith) }
 
-    pub enters : Enters mode begin bits parts start (starts_in old) (starts_in new)
+    enters : Enters mode begin bits parts start (starts_in old) (starts_in new)
     enters = (length-starts_in new, λ j has. entered j has (has-inside mode j has), λ j has. kept j (has-inside mode j has))
+
+-- the same of the words that the code has at hand
+pub enters_words : (mode : Mode) (begin bits parts start : ℕ) → begin < 8192 → bits < 2 ^ 18 → parts < 8192 → start < 8192 → (old one two three new : List ℕ) (t p s c : ℕ) →
+    t ≡ word_of (bits + 10 * (8192 - begin / 3)) parts start → p ≡ word_of (bits + 11 * (8192 - begin / 2)) parts start →
+    s ≡ word_of (bits + 8 * (8192 - begin)) parts start → c ≡ word_of (bits + 13 * (8192 - begin / 2)) parts start →
+    IsOffered mode (begin % 3) t old one → IsOffered mode (3 + begin % 2) p one two → IsOffered mode 5 s two three → IsOffered mode (6 + begin % 2) c three new → length new ≡ 8 →
+    Enters mode begin bits parts start (starts_in old) (starts_in new) × IsWhole new
+enters_words mode begin bits parts start low few short early old one two three new t p s c ts ps ss cs first second third fourth long =
+    let a = subst (λ (w : ℕ). IsOffered mode (begin % 3) w old one) ts first in
+    let b = subst (λ (w : ℕ). IsOffered mode (3 + begin % 2) w one two) ps second in
+    let d = subst (λ (w : ℕ). IsOffered mode 5 w two three) ss third in
+    let e = subst (λ (w : ℕ). IsOffered mode (6 + begin % 2) w three new) cs fourth in
+    (enters begin bits parts start low few short early mode old one two three new a b d e, still_whole begin bits parts start low few short early mode old one two three new a b d e long)

@@ -128,13 +128,13 @@ fn place_shifted(into: &mut [u8], text: &[u8], used: usize, partial: u8) -> u8
     low_bits(u16::from(*last), used)
 }
 
-/// The value of a digit.
+/// The value of a digit, of which 0 has the code 48.
 fn digit(c: u8) -> u64
     requires { IsDigit c }
     ensures value { result ≡ digit_of c }
     ensures small { result < 10 }
 {
-    u64::from(c - b'0')
+    u64::from(c) - 48
 }
 
 /// The number of three digits.

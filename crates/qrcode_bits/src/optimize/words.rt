@@ -52,7 +52,7 @@ fn is_empty(group: &[u64]) -> bool
     group[5] >= 1 << 50
 }
 
-/// Takes from the buckets of one group, from the first one that the other needs to that of Byte, what is less than in the other.
+/// Takes what is less in another group, bucket by bucket, from the first one that is needed to that of Byte.
 fn absorb<L: Ledger>(into: &mut [u64], from: &[u64], first: usize, comparisons: &mut Comparisons<L>)
     requires into { IsWhole into.old }
     requires from { IsWhole from.now }
