@@ -1,5 +1,5 @@
 -- The bits that a caller pushed, ended and drawn, are what the symbol carries.
-use Rattle.std.proofs.Common.{◌≡◌, ℕ, sym, subst, Bool, List, ◌++◌, length}
+use Rattle.std.proofs.Common.{◌≡◌, ◌∙◌, ℕ, sym, subst, Bool, List, ◌++◌, length}
 use Rattle.std.specs.Prelude.{Option, IsSomeAnd}
 use Rattle.qrcode_base.specs.declared.symbols.BlockLayout.{BlockLayout}
 use Rattle.qrcode_base.specs.declared.types.EcLevel.{EcLevel}
@@ -11,7 +11,7 @@ use Rattle.qrcode_base.specs.Symbols.{data_bytes, missing_bits}
 use Rattle.qrcode_bits.specs.Frame.{tail}
 use Rattle.qrcode_bits.specs.Push.{EndsAtLevel, IsLevelRefused}
 use Rattle.qrcode_bits.specs.Stream.{Stream}
-use Rattle.qrcode_core.specs.Drawn.{DrawnSymbol}
+use Rattle.qrcode_core.specs.Drawn.{DrawnSymbol, TellsReading}
 use Rattle.qrcode_core.specs.HeldBits.{HoldsStream, IsStreamRefusal}
 use Rattle.qrcode_core.specs.Layers.{IsDrawn, AreAllCodewords, AreBytesOf, FillsSymbol, IsDrawnStream}
 use Rattle.qrcode_core.proofs.Best.{of_family}
@@ -59,6 +59,13 @@ module _ (old new : Stream) (level : EcLevel) (ended : EndsAtLevel old new level
           apart = carries_apart symbol.modules old.version level symbol.mask bits carries;
         };
       }
+
+  -- Where a reader reads them, it finds the version, the level and the mask of the symbol.
+  pub held_reading : (symbol : DrawnSymbol) → IsDrawnStream new level symbol → TellsReading symbol
+  held_reading symbol made reading seen =
+      let held = (holds_stream symbol made).holds in
+      let same = held.only reading.version reading.level reading.mask seen.frame seen.carries in
+      (held.version_is ∙ sym same.0, held.level_is ∙ sym same.1, sym same.2)
 
 -- What refuses the end of the bits refuses the symbol.
 pub stream_refusal : (stream : Stream) (level : EcLevel) (e : QrError) → IsLevelRefused stream level e → IsStreamRefusal stream level e

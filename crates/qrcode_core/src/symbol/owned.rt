@@ -42,7 +42,8 @@ impl Model for Symbol {
 
     ghost view = { λ s. record { modules = s.modules.items; version = s.version; level = s.level; mask = s.mask } };
 
-    ghost invariant = { λ s. IsVersion s.version × (s.width ≡ width_of s.version) × (length s.modules.items ≡ s.width * s.width) };
+    ghost invariant = { λ s. IsVersion s.version × (s.width ≡ width_of s.version)
+        × (length s.modules.items ≡ s.width * s.width) };
 }
 
 impl Symbol {
@@ -130,6 +131,7 @@ impl Symbol {
     /// are past the capacity, and `OutOfMemory` where a growth was refused.
     pub fn with_bits(alloc: Global, mut bits: Bits, level: EcLevel) -> QrResult<Symbol>
         ensures holds { IfOk result (HoldsStream bits level) }
+        ensures reading { IfOk result TellsReading }
         ensures refused { IfErr result (IsStreamRefusal bits level) }
     {
         match bits.push_terminator(level) {
