@@ -1,5 +1,5 @@
 //! The penalties of eight candidates at once.
-ghost use Rattle.std.specs.Prelude.{◌≡◌, ℕ, ◌+◌, ◌*◌, ◌/◌, ◌%◌, ◌<◌, ◌≤◌, length, map, slice_index};
+ghost use Rattle.std.specs.Prelude.{◌≡◌, ℕ, ◌+◌, ◌*◌, ◌/◌, ◌%◌, ◌<◌, ◌≤◌, length, map, replicate, slice_index, IfOk};
 ghost use Rattle.qrcode_base.specs.Symbols.{IsVersion, width_of};
 ghost use Rattle.qrcode_grid.specs.Canvas.{color_of_module};
 ghost use Rattle.qrcode_grid.specs.Lanes.{byte_of};
@@ -22,6 +22,7 @@ use crate::canvas::scoring::candidates::write_candidates;
 use crate::canvas::scoring::penalties::penalties_of_normal;
 use crate::canvas::transposing::transpose;
 use qrcode_base::types::{Color, Version};
+use std::alloc::{AllocError, Global};
 
 /// How long a list is in which a grid stands between light modules.
 fn padded_length(width: usize) -> usize
@@ -37,6 +38,21 @@ pub fn scratch_length(width: usize) -> usize
     ensures { result ≡ 2 * (width * width + 20 * width + 16) + (12 * width + 6) }
 {
     2 * padded_length(width) + 12 * width + 6
+}
+
+/// A list of zeros for the scratch of a symbol. A long one takes room above 128 KB: glibc gives memory back to the system after
+/// each symbol where so much comes free at the heap's end, unless it has seen a greater block.
+pub fn zeros(alloc: Global, length: usize) -> Result<Vec<u8>, AllocError>
+    ensures { IfOk result (λ list. list.items ≡ replicate length 0) }
+{
+    let room = if length > 56_000 {
+        length.max(136_000)
+    } else {
+        length
+    };
+    let mut list = Vec::with_capacity(alloc, room)?;
+    list.resize(length, 0)?;
+    Ok(list)
 }
 
 /// Writes eight candidates between light modules.
