@@ -1,4 +1,4 @@
-use Rattle.std.proofs.Common.{rules, ◌++◌, take, arith}
+use Rattle.std.proofs.Common.{◌++◌, take, arith}
 use Rattle.std.proofs.lemmas.Grind.{common_steps}
 use Rattle.qrtext.proofs.DeviceLemmas.{Consumes-append}
 use Rattle.qrtext.proofs.draw.read_all.Goals as goal
