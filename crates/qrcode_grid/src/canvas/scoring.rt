@@ -40,13 +40,14 @@ pub fn scratch_length(width: usize) -> usize
     2 * padded_length(width) + 12 * width + 6
 }
 
-/// A list of zeros for the scratch of a symbol. A long one takes room above 128 KB: glibc gives memory back to the system after
-/// each symbol where so much comes free at the heap's end, unless it has seen a greater block.
+/// A list of zeros for the scratch of a symbol. A long one takes room of 400 KB, of which it touches what it needs: glibc gives
+/// memory back to the system after each symbol where more than 128 KB come free at the heap's end, and keeps twice as much
+/// as the greatest block that it has seen.
 pub fn zeros(alloc: Global, length: usize) -> Result<Vec<u8>, AllocError>
     ensures { IfOk result (λ list. list.items ≡ replicate length 0) }
 {
     let room = if length > 56_000 {
-        length.max(136_000)
+        length.max(400_000)
     } else {
         length
     };
