@@ -12,7 +12,7 @@ use qrcode_core::traits::{ModuleSource, QrSymbol};
 use qrcode_core::types::{EcLevel, QrResult, Version};
 use std::alloc::Global;
 
-/// A label at level M of at most 100 bytes, in a version up to 10.
+/// The symbol of a label at level M, with its version and its mask.
 pub fn label(alloc: Global, bytes: &[u8]) -> QrResult<Symbol>
     ensures best { IfOk result (λ symbol. IsBestSymbol bytes.now EcLevel.M symbol.modules) }
     ensures reading { IfOk result TellsReading }
@@ -20,7 +20,7 @@ pub fn label(alloc: Global, bytes: &[u8]) -> QrResult<Symbol>
     Symbol::new(alloc, bytes, EcLevel::M)
 }
 
-/// How many pixels wide its picture is, at so many pixels a module, with the quiet zone.
+/// How many pixels wide its picture is, at so many pixels a module, with a quiet zone of four modules on each side.
 pub fn picture_width(symbol: &Symbol, scale: usize) -> usize
     requires { scale ≤ 64 }
     ensures { result ≡ ((drawn_grid symbol.now).columns + 8) * scale }
