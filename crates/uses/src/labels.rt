@@ -1,15 +1,13 @@
 //! Labels with their version and mask, by `qrcode_core`.
-ghost use Rattle.std.specs.Prelude.{◌≡◌, ◌+◌, ◌*◌, ◌≤◌, length, IfOk, IfErr};
+ghost use Rattle.std.specs.Prelude.{◌≡◌, ◌+◌, ◌*◌, ◌≤◌, IfOk, IfErr};
 ghost use Rattle.qrcode_core.specs.Drawn.{TellsReading, drawn_grid};
 ghost use Rattle.qrcode_core.specs.Headline.{IsBestSymbol};
 ghost use Rattle.qrcode_core.specs.Limited.{IsBestWithin, IsLimitedRefusal};
-ghost use Rattle.qrcode_core.specs.HeldBits.{HoldsStream};
 
-use qrcode_core::bits::Bits;
 use qrcode_core::limits::ResourceLimits;
 use qrcode_core::symbol::Symbol;
 use qrcode_core::traits::{ModuleSource, QrSymbol};
-use qrcode_core::types::{EcLevel, QrResult, Version};
+use qrcode_core::types::{EcLevel, QrResult};
 use std::alloc::Global;
 
 /// The symbol of a label at level M, with its version and its mask.
@@ -34,15 +32,4 @@ pub fn small_label(alloc: Global, bytes: &[u8], limits: &ResourceLimits) -> QrRe
     ensures refused { IfErr result (IsLimitedRefusal limits.now bytes.now EcLevel.M) }
 {
     Symbol::with_limits(alloc, bytes, EcLevel::M, limits)
-}
-
-/// The symbol in version 5 of some bytes behind an ECI designator that says UTF-8.
-pub fn text_label(alloc: Global, text: &[u8]) -> QrResult<Symbol>
-    requires { length text.now ≤ 7089 }
-    ensures level { IfOk result (λ symbol. symbol.level ≡ EcLevel.M) }
-{
-    let mut bits = Bits::new(alloc, Version::Normal(5));
-    bits.push_eci_designator(26)?;
-    bits.push_byte_data(text)?;
-    Symbol::with_bits(alloc, bits, EcLevel::M)
 }
