@@ -1,1 +1,3 @@
 mod Utf8
+mod Ended
+mod ElementStrings

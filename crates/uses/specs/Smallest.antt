@@ -6,9 +6,14 @@ use Rattle.qrcode_base.specs.declared.types.Version.{Version}
 use Rattle.qrcode_base.specs.declared.types.Version.TheVariants.{Normal}
 use Rattle.qrcode_base.specs.declared.types.errors.QrError.{QrError}
 use Rattle.qrcode_base.specs.declared.types.errors.QrError.TheVariants.{DataTooLong, OutOfMemory}
+use Rattle.qrcode_base.specs.Numbers.{number_bits}
 use Rattle.qrcode_base.specs.Symbols.{capacity}
-use Rattle.qrcode_bits.specs.Frame.{tail}
+use Rattle.qrcode_bits.specs.declared.optimize.Segment.{Segment}
+use Rattle.qrcode_bits.specs.Frame.{spellings, tail}
 use Rattle.qrcode_bits.specs.Indicators.{eci_spelling}
+use Rattle.qrcode_bits.specs.Merging.{IsChosenPlan}
+use Rattle.qrcode_bits.specs.Parsing.{parsed}
+use Rattle.qrcode_bits.specs.Pieces.{segment_pieces}
 use Rattle.qrcode_bits.specs.Push.{piece}
 use Rattle.qrcode_bits.specs.Spelling.{spelling}
 use Rattle.qrcode_core.specs.Drawn.{DrawnSymbol}
@@ -20,6 +25,11 @@ normal number = Normal (pos number)
 -- a text in UTF-8: the ECI designator 26, and one Byte segment (ISO/IEC 18004, "ECI mode")
 abbrev pub IsUtf8 : List ℕ → Version → List Bool → Type 0
 IsUtf8 text version bits = bits ≡ eci_spelling 26 ++ spelling version (piece Byte text)
+
+-- a GS1 element string: FNC1 in the first position, and the chosen plan of its segments (ISO/IEC 18004, "FNC1 mode")
+abbrev pub IsElementString : List ℕ → Version → List Bool → Type 0
+IsElementString text version bits = (plan : List Segment) × IsChosenPlan (parsed text) version plan
+    × (bits ≡ number_bits 4 5 ++ spellings version (segment_pieces text plan))
 
 -- the bits say so in this version, and its symbol holds them
 pub record HoldsIn (says : Version → List Bool → Type 0) (version : Version) (level : EcLevel) (symbol : DrawnSymbol) : Type 0 where

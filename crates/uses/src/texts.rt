@@ -1,7 +1,7 @@
 //! Texts behind a header of the caller's, in the smallest version that holds them, by `qrcode_core`.
 ghost use Rattle.std.specs.Prelude.{◌≡◌, ◌≤◌, IfOk, IfErr};
 ghost use Rattle.qrcode_core.specs.Drawn.{TellsReading};
-ghost use Rattle.uses.specs.Smallest.{IsUtf8, IsSmallest, HoldsIn, IsRefusedIn, IsRefusedByAll, normal};
+ghost use Rattle.uses.specs.Smallest.{IsUtf8, IsElementString, IsSmallest, HoldsIn, IsRefusedIn, IsRefusedByAll, normal};
 
 use qrcode_core::bits::Bits;
 use qrcode_core::symbol::Symbol;
@@ -35,6 +35,37 @@ fn utf8_in(alloc: Global, text: &[u8], number: usize, level: EcLevel) -> QrResul
     let mut bits = Bits::new(alloc, normal(number));
     bits.push_eci_designator(26)?;
     bits.push_byte_data(text)?;
+    Symbol::with_bits(alloc, bits, level)
+}
+
+/// A GS1 element string behind FNC1 in the first position, in the fewest bits, in the smallest version that holds both. FNC1
+/// between elements is the byte 1D hex; the elements have no `%`, which stands for FNC1 too where it is Alphanumeric.
+pub fn gs1_symbol(alloc: Global, elements: &[u8], level: EcLevel) -> QrResult<Symbol>
+    ensures smallest { IfOk result (IsSmallest (IsElementString elements.now) level) }
+    ensures reading { IfOk result TellsReading }
+    ensures refused { IfErr result (IsRefusedByAll (IsElementString elements.now) level) }
+{
+    for number in 1..41 {
+        match gs1_in(alloc, elements, number, level) {
+            Ok(symbol) => return Ok(symbol),
+            Err(QrError::DataTooLong) => {}
+            Err(error) => return Err(error),
+        }
+    }
+    Err(QrError::DataTooLong)
+}
+
+/// The same in the Normal version of a number.
+fn gs1_in(alloc: Global, elements: &[u8], number: usize, level: EcLevel) -> QrResult<Symbol>
+    requires first { 1 ≤ number }
+    requires last { number ≤ 40 }
+    ensures holds { IfOk result (HoldsIn (IsElementString elements.now) (normal number) level) }
+    ensures reading { IfOk result TellsReading }
+    ensures refused { IfErr result (IsRefusedIn (IsElementString elements.now) (normal number) level) }
+{
+    let mut bits = Bits::new(alloc, normal(number));
+    bits.push_fnc1_first_position()?;
+    bits.push_optimal_data(elements)?;
     Symbol::with_bits(alloc, bits, level)
 }
 

@@ -1,0 +1,150 @@
+-- What a refused push says of the bits of an element string.
+use Rattle.std.proofs.Common.{◌≡◌, ◌∙◌, ℕ, ◌+◌, ◌^◌, ◌<◌, ◌≤◌, Bool, List, [], ◌∷◌, ◌++◌, length, ap, sym, subst, arith, inl, inr, length-append, Result, Ok, Err, slice_range}
+use Rattle.std.specs.Prelude.{All, Some}
+use Rattle.std.proofs.lemmas.Bool.{cases_lt}
+use Rattle.std.proofs.lemmas.List.Elements.{All-head, All-tail, All-nil, All-cons}
+use Rattle.std.proofs.lemmas.Option.{none-some}
+use Rattle.qrcode_base.specs.declared.types.EcLevel.{EcLevel}
+use Rattle.qrcode_base.specs.declared.types.Mode.{Mode}
+use Rattle.qrcode_base.specs.declared.types.Mode.TheVariants.{Numeric, Alphanumeric, Byte, Kanji}
+use Rattle.qrcode_base.specs.declared.types.Version.{Version}
+use Rattle.qrcode_base.specs.declared.types.errors.QrError.{QrError}
+use Rattle.qrcode_base.specs.declared.types.errors.QrError.TheVariants.{DataTooLong, OutOfMemory, InvalidCharacter, UnsupportedCharacterSet}
+use Rattle.qrcode_base.specs.Characters.{IsValid}
+use Rattle.qrcode_base.specs.Modes.{HasMode, count_width, indicator_width}
+use Rattle.qrcode_base.specs.Numbers.{number_bits}
+use Rattle.qrcode_base.specs.Symbols.{capacity}
+use Rattle.qrcode_base.proofs.Fields.{count-fits}
+use Rattle.qrcode_base.proofs.Validity.{none_where_valid, first_invalid-is}
+use Rattle.qrcode_bits.specs.declared.optimize.Segment.{Segment}
+use Rattle.qrcode_bits.specs.Frame.{spellings}
+use Rattle.qrcode_bits.specs.Merging.{IsChosenPlan}
+use Rattle.qrcode_bits.specs.OptimalPush.{PushesOptimally}
+use Rattle.qrcode_bits.specs.Parsing.{AreTexts, parsed}
+use Rattle.qrcode_bits.specs.Pieces.{segment_piece, segment_pieces}
+use Rattle.qrcode_bits.specs.Push.{IsRefused}
+use Rattle.qrcode_bits.specs.Spelling.{Piece, character_count, spelling}
+use Rattle.qrcode_bits.specs.Stream.{Stream, Appends}
+use Rattle.qrcode_bits.proofs.CuttingPlans.{chosen-cutting}
+use Rattle.qrcode_bits.proofs.PlanLaws.{one_chosen}
+use Rattle.qrcode_bits.proofs.Reading.{length-spelling}
+use Rattle.qrcode_bits.proofs.Segments.{length-character_bits}
+use Rattle.qrcode_bits.proofs.Texts.{texts-plan}
+use Rattle.uses.specs.Smallest.{normal, IsElementString, IsTooLongIn, IsRefusedIn}
+
+-- ---- The pieces of a plan
+
+abbrev IsText : Piece → Type 0
+IsText piece = IsValid piece.mode piece.text
+
+texts_valid : (whole : List ℕ) (from to : ℕ) (plan : List Segment) → AreTexts whole from plan to → All IsText (segment_pieces whole plan)
+texts_valid whole from to [] h = All-nil IsText
+texts_valid whole from to (s ∷ plan) h =
+    All-cons IsText (segment_piece whole s) (segment_pieces whole plan) (subst (λ (n : ℕ). IsValid s.mode (slice_range whole n s.end)) (sym h.0) h.2) (texts_valid whole s.end to plan h.3)
+
+pieces_valid : (whole : List ℕ) (version : Version) (plan : List Segment) → All (λ c. c < 256) whole → IsChosenPlan (parsed whole) version plan →
+    All IsText (segment_pieces whole plan)
+pieces_valid whole version plan are chosen =
+    let cutting = chosen-cutting (parsed whole) version plan chosen in
+    texts_valid whole 0 (length whole) plan (texts-plan whole are plan (record { pieces = cutting.0; cutting = cutting.1; merges = cutting.2 }))
+
+middle : (P : Piece → Type 0) (done rest : List Piece) (next : Piece) → All P (done ++ next ∷ rest) → P next
+middle P [] rest next h = All-head P next rest h
+middle P (piece ∷ done) rest next h = middle P done rest next (All-tail P piece (done ++ next ∷ rest) h)
+
+-- All spellings take at least as many bits as one.
+longer : (version : Version) (done rest : List Piece) (next : Piece) → length (spelling version next) ≤ length (spellings version (done ++ next ∷ rest))
+longer version [] rest next = omega (arith, length-append (spelling version next) (spellings version rest))
+longer version (piece ∷ done) rest next =
+    omega (arith, length-append (spelling version piece) (spellings version (done ++ next ∷ rest)), longer version done rest next)
+
+normal_modes : (number : ℕ) (mode : Mode) → HasMode (normal number) mode
+normal_modes number Numeric = omega arith
+normal_modes number Alphanumeric = omega arith
+normal_modes number Byte = omega arith
+normal_modes number Kanji = omega arith
+
+-- ---- Refusals
+
+-- A count that does not fit its field says that the bits are too many.
+piece_too_long : (number : ℕ) (level : EcLevel) (next : Piece) (limit : ℕ) → IsText next → capacity (normal number) level ≡ Some limit →
+    2 ^ count_width (normal number) next.mode ≤ character_count next.mode next.text → limit < length (spelling (normal number) next)
+piece_too_long number level next limit valid limit_is wide =
+    elim (cases_lt limit (length (spelling (normal number) next))) [
+      | inl more ↦ more
+      | inr less ↦
+          absurd (let fits = count-fits (normal number) level next.mode limit (length next.text) limit_is (omega (
+            arith,
+            less,
+            length-spelling (normal number) next,
+            length-character_bits next.mode next.text valid,
+          )) in
+          omega (arith, fits, wide))
+    ]
+
+module _ (old : Stream) (level : EcLevel) (number : ℕ) (text : List ℕ) (is : old.version ≡ normal number) (are : All (λ c. c < 256) text)
+    (plan : List Segment) (chosen : IsChosenPlan (parsed text) old.version plan) (done rest : List Piece) (next : Piece)
+    (pieces_are : segment_pieces text plan ≡ done ++ (next ∷ rest)) where
+  valid : IsText next
+  valid = middle IsText done rest next (subst (All IsText) pieces_are (pieces_valid text old.version plan are chosen))
+
+  too_long : 2 ^ count_width (normal number) next.mode ≤ character_count next.mode next.text → IsTooLongIn (IsElementString text) (normal number) level
+  too_long wide bits limit said limit_is =
+      let same : plan ≡ said.0 = one_chosen (parsed text) (normal number) plan said.0 (subst (λ (v : Version). IsChosenPlan (parsed text) v plan) is chosen) said.1 in
+      let pieces : segment_pieces text said.0 ≡ done ++ (next ∷ rest) = ap (segment_pieces text) (sym same) ∙ pieces_are in
+      let long : length bits ≡ length (number_bits 4 5) + length (spellings (normal number) (done ++ (next ∷ rest))) =
+      ap length (said.2 ∙ ap (λ (ps : List Piece). number_bits 4 5 ++ spellings (normal number) ps) pieces)
+      ∙ length-append (number_bits 4 5) (spellings (normal number) (done ++ (next ∷ rest))) in
+      omega (arith, long, longer (normal number) done rest next, piece_too_long number level next limit valid limit_is wide)
+
+  stopped : (new : Stream) (error : QrError) → new.version ≡ normal number → IsRefused new next error → IsRefusedIn (IsElementString text) (normal number) level error
+  stopped new UnsupportedCharacterSet now refused = absurd (refused (subst (λ (v : Version). HasMode v next.mode) (sym now) (normal_modes number next.mode)))
+  stopped new (InvalidCharacter position byte) now refused =
+      absurd (none-some (position, byte) (sym ((none_where_valid next.mode next.text).0 valid) ∙ sym (first_invalid-is next.mode next.text (Some (position, byte)) refused.1)))
+  stopped new DataTooLong now refused =
+      too_long (subst (λ (v : Version). 2 ^ count_width v next.mode ≤ character_count next.mode next.text) now refused.1.1)
+  stopped new OutOfMemory now refused = tt
+  stopped new other now refused = absurd refused
+
+-- Why the push of the elements is refused.
+pub elements_refused : (old new : Stream) (level : EcLevel) (number : ℕ) (text : List ℕ) (error : QrError) → old.version ≡ normal number →
+    All (λ c. c < 256) text → PushesOptimally text old (Err error) new → IsRefusedIn (IsElementString text) (normal number) level error
+elements_refused old new level number text error is are (inl (plan, chosen, halt)) =
+    let stops = halt.1 in
+    stopped old level number text is are plan chosen stops.done halt.0 stops.next stops.pieces_are new error (stops.pushed.version_is ∙ is) stops.refused
+elements_refused old new level number text error is are (inr (wants, same)) =
+    subst (IsRefusedIn (IsElementString text) (normal number) level) (sym (same_error error OutOfMemory wants)) tt
+  where
+    same_error : (a b : QrError) → ◌≡◌ {A = Result Unit QrError} (Err a) (Err b) → a ≡ b
+    same_error a b e = cc
+
+-- ---- What is pushed
+
+-- The stream says the elements.
+pub elements_pushed : (empty front stream : Stream) (number : ℕ) (text : List ℕ) → empty.version ≡ normal number → empty.bits ≡ [] →
+    Appends empty front (number_bits (indicator_width empty.version) 5) → PushesOptimally text front (Ok tt) stream →
+    (stream.version ≡ normal number) × IsElementString text stream.version stream.bits
+elements_pushed empty front stream number text is none fnc1 (inl (plan, chosen, spelled)) =
+    let same : stream.version ≡ front.version = spelled.version_is in
+    let begin : front.bits ≡ number_bits 4 5 = fnc1.bits_are ∙ (ap (λ (z : List Bool). z ++ number_bits (indicator_width empty.version) 5) none
+    ∙ ap (λ (v : Version). number_bits (indicator_width v) 5) is) in (
+      same ∙ (fnc1.version_is ∙ is),
+      (
+        plan,
+        subst (λ (v : Version). IsChosenPlan (parsed text) v plan) (sym same) chosen,
+        spelled.bits_are ∙ (ap (λ (z : List Bool). z ++ spellings front.version (segment_pieces text plan)) begin
+            ∙ ap (λ (v : Version). number_bits 4 5 ++ spellings v (segment_pieces text plan)) (sym same)),
+      ),
+    )
+elements_pushed empty front stream number text is none fnc1 (inr (wants, same)) = absurd (no_error OutOfMemory wants)
+  where
+    no_error : (error : QrError) → ◌≡◌ {A = Result Unit QrError} (Ok tt) (Err error) → ⊥
+    no_error error e = cc
+
+-- All that says the elements in this version is as long.
+pub one_length : (stream : Stream) (number : ℕ) (text : List ℕ) → stream.version ≡ normal number → IsElementString text stream.version stream.bits →
+    (bits : List Bool) → IsElementString text (normal number) bits → length bits ≡ length stream.bits
+one_length stream number text is said bits other =
+    let here = subst (λ (v : Version). IsElementString text v stream.bits) is said in
+    let same : other.0 ≡ here.0 = one_chosen (parsed text) (normal number) other.0 here.0 other.1 here.1 in
+    ap length (other.2 ∙ (ap (λ (plan : List Segment). number_bits 4 5 ++ spellings (normal number) (segment_pieces text plan)) same ∙ sym here.2))
