@@ -1,5 +1,5 @@
 -- What a call answers, by what was written of the symbol.
-use Rattle.std.specs.Prelude.{◌≡◌, ◌+◌, ◌<◌, ◌≤◌, ℕ, ℤ, List, length, map, nat_abs, All, slice_get, Some, Result, Ok, Err, IfOk, IfErr, OnErr}
+use Rattle.std.specs.Prelude.{◌≡◌, ◌+◌, ◌<◌, ◌≤◌, ℕ, ℤ, List, length, map, nat_abs, All, Result, Ok, Err, IfOk, IfErr, OnErr}
 use Rattle.std.proofs.Common.{get_or, subst, sym, refl, ◌∙◌, arith}
 use Rattle.std.proofs.lemmas.List.{length-map}
 use Rattle.std.proofs.lemmas.Option.{slice_get_read}

@@ -1,5 +1,5 @@
 -- The bytes of colors, written one after the other.
-use Rattle.std.proofs.Common.{◌≡◌, ℕ, zero, suc, ◌+◌, ◌<◌, ◌≤◌, List, [], ◌∷◌, ◌++◌, length, get_or, set, map, take, drop, refl, ap, arith}
+use Rattle.std.proofs.Common.{◌≡◌, ℕ, zero, suc, ◌<◌, ◌≤◌, List, [], ◌∷◌, ◌++◌, length, get_or, set, map, take, drop, refl, ap, arith}
 use Rattle.qrcode_base.specs.declared.types.Color.{Color}
 use Rattle.qrcode_grid.specs.Lanes.{byte_of}
 
