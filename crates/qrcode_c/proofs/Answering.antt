@@ -20,7 +20,12 @@ pub best_held : (best : EcLevel → List Color → Type 0) (level : EcLevel) (nu
     IfOk result (Holds symbol before after) → IfOk result (HoldsBest best number before after)
 best_held best level number symbol before after result level_is is_best reading held =
     IfOk-weaker result _ _ (λ shape holds. record {
-      level = level; level_is = level_is; symbol = symbol; is_best = is_best; reading = reading; holds = holds
+      level = level;
+      level_is = level_is;
+      symbol = symbol;
+      is_best = is_best;
+      reading = reading;
+      holds = holds;
     }) held
 
 -- A refusal to write is that of a short buffer.
@@ -42,9 +47,14 @@ pub part_held : (message cuts : List ℕ) (level : EcLevel) (number limit : ℤ)
 part_held message cuts level number limit index symbols symbol before after result level_is part best reading is held =
     let less = within message cuts level limit index symbols best part in
     IfOk-weaker result _ _ (λ shape holds. record {
-      level = level; level_is = level_is; symbols = symbols; are_best = best; symbol = symbol;
+      level = level;
+      level_is = level_is;
+      symbols = symbols;
+      are_best = best;
+      symbol = symbol;
       at_index = slice_get_read symbols (length symbols) index symbol refl less is;
-      reading = subst TellsReading (sym is) (reading index symbol less); holds = holds
+      reading = subst TellsReading (sym is) (reading index symbol less);
+      holds = holds;
     }) held
 
 pub part_above : (room : ℕ) (message cuts : List ℕ) (level : EcLevel) (limit : ℤ) (index : ℕ) (symbols : List DrawnSymbol) (symbol : DrawnSymbol) →
@@ -52,6 +62,9 @@ pub part_above : (room : ℕ) (message cuts : List ℕ) (level : EcLevel) (limit
     room < length symbol.modules → IsPartAbove room message cuts level limit index
 part_above room message cuts level limit index symbols symbol part best is above =
     record {
-      symbols = symbols; are_best = best; symbol = symbol; above = above;
-      at_index = slice_get_read symbols (length symbols) index symbol refl (within message cuts level limit index symbols best part) is
+      symbols = symbols;
+      are_best = best;
+      symbol = symbol;
+      above = above;
+      at_index = slice_get_read symbols (length symbols) index symbol refl (within message cuts level limit index symbols best part) is;
     }

@@ -31,8 +31,14 @@ pub fn symbol(alloc: Global, bytes: &[u8], level: i32, modules: &mut [u8]) -> Re
 }
 
 /// Writes the best Micro symbol of some bytes.
-pub fn micro_symbol(alloc: Global, bytes: &[u8], level: i32, modules: &mut [u8]) -> Result<Shape, Refusal>
-    ensures held { IfOk result (HoldsBest (IsBestMicroSymbol bytes.now) level modules.old modules.new) }
+pub fn micro_symbol(
+    alloc: Global,
+    bytes: &[u8],
+    level: i32,
+    modules: &mut [u8],
+) -> Result<Shape, Refusal>
+    ensures held { IfOk result
+        (HoldsBest (IsBestMicroSymbol bytes.now) level modules.old modules.new) }
     ensures refused { IfErr result (IsMicroRefusal bytes.now level (length modules.old)) }
     ensures kept { OnErr result (modules.new ≡ modules.old) }
 {

@@ -34,8 +34,11 @@ returns-in-Ok-clause-refused c =
     let same = same_limit c.args.max_version c.in-Some-limit_of.limit limited.0 (to_z-of_z w32 c.args.max_version c.ranges.max_version) limited.1 in
     let best = subst (λ (z : ℤ). AreBestSymbols c.args.message.now c.args.cuts.now c.in-Some.level (nat_abs z) (map modules_of c.in-Ok.symbols.items)) same c.in-Ok.ensures.best in
     short_refused _ _ c.write.result c.write.ensures.short c.write.ensures.room
-    (λ less. (c.in-Some.level, named,
-    part_above _ c.args.message.now c.args.cuts.now c.in-Some.level c.args.max_version c.args.index c.in-Ok.symbols.items c.index.result.now c.if-index-cuts.false best c.index.ensures less))
+    (λ less. (
+      c.in-Some.level,
+      named,
+      part_above _ c.args.message.now c.args.cuts.now c.in-Some.level c.args.max_version c.args.index c.in-Ok.symbols.items c.index.result.now c.if-index-cuts.false best c.index.ensures less,
+    ))
 
 pub returns-in-Err-DataTooLong-clause-refused : goal.returns-in-Err-DataTooLong-clause-refused
 returns-in-Err-DataTooLong-clause-refused c =
