@@ -21,6 +21,7 @@ IsStatusOf comes status = (refusal : Refusal) × (status ≡ status_of refusal) 
 abbrev pub IsAbove : ℕ → (List Color → Type 0) → Type 0
 IsAbove room best = (modules : List Color) × best modules × (room < length modules)
 
+-- Which refusal comes for the symbol of some bytes, by the number of the level and the room of the buffer.
 abbrev pub IsSymbolRefusal : List ℕ → ℤ → ℕ → Refusal → Type 0
 IsSymbolRefusal bytes number room InvalidLevel = IsNoLevel number
 IsSymbolRefusal bytes number room DataTooLong = AtLevel number (IsTooLong bytes)
@@ -28,6 +29,7 @@ IsSymbolRefusal bytes number room OutOfMemory = AtLevel number (λ level. length
 IsSymbolRefusal bytes number room ShortBuffer = AtLevel number (λ level. IsAbove room (IsBestSymbol bytes level))
 IsSymbolRefusal bytes number room _ = ⊥
 
+-- The same for the Micro symbol, which no version has at level H.
 abbrev pub IsMicroRefusal : List ℕ → ℤ → ℕ → Refusal → Type 0
 IsMicroRefusal bytes number room InvalidLevel = AtLevel number (λ level. level ≡ H) ⊎ IsNoLevel number
 IsMicroRefusal bytes number room DataTooLong =
@@ -55,7 +57,7 @@ pub record IsPartAbove (room : ℕ) (message cuts : List ℕ) (level : EcLevel) 
   pub at_index : slice_get symbols index ≡ Some symbol
   pub above : room < length symbol.modules
 
--- They are tested in the order of the lines.
+-- The same for the symbol at an index of those that carry a message, tested in the order of the lines.
 abbrev pub IsPartRefusal : List ℕ → List ℕ → ℤ → ℤ → ℕ → ℕ → Refusal → Type 0
 IsPartRefusal message cuts number limit index room InvalidLevel = IsNoLevel number
 IsPartRefusal message cuts number limit index room InvalidCuts =

@@ -28,15 +28,6 @@ impl Refusal {
     pub fn status(self) -> i32
         ensures { result ≡ status_of self }
     {
-        match self {
-            Refusal::DataTooLong => 1,
-            Refusal::OutOfMemory => 2,
-            Refusal::InvalidLevel => 3,
-            Refusal::InvalidMaxVersion => 4,
-            Refusal::InvalidPartCount => 5,
-            Refusal::InvalidCuts => 6,
-            Refusal::InvalidIndex => 7,
-            Refusal::ShortBuffer => 8,
-        }
+        self as i32
     }
 }
