@@ -10,8 +10,20 @@
 use qrcode_core::{Color, EcLevel, QrResult, bits, bits::Bits, canvas::Canvas, ec};
 use std::time::{Duration, Instant};
 
+/// `sicklespan_shape` of bindings/c/sicklespan.h.
+#[repr(C)]
+#[derive(Default)]
+struct Shape {
+    width: i32,
+    version: i32,
+    mask: i32,
+    micro: bool,
+}
+
 unsafe extern "C" {
-    fn sicklespan_symbol(bytes: *const u8, len: usize, level: u8, micro: bool, out: *mut u8, out_len: usize) -> usize;
+    fn sicklespan_symbol(bytes: *const u8, len: usize, level: i32, out: *mut u8, room: usize, shape: &mut Shape) -> i32;
+    fn sicklespan_micro_symbol(bytes: *const u8, len: usize, level: i32, out: *mut u8, room: usize, shape: &mut Shape)
+    -> i32;
     fn peer_qrencode(bytes: *const u8, len: usize, kanji: bool) -> i32;
     #[cfg(zint)]
     fn peer_zint(bytes: *const u8, len: usize) -> i32;
@@ -34,7 +46,11 @@ const ENCODERS: &[&str] = &[
 ];
 
 fn here(bytes: &[u8], level: usize, micro: bool, out: &mut [u8]) -> usize {
-    unsafe { sicklespan_symbol(bytes.as_ptr(), bytes.len(), level as u8, micro, out.as_mut_ptr(), out.len()) }
+    let mut shape = Shape::default();
+    let draw = if micro { sicklespan_micro_symbol } else { sicklespan_symbol };
+    let (level, room) = (level as i32, out.len());
+    let status = unsafe { draw(bytes.as_ptr(), bytes.len(), level, out.as_mut_ptr(), room, &mut shape) };
+    if status == 0 { (shape.width * shape.width) as usize } else { 0 }
 }
 
 fn drawn(encoded: QrResult<Bits>, level: EcLevel, out: &mut [u8]) -> usize {

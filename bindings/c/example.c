@@ -1,0 +1,26 @@
+/* Prints the symbol of a word at level L, `#` dark and `.` light:  example WORD */
+#include "sicklespan.h"
+
+#include <stdio.h>
+#include <string.h>
+
+int main(int count, char **words) {
+    if (count != 2) {
+        fputs("usage: example WORD\n", stderr);
+        return 2;
+    }
+    static uint8_t modules[SICKLESPAN_GREATEST_SIZE];
+    sicklespan_shape shape;
+    int32_t status = sicklespan_symbol((const uint8_t *)words[1], strlen(words[1]), SICKLESPAN_LEVEL_L, modules,
+                                       sizeof modules, &shape);
+    if (status != SICKLESPAN_DONE) {
+        fprintf(stderr, "example: %s\n", sicklespan_status_text(status));
+        return 1;
+    }
+    for (int32_t y = 0; y < shape.width; y++) {
+        for (int32_t x = 0; x < shape.width; x++) putchar(modules[y * shape.width + x] ? '#' : '.');
+        putchar('\n');
+    }
+    fprintf(stderr, "version %d, mask %d\n", (int)shape.version, (int)shape.mask);
+    return 0;
+}

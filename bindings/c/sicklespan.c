@@ -1,0 +1,94 @@
+/*
+ * The border: what C can pass and a slice of Rattle cannot be (null, too long, overlapping) is answered here. All else is
+ * done by the proved functions of crates/qrcode_c, to which the calls go on.
+ */
+#include "sicklespan.h"
+
+int32_t qrcode_c_symbol(const uint8_t *bytes, size_t length, int32_t level, uint8_t *modules, size_t room,
+                        sicklespan_shape *shape);
+int32_t qrcode_c_micro_symbol(const uint8_t *bytes, size_t length, int32_t level, uint8_t *modules, size_t room,
+                              sicklespan_shape *shape);
+int32_t qrcode_c_part_symbol(const uint8_t *message, size_t length, const size_t *cuts, size_t cut_count, int32_t level,
+                             int32_t max_version, size_t index, uint8_t *modules, size_t room, sicklespan_shape *shape);
+size_t qrcode_c_greatest_size(void);
+int32_t qrcode_c_version_of_width(size_t width);
+
+/* A part of the caller's memory. */
+struct span {
+    const void *at;
+    size_t size;
+};
+
+/* What stands for a null pointer: nothing is read or written there. */
+static size_t nowhere;
+
+static bool is_span(struct span it) { return it.size <= PTRDIFF_MAX && (it.at != NULL || it.size == 0); }
+
+static bool overlap(struct span a, struct span b) {
+    uintptr_t x = (uintptr_t)a.at, y = (uintptr_t)b.at;
+    return a.size > 0 && b.size > 0 && (x <= y ? y - x < a.size : x - y < b.size);
+}
+
+/* Whether these are good pointers, and nothing else lies where the modules and the shape are written. */
+static bool are_good(struct span bytes, struct span cuts, struct span modules, struct span shape) {
+    return is_span(bytes) && is_span(cuts) && is_span(modules) && shape.at != NULL && !overlap(modules, bytes) &&
+           !overlap(modules, cuts) && !overlap(modules, shape) && !overlap(shape, bytes) && !overlap(shape, cuts);
+}
+
+static size_t least(size_t a, size_t b) { return a < b ? a : b; }
+
+typedef int32_t draw(const uint8_t *, size_t, int32_t, uint8_t *, size_t, sicklespan_shape *);
+
+static int32_t drawn(draw *by, const uint8_t *bytes, size_t length, int32_t level, uint8_t *modules, size_t room,
+                     sicklespan_shape *shape) {
+    room = least(room, SICKLESPAN_GREATEST_SIZE);
+    struct span none = {NULL, 0}, input = {bytes, length}, output = {modules, room}, told = {shape, sizeof *shape};
+    if (!are_good(input, none, output, told)) return SICKLESPAN_INVALID_POINTER;
+    if (bytes == NULL) bytes = (const uint8_t *)&nowhere;
+    if (modules == NULL) modules = (uint8_t *)&nowhere;
+    return by(bytes, length, level, modules, room, shape);
+}
+
+int32_t sicklespan_symbol(const uint8_t *bytes, size_t length, int32_t level, uint8_t *modules, size_t room,
+                          sicklespan_shape *shape) {
+    return drawn(qrcode_c_symbol, bytes, length, level, modules, room, shape);
+}
+
+int32_t sicklespan_micro_symbol(const uint8_t *bytes, size_t length, int32_t level, uint8_t *modules, size_t room,
+                                sicklespan_shape *shape) {
+    return drawn(qrcode_c_micro_symbol, bytes, length, level, modules, room, shape);
+}
+
+int32_t sicklespan_part_symbol(const uint8_t *message, size_t length, const size_t *cuts, size_t cut_count,
+                               int32_t level, int32_t max_version, size_t index, uint8_t *modules, size_t room,
+                               sicklespan_shape *shape) {
+    room = least(room, SICKLESPAN_GREATEST_SIZE);
+    if (cut_count > PTRDIFF_MAX / sizeof *cuts) return SICKLESPAN_INVALID_POINTER;
+    struct span input = {message, length}, at = {cuts, cut_count * sizeof *cuts};
+    struct span output = {modules, room}, told = {shape, sizeof *shape};
+    if (!are_good(input, at, output, told)) return SICKLESPAN_INVALID_POINTER;
+    if (message == NULL) message = (const uint8_t *)&nowhere;
+    if (cuts == NULL) cuts = &nowhere;
+    if (modules == NULL) modules = (uint8_t *)&nowhere;
+    return qrcode_c_part_symbol(message, length, cuts, cut_count, level, max_version, index, modules, room, shape);
+}
+
+size_t sicklespan_greatest_size(void) { return qrcode_c_greatest_size(); }
+
+int32_t sicklespan_version_of_width(size_t width) { return qrcode_c_version_of_width(width); }
+
+const char *sicklespan_status_text(int32_t status) {
+    switch (status) {
+    case SICKLESPAN_DONE: return "done";
+    case SICKLESPAN_DATA_TOO_LONG: return "the data are too long";
+    case SICKLESPAN_OUT_OF_MEMORY: return "out of memory";
+    case SICKLESPAN_INVALID_LEVEL: return "there is no such level";
+    case SICKLESPAN_INVALID_MAX_VERSION: return "the greatest version is not 1 to 40";
+    case SICKLESPAN_INVALID_PART_COUNT: return "the parts are not 2 to 16";
+    case SICKLESPAN_INVALID_CUTS: return "the cuts fall, or lie behind the end";
+    case SICKLESPAN_INVALID_INDEX: return "there is no part at the index";
+    case SICKLESPAN_SHORT_BUFFER: return "the buffer is too short for the symbol";
+    case SICKLESPAN_INVALID_POINTER: return "a pointer is null, or buffers overlap";
+    default: return "unknown status";
+    }
+}

@@ -1,0 +1,11 @@
+//! Tells where `libsicklespan.a` is: in the folder SICKLESPAN_LIB, or where bindings/build puts it.
+use std::env;
+use std::path::PathBuf;
+
+fn main() {
+    println!("cargo:rerun-if-env-changed=SICKLESPAN_LIB");
+    let folder = env::var_os("SICKLESPAN_LIB")
+        .map_or_else(|| PathBuf::from(env::var_os("CARGO_MANIFEST_DIR").unwrap()).join("../out"), PathBuf::from);
+    println!("cargo:rustc-link-search=native={}", folder.display());
+    println!("cargo:rerun-if-changed={}", folder.join("libsicklespan.a").display());
+}

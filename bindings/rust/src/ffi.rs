@@ -1,0 +1,98 @@
+//! The functions of `bindings/c/sicklespan.h`, behind safe ones. All that is unsafe is here.
+#![allow(unsafe_code)]
+
+use std::ffi::{c_char, CStr};
+
+/// `sicklespan_shape`.
+#[repr(C)]
+#[derive(Clone, Copy, Default)]
+pub struct Shape {
+    pub width: i32,
+    pub version: i32,
+    pub mask: i32,
+    pub micro: bool,
+}
+
+#[link(name = "sicklespan", kind = "static")]
+extern "C" {
+    fn sicklespan_symbol(
+        bytes: *const u8,
+        length: usize,
+        level: i32,
+        modules: *mut u8,
+        room: usize,
+        shape: *mut Shape,
+    ) -> i32;
+    fn sicklespan_micro_symbol(
+        bytes: *const u8,
+        length: usize,
+        level: i32,
+        modules: *mut u8,
+        room: usize,
+        shape: *mut Shape,
+    ) -> i32;
+    fn sicklespan_part_symbol(
+        message: *const u8,
+        length: usize,
+        cuts: *const usize,
+        cut_count: usize,
+        level: i32,
+        max_version: i32,
+        index: usize,
+        modules: *mut u8,
+        room: usize,
+        shape: *mut Shape,
+    ) -> i32;
+    fn sicklespan_greatest_size() -> usize;
+    fn sicklespan_version_of_width(width: usize) -> i32;
+    fn sicklespan_status_text(status: i32) -> *const c_char;
+}
+
+// In each call the pointers and lengths are those of slices, which are valid, apart, and no longer than they say.
+
+pub fn symbol(bytes: &[u8], level: i32, modules: &mut [u8], shape: &mut Shape) -> i32 {
+    unsafe { sicklespan_symbol(bytes.as_ptr(), bytes.len(), level, modules.as_mut_ptr(), modules.len(), shape) }
+}
+
+pub fn micro_symbol(bytes: &[u8], level: i32, modules: &mut [u8], shape: &mut Shape) -> i32 {
+    unsafe { sicklespan_micro_symbol(bytes.as_ptr(), bytes.len(), level, modules.as_mut_ptr(), modules.len(), shape) }
+}
+
+pub fn part_symbol(
+    message: &[u8],
+    cuts: &[usize],
+    level: i32,
+    max_version: i32,
+    index: usize,
+    modules: &mut [u8],
+    shape: &mut Shape,
+) -> i32 {
+    unsafe {
+        sicklespan_part_symbol(
+            message.as_ptr(),
+            message.len(),
+            cuts.as_ptr(),
+            cuts.len(),
+            level,
+            max_version,
+            index,
+            modules.as_mut_ptr(),
+            modules.len(),
+            shape,
+        )
+    }
+}
+
+pub fn greatest_size() -> usize {
+    unsafe { sicklespan_greatest_size() }
+}
+
+pub fn version_of_width(width: usize) -> i32 {
+    unsafe { sicklespan_version_of_width(width) }
+}
+
+/// The text of a status; it is static and ASCII.
+pub fn status_text(status: i32) -> &'static str {
+    let text = unsafe { CStr::from_ptr(sicklespan_status_text(status)) };
+    text.to_str().unwrap_or("")
+}

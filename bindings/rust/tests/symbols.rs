@@ -1,0 +1,172 @@
+//! Symbols through the library: sizes by the standard's table of capacities, grids by the original crate's answers.
+use sicklespan::{Error, Level, Symbol, Version};
+
+const LEVELS: [Level; 4] = [Level::L, Level::M, Level::Q, Level::H];
+
+/// How many bytes the versions 1 to 40 hold in Byte mode (ISO/IEC 18004, "Data capacity for all versions"), by level.
+const BYTES: [[usize; 40]; 4] = [
+    [
+        17, 32, 53, 78, 106, 134, 154, 192, 230, 271, 321, 367, 425, 458, 520, 586, 644, 718, 792, 858, 929, 1003,
+        1091, 1171, 1273, 1367, 1465, 1528, 1628, 1732, 1840, 1952, 2068, 2188, 2303, 2431, 2563, 2699, 2809, 2953,
+    ],
+    [
+        14, 26, 42, 62, 84, 106, 122, 152, 180, 213, 251, 287, 331, 362, 412, 450, 504, 560, 624, 666, 711, 779, 857,
+        911, 997, 1059, 1125, 1190, 1264, 1370, 1452, 1538, 1628, 1722, 1809, 1911, 1989, 2099, 2213, 2331,
+    ],
+    [
+        11, 20, 32, 46, 60, 74, 86, 108, 130, 151, 177, 203, 241, 258, 292, 322, 364, 394, 442, 482, 509, 565, 611,
+        661, 715, 751, 805, 868, 908, 982, 1030, 1112, 1168, 1228, 1283, 1351, 1423, 1499, 1579, 1663,
+    ],
+    [
+        7, 14, 24, 34, 44, 58, 64, 84, 98, 119, 137, 155, 177, 194, 220, 250, 280, 310, 338, 382, 403, 439, 461, 511,
+        535, 593, 625, 658, 698, 742, 790, 842, 898, 958, 983, 1051, 1093, 1139, 1219, 1273,
+    ],
+];
+
+/// How many digits each Micro version holds at each level that it has (the same table).
+const DIGITS: [(u8, Level, usize); 8] = [
+    (1, Level::L, 5),
+    (2, Level::L, 10),
+    (2, Level::M, 8),
+    (3, Level::L, 23),
+    (3, Level::M, 18),
+    (4, Level::L, 35),
+    (4, Level::M, 30),
+    (4, Level::Q, 21),
+];
+
+#[test]
+fn draws_all_versions_and_levels() {
+    for (level, row) in LEVELS.into_iter().zip(BYTES) {
+        let mut least = 1;
+        for (number, most) in (1..).zip(row) {
+            for count in [least, most] {
+                let symbol = Symbol::new(&vec![b'a'; count], level).unwrap();
+                let width = 17 + 4 * usize::from(number);
+                assert_eq!(symbol.version, Version::Normal(number), "{count} bytes at {level:?}");
+                assert_eq!((symbol.width, symbol.modules.len()), (width, width * width));
+                assert_eq!(symbol.rows().count(), width);
+                assert_eq!(Version::of_width(width), Some(symbol.version));
+                assert!(symbol.mask < 8);
+            }
+            least = most + 1;
+        }
+        assert_eq!(Symbol::new(&vec![b'a'; least], level), Err(Error::DataTooLong));
+    }
+}
+
+#[test]
+fn draws_all_micro_versions_and_levels() {
+    for (number, level, most) in DIGITS {
+        let symbol = Symbol::micro(&vec![b'7'; most], level).unwrap();
+        assert_eq!((symbol.version, symbol.width), (Version::Micro(number), 9 + 2 * usize::from(number)));
+        assert_eq!(Version::of_width(symbol.width), Some(symbol.version));
+        assert!(symbol.mask < 4);
+        let next = DIGITS.iter().find(|(other, at, _)| *other > number && *at == level);
+        let answer = Symbol::micro(&vec![b'7'; most + 1], level).map(|symbol| symbol.version);
+        assert_eq!(answer, next.map(|(other, ..)| Version::Micro(*other)).ok_or(Error::DataTooLong));
+    }
+    // Worked by hand from the standard's steps.
+    assert_eq!(Symbol::micro(b"12345", Level::L).unwrap().mask, 2);
+}
+
+/// The inputs of the answers that stand in crates/qrcode_tests, by kind and length.
+fn input(kind: usize, count: usize) -> Vec<u8> {
+    let signs = b"0123456789ABCDEFGHIJKLMNOPQRSTUVWXYZ $%*+-./:";
+    (0..count)
+        .map(|i| match kind {
+            0 => b'0' + ((i * 7 + 3) % 256 % 10) as u8,
+            1 => signs[(i * 11 + 15) % 45],
+            2 => (i * 37 + 161) as u8,
+            3 if i % 2 == 0 => 0x89 + (i / 2 % 6) as u8,
+            3 => 0x40 + (i * 5 % 60) as u8,
+            4 => match (i / 9 % 4, i % 2) {
+                (0, _) => b'0' + (i % 10) as u8,
+                (1, _) => b'A' + (i % 26) as u8,
+                (2, _) => b'a' + (i % 26) as u8,
+                (_, 0) => 0x93,
+                _ => 0x5f,
+            },
+            5 => b'a',
+            6 if i % 2 == 0 => b'A',
+            6 => b'1',
+            _ => (i * i * 31 + i * 17 + 5) as u8,
+        })
+        .collect()
+}
+
+/// The answers of the original crate: kind and length of the input, level, whether Micro, how many modules (1 for data that are
+/// too long, 2 for a level that no Micro version has), payload bits, hash of the modules.
+fn answers() -> Vec<[u64; 7]> {
+    let text = include_str!("../../../crates/qrcode_tests/src/symbol_tests.rt");
+    let rows = text.split("const ANSWERS").nth(1).unwrap().split("];").next().unwrap().lines().skip(1);
+    rows.map(|row| {
+        let mut words = row.trim().trim_start_matches('(').trim_end_matches("),").split(", ").map(|word| match word {
+            "true" => 1,
+            "false" => 0,
+            _ => match word.strip_prefix("0x") {
+                Some(digits) => u64::from_str_radix(digits, 16).unwrap(),
+                None => word.parse().unwrap(),
+            },
+        });
+        std::array::from_fn(|_| words.next().unwrap())
+    })
+    .collect()
+}
+
+/// FNV-1a, a byte for each module.
+fn hash(modules: &[bool]) -> u64 {
+    modules.iter().fold(0x811c_9dc5u32, |sum, dark| (sum ^ u32::from(*dark)).wrapping_mul(0x0100_0193)).into()
+}
+
+#[test]
+fn answers_as_the_original() {
+    let answers = answers();
+    assert_eq!(answers.len(), 100);
+    for [kind, count, level, micro, modules, _, sum] in answers {
+        let (bytes, level) = (input(kind as usize, count as usize), LEVELS[level as usize]);
+        let answer = if micro == 1 { Symbol::micro(&bytes, level) } else { Symbol::new(&bytes, level) };
+        let got = match answer {
+            Ok(symbol) => (symbol.modules.len() as u64, hash(&symbol.modules)),
+            Err(Error::DataTooLong) => (1, 0),
+            Err(Error::InvalidLevel) => (2, 0),
+            Err(error) => panic!("{error}"),
+        };
+        assert_eq!(got, (modules, sum), "kind {kind}, {count} bytes, {level:?}, {micro}");
+    }
+}
+
+#[test]
+fn draws_sequences() {
+    let message = b"0123456789abcdefghijklmnopqrstuvwxyz";
+    let symbols = Symbol::sequence(message, &[10, 10, 36], Level::Q, 5).unwrap();
+    assert_eq!(symbols.len(), 4);
+    assert!(symbols.iter().all(|symbol| symbol.version <= Version::Normal(5)));
+    assert!(symbols.windows(2).all(|pair| pair[0] != pair[1]));
+    assert_eq!(Symbol::sequence(message, &[5, 4], Level::L, 40), Err(Error::InvalidCuts));
+    assert_eq!(Symbol::sequence(message, &[37], Level::L, 40), Err(Error::InvalidCuts));
+    assert_eq!(Symbol::sequence(message, &[5], Level::L, 0), Err(Error::InvalidMaxVersion));
+    assert_eq!(Symbol::sequence(message, &[5], Level::L, 41), Err(Error::InvalidMaxVersion));
+    assert_eq!(Symbol::sequence(message, &[], Level::L, 40), Err(Error::InvalidPartCount));
+    assert_eq!(Symbol::sequence(message, &[0; 16], Level::L, 40), Err(Error::InvalidPartCount));
+    assert_eq!(Symbol::sequence(message, &[0], Level::L, 1), Err(Error::DataTooLong));
+}
+
+#[test]
+fn errors_have_texts() {
+    let error: Box<dyn std::error::Error> = Box::new(Error::DataTooLong);
+    assert_eq!(error.to_string(), "the data are too long");
+    assert_eq!(Error::InvalidCuts.to_string(), "the cuts fall, or lie behind the end");
+}
+
+#[test]
+fn eight_threads_draw_the_same() {
+    let inputs: Vec<Vec<u8>> = (0..6).map(|kind| input(kind, 40 + 90 * kind)).collect();
+    let draw = || inputs.iter().map(|bytes| Symbol::new(bytes, Level::M)).collect::<Vec<_>>();
+    let wanted = draw();
+    std::thread::scope(|scope| {
+        for _ in 0..8 {
+            scope.spawn(|| (0..20).for_each(|_| assert_eq!(draw(), wanted)));
+        }
+    });
+}

@@ -1,0 +1,40 @@
+-- What a buffer and a shape hold of a symbol.
+use Rattle.std.specs.Prelude.{◌≡◌, ◌*◌, ◌++◌, ℕ, ℤ, nat_abs, List, length, map, drop, slice_get, Some}
+use Rattle.qrcode_base.specs.declared.types.Color.{Color}
+use Rattle.qrcode_base.specs.declared.types.EcLevel.{EcLevel}
+use Rattle.qrcode_grid.specs.Lanes.{byte_of}
+use Rattle.qrcode_base.specs.Symbols.{width_of}
+use Rattle.qrcode_core.specs.Drawn.{DrawnSymbol, TellsReading, modules_of}
+use Rattle.qrcode_core.specs.Sequence.{AreBestSymbols}
+use Rattle.qrcode_c.specs.declared.shape.Shape.{Shape}
+use Rattle.qrcode_c.specs.Levels.{number_of}
+use Rattle.qrcode_c.specs.Shapes.{shape_of}
+
+-- The first bytes of the buffer are the modules of the symbol, as many as the square of its width, and the others are
+-- as before. The shape is that of the symbol.
+pub record Holds (symbol : DrawnSymbol) (before after : List ℕ) (shape : Shape) : Type 0 where
+  pub modules : after ≡ map byte_of symbol.modules ++ drop (length symbol.modules) before
+  pub square : length symbol.modules ≡ width_of symbol.version * width_of symbol.version
+  pub shape_is : shape ≡ shape_of symbol
+
+-- They hold the symbol that is best at the level that the number names. The shape tells what a reader finds in it.
+pub record HoldsBest (best : EcLevel → List Color → Type 0) (number : ℤ)
+    (before after : List ℕ) (shape : Shape) : Type 0 where
+  pub level : EcLevel
+  pub level_is : number ≡ number_of level
+  pub symbol : DrawnSymbol
+  pub is_best : best level symbol.modules
+  pub reading : TellsReading symbol
+  pub holds : Holds symbol before after shape
+
+-- They hold the symbol at an index of those that carry a message together.
+pub record HoldsPart (message cuts : List ℕ) (number limit : ℤ) (index : ℕ)
+    (before after : List ℕ) (shape : Shape) : Type 0 where
+  pub level : EcLevel
+  pub level_is : number ≡ number_of level
+  pub symbols : List DrawnSymbol
+  pub are_best : AreBestSymbols message cuts level (nat_abs limit) (map modules_of symbols)
+  pub symbol : DrawnSymbol
+  pub at_index : slice_get symbols index ≡ Some symbol
+  pub reading : TellsReading symbol
+  pub holds : Holds symbol before after shape

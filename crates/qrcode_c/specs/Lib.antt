@@ -1,0 +1,5 @@
+pub mod Levels
+pub mod Shapes
+pub mod Statuses
+pub mod Holding
+pub mod Refusals

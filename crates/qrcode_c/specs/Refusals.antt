@@ -1,0 +1,77 @@
+-- Which refusal comes when.
+use Rattle.std.specs.Prelude.{◌≡◌, ◌≢◌, ◌⊎◌, ◌+◌, ◌<◌, ◌≤◌, ℕ, ℤ, nat_abs, List, length, map, slice_get, All, Some}
+use Rattle.std.specs.List.Sorted.{IsNonDecreasing}
+use Rattle.qrcode_base.specs.declared.types.Color.{Color}
+use Rattle.qrcode_base.specs.declared.types.EcLevel.{EcLevel}
+use Rattle.qrcode_base.specs.declared.types.EcLevel.TheVariants.{H}
+use Rattle.qrcode_bits.specs.Encoding.{IsLimit}
+use Rattle.qrcode_core.specs.Drawn.{DrawnSymbol, modules_of}
+use Rattle.qrcode_core.specs.Headline.{IsBestSymbol, IsBestMicroSymbol, IsTooLong, IsTooLongForMicro}
+use Rattle.qrcode_core.specs.Sequence.{AreBestSymbols, IsTotal, IsSomePartTooLong}
+use Rattle.qrcode_c.specs.declared.refusal.Refusal.{Refusal}
+use Rattle.qrcode_c.specs.declared.refusal.Refusal.TheVariants.{DataTooLong, OutOfMemory, InvalidLevel, InvalidMaxVersion, InvalidPartCount, InvalidCuts, InvalidIndex, ShortBuffer}
+use Rattle.qrcode_c.specs.Levels.{AtLevel, IsNoLevel}
+use Rattle.qrcode_c.specs.Statuses.{status_of}
+
+-- The status is the number of a refusal that comes.
+abbrev pub IsStatusOf : (Refusal → Type 0) → ℤ → Type 0
+IsStatusOf comes status = (refusal : Refusal) × (status ≡ status_of refusal) × comes refusal
+
+-- The best symbol has more modules than there is room for.
+abbrev pub IsAbove : ℕ → (List Color → Type 0) → Type 0
+IsAbove room best = (modules : List Color) × best modules × (room < length modules)
+
+-- Which refusal comes for the symbol of some bytes, by the number of the level and the room of the buffer.
+abbrev pub IsSymbolRefusal : List ℕ → ℤ → ℕ → Refusal → Type 0
+IsSymbolRefusal bytes number room InvalidLevel = IsNoLevel number
+IsSymbolRefusal bytes number room DataTooLong = AtLevel number (IsTooLong bytes)
+IsSymbolRefusal bytes number room OutOfMemory = AtLevel number (λ level. length bytes ≤ 7089)
+IsSymbolRefusal bytes number room ShortBuffer = AtLevel number (λ level. IsAbove room (IsBestSymbol bytes level))
+IsSymbolRefusal bytes number room _ = ⊥
+
+-- The same for the Micro symbol, which no version has at level H.
+abbrev pub IsMicroRefusal : List ℕ → ℤ → ℕ → Refusal → Type 0
+IsMicroRefusal bytes number room InvalidLevel = AtLevel number (λ level. level ≡ H) ⊎ IsNoLevel number
+IsMicroRefusal bytes number room DataTooLong =
+    AtLevel number (λ level. (level ≢ H) × IsTooLongForMicro bytes level)
+IsMicroRefusal bytes number room OutOfMemory = AtLevel number (λ level. (level ≢ H) × (length bytes ≤ 7089))
+IsMicroRefusal bytes number room ShortBuffer =
+    AtLevel number (λ level. IsAbove room (IsBestMicroSymbol bytes level))
+IsMicroRefusal bytes number room _ = ⊥
+
+-- The cuts don't fall, and lie within so many bytes.
+abbrev pub AreCuts : List ℕ → ℕ → Type 0
+AreCuts cuts end = IsNonDecreasing cuts × All (λ cut. cut ≤ end) cuts
+
+-- Such symbols can be asked for: the cuts are good, there is a part at the index, and the greatest version is one.
+pub record IsAsked (message cuts : List ℕ) (limit : ℤ) (index : ℕ) : Type 0 where
+  pub cuts_good : AreCuts cuts (length message)
+  pub is_part : index ≤ length cuts
+  pub is_limit : IsLimit limit
+
+-- Of the best symbols for the message, the one at the index has more modules than there is room for.
+pub record IsPartAbove (room : ℕ) (message cuts : List ℕ) (level : EcLevel) (limit : ℤ) (index : ℕ) : Type 0 where
+  pub symbols : List DrawnSymbol
+  pub are_best : AreBestSymbols message cuts level (nat_abs limit) (map modules_of symbols)
+  pub symbol : DrawnSymbol
+  pub at_index : slice_get symbols index ≡ Some symbol
+  pub above : room < length symbol.modules
+
+-- The same for the symbol at an index of those that carry a message, tested in the order of the lines.
+abbrev pub IsPartRefusal : List ℕ → List ℕ → ℤ → ℤ → ℕ → ℕ → Refusal → Type 0
+IsPartRefusal message cuts number limit index room InvalidLevel = IsNoLevel number
+IsPartRefusal message cuts number limit index room InvalidCuts =
+    AtLevel number (λ level. AreCuts cuts (length message) → ⊥)
+IsPartRefusal message cuts number limit index room InvalidIndex =
+    AtLevel number (λ level. AreCuts cuts (length message) × (length cuts < index))
+IsPartRefusal message cuts number limit index room InvalidMaxVersion =
+    AtLevel number (λ level. AreCuts cuts (length message) × (index ≤ length cuts) × (IsLimit limit → ⊥))
+IsPartRefusal message cuts number limit index room InvalidPartCount =
+    AtLevel number (λ level. IsAsked message cuts limit index × (IsTotal (length cuts + 1) → ⊥))
+IsPartRefusal message cuts number limit index room DataTooLong =
+    AtLevel number (λ level. IsAsked message cuts limit index × IsTotal (length cuts + 1)
+    × IsSomePartTooLong message cuts level (nat_abs limit))
+IsPartRefusal message cuts number limit index room OutOfMemory =
+    AtLevel number (λ level. IsAsked message cuts limit index × IsTotal (length cuts + 1))
+IsPartRefusal message cuts number limit index room ShortBuffer =
+    AtLevel number (λ level. IsPartAbove room message cuts level limit index)

@@ -1,0 +1,33 @@
+-- What a caller is told of a symbol beside its modules.
+use Rattle.std.specs.Prelude.{◌≡◌, ℕ, ℤ, pos, unwrap_or}
+use Rattle.qrcode_base.specs.declared.types.Version.{Version}
+use Rattle.qrcode_base.specs.declared.types.Version.TheVariants.{Normal, Micro}
+use Rattle.qrcode_base.specs.Symbols.{IsVersion, width_of}
+use Rattle.qrcode_base.specs.Versions.{is_micro}
+use Rattle.qrcode_grid.specs.declared.canvas.MaskPattern.{MaskPattern}
+use Rattle.qrcode_grid.specs.Masks.{normal_number, micro_number}
+use Rattle.qrcode_core.specs.Drawn.{DrawnSymbol}
+use Rattle.qrcode_c.specs.declared.shape.Shape.{Shape}
+
+-- the number of a version among those of its kind
+abbrev pub version_number : Version → ℤ
+version_number (Normal number) = number
+version_number (Micro number) = number
+
+-- the number of a mask pattern in the symbols of a version (ISO/IEC 18004, format information)
+abbrev pub mask_number : Version → MaskPattern → ℤ
+mask_number (Normal _) mask = pos (normal_number mask)
+mask_number (Micro _) mask = pos (unwrap_or (micro_number mask) 0)
+
+abbrev pub shape_of : DrawnSymbol → Shape
+shape_of symbol = record {
+  width = pos (width_of symbol.version);
+  version = version_number symbol.version;
+  mask = mask_number symbol.version symbol.mask;
+  micro = is_micro symbol.version;
+}
+
+-- The number is that of a version whose symbols are so wide.
+abbrev pub IsNumberAtWidth : ℤ → ℕ → Type 0
+IsNumberAtWidth number width =
+    (version : Version) × IsVersion version × (width_of version ≡ width) × (number ≡ version_number version)

@@ -1,0 +1,14 @@
+-- The numbers by which a caller is told of refusals.
+use Rattle.std.specs.Prelude.{ℤ, pos}
+use Rattle.qrcode_c.specs.declared.refusal.Refusal.{Refusal}
+use Rattle.qrcode_c.specs.declared.refusal.Refusal.TheVariants.{DataTooLong, OutOfMemory, InvalidLevel, InvalidMaxVersion, InvalidPartCount, InvalidCuts, InvalidIndex, ShortBuffer}
+
+abbrev pub status_of : Refusal → ℤ
+status_of DataTooLong = pos 1
+status_of OutOfMemory = pos 2
+status_of InvalidLevel = pos 3
+status_of InvalidMaxVersion = pos 4
+status_of InvalidPartCount = pos 5
+status_of InvalidCuts = pos 6
+status_of InvalidIndex = pos 7
+status_of ShortBuffer = pos 8

@@ -1,0 +1,150 @@
+//! Symbols in a caller's buffer.
+ghost use Rattle.std.specs.Prelude.{◌≡◌, ◌<◌, ◌≤◌, ◌++◌, length, map, drop, OnErr, IfOk, IfErr, IfSome, IfNone};
+ghost use Rattle.qrcode_core.specs.Headline.{IsBestSymbol, IsBestMicroSymbol};
+ghost use Rattle.qrcode_bits.specs.Encoding.{IsLimit};
+ghost use Rattle.qrcode_grid.specs.Lanes.{byte_of};
+ghost use Rattle.qrcode_c.specs.Holding.{Holds, HoldsBest, HoldsPart};
+ghost use Rattle.qrcode_c.specs.Levels.{number_of, IsNoLevel};
+ghost use Rattle.qrcode_c.specs.Refusals.{IsSymbolRefusal, IsMicroRefusal, IsPartRefusal};
+
+use crate::refusal::Refusal;
+use crate::shape::{Shape, shape_of};
+use qrcode_core::symbol::{Symbol, are_cuts};
+use qrcode_core::traits::ModuleSource;
+use qrcode_core::types::{Color, EcLevel, QrError};
+use std::alloc::Global;
+
+/// Writes the best symbol of some bytes.
+pub fn symbol(alloc: Global, bytes: &[u8], level: i32, modules: &mut [u8]) -> Result<Shape, Refusal>
+    ensures held { IfOk result (HoldsBest (IsBestSymbol bytes.now) level modules.old modules.new) }
+    ensures refused { IfErr result (IsSymbolRefusal bytes.now level (length modules.old)) }
+    ensures kept { OnErr result (modules.new ≡ modules.old) }
+{
+    let Some(level) = level_of(level) else {
+        return Err(Refusal::InvalidLevel);
+    };
+    match Symbol::new(alloc, bytes, level) {
+        Ok(symbol) => write(&symbol, modules),
+        Err(QrError::DataTooLong) => Err(Refusal::DataTooLong),
+        Err(_) => Err(Refusal::OutOfMemory),
+    }
+}
+
+/// Writes the best Micro symbol of some bytes.
+pub fn micro_symbol(
+    alloc: Global,
+    bytes: &[u8],
+    level: i32,
+    modules: &mut [u8],
+) -> Result<Shape, Refusal>
+    ensures held { IfOk result
+        (HoldsBest (IsBestMicroSymbol bytes.now) level modules.old modules.new) }
+    ensures refused { IfErr result (IsMicroRefusal bytes.now level (length modules.old)) }
+    ensures kept { OnErr result (modules.new ≡ modules.old) }
+{
+    let Some(level) = level_of(level) else {
+        return Err(Refusal::InvalidLevel);
+    };
+    match Symbol::micro(alloc, bytes, level) {
+        Ok(symbol) => write(&symbol, modules),
+        Err(QrError::InvalidVersion { .. }) => Err(Refusal::InvalidLevel),
+        Err(QrError::DataTooLong) => Err(Refusal::DataTooLong),
+        Err(_) => Err(Refusal::OutOfMemory),
+    }
+}
+
+/// Writes the symbol at an index of those that carry a message together.
+pub fn part_symbol(
+    alloc: Global,
+    message: &[u8],
+    cuts: &[usize],
+    level: i32,
+    max_version: i32,
+    index: usize,
+    modules: &mut [u8],
+) -> Result<Shape, Refusal>
+    ensures held { IfOk result
+        (HoldsPart message.now cuts.now level max_version index modules.old modules.new) }
+    ensures refused { IfErr result
+        (IsPartRefusal message.now cuts.now level max_version index (length modules.old)) }
+    ensures kept { OnErr result (modules.new ≡ modules.old) }
+{
+    let Some(level) = level_of(level) else {
+        return Err(Refusal::InvalidLevel);
+    };
+    if !are_cuts(cuts, message.len()) {
+        return Err(Refusal::InvalidCuts);
+    }
+    if index > cuts.len() {
+        return Err(Refusal::InvalidIndex);
+    }
+    let Some(limit) = limit_of(max_version) else {
+        return Err(Refusal::InvalidMaxVersion);
+    };
+    match Symbol::sequence(alloc, message, cuts, level, limit) {
+        Ok(symbols) => write(&symbols[index], modules),
+        Err(QrError::InvalidStructuredAppend { .. }) => Err(Refusal::InvalidPartCount),
+        Err(QrError::DataTooLong) => Err(Refusal::DataTooLong),
+        Err(_) => Err(Refusal::OutOfMemory),
+    }
+}
+
+/// The level that a number names.
+fn level_of(number: i32) -> Option<EcLevel>
+    ensures level { IfSome result (λ level. number ≡ number_of level) }
+    ensures none { IfNone result (IsNoLevel number) }
+{
+    match number {
+        0 => Some(EcLevel::L),
+        1 => Some(EcLevel::M),
+        2 => Some(EcLevel::Q),
+        3 => Some(EcLevel::H),
+        _ => None,
+    }
+}
+
+/// The greatest version that a number names.
+fn limit_of(number: i32) -> Option<i16>
+    ensures limit { IfSome result (λ limit. (limit ≡ number) × IsLimit limit) }
+    ensures none { IfNone result (IsLimit number → ⊥) }
+{
+    if number < 1 || number > 40 {
+        return None;
+    }
+    Some(number as i16)
+}
+
+/// Writes the modules of a symbol, and answers its shape.
+fn write(symbol: &Symbol, modules: &mut [u8]) -> Result<Shape, Refusal>
+    ensures held { IfOk result (Holds symbol.now modules.old modules.new) }
+    ensures short { IfErr result (λ refusal. refusal ≡ Refusal.ShortBuffer) }
+    ensures room { OnErr result (length modules.old < length symbol.now.modules) }
+    ensures kept { OnErr result (modules.new ≡ modules.old) }
+{
+    let colors = symbol.modules();
+    if modules.len() < colors.len() {
+        return Err(Refusal::ShortBuffer);
+    }
+    write_colors(colors, modules);
+    Ok(shape_of(symbol))
+}
+
+/// Writes a byte for each color to the start of a buffer.
+fn write_colors(colors: &[Color], modules: &mut [u8])
+    requires { length colors.now ≤ length modules.old }
+    ensures { modules.new ≡ map byte_of colors.now ++ drop (length colors.now) modules.old }
+{
+    for (i, color) in colors.iter().enumerate() {
+        modules[i] = byte_of(*color);
+    }
+}
+
+/// The byte that stands for a color.
+fn byte_of(color: Color) -> u8
+    ensures { result ≡ byte_of color }
+{
+    match color {
+        Color::Dark => 1,
+        Color::Light => 0,
+    }
+}

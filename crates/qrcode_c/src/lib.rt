@@ -1,0 +1,137 @@
+//! The functions that `libsicklespan.a` defines for C. `bindings/c/sicklespan.h` declares them to its users, behind
+//! tests of the pointers that they pass; docs/BINDINGS.md tells what holds across the border.
+//!
+//! No function has a `requires`, since nothing checks one for a caller in C: what is asked wrongly is a status. A call
+//! shares nothing with any other, and frees all memory that it takes.
+#![tactic(auto)]
+
+ghost use Rattle.std.specs.Prelude.{◌≡◌, ◌≢◌, ◌*◌, pos, length};
+ghost use Rattle.qrcode_core.specs.Headline.{IsBestSymbol, IsBestMicroSymbol};
+ghost use Rattle.qrcode_base.specs.declared.types.Version.{Version};
+ghost use Rattle.qrcode_base.specs.Symbols.{IsVersion, width_of};
+ghost use Rattle.qrcode_c.specs.Holding.{HoldsBest, HoldsPart};
+ghost use Rattle.qrcode_c.specs.Refusals.{IsStatusOf, IsSymbolRefusal, IsMicroRefusal, IsPartRefusal};
+ghost use Rattle.qrcode_c.specs.Shapes.{IsNumberAtWidth};
+
+use qrcode_core::types::Version;
+pub use refusal::Refusal;
+pub use shape::Shape;
+use std::alloc::Global;
+
+mod drawing;
+mod refusal;
+mod shape;
+#[cfg(test)]
+mod tests;
+
+/// The status of a call that did what it was asked for. Each other status is the number of a `Refusal`.
+pub const DONE: i32 = 0;
+
+/// Writes the best symbol of some bytes at a level, a byte for each module, row by row from the upper left corner: 1
+/// for a dark one, 0 for a light one. The levels L, M, Q and H are 0 to 3. What `modules` has behind them stays.
+///
+/// Otherwise nothing is written, and the status is, in this order: `InvalidLevel`; `DataTooLong` exactly where the
+/// bytes fit no version at the level; `OutOfMemory` where a growth was refused; `ShortBuffer`.
+#[unsafe(no_mangle)]
+pub extern "C" fn qrcode_c_symbol(
+    alloc: Global,
+    bytes: &[u8],
+    level: i32,
+    modules: &mut [u8],
+    shape: &mut Shape,
+) -> i32
+    ensures done { result ≡ DONE →
+        HoldsBest (IsBestSymbol bytes.now) level modules.old modules.new shape.new }
+    ensures refused { result ≢ DONE →
+        IsStatusOf (IsSymbolRefusal bytes.now level (length modules.old)) result }
+    ensures kept { result ≢ DONE → (modules.new ≡ modules.old) × (shape.new ≡ shape.old) }
+{
+    match drawing::symbol(alloc, bytes, level, modules) {
+        Ok(drawn) => {
+            *shape = drawn;
+            DONE
+        }
+        Err(refusal) => refusal.status(),
+    }
+}
+
+/// As `qrcode_c_symbol`, in the Micro versions M1 to M4. Level H, which none of them has, is `InvalidLevel`.
+#[unsafe(no_mangle)]
+pub extern "C" fn qrcode_c_micro_symbol(
+    alloc: Global,
+    bytes: &[u8],
+    level: i32,
+    modules: &mut [u8],
+    shape: &mut Shape,
+) -> i32
+    ensures done { result ≡ DONE →
+        HoldsBest (IsBestMicroSymbol bytes.now) level modules.old modules.new shape.new }
+    ensures refused { result ≢ DONE →
+        IsStatusOf (IsMicroRefusal bytes.now level (length modules.old)) result }
+    ensures kept { result ≢ DONE → (modules.new ≡ modules.old) × (shape.new ≡ shape.old) }
+{
+    match drawing::micro_symbol(alloc, bytes, level, modules) {
+        Ok(drawn) => {
+            *shape = drawn;
+            DONE
+        }
+        Err(refusal) => refusal.status(),
+    }
+}
+
+/// Writes one of the 2 to 16 symbols that carry a message together (ISO/IEC 18004, "Structured Append"): the one at an
+/// index, counted from 0. The parts of the message lie between its start, the cuts in order, and its end.
+///
+/// Otherwise nothing is written, and the status is, in this order: `InvalidLevel`; `InvalidCuts` where a cut falls
+/// below the one before it, or lies behind the end; `InvalidIndex` where there are no more parts than the index;
+/// `InvalidMaxVersion` where it is not 1 to 40; `InvalidPartCount` where the parts are not 2 to 16; `DataTooLong`
+/// exactly where some part fits no version up to the greatest, beside its header; `OutOfMemory` where a growth was
+/// refused; `ShortBuffer`.
+#[unsafe(no_mangle)]
+pub extern "C" fn qrcode_c_part_symbol(
+    alloc: Global,
+    message: &[u8],
+    cuts: &[usize],
+    level: i32,
+    max_version: i32,
+    index: usize,
+    modules: &mut [u8],
+    shape: &mut Shape,
+) -> i32
+    ensures done { result ≡ DONE →
+        HoldsPart message.now cuts.now level max_version index modules.old modules.new shape.new }
+    ensures refused { result ≢ DONE →
+        IsStatusOf (IsPartRefusal message.now cuts.now level max_version index (length modules.old)) result }
+    ensures kept { result ≢ DONE → (modules.new ≡ modules.old) × (shape.new ≡ shape.old) }
+{
+    match drawing::part_symbol(alloc, message, cuts, level, max_version, index, modules) {
+        Ok(drawn) => {
+            *shape = drawn;
+            DONE
+        }
+        Err(refusal) => refusal.status(),
+    }
+}
+
+/// How many modules the greatest symbol has, so how many bytes `modules` needs at most.
+#[unsafe(no_mangle)]
+pub extern "C" fn qrcode_c_greatest_size() -> usize
+    ensures { result ≡ 177 * 177 }
+{
+    177 * 177
+}
+
+/// The number of the version whose symbols have so many modules a side: 1 to 40, or 1 to 4 of a Micro version, whose
+/// widths are below 21. 0 where no symbol is as wide.
+#[unsafe(no_mangle)]
+pub extern "C" fn qrcode_c_version_of_width(width: usize) -> i32
+    ensures version { result ≢ pos 0 → IsNumberAtWidth result width }
+    ensures none { result ≡ pos 0 →
+        (version : Version) → IsVersion version → width_of version ≢ width }
+{
+    match Version::of_width(width) {
+        Some(Version::Normal(number)) => i32::from(number),
+        Some(Version::Micro(number)) => i32::from(number),
+        None => 0,
+    }
+}

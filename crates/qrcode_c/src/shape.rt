@@ -1,0 +1,58 @@
+//! What a caller is told of a symbol beside its modules.
+ghost use Rattle.std.specs.Prelude.{◌≡◌};
+ghost use Rattle.qrcode_c.specs.Shapes.{shape_of, mask_number};
+
+use qrcode_core::canvas::MaskPattern;
+use qrcode_core::symbol::Symbol;
+use qrcode_core::traits::{ModuleSource, QrSymbol};
+use qrcode_core::types::Version;
+
+/// What a caller is told of a symbol beside its modules.
+#[repr(C)]
+#[derive(Clone, Copy, Debug, PartialEq, Eq)]
+pub struct Shape {
+    /// How many modules a side has: 21 to 177, and 11 to 17 of a Micro symbol.
+    pub width: i32,
+    /// The number of the version: 1 to 40, and 1 to 4 of a Micro symbol.
+    pub version: i32,
+    /// The number of the mask pattern, by which the format information names it: 0 to 7, and 0 to 3 of a Micro symbol.
+    pub mask: i32,
+    /// Whether it is a Micro symbol.
+    pub micro: bool,
+}
+
+/// The shape of a symbol.
+pub fn shape_of(symbol: &Symbol) -> Shape
+    ensures { result ≡ shape_of symbol.now }
+{
+    let version = symbol.version();
+    let number = match version {
+        Version::Normal(number) | Version::Micro(number) => number,
+    };
+    Shape {
+        width: symbol.width() as i32,
+        version: i32::from(number),
+        mask: mask_number(version, symbol.mask()),
+        micro: version.is_micro(),
+    }
+}
+
+/// The number of a mask pattern in the symbols of a version.
+fn mask_number(version: Version, mask: MaskPattern) -> i32
+    ensures { result ≡ mask_number version mask }
+{
+    match (version, mask) {
+        (Version::Normal(_), MaskPattern::Checkerboard) => 0,
+        (Version::Normal(_), MaskPattern::HorizontalLines) => 1,
+        (Version::Normal(_), MaskPattern::VerticalLines) => 2,
+        (Version::Normal(_), MaskPattern::DiagonalLines) => 3,
+        (Version::Normal(_), MaskPattern::LargeCheckerboard) => 4,
+        (Version::Normal(_), MaskPattern::Fields) => 5,
+        (Version::Normal(_), MaskPattern::Diamonds) => 6,
+        (Version::Normal(_), MaskPattern::Meadow) => 7,
+        (Version::Micro(_), MaskPattern::LargeCheckerboard) => 1,
+        (Version::Micro(_), MaskPattern::Diamonds) => 2,
+        (Version::Micro(_), MaskPattern::Meadow) => 3,
+        (Version::Micro(_), _) => 0,
+    }
+}
