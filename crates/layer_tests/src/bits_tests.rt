@@ -65,6 +65,7 @@ impl EncodingMode for Stubborn {
 }
 
 impl Push {
+    /// Does the push.
     fn apply(self, bits: &mut Bits) -> QrResult<()> {
         match self {
             Push::Number(width, number) => bits.push_number_checked(width, number),
@@ -101,6 +102,7 @@ pub struct Row<'a> {
     bytes: &'a [u8],
 }
 
+/// Empty bits of a version.
 fn started(rt: &HostRuntime, version: Version) -> Bits {
     match version {
         Version::Micro(1) => Bits::new(rt.alloc(), Version::Micro(1)),
@@ -158,6 +160,7 @@ pub const M3: Version = Version::Micro(3);
 
 pub const M4: Version = Version::Micro(4);
 
+/// A row of pushes that all go well.
 pub const fn accepted<'a>(
     version: Version,
     first: &'a [Push],
@@ -179,6 +182,7 @@ pub const fn accepted<'a>(
     }
 }
 
+/// A row whose last push is refused.
 pub const fn refused<'a>(
     version: Version,
     first: &'a [Push],

@@ -15,6 +15,7 @@ use std::sync::ledger::{Blank, Ledger};
 
 const ONE: Version = Version::Normal(1);
 
+/// A segment of a mode.
 const fn segment(mode: Mode, begin: usize, end: usize) -> Segment {
     Segment { mode, begin, end }
 }

@@ -51,6 +51,7 @@ struct Layout {
     missing: usize,
 }
 
+/// The column of a level in the tables.
 fn column(level: Level) -> usize {
     match level {
         Level::L => 0,
@@ -75,6 +76,7 @@ fn micro_layout(number: usize, level: Level) -> Option<(usize, usize)> {
     }
 }
 
+/// How the codewords of a symbol are cut into blocks.
 fn layout_of(shape: Shape, level: Level, cells: usize) -> Option<Layout> {
     if shape.micro {
         let (correction, all) = micro_layout(shape.number, level)?;
@@ -142,11 +144,13 @@ fn rest_is_light(bits: &[bool], layout: Layout) -> bool {
     bits.iter().skip(end).all(|bit| !*bit)
 }
 
+/// Twice an element of the field.
 fn times_two(a: u8) -> u8 {
     let shifted = (a & 0x7f) << 1;
     if a >= 0x80 { shifted ^ 0x1d } else { shifted }
 }
 
+/// The product of two elements of the field, by doubling.
 fn product(a: u8, b: u8) -> u8 {
     let mut sum = 0;
     let mut term = a;

@@ -2,12 +2,13 @@
 use crate::{Level, Shape};
 use std::alloc::Global;
 
+/// Whether a cell is dark.
 fn is_dark(grid: &[bool], width: usize, x: usize, y: usize) -> bool {
     grid.get(y.wrapping_mul(width).wrapping_add(x)) == Some(&true)
 }
 
 /// How many steps lie between the first and the last centre of the alignment patterns, and how far a step is: the least even
-// number that reaches, but 26 in version 32.
+/// number that reaches, but 26 in version 32.
 fn alignment(number: usize) -> (usize, usize) {
     if number < 2 {
         return (0, 0);
@@ -47,6 +48,7 @@ fn near_center(shape: Shape, coordinate: usize) -> Option<usize> {
     }
 }
 
+/// Whether a cell lies in an alignment pattern.
 fn is_in_alignment(shape: Shape, x: usize, y: usize) -> bool {
     let last = shape.width.wrapping_sub(7);
     match (near_center(shape, x), near_center(shape, y)) {
@@ -57,6 +59,7 @@ fn is_in_alignment(shape: Shape, x: usize, y: usize) -> bool {
     }
 }
 
+/// Whether a cell belongs to the version information.
 fn is_in_version(shape: Shape, x: usize, y: usize) -> bool {
     let far = shape.width.wrapping_sub(11);
     let end = shape.width.wrapping_sub(8);
@@ -90,6 +93,7 @@ fn remainder(word: u32, polynomial: u32, degree: u32) -> u32 {
     rest
 }
 
+/// The word that stands in some cells, its highest digit first.
 fn format_word(grid: &[bool], width: usize, places: &[(usize, usize)]) -> u32 {
     let mut word = 0;
     for (x, y) in places {
@@ -134,6 +138,7 @@ const MICRO: [(usize, usize); 15] = [
     (8, 1),
 ];
 
+/// The cells of the second copy of the format information.
 fn second(width: usize) -> [(usize, usize); 15] {
     let from = |back: usize| width.wrapping_sub(back);
     [

@@ -19,10 +19,12 @@ struct Cursor<'a> {
 }
 
 impl Cursor<'_> {
+    /// How many bits are left.
     fn left(&self) -> usize {
         self.end.saturating_sub(self.at)
     }
 
+    /// The bit at a place.
     fn bit(&self, place: usize) -> usize {
         match self.codewords.get(place / 8) {
             Some(byte) => usize::from(byte >> (7 - place % 8) & 1),
@@ -44,6 +46,7 @@ impl Cursor<'_> {
         Some(number)
     }
 
+    /// The number that the next bits spell, where there are so many.
     fn take(&mut self, count: usize) -> Option<usize> {
         let number = self.look(count)?;
         self.at = self.at.wrapping_add(count);
@@ -60,6 +63,7 @@ enum Kind {
     Pairs,
 }
 
+/// What an indicator begins, in this kind of symbol.
 fn kind_of(shape: Shape, indicator: usize) -> Option<Kind> {
     match (shape.micro, indicator) {
         (true, 0) | (false, 1) => Some(Kind::Digits),
@@ -70,6 +74,7 @@ fn kind_of(shape: Shape, indicator: usize) -> Option<Kind> {
     }
 }
 
+/// How wide the character count is.
 fn count_width(shape: Shape, kind: Kind) -> usize {
     let class = if shape.number < 10 {
         0
@@ -89,6 +94,7 @@ fn count_width(shape: Shape, kind: Kind) -> usize {
     }
 }
 
+/// Reads so many digits.
 fn read_digits(cursor: &mut Cursor, count: usize, bytes: &mut Vec<u8>) -> Option<()> {
     for group in 0..count.div_ceil(3) {
         let size = count.wrapping_sub(group.wrapping_mul(3)).min(3);
@@ -109,6 +115,7 @@ fn read_digits(cursor: &mut Cursor, count: usize, bytes: &mut Vec<u8>) -> Option
     Some(())
 }
 
+/// Reads so many of the 45 characters.
 fn read_signs(cursor: &mut Cursor, count: usize, bytes: &mut Vec<u8>) -> Option<()> {
     let signs = b"0123456789ABCDEFGHIJKLMNOPQRSTUVWXYZ $%*+-./:";
     for pair in 0..count.div_ceil(2) {
@@ -123,6 +130,7 @@ fn read_signs(cursor: &mut Cursor, count: usize, bytes: &mut Vec<u8>) -> Option<
     Some(())
 }
 
+/// Reads so many pairs of Shift JIS.
 fn read_pairs(cursor: &mut Cursor, count: usize, bytes: &mut Vec<u8>) -> Option<()> {
     for _ in 0..count {
         let number = cursor.take(13)?;
@@ -138,6 +146,7 @@ fn read_pairs(cursor: &mut Cursor, count: usize, bytes: &mut Vec<u8>) -> Option<
     Some(())
 }
 
+/// Reads a segment, and adds its bytes.
 fn read_segment(cursor: &mut Cursor, shape: Shape, bytes: &mut Vec<u8>) -> Option<()> {
     let width = if shape.micro {
         shape.number.wrapping_sub(1)
@@ -159,6 +168,7 @@ fn read_segment(cursor: &mut Cursor, shape: Shape, bytes: &mut Vec<u8>) -> Optio
     }
 }
 
+/// How wide the terminator is.
 fn terminator(shape: Shape) -> usize {
     if shape.micro {
         shape.number.wrapping_mul(2).wrapping_add(1)

@@ -97,6 +97,7 @@ pub fn data_count(shape: Shape, level: Level) -> Option<usize> {
     blocks::data_count(shape, level, cells)
 }
 
+/// The size of a grid, if a symbol has it.
 fn shape_of(grid: &[bool]) -> Option<Shape> {
     let width = grid.len().isqrt();
     if width.wrapping_mul(width) != grid.len() {

@@ -56,7 +56,7 @@ fn tells_micro_symbol(rt: HostRuntime) -> Result<(), Fail> {
     Ok(())
 }
 
-// The example of ISO/IEC 18004, annex I: version 1, level M, data mask pattern 010.
+/// The example of ISO/IEC 18004, annex I: version 1, level M, data mask pattern 010.
 #[test]
 fn tells_symbol(rt: HostRuntime) -> Result<(), Fail> {
     let alloc = rt.alloc();

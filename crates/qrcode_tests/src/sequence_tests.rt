@@ -74,6 +74,7 @@ fn answer(
     Some(symbol_sequence(alloc, bytes, cuts, EcLevel::L, limit))
 }
 
+/// The grids of a row, if there are any.
 fn grids(alloc: Global, row: &Row) -> Option<Vec<Vec<Color>>> {
     answer(alloc, row.bytes, row.cuts, row.limit)?.ok()
 }

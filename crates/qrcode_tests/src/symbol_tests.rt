@@ -15,6 +15,7 @@ fn seen(alloc: Global, bytes: &[u8], level: EcLevel) -> Option<Seen> {
     read(alloc, &grid)
 }
 
+/// What the plain reader sees in a Micro symbol of the bytes.
 fn seen_micro(alloc: Global, bytes: &[u8], level: EcLevel) -> Option<Seen> {
     let grid = symbol_micro(alloc, bytes, level).ok()?;
     read(alloc, &grid)

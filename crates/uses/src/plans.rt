@@ -9,6 +9,7 @@ use std::alloc::Global;
 use std::marker::Brand;
 use std::sync::ledger::{Blank, Ledger};
 
+/// The plan, counted on a ledger of its own.
 fn plan_on<L: Ledger>(
     alloc: Global,
     segments: &[Segment],

@@ -281,6 +281,7 @@ const LIMITS: [(EcLevel, Mode, &[(i16, usize)]); 12] = [
     (EcLevel::Q, Mode::Kanji, &[(4, 5)]),
 ];
 
+/// One more than so many.
 fn more_than(count: usize) -> usize {
     count.saturating_add(1)
 }

@@ -284,6 +284,7 @@ const FILLED: &[Push] = &[END, Push::Eci(9), Push::Byte(b"a")];
 
 const BEGUN: &[Push] = &[Push::Number(3, 5), Push::Numeric(b"12")];
 
+/// That this byte is invalid.
 const fn invalid(position: usize, byte: u8) -> QrError {
     QrError::InvalidCharacter { position, byte }
 }

@@ -173,7 +173,7 @@ pub fn find_min_version(length: usize, level: EcLevel) -> Version
     Version::Normal(40)
 }
 
-// The Normal version of a number.
+/// The Normal version of a number.
 fn normal(number: usize) -> Version
     requires { number ≤ 40 }
     ensures { result ≡ normal number }
@@ -181,7 +181,7 @@ fn normal(number: usize) -> Version
     Version::Normal(number as i16)
 }
 
-// The Micro version of a number.
+/// The Micro version of a number.
 fn micro(number: usize) -> Version
     requires from_one { 1 ≤ number }
     requires to_four { number ≤ 4 }
@@ -191,7 +191,7 @@ fn micro(number: usize) -> Version
     Version::Micro(number as i16)
 }
 
-// How many bits stand in front of the data.
+/// How many bits stand in front of the data.
 fn front_bits(header: &Option<Part>) -> usize
     ensures is { result ≡ length (header_bits header.now) }
     ensures small { result ≤ 20 }
@@ -202,7 +202,7 @@ fn front_bits(header: &Option<Part>) -> usize
     }
 }
 
-// The bits of the data behind a header or none, in the smallest Normal version up to a limit, told by its number.
+/// The bits of the data behind a header or none, in the smallest Normal version up to a limit, told by its number.
 fn encode_up_to(
     alloc: Global,
     header: &Option<Part>,
@@ -234,7 +234,7 @@ fn encode_up_to(
     Err(QrError::DataTooLong)
 }
 
-// The parsed segments of some bytes.
+/// The parsed segments of some bytes.
 fn parse(alloc: Global, bytes: &[u8]) -> QrResult<Vec<Segment>>
     ensures parsed { IfOk result (λ segments. segments.items ≡ parsed bytes.now) }
     ensures memory { IfErr result (λ e. e ≡ QrError.OutOfMemory) }
@@ -246,8 +246,8 @@ fn parse(alloc: Global, bytes: &[u8]) -> QrResult<Vec<Segment>>
     Ok(segments)
 }
 
-// The last version of each class of versions up to a limit. In a class a plan takes the same bits in each version, since the
-// character counts have the same widths.
+/// The last version of each class of versions up to a limit. In a class a plan takes the same bits in each version, since the
+/// character counts have the same widths.
 fn last_versions(limit: usize) -> ArrayVec<usize, 3>
     requires { 1 ≤ limit }
     ensures { ClassesUpTo 0 result.items limit }
@@ -263,8 +263,8 @@ fn last_versions(limit: usize) -> ArrayVec<usize, 3>
     candidates
 }
 
-// The bits of a header or none and of the chosen plan of the last version of a class, where both fit, in the least version that
-// holds them.
+/// The bits of a header or none and of the chosen plan of the last version of a class, where both fit, in the least version that
+/// holds them.
 fn encode_class(
     alloc: Global,
     header: &Option<Part>,
@@ -300,7 +300,7 @@ fn encode_class(
     }
 }
 
-// The chosen plan of some bytes in a version, where it fits behind so many bits in front.
+/// The chosen plan of some bytes in a version, where it fits behind so many bits in front.
 fn chosen_plan(
     alloc: Global,
     front: usize,
@@ -338,7 +338,7 @@ fn chosen_plan(
     Ok(Some(plan))
 }
 
-// Whether a version has the modes of all segments.
+/// Whether a version has the modes of all segments.
 fn has_modes(version: Version, segments: &[Segment]) -> bool
     requires { HasMicroNumber version }
     ensures { IsTrue result ↔ All (λ part. HasMode version part.mode) segments.now }
@@ -346,7 +346,7 @@ fn has_modes(version: Version, segments: &[Segment]) -> bool
     segments.iter().all(|part| has_mode(version, part.mode))
 }
 
-// The bits of a plan that fits a version: a header or none, the spellings of its parts, terminator and padding.
+/// The bits of a plan that fits a version: a header or none, the spellings of its parts, terminator and padding.
 fn encode_plan(
     alloc: Global,
     header: &Option<Part>,
@@ -373,7 +373,7 @@ fn encode_plan(
     Ok(bits)
 }
 
-// A stream that begins with a header, or with nothing.
+/// A stream that begins with a header, or with nothing.
 fn started(alloc: Global, header: &Option<Part>, version: Version) -> QrResult<Bits>
     requires number { HasMicroNumber version }
     requires header { HasHeader version header.now }

@@ -38,6 +38,7 @@ struct Headers {
 }
 
 impl Headers {
+    /// The widths of indicator and count in a version.
     fn new(version: Version) -> Self
         requires { HasMicroNumber version }
         ensures { AreHeaders version result }

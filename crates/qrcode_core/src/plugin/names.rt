@@ -14,6 +14,7 @@ pub struct Names<'a, V> {
 }
 
 impl<'a, V> Names<'a, V> {
+    /// The names that are the keys of a map.
     pub(crate) fn new(keys: Keys<'a, String, V>) -> Names<'a, V>
         ensures { names_left result ≡ map string_bytes keys.entry }
     {

@@ -87,6 +87,7 @@ impl PluginRegistry {
         Ok(())
     }
 
+    /// Keeps the version of a plugin under its name.
     #[tactic(auto, using(crate::proofs::TextMaps::text_entries_insert, crate::proofs::TextMaps::text_values_insert))]
     fn put_version(&mut self, name: String, version: String) -> Result<(), PluginError>
         ensures { Registers (registered self.old) (version_of (string_bytes name) (string_bytes version) ∷ [])
@@ -98,6 +99,7 @@ impl PluginRegistry {
         }
     }
 
+    /// Keeps a renderer under a name, and gives back the one that it replaces.
     fn insert_renderer(
         &mut self,
         name: String,
@@ -113,6 +115,7 @@ impl PluginRegistry {
         Ok(replaced)
     }
 
+    /// Keeps renderers under their names, up to the first that finds no memory.
     fn put_renderers(&mut self, all: Vec<(String, Box<dyn DynRenderer>)>) -> Result<(), PluginError>
         ensures { Registers (registered self.old) (map named_renderer all.items)
             result (registered self.new) }
@@ -126,6 +129,7 @@ impl PluginRegistry {
         Ok(())
     }
 
+    /// Keeps a renderer under a name.
     fn put_renderer(
         &mut self,
         name: String,
@@ -138,6 +142,7 @@ impl PluginRegistry {
         Ok(())
     }
 
+    /// Keeps an encoder under a name, and gives back the one that it replaces.
     fn insert_encoder(
         &mut self,
         name: String,
@@ -153,6 +158,7 @@ impl PluginRegistry {
         Ok(replaced)
     }
 
+    /// Keeps encoders under their names, up to the first that finds no memory.
     fn put_encoders(&mut self, all: Vec<(String, Box<dyn DynEncoder>)>) -> Result<(), PluginError>
         ensures { Registers (registered self.old) (map named_encoder all.items)
             result (registered self.new) }
@@ -166,6 +172,7 @@ impl PluginRegistry {
         Ok(())
     }
 
+    /// Keeps an encoder under a name.
     fn put_encoder(&mut self, name: String, encoder: Box<dyn DynEncoder>) -> Result<(), PluginError>
         ensures { Registers (registered self.old) (encoder_of (string_bytes name) encoder ∷ [])
             result (registered self.new) }
@@ -174,6 +181,7 @@ impl PluginRegistry {
         Ok(())
     }
 
+    /// Keeps postprocessors in order, up to the first that finds no memory.
     fn put_postprocessors(&mut self, all: Vec<Box<dyn PostProcessor>>) -> Result<(), PluginError>
         ensures { Registers (registered self.old) (map postprocessor_of all.items)
             result (registered self.new) }
@@ -187,6 +195,7 @@ impl PluginRegistry {
         Ok(())
     }
 
+    /// Keeps a postprocessor behind the others.
     fn put_postprocessor(
         &mut self,
         postprocessor: Box<dyn PostProcessor>,

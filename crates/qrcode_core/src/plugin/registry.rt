@@ -172,6 +172,7 @@ impl PluginRegistry {
     }
 }
 
+/// Has one postprocessor process the modules.
 fn process_by(
     postprocessor: &Box<dyn PostProcessor>,
     alloc: Global,
@@ -182,18 +183,21 @@ fn process_by(
     postprocessor.process(alloc, modules)
 }
 
+/// Lends what a box holds.
 fn lend_renderer(renderer: &Box<dyn DynRenderer>) -> &dyn DynRenderer
     ensures { result.now ≡ (renderer.now.vtable, renderer.now.value) }
 {
     &**renderer
 }
 
+/// Lends what a box holds.
 fn lend_encoder(encoder: &Box<dyn DynEncoder>) -> &dyn DynEncoder
     ensures { result.now ≡ (encoder.now.vtable, encoder.now.value) }
 {
     &**encoder
 }
 
+/// That there is no renderer of this name; without memory for it, `OutOfMemory`.
 fn missing_renderer(alloc: Global, name: &str) -> PluginError
     ensures { IsRendererMissing name.now result }
 {
@@ -203,6 +207,7 @@ fn missing_renderer(alloc: Global, name: &str) -> PluginError
     }
 }
 
+/// That there is no encoder of this name; without memory for it, `OutOfMemory`.
 fn missing_encoder(alloc: Global, name: &str) -> PluginError
     ensures { IsEncoderMissing name.now result }
 {

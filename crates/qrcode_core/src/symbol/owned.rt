@@ -248,7 +248,7 @@ pub fn symbol_of(alloc: Global, bits: Bits, level: EcLevel) -> QrResult<Symbol>
     }
 }
 
-// The symbol with these data codewords, under the first mask of least penalty.
+/// The symbol with these data codewords, under the first mask of least penalty.
 fn draw(alloc: Global, version: Version, level: EcLevel, codewords: &[u8]) -> QrResult<Symbol>
     requires { AreAllCodewords version level (length codewords.now) }
     ensures drawn { IfOk result (IsDrawn version level codewords.now) }
@@ -271,7 +271,7 @@ fn draw(alloc: Global, version: Version, level: EcLevel, codewords: &[u8]) -> Qr
     }
 }
 
-// How many modules a side of a symbol has.
+/// How many modules a side of a symbol has.
 fn side(version: Version) -> usize
     requires { IsVersion version }
     ensures { result ≡ width_of version }

@@ -105,7 +105,7 @@ pub fn symbol_sequence(
     }
 }
 
-// The modules of each symbol.
+/// The modules of each symbol.
 fn colors_of_all(alloc: Global, symbols: Vec<Symbol>) -> QrResult<Vec<Vec<Color>>>
     ensures all { IfOk result (λ grids. map vec_items grids.items ≡ map modules_of symbols.items) }
     ensures memory { IfErr result (λ e. e ≡ QrError.OutOfMemory) }
@@ -119,14 +119,14 @@ fn colors_of_all(alloc: Global, symbols: Vec<Symbol>) -> QrResult<Vec<Vec<Color>
     Ok(grids)
 }
 
-// The exclusive or of some bytes.
+/// The exclusive or of some bytes.
 fn parity_of(bytes: &[u8]) -> u8
     ensures { result ≡ parity bytes.now }
 {
     bytes.iter().fold(0, |sum, byte| sum ^ *byte)
 }
 
-// The part of the message that begins at the start or a cut, and ends at the next cut or the end.
+/// The part of the message that begins at the start or a cut, and ends at the next cut or the end.
 fn part_at<'a>(bytes: &'a [u8], cuts: &[usize], index: usize) -> &'a [u8]
     requires ordered { IsNonDecreasing cuts.now }
     requires within { All (λ cut. cut ≤ length bytes.now) cuts.now }
@@ -142,7 +142,7 @@ fn part_at<'a>(bytes: &'a [u8], cuts: &[usize], index: usize) -> &'a [u8]
     &bytes[start..end]
 }
 
-// The best symbol of a part, with its header.
+/// The best symbol of a part, with its header.
 fn part_symbol(
     alloc: Global,
     part: &[u8],

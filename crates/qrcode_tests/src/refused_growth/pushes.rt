@@ -24,6 +24,7 @@ enum Push {
 }
 
 impl Push {
+    /// Does the push.
     fn apply(self, bits: &mut Bits) -> QrResult<()> {
         match self {
             Push::Number(width, number) => bits.push_number_checked(width, number),
@@ -153,6 +154,7 @@ fn pushes_after_reserve(rt: HostRuntime) -> QrResult<()> {
 /// How many bits stand after none, one, two and all of three segments: forty digits, forty letters a, forty letters A.
 const LENGTHS: [usize; 4] = [0, 148, 480, 713];
 
+/// Forty digits, forty small letters and forty capitals.
 fn forty_of_each() -> [u8; 120] {
     let mut bytes = [b'7'; 120];
     bytes[40..80].fill(b'a');
