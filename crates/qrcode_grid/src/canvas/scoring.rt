@@ -8,7 +8,6 @@ ghost use Rattle.qrcode_grid.specs.Penalty.{micro_penalty, modules_penalty};
 ghost use Rattle.qrcode_grid.specs.Scoring.{IsPadded, grid_in, pattern_of, plane};
 
 mod candidates;
-pub mod conditions;
 mod counting;
 mod features;
 pub mod formats;

@@ -1,7 +1,7 @@
 use Rattle.std.proofs.Common.{◌≡◌, ◌<◌, ◌+◌, ◌-◌, ◌*◌, ◌/◌, ℕ, ap, subst, sym, ◌∙◌, arith, length, length-set, cond}
 use Rattle.std.proofs.lemmas.Nat.{mul-add-lt}
 use Rattle.qrcode_grid.specs.declared.canvas.Module.{Module}
-use Rattle.qrcode_grid.specs.Data.{bits_from, FilledBelow}
+use Rattle.qrcode_grid.specs.Placing.{bits_from, FilledBelow}
 use Rattle.qrcode_grid.specs.Walk.{rows_before}
 use Rattle.qrcode_grid.proofs.FillSteps.{offered_step, number_below, place_left, place_right}
 use Rattle.qrcode_grid.proofs.canvas.data.draw_pair.Goals as goal

@@ -1,7 +1,7 @@
 -- The cells of the walk before this one have taken their bits, if those before the pair have.
 use Rattle.std.proofs.Common.{◌+◌, ◌*◌, ◌≤◌, List, Bool}
 use Rattle.qrcode_grid.specs.declared.canvas.Module.{Module}
-use Rattle.qrcode_grid.specs.Data.{bits_from, FilledBelow}
+use Rattle.qrcode_grid.specs.Placing.{bits_from, FilledBelow}
 use Rattle.qrcode_grid.proofs.canvas.data.draw_pair.Given as goal
 
 abbrev pub invariant-loop-row : goal.invariant-loop-row

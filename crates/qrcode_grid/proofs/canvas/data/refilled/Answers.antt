@@ -1,6 +1,6 @@
 use Rattle.std.proofs.Common.{◌≡◌, [], ◌++◌, refl, ap, ◌∙◌, sym, arith}
 use Rattle.qrcode_base.specs.Numbers.{number_bits}
-use Rattle.qrcode_grid.specs.Data.{codewords_from}
+use Rattle.qrcode_grid.specs.Placing.{codewords_from}
 use Rattle.qrcode_grid.proofs.BitSteps.{no_bits}
 use Rattle.qrcode_grid.proofs.canvas.data.refilled.Goals as goal
 
