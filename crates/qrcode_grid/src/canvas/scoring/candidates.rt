@@ -11,8 +11,8 @@ ghost use Rattle.qrcode_grid.specs.Scoring.{plane, pattern_of};
 ghost use Rattle.qrcode_grid.specs.Words.{digit, digit_color};
 
 use crate::canvas::Module;
-use crate::canvas::regions::{FORMAT_FIRST, FORMAT_MICRO, color_of_digit, second_places};
 use crate::canvas::conditions::write_stripes;
+use crate::canvas::regions::{FORMAT_FIRST, FORMAT_MICRO, color_of_digit, second_places};
 use qrcode_base::types::{Color, Version};
 
 /// A module as a byte: 1 where it is dark, and 2 more where a mask may invert it.
