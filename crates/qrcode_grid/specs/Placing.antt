@@ -1,8 +1,10 @@
 -- Putting bits into the data cells, step by step.
-use Rattle.std.specs.Prelude.{◌≡◌, ◌≤◌, Bool, ℕ, ◌+◌, ◌-◌, ◌*◌, ◌<◌, List, ◌++◌, drop, length, slice_index_or, slice_get, Option, Some, None}
+use Rattle.std.specs.Prelude.{◌≡◌, ◌==◌, if◌then◌else◌, ◌≤◌, Bool, ℕ, ◌+◌, ◌-◌, ◌*◌, ◌/◌, ◌%◌, ◌^◌, ◌<◌, List, ◌++◌, drop, length, slice_index_or, slice_get, Option, Some, None}
 use Rattle.qrcode_grid.specs.declared.canvas.Module.{Module}
 use Rattle.qrcode_grid.specs.declared.canvas.Module.TheVariants.{Empty, Masked, Unmasked}
 use Rattle.qrcode_grid.specs.declared.canvas.data.BitsAhead.{BitsAhead}
+use Rattle.qrcode_grid.specs.declared.canvas.data.Columns.{Columns}
+use Rattle.qrcode_grid.specs.Walk.{walk_column}
 use Rattle.qrcode_base.specs.Numbers.{number_bits}
 use Rattle.qrcode_grid.specs.Data.{bit_color, symbol_bits, place_in_walk, along_walk, fill_empty}
 
@@ -41,8 +43,35 @@ pub record FilledBelow (w t : ℕ) (bits : List Bool) (xs ys : List Module) (n :
   pub left : drop n (fill_empty (along_walk w t xs) bits) ≡ fill_empty (drop n (along_walk w t xs)) ahead
   pub timing : (y : ℕ) → y < w → slice_get ys (y * w + t) ≡ slice_get xs (y * w + t)
 
--- From a list with the cells before a pair of columns filled, the cells of the pair are filled too.
-abbrev pub FillsPair : ℕ → ℕ → ℕ → List Bool → List Bool → List Module → List Module → Type 0
-FillsPair w t pair before after old new =
-    (bits : List Bool) (xs : List Module) → FilledBelow w t bits xs old (pair * (2 * w)) before →
-    FilledBelow w t bits xs new ((pair + 1) * (2 * w)) after
+-- From a list with the first n cells filled, some more are filled too.
+abbrev pub FillsCells : ℕ → ℕ → ℕ → ℕ → List Bool → List Bool → List Module → List Module → Type 0
+FillsCells w t n count before after old new =
+    (bits : List Bool) (xs : List Module) → FilledBelow w t bits xs old n before → FilledBelow w t bits xs new (n + count) after
+
+-- a bit of a number as a data module
+abbrev pub data_bit : ℕ → ℕ → Module
+data_bit word k = Unmasked (bit_color (word / 2 ^ k % 2 == 1))
+
+-- the place of the left module of the row to which the walk comes after some rows of a pair of columns
+abbrev pub row_place : Columns → ℕ → ℕ
+row_place c rows = (if c.up then c.width - 1 - rows else rows) * c.width + c.left
+
+-- Nothing is drawn at a place and the next.
+abbrev pub IsEmptyRow : List Module → ℕ → Type 0
+IsEmptyRow modules place =
+    (slice_index_or modules place Empty ≡ Empty) × (slice_index_or modules (place + 1) Empty ≡ Empty)
+
+-- These columns are a pair with a number, in a symbol with a timing column.
+pub record IsPair (t pair : ℕ) (c : Columns) : Type 0 where
+  pub odd : c.width % 2 ≡ 1
+  pub timing : t < c.width
+  pub below : pair < c.width / 2
+  pub up : c.up ≡ (pair % 2 == 0)
+  pub left : c.left ≡ walk_column c.width t (2 * pair + 1)
+  pub right : c.left + 1 ≡ walk_column c.width t (2 * pair)
+
+-- From a list with the cells before some rows of a pair filled, the cells of these rows are filled too.
+abbrev pub FillsRows : Columns → ℕ → ℕ → List Bool → List Bool → List Module → List Module → Type 0
+FillsRows c first count before after old new =
+    (t pair : ℕ) → IsPair t pair c →
+    FillsCells c.width t (pair * (2 * c.width) + 2 * first) (2 * count) before after old new

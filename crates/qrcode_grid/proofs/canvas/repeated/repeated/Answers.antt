@@ -1,4 +1,4 @@
-use Rattle.std.proofs.Common.{◌≡◌, ◌∙◌, ◌+◌, ◌-◌, ◌*◌, ◌≤◌, ◌++◌, ℕ, List, ap, sym, arith, replicate, take, length}
+use Rattle.std.proofs.Common.{◌≡◌, ◌∙◌, ◌+◌, ◌-◌, ◌*◌, ◌≤◌, ◌++◌, ℕ, List, ap, arith, replicate, take, length}
 use Rattle.std.proofs.lemmas.List.{take_all, length-replicate, replicate-append-replicate}
 use Rattle.qrcode_grid.proofs.canvas.repeated.repeated.Goals as goal
 
