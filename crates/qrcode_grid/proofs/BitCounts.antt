@@ -112,20 +112,3 @@ bit_count_le m lanes = sum_le (λ j. bit_at (get_or lanes j 0) m) 16 (λ j. bit_
 pub no_bit : (m : ℕ) → bit_count m (replicate 16 0) ≡ 0
 unfolding bit_count
 no_bit m = sum_same_below (λ j. bit_at (get_or (replicate {A = ℕ} 16 0) j 0) m) (λ j. 0) 16 (λ j h. ap (λ b. bit_at b m) (get_or-replicate 16 j 0 0 h) ∙ bit_at-zero m)
-
-doubled_bit : (m x : ℕ) → m < 7 → bit_at ((x + x) % 256) (m + 1) ≡ bit_at x m
-doubled_bit zero x h = omega arith
-doubled_bit (suc zero) x h = omega arith
-doubled_bit (suc (suc zero)) x h = omega arith
-doubled_bit (suc (suc (suc zero))) x h = omega arith
-doubled_bit (suc (suc (suc (suc zero)))) x h = omega arith
-doubled_bit (suc (suc (suc (suc (suc zero))))) x h = omega arith
-doubled_bit (suc (suc (suc (suc (suc (suc zero)))))) x h = omega arith
-doubled_bit (suc (suc (suc (suc (suc (suc (suc m))))))) x h = absurd (omega (arith, h))
-
--- in doubled lanes each bit is in the next place
-pub bits_of_doubled : (lanes : List ℕ) → length lanes ≡ 16 → (m : ℕ) → m < 7 → bit_count (m + 1) (zip2 (λ a b. (a + b) % 256) lanes lanes) ≡ bit_count m lanes
-unfolding bit_count
-bits_of_doubled lanes l m h =
-    sum_same_below (λ j. bit_at (get_or (zip2 (λ a b. (a + b) % 256) lanes lanes) j 0) (m + 1)) (λ j. bit_at (get_or lanes j 0) m) 16
-    (λ j b. ap (λ n. bit_at n (m + 1)) (lane_of (λ a b. (a + b) % 256) lanes lanes l l j b) ∙ doubled_bit m (get_or lanes j 0) h)

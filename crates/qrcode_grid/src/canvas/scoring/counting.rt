@@ -87,32 +87,6 @@ fn count_bit(lanes: u8x16, m: usize) -> usize
     (lanes & bit).simd_eq(bit).to_bitmask().count_ones() as usize
 }
 
-/// The lanes doubled: each bit in the next place.
-#[inline(always)]
-fn doubled(lanes: u8x16) -> u8x16
-    requires lanes { length lanes ≡ 16 }
-    ensures lanes { length result ≡ 16 }
-    ensures shifted { (m : ℕ) → m < 7 → bit_count (m + 1) result ≡ bit_count m lanes }
-{
-    lanes + lanes
-}
-
-/// In how many lanes each bit is set. The highest bit of a lane is read at once, so that each bit is counted there.
-#[inline(always)]
-fn counts_of(lanes: u8x16) -> [usize; 8]
-    requires lanes { length lanes ≡ 16 }
-    ensures is { (m : ℕ) → m < 8 → slice_index result m ≡ bit_count m lanes }
-    ensures small { (m : ℕ) → m < 8 → slice_index result m ≤ 16 }
-{
-    let mut counts = [0; 8];
-    let mut rest = lanes;
-    for i in 0..8 {
-        counts[7 - i] = count_bit(rest, 7);
-        rest = doubled(rest);
-    }
-    counts
-}
-
 /// Adds in how many lanes each bit is set.
 #[inline(always)]
 fn add_counts(sums: &mut [usize; 8], lanes: u8x16)
@@ -120,9 +94,8 @@ fn add_counts(sums: &mut [usize; 8], lanes: u8x16)
     requires room { (m : ℕ) → m < 8 → slice_index sums.old m ≤ 1000000 }
     ensures { (m : ℕ) → m < 8 → slice_index sums.new m ≡ slice_index sums.old m + bit_count m lanes }
 {
-    let counts = counts_of(lanes);
     for m in 0..8 {
-        sums[m] += counts[m];
+        sums[m] += count_bit(lanes, m);
     }
 }
 
@@ -146,13 +119,12 @@ pub fn totals(tally: Tally) -> [usize; 8]
     requires room { (m : ℕ) → m < 8 → slice_index tally.sums m ≤ 1000000 }
     ensures { (m : ℕ) → m < 8 → slice_index result m ≡ tallied m tally }
 {
-    let eights = counts_of(tally.planes.eights);
-    let fours = counts_of(tally.planes.fours);
-    let twos = counts_of(tally.planes.twos);
-    let ones = counts_of(tally.planes.ones);
+    let planes = tally.planes;
     let mut result = [0; 8];
     for m in 0..8 {
-        result[m] = 16 * tally.sums[m] + 8 * eights[m] + 4 * fours[m] + 2 * twos[m] + ones[m];
+        let high = 8 * count_bit(planes.eights, m) + 4 * count_bit(planes.fours, m);
+        let low = 2 * count_bit(planes.twos, m) + count_bit(planes.ones, m);
+        result[m] = 16 * tally.sums[m] + high + low;
     }
     result
 }
