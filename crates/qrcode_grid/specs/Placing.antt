@@ -2,7 +2,7 @@
 use Rattle.std.specs.Prelude.{◌≡◌, ◌==◌, if◌then◌else◌, ◌≤◌, Bool, ℕ, ◌+◌, ◌-◌, ◌*◌, ◌/◌, ◌%◌, ◌^◌, ◌<◌, List, ◌++◌, drop, length, slice_index_or, slice_get, Option, Some, None}
 use Rattle.qrcode_grid.specs.declared.canvas.Module.{Module}
 use Rattle.qrcode_grid.specs.declared.canvas.Module.TheVariants.{Empty, Masked, Unmasked}
-use Rattle.qrcode_grid.specs.declared.canvas.data.BitsAhead.{BitsAhead}
+use Rattle.qrcode_grid.specs.declared.canvas.data.ahead.BitsAhead.{BitsAhead}
 use Rattle.qrcode_grid.specs.declared.canvas.data.Columns.{Columns}
 use Rattle.qrcode_grid.specs.Walk.{walk_column}
 use Rattle.qrcode_base.specs.Numbers.{number_bits}

@@ -21,7 +21,7 @@ loop-x-preserved c =
     let column : c.loop-x.x < c.args.width = omega (arith, c.loop-x-test.true, c.finder_columns-left.ensures.within) in
     let row : c.loop-y.y < c.args.width = omega (arith, c.loop-y-test.true, c.finder_rows-top.ensures.within) in
     cell_changed (λ x y m. drawn_over (finder c.args.center_x c.args.center_y x y) m) c.args.width c.loop-y.y c.loop-x.x c.args.modules.now c.loop-x.modules _ Empty
-    column row c.requires.square (sym (ap (λ o. drawn_over o (get_or c.loop-x.modules (c.loop-y.y * c.args.width + c.loop-x.x) Empty)) (c.near_finder_color.ensures))) c.loop-x.invariant
+    column row c.requires.square (sym (ap (λ o. drawn_over o (get_or c.loop-x.modules (c.loop-y.y * c.args.width + c.loop-x.x) Empty)) (c.finder_color.ensures))) c.loop-x.invariant
 
 pub loop-y-preserved : goal.loop-y-preserved
 loop-y-preserved c =

@@ -2,7 +2,7 @@ use Rattle.std.proofs.Common.{◌+◌, ◌++◌, ap, ◌∙◌}
 use Rattle.qrcode_base.specs.Numbers.{number_bits}
 use Rattle.qrcode_grid.specs.Placing.{codewords_from}
 use Rattle.qrcode_grid.proofs.BitSteps.{eight_ahead}
-use Rattle.qrcode_grid.proofs.canvas.data.next_eight.Goals as goal
+use Rattle.qrcode_grid.proofs.canvas.data.ahead.next_eight.Goals as goal
 
 pub returns-in-Some-default-eq8-clause-same : goal.returns-in-Some-default-eq8-clause-same
 returns-in-Some-default-eq8-clause-same c =
