@@ -46,7 +46,8 @@ pub record FilledBelow (w t : ℕ) (bits : List Bool) (xs ys : List Module) (n :
 -- From a list with the first n cells filled, some more are filled too.
 abbrev pub FillsCells : ℕ → ℕ → ℕ → ℕ → List Bool → List Bool → List Module → List Module → Type 0
 FillsCells w t n count before after old new =
-    (bits : List Bool) (xs : List Module) → FilledBelow w t bits xs old n before → FilledBelow w t bits xs new (n + count) after
+    (bits : List Bool) (xs : List Module) → FilledBelow w t bits xs old n before →
+    FilledBelow w t bits xs new (n + count) after
 
 -- a bit of a number as a data module
 abbrev pub data_bit : ℕ → ℕ → Module

@@ -124,7 +124,10 @@ fn write_words(digits: &[u8; 15], places: &[(usize, usize)], width: usize, grid:
     requires few { length places.now ≤ 15 }
     requires within { All (λ place. (place.0 < width) × (place.1 < width)) places.now }
     requires long { length grid.old ≡ width * width }
-    ensures { (m : ℕ) → (word : ℕ) → m < 8 → AreDigits digits.now m word → (x : ℕ) → (y : ℕ) → x < width → y < width → slice_index (plane m grid.new) (y * width + x) ≡ byte_under (written word places.now x y) (slice_index (plane m grid.old) (y * width + x)) }
+    ensures { (m : ℕ) → (word : ℕ) → m < 8 → AreDigits digits.now m word →
+        (x : ℕ) → (y : ℕ) → x < width → y < width →
+        slice_index (plane m grid.new) (y * width + x) ≡
+        byte_under (written word places.now x y) (slice_index (plane m grid.old) (y * width + x)) }
 {
     let count = places.len();
     for k in 0..count {
@@ -137,7 +140,10 @@ fn write_words(digits: &[u8; 15], places: &[(usize, usize)], width: usize, grid:
 fn write_normal_formats(digits: &[u8; 15], width: usize, grid: &mut [u8])
     requires wide { (9 ≤ width) × (width ≤ 177) }
     requires long { length grid.old ≡ width * width }
-    ensures { (m : ℕ) → (word : ℕ) → m < 8 → AreDigits digits.now m word → (x : ℕ) → (y : ℕ) → x < width → y < width → slice_index (plane m grid.new) (y * width + x) ≡ byte_under (normal_format_color width word x y) (slice_index (plane m grid.old) (y * width + x)) }
+    ensures { (m : ℕ) → (word : ℕ) → m < 8 → AreDigits digits.now m word →
+        (x : ℕ) → (y : ℕ) → x < width → y < width →
+        slice_index (plane m grid.new) (y * width + x) ≡
+        byte_under (normal_format_color width word x y) (slice_index (plane m grid.old) (y * width + x)) }
 {
     write_words(digits, &second_places(width), width, grid);
     write_words(digits, &FORMAT_FIRST, width, grid);
@@ -148,7 +154,10 @@ fn write_normal_formats(digits: &[u8; 15], width: usize, grid: &mut [u8])
 fn write_formats(version: Version, digits: &[u8; 15], width: usize, grid: &mut [u8])
     requires wide { (9 ≤ width) × (width ≤ 177) }
     requires long { length grid.old ≡ width * width }
-    ensures { (m : ℕ) → (word : ℕ) → m < 8 → AreDigits digits.now m word → (x : ℕ) → (y : ℕ) → x < width → y < width → slice_index (plane m grid.new) (y * width + x) ≡ byte_under (format_color version width word x y) (slice_index (plane m grid.old) (y * width + x)) }
+    ensures { (m : ℕ) → (word : ℕ) → m < 8 → AreDigits digits.now m word →
+        (x : ℕ) → (y : ℕ) → x < width → y < width →
+        slice_index (plane m grid.new) (y * width + x) ≡
+        byte_under (format_color version width word x y) (slice_index (plane m grid.old) (y * width + x)) }
 {
     match version {
         Version::Normal(_) => write_normal_formats(digits, width, grid),
