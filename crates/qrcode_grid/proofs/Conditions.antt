@@ -4,7 +4,7 @@ use Rattle.std.specs.Int.{bit_at}
 use Rattle.qrcode_base.specs.declared.types.Color.TheVariants.{Light, Dark}
 use Rattle.qrcode_grid.specs.declared.canvas.Module.{Module}
 use Rattle.qrcode_grid.specs.declared.canvas.Module.TheVariants.{Empty, Masked, Unmasked}
-use Rattle.qrcode_grid.specs.declared.canvas.scoring.conditions.TheConstants.{CONDITIONS}
+use Rattle.qrcode_grid.specs.declared.canvas.conditions.TheConstants.{CONDITIONS}
 use Rattle.qrcode_grid.specs.Lanes.{code_of, masked_code}
 use Rattle.qrcode_grid.specs.Masks.{is_inverted}
 use Rattle.qrcode_grid.specs.Scoring.{pattern_of}

@@ -9,6 +9,8 @@ use Rattle.qrcode_grid.specs.Masks.{normal_patterns}
 use Rattle.qrcode_grid.specs.declared.canvas.scoring.features.Feature.{Feature}
 use Rattle.qrcode_grid.specs.declared.canvas.scoring.features.Feature.TheVariants.{Five, Six, Finder, Square, Dark}
 use Rattle.qrcode_grid.specs.Sums.{sum_below}
+use Rattle.qrcode_grid.specs.Lanes.{byte_of}
+use Rattle.qrcode_grid.specs.Words.{digit, digit_color}
 
 -- the mask with number m
 abbrev pub pattern_of : ℕ → MaskPattern
@@ -93,3 +95,7 @@ pub record IsPadded (w : ℕ) (padded : List ℕ) : Type 0 where
 -- the grid in such a list
 abbrev pub grid_in : ℕ → List ℕ → List ℕ
 grid_in w padded = slice_range padded (4 * w) (4 * w + w * w)
+
+-- Bit m of byte k is digit k of a format word.
+abbrev pub AreDigits : List ℕ → ℕ → ℕ → Type 0
+AreDigits digits m word = (k : ℕ) → k < 15 → bit_at (slice_index digits k) m ≡ byte_of (digit_color (digit word k))

@@ -8,7 +8,6 @@ ghost use Rattle.qrcode_grid.specs.Penalty.{micro_penalty, modules_penalty};
 ghost use Rattle.qrcode_grid.specs.Scoring.{IsPadded, grid_in, pattern_of, plane};
 
 mod candidates;
-pub mod conditions;
 mod counting;
 mod features;
 pub mod formats;
@@ -18,6 +17,7 @@ mod tally;
 
 use crate::canvas::Module;
 use crate::canvas::penalty::penalty_of_micro;
+use crate::canvas::repeated::repeated;
 use crate::canvas::scoring::candidates::write_candidates;
 use crate::canvas::scoring::penalties::penalties_of_normal;
 use crate::canvas::transposing::transpose;
@@ -40,20 +40,18 @@ pub fn scratch_length(width: usize) -> usize
     2 * padded_length(width) + 12 * width + 6
 }
 
-/// A list of zeros for the scratch of a symbol. A long one takes room of 400 KB, of which it touches what it needs: glibc gives
-/// memory back to the system after each symbol where more than 128 KB come free at the heap's end, and keeps twice as much
-/// as the greatest block that it has seen.
+/// How much room a list of zeros for the scratch of a symbol has. A long one takes 400 KB, of which it touches what it needs: glibc
+/// gives memory back to the system after each symbol where more than 128 KB come free at the heap's end, and keeps twice as
+/// much as the greatest block that it has seen.
+fn scratch_room(length: usize) -> usize {
+    if length > 56_000 { 400_000 } else { 0 }
+}
+
+/// A list of zeros for the scratch of a symbol.
 pub fn zeros(alloc: Global, length: usize) -> Result<Vec<u8>, AllocError>
     ensures { IfOk result (λ list. list.items ≡ replicate length 0) }
 {
-    let room = if length > 56_000 {
-        length.max(400_000)
-    } else {
-        length
-    };
-    let mut list = Vec::with_capacity(alloc, room)?;
-    list.resize(length, 0)?;
-    Ok(list)
+    repeated(alloc, 0, length, scratch_room(length))
 }
 
 /// Writes eight candidates between light modules.

@@ -7,12 +7,12 @@ ghost use Rattle.qrcode_grid.specs.Canvas.{color_of_module};
 ghost use Rattle.qrcode_grid.specs.Lanes.{byte_of, byte_under, code_of, masked_code};
 ghost use Rattle.qrcode_grid.specs.Masks.{format_color, normal_format_color, masked_cells};
 ghost use Rattle.qrcode_grid.specs.Regions.{written};
-ghost use Rattle.qrcode_grid.specs.Scoring.{plane, pattern_of};
+ghost use Rattle.qrcode_grid.specs.Scoring.{AreDigits, plane, pattern_of};
 ghost use Rattle.qrcode_grid.specs.Words.{digit, digit_color};
 
 use crate::canvas::Module;
+use crate::canvas::conditions::write_stripes;
 use crate::canvas::regions::{FORMAT_FIRST, FORMAT_MICRO, color_of_digit, second_places};
-use crate::canvas::scoring::conditions::write_stripes;
 use qrcode_base::types::{Color, Version};
 
 /// A module as a byte: 1 where it is dark, and 2 more where a mask may invert it.
@@ -107,41 +107,61 @@ fn digits_of(words: &[u32; 8], k: usize) -> u8
     digits
 }
 
+/// The digits of eight format words, low digit first.
+fn format_digits(words: &[u32; 8]) -> [u8; 15]
+    ensures { (m : ℕ) → m < 8 → AreDigits result m (slice_index words.now m) }
+{
+    let mut digits = [0; 15];
+    for k in 0..15 {
+        digits[k] = digits_of(words, k);
+    }
+    digits
+}
+
 /// Writes a word of each candidate into a list of places, high digit first. It begins with the low digit, so that a place's first
 /// digit stays.
-fn write_words(words: &[u32; 8], places: &[(usize, usize)], width: usize, grid: &mut [u8])
-    requires few { length places.now ≤ 32 }
+fn write_words(digits: &[u8; 15], places: &[(usize, usize)], width: usize, grid: &mut [u8])
+    requires few { length places.now ≤ 15 }
     requires within { All (λ place. (place.0 < width) × (place.1 < width)) places.now }
     requires long { length grid.old ≡ width * width }
-    ensures { (m : ℕ) → (x : ℕ) → (y : ℕ) → m < 8 → x < width → y < width → slice_index (plane m grid.new) (y * width + x) ≡ byte_under (written (slice_index words.now m) places.now x y) (slice_index (plane m grid.old) (y * width + x)) }
+    ensures { (m : ℕ) → (word : ℕ) → m < 8 → AreDigits digits.now m word →
+        (x : ℕ) → (y : ℕ) → x < width → y < width →
+        slice_index (plane m grid.new) (y * width + x) ≡
+        byte_under (written word places.now x y) (slice_index (plane m grid.old) (y * width + x)) }
 {
     let count = places.len();
     for k in 0..count {
         let (x, y) = places[count - 1 - k];
-        grid[y * width + x] = digits_of(words, k);
+        grid[y * width + x] = digits[k];
     }
 }
 
 /// Writes both copies of the format words of Normal symbols, and the dark module.
-fn write_normal_formats(words: &[u32; 8], width: usize, grid: &mut [u8])
+fn write_normal_formats(digits: &[u8; 15], width: usize, grid: &mut [u8])
     requires wide { (9 ≤ width) × (width ≤ 177) }
     requires long { length grid.old ≡ width * width }
-    ensures { (m : ℕ) → (x : ℕ) → (y : ℕ) → m < 8 → x < width → y < width → slice_index (plane m grid.new) (y * width + x) ≡ byte_under (normal_format_color width (slice_index words.now m) x y) (slice_index (plane m grid.old) (y * width + x)) }
+    ensures { (m : ℕ) → (word : ℕ) → m < 8 → AreDigits digits.now m word →
+        (x : ℕ) → (y : ℕ) → x < width → y < width →
+        slice_index (plane m grid.new) (y * width + x) ≡
+        byte_under (normal_format_color width word x y) (slice_index (plane m grid.old) (y * width + x)) }
 {
-    write_words(words, &second_places(width), width, grid);
-    write_words(words, &FORMAT_FIRST, width, grid);
+    write_words(digits, &second_places(width), width, grid);
+    write_words(digits, &FORMAT_FIRST, width, grid);
     grid[(width - 8) * width + 8] = 255;
 }
 
 /// Writes the format word of each candidate and, in Normal symbols, the dark module.
-fn write_formats(version: Version, words: &[u32; 8], width: usize, grid: &mut [u8])
+fn write_formats(version: Version, digits: &[u8; 15], width: usize, grid: &mut [u8])
     requires wide { (9 ≤ width) × (width ≤ 177) }
     requires long { length grid.old ≡ width * width }
-    ensures { (m : ℕ) → (x : ℕ) → (y : ℕ) → m < 8 → x < width → y < width → slice_index (plane m grid.new) (y * width + x) ≡ byte_under (format_color version width (slice_index words.now m) x y) (slice_index (plane m grid.old) (y * width + x)) }
+    ensures { (m : ℕ) → (word : ℕ) → m < 8 → AreDigits digits.now m word →
+        (x : ℕ) → (y : ℕ) → x < width → y < width →
+        slice_index (plane m grid.new) (y * width + x) ≡
+        byte_under (format_color version width word x y) (slice_index (plane m grid.old) (y * width + x)) }
 {
     match version {
-        Version::Normal(_) => write_normal_formats(words, width, grid),
-        Version::Micro(_) => write_words(words, &FORMAT_MICRO, width, grid),
+        Version::Normal(_) => write_normal_formats(digits, width, grid),
+        Version::Micro(_) => write_words(digits, &FORMAT_MICRO, width, grid),
     }
 }
 
@@ -162,5 +182,5 @@ pub fn write_candidates(
 {
     write_stripes(width, stripes);
     mask_rows(modules, stripes, width, grid);
-    write_formats(version, words, width, grid);
+    write_formats(version, &format_digits(words), width, grid);
 }

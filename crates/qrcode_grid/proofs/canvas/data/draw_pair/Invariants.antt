@@ -1,12 +1,10 @@
--- The cells of the walk before this one have taken their bits, if those before the pair have.
-use Rattle.std.proofs.Common.{◌+◌, ◌*◌, ◌≤◌, List, Bool}
-use Rattle.qrcode_grid.specs.declared.canvas.Module.{Module}
-use Rattle.qrcode_grid.specs.Data.{bits_from, FilledBelow}
+-- The cells of the rows before this part have taken their bits.
+use Rattle.std.proofs.Common.{◌*◌, ◌≤◌, min}
+use Rattle.qrcode_grid.specs.Placing.{bits_from, FillsRows}
 use Rattle.qrcode_grid.proofs.canvas.data.draw_pair.Given as goal
 
-abbrev pub invariant-loop-row : goal.invariant-loop-row
-invariant-loop-row l = record {
-  filled : (bits : List Bool) (xs : List Module) → FilledBelow l.width l.timing bits xs l.fn.modules (l.pair * (2 * l.width)) (bits_from l.left_out l.codewords l.correction l.fn.bits) →
-      FilledBelow l.width l.timing bits xs l.modules (l.pair * (2 * l.width) + 2 * l.row) (bits_from l.left_out l.codewords l.correction l.ahead);
+abbrev pub invariant-loop-part : goal.invariant-loop-part
+invariant-loop-part l = record {
+  fills : FillsRows l.columns 0 (min (4 * l.part) l.columns.width) (bits_from l.left_out l.codewords l.correction l.fn.bits) (bits_from l.left_out l.codewords l.correction l.ahead) l.fn.modules l.modules;
   small : l.ahead.left ≤ 8;
 }

@@ -1,7 +1,7 @@
 use Rattle.std.proofs.Common.{◌-◌, ap, ◌∙◌, sym, arith, drop, slice_get, slice_set, Bool, List}
 use Rattle.qrcode_grid.specs.declared.canvas.Module.{Module}
 use Rattle.qrcode_grid.specs.declared.canvas.Module.TheVariants.{Empty}
-use Rattle.qrcode_grid.specs.Data.{bits_from, codewords_from, filled, bits_taken}
+use Rattle.qrcode_grid.specs.Placing.{bits_from, codewords_from, filled, bits_taken}
 use Rattle.qrcode_grid.proofs.BitSteps.{first_bit}
 use Rattle.qrcode_grid.proofs.canvas.data.offer.Goals as goal
 

@@ -66,7 +66,7 @@ loop-x-preserved c =
     column c.loop-y-test.true c.requires.square
     (c.drawn.ensures ∙ ap (λ o. drawn_over o (get_or c.loop-x.modules (y * w + x) Empty)) (c.alignments_color-color.ensures
     ∙ ap (λ o. pattern_at w o (Some c.in-Some.center_y) x y) (ap Some is ∙ sym near_x)
-    ∙ ap (λ o. pattern_at w (near cs x) o x y) c.in-Some.ensures)) c.loop-x.invariant
+    ∙ ap (λ o. pattern_at w (near cs x) o x y) c.in-Some.ensures.is)) c.loop-x.invariant
 
 pub loop-k-preserved : goal.loop-k-preserved
 loop-k-preserved c =
@@ -92,6 +92,6 @@ loop-y-preserved c =
           let first : y * w ≡ y * w + 0 = omega arith in
           subst (λ (ms : List Module). CellsChanged F w old ms ((y + 1) * w)) (sym v.modules-is)
           (row_ends F w y 0 old c.loop-y.modules (omega arith)
-          (λ x low l m. ap (λ o. drawn_over o m) (no_pattern_row w (near cs x) (near cs y) x y (sym v.in-None.ensures)))
+          (λ x low l m. ap (λ o. drawn_over o m) (no_pattern_row w (near cs x) (near cs y) x y (sym v.in-None.ensures.is)))
           (subst (λ (i : ℕ). CellsChanged F w old c.loop-y.modules i) first c.loop-y.invariant))
     ]

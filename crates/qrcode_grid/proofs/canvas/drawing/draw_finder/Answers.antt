@@ -1,31 +1,37 @@
-use Rattle.std.proofs.Common.{◌≤◌, ◌<◌, ◌+◌, ◌*◌, get_or, ap, ◌∙◌, arith}
+use Rattle.std.proofs.Common.{◌≤◌, ◌<◌, ◌+◌, ◌*◌, get_or, ap, sym, arith}
 use Rattle.qrcode_grid.specs.Masks.{drawn_over}
 use Rattle.qrcode_grid.specs.Regions.{finder}
 use Rattle.qrcode_grid.specs.declared.canvas.Module.TheVariants.{Empty}
-use Rattle.qrcode_grid.proofs.CellSteps.{row_begins, cell_changed, row_ends, rows_begin, rows_end}
+use Rattle.qrcode_grid.proofs.CellSteps.{row_begins, cell_changed, row_ends, rows_begin, rows_between, rows_end}
 use Rattle.qrcode_grid.proofs.canvas.drawing.draw_finder.Goals as goal
 
 pub loop-y-init : goal.loop-y-init
-loop-y-init c = rows_begin (λ x y m. drawn_over (finder c.args.center_x c.args.center_y x y) m) c.args.width c.args.modules.now
+loop-y-init c =
+    rows_between (λ x y m. drawn_over (finder c.args.center_x c.args.center_y x y) m) c.args.width 0 c.finder_rows-top.result.0 c.args.modules.now c.args.modules.now
+    (omega (arith, c.requires.row)) (omega arith) (λ x y h l k m. ap (λ o. drawn_over o m) (c.finder_rows-top.ensures.before x y k))
+    (rows_begin (λ x y m. drawn_over (finder c.args.center_x c.args.center_y x y) m) c.args.width c.args.modules.now)
 
 pub loop-x-init : goal.loop-x-init
 loop-x-init c =
     row_begins (λ x y m. drawn_over (finder c.args.center_x c.args.center_y x y) m) c.args.width c.loop-y.y c.finder_columns-left.result.0 c.args.modules.now c.loop-y.modules
-    (omega (arith, c.finder_columns-left.ensures.within)) (λ x h m. ap (λ o. drawn_over o m) (c.finder_columns-left.ensures.before x h)) c.loop-y.invariant
+    (omega (arith, c.finder_columns-left.ensures.within)) (λ x h m. ap (λ o. drawn_over o m) (c.finder_columns-left.ensures.before x c.loop-y.y h)) c.loop-y.invariant
 
 pub loop-x-preserved : goal.loop-x-preserved
 loop-x-preserved c =
     let column : c.loop-x.x < c.args.width = omega (arith, c.loop-x-test.true, c.finder_columns-left.ensures.within) in
+    let row : c.loop-y.y < c.args.width = omega (arith, c.loop-y-test.true, c.finder_rows-top.ensures.within) in
     cell_changed (λ x y m. drawn_over (finder c.args.center_x c.args.center_y x y) m) c.args.width c.loop-y.y c.loop-x.x c.args.modules.now c.loop-x.modules _ Empty
-    column c.loop-y-test.true c.requires.square (c.drawn.ensures ∙ ap (λ o. drawn_over o (get_or c.loop-x.modules (c.loop-y.y * c.args.width + c.loop-x.x) Empty)) (c.finder_color.ensures)) c.loop-x.invariant
+    column row c.requires.square (sym (ap (λ o. drawn_over o (get_or c.loop-x.modules (c.loop-y.y * c.args.width + c.loop-x.x) Empty)) (c.finder_color.ensures))) c.loop-x.invariant
 
 pub loop-y-preserved : goal.loop-y-preserved
 loop-y-preserved c =
     let within : c.loop-x.x ≤ c.args.width = omega (arith, c.loop-x.auto.x-end, c.finder_columns-left.ensures.within) in
     row_ends (λ x y m. drawn_over (finder c.args.center_x c.args.center_y x y) m) c.args.width c.loop-y.y c.loop-x.x c.args.modules.now c.loop-x.modules
-    within (λ x h l m. ap (λ o. drawn_over o m) (c.finder_columns-left.ensures.after x (omega arith) l)) c.loop-x.invariant
+    within (λ x h l m. ap (λ o. drawn_over o m) (c.finder_columns-left.ensures.after x c.loop-y.y (omega arith) l)) c.loop-x.invariant
 
 pub returns : goal.returns
 returns c =
-    rows_end (λ x y m. drawn_over (finder c.args.center_x c.args.center_y x y) m) c.args.width c.loop-y.y c.args.modules.now c.loop-y.modules Empty
-    (omega (arith, c.loop-y-test.false, c.loop-y.auto.y-end)) c.requires.square c.loop-y.invariant
+    rows_end (λ x y m. drawn_over (finder c.args.center_x c.args.center_y x y) m) c.args.width c.args.width c.args.modules.now c.loop-y.modules Empty (omega arith) c.requires.square
+    (rows_between (λ x y m. drawn_over (finder c.args.center_x c.args.center_y x y) m) c.args.width c.loop-y.y c.args.width c.args.modules.now c.loop-y.modules
+    (omega (arith, c.requires.row)) (omega (arith, c.loop-y.auto.y-end, c.finder_rows-top.ensures.within))
+    (λ x y h l k m. ap (λ o. drawn_over o m) (c.finder_rows-top.ensures.after x y (omega (arith, l, c.loop-y-test.false)) k)) c.loop-y.invariant)

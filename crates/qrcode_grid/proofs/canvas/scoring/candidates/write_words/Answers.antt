@@ -8,20 +8,20 @@ use Rattle.qrcode_grid.proofs.WrittenWords.{IsWritten, none_written, next_writte
 use Rattle.qrcode_grid.proofs.canvas.scoring.candidates.write_words.Goals as goal
 
 pub loop-k-init : goal.loop-k-init
-loop-k-init c = λ m h. none_written byte_under (λ b. refl) c.args.width (get_or c.args.words.now m 0) c.args.places.now 0 (plane m c.args.grid.now)
+loop-k-init c = λ m word h are. none_written byte_under (λ b. refl) c.args.width word c.args.places.now 0 (plane m c.args.grid.now)
 
 pub loop-k-preserved : goal.loop-k-preserved
-loop-k-preserved c = λ m h.
+loop-k-preserved c = λ m word h are.
     let ps = c.args.places.now in let k = c.loop-k.k in let w = c.args.width in
     let place = get_or ps (length ps - 1 - k) (0, 0) in
     let at : length ps - 1 - k < length ps = omega (arith, c.loop-k-test.true) in
     let inside = c.requires.within (length ps - 1 - k) (0, 0) at in
-    let v = c.digits_of.result in
-    let step = next_written byte_under w (get_or c.args.words.now m 0) ps k 0 (plane m c.args.grid.now) (plane m c.loop-k.grid) (bit_at v m)
-    c.loop-k-test.true inside.0 inside.1 (length-plane m c.loop-k.grid ∙ c.loop-k.auto.grid ∙ c.requires.long) (λ b. c.digits_of.ensures m h) (c.loop-k.invariant m h) in
-    subst (λ (now : List ℕ). IsWritten byte_under w (get_or c.args.words.now m 0) (drop (length ps - (k + 1)) ps) 0 (plane m c.args.grid.now) now)
+    let v = get_or c.args.digits.now k 0 in
+    let step = next_written byte_under w word ps k 0 (plane m c.args.grid.now) (plane m c.loop-k.grid) (bit_at v m)
+    c.loop-k-test.true inside.0 inside.1 (length-plane m c.loop-k.grid ∙ c.loop-k.auto.grid ∙ c.requires.long) (λ b. are k (omega (arith, c.loop-k-test.true, c.requires.few))) (c.loop-k.invariant m word h are) in
+    subst (λ (now : List ℕ). IsWritten byte_under w word (drop (length ps - (k + 1)) ps) 0 (plane m c.args.grid.now) now)
     (sym (map-set (λ b. bit_at b m) c.loop-k.grid (place.1 * w + place.0) v)) step
 
 pub returns : goal.returns
-returns c = λ m x y h.
-    all_written byte_under c.args.width (get_or c.args.words.now m 0) c.args.places.now c.loop-k.k 0 (plane m c.args.grid.now) (plane m c.loop-k.grid) c.loop-k-test.false (c.loop-k.invariant m h) x y
+returns c = λ m word h are x y.
+    all_written byte_under c.args.width word c.args.places.now c.loop-k.k 0 (plane m c.args.grid.now) (plane m c.loop-k.grid) c.loop-k-test.false (c.loop-k.invariant m word h are) x y

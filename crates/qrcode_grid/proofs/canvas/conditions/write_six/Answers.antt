@@ -1,5 +1,5 @@
 use Rattle.std.proofs.Common.{refl, ◌+◌, ◌<◌, ◌≢◌, length, get_or, get_or-set_same, get_or-set_other, ◌∙◌, arith, below_more}
-use Rattle.qrcode_grid.proofs.canvas.scoring.conditions.write_six.Goals as goal
+use Rattle.qrcode_grid.proofs.canvas.conditions.write_six.Goals as goal
 
 pub loop-k-init : goal.loop-k-init
 loop-k-init c = record { cells = λ j h. absurd (omega arith); before = λ j h. refl }

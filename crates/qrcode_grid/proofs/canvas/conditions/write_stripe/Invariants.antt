@@ -1,6 +1,6 @@
 -- The cells of the row in the sixes before this one are written, and what comes before the row stays.
 use Rattle.std.proofs.Common.{◌≡◌, ◌<◌, ◌+◌, ◌*◌, ◌%◌, ℕ, get_or}
-use Rattle.qrcode_grid.proofs.canvas.scoring.conditions.write_stripe.Given as goal
+use Rattle.qrcode_grid.proofs.canvas.conditions.write_stripe.Given as goal
 
 abbrev pub invariant-loop-six : goal.invariant-loop-six
 invariant-loop-six l = record {

@@ -1,8 +1,8 @@
 use Rattle.std.proofs.Common.{◌≡◌, [], ◌++◌, refl, ap, ◌∙◌, sym, arith}
 use Rattle.qrcode_base.specs.Numbers.{number_bits}
-use Rattle.qrcode_grid.specs.Data.{codewords_from}
+use Rattle.qrcode_grid.specs.Placing.{codewords_from}
 use Rattle.qrcode_grid.proofs.BitSteps.{no_bits}
-use Rattle.qrcode_grid.proofs.canvas.data.refilled.Goals as goal
+use Rattle.qrcode_grid.proofs.canvas.data.ahead.refilled.Goals as goal
 
 pub returns-in-Some-clause-same : goal.returns-in-Some-clause-same
 returns-in-Some-clause-same c =

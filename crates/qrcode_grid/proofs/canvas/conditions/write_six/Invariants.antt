@@ -1,6 +1,6 @@
 -- The cells before this one are written, and what comes before the place stays.
 use Rattle.std.proofs.Common.{◌≡◌, ◌<◌, ◌+◌, ℕ, get_or}
-use Rattle.qrcode_grid.proofs.canvas.scoring.conditions.write_six.Given as goal
+use Rattle.qrcode_grid.proofs.canvas.conditions.write_six.Given as goal
 
 abbrev pub invariant-loop-k : goal.invariant-loop-k
 invariant-loop-k l = record {

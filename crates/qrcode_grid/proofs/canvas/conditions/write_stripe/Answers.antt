@@ -1,6 +1,6 @@
 use Rattle.std.proofs.Common.{refl, ◌≡◌, ◌+◌, ◌-◌, ◌*◌, ◌%◌, ◌<◌, get_or, ap, ◌∙◌, sym, arith, inl, inr}
 use Rattle.std.proofs.lemmas.Bool.{cases_lt}
-use Rattle.qrcode_grid.proofs.canvas.scoring.conditions.write_stripe.Goals as goal
+use Rattle.qrcode_grid.proofs.canvas.conditions.write_stripe.Goals as goal
 
 pub loop-six-init : goal.loop-six-init
 loop-six-init c = record { row = λ x h. absurd (omega arith); before = λ k h. refl }

@@ -5,7 +5,7 @@ use Rattle.std.proofs.lemmas.Bool.{cases_lt}
 use Rattle.qrcode_grid.specs.Masks.{is_inverted}
 use Rattle.qrcode_grid.specs.Scoring.{pattern_of}
 use Rattle.qrcode_grid.proofs.Stripes.{is_inverted-repeats}
-use Rattle.qrcode_grid.proofs.canvas.scoring.conditions.write_stripes.Goals as goal
+use Rattle.qrcode_grid.proofs.canvas.conditions.write_stripes.Goals as goal
 
 pub loop-y-init : goal.loop-y-init
 loop-y-init c = λ m x y b h l. absurd (omega arith)

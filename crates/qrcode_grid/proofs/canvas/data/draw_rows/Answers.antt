@@ -1,0 +1,45 @@
+use Rattle.std.proofs.Common.{◌≡◌, ◌<◌, ◌+◌, ◌-◌, ◌*◌, ◌/◌, ℕ, ap, subst, sym, ◌∙◌, arith, length}
+use Rattle.qrcode_grid.specs.Placing.{bits_from, FilledBelow}
+use Rattle.qrcode_grid.proofs.FillSteps.{offered_step, number_below, row_place-left, row_place-right}
+use Rattle.qrcode_grid.proofs.canvas.data.draw_rows.Goals as goal
+
+pub loop-row-init : goal.loop-row-init
+loop-row-init c = record {
+  fills = λ t pair is bits xs f.
+      let none : pair * (2 * c.args.columns.width) + 2 * c.args.first ≡ pair * (2 * c.args.columns.width) + 2 * c.args.first + 2 * 0 = omega arith in
+      subst (λ (k : ℕ). FilledBelow c.args.columns.width t bits xs c.args.modules.now k (bits_from c.args.left_out c.args.codewords.now c.args.correction.now c.args.bits)) none f;
+  small = c.requires.small;
+}
+
+pub loop-row-preserved : goal.loop-row-preserved
+loop-row-preserved c = record {
+  fills = λ t pair is bits xs f.
+      let w = c.args.columns.width in
+      let rows = c.args.first + c.loop-row.row in
+      let n = pair * (2 * w) + 2 * rows in
+      let rest = bits_from c.args.left_out c.args.codewords.now c.args.correction.now in
+      let here : pair * (2 * w) + 2 * c.args.first + 2 * c.loop-row.row ≡ n = omega arith in
+      let before = subst (λ (k : ℕ). FilledBelow w t bits xs c.loop-row.modules k (rest c.loop-row.ahead)) here (c.loop-row.invariant.fills t pair is bits xs f) in
+      let square : length xs ≡ w * w = sym before.size ∙ c.loop-row.auto.modules ∙ c.requires.square in
+      let odd : w ≡ 2 * (w / 2) + 1 = omega (arith, is.odd) in
+      let inside : rows < w = omega (arith, c.loop-row-test.true, c.requires.rows) in
+      let second_in : n + 1 < w * (w - 1) = number_below w (w / 2) pair rows odd is.below inside in
+      let first_in : n < w * (w - 1) = omega (arith, second_in) in
+      let right = ap (λ p. p + 1) c.place_of-place.ensures.is ∙ row_place-right t pair rows c.args.columns is inside in
+      let left = c.place_of-place.ensures.is ∙ row_place-left t pair rows c.args.columns is inside in
+      let first =
+      offered_step w (w / 2) t bits xs c.loop-row.modules c.offer-ahead.new.modules n (c.place_of-place.result + 1) (rest c.loop-row.ahead) (rest c.offer-ahead.result)
+      odd is.timing square first_in right c.offer-ahead.ensures.modules c.offer-ahead.ensures.rest before in
+      let both =
+      offered_step w (w / 2) t bits xs c.offer-ahead.new.modules c.offer-ahead-in-loop-row.new.modules (n + 1) c.place_of-place.result (rest c.offer-ahead.result) (rest c.offer-ahead-in-loop-row.result)
+      odd is.timing square second_in left c.offer-ahead-in-loop-row.ensures.modules c.offer-ahead-in-loop-row.ensures.rest first in
+      let next : n + 1 + 1 ≡ pair * (2 * w) + 2 * c.args.first + 2 * (c.loop-row.row + 1) = omega arith in
+      subst (λ (k : ℕ). FilledBelow w t bits xs c.offer-ahead-in-loop-row.new.modules k (rest c.offer-ahead-in-loop-row.result)) next both;
+  small = c.offer-ahead-in-loop-row.ensures.small;
+}
+
+pub returns-clause-fills : goal.returns-clause-fills
+returns-clause-fills c = λ t pair is bits xs f.
+    let n = pair * (2 * c.args.columns.width) + 2 * c.args.first in
+    let last : n + 2 * c.loop-row.row ≡ n + 2 * c.args.count = omega (arith, c.loop-row-test.false, c.loop-row.auto.row-end) in
+    subst (λ (k : ℕ). FilledBelow c.args.columns.width t bits xs c.loop-row.modules k (bits_from c.args.left_out c.args.codewords.now c.args.correction.now c.loop-row.ahead)) last (c.loop-row.invariant.fills t pair is bits xs f)

@@ -1,0 +1,78 @@
+-- Putting bits into the data cells, step by step.
+use Rattle.std.specs.Prelude.{◌≡◌, ◌==◌, if◌then◌else◌, ◌≤◌, Bool, ℕ, ◌+◌, ◌-◌, ◌*◌, ◌/◌, ◌%◌, ◌^◌, ◌<◌, List, ◌++◌, drop, length, slice_index_or, slice_get, Option, Some, None}
+use Rattle.qrcode_grid.specs.declared.canvas.Module.{Module}
+use Rattle.qrcode_grid.specs.declared.canvas.Module.TheVariants.{Empty, Masked, Unmasked}
+use Rattle.qrcode_grid.specs.declared.canvas.data.ahead.BitsAhead.{BitsAhead}
+use Rattle.qrcode_grid.specs.declared.canvas.data.Columns.{Columns}
+use Rattle.qrcode_grid.specs.Walk.{walk_column}
+use Rattle.qrcode_base.specs.Numbers.{number_bits}
+use Rattle.qrcode_grid.specs.Data.{bit_color, symbol_bits, place_in_walk, along_walk, fill_empty}
+
+-- the bits of a symbol that begin at a codeword with a number
+abbrev pub codewords_from : ℕ → List ℕ → List ℕ → ℕ → List Bool
+codewords_from left_out codewords correction n =
+    symbol_bits left_out (drop n codewords) (drop (n - length codewords) correction)
+
+-- the low bits that are left of a codeword, and those of the codewords that follow it
+abbrev pub bits_from : ℕ → List ℕ → List ℕ → BitsAhead → List Bool
+bits_from left_out codewords correction bits =
+    number_bits bits.left bits.word ++ codewords_from left_out codewords correction bits.next
+
+-- a module after a bit is offered to it: an empty one takes it
+abbrev pub filled : Module → Option Bool → Module
+filled Empty (Some bit) = Unmasked (bit_color bit)
+filled Empty None = Empty
+filled (Masked c) bit = Masked c
+filled (Unmasked c) bit = Unmasked c
+
+-- how many bits a module takes
+abbrev pub bits_taken : Module → ℕ
+bits_taken Empty = 1
+bits_taken (Masked c) = 0
+bits_taken (Unmasked c) = 0
+
+-- ys is xs with the first n cells of the walk filled, and the bits that are left
+pub record FilledBelow (w t : ℕ) (bits : List Bool) (xs ys : List Module) (n : ℕ) (ahead : List Bool) : Type 0 where
+  pub size : length ys ≡ length xs
+  pub done :
+      (k : ℕ) → k < n → k < w * (w - 1) →
+      slice_index_or ys (place_in_walk w t k) Empty ≡ slice_index_or (fill_empty (along_walk w t xs) bits) k Empty
+  pub rest :
+      (k : ℕ) → n ≤ k → k < w * (w - 1) →
+      slice_index_or ys (place_in_walk w t k) Empty ≡ slice_index_or xs (place_in_walk w t k) Empty
+  pub left : drop n (fill_empty (along_walk w t xs) bits) ≡ fill_empty (drop n (along_walk w t xs)) ahead
+  pub timing : (y : ℕ) → y < w → slice_get ys (y * w + t) ≡ slice_get xs (y * w + t)
+
+-- From a list with the first n cells filled, some more are filled too.
+abbrev pub FillsCells : ℕ → ℕ → ℕ → ℕ → List Bool → List Bool → List Module → List Module → Type 0
+FillsCells w t n count before after old new =
+    (bits : List Bool) (xs : List Module) → FilledBelow w t bits xs old n before →
+    FilledBelow w t bits xs new (n + count) after
+
+-- a bit of a number as a data module
+abbrev pub data_bit : ℕ → ℕ → Module
+data_bit word k = Unmasked (bit_color (word / 2 ^ k % 2 == 1))
+
+-- the place of the left module of the row to which the walk comes after some rows of a pair of columns
+abbrev pub row_place : Columns → ℕ → ℕ
+row_place c rows = (if c.up then c.width - 1 - rows else rows) * c.width + c.left
+
+-- Nothing is drawn at a place and the next.
+abbrev pub IsEmptyRow : List Module → ℕ → Type 0
+IsEmptyRow modules place =
+    (slice_index_or modules place Empty ≡ Empty) × (slice_index_or modules (place + 1) Empty ≡ Empty)
+
+-- These columns are a pair with a number, in a symbol with a timing column.
+pub record IsPair (t pair : ℕ) (c : Columns) : Type 0 where
+  pub odd : c.width % 2 ≡ 1
+  pub timing : t < c.width
+  pub below : pair < c.width / 2
+  pub up : c.up ≡ (pair % 2 == 0)
+  pub left : c.left ≡ walk_column c.width t (2 * pair + 1)
+  pub right : c.left + 1 ≡ walk_column c.width t (2 * pair)
+
+-- From a list with the cells before some rows of a pair filled, the cells of these rows are filled too.
+abbrev pub FillsRows : Columns → ℕ → ℕ → List Bool → List Bool → List Module → List Module → Type 0
+FillsRows c first count before after old new =
+    (t pair : ℕ) → IsPair t pair c →
+    FillsCells c.width t (pair * (2 * c.width) + 2 * first) (2 * count) before after old new

@@ -1,0 +1,97 @@
+//! The bits of a symbol in their order.
+ghost use Rattle.std.specs.Prelude.{◌≡◌, ℕ, ◌+◌, ◌<◌, ◌≤◌, [], ◌++◌, length, None, IfSome};
+ghost use Rattle.qrcode_base.specs.Numbers.{number_bits};
+ghost use Rattle.qrcode_grid.specs.Placing.{codewords_from, bits_from};
+
+/// Bits that are taken in order: the low bits that are left of a codeword, and then the codewords from a number on.
+#[derive(Clone, Copy)]
+pub struct BitsAhead {
+    pub word: usize,
+    pub left: usize,
+    pub next: usize,
+}
+
+/// The codeword with a number, and how many low bits of it go into a symbol.
+#[inline(always)]
+#[tactic(auto, using(crate::proofs::BitSteps::codewords_ahead))]
+fn codeword_at(
+    codewords: &[u8],
+    correction: &[u8],
+    left_out: usize,
+    next: usize,
+) -> Option<(usize, usize)>
+    requires few { left_out ≤ 4 }
+    ensures none { result ≡ None → codewords_from left_out codewords.now correction.now next ≡ [] }
+    ensures some { IfSome result (λ r.
+        codewords_from left_out codewords.now correction.now next ≡
+        number_bits r.1 r.0 ++ codewords_from left_out codewords.now correction.now (next + 1)) }
+    ensures byte { IfSome result (λ r. r.0 < 256) }
+    ensures count { IfSome result (λ r. (0 < r.1) × (r.1 ≤ 8)) }
+    ensures within { IfSome result (λ _. next < length codewords.now + length correction.now) }
+{
+    if next >= codewords.len() {
+        let k = next - codewords.len();
+        return if k < correction.len() {
+            Some((usize::from(correction[k]), 8))
+        } else {
+            None
+        };
+    }
+    if codewords.len() - next > 1 {
+        Some((usize::from(codewords[next]), 8))
+    } else {
+        Some((usize::from(codewords[next]) >> left_out, 8 - left_out))
+    }
+}
+
+/// The same bits, of which some are left of the codeword where there are any.
+#[inline(always)]
+pub fn refilled(codewords: &[u8], correction: &[u8], left_out: usize, bits: BitsAhead) -> BitsAhead
+    requires few { left_out ≤ 4 }
+    requires small { bits.left ≤ 8 }
+    ensures small { result.left ≤ 8 }
+    ensures same { bits_from left_out codewords.now correction.now result ≡
+        bits_from left_out codewords.now correction.now bits }
+    ensures none { result.left ≡ 0 → bits_from left_out codewords.now correction.now bits ≡ [] }
+{
+    if bits.left > 0 {
+        return bits;
+    }
+    match codeword_at(codewords, correction, left_out, bits.next) {
+        Some((word, left)) => BitsAhead {
+            word,
+            left,
+            next: bits.next + 1,
+        },
+        None => bits,
+    }
+}
+
+/// The next eight bits, as the low bits of a number, and those that follow. There are none where the next codeword isn't a
+/// whole one.
+#[inline(always)]
+pub fn next_eight(
+    codewords: &[u8],
+    correction: &[u8],
+    left_out: usize,
+    bits: BitsAhead,
+) -> Option<(usize, BitsAhead)>
+    requires few { left_out ≤ 4 }
+    requires small { bits.left ≤ 8 }
+    ensures same { IfSome result (λ r. bits_from left_out codewords.now correction.now bits ≡
+        number_bits 8 r.0 ++ bits_from left_out codewords.now correction.now r.1) }
+    ensures small { IfSome result (λ r. r.1.left ≤ 8) }
+{
+    match codeword_at(codewords, correction, left_out, bits.next) {
+        Some((word, 8)) => {
+            let both = bits.word % 256 * 256 + word;
+            let rest = BitsAhead {
+                word,
+                left: bits.left,
+                next: bits.next + 1,
+            };
+            Some((both >> bits.left, rest))
+        }
+        _ => None,
+    }
+}
