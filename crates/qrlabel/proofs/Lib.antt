@@ -1,0 +1,4 @@
+pub mod Ranges
+pub mod BitmapLemmas
+pub mod TerminalLemmas
+pub mod PathLemmas

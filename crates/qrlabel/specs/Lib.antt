@@ -1,0 +1,7 @@
+pub mod Pictures
+pub mod Shown
+pub mod Bitmaps
+pub mod Terminals
+pub mod Paths
+pub mod Options
+pub mod Rendered

@@ -1,0 +1,8 @@
+//! Pictures of symbols: renderers of SVG, of bitmaps and of text for a terminal.
+#![tactic(auto)]
+
+mod bitmap;
+mod options;
+mod picture;
+mod svg;
+mod terminal;
