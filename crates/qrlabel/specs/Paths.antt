@@ -16,7 +16,7 @@ unfoldable pub run_length : Picture → ℕ → ℕ → ℕ
 run_length p x y = prefix_len (λ is_dark. is_dark) (drop x (row_of p y))
 
 -- the rectangle that covers `length` modules from column x of row y on
-abbrev pub rectangle : ℕ → ℕ → ℕ → List ℕ
+unfoldable pub rectangle : ℕ → ℕ → ℕ → List ℕ
 rectangle x y length =
     codes "M" ++ (decimal x ++ (codes " " ++ (decimal y ++ (codes "h" ++ (decimal length ++ (codes "v1h-" ++ (decimal length ++ codes "z")))))))
 
@@ -32,18 +32,18 @@ row_path p y columns = flat_map (run_at p y) (range_with_len 0 columns)
 unfoldable pub path : Picture → ℕ → List ℕ
 path p rows = flat_map (λ y. row_path p y (columns_of p)) (range_with_len 0 rows)
 
--- the head of the document: sides in pixels, a box of modules, and the light ground; and its end
-abbrev pub opening : Picture → List ℕ
-opening p =
-    codes "<svg xmlns=\"http://www.w3.org/2000/svg\" width=\"" ++ (decimal (width_of p) ++
-    (codes "\" height=\"" ++ (decimal (height_of p) ++
-    (codes "\" viewBox=\"0 0 " ++ (decimal (columns_of p) ++ (codes " " ++ (decimal (rows_of p) ++
-    (codes "\">\n<rect width=\"" ++ (decimal (columns_of p) ++ (codes "\" height=\"" ++ (decimal (rows_of p) ++
+-- the head of the document, by its sides in pixels and in modules: a box of modules, and the light ground
+unfoldable pub opening : (width height columns rows : ℕ) → List ℕ
+opening width height columns rows =
+    codes "<svg xmlns=\"http://www.w3.org/2000/svg\" width=\"" ++ (decimal width ++ (codes "\" height=\"" ++ (decimal height ++
+    (codes "\" viewBox=\"0 0 " ++ (decimal columns ++ (codes " " ++ (decimal rows ++
+    (codes "\">\n<rect width=\"" ++ (decimal columns ++ (codes "\" height=\"" ++ (decimal rows ++
     codes "\" fill=\"#fff\"/>\n<path d=\"")))))))))))
 
+-- the end of the document
 abbrev pub closing : List ℕ
 closing = codes "\"/>\n</svg>\n"
 
 -- the document of a picture
 abbrev pub svg_text : Picture → List ℕ
-svg_text p = opening p ++ (path p (rows_of p) ++ closing)
+svg_text p = opening (width_of p) (height_of p) (columns_of p) (rows_of p) ++ (path p (rows_of p) ++ closing)

@@ -15,7 +15,7 @@ abbrev pub is_filled : Bool → Picture → ℕ → ℕ → Bool
 is_filled inverted p x y = if inverted then not (is_dark_pixel p x y) else is_dark_pixel p x y
 
 -- the character of column x in a line: the pixels of rows 2 * line and 2 * line + 1
-abbrev pub character : Bool → Picture → ℕ → ℕ → List ℕ
+unfoldable pub character : Bool → Picture → ℕ → ℕ → List ℕ
 character inverted p line x =
     encode_utf8 (half_blocks (is_filled inverted p x (2 * line)) (is_filled inverted p x (2 * line + 1)))
 

@@ -1,7 +1,7 @@
 //! Pictures as portable bitmaps.
 ghost use Rattle.std.specs.Prelude.{◌≡◌, ◌+◌, ◌*◌, ◌/◌, ◌≤◌, ◌<◌, ◌++◌, map, IfOk, OnOk};
-ghost use Rattle.std.specs.List.{range_with_len};
-ghost use Rattle.qrlabel.specs.Bitmaps.{bitmap_of, byte_of, first_rows, row_of};
+ghost use Rattle.std.specs.String.{string_bytes};
+ghost use Rattle.qrlabel.specs.Bitmaps.{bitmap_of, byte_of, first_rows, header, row_of};
 ghost use Rattle.qrlabel.specs.Pictures.{height_of};
 ghost use Rattle.qrlabel.specs.Shown.{shown};
 
@@ -13,14 +13,23 @@ pub fn bitmap(alloc: Global, picture: &Picture) -> Result<Vec<u8>, AllocError>
     ensures { IfOk result (λ bytes. bytes.items ≡ bitmap_of (shown picture.now)) }
 {
     let (width, height) = (picture.width(), picture.height());
-    let header = format!(in alloc; "P4\n{width} {height}\n")?;
+    let header = header(alloc, width, height)?;
     let mut bytes = Vec::with_capacity(alloc, header.len() + height * width.div_ceil(8))?;
     bytes.extend_from_slice(header.as_bytes())?;
     push_rows(alloc, &mut bytes, picture)?;
     Ok(bytes)
 }
 
-/// Adds all rows.
+/// The header.
+#[tactic(auto, unfolding(crate::specs::Bitmaps::header))]
+fn header(alloc: Global, width: usize, height: usize) -> Result<String, AllocError>
+    ensures { IfOk result (λ text. string_bytes text ≡ header width height) }
+{
+    format!(in alloc; "P4\n{width} {height}\n")
+}
+
+/// Adds all rows. The pixels of a row of modules repeat.
+#[tactic(auto, using(crate::proofs::BitmapLemmas::rows_start, crate::proofs::BitmapLemmas::rows_copy))]
 fn push_rows(alloc: Global, bytes: &mut Vec<u8>, picture: &Picture) -> Result<(), AllocError>
     ensures { OnOk result
         (bytes.new.items ≡ bytes.old.items ++ first_rows (shown picture.now) (height_of (shown picture.now))) }
@@ -28,7 +37,7 @@ fn push_rows(alloc: Global, bytes: &mut Vec<u8>, picture: &Picture) -> Result<()
     let scale = picture.scale();
     for row in 0..picture.rows() {
         let line = row_bytes(alloc, picture, row * scale)?;
-        for _ in 0..scale {
+        for copy in 0..scale {
             bytes.extend_from_slice(&line)?;
         }
     }
@@ -36,6 +45,7 @@ fn push_rows(alloc: Global, bytes: &mut Vec<u8>, picture: &Picture) -> Result<()
 }
 
 /// The bytes of a row of pixels.
+#[tactic(auto, using(crate::proofs::BitmapLemmas::bytes_more), unfolding(crate::specs::Bitmaps::row_of))]
 fn row_bytes(alloc: Global, picture: &Picture, y: usize) -> Result<Vec<u8>, AllocError>
     ensures { IfOk result (λ line. line.items ≡ row_of (shown picture.now) y) }
 {
@@ -48,6 +58,7 @@ fn row_bytes(alloc: Global, picture: &Picture, y: usize) -> Result<Vec<u8>, Allo
 }
 
 /// The byte of eight pixels of a row, the first in the highest bit.
+#[tactic(auto, using(crate::proofs::BitmapLemmas::spelled_more, crate::proofs::BitmapLemmas::spelled_small), unfolding(crate::specs::Bitmaps::byte_of))]
 fn pixel_byte(picture: &Picture, place: usize, y: usize) -> u8
     requires { place < 1672 }
     ensures { result ≡ byte_of (shown picture.now) y place }

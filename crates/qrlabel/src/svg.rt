@@ -9,11 +9,13 @@ use crate::picture::Picture;
 use std::alloc::{AllocError, Global};
 
 /// The picture as SVG: a light ground, and one path of a rectangle for each run of dark modules in a row.
+#[tactic(auto, using(crate::proofs::PathLemmas::path_start, crate::proofs::PathLemmas::path_row))]
 pub fn svg(alloc: Global, picture: &Picture) -> Result<String, AllocError>
     ensures { IfOk result (λ text. string_bytes text ≡ svg_text (shown picture.now)) }
 {
-    let mut text = opening(alloc, picture)?;
-    for y in 0..picture.rows() {
+    let (columns, rows) = (picture.columns(), picture.rows());
+    let mut text = opening(alloc, picture.width(), picture.height(), columns, rows)?;
+    for y in 0..rows {
         push_row(alloc, &mut text, picture, y)?;
     }
     text.push_str("\"/>\n</svg>\n")?;
@@ -21,11 +23,16 @@ pub fn svg(alloc: Global, picture: &Picture) -> Result<String, AllocError>
 }
 
 /// The head of the document, up to the path.
-fn opening(alloc: Global, picture: &Picture) -> Result<String, AllocError>
-    ensures { IfOk result (λ text. string_bytes text ≡ opening (shown picture.now)) }
+#[tactic(auto, unfolding(crate::specs::Paths::opening))]
+fn opening(
+    alloc: Global,
+    width: usize,
+    height: usize,
+    columns: usize,
+    rows: usize,
+) -> Result<String, AllocError>
+    ensures { IfOk result (λ text. string_bytes text ≡ opening width height columns rows) }
 {
-    let (width, height) = (picture.width(), picture.height());
-    let (columns, rows) = (picture.columns(), picture.rows());
     format!(
         in alloc;
         "<svg xmlns=\"http://www.w3.org/2000/svg\" width=\"{width}\" height=\"{height}\" viewBox=\"0 0 {columns} {rows}\">\n<rect width=\"{columns}\" height=\"{rows}\" fill=\"#fff\"/>\n<path d=\""
@@ -33,6 +40,7 @@ fn opening(alloc: Global, picture: &Picture) -> Result<String, AllocError>
 }
 
 /// Adds the rectangles of a row.
+#[tactic(auto, using(crate::proofs::PathLemmas::row_start, crate::proofs::PathLemmas::row_run, crate::proofs::PathLemmas::row_no_run))]
 fn push_row(
     alloc: Global,
     text: &mut String,
@@ -60,6 +68,7 @@ fn begins_run(picture: &Picture, x: usize, y: usize) -> bool
 }
 
 /// How many modules from here on are dark.
+#[tactic(auto, using(crate::proofs::PathLemmas::run_dark, crate::proofs::PathLemmas::run_light, crate::proofs::PathLemmas::run_end))]
 fn run_length(picture: &Picture, x: usize, y: usize) -> usize
     requires { x ≤ columns_of (shown picture.now) }
     ensures { result ≡ run_length (shown picture.now) x y }
@@ -75,6 +84,7 @@ fn run_length(picture: &Picture, x: usize, y: usize) -> usize
 }
 
 /// The rectangle that covers some modules of a row.
+#[tactic(auto, unfolding(crate::specs::Paths::rectangle))]
 fn rectangle(alloc: Global, x: usize, y: usize, length: usize) -> Result<String, AllocError>
     ensures { IfOk result (λ text. string_bytes text ≡ rectangle x y length) }
 {

@@ -21,6 +21,7 @@ pub fn terminal(alloc: Global, picture: &Picture, inverted: bool) -> Result<Stri
 }
 
 /// Adds a line.
+#[tactic(auto, using(crate::proofs::TerminalLemmas::characters_more))]
 fn push_line(
     text: &mut String,
     picture: &Picture,
