@@ -4,5 +4,8 @@
 mod bitmap;
 mod options;
 mod picture;
+mod renderers;
 mod svg;
 mod terminal;
+
+pub use renderers::{Pbm, Svg, Terminal};

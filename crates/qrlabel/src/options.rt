@@ -1,14 +1,10 @@
 //! What the options of a configuration ask of a renderer.
-ghost use Rattle.std.specs.Prelude.{◌≡◌, ℕ, ◌≤◌, Bool, codes, MatchOption, IfOk, IfErr};
+ghost use Rattle.std.specs.Prelude.{◌≡◌, ℕ, ◌≤◌, Bool, codes, MatchOption, IfSome};
 ghost use Rattle.qrcode_core.specs.Configs.{render_options};
-ghost use Rattle.qrcode_core.specs.Grids.{grid_of};
 ghost use Rattle.qrcode_core.specs.Texts.{at_key};
 ghost use Rattle.qrlabel.specs.Options.{Asks, AsksForNone, AsksFlag, AsksNumber};
-ghost use Rattle.qrlabel.specs.Rendered.{IsDrawable, IsRefusal};
 
-use crate::picture::MOST_MODULES;
-use qrcode_core::plugin::{PluginError, RenderConfig};
-use std::alloc::Global;
+use qrcode_core::plugin::RenderConfig;
 
 /// How a grid is to be drawn.
 #[derive(Clone, Copy, Debug, PartialEq, Eq)]
@@ -19,10 +15,15 @@ pub struct Request {
     pub quiet: usize,
     /// Whether text is for a dark screen.
     pub inverted: bool,
+    ghost scaled: { 1 ≤ scale },
+    ghost small_scale: { scale ≤ 64 },
+    ghost small_zone: { quiet ≤ 16 },
 }
 
 /// What the options of the configuration ask for, where they ask for something that can be drawn.
 pub fn request_of(config: &RenderConfig, usual_scale: usize) -> Option<Request>
+    requires least { 1 ≤ usual_scale }
+    requires most { usual_scale ≤ 64 }
     ensures { MatchOption result
         (AsksForNone usual_scale (render_options config.now))
         (λ r. Asks usual_scale (render_options config.now) r.scale r.quiet r.inverted) }
@@ -45,7 +46,10 @@ fn number(
     least: usize,
     most: usize,
 ) -> Option<usize>
-    ensures { MatchOption result
+    requires at_least { least ≤ usual }
+    requires at_most { usual ≤ most }
+    ensures within { IfSome result (λ n. (least ≤ n) × (n ≤ most)) }
+    ensures asked { MatchOption result
         ((n : ℕ) → AsksNumber (at_key (render_options config.now) key.now) usual least most n → ⊥)
         (AsksNumber (at_key (render_options config.now) key.now) usual least most) }
 {
@@ -75,18 +79,5 @@ fn flag(config: &RenderConfig, key: &str) -> Option<bool>
         Some(false)
     } else {
         None
-    }
-}
-
-/// That the options ask for nothing; `OutOfMemory` where there is no memory for the words.
-pub fn unclear(alloc: Global) -> PluginError
-    ensures { IsRefusal (Unit {0}) ⊥ result }
-{
-    match String::from_str(
-        alloc,
-        "scale is 1 to 64, quiet 0 to 16, inverted true or false",
-    ) {
-        Ok(what) => PluginError::InvalidConfig(what),
-        Err(_) => PluginError::OutOfMemory,
     }
 }
