@@ -7,5 +7,7 @@ mod picture;
 mod renderers;
 mod svg;
 mod terminal;
+#[cfg(test)]
+mod tests;
 
 pub use renderers::{Pbm, Svg, Terminal};
