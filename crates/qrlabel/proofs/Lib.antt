@@ -2,3 +2,4 @@ pub mod Ranges
 pub mod BitmapLemmas
 pub mod TerminalLemmas
 pub mod PathLemmas
+pub mod NameLemmas

@@ -5,3 +5,4 @@ pub mod Terminals
 pub mod Paths
 pub mod Options
 pub mod Rendered
+pub mod Named

@@ -2,6 +2,7 @@
 #![tactic(auto)]
 
 mod bitmap;
+mod bundle;
 mod options;
 mod picture;
 mod renderers;
@@ -10,4 +11,5 @@ mod terminal;
 #[cfg(test)]
 mod tests;
 
+pub use bundle::render_by_name;
 pub use renderers::{Pbm, Svg, Terminal};
