@@ -1,5 +1,5 @@
 //! Pictures of small grids, written by hand from the formats, and refusals.
-use crate::{Pbm, Svg, Terminal};
+use crate::{Pbm, Svg, Terminal, render_by_name};
 use qrcode_core::plugin::{DynRenderer, PluginError, RenderConfig, RenderOutput};
 use qrcode_core::traits::ModuleView;
 use qrcode_core::types::Color;
@@ -139,5 +139,27 @@ fn refuses_large_grids(rt: HostRuntime) -> Result<(), PluginError> {
         assert!(rt; matches!(answer, Err(PluginError::RenderFailed(_))));
     }
     assert!(rt; drawn(alloc, &Pbm, &cells[1..], (177, 1), &[]).is_ok());
+    Ok(())
+}
+
+/// By its name each renderer draws what it draws itself.
+#[test]
+fn draws_by_name(rt: HostRuntime) -> Result<(), PluginError> {
+    let alloc = rt.alloc();
+    let config = RenderConfig::new(alloc).with_option("quiet", "1")?;
+    let Some(view) = ModuleView::new_rect(&CELLS, 3, 2) else {
+        return Err(PluginError::InvalidModuleGrid);
+    };
+    let named = [
+        ("svg", Svg.render(alloc, &view, &config)?),
+        ("pbm", Pbm.render(alloc, &view, &config)?),
+        ("terminal", Terminal.render(alloc, &view, &config)?),
+    ];
+    for (name, output) in &named {
+        let drawn = render_by_name(alloc, name, &view, &config)?;
+        assert!(rt; drawn == *output, "{name}");
+    }
+    let missing = render_by_name(alloc, "png", &view, &config);
+    assert!(rt; matches!(missing, Err(PluginError::RendererNotFound(_))));
     Ok(())
 }
