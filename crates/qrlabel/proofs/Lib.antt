@@ -3,3 +3,4 @@ pub mod BitmapLemmas
 pub mod TerminalLemmas
 pub mod PathLemmas
 pub mod NameLemmas
+pub mod CoverLemmas

@@ -6,3 +6,4 @@ pub mod Paths
 pub mod Options
 pub mod Rendered
 pub mod Named
+pub mod Covered

@@ -3,6 +3,7 @@
 
 mod bitmap;
 mod bundle;
+pub mod laws;
 mod options;
 mod picture;
 mod renderers;
