@@ -1,9 +1,7 @@
 -- The rectangles of the runs of a row cover its dark modules, and each module by one.
-use Rattle.std.proofs.Common.{◌≡◌, ℕ, zero, suc, ◌+◌, ◌-◌, ◌<◌, ◌≤◌, Bool, true, false, refl, sym, ◌∙◌, ap, arith, inl, inr}
-use Rattle.std.specs.Prelude.{IsTrue, ◌↔◌}
+use Rattle.std.proofs.Common.{◌≡◌, ℕ, zero, suc, ◌+◌, ◌-◌, ◌<◌, ◌≤◌, true, false, refl, arith, inl, inr}
 use Rattle.std.proofs.lemmas.Bool.{true_from_ne_false, cases_lt, cases_Bool}
 use Rattle.std.proofs.lemmas.Bool.Decides.{nat_tests}
-use Rattle.std.proofs.lemmas.Grind.{common_steps}
 use Rattle.qrlabel.specs.Pictures.{Picture, columns_of, is_dark_module}
 use Rattle.qrlabel.specs.Paths.{begins_run, run_length}
 use Rattle.qrlabel.specs.Covered.{Covers, CoversDarkModules}
@@ -56,9 +54,10 @@ covered_dark p start x y from to =
 reaches_next : (p : Picture) (start x y : ℕ) → x + 1 < columns_of p → is_dark_module p (x + 1) y ≡ true → start ≤ x → x < start + run_length p start y → x + 1 < start + run_length p start y
 reaches_next p start x y inside dark from to =
     let each : (k : ℕ) → k < x + 2 - start → is_dark_module p (start + k) y ≡ true =
-    λ k below. elim (cases_lt (start + k) (x + 1))
-    [ inl earlier ↦ covered_dark p start (start + k) y (omega arith) (omega arith)
-    | inr last ↦ (let e : start + k ≡ x + 1 = omega arith in rw e dark) ] in
+    λ k below. elim (cases_lt (start + k) (x + 1)) [
+      | inl earlier ↦ covered_dark p start (start + k) y (omega arith) (omega arith)
+      | inr last ↦ (let e : start + k ≡ x + 1 = omega arith in rw e dark)
+    ] in
     let far : x + 2 - start ≤ run_length p start y = run_reaches p start y (x + 2 - start) (omega arith) each in
     omega (arith, far)
 
@@ -70,13 +69,14 @@ covered p zero y inside dark =
 covered p (suc x) y inside dark =
     let next : suc x ≡ x + 1 = omega arith in
     let dark_here : is_dark_module p (x + 1) y ≡ true = rw next at dark in
-    elim (cases_Bool (is_dark_module p x y))
-    [ inl before ↦
-      (let run = covered p x y (omega arith) before in
-      (run.0, record { begins = run.1.begins; from = omega (arith, run.1.from); to = rw next (reaches_next p run.0 x y (omega arith) dark_here run.1.from run.1.to) }))
-    | inr light ↦
-      (let more : run_length p (x + 1) y ≡ 1 + run_length p (x + 1 + 1) y = run_dark p (x + 1) y (omega arith) dark_here in
-      (x + 1, record { begins = begins_after_light p x y dark_here light; from = omega arith; to = omega (arith, more) })) ]
+    elim (cases_Bool (is_dark_module p x y)) [
+      | inl before ↦
+          (let run = covered p x y (omega arith) before in
+          (run.0, record { begins = run.1.begins; from = omega (arith, run.1.from); to = rw next (reaches_next p run.0 x y (omega arith) dark_here run.1.from run.1.to) }))
+      | inr light ↦
+          (let more : run_length p (x + 1) y ≡ 1 + run_length p (x + 1 + 1) y = run_dark p (x + 1) y (omega arith) dark_here in
+          (x + 1, record { begins = begins_after_light p x y dark_here light; from = omega arith; to = omega (arith, more) }))
+    ]
 
 -- no run begins behind a dark module
 no_begin : (p : Picture) (b y : ℕ) → 0 < b → is_dark_module p (b - 1) y ≡ true → begins_run p b y ≡ false
@@ -93,8 +93,10 @@ not_before p a b x y first second earlier =
 -- no two rectangles cover a module
 one_each : (p : Picture) (a b x y : ℕ) → Covers p a x y → Covers p b x y → a ≡ b
 one_each p a b x y first second =
-    elim (cases_lt a b) [ inl less ↦ absurd (not_before p a b x y first second less)
-    | inr rest ↦ elim (cases_lt b a) [ inl less ↦ absurd (not_before p b a x y second first less) | inr other ↦ omega arith ] ]
+    elim (cases_lt a b) [
+      | inl less ↦ absurd (not_before p a b x y first second less)
+      | inr rest ↦ elim (cases_lt b a) [ inl less ↦ absurd (not_before p b a x y second first less) | inr other ↦ omega arith ]
+    ]
 
 pub covers_dark_modules : CoversDarkModules
 covers_dark_modules p x y inside =

@@ -1,9 +1,8 @@
 -- Three renderers by their names.
-use Rattle.std.proofs.Common.{◌≡◌, ◌≢◌, ℕ, List, [], ◌∷◌, Option, Some, None, Bool, true, false, cond, refl, ap, ◌∙◌, sym, subst, inl, inr}
+use Rattle.std.proofs.Common.{◌≡◌, ◌≢◌, ℕ, List, [], ◌∷◌, Some, None, Bool, false, refl, ◌∙◌, sym, subst, inl, inr}
 use Rattle.std.specs.Prelude.{codes, ◌⊎◌, IfSome, IfNone, Result, Err}
-use Rattle.std.specs.Ordering.{is_eq, nat_cmp}
+use Rattle.std.specs.Ordering.{is_eq}
 use Rattle.std.specs.Str.{bytes_eq}
-use Rattle.std.specs.Cmp.Lexicographic.{slice_cmp}
 use Rattle.std.proofs.lemmas.Bool.{false_from_ne_true}
 use Rattle.std.proofs.lemmas.Map.Text.{is_eq-slice_cmp}
 use Rattle.std.proofs.lemmas.Slice.Eq.{bytes_eq-Decides}
@@ -18,7 +17,7 @@ use Rattle.qrcode_core.specs.Grids.{Grid}
 use Rattle.qrcode_core.specs.Registries.{object_in, object_at}
 use Rattle.qrlabel.specs.Pictures.{Picture}
 use Rattle.qrlabel.specs.Rendered.{Renders, Validates}
-use Rattle.qrcode_core.specs.Texts.{TextMap, at_key, with_entry, text_cmp}
+use Rattle.qrcode_core.specs.Texts.{TextMap, at_key, text_cmp}
 
 -- the three, in the order of their names
 abbrev pub three : {V : Type 0} → (svg pbm terminal : V) → TextMap V

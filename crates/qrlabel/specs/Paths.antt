@@ -1,5 +1,5 @@
 -- A picture as SVG: a light ground, and on it one path of a rectangle for each run of dark modules in a row.
-use Rattle.std.specs.Prelude.{ℕ, ◌+◌, ◌-◌, Bool, List, [], ◌∷◌, ◌++◌, map, drop, flat_map, codes, decimal, if◌then◌else◌, ◌==◌, ◌&&◌, ◌||◌, not}
+use Rattle.std.specs.Prelude.{ℕ, ◌-◌, Bool, List, [], ◌++◌, map, drop, flat_map, codes, decimal, if◌then◌else◌, ◌==◌, ◌&&◌, ◌||◌, not}
 use Rattle.std.specs.List.{range_with_len, prefix_len}
 use Rattle.qrlabel.specs.Pictures.{Picture, columns_of, rows_of, width_of, height_of, is_dark_module}
 

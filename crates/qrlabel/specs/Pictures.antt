@@ -1,9 +1,9 @@
 -- The picture of a grid: each module is a square of pixels, and a light zone lies around the grid (ISO/IEC 18004,
 -- "Quiet zone").
-use Rattle.std.specs.Prelude.{ℕ, ◌+◌, ◌-◌, ◌*◌, ◌/◌, ◌≤◌, Bool, true, false, ◌&&◌, nat_le, nat_lt, Option, Some}
+use Rattle.std.specs.Prelude.{ℕ, ◌+◌, ◌-◌, ◌*◌, ◌/◌, Bool, true, false, ◌&&◌, nat_le, nat_lt, Option, Some}
 use Rattle.qrcode_core.specs.Grids.{Grid, color_at}
 use Rattle.qrcode_core.specs.declared.types.Color.{Color}
-use Rattle.qrcode_core.specs.declared.types.Color.TheVariants.{Light, Dark}
+use Rattle.qrcode_core.specs.declared.types.Color.TheVariants.{Dark}
 
 -- a grid, how many pixels the side of a module has, and how many modules wide the zone is
 pub record Picture : Type 0 where

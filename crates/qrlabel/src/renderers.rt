@@ -90,11 +90,7 @@ impl DynRenderer for Terminal {
     ) -> Result<RenderOutput, PluginError> {
         let request = drawable(alloc, code, config, TEXT_SCALE)?;
         let picture = picture_of(code, request);
-        Ok(RenderOutput::Text(terminal(
-            alloc,
-            &picture,
-            request.inverted,
-        )?))
+        Ok(RenderOutput::Text(terminal(alloc, &picture, request.inverted)?))
     }
 
     fn validate_config(&self, alloc: Global, config: &RenderConfig) -> Result<(), PluginError> {
@@ -126,11 +122,7 @@ fn drawable(
 }
 
 /// What the options ask for.
-fn asked(
-    alloc: Global,
-    config: &RenderConfig,
-    usual_scale: usize,
-) -> Result<Request, PluginError>
+fn asked(alloc: Global, config: &RenderConfig, usual_scale: usize) -> Result<Request, PluginError>
     requires least { 1 ≤ usual_scale }
     requires most { usual_scale ≤ 64 }
     ensures asked { IfOk result
@@ -147,7 +139,10 @@ fn asked(
 fn unclear(alloc: Global) -> PluginError
     ensures { IsRefusal (Unit {0}) ⊥ result }
 {
-    match String::from_str(alloc, "scale 1 to 64, quiet 0 to 16, inverted true or false") {
+    match String::from_str(
+        alloc,
+        "scale 1 to 64, quiet 0 to 16, inverted true or false",
+    ) {
         Ok(what) => PluginError::InvalidConfig(what),
         Err(_) => PluginError::OutOfMemory,
     }

@@ -33,20 +33,14 @@ fn opening(
 ) -> Result<String, AllocError>
     ensures { IfOk result (λ text. string_bytes text ≡ opening width height columns rows) }
 {
-    format!(
-        in alloc;
+    format!(in alloc;
         "<svg xmlns=\"http://www.w3.org/2000/svg\" width=\"{width}\" height=\"{height}\" viewBox=\"0 0 {columns} {rows}\">\n<rect width=\"{columns}\" height=\"{rows}\" fill=\"#fff\"/>\n<path d=\""
     )
 }
 
 /// Adds the rectangles of a row.
 #[tactic(auto, using(crate::proofs::PathLemmas::row_start, crate::proofs::PathLemmas::row_run, crate::proofs::PathLemmas::row_no_run))]
-fn push_row(
-    alloc: Global,
-    text: &mut String,
-    picture: &Picture,
-    y: usize,
-) -> Result<(), AllocError>
+fn push_row(alloc: Global, text: &mut String, picture: &Picture, y: usize) -> Result<(), AllocError>
     ensures { OnOk result
         (string_bytes text.new ≡ string_bytes text.old ++ row_path (shown picture.now) y (columns_of (shown picture.now))) }
 {

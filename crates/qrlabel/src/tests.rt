@@ -52,7 +52,10 @@ fn draws_bitmaps(rt: HostRuntime) -> Result<(), PluginError> {
 
     let large = [("scale", "3"), ("quiet", "0")];
     let output = drawn(alloc, &Pbm, &CELLS, (3, 2), &large)?;
-    assert_eq!(rt; bytes_of(&output), b"P4\n9 6\n\xE3\x80\xE3\x80\xE3\x80\xFC\x00\xFC\x00\xFC\x00".as_slice());
+    assert_eq!(rt;
+        bytes_of(&output),
+        b"P4\n9 6\n\xE3\x80\xE3\x80\xE3\x80\xFC\x00\xFC\x00\xFC\x00".as_slice()
+    );
 
     let output = drawn(alloc, &Pbm, &[Color::Dark], (1, 1), &[])?;
     assert_eq!(rt; bytes_of(&output).len(), 9 + 72 * 9);
@@ -87,13 +90,15 @@ fn draws_svg(rt: HostRuntime) -> Result<(), PluginError> {
     let alloc = rt.alloc();
     let options = [("scale", "2"), ("quiet", "1")];
     let output = drawn(alloc, &Svg, &CELLS, (3, 2), &options)?;
-    let document = "<svg xmlns=\"http://www.w3.org/2000/svg\" width=\"10\" height=\"8\" viewBox=\"0 0 5 4\">\n<rect width=\"5\" height=\"4\" fill=\"#fff\"/>\n<path d=\"M1 1h1v1h-1zM3 1h1v1h-1zM1 2h2v1h-2z\"/>\n</svg>\n";
+    let document =
+        "<svg xmlns=\"http://www.w3.org/2000/svg\" width=\"10\" height=\"8\" viewBox=\"0 0 5 4\">\n<rect width=\"5\" height=\"4\" fill=\"#fff\"/>\n<path d=\"M1 1h1v1h-1zM3 1h1v1h-1zM1 2h2v1h-2z\"/>\n</svg>\n";
     assert_eq!(rt; bytes_of(&output), document.as_bytes());
 
     // A run that begins at the left edge and ends at the right one.
     let options = [("scale", "64"), ("quiet", "0")];
     let output = drawn(alloc, &Svg, &[Color::Dark, Color::Dark], (2, 1), &options)?;
-    let document = "<svg xmlns=\"http://www.w3.org/2000/svg\" width=\"128\" height=\"64\" viewBox=\"0 0 2 1\">\n<rect width=\"2\" height=\"1\" fill=\"#fff\"/>\n<path d=\"M0 0h2v1h-2z\"/>\n</svg>\n";
+    let document =
+        "<svg xmlns=\"http://www.w3.org/2000/svg\" width=\"128\" height=\"64\" viewBox=\"0 0 2 1\">\n<rect width=\"2\" height=\"1\" fill=\"#fff\"/>\n<path d=\"M0 0h2v1h-2z\"/>\n</svg>\n";
     assert_eq!(rt; bytes_of(&output), document.as_bytes());
     Ok(())
 }
@@ -119,10 +124,16 @@ fn refuses_options(rt: HostRuntime) -> Result<(), PluginError> {
             Terminal.validate_config(alloc, &config),
         ];
         for answer in &answers {
-            assert!(rt; matches!(answer, Err(PluginError::InvalidConfig(_))), "{key} {value}");
+            assert!(rt;
+                matches!(answer, Err(PluginError::InvalidConfig(_))),
+                "{key} {value}"
+            );
         }
         let answer = drawn(alloc, &Svg, &CELLS, (3, 2), &[(key, value)]);
-        assert!(rt; matches!(answer, Err(PluginError::InvalidConfig(_))), "{key} {value}");
+        assert!(rt;
+            matches!(answer, Err(PluginError::InvalidConfig(_))),
+            "{key} {value}"
+        );
     }
     let config = RenderConfig::new(alloc).with_option("quiet", "16")?;
     assert!(rt; Svg.validate_config(alloc, &config).is_ok());
