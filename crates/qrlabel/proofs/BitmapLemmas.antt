@@ -76,3 +76,7 @@ pub rows_start : (p : Picture) (scale : ℕ) (bytes : List ℕ) → bytes ≡ by
 rows_start p scale bytes =
     let none : 0 * scale ≡ 0 = omega arith in
     rw (none, rows_none p) (sym (append-nil bytes))
+
+pub ruleset bits = (spelled_more, spelled_small)
+
+pub ruleset rows = (rows_start, rows_copy)

@@ -61,3 +61,9 @@ run_light p x y inside light =
 pub run_end : (p : Picture) (x y : ℕ) → columns_of p ≤ x → run_length p x y ≡ 0
 unfolding run_length
 run_end p x y outside = prefix_len-drop_all (λ (b : Bool). b) (row_of p y) x (omega (arith, length_of_row p y))
+
+pub ruleset paths = (path_start, path_row)
+
+pub ruleset rows = (row_start, row_run, row_no_run)
+
+pub ruleset runs = (run_dark, run_light, run_end)

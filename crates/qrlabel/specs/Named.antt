@@ -8,8 +8,10 @@ use Rattle.qrcode_core.specs.PluginErrors.{IsRendererMissing}
 use Rattle.qrlabel.specs.Rendered.{Renders, ShowsBitmap, ShowsSvg, ShowsTerminal}
 
 -- Each renderer answers by its name; by any other there is none.
-pub record RendersByName (name : List ℕ) (grid : Grid) (config : RenderConfig) (answer : Result RenderOutput PluginError) : Type 0 where
+pub record RendersByName (name : List ℕ) (grid : Grid) (config : RenderConfig)
+    (answer : Result RenderOutput PluginError) : Type 0 where
   pub svg : name ≡ codes "svg" → Renders 8 ShowsSvg grid config answer
   pub pbm : name ≡ codes "pbm" → Renders 8 ShowsBitmap grid config answer
   pub terminal : name ≡ codes "terminal" → Renders 1 ShowsTerminal grid config answer
-  pub missing : name ≢ codes "svg" → name ≢ codes "pbm" → name ≢ codes "terminal" → IsErrAnd answer (IsRendererMissing name)
+  pub missing : name ≢ codes "svg" → name ≢ codes "pbm" → name ≢ codes "terminal" →
+      IsErrAnd answer (IsRendererMissing name)

@@ -1,5 +1,6 @@
 -- A picture as SVG: a light ground, and on it one path of a rectangle for each run of dark modules in a row.
-use Rattle.std.specs.Prelude.{ℕ, ◌-◌, Bool, List, [], ◌++◌, map, drop, flat_map, codes, decimal, if◌then◌else◌, ◌==◌, ◌&&◌, ◌||◌, not}
+use Rattle.std.specs.Prelude.{ℕ, ◌-◌, Bool, if◌then◌else◌, ◌==◌, ◌&&◌, ◌||◌, not}
+use Rattle.std.specs.Prelude.{List, [], ◌++◌, map, drop, flat_map, codes, decimal}
 use Rattle.std.specs.List.{range_with_len, prefix_len}
 use Rattle.qrlabel.specs.Pictures.{Picture, columns_of, rows_of, width_of, height_of, is_dark_module}
 
@@ -18,7 +19,8 @@ run_length p x y = prefix_len (λ is_dark. is_dark) (drop x (row_of p y))
 -- the rectangle that covers `length` modules from column x of row y on
 unfoldable pub rectangle : ℕ → ℕ → ℕ → List ℕ
 rectangle x y length =
-    codes "M" ++ (decimal x ++ (codes " " ++ (decimal y ++ (codes "h" ++ (decimal length ++ (codes "v1h-" ++ (decimal length ++ codes "z")))))))
+    codes "M" ++ (decimal x ++ (codes " " ++ (decimal y ++
+    (codes "h" ++ (decimal length ++ (codes "v1h-" ++ (decimal length ++ codes "z")))))))
 
 -- the rectangle of the run that begins in column x of row y, if one does
 unfoldable pub run_at : Picture → ℕ → ℕ → List ℕ
@@ -35,8 +37,8 @@ path p rows = flat_map (λ y. row_path p y (columns_of p)) (range_with_len 0 row
 -- the head of the document, by its sides in pixels and in modules: a box of modules, and the light ground
 unfoldable pub opening : (width height columns rows : ℕ) → List ℕ
 opening width height columns rows =
-    codes "<svg xmlns=\"http://www.w3.org/2000/svg\" width=\"" ++ (decimal width ++ (codes "\" height=\"" ++ (decimal height ++
-    (codes "\" viewBox=\"0 0 " ++ (decimal columns ++ (codes " " ++ (decimal rows ++
+    codes "<svg xmlns=\"http://www.w3.org/2000/svg\" width=\"" ++ (decimal width ++
+    (codes "\" height=\"" ++ (decimal height ++ (codes "\" viewBox=\"0 0 " ++ (decimal columns ++ (codes " " ++ (decimal rows ++
     (codes "\">\n<rect width=\"" ++ (decimal columns ++ (codes "\" height=\"" ++ (decimal rows ++
     codes "\" fill=\"#fff\"/>\n<path d=\"")))))))))))
 

@@ -50,7 +50,8 @@ IsRefusal unclear impossible OutOfMemory = Unit {0}
 IsRefusal unclear impossible _ = ⊥
 
 -- what a renderer answers: the output, or that the options ask for nothing, or that the grid is too large
-abbrev pub Renders : ℕ → (Bool → Picture → RenderOutput → Type 0) → Grid → RenderConfig → Result RenderOutput PluginError → Type 0
+abbrev pub Renders : ℕ → (Bool → Picture → RenderOutput → Type 0) → Grid → RenderConfig →
+    Result RenderOutput PluginError → Type 0
 Renders usual Shows grid config (Ok output) = Draws usual Shows grid config output
 Renders usual Shows grid config (Err error) =
     IsRefusal (AsksForNone usual (render_options config)) (IsDrawable grid → ⊥) error

@@ -1,5 +1,6 @@
 -- A picture as text for a terminal: a line for every two rows of pixels, in half blocks of Unicode, as UTF-8.
-use Rattle.std.specs.Prelude.{ℕ, ◌+◌, ◌*◌, ◌/◌, Bool, true, false, List, [], ◌∷◌, ◌++◌, flat_map, encode_utf8, if◌then◌else◌, not}
+use Rattle.std.specs.Prelude.{ℕ, ◌+◌, ◌*◌, ◌/◌, Bool, true, false, if◌then◌else◌, not}
+use Rattle.std.specs.Prelude.{List, [], ◌∷◌, ◌++◌, flat_map, encode_utf8}
 use Rattle.std.specs.List.{range_with_len}
 use Rattle.qrlabel.specs.Pictures.{Picture, width_of, height_of, is_dark_pixel}
 

@@ -29,7 +29,7 @@ fn header(alloc: Global, width: usize, height: usize) -> Result<String, AllocErr
 }
 
 /// Adds all rows. The pixels of a row of modules repeat.
-#[tactic(auto, using(crate::proofs::BitmapLemmas::rows_start, crate::proofs::BitmapLemmas::rows_copy))]
+#[tactic(auto, using(crate::proofs::BitmapLemmas::rows))]
 fn push_rows(alloc: Global, bytes: &mut Vec<u8>, picture: &Picture) -> Result<(), AllocError>
     ensures { OnOk result
         (bytes.new.items ≡ bytes.old.items ++ first_rows (shown picture.now) (height_of (shown picture.now))) }
@@ -58,7 +58,7 @@ fn row_bytes(alloc: Global, picture: &Picture, y: usize) -> Result<Vec<u8>, Allo
 }
 
 /// The byte of eight pixels of a row, the first in the highest bit.
-#[tactic(auto, using(crate::proofs::BitmapLemmas::spelled_more, crate::proofs::BitmapLemmas::spelled_small), unfolding(crate::specs::Bitmaps::byte_of))]
+#[tactic(auto, using(crate::proofs::BitmapLemmas::bits), unfolding(crate::specs::Bitmaps::byte_of))]
 fn pixel_byte(picture: &Picture, place: usize, y: usize) -> u8
     requires { place < 1672 }
     ensures { result ≡ byte_of (shown picture.now) y place }

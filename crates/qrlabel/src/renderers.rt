@@ -3,7 +3,8 @@ ghost use Rattle.std.specs.Prelude.{◌≡◌, ℕ, ◌≤◌, Bool, IfOk, IfErr
 ghost use Rattle.qrcode_core.specs.Configs.{render_options};
 ghost use Rattle.qrlabel.specs.Options.{Asks, AsksForNone};
 ghost use Rattle.qrlabel.specs.Pictures.{picture};
-ghost use Rattle.qrlabel.specs.Rendered.{IsDrawable, IsRefusal, Renders, ShowsBitmap, ShowsSvg, ShowsTerminal, Validates};
+ghost use Rattle.qrlabel.specs.Rendered.{IsDrawable, IsRefusal, Renders, Validates};
+ghost use Rattle.qrlabel.specs.Rendered.{ShowsBitmap, ShowsSvg, ShowsTerminal};
 ghost use Rattle.qrlabel.specs.Shown.{shown};
 
 use crate::bitmap::bitmap;

@@ -9,7 +9,7 @@ use crate::picture::Picture;
 use std::alloc::{AllocError, Global};
 
 /// The picture as SVG: a light ground, and one path of a rectangle for each run of dark modules in a row.
-#[tactic(auto, using(crate::proofs::PathLemmas::path_start, crate::proofs::PathLemmas::path_row))]
+#[tactic(auto, using(crate::proofs::PathLemmas::paths))]
 pub fn svg(alloc: Global, picture: &Picture) -> Result<String, AllocError>
     ensures { IfOk result (λ text. string_bytes text ≡ svg_text (shown picture.now)) }
 {
@@ -34,15 +34,18 @@ fn opening(
     ensures { IfOk result (λ text. string_bytes text ≡ opening width height columns rows) }
 {
     format!(in alloc;
-        "<svg xmlns=\"http://www.w3.org/2000/svg\" width=\"{width}\" height=\"{height}\" viewBox=\"0 0 {columns} {rows}\">\n<rect width=\"{columns}\" height=\"{rows}\" fill=\"#fff\"/>\n<path d=\""
+        r##"<svg xmlns="http://www.w3.org/2000/svg" width="{width}" height="{height}" viewBox="0 0 {columns} {rows}">
+<rect width="{columns}" height="{rows}" fill="#fff"/>
+<path d=""##
     )
 }
 
 /// Adds the rectangles of a row.
-#[tactic(auto, using(crate::proofs::PathLemmas::row_start, crate::proofs::PathLemmas::row_run, crate::proofs::PathLemmas::row_no_run))]
+#[tactic(auto, using(crate::proofs::PathLemmas::rows))]
 fn push_row(alloc: Global, text: &mut String, picture: &Picture, y: usize) -> Result<(), AllocError>
     ensures { OnOk result
-        (string_bytes text.new ≡ string_bytes text.old ++ row_path (shown picture.now) y (columns_of (shown picture.now))) }
+        (string_bytes text.new ≡
+        string_bytes text.old ++ row_path (shown picture.now) y (columns_of (shown picture.now))) }
 {
     for x in 0..picture.columns() {
         if begins_run(picture, x, y) {
@@ -62,7 +65,7 @@ fn begins_run(picture: &Picture, x: usize, y: usize) -> bool
 }
 
 /// How many modules from here on are dark.
-#[tactic(auto, using(crate::proofs::PathLemmas::run_dark, crate::proofs::PathLemmas::run_light, crate::proofs::PathLemmas::run_end))]
+#[tactic(auto, using(crate::proofs::PathLemmas::runs))]
 fn run_length(picture: &Picture, x: usize, y: usize) -> usize
     requires { x ≤ columns_of (shown picture.now) }
     ensures { result ≡ run_length (shown picture.now) x y }

@@ -7,8 +7,8 @@ ghost use Rattle.qrlabel.specs.Terminals.{half_blocks, is_filled, line_of, termi
 use crate::picture::Picture;
 use std::alloc::{AllocError, Global};
 
-/// The picture as text: a line for every two rows of pixels, in half blocks. `inverted` fills the light pixels, for a dark
-/// screen.
+/// The picture as text: a line for every two rows of pixels, in half blocks. `inverted` fills the light pixels, for a
+/// dark screen.
 #[tactic(auto, using(crate::proofs::TerminalLemmas::lines_none, crate::proofs::TerminalLemmas::lines_more))]
 pub fn terminal(alloc: Global, picture: &Picture, inverted: bool) -> Result<String, AllocError>
     ensures { IfOk result (λ text. string_bytes text ≡ terminal_text inverted (shown picture.now)) }

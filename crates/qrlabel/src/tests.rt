@@ -84,22 +84,33 @@ fn draws_text(rt: HostRuntime) -> Result<(), PluginError> {
     Ok(())
 }
 
+/// The document of two runs in the first row and one in the second.
+const RUNS: &str =
+    r##"<svg xmlns="http://www.w3.org/2000/svg" width="10" height="8" viewBox="0 0 5 4">
+<rect width="5" height="4" fill="#fff"/>
+<path d="M1 1h1v1h-1zM3 1h1v1h-1zM1 2h2v1h-2z"/>
+</svg>
+"##;
+
+/// The document of a run from the left edge to the right one.
+const WHOLE_RUN: &str =
+    r##"<svg xmlns="http://www.w3.org/2000/svg" width="128" height="64" viewBox="0 0 2 1">
+<rect width="2" height="1" fill="#fff"/>
+<path d="M0 0h2v1h-2z"/>
+</svg>
+"##;
+
 /// A rectangle a run, in modules.
 #[test]
 fn draws_svg(rt: HostRuntime) -> Result<(), PluginError> {
     let alloc = rt.alloc();
     let options = [("scale", "2"), ("quiet", "1")];
     let output = drawn(alloc, &Svg, &CELLS, (3, 2), &options)?;
-    let document =
-        "<svg xmlns=\"http://www.w3.org/2000/svg\" width=\"10\" height=\"8\" viewBox=\"0 0 5 4\">\n<rect width=\"5\" height=\"4\" fill=\"#fff\"/>\n<path d=\"M1 1h1v1h-1zM3 1h1v1h-1zM1 2h2v1h-2z\"/>\n</svg>\n";
-    assert_eq!(rt; bytes_of(&output), document.as_bytes());
+    assert_eq!(rt; bytes_of(&output), RUNS.as_bytes());
 
-    // A run that begins at the left edge and ends at the right one.
     let options = [("scale", "64"), ("quiet", "0")];
     let output = drawn(alloc, &Svg, &[Color::Dark, Color::Dark], (2, 1), &options)?;
-    let document =
-        "<svg xmlns=\"http://www.w3.org/2000/svg\" width=\"128\" height=\"64\" viewBox=\"0 0 2 1\">\n<rect width=\"2\" height=\"1\" fill=\"#fff\"/>\n<path d=\"M0 0h2v1h-2z\"/>\n</svg>\n";
-    assert_eq!(rt; bytes_of(&output), document.as_bytes());
+    assert_eq!(rt; bytes_of(&output), WHOLE_RUN.as_bytes());
     Ok(())
 }
 
