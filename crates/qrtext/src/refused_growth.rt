@@ -1,8 +1,9 @@
 //! Drawing while growths are refused: see `tools/refuse-growth`.
 
-use crate::devices::{FromReader, FromWriter};
-use crate::draw::{TextError, draw};
+use crate::draw::draw;
 use crate::tests::HELLO;
+use programs::devices::{FromReader, FromWriter};
+use programs::fault::Fault;
 use qrcode_core::types::{EcLevel, QrError, QrResult};
 
 /// A refused growth leaves what is written as it was. The text of 21 lines has 462 bytes.
@@ -14,7 +15,7 @@ fn draw_of_hello(rt: HostRuntime) -> QrResult<()> {
     let mut reader = FromReader::new(&mut bytes);
     let mut writer = FromWriter::new(&mut room);
     let outcome = draw(rt.alloc(), &mut reader, &mut writer, EcLevel::L, false);
-    if outcome == Err(TextError::Symbol(QrError::OutOfMemory)) {
+    if outcome == Err(Fault::Symbol(QrError::OutOfMemory)) {
         assert!(rt; page.iter().all(|byte| *byte == b'?'));
         return Err(QrError::OutOfMemory);
     }

@@ -1,12 +1,15 @@
 //! From the words of the command line to the status.
 ghost use Rattle.std.specs.Prelude.{◌≡◌, ℕ, map, codes, ◌↔◌, IsTrue, IsFalse, MatchOption, Err};
-ghost use Rattle.qrtext.specs.Devices.{Writes};
+ghost use Rattle.programs.specs.Devices.{Writes};
+ghost use Rattle.programs.specs.Faults.{Says};
 ghost use Rattle.qrtext.specs.Words.{Request, request, Ask, AskForNone};
-ghost use Rattle.qrtext.specs.Status.{usage, Says, Serves};
+ghost use Rattle.qrtext.specs.Status.{program, usage, Serves};
 
-use crate::devices::{Sink, Source};
-use crate::draw::{TextError, draw, write_all};
-use qrcode_core::types::{EcLevel, QrError};
+use crate::draw::draw;
+use programs::copying::write_all;
+use programs::devices::{Sink, Source};
+use programs::fault::{Fault, fail};
+use qrcode_core::types::EcLevel;
 use std::alloc::Global;
 
 /// What the words ask for: a level, and whether the symbol is to be Micro.
@@ -63,21 +66,15 @@ pub fn run<R: Source, W: Sink, E: Sink>(
     };
     match draw(alloc, reader, writer, level, micro) {
         Ok(()) => 0,
-        Err(error) => fail(alloc, errors, error),
+        Err(error) => give_up(alloc, errors, error),
     }
 }
 
-/// Tells a fault in one line, and answers the status 1. Want of memory is told without memory; any other line is left out
-/// where there is none for it.
-pub fn fail<E: Sink>(alloc: Global, errors: &mut E, error: TextError) -> u8
+/// Tells a fault in one line, and answers the status 1.
+pub fn give_up<E: Sink>(alloc: Global, errors: &mut E, fault: Fault) -> u8
     requires sound { IsFalse (E.has_failed errors.old) }
     ensures status { result ≡ 1 }
-    ensures says { Says (E.written errors.old) (E.written errors.new) (E.has_failed errors.new) (Err error) }
+    ensures says { Says program (E.written errors.old) (E.written errors.new) (E.has_failed errors.new) (Err fault) }
 {
-    if let TextError::Symbol(QrError::OutOfMemory) = error {
-        let _ = write_all(errors, b"qrtext: out of memory\n");
-    } else if let Ok(line) = format!(in alloc; "qrtext: {error}\n") {
-        let _ = write_all(errors, line.as_bytes());
-    }
-    1
+    fail(alloc, errors, "qrtext", b"qrtext: out of memory\n", fault)
 }

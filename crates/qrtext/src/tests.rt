@@ -1,7 +1,8 @@
 //! Devices that fail, and the words of the command line.
-use crate::devices::{FromReader, FromWriter, Sink, Source};
-use crate::draw::{TextError, draw};
-use crate::run::{fail, run};
+use crate::draw::draw;
+use crate::run::{give_up, run};
+use programs::devices::{FromReader, FromWriter, Sink, Source};
+use programs::fault::Fault;
 use qrcode_core::types::{EcLevel, QrError};
 use std::alloc::AllocError;
 use std::io;
@@ -135,7 +136,7 @@ fn draws_all(rt: HostRuntime) -> Result<(), Fail> {
 }
 
 #[test]
-fn reads_fail(rt: HostRuntime) -> Result<(), Fail> {
+fn reads_give_up(rt: HostRuntime) -> Result<(), Fail> {
     for kind in [ErrorKind::Other, ErrorKind::Interrupted] {
         for calls in 0..3 {
             let mut text: Vec<u8> = Vec::new(rt.alloc());
@@ -146,7 +147,7 @@ fn reads_fail(rt: HostRuntime) -> Result<(), Fail> {
             });
             let mut writer = FromWriter::new(&mut text);
             let outcome = draw(rt.alloc(), &mut reader, &mut writer, EcLevel::L, false);
-            assert_eq!(rt; outcome, Err(TextError::Read), "after {calls} calls");
+            assert_eq!(rt; outcome, Err(Fault::Read), "after {calls} calls");
             assert_eq!(rt; text.len(), 0);
         }
     }
@@ -160,14 +161,14 @@ fn reads_no_more_than_is_too_many(rt: HostRuntime) -> Result<(), Fail> {
     let mut reader = FromReader::new(&mut endless);
     let mut writer = FromWriter::new(&mut text);
     let outcome = draw(rt.alloc(), &mut reader, &mut writer, EcLevel::L, false);
-    assert_eq!(rt; outcome, Err(TextError::Symbol(QrError::DataTooLong)));
+    assert_eq!(rt; outcome, Err(Fault::Symbol(QrError::DataTooLong)));
     assert_eq!(rt; text.len(), 0);
     assert_eq!(rt; endless.given, 7090);
     Ok(())
 }
 
 #[test]
-fn writes_fail(rt: HostRuntime) -> Result<(), Fail> {
+fn writes_give_up(rt: HostRuntime) -> Result<(), Fail> {
     let (is_due, whole) = drawn(&rt, usize::MAX, usize::MAX, Then::TakesNothing)?;
     assert!(rt; is_due);
     assert_eq!(rt; whole.len(), 21 * 22);
@@ -208,7 +209,7 @@ fn drawn(rt: &HostRuntime, most: usize, calls: usize, then: Then) -> Result<(boo
     });
     let outcome = draw(rt.alloc(), &mut reader, &mut writer, EcLevel::L, false);
     let wanted = if calls < usize::MAX {
-        Err(TextError::Write)
+        Err(Fault::Write)
     } else {
         Ok(())
     };
@@ -262,7 +263,7 @@ fn bearing(kept: &mut Vec<u8>, calls: usize) -> Narrow<'_> {
 /// Each device may fail, the one for errors too: how many calls the reader, the writer and that one bear, the words, and then
 /// the status and the line.
 #[test]
-fn runs_with_devices_that_fail(rt: HostRuntime) -> Result<(), Fail> {
+fn runs_with_devices_that_give_up(rt: HostRuntime) -> Result<(), Fail> {
     let rows: [(usize, usize, usize, &[&str], u8, &str); 8] = [
         (0, 9, 9, &["L"], 1, "qrtext: read failed\n"),
         (1, 9, 9, &["L"], 1, "qrtext: read failed\n"),
@@ -300,7 +301,7 @@ fn runs_with_devices_that_fail(rt: HostRuntime) -> Result<(), Fail> {
 fn tells_want_of_memory(rt: HostRuntime) -> Result<(), Fail> {
     let mut said: Vec<u8> = Vec::new(rt.alloc());
     let mut errors = FromWriter::new(&mut said);
-    let status = fail(rt.alloc(), &mut errors, TextError::from(AllocError));
+    let status = give_up(rt.alloc(), &mut errors, Fault::from(AllocError));
     assert_eq!(rt; status, 1);
     assert_eq!(rt; said.as_slice(), "qrtext: out of memory\n".as_bytes());
     Ok(())

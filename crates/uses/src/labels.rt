@@ -1,18 +1,16 @@
 //! Labels with their version and mask, by `qrcode_core`.
-ghost use Rattle.std.specs.Prelude.{◌≡◌, ◌+◌, ◌*◌, ◌≤◌, length, IfOk, IfErr};
+ghost use Rattle.std.specs.Prelude.{◌≡◌, ◌+◌, ◌*◌, ◌≤◌, IfOk, IfErr};
 ghost use Rattle.qrcode_core.specs.Drawn.{TellsReading, drawn_grid};
 ghost use Rattle.qrcode_core.specs.Headline.{IsBestSymbol};
 ghost use Rattle.qrcode_core.specs.Limited.{IsBestWithin, IsLimitedRefusal};
-ghost use Rattle.qrcode_core.specs.HeldBits.{HoldsStream};
 
-use qrcode_core::bits::Bits;
 use qrcode_core::limits::ResourceLimits;
 use qrcode_core::symbol::Symbol;
 use qrcode_core::traits::{ModuleSource, QrSymbol};
-use qrcode_core::types::{EcLevel, QrResult, Version};
+use qrcode_core::types::{EcLevel, QrResult};
 use std::alloc::Global;
 
-/// A label at level M of at most 100 bytes, in a version up to 10.
+/// The symbol of a label at level M, with its version and its mask.
 pub fn label(alloc: Global, bytes: &[u8]) -> QrResult<Symbol>
     ensures best { IfOk result (λ symbol. IsBestSymbol bytes.now EcLevel.M symbol.modules) }
     ensures reading { IfOk result TellsReading }
@@ -20,7 +18,7 @@ pub fn label(alloc: Global, bytes: &[u8]) -> QrResult<Symbol>
     Symbol::new(alloc, bytes, EcLevel::M)
 }
 
-/// How many pixels wide its picture is, at so many pixels a module, with the quiet zone.
+/// How many pixels wide its picture is, at so many pixels a module, with a quiet zone of four modules on each side.
 pub fn picture_width(symbol: &Symbol, scale: usize) -> usize
     requires { scale ≤ 64 }
     ensures { result ≡ ((drawn_grid symbol.now).columns + 8) * scale }
@@ -34,15 +32,4 @@ pub fn small_label(alloc: Global, bytes: &[u8], limits: &ResourceLimits) -> QrRe
     ensures refused { IfErr result (IsLimitedRefusal limits.now bytes.now EcLevel.M) }
 {
     Symbol::with_limits(alloc, bytes, EcLevel::M, limits)
-}
-
-/// The symbol in version 5 of some bytes behind an ECI designator that says UTF-8.
-pub fn text_label(alloc: Global, text: &[u8]) -> QrResult<Symbol>
-    requires { length text.now ≤ 7089 }
-    ensures level { IfOk result (λ symbol. symbol.level ≡ EcLevel.M) }
-{
-    let mut bits = Bits::new(alloc, Version::Normal(5));
-    bits.push_eci_designator(26)?;
-    bits.push_byte_data(text)?;
-    Symbol::with_bits(alloc, bits, EcLevel::M)
 }

@@ -8,4 +8,5 @@ pub mod sequences;
 pub mod streams;
 pub mod symbols;
 pub mod tables;
+pub mod texts;
 pub mod views;

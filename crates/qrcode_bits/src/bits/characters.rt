@@ -4,7 +4,8 @@ ghost use Rattle.std.specs.Prelude.{◌≡◌, ◌+◌, ◌*◌, ◌%◌, ◌^�
 ghost use Rattle.qrcode_base.specs.Characters.{IsDigit, digit as digit_of, alphabet, alphanumeric_value as alphanumeric_value_of, IsKanji, IsKanjiText, kanji_number as kanji_number_of};
 ghost use Rattle.qrcode_base.specs.Numbers.{number_bits, byte_bits};
 ghost use Rattle.qrcode_bits.specs.Spelling.{numeric_bits, alphanumeric_bits, kanji_bits};
-ghost use Rattle.qrcode_bits.specs.Stream.{Appends, AreShifted, shifted};
+ghost use Rattle.qrcode_bits.specs.Shifts.{AreShifted, shifted};
+ghost use Rattle.qrcode_bits.specs.Stream.{Appends};
 
 use super::{Bits, joined, low_bits};
 use qrcode_base::characters::alphanumeric_place;

@@ -1,0 +1,58 @@
+-- Bits that differ from version to version, in the smallest version that holds them.
+use Rattle.std.specs.Prelude.{◌≡◌, ℕ, pos, ◌<◌, ◌≤◌, Bool, List, ◌++◌, length, Some}
+use Rattle.qrcode_base.specs.declared.types.EcLevel.{EcLevel}
+use Rattle.qrcode_base.specs.declared.types.Mode.TheVariants.{Byte}
+use Rattle.qrcode_base.specs.declared.types.Version.{Version}
+use Rattle.qrcode_base.specs.declared.types.Version.TheVariants.{Normal}
+use Rattle.qrcode_base.specs.declared.types.errors.QrError.{QrError}
+use Rattle.qrcode_base.specs.declared.types.errors.QrError.TheVariants.{DataTooLong, OutOfMemory}
+use Rattle.qrcode_base.specs.Symbols.{capacity}
+use Rattle.qrcode_bits.specs.Frame.{tail}
+use Rattle.qrcode_bits.specs.Indicators.{eci_spelling}
+use Rattle.qrcode_bits.specs.Push.{piece}
+use Rattle.qrcode_bits.specs.Spelling.{spelling}
+use Rattle.qrcode_core.specs.Drawn.{DrawnSymbol}
+use Rattle.qrcode_core.specs.HeldBits.{IsSymbolOf}
+
+abbrev pub normal : ℕ → Version
+normal number = Normal (pos number)
+
+-- a text in UTF-8: the ECI designator 26, and one Byte segment (ISO/IEC 18004, "ECI mode")
+abbrev pub IsUtf8 : List ℕ → Version → List Bool → Type 0
+IsUtf8 text version bits = bits ≡ eci_spelling 26 ++ spelling version (piece Byte text)
+
+-- the bits say so in this version, and its symbol holds them
+pub record HoldsIn (says : Version → List Bool → Type 0) (version : Version) (level : EcLevel) (symbol : DrawnSymbol) : Type 0 where
+  pub bits : List Bool
+  pub limit : ℕ
+  pub said : says version bits
+  pub limit_is : capacity version level ≡ Some limit
+  pub fits : length bits ≤ limit
+  pub holds : IsSymbolOf (bits ++ tail version limit (length bits)) version level symbol
+
+-- what says so in this version is past its capacity
+abbrev pub IsTooLongIn : (Version → List Bool → Type 0) → Version → EcLevel → Type 0
+IsTooLongIn says version level =
+    (bits : List Bool) (limit : ℕ) → says version bits → capacity version level ≡ Some limit → limit < length bits
+
+-- Normal versions before this one hold no bits that say so.
+abbrev pub HoldsNoneBelow : ℕ → (Version → List Bool → Type 0) → EcLevel → Type 0
+HoldsNoneBelow number says level = (n : ℕ) → 1 ≤ n → n < number → IsTooLongIn says (normal n) level
+
+-- The symbol of the smallest Normal version that holds bits that say so.
+pub record IsSmallest (says : Version → List Bool → Type 0) (level : EcLevel) (symbol : DrawnSymbol) : Type 0 where
+  pub number : ℕ
+  pub holds : HoldsIn says (normal number) level symbol
+  pub smallest : HoldsNoneBelow number says level
+
+-- why a version refuses: the bits are past its capacity, or memory was wanting
+abbrev pub IsRefusedIn : (Version → List Bool → Type 0) → Version → EcLevel → QrError → Type 0
+IsRefusedIn says version level DataTooLong = IsTooLongIn says version level
+IsRefusedIn says version level OutOfMemory = Unit {0}
+IsRefusedIn says version level other = ⊥
+
+-- why all refuse: no version holds the bits, or memory was wanting
+abbrev pub IsRefusedByAll : (Version → List Bool → Type 0) → EcLevel → QrError → Type 0
+IsRefusedByAll says level DataTooLong = HoldsNoneBelow 41 says level
+IsRefusedByAll says level OutOfMemory = Unit {0}
+IsRefusedByAll says level other = ⊥
