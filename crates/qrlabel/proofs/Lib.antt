@@ -4,3 +4,4 @@ pub mod TerminalLemmas
 pub mod PathLemmas
 pub mod NameLemmas
 pub mod CoverLemmas
+pub mod LabelLemmas

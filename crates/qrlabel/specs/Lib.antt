@@ -7,3 +7,4 @@ pub mod Options
 pub mod Rendered
 pub mod Named
 pub mod Covered
+pub mod Labels

@@ -3,6 +3,7 @@
 
 mod bitmap;
 mod bundle;
+pub mod draw;
 pub mod laws;
 mod options;
 mod picture;
