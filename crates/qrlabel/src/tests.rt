@@ -1,5 +1,6 @@
 //! Pictures of small grids, written by hand from the formats, and refusals.
-use crate::{Pbm, Svg, Terminal, render_by_name};
+use crate::bundle::render_by_name;
+use crate::renderers::{Pbm, Svg, Terminal};
 use qrcode_core::plugin::{DynRenderer, PluginError, RenderConfig, RenderOutput};
 use qrcode_core::traits::ModuleView;
 use qrcode_core::types::Color;
