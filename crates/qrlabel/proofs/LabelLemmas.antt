@@ -1,9 +1,9 @@
 -- A label that is written, or begun.
-use Rattle.std.proofs.Common.{◌≡◌, ℕ, Bool, Option, List, Result, Ok, Err, is_err, sym, subst, refl, ◌∙◌}
+use Rattle.std.proofs.Common.{◌≡◌, ℕ, Bool, Option, List, Result, Ok, Err, is_err}
 use Rattle.std.specs.Prelude.{OnOk, IfErr}
 use Rattle.programs.specs.Devices.{Writes}
 use Rattle.programs.specs.declared.fault.Fault.{Fault}
-use Rattle.programs.specs.declared.fault.Fault.TheVariants.{Symbol, Read, Write}
+use Rattle.programs.specs.declared.fault.Fault.TheVariants.{Write}
 use Rattle.qrcode_core.specs.declared.plugin.config.RenderConfig.{RenderConfig}
 use Rattle.qrcode_core.specs.declared.plugin.error.PluginError.{PluginError}
 use Rattle.qrcode_core.specs.declared.plugin.output.RenderOutput.{RenderOutput}

@@ -19,8 +19,8 @@ AsksFlag None flag = flag ≡ false
 AsksFlag (Some text) true = text ≡ codes "true"
 AsksFlag (Some text) false = text ≡ codes "false"
 
--- The options ask for a drawing: `scale`, the pixels of a module, is 1 to 64, and usually as the renderer says; `quiet`,
--- the modules of the zone, is 0 to 16, and usually 4; `inverted` is for dark terminals.
+-- The options ask for a drawing: `scale`, the pixels of a module, is 1 to 64, and usually as the renderer says;
+-- `quiet`, the modules of the zone, is 0 to 16, and usually 4; `inverted` is for dark terminals.
 pub record Asks (usual : ℕ) (options : TextMap (List ℕ)) (scale quiet : ℕ) (inverted : Bool) : Type 0 where
   pub scale_is : AsksNumber (at_key options (codes "scale")) usual 1 64 scale
   pub quiet_is : AsksNumber (at_key options (codes "quiet")) 4 0 16 quiet

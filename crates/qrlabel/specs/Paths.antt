@@ -38,7 +38,8 @@ path p rows = flat_map (λ y. row_path p y (columns_of p)) (range_with_len 0 row
 unfoldable pub opening : (width height columns rows : ℕ) → List ℕ
 opening width height columns rows =
     codes "<svg xmlns=\"http://www.w3.org/2000/svg\" width=\"" ++ (decimal width ++
-    (codes "\" height=\"" ++ (decimal height ++ (codes "\" viewBox=\"0 0 " ++ (decimal columns ++ (codes " " ++ (decimal rows ++
+    (codes "\" height=\"" ++ (decimal height ++
+    (codes "\" viewBox=\"0 0 " ++ (decimal columns ++ (codes " " ++ (decimal rows ++
     (codes "\">\n<rect width=\"" ++ (decimal columns ++ (codes "\" height=\"" ++ (decimal rows ++
     codes "\" fill=\"#fff\"/>\n<path d=\"")))))))))))
 

@@ -19,8 +19,8 @@ pub struct Wanted<'a> {
     pub micro: bool,
 }
 
-/// Reads to the end, writes the label of the symbol of all that was read, and flushes. Of more than 7089 bytes, which no
-/// symbol holds, it reads 7090.
+/// Reads to the end, writes the label of the symbol of all that was read, and flushes. Of more than 7089 bytes, which
+/// no symbol holds, it reads 7090.
 pub fn draw<R: Source, W: Sink>(
     alloc: Global,
     reader: &mut R,

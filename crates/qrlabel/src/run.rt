@@ -75,8 +75,8 @@ fn configured(
     Ok(Some(config))
 }
 
-/// Serves the words after the program's name, and answers the status: 0 where the label was written, 1 where there was a
-/// fault, 2 where the words ask for nothing.
+/// Serves the words after the program's name, and answers the status: 0 where the label was written, 1 where there was
+/// a fault, 2 where the words ask for nothing.
 ///
 /// A fault is told on `errors` in one line, and so is the usage; a fault of `errors` itself is dropped.
 pub fn run<R: Source, W: Sink, E: Sink>(
@@ -121,7 +121,8 @@ pub fn run<R: Source, W: Sink, E: Sink>(
 pub fn give_up<E: Sink>(alloc: Global, errors: &mut E, fault: Fault) -> u8
     requires sound { IsFalse (E.has_failed errors.old) }
     ensures status { result ≡ 1 }
-    ensures says { Says (codes "qrlabel") (E.written errors.old) (E.written errors.new) (E.has_failed errors.new) (Err fault) }
+    ensures says { Says (codes "qrlabel") (E.written errors.old) (E.written errors.new)
+        (E.has_failed errors.new) (Err fault) }
 {
     fail(alloc, errors, "qrlabel", b"qrlabel: out of memory\n", fault)
 }

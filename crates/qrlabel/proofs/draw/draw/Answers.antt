@@ -1,5 +1,4 @@
 -- The label was written, or a beginning of it.
-use Rattle.std.proofs.Common.{ap, rules, ◌∙◌}
 use Rattle.qrlabel.specs.Labels.{label}
 use Rattle.qrlabel.proofs.LabelLemmas.{gives_written}
 use Rattle.qrlabel.proofs.draw.draw.Goals as goal
