@@ -1,0 +1,7 @@
+pub mod Ranges
+pub mod BitmapLemmas
+pub mod TerminalLemmas
+pub mod PathLemmas
+pub mod NameLemmas
+pub mod CoverLemmas
+pub mod LabelLemmas

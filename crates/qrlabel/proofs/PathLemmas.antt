@@ -1,0 +1,69 @@
+-- The runs of a row, one after the other, and the modules of a run.
+use Rattle.std.proofs.Common.{◌≡◌, ℕ, ◌+◌, ◌<◌, ◌≤◌, ◌++◌, Bool, true, false, List, [], length, refl, sym, ◌∙◌, arith, append-nil}
+use Rattle.std.proofs.lemmas.List.FromFn.{length-map-range_with_len, get_or-map-range_with_len}
+use Rattle.std.proofs.lemmas.List.Sums.{prefix_len-drop_yes, prefix_len-drop_no, prefix_len-drop_all}
+use Rattle.qrlabel.specs.Pictures.{Picture, columns_of, is_dark_module}
+use Rattle.qrlabel.specs.Paths.{begins_run, row_of, run_length, rectangle, run_at, row_path, path}
+use Rattle.qrlabel.proofs.Ranges.{flat_map_range, joined}
+
+-- the path begins with no row
+pub path_start : (p : Picture) (text : List ℕ) → text ≡ text ++ path p 0
+unfolding path
+path_start p text = sym (append-nil text)
+
+-- one row more
+pub path_row : (p : Picture) (n : ℕ) (start old new : List ℕ) → old ≡ start ++ path p n → new ≡ old ++ row_path p n (columns_of p) → new ≡ start ++ path p (n + 1)
+unfolding path
+path_row p n start old new was adds =
+    joined start (path p n) old (row_path p n (columns_of p)) new (path p (n + 1)) (flat_map_range (λ y. row_path p y (columns_of p)) n) was adds
+
+-- a row's path begins with no run
+pub row_start : (p : Picture) (y : ℕ) (text : List ℕ) → text ≡ text ++ row_path p y 0
+unfolding row_path
+row_start p y text = sym (append-nil text)
+
+row_path_more : (p : Picture) (y n : ℕ) → row_path p y (n + 1) ≡ row_path p y n ++ run_at p y n
+unfolding row_path
+row_path_more p y n = flat_map_range (run_at p y) n
+
+-- one run more
+pub row_run : (p : Picture) (y n : ℕ) (start old new : List ℕ) → begins_run p n y ≡ true → old ≡ start ++ row_path p y n → new ≡ old ++ rectangle n y (run_length p n y) → new ≡ start ++ row_path p y (n + 1)
+unfolding run_at
+row_run p y n start old new begins was adds =
+    let run : run_at p y n ≡ rectangle n y (run_length p n y) = rw begins refl in
+    joined start (row_path p y n) old (run_at p y n) new (row_path p y (n + 1)) (row_path_more p y n) was (rw run adds)
+
+-- a column where none begins
+pub row_no_run : (p : Picture) (y n : ℕ) (start old : List ℕ) → begins_run p n y ≡ false → old ≡ start ++ row_path p y n → old ≡ start ++ row_path p y (n + 1)
+unfolding run_at
+row_no_run p y n start old none was =
+    let run : run_at p y n ≡ [] = rw none refl in
+    joined start (row_path p y n) old (run_at p y n) old (row_path p y (n + 1)) (row_path_more p y n) was (rw run (sym (append-nil old)))
+
+length_of_row : (p : Picture) (y : ℕ) → length (row_of p y) ≡ columns_of p
+length_of_row p y = length-map-range_with_len (λ x. is_dark_module p x y) 0 (columns_of p)
+
+-- a dark module is one more of the run
+pub run_dark : (p : Picture) (x y : ℕ) → x < columns_of p → is_dark_module p x y ≡ true → run_length p x y ≡ 1 + run_length p (x + 1) y
+unfolding run_length
+run_dark p x y inside dark =
+    prefix_len-drop_yes (λ (b : Bool). b) (row_of p y) x false (omega (arith, length_of_row p y))
+    (get_or-map-range_with_len (λ x. is_dark_module p x y) 0 (columns_of p) x x false inside (omega arith) ∙ dark)
+
+-- a light one ends it
+pub run_light : (p : Picture) (x y : ℕ) → x < columns_of p → is_dark_module p x y ≡ false → run_length p x y ≡ 0
+unfolding run_length
+run_light p x y inside light =
+    prefix_len-drop_no (λ (b : Bool). b) (row_of p y) x false (omega (arith, length_of_row p y))
+    (get_or-map-range_with_len (λ x. is_dark_module p x y) 0 (columns_of p) x x false inside (omega arith) ∙ light)
+
+-- and so does the end of the row
+pub run_end : (p : Picture) (x y : ℕ) → columns_of p ≤ x → run_length p x y ≡ 0
+unfolding run_length
+run_end p x y outside = prefix_len-drop_all (λ (b : Bool). b) (row_of p y) x (omega (arith, length_of_row p y))
+
+pub ruleset paths = (path_start, path_row)
+
+pub ruleset rows = (row_start, row_run, row_no_run)
+
+pub ruleset runs = (run_dark, run_light, run_end)

@@ -1,0 +1,17 @@
+-- What a drawing by the name of its renderer answers.
+use Rattle.std.specs.Prelude.{◌≡◌, ◌≢◌, ℕ, List, codes, Result, IsErrAnd}
+use Rattle.qrcode_core.specs.declared.plugin.config.RenderConfig.{RenderConfig}
+use Rattle.qrcode_core.specs.declared.plugin.error.PluginError.{PluginError}
+use Rattle.qrcode_core.specs.declared.plugin.output.RenderOutput.{RenderOutput}
+use Rattle.qrcode_core.specs.Grids.{Grid}
+use Rattle.qrcode_core.specs.PluginErrors.{IsRendererMissing}
+use Rattle.qrlabel.specs.Rendered.{Renders, ShowsBitmap, ShowsSvg, ShowsTerminal}
+
+-- Each renderer answers by its name; by any other there is none.
+pub record RendersByName (name : List ℕ) (grid : Grid) (config : RenderConfig)
+    (answer : Result RenderOutput PluginError) : Type 0 where
+  pub svg : name ≡ codes "svg" → Renders 8 ShowsSvg grid config answer
+  pub pbm : name ≡ codes "pbm" → Renders 8 ShowsBitmap grid config answer
+  pub terminal : name ≡ codes "terminal" → Renders 1 ShowsTerminal grid config answer
+  pub missing : name ≢ codes "svg" → name ≢ codes "pbm" → name ≢ codes "terminal" →
+      IsErrAnd answer (IsRendererMissing name)

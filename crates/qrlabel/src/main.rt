@@ -1,0 +1,41 @@
+//! Draws the symbol of what is read as a picture: SVG, a portable bitmap, or text for a terminal.
+#![tactic(auto)]
+
+mod bitmap;
+mod bundle;
+mod draw;
+pub mod laws;
+mod options;
+mod picture;
+mod renderers;
+mod run;
+mod svg;
+mod terminal;
+#[cfg(test)]
+mod tests;
+
+use crate::run::{give_up, run};
+use programs::devices::{FromReader, FromWriter};
+use programs::fault::Fault;
+use programs::words::{arguments, words_of};
+use std::alloc::AllocError;
+use std::io::ErrorKind;
+use std::process::ExitCode;
+
+/// Runs over the process's words, input and outputs. Words that are no text ask for nothing.
+fn main(rt: HostRuntime) -> ExitCode {
+    let mut reader = FromReader::new(rt.stdin());
+    let mut writer = FromWriter::new(rt.stdout());
+    let mut errors = FromWriter::new(rt.stderr());
+    let status = match arguments(&rt) {
+        Ok(args) => match words_of(rt.alloc(), &args) {
+            Ok(words) => run(rt.alloc(), &words, &mut reader, &mut writer, &mut errors),
+            Err(error) => give_up(rt.alloc(), &mut errors, Fault::from(error)),
+        },
+        Err(error) if error.kind() == ErrorKind::OutOfMemory => {
+            give_up(rt.alloc(), &mut errors, Fault::from(AllocError))
+        }
+        Err(_) => run(rt.alloc(), &[], &mut reader, &mut writer, &mut errors),
+    };
+    ExitCode::from(status)
+}

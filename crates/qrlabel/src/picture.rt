@@ -1,0 +1,119 @@
+//! A grid as it is drawn.
+ghost use Rattle.std.specs.Prelude.{◌≡◌, ◌*◌, ◌≤◌, length};
+ghost use Rattle.qrlabel.specs.Pictures.{columns_of, rows_of, width_of, height_of, is_dark_module, is_dark_pixel};
+
+use qrcode_core::types::Color;
+
+/// The most columns, and the most rows, of a grid that is drawn: those of version 40.
+pub const MOST_MODULES: usize = 177;
+
+/// A lent grid with the sizes of its picture: how many pixels the side of a module has, and how many modules wide the
+/// light zone around the grid is. Nothing is copied.
+#[derive(Clone, Copy, Debug, PartialEq, Eq)]
+pub struct Picture<'a> {
+    modules: &'a [Color],
+    columns: usize,
+    rows: usize,
+    scale: usize,
+    quiet: usize,
+    ghost all_rows: { rows * columns ≤ length modules.now },
+    ghost few_columns: { columns ≤ 177 },
+    ghost few_rows: { rows ≤ 177 },
+    ghost scaled: { 1 ≤ scale },
+    ghost small_scale: { scale ≤ 64 },
+    ghost small_zone: { quiet ≤ 16 },
+}
+
+impl<'a> Picture<'a> {
+    ghost use Rattle.qrcode_core.specs.Grids.{grid_of};
+    ghost use Rattle.qrlabel.specs.Pictures.{picture};
+    ghost use Rattle.qrlabel.specs.Shown.{shown};
+
+    /// The picture of the first `rows * columns` modules.
+    pub fn new(
+        modules: &'a [Color],
+        columns: usize,
+        rows: usize,
+        scale: usize,
+        quiet: usize,
+    ) -> Picture<'a>
+        requires all_rows { rows * columns ≤ length modules.now }
+        requires few_columns { columns ≤ 177 }
+        requires few_rows { rows ≤ 177 }
+        requires scaled { 1 ≤ scale }
+        requires small_scale { scale ≤ 64 }
+        requires small_zone { quiet ≤ 16 }
+        ensures { shown result ≡ picture (grid_of modules.now columns rows) scale quiet }
+    {
+        Picture {
+            modules,
+            columns,
+            rows,
+            scale,
+            quiet,
+        }
+    }
+
+    /// How many pixels the side of a module has.
+    pub fn scale(&self) -> usize
+        ensures exact { result ≡ (shown self.now).scale }
+        ensures at_least_one { 1 ≤ result }
+        ensures bound { result ≤ 64 }
+    {
+        self.scale
+    }
+
+    /// How many modules lie side by side, with the zone.
+    pub fn columns(&self) -> usize
+        ensures exact { result ≡ columns_of (shown self.now) }
+        ensures bound { result ≤ 209 }
+    {
+        self.columns + 2 * self.quiet
+    }
+
+    /// How many modules lie one above the other, with the zone.
+    pub fn rows(&self) -> usize
+        ensures exact { result ≡ rows_of (shown self.now) }
+        ensures bound { result ≤ 209 }
+    {
+        self.rows + 2 * self.quiet
+    }
+
+    /// How many pixels the picture is wide.
+    pub fn width(&self) -> usize
+        ensures exact { result ≡ width_of (shown self.now) }
+        ensures bound { result ≤ 13376 }
+    {
+        self.columns() * self.scale
+    }
+
+    /// How many pixels the picture is high.
+    pub fn height(&self) -> usize
+        ensures exact { result ≡ height_of (shown self.now) }
+        ensures bound { result ≤ 13376 }
+    {
+        self.rows() * self.scale
+    }
+
+    /// Whether the module in this column and row, counted from the corner of the zone, is dark.
+    #[tactic(auto, unfolding(crate::specs::Pictures::is_dark_module))]
+    pub fn is_dark(&self, column: usize, row: usize) -> bool
+        ensures { result ≡ is_dark_module (shown self.now) column row }
+    {
+        if column < self.quiet || row < self.quiet {
+            return false;
+        }
+        let (x, y) = (column - self.quiet, row - self.quiet);
+        if x >= self.columns || y >= self.rows {
+            return false;
+        }
+        matches!(self.modules[y * self.columns + x], Color::Dark)
+    }
+
+    /// Whether the pixel in this column and row is dark.
+    pub fn is_dark_pixel(&self, column: usize, row: usize) -> bool
+        ensures { result ≡ is_dark_pixel (shown self.now) column row }
+    {
+        self.is_dark(column / self.scale, row / self.scale)
+    }
+}

@@ -1,0 +1,174 @@
+//! The renderers that a registry holds.
+ghost use Rattle.std.specs.Prelude.{◌≡◌, ℕ, ◌≤◌, Bool, IfOk, IfErr, OnOk};
+ghost use Rattle.qrcode_core.specs.Configs.{render_options};
+ghost use Rattle.qrlabel.specs.Options.{Asks, AsksForNone};
+ghost use Rattle.qrlabel.specs.Pictures.{picture};
+ghost use Rattle.qrlabel.specs.Rendered.{IsDrawable, IsRefusal, Renders, Validates};
+ghost use Rattle.qrlabel.specs.Rendered.{ShowsBitmap, ShowsSvg, ShowsTerminal};
+ghost use Rattle.qrlabel.specs.Shown.{shown};
+
+use crate::bitmap::bitmap;
+use crate::options::{Request, request_of};
+use crate::picture::{MOST_MODULES, Picture};
+use crate::svg::svg;
+use crate::terminal::terminal;
+use qrcode_core::plugin::{DynRenderer, PluginError, RenderConfig, RenderOutput};
+use qrcode_core::traits::ModuleSource;
+use std::alloc::Global;
+
+/// The usual scale of an image.
+const IMAGE_SCALE: usize = 8;
+
+/// The usual scale of text.
+const TEXT_SCALE: usize = 1;
+
+/// Draws SVG, as text: 8 pixels a module, unless the option `scale` says otherwise.
+#[derive(Debug, Drop)]
+pub struct Svg;
+
+/// Draws a portable bitmap, as bytes: 8 pixels a module, unless the option `scale` says otherwise.
+#[derive(Debug, Drop)]
+pub struct Pbm;
+
+/// Draws text for a terminal: one pixel a module, unless the option `scale` says otherwise, and two rows a line.
+#[derive(Debug, Drop)]
+pub struct Terminal;
+
+impl DynRenderer for Svg {
+    ghost renders = { λ _. Renders 8 ShowsSvg };
+
+    ghost validates = { λ _. Validates 8 };
+
+    fn render(
+        &self,
+        alloc: Global,
+        code: &dyn ModuleSource,
+        config: &RenderConfig,
+    ) -> Result<RenderOutput, PluginError> {
+        let request = drawable(alloc, code, config, IMAGE_SCALE)?;
+        let picture = picture_of(code, request);
+        Ok(RenderOutput::Text(svg(alloc, &picture)?))
+    }
+
+    fn validate_config(&self, alloc: Global, config: &RenderConfig) -> Result<(), PluginError> {
+        asked(alloc, config, IMAGE_SCALE)?;
+        Ok(())
+    }
+}
+
+impl DynRenderer for Pbm {
+    ghost renders = { λ _. Renders 8 ShowsBitmap };
+
+    ghost validates = { λ _. Validates 8 };
+
+    fn render(
+        &self,
+        alloc: Global,
+        code: &dyn ModuleSource,
+        config: &RenderConfig,
+    ) -> Result<RenderOutput, PluginError> {
+        let request = drawable(alloc, code, config, IMAGE_SCALE)?;
+        let picture = picture_of(code, request);
+        Ok(RenderOutput::Bytes(bitmap(alloc, &picture)?))
+    }
+
+    fn validate_config(&self, alloc: Global, config: &RenderConfig) -> Result<(), PluginError> {
+        asked(alloc, config, IMAGE_SCALE)?;
+        Ok(())
+    }
+}
+
+impl DynRenderer for Terminal {
+    ghost renders = { λ _. Renders 1 ShowsTerminal };
+
+    ghost validates = { λ _. Validates 1 };
+
+    fn render(
+        &self,
+        alloc: Global,
+        code: &dyn ModuleSource,
+        config: &RenderConfig,
+    ) -> Result<RenderOutput, PluginError> {
+        let request = drawable(alloc, code, config, TEXT_SCALE)?;
+        let picture = picture_of(code, request);
+        Ok(RenderOutput::Text(terminal(alloc, &picture, request.inverted)?))
+    }
+
+    fn validate_config(&self, alloc: Global, config: &RenderConfig) -> Result<(), PluginError> {
+        asked(alloc, config, TEXT_SCALE)?;
+        Ok(())
+    }
+}
+
+/// What the options ask for, where the grid can be drawn.
+fn drawable(
+    alloc: Global,
+    code: &dyn ModuleSource,
+    config: &RenderConfig,
+    usual_scale: usize,
+) -> Result<Request, PluginError>
+    requires least { 1 ≤ usual_scale }
+    requires most { usual_scale ≤ 64 }
+    ensures asked { IfOk result
+        (λ r. Asks usual_scale (render_options config.now) r.scale r.quiet r.inverted) }
+    ensures drawable { OnOk result (IsDrawable (grid code.now)) }
+    ensures refused { IfErr result
+        (IsRefusal (AsksForNone usual_scale (render_options config.now)) (IsDrawable (grid code.now) → ⊥)) }
+{
+    let request = asked(alloc, config, usual_scale)?;
+    if code.width() > MOST_MODULES || code.height() > MOST_MODULES {
+        return Err(too_large(alloc));
+    }
+    Ok(request)
+}
+
+/// What the options ask for.
+fn asked(alloc: Global, config: &RenderConfig, usual_scale: usize) -> Result<Request, PluginError>
+    requires least { 1 ≤ usual_scale }
+    requires most { usual_scale ≤ 64 }
+    ensures asked { IfOk result
+        (λ r. Asks usual_scale (render_options config.now) r.scale r.quiet r.inverted) }
+    ensures refused { IfErr result (IsRefusal (AsksForNone usual_scale (render_options config.now)) ⊥) }
+{
+    match request_of(config, usual_scale) {
+        Some(request) => Ok(request),
+        None => Err(unclear(alloc)),
+    }
+}
+
+/// That the options ask for nothing; without memory for the words, `OutOfMemory`.
+fn unclear(alloc: Global) -> PluginError
+    ensures { IsRefusal (Unit {0}) ⊥ result }
+{
+    match String::from_str(
+        alloc,
+        "scale 1 to 64, quiet 0 to 16, inverted true or false",
+    ) {
+        Ok(what) => PluginError::InvalidConfig(what),
+        Err(_) => PluginError::OutOfMemory,
+    }
+}
+
+/// That the grid is too large; without memory for the words, `OutOfMemory`.
+fn too_large(alloc: Global) -> PluginError
+    ensures { IsRefusal ⊥ (Unit {0}) result }
+{
+    match String::from_str(alloc, "more than 177 columns or rows") {
+        Ok(what) => PluginError::RenderFailed(what),
+        Err(_) => PluginError::OutOfMemory,
+    }
+}
+
+/// The picture of what `code` shows.
+fn picture_of<'a>(code: &'a dyn ModuleSource, request: Request) -> Picture<'a>
+    requires { IsDrawable (grid code.now) }
+    ensures { shown result ≡ picture (grid code.now) request.scale request.quiet }
+{
+    Picture::new(
+        code.modules(),
+        code.width(),
+        code.height(),
+        request.scale,
+        request.quiet,
+    )
+}
