@@ -1,5 +1,6 @@
 -- Starts as words of 64 bits.
-use Rattle.std.specs.Prelude.{◌≡◌, ◌≢◌, min, ℕ, ◌+◌, ◌-◌, ◌*◌, ◌/◌, ◌%◌, ◌^◌, ◌<◌, ◌≤◌, List, map, slice_index_or, nat_le, if◌then◌else◌, length, Option, Some, None}
+use Rattle.std.specs.Prelude.{◌≡◌, ◌≢◌, min, ℕ, ◌+◌, ◌-◌, ◌*◌, ◌/◌, ◌%◌, ◌^◌, ◌<◌, ◌≤◌, List, map}
+use Rattle.std.specs.Prelude.{slice_index_or, nat_le, if◌then◌else◌, length, Option, Some, None}
 use Rattle.std.specs.List.{range_with_len}
 use Rattle.qrcode_bits.specs.declared.optimize.candidate.Candidate.{Candidate}
 use Rattle.qrcode_bits.specs.declared.optimize.groups.Groups.{Groups}
@@ -25,7 +26,8 @@ abbrev pub start_told : ℕ → ℕ → Candidate
 start_told more word =
     record { bits = word / 2 ^ 26 + more; parts = word % 2 ^ 26 / 2 ^ 13; start = 8191 - word % 2 ^ 26 % 2 ^ 13 }
 
--- A word of 2^50 or more is no start. In a bucket the bits are less those of whole periods before the begin, and 2^13 periods; told they have 2^64.
+-- A word of 2^50 or more is no start. In a bucket the bits are less those of whole periods before the begin, and 2^13
+-- periods; told they have 2^64.
 abbrev pub bucket_start : ℕ → ℕ → Option Candidate
 bucket_start j word =
     if nat_le (2 ^ 50) word then None else Some (start_told (period_bits (bucket_mode j) * (2 ^ 64 - 2 ^ 13)) word)

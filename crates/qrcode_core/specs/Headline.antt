@@ -1,4 +1,5 @@
--- What the symbol of some bytes at a level is: the smallest and best one, read in one way (ISO/IEC 18004, encode procedure).
+-- What the symbol of some bytes at a level is: the smallest and best one, read in one way (ISO/IEC 18004, encode
+-- procedure).
 use Rattle.std.specs.Prelude.{◌≡◌, ◌≢◌, ℕ, pos, ◌*◌, ◌<◌, ◌≤◌, Bool, List, length, Option, None}
 use Rattle.qrcode_base.specs.declared.types.Color.{Color}
 use Rattle.qrcode_base.specs.declared.types.EcLevel.{EcLevel}
@@ -20,8 +21,8 @@ use Rattle.qrcode_core.specs.Reader.{Reading, Carries, Reads, reading_of}
 
 -- ---- Distance
 
--- In each block, every other sound list of codewords of its length differs from it in more places than the block has correction
--- codewords.
+-- In each block, every other sound list of codewords of its length differs from it in more places than the block has
+-- correction codewords.
 abbrev pub CarriesApart : (grid : List Color) (version : Version) (level : EcLevel) (mask : MaskPattern)
     (bits : List Bool) → Carries grid version level mask bits → Type 0
 CarriesApart grid version level mask bits c =
@@ -31,7 +32,8 @@ CarriesApart grid version level mask bits c =
 abbrev pub HasBlocksApart : (grid : List Color) (reading : Reading) → Reads grid reading → Type 0
 HasBlocksApart grid reading r = CarriesApart grid reading.version reading.level reading.mask r.frame r.carries
 
--- A grid differs from another one, each as it is read, in some block in more codewords than the block has correction codewords.
+-- A grid differs from another one, each as it is read, in some block in more codewords than the block has correction
+-- codewords.
 abbrev pub AreFarApart : (grid other : List Color) (r s : Reading) → Reads grid r → Reads other s → Type 0
 AreFarApart grid other r s f g =
     let blocks = f.carries.blocks in
@@ -51,13 +53,14 @@ HaveDistance = (grid : List Color) (r : Reading) (f : Reads grid r) → IsFarFro
 
 -- ---- Symbols
 
--- The best symbol of some bytes at a level, with or without the header of a sequence, among the versions of one kind, which are
--- told by their numbers.
+-- The best symbol of some bytes at a level, with or without the header of a sequence, among the versions of one kind,
+-- which are told by their numbers.
 --
--- It is read as the bytes at the level, and as nothing else: whatever a reader finds in it (bytes, version, level, mask, header,
--- payload bits) is this. Its functional modules have their colours. Some plan of the bytes fits its version, and none a smaller
--- one. The payload bits are the fewest of all plans there. The mask is the first under which the grid's sibling has the least
--- penalty. In each block different contents differ in more codewords than the block has correction codewords.
+-- It is read as the bytes at the level, and as nothing else: whatever a reader finds in it (bytes, version, level,
+-- mask, header, payload bits) is this. Its functional modules have their colours. Some plan of the bytes fits its
+-- version, and none a smaller one. The payload bits are the fewest of all plans there. The mask is the first under
+-- which the grid's sibling has the least penalty. In each block different contents differ in more codewords than the
+-- block has correction codewords.
 pub record IsBest (kind : ℕ → Version) (header : Option Header) (bytes : List ℕ) (level : EcLevel) (grid : List Color) : Type 0 where
   pub number : ℕ
   pub mask : MaskPattern

@@ -2,7 +2,10 @@
 use Rattle.std.specs.Prelude.{◌≡◌, ℕ, List}
 use Rattle.std.specs.String.{string_bytes}
 use Rattle.qrcode_core.specs.declared.plugin.error.PluginError.{PluginError}
-use Rattle.qrcode_core.specs.declared.plugin.error.PluginError.TheVariants.{RendererNotFound, EncoderNotFound, InvalidConfig, InvalidModuleGrid, RenderFailed, EncodeFailed, PostProcessFailed, OutOfMemory}
+use Rattle.qrcode_core.specs.declared.plugin.error.PluginError.TheVariants.{RendererNotFound, EncoderNotFound}
+use Rattle.qrcode_core.specs.declared.plugin.error.PluginError.TheVariants.{InvalidConfig, InvalidModuleGrid}
+use Rattle.qrcode_core.specs.declared.plugin.error.PluginError.TheVariants.{RenderFailed, EncodeFailed}
+use Rattle.qrcode_core.specs.declared.plugin.error.PluginError.TheVariants.{PostProcessFailed, OutOfMemory}
 
 -- the same kind of error with the same text
 abbrev pub IsSameError : PluginError → PluginError → Type 0

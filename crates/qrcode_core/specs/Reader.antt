@@ -1,5 +1,5 @@
--- What a grid of colours says: the reader of a symbol, as a relation (ISO/IEC 18004, reference decode algorithm, without the
--- correction of errors). Nothing here writes a symbol.
+-- What a grid of colours says: the reader of a symbol, as a relation (ISO/IEC 18004, reference decode algorithm,
+-- without the correction of errors). Nothing here writes a symbol.
 use Rattle.std.specs.Prelude.{◌≡◌, ℕ, ◌*◌, Bool, List, ◌++◌, length, map, Option, Some}
 use Rattle.qrcode_base.specs.declared.symbols.BlockLayout.{BlockLayout}
 use Rattle.qrcode_base.specs.declared.types.Color.{Color}
@@ -16,8 +16,8 @@ use Rattle.qrcode_grid.specs.Masks.{IsOfFamily, raw_colors}
 use Rattle.qrcode_grid.specs.Canvas.{is_dark}
 use Rattle.qrcode_grid.specs.Symbol.{HasFunctionalColors}
 
--- What is read from a grid: the bytes, the symbol that carries them, perhaps the header of a sequence, and how many bits
--- stand before the terminator.
+-- What is read from a grid: the bytes, the symbol that carries them, perhaps the header of a sequence, and how many
+-- bits stand before the terminator.
 pub record Reading : Type 0 where
   pub bytes : List ℕ
   pub version : Version
@@ -36,9 +36,9 @@ raw_bits version mask grid = map is_dark (raw_colors version mask grid)
 
 -- A grid carries data bits, in a version, at a level and under a mask.
 --
--- The functional modules are those of the version, and show the level and the mask. The data cells hold the interleaved data
--- codewords, then the interleaved correction codewords, then zeros in the cells that are left over. Put back in their order the
--- codewords are sound blocks, and their data are the bits.
+-- The functional modules are those of the version, and show the level and the mask. The data cells hold the interleaved
+-- data codewords, then the interleaved correction codewords, then zeros in the cells that are left over. Put back in
+-- their order the codewords are sound blocks, and their data are the bits.
 --
 -- In M1 and M3 symbols the last data codeword has four bits: its low half is not drawn, and counts as zeros.
 pub record Carries (grid : List Color) (version : Version) (level : EcLevel) (mask : MaskPattern)

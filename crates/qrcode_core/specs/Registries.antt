@@ -5,7 +5,8 @@ use Rattle.std.specs.declared.alloc.Global.{Global}
 use Rattle.std.specs.declared.dyn_box.DynBox.{DynBox}
 use Rattle.qrcode_core.specs.declared.plugin.registry.PluginRegistry.{PluginRegistry}
 use Rattle.qrcode_core.specs.declared.plugin.registry.QrPlugin.{QrPlugin}
-use Rattle.qrcode_core.specs.Registered.{Registered, Registration, version_of, renderer_of, encoder_of, postprocessor_of}
+use Rattle.qrcode_core.specs.Registered.{Registered, Registration, version_of, renderer_of, encoder_of}
+use Rattle.qrcode_core.specs.Registered.{postprocessor_of}
 use Rattle.qrcode_core.specs.Texts.{TextMap, at_key, text_map, text_values}
 
 -- the object in a box, as a reference to it shows it

@@ -1,10 +1,12 @@
 -- A message that is spread over several symbols (ISO/IEC 18004, "Structured Append").
-use Rattle.std.specs.Prelude.{◌≡◌, ℕ, ℤ, nat_abs, ◌+◌, ◌<◌, ◌≤◌, min, List, [], ◌∷◌, length, drop, slice_index_or, slice_range, fold, bit_xor, Some, IsPermutation}
+use Rattle.std.specs.Prelude.{◌≡◌, ℕ, ℤ, nat_abs, ◌+◌, ◌<◌, ◌≤◌, min, List, [], ◌∷◌, length, drop}
+use Rattle.std.specs.Prelude.{slice_index_or, slice_range, fold, bit_xor, Some, IsPermutation}
 use Rattle.std.specs.List.{concat}
 use Rattle.qrcode_base.specs.declared.types.Color.{Color}
 use Rattle.qrcode_base.specs.declared.types.EcLevel.{EcLevel}
 use Rattle.qrcode_base.specs.declared.types.errors.QrError.{QrError}
-use Rattle.qrcode_base.specs.declared.types.errors.QrError.TheVariants.{DataTooLong, InvalidResourceLimits, InvalidStructuredAppend, OutOfMemory}
+use Rattle.qrcode_base.specs.declared.types.errors.QrError.TheVariants.{DataTooLong, InvalidResourceLimits}
+use Rattle.qrcode_base.specs.declared.types.errors.QrError.TheVariants.{InvalidStructuredAppend, OutOfMemory}
 use Rattle.qrcode_bits.specs.Choice.{normal, FitsNone}
 use Rattle.qrcode_bits.specs.Encoding.{IsLimit}
 use Rattle.qrcode_bits.specs.Frame.{Header}

@@ -4,8 +4,8 @@ ghost use Rattle.qrcode_core.specs.Headline.{HaveDistance};
 ghost use Rattle.qrcode_core.specs.Reader.{HaveOneContent, HaveOneReading, Reads};
 ghost use Rattle.qrcode_core.specs.Sequence.{HaveOneMessage};
 
-/// No grid is read in two ways: the bytes, the version, the level, the mask, the header and the payload bits that a reader
-/// finds are the only ones.
+/// No grid is read in two ways: the bytes, the version, the level, the mask, the header and the payload bits that a
+/// reader finds are the only ones.
 pub fn have_one_reading()
     ensures { HaveOneReading }
 {}
@@ -15,18 +15,20 @@ pub fn have_one_content()
     ensures { HaveOneContent }
 {}
 
-/// The reader reads a printed symbol: the digits `12345` in M1 at level L under the mask Diamonds, with 20 payload bits.
+/// The reader reads a printed symbol: the digits `12345` in M1 at level L under the mask Diamonds, with 20 payload
+/// bits.
 pub fn printed_symbol_is_read()
     ensures { Reads printed printed_reading }
 {}
 
-/// Two grids that are read as different bytes, at one version and level, differ in some block in more codewords than the block
-/// has correction codewords (ISO/IEC 18004, error correction).
+/// Two grids that are read as different bytes, at one version and level, differ in some block in more codewords than
+/// the block has correction codewords (ISO/IEC 18004, error correction).
 pub fn have_distance()
     ensures { HaveDistance }
 {}
 
-/// No grids are read as two messages of a sequence, in whatever order they are given (ISO/IEC 18004, "Structured Append").
+/// No grids are read as two messages of a sequence, in whatever order they are given (ISO/IEC 18004, "Structured
+/// Append").
 pub fn have_one_message()
     ensures { HaveOneMessage }
 {}

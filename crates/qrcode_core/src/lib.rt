@@ -1,4 +1,5 @@
-//! QR codes and Micro QR codes: from bytes to a grid of light and dark modules, with views of grids and a registry of renderers.
+//! QR codes and Micro QR codes: from bytes to a grid of light and dark modules, with views of grids and a registry of
+//! renderers.
 #![tactic(auto)]
 
 pub use qrcode_base::{cast, mode, types, version};

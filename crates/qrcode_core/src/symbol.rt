@@ -1,6 +1,7 @@
 //! The symbol of some bytes: segments, codewords, modules.
 ghost use Rattle.std.specs.Prelude.{◌≤◌, length, OnOk, IfOk, IfErr};
-ghost use Rattle.qrcode_core.specs.Headline.{IsBestSymbol, IsBestMicroSymbol, IsSquare, IsTooLong, IsTooLongForMicro, IsRefusal, IsMicroRefusal};
+ghost use Rattle.qrcode_core.specs.Headline.{IsBestSymbol, IsBestMicroSymbol, IsSquare, IsTooLong};
+ghost use Rattle.qrcode_core.specs.Headline.{IsTooLongForMicro, IsRefusal, IsMicroRefusal};
 
 mod owned;
 mod sequence;

@@ -1,8 +1,10 @@
 //! What a symbol offers to those who draw it, and the traits of encoders, builders and renderers.
-ghost use Rattle.std.specs.Prelude.{◌≡◌, ℕ, ◌*◌, ◌<◌, ◌≤◌, ◌↔◌, ◌⊎◌, IsTrue, Some, length, List, Result, IfSome, IsSome};
+ghost use Rattle.std.specs.Prelude.{◌≡◌, ℕ, ◌*◌, ◌<◌, ◌≤◌, ◌↔◌, ◌⊎◌, IsTrue, Some, length, List, Result};
+ghost use Rattle.std.specs.Prelude.{IfSome, IsSome};
 ghost use Rattle.qrcode_base.specs.declared.types.EcLevel.{EcLevel};
 ghost use Rattle.qrcode_base.specs.declared.types.Version.{Version};
-ghost use Rattle.qrcode_core.specs.Grids.{Grid, IsFull, HasAllRows, color_at, row_of, with_color, grid_of, quiet_zone_of, rows_between};
+ghost use Rattle.qrcode_core.specs.Grids.{Grid, IsFull, HasAllRows, color_at, row_of, with_color, grid_of};
+ghost use Rattle.qrcode_core.specs.Grids.{quiet_zone_of, rows_between};
 
 use qrcode_base::types::{Color, EcLevel, Version};
 use std::alloc::Global;

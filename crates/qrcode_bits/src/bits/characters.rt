@@ -1,7 +1,9 @@
 //! The bits of characters: ISO/IEC 18004, "Numeric mode", "Alphanumeric mode", "Byte mode" and "Kanji mode".
 
 ghost use Rattle.std.specs.Prelude.{◌≡◌, ◌+◌, ◌*◌, ◌%◌, ◌^◌, ◌<◌, ◌≤◌, ◌∷◌, slice_index_or, length, All, Contains};
-ghost use Rattle.qrcode_base.specs.Characters.{IsDigit, digit as digit_of, alphabet, alphanumeric_value as alphanumeric_value_of, IsKanji, IsKanjiText, kanji_number as kanji_number_of};
+ghost use Rattle.qrcode_base.specs.Characters.{IsDigit, digit as digit_of, alphabet};
+ghost use Rattle.qrcode_base.specs.Characters.{alphanumeric_value as alphanumeric_value_of, IsKanji};
+ghost use Rattle.qrcode_base.specs.Characters.{IsKanjiText, kanji_number as kanji_number_of};
 ghost use Rattle.qrcode_base.specs.Numbers.{number_bits, byte_bits};
 ghost use Rattle.qrcode_bits.specs.Spelling.{numeric_bits, alphanumeric_bits, kanji_bits};
 ghost use Rattle.qrcode_bits.specs.Shifts.{AreShifted, shifted};

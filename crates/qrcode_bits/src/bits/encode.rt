@@ -1,10 +1,12 @@
-//! The choice of the version: the smallest in which some way to merge the parsed segments of the data fits (ISO/IEC 18004, "Data
-//! analysis"), in a symbol that is part of a sequence behind the 20 bits of its header ("Structured Append").
+//! The choice of the version: the smallest in which some way to merge the parsed segments of the data fits (ISO/IEC
+//! 18004, "Data analysis"), in a symbol that is part of a sequence behind the 20 bits of its header ("Structured
+//! Append").
 //!
-//! Normal versions fall into three classes, 1 to 9, 10 to 26 and 27 to 40. In a class a plan takes the same bits in each version, so
-//! one plan for the last version of a class decides for the class.
+//! Normal versions fall into three classes, 1 to 9, 10 to 26 and 27 to 40. In a class a plan takes the same bits in
+//! each version, so one plan for the last version of a class decides for the class.
 
-ghost use Rattle.std.specs.Prelude.{◌≡◌, ℕ, ◌+◌, ◌≤◌, length, nat_abs, Some, None, OnOk, IfOk, IfErr, IfSome, IfNone, All, IsTrue, ◌↔◌};
+ghost use Rattle.std.specs.Prelude.{◌≡◌, ℕ, ◌+◌, ◌≤◌, length, nat_abs, Some, None, OnOk, IfOk, IfErr, IfSome};
+ghost use Rattle.std.specs.Prelude.{IfNone, All, IsTrue, ◌↔◌};
 ghost use Rattle.qrcode_base.specs.declared.types.Mode.{Mode};
 ghost use Rattle.qrcode_base.specs.Modes.{HasMode, indicator_width, count_width};
 ghost use Rattle.qrcode_base.specs.Versions.{HasMicroNumber};
@@ -12,7 +14,8 @@ ghost use Rattle.qrcode_bits.specs.Parsing.{parsed};
 ghost use Rattle.qrcode_bits.specs.Merging.{IsChosenPlan};
 ghost use Rattle.qrcode_bits.specs.Choice.{Fits, FitsNot, FitsNone, normal, micro, IsMinVersion};
 ghost use Rattle.qrcode_bits.specs.Classes.{IsClass, ClassesUpTo};
-ghost use Rattle.qrcode_bits.specs.Encoding.{IsPlanStream, IsEncoding, IsUnencodable, IsLimit, IsEncodingRefused, IsMicroRefused, IsPartRefused};
+ghost use Rattle.qrcode_bits.specs.Encoding.{IsPlanStream, IsEncoding, IsUnencodable, IsLimit};
+ghost use Rattle.qrcode_bits.specs.Encoding.{IsEncodingRefused, IsMicroRefused, IsPartRefused};
 ghost use Rattle.qrcode_bits.specs.Frame.{HasHeader, header_bits};
 ghost use Rattle.qrcode_bits.specs.ModeSets.{no_modes};
 ghost use Rattle.qrcode_bits.specs.Push.{header};
@@ -47,11 +50,11 @@ impl Model for Part {
     ghost view = { λ p. record { place = p.position; total = p.total; parity = p.parity } };
 }
 
-/// The bits of some data in the smallest Normal version in which some plan fits, by the plan that takes the fewest bits there, up
-/// to terminator and padding.
+/// The bits of some data in the smallest Normal version in which some plan fits, by the plan that takes the fewest bits
+/// there, up to terminator and padding.
 ///
-/// `DataTooLong` comes where no plan fits version 40 at this level, so for more than 7089 bytes before any memory is taken;
-/// `OutOfMemory` where a growth was refused.
+/// `DataTooLong` comes where no plan fits version 40 at this level, so for more than 7089 bytes before any memory is
+/// taken; `OutOfMemory` where a growth was refused.
 pub fn encode_auto(alloc: Global, bytes: &[u8], level: EcLevel) -> QrResult<Bits>
     ensures ok { IfOk result (λ bits. IsEncoding normal None bytes.now level 40 bits) }
     ensures err { IfErr result (λ e. IsUnencodable normal 0 bytes.now level 40 e) }
@@ -61,15 +64,16 @@ pub fn encode_auto(alloc: Global, bytes: &[u8], level: EcLevel) -> QrResult<Bits
 
 /// As `encode_auto`, but with no version past `max_version`.
 ///
-/// A maximum outside 1 to 40 is `InvalidResourceLimits`, which is tested first. Then `DataTooLong` comes where no plan fits any of
-/// the versions, and `OutOfMemory` where a growth was refused.
+/// A maximum outside 1 to 40 is `InvalidResourceLimits`, which is tested first. Then `DataTooLong` comes where no plan
+/// fits any of the versions, and `OutOfMemory` where a growth was refused.
 pub fn encode_auto_with_max_version(
     alloc: Global,
     bytes: &[u8],
     level: EcLevel,
     max_version: i16,
 ) -> QrResult<Bits>
-    ensures ok { IfOk result (λ bits. IsEncoding normal None bytes.now level (nat_abs max_version) bits) }
+    ensures ok { IfOk result (λ bits.
+        IsEncoding normal None bytes.now level (nat_abs max_version) bits) }
     ensures limit { OnOk result (IsLimit max_version) }
     ensures err { IfErr result (λ e. IsEncodingRefused bytes.now level max_version e) }
 {
@@ -82,15 +86,15 @@ pub fn encode_auto_with_max_version(
     }
 }
 
-/// The bits of one symbol of a sequence (ISO/IEC 18004, "Structured Append"): the header of 20 bits with the symbol's place from 1
-/// on, how many symbols there are, and the exclusive or of all bytes of the message; behind it its part of the data, up to
-/// terminator and padding.
+/// The bits of one symbol of a sequence (ISO/IEC 18004, "Structured Append"): the header of 20 bits with the symbol's
+/// place from 1 on, how many symbols there are, and the exclusive or of all bytes of the message; behind it its part of
+/// the data, up to terminator and padding.
 ///
-/// The version is the smallest up to `max_version` in which the header and some plan fit, and the plan takes the fewest bits there.
-/// The payload counts the header. The refusals are `InvalidResourceLimits` where the maximum is outside 1 to 40, then
-/// `InvalidStructuredAppend` with the total where it is not 2 to 16, else with the position where it is not 1 to the total, then
-/// `DataTooLong` where no plan fits, so for more than 7089 bytes before any memory is taken; `OutOfMemory` where a growth was
-/// refused.
+/// The version is the smallest up to `max_version` in which the header and some plan fit, and the plan takes the fewest
+/// bits there. The payload counts the header. The refusals are `InvalidResourceLimits` where the maximum is outside 1
+/// to 40, then `InvalidStructuredAppend` with the total where it is not 2 to 16, else with the position where it is not
+/// 1 to the total, then `DataTooLong` where no plan fits, so for more than 7089 bytes before any memory is taken;
+/// `OutOfMemory` where a growth was refused.
 pub fn encode_part(
     alloc: Global,
     bytes: &[u8],
@@ -100,7 +104,8 @@ pub fn encode_part(
     level: EcLevel,
     max_version: i16,
 ) -> QrResult<Bits>
-    ensures ok { IfOk result (λ bits. IsEncoding normal (Some (header position total parity)) bytes.now level
+    ensures ok { IfOk result (λ bits.
+        IsEncoding normal (Some (header position total parity)) bytes.now level
         (nat_abs max_version) bits) }
     ensures limit { OnOk result (IsLimit max_version) }
     ensures err { IfErr result (λ e. IsPartRefused position total bytes.now level max_version e) }
@@ -122,11 +127,11 @@ pub fn encode_part(
     }
 }
 
-/// The bits of some data in the smallest of M1 to M4 that has the level and the modes and in which some plan fits, as with
-/// `encode_auto`.
+/// The bits of some data in the smallest of M1 to M4 that has the level and the modes and in which some plan fits, as
+/// with `encode_auto`.
 ///
-/// Level H, which no Micro version has, is `InvalidVersion` with M4. Then `DataTooLong` comes where no plan fits any of the four,
-/// and `OutOfMemory` where a growth was refused.
+/// Level H, which no Micro version has, is `InvalidVersion` with M4. Then `DataTooLong` comes where no plan fits any of
+/// the four, and `OutOfMemory` where a growth was refused.
 pub fn encode_auto_micro(alloc: Global, bytes: &[u8], level: EcLevel) -> QrResult<Bits>
     ensures ok { IfOk result (λ bits. IsEncoding micro None bytes.now level 4 bits) }
     ensures err { IfErr result (λ e. IsMicroRefused bytes.now level e) }
@@ -158,7 +163,8 @@ pub fn encode_auto_micro(alloc: Global, bytes: &[u8], level: EcLevel) -> QrResul
     Err(QrError::DataTooLong)
 }
 
-/// The least Normal version whose capacity at the level is at least so many bits, or version 40 where no version holds so many.
+/// The least Normal version whose capacity at the level is at least so many bits, or version 40 where no version holds
+/// so many.
 pub fn find_min_version(length: usize, level: EcLevel) -> Version
     ensures { IsMinVersion length level result }
 {
@@ -214,7 +220,8 @@ fn encode_up_to(
     requires from_one { 1 ≤ limit }
     requires to_forty { limit ≤ 40 }
     ensures ok { IfOk result (λ bits. IsEncoding normal header.now bytes.now level limit bits) }
-    ensures err { IfErr result (λ e. IsUnencodable normal (length (header_bits header.now)) bytes.now level limit e) }
+    ensures err { IfErr result (λ e.
+        IsUnencodable normal (length (header_bits header.now)) bytes.now level limit e) }
 {
     if bytes.len() > MAX_DATA_LEN {
         return Err(QrError::DataTooLong);
@@ -246,8 +253,8 @@ fn parse(alloc: Global, bytes: &[u8]) -> QrResult<Vec<Segment>>
     Ok(segments)
 }
 
-/// The last version of each class of versions up to a limit. In a class a plan takes the same bits in each version, since the
-/// character counts have the same widths.
+/// The last version of each class of versions up to a limit. In a class a plan takes the same bits in each version,
+/// since the character counts have the same widths.
 fn last_versions(limit: usize) -> ArrayVec<usize, 3>
     requires { 1 ≤ limit }
     ensures { ClassesUpTo 0 result.items limit }
@@ -263,8 +270,8 @@ fn last_versions(limit: usize) -> ArrayVec<usize, 3>
     candidates
 }
 
-/// The bits of a header or none and of the chosen plan of the last version of a class, where both fit, in the least version that
-/// holds them.
+/// The bits of a header or none and of the chosen plan of the last version of a class, where both fit, in the least
+/// version that holds them.
 fn encode_class(
     alloc: Global,
     header: &Option<Part>,
@@ -278,7 +285,8 @@ fn encode_class(
     requires to_forty { last ≤ 40 }
     requires segments { segments.now ≡ parsed bytes.now }
     requires short { length bytes.now ≤ 7089 }
-    ensures some { IfOk result (λ found. IfSome found (λ bits. (before limit : ℕ) → IsClass before last → last ≤ limit →
+    ensures some { IfOk result (λ found.
+        IfSome found (λ bits. (before limit : ℕ) → IsClass before last → last ≤ limit →
         FitsNone normal (length (header_bits header.now)) bytes.now level before →
         IsEncoding normal header.now bytes.now level limit bits)) }
     ensures none { IfOk result (λ found. IfNone found
@@ -314,8 +322,10 @@ fn chosen_plan(
     requires small { (mode : Mode) → indicator_width version + count_width version mode ≤ 20 }
     requires segments { segments.now ≡ parsed bytes.now }
     requires short { length bytes.now ≤ 7089 }
-    ensures chosen { IfOk result (λ found. IfSome found (λ plan. IsChosenPlan (parsed bytes.now) version plan.items)) }
-    ensures fits { IfOk result (λ found. IfSome found (λ plan. Fits front bytes.now version level plan.items)) }
+    ensures chosen { IfOk result (λ found.
+        IfSome found (λ plan. IsChosenPlan (parsed bytes.now) version plan.items)) }
+    ensures fits { IfOk result (λ found.
+        IfSome found (λ plan. Fits front bytes.now version level plan.items)) }
     ensures none { IfOk result (λ found. IfNone found (FitsNot front bytes.now version level)) }
     ensures memory { IfErr result (λ e. e ≡ QrError.OutOfMemory) }
 {

@@ -1,12 +1,14 @@
 //! The best starts so far, each as a word of 64 bits, for data of fewer than 8192 bytes.
 //!
-//! A word has the bits of the plan above, then 13 bits of its parts, then 13 bits that fall as the start grows. So the better of two
-//! starts is the lesser word, and no start is the greatest word.
+//! A word has the bits of the plan above, then 13 bits of its parts, then 13 bits that fall as the start grows. So the
+//! better of two starts is the lesser word, and no start is the greatest word.
 
 ghost use Rattle.std.specs.Prelude.{◌≡◌, ℕ, ◌+◌, ◌*◌, ◌-◌, ◌/◌, ◌%◌, ◌^◌, ◌<◌, ◌≤◌, length, min, IsTrue, ◌↔◌};
 ghost use Rattle.std.specs.Bool.{OnTrue};
-ghost use Rattle.qrcode_bits.specs.Buckets.{HasBucket, Absorbs, Advances, IsEmptyGroup, EntersGroup, Enters, group_of, slot};
-ghost use Rattle.qrcode_bits.specs.Words.{word_of, starts_in, told, word_at, bucket_start, IsOffered, AreNone, IsWhole, AreWhole};
+ghost use Rattle.qrcode_bits.specs.Buckets.{HasBucket, Absorbs, Advances, IsEmptyGroup, EntersGroup, Enters};
+ghost use Rattle.qrcode_bits.specs.Buckets.{group_of, slot};
+ghost use Rattle.qrcode_bits.specs.Words.{word_of, starts_in, told, word_at, bucket_start, IsOffered};
+ghost use Rattle.qrcode_bits.specs.Words.{AreNone, IsWhole, AreWhole};
 
 use super::comparisons::Comparisons;
 use qrcode_base::types::Mode;

@@ -44,7 +44,8 @@ impl RenderConfig {
     #[tactic(auto, using(crate::proofs::TextMaps::text_entries_insert, crate::proofs::TextMaps::text_values_insert))]
     pub fn with_option(mut self, key: &str, value: &str) -> Result<RenderConfig, PluginError>
         ensures format { IfOk result (λ c. render_format c ≡ render_format self) }
-        ensures options { IfOk result (λ c. render_options c ≡ with_entry (render_options self) key.now value.now) }
+        ensures options { IfOk result (λ c.
+            render_options c ≡ with_entry (render_options self) key.now value.now) }
         ensures memory { IsOkUnless result OutOfMemory }
     {
         let key = String::from_str(self.alloc, key)?;
@@ -109,7 +110,8 @@ impl EncodeConfig {
     /// The same with this option, in place of one of that name. Without memory the configuration is gone.
     #[tactic(auto, using(crate::proofs::TextMaps::text_entries_insert, crate::proofs::TextMaps::text_values_insert))]
     pub fn with_option(mut self, key: &str, value: &str) -> Result<EncodeConfig, PluginError>
-        ensures options { IfOk result (λ c. encode_options c ≡ with_entry (encode_options self) key.now value.now) }
+        ensures options { IfOk result (λ c.
+            encode_options c ≡ with_entry (encode_options self) key.now value.now) }
         ensures memory { IsOkUnless result OutOfMemory }
     {
         let key = String::from_str(self.alloc, key)?;

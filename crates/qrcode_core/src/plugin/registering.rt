@@ -1,7 +1,8 @@
 //! How a caller registers objects.
 ghost use Rattle.std.specs.Prelude.{◌≡◌, [], ◌∷◌, map, IfOk, OnOk, OnErr, IsOkUnless};
 ghost use Rattle.std.specs.String.{string_bytes};
-ghost use Rattle.qrcode_core.specs.Registered.{Registers, with_registration, version_of, renderer_of, encoder_of, postprocessor_of};
+ghost use Rattle.qrcode_core.specs.Registered.{Registers, with_registration, version_of, renderer_of};
+ghost use Rattle.qrcode_core.specs.Registered.{encoder_of, postprocessor_of};
 ghost use Rattle.qrcode_core.specs.Registries.{registered, registrations, named_renderer, named_encoder};
 ghost use Rattle.qrcode_core.specs.Texts.{at_key};
 ghost use Rattle.qrcode_core.specs.declared.plugin.error.PluginError.TheVariants.{OutOfMemory};
@@ -90,7 +91,8 @@ impl PluginRegistry {
     /// Keeps the version of a plugin under its name.
     #[tactic(auto, using(crate::proofs::TextMaps::text_entries_insert, crate::proofs::TextMaps::text_values_insert))]
     fn put_version(&mut self, name: String, version: String) -> Result<(), PluginError>
-        ensures { Registers (registered self.old) (version_of (string_bytes name) (string_bytes version) ∷ [])
+        ensures { Registers (registered self.old)
+            (version_of (string_bytes name) (string_bytes version) ∷ [])
             result (registered self.new) }
     {
         match self.plugins.insert(name, version) {
@@ -107,7 +109,8 @@ impl PluginRegistry {
     ) -> Result<Option<Box<dyn DynRenderer>>, PluginError>
         ensures ok { OnOk result
             (registered self.new ≡ with_registration (registered self.old) (renderer_of (string_bytes name) renderer)) }
-        ensures replaced { IfOk result (λ old. old ≡ at_key (registered self.old).renderers (string_bytes name)) }
+        ensures replaced { IfOk result (λ old.
+            old ≡ at_key (registered self.old).renderers (string_bytes name)) }
         ensures refused { OnErr result (registered self.new ≡ registered self.old) }
         ensures memory { IsOkUnless result OutOfMemory }
     {
@@ -150,7 +153,8 @@ impl PluginRegistry {
     ) -> Result<Option<Box<dyn DynEncoder>>, PluginError>
         ensures ok { OnOk result
             (registered self.new ≡ with_registration (registered self.old) (encoder_of (string_bytes name) encoder)) }
-        ensures replaced { IfOk result (λ old. old ≡ at_key (registered self.old).encoders (string_bytes name)) }
+        ensures replaced { IfOk result (λ old.
+            old ≡ at_key (registered self.old).encoders (string_bytes name)) }
         ensures refused { OnErr result (registered self.new ≡ registered self.old) }
         ensures memory { IsOkUnless result OutOfMemory }
     {

@@ -6,7 +6,8 @@ ghost use Rattle.qrcode_base.specs.Symbols.{IsVersion, width_of};
 ghost use Rattle.qrcode_core.specs.Budgets.{IsBudget};
 ghost use Rattle.qrcode_core.specs.Limited.{IsBestWithin, IsTooLongWithin, IsLimitedRefusal};
 ghost use Rattle.qrcode_core.specs.Drawn.{TellsReading, drawn_grid};
-ghost use Rattle.qrcode_core.specs.Headline.{IsBestSymbol, IsBestMicroSymbol, IsTooLong, IsTooLongForMicro, IsRefusal, IsMicroRefusal};
+ghost use Rattle.qrcode_core.specs.Headline.{IsBestSymbol, IsBestMicroSymbol, IsTooLong, IsTooLongForMicro};
+ghost use Rattle.qrcode_core.specs.Headline.{IsRefusal, IsMicroRefusal};
 ghost use Rattle.qrcode_core.specs.Views.{view_grid};
 ghost use Rattle.qrcode_core.specs.HeldBits.{HoldsStream, IsStreamRefusal};
 ghost use Rattle.qrcode_core.specs.Layers.{AreAllCodewords, IsDrawn, FillsSymbol, IsDrawnStream};
@@ -127,8 +128,8 @@ impl Symbol {
     /// they say is the caller's concern. Bits that were ended before are taken as they are; in M1 and M3 they may be
     /// half a byte too long then, and are refused.
     ///
-    /// `InvalidVersion` comes where the version does not have the level. Then `DataTooLong` comes exactly where the bits
-    /// are past the capacity, and `OutOfMemory` where a growth was refused.
+    /// `InvalidVersion` comes where the version does not have the level. Then `DataTooLong` comes exactly where the
+    /// bits are past the capacity, and `OutOfMemory` where a growth was refused.
     pub fn with_bits(alloc: Global, mut bits: Bits, level: EcLevel) -> QrResult<Symbol>
         ensures holds { IfOk result (HoldsStream bits level) }
         ensures reading { IfOk result TellsReading }

@@ -1,10 +1,12 @@
 //! The symbols of a message that is spread over several of them.
-ghost use Rattle.std.specs.Prelude.{◌≡◌, ◌+◌, ◌≤◌, [], length, map, nat_abs, slice_index_or, All, OnOk, IfOk, IfErr, IsTrue, vec_items};
+ghost use Rattle.std.specs.Prelude.{◌≡◌, ◌+◌, ◌≤◌, [], length, map, nat_abs, slice_index_or, All, OnOk, IfOk};
+ghost use Rattle.std.specs.Prelude.{IfErr, IsTrue, vec_items};
 ghost use Rattle.std.specs.List.Sorted.{IsNonDecreasing};
 ghost use Rattle.qrcode_bits.specs.Encoding.{IsLimit, IsPartRefused};
 ghost use Rattle.qrcode_bits.specs.Push.{header};
 ghost use Rattle.qrcode_core.specs.Drawn.{TellsReading, modules_of};
-ghost use Rattle.qrcode_core.specs.Sequence.{parity, parts_at, IsPartSymbol, AreBestSymbols, IsSomePartTooLong, IsSequenceRefusal};
+ghost use Rattle.qrcode_core.specs.Sequence.{parity, parts_at, IsPartSymbol, AreBestSymbols};
+ghost use Rattle.qrcode_core.specs.Sequence.{IsSomePartTooLong, IsSequenceRefusal};
 
 use crate::symbol::owned::{Symbol, symbol_of};
 use qrcode_base::types::{Color, EcLevel, QrError, QrResult};
@@ -38,7 +40,8 @@ impl Symbol {
         ensures best { IfOk result (λ symbols.
             AreBestSymbols bytes.now cuts.now level (nat_abs max_version) (map modules_of symbols.items)) }
         ensures reading { IfOk result (λ symbols. All TellsReading symbols.items) }
-        ensures fitting { OnOk result (IsSomePartTooLong bytes.now cuts.now level (nat_abs max_version) → ⊥) }
+        ensures fitting { OnOk result (IsSomePartTooLong bytes.now cuts.now level
+            (nat_abs max_version) → ⊥) }
         ensures limit { OnOk result (IsLimit max_version) }
         ensures refused { IfErr result (IsSequenceRefusal bytes.now cuts.now level max_version) }
     {
@@ -94,8 +97,10 @@ pub fn symbol_sequence(
 ) -> QrResult<Vec<Vec<Color>>>
     requires ordered { IsNonDecreasing cuts.now }
     requires within { All (λ cut. cut ≤ length bytes.now) cuts.now }
-    ensures best { IfOk result (λ grids. AreBestSymbols bytes.now cuts.now level (nat_abs max_version) (map vec_items grids.items)) }
-    ensures fitting { OnOk result (IsSomePartTooLong bytes.now cuts.now level (nat_abs max_version) → ⊥) }
+    ensures best { IfOk result (λ grids.
+        AreBestSymbols bytes.now cuts.now level (nat_abs max_version) (map vec_items grids.items)) }
+    ensures fitting { OnOk result (IsSomePartTooLong bytes.now cuts.now level
+        (nat_abs max_version) → ⊥) }
     ensures limit { OnOk result (IsLimit max_version) }
     ensures refused { IfErr result (IsSequenceRefusal bytes.now cuts.now level max_version) }
 {
