@@ -129,10 +129,15 @@ fn write_column_rows(
     ensures sixes { (i : ℕ) → i < 16 → Marks (slice_index_or sixes.new i []) (λ m j. has_six width (plane m bytes.now) (at + 16 * i + j)) }
     ensures finders { (i : ℕ) → i < 16 → Marks (slice_index_or finders.new i []) (λ m j. has_finder width (plane m bytes.now) (at + 16 * i + j)) }
 {
-    for i in 0..16 {
+    for pair in 0..8 {
+        let i = 2 * pair;
+        let next = i + 1;
         fives[i] = places_of(Feature::Five, bytes, width, at + 16 * i);
+        fives[next] = places_of(Feature::Five, bytes, width, at + 16 * next);
         sixes[i] = places_of(Feature::Six, bytes, width, at + 16 * i);
+        sixes[next] = places_of(Feature::Six, bytes, width, at + 16 * next);
         finders[i] = places_of(Feature::Finder, bytes, width, at + 16 * i);
+        finders[next] = places_of(Feature::Finder, bytes, width, at + 16 * next);
     }
 }
 
