@@ -131,13 +131,13 @@ fn write_column_rows(
 {
     for pair in 0..8 {
         let i = 2 * pair;
-        let next = i + 1;
-        fives[i] = places_of(Feature::Five, bytes, width, at + 16 * i);
-        fives[next] = places_of(Feature::Five, bytes, width, at + 16 * next);
-        sixes[i] = places_of(Feature::Six, bytes, width, at + 16 * i);
-        sixes[next] = places_of(Feature::Six, bytes, width, at + 16 * next);
-        finders[i] = places_of(Feature::Finder, bytes, width, at + 16 * i);
-        finders[next] = places_of(Feature::Finder, bytes, width, at + 16 * next);
+        let here = at + 16 * i;
+        fives[i] = places_of(Feature::Five, bytes, width, here);
+        fives[i + 1] = places_of(Feature::Five, bytes, width, here + 16);
+        sixes[i] = places_of(Feature::Six, bytes, width, here);
+        sixes[i + 1] = places_of(Feature::Six, bytes, width, here + 16);
+        finders[i] = places_of(Feature::Finder, bytes, width, here);
+        finders[i + 1] = places_of(Feature::Finder, bytes, width, here + 16);
     }
 }
 
