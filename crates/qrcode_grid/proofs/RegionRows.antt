@@ -1,5 +1,5 @@
 -- Regions that say nothing, and what regions say together.
-use Rattle.std.proofs.Common.{◌≡◌, zero, suc, ℕ, ℤ, pos, negsuc, nat_abs, subst, ◌<◌, ◌+◌, ◌*◌, ap, ◌∙◌, sym, refl, arith, true, nat_lt, Option, Some, None, option_map, cond, [], ◌∷◌}
+use Rattle.std.proofs.Common.{◌≡◌, zero, suc, ℕ, ℤ, pos, negsuc, nat_abs, subst, ◌<◌, ◌+◌, ◌*◌, ap, ◌∙◌, sym, refl, arith, true, false, nat_lt, nat_le, ◌==◌, ◌&&◌, ◌||◌, ◌≢◌, Option, Some, None, option_map, cond, [], ◌∷◌}
 use Rattle.std.specs.Option.{option_or}
 use Rattle.std.proofs.lemmas.Bool.Decides.{nat_tests}
 use Rattle.qrcode_base.specs.declared.types.Color.{Color}
@@ -8,7 +8,7 @@ use Rattle.qrcode_base.specs.declared.types.Version.TheVariants.{Normal, Micro}
 use Rattle.qrcode_base.specs.Symbols.{IsVersion, width_of}
 use Rattle.qrcode_grid.specs.declared.canvas.Module.{Module}
 use Rattle.qrcode_grid.specs.Masks.{drawn_over}
-use Rattle.qrcode_grid.specs.Regions.{version_digit, version_copies, alignments, alignment_coordinates, first_some, normal_regions, micro_regions, functional_color}
+use Rattle.qrcode_grid.specs.Regions.{timing, where_true, dark_if_even, version_digit, version_copies, alignments, alignment_coordinates, first_some, normal_regions, micro_regions, functional_color}
 use Rattle.qrcode_grid.specs.Words.{digit, digit_color, version_word}
 
 pub no_version : (n x y : ℕ) → n < 7 → version_copies n x y ≡ None
@@ -20,6 +20,25 @@ pub no_alignments : (n w x y : ℕ) → n < 2 → alignments w (alignment_coordi
 no_alignments zero w x y h = refl
 no_alignments (suc zero) w x y h = refl
 no_alignments (suc (suc n)) w x y h = absurd (omega arith)
+
+-- the cells in which no timing pattern lies
+no_timing : (line from to x y : ℕ) → ((y == line && nat_le from x && nat_le x to) || (x == line && nat_le from y && nat_le y to)) ≡ false → timing line from to x y ≡ None
+no_timing line from to x y t = ap (λ b. where_true b (dark_if_even (x + y))) t
+
+pub no_timing_above : (line from to x y : ℕ) → y ≢ line → y < from → timing line from to x y ≡ None
+no_timing_above line from to x y other above = no_timing line from to x y (grind (arith, nat_tests, other, above))
+
+pub no_timing_below : (line from to x y : ℕ) → y ≢ line → to < y → timing line from to x y ≡ None
+no_timing_below line from to x y other below = no_timing line from to x y (grind (arith, nat_tests, other, below))
+
+pub no_timing_beside : (line from to x y : ℕ) → y ≢ line → x ≢ line → timing line from to x y ≡ None
+no_timing_beside line from to x y row column = no_timing line from to x y (grind (arith, nat_tests, row, column))
+
+pub no_timing_before : (line from to x : ℕ) → line < from → x < from → timing line from to x line ≡ None
+no_timing_before line from to x order before = no_timing line from to x line (grind (arith, nat_tests, order, before))
+
+pub no_timing_behind : (line from to x : ℕ) → line < from → to < x → timing line from to x line ≡ None
+no_timing_behind line from to x order behind = no_timing line from to x line (grind (arith, nat_tests, order, behind))
 
 drawn_or : (p q : Option Color) (m : Module) → drawn_over (option_or p q) m ≡ drawn_over p (drawn_over q m)
 drawn_or (Some c) q m = refl

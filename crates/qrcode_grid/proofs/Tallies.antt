@@ -1,5 +1,5 @@
 -- Places counted in rows of sixteen lanes.
-use Rattle.std.proofs.Common.{◌≡◌, ℕ, zero, suc, ◌+◌, ◌-◌, ◌*◌, ◌<◌, ◌≤◌, ◌==◌, ◌&&◌, ltb, eqb, Bool, true, false, cond, List, [], length, get_or, get_or-set_same, get_or-set_other, slice_set, below_more, ◌≢◌, subst, ap, ◌∙◌, sym, arith, inl, inr}
+use Rattle.std.proofs.Common.{◌≡◌, ℕ, zero, suc, ◌+◌, ◌-◌, ◌*◌, ◌<◌, ◌≤◌, ◌==◌, ◌&&◌, ltb, eqb, Bool, true, false, cond, List, [], length, get_or, get_or-set_same, get_or-set_other, slice_set, length-set, below_more, ◌≢◌, subst, ap, ◌∙◌, sym, arith, inl, inr}
 use Rattle.std.specs.Int.{bit_at}
 use Rattle.std.proofs.lemmas.Bool.{cases_lt}
 use Rattle.std.proofs.lemmas.Nat.Bits.{bit_at-zero, bit_at_ones}
@@ -93,3 +93,8 @@ row_set P rows n v inside before here =
     below_more (λ i. P i (get_or (slice_set rows n v) i [])) n
     (λ i h. let ne : i ≢ n = omega arith in subst (P i) (sym (get_or-set_other rows n i v [] ne)) (before i h))
     (subst (P n) (sym (get_or-set_same rows n v [] inside)) here)
+
+pub two_rows_set : (P : ℕ → List ℕ → Type 0) (rows : List (List ℕ)) (n : ℕ) (v w : List ℕ) → n + 1 < length rows → ((i : ℕ) → i < n → P i (get_or rows i [])) → P n v → P (n + 1) w
+    → (i : ℕ) → i < n + 2 → P i (get_or (slice_set (slice_set rows n v) (n + 1) w) i [])
+two_rows_set P rows n v w inside before here next =
+    λ i h. row_set P (slice_set rows n v) (n + 1) w (omega (arith, inside, length-set rows n v)) (row_set P rows n v (omega (arith, inside)) before here) next i (omega (arith, h))

@@ -29,18 +29,17 @@ fn codeword_at(
     ensures count { IfSome result (λ r. (0 < r.1) × (r.1 ≤ 8)) }
     ensures within { IfSome result (λ _. next < length codewords.now + length correction.now) }
 {
-    if next >= codewords.len() {
-        let k = next - codewords.len();
-        return if k < correction.len() {
-            Some((usize::from(correction[k]), 8))
-        } else {
-            None
-        };
+    if next < codewords.len().saturating_sub(1) {
+        return Some((usize::from(codewords[next]), 8));
     }
-    if codewords.len() - next > 1 {
-        Some((usize::from(codewords[next]), 8))
+    if next < codewords.len() {
+        return Some((usize::from(codewords[next]) >> left_out, 8 - left_out));
+    }
+    let k = next - codewords.len();
+    if k < correction.len() {
+        Some((usize::from(correction[k]), 8))
     } else {
-        Some((usize::from(codewords[next]) >> left_out, 8 - left_out))
+        None
     }
 }
 

@@ -48,8 +48,11 @@ fn rows_of(feature: Feature, bytes: &[u8], width: usize, at: usize) -> [u8x16; 1
     ensures { (i : ℕ) → i < 16 → Marks (slice_index_or result i []) (λ m j. has feature width (plane m bytes.now) (at + 16 * i + j)) }
 {
     let mut rows = [u8x16::splat(0); 16];
-    for i in 0..16 {
-        rows[i] = places_of(feature, bytes, width, at + 16 * i);
+    for pair in 0..8 {
+        let i = 2 * pair;
+        let here = at + 16 * i;
+        rows[i] = places_of(feature, bytes, width, here);
+        rows[i + 1] = places_of(feature, bytes, width, here + 16);
     }
     rows
 }
@@ -129,10 +132,15 @@ fn write_column_rows(
     ensures sixes { (i : ℕ) → i < 16 → Marks (slice_index_or sixes.new i []) (λ m j. has_six width (plane m bytes.now) (at + 16 * i + j)) }
     ensures finders { (i : ℕ) → i < 16 → Marks (slice_index_or finders.new i []) (λ m j. has_finder width (plane m bytes.now) (at + 16 * i + j)) }
 {
-    for i in 0..16 {
-        fives[i] = places_of(Feature::Five, bytes, width, at + 16 * i);
-        sixes[i] = places_of(Feature::Six, bytes, width, at + 16 * i);
-        finders[i] = places_of(Feature::Finder, bytes, width, at + 16 * i);
+    for pair in 0..8 {
+        let i = 2 * pair;
+        let here = at + 16 * i;
+        fives[i] = places_of(Feature::Five, bytes, width, here);
+        fives[i + 1] = places_of(Feature::Five, bytes, width, here + 16);
+        sixes[i] = places_of(Feature::Six, bytes, width, here);
+        sixes[i + 1] = places_of(Feature::Six, bytes, width, here + 16);
+        finders[i] = places_of(Feature::Finder, bytes, width, here);
+        finders[i + 1] = places_of(Feature::Finder, bytes, width, here + 16);
     }
 }
 

@@ -1,10 +1,10 @@
 -- The cells of the rows before this part have taken their bits.
-use Rattle.std.proofs.Common.{◌*◌, ◌≤◌, min}
+use Rattle.std.proofs.Common.{◌*◌, ◌≤◌}
 use Rattle.qrcode_grid.specs.Placing.{bits_from, FillsRows}
 use Rattle.qrcode_grid.proofs.canvas.data.draw_pair.Given as goal
 
 abbrev pub invariant-loop-part : goal.invariant-loop-part
 invariant-loop-part l = record {
-  fills : FillsRows l.columns 0 (min (4 * l.part) l.columns.width) (bits_from l.left_out l.codewords l.correction l.fn.bits) (bits_from l.left_out l.codewords l.correction l.ahead) l.fn.modules l.modules;
+  fills : FillsRows l.columns 0 (4 * l.part) (bits_from l.left_out l.codewords l.correction l.fn.bits) (bits_from l.left_out l.codewords l.correction l.ahead) l.fn.modules l.modules;
   small : l.ahead.left ≤ 8;
 }

@@ -6,6 +6,9 @@ use Rattle.qrcode_grid.proofs.AlignmentRows.{behind}
 use Rattle.qrcode_grid.proofs.CellSteps.{CellsChanged}
 use Rattle.qrcode_grid.proofs.canvas.drawing.draw_alignments.Given as goal
 
+abbrev pub invariant-loop-j : goal.invariant-loop-j
+invariant-loop-j l = CellsChanged (λ x y m. drawn_over (alignments l.fn.width (alignment_coordinates l.fn.n) x y) m) l.width l.fn.modules l.modules (behind l.fn.n l.j * l.width)
+
 abbrev pub invariant-loop-y : goal.invariant-loop-y
 invariant-loop-y l = CellsChanged (λ x y m. drawn_over (alignments l.fn.width (alignment_coordinates l.fn.n) x y) m) l.width l.fn.modules l.modules (l.y * l.width)
 

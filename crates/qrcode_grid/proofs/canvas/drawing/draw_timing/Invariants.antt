@@ -5,8 +5,8 @@ use Rattle.qrcode_grid.specs.Regions.{timing}
 use Rattle.qrcode_grid.proofs.CellSteps.{CellsChanged}
 use Rattle.qrcode_grid.proofs.canvas.drawing.draw_timing.Given as goal
 
+abbrev pub invariant-loop-x : goal.invariant-loop-x
+invariant-loop-x l = CellsChanged (λ x y m. drawn_over (timing l.fn.line l.fn.from l.fn.to x y) m) l.width l.fn.modules l.modules (l.line * l.width + l.x)
+
 abbrev pub invariant-loop-y : goal.invariant-loop-y
 invariant-loop-y l = CellsChanged (λ x y m. drawn_over (timing l.fn.line l.fn.from l.fn.to x y) m) l.width l.fn.modules l.modules (l.y * l.width)
-
-abbrev pub invariant-loop-x : goal.invariant-loop-x
-invariant-loop-x l = CellsChanged (λ x y m. drawn_over (timing l.fn.line l.fn.from l.fn.to x y) m) l.width l.fn.modules l.modules (l.y * l.width + l.x)
