@@ -1,7 +1,9 @@
 -- The numbers by which a caller is told of refusals.
 use Rattle.std.specs.Prelude.{ℤ, pos}
 use Rattle.qrcode_c.specs.declared.refusal.Refusal.{Refusal}
-use Rattle.qrcode_c.specs.declared.refusal.Refusal.TheVariants.{DataTooLong, OutOfMemory, InvalidLevel, InvalidMaxVersion, InvalidPartCount, InvalidCuts, InvalidIndex, ShortBuffer}
+use Rattle.qrcode_c.specs.declared.refusal.Refusal.TheVariants.{DataTooLong, OutOfMemory, InvalidLevel}
+use Rattle.qrcode_c.specs.declared.refusal.Refusal.TheVariants.{InvalidMaxVersion, InvalidPartCount}
+use Rattle.qrcode_c.specs.declared.refusal.Refusal.TheVariants.{InvalidCuts, InvalidIndex, ShortBuffer}
 
 abbrev pub status_of : Refusal → ℤ
 status_of DataTooLong = pos 1

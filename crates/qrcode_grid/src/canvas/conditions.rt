@@ -1,5 +1,6 @@
 //! Where the masks invert, eight masks at once: bit m of a byte is the condition of the mask with number m.
-ghost use Rattle.std.specs.Prelude.{◌≡◌, if◌then◌else◌, [], ℕ, ◌+◌, ◌*◌, ◌%◌, ◌<◌, ◌≤◌, length, slice_index, slice_index_or};
+ghost use Rattle.std.specs.Prelude.{◌≡◌, if◌then◌else◌, [], ℕ, ◌+◌, ◌*◌, ◌%◌, ◌<◌, ◌≤◌, length, slice_index};
+ghost use Rattle.std.specs.Prelude.{slice_index_or};
 ghost use Rattle.std.specs.Int.{bit_at};
 ghost use Rattle.qrcode_grid.specs.Masks.{is_inverted};
 ghost use Rattle.qrcode_grid.specs.Scoring.{pattern_of};
@@ -7,8 +8,8 @@ ghost use Rattle.qrcode_grid.specs.Scoring.{pattern_of};
 /// The cells of twelve rows of the widest symbol, and the six that may be written past their end.
 pub const STRIPE_CELLS: usize = 12 * 177 + 6;
 
-/// The conditions of the first six cells of the first twelve rows. Each later cell of a row is like the sixth before it, and each
-/// later row like the twelfth.
+/// The conditions of the first six cells of the first twelve rows. Each later cell of a row is like the sixth before
+/// it, and each later row like the twelfth.
 const CONDITIONS: [[u8; 6]; 12] = [
     [255, 114, 243, 110, 227, 98],
     [116, 81, 88, 133, 128, 137],
@@ -27,7 +28,8 @@ const CONDITIONS: [[u8; 6]; 12] = [
 /// The conditions of the first six cells of one of the first twelve rows.
 fn first_conditions(y: usize) -> [u8; 6]
     requires { y < 12 }
-    ensures { (m : ℕ) → (k : ℕ) → m < 8 → k < 6 → bit_at (slice_index result k) m ≡ (if is_inverted (pattern_of m) k y then 1 else 0) }
+    ensures { (m : ℕ) → (k : ℕ) → m < 8 → k < 6 →
+        bit_at (slice_index result k) m ≡ (if is_inverted (pattern_of m) k y then 1 else 0) }
 {
     CONDITIONS[y]
 }
@@ -44,13 +46,14 @@ fn write_six(first: &[u8; 6], from: usize, stripes: &mut [u8])
     }
 }
 
-/// Writes one of twelve rows by its first six cells, six cells at a time, and up to five cells past its end. What comes before the
-/// row stays.
+/// Writes one of twelve rows by its first six cells, six cells at a time, and up to five cells past its end. What comes
+/// before the row stays.
 fn write_stripe(first: &[u8; 6], width: usize, y: usize, stripes: &mut [u8])
     requires wide { width ≤ 177 }
     requires within { y < 12 }
     requires long { length stripes.old ≡ 12 * width + 6 }
-    ensures row { (x : ℕ) → x < width → slice_index stripes.new (y * width + x) ≡ slice_index first.now (x % 6) }
+    ensures row { (x : ℕ) → x < width →
+        slice_index stripes.new (y * width + x) ≡ slice_index first.now (x % 6) }
     ensures before { (k : ℕ) → k < y * width → slice_index stripes.new k ≡ slice_index stripes.old k }
 {
     for six in 0..(width + 5) / 6 {
@@ -62,7 +65,9 @@ fn write_stripe(first: &[u8; 6], width: usize, y: usize, stripes: &mut [u8])
 pub fn write_stripes(width: usize, stripes: &mut [u8])
     requires wide { width ≤ 177 }
     requires long { length stripes.old ≡ 12 * width + 6 }
-    ensures { (m : ℕ) → (x : ℕ) → (y : ℕ) → m < 8 → x < width → y < 12 → bit_at (slice_index stripes.new (y * width + x)) m ≡ (if is_inverted (pattern_of m) x y then 1 else 0) }
+    ensures { (m : ℕ) → (x : ℕ) → (y : ℕ) → m < 8 → x < width → y < 12 →
+        bit_at (slice_index stripes.new (y * width + x)) m ≡
+        (if is_inverted (pattern_of m) x y then 1 else 0) }
 {
     for y in 0..12 {
         write_stripe(&first_conditions(y), width, y, stripes);

@@ -40,9 +40,9 @@ pub fn scratch_length(width: usize) -> usize
     2 * padded_length(width) + 12 * width + 6
 }
 
-/// How much room a list of zeros for the scratch of a symbol has. A long one takes 400 KB, of which it touches what it needs: glibc
-/// gives memory back to the system after each symbol where more than 128 KB come free at the heap's end, and keeps twice as
-/// much as the greatest block that it has seen.
+/// How much room a list of zeros for the scratch of a symbol has. A long one takes 400 KB, of which it touches what it
+/// needs: glibc gives memory back to the system after each symbol where more than 128 KB come free at the heap's end,
+/// and keeps twice as much as the greatest block that it has seen.
 fn scratch_room(length: usize) -> usize {
     if length > 56_000 { 400_000 } else { 0 }
 }
@@ -69,7 +69,10 @@ fn write_padded(
     requires whole { length padded.old ≡ width * width + 20 * width + 16 }
     requires light { (k : ℕ) → slice_index padded.old k ≡ 0 }
     ensures padded { IsPadded width padded.new }
-    ensures candidates { (m : ℕ) → m < 8 → plane m (grid_in width padded.new) ≡ map byte_of (map color_of_module (masked_cells version width (slice_index words.now m) (pattern_of m) modules.now)) }
+    ensures candidates { (m : ℕ) → m < 8 →
+        plane m (grid_in width padded.new) ≡
+        map byte_of (map color_of_module
+        (masked_cells version width (slice_index words.now m) (pattern_of m) modules.now)) }
 {
     let first = 4 * width;
     let grid = &mut padded[first..first + width * width];
@@ -83,7 +86,9 @@ fn transpose_padded(width: usize, padded: &[u8], turned: &mut [u8])
     requires whole { length turned.old ≡ width * width + 20 * width + 16 }
     requires light { (k : ℕ) → slice_index turned.old k ≡ 0 }
     ensures turned { IsPadded width turned.new }
-    ensures transposed { (k : ℕ) → k < width * width → slice_index (grid_in width turned.new) k ≡ slice_index (grid_in width padded.now) (k % width * width + k / width) }
+    ensures transposed { (k : ℕ) → k < width * width →
+        slice_index (grid_in width turned.new) k ≡
+        slice_index (grid_in width padded.now) (k % width * width + k / width) }
 {
     let first = 4 * width;
     let end = first + width * width;
@@ -116,8 +121,8 @@ fn penalties_of_micro(width: usize, grid: &[u8], candidate: &mut [u8]) -> [usize
     penalties
 }
 
-/// The penalties of the modules under eight masks, each with its format word, by the numbers of the masks. The scratch list then
-/// holds the candidates.
+/// The penalties of the modules under eight masks, each with its format word, by the numbers of the masks. The scratch
+/// list then holds the candidates.
 pub fn penalties_of(
     modules: &[Module],
     version: Version,
@@ -130,8 +135,14 @@ pub fn penalties_of(
     requires square { length modules.now ≡ width * width }
     requires long { length scratch.old ≡ 2 * (width * width + 20 * width + 16) + (12 * width + 6) }
     requires light { (k : ℕ) → slice_index scratch.old k ≡ 0 }
-    ensures penalties { (m : ℕ) → m < 8 → slice_index result m ≡ modules_penalty version (map byte_of (map color_of_module (masked_cells version width (slice_index words.now m) (pattern_of m) modules.now))) }
-    ensures candidates { (m : ℕ) → m < 8 → plane m (grid_in width scratch.new) ≡ map byte_of (map color_of_module (masked_cells version width (slice_index words.now m) (pattern_of m) modules.now)) }
+    ensures penalties { (m : ℕ) → m < 8 →
+        slice_index result m ≡ modules_penalty version
+        (map byte_of (map color_of_module
+        (masked_cells version width (slice_index words.now m) (pattern_of m) modules.now))) }
+    ensures candidates { (m : ℕ) → m < 8 →
+        plane m (grid_in width scratch.new) ≡
+        map byte_of (map color_of_module
+        (masked_cells version width (slice_index words.now m) (pattern_of m) modules.now)) }
 {
     let size = padded_length(width);
     let (lists, stripes) = scratch.split_at_mut(2 * size);

@@ -66,8 +66,8 @@ pub fn refilled(codewords: &[u8], correction: &[u8], left_out: usize, bits: Bits
     }
 }
 
-/// The next eight bits, as the low bits of a number, and those that follow. There are none where the next codeword isn't a
-/// whole one.
+/// The next eight bits, as the low bits of a number, and those that follow. There are none where the next codeword
+/// isn't a whole one.
 #[inline(always)]
 pub fn next_eight(
     codewords: &[u8],

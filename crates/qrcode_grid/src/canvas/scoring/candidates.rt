@@ -1,6 +1,7 @@
-//! Eight candidates in one list of bytes, one for each mask: a byte a module, and bit m of it is the colour under the mask with
-//! number m.
-ghost use Rattle.std.specs.Prelude.{◌≡◌, if◌then◌else◌, ◌==◌, ℕ, ◌+◌, ◌-◌, ◌*◌, ◌/◌, ◌%◌, ◌<◌, ◌≤◌, length, map, slice_index, All};
+//! Eight candidates in one list of bytes, one for each mask: a byte a module, and bit m of it is the colour under the
+//! mask with number m.
+ghost use Rattle.std.specs.Prelude.{◌≡◌, if◌then◌else◌, ◌==◌, ℕ, ◌+◌, ◌-◌, ◌*◌, ◌/◌, ◌%◌, ◌<◌, ◌≤◌, length};
+ghost use Rattle.std.specs.Prelude.{map, slice_index, All};
 ghost use Rattle.std.specs.Int.{bit_at};
 ghost use Rattle.qrcode_base.specs.declared.types.Color.TheVariants.{Dark};
 ghost use Rattle.qrcode_grid.specs.Canvas.{color_of_module};
@@ -44,13 +45,17 @@ fn masked_bits(old: Module, conditions: u8) -> u8
     spread(code % 2 == 1) ^ (spread(code / 2 == 1) & conditions)
 }
 
-/// Writes the colours of some modules under eight masks, by the stripes from the first one on. What comes before them stays.
+/// Writes the colours of some modules under eight masks, by the stripes from the first one on. What comes before them
+/// stays.
 #[inline(never)]
 fn mask_part(modules: &[Module], stripes: &[u8], from: usize, count: usize, grid: &mut [u8])
     requires within { from + count ≤ length modules.now }
     requires stripes { count ≤ length stripes.now }
     requires long { length grid.old ≡ length modules.now }
-    ensures part { (m : ℕ) → (k : ℕ) → m < 8 → k < count → bit_at (slice_index grid.new (from + k)) m ≡ masked_code (slice_index (map code_of modules.now) (from + k)) (bit_at (slice_index stripes.now k) m == 1) }
+    ensures part { (m : ℕ) → (k : ℕ) → m < 8 → k < count →
+        bit_at (slice_index grid.new (from + k)) m ≡
+        masked_code (slice_index (map code_of modules.now) (from + k))
+        (bit_at (slice_index stripes.now k) m == 1) }
     ensures before { (k : ℕ) → k < from → slice_index grid.new k ≡ slice_index grid.old k }
 {
     for k in 0..count {
@@ -64,7 +69,10 @@ fn mask_rows(modules: &[Module], stripes: &[u8], width: usize, grid: &mut [u8])
     requires square { length modules.now ≡ width * width }
     requires stripes { 12 * width ≤ length stripes.now }
     requires long { length grid.old ≡ width * width }
-    ensures { (m : ℕ) → (x : ℕ) → (y : ℕ) → m < 8 → x < width → y < width → bit_at (slice_index grid.new (y * width + x)) m ≡ masked_code (slice_index (map code_of modules.now) (y * width + x)) (bit_at (slice_index stripes.now (y % 12 * width + x)) m == 1) }
+    ensures { (m : ℕ) → (x : ℕ) → (y : ℕ) → m < 8 → x < width → y < width →
+        bit_at (slice_index grid.new (y * width + x)) m ≡
+        masked_code (slice_index (map code_of modules.now) (y * width + x))
+        (bit_at (slice_index stripes.now (y % 12 * width + x)) m == 1) }
 {
     for part in 0..(width + 11) / 12 {
         let first = 12 * part;
@@ -98,7 +106,8 @@ fn with_digit(digits: u8, m: usize, digit: u8) -> u8
 /// One digit of eight words as the bits of a byte.
 fn digits_of(words: &[u32; 8], k: usize) -> u8
     requires { k < 32 }
-    ensures { (m : ℕ) → m < 8 → bit_at result m ≡ byte_of (digit_color (digit (slice_index words.now m) k)) }
+    ensures { (m : ℕ) → m < 8 → bit_at result m ≡
+        byte_of (digit_color (digit (slice_index words.now m) k)) }
 {
     let mut digits = 0;
     for m in 0..8 {
@@ -118,8 +127,8 @@ fn format_digits(words: &[u32; 8]) -> [u8; 15]
     digits
 }
 
-/// Writes a word of each candidate into a list of places, high digit first. It begins with the low digit, so that a place's first
-/// digit stays.
+/// Writes a word of each candidate into a list of places, high digit first. It begins with the low digit, so that a
+/// place's first digit stays.
 fn write_words(digits: &[u8; 15], places: &[(usize, usize)], width: usize, grid: &mut [u8])
     requires few { length places.now ≤ 15 }
     requires within { All (λ place. (place.0 < width) × (place.1 < width)) places.now }
@@ -178,7 +187,9 @@ pub fn write_candidates(
     requires square { length modules.now ≡ width * width }
     requires stripes { length stripes.old ≡ 12 * width + 6 }
     requires long { length grid.old ≡ width * width }
-    ensures { (m : ℕ) → m < 8 → plane m grid.new ≡ map byte_of (map color_of_module (masked_cells version width (slice_index words.now m) (pattern_of m) modules.now)) }
+    ensures { (m : ℕ) → m < 8 → plane m grid.new ≡
+        map byte_of (map color_of_module
+        (masked_cells version width (slice_index words.now m) (pattern_of m) modules.now)) }
 {
     write_stripes(width, stripes);
     mask_rows(modules, stripes, width, grid);

@@ -11,7 +11,8 @@ use std::simd::prelude::*;
 fn add_three(a: u8x16, b: u8x16, c: u8x16) -> (u8x16, u8x16)
     requires lanes { (length a ≡ 16) × (length b ≡ 16) × (length c ≡ 16) }
     ensures lanes { (length result.0 ≡ 16) × (length result.1 ≡ 16) }
-    ensures sum { (m : ℕ) → bit_count m result.0 + 2 * bit_count m result.1 ≡ bit_count m a + bit_count m b + bit_count m c }
+    ensures sum { (m : ℕ) → bit_count m result.0 + 2 * bit_count m result.1 ≡
+        bit_count m a + bit_count m b + bit_count m c }
 {
     let u = a ^ b;
     let v = a ^ c;
@@ -25,7 +26,9 @@ fn add_four(ones: u8x16, twos: u8x16, rows: &[u8x16; 16], from: usize) -> (u8x16
     requires rows { (i : ℕ) → i < 16 → length (slice_index_or rows.now i []) ≡ 16 }
     requires within { from + 4 ≤ 16 }
     ensures lanes { (length result.0 ≡ 16) × (length result.1 ≡ 16) × (length result.2 ≡ 16) }
-    ensures sum { (m : ℕ) → bit_count m result.0 + 2 * bit_count m result.1 + 4 * bit_count m result.2 ≡ bit_count m ones + 2 * bit_count m twos + sum_below (λ i. bit_count m (slice_index_or rows.now (from + i) [])) 4 }
+    ensures sum { (m : ℕ) → bit_count m result.0 + 2 * bit_count m result.1 + 4 * bit_count m result.2 ≡
+        bit_count m ones + 2 * bit_count m twos
+        + sum_below (λ i. bit_count m (slice_index_or rows.now (from + i) [])) 4 }
 {
     let (ones, first) = add_three(ones, rows[from], rows[from + 1]);
     let (ones, second) = add_three(ones, rows[from + 2], rows[from + 3]);
@@ -57,7 +60,8 @@ pub fn no_bits() -> Tally
 fn add_sixteen(planes: Planes, rows: &[u8x16; 16]) -> (Planes, u8x16)
     requires rows { (i : ℕ) → i < 16 → length (slice_index_or rows.now i []) ≡ 16 }
     ensures lanes { length result.1 ≡ 16 }
-    ensures sum { (m : ℕ) → held m result.0 + 16 * bit_count m result.1 ≡ held m planes + sum_below (λ i. bit_count m (slice_index_or rows.now i [])) 16 }
+    ensures sum { (m : ℕ) → held m result.0 + 16 * bit_count m result.1 ≡
+        held m planes + sum_below (λ i. bit_count m (slice_index_or rows.now i [])) 16 }
 {
     let (ones, twos, a) = add_four(planes.ones, planes.twos, rows, 0);
     let (ones, twos, b) = add_four(ones, twos, rows, 4);
@@ -104,7 +108,9 @@ fn add_counts(sums: &mut [usize; 8], lanes: u8x16)
 pub fn add_rows(tally: Tally, rows: &[u8x16; 16]) -> Tally
     requires rows { (i : ℕ) → i < 16 → length (slice_index_or rows.now i []) ≡ 16 }
     requires room { (m : ℕ) → m < 8 → slice_index tally.sums m ≤ 1000000 }
-    ensures more { (m : ℕ) → m < 8 → tallied m result ≡ tallied m tally + sum_below (λ i. bit_count m (slice_index_or rows.now i [])) 16 }
+    ensures more { (m : ℕ) → m < 8 →
+        tallied m result ≡ tallied m tally
+        + sum_below (λ i. bit_count m (slice_index_or rows.now i [])) 16 }
     ensures small { (m : ℕ) → m < 8 → slice_index result.sums m ≤ slice_index tally.sums m + 16 }
 {
     let (planes, sixteens) = add_sixteen(tally.planes, rows);

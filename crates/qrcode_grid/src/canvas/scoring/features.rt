@@ -1,11 +1,12 @@
 //! Where sixteen places have what the penalty counts, in eight candidates at once.
 ghost use Rattle.std.specs.Prelude.{◌≡◌, ◌==◌, ◌+◌, ◌*◌, ◌≤◌, length, slice_index};
-ghost use Rattle.qrcode_grid.specs.Scoring.{Marks, plane, cell, has, has_five, has_six, has_finder, has_square, is_quiet, reach};
+ghost use Rattle.qrcode_grid.specs.Scoring.{Marks, plane, cell, has, has_five, has_six, has_finder};
+ghost use Rattle.qrcode_grid.specs.Scoring.{has_square, is_quiet, reach};
 
 use std::simd::prelude::*;
 
-/// What is looked for from a place on: five or six modules of one colour from four rows below on, a finder-like pattern there with
-/// light modules on one side, a square of one colour, a dark module.
+/// What is looked for from a place on: five or six modules of one colour from four rows below on, a finder-like pattern
+/// there with light modules on one side, a square of one colour, a dark module.
 #[derive(Clone, Copy)]
 pub enum Feature {
     Five,
@@ -42,7 +43,8 @@ fn light(bytes: &[u8], width: usize, at: usize, row: usize) -> u8x16
 fn same(bytes: &[u8], at: usize, other: usize) -> u8x16
     requires first { at + 16 ≤ length bytes.now }
     requires second { other + 16 ≤ length bytes.now }
-    ensures { Marks result (λ m j. slice_index (plane m bytes.now) (at + j) == slice_index (plane m bytes.now) (other + j)) }
+    ensures { Marks result (λ m j. slice_index (plane m bytes.now) (at + j) ==
+        slice_index (plane m bytes.now) (other + j)) }
 {
     u8x16::from_slice(&bytes[at..]) ^ !u8x16::from_slice(&bytes[other..])
 }
@@ -53,7 +55,8 @@ fn same_rows(bytes: &[u8], width: usize, at: usize, row: usize) -> u8x16
     requires wide { width ≤ 177 }
     requires row { row ≤ 8 }
     requires within { at + (row + 1) * width + 16 ≤ length bytes.now }
-    ensures { Marks result (λ m j. cell width (plane m bytes.now) (at + j) row == cell width (plane m bytes.now) (at + j) (row + 1)) }
+    ensures { Marks result (λ m j. cell width (plane m bytes.now) (at + j) row ==
+        cell width (plane m bytes.now) (at + j) (row + 1)) }
 {
     same(bytes, at + row * width, at + (row + 1) * width)
 }

@@ -28,7 +28,8 @@ pub fn mask_number(pattern: MaskPattern) -> usize
 /// The format words of the masks of a version's family, by the numbers of the masks in Normal symbols.
 pub fn format_words(version: Version, level: EcLevel) -> [u32; 8]
     requires { IsSymbol version level }
-    ensures { (p : MaskPattern) → IsOfFamily version p → slice_index result (normal_number p) ≡ format_word version level p }
+    ensures { (p : MaskPattern) → IsOfFamily version p →
+        slice_index result (normal_number p) ≡ format_word version level p }
 {
     match version {
         Version::Normal(_) => [

@@ -1,5 +1,6 @@
 //! How many places have what the penalty counts, in eight candidates at once.
-ghost use Rattle.std.specs.Prelude.{◌≡◌, ◌&&◌, nat_lt, ℕ, ◌+◌, ◌-◌, ◌*◌, ◌<◌, ◌≤◌, [], length, slice_index, slice_index_or};
+ghost use Rattle.std.specs.Prelude.{◌≡◌, ◌&&◌, nat_lt, ℕ, ◌+◌, ◌-◌, ◌*◌, ◌<◌, ◌≤◌, [], length, slice_index};
+ghost use Rattle.std.specs.Prelude.{slice_index_or};
 ghost use Rattle.qrcode_grid.specs.Sums.{count_below};
 ghost use Rattle.qrcode_grid.specs.Scoring.{Marks, plane, has, has_five, has_six, has_finder, reach, tallied};
 
@@ -27,7 +28,8 @@ fn first_lanes(count: usize) -> u8x16
 fn places_below(feature: Feature, bytes: &[u8], width: usize, at: usize, bound: usize) -> u8x16
     requires wide { width ≤ 177 }
     requires within { bound + reach feature width + 16 ≤ length bytes.now }
-    ensures { Marks result (λ m j. nat_lt (at + j) bound && has feature width (plane m bytes.now) (at + j)) }
+    ensures { Marks result (λ m j. nat_lt (at + j) bound &&
+        has feature width (plane m bytes.now) (at + j)) }
 {
     if at >= bound {
         return u8x16::splat(0);
@@ -45,7 +47,8 @@ fn rows_of(feature: Feature, bytes: &[u8], width: usize, at: usize) -> [u8x16; 1
     requires wide { width ≤ 177 }
     requires few { at ≤ 40000 }
     requires within { at + 256 + reach feature width ≤ length bytes.now }
-    ensures { (i : ℕ) → i < 16 → Marks (slice_index_or result i []) (λ m j. has feature width (plane m bytes.now) (at + 16 * i + j)) }
+    ensures { (i : ℕ) → i < 16 → Marks (slice_index_or result i []) (λ m j.
+        has feature width (plane m bytes.now) (at + 16 * i + j)) }
 {
     let mut rows = [u8x16::splat(0); 16];
     for pair in 0..8 {
@@ -63,7 +66,8 @@ fn rows_below(feature: Feature, bytes: &[u8], width: usize, at: usize, bound: us
     requires wide { width ≤ 177 }
     requires few { at ≤ 40000 }
     requires within { bound + reach feature width + 16 ≤ length bytes.now }
-    ensures { (i : ℕ) → i < 16 → Marks (slice_index_or result i []) (λ m j. nat_lt (at + 16 * i + j) bound && has feature width (plane m bytes.now) (at + 16 * i + j)) }
+    ensures { (i : ℕ) → i < 16 → Marks (slice_index_or result i []) (λ m j.
+        nat_lt (at + 16 * i + j) bound && has feature width (plane m bytes.now) (at + 16 * i + j)) }
 {
     if at + 256 <= bound {
         return rows_of(feature, bytes, width, at);
@@ -89,9 +93,11 @@ fn count_from(
     requires few { bound ≤ 40000 }
     requires within { bound + reach feature width + 16 ≤ length bytes.now }
     requires first { 256 * first ≤ bound }
-    requires so_far { (m : ℕ) → m < 8 → tallied m tally ≡ count_below (has feature width (plane m bytes.now)) (256 * first) }
+    requires so_far { (m : ℕ) → m < 8 →
+        tallied m tally ≡ count_below (has feature width (plane m bytes.now)) (256 * first) }
     requires small { (m : ℕ) → m < 8 → slice_index tally.sums m ≤ 16 * first }
-    ensures is { (m : ℕ) → m < 8 → slice_index result m ≡ count_below (has feature width (plane m bytes.now)) bound }
+    ensures is { (m : ℕ) → m < 8 → slice_index result m ≡
+        count_below (has feature width (plane m bytes.now)) bound }
     ensures small { (m : ℕ) → m < 8 → slice_index result m ≤ bound }
 {
     let mut tally = tally;
@@ -108,14 +114,15 @@ pub fn count(feature: Feature, bytes: &[u8], width: usize, bound: usize) -> [usi
     requires wide { width ≤ 177 }
     requires few { bound ≤ 40000 }
     requires within { bound + reach feature width + 16 ≤ length bytes.now }
-    ensures is { (m : ℕ) → m < 8 → slice_index result m ≡ count_below (has feature width (plane m bytes.now)) bound }
+    ensures is { (m : ℕ) → m < 8 → slice_index result m ≡
+        count_below (has feature width (plane m bytes.now)) bound }
     ensures small { (m : ℕ) → m < 8 → slice_index result m ≤ bound }
 {
     count_from(feature, bytes, width, bound, 0, no_bits())
 }
 
-/// Which of 256 places have five and six of one colour below them, and which a finder-like pattern, in each candidate. All three
-/// look at the same modules.
+/// Which of 256 places have five and six of one colour below them, and which a finder-like pattern, in each candidate.
+/// All three look at the same modules.
 #[inline(always)]
 fn write_column_rows(
     bytes: &[u8],
@@ -128,9 +135,12 @@ fn write_column_rows(
     requires wide { width ≤ 177 }
     requires few { at ≤ 40000 }
     requires within { at + 256 + 14 * width ≤ length bytes.now }
-    ensures fives { (i : ℕ) → i < 16 → Marks (slice_index_or fives.new i []) (λ m j. has_five width (plane m bytes.now) (at + 16 * i + j)) }
-    ensures sixes { (i : ℕ) → i < 16 → Marks (slice_index_or sixes.new i []) (λ m j. has_six width (plane m bytes.now) (at + 16 * i + j)) }
-    ensures finders { (i : ℕ) → i < 16 → Marks (slice_index_or finders.new i []) (λ m j. has_finder width (plane m bytes.now) (at + 16 * i + j)) }
+    ensures fives { (i : ℕ) → i < 16 → Marks (slice_index_or fives.new i []) (λ m j.
+        has_five width (plane m bytes.now) (at + 16 * i + j)) }
+    ensures sixes { (i : ℕ) → i < 16 → Marks (slice_index_or sixes.new i []) (λ m j.
+        has_six width (plane m bytes.now) (at + 16 * i + j)) }
+    ensures finders { (i : ℕ) → i < 16 → Marks (slice_index_or finders.new i []) (λ m j.
+        has_finder width (plane m bytes.now) (at + 16 * i + j)) }
 {
     for pair in 0..8 {
         let i = 2 * pair;
@@ -149,10 +159,15 @@ fn write_column_rows(
 pub fn count_columns(bytes: &[u8], width: usize) -> ([usize; 8], [usize; 8], [usize; 8])
     requires wide { (16 ≤ width) × (width ≤ 177) }
     requires within { width * width + 14 * width + 16 ≤ length bytes.now }
-    ensures fives { (m : ℕ) → m < 8 → slice_index result.0 m ≡ count_below (has_five width (plane m bytes.now)) ((width - 4) * width) }
-    ensures sixes { (m : ℕ) → m < 8 → slice_index result.1 m ≡ count_below (has_six width (plane m bytes.now)) ((width - 5) * width) }
-    ensures finders { (m : ℕ) → m < 8 → slice_index result.2 m ≡ count_below (has_finder width (plane m bytes.now)) (width * width) }
-    ensures small { (m : ℕ) → m < 8 → (slice_index result.0 m ≤ 40000) × (slice_index result.2 m ≤ 40000) }
+    ensures fives { (m : ℕ) → m < 8 →
+        slice_index result.0 m ≡ count_below (has_five width (plane m bytes.now))
+        ((width - 4) * width) }
+    ensures sixes { (m : ℕ) → m < 8 →
+        slice_index result.1 m ≡ count_below (has_six width (plane m bytes.now)) ((width - 5) * width) }
+    ensures finders { (m : ℕ) → m < 8 →
+        slice_index result.2 m ≡ count_below (has_finder width (plane m bytes.now)) (width * width) }
+    ensures small { (m : ℕ) → m < 8 → (slice_index result.0 m ≤ 40000)
+        × (slice_index result.2 m ≤ 40000) }
 {
     let whole = (width - 5) * width / 256;
     let mut fives = no_bits();
