@@ -51,11 +51,8 @@ fn rows_of(feature: Feature, bytes: &[u8], width: usize, at: usize) -> [u8x16; 1
         has feature width (plane m bytes.now) (at + 16 * i + j)) }
 {
     let mut rows = [u8x16::splat(0); 16];
-    for pair in 0..8 {
-        let i = 2 * pair;
-        let here = at + 16 * i;
-        rows[i] = places_of(feature, bytes, width, here);
-        rows[i + 1] = places_of(feature, bytes, width, here + 16);
+    for i in 0..16 {
+        rows[i] = places_of(feature, bytes, width, at + 16 * i);
     }
     rows
 }
