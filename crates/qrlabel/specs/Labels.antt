@@ -52,5 +52,6 @@ abbrev pub Refuses : Label → List ℕ → QrError → Type 0
 Refuses asked = IsRefusalAs asked.kind asked.level
 
 -- the label that is asked for was drawn
-abbrev pub ServesLabel : Label → (unread left written now handed_on before after : Option (List ℕ)) → (deaf dumb mute : Bool) → ℕ → Type 0
+abbrev pub ServesLabel : Label → (unread left written now handed_on before after : Option (List ℕ)) →
+    (deaf dumb mute : Bool) → ℕ → Type 0
 ServesLabel asked = Serves (Shows asked) (Refuses asked) program

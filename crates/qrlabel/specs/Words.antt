@@ -10,8 +10,8 @@ use Rattle.qrlabel.specs.declared.wanted.Kind.TheVariants.{Usual, Micro}
 use Rattle.qrlabel.specs.declared.wanted.Wanted.{Wanted}
 use Rattle.qrlabel.specs.Options.{AsksNumber}
 
--- What is asked for: the form of the picture, the level and the kind of the symbol, how many pixels the side of a module has,
--- how many modules wide the zone is, and whether text is for a dark screen.
+-- What is asked for: the form of the picture, the level and the kind of the symbol, how many pixels the side of a module
+-- has, how many modules wide the zone is, and whether text is for a dark screen.
 pub record Label : Type 0 where
   pub format : Format
   pub level : EcLevel
@@ -76,8 +76,8 @@ abbrev pub usual_quiet : Kind → ℕ
 usual_quiet Micro = 2
 usual_quiet _ = 4
 
--- The words ask for a label: a format, a level with white space around it perhaps, perhaps a kind, and then options in any
--- order. Of those that stand there more than once the last one counts.
+-- The words ask for a label: a format, a level with white space around it perhaps, perhaps a kind, and then options in
+-- any order. Of those that stand there more than once the last one counts.
 pub record Ask (words : List (List ℕ)) (asked : Label) : Type 0 where
   pub level_word : List ℕ
   pub settings : List Setting

@@ -48,7 +48,8 @@ pub fn given_by<'a>(words: &[&'a str]) -> Option<Given<'a>>
 /// The option that the words begin with.
 fn first_choice<'a>(words: &[&'a str]) -> Option<Choice<'a>>
     ensures { MatchOption result
-        ((setting : Setting) (rest : List (List ℕ)) → map (λ word. word.now) words.now ≡ setting_words setting ++ rest → ⊥)
+        ((setting : Setting) (rest : List (List ℕ)) →
+        map (λ word. word.now) words.now ≡ setting_words setting ++ rest → ⊥)
         (λ choice. (rest : List (List ℕ)) ×
         (map (λ word. word.now) words.now ≡ setting_words (setting_of choice) ++ rest)) }
 {
@@ -84,8 +85,10 @@ fn word_count(choice: Choice) -> usize
 
 /// The options with one more, which counts.
 fn with<'a>(mut given: Given<'a>, choice: Choice<'a>) -> Given<'a>
-    ensures scale { option_copied result.scale ≡ with_scale (option_copied given.entry.scale) (setting_of choice.entry) }
-    ensures quiet { option_copied result.quiet ≡ with_quiet (option_copied given.entry.quiet) (setting_of choice.entry) }
+    ensures scale { option_copied result.scale ≡
+        with_scale (option_copied given.entry.scale) (setting_of choice.entry) }
+    ensures quiet { option_copied result.quiet ≡
+        with_quiet (option_copied given.entry.quiet) (setting_of choice.entry) }
     ensures inverted { result.inverted ≡ with_inverted given.entry.inverted (setting_of choice.entry) }
 {
     match choice {
