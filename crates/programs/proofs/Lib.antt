@@ -1,1 +1,3 @@
 pub mod DeviceLemmas
+pub mod OutcomeLemmas
+pub mod Levels

@@ -1,2 +1,4 @@
 pub mod Devices
 pub mod Faults
+pub mod Symbols
+pub mod Outcome

@@ -1,31 +1,73 @@
--- A label that is written, or begun.
-use Rattle.std.proofs.Common.{◌≡◌, ℕ, Bool, Option, List, Result, Ok, Err, is_err}
-use Rattle.std.specs.Prelude.{OnOk, IfErr}
-use Rattle.programs.specs.Devices.{Writes}
-use Rattle.programs.specs.declared.fault.Fault.{Fault}
-use Rattle.programs.specs.declared.fault.Fault.TheVariants.{Write}
+-- What a renderer by its name makes of a grid, where the configuration asks for one drawing.
+use Rattle.std.proofs.Common.{◌≡◌, ℕ, Bool, List, refl, sym, ◌∙◌, subst, Result, Ok, Err}
+use Rattle.std.specs.Prelude.{IfOk, IfErr}
 use Rattle.qrcode_core.specs.declared.plugin.config.RenderConfig.{RenderConfig}
 use Rattle.qrcode_core.specs.declared.plugin.error.PluginError.{PluginError}
+use Rattle.qrcode_core.specs.declared.plugin.error.PluginError.TheVariants.{RendererNotFound, EncoderNotFound, InvalidConfig, InvalidModuleGrid, RenderFailed, EncodeFailed, PostProcessFailed, OutOfMemory}
 use Rattle.qrcode_core.specs.declared.plugin.output.RenderOutput.{RenderOutput}
+use Rattle.qrcode_core.specs.declared.plugin.output.RenderOutput.TheVariants.{Text, Bytes, Modules}
+use Rattle.qrcode_core.specs.Configs.{render_options}
 use Rattle.qrcode_core.specs.Grids.{Grid}
+use Rattle.qrlabel.specs.declared.wanted.Format.{Format}
+use Rattle.qrlabel.specs.declared.wanted.Format.TheVariants.{Svg, Pbm, Terminal}
+use Rattle.qrlabel.specs.Labels.{picture_as}
 use Rattle.qrlabel.specs.Named.{RendersByName}
-use Rattle.qrlabel.specs.Labels.{Label, IsLabel, Gives, Begins}
+use Rattle.qrlabel.specs.Options.{Asks}
+use Rattle.qrlabel.specs.Pictures.{Picture, picture}
+use Rattle.qrlabel.specs.Rendered.{Renders, Draws, IsDrawable, IsOutput, ShowsBitmap, ShowsSvg, ShowsTerminal}
+use Rattle.qrlabel.specs.Words.{format_word}
+use Rattle.qrlabel.proofs.AskLemmas.{one_number, one_flag}
 
-begins : (asked : Label) (unread left written now handed_on : Option (List ℕ)) (e : Fault) → e ≡ Write → Begins asked unread left written now → Gives asked unread left written now handed_on (Err e)
-begins asked unread left written now handed_on e is begun = rw is begun
+module _ (grid : Grid) (config : RenderConfig) (scale quiet : ℕ) (inverted : Bool) (asks : (usual : ℕ) → Asks usual (render_options config) scale quiet inverted) where
+  -- The drawing is the one that is asked for.
+  one_drawing : (usual : ℕ) (Shows : Bool → Picture → RenderOutput → Type 0) (output : RenderOutput) → Draws usual Shows grid config output → Shows inverted (picture grid scale quiet) output
+  one_drawing usual Shows output d =
+      let s = one_number _ usual 1 64 d.scale scale d.asked.scale_is (asks usual).scale_is in
+      let q = one_number _ 4 0 16 d.quiet quiet d.asked.quiet_is (asks usual).quiet_is in
+      let i = one_flag _ d.inverted inverted d.asked.inverted_is (asks usual).inverted_is in
+      subst (λ (flag : Bool). Shows flag (picture grid scale quiet) output) i
+      (subst (λ (n : ℕ). Shows d.inverted (picture grid scale n) output) q
+      (subst (λ (n : ℕ). Shows d.inverted (picture grid n d.quiet) output) s d.shows))
 
--- what writing answers is what drawing does
-pub gives_written : (asked : Label) (unread left written now handed_on : Option (List ℕ)) (failed : Bool) (picture text : List ℕ) (result : Result (Unit {0}) Fault)
-    → IsLabel asked unread left picture → text ≡ picture → Writes written now failed text → OnOk result (handed_on ≡ now) → failed ≡ is_err result → IfErr result (λ e. e ≡ Write)
-    → Gives asked unread left written now handed_on result
-gives_written asked unread left written now handed_on failed picture text (Ok done) drawn same writes flushed sound fault =
-    let w = rw same at writes in
-    record { picture = picture; label = drawn; appends = w.whole sound; flushed = flushed }
-gives_written asked unread left written now handed_on failed picture text (Err e) drawn same writes flushed sound fault =
-    let w = rw same at writes in
-    begins asked unread left written now handed_on e fault (record { picture = picture; label = drawn; beginning = w.beginning })
+  written : (format : Format) (output : RenderOutput) → RendersByName (format_word format) grid config (Ok output) → IsOutput output (picture_as format inverted (picture grid scale quiet))
+  written Svg (Text text) h = one_drawing 8 ShowsSvg (Text text) (h.svg refl)
+  written Svg (Bytes bytes) h = absurd (one_drawing 8 ShowsSvg (Bytes bytes) (h.svg refl))
+  written Svg (Modules modules) h = one_drawing 8 ShowsSvg (Modules modules) (h.svg refl)
+  written Pbm (Text text) h = absurd (one_drawing 8 ShowsBitmap (Text text) (h.pbm refl))
+  written Pbm (Bytes bytes) h = one_drawing 8 ShowsBitmap (Bytes bytes) (h.pbm refl)
+  written Pbm (Modules modules) h = one_drawing 8 ShowsBitmap (Modules modules) (h.pbm refl)
+  written Terminal (Text text) h = one_drawing 1 ShowsTerminal (Text text) (h.terminal refl)
+  written Terminal (Bytes bytes) h = absurd (one_drawing 1 ShowsTerminal (Bytes bytes) (h.terminal refl))
+  written Terminal (Modules modules) h = one_drawing 1 ShowsTerminal (Modules modules) (h.terminal refl)
 
--- the answer at a grid is that at the same grid by another name
-pub drawn_at : (name : List ℕ) (grid middle same_grid : Grid) (config : RenderConfig) (answer same_answer : Result RenderOutput PluginError)
-    → RendersByName name grid config answer → answer ≡ same_answer → middle ≡ same_grid → middle ≡ grid → RendersByName name same_grid config same_answer
-drawn_at name grid middle same_grid config answer same_answer h is first same = rw (← first, same, ← is) h
+  -- Only memory can want: the configuration asks for a drawing, and the grid can be drawn.
+  wants_memory : (usual : ℕ) (Shows : Bool → Picture → RenderOutput → Type 0) (error : PluginError) → IsDrawable grid → Renders usual Shows grid config (Err error) → error ≡ OutOfMemory
+  wants_memory usual Shows (RendererNotFound s) small h = absurd h
+  wants_memory usual Shows (EncoderNotFound s) small h = absurd h
+  wants_memory usual Shows (InvalidConfig s) small h = absurd (h scale quiet inverted (asks usual))
+  wants_memory usual Shows InvalidModuleGrid small h = absurd h
+  wants_memory usual Shows (RenderFailed s) small h = absurd (h small)
+  wants_memory usual Shows (EncodeFailed s) small h = absurd h
+  wants_memory usual Shows (PostProcessFailed s) small h = absurd h
+  wants_memory usual Shows OutOfMemory small h = refl
+
+  refused : (format : Format) (error : PluginError) → IsDrawable grid → RendersByName (format_word format) grid config (Err error) → error ≡ OutOfMemory
+  refused Svg error small h = wants_memory 8 ShowsSvg error small (h.svg refl)
+  refused Pbm error small h = wants_memory 8 ShowsBitmap error small (h.pbm refl)
+  refused Terminal error small h = wants_memory 1 ShowsTerminal error small (h.terminal refl)
+
+  pub answer_drawn : (format : Format) (answer : Result RenderOutput PluginError) → RendersByName (format_word format) grid config answer →
+      IfOk answer (λ output. IsOutput output (picture_as format inverted (picture grid scale quiet)))
+  answer_drawn format (Ok output) h = written format output h
+  answer_drawn format (Err error) h = tt
+
+  pub answer_refused : (format : Format) (answer : Result RenderOutput PluginError) → IsDrawable grid → RendersByName (format_word format) grid config answer → IfErr answer (λ e. e ≡ OutOfMemory)
+  answer_refused format (Ok output) small h = tt
+  answer_refused format (Err error) small h = refused format error small h
+
+-- the answer at a name and a grid is that at the same ones by other names
+pub drawn_at : (name same_name : List ℕ) (grid middle same_grid : Grid) (config : RenderConfig) (answer : Result RenderOutput PluginError)
+    → RendersByName name grid config answer → name ≡ same_name → middle ≡ same_grid → middle ≡ grid → RendersByName same_name same_grid config answer
+drawn_at name same_name grid middle same_grid config answer h named is first =
+    subst (λ (n : List ℕ). RendersByName n same_grid config answer) named
+    (subst (λ (g : Grid). RendersByName name g config answer) (sym first ∙ is) h)

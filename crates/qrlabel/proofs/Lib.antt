@@ -4,4 +4,7 @@ pub mod TerminalLemmas
 pub mod PathLemmas
 pub mod NameLemmas
 pub mod CoverLemmas
+pub mod WordLemmas
+pub mod AskLemmas
+pub mod OptionLemmas
 pub mod LabelLemmas

@@ -7,4 +7,6 @@ pub mod Options
 pub mod Rendered
 pub mod Named
 pub mod Covered
+pub mod Words
+pub mod Choices
 pub mod Labels

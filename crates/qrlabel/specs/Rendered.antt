@@ -1,5 +1,5 @@
 -- What the renderers answer.
-use Rattle.std.specs.Prelude.{◌≡◌, ℕ, ◌≤◌, Bool, Result, Ok, Err}
+use Rattle.std.specs.Prelude.{◌≡◌, ℕ, ◌≤◌, Bool, List, Result, Ok, Err}
 use Rattle.std.specs.String.{string_bytes}
 use Rattle.qrcode_core.specs.declared.plugin.config.RenderConfig.{RenderConfig}
 use Rattle.qrcode_core.specs.declared.plugin.error.PluginError.{PluginError}
@@ -31,6 +31,12 @@ ShowsTerminal inverted p _ = ⊥
 abbrev pub ShowsSvg : Bool → Picture → RenderOutput → Type 0
 ShowsSvg inverted p (Text text) = string_bytes text ≡ svg_text p
 ShowsSvg inverted p _ = ⊥
+
+-- the bytes of an output that is written
+abbrev pub IsOutput : RenderOutput → List ℕ → Type 0
+IsOutput (Text text) bytes = string_bytes text ≡ bytes
+IsOutput (Bytes list) bytes = list.items ≡ bytes
+IsOutput _ bytes = ⊥
 
 -- the output shows the grid as the options ask
 pub record Draws (usual : ℕ) (Shows : Bool → Picture → RenderOutput → Type 0) (grid : Grid) (config : RenderConfig)

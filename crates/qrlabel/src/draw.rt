@@ -1,46 +1,53 @@
 //! From the bytes of a source to the label of their symbol.
-ghost use Rattle.std.specs.Prelude.{◌≡◌, ◌≢◌, ◌≤◌, ◌↔◌, length, IsTrue, IsFalse, IfOk, IfErr, OnOk, IsErrOf};
-ghost use Rattle.qrlabel.specs.Labels.{label, Gives, IfRefused, IsLabel, IsRefused, IsRefusalOf, IsShown, IsSymbolOf};
+ghost use Rattle.std.specs.Prelude.{◌≡◌, ◌≢◌, ℕ, ◌≤◌, ◌↔◌, length, IsTrue, IsFalse, IfOk, IfErr, OnOk, IsErrOf};
+ghost use Rattle.programs.specs.Devices.{ReadsAtMost};
+ghost use Rattle.programs.specs.Outcome.{IsDrawing, IsRefused, IfRefused, Gives};
+ghost use Rattle.qrcode_core.specs.Configs.{render_options};
+ghost use Rattle.qrlabel.specs.Labels.{IsSymbolAs, IsRefusalAs, Shows, Refuses, picture_for};
+ghost use Rattle.qrlabel.specs.Options.{Asks};
+ghost use Rattle.qrlabel.specs.Rendered.{IsOutput};
+ghost use Rattle.qrlabel.specs.Words.{label_of};
 
 use crate::bundle::render_by_name;
+use crate::options::configured;
+use crate::wanted::{Kind, Wanted};
 use programs::copying::{read_all, write_all};
 use programs::devices::{Sink, Source};
 use programs::fault::Fault;
-use qrcode_core::plugin::{RenderConfig, RenderOutput};
+use qrcode_core::plugin::{PluginError, RenderConfig, RenderOutput};
 use qrcode_core::symbol::Symbol;
+use qrcode_core::traits::ModuleSource;
 use qrcode_core::types::{EcLevel, QrError};
 use std::alloc::Global;
 
-/// What is drawn: the renderer by its name, the level, and whether the symbol is Micro.
-#[derive(Clone, Copy)]
-pub struct Wanted<'a> {
-    pub format: &'a str,
-    pub level: EcLevel,
-    pub micro: bool,
-}
-
 /// Reads to the end, writes the label of the symbol of all that was read, and flushes. Of more than 7089 bytes, which
-/// no symbol holds, it reads 7090.
+/// no symbol holds, it reads 7090. Without memory for its configuration it reads nothing.
 pub fn draw<R: Source, W: Sink>(
     alloc: Global,
     reader: &mut R,
     writer: &mut W,
     wanted: Wanted,
-    config: &RenderConfig,
 ) -> Result<(), Fault>
     requires reader_sound { IsFalse (R.has_failed reader.old) }
     requires writer_sound { IsFalse (W.has_failed writer.old) }
 
-    ensures outcome { Gives (label wanted.entry.format.now wanted.entry.level wanted.entry.micro config.now)
+    ensures outcome { Gives (Shows (label_of wanted)) (Refuses (label_of wanted))
         (R.remaining reader.old) (R.remaining reader.new)
         (W.written writer.old) (W.written writer.new) (W.handed_on writer.new) result }
+
+    // No more is read than is too many, and less where the reader failed.
+    ensures few { ReadsAtMost 7090 (R.remaining reader.old) (R.remaining reader.new) }
+    ensures fewer { IsErrOf result Fault.Read → ReadsAtMost 7089 (R.remaining reader.old) (R.remaining reader.new) }
 
     // A device's fault is answered exactly where that device failed.
     ensures read { IsErrOf result Fault.Read ↔ IsTrue (R.has_failed reader.new) }
     ensures write { IsErrOf result Fault.Write ↔ IsTrue (W.has_failed writer.new) }
 {
-    let picture = drawing(alloc, reader, wanted, config)?;
-    write_all(writer, &picture)
+    let Ok(config) = configured(alloc, wanted.request) else {
+        return Err(Fault::Symbol(QrError::OutOfMemory));
+    };
+    let label = drawing(alloc, reader, wanted, &config)?;
+    write_all(writer, &label)
 }
 
 /// Reads to the end, and answers the label of the symbol of all that was read.
@@ -50,48 +57,69 @@ fn drawing<R: Source>(
     wanted: Wanted,
     config: &RenderConfig,
 ) -> Result<Vec<u8>, Fault>
-    requires { IsFalse (R.has_failed reader.old) }
-    ensures drawn { IfOk result (λ picture.
-        IsLabel (label wanted.entry.format.now wanted.entry.level wanted.entry.micro config.now)
-        (R.remaining reader.old) (R.remaining reader.new) picture.items) }
-    ensures refused { IfErr result (IfRefused (λ error.
-        IsRefused (label wanted.entry.format.now wanted.entry.level wanted.entry.micro config.now) error
+    requires sound { IsFalse (R.has_failed reader.old) }
+    requires asked { (usual : ℕ) → Asks usual (render_options config.now)
+        wanted.request.scale wanted.request.quiet wanted.request.inverted }
+    ensures drawn { IfOk result (λ label. IsDrawing (Shows (label_of wanted))
+        (R.remaining reader.old) (R.remaining reader.new) label.items) }
+    ensures refused { IfErr result (IfRefused (λ error. IsRefused (Refuses (label_of wanted)) error
         (R.remaining reader.old) (R.remaining reader.new))) }
+    ensures few { ReadsAtMost 7090 (R.remaining reader.old) (R.remaining reader.new) }
+    ensures fewer { IsErrOf result Fault.Read → ReadsAtMost 7089 (R.remaining reader.old) (R.remaining reader.new) }
     ensures read { IsErrOf result Fault.Read ↔ IsTrue (R.has_failed reader.new) }
     ensures no_write { IfErr result (λ e. e ≢ Fault.Write) }
 {
     let bytes = read_all(alloc, reader)?;
-    let symbol = encoded(alloc, &bytes, wanted.level, wanted.micro)?;
-    shown(alloc, wanted.format, &symbol, config)
+    let symbol = encoded(alloc, &bytes, wanted.level, wanted.kind)?;
+    shown(alloc, wanted, &symbol, config)
 }
 
-/// The best symbol, or the best Micro symbol, of the bytes.
-fn encoded(alloc: Global, bytes: &[u8], level: EcLevel, micro: bool) -> Result<Symbol, QrError>
-    ensures best { IfOk result (λ symbol. IsSymbolOf micro bytes.now level symbol.modules) }
+/// The symbol of this kind of the bytes.
+fn encoded(alloc: Global, bytes: &[u8], level: EcLevel, kind: Kind) -> Result<Symbol, QrError>
+    ensures symbol { IfOk result (λ symbol. IsSymbolAs kind level bytes.now symbol) }
     ensures limit { OnOk result (length bytes.now ≤ 7089) }
-    ensures refused { IfErr result (IsRefusalOf micro bytes.now level) }
+    ensures refused { IfErr result (IsRefusalAs kind level bytes.now) }
 {
-    if micro {
-        Symbol::micro(alloc, bytes, level)
-    } else {
-        Symbol::new(alloc, bytes, level)
+    match kind {
+        Kind::Usual => Symbol::new(alloc, bytes, level),
+        Kind::Micro => Symbol::micro(alloc, bytes, level),
     }
 }
 
-/// The bytes of a symbol's picture. What the renderers refuse here is told as want of memory.
+/// The bytes of a symbol's picture. It is refused for want of memory alone.
 fn shown(
     alloc: Global,
-    format: &str,
+    wanted: Wanted,
     symbol: &Symbol,
     config: &RenderConfig,
 ) -> Result<Vec<u8>, Fault>
-    ensures drawn { IfOk result (λ picture. IsShown format.now symbol.now config.now picture.items) }
+    requires { (usual : ℕ) → Asks usual (render_options config.now)
+        wanted.request.scale wanted.request.quiet wanted.request.inverted }
+    ensures drawn { IfOk result (λ label. label.items ≡ picture_for (label_of wanted) symbol.now) }
     ensures refused { IfErr result (λ e. e ≡ Fault.Symbol QrError.OutOfMemory) }
 {
-    let view = symbol.module_view();
-    match render_by_name(alloc, format, &view, config) {
+    match rendered(alloc, wanted, symbol, config) {
         Ok(RenderOutput::Text(text)) => Ok(Vec::from_slice(alloc, text.as_bytes())?),
         Ok(RenderOutput::Bytes(bytes)) => Ok(bytes),
-        _ => Err(Fault::Symbol(QrError::OutOfMemory)),
+        Ok(RenderOutput::Modules(_)) => unreachable!(),
+        Err(PluginError::OutOfMemory) => Err(Fault::Symbol(QrError::OutOfMemory)),
+        Err(_) => unreachable!(),
     }
+}
+
+/// What the renderer that is wanted makes of a symbol. No symbol is too large for it, and the configuration is clear.
+fn rendered(
+    alloc: Global,
+    wanted: Wanted,
+    symbol: &Symbol,
+    config: &RenderConfig,
+) -> Result<RenderOutput, PluginError>
+    requires { (usual : ℕ) → Asks usual (render_options config.now)
+        wanted.request.scale wanted.request.quiet wanted.request.inverted }
+    ensures drawn { IfOk result (λ output. IsOutput output (picture_for (label_of wanted) symbol.now)) }
+    ensures refused { IfErr result (λ e. e ≡ PluginError.OutOfMemory) }
+{
+    let _sides = (symbol.width(), symbol.height());
+    let view = symbol.module_view();
+    render_by_name(alloc, wanted.format.word(), &view, config)
 }

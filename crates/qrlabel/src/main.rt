@@ -4,6 +4,7 @@
 mod bitmap;
 mod bundle;
 mod draw;
+mod given;
 pub mod laws;
 mod options;
 mod picture;
@@ -13,6 +14,7 @@ mod svg;
 mod terminal;
 #[cfg(test)]
 mod tests;
+mod wanted;
 
 use crate::run::{give_up, run};
 use programs::devices::{FromReader, FromWriter};

@@ -1,10 +1,13 @@
 //! What the options of a configuration ask of a renderer.
-ghost use Rattle.std.specs.Prelude.{◌≡◌, ℕ, ◌≤◌, Bool, codes, MatchOption, IfSome};
+ghost use Rattle.std.specs.Prelude.{◌≡◌, ℕ, ◌≤◌, Bool, codes, decimal, MatchOption, IfOk, IfErr, IfSome, Some};
+ghost use Rattle.std.specs.Option.{option_copied};
+ghost use Rattle.std.specs.String.{string_bytes};
 ghost use Rattle.qrcode_core.specs.Configs.{render_options};
 ghost use Rattle.qrcode_core.specs.Texts.{at_key};
 ghost use Rattle.qrlabel.specs.Options.{Asks, AsksForNone, AsksFlag, AsksNumber};
 
-use qrcode_core::plugin::RenderConfig;
+use qrcode_core::plugin::{PluginError, RenderConfig};
+use std::alloc::{AllocError, Global};
 
 /// How a grid is to be drawn.
 #[derive(Clone, Copy, Debug, PartialEq, Eq)]
@@ -28,8 +31,8 @@ pub fn request_of(config: &RenderConfig, usual_scale: usize) -> Option<Request>
         (AsksForNone usual_scale (render_options config.now))
         (λ r. Asks usual_scale (render_options config.now) r.scale r.quiet r.inverted) }
 {
-    let scale = number(config, "scale", usual_scale, 1, 64)?;
-    let quiet = number(config, "quiet", 4, 0, 16)?;
+    let scale = number(config.option("scale"), usual_scale, 1, 64)?;
+    let quiet = number(config.option("quiet"), 4, 0, 16)?;
     let inverted = flag(config, "inverted")?;
     Some(Request {
         scale,
@@ -38,22 +41,16 @@ pub fn request_of(config: &RenderConfig, usual_scale: usize) -> Option<Request>
     })
 }
 
-/// The number that an option asks for.
-fn number(
-    config: &RenderConfig,
-    key: &str,
-    usual: usize,
-    least: usize,
-    most: usize,
-) -> Option<usize>
+/// The number that the text of an option asks for.
+pub fn number(text: Option<&str>, usual: usize, least: usize, most: usize) -> Option<usize>
     requires at_least { least ≤ usual }
     requires at_most { usual ≤ most }
     ensures within { IfSome result (λ n. (least ≤ n) × (n ≤ most)) }
     ensures asked { MatchOption result
-        ((n : ℕ) → AsksNumber (at_key (render_options config.now) key.now) usual least most n → ⊥)
-        (AsksNumber (at_key (render_options config.now) key.now) usual least most) }
+        ((n : ℕ) → AsksNumber (option_copied text.entry) usual least most n → ⊥)
+        (AsksNumber (option_copied text.entry) usual least most) }
 {
-    let Some(text) = config.option(key) else {
+    let Some(text) = text else {
         return Some(usual);
     };
     let n = text.parse::<usize>().ok()?;
@@ -80,4 +77,33 @@ fn flag(config: &RenderConfig, key: &str) -> Option<bool>
     } else {
         None
     }
+}
+
+/// The configuration that asks for just this.
+pub fn configured(alloc: Global, request: Request) -> Result<RenderConfig, PluginError>
+    ensures asked { IfOk result (λ config. (usual : ℕ) →
+        Asks usual (render_options config) request.scale request.quiet request.inverted) }
+    ensures memory { IfErr result (λ e. e ≡ PluginError.OutOfMemory) }
+{
+    let scale = decimal(alloc, request.scale)?;
+    let quiet = decimal(alloc, request.quiet)?;
+    let inverted = flag_word(request.inverted);
+    RenderConfig::new(alloc)
+        .with_option("scale", scale.as_str())?
+        .with_option("quiet", quiet.as_str())?
+        .with_option("inverted", inverted)
+}
+
+/// The word for a flag.
+fn flag_word(flag: bool) -> &'static str
+    ensures { AsksFlag (Some result.now) flag }
+{
+    if flag { "true" } else { "false" }
+}
+
+/// A number in decimal digits.
+fn decimal(alloc: Global, n: usize) -> Result<String, AllocError>
+    ensures { IfOk result (λ text. string_bytes text ≡ decimal n) }
+{
+    format!(in alloc; "{n}")
 }

@@ -1,6 +1,8 @@
-//! Pictures of small grids, written by hand from the formats, and refusals.
+//! Pictures of small grids, written by hand from the formats, refusals, and the words of the command line.
 use crate::bundle::render_by_name;
 use crate::renderers::{Pbm, Svg, Terminal};
+use crate::run::run;
+use programs::devices::{FromReader, FromWriter};
 use qrcode_core::plugin::{DynRenderer, PluginError, RenderConfig, RenderOutput};
 use qrcode_core::traits::ModuleView;
 use qrcode_core::types::Color;
@@ -184,5 +186,55 @@ fn draws_by_name(rt: HostRuntime) -> Result<(), PluginError> {
     }
     let missing = render_by_name(alloc, "png", &view, &config);
     assert!(rt; matches!(missing, Err(PluginError::RendererNotFound(_))));
+    Ok(())
+}
+
+/// The words, the status, and how many bytes are written: a bitmap of so many columns and rows.
+#[test]
+fn runs(rt: HostRuntime) -> Result<(), PluginError> {
+    let rows: [(&[&str], u8, usize); 15] = [
+        (&["pbm", "L"], 0, 11 + 29 * 232),
+        (&["pbm", "L", "--scale", "1"], 0, 9 + 4 * 29),
+        (
+            &[
+                "pbm", " l ", "--scale", "x", "--quiet", "0", "--scale", "+1",
+            ],
+            0,
+            9 + 3 * 21,
+        ),
+        (
+            &["pbm", "q", "micro", "--inverted", "--scale", "1"],
+            0,
+            9 + 3 * 21,
+        ),
+        (&["pbm", "H", "micro"], 1, 0),
+        (&[], 2, 0),
+        (&["pbm"], 2, 0),
+        (&["png", "L"], 2, 0),
+        (&["pbm", "X"], 2, 0),
+        (&["pbm", "L", "mikro"], 2, 0),
+        (&["pbm", "L", "--scale", "0"], 2, 0),
+        (&["pbm", "L", "--scale", "65"], 2, 0),
+        (&["pbm", "L", "--quiet", "17"], 2, 0),
+        (&["pbm", "L", "--scale"], 2, 0),
+        (&["pbm", "L", "--inverted", "micro"], 2, 0),
+    ];
+    let usage =
+        "usage: qrlabel svg|pbm|terminal L|M|Q|H [micro] [--scale N] [--quiet N] [--inverted]\n";
+    for (words, status, length) in rows {
+        let mut bytes: &[u8] = b"hello";
+        let mut picture: Vec<u8> = Vec::new(rt.alloc());
+        let mut said: Vec<u8> = Vec::new(rt.alloc());
+        let mut reader = FromReader::new(&mut bytes);
+        let mut writer = FromWriter::new(&mut picture);
+        let mut errors = FromWriter::new(&mut said);
+        let answer = run(rt.alloc(), words, &mut reader, &mut writer, &mut errors);
+        assert_eq!(rt; answer, status, "{words:?}");
+        assert_eq!(rt; picture.len(), length, "{words:?}");
+        if status == 2 {
+            assert_eq!(rt; said.as_slice(), usage.as_bytes());
+            assert_eq!(rt; bytes.len(), 5, "{words:?}");
+        }
+    }
     Ok(())
 }

@@ -2,9 +2,10 @@
 ghost use Rattle.std.specs.Prelude.{◌≡◌, ℕ, ◌≢◌, ◌*◌, ◌≤◌, ◌↔◌, ◌⊎◌, length, take, IsTrue, IsFalse, IfOk, IfErr, OnOk, OnErr, IsErrOf, is_err, Some};
 ghost use Rattle.std.specs.Io.KnownBytes.{Keeps, Appends, Consumes, IsAtEnd};
 ghost use Rattle.programs.specs.Devices.{ReadsEnough, ReadsAtMost, Writes};
-ghost use Rattle.qrtext.specs.Outcome.{IsDrawing, IsRefused, IfRefused, Gives};
+ghost use Rattle.programs.specs.Outcome.{IsDrawing, IsRefused, IfRefused, Gives};
+ghost use Rattle.programs.specs.Symbols.{IsSymbolOf, IsRefusalOf};
 ghost use Rattle.qrcode_core.specs.Headline.{IsSquare};
-ghost use Rattle.qrtext.specs.Drawing.{IsSymbolOf, IsRefusalOf};
+ghost use Rattle.qrtext.specs.Drawing.{Shows};
 
 use crate::text::text_of;
 use programs::copying::{read_all, write_all};
@@ -26,8 +27,8 @@ pub fn draw<R: Source, W: Sink>(
     requires reader_sound { IsFalse (R.has_failed reader.old) }
     requires writer_sound { IsFalse (W.has_failed writer.old) }
 
-    ensures outcome { Gives micro level (R.remaining reader.old) (R.remaining reader.new)
-        (W.written writer.old) (W.written writer.new) (W.handed_on writer.new) result }
+    ensures outcome { Gives (Shows micro level) (IsRefusalOf micro level)
+        (R.remaining reader.old) (R.remaining reader.new) (W.written writer.old) (W.written writer.new) (W.handed_on writer.new) result }
 
     // No more is read than is too many, and less where the reader failed.
     ensures few { ReadsAtMost 7090 (R.remaining reader.old) (R.remaining reader.new) }
@@ -49,8 +50,8 @@ fn drawing<R: Source>(
     micro: bool,
 ) -> Result<Vec<u8>, Fault>
     requires { IsFalse (R.has_failed reader.old) }
-    ensures drawn { IfOk result (λ text. IsDrawing micro level (R.remaining reader.old) (R.remaining reader.new) text.items) }
-    ensures refused { IfErr result (IfRefused (λ error. IsRefused micro level error (R.remaining reader.old) (R.remaining reader.new))) }
+    ensures drawn { IfOk result (λ text. IsDrawing (Shows micro level) (R.remaining reader.old) (R.remaining reader.new) text.items) }
+    ensures refused { IfErr result (IfRefused (λ error. IsRefused (IsRefusalOf micro level) error (R.remaining reader.old) (R.remaining reader.new))) }
     ensures few { ReadsAtMost 7090 (R.remaining reader.old) (R.remaining reader.new) }
     ensures fewer { IsErrOf result Fault.Read → ReadsAtMost 7089 (R.remaining reader.old) (R.remaining reader.new) }
     ensures read { IsErrOf result Fault.Read ↔ IsTrue (R.has_failed reader.new) }
@@ -72,10 +73,10 @@ fn width_of(grid: &[Color]) -> usize
 
 /// The grid of the symbol, or of the Micro symbol, of the bytes.
 fn encoded(alloc: Global, bytes: &[u8], level: EcLevel, micro: bool) -> Result<Vec<Color>, QrError>
-    ensures grid { IfOk result (λ grid. IsSymbolOf micro bytes.now level grid.items) }
+    ensures grid { IfOk result (λ grid. IsSymbolOf micro level bytes.now grid.items) }
     ensures square { IfOk result (λ grid. IsSquare grid.items) }
     ensures limit { OnOk result (length bytes.now ≤ 7089) }
-    ensures refused { IfErr result (IsRefusalOf micro bytes.now level) }
+    ensures refused { IfErr result (IsRefusalOf micro level bytes.now) }
 {
     if micro {
         symbol_micro(alloc, bytes, level)

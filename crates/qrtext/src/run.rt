@@ -3,7 +3,7 @@ ghost use Rattle.std.specs.Prelude.{◌≡◌, ℕ, map, codes, ◌↔◌, IsTru
 ghost use Rattle.programs.specs.Devices.{Writes};
 ghost use Rattle.programs.specs.Faults.{Says};
 ghost use Rattle.qrtext.specs.Words.{Request, request, Ask, AskForNone};
-ghost use Rattle.qrtext.specs.Status.{program, usage, Serves};
+ghost use Rattle.qrtext.specs.Status.{program, usage, ServesText};
 
 use crate::draw::draw;
 use programs::copying::write_all;
@@ -55,7 +55,7 @@ pub fn run<R: Source, W: Sink, E: Sink>(
     // Words that ask for nothing have the status 2, and nothing is read or drawn.
     ensures misused { AskForNone (map (λ word. word.now) words.now) → (result ≡ 2)
         × (reader.new ≡ reader.old) × (writer.new ≡ writer.old) × Writes (E.written errors.old) (E.written errors.new) (E.has_failed errors.new) usage }
-    ensures served { (asked : Request) → Ask (map (λ word. word.now) words.now) asked → Serves asked
+    ensures served { (asked : Request) → Ask (map (λ word. word.now) words.now) asked → ServesText asked
         (R.remaining reader.old) (R.remaining reader.new) (W.written writer.old) (W.written writer.new)
         (W.handed_on writer.new) (E.written errors.old) (E.written errors.new)
         (R.has_failed reader.new) (W.has_failed writer.new) (E.has_failed errors.new) result }

@@ -4,6 +4,7 @@
 pub mod grids;
 pub mod labels;
 pub mod plans;
+pub mod registries;
 pub mod sequences;
 pub mod streams;
 pub mod symbols;

@@ -1,0 +1,10 @@
+-- Which setting a choice of the program is.
+use Rattle.qrlabel.specs.declared.given.Choice.{Choice}
+use Rattle.qrlabel.specs.declared.given.Choice.TheVariants.{Scale as ChoosesScale, Quiet as ChoosesQuiet}
+use Rattle.qrlabel.specs.declared.given.Choice.TheVariants.{Inverted as ChoosesInverted}
+use Rattle.qrlabel.specs.Words.{Setting, Scale, Quiet, Inverted}
+
+abbrev pub setting_of : Choice → Setting
+setting_of (ChoosesScale text) = Scale text.now
+setting_of (ChoosesQuiet text) = Quiet text.now
+setting_of ChoosesInverted = Inverted

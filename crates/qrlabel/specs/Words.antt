@@ -1,0 +1,92 @@
+-- What the words of the command line ask for.
+use Rattle.std.specs.Prelude.{◌≡◌, ℕ, Bool, true, false, List, [], ◌∷◌, ◌++◌, codes, flat_map, fold, Option, None, Some}
+use Rattle.std.specs.Str.{trim}
+use Rattle.qrcode_core.specs.declared.types.EcLevel.{EcLevel}
+use Rattle.qrcode_core.specs.Names.{NamesLevel}
+use Rattle.qrlabel.specs.declared.wanted.Format.{Format}
+use Rattle.qrlabel.specs.declared.wanted.Format.TheVariants.{Svg, Pbm, Terminal}
+use Rattle.qrlabel.specs.declared.wanted.Kind.{Kind}
+use Rattle.qrlabel.specs.declared.wanted.Kind.TheVariants.{Usual, Micro}
+use Rattle.qrlabel.specs.declared.wanted.Wanted.{Wanted}
+use Rattle.qrlabel.specs.Options.{AsksNumber}
+
+-- What is asked for: the form of the picture, the level and the kind of the symbol, how many pixels the side of a module
+-- has, how many modules wide the zone is, and whether text is for a dark screen.
+pub record Label : Type 0 where
+  pub format : Format
+  pub level : EcLevel
+  pub kind : Kind
+  pub scale : ℕ
+  pub quiet : ℕ
+  pub inverted : Bool
+
+abbrev pub label_of : Wanted → Label
+label_of w = record {
+  format = w.format;
+  level = w.level;
+  kind = w.kind;
+  scale = w.request.scale;
+  quiet = w.request.quiet;
+  inverted = w.request.inverted;
+}
+
+-- an option, with the text of its number
+pub data Setting : Type 0 where
+  Scale : List ℕ → Setting
+  Quiet : List ℕ → Setting
+  Inverted : Setting
+
+-- the words
+abbrev pub format_word : Format → List ℕ
+format_word Svg = codes "svg"
+format_word Pbm = codes "pbm"
+format_word Terminal = codes "terminal"
+
+abbrev pub kind_words : Kind → List (List ℕ)
+kind_words Usual = []
+kind_words Micro = codes "micro" ∷ []
+
+abbrev pub setting_words : Setting → List (List ℕ)
+setting_words (Scale text) = codes "--scale" ∷ text ∷ []
+setting_words (Quiet text) = codes "--quiet" ∷ text ∷ []
+setting_words Inverted = codes "--inverted" ∷ []
+
+abbrev pub spelled : List Setting → List (List ℕ)
+spelled settings = flat_map setting_words settings
+
+-- the text of the last `--scale`, if there is one, that of the last `--quiet`, and whether there is an `--inverted`
+abbrev pub with_scale : Option (List ℕ) → Setting → Option (List ℕ)
+with_scale before (Scale text) = Some text
+with_scale before _ = before
+
+abbrev pub with_quiet : Option (List ℕ) → Setting → Option (List ℕ)
+with_quiet before (Quiet text) = Some text
+with_quiet before _ = before
+
+abbrev pub with_inverted : Bool → Setting → Bool
+with_inverted before Inverted = true
+with_inverted before _ = before
+
+-- how many pixels a module usually has, and how many modules wide the zone usually is
+abbrev pub usual_scale : Format → ℕ
+usual_scale Terminal = 1
+usual_scale _ = 8
+
+abbrev pub usual_quiet : Kind → ℕ
+usual_quiet Micro = 2
+usual_quiet _ = 4
+
+-- The words ask for a label: a format, a level with white space around it perhaps, perhaps a kind, and then options in
+-- any order. Of those that stand there more than once the last one counts.
+pub record Ask (words : List (List ℕ)) (asked : Label) : Type 0 where
+  pub level_word : List ℕ
+  pub settings : List Setting
+  pub words_are : words ≡ format_word asked.format ∷ level_word ∷ kind_words asked.kind ++ spelled settings
+  pub level_is : NamesLevel (trim level_word) asked.level
+  pub scale_is : AsksNumber (fold with_scale None settings) (usual_scale asked.format) 1 64 asked.scale
+  pub quiet_is : AsksNumber (fold with_quiet None settings) (usual_quiet asked.kind) 0 16 asked.quiet
+  pub inverted_is : asked.inverted ≡ fold with_inverted false settings
+
+-- They ask for none.
+abbrev pub AskForNone : List (List ℕ) → Type 0
+AskForNone words = (asked : Label) → Ask words asked → ⊥
