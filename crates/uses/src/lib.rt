@@ -3,6 +3,7 @@
 
 pub mod grids;
 pub mod labels;
+pub mod lines;
 pub mod plans;
 pub mod registries;
 pub mod sequences;
