@@ -1,4 +1,4 @@
-use Rattle.std.proofs.Common.{◌≡◌, ℕ, ◌<◌, ◌≤◌, ◌+◌, ◌-◌, ◌*◌, suc, get_or, ap, ◌∙◌, sym, subst, arith, Some}
+use Rattle.std.proofs.Common.{◌≡◌, ℕ, ◌<◌, ◌+◌, ◌-◌, ◌*◌, suc, get_or, ap, ◌∙◌, sym, subst, arith, Some}
 use Rattle.std.proofs.lemmas.Nat.{mul-add-lt}
 use Rattle.qrcode_grid.specs.Masks.{drawn_over}
 use Rattle.qrcode_grid.specs.Regions.{alignments, alignment_coordinates, alignment_coordinate, alignment_count, near, pattern_at}

@@ -1,4 +1,4 @@
-use Rattle.std.proofs.Common.{ℕ, List, ◌+◌, ◌*◌, ◌<◌, ◌≡◌, length, slice_set, length-set, subst, ◌∙◌, arith}
+use Rattle.std.proofs.Common.{ℕ, ◌+◌, ◌*◌, ◌<◌, ◌≡◌, slice_set, length-set, subst, ◌∙◌, arith}
 use Rattle.qrcode_grid.specs.Scoring.{Marks, has_five, has_six, has_finder, plane}
 use Rattle.qrcode_grid.proofs.Tallies.{two_rows_set}
 use Rattle.qrcode_grid.proofs.canvas.scoring.tally.write_column_rows.Goals as goal
