@@ -1,5 +1,5 @@
 -- Regions that say nothing, and what regions say together.
-use Rattle.std.proofs.Common.{◌≡◌, zero, suc, ℕ, ℤ, pos, negsuc, nat_abs, subst, ◌<◌, ◌+◌, ◌*◌, ap, ◌∙◌, sym, refl, arith, true, false, nat_lt, nat_le, ◌==◌, ◌&&◌, ◌||◌, ◌≢◌, Option, Some, None, option_map, cond, [], ◌∷◌}
+use Rattle.std.proofs.Common.{◌≡◌, ◌-◌, ◌≤◌, Bool, zero, suc, ℕ, ℤ, pos, negsuc, nat_abs, subst, ◌<◌, ◌+◌, ◌*◌, ap, ◌∙◌, sym, refl, arith, true, false, nat_lt, nat_le, ◌==◌, ◌&&◌, ◌||◌, ◌≢◌, Option, Some, None, option_map, cond, [], ◌∷◌}
 use Rattle.std.specs.Option.{option_or}
 use Rattle.std.proofs.lemmas.Bool.Decides.{nat_tests}
 use Rattle.qrcode_base.specs.declared.types.Color.{Color}
@@ -15,6 +15,34 @@ pub no_version : (n x y : ℕ) → n < 7 → version_copies n x y ≡ None
 no_version n x y h =
     let t : nat_lt n 7 ≡ true = grind (arith, nat_tests) in
     ap (λ b. cond b None (option_map (λ k. digit_color (digit (version_word n) k)) (option_or (version_digit (4 * n + 17) x y) (version_digit (4 * n + 17) y x)))) t
+
+none_either : (b : Bool) (o : Option Color) → o ≡ None → cond b None o ≡ None
+none_either true o e = refl
+none_either false o e = e
+
+-- the cells in which no version word lies
+no_version_cell : (n x y : ℕ) → (nat_lt x 6 && nat_le (4 * n + 17 - 11) y && nat_lt y (4 * n + 17 - 8)) ≡ false →
+    (nat_lt y 6 && nat_le (4 * n + 17 - 11) x && nat_lt x (4 * n + 17 - 8)) ≡ false → version_copies n x y ≡ None
+no_version_cell n x y t u =
+    let w = 4 * n + 17 in
+    ap (λ b. cond (nat_lt n 7) None (option_map (λ k. digit_color (digit (version_word n) k)) (option_or (cond b (Some (3 * x + (y - (w - 11)))) None) (version_digit w y x)))) t
+    ∙ ap (λ b. cond (nat_lt n 7) None (option_map (λ k. digit_color (digit (version_word n) k)) (cond b (Some (3 * y + (x - (w - 11)))) None))) u
+    ∙ none_either (nat_lt n 7) None refl
+
+pub no_version_before : (n x y : ℕ) → 7 ≤ n → y < 6 → x + 11 < 4 * n + 17 → version_copies n x y ≡ None
+no_version_before n x y some row before = no_version_cell n x y (grind (arith, nat_tests, some, row)) (grind (arith, nat_tests, before))
+
+pub no_version_behind : (n x y : ℕ) → 7 ≤ n → y < 6 → 4 * n + 17 ≤ x + 8 → version_copies n x y ≡ None
+no_version_behind n x y some row behind = no_version_cell n x y (grind (arith, nat_tests, some, row)) (grind (arith, nat_tests, behind))
+
+pub no_version_between : (n x y : ℕ) → 6 ≤ y → y + 11 < 4 * n + 17 → version_copies n x y ≡ None
+no_version_between n x y low high = no_version_cell n x y (grind (arith, nat_tests, high)) (grind (arith, nat_tests, low))
+
+pub no_version_beside : (n x y : ℕ) → 7 ≤ n → 4 * n + 17 ≤ y + 11 → 6 ≤ x → version_copies n x y ≡ None
+no_version_beside n x y some low beside = no_version_cell n x y (grind (arith, nat_tests, beside)) (grind (arith, nat_tests, some, low))
+
+pub no_version_below : (n x y : ℕ) → 7 ≤ n → 4 * n + 17 ≤ y + 8 → version_copies n x y ≡ None
+no_version_below n x y some low = no_version_cell n x y (grind (arith, nat_tests, low)) (grind (arith, nat_tests, some, low))
 
 pub no_alignments : (n w x y : ℕ) → n < 2 → alignments w (alignment_coordinates n) x y ≡ None
 no_alignments zero w x y h = refl
