@@ -1,0 +1,208 @@
+//! The choice of a mask: the first of least penalty.
+ghost use Rattle.std.specs.Prelude.{◌≡◌, ◌*◌, ◌<◌, ◌≤◌, length, slice_get, Some};
+ghost use Rattle.qrcode_grid.specs.Masks.{family, IsOfFamily};
+ghost use Rattle.qrcode_grid.specs.Penalty.{score, IsFirstLeast};
+
+use crate::canvas::repeated::repeated;
+use crate::canvas::scoring::formats::{format_words, mask_number};
+use crate::canvas::scoring::{penalties_of, scratch_length, write_colors, zeros};
+use crate::canvas::{Canvas, MaskPattern};
+use qrcode_base::types::{Color, QrError, QrResult, Version};
+use std::alloc::Global;
+
+/// What is told of a penalty: less 720 in Normal symbols, and at most 65535.
+fn score_of(version: Version, penalty: usize) -> u16
+    ensures { result ≡ score version penalty }
+{
+    let told = match version {
+        Version::Normal(_) => penalty.saturating_sub(720),
+        Version::Micro(_) => penalty,
+    };
+    if told < 65535 { told as u16 } else { 65535 }
+}
+
+/// How many masks the family of a version has.
+fn family_size(version: Version) -> usize
+    ensures is { result ≡ length (family version) }
+    ensures some { (0 < result) × (result ≤ 8) }
+{
+    match version {
+        Version::Normal(_) => 8,
+        Version::Micro(_) => 4,
+    }
+}
+
+/// The mask at a place of the family.
+fn pattern_at(version: Version, i: usize) -> MaskPattern
+    requires { i < length (family version) }
+    ensures is { slice_get (family version) i ≡ Some result }
+    ensures family { IsOfFamily version result }
+{
+    match (version, i) {
+        (Version::Normal(_), 0) => MaskPattern::Checkerboard,
+        (Version::Normal(_), 1) | (Version::Micro(_), 0) => MaskPattern::HorizontalLines,
+        (Version::Normal(_), 2) => MaskPattern::VerticalLines,
+        (Version::Normal(_), 3) => MaskPattern::DiagonalLines,
+        (Version::Normal(_), 4) | (Version::Micro(_), 1) => MaskPattern::LargeCheckerboard,
+        (Version::Normal(_), 5) => MaskPattern::Fields,
+        (Version::Normal(_), 6) | (Version::Micro(_), 2) => MaskPattern::Diamonds,
+        _ => MaskPattern::Meadow,
+    }
+}
+
+/// The place of the first least value.
+pub fn first_least(values: &[usize]) -> usize
+    requires { 0 < length values.now }
+    ensures { IsFirstLeast values.now result }
+{
+    let mut best = 0;
+    for i in 1..values.len() {
+        if values[i] < values[best] {
+            best = i;
+        }
+    }
+    best
+}
+
+impl Canvas {
+    ghost use Rattle.std.specs.Prelude.{◌≡◌, ◌+◌, ◌*◌, ◌≤◌, IfOk, IfErr, length, map, slice_index};
+    ghost use Rattle.qrcode_base.specs.Symbols.{width_of};
+    ghost use Rattle.qrcode_grid.specs.declared.canvas.MaskPattern.{MaskPattern};
+    ghost use Rattle.qrcode_grid.specs.Lanes.{byte_of};
+    ghost use Rattle.qrcode_grid.specs.Scoring.{grid_in, plane};
+    ghost use Rattle.qrcode_grid.specs.Canvas.{with_mask};
+    ghost use Rattle.qrcode_grid.specs.Masks.{IsOfFamily, normal_number};
+    ghost use Rattle.qrcode_grid.specs.Canvas.{colors_of, mask_penalties, IsBestMask, IsBestMasked};
+    ghost use Rattle.qrcode_grid.specs.Penalty.{penalty, score};
+
+    /// The candidates under the masks of the family, in a scratch list, and their penalties, by the numbers of the
+    /// masks in Normal symbols.
+    fn candidates(&self, alloc: Global) -> QrResult<(Vec<u8>, [usize; 8])>
+        ensures candidates { IfOk result (λ r. (p : MaskPattern) → IsOfFamily self.now.version p →
+            plane (normal_number p) (grid_in (width_of self.now.version) r.0.items) ≡
+            map byte_of (colors_of (with_mask p self.now))) }
+        ensures penalties { IfOk result (λ r. (p : MaskPattern) → IsOfFamily self.now.version p →
+            slice_index r.1 (normal_number p) ≡
+            penalty self.now.version (colors_of (with_mask p self.now))) }
+        ensures long { IfOk result (λ r. 4 * width_of self.now.version + length self.now.modules ≤
+            length r.0.items) }
+        ensures refusal { IfErr result (λ e. e ≡ QrError.OutOfMemory) }
+    {
+        let words = format_words(self.version, self.level);
+        let mut scratch = zeros(alloc, scratch_length(self.width))?;
+        let penalties = penalties_of(
+            &self.modules,
+            self.version,
+            self.width,
+            &words,
+            &mut scratch,
+        );
+        Ok((scratch, penalties))
+    }
+
+    /// The penalties after each mask of the family, by the penalties by the numbers of the masks.
+    fn penalties_in_order(&self, alloc: Global, numbered: &[usize; 8]) -> QrResult<Vec<usize>>
+        requires { (p : MaskPattern) → IsOfFamily self.now.version p →
+            slice_index numbered.now (normal_number p) ≡
+            penalty self.now.version (colors_of (with_mask p self.now)) }
+        ensures is { IfOk result (λ values. values.items ≡ mask_penalties self.now) }
+        ensures refusal { IfErr result (λ e. e ≡ QrError.OutOfMemory) }
+    {
+        let mut values = Vec::with_capacity(alloc, 8)?;
+        for i in 0..family_size(self.version) {
+            let pattern = pattern_at(self.version, i);
+            values.push(numbered[mask_number(pattern)])?;
+        }
+        Ok(values)
+    }
+
+    /// The penalty that the canvas would have after each mask of its family, in the order of the masks' numbers
+    /// (ISO/IEC 18004, evaluation of data masking results).
+    ///
+    /// The only error is want of memory.
+    pub fn penalties(&self, alloc: Global) -> QrResult<Vec<usize>>
+        ensures is { IfOk result (λ values. values.items ≡ mask_penalties self.now) }
+        ensures refusal { IfErr result (λ e. e ≡ QrError.OutOfMemory) }
+    {
+        let (_, numbered) = self.candidates(alloc)?;
+        self.penalties_in_order(alloc, &numbered)
+    }
+
+    /// The first mask of least penalty, and that penalty, by the penalties by the numbers of the masks.
+    fn best_of(&self, alloc: Global, numbered: &[usize; 8]) -> QrResult<(MaskPattern, usize)>
+        requires { (p : MaskPattern) → IsOfFamily self.now.version p →
+            slice_index numbered.now (normal_number p) ≡
+            penalty self.now.version (colors_of (with_mask p self.now)) }
+        ensures best { IfOk result (λ r. IsBestMask self.now r.0) }
+        ensures family { IfOk result (λ r. IsOfFamily self.now.version r.0) }
+        ensures least { IfOk result (λ r.
+            r.1 ≡ penalty self.now.version (colors_of (with_mask r.0 self.now))) }
+        ensures refusal { IfErr result (λ e. e ≡ QrError.OutOfMemory) }
+    {
+        let values = self.penalties_in_order(alloc, numbered)?;
+        let i = first_least(&values);
+        Ok((pattern_at(self.version, i), values[i]))
+    }
+
+    /// The first mask of least penalty, and that penalty.
+    fn best_mask(&self, alloc: Global) -> QrResult<(MaskPattern, usize)>
+        ensures best { IfOk result (λ r. IsBestMask self.now r.0) }
+        ensures least { IfOk result (λ r.
+            r.1 ≡ penalty self.now.version (colors_of (with_mask r.0 self.now))) }
+        ensures refusal { IfErr result (λ e. e ≡ QrError.OutOfMemory) }
+    {
+        let (_, numbered) = self.candidates(alloc)?;
+        self.best_of(alloc, &numbered)
+    }
+
+    /// The colours under the first mask of least penalty, and that mask.
+    pub(super) fn best_colors(&self, alloc: Global) -> QrResult<(Vec<Color>, MaskPattern)>
+        ensures best { IfOk result (λ r. IsBestMask self.now r.1) }
+        ensures colors { IfOk result (λ r. r.0.items ≡ colors_of (with_mask r.1 self.now)) }
+        ensures refusal { IfErr result (λ e. e ≡ QrError.OutOfMemory) }
+    {
+        let (scratch, numbered) = self.candidates(alloc)?;
+        let (pattern, _) = self.best_of(alloc, &numbered)?;
+        let mut colors = repeated(alloc, Color::Light, self.modules.len(), 0)?;
+        let first = 4 * self.width;
+        let grid = &scratch[first..first + self.modules.len()];
+        write_colors(grid, mask_number(pattern), &mut colors);
+        Ok((colors, pattern))
+    }
+
+    /// The canvas under the first mask of least penalty, that mask, and its score: the penalty, less 720 in a Normal
+    /// symbol (0 where it is below), and at most 65535 (ISO/IEC 18004, evaluation of data masking results).
+    ///
+    /// The only error is want of memory.
+    pub fn apply_best_mask_with_score(&self, alloc: Global) -> QrResult<(Canvas, MaskPattern, u16)>
+        ensures best { IfOk result (λ r. IsBestMask self.now r.1) }
+        ensures canvas { IfOk result (λ r. r.0 ≡ with_mask r.1 self.now) }
+        ensures score { IfOk result (λ r.
+            r.2 ≡ score self.now.version (penalty self.now.version (colors_of r.0))) }
+        ensures refusal { IfErr result (λ e. e ≡ QrError.OutOfMemory) }
+    {
+        let (pattern, penalty) = self.best_mask(alloc)?;
+        let mut canvas = self.clone(alloc)?;
+        canvas.apply_mask(pattern);
+        Ok((canvas, pattern, score_of(self.version, penalty)))
+    }
+
+    /// The canvas under the first mask of least penalty, and that mask. The only error is want of memory.
+    pub fn apply_best_mask_with_pattern(&self, alloc: Global) -> QrResult<(Canvas, MaskPattern)>
+        ensures best { IfOk result (λ r. IsBestMask self.now r.1) }
+        ensures canvas { IfOk result (λ r. r.0 ≡ with_mask r.1 self.now) }
+        ensures refusal { IfErr result (λ e. e ≡ QrError.OutOfMemory) }
+    {
+        let (canvas, pattern, _) = self.apply_best_mask_with_score(alloc)?;
+        Ok((canvas, pattern))
+    }
+
+    /// The canvas under the first mask of least penalty. The only error is want of memory.
+    pub fn apply_best_mask(&self, alloc: Global) -> QrResult<Canvas>
+        ensures is { IfOk result (IsBestMasked self.now) }
+        ensures refusal { IfErr result (λ e. e ≡ QrError.OutOfMemory) }
+    {
+        let (canvas, _) = self.apply_best_mask_with_pattern(alloc)?;
+        Ok(canvas)
+    }
+}
