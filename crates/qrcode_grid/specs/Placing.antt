@@ -4,20 +4,27 @@ use Rattle.std.specs.Prelude.{◌++◌, drop, length, slice_index_or, slice_get,
 use Rattle.qrcode_grid.specs.declared.canvas.Module.{Module}
 use Rattle.qrcode_grid.specs.declared.canvas.Module.TheVariants.{Empty, Masked, Unmasked}
 use Rattle.qrcode_grid.specs.declared.canvas.data.ahead.BitsAhead.{BitsAhead}
+use Rattle.qrcode_grid.specs.declared.canvas.data.streams.Streams.{Streams}
 use Rattle.qrcode_grid.specs.declared.canvas.data.Columns.{Columns}
 use Rattle.qrcode_grid.specs.Walk.{walk_column}
 use Rattle.qrcode_base.specs.Numbers.{number_bits}
 use Rattle.qrcode_grid.specs.Data.{bit_color, symbol_bits, place_in_walk, along_walk, fill_empty}
 
--- the bits of a symbol that begin at a codeword with a number
-abbrev pub codewords_from : ℕ → List ℕ → List ℕ → ℕ → List Bool
-codewords_from left_out codewords correction n =
+-- the bits of a symbol with these streams
+abbrev pub stream_bits : Streams → List Bool
+stream_bits s = symbol_bits s.left_out s.codewords.now s.correction.now
+
+-- the bits of two streams that begin at a codeword with a number
+abbrev pub bits_behind : ℕ → List ℕ → List ℕ → ℕ → List Bool
+bits_behind left_out codewords correction n =
     symbol_bits left_out (drop n codewords) (drop (n - length codewords) correction)
 
+abbrev pub codewords_from : Streams → ℕ → List Bool
+codewords_from s = bits_behind s.left_out s.codewords.now s.correction.now
+
 -- the low bits that are left of a codeword, and those of the codewords that follow it
-abbrev pub bits_from : ℕ → List ℕ → List ℕ → BitsAhead → List Bool
-bits_from left_out codewords correction bits =
-    number_bits bits.left bits.word ++ codewords_from left_out codewords correction bits.next
+abbrev pub bits_from : Streams → BitsAhead → List Bool
+bits_from s bits = number_bits bits.left bits.word ++ codewords_from s bits.next
 
 -- a module after a bit is offered to it: an empty one takes it
 abbrev pub filled : Module → Option Bool → Module

@@ -7,7 +7,7 @@ pub loop-part-preserved : goal.loop-part-preserved
 loop-part-preserved c = record {
   fills =
       let first = 4 * c.loop-part.part in
-      let ahead = bits_from c.args.left_out c.args.codewords.now c.args.correction.now in
+      let ahead = bits_from c.args.streams in
       let so_far : first ≡ 0 + first = omega arith in
       let sum : first + 4 ≡ 4 * (c.loop-part.part + 1) = omega arith in
       let part = subst (λ (k : ℕ). FillsRows c.args.columns k 4 (ahead c.loop-part.ahead) (ahead c.draw_four-ahead.result) c.loop-part.modules c.draw_four-ahead.new.modules) so_far c.draw_four-ahead.ensures.fills in
@@ -20,7 +20,7 @@ pub returns-clause-fills : goal.returns-clause-fills
 returns-clause-fills c =
     let w = c.args.columns.width in
     let first = 4 * c.loop-part.part in
-    let ahead = bits_from c.args.left_out c.args.codewords.now c.args.correction.now in
+    let ahead = bits_from c.args.streams in
     let last : c.loop-part.part ≡ w / 4 = omega (arith, c.loop-part-test.false, c.loop-part.auto.part-end) in
     let so_far : w / 4 * 4 ≡ 0 + first = omega (arith, last) in
     let sum : first + (w - w / 4 * 4) ≡ w = omega (arith, last) in

@@ -7,7 +7,7 @@ pub loop-row-init : goal.loop-row-init
 loop-row-init c = record {
   fills = λ t pair is bits xs f.
       let none : pair * (2 * c.args.columns.width) + 2 * c.args.first ≡ pair * (2 * c.args.columns.width) + 2 * c.args.first + 2 * 0 = omega arith in
-      subst (λ (k : ℕ). FilledBelow c.args.columns.width t bits xs c.args.modules.now k (bits_from c.args.left_out c.args.codewords.now c.args.correction.now c.args.bits)) none f;
+      subst (λ (k : ℕ). FilledBelow c.args.columns.width t bits xs c.args.modules.now k (bits_from c.args.streams c.args.bits)) none f;
   small = c.requires.small;
 }
 
@@ -17,7 +17,7 @@ loop-row-preserved c = record {
       let w = c.args.columns.width in
       let rows = c.args.first + c.loop-row.row in
       let n = pair * (2 * w) + 2 * rows in
-      let rest = bits_from c.args.left_out c.args.codewords.now c.args.correction.now in
+      let rest = bits_from c.args.streams in
       let here : pair * (2 * w) + 2 * c.args.first + 2 * c.loop-row.row ≡ n = omega arith in
       let before = subst (λ (k : ℕ). FilledBelow w t bits xs c.loop-row.modules k (rest c.loop-row.ahead)) here (c.loop-row.invariant.fills t pair is bits xs f) in
       let square : length xs ≡ w * w = sym before.size ∙ c.loop-row.auto.modules ∙ c.requires.square in
@@ -42,4 +42,4 @@ pub returns-clause-fills : goal.returns-clause-fills
 returns-clause-fills c = λ t pair is bits xs f.
     let n = pair * (2 * c.args.columns.width) + 2 * c.args.first in
     let last : n + 2 * c.loop-row.row ≡ n + 2 * c.args.count = omega (arith, c.loop-row-test.false, c.loop-row.auto.row-end) in
-    subst (λ (k : ℕ). FilledBelow c.args.columns.width t bits xs c.loop-row.modules k (bits_from c.args.left_out c.args.codewords.now c.args.correction.now c.loop-row.ahead)) last (c.loop-row.invariant.fills t pair is bits xs f)
+    subst (λ (k : ℕ). FilledBelow c.args.columns.width t bits xs c.loop-row.modules k (bits_from c.args.streams c.loop-row.ahead)) last (c.loop-row.invariant.fills t pair is bits xs f)

@@ -5,6 +5,6 @@ use Rattle.qrcode_grid.proofs.canvas.data.draw_rows.Given as goal
 
 abbrev pub invariant-loop-row : goal.invariant-loop-row
 invariant-loop-row l = record {
-  fills : FillsRows l.columns l.first l.row (bits_from l.left_out l.codewords l.correction l.fn.bits) (bits_from l.left_out l.codewords l.correction l.ahead) l.fn.modules l.modules;
+  fills : FillsRows l.columns l.first l.row (bits_from l.streams l.fn.bits) (bits_from l.streams l.ahead) l.fn.modules l.modules;
   small : l.ahead.left ≤ 8;
 }

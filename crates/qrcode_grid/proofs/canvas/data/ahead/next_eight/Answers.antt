@@ -8,6 +8,6 @@ pub returns-in-Some-default-eq8-clause-same : goal.returns-in-Some-default-eq8-c
 returns-in-Some-default-eq8-clause-same c =
     let v = c.in-Some-default-eq8.word in
     let left = c.args.bits.left in
-    let after = codewords_from c.args.left_out c.args.codewords.now c.args.correction.now (c.args.bits.next + 1) in
+    let after = codewords_from c.args.streams (c.args.bits.next + 1) in
     let whole = c.in-Some-default-eq8.ensures.some ∙ ap (λ k. number_bits k v ++ after) c.in-Some-default-eq8.field-0-1-test in
     ap (λ l. number_bits left c.args.bits.word ++ l) whole ∙ eight_ahead left c.args.bits.word v after c.requires.small c.in-Some-default-eq8.ensures.byte

@@ -6,13 +6,13 @@ use Rattle.qrcode_grid.proofs.canvas.data.ahead.refilled.Goals as goal
 
 pub returns-in-Some-clause-same : goal.returns-in-Some-clause-same
 returns-in-Some-clause-same c =
-    let rest = codewords_from c.args.left_out c.args.codewords.now c.args.correction.now c.args.bits.next in
+    let rest = codewords_from c.args.streams c.args.bits.next in
     let left : c.args.bits.left ≡ 0 = omega arith in
     let empty : number_bits c.args.bits.left c.args.bits.word ≡ [] = ap (λ k. number_bits k c.args.bits.word) left ∙ no_bits c.args.bits.word in
     sym c.in-Some.ensures.some ∙ ap (λ l. l ++ rest) (sym empty)
 
 pub returns-in-None-clause-none : goal.returns-in-None-clause-none
 returns-in-None-clause-none c = λ left.
-    ap (λ k. number_bits k c.args.bits.word ++ codewords_from c.args.left_out c.args.codewords.now c.args.correction.now c.args.bits.next) left
-    ∙ ap (λ l. l ++ codewords_from c.args.left_out c.args.codewords.now c.args.correction.now c.args.bits.next) (no_bits c.args.bits.word)
+    ap (λ k. number_bits k c.args.bits.word ++ codewords_from c.args.streams c.args.bits.next) left
+    ∙ ap (λ l. l ++ codewords_from c.args.streams c.args.bits.next) (no_bits c.args.bits.word)
     ∙ c.in-None.ensures.none refl
