@@ -3,9 +3,6 @@ use Rattle.qrcode_grid.specs.Rows.{AddsCode}
 use Rattle.qrcode_grid.proofs.RowDivision.{begun, rows_made}
 use Rattle.qrcode_grid.proofs.ec.code_by_rows.Goals as goal
 
-pub terms_of-terms-requires : goal.terms_of-terms-requires
-terms_of-terms-requires c = (omega (arith, begun c.args.divisor.now c.requires.monic), c.requires.few)
-
 pub returns : goal.returns
 returns c =
     let divisor = c.args.divisor.now in

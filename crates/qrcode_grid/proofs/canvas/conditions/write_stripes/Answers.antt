@@ -7,9 +7,6 @@ use Rattle.qrcode_grid.specs.Scoring.{pattern_of}
 use Rattle.qrcode_grid.proofs.Stripes.{is_inverted-repeats}
 use Rattle.qrcode_grid.proofs.canvas.conditions.write_stripes.Goals as goal
 
-pub loop-y-init : goal.loop-y-init
-loop-y-init c = λ m x y b h l. absurd (omega arith)
-
 pub loop-y-preserved : goal.loop-y-preserved
 loop-y-preserved c = λ m x y b h l. elim (cases_lt y c.loop-y.y) [
   | inl below ↦ ap (λ n. bit_at n m) (c.write_stripe.ensures.before (y * c.args.width + x) (omega (arith, mul-le-mul_right c.args.width below))) ∙ c.loop-y.invariant m x y b h below
@@ -19,6 +16,3 @@ loop-y-preserved c = λ m x y b h l. elim (cases_lt y c.loop-y.y) [
       ∙ c.first_conditions.ensures m (x % 6) b (omega arith)
       ∙ ap (λ t. cond t 1 0) (sym (is_inverted-repeats (pattern_of m) x c.loop-y.y) ∙ ap (is_inverted (pattern_of m) x) same)
 ]
-
-pub returns : goal.returns
-returns c = λ m x y b h l. c.loop-y.invariant m x y b h (omega (arith, l, c.loop-y-test.false))

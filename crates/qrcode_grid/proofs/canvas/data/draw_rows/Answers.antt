@@ -3,14 +3,6 @@ use Rattle.qrcode_grid.specs.Placing.{bits_from, FilledBelow}
 use Rattle.qrcode_grid.proofs.FillSteps.{offered_step, number_below, row_place-left, row_place-right}
 use Rattle.qrcode_grid.proofs.canvas.data.draw_rows.Goals as goal
 
-pub loop-row-init : goal.loop-row-init
-loop-row-init c = record {
-  fills = λ t pair is bits xs f.
-      let none : pair * (2 * c.args.columns.width) + 2 * c.args.first ≡ pair * (2 * c.args.columns.width) + 2 * c.args.first + 2 * 0 = omega arith in
-      subst (λ (k : ℕ). FilledBelow c.args.columns.width t bits xs c.args.modules.now k (bits_from c.args.streams c.args.bits)) none f;
-  small = c.requires.small;
-}
-
 pub loop-row-preserved : goal.loop-row-preserved
 loop-row-preserved c = record {
   fills = λ t pair is bits xs f.

@@ -10,23 +10,8 @@ use Rattle.qrcode_grid.proofs.RegionRows.{no_alignments}
 use Rattle.qrcode_grid.proofs.RegionSteps.{alignment_count_is}
 use Rattle.qrcode_grid.proofs.canvas.drawing.draw_alignments.Goals as goal
 
-pub loop-j-init : goal.loop-j-init
-loop-j-init c = rows_begin (λ x y m. drawn_over (alignments c.args.width (alignment_coordinates c.args.n) x y) m) c.args.width c.args.modules.now
-
 pub returns-then-n-lt2 : goal.returns-then-n-lt2
 returns-then-n-lt2 c = λ x y l m. ap (λ o. drawn_over o (get_or c.args.modules.now (y * c.args.width + x) Empty)) (sym (no_alignments c.args.n c.args.width x y c.if-n-lt2.true))
-
-pub overflow_step-y : goal.overflow_step-y
-overflow_step-y c =
-    let n = c.args.n in let w = c.args.width in
-    let row : c.loop-j.j < alignment_count n = omega (arith, alignment_count_is n (omega (arith, c.if-n-lt2.false)), c.loop-j-test.true) in
-    omega (arith, c.coordinate-center_y.ensures.is, (cells_inside n c.loop-j.j c.requires.number row).0)
-
-pub overflow_step-x : goal.overflow_step-x
-overflow_step-x c =
-    let n = c.args.n in let w = c.args.width in
-    let column : c.loop-k.k < alignment_count n = omega (arith, alignment_count_is n (omega (arith, c.if-n-lt2.false)), c.loop-k-test.true) in
-    omega (arith, c.coordinate-center_x.ensures.is, (cells_inside n c.loop-k.k c.requires.number column).0)
 
 pub loop-y-init : goal.loop-y-init
 loop-y-init c =

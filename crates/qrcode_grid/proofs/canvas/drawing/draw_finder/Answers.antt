@@ -5,12 +5,6 @@ use Rattle.qrcode_grid.specs.declared.canvas.Module.TheVariants.{Empty}
 use Rattle.qrcode_grid.proofs.CellSteps.{row_begins, cell_changed, row_ends, rows_begin, rows_between, rows_end}
 use Rattle.qrcode_grid.proofs.canvas.drawing.draw_finder.Goals as goal
 
-pub loop-y-init : goal.loop-y-init
-loop-y-init c =
-    rows_between (λ x y m. drawn_over (finder c.args.center_x c.args.center_y x y) m) c.args.width 0 c.finder_rows-top.result.0 c.args.modules.now c.args.modules.now
-    (omega (arith, c.requires.row)) (omega arith) (λ x y h l k m. ap (λ o. drawn_over o m) (c.finder_rows-top.ensures.before x y k))
-    (rows_begin (λ x y m. drawn_over (finder c.args.center_x c.args.center_y x y) m) c.args.width c.args.modules.now)
-
 pub loop-x-init : goal.loop-x-init
 loop-x-init c =
     row_begins (λ x y m. drawn_over (finder c.args.center_x c.args.center_y x y) m) c.args.width c.loop-y.y c.finder_columns-left.result.0 c.args.modules.now c.loop-y.modules

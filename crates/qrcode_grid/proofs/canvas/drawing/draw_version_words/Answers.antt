@@ -6,9 +6,6 @@ use Rattle.qrcode_grid.proofs.CellSteps.{row_begins, cell_changed, row_ends, row
 use Rattle.qrcode_grid.proofs.RegionRows.{no_version, no_version_before, no_version_behind, no_version_between, no_version_beside, no_version_below}
 use Rattle.qrcode_grid.proofs.canvas.drawing.draw_version_words.Goals as goal
 
-pub loop-y-init : goal.loop-y-init
-loop-y-init c = rows_begin (λ x y m. drawn_over (version_copies c.args.n x y) m) c.args.width c.args.modules.now
-
 pub loop-x-init : goal.loop-x-init
 loop-x-init c =
     let n = c.args.n in let w = c.args.width in
@@ -33,11 +30,6 @@ loop-row-init c =
     let n = c.args.n in let w = c.args.width in
     rows_between (λ x y m. drawn_over (version_copies n x y) m) w c.loop-y.y (w - 11) c.args.modules.now c.loop-y.modules (omega (arith, c.requires.wide)) (omega (arith, c.loop-y.auto.y-end, c.requires.wide, c.if-n-lt7.false))
     (λ x y l low high m. ap (λ o. drawn_over o m) (no_version_between n x y (omega (arith, low, c.loop-y-test.false)) (omega (arith, high, c.requires.wide)))) c.loop-y.invariant
-
-pub loop-column-init : goal.loop-column-init
-loop-column-init c =
-    let n = c.args.n in let w = c.args.width in
-    row_begins (λ x y m. drawn_over (version_copies n x y) m) w c.loop-row.row 0 c.args.modules.now c.loop-row.modules (omega arith) (λ x h m. absurd (omega (arith, h))) c.loop-row.invariant
 
 pub loop-column-preserved : goal.loop-column-preserved
 loop-column-preserved c =

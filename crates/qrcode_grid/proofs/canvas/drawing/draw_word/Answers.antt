@@ -5,9 +5,6 @@ use Rattle.qrcode_grid.specs.declared.canvas.Module.TheVariants.{Empty, Masked}
 use Rattle.qrcode_grid.proofs.WrittenWords.{none_written, next_written, all_written}
 use Rattle.qrcode_grid.proofs.canvas.drawing.draw_word.Goals as goal
 
-pub loop-k-init : goal.loop-k-init
-loop-k-init c = none_written drawn_over (λ b. refl) c.args.width c.args.word c.args.places.now Empty c.args.modules.now
-
 pub loop-k-preserved : goal.loop-k-preserved
 loop-k-preserved c =
     let ps = c.args.places.now in let k = c.loop-k.k in
@@ -15,6 +12,3 @@ loop-k-preserved c =
     let inside = c.requires.within (length ps - 1 - k) (0, 0) at in
     next_written drawn_over c.args.width c.args.word ps k Empty c.args.modules.now c.loop-k.modules (Masked c.color_of_digit.result)
     c.loop-k-test.true inside.0 inside.1 (c.loop-k.auto.modules ∙ c.requires.square) (λ b. ap Masked c.color_of_digit.ensures) c.loop-k.invariant
-
-pub returns : goal.returns
-returns c = all_written drawn_over c.args.width c.args.word c.args.places.now c.loop-k.k Empty c.args.modules.now c.loop-k.modules c.loop-k-test.false c.loop-k.invariant

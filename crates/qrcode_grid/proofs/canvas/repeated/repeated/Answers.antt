@@ -10,9 +10,6 @@ filled_up xs k m n v same all few =
     ap (λ l. l ++ replicate (n - m) v) (take_all n xs (omega (arith, long)) ∙ same)
     ∙ replicate-append-replicate k (n - m) v ∙ ap (λ i. replicate i v) whole
 
-pub loop-part-init : goal.loop-part-init
-loop-part-init g c = c.in_ok-list.ensures.items
-
 pub loop-part-preserved : goal.loop-part-preserved
 loop-part-preserved g c =
     c.in_ok-resize.ensures.items ∙ filled_up c.loop-part.list.items (1000 * c.loop-part.part) c.loop-part.list.len (1000 * (c.loop-part.part + 1)) c.args.value c.loop-part.invariant (omega (arith, c.loop-part.list.ok)) (omega arith)

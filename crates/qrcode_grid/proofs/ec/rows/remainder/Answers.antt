@@ -24,9 +24,6 @@ loop-byte-preserved c = record {
       (c.loop-byte.invariant.is n divisor terms d rows) (c.turned-lanes.ensures.turn terms rows.by_low rows.by_high) c.turned-lanes.ensures.lanes);
 }
 
-pub returns-clause-bytes : goal.returns-clause-bytes
-returns-clause-bytes c = All-from_get_or (λ x. x < 256) c.loop-byte.lanes 0 (λ j h. fits_at c.loop-byte.lanes j c.loop-byte.auto.lanes.1)
-
 pub returns-clause-is : goal.returns-clause-is
 returns-clause-is c = λ n divisor terms d rows.
     subst (λ (seen : List ℕ). IsRemainder n divisor seen c.loop-byte.lanes) (take_all c.loop-byte.byte-index c.args.body.now (omega arith))

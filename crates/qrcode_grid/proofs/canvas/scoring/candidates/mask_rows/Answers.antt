@@ -5,9 +5,6 @@ use Rattle.std.proofs.lemmas.Bool.{cases_lt}
 use Rattle.qrcode_grid.specs.Lanes.{code_of, masked_code}
 use Rattle.qrcode_grid.proofs.canvas.scoring.candidates.mask_rows.Goals as goal
 
-pub loop-part-init : goal.loop-part-init
-loop-part-init c = λ m x y b h l n. absurd (omega arith)
-
 pub mask_part-requires-clause-within : goal.mask_part-requires-clause-within
 mask_part-requires-clause-within c =
     let w = c.args.width in let first = 12 * c.loop-part.part in let rows = c.min-rows.result in

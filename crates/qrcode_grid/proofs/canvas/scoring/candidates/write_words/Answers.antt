@@ -7,9 +7,6 @@ use Rattle.qrcode_grid.proofs.EightSquares.{length-plane}
 use Rattle.qrcode_grid.proofs.WrittenWords.{IsWritten, none_written, next_written, all_written}
 use Rattle.qrcode_grid.proofs.canvas.scoring.candidates.write_words.Goals as goal
 
-pub loop-k-init : goal.loop-k-init
-loop-k-init c = λ m word h are. none_written byte_under (λ b. refl) c.args.width word c.args.places.now 0 (plane m c.args.grid.now)
-
 pub loop-k-preserved : goal.loop-k-preserved
 loop-k-preserved c = λ m word h are.
     let ps = c.args.places.now in let k = c.loop-k.k in let w = c.args.width in
@@ -21,7 +18,3 @@ loop-k-preserved c = λ m word h are.
     c.loop-k-test.true inside.0 inside.1 (length-plane m c.loop-k.grid ∙ c.loop-k.auto.grid ∙ c.requires.long) (λ b. are k (omega (arith, c.loop-k-test.true, c.requires.few))) (c.loop-k.invariant m word h are) in
     subst (λ (now : List ℕ). IsWritten byte_under w word (drop (length ps - (k + 1)) ps) 0 (plane m c.args.grid.now) now)
     (sym (map-set (λ b. bit_at b m) c.loop-k.grid (place.1 * w + place.0) v)) step
-
-pub returns : goal.returns
-returns c = λ m word h are x y.
-    all_written byte_under c.args.width word c.args.places.now c.loop-k.k 0 (plane m c.args.grid.now) (plane m c.loop-k.grid) c.loop-k-test.false (c.loop-k.invariant m word h are) x y

@@ -5,6 +5,3 @@ use Rattle.qrcode_grid.proofs.canvas.scoring.counting.no_bits.Goals as goal
 
 pub returns-clause-none : goal.returns-clause-none
 returns-clause-none c = λ m h. omega (arith, no_bit m, get_or-replicate {A = ℕ} 8 m 0 0 h)
-
-pub returns-clause-small : goal.returns-clause-small
-returns-clause-small c = λ m h. get_or-replicate {A = ℕ} 8 m 0 0 h
