@@ -1,7 +1,7 @@
 -- The bytes of colors, written one after the other.
 use Rattle.std.proofs.Common.{◌≡◌, ℕ, zero, suc, ◌<◌, ◌≤◌, List, [], ◌∷◌, ◌++◌, length, get_or, set, map, take, drop, refl, ap, arith}
 use Rattle.qrcode_base.specs.declared.types.Color.{Color}
-use Rattle.qrcode_grid.specs.Lanes.{byte_of}
+use Rattle.qrcode_grid.specs.Penalty.{byte_of}
 
 pub written_step : (colors : List Color) (before : List ℕ) (i : ℕ) (other : Color) → i < length colors → length colors ≤ length before →
     set (map byte_of (take i colors) ++ drop i before) i (byte_of (get_or colors i other))

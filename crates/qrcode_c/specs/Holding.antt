@@ -2,7 +2,7 @@
 use Rattle.std.specs.Prelude.{◌≡◌, ◌*◌, ◌++◌, ℕ, ℤ, nat_abs, List, length, map, drop, slice_get, Some}
 use Rattle.qrcode_base.specs.declared.types.Color.{Color}
 use Rattle.qrcode_base.specs.declared.types.EcLevel.{EcLevel}
-use Rattle.qrcode_grid.specs.Lanes.{byte_of}
+use Rattle.qrcode_grid.specs.Penalty.{byte_of}
 use Rattle.qrcode_base.specs.Symbols.{width_of}
 use Rattle.qrcode_core.specs.Drawn.{DrawnSymbol, TellsReading, modules_of}
 use Rattle.qrcode_core.specs.Sequence.{AreBestSymbols}

@@ -14,10 +14,10 @@ use Rattle.qrcode_grid.specs.declared.canvas.MaskPattern.{MaskPattern}
 use Rattle.qrcode_grid.specs.Blocks.{AreCodewords}
 use Rattle.qrcode_grid.specs.Codes.{AreBytes}
 use Rattle.qrcode_grid.specs.Codewords.{AreCodewordsOf}
-use Rattle.qrcode_grid.specs.Counts.{left_over}
+use Rattle.qrcode_grid.specs.Walk.{left_over}
 use Rattle.qrcode_grid.specs.Data.{bit_color, symbol_bits}
 use Rattle.qrcode_grid.specs.Masks.{IsOfFamily}
-use Rattle.qrcode_grid.specs.Canvas.{is_dark}
+use Rattle.qrcode_grid.specs.Cells.{is_dark}
 use Rattle.qrcode_grid.specs.Symbol.{CarriesCodewords}
 use Rattle.qrcode_core.specs.Layers.{IsEncoded, AreStreams}
 use Rattle.qrcode_core.specs.Reader.{Carries, Reads, reading_of}

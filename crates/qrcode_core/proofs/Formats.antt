@@ -16,9 +16,8 @@ use Rattle.qrcode_grid.specs.declared.canvas.MaskPattern.{MaskPattern}
 use Rattle.qrcode_grid.specs.declared.canvas.MaskPattern.TheVariants.{Checkerboard, HorizontalLines, VerticalLines, DiagonalLines, LargeCheckerboard, Fields, Diamonds, Meadow}
 use Rattle.qrcode_grid.specs.Words.{digit, digit_color, differing_digits, normal_format_word, micro_format_word}
 use Rattle.qrcode_grid.specs.Regions.{functional_color, written, digit_at, format_first, format_second, format_micro, first_some, where_true}
-use Rattle.qrcode_grid.specs.Masks.{format_color, format_word, normal_number, micro_number, level_number, symbol_number, IsOfFamily, normal_patterns, micro_patterns}
+use Rattle.qrcode_grid.specs.Masks.{format_color, format_word, normal_number, micro_number, level_number, symbol_number, IsOfFamily, normal_patterns, micro_patterns, HasFunctionalColors}
 use Rattle.qrcode_base.specs.Symbols.{IsVersion, IsSymbol, width_of}
-use Rattle.qrcode_grid.specs.Symbol.{HasFunctionalColors}
 use Rattle.qrcode_grid.proofs.Tests.{all_pass, passes, both}
 use Rattle.qrcode_grid.proofs.FormatCells.{functional_color-format}
 use Rattle.qrcode_grid.proofs.Distances.{normal_format_words_differ, micro_format_words_differ}

@@ -14,7 +14,7 @@ use Rattle.qrcode_base.specs.Numbers.{byte_bits, zero_bits}
 use Rattle.qrcode_bits.specs.Frame.{Header, IsFrame}
 use Rattle.qrcode_bits.proofs.Reading.{frame_one_reading}
 use Rattle.qrcode_grid.specs.declared.canvas.MaskPattern.{MaskPattern}
-use Rattle.qrcode_grid.specs.Counts.{left_over}
+use Rattle.qrcode_grid.specs.Walk.{left_over}
 use Rattle.qrcode_grid.specs.Blocks.{blocks_in}
 use Rattle.qrcode_core.specs.Reader.{Reading, Carries, HaveOneReading, HaveOneContent}
 use Rattle.qrcode_base.proofs.Widths.{version-of_blocks, version-of_size}

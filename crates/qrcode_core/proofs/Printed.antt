@@ -16,9 +16,8 @@ use Rattle.qrcode_grid.specs.declared.canvas.MaskPattern.TheVariants.{Diamonds}
 use Rattle.qrcode_grid.specs.Blocks.{place, block_in, blocks_in, codeword_block, AreCodewords}
 use Rattle.qrcode_grid.specs.Codes.{value_at, IsSound}
 use Rattle.qrcode_grid.specs.Field.{double, shift_and_add, product, power}
-use Rattle.qrcode_grid.specs.Masks.{format_word}
+use Rattle.qrcode_grid.specs.Masks.{format_word, HasFunctionalColors}
 use Rattle.qrcode_grid.specs.Regions.{functional_color}
-use Rattle.qrcode_grid.specs.Symbol.{HasFunctionalColors}
 use Rattle.qrcode_grid.proofs.Tests.{all_pass, passes}
 use Rattle.qrcode_core.specs.Example.{printed, printed_reading}
 use Rattle.qrcode_core.specs.Reader.{Reads}

@@ -16,7 +16,7 @@ use Rattle.qrcode_grid.specs.declared.canvas.MaskPattern.{MaskPattern}
 use Rattle.qrcode_grid.specs.Blocks.{AreBlocksApart, codeword_block}
 use Rattle.qrcode_grid.specs.Codes.{distance}
 use Rattle.qrcode_grid.specs.Penalty.{IsFirstLeastMask}
-use Rattle.qrcode_grid.specs.Symbol.{HasFunctionalColors}
+use Rattle.qrcode_grid.specs.Masks.{HasFunctionalColors}
 use Rattle.qrcode_core.specs.Reader.{Reading, Carries, Reads, reading_of}
 
 -- ---- Distance

@@ -11,10 +11,9 @@ use Rattle.qrcode_bits.specs.Frame.{Header, IsFrame}
 use Rattle.qrcode_grid.specs.declared.canvas.MaskPattern.{MaskPattern}
 use Rattle.qrcode_grid.specs.Blocks.{AreCodewords}
 use Rattle.qrcode_grid.specs.Codes.{AreBytes}
-use Rattle.qrcode_grid.specs.Counts.{left_over}
-use Rattle.qrcode_grid.specs.Masks.{IsOfFamily, raw_colors}
-use Rattle.qrcode_grid.specs.Canvas.{is_dark}
-use Rattle.qrcode_grid.specs.Symbol.{HasFunctionalColors}
+use Rattle.qrcode_grid.specs.Walk.{left_over}
+use Rattle.qrcode_grid.specs.Masks.{IsOfFamily, raw_colors, HasFunctionalColors}
+use Rattle.qrcode_grid.specs.Cells.{is_dark}
 
 -- What is read from a grid: the bytes, the symbol that carries them, perhaps the header of a sequence, and how many
 -- bits stand before the terminator.

@@ -10,7 +10,7 @@ use Rattle.std.proofs.lemmas.Nat.Bits.{bit_at-lt, bit_at-zero, bit_at_and, bit_a
 use Rattle.std.proofs.lemmas.Simd.{get_or-zip2, length-zip2, bitmask_splat, ones-mask_l, pick_l_whole, get_or-replicate}
 use lib.Lanes.{zip2, mask_l, top}
 use lib.ListN.{replicate}
-use Rattle.qrcode_grid.specs.Sums.{sum_below}
+use Rattle.qrcode_grid.specs.Cells.{sum_below}
 use Rattle.qrcode_grid.specs.Scoring.{bit_count}
 use Rattle.qrcode_grid.proofs.Totals.{count_by-total}
 use Rattle.qrcode_grid.proofs.Transposed.{sum_same_below}

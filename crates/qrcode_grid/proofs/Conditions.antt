@@ -5,9 +5,8 @@ use Rattle.qrcode_base.specs.declared.types.Color.TheVariants.{Light, Dark}
 use Rattle.qrcode_grid.specs.declared.canvas.Module.{Module}
 use Rattle.qrcode_grid.specs.declared.canvas.Module.TheVariants.{Empty, Masked, Unmasked}
 use Rattle.qrcode_grid.specs.declared.canvas.conditions.TheConstants.{CONDITIONS}
-use Rattle.qrcode_grid.specs.Lanes.{code_of, masked_code}
+use Rattle.qrcode_grid.specs.Scoring.{code_of, masked_code, pattern_of}
 use Rattle.qrcode_grid.specs.Masks.{is_inverted}
-use Rattle.qrcode_grid.specs.Scoring.{pattern_of}
 use Rattle.qrcode_grid.proofs.FieldTests.{passes_below, passes_below-at}
 use Rattle.qrcode_grid.proofs.Tallies.{eqb_true}
 

@@ -4,9 +4,8 @@ use Rattle.std.specs.List.{range_with_len}
 use Rattle.std.specs.Int.{bit_at}
 use Rattle.std.proofs.Math.Nat.{mul-le-mul_right, add-mul}
 use Rattle.std.proofs.lemmas.List.{length-take-le, length-map, length-drop, get_or-take, get_or-drop}
-use Rattle.qrcode_grid.specs.Sums.{sum_below, count_below}
-use Rattle.qrcode_grid.specs.Lanes.{is_byte_square_at, is_dark_byte, count_of_squares}
-use Rattle.qrcode_grid.specs.Penalty.{row}
+use Rattle.qrcode_grid.specs.Cells.{sum_below, count_below}
+use Rattle.qrcode_grid.specs.Penalty.{is_byte_square_at, is_dark_byte, count_of_squares, row}
 use Rattle.qrcode_grid.specs.Scoring.{IsPadded, grid_in, plane, cell, has_square}
 use Rattle.qrcode_grid.proofs.BitCounts.{count_as_sum}
 use Rattle.qrcode_grid.proofs.FlatSquares.{squares_of_grid}

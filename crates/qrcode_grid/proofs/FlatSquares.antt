@@ -5,9 +5,8 @@ use Rattle.std.proofs.Common.{zero-add}
 use Rattle.std.proofs.Math.Nat.{mul-le-mul_right, add-mul}
 use Rattle.std.proofs.lemmas.List.Sums.{sum_by-append}
 use Rattle.std.proofs.lemmas.Simd.{length-chunk, get_or-chunk}
-use Rattle.qrcode_grid.specs.Sums.{sum_below, count_below}
-use Rattle.qrcode_grid.specs.Lanes.{is_byte_square_at, count_of_squares}
-use Rattle.qrcode_grid.specs.Penalty.{row}
+use Rattle.qrcode_grid.specs.Cells.{sum_below, count_below}
+use Rattle.qrcode_grid.specs.Penalty.{is_byte_square_at, count_of_squares, row}
 use Rattle.qrcode_grid.proofs.SquareLanes.{places_append, count_of_places}
 use Rattle.qrcode_grid.proofs.Totals.{sum_below_more}
 

@@ -2,7 +2,7 @@
 use Rattle.std.proofs.Common.{◌≡◌, ℕ, zero, suc, ◌+◌, ◌-◌, ◌*◌, ◌<◌, ◌≤◌, ◌==◌, ◌&&◌, ◌||◌, Bool, cond, List, length, get_or, refl, ap, ◌∙◌, sym, arith, inl, inr}
 use Rattle.std.proofs.Math.Nat.{mul-le-mul_right, add-mul, mul-add}
 use Rattle.std.proofs.lemmas.Bool.{cases_lt}
-use Rattle.qrcode_grid.specs.Sums.{sum_below, count_below}
+use Rattle.qrcode_grid.specs.Cells.{sum_below, count_below}
 use Rattle.qrcode_grid.specs.Penalty.{column, quiet, are_light, is_pattern, is_finder_like, runs_penalty, windows_penalty}
 use Rattle.qrcode_grid.specs.Scoring.{cell, is_same_below, has_five, has_six, is_quiet, has_finder}
 use Rattle.qrcode_grid.proofs.Columns.{length-column, get_or-column, column_past}

@@ -3,7 +3,7 @@ use Rattle.std.proofs.Common.{◌≡◌, ℕ, zero, suc, ◌+◌, ◌-◌, ◌*�
 use Rattle.std.specs.Prelude.{nat_le}
 use Rattle.std.specs.List.{prefix_len}
 use Rattle.std.proofs.lemmas.Bool.Decides.{eqb_tells}
-use Rattle.qrcode_grid.specs.Sums.{count_below}
+use Rattle.qrcode_grid.specs.Cells.{count_below}
 use Rattle.qrcode_grid.specs.Penalty.{length_penalty, run_penalty, runs_penalty}
 use Rattle.qrcode_grid.proofs.Runs.{new_runs, later_runs, sum_first, sum_same}
 

@@ -10,7 +10,7 @@ use Rattle.qrcode_grid.specs.declared.canvas.MaskPattern.{MaskPattern}
 use Rattle.qrcode_grid.specs.declared.canvas.MaskPattern.TheVariants.{Checkerboard, HorizontalLines, VerticalLines, DiagonalLines, LargeCheckerboard, Fields, Diamonds, Meadow}
 use Rattle.qrcode_grid.specs.declared.canvas.Module.{Module}
 use Rattle.qrcode_grid.specs.Canvas.{color_of_module}
-use Rattle.qrcode_grid.specs.Lanes.{byte_of}
+use Rattle.qrcode_grid.specs.Penalty.{byte_of}
 use Rattle.qrcode_grid.specs.Masks.{format_word, masked_cells, normal_number}
 use Rattle.qrcode_grid.specs.Scoring.{pattern_of}
 

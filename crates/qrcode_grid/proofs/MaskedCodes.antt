@@ -9,7 +9,8 @@ use Rattle.qrcode_grid.specs.declared.canvas.MaskPattern.{MaskPattern}
 use Rattle.qrcode_grid.specs.declared.canvas.Module.{Module}
 use Rattle.qrcode_grid.specs.declared.canvas.Module.TheVariants.{Empty, Masked, Unmasked}
 use Rattle.qrcode_grid.specs.Canvas.{color_of_module}
-use Rattle.qrcode_grid.specs.Lanes.{byte_of, byte_under, code_of, masked_code}
+use Rattle.qrcode_grid.specs.Scoring.{byte_under, code_of, masked_code}
+use Rattle.qrcode_grid.specs.Penalty.{byte_of}
 use Rattle.qrcode_grid.specs.Masks.{drawn_over, format_color, is_inverted, masked, masked_cell, masked_cells}
 use Rattle.qrcode_grid.proofs.CellSteps.{length-map_places, get_or-map_places}
 

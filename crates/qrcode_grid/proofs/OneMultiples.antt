@@ -2,8 +2,7 @@
 use Rattle.std.proofs.Common.{◌≡◌, ℕ, ◌<◌, ◌/◌, ◌^◌, ◌∙◌, ap, refl, arith, Bool, true, ◌==◌, ◌&&◌, nat_lt}
 use Rattle.std.specs.List.{position_or_len}
 use Rattle.std.proofs.lemmas.Bool.{eqb-true, ltb-true}
-use Rattle.qrcode_grid.specs.Words.{polynomial_product, multiples, code_word}
-use Rattle.qrcode_grid.specs.OneMultiple.{HasOneMultiple, HasOneFormatWord, HasOneVersionWord}
+use Rattle.qrcode_grid.specs.Words.{polynomial_product, multiples, code_word, HasOneMultiple, HasOneFormatWord, HasOneVersionWord}
 use Rattle.qrcode_grid.proofs.Tests.{all_pass, passes, both}
 
 -- the number of the multiple that begins with the data

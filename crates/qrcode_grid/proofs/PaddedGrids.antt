@@ -3,7 +3,7 @@ use Rattle.std.proofs.Common.{◌≡◌, ℕ, ◌+◌, ◌-◌, ◌*◌, ◌<◌
 use Rattle.std.specs.Int.{bit_at}
 use Rattle.std.proofs.lemmas.List.{get_or-take, get_or-drop}
 use Rattle.std.proofs.lemmas.Nat.Bits.{bit_at-zero}
-use Rattle.qrcode_grid.specs.Sums.{sum_below, count_below}
+use Rattle.qrcode_grid.specs.Cells.{sum_below, count_below}
 use Rattle.qrcode_grid.specs.Penalty.{column, line_penalty, runs_penalty, windows_penalty}
 use Rattle.qrcode_grid.specs.Scoring.{IsPadded, grid_in, plane, has_five, has_six, has_finder}
 use Rattle.qrcode_grid.proofs.GridColumns.{runs_of_columns, windows_of_columns}

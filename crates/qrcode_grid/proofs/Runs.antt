@@ -1,7 +1,7 @@
 -- The runs of a line, by those of the line after its first module.
 use Rattle.std.proofs.Common.{◌≡◌, ℕ, zero, suc, ◌+◌, ◌-◌, ◌==◌, Bool, true, false, cond, not, ◌||◌, List, [], ◌∷◌, length, get_or, refl, ◌∙◌, arith}
 use Rattle.std.specs.List.{prefix_len}
-use Rattle.qrcode_grid.specs.Sums.{sum_below}
+use Rattle.qrcode_grid.specs.Cells.{sum_below}
 use Rattle.qrcode_grid.specs.Penalty.{run_length, length_penalty, run_penalty}
 
 -- the runs of a line that follows a module, but for the rest of that module's run

@@ -3,7 +3,7 @@ use Rattle.std.proofs.Common.{◌≡◌, ℕ, zero, suc, ◌+◌, ◌-◌, ◌*�
 use Rattle.std.specs.Int.{bit_at}
 use Rattle.std.proofs.lemmas.Bool.{cases_lt}
 use Rattle.std.proofs.lemmas.Nat.Bits.{bit_at-zero, bit_at_ones}
-use Rattle.qrcode_grid.specs.Sums.{sum_below, count_below}
+use Rattle.qrcode_grid.specs.Cells.{sum_below, count_below}
 use Rattle.qrcode_grid.specs.Scoring.{Marks, bit_count}
 use Rattle.qrcode_grid.proofs.FieldTests.{passes_below, passes_below-at}
 use Rattle.qrcode_grid.proofs.Totals.{total-add, total-mul}

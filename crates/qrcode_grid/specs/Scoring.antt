@@ -1,6 +1,6 @@
 -- Eight candidates in one list of bytes, a byte a module: bit m is the colour in candidate m.
-use Rattle.std.specs.Prelude.{ℕ, ◌+◌, ◌*◌, ◌<◌, ◌≡◌, ◌==◌, ◌&&◌, ◌||◌, Bool, if◌then◌else◌, ◌≤◌, List, map}
-use Rattle.std.specs.Prelude.{length, slice_index, slice_index_or, slice_range}
+use Rattle.std.specs.Prelude.{ℕ, ◌+◌, ◌*◌, ◌<◌, ◌≡◌, ◌==◌, ◌&&◌, ◌||◌, Bool, if◌then◌else◌, ◌≤◌, List, map, ◌/◌, ◌%◌}
+use Rattle.std.specs.Prelude.{length, slice_index, slice_index_or, slice_range, Option, Some, None}
 use Rattle.std.specs.Int.{bit_at}
 use Rattle.qrcode_grid.specs.declared.canvas.scoring.planes.Planes.{Planes}
 use Rattle.qrcode_grid.specs.declared.canvas.scoring.planes.Tally.{Tally}
@@ -9,9 +9,12 @@ use Rattle.qrcode_grid.specs.declared.canvas.MaskPattern.TheVariants.{Checkerboa
 use Rattle.qrcode_grid.specs.Masks.{normal_patterns}
 use Rattle.qrcode_grid.specs.declared.canvas.scoring.features.Feature.{Feature}
 use Rattle.qrcode_grid.specs.declared.canvas.scoring.features.Feature.TheVariants.{Five, Six, Finder, Square, Dark}
-use Rattle.qrcode_grid.specs.Sums.{sum_below}
-use Rattle.qrcode_grid.specs.Lanes.{byte_of}
+use Rattle.qrcode_grid.specs.Cells.{sum_below}
+use Rattle.qrcode_grid.specs.Penalty.{byte_of}
 use Rattle.qrcode_grid.specs.Words.{digit, digit_color}
+use Rattle.qrcode_base.specs.declared.types.Color.{Color}
+use Rattle.qrcode_grid.specs.declared.canvas.Module.{Module}
+use Rattle.qrcode_grid.specs.declared.canvas.Module.TheVariants.{Empty, Masked, Unmasked}
 
 -- the mask with number m
 abbrev pub pattern_of : ℕ → MaskPattern
@@ -100,3 +103,18 @@ grid_in w padded = slice_range padded (4 * w) (4 * w + w * w)
 -- Bit m of byte k is digit k of a format word.
 abbrev pub AreDigits : List ℕ → ℕ → ℕ → Type 0
 AreDigits digits m word = (k : ℕ) → k < 15 → bit_at (slice_index digits k) m ≡ byte_of (digit_color (digit word k))
+
+-- a module as a byte: 1 where it is dark, and 2 more where a mask may invert it
+abbrev pub code_of : Module → ℕ
+code_of Empty = 2
+code_of (Masked c) = byte_of c
+code_of (Unmasked c) = 2 + byte_of c
+
+-- the byte of a module after masking, by its code and whether it is inverted
+abbrev pub masked_code : ℕ → Bool → ℕ
+masked_code code inverted = (code % 2 + (if inverted then code / 2 else 0)) % 2
+
+-- a byte after a functional colour is drawn over it, if there is one
+abbrev pub byte_under : Option Color → ℕ → ℕ
+byte_under (Some c) b = byte_of c
+byte_under None b = b

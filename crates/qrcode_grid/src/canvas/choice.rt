@@ -68,7 +68,7 @@ impl Canvas {
     ghost use Rattle.std.specs.Prelude.{◌≡◌, ◌+◌, ◌*◌, ◌≤◌, IfOk, IfErr, length, map, slice_index};
     ghost use Rattle.qrcode_base.specs.Symbols.{width_of};
     ghost use Rattle.qrcode_grid.specs.declared.canvas.MaskPattern.{MaskPattern};
-    ghost use Rattle.qrcode_grid.specs.Lanes.{byte_of};
+    ghost use Rattle.qrcode_grid.specs.Penalty.{byte_of};
     ghost use Rattle.qrcode_grid.specs.Scoring.{grid_in, plane};
     ghost use Rattle.qrcode_grid.specs.Canvas.{with_mask};
     ghost use Rattle.qrcode_grid.specs.Masks.{IsOfFamily, normal_number};

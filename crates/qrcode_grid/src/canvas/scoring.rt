@@ -2,9 +2,8 @@
 ghost use Rattle.std.specs.Prelude.{◌≡◌, ℕ, ◌+◌, ◌*◌, ◌/◌, ◌%◌, ◌<◌, ◌≤◌, length, map, replicate, slice_index, IfOk};
 ghost use Rattle.qrcode_base.specs.Symbols.{IsVersion, width_of};
 ghost use Rattle.qrcode_grid.specs.Canvas.{color_of_module};
-ghost use Rattle.qrcode_grid.specs.Lanes.{byte_of};
+ghost use Rattle.qrcode_grid.specs.Penalty.{byte_of, micro_penalty, modules_penalty};
 ghost use Rattle.qrcode_grid.specs.Masks.{masked_cells};
-ghost use Rattle.qrcode_grid.specs.Penalty.{micro_penalty, modules_penalty};
 ghost use Rattle.qrcode_grid.specs.Scoring.{IsPadded, grid_in, pattern_of, plane};
 
 mod candidates;

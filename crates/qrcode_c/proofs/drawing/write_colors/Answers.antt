@@ -1,6 +1,6 @@
 -- One byte more is written.
 use Rattle.std.proofs.Common.{◌++◌, ◌∙◌, map, set, take, drop, ap, add-one, arith}
-use Rattle.qrcode_grid.specs.Lanes.{byte_of}
+use Rattle.qrcode_grid.specs.Penalty.{byte_of}
 use Rattle.qrcode_c.proofs.Writing.{written_step}
 use Rattle.qrcode_c.proofs.drawing.write_colors.Goals as goal
 

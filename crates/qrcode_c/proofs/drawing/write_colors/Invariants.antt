@@ -1,6 +1,6 @@
 -- So many modules are written, and the others are as before.
 use Rattle.std.proofs.Common.{◌≡◌, ◌++◌, map, take, drop}
-use Rattle.qrcode_grid.specs.Lanes.{byte_of}
+use Rattle.qrcode_grid.specs.Penalty.{byte_of}
 use Rattle.qrcode_c.proofs.drawing.write_colors.Given as goal
 
 abbrev pub invariant-loop-i : goal.invariant-loop-i

@@ -5,10 +5,10 @@ ghost use Rattle.std.specs.Prelude.{map, slice_index, All};
 ghost use Rattle.std.specs.Int.{bit_at};
 ghost use Rattle.qrcode_base.specs.declared.types.Color.TheVariants.{Dark};
 ghost use Rattle.qrcode_grid.specs.Canvas.{color_of_module};
-ghost use Rattle.qrcode_grid.specs.Lanes.{byte_of, byte_under, code_of, masked_code};
+ghost use Rattle.qrcode_grid.specs.Scoring.{byte_under, code_of, masked_code, AreDigits, plane, pattern_of};
+ghost use Rattle.qrcode_grid.specs.Penalty.{byte_of};
 ghost use Rattle.qrcode_grid.specs.Masks.{format_color, normal_format_color, masked_cells};
 ghost use Rattle.qrcode_grid.specs.Regions.{written};
-ghost use Rattle.qrcode_grid.specs.Scoring.{AreDigits, plane, pattern_of};
 ghost use Rattle.qrcode_grid.specs.Words.{digit, digit_color};
 
 use crate::canvas::Module;

@@ -3,9 +3,8 @@
 ghost use Rattle.std.specs.Prelude.{◌≡◌, if◌then◌else◌, ℕ, ◌+◌, ◌-◌, ◌*◌, ◌/◌, ◌%◌, ◌<◌, ◌≤◌, length};
 ghost use Rattle.std.specs.Prelude.{slice_index, count_by};
 ghost use Rattle.std.specs.Int.{bit_at};
-ghost use Rattle.qrcode_grid.specs.Lanes.{is_dark_byte};
-ghost use Rattle.qrcode_grid.specs.Sums.{sum_below};
-ghost use Rattle.qrcode_grid.specs.Penalty.{column, line_penalty, squares_penalty, normal_penalty};
+ghost use Rattle.qrcode_grid.specs.Penalty.{is_dark_byte, column, line_penalty, squares_penalty, normal_penalty};
+ghost use Rattle.qrcode_grid.specs.Cells.{sum_below};
 ghost use Rattle.qrcode_grid.specs.Scoring.{IsPadded, grid_in, plane, has_square};
 
 use crate::canvas::scoring::features::{Feature, places_of};

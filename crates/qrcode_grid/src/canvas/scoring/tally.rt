@@ -1,7 +1,7 @@
 //! How many places have what the penalty counts, in eight candidates at once.
 ghost use Rattle.std.specs.Prelude.{◌≡◌, ◌&&◌, nat_lt, ℕ, ◌+◌, ◌-◌, ◌*◌, ◌<◌, ◌≤◌, [], length, slice_index};
 ghost use Rattle.std.specs.Prelude.{slice_index_or};
-ghost use Rattle.qrcode_grid.specs.Sums.{count_below};
+ghost use Rattle.qrcode_grid.specs.Cells.{count_below};
 ghost use Rattle.qrcode_grid.specs.Scoring.{Marks, plane, has, has_five, has_six, has_finder, reach, tallied};
 
 use crate::canvas::scoring::counting::{add_rows, no_bits, totals};

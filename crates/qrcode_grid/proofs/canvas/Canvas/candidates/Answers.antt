@@ -2,9 +2,8 @@ use Rattle.std.proofs.Common.{◌≡◌, ◌∙◌, ◌++◌, length, take, drop
 use Rattle.qrcode_base.specs.Symbols.{width_of}
 use Rattle.qrcode_grid.specs.declared.canvas.MaskPattern.{MaskPattern}
 use Rattle.qrcode_grid.specs.Canvas.{Drawing, colors_of, with_mask}
-use Rattle.qrcode_grid.specs.Lanes.{byte_of}
+use Rattle.qrcode_grid.specs.Penalty.{byte_of, penalty, modules_penalty}
 use Rattle.qrcode_grid.specs.Masks.{IsOfFamily, normal_number}
-use Rattle.qrcode_grid.specs.Penalty.{penalty, modules_penalty}
 use Rattle.qrcode_grid.specs.Scoring.{plane, grid_in}
 use Rattle.qrcode_grid.proofs.MaskNumbers.{number_small, bytes_of_number, written_whole}
 use Rattle.qrcode_grid.proofs.canvas.Canvas.candidates.Goals as goal

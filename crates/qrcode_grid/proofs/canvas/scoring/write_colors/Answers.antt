@@ -2,7 +2,7 @@ use Rattle.std.proofs.Common.{◌<◌, map, length, ◌∙◌, sym, arith}
 use Rattle.std.proofs.lemmas.Grind.{same_number_lists}
 use Rattle.std.proofs.lemmas.List.{get_or-map, length-map}
 use Rattle.qrcode_base.specs.declared.types.Color.TheVariants.{Light}
-use Rattle.qrcode_grid.specs.Lanes.{byte_of}
+use Rattle.qrcode_grid.specs.Penalty.{byte_of}
 use Rattle.qrcode_grid.specs.Scoring.{plane}
 use Rattle.qrcode_grid.proofs.EightSquares.{length-plane}
 use Rattle.qrcode_grid.proofs.MarkedLanes.{plane_at}

@@ -1,7 +1,7 @@
 -- The digits of the words before this one are set, and no others.
 use Rattle.std.proofs.Common.{◌≡◌, ◌<◌, ◌≤◌, ℕ, get_or}
 use Rattle.std.specs.Int.{bit_at}
-use Rattle.qrcode_grid.specs.Lanes.{byte_of}
+use Rattle.qrcode_grid.specs.Penalty.{byte_of}
 use Rattle.qrcode_grid.specs.Words.{digit, digit_color}
 use Rattle.qrcode_grid.proofs.canvas.scoring.candidates.digits_of.Given as goal
 

@@ -1,7 +1,7 @@
 -- The digits before this one are found.
 use Rattle.std.proofs.Common.{◌≡◌, ◌<◌, ℕ, get_or, length}
 use Rattle.std.specs.Int.{bit_at}
-use Rattle.qrcode_grid.specs.Lanes.{byte_of}
+use Rattle.qrcode_grid.specs.Penalty.{byte_of}
 use Rattle.qrcode_grid.specs.Words.{digit, digit_color}
 use Rattle.qrcode_grid.proofs.canvas.scoring.candidates.format_digits.Given as goal
 

@@ -2,7 +2,7 @@ use Rattle.std.proofs.Common.{◌≡◌, ◌+◌, ◌-◌, ◌*◌, ◌%◌, ◌
 use Rattle.std.specs.Int.{bit_at}
 use Rattle.std.proofs.Math.Nat.{mul-le-mul_right, add-mul}
 use Rattle.std.proofs.lemmas.Bool.{cases_lt}
-use Rattle.qrcode_grid.specs.Lanes.{code_of, masked_code}
+use Rattle.qrcode_grid.specs.Scoring.{code_of, masked_code}
 use Rattle.qrcode_grid.proofs.canvas.scoring.candidates.mask_rows.Goals as goal
 
 pub mask_part-requires-clause-within : goal.mask_part-requires-clause-within

@@ -2,9 +2,8 @@ use Rattle.std.proofs.Common.{◌≡◌, ◌+◌, ◌*◌, ◌/◌, ◌%◌, ◌
 use Rattle.std.proofs.Math.Nat.{mul-le-mul_right}
 use Rattle.std.proofs.lemmas.Bool.{cases_lt}
 use Rattle.std.proofs.lemmas.List.{length-map}
-use Rattle.qrcode_grid.specs.Lanes.{byte_under, code_of, masked_code}
+use Rattle.qrcode_grid.specs.Scoring.{byte_under, code_of, masked_code, plane, pattern_of}
 use Rattle.qrcode_grid.specs.Masks.{format_color, is_inverted}
-use Rattle.qrcode_grid.specs.Scoring.{plane, pattern_of}
 use Rattle.qrcode_grid.proofs.Conditions.{set_again}
 use Rattle.qrcode_grid.proofs.EightSquares.{length-plane}
 use Rattle.qrcode_grid.proofs.MarkedLanes.{plane_at}

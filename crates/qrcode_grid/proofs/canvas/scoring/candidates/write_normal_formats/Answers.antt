@@ -3,9 +3,8 @@ use Rattle.std.specs.Int.{bit_at}
 use Rattle.std.proofs.lemmas.List.{map-set}
 use Rattle.std.proofs.lemmas.Nat.Bits.{bit_at_ones}
 use Rattle.qrcode_base.specs.declared.types.Color.TheVariants.{Dark}
-use Rattle.qrcode_grid.specs.Lanes.{byte_under}
+use Rattle.qrcode_grid.specs.Scoring.{byte_under, plane}
 use Rattle.qrcode_grid.specs.Regions.{format_first, format_second, where_true, written}
-use Rattle.qrcode_grid.specs.Scoring.{plane}
 use Rattle.qrcode_grid.proofs.EightSquares.{length-plane}
 use Rattle.qrcode_grid.proofs.WrittenWords.{dark_written, over_three}
 use Rattle.qrcode_grid.proofs.canvas.scoring.candidates.write_normal_formats.Goals as goal

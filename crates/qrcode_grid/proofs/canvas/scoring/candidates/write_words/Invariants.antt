@@ -1,7 +1,6 @@
 -- The low digits are written into the last places.
 use Rattle.std.proofs.Common.{◌-◌, ◌<◌, ℕ, drop}
-use Rattle.qrcode_grid.specs.Lanes.{byte_under}
-use Rattle.qrcode_grid.specs.Scoring.{AreDigits, plane}
+use Rattle.qrcode_grid.specs.Scoring.{byte_under, AreDigits, plane}
 use Rattle.qrcode_grid.proofs.WrittenWords.{IsWritten}
 use Rattle.qrcode_grid.proofs.canvas.scoring.candidates.write_words.Given as goal
 

@@ -1,7 +1,6 @@
 use Rattle.std.proofs.Common.{◌≡◌, ◌*◌, ◌/◌, length, get_or, count_by, ap, ◌∙◌, sym, arith}
 use Rattle.std.specs.Int.{abs_diff}
-use Rattle.qrcode_grid.specs.Lanes.{is_dark_byte}
-use Rattle.qrcode_grid.specs.Penalty.{balance_penalty}
+use Rattle.qrcode_grid.specs.Penalty.{is_dark_byte, balance_penalty}
 use Rattle.qrcode_grid.specs.Scoring.{plane, grid_in}
 use Rattle.qrcode_grid.proofs.EightSquares.{length-plane, length-grid, plane-transposed}
 use Rattle.qrcode_grid.proofs.Transposed.{lines_are_columns}

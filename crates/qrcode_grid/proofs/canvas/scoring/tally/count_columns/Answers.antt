@@ -1,5 +1,5 @@
 use Rattle.std.proofs.Common.{◌≡◌, ◌+◌, ◌*◌, ap, arith}
-use Rattle.qrcode_grid.specs.Sums.{count_below}
+use Rattle.qrcode_grid.specs.Cells.{count_below}
 use Rattle.qrcode_grid.specs.Scoring.{has_five, has_six, has_finder, plane}
 use Rattle.qrcode_grid.proofs.Tallies.{next_rows}
 use Rattle.qrcode_grid.proofs.canvas.scoring.tally.count_columns.Goals as goal

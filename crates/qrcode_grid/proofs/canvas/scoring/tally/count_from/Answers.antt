@@ -1,5 +1,5 @@
 use Rattle.std.proofs.Common.{◌≡◌, ℕ, ◌+◌, ◌*◌, ◌&&◌, ltb, ap, ◌∙◌, arith}
-use Rattle.qrcode_grid.specs.Sums.{count_below}
+use Rattle.qrcode_grid.specs.Cells.{count_below}
 use Rattle.qrcode_grid.specs.Scoring.{has, plane}
 use Rattle.qrcode_grid.proofs.FlatSquares.{count_below_le}
 use Rattle.qrcode_grid.proofs.Tallies.{next_rows, count_bounded, count_inside}

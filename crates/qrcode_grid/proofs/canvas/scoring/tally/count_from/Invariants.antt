@@ -1,6 +1,6 @@
 -- The places of the chunks before this one are counted.
 use Rattle.std.proofs.Common.{◌≡◌, ◌<◌, ◌≤◌, ◌*◌, ◌&&◌, ltb, ℕ, get_or}
-use Rattle.qrcode_grid.specs.Sums.{count_below}
+use Rattle.qrcode_grid.specs.Cells.{count_below}
 use Rattle.qrcode_grid.specs.Scoring.{tallied, has, plane}
 use Rattle.qrcode_grid.proofs.canvas.scoring.tally.count_from.Given as goal
 
