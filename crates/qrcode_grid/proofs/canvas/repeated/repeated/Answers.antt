@@ -1,6 +1,7 @@
 use Rattle.std.proofs.Common.{◌≡◌, ◌∙◌, ◌+◌, ◌-◌, ◌*◌, ◌≤◌, ◌++◌, ℕ, List, ap, arith, replicate, take, length}
 use Rattle.std.proofs.lemmas.List.{take_all, length-replicate, replicate-append-replicate}
 use Rattle.qrcode_grid.proofs.canvas.repeated.repeated.Goals as goal
+use Rattle.std.proofs.lemmas.Grind.{common_steps}
 
 -- a list of one value, filled up to a length
 filled_up : {A : Type 0} (xs : List A) (k m n : ℕ) (v : A) → xs ≡ replicate k v → m ≡ length xs → k ≤ n → take n xs ++ replicate (n - m) v ≡ replicate n v
@@ -15,6 +16,4 @@ loop-part-preserved g c =
     c.in_ok-resize.ensures.items ∙ filled_up c.loop-part.list.items (1000 * c.loop-part.part) c.loop-part.list.len (1000 * (c.loop-part.part + 1)) c.args.value c.loop-part.invariant (omega (arith, c.loop-part.list.ok)) (omega arith)
 
 pub returns : goal.returns
-returns g c =
-    c.in_ok-resize-2.ensures.items ∙ filled_up c.loop-part.list.items (1000 * c.loop-part.part) c.loop-part.list.len c.args.length c.args.value c.loop-part.invariant (omega (arith, c.loop-part.list.ok))
-    (omega (arith, c.loop-part-test.false, c.loop-part.auto.part-end))
+returns g c = grind (arith, common_steps, filled_up)

@@ -1,15 +1,13 @@
-use Rattle.std.proofs.Common.{◌≡◌, ◌+◌, ◌-◌, ◌*◌, ◌%◌, ◌<◌, ◌≤◌, ◌==◌, map, get_or, ap, ◌∙◌, sym, arith, inl, inr}
+use Rattle.std.proofs.Common.{◌≡◌, ◌+◌, ◌-◌, ◌*◌, ◌%◌, ◌<◌, ◌==◌, map, get_or, ap, ◌∙◌, sym, arith, inl, inr}
 use Rattle.std.specs.Int.{bit_at}
 use Rattle.std.proofs.Math.Nat.{mul-le-mul_right, add-mul}
 use Rattle.std.proofs.lemmas.Bool.{cases_lt}
 use Rattle.qrcode_grid.specs.Scoring.{code_of, masked_code}
 use Rattle.qrcode_grid.proofs.canvas.scoring.candidates.mask_rows.Goals as goal
+use Rattle.std.proofs.lemmas.Grind.{common_steps}
 
 pub mask_part-requires-clause-within : goal.mask_part-requires-clause-within
-mask_part-requires-clause-within c =
-    let w = c.args.width in let first = 12 * c.loop-part.part in let rows = c.min-rows.result in
-    let inside : first + rows ≤ w = omega (arith, c.min-rows.ensures, c.loop-part-test.true, c.loop-part.auto.part-end) in
-    omega (arith, c.requires.square, add-mul first rows w, mul-le-mul_right w inside)
+mask_part-requires-clause-within c = grind (arith, common_steps, add-mul, mul-le-mul_right)
 
 pub loop-part-preserved : goal.loop-part-preserved
 loop-part-preserved c = λ m x y b h l n. elim (cases_lt y (12 * c.loop-part.part)) [

@@ -1,9 +1,9 @@
-use Rattle.std.proofs.Common.{◌-◌, ◌+◌, ◌*◌, ◌<◌, ◌∙◌, List, ℕ, length, get_or, drop, arith, refl, subst, sym}
+use Rattle.std.proofs.Common.{◌-◌, ◌+◌, ◌*◌, ◌<◌, ◌∙◌, List, ℕ, length, get_or, drop, arith, subst, sym}
 use Rattle.std.specs.Int.{bit_at}
 use Rattle.std.proofs.lemmas.List.{map-set}
 use Rattle.qrcode_grid.specs.Scoring.{byte_under, plane}
 use Rattle.qrcode_grid.proofs.EightSquares.{length-plane}
-use Rattle.qrcode_grid.proofs.WrittenWords.{IsWritten, none_written, next_written, all_written}
+use Rattle.qrcode_grid.proofs.WrittenWords.{IsWritten, next_written}
 use Rattle.qrcode_grid.proofs.canvas.scoring.candidates.write_words.Goals as goal
 
 pub loop-k-preserved : goal.loop-k-preserved

@@ -1,11 +1,7 @@
-use Rattle.std.proofs.Common.{◌≡◌, ◌+◌, ◌*◌, ◌==◌, get_or, ap, arith}
-use Rattle.qrcode_grid.specs.Scoring.{plane, cell}
+use Rattle.std.proofs.Common.{arith}
 use Rattle.qrcode_grid.proofs.MarkedLanes.{marks_light, marks_as}
 use Rattle.qrcode_grid.proofs.canvas.scoring.features.light.Goals as goal
+use Rattle.std.proofs.lemmas.Grind.{common_steps}
 
 pub returns : goal.returns
-returns c =
-    let bytes = c.args.bytes.now in let at = c.args.at in let down = c.args.row * c.args.width in
-    marks_as _ (λ m j. get_or (plane m bytes) (at + down + j) 0 == 0) (λ m j. cell c.args.width (plane m bytes) (at + j) c.args.row == 0)
-    (λ m j. let e : at + down + j ≡ at + j + down = omega arith in ap (λ k. get_or (plane m bytes) k 0 == 0) e)
-    (marks_light bytes c.type_inv.bytes (at + down) c.requires.within)
+returns c = grind (arith, common_steps, marks_as, marks_light)

@@ -3,16 +3,14 @@ use Rattle.qrcode_grid.specs.Scoring.{has, plane}
 use Rattle.qrcode_grid.proofs.MarkedLanes.{marks_and, marks_as, marks_where, marks_none}
 use Rattle.qrcode_grid.proofs.Tallies.{marked_below, marked_within, ltb_moved}
 use Rattle.qrcode_grid.proofs.canvas.scoring.tally.places_below.Goals as goal
+use Rattle.std.proofs.lemmas.Grind.{common_steps}
 
 pub returns-then-at-bound : goal.returns-then-at-bound
 returns-then-at-bound c =
     marks_none _ (λ m j h. marked_below c.args.bound (c.args.at + j) (has c.args.feature c.args.width (plane m c.args.bytes.now) (c.args.at + j)) (omega (arith, c.if-at-bound.true)))
 
 pub returns-then-bound-at-ge16 : goal.returns-then-bound-at-ge16
-returns-then-bound-at-ge16 c =
-    marks_where _ _ _
-    (λ m j h. marked_within c.args.bound (c.args.at + j) (has c.args.feature c.args.width (plane m c.args.bytes.now) (c.args.at + j)) (omega (arith, c.if-at-bound.false, c.if-bound-at-ge16.true, h)))
-    c.places_of-places.ensures
+returns-then-bound-at-ge16 c = grind (arith, common_steps, marked_within, marks_where)
 
 pub returns : goal.returns
 returns c =
