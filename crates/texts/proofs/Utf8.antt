@@ -1,5 +1,5 @@
 -- What a refused push, or a refused end, says of the bits of a text.
-use Rattle.std.proofs.Common.{◌≡◌, ◌∙◌, ℕ, ◌^◌, ◌<◌, ◌≤◌, Bool, List, [], ◌++◌, length, ap, sym, subst, arith, inl, inr, length-append}
+use Rattle.std.proofs.Common.{◌≡◌, ◌∙◌, ℕ, ◌^◌, ◌<◌, ◌≤◌, Bool, List, [], ◌++◌, length, get_or, ap, sym, subst, arith, inl, inr, length-append}
 use Rattle.std.specs.Prelude.{All, Some}
 use Rattle.std.proofs.lemmas.Bool.{cases_lt}
 use Rattle.std.proofs.lemmas.Option.{none-some}
@@ -8,13 +8,15 @@ use Rattle.qrcode_base.specs.declared.types.Mode.TheVariants.{Byte}
 use Rattle.qrcode_base.specs.declared.types.Version.{Version}
 use Rattle.qrcode_base.specs.declared.types.errors.QrError.{QrError}
 use Rattle.qrcode_base.specs.declared.types.errors.QrError.TheVariants.{DataTooLong, OutOfMemory, InvalidCharacter, UnsupportedCharacterSet}
-use Rattle.qrcode_base.specs.Modes.{HasMode, by_class, count_width}
-use Rattle.qrcode_base.proofs.Fields.{by_class-cases, capacity-held, count-fits}
+use Rattle.qrcode_base.specs.Modes.{HasMode, count_width}
+use Rattle.qrcode_base.proofs.Fields.{count-fits}
 use Rattle.qrcode_base.proofs.Validity.{none_where_valid, first_invalid-is}
 use Rattle.qrcode_bits.specs.Indicators.{eci_spelling}
 use Rattle.qrcode_bits.specs.Push.{IsRefused, Spells, piece}
 use Rattle.qrcode_bits.specs.Spelling.{character_count, spelling}
 use Rattle.qrcode_bits.specs.Stream.{Stream, Appends}
+use Rattle.qrcode_bits.proofs.Choices.{capacity-most}
+use Rattle.qrcode_bits.proofs.Pairs.{bytes_valid}
 use Rattle.qrcode_bits.proofs.Reading.{length-spelling}
 use Rattle.qrcode_bits.proofs.Segments.{length-character_bits}
 use Rattle.texts.specs.Smallest.{normal, SaysUtf8, HoldsNoneBelow, IsTooLongIn, IsRefusedIn}
@@ -68,7 +70,7 @@ one_length stream number text is said bits same =
     sym (ap length (said ∙ (ap (λ (v : Version). eci_spelling 26 ++ spelling v (piece Byte text)) is ∙ sym same)))
 
 -- No version holds so many bytes.
-pub too_many : (text : List ℕ) (level : EcLevel) → All (λ c. c < 256) text → 7089 < length text → HoldsNoneBelow 41 (SaysUtf8 text) level
+pub too_many : (text : List ℕ) (level : EcLevel) → ((i : ℕ) → get_or text i 0 < 256) → 7089 < length text → HoldsNoneBelow 41 (SaysUtf8 text) level
 too_many text level are many n first below bits limit said limit_is =
     omega (
       arith,
@@ -76,13 +78,6 @@ too_many text level are many n first below bits limit said limit_is =
       ap length said,
       length-append (eci_spelling 26) (spelling (normal n) (piece Byte text)),
       length-spelling (normal n) (piece Byte text),
-      length-character_bits Byte text are,
-      (capacity-held level n limit limit_is).1,
-      class_most n first,
+      length-character_bits Byte text (bytes_valid text are),
+      capacity-most level n limit (omega (arith, below)) limit_is,
     )
-  where
-    class_most : (n : ℕ) → 1 ≤ n → by_class n 1856 10960 23648 ≤ 23648
-    class_most n some = elim (by_class-cases n some) [
-      | inl v ↦ omega (arith, v.1 1856 10960 23648)
-      | inr o ↦ elim o [ inl v ↦ omega (arith, v.2 1856 10960 23648) | inr v ↦ omega (arith, v.1 1856 10960 23648) ]
-    ]
