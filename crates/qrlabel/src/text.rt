@@ -19,10 +19,12 @@ pub fn text_symbol(alloc: Global, bytes: &[u8], level: EcLevel) -> QrResult<Symb
     if bytes.len() > MOST_BYTES {
         return Err(QrError::DataTooLong);
     }
-    if let Err(error) = str::from_utf8(bytes) {
-        let position = error.valid_up_to();
-        let byte = bytes[position];
-        return Err(QrError::InvalidCharacter { position, byte });
+    match str::from_utf8(bytes) {
+        Ok(text) => utf8_symbol(alloc, text, level),
+        Err(error) => {
+            let position = error.valid_up_to();
+            let byte = bytes[position];
+            Err(QrError::InvalidCharacter { position, byte })
+        }
     }
-    utf8_symbol(alloc, bytes, level)
 }

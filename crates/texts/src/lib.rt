@@ -11,13 +11,13 @@ use qrcode_core::types::{EcLevel, QrError, QrResult, Version};
 use std::alloc::Global;
 
 /// A text in UTF-8, as one Byte segment behind the ECI designator that says so, in the smallest version that holds both.
-pub fn utf8_symbol(alloc: Global, text: &[u8], level: EcLevel) -> QrResult<Symbol>
+pub fn utf8_symbol(alloc: Global, text: &str, level: EcLevel) -> QrResult<Symbol>
     ensures smallest { IfOk result (IsSmallest (SaysUtf8 text.now) level) }
     ensures reading { IfOk result TellsReading }
     ensures refused { IfErr result (IsRefusedByAll (SaysUtf8 text.now) level) }
 {
     for number in 1..41 {
-        match utf8_in(alloc, text, number, level) {
+        match utf8_in(alloc, text.as_bytes(), number, level) {
             Ok(symbol) => return Ok(symbol),
             Err(QrError::DataTooLong) => {}
             Err(error) => return Err(error),

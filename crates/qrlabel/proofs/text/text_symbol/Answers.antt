@@ -13,8 +13,7 @@ returns-then-bytes-gt-MOST_BYTES-clause-refused c = (
 
 pub returns-in-Err-clause-refused : goal.returns-in-Err-clause-refused
 returns-in-Err-clause-refused c =
-    let valid = c.in-Err.ensures.cases.1 in
-    (
+    let valid = c.in-Err.ensures.cases.1 in (
       omega (arith, c.if-bytes-gt-MOST_BYTES.false),
       rw c.valid_up_to-position.ensures valid,
       slice_get-get_or c.args.bytes.now c.valid_up_to-position.result 0 (omega (arith, c.valid_up_to-position.ensures, valid.short)),
