@@ -201,7 +201,8 @@ is_micro words rest begins Usual settings e = absurd (no_kind (codes "micro") se
 is_micro words rest begins Micro settings e = refl
 is_micro words rest begins Utf8 settings e = absurd (differ (codes "utf8") (codes "micro") (spelled settings) rest refl (sym e ∙ begins))
 
-pub is_utf8 : (words rest : Words) → words ≡ codes "utf8" ∷ rest → (kind : Kind) (settings : List Setting) → words ≡ kind_words kind ++ spelled settings → kind ≡ Utf8
+pub is_utf8 : (words rest : Words) → words ≡ codes "utf8" ∷ rest → (kind : Kind) (settings : List Setting) →
+    words ≡ kind_words kind ++ spelled settings → kind ≡ Utf8
 is_utf8 words rest begins Usual settings e = absurd (no_kind (codes "utf8") settings rest refl refl refl (sym e ∙ begins))
 is_utf8 words rest begins Micro settings e = absurd (differ (codes "micro") (codes "utf8") (spelled settings) rest refl (sym e ∙ begins))
 is_utf8 words rest begins Utf8 settings e = refl

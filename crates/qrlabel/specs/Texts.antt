@@ -12,8 +12,8 @@ pub record IsTextSymbol (level : EcLevel) (bytes : List ℕ) (symbol : DrawnSymb
   pub text : IsUtf8 bytes
   pub smallest : IsSmallest (SaysUtf8 bytes) level symbol
 
--- Which refusal comes when: more than 7089 bytes, which no version holds; then bytes that are no text in UTF-8, with the
--- place where the longest text in front of them ends; then a text that no version holds.
+-- Which refusal comes when: more than 7089 bytes, which no version holds; then bytes that are no UTF-8, with the place
+-- where the longest UTF-8 in front ends, and the byte there; then a text that no version holds.
 abbrev pub IsTextRefusal : EcLevel → List ℕ → QrError → Type 0
 IsTextRefusal level bytes DataTooLong =
     (length bytes ≤ 7089 → IsUtf8 bytes) × IsRefusedByAll (SaysUtf8 bytes) level DataTooLong

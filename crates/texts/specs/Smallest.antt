@@ -32,7 +32,8 @@ SaysElements text version bits = (plan : List Segment) × IsChosenPlan (parsed t
     × (bits ≡ number_bits 4 5 ++ spellings version (segment_pieces text plan))
 
 -- the bits say so in this version, and its symbol holds them
-pub record HoldsIn (says : Version → List Bool → Type 0) (version : Version) (level : EcLevel) (symbol : DrawnSymbol) : Type 0 where
+pub record HoldsIn (says : Version → List Bool → Type 0) (version : Version) (level : EcLevel)
+    (symbol : DrawnSymbol) : Type 0 where
   pub bits : List Bool
   pub limit : ℕ
   pub said : says version bits

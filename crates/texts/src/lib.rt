@@ -3,14 +3,15 @@
 
 ghost use Rattle.std.specs.Prelude.{◌≡◌, ◌≤◌, IfOk, IfErr};
 ghost use Rattle.qrcode_core.specs.Drawn.{TellsReading};
-ghost use Rattle.texts.specs.Smallest.{SaysUtf8, SaysElements, IsSmallest, HoldsIn, IsRefusedIn, IsRefusedByAll, normal};
+ghost use Rattle.texts.specs.Smallest.{SaysUtf8, SaysElements, HoldsIn, IsRefusedIn, normal};
+ghost use Rattle.texts.specs.Smallest.{IsSmallest, IsRefusedByAll};
 
 use qrcode_core::bits::Bits;
 use qrcode_core::symbol::Symbol;
 use qrcode_core::types::{EcLevel, QrError, QrResult, Version};
 use std::alloc::Global;
 
-/// A text in UTF-8, as one Byte segment behind the ECI designator that says so, in the smallest version that holds both.
+/// A text as one Byte segment behind the ECI designator of UTF-8, in the smallest version that holds both.
 pub fn utf8_symbol(alloc: Global, text: &str, level: EcLevel) -> QrResult<Symbol>
     ensures smallest { IfOk result (IsSmallest (SaysUtf8 text.now) level) }
     ensures reading { IfOk result TellsReading }
@@ -40,8 +41,9 @@ fn utf8_in(alloc: Global, text: &[u8], number: usize, level: EcLevel) -> QrResul
     Symbol::with_bits(alloc, bits, level)
 }
 
-/// A GS1 element string behind FNC1 in the first position, in the fewest bits, in the smallest version that holds both. FNC1
-/// between elements is the byte 1D hex; the elements have no `%`, which stands for FNC1 too where it is Alphanumeric.
+/// A GS1 element string behind FNC1 in the first position, in the fewest bits, in the smallest version that holds both.
+/// FNC1 between elements is the byte 1D hex; the elements have no `%`, which stands for FNC1 too where it is
+/// Alphanumeric.
 pub fn gs1_symbol(alloc: Global, elements: &[u8], level: EcLevel) -> QrResult<Symbol>
     ensures smallest { IfOk result (IsSmallest (SaysElements elements.now) level) }
     ensures reading { IfOk result TellsReading }
