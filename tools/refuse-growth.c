@@ -1,7 +1,8 @@
 // Stands before malloc, realloc and free (by LD_PRELOAD), for tools/refuse-growth.
 //
 // REFUSED=N refuses the Nth growth of a run, REFUSED_FROM=N each one from the Nth on. At the end it writes a line to the file
-// COUNTS: how many growths were asked for, how many of these were refused, and how many blocks are still held.
+// COUNTS: how many growths were asked for, how many of these were refused, how many blocks are still held, and how many were held
+// at once at most.
 #include <errno.h>
 #include <fcntl.h>
 #include <stdio.h>
@@ -12,7 +13,7 @@ extern void *__libc_malloc(size_t);
 extern void *__libc_realloc(void *, size_t);
 extern void __libc_free(void *);
 
-static long asked, refused, held;
+static long asked, refused, held, most;
 static long first = -1, last = -1;
 
 __attribute__((constructor)) static void begin(void) {
@@ -20,7 +21,7 @@ __attribute__((constructor)) static void begin(void) {
     if (one) first = last = atol(one);
     if (from) first = atol(from), last = __LONG_MAX__;
     // What the C library took before `main` is not the program's.
-    asked = held = 0;
+    asked = held = most = 0;
 }
 
 static int refuses(void) {
@@ -31,17 +32,21 @@ static int refuses(void) {
     return 1;
 }
 
+static void hold(void) {
+    if (++held > most) most = held;
+}
+
 void *malloc(size_t size) {
     if (refuses()) return NULL;
     void *block = __libc_malloc(size);
-    if (block) held++;
+    if (block) hold();
     return block;
 }
 
 void *realloc(void *block, size_t size) {
     if (refuses()) return NULL;
     void *grown = __libc_realloc(block, size);
-    if (!block && grown) held++;
+    if (!block && grown) hold();
     return grown;
 }
 
@@ -54,6 +59,6 @@ __attribute__((destructor)) static void end(void) {
     const char *name = getenv("COUNTS");
     int file = name ? open(name, O_WRONLY | O_CREAT | O_TRUNC, 0600) : -1;
     if (file < 0) return;
-    dprintf(file, "%ld %ld %ld\n", asked, refused, held);
+    dprintf(file, "%ld %ld %ld %ld\n", asked, refused, held, most);
     close(file);
 }

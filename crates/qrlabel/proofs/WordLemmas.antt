@@ -9,7 +9,7 @@ use Rattle.std.proofs.lemmas.List.Sums.{fold-append}
 use Rattle.qrlabel.specs.declared.wanted.Format.{Format}
 use Rattle.qrlabel.specs.declared.wanted.Format.TheVariants.{Svg, Pbm, Terminal}
 use Rattle.qrlabel.specs.declared.wanted.Kind.{Kind}
-use Rattle.qrlabel.specs.declared.wanted.Kind.TheVariants.{Usual, Micro}
+use Rattle.qrlabel.specs.declared.wanted.Kind.TheVariants.{Usual, Micro, Utf8}
 use Rattle.qrlabel.specs.Words.{Setting, Scale, Quiet, Inverted, format_word, kind_words, setting_words, spelled}
 
 abbrev Words : Type 0
@@ -182,14 +182,27 @@ no_kind kind (Inverted ∷ settings) rest a b c e = differ (codes "--inverted") 
 pub after_kind : (kind : Kind) (us vs : Words) → kind_words kind ++ us ≡ kind_words kind ++ vs → us ≡ vs
 after_kind Usual us vs e = e
 after_kind Micro us vs e = behind_one (codes "micro") us vs e
+after_kind Utf8 us vs e = behind_one (codes "utf8") us vs e
 
 pub one_kind : (k m : Kind) (s t : List Setting) → kind_words k ++ spelled s ≡ kind_words m ++ spelled t → k ≡ m
 one_kind Usual Usual s t e = refl
 one_kind Usual Micro s t e = absurd (no_kind (codes "micro") s (spelled t) refl refl refl e)
+one_kind Usual Utf8 s t e = absurd (no_kind (codes "utf8") s (spelled t) refl refl refl e)
 one_kind Micro Usual s t e = absurd (no_kind (codes "micro") t (spelled s) refl refl refl (sym e))
 one_kind Micro Micro s t e = refl
+one_kind Micro Utf8 s t e = absurd (differ (codes "micro") (codes "utf8") (spelled s) (spelled t) refl e)
+one_kind Utf8 Usual s t e = absurd (no_kind (codes "utf8") t (spelled s) refl refl refl (sym e))
+one_kind Utf8 Micro s t e = absurd (differ (codes "utf8") (codes "micro") (spelled s) (spelled t) refl e)
+one_kind Utf8 Utf8 s t e = refl
 
 -- Words that begin with that of a kind ask for this kind.
 pub is_micro : (words rest : Words) → words ≡ codes "micro" ∷ rest → (kind : Kind) (settings : List Setting) → words ≡ kind_words kind ++ spelled settings → kind ≡ Micro
 is_micro words rest begins Usual settings e = absurd (no_kind (codes "micro") settings rest refl refl refl (sym e ∙ begins))
 is_micro words rest begins Micro settings e = refl
+is_micro words rest begins Utf8 settings e = absurd (differ (codes "utf8") (codes "micro") (spelled settings) rest refl (sym e ∙ begins))
+
+pub is_utf8 : (words rest : Words) → words ≡ codes "utf8" ∷ rest → (kind : Kind) (settings : List Setting) →
+    words ≡ kind_words kind ++ spelled settings → kind ≡ Utf8
+is_utf8 words rest begins Usual settings e = absurd (no_kind (codes "utf8") settings rest refl refl refl (sym e ∙ begins))
+is_utf8 words rest begins Micro settings e = absurd (differ (codes "micro") (codes "utf8") (spelled settings) rest refl (sym e ∙ begins))
+is_utf8 words rest begins Utf8 settings e = refl

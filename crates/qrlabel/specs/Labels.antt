@@ -8,28 +8,31 @@ use Rattle.programs.specs.Symbols.{IsSymbolOf, IsRefusalOf}
 use Rattle.qrlabel.specs.declared.wanted.Format.{Format}
 use Rattle.qrlabel.specs.declared.wanted.Format.TheVariants.{Svg, Pbm, Terminal}
 use Rattle.qrlabel.specs.declared.wanted.Kind.{Kind}
-use Rattle.qrlabel.specs.declared.wanted.Kind.TheVariants.{Usual, Micro}
+use Rattle.qrlabel.specs.declared.wanted.Kind.TheVariants.{Usual, Micro, Utf8}
 use Rattle.qrlabel.specs.Bitmaps.{bitmap_of}
 use Rattle.qrlabel.specs.Paths.{svg_text}
 use Rattle.qrlabel.specs.Pictures.{Picture, picture}
 use Rattle.qrlabel.specs.Terminals.{terminal_text}
+use Rattle.qrlabel.specs.Texts.{IsTextSymbol, IsTextRefusal}
 use Rattle.qrlabel.specs.Words.{Label}
 
 abbrev pub program : List ℕ
 program = codes "qrlabel"
 
 abbrev pub usage : List ℕ
-usage = codes "usage: qrlabel svg|pbm|terminal L|M|Q|H [micro] [--scale N] [--quiet N] [--inverted]" ++ 10 ∷ []
+usage = codes "usage: qrlabel svg|pbm|terminal L|M|Q|H [micro|utf8] [--scale N] [--quiet N] [--inverted]" ++ 10 ∷ []
 
 -- the symbol of this kind is that of the bytes
 abbrev pub IsSymbolAs : Kind → EcLevel → List ℕ → DrawnSymbol → Type 0
 IsSymbolAs Usual level bytes symbol = IsSymbolOf false level bytes symbol.modules
 IsSymbolAs Micro level bytes symbol = IsSymbolOf true level bytes symbol.modules
+IsSymbolAs Utf8 level bytes symbol = IsTextSymbol level bytes symbol
 
 -- there is no symbol of this kind of the bytes
 abbrev pub IsRefusalAs : Kind → EcLevel → List ℕ → QrError → Type 0
 IsRefusalAs Usual = IsRefusalOf false
 IsRefusalAs Micro = IsRefusalOf true
+IsRefusalAs Utf8 = IsTextRefusal
 
 -- a picture in its form
 abbrev pub picture_as : Format → Bool → Picture → List ℕ

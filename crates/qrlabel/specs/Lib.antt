@@ -9,4 +9,5 @@ pub mod Named
 pub mod Covered
 pub mod Words
 pub mod Choices
+pub mod Texts
 pub mod Labels

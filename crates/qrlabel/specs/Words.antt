@@ -6,7 +6,7 @@ use Rattle.qrcode_core.specs.Names.{NamesLevel}
 use Rattle.qrlabel.specs.declared.wanted.Format.{Format}
 use Rattle.qrlabel.specs.declared.wanted.Format.TheVariants.{Svg, Pbm, Terminal}
 use Rattle.qrlabel.specs.declared.wanted.Kind.{Kind}
-use Rattle.qrlabel.specs.declared.wanted.Kind.TheVariants.{Usual, Micro}
+use Rattle.qrlabel.specs.declared.wanted.Kind.TheVariants.{Usual, Micro, Utf8}
 use Rattle.qrlabel.specs.declared.wanted.Wanted.{Wanted}
 use Rattle.qrlabel.specs.Options.{AsksNumber}
 
@@ -45,6 +45,7 @@ format_word Terminal = codes "terminal"
 abbrev pub kind_words : Kind → List (List ℕ)
 kind_words Usual = []
 kind_words Micro = codes "micro" ∷ []
+kind_words Utf8 = codes "utf8" ∷ []
 
 abbrev pub setting_words : Setting → List (List ℕ)
 setting_words (Scale text) = codes "--scale" ∷ text ∷ []

@@ -10,6 +10,7 @@ ghost use Rattle.qrlabel.specs.Words.{label_of};
 
 use crate::bundle::render_by_name;
 use crate::options::configured;
+use crate::text::text_symbol;
 use crate::wanted::{Kind, Wanted};
 use programs::copying::{read_all, write_all};
 use programs::devices::{Sink, Source};
@@ -83,6 +84,7 @@ fn encoded(alloc: Global, bytes: &[u8], level: EcLevel, kind: Kind) -> Result<Sy
     match kind {
         Kind::Usual => Symbol::new(alloc, bytes, level),
         Kind::Micro => Symbol::micro(alloc, bytes, level),
+        Kind::Utf8 => text_symbol(alloc, bytes, level),
     }
 }
 

@@ -14,6 +14,7 @@ mod svg;
 mod terminal;
 #[cfg(test)]
 mod tests;
+mod text;
 mod wanted;
 
 use crate::run::{give_up, run};

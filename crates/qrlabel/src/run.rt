@@ -14,7 +14,7 @@ use std::alloc::Global;
 
 /// What is said where the words ask for nothing.
 const USAGE: &[u8] =
-    b"usage: qrlabel svg|pbm|terminal L|M|Q|H [micro] [--scale N] [--quiet N] [--inverted]\n";
+    b"usage: qrlabel svg|pbm|terminal L|M|Q|H [micro|utf8] [--scale N] [--quiet N] [--inverted]\n";
 
 /// Serves the words after the program's name, and answers the status: 0 where the label was written, 1 where there was
 /// a fault, 2 where the words ask for nothing.

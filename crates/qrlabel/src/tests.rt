@@ -189,10 +189,36 @@ fn draws_by_name(rt: HostRuntime) -> Result<(), PluginError> {
     Ok(())
 }
 
+/// What a run did: its status, how much it left unread, and what it wrote to both outputs.
+#[derive(Drop)]
+struct Served {
+    status: u8,
+    unread: usize,
+    label: Vec<u8>,
+    said: Vec<u8>,
+}
+
+/// Runs over words and an input.
+fn ran(alloc: Global, words: &[&str], input: &[u8]) -> Served {
+    let mut bytes = input;
+    let mut label: Vec<u8> = Vec::new(alloc);
+    let mut said: Vec<u8> = Vec::new(alloc);
+    let mut reader = FromReader::new(&mut bytes);
+    let mut writer = FromWriter::new(&mut label);
+    let mut errors = FromWriter::new(&mut said);
+    let status = run(alloc, words, &mut reader, &mut writer, &mut errors);
+    Served {
+        status,
+        unread: bytes.len(),
+        label,
+        said,
+    }
+}
+
 /// The words, the status, and how many bytes are written: a bitmap of so many columns and rows.
 #[test]
 fn runs(rt: HostRuntime) -> Result<(), PluginError> {
-    let rows: [(&[&str], u8, usize); 15] = [
+    let rows: [(&[&str], u8, usize); 18] = [
         (&["pbm", "L"], 0, 11 + 29 * 232),
         (&["pbm", "L", "--scale", "1"], 0, 9 + 4 * 29),
         (
@@ -208,11 +234,18 @@ fn runs(rt: HostRuntime) -> Result<(), PluginError> {
             9 + 3 * 21,
         ),
         (&["pbm", "H", "micro"], 1, 0),
+        (
+            &["pbm", "l", "utf8", "--scale", "1", "--quiet", "1"],
+            0,
+            9 + 3 * 23,
+        ),
         (&[], 2, 0),
         (&["pbm"], 2, 0),
         (&["png", "L"], 2, 0),
         (&["pbm", "X"], 2, 0),
         (&["pbm", "L", "mikro"], 2, 0),
+        (&["pbm", "L", "UTF8"], 2, 0),
+        (&["pbm", "L", "utf8", "micro"], 2, 0),
         (&["pbm", "L", "--scale", "0"], 2, 0),
         (&["pbm", "L", "--scale", "65"], 2, 0),
         (&["pbm", "L", "--quiet", "17"], 2, 0),
@@ -220,21 +253,83 @@ fn runs(rt: HostRuntime) -> Result<(), PluginError> {
         (&["pbm", "L", "--inverted", "micro"], 2, 0),
     ];
     let usage =
-        "usage: qrlabel svg|pbm|terminal L|M|Q|H [micro] [--scale N] [--quiet N] [--inverted]\n";
+        "usage: qrlabel svg|pbm|terminal L|M|Q|H [micro|utf8] [--scale N] [--quiet N] [--inverted]\n";
     for (words, status, length) in rows {
-        let mut bytes: &[u8] = b"hello";
-        let mut picture: Vec<u8> = Vec::new(rt.alloc());
-        let mut said: Vec<u8> = Vec::new(rt.alloc());
-        let mut reader = FromReader::new(&mut bytes);
-        let mut writer = FromWriter::new(&mut picture);
-        let mut errors = FromWriter::new(&mut said);
-        let answer = run(rt.alloc(), words, &mut reader, &mut writer, &mut errors);
-        assert_eq!(rt; answer, status, "{words:?}");
-        assert_eq!(rt; picture.len(), length, "{words:?}");
+        let answer = ran(rt.alloc(), words, b"hello");
+        assert_eq!(rt; answer.status, status, "{words:?}");
+        assert_eq!(rt; answer.label.len(), length, "{words:?}");
         if status == 2 {
-            assert_eq!(rt; said.as_slice(), usage.as_bytes());
-            assert_eq!(rt; bytes.len(), 5, "{words:?}");
+            assert_eq!(rt; answer.said.as_slice(), usage.as_bytes());
+            assert_eq!(rt; answer.unread, 5, "{words:?}");
         }
+    }
+    Ok(())
+}
+
+/// "ありがとう" at level L: the modules that the Rust crate `qrcode-core` 2.2.0 draws of the ECI designator 26 and one Byte
+/// segment in version 1, which zbar reads.
+const THANKS: &str = "\
+█▀▀▀▀▀█ ▄▄▄█▀ █▀▀▀▀▀█
+█ ███ █ ▀████ █ ███ █
+█ ▀▀▀ █ █▄ ▀  █ ▀▀▀ █
+▀▀▀▀▀▀▀ █▄█▄█ ▀▀▀▀▀▀▀
+█▀ ▀ ▄▀▀▄▄▀▄  ███ █▀▄
+█▄   ▄▀█ █  ▄█▄▄▀  ▄▄
+▀▀▀  ▀▀ ▄▀▀  ▀▄▄ █▄ ▀
+█▀▀▀▀▀█ ▀▀██▀▄ ▄▀█▀█▄
+█ ███ █ ▄▄▄▄▄▄▀ █▀█▀▄
+█ ▀▀▀ █ ▄  ▄█▄█▄▀▄▀▄█
+▀▀▀▀▀▀▀ ▀ ▀    ▀ ▀ ▀ 
+";
+
+/// A text in UTF-8 says so, and is in one Byte segment.
+#[test]
+fn draws_utf8(rt: HostRuntime) -> Result<(), PluginError> {
+    let words = ["terminal", "L", "utf8", "--quiet", "0"];
+    let answer = ran(rt.alloc(), &words, "ありがとう".as_bytes());
+    assert_eq!(rt; answer.status, 0);
+    assert_eq!(rt; answer.label.as_slice(), THANKS.as_bytes());
+    assert_eq!(rt; answer.said.len(), 0);
+    Ok(())
+}
+
+/// With `utf8` other bytes are refused, and too many: a version 40 has room for 2952 behind the designator.
+#[test]
+fn refuses_with_utf8(rt: HostRuntime) -> Result<(), PluginError> {
+    let many = [0xFF; 7090];
+    let rows: [(&[u8], &str); 5] = [
+        (
+            b"caf\xE9",
+            "qrlabel: invalid character byte 0xe9 at position 3\n",
+        ),
+        (
+            b"a\xE3\x81",
+            "qrlabel: invalid character byte 0xe3 at position 1\n",
+        ),
+        (&[b'a'; 2953], "qrlabel: data too long to encode\n"),
+        (
+            &many[1..],
+            "qrlabel: invalid character byte 0xff at position 0\n",
+        ),
+        (&many, "qrlabel: data too long to encode\n"),
+    ];
+    for (bytes, line) in rows {
+        let answer = ran(rt.alloc(), &["svg", "L", "utf8"], bytes);
+        assert_eq!(rt; answer.status, 1, "{line}");
+        assert_eq!(rt; answer.said.as_slice(), line.as_bytes());
+        assert_eq!(rt; answer.label.len(), 0, "{line}");
+    }
+    Ok(())
+}
+
+/// A hundred labels in one process: `tools/refuse-growth` looks that each is let go before the next.
+#[test]
+fn draws_a_hundred_labels(rt: HostRuntime) -> Result<(), PluginError> {
+    let text = [b'a'; 100];
+    let asked: [&[&str]; 3] = [&["svg", "M"], &["pbm", "Q", "utf8"], &["terminal", "H"]];
+    for length in 0..100 {
+        let answer = ran(rt.alloc(), asked[length % 3], &text[..length]);
+        assert_eq!(rt; answer.status, 0, "{length}");
     }
     Ok(())
 }

@@ -22,6 +22,8 @@ pub enum Format {
 pub enum Kind {
     Usual,
     Micro,
+    /// That of a text in UTF-8, which says so.
+    Utf8,
 }
 
 /// A label that is asked for.
@@ -62,7 +64,7 @@ impl Kind {
         ensures { result ≡ usual_quiet self }
     {
         match self {
-            Kind::Usual => 4,
+            Kind::Usual | Kind::Utf8 => 4,
             Kind::Micro => 2,
         }
     }
@@ -124,6 +126,8 @@ fn kind_of<'a, 'w>(words: &'w [&'a str]) -> (Kind, &'w [&'a str])
     };
     if *word == "micro" {
         (Kind::Micro, options)
+    } else if *word == "utf8" {
+        (Kind::Utf8, options)
     } else {
         (Kind::Usual, words)
     }

@@ -10,5 +10,4 @@ pub mod sequences;
 pub mod streams;
 pub mod symbols;
 pub mod tables;
-pub mod texts;
 pub mod views;

@@ -1,21 +1,24 @@
-//! Texts behind a header of the caller's, in the smallest version that holds them, by `qrcode_core`.
+//! Texts behind a header that tells what they are, in the smallest version that holds them, by `qrcode_core`.
+#![tactic(auto)]
+
 ghost use Rattle.std.specs.Prelude.{◌≡◌, ◌≤◌, IfOk, IfErr};
 ghost use Rattle.qrcode_core.specs.Drawn.{TellsReading};
-ghost use Rattle.uses.specs.Smallest.{IsUtf8, IsElementString, IsSmallest, HoldsIn, IsRefusedIn, IsRefusedByAll, normal};
+ghost use Rattle.texts.specs.Smallest.{SaysUtf8, SaysElements, HoldsIn, IsRefusedIn, normal};
+ghost use Rattle.texts.specs.Smallest.{IsSmallest, IsRefusedByAll};
 
 use qrcode_core::bits::Bits;
 use qrcode_core::symbol::Symbol;
 use qrcode_core::types::{EcLevel, QrError, QrResult, Version};
 use std::alloc::Global;
 
-/// A text in UTF-8, as one Byte segment behind the ECI designator that says so, in the smallest version that holds both.
-pub fn utf8_symbol(alloc: Global, text: &[u8], level: EcLevel) -> QrResult<Symbol>
-    ensures smallest { IfOk result (IsSmallest (IsUtf8 text.now) level) }
+/// A text as one Byte segment behind the ECI designator of UTF-8, in the smallest version that holds both.
+pub fn utf8_symbol(alloc: Global, text: &str, level: EcLevel) -> QrResult<Symbol>
+    ensures smallest { IfOk result (IsSmallest (SaysUtf8 text.now) level) }
     ensures reading { IfOk result TellsReading }
-    ensures refused { IfErr result (IsRefusedByAll (IsUtf8 text.now) level) }
+    ensures refused { IfErr result (IsRefusedByAll (SaysUtf8 text.now) level) }
 {
     for number in 1..41 {
-        match utf8_in(alloc, text, number, level) {
+        match utf8_in(alloc, text.as_bytes(), number, level) {
             Ok(symbol) => return Ok(symbol),
             Err(QrError::DataTooLong) => {}
             Err(error) => return Err(error),
@@ -28,9 +31,9 @@ pub fn utf8_symbol(alloc: Global, text: &[u8], level: EcLevel) -> QrResult<Symbo
 fn utf8_in(alloc: Global, text: &[u8], number: usize, level: EcLevel) -> QrResult<Symbol>
     requires first { 1 ≤ number }
     requires last { number ≤ 40 }
-    ensures holds { IfOk result (HoldsIn (IsUtf8 text.now) (normal number) level) }
+    ensures holds { IfOk result (HoldsIn (SaysUtf8 text.now) (normal number) level) }
     ensures reading { IfOk result TellsReading }
-    ensures refused { IfErr result (IsRefusedIn (IsUtf8 text.now) (normal number) level) }
+    ensures refused { IfErr result (IsRefusedIn (SaysUtf8 text.now) (normal number) level) }
 {
     let mut bits = Bits::new(alloc, normal(number));
     bits.push_eci_designator(26)?;
@@ -38,12 +41,13 @@ fn utf8_in(alloc: Global, text: &[u8], number: usize, level: EcLevel) -> QrResul
     Symbol::with_bits(alloc, bits, level)
 }
 
-/// A GS1 element string behind FNC1 in the first position, in the fewest bits, in the smallest version that holds both. FNC1
-/// between elements is the byte 1D hex; the elements have no `%`, which stands for FNC1 too where it is Alphanumeric.
+/// A GS1 element string behind FNC1 in the first position, in the fewest bits, in the smallest version that holds both.
+/// FNC1 between elements is the byte 1D hex; the elements have no `%`, which stands for FNC1 too where it is
+/// Alphanumeric.
 pub fn gs1_symbol(alloc: Global, elements: &[u8], level: EcLevel) -> QrResult<Symbol>
-    ensures smallest { IfOk result (IsSmallest (IsElementString elements.now) level) }
+    ensures smallest { IfOk result (IsSmallest (SaysElements elements.now) level) }
     ensures reading { IfOk result TellsReading }
-    ensures refused { IfErr result (IsRefusedByAll (IsElementString elements.now) level) }
+    ensures refused { IfErr result (IsRefusedByAll (SaysElements elements.now) level) }
 {
     for number in 1..41 {
         match gs1_in(alloc, elements, number, level) {
@@ -59,9 +63,9 @@ pub fn gs1_symbol(alloc: Global, elements: &[u8], level: EcLevel) -> QrResult<Sy
 fn gs1_in(alloc: Global, elements: &[u8], number: usize, level: EcLevel) -> QrResult<Symbol>
     requires first { 1 ≤ number }
     requires last { number ≤ 40 }
-    ensures holds { IfOk result (HoldsIn (IsElementString elements.now) (normal number) level) }
+    ensures holds { IfOk result (HoldsIn (SaysElements elements.now) (normal number) level) }
     ensures reading { IfOk result TellsReading }
-    ensures refused { IfErr result (IsRefusedIn (IsElementString elements.now) (normal number) level) }
+    ensures refused { IfErr result (IsRefusedIn (SaysElements elements.now) (normal number) level) }
 {
     let mut bits = Bits::new(alloc, normal(number));
     bits.push_fnc1_first_position()?;

@@ -23,16 +23,17 @@ abbrev pub normal : ℕ → Version
 normal number = Normal (pos number)
 
 -- a text in UTF-8: the ECI designator 26, and one Byte segment (ISO/IEC 18004, "ECI mode")
-abbrev pub IsUtf8 : List ℕ → Version → List Bool → Type 0
-IsUtf8 text version bits = bits ≡ eci_spelling 26 ++ spelling version (piece Byte text)
+abbrev pub SaysUtf8 : List ℕ → Version → List Bool → Type 0
+SaysUtf8 text version bits = bits ≡ eci_spelling 26 ++ spelling version (piece Byte text)
 
 -- a GS1 element string: FNC1 in the first position, and the chosen plan of its segments (ISO/IEC 18004, "FNC1 mode")
-abbrev pub IsElementString : List ℕ → Version → List Bool → Type 0
-IsElementString text version bits = (plan : List Segment) × IsChosenPlan (parsed text) version plan
+abbrev pub SaysElements : List ℕ → Version → List Bool → Type 0
+SaysElements text version bits = (plan : List Segment) × IsChosenPlan (parsed text) version plan
     × (bits ≡ number_bits 4 5 ++ spellings version (segment_pieces text plan))
 
 -- the bits say so in this version, and its symbol holds them
-pub record HoldsIn (says : Version → List Bool → Type 0) (version : Version) (level : EcLevel) (symbol : DrawnSymbol) : Type 0 where
+pub record HoldsIn (says : Version → List Bool → Type 0) (version : Version) (level : EcLevel)
+    (symbol : DrawnSymbol) : Type 0 where
   pub bits : List Bool
   pub limit : ℕ
   pub said : says version bits

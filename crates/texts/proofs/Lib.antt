@@ -1,3 +1,3 @@
-mod Utf8
+pub mod Utf8
 mod Ended
 mod ElementStrings

@@ -1,5 +1,5 @@
 -- What a refused push, or a refused end, says of the bits of a text.
-use Rattle.std.proofs.Common.{◌≡◌, ◌∙◌, ℕ, ◌^◌, ◌<◌, ◌≤◌, Bool, List, [], ◌++◌, length, ap, sym, subst, arith, inl, inr, length-append}
+use Rattle.std.proofs.Common.{◌≡◌, ◌∙◌, ℕ, ◌^◌, ◌<◌, ◌≤◌, Bool, List, [], ◌++◌, length, get_or, ap, sym, subst, arith, inl, inr, length-append}
 use Rattle.std.specs.Prelude.{All, Some}
 use Rattle.std.proofs.lemmas.Bool.{cases_lt}
 use Rattle.std.proofs.lemmas.Option.{none-some}
@@ -15,15 +15,17 @@ use Rattle.qrcode_bits.specs.Indicators.{eci_spelling}
 use Rattle.qrcode_bits.specs.Push.{IsRefused, Spells, piece}
 use Rattle.qrcode_bits.specs.Spelling.{character_count, spelling}
 use Rattle.qrcode_bits.specs.Stream.{Stream, Appends}
+use Rattle.qrcode_bits.proofs.Choices.{capacity-most}
+use Rattle.qrcode_bits.proofs.Pairs.{bytes_valid}
 use Rattle.qrcode_bits.proofs.Reading.{length-spelling}
 use Rattle.qrcode_bits.proofs.Segments.{length-character_bits}
-use Rattle.uses.specs.Smallest.{normal, IsUtf8, IsTooLongIn, IsRefusedIn}
+use Rattle.texts.specs.Smallest.{normal, SaysUtf8, HoldsNoneBelow, IsTooLongIn, IsRefusedIn}
 
 -- ---- A text in UTF-8
 
 -- A count that does not fit its field says that the bits are too many.
 pub text_too_long : (version : Version) (level : EcLevel) (text : List ℕ) → All (λ c. c < 256) text →
-    2 ^ count_width version Byte ≤ character_count Byte text → IsTooLongIn (IsUtf8 text) version level
+    2 ^ count_width version Byte ≤ character_count Byte text → IsTooLongIn (SaysUtf8 text) version level
 text_too_long version level text are wide bits limit said limit_is =
     elim (cases_lt limit (length bits)) [
       | inl more ↦ more
@@ -41,7 +43,7 @@ text_too_long version level text are wide bits limit said limit_is =
 
 -- Why the push of the text is refused.
 pub text_refused : (old : Stream) (level : EcLevel) (number : ℕ) (text : List ℕ) (error : QrError) → old.version ≡ normal number →
-    All (λ c. c < 256) text → IsRefused old (piece Byte text) error → IsRefusedIn (IsUtf8 text) (normal number) level error
+    All (λ c. c < 256) text → IsRefused old (piece Byte text) error → IsRefusedIn (SaysUtf8 text) (normal number) level error
 text_refused old level number text UnsupportedCharacterSet is are refused =
     absurd (refused (subst (λ (v : Version). HasMode v Byte) (sym is) byte_mode))
   where
@@ -50,7 +52,7 @@ text_refused old level number text UnsupportedCharacterSet is are refused =
 text_refused old level number text (InvalidCharacter position byte) is are refused =
     absurd (none-some (position, byte) (sym ((none_where_valid Byte text).0 are) ∙ sym (first_invalid-is Byte text (Some (position, byte)) refused.1)))
 text_refused old level number text DataTooLong is are refused =
-    subst (λ (v : Version). IsTooLongIn (IsUtf8 text) v level) is (text_too_long old.version level text are refused.1.1)
+    subst (λ (v : Version). IsTooLongIn (SaysUtf8 text) v level) is (text_too_long old.version level text are refused.1.1)
 text_refused old level number text OutOfMemory is are refused = tt
 text_refused old level number text other is are refused = absurd refused
 
@@ -62,7 +64,20 @@ text_pushed empty front stream text none eci spelled =
     ∙ ap (λ (v : Version). eci_spelling 26 ++ spelling v (piece Byte text)) (sym spelled.version_is))
 
 -- All that says the text in this version is as long.
-pub one_length : (stream : Stream) (number : ℕ) (text : List ℕ) → stream.version ≡ normal number → IsUtf8 text stream.version stream.bits →
-    (bits : List Bool) → IsUtf8 text (normal number) bits → length bits ≡ length stream.bits
+pub one_length : (stream : Stream) (number : ℕ) (text : List ℕ) → stream.version ≡ normal number → SaysUtf8 text stream.version stream.bits →
+    (bits : List Bool) → SaysUtf8 text (normal number) bits → length bits ≡ length stream.bits
 one_length stream number text is said bits same =
     sym (ap length (said ∙ (ap (λ (v : Version). eci_spelling 26 ++ spelling v (piece Byte text)) is ∙ sym same)))
+
+-- No version holds so many bytes.
+pub too_many : (text : List ℕ) (level : EcLevel) → ((i : ℕ) → get_or text i 0 < 256) → 7089 < length text → HoldsNoneBelow 41 (SaysUtf8 text) level
+too_many text level are many n first below bits limit said limit_is =
+    omega (
+      arith,
+      many,
+      ap length said,
+      length-append (eci_spelling 26) (spelling (normal n) (piece Byte text)),
+      length-spelling (normal n) (piece Byte text),
+      length-character_bits Byte text (bytes_valid text are),
+      capacity-most level n limit (omega (arith, below)) limit_is,
+    )

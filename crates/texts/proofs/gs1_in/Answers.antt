@@ -2,10 +2,10 @@
 use Rattle.std.proofs.Common.{◌≡◌, ◌∙◌, arith}
 use Rattle.std.proofs.lemmas.Result.{err_from_is_err_and, IfOk-weaker, IfErr-weaker}
 use Rattle.qrcode_bits.proofs.Pairs.{bytes_valid}
-use Rattle.uses.specs.Smallest.{normal, IsElementString}
-use Rattle.uses.proofs.Ended.{held, end_refused}
-use Rattle.uses.proofs.ElementStrings.{elements_refused, elements_pushed, one_length}
-use Rattle.uses.proofs.texts.gs1_in.Goals as goal
+use Rattle.texts.specs.Smallest.{normal, SaysElements}
+use Rattle.texts.proofs.Ended.{held, end_refused}
+use Rattle.texts.proofs.ElementStrings.{elements_refused, elements_pushed, one_length}
+use Rattle.texts.proofs.gs1_in.Goals as goal
 
 pub returns-in_err-push_optimal_data-clause-refused : goal.returns-in_err-push_optimal_data-clause-refused
 returns-in_err-push_optimal_data-clause-refused c =
@@ -21,7 +21,7 @@ returns-clause-holds c =
     let is : empty.version ≡ normal c.args.number = c.new-bits.ensures.version ∙ c.normal.ensures in
     let pushed = elements_pushed empty c.push_fnc1_first_position.new.self c.push_optimal_data.new.self c.args.number c.args.elements.now is c.new-bits.ensures.bits
     c.in_ok-push_fnc1_first_position.ensures.ok c.in_ok-push_optimal_data.ensures in
-    IfOk-weaker c.with_bits.result _ _ (held (IsElementString c.args.elements.now) c.push_optimal_data.new.self c.args.level c.args.number pushed.0 pushed.1) c.with_bits.ensures.holds
+    IfOk-weaker c.with_bits.result _ _ (held (SaysElements c.args.elements.now) c.push_optimal_data.new.self c.args.level c.args.number pushed.0 pushed.1) c.with_bits.ensures.holds
 
 pub returns-clause-refused : goal.returns-clause-refused
 returns-clause-refused c =
@@ -30,5 +30,5 @@ returns-clause-refused c =
     let is : empty.version ≡ normal c.args.number = c.new-bits.ensures.version ∙ c.normal.ensures in
     let pushed = elements_pushed empty c.push_fnc1_first_position.new.self stream c.args.number c.args.elements.now is c.new-bits.ensures.bits
     c.in_ok-push_fnc1_first_position.ensures.ok c.in_ok-push_optimal_data.ensures in
-    IfErr-weaker c.with_bits.result _ _ (end_refused (IsElementString c.args.elements.now) stream c.args.level c.args.number pushed.0 pushed.1
+    IfErr-weaker c.with_bits.result _ _ (end_refused (SaysElements c.args.elements.now) stream c.args.level c.args.number pushed.0 pushed.1
     c.requires.first c.requires.last (one_length stream c.args.number c.args.elements.now pushed.0 pushed.1)) c.with_bits.ensures.refused

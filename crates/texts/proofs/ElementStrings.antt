@@ -30,7 +30,7 @@ use Rattle.qrcode_bits.proofs.PlanLaws.{one_chosen}
 use Rattle.qrcode_bits.proofs.Reading.{length-spelling}
 use Rattle.qrcode_bits.proofs.Segments.{length-character_bits}
 use Rattle.qrcode_bits.proofs.Texts.{texts-plan}
-use Rattle.uses.specs.Smallest.{normal, IsElementString, IsTooLongIn, IsRefusedIn}
+use Rattle.texts.specs.Smallest.{normal, SaysElements, IsTooLongIn, IsRefusedIn}
 
 -- ---- The pieces of a plan
 
@@ -88,7 +88,7 @@ module _ (old : Stream) (level : EcLevel) (number : ℕ) (text : List ℕ) (is :
   valid : IsText next
   valid = middle IsText done rest next (subst (All IsText) pieces_are (pieces_valid text old.version plan are chosen))
 
-  too_long : 2 ^ count_width (normal number) next.mode ≤ character_count next.mode next.text → IsTooLongIn (IsElementString text) (normal number) level
+  too_long : 2 ^ count_width (normal number) next.mode ≤ character_count next.mode next.text → IsTooLongIn (SaysElements text) (normal number) level
   too_long wide bits limit said limit_is =
       let same : plan ≡ said.0 = one_chosen (parsed text) (normal number) plan said.0 (subst (λ (v : Version). IsChosenPlan (parsed text) v plan) is chosen) said.1 in
       let pieces : segment_pieces text said.0 ≡ done ++ (next ∷ rest) = ap (segment_pieces text) (sym same) ∙ pieces_are in
@@ -97,7 +97,7 @@ module _ (old : Stream) (level : EcLevel) (number : ℕ) (text : List ℕ) (is :
       ∙ length-append (number_bits 4 5) (spellings (normal number) (done ++ (next ∷ rest))) in
       omega (arith, long, longer (normal number) done rest next, piece_too_long number level next limit valid limit_is wide)
 
-  stopped : (new : Stream) (error : QrError) → new.version ≡ normal number → IsRefused new next error → IsRefusedIn (IsElementString text) (normal number) level error
+  stopped : (new : Stream) (error : QrError) → new.version ≡ normal number → IsRefused new next error → IsRefusedIn (SaysElements text) (normal number) level error
   stopped new UnsupportedCharacterSet now refused = absurd (refused (subst (λ (v : Version). HasMode v next.mode) (sym now) (normal_modes number next.mode)))
   stopped new (InvalidCharacter position byte) now refused =
       absurd (none-some (position, byte) (sym ((none_where_valid next.mode next.text).0 valid) ∙ sym (first_invalid-is next.mode next.text (Some (position, byte)) refused.1)))
@@ -108,12 +108,12 @@ module _ (old : Stream) (level : EcLevel) (number : ℕ) (text : List ℕ) (is :
 
 -- Why the push of the elements is refused.
 pub elements_refused : (old new : Stream) (level : EcLevel) (number : ℕ) (text : List ℕ) (error : QrError) → old.version ≡ normal number →
-    All (λ c. c < 256) text → PushesOptimally text old (Err error) new → IsRefusedIn (IsElementString text) (normal number) level error
+    All (λ c. c < 256) text → PushesOptimally text old (Err error) new → IsRefusedIn (SaysElements text) (normal number) level error
 elements_refused old new level number text error is are (inl (plan, chosen, halt)) =
     let stops = halt.1 in
     stopped old level number text is are plan chosen stops.done halt.0 stops.next stops.pieces_are new error (stops.pushed.version_is ∙ is) stops.refused
 elements_refused old new level number text error is are (inr (wants, same)) =
-    subst (IsRefusedIn (IsElementString text) (normal number) level) (sym (same_error error OutOfMemory wants)) tt
+    subst (IsRefusedIn (SaysElements text) (normal number) level) (sym (same_error error OutOfMemory wants)) tt
   where
     same_error : (a b : QrError) → ◌≡◌ {A = Result Unit QrError} (Err a) (Err b) → a ≡ b
     same_error a b e = cc
@@ -123,7 +123,7 @@ elements_refused old new level number text error is are (inr (wants, same)) =
 -- The stream says the elements.
 pub elements_pushed : (empty front stream : Stream) (number : ℕ) (text : List ℕ) → empty.version ≡ normal number → empty.bits ≡ [] →
     Appends empty front (number_bits (indicator_width empty.version) 5) → PushesOptimally text front (Ok tt) stream →
-    (stream.version ≡ normal number) × IsElementString text stream.version stream.bits
+    (stream.version ≡ normal number) × SaysElements text stream.version stream.bits
 elements_pushed empty front stream number text is none fnc1 (inl (plan, chosen, spelled)) =
     let same : stream.version ≡ front.version = spelled.version_is in
     let begin : front.bits ≡ number_bits 4 5 = fnc1.bits_are ∙ (ap (λ (z : List Bool). z ++ number_bits (indicator_width empty.version) 5) none
@@ -142,9 +142,9 @@ elements_pushed empty front stream number text is none fnc1 (inr (wants, same)) 
     no_error error e = cc
 
 -- All that says the elements in this version is as long.
-pub one_length : (stream : Stream) (number : ℕ) (text : List ℕ) → stream.version ≡ normal number → IsElementString text stream.version stream.bits →
-    (bits : List Bool) → IsElementString text (normal number) bits → length bits ≡ length stream.bits
+pub one_length : (stream : Stream) (number : ℕ) (text : List ℕ) → stream.version ≡ normal number → SaysElements text stream.version stream.bits →
+    (bits : List Bool) → SaysElements text (normal number) bits → length bits ≡ length stream.bits
 one_length stream number text is said bits other =
-    let here = subst (λ (v : Version). IsElementString text v stream.bits) is said in
+    let here = subst (λ (v : Version). SaysElements text v stream.bits) is said in
     let same : other.0 ≡ here.0 = one_chosen (parsed text) (normal number) other.0 here.0 other.1 here.1 in
     ap length (other.2 ∙ (ap (λ (plan : List Segment). number_bits 4 5 ++ spellings (normal number) (segment_pieces text plan)) same ∙ sym here.2))

@@ -2,10 +2,10 @@
 use Rattle.std.proofs.Common.{◌≡◌, ◌∙◌, arith}
 use Rattle.std.proofs.lemmas.Result.{err_from_is_err_and, IfOk-weaker, IfErr-weaker}
 use Rattle.qrcode_bits.proofs.Pairs.{bytes_valid}
-use Rattle.uses.specs.Smallest.{normal, IsUtf8}
-use Rattle.uses.proofs.Ended.{held, end_refused}
-use Rattle.uses.proofs.Utf8.{text_refused, text_pushed, one_length}
-use Rattle.uses.proofs.texts.utf8_in.Goals as goal
+use Rattle.texts.specs.Smallest.{normal, SaysUtf8}
+use Rattle.texts.proofs.Ended.{held, end_refused}
+use Rattle.texts.proofs.Utf8.{text_refused, text_pushed, one_length}
+use Rattle.texts.proofs.utf8_in.Goals as goal
 
 pub returns-in_err-push_byte_data-clause-refused :
     goal.returns-in_err-push_byte_data-clause-refused
@@ -24,7 +24,7 @@ returns-clause-holds c =
     let spelled = c.in_ok-push_byte_data.ensures.ok in
     let said = text_pushed c.new-bits.result front stream c.args.text.now c.new-bits.ensures.bits eci spelled in
     let is : stream.version ≡ normal c.args.number = spelled.version_is ∙ (eci.version_is ∙ (c.new-bits.ensures.version ∙ c.normal.ensures)) in
-    IfOk-weaker c.with_bits.result _ _ (held (IsUtf8 c.args.text.now) stream c.args.level c.args.number is said) c.with_bits.ensures.holds
+    IfOk-weaker c.with_bits.result _ _ (held (SaysUtf8 c.args.text.now) stream c.args.level c.args.number is said) c.with_bits.ensures.holds
 
 pub returns-clause-refused : goal.returns-clause-refused
 returns-clause-refused c =
@@ -34,5 +34,5 @@ returns-clause-refused c =
     let spelled = c.in_ok-push_byte_data.ensures.ok in
     let said = text_pushed c.new-bits.result front stream c.args.text.now c.new-bits.ensures.bits eci spelled in
     let is : stream.version ≡ normal c.args.number = spelled.version_is ∙ (eci.version_is ∙ (c.new-bits.ensures.version ∙ c.normal.ensures)) in
-    IfErr-weaker c.with_bits.result _ _ (end_refused (IsUtf8 c.args.text.now) stream c.args.level c.args.number is said
+    IfErr-weaker c.with_bits.result _ _ (end_refused (SaysUtf8 c.args.text.now) stream c.args.level c.args.number is said
     c.requires.first c.requires.last (one_length stream c.args.number c.args.text.now is said)) c.with_bits.ensures.refused

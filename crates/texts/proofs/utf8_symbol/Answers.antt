@@ -1,0 +1,14 @@
+-- The versions before this one, and this one.
+use Rattle.std.proofs.Common.{List, ℕ, subst}
+use Rattle.qrcode_base.specs.declared.types.errors.QrError.{QrError}
+use Rattle.qrcode_base.specs.declared.types.errors.QrError.TheVariants.{DataTooLong}
+use Rattle.texts.specs.Smallest.{SaysUtf8, IsRefusedIn, normal}
+use Rattle.texts.proofs.Ended.{next}
+use Rattle.texts.proofs.utf8_symbol.Goals as goal
+
+pub loop-number-preserved : goal.loop-number-preserved
+loop-number-preserved c =
+    next (SaysUtf8 c.args.text.now) c.args.level c.loop-number.number c.loop-number.invariant
+    (subst (λ (bytes : List ℕ). IsRefusedIn (SaysUtf8 bytes) (normal c.loop-number.number) c.args.level DataTooLong) c.as_bytes.ensures.value
+    (subst (λ (e : QrError). IsRefusedIn (SaysUtf8 c.as_bytes.result.now) (normal c.loop-number.number) c.args.level e)
+    c.in-Err-DataTooLong.field-0-is c.in-Err-DataTooLong.ensures.refused))
