@@ -7,7 +7,7 @@ use Rattle.qrcode_base.specs.declared.types.Mode.{Mode}
 use Rattle.qrcode_base.specs.declared.types.Mode.TheVariants.{Numeric, Alphanumeric, Byte, Kanji}
 use Rattle.qrcode_base.specs.Modes.{indicator_width, count_width, data_bits, characters}
 use Rattle.qrcode_bits.specs.declared.optimize.Segment.{Segment}
-use Rattle.qrcode_bits.specs.declared.optimize.Step.{Step}
+use Rattle.qrcode_bits.specs.declared.optimize.steps.Step.{Step}
 use Rattle.qrcode_bits.specs.declared.optimize.candidate.Candidate.{Candidate}
 use Rattle.qrcode_bits.specs.declared.optimize.groups.Groups.{Groups}
 use Rattle.qrcode_bits.specs.declared.optimize.short.Headers.{Headers}

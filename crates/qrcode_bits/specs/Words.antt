@@ -8,7 +8,7 @@ use Rattle.qrcode_bits.specs.declared.optimize.words.Words.{Words}
 use Rattle.qrcode_bits.specs.declared.optimize.short.Headers.{Headers}
 use Rattle.qrcode_bits.specs.declared.optimize.short.ShortStep.{ShortStep}
 use Rattle.qrcode_bits.specs.declared.optimize.Segment.{Segment}
-use Rattle.qrcode_bits.specs.declared.optimize.Step.{Step}
+use Rattle.qrcode_bits.specs.declared.optimize.steps.Step.{Step}
 use Rattle.qrcode_base.specs.declared.types.Version.{Version}
 use Rattle.qrcode_base.specs.declared.types.Mode.{Mode}
 use Rattle.qrcode_base.specs.declared.types.Mode.TheVariants.{Numeric, Alphanumeric, Byte, Kanji}

@@ -66,7 +66,8 @@ abbrev pub parts_at : List ℕ → List ℕ → List (List ℕ)
 parts_at cuts message = parts_from 0 cuts message
 
 -- The best symbol of a part, with a header, in a version up to a limit.
-pub record IsPartSymbol (header : Header) (part : List ℕ) (level : EcLevel) (limit : ℕ) (grid : List Color) : Type 0 where
+pub record IsPartSymbol (header : Header) (part : List ℕ) (level : EcLevel) (limit : ℕ)
+    (grid : List Color) : Type 0 where
   pub best : IsBest normal (Some header) part level grid
   pub up_to : best.number ≤ limit
 

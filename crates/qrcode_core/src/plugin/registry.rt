@@ -61,7 +61,7 @@ impl PluginRegistry {
     }
 
     /// The names of plugins, in the order of their bytes.
-    #[tactic(auto, using(crate::proofs::TextMaps::text_entries_keys, crate::proofs::TextMaps::text_values_keys, crate::proofs::TextMaps::texts_sorted))]
+    #[tactic(auto, using(crate::proofs::TextMaps::names_in_order))]
     pub fn plugin_names(&self) -> Names<'_, String>
         ensures names { names_left result ≡ key_texts (registered self.now).plugins }
         ensures ordered { IsStrictlySortedBy text_cmp (names_left result) }
