@@ -14,11 +14,11 @@ push_characters-requires-clause-room c =
     let count = ap (λ (n : ℕ). data_bits c.args.mode n) c.character_count.ensures in
     omega (arith, c.in_ok-push_header.ensures.room)
 
-pub returns-in_err-push_header-clause-err : goal.returns-in_err-push_header-clause-err
-returns-in_err-push_header-clause-err c =
+pub returns-in_err-push_header-clause-refused : goal.returns-in_err-push_header-clause-refused
+returns-in_err-push_header-clause-refused c =
     let p = err_from_is_err_and c.from_residual.result c.from_residual.ensures.1 in
-    let why = subst (λ (n : ℕ). IsHeaderRefused c.args.self.now c.args.mode n c.in_err-push_header.field-0.0) c.character_count.ensures c.in_err-push_header.ensures.err.1 in
-    rw (p.1, p.2) (c.in_err-push_header.ensures.err.0, refused c.args.self.now c.args.mode c.args.text.now _ c.requires.has c.requires.valid why)
+    let why = subst (λ (n : ℕ). IsHeaderRefused c.args.self.now c.args.mode n c.in_err-push_header.field-0.0) c.character_count.ensures c.in_err-push_header.ensures.refused in
+    rw (p.1, p.2) (refused c.args.self.now c.args.mode c.args.text.now _ c.requires.has c.requires.valid why)
 
 pub returns-clause-ok : goal.returns-clause-ok
 returns-clause-ok c =
