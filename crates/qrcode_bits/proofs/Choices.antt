@@ -218,13 +218,6 @@ module _ (front : ℕ) (message : List ℕ) (l : EcLevel) (before last : ℕ) (p
       let equal = total_bits-same n last (omega arith) (omega arith) (class n h k) other in
       omega (arith, w.within)
 
-  -- If the chosen plan of the last version of a class does not fit there, no plan fits any version of the class.
-  pub class_too_long : c < front + total_bits (normal last) plan → FitsNone normal front message l last
-  class_too_long over n k other w = elim (cases_lt before n) [
-    | inl h ↦ (let few = least_in n h k other w in let more = capacity-grows l n last w.limit c k w.has_level known in absurd (omega arith))
-    | inr h ↦ too_long n h other w
-  ]
-
   -- If it fits, the least version that holds its bits is the choice.
   pub class_choice : (limit number : ℕ) → last ≤ limit → front + total_bits (normal last) plan ≤ c → IsLeastHolding (front + total_bits (normal last) plan) l number →
       IsChoice normal front message l limit number plan

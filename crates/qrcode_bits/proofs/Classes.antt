@@ -182,9 +182,6 @@ module _ (header : Option Header) (message : List ℕ) (l : EcLevel) (last : ℕ
       subst (λ (v : Version). Fits (length (header_bits header)) message v l plan) (sym m.1)
       (fits_normal (length (header_bits header)) m.0 holding.limit message l plan fits.planned holding.limit_is (omega arith))
 
-  pub class_number : HasMicroNumber version
-  class_number = let m = least_version in subst (λ (v : Version). HasMicroNumber v) (sym m.1) tt
-
   pub class_header : HasHeader (normal last) header → HasHeader version header
   class_header has = let m = least_version in subst (λ (v : Version). HasHeader v header) (sym m.1) (has_header last m.0 header has)
 

@@ -89,10 +89,6 @@ units_last bytes at short within =
     let past : drop (at + 1) bytes ≡ [] = drop_all (at + 1) bytes (omega arith) in
     ap units (drop-cons bytes at 0 within ∙ ap (λ (z : List ℕ). get_or bytes at 0 ∷ z) none) ∙ ap (λ (z : List ℕ). class_of (get_or bytes at 0) ∷ units z) (sym past)
 
-pub units_no_pair : (bytes : List ℕ) (at : ℕ) → 2 ≤ length bytes - at → is_kanji_pair (get_or bytes at 0) (get_or bytes (at + 1) 0) ≡ false → at < length bytes →
-    units (drop at bytes) ≡ class_of (get_or bytes at 0) ∷ units (drop (at + 1) bytes)
-units_no_pair bytes at long pair within = units_alone bytes at (omega arith) pair
-
 -- a byte of another class begins no pair
 no_lead : (lead : Bool) (rest : Class) → ((if lead then LoneLead else rest) ≡ LoneLead → ⊥) → lead ≡ false
 no_lead true rest other = absurd (other refl)
