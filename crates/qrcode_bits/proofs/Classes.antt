@@ -13,7 +13,6 @@ use Rattle.qrcode_base.specs.declared.types.errors.QrError.TheVariants.{DataTooL
 use Rattle.qrcode_base.specs.declared.symbols.BlockLayout.{BlockLayout}
 use Rattle.qrcode_base.specs.Symbols.{normal_blocks, capacity, capacity_with}
 use Rattle.qrcode_base.specs.Modes.{by_class, HasMode, indicator_width, count_width, data_bits, characters}
-use Rattle.qrcode_base.specs.Versions.{HasMicroNumber}
 use Rattle.qrcode_base.proofs.Fields.{capacity-held, SameClass}
 use Rattle.std.proofs.lemmas.Option.{slice_get-get_or}
 use lib.Signed.{lt_z}
