@@ -14,8 +14,7 @@ use Rattle.qrcode_base.specs.declared.types.Mode.{Mode}
 use Rattle.qrcode_base.specs.declared.types.Mode.TheVariants.{Numeric, Alphanumeric, Byte, Kanji}
 use Rattle.qrcode_base.specs.Modes.{indicator_width, count_width}
 use Rattle.qrcode_bits.specs.Merging.{segment_at, IsStep}
-use Rattle.qrcode_bits.specs.Periods.{period_bits}
-use Rattle.qrcode_bits.specs.Buckets.{bucket_mode, HasBucket}
+use Rattle.qrcode_bits.specs.Buckets.{period_bits, bucket_mode, HasBucket}
 
 -- The word of a start: fewer bits, then fewer parts, then a later start make it less.
 abbrev pub word_of : ℕ → ℕ → ℕ → ℕ

@@ -12,12 +12,11 @@ ghost use Rattle.qrcode_base.specs.Modes.{HasMode, indicator_width, count_width}
 ghost use Rattle.qrcode_base.specs.Versions.{HasMicroNumber};
 ghost use Rattle.qrcode_bits.specs.Parsing.{parsed};
 ghost use Rattle.qrcode_bits.specs.Merging.{IsChosenPlan};
-ghost use Rattle.qrcode_bits.specs.Choice.{Fits, FitsNot, FitsNone, normal, micro, IsMinVersion};
-ghost use Rattle.qrcode_bits.specs.Classes.{IsClass, ClassesUpTo};
+ghost use Rattle.qrcode_bits.specs.Choice.{Fits, FitsNot, FitsNone, normal, micro, IsMinVersion, IsClass};
+ghost use Rattle.qrcode_bits.specs.Choice.{ClassesUpTo};
 ghost use Rattle.qrcode_bits.specs.Encoding.{IsPlanStream, IsEncoding, IsUnencodable, IsLimit};
 ghost use Rattle.qrcode_bits.specs.Encoding.{IsEncodingRefused, IsMicroRefused, IsPartRefused};
-ghost use Rattle.qrcode_bits.specs.Frame.{HasHeader, header_bits};
-ghost use Rattle.qrcode_bits.specs.Push.{header};
+ghost use Rattle.qrcode_bits.specs.Frame.{HasHeader, header_bits, header};
 
 use super::Bits;
 use super::ending::data_capacity_bits;
