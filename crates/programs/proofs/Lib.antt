@@ -1,3 +1,2 @@
 pub mod DeviceLemmas
-pub mod OutcomeLemmas
 pub mod Levels

@@ -13,7 +13,8 @@ words_of (Symbol error) = error_text error
 words_of Read = codes "read failed"
 words_of Write = codes "write failed"
 
--- the line that a program tells of an outcome: none where all was done, else its name, the words of the fault, and a line's end
+-- the line that a program tells of an outcome: none where all was done, else its name, the words of the fault, and a
+-- line's end
 abbrev pub told : List ℕ → Result (Unit {0}) Fault → List ℕ
 told program (Ok done) = []
 told program (Err error) = program ++ codes ": " ++ words_of error ++ 10 ∷ []
@@ -23,7 +24,8 @@ abbrev pub status_of : Result (Unit {0}) Fault → ℕ
 status_of (Ok done) = 0
 status_of (Err error) = 1
 
--- The line was written; one that tells of anything but want of memory needs memory, and is left out where it finds none.
+-- The line was written; one that tells of anything but want of memory needs memory, and is left out where it finds
+-- none.
 abbrev pub Says : List ℕ → Option (List ℕ) → Option (List ℕ) → Bool → Result (Unit {0}) Fault → Type 0
 Says program before after mute outcome =
     Writes before after mute (told program outcome) ⊎ ((outcome ≢ Err (Symbol OutOfMemory)) × Keeps before after)

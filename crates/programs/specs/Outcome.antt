@@ -53,8 +53,8 @@ Gives Shows Refuses unread left written now handed_on (Err (Symbol error)) =
 Gives Shows Refuses unread left written now handed_on (Err Read) = Keeps written now
 Gives Shows Refuses unread left written now handed_on (Err Write) = Begins Shows unread left written now
 
--- The drawing was made, and the status and the line are those of what it answered: the fault of the reader exactly where
--- it is deaf, that of the writer exactly where it is dumb.
+-- The drawing was made, and the status and the line are those of what it answered: the fault of the reader exactly
+-- where it is deaf, that of the writer exactly where it is dumb.
 pub record Serves (Shows : List ℕ → List ℕ → Type 0) (Refuses : List ℕ → QrError → Type 0) (program : List ℕ)
     (unread left written now handed_on before after : Option (List ℕ)) (deaf dumb mute : Bool)
     (status : ℕ) : Type 0 where

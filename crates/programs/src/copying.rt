@@ -14,9 +14,11 @@ const TOO_MANY: usize = 7090;
 #[tactic(auto, using(crate::proofs::DeviceLemmas::reading))]
 pub fn read_all<R: Source>(alloc: Global, reader: &mut R) -> Result<Vec<u8>, Fault>
     requires { IsFalse (R.has_failed reader.old) }
-    ensures read { IfOk result (λ bytes. ReadsEnough (R.remaining reader.old) (R.remaining reader.new) bytes.items) }
+    ensures read { IfOk result (λ bytes.
+        ReadsEnough (R.remaining reader.old) (R.remaining reader.new) bytes.items) }
     ensures few { ReadsAtMost 7090 (R.remaining reader.old) (R.remaining reader.new) }
-    ensures fewer { IsErrOf result Fault.Read → ReadsAtMost 7089 (R.remaining reader.old) (R.remaining reader.new) }
+    ensures fewer { IsErrOf result Fault.Read →
+        ReadsAtMost 7089 (R.remaining reader.old) (R.remaining reader.new) }
     ensures failure { IsErrOf result Fault.Read ↔ IsTrue (R.has_failed reader.new) }
     ensures fault { IfErr result (λ e. (e ≡ Fault.Read) ⊎ (e ≡ Fault.Symbol QrError.OutOfMemory)) }
 {
@@ -39,7 +41,8 @@ pub fn read_all<R: Source>(alloc: Global, reader: &mut R) -> Result<Vec<u8>, Fau
 #[tactic(auto, using(crate::proofs::DeviceLemmas::writing))]
 pub fn write_all<W: Sink>(writer: &mut W, text: &[u8]) -> Result<(), Fault>
     requires { IsFalse (W.has_failed writer.old) }
-    ensures writes { Writes (W.written writer.old) (W.written writer.new) (W.has_failed writer.new) text.now }
+    ensures writes { Writes (W.written writer.old) (W.written writer.new)
+        (W.has_failed writer.new) text.now }
     ensures handed_on { OnOk result (W.handed_on writer.new ≡ W.written writer.new) }
     ensures failure { W.has_failed writer.new ≡ is_err result }
     ensures fault { IfErr result (λ e. e ≡ Fault.Write) }

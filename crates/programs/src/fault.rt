@@ -46,8 +46,8 @@ impl From<QrError> for Fault {
     }
 }
 
-/// Tells a fault in one line behind the program's name, and answers the status 1. Want of memory is told without memory, by
-/// the line that the caller gives; any other line is left out where there is none for it.
+/// Tells a fault in one line behind the program's name, and answers the status 1. Want of memory is told without
+/// memory, by the line that the caller gives; any other line is left out where there is none for it.
 pub fn fail<E: Sink>(
     alloc: Global,
     errors: &mut E,
@@ -58,7 +58,8 @@ pub fn fail<E: Sink>(
     requires sound { IsFalse (E.has_failed errors.old) }
     requires line { want_of_memory.now ≡ told program.now (Err (Symbol OutOfMemory)) }
     ensures status { result ≡ 1 }
-    ensures says { Says program.now (E.written errors.old) (E.written errors.new) (E.has_failed errors.new) (Err fault) }
+    ensures says { Says program.now (E.written errors.old) (E.written errors.new)
+        (E.has_failed errors.new) (Err fault) }
 {
     if let Fault::Symbol(QrError::OutOfMemory) = fault {
         let _ = write_all(errors, want_of_memory);

@@ -19,10 +19,9 @@ use Rattle.qrcode_base.proofs.Joins.{join-upper, join-upper_second}
 use Rattle.qrcode_base.proofs.Fields.{SameClass, capacity-rises, capacity-held, capacity-double}
 use Rattle.qrcode_bits.specs.declared.optimize.Segment.{Segment}
 use Rattle.qrcode_bits.specs.Parsing.{parsed}
-use Rattle.qrcode_bits.specs.Merging.{merged, total_bits, IsChosenPlan}
-use Rattle.qrcode_bits.specs.Cuttings.{joined, AreNonEmpty, merged_pieces}
-use Rattle.qrcode_bits.specs.Choice.{IsMergePlan, Fits, FitsNot, IsLeastBits, normal, micro, FitsNone, IsChoice, IsLeastHolding}
-use Rattle.qrcode_bits.specs.Classes.{IsClass}
+use Rattle.qrcode_bits.specs.Merging.{merged, total_bits, IsChosenPlan, joined, AreNonEmpty, merged_pieces}
+use Rattle.qrcode_bits.specs.Choice.{IsMergePlan, Fits, FitsNot, IsLeastBits, normal, micro, FitsNone, IsChoice}
+use Rattle.qrcode_bits.specs.Choice.{IsLeastHolding, IsClass}
 use Rattle.qrcode_bits.proofs.Growth.{total_bits-rise, total_bits-same, total_bits-double, chosen-same}
 use Rattle.qrcode_bits.proofs.CuttingPlans.{chosen-cutting, chosen-least}
 
@@ -217,13 +216,6 @@ module _ (front : ℕ) (message : List ℕ) (l : EcLevel) (before last : ℕ) (p
       let fewer = chosen_bits message (normal last) plan other chosen w.planned in
       let equal = total_bits-same n last (omega arith) (omega arith) (class n h k) other in
       omega (arith, w.within)
-
-  -- If the chosen plan of the last version of a class does not fit there, no plan fits any version of the class.
-  pub class_too_long : c < front + total_bits (normal last) plan → FitsNone normal front message l last
-  class_too_long over n k other w = elim (cases_lt before n) [
-    | inl h ↦ (let few = least_in n h k other w in let more = capacity-grows l n last w.limit c k w.has_level known in absurd (omega arith))
-    | inr h ↦ too_long n h other w
-  ]
 
   -- If it fits, the least version that holds its bits is the choice.
   pub class_choice : (limit number : ℕ) → last ≤ limit → front + total_bits (normal last) plan ≤ c → IsLeastHolding (front + total_bits (normal last) plan) l number →

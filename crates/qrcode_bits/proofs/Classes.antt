@@ -13,7 +13,6 @@ use Rattle.qrcode_base.specs.declared.types.errors.QrError.TheVariants.{DataTooL
 use Rattle.qrcode_base.specs.declared.symbols.BlockLayout.{BlockLayout}
 use Rattle.qrcode_base.specs.Symbols.{normal_blocks, capacity, capacity_with}
 use Rattle.qrcode_base.specs.Modes.{by_class, HasMode, indicator_width, count_width, data_bits, characters}
-use Rattle.qrcode_base.specs.Versions.{HasMicroNumber}
 use Rattle.qrcode_base.proofs.Fields.{capacity-held, SameClass}
 use Rattle.std.proofs.lemmas.Option.{slice_get-get_or}
 use lib.Signed.{lt_z}
@@ -27,7 +26,7 @@ use Rattle.qrcode_bits.specs.Stream.{Stream}
 use Rattle.qrcode_bits.specs.Push.{IsPlace}
 use Rattle.qrcode_bits.specs.Pieces.{LiesIn}
 use Rattle.qrcode_bits.specs.Choice.{IsMergePlan, Fits, FitsNot, FitsNone, normal, IsLeastHolding, IsMinVersion}
-use Rattle.qrcode_bits.specs.Classes.{IsClass, ClassesUpTo}
+use Rattle.qrcode_bits.specs.Choice.{IsClass, ClassesUpTo}
 use Rattle.qrcode_bits.specs.Encoding.{IsPlanStream, IsEncoding, IsUnencodable, IsLimit, IsEncodingRefused, IsPartRefused}
 use Rattle.qrcode_bits.proofs.Adjoining.{parsed-linear}
 use Rattle.qrcode_bits.proofs.Growth.{total_bits-rise, total_bits-same}
@@ -181,9 +180,6 @@ module _ (header : Option Header) (message : List ℕ) (l : EcLevel) (last : ℕ
       let rise = total_bits-rise m.0 last some early plan in
       subst (λ (v : Version). Fits (length (header_bits header)) message v l plan) (sym m.1)
       (fits_normal (length (header_bits header)) m.0 holding.limit message l plan fits.planned holding.limit_is (omega arith))
-
-  pub class_number : HasMicroNumber version
-  class_number = let m = least_version in subst (λ (v : Version). HasMicroNumber v) (sym m.1) tt
 
   pub class_header : HasHeader (normal last) header → HasHeader version header
   class_header has = let m = least_version in subst (λ (v : Version). HasHeader v header) (sym m.1) (has_header last m.0 header has)

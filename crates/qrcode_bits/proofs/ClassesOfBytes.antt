@@ -10,8 +10,8 @@ use Rattle.qrcode_base.specs.Characters.{is_between, is_alphanumeric, is_lead, i
 use Rattle.qrcode_bits.specs.declared.optimize.parser.TheConstants.{CLASSES}
 use Rattle.qrcode_bits.specs.declared.optimize.parser.Class.{Class}
 use Rattle.qrcode_bits.specs.declared.optimize.parser.Class.TheVariants.{Pair, LoneLead, Digit, Sign, Other}
-use Rattle.qrcode_bits.specs.ClassNumbers.{class_number, class_numbered}
-use Rattle.qrcode_bits.specs.Parsing.{class_of, class_size, units, joins, parsed_from, class_mode}
+use Rattle.qrcode_bits.specs.Parsing.{class_number, class_numbered, class_of, class_size, units, joins, parsed_from}
+use Rattle.qrcode_bits.specs.Parsing.{class_mode}
 use Rattle.qrcode_bits.proofs.Adjoining.{class_of-one}
 use Rattle.qrcode_bits.proofs.Runs.{IsRun, Run-first, Run-more, Run-apart, Run-last, joins-same}
 
@@ -88,10 +88,6 @@ units_last bytes at short within =
     let none : drop (suc at) bytes ≡ [] = drop_all (suc at) bytes (omega arith) in
     let past : drop (at + 1) bytes ≡ [] = drop_all (at + 1) bytes (omega arith) in
     ap units (drop-cons bytes at 0 within ∙ ap (λ (z : List ℕ). get_or bytes at 0 ∷ z) none) ∙ ap (λ (z : List ℕ). class_of (get_or bytes at 0) ∷ units z) (sym past)
-
-pub units_no_pair : (bytes : List ℕ) (at : ℕ) → 2 ≤ length bytes - at → is_kanji_pair (get_or bytes at 0) (get_or bytes (at + 1) 0) ≡ false → at < length bytes →
-    units (drop at bytes) ≡ class_of (get_or bytes at 0) ∷ units (drop (at + 1) bytes)
-units_no_pair bytes at long pair within = units_alone bytes at (omega arith) pair
 
 -- a byte of another class begins no pair
 no_lead : (lead : Bool) (rest : Class) → ((if lead then LoneLead else rest) ≡ LoneLead → ⊥) → lead ≡ false

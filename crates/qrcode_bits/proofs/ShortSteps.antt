@@ -7,16 +7,14 @@ use Rattle.qrcode_base.specs.declared.types.Mode.{Mode}
 use Rattle.qrcode_base.specs.declared.types.Mode.TheVariants.{Numeric, Alphanumeric, Byte, Kanji}
 use Rattle.qrcode_base.specs.Modes.{indicator_width, count_width, data_bits, characters}
 use Rattle.qrcode_bits.specs.declared.optimize.Segment.{Segment}
-use Rattle.qrcode_bits.specs.declared.optimize.Step.{Step}
+use Rattle.qrcode_bits.specs.declared.optimize.steps.Step.{Step}
 use Rattle.qrcode_bits.specs.declared.optimize.candidate.Candidate.{Candidate}
 use Rattle.qrcode_bits.specs.declared.optimize.groups.Groups.{Groups}
 use Rattle.qrcode_bits.specs.declared.optimize.short.Headers.{Headers}
 use Rattle.qrcode_bits.specs.declared.optimize.short.ShortStep.{ShortStep}
-use Rattle.qrcode_bits.specs.Plans.{IsNoWorse}
-use Rattle.qrcode_bits.specs.Merging.{segment_bits, segment_at, part_bits, HasLinearCosts, IsStep}
-use Rattle.qrcode_bits.specs.PlanTable.{chosen_plan}
-use Rattle.qrcode_bits.specs.Periods.{period, period_bits}
-use Rattle.qrcode_bits.specs.Buckets.{bucket_mode, bucket_rest, part_mode, bits_before, parts_before, InBucket, IsBest, slot, AreGroups, group_of}
+use Rattle.qrcode_bits.specs.Merging.{IsNoWorse, segment_bits, segment_at, part_bits, HasLinearCosts, IsStep}
+use Rattle.qrcode_bits.specs.Buckets.{chosen_plan, bucket_mode, bucket_rest, part_mode, bits_before, parts_before}
+use Rattle.qrcode_bits.specs.Buckets.{InBucket, IsBestStart, slot, AreGroups, group_of, period, period_bits}
 use Rattle.qrcode_bits.specs.Words.{start_told, bucket_start, IsShort, AreHeaders, header_in, step_told, short_at, AreShortSteps}
 use Rattle.qrcode_bits.proofs.Ending.{data_bits-linear, bucket_of, bucket_of-is, group-right, IsTried, Tried-leads, Tried-keeps, Tried-takes, Tried-none, Tried-all, cost-is}
 use Rattle.qrcode_bits.proofs.Grouping.{has-own}
@@ -106,8 +104,8 @@ module _ (segments : List Segment) (version : Version) (end : ℕ) (within : end
   short-rest j w rest groups mode inside grouped mode-is at small is =
       let here : slot (group_of (bucket_mode j) groups) j ≡ Some (start_told (more_in j) w) =
       ap (λ m. slot (group_of m groups) j) (sym mode-is) ∙ (sym at ∙ some_start j w small) in
-      let best : IsBest segments version (bucket_mode j) (InBucket segments end end (bucket_mode j) j) (Some (start_told (more_in j) w)) =
-      subst (IsBest segments version (bucket_mode j) (InBucket segments end end (bucket_mode j) j)) here ((group-right (bucket_mode j) groups grouped).1 j (has-own j inside)) in
+      let best : IsBestStart segments version (bucket_mode j) (InBucket segments end end (bucket_mode j) j) (Some (start_told (more_in j) w)) =
+      subst (IsBestStart segments version (bucket_mode j) (InBucket segments end end (bucket_mode j) j)) here ((group-right (bucket_mode j) groups grouped).1 j (has-own j inside)) in
       let s = (start_told (more_in j) w).start in
       let below = best.0.below in
       let order = linear.ordered s (end - 1) (omega arith) (omega arith) in
@@ -122,11 +120,11 @@ module _ (segments : List Segment) (version : Version) (end : ℕ) (within : end
     abbrev found : Candidate
     found = start_told (more_in j) w
 
-    found-best : IsBest segments version (bucket_mode j) (InBucket segments end end (bucket_mode j) j) (Some found)
+    found-best : IsBestStart segments version (bucket_mode j) (InBucket segments end end (bucket_mode j) j) (Some found)
     found-best =
         let here : slot (group_of (bucket_mode j) groups) j ≡ Some found =
         ap (λ m. slot (group_of m groups) j) (sym mode-is) ∙ (sym at ∙ some_start j w small) in
-        subst (IsBest segments version (bucket_mode j) (InBucket segments end end (bucket_mode j) j)) here ((group-right (bucket_mode j) groups grouped).1 j (has-own j inside))
+        subst (IsBestStart segments version (bucket_mode j) (InBucket segments end end (bucket_mode j) j)) here ((group-right (bucket_mode j) groups grouped).1 j (has-own j inside))
 
     abbrev begin : ℕ
     begin = (segment_at segments found.start).begin
@@ -216,8 +214,8 @@ module _ (segments : List Segment) (version : Version) (end : ℕ) (within : end
       bucket_start j w ≡ slot (group_of mode groups) j → 2 ^ 50 ≤ w → IsSought segments version end (j + 1) best best_mode
   sought-nothing j w best best_mode mode groups before inside grouped mode-is at great =
       let nothing : slot (group_of (bucket_mode j) groups) j ≡ None = ap (λ m. slot (group_of m groups) j) (sym mode-is) ∙ (sym at ∙ no_start j w great) in
-      let none : IsBest segments version (bucket_mode j) (InBucket segments end end (bucket_mode j) j) None =
-      subst (IsBest segments version (bucket_mode j) (InBucket segments end end (bucket_mode j) j)) nothing ((group-right (bucket_mode j) groups grouped).1 j (has-own j inside)) in
+      let none : IsBestStart segments version (bucket_mode j) (InBucket segments end end (bucket_mode j) j) None =
+      subst (IsBestStart segments version (bucket_mode j) (InBucket segments end end (bucket_mode j) j)) nothing ((group-right (bucket_mode j) groups grouped).1 j (has-own j inside)) in
       record {
         found = λ small. Tried-none segments version end within linear j (record { mode = best_mode; begin = (segment_at segments (start_told 0 best).start).begin; end = last_end }) (start_told 0 best) (before.found small) none;
         none = λ greater i t below v. elim (cases_eq i j) [

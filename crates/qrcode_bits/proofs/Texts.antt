@@ -13,8 +13,7 @@ use Rattle.qrcode_bits.specs.declared.optimize.Segment.{Segment}
 use Rattle.qrcode_bits.specs.declared.optimize.parser.Class.{Class}
 use Rattle.qrcode_bits.specs.declared.optimize.parser.Class.TheVariants.{Pair, LoneLead, Digit, Sign, Other}
 use Rattle.qrcode_bits.specs.Parsing.{Run, class_of, class_mode, class_size, joins, add_unit, runs, units, run_segment, parsed, AreTexts}
-use Rattle.qrcode_bits.specs.Merging.{merged}
-use Rattle.qrcode_bits.specs.Cuttings.{joined, AreNonEmpty, merged_pieces}
+use Rattle.qrcode_bits.specs.Merging.{merged, joined, AreNonEmpty, merged_pieces}
 use Rattle.qrcode_bits.specs.Pieces.{segment_pieces, LiesIn}
 use Rattle.qrcode_bits.specs.Choice.{IsMergePlan}
 use Rattle.qrcode_bits.specs.Frame.{message}

@@ -1,6 +1,6 @@
 -- Which version some bytes take: the smallest in which a plan fits (ISO/IEC 18004, "Data analysis" of the encode
 -- procedure and "Optimisation of bit stream length").
-use Rattle.std.specs.Prelude.{◌≡◌, ℕ, pos, ◌+◌, ◌<◌, ◌≤◌, List, All, Some, ◌⊎◌}
+use Rattle.std.specs.Prelude.{◌≡◌, ℕ, pos, ◌+◌, ◌<◌, ◌≤◌, List, All, Some, ◌⊎◌, [], ◌∷◌}
 use Rattle.qrcode_base.specs.declared.types.Version.{Version}
 use Rattle.qrcode_base.specs.declared.types.Version.TheVariants.{Normal, Micro}
 use Rattle.qrcode_base.specs.declared.types.EcLevel.{EcLevel}
@@ -8,8 +8,7 @@ use Rattle.qrcode_base.specs.Symbols.{capacity}
 use Rattle.qrcode_base.specs.Modes.{HasMode}
 use Rattle.qrcode_bits.specs.declared.optimize.Segment.{Segment}
 use Rattle.qrcode_bits.specs.Parsing.{parsed}
-use Rattle.qrcode_bits.specs.Merging.{total_bits, IsChosenPlan}
-use Rattle.qrcode_bits.specs.Cuttings.{IsCutting, merged_pieces}
+use Rattle.qrcode_bits.specs.Merging.{total_bits, IsChosenPlan, IsCutting, merged_pieces}
 
 -- ---- Plans
 
@@ -76,3 +75,16 @@ abbrev pub IsMinVersion : ℕ → EcLevel → Version → Type 0
 IsMinVersion length level version =
     ((number : ℕ) × (version ≡ normal number) × IsLeastHolding length level number)
     ⊎ ((version ≡ normal 40) × ((other c : ℕ) → capacity (normal other) level ≡ Some c → c < length))
+
+-- ---- Versions in which a plan takes the same bits
+
+-- The versions after one number up to another are of one class: 1 to 9, 10 to 26 or 27 to 40. In a class the
+-- character count indicators have the same widths (table 3).
+abbrev pub IsClass : ℕ → ℕ → Type 0
+IsClass before last = (n : ℕ) → before < n → n ≤ last →
+    ((n ≤ 9) × (last ≤ 9)) ⊎ (((10 ≤ n) × (n ≤ 26) × (10 ≤ last) × (last ≤ 26)) ⊎ ((27 ≤ n) × (27 ≤ last)))
+
+-- These are the last versions of the classes up to a limit, behind one number.
+abbrev pub ClassesUpTo : ℕ → List ℕ → ℕ → Type 0
+ClassesUpTo before [] limit = limit ≤ before
+ClassesUpTo before (last ∷ rest) limit = IsClass before last × (1 ≤ last) × (last ≤ limit) × ClassesUpTo last rest limit

@@ -8,14 +8,13 @@ use Rattle.qrcode_bits.specs.declared.optimize.words.Words.{Words}
 use Rattle.qrcode_bits.specs.declared.optimize.short.Headers.{Headers}
 use Rattle.qrcode_bits.specs.declared.optimize.short.ShortStep.{ShortStep}
 use Rattle.qrcode_bits.specs.declared.optimize.Segment.{Segment}
-use Rattle.qrcode_bits.specs.declared.optimize.Step.{Step}
+use Rattle.qrcode_bits.specs.declared.optimize.steps.Step.{Step}
 use Rattle.qrcode_base.specs.declared.types.Version.{Version}
 use Rattle.qrcode_base.specs.declared.types.Mode.{Mode}
 use Rattle.qrcode_base.specs.declared.types.Mode.TheVariants.{Numeric, Alphanumeric, Byte, Kanji}
 use Rattle.qrcode_base.specs.Modes.{indicator_width, count_width}
 use Rattle.qrcode_bits.specs.Merging.{segment_at, IsStep}
-use Rattle.qrcode_bits.specs.Periods.{period_bits}
-use Rattle.qrcode_bits.specs.Buckets.{bucket_mode, HasBucket}
+use Rattle.qrcode_bits.specs.Buckets.{period_bits, bucket_mode, HasBucket}
 
 -- The word of a start: fewer bits, then fewer parts, then a later start make it less.
 abbrev pub word_of : ℕ → ℕ → ℕ → ℕ

@@ -2,7 +2,7 @@
 use Rattle.std.proofs.Common.{◌≡◌, ℕ, ◌<◌, ◌+◌, List, [], ◌∷◌, ◌++◌, Result, Ok, Err, inl, inr, refl, subst, sym, take, drop, length, get_or, suc, add-one}
 use Rattle.std.proofs.Math.Seq.{split_at, take-suc}
 use Rattle.qrcode_core.specs.Grids.{Grid}
-use Rattle.qrcode_core.specs.Steps.{StepsInOrder}
+use Rattle.qrcode_core.specs.Registered.{StepsInOrder}
 use Rattle.qrcode_core.specs.declared.plugin.error.PluginError.{PluginError}
 
 -- after steps that all succeed, the others go on from where those came to

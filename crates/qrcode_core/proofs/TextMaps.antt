@@ -72,3 +72,6 @@ pub texts_sorted : (names : List (List ℕ)) (ks : List (String Global))
 texts_sorted names ks are sorted =
     let P : List (List ℕ) → Type 0 = λ ns. IsStrictlySortedBy text_cmp ns in
     subst P (sym are) (strings_sorted ks sorted)
+
+-- the names of a tree of strings, in order
+pub ruleset names_in_order = (text_entries_keys, text_values_keys, texts_sorted)

@@ -45,7 +45,8 @@ AreFarApart grid other r s f g =
 -- Every other grid that is read at the same version and level as other bytes is far apart from this one.
 abbrev pub IsFarFromOthers : (grid : List Color) (reading : Reading) → Reads grid reading → Type 0
 IsFarFromOthers grid r f =
-    (other : List Color) (s : Reading) (g : Reads other s) → s.version ≡ r.version → s.level ≡ r.level → s.bytes ≢ r.bytes → AreFarApart grid other r s f g
+    (other : List Color) (s : Reading) (g : Reads other s) → s.version ≡ r.version → s.level ≡ r.level →
+    s.bytes ≢ r.bytes → AreFarApart grid other r s f g
 
 -- So are any two grids.
 abbrev pub HaveDistance : Type 0
@@ -61,7 +62,8 @@ HaveDistance = (grid : List Color) (r : Reading) (f : Reads grid r) → IsFarFro
 -- version, and none a smaller one. The payload bits are the fewest of all plans there. The mask is the first under
 -- which the grid's sibling has the least penalty. In each block different contents differ in more codewords than the
 -- block has correction codewords.
-pub record IsBest (kind : ℕ → Version) (header : Option Header) (bytes : List ℕ) (level : EcLevel) (grid : List Color) : Type 0 where
+pub record IsBest (kind : ℕ → Version) (header : Option Header) (bytes : List ℕ) (level : EcLevel)
+    (grid : List Color) : Type 0 where
   pub number : ℕ
   pub mask : MaskPattern
   pub payload : ℕ

@@ -14,7 +14,8 @@ use Rattle.qrcode_grid.specs.Symbol.{CarriesCodewords}
 use Rattle.qrcode_core.specs.Drawn.{DrawnSymbol}
 
 -- The data codewords hold a frame of the bytes, and zeros where the last codeword has no low half.
-pub record IsEncoded (version : Version) (level : EcLevel) (header : Option Header) (bytes : List ℕ) (payload : ℕ) (codewords : List ℕ) : Type 0 where
+pub record IsEncoded (version : Version) (level : EcLevel) (header : Option Header) (bytes : List ℕ) (payload : ℕ)
+    (codewords : List ℕ) : Type 0 where
   pub frame : List Bool
   pub framed : IsFrame version level header bytes payload frame
   pub frame_is : byte_bits codewords ≡ frame ++ zero_bits (missing_bits version)

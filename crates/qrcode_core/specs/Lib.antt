@@ -16,7 +16,5 @@ pub mod Configs
 pub mod Outputs
 pub mod LentModules
 pub mod PluginErrors
-pub mod Steps
 pub mod Registered
 pub mod Registries
-pub mod NamesLeft

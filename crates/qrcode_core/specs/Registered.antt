@@ -1,8 +1,9 @@
 -- What a registry holds, three maps and a list, and what registrations make of it.
-use Rattle.std.specs.Prelude.{◌≡◌, ℕ, ◌<◌, List, [], ◌∷◌, ◌++◌, Result, take, length, MatchResult}
+use Rattle.std.specs.Prelude.{◌≡◌, ℕ, ◌<◌, List, [], ◌∷◌, ◌++◌, Result, take, length, MatchResult, ◌⊎◌, Ok, Err}
 use Rattle.qrcode_core.specs.Texts.{TextMap, with_entry}
 use Rattle.qrcode_core.specs.declared.plugin.error.PluginError.{PluginError}
 use Rattle.qrcode_core.specs.declared.plugin.error.PluginError.TheVariants.{OutOfMemory}
+use Rattle.qrcode_core.specs.Grids.{Grid}
 
 -- the versions of plugins, the renderers and the encoders by name, and the postprocessors in the order of registration
 pub record Registered (R E P : Type 0) : Type 0 where
@@ -45,3 +46,15 @@ abbrev pub Registers : {R E P : Type 0}
     → Registered R E P → List (Registration R E P) → Result Unit PluginError → Registered R E P → Type 0
 Registers s all r t =
     MatchResult r (λ _. t ≡ with_registrations s all) (λ e. (e ≡ OutOfMemory) × RegistersBeginning s all t)
+
+-- ---- Postprocessing
+
+-- The objects change the grid g in order, each as `step` says of it, and leave h. The first refusal is the answer and
+-- the last step; with no refusal the answer is Ok.
+abbrev pub StepsInOrder : {B : Type 0}
+    → (B → Grid → Result Unit PluginError → Grid → Type 0)
+    → List B → Grid → Result Unit PluginError → Grid → Type 0
+StepsInOrder step [] g r h = (r ≡ Ok tt) × (h ≡ g)
+StepsInOrder step (b ∷ bs) g r h =
+    ((e : PluginError) × (r ≡ Err e) × step b g (Err e) h)
+    ⊎ ((m : Grid) × step b g (Ok tt) m × StepsInOrder step bs m r h)

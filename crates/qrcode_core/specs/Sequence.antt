@@ -9,20 +9,19 @@ use Rattle.qrcode_base.specs.declared.types.errors.QrError.TheVariants.{DataTooL
 use Rattle.qrcode_base.specs.declared.types.errors.QrError.TheVariants.{InvalidStructuredAppend, OutOfMemory}
 use Rattle.qrcode_bits.specs.Choice.{normal, FitsNone}
 use Rattle.qrcode_bits.specs.Encoding.{IsLimit}
-use Rattle.qrcode_bits.specs.Frame.{Header}
-use Rattle.qrcode_bits.specs.Push.{header}
+use Rattle.qrcode_bits.specs.Frame.{Header, header}
 use Rattle.qrcode_core.specs.Headline.{IsBest}
 use Rattle.qrcode_core.specs.Reader.{Reading, Reads}
 
 -- ---- What is read
 
 -- The parity of a message: the exclusive or of all its bytes.
-abbrev pub parity : List ℕ → ℕ
-parity message = fold bit_xor 0 message
+abbrev pub parity_of : List ℕ → ℕ
+parity_of message = fold bit_xor 0 message
 
 -- The header of the symbol at a place, counted from 1, of so many that carry a message together.
 abbrev pub header_at : ℕ → ℕ → List ℕ → Header
-header_at place total message = header place total (parity message)
+header_at place total message = header place total (parity_of message)
 
 -- So many symbols make a sequence.
 abbrev pub IsTotal : ℕ → Type 0
@@ -66,7 +65,8 @@ abbrev pub parts_at : List ℕ → List ℕ → List (List ℕ)
 parts_at cuts message = parts_from 0 cuts message
 
 -- The best symbol of a part, with a header, in a version up to a limit.
-pub record IsPartSymbol (header : Header) (part : List ℕ) (level : EcLevel) (limit : ℕ) (grid : List Color) : Type 0 where
+pub record IsPartSymbol (header : Header) (part : List ℕ) (level : EcLevel) (limit : ℕ)
+    (grid : List Color) : Type 0 where
   pub best : IsBest normal (Some header) part level grid
   pub up_to : best.number ≤ limit
 

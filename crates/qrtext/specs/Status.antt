@@ -12,5 +12,6 @@ abbrev pub usage : List ℕ
 usage = codes "usage: qrtext L|M|Q|H [micro]" ++ 10 ∷ []
 
 -- the symbol of the request was drawn as text
-abbrev pub ServesText : Request → (unread left written now handed_on before after : Option (List ℕ)) → (deaf dumb mute : Bool) → ℕ → Type 0
+abbrev pub ServesText : Request → (unread left written now handed_on before after : Option (List ℕ)) →
+    (deaf dumb mute : Bool) → ℕ → Type 0
 ServesText request = Serves (Shows request.micro request.level) (IsRefusalOf request.micro request.level) program

@@ -15,7 +15,8 @@ request micro level = record { level = level; micro = micro }
 -- The words ask for a symbol: they are a level, with white space around it perhaps, and after it perhaps `micro`.
 abbrev pub Ask : List (List ℕ) → Request → Type 0
 Ask (word ∷ []) request = NamesLevel (trim word) request.level × (request.micro ≡ false)
-Ask (word ∷ second ∷ []) request = NamesLevel (trim word) request.level × (second ≡ codes "micro") × (request.micro ≡ true)
+Ask (word ∷ second ∷ []) request =
+    NamesLevel (trim word) request.level × (second ≡ codes "micro") × (request.micro ≡ true)
 Ask _ request = ⊥
 
 -- They ask for none.

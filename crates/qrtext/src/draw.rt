@@ -1,7 +1,7 @@
 //! From the bytes of a source to the text of their symbol.
-ghost use Rattle.std.specs.Prelude.{◌≡◌, ℕ, ◌≢◌, ◌*◌, ◌≤◌, ◌↔◌, ◌⊎◌, length, take, IsTrue, IsFalse, IfOk, IfErr, OnOk, OnErr, IsErrOf, is_err, Some};
-ghost use Rattle.std.specs.Io.KnownBytes.{Keeps, Appends, Consumes, IsAtEnd};
-ghost use Rattle.programs.specs.Devices.{ReadsEnough, ReadsAtMost, Writes};
+ghost use Rattle.std.specs.Prelude.{◌≡◌, ◌≢◌, ◌*◌, ◌≤◌, ◌↔◌, length, IsTrue, IsFalse};
+ghost use Rattle.std.specs.Prelude.{IfOk, IfErr, OnOk, IsErrOf};
+ghost use Rattle.programs.specs.Devices.{ReadsAtMost};
 ghost use Rattle.programs.specs.Outcome.{IsDrawing, IsRefused, IfRefused, Gives};
 ghost use Rattle.programs.specs.Symbols.{IsSymbolOf, IsRefusalOf};
 ghost use Rattle.qrcode_core.specs.Headline.{IsSquare};
@@ -28,11 +28,13 @@ pub fn draw<R: Source, W: Sink>(
     requires writer_sound { IsFalse (W.has_failed writer.old) }
 
     ensures outcome { Gives (Shows micro level) (IsRefusalOf micro level)
-        (R.remaining reader.old) (R.remaining reader.new) (W.written writer.old) (W.written writer.new) (W.handed_on writer.new) result }
+        (R.remaining reader.old) (R.remaining reader.new)
+        (W.written writer.old) (W.written writer.new) (W.handed_on writer.new) result }
 
     // No more is read than is too many, and less where the reader failed.
     ensures few { ReadsAtMost 7090 (R.remaining reader.old) (R.remaining reader.new) }
-    ensures fewer { IsErrOf result Fault.Read → ReadsAtMost 7089 (R.remaining reader.old) (R.remaining reader.new) }
+    ensures fewer { IsErrOf result Fault.Read →
+        ReadsAtMost 7089 (R.remaining reader.old) (R.remaining reader.new) }
 
     // A device's fault is answered exactly where that device failed.
     ensures read { IsErrOf result Fault.Read ↔ IsTrue (R.has_failed reader.new) }
@@ -50,10 +52,13 @@ fn drawing<R: Source>(
     micro: bool,
 ) -> Result<Vec<u8>, Fault>
     requires { IsFalse (R.has_failed reader.old) }
-    ensures drawn { IfOk result (λ text. IsDrawing (Shows micro level) (R.remaining reader.old) (R.remaining reader.new) text.items) }
-    ensures refused { IfErr result (IfRefused (λ error. IsRefused (IsRefusalOf micro level) error (R.remaining reader.old) (R.remaining reader.new))) }
+    ensures drawn { IfOk result (λ text. IsDrawing (Shows micro level)
+        (R.remaining reader.old) (R.remaining reader.new) text.items) }
+    ensures refused { IfErr result (IfRefused (λ error. IsRefused (IsRefusalOf micro level) error
+        (R.remaining reader.old) (R.remaining reader.new))) }
     ensures few { ReadsAtMost 7090 (R.remaining reader.old) (R.remaining reader.new) }
-    ensures fewer { IsErrOf result Fault.Read → ReadsAtMost 7089 (R.remaining reader.old) (R.remaining reader.new) }
+    ensures fewer { IsErrOf result Fault.Read →
+        ReadsAtMost 7089 (R.remaining reader.old) (R.remaining reader.new) }
     ensures read { IsErrOf result Fault.Read ↔ IsTrue (R.has_failed reader.new) }
     ensures no_write { IfErr result (λ e. e ≢ Fault.Write) }
 {

@@ -37,8 +37,8 @@ fn is_micro(word: &str) -> bool
     word == "micro"
 }
 
-/// Serves the words after the program's name, and answers the status: 0 where the text was written, 1 where there was a fault,
-/// 2 where the words ask for nothing.
+/// Serves the words after the program's name, and answers the status: 0 where the text was written, 1 where there was
+/// a fault, 2 where the words ask for nothing.
 ///
 /// A fault is told on `errors` in one line, and so is the usage; a fault of `errors` itself is dropped.
 pub fn run<R: Source, W: Sink, E: Sink>(
@@ -54,7 +54,8 @@ pub fn run<R: Source, W: Sink, E: Sink>(
 
     // Words that ask for nothing have the status 2, and nothing is read or drawn.
     ensures misused { AskForNone (map (λ word. word.now) words.now) → (result ≡ 2)
-        × (reader.new ≡ reader.old) × (writer.new ≡ writer.old) × Writes (E.written errors.old) (E.written errors.new) (E.has_failed errors.new) usage }
+        × (reader.new ≡ reader.old) × (writer.new ≡ writer.old)
+        × Writes (E.written errors.old) (E.written errors.new) (E.has_failed errors.new) usage }
     ensures served { (asked : Request) → Ask (map (λ word. word.now) words.now) asked → ServesText asked
         (R.remaining reader.old) (R.remaining reader.new) (W.written writer.old) (W.written writer.new)
         (W.handed_on writer.new) (E.written errors.old) (E.written errors.new)
@@ -74,7 +75,8 @@ pub fn run<R: Source, W: Sink, E: Sink>(
 pub fn give_up<E: Sink>(alloc: Global, errors: &mut E, fault: Fault) -> u8
     requires sound { IsFalse (E.has_failed errors.old) }
     ensures status { result ≡ 1 }
-    ensures says { Says program (E.written errors.old) (E.written errors.new) (E.has_failed errors.new) (Err fault) }
+    ensures says { Says program (E.written errors.old) (E.written errors.new)
+        (E.has_failed errors.new) (Err fault) }
 {
     fail(alloc, errors, "qrtext", b"qrtext: out of memory\n", fault)
 }

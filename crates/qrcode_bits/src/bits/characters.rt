@@ -6,8 +6,7 @@ ghost use Rattle.qrcode_base.specs.Characters.{alphanumeric_value as alphanumeri
 ghost use Rattle.qrcode_base.specs.Characters.{IsKanjiText, kanji_number as kanji_number_of};
 ghost use Rattle.qrcode_base.specs.Numbers.{number_bits, byte_bits};
 ghost use Rattle.qrcode_bits.specs.Spelling.{numeric_bits, alphanumeric_bits, kanji_bits};
-ghost use Rattle.qrcode_bits.specs.Shifts.{AreShifted, shifted};
-ghost use Rattle.qrcode_bits.specs.Stream.{Appends};
+ghost use Rattle.qrcode_bits.specs.Stream.{AreShifted, shifted, Appends};
 
 use super::{Bits, joined, low_bits};
 use qrcode_base::characters::alphanumeric_place;

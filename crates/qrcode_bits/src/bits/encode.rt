@@ -12,13 +12,11 @@ ghost use Rattle.qrcode_base.specs.Modes.{HasMode, indicator_width, count_width}
 ghost use Rattle.qrcode_base.specs.Versions.{HasMicroNumber};
 ghost use Rattle.qrcode_bits.specs.Parsing.{parsed};
 ghost use Rattle.qrcode_bits.specs.Merging.{IsChosenPlan};
-ghost use Rattle.qrcode_bits.specs.Choice.{Fits, FitsNot, FitsNone, normal, micro, IsMinVersion};
-ghost use Rattle.qrcode_bits.specs.Classes.{IsClass, ClassesUpTo};
+ghost use Rattle.qrcode_bits.specs.Choice.{Fits, FitsNot, FitsNone, normal, micro, IsMinVersion, IsClass};
+ghost use Rattle.qrcode_bits.specs.Choice.{ClassesUpTo};
 ghost use Rattle.qrcode_bits.specs.Encoding.{IsPlanStream, IsEncoding, IsUnencodable, IsLimit};
 ghost use Rattle.qrcode_bits.specs.Encoding.{IsEncodingRefused, IsMicroRefused, IsPartRefused};
-ghost use Rattle.qrcode_bits.specs.Frame.{HasHeader, header_bits};
-ghost use Rattle.qrcode_bits.specs.ModeSets.{no_modes};
-ghost use Rattle.qrcode_bits.specs.Push.{header};
+ghost use Rattle.qrcode_bits.specs.Frame.{HasHeader, header_bits, header};
 
 use super::Bits;
 use super::ending::data_capacity_bits;
@@ -26,29 +24,14 @@ use super::headers::check_place;
 use super::widths::has_mode;
 use crate::optimize::{Parser, Segment, optimize_segments, total_encoded_len};
 use arrayvec::ArrayVec;
+use front::{Part, front_bits, started};
 use qrcode_base::types::{EcLevel, QrError, QrResult, Version};
 use std::alloc::Global;
-use std::marker::Model;
+
+mod front;
 
 /// The longest data that some symbol holds: 7089 digits in version 40 at level L.
 const MAX_DATA_LEN: usize = 7089;
-
-/// The header of a symbol that is part of a sequence.
-#[derive(Drop)]
-struct Part {
-    position: u8,
-    total: u8,
-    parity: u8,
-}
-
-// Clauses see the header.
-impl Model for Part {
-    ghost use Rattle.qrcode_bits.specs.Frame.{Header};
-
-    ghost Value = { Header };
-
-    ghost view = { λ p. record { place = p.position; total = p.total; parity = p.parity } };
-}
 
 /// The bits of some data in the smallest Normal version in which some plan fits, by the plan that takes the fewest bits
 /// there, up to terminator and padding.
@@ -195,17 +178,6 @@ fn micro(number: usize) -> Version
     ensures number { HasMicroNumber result }
 {
     Version::Micro(number as i16)
-}
-
-/// How many bits stand in front of the data.
-fn front_bits(header: &Option<Part>) -> usize
-    ensures is { result ≡ length (header_bits header.now) }
-    ensures small { result ≤ 20 }
-{
-    match header {
-        Some(_) => 20,
-        None => 0,
-    }
 }
 
 /// The bits of the data behind a header or none, in the smallest Normal version up to a limit, told by its number.
@@ -379,28 +351,6 @@ fn encode_plan(
     }
     if let Err(error) = bits.push_terminator(level) {
         return Err(error);
-    }
-    Ok(bits)
-}
-
-/// A stream that begins with a header, or with nothing.
-fn started(alloc: Global, header: &Option<Part>, version: Version) -> QrResult<Bits>
-    requires number { HasMicroNumber version }
-    requires header { HasHeader version header.now }
-    ensures bits { IfOk result (λ bits. bits.bits ≡ header_bits header.now) }
-    ensures version { IfOk result (λ bits. bits.version ≡ version) }
-    ensures modes { IfOk result (λ bits. bits.modes ≡ no_modes) }
-    ensures memory { IfErr result (λ e. e ≡ QrError.OutOfMemory) }
-{
-    let mut bits = Bits::new(alloc, version);
-    if let Some(part) = header {
-        if let Err(error) = bits.push_structured_append_header(
-            part.position,
-            part.total,
-            part.parity,
-        ) {
-            return Err(error);
-        }
     }
     Ok(bits)
 }

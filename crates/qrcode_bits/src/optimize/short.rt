@@ -5,13 +5,13 @@ ghost use Rattle.std.specs.Bool.{OnTrue};
 ghost use Rattle.qrcode_base.specs.Versions.{HasMicroNumber};
 ghost use Rattle.qrcode_base.specs.Modes.{indicator_width, count_width, data_bits, characters};
 ghost use Rattle.qrcode_bits.specs.Merging.{HasLinearCosts, IsChosenPlan, IsStep};
-ghost use Rattle.qrcode_bits.specs.Buckets.{bucket_mode, bucket_rest, AreGroups};
-ghost use Rattle.qrcode_bits.specs.Periods.{period_bits};
+ghost use Rattle.qrcode_bits.specs.Buckets.{bucket_mode, bucket_rest, AreGroups, period_bits};
 ghost use Rattle.qrcode_bits.specs.Words.{told, header_in, AreWhole, IsShort, AreHeaders, step_told, AreShortSteps};
 
+use super::Segment;
 use super::comparisons::Comparisons;
+use super::steps::bucket_mode;
 use super::words::{NO_START, Words, word};
-use super::{Segment, bucket_mode};
 use qrcode_base::types::{Mode, QrError, QrResult, Version};
 use std::alloc::Global;
 use std::sync::ledger::Ledger;

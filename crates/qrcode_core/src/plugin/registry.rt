@@ -2,12 +2,10 @@
 ghost use Rattle.std.specs.Prelude.{◌≡◌, Ok, Err, IfSome, IfNone, MatchOption, MatchResult, IsErrAnd, IsOkAnd};
 ghost use Rattle.std.specs.List.Sorted.{IsStrictlySortedBy};
 ghost use Rattle.std.specs.Option.{option_copied};
-ghost use Rattle.qrcode_core.specs.NamesLeft.{names_left};
+ghost use Rattle.qrcode_core.specs.Texts.{names_left, at_key, key_texts, text_cmp};
 ghost use Rattle.qrcode_core.specs.PluginErrors.{IsRendererMissing, IsEncoderMissing};
-ghost use Rattle.qrcode_core.specs.Registered.{nothing_registered};
+ghost use Rattle.qrcode_core.specs.Registered.{nothing_registered, StepsInOrder};
 ghost use Rattle.qrcode_core.specs.Registries.{registered, object_at};
-ghost use Rattle.qrcode_core.specs.Steps.{StepsInOrder};
-ghost use Rattle.qrcode_core.specs.Texts.{at_key, key_texts, text_cmp};
 
 use crate::plugin::config::{EncodeConfig, RenderConfig};
 use crate::plugin::error::PluginError;
@@ -61,7 +59,7 @@ impl PluginRegistry {
     }
 
     /// The names of plugins, in the order of their bytes.
-    #[tactic(auto, using(crate::proofs::TextMaps::text_entries_keys, crate::proofs::TextMaps::text_values_keys, crate::proofs::TextMaps::texts_sorted))]
+    #[tactic(auto, using(crate::proofs::TextMaps::names_in_order))]
     pub fn plugin_names(&self) -> Names<'_, String>
         ensures names { names_left result ≡ key_texts (registered self.now).plugins }
         ensures ordered { IsStrictlySortedBy text_cmp (names_left result) }

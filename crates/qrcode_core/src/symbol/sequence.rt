@@ -3,9 +3,9 @@ ghost use Rattle.std.specs.Prelude.{◌≡◌, ◌+◌, ◌≤◌, [], length, m
 ghost use Rattle.std.specs.Prelude.{IfErr, IsTrue, vec_items};
 ghost use Rattle.std.specs.List.Sorted.{IsNonDecreasing};
 ghost use Rattle.qrcode_bits.specs.Encoding.{IsLimit, IsPartRefused};
-ghost use Rattle.qrcode_bits.specs.Push.{header};
+ghost use Rattle.qrcode_bits.specs.Frame.{header};
 ghost use Rattle.qrcode_core.specs.Drawn.{TellsReading, modules_of};
-ghost use Rattle.qrcode_core.specs.Sequence.{parity, parts_at, IsPartSymbol, AreBestSymbols};
+ghost use Rattle.qrcode_core.specs.Sequence.{parity_of, parts_at, IsPartSymbol, AreBestSymbols};
 ghost use Rattle.qrcode_core.specs.Sequence.{IsSomePartTooLong, IsSequenceRefusal};
 
 use crate::symbol::owned::{Symbol, symbol_of};
@@ -126,7 +126,7 @@ fn colors_of_all(alloc: Global, symbols: Vec<Symbol>) -> QrResult<Vec<Vec<Color>
 
 /// The exclusive or of some bytes.
 fn parity_of(bytes: &[u8]) -> u8
-    ensures { result ≡ parity bytes.now }
+    ensures { result ≡ parity_of bytes.now }
 {
     bytes.iter().fold(0, |sum, byte| sum ^ *byte)
 }

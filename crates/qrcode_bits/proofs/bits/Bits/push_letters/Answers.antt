@@ -2,7 +2,7 @@
 use Rattle.std.proofs.Common.{arith}
 use Rattle.std.proofs.lemmas.List.Elements.{All-drop}
 use Rattle.qrcode_bits.proofs.Characters.{InAlphabet}
-use Rattle.qrcode_bits.proofs.Pairs.{pairs_step, pairs_all}
+use Rattle.qrcode_bits.proofs.Pairs.{pairs_step}
 use Rattle.qrcode_bits.proofs.Streams.{appends_low}
 use Rattle.qrcode_bits.proofs.Numbers.{length-number_bits}
 use Rattle.qrcode_bits.proofs.Segments.{length-alphanumeric_bits}
@@ -22,6 +22,3 @@ loop-rest-preserved c = record {
       c.eight_letters-number.ensures.bits c.loop-rest.invariant.so_far (appends_low _ _ _ 40 4 44 c.eight_letters-number.result (omega arith) c.push_five_bytes.ensures c.append.ensures);
   characters = rw c.split_at.ensures.back (All-drop InAlphabet 8 c.loop-rest.rest.now c.loop-rest.invariant.characters);
 }
-
-pub returns : goal.returns
-returns c = pairs_all _ _ _ _ c.loop-rest.rest.now c.loop-rest.invariant.so_far c.push_last_letters.ensures

@@ -1,11 +1,9 @@
 -- Header, characters and mode, one after the other.
-use Rattle.std.proofs.Common.{arith, ap, subst, ◌^◌, ◌<◌, ℕ}
+use Rattle.std.proofs.Common.{arith, ap, subst, ℕ}
 use Rattle.std.proofs.lemmas.Result.{err_from_is_err_and}
-use Rattle.qrcode_base.specs.Modes.{data_bits, count_width}
-use Rattle.qrcode_bits.specs.Spelling.{segment_header}
-use Rattle.qrcode_bits.specs.Stream.{Appends}
+use Rattle.qrcode_base.specs.Modes.{data_bits}
 use Rattle.qrcode_bits.specs.Push.{IsHeaderRefused}
-use Rattle.qrcode_bits.proofs.Segments.{spells, refused, length-character_bits}
+use Rattle.qrcode_bits.proofs.Segments.{refused, length-character_bits}
 use Rattle.qrcode_bits.proofs.bits.Bits.push_text.Goals as goal
 
 pub push_characters-requires-clause-room : goal.push_characters-requires-clause-room
@@ -14,14 +12,8 @@ push_characters-requires-clause-room c =
     let count = ap (λ (n : ℕ). data_bits c.args.mode n) c.character_count.ensures in
     omega (arith, c.in_ok-push_header.ensures.room)
 
-pub returns-in_err-push_header-clause-err : goal.returns-in_err-push_header-clause-err
-returns-in_err-push_header-clause-err c =
+pub returns-in_err-push_header-clause-refused : goal.returns-in_err-push_header-clause-refused
+returns-in_err-push_header-clause-refused c =
     let p = err_from_is_err_and c.from_residual.result c.from_residual.ensures.1 in
-    let why = subst (λ (n : ℕ). IsHeaderRefused c.args.self.now c.args.mode n c.in_err-push_header.field-0.0) c.character_count.ensures c.in_err-push_header.ensures.err.1 in
-    rw (p.1, p.2) (c.in_err-push_header.ensures.err.0, refused c.args.self.now c.args.mode c.args.text.now _ c.requires.has c.requires.valid why)
-
-pub returns-clause-ok : goal.returns-clause-ok
-returns-clause-ok c =
-    let counted = subst (λ (n : ℕ). n < 2 ^ count_width c.args.self.now.version c.args.mode) c.character_count.ensures c.in_ok-push_header.ensures.counted in
-    let header = subst (λ (n : ℕ). Appends c.args.self.now c.push_header.new.self (segment_header c.args.self.now.version c.args.mode n)) c.character_count.ensures c.in_ok-push_header.ensures.ok in
-    spells _ _ _ _ c.args.mode _ c.requires.has c.requires.valid counted header c.push_characters.ensures c.end_segment.ensures
+    let why = subst (λ (n : ℕ). IsHeaderRefused c.args.self.now c.args.mode n c.in_err-push_header.field-0.0) c.character_count.ensures c.in_err-push_header.ensures.refused in
+    rw (p.1, p.2) (refused c.args.self.now c.args.mode c.args.text.now _ c.requires.has c.requires.valid why)

@@ -1,7 +1,7 @@
 -- The places before this one are filled.
 use Rattle.std.proofs.Common.{◌≡◌, ℕ, ◌<◌, ◌∷◌, length}
 use Rattle.std.specs.Prelude.{slice_index_or}
-use Rattle.qrcode_bits.specs.Shifts.{shifted}
+use Rattle.qrcode_bits.specs.Stream.{shifted}
 use Rattle.qrcode_bits.proofs.bits.characters.place_shifted.Given as goal
 
 abbrev pub invariant-loop-i : goal.invariant-loop-i

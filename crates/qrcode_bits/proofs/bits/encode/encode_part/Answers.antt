@@ -4,8 +4,7 @@ use Rattle.std.specs.Prelude.{nat_abs, length}
 use mir.Val.{to_z, of_z}
 use mir.Syntax.{w16}
 use Rattle.std.proofs.lemmas.Int.{ints, to_z-of_z}
-use Rattle.qrcode_bits.specs.Frame.{header_spelling}
-use Rattle.qrcode_bits.specs.Push.{header}
+use Rattle.qrcode_bits.specs.Frame.{header_spelling, header}
 use Rattle.qrcode_bits.proofs.Classes.{refused_part, limit_of}
 use Rattle.qrcode_bits.proofs.Reading.{length-header}
 use Rattle.qrcode_bits.proofs.bits.encode.encode_part.Goals as goal

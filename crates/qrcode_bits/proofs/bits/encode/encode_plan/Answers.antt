@@ -22,7 +22,7 @@ push_plan-requires-clause-spelled c =
 pub returns-in-Err-push_terminator-clause-memory : goal.returns-in-Err-push_terminator-clause-memory
 returns-in-Err-push_terminator-clause-memory c =
     plan_end_refused c.args.header.now c.args.bytes.now (bytes_valid c.args.bytes.now (λ i. omega (arith, c.type_inv.bytes i))) c.args.version c.args.level c.args.plan.now c.requires.fits
-    c.in-Ok.bits c.in-Ok.ensures.bits c.in-Ok.ensures.version c.push_plan.new.self c.in-Err-push_terminator.error c.in_default-push_plan.ensures.ok c.in-Err-push_terminator.ensures.err.1
+    c.in-Ok.bits c.in-Ok.ensures.bits c.in-Ok.ensures.version c.push_plan.new.self c.in-Err-push_terminator.error c.in_default-push_plan.ensures.ok c.in-Err-push_terminator.ensures.refused
 
 pub returns-clause-ok : goal.returns-clause-ok
 returns-clause-ok c =

@@ -1,7 +1,7 @@
 -- The first class whose last version holds the chosen plan decides.
 use Rattle.std.proofs.Common.{ℕ, List, length, get_or, sym, subst, arith}
 use Rattle.qrcode_bits.specs.Frame.{header_bits}
-use Rattle.qrcode_bits.specs.Classes.{ClassesUpTo}
+use Rattle.qrcode_bits.specs.Choice.{ClassesUpTo}
 use Rattle.qrcode_bits.proofs.Pairs.{bytes_valid}
 use Rattle.qrcode_bits.proofs.Choices.{none_before}
 use Rattle.qrcode_bits.proofs.Lengths.{long_message}

@@ -1,18 +1,11 @@
 -- The run goes on while pairs follow.
 use Rattle.std.proofs.Common.{arith}
-use Rattle.qrcode_bits.proofs.ClassesOfBytes.{lone_stops, pair_first, pair_more, pairs_stop}
+use Rattle.qrcode_bits.proofs.ClassesOfBytes.{lone_stops, pair_more, pairs_stop}
 use Rattle.qrcode_bits.proofs.optimize.parser.segment_of_lead.Goals as goal
 
 pub returns-then-not-is_pair_at-clause-first : goal.returns-then-not-is_pair_at-clause-first
 returns-then-not-is_pair_at-clause-first c =
     rw c.mode.ensures (lone_stops c.args.bytes.now c.args.begin c.requires.within c.requires.lead (c.if-not-is_pair_at.ensures.alone c.requires.within))
-
-pub loop-end-init : goal.loop-end-init
-loop-end-init c = record {
-  some = omega arith;
-  inside = c.if-not-is_pair_at.ensures.inside;
-  run = pair_first c.args.bytes.now c.args.begin c.if-not-is_pair_at.ensures.pair;
-}
 
 pub loop-end-preserved : goal.loop-end-preserved
 loop-end-preserved c = record {

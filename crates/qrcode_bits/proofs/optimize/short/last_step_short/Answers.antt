@@ -2,16 +2,9 @@
 use Rattle.std.proofs.Common.{◌≡◌, ℕ, ◌-◌, ◌*◌, arith, ap, subst}
 use Rattle.qrcode_bits.specs.Merging.{segment_at}
 use Rattle.qrcode_bits.specs.Words.{told}
-use Rattle.qrcode_bits.proofs.ShortSteps.{IsSought, cost-small, short-rest, short-enough, sought-first, sought-keeps, sought-takes, sought-nothing, sought-last}
+use Rattle.qrcode_bits.proofs.ShortSteps.{IsSought, cost-small, short-rest, short-enough, sought-keeps, sought-takes, sought-nothing, sought-last}
 use Rattle.qrcode_bits.proofs.optimize.short.last_step_short.Goals as goal
 use Rattle.qrcode_bits.proofs.optimize.short.last_step_short.Goals.{then-found+then-candidate-best, then-found+else-candidate-best, else-found}
-
-pub loop-bucket-init : goal.loop-bucket-init
-loop-bucket-init g c = record {
-  within = omega arith;
-  sought = sought-first c.args.segments.now c.args.version c.args.end c.requires.within c.requires.linear _;
-  ticked = omega arith;
-}
 
 pub overflow_sub-last_end-then-found : goal.overflow_sub-last_end-then-found
 overflow_sub-last_end-then-found g c =

@@ -8,6 +8,3 @@ returns-then-is_empty-clause-empty c = empties c.args.group.now c.if-is_empty.en
 
 pub returns-clause-empty : goal.returns-clause-empty
 returns-clause-empty c = empties c.loop-j.group (λ k h. let e = c.loop-j.invariant.1 k (omega arith) in omega arith)
-
-pub returns-clause-whole : goal.returns-clause-whole
-returns-clause-whole c = record { long = c.loop-j.invariant.0; empty = λ great k h. let e = c.loop-j.invariant.1 k (omega arith) in omega arith }

@@ -8,7 +8,8 @@ use Rattle.std.proofs.lemmas.Int.{to_z-of_z}
 use Rattle.qrcode_base.specs.declared.types.errors.QrError.{QrError}
 use Rattle.qrcode_bits.specs.Choice.{normal}
 use Rattle.qrcode_bits.specs.Encoding.{IsLimit, IsPartRefused}
-use Rattle.qrcode_bits.specs.Push.{header, IsPlace}
+use Rattle.qrcode_bits.specs.Push.{IsPlace}
+use Rattle.qrcode_bits.specs.Frame.{header}
 use Rattle.qrcode_bits.proofs.Pairs.{bytes_valid}
 use Rattle.qrcode_core.specs.Sequence.{IsPartSymbol}
 use Rattle.qrcode_core.proofs.Limited.{few_versions}

@@ -8,7 +8,7 @@ use Rattle.std.proofs.lemmas.Int.{to_z-of_z}
 use Rattle.std.proofs.lemmas.List.{map-append}
 use Rattle.qrcode_base.specs.declared.types.Color.{Color}
 use Rattle.qrcode_bits.specs.Encoding.{IsLimit, IsPartRefused}
-use Rattle.qrcode_bits.specs.Push.{header}
+use Rattle.qrcode_bits.specs.Frame.{header}
 use Rattle.qrcode_bits.proofs.Classes.{limit_of}
 use Rattle.qrcode_core.specs.Drawn.{DrawnSymbol, TellsReading, modules_of}
 use Rattle.qrcode_core.specs.Sequence.{parts_at, IsPartSymbol, AreBestSymbols}

@@ -24,4 +24,4 @@ returns-in-Ok-clause-refused c =
     (λ e is. subst (λ (e : QrError). IsStreamRefusal c.args.bits c.args.level e) (sym is) (ended.limit, ended.limit_is, ended.fits)) c.symbol_of.ensures.memory
 
 pub returns-in-Err-clause-refused : goal.returns-in-Err-clause-refused
-returns-in-Err-clause-refused c = stream_refusal c.args.bits c.args.level c.in-Err.error c.in-Err.ensures.err.1
+returns-in-Err-clause-refused c = stream_refusal c.args.bits c.args.level c.in-Err.error c.in-Err.ensures.refused
