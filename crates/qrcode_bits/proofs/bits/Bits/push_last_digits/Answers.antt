@@ -1,10 +1,11 @@
 -- Three digits, or the rest.
-use Rattle.std.proofs.Common.{arith, ◌≡◌, ◌+◌, ◌*◌, ◌∙◌, ℕ, sym, ap, get_or}
+use Rattle.std.proofs.Common.{arith, ◌∙◌, ℕ, sym, ap}
 use Rattle.std.proofs.lemmas.List.Elements.{All-drop}
-use Rattle.qrcode_base.specs.Characters.{IsDigit, digit}
+use Rattle.qrcode_base.specs.Characters.{IsDigit}
 use Rattle.qrcode_base.specs.Numbers.{number_bits}
 use Rattle.qrcode_bits.proofs.Digits.{numeric_two, numeric_one, digits_step, digits_last, digits_end, length-numeric_bits}
 use Rattle.qrcode_bits.proofs.bits.Bits.push_last_digits.Goals as goal
+use Rattle.std.proofs.lemmas.Grind.{common_steps}
 
 pub push_number-requires-clause-room : goal.push_number-requires-clause-room
 push_number-requires-clause-room c =
@@ -26,9 +27,7 @@ push_number-requires-then-rest-eq1-clause-room c =
     omega (arith, c.loop-rest.invariant.so_far.room_for, length-numeric_bits c.loop-rest.rest.now)
 
 pub returns-then-rest-eq2 : goal.returns-then-rest-eq2
-returns-then-rest-eq2 c =
-    let number : 10 * digit (get_or c.loop-rest.rest.now 0 0) + digit (get_or c.loop-rest.rest.now 1 0) ≡ 10 * c.digit.result + c.digit-then-rest-eq2.result = omega arith in
-    digits_last _ _ _ _ _ c.loop-rest.rest.now (numeric_two c.loop-rest.rest.now c.if-rest-eq2.true ∙ ap (λ (z : ℕ). number_bits 7 z) number) c.loop-rest.invariant.so_far c.push_number-then-rest-eq2.ensures
+returns-then-rest-eq2 c = grind (arith, common_steps, digits_last, numeric_two)
 
 pub returns-then-rest-eq1 : goal.returns-then-rest-eq1
 returns-then-rest-eq1 c =

@@ -1,16 +1,13 @@
 -- Header, characters and mode, one after the other.
-use Rattle.std.proofs.Common.{arith, ap, subst, ℕ}
+use Rattle.std.proofs.Common.{arith, subst, ℕ}
 use Rattle.std.proofs.lemmas.Result.{err_from_is_err_and}
-use Rattle.qrcode_base.specs.Modes.{data_bits}
 use Rattle.qrcode_bits.specs.Push.{IsHeaderRefused}
 use Rattle.qrcode_bits.proofs.Segments.{refused, length-character_bits}
 use Rattle.qrcode_bits.proofs.bits.Bits.push_text.Goals as goal
+use Rattle.std.proofs.lemmas.Grind.{common_steps}
 
 pub push_characters-requires-clause-room : goal.push_characters-requires-clause-room
-push_characters-requires-clause-room c =
-    let bits = length-character_bits c.args.mode c.args.text.now c.requires.valid in
-    let count = ap (λ (n : ℕ). data_bits c.args.mode n) c.character_count.ensures in
-    omega (arith, c.in_ok-push_header.ensures.room)
+push_characters-requires-clause-room c = grind (arith, common_steps, length-character_bits)
 
 pub returns-in_err-push_header-clause-refused : goal.returns-in_err-push_header-clause-refused
 returns-in_err-push_header-clause-refused c =

@@ -1,5 +1,5 @@
 -- The chosen plan decides whether some plan fits.
-use Rattle.std.proofs.Common.{◌≡◌, refl, true, false, ◌+◌, ◌<◌, ◌≤◌, ◌^◌, ℕ, List, ap, ◌∙◌, sym, subst, arith}
+use Rattle.std.proofs.Common.{◌≡◌, refl, true, false, ◌+◌, ◌<◌, ◌≤◌, ℕ, List, ap, ◌∙◌, sym, subst, arith}
 use Rattle.std.specs.Prelude.{All}
 use Rattle.qrcode_bits.specs.declared.optimize.Segment.{Segment}
 use Rattle.qrcode_base.specs.declared.types.errors.QrError.TheVariants.{InvalidVersion}
@@ -11,6 +11,7 @@ use Rattle.qrcode_bits.proofs.Choices.{chosen_is_plan}
 use Rattle.qrcode_bits.proofs.Lengths.{dense_message}
 use Rattle.qrcode_bits.proofs.Classes.{known_limit, short-linear, plan_small, plan_ordered, chosen_fits_here, lacks_mode, too_many}
 use Rattle.qrcode_bits.proofs.bits.encode.chosen_plan.Goals as goal
+use Rattle.std.proofs.lemmas.Grind.{common_steps}
 
 pub optimize_segments-requires-clause-linear : goal.optimize_segments-requires-clause-linear
 optimize_segments-requires-clause-linear c = λ h.
@@ -40,19 +41,10 @@ total_encoded_len-requires-clause-ordered c =
     (chosen_is_plan c.args.bytes.now c.args.version c.in-Ok-optimize_segments.plan.items chosen))
 
 pub total_encoded_len-requires-clause-fits : goal.total_encoded_len-requires-clause-fits
-total_encoded_len-requires-clause-fits c =
-    let chosen = subst (λ (s : List Segment). IsChosenPlan s c.args.version c.in-Ok-optimize_segments.plan.items) c.requires.segments c.in-Ok-optimize_segments.ensures.plan in
-    subst (λ (p : List Segment). total_bits c.args.version p < 2 ^ 64) (sym c.deref-2.ensures.value)
-    (let small = plan_small c.args.bytes.now c.args.version c.requires.small c.requires.short c.in-Ok-optimize_segments.plan.items
-    (bytes_valid c.args.bytes.now (λ i. omega (arith, c.type_inv.bytes i))) (chosen_is_plan c.args.bytes.now c.args.version c.in-Ok-optimize_segments.plan.items chosen) in omega arith)
+total_encoded_len-requires-clause-fits c = grind (arith, common_steps, bytes_valid, chosen_is_plan, plan_small)
 
 pub overflow_add-front : goal.overflow_add-front
-overflow_add-front c =
-    let chosen = subst (λ (s : List Segment). IsChosenPlan s c.args.version c.in-Ok-optimize_segments.plan.items) c.requires.segments c.in-Ok-optimize_segments.ensures.plan in
-    let small = plan_small c.args.bytes.now c.args.version c.requires.small c.requires.short c.in-Ok-optimize_segments.plan.items
-    (bytes_valid c.args.bytes.now (λ i. omega (arith, c.type_inv.bytes i))) (chosen_is_plan c.args.bytes.now c.args.version c.in-Ok-optimize_segments.plan.items chosen) in
-    let size = c.total_encoded_len.ensures ∙ ap (λ (p : List Segment). total_bits c.args.version p) c.deref-2.ensures.value in
-    omega arith
+overflow_add-front c = grind (arith, common_steps, bytes_valid, chosen_is_plan, plan_small)
 
 pub returns-then-front-total_encoded_len-clause-none : goal.returns-then-front-total_encoded_len-clause-none
 returns-then-front-total_encoded_len-clause-none c =

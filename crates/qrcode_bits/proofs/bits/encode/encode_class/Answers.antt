@@ -9,7 +9,7 @@ use Rattle.qrcode_bits.specs.Merging.{IsChosenPlan, total_bits}
 use Rattle.qrcode_bits.specs.Choice.{normal, Fits, IsMinVersion}
 use Rattle.qrcode_bits.specs.Encoding.{IsPlanStream}
 use Rattle.qrcode_bits.proofs.Pairs.{bytes_valid}
-use Rattle.qrcode_bits.proofs.Classes.{normal_headers, plan_small, plan_ordered, front_fits, front_not, class_fits, class_header, class_encoding}
+use Rattle.qrcode_bits.proofs.Classes.{normal_headers, plan_small, plan_ordered, front_fits, front_not, class_fits, class_encoding}
 use Rattle.qrcode_bits.proofs.bits.encode.encode_class.Goals as goal
 
 pub returns-in_default-found-clause-none : goal.returns-in_default-found-clause-none
@@ -45,15 +45,6 @@ encode_plan-requires-clause-fits c =
     let least = subst (λ (n : ℕ). IsMinVersion n c.args.level c.find_min_version-smallest.result) whole c.find_min_version-smallest.ensures in
     subst (λ (p : List Segment). Fits (length (header_bits c.args.header.now)) c.args.bytes.now c.find_min_version-smallest.result c.args.level p) (sym c.deref-2.ensures.value)
     (class_fits c.args.header.now c.args.bytes.now c.args.level c.args.last c.in-Some.plan.items chosen fits c.find_min_version-smallest.result least)
-
-pub encode_plan-requires-clause-header : goal.encode_plan-requires-clause-header
-encode_plan-requires-clause-header c =
-    let fits = front_fits c.args.bytes.now c.args.level c.args.last c.in-Some.plan.items c.front_bits-front.result (length (header_bits c.args.header.now)) c.normal-version.result c.front_bits-front.ensures.is c.normal-version.ensures (rw c.in-Some.is at c.in-Ok.ensures.fits) in
-    let chosen = subst (λ (v : Version). IsChosenPlan (parsed c.args.bytes.now) v c.in-Some.plan.items) c.normal-version.ensures (rw c.in-Some.is at c.in-Ok.ensures.chosen) in
-    let size = c.total_encoded_len.ensures ∙ (ap (λ (v : Version). total_bits v c.deref.result.now) c.normal-version.ensures ∙ ap (λ (p : List Segment). total_bits (normal c.args.last) p) c.deref.ensures.value) in
-    let whole : c.front_bits-front.result + c.total_encoded_len.result ≡ length (header_bits c.args.header.now) + total_bits (normal c.args.last) c.in-Some.plan.items = omega (arith, size, c.front_bits-front.ensures.is) in
-    let least = subst (λ (n : ℕ). IsMinVersion n c.args.level c.find_min_version-smallest.result) whole c.find_min_version-smallest.ensures in
-    class_header c.args.header.now c.args.bytes.now c.args.level c.args.last c.in-Some.plan.items chosen fits c.find_min_version-smallest.result least c.requires.header
 
 pub returns-in-Ok-encode_plan-clause-some : goal.returns-in-Ok-encode_plan-clause-some
 returns-in-Ok-encode_plan-clause-some c = λ before limit class within none.

@@ -1,9 +1,7 @@
 -- The first class whose last version holds the chosen plan decides.
-use Rattle.std.proofs.Common.{ℕ, List, length, get_or, sym, subst, arith}
+use Rattle.std.proofs.Common.{ℕ, length, get_or, arith}
 use Rattle.qrcode_bits.specs.Frame.{header_bits}
-use Rattle.qrcode_bits.specs.Choice.{ClassesUpTo}
 use Rattle.qrcode_bits.proofs.Pairs.{bytes_valid}
-use Rattle.qrcode_bits.proofs.Choices.{none_before}
 use Rattle.qrcode_bits.proofs.Lengths.{long_message}
 use Rattle.qrcode_bits.proofs.Classes.{classes_here, classes_end, class_fits_not}
 use Rattle.qrcode_bits.proofs.bits.encode.encode_up_to.Goals as goal
@@ -11,13 +9,6 @@ use Rattle.qrcode_bits.proofs.bits.encode.encode_up_to.Goals as goal
 pub returns-then-bytes-gt-MAX_DATA_LEN-clause-err : goal.returns-then-bytes-gt-MAX_DATA_LEN-clause-err
 returns-then-bytes-gt-MAX_DATA_LEN-clause-err c =
     long_message (length (header_bits c.args.header.now)) c.args.bytes.now c.args.level c.args.limit c.requires.to_forty (bytes_valid c.args.bytes.now (λ i. omega (arith, c.type_inv.bytes i))) c.if-bytes-gt-MAX_DATA_LEN.true
-
-pub loop-last-init : goal.loop-last-init
-loop-last-init c = (
-  0,
-  subst (λ (z : List ℕ). ClassesUpTo 0 z c.args.limit) (sym c.as_slice-last-items.ensures.value) c.last_versions-candidates.ensures,
-  none_before (length (header_bits c.args.header.now)) c.args.bytes.now c.args.level,
-)
 
 pub returns-in-Some-clause-ok : goal.returns-in-Some-clause-ok
 returns-in-Some-clause-ok c =

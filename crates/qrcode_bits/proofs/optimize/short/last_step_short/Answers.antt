@@ -1,10 +1,11 @@
 -- The best start of each rest was tried, by its word.
-use Rattle.std.proofs.Common.{◌≡◌, ℕ, ◌-◌, ◌*◌, arith, ap, subst}
+use Rattle.std.proofs.Common.{ℕ, ◌-◌, ◌*◌, arith, ap}
 use Rattle.qrcode_bits.specs.Merging.{segment_at}
 use Rattle.qrcode_bits.specs.Words.{told}
-use Rattle.qrcode_bits.proofs.ShortSteps.{IsSought, cost-small, short-rest, short-enough, sought-keeps, sought-takes, sought-nothing, sought-last}
+use Rattle.qrcode_bits.proofs.ShortSteps.{cost-small, short-rest, short-enough, sought-keeps, sought-takes, sought-nothing, sought-last}
 use Rattle.qrcode_bits.proofs.optimize.short.last_step_short.Goals as goal
 use Rattle.qrcode_bits.proofs.optimize.short.last_step_short.Goals.{then-found+then-candidate-best, then-found+else-candidate-best, else-found}
+use Rattle.std.proofs.lemmas.Grind.{common_steps}
 
 pub overflow_sub-last_end-then-found : goal.overflow_sub-last_end-then-found
 overflow_sub-last_end-then-found g c =
@@ -51,7 +52,4 @@ loop-bucket-preserved g c =
     ]
 
 pub returns-clause-step : goal.returns-clause-step
-returns-clause-step g c =
-    let all : c.loop-bucket.bucket ≡ 8 = omega (arith, c.loop-bucket.invariant.within) in
-    let sought = subst (λ (j : ℕ). IsSought c.args.segments.now c.args.version c.args.end j c.loop-bucket.best c.loop-bucket.best_mode) all c.loop-bucket.invariant.sought in
-    sought-last c.args.segments.now c.args.version c.args.end c.requires.within c.requires.linear c.loop-bucket.best c.loop-bucket.best_mode c.requires.some sought
+returns-clause-step g c = grind (arith, common_steps, sought-last)

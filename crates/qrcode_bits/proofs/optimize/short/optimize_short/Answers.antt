@@ -6,6 +6,7 @@ use Rattle.qrcode_bits.proofs.Scan.{IsStep-chosen}
 use Rattle.qrcode_bits.proofs.ShortSteps.{step-small, AreShortSteps-push, AreShortSteps-start}
 use Rattle.qrcode_bits.proofs.Grouping.{AreGroups-next, AreGroups-none}
 use Rattle.qrcode_bits.proofs.optimize.short.optimize_short.Goals as goal
+use Rattle.std.proofs.lemmas.Grind.{common_steps}
 
 pub loop-start-init : goal.loop-start-init
 loop-start-init g c =
@@ -21,13 +22,7 @@ loop-start-init g c =
     }
 
 pub enter-requires-clause-bits : goal.enter-requires-clause-bits
-enter-requires-clause-bits g c =
-    let segments = c.args.segments.now in
-    let k = c.loop-start.start in
-    let inv = c.loop-start.invariant in
-    let right : IsStep segments c.args.version k (step_told segments k c.loop-start.before) = rw inv.last (inv.right k (omega (arith, inv.long))) in
-    let few = step-small segments c.args.version c.new-headers.result k (step_told segments k c.loop-start.before) c.new-headers.ensures c.requires.short c.requires.linear (omega arith) right in
-    omega (arith, c.bits.ensures)
+enter-requires-clause-bits g c = grind (arith, common_steps, step-small)
 
 pub last_step_short-before-requires-clause-words : goal.last_step_short-before-requires-clause-words
 last_step_short-before-requires-clause-words g c =

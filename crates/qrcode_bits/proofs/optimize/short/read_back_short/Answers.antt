@@ -1,14 +1,11 @@
-use Rattle.std.proofs.Common.{◌≡◌, arith, sym, subst}
-use Rattle.qrcode_bits.specs.Merging.{IsChosenPlan}
+use Rattle.std.proofs.Common.{arith}
 use Rattle.qrcode_bits.specs.Words.{step_told, short_at}
 use Rattle.qrcode_bits.proofs.ReadBack.{IsStep-front, read-more, read-all}
 use Rattle.qrcode_bits.proofs.optimize.short.read_back_short.Goals as goal
+use Rattle.std.proofs.lemmas.Grind.{common_steps}
 
 pub returns-clause-plan : goal.returns-clause-plan
-returns-clause-plan c =
-    let none : c.loop-end.end ≡ 0 = omega arith in
-    subst (IsChosenPlan c.args.segments.now c.args.version) (sym c.reverse.ensures.items)
-    (read-all c.args.segments.now c.args.version c.loop-end.plan.items (rw none at c.loop-end.invariant.1))
+returns-clause-plan c = grind (arith, common_steps, read-all)
 
 pub loop-end-preserved : goal.loop-end-preserved
 loop-end-preserved c =
