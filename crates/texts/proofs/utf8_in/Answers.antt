@@ -14,7 +14,7 @@ returns-in_err-push_byte_data-clause-refused c =
     let front = c.push_eci_designator.new.self in
     let is : front.version ≡ normal c.args.number = c.in_ok-push_eci_designator.ensures.ok.version_is ∙ (c.new-bits.ensures.version ∙ c.normal.ensures) in
     rw (p.1, p.2) (text_refused front c.args.level c.args.number c.args.text.now _ is (bytes_valid c.args.text.now (λ i. omega (arith, c.type_inv.text i)))
-    c.in_err-push_byte_data.ensures.err.1)
+    c.in_err-push_byte_data.ensures.refused)
 
 pub returns-clause-holds : goal.returns-clause-holds
 returns-clause-holds c =
