@@ -2,13 +2,11 @@
 ghost use Rattle.std.specs.Prelude.{◌≤◌, length, IfOk, IfErr, OnOk};
 ghost use Rattle.qrlabel.specs.Texts.{IsTextSymbol, IsTextRefusal};
 
+use qrcode_core::limits::DEFAULT_MAX_DATA_LENGTH;
 use qrcode_core::symbol::Symbol;
 use qrcode_core::types::{EcLevel, QrError, QrResult};
 use std::alloc::Global;
 use texts::utf8_symbol;
-
-/// The most bytes that are looked at: no symbol holds more.
-const MOST_BYTES: usize = 7089;
 
 /// The symbol of a text in UTF-8 that says that it is one.
 pub fn text_symbol(alloc: Global, bytes: &[u8], level: EcLevel) -> QrResult<Symbol>
@@ -16,7 +14,7 @@ pub fn text_symbol(alloc: Global, bytes: &[u8], level: EcLevel) -> QrResult<Symb
     ensures limit { OnOk result (length bytes.now ≤ 7089) }
     ensures refused { IfErr result (IsTextRefusal level bytes.now) }
 {
-    if bytes.len() > MOST_BYTES {
+    if bytes.len() > DEFAULT_MAX_DATA_LENGTH {
         return Err(QrError::DataTooLong);
     }
     match str::from_utf8(bytes) {

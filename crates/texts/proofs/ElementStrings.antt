@@ -17,6 +17,7 @@ use Rattle.qrcode_base.specs.Symbols.{capacity}
 use Rattle.qrcode_base.proofs.Fields.{count-fits}
 use Rattle.qrcode_base.proofs.Validity.{none_where_valid, first_invalid-is}
 use Rattle.qrcode_bits.specs.declared.optimize.Segment.{Segment}
+use Rattle.qrcode_bits.specs.Choice.{IsMergePlan, normal}
 use Rattle.qrcode_bits.specs.Frame.{spellings}
 use Rattle.qrcode_bits.specs.Merging.{IsChosenPlan}
 use Rattle.qrcode_bits.specs.OptimalPush.{PushesOptimally}
@@ -25,12 +26,16 @@ use Rattle.qrcode_bits.specs.Pieces.{segment_piece, segment_pieces}
 use Rattle.qrcode_bits.specs.Push.{IsRefused}
 use Rattle.qrcode_bits.specs.Spelling.{Piece, character_count, spelling}
 use Rattle.qrcode_bits.specs.Stream.{Stream, Appends}
+use Rattle.qrcode_bits.proofs.Choices.{all_had, has_every}
 use Rattle.qrcode_bits.proofs.CuttingPlans.{chosen-cutting}
+use Rattle.qrcode_bits.proofs.Lengths.{long_message}
+use Rattle.qrcode_bits.proofs.Numbers.{length-number_bits}
+use Rattle.qrcode_bits.proofs.PlanFrames.{length-spelled}
 use Rattle.qrcode_bits.proofs.PlanLaws.{one_chosen}
 use Rattle.qrcode_bits.proofs.Reading.{length-spelling}
 use Rattle.qrcode_bits.proofs.Segments.{length-character_bits}
 use Rattle.qrcode_bits.proofs.Texts.{texts-plan}
-use Rattle.texts.specs.Smallest.{normal, SaysElements, IsTooLongIn, IsRefusedIn}
+use Rattle.texts.specs.Smallest.{SaysElements, HoldsNoneBelow, IsTooLongIn, IsRefusedIn}
 
 -- ---- The pieces of a plan
 
@@ -57,12 +62,6 @@ longer : (version : Version) (done rest : List Piece) (next : Piece) → length 
 longer version [] rest next = omega (arith, length-append (spelling version next) (spellings version rest))
 longer version (piece ∷ done) rest next =
     omega (arith, length-append (spelling version piece) (spellings version (done ++ next ∷ rest)), longer version done rest next)
-
-normal_modes : (number : ℕ) (mode : Mode) → HasMode (normal number) mode
-normal_modes number Numeric = omega arith
-normal_modes number Alphanumeric = omega arith
-normal_modes number Byte = omega arith
-normal_modes number Kanji = omega arith
 
 -- ---- Refusals
 
@@ -98,7 +97,7 @@ module _ (old : Stream) (level : EcLevel) (number : ℕ) (text : List ℕ) (is :
       omega (arith, long, longer (normal number) done rest next, piece_too_long number level next limit valid limit_is wide)
 
   stopped : (new : Stream) (error : QrError) → new.version ≡ normal number → IsRefused new next error → IsRefusedIn (SaysElements text) (normal number) level error
-  stopped new UnsupportedCharacterSet now refused = absurd (refused (subst (λ (v : Version). HasMode v next.mode) (sym now) (normal_modes number next.mode)))
+  stopped new UnsupportedCharacterSet now refused = absurd (refused (subst (λ (v : Version). HasMode v next.mode) (sym now) (has_every number next.mode)))
   stopped new (InvalidCharacter position byte) now refused =
       absurd (none-some (position, byte) (sym ((none_where_valid next.mode next.text).0 valid) ∙ sym (first_invalid-is next.mode next.text (Some (position, byte)) refused.1)))
   stopped new DataTooLong now refused =
@@ -148,3 +147,27 @@ one_length stream number text is said bits other =
     let here = subst (λ (v : Version). SaysElements text v stream.bits) is said in
     let same : other.0 ≡ here.0 = one_chosen (parsed text) (normal number) other.0 here.0 other.1 here.1 in
     ap length (other.2 ∙ (ap (λ (plan : List Segment). number_bits 4 5 ++ spellings (normal number) (segment_pieces text plan)) same ∙ sym here.2))
+
+-- No version holds so many bytes.
+pub too_many : (text : List ℕ) (level : EcLevel) → All (λ c. c < 256) text → 7089 < length text → HoldsNoneBelow 41 (SaysElements text) level
+too_many text level are many n first below bits limit (plan, chosen, said) limit_is =
+    let cutting = chosen-cutting (parsed text) (normal n) plan chosen in
+    let planned : IsMergePlan text plan = record { pieces = cutting.0; cutting = cutting.1; merges = cutting.2 } in
+    elim (cases_lt limit (length bits)) [
+      | inl more ↦ more
+      | inr less ↦
+          absurd (long_message 4 text level 40 (omega arith) are many n (omega (arith, below)) plan (record {
+            planned = planned;
+            limit = limit;
+            has_level = limit_is;
+            has_modes = all_had n plan;
+            within = omega (
+              arith,
+              less,
+              length-number_bits 4 5,
+              ap length said,
+              length-append (number_bits 4 5) (spellings (normal n) (segment_pieces text plan)),
+              length-spelled (normal n) text 0 (length text) plan (texts-plan text are plan planned) (omega arith),
+            );
+          }))
+    ]

@@ -13,7 +13,8 @@ use Rattle.qrcode_base.proofs.Alphabet.{each_below, from_each_below}
 use Rattle.qrcode_bits.specs.Stream.{Stream}
 use Rattle.qrcode_core.specs.Drawn.{DrawnSymbol}
 use Rattle.qrcode_core.specs.HeldBits.{HoldsStream, IsStreamRefusal}
-use Rattle.texts.specs.Smallest.{normal, HoldsIn, HoldsNoneBelow, IsTooLongIn, IsRefusedIn}
+use Rattle.qrcode_bits.specs.Choice.{normal}
+use Rattle.texts.specs.Smallest.{HoldsIn, HoldsNoneBelow, IsTooLongIn, IsRefusedIn}
 
 -- ---- Each Normal version has each level
 

@@ -19,7 +19,8 @@ use Rattle.qrcode_bits.proofs.Choices.{capacity-most}
 use Rattle.qrcode_bits.proofs.Pairs.{bytes_valid}
 use Rattle.qrcode_bits.proofs.Reading.{length-spelling}
 use Rattle.qrcode_bits.proofs.Segments.{length-character_bits}
-use Rattle.texts.specs.Smallest.{normal, SaysUtf8, HoldsNoneBelow, IsTooLongIn, IsRefusedIn}
+use Rattle.qrcode_bits.specs.Choice.{normal}
+use Rattle.texts.specs.Smallest.{SaysUtf8, HoldsNoneBelow, IsTooLongIn, IsRefusedIn}
 
 -- ---- A text in UTF-8
 

@@ -1,14 +1,14 @@
 -- Bits that differ from version to version, in the smallest version that holds them.
-use Rattle.std.specs.Prelude.{◌≡◌, ℕ, pos, ◌<◌, ◌≤◌, Bool, List, ◌++◌, length, Some}
+use Rattle.std.specs.Prelude.{◌≡◌, ℕ, ◌<◌, ◌≤◌, Bool, List, ◌++◌, length, Some}
 use Rattle.qrcode_base.specs.declared.types.EcLevel.{EcLevel}
 use Rattle.qrcode_base.specs.declared.types.Mode.TheVariants.{Byte}
 use Rattle.qrcode_base.specs.declared.types.Version.{Version}
-use Rattle.qrcode_base.specs.declared.types.Version.TheVariants.{Normal}
 use Rattle.qrcode_base.specs.declared.types.errors.QrError.{QrError}
 use Rattle.qrcode_base.specs.declared.types.errors.QrError.TheVariants.{DataTooLong, OutOfMemory}
 use Rattle.qrcode_base.specs.Numbers.{number_bits}
 use Rattle.qrcode_base.specs.Symbols.{capacity}
 use Rattle.qrcode_bits.specs.declared.optimize.Segment.{Segment}
+use Rattle.qrcode_bits.specs.Choice.{normal}
 use Rattle.qrcode_bits.specs.Frame.{spellings, tail}
 use Rattle.qrcode_bits.specs.Indicators.{eci_spelling}
 use Rattle.qrcode_bits.specs.Merging.{IsChosenPlan}
@@ -18,9 +18,6 @@ use Rattle.qrcode_bits.specs.Push.{piece}
 use Rattle.qrcode_bits.specs.Spelling.{spelling}
 use Rattle.qrcode_core.specs.Drawn.{DrawnSymbol}
 use Rattle.qrcode_core.specs.HeldBits.{IsSymbolOf}
-
-abbrev pub normal : ℕ → Version
-normal number = Normal (pos number)
 
 -- a text in UTF-8: the ECI designator 26, and one Byte segment (ISO/IEC 18004, "ECI mode")
 abbrev pub SaysUtf8 : List ℕ → Version → List Bool → Type 0

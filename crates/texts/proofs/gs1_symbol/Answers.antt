@@ -1,7 +1,10 @@
 -- The versions before this one, and this one.
 use Rattle.std.proofs.Common.{subst, arith}
 use Rattle.qrcode_base.specs.declared.types.errors.QrError.{QrError}
-use Rattle.texts.specs.Smallest.{SaysElements, IsRefusedIn, normal}
+use Rattle.qrcode_bits.specs.Choice.{normal}
+use Rattle.qrcode_bits.proofs.Pairs.{bytes_valid}
+use Rattle.texts.specs.Smallest.{SaysElements, IsRefusedIn}
+use Rattle.texts.proofs.ElementStrings.{too_many}
 use Rattle.texts.proofs.Ended.{next}
 use Rattle.texts.proofs.gs1_symbol.Goals as goal
 
@@ -12,3 +15,9 @@ loop-number-preserved c =
 
 pub returns-clause-refused : goal.returns-clause-refused
 returns-clause-refused c n first below = c.loop-number.invariant n first (omega (arith, below, c.loop-number-test.false))
+
+pub returns-then-elements-gt-DEFAULT_MAX_DATA_LENGTH-clause-refused :
+    goal.returns-then-elements-gt-DEFAULT_MAX_DATA_LENGTH-clause-refused
+returns-then-elements-gt-DEFAULT_MAX_DATA_LENGTH-clause-refused c =
+    too_many c.args.elements.now c.args.level (bytes_valid c.args.elements.now (λ i. omega (arith, c.type_inv.elements i)))
+    (omega (arith, c.if-elements-gt-DEFAULT_MAX_DATA_LENGTH.true))

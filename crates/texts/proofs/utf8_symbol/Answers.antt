@@ -1,9 +1,11 @@
 -- The versions before this one, and this one.
-use Rattle.std.proofs.Common.{List, ℕ, subst}
+use Rattle.std.proofs.Common.{List, ℕ, subst, arith}
 use Rattle.qrcode_base.specs.declared.types.errors.QrError.{QrError}
 use Rattle.qrcode_base.specs.declared.types.errors.QrError.TheVariants.{DataTooLong}
-use Rattle.texts.specs.Smallest.{SaysUtf8, IsRefusedIn, normal}
+use Rattle.qrcode_bits.specs.Choice.{normal}
+use Rattle.texts.specs.Smallest.{SaysUtf8, IsRefusedIn}
 use Rattle.texts.proofs.Ended.{next}
+use Rattle.texts.proofs.Utf8.{too_many}
 use Rattle.texts.proofs.utf8_symbol.Goals as goal
 
 pub loop-number-preserved : goal.loop-number-preserved
@@ -12,3 +14,8 @@ loop-number-preserved c =
     (subst (λ (bytes : List ℕ). IsRefusedIn (SaysUtf8 bytes) (normal c.loop-number.number) c.args.level DataTooLong) c.as_bytes.ensures.value
     (subst (λ (e : QrError). IsRefusedIn (SaysUtf8 c.as_bytes.result.now) (normal c.loop-number.number) c.args.level e)
     c.in-Err-DataTooLong.field-0-is c.in-Err-DataTooLong.ensures.refused))
+
+pub returns-then-text-gt-DEFAULT_MAX_DATA_LENGTH-clause-refused :
+    goal.returns-then-text-gt-DEFAULT_MAX_DATA_LENGTH-clause-refused
+returns-then-text-gt-DEFAULT_MAX_DATA_LENGTH-clause-refused c =
+    too_many c.args.text.now c.args.level (λ i. omega (arith, c.type_inv.text i)) (omega (arith, c.if-text-gt-DEFAULT_MAX_DATA_LENGTH.true))

@@ -4,17 +4,17 @@ use Rattle.std.proofs.lemmas.Option.{slice_get-get_or}
 use Rattle.texts.proofs.Utf8.{too_many}
 use Rattle.qrlabel.proofs.text.text_symbol.Goals as goal
 
-pub returns-then-bytes-gt-MOST_BYTES-clause-refused :
-    goal.returns-then-bytes-gt-MOST_BYTES-clause-refused
-returns-then-bytes-gt-MOST_BYTES-clause-refused c = (
-  λ few. absurd (omega (arith, c.if-bytes-gt-MOST_BYTES.true, few)),
-  too_many c.args.bytes.now c.args.level (λ i. omega (arith, c.type_inv.bytes i)) (omega (arith, c.if-bytes-gt-MOST_BYTES.true)),
+pub returns-then-bytes-gt-DEFAULT_MAX_DATA_LENGTH-clause-refused :
+    goal.returns-then-bytes-gt-DEFAULT_MAX_DATA_LENGTH-clause-refused
+returns-then-bytes-gt-DEFAULT_MAX_DATA_LENGTH-clause-refused c = (
+  λ few. absurd (omega (arith, c.if-bytes-gt-DEFAULT_MAX_DATA_LENGTH.true, few)),
+  too_many c.args.bytes.now c.args.level (λ i. omega (arith, c.type_inv.bytes i)) (omega (arith, c.if-bytes-gt-DEFAULT_MAX_DATA_LENGTH.true)),
 )
 
 pub returns-in-Err-clause-refused : goal.returns-in-Err-clause-refused
 returns-in-Err-clause-refused c =
     let valid = c.in-Err.ensures.cases.1 in (
-      omega (arith, c.if-bytes-gt-MOST_BYTES.false),
+      omega (arith, c.if-bytes-gt-DEFAULT_MAX_DATA_LENGTH.false),
       rw c.valid_up_to-position.ensures valid,
       slice_get-get_or c.args.bytes.now c.valid_up_to-position.result 0 (omega (arith, c.valid_up_to-position.ensures, valid.short)),
     )
