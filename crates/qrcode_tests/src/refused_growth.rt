@@ -5,6 +5,7 @@
 
 mod pushes;
 mod registry;
+mod text_symbols;
 
 use crate::grids::hash;
 use qrcode_core::bits::{
