@@ -179,14 +179,12 @@ module _ (front : ℕ) (message : List ℕ) (l : EcLevel) (before last : ℕ) (p
   class_choice limit number h fits w =
       let some : 1 ≤ number = (capacity-held l number w.limit w.limit_is).0 in
       let early : number ≤ last = w.least last c known fits in
-      let held = w.holds in
       let planned = chosen_is_plan message (normal last) plan chosen in
       let rise = total_bits-rise number last some early plan in
       let late : before < number = elim (cases_lt before number) [
         | inl k ↦ k
         | inr k ↦ absurd (too_long number k plan (fits_normal front number w.limit message l plan planned w.limit_is (omega arith)))
       ] in
-      let equal = total_bits-same number last some (omega arith) (class number late early) plan in
       let here = chosen_same (parsed message) plan last number (omega arith) some (same_class number last (class number late early)) chosen in
       record {
         from_one = some;
@@ -233,7 +231,6 @@ fits_last front n message l plan h w =
     let d = last_capacity l in
     let doubled = total_bits-double n 40 some (omega arith) plan in
     let room = capacity-double l c.0 d.0 c.1 d.1 in
-    let few = w.within in
     fits_normal front 40 d.0 message l plan w.planned d.1 (elim (cases_lt n 27) [
       | inl early ↦ (let low = capacity-grows l n 26 w.limit c.0 (omega arith) w.has_level c.1 in omega arith)
       | inr late ↦ (let low = capacity-grows l n 40 w.limit d.0 h w.has_level d.1 in

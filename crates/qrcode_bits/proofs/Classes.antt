@@ -78,7 +78,6 @@ module _ (front : ℕ) (message : List ℕ) (v : Version) (l : EcLevel) (plan : 
   -- or it takes too many bits.
   pub too_many : limit < front + total_bits v plan → FitsNot front message v l
   too_many over = chosen_decides front v l message plan chosen (λ fits.
-      let same : ◌≡◌ {A = Option ℕ} (Some limit) (Some fits.limit) = sym known ∙ fits.has_level in
       let equal : limit ≡ fits.limit = cc in
       let within = fits.within in omega arith)
 
@@ -104,7 +103,6 @@ fits_later front n m message l plan h most class w =
     let c = last_capacity l m (omega arith) most in
     let grows = capacity-grows l n m w.limit c.0 h w.has_level c.1 in
     let same = total_bits-same n m some (omega arith) class plan in
-    let few = w.within in
     fits_normal front m c.0 message l plan w.planned c.1 (omega arith)
 
 -- Where no plan fits the last version of a class, none fits any version of the class.
@@ -145,12 +143,9 @@ module _ (header : Option Header) (message : List ℕ) (l : EcLevel) (last : ℕ
   pub class_fits : Fits (length (header_bits header)) message version l plan
   class_fits =
       let m = least_version in
-      let few = fits.within in
       let holding = m.2 in
       let some : 1 ≤ m.0 = (capacity-held l m.0 holding.limit holding.limit_is).0 in
-      let early : m.0 ≤ last = holding.least last fits.limit fits.has_level few in
-      let held = holding.holds in
-      let rise = total_bits-rise m.0 last some early plan in
+      let rise = total_bits-rise m.0 last some (holding.least last fits.limit fits.has_level fits.within) plan in
       subst (λ (v : Version). Fits (length (header_bits header)) message v l plan) (sym m.1)
       (fits_normal (length (header_bits header)) m.0 holding.limit message l plan fits.planned holding.limit_is (omega arith))
 

@@ -46,7 +46,6 @@ pub long_message : (front : ℕ) (message : List ℕ) (l : EcLevel) (limit : ℕ
     FitsNone normal front message l limit
 long_message front message l limit last are long n k plan w =
     let texts = texts-plan message are plan w.planned in
-    let few = w.within in
     let bare = texts-dense message (normal n) 0 (length message) plan texts (omega arith) in
     elim (cases_lt n 27) [
       | inl early ↦ (let held = capacity-middle l n w.limit (omega arith) w.has_level in omega arith)
@@ -59,8 +58,6 @@ pub dense_message : (front : ℕ) (message : List ℕ) (v : Version) (l : EcLeve
     limit < length message / 3 * 10 → FitsNot front message v l
 dense_message front message v l limit are known long plan w =
     let bare = texts-dense message v 0 (length message) plan (texts-plan message are plan w.planned) (omega arith) in
-    let few = w.within in
-    let has = w.has_level in
     let same : w.limit ≡ limit = cc in
     omega arith
 
@@ -73,6 +70,5 @@ micro-most l n c k h = grind arith
 pub long_for_micro : (message : List ℕ) (l : EcLevel) → All (λ c. c < 256) message → 7089 < length message → FitsNone micro 0 message l 4
 long_for_micro message l are long n k plan w =
     let held = micro-most l n w.limit k w.has_level in
-    let few = w.within in
     let bare = texts-dense message (micro n) 0 (length message) plan (texts-plan message are plan w.planned) (omega arith) in
     absurd (omega arith)

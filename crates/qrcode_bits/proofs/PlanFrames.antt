@@ -73,7 +73,6 @@ pub spelled_plan : (front : ℕ) (v : Version) (l : EcLevel) (bytes : List ℕ) 
     Fits front bytes v l plan → IsSpelledPlan v bytes plan
 spelled_plan front v l bytes plan are fits =
     let texts = texts-plan bytes are plan fits.planned in
-    let few = fits.within in
     record {
       spelled = texts-spelled v bytes 0 (length bytes) plan texts (omega arith) fits.has_modes (fits-counts v l fits.limit plan fits.has_level (omega arith));
       whole = plan_message bytes plan texts;
@@ -91,7 +90,6 @@ plan_frame v l header bytes plan are has fits =
     let payload : List Bool = header_bits header ++ spellings v (segment_pieces bytes plan) in
     let size : length payload ≡ length (header_bits header) + total_bits v plan =
     omega (arith, length-append (header_bits header) (spellings v (segment_pieces bytes plan)), w.bits) in
-    let few = fits.within in
     subst (λ (s : List ℕ). IsFrame v l header s (length (header_bits header) + total_bits v plan) (take fits.limit (ended v fits.limit payload))) w.whole
     (subst (λ (n : ℕ). IsFrame v l header (message (segment_pieces bytes plan)) n (take fits.limit (ended v fits.limit payload))) size
     (ended_frame v l fits.limit header (segment_pieces bytes plan) fits.has_level has w.spelled (omega arith)))

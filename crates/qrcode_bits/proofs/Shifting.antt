@@ -14,8 +14,7 @@ low_free : (used before byte : ℕ) → used < 8 → number_bits used (before * 
 low_free used before byte part =
     let eight : 8 - used + used ≡ 8 = omega arith in
     let power : 2 ^ 8 ≡ 2 ^ (8 - used) * 2 ^ used = ap (λ (n : ℕ). 2 ^ n) (sym eight) ∙ pow-add 2 (8 - used) used in
-    let split : before * 2 ^ 8 + byte ≡ before * 2 ^ (8 - used) * 2 ^ used + byte = rw power (omega arith) in
-    ap (λ (n : ℕ). number_bits used n) split ∙ high_free used (before * 2 ^ (8 - used)) byte
+    ap (λ (n : ℕ). number_bits used n) (rw power (omega arith)) ∙ high_free used (before * 2 ^ (8 - used)) byte
 
 -- one byte more
 one_shifted : (used before byte : ℕ) → used < 8 → byte < 2 ^ 8 →
@@ -34,12 +33,11 @@ shifted_bits used partial [] [] part small are = append-nil (number_bits used pa
 shifted_bits used partial [] (c ∷ cs) part small are = absurd (let long = are.long in omega arith)
 shifted_bits used partial (b ∷ text) [] part small are = absurd (let long = are.long in omega arith)
 shifted_bits used partial (b ∷ text) (c ∷ cs) part small are =
-    let here : c ≡ shifted used partial b = are.are 0 (omega arith) in
     let rest : AreShifted used b text cs = record { long = (let long = are.long in omega arith); are = λ k below. are.are (suc k) (omega arith) } in
     sym (append_assoc (number_bits used partial) (number_bits 8 b) (byte_bits text))
     ∙ (ap (λ (z : List Bool). z ++ byte_bits text) (one_shifted used partial b part (small 0))
     ∙ (append_assoc (number_bits 8 (shifted used partial b)) (number_bits used b) (byte_bits text)
-    ∙ (ap (λ (n : ℕ). number_bits 8 n ++ (number_bits used b ++ byte_bits text)) (sym here)
+    ∙ (ap (λ (n : ℕ). number_bits 8 n ++ (number_bits used b ++ byte_bits text)) (sym (are.are 0 (omega arith)))
     ∙ (ap (λ (z : List Bool). number_bits 8 c ++ z) (shifted_bits used b text cs part (λ k. small (suc k)) rest)
     ∙ sym (append_assoc (number_bits 8 c) (byte_bits cs) (number_bits used (slice_index_or (b ∷ text) (length text) 0)))))))
 

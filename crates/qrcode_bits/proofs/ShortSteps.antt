@@ -32,15 +32,11 @@ step-small segments version headers end step heads short linear within h =
       | inl some ↦
           let mode = part_mode segments 0 end in
           let is = cost-is segments version end within linear 0 mode some refl in
-          let last = segment_at segments (end - 1) in
-          let data' = data_bits-linear mode (last.end - (segment_at segments 0).begin) in
-          let near = short.near (end - 1) (omega arith) in
-          let few = heads.small mode in
+          let data' = data_bits-linear mode ((segment_at segments (end - 1)).end - (segment_at segments 0).begin) in
           let least = (h.chosen.least (0 ∷ []) (some, refl)).bits in
           omega (arith, h.bits)
       | inr none ↦
-          let empty : end ≡ 0 = omega arith in
-          let least = (h.chosen.least [] empty).bits in
+          let least = (h.chosen.least [] (omega arith)).bits in
           omega (arith, h.bits)
     ]
 

@@ -28,12 +28,10 @@ use Rattle.std.proofs.lemmas.Grind.{common_steps}
 -- two neighbouring slices are one
 pub slice-join : (xs : List ℕ) (a b c : ℕ) → a ≤ b → b ≤ c → slice_range xs a b ++ slice_range xs b c ≡ slice_range xs a c
 slice-join xs a b c h k =
-    let whole : (b - a) + (c - b) ≡ c - a = omega arith in
-    let place : a + (b - a) ≡ b = omega arith in
     sym (
-    ap (λ (n : ℕ). take n (drop a xs)) (sym whole)
+    ap (λ (n : ℕ). take n (drop a xs)) (sym (omega arith))
     ∙ (take-add (b - a) (c - b) (drop a xs)
-    ∙ ap (λ (z : List ℕ). take (b - a) (drop a xs) ++ take (c - b) z) (drop-drop (b - a) a xs ∙ ap (λ (n : ℕ). drop n xs) place))
+    ∙ ap (λ (z : List ℕ). take (b - a) (drop a xs) ++ take (c - b) z) (drop-drop (b - a) a xs ∙ ap (λ (n : ℕ). drop n xs) (omega arith)))
     )
 
 -- the bytes from a place on
@@ -64,8 +62,6 @@ module _ (whole : List ℕ) where
     go : (t : Bool) → joins c r.class ≡ t → AreTexts whole b (map run_segment (add_unit c b (r ∷ rs))) e
     go true k =
         let class : c ≡ r.class = joins-same c r.class k in
-        let f = h.1 in
-        let s = some in
         let later : IsValid (class_mode c) (slice_range whole (b + class_size c) r.end) = subst (λ (d : Class). IsValid (class_mode d) (slice_range whole (b + class_size c) r.end)) (sym class) h.2 in
         let both = valid-append (class_mode c) (slice_range whole b (b + class_size c)) (slice_range whole (b + class_size c) r.end) v later in
         let valid : IsValid (class_mode c) (slice_range whole b r.end) = subst (λ (z : List ℕ). IsValid (class_mode c) z) (slice-join whole b (b + class_size c) r.end (omega arith) (omega arith)) both in
@@ -106,8 +102,6 @@ module _ (whole : List ℕ) where
   texts-merged s (t ∷ ts) from to h =
       let w = texts-merged t ts s.end to h.3 in
       let m : Segment = merged t ts in
-      let f = h.1 in
-      let g = w.1 in
       let both = valid-append (join s.mode m.mode) (slice_range whole from s.end) (slice_range whole s.end m.end)
       (valid-upward (slice_range whole from s.end) (join-upper s.mode m.mode) h.2) (valid-upward (slice_range whole s.end m.end) (join-upper_second s.mode m.mode) w.2) in
       let valid : IsValid (join s.mode m.mode) (slice_range whole from m.end) = subst (λ (z : List ℕ). IsValid (join s.mode m.mode) z) (slice-join whole from s.end m.end (omega arith) (omega arith)) both in
@@ -141,8 +135,7 @@ module _ (whole : List ℕ) where
   -- The pieces of a plan are a message of all the bytes.
   pub plan_message : (plan : List Segment) → AreTexts whole 0 plan (length whole) → message (segment_pieces whole plan) ≡ whole
   plan_message plan h =
-      let all : length whole - 0 ≡ length whole = omega arith in
-      texts-message 0 (length whole) plan h ∙ (ap (λ (n : ℕ). take n whole) all ∙ take-length whole)
+      texts-message 0 (length whole) plan h ∙ (ap (λ (n : ℕ). take n whole) (omega arith) ∙ take-length whole)
 
   -- ---- Places
 
