@@ -145,7 +145,7 @@ some_same a b o h k = let e : ◌≡◌ {A = Option ℕ} (Some a) (Some b) = sym
 
 -- a later version holds no less
 pub capacity-grows : (l : EcLevel) (n m c d : ℕ) → n ≤ m → capacity (normal n) l ≡ Some c → capacity (normal m) l ≡ Some d → c ≤ d
-capacity-grows l n m c d h p q = grind (arith, cases_eq, some_same, capacity-rises)
+capacity-grows l n m c d h p q = grind (arith, capacity-rises)
 
 -- ---- Classes of versions
 
@@ -153,7 +153,7 @@ same_class : (n m : ℕ) → SameClass n m → SameClass m n
 same_class n m q2 = grind arith
 
 pub all_had : (n : ℕ) (plan : List Segment) → All (λ part. HasMode (normal n) part.mode) plan
-all_had n plan = grind (arith, All-nil, All-cons, has_every)
+all_had n plan = grind arith
 
 chosen_same : (segments plan : List Segment) (n m : ℕ) → 1 ≤ n → 1 ≤ m → SameClass n m → IsChosenPlan segments (normal n) plan → IsChosenPlan segments (normal m) plan
 chosen_same segments plan n m h k class w = record { cuts = w.cuts; chosen = chosen-same segments n m (length segments) w.cuts h k class w.chosen; merges = w.merges }
@@ -266,7 +266,7 @@ micro_choice message l number plan h none chosen fits = record {
 -- ---- No version holds so many bits
 
 pub past_last : (l : EcLevel) (n c : ℕ) → capacity (normal n) l ≡ Some c → n ≤ 40
-past_last l n c h = grind (arith, cases_lt, slice_get_past)
+past_last l n c h = grind (arith, slice_get_past)
 
 pub none_holds : (size : ℕ) (l : EcLevel) (number : ℕ) → 41 ≤ number → HoldsLess size l number → (other c : ℕ) → capacity (normal other) l ≡ Some c → c < size
 none_holds size l number h w other c known = w other c (let last = past_last l other c known in omega arith) known

@@ -40,7 +40,7 @@ by_class-most : (n a b c : ℕ) → a ≤ 16 → b ≤ 16 → c ≤ 16 → by_cl
 by_class-most n a b c h k l = grind arith
 
 pub normal_headers : (n : ℕ) → HasSmallHeaders (normal n)
-normal_headers n q1 = grind (arith, by_class-most)
+normal_headers n q1 = grind arith
 
 data_small : (m : Mode) (n : ℕ) → data_bits m (characters m n) ≤ 13 * n
 data_small m n = grind arith
@@ -51,7 +51,7 @@ module _ (message : List ℕ) (v : Version) (small : HasSmallHeaders v) (short :
 
   texts-small : (from to : ℕ) (ss : List Segment) → AreTexts message from ss to → total_bits v ss ≤ 33 * (to - from)
   texts-small from to [] t = omega arith
-  texts-small from to (s ∷ ss) t = grind (arith, common_steps, texts-reach, data_small, texts-small s.end to ss t.3)
+  texts-small from to (s ∷ ss) t = grind (arith, texts-reach, texts-small s.end to ss t.3)
 
   pub plan_small : (plan : List Segment) → All (λ c. c < 256) message → IsMergePlan message plan → total_bits v plan < 2 ^ 32
   plan_small plan are w = let few = texts-small 0 (length message) plan (texts-plan message are plan w) in omega arith
@@ -169,7 +169,7 @@ module _ (header : Option Header) (message : List ℕ) (l : EcLevel) (last : ℕ
 -- the last version that comes next
 pub classes_here : (before limit : ℕ) (xs : List ℕ) (i : ℕ) → i < length xs → ClassesUpTo before (drop i xs) limit →
     ClassesUpTo before (get_or xs i 0 ∷ drop (i + 1) xs) limit
-classes_here before limit xs i h w = grind (arith, drop-cons, add-one)
+classes_here before limit xs i h w = grind (arith, drop-cons)
 
 -- no class is left
 pub classes_end : (before limit : ℕ) (xs : List ℕ) (i : ℕ) → length xs ≤ i → ClassesUpTo before (drop i xs) limit → limit ≤ before
@@ -194,4 +194,4 @@ refused_part place total message l z n front OutOfMemory h p same size r = (h, p
 refused_part place total message l z n front other h p same size r = absurd r
 
 pub limit_of : (z y : ℤ) → y ≡ z → lt_z y (pos 1) ≡ false → lt_z (pos 40) y ≡ false → IsLimit z
-limit_of z y e low high = grind (arith, lt_z, pos)
+limit_of z y e low high = grind arith

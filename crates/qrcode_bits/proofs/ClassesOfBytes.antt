@@ -37,7 +37,7 @@ not_pair : (b : ℕ) → class_of b ≡ Pair → ⊥
 not_pair b is = let one = class_of-one b in let two : class_size (class_of b) ≡ 2 = ap class_size is in omega arith
 
 joins-apart : (c d : Class) → (c ≡ d → ⊥) → joins c d ≡ false
-joins-apart c d apart = grind (arith, joins-same)
+joins-apart c d apart = grind arith
 
 lone_apart : (d : Class) → joins LoneLead d ≡ false
 lone_apart d = grind arith
@@ -74,7 +74,7 @@ not_both : (a b : Bool) → a ≡ false → (a && b) ≡ false
 not_both a b e = grind arith
 
 no_pair : (a b : ℕ) → (class_of a ≡ LoneLead → ⊥) → is_kanji_pair a b ≡ false
-no_pair a b other = grind (arith, not_both, no_lead)
+no_pair a b other = grind arith
 
 units_other : (bytes : List ℕ) (at : ℕ) → at < length bytes → (class_of (get_or bytes at 0) ≡ LoneLead → ⊥) → units (drop at bytes) ≡ class_of (get_or bytes at 0) ∷ units (drop (at + 1) bytes)
 units_other bytes at within other = elim (cases_lt (at + 1) (length bytes)) [
@@ -87,7 +87,7 @@ abbrev NextUnit : List ℕ → ℕ → Type 0
 NextUnit bytes at = (d : Class) × ((d ≡ class_of (get_or bytes at 0)) ⊎ (d ≡ Pair)) × (units (drop at bytes) ≡ d ∷ units (drop (at + class_size d) bytes))
 
 next_alone : (bytes : List ℕ) (at : ℕ) → units (drop at bytes) ≡ class_of (get_or bytes at 0) ∷ units (drop (at + 1) bytes) → NextUnit bytes at
-next_alone bytes at h = grind (arith, class_of-one)
+next_alone bytes at h = grind arith
 
 next_by : (bytes : List ℕ) (at : ℕ) (t : Bool) → at + 2 ≤ length bytes → is_kanji_pair (get_or bytes at 0) (get_or bytes (at + 1) 0) ≡ t → NextUnit bytes at
 next_by bytes at t within e = grind (arith, units_pair, next_alone, units_alone)
@@ -104,7 +104,7 @@ next_unit bytes at within = elim (cases_lt (at + 1) (length bytes)) [
 run_stops : (bytes : List ℕ) (c : Class) (begin end : ℕ) → IsRun bytes c begin end →
     (end < length bytes → (d : Class) × (joins c d ≡ false) × (units (drop end bytes) ≡ d ∷ units (drop (end + class_size d) bytes))) →
     parsed_from begin (drop begin bytes) ≡ record { mode = class_mode c; begin = begin; end = end } ∷ parsed_from end (drop end bytes)
-run_stops bytes c begin end run next = grind (arith, cases_lt, Run-apart, Run-last)
+run_stops bytes c begin end run next = grind (arith, Run-apart, Run-last)
 
 module _ (bytes : List ℕ) (begin : ℕ) (within : begin < length bytes) where
   abbrev class : Class

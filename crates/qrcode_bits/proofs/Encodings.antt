@@ -45,7 +45,7 @@ module _ (header : Option Header) (bytes : List ℕ) (are : All (λ c. c < 256) 
       omega (arith, ap (λ (z : List Bool). length z) (pushed_bits middle w), length-append (header_bits header) (spellings v pieces), size)
 
   pub plan_end_refused : (middle : Stream) (e : QrError) → SpellsAll start middle (segment_pieces bytes plan) → IsLevelRefused middle level e → e ≡ OutOfMemory
-  plan_end_refused middle e w r = grind (arith, end_refused, pushed_version, pushed_size)
+  plan_end_refused middle e w r = grind (arith, pushed_size)
 
   pub plan_stream : (middle last : Stream) → HasHeader v header → start.modes ≡ no_modes → SpellsAll start middle (segment_pieces bytes plan) → EndsAtLevel middle last level →
       IsPlanStream header bytes v level plan last

@@ -53,13 +53,13 @@ module _ (v : Version) (whole : List ℕ) where
   -- Their spellings take the bits of the segments.
   pub length-spelled : (from to : ℕ) (ss : List Segment) → AreTexts whole from ss to → to ≤ length whole → length (spellings v (segment_pieces whole ss)) ≡ total_bits v ss
   length-spelled from to [] h k = refl
-  length-spelled from to (s ∷ ss) h k = grind (arith, common_steps, own, length-append, spelled_size, length-spelled s.end to ss h.3 k)
+  length-spelled from to (s ∷ ss) h k = grind (arith, own, length-append, spelled_size, length-spelled s.end to ss h.3 k)
 
   -- Each can be spelled, where the version has the modes and the counts fit.
   pub texts-spelled : (from to : ℕ) (ss : List Segment) → AreTexts whole from ss to → to ≤ length whole → All (λ part. HasMode v part.mode) ss → CountsFit v ss → AreSpelled v (segment_pieces whole ss)
   texts-spelled from to [] h k has counted = tt
   texts-spelled from to (s ∷ ss) h k has counted =
-      grind (arith, common_steps, own, spellable, All-head, non_empty, All-tail, texts-spelled s.end to ss h.3 k (All-tail (λ part. HasMode v part.mode) s ss has) counted.1)
+      grind (arith, common_steps, own, All-head, non_empty, All-tail, texts-spelled s.end to ss h.3 k (All-tail (λ part. HasMode v part.mode) s ss has) counted.1)
 
 -- ---- The frame of a plan
 

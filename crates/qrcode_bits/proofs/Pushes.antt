@@ -20,14 +20,14 @@ use Rattle.qrcode_bits.specs.Push.{Spells, SpellsAll, StopsAt, PushesDrawn, IsRe
 use Rattle.std.proofs.lemmas.Grind.{common_steps}
 
 pub spells_none : (s : Stream) → SpellsAll s s []
-spells_none s = grind (arith, All-nil, append-nil)
+spells_none s = grind (arith, append-nil)
 
 forgotten : (payload : Option ℕ) (ps : List Piece) → payload ≡ None → payload_after payload ps ≡ None
 forgotten payload ps e = grind arith
 
 -- one push more, in front
 spells_first : (old next new : Stream) (p : Piece) (ps : List Piece) → Spells old next p → SpellsAll next new ps → SpellsAll old new (p ∷ ps)
-spells_first old next new p ps h w = grind (arith, All-cons, append_assoc, forgotten, length-append)
+spells_first old next new p ps h w = grind (arith, append_assoc, length-append)
 
 push_first : (old next new : Stream) (p : Piece) (ps : List Piece) (result : Result Unit QrError) → Spells old next p → PushesDrawn next ps result new →
     PushesDrawn old (p ∷ ps) result new
@@ -59,9 +59,9 @@ PushesInTurn old (piece ∷ rest) result new =
     ⊎ ((e : QrError) × (result ≡ Err e) × IsRefused old piece e × (new ≡ old) × (rest ≡ []))
 
 pub in_turn : (old new : Stream) (ps : List Piece) (result : Result Unit QrError) → PushesInTurn old ps result new → PushesDrawn old ps result new
-in_turn old new [] result h = grind (arith, common_steps, spells_none)
+in_turn old new [] result h = grind (arith, spells_none)
 in_turn old new (p ∷ ps) result (inl w) = push_first old w.0 new p ps result w.1 (in_turn w.0 new ps result w.2)
-in_turn old new (p ∷ ps) result (inr w) = grind (arith, common_steps, push_refused)
+in_turn old new (p ∷ ps) result (inr w) = grind (arith, push_refused)
 
 -- what stops at the last of some pieces stops in a longer list too
 pub stops_longer : (old new : Stream) (ps qs : List Piece) (e : QrError) → StopsAt old new ps [] e → StopsAt old new (ps ++ qs) qs e
@@ -81,7 +81,7 @@ last_of P (y ∷ ys) s h = last_of P ys s (All-tail P y (ys ++ s ∷ []) h)
 -- ---- Plans of which each part can be spelled
 
 got_within : (s : List ℕ) (i x : ℕ) → slice_get s i ≡ Some x → i < length s
-got_within s i x h = grind (arith, cases_lt, slice_get_past)
+got_within s i x h = grind (arith, slice_get_past)
 
 -- a valid text has no first invalid byte
 none_invalid : (piece : Piece) (position byte : ℕ) → IsValid piece.mode piece.text → IsFirstInvalid (IsValid piece.mode) piece.text position byte → ⊥
@@ -95,7 +95,7 @@ spellable_refused old piece e h r = grind (arith, none_invalid)
 -- the parts of a plan from a place on
 pub pieces_at : (bytes : List ℕ) (plan : List Segment) (i : ℕ) → i < length plan →
     segment_pieces bytes (drop i plan) ≡ segment_piece bytes (segment_at plan i) ∷ segment_pieces bytes (drop (i + 1) plan)
-pieces_at bytes plan i within = grind (arith, drop-cons, add-one)
+pieces_at bytes plan i within = grind (arith, drop-cons)
 
 module _ (bytes : List ℕ) (plan : List Segment) (i : ℕ) (within : i < length plan) (old next : Stream) (spelled : AreSpelled old.version (segment_pieces bytes (drop i plan))) where
   spelled_here : AreSpelled old.version (segment_piece bytes (segment_at plan i) ∷ segment_pieces bytes (drop (i + 1) plan))

@@ -49,12 +49,12 @@ kept_shifted old used partial left text bytes part small are is = grind (arith, 
 -- ---- The stream
 
 pub kept_more : (len cap cap' used partial left n word : ℕ) → IsKept len cap used partial → 8 * n ≤ room_in cap len used → cap ≤ cap' → left ≡ word % 2 ^ used → IsKept (len + n) cap' used left
-kept_more len cap cap' used partial left n word kept room grows is = grind (arith, pow_pos)
+kept_more len cap cap' used partial left n word kept room grows is = grind arith
 
 -- the bytes that were there, and these in place of those behind them
 pub replaced : (bytes text whole filled : List ℕ) (start : ℕ) → whole ≡ bytes ++ text → start ≡ length bytes →
     take start whole ++ (filled ++ post_of start (length whole - start) whole) ≡ bytes ++ filled
-replaced bytes text whole filled start is from = grind (arith, take-append_seam, post_of, drop_all, length-drop, append-nil)
+replaced bytes text whole filled start is from = grind (arith, take-append_seam, drop_all, length-drop, append-nil)
 
 pub appends_shifted : (old : Stream) (bytes now text filled : List ℕ) (len len' cap cap' used partial left : ℕ) → old.bits ≡ kept_bits bytes used partial → old.room ≡ room_in cap len used →
     now ≡ bytes ++ filled → len' ≡ len + length text → cap ≤ cap' → used < 8 → ((k : ℕ) → slice_index_or text k 0 < 2 ^ 8) → AreShifted used partial text filled →

@@ -23,7 +23,7 @@ use Rattle.qrcode_bits.proofs.WordStarts.{word-ahead, some_start, no_start, more
 
 pub cost-small : (version : Version) (headers : Headers) (mode : Mode) (size cost : ℕ) → AreHeaders version headers → size < 8192 →
     cost ≡ header_in headers mode + data_bits mode (characters mode size) → cost < 2 ^ 18
-cost-small version headers mode size cost heads small is = grind (arith, data_bits-linear)
+cost-small version headers mode size cost heads small is = grind arith
 
 pub step-small : (segments : List Segment) (version : Version) (headers : Headers) (end : ℕ) (step : Step) → AreHeaders version headers → IsShort segments →
     HasLinearCosts segments version → end ≤ length segments → IsStep segments version end step → step.bits < 2 ^ 18
@@ -86,7 +86,7 @@ module _ (segments : List Segment) (version : Version) (end : ℕ) (within : end
   -- the rest of a bucket with a start is no more than the end
   pub short-rest : (j w rest : ℕ) (groups : Groups) (mode : Mode) → j < 8 → AreGroups segments version end end groups → mode ≡ bucket_mode j →
       bucket_start j w ≡ slot (group_of mode groups) j → w < 2 ^ 50 → rest ≡ bucket_rest j → rest ≤ last_end
-  short-rest j w rest groups mode inside grouped mode-is at small is = grind (arith, more_in, some_start, group-right, has-own, rest-least)
+  short-rest j w rest groups mode inside grouped mode-is at small is = grind arith
 
   module _ (j w : ℕ) (inside : j < 8) (groups : Groups) (grouped : AreGroups segments version end end groups) (mode : Mode) (mode-is : mode ≡ bucket_mode j)
       (at : bucket_start j w ≡ slot (group_of mode groups) j) (small : w < 2 ^ 50)
@@ -120,7 +120,7 @@ module _ (segments : List Segment) (version : Version) (end : ℕ) (within : end
 
     module _ (periods cand : ℕ) (periods-is : periods ≡ 8192 * period_bits mode) (cand-is : cand ≡ w + cost * 2 ^ 26 - periods * 2 ^ 26) (dear : cost < 2 ^ 18) where
       high : cand / 2 ^ 26 ≡ bits_before segments version found.start + (head + data_bits (bucket_mode j) (characters (bucket_mode j) (last_end - begin)))
-      high = grind (arith, shifted-high, short-enough, both)
+      high = grind (arith, both)
 
       low : cand % 2 ^ 26 ≡ w % 2 ^ 26
       low = shifted-low w cost periods cand (short-enough periods periods-is) cand-is
@@ -181,15 +181,15 @@ module _ (segments : List Segment) (version : Version) (end : ℕ) (within : end
   -- a bucket with no start
   pub sought-nothing : (j w best : ℕ) (best_mode mode : Mode) (groups : Groups) → IsSought segments version end j best best_mode → j < 8 → AreGroups segments version end end groups → mode ≡ bucket_mode j →
       bucket_start j w ≡ slot (group_of mode groups) j → 2 ^ 50 ≤ w → IsSought segments version end (j + 1) best best_mode
-  sought-nothing j w best best_mode mode groups before inside grouped mode-is at great = grind (arith, no_start, group-right, has-own, Tried-none, cases_eq)
+  sought-nothing j w best best_mode mode groups before inside grouped mode-is at great = grind (arith, no_start)
 
 -- ---- Steps
 
 pub AreShortSteps-push : (segments : List Segment) (version : Version) (steps next : List ShortStep) (step : ShortStep) (k : ℕ) → length steps ≡ k + 1 → AreShortSteps segments version steps →
     IsStep segments version (k + 1) (step_told segments (k + 1) step) → next ≡ steps ++ step ∷ [] →
     (length next ≡ k + 1 + 1) × AreShortSteps segments version next × (step ≡ short_at next (k + 1))
-AreShortSteps-push segments version steps next step k long before right is = grind (arith, get_or_push, length_push, cases_lt, get_or_append_left)
+AreShortSteps-push segments version steps next step k long before right is = grind (arith, get_or_push, length_push, get_or_append_left)
 
 pub AreShortSteps-start : (segments : List Segment) (version : Version) (none steps : List ShortStep) (step : ShortStep) → none ≡ [] → step.word ≡ 8191 → steps ≡ none ++ step ∷ [] →
     (length steps ≡ 1) × AreShortSteps segments version steps × (step ≡ short_at steps 0)
-AreShortSteps-start segments version none steps step empty word is = grind (arith, IsStep-none)
+AreShortSteps-start segments version none steps step empty word is = grind arith

@@ -44,7 +44,7 @@ drop-further xs rest a n e = sym (drop-drop n a xs) ∙ ap (λ (z : List ℕ). d
 -- ---- Units and runs
 
 unit_valid : (a : ℕ) → a < 256 → IsValid (class_mode (class_of a)) (a ∷ [])
-unit_valid a small = grind (arith, All-cons, All-nil, between, is_alphanumeric-inside)
+unit_valid a small = grind (arith, is_alphanumeric-inside)
 
 module _ (whole : List ℕ) where
   pub texts-reach : (from to : ℕ) (ss : List Segment) → AreTexts whole from ss to → from ≤ to
@@ -76,7 +76,7 @@ module _ (whole : List ℕ) where
 
   texts-runs : All (λ c. c < 256) whole → (b : ℕ) (bytes : List ℕ) → drop b whole ≡ bytes → AreTexts whole b (map run_segment (runs b (units bytes))) (b + length bytes)
   texts-runs are b [] d = omega arith
-  texts-runs are b (a ∷ []) d = grind (arith, common_steps, class_of-one, texts-add, single)
+  texts-runs are b (a ∷ []) d = grind (arith, single)
   texts-runs are b (a ∷ c ∷ rest) d = go (is_kanji_pair a c) refl (texts-runs are (b + 2) rest (drop-further whole (a ∷ c ∷ rest) b 2 d)) (texts-runs are (b + 1) (c ∷ rest) (drop-further whole (a ∷ c ∷ rest) b 1 d)) where
     go : (t : Bool) → is_kanji_pair a c ≡ t → AreTexts whole (b + 2) (map run_segment (runs (b + 2) (units rest))) (b + 2 + length rest) →
         AreTexts whole (b + 1) (map run_segment (runs (b + 1) (units (c ∷ rest)))) (b + 1 + length (c ∷ rest)) →
@@ -129,8 +129,8 @@ module _ (whole : List ℕ) where
   -- ---- The message
 
   texts-message : (from to : ℕ) (ss : List Segment) → AreTexts whole from ss to → message (segment_pieces whole ss) ≡ slice_range whole from to
-  texts-message from to [] h = grind (arith, common_steps)
-  texts-message from to (s ∷ ss) h = grind (arith, common_steps, slice-join, texts-reach, texts-message s.end to ss h.3)
+  texts-message from to [] h = grind arith
+  texts-message from to (s ∷ ss) h = grind (arith, slice-join, texts-reach, texts-message s.end to ss h.3)
 
   -- The pieces of a plan are a message of all the bytes.
   pub plan_message : (plan : List Segment) → AreTexts whole 0 plan (length whole) → message (segment_pieces whole plan) ≡ whole
@@ -141,7 +141,7 @@ module _ (whole : List ℕ) where
 
   texts-lie : (from to : ℕ) (ss : List Segment) → AreTexts whole from ss to → to ≤ length whole → All (LiesIn (length whole)) ss
   texts-lie from to [] h k = All-nil (LiesIn (length whole))
-  texts-lie from to (s ∷ ss) h k = grind (arith, common_steps, texts-reach, All-cons, texts-lie s.end to ss h.3 k)
+  texts-lie from to (s ∷ ss) h k = grind (arith, texts-reach, texts-lie s.end to ss h.3 k)
 
   -- The parts of a plan lie in the bytes.
   pub plan_lies : All (λ c. c < 256) whole → (plan : List Segment) → IsMergePlan whole plan → All (LiesIn (length whole)) plan

@@ -25,7 +25,7 @@ valid-append Kanji s t h k = kanji-append s t h k where
 
 -- a property of each element, weakened
 pub All-map : {X : Type 0} (P Q : X → Type 0) → ((x : X) → P x → Q x) → (xs : List X) → All P xs → All Q xs
-All-map P Q f xs h = grind (arith, All-nil, All-cons, All-head, All-tail)
+All-map P Q f xs h = grind arith
 
 -- ---- Digits are in the alphabet
 
@@ -60,7 +60,7 @@ sign_byte c h =
 kanji_bytes : (s : List ℕ) → IsKanjiText s → All (λ c. c < 256) s
 kanji_bytes [] h = All-nil (λ c. c < 256)
 kanji_bytes (a ∷ []) h = absurd h
-kanji_bytes (a ∷ b ∷ s) h = grind (arith, common_steps, kanji_trail, lead_bounds, All-cons, kanji_bytes s h.1)
+kanji_bytes (a ∷ b ∷ s) h = grind (arith, kanji_trail, lead_bounds, kanji_bytes s h.1)
 
 pub valid_bytes : (m : Mode) (s : List ℕ) → IsValid m s → All (λ c. c < 256) s
 valid_bytes Numeric s h = All-map IsDigit (λ c. c < 256) (λ c d. omega arith) s h

@@ -25,10 +25,10 @@ abbrev pub more_in : ℕ → ℕ
 more_in j = period_bits (bucket_mode j) * (2 ^ 64 - 2 ^ 13)
 
 pub some_start : (j w : ℕ) → w < none → bucket_start j w ≡ Some (start_told (more_in j) w)
-some_start j w small = grind (arith, nat_tests)
+some_start j w small = grind arith
 
 pub no_start : (j w : ℕ) → none ≤ w → bucket_start j w ≡ None
-no_start j w great = grind (arith, nat_tests)
+no_start j w great = grind arith
 
 better-none : (x y c : Option Candidate) → y ≡ None → c ≡ x → IsBetterOf x y c
 better-none x y c n e = grind arith
@@ -37,14 +37,14 @@ better-first : (x y c : Option Candidate) → x ≡ None → c ≡ y → IsBette
 better-first x y c n e = grind arith
 
 better-some : (j a b : ℕ) → a < none → b < none → IsBetterOf (Some (start_told (more_in j) a)) (Some (start_told (more_in j) b)) (bucket_start j (min a b))
-better-some j a b p q = grind (arith, cases_lt, min, some_start, word-ahead)
+better-some j a b p q = grind arith
 
 -- the lesser of two words that are no start is none either
 min-none : (j a b : ℕ) → none ≤ a → bucket_start j (min a b) ≡ bucket_start j b
-min-none j a b great = grind (arith, cases_lt, min, no_start)
+min-none j a b great = grind arith
 
 pub bucket_start-min : (j a b : ℕ) → IsBetterOf (bucket_start j a) (bucket_start j b) (bucket_start j (min a b))
-bucket_start-min j a b = grind (arith, cases_lt, min, some_start, better-some, better-none, no_start, better-first, min-none)
+bucket_start-min j a b = grind arith
 
 -- ---- A group
 
@@ -58,11 +58,11 @@ length-starts_in words = length-map-range_with_len (λ (i : ℕ). bucket_start i
 
 pub absorbs : (first : ℕ) (a b c : List ℕ) → ((k : ℕ) → first ≤ k → k < 6 → word_at c k ≡ min (word_at a k) (word_at b k)) →
     Absorbs first (starts_in a) (starts_in b) (starts_in c)
-absorbs first a b c least = grind (arith, length-starts_in, slot-starts_in, bucket_start-min)
+absorbs first a b c least = grind (arith, length-starts_in, slot-starts_in)
 
 -- no start is better than one that there is none of
 pub absorbs_none : (first : ℕ) (a b : List ℕ) → AreNone b → Absorbs first (starts_in a) (starts_in b) (starts_in a)
-absorbs_none first a b none = grind (arith, length-starts_in, slot-starts_in, better-none, no_start)
+absorbs_none first a b none = grind (arith, length-starts_in, slot-starts_in)
 
 pub empties : (words : List ℕ) → AreNone words → IsEmptyGroup (starts_in words)
 empties words all = (length-starts_in words, λ j inside. slot-starts_in words j inside ∙ no_start j (word_at words j) (all j inside))
@@ -70,7 +70,7 @@ empties words all = (length-starts_in words, λ j inside. slot-starts_in words j
 -- what holds no start after an absorption held none before
 pub whole-absorbed : (first : ℕ) (a b c : List ℕ) → first ≤ 5 → IsWhole a → IsWhole b → length c ≡ 8 → ((k : ℕ) → first ≤ k → k < 6 → word_at c k ≡ min (word_at a k) (word_at b k)) →
     ((k : ℕ) → k < first → word_at c k ≡ word_at a k) → ((k : ℕ) → 6 ≤ k → word_at c k ≡ word_at a k) → IsWhole c
-whole-absorbed first a b c early one two long least below above = grind (arith, cases_lt)
+whole-absorbed first a b c early one two long least below above = grind arith
 
 -- ---- A start enters
 
@@ -90,51 +90,51 @@ word-told more bits parts start d e = candidate-is _ _ _ _ _ _ (omega arith) (om
 
 told-key : (j bits product parts start key : ℕ) (more : ℕ) → more_in j ≡ more → bits + product < 2 ^ 20 → parts < 8192 → start < 8192 → product + more ≡ key →
     bucket_start j (word_of (bits + product) parts start) ≡ Some (record { bits = bits + key; parts = parts; start = start })
-told-key j bits product parts start key more is few d e same = grind (arith, some_start, word-told)
+told-key j bits product parts start key more is few d e same = grind arith
 
 module _ (begin bits parts start : ℕ) (low : begin < 8192) (few : bits < 2 ^ 18) (short : parts < 8192) (early : start < 8192) where
   abbrev thirds : ℕ
   thirds = word_of (bits + 10 * (8192 - begin / 3)) parts start
 
   thirds-key : (j : ℕ) → bucket_mode j ≡ Numeric → bucket_start j thirds ≡ Some (key_of Numeric begin bits parts start)
-  thirds-key j is = grind (arith, told-key)
+  thirds-key j is = grind arith
 
   abbrev pairs : ℕ
   pairs = word_of (bits + 11 * (8192 - begin / 2)) parts start
 
   pairs-key : (j : ℕ) → bucket_mode j ≡ Alphanumeric → bucket_start j pairs ≡ Some (key_of Alphanumeric begin bits parts start)
-  pairs-key j is = grind (arith, told-key)
+  pairs-key j is = grind arith
 
   abbrev singles : ℕ
   singles = word_of (bits + 8 * (8192 - begin)) parts start
 
   singles-key : (j : ℕ) → bucket_mode j ≡ Byte → bucket_start j singles ≡ Some (key_of Byte begin bits parts start)
-  singles-key j is = grind (arith, told-key)
+  singles-key j is = grind arith
 
   abbrev characters : ℕ
   characters = word_of (bits + 13 * (8192 - begin / 2)) parts start
 
   characters-key : (j : ℕ) → bucket_mode j ≡ Kanji → bucket_start j characters ≡ Some (key_of Kanji begin bits parts start)
-  characters-key j is = grind (arith, told-key)
+  characters-key j is = grind arith
 
   module _ (mode : Mode) (old one two three new : List ℕ) (first : IsOffered mode (begin % 3) thirds old one) (second : IsOffered mode (3 + begin % 2) pairs one two)
       (third : IsOffered mode 5 singles two three) (fourth : IsOffered mode (6 + begin % 2) characters three new) where
     -- the lesser word in a bucket is the better start
     better-at : (j word : ℕ) (key : Candidate) → j < 8 → word_at new j ≡ min (word_at old j) word → bucket_start j word ≡ Some key →
         IsBetterOf (slot (starts_in old) j) (Some key) (slot (starts_in new) j)
-    better-at j word key inside least is = grind (arith, slot-starts_in, bucket_start-min)
+    better-at j word key inside least is = grind (arith, slot-starts_in)
 
     same-at : (j : ℕ) → j < 8 → word_at new j ≡ word_at old j → slot (starts_in new) j ≡ slot (starts_in old) j
     same-at j inside same = slot-starts_in new j inside ∙ (ap (bucket_start j) same ∙ sym (slot-starts_in old j inside))
 
     at-third : (j : ℕ) → HasBucket mode j → j < 3 → begin % 3 ≡ j → word_at new j ≡ min (word_at old j) thirds
-    at-third j has b e = grind (arith, offered-there)
+    at-third j has b e = grind arith
 
     past-third : (j : ℕ) → j < 3 → (begin % 3 ≡ j → ⊥) → word_at new j ≡ word_at old j
     past-third j b ne = grind arith
 
     at-pair : (r : ℕ) → HasBucket mode (3 + r) → r < 2 → begin % 2 ≡ r → word_at new (3 + r) ≡ min (word_at old (3 + r)) pairs
-    at-pair r has b e = grind (arith, offered-there, min)
+    at-pair r has b e = grind arith
 
     past-pair : (r : ℕ) → r < 2 → (begin % 2 ≡ r → ⊥) → word_at new (3 + r) ≡ word_at old (3 + r)
     past-pair r b ne = grind arith
@@ -143,7 +143,7 @@ module _ (begin bits parts start : ℕ) (low : begin < 8192) (few : bits < 2 ^ 1
     at-single has = fourth.others 5 (λ w. omega arith) ∙ (third.lesser has ∙ ap (λ (z : ℕ). min z singles) (second.others 5 (λ w. omega arith) ∙ first.others 5 (λ w. omega arith)))
 
     at-character : (r : ℕ) → HasBucket mode (6 + r) → r < 2 → begin % 2 ≡ r → word_at new (6 + r) ≡ min (word_at old (6 + r)) characters
-    at-character r has b e = grind (arith, offered-there, min)
+    at-character r has b e = grind arith
 
     past-character : (r : ℕ) → r < 2 → (begin % 2 ≡ r → ⊥) → word_at new (6 + r) ≡ word_at old (6 + r)
     past-character r b ne = grind arith
@@ -161,7 +161,7 @@ module _ (begin bits parts start : ℕ) (low : begin < 8192) (few : bits < 2 ^ 1
     entered (suc (suc (suc (suc (suc (suc (suc (suc j)))))))) has inside e = absurd (omega arith)
 
     kept : (j : ℕ) → j < 8 → (begin % period (bucket_mode j) ≡ bucket_rest j → ⊥) → slot (starts_in new) j ≡ slot (starts_in old) j
-    kept j inside ne = grind (arith, same-at, past-third, past-pair, past-character)
+    kept j inside ne = grind (arith, same-at)
 
     -- the bucket of Byte has a start
     still_whole : length new ≡ 8 → IsWhole new
