@@ -26,10 +26,6 @@ use Rattle.qrcode_bits.proofs.CuttingPlans.{chosen-cutting, chosen-least}
 
 -- ---- Modes of a version
 
--- every Normal version has every mode
-pub has_every : (n : ℕ) (m : Mode) → HasMode (normal n) m
-has_every n m = grind arith
-
 -- a version with the mode of bytes has two bits to tell modes
 wide_enough : (p : ℕ) → 2 < 2 ^ p → 3 < 2 ^ p
 wide_enough p h = elim (cases_lt p 2) [
@@ -197,10 +193,6 @@ module _ (front : ℕ) (message : List ℕ) (l : EcLevel) (before last : ℕ) (p
         ];
         fewest = chosen_least front message (normal number) plan here;
       }
-
--- nothing fits where there is no version
-pub none_before : (front : ℕ) (message : List ℕ) (l : EcLevel) → FitsNone normal front message l 0
-none_before front message l n h plan w = let some : 1 ≤ n = (capacity-held l n w.limit w.has_level).0 in absurd (omega arith)
 
 -- ---- Version 40
 

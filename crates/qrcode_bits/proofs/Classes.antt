@@ -1,5 +1,5 @@
 -- A chosen plan decides for its version, and that of the last version of a class for the class.
-use Rattle.std.proofs.Common.{◌≡◌, ℕ, zero, suc, ℤ, false, pos, ◌+◌, ◌-◌, ◌*◌, ◌^◌, ◌<◌, ◌≤◌, List, [], ◌∷◌, length, sym, ap, ◌∙◌, subst, arith, inl, inr, drop, get_or, Result, Ok, Err, add-one, drop-cons}
+use Rattle.std.proofs.Common.{◌≡◌, ℕ, zero, suc, ℤ, false, pos, ◌+◌, ◌-◌, ◌*◌, ◌^◌, ◌<◌, ◌≤◌, List, [], ◌∷◌, length, sym, ap, subst, arith, inl, inr, drop, get_or, Result, Ok, Err, drop-cons}
 use Rattle.std.specs.Prelude.{All, Option, Some, nat_abs, MatchOption}
 use Rattle.std.proofs.lemmas.Bool.{cases_lt}
 use Rattle.std.proofs.lemmas.List.{drop_all}
@@ -10,14 +10,14 @@ use Rattle.qrcode_base.specs.declared.types.errors.QrError.{QrError}
 use Rattle.qrcode_base.specs.declared.types.errors.QrError.TheVariants.{DataTooLong, OutOfMemory}
 use Rattle.qrcode_base.specs.declared.symbols.BlockLayout.{BlockLayout}
 use Rattle.qrcode_base.specs.Symbols.{normal_blocks, capacity, capacity_with}
-use Rattle.qrcode_base.specs.Modes.{by_class, HasMode, indicator_width, count_width, data_bits, characters}
+use Rattle.qrcode_base.specs.Modes.{HasMode, indicator_width, count_width}
 use Rattle.qrcode_base.proofs.Fields.{capacity-held, SameClass}
 use Rattle.std.proofs.lemmas.Option.{slice_get-get_or}
 use lib.Signed.{lt_z}
 use Rattle.qrcode_bits.specs.declared.optimize.Segment.{Segment}
 use Rattle.qrcode_bits.specs.Parsing.{parsed, AreTexts}
 use Rattle.qrcode_bits.specs.Merging.{HasLinearCosts, IsChosenPlan, total_bits}
-use Rattle.qrcode_bits.specs.Frame.{Header, HasHeader, header_bits}
+use Rattle.qrcode_bits.specs.Frame.{Header, header_bits}
 use Rattle.qrcode_bits.specs.Stream.{Stream}
 use Rattle.qrcode_bits.specs.Push.{IsPlace}
 use Rattle.qrcode_bits.specs.Pieces.{LiesIn}
@@ -29,21 +29,14 @@ use Rattle.qrcode_bits.proofs.Growth.{total_bits-rise, total_bits-same}
 use Rattle.qrcode_bits.proofs.Upward.{All-map}
 use Rattle.qrcode_bits.proofs.Texts.{texts-reach, texts-plan, plan_lies}
 use Rattle.qrcode_bits.proofs.Choices.{chosen_is_plan, chosen_decides, fits_normal, capacity-grows, class_choice}
-use Rattle.std.proofs.lemmas.Grind.{common_steps}
 
 -- ---- Costs are small
 
 abbrev pub HasSmallHeaders : Version → Type 0
 HasSmallHeaders v = (m : Mode) → indicator_width v + count_width v m ≤ 20
 
-by_class-most : (n a b c : ℕ) → a ≤ 16 → b ≤ 16 → c ≤ 16 → by_class n a b c ≤ 16
-by_class-most n a b c h k l = grind arith
-
 pub normal_headers : (n : ℕ) → HasSmallHeaders (normal n)
 normal_headers n q1 = grind arith
-
-data_small : (m : Mode) (n : ℕ) → data_bits m (characters m n) ≤ 13 * n
-data_small m n = grind arith
 
 module _ (message : List ℕ) (v : Version) (small : HasSmallHeaders v) (short : length message ≤ 7089) where
   pub short-linear : HasLinearCosts (parsed message) v
@@ -126,10 +119,6 @@ pub front_not : (message : List ℕ) (l : EcLevel) (last front bits : ℕ) (v : 
 front_not message l last front bits v same e h =
     subst (λ (n : ℕ). FitsNot n message (normal last) l) same (subst (λ (u : Version). FitsNot front message u l) e h)
 
--- a header of some Normal version is one of each
-has_header : (n m : ℕ) (header : Option Header) → HasHeader (normal n) header → HasHeader (normal m) header
-has_header n m header h = grind arith
-
 module _ (header : Option Header) (message : List ℕ) (l : EcLevel) (last : ℕ) (plan : List Segment)
     (chosen : IsChosenPlan (parsed message) (normal last) plan) (fits : Fits (length (header_bits header)) message (normal last) l plan)
     (version : Version) (least : IsMinVersion (length (header_bits header) + total_bits (normal last) plan) l version) where
@@ -148,9 +137,6 @@ module _ (header : Option Header) (message : List ℕ) (l : EcLevel) (last : ℕ
       let rise = total_bits-rise m.0 last some (holding.least last fits.limit fits.has_level fits.within) plan in
       subst (λ (v : Version). Fits (length (header_bits header)) message v l plan) (sym m.1)
       (fits_normal (length (header_bits header)) m.0 holding.limit message l plan fits.planned holding.limit_is (omega arith))
-
-  pub class_header : HasHeader (normal last) header → HasHeader version header
-  class_header has = let m = least_version in subst (λ (v : Version). HasHeader v header) (sym m.1) (has_header last m.0 header has)
 
   -- and is the choice there, where no plan fits a version before the class.
   pub class_encoding : (stream : Stream) → IsPlanStream header message version l plan stream → (before limit : ℕ) → IsClass before last → last ≤ limit →

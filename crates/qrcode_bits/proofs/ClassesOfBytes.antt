@@ -1,6 +1,6 @@
 -- The classes of bytes by their numbers, computed at each byte, and what stands at a place.
 use Rattle.std.proofs.Common.{◌≡◌, ℕ, suc, ◌+◌, ◌-◌, ◌<◌, ◌≤◌, Bool, true, false, List, ◌∷◌, length, drop, get_or, refl, ap, sym, ◌∙◌, arith, inl, inr, ◌⊎◌}
-use Rattle.std.specs.Prelude.{map, ◌&&◌, if◌then◌else◌}
+use Rattle.std.specs.Prelude.{map, if◌then◌else◌}
 use Rattle.std.specs.List.{range_with_len}
 use Rattle.std.proofs.Math.Seq.{drop-cons}
 use Rattle.std.proofs.lemmas.Bool.{cases_lt}
@@ -13,7 +13,7 @@ use Rattle.qrcode_bits.specs.declared.optimize.parser.Class.TheVariants.{Pair, L
 use Rattle.qrcode_bits.specs.Parsing.{class_number, class_numbered, class_of, class_size, units, joins, parsed_from}
 use Rattle.qrcode_bits.specs.Parsing.{class_mode}
 use Rattle.qrcode_bits.proofs.Adjoining.{class_of-one}
-use Rattle.qrcode_bits.proofs.Runs.{IsRun, Run-first, Run-more, Run-apart, Run-last, joins-same}
+use Rattle.qrcode_bits.proofs.Runs.{IsRun, Run-first, Run-more, Run-apart, Run-last}
 
 -- ---- The table
 
@@ -65,13 +65,6 @@ units_alone bytes at within pair =
 
 pub units_last : (bytes : List ℕ) (at : ℕ) → length bytes - at < 2 → at < length bytes → units (drop at bytes) ≡ class_of (get_or bytes at 0) ∷ units (drop (at + 1) bytes)
 units_last bytes at short within = grind (arith, drop_all, drop-cons)
-
--- a byte of another class begins no pair
-no_lead : (lead : Bool) (rest : Class) → ((if lead then LoneLead else rest) ≡ LoneLead → ⊥) → lead ≡ false
-no_lead lead rest other = grind arith
-
-not_both : (a b : Bool) → a ≡ false → (a && b) ≡ false
-not_both a b e = grind arith
 
 no_pair : (a b : ℕ) → (class_of a ≡ LoneLead → ⊥) → is_kanji_pair a b ≡ false
 no_pair a b other = grind arith
@@ -146,9 +139,6 @@ pub lone_stops : (bytes : List ℕ) (begin : ℕ) → begin < length bytes → c
 lone_stops bytes begin within lone unit =
     run_stops bytes LoneLead begin (begin + 1) (Run-first bytes LoneLead begin 1 refl (unit ∙ ap (λ (d : Class). d ∷ units (drop (begin + 1) bytes)) lone)) (λ w.
     let n = next_unit bytes (begin + 1) w in (n.0, lone_apart n.0, n.2))
-
-pub pair_first : (bytes : List ℕ) (begin : ℕ) → units (drop begin bytes) ≡ Pair ∷ units (drop (begin + 2) bytes) → IsRun bytes Pair begin (begin + 2)
-pair_first bytes begin unit = Run-first bytes Pair begin 2 refl unit
 
 pub pair_more : (bytes : List ℕ) (begin end : ℕ) → units (drop end bytes) ≡ Pair ∷ units (drop (end + 2) bytes) → IsRun bytes Pair begin end → IsRun bytes Pair begin (end + 2)
 pair_more bytes begin end unit run = Run-more bytes Pair Pair begin end 2 refl refl unit run

@@ -1,5 +1,5 @@
 -- The stream of a plan that fits: no push is refused but for memory, and up to the capacity it is a frame.
-use Rattle.std.proofs.Common.{◌≡◌, ℕ, ◌+◌, ◌<◌, ◌≤◌, Bool, List, ◌++◌, Some, length, take, sym, ap, ◌∙◌, subst, arith, length-append}
+use Rattle.std.proofs.Common.{◌≡◌, ℕ, ◌+◌, ◌<◌, Bool, List, ◌++◌, Some, length, take, sym, ap, ◌∙◌, subst, arith, length-append}
 use Rattle.std.specs.Prelude.{All, Option}
 use Rattle.qrcode_base.specs.declared.types.Version.{Version}
 use Rattle.qrcode_base.specs.declared.types.EcLevel.{EcLevel}
@@ -21,10 +21,6 @@ use Rattle.qrcode_bits.proofs.Choices.{some_same}
 use Rattle.qrcode_bits.proofs.PlanFrames.{spelled_plan, plan_frame}
 
 -- ---- Refusals
-
--- an end that fits is refused for memory alone
-pub end_refused : (old : Stream) (level : EcLevel) (limit : ℕ) (e : QrError) → capacity old.version level ≡ Some limit → length old.bits ≤ limit → IsLevelRefused old level e → e ≡ OutOfMemory
-end_refused old level limit e known fits r = grind arith
 
 -- ---- The stream of a plan, behind a header or none
 

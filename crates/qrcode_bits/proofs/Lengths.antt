@@ -1,5 +1,5 @@
 -- No message of more than 7089 bytes fits a symbol.
-use Rattle.std.proofs.Common.{◌≡◌, ℕ, ◌+◌, ◌-◌, ◌*◌, ◌/◌, ◌%◌, ◌<◌, ◌≤◌, List, [], ◌∷◌, Some, length, refl, arith, inl, inr}
+use Rattle.std.proofs.Common.{◌≡◌, ℕ, ◌+◌, ◌-◌, ◌*◌, ◌/◌, ◌<◌, ◌≤◌, List, [], ◌∷◌, Some, length, arith, inl, inr}
 use Rattle.std.specs.Prelude.{All}
 use Rattle.std.proofs.lemmas.Bool.{cases_lt}
 use Rattle.qrcode_base.specs.declared.types.Version.{Version}
@@ -7,8 +7,7 @@ use Rattle.qrcode_base.specs.declared.types.EcLevel.{EcLevel}
 use Rattle.qrcode_base.specs.Symbols.{capacity}
 use Rattle.qrcode_base.specs.declared.types.Mode.{Mode}
 use Rattle.qrcode_base.specs.Modes.{count_width, indicator_width, data_bits, characters}
-use Rattle.qrcode_base.specs.Characters.{IsValid, IsKanjiText}
-use Rattle.qrcode_base.proofs.Fields.{count_width-same}
+use Rattle.qrcode_base.specs.Characters.{IsValid}
 use Rattle.qrcode_bits.specs.declared.optimize.Segment.{Segment}
 use Rattle.qrcode_bits.specs.Merging.{total_bits}
 use Rattle.qrcode_bits.specs.Parsing.{AreTexts}
@@ -16,12 +15,6 @@ use Rattle.qrcode_bits.specs.Choice.{normal, micro, FitsNot, FitsNone}
 use Rattle.qrcode_bits.proofs.Choices.{capacity-middle, capacity-most}
 use Rattle.qrcode_bits.proofs.PlanFrames.{length-slice}
 use Rattle.qrcode_bits.proofs.Texts.{texts-reach, texts-plan}
-use Rattle.std.proofs.lemmas.Grind.{common_steps}
-
-kanji_even : (s : List ℕ) → IsKanjiText s → length s % 2 ≡ 0
-kanji_even [] h = refl
-kanji_even (a ∷ []) h = absurd h
-kanji_even (a ∷ b ∷ s) h = let e = kanji_even s h.1 in omega arith
 
 -- no mode has fewer than ten bits for three bytes
 dense : (m : Mode) (s : List ℕ) (n : ℕ) → IsValid m s → length s ≡ n → 10 * n ≤ 3 * data_bits m (characters m n)

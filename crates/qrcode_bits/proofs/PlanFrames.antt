@@ -1,16 +1,16 @@
 -- The parts of a plan that fits, spelled one after the other, are the front of a frame of the bytes.
-use Rattle.std.proofs.Common.{◌≡◌, ◌≢◌, ℕ, ◌+◌, ◌-◌, ◌^◌, ◌<◌, ◌≤◌, Bool, List, [], ◌∷◌, ◌++◌, length, take, drop, refl, ap, subst, arith, length-append, length-drop}
+use Rattle.std.proofs.Common.{◌≡◌, ◌≢◌, ℕ, ◌+◌, ◌-◌, ◌<◌, ◌≤◌, Bool, List, [], ◌∷◌, ◌++◌, length, take, drop, refl, ap, subst, arith, length-append, length-drop}
 use Rattle.std.specs.Prelude.{All, Option, slice_range}
 use Rattle.std.proofs.lemmas.List.{length-take-le}
 use Rattle.std.proofs.lemmas.List.Elements.{All-head, All-tail}
 use Rattle.qrcode_base.specs.declared.types.Version.{Version}
 use Rattle.qrcode_base.specs.declared.types.EcLevel.{EcLevel}
-use Rattle.qrcode_base.specs.Modes.{HasMode, count_width, data_bits, characters}
+use Rattle.qrcode_base.specs.Modes.{HasMode, data_bits, characters}
 use Rattle.qrcode_base.specs.Characters.{IsValid}
 use Rattle.qrcode_bits.specs.declared.optimize.Segment.{Segment}
 use Rattle.qrcode_bits.specs.Parsing.{AreTexts}
 use Rattle.qrcode_bits.specs.Merging.{segment_bits, total_bits}
-use Rattle.qrcode_bits.specs.Spelling.{IsSpellable, spelling}
+use Rattle.qrcode_bits.specs.Spelling.{spelling}
 use Rattle.qrcode_bits.specs.Frame.{Header, HasHeader, header_bits, AreSpelled, spellings, message, ended, IsFrame}
 use Rattle.qrcode_bits.specs.Pieces.{segment_piece, segment_pieces}
 use Rattle.qrcode_bits.specs.Choice.{Fits}
@@ -38,10 +38,6 @@ module _ (v : Version) (whole : List ℕ) where
   spelled_size s h k valid =
       let count = ap (λ (n : ℕ). data_bits s.mode (characters s.mode n)) (size s h k) in
       omega (arith, length-spelling v (segment_piece whole s), length-character_bits s.mode (text s) valid, count)
-
-  spellable : (s : Segment) → s.begin < s.end → s.end ≤ length whole → IsValid s.mode (text s) → HasMode v s.mode →
-      characters s.mode (s.end - s.begin) < 2 ^ count_width v s.mode → IsSpellable v (segment_piece whole s)
-  spellable s h k valid has counted = grind (arith, size)
 
   non_empty : (s : Segment) → s.begin < s.end → s.end ≤ length whole → text s ≢ []
   non_empty s h k e = let none : length (text s) ≡ 0 = ap (λ (z : List ℕ). length z) e in let n = size s h k in absurd (omega arith)

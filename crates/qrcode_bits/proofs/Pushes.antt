@@ -1,11 +1,10 @@
 -- Several pushes, one after the other.
-use Rattle.std.proofs.Common.{◌≡◌, ℕ, ◌+◌, ◌<◌, ◌≤◌, List, [], ◌∷◌, ◌++◌, length, drop, drop-cons, add-one, refl, sym, ap, subst, append_assoc, append-nil, arith, length-append, Some, Result, Ok, Err, inl, inr, ◌⊎◌}
-use Rattle.std.specs.Prelude.{Option, None, All, slice_get}
-use Rattle.std.proofs.lemmas.Bool.{cases_lt}
+use Rattle.std.proofs.Common.{◌≡◌, ℕ, ◌+◌, ◌<◌, ◌≤◌, List, [], ◌∷◌, ◌++◌, length, drop, drop-cons, refl, sym, ap, subst, append_assoc, append-nil, arith, length-append, Some, Result, Ok, Err, inl, inr, ◌⊎◌}
+use Rattle.std.specs.Prelude.{All, slice_get}
 use Rattle.std.proofs.lemmas.List.{drop_all}
 use Rattle.std.proofs.lemmas.Option.{slice_get_past}
 use Rattle.std.proofs.Math.Seq.{take-length}
-use Rattle.std.proofs.lemmas.List.Elements.{All-nil, All-cons, All-head, All-tail}
+use Rattle.std.proofs.lemmas.List.Elements.{All-head, All-tail}
 use Rattle.qrcode_base.specs.declared.types.Version.{Version}
 use Rattle.qrcode_base.specs.declared.types.errors.QrError.{QrError}
 use Rattle.qrcode_base.specs.declared.types.errors.QrError.TheVariants.{OutOfMemory}
@@ -16,14 +15,10 @@ use Rattle.qrcode_bits.specs.Frame.{AreSpelled}
 use Rattle.qrcode_bits.specs.Merging.{segment_at}
 use Rattle.qrcode_bits.specs.Pieces.{segment_piece, segment_pieces}
 use Rattle.qrcode_bits.specs.Stream.{Stream}
-use Rattle.qrcode_bits.specs.Push.{Spells, SpellsAll, StopsAt, PushesDrawn, IsRefused, payload_after}
-use Rattle.std.proofs.lemmas.Grind.{common_steps}
+use Rattle.qrcode_bits.specs.Push.{Spells, SpellsAll, StopsAt, PushesDrawn, IsRefused}
 
 pub spells_none : (s : Stream) → SpellsAll s s []
 spells_none s = grind (arith, append-nil)
-
-forgotten : (payload : Option ℕ) (ps : List Piece) → payload ≡ None → payload_after payload ps ≡ None
-forgotten payload ps e = grind arith
 
 -- one push more, in front
 spells_first : (old next new : Stream) (p : Piece) (ps : List Piece) → Spells old next p → SpellsAll next new ps → SpellsAll old new (p ∷ ps)

@@ -1,7 +1,7 @@
 -- The last part of a chosen plan of short data, by words.
 use Rattle.std.proofs.Common.{◌≡◌, ℕ, ◌+◌, ◌-◌, ◌*◌, ◌/◌, ◌%◌, ◌^◌, ◌<◌, ◌≤◌, List, [], ◌∷◌, ◌++◌, length, Some, refl, sym, ap, ◌∙◌, subst, arith, inl, inr}
 use Rattle.std.proofs.lemmas.List.{length_push, get_or_push, get_or_append_left}
-use Rattle.std.proofs.lemmas.Bool.{cases_lt, cases_eq}
+use Rattle.std.proofs.lemmas.Bool.{cases_lt}
 use Rattle.qrcode_base.specs.declared.types.Version.{Version}
 use Rattle.qrcode_base.specs.declared.types.Mode.{Mode}
 use Rattle.qrcode_base.specs.Modes.{indicator_width, count_width, data_bits, characters}
@@ -15,10 +15,9 @@ use Rattle.qrcode_bits.specs.Merging.{IsNoWorse, segment_bits, segment_at, part_
 use Rattle.qrcode_bits.specs.Buckets.{chosen_plan, bucket_mode, bucket_rest, part_mode, bits_before, parts_before}
 use Rattle.qrcode_bits.specs.Buckets.{InBucket, IsBestStart, slot, AreGroups, group_of, period, period_bits}
 use Rattle.qrcode_bits.specs.Words.{start_told, bucket_start, IsShort, AreHeaders, header_in, step_told, short_at, AreShortSteps}
-use Rattle.qrcode_bits.proofs.Ending.{data_bits-linear, bucket_of, bucket_of-is, group-right, IsTried, Tried-leads, Tried-keeps, Tried-takes, Tried-none, Tried-all, cost-is}
+use Rattle.qrcode_bits.proofs.Ending.{data_bits-linear, bucket_of, bucket_of-is, group-right, IsTried, Tried-leads, Tried-keeps, Tried-takes, Tried-all, cost-is}
 use Rattle.qrcode_bits.proofs.Grouping.{has-own}
 use Rattle.qrcode_bits.proofs.Optimal.{IsGoodStart}
-use Rattle.qrcode_bits.proofs.ReadBack.{IsStep-none}
 use Rattle.qrcode_bits.proofs.WordStarts.{word-ahead, some_start, no_start, more_in}
 
 pub cost-small : (version : Version) (headers : Headers) (mode : Mode) (size cost : ℕ) → AreHeaders version headers → size < 8192 →
@@ -40,18 +39,12 @@ step-small segments version headers end step heads short linear within h =
           omega (arith, h.bits)
     ]
 
-rest-least : (mode : Mode) (b : ℕ) → b % period mode ≤ b
-rest-least mode b = grind arith
-
 -- what stands for whole periods is shifted away by the cost of a part from the rest on
 word-cost : (mode : Mode) (q cost head b r e before : ℕ) → b % period mode ≡ r → b ≤ e →
     q + period_bits mode * (2 ^ 64 - 2 ^ 13) + period_bits mode * (b / period mode) ≡ before + period_bits mode * 2 ^ 64 →
     cost ≡ head + data_bits mode (characters mode (e - r)) →
     (8192 * period_bits mode ≤ q + cost) × (q + cost - 8192 * period_bits mode ≡ before + (head + data_bits mode (characters mode (e - b))))
 word-cost mode q cost head b r e before rest low stands is = grind arith
-
-shifted-high : (w cost x cand : ℕ) → x ≤ w / 2 ^ 26 + cost → cand ≡ w + cost * 2 ^ 26 - x * 2 ^ 26 → cand / 2 ^ 26 ≡ w / 2 ^ 26 + cost - x
-shifted-high w cost x cand h e = omega arith
 
 shifted-low : (w cost x cand : ℕ) → x ≤ w / 2 ^ 26 + cost → cand ≡ w + cost * 2 ^ 26 - x * 2 ^ 26 → cand % 2 ^ 26 ≡ w % 2 ^ 26
 shifted-low w cost x cand h e = omega arith
@@ -65,9 +58,6 @@ pub record IsSought (segments : List Segment) (version : Version) (end tried bes
 module _ (segments : List Segment) (version : Version) (end : ℕ) (within : end ≤ length segments) (linear : HasLinearCosts segments version) where
   abbrev last_end : ℕ
   last_end = (segment_at segments (end - 1)).end
-
-  pub sought-first : (mode : Mode) → IsSought segments version end 0 18446744073709551615 mode
-  sought-first mode = record { found = λ small. absurd (omega arith); none = λ great i t below. absurd (omega arith) }
 
   -- some start was found in the end
   pub sought-last : (best : ℕ) (mode : Mode) → 0 < end → IsSought segments version end 8 best mode → IsStep segments version end (step_told segments end (record { word = best; mode = mode }))

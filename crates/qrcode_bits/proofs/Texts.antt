@@ -3,7 +3,7 @@ use Rattle.std.proofs.Common.{◌≡◌, ℕ, ◌+◌, ◌-◌, ◌<◌, ◌≤�
 use Rattle.std.specs.Prelude.{All, slice_range}
 use Rattle.std.proofs.lemmas.List.{drop-drop}
 use Rattle.std.proofs.Math.Seq.{take-add, take-length}
-use Rattle.std.proofs.lemmas.List.Elements.{All-head, All-nil, All-cons, All-drop}
+use Rattle.std.proofs.lemmas.List.Elements.{All-head, All-nil, All-drop}
 use Rattle.qrcode_base.specs.declared.types.Mode.TheVariants.{Kanji}
 use Rattle.qrcode_base.specs.Modes.{join}
 use Rattle.qrcode_base.specs.Characters.{is_kanji_pair, IsKanjiText, IsValid}
@@ -19,9 +19,7 @@ use Rattle.qrcode_bits.specs.Choice.{IsMergePlan}
 use Rattle.qrcode_bits.specs.Frame.{message}
 use Rattle.qrcode_bits.proofs.Runs.{class_size-some, joins-same}
 use Rattle.qrcode_bits.proofs.Adjoining.{class_of-one}
-use Rattle.qrcode_bits.proofs.Characters.{between}
 use Rattle.qrcode_bits.proofs.Upward.{valid-append, valid-upward}
-use Rattle.std.proofs.lemmas.Grind.{common_steps}
 
 -- ---- Slices
 

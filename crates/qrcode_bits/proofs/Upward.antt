@@ -3,14 +3,13 @@ use Rattle.std.proofs.Common.{◌≡◌, ℕ, ◌+◌, ◌-◌, ◌<◌, Bool, t
 use Rattle.std.specs.Prelude.{All, Contains, nat_lt, ◌==◌}
 use Rattle.std.proofs.lemmas.Grind.{get_or_default_zero}
 use Rattle.std.proofs.lemmas.Bool.{ltb-true, eqb-true}
-use Rattle.std.proofs.lemmas.List.Elements.{All-head, All-tail, All-nil, All-cons, All-append}
+use Rattle.std.proofs.lemmas.List.Elements.{All-nil, All-append}
 use Rattle.qrcode_base.specs.declared.types.Mode.{Mode}
 use Rattle.qrcode_base.specs.declared.types.Mode.TheVariants.{Numeric, Alphanumeric, Byte, Kanji}
 use Rattle.qrcode_base.specs.Modes.{IsWithin, same, digits, bytes}
 use Rattle.qrcode_base.specs.Characters.{IsDigit, alphabet, alphanumeric_value, IsKanjiText, IsValid}
 use Rattle.qrcode_base.proofs.Alphabet.{each_below, from_each_below}
 use Rattle.qrcode_bits.proofs.Characters.{value_below, character_at_value, kanji_trail, lead_bounds}
-use Rattle.std.proofs.lemmas.Grind.{common_steps}
 
 -- Two texts of a mode, one after the other, are one.
 pub valid-append : (m : Mode) (s t : List ℕ) → IsValid m s → IsValid m t → IsValid m (s ++ t)

@@ -1,7 +1,5 @@
 -- The lesser word is the better start.
-use Rattle.std.proofs.Common.{◌≡◌, ℕ, zero, suc, ◌+◌, ◌-◌, ◌*◌, ◌/◌, ◌%◌, ◌^◌, ◌<◌, ◌≤◌, List, length, Option, Some, None, refl, sym, ap, ◌∙◌, subst, arith, min}
-use Rattle.std.proofs.lemmas.Bool.{cases_lt}
-use Rattle.std.proofs.lemmas.Bool.Decides.{nat_tests}
+use Rattle.std.proofs.Common.{◌≡◌, ℕ, zero, suc, ◌+◌, ◌-◌, ◌*◌, ◌/◌, ◌%◌, ◌^◌, ◌<◌, ◌≤◌, List, length, Some, None, refl, sym, ap, ◌∙◌, subst, arith, min}
 use Rattle.std.proofs.lemmas.List.FromFn.{get_or-map-range_with_len, length-map-range_with_len}
 use Rattle.qrcode_base.specs.declared.types.Mode.{Mode}
 use Rattle.qrcode_base.specs.declared.types.Mode.TheVariants.{Numeric, Alphanumeric, Byte, Kanji}
@@ -30,22 +28,6 @@ some_start j w small = grind arith
 pub no_start : (j w : ℕ) → none ≤ w → bucket_start j w ≡ None
 no_start j w great = grind arith
 
-better-none : (x y c : Option Candidate) → y ≡ None → c ≡ x → IsBetterOf x y c
-better-none x y c n e = grind arith
-
-better-first : (x y c : Option Candidate) → x ≡ None → c ≡ y → IsBetterOf x y c
-better-first x y c n e = grind arith
-
-better-some : (j a b : ℕ) → a < none → b < none → IsBetterOf (Some (start_told (more_in j) a)) (Some (start_told (more_in j) b)) (bucket_start j (min a b))
-better-some j a b p q = grind arith
-
--- the lesser of two words that are no start is none either
-min-none : (j a b : ℕ) → none ≤ a → bucket_start j (min a b) ≡ bucket_start j b
-min-none j a b great = grind arith
-
-pub bucket_start-min : (j a b : ℕ) → IsBetterOf (bucket_start j a) (bucket_start j b) (bucket_start j (min a b))
-bucket_start-min j a b = grind arith
-
 -- ---- A group
 
 pub slot-starts_in : (words : List ℕ) (j : ℕ) → j < 8 → slot (starts_in words) j ≡ bucket_start j (word_at words j)
@@ -67,30 +49,10 @@ absorbs_none first a b none = grind (arith, length-starts_in, slot-starts_in)
 pub empties : (words : List ℕ) → AreNone words → IsEmptyGroup (starts_in words)
 empties words all = (length-starts_in words, λ j inside. slot-starts_in words j inside ∙ no_start j (word_at words j) (all j inside))
 
--- what holds no start after an absorption held none before
-pub whole-absorbed : (first : ℕ) (a b c : List ℕ) → first ≤ 5 → IsWhole a → IsWhole b → length c ≡ 8 → ((k : ℕ) → first ≤ k → k < 6 → word_at c k ≡ min (word_at a k) (word_at b k)) →
-    ((k : ℕ) → k < first → word_at c k ≡ word_at a k) → ((k : ℕ) → 6 ≤ k → word_at c k ≡ word_at a k) → IsWhole c
-whole-absorbed first a b c early one two long least below above = grind arith
-
 -- ---- A start enters
 
 has-single : (mode : Mode) → HasBucket mode 5
 has-single mode = grind arith
-
-offered-there : (mode : Mode) (j bucket word : ℕ) (old new : List ℕ) → HasBucket mode j → IsOffered mode bucket word old new → j ≡ bucket → word_at new j ≡ min (word_at old j) word
-offered-there mode j bucket word old new has h e = ap (word_at new) e ∙ (h.lesser (subst (HasBucket mode) e has) ∙ ap (λ (k : ℕ). min (word_at old k) word) (sym e))
-
-candidate-is : (b p s b' p' s' : ℕ) → b ≡ b' → p ≡ p' → s ≡ s' →
-    ◌≡◌ {A = Candidate} (record { bits = b; parts = p; start = s }) (record { bits = b'; parts = p'; start = s' })
-candidate-is b p s b' p' s' e f g = cc
-
-pub word-told : (more bits parts start : ℕ) → parts < 8192 → start < 8192 →
-    start_told more (word_of bits parts start) ≡ record { bits = bits + more; parts = parts; start = start }
-word-told more bits parts start d e = candidate-is _ _ _ _ _ _ (omega arith) (omega arith) (omega arith)
-
-told-key : (j bits product parts start key : ℕ) (more : ℕ) → more_in j ≡ more → bits + product < 2 ^ 20 → parts < 8192 → start < 8192 → product + more ≡ key →
-    bucket_start j (word_of (bits + product) parts start) ≡ Some (record { bits = bits + key; parts = parts; start = start })
-told-key j bits product parts start key more is few d e same = grind arith
 
 module _ (begin bits parts start : ℕ) (low : begin < 8192) (few : bits < 2 ^ 18) (short : parts < 8192) (early : start < 8192) where
   abbrev thirds : ℕ
@@ -130,23 +92,14 @@ module _ (begin bits parts start : ℕ) (low : begin < 8192) (few : bits < 2 ^ 1
     at-third : (j : ℕ) → HasBucket mode j → j < 3 → begin % 3 ≡ j → word_at new j ≡ min (word_at old j) thirds
     at-third j has b e = grind arith
 
-    past-third : (j : ℕ) → j < 3 → (begin % 3 ≡ j → ⊥) → word_at new j ≡ word_at old j
-    past-third j b ne = grind arith
-
     at-pair : (r : ℕ) → HasBucket mode (3 + r) → r < 2 → begin % 2 ≡ r → word_at new (3 + r) ≡ min (word_at old (3 + r)) pairs
     at-pair r has b e = grind arith
-
-    past-pair : (r : ℕ) → r < 2 → (begin % 2 ≡ r → ⊥) → word_at new (3 + r) ≡ word_at old (3 + r)
-    past-pair r b ne = grind arith
 
     at-single : HasBucket mode 5 → word_at new 5 ≡ min (word_at old 5) singles
     at-single has = fourth.others 5 (λ w. omega arith) ∙ (third.lesser has ∙ ap (λ (z : ℕ). min z singles) (second.others 5 (λ w. omega arith) ∙ first.others 5 (λ w. omega arith)))
 
     at-character : (r : ℕ) → HasBucket mode (6 + r) → r < 2 → begin % 2 ≡ r → word_at new (6 + r) ≡ min (word_at old (6 + r)) characters
     at-character r has b e = grind arith
-
-    past-character : (r : ℕ) → r < 2 → (begin % 2 ≡ r → ⊥) → word_at new (6 + r) ≡ word_at old (6 + r)
-    past-character r b ne = grind arith
 
     entered : (j : ℕ) → HasBucket mode j → j < 8 → begin % period (bucket_mode j) ≡ bucket_rest j →
         IsBetterOf (slot (starts_in old) j) (Some (key_of (bucket_mode j) begin bits parts start)) (slot (starts_in new) j)
