@@ -1,7 +1,7 @@
 -- The choice of the version: a chosen plan fits wherever some plan does, and the first class of versions whose chosen plan fits
 -- decides.
-use Rattle.std.proofs.Common.{◌≡◌, ℕ, zero, suc, ◌+◌, ◌-◌, ◌^◌, ◌<◌, ◌≤◌, List, [], ◌∷◌, ◌++◌, Some, length, refl, sym, ap, ◌∙◌, subst, arith, inl, inr}
-use Rattle.std.specs.Prelude.{All, Option, None, nat_abs}
+use Rattle.std.proofs.Common.{◌≡◌, ℕ, ◌+◌, ◌-◌, ◌^◌, ◌<◌, ◌≤◌, List, [], ◌∷◌, ◌++◌, Some, length, refl, sym, ap, ◌∙◌, subst, arith, inl, inr}
+use Rattle.std.specs.Prelude.{All, Option, nat_abs}
 use Rattle.std.proofs.lemmas.Bool.{cases_lt, cases_eq}
 use Rattle.std.proofs.lemmas.Nat.{pow_below}
 use Rattle.std.proofs.lemmas.List.Elements.{All-head, All-tail, All-nil, All-cons, All-append}
@@ -13,8 +13,7 @@ use Rattle.qrcode_base.specs.declared.types.Mode.{Mode}
 use Rattle.qrcode_base.specs.declared.types.Mode.TheVariants.{Numeric, Alphanumeric, Byte, Kanji}
 use Rattle.qrcode_base.specs.Modes.{IsWithin, same, digits, bytes, join, HasMode}
 use Rattle.std.proofs.lemmas.Option.{slice_get_past}
-use Rattle.qrcode_base.specs.declared.symbols.BlockLayout.{BlockLayout}
-use Rattle.qrcode_base.specs.Symbols.{normal_blocks, capacity, capacity_with}
+use Rattle.qrcode_base.specs.Symbols.{capacity}
 use Rattle.qrcode_base.proofs.Joins.{join-upper, join-upper_second}
 use Rattle.qrcode_base.proofs.Fields.{SameClass, capacity-rises, capacity-held, capacity-double}
 use Rattle.qrcode_bits.specs.declared.optimize.Segment.{Segment}
@@ -26,13 +25,6 @@ use Rattle.qrcode_bits.proofs.Growth.{total_bits-rise, total_bits-same, total_bi
 use Rattle.qrcode_bits.proofs.CuttingPlans.{chosen-cutting, chosen-least}
 
 -- ---- Modes of a version
-
--- every Normal version has every mode
-pub has_every : (n : ℕ) (m : Mode) → HasMode (normal n) m
-has_every n Numeric = omega arith
-has_every n Alphanumeric = omega arith
-has_every n Byte = omega arith
-has_every n Kanji = omega arith
 
 -- a version with the mode of bytes has two bits to tell modes
 wide_enough : (p : ℕ) → 2 < 2 ^ p → 3 < 2 ^ p
@@ -61,38 +53,7 @@ has_within {m = Kanji} (Micro n) bytes h = wide_enough (nat_abs n - 1) h
 
 -- a version that has two modes has their join
 has_join : (v : Version) (a b : Mode) → HasMode v a → HasMode v b → HasMode v (join a b)
-has_join (Normal n) Numeric Numeric h k = h
-has_join (Normal n) Numeric Alphanumeric h k = k
-has_join (Normal n) Numeric Byte h k = k
-has_join (Normal n) Numeric Kanji h k = omega arith
-has_join (Normal n) Alphanumeric Numeric h k = h
-has_join (Normal n) Alphanumeric Alphanumeric h k = h
-has_join (Normal n) Alphanumeric Byte h k = k
-has_join (Normal n) Alphanumeric Kanji h k = omega arith
-has_join (Normal n) Byte Numeric h k = h
-has_join (Normal n) Byte Alphanumeric h k = h
-has_join (Normal n) Byte Byte h k = h
-has_join (Normal n) Byte Kanji h k = h
-has_join (Normal n) Kanji Numeric h k = omega arith
-has_join (Normal n) Kanji Alphanumeric h k = omega arith
-has_join (Normal n) Kanji Byte h k = k
-has_join (Normal n) Kanji Kanji h k = h
-has_join (Micro n) Numeric Numeric h k = h
-has_join (Micro n) Numeric Alphanumeric h k = k
-has_join (Micro n) Numeric Byte h k = k
-has_join (Micro n) Numeric Kanji h k = omega arith
-has_join (Micro n) Alphanumeric Numeric h k = h
-has_join (Micro n) Alphanumeric Alphanumeric h k = h
-has_join (Micro n) Alphanumeric Byte h k = k
-has_join (Micro n) Alphanumeric Kanji h k = omega arith
-has_join (Micro n) Byte Numeric h k = h
-has_join (Micro n) Byte Alphanumeric h k = h
-has_join (Micro n) Byte Byte h k = h
-has_join (Micro n) Byte Kanji h k = h
-has_join (Micro n) Kanji Numeric h k = omega arith
-has_join (Micro n) Kanji Alphanumeric h k = omega arith
-has_join (Micro n) Kanji Byte h k = k
-has_join (Micro n) Kanji Kanji h k = h
+has_join v a b h k = grind arith
 
 module _ (v : Version) where
   abbrev Had : Segment → Type 0
@@ -135,10 +96,7 @@ module _ (v : Version) where
 
   -- All plans of some bytes have their modes in a version, or none has.
   plans-had : (message : List ℕ) (plan other : List Segment) → IsMergePlan message plan → IsMergePlan message other → All Had other → All Had plan
-  plans-had message plan other p q h =
-      let inside = had-pieces q.pieces q.cutting.nonempty (subst (λ (z : List Segment). All Had z) q.merges h) in
-      let all : All Had (joined p.pieces) = subst (λ (z : List Segment). All Had z) (q.cutting.whole ∙ sym p.cutting.whole) inside in
-      subst (λ (z : List Segment). All Had z) (sym p.merges) (pieces-had p.pieces p.cutting.nonempty all)
+  plans-had message plan other p q h = grind (arith, had-pieces, pieces-had)
 
 -- ---- Chosen plans
 
@@ -183,21 +141,15 @@ some_same a b o h k = let e : ◌≡◌ {A = Option ℕ} (Some a) (Some b) = sym
 
 -- a later version holds no less
 pub capacity-grows : (l : EcLevel) (n m c d : ℕ) → n ≤ m → capacity (normal n) l ≡ Some c → capacity (normal m) l ≡ Some d → c ≤ d
-capacity-grows l n m c d h p q = elim (cases_eq n m) [
-  | inl e ↦ (let same : c ≡ d = some_same c d (capacity (normal m) l) (subst (λ (k : ℕ). capacity (normal k) l ≡ Some c) e p) q in omega arith)
-  | inr ne ↦ (let less = capacity-rises l n m c d (omega arith) p q in omega arith)
-]
+capacity-grows l n m c d h p q = grind (arith, capacity-rises)
 
 -- ---- Classes of versions
 
 same_class : (n m : ℕ) → SameClass n m → SameClass m n
-same_class n m (inl h) = inl (h.1, h.0)
-same_class n m (inr (inl h)) = inr (inl (h.2, h.3, h.0, h.1))
-same_class n m (inr (inr h)) = inr (inr (h.1, h.0))
+same_class n m q2 = grind arith
 
 pub all_had : (n : ℕ) (plan : List Segment) → All (λ part. HasMode (normal n) part.mode) plan
-all_had n [] = All-nil (λ part. HasMode (normal n) part.mode)
-all_had n (s ∷ ss) = All-cons (λ part. HasMode (normal n) part.mode) s ss (has_every n s.mode) (all_had n ss)
+all_had n plan = grind arith
 
 chosen_same : (segments plan : List Segment) (n m : ℕ) → 1 ≤ n → 1 ≤ m → SameClass n m → IsChosenPlan segments (normal n) plan → IsChosenPlan segments (normal m) plan
 chosen_same segments plan n m h k class w = record { cuts = w.cuts; chosen = chosen-same segments n m (length segments) w.cuts h k class w.chosen; merges = w.merges }
@@ -223,14 +175,12 @@ module _ (front : ℕ) (message : List ℕ) (l : EcLevel) (before last : ℕ) (p
   class_choice limit number h fits w =
       let some : 1 ≤ number = (capacity-held l number w.limit w.limit_is).0 in
       let early : number ≤ last = w.least last c known fits in
-      let held = w.holds in
       let planned = chosen_is_plan message (normal last) plan chosen in
       let rise = total_bits-rise number last some early plan in
       let late : before < number = elim (cases_lt before number) [
         | inl k ↦ k
         | inr k ↦ absurd (too_long number k plan (fits_normal front number w.limit message l plan planned w.limit_is (omega arith)))
       ] in
-      let equal = total_bits-same number last some (omega arith) (class number late early) plan in
       let here = chosen_same (parsed message) plan last number (omega arith) some (same_class number last (class number late early)) chosen in
       record {
         from_one = some;
@@ -243,10 +193,6 @@ module _ (front : ℕ) (message : List ℕ) (l : EcLevel) (before last : ℕ) (p
         ];
         fewest = chosen_least front message (normal number) plan here;
       }
-
--- nothing fits where there is no version
-pub none_before : (front : ℕ) (message : List ℕ) (l : EcLevel) → FitsNone normal front message l 0
-none_before front message l n h plan w = let some : 1 ≤ n = (capacity-held l n w.limit w.has_level).0 in absurd (omega arith)
 
 -- ---- Version 40
 
@@ -277,7 +223,6 @@ fits_last front n message l plan h w =
     let d = last_capacity l in
     let doubled = total_bits-double n 40 some (omega arith) plan in
     let room = capacity-double l c.0 d.0 c.1 d.1 in
-    let few = w.within in
     fits_normal front 40 d.0 message l plan w.planned d.1 (elim (cases_lt n 27) [
       | inl early ↦ (let low = capacity-grows l n 26 w.limit c.0 (omega arith) w.has_level c.1 in omega arith)
       | inr late ↦ (let low = capacity-grows l n 40 w.limit d.0 h w.has_level d.1 in
@@ -313,17 +258,7 @@ micro_choice message l number plan h none chosen fits = record {
 -- ---- No version holds so many bits
 
 pub past_last : (l : EcLevel) (n c : ℕ) → capacity (normal n) l ≡ Some c → n ≤ 40
-past_last l zero c h = omega arith
-past_last l (suc n) c h = elim (cases_lt n 40) [
-  | inl k ↦ omega arith
-  | inr k ↦ absurd (let none = slice_get_past (normal_blocks l) n (omega (arith, all l)) in
-      let clash : ◌≡◌ {A = Option ℕ} None (Some c) = subst (λ (o : Option BlockLayout). capacity_with (normal (suc n)) o ≡ Some c) none h in cc)
-] where
-  all : (l : EcLevel) → length (normal_blocks l) ≡ 40
-  all L = refl
-  all M = refl
-  all Q = refl
-  all H = refl
+past_last l n c h = grind (arith, slice_get_past)
 
 pub none_holds : (size : ℕ) (l : EcLevel) (number : ℕ) → 41 ≤ number → HoldsLess size l number → (other c : ℕ) → capacity (normal other) l ≡ Some c → c < size
 none_holds size l number h w other c known = w other c (let last = past_last l other c known in omega arith) known

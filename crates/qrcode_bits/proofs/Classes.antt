@@ -1,27 +1,23 @@
 -- A chosen plan decides for its version, and that of the last version of a class for the class.
-use Rattle.std.proofs.Common.{◌≡◌, ℕ, zero, suc, ℤ, false, true, Bool, pos, ◌+◌, ◌-◌, ◌*◌, ◌^◌, ◌<◌, ◌≤◌, List, [], ◌∷◌, length, refl, sym, ap, ◌∙◌, subst, arith, inl, inr, drop, get_or, Result, Ok, Err, add-one, drop-cons}
-use Rattle.std.specs.Prelude.{All, Option, Some, None, nat_abs, nat_le, ◌&&◌, if◌then◌else◌, MatchOption}
+use Rattle.std.proofs.Common.{◌≡◌, ℕ, zero, suc, ℤ, false, pos, ◌+◌, ◌-◌, ◌*◌, ◌^◌, ◌<◌, ◌≤◌, List, [], ◌∷◌, length, sym, ap, subst, arith, inl, inr, drop, get_or, Result, Ok, Err, drop-cons}
+use Rattle.std.specs.Prelude.{All, Option, Some, nat_abs, MatchOption}
 use Rattle.std.proofs.lemmas.Bool.{cases_lt}
 use Rattle.std.proofs.lemmas.List.{drop_all}
 use Rattle.qrcode_base.specs.declared.types.Version.{Version}
 use Rattle.qrcode_base.specs.declared.types.EcLevel.{EcLevel}
-use Rattle.qrcode_base.specs.declared.types.EcLevel.TheVariants.{L, M, Q, H}
 use Rattle.qrcode_base.specs.declared.types.Mode.{Mode}
-use Rattle.qrcode_base.specs.declared.types.Mode.TheVariants.{Numeric, Alphanumeric, Byte, Kanji}
 use Rattle.qrcode_base.specs.declared.types.errors.QrError.{QrError}
 use Rattle.qrcode_base.specs.declared.types.errors.QrError.TheVariants.{DataTooLong, OutOfMemory}
 use Rattle.qrcode_base.specs.declared.symbols.BlockLayout.{BlockLayout}
 use Rattle.qrcode_base.specs.Symbols.{normal_blocks, capacity, capacity_with}
-use Rattle.qrcode_base.specs.Modes.{by_class, HasMode, indicator_width, count_width, data_bits, characters}
+use Rattle.qrcode_base.specs.Modes.{HasMode, indicator_width, count_width}
 use Rattle.qrcode_base.proofs.Fields.{capacity-held, SameClass}
 use Rattle.std.proofs.lemmas.Option.{slice_get-get_or}
 use lib.Signed.{lt_z}
-use Rattle.std.specs.Int.Signed.{lt_z_no}
-use Rattle.std.proofs.lemmas.Float.{T_from_false}
 use Rattle.qrcode_bits.specs.declared.optimize.Segment.{Segment}
 use Rattle.qrcode_bits.specs.Parsing.{parsed, AreTexts}
 use Rattle.qrcode_bits.specs.Merging.{HasLinearCosts, IsChosenPlan, total_bits}
-use Rattle.qrcode_bits.specs.Frame.{Header, HasHeader, header_bits}
+use Rattle.qrcode_bits.specs.Frame.{Header, header_bits}
 use Rattle.qrcode_bits.specs.Stream.{Stream}
 use Rattle.qrcode_bits.specs.Push.{IsPlace}
 use Rattle.qrcode_bits.specs.Pieces.{LiesIn}
@@ -39,24 +35,8 @@ use Rattle.qrcode_bits.proofs.Choices.{chosen_is_plan, chosen_decides, fits_norm
 abbrev pub HasSmallHeaders : Version → Type 0
 HasSmallHeaders v = (m : Mode) → indicator_width v + count_width v m ≤ 20
 
-by_class-most : (n a b c : ℕ) → a ≤ 16 → b ≤ 16 → c ≤ 16 → by_class n a b c ≤ 16
-by_class-most n a b c h k l = go (nat_le 1 n && nat_le n 9) (nat_le 10 n && nat_le n 26) where
-  go : (t u : Bool) → (if t then a else if u then b else c) ≤ 16
-  go true u = h
-  go false true = k
-  go false false = l
-
 pub normal_headers : (n : ℕ) → HasSmallHeaders (normal n)
-normal_headers n Numeric = let w = by_class-most n 10 12 14 (omega arith) (omega arith) (omega arith) in omega arith
-normal_headers n Alphanumeric = let w = by_class-most n 9 11 13 (omega arith) (omega arith) (omega arith) in omega arith
-normal_headers n Byte = let w = by_class-most n 8 16 16 (omega arith) (omega arith) (omega arith) in omega arith
-normal_headers n Kanji = let w = by_class-most n 8 10 12 (omega arith) (omega arith) (omega arith) in omega arith
-
-data_small : (m : Mode) (n : ℕ) → data_bits m (characters m n) ≤ 13 * n
-data_small Numeric n = omega arith
-data_small Alphanumeric n = omega arith
-data_small Byte n = omega arith
-data_small Kanji n = omega arith
+normal_headers n q1 = grind arith
 
 module _ (message : List ℕ) (v : Version) (small : HasSmallHeaders v) (short : length message ≤ 7089) where
   pub short-linear : HasLinearCosts (parsed message) v
@@ -64,14 +44,7 @@ module _ (message : List ℕ) (v : Version) (small : HasSmallHeaders v) (short :
 
   texts-small : (from to : ℕ) (ss : List Segment) → AreTexts message from ss to → total_bits v ss ≤ 33 * (to - from)
   texts-small from to [] t = omega arith
-  texts-small from to (s ∷ ss) t =
-      let r = texts-reach message s.end to ss t.3 in
-      let b = t.0 in
-      let f = t.1 in
-      let rest = texts-small s.end to ss t.3 in
-      let few = small s.mode in
-      let size = data_small s.mode (s.end - s.begin) in
-      omega arith
+  texts-small from to (s ∷ ss) t = grind (arith, texts-reach, texts-small s.end to ss t.3)
 
   pub plan_small : (plan : List Segment) → All (λ c. c < 256) message → IsMergePlan message plan → total_bits v plan < 2 ^ 32
   plan_small plan are w = let few = texts-small 0 (length message) plan (texts-plan message are plan w) in omega arith
@@ -83,8 +56,7 @@ plan_ordered message plan are w = All-map (LiesIn (length message)) (λ s. s.beg
 
 pub known_limit : (o : Option ℕ) (limit : ℕ) (e : QrError) →
     MatchOption o (◌≡◌ {A = Result ℕ QrError} (Ok limit) (Err e)) (λ c. ◌≡◌ {A = Result ℕ QrError} (Ok limit) (Ok c)) → o ≡ Some limit
-known_limit None limit e h = absurd (cc)
-known_limit (Some c) limit e h = let same : c ≡ limit = cc in ap (λ (n : ℕ). Some n) same
+known_limit o limit e h = grind arith
 
 module _ (front : ℕ) (message : List ℕ) (v : Version) (l : EcLevel) (plan : List Segment) (limit : ℕ)
     (chosen : IsChosenPlan (parsed message) v plan) (known : capacity v l ≡ Some limit) where
@@ -99,7 +71,6 @@ module _ (front : ℕ) (message : List ℕ) (v : Version) (l : EcLevel) (plan : 
   -- or it takes too many bits.
   pub too_many : limit < front + total_bits v plan → FitsNot front message v l
   too_many over = chosen_decides front v l message plan chosen (λ fits.
-      let same : ◌≡◌ {A = Option ℕ} (Some limit) (Some fits.limit) = sym known ∙ fits.has_level in
       let equal : limit ≡ fits.limit = cc in
       let within = fits.within in omega arith)
 
@@ -109,10 +80,7 @@ no_blocks : BlockLayout
 no_blocks = record { correction = 0; first_size = 0; first_count = 0; second_size = 0; second_count = 0 }
 
 all_blocks : (l : EcLevel) → length (normal_blocks l) ≡ 40
-all_blocks L = refl
-all_blocks M = refl
-all_blocks Q = refl
-all_blocks H = refl
+all_blocks l = grind arith
 
 last_capacity : (l : EcLevel) (n : ℕ) → 1 ≤ n → n ≤ 40 → (c : ℕ) × (capacity (normal n) l ≡ Some c)
 last_capacity l zero some h = absurd (omega arith)
@@ -128,7 +96,6 @@ fits_later front n m message l plan h most class w =
     let c = last_capacity l m (omega arith) most in
     let grows = capacity-grows l n m w.limit c.0 h w.has_level c.1 in
     let same = total_bits-same n m some (omega arith) class plan in
-    let few = w.within in
     fits_normal front m c.0 message l plan w.planned c.1 (omega arith)
 
 -- Where no plan fits the last version of a class, none fits any version of the class.
@@ -141,23 +108,16 @@ class_fits_not front message l before last most class none unfit n h plan w = el
 
 pub min_number : (size : ℕ) (l : EcLevel) (version : Version) (last c : ℕ) → capacity (normal last) l ≡ Some c → size ≤ c → IsMinVersion size l version →
     (number : ℕ) × (version ≡ normal number) × IsLeastHolding size l number
-min_number size l version last c known fits (inl w) = w
-min_number size l version last c known fits (inr w) = absurd (let less = w.1 last c known in omega arith)
+min_number size l version last c known fits q7 = grind arith
 
 -- the same bits in front, in the same version
 pub front_fits : (message : List ℕ) (l : EcLevel) (last : ℕ) (plan : List Segment) (front bits : ℕ) (v : Version) → front ≡ bits → v ≡ normal last →
     Fits front message v l plan → Fits bits message (normal last) l plan
-front_fits message l last plan front bits v same e h =
-    subst (λ (n : ℕ). Fits n message (normal last) l plan) same (subst (λ (u : Version). Fits front message u l plan) e h)
+front_fits message l last plan front bits v same e h = grind arith
 
 pub front_not : (message : List ℕ) (l : EcLevel) (last front bits : ℕ) (v : Version) → front ≡ bits → v ≡ normal last → FitsNot front message v l → FitsNot bits message (normal last) l
 front_not message l last front bits v same e h =
     subst (λ (n : ℕ). FitsNot n message (normal last) l) same (subst (λ (u : Version). FitsNot front message u l) e h)
-
--- a header of some Normal version is one of each
-has_header : (n m : ℕ) (header : Option Header) → HasHeader (normal n) header → HasHeader (normal m) header
-has_header n m None h = tt
-has_header n m (Some header) h = h
 
 module _ (header : Option Header) (message : List ℕ) (l : EcLevel) (last : ℕ) (plan : List Segment)
     (chosen : IsChosenPlan (parsed message) (normal last) plan) (fits : Fits (length (header_bits header)) message (normal last) l plan)
@@ -172,17 +132,11 @@ module _ (header : Option Header) (message : List ℕ) (l : EcLevel) (last : ℕ
   pub class_fits : Fits (length (header_bits header)) message version l plan
   class_fits =
       let m = least_version in
-      let few = fits.within in
       let holding = m.2 in
       let some : 1 ≤ m.0 = (capacity-held l m.0 holding.limit holding.limit_is).0 in
-      let early : m.0 ≤ last = holding.least last fits.limit fits.has_level few in
-      let held = holding.holds in
-      let rise = total_bits-rise m.0 last some early plan in
+      let rise = total_bits-rise m.0 last some (holding.least last fits.limit fits.has_level fits.within) plan in
       subst (λ (v : Version). Fits (length (header_bits header)) message v l plan) (sym m.1)
       (fits_normal (length (header_bits header)) m.0 holding.limit message l plan fits.planned holding.limit_is (omega arith))
-
-  pub class_header : HasHeader (normal last) header → HasHeader version header
-  class_header has = let m = least_version in subst (λ (v : Version). HasHeader v header) (sym m.1) (has_header last m.0 header has)
 
   -- and is the choice there, where no plan fits a version before the class.
   pub class_encoding : (stream : Stream) → IsPlanStream header message version l plan stream → (before limit : ℕ) → IsClass before last → last ≤ limit →
@@ -201,9 +155,7 @@ module _ (header : Option Header) (message : List ℕ) (l : EcLevel) (last : ℕ
 -- the last version that comes next
 pub classes_here : (before limit : ℕ) (xs : List ℕ) (i : ℕ) → i < length xs → ClassesUpTo before (drop i xs) limit →
     ClassesUpTo before (get_or xs i 0 ∷ drop (i + 1) xs) limit
-classes_here before limit xs i h w =
-    let here : drop i xs ≡ get_or xs i 0 ∷ drop (i + 1) xs = drop-cons xs i 0 h ∙ ap (λ (n : ℕ). get_or xs i 0 ∷ drop n xs) (sym (add-one i)) in
-    subst (λ (z : List ℕ). ClassesUpTo before z limit) here w
+classes_here before limit xs i h w = grind (arith, drop-cons)
 
 -- no class is left
 pub classes_end : (before limit : ℕ) (xs : List ℕ) (i : ℕ) → length xs ≤ i → ClassesUpTo before (drop i xs) limit → limit ≤ before
@@ -228,5 +180,4 @@ refused_part place total message l z n front OutOfMemory h p same size r = (h, p
 refused_part place total message l z n front other h p same size r = absurd r
 
 pub limit_of : (z y : ℤ) → y ≡ z → lt_z y (pos 1) ≡ false → lt_z (pos 40) y ≡ false → IsLimit z
-limit_of z y e low high =
-    subst (λ (x : ℤ). IsLimit x) e (lt_z_no (T_from_false (lt_z y (pos 1)) low), lt_z_no (T_from_false (lt_z (pos 40) y) high))
+limit_of z y e low high = grind arith

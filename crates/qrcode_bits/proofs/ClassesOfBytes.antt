@@ -1,6 +1,6 @@
 -- The classes of bytes by their numbers, computed at each byte, and what stands at a place.
-use Rattle.std.proofs.Common.{◌≡◌, ℕ, suc, ◌+◌, ◌-◌, ◌<◌, ◌≤◌, Bool, true, false, List, [], ◌∷◌, length, drop, get_or, refl, ap, sym, ◌∙◌, arith, inl, inr, ◌⊎◌}
-use Rattle.std.specs.Prelude.{map, ◌&&◌, if◌then◌else◌}
+use Rattle.std.proofs.Common.{◌≡◌, ℕ, suc, ◌+◌, ◌-◌, ◌<◌, ◌≤◌, Bool, true, false, List, ◌∷◌, length, drop, get_or, refl, ap, sym, ◌∙◌, arith, inl, inr, ◌⊎◌}
+use Rattle.std.specs.Prelude.{map, if◌then◌else◌}
 use Rattle.std.specs.List.{range_with_len}
 use Rattle.std.proofs.Math.Seq.{drop-cons}
 use Rattle.std.proofs.lemmas.Bool.{cases_lt}
@@ -13,7 +13,7 @@ use Rattle.qrcode_bits.specs.declared.optimize.parser.Class.TheVariants.{Pair, L
 use Rattle.qrcode_bits.specs.Parsing.{class_number, class_numbered, class_of, class_size, units, joins, parsed_from}
 use Rattle.qrcode_bits.specs.Parsing.{class_mode}
 use Rattle.qrcode_bits.proofs.Adjoining.{class_of-one}
-use Rattle.qrcode_bits.proofs.Runs.{IsRun, Run-first, Run-more, Run-apart, Run-last, joins-same}
+use Rattle.qrcode_bits.proofs.Runs.{IsRun, Run-first, Run-more, Run-apart, Run-last}
 
 -- ---- The table
 
@@ -27,10 +27,7 @@ CLASSES-at b within =
 
 alone_numbered : (lead digit sign : Bool) → class_numbered (class_number (if lead then LoneLead else if digit then Digit else if sign then Sign else Other))
     ≡ (if lead then LoneLead else if digit then Digit else if sign then Sign else Other)
-alone_numbered true digit sign = refl
-alone_numbered false true sign = refl
-alone_numbered false false true = refl
-alone_numbered false false false = refl
+alone_numbered lead digit sign = grind arith
 
 -- a byte's class by its number
 pub numbered-is : (b n : ℕ) → n ≡ class_number (class_of b) → class_numbered n ≡ class_of b
@@ -40,24 +37,13 @@ not_pair : (b : ℕ) → class_of b ≡ Pair → ⊥
 not_pair b is = let one = class_of-one b in let two : class_size (class_of b) ≡ 2 = ap class_size is in omega arith
 
 joins-apart : (c d : Class) → (c ≡ d → ⊥) → joins c d ≡ false
-joins-apart c d apart = go (joins c d) refl where
-  go : (t : Bool) → joins c d ≡ t → joins c d ≡ false
-  go true e = absurd (apart (joins-same c d e))
-  go false e = e
+joins-apart c d apart = grind arith
 
 lone_apart : (d : Class) → joins LoneLead d ≡ false
-lone_apart Pair = refl
-lone_apart LoneLead = refl
-lone_apart Digit = refl
-lone_apart Sign = refl
-lone_apart Other = refl
+lone_apart d = grind arith
 
 joins-self : (c : Class) → (c ≡ LoneLead → ⊥) → joins c c ≡ true
-joins-self Pair other = refl
-joins-self LoneLead other = absurd (other refl)
-joins-self Digit other = refl
-joins-self Sign other = refl
-joins-self Other other = refl
+joins-self c other = grind arith
 
 -- ---- What stands at a place
 
@@ -65,16 +51,10 @@ abbrev unit_or_pair : Bool → ℕ → ℕ → List ℕ → List Class
 unit_or_pair pair a b rest = elim pair [ true ↦ Pair ∷ units rest | false ↦ class_of a ∷ units (b ∷ rest) ]
 
 drop-two : (bytes : List ℕ) (at : ℕ) → at + 2 ≤ length bytes → drop at bytes ≡ get_or bytes at 0 ∷ get_or bytes (at + 1) 0 ∷ drop (at + 2) bytes
-drop-two bytes at within =
-    let one : suc at ≡ at + 1 = omega arith in
-    let two : suc (at + 1) ≡ at + 2 = omega arith in
-    drop-cons bytes at 0 (omega arith)
-    ∙ ap (λ (z : List ℕ). get_or bytes at 0 ∷ z) (ap (λ (n : ℕ). drop n bytes) one ∙ (drop-cons bytes (at + 1) 0 (omega arith)
-    ∙ ap (λ (n : ℕ). get_or bytes (at + 1) 0 ∷ drop n bytes) two))
+drop-two bytes at within = grind (arith, drop-cons)
 
 pub units_pair : (bytes : List ℕ) (at : ℕ) → at + 2 ≤ length bytes → is_kanji_pair (get_or bytes at 0) (get_or bytes (at + 1) 0) ≡ true → units (drop at bytes) ≡ Pair ∷ units (drop (at + 2) bytes)
-units_pair bytes at within pair =
-    ap units (drop-two bytes at within) ∙ ap (λ (z : Bool). unit_or_pair z (get_or bytes at 0) (get_or bytes (at + 1) 0) (drop (at + 2) bytes)) pair
+units_pair bytes at within pair = grind (arith, drop-two)
 
 units_alone : (bytes : List ℕ) (at : ℕ) → at + 2 ≤ length bytes → is_kanji_pair (get_or bytes at 0) (get_or bytes (at + 1) 0) ≡ false →
     units (drop at bytes) ≡ class_of (get_or bytes at 0) ∷ units (drop (at + 1) bytes)
@@ -84,23 +64,10 @@ units_alone bytes at within pair =
     ∙ ap (λ (z : List ℕ). class_of (get_or bytes at 0) ∷ units z) (sym (drop-cons bytes (at + 1) 0 (omega arith) ∙ ap (λ (n : ℕ). get_or bytes (at + 1) 0 ∷ drop n bytes) two)))
 
 pub units_last : (bytes : List ℕ) (at : ℕ) → length bytes - at < 2 → at < length bytes → units (drop at bytes) ≡ class_of (get_or bytes at 0) ∷ units (drop (at + 1) bytes)
-units_last bytes at short within =
-    let none : drop (suc at) bytes ≡ [] = drop_all (suc at) bytes (omega arith) in
-    let past : drop (at + 1) bytes ≡ [] = drop_all (at + 1) bytes (omega arith) in
-    ap units (drop-cons bytes at 0 within ∙ ap (λ (z : List ℕ). get_or bytes at 0 ∷ z) none) ∙ ap (λ (z : List ℕ). class_of (get_or bytes at 0) ∷ units z) (sym past)
-
--- a byte of another class begins no pair
-no_lead : (lead : Bool) (rest : Class) → ((if lead then LoneLead else rest) ≡ LoneLead → ⊥) → lead ≡ false
-no_lead true rest other = absurd (other refl)
-no_lead false rest other = refl
-
-not_both : (a b : Bool) → a ≡ false → (a && b) ≡ false
-not_both true b e = absurd (cc)
-not_both false b e = refl
+units_last bytes at short within = grind (arith, drop_all, drop-cons)
 
 no_pair : (a b : ℕ) → (class_of a ≡ LoneLead → ⊥) → is_kanji_pair a b ≡ false
-no_pair a b other =
-    not_both (is_lead a) _ (no_lead (is_lead a) (if is_between 48 57 a then Digit else if is_alphanumeric a then Sign else Other) other)
+no_pair a b other = grind arith
 
 units_other : (bytes : List ℕ) (at : ℕ) → at < length bytes → (class_of (get_or bytes at 0) ≡ LoneLead → ⊥) → units (drop at bytes) ≡ class_of (get_or bytes at 0) ∷ units (drop (at + 1) bytes)
 units_other bytes at within other = elim (cases_lt (at + 1) (length bytes)) [
@@ -113,12 +80,10 @@ abbrev NextUnit : List ℕ → ℕ → Type 0
 NextUnit bytes at = (d : Class) × ((d ≡ class_of (get_or bytes at 0)) ⊎ (d ≡ Pair)) × (units (drop at bytes) ≡ d ∷ units (drop (at + class_size d) bytes))
 
 next_alone : (bytes : List ℕ) (at : ℕ) → units (drop at bytes) ≡ class_of (get_or bytes at 0) ∷ units (drop (at + 1) bytes) → NextUnit bytes at
-next_alone bytes at h =
-    (class_of (get_or bytes at 0), inl refl, h ∙ ap (λ (n : ℕ). class_of (get_or bytes at 0) ∷ units (drop (at + n) bytes)) (sym (class_of-one (get_or bytes at 0))))
+next_alone bytes at h = grind arith
 
 next_by : (bytes : List ℕ) (at : ℕ) (t : Bool) → at + 2 ≤ length bytes → is_kanji_pair (get_or bytes at 0) (get_or bytes (at + 1) 0) ≡ t → NextUnit bytes at
-next_by bytes at true within e = (Pair, inr refl, units_pair bytes at within e)
-next_by bytes at false within e = next_alone bytes at (units_alone bytes at within e)
+next_by bytes at t within e = grind (arith, units_pair, next_alone, units_alone)
 
 next_unit : (bytes : List ℕ) (at : ℕ) → at < length bytes → NextUnit bytes at
 next_unit bytes at within = elim (cases_lt (at + 1) (length bytes)) [
@@ -132,10 +97,7 @@ next_unit bytes at within = elim (cases_lt (at + 1) (length bytes)) [
 run_stops : (bytes : List ℕ) (c : Class) (begin end : ℕ) → IsRun bytes c begin end →
     (end < length bytes → (d : Class) × (joins c d ≡ false) × (units (drop end bytes) ≡ d ∷ units (drop (end + class_size d) bytes))) →
     parsed_from begin (drop begin bytes) ≡ record { mode = class_mode c; begin = begin; end = end } ∷ parsed_from end (drop end bytes)
-run_stops bytes c begin end run next = elim (cases_lt end (length bytes)) [
-  | inl w ↦ let n = next w in Run-apart bytes c n.0 begin end n.1 n.2 run
-  | inr w ↦ Run-last bytes c begin end w run
-]
+run_stops bytes c begin end run next = grind (arith, Run-apart, Run-last)
 
 module _ (bytes : List ℕ) (begin : ℕ) (within : begin < length bytes) where
   abbrev class : Class
@@ -177,9 +139,6 @@ pub lone_stops : (bytes : List ℕ) (begin : ℕ) → begin < length bytes → c
 lone_stops bytes begin within lone unit =
     run_stops bytes LoneLead begin (begin + 1) (Run-first bytes LoneLead begin 1 refl (unit ∙ ap (λ (d : Class). d ∷ units (drop (begin + 1) bytes)) lone)) (λ w.
     let n = next_unit bytes (begin + 1) w in (n.0, lone_apart n.0, n.2))
-
-pub pair_first : (bytes : List ℕ) (begin : ℕ) → units (drop begin bytes) ≡ Pair ∷ units (drop (begin + 2) bytes) → IsRun bytes Pair begin (begin + 2)
-pair_first bytes begin unit = Run-first bytes Pair begin 2 refl unit
 
 pub pair_more : (bytes : List ℕ) (begin end : ℕ) → units (drop end bytes) ≡ Pair ∷ units (drop (end + 2) bytes) → IsRun bytes Pair begin end → IsRun bytes Pair begin (end + 2)
 pair_more bytes begin end unit run = Run-more bytes Pair Pair begin end 2 refl refl unit run

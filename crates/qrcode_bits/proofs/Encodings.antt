@@ -1,10 +1,10 @@
 -- The stream of a plan that fits: no push is refused but for memory, and up to the capacity it is a frame.
-use Rattle.std.proofs.Common.{◌≡◌, ℕ, ◌+◌, ◌<◌, ◌≤◌, Bool, List, ◌++◌, Some, length, take, refl, sym, ap, ◌∙◌, subst, arith, length-append}
-use Rattle.std.specs.Prelude.{All, Option, None}
+use Rattle.std.proofs.Common.{◌≡◌, ℕ, ◌+◌, ◌<◌, Bool, List, ◌++◌, Some, length, take, sym, ap, ◌∙◌, subst, arith, length-append}
+use Rattle.std.specs.Prelude.{All, Option}
 use Rattle.qrcode_base.specs.declared.types.Version.{Version}
 use Rattle.qrcode_base.specs.declared.types.EcLevel.{EcLevel}
 use Rattle.qrcode_base.specs.declared.types.errors.QrError.{QrError}
-use Rattle.qrcode_base.specs.declared.types.errors.QrError.TheVariants.{InvalidVersion, DataTooLong, OutOfMemory}
+use Rattle.qrcode_base.specs.declared.types.errors.QrError.TheVariants.{OutOfMemory}
 use Rattle.qrcode_base.specs.Symbols.{capacity}
 use Rattle.qrcode_bits.specs.declared.bits.modes.EncodingModes.{EncodingModes}
 use Rattle.qrcode_bits.specs.declared.optimize.Segment.{Segment}
@@ -22,14 +22,6 @@ use Rattle.qrcode_bits.proofs.PlanFrames.{spelled_plan, plan_frame}
 
 -- ---- Refusals
 
--- an end that fits is refused for memory alone
-pub end_refused : (old : Stream) (level : EcLevel) (limit : ℕ) (e : QrError) → capacity old.version level ≡ Some limit → length old.bits ≤ limit → IsLevelRefused old level e → e ≡ OutOfMemory
-end_refused old level limit (InvalidVersion version asked) known fits r = absurd (let none : ◌≡◌ {A = Option ℕ} None (Some limit) = sym r.1.1 ∙ known in cc)
-end_refused old level limit DataTooLong known fits r =
-    absurd (let same : ◌≡◌ {A = Option ℕ} (Some r.0) (Some limit) = sym r.1 ∙ known in let equal : r.0 ≡ limit = cc in let over = r.2 in omega arith)
-end_refused old level limit OutOfMemory known fits r = refl
-end_refused old level limit other known fits r = absurd r.2
-
 -- ---- The stream of a plan, behind a header or none
 
 module _ (header : Option Header) (bytes : List ℕ) (are : All (λ c. c < 256) bytes) (v : Version) (level : EcLevel) (plan : List Segment)
@@ -38,8 +30,7 @@ module _ (header : Option Header) (bytes : List ℕ) (are : All (λ c. c < 256) 
   pieces = segment_pieces bytes plan
 
   pushed_bits : (middle : Stream) → SpellsAll start middle (segment_pieces bytes plan) → middle.bits ≡ header_bits header ++ spellings v (segment_pieces bytes plan)
-  pushed_bits middle w =
-      w.bits_are ∙ (ap (λ (z : List Bool). z ++ spellings start.version pieces) begun ∙ ap (λ (u : Version). header_bits header ++ spellings u pieces) version)
+  pushed_bits middle w = grind arith
 
   pushed_version : (middle : Stream) → SpellsAll start middle (segment_pieces bytes plan) → middle.version ≡ v
   pushed_version middle w = w.version_is ∙ version
@@ -50,9 +41,7 @@ module _ (header : Option Header) (bytes : List ℕ) (are : All (λ c. c < 256) 
       omega (arith, ap (λ (z : List Bool). length z) (pushed_bits middle w), length-append (header_bits header) (spellings v pieces), size)
 
   pub plan_end_refused : (middle : Stream) (e : QrError) → SpellsAll start middle (segment_pieces bytes plan) → IsLevelRefused middle level e → e ≡ OutOfMemory
-  plan_end_refused middle e w r =
-      end_refused middle level fits.limit e (subst (λ (u : Version). capacity u level ≡ Some fits.limit) (sym (pushed_version middle w)) fits.has_level)
-      (omega (arith, pushed_size middle w, fits.within)) r
+  plan_end_refused middle e w r = grind (arith, pushed_size)
 
   pub plan_stream : (middle last : Stream) → HasHeader v header → start.modes ≡ no_modes → SpellsAll start middle (segment_pieces bytes plan) → EndsAtLevel middle last level →
       IsPlanStream header bytes v level plan last

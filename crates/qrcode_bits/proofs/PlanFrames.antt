@@ -1,16 +1,16 @@
 -- The parts of a plan that fits, spelled one after the other, are the front of a frame of the bytes.
-use Rattle.std.proofs.Common.{◌≡◌, ◌≢◌, ℕ, ◌+◌, ◌-◌, ◌^◌, ◌<◌, ◌≤◌, Bool, List, [], ◌∷◌, ◌++◌, length, take, drop, refl, sym, ap, subst, arith, length-append, length-drop}
+use Rattle.std.proofs.Common.{◌≡◌, ◌≢◌, ℕ, ◌+◌, ◌-◌, ◌<◌, ◌≤◌, Bool, List, [], ◌∷◌, ◌++◌, length, take, drop, refl, ap, subst, arith, length-append, length-drop}
 use Rattle.std.specs.Prelude.{All, Option, slice_range}
 use Rattle.std.proofs.lemmas.List.{length-take-le}
 use Rattle.std.proofs.lemmas.List.Elements.{All-head, All-tail}
 use Rattle.qrcode_base.specs.declared.types.Version.{Version}
 use Rattle.qrcode_base.specs.declared.types.EcLevel.{EcLevel}
-use Rattle.qrcode_base.specs.Modes.{HasMode, count_width, data_bits, characters}
+use Rattle.qrcode_base.specs.Modes.{HasMode, data_bits, characters}
 use Rattle.qrcode_base.specs.Characters.{IsValid}
 use Rattle.qrcode_bits.specs.declared.optimize.Segment.{Segment}
 use Rattle.qrcode_bits.specs.Parsing.{AreTexts}
 use Rattle.qrcode_bits.specs.Merging.{segment_bits, total_bits}
-use Rattle.qrcode_bits.specs.Spelling.{IsSpellable, character_count, spelling}
+use Rattle.qrcode_bits.specs.Spelling.{spelling}
 use Rattle.qrcode_bits.specs.Frame.{Header, HasHeader, header_bits, AreSpelled, spellings, message, ended, IsFrame}
 use Rattle.qrcode_bits.specs.Pieces.{segment_piece, segment_pieces}
 use Rattle.qrcode_bits.specs.Choice.{Fits}
@@ -19,6 +19,7 @@ use Rattle.qrcode_bits.proofs.Reading.{length-spelling}
 use Rattle.qrcode_bits.proofs.Segments.{length-character_bits}
 use Rattle.qrcode_bits.proofs.Frames.{ended_frame}
 use Rattle.qrcode_bits.proofs.Texts.{texts-reach, texts-plan, plan_message}
+use Rattle.std.proofs.lemmas.Grind.{common_steps}
 
 pub length-slice : (xs : List ℕ) (a b : ℕ) → a ≤ b → b ≤ length xs → length (slice_range xs a b) ≡ b - a
 length-slice xs a b h k = length-take-le (b - a) (drop a xs) (omega (arith, length-drop a xs))
@@ -38,41 +39,23 @@ module _ (v : Version) (whole : List ℕ) where
       let count = ap (λ (n : ℕ). data_bits s.mode (characters s.mode n)) (size s h k) in
       omega (arith, length-spelling v (segment_piece whole s), length-character_bits s.mode (text s) valid, count)
 
-  spellable : (s : Segment) → s.begin < s.end → s.end ≤ length whole → IsValid s.mode (text s) → HasMode v s.mode →
-      characters s.mode (s.end - s.begin) < 2 ^ count_width v s.mode → IsSpellable v (segment_piece whole s)
-  spellable s h k valid has counted =
-      let below : character_count s.mode (text s) < 2 ^ count_width v s.mode = subst (λ (n : ℕ). characters s.mode n < 2 ^ count_width v s.mode) (sym (size s h k)) counted in
-      record { mode = has; valid = valid; counted = below }
-
   non_empty : (s : Segment) → s.begin < s.end → s.end ≤ length whole → text s ≢ []
   non_empty s h k e = let none : length (text s) ≡ 0 = ap (λ (z : List ℕ). length z) e in let n = size s h k in absurd (omega arith)
 
   -- the first of some texts
   own : (from to : ℕ) (s : Segment) (ss : List Segment) → AreTexts whole from (s ∷ ss) to → to ≤ length whole → (s.begin < s.end) × (s.end ≤ length whole) × IsValid s.mode (text s)
-  own from to s ss h k =
-      let r = texts-reach whole s.end to ss h.3 in
-      let b = h.0 in
-      let f = h.1 in (
-        omega arith,
-        omega arith,
-        subst (λ (n : ℕ). IsValid s.mode (slice_range whole n s.end)) (sym h.0) h.2,
-      )
+  own from to s ss h k = grind (arith, texts-reach)
 
   -- Their spellings take the bits of the segments.
   pub length-spelled : (from to : ℕ) (ss : List Segment) → AreTexts whole from ss to → to ≤ length whole → length (spellings v (segment_pieces whole ss)) ≡ total_bits v ss
   length-spelled from to [] h k = refl
-  length-spelled from to (s ∷ ss) h k =
-      let w = own from to s ss h k in
-      omega (arith, length-append (spelling v (segment_piece whole s)) (spellings v (segment_pieces whole ss)), spelled_size s w.0 w.1 w.2, length-spelled s.end to ss h.3 k)
+  length-spelled from to (s ∷ ss) h k = grind (arith, own, length-append, spelled_size, length-spelled s.end to ss h.3 k)
 
   -- Each can be spelled, where the version has the modes and the counts fit.
   pub texts-spelled : (from to : ℕ) (ss : List Segment) → AreTexts whole from ss to → to ≤ length whole → All (λ part. HasMode v part.mode) ss → CountsFit v ss → AreSpelled v (segment_pieces whole ss)
   texts-spelled from to [] h k has counted = tt
   texts-spelled from to (s ∷ ss) h k has counted =
-      let w = own from to s ss h k in (
-        (spellable s w.0 w.1 w.2 (All-head (λ part. HasMode v part.mode) s ss has) counted.0, non_empty s w.0 w.1),
-        texts-spelled s.end to ss h.3 k (All-tail (λ part. HasMode v part.mode) s ss has) counted.1,
-      )
+      grind (arith, common_steps, own, All-head, non_empty, All-tail, texts-spelled s.end to ss h.3 k (All-tail (λ part. HasMode v part.mode) s ss has) counted.1)
 
 -- ---- The frame of a plan
 
@@ -86,7 +69,6 @@ pub spelled_plan : (front : ℕ) (v : Version) (l : EcLevel) (bytes : List ℕ) 
     Fits front bytes v l plan → IsSpelledPlan v bytes plan
 spelled_plan front v l bytes plan are fits =
     let texts = texts-plan bytes are plan fits.planned in
-    let few = fits.within in
     record {
       spelled = texts-spelled v bytes 0 (length bytes) plan texts (omega arith) fits.has_modes (fits-counts v l fits.limit plan fits.has_level (omega arith));
       whole = plan_message bytes plan texts;
@@ -104,7 +86,6 @@ plan_frame v l header bytes plan are has fits =
     let payload : List Bool = header_bits header ++ spellings v (segment_pieces bytes plan) in
     let size : length payload ≡ length (header_bits header) + total_bits v plan =
     omega (arith, length-append (header_bits header) (spellings v (segment_pieces bytes plan)), w.bits) in
-    let few = fits.within in
     subst (λ (s : List ℕ). IsFrame v l header s (length (header_bits header) + total_bits v plan) (take fits.limit (ended v fits.limit payload))) w.whole
     (subst (λ (n : ℕ). IsFrame v l header (message (segment_pieces bytes plan)) n (take fits.limit (ended v fits.limit payload))) size
     (ended_frame v l fits.limit header (segment_pieces bytes plan) fits.has_level has w.spelled (omega arith)))

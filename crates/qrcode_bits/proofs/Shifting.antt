@@ -1,7 +1,7 @@
 -- Bytes behind bits that are no whole byte yet: each place has the low bits of one byte and the high bits of the next.
-use Rattle.std.proofs.Common.{◌≡◌, ℕ, suc, ◌+◌, ◌-◌, ◌*◌, ◌/◌, ◌%◌, ◌^◌, ◌<◌, ◌≤◌, Bool, List, [], ◌∷◌, ◌++◌, length, refl, sym, ap, ◌∙◌, arith, take, drop, append_assoc, append-nil, add_comm}
+use Rattle.std.proofs.Common.{◌≡◌, ℕ, suc, ◌+◌, ◌-◌, ◌*◌, ◌/◌, ◌%◌, ◌^◌, ◌<◌, ◌≤◌, Bool, List, [], ◌∷◌, ◌++◌, length, sym, ap, ◌∙◌, arith, take, append_assoc, append-nil, add_comm}
 use Rattle.std.specs.Prelude.{slice_index_or, bit_and}
-use Rattle.std.proofs.lemmas.Nat.{pow-add, pow_pos, and_mask}
+use Rattle.std.proofs.lemmas.Nat.{pow-add, and_mask}
 use Rattle.std.proofs.lemmas.List.{drop_all, length-drop}
 use Rattle.std.proofs.Math.Seq.{take-append_seam}
 use borrow.Rule.Slice.PartMut.{post_of}
@@ -14,8 +14,7 @@ low_free : (used before byte : ℕ) → used < 8 → number_bits used (before * 
 low_free used before byte part =
     let eight : 8 - used + used ≡ 8 = omega arith in
     let power : 2 ^ 8 ≡ 2 ^ (8 - used) * 2 ^ used = ap (λ (n : ℕ). 2 ^ n) (sym eight) ∙ pow-add 2 (8 - used) used in
-    let split : before * 2 ^ 8 + byte ≡ before * 2 ^ (8 - used) * 2 ^ used + byte = rw power (omega arith) in
-    ap (λ (n : ℕ). number_bits used n) split ∙ high_free used (before * 2 ^ (8 - used)) byte
+    ap (λ (n : ℕ). number_bits used n) (rw power (omega arith)) ∙ high_free used (before * 2 ^ (8 - used)) byte
 
 -- one byte more
 one_shifted : (used before byte : ℕ) → used < 8 → byte < 2 ^ 8 →
@@ -34,57 +33,35 @@ shifted_bits used partial [] [] part small are = append-nil (number_bits used pa
 shifted_bits used partial [] (c ∷ cs) part small are = absurd (let long = are.long in omega arith)
 shifted_bits used partial (b ∷ text) [] part small are = absurd (let long = are.long in omega arith)
 shifted_bits used partial (b ∷ text) (c ∷ cs) part small are =
-    let here : c ≡ shifted used partial b = are.are 0 (omega arith) in
     let rest : AreShifted used b text cs = record { long = (let long = are.long in omega arith); are = λ k below. are.are (suc k) (omega arith) } in
     sym (append_assoc (number_bits used partial) (number_bits 8 b) (byte_bits text))
     ∙ (ap (λ (z : List Bool). z ++ byte_bits text) (one_shifted used partial b part (small 0))
     ∙ (append_assoc (number_bits 8 (shifted used partial b)) (number_bits used b) (byte_bits text)
-    ∙ (ap (λ (n : ℕ). number_bits 8 n ++ (number_bits used b ++ byte_bits text)) (sym here)
+    ∙ (ap (λ (n : ℕ). number_bits 8 n ++ (number_bits used b ++ byte_bits text)) (sym (are.are 0 (omega arith)))
     ∙ (ap (λ (z : List Bool). number_bits 8 c ++ z) (shifted_bits used b text cs part (λ k. small (suc k)) rest)
     ∙ sym (append_assoc (number_bits 8 c) (byte_bits cs) (number_bits used (slice_index_or (b ∷ text) (length text) 0)))))))
 
 -- the stream with the bytes in their places
 pub kept_shifted : (old : List ℕ) (used partial left : ℕ) (text bytes : List ℕ) → used < 8 → ((k : ℕ) → slice_index_or text k 0 < 2 ^ 8) → AreShifted used partial text bytes →
     left ≡ slice_index_or (partial ∷ text) (length text) 0 % 2 ^ used → kept_bits (old ++ bytes) used left ≡ kept_bits old used partial ++ byte_bits text
-kept_shifted old used partial left text bytes part small are is =
-    let last : ℕ = slice_index_or (partial ∷ text) (length text) 0 in
-    ap (λ (z : List Bool). z ++ number_bits used left) (flat_map-append (number_bits 8) old bytes)
-    ∙ (append_assoc (byte_bits old) (byte_bits bytes) (number_bits used left)
-    ∙ (ap (λ (n : ℕ). byte_bits old ++ (byte_bits bytes ++ number_bits used n)) is
-    ∙ (ap (λ (z : List Bool). byte_bits old ++ (byte_bits bytes ++ z)) (number_bits-mod used last)
-    ∙ (ap (λ (z : List Bool). byte_bits old ++ z) (sym (shifted_bits used partial text bytes part small are))
-    ∙ sym (append_assoc (byte_bits old) (number_bits used partial) (byte_bits text))))))
+kept_shifted old used partial left text bytes part small are is = grind (arith, flat_map-append, append_assoc, number_bits-mod, shifted_bits)
 
 -- ---- The stream
 
 pub kept_more : (len cap cap' used partial left n word : ℕ) → IsKept len cap used partial → 8 * n ≤ room_in cap len used → cap ≤ cap' → left ≡ word % 2 ^ used → IsKept (len + n) cap' used left
-kept_more len cap cap' used partial left n word kept room grows is = record {
-  part = kept.part;
-  small = (let some = pow_pos used in omega arith);
-  placed = (let p = kept.placed in omega arith);
-  counted = (let c = kept.counted in omega arith);
-}
+kept_more len cap cap' used partial left n word kept room grows is = grind arith
 
 -- the bytes that were there, and these in place of those behind them
 pub replaced : (bytes text whole filled : List ℕ) (start : ℕ) → whole ≡ bytes ++ text → start ≡ length bytes →
     take start whole ++ (filled ++ post_of start (length whole - start) whole) ≡ bytes ++ filled
-replaced bytes text whole filled start is from =
-    let front : take start whole ≡ bytes = ap (λ (z : List ℕ). take start z) is ∙ (ap (λ (n : ℕ). take n (bytes ++ text)) from ∙ take-append_seam bytes text) in
-    let behind : post_of start (length whole - start) whole ≡ [] = drop_all (length whole - start) (drop start whole) (omega (arith, length-drop start whole)) in
-    rw (front, behind, append-nil filled) refl
+replaced bytes text whole filled start is from = grind (arith, take-append_seam, drop_all, length-drop, append-nil)
 
 pub appends_shifted : (old : Stream) (bytes now text filled : List ℕ) (len len' cap cap' used partial left : ℕ) → old.bits ≡ kept_bits bytes used partial → old.room ≡ room_in cap len used →
     now ≡ bytes ++ filled → len' ≡ len + length text → cap ≤ cap' → used < 8 → ((k : ℕ) → slice_index_or text k 0 < 2 ^ 8) → AreShifted used partial text filled →
     left ≡ slice_index_or (partial ∷ text) (length text) 0 % 2 ^ used →
     Appends old (record { bits = kept_bits now used left; version = old.version; modes = old.modes; payload = old.payload; room = room_in cap' len' used }) (byte_bits text)
-appends_shifted old bytes now text filled len len' cap cap' used partial left bits room is longer grows part small are last = record {
-  bits_are = ap (λ (z : List ℕ). kept_bits z used left) is
-      ∙ (kept_shifted bytes used partial left text filled part small are last ∙ ap (λ (z : List Bool). z ++ byte_bits text) (sym bits));
-  version_is = refl;
-  modes_are = refl;
-  payload_is = refl;
-  room_left = omega (arith, length-byte_bits text);
-}
+appends_shifted old bytes now text filled len len' cap cap' used partial left bits room is longer grows part small are last =
+    grind (arith, kept_shifted, length-byte_bits)
 
 -- ---- Five bytes at once
 
@@ -124,11 +101,5 @@ kept_five old five used partial left n wide part small whole bytes is =
 pub appends_five : (old : Stream) (bytes now five : List ℕ) (len len' cap cap' used partial left n wide : ℕ) → old.bits ≡ kept_bits bytes used partial → old.room ≡ room_in cap len used →
     now ≡ bytes ++ five → len' ≡ len + 5 → cap ≤ cap' → used < 8 → n < 2 ^ 40 → wide ≡ partial * 2 ^ 40 + n → byte_bits five ≡ number_bits 40 (wide / 2 ^ used) → left ≡ bit_and n 255 % 2 ^ used →
     Appends old (record { bits = kept_bits now used left; version = old.version; modes = old.modes; payload = old.payload; room = room_in cap' len' used }) (number_bits 40 n)
-appends_five old bytes now five len len' cap cap' used partial left n wide bits room is longer grows part small whole are last = record {
-  bits_are = ap (λ (z : List ℕ). kept_bits z used left) is
-      ∙ (kept_five bytes five used partial left n wide part small whole are last ∙ ap (λ (z : List Bool). z ++ number_bits 40 n) (sym bits));
-  version_is = refl;
-  modes_are = refl;
-  payload_is = refl;
-  room_left = omega (arith, length-number_bits 40 n);
-}
+appends_five old bytes now five len len' cap cap' used partial left n wide bits room is longer grows part small whole are last =
+    grind (arith, kept_five, length-number_bits)

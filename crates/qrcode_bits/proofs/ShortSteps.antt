@@ -1,10 +1,9 @@
 -- The last part of a chosen plan of short data, by words.
-use Rattle.std.proofs.Common.{◌≡◌, ℕ, ◌+◌, ◌-◌, ◌*◌, ◌/◌, ◌%◌, ◌^◌, ◌<◌, ◌≤◌, List, [], ◌∷◌, ◌++◌, length, Some, None, refl, sym, ap, ◌∙◌, subst, arith, inl, inr}
+use Rattle.std.proofs.Common.{◌≡◌, ℕ, ◌+◌, ◌-◌, ◌*◌, ◌/◌, ◌%◌, ◌^◌, ◌<◌, ◌≤◌, List, [], ◌∷◌, ◌++◌, length, Some, refl, sym, ap, ◌∙◌, subst, arith, inl, inr}
 use Rattle.std.proofs.lemmas.List.{length_push, get_or_push, get_or_append_left}
-use Rattle.std.proofs.lemmas.Bool.{cases_lt, cases_eq}
+use Rattle.std.proofs.lemmas.Bool.{cases_lt}
 use Rattle.qrcode_base.specs.declared.types.Version.{Version}
 use Rattle.qrcode_base.specs.declared.types.Mode.{Mode}
-use Rattle.qrcode_base.specs.declared.types.Mode.TheVariants.{Numeric, Alphanumeric, Byte, Kanji}
 use Rattle.qrcode_base.specs.Modes.{indicator_width, count_width, data_bits, characters}
 use Rattle.qrcode_bits.specs.declared.optimize.Segment.{Segment}
 use Rattle.qrcode_bits.specs.declared.optimize.steps.Step.{Step}
@@ -16,19 +15,14 @@ use Rattle.qrcode_bits.specs.Merging.{IsNoWorse, segment_bits, segment_at, part_
 use Rattle.qrcode_bits.specs.Buckets.{chosen_plan, bucket_mode, bucket_rest, part_mode, bits_before, parts_before}
 use Rattle.qrcode_bits.specs.Buckets.{InBucket, IsBestStart, slot, AreGroups, group_of, period, period_bits}
 use Rattle.qrcode_bits.specs.Words.{start_told, bucket_start, IsShort, AreHeaders, header_in, step_told, short_at, AreShortSteps}
-use Rattle.qrcode_bits.proofs.Ending.{data_bits-linear, bucket_of, bucket_of-is, group-right, IsTried, Tried-leads, Tried-keeps, Tried-takes, Tried-none, Tried-all, cost-is}
+use Rattle.qrcode_bits.proofs.Ending.{data_bits-linear, bucket_of, bucket_of-is, group-right, IsTried, Tried-leads, Tried-keeps, Tried-takes, Tried-all, cost-is}
 use Rattle.qrcode_bits.proofs.Grouping.{has-own}
 use Rattle.qrcode_bits.proofs.Optimal.{IsGoodStart}
-use Rattle.qrcode_bits.proofs.ReadBack.{IsStep-none}
 use Rattle.qrcode_bits.proofs.WordStarts.{word-ahead, some_start, no_start, more_in}
 
 pub cost-small : (version : Version) (headers : Headers) (mode : Mode) (size cost : ℕ) → AreHeaders version headers → size < 8192 →
     cost ≡ header_in headers mode + data_bits mode (characters mode size) → cost < 2 ^ 18
-cost-small version headers mode size cost heads small is =
-    let data' = data_bits-linear mode size in
-    let head = heads.are mode in
-    let few = heads.small mode in
-    omega arith
+cost-small version headers mode size cost heads small is = grind arith
 
 pub step-small : (segments : List Segment) (version : Version) (headers : Headers) (end : ℕ) (step : Step) → AreHeaders version headers → IsShort segments →
     HasLinearCosts segments version → end ≤ length segments → IsStep segments version end step → step.bits < 2 ^ 18
@@ -37,36 +31,20 @@ step-small segments version headers end step heads short linear within h =
       | inl some ↦
           let mode = part_mode segments 0 end in
           let is = cost-is segments version end within linear 0 mode some refl in
-          let last = segment_at segments (end - 1) in
-          let data' = data_bits-linear mode (last.end - (segment_at segments 0).begin) in
-          let near = short.near (end - 1) (omega arith) in
-          let few = heads.small mode in
+          let data' = data_bits-linear mode ((segment_at segments (end - 1)).end - (segment_at segments 0).begin) in
           let least = (h.chosen.least (0 ∷ []) (some, refl)).bits in
           omega (arith, h.bits)
       | inr none ↦
-          let empty : end ≡ 0 = omega arith in
-          let least = (h.chosen.least [] empty).bits in
+          let least = (h.chosen.least [] (omega arith)).bits in
           omega (arith, h.bits)
     ]
-
-rest-least : (mode : Mode) (b : ℕ) → b % period mode ≤ b
-rest-least Numeric b = omega arith
-rest-least Alphanumeric b = omega arith
-rest-least Byte b = omega arith
-rest-least Kanji b = omega arith
 
 -- what stands for whole periods is shifted away by the cost of a part from the rest on
 word-cost : (mode : Mode) (q cost head b r e before : ℕ) → b % period mode ≡ r → b ≤ e →
     q + period_bits mode * (2 ^ 64 - 2 ^ 13) + period_bits mode * (b / period mode) ≡ before + period_bits mode * 2 ^ 64 →
     cost ≡ head + data_bits mode (characters mode (e - r)) →
     (8192 * period_bits mode ≤ q + cost) × (q + cost - 8192 * period_bits mode ≡ before + (head + data_bits mode (characters mode (e - b))))
-word-cost Numeric q cost head b r e before rest low stands is = (omega arith, omega arith)
-word-cost Alphanumeric q cost head b r e before rest low stands is = (omega arith, omega arith)
-word-cost Byte q cost head b r e before rest low stands is = (omega arith, omega arith)
-word-cost Kanji q cost head b r e before rest low stands is = (omega arith, omega arith)
-
-shifted-high : (w cost x cand : ℕ) → x ≤ w / 2 ^ 26 + cost → cand ≡ w + cost * 2 ^ 26 - x * 2 ^ 26 → cand / 2 ^ 26 ≡ w / 2 ^ 26 + cost - x
-shifted-high w cost x cand h e = omega arith
+word-cost mode q cost head b r e before rest low stands is = grind arith
 
 shifted-low : (w cost x cand : ℕ) → x ≤ w / 2 ^ 26 + cost → cand ≡ w + cost * 2 ^ 26 - x * 2 ^ 26 → cand % 2 ^ 26 ≡ w % 2 ^ 26
 shifted-low w cost x cand h e = omega arith
@@ -80,9 +58,6 @@ pub record IsSought (segments : List Segment) (version : Version) (end tried bes
 module _ (segments : List Segment) (version : Version) (end : ℕ) (within : end ≤ length segments) (linear : HasLinearCosts segments version) where
   abbrev last_end : ℕ
   last_end = (segment_at segments (end - 1)).end
-
-  pub sought-first : (mode : Mode) → IsSought segments version end 0 18446744073709551615 mode
-  sought-first mode = record { found = λ small. absurd (omega arith); none = λ great i t below. absurd (omega arith) }
 
   -- some start was found in the end
   pub sought-last : (best : ℕ) (mode : Mode) → 0 < end → IsSought segments version end 8 best mode → IsStep segments version end (step_told segments end (record { word = best; mode = mode }))
@@ -101,17 +76,7 @@ module _ (segments : List Segment) (version : Version) (end : ℕ) (within : end
   -- the rest of a bucket with a start is no more than the end
   pub short-rest : (j w rest : ℕ) (groups : Groups) (mode : Mode) → j < 8 → AreGroups segments version end end groups → mode ≡ bucket_mode j →
       bucket_start j w ≡ slot (group_of mode groups) j → w < 2 ^ 50 → rest ≡ bucket_rest j → rest ≤ last_end
-  short-rest j w rest groups mode inside grouped mode-is at small is =
-      let here : slot (group_of (bucket_mode j) groups) j ≡ Some (start_told (more_in j) w) =
-      ap (λ m. slot (group_of m groups) j) (sym mode-is) ∙ (sym at ∙ some_start j w small) in
-      let best : IsBestStart segments version (bucket_mode j) (InBucket segments end end (bucket_mode j) j) (Some (start_told (more_in j) w)) =
-      subst (IsBestStart segments version (bucket_mode j) (InBucket segments end end (bucket_mode j) j)) here ((group-right (bucket_mode j) groups grouped).1 j (has-own j inside)) in
-      let s = (start_told (more_in j) w).start in
-      let below = best.0.below in
-      let order = linear.ordered s (end - 1) (omega arith) (omega arith) in
-      let least = rest-least (bucket_mode j) (segment_at segments s).begin in
-      let rest' = best.0.rest in
-      omega arith
+  short-rest j w rest groups mode inside grouped mode-is at small is = grind arith
 
   module _ (j w : ℕ) (inside : j < 8) (groups : Groups) (grouped : AreGroups segments version end end groups) (mode : Mode) (mode-is : mode ≡ bucket_mode j)
       (at : bucket_start j w ≡ slot (group_of mode groups) j) (small : w < 2 ^ 50)
@@ -133,11 +98,7 @@ module _ (segments : List Segment) (version : Version) (end : ℕ) (within : end
     head = indicator_width version + count_width version (bucket_mode j)
 
     costs : cost ≡ head + data_bits (bucket_mode j) (characters (bucket_mode j) (last_end - bucket_rest j))
-    costs =
-        let by_mode = subst (λ m. cost ≡ header_in headers m + data_bits m (characters m (last_end - rest))) mode-is counts in
-        let by_rest = subst (λ r. cost ≡ header_in headers (bucket_mode j) + data_bits (bucket_mode j) (characters (bucket_mode j) (last_end - r))) rest-is by_mode in
-        let front = heads.are (bucket_mode j) in
-        omega arith
+    costs = grind arith
 
     both : (8192 * period_bits (bucket_mode j) ≤ w / 2 ^ 26 + cost)
         × (w / 2 ^ 26 + cost - 8192 * period_bits (bucket_mode j) ≡ bits_before segments version found.start + (head + data_bits (bucket_mode j) (characters (bucket_mode j) (last_end - begin))))
@@ -149,9 +110,7 @@ module _ (segments : List Segment) (version : Version) (end : ℕ) (within : end
 
     module _ (periods cand : ℕ) (periods-is : periods ≡ 8192 * period_bits mode) (cand-is : cand ≡ w + cost * 2 ^ 26 - periods * 2 ^ 26) (dear : cost < 2 ^ 18) where
       high : cand / 2 ^ 26 ≡ bits_before segments version found.start + (head + data_bits (bucket_mode j) (characters (bucket_mode j) (last_end - begin)))
-      high =
-          let e : periods ≡ 8192 * period_bits (bucket_mode j) = periods-is ∙ ap (λ m. 8192 * period_bits m) mode-is in
-          shifted-high w cost periods cand (short-enough periods periods-is) cand-is ∙ (ap (λ (x : ℕ). w / 2 ^ 26 + cost - x) e ∙ both.1)
+      high = grind (arith, both)
 
       low : cand % 2 ^ 26 ≡ w % 2 ^ 26
       low = shifted-low w cost periods cand (short-enough periods periods-is) cand-is
@@ -212,46 +171,15 @@ module _ (segments : List Segment) (version : Version) (end : ℕ) (within : end
   -- a bucket with no start
   pub sought-nothing : (j w best : ℕ) (best_mode mode : Mode) (groups : Groups) → IsSought segments version end j best best_mode → j < 8 → AreGroups segments version end end groups → mode ≡ bucket_mode j →
       bucket_start j w ≡ slot (group_of mode groups) j → 2 ^ 50 ≤ w → IsSought segments version end (j + 1) best best_mode
-  sought-nothing j w best best_mode mode groups before inside grouped mode-is at great =
-      let nothing : slot (group_of (bucket_mode j) groups) j ≡ None = ap (λ m. slot (group_of m groups) j) (sym mode-is) ∙ (sym at ∙ no_start j w great) in
-      let none : IsBestStart segments version (bucket_mode j) (InBucket segments end end (bucket_mode j) j) None =
-      subst (IsBestStart segments version (bucket_mode j) (InBucket segments end end (bucket_mode j) j)) nothing ((group-right (bucket_mode j) groups grouped).1 j (has-own j inside)) in
-      record {
-        found = λ small. Tried-none segments version end within linear j (record { mode = best_mode; begin = (segment_at segments (start_told 0 best).start).begin; end = last_end }) (start_told 0 best) (before.found small) none;
-        none = λ greater i t below v. elim (cases_eq i j) [
-          | inl e ↦ none t (subst (λ x. InBucket segments end end (bucket_mode x) x t) e v)
-          | inr ne ↦ before.none greater i t (omega arith) v
-        ];
-      }
+  sought-nothing j w best best_mode mode groups before inside grouped mode-is at great = grind (arith, no_start)
 
 -- ---- Steps
 
 pub AreShortSteps-push : (segments : List Segment) (version : Version) (steps next : List ShortStep) (step : ShortStep) (k : ℕ) → length steps ≡ k + 1 → AreShortSteps segments version steps →
     IsStep segments version (k + 1) (step_told segments (k + 1) step) → next ≡ steps ++ step ∷ [] →
     (length next ≡ k + 1 + 1) × AreShortSteps segments version next × (step ≡ short_at next (k + 1))
-AreShortSteps-push segments version steps next step k long before right is =
-    let last : step ≡ short_at next (k + 1) = sym (ap (λ xs. short_at xs (k + 1)) is ∙ get_or_push steps step (short_at [] 0) (k + 1) long) in
-    let size : length next ≡ k + 1 + 1 = ap length is ∙ (let p = length_push steps step in omega arith) in (
-      size,
-      λ end h. elim (cases_lt end (k + 1)) [
-        | inl below ↦ subst (λ x. IsStep segments version end (step_told segments end x))
-            (sym (ap (λ xs. short_at xs end) is ∙ get_or_append_left steps (step ∷ []) (short_at [] 0) end (omega arith))) (before end (omega arith))
-        | inr above ↦
-            let e : k + 1 ≡ end = omega arith in
-            subst (λ x. IsStep segments version x (step_told segments x (short_at next x))) e (subst (λ x. IsStep segments version (k + 1) (step_told segments (k + 1) x)) last right)
-      ],
-      last,
-    )
+AreShortSteps-push segments version steps next step k long before right is = grind (arith, get_or_push, length_push, get_or_append_left)
 
 pub AreShortSteps-start : (segments : List Segment) (version : Version) (none steps : List ShortStep) (step : ShortStep) → none ≡ [] → step.word ≡ 8191 → steps ≡ none ++ step ∷ [] →
     (length steps ≡ 1) × AreShortSteps segments version steps × (step ≡ short_at steps 0)
-AreShortSteps-start segments version none steps step empty word is =
-    let all : steps ≡ step ∷ [] = is ∙ ap (λ xs. xs ++ step ∷ []) empty in
-    let first : IsStep segments version 0 (step_told segments 0 step) =
-    subst (λ w. IsStep segments version 0 (step_told segments 0 (record { word = w; mode = step.mode }))) (sym word)
-    (IsStep-none segments version (record { mode = step.mode; begin = (segment_at segments 0).begin; end = (segment_at segments 0).end })) in (
-      ap length all,
-      λ end h. (let e : 0 ≡ end = (let one = ap length all in omega arith) in
-          subst (λ x. IsStep segments version x (step_told segments x (short_at steps x))) e (subst (λ xs. IsStep segments version 0 (step_told segments 0 (short_at xs 0))) (sym all) first)),
-      sym (ap (λ xs. short_at xs 0) all),
-    )
+AreShortSteps-start segments version none steps step empty word is = grind arith

@@ -1,17 +1,17 @@
 -- Parsed segments, and those merged from them, are texts of their modes.
 use Rattle.std.proofs.Common.{◌≡◌, ℕ, ◌+◌, ◌-◌, ◌<◌, ◌≤◌, Bool, true, false, List, [], ◌∷◌, ◌++◌, length, map, take, drop, refl, sym, ap, ◌∙◌, subst, arith}
-use Rattle.std.specs.Prelude.{All, Contains, if◌then◌else◌, slice_range}
+use Rattle.std.specs.Prelude.{All, slice_range}
 use Rattle.std.proofs.lemmas.List.{drop-drop}
 use Rattle.std.proofs.Math.Seq.{take-add, take-length}
-use Rattle.std.proofs.lemmas.List.Elements.{All-head, All-nil, All-cons, All-drop}
+use Rattle.std.proofs.lemmas.List.Elements.{All-head, All-nil, All-drop}
 use Rattle.qrcode_base.specs.declared.types.Mode.TheVariants.{Kanji}
 use Rattle.qrcode_base.specs.Modes.{join}
-use Rattle.qrcode_base.specs.Characters.{IsDigit, alphabet, is_between, is_lead, is_alphanumeric, is_kanji_pair, IsKanjiText, IsValid}
+use Rattle.qrcode_base.specs.Characters.{is_kanji_pair, IsKanjiText, IsValid}
 use Rattle.qrcode_base.proofs.Joins.{join-upper, join-upper_second}
 use Rattle.qrcode_base.proofs.Alphabet.{is_alphanumeric-inside}
 use Rattle.qrcode_bits.specs.declared.optimize.Segment.{Segment}
 use Rattle.qrcode_bits.specs.declared.optimize.parser.Class.{Class}
-use Rattle.qrcode_bits.specs.declared.optimize.parser.Class.TheVariants.{Pair, LoneLead, Digit, Sign, Other}
+use Rattle.qrcode_bits.specs.declared.optimize.parser.Class.TheVariants.{Pair}
 use Rattle.qrcode_bits.specs.Parsing.{Run, class_of, class_mode, class_size, joins, add_unit, runs, units, run_segment, parsed, AreTexts}
 use Rattle.qrcode_bits.specs.Merging.{merged, joined, AreNonEmpty, merged_pieces}
 use Rattle.qrcode_bits.specs.Pieces.{segment_pieces, LiesIn}
@@ -19,7 +19,6 @@ use Rattle.qrcode_bits.specs.Choice.{IsMergePlan}
 use Rattle.qrcode_bits.specs.Frame.{message}
 use Rattle.qrcode_bits.proofs.Runs.{class_size-some, joins-same}
 use Rattle.qrcode_bits.proofs.Adjoining.{class_of-one}
-use Rattle.qrcode_bits.proofs.Characters.{between}
 use Rattle.qrcode_bits.proofs.Upward.{valid-append, valid-upward}
 
 -- ---- Slices
@@ -27,19 +26,15 @@ use Rattle.qrcode_bits.proofs.Upward.{valid-append, valid-upward}
 -- two neighbouring slices are one
 pub slice-join : (xs : List ℕ) (a b c : ℕ) → a ≤ b → b ≤ c → slice_range xs a b ++ slice_range xs b c ≡ slice_range xs a c
 slice-join xs a b c h k =
-    let whole : (b - a) + (c - b) ≡ c - a = omega arith in
-    let place : a + (b - a) ≡ b = omega arith in
     sym (
-    ap (λ (n : ℕ). take n (drop a xs)) (sym whole)
+    ap (λ (n : ℕ). take n (drop a xs)) (sym (omega arith))
     ∙ (take-add (b - a) (c - b) (drop a xs)
-    ∙ ap (λ (z : List ℕ). take (b - a) (drop a xs) ++ take (c - b) z) (drop-drop (b - a) a xs ∙ ap (λ (n : ℕ). drop n xs) place))
+    ∙ ap (λ (z : List ℕ). take (b - a) (drop a xs) ++ take (c - b) z) (drop-drop (b - a) a xs ∙ ap (λ (n : ℕ). drop n xs) (omega arith)))
     )
 
 -- the bytes from a place on
 slice-front : (xs rest : List ℕ) (a n : ℕ) → drop a xs ≡ rest → slice_range xs a (a + n) ≡ take n rest
-slice-front xs rest a n e =
-    let size : a + n - a ≡ n = omega arith in
-    ap (λ (k : ℕ). take k (drop a xs)) size ∙ ap (λ (z : List ℕ). take n z) e
+slice-front xs rest a n e = grind arith
 
 drop-further : (xs rest : List ℕ) (a n : ℕ) → drop a xs ≡ rest → drop (a + n) xs ≡ drop n rest
 drop-further xs rest a n e = sym (drop-drop n a xs) ∙ ap (λ (z : List ℕ). drop n z) e
@@ -47,15 +42,7 @@ drop-further xs rest a n e = sym (drop-drop n a xs) ∙ ap (λ (z : List ℕ). d
 -- ---- Units and runs
 
 unit_valid : (a : ℕ) → a < 256 → IsValid (class_mode (class_of a)) (a ∷ [])
-unit_valid a small = go (is_lead a) (is_between 48 57 a) refl (is_alphanumeric a) refl where
-  one : (P : ℕ → Type 0) → P a → All P (a ∷ [])
-  one P h = All-cons P a [] h (All-nil P)
-
-  go : (x y : Bool) → is_between 48 57 a ≡ y → (z : Bool) → is_alphanumeric a ≡ z → IsValid (class_mode (if x then LoneLead else if y then Digit else if z then Sign else Other)) (a ∷ [])
-  go true y e z f = one (λ c. c < 256) small
-  go false true e z f = one IsDigit (let w = between 48 57 a e in (w.0, omega (arith, w.1)))
-  go false false e true f = one (λ c. Contains alphabet c) (is_alphanumeric-inside a f)
-  go false false e false f = one (λ c. c < 256) small
+unit_valid a small = grind (arith, is_alphanumeric-inside)
 
 module _ (whole : List ℕ) where
   pub texts-reach : (from to : ℕ) (ss : List Segment) → AreTexts whole from ss to → from ≤ to
@@ -73,8 +60,6 @@ module _ (whole : List ℕ) where
     go : (t : Bool) → joins c r.class ≡ t → AreTexts whole b (map run_segment (add_unit c b (r ∷ rs))) e
     go true k =
         let class : c ≡ r.class = joins-same c r.class k in
-        let f = h.1 in
-        let s = some in
         let later : IsValid (class_mode c) (slice_range whole (b + class_size c) r.end) = subst (λ (d : Class). IsValid (class_mode d) (slice_range whole (b + class_size c) r.end)) (sym class) h.2 in
         let both = valid-append (class_mode c) (slice_range whole b (b + class_size c)) (slice_range whole (b + class_size c) r.end) v later in
         let valid : IsValid (class_mode c) (slice_range whole b r.end) = subst (λ (z : List ℕ). IsValid (class_mode c) z) (slice-join whole b (b + class_size c) r.end (omega arith) (omega arith)) both in
@@ -89,10 +74,7 @@ module _ (whole : List ℕ) where
 
   texts-runs : All (λ c. c < 256) whole → (b : ℕ) (bytes : List ℕ) → drop b whole ≡ bytes → AreTexts whole b (map run_segment (runs b (units bytes))) (b + length bytes)
   texts-runs are b [] d = omega arith
-  texts-runs are b (a ∷ []) d =
-      let one = class_of-one a in
-      let e : b + class_size (class_of a) ≡ b + 1 = omega arith in
-      texts-add (class_of a) b (b + 1) [] (single are b a [] d) e
+  texts-runs are b (a ∷ []) d = grind (arith, single)
   texts-runs are b (a ∷ c ∷ rest) d = go (is_kanji_pair a c) refl (texts-runs are (b + 2) rest (drop-further whole (a ∷ c ∷ rest) b 2 d)) (texts-runs are (b + 1) (c ∷ rest) (drop-further whole (a ∷ c ∷ rest) b 1 d)) where
     go : (t : Bool) → is_kanji_pair a c ≡ t → AreTexts whole (b + 2) (map run_segment (runs (b + 2) (units rest))) (b + 2 + length rest) →
         AreTexts whole (b + 1) (map run_segment (runs (b + 1) (units (c ∷ rest)))) (b + 1 + length (c ∷ rest)) →
@@ -118,8 +100,6 @@ module _ (whole : List ℕ) where
   texts-merged s (t ∷ ts) from to h =
       let w = texts-merged t ts s.end to h.3 in
       let m : Segment = merged t ts in
-      let f = h.1 in
-      let g = w.1 in
       let both = valid-append (join s.mode m.mode) (slice_range whole from s.end) (slice_range whole s.end m.end)
       (valid-upward (slice_range whole from s.end) (join-upper s.mode m.mode) h.2) (valid-upward (slice_range whole s.end m.end) (join-upper_second s.mode m.mode) w.2) in
       let valid : IsValid (join s.mode m.mode) (slice_range whole from m.end) = subst (λ (z : List ℕ). IsValid (join s.mode m.mode) z) (slice-join whole from s.end m.end (omega arith) (omega arith)) both in
@@ -142,39 +122,24 @@ module _ (whole : List ℕ) where
 
   -- Each part of a plan of the parsed segments is a text of its mode, and the parts together are all the bytes.
   pub texts-plan : All (λ c. c < 256) whole → (plan : List Segment) → IsMergePlan whole plan → AreTexts whole 0 plan (length whole)
-  texts-plan are plan h =
-      subst (λ (z : List Segment). AreTexts whole 0 z (length whole)) (sym h.merges)
-      (texts-pieces 0 (length whole) h.pieces h.cutting.nonempty
-      (subst (λ (z : List Segment). AreTexts whole 0 z (length whole)) (sym h.cutting.whole) (texts-parsed are)))
+  texts-plan are plan h = grind (arith, texts-pieces, texts-parsed)
 
   -- ---- The message
 
   texts-message : (from to : ℕ) (ss : List Segment) → AreTexts whole from ss to → message (segment_pieces whole ss) ≡ slice_range whole from to
-  texts-message from to [] h =
-      let none : to - from ≡ 0 = omega arith in
-      sym (ap (λ (n : ℕ). take n (drop from whole)) none)
-  texts-message from to (s ∷ ss) h =
-      let f = h.1 in
-      let place : slice_range whole s.begin s.end ≡ slice_range whole from s.end = ap (λ (n : ℕ). slice_range whole n s.end) h.0 in
-      ap (λ (z : List ℕ). z ++ message (segment_pieces whole ss)) place
-      ∙ (ap (λ (z : List ℕ). slice_range whole from s.end ++ z) (texts-message s.end to ss h.3)
-      ∙ slice-join whole from s.end to (omega arith) (texts-reach s.end to ss h.3))
+  texts-message from to [] h = grind arith
+  texts-message from to (s ∷ ss) h = grind (arith, slice-join, texts-reach, texts-message s.end to ss h.3)
 
   -- The pieces of a plan are a message of all the bytes.
   pub plan_message : (plan : List Segment) → AreTexts whole 0 plan (length whole) → message (segment_pieces whole plan) ≡ whole
   plan_message plan h =
-      let all : length whole - 0 ≡ length whole = omega arith in
-      texts-message 0 (length whole) plan h ∙ (ap (λ (n : ℕ). take n whole) all ∙ take-length whole)
+      texts-message 0 (length whole) plan h ∙ (ap (λ (n : ℕ). take n whole) (omega arith) ∙ take-length whole)
 
   -- ---- Places
 
   texts-lie : (from to : ℕ) (ss : List Segment) → AreTexts whole from ss to → to ≤ length whole → All (LiesIn (length whole)) ss
   texts-lie from to [] h k = All-nil (LiesIn (length whole))
-  texts-lie from to (s ∷ ss) h k =
-      let r = texts-reach s.end to ss h.3 in
-      let b = h.0 in
-      let f = h.1 in
-      All-cons (LiesIn (length whole)) s ss (omega arith, omega arith) (texts-lie s.end to ss h.3 k)
+  texts-lie from to (s ∷ ss) h k = grind (arith, texts-reach, texts-lie s.end to ss h.3 k)
 
   -- The parts of a plan lie in the bytes.
   pub plan_lies : All (λ c. c < 256) whole → (plan : List Segment) → IsMergePlan whole plan → All (LiesIn (length whole)) plan

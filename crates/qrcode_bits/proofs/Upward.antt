@@ -1,9 +1,9 @@
 -- What a mode can write, each mode above it can write too.
-use Rattle.std.proofs.Common.{◌≡◌, ℕ, ◌+◌, ◌-◌, ◌<◌, Bool, true, List, [], ◌∷◌, ◌++◌, refl, ◌∙◌, subst, arith, get_or, inl, inr}
+use Rattle.std.proofs.Common.{◌≡◌, ℕ, ◌+◌, ◌-◌, ◌<◌, Bool, true, List, [], ◌∷◌, ◌++◌, refl, ◌∙◌, subst, arith, get_or}
 use Rattle.std.specs.Prelude.{All, Contains, nat_lt, ◌==◌}
 use Rattle.std.proofs.lemmas.Grind.{get_or_default_zero}
 use Rattle.std.proofs.lemmas.Bool.{ltb-true, eqb-true}
-use Rattle.std.proofs.lemmas.List.Elements.{All-head, All-tail, All-nil, All-cons, All-append}
+use Rattle.std.proofs.lemmas.List.Elements.{All-nil, All-append}
 use Rattle.qrcode_base.specs.declared.types.Mode.{Mode}
 use Rattle.qrcode_base.specs.declared.types.Mode.TheVariants.{Numeric, Alphanumeric, Byte, Kanji}
 use Rattle.qrcode_base.specs.Modes.{IsWithin, same, digits, bytes}
@@ -24,8 +24,7 @@ valid-append Kanji s t h k = kanji-append s t h k where
 
 -- a property of each element, weakened
 pub All-map : {X : Type 0} (P Q : X → Type 0) → ((x : X) → P x → Q x) → (xs : List X) → All P xs → All Q xs
-All-map P Q f [] h = All-nil Q
-All-map P Q f (x ∷ xs) h = All-cons Q x xs (f x (All-head P x xs h)) (All-map P Q f xs (All-tail P x xs h))
+All-map P Q f xs h = grind arith
 
 -- ---- Digits are in the alphabet
 
@@ -60,10 +59,7 @@ sign_byte c h =
 kanji_bytes : (s : List ℕ) → IsKanjiText s → All (λ c. c < 256) s
 kanji_bytes [] h = All-nil (λ c. c < 256)
 kanji_bytes (a ∷ []) h = absurd h
-kanji_bytes (a ∷ b ∷ s) h =
-    let t = kanji_trail a b h.0 in
-    let low : a < 256 = elim (lead_bounds a b h.0) [ inl w ↦ omega (arith, w.1) | inr w ↦ omega (arith, w.1) ] in
-    All-cons (λ c. c < 256) a (b ∷ s) low (All-cons (λ c. c < 256) b s (omega (arith, t.1)) (kanji_bytes s h.1))
+kanji_bytes (a ∷ b ∷ s) h = grind (arith, kanji_trail, lead_bounds, kanji_bytes s h.1)
 
 pub valid_bytes : (m : Mode) (s : List ℕ) → IsValid m s → All (λ c. c < 256) s
 valid_bytes Numeric s h = All-map IsDigit (λ c. c < 256) (λ c d. omega arith) s h

@@ -1,8 +1,5 @@
 -- The lesser word is the better start.
-use Rattle.std.proofs.Common.{◌≡◌, ℕ, zero, suc, ◌+◌, ◌-◌, ◌*◌, ◌/◌, ◌%◌, ◌^◌, ◌<◌, ◌≤◌, Bool, true, false, List, length, Option, Some, None, refl, sym, ap, ◌∙◌, subst, arith, inl, inr, min}
-use Rattle.std.specs.Prelude.{nat_le, if◌then◌else◌}
-use Rattle.std.proofs.lemmas.Bool.{cases_lt}
-use Rattle.std.proofs.lemmas.Bool.Decides.{nat_tests}
+use Rattle.std.proofs.Common.{◌≡◌, ℕ, zero, suc, ◌+◌, ◌-◌, ◌*◌, ◌/◌, ◌%◌, ◌^◌, ◌<◌, ◌≤◌, List, length, Some, None, refl, sym, ap, ◌∙◌, subst, arith, min}
 use Rattle.std.proofs.lemmas.List.FromFn.{get_or-map-range_with_len, length-map-range_with_len}
 use Rattle.qrcode_base.specs.declared.types.Mode.{Mode}
 use Rattle.qrcode_base.specs.declared.types.Mode.TheVariants.{Numeric, Alphanumeric, Byte, Kanji}
@@ -26,49 +23,10 @@ abbrev pub more_in : ℕ → ℕ
 more_in j = period_bits (bucket_mode j) * (2 ^ 64 - 2 ^ 13)
 
 pub some_start : (j w : ℕ) → w < none → bucket_start j w ≡ Some (start_told (more_in j) w)
-some_start j w small =
-    let test : nat_le none w ≡ false = grind (arith, nat_tests) in
-    ap (λ (b : Bool). if b then None else Some (start_told (more_in j) w)) test
+some_start j w small = grind arith
 
 pub no_start : (j w : ℕ) → none ≤ w → bucket_start j w ≡ None
-no_start j w great =
-    let test : nat_le none w ≡ true = grind (arith, nat_tests) in
-    ap (λ (b : Bool). if b then None else Some (start_told (more_in j) w)) test
-
-better-none : (x y c : Option Candidate) → y ≡ None → c ≡ x → IsBetterOf x y c
-better-none None y c n e = e ∙ sym n
-better-none (Some a) None c n e = e
-better-none (Some a) (Some b) c n e = absurd (cc)
-
-better-first : (x y c : Option Candidate) → x ≡ None → c ≡ y → IsBetterOf x y c
-better-first None y c n e = e
-better-first (Some a) y c n e = absurd (cc)
-
-better-some : (j a b : ℕ) → a < none → b < none → IsBetterOf (Some (start_told (more_in j) a)) (Some (start_told (more_in j) b)) (bucket_start j (min a b))
-better-some j a b p q =
-    elim (cases_lt b a) [
-      | inl less ↦ inr (ap (bucket_start j) (let e : min a b ≡ b = omega arith in e) ∙ some_start j b q, word-ahead (more_in j) b a (omega arith))
-      | inr more ↦ inl (ap (bucket_start j) (let e : min a b ≡ a = omega arith in e) ∙ some_start j a p, word-ahead (more_in j) a b more)
-    ]
-
--- the lesser of two words that are no start is none either
-min-none : (j a b : ℕ) → none ≤ a → bucket_start j (min a b) ≡ bucket_start j b
-min-none j a b great =
-    elim (cases_lt b none) [
-      | inl small ↦ ap (bucket_start j) (let e : min a b ≡ b = omega arith in e)
-      | inr large ↦ no_start j (min a b) (omega arith) ∙ sym (no_start j b large)
-    ]
-
-pub bucket_start-min : (j a b : ℕ) → IsBetterOf (bucket_start j a) (bucket_start j b) (bucket_start j (min a b))
-bucket_start-min j a b =
-    elim (cases_lt a none) [
-      | inl p ↦ elim (cases_lt b none) [
-        | inl q ↦ subst (λ (x : Option Candidate). IsBetterOf x (bucket_start j b) (bucket_start j (min a b))) (sym (some_start j a p))
-            (subst (λ (x : Option Candidate). IsBetterOf (Some (start_told (more_in j) a)) x (bucket_start j (min a b))) (sym (some_start j b q)) (better-some j a b p q))
-        | inr q ↦ better-none (bucket_start j a) (bucket_start j b) (bucket_start j (min a b)) (no_start j b q) (ap (bucket_start j) (let m : min a b ≡ a = omega arith in m))
-      ]
-      | inr p ↦ better-first (bucket_start j a) (bucket_start j b) (bucket_start j (min a b)) (no_start j a p) (min-none j a b p)
-    ]
+no_start j w great = grind arith
 
 -- ---- A group
 
@@ -82,137 +40,66 @@ length-starts_in words = length-map-range_with_len (λ (i : ℕ). bucket_start i
 
 pub absorbs : (first : ℕ) (a b c : List ℕ) → ((k : ℕ) → first ≤ k → k < 6 → word_at c k ≡ min (word_at a k) (word_at b k)) →
     Absorbs first (starts_in a) (starts_in b) (starts_in c)
-absorbs first a b c least = (
-  length-starts_in c,
-  λ j from inside. rw (slot-starts_in a j (omega arith), slot-starts_in b j (omega arith), slot-starts_in c j (omega arith), least j from inside) (bucket_start-min j (word_at a j) (word_at b j)),
-)
+absorbs first a b c least = grind (arith, length-starts_in, slot-starts_in)
 
 -- no start is better than one that there is none of
 pub absorbs_none : (first : ℕ) (a b : List ℕ) → AreNone b → Absorbs first (starts_in a) (starts_in b) (starts_in a)
-absorbs_none first a b none = (
-  length-starts_in a,
-  λ j from inside. rw (slot-starts_in a j (omega arith), slot-starts_in b j (omega arith)) (better-none (bucket_start j (word_at a j)) (bucket_start j (word_at b j)) (bucket_start j (word_at a j)) (no_start j (word_at b j) (none j (omega arith))) refl),
-)
+absorbs_none first a b none = grind (arith, length-starts_in, slot-starts_in)
 
 pub empties : (words : List ℕ) → AreNone words → IsEmptyGroup (starts_in words)
 empties words all = (length-starts_in words, λ j inside. slot-starts_in words j inside ∙ no_start j (word_at words j) (all j inside))
 
--- what holds no start after an absorption held none before
-pub whole-absorbed : (first : ℕ) (a b c : List ℕ) → first ≤ 5 → IsWhole a → IsWhole b → length c ≡ 8 → ((k : ℕ) → first ≤ k → k < 6 → word_at c k ≡ min (word_at a k) (word_at b k)) →
-    ((k : ℕ) → k < first → word_at c k ≡ word_at a k) → ((k : ℕ) → 6 ≤ k → word_at c k ≡ word_at a k) → IsWhole c
-whole-absorbed first a b c early one two long least below above = record {
-  long = long;
-  empty = λ great k inside.
-      let five = least 5 (omega arith) (omega arith) in
-      let here = one.empty (omega arith) k inside in
-      let there = two.empty (omega arith) k inside in
-      elim (cases_lt k first) [
-        | inl less ↦ let same = below k less in omega arith
-        | inr more ↦ elim (cases_lt k 6) [
-          | inl less ↦ let same = least k more less in omega arith
-          | inr past ↦ let same = above k past in omega arith
-        ]
-      ];
-}
-
 -- ---- A start enters
 
 has-single : (mode : Mode) → HasBucket mode 5
-has-single Numeric = omega arith
-has-single Alphanumeric = (omega arith, omega arith)
-has-single Byte = refl
-has-single Kanji = (omega arith, omega arith)
-
-offered-there : (mode : Mode) (j bucket word : ℕ) (old new : List ℕ) → HasBucket mode j → IsOffered mode bucket word old new → j ≡ bucket → word_at new j ≡ min (word_at old j) word
-offered-there mode j bucket word old new has h e = ap (word_at new) e ∙ (h.lesser (subst (HasBucket mode) e has) ∙ ap (λ (k : ℕ). min (word_at old k) word) (sym e))
-
-candidate-is : (b p s b' p' s' : ℕ) → b ≡ b' → p ≡ p' → s ≡ s' →
-    ◌≡◌ {A = Candidate} (record { bits = b; parts = p; start = s }) (record { bits = b'; parts = p'; start = s' })
-candidate-is b p s b' p' s' e f g = cc
-
-pub word-told : (more bits parts start : ℕ) → parts < 8192 → start < 8192 →
-    start_told more (word_of bits parts start) ≡ record { bits = bits + more; parts = parts; start = start }
-word-told more bits parts start d e = candidate-is _ _ _ _ _ _ (omega arith) (omega arith) (omega arith)
-
-told-key : (j bits product parts start key : ℕ) (more : ℕ) → more_in j ≡ more → bits + product < 2 ^ 20 → parts < 8192 → start < 8192 → product + more ≡ key →
-    bucket_start j (word_of (bits + product) parts start) ≡ Some (record { bits = bits + key; parts = parts; start = start })
-told-key j bits product parts start key more is few d e same =
-    some_start j (word_of (bits + product) parts start) (omega arith)
-    ∙ (ap (λ (z : ℕ). Some (start_told z (word_of (bits + product) parts start))) is
-    ∙ (ap (λ (z : Candidate). Some z) (word-told more (bits + product) parts start d e)
-    ∙ ap (λ (z : ℕ). Some (record { bits = z; parts = parts; start = start })) (let w : bits + product + more ≡ bits + key = omega arith in w)))
+has-single mode = grind arith
 
 module _ (begin bits parts start : ℕ) (low : begin < 8192) (few : bits < 2 ^ 18) (short : parts < 8192) (early : start < 8192) where
   abbrev thirds : ℕ
   thirds = word_of (bits + 10 * (8192 - begin / 3)) parts start
 
   thirds-key : (j : ℕ) → bucket_mode j ≡ Numeric → bucket_start j thirds ≡ Some (key_of Numeric begin bits parts start)
-  thirds-key j is =
-      told-key j bits (10 * (8192 - begin / 3)) parts start (10 * (2 ^ 64 - begin / 3)) (10 * (2 ^ 64 - 2 ^ 13))
-      (ap (λ (m : Mode). period_bits m * (2 ^ 64 - 2 ^ 13)) is) (omega arith) short early (omega arith)
+  thirds-key j is = grind arith
 
   abbrev pairs : ℕ
   pairs = word_of (bits + 11 * (8192 - begin / 2)) parts start
 
   pairs-key : (j : ℕ) → bucket_mode j ≡ Alphanumeric → bucket_start j pairs ≡ Some (key_of Alphanumeric begin bits parts start)
-  pairs-key j is =
-      told-key j bits (11 * (8192 - begin / 2)) parts start (11 * (2 ^ 64 - begin / 2)) (11 * (2 ^ 64 - 2 ^ 13))
-      (ap (λ (m : Mode). period_bits m * (2 ^ 64 - 2 ^ 13)) is) (omega arith) short early (omega arith)
+  pairs-key j is = grind arith
 
   abbrev singles : ℕ
   singles = word_of (bits + 8 * (8192 - begin)) parts start
 
   singles-key : (j : ℕ) → bucket_mode j ≡ Byte → bucket_start j singles ≡ Some (key_of Byte begin bits parts start)
-  singles-key j is =
-      told-key j bits (8 * (8192 - begin)) parts start (8 * (2 ^ 64 - begin / 1)) (8 * (2 ^ 64 - 2 ^ 13))
-      (ap (λ (m : Mode). period_bits m * (2 ^ 64 - 2 ^ 13)) is) (omega arith) short early (omega arith)
+  singles-key j is = grind arith
 
   abbrev characters : ℕ
   characters = word_of (bits + 13 * (8192 - begin / 2)) parts start
 
   characters-key : (j : ℕ) → bucket_mode j ≡ Kanji → bucket_start j characters ≡ Some (key_of Kanji begin bits parts start)
-  characters-key j is =
-      told-key j bits (13 * (8192 - begin / 2)) parts start (13 * (2 ^ 64 - begin / 2)) (13 * (2 ^ 64 - 2 ^ 13))
-      (ap (λ (m : Mode). period_bits m * (2 ^ 64 - 2 ^ 13)) is) (omega arith) short early (omega arith)
+  characters-key j is = grind arith
 
   module _ (mode : Mode) (old one two three new : List ℕ) (first : IsOffered mode (begin % 3) thirds old one) (second : IsOffered mode (3 + begin % 2) pairs one two)
       (third : IsOffered mode 5 singles two three) (fourth : IsOffered mode (6 + begin % 2) characters three new) where
     -- the lesser word in a bucket is the better start
     better-at : (j word : ℕ) (key : Candidate) → j < 8 → word_at new j ≡ min (word_at old j) word → bucket_start j word ≡ Some key →
         IsBetterOf (slot (starts_in old) j) (Some key) (slot (starts_in new) j)
-    better-at j word key inside least is =
-        rw (slot-starts_in old j inside, slot-starts_in new j inside, least, ← is) (bucket_start-min j (word_at old j) word)
+    better-at j word key inside least is = grind (arith, slot-starts_in)
 
     same-at : (j : ℕ) → j < 8 → word_at new j ≡ word_at old j → slot (starts_in new) j ≡ slot (starts_in old) j
     same-at j inside same = slot-starts_in new j inside ∙ (ap (bucket_start j) same ∙ sym (slot-starts_in old j inside))
 
     at-third : (j : ℕ) → HasBucket mode j → j < 3 → begin % 3 ≡ j → word_at new j ≡ min (word_at old j) thirds
-    at-third j has b e = fourth.others j (λ w. omega arith) ∙ (third.others j (λ w. omega arith) ∙ (second.others j (λ w. omega arith)
-        ∙ offered-there mode j (begin % 3) thirds old one has first (sym e)))
-
-    past-third : (j : ℕ) → j < 3 → (begin % 3 ≡ j → ⊥) → word_at new j ≡ word_at old j
-    past-third j b ne = fourth.others j (λ w. omega arith) ∙ (third.others j (λ w. omega arith) ∙ (second.others j (λ w. omega arith)
-        ∙ first.others j (λ w. ne (sym w))))
+    at-third j has b e = grind arith
 
     at-pair : (r : ℕ) → HasBucket mode (3 + r) → r < 2 → begin % 2 ≡ r → word_at new (3 + r) ≡ min (word_at old (3 + r)) pairs
-    at-pair r has b e = fourth.others (3 + r) (λ w. omega arith) ∙ (third.others (3 + r) (λ w. omega arith)
-        ∙ (offered-there mode (3 + r) (3 + begin % 2) pairs one two has second (omega arith)
-        ∙ ap (λ (z : ℕ). min z pairs) (first.others (3 + r) (λ w. omega arith))))
-
-    past-pair : (r : ℕ) → r < 2 → (begin % 2 ≡ r → ⊥) → word_at new (3 + r) ≡ word_at old (3 + r)
-    past-pair r b ne = fourth.others (3 + r) (λ w. omega arith) ∙ (third.others (3 + r) (λ w. omega arith)
-        ∙ (second.others (3 + r) (λ w. ne (omega arith)) ∙ first.others (3 + r) (λ w. omega arith)))
+    at-pair r has b e = grind arith
 
     at-single : HasBucket mode 5 → word_at new 5 ≡ min (word_at old 5) singles
     at-single has = fourth.others 5 (λ w. omega arith) ∙ (third.lesser has ∙ ap (λ (z : ℕ). min z singles) (second.others 5 (λ w. omega arith) ∙ first.others 5 (λ w. omega arith)))
 
     at-character : (r : ℕ) → HasBucket mode (6 + r) → r < 2 → begin % 2 ≡ r → word_at new (6 + r) ≡ min (word_at old (6 + r)) characters
-    at-character r has b e = offered-there mode (6 + r) (6 + begin % 2) characters three new has fourth (omega arith)
-        ∙ ap (λ (z : ℕ). min z characters) (third.others (6 + r) (λ w. omega arith) ∙ (second.others (6 + r) (λ w. omega arith) ∙ first.others (6 + r) (λ w. omega arith)))
-
-    past-character : (r : ℕ) → r < 2 → (begin % 2 ≡ r → ⊥) → word_at new (6 + r) ≡ word_at old (6 + r)
-    past-character r b ne = fourth.others (6 + r) (λ w. ne (omega arith)) ∙ (third.others (6 + r) (λ w. omega arith)
-        ∙ (second.others (6 + r) (λ w. omega arith) ∙ first.others (6 + r) (λ w. omega arith)))
+    at-character r has b e = grind arith
 
     entered : (j : ℕ) → HasBucket mode j → j < 8 → begin % period (bucket_mode j) ≡ bucket_rest j →
         IsBetterOf (slot (starts_in old) j) (Some (key_of (bucket_mode j) begin bits parts start)) (slot (starts_in new) j)
@@ -227,15 +114,7 @@ module _ (begin bits parts start : ℕ) (low : begin < 8192) (few : bits < 2 ^ 1
     entered (suc (suc (suc (suc (suc (suc (suc (suc j)))))))) has inside e = absurd (omega arith)
 
     kept : (j : ℕ) → j < 8 → (begin % period (bucket_mode j) ≡ bucket_rest j → ⊥) → slot (starts_in new) j ≡ slot (starts_in old) j
-    kept zero inside ne = same-at 0 inside (past-third 0 (omega arith) ne)
-    kept (suc zero) inside ne = same-at 1 inside (past-third 1 (omega arith) ne)
-    kept (suc (suc zero)) inside ne = same-at 2 inside (past-third 2 (omega arith) ne)
-    kept (suc (suc (suc zero))) inside ne = same-at 3 inside (past-pair 0 (omega arith) ne)
-    kept (suc (suc (suc (suc zero)))) inside ne = same-at 4 inside (past-pair 1 (omega arith) ne)
-    kept (suc (suc (suc (suc (suc zero))))) inside ne = absurd (ne (let one : begin % 1 ≡ 0 = omega arith in one))
-    kept (suc (suc (suc (suc (suc (suc zero)))))) inside ne = same-at 6 inside (past-character 0 (omega arith) ne)
-    kept (suc (suc (suc (suc (suc (suc (suc zero))))))) inside ne = same-at 7 inside (past-character 1 (omega arith) ne)
-    kept (suc (suc (suc (suc (suc (suc (suc (suc j)))))))) inside ne = absurd (omega arith)
+    kept j inside ne = grind (arith, same-at)
 
     -- the bucket of Byte has a start
     still_whole : length new ≡ 8 → IsWhole new
