@@ -26,7 +26,8 @@ IsFarFormatWord version level pattern =
 -- A version word differs in at least 8 of its 18 digits from that of every other version.
 unfoldable pub IsFarVersionWord : Version → Type 0
 IsFarVersionWord (Normal (pos n)) =
-    7 ≤ n → (other : ℕ) → 7 ≤ other → other ≤ 40 → other ≢ n → 8 ≤ differing_digits 18 (version_word n) (version_word other)
+    7 ≤ n → (other : ℕ) → 7 ≤ other → other ≤ 40 → other ≢ n →
+    8 ≤ differing_digits 18 (version_word n) (version_word other)
 IsFarVersionWord (Normal (negsuc n)) = Unit {0}
 IsFarVersionWord (Micro z) = Unit {0}
 
@@ -43,9 +44,11 @@ pub record AreConsistentRegions (version : Version) : Type 0 where
 -- one that reaches (but at version 32).
 pub record HasEveryAlignment (n : ℕ) : Type 0 where
   pub drawn :
-      (i j x y : ℕ) → i < alignment_count n → j < alignment_count n → is_at_finder (4 * n + 17) (alignment_coordinate n i) (alignment_coordinate n j) ≡ false →
+      (i j x y : ℕ) → i < alignment_count n → j < alignment_count n →
+      is_at_finder (4 * n + 17) (alignment_coordinate n i) (alignment_coordinate n j) ≡ false →
       ring (alignment_coordinate n i) (alignment_coordinate n j) x y ≤ 2 →
-      alignments (4 * n + 17) (alignment_coordinates n) x y ≡ alignment (alignment_coordinate n i) (alignment_coordinate n j) x y
+      alignments (4 * n + 17) (alignment_coordinates n) x y ≡
+      alignment (alignment_coordinate n i) (alignment_coordinate n j) x y
   pub even : alignment_step n % 2 ≡ 0
   pub reaches : 2 ≤ n → n ≢ 32 → 4 * n + 4 ≤ (alignment_count n - 1) * alignment_step n
   pub least : 2 ≤ n → n ≢ 32 → (alignment_count n - 1) * (alignment_step n - 2) < 4 * n + 4
@@ -65,7 +68,8 @@ pub record IsWalkOf (version : Version) : Type 0 where
   pub every :
       (x y : ℕ) → x < width_of version → y < width_of version → x ≢ timing_column version →
       (cell_number (width_of version) (timing_column version) x y < width_of version * (width_of version - 1)) ×
-      (numbered_cell (width_of version) (timing_column version) (cell_number (width_of version) (timing_column version) x y) ≡ (x, y))
+      (numbered_cell (width_of version) (timing_column version)
+      (cell_number (width_of version) (timing_column version) x y) ≡ (x, y))
   pub once :
       (k : ℕ) → k < width_of version * (width_of version - 1) →
       cell_number (width_of version) (timing_column version)

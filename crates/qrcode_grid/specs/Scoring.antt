@@ -60,7 +60,8 @@ has_six w cells k = has_five w cells k && is_same_below w cells k 8
 -- four light modules from a row on
 abbrev pub is_quiet : ℕ → List ℕ → ℕ → ℕ → Bool
 is_quiet w cells k row =
-    cell w cells k row == 0 && cell w cells k (row + 1) == 0 && cell w cells k (row + 2) == 0 && cell w cells k (row + 3) == 0
+    cell w cells k row == 0 && cell w cells k (row + 1) == 0 &&
+    cell w cells k (row + 2) == 0 && cell w cells k (row + 3) == 0
 
 -- dark, light, three dark, light, dark from the fourth row on, and four light modules before or after them
 abbrev pub has_finder : ℕ → List ℕ → ℕ → Bool

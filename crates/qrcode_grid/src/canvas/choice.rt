@@ -51,7 +51,7 @@ fn pattern_at(version: Version, i: usize) -> MaskPattern
 }
 
 /// The place of the first least value.
-pub fn first_least(values: &[usize]) -> usize
+fn first_least(values: &[usize]) -> usize
     requires { 0 < length values.now }
     ensures { IsFirstLeast values.now result }
 {

@@ -1,8 +1,8 @@
 //! The codewords of a symbol.
 ghost use Rattle.std.specs.Prelude.{◌≤◌};
 
-/// The data codewords of a symbol and its correction codewords, and how many low bits of the last data codeword are left
-/// out.
+/// The data codewords of a symbol and its correction codewords, and how many low bits of the last data codeword are
+/// left out.
 #[derive(Clone, Copy)]
 pub struct Streams<'a> {
     pub codewords: &'a [u8],
