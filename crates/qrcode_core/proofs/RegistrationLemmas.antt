@@ -62,3 +62,6 @@ one_by_one {D = D} (d ∷ done) after x = ap (λ (ys : List D). d ∷ ys) (one_b
 
 pub moved_over : {D : Type 0} (all done rest after : List D) (x : D) → all ≡ done ++ rest → rest ≡ x ∷ after → all ≡ (done ++ x ∷ []) ++ after
 moved_over {D = D} all done rest after x split first = split ∙ ap (λ (ys : List D). done ++ ys) first ∙ one_by_one done after x
+
+-- a loop that registers the items one by one
+pub ruleset one_more_registered = (registers_more, moved_over)
