@@ -22,11 +22,8 @@ use Rattle.qrcode_core.proofs.OneReading.{one_reading}
 -- a mask at a place of the family is one of the family
 pub of_family : (version : Version) (i : ℕ) (mask : MaskPattern) → slice_get (family version) i ≡ Some mask → IsOfFamily version mask
 of_family (Normal n) i mask e = tt
-of_family (Micro n) zero mask e = subst (λ (m : MaskPattern). IsOfFamily (Micro n) m) (same_Some _ mask e) refl
-of_family (Micro n) (suc zero) mask e = subst (λ (m : MaskPattern). IsOfFamily (Micro n) m) (same_Some _ mask e) refl
-of_family (Micro n) (suc (suc zero)) mask e = subst (λ (m : MaskPattern). IsOfFamily (Micro n) m) (same_Some _ mask e) refl
-of_family (Micro n) (suc (suc (suc zero))) mask e = subst (λ (m : MaskPattern). IsOfFamily (Micro n) m) (same_Some _ mask e) refl
 of_family (Micro n) (suc (suc (suc (suc i)))) mask e = absurd (none-some mask e)
+of_family (Micro n) i mask e = subst (λ (m : MaskPattern). IsOfFamily (Micro n) m) (same_Some _ mask e) refl
 
 -- What is read of a symbol with its own version, level and mask is all that it tells.
 pub tells_reading : (symbol : DrawnSymbol) (known : Reading) → Reads symbol.modules known →

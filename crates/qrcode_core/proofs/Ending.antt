@@ -25,19 +25,12 @@ lacks (Micro (pos (suc n))) l b e = micro n l e
   where
     micro : (n : ℕ) (l : EcLevel) → blocks_of (Micro (pos (suc n))) l ≡ Some b → Lacks (Micro (pos (suc n))) b
     micro zero L e = let d : 3 ≡ data_bytes b = ap data_bytes (same_Some _ _ e) in inr (refl, omega arith)
-    micro zero M e = absurd (none-some b e)
-    micro zero Q e = absurd (none-some b e)
-    micro zero H e = absurd (none-some b e)
     micro (suc zero) l e = inl refl
     micro (suc (suc zero)) L e = let d : 11 ≡ data_bytes b = ap data_bytes (same_Some _ _ e) in inr (refl, omega arith)
     micro (suc (suc zero)) M e = let d : 9 ≡ data_bytes b = ap data_bytes (same_Some _ _ e) in inr (refl, omega arith)
-    micro (suc (suc zero)) Q e = absurd (none-some b e)
-    micro (suc (suc zero)) H e = absurd (none-some b e)
     micro (suc (suc (suc zero))) l e = inl refl
     micro (suc (suc (suc (suc n)))) L e = absurd (none-some b e)
-    micro (suc (suc (suc (suc n)))) M e = absurd (none-some b e)
-    micro (suc (suc (suc (suc n)))) Q e = absurd (none-some b e)
-    micro (suc (suc (suc (suc n)))) H e = absurd (none-some b e)
+    micro n l e = absurd (none-some b e)
 
 -- zeros of the half byte and zeros to the end of the last byte are together the missing bits
 zeros_are : (missing size limit half : ℕ) → (missing ≡ 0) ⊎ ((missing ≡ 4) × (1 ≤ size)) → limit ≡ 8 * size - missing → (half ≡ missing) ⊎ (half ≡ 0) → half + (8 - (limit + half) % 8) % 8 ≡ missing

@@ -153,13 +153,7 @@ none_differ n a b same =
 
 normal_number-below : (p : MaskPattern) → normal_number p < 8
 normal_number-below Checkerboard = omega arith
-normal_number-below HorizontalLines = omega arith
-normal_number-below VerticalLines = omega arith
-normal_number-below DiagonalLines = omega arith
-normal_number-below LargeCheckerboard = omega arith
-normal_number-below Fields = omega arith
-normal_number-below Diamonds = omega arith
-normal_number-below Meadow = omega arith
+normal_number-below p = omega arith
 
 normal_pattern : ℕ → MaskPattern
 normal_pattern k = get_or normal_patterns k Checkerboard
@@ -167,19 +161,11 @@ normal_pattern k = get_or normal_patterns k Checkerboard
 normal_number-inverse : (p : MaskPattern) → normal_pattern (normal_number p) ≡ p
 unfolding normal_pattern
 normal_number-inverse Checkerboard = refl
-normal_number-inverse HorizontalLines = refl
-normal_number-inverse VerticalLines = refl
-normal_number-inverse DiagonalLines = refl
-normal_number-inverse LargeCheckerboard = refl
-normal_number-inverse Fields = refl
-normal_number-inverse Diamonds = refl
-normal_number-inverse Meadow = refl
+normal_number-inverse p = refl
 
 level_number-below : (l : EcLevel) → level_number l < 4
 level_number-below L = omega arith
-level_number-below M = omega arith
-level_number-below Q = omega arith
-level_number-below H = omega arith
+level_number-below l = omega arith
 
 numbered_level : ℕ → EcLevel
 numbered_level k = get_or (M ∷ L ∷ H ∷ Q ∷ []) k M
@@ -187,34 +173,26 @@ numbered_level k = get_or (M ∷ L ∷ H ∷ Q ∷ []) k M
 level_number-inverse : (l : EcLevel) → numbered_level (level_number l) ≡ l
 unfolding numbered_level
 level_number-inverse L = refl
-level_number-inverse M = refl
-level_number-inverse Q = refl
-level_number-inverse H = refl
+level_number-inverse l = refl
 
 micro_pattern : ℕ → MaskPattern
 micro_pattern k = get_or micro_patterns k HorizontalLines
 
 -- a mask of the Micro family has a number below 4, which tells it
 micro_number-below : (p : MaskPattern) → IsTrue (is_some (micro_number p)) → unwrap_or (micro_number p) 0 < 4
-micro_number-below Checkerboard h = absurd (false≢true h)
 micro_number-below HorizontalLines h = omega arith
-micro_number-below VerticalLines h = absurd (false≢true h)
-micro_number-below DiagonalLines h = absurd (false≢true h)
 micro_number-below LargeCheckerboard h = omega arith
-micro_number-below Fields h = absurd (false≢true h)
 micro_number-below Diamonds h = omega arith
 micro_number-below Meadow h = omega arith
+micro_number-below p h = absurd (false≢true h)
 
 micro_number-inverse : (p : MaskPattern) → IsTrue (is_some (micro_number p)) → micro_pattern (unwrap_or (micro_number p) 0) ≡ p
 unfolding micro_pattern
-micro_number-inverse Checkerboard h = absurd (false≢true h)
 micro_number-inverse HorizontalLines h = refl
-micro_number-inverse VerticalLines h = absurd (false≢true h)
-micro_number-inverse DiagonalLines h = absurd (false≢true h)
 micro_number-inverse LargeCheckerboard h = refl
-micro_number-inverse Fields h = absurd (false≢true h)
 micro_number-inverse Diamonds h = refl
 micro_number-inverse Meadow h = refl
+micro_number-inverse p h = absurd (false≢true h)
 
 -- the levels of the Micro version n, by the symbol numbers
 symbol_level : ℕ → ℕ → EcLevel
@@ -224,41 +202,26 @@ symbol_number-inverse : (n : ℕ) (l : EcLevel) → IsVersion (Micro (pos n)) �
 unfolding symbol_level
 symbol_number-inverse zero l h s = absurd (omega (arith, h.0))
 symbol_number-inverse (suc zero) L h s = (refl, omega arith)
-symbol_number-inverse (suc zero) M h s = absurd (false≢true s)
-symbol_number-inverse (suc zero) Q h s = absurd (false≢true s)
-symbol_number-inverse (suc zero) H h s = absurd (false≢true s)
 symbol_number-inverse (suc (suc zero)) L h s = (refl, omega arith)
 symbol_number-inverse (suc (suc zero)) M h s = (refl, omega arith)
-symbol_number-inverse (suc (suc zero)) Q h s = absurd (false≢true s)
-symbol_number-inverse (suc (suc zero)) H h s = absurd (false≢true s)
 symbol_number-inverse (suc (suc (suc zero))) L h s = (refl, omega arith)
 symbol_number-inverse (suc (suc (suc zero))) M h s = (refl, omega arith)
-symbol_number-inverse (suc (suc (suc zero))) Q h s = absurd (false≢true s)
-symbol_number-inverse (suc (suc (suc zero))) H h s = absurd (false≢true s)
 symbol_number-inverse (suc (suc (suc (suc zero)))) L h s = (refl, omega arith)
 symbol_number-inverse (suc (suc (suc (suc zero)))) M h s = (refl, omega arith)
 symbol_number-inverse (suc (suc (suc (suc zero)))) Q h s = (refl, omega arith)
-symbol_number-inverse (suc (suc (suc (suc zero)))) H h s = absurd (false≢true s)
 symbol_number-inverse (suc (suc (suc (suc (suc n))))) l h s = absurd (omega (arith, h.1))
+symbol_number-inverse n l h s = absurd (false≢true s)
 
 -- a format word that shows the same digits has the same data
-normal_data-same : (a b : ℕ) → a < 32 → b < 32 → differing_digits 15 (normal_format_word a) (normal_format_word b) ≡ 0 → a ≡ b
-normal_data-same a b h k e = elim (cases_eq a b) [
+data_same : (word : ℕ → ℕ) → ((a b : ℕ) → a < 32 → b < 32 → (a ≡ b → ⊥) → 7 ≤ differing_digits 15 (word (0 + a)) (word (0 + b))) →
+    (a b : ℕ) → a < 32 → b < 32 → differing_digits 15 (word a) (word b) ≡ 0 → a ≡ b
+data_same word apart a b h k e = elim (cases_eq a b) [
   | inl same ↦ same
   | inr ne ↦ (
-      let far : 7 ≤ differing_digits 15 (normal_format_word a) (normal_format_word b) =
-      subst (λ (x : ℕ). 7 ≤ differing_digits 15 (normal_format_word x) (normal_format_word b)) (let z : 0 + a ≡ a = omega arith in z)
-      (subst (λ (y : ℕ). 7 ≤ differing_digits 15 (normal_format_word (0 + a)) (normal_format_word y)) (let z : 0 + b ≡ b = omega arith in z) (normal_format_words_differ a b h k ne)) in
-      absurd (omega (arith, far, e)))
-]
-
-micro_data-same : (a b : ℕ) → a < 32 → b < 32 → differing_digits 15 (micro_format_word a) (micro_format_word b) ≡ 0 → a ≡ b
-micro_data-same a b h k e = elim (cases_eq a b) [
-  | inl same ↦ same
-  | inr ne ↦ (
-      let far : 7 ≤ differing_digits 15 (micro_format_word a) (micro_format_word b) =
-      subst (λ (x : ℕ). 7 ≤ differing_digits 15 (micro_format_word x) (micro_format_word b)) (let z : 0 + a ≡ a = omega arith in z)
-      (subst (λ (y : ℕ). 7 ≤ differing_digits 15 (micro_format_word (0 + a)) (micro_format_word y)) (let z : 0 + b ≡ b = omega arith in z) (micro_format_words_differ a b h k ne)) in
+      let za : 0 + a ≡ a = omega arith in
+      let zb : 0 + b ≡ b = omega arith in
+      let far : 7 ≤ differing_digits 15 (word a) (word b) = subst (λ (x : ℕ). 7 ≤ differing_digits 15 (word x) (word b)) za
+      (subst (λ (y : ℕ). 7 ≤ differing_digits 15 (word (0 + a)) (word y)) zb (apart a b h k ne)) in
       absurd (omega (arith, far, e)))
 ]
 
@@ -269,14 +232,14 @@ pub same_format : (version : Version) (l m : EcLevel) (p q : MaskPattern) (grid 
 same_format (Normal (pos n)) l m p q grid h sl sm fp fq f g =
     let none = none_differ 15 _ _ (same_digits (Normal (pos n)) (format_word (Normal (pos n)) l p) (format_word (Normal (pos n)) m q) grid h f g) in
     let bp = normal_number-below p in let bq = normal_number-below q in let bl = level_number-below l in let bm = level_number-below m in
-    let same : 8 * level_number l + normal_number p ≡ 8 * level_number m + normal_number q = normal_data-same _ _ (omega arith) (omega arith) none in
+    let same : 8 * level_number l + normal_number p ≡ 8 * level_number m + normal_number q = data_same normal_format_word normal_format_words_differ _ _ (omega arith) (omega arith) none in
     let levels : level_number l ≡ level_number m = omega arith in let masks : normal_number p ≡ normal_number q = omega arith in
     (sym (level_number-inverse l) ∙ ap numbered_level levels ∙ level_number-inverse m, sym (normal_number-inverse p) ∙ ap normal_pattern masks ∙ normal_number-inverse q)
 same_format (Normal (negsuc n)) l m p q grid h sl sm fp fq f g = absurd h
 same_format (Micro (pos n)) l m p q grid h sl sm fp fq f g =
     let none = none_differ 15 _ _ (same_digits (Micro (pos n)) (format_word (Micro (pos n)) l p) (format_word (Micro (pos n)) m q) grid h f g) in
     let bp = micro_number-below p fp in let bq = micro_number-below q fq in let bl = symbol_number-inverse n l h sl in let bm = symbol_number-inverse n m h sm in
-    let same : 4 * symbol_number n l + unwrap_or (micro_number p) 0 ≡ 4 * symbol_number n m + unwrap_or (micro_number q) 0 = micro_data-same _ _ (omega (arith, bl.1)) (omega (arith, bm.1)) none in
+    let same : 4 * symbol_number n l + unwrap_or (micro_number p) 0 ≡ 4 * symbol_number n m + unwrap_or (micro_number q) 0 = data_same micro_format_word micro_format_words_differ _ _ (omega (arith, bl.1)) (omega (arith, bm.1)) none in
     let levels : symbol_number n l ≡ symbol_number n m = omega arith in let masks : unwrap_or (micro_number p) 0 ≡ unwrap_or (micro_number q) 0 = omega arith in
     (sym bl.0 ∙ ap (symbol_level n) levels ∙ bm.0, sym (micro_number-inverse p fp) ∙ ap micro_pattern masks ∙ micro_number-inverse q fq)
 same_format (Micro (negsuc n)) l m p q grid h sl sm fp fq f g = absurd h

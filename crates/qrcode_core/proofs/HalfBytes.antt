@@ -36,19 +36,12 @@ lacks_in_one_block (Micro (pos (suc n))) level b e = micro n level e
   where
     micro : (n : ℕ) (level : EcLevel) → blocks_of (Micro (pos (suc n))) level ≡ Some b → (missing_bits (Micro (pos (suc n))) ≡ 0) ⊎ ((size : ℕ) × (block_sizes b ≡ size ∷ []))
     micro zero L e = inr (3, ap block_sizes (sym (same_Some _ _ e)))
-    micro zero M e = absurd (none-some b e)
-    micro zero Q e = absurd (none-some b e)
-    micro zero H e = absurd (none-some b e)
     micro (suc zero) level e = inl refl
     micro (suc (suc zero)) L e = inr (11, ap block_sizes (sym (same_Some _ _ e)))
     micro (suc (suc zero)) M e = inr (9, ap block_sizes (sym (same_Some _ _ e)))
-    micro (suc (suc zero)) Q e = absurd (none-some b e)
-    micro (suc (suc zero)) H e = absurd (none-some b e)
     micro (suc (suc (suc zero))) level e = inl refl
     micro (suc (suc (suc (suc n)))) L e = absurd (none-some b e)
-    micro (suc (suc (suc (suc n)))) M e = absurd (none-some b e)
-    micro (suc (suc (suc (suc n)))) Q e = absurd (none-some b e)
-    micro (suc (suc (suc (suc n)))) H e = absurd (none-some b e)
+    micro n level e = absurd (none-some b e)
 
 -- so the stream ends with the zeros with which the data end
 pub low_half : (version : Version) (level : EcLevel) (b : BlockLayout) (n : ℕ) (words stream correction : List ℕ) (frame : List Bool) → blocks_of version level ≡ Some b →

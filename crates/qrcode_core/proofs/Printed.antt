@@ -36,9 +36,8 @@ shows (Some c) (Some d) = same_color c d
 
 from_same_color : (c d : Color) → same_color c d ≡ true → d ≡ c
 from_same_color Dark Dark e = refl
-from_same_color Dark Light e = absurd (false≢true e)
-from_same_color Light Dark e = absurd (false≢true e)
 from_same_color Light Light e = refl
+from_same_color c d e = absurd (false≢true e)
 
 from_shows : (wanted seen : Option Color) (c : Color) → shows wanted seen ≡ true → wanted ≡ Some c → seen ≡ Some c
 from_shows None seen c e h = cc
