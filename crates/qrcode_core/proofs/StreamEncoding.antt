@@ -1,5 +1,5 @@
 -- The stream of the chosen plan in the smallest version, perhaps behind a header, turned into bytes and drawn, is the best symbol.
-use Rattle.std.proofs.Common.{◌≡◌, ℕ, ◌+◌, ◌<◌, ◌≤◌, refl, sym, ◌∙◌, arith, inl, inr, List, ◌++◌, length, length-append, take, Bool, subst}
+use Rattle.std.proofs.Common.{◌≡◌, ℕ, ◌+◌, ◌<◌, ◌≤◌, sym, ◌∙◌, arith, inl, inr, List, ◌++◌, length, length-append, take, Bool, subst}
 use Rattle.std.specs.Prelude.{Option, Some, None, All, IsSomeAnd, Result, IfErr}
 use Rattle.std.proofs.lemmas.Bool.{cases_lt}
 use Rattle.std.proofs.lemmas.Option.{none-some}
@@ -10,7 +10,7 @@ use Rattle.qrcode_base.specs.declared.types.Version.{Version}
 use Rattle.qrcode_base.specs.declared.types.errors.QrError.{QrError}
 use Rattle.qrcode_base.specs.declared.types.errors.QrError.TheVariants.{DataTooLong, OutOfMemory}
 use Rattle.qrcode_base.specs.Numbers.{byte_bits, zero_bits}
-use Rattle.qrcode_base.specs.Symbols.{blocks_of, capacity, capacity_with, data_bytes, missing_bits}
+use Rattle.qrcode_base.specs.Symbols.{blocks_of, capacity, data_bytes, missing_bits}
 use Rattle.qrcode_bits.specs.Choice.{normal, micro}
 use Rattle.qrcode_bits.specs.Encoding.{IsEncoding, IsUnencodable}
 use Rattle.qrcode_bits.specs.Frame.{Header, header_bits, spellings}
@@ -26,14 +26,11 @@ use Rattle.qrcode_core.specs.Layers.{IsEncoded, IsDrawn, AreAllCodewords, AreByt
 use Rattle.qrcode_core.proofs.Best.{best_symbol}
 use Rattle.qrcode_core.proofs.Ending.{bytes_of_ended}
 use Rattle.qrcode_core.proofs.Lengths.{length-encoded}
+use Rattle.std.proofs.lemmas.Grind.{common_steps}
 
 -- a symbol with a capacity has blocks
 pub has_blocks : (v : Version) (l : EcLevel) (limit : ℕ) → capacity v l ≡ Some limit → (b : BlockLayout) × (blocks_of v l ≡ Some b)
-has_blocks v l limit e = go (blocks_of v l) refl e
-  where
-    go : (o : Option BlockLayout) → blocks_of v l ≡ o → capacity_with v o ≡ Some limit → (b : BlockLayout) × (blocks_of v l ≡ Some b)
-    go None q e = absurd (none-some limit e)
-    go (Some b) q e = (b, q)
+has_blocks v l limit e = grind (arith, common_steps, none-some)
 
 module _ (kind : ℕ → Version) (header : Option Header) (bytes : List ℕ) (level : EcLevel) (limit : ℕ) (stream : Stream) (words : List ℕ) (are : All (λ c. c < 256) bytes)
     (encoding : IsEncoding kind header bytes level limit stream) (turned : AreBytesOf words stream.bits) where

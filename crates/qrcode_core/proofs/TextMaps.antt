@@ -1,5 +1,5 @@
 -- A tree of strings, read as a map from texts: what `insert` and `get` do to it.
-use Rattle.std.proofs.Common.{ℕ, ◌≡◌, List, [], ◌∷◌, Some, option_map, true, false, cond, refl, ap, subst, sym, String, map}
+use Rattle.std.proofs.Common.{ℕ, ◌≡◌, List, [], ◌∷◌, Some, option_map, true, false, cond, refl, ap, String, map}
 use Rattle.std.specs.List.{AllZip, AllByRecursion}
 use Rattle.std.specs.List.Sorted.{IsStrictlySortedBy}
 use Rattle.std.specs.declared.cmp.Ordering.TheVariants.{Less, Equal, Greater}
@@ -9,6 +9,8 @@ use Rattle.std.specs.String.{string_bytes, string_cmp}
 use Rattle.std.specs.BTreeMap.{insert_entry, is_at}
 use Rattle.std.specs.Map.{lookup, keys_of}
 use Rattle.qrcode_core.specs.Texts.{TextMap, text_cmp, text_entries, text_values, with_entry, at_key, key_texts}
+use Rattle.std.proofs.lemmas.Grind.{common_steps}
+use Rattle.std.proofs.Common.{arith}
 
 -- what `insert` makes of the entries
 pub text_entries_insert : {V : Type 0} (es : List (String Global × V)) (k : String Global) (v : V) → text_entries (insert_entry string_cmp es k v) ≡ with_entry (text_entries es) (string_bytes k) v
@@ -69,9 +71,7 @@ strings_sorted (k ∷ ks) sorted = (texts_after k ks sorted.0, strings_sorted ks
 -- the names of strings in order are in order
 pub texts_sorted : (names : List (List ℕ)) (ks : List (String Global))
     → names ≡ map string_bytes ks → IsStrictlySortedBy string_cmp ks → IsStrictlySortedBy text_cmp names
-texts_sorted names ks are sorted =
-    let P : List (List ℕ) → Type 0 = λ ns. IsStrictlySortedBy text_cmp ns in
-    subst P (sym are) (strings_sorted ks sorted)
+texts_sorted names ks are sorted = grind (arith, common_steps, strings_sorted)
 
 -- the names of a tree of strings, in order
 pub ruleset names_in_order = (text_entries_keys, text_values_keys, texts_sorted)
