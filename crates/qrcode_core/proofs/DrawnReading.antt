@@ -31,12 +31,14 @@ seen_bits [] (suc k) = ap (λ l. false ∷ l) (seen_bits [] k)
 seen_bits (true ∷ bits) k = ap (λ l. true ∷ l) (seen_bits bits k)
 seen_bits (false ∷ bits) k = ap (λ l. false ∷ l) (seen_bits bits k)
 
-with_layout : (version : Version) (level : EcLevel) (codewords interleaved correction : List ℕ) (layout : Option BlockLayout) → blocks_of version level ≡ layout →
+with_layout : (version : Version) (level : EcLevel) (codewords interleaved correction : List ℕ) (layout : Option BlockLayout) →
+    blocks_of version level ≡ layout →
     IsSomeAnd layout (λ b. AreCodewords b.correction (block_sizes b) codewords interleaved correction) → AreBytes interleaved → AreBytes correction →
     AreStreams version level codewords interleaved correction
 with_layout version level codewords interleaved correction layout e sound first second = grind (arith, common_steps)
 
-pub are_streams : (version : Version) (level : EcLevel) (codewords interleaved correction : List ℕ) → AreCodewordsOf version level codewords interleaved correction →
+pub are_streams : (version : Version) (level : EcLevel) (codewords interleaved correction : List ℕ) →
+    AreCodewordsOf version level codewords interleaved correction →
     AreBytes interleaved → AreBytes correction → AreStreams version level codewords interleaved correction
 are_streams version level codewords interleaved correction sound first second = grind (arith, common_steps, with_layout)
 

@@ -20,7 +20,8 @@ pub lacks : (v : Version) (l : EcLevel) (b : BlockLayout) → blocks_of v l ≡ 
 lacks v l b e = grind (arith, common_steps, none-some, same_Some)
 
 -- zeros of the half byte and zeros to the end of the last byte are together the missing bits
-zeros_are : (missing size limit half : ℕ) → (missing ≡ 0) ⊎ ((missing ≡ 4) × (1 ≤ size)) → limit ≡ 8 * size - missing → (half ≡ missing) ⊎ (half ≡ 0) → half + (8 - (limit + half) % 8) % 8 ≡ missing
+zeros_are : (missing size limit half : ℕ) → (missing ≡ 0) ⊎ ((missing ≡ 4) × (1 ≤ size)) → limit ≡ 8 * size - missing → (half ≡ missing) ⊎ (half ≡ 0) →
+    half + (8 - (limit + half) % 8) % 8 ≡ missing
 zeros_are missing size limit half lack sized zeros = grind (arith, common_steps)
 
 half_is : (t : Bool) (m : ℕ) → ((if t then m else 0) ≡ m) ⊎ ((if t then m else 0) ≡ 0)
@@ -31,13 +32,15 @@ pub length-tailed : (v : Version) (limit : ℕ) (payload : List Bool) → length
 length-tailed v limit payload fits = omega (arith, length-append payload (tail v limit (length payload)), length-tail v limit (length payload) fits)
 
 -- The bytes into which an ended stream is turned are its bits up to the capacity, and the missing bits as zeros.
-pub bytes_of_tailed : (v : Version) (l : EcLevel) (b : BlockLayout) (limit : ℕ) (payload : List Bool) (words : List ℕ) → blocks_of v l ≡ Some b → capacity v l ≡ Some limit → length payload ≤ limit →
+pub bytes_of_tailed : (v : Version) (l : EcLevel) (b : BlockLayout) (limit : ℕ) (payload : List Bool) (words : List ℕ) → blocks_of v l ≡ Some b →
+    capacity v l ≡ Some limit → length payload ≤ limit →
     byte_bits words ≡ ended v limit payload ++ zero_bits ((8 - length (ended v limit payload) % 8) % 8) → byte_bits words ≡ (payload ++ tail v limit (length payload)) ++ zero_bits (missing_bits v)
 bytes_of_tailed v l b limit payload words known limit_is fits are =
     grind (arith, common_steps, append_assoc, same_Some, length-ended, zeros_are, lacks, half_is, replicate-append-replicate)
 
 -- The same, where the bits up to the capacity are the first ones of the ended stream.
-pub bytes_of_ended : (v : Version) (l : EcLevel) (b : BlockLayout) (limit : ℕ) (payload : List Bool) (words : List ℕ) → blocks_of v l ≡ Some b → capacity v l ≡ Some limit → length payload ≤ limit →
+pub bytes_of_ended : (v : Version) (l : EcLevel) (b : BlockLayout) (limit : ℕ) (payload : List Bool) (words : List ℕ) → blocks_of v l ≡ Some b →
+    capacity v l ≡ Some limit → length payload ≤ limit →
     byte_bits words ≡ ended v limit payload ++ zero_bits ((8 - length (ended v limit payload) % 8) % 8) → byte_bits words ≡ take limit (ended v limit payload) ++ zero_bits (missing_bits v)
 bytes_of_ended v l b limit payload words known limit_is fits are =
     let half = half_byte_width v limit (length payload) in

@@ -69,7 +69,8 @@ digit_cell places cells k test below =
 option_or-some : (a b : Option Color) (c : Color) → a ≡ Some c → option_or a b ≡ Some c
 option_or-some a b c e = ap (λ a. option_or a b) e
 
-written_at : (word : ℕ) (places cells : List (ℕ × ℕ)) (k : ℕ) → IsDigitCell places cells k → written word places (cell cells k).0 (cell cells k).1 ≡ Some (digit_color (digit word k))
+written_at : (word : ℕ) (places cells : List (ℕ × ℕ)) (k : ℕ) → IsDigitCell places cells k →
+    written word places (cell cells k).0 (cell cells k).1 ≡ Some (digit_color (digit word k))
 written_at word places cells k at = ap (option_map (λ k. digit_color (digit word k))) at.digit_is
 
 not_dark_module : (n x y : ℕ) → 1 ≤ n → y ≤ 8 → (x == 8 && y == 4 * n + 17 - 8) ≡ false
@@ -177,7 +178,8 @@ micro_number-inverse p h = grind (arith, common_steps)
 symbol_level : ℕ → ℕ → EcLevel
 symbol_level n k = get_or (L ∷ M ∷ Q ∷ []) (k + 3 - max 3 (2 * n)) L
 
-symbol_number-inverse : (n : ℕ) (l : EcLevel) → IsVersion (Micro (pos n)) → IsSymbol (Micro (pos n)) l → (symbol_level n (symbol_number n l) ≡ l) × (symbol_number n l < 8)
+symbol_number-inverse : (n : ℕ) (l : EcLevel) → IsVersion (Micro (pos n)) → IsSymbol (Micro (pos n)) l →
+    (symbol_level n (symbol_number n l) ≡ l) × (symbol_number n l < 8)
 unfolding symbol_level
 symbol_number-inverse n l h s = grind (arith, common_steps)
 

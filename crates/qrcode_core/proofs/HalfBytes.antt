@@ -21,13 +21,15 @@ unfolding blocks_in block_in place
 one_block size stream long = grind (arith, common_steps, min, append-nil, map, same_lists, length-map-range_with_len, get_or_default, get_or-map-range_with_len)
 
 -- only symbols of one block lack bits
-lacks_in_one_block : (version : Version) (level : EcLevel) (b : BlockLayout) → blocks_of version level ≡ Some b → (missing_bits version ≡ 0) ⊎ ((size : ℕ) × (block_sizes b ≡ size ∷ []))
+lacks_in_one_block : (version : Version) (level : EcLevel) (b : BlockLayout) → blocks_of version level ≡ Some b →
+    (missing_bits version ≡ 0) ⊎ ((size : ℕ) × (block_sizes b ≡ size ∷ []))
 lacks_in_one_block (Normal n) level b e = inl refl
 lacks_in_one_block (Micro (negsuc n)) level b e = inl refl
 lacks_in_one_block (Micro (pos zero)) level b e = absurd (none-some b e)
 lacks_in_one_block (Micro (pos (suc n))) level b e = micro n level e
   where
-    micro : (n : ℕ) (level : EcLevel) → blocks_of (Micro (pos (suc n))) level ≡ Some b → (missing_bits (Micro (pos (suc n))) ≡ 0) ⊎ ((size : ℕ) × (block_sizes b ≡ size ∷ []))
+    micro : (n : ℕ) (level : EcLevel) → blocks_of (Micro (pos (suc n))) level ≡ Some b →
+        (missing_bits (Micro (pos (suc n))) ≡ 0) ⊎ ((size : ℕ) × (block_sizes b ≡ size ∷ []))
     micro zero L e = inr (3, ap block_sizes (sym (same_Some _ _ e)))
     micro (suc zero) level e = inl refl
     micro (suc (suc zero)) L e = inr (11, ap block_sizes (sym (same_Some _ _ e)))
@@ -37,7 +39,8 @@ lacks_in_one_block (Micro (pos (suc n))) level b e = micro n level e
     micro n level e = absurd (none-some b e)
 
 -- so the stream ends with the zeros with which the data end
-pub low_half : (version : Version) (level : EcLevel) (b : BlockLayout) (n : ℕ) (words stream correction : List ℕ) (frame : List Bool) → blocks_of version level ≡ Some b →
+pub low_half : (version : Version) (level : EcLevel) (b : BlockLayout) (n : ℕ) (words stream correction : List ℕ) (frame : List Bool) →
+    blocks_of version level ≡ Some b →
     AreCodewords n (block_sizes b) words stream correction → byte_bits words ≡ frame ++ zero_bits (missing_bits version) →
     (front : List Bool) × (byte_bits stream ≡ front ++ zero_bits (missing_bits version))
 low_half version level b n words stream correction frame e codes ends = elim (lacks_in_one_block version level b e) [

@@ -28,7 +28,8 @@ same_version grid v w l m p q a b f g =
     version-of_size v w (length grid) (version-of_blocks v l f.blocks f.has_level) (version-of_blocks w m g.blocks g.has_level) f.is_square g.is_square
 
 -- with one version, the levels and the masks are one
-with_version : (grid : List Color) (v : Version) (l m : EcLevel) (p q : MaskPattern) (a b : List Bool) → Carries grid v l p a → Carries grid v m q b → (l ≡ m) × (p ≡ q)
+with_version : (grid : List Color) (v : Version) (l m : EcLevel) (p q : MaskPattern) (a b : List Bool) → Carries grid v l p a → Carries grid v m q b →
+    (l ≡ m) × (p ≡ q)
 with_version grid v l m p q a b f s =
     same_format v l m p q grid (version-of_blocks v l f.blocks f.has_level) (is_symbol v l f.blocks f.has_level) (is_symbol v m s.blocks s.has_level) f.has_mask s.has_mask f.functional s.functional
 

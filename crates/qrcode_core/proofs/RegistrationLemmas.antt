@@ -8,7 +8,8 @@ use Rattle.std.proofs.lemmas.Grind.{common_steps}
 
 module _ {R E P : Type 0} where
   -- the registrations of two lists, one after the other
-  pub with_registrations_append : (s : Registered R E P) (xs ys : List (Registration R E P)) → with_registrations s (xs ++ ys) ≡ with_registrations (with_registrations s xs) ys
+  pub with_registrations_append : (s : Registered R E P) (xs ys : List (Registration R E P)) →
+      with_registrations s (xs ++ ys) ≡ with_registrations (with_registrations s xs) ys
   with_registrations_append s [] ys = refl
   with_registrations_append s (x ∷ xs) ys = with_registrations_append (with_registration s x) xs ys
 
@@ -17,7 +18,8 @@ module _ {R E P : Type 0} where
   beginning_of_more s t xs ys early = grind (arith, common_steps, length-append, take-append-le)
 
   -- a refusal among the second list, after all of the first
-  pub beginning_after : (s m t : Registered R E P) (xs ys : List (Registration R E P)) → m ≡ with_registrations s xs → RegistersBeginning m ys t → RegistersBeginning s (xs ++ ys) t
+  pub beginning_after : (s m t : Registered R E P) (xs ys : List (Registration R E P)) → m ≡ with_registrations s xs → RegistersBeginning m ys t →
+      RegistersBeginning s (xs ++ ys) t
   beginning_after s m t xs ys all (k, below, is) =
       let longer : length (xs ++ ys) ≡ length xs + length ys = length-append xs ys in (
         length xs + k,

@@ -72,7 +72,8 @@ module _ (kind : ℕ → Version) (header : Option Header) (bytes : List ℕ) (l
       (subst (λ (o : Option BlockLayout). IsSomeAnd o (λ b. length words ≡ data_bytes b)) (sym blocks.1) long)
 
   -- Drawn, they are the best symbol, in a version up to the limit, and it tells its reading.
-  best_of_words : (symbol : DrawnSymbol) → IsDrawn stream.version level words symbol → (best : IsBest kind header bytes level symbol.modules) × (best.number ≤ limit) × TellsReading symbol
+  best_of_words : (symbol : DrawnSymbol) → IsDrawn stream.version level words symbol →
+      (best : IsBest kind header bytes level symbol.modules) × (best.number ≤ limit) × TellsReading symbol
   best_of_words symbol drawn =
       let choice = encoding.choice in
       let best = best_symbol kind header bytes level encoding.number (front + total_bits version encoding.plan) encoding.plan words symbol encoded
@@ -91,7 +92,8 @@ pub best_of_stream : {kind : ℕ → Version} {header : Option Header} {bytes : 
 best_of_stream {symbol = symbol} are encoding held = best_of_words _ _ _ _ _ _ held.codewords are encoding held.turned symbol held.drawn
 
 -- What is encoded fits version 40.
-pub encoded_fits : {bytes : List ℕ} {level : EcLevel} {stream : Stream} (limit : ℕ) → limit ≤ 40 → IsEncoding normal None bytes level limit stream → IsTooLong bytes level → ⊥
+pub encoded_fits : {bytes : List ℕ} {level : EcLevel} {stream : Stream} (limit : ℕ) → limit ≤ 40 → IsEncoding normal None bytes level limit stream →
+    IsTooLong bytes level → ⊥
 encoded_fits {bytes = bytes} {level = level} limit h encoding long =
     let choice = encoding.choice in
     long encoding.plan (fits_last 0 encoding.number bytes level encoding.plan (let up = choice.up_to in omega arith) choice.fits)
@@ -107,7 +109,8 @@ encoded_short {header = header} {bytes = bytes} {level = level} limit h are enco
 pub encoded_micro_fits : {bytes : List ℕ} {level : EcLevel} {stream : Stream} → IsEncoding micro None bytes level 4 stream → IsTooLongForMicro bytes level → ⊥
 encoded_micro_fits encoding none = none encoding.number encoding.choice.up_to encoding.plan encoding.choice.fits
 
-pub encoded_micro_short : {bytes : List ℕ} {level : EcLevel} {stream : Stream} → All (λ c. c < 256) bytes → IsEncoding micro None bytes level 4 stream → length bytes ≤ 7089
+pub encoded_micro_short : {bytes : List ℕ} {level : EcLevel} {stream : Stream} → All (λ c. c < 256) bytes → IsEncoding micro None bytes level 4 stream →
+    length bytes ≤ 7089
 encoded_micro_short {bytes = bytes} {level = level} are encoding = elim (cases_lt 7089 (length bytes)) [
   | inl long ↦ absurd (long_for_micro bytes level are long encoding.number encoding.choice.up_to encoding.plan encoding.choice.fits)
   | inr short ↦ omega (arith, short)
