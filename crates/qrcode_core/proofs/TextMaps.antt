@@ -17,7 +17,9 @@ pub text_entries_insert : {V : Type 0} (es : List (String Global × V)) (k : Str
     text_entries (insert_entry string_cmp es k v) ≡ with_entry (text_entries es) (string_bytes k) v
 text_entries_insert [] k v = refl
 text_entries_insert {V = V} (e ∷ es) k v =
-    elim (text_cmp (string_bytes k) (string_bytes e.0)) as (λ o. text_entries (match_ordering o ((k, v) ∷ e ∷ es) ((e.0, v) ∷ es) (e ∷ insert_entry string_cmp es k v)) ≡ match_ordering o ((string_bytes k, v) ∷ text_entries (e ∷ es)) ((string_bytes e.0, v) ∷ text_entries es) ((string_bytes e.0, e.1) ∷ with_entry (text_entries es) (string_bytes k) v))
+    elim (text_cmp (string_bytes k) (string_bytes e.0)) as (λ o.
+    text_entries (match_ordering o ((k, v) ∷ e ∷ es) ((e.0, v) ∷ es) (e ∷ insert_entry string_cmp es k v))
+    ≡ match_ordering o ((string_bytes k, v) ∷ text_entries (e ∷ es)) ((string_bytes e.0, v) ∷ text_entries es) ((string_bytes e.0, e.1) ∷ with_entry (text_entries es) (string_bytes k) v))
     [ Less ↦ refl | Equal ↦ refl | Greater ↦ ap (λ (t : TextMap V). (string_bytes e.0, e.1) ∷ t) (text_entries_insert es k v) ]
 
 -- what a look-up by a text finds
@@ -31,7 +33,9 @@ pub text_values_insert : (m : TextMap (String Global)) (k : List ℕ) (v : Strin
     text_values (with_entry m k v) ≡ with_entry (text_values m) k (string_bytes v)
 text_values_insert [] k v = refl
 text_values_insert (e ∷ es) k v =
-    elim (text_cmp k e.0) as (λ o. text_values (match_ordering o ((k, v) ∷ e ∷ es) ((e.0, v) ∷ es) (e ∷ with_entry es k v)) ≡ match_ordering o ((k, string_bytes v) ∷ text_values (e ∷ es)) ((e.0, string_bytes v) ∷ text_values es) ((e.0, string_bytes e.1) ∷ with_entry (text_values es) k (string_bytes v)))
+    elim (text_cmp k e.0) as (λ o.
+    text_values (match_ordering o ((k, v) ∷ e ∷ es) ((e.0, v) ∷ es) (e ∷ with_entry es k v))
+    ≡ match_ordering o ((k, string_bytes v) ∷ text_values (e ∷ es)) ((e.0, string_bytes v) ∷ text_values es) ((e.0, string_bytes e.1) ∷ with_entry (text_values es) k (string_bytes v)))
     [ Less ↦ refl | Equal ↦ refl | Greater ↦ ap (λ (t : TextMap (List ℕ)). (e.0, string_bytes e.1) ∷ t) (text_values_insert es k v) ]
 
 pub text_values_lookup : (bs : List ℕ) (m : TextMap (String Global)) → at_key (text_values m) bs ≡ option_map string_bytes (at_key m bs)
