@@ -4,14 +4,13 @@ use Rattle.std.specs.Prelude.{Option, IsSomeAnd}
 use Rattle.qrcode_base.specs.declared.symbols.BlockLayout.{BlockLayout}
 use Rattle.qrcode_base.specs.declared.types.EcLevel.{EcLevel}
 use Rattle.qrcode_base.specs.declared.types.Version.{Version}
-use Rattle.qrcode_base.specs.declared.types.errors.QrError.{QrError}
 use Rattle.qrcode_base.specs.Numbers.{byte_bits, zero_bits}
 use Rattle.qrcode_base.specs.Symbols.{data_bytes, missing_bits}
 use Rattle.qrcode_bits.specs.Frame.{tail}
-use Rattle.qrcode_bits.specs.Push.{EndsAtLevel, IsLevelRefused}
+use Rattle.qrcode_bits.specs.Push.{EndsAtLevel}
 use Rattle.qrcode_bits.specs.Stream.{Stream}
 use Rattle.qrcode_core.specs.Drawn.{DrawnSymbol, TellsReading}
-use Rattle.qrcode_core.specs.HeldBits.{HoldsStream, IsStreamRefusal}
+use Rattle.qrcode_core.specs.HeldBits.{HoldsStream}
 use Rattle.qrcode_core.specs.Layers.{IsDrawn, AreAllCodewords, AreBytesOf, FillsSymbol, IsDrawnStream}
 use Rattle.qrcode_core.proofs.Best.{of_family}
 use Rattle.qrcode_core.proofs.BlocksApart.{carries_apart}
@@ -65,7 +64,3 @@ module _ (old new : Stream) (level : EcLevel) (ended : EndsAtLevel old new level
       let held = (holds_stream symbol made).holds in
       let same = held.only reading.version reading.level reading.mask seen.frame seen.carries in
       (held.version_is ∙ sym same.0, held.level_is ∙ sym same.1, sym same.2)
-
--- What refuses the end of the bits refuses the symbol.
-pub stream_refusal : (stream : Stream) (level : EcLevel) (e : QrError) → IsLevelRefused stream level e → IsStreamRefusal stream level e
-stream_refusal stream level e why = grind (arith, common_steps)
