@@ -1,10 +1,9 @@
 -- The grid that is drawn of the best frame, under the first mask of least penalty, is the best symbol.
-use Rattle.std.proofs.Common.{◌≡◌, ℕ, zero, suc, ◌<◌, refl, ap, ◌∙◌, List, length, subst}
+use Rattle.std.proofs.Common.{◌≡◌, ℕ, ◌<◌, refl, ap, ◌∙◌, List, length}
 use Rattle.std.specs.Prelude.{Option, Some, slice_get}
 use Rattle.std.proofs.lemmas.Option.{none-some, same_Some}
 use Rattle.qrcode_base.specs.declared.types.EcLevel.{EcLevel}
 use Rattle.qrcode_base.specs.declared.types.Version.{Version}
-use Rattle.qrcode_base.specs.declared.types.Version.TheVariants.{Normal, Micro}
 use Rattle.qrcode_bits.specs.declared.optimize.Segment.{Segment}
 use Rattle.qrcode_bits.specs.Choice.{Fits, FitsNot, IsLeastBits}
 use Rattle.qrcode_bits.specs.Frame.{Header, header_bits}
@@ -18,15 +17,12 @@ use Rattle.qrcode_core.proofs.BlocksApart.{blocks_apart}
 use Rattle.qrcode_core.proofs.DrawnReading.{drawn_reading}
 use Rattle.qrcode_core.proofs.GridsApart.{grids_apart}
 use Rattle.qrcode_core.proofs.OneReading.{one_reading}
+use Rattle.std.proofs.lemmas.Grind.{common_steps}
+use Rattle.std.proofs.Common.{arith}
 
 -- a mask at a place of the family is one of the family
 pub of_family : (version : Version) (i : ℕ) (mask : MaskPattern) → slice_get (family version) i ≡ Some mask → IsOfFamily version mask
-of_family (Normal n) i mask e = tt
-of_family (Micro n) zero mask e = subst (λ (m : MaskPattern). IsOfFamily (Micro n) m) (same_Some _ mask e) refl
-of_family (Micro n) (suc zero) mask e = subst (λ (m : MaskPattern). IsOfFamily (Micro n) m) (same_Some _ mask e) refl
-of_family (Micro n) (suc (suc zero)) mask e = subst (λ (m : MaskPattern). IsOfFamily (Micro n) m) (same_Some _ mask e) refl
-of_family (Micro n) (suc (suc (suc zero))) mask e = subst (λ (m : MaskPattern). IsOfFamily (Micro n) m) (same_Some _ mask e) refl
-of_family (Micro n) (suc (suc (suc (suc i)))) mask e = absurd (none-some mask e)
+of_family version i mask e = grind (arith, common_steps, none-some, same_Some)
 
 -- What is read of a symbol with its own version, level and mask is all that it tells.
 pub tells_reading : (symbol : DrawnSymbol) (known : Reading) → Reads symbol.modules known →

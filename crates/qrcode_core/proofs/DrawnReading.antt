@@ -1,6 +1,6 @@
 -- A grid that carries the codewords of a frame is read as the frame's bytes.
 use Rattle.std.proofs.Common.{◌≡◌, ℕ, zero, suc, ◌-◌, ◌*◌, refl, ap, ◌∙◌, arith, List, [], ◌∷◌, ◌++◌, length, map, take, replicate, Bool, true, false, append_assoc}
-use Rattle.std.specs.Prelude.{Option, Some, None, IsSomeAnd}
+use Rattle.std.specs.Prelude.{Option, IsSomeAnd}
 use Rattle.qrcode_base.specs.declared.symbols.BlockLayout.{BlockLayout}
 use Rattle.qrcode_base.specs.declared.types.Color.{Color}
 use Rattle.qrcode_base.specs.declared.types.Color.TheVariants.{Light}
@@ -22,6 +22,7 @@ use Rattle.qrcode_grid.specs.Symbol.{CarriesCodewords}
 use Rattle.qrcode_core.specs.Layers.{IsEncoded, AreStreams}
 use Rattle.qrcode_core.specs.Reader.{Carries, Reads, reading_of}
 use Rattle.qrcode_core.proofs.HalfBytes.{low_half, cut_at}
+use Rattle.std.proofs.lemmas.Grind.{common_steps}
 
 -- bits that are drawn are seen again
 seen_bits : (bits : List Bool) (k : ℕ) → map is_dark (map bit_color bits ++ replicate k Light) ≡ bits ++ zero_bits k
@@ -30,17 +31,16 @@ seen_bits [] (suc k) = ap (λ l. false ∷ l) (seen_bits [] k)
 seen_bits (true ∷ bits) k = ap (λ l. true ∷ l) (seen_bits bits k)
 seen_bits (false ∷ bits) k = ap (λ l. false ∷ l) (seen_bits bits k)
 
-with_layout : (version : Version) (level : EcLevel) (codewords interleaved correction : List ℕ) (layout : Option BlockLayout) → blocks_of version level ≡ layout →
+with_layout : (version : Version) (level : EcLevel) (codewords interleaved correction : List ℕ) (layout : Option BlockLayout) →
+    blocks_of version level ≡ layout →
     IsSomeAnd layout (λ b. AreCodewords b.correction (block_sizes b) codewords interleaved correction) → AreBytes interleaved → AreBytes correction →
     AreStreams version level codewords interleaved correction
-with_layout version level codewords interleaved correction None e sound first second = absurd sound
-with_layout version level codewords interleaved correction (Some b) e sound first second =
-    record { blocks = b; has_level = e; bytes_interleaved = first; bytes_correction = second; sound = sound }
+with_layout version level codewords interleaved correction layout e sound first second = grind (arith, common_steps)
 
-pub are_streams : (version : Version) (level : EcLevel) (codewords interleaved correction : List ℕ) → AreCodewordsOf version level codewords interleaved correction →
+pub are_streams : (version : Version) (level : EcLevel) (codewords interleaved correction : List ℕ) →
+    AreCodewordsOf version level codewords interleaved correction →
     AreBytes interleaved → AreBytes correction → AreStreams version level codewords interleaved correction
-are_streams version level codewords interleaved correction sound first second =
-    with_layout version level codewords interleaved correction (blocks_of version level) refl sound first second
+are_streams version level codewords interleaved correction sound first second = grind (arith, common_steps, with_layout)
 
 -- The grid of the codewords of some bits carries the bits.
 pub drawn_carries : (version : Version) (level : EcLevel) (mask : MaskPattern) (bits : List Bool) (codewords interleaved correction : List ℕ) (grid : List Color) →

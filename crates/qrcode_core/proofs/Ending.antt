@@ -1,75 +1,46 @@
 -- The codewords of an ended stream hold its frame.
-use Rattle.std.proofs.Common.{◌≡◌, ℕ, zero, suc, pos, negsuc, ◌+◌, ◌-◌, ◌*◌, ◌%◌, ◌≤◌, refl, ap, sym, ◌∙◌, arith, inl, inr, ◌⊎◌, List, ◌++◌, length, take, Bool, length-append, append_assoc}
-use Rattle.std.specs.Prelude.{Some, nat_lt, if◌then◌else◌}
+use Rattle.std.proofs.Common.{◌≡◌, ℕ, ◌+◌, ◌-◌, ◌*◌, ◌%◌, ◌≤◌, ap, sym, ◌∙◌, arith, ◌⊎◌, List, ◌++◌, length, take, Bool, length-append, append_assoc}
+use Rattle.std.specs.Prelude.{Some, if◌then◌else◌}
 use Rattle.std.proofs.lemmas.List.{take_at, replicate-append-replicate}
 use Rattle.std.proofs.lemmas.Option.{none-some, same_Some}
 use Rattle.qrcode_base.specs.declared.types.EcLevel.{EcLevel}
-use Rattle.qrcode_base.specs.declared.types.EcLevel.TheVariants.{L, M, Q, H}
 use Rattle.qrcode_base.specs.declared.types.Version.{Version}
-use Rattle.qrcode_base.specs.declared.types.Version.TheVariants.{Normal, Micro}
 use Rattle.qrcode_base.specs.declared.symbols.BlockLayout.{BlockLayout}
-use Rattle.qrcode_base.specs.Symbols.{blocks_of, data_bytes, missing_bits, capacity, capacity_with}
+use Rattle.qrcode_base.specs.Symbols.{blocks_of, data_bytes, missing_bits, capacity}
 use Rattle.qrcode_base.specs.Numbers.{byte_bits, zero_bits}
-use Rattle.qrcode_bits.specs.Frame.{terminator_width, tail, half_byte, half_byte_width, ended}
+use Rattle.qrcode_bits.specs.Frame.{tail, half_byte, half_byte_width, ended}
 use Rattle.qrcode_bits.proofs.Streams.{length-tail, length-ended}
+use Rattle.std.proofs.lemmas.Grind.{common_steps}
 
 -- no bits are missing, or four of at least one byte
 abbrev pub Lacks : Version → BlockLayout → Type 0
 Lacks v b = (missing_bits v ≡ 0) ⊎ ((missing_bits v ≡ 4) × (1 ≤ data_bytes b))
 
 pub lacks : (v : Version) (l : EcLevel) (b : BlockLayout) → blocks_of v l ≡ Some b → Lacks v b
-lacks (Normal n) l b e = inl refl
-lacks (Micro (negsuc n)) l b e = inl refl
-lacks (Micro (pos zero)) l b e = absurd (none-some b e)
-lacks (Micro (pos (suc n))) l b e = micro n l e
-  where
-    micro : (n : ℕ) (l : EcLevel) → blocks_of (Micro (pos (suc n))) l ≡ Some b → Lacks (Micro (pos (suc n))) b
-    micro zero L e = let d : 3 ≡ data_bytes b = ap data_bytes (same_Some _ _ e) in inr (refl, omega arith)
-    micro zero M e = absurd (none-some b e)
-    micro zero Q e = absurd (none-some b e)
-    micro zero H e = absurd (none-some b e)
-    micro (suc zero) l e = inl refl
-    micro (suc (suc zero)) L e = let d : 11 ≡ data_bytes b = ap data_bytes (same_Some _ _ e) in inr (refl, omega arith)
-    micro (suc (suc zero)) M e = let d : 9 ≡ data_bytes b = ap data_bytes (same_Some _ _ e) in inr (refl, omega arith)
-    micro (suc (suc zero)) Q e = absurd (none-some b e)
-    micro (suc (suc zero)) H e = absurd (none-some b e)
-    micro (suc (suc (suc zero))) l e = inl refl
-    micro (suc (suc (suc (suc n)))) L e = absurd (none-some b e)
-    micro (suc (suc (suc (suc n)))) M e = absurd (none-some b e)
-    micro (suc (suc (suc (suc n)))) Q e = absurd (none-some b e)
-    micro (suc (suc (suc (suc n)))) H e = absurd (none-some b e)
+lacks v l b e = grind (arith, common_steps, none-some, same_Some)
 
 -- zeros of the half byte and zeros to the end of the last byte are together the missing bits
-zeros_are : (missing size limit half : ℕ) → (missing ≡ 0) ⊎ ((missing ≡ 4) × (1 ≤ size)) → limit ≡ 8 * size - missing → (half ≡ missing) ⊎ (half ≡ 0) → half + (8 - (limit + half) % 8) % 8 ≡ missing
-zeros_are missing size limit half (inl a) e (inl h) = omega arith
-zeros_are missing size limit half (inl a) e (inr h) = omega arith
-zeros_are missing size limit half (inr a) e (inl h) = omega (arith, a.0, a.1)
-zeros_are missing size limit half (inr a) e (inr h) = omega (arith, a.0, a.1)
+zeros_are : (missing size limit half : ℕ) → (missing ≡ 0) ⊎ ((missing ≡ 4) × (1 ≤ size)) → limit ≡ 8 * size - missing → (half ≡ missing) ⊎ (half ≡ 0) →
+    half + (8 - (limit + half) % 8) % 8 ≡ missing
+zeros_are missing size limit half lack sized zeros = grind (arith, common_steps)
 
 half_is : (t : Bool) (m : ℕ) → ((if t then m else 0) ≡ m) ⊎ ((if t then m else 0) ≡ 0)
-half_is Bool.true m = inl refl
-half_is Bool.false m = inr refl
+half_is t m = grind (arith, common_steps)
 
 -- what follows the payload of a stream reaches its capacity
 pub length-tailed : (v : Version) (limit : ℕ) (payload : List Bool) → length payload ≤ limit → length (payload ++ tail v limit (length payload)) ≡ limit
 length-tailed v limit payload fits = omega (arith, length-append payload (tail v limit (length payload)), length-tail v limit (length payload) fits)
 
 -- The bytes into which an ended stream is turned are its bits up to the capacity, and the missing bits as zeros.
-pub bytes_of_tailed : (v : Version) (l : EcLevel) (b : BlockLayout) (limit : ℕ) (payload : List Bool) (words : List ℕ) → blocks_of v l ≡ Some b → capacity v l ≡ Some limit → length payload ≤ limit →
+pub bytes_of_tailed : (v : Version) (l : EcLevel) (b : BlockLayout) (limit : ℕ) (payload : List Bool) (words : List ℕ) → blocks_of v l ≡ Some b →
+    capacity v l ≡ Some limit → length payload ≤ limit →
     byte_bits words ≡ ended v limit payload ++ zero_bits ((8 - length (ended v limit payload) % 8) % 8) → byte_bits words ≡ (payload ++ tail v limit (length payload)) ++ zero_bits (missing_bits v)
 bytes_of_tailed v l b limit payload words known limit_is fits are =
-    let half = half_byte_width v limit (length payload) in
-    let frame : List Bool = payload ++ tail v limit (length payload) in
-    let whole : ended v limit payload ≡ frame ++ zero_bits half = sym (append_assoc payload (tail v limit (length payload)) (half_byte v limit (length payload))) in
-    let sized : limit ≡ 8 * data_bytes b - missing_bits v = same_Some limit (8 * data_bytes b - missing_bits v) (sym limit_is ∙ ap (capacity_with v) known) in
-    let rest = (8 - length (ended v limit payload) % 8) % 8 in
-    let rest_is : half + rest ≡ missing_bits v =
-    ap (λ (k : ℕ). half + (8 - k % 8) % 8) (length-ended v limit payload fits) ∙ zeros_are (missing_bits v) (data_bytes b) limit half (lacks v l b known) sized (half_is (nat_lt (length payload + terminator_width v) limit) (missing_bits v)) in
-    are ∙ ap (λ (z : List Bool). z ++ zero_bits rest) whole ∙ append_assoc frame (zero_bits half) (zero_bits rest)
-    ∙ ap (λ (z : List Bool). frame ++ z) (replicate-append-replicate half rest Bool.false ∙ ap zero_bits rest_is)
+    grind (arith, common_steps, append_assoc, same_Some, length-ended, zeros_are, lacks, half_is, replicate-append-replicate)
 
 -- The same, where the bits up to the capacity are the first ones of the ended stream.
-pub bytes_of_ended : (v : Version) (l : EcLevel) (b : BlockLayout) (limit : ℕ) (payload : List Bool) (words : List ℕ) → blocks_of v l ≡ Some b → capacity v l ≡ Some limit → length payload ≤ limit →
+pub bytes_of_ended : (v : Version) (l : EcLevel) (b : BlockLayout) (limit : ℕ) (payload : List Bool) (words : List ℕ) → blocks_of v l ≡ Some b →
+    capacity v l ≡ Some limit → length payload ≤ limit →
     byte_bits words ≡ ended v limit payload ++ zero_bits ((8 - length (ended v limit payload) % 8) % 8) → byte_bits words ≡ take limit (ended v limit payload) ++ zero_bits (missing_bits v)
 bytes_of_ended v l b limit payload words known limit_is fits are =
     let half = half_byte_width v limit (length payload) in

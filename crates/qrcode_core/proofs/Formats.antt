@@ -1,9 +1,9 @@
 -- The functional colours of a grid tell the level and the mask.
-use Rattle.std.proofs.Common.{◌≡◌, ℕ, zero, suc, pos, negsuc, ◌+◌, ◌-◌, ◌*◌, ◌==◌, ◌&&◌, nat_le, ◌<◌, ◌≤◌, refl, ap, sym, ◌∙◌, arith, inl, inr, List, [], ◌∷◌, Bool, true, false, get_or, not, subst, max, cond}
+use Rattle.std.proofs.Common.{◌≡◌, ℕ, zero, suc, pos, negsuc, ◌+◌, ◌-◌, ◌*◌, ◌==◌, ◌&&◌, nat_le, ◌<◌, ◌≤◌, refl, ap, sym, ◌∙◌, arith, inl, inr, List, [], ◌∷◌, Bool, true, false, get_or, subst, max, cond}
 use Rattle.std.specs.Prelude.{Option, Some, None, option_map, is_some, unwrap_or, IsTrue, slice_get}
 use Rattle.std.specs.Option.{option_or}
 use Rattle.std.specs.List.{range_with_len, count_by}
-use Rattle.std.proofs.lemmas.Bool.{cases_eq, ne_eqb, false≢true, eqb-true, leb-true, eq-eqb}
+use Rattle.std.proofs.lemmas.Bool.{cases_eq, ne_eqb, eqb-true, leb-true, eq-eqb}
 use Rattle.std.proofs.lemmas.List.Sums.{sum_by-cons}
 use Rattle.std.proofs.lemmas.Option.{same_Some}
 use Rattle.qrcode_base.specs.declared.types.Color.{Color}
@@ -13,7 +13,7 @@ use Rattle.qrcode_base.specs.declared.types.EcLevel.TheVariants.{L, M, Q, H}
 use Rattle.qrcode_base.specs.declared.types.Version.{Version}
 use Rattle.qrcode_base.specs.declared.types.Version.TheVariants.{Normal, Micro}
 use Rattle.qrcode_grid.specs.declared.canvas.MaskPattern.{MaskPattern}
-use Rattle.qrcode_grid.specs.declared.canvas.MaskPattern.TheVariants.{Checkerboard, HorizontalLines, VerticalLines, DiagonalLines, LargeCheckerboard, Fields, Diamonds, Meadow}
+use Rattle.qrcode_grid.specs.declared.canvas.MaskPattern.TheVariants.{Checkerboard, HorizontalLines}
 use Rattle.qrcode_grid.specs.Words.{digit, digit_color, differing_digits, normal_format_word, micro_format_word}
 use Rattle.qrcode_grid.specs.Regions.{functional_color, written, digit_at, format_first, format_second, format_micro, first_some, where_true}
 use Rattle.qrcode_grid.specs.Masks.{format_color, format_word, normal_number, micro_number, level_number, symbol_number, IsOfFamily, normal_patterns, micro_patterns, HasFunctionalColors}
@@ -21,6 +21,7 @@ use Rattle.qrcode_base.specs.Symbols.{IsVersion, IsSymbol, width_of}
 use Rattle.qrcode_grid.proofs.Tests.{all_pass, passes, both}
 use Rattle.qrcode_grid.proofs.FormatCells.{functional_color-format}
 use Rattle.qrcode_grid.proofs.Distances.{normal_format_words_differ, micro_format_words_differ}
+use Rattle.std.proofs.lemmas.Grind.{common_steps}
 
 -- ---- The first copy of the format word, in both families
 
@@ -51,8 +52,7 @@ micro_at : all_pass (is_at format_micro micro_cells) 0 15 ≡ true
 micro_at = refl
 
 from_is_digit : (o : Option ℕ) (k : ℕ) → is_digit o k ≡ true → o ≡ Some k
-from_is_digit None k h = absurd (false≢true h)
-from_is_digit (Some j) k h = ap (λ k. Some k) (eqb-true j k h)
+from_is_digit o k h = grind (arith, common_steps, eqb-true)
 
 pub record IsDigitCell (places cells : List (ℕ × ℕ)) (k : ℕ) : Type 0 where
   pub column : (cell cells k).0 ≤ 8
@@ -69,16 +69,12 @@ digit_cell places cells k test below =
 option_or-some : (a b : Option Color) (c : Color) → a ≡ Some c → option_or a b ≡ Some c
 option_or-some a b c e = ap (λ a. option_or a b) e
 
-written_at : (word : ℕ) (places cells : List (ℕ × ℕ)) (k : ℕ) → IsDigitCell places cells k → written word places (cell cells k).0 (cell cells k).1 ≡ Some (digit_color (digit word k))
+written_at : (word : ℕ) (places cells : List (ℕ × ℕ)) (k : ℕ) → IsDigitCell places cells k →
+    written word places (cell cells k).0 (cell cells k).1 ≡ Some (digit_color (digit word k))
 written_at word places cells k at = ap (option_map (λ k. digit_color (digit word k))) at.digit_is
 
 not_dark_module : (n x y : ℕ) → 1 ≤ n → y ≤ 8 → (x == 8 && y == 4 * n + 17 - 8) ≡ false
-not_dark_module n x y low h =
-    ap (λ b. x == 8 && b) (ne_eqb y (4 * n + 17 - 8) (λ e. omega (arith, e, low, h))) ∙ and_false (x == 8)
-  where
-    and_false : (b : Bool) → (b && false) ≡ false
-    and_false true = refl
-    and_false false = refl
+not_dark_module n x y low h = grind (arith, common_steps, ne_eqb)
 
 first_of_three : (b : Bool) (p q : Option Color) (c : Color) → b ≡ false → p ≡ Some c → first_some (where_true b Dark ∷ p ∷ q ∷ []) ≡ Some c
 first_of_three b p q c e f = ap (λ b. first_some (where_true b Dark ∷ p ∷ q ∷ [])) e ∙ ap (λ p. first_some (None ∷ p ∷ q ∷ [])) f
@@ -123,10 +119,7 @@ shows_digit (Micro (negsuc n)) format k h below = absurd h
 -- ---- Equal words
 
 color-injective : (a b : ℕ) → a < 2 → b < 2 → digit_color a ≡ digit_color b → a ≡ b
-color-injective zero zero h k e = refl
-color-injective zero (suc b) h k e = absurd cc
-color-injective (suc a) zero h k e = absurd cc
-color-injective (suc a) (suc b) h k e = omega arith
+color-injective a b h k e = grind (arith, common_steps)
 
 -- A grid that has the functional colours of two format words shows the same digits of both.
 pub same_digits : (version : Version) (a b : ℕ) (grid : List Color) → IsVersion version →
@@ -146,119 +139,60 @@ none_counted p a (suc n) h =
     omega (arith, sum_by-cons (λ k. cond (p k) 1 0) a (range_with_len (a + 1) n), none_counted p (a + 1) n (λ k low high. h k (omega arith) (omega arith)), here)
 
 none_differ : (n a b : ℕ) → ((k : ℕ) → k < n → digit a k ≡ digit b k) → differing_digits n a b ≡ 0
-none_differ n a b same =
-    none_counted (λ k. not (digit a k == digit b k)) 0 n (λ k low high. ap not (eq-eqb (digit a k) (digit b k) (same k (omega arith))))
+none_differ n a b same = grind (arith, common_steps, none_counted, eq-eqb)
 
 -- ---- The words tell level and mask
 
 normal_number-below : (p : MaskPattern) → normal_number p < 8
-normal_number-below Checkerboard = omega arith
-normal_number-below HorizontalLines = omega arith
-normal_number-below VerticalLines = omega arith
-normal_number-below DiagonalLines = omega arith
-normal_number-below LargeCheckerboard = omega arith
-normal_number-below Fields = omega arith
-normal_number-below Diamonds = omega arith
-normal_number-below Meadow = omega arith
+normal_number-below p = grind (arith, common_steps)
 
 normal_pattern : ℕ → MaskPattern
 normal_pattern k = get_or normal_patterns k Checkerboard
 
 normal_number-inverse : (p : MaskPattern) → normal_pattern (normal_number p) ≡ p
 unfolding normal_pattern
-normal_number-inverse Checkerboard = refl
-normal_number-inverse HorizontalLines = refl
-normal_number-inverse VerticalLines = refl
-normal_number-inverse DiagonalLines = refl
-normal_number-inverse LargeCheckerboard = refl
-normal_number-inverse Fields = refl
-normal_number-inverse Diamonds = refl
-normal_number-inverse Meadow = refl
+normal_number-inverse p = grind (arith, common_steps)
 
 level_number-below : (l : EcLevel) → level_number l < 4
-level_number-below L = omega arith
-level_number-below M = omega arith
-level_number-below Q = omega arith
-level_number-below H = omega arith
+level_number-below l = grind (arith, common_steps)
 
 numbered_level : ℕ → EcLevel
 numbered_level k = get_or (M ∷ L ∷ H ∷ Q ∷ []) k M
 
 level_number-inverse : (l : EcLevel) → numbered_level (level_number l) ≡ l
 unfolding numbered_level
-level_number-inverse L = refl
-level_number-inverse M = refl
-level_number-inverse Q = refl
-level_number-inverse H = refl
+level_number-inverse l = grind (arith, common_steps)
 
 micro_pattern : ℕ → MaskPattern
 micro_pattern k = get_or micro_patterns k HorizontalLines
 
 -- a mask of the Micro family has a number below 4, which tells it
 micro_number-below : (p : MaskPattern) → IsTrue (is_some (micro_number p)) → unwrap_or (micro_number p) 0 < 4
-micro_number-below Checkerboard h = absurd (false≢true h)
-micro_number-below HorizontalLines h = omega arith
-micro_number-below VerticalLines h = absurd (false≢true h)
-micro_number-below DiagonalLines h = absurd (false≢true h)
-micro_number-below LargeCheckerboard h = omega arith
-micro_number-below Fields h = absurd (false≢true h)
-micro_number-below Diamonds h = omega arith
-micro_number-below Meadow h = omega arith
+micro_number-below p h = grind (arith, common_steps)
 
 micro_number-inverse : (p : MaskPattern) → IsTrue (is_some (micro_number p)) → micro_pattern (unwrap_or (micro_number p) 0) ≡ p
 unfolding micro_pattern
-micro_number-inverse Checkerboard h = absurd (false≢true h)
-micro_number-inverse HorizontalLines h = refl
-micro_number-inverse VerticalLines h = absurd (false≢true h)
-micro_number-inverse DiagonalLines h = absurd (false≢true h)
-micro_number-inverse LargeCheckerboard h = refl
-micro_number-inverse Fields h = absurd (false≢true h)
-micro_number-inverse Diamonds h = refl
-micro_number-inverse Meadow h = refl
+micro_number-inverse p h = grind (arith, common_steps)
 
 -- the levels of the Micro version n, by the symbol numbers
 symbol_level : ℕ → ℕ → EcLevel
 symbol_level n k = get_or (L ∷ M ∷ Q ∷ []) (k + 3 - max 3 (2 * n)) L
 
-symbol_number-inverse : (n : ℕ) (l : EcLevel) → IsVersion (Micro (pos n)) → IsSymbol (Micro (pos n)) l → (symbol_level n (symbol_number n l) ≡ l) × (symbol_number n l < 8)
+symbol_number-inverse : (n : ℕ) (l : EcLevel) → IsVersion (Micro (pos n)) → IsSymbol (Micro (pos n)) l →
+    (symbol_level n (symbol_number n l) ≡ l) × (symbol_number n l < 8)
 unfolding symbol_level
-symbol_number-inverse zero l h s = absurd (omega (arith, h.0))
-symbol_number-inverse (suc zero) L h s = (refl, omega arith)
-symbol_number-inverse (suc zero) M h s = absurd (false≢true s)
-symbol_number-inverse (suc zero) Q h s = absurd (false≢true s)
-symbol_number-inverse (suc zero) H h s = absurd (false≢true s)
-symbol_number-inverse (suc (suc zero)) L h s = (refl, omega arith)
-symbol_number-inverse (suc (suc zero)) M h s = (refl, omega arith)
-symbol_number-inverse (suc (suc zero)) Q h s = absurd (false≢true s)
-symbol_number-inverse (suc (suc zero)) H h s = absurd (false≢true s)
-symbol_number-inverse (suc (suc (suc zero))) L h s = (refl, omega arith)
-symbol_number-inverse (suc (suc (suc zero))) M h s = (refl, omega arith)
-symbol_number-inverse (suc (suc (suc zero))) Q h s = absurd (false≢true s)
-symbol_number-inverse (suc (suc (suc zero))) H h s = absurd (false≢true s)
-symbol_number-inverse (suc (suc (suc (suc zero)))) L h s = (refl, omega arith)
-symbol_number-inverse (suc (suc (suc (suc zero)))) M h s = (refl, omega arith)
-symbol_number-inverse (suc (suc (suc (suc zero)))) Q h s = (refl, omega arith)
-symbol_number-inverse (suc (suc (suc (suc zero)))) H h s = absurd (false≢true s)
-symbol_number-inverse (suc (suc (suc (suc (suc n))))) l h s = absurd (omega (arith, h.1))
+symbol_number-inverse n l h s = grind (arith, common_steps)
 
 -- a format word that shows the same digits has the same data
-normal_data-same : (a b : ℕ) → a < 32 → b < 32 → differing_digits 15 (normal_format_word a) (normal_format_word b) ≡ 0 → a ≡ b
-normal_data-same a b h k e = elim (cases_eq a b) [
+data_same : (word : ℕ → ℕ) → ((a b : ℕ) → a < 32 → b < 32 → (a ≡ b → ⊥) → 7 ≤ differing_digits 15 (word (0 + a)) (word (0 + b))) →
+    (a b : ℕ) → a < 32 → b < 32 → differing_digits 15 (word a) (word b) ≡ 0 → a ≡ b
+data_same word apart a b h k e = elim (cases_eq a b) [
   | inl same ↦ same
   | inr ne ↦ (
-      let far : 7 ≤ differing_digits 15 (normal_format_word a) (normal_format_word b) =
-      subst (λ (x : ℕ). 7 ≤ differing_digits 15 (normal_format_word x) (normal_format_word b)) (let z : 0 + a ≡ a = omega arith in z)
-      (subst (λ (y : ℕ). 7 ≤ differing_digits 15 (normal_format_word (0 + a)) (normal_format_word y)) (let z : 0 + b ≡ b = omega arith in z) (normal_format_words_differ a b h k ne)) in
-      absurd (omega (arith, far, e)))
-]
-
-micro_data-same : (a b : ℕ) → a < 32 → b < 32 → differing_digits 15 (micro_format_word a) (micro_format_word b) ≡ 0 → a ≡ b
-micro_data-same a b h k e = elim (cases_eq a b) [
-  | inl same ↦ same
-  | inr ne ↦ (
-      let far : 7 ≤ differing_digits 15 (micro_format_word a) (micro_format_word b) =
-      subst (λ (x : ℕ). 7 ≤ differing_digits 15 (micro_format_word x) (micro_format_word b)) (let z : 0 + a ≡ a = omega arith in z)
-      (subst (λ (y : ℕ). 7 ≤ differing_digits 15 (micro_format_word (0 + a)) (micro_format_word y)) (let z : 0 + b ≡ b = omega arith in z) (micro_format_words_differ a b h k ne)) in
+      let za : 0 + a ≡ a = omega arith in
+      let zb : 0 + b ≡ b = omega arith in
+      let far : 7 ≤ differing_digits 15 (word a) (word b) = subst (λ (x : ℕ). 7 ≤ differing_digits 15 (word x) (word b)) za
+      (subst (λ (y : ℕ). 7 ≤ differing_digits 15 (word (0 + a)) (word y)) zb (apart a b h k ne)) in
       absurd (omega (arith, far, e)))
 ]
 
@@ -269,14 +203,14 @@ pub same_format : (version : Version) (l m : EcLevel) (p q : MaskPattern) (grid 
 same_format (Normal (pos n)) l m p q grid h sl sm fp fq f g =
     let none = none_differ 15 _ _ (same_digits (Normal (pos n)) (format_word (Normal (pos n)) l p) (format_word (Normal (pos n)) m q) grid h f g) in
     let bp = normal_number-below p in let bq = normal_number-below q in let bl = level_number-below l in let bm = level_number-below m in
-    let same : 8 * level_number l + normal_number p ≡ 8 * level_number m + normal_number q = normal_data-same _ _ (omega arith) (omega arith) none in
+    let same : 8 * level_number l + normal_number p ≡ 8 * level_number m + normal_number q = data_same normal_format_word normal_format_words_differ _ _ (omega arith) (omega arith) none in
     let levels : level_number l ≡ level_number m = omega arith in let masks : normal_number p ≡ normal_number q = omega arith in
     (sym (level_number-inverse l) ∙ ap numbered_level levels ∙ level_number-inverse m, sym (normal_number-inverse p) ∙ ap normal_pattern masks ∙ normal_number-inverse q)
 same_format (Normal (negsuc n)) l m p q grid h sl sm fp fq f g = absurd h
 same_format (Micro (pos n)) l m p q grid h sl sm fp fq f g =
     let none = none_differ 15 _ _ (same_digits (Micro (pos n)) (format_word (Micro (pos n)) l p) (format_word (Micro (pos n)) m q) grid h f g) in
     let bp = micro_number-below p fp in let bq = micro_number-below q fq in let bl = symbol_number-inverse n l h sl in let bm = symbol_number-inverse n m h sm in
-    let same : 4 * symbol_number n l + unwrap_or (micro_number p) 0 ≡ 4 * symbol_number n m + unwrap_or (micro_number q) 0 = micro_data-same _ _ (omega (arith, bl.1)) (omega (arith, bm.1)) none in
+    let same : 4 * symbol_number n l + unwrap_or (micro_number p) 0 ≡ 4 * symbol_number n m + unwrap_or (micro_number q) 0 = data_same micro_format_word micro_format_words_differ _ _ (omega (arith, bl.1)) (omega (arith, bm.1)) none in
     let levels : symbol_number n l ≡ symbol_number n m = omega arith in let masks : unwrap_or (micro_number p) 0 ≡ unwrap_or (micro_number q) 0 = omega arith in
     (sym bl.0 ∙ ap (symbol_level n) levels ∙ bm.0, sym (micro_number-inverse p fp) ∙ ap micro_pattern masks ∙ micro_number-inverse q fq)
 same_format (Micro (negsuc n)) l m p q grid h sl sm fp fq f g = absurd h

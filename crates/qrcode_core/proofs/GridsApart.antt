@@ -18,7 +18,8 @@ use Rattle.qrcode_core.proofs.BlocksApart.{blocks_apart}
 use Rattle.qrcode_grid.proofs.Apart.{AreApart-from_blocks}
 
 -- the data codewords tell the bytes
-bytes_of_codewords : (grid other : List Color) (r s : Reading) (f : Reads grid r) (g : Reads other s) → s.version ≡ r.version → s.level ≡ r.level → g.carries.codewords ≡ f.carries.codewords → s.bytes ≡ r.bytes
+bytes_of_codewords : (grid other : List Color) (r s : Reading) (f : Reads grid r) (g : Reads other s) → s.version ≡ r.version → s.level ≡ r.level →
+    g.carries.codewords ≡ f.carries.codewords → s.bytes ≡ r.bytes
 bytes_of_codewords grid other r s f g same_version same_level same =
     let framed : IsFrame r.version r.level s.header s.bytes s.payload g.frame =
     subst (λ (l : EcLevel). IsFrame r.version l s.header s.bytes s.payload g.frame) same_level (subst (λ (v : Version). IsFrame v s.level s.header s.bytes s.payload g.frame) same_version g.framed) in

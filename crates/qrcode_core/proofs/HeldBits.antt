@@ -4,15 +4,13 @@ use Rattle.std.specs.Prelude.{Option, IsSomeAnd}
 use Rattle.qrcode_base.specs.declared.symbols.BlockLayout.{BlockLayout}
 use Rattle.qrcode_base.specs.declared.types.EcLevel.{EcLevel}
 use Rattle.qrcode_base.specs.declared.types.Version.{Version}
-use Rattle.qrcode_base.specs.declared.types.errors.QrError.{QrError}
-use Rattle.qrcode_base.specs.declared.types.errors.QrError.TheVariants.{DataTooLong, InvalidVersion, OutOfMemory}
 use Rattle.qrcode_base.specs.Numbers.{byte_bits, zero_bits}
 use Rattle.qrcode_base.specs.Symbols.{data_bytes, missing_bits}
 use Rattle.qrcode_bits.specs.Frame.{tail}
-use Rattle.qrcode_bits.specs.Push.{EndsAtLevel, IsLevelRefused}
+use Rattle.qrcode_bits.specs.Push.{EndsAtLevel}
 use Rattle.qrcode_bits.specs.Stream.{Stream}
 use Rattle.qrcode_core.specs.Drawn.{DrawnSymbol, TellsReading}
-use Rattle.qrcode_core.specs.HeldBits.{HoldsStream, IsStreamRefusal}
+use Rattle.qrcode_core.specs.HeldBits.{HoldsStream}
 use Rattle.qrcode_core.specs.Layers.{IsDrawn, AreAllCodewords, AreBytesOf, FillsSymbol, IsDrawnStream}
 use Rattle.qrcode_core.proofs.Best.{of_family}
 use Rattle.qrcode_core.proofs.BlocksApart.{carries_apart}
@@ -21,15 +19,15 @@ use Rattle.qrcode_core.proofs.Ending.{bytes_of_tailed, length-tailed}
 use Rattle.qrcode_core.proofs.Lengths.{length-filled}
 use Rattle.qrcode_core.proofs.OneReading.{one_carried}
 use Rattle.qrcode_core.proofs.StreamEncoding.{has_blocks}
+use Rattle.std.proofs.lemmas.Grind.{common_steps}
+use Rattle.std.proofs.Common.{arith}
 
 module _ (old new : Stream) (level : EcLevel) (ended : EndsAtLevel old new level) where
   abbrev bits : List Bool
   bits = old.bits ++ tail old.version ended.limit (length old.bits)
 
   tailed : (words : List ℕ) → AreBytesOf words new.bits → byte_bits words ≡ bits ++ zero_bits (missing_bits old.version)
-  tailed words turned =
-      let blocks = has_blocks old.version level ended.limit ended.limit_is in
-      bytes_of_tailed old.version level blocks.0 ended.limit old.bits words blocks.1 ended.limit_is ended.fits (subst (λ (z : List Bool). AreBytesOf words z) ended.ends.bits_are turned)
+  tailed words turned = grind (arith, common_steps, has_blocks, bytes_of_tailed)
 
   -- Ended bits fill their symbol.
   pub ended_fills : FillsSymbol new level
@@ -66,10 +64,3 @@ module _ (old new : Stream) (level : EcLevel) (ended : EndsAtLevel old new level
       let held = (holds_stream symbol made).holds in
       let same = held.only reading.version reading.level reading.mask seen.frame seen.carries in
       (held.version_is ∙ sym same.0, held.level_is ∙ sym same.1, sym same.2)
-
--- What refuses the end of the bits refuses the symbol.
-pub stream_refusal : (stream : Stream) (level : EcLevel) (e : QrError) → IsLevelRefused stream level e → IsStreamRefusal stream level e
-stream_refusal stream level (InvalidVersion version named) why = (why.0, why.1.0, why.1.1)
-stream_refusal stream level DataTooLong why = why
-stream_refusal stream level OutOfMemory why = (why.0, why.1, why.2.0)
-stream_refusal stream level other why = absurd why.2

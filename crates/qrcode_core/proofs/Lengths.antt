@@ -14,7 +14,8 @@ use Rattle.qrcode_bits.proofs.Numbers.{length-byte_bits}
 use Rattle.qrcode_core.specs.Layers.{IsEncoded}
 use Rattle.qrcode_core.proofs.Ending.{Lacks, lacks}
 
-whole : (v : Version) (b : BlockLayout) (count limit : ℕ) → Lacks v b → limit ≡ 8 * data_bytes b - missing_bits v → count * 8 ≡ limit + missing_bits v → count ≡ data_bytes b
+whole : (v : Version) (b : BlockLayout) (count limit : ℕ) → Lacks v b → limit ≡ 8 * data_bytes b - missing_bits v → count * 8 ≡ limit + missing_bits v →
+    count ≡ data_bytes b
 whole v b count limit (inl none) sized e = omega (arith, none)
 whole v b count limit (inr four) sized e = omega (arith, four.0, four.1)
 

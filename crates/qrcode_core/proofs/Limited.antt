@@ -32,6 +32,7 @@ module _ (limits : ResourceLimits) (bytes : List ℕ) (level : EcLevel) (n : ℤ
   best_within grid best up = record { best = best; up_to = subst (λ (v : Version). best.number ≤ greatest_number v) (sym most) up }
 
 -- What is within the limits is not too long for them.
-pub fits_within : (limits : ResourceLimits) (bytes : List ℕ) (level : EcLevel) (grid : List Color) → length bytes ≤ limits.max_data_length → IsBestWithin limits bytes level grid → IsTooLongWithin limits bytes level → ⊥
+pub fits_within : (limits : ResourceLimits) (bytes : List ℕ) (level : EcLevel) (grid : List Color) → length bytes ≤ limits.max_data_length →
+    IsBestWithin limits bytes level grid → IsTooLongWithin limits bytes level → ⊥
 fits_within limits bytes level grid short found (inl long) = absurd (omega (arith, long, short))
 fits_within limits bytes level grid short found (inr none) = none found.best.number found.up_to found.best.plan found.best.fits

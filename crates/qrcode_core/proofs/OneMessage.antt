@@ -24,7 +24,8 @@ one_piece grid g h a b p q =
     (same_Some g h (sym p.header_is ∙ ap (λ r. r.header) same ∙ q.header_is), sym p.piece_is ∙ ap (λ r. r.bytes) same ∙ q.piece_is)
 
 -- the piece at a place is the same in two readings
-same_piece : (grids shuffled : List (List Color)) (m n : List ℕ) → IsPermutation grids shuffled → (f : ReadsMessage grids m) (g : ReadsMessage shuffled n) (i : ℕ) → i < length grids →
+same_piece : (grids shuffled : List (List Color)) (m n : List ℕ) → IsPermutation grids shuffled →
+    (f : ReadsMessage grids m) (g : ReadsMessage shuffled n) (i : ℕ) → i < length grids →
     get_or f.pieces i [] ≡ get_or g.pieces i []
 same_piece grids shuffled m n mixed f g i inside =
     let size : length shuffled ≡ length grids = length_permutation grids shuffled mixed in
@@ -54,7 +55,8 @@ one_message grids shuffled m n mixed f g =
     f.message_is ∙ ap concat pieces ∙ sym g.message_is
 
 -- Grids that are read as a message are so in every order.
-in_any_order : (grids shuffled : List (List Color)) (message : List ℕ) → IsPermutation grids shuffled → ReadsMessage grids message → ReadsMessage shuffled message
+in_any_order : (grids shuffled : List (List Color)) (message : List ℕ) → IsPermutation grids shuffled → ReadsMessage grids message →
+    ReadsMessage shuffled message
 in_any_order grids shuffled message mixed seen =
     let size : length grids ≡ length shuffled = sym (length_permutation grids shuffled mixed) in
     record {
@@ -71,7 +73,8 @@ in_any_order grids shuffled message mixed seen =
 -- ---- Parts
 
 -- The parts between cuts that don't fall, one after the other, are what follows the start.
-concat-parts : (start : ℕ) (cuts message : List ℕ) → IsNonDecreasing (start ∷ cuts) → All (λ cut. cut ≤ length message) (start ∷ cuts) → concat (parts_from start cuts message) ≡ drop start message
+concat-parts : (start : ℕ) (cuts message : List ℕ) → IsNonDecreasing (start ∷ cuts) → All (λ cut. cut ≤ length message) (start ∷ cuts) →
+    concat (parts_from start cuts message) ≡ drop start message
 concat-parts start [] message rise within = append-nil (drop start message)
 concat-parts start (cut ∷ cuts) message rise within =
     let up : start ≤ cut = rise 0 1 0 (omega arith) (omega arith) in

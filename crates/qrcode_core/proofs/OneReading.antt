@@ -1,25 +1,23 @@
 -- No grid is read in two ways: its size tells the version, its functional colours the level and the mask, and its data cells
 -- the codewords, whose data are a frame of one text.
-use Rattle.std.proofs.Common.{◌≡◌, ℕ, ap, sym, ◌∙◌, Bool, List, ◌++◌, length, subst}
+use Rattle.std.proofs.Common.{◌≡◌, ℕ, ap, sym, Bool, List, length, subst}
 use Rattle.std.specs.Prelude.{Option, Some, is_some}
-use Rattle.std.specs.List.{concat, sum}
 use Rattle.std.proofs.lemmas.List.{append_cancel_right}
 use Rattle.std.proofs.lemmas.Option.{same_Some}
 use Rattle.qrcode_base.specs.declared.types.Color.{Color}
 use Rattle.qrcode_base.specs.declared.types.EcLevel.{EcLevel}
 use Rattle.qrcode_base.specs.declared.types.Version.{Version}
 use Rattle.qrcode_base.specs.declared.symbols.BlockLayout.{BlockLayout}
-use Rattle.qrcode_base.specs.Symbols.{blocks_of, block_sizes, missing_bits, IsSymbol}
-use Rattle.qrcode_base.specs.Numbers.{byte_bits, zero_bits}
+use Rattle.qrcode_base.specs.Symbols.{blocks_of, IsSymbol}
 use Rattle.qrcode_bits.specs.Frame.{Header, IsFrame}
 use Rattle.qrcode_bits.proofs.Reading.{frame_one_reading}
 use Rattle.qrcode_grid.specs.declared.canvas.MaskPattern.{MaskPattern}
-use Rattle.qrcode_grid.specs.Walk.{left_over}
-use Rattle.qrcode_grid.specs.Blocks.{blocks_in}
 use Rattle.qrcode_core.specs.Reader.{Reading, Carries, HaveOneReading, HaveOneContent}
 use Rattle.qrcode_base.proofs.Widths.{version-of_blocks, version-of_size}
 use Rattle.qrcode_core.proofs.Formats.{same_format}
 use Rattle.qrcode_core.proofs.Contents.{bytes-of_drawn}
+use Rattle.std.proofs.lemmas.Grind.{common_steps}
+use Rattle.std.proofs.Common.{arith}
 
 is_symbol : (v : Version) (l : EcLevel) (b : BlockLayout) → blocks_of v l ≡ Some b → IsSymbol v l
 is_symbol v l b e = ap is_some e
@@ -30,22 +28,14 @@ same_version grid v w l m p q a b f g =
     version-of_size v w (length grid) (version-of_blocks v l f.blocks f.has_level) (version-of_blocks w m g.blocks g.has_level) f.is_square g.is_square
 
 -- with one version, the levels and the masks are one
-with_version : (grid : List Color) (v : Version) (l m : EcLevel) (p q : MaskPattern) (a b : List Bool) → Carries grid v l p a → Carries grid v m q b → (l ≡ m) × (p ≡ q)
+with_version : (grid : List Color) (v : Version) (l m : EcLevel) (p q : MaskPattern) (a b : List Bool) → Carries grid v l p a → Carries grid v m q b →
+    (l ≡ m) × (p ≡ q)
 with_version grid v l m p q a b f s =
     same_format v l m p q grid (version-of_blocks v l f.blocks f.has_level) (is_symbol v l f.blocks f.has_level) (is_symbol v m s.blocks s.has_level) f.has_mask s.has_mask f.functional s.functional
 
 -- with one version, level and mask, the bits are one
 with_mask : (grid : List Color) (v : Version) (l : EcLevel) (p : MaskPattern) (a b : List Bool) → Carries grid v l p a → Carries grid v l p b → a ≡ b
-with_mask grid v l p a b f s =
-    let blocks : f.blocks ≡ s.blocks = same_Some f.blocks s.blocks (sym f.has_level ∙ s.has_level) in
-    let sizes : block_sizes f.blocks ≡ block_sizes s.blocks = ap block_sizes blocks in
-    let lengths : length f.interleaved ≡ length s.interleaved = f.sound.stream_length ∙ ap sum sizes ∙ sym s.sound.stream_length in
-    let streams : f.interleaved ≡ s.interleaved =
-    bytes-of_drawn f.interleaved s.interleaved (missing_bits v) f.drawn s.drawn (byte_bits f.correction ++ zero_bits (left_over v)) (byte_bits s.correction ++ zero_bits (left_over v))
-    f.bytes_interleaved s.bytes_interleaved lengths f.drawn_is s.drawn_is (sym f.cells ∙ s.cells) in
-    let words : f.codewords ≡ s.codewords =
-    sym f.sound.in_order ∙ ap (λ z. concat (blocks_in z f.interleaved)) sizes ∙ ap (λ z. concat (blocks_in (block_sizes s.blocks) z)) streams ∙ s.sound.in_order in
-    append_cancel_right a b (zero_bits (missing_bits v)) (sym f.bits_are ∙ ap byte_bits words ∙ s.bits_are)
+with_mask grid v l p a b f s = grind (arith, common_steps, same_Some, bytes-of_drawn, append_cancel_right)
 
 -- No grid carries two lists of bits, nor bits in two versions, at two levels or under two masks.
 pub one_carried : HaveOneContent

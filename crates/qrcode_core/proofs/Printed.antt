@@ -1,7 +1,6 @@
 -- The printed symbol of the digits 12345 in M1 is read as these digits: its parts are computed.
-use Rattle.std.proofs.Common.{◌≡◌, ℕ, zero, suc, pos, ◌+◌, ◌*◌, ◌<◌, refl, ap, sym, ◌∙◌, arith, List, [], ◌∷◌, Bool, true, false, take, subst, rules}
+use Rattle.std.proofs.Common.{◌≡◌, ℕ, zero, suc, pos, ◌+◌, ◌*◌, ◌<◌, refl, sym, arith, List, [], ◌∷◌, Bool, true, false, take, subst, rules}
 use Rattle.std.specs.Prelude.{Option, Some, None, slice_get, codes}
-use Rattle.std.proofs.lemmas.Bool.{false≢true}
 use Rattle.qrcode_base.specs.declared.types.Color.{Color}
 use Rattle.qrcode_base.specs.declared.types.Color.TheVariants.{Light, Dark}
 use Rattle.qrcode_base.specs.declared.types.EcLevel.TheVariants.{L}
@@ -21,6 +20,7 @@ use Rattle.qrcode_grid.specs.Regions.{functional_color}
 use Rattle.qrcode_grid.proofs.Tests.{all_pass, passes}
 use Rattle.qrcode_core.specs.Example.{printed, printed_reading}
 use Rattle.qrcode_core.specs.Reader.{Reads}
+use Rattle.std.proofs.lemmas.Grind.{common_steps}
 
 -- ---- Functional colours, computed
 
@@ -35,15 +35,10 @@ shows (Some c) None = false
 shows (Some c) (Some d) = same_color c d
 
 from_same_color : (c d : Color) → same_color c d ≡ true → d ≡ c
-from_same_color Dark Dark e = refl
-from_same_color Dark Light e = absurd (false≢true e)
-from_same_color Light Dark e = absurd (false≢true e)
-from_same_color Light Light e = refl
+from_same_color c d e = grind (arith, common_steps)
 
 from_shows : (wanted seen : Option Color) (c : Color) → shows wanted seen ≡ true → wanted ≡ Some c → seen ≡ Some c
-from_shows None seen c e h = cc
-from_shows (Some d) None c e h = absurd (false≢true e)
-from_shows (Some d) (Some s) c e h = ap (λ s. Some s) (from_same_color d s e) ∙ h
+from_shows wanted seen c e h = grind (arith, common_steps, from_same_color)
 
 abbrev pub shows_functional : Version → ℕ → ℕ → List Color → Bool
 shows_functional version word w grid =

@@ -1,9 +1,11 @@
 -- Steps before, and steps after.
-use Rattle.std.proofs.Common.{◌≡◌, ℕ, ◌<◌, ◌+◌, List, [], ◌∷◌, ◌++◌, Result, Ok, Err, inl, inr, refl, subst, sym, take, drop, length, get_or, suc, add-one}
+use Rattle.std.proofs.Common.{◌≡◌, ℕ, ◌<◌, ◌+◌, List, [], ◌∷◌, ◌++◌, Result, Ok, Err, inl, inr, subst, sym, take, drop, length, get_or, suc, add-one}
 use Rattle.std.proofs.Math.Seq.{split_at, take-suc}
 use Rattle.qrcode_core.specs.Grids.{Grid}
 use Rattle.qrcode_core.specs.Registered.{StepsInOrder}
 use Rattle.qrcode_core.specs.declared.plugin.error.PluginError.{PluginError}
+use Rattle.std.proofs.lemmas.Grind.{common_steps}
+use Rattle.std.proofs.Common.{arith}
 
 -- after steps that all succeed, the others go on from where those came to
 pub steps_then : {B : Type 0} (step : B → Grid → Result Unit PluginError → Grid → Type 0) (xs ys : List B) (g m h : Grid) (r : Result Unit PluginError)
@@ -26,8 +28,4 @@ steps_refused {B = B} step xs all i g m h b e s r same inside is was gives befor
 pub steps_further : {B : Type 0} (step : B → Grid → Result Unit PluginError → Grid → Type 0) (xs : List B) (i : ℕ) (g m h : Grid) (b : B) (s : Result Unit PluginError)
     → i < length xs → b ≡ get_or xs i b → s ≡ Ok tt
     → StepsInOrder step (take i xs) g (Ok tt) m → step b m s h → StepsInOrder step (take (i + 1) xs) g (Ok tt) h
-steps_further {B = B} step xs i g m h b s inside is was before done =
-    let P : List B → Type 0 = λ ys. StepsInOrder step ys g (Ok tt) h in
-    let Q : B → Type 0 = λ c. step c m s h in
-    let R : Result Unit PluginError → Type 0 = λ t. step (get_or xs i b) m t h in
-    subst P (sym (rw (add-one i) (take-suc xs i b inside))) (steps_then step (take i xs) (get_or xs i b ∷ []) g m h (Ok tt) before (inr (h, subst R was (subst Q is done), (refl, refl))))
+steps_further step xs i g m h b s inside is was before done = grind (arith, common_steps, add-one, take-suc, steps_then)

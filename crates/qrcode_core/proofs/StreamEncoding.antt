@@ -1,16 +1,16 @@
 -- The stream of the chosen plan in the smallest version, perhaps behind a header, turned into bytes and drawn, is the best symbol.
-use Rattle.std.proofs.Common.{◌≡◌, ℕ, ◌+◌, ◌<◌, ◌≤◌, refl, sym, ◌∙◌, arith, List, ◌++◌, length, length-append, take, Bool, subst}
-use Rattle.std.specs.Prelude.{Option, Some, None, All, IsSomeAnd}
+use Rattle.std.proofs.Common.{◌≡◌, ℕ, ◌+◌, ◌<◌, ◌≤◌, sym, ◌∙◌, arith, inl, inr, List, ◌++◌, length, length-append, take, Bool, subst}
+use Rattle.std.specs.Prelude.{Option, Some, None, All, IsSomeAnd, Result, IfErr}
 use Rattle.std.proofs.lemmas.Bool.{cases_lt}
-use Rattle.std.proofs.Common.{inl, inr}
 use Rattle.std.proofs.lemmas.Option.{none-some}
+use Rattle.std.proofs.lemmas.Result.{IfErr-weaker}
 use Rattle.qrcode_base.specs.declared.symbols.BlockLayout.{BlockLayout}
 use Rattle.qrcode_base.specs.declared.types.EcLevel.{EcLevel}
 use Rattle.qrcode_base.specs.declared.types.Version.{Version}
 use Rattle.qrcode_base.specs.declared.types.errors.QrError.{QrError}
 use Rattle.qrcode_base.specs.declared.types.errors.QrError.TheVariants.{DataTooLong, OutOfMemory}
 use Rattle.qrcode_base.specs.Numbers.{byte_bits, zero_bits}
-use Rattle.qrcode_base.specs.Symbols.{blocks_of, capacity, capacity_with, data_bytes, missing_bits}
+use Rattle.qrcode_base.specs.Symbols.{blocks_of, capacity, data_bytes, missing_bits}
 use Rattle.qrcode_bits.specs.Choice.{normal, micro}
 use Rattle.qrcode_bits.specs.Encoding.{IsEncoding, IsUnencodable}
 use Rattle.qrcode_bits.specs.Frame.{Header, header_bits, spellings}
@@ -26,14 +26,11 @@ use Rattle.qrcode_core.specs.Layers.{IsEncoded, IsDrawn, AreAllCodewords, AreByt
 use Rattle.qrcode_core.proofs.Best.{best_symbol}
 use Rattle.qrcode_core.proofs.Ending.{bytes_of_ended}
 use Rattle.qrcode_core.proofs.Lengths.{length-encoded}
+use Rattle.std.proofs.lemmas.Grind.{common_steps}
 
 -- a symbol with a capacity has blocks
 pub has_blocks : (v : Version) (l : EcLevel) (limit : ℕ) → capacity v l ≡ Some limit → (b : BlockLayout) × (blocks_of v l ≡ Some b)
-has_blocks v l limit e = go (blocks_of v l) refl e
-  where
-    go : (o : Option BlockLayout) → blocks_of v l ≡ o → capacity_with v o ≡ Some limit → (b : BlockLayout) × (blocks_of v l ≡ Some b)
-    go None q e = absurd (none-some limit e)
-    go (Some b) q e = (b, q)
+has_blocks v l limit e = grind (arith, common_steps, none-some)
 
 module _ (kind : ℕ → Version) (header : Option Header) (bytes : List ℕ) (level : EcLevel) (limit : ℕ) (stream : Stream) (words : List ℕ) (are : All (λ c. c < 256) bytes)
     (encoding : IsEncoding kind header bytes level limit stream) (turned : AreBytesOf words stream.bits) where
@@ -75,7 +72,8 @@ module _ (kind : ℕ → Version) (header : Option Header) (bytes : List ℕ) (l
       (subst (λ (o : Option BlockLayout). IsSomeAnd o (λ b. length words ≡ data_bytes b)) (sym blocks.1) long)
 
   -- Drawn, they are the best symbol, in a version up to the limit, and it tells its reading.
-  best_of_words : (symbol : DrawnSymbol) → IsDrawn stream.version level words symbol → (best : IsBest kind header bytes level symbol.modules) × (best.number ≤ limit) × TellsReading symbol
+  best_of_words : (symbol : DrawnSymbol) → IsDrawn stream.version level words symbol →
+      (best : IsBest kind header bytes level symbol.modules) × (best.number ≤ limit) × TellsReading symbol
   best_of_words symbol drawn =
       let choice = encoding.choice in
       let best = best_symbol kind header bytes level encoding.number (front + total_bits version encoding.plan) encoding.plan words symbol encoded
@@ -83,38 +81,44 @@ module _ (kind : ℕ → Version) (header : Option Header) (bytes : List ℕ) (l
       (best.0, omega (arith, best.1, choice.up_to), best.2)
 
 -- What an encoding is turned into fills its symbol.
-pub fills_symbol : (kind : ℕ → Version) (header : Option Header) (bytes : List ℕ) (level : EcLevel) (limit : ℕ) (stream : Stream) → All (λ c. c < 256) bytes →
-    IsEncoding kind header bytes level limit stream → FillsSymbol stream level
-fills_symbol kind header bytes level limit stream are encoding = λ words turned. all_codewords kind header bytes level limit stream words are encoding turned
+pub fills_symbol : {kind : ℕ → Version} {header : Option Header} {bytes : List ℕ} {level : EcLevel} {limit : ℕ} {stream : Stream} →
+    All (λ c. c < 256) bytes → IsEncoding kind header bytes level limit stream → FillsSymbol stream level
+fills_symbol are encoding = λ words turned. all_codewords _ _ _ _ _ _ words are encoding turned
 
 -- The symbol that is drawn of it is the best one, in a version up to the limit, and it tells its reading.
-pub best_of_stream : (kind : ℕ → Version) (header : Option Header) (bytes : List ℕ) (level : EcLevel) (limit : ℕ) (stream : Stream) (symbol : DrawnSymbol) → All (λ c. c < 256) bytes →
-    IsEncoding kind header bytes level limit stream → IsDrawnStream stream level symbol →
+pub best_of_stream : {kind : ℕ → Version} {header : Option Header} {bytes : List ℕ} {level : EcLevel} {limit : ℕ} {stream : Stream} {symbol : DrawnSymbol} →
+    All (λ c. c < 256) bytes → IsEncoding kind header bytes level limit stream → IsDrawnStream stream level symbol →
     (best : IsBest kind header bytes level symbol.modules) × (best.number ≤ limit) × TellsReading symbol
-best_of_stream kind header bytes level limit stream symbol are encoding held =
-    best_of_words kind header bytes level limit stream held.codewords are encoding held.turned symbol held.drawn
+best_of_stream {symbol = symbol} are encoding held = best_of_words _ _ _ _ _ _ held.codewords are encoding held.turned symbol held.drawn
 
 -- What is encoded fits version 40.
-pub encoded_fits : (bytes : List ℕ) (level : EcLevel) (limit : ℕ) (stream : Stream) → limit ≤ 40 → IsEncoding normal None bytes level limit stream → IsTooLong bytes level → ⊥
-encoded_fits bytes level limit stream h encoding long =
+pub encoded_fits : {bytes : List ℕ} {level : EcLevel} {stream : Stream} (limit : ℕ) → limit ≤ 40 → IsEncoding normal None bytes level limit stream →
+    IsTooLong bytes level → ⊥
+encoded_fits {bytes = bytes} {level = level} limit h encoding long =
     let choice = encoding.choice in
     long encoding.plan (fits_last 0 encoding.number bytes level encoding.plan (let up = choice.up_to in omega arith) choice.fits)
 
 -- It has at most 7089 bytes.
-pub encoded_short : (header : Option Header) (bytes : List ℕ) (level : EcLevel) (limit : ℕ) (stream : Stream) → limit ≤ 40 → All (λ c. c < 256) bytes → IsEncoding normal header bytes level limit stream → length bytes ≤ 7089
-encoded_short header bytes level limit stream h are encoding = elim (cases_lt 7089 (length bytes)) [
+pub encoded_short : {header : Option Header} {bytes : List ℕ} {level : EcLevel} {stream : Stream} (limit : ℕ) →
+    limit ≤ 40 → All (λ c. c < 256) bytes → IsEncoding normal header bytes level limit stream → length bytes ≤ 7089
+encoded_short {header = header} {bytes = bytes} {level = level} limit h are encoding = elim (cases_lt 7089 (length bytes)) [
   | inl long ↦ absurd (long_message (length (header_bits header)) bytes level limit h are long encoding.number encoding.choice.up_to encoding.plan encoding.choice.fits)
   | inr short ↦ omega (arith, short)
 ]
 
-pub encoded_micro_fits : (bytes : List ℕ) (level : EcLevel) (stream : Stream) → IsEncoding micro None bytes level 4 stream → IsTooLongForMicro bytes level → ⊥
-encoded_micro_fits bytes level stream encoding none = none encoding.number encoding.choice.up_to encoding.plan encoding.choice.fits
+pub encoded_micro_fits : {bytes : List ℕ} {level : EcLevel} {stream : Stream} → IsEncoding micro None bytes level 4 stream → IsTooLongForMicro bytes level → ⊥
+encoded_micro_fits encoding none = none encoding.number encoding.choice.up_to encoding.plan encoding.choice.fits
 
-pub encoded_micro_short : (bytes : List ℕ) (level : EcLevel) (stream : Stream) → All (λ c. c < 256) bytes → IsEncoding micro None bytes level 4 stream → length bytes ≤ 7089
-encoded_micro_short bytes level stream are encoding = elim (cases_lt 7089 (length bytes)) [
+pub encoded_micro_short : {bytes : List ℕ} {level : EcLevel} {stream : Stream} → All (λ c. c < 256) bytes → IsEncoding micro None bytes level 4 stream →
+    length bytes ≤ 7089
+encoded_micro_short {bytes = bytes} {level = level} are encoding = elim (cases_lt 7089 (length bytes)) [
   | inl long ↦ absurd (long_for_micro bytes level are long encoding.number encoding.choice.up_to encoding.plan encoding.choice.fits)
   | inr short ↦ omega (arith, short)
 ]
+
+-- Where only memory can be wanting, the refusal is that.
+pub only_memory : {T : Type 0} (r : Result T QrError) (P : QrError → Type 0) → P OutOfMemory → IfErr r (λ e. e ≡ OutOfMemory) → IfErr r P
+only_memory r P why memory = IfErr-weaker r _ _ (λ e is. subst P (sym is) why) memory
 
 pub normal_refused : (bytes : List ℕ) (level : EcLevel) (e : QrError) → IsUnencodable normal 0 bytes level 40 e → IsRefusal bytes level e
 normal_refused bytes level DataTooLong none = none 40 (omega arith)

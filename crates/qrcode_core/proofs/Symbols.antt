@@ -20,7 +20,8 @@ pub record AreFirstSymbols (message cuts : List ℕ) (level : EcLevel) (limit to
   pub a_grid_each : length grids ≡ done
   pub each_best : (i : ℕ) → i < done → IsPartSymbol (header_at (i + 1) total message) (get_or (parts_at cuts message) i []) level limit (get_or grids i [])
 
-pub one_more : (message cuts : List ℕ) (level : EcLevel) (limit total done : ℕ) (grids : List (List Color)) (grid : List Color) → AreFirstSymbols message cuts level limit total done grids →
+pub one_more : (message cuts : List ℕ) (level : EcLevel) (limit total done : ℕ) (grids : List (List Color)) (grid : List Color) →
+    AreFirstSymbols message cuts level limit total done grids →
     IsPartSymbol (header_at (done + 1) total message) (get_or (parts_at cuts message) done []) level limit grid →
     AreFirstSymbols message cuts level limit total (done + 1) (grids ++ grid ∷ [])
 one_more message cuts level limit total done grids grid first next =
@@ -48,7 +49,8 @@ all_symbols message cuts level limit total grids rise within few count first =
     (λ i inside. subst (λ (t : ℕ). IsPartSymbol (header_at (i + 1) t message) (get_or (parts_at cuts message) i []) level limit (get_or grids i [])) size (first.each_best i (omega (arith, inside, size))))
 
 -- A part that is refused for its length or for memory refuses the sequence so; the limit and the header are no reason.
-pub refused_part : (message cuts : List ℕ) (level : EcLevel) (limit : ℤ) (total i : ℕ) (e : QrError) → IsLimit limit → IsTotal total → total ≡ length cuts + 1 → i < total →
+pub refused_part : (message cuts : List ℕ) (level : EcLevel) (limit : ℤ) (total i : ℕ) (e : QrError) → IsLimit limit → IsTotal total →
+    total ≡ length cuts + 1 → i < total →
     IsPartRefused (i + 1) total (get_or (parts_at cuts message) i []) level limit e → IsSequenceRefusal message cuts level limit e
 refused_part message cuts level limit total i InvalidResourceLimits in_range few count inside why = absurd (why in_range)
 refused_part message cuts level limit total i (InvalidStructuredAppend value) in_range few count inside why = elim why.1 [
@@ -70,5 +72,6 @@ none_too_long message cuts level limit grids all (i, inside, none) =
     none part.best.number part.up_to part.best.plan fits
 
 -- The symbols of a sequence are 2 to 16.
-pub so_many : (message cuts : List ℕ) (level : EcLevel) (limit : ℕ) (grids : List (List Color)) → AreBestSymbols message cuts level limit grids → IsTotal (length cuts + 1)
+pub so_many : (message cuts : List ℕ) (level : EcLevel) (limit : ℕ) (grids : List (List Color)) → AreBestSymbols message cuts level limit grids →
+    IsTotal (length cuts + 1)
 so_many message cuts level limit grids all = subst IsTotal all.a_grid_each (all.reads grids (IsPermutation-refl grids)).enough

@@ -1,5 +1,5 @@
 -- A tree of strings, read as a map from texts: what `insert` and `get` do to it.
-use Rattle.std.proofs.Common.{ℕ, ◌≡◌, List, [], ◌∷◌, Some, option_map, true, false, cond, refl, ap, subst, sym, String, map}
+use Rattle.std.proofs.Common.{ℕ, ◌≡◌, List, [], ◌∷◌, Some, option_map, true, false, cond, refl, ap, String, map}
 use Rattle.std.specs.List.{AllZip, AllByRecursion}
 use Rattle.std.specs.List.Sorted.{IsStrictlySortedBy}
 use Rattle.std.specs.declared.cmp.Ordering.TheVariants.{Less, Equal, Greater}
@@ -9,24 +9,33 @@ use Rattle.std.specs.String.{string_bytes, string_cmp}
 use Rattle.std.specs.BTreeMap.{insert_entry, is_at}
 use Rattle.std.specs.Map.{lookup, keys_of}
 use Rattle.qrcode_core.specs.Texts.{TextMap, text_cmp, text_entries, text_values, with_entry, at_key, key_texts}
+use Rattle.std.proofs.lemmas.Grind.{common_steps}
+use Rattle.std.proofs.Common.{arith}
 
 -- what `insert` makes of the entries
-pub text_entries_insert : {V : Type 0} (es : List (String Global × V)) (k : String Global) (v : V) → text_entries (insert_entry string_cmp es k v) ≡ with_entry (text_entries es) (string_bytes k) v
+pub text_entries_insert : {V : Type 0} (es : List (String Global × V)) (k : String Global) (v : V) →
+    text_entries (insert_entry string_cmp es k v) ≡ with_entry (text_entries es) (string_bytes k) v
 text_entries_insert [] k v = refl
 text_entries_insert {V = V} (e ∷ es) k v =
-    elim (text_cmp (string_bytes k) (string_bytes e.0)) as (λ o. text_entries (match_ordering o ((k, v) ∷ e ∷ es) ((e.0, v) ∷ es) (e ∷ insert_entry string_cmp es k v)) ≡ match_ordering o ((string_bytes k, v) ∷ text_entries (e ∷ es)) ((string_bytes e.0, v) ∷ text_entries es) ((string_bytes e.0, e.1) ∷ with_entry (text_entries es) (string_bytes k) v))
+    elim (text_cmp (string_bytes k) (string_bytes e.0)) as (λ o.
+    text_entries (match_ordering o ((k, v) ∷ e ∷ es) ((e.0, v) ∷ es) (e ∷ insert_entry string_cmp es k v))
+    ≡ match_ordering o ((string_bytes k, v) ∷ text_entries (e ∷ es)) ((string_bytes e.0, v) ∷ text_entries es) ((string_bytes e.0, e.1) ∷ with_entry (text_entries es) (string_bytes k) v))
     [ Less ↦ refl | Equal ↦ refl | Greater ↦ ap (λ (t : TextMap V). (string_bytes e.0, e.1) ∷ t) (text_entries_insert es k v) ]
 
 -- what a look-up by a text finds
-pub text_entries_lookup : {V : Type 0} (bs : List ℕ) (es : List (String Global × V)) → at_key (text_entries es) bs ≡ lookup (is_at (λ k. text_cmp bs (string_bytes k))) es
+pub text_entries_lookup : {V : Type 0} (bs : List ℕ) (es : List (String Global × V)) →
+    at_key (text_entries es) bs ≡ lookup (is_at (λ k. text_cmp bs (string_bytes k))) es
 text_entries_lookup bs [] = refl
 text_entries_lookup bs (e ∷ es) = ap (cond (is_at (text_cmp bs) (string_bytes e.0)) (Some e.1)) (text_entries_lookup bs es)
 
 -- the same where the values are read as texts too
-pub text_values_insert : (m : TextMap (String Global)) (k : List ℕ) (v : String Global) → text_values (with_entry m k v) ≡ with_entry (text_values m) k (string_bytes v)
+pub text_values_insert : (m : TextMap (String Global)) (k : List ℕ) (v : String Global) →
+    text_values (with_entry m k v) ≡ with_entry (text_values m) k (string_bytes v)
 text_values_insert [] k v = refl
 text_values_insert (e ∷ es) k v =
-    elim (text_cmp k e.0) as (λ o. text_values (match_ordering o ((k, v) ∷ e ∷ es) ((e.0, v) ∷ es) (e ∷ with_entry es k v)) ≡ match_ordering o ((k, string_bytes v) ∷ text_values (e ∷ es)) ((e.0, string_bytes v) ∷ text_values es) ((e.0, string_bytes e.1) ∷ with_entry (text_values es) k (string_bytes v)))
+    elim (text_cmp k e.0) as (λ o.
+    text_values (match_ordering o ((k, v) ∷ e ∷ es) ((e.0, v) ∷ es) (e ∷ with_entry es k v))
+    ≡ match_ordering o ((k, string_bytes v) ∷ text_values (e ∷ es)) ((e.0, string_bytes v) ∷ text_values es) ((e.0, string_bytes e.1) ∷ with_entry (text_values es) k (string_bytes v)))
     [ Less ↦ refl | Equal ↦ refl | Greater ↦ ap (λ (t : TextMap (List ℕ)). (e.0, string_bytes e.1) ∷ t) (text_values_insert es k v) ]
 
 pub text_values_lookup : (bs : List ℕ) (m : TextMap (String Global)) → at_key (text_values m) bs ≡ option_map string_bytes (at_key m bs)
@@ -69,9 +78,7 @@ strings_sorted (k ∷ ks) sorted = (texts_after k ks sorted.0, strings_sorted ks
 -- the names of strings in order are in order
 pub texts_sorted : (names : List (List ℕ)) (ks : List (String Global))
     → names ≡ map string_bytes ks → IsStrictlySortedBy string_cmp ks → IsStrictlySortedBy text_cmp names
-texts_sorted names ks are sorted =
-    let P : List (List ℕ) → Type 0 = λ ns. IsStrictlySortedBy text_cmp ns in
-    subst P (sym are) (strings_sorted ks sorted)
+texts_sorted names ks are sorted = grind (arith, common_steps, strings_sorted)
 
 -- the names of a tree of strings, in order
 pub ruleset names_in_order = (text_entries_keys, text_values_keys, texts_sorted)

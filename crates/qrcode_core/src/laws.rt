@@ -17,6 +17,7 @@ pub fn have_one_content()
 
 /// The reader reads a printed symbol: the digits `12345` in M1 at level L under the mask Diamonds, with 20 payload
 /// bits.
+#[tactic(auto, using(crate::proofs::Printed::printed_reads))]
 pub fn printed_symbol_is_read()
     ensures { Reads printed printed_reading }
 {}

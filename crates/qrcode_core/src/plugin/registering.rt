@@ -102,6 +102,7 @@ impl PluginRegistry {
     }
 
     /// Keeps a renderer under a name, and gives back the one that it replaces.
+    #[tactic(auto, using(crate::proofs::TextMaps::text_entries_lookup))]
     fn insert_renderer(
         &mut self,
         name: String,
@@ -119,6 +120,7 @@ impl PluginRegistry {
     }
 
     /// Keeps renderers under their names, up to the first that finds no memory.
+    #[tactic(auto, using(crate::proofs::RegistrationLemmas::one_more_registered))]
     fn put_renderers(&mut self, all: Vec<(String, Box<dyn DynRenderer>)>) -> Result<(), PluginError>
         ensures { Registers (registered self.old) (map named_renderer all.items)
             result (registered self.new) }
@@ -146,6 +148,7 @@ impl PluginRegistry {
     }
 
     /// Keeps an encoder under a name, and gives back the one that it replaces.
+    #[tactic(auto, using(crate::proofs::TextMaps::text_entries_lookup))]
     fn insert_encoder(
         &mut self,
         name: String,
@@ -163,6 +166,7 @@ impl PluginRegistry {
     }
 
     /// Keeps encoders under their names, up to the first that finds no memory.
+    #[tactic(auto, using(crate::proofs::RegistrationLemmas::one_more_registered))]
     fn put_encoders(&mut self, all: Vec<(String, Box<dyn DynEncoder>)>) -> Result<(), PluginError>
         ensures { Registers (registered self.old) (map named_encoder all.items)
             result (registered self.new) }
@@ -186,6 +190,7 @@ impl PluginRegistry {
     }
 
     /// Keeps postprocessors in order, up to the first that finds no memory.
+    #[tactic(auto, using(crate::proofs::RegistrationLemmas::one_more_registered))]
     fn put_postprocessors(&mut self, all: Vec<Box<dyn PostProcessor>>) -> Result<(), PluginError>
         ensures { Registers (registered self.old) (map postprocessor_of all.items)
             result (registered self.new) }

@@ -1,43 +1,26 @@
 -- The best encoding, drawn, is the best symbol.
-use Rattle.std.proofs.Common.{rules, ◌≢◌, ◌<◌, sym, subst, arith}
-use Rattle.std.specs.Prelude.{All, None}
-use Rattle.std.proofs.lemmas.Result.{IfOk-weaker, IfErr-weaker}
+use Rattle.std.proofs.Common.{rules, ◌≢◌, arith}
+use Rattle.std.proofs.lemmas.Result.{IfOk-weaker}
 use Rattle.qrcode_base.specs.declared.types.EcLevel.TheVariants.{H}
-use Rattle.qrcode_base.specs.declared.types.errors.QrError.{QrError}
-use Rattle.qrcode_bits.specs.Choice.{micro}
 use Rattle.qrcode_bits.proofs.Pairs.{bytes_valid}
-use Rattle.qrcode_core.specs.Headline.{IsMicroRefusal}
-use Rattle.qrcode_core.proofs.StreamEncoding.{best_of_stream, fills_symbol, encoded_micro_fits, encoded_micro_short}
+use Rattle.qrcode_core.proofs.StreamEncoding.{best_of_stream, fills_symbol, encoded_micro_fits, encoded_micro_short, only_memory}
 use Rattle.qrcode_core.proofs.symbol.owned.Symbol.micro.Goals as goal
 
 pub symbol_of-requires : goal.symbol_of-requires
-symbol_of-requires c =
-    let are : All (λ b. b < 256) c.args.bytes.now = bytes_valid c.args.bytes.now (λ i. omega (arith, c.type_inv.bytes i)) in
-    fills_symbol micro None c.args.bytes.now c.args.level 4 c.in-Ok.bits are c.in-Ok.ensures.ok
+symbol_of-requires c = fills_symbol (bytes_valid c.args.bytes.now (λ i. omega (arith, c.type_inv.bytes i))) c.in-Ok.ensures.ok
 
-pub returns-in-Ok-clause-best : goal.returns-in-Ok-clause-best
-returns-in-Ok-clause-best c =
-    let are : All (λ b. b < 256) c.args.bytes.now = bytes_valid c.args.bytes.now (λ i. omega (arith, c.type_inv.bytes i)) in
-    IfOk-weaker c.symbol_of.result _ _ (λ symbol drawn. (best_of_stream micro None c.args.bytes.now c.args.level 4 c.in-Ok.bits symbol are c.in-Ok.ensures.ok drawn).0) c.symbol_of.ensures.drawn
-
-pub returns-in-Ok-clause-reading : goal.returns-in-Ok-clause-reading
-returns-in-Ok-clause-reading c =
-    let are : All (λ b. b < 256) c.args.bytes.now = bytes_valid c.args.bytes.now (λ i. omega (arith, c.type_inv.bytes i)) in
-    IfOk-weaker c.symbol_of.result _ _ (λ symbol drawn. (best_of_stream micro None c.args.bytes.now c.args.level 4 c.in-Ok.bits symbol are c.in-Ok.ensures.ok drawn).2) c.symbol_of.ensures.drawn
-
-pub returns-in-Ok-clause-fitting : goal.returns-in-Ok-clause-fitting
-returns-in-Ok-clause-fitting c =
-    IfOk-weaker c.symbol_of.result _ _ (λ _ _. encoded_micro_fits c.args.bytes.now c.args.level c.in-Ok.bits c.in-Ok.ensures.ok) c.symbol_of.ensures.drawn
-
-pub returns-in-Ok-clause-limit : goal.returns-in-Ok-clause-limit
-returns-in-Ok-clause-limit c =
-    let are : All (λ b. b < 256) c.args.bytes.now = bytes_valid c.args.bytes.now (λ i. omega (arith, c.type_inv.bytes i)) in
-    IfOk-weaker c.symbol_of.result _ _ (λ _ _. encoded_micro_short c.args.bytes.now c.args.level c.in-Ok.bits are c.in-Ok.ensures.ok) c.symbol_of.ensures.drawn
-
-pub returns-in-Ok-clause-refused : goal.returns-in-Ok-clause-refused
-returns-in-Ok-clause-refused c =
-    let are : All (λ b. b < 256) c.args.bytes.now = bytes_valid c.args.bytes.now (λ i. omega (arith, c.type_inv.bytes i)) in
+pub returns-in-Ok : goal.returns-in-Ok
+returns-in-Ok c =
+    let are = bytes_valid c.args.bytes.now (λ i. omega (arith, c.type_inv.bytes i)) in
+    let code = c.in-Ok.ensures.ok in
+    let short = encoded_micro_short are code in
     let some : c.args.level ≢ H = search rules in
-    IfErr-weaker c.symbol_of.result _ _
-    (λ e is. subst (λ (e : QrError). IsMicroRefusal c.args.bytes.now c.args.level e) (sym is)
-    (some, encoded_micro_short c.args.bytes.now c.args.level c.in-Ok.bits are c.in-Ok.ensures.ok)) c.symbol_of.ensures.memory
+    let result = c.symbol_of.result in
+    let drawn = c.symbol_of.ensures.drawn in
+    record {
+      best = IfOk-weaker result _ _ (λ _ made. (best_of_stream are code made).0) drawn;
+      reading = IfOk-weaker result _ _ (λ _ made. (best_of_stream are code made).2) drawn;
+      fitting = IfOk-weaker result _ _ (λ _ _. encoded_micro_fits code) drawn;
+      limit = IfOk-weaker result _ _ (λ _ _. short) drawn;
+      refused = only_memory result _ (some, short) c.symbol_of.ensures.memory;
+    }
