@@ -1,7 +1,6 @@
 -- Header, characters and mode, one after the other.
-use Rattle.std.proofs.Common.{arith, subst, ℕ}
+use Rattle.std.proofs.Common.{arith}
 use Rattle.std.proofs.lemmas.Result.{err_from_is_err_and}
-use Rattle.qrcode_bits.specs.Push.{IsHeaderRefused}
 use Rattle.qrcode_bits.proofs.Segments.{refused, length-character_bits}
 use Rattle.qrcode_bits.proofs.bits.Bits.push_text.Goals as goal
 use Rattle.std.proofs.lemmas.Grind.{common_steps}

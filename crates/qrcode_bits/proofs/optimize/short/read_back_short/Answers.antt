@@ -1,5 +1,4 @@
 use Rattle.std.proofs.Common.{arith}
-use Rattle.qrcode_bits.specs.Words.{step_told, short_at}
 use Rattle.qrcode_bits.proofs.ReadBack.{IsStep-front, read-more, read-all}
 use Rattle.qrcode_bits.proofs.optimize.short.read_back_short.Goals as goal
 use Rattle.std.proofs.lemmas.Grind.{common_steps}
