@@ -4,14 +4,12 @@ use Rattle.std.specs.Prelude.{Option, Some, None, All, Contains, slice_get, opti
 use Rattle.std.specs.List.{list_all}
 use Rattle.std.proofs.Math.Seq.{take-length}
 use Rattle.std.proofs.lemmas.Bool.{false≢true, cases_lt}
-use Rattle.std.proofs.lemmas.Bool.Decides.{nat_tests}
 use Rattle.std.proofs.lemmas.List.Sums.{AllPass-from_list_all, list_all-from_AllPass}
 use Rattle.std.proofs.lemmas.Option.{slice_get_within, slice_get-get_or}
 use Rattle.qrcode_base.specs.declared.types.Mode.{Mode}
 use Rattle.qrcode_base.specs.declared.types.Mode.TheVariants.{Numeric, Alphanumeric, Byte, Kanji}
 use Rattle.qrcode_base.specs.Characters.{is_between, IsDigit, alphabet, is_alphanumeric, is_kanji_pair, IsKanjiText, is_kanji_text, IsValid, is_valid, longest_beginning, first_invalid, IsFirstInvalid, FirstInvalid}
 use Rattle.qrcode_base.proofs.Alphabet.{and_left, and_right, is_alphanumeric-inside, is_alphanumeric-from_inside}
-use Rattle.std.proofs.lemmas.Grind.{common_steps}
 
 -- ---- The test of a text
 
@@ -22,13 +20,13 @@ holds_of_all : (P : ℕ → Type 0) (test : ℕ → Bool) (text : List ℕ) → 
 holds_of_all P test text each h = λ k d within. each _ (AllPass-from_list_all test text h k d within)
 
 between-is : (low high c : ℕ) → low ≤ c → c ≤ high → is_between low high c ≡ true
-between-is low high c above below = grind (arith, nat_tests)
+between-is low high c above below = grind arith
 
 above_low : (low high c : ℕ) → is_between low high c ≡ true → low ≤ c
-above_low low high c h = let test = and_left (nat_le low c) (nat_le c high) h in grind (arith, nat_tests)
+above_low low high c h = let test = and_left (nat_le low c) (nat_le c high) h in grind arith
 
 below_high : (low high c : ℕ) → is_between low high c ≡ true → c ≤ high
-below_high low high c h = let test = and_right (nat_le low c) (nat_le c high) h in grind (arith, nat_tests)
+below_high low high c h = let test = and_right (nat_le low c) (nat_le c high) h in grind arith
 
 both : (a b : Bool) → a ≡ true → b ≡ true → (a && b) ≡ true
 both a b h k = grind arith
@@ -78,7 +76,7 @@ longest-passes test text zero h = h
 longest-passes test text (suc n) h = step_passes test text (test (take (suc n) text)) n (longest_beginning test text n) refl (longest-passes test text n h)
 
 step_longest : (test : List ℕ → Bool) (text : List ℕ) (b : Bool) (n m : ℕ) → test (take (suc n) text) ≡ b → ((k : ℕ) → m < k → k ≤ n → test (take k text) ≡ true → ⊥) → (k : ℕ) → (if b then suc n else m) < k → k ≤ suc n → test (take k text) ≡ true → ⊥
-step_longest test text b n m e before k above within h = grind (arith, cases_lt)
+step_longest test text b n m e before k above within h = grind arith
 
 longest-longest : (test : List ℕ → Bool) (text : List ℕ) (n k : ℕ) → longest_beginning test text n < k → k ≤ n → test (take k text) ≡ true → ⊥
 unfolding longest_beginning
@@ -103,7 +101,7 @@ found_behind mode text place None none at =
     let whole : take place text ≡ text = ap (λ (k : ℕ). take k text) (past_end text place none within) ∙ take-length text in
     let passes = subst (λ (k : ℕ). is_valid mode (take k text) ≡ true) (sym at) (longest-passes (is_valid mode) text (length text) (empty_valid mode)) in
     subst (λ (t : List ℕ). IsValid mode t) whole (valid-holds mode (take place text) passes)
-found_behind mode text place (Some byte) some at = grind (arith, common_steps, valid-holds, longest-passes, empty_valid, longest-longest, valid-passes)
+found_behind mode text place (Some byte) some at = grind (arith, valid-holds, longest-passes, longest-longest, valid-passes)
 
 pub first_invalid-first : (mode : Mode) (text : List ℕ) → FirstInvalid (IsValid mode) text (first_invalid mode text)
 unfolding first_invalid
@@ -121,12 +119,9 @@ not_before valid text p q first second before = grind (arith, slice_get_within)
 place_and_byte : ℕ → ℕ → Option (ℕ × ℕ)
 place_and_byte place byte = Some (place, byte)
 
-same_pair : (a b c d : ℕ) → a ≡ c → b ≡ d → place_and_byte a b ≡ place_and_byte c d
-same_pair a b c d h k = cc
-
 same_found : (text : List ℕ) (p q : ℕ × ℕ) → p.0 ≡ q.0 → slice_get text p.0 ≡ Some p.1 → slice_get text q.0 ≡ Some q.1 → Some p ≡ Some q
 unfolding place_and_byte
-same_found text p q place first second = grind (arith, same_pair)
+same_found text p q place first second = grind arith
 
 one_first : (valid : List ℕ → Type 0) (text : List ℕ) (first second : Option (ℕ × ℕ)) → FirstInvalid valid text first → FirstInvalid valid text second → first ≡ second
 one_first valid text None None h k = refl

@@ -1,23 +1,18 @@
 -- Which versions have blocks, and that the width of a symbol tells its version.
-use Rattle.std.proofs.Common.{◌≡◌, ℕ, ◌*◌, ◌≤◌, sym, ◌∙◌, arith, length}
+use Rattle.std.proofs.Common.{◌≡◌, ℕ, ◌*◌, sym, ◌∙◌, arith}
 use Rattle.std.specs.Prelude.{Some}
-use Rattle.std.proofs.lemmas.Bool.{cases_order}
-use Rattle.std.proofs.lemmas.Nat.{mul-lt}
-use Rattle.std.proofs.lemmas.Option.{none-some, slice_get_within}
+use Rattle.std.proofs.lemmas.Option.{slice_get_within}
 use Rattle.qrcode_base.specs.declared.symbols.BlockLayout.{BlockLayout}
 use Rattle.qrcode_base.specs.declared.types.EcLevel.{EcLevel}
 use Rattle.qrcode_base.specs.declared.types.Version.{Version}
-use Rattle.qrcode_base.specs.Symbols.{blocks_of, normal_blocks, IsVersion, width_of}
+use Rattle.qrcode_base.specs.Symbols.{blocks_of, IsVersion, width_of}
 
 -- ---- Versions with blocks
-
-in_table : (level : EcLevel) (n : ℕ) → n ≤ length (normal_blocks level) → n ≤ 40
-in_table level n h = grind arith
 
 -- A version with blocks is one of the 44.
 pub version-of_blocks : (version : Version) (level : EcLevel) (b : BlockLayout) →
     blocks_of version level ≡ Some b → IsVersion version
-version-of_blocks version level b e = grind (arith, none-some, slice_get_within, in_table)
+version-of_blocks version level b e = grind (arith, slice_get_within)
 
 -- ---- Widths
 
@@ -26,7 +21,7 @@ pub version-of_width : (v w : Version) → IsVersion v → IsVersion w → width
 version-of_width v w h k e = grind arith
 
 square-root : (a b : ℕ) → a * a ≡ b * b → a ≡ b
-square-root a b e = grind (arith, cases_order, mul-lt)
+square-root a b e = grind arith
 
 -- So the number of modules tells the version.
 pub version-of_size : (v w : Version) (size : ℕ) → IsVersion v → IsVersion w →
