@@ -1,10 +1,9 @@
 -- The first invalid byte of a text is one, and one only; there is none exactly where the text is valid.
-use Rattle.std.proofs.Common.{◌≡◌, ℕ, zero, suc, ◌<◌, ◌≤◌, refl, sym, ap, ◌∙◌, arith, subst, List, [], ◌∷◌, length, take, Bool, true, false, inl, inr}
+use Rattle.std.proofs.Common.{◌≡◌, ℕ, zero, suc, ◌<◌, ◌≤◌, refl, sym, ap, ◌∙◌, arith, subst, List, [], ◌∷◌, length, take, Bool, true, inl, inr}
 use Rattle.std.specs.Prelude.{Option, Some, None, All, Contains, slice_get, option_map, ◌↔◌, if◌then◌else◌, ◌&&◌, nat_le}
 use Rattle.std.specs.List.{list_all}
 use Rattle.std.proofs.Math.Seq.{take-length}
 use Rattle.std.proofs.lemmas.Bool.{false≢true, cases_lt}
-use Rattle.std.proofs.lemmas.Bool.Decides.{nat_tests}
 use Rattle.std.proofs.lemmas.List.Sums.{AllPass-from_list_all, list_all-from_AllPass}
 use Rattle.std.proofs.lemmas.Option.{slice_get_within, slice_get-get_or}
 use Rattle.qrcode_base.specs.declared.types.Mode.{Mode}
@@ -21,17 +20,16 @@ holds_of_all : (P : ℕ → Type 0) (test : ℕ → Bool) (text : List ℕ) → 
 holds_of_all P test text each h = λ k d within. each _ (AllPass-from_list_all test text h k d within)
 
 between-is : (low high c : ℕ) → low ≤ c → c ≤ high → is_between low high c ≡ true
-between-is low high c above below = grind (arith, nat_tests)
+between-is low high c above below = grind arith
 
 above_low : (low high c : ℕ) → is_between low high c ≡ true → low ≤ c
-above_low low high c h = let test = and_left (nat_le low c) (nat_le c high) h in grind (arith, nat_tests)
+above_low low high c h = let test = and_left (nat_le low c) (nat_le c high) h in grind arith
 
 below_high : (low high c : ℕ) → is_between low high c ≡ true → c ≤ high
-below_high low high c h = let test = and_right (nat_le low c) (nat_le c high) h in grind (arith, nat_tests)
+below_high low high c h = let test = and_right (nat_le low c) (nat_le c high) h in grind arith
 
 both : (a b : Bool) → a ≡ true → b ≡ true → (a && b) ≡ true
-both true b h k = k
-both false b h k = h
+both a b h k = grind arith
 
 kanji-passes : (text : List ℕ) → IsKanjiText text → is_kanji_text text ≡ true
 unfolding is_kanji_text
@@ -62,8 +60,7 @@ valid-holds Kanji text h = kanji-holds text h
 -- ---- The longest beginning that passes
 
 step_within : (b : Bool) (n m : ℕ) → m ≤ n → (if b then suc n else m) ≤ suc n
-step_within true n m h = omega arith
-step_within false n m h = omega arith
+step_within b n m h = grind arith
 
 longest-within : (test : List ℕ → Bool) (text : List ℕ) (n : ℕ) → longest_beginning test text n ≤ n
 unfolding longest_beginning
@@ -71,8 +68,7 @@ longest-within test text zero = omega arith
 longest-within test text (suc n) = step_within (test (take (suc n) text)) n (longest_beginning test text n) (longest-within test text n)
 
 step_passes : (test : List ℕ → Bool) (text : List ℕ) (b : Bool) (n m : ℕ) → test (take (suc n) text) ≡ b → test (take m text) ≡ true → test (take (if b then suc n else m) text) ≡ true
-step_passes test text true n m e h = e
-step_passes test text false n m e h = h
+step_passes test text b n m e h = grind arith
 
 longest-passes : (test : List ℕ → Bool) (text : List ℕ) (n : ℕ) → test [] ≡ true → test (take (longest_beginning test text n) text) ≡ true
 unfolding longest_beginning
@@ -80,13 +76,7 @@ longest-passes test text zero h = h
 longest-passes test text (suc n) h = step_passes test text (test (take (suc n) text)) n (longest_beginning test text n) refl (longest-passes test text n h)
 
 step_longest : (test : List ℕ → Bool) (text : List ℕ) (b : Bool) (n m : ℕ) → test (take (suc n) text) ≡ b → ((k : ℕ) → m < k → k ≤ n → test (take k text) ≡ true → ⊥) → (k : ℕ) → (if b then suc n else m) < k → k ≤ suc n → test (take k text) ≡ true → ⊥
-step_longest test text true n m e before k above within h = omega arith
-step_longest test text false n m e before k above within h =
-    elim (cases_lt k (suc n)) [
-      | inl below ↦ before k above (omega arith) h
-      | inr last ↦ let same : k ≡ suc n = omega arith in
-          false≢true (sym e ∙ subst (λ (z : ℕ). test (take z text) ≡ true) same h)
-    ]
+step_longest test text b n m e before k above within h = grind arith
 
 longest-longest : (test : List ℕ → Bool) (text : List ℕ) (n k : ℕ) → longest_beginning test text n < k → k ≤ n → test (take k text) ≡ true → ⊥
 unfolding longest_beginning
@@ -103,10 +93,7 @@ past_end text k none within =
     ]
 
 empty_valid : (mode : Mode) → is_valid mode [] ≡ true
-empty_valid Numeric = valid-passes Numeric [] (λ k d within. absurd (omega arith))
-empty_valid Alphanumeric = valid-passes Alphanumeric [] (λ k d within. absurd (omega arith))
-empty_valid Byte = valid-passes Byte [] (λ k d within. absurd (omega arith))
-empty_valid Kanji = valid-passes Kanji [] tt
+empty_valid mode = grind (arith, valid-passes)
 
 found_behind : (mode : Mode) (text : List ℕ) (place : ℕ) (found : Option ℕ) → slice_get text place ≡ found → place ≡ longest_beginning (is_valid mode) text (length text) → FirstInvalid (IsValid mode) text (option_map (λ byte. (place, byte)) found)
 found_behind mode text place None none at =
@@ -114,42 +101,27 @@ found_behind mode text place None none at =
     let whole : take place text ≡ text = ap (λ (k : ℕ). take k text) (past_end text place none within) ∙ take-length text in
     let passes = subst (λ (k : ℕ). is_valid mode (take k text) ≡ true) (sym at) (longest-passes (is_valid mode) text (length text) (empty_valid mode)) in
     subst (λ (t : List ℕ). IsValid mode t) whole (valid-holds mode (take place text) passes)
-found_behind mode text place (Some byte) some at = record {
-  byte_is = some;
-  valid_before = valid-holds mode (take place text) (subst (λ (k : ℕ). is_valid mode (take k text) ≡ true) (sym at) (longest-passes (is_valid mode) text (length text) (empty_valid mode)));
-  longest = λ k above within valid. longest-longest (is_valid mode) text (length text) k (omega arith) within (valid-passes mode (take k text) valid);
-}
+found_behind mode text place (Some byte) some at = grind (arith, valid-holds, longest-passes, longest-longest, valid-passes)
 
 pub first_invalid-first : (mode : Mode) (text : List ℕ) → FirstInvalid (IsValid mode) text (first_invalid mode text)
 unfolding first_invalid
-first_invalid-first mode text =
-    let place = longest_beginning (is_valid mode) text (length text) in
-    found_behind mode text place (slice_get text place) refl refl
+first_invalid-first mode text = grind (arith, found_behind)
 
 -- ---- No other is first
 
 not_valid : (valid : List ℕ → Type 0) (text : List ℕ) (position byte : ℕ) → IsFirstInvalid valid text position byte → valid text → ⊥
 not_valid valid text position byte first whole =
-    let within = slice_get_within text position byte first.byte_is in
-    first.longest (length text) within (omega arith) (subst valid (sym (take-length text)) whole)
+    first.longest (length text) (slice_get_within text position byte first.byte_is) (omega arith) (subst valid (sym (take-length text)) whole)
 
 not_before : (valid : List ℕ → Type 0) (text : List ℕ) (p q : ℕ × ℕ) → IsFirstInvalid valid text p.0 p.1 → IsFirstInvalid valid text q.0 q.1 → p.0 < q.0 → ⊥
-not_before valid text p q first second before =
-    let within = slice_get_within text q.0 q.1 second.byte_is in
-    first.longest q.0 before (omega arith) second.valid_before
+not_before valid text p q first second before = grind (arith, slice_get_within)
 
 place_and_byte : ℕ → ℕ → Option (ℕ × ℕ)
 place_and_byte place byte = Some (place, byte)
 
-same_pair : (a b c d : ℕ) → a ≡ c → b ≡ d → place_and_byte a b ≡ place_and_byte c d
-same_pair a b c d h k = cc
-
 same_found : (text : List ℕ) (p q : ℕ × ℕ) → p.0 ≡ q.0 → slice_get text p.0 ≡ Some p.1 → slice_get text q.0 ≡ Some q.1 → Some p ≡ Some q
 unfolding place_and_byte
-same_found text p q place first second =
-    let byte : Some p.1 ≡ Some q.1 = sym first ∙ (ap (λ (k : ℕ). slice_get text k) place ∙ second) in
-    let byte_is : p.1 ≡ q.1 = cc in
-    same_pair p.0 p.1 q.0 q.1 place byte_is
+same_found text p q place first second = grind arith
 
 one_first : (valid : List ℕ → Type 0) (text : List ℕ) (first second : Option (ℕ × ℕ)) → FirstInvalid valid text first → FirstInvalid valid text second → first ≡ second
 one_first valid text None None h k = refl

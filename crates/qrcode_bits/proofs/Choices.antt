@@ -1,16 +1,13 @@
 -- The choice of the version: a chosen plan fits wherever some plan does, and the first class of versions whose chosen plan fits
 -- decides.
-use Rattle.std.proofs.Common.{◌≡◌, ℕ, ◌+◌, ◌-◌, ◌^◌, ◌<◌, ◌≤◌, List, [], ◌∷◌, ◌++◌, Some, length, refl, sym, ap, ◌∙◌, subst, arith, inl, inr}
-use Rattle.std.specs.Prelude.{All, Option, nat_abs}
+use Rattle.std.proofs.Common.{◌≡◌, ℕ, zero, suc, ◌+◌, ◌^◌, ◌<◌, ◌≤◌, List, [], ◌∷◌, ◌++◌, Some, length, refl, sym, ◌∙◌, arith, inl, inr}
+use Rattle.std.specs.Prelude.{All, Option}
 use Rattle.std.proofs.lemmas.Bool.{cases_lt, cases_eq}
-use Rattle.std.proofs.lemmas.Nat.{pow_below}
 use Rattle.std.proofs.lemmas.List.Elements.{All-head, All-tail, All-nil, All-cons, All-append}
 use Rattle.qrcode_base.specs.declared.types.Version.{Version}
-use Rattle.qrcode_base.specs.declared.types.Version.TheVariants.{Normal, Micro}
 use Rattle.qrcode_base.specs.declared.types.EcLevel.{EcLevel}
 use Rattle.qrcode_base.specs.declared.types.EcLevel.TheVariants.{L, M, Q, H}
 use Rattle.qrcode_base.specs.declared.types.Mode.{Mode}
-use Rattle.qrcode_base.specs.declared.types.Mode.TheVariants.{Numeric, Alphanumeric, Byte, Kanji}
 use Rattle.qrcode_base.specs.Modes.{IsWithin, same, digits, bytes, join, HasMode}
 use Rattle.std.proofs.lemmas.Option.{slice_get_past}
 use Rattle.qrcode_base.specs.Symbols.{capacity}
@@ -23,33 +20,20 @@ use Rattle.qrcode_bits.specs.Choice.{IsMergePlan, Fits, FitsNot, IsLeastBits, no
 use Rattle.qrcode_bits.specs.Choice.{IsLeastHolding, IsClass}
 use Rattle.qrcode_bits.proofs.Growth.{total_bits-rise, total_bits-same, total_bits-double, chosen-same}
 use Rattle.qrcode_bits.proofs.CuttingPlans.{chosen-cutting, chosen-least}
+use Rattle.std.proofs.lemmas.Grind.{common_steps}
 
 -- ---- Modes of a version
 
 -- a version with the mode of bytes has two bits to tell modes
 wide_enough : (p : ℕ) → 2 < 2 ^ p → 3 < 2 ^ p
-wide_enough p h = elim (cases_lt p 2) [
-  | inl few ↦ elim (cases_eq p 1) [
-    | inl e ↦ absurd (let two : 2 ^ p ≡ 2 = ap (λ (n : ℕ). 2 ^ n) e in omega arith)
-    | inr ne ↦ absurd (let one : 2 ^ p ≡ 1 = ap (λ (n : ℕ). 2 ^ n) (let z : p ≡ 0 = omega arith in z) in omega arith)
-  ]
-  | inr many ↦ (let four = pow_below 1 p (omega arith) in
-      elim (cases_eq p 2) [ inl e ↦ (let whole : 2 ^ p ≡ 4 = ap (λ (n : ℕ). 2 ^ n) e in omega arith) | inr ne ↦ (let more = pow_below 2 p (omega arith) in omega arith) ])
-]
+wide_enough zero h = grind arith
+wide_enough (suc p) h = omega arith
 
 -- a version that has a mode has those that it takes in
 has_within : {m k : Mode} (v : Version) → IsWithin m k → HasMode v k → HasMode v m
 has_within v same h = h
-has_within (Normal n) digits h = omega arith
-has_within (Micro n) digits h = omega arith
-has_within {m = Numeric} (Normal n) bytes h = omega arith
-has_within {m = Alphanumeric} (Normal n) bytes h = omega arith
-has_within {m = Byte} (Normal n) bytes h = omega arith
-has_within {m = Kanji} (Normal n) bytes h = omega arith
-has_within {m = Numeric} (Micro n) bytes h = omega arith
-has_within {m = Alphanumeric} (Micro n) bytes h = omega arith
-has_within {m = Byte} (Micro n) bytes h = h
-has_within {m = Kanji} (Micro n) bytes h = wide_enough (nat_abs n - 1) h
+has_within v digits h = grind arith
+has_within v bytes h = grind (arith, wide_enough)
 
 -- a version that has two modes has their join
 has_join : (v : Version) (a b : Mode) → HasMode v a → HasMode v b → HasMode v (join a b)
@@ -70,12 +54,10 @@ module _ (v : Version) where
       (had-merged t ts (has_within v (join-upper_second s.mode (merged t ts).mode) h))
 
   had-front : (xs ys : List Segment) → All Had (xs ++ ys) → All Had xs
-  had-front [] ys h = All-nil Had
-  had-front (x ∷ xs) ys h = All-cons Had x xs (All-head Had x (xs ++ ys) h) (had-front xs ys (All-tail Had x (xs ++ ys) h))
+  had-front xs ys h = λ k d b. grind (arith, common_steps, h k d)
 
   had-back : (xs ys : List Segment) → All Had (xs ++ ys) → All Had ys
-  had-back [] ys h = h
-  had-back (x ∷ xs) ys h = had-back xs ys (All-tail Had x (xs ++ ys) h)
+  had-back xs ys h = λ k d b. grind (arith, common_steps, h (length xs + k) d)
 
   -- A version has the modes of a plan if and only if it has those of the segments.
   pub pieces-had : (pieces : List (List Segment)) → AreNonEmpty pieces → All Had (joined pieces) → All Had (merged_pieces pieces)
@@ -106,8 +88,7 @@ chosen_is_plan message v plan h = let w = chosen-cutting (parsed message) v plan
 -- no plan takes fewer bits than the chosen one
 pub chosen_bits : (message : List ℕ) (v : Version) (plan other : List Segment) → IsChosenPlan (parsed message) v plan → IsMergePlan message other →
     total_bits v plan ≤ total_bits v other
-chosen_bits message v plan other h q =
-    subst (λ (z : List Segment). total_bits v plan ≤ total_bits v z) (sym q.merges) (chosen-least (parsed message) v plan q.pieces h q.cutting)
+chosen_bits message v plan other h q = rw q.merges (chosen-least (parsed message) v plan q.pieces h q.cutting)
 
 pub chosen_least : (front : ℕ) (message : List ℕ) (v : Version) (plan : List Segment) → IsChosenPlan (parsed message) v plan →
     IsLeastBits front message v (front + total_bits v plan)
@@ -239,10 +220,7 @@ HoldsLess size l number = (n c : ℕ) → n < number → capacity (normal n) l �
 
 pub micro_next : (message : List ℕ) (l : EcLevel) (number : ℕ) → FitsNone micro 0 message l number → FitsNot 0 message (micro (number + 1)) l →
     FitsNone micro 0 message l (number + 1)
-micro_next message l number w unfit n h = elim (cases_eq n (number + 1)) [
-  | inl e ↦ subst (λ (k : ℕ). FitsNot 0 message (micro k) l) (sym e) unfit
-  | inr ne ↦ w n (omega arith)
-]
+micro_next message l number w unfit n h = elim (cases_eq n (number + 1)) [ inl e ↦ rw e unfit | inr ne ↦ w n (omega arith) ]
 
 pub micro_choice : (message : List ℕ) (l : EcLevel) (number : ℕ) (plan : List Segment) → number < 4 → FitsNone micro 0 message l number →
     IsChosenPlan (parsed message) (micro (number + 1)) plan → Fits 0 message (micro (number + 1)) l plan → IsChoice micro 0 message l 4 (number + 1) plan

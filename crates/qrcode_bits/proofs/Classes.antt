@@ -29,6 +29,7 @@ use Rattle.qrcode_bits.proofs.Growth.{total_bits-rise, total_bits-same}
 use Rattle.qrcode_bits.proofs.Upward.{All-map}
 use Rattle.qrcode_bits.proofs.Texts.{texts-reach, texts-plan, plan_lies}
 use Rattle.qrcode_bits.proofs.Choices.{chosen_is_plan, chosen_decides, fits_normal, capacity-grows, class_choice}
+use Rattle.std.proofs.lemmas.Grind.{common_steps}
 
 -- ---- Costs are small
 
@@ -95,8 +96,7 @@ fits_later front n m message l plan h most class w =
     let some : 1 ≤ n = (capacity-held l n w.limit w.has_level).0 in
     let c = last_capacity l m (omega arith) most in
     let grows = capacity-grows l n m w.limit c.0 h w.has_level c.1 in
-    let same = total_bits-same n m some (omega arith) class plan in
-    fits_normal front m c.0 message l plan w.planned c.1 (omega arith)
+    grind (arith, common_steps, total_bits-same, fits_normal)
 
 -- Where no plan fits the last version of a class, none fits any version of the class.
 pub class_fits_not : (front : ℕ) (message : List ℕ) (l : EcLevel) (before last : ℕ) → last ≤ 40 → IsClass before last → FitsNone normal front message l before →

@@ -14,6 +14,7 @@ use Rattle.qrcode_bits.specs.Parsing.{class_number, class_numbered, class_of, cl
 use Rattle.qrcode_bits.specs.Parsing.{class_mode}
 use Rattle.qrcode_bits.proofs.Adjoining.{class_of-one}
 use Rattle.qrcode_bits.proofs.Runs.{IsRun, Run-first, Run-more, Run-apart, Run-last}
+use Rattle.std.proofs.lemmas.Grind.{common_steps}
 
 -- ---- The table
 
@@ -58,10 +59,7 @@ units_pair bytes at within pair = grind (arith, drop-two)
 
 units_alone : (bytes : List ℕ) (at : ℕ) → at + 2 ≤ length bytes → is_kanji_pair (get_or bytes at 0) (get_or bytes (at + 1) 0) ≡ false →
     units (drop at bytes) ≡ class_of (get_or bytes at 0) ∷ units (drop (at + 1) bytes)
-units_alone bytes at within pair =
-    let two : suc (at + 1) ≡ at + 2 = omega arith in
-    ap units (drop-two bytes at within) ∙ (ap (λ (z : Bool). unit_or_pair z (get_or bytes at 0) (get_or bytes (at + 1) 0) (drop (at + 2) bytes)) pair
-    ∙ ap (λ (z : List ℕ). class_of (get_or bytes at 0) ∷ units z) (sym (drop-cons bytes (at + 1) 0 (omega arith) ∙ ap (λ (n : ℕ). get_or bytes (at + 1) 0 ∷ drop n bytes) two)))
+units_alone bytes at within pair = grind (arith, common_steps, drop-two, drop-cons)
 
 pub units_last : (bytes : List ℕ) (at : ℕ) → length bytes - at < 2 → at < length bytes → units (drop at bytes) ≡ class_of (get_or bytes at 0) ∷ units (drop (at + 1) bytes)
 units_last bytes at short within = grind (arith, drop_all, drop-cons)
@@ -70,10 +68,7 @@ no_pair : (a b : ℕ) → (class_of a ≡ LoneLead → ⊥) → is_kanji_pair a 
 no_pair a b other = grind arith
 
 units_other : (bytes : List ℕ) (at : ℕ) → at < length bytes → (class_of (get_or bytes at 0) ≡ LoneLead → ⊥) → units (drop at bytes) ≡ class_of (get_or bytes at 0) ∷ units (drop (at + 1) bytes)
-units_other bytes at within other = elim (cases_lt (at + 1) (length bytes)) [
-  | inl w ↦ units_alone bytes at (omega arith) (no_pair (get_or bytes at 0) (get_or bytes (at + 1) 0) other)
-  | inr w ↦ units_last bytes at (omega arith) within
-]
+units_other bytes at within other = grind (arith, common_steps, cases_lt, units_alone, no_pair, units_last)
 
 -- the next unit is the byte's, or a pair
 abbrev NextUnit : List ℕ → ℕ → Type 0
@@ -106,9 +101,7 @@ module _ (bytes : List ℕ) (begin : ℕ) (within : begin < length bytes) where
   -- ---- of a class that is not that of pairs
 
   pub alone_first : (class ≡ LoneLead → ⊥) → IsRun bytes class begin (begin + 1)
-  alone_first other =
-      let one = class_of-one (get_or bytes begin 0) in
-      Run-first bytes class begin 1 (sym one) (units_other bytes begin within other ∙ ap (λ (n : ℕ). class ∷ units (drop (begin + n) bytes)) (sym one))
+  alone_first other = grind (arith, common_steps, class_of-one, Run-first, units_other)
 
   pub alone_more : (end number next : ℕ) → end < length bytes → (class ≡ LoneLead → ⊥) → number ≡ class_number class → next ≡ class_number (class_of (get_or bytes end 0)) → next ≡ number →
       IsRun bytes class begin end → IsRun bytes class begin (end + 1)

@@ -15,6 +15,7 @@ use Rattle.qrcode_bits.specs.Choice.{normal, micro, FitsNot, FitsNone}
 use Rattle.qrcode_bits.proofs.Choices.{capacity-middle, capacity-most}
 use Rattle.qrcode_bits.proofs.PlanFrames.{length-slice}
 use Rattle.qrcode_bits.proofs.Texts.{texts-reach, texts-plan}
+use Rattle.std.proofs.lemmas.Grind.{common_steps}
 
 -- no mode has fewer than ten bits for three bytes
 dense : (m : Mode) (s : List ℕ) (n : ℕ) → IsValid m s → length s ≡ n → 10 * n ≤ 3 * data_bits m (characters m n)
@@ -51,8 +52,7 @@ pub dense_message : (front : ℕ) (message : List ℕ) (v : Version) (l : EcLeve
     limit < length message / 3 * 10 → FitsNot front message v l
 dense_message front message v l limit are known long plan w =
     let bare = texts-dense message v 0 (length message) plan (texts-plan message are plan w.planned) (omega arith) in
-    let same : w.limit ≡ limit = cc in
-    omega arith
+    grind (arith, common_steps)
 
 -- ---- Micro
 

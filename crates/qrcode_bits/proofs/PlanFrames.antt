@@ -83,9 +83,4 @@ pub plan_frame : (v : Version) (l : EcLevel) (header : Option Header) (bytes : L
     (take fits.limit (ended v fits.limit (header_bits header ++ spellings v (segment_pieces bytes plan))))
 plan_frame v l header bytes plan are has fits =
     let w = spelled_plan (length (header_bits header)) v l bytes plan are fits in
-    let payload : List Bool = header_bits header ++ spellings v (segment_pieces bytes plan) in
-    let size : length payload ≡ length (header_bits header) + total_bits v plan =
-    omega (arith, length-append (header_bits header) (spellings v (segment_pieces bytes plan)), w.bits) in
-    subst (λ (s : List ℕ). IsFrame v l header s (length (header_bits header) + total_bits v plan) (take fits.limit (ended v fits.limit payload))) w.whole
-    (subst (λ (n : ℕ). IsFrame v l header (message (segment_pieces bytes plan)) n (take fits.limit (ended v fits.limit payload))) size
-    (ended_frame v l fits.limit header (segment_pieces bytes plan) fits.has_level has w.spelled (omega arith)))
+    grind (arith, common_steps, length-append, ended_frame)

@@ -16,6 +16,7 @@ use Rattle.qrcode_bits.specs.Merging.{segment_at}
 use Rattle.qrcode_bits.specs.Pieces.{segment_piece, segment_pieces}
 use Rattle.qrcode_bits.specs.Stream.{Stream}
 use Rattle.qrcode_bits.specs.Push.{Spells, SpellsAll, StopsAt, PushesDrawn, IsRefused}
+use Rattle.std.proofs.lemmas.Grind.{common_steps}
 
 pub spells_none : (s : Stream) → SpellsAll s s []
 spells_none s = grind (arith, append-nil)
@@ -65,13 +66,11 @@ stops_longer old new ps qs e w = grind (arith, append_assoc)
 -- ---- Segments
 
 pub pieces_more : (bytes : List ℕ) (ys : List Segment) (s : Segment) (rest : List Piece) → segment_pieces bytes (ys ++ s ∷ []) ++ rest ≡ segment_pieces bytes ys ++ (segment_piece bytes s ∷ rest)
-pieces_more bytes [] s rest = refl
-pieces_more bytes (y ∷ ys) s rest = ap (λ (z : List Piece). segment_piece bytes y ∷ z) (pieces_more bytes ys s rest)
+pieces_more bytes ys s rest = grind (arith, common_steps)
 
 -- what holds of each of some segments holds of the last
 pub last_of : (P : Segment → Type 0) (ys : List Segment) (s : Segment) → All P (ys ++ s ∷ []) → P s
-last_of P [] s h = All-head P s [] h
-last_of P (y ∷ ys) s h = last_of P ys s (All-tail P y (ys ++ s ∷ []) h)
+last_of P ys s h = grind (arith, common_steps, All-head, All-tail)
 
 -- ---- Plans of which each part can be spelled
 
@@ -104,9 +103,7 @@ module _ (bytes : List ℕ) (plan : List Segment) (i : ℕ) (within : i < length
 
   pub part_pushed : (new : Stream) → Spells old next (segment_piece bytes (segment_at plan i)) → SpellsAll next new (segment_pieces bytes (drop (i + 1) plan)) →
       SpellsAll old new (segment_pieces bytes (drop i plan))
-  part_pushed new h w =
-      subst (λ (z : List Piece). SpellsAll old new z) (sym (pieces_at bytes plan i within))
-      (spells_first old next new (segment_piece bytes (segment_at plan i)) (segment_pieces bytes (drop (i + 1) plan)) h w)
+  part_pushed new h w = grind (arith, common_steps, pieces_at, spells_first)
 
 pub none_left : (bytes : List ℕ) (plan : List Segment) (i : ℕ) (s : Stream) → length plan ≤ i → SpellsAll s s (segment_pieces bytes (drop i plan))
 none_left bytes plan i s past = subst (λ (z : List Segment). SpellsAll s s (segment_pieces bytes z)) (sym (drop_all i plan past)) (spells_none s)

@@ -9,6 +9,7 @@ use Rattle.std.proofs.lemmas.Grind.{flat_map-append}
 use Rattle.qrcode_base.specs.Numbers.{number_bits, byte_bits}
 use Rattle.qrcode_bits.specs.Stream.{AreShifted, shifted, Stream, Appends, kept_bits, room_in, IsKept}
 use Rattle.qrcode_bits.proofs.Numbers.{number_bits-join, number_bits-cut, number_bits-mod, high_free, length-byte_bits, length-number_bits}
+use Rattle.std.proofs.lemmas.Grind.{common_steps}
 
 low_free : (used before byte : ℕ) → used < 8 → number_bits used (before * 2 ^ 8 + byte) ≡ number_bits used byte
 low_free used before byte part =
@@ -61,7 +62,7 @@ pub appends_shifted : (old : Stream) (bytes now text filled : List ℕ) (len len
     left ≡ slice_index_or (partial ∷ text) (length text) 0 % 2 ^ used →
     Appends old (record { bits = kept_bits now used left; version = old.version; modes = old.modes; payload = old.payload; room = room_in cap' len' used }) (byte_bits text)
 appends_shifted old bytes now text filled len len' cap cap' used partial left bits room is longer grows part small are last =
-    grind (arith, kept_shifted, length-byte_bits)
+    grind (arith, common_steps, kept_shifted, length-byte_bits)
 
 -- ---- Five bytes at once
 
@@ -102,4 +103,4 @@ pub appends_five : (old : Stream) (bytes now five : List ℕ) (len len' cap cap'
     now ≡ bytes ++ five → len' ≡ len + 5 → cap ≤ cap' → used < 8 → n < 2 ^ 40 → wide ≡ partial * 2 ^ 40 + n → byte_bits five ≡ number_bits 40 (wide / 2 ^ used) → left ≡ bit_and n 255 % 2 ^ used →
     Appends old (record { bits = kept_bits now used left; version = old.version; modes = old.modes; payload = old.payload; room = room_in cap' len' used }) (number_bits 40 n)
 appends_five old bytes now five len len' cap cap' used partial left n wide bits room is longer grows part small whole are last =
-    grind (arith, kept_five, length-number_bits)
+    grind (arith, common_steps, kept_five, length-number_bits)

@@ -20,6 +20,7 @@ use Rattle.qrcode_bits.specs.Frame.{message}
 use Rattle.qrcode_bits.proofs.Runs.{class_size-some, joins-same}
 use Rattle.qrcode_bits.proofs.Adjoining.{class_of-one}
 use Rattle.qrcode_bits.proofs.Upward.{valid-append, valid-upward}
+use Rattle.std.proofs.lemmas.Grind.{common_steps}
 
 -- ---- Slices
 
@@ -69,8 +70,7 @@ module _ (whole : List ℕ) where
   single : All (λ c. c < 256) whole → (b a : ℕ) (rest : List ℕ) → drop b whole ≡ a ∷ rest → IsValid (class_mode (class_of a)) (slice_range whole b (b + class_size (class_of a)))
   single are b a rest d =
       let small : a < 256 = All-head (λ c. c < 256) a rest (subst (λ (z : List ℕ). All (λ c. c < 256) z) d (All-drop (λ c. c < 256) b whole are)) in
-      let here : slice_range whole b (b + class_size (class_of a)) ≡ a ∷ [] = slice-front whole (a ∷ rest) b (class_size (class_of a)) d ∙ ap (λ (n : ℕ). take n (a ∷ rest)) (class_of-one a) in
-      subst (λ (z : List ℕ). IsValid (class_mode (class_of a)) z) (sym here) (unit_valid a small)
+      grind (arith, common_steps, slice-front, class_of-one, unit_valid)
 
   texts-runs : All (λ c. c < 256) whole → (b : ℕ) (bytes : List ℕ) → drop b whole ≡ bytes → AreTexts whole b (map run_segment (runs b (units bytes))) (b + length bytes)
   texts-runs are b [] d = omega arith
@@ -132,8 +132,7 @@ module _ (whole : List ℕ) where
 
   -- The pieces of a plan are a message of all the bytes.
   pub plan_message : (plan : List Segment) → AreTexts whole 0 plan (length whole) → message (segment_pieces whole plan) ≡ whole
-  plan_message plan h =
-      texts-message 0 (length whole) plan h ∙ (ap (λ (n : ℕ). take n whole) (omega arith) ∙ take-length whole)
+  plan_message plan h = grind (arith, common_steps, texts-message, take-length)
 
   -- ---- Places
 

@@ -9,6 +9,7 @@ use Rattle.qrcode_bits.specs.Buckets.{period, period_bits, bucket_mode, bucket_r
 use Rattle.qrcode_bits.specs.Buckets.{Absorbs, IsEmptyGroup, key_of, Enters}
 use Rattle.qrcode_bits.proofs.Grouping.{has-inside}
 use Rattle.qrcode_bits.specs.Words.{word_of, start_told, bucket_start, word_at, starts_in, IsOffered, AreNone, IsWhole}
+use Rattle.std.proofs.lemmas.Grind.{common_steps}
 
 pub word-ahead : (more a b : ℕ) → a ≤ b →
     IsNoWorse (start_told more a).bits (start_told more a).parts (start_told more a).start (start_told more b).bits (start_told more b).parts (start_told more b).start
@@ -130,8 +131,4 @@ pub enters_words : (mode : Mode) (begin bits parts start : ℕ) → begin < 8192
     IsOffered mode (begin % 3) t old one → IsOffered mode (3 + begin % 2) p one two → IsOffered mode 5 s two three → IsOffered mode (6 + begin % 2) c three new → length new ≡ 8 →
     Enters mode begin bits parts start (starts_in old) (starts_in new) × IsWhole new
 enters_words mode begin bits parts start low few short early old one two three new t p s c ts ps ss cs first second third fourth long =
-    let a = subst (λ (w : ℕ). IsOffered mode (begin % 3) w old one) ts first in
-    let b = subst (λ (w : ℕ). IsOffered mode (3 + begin % 2) w one two) ps second in
-    let d = subst (λ (w : ℕ). IsOffered mode 5 w two three) ss third in
-    let e = subst (λ (w : ℕ). IsOffered mode (6 + begin % 2) w three new) cs fourth in
-    (enters begin bits parts start low few short early mode old one two three new a b d e, still_whole begin bits parts start low few short early mode old one two three new a b d e long)
+    grind (arith, common_steps, enters, still_whole)

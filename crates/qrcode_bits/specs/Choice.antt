@@ -76,7 +76,7 @@ IsMinVersion length level version =
     ((number : ℕ) × (version ≡ normal number) × IsLeastHolding length level number)
     ⊎ ((version ≡ normal 40) × ((other c : ℕ) → capacity (normal other) level ≡ Some c → c < length))
 
--- ---- Versions in which a plan takes the same bits
+-- ---- Versions in which a plan takes the same bits (only private functions speak of these)
 
 -- The versions after one number up to another are of one class: 1 to 9, 10 to 26 or 27 to 40. In a class the
 -- character count indicators have the same widths (table 3).

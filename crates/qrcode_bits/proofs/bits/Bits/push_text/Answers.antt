@@ -1,7 +1,6 @@
 -- Header, characters and mode, one after the other.
-use Rattle.std.proofs.Common.{arith, subst, ℕ}
+use Rattle.std.proofs.Common.{arith}
 use Rattle.std.proofs.lemmas.Result.{err_from_is_err_and}
-use Rattle.qrcode_bits.specs.Push.{IsHeaderRefused}
 use Rattle.qrcode_bits.proofs.Segments.{refused, length-character_bits}
 use Rattle.qrcode_bits.proofs.bits.Bits.push_text.Goals as goal
 use Rattle.std.proofs.lemmas.Grind.{common_steps}
@@ -10,7 +9,4 @@ pub push_characters-requires-clause-room : goal.push_characters-requires-clause-
 push_characters-requires-clause-room c = grind (arith, common_steps, length-character_bits)
 
 pub returns-in_err-push_header-clause-refused : goal.returns-in_err-push_header-clause-refused
-returns-in_err-push_header-clause-refused c =
-    let p = err_from_is_err_and c.from_residual.result c.from_residual.ensures.1 in
-    let why = subst (λ (n : ℕ). IsHeaderRefused c.args.self.now c.args.mode n c.in_err-push_header.field-0.0) c.character_count.ensures c.in_err-push_header.ensures.refused in
-    rw (p.1, p.2) (refused c.args.self.now c.args.mode c.args.text.now _ c.requires.has c.requires.valid why)
+returns-in_err-push_header-clause-refused c = grind (arith, err_from_is_err_and, refused)

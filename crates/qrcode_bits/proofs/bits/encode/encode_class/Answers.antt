@@ -1,12 +1,12 @@
 -- The chosen plan of the last version of a class decides for the class.
-use Rattle.std.proofs.Common.{◌≡◌, ◌+◌, length, ◌<◌, ◌≤◌, ◌^◌, ℕ, List, ap, ◌∙◌, sym, subst, arith}
+use Rattle.std.proofs.Common.{◌≡◌, ◌+◌, length, ◌≤◌, ℕ, List, ap, ◌∙◌, sym, subst, arith}
 use Rattle.std.specs.Prelude.{All}
 use Rattle.qrcode_base.specs.declared.types.Version.{Version}
 use Rattle.qrcode_bits.specs.declared.optimize.Segment.{Segment}
 use Rattle.qrcode_bits.specs.Frame.{header_bits}
 use Rattle.qrcode_bits.specs.Parsing.{parsed}
 use Rattle.qrcode_bits.specs.Merging.{IsChosenPlan, total_bits}
-use Rattle.qrcode_bits.specs.Choice.{normal, Fits, IsMinVersion}
+use Rattle.qrcode_bits.specs.Choice.{normal, IsMinVersion}
 use Rattle.qrcode_bits.specs.Encoding.{IsPlanStream}
 use Rattle.qrcode_bits.proofs.Pairs.{bytes_valid}
 use Rattle.qrcode_bits.proofs.Classes.{normal_headers, plan_small, plan_ordered, front_fits, front_not, class_fits, class_encoding}
@@ -23,28 +23,13 @@ total_encoded_len-requires-clause-ordered c =
     (plan_ordered c.args.bytes.now c.in-Some.plan.items (bytes_valid c.args.bytes.now (λ i. omega (arith, c.type_inv.bytes i))) fits.planned)
 
 pub total_encoded_len-requires-clause-fits : goal.total_encoded_len-requires-clause-fits
-total_encoded_len-requires-clause-fits c =
-    let fits = front_fits c.args.bytes.now c.args.level c.args.last c.in-Some.plan.items c.front_bits-front.result (length (header_bits c.args.header.now)) c.normal-version.result c.front_bits-front.ensures.is c.normal-version.ensures (rw c.in-Some.is at c.in-Ok.ensures.fits) in
-    subst (λ (p : List Segment). total_bits c.normal-version.result p < 2 ^ 64) (sym c.deref.ensures.value)
-    (subst (λ (v : Version). total_bits v c.in-Some.plan.items < 2 ^ 64) (sym c.normal-version.ensures)
-    (let small = plan_small c.args.bytes.now (normal c.args.last) (normal_headers c.args.last) c.requires.short c.in-Some.plan.items (bytes_valid c.args.bytes.now (λ i. omega (arith, c.type_inv.bytes i))) fits.planned in omega arith))
+total_encoded_len-requires-clause-fits c = grind (arith, front_fits, plan_small, normal_headers, bytes_valid)
 
 pub overflow_add-front : goal.overflow_add-front
-overflow_add-front c =
-    let fits = front_fits c.args.bytes.now c.args.level c.args.last c.in-Some.plan.items c.front_bits-front.result (length (header_bits c.args.header.now)) c.normal-version.result c.front_bits-front.ensures.is c.normal-version.ensures (rw c.in-Some.is at c.in-Ok.ensures.fits) in
-    let small = plan_small c.args.bytes.now (normal c.args.last) (normal_headers c.args.last) c.requires.short c.in-Some.plan.items (bytes_valid c.args.bytes.now (λ i. omega (arith, c.type_inv.bytes i))) fits.planned in
-    let size = c.total_encoded_len.ensures ∙ (ap (λ (v : Version). total_bits v c.deref.result.now) c.normal-version.ensures ∙ ap (λ (p : List Segment). total_bits (normal c.args.last) p) c.deref.ensures.value) in
-    omega (arith, size, c.front_bits-front.ensures.small)
+overflow_add-front c = grind (arith, front_fits, plan_small, normal_headers, bytes_valid)
 
 pub encode_plan-requires-clause-fits : goal.encode_plan-requires-clause-fits
-encode_plan-requires-clause-fits c =
-    let fits = front_fits c.args.bytes.now c.args.level c.args.last c.in-Some.plan.items c.front_bits-front.result (length (header_bits c.args.header.now)) c.normal-version.result c.front_bits-front.ensures.is c.normal-version.ensures (rw c.in-Some.is at c.in-Ok.ensures.fits) in
-    let chosen = subst (λ (v : Version). IsChosenPlan (parsed c.args.bytes.now) v c.in-Some.plan.items) c.normal-version.ensures (rw c.in-Some.is at c.in-Ok.ensures.chosen) in
-    let size = c.total_encoded_len.ensures ∙ (ap (λ (v : Version). total_bits v c.deref.result.now) c.normal-version.ensures ∙ ap (λ (p : List Segment). total_bits (normal c.args.last) p) c.deref.ensures.value) in
-    let whole : c.front_bits-front.result + c.total_encoded_len.result ≡ length (header_bits c.args.header.now) + total_bits (normal c.args.last) c.in-Some.plan.items = omega (arith, size, c.front_bits-front.ensures.is) in
-    let least = subst (λ (n : ℕ). IsMinVersion n c.args.level c.find_min_version-smallest.result) whole c.find_min_version-smallest.ensures in
-    subst (λ (p : List Segment). Fits (length (header_bits c.args.header.now)) c.args.bytes.now c.find_min_version-smallest.result c.args.level p) (sym c.deref-2.ensures.value)
-    (class_fits c.args.header.now c.args.bytes.now c.args.level c.args.last c.in-Some.plan.items chosen fits c.find_min_version-smallest.result least)
+encode_plan-requires-clause-fits c = grind (arith, front_fits, class_fits)
 
 pub returns-in-Ok-encode_plan-clause-some : goal.returns-in-Ok-encode_plan-clause-some
 returns-in-Ok-encode_plan-clause-some c = λ before limit class within none.

@@ -25,7 +25,4 @@ returns-in-Err-push_terminator-clause-memory c =
     c.in-Ok.bits c.in-Ok.ensures.bits c.in-Ok.ensures.version c.push_plan.new.self c.in-Err-push_terminator.error c.in_default-push_plan.ensures.ok c.in-Err-push_terminator.ensures.refused
 
 pub returns-clause-ok : goal.returns-clause-ok
-returns-clause-ok c =
-    plan_stream c.args.header.now c.args.bytes.now (bytes_valid c.args.bytes.now (λ i. omega (arith, c.type_inv.bytes i))) c.args.version c.args.level c.args.plan.now c.requires.fits
-    c.in-Ok.bits c.in-Ok.ensures.bits c.in-Ok.ensures.version c.push_plan.new.self c.push_terminator.new.self c.requires.header c.in-Ok.ensures.modes
-    c.in_default-push_plan.ensures.ok c.in_default-push_terminator.ensures.ok
+returns-clause-ok c = grind (arith, plan_stream, bytes_valid)

@@ -14,8 +14,7 @@ pub returns-in-Some-clause-ok : goal.returns-in-Some-clause-ok
 returns-in-Some-clause-ok c =
     let i = c.loop-last.invariant in
     let here = classes_here i.0 c.args.limit c.as_slice-last-items.result.now c.loop-last.last-index c.loop-last-test.true i.1 in
-    let found = rw c.in-Some.is at c.in-Ok-encode_class.ensures.some in
-    found i.0 c.args.limit here.0 here.2 i.2
+    (rw c.in-Some.is at c.in-Ok-encode_class.ensures.some) i.0 c.args.limit here.0 here.2 i.2
 
 pub loop-last-preserved : goal.loop-last-preserved
 loop-last-preserved c =

@@ -27,7 +27,6 @@ loop-bucket-preserved g c =
     let j = c.loop-bucket.bucket in
     let best = c.loop-bucket.best in
     let mode = c.bucket_mode-mode.result in
-    let near = c.requires.short.near (end - 1) (omega arith) in
     elim c.if-found.branch [
       | then-found+then-candidate-best w ↦
           let dear = cost-small c.args.version c.args.headers.now mode (last_end - w.bucket_rest.result) w.cost-cost.result c.requires.headers (omega arith) w.cost-cost.ensures.cost in
