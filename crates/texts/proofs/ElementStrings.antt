@@ -26,7 +26,7 @@ use Rattle.qrcode_bits.specs.Pieces.{segment_piece, segment_pieces}
 use Rattle.qrcode_bits.specs.Push.{IsRefused}
 use Rattle.qrcode_bits.specs.Spelling.{Piece, character_count, spelling}
 use Rattle.qrcode_bits.specs.Stream.{Stream, Appends}
-use Rattle.qrcode_bits.proofs.Choices.{all_had, has_every}
+use Rattle.qrcode_bits.proofs.Choices.{all_had}
 use Rattle.qrcode_bits.proofs.CuttingPlans.{chosen-cutting}
 use Rattle.qrcode_bits.proofs.Lengths.{long_message}
 use Rattle.qrcode_bits.proofs.Numbers.{length-number_bits}
@@ -65,6 +65,9 @@ longer version (piece ∷ done) rest next =
 
 -- ---- Refusals
 
+normal_modes : (number : ℕ) (mode : Mode) → HasMode (normal number) mode
+normal_modes number mode = grind arith
+
 -- A count that does not fit its field says that the bits are too many.
 piece_too_long : (number : ℕ) (level : EcLevel) (next : Piece) (limit : ℕ) → IsText next → capacity (normal number) level ≡ Some limit →
     2 ^ count_width (normal number) next.mode ≤ character_count next.mode next.text → limit < length (spelling (normal number) next)
@@ -97,7 +100,7 @@ module _ (old : Stream) (level : EcLevel) (number : ℕ) (text : List ℕ) (is :
       omega (arith, long, longer (normal number) done rest next, piece_too_long number level next limit valid limit_is wide)
 
   stopped : (new : Stream) (error : QrError) → new.version ≡ normal number → IsRefused new next error → IsRefusedIn (SaysElements text) (normal number) level error
-  stopped new UnsupportedCharacterSet now refused = absurd (refused (subst (λ (v : Version). HasMode v next.mode) (sym now) (has_every number next.mode)))
+  stopped new UnsupportedCharacterSet now refused = absurd (refused (subst (λ (v : Version). HasMode v next.mode) (sym now) (normal_modes number next.mode)))
   stopped new (InvalidCharacter position byte) now refused =
       absurd (none-some (position, byte) (sym ((none_where_valid next.mode next.text).0 valid) ∙ sym (first_invalid-is next.mode next.text (Some (position, byte)) refused.1)))
   stopped new DataTooLong now refused =
