@@ -127,7 +127,8 @@ module _ (bytes : List ℕ) (begin : ℕ) (within : begin < length bytes) where
 
 -- ---- of pairs, or of the first byte of one
 
-pub lone_stops : (bytes : List ℕ) (begin : ℕ) → begin < length bytes → class_of (get_or bytes begin 0) ≡ LoneLead → units (drop begin bytes) ≡ class_of (get_or bytes begin 0) ∷ units (drop (begin + 1) bytes) →
+pub lone_stops : (bytes : List ℕ) (begin : ℕ) → begin < length bytes → class_of (get_or bytes begin 0) ≡ LoneLead →
+    units (drop begin bytes) ≡ class_of (get_or bytes begin 0) ∷ units (drop (begin + 1) bytes) →
     parsed_from begin (drop begin bytes) ≡ record { mode = class_mode LoneLead; begin = begin; end = begin + 1 } ∷ parsed_from (begin + 1) (drop (begin + 1) bytes)
 lone_stops bytes begin within lone unit =
     run_stops bytes LoneLead begin (begin + 1) (Run-first bytes LoneLead begin 1 refl (unit ∙ ap (λ (d : Class). d ∷ units (drop (begin + 1) bytes)) lone)) (λ w.

@@ -157,7 +157,8 @@ module _ (segments : List Segment) (version : Version) (end : ℕ) (within : end
         }
 
   -- a bucket with no start
-  pub sought-nothing : (j w best : ℕ) (best_mode mode : Mode) (groups : Groups) → IsSought segments version end j best best_mode → j < 8 → AreGroups segments version end end groups → mode ≡ bucket_mode j →
+  pub sought-nothing : (j w best : ℕ) (best_mode mode : Mode) (groups : Groups) → IsSought segments version end j best best_mode → j < 8 →
+      AreGroups segments version end end groups → mode ≡ bucket_mode j →
       bucket_start j w ≡ slot (group_of mode groups) j → 2 ^ 50 ≤ w → IsSought segments version end (j + 1) best best_mode
   sought-nothing j w best best_mode mode groups before inside grouped mode-is at great = grind (arith, no_start)
 
