@@ -75,7 +75,8 @@ unfolding longest_beginning
 longest-passes test text zero h = h
 longest-passes test text (suc n) h = step_passes test text (test (take (suc n) text)) n (longest_beginning test text n) refl (longest-passes test text n h)
 
-step_longest : (test : List ℕ → Bool) (text : List ℕ) (b : Bool) (n m : ℕ) → test (take (suc n) text) ≡ b → ((k : ℕ) → m < k → k ≤ n → test (take k text) ≡ true → ⊥) → (k : ℕ) → (if b then suc n else m) < k → k ≤ suc n → test (take k text) ≡ true → ⊥
+step_longest : (test : List ℕ → Bool) (text : List ℕ) (b : Bool) (n m : ℕ) → test (take (suc n) text) ≡ b →
+    ((k : ℕ) → m < k → k ≤ n → test (take k text) ≡ true → ⊥) → (k : ℕ) → (if b then suc n else m) < k → k ≤ suc n → test (take k text) ≡ true → ⊥
 step_longest test text b n m e before k above within h = grind arith
 
 longest-longest : (test : List ℕ → Bool) (text : List ℕ) (n k : ℕ) → longest_beginning test text n < k → k ≤ n → test (take k text) ≡ true → ⊥
@@ -95,7 +96,8 @@ past_end text k none within =
 empty_valid : (mode : Mode) → is_valid mode [] ≡ true
 empty_valid mode = grind (arith, valid-passes)
 
-found_behind : (mode : Mode) (text : List ℕ) (place : ℕ) (found : Option ℕ) → slice_get text place ≡ found → place ≡ longest_beginning (is_valid mode) text (length text) → FirstInvalid (IsValid mode) text (option_map (λ byte. (place, byte)) found)
+found_behind : (mode : Mode) (text : List ℕ) (place : ℕ) (found : Option ℕ) → slice_get text place ≡ found →
+    place ≡ longest_beginning (is_valid mode) text (length text) → FirstInvalid (IsValid mode) text (option_map (λ byte. (place, byte)) found)
 found_behind mode text place None none at =
     let within : place ≤ length text = omega (arith, longest-within (is_valid mode) text (length text)) in
     let whole : take place text ≡ text = ap (λ (k : ℕ). take k text) (past_end text place none within) ∙ take-length text in

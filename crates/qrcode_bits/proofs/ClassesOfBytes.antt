@@ -1,5 +1,5 @@
 -- The classes of bytes by their numbers, computed at each byte, and what stands at a place.
-use Rattle.std.proofs.Common.{◌≡◌, ℕ, suc, ◌+◌, ◌-◌, ◌<◌, ◌≤◌, Bool, true, false, List, ◌∷◌, length, drop, get_or, refl, ap, sym, ◌∙◌, arith, inl, inr, ◌⊎◌}
+use Rattle.std.proofs.Common.{◌≡◌, ℕ, ◌+◌, ◌-◌, ◌<◌, ◌≤◌, Bool, true, false, List, ◌∷◌, length, drop, get_or, refl, ap, sym, ◌∙◌, arith, inl, inr, ◌⊎◌}
 use Rattle.std.specs.Prelude.{map, if◌then◌else◌}
 use Rattle.std.specs.List.{range_with_len}
 use Rattle.std.proofs.Math.Seq.{drop-cons}
@@ -127,7 +127,8 @@ module _ (bytes : List ℕ) (begin : ℕ) (within : begin < length bytes) where
 
 -- ---- of pairs, or of the first byte of one
 
-pub lone_stops : (bytes : List ℕ) (begin : ℕ) → begin < length bytes → class_of (get_or bytes begin 0) ≡ LoneLead → units (drop begin bytes) ≡ class_of (get_or bytes begin 0) ∷ units (drop (begin + 1) bytes) →
+pub lone_stops : (bytes : List ℕ) (begin : ℕ) → begin < length bytes → class_of (get_or bytes begin 0) ≡ LoneLead →
+    units (drop begin bytes) ≡ class_of (get_or bytes begin 0) ∷ units (drop (begin + 1) bytes) →
     parsed_from begin (drop begin bytes) ≡ record { mode = class_mode LoneLead; begin = begin; end = begin + 1 } ∷ parsed_from (begin + 1) (drop (begin + 1) bytes)
 lone_stops bytes begin within lone unit =
     run_stops bytes LoneLead begin (begin + 1) (Run-first bytes LoneLead begin 1 refl (unit ∙ ap (λ (d : Class). d ∷ units (drop (begin + 1) bytes)) lone)) (λ w.

@@ -27,7 +27,8 @@ module _ (whole : List ℕ) (v : Version) where
   texts-dense from to (s ∷ ss) h k = grind (arith, texts-reach, dense, length-slice, texts-dense s.end to ss h.3 k)
 
   -- with the header of the first
-  texts-headed : (header from to : ℕ) (ss : List Segment) → ((m : Mode) → header ≤ indicator_width v + count_width v m) → from < to → AreTexts whole from ss to → to ≤ length whole → 10 * (to - from) + 3 * header ≤ 3 * total_bits v ss
+  texts-headed : (header from to : ℕ) (ss : List Segment) → ((m : Mode) → header ≤ indicator_width v + count_width v m) → from < to →
+      AreTexts whole from ss to → to ≤ length whole → 10 * (to - from) + 3 * header ≤ 3 * total_bits v ss
   texts-headed header from to [] g some h k = absurd (omega arith)
   texts-headed header from to (s ∷ ss) g some h k = grind (arith, texts-reach, dense, length-slice, texts-dense)
 

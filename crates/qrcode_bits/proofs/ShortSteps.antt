@@ -26,18 +26,13 @@ cost-small version headers mode size cost heads small is = grind arith
 
 pub step-small : (segments : List Segment) (version : Version) (headers : Headers) (end : ℕ) (step : Step) → AreHeaders version headers → IsShort segments →
     HasLinearCosts segments version → end ≤ length segments → IsStep segments version end step → step.bits < 2 ^ 18
-step-small segments version headers end step heads short linear within h =
-    elim (cases_lt 0 end) [
-      | inl some ↦
-          let mode = part_mode segments 0 end in
-          let is = cost-is segments version end within linear 0 mode some refl in
-          let data' = data_bits-linear mode ((segment_at segments (end - 1)).end - (segment_at segments 0).begin) in
-          let least = (h.chosen.least (0 ∷ []) (some, refl)).bits in
-          omega (arith, h.bits)
-      | inr none ↦
-          let least = (h.chosen.least [] (omega arith)).bits in
-          omega (arith, h.bits)
-    ]
+step-small segments version headers end step heads short linear within h = elim (cases_lt 0 end) [
+  | inl some ↦
+      let mode = part_mode segments 0 end in
+      let data' = data_bits-linear mode ((segment_at segments (end - 1)).end - (segment_at segments 0).begin) in
+      omega (arith, h.bits, cost-is segments version end within linear 0 mode some refl, (h.chosen.least (0 ∷ []) (some, refl)).bits)
+  | inr none ↦ omega (arith, h.bits, (h.chosen.least [] (omega arith)).bits)
+]
 
 -- what stands for whole periods is shifted away by the cost of a part from the rest on
 word-cost : (mode : Mode) (q cost head b r e before : ℕ) → b % period mode ≡ r → b ≤ e →
@@ -63,14 +58,7 @@ module _ (segments : List Segment) (version : Version) (end : ℕ) (within : end
   pub sought-last : (best : ℕ) (mode : Mode) → 0 < end → IsSought segments version end 8 best mode → IsStep segments version end (step_told segments end (record { word = best; mode = mode }))
   sought-last best mode some h = elim (cases_lt best (2 ^ 60)) [
     | inl small ↦ Tried-all segments version end within linear (record { mode = mode; begin = (segment_at segments (start_told 0 best).start).begin; end = last_end }) (start_told 0 best) some (h.found small)
-    | inr great ↦
-        let m = part_mode segments 0 end in
-        let place = bucket_of-is m (segment_at segments 0).begin in
-        absurd (h.none great (bucket_of m (segment_at segments 0).begin) 0 place.0 (record {
-          below = some;
-          suffix = sym place.1;
-          rest = ap (λ x. (segment_at segments 0).begin % period x) place.1 ∙ sym place.2;
-        }))
+    | inr great ↦ absurd (grind (arith, h.none great (bucket_of (part_mode segments 0 end) (segment_at segments 0).begin) 0, bucket_of-is (part_mode segments 0 end) (segment_at segments 0).begin))
   ]
 
   -- the rest of a bucket with a start is no more than the end
@@ -169,7 +157,8 @@ module _ (segments : List Segment) (version : Version) (end : ℕ) (within : end
         }
 
   -- a bucket with no start
-  pub sought-nothing : (j w best : ℕ) (best_mode mode : Mode) (groups : Groups) → IsSought segments version end j best best_mode → j < 8 → AreGroups segments version end end groups → mode ≡ bucket_mode j →
+  pub sought-nothing : (j w best : ℕ) (best_mode mode : Mode) (groups : Groups) → IsSought segments version end j best best_mode → j < 8 →
+      AreGroups segments version end end groups → mode ≡ bucket_mode j →
       bucket_start j w ≡ slot (group_of mode groups) j → 2 ^ 50 ≤ w → IsSought segments version end (j + 1) best best_mode
   sought-nothing j w best best_mode mode groups before inside grouped mode-is at great = grind (arith, no_start)
 
