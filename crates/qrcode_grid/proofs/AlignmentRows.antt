@@ -2,10 +2,11 @@
 use Rattle.std.proofs.Common.{◌≡◌, ℕ, zero, suc, ◌<◌, ◌≤◌, ◌+◌, ◌-◌, ◌*◌, ap, ◌∙◌, refl, arith, inl, inr, Bool, true, ◌&&◌, nat_le, Option, Some, None, map}
 use Rattle.std.specs.List.{range_with_len}
 use Rattle.std.specs.Int.{abs_diff}
-use Rattle.std.proofs.lemmas.Bool.{cases_lt, cases_eq, leb-true}
+use Rattle.std.proofs.lemmas.Bool.{cases_lt, leb-true}
 use Rattle.qrcode_grid.specs.Regions.{near, pattern_at, alignment_count, alignment_coordinate, alignment_coordinates}
 use Rattle.qrcode_grid.proofs.RegionSteps.{near_more}
 use Rattle.qrcode_grid.proofs.Tests.{all_pass, passes, both}
+use Rattle.std.proofs.lemmas.Grind.{common_steps}
 
 -- computed: the centre coordinates are five apart and more, and each has its five cells in the grid
 abbrev is_rising : ℕ → Bool
@@ -39,21 +40,14 @@ behind n (suc k) = alignment_coordinate n k + 3
 
 far_from_all : (f : ℕ → ℕ) (x c m k : ℕ) → k + m ≡ c → ((i : ℕ) → i < c → 2 < abs_diff (f i) x) → near (map f (range_with_len k (c - k))) x ≡ None
 far_from_all f x c zero k e far = let none : c - k ≡ 0 = omega arith in ap (λ m. near (map f (range_with_len k m)) x) none
-far_from_all f x c (suc m) k e far =
-    near_more f x k c (omega arith) (far k (omega arith)) ∙ far_from_all f x c m (k + 1) (omega arith) far
+far_from_all f x c (suc m) k e far = grind (arith, common_steps, near_more, far_from_all f x c m (k + 1) (omega arith) far)
 
 before_far : (n k i x : ℕ) → n ≤ 40 → k ≤ alignment_count n → i < k → behind n k ≤ x → 2 < abs_diff (alignment_coordinate n i) x
 before_far n zero i x high within order low = absurd (omega arith)
-before_far n (suc k) i x high within order low = elim (cases_eq i k) [
-  | inl same ↦ let e : alignment_coordinate n i ≡ alignment_coordinate n k = ap (alignment_coordinate n) same in omega arith
-  | inr other ↦ let e = apart n i k high (omega arith) (omega arith) in omega arith
-]
+before_far n (suc k) i x high within order low = grind (arith, common_steps, apart)
 
 after_far : (n k i x : ℕ) → n ≤ 40 → k ≤ i → i < alignment_count n → x + 2 < alignment_coordinate n k → 2 < abs_diff (alignment_coordinate n i) x
-after_far n k i x high order within low = elim (cases_eq i k) [
-  | inl same ↦ let e : alignment_coordinate n i ≡ alignment_coordinate n k = ap (alignment_coordinate n) same in omega arith
-  | inr other ↦ let e = apart n k i high (omega arith) within in omega arith
-]
+after_far n k i x high order within low = grind (arith, common_steps, apart)
 
 all_from_zero : (n x : ℕ) → near (map (alignment_coordinate n) (range_with_len 0 (alignment_count n - 0))) x ≡ None → near (alignment_coordinates n) x ≡ None
 all_from_zero n x e = let all : alignment_count n ≡ alignment_count n - 0 = omega arith in ap (λ m. near (map (alignment_coordinate n) (range_with_len 0 m)) x) all ∙ e

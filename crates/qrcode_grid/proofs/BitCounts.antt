@@ -14,6 +14,7 @@ use Rattle.qrcode_grid.specs.Cells.{sum_below}
 use Rattle.qrcode_grid.specs.Scoring.{bit_count}
 use Rattle.qrcode_grid.proofs.Totals.{count_by-total}
 use Rattle.qrcode_grid.proofs.Transposed.{sum_same_below}
+use Rattle.std.proofs.lemmas.Grind.{common_steps}
 
 pub three_bits : (a b c : ℕ) → a < 2 → b < 2 → c < 2 → ((a + b) % 2 + c) % 2 + 2 * ((a + min ((a + b) % 2) ((a + c) % 2)) % 2) ≡ a + b + c
 three_bits a b c ha hb hc = omega arith
@@ -46,21 +47,11 @@ pub length-sum : (a b c : List ℕ) → length a ≡ 16 → length b ≡ 16 → 
 length-sum a b c la lb lc = length_of bit_xor (zip2 bit_xor a b) c (length_of bit_xor a b la lb) lc
 
 pub length-carry : (a b c : List ℕ) → length a ≡ 16 → length b ≡ 16 → length c ≡ 16 → length (carry_of a b c) ≡ 16
-length-carry a b c la lb lc =
-    length_of bit_xor a (zip2 bit_and (zip2 bit_xor a b) (zip2 bit_xor a c)) la
-    (length_of bit_and (zip2 bit_xor a b) (zip2 bit_xor a c) (length_of bit_xor a b la lb) (length_of bit_xor a c la lc))
+length-carry a b c la lb lc = grind (arith, common_steps, length_of)
 
 sum_at : (a b c : List ℕ) → length a ≡ 16 → length b ≡ 16 → length c ≡ 16 → (m j : ℕ) → j < 16
     → bit_at (get_or (sum_of a b c) j 0) m + 2 * bit_at (get_or (carry_of a b c) j 0) m ≡ bit_at (get_or a j 0) m + bit_at (get_or b j 0) m + bit_at (get_or c j 0) m
-sum_at a b c la lb lc m j h =
-    let u = zip2 bit_xor a b in let v = zip2 bit_xor a c in
-    let lu = length_of bit_xor a b la lb in let lv = length_of bit_xor a c la lc in
-    let s = xor_at u c lu lc m j h ∙ ap (λ t. (t + bit_at (get_or c j 0) m) % 2) (xor_at a b la lb m j h) in
-    let k = xor_at a (zip2 bit_and u v) la (length_of bit_and u v lu lv) m j h
-    ∙ ap (λ t. (bit_at (get_or a j 0) m + t) % 2) (and_at u v lu lv m j h ∙ ap (λ t. min t (bit_at (get_or v j 0) m)) (xor_at a b la lb m j h) ∙ ap (λ t. min ((bit_at (get_or a j 0) m + bit_at (get_or b j 0) m) % 2) t) (xor_at a c la lc m j h)) in
-    ap (λ t. t + 2 * bit_at (get_or (carry_of a b c) j 0) m) s
-    ∙ ap (λ t. ((bit_at (get_or a j 0) m + bit_at (get_or b j 0) m) % 2 + bit_at (get_or c j 0) m) % 2 + 2 * t) k
-    ∙ three_bits (bit_at (get_or a j 0) m) (bit_at (get_or b j 0) m) (bit_at (get_or c j 0) m) (bit_at-lt (get_or a j 0) m) (bit_at-lt (get_or b j 0) m) (bit_at-lt (get_or c j 0) m)
+sum_at a b c la lb lc m j h = grind (arith, common_steps, length_of, xor_at, and_at, three_bits, bit_at-lt)
 
 pub three_rows : (a b c : List ℕ) → length a ≡ 16 → length b ≡ 16 → length c ≡ 16 → (m : ℕ)
     → bit_count m (sum_of a b c) + 2 * bit_count m (carry_of a b c) ≡ bit_count m a + bit_count m b + bit_count m c
@@ -83,10 +74,7 @@ tested m b = ap (λ t. cond (t == 2 ^ m) 1 0) (and_pow b m) ∙ bit_cond (bit_at
 
 -- the bit that a shift gives
 pub shifted_one : (m : ℕ) → m < 8 → 1 * 2 ^ m % 256 ≡ 2 ^ m
-shifted_one m h =
-    let small : 2 ^ m < 2 ^ 8 = pow-lt h in
-    let one : 1 * 2 ^ m ≡ 2 ^ m = omega arith in
-    ap (λ t. t % 256) one ∙ mod-eq_of_lt small
+shifted_one m h = grind (arith, common_steps, pow-lt, mod-eq_of_lt)
 
 pub bits_in_mask : (m : ℕ) (lanes : List ℕ) → length lanes ≡ 16 → (t : ℕ) → t ≡ 2 ^ m
     → count_ones (mask_l (map (top 7) (zip2 (λ a b. cond (a == b) 255 0) (zip2 bit_and lanes (replicate 16 t)) (replicate 16 t))) % 2 ^ 64) ≡ bit_count m lanes

@@ -14,6 +14,7 @@ use Rattle.qrcode_grid.proofs.PaddedGrids.{from_grid, grid_same}
 use Rattle.qrcode_grid.proofs.SquareLanes.{count_one_more}
 use Rattle.qrcode_grid.proofs.Tallies.{dark_again}
 use Rattle.qrcode_grid.proofs.Transposed.{sum_same_below, IsTransposed}
+use Rattle.std.proofs.lemmas.Grind.{common_steps}
 
 count_places : (p : ℕ → Bool) (n : ℕ) → count_by p (range_with_len 0 n) ≡ count_below p n
 count_places p zero = refl
@@ -22,8 +23,7 @@ count_places p (suc n) =
     ap (λ k. count_by p (range_with_len 0 k)) e ∙ count_one_more p n (p n) refl ∙ ap (λ t. t + cond (p n) 1 0) (count_places p n)
 
 pub length-grid : (w : ℕ) (padded : List ℕ) → IsPadded w padded → length (grid_in w padded) ≡ w * w
-length-grid w padded is =
-    length-take-le (4 * w + w * w - 4 * w) (drop (4 * w) padded) (omega (arith, length-drop (4 * w) padded, is.whole)) ∙ omega arith
+length-grid w padded is = grind (arith, common_steps, length-take-le, length-drop)
 
 pub length-plane : (m : ℕ) (bytes : List ℕ) → length (plane m bytes) ≡ length bytes
 length-plane m bytes = length-map bytes (λ b. bit_at b m)

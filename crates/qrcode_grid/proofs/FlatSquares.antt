@@ -9,13 +9,11 @@ use Rattle.qrcode_grid.specs.Cells.{sum_below, count_below}
 use Rattle.qrcode_grid.specs.Penalty.{is_byte_square_at, count_of_squares, row}
 use Rattle.qrcode_grid.proofs.SquareLanes.{places_append, count_of_places}
 use Rattle.qrcode_grid.proofs.Totals.{sum_below_more}
+use Rattle.std.proofs.lemmas.Grind.{common_steps}
 
 -- one place more, from any place on
 count_one_more_at : (p : ℕ → Bool) (at n : ℕ) → count_by p (range_with_len at (n + 1)) ≡ count_by p (range_with_len at n) + cond (p (at + n)) 1 0
-count_one_more_at p at n =
-    ap (count_by p) (places_append at n 1)
-    ∙ sum_by-append _ (range_with_len at n) (range_with_len (at + n) 1)
-    ∙ ap (λ k. count_by p (range_with_len at n) + k) (zero-add (cond (p (at + n)) 1 0))
+count_one_more_at p at n = grind (arith, common_steps, places_append, sum_by-append, zero-add)
 
 -- a count from some place on is that of the tests there
 count_moved : (p q : ℕ → Bool) (at n : ℕ) → ((i : ℕ) → i < n → p (at + i) ≡ q i) → count_by p (range_with_len at n) ≡ count_by q (range_with_len 0 n)

@@ -9,6 +9,7 @@ use Rattle.qrcode_grid.proofs.Columns.{length-column, get_or-column, column_past
 use Rattle.qrcode_grid.proofs.LongRuns.{same_of, five_of, six_of, alikes, fives_are, sixes_are, runs_by_alikes, and_same}
 use Rattle.qrcode_grid.proofs.Totals.{total-mul, total-plus}
 use Rattle.qrcode_grid.proofs.Transposed.{sum_same_below, cell_within}
+use Rattle.std.proofs.lemmas.Grind.{common_steps}
 
 sum_zero : (n : ℕ) → sum_below (λ k. 0) n ≡ 0
 sum_zero zero = refl
@@ -46,19 +47,13 @@ module _ (w : ℕ) (padded cells : List ℕ) (same : (k : ℕ) → k < w * w →
       ap (λ k. get_or padded k 0) place ∙ same ((y + r) * w + x) (cell_within w x (y + r) hx hy) ∙ sym (get_or-column w cells x (y + r) hy)
 
   same_in_column : (x y r i : ℕ) → i ≡ 4 + r → x < w → y + (r + 1) < w → is_same_below w padded (y * w + x) i ≡ same_of (column w cells x) y r
-  same_in_column x y r i e hx hy =
-      ap (λ t. t == cell w padded (y * w + x) (i + 1)) (in_column x y r i e hx (omega (arith, hy)))
-      ∙ ap (λ t. get_or (column w cells x) (y + r) 0 == t) (in_column x y (r + 1) (i + 1) (omega (arith, e)) hx hy)
+  same_in_column x y r i e hx hy = grind (arith, common_steps, in_column)
 
   five_in_column : (x y : ℕ) → x < w → y + 4 < w → has_five w padded (y * w + x) ≡ five_of (column w cells x) y
-  five_in_column x y hx hy =
-      and_same _ _ _ _ _ _ _ _ (same_in_column x y 0 4 refl hx (omega (arith, hy))) (same_in_column x y 1 5 refl hx (omega (arith, hy)))
-      (same_in_column x y 2 6 refl hx (omega (arith, hy))) (same_in_column x y 3 7 refl hx (omega (arith, hy)))
+  five_in_column x y hx hy = grind (arith, common_steps, and_same, same_in_column)
 
   six_in_column : (x y : ℕ) → x < w → y + 5 < w → has_six w padded (y * w + x) ≡ six_of (column w cells x) y
-  six_in_column x y hx hy =
-      ap (λ t. t && is_same_below w padded (y * w + x) 8) (five_in_column x y hx (omega (arith, hy)))
-      ∙ ap (λ t. five_of (column w cells x) y && t) (same_in_column x y 4 8 refl hx hy)
+  six_in_column x y hx hy = grind (arith, common_steps, five_in_column, five_of, same_in_column)
 
   fives_of_columns : count_below (has_five w padded) ((w - 4) * w) ≡ sum_below (λ x. alikes 4 (column w cells x)) w
   fives_of_columns =
@@ -83,11 +78,7 @@ module _ (w : ℕ) (padded cells : List ℕ) (same : (k : ℕ) → k < w * w →
 
 and_seven : (a b c d e f g a' b' c' d' e' f' g' : Bool) → a ≡ a' → b ≡ b' → c ≡ c' → d ≡ d' → e ≡ e' → f ≡ f' → g ≡ g'
     → (a && b && c && d && e && f && g) ≡ (a' && b' && c' && d' && e' && f' && g')
-and_seven a b c d e f g a' b' c' d' e' f' g' ea eb ec ed ee ef eg =
-    ap (λ t. t && b && c && d && e && f && g) ea ∙ ap (λ t. a' && t && c && d && e && f && g) eb
-    ∙ ap (λ t. a' && b' && t && d && e && f && g) ec ∙ ap (λ t. a' && b' && c' && t && e && f && g) ed
-    ∙ ap (λ t. a' && b' && c' && d' && t && f && g) ee ∙ ap (λ t. a' && b' && c' && d' && e' && t && g) ef
-    ∙ ap (λ t. a' && b' && c' && d' && e' && f' && t) eg
+and_seven a b c d e f g a' b' c' d' e' f' g' ea eb ec ed ee ef eg = grind (arith, common_steps)
 
 quiet_before : (line : List ℕ) (i : ℕ) → i < 4 → get_or (quiet line) i 0 ≡ 0
 quiet_before line zero h = refl
@@ -120,8 +111,7 @@ module _ (w : ℕ) (padded cells : List ℕ) (before : (k : ℕ) → k < 4 * w �
   ]
 
   below_quiet : (x y r i : ℕ) → x < w → i ≡ y + r → cell w padded (y * w + x) r ≡ get_or (quiet (column w cells x)) i 0
-  below_quiet x y r i hx e =
-      ap (λ k. get_or padded k 0) (cell_below w x y r) ∙ in_quiet x (y + r) hx ∙ ap (λ k. get_or (quiet (column w cells x)) k 0) (sym e)
+  below_quiet x y r i hx e = cc (cell_below w x y r, in_quiet x (y + r) hx)
 
   light_in_column : (x y r i : ℕ) → x < w → i ≡ y + r → is_quiet w padded (y * w + x) r ≡ are_light (quiet (column w cells x)) i
   light_in_column x y r i hx e =

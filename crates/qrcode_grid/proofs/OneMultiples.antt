@@ -1,9 +1,10 @@
 -- The code words of the two generators, computed.
-use Rattle.std.proofs.Common.{◌≡◌, ℕ, ◌<◌, ◌/◌, ◌^◌, ◌∙◌, ap, refl, arith, Bool, true, ◌==◌, ◌&&◌, nat_lt}
+use Rattle.std.proofs.Common.{◌≡◌, ℕ, ◌<◌, ◌/◌, ◌^◌, refl, arith, Bool, true, ◌==◌, ◌&&◌, nat_lt}
 use Rattle.std.specs.List.{position_or_len}
 use Rattle.std.proofs.lemmas.Bool.{eqb-true, ltb-true}
 use Rattle.qrcode_grid.specs.Words.{polynomial_product, multiples, code_word, HasOneMultiple, HasOneFormatWord, HasOneVersionWord}
 use Rattle.qrcode_grid.proofs.Tests.{all_pass, passes, both}
+use Rattle.std.proofs.lemmas.Grind.{common_steps}
 
 -- the number of the multiple that begins with the data
 abbrev factor : ℕ → ℕ → ℕ → ℕ → ℕ
@@ -21,11 +22,7 @@ is_only generator n degree a =
 
 one_multiple : (generator n degree data_bits : ℕ) → is_made generator n degree data_bits ≡ true →
     ((a : ℕ) → a < 2 ^ n → is_only generator n degree a ≡ true) → HasOneMultiple generator n degree data_bits
-one_multiple generator n degree data_bits made only =
-    let p = both _ _ made in let q = both _ _ p.1 in record {
-      some = (factor generator n degree data_bits, ltb-true _ _ p.0, eqb-true _ _ q.0, eqb-true _ _ q.1);
-      only = λ a h begins. eqb-true _ _ (only a h) ∙ ap (code_word generator n degree) begins;
-    }
+one_multiple generator n degree data_bits made only = grind (arith, common_steps, both, ltb-true, eqb-true)
 
 formats_made : all_pass (is_made 0x537 5 10) 0 32 ≡ true
 formats_made = refl

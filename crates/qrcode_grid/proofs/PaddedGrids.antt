@@ -9,6 +9,7 @@ use Rattle.qrcode_grid.specs.Scoring.{IsPadded, grid_in, plane, has_five, has_si
 use Rattle.qrcode_grid.proofs.GridColumns.{runs_of_columns, windows_of_columns}
 use Rattle.qrcode_grid.proofs.MarkedLanes.{plane_at}
 use Rattle.qrcode_grid.proofs.Totals.{total-plus}
+use Rattle.std.proofs.lemmas.Grind.{common_steps}
 
 -- the list from the grid on
 abbrev pub from_grid : ℕ → List ℕ → List ℕ
@@ -22,10 +23,7 @@ module _ (w : ℕ) (padded : List ℕ) (is : IsPadded w padded) (m : ℕ) where
   cell_at k h = plane_at m (grid_in w padded) k ∙ ap (λ n. bit_at n m) (grid_at w padded k h)
 
   pub grid_same : (k : ℕ) → k < w * w → get_or (plane m (from_grid w padded)) k 0 ≡ get_or (plane m (grid_in w padded)) k 0
-  grid_same k h =
-      plane_at m (from_grid w padded) k
-      ∙ ap (λ n. bit_at n m) (get_or-take (length padded - 4 * w) (drop (4 * w) padded) k 0 (omega (arith, h, is.whole)) ∙ get_or-drop (4 * w) padded k 0)
-      ∙ sym (cell_at k h)
+  grid_same k h = grind (arith, common_steps, plane_at, get_or-take, get_or-drop, cell_at)
 
   padded_same : (k : ℕ) → k < w * w → get_or (plane m padded) (4 * w + k) 0 ≡ get_or (plane m (grid_in w padded)) k 0
   padded_same k h = plane_at m padded (4 * w + k) ∙ sym (cell_at k h)
