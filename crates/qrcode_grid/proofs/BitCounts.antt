@@ -15,6 +15,7 @@ use Rattle.qrcode_grid.specs.Scoring.{bit_count}
 use Rattle.qrcode_grid.proofs.Totals.{count_by-total}
 use Rattle.qrcode_grid.proofs.Transposed.{sum_same_below}
 use Rattle.std.proofs.lemmas.Grind.{common_steps}
+use Rattle.std.proofs.lemmas.Bool.Decides.{nat_tests}
 
 pub three_bits : (a b c : ℕ) → a < 2 → b < 2 → c < 2 → ((a + b) % 2 + c) % 2 + 2 * ((a + min ((a + b) % 2) ((a + c) % 2)) % 2) ≡ a + b + c
 three_bits a b c ha hb hc = omega arith
@@ -56,9 +57,7 @@ sum_at a b c la lb lc m j h = grind (arith, common_steps, length_of, xor_at, and
 pub three_rows : (a b c : List ℕ) → length a ≡ 16 → length b ≡ 16 → length c ≡ 16 → (m : ℕ)
     → bit_count m (sum_of a b c) + 2 * bit_count m (carry_of a b c) ≡ bit_count m a + bit_count m b + bit_count m c
 unfolding bit_count
-three_rows a b c la lb lc m =
-    sum_three (λ j. bit_at (get_or (sum_of a b c) j 0) m) (λ j. bit_at (get_or (carry_of a b c) j 0) m) (λ j. bit_at (get_or a j 0) m) (λ j. bit_at (get_or b j 0) m) (λ j. bit_at (get_or c j 0) m) 16
-    (sum_at a b c la lb lc m)
+three_rows a b c la lb lc m = grind (arith, nat_tests, sum_three, sum_at)
 
 -- a count of a list is a sum over its places
 pub count_as_sum : (p : ℕ → Bool) (xs : List ℕ) (n : ℕ) → length xs ≡ n → count_by p xs ≡ sum_below (λ j. cond (p (get_or xs j 0)) 1 0) n

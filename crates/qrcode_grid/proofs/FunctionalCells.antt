@@ -44,10 +44,7 @@ around_timing f w t (suc k) low h =
 
 -- the sum over the pairs of columns, and the timing column
 total-columns : (f : ℕ → ℕ) (w t h : ℕ) → w ≡ 2 * h + 1 → t < w → total (λ p. f (walk_column w t (2 * p)) + f (walk_column w t (2 * p + 1))) h + f t ≡ total f w
-total-columns f w t h odd low =
-    let none : t - t ≡ 0 = omega arith in
-    let whole : w - 1 - t + t ≡ 2 * h = omega arith in
-    omega (arith, total-pairs (λ d. f (walk_column w t d)) h, around_timing f w t t low (omega arith), ap (total f) none, ap (total (λ d. f (walk_column w t d))) whole)
+total-columns f w t h odd low = grind (arith, total-pairs (λ d. f (walk_column w t d)) h, around_timing f w t t low (omega arith))
 
 -- those that pass a test and those that do not are all
 total-both : (p : ℕ → Bool) (n : ℕ) → total (λ k. cond (p k) 1 0) n + total (λ k. cond (not (p k)) 1 0) n ≡ n

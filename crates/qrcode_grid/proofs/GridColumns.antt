@@ -10,6 +10,7 @@ use Rattle.qrcode_grid.proofs.LongRuns.{same_of, five_of, six_of, alikes, fives_
 use Rattle.qrcode_grid.proofs.Totals.{total-mul, total-plus}
 use Rattle.qrcode_grid.proofs.Transposed.{sum_same_below, cell_within}
 use Rattle.std.proofs.lemmas.Grind.{common_steps}
+use Rattle.std.proofs.lemmas.Bool.Decides.{nat_tests}
 
 sum_zero : (n : ℕ) → sum_below (λ k. 0) n ≡ 0
 sum_zero zero = refl
@@ -68,13 +69,7 @@ module _ (w : ℕ) (padded cells : List ℕ) (same : (k : ℕ) → k < w * w →
       (λ x hx. sym (sixes_are (column w cells x) ∙ ap (λ n. count_below (six_of (column w cells x)) (n - 5)) (length-column w cells x)))
 
   pub runs_of_columns : sum_below (λ x. runs_penalty (column w cells x)) w + 2 * count_below (has_six w padded) ((w - 5) * w) ≡ 3 * count_below (has_five w padded) ((w - 4) * w)
-  runs_of_columns =
-      omega (
-        arith,
-        fives_of_columns,
-        sixes_of_columns,
-        weighed (λ x. runs_penalty (column w cells x)) (λ x. alikes 5 (column w cells x)) (λ x. alikes 4 (column w cells x)) w (λ x. runs_by_alikes (column w cells x)),
-      )
+  runs_of_columns = grind (arith, nat_tests, fives_of_columns, sixes_of_columns, weighed, alikes, runs_by_alikes)
 
 and_seven : (a b c d e f g a' b' c' d' e' f' g' : Bool) → a ≡ a' → b ≡ b' → c ≡ c' → d ≡ d' → e ≡ e' → f ≡ f' → g ≡ g'
     → (a && b && c && d && e && f && g) ≡ (a' && b' && c' && d' && e' && f' && g')
@@ -114,9 +109,7 @@ module _ (w : ℕ) (padded cells : List ℕ) (before : (k : ℕ) → k < 4 * w �
   below_quiet x y r i hx e = cc (cell_below w x y r, in_quiet x (y + r) hx)
 
   light_in_column : (x y r i : ℕ) → x < w → i ≡ y + r → is_quiet w padded (y * w + x) r ≡ are_light (quiet (column w cells x)) i
-  light_in_column x y r i hx e =
-      and_same _ _ _ _ _ _ _ _ (ap (λ t. t == 0) (below_quiet x y r i hx e)) (ap (λ t. t == 0) (below_quiet x y (r + 1) (i + 1) hx (omega (arith, e))))
-      (ap (λ t. t == 0) (below_quiet x y (r + 2) (i + 2) hx (omega (arith, e)))) (ap (λ t. t == 0) (below_quiet x y (r + 3) (i + 3) hx (omega (arith, e))))
+  light_in_column x y r i hx e = grind (arith, nat_tests, and_same, below_quiet)
 
   finder_in_column : (x y : ℕ) → x < w → has_finder w padded (y * w + x) ≡ is_finder_like (quiet (column w cells x)) y
   finder_in_column x y hx =

@@ -34,10 +34,9 @@ module _ (w : ℕ) (padded : List ℕ) (is : IsPadded w padded) (m : ℕ) where
   pub penalties_are : sum_below (λ x. line_penalty (column w (plane m (grid_in w padded)) x)) w + 2 * count_below (has_six w (plane m padded)) ((w - 5) * w)
       ≡ 3 * count_below (has_five w (plane m padded)) ((w - 4) * w) + 40 * count_below (has_finder w (plane m padded)) (w * w)
   penalties_are =
-      let cells = plane m (grid_in w padded) in
-      let runs = runs_of_columns w (plane m padded) cells padded_same in
-      let windows = windows_of_columns w (plane m padded) cells (λ k h. light_at k (is.before k h)) padded_same (λ k h. light_at k (is.after k h)) in
-      omega (arith, runs, windows, total-plus (λ x. runs_penalty (column w cells x)) (λ x. windows_penalty (column w cells x)) w)
+      grind (arith, runs_of_columns w (plane m padded) (plane m (grid_in w padded)) padded_same,
+      windows_of_columns w (plane m padded) (plane m (grid_in w padded)) (λ k h. light_at k (is.before k h)) padded_same (λ k h. light_at k (is.after k h)),
+      total-plus (λ x. runs_penalty (column w (plane m (grid_in w padded)) x)) (λ x. windows_penalty (column w (plane m (grid_in w padded)) x)) w)
 
   pub fewer_sixes : 2 * count_below (has_six w (plane m padded)) ((w - 5) * w) ≤ 3 * count_below (has_five w (plane m padded)) ((w - 4) * w)
   fewer_sixes = omega (arith, runs_of_columns w (plane m padded) (plane m (grid_in w padded)) padded_same)

@@ -11,7 +11,7 @@ use Rattle.qrcode_base.specs.declared.types.Version.{Version}
 use Rattle.qrcode_base.specs.declared.types.Version.TheVariants.{Normal, Micro}
 use Rattle.qrcode_base.specs.Symbols.{IsVersion, width_of}
 use Rattle.qrcode_grid.specs.Words.{digit, digit_color}
-use Rattle.qrcode_grid.specs.Regions.{finder, timing, where_true, dark_if_even, digit_at, format_first, format_second, format_micro, written, version_copies, version_digit, alignments, alignment_coordinates, first_some, functional_color, regions}
+use Rattle.qrcode_grid.specs.Regions.{finder, timing, where_true, dark_if_even, digit_at, format_first, format_second, format_micro, written, version_copies, alignments, alignment_coordinates, first_some, functional_color, regions}
 use Rattle.qrcode_grid.proofs.Tests.{all_pass, passes, both}
 use Rattle.qrcode_grid.proofs.Areas.{finder_test, finder_is, timing_test, first_test, first_is, second_test, second_is, micro_is, version_is, some-where_true, some-option_map}
 
@@ -65,11 +65,7 @@ abbrev copies_test : ℕ → ℕ → ℕ → Bool
 copies_test w x y = copy_test w x y || copy_test w y x
 
 copies_are : (n x y : ℕ) → is_some (version_copies n x y) ≡ (nat_le 7 n && copies_test (4 * n + 17) x y)
-copies_are n x y =
-    let w = 4 * n + 17 in
-    version_is n x y
-    ∙ ap (λ b. nat_le 7 n && (b || is_some (version_digit w y x))) (some-cond (copy_test w x y) (3 * x + (y - (w - 11))))
-    ∙ ap (λ b. nat_le 7 n && (copy_test w x y || b)) (some-cond (copy_test w y x) (3 * y + (x - (w - 11))))
+copies_are n x y = grind (arith, nat_tests, version_is, some-cond)
 
 -- regions that lie where these tests say
 abbrev Tested : List Bool → List (Option Color) → Type 0

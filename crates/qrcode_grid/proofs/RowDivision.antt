@@ -38,9 +38,7 @@ take-window lanes n h =
 
 window-more : (lanes : List ℕ) (n : ℕ) → window lanes 0 (suc n) ≡ window lanes 0 n ++ get_or lanes n 0 ∷ []
 unfolding window
-window-more lanes n =
-    let next : suc n ≡ n + 1 = omega arith in
-    ap (λ m. map (λ k. get_or lanes k 0) (range_with_len 0 m)) next ∙ map-range_with_len_more (λ k. get_or lanes k 0) 0 n n (omega arith)
+window-more lanes n = grind (arith, map-range_with_len_more (λ k. get_or lanes k 0) 0 n n (omega arith))
 
 window-first : (lanes : List ℕ) (n : ℕ) → window lanes 0 (suc n) ≡ get_or lanes 0 0 ∷ window lanes 1 n
 unfolding window

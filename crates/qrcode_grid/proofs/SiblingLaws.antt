@@ -1,5 +1,5 @@
 -- What the siblings of a grid are: the law over any grid with the functional colours of its symbol.
-use Rattle.std.proofs.Common.{◌≡◌, ℕ, zero, suc, ◌<◌, ◌≤◌, ◌+◌, ◌-◌, ◌*◌, ◌/◌, ◌%◌, ap, ◌∙◌, sym, refl, arith, Bool, true, false, not, List, map, filter, length, get_or, Some, None, Option, unwrap_or, subst}
+use Rattle.std.proofs.Common.{◌≡◌, ℕ, zero, suc, ◌<◌, ◌≤◌, ◌+◌, ◌-◌, ◌*◌, ◌/◌, ap, ◌∙◌, sym, refl, arith, Bool, true, false, not, List, map, filter, length, get_or, Some, None, Option, unwrap_or, subst}
 use Rattle.std.specs.List.{range_with_len}
 use Rattle.std.proofs.lemmas.Bool.{false≢true}
 use Rattle.std.proofs.lemmas.Nat.{mul-add-lt}
@@ -21,6 +21,7 @@ use Rattle.qrcode_grid.proofs.Drawn.{none_of}
 use Rattle.qrcode_grid.proofs.DrawnSymbols.{odd_width, timing_inside}
 use Rattle.qrcode_grid.proofs.WalkLaws.{numbered_cell_inside}
 use Rattle.std.proofs.lemmas.Grind.{common_steps}
+use Rattle.std.proofs.lemmas.Bool.Decides.{nat_tests}
 
 twice : (b : Bool) (c : Color) → inverted_if b (inverted_if b c) ≡ c
 twice true Light = refl
@@ -41,13 +42,7 @@ not_functional false e = refl
 
 cell_at-map_cells : {X : Type 0} (w : ℕ) (f : ℕ → ℕ → X → X) (xs : List X) (d : X) (x y : ℕ) → length xs ≡ w * w → x < w → y < w →
     get_or (map_cells w f xs) (y * w + x) d ≡ f x y (get_or xs (y * w + x) d)
-cell_at-map_cells w f xs d x y square l m =
-    let i = y * w + x in
-    let inside : i < length xs = subst (λ (n : ℕ). y * w + x < n) (sym square) (mul-add-lt y w x w m l) in
-    let from : 0 + (y * w + x) ≡ y * w + x = omega arith in
-    get_or-map_places (λ i c. f (i % w) (i / w) c) 0 xs i d inside
-    ∙ ap (λ j. f (j % w) (j / w) (get_or xs i d)) from
-    ∙ sym (at_place (λ u v. f u v (get_or xs i d)) w x y i l refl)
+cell_at-map_cells w f xs d x y square l m = grind (arith, nat_tests, mul-add-lt, get_or-map_places, at_place)
 
 -- the colour of a cell of a sibling
 abbrev sibling_color : Version → EcLevel → MaskPattern → MaskPattern → ℕ → ℕ → Color → Color

@@ -45,9 +45,7 @@ count_past test n (suc d) =
     ap (count_below (λ k. ltb k n && test k)) e ∙ omega (arith, count_past test n d, none)
 
 pub count_bounded : (test : ℕ → Bool) (n past : ℕ) → n ≤ past → count_below (λ k. ltb k n && test k) past ≡ count_below test n
-count_bounded test n past h =
-    let e : past ≡ n + (past - n) = omega arith in
-    ap (count_below (λ k. ltb k n && test k)) e ∙ count_past test n (past - n)
+count_bounded test n past h = grind (arith, count_past test n (past - n))
 
 pub marked_below : (n k : ℕ) (t : Bool) → n ≤ k → false ≡ (ltb k n && t)
 marked_below n k t h = ap (λ b. b && t) (sym (not_below k n h))

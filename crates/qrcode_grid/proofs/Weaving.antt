@@ -1,9 +1,10 @@
 -- What the bytes of two woven rows are.
-use Rattle.std.proofs.Common.{◌≡◌, ℕ, ◌+◌, ◌-◌, ◌*◌, ◌/◌, ◌%◌, ◌<◌, ◌≤◌, List, [], ◌∷◌, ◌++◌, zero, suc, length, take, drop, get_or, refl, ap, ◌∙◌, sym, arith}
+use Rattle.std.proofs.Common.{◌≡◌, ℕ, ◌+◌, ◌-◌, ◌*◌, ◌/◌, ◌%◌, ◌<◌, ◌≤◌, List, [], ◌∷◌, ◌++◌, zero, suc, length, take, drop, get_or, refl, arith}
 use Rattle.std.proofs.lemmas.List.{get_or-append-add, get_or_append_left, length-take-le, length-drop}
 use Rattle.std.proofs.lemmas.Simd.{get_or-put_chunk_at, length-put_chunk}
 use lib.Lanes.{put_chunk}
 use Rattle.std.proofs.lemmas.Grind.{common_steps}
+use Rattle.std.proofs.lemmas.Bool.Decides.{nat_tests}
 
 abbrev pub low_lanes : List ℕ → List ℕ
 low_lanes us = get_or us 0 0 ∷ get_or us 16 0 ∷ get_or us 1 0 ∷ get_or us 17 0 ∷ get_or us 2 0 ∷ get_or us 18 0 ∷ get_or us 3 0 ∷ get_or us 19 0 ∷ get_or us 4 0 ∷ get_or us 20 0 ∷ get_or us 5 0 ∷ get_or us 21 0 ∷ get_or us 6 0 ∷ get_or us 22 0 ∷ get_or us 7 0 ∷ get_or us 23 0 ∷ []
@@ -56,10 +57,4 @@ put_lane part lanes j h within = grind (arith, common_steps, get_or-put_chunk_at
 pub chunk_lane : (bytes lanes rest : List ℕ) (at j : ℕ) → length lanes ≡ 16 → at + 16 ≤ length bytes → j < 16
     → get_or (take at bytes ++ (put_chunk 0 (take (at + 16 - at) (drop at bytes)) lanes ++ rest)) (at + j) 0 ≡ get_or lanes j 0
 chunk_lane bytes lanes rest at j l within h =
-    let part = take (at + 16 - at) (drop at bytes) in
-    let first : length (take at bytes) ≡ at = length-take-le at bytes (omega arith) in
-    let long : length part ≡ 16 = length-take-le (at + 16 - at) (drop at bytes) (omega (arith, length-drop at bytes, within)) ∙ omega arith in
-    ap (λ t. get_or (take at bytes ++ (put_chunk 0 part lanes ++ rest)) (t + j) 0) (sym first)
-    ∙ get_or-append-add (take at bytes) (put_chunk 0 part lanes ++ rest) j 0
-    ∙ get_or_append_left (put_chunk 0 part lanes) rest 0 j (omega (arith, length-put_chunk 0 part lanes, long, h))
-    ∙ put_lane part lanes j (omega (arith, l, h)) (omega (arith, l, long))
+    grind (arith, nat_tests, length-take-le, length-drop, get_or-append-add, get_or_append_left, length-put_chunk, put_lane)
