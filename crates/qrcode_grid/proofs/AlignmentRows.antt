@@ -12,9 +12,6 @@ use Rattle.std.proofs.lemmas.Grind.{common_steps}
 abbrev is_rising : ℕ → Bool
 is_rising n = all_pass (λ j. all_pass (λ i. nat_le (alignment_coordinate n i + 5) (alignment_coordinate n j)) 0 j) 0 (alignment_count n)
 
-rising : all_pass is_rising 0 41 ≡ true
-rising = refl
-
 abbrev is_inside : ℕ → Bool
 is_inside n = all_pass (λ k. nat_le 2 (alignment_coordinate n k) && nat_le (alignment_coordinate n k + 3) (4 * n + 17)) 0 (alignment_count n)
 
@@ -25,7 +22,7 @@ apart : (n i j : ℕ) → n ≤ 40 → i < j → j < alignment_count n → align
 apart n i j high order within =
     leb-true _ _ (passes (λ i. nat_le (alignment_coordinate n i + 5) (alignment_coordinate n j)) 0 j i
     (passes (λ j. all_pass (λ i. nat_le (alignment_coordinate n i + 5) (alignment_coordinate n j)) 0 j) 0 (alignment_count n) j
-    (passes is_rising 0 41 n rising (omega arith) (omega arith)) (omega arith) (omega arith)) (omega arith) (omega arith))
+    (passes is_rising 0 41 n (refl) (omega arith) (omega arith)) (omega arith) (omega arith)) (omega arith) (omega arith))
 
 pub cells_inside : (n k : ℕ) → n ≤ 40 → k < alignment_count n → (2 ≤ alignment_coordinate n k) × (alignment_coordinate n k + 3 ≤ 4 * n + 17)
 cells_inside n k high within =
@@ -46,9 +43,6 @@ before_far : (n k i x : ℕ) → n ≤ 40 → k ≤ alignment_count n → i < k 
 before_far n zero i x high within order low = absurd (omega arith)
 before_far n (suc k) i x high within order low = grind (arith, common_steps, apart)
 
-after_far : (n k i x : ℕ) → n ≤ 40 → k ≤ i → i < alignment_count n → x + 2 < alignment_coordinate n k → 2 < abs_diff (alignment_coordinate n i) x
-after_far n k i x high order within low = grind (arith, common_steps, apart)
-
 all_from_zero : (n x : ℕ) → near (map (alignment_coordinate n) (range_with_len 0 (alignment_count n - 0))) x ≡ None → near (alignment_coordinates n) x ≡ None
 all_from_zero n x e = let all : alignment_count n ≡ alignment_count n - 0 = omega arith in ap (λ m. near (map (alignment_coordinate n) (range_with_len 0 m)) x) all ∙ e
 
@@ -57,7 +51,7 @@ pub none_between : (n k x : ℕ) → n ≤ 40 → k < alignment_count n → behi
 none_between n k x high within low last =
     all_from_zero n x (far_from_all (alignment_coordinate n) x (alignment_count n) (alignment_count n) 0 (omega arith) (λ i inside. elim (cases_lt i k) [
       | inl before ↦ before_far n k i x high (omega arith) before low
-      | inr after ↦ after_far n k i x high after inside last
+      | inr after ↦ (grind (arith, common_steps, apart))
     ]))
 
 -- nor behind the last

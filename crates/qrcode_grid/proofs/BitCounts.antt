@@ -17,9 +17,6 @@ use Rattle.qrcode_grid.proofs.Transposed.{sum_same_below}
 use Rattle.std.proofs.lemmas.Grind.{common_steps}
 use Rattle.std.proofs.lemmas.Bool.Decides.{nat_tests}
 
-pub three_bits : (a b c : ℕ) → a < 2 → b < 2 → c < 2 → ((a + b) % 2 + c) % 2 + 2 * ((a + min ((a + b) % 2) ((a + c) % 2)) % 2) ≡ a + b + c
-three_bits a b c ha hb hc = omega arith
-
 sum_three : (f g p q r : ℕ → ℕ) (n : ℕ) → ((j : ℕ) → j < n → f j + 2 * g j ≡ p j + q j + r j)
     → sum_below f n + 2 * sum_below g n ≡ sum_below p n + sum_below q n + sum_below r n
 sum_three f g p q r zero h = refl
@@ -52,7 +49,7 @@ length-carry a b c la lb lc = grind (arith, common_steps, length_of)
 
 sum_at : (a b c : List ℕ) → length a ≡ 16 → length b ≡ 16 → length c ≡ 16 → (m j : ℕ) → j < 16
     → bit_at (get_or (sum_of a b c) j 0) m + 2 * bit_at (get_or (carry_of a b c) j 0) m ≡ bit_at (get_or a j 0) m + bit_at (get_or b j 0) m + bit_at (get_or c j 0) m
-sum_at a b c la lb lc m j h = grind (arith, common_steps, length_of, xor_at, and_at, three_bits, bit_at-lt)
+sum_at a b c la lb lc m j h = grind (arith, common_steps, length_of, xor_at, and_at, bit_at-lt)
 
 pub three_rows : (a b c : List ℕ) → length a ≡ 16 → length b ≡ 16 → length c ≡ 16 → (m : ℕ)
     → bit_count m (sum_of a b c) + 2 * bit_count m (carry_of a b c) ≡ bit_count m a + bit_count m b + bit_count m c
@@ -63,13 +60,8 @@ three_rows a b c la lb lc m = grind (arith, nat_tests, sum_three, sum_at)
 pub count_as_sum : (p : ℕ → Bool) (xs : List ℕ) (n : ℕ) → length xs ≡ n → count_by p xs ≡ sum_below (λ j. cond (p (get_or xs j 0)) 1 0) n
 count_as_sum p xs n l = ap (count_by p) (sym (pick_l_whole 0 xs n l)) ∙ count_by-total p (λ k. get_or xs k 0) n
 
-bit_cond : (b t : ℕ) → b < 2 → 0 < t → cond (b * t == t) 1 0 ≡ b
-bit_cond zero t h p = grind arith
-bit_cond (suc zero) t h p = grind arith
-bit_cond (suc (suc b)) t h p = absurd (omega (arith, h))
-
 tested : (m b : ℕ) → cond (bit_and b (2 ^ m) == 2 ^ m) 1 0 ≡ bit_at b m
-tested m b = ap (λ t. cond (t == 2 ^ m) 1 0) (and_pow b m) ∙ bit_cond (bit_at b m) (2 ^ m) (bit_at-lt b m) (pow_pos m)
+tested m b = grind (arith, nat_tests, and_pow, bit_at-lt, pow_pos)
 
 -- the bit that a shift gives
 pub shifted_one : (m : ℕ) → m < 8 → 1 * 2 ^ m % 256 ≡ 2 ^ m

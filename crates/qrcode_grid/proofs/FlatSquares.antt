@@ -18,16 +18,14 @@ count_one_more_at p at n = grind (arith, common_steps, places_append, sum_by-app
 count_moved : (p q : ℕ → Bool) (at n : ℕ) → ((i : ℕ) → i < n → p (at + i) ≡ q i) → count_by p (range_with_len at n) ≡ count_by q (range_with_len 0 n)
 count_moved p q at zero same = refl
 count_moved p q at (suc n) same =
-    grind (arith, count_one_more_at p at n, count_moved p q at n (λ i h. same i (omega arith)), same n (omega arith), zero-add n,
-    count_one_more_at q 0 n)
+    grind (arith, count_one_more_at p at n, count_moved p q at n (λ i h. same i (omega arith)), same n (omega arith), zero-add n, count_one_more_at q 0 n)
 
 -- whole rows: what is counted within them, and at their last places
 count_rows : (p : ℕ → Bool) (f : ℕ → ℕ) (w n : ℕ) → 0 < w → ((y : ℕ) → y < n → count_by p (range_with_len (y * w) (w - 1)) ≡ f y) →
     count_by p (range_with_len 0 (n * w)) ≡ sum_below f n + count_below (λ y. p (y * w + (w - 1))) n
 count_rows p f w zero some rows = let e : zero * w ≡ zero = omega arith in ap (λ k. count_by p (range_with_len 0 k)) e
 count_rows p f w (suc n) some rows =
-    grind (arith, count_of_places p (n * w) ((w - 1) + 1), count_one_more_at p (n * w) (w - 1), rows n (omega arith),
-    count_rows p f w n some (λ y h. rows y (omega arith)))
+    grind (arith, count_of_places p (n * w) ((w - 1) + 1), count_one_more_at p (n * w) (w - 1), count_rows p f w n some (λ y h. rows y (omega arith)))
 
 -- a square within a row, by the places of the grid
 square_of_row : (w : ℕ) (m u l : List ℕ) (y i : ℕ) → length m ≡ w * w → y + 1 < w → i < w - 1 →

@@ -4,9 +4,9 @@ use Rattle.std.proofs.Math.Nat.{mul-le-mul_right, add-mul, mul-add}
 use Rattle.std.proofs.lemmas.Bool.{cases_lt}
 use Rattle.qrcode_grid.specs.Cells.{sum_below, count_below}
 use Rattle.qrcode_grid.specs.Penalty.{column, quiet, are_light, is_pattern, is_finder_like, runs_penalty, windows_penalty}
-use Rattle.qrcode_grid.specs.Scoring.{cell, is_same_below, has_five, has_six, is_quiet, has_finder}
+use Rattle.qrcode_grid.specs.Scoring.{cell, has_five, has_six, is_quiet, has_finder}
 use Rattle.qrcode_grid.proofs.Columns.{length-column, get_or-column, column_past}
-use Rattle.qrcode_grid.proofs.LongRuns.{same_of, five_of, six_of, alikes, fives_are, sixes_are, runs_by_alikes, and_same}
+use Rattle.qrcode_grid.proofs.LongRuns.{five_of, six_of, alikes, fives_are, sixes_are, runs_by_alikes, and_same}
 use Rattle.qrcode_grid.proofs.Totals.{total-mul, total-plus}
 use Rattle.qrcode_grid.proofs.Transposed.{sum_same_below, cell_within}
 use Rattle.std.proofs.lemmas.Grind.{common_steps}
@@ -47,18 +47,12 @@ module _ (w : ℕ) (padded cells : List ℕ) (same : (k : ℕ) → k < w * w →
       let place : y * w + x + i * w ≡ 4 * w + ((y + r) * w + x) = omega (arith, cell_below w x y r, ap (λ t. t * w) e, add-mul 4 r w) in
       ap (λ k. get_or padded k 0) place ∙ same ((y + r) * w + x) (cell_within w x (y + r) hx hy) ∙ sym (get_or-column w cells x (y + r) hy)
 
-  same_in_column : (x y r i : ℕ) → i ≡ 4 + r → x < w → y + (r + 1) < w → is_same_below w padded (y * w + x) i ≡ same_of (column w cells x) y r
-  same_in_column x y r i e hx hy = grind (arith, common_steps, in_column)
-
-  five_in_column : (x y : ℕ) → x < w → y + 4 < w → has_five w padded (y * w + x) ≡ five_of (column w cells x) y
-  five_in_column x y hx hy = grind (arith, common_steps, and_same, same_in_column)
-
   six_in_column : (x y : ℕ) → x < w → y + 5 < w → has_six w padded (y * w + x) ≡ six_of (column w cells x) y
-  six_in_column x y hx hy = grind (arith, common_steps, five_in_column, five_of, same_in_column)
+  six_in_column x y hx hy = grind (arith, common_steps, five_of, in_column, and_same)
 
   fives_of_columns : count_below (has_five w padded) ((w - 4) * w) ≡ sum_below (λ x. alikes 4 (column w cells x)) w
   fives_of_columns =
-      count_grid (has_five w padded) (λ x y. five_of (column w cells x) y) w (w - 4) (λ x y hx hy. five_in_column x y hx (omega (arith, hy)))
+      count_grid (has_five w padded) (λ x y. five_of (column w cells x) y) w (w - 4) (λ x y hx hy. (grind (arith, common_steps, and_same, in_column)))
       ∙ sum_same_below (λ x. count_below (five_of (column w cells x)) (w - 4)) (λ x. alikes 4 (column w cells x)) w
       (λ x hx. sym (fives_are (column w cells x) ∙ ap (λ n. count_below (five_of (column w cells x)) (n - 4)) (length-column w cells x)))
 
@@ -82,9 +76,6 @@ quiet_before line (suc (suc zero)) h = refl
 quiet_before line (suc (suc (suc zero))) h = refl
 quiet_before line (suc (suc (suc (suc i)))) h = absurd (omega (arith, h))
 
-quiet_at : (line : List ℕ) (i j : ℕ) → i ≡ suc (suc (suc (suc j))) → get_or (quiet line) i 0 ≡ get_or line j 0
-quiet_at line i j e = ap (λ k. get_or (quiet line) k 0) e
-
 -- a grid between light modules
 module _ (w : ℕ) (padded cells : List ℕ) (before : (k : ℕ) → k < 4 * w → get_or padded k 0 ≡ 0)
     (same : (k : ℕ) → k < w * w → get_or padded (4 * w + k) 0 ≡ get_or cells k 0) (after : (k : ℕ) → 4 * w + w * w ≤ k → get_or padded k 0 ≡ 0) where
@@ -102,7 +93,7 @@ module _ (w : ℕ) (padded cells : List ℕ) (before : (k : ℕ) → k < 4 * w �
           | inl within ↦ same (j * w + x) (cell_within w x j hx within) ∙ sym (get_or-column w cells x j within)
           | inr past ↦ after (4 * w + (j * w + x)) (omega (arith, mul-le-mul_right w past)) ∙ sym (column_past w cells x j past)
         ]
-        ∙ sym (quiet_at (column w cells x) i j shape)
+        ∙ sym (ap (λ k. get_or (quiet (column w cells x)) k 0) shape)
   ]
 
   below_quiet : (x y r i : ℕ) → x < w → i ≡ y + r → cell w padded (y * w + x) r ≡ get_or (quiet (column w cells x)) i 0

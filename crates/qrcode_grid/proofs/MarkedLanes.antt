@@ -1,5 +1,5 @@
 -- Lanes that mark where candidates have something.
-use Rattle.std.proofs.Common.{◌≡◌, ℕ, zero, suc, ◌+◌, ◌-◌, ◌%◌, ◌<◌, ◌≤◌, ◌==◌, ◌&&◌, ◌||◌, Bool, true, false, cond, min, max, List, map, length, get_or, refl, ap, ◌∙◌, sym, arith, Fits, w8}
+use Rattle.std.proofs.Common.{◌≡◌, ℕ, zero, suc, ◌+◌, ◌-◌, ◌%◌, ◌<◌, ◌≤◌, ◌==◌, ◌&&◌, ◌||◌, Bool, false, cond, List, map, length, get_or, refl, ap, ◌∙◌, sym, arith, Fits, w8}
 use Rattle.std.specs.Int.{bit_at, bit_not}
 use Rattle.std.specs.Int.Bits.{bit_and, bit_or, bit_xor}
 use Rattle.std.proofs.lemmas.List.{get_or-map, length-map, get_or_past}
@@ -17,31 +17,14 @@ plane_at m bytes k = grind (arith, common_steps, get_or-map, get_or_past, length
 pub plane_small : (m : ℕ) (bytes : List ℕ) (k : ℕ) → get_or (plane m bytes) k 0 < 2
 plane_small m bytes k = omega (arith, plane_at m bytes k, bit_at-lt (get_or bytes k 0) m)
 
-min_cond : (p q : Bool) → min (cond p 1 0) (cond q 1 0) ≡ cond (p && q) 1 0
-min_cond true true = refl
-min_cond true false = refl
-min_cond false true = refl
-min_cond false false = refl
-
-max_cond : (p q : Bool) → max (cond p 1 0) (cond q 1 0) ≡ cond (p || q) 1 0
-max_cond true true = refl
-max_cond true false = refl
-max_cond false true = refl
-max_cond false false = refl
-
 pub marks_and : (a b : List ℕ) (p q : ℕ → ℕ → Bool) → Marks a p → Marks b q → Marks (zip2 bit_and a b) (λ m j. p m j && q m j)
-marks_and a b p q ma mb = grind (arith, common_steps, length_of, and_at, min_cond)
+marks_and a b p q ma mb = grind (arith, common_steps, length_of, and_at)
 
 pub marks_or : (a b : List ℕ) (p q : ℕ → ℕ → Bool) → Marks a p → Marks b q → Marks (zip2 bit_or a b) (λ m j. p m j || q m j)
-marks_or a b p q ma mb = grind (arith, common_steps, length_of, lane_of, bit_at_or, max_cond)
+marks_or a b p q ma mb = grind (arith, common_steps, length_of, lane_of, bit_at_or)
 
 pub marks_as : (a : List ℕ) (p q : ℕ → ℕ → Bool) → ((m j : ℕ) → p m j ≡ q m j) → Marks a p → Marks a q
 marks_as a p q e ma = record { whole = ma.whole; bits = λ m j hm hj. ma.bits m j hm hj ∙ ap (λ t. cond t 1 0) (e m j) }
-
-one_is : (b : ℕ) → b < 2 → b ≡ cond (b == 1) 1 0
-one_is zero h = refl
-one_is (suc zero) h = refl
-one_is (suc (suc b)) h = absurd (omega (arith, h))
 
 none_is : (b : ℕ) → b < 2 → 1 - b ≡ cond (b == 0) 1 0
 none_is zero h = refl
@@ -64,11 +47,20 @@ loaded_at bytes at m j h = ap (λ n. bit_at n m) (get_or-chunk at 16 bytes j 0 h
 turned_at : (bytes : List ℕ) → ((k : ℕ) → Fits w8 (get_or bytes k 0)) → (at : ℕ) → at + 16 ≤ length bytes → (m j : ℕ) → m < 8 → j < 16
     → bit_at (get_or (map (bit_not w8) (chunk at 16 bytes)) j 0) m ≡ 1 - get_or (plane m bytes) (at + j) 0
 turned_at bytes fits at inside m j hm hj =
-    cc (length-chunk at 16 bytes inside, get_or-chunk at 16 bytes j 0 hj, get_or-map (bit_not w8) (chunk at 16 bytes) j 0 0 (omega (arith,
-    (length-chunk at 16 bytes inside), hj)), bit_at_not w8 (get_or bytes (at + j) 0) m ((fits (at + j)).fits) hm, plane_at m bytes (at + j))
+    cc (
+      length-chunk at 16 bytes inside,
+      get_or-chunk at 16 bytes j 0 hj,
+      get_or-map (bit_not w8) (chunk at 16 bytes) j 0 0 (omega (
+        arith,
+        (length-chunk at 16 bytes inside),
+        hj,
+      )),
+      bit_at_not w8 (get_or bytes (at + j) 0) m ((fits (at + j)).fits) hm,
+      plane_at m bytes (at + j),
+    )
 
 pub marks_dark : (bytes : List ℕ) (at : ℕ) → at + 16 ≤ length bytes → Marks (chunk at 16 bytes) (λ m j. get_or (plane m bytes) (at + j) 0 == 1)
-marks_dark bytes at inside = grind (arith, common_steps, length-chunk, loaded_at, one_is, plane_small)
+marks_dark bytes at inside = grind (arith, common_steps, length-chunk, loaded_at, plane_small)
 
 pub marks_light : (bytes : List ℕ) → ((k : ℕ) → Fits w8 (get_or bytes k 0)) → (at : ℕ) → at + 16 ≤ length bytes
     → Marks (map (bit_not w8) (chunk at 16 bytes)) (λ m j. get_or (plane m bytes) (at + j) 0 == 0)
@@ -97,3 +89,5 @@ marks_where a p q e ma = record { whole = ma.whole; bits = λ m j hm hj. ma.bits
 
 pub marks_none : (q : ℕ → ℕ → Bool) → ((m j : ℕ) → j < 16 → false ≡ q m j) → Marks (replicate 16 0) q
 marks_none q e = grind (arith, common_steps, get_or-replicate, bit_at-zero)
+
+pub ruleset dark_marks = (marks_as, marks_dark, common_steps)

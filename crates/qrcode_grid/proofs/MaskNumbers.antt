@@ -60,3 +60,5 @@ same_colors xs ys e = sym (colors_again xs) ∙ ap (map color_of_byte) e ∙ col
 -- a list that was written whole
 pub written_whole : {X : Type 0} (new old : List X) (n : ℕ) → length new ≡ n → take n (new ++ drop (length new) old) ≡ new
 written_whole new old n e = take_at new (drop (length new) old) n e
+
+pub ruleset mask_numbers = (bytes_of_number, number_small, written_whole, common_steps)

@@ -1,6 +1,5 @@
 -- Regions that say nothing, and what regions say together.
-use Rattle.std.proofs.Common.{◌≡◌, ◌-◌, ◌≤◌, Bool, zero, suc, ℕ, ℤ, pos, negsuc, nat_abs, subst, ◌<◌, ◌+◌, ◌*◌, ap, ◌∙◌, refl, arith, true, false, nat_lt, nat_le, ◌==◌, ◌&&◌, ◌||◌, ◌≢◌, Option, Some, None, cond, [], ◌∷◌}
-use Rattle.std.specs.Option.{option_or}
+use Rattle.std.proofs.Common.{◌≡◌, ◌-◌, ◌≤◌, zero, suc, ℕ, ℤ, pos, negsuc, nat_abs, subst, ◌<◌, ◌+◌, ◌*◌, ap, refl, arith, false, nat_lt, nat_le, ◌==◌, ◌&&◌, ◌||◌, ◌≢◌, Option, None, [], ◌∷◌}
 use Rattle.std.proofs.lemmas.Bool.Decides.{nat_tests}
 use Rattle.qrcode_base.specs.declared.types.Color.{Color}
 use Rattle.qrcode_base.specs.declared.types.Version.{Version}
@@ -14,14 +13,10 @@ use Rattle.std.proofs.lemmas.Grind.{common_steps}
 pub no_version : (n x y : ℕ) → n < 7 → version_copies n x y ≡ None
 no_version n x y h = grind (arith, common_steps)
 
-none_either : (b : Bool) (o : Option Color) → o ≡ None → cond b None o ≡ None
-none_either true o e = refl
-none_either false o e = e
-
 -- the cells in which no version word lies
 no_version_cell : (n x y : ℕ) → (nat_lt x 6 && nat_le (4 * n + 17 - 11) y && nat_lt y (4 * n + 17 - 8)) ≡ false →
     (nat_lt y 6 && nat_le (4 * n + 17 - 11) x && nat_lt x (4 * n + 17 - 8)) ≡ false → version_copies n x y ≡ None
-no_version_cell n x y t u = grind (arith, common_steps, none_either)
+no_version_cell n x y t u = grind (arith, common_steps)
 
 pub no_version_before : (n x y : ℕ) → 7 ≤ n → y < 6 → x + 11 < 4 * n + 17 → version_copies n x y ≡ None
 no_version_before n x y some row before = no_version_cell n x y (grind (arith, nat_tests, some, row)) (grind (arith, nat_tests, before))
@@ -62,17 +57,13 @@ no_timing_before line from to x order before = no_timing line from to x line (gr
 pub no_timing_behind : (line from to x : ℕ) → line < from → to < x → timing line from to x line ≡ None
 no_timing_behind line from to x order behind = no_timing line from to x line (grind (arith, nat_tests, order, behind))
 
-drawn_or : (p q : Option Color) (m : Module) → drawn_over (option_or p q) m ≡ drawn_over p (drawn_over q m)
-drawn_or (Some c) q m = refl
-drawn_or None q m = refl
-
 -- what the first of some regions says is drawn last
 pub drawn_three : (a b c : Option Color) (m : Module) → drawn_over (first_some (a ∷ b ∷ c ∷ [])) m ≡ drawn_over a (drawn_over b (drawn_over c m))
-drawn_three a b c m = drawn_or (option_or a b) c m ∙ drawn_or a b (drawn_over c m)
+drawn_three a b c m = grind (arith, common_steps)
 
 pub drawn_nine : (a b c d e f g h i : Option Color) (m : Module) → drawn_over (first_some (a ∷ b ∷ c ∷ d ∷ e ∷ f ∷ g ∷ h ∷ i ∷ [])) m
     ≡ drawn_over a (drawn_over b (drawn_over c (drawn_over d (drawn_over e (drawn_over f (drawn_over g (drawn_over h (drawn_over i m))))))))
-drawn_nine a b c d e f g h i m = grind (arith, common_steps, drawn_or, drawn_three)
+drawn_nine a b c d e f g h i m = grind (arith, common_steps, drawn_three)
 
 -- the regions of a version, with its number and its width as the code has them
 pub normal_regions_are : (version : Version) (z : ℤ) (k format x y w : ℕ) → version ≡ Normal z → IsVersion version → w ≡ width_of version → k ≡ nat_abs z →

@@ -1,6 +1,6 @@
 -- Where the regions of a symbol meet they agree: what any of them says of a cell is its colour.
 -- Only the timing patterns and the alignment patterns meet.
-use Rattle.std.proofs.Common.{◌≡◌, ◌≢◌, ℕ, pos, negsuc, ◌<◌, ◌≤◌, ◌+◌, ◌-◌, ◌*◌, ap, ◌∙◌, sym, refl, subst, arith, inl, inr, List, [], ◌∷◌, ◌++◌, Bool, true, false, not, ◌==◌, ◌&&◌, ◌||◌, nat_le, nat_lt, cond, fold, All, IfSome, Option, Some, None, is_some}
+use Rattle.std.proofs.Common.{◌≡◌, ℕ, pos, negsuc, ◌<◌, ◌≤◌, ◌+◌, ◌-◌, ◌*◌, ap, ◌∙◌, sym, refl, subst, arith, inl, inr, List, [], ◌∷◌, ◌++◌, Bool, true, false, not, ◌==◌, ◌&&◌, ◌||◌, nat_le, nat_lt, fold, All, IfSome, Option, Some, None, is_some}
 use Rattle.std.specs.Option.{option_or}
 use Rattle.std.proofs.lemmas.Bool.{cases_eq, cases_lt, false≢true}
 use Rattle.std.proofs.lemmas.Bool.Decides.{nat_tests}
@@ -14,6 +14,7 @@ use Rattle.qrcode_grid.specs.Words.{digit, digit_color}
 use Rattle.qrcode_grid.specs.Regions.{finder, timing, where_true, dark_if_even, digit_at, format_first, format_second, format_micro, written, version_copies, alignments, alignment_coordinates, first_some, functional_color, regions}
 use Rattle.qrcode_grid.proofs.Tests.{all_pass, passes, both}
 use Rattle.qrcode_grid.proofs.Areas.{finder_test, finder_is, timing_test, first_test, first_is, second_test, second_is, micro_is, version_is, some-where_true, some-option_map}
+use Rattle.std.proofs.lemmas.Grind.{common_steps}
 
 abbrev Agree : Option Color → Option Color → Type 0
 Agree a b = (c d : Color) → a ≡ Some c → b ≡ Some d → c ≡ d
@@ -57,15 +58,11 @@ and_false false = refl
 abbrev copy_test : ℕ → ℕ → ℕ → Bool
 copy_test w x y = nat_lt x 6 && nat_le (w - 11) y && nat_lt y (w - 8)
 
-some-cond : (b : Bool) (k : ℕ) → is_some (cond b (Some k) None) ≡ b
-some-cond true k = refl
-some-cond false k = refl
-
 abbrev copies_test : ℕ → ℕ → ℕ → Bool
 copies_test w x y = copy_test w x y || copy_test w y x
 
 copies_are : (n x y : ℕ) → is_some (version_copies n x y) ≡ (nat_le 7 n && copies_test (4 * n + 17) x y)
-copies_are n x y = grind (arith, nat_tests, version_is, some-cond)
+copies_are n x y = grind (arith, common_steps, version_is)
 
 -- regions that lie where these tests say
 abbrev Tested : List Bool → List (Option Color) → Type 0
@@ -126,12 +123,6 @@ normal_apart w x y v wide l m = (
 )
 
 -- they lie in strips along the edges, and there no alignment pattern meets them: computed
-off_strips : (w x y : ℕ) (v : Bool) → 21 ≤ w → 9 ≤ x → 9 ≤ y → any (finder_tests w x y ++ word_tests w v x y) ≡ false
-off_strips w x y v wide a b = grind (arith, nat_tests)
-
-mid_column : (w x y : ℕ) (v : Bool) → 21 ≤ w → 9 ≤ y → y + 11 < w → any (finder_tests w x y ++ word_tests w v x y) ≡ false
-mid_column w x y v wide a b = grind (arith, nat_tests)
-
 mid_row : (w x y : ℕ) (v : Bool) → 21 ≤ w → 9 ≤ x → x + 11 < w → any (finder_tests w x y ++ word_tests w v x y) ≡ false
 mid_row w x y v wide a b = grind (arith, nat_tests)
 
@@ -147,12 +138,9 @@ strip_clear n k j = is_clear_at n k j && (is_clear_at n k (4 * n + 6 + j) && is_
 abbrev strips_clear : ℕ → Bool
 strips_clear n = all_pass (λ k. all_pass (strip_clear n k) 0 11) 0 9
 
-all_clear : all_pass strips_clear 1 40 ≡ true
-all_clear = refl
-
 strip_at : (n k j : ℕ) → 1 ≤ n → n ≤ 40 → k < 9 → j < 11 → strip_clear n k j ≡ true
 strip_at n k j low high h i =
-    passes (strip_clear n k) 0 11 j (passes (λ k. all_pass (strip_clear n k) 0 11) 0 9 k (passes strips_clear 1 40 n all_clear low (omega arith)) (omega arith) (omega arith)) (omega arith) (omega arith)
+    passes (strip_clear n k) 0 11 j (passes (λ k. all_pass (strip_clear n k) 0 11) 0 9 k (passes strips_clear 1 40 n (refl) low (omega arith)) (omega arith) (omega arith)) (omega arith) (omega arith)
 
 not_true : (b : Bool) → not b ≡ true → b ≡ false
 not_true true e = absurd (false≢true e)
@@ -174,11 +162,11 @@ clear : (n x y : ℕ) → 1 ≤ n → n ≤ 40 → x < 4 * n + 17 → y < 4 * n 
 clear n x y low high l m = elim (cases_lt x 9) [
   | inl a ↦ elim (cases_lt y 9) [
     | inl b ↦ not_true _ (both _ _ (strip_at n x y low high a (omega arith))).0
-    | inr b ↦ elim (cases_lt (y + 11) (4 * n + 17)) [ inl c ↦ none_there n x y (mid_column (4 * n + 17) x y (nat_le 7 n) (omega arith) b c) | inr c ↦ (far_at n x y low high a (omega arith) m).0 ]
+    | inr b ↦ elim (cases_lt (y + 11) (4 * n + 17)) [ inl c ↦ none_there n x y (grind (arith, nat_tests)) | inr c ↦ (far_at n x y low high a (omega arith) m).0 ]
   ]
   | inr a ↦ elim (cases_lt y 9) [
     | inl b ↦ elim (cases_lt (x + 11) (4 * n + 17)) [ inl c ↦ none_there n x y (mid_row (4 * n + 17) x y (nat_le 7 n) (omega arith) a c) | inr c ↦ (far_at n y x low high b (omega arith) l).1 ]
-    | inr b ↦ none_there n x y (off_strips (4 * n + 17) x y (nat_le 7 n) (omega arith) a b)
+    | inr b ↦ none_there n x y (grind (arith, nat_tests))
   ]
 ]
 
@@ -199,21 +187,15 @@ timing_agrees n x y = agree (timing 6 8 (4 * n + 17 - 9) x y) (alignments (4 * n
 abbrev timings_agree : ℕ → Bool
 timings_agree n = all_pass (λ k. timing_agrees n k 6 && timing_agrees n 6 k) 0 (4 * n + 17)
 
-all_agree : all_pass timings_agree 1 40 ≡ true
-all_agree = refl
-
-off_timing : (w x y : ℕ) (t : Bool) → x ≢ 6 → y ≢ 6 → (timing_test 6 8 (w - 9) x y && t) ≡ false
-off_timing w x y t a b = grind (arith, nat_tests)
-
 timing_agree : (n x y : ℕ) → 1 ≤ n → n ≤ 40 → x < 4 * n + 17 → y < 4 * n + 17 → Agree (timing 6 8 (4 * n + 17 - 9) x y) (alignments (4 * n + 17) (alignment_coordinates n) x y)
 timing_agree n x y low high l m =
     let w = 4 * n + 17 in
-    let at : (k : ℕ) → k < w → (timing_agrees n k 6 && timing_agrees n 6 k) ≡ true = λ k h. passes (λ k. timing_agrees n k 6 && timing_agrees n 6 k) 0 w k (passes timings_agree 1 40 n all_agree low (omega arith)) (omega arith) (omega arith) in
+    let at : (k : ℕ) → k < w → (timing_agrees n k 6 && timing_agrees n 6 k) ≡ true = λ k h. passes (λ k. timing_agrees n k 6 && timing_agrees n 6 k) 0 w k (passes timings_agree 1 40 n (refl) low (omega arith)) (omega arith) (omega arith) in
     elim (cases_eq y 6) [
       | inl row ↦ agree-sound _ _ (ap (timing_agrees n x) row ∙ (both _ _ (at x l)).0)
       | inr off ↦ elim (cases_eq x 6) [
         | inl column ↦ agree-sound _ _ (ap (λ k. timing_agrees n k y) column ∙ (both _ _ (at y m)).1)
-        | inr neither ↦ apart_agree _ _ _ _ (some-where_true (timing_test 6 8 (w - 9) x y) (dark_if_even (x + y))) refl (off_timing w x y _ neither off)
+        | inr neither ↦ apart_agree _ _ _ _ (some-where_true (timing_test 6 8 (w - 9) x y) (dark_if_even (x + y))) refl (grind (arith, nat_tests))
       ]
     ]
 
@@ -245,9 +227,6 @@ normal_pairs n format x y low high l m =
 abbrev micro_test : ℕ → ℕ → Bool
 micro_test x y = (y == 8 && nat_lt x 9 && not (x == 0)) || (x == 8 && nat_lt y 9 && not (y == 0))
 
-micro_apart : (w x y : ℕ) → 9 ≤ w → x < w → y < w → Apart (finder_test 3 3 x y ∷ timing_test 0 8 (w - 1) x y ∷ micro_test x y ∷ [])
-micro_apart w x y wide l m = (grind (arith, nat_tests), (grind (arith, nat_tests), (and_false (micro_test x y), tt)))
-
 -- What any region says of a cell is its functional colour.
 pub regions_say : (version : Version) (format x y : ℕ) → IsVersion version → x < width_of version → y < width_of version →
     All (λ says. IfSome says (λ c. functional_color version format x y ≡ Some c)) (regions version format x y)
@@ -258,5 +237,5 @@ regions_say (Micro (pos n)) format x y h l m =
     all_say (regions (Micro (pos n)) format x y)
     (pairs_apart (finder_test 3 3 x y ∷ timing_test 0 8 (w - 1) x y ∷ micro_test x y ∷ []) (regions (Micro (pos n)) format x y)
     (finder_is 3 3 x y, (some-where_true (timing_test 0 8 (w - 1) x y) (dark_if_even (x + y)), (some-option_map (λ k. digit_color (digit format k)) (digit_at format_micro x y) ∙ micro_is x y, tt)))
-    (micro_apart w x y (omega arith) l m))
+    ((grind (arith, nat_tests), (grind (arith, nat_tests), (and_false (micro_test x y), tt)))))
 regions_say (Micro (negsuc n)) format x y h l m = absurd h

@@ -21,9 +21,6 @@ value_at-nothing a = refl
 value_at-one : (d a : ℕ) → d < 256 → value_at (d ∷ []) a ≡ d
 value_at-one d a h = grind (arith, common_steps, value_at-cons, value_at-nothing, xor_zero_r, power-first, product_comm, product-one_left)
 
-value_at-push : (xs : List ℕ) (d a : ℕ) → d < 256 → value_at (xs ++ d ∷ []) a ≡ bit_xor (product (value_at xs a) (power a 1)) d
-value_at-push xs d a h = grind (arith, common_steps, value_at-append, value_at-one)
-
 value_at-shifted : (xs : List ℕ) (n a : ℕ) → value_at (xs ++ replicate n 0) a ≡ product (value_at xs a) (power a n)
 value_at-shifted xs n a = grind (arith, common_steps, value_at-append, length-replicate, value_at-zeros, xor_zero_r)
 
@@ -98,7 +95,7 @@ module _ (n d : ℕ) (divisor terms seen lanes result : List ℕ) (is : IsDiviso
       ∙ ap (λ t. value_at (lead ∷ t) a) (append-nil front) in
       let old : value_at (first ∷ front) a ≡ product (product (value_at seen a) (power a n)) (power a 1) =
       ap (λ t. value_at t a) (sym (window-first lanes n) ∙ window-more lanes n ∙ ap (λ z. window lanes 0 n ++ z ∷ []) (before.rest n (omega arith)))
-      ∙ value_at-push (window lanes 0 n) 0 a (omega arith) ∙ xor_zero_r (product (value_at (window lanes 0 n) a) (power a 1))
+      ∙ (grind (arith, common_steps, value_at-append, value_at-one)) ∙ xor_zero_r (product (value_at (window lanes 0 n) a) (power a 1))
       ∙ ap (λ v. product v (power a 1)) (ap (λ t. value_at t a) (sym (take-window lanes n (omega (arith, before.size, is.small)))) ∙ before.congruent a root ∙ value_at-shifted seen n a) in
       ap (λ t. value_at t a) reduced ∙ whole
       ∙ value_at-cons lead front a
@@ -106,7 +103,7 @@ module _ (n d : ℕ) (divisor terms seen lanes result : List ℕ) (is : IsDiviso
       ∙ xor_assoc (product d (power a n)) (product first (power a n)) (value_at front a)
       ∙ ap (bit_xor (product d (power a n))) (ap (λ k. bit_xor (product first (power a k)) (value_at front a)) (sym wide) ∙ sym (value_at-cons first front a) ∙ old)
       ∙ regroup (value_at seen a) (power a 1) (power a n) d
-      ∙ ap (λ v. product v (power a n)) (sym (value_at-push seen d a byte))
+      ∙ ap (λ v. product v (power a n)) (sym (grind (arith, common_steps, value_at-append, value_at-one)))
       ∙ sym (value_at-shifted (seen ++ d ∷ []) n a)
 
   pub next_remainder : IsRemainder n divisor (seen ++ d ∷ []) result

@@ -50,8 +50,11 @@ halves_test = refl
 -- the multiple by a number from that by its half
 pub multiple_from_half : (i c : ℕ) → i < 16 → product i c ≡ bit_xor (double (product (i / 2) c)) (product (i % 2) c)
 multiple_from_half i c h =
-    cc (eqb-true _ _ (passes_below-at (λ i. eqb (bit_xor (double (i / 2)) (i % 2)) i) 16 i halves_test h),
-    product-adds_left (double (i / 2)) (i % 2) c, product-double (i / 2) c (omega arith))
+    cc (
+      eqb-true _ _ (passes_below-at (λ i. eqb (bit_xor (double (i / 2)) (i % 2)) i) 16 i halves_test h),
+      product-adds_left (double (i / 2)) (i % 2) c,
+      product-double (i / 2) c (omega arith),
+    )
 
 pub multiple_even : (i c : ℕ) → i < 16 → i % 2 ≡ 0 → product i c ≡ double (product (i / 2) c)
 multiple_even i c h e = grind (arith, common_steps, multiple_from_half, product-zero_left, xor_zero_r)
@@ -66,8 +69,11 @@ nibbles_test = refl
 
 pub product-halves : (f c : ℕ) → f < 256 → product f c ≡ bit_xor (product (f % 16) c) (product (f / 16) (product 16 c))
 product-halves f c h =
-    cc (eqb-true _ _ (passes_below-at (λ f. eqb (bit_xor (f % 16) (product (f / 16) 16)) f) 256 f nibbles_test h),
-    product-adds_left (f % 16) (product (f / 16) 16) c, product_assoc (f / 16) 16 c)
+    cc (
+      eqb-true _ _ (passes_below-at (λ f. eqb (bit_xor (f % 16) (product (f / 16) 16)) f) 256 f nibbles_test h),
+      product-adds_left (f % 16) (product (f / 16) 16) c,
+      product_assoc (f / 16) 16 c,
+    )
 
 pub times_one : (a t : ℕ) → a < 256 → product a (product 1 t) ≡ product a t
 times_one a t h = sym (product_assoc a 1 t) ∙ ap (λ x. product x t) (product_comm a 1 ∙ product-one_left a h)
@@ -108,3 +114,5 @@ put_all (x ∷ xs) (y ∷ ys) h = ap (λ t. y ∷ t) (put_all xs ys (omega (arit
 
 pub put_in_zeros : (ys : List ℕ) → length ys ≡ 32 → put_chunk 0 (replicate 32 0) ys ≡ ys
 put_in_zeros ys h = put_all (replicate 32 0) ys (sym h)
+
+pub ruleset next_multiples = (fits_at, lane_xor, multiple_even, multiple_odd, common_steps)

@@ -9,6 +9,7 @@ use Rattle.qrcode_grid.proofs.FieldTests.{passes_below, passes_below-at}
 use Rattle.qrcode_grid.proofs.Totals.{total-add, total-mul}
 use Rattle.qrcode_grid.proofs.Transposed.{sum_same_below}
 use Rattle.std.proofs.lemmas.Grind.{common_steps}
+use Rattle.std.proofs.lemmas.Bool.Decides.{nat_tests}
 
 below : (k n : ℕ) → k < n → ltb k n ≡ true
 below k n h = grind arith
@@ -79,11 +80,7 @@ pub count_inside : (test : ℕ → Bool) (n at : ℕ) → at ≤ n → count_bel
 count_inside test n at h = grind (arith, common_steps, sum_same_below, marked_within)
 
 -- what holds of each row before one and of that one holds when it is set
-pub row_set : (P : ℕ → List ℕ → Type 0) (rows : List (List ℕ)) (n : ℕ) (v : List ℕ) → n < length rows → ((i : ℕ) → i < n → P i (get_or rows i [])) → P n v
-    → (i : ℕ) → i < n + 1 → P i (get_or (slice_set rows n v) i [])
-row_set P rows n v inside before here = grind (arith, common_steps, below_more, slice_set, get_or-set_other, get_or-set_same)
-
 pub two_rows_set : (P : ℕ → List ℕ → Type 0) (rows : List (List ℕ)) (n : ℕ) (v w : List ℕ) → n + 1 < length rows → ((i : ℕ) → i < n → P i (get_or rows i [])) → P n v → P (n + 1) w
     → (i : ℕ) → i < n + 2 → P i (get_or (slice_set (slice_set rows n v) (n + 1) w) i [])
 two_rows_set P rows n v w inside before here next =
-    λ i h. row_set P (slice_set rows n v) (n + 1) w (omega (arith, inside, length-set rows n v)) (row_set P rows n v (omega (arith, inside)) before here) next i (omega (arith, h))
+    grind (arith, nat_tests, slice_set, length-set, below_more, get_or-set_other, get_or-set_same)

@@ -3,7 +3,6 @@ use Rattle.std.proofs.Common.{◌≡◌, ℕ, ◌+◌, ◌-◌, ◌*◌, ◌/◌
 use Rattle.std.proofs.lemmas.List.{get_or-append-add, get_or_append_left, length-take-le, length-drop}
 use Rattle.std.proofs.lemmas.Simd.{get_or-put_chunk_at, length-put_chunk}
 use lib.Lanes.{put_chunk}
-use Rattle.std.proofs.lemmas.Grind.{common_steps}
 use Rattle.std.proofs.lemmas.Bool.Decides.{nat_tests}
 
 abbrev pub low_lanes : List ℕ → List ℕ
@@ -50,11 +49,8 @@ high_lane us (suc (suc (suc (suc (suc (suc (suc (suc (suc (suc (suc (suc (suc (s
 high_lane us (suc (suc (suc (suc (suc (suc (suc (suc (suc (suc (suc (suc (suc (suc (suc zero))))))))))))))) h = refl
 high_lane us (suc (suc (suc (suc (suc (suc (suc (suc (suc (suc (suc (suc (suc (suc (suc (suc n)))))))))))))))) h = absurd (omega (arith, h))
 
-put_lane : (part lanes : List ℕ) (j : ℕ) → j < length lanes → length lanes ≤ length part → get_or (put_chunk 0 part lanes) j 0 ≡ get_or lanes j 0
-put_lane part lanes j h within = grind (arith, common_steps, get_or-put_chunk_at)
-
 -- a lane that is written into a list of bytes
 pub chunk_lane : (bytes lanes rest : List ℕ) (at j : ℕ) → length lanes ≡ 16 → at + 16 ≤ length bytes → j < 16
     → get_or (take at bytes ++ (put_chunk 0 (take (at + 16 - at) (drop at bytes)) lanes ++ rest)) (at + j) 0 ≡ get_or lanes j 0
 chunk_lane bytes lanes rest at j l within h =
-    grind (arith, nat_tests, length-take-le, length-drop, get_or-append-add, get_or_append_left, length-put_chunk, put_lane)
+    grind (arith, nat_tests, length-take-le, length-drop, get_or-append-add, get_or_append_left, length-put_chunk, get_or-put_chunk_at)

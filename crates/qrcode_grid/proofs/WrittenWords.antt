@@ -26,9 +26,6 @@ digit_here p rest x y e f = grind (arith, common_steps, equal)
 digit_off_column : (p : ℕ × ℕ) (rest : List (ℕ × ℕ)) (x y : ℕ) → x ≢ p.0 → digit_at (p ∷ rest) x y ≡ digit_at rest x y
 digit_off_column p rest x y e = ap (λ b. cond (b && y == p.1) (Some (length rest)) (digit_at rest x y)) (differs x p.0 e)
 
-digit_off_row : (p : ℕ × ℕ) (rest : List (ℕ × ℕ)) (x y : ℕ) → y ≢ p.1 → digit_at (p ∷ rest) x y ≡ digit_at rest x y
-digit_off_row p rest x y e = grind (arith, common_steps, differs, and_false)
-
 -- The cells of a grid are those of an older one with the last places of the word drawn over them.
 abbrev pub IsWritten : {X : Type 0} → (Option Color → X → X) → ℕ → ℕ → List (ℕ × ℕ) → X → List X → List X → Type 0
 IsWritten over w word places d old now = (x y : ℕ) → x < w → y < w → get_or now (y * w + x) d ≡ over (written word places x y) (get_or old (y * w + x) d)
@@ -49,7 +46,7 @@ written_step over w word p rest d old now v column row long is h = λ x y l m.
             ∙ is old_cell ∙ ap (λ o. over (option_map shown o) old_cell) (sym (digit_here p rest x y e f))
         | inr f ↦
             let ne : y * w + x ≢ i = λ same. f (sym (row_of_place w x y i l same) ∙ row_of_place w p.0 p.1 i column refl) in
-            get_or-set_other now i (y * w + x) v d ne ∙ h x y l m ∙ ap (λ o. over (option_map shown o) old_cell) (sym (digit_off_row p rest x y f))
+            get_or-set_other now i (y * w + x) v d ne ∙ h x y l m ∙ ap (λ o. over (option_map shown o) old_cell) (sym (grind (arith, common_steps, differs, and_false)))
       ]
       | inr e ↦
           let ne : y * w + x ≢ i = λ same. e (sym (column_of_place w x y i l same) ∙ column_of_place w p.0 p.1 i column refl) in
