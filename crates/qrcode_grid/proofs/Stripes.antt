@@ -5,7 +5,6 @@ use Rattle.qrcode_grid.specs.declared.canvas.MaskPattern.{MaskPattern}
 use Rattle.qrcode_grid.specs.Masks.{is_inverted}
 use Rattle.std.proofs.lemmas.Grind.{common_steps}
 
--- a product by a number and by its remainder by six
 pub is_inverted-repeats : (pattern : MaskPattern) (x y : ℕ) → is_inverted pattern x y ≡ is_inverted pattern (x % 6) y
 is_inverted-repeats pattern x y = grind (arith, common_steps, add-mul, mul_assoc)
 
