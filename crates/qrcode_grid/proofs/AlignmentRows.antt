@@ -2,17 +2,15 @@
 use Rattle.std.proofs.Common.{◌≡◌, ℕ, zero, suc, ◌<◌, ◌≤◌, ◌+◌, ◌-◌, ◌*◌, ap, ◌∙◌, refl, arith, inl, inr, Bool, true, ◌&&◌, nat_le, Option, Some, None, map}
 use Rattle.std.specs.List.{range_with_len}
 use Rattle.std.specs.Int.{abs_diff}
-use Rattle.std.proofs.lemmas.Bool.{cases_lt, cases_eq, leb-true}
+use Rattle.std.proofs.lemmas.Bool.{cases_lt, leb-true}
 use Rattle.qrcode_grid.specs.Regions.{near, pattern_at, alignment_count, alignment_coordinate, alignment_coordinates}
 use Rattle.qrcode_grid.proofs.RegionSteps.{near_more}
 use Rattle.qrcode_grid.proofs.Tests.{all_pass, passes, both}
+use Rattle.std.proofs.lemmas.Grind.{common_steps}
 
 -- computed: the centre coordinates are five apart and more, and each has its five cells in the grid
 abbrev is_rising : ℕ → Bool
 is_rising n = all_pass (λ j. all_pass (λ i. nat_le (alignment_coordinate n i + 5) (alignment_coordinate n j)) 0 j) 0 (alignment_count n)
-
-rising : all_pass is_rising 0 41 ≡ true
-rising = refl
 
 abbrev is_inside : ℕ → Bool
 is_inside n = all_pass (λ k. nat_le 2 (alignment_coordinate n k) && nat_le (alignment_coordinate n k + 3) (4 * n + 17)) 0 (alignment_count n)
@@ -24,7 +22,7 @@ apart : (n i j : ℕ) → n ≤ 40 → i < j → j < alignment_count n → align
 apart n i j high order within =
     leb-true _ _ (passes (λ i. nat_le (alignment_coordinate n i + 5) (alignment_coordinate n j)) 0 j i
     (passes (λ j. all_pass (λ i. nat_le (alignment_coordinate n i + 5) (alignment_coordinate n j)) 0 j) 0 (alignment_count n) j
-    (passes is_rising 0 41 n rising (omega arith) (omega arith)) (omega arith) (omega arith)) (omega arith) (omega arith))
+    (passes is_rising 0 41 n (refl) (omega arith) (omega arith)) (omega arith) (omega arith)) (omega arith) (omega arith))
 
 pub cells_inside : (n k : ℕ) → n ≤ 40 → k < alignment_count n → (2 ≤ alignment_coordinate n k) × (alignment_coordinate n k + 3 ≤ 4 * n + 17)
 cells_inside n k high within =
@@ -39,21 +37,11 @@ behind n (suc k) = alignment_coordinate n k + 3
 
 far_from_all : (f : ℕ → ℕ) (x c m k : ℕ) → k + m ≡ c → ((i : ℕ) → i < c → 2 < abs_diff (f i) x) → near (map f (range_with_len k (c - k))) x ≡ None
 far_from_all f x c zero k e far = let none : c - k ≡ 0 = omega arith in ap (λ m. near (map f (range_with_len k m)) x) none
-far_from_all f x c (suc m) k e far =
-    near_more f x k c (omega arith) (far k (omega arith)) ∙ far_from_all f x c m (k + 1) (omega arith) far
+far_from_all f x c (suc m) k e far = grind (arith, common_steps, near_more, far_from_all f x c m (k + 1) (omega arith) far)
 
 before_far : (n k i x : ℕ) → n ≤ 40 → k ≤ alignment_count n → i < k → behind n k ≤ x → 2 < abs_diff (alignment_coordinate n i) x
 before_far n zero i x high within order low = absurd (omega arith)
-before_far n (suc k) i x high within order low = elim (cases_eq i k) [
-  | inl same ↦ let e : alignment_coordinate n i ≡ alignment_coordinate n k = ap (alignment_coordinate n) same in omega arith
-  | inr other ↦ let e = apart n i k high (omega arith) (omega arith) in omega arith
-]
-
-after_far : (n k i x : ℕ) → n ≤ 40 → k ≤ i → i < alignment_count n → x + 2 < alignment_coordinate n k → 2 < abs_diff (alignment_coordinate n i) x
-after_far n k i x high order within low = elim (cases_eq i k) [
-  | inl same ↦ let e : alignment_coordinate n i ≡ alignment_coordinate n k = ap (alignment_coordinate n) same in omega arith
-  | inr other ↦ let e = apart n k i high (omega arith) within in omega arith
-]
+before_far n (suc k) i x high within order low = grind (arith, common_steps, apart)
 
 all_from_zero : (n x : ℕ) → near (map (alignment_coordinate n) (range_with_len 0 (alignment_count n - 0))) x ≡ None → near (alignment_coordinates n) x ≡ None
 all_from_zero n x e = let all : alignment_count n ≡ alignment_count n - 0 = omega arith in ap (λ m. near (map (alignment_coordinate n) (range_with_len 0 m)) x) all ∙ e
@@ -63,7 +51,7 @@ pub none_between : (n k x : ℕ) → n ≤ 40 → k < alignment_count n → behi
 none_between n k x high within low last =
     all_from_zero n x (far_from_all (alignment_coordinate n) x (alignment_count n) (alignment_count n) 0 (omega arith) (λ i inside. elim (cases_lt i k) [
       | inl before ↦ before_far n k i x high (omega arith) before low
-      | inr after ↦ after_far n k i x high after inside last
+      | inr after ↦ (grind (arith, common_steps, apart))
     ]))
 
 -- nor behind the last

@@ -14,9 +14,8 @@ use Rattle.qrcode_grid.specs.Cells.{sum_below}
 use Rattle.qrcode_grid.specs.Scoring.{bit_count}
 use Rattle.qrcode_grid.proofs.Totals.{count_by-total}
 use Rattle.qrcode_grid.proofs.Transposed.{sum_same_below}
-
-pub three_bits : (a b c : ℕ) → a < 2 → b < 2 → c < 2 → ((a + b) % 2 + c) % 2 + 2 * ((a + min ((a + b) % 2) ((a + c) % 2)) % 2) ≡ a + b + c
-three_bits a b c ha hb hc = omega arith
+use Rattle.std.proofs.lemmas.Grind.{common_steps}
+use Rattle.std.proofs.lemmas.Bool.Decides.{nat_tests}
 
 sum_three : (f g p q r : ℕ → ℕ) (n : ℕ) → ((j : ℕ) → j < n → f j + 2 * g j ≡ p j + q j + r j)
     → sum_below f n + 2 * sum_below g n ≡ sum_below p n + sum_below q n + sum_below r n
@@ -46,47 +45,27 @@ pub length-sum : (a b c : List ℕ) → length a ≡ 16 → length b ≡ 16 → 
 length-sum a b c la lb lc = length_of bit_xor (zip2 bit_xor a b) c (length_of bit_xor a b la lb) lc
 
 pub length-carry : (a b c : List ℕ) → length a ≡ 16 → length b ≡ 16 → length c ≡ 16 → length (carry_of a b c) ≡ 16
-length-carry a b c la lb lc =
-    length_of bit_xor a (zip2 bit_and (zip2 bit_xor a b) (zip2 bit_xor a c)) la
-    (length_of bit_and (zip2 bit_xor a b) (zip2 bit_xor a c) (length_of bit_xor a b la lb) (length_of bit_xor a c la lc))
+length-carry a b c la lb lc = grind (arith, common_steps, length_of)
 
 sum_at : (a b c : List ℕ) → length a ≡ 16 → length b ≡ 16 → length c ≡ 16 → (m j : ℕ) → j < 16
     → bit_at (get_or (sum_of a b c) j 0) m + 2 * bit_at (get_or (carry_of a b c) j 0) m ≡ bit_at (get_or a j 0) m + bit_at (get_or b j 0) m + bit_at (get_or c j 0) m
-sum_at a b c la lb lc m j h =
-    let u = zip2 bit_xor a b in let v = zip2 bit_xor a c in
-    let lu = length_of bit_xor a b la lb in let lv = length_of bit_xor a c la lc in
-    let s = xor_at u c lu lc m j h ∙ ap (λ t. (t + bit_at (get_or c j 0) m) % 2) (xor_at a b la lb m j h) in
-    let k = xor_at a (zip2 bit_and u v) la (length_of bit_and u v lu lv) m j h
-    ∙ ap (λ t. (bit_at (get_or a j 0) m + t) % 2) (and_at u v lu lv m j h ∙ ap (λ t. min t (bit_at (get_or v j 0) m)) (xor_at a b la lb m j h) ∙ ap (λ t. min ((bit_at (get_or a j 0) m + bit_at (get_or b j 0) m) % 2) t) (xor_at a c la lc m j h)) in
-    ap (λ t. t + 2 * bit_at (get_or (carry_of a b c) j 0) m) s
-    ∙ ap (λ t. ((bit_at (get_or a j 0) m + bit_at (get_or b j 0) m) % 2 + bit_at (get_or c j 0) m) % 2 + 2 * t) k
-    ∙ three_bits (bit_at (get_or a j 0) m) (bit_at (get_or b j 0) m) (bit_at (get_or c j 0) m) (bit_at-lt (get_or a j 0) m) (bit_at-lt (get_or b j 0) m) (bit_at-lt (get_or c j 0) m)
+sum_at a b c la lb lc m j h = grind (arith, common_steps, length_of, xor_at, and_at, bit_at-lt)
 
 pub three_rows : (a b c : List ℕ) → length a ≡ 16 → length b ≡ 16 → length c ≡ 16 → (m : ℕ)
     → bit_count m (sum_of a b c) + 2 * bit_count m (carry_of a b c) ≡ bit_count m a + bit_count m b + bit_count m c
 unfolding bit_count
-three_rows a b c la lb lc m =
-    sum_three (λ j. bit_at (get_or (sum_of a b c) j 0) m) (λ j. bit_at (get_or (carry_of a b c) j 0) m) (λ j. bit_at (get_or a j 0) m) (λ j. bit_at (get_or b j 0) m) (λ j. bit_at (get_or c j 0) m) 16
-    (sum_at a b c la lb lc m)
+three_rows a b c la lb lc m = grind (arith, nat_tests, sum_three, sum_at)
 
 -- a count of a list is a sum over its places
 pub count_as_sum : (p : ℕ → Bool) (xs : List ℕ) (n : ℕ) → length xs ≡ n → count_by p xs ≡ sum_below (λ j. cond (p (get_or xs j 0)) 1 0) n
 count_as_sum p xs n l = ap (count_by p) (sym (pick_l_whole 0 xs n l)) ∙ count_by-total p (λ k. get_or xs k 0) n
 
-bit_cond : (b t : ℕ) → b < 2 → 0 < t → cond (b * t == t) 1 0 ≡ b
-bit_cond zero t h p = grind arith
-bit_cond (suc zero) t h p = grind arith
-bit_cond (suc (suc b)) t h p = absurd (omega (arith, h))
-
 tested : (m b : ℕ) → cond (bit_and b (2 ^ m) == 2 ^ m) 1 0 ≡ bit_at b m
-tested m b = ap (λ t. cond (t == 2 ^ m) 1 0) (and_pow b m) ∙ bit_cond (bit_at b m) (2 ^ m) (bit_at-lt b m) (pow_pos m)
+tested m b = grind (arith, nat_tests, and_pow, bit_at-lt, pow_pos)
 
 -- the bit that a shift gives
 pub shifted_one : (m : ℕ) → m < 8 → 1 * 2 ^ m % 256 ≡ 2 ^ m
-shifted_one m h =
-    let small : 2 ^ m < 2 ^ 8 = pow-lt h in
-    let one : 1 * 2 ^ m ≡ 2 ^ m = omega arith in
-    ap (λ t. t % 256) one ∙ mod-eq_of_lt small
+shifted_one m h = grind (arith, common_steps, pow-lt, mod-eq_of_lt)
 
 pub bits_in_mask : (m : ℕ) (lanes : List ℕ) → length lanes ≡ 16 → (t : ℕ) → t ≡ 2 ^ m
     → count_ones (mask_l (map (top 7) (zip2 (λ a b. cond (a == b) 255 0) (zip2 bit_and lanes (replicate 16 t)) (replicate 16 t))) % 2 ^ 64) ≡ bit_count m lanes

@@ -13,14 +13,11 @@ use Rattle.qrcode_grid.proofs.Tallies.{eqb_true}
 abbrev is_right : ℕ → ℕ → ℕ → Bool
 is_right y k m = eqb (bit_at (get_or (get_or CONDITIONS y []) k 0) m) (cond (is_inverted (pattern_of m) k y) 1 0)
 
-all_right : passes_below 12 (λ y. passes_below 6 (λ k. passes_below 8 (λ m. is_right y k m))) ≡ true
-all_right = refl
-
 pub condition_at : (m k y : ℕ) → m < 8 → k < 6 → y < 12 → bit_at (get_or (get_or CONDITIONS y []) k 0) m ≡ cond (is_inverted (pattern_of m) k y) 1 0
 condition_at m k y hm hk hy =
     eqb_true (bit_at (get_or (get_or CONDITIONS y []) k 0) m) (cond (is_inverted (pattern_of m) k y) 1 0)
     (passes_below-at (is_right y k) 8 m
-    (passes_below-at (λ i. passes_below 8 (is_right y i)) 6 k (passes_below-at (λ j. passes_below 6 (λ i. passes_below 8 (is_right j i))) 12 y all_right hy) hk) hm)
+    (passes_below-at (λ i. passes_below 8 (is_right y i)) 6 k (passes_below-at (λ j. passes_below 6 (λ i. passes_below 8 (is_right j i))) 12 y (refl) hy) hk) hm)
 
 pub set_again : (b : Bool) (n : ℕ) → n ≡ cond b 1 0 → (n == 1) ≡ b
 set_again true n e = ap (λ k. k == 1) e

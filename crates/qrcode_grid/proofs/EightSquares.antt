@@ -1,5 +1,5 @@
 -- Squares and dark modules of a grid, counted over its places.
-use Rattle.std.proofs.Common.{◌≡◌, ℕ, zero, suc, ◌+◌, ◌-◌, ◌*◌, ◌%◌, ◌/◌, ◌<◌, ◌≤◌, ◌==◌, ◌&&◌, Bool, cond, List, length, take, drop, get_or, count_by, refl, ap, ◌∙◌, sym, arith}
+use Rattle.std.proofs.Common.{◌≡◌, ℕ, zero, suc, ◌+◌, ◌-◌, ◌*◌, ◌%◌, ◌/◌, ◌<◌, ◌≤◌, ◌==◌, Bool, cond, List, length, take, drop, get_or, count_by, refl, ap, ◌∙◌, sym, arith}
 use Rattle.std.specs.List.{range_with_len}
 use Rattle.std.specs.Int.{bit_at}
 use Rattle.std.proofs.Math.Nat.{mul-le-mul_right, add-mul}
@@ -14,16 +14,15 @@ use Rattle.qrcode_grid.proofs.PaddedGrids.{from_grid, grid_same}
 use Rattle.qrcode_grid.proofs.SquareLanes.{count_one_more}
 use Rattle.qrcode_grid.proofs.Tallies.{dark_again}
 use Rattle.qrcode_grid.proofs.Transposed.{sum_same_below, IsTransposed}
+use Rattle.std.proofs.lemmas.Grind.{common_steps}
+use Rattle.std.proofs.lemmas.Bool.Decides.{nat_tests}
 
 count_places : (p : ℕ → Bool) (n : ℕ) → count_by p (range_with_len 0 n) ≡ count_below p n
 count_places p zero = refl
-count_places p (suc n) =
-    let e : suc n ≡ n + 1 = omega arith in
-    ap (λ k. count_by p (range_with_len 0 k)) e ∙ count_one_more p n (p n) refl ∙ ap (λ t. t + cond (p n) 1 0) (count_places p n)
+count_places p (suc n) = grind (arith, count_one_more p n (p n) refl, count_places p n)
 
 pub length-grid : (w : ℕ) (padded : List ℕ) → IsPadded w padded → length (grid_in w padded) ≡ w * w
-length-grid w padded is =
-    length-take-le (4 * w + w * w - 4 * w) (drop (4 * w) padded) (omega (arith, length-drop (4 * w) padded, is.whole)) ∙ omega arith
+length-grid w padded is = grind (arith, common_steps, length-take-le, length-drop)
 
 pub length-plane : (m : ℕ) (bytes : List ℕ) → length (plane m bytes) ≡ length bytes
 length-plane m bytes = length-map bytes (λ b. bit_at b m)
@@ -43,17 +42,7 @@ module _ (w : ℕ) (grid cells : List ℕ) (square : length cells ≡ w * w) (wi
   lower_is k h = get_or-take (length cells - w) (drop w cells) k 0 (omega (arith, h, square)) ∙ get_or-drop w cells k 0
 
   square_here : (k : ℕ) → k + 1 < w * w - w → has_square w grid k ≡ is_byte_square_at upper lower k
-  square_here k h =
-      let a = same k (omega (arith, h)) ∙ sym (upper_is k (omega (arith, h))) in
-      let b = same (k + 1) (omega (arith, h)) ∙ sym (upper_is (k + 1) h) in
-      let below : k + w ≡ w + k = omega arith in
-      let last : k + w + 1 ≡ w + (k + 1) = omega arith in
-      let c = ap (λ i. get_or grid i 0) below ∙ same (w + k) (omega (arith, h)) ∙ sym (lower_is k (omega (arith, h))) in
-      let d = ap (λ i. get_or grid i 0) last ∙ same (w + (k + 1)) (omega (arith, h)) ∙ sym (lower_is (k + 1) h) in
-      let b0 = get_or grid (k + 1) 0 in let c0 = get_or grid (k + w) 0 in let d0 = get_or grid (k + w + 1) 0 in
-      let a1 = get_or upper k 0 in let b1 = get_or upper (k + 1) 0 in let c1 = get_or lower k 0 in
-      ap (λ t. (t == b0) && ((t == c0) && (t == d0))) a ∙ ap (λ t. (a1 == t) && ((a1 == c0) && (a1 == d0))) b
-      ∙ ap (λ t. (a1 == b1) && ((a1 == t) && (a1 == d0))) c ∙ ap (λ t. (a1 == b1) && ((a1 == c1) && (a1 == t))) d
+  square_here k h = grind (arith, nat_tests, upper_is, lower_is)
 
   wrap_within : (y : ℕ) → y < w - 2 → y * w + (w - 1) + 1 < w * w - w
   wrap_within y h =
@@ -86,9 +75,7 @@ squares_of_plane w padded is wide m =
 
 -- bits that were written are counted
 pub written_count : (w m n : ℕ) (bytes : List ℕ) (test : ℕ → Bool) → ((y : ℕ) → y < n → bit_at (get_or bytes y 0) m ≡ cond (test y) 1 0) → count_below (λ k. cell w (plane m bytes) k 0 == 1) n ≡ count_below test n
-written_count w m n bytes test is =
-    sum_same_below (λ k. cond (cell w (plane m bytes) k 0 == 1) 1 0) (λ k. cond (test k) 1 0) n
-    (λ k h. let e : k + 0 * w ≡ k = omega arith in dark_again (test k) (cell w (plane m bytes) k 0) (plane_at m bytes (k + 0 * w) ∙ ap (λ i. bit_at (get_or bytes i 0) m) e ∙ is k h))
+written_count w m n bytes test is = grind (arith, nat_tests, sum_same_below, dark_again, plane_at)
 
 dark_is : (b : ℕ) → b < 2 → (b == 1) ≡ is_dark_byte b
 dark_is zero h = refl

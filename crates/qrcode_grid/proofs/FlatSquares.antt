@@ -1,7 +1,6 @@
 -- The squares of a whole grid: those within its rows, and those across the end of a row.
-use Rattle.std.proofs.Common.{◌≡◌, ℕ, zero, suc, ◌+◌, ◌-◌, ◌*◌, ◌<◌, ◌≤◌, Bool, true, false, cond, List, length, take, drop, get_or, count_by, refl, ap, ◌∙◌, sym, arith, ◌==◌, ◌&&◌}
+use Rattle.std.proofs.Common.{◌≡◌, ℕ, zero, suc, ◌+◌, ◌-◌, ◌*◌, ◌<◌, ◌≤◌, Bool, true, false, cond, List, length, take, drop, get_or, count_by, refl, ap, ◌∙◌, sym, arith, ◌==◌, ◌&&◌, zero-add}
 use Rattle.std.specs.List.{range_with_len}
-use Rattle.std.proofs.Common.{zero-add}
 use Rattle.std.proofs.Math.Nat.{mul-le-mul_right, add-mul}
 use Rattle.std.proofs.lemmas.List.Sums.{sum_by-append}
 use Rattle.std.proofs.lemmas.Simd.{length-chunk, get_or-chunk}
@@ -9,36 +8,24 @@ use Rattle.qrcode_grid.specs.Cells.{sum_below, count_below}
 use Rattle.qrcode_grid.specs.Penalty.{is_byte_square_at, count_of_squares, row}
 use Rattle.qrcode_grid.proofs.SquareLanes.{places_append, count_of_places}
 use Rattle.qrcode_grid.proofs.Totals.{sum_below_more}
+use Rattle.std.proofs.lemmas.Grind.{common_steps}
 
 -- one place more, from any place on
 count_one_more_at : (p : ℕ → Bool) (at n : ℕ) → count_by p (range_with_len at (n + 1)) ≡ count_by p (range_with_len at n) + cond (p (at + n)) 1 0
-count_one_more_at p at n =
-    ap (count_by p) (places_append at n 1)
-    ∙ sum_by-append _ (range_with_len at n) (range_with_len (at + n) 1)
-    ∙ ap (λ k. count_by p (range_with_len at n) + k) (zero-add (cond (p (at + n)) 1 0))
+count_one_more_at p at n = grind (arith, common_steps, places_append, sum_by-append, zero-add)
 
 -- a count from some place on is that of the tests there
 count_moved : (p q : ℕ → Bool) (at n : ℕ) → ((i : ℕ) → i < n → p (at + i) ≡ q i) → count_by p (range_with_len at n) ≡ count_by q (range_with_len 0 n)
 count_moved p q at zero same = refl
 count_moved p q at (suc n) same =
-    let e : suc n ≡ n + 1 = omega arith in
-    ap (λ k. count_by p (range_with_len at k)) e
-    ∙ count_one_more_at p at n
-    ∙ ap (λ k. k + cond (p (at + n)) 1 0) (count_moved p q at n (λ i h. same i (omega arith)))
-    ∙ ap (λ b. count_by q (range_with_len 0 n) + cond b 1 0) (same n (omega arith))
-    ∙ ap (λ k. count_by q (range_with_len 0 n) + cond (q k) 1 0) (sym (zero-add n))
-    ∙ sym (count_one_more_at q 0 n)
-    ∙ ap (λ k. count_by q (range_with_len 0 k)) (sym e)
+    grind (arith, count_one_more_at p at n, count_moved p q at n (λ i h. same i (omega arith)), same n (omega arith), zero-add n, count_one_more_at q 0 n)
 
 -- whole rows: what is counted within them, and at their last places
 count_rows : (p : ℕ → Bool) (f : ℕ → ℕ) (w n : ℕ) → 0 < w → ((y : ℕ) → y < n → count_by p (range_with_len (y * w) (w - 1)) ≡ f y) →
     count_by p (range_with_len 0 (n * w)) ≡ sum_below f n + count_below (λ y. p (y * w + (w - 1))) n
 count_rows p f w zero some rows = let e : zero * w ≡ zero = omega arith in ap (λ k. count_by p (range_with_len 0 k)) e
 count_rows p f w (suc n) some rows =
-    let e : suc n * w ≡ n * w + ((w - 1) + 1) = omega arith in
-    ap (λ k. count_by p (range_with_len 0 k)) e
-    ∙ count_of_places p (n * w) ((w - 1) + 1)
-    ∙ omega (arith, count_one_more_at p (n * w) (w - 1), rows n (omega arith), count_rows p f w n some (λ y h. rows y (omega arith)))
+    grind (arith, count_of_places p (n * w) ((w - 1) + 1), count_one_more_at p (n * w) (w - 1), count_rows p f w n some (λ y h. rows y (omega arith)))
 
 -- a square within a row, by the places of the grid
 square_of_row : (w : ℕ) (m u l : List ℕ) (y i : ℕ) → length m ≡ w * w → y + 1 < w → i < w - 1 →

@@ -1,16 +1,17 @@
 -- The functional modules of a symbol are as many as the cells for which `is_functional` holds.
-use Rattle.std.proofs.Common.{◌≡◌, ℕ, pos, negsuc, zero, suc, ◌<◌, ◌≤◌, ◌+◌, ◌-◌, ◌*◌, ◌/◌, ap, ◌∙◌, sym, refl, arith, cond, Bool, true, false, not, length, nat_le, ◌&&◌}
+use Rattle.std.proofs.Common.{◌≡◌, ℕ, pos, negsuc, zero, suc, ◌<◌, ◌≤◌, ◌+◌, ◌-◌, ◌*◌, ◌/◌, ap, ◌∙◌, sym, refl, arith, cond, Bool, true, not, length}
 use Rattle.std.proofs.lemmas.Bool.Decides.{nat_tests}
 use Rattle.std.proofs.lemmas.List.Sums.{length-filter}
 use Rattle.qrcode_base.specs.declared.types.Version.{Version}
 use Rattle.qrcode_base.specs.declared.types.Version.TheVariants.{Normal, Micro}
 use Rattle.qrcode_base.specs.Symbols.{IsVersion, width_of}
 use Rattle.qrcode_grid.specs.Counts.{functional_cells}
-use Rattle.qrcode_grid.specs.Regions.{is_functional_cell, is_functional_at, is_in_bare_area}
+use Rattle.qrcode_grid.specs.Regions.{is_functional_cell, is_functional_at}
 use Rattle.qrcode_grid.specs.Cells.{sum_below as total}
 use Rattle.qrcode_grid.specs.Walk.{data_cells, walk, walk_column, numbered_cell, timing_column}
 use Rattle.qrcode_grid.proofs.DrawnSymbols.{odd_width, timing_inside}
 use Rattle.qrcode_grid.proofs.Totals.{total-cong, total-walk, count_by-total}
+use Rattle.std.proofs.lemmas.Grind.{common_steps}
 
 -- a sum by pairs
 total-pairs : (f : ℕ → ℕ) (h : ℕ) → total (λ p. f (2 * p) + f (2 * p + 1)) h ≡ total f (2 * h)
@@ -43,20 +44,12 @@ around_timing f w t (suc k) low h =
 
 -- the sum over the pairs of columns, and the timing column
 total-columns : (f : ℕ → ℕ) (w t h : ℕ) → w ≡ 2 * h + 1 → t < w → total (λ p. f (walk_column w t (2 * p)) + f (walk_column w t (2 * p + 1))) h + f t ≡ total f w
-total-columns f w t h odd low =
-    let none : t - t ≡ 0 = omega arith in
-    let whole : w - 1 - t + t ≡ 2 * h = omega arith in
-    omega (arith, total-pairs (λ d. f (walk_column w t d)) h, around_timing f w t t low (omega arith), ap (total f) none, ap (total (λ d. f (walk_column w t d))) whole)
+total-columns f w t h odd low = grind (arith, total-pairs (λ d. f (walk_column w t d)) h, around_timing f w t t low (omega arith))
 
 -- those that pass a test and those that do not are all
 total-both : (p : ℕ → Bool) (n : ℕ) → total (λ k. cond (p k) 1 0) n + total (λ k. cond (not (p k)) 1 0) n ≡ n
 total-both p zero = refl
-total-both p (suc n) = step (p n) (total-both p n)
-  where
-    step : (b : Bool) → total (λ k. cond (p k) 1 0) n + total (λ k. cond (not (p k)) 1 0) n ≡ n →
-        total (λ k. cond (p k) 1 0) n + cond b 1 0 + (total (λ k. cond (not (p k)) 1 0) n + cond (not b) 1 0) ≡ suc n
-    step true e = omega (arith, e)
-    step false e = omega (arith, e)
+total-both p (suc n) = grind (arith, common_steps, total-both p n)
 
 total-rows : (f g : ℕ → ℕ) (w n : ℕ) → ((x : ℕ) → x < n → f x + g x ≡ w) → total f n + total g n ≡ n * w
 total-rows f g w zero h = omega arith
@@ -68,11 +61,7 @@ total-none f (suc n) h = omega (arith, total-none f n h, h n)
 
 -- where the version is one of the 44, both tests are the same
 same_test : (version : Version) (x y : ℕ) → IsVersion version → is_functional_at version (width_of version) x y ≡ is_functional_cell version x y
-same_test (Normal (pos n)) x y h =
-    let low : nat_le 1 n ≡ true = grind (arith, nat_tests, h.0) in
-    let high : nat_le n 40 ≡ true = grind (arith, nat_tests, h.1) in
-    ap (λ b. cond (b && nat_le n 40) (is_functional_cell (Normal (pos n)) x y) (is_in_bare_area (4 * n + 17) x y)) low
-    ∙ ap (λ b. cond b (is_functional_cell (Normal (pos n)) x y) (is_in_bare_area (4 * n + 17) x y)) high
+same_test (Normal (pos n)) x y h = grind (arith, common_steps)
 same_test (Normal (negsuc n)) x y h = absurd h
 same_test (Micro (pos n)) x y h = refl
 same_test (Micro (negsuc n)) x y h = absurd h

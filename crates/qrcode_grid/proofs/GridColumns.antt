@@ -4,11 +4,13 @@ use Rattle.std.proofs.Math.Nat.{mul-le-mul_right, add-mul, mul-add}
 use Rattle.std.proofs.lemmas.Bool.{cases_lt}
 use Rattle.qrcode_grid.specs.Cells.{sum_below, count_below}
 use Rattle.qrcode_grid.specs.Penalty.{column, quiet, are_light, is_pattern, is_finder_like, runs_penalty, windows_penalty}
-use Rattle.qrcode_grid.specs.Scoring.{cell, is_same_below, has_five, has_six, is_quiet, has_finder}
+use Rattle.qrcode_grid.specs.Scoring.{cell, has_five, has_six, is_quiet, has_finder}
 use Rattle.qrcode_grid.proofs.Columns.{length-column, get_or-column, column_past}
-use Rattle.qrcode_grid.proofs.LongRuns.{same_of, five_of, six_of, alikes, fives_are, sixes_are, runs_by_alikes, and_same}
+use Rattle.qrcode_grid.proofs.LongRuns.{five_of, six_of, alikes, fives_are, sixes_are, runs_by_alikes, and_same}
 use Rattle.qrcode_grid.proofs.Totals.{total-mul, total-plus}
 use Rattle.qrcode_grid.proofs.Transposed.{sum_same_below, cell_within}
+use Rattle.std.proofs.lemmas.Grind.{common_steps}
+use Rattle.std.proofs.lemmas.Bool.Decides.{nat_tests}
 
 sum_zero : (n : ℕ) → sum_below (λ k. 0) n ≡ 0
 sum_zero zero = refl
@@ -45,24 +47,12 @@ module _ (w : ℕ) (padded cells : List ℕ) (same : (k : ℕ) → k < w * w →
       let place : y * w + x + i * w ≡ 4 * w + ((y + r) * w + x) = omega (arith, cell_below w x y r, ap (λ t. t * w) e, add-mul 4 r w) in
       ap (λ k. get_or padded k 0) place ∙ same ((y + r) * w + x) (cell_within w x (y + r) hx hy) ∙ sym (get_or-column w cells x (y + r) hy)
 
-  same_in_column : (x y r i : ℕ) → i ≡ 4 + r → x < w → y + (r + 1) < w → is_same_below w padded (y * w + x) i ≡ same_of (column w cells x) y r
-  same_in_column x y r i e hx hy =
-      ap (λ t. t == cell w padded (y * w + x) (i + 1)) (in_column x y r i e hx (omega (arith, hy)))
-      ∙ ap (λ t. get_or (column w cells x) (y + r) 0 == t) (in_column x y (r + 1) (i + 1) (omega (arith, e)) hx hy)
-
-  five_in_column : (x y : ℕ) → x < w → y + 4 < w → has_five w padded (y * w + x) ≡ five_of (column w cells x) y
-  five_in_column x y hx hy =
-      and_same _ _ _ _ _ _ _ _ (same_in_column x y 0 4 refl hx (omega (arith, hy))) (same_in_column x y 1 5 refl hx (omega (arith, hy)))
-      (same_in_column x y 2 6 refl hx (omega (arith, hy))) (same_in_column x y 3 7 refl hx (omega (arith, hy)))
-
   six_in_column : (x y : ℕ) → x < w → y + 5 < w → has_six w padded (y * w + x) ≡ six_of (column w cells x) y
-  six_in_column x y hx hy =
-      ap (λ t. t && is_same_below w padded (y * w + x) 8) (five_in_column x y hx (omega (arith, hy)))
-      ∙ ap (λ t. five_of (column w cells x) y && t) (same_in_column x y 4 8 refl hx hy)
+  six_in_column x y hx hy = grind (arith, common_steps, five_of, in_column, and_same)
 
   fives_of_columns : count_below (has_five w padded) ((w - 4) * w) ≡ sum_below (λ x. alikes 4 (column w cells x)) w
   fives_of_columns =
-      count_grid (has_five w padded) (λ x y. five_of (column w cells x) y) w (w - 4) (λ x y hx hy. five_in_column x y hx (omega (arith, hy)))
+      count_grid (has_five w padded) (λ x y. five_of (column w cells x) y) w (w - 4) (λ x y hx hy. (grind (arith, common_steps, and_same, in_column)))
       ∙ sum_same_below (λ x. count_below (five_of (column w cells x)) (w - 4)) (λ x. alikes 4 (column w cells x)) w
       (λ x hx. sym (fives_are (column w cells x) ∙ ap (λ n. count_below (five_of (column w cells x)) (n - 4)) (length-column w cells x)))
 
@@ -73,21 +63,11 @@ module _ (w : ℕ) (padded cells : List ℕ) (same : (k : ℕ) → k < w * w →
       (λ x hx. sym (sixes_are (column w cells x) ∙ ap (λ n. count_below (six_of (column w cells x)) (n - 5)) (length-column w cells x)))
 
   pub runs_of_columns : sum_below (λ x. runs_penalty (column w cells x)) w + 2 * count_below (has_six w padded) ((w - 5) * w) ≡ 3 * count_below (has_five w padded) ((w - 4) * w)
-  runs_of_columns =
-      omega (
-        arith,
-        fives_of_columns,
-        sixes_of_columns,
-        weighed (λ x. runs_penalty (column w cells x)) (λ x. alikes 5 (column w cells x)) (λ x. alikes 4 (column w cells x)) w (λ x. runs_by_alikes (column w cells x)),
-      )
+  runs_of_columns = grind (arith, nat_tests, fives_of_columns, sixes_of_columns, weighed, alikes, runs_by_alikes)
 
 and_seven : (a b c d e f g a' b' c' d' e' f' g' : Bool) → a ≡ a' → b ≡ b' → c ≡ c' → d ≡ d' → e ≡ e' → f ≡ f' → g ≡ g'
     → (a && b && c && d && e && f && g) ≡ (a' && b' && c' && d' && e' && f' && g')
-and_seven a b c d e f g a' b' c' d' e' f' g' ea eb ec ed ee ef eg =
-    ap (λ t. t && b && c && d && e && f && g) ea ∙ ap (λ t. a' && t && c && d && e && f && g) eb
-    ∙ ap (λ t. a' && b' && t && d && e && f && g) ec ∙ ap (λ t. a' && b' && c' && t && e && f && g) ed
-    ∙ ap (λ t. a' && b' && c' && d' && t && f && g) ee ∙ ap (λ t. a' && b' && c' && d' && e' && t && g) ef
-    ∙ ap (λ t. a' && b' && c' && d' && e' && f' && t) eg
+and_seven a b c d e f g a' b' c' d' e' f' g' ea eb ec ed ee ef eg = grind (arith, common_steps)
 
 quiet_before : (line : List ℕ) (i : ℕ) → i < 4 → get_or (quiet line) i 0 ≡ 0
 quiet_before line zero h = refl
@@ -95,9 +75,6 @@ quiet_before line (suc zero) h = refl
 quiet_before line (suc (suc zero)) h = refl
 quiet_before line (suc (suc (suc zero))) h = refl
 quiet_before line (suc (suc (suc (suc i)))) h = absurd (omega (arith, h))
-
-quiet_at : (line : List ℕ) (i j : ℕ) → i ≡ suc (suc (suc (suc j))) → get_or (quiet line) i 0 ≡ get_or line j 0
-quiet_at line i j e = ap (λ k. get_or (quiet line) k 0) e
 
 -- a grid between light modules
 module _ (w : ℕ) (padded cells : List ℕ) (before : (k : ℕ) → k < 4 * w → get_or padded k 0 ≡ 0)
@@ -116,17 +93,14 @@ module _ (w : ℕ) (padded cells : List ℕ) (before : (k : ℕ) → k < 4 * w �
           | inl within ↦ same (j * w + x) (cell_within w x j hx within) ∙ sym (get_or-column w cells x j within)
           | inr past ↦ after (4 * w + (j * w + x)) (omega (arith, mul-le-mul_right w past)) ∙ sym (column_past w cells x j past)
         ]
-        ∙ sym (quiet_at (column w cells x) i j shape)
+        ∙ sym (ap (λ k. get_or (quiet (column w cells x)) k 0) shape)
   ]
 
   below_quiet : (x y r i : ℕ) → x < w → i ≡ y + r → cell w padded (y * w + x) r ≡ get_or (quiet (column w cells x)) i 0
-  below_quiet x y r i hx e =
-      ap (λ k. get_or padded k 0) (cell_below w x y r) ∙ in_quiet x (y + r) hx ∙ ap (λ k. get_or (quiet (column w cells x)) k 0) (sym e)
+  below_quiet x y r i hx e = cc (cell_below w x y r, in_quiet x (y + r) hx)
 
   light_in_column : (x y r i : ℕ) → x < w → i ≡ y + r → is_quiet w padded (y * w + x) r ≡ are_light (quiet (column w cells x)) i
-  light_in_column x y r i hx e =
-      and_same _ _ _ _ _ _ _ _ (ap (λ t. t == 0) (below_quiet x y r i hx e)) (ap (λ t. t == 0) (below_quiet x y (r + 1) (i + 1) hx (omega (arith, e))))
-      (ap (λ t. t == 0) (below_quiet x y (r + 2) (i + 2) hx (omega (arith, e)))) (ap (λ t. t == 0) (below_quiet x y (r + 3) (i + 3) hx (omega (arith, e))))
+  light_in_column x y r i hx e = grind (arith, nat_tests, and_same, below_quiet)
 
   finder_in_column : (x y : ℕ) → x < w → has_finder w padded (y * w + x) ≡ is_finder_like (quiet (column w cells x)) y
   finder_in_column x y hx =

@@ -1,12 +1,11 @@
 -- The laws of the regions, of the alignment patterns and of the walk.
-use Rattle.std.proofs.Common.{◌≡◌, ◌≢◌, ℕ, pos, negsuc, ◌+◌, ◌-◌, ◌*◌, ◌/◌, ◌%◌, ◌<◌, ◌≤◌, ◌==◌, ◌&&◌, ◌||◌, nat_le, nat_lt, Bool, true, false, Option, Some, None, unwrap_or, cond, ap, sym, ◌∙◌, subst, refl, arith}
+use Rattle.std.proofs.Common.{◌≡◌, ◌≢◌, ℕ, pos, negsuc, ◌+◌, ◌-◌, ◌*◌, ◌/◌, ◌%◌, ◌<◌, ◌≤◌, ◌==◌, ◌&&◌, ◌||◌, nat_le, nat_lt, Bool, true, false, Option, Some, None, unwrap_or, ap, subst, refl, arith}
 use Rattle.std.specs.Int.{abs_diff}
 use Rattle.std.proofs.lemmas.Bool.{eqb-true, leb-true, ltb-true}
-use Rattle.std.proofs.lemmas.Bool.Decides.{nat_tests}
 use Rattle.qrcode_base.specs.declared.types.Version.{Version}
 use Rattle.qrcode_base.specs.declared.types.Version.TheVariants.{Normal, Micro}
 use Rattle.qrcode_base.specs.Symbols.{IsVersion, width_of}
-use Rattle.qrcode_grid.specs.Regions.{near, alignment, alignments, pattern_at, alignment_count, alignment_step, alignment_coordinate, alignment_coordinates, is_at_finder, ring}
+use Rattle.qrcode_grid.specs.Regions.{near, alignment, alignments, alignment_count, alignment_step, alignment_coordinate, alignment_coordinates, is_at_finder, ring}
 use Rattle.qrcode_grid.specs.Walk.{timing_column}
 use Rattle.qrcode_grid.specs.Laws.{AreConsistentRegions, HasEveryAlignment, HasItsAlignments, IsWalkOf}
 use Rattle.qrcode_grid.proofs.Tests.{all_pass, passes, both}
@@ -14,6 +13,7 @@ use Rattle.qrcode_grid.proofs.WalkLaws.{cell_number-numbered_cell, numbered_cell
 use Rattle.qrcode_grid.proofs.Areas.{is_some-functional_color}
 use Rattle.qrcode_grid.proofs.RegionsAgree.{regions_say}
 use Rattle.qrcode_grid.proofs.DrawnSymbols.{odd_width, timing_inside}
+use Rattle.std.proofs.lemmas.Grind.{common_steps}
 
 -- each centre coordinate is the one near the five coordinates around it, computed
 abbrev is_near_its_own : ℕ → ℕ → ℕ → Bool
@@ -47,12 +47,7 @@ near_center n i x high within close =
 every_drawn : (n i j x y : ℕ) → n ≤ 40 → i < alignment_count n → j < alignment_count n → is_at_finder (4 * n + 17) (alignment_coordinate n i) (alignment_coordinate n j) ≡ false →
     ring (alignment_coordinate n i) (alignment_coordinate n j) x y ≤ 2 →
     alignments (4 * n + 17) (alignment_coordinates n) x y ≡ alignment (alignment_coordinate n i) (alignment_coordinate n j) x y
-every_drawn n i j x y high hi hj apart close =
-    let a : near (alignment_coordinates n) x ≡ Some (alignment_coordinate n i) = near_center n i x high hi (omega (arith, close)) in
-    let b : near (alignment_coordinates n) y ≡ Some (alignment_coordinate n j) = near_center n j y high hj (omega (arith, close)) in
-    ap (λ u. pattern_at (4 * n + 17) u (near (alignment_coordinates n) y) x y) a
-    ∙ ap (λ v. pattern_at (4 * n + 17) (Some (alignment_coordinate n i)) v x y) b
-    ∙ ap (λ t. cond t None (alignment (alignment_coordinate n i) (alignment_coordinate n j) x y)) apart
+every_drawn n i j x y high hi hj apart close = grind (arith, common_steps, near_center)
 
 -- the step of the alignment patterns is the least even one that reaches, but at 32: computed
 abbrev is_least_step : ℕ → Bool
@@ -69,20 +64,7 @@ step_reaches n c s = nat_le (4 * n + 4) ((c - 1) * s) && nat_lt ((c - 1) * (s - 
 
 step_of_test : (n c s : ℕ) → (s % 2 == 0 && (nat_le n 1 || n == 32 || step_reaches n c s)) ≡ true →
     (s % 2 ≡ 0) × ((2 ≤ n → n ≢ 32 → 4 * n + 4 ≤ (c - 1) * s) × (2 ≤ n → n ≢ 32 → (c - 1) * (s - 2) < 4 * n + 4))
-step_of_test n c s h =
-    let parts = both _ _ h in (
-      eqb-true _ _ parts.0,
-      (
-        λ low ne. leb-true _ _ (both _ _ (third n c s low ne parts.1)).0,
-        λ low ne. ltb-true _ _ (both _ _ (third n c s low ne parts.1)).1,
-      ),
-    )
-  where
-    third : (n c s : ℕ) → 2 ≤ n → n ≢ 32 → (nat_le n 1 || n == 32 || step_reaches n c s) ≡ true → step_reaches n c s ≡ true
-    third n c s low ne h =
-        let a : nat_le n 1 ≡ false = grind (arith, nat_tests) in
-        let b : (n == 32) ≡ false = grind (arith, nat_tests) in
-        ap (λ t. t || step_reaches n c s) (sym b) ∙ ap (λ t. t || n == 32 || step_reaches n c s) (sym a) ∙ h
+step_of_test n c s h = grind (arith, common_steps, both, eqb-true, leb-true, ltb-true)
 
 has_every_alignment : (n : ℕ) → 1 ≤ n → n ≤ 40 → HasEveryAlignment n
 has_every_alignment n low high =

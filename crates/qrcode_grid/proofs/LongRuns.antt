@@ -1,18 +1,16 @@
 -- The runs of a line, by its fives and sixes of one colour: a run of n modules, n at least 5, has n - 4 fives and n - 5 sixes.
-use Rattle.std.proofs.Common.{◌≡◌, ℕ, zero, suc, ◌+◌, ◌-◌, ◌*◌, ◌≤◌, ◌==◌, ◌&&◌, Bool, true, false, cond, List, [], ◌∷◌, length, get_or, refl, ap, subst, ◌∙◌, sym, arith, inl, inr}
+use Rattle.std.proofs.Common.{◌≡◌, ℕ, zero, suc, ◌+◌, ◌-◌, ◌*◌, ◌≤◌, ◌==◌, ◌&&◌, Bool, true, false, cond, List, [], ◌∷◌, length, get_or, refl, ap, ◌∙◌, sym, arith}
 use Rattle.std.specs.Prelude.{nat_le}
 use Rattle.std.specs.List.{prefix_len}
 use Rattle.std.proofs.lemmas.Bool.Decides.{eqb_tells}
 use Rattle.qrcode_grid.specs.Cells.{count_below}
 use Rattle.qrcode_grid.specs.Penalty.{length_penalty, run_penalty, runs_penalty}
 use Rattle.qrcode_grid.proofs.Runs.{new_runs, later_runs, sum_first, sum_same}
+use Rattle.std.proofs.lemmas.Grind.{common_steps}
+use Rattle.std.proofs.lemmas.Bool.Decides.{nat_tests}
 
 same_byte : (b : ℕ) → (b == b) ≡ true
 same_byte b = grind arith
-
-and_false : (b : Bool) → (b && false) ≡ false
-and_false true = refl
-and_false false = refl
 
 -- whether n + 1 modules from place 0 on are inside the line and of one colour
 abbrev pub alike : ℕ → List ℕ → Bool
@@ -27,29 +25,14 @@ alikes n (c ∷ cs) = cond (alike n (c ∷ cs)) 1 0 + alikes n cs
 longer : (q : ℕ) → length_penalty (1 + (1 + q)) + 2 * cond (nat_le 5 (1 + q)) 1 0 ≡ length_penalty (1 + q) + 3 * cond (nat_le 4 (1 + q)) 1 0
 longer q = grind arith
 
-counted_same : (d : ℕ) (ds : List ℕ) → length_penalty (1 + prefix_len (λ e. d == e) ds) + new_runs d ds + 2 * alikes 5 (d ∷ ds) ≡ 3 * alikes 4 (d ∷ ds)
-    → length_penalty (1 + prefix_len (λ e. d == e) (d ∷ ds)) + new_runs d (d ∷ ds) + 2 * alikes 5 (d ∷ d ∷ ds) ≡ 3 * alikes 4 (d ∷ d ∷ ds)
-counted_same d ds ih = let t = same_byte d in rw t (omega (arith, ih, longer (prefix_len (λ e. d == e) ds)))
-
-counted_other : (c d : ℕ) (ds : List ℕ) → (c == d) ≡ false → length_penalty (1 + prefix_len (λ e. d == e) ds) + new_runs d ds + 2 * alikes 5 (d ∷ ds) ≡ 3 * alikes 4 (d ∷ ds)
-    → length_penalty (1 + prefix_len (λ e. c == e) (d ∷ ds)) + new_runs c (d ∷ ds) + 2 * alikes 5 (c ∷ d ∷ ds) ≡ 3 * alikes 4 (c ∷ d ∷ ds)
-counted_other c d ds t ih = rw t (omega (arith, ih))
-
 counted : (c : ℕ) (cs : List ℕ) → length_penalty (1 + prefix_len (λ e. c == e) cs) + new_runs c cs + 2 * alikes 5 (c ∷ cs) ≡ 3 * alikes 4 (c ∷ cs)
 counted c [] = refl
-counted c (d ∷ ds) = elim (eqb_tells c d) [
-  | inl e ↦
-      subst (λ b. length_penalty (1 + prefix_len (λ e. b == e) (d ∷ ds)) + new_runs b (d ∷ ds) + 2 * alikes 5 (b ∷ d ∷ ds) ≡ 3 * alikes 4 (b ∷ d ∷ ds)) (sym e.1)
-      (counted_same d ds (counted d ds))
-  | inr e ↦ counted_other c d ds e.0 (counted d ds)
-]
+counted c (d ∷ ds) = grind (arith, common_steps, eqb_tells, new_runs, same_byte, longer, counted d ds)
 
 -- what the runs of a line count
 pub runs_by_alikes : (line : List ℕ) → runs_penalty line + 2 * alikes 5 line ≡ 3 * alikes 4 line
 runs_by_alikes [] = refl
-runs_by_alikes (c ∷ cs) =
-    let first : run_penalty (c ∷ cs) 0 ≡ length_penalty (1 + prefix_len (λ d. c == d) cs) = rw (same_byte c) refl in
-    omega (arith, first, sum_first (run_penalty (c ∷ cs)) (length cs), later_runs c cs, counted c cs)
+runs_by_alikes (c ∷ cs) = cc (same_byte c, sum_first (run_penalty (c ∷ cs)) (length cs), later_runs c cs, counted c cs)
 
 -- the same by places: whether the modules so many after place i and the next one have one colour
 abbrev pub same_of : List ℕ → ℕ → ℕ → Bool
@@ -61,78 +44,32 @@ five_of line i = same_of line i 0 && same_of line i 1 && same_of line i 2 && sam
 abbrev pub six_of : List ℕ → ℕ → Bool
 six_of line i = five_of line i && same_of line i 4
 
-le_suc : (n q : ℕ) → nat_le (suc n) (1 + q) ≡ nat_le n q
-le_suc n q = grind arith
-
-le_none : (n : ℕ) → nat_le (suc n) 0 ≡ false
-le_none n = grind arith
-
-le_zero : (q : ℕ) → nat_le 0 q ≡ true
-le_zero q = grind arith
-
 alike_step : (n c d : ℕ) (ds : List ℕ) → nat_le (suc n) (prefix_len (λ e. c == e) (d ∷ ds)) ≡ ((c == d) && nat_le n (prefix_len (λ e. d == e) ds))
-alike_step n c d ds = elim (eqb_tells c d) [
-  | inl e ↦ rw e.0 (le_suc n (prefix_len (λ f. c == f) ds) ∙ ap (λ b. nat_le n (prefix_len (λ f. b == f) ds)) e.1)
-  | inr e ↦ rw e.0 (le_none n)
-]
+alike_step n c d ds = grind (arith, common_steps, eqb_tells)
 
 alike_none : (n c : ℕ) (cs : List ℕ) → length cs ≤ n → nat_le (suc n) (prefix_len (λ e. c == e) cs) ≡ false
-alike_none n c [] h = le_none n
+alike_none n c [] h = (grind arith)
 alike_none zero c (d ∷ ds) h = absurd (omega (arith, h))
-alike_none (suc n) c (d ∷ ds) h = alike_step (suc n) c d ds ∙ ap (λ b. (c == d) && b) (alike_none n d ds (omega (arith, h))) ∙ and_false (c == d)
+alike_none (suc n) c (d ∷ ds) h = grind (arith, common_steps, alike_step, alike_none n d ds (omega (arith, h)))
 
 alikes_none : (n : ℕ) (line : List ℕ) → length line ≤ suc n → alikes (suc n) line ≡ 0
 alikes_none n [] h = refl
-alikes_none n (c ∷ cs) h =
-    ap (λ b. cond b 1 0 + alikes (suc n) cs) (alike_none n c cs (omega (arith, h))) ∙ omega (arith, alikes_none n cs (omega (arith, h)))
-
-and_four : (a b c d : Bool) → (a && (b && (c && (d && true)))) ≡ (a && b && c && d)
-and_four true true true true = refl
-and_four true true true false = refl
-and_four true true false d = refl
-and_four true false c d = refl
-and_four false b c d = refl
-
-and_five : (a b c d e : Bool) → (a && (b && (c && (d && (e && true))))) ≡ (a && b && c && d && e)
-and_five true true true true true = refl
-and_five true true true true false = refl
-and_five true true true false e = refl
-and_five true true false d e = refl
-and_five true false c d e = refl
-and_five false b c d e = refl
+alikes_none n (c ∷ cs) h = grind (arith, common_steps, alike_none, alikes_none n cs (omega (arith, h)))
 
 five_first : (c a b d e : ℕ) (r : List ℕ) → alike 4 (c ∷ a ∷ b ∷ d ∷ e ∷ r) ≡ five_of (c ∷ a ∷ b ∷ d ∷ e ∷ r) 0
-five_first c a b d e r =
-    alike_step 3 c a (b ∷ d ∷ e ∷ r)
-    ∙ ap (λ t. (c == a) && t) (alike_step 2 a b (d ∷ e ∷ r)
-    ∙ ap (λ t. (a == b) && t) (alike_step 1 b d (e ∷ r)
-    ∙ ap (λ t. (b == d) && t) (alike_step 0 d e r ∙ ap (λ t. (d == e) && t) (le_zero (prefix_len (λ g. e == g) r)))))
-    ∙ and_four (c == a) (a == b) (b == d) (d == e)
+five_first c a b d e r = grind (arith, common_steps, alike_step)
 
 six_first : (c a b d e f : ℕ) (r : List ℕ) → alike 5 (c ∷ a ∷ b ∷ d ∷ e ∷ f ∷ r) ≡ six_of (c ∷ a ∷ b ∷ d ∷ e ∷ f ∷ r) 0
-six_first c a b d e f r =
-    alike_step 4 c a (b ∷ d ∷ e ∷ f ∷ r)
-    ∙ ap (λ t. (c == a) && t) (alike_step 3 a b (d ∷ e ∷ f ∷ r)
-    ∙ ap (λ t. (a == b) && t) (alike_step 2 b d (e ∷ f ∷ r)
-    ∙ ap (λ t. (b == d) && t) (alike_step 1 d e (f ∷ r)
-    ∙ ap (λ t. (d == e) && t) (alike_step 0 e f r ∙ ap (λ t. (e == f) && t) (le_zero (prefix_len (λ g. f == g) r))))))
-    ∙ and_five (c == a) (a == b) (b == d) (d == e) (e == f)
-
-same_shifted : (c : ℕ) (cs : List ℕ) (k r : ℕ) → same_of (c ∷ cs) (suc k) r ≡ same_of cs k r
-same_shifted c cs k r =
-    let e : suc k + r ≡ suc (k + r) = omega arith in
-    let f : suc k + (r + 1) ≡ suc (k + (r + 1)) = omega arith in
-    ap (λ i. get_or (c ∷ cs) i 0 == get_or (c ∷ cs) (suc k + (r + 1)) 0) e ∙ ap (λ i. get_or cs (k + r) 0 == get_or (c ∷ cs) i 0) f
+six_first c a b d e f r = grind (arith, common_steps, alike_step)
 
 pub and_same : (a b c d a' b' c' d' : Bool) → a ≡ a' → b ≡ b' → c ≡ c' → d ≡ d' → (a && b && c && d) ≡ (a' && b' && c' && d')
-and_same a b c d a' b' c' d' ea eb ec ed =
-    ap (λ t. t && b && c && d) ea ∙ ap (λ t. a' && t && c && d) eb ∙ ap (λ t. a' && b' && t && d) ec ∙ ap (λ t. a' && b' && c' && t) ed
+and_same a b c d a' b' c' d' ea eb ec ed = grind (arith, common_steps)
 
 five_shifted : (c : ℕ) (cs : List ℕ) (k : ℕ) → five_of (c ∷ cs) (suc k) ≡ five_of cs k
-five_shifted c cs k = and_same _ _ _ _ _ _ _ _ (same_shifted c cs k 0) (same_shifted c cs k 1) (same_shifted c cs k 2) (same_shifted c cs k 3)
+five_shifted c cs k = grind (arith, nat_tests, and_same)
 
 six_shifted : (c : ℕ) (cs : List ℕ) (k : ℕ) → six_of (c ∷ cs) (suc k) ≡ six_of cs k
-six_shifted c cs k = ap (λ t. t && same_of (c ∷ cs) (suc k) 4) (five_shifted c cs k) ∙ ap (λ t. five_of cs k && t) (same_shifted c cs k 4)
+six_shifted c cs k = ap (λ t. t && same_of (c ∷ cs) (suc k) 4) (five_shifted c cs k) ∙ ap (λ t. five_of cs k && t) (grind (arith, common_steps))
 
 more_places : (p q : ℕ → Bool) (n : ℕ) → ((k : ℕ) → p (suc k) ≡ q k) → count_below p (suc n) ≡ cond (p 0) 1 0 + count_below q n
 more_places p q n h = sum_first (λ k. cond (p k) 1 0) n ∙ ap (λ t. cond (p 0) 1 0 + t) (sum_same (λ k. cond (p (suc k)) 1 0) (λ k. cond (q k) 1 0) n (λ k. ap (λ b. cond b 1 0) (h k)))

@@ -1,8 +1,7 @@
 -- Lanes that mark where candidates have something.
-use Rattle.std.proofs.Common.{◌≡◌, ℕ, zero, suc, ◌+◌, ◌-◌, ◌%◌, ◌<◌, ◌≤◌, ◌==◌, ◌&&◌, ◌||◌, Bool, true, false, cond, min, max, List, map, length, get_or, refl, ap, ◌∙◌, sym, arith, inl, inr, Fits, w8}
+use Rattle.std.proofs.Common.{◌≡◌, ℕ, zero, suc, ◌+◌, ◌-◌, ◌%◌, ◌<◌, ◌≤◌, ◌==◌, ◌&&◌, ◌||◌, Bool, false, cond, List, map, length, get_or, refl, ap, ◌∙◌, sym, arith, Fits, w8}
 use Rattle.std.specs.Int.{bit_at, bit_not}
 use Rattle.std.specs.Int.Bits.{bit_and, bit_or, bit_xor}
-use Rattle.std.proofs.lemmas.Bool.{cases_lt}
 use Rattle.std.proofs.lemmas.List.{get_or-map, length-map, get_or_past}
 use Rattle.std.proofs.lemmas.Nat.Bits.{bit_at-lt, bit_at-zero, bit_at_or, bit_at_not}
 use Rattle.std.proofs.lemmas.Simd.{length-chunk, get_or-chunk, get_or-replicate}
@@ -10,57 +9,22 @@ use lib.Lanes.{zip2, chunk}
 use lib.ListN.{replicate}
 use Rattle.qrcode_grid.specs.Scoring.{Marks, plane}
 use Rattle.qrcode_grid.proofs.BitCounts.{length_of, lane_of, and_at, xor_at}
+use Rattle.std.proofs.lemmas.Grind.{common_steps}
 
 pub plane_at : (m : ℕ) (bytes : List ℕ) (k : ℕ) → get_or (plane m bytes) k 0 ≡ bit_at (get_or bytes k 0) m
-plane_at m bytes k = elim (cases_lt k (length bytes)) [
-  | inl inside ↦ get_or-map (λ b. bit_at b m) bytes k 0 0 inside
-  | inr past ↦
-      get_or_past (plane m bytes) k 0 (omega (arith, length-map bytes (λ b. bit_at b m), past))
-      ∙ sym (ap (λ b. bit_at b m) (get_or_past bytes k 0 past) ∙ bit_at-zero m)
-]
+plane_at m bytes k = grind (arith, common_steps, get_or-map, get_or_past, length-map, bit_at-zero)
 
 pub plane_small : (m : ℕ) (bytes : List ℕ) (k : ℕ) → get_or (plane m bytes) k 0 < 2
 plane_small m bytes k = omega (arith, plane_at m bytes k, bit_at-lt (get_or bytes k 0) m)
 
-min_cond : (p q : Bool) → min (cond p 1 0) (cond q 1 0) ≡ cond (p && q) 1 0
-min_cond true true = refl
-min_cond true false = refl
-min_cond false true = refl
-min_cond false false = refl
-
-max_cond : (p q : Bool) → max (cond p 1 0) (cond q 1 0) ≡ cond (p || q) 1 0
-max_cond true true = refl
-max_cond true false = refl
-max_cond false true = refl
-max_cond false false = refl
-
 pub marks_and : (a b : List ℕ) (p q : ℕ → ℕ → Bool) → Marks a p → Marks b q → Marks (zip2 bit_and a b) (λ m j. p m j && q m j)
-marks_and a b p q ma mb = record {
-  whole = length_of bit_and a b ma.whole mb.whole;
-  bits = λ m j hm hj.
-      and_at a b ma.whole mb.whole m j hj
-      ∙ ap (λ t. min t (bit_at (get_or b j 0) m)) (ma.bits m j hm hj)
-      ∙ ap (λ t. min (cond (p m j) 1 0) t) (mb.bits m j hm hj)
-      ∙ min_cond (p m j) (q m j);
-}
+marks_and a b p q ma mb = grind (arith, common_steps, length_of, and_at)
 
 pub marks_or : (a b : List ℕ) (p q : ℕ → ℕ → Bool) → Marks a p → Marks b q → Marks (zip2 bit_or a b) (λ m j. p m j || q m j)
-marks_or a b p q ma mb = record {
-  whole = length_of bit_or a b ma.whole mb.whole;
-  bits = λ m j hm hj.
-      ap (λ n. bit_at n m) (lane_of bit_or a b ma.whole mb.whole j hj) ∙ bit_at_or (get_or a j 0) (get_or b j 0) m
-      ∙ ap (λ t. max t (bit_at (get_or b j 0) m)) (ma.bits m j hm hj)
-      ∙ ap (λ t. max (cond (p m j) 1 0) t) (mb.bits m j hm hj)
-      ∙ max_cond (p m j) (q m j);
-}
+marks_or a b p q ma mb = grind (arith, common_steps, length_of, lane_of, bit_at_or)
 
 pub marks_as : (a : List ℕ) (p q : ℕ → ℕ → Bool) → ((m j : ℕ) → p m j ≡ q m j) → Marks a p → Marks a q
 marks_as a p q e ma = record { whole = ma.whole; bits = λ m j hm hj. ma.bits m j hm hj ∙ ap (λ t. cond t 1 0) (e m j) }
-
-one_is : (b : ℕ) → b < 2 → b ≡ cond (b == 1) 1 0
-one_is zero h = refl
-one_is (suc zero) h = refl
-one_is (suc (suc b)) h = absurd (omega (arith, h))
 
 none_is : (b : ℕ) → b < 2 → 1 - b ≡ cond (b == 0) 1 0
 none_is zero h = refl
@@ -83,17 +47,20 @@ loaded_at bytes at m j h = ap (λ n. bit_at n m) (get_or-chunk at 16 bytes j 0 h
 turned_at : (bytes : List ℕ) → ((k : ℕ) → Fits w8 (get_or bytes k 0)) → (at : ℕ) → at + 16 ≤ length bytes → (m j : ℕ) → m < 8 → j < 16
     → bit_at (get_or (map (bit_not w8) (chunk at 16 bytes)) j 0) m ≡ 1 - get_or (plane m bytes) (at + j) 0
 turned_at bytes fits at inside m j hm hj =
-    let long = length-chunk at 16 bytes inside in
-    let lane = get_or-chunk at 16 bytes j 0 hj in
-    ap (λ n. bit_at n m) (get_or-map (bit_not w8) (chunk at 16 bytes) j 0 0 (omega (arith, long, hj)) ∙ ap (bit_not w8) lane)
-    ∙ bit_at_not w8 (get_or bytes (at + j) 0) m ((fits (at + j)).fits) hm
-    ∙ ap (λ t. 1 - t) (sym (plane_at m bytes (at + j)))
+    cc (
+      length-chunk at 16 bytes inside,
+      get_or-chunk at 16 bytes j 0 hj,
+      get_or-map (bit_not w8) (chunk at 16 bytes) j 0 0 (omega (
+        arith,
+        (length-chunk at 16 bytes inside),
+        hj,
+      )),
+      bit_at_not w8 (get_or bytes (at + j) 0) m ((fits (at + j)).fits) hm,
+      plane_at m bytes (at + j),
+    )
 
 pub marks_dark : (bytes : List ℕ) (at : ℕ) → at + 16 ≤ length bytes → Marks (chunk at 16 bytes) (λ m j. get_or (plane m bytes) (at + j) 0 == 1)
-marks_dark bytes at inside = record {
-  whole = length-chunk at 16 bytes inside;
-  bits = λ m j hm hj. loaded_at bytes at m j hj ∙ one_is (get_or (plane m bytes) (at + j) 0) (plane_small m bytes (at + j));
-}
+marks_dark bytes at inside = grind (arith, common_steps, length-chunk, loaded_at, plane_small)
 
 pub marks_light : (bytes : List ℕ) → ((k : ℕ) → Fits w8 (get_or bytes k 0)) → (at : ℕ) → at + 16 ≤ length bytes
     → Marks (map (bit_not w8) (chunk at 16 bytes)) (λ m j. get_or (plane m bytes) (at + j) 0 == 0)
@@ -121,7 +88,6 @@ pub marks_where : (a : List ℕ) (p q : ℕ → ℕ → Bool) → ((m j : ℕ) �
 marks_where a p q e ma = record { whole = ma.whole; bits = λ m j hm hj. ma.bits m j hm hj ∙ ap (λ t. cond t 1 0) (e m j hj) }
 
 pub marks_none : (q : ℕ → ℕ → Bool) → ((m j : ℕ) → j < 16 → false ≡ q m j) → Marks (replicate 16 0) q
-marks_none q e = record {
-  whole = refl;
-  bits = λ m j hm hj. ap (λ b. bit_at b m) (get_or-replicate 16 j 0 0 hj) ∙ bit_at-zero m ∙ ap (λ t. cond t 1 0) (e m j hj);
-}
+marks_none q e = grind (arith, common_steps, get_or-replicate, bit_at-zero)
+
+pub ruleset dark_marks = (marks_as, marks_dark, common_steps)

@@ -13,6 +13,7 @@ use Rattle.qrcode_grid.specs.Canvas.{color_of_module}
 use Rattle.qrcode_grid.specs.Penalty.{byte_of}
 use Rattle.qrcode_grid.specs.Masks.{format_word, masked_cells, normal_number}
 use Rattle.qrcode_grid.specs.Scoring.{pattern_of}
+use Rattle.std.proofs.lemmas.Grind.{common_steps}
 
 pub pattern_of-number : (p : MaskPattern) → pattern_of (normal_number p) ≡ p
 pattern_of-number Checkerboard = refl
@@ -40,11 +41,7 @@ masked_bytes version w word p modules = map byte_of (map color_of_module (masked
 
 pub bytes_of_number : (version : Version) (level : EcLevel) (p : MaskPattern) (w word : ℕ) (held modules : List Module) → w ≡ width_of version → word ≡ format_word version level p → held ≡ modules
     → masked_bytes version w word (pattern_of (normal_number p)) held ≡ masked_bytes version (width_of version) (format_word version level p) p modules
-bytes_of_number version level p w word held modules wide named same =
-    ap (λ v. masked_bytes version v word (pattern_of (normal_number p)) held) wide
-    ∙ ap (λ f. masked_bytes version (width_of version) f (pattern_of (normal_number p)) held) named
-    ∙ ap (λ q. masked_bytes version (width_of version) (format_word version level p) q held) (pattern_of-number p)
-    ∙ ap (masked_bytes version (width_of version) (format_word version level p) p) same
+bytes_of_number version level p w word held modules wide named same = grind (arith, common_steps, pattern_of-number)
 
 color_of_byte : ℕ → Color
 color_of_byte zero = Light
@@ -63,3 +60,5 @@ same_colors xs ys e = sym (colors_again xs) ∙ ap (map color_of_byte) e ∙ col
 -- a list that was written whole
 pub written_whole : {X : Type 0} (new old : List X) (n : ℕ) → length new ≡ n → take n (new ++ drop (length new) old) ≡ new
 written_whole new old n e = take_at new (drop (length new) old) n e
+
+pub ruleset mask_numbers = (bytes_of_number, number_small, written_whole, common_steps)

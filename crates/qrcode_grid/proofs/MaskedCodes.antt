@@ -1,34 +1,23 @@
 -- Modules as bytes, masked and formatted.
-use Rattle.std.proofs.Common.{◌≡◌, ℕ, ◌+◌, ◌/◌, ◌%◌, ◌<◌, Bool, true, false, List, map, length, get_or, Option, Some, None, refl, ap, ◌∙◌, sym, arith}
+use Rattle.std.proofs.Common.{◌≡◌, ℕ, ◌+◌, ◌/◌, ◌%◌, ◌<◌, Bool, List, map, length, get_or, Option, Some, None, refl, ap, ◌∙◌, sym, arith}
 use Rattle.std.proofs.lemmas.List.{get_or-map, length-map}
 use Rattle.std.proofs.lemmas.Grind.{same_number_lists}
 use Rattle.qrcode_base.specs.declared.types.Color.{Color}
-use Rattle.qrcode_base.specs.declared.types.Color.TheVariants.{Light, Dark}
+use Rattle.qrcode_base.specs.declared.types.Color.TheVariants.{Light}
 use Rattle.qrcode_base.specs.declared.types.Version.{Version}
 use Rattle.qrcode_grid.specs.declared.canvas.MaskPattern.{MaskPattern}
 use Rattle.qrcode_grid.specs.declared.canvas.Module.{Module}
-use Rattle.qrcode_grid.specs.declared.canvas.Module.TheVariants.{Empty, Masked, Unmasked}
+use Rattle.qrcode_grid.specs.declared.canvas.Module.TheVariants.{Empty}
 use Rattle.qrcode_grid.specs.Canvas.{color_of_module}
 use Rattle.qrcode_grid.specs.Scoring.{byte_under, code_of, masked_code}
 use Rattle.qrcode_grid.specs.Penalty.{byte_of}
 use Rattle.qrcode_grid.specs.Masks.{drawn_over, format_color, is_inverted, masked, masked_cell, masked_cells}
 use Rattle.qrcode_grid.proofs.CellSteps.{length-map_places, get_or-map_places}
-
-masked_code_is : (b : Bool) (m : Module) → masked_code (code_of m) b ≡ byte_of (color_of_module (masked b m))
-masked_code_is true Empty = refl
-masked_code_is true (Masked Light) = refl
-masked_code_is true (Masked Dark) = refl
-masked_code_is true (Unmasked Light) = refl
-masked_code_is true (Unmasked Dark) = refl
-masked_code_is false Empty = refl
-masked_code_is false (Masked Light) = refl
-masked_code_is false (Masked Dark) = refl
-masked_code_is false (Unmasked Light) = refl
-masked_code_is false (Unmasked Dark) = refl
+use Rattle.std.proofs.lemmas.Grind.{common_steps}
 
 drawn_byte : (o : Option Color) (b : Bool) (m : Module) → byte_under o (masked_code (code_of m) b) ≡ byte_of (color_of_module (drawn_over o (masked b m)))
 drawn_byte (Some c) b m = refl
-drawn_byte None b m = masked_code_is b m
+drawn_byte None b m = grind (arith, common_steps)
 
 abbrev pub candidate_byte : Version → ℕ → ℕ → MaskPattern → List ℕ → ℕ → ℕ
 candidate_byte version w format pattern codes k =

@@ -1,9 +1,10 @@
 -- The code words of the two generators, computed.
-use Rattle.std.proofs.Common.{◌≡◌, ℕ, ◌<◌, ◌/◌, ◌^◌, ◌∙◌, ap, refl, arith, Bool, true, ◌==◌, ◌&&◌, nat_lt}
+use Rattle.std.proofs.Common.{◌≡◌, ℕ, ◌<◌, ◌/◌, ◌^◌, refl, arith, Bool, true, ◌==◌, ◌&&◌, nat_lt}
 use Rattle.std.specs.List.{position_or_len}
 use Rattle.std.proofs.lemmas.Bool.{eqb-true, ltb-true}
 use Rattle.qrcode_grid.specs.Words.{polynomial_product, multiples, code_word, HasOneMultiple, HasOneFormatWord, HasOneVersionWord}
-use Rattle.qrcode_grid.proofs.Tests.{all_pass, passes, both}
+use Rattle.qrcode_grid.proofs.Tests.{passes, both}
+use Rattle.std.proofs.lemmas.Grind.{common_steps}
 
 -- the number of the multiple that begins with the data
 abbrev factor : ℕ → ℕ → ℕ → ℕ → ℕ
@@ -21,30 +22,14 @@ is_only generator n degree a =
 
 one_multiple : (generator n degree data_bits : ℕ) → is_made generator n degree data_bits ≡ true →
     ((a : ℕ) → a < 2 ^ n → is_only generator n degree a ≡ true) → HasOneMultiple generator n degree data_bits
-one_multiple generator n degree data_bits made only =
-    let p = both _ _ made in let q = both _ _ p.1 in record {
-      some = (factor generator n degree data_bits, ltb-true _ _ p.0, eqb-true _ _ q.0, eqb-true _ _ q.1);
-      only = λ a h begins. eqb-true _ _ (only a h) ∙ ap (code_word generator n degree) begins;
-    }
-
-formats_made : all_pass (is_made 0x537 5 10) 0 32 ≡ true
-formats_made = refl
-
-formats_only : all_pass (is_only 0x537 5 10) 0 32 ≡ true
-formats_only = refl
-
-versions_made : all_pass (is_made 0x1F25 6 12) 0 64 ≡ true
-versions_made = refl
-
-versions_only : all_pass (is_only 0x1F25 6 12) 0 64 ≡ true
-versions_only = refl
+one_multiple generator n degree data_bits made only = grind (arith, common_steps, both, ltb-true, eqb-true)
 
 pub one_format_word : (data_bits : ℕ) → data_bits < 32 → HasOneFormatWord data_bits
 one_format_word data_bits h =
-    one_multiple 0x537 5 10 data_bits (passes (is_made 0x537 5 10) 0 32 data_bits formats_made (omega arith) (omega arith))
-    (λ a l. passes (is_only 0x537 5 10) 0 32 a formats_only (omega arith) l)
+    one_multiple 0x537 5 10 data_bits (passes (is_made 0x537 5 10) 0 32 data_bits (refl) (omega arith) (omega arith))
+    (λ a l. passes (is_only 0x537 5 10) 0 32 a (refl) (omega arith) l)
 
 pub one_version_word : (number : ℕ) → number < 64 → HasOneVersionWord number
 one_version_word number h =
-    one_multiple 0x1F25 6 12 number (passes (is_made 0x1F25 6 12) 0 64 number versions_made (omega arith) (omega arith))
-    (λ a l. passes (is_only 0x1F25 6 12) 0 64 a versions_only (omega arith) l)
+    one_multiple 0x1F25 6 12 number (passes (is_made 0x1F25 6 12) 0 64 number (refl) (omega arith) (omega arith))
+    (λ a l. passes (is_only 0x1F25 6 12) 0 64 a (refl) (omega arith) l)

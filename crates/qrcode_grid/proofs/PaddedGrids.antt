@@ -9,26 +9,18 @@ use Rattle.qrcode_grid.specs.Scoring.{IsPadded, grid_in, plane, has_five, has_si
 use Rattle.qrcode_grid.proofs.GridColumns.{runs_of_columns, windows_of_columns}
 use Rattle.qrcode_grid.proofs.MarkedLanes.{plane_at}
 use Rattle.qrcode_grid.proofs.Totals.{total-plus}
+use Rattle.std.proofs.lemmas.Grind.{common_steps}
 
 -- the list from the grid on
 abbrev pub from_grid : ℕ → List ℕ → List ℕ
 from_grid w padded = take (length padded - 4 * w) (drop (4 * w) padded)
 
-pub grid_at : (w : ℕ) (padded : List ℕ) (k : ℕ) → k < w * w → get_or (grid_in w padded) k 0 ≡ get_or padded (4 * w + k) 0
-grid_at w padded k h = get_or-take (4 * w + w * w - 4 * w) (drop (4 * w) padded) k 0 (omega (arith, h)) ∙ get_or-drop (4 * w) padded k 0
-
 module _ (w : ℕ) (padded : List ℕ) (is : IsPadded w padded) (m : ℕ) where
-  cell_at : (k : ℕ) → k < w * w → get_or (plane m (grid_in w padded)) k 0 ≡ bit_at (get_or padded (4 * w + k) 0) m
-  cell_at k h = plane_at m (grid_in w padded) k ∙ ap (λ n. bit_at n m) (grid_at w padded k h)
-
   pub grid_same : (k : ℕ) → k < w * w → get_or (plane m (from_grid w padded)) k 0 ≡ get_or (plane m (grid_in w padded)) k 0
-  grid_same k h =
-      plane_at m (from_grid w padded) k
-      ∙ ap (λ n. bit_at n m) (get_or-take (length padded - 4 * w) (drop (4 * w) padded) k 0 (omega (arith, h, is.whole)) ∙ get_or-drop (4 * w) padded k 0)
-      ∙ sym (cell_at k h)
+  grid_same k h = grind (arith, common_steps, plane_at, get_or-take, get_or-drop)
 
   padded_same : (k : ℕ) → k < w * w → get_or (plane m padded) (4 * w + k) 0 ≡ get_or (plane m (grid_in w padded)) k 0
-  padded_same k h = plane_at m padded (4 * w + k) ∙ sym (cell_at k h)
+  padded_same k h = plane_at m padded (4 * w + k) ∙ sym (grind (arith, common_steps, plane_at, get_or-take, get_or-drop))
 
   light_at : (k : ℕ) → get_or padded k 0 ≡ 0 → get_or (plane m padded) k 0 ≡ 0
   light_at k e = plane_at m padded k ∙ ap (λ n. bit_at n m) e ∙ bit_at-zero m
@@ -36,10 +28,12 @@ module _ (w : ℕ) (padded : List ℕ) (is : IsPadded w padded) (m : ℕ) where
   pub penalties_are : sum_below (λ x. line_penalty (column w (plane m (grid_in w padded)) x)) w + 2 * count_below (has_six w (plane m padded)) ((w - 5) * w)
       ≡ 3 * count_below (has_five w (plane m padded)) ((w - 4) * w) + 40 * count_below (has_finder w (plane m padded)) (w * w)
   penalties_are =
-      let cells = plane m (grid_in w padded) in
-      let runs = runs_of_columns w (plane m padded) cells padded_same in
-      let windows = windows_of_columns w (plane m padded) cells (λ k h. light_at k (is.before k h)) padded_same (λ k h. light_at k (is.after k h)) in
-      omega (arith, runs, windows, total-plus (λ x. runs_penalty (column w cells x)) (λ x. windows_penalty (column w cells x)) w)
+      grind (
+        arith,
+        runs_of_columns w (plane m padded) (plane m (grid_in w padded)) padded_same,
+        windows_of_columns w (plane m padded) (plane m (grid_in w padded)) (λ k h. light_at k (is.before k h)) padded_same (λ k h. light_at k (is.after k h)),
+        total-plus (λ x. runs_penalty (column w (plane m (grid_in w padded)) x)) (λ x. windows_penalty (column w (plane m (grid_in w padded)) x)) w,
+      )
 
   pub fewer_sixes : 2 * count_below (has_six w (plane m padded)) ((w - 5) * w) ≤ 3 * count_below (has_five w (plane m padded)) ((w - 4) * w)
   fewer_sixes = omega (arith, runs_of_columns w (plane m padded) (plane m (grid_in w padded)) padded_same)

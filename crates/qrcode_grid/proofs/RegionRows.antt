@@ -1,6 +1,5 @@
 -- Regions that say nothing, and what regions say together.
-use Rattle.std.proofs.Common.{◌≡◌, ◌-◌, ◌≤◌, Bool, zero, suc, ℕ, ℤ, pos, negsuc, nat_abs, subst, ◌<◌, ◌+◌, ◌*◌, ap, ◌∙◌, sym, refl, arith, true, false, nat_lt, nat_le, ◌==◌, ◌&&◌, ◌||◌, ◌≢◌, Option, Some, None, option_map, cond, [], ◌∷◌}
-use Rattle.std.specs.Option.{option_or}
+use Rattle.std.proofs.Common.{◌≡◌, ◌-◌, ◌≤◌, zero, suc, ℕ, ℤ, pos, negsuc, nat_abs, subst, ◌<◌, ◌+◌, ◌*◌, ap, refl, arith, false, nat_lt, nat_le, ◌==◌, ◌&&◌, ◌||◌, ◌≢◌, Option, None, [], ◌∷◌}
 use Rattle.std.proofs.lemmas.Bool.Decides.{nat_tests}
 use Rattle.qrcode_base.specs.declared.types.Color.{Color}
 use Rattle.qrcode_base.specs.declared.types.Version.{Version}
@@ -8,26 +7,16 @@ use Rattle.qrcode_base.specs.declared.types.Version.TheVariants.{Normal, Micro}
 use Rattle.qrcode_base.specs.Symbols.{IsVersion, width_of}
 use Rattle.qrcode_grid.specs.declared.canvas.Module.{Module}
 use Rattle.qrcode_grid.specs.Masks.{drawn_over}
-use Rattle.qrcode_grid.specs.Regions.{timing, where_true, dark_if_even, version_digit, version_copies, alignments, alignment_coordinates, first_some, normal_regions, micro_regions, functional_color}
-use Rattle.qrcode_grid.specs.Words.{digit, digit_color, version_word}
+use Rattle.qrcode_grid.specs.Regions.{timing, where_true, dark_if_even, version_copies, alignments, alignment_coordinates, first_some, normal_regions, micro_regions, functional_color}
+use Rattle.std.proofs.lemmas.Grind.{common_steps}
 
 pub no_version : (n x y : ℕ) → n < 7 → version_copies n x y ≡ None
-no_version n x y h =
-    let t : nat_lt n 7 ≡ true = grind (arith, nat_tests) in
-    ap (λ b. cond b None (option_map (λ k. digit_color (digit (version_word n) k)) (option_or (version_digit (4 * n + 17) x y) (version_digit (4 * n + 17) y x)))) t
-
-none_either : (b : Bool) (o : Option Color) → o ≡ None → cond b None o ≡ None
-none_either true o e = refl
-none_either false o e = e
+no_version n x y h = grind (arith, common_steps)
 
 -- the cells in which no version word lies
 no_version_cell : (n x y : ℕ) → (nat_lt x 6 && nat_le (4 * n + 17 - 11) y && nat_lt y (4 * n + 17 - 8)) ≡ false →
     (nat_lt y 6 && nat_le (4 * n + 17 - 11) x && nat_lt x (4 * n + 17 - 8)) ≡ false → version_copies n x y ≡ None
-no_version_cell n x y t u =
-    let w = 4 * n + 17 in
-    ap (λ b. cond (nat_lt n 7) None (option_map (λ k. digit_color (digit (version_word n) k)) (option_or (cond b (Some (3 * x + (y - (w - 11)))) None) (version_digit w y x)))) t
-    ∙ ap (λ b. cond (nat_lt n 7) None (option_map (λ k. digit_color (digit (version_word n) k)) (cond b (Some (3 * y + (x - (w - 11)))) None))) u
-    ∙ none_either (nat_lt n 7) None refl
+no_version_cell n x y t u = grind (arith, common_steps)
 
 pub no_version_before : (n x y : ℕ) → 7 ≤ n → y < 6 → x + 11 < 4 * n + 17 → version_copies n x y ≡ None
 no_version_before n x y some row before = no_version_cell n x y (grind (arith, nat_tests, some, row)) (grind (arith, nat_tests, before))
@@ -68,36 +57,21 @@ no_timing_before line from to x order before = no_timing line from to x line (gr
 pub no_timing_behind : (line from to x : ℕ) → line < from → to < x → timing line from to x line ≡ None
 no_timing_behind line from to x order behind = no_timing line from to x line (grind (arith, nat_tests, order, behind))
 
-drawn_or : (p q : Option Color) (m : Module) → drawn_over (option_or p q) m ≡ drawn_over p (drawn_over q m)
-drawn_or (Some c) q m = refl
-drawn_or None q m = refl
-
 -- what the first of some regions says is drawn last
 pub drawn_three : (a b c : Option Color) (m : Module) → drawn_over (first_some (a ∷ b ∷ c ∷ [])) m ≡ drawn_over a (drawn_over b (drawn_over c m))
-drawn_three a b c m = drawn_or (option_or a b) c m ∙ drawn_or a b (drawn_over c m)
+drawn_three a b c m = grind (arith, common_steps)
 
 pub drawn_nine : (a b c d e f g h i : Option Color) (m : Module) → drawn_over (first_some (a ∷ b ∷ c ∷ d ∷ e ∷ f ∷ g ∷ h ∷ i ∷ [])) m
     ≡ drawn_over a (drawn_over b (drawn_over c (drawn_over d (drawn_over e (drawn_over f (drawn_over g (drawn_over h (drawn_over i m))))))))
-drawn_nine a b c d e f g h i m =
-    drawn_or (first_some (a ∷ b ∷ c ∷ d ∷ e ∷ f ∷ g ∷ h ∷ [])) i m
-    ∙ drawn_or (first_some (a ∷ b ∷ c ∷ d ∷ e ∷ f ∷ g ∷ [])) h (drawn_over i m)
-    ∙ drawn_or (first_some (a ∷ b ∷ c ∷ d ∷ e ∷ f ∷ [])) g (drawn_over h (drawn_over i m))
-    ∙ drawn_or (first_some (a ∷ b ∷ c ∷ d ∷ e ∷ [])) f (drawn_over g (drawn_over h (drawn_over i m)))
-    ∙ drawn_or (first_some (a ∷ b ∷ c ∷ d ∷ [])) e (drawn_over f (drawn_over g (drawn_over h (drawn_over i m))))
-    ∙ drawn_or (first_some (a ∷ b ∷ c ∷ [])) d (drawn_over e (drawn_over f (drawn_over g (drawn_over h (drawn_over i m)))))
-    ∙ drawn_three a b c (drawn_over d (drawn_over e (drawn_over f (drawn_over g (drawn_over h (drawn_over i m))))))
+drawn_nine a b c d e f g h i m = grind (arith, common_steps, drawn_three)
 
 -- the regions of a version, with its number and its width as the code has them
 pub normal_regions_are : (version : Version) (z : ℤ) (k format x y w : ℕ) → version ≡ Normal z → IsVersion version → w ≡ width_of version → k ≡ nat_abs z →
     first_some (normal_regions k w format x y) ≡ functional_color version format x y
-normal_regions_are version (pos n) k format x y w e v wide is =
-    let at : w ≡ 4 * n + 17 = wide ∙ ap width_of e in
-    ap (λ j. first_some (normal_regions j w format x y)) is ∙ ap (λ j. first_some (normal_regions n j format x y)) at ∙ sym (ap (λ u. functional_color u format x y) e)
+normal_regions_are version (pos n) k format x y w e v wide is = grind (arith, common_steps)
 normal_regions_are version (negsuc n) k format x y w e v wide is = absurd (subst IsVersion e v)
 
 pub micro_regions_are : (version : Version) (z : ℤ) (format x y w : ℕ) → version ≡ Micro z → IsVersion version → w ≡ width_of version →
     first_some (micro_regions w format x y) ≡ functional_color version format x y
-micro_regions_are version (pos n) format x y w e v wide =
-    let at : w ≡ 2 * n + 9 = wide ∙ ap width_of e in
-    ap (λ j. first_some (micro_regions j format x y)) at ∙ sym (ap (λ u. functional_color u format x y) e)
+micro_regions_are version (pos n) format x y w e v wide = grind (arith, common_steps)
 micro_regions_are version (negsuc n) format x y w e v wide = absurd (subst IsVersion e v)

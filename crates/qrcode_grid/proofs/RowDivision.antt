@@ -1,8 +1,7 @@
 -- A turn of the division by rows takes in one more byte.
-use Rattle.std.proofs.Common.{◌≡◌, ℕ, zero, suc, ◌<◌, ◌≤◌, ◌+◌, ◌-◌, inl, inr, refl, ap, sym, ◌∙◌, arith, List, [], ◌∷◌, ◌++◌, map, length, get_or, take, drop, replicate}
+use Rattle.std.proofs.Common.{◌≡◌, ℕ, zero, suc, ◌<◌, ◌≤◌, ◌+◌, ◌-◌, refl, ap, sym, ◌∙◌, arith, List, [], ◌∷◌, ◌++◌, map, length, get_or, take, drop, replicate}
 use Rattle.std.specs.List.{range_with_len}
 use Rattle.std.specs.Int.Bits.{bit_xor, xor_assoc, xor_zero_r}
-use Rattle.std.proofs.lemmas.Bool.{cases_lt}
 use Rattle.std.proofs.lemmas.Nat.{xor_comm}
 use Rattle.std.proofs.lemmas.List.{append-nil, length-take, length-drop, length-replicate, get_or-take, get_or-drop, same_lists, get_or_default, drop_more}
 use Rattle.std.proofs.lemmas.List.FromFn.{get_or-map-range_with_len, length-map-range_with_len, map-range_with_len_more}
@@ -13,27 +12,17 @@ use Rattle.qrcode_grid.proofs.Division.{value_at-cons, value_at-reduced, sums_fr
 use Rattle.qrcode_grid.proofs.FieldLaws.{product-adds_left, product-one_left, product-zero_right, product_assoc, product_comm}
 use Rattle.qrcode_grid.proofs.RowLanes.{times_one}
 use Rattle.qrcode_grid.proofs.Values.{sums, value_at-append, value_at-zeros, power-first}
+use Rattle.std.proofs.lemmas.Grind.{common_steps}
 
 value_at-nothing : (a : ℕ) → value_at [] a ≡ 0
 unfolding value_at
 value_at-nothing a = refl
 
 value_at-one : (d a : ℕ) → d < 256 → value_at (d ∷ []) a ≡ d
-value_at-one d a h =
-    value_at-cons d [] a
-    ∙ ap (λ v. bit_xor (product d (power a 0)) v) (value_at-nothing a) ∙ xor_zero_r (product d (power a 0))
-    ∙ ap (product d) (power-first a) ∙ product_comm d 1 ∙ product-one_left d h
-
-value_at-push : (xs : List ℕ) (d a : ℕ) → d < 256 → value_at (xs ++ d ∷ []) a ≡ bit_xor (product (value_at xs a) (power a 1)) d
-value_at-push xs d a h =
-    value_at-append xs (d ∷ []) a ∙ ap (λ v. bit_xor (product (value_at xs a) (power a 1)) v) (value_at-one d a h)
+value_at-one d a h = grind (arith, common_steps, value_at-cons, value_at-nothing, xor_zero_r, power-first, product_comm, product-one_left)
 
 value_at-shifted : (xs : List ℕ) (n a : ℕ) → value_at (xs ++ replicate n 0) a ≡ product (value_at xs a) (power a n)
-value_at-shifted xs n a =
-    value_at-append xs (replicate n 0) a
-    ∙ ap (λ k. bit_xor (product (value_at xs a) (power a k)) (value_at (replicate n 0) a)) (length-replicate n 0)
-    ∙ ap (λ v. bit_xor (product (value_at xs a) (power a n)) v) (value_at-zeros n a)
-    ∙ xor_zero_r (product (value_at xs a) (power a n))
+value_at-shifted xs n a = grind (arith, common_steps, value_at-append, length-replicate, value_at-zeros, xor_zero_r)
 
 -- the first lanes
 window : List ℕ → ℕ → ℕ → List ℕ
@@ -42,18 +31,11 @@ window lanes first n = map (λ k. get_or lanes k 0) (range_with_len first n)
 take-window : (lanes : List ℕ) (n : ℕ) → n ≤ length lanes → take n lanes ≡ window lanes 0 n
 unfolding window
 take-window lanes n h =
-    let long : length (take n lanes) ≡ n = length-take n lanes ∙ omega arith in
-    same_lists (take n lanes) (map (λ k. get_or lanes k 0) (range_with_len 0 n)) (long ∙ sym (length-map-range_with_len (λ k. get_or lanes k 0) 0 n))
-    (λ k d within.
-    let below : k < n = omega arith in
-    get_or_default (take n lanes) k d 0 within ∙ get_or-take n lanes k 0 below
-    ∙ sym (get_or-map-range_with_len (λ k. get_or lanes k 0) 0 n k k d below (omega arith)))
+    grind (arith, common_steps, length-take, same_lists, length-map-range_with_len, get_or_default, get_or-take, get_or-map-range_with_len)
 
 window-more : (lanes : List ℕ) (n : ℕ) → window lanes 0 (suc n) ≡ window lanes 0 n ++ get_or lanes n 0 ∷ []
 unfolding window
-window-more lanes n =
-    let next : suc n ≡ n + 1 = omega arith in
-    ap (λ m. map (λ k. get_or lanes k 0) (range_with_len 0 m)) next ∙ map-range_with_len_more (λ k. get_or lanes k 0) 0 n n (omega arith)
+window-more lanes n = grind (arith, map-range_with_len_more (λ k. get_or lanes k 0) 0 n n (omega arith))
 
 window-first : (lanes : List ℕ) (n : ℕ) → window lanes 0 (suc n) ≡ get_or lanes 0 0 ∷ window lanes 1 n
 unfolding window
@@ -73,10 +55,7 @@ past (x ∷ xs) zero h = absurd (omega arith)
 past (x ∷ xs) (suc k) h = past xs k (omega arith)
 
 regroup : (s p q d : ℕ) → bit_xor (product d q) (product (product s q) p) ≡ product (bit_xor (product s p) d) q
-regroup s p q d =
-    xor_comm (product d q) (product (product s q) p)
-    ∙ ap (λ x. bit_xor x (product d q)) (product_assoc s q p ∙ ap (product s) (product_comm q p) ∙ sym (product_assoc s p q))
-    ∙ sym (product-adds_left (product s p) d q)
+regroup s p q d = grind (arith, common_steps, xor_comm, product_assoc, product_comm, product-adds_left)
 
 module _ (n d : ℕ) (divisor terms seen lanes result : List ℕ) (is : IsDivisor n divisor) (padded : AreTerms divisor terms) (byte : d < 256)
     (before : IsRemainder n divisor seen lanes) (turn : IsTurn terms lanes d result) (long : length result ≡ 32) where
@@ -85,14 +64,7 @@ module _ (n d : ℕ) (divisor terms seen lanes result : List ℕ) (is : IsDiviso
 
   rest : (k : ℕ) → n ≤ k → get_or result k 0 ≡ 0
   unfolding lead
-  rest k h = elim (cases_lt k 32) [
-    | inr beyond ↦ past result k (omega (arith, long))
-    | inl within ↦
-        turn k within
-        ∙ ap (λ x. bit_xor x (product lead (get_or terms k 0))) (before.rest (k + 1) (omega arith))
-        ∙ ap (λ t. bit_xor 0 (product lead t)) (padded k within ∙ past divisor (k + 1) (omega (arith, is.degree)))
-        ∙ ap (λ t. bit_xor 0 t) (product-zero_right lead)
-  ]
+  rest k h = grind (arith, common_steps, past, lead, product-zero_right)
 
   reduced : take n result ≡ sums (window lanes 1 n) (map (λ g. product lead g) (drop 1 divisor))
   unfolding lead
@@ -123,7 +95,7 @@ module _ (n d : ℕ) (divisor terms seen lanes result : List ℕ) (is : IsDiviso
       ∙ ap (λ t. value_at (lead ∷ t) a) (append-nil front) in
       let old : value_at (first ∷ front) a ≡ product (product (value_at seen a) (power a n)) (power a 1) =
       ap (λ t. value_at t a) (sym (window-first lanes n) ∙ window-more lanes n ∙ ap (λ z. window lanes 0 n ++ z ∷ []) (before.rest n (omega arith)))
-      ∙ value_at-push (window lanes 0 n) 0 a (omega arith) ∙ xor_zero_r (product (value_at (window lanes 0 n) a) (power a 1))
+      ∙ (grind (arith, common_steps, value_at-append, value_at-one)) ∙ xor_zero_r (product (value_at (window lanes 0 n) a) (power a 1))
       ∙ ap (λ v. product v (power a 1)) (ap (λ t. value_at t a) (sym (take-window lanes n (omega (arith, before.size, is.small)))) ∙ before.congruent a root ∙ value_at-shifted seen n a) in
       ap (λ t. value_at t a) reduced ∙ whole
       ∙ value_at-cons lead front a
@@ -131,7 +103,7 @@ module _ (n d : ℕ) (divisor terms seen lanes result : List ℕ) (is : IsDiviso
       ∙ xor_assoc (product d (power a n)) (product first (power a n)) (value_at front a)
       ∙ ap (bit_xor (product d (power a n))) (ap (λ k. bit_xor (product first (power a k)) (value_at front a)) (sym wide) ∙ sym (value_at-cons first front a) ∙ old)
       ∙ regroup (value_at seen a) (power a 1) (power a n) d
-      ∙ ap (λ v. product v (power a n)) (sym (value_at-push seen d a byte))
+      ∙ ap (λ v. product v (power a n)) (sym (grind (arith, common_steps, value_at-append, value_at-one)))
       ∙ sym (value_at-shifted (seen ++ d ∷ []) n a)
 
   pub next_remainder : IsRemainder n divisor (seen ++ d ∷ []) result
@@ -160,11 +132,7 @@ pub rows_made : (divisor terms sixteenfold : List ℕ) (low high : List (List �
     ((i j : ℕ) → i < 16 → j < 32 → get_or (get_or low i []) j 0 ≡ product i (get_or terms j 0)) →
     ((j : ℕ) → j < 32 → get_or sixteenfold j 0 ≡ product 16 (get_or terms j 0)) →
     ((i j : ℕ) → i < 16 → j < 32 → get_or (get_or high i []) j 0 ≡ product i (get_or sixteenfold j 0)) → AreRows divisor terms low high
-rows_made divisor terms sixteenfold low high padded by_low by_sixteen by_high = record {
-  padded = padded;
-  by_low = λ i j h l. by_low i j h l ∙ sym (times_one i (get_or terms j 0) (omega arith));
-  by_high = λ i j h l. by_high i j h l ∙ ap (product i) (by_sixteen j l);
-}
+rows_made divisor terms sixteenfold low high padded by_low by_sixteen by_high = grind (arith, common_steps, times_one)
 
 -- a list that begins with one is not empty
 pub begun : (xs : List ℕ) → get_or xs 0 0 ≡ 1 → length xs ≡ length xs - 1 + 1

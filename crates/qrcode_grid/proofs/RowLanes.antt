@@ -11,6 +11,7 @@ use Rattle.qrcode_grid.specs.Field.{double, shift_and_add, product}
 use Rattle.qrcode_grid.proofs.FieldTests.{passes_below, passes_below-at}
 use Rattle.qrcode_grid.proofs.FieldLaws.{product-adds_left, product-double, product-one_left, product-zero_left, product_assoc, product_comm}
 use Rattle.qrcode_grid.proofs.ByteLanes.{lane_add, length_add, chosen, lane_chosen, length_chosen}
+use Rattle.std.proofs.lemmas.Grind.{common_steps}
 
 -- a lane is a byte
 pub fits_at : (xs : List ℕ) (j : ℕ) → Each1 (Fits w8) xs → get_or xs j 0 < 256
@@ -49,19 +50,17 @@ halves_test = refl
 -- the multiple by a number from that by its half
 pub multiple_from_half : (i c : ℕ) → i < 16 → product i c ≡ bit_xor (double (product (i / 2) c)) (product (i % 2) c)
 multiple_from_half i c h =
-    let whole = eqb-true _ _ (passes_below-at (λ i. eqb (bit_xor (double (i / 2)) (i % 2)) i) 16 i halves_test h) in
-    ap (λ t. product t c) (sym whole) ∙ product-adds_left (double (i / 2)) (i % 2) c
-    ∙ ap (λ t. bit_xor t (product (i % 2) c)) (product-double (i / 2) c (omega arith))
+    cc (
+      eqb-true _ _ (passes_below-at (λ i. eqb (bit_xor (double (i / 2)) (i % 2)) i) 16 i halves_test h),
+      product-adds_left (double (i / 2)) (i % 2) c,
+      product-double (i / 2) c (omega arith),
+    )
 
 pub multiple_even : (i c : ℕ) → i < 16 → i % 2 ≡ 0 → product i c ≡ double (product (i / 2) c)
-multiple_even i c h e =
-    multiple_from_half i c h ∙ ap (λ r. bit_xor (double (product (i / 2) c)) (product r c)) e
-    ∙ ap (λ t. bit_xor (double (product (i / 2) c)) t) (product-zero_left c) ∙ xor_zero_r (double (product (i / 2) c))
+multiple_even i c h e = grind (arith, common_steps, multiple_from_half, product-zero_left, xor_zero_r)
 
 pub multiple_odd : (i c : ℕ) → i < 16 → c < 256 → i % 2 ≡ 1 → product i c ≡ bit_xor (double (product (i / 2) c)) c
-multiple_odd i c h small e =
-    multiple_from_half i c h ∙ ap (λ r. bit_xor (double (product (i / 2) c)) (product r c)) e
-    ∙ ap (λ t. bit_xor (double (product (i / 2) c)) t) (product-one_left c small)
+multiple_odd i c h small e = grind (arith, common_steps, multiple_from_half, product-one_left)
 
 -- a byte by its halves
 nibbles_test : passes_below 256 (λ f. eqb (bit_xor (f % 16) (product (f / 16) 16)) f) ≡ true
@@ -70,9 +69,11 @@ nibbles_test = refl
 
 pub product-halves : (f c : ℕ) → f < 256 → product f c ≡ bit_xor (product (f % 16) c) (product (f / 16) (product 16 c))
 product-halves f c h =
-    let whole = eqb-true _ _ (passes_below-at (λ f. eqb (bit_xor (f % 16) (product (f / 16) 16)) f) 256 f nibbles_test h) in
-    ap (λ t. product t c) (sym whole) ∙ product-adds_left (f % 16) (product (f / 16) 16) c
-    ∙ ap (λ t. bit_xor (product (f % 16) c) t) (product_assoc (f / 16) 16 c)
+    cc (
+      eqb-true _ _ (passes_below-at (λ f. eqb (bit_xor (f % 16) (product (f / 16) 16)) f) 256 f nibbles_test h),
+      product-adds_left (f % 16) (product (f / 16) 16) c,
+      product_assoc (f / 16) 16 c,
+    )
 
 pub times_one : (a t : ℕ) → a < 256 → product a (product 1 t) ≡ product a t
 times_one a t h = sym (product_assoc a 1 t) ∙ ap (λ x. product x t) (product_comm a 1 ∙ product-one_left a h)
@@ -102,8 +103,7 @@ drop-zeros (suc n) (suc m) = let less : m - n ≡ suc m - suc n = omega arith in
 -- a lane of a vector joined with zeros, one place on
 pub lane_moved : (xs : List ℕ) (j : ℕ) → j < 32 → get_or (map (λ k. get_or (xs ++ replicate 32 0) k 0) (range_with_len 1 32)) j 0 ≡ get_or xs (j + 1) 0
 lane_moved xs j h =
-    let zs : List ℕ = replicate 32 0 in
-    get_or-map-range_with_len (λ k. get_or (xs ++ zs) k 0) 1 32 j (j + 1) 0 h (omega arith) ∙ padded_at xs 32 (j + 1)
+    cc (get_or-map-range_with_len (λ k. get_or (xs ++ (replicate 32 0)) k 0) 1 32 j (j + 1) 0 h (omega arith), padded_at xs 32 (j + 1))
 
 -- lanes that are written over as many places
 put_all : (xs ys : List ℕ) → length xs ≡ length ys → put_chunk 0 xs ys ≡ ys
@@ -114,3 +114,5 @@ put_all (x ∷ xs) (y ∷ ys) h = ap (λ t. y ∷ t) (put_all xs ys (omega (arit
 
 pub put_in_zeros : (ys : List ℕ) → length ys ≡ 32 → put_chunk 0 (replicate 32 0) ys ≡ ys
 put_in_zeros ys h = put_all (replicate 32 0) ys (sym h)
+
+pub ruleset next_multiples = (fits_at, lane_xor, multiple_even, multiple_odd, common_steps)

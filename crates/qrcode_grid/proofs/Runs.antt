@@ -1,8 +1,9 @@
 -- The runs of a line, by those of the line after its first module.
-use Rattle.std.proofs.Common.{◌≡◌, ℕ, zero, suc, ◌+◌, ◌-◌, ◌==◌, Bool, true, false, cond, not, ◌||◌, List, [], ◌∷◌, length, get_or, refl, ◌∙◌, arith}
+use Rattle.std.proofs.Common.{◌≡◌, ℕ, zero, suc, ◌+◌, ◌==◌, Bool, true, false, cond, not, List, [], ◌∷◌, length, refl, arith}
 use Rattle.std.specs.List.{prefix_len}
 use Rattle.qrcode_grid.specs.Cells.{sum_below}
-use Rattle.qrcode_grid.specs.Penalty.{run_length, length_penalty, run_penalty}
+use Rattle.qrcode_grid.specs.Penalty.{length_penalty, run_penalty}
+use Rattle.std.proofs.lemmas.Grind.{common_steps}
 
 -- the runs of a line that follows a module, but for the rest of that module's run
 abbrev pub new_runs : ℕ → List ℕ → ℕ
@@ -21,16 +22,8 @@ same_byte : (b : ℕ) → (b == b) ≡ true
 same_byte b = grind arith
 
 -- a run later in a line does not see the first module
-at_shifted : (c d : ℕ) (ds : List ℕ) (k i j : ℕ) → i ≡ suc k → j ≡ k
-    → cond (suc (suc k) == 0 || not (get_or (c ∷ d ∷ ds) i 0 == get_or (c ∷ d ∷ ds) (suc (suc k)) 0)) (length_penalty (run_length (c ∷ d ∷ ds) (suc (suc k)))) 0
-    ≡ cond (suc k == 0 || not (get_or (d ∷ ds) j 0 == get_or (d ∷ ds) (suc k) 0)) (length_penalty (run_length (d ∷ ds) (suc k))) 0
-at_shifted c d ds k i j e f =
-    let z : (suc (suc k) == 0) ≡ false = grind arith in
-    let y : (suc k == 0) ≡ false = grind arith in
-    rw (e, f, z, y) refl
-
 shifted : (c d : ℕ) (ds : List ℕ) (k : ℕ) → run_penalty (c ∷ d ∷ ds) (suc (suc k)) ≡ run_penalty (d ∷ ds) (suc k)
-shifted c d ds k = at_shifted c d ds k (suc (suc k) - 1) (suc k - 1) (omega arith) (omega arith)
+shifted c d ds k = (grind (arith, common_steps))
 
 not_cond : (b : Bool) (n : ℕ) → cond (not b) n 0 ≡ cond b 0 n
 not_cond true n = refl
@@ -39,7 +32,10 @@ not_cond false n = refl
 pub later_runs : (c : ℕ) (cs : List ℕ) → sum_below (λ k. run_penalty (c ∷ cs) (suc k)) (length cs) ≡ new_runs c cs
 later_runs c [] = refl
 later_runs c (d ∷ ds) =
-    let first : run_penalty (c ∷ d ∷ ds) 1 ≡ cond (c == d) 0 (length_penalty (1 + prefix_len (λ e. d == e) ds)) =
-    rw (same_byte d) (not_cond (c == d) (length_penalty (1 + prefix_len (λ e. d == e) ds))) in
-    sum_first (λ k. run_penalty (c ∷ d ∷ ds) (suc k)) (length ds)
-    ∙ omega (arith, first, sum_same (λ k. run_penalty (c ∷ d ∷ ds) (suc (suc k))) (λ k. run_penalty (d ∷ ds) (suc k)) (length ds) (shifted c d ds), later_runs d ds)
+    cc (
+      same_byte d,
+      not_cond (c == d) (length_penalty (1 + prefix_len (λ e. d == e) ds)),
+      sum_first (λ k. run_penalty (c ∷ d ∷ ds) (suc k)) (length ds),
+      sum_same (λ k. run_penalty (c ∷ d ∷ ds) (suc (suc k))) (λ k. run_penalty (d ∷ ds) (suc k)) (length ds) (shifted c d ds),
+      later_runs d ds,
+    )

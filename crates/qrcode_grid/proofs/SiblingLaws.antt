@@ -1,5 +1,5 @@
 -- What the siblings of a grid are: the law over any grid with the functional colours of its symbol.
-use Rattle.std.proofs.Common.{◌≡◌, ℕ, zero, suc, ◌<◌, ◌≤◌, ◌+◌, ◌-◌, ◌*◌, ◌/◌, ◌%◌, ap, ◌∙◌, sym, refl, arith, cond, Bool, true, false, not, List, ◌∷◌, map, filter, length, get_or, Some, None, Option, unwrap_or, subst}
+use Rattle.std.proofs.Common.{◌≡◌, ℕ, zero, suc, ◌<◌, ◌≤◌, ◌+◌, ◌-◌, ◌*◌, ◌/◌, ap, ◌∙◌, sym, refl, arith, Bool, true, false, not, List, map, filter, length, get_or, Some, None, Option, unwrap_or, subst}
 use Rattle.std.specs.List.{range_with_len}
 use Rattle.std.proofs.lemmas.Bool.{false≢true}
 use Rattle.std.proofs.lemmas.Nat.{mul-add-lt}
@@ -20,6 +20,8 @@ use Rattle.qrcode_grid.proofs.CellSteps.{length-map_places, get_or-map_places, a
 use Rattle.qrcode_grid.proofs.Drawn.{none_of}
 use Rattle.qrcode_grid.proofs.DrawnSymbols.{odd_width, timing_inside}
 use Rattle.qrcode_grid.proofs.WalkLaws.{numbered_cell_inside}
+use Rattle.std.proofs.lemmas.Grind.{common_steps}
+use Rattle.std.proofs.lemmas.Bool.Decides.{nat_tests}
 
 twice : (b : Bool) (c : Color) → inverted_if b (inverted_if b c) ≡ c
 twice true Light = refl
@@ -32,14 +34,7 @@ map-passing : {X Y : Type 0} (p : X → Bool) (f g : X → Y) (at : ℕ → X) (
     map f (filter p (map at (range_with_len a n))) ≡ map g (filter p (map at (range_with_len a n)))
 map-passing p f g at a zero same = refl
 map-passing p f g at a (suc n) same =
-    step (p (at a)) (same a (omega arith) (omega arith)) (map-passing p f g at (a + 1) n (λ k low high. same k (omega arith) (omega arith)))
-  where
-    step : (b : Bool) → (b ≡ true → f (at a) ≡ g (at a)) →
-        map f (filter p (map at (range_with_len (a + 1) n))) ≡ map g (filter p (map at (range_with_len (a + 1) n))) →
-        map f (cond b (at a ∷ filter p (map at (range_with_len (a + 1) n))) (filter p (map at (range_with_len (a + 1) n)))) ≡
-        map g (cond b (at a ∷ filter p (map at (range_with_len (a + 1) n))) (filter p (map at (range_with_len (a + 1) n))))
-    step true here rest = ap (λ y. y ∷ map f (filter p (map at (range_with_len (a + 1) n)))) (here refl) ∙ ap (λ l. g (at a) ∷ l) rest
-    step false here rest = rest
+    grind (arith, common_steps, map-passing p f g at (a + 1) n (λ k low high. same k (omega arith) (omega arith)))
 
 not_functional : (b : Bool) → not b ≡ true → b ≡ false
 not_functional true e = absurd (false≢true e)
@@ -47,13 +42,7 @@ not_functional false e = refl
 
 cell_at-map_cells : {X : Type 0} (w : ℕ) (f : ℕ → ℕ → X → X) (xs : List X) (d : X) (x y : ℕ) → length xs ≡ w * w → x < w → y < w →
     get_or (map_cells w f xs) (y * w + x) d ≡ f x y (get_or xs (y * w + x) d)
-cell_at-map_cells w f xs d x y square l m =
-    let i = y * w + x in
-    let inside : i < length xs = subst (λ (n : ℕ). y * w + x < n) (sym square) (mul-add-lt y w x w m l) in
-    let from : 0 + (y * w + x) ≡ y * w + x = omega arith in
-    get_or-map_places (λ i c. f (i % w) (i / w) c) 0 xs i d inside
-    ∙ ap (λ j. f (j % w) (j / w) (get_or xs i d)) from
-    ∙ sym (at_place (λ u v. f u v (get_or xs i d)) w x y i l refl)
+cell_at-map_cells w f xs d x y square l m = grind (arith, nat_tests, mul-add-lt, get_or-map_places, at_place)
 
 -- the colour of a cell of a sibling
 abbrev sibling_color : Version → EcLevel → MaskPattern → MaskPattern → ℕ → ℕ → Color → Color
@@ -79,11 +68,7 @@ module _ (version : Version) (level : EcLevel) (pattern : MaskPattern) (colors :
   data_at : (other : MaskPattern) (x y : ℕ) → x < width_of version → y < width_of version → is_functional_cell version x y ≡ false →
       inverted_if (is_inverted other x y) (color_in (width_of version) (sibling version level pattern other colors) x y) ≡
       inverted_if (is_inverted pattern x y) (color_in (width_of version) colors x y)
-  data_at other x y l m not_in =
-      let c = color_in (width_of version) colors x y in
-      let none = none_of (functional_color version (format_word version level other) x y) (is_some-functional_color version (format_word version level other) x y canonical l m ∙ not_in) in
-      ap (inverted_if (is_inverted other x y)) (sibling_at other x y l m ∙ ap (λ o. unwrap_or o (inverted_if (is_inverted other x y) (inverted_if (is_inverted pattern x y) c))) none)
-      ∙ twice (is_inverted other x y) (inverted_if (is_inverted pattern x y) c)
+  data_at other x y l m not_in = grind (arith, common_steps, none_of, is_some-functional_color, sibling_at, twice)
 
   raw : (other : MaskPattern) → raw_colors version other (sibling version level pattern other colors) ≡ raw_colors version pattern colors
   raw other =

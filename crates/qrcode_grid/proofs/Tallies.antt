@@ -1,5 +1,5 @@
 -- Places counted in rows of sixteen lanes.
-use Rattle.std.proofs.Common.{◌≡◌, ℕ, zero, suc, ◌+◌, ◌-◌, ◌*◌, ◌<◌, ◌≤◌, ◌==◌, ◌&&◌, ltb, eqb, Bool, true, false, cond, List, [], length, get_or, get_or-set_same, get_or-set_other, slice_set, length-set, below_more, ◌≢◌, subst, ap, ◌∙◌, sym, arith, inl, inr}
+use Rattle.std.proofs.Common.{◌≡◌, ℕ, zero, suc, ◌+◌, ◌-◌, ◌*◌, ◌<◌, ◌≤◌, ◌==◌, ◌&&◌, ltb, eqb, Bool, true, false, cond, List, [], length, get_or, get_or-set_same, get_or-set_other, slice_set, length-set, below_more, ap, ◌∙◌, sym, arith, inl, inr}
 use Rattle.std.specs.Int.{bit_at}
 use Rattle.std.proofs.lemmas.Bool.{cases_lt}
 use Rattle.std.proofs.lemmas.Nat.Bits.{bit_at-zero, bit_at_ones}
@@ -8,6 +8,8 @@ use Rattle.qrcode_grid.specs.Scoring.{Marks, bit_count}
 use Rattle.qrcode_grid.proofs.FieldTests.{passes_below, passes_below-at}
 use Rattle.qrcode_grid.proofs.Totals.{total-add, total-mul}
 use Rattle.qrcode_grid.proofs.Transposed.{sum_same_below}
+use Rattle.std.proofs.lemmas.Grind.{common_steps}
+use Rattle.std.proofs.lemmas.Bool.Decides.{nat_tests}
 
 below : (k n : ℕ) → k < n → ltb k n ≡ true
 below k n h = grind arith
@@ -37,19 +39,14 @@ next_rows rows test at s marks m h =
 
 -- places from the bound on are not counted
 count_past : (test : ℕ → Bool) (n d : ℕ) → count_below (λ k. ltb k n && test k) (n + d) ≡ count_below test n
-count_past test n zero =
-    let e : n + 0 ≡ n = omega arith in
-    ap (count_below (λ k. ltb k n && test k)) e
-    ∙ sum_same_below (λ k. cond (ltb k n && test k) 1 0) (λ k. cond (test k) 1 0) n (λ k h. ap (λ b. cond (b && test k) 1 0) (below k n h))
+count_past test n zero = grind (arith, common_steps, sum_same_below, below)
 count_past test n (suc d) =
     let e : n + suc d ≡ suc (n + d) = omega arith in
     let none : ◌≡◌ {A = ℕ} (cond (ltb (n + d) n && test (n + d)) 1 0) 0 = ap (λ b. cond (b && test (n + d)) 1 0) (not_below (n + d) n (omega arith)) in
     ap (count_below (λ k. ltb k n && test k)) e ∙ omega (arith, count_past test n d, none)
 
 pub count_bounded : (test : ℕ → Bool) (n past : ℕ) → n ≤ past → count_below (λ k. ltb k n && test k) past ≡ count_below test n
-count_bounded test n past h =
-    let e : past ≡ n + (past - n) = omega arith in
-    ap (count_below (λ k. ltb k n && test k)) e ∙ count_past test n (past - n)
+count_bounded test n past h = grind (arith, count_past test n (past - n))
 
 pub marked_below : (n k : ℕ) (t : Bool) → n ≤ k → false ≡ (ltb k n && t)
 marked_below n k t h = ap (λ b. b && t) (sym (not_below k n h))
@@ -58,10 +55,7 @@ pub marked_within : (n k : ℕ) (t : Bool) → k < n → t ≡ (ltb k n && t)
 marked_within n k t h = ap (λ b. b && t) (sym (below k n h))
 
 pub ltb_moved : (at n j : ℕ) → at < n → ltb j (n - at) ≡ ltb (at + j) n
-ltb_moved at n j h = elim (cases_lt (at + j) n) [
-  | inl inside ↦ below j (n - at) (omega arith) ∙ sym (below (at + j) n inside)
-  | inr past ↦ not_below j (n - at) (omega arith) ∙ sym (not_below (at + j) n past)
-]
+ltb_moved at n j h = grind (arith, common_steps, below, not_below)
 
 -- sixteen ones and sixteen zeros
 pub ends_are : (ends : List ℕ) → passes_below 32 (λ k. eqb (get_or ends k 0) (cond (ltb k 16) 255 0)) ≡ true → (count j m : ℕ) → count ≤ 16 → j < 16 → m < 8
@@ -83,18 +77,10 @@ dark_again false n e = ap (λ k. cond (k == 1) 1 0) e
 
 -- all places before one that is not past the bound are counted
 pub count_inside : (test : ℕ → Bool) (n at : ℕ) → at ≤ n → count_below test at ≡ count_below (λ k. ltb k n && test k) at
-count_inside test n at h =
-    sum_same_below (λ k. cond (test k) 1 0) (λ k. cond (ltb k n && test k) 1 0) at (λ k l. ap (λ b. cond b 1 0) (marked_within n k (test k) (omega arith)))
+count_inside test n at h = grind (arith, common_steps, sum_same_below, marked_within)
 
 -- what holds of each row before one and of that one holds when it is set
-pub row_set : (P : ℕ → List ℕ → Type 0) (rows : List (List ℕ)) (n : ℕ) (v : List ℕ) → n < length rows → ((i : ℕ) → i < n → P i (get_or rows i [])) → P n v
-    → (i : ℕ) → i < n + 1 → P i (get_or (slice_set rows n v) i [])
-row_set P rows n v inside before here =
-    below_more (λ i. P i (get_or (slice_set rows n v) i [])) n
-    (λ i h. let ne : i ≢ n = omega arith in subst (P i) (sym (get_or-set_other rows n i v [] ne)) (before i h))
-    (subst (P n) (sym (get_or-set_same rows n v [] inside)) here)
-
 pub two_rows_set : (P : ℕ → List ℕ → Type 0) (rows : List (List ℕ)) (n : ℕ) (v w : List ℕ) → n + 1 < length rows → ((i : ℕ) → i < n → P i (get_or rows i [])) → P n v → P (n + 1) w
     → (i : ℕ) → i < n + 2 → P i (get_or (slice_set (slice_set rows n v) (n + 1) w) i [])
 two_rows_set P rows n v w inside before here next =
-    λ i h. row_set P (slice_set rows n v) (n + 1) w (omega (arith, inside, length-set rows n v)) (row_set P rows n v (omega (arith, inside)) before here) next i (omega (arith, h))
+    grind (arith, nat_tests, slice_set, length-set, below_more, get_or-set_other, get_or-set_same)

@@ -1,8 +1,9 @@
 -- What the bytes of two woven rows are.
-use Rattle.std.proofs.Common.{◌≡◌, ℕ, ◌+◌, ◌-◌, ◌*◌, ◌/◌, ◌%◌, ◌<◌, ◌≤◌, List, [], ◌∷◌, ◌++◌, zero, suc, length, take, drop, get_or, refl, ap, ◌∙◌, sym, arith}
-use Rattle.std.proofs.lemmas.List.{get_or-append-add, get_or_append_left, get_or-append_right, length-take-le, length-drop}
+use Rattle.std.proofs.Common.{◌≡◌, ℕ, ◌+◌, ◌-◌, ◌*◌, ◌/◌, ◌%◌, ◌<◌, ◌≤◌, List, [], ◌∷◌, ◌++◌, zero, suc, length, take, drop, get_or, refl, arith}
+use Rattle.std.proofs.lemmas.List.{get_or-append-add, get_or_append_left, length-take-le, length-drop}
 use Rattle.std.proofs.lemmas.Simd.{get_or-put_chunk_at, length-put_chunk}
 use lib.Lanes.{put_chunk}
+use Rattle.std.proofs.lemmas.Bool.Decides.{nat_tests}
 
 abbrev pub low_lanes : List ℕ → List ℕ
 low_lanes us = get_or us 0 0 ∷ get_or us 16 0 ∷ get_or us 1 0 ∷ get_or us 17 0 ∷ get_or us 2 0 ∷ get_or us 18 0 ∷ get_or us 3 0 ∷ get_or us 19 0 ∷ get_or us 4 0 ∷ get_or us 20 0 ∷ get_or us 5 0 ∷ get_or us 21 0 ∷ get_or us 6 0 ∷ get_or us 22 0 ∷ get_or us 7 0 ∷ get_or us 23 0 ∷ []
@@ -48,38 +49,8 @@ high_lane us (suc (suc (suc (suc (suc (suc (suc (suc (suc (suc (suc (suc (suc (s
 high_lane us (suc (suc (suc (suc (suc (suc (suc (suc (suc (suc (suc (suc (suc (suc (suc zero))))))))))))))) h = refl
 high_lane us (suc (suc (suc (suc (suc (suc (suc (suc (suc (suc (suc (suc (suc (suc (suc (suc n)))))))))))))))) h = absurd (omega (arith, h))
 
-put_lane : (part lanes : List ℕ) (j : ℕ) → j < length lanes → length lanes ≤ length part → get_or (put_chunk 0 part lanes) j 0 ≡ get_or lanes j 0
-put_lane part lanes j h within =
-    let e : 0 + j ≡ j = omega arith in
-    sym (ap (λ t. get_or (put_chunk 0 part lanes) t 0) e) ∙ get_or-put_chunk_at 0 part lanes j 0 h (omega (arith, within))
-
 -- a lane that is written into a list of bytes
 pub chunk_lane : (bytes lanes rest : List ℕ) (at j : ℕ) → length lanes ≡ 16 → at + 16 ≤ length bytes → j < 16
     → get_or (take at bytes ++ (put_chunk 0 (take (at + 16 - at) (drop at bytes)) lanes ++ rest)) (at + j) 0 ≡ get_or lanes j 0
 chunk_lane bytes lanes rest at j l within h =
-    let part = take (at + 16 - at) (drop at bytes) in
-    let first : length (take at bytes) ≡ at = length-take-le at bytes (omega arith) in
-    let long : length part ≡ 16 = length-take-le (at + 16 - at) (drop at bytes) (omega (arith, length-drop at bytes, within)) ∙ omega arith in
-    ap (λ t. get_or (take at bytes ++ (put_chunk 0 part lanes ++ rest)) (t + j) 0) (sym first)
-    ∙ get_or-append-add (take at bytes) (put_chunk 0 part lanes ++ rest) j 0
-    ∙ get_or_append_left (put_chunk 0 part lanes) rest 0 j (omega (arith, length-put_chunk 0 part lanes, long, h))
-    ∙ put_lane part lanes j (omega (arith, l, h)) (omega (arith, l, long))
-
--- a byte of two rows one after the other
-pub both_lane : (rows : List (List ℕ)) (i k b : ℕ) → length (get_or rows i []) ≡ 16 → k < 16 → b < 2
-    → get_or (get_or rows i [] ++ get_or rows (i + 8) []) (k + 16 * b) 0 ≡ get_or (get_or rows (i + 8 * b) []) k 0
-both_lane rows i k zero l h m =
-    let same : i + 8 * 0 ≡ i = omega arith in
-    let first : k + 16 * 0 ≡ k = omega arith in
-    ap (λ t. get_or (get_or rows i [] ++ get_or rows (i + 8) []) t 0) first
-    ∙ get_or_append_left (get_or rows i []) (get_or rows (i + 8) []) 0 k (omega (arith, l, h))
-    ∙ ap (λ t. get_or (get_or rows t []) k 0) (sym same)
-both_lane rows i k (suc zero) l h m =
-    let back : k + 16 * 1 - 16 ≡ k = omega arith in
-    get_or-append_right (get_or rows i []) (get_or rows (i + 8) []) 16 (k + 16 * 1) 0 l (omega arith)
-    ∙ ap (λ t. get_or (get_or rows (i + 8) []) t 0) back
-both_lane rows i k (suc (suc b)) l h m = absurd (omega (arith, m))
-
--- a byte of a row, by places that are equal
-pub lane_of_row : (rows : List (List ℕ)) (i k r c : ℕ) → i ≡ r → k ≡ c → get_or (get_or rows i []) k 0 ≡ get_or (get_or rows r []) c 0
-lane_of_row rows i k r c e f = ap (λ t. get_or (get_or rows t []) k 0) e ∙ ap (λ t. get_or (get_or rows r []) t 0) f
+    grind (arith, nat_tests, length-take-le, length-drop, get_or-append-add, get_or_append_left, length-put_chunk, get_or-put_chunk_at)

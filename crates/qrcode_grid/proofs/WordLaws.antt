@@ -1,5 +1,5 @@
 -- The words that are drawn differ in many digits from all others.
-use Rattle.std.proofs.Common.{◌≡◌, ◌≢◌, ℕ, pos, negsuc, ◌+◌, ◌-◌, ◌*◌, ◌<◌, ◌≤◌, sym, subst, arith, unwrap_or}
+use Rattle.std.proofs.Common.{◌≡◌, ◌≢◌, ℕ, pos, negsuc, ◌+◌, ◌-◌, ◌<◌, ◌≤◌, subst, arith, unwrap_or}
 use Rattle.qrcode_base.specs.declared.types.EcLevel.{EcLevel}
 use Rattle.qrcode_base.specs.declared.types.EcLevel.TheVariants.{L, M, Q, H}
 use Rattle.qrcode_base.specs.declared.types.Version.{Version}
@@ -11,6 +11,7 @@ use Rattle.qrcode_grid.specs.Words.{normal_format_word, micro_format_word, versi
 use Rattle.qrcode_grid.specs.Masks.{level_number, normal_number, micro_number, symbol_number}
 use Rattle.qrcode_grid.specs.Laws.{IsFarFormatWord, IsFarVersionWord}
 use Rattle.qrcode_grid.proofs.Distances.{normal_format_words_differ, micro_format_words_differ, version_words_differ}
+use Rattle.std.proofs.lemmas.Grind.{common_steps}
 
 level_small : (level : EcLevel) → level_number level < 4
 level_small L = omega arith
@@ -60,10 +61,8 @@ micro_far a b ha hb ne =
 
 pub far_format_word : (version : Version) (level : EcLevel) (pattern : MaskPattern) → IsVersion version → IsFarFormatWord version level pattern
 unfolding IsFarFormatWord
-far_format_word (Normal z) level pattern h = λ other small ne.
-    normal_far (8 * level_number level + normal_number pattern) other (omega (arith, level_small level, normal_small pattern)) small (λ e. ne (sym e))
-far_format_word (Micro (pos n)) level pattern h = λ other small ne.
-    micro_far (4 * symbol_number n level + unwrap_or (micro_number pattern) 0) other (omega (arith, symbol_small n level (omega arith), micro_small pattern)) small (λ e. ne (sym e))
+far_format_word (Normal z) level pattern h = grind (arith, common_steps, normal_far, level_small, normal_small)
+far_format_word (Micro (pos n)) level pattern h = grind (arith, common_steps, micro_far, symbol_small, micro_small)
 far_format_word (Micro (negsuc n)) level pattern h = absurd h
 
 pub far_version_word : (version : Version) → IsVersion version → IsFarVersionWord version

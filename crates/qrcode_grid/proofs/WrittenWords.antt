@@ -2,13 +2,13 @@
 use Rattle.std.proofs.Common.{◌≡◌, ◌≢◌, ℕ, ◌<◌, ◌≤◌, ◌+◌, ◌-◌, ◌*◌, ◌==◌, ◌&&◌, Bool, true, false, List, [], ◌∷◌, length, get_or, set, drop, Option, Some, None, option_map, cond, ap, ◌∙◌, sym, subst, arith, inl, inr, refl, suc, length-drop, drop-cons, get_or-set_same, get_or-set_other}
 use Rattle.std.proofs.lemmas.Bool.{cases_eq}
 use Rattle.std.proofs.lemmas.Bool.Decides.{nat_tests}
-use Rattle.std.proofs.lemmas.List.{drop_all}
 use Rattle.qrcode_base.specs.declared.types.Color.{Color}
 use Rattle.qrcode_base.specs.declared.types.Color.TheVariants.{Dark}
 use Rattle.qrcode_grid.specs.Regions.{digit_at, first_some, where_true, written}
 use Rattle.qrcode_grid.specs.Words.{digit, digit_color}
 use Rattle.qrcode_grid.proofs.CellSteps.{column_of_place, row_of_place}
 use Rattle.qrcode_grid.proofs.Transposed.{cell_within}
+use Rattle.std.proofs.lemmas.Grind.{common_steps}
 
 equal : (a b : ℕ) → a ≡ b → (a == b) ≡ true
 equal a b h = grind (arith, nat_tests)
@@ -21,16 +21,10 @@ and_false true = refl
 and_false false = refl
 
 digit_here : (p : ℕ × ℕ) (rest : List (ℕ × ℕ)) (x y : ℕ) → x ≡ p.0 → y ≡ p.1 → digit_at (p ∷ rest) x y ≡ Some (length rest)
-digit_here p rest x y e f =
-    ap (λ b. cond (b && y == p.1) (Some (length rest)) (digit_at rest x y)) (equal x p.0 e) ∙ ap (λ b. cond b (Some (length rest)) (digit_at rest x y)) (equal y p.1 f)
+digit_here p rest x y e f = grind (arith, common_steps, equal)
 
 digit_off_column : (p : ℕ × ℕ) (rest : List (ℕ × ℕ)) (x y : ℕ) → x ≢ p.0 → digit_at (p ∷ rest) x y ≡ digit_at rest x y
 digit_off_column p rest x y e = ap (λ b. cond (b && y == p.1) (Some (length rest)) (digit_at rest x y)) (differs x p.0 e)
-
-digit_off_row : (p : ℕ × ℕ) (rest : List (ℕ × ℕ)) (x y : ℕ) → y ≢ p.1 → digit_at (p ∷ rest) x y ≡ digit_at rest x y
-digit_off_row p rest x y e =
-    ap (λ b. cond (x == p.0 && b) (Some (length rest)) (digit_at rest x y)) (differs y p.1 e)
-    ∙ ap (λ b. cond b (Some (length rest)) (digit_at rest x y)) (and_false (x == p.0))
 
 -- The cells of a grid are those of an older one with the last places of the word drawn over them.
 abbrev pub IsWritten : {X : Type 0} → (Option Color → X → X) → ℕ → ℕ → List (ℕ × ℕ) → X → List X → List X → Type 0
@@ -52,19 +46,12 @@ written_step over w word p rest d old now v column row long is h = λ x y l m.
             ∙ is old_cell ∙ ap (λ o. over (option_map shown o) old_cell) (sym (digit_here p rest x y e f))
         | inr f ↦
             let ne : y * w + x ≢ i = λ same. f (sym (row_of_place w x y i l same) ∙ row_of_place w p.0 p.1 i column refl) in
-            get_or-set_other now i (y * w + x) v d ne ∙ h x y l m ∙ ap (λ o. over (option_map shown o) old_cell) (sym (digit_off_row p rest x y f))
+            get_or-set_other now i (y * w + x) v d ne ∙ h x y l m ∙ ap (λ o. over (option_map shown o) old_cell) (sym (grind (arith, common_steps, differs, and_false)))
       ]
       | inr e ↦
           let ne : y * w + x ≢ i = λ same. e (sym (column_of_place w x y i l same) ∙ column_of_place w p.0 p.1 i column refl) in
           get_or-set_other now i (y * w + x) v d ne ∙ h x y l m ∙ ap (λ o. over (option_map shown o) old_cell) (sym (digit_off_column p rest x y e))
     ]
-
--- at first no place is written
-pub none_written : {X : Type 0} (over : Option Color → X → X) → ((b : X) → over None b ≡ b) → (w word : ℕ) (places : List (ℕ × ℕ)) (d : X) (old : List X) →
-    IsWritten over w word (drop (length places - 0) places) d old old
-none_written over none w word places d old = λ x y l m.
-    let left : drop (length places - 0) places ≡ [] = drop_all (length places - 0) places (omega arith) in
-    sym (ap (λ ps. over (written word ps x y) (get_or old (y * w + x) d)) left ∙ none (get_or old (y * w + x) d))
 
 -- the digit k is written into the place as far from the end
 pub next_written : {X : Type 0} (over : Option Color → X → X) (w word : ℕ) (places : List (ℕ × ℕ)) (k : ℕ) (d : X) (old now : List X) (v : X) → k < length places →
@@ -84,13 +71,6 @@ next_written over w word places k d old now v below column row long is h =
     let shape : drop (n - (k + 1)) places ≡ p ∷ rest = ap (λ j. drop j places) at ∙ drop-cons places i (0, 0) inside ∙ ap (λ j. p ∷ drop j places) next in
     subst (λ (ps : List (ℕ × ℕ)). IsWritten over w word ps d old (set now (p.1 * w + p.0) v)) (sym shape)
     (written_step over w word p rest d old now v column row long (λ b. is b ∙ ap (λ j. over (Some (digit_color (digit word j))) b) digits) h)
-
--- at the end all places are
-pub all_written : {X : Type 0} (over : Option Color → X → X) (w word : ℕ) (places : List (ℕ × ℕ)) (k : ℕ) (d : X) (old now : List X) → length places ≤ k →
-    IsWritten over w word (drop (length places - k) places) d old now → IsWritten over w word places d old now
-all_written over w word places k d old now last h =
-    let whole : length places - k ≡ 0 = omega arith in
-    subst (λ (j : ℕ). IsWritten over w word (drop j places) d old now) whole h
 
 -- the dark module is drawn
 pub dark_written : {X : Type 0} (over : Option Color → X → X) → ((b : X) → over None b ≡ b) → (w : ℕ) (d : X) (now : List X) (v : X) → 9 ≤ w → length now ≡ w * w →

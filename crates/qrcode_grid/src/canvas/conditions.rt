@@ -26,6 +26,7 @@ const CONDITIONS: [[u8; 6]; 12] = [
 ];
 
 /// The conditions of the first six cells of one of the first twelve rows.
+#[tactic(auto, using(crate::proofs::Conditions::condition_at))]
 fn first_conditions(y: usize) -> [u8; 6]
     requires { y < 12 }
     ensures { (m : ℕ) → (k : ℕ) → m < 8 → k < 6 →

@@ -5,6 +5,7 @@ ghost use Rattle.std.specs.Prelude.{slice_index_or};
 use std::simd::prelude::*;
 
 /// Weaves two rows: byte j of both is found in places 2 j and 2 j + 1 of the 32.
+#[tactic(auto, using(crate::proofs::Weaving::low_lane, crate::proofs::Weaving::high_lane))]
 fn weave(a: u8x16, b: u8x16) -> (u8x16, u8x16)
     requires lanes { (length a ≡ 16) × (length b ≡ 16) }
     ensures lanes { (length result.0 ≡ 16) × (length result.1 ≡ 16) }
@@ -65,6 +66,7 @@ fn tile_at(width: usize, modules: &[u8], x: usize, y: usize) -> [u8x16; 16]
 }
 
 /// Writes 16 bytes at a place. The others stay.
+#[tactic(auto, using(crate::proofs::Weaving::chunk_lane))]
 fn write_lanes(lanes: u8x16, at: usize, bytes: &mut [u8])
     requires lanes { length lanes ≡ 16 }
     requires within { at + 16 ≤ length bytes.old }

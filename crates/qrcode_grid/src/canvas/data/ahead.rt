@@ -69,6 +69,7 @@ pub fn refilled(streams: Streams, bits: BitsAhead) -> BitsAhead
 /// The next eight bits, as the low bits of a number, and those that follow. There are none where the next codeword
 /// isn't a whole one.
 #[inline(always)]
+#[tactic(auto, using(crate::proofs::BitSteps::eight_ahead, std::proofs::lemmas::Grind::common_steps))]
 pub fn next_eight(streams: Streams, bits: BitsAhead) -> Option<(usize, BitsAhead)>
     requires small { bits.left ≤ 8 }
     ensures same { IfSome result (λ r.

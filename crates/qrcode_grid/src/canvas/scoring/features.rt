@@ -18,6 +18,7 @@ pub enum Feature {
 
 /// The dark modules of a row below sixteen places.
 #[inline(always)]
+#[tactic(auto, using(crate::proofs::MarkedLanes::dark_marks))]
 pub fn dark(bytes: &[u8], width: usize, at: usize, row: usize) -> u8x16
     requires wide { width ≤ 177 }
     requires row { row ≤ 14 }
@@ -40,6 +41,7 @@ fn light(bytes: &[u8], width: usize, at: usize, row: usize) -> u8x16
 
 /// Where the modules after sixteen places and after sixteen others have one colour.
 #[inline(always)]
+#[tactic(auto, using(crate::proofs::MarkedLanes::marks_same))]
 fn same(bytes: &[u8], at: usize, other: usize) -> u8x16
     requires first { at + 16 ≤ length bytes.now }
     requires second { other + 16 ≤ length bytes.now }

@@ -2,6 +2,7 @@ use Rattle.std.proofs.Common.{◌≡◌, ◌<◌, ◌+◌, ◌-◌, ◌*◌, ◌
 use Rattle.qrcode_grid.specs.Placing.{bits_from, FilledBelow}
 use Rattle.qrcode_grid.proofs.FillSteps.{offered_step, number_below, row_place-left, row_place-right}
 use Rattle.qrcode_grid.proofs.canvas.data.draw_rows.Goals as goal
+use Rattle.std.proofs.lemmas.Grind.{common_steps}
 
 pub loop-row-preserved : goal.loop-row-preserved
 loop-row-preserved c = record {
@@ -31,7 +32,4 @@ loop-row-preserved c = record {
 }
 
 pub returns-clause-fills : goal.returns-clause-fills
-returns-clause-fills c = λ t pair is bits xs f.
-    let n = pair * (2 * c.args.columns.width) + 2 * c.args.first in
-    let last : n + 2 * c.loop-row.row ≡ n + 2 * c.args.count = omega (arith, c.loop-row-test.false, c.loop-row.auto.row-end) in
-    subst (λ (k : ℕ). FilledBelow c.args.columns.width t bits xs c.loop-row.modules k (bits_from c.args.streams c.loop-row.ahead)) last (c.loop-row.invariant.fills t pair is bits xs f)
+returns-clause-fills c = λ t pair is bits xs f. grind (arith, common_steps)

@@ -1,4 +1,4 @@
-use Rattle.std.proofs.Common.{◌≡◌, ◌<◌, ◌+◌, ◌/◌, ◌%◌, ◌^◌, ◌==◌, ℕ, zero, suc, [], get_or, refl, ap, ◌∙◌, sym, arith}
+use Rattle.std.proofs.Common.{◌≡◌, ◌<◌, ◌/◌, ◌%◌, ◌^◌, ◌==◌, ℕ, zero, suc, [], get_or, refl, arith}
 use Rattle.std.proofs.Math.Nat.{div-div-eq-div-mul}
 use Rattle.std.proofs.lemmas.Nat.{pow-add}
 use Rattle.qrcode_grid.specs.declared.canvas.Module.TheVariants.{Empty, Unmasked}
@@ -15,7 +15,10 @@ right_of (suc (suc (suc (suc q)))) h = absurd (omega (arith, h))
 
 pub returns-clause-right : goal.returns-clause-right
 returns-clause-right c =
-    let n = c.args.word / 2 ^ c.args.k in
-    let high : n % 4 / 2 ≡ n / 2 % 2 = omega arith in
-    let less : n / 2 ≡ c.args.word / 2 ^ (c.args.k + 1) = div-div-eq-div-mul c.args.word (2 ^ c.args.k) 2 ∙ ap (λ d. c.args.word / d) (sym (pow-add 2 c.args.k 1)) in
-    right_of (n % 4) (omega arith) ∙ ap (λ i. Unmasked (bit_color (i == 1))) (high ∙ ap (λ i. i % 2) less)
+    grind (
+      arith,
+      c.args.word / 2 ^ c.args.k,
+      div-div-eq-div-mul c.args.word (2 ^ c.args.k) 2,
+      pow-add 2 c.args.k 1,
+      right_of ((c.args.word / 2 ^ c.args.k) % 4) (omega arith),
+    )

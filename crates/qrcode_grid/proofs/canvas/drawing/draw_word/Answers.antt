@@ -1,7 +1,6 @@
 use Rattle.std.proofs.Common.{◌-◌, ◌<◌, length, ◌∙◌, ap, arith}
 use Rattle.qrcode_grid.specs.Masks.{drawn_over}
-use Rattle.qrcode_grid.specs.declared.canvas.Module.TheVariants.{Empty, Masked}
-use Rattle.qrcode_grid.specs.declared.canvas.Module.TheVariants.{Empty, Masked}
+use Rattle.qrcode_grid.specs.declared.canvas.Module.TheVariants.{Empty, Masked, Empty, Masked}
 use Rattle.qrcode_grid.proofs.WrittenWords.{next_written}
 use Rattle.qrcode_grid.proofs.canvas.drawing.draw_word.Goals as goal
 

@@ -1,20 +1,14 @@
-use Rattle.std.proofs.Common.{◌≡◌, ◌+◌, ◌*◌, ap, ◌∙◌, sym, arith, inl, inr}
-use Rattle.std.proofs.lemmas.Bool.{cases_lt}
+use Rattle.std.proofs.Common.{◌≡◌, ap, ◌∙◌, sym, arith}
 use Rattle.std.proofs.lemmas.List.{get_or_past}
 use Rattle.qrcode_base.specs.declared.types.Version.TheVariants.{Normal}
 use Rattle.qrcode_base.specs.Symbols.{width_of}
 use Rattle.qrcode_grid.specs.Penalty.{normal_penalty, modules_penalty}
 use Rattle.qrcode_grid.specs.Scoring.{plane, grid_in}
 use Rattle.qrcode_grid.proofs.canvas.scoring.penalties_of.Goals as goal
+use Rattle.std.proofs.lemmas.Bool.Decides.{nat_tests}
 
 pub transpose_padded-requires-clause-light : goal.transpose_padded-requires-clause-light
-transpose_padded-requires-clause-light c = λ k.
-    let size = c.padded_length-size.result in let lists = c.split_at_mut-lists in
-    c.split_at_mut-padded.ensures.by_index.1 k 0
-    ∙ elim (cases_lt (size + k) (2 * size)) [
-      | inl inside ↦ lists.ensures.by_index.0 (size + k) 0 inside ∙ c.requires.light (size + k)
-      | inr past ↦ get_or_past lists.result.0.now (size + k) 0 (omega (arith, past, lists.ensures.front_len))
-    ]
+transpose_padded-requires-clause-light c = grind (arith, nat_tests, get_or_past)
 
 pub returns-in-Normal-clause-penalties : goal.returns-in-Normal-clause-penalties
 returns-in-Normal-clause-penalties c = λ m h.

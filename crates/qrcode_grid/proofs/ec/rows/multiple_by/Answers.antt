@@ -3,10 +3,10 @@ use Rattle.std.specs.Int.Bits.{bit_xor}
 use Rattle.qrcode_grid.specs.Field.{product}
 use Rattle.qrcode_grid.proofs.RowLanes.{lane_xor, length_xor, product-halves, times_one}
 use Rattle.qrcode_grid.proofs.ec.rows.multiple_by.Goals as goal
+use Rattle.std.proofs.lemmas.Bool.Decides.{nat_tests}
 
 pub returns-clause-lanes : goal.returns-clause-lanes
-returns-clause-lanes c =
-    length_xor _ _ 32 (c.requires.low c.from.result [] (omega arith)) (c.requires.high c.from-2.result [] (omega arith))
+returns-clause-lanes c = grind (arith, nat_tests, length_xor)
 
 pub returns-clause-by_lane : goal.returns-clause-by_lane
 returns-clause-by_lane c = λ terms low high j h.

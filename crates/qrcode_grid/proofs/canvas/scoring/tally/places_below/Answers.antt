@@ -6,8 +6,7 @@ use Rattle.qrcode_grid.proofs.canvas.scoring.tally.places_below.Goals as goal
 use Rattle.std.proofs.lemmas.Grind.{common_steps}
 
 pub returns-then-at-bound : goal.returns-then-at-bound
-returns-then-at-bound c =
-    marks_none _ (λ m j h. marked_below c.args.bound (c.args.at + j) (has c.args.feature c.args.width (plane m c.args.bytes.now) (c.args.at + j)) (omega (arith, c.if-at-bound.true)))
+returns-then-at-bound c = grind (arith, common_steps, marks_none, marked_below)
 
 pub returns-then-bound-at-ge16 : goal.returns-then-bound-at-ge16
 returns-then-bound-at-ge16 c = grind (arith, common_steps, marked_within, marks_where)
