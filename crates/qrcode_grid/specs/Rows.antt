@@ -1,5 +1,6 @@
 -- Division by a generator, by rows of its multiples: the words in which its steps are promised.
-use Rattle.std.specs.Prelude.{◌≡◌, ℕ, ◌+◌, ◌<◌, ◌≤◌, List, [], ◌++◌, take, length, slice_index, slice_index_or, replicate, bit_xor}
+use Rattle.std.specs.Prelude.{◌≡◌, ℕ, ◌+◌, ◌<◌, ◌≤◌, List, [], ◌++◌, take, length, slice_index, slice_index_or}
+use Rattle.std.specs.Prelude.{replicate, bit_xor}
 use Rattle.qrcode_grid.specs.Field.{product}
 use Rattle.qrcode_grid.specs.Codes.{AreBytes, value_at}
 

@@ -1,5 +1,6 @@
 -- Eight candidates in one list of bytes, a byte a module: bit m is the colour in candidate m.
-use Rattle.std.specs.Prelude.{ℕ, ◌+◌, ◌*◌, ◌<◌, ◌≡◌, ◌==◌, ◌&&◌, ◌||◌, Bool, if◌then◌else◌, ◌≤◌, List, map, ◌/◌, ◌%◌, length, slice_index, slice_index_or, slice_range, Option, Some, None}
+use Rattle.std.specs.Prelude.{ℕ, ◌+◌, ◌*◌, ◌<◌, ◌≡◌, ◌==◌, ◌&&◌, ◌||◌, Bool, if◌then◌else◌, ◌≤◌, List, map, ◌/◌, ◌%◌}
+use Rattle.std.specs.Prelude.{length, slice_index, slice_index_or, slice_range, Option, Some, None}
 use Rattle.std.specs.Int.{bit_at}
 use Rattle.qrcode_grid.specs.declared.canvas.scoring.planes.Planes.{Planes}
 use Rattle.qrcode_grid.specs.declared.canvas.scoring.planes.Tally.{Tally}
