@@ -37,7 +37,8 @@ fold_some : (c : Color) (rs : List (Option Color)) → fold option_or (Some c) r
 fold_some c [] = refl
 fold_some c (r ∷ rs) = fold_some c rs
 
-abbrev Says : Option Color → Option Color → Type 0
+-- if a region says a colour, it is the one that was found
+abbrev pub Says : Option Color → Option Color → Type 0
 Says found r = IfSome r (λ c. found ≡ Some c)
 
 each_says : (found : Option Color) (c : Color) → found ≡ Some c → (rs : List (Option Color)) → EachAgrees (Some c) rs → All (Says found) rs

@@ -6,7 +6,6 @@ use Rattle.std.proofs.lemmas.List.Elements.{All-head, All-tail, All-nil, All-con
 use Rattle.std.proofs.lemmas.Option.{none-some}
 use Rattle.qrcode_base.specs.declared.types.EcLevel.{EcLevel}
 use Rattle.qrcode_base.specs.declared.types.Mode.{Mode}
-use Rattle.qrcode_base.specs.declared.types.Mode.TheVariants.{Numeric, Alphanumeric, Byte, Kanji}
 use Rattle.qrcode_base.specs.declared.types.Version.{Version}
 use Rattle.qrcode_base.specs.declared.types.errors.QrError.{QrError}
 use Rattle.qrcode_base.specs.declared.types.errors.QrError.TheVariants.{DataTooLong, OutOfMemory, InvalidCharacter, UnsupportedCharacterSet}
@@ -26,8 +25,7 @@ use Rattle.qrcode_bits.specs.Pieces.{segment_piece, segment_pieces}
 use Rattle.qrcode_bits.specs.Push.{IsRefused}
 use Rattle.qrcode_bits.specs.Spelling.{Piece, character_count, spelling}
 use Rattle.qrcode_bits.specs.Stream.{Stream, Appends}
-use Rattle.qrcode_bits.proofs.Choices.{all_had}
-use Rattle.qrcode_bits.proofs.CuttingPlans.{chosen-cutting}
+use Rattle.qrcode_bits.proofs.Choices.{chosen_is_plan, fits_normal}
 use Rattle.qrcode_bits.proofs.Lengths.{long_message}
 use Rattle.qrcode_bits.proofs.Numbers.{length-number_bits}
 use Rattle.qrcode_bits.proofs.PlanFrames.{length-spelled}
@@ -50,8 +48,7 @@ texts_valid whole from to (s ∷ plan) h =
 pieces_valid : (whole : List ℕ) (version : Version) (plan : List Segment) → All (λ c. c < 256) whole → IsChosenPlan (parsed whole) version plan →
     All IsText (segment_pieces whole plan)
 pieces_valid whole version plan are chosen =
-    let cutting = chosen-cutting (parsed whole) version plan chosen in
-    texts_valid whole 0 (length whole) plan (texts-plan whole are plan (record { pieces = cutting.0; cutting = cutting.1; merges = cutting.2 }))
+    texts_valid whole 0 (length whole) plan (texts-plan whole are plan (chosen_is_plan whole version plan chosen))
 
 middle : (P : Piece → Type 0) (done rest : List Piece) (next : Piece) → All P (done ++ next ∷ rest) → P next
 middle P [] rest next h = All-head P next rest h
@@ -154,23 +151,17 @@ one_length stream number text is said bits other =
 -- No version holds so many bytes.
 pub too_many : (text : List ℕ) (level : EcLevel) → All (λ c. c < 256) text → 7089 < length text → HoldsNoneBelow 41 (SaysElements text) level
 too_many text level are many n first below bits limit (plan, chosen, said) limit_is =
-    let cutting = chosen-cutting (parsed text) (normal n) plan chosen in
-    let planned : IsMergePlan text plan = record { pieces = cutting.0; cutting = cutting.1; merges = cutting.2 } in
+    let planned : IsMergePlan text plan = chosen_is_plan text (normal n) plan chosen in
     elim (cases_lt limit (length bits)) [
       | inl more ↦ more
       | inr less ↦
-          absurd (long_message 4 text level 40 (omega arith) are many n (omega (arith, below)) plan (record {
-            planned = planned;
-            limit = limit;
-            has_level = limit_is;
-            has_modes = all_had n plan;
-            within = omega (
-              arith,
-              less,
-              length-number_bits 4 5,
-              ap length said,
-              length-append (number_bits 4 5) (spellings (normal n) (segment_pieces text plan)),
-              length-spelled (normal n) text 0 (length text) plan (texts-plan text are plan planned) (omega arith),
-            );
-          }))
+          absurd (long_message 4 text level 40 (omega arith) are many n (omega (arith, below)) plan
+          (fits_normal 4 n limit text level plan planned limit_is (omega (
+            arith,
+            less,
+            ap length said,
+            length-number_bits 4 5,
+            length-append (number_bits 4 5) (spellings (normal n) (segment_pieces text plan)),
+            length-spelled (normal n) text 0 (length text) plan (texts-plan text are plan planned) (omega arith),
+          ))))
     ]
