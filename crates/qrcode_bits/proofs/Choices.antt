@@ -8,7 +8,7 @@ use Rattle.qrcode_base.specs.declared.types.Version.{Version}
 use Rattle.qrcode_base.specs.declared.types.EcLevel.{EcLevel}
 use Rattle.qrcode_base.specs.declared.types.EcLevel.TheVariants.{L, M, Q, H}
 use Rattle.qrcode_base.specs.declared.types.Mode.{Mode}
-use Rattle.qrcode_base.specs.Modes.{IsWithin, same, digits, bytes, join, HasMode}
+use Rattle.qrcode_base.specs.Modes.{IsWithin, same, digits, bytes, HasMode}
 use Rattle.std.proofs.lemmas.Option.{slice_get_past}
 use Rattle.qrcode_base.specs.Symbols.{capacity}
 use Rattle.qrcode_base.proofs.Joins.{join-upper, join-upper_second}
@@ -35,17 +35,13 @@ has_within v same h = h
 has_within v digits h = grind arith
 has_within v bytes h = grind (arith, wide_enough)
 
--- a version that has two modes has their join
-has_join : (v : Version) (a b : Mode) → HasMode v a → HasMode v b → HasMode v (join a b)
-has_join v a b h k = grind arith
-
 module _ (v : Version) where
   abbrev Had : Segment → Type 0
   Had part = HasMode v part.mode
 
   merged-had : (s : Segment) (ss : List Segment) → All Had (s ∷ ss) → HasMode v (merged s ss).mode
   merged-had s [] h = All-head Had s [] h
-  merged-had s (t ∷ ts) h = has_join v s.mode (merged t ts).mode (All-head Had s (t ∷ ts) h) (merged-had t ts (All-tail Had s (t ∷ ts) h))
+  merged-had s (t ∷ ts) h = grind (arith, All-head, All-tail, merged-had t ts (All-tail Had s (t ∷ ts) h))
 
   had-merged : (s : Segment) (ss : List Segment) → HasMode v (merged s ss).mode → All Had (s ∷ ss)
   had-merged s [] h = All-cons Had s [] h (All-nil Had)
@@ -129,16 +125,13 @@ capacity-grows l n m c d h p q = grind (arith, capacity-rises)
 same_class : (n m : ℕ) → SameClass n m → SameClass m n
 same_class n m q2 = grind arith
 
-pub all_had : (n : ℕ) (plan : List Segment) → All (λ part. HasMode (normal n) part.mode) plan
-all_had n plan = grind arith
-
 chosen_same : (segments plan : List Segment) (n m : ℕ) → 1 ≤ n → 1 ≤ m → SameClass n m → IsChosenPlan segments (normal n) plan → IsChosenPlan segments (normal m) plan
 chosen_same segments plan n m h k class w = record { cuts = w.cuts; chosen = chosen-same segments n m (length segments) w.cuts h k class w.chosen; merges = w.merges }
 
 -- a version that holds the bits of a plan fits it, if it is a Normal one
 pub fits_normal : (front n c : ℕ) (message : List ℕ) (l : EcLevel) (plan : List Segment) → IsMergePlan message plan → capacity (normal n) l ≡ Some c →
     front + total_bits (normal n) plan ≤ c → Fits front message (normal n) l plan
-fits_normal front n c message l plan h known few = record { planned = h; limit = c; has_level = known; has_modes = all_had n plan; within = few }
+fits_normal front n c message l plan h known few = grind arith
 
 module _ (front : ℕ) (message : List ℕ) (l : EcLevel) (before last : ℕ) (plan : List Segment) (c : ℕ)
     (class : IsClass before last) (too_long : FitsNone normal front message l before)
@@ -235,8 +228,5 @@ micro_choice message l number plan h none chosen fits = record {
 
 -- ---- No version holds so many bits
 
-pub past_last : (l : EcLevel) (n c : ℕ) → capacity (normal n) l ≡ Some c → n ≤ 40
-past_last l n c h = grind (arith, slice_get_past)
-
 pub none_holds : (size : ℕ) (l : EcLevel) (number : ℕ) → 41 ≤ number → HoldsLess size l number → (other c : ℕ) → capacity (normal other) l ≡ Some c → c < size
-none_holds size l number h w other c known = w other c (let last = past_last l other c known in omega arith) known
+none_holds size l number h w other c known = grind (arith, slice_get_past)

@@ -106,10 +106,6 @@ class_fits_not front message l before last most class none unfit n h plan w = el
   | inr early ↦ none n early plan w
 ]
 
-pub min_number : (size : ℕ) (l : EcLevel) (version : Version) (last c : ℕ) → capacity (normal last) l ≡ Some c → size ≤ c → IsMinVersion size l version →
-    (number : ℕ) × (version ≡ normal number) × IsLeastHolding size l number
-min_number size l version last c known fits q7 = grind arith
-
 -- the same bits in front, in the same version
 pub front_fits : (message : List ℕ) (l : EcLevel) (last : ℕ) (plan : List Segment) (front bits : ℕ) (v : Version) → front ≡ bits → v ≡ normal last →
     Fits front message v l plan → Fits bits message (normal last) l plan
@@ -126,7 +122,7 @@ module _ (header : Option Header) (message : List ℕ) (l : EcLevel) (last : ℕ
   Least = (number : ℕ) × (version ≡ normal number) × IsLeastHolding (length (header_bits header) + total_bits (normal last) plan) l number
 
   least_version : Least
-  least_version = min_number (length (header_bits header) + total_bits (normal last) plan) l version last fits.limit fits.has_level fits.within least
+  least_version = grind arith
 
   -- The chosen plan of the last version of a class fits the least version that holds its bits and those of the header,
   pub class_fits : Fits (length (header_bits header)) message version l plan

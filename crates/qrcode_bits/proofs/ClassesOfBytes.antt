@@ -1,19 +1,19 @@
 -- The classes of bytes by their numbers, computed at each byte, and what stands at a place.
 use Rattle.std.proofs.Common.{◌≡◌, ℕ, ◌+◌, ◌-◌, ◌<◌, ◌≤◌, Bool, true, false, List, ◌∷◌, length, drop, get_or, refl, ap, sym, ◌∙◌, arith, inl, inr, ◌⊎◌}
-use Rattle.std.specs.Prelude.{map, if◌then◌else◌}
+use Rattle.std.specs.Prelude.{map}
 use Rattle.std.specs.List.{range_with_len}
 use Rattle.std.proofs.Math.Seq.{drop-cons}
 use Rattle.std.proofs.lemmas.Bool.{cases_lt}
 use Rattle.std.proofs.lemmas.List.{drop_all}
 use Rattle.std.proofs.lemmas.List.FromFn.{get_or-map-range_with_len}
-use Rattle.qrcode_base.specs.Characters.{is_between, is_alphanumeric, is_lead, is_kanji_pair}
+use Rattle.qrcode_base.specs.Characters.{is_alphanumeric, is_kanji_pair}
 use Rattle.qrcode_bits.specs.declared.optimize.parser.TheConstants.{CLASSES}
 use Rattle.qrcode_bits.specs.declared.optimize.parser.Class.{Class}
-use Rattle.qrcode_bits.specs.declared.optimize.parser.Class.TheVariants.{Pair, LoneLead, Digit, Sign, Other}
+use Rattle.qrcode_bits.specs.declared.optimize.parser.Class.TheVariants.{Pair, LoneLead}
 use Rattle.qrcode_bits.specs.Parsing.{class_number, class_numbered, class_of, class_size, units, joins, parsed_from}
 use Rattle.qrcode_bits.specs.Parsing.{class_mode}
 use Rattle.qrcode_bits.proofs.Adjoining.{class_of-one}
-use Rattle.qrcode_bits.proofs.Runs.{IsRun, Run-first, Run-more, Run-apart, Run-last}
+use Rattle.qrcode_bits.proofs.Runs.{IsRun, Run-first, Run-more, Run-apart}
 use Rattle.std.proofs.lemmas.Grind.{common_steps}
 
 -- ---- The table
@@ -26,13 +26,9 @@ pub CLASSES-at : (b : ℕ) → b < 256 → get_or CLASSES b 0 ≡ class_number (
 CLASSES-at b within =
     ap (λ (z : List ℕ). get_or z b 0) classes_are ∙ get_or-map-range_with_len (λ n. class_number (class_of n)) 0 256 b b 0 within (omega arith)
 
-alone_numbered : (lead digit sign : Bool) → class_numbered (class_number (if lead then LoneLead else if digit then Digit else if sign then Sign else Other))
-    ≡ (if lead then LoneLead else if digit then Digit else if sign then Sign else Other)
-alone_numbered lead digit sign = grind arith
-
 -- a byte's class by its number
 pub numbered-is : (b n : ℕ) → n ≡ class_number (class_of b) → class_numbered n ≡ class_of b
-numbered-is b n is = ap class_numbered is ∙ alone_numbered (is_lead b) (is_between 48 57 b) (is_alphanumeric b)
+numbered-is b n is = grind arith
 
 not_pair : (b : ℕ) → class_of b ≡ Pair → ⊥
 not_pair b is = let one = class_of-one b in let two : class_size (class_of b) ≡ 2 = ap class_size is in omega arith
@@ -64,11 +60,8 @@ units_alone bytes at within pair = grind (arith, common_steps, drop-two, drop-co
 pub units_last : (bytes : List ℕ) (at : ℕ) → length bytes - at < 2 → at < length bytes → units (drop at bytes) ≡ class_of (get_or bytes at 0) ∷ units (drop (at + 1) bytes)
 units_last bytes at short within = grind (arith, drop_all, drop-cons)
 
-no_pair : (a b : ℕ) → (class_of a ≡ LoneLead → ⊥) → is_kanji_pair a b ≡ false
-no_pair a b other = grind arith
-
 units_other : (bytes : List ℕ) (at : ℕ) → at < length bytes → (class_of (get_or bytes at 0) ≡ LoneLead → ⊥) → units (drop at bytes) ≡ class_of (get_or bytes at 0) ∷ units (drop (at + 1) bytes)
-units_other bytes at within other = grind (arith, common_steps, cases_lt, units_alone, no_pair, units_last)
+units_other bytes at within other = grind (arith, common_steps, cases_lt, units_alone, units_last)
 
 -- the next unit is the byte's, or a pair
 abbrev NextUnit : List ℕ → ℕ → Type 0
@@ -78,7 +71,7 @@ next_alone : (bytes : List ℕ) (at : ℕ) → units (drop at bytes) ≡ class_o
 next_alone bytes at h = grind arith
 
 next_by : (bytes : List ℕ) (at : ℕ) (t : Bool) → at + 2 ≤ length bytes → is_kanji_pair (get_or bytes at 0) (get_or bytes (at + 1) 0) ≡ t → NextUnit bytes at
-next_by bytes at t within e = grind (arith, units_pair, next_alone, units_alone)
+next_by bytes at t within e = grind (arith, next_alone, units_alone, drop-two)
 
 next_unit : (bytes : List ℕ) (at : ℕ) → at < length bytes → NextUnit bytes at
 next_unit bytes at within = elim (cases_lt (at + 1) (length bytes)) [
@@ -92,7 +85,7 @@ next_unit bytes at within = elim (cases_lt (at + 1) (length bytes)) [
 run_stops : (bytes : List ℕ) (c : Class) (begin end : ℕ) → IsRun bytes c begin end →
     (end < length bytes → (d : Class) × (joins c d ≡ false) × (units (drop end bytes) ≡ d ∷ units (drop (end + class_size d) bytes))) →
     parsed_from begin (drop begin bytes) ≡ record { mode = class_mode c; begin = begin; end = end } ∷ parsed_from end (drop end bytes)
-run_stops bytes c begin end run next = grind (arith, Run-apart, Run-last)
+run_stops bytes c begin end run next = grind (arith, common_steps, Run-apart)
 
 module _ (bytes : List ℕ) (begin : ℕ) (within : begin < length bytes) where
   abbrev class : Class

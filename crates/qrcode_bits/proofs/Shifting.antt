@@ -42,11 +42,6 @@ shifted_bits used partial (b ∷ text) (c ∷ cs) part small are =
     ∙ (ap (λ (z : List Bool). number_bits 8 c ++ z) (shifted_bits used b text cs part (λ k. small (suc k)) rest)
     ∙ sym (append_assoc (number_bits 8 c) (byte_bits cs) (number_bits used (slice_index_or (b ∷ text) (length text) 0)))))))
 
--- the stream with the bytes in their places
-pub kept_shifted : (old : List ℕ) (used partial left : ℕ) (text bytes : List ℕ) → used < 8 → ((k : ℕ) → slice_index_or text k 0 < 2 ^ 8) → AreShifted used partial text bytes →
-    left ≡ slice_index_or (partial ∷ text) (length text) 0 % 2 ^ used → kept_bits (old ++ bytes) used left ≡ kept_bits old used partial ++ byte_bits text
-kept_shifted old used partial left text bytes part small are is = grind (arith, flat_map-append, append_assoc, number_bits-mod, shifted_bits)
-
 -- ---- The stream
 
 pub kept_more : (len cap cap' used partial left n word : ℕ) → IsKept len cap used partial → 8 * n ≤ room_in cap len used → cap ≤ cap' → left ≡ word % 2 ^ used → IsKept (len + n) cap' used left
@@ -62,7 +57,7 @@ pub appends_shifted : (old : Stream) (bytes now text filled : List ℕ) (len len
     left ≡ slice_index_or (partial ∷ text) (length text) 0 % 2 ^ used →
     Appends old (record { bits = kept_bits now used left; version = old.version; modes = old.modes; payload = old.payload; room = room_in cap' len' used }) (byte_bits text)
 appends_shifted old bytes now text filled len len' cap cap' used partial left bits room is longer grows part small are last =
-    grind (arith, common_steps, kept_shifted, length-byte_bits)
+    grind (arith, common_steps, length-byte_bits, flat_map-append, append_assoc, number_bits-mod, shifted_bits)
 
 -- ---- Five bytes at once
 

@@ -1,5 +1,5 @@
 -- The lesser word is the better start.
-use Rattle.std.proofs.Common.{◌≡◌, ℕ, zero, suc, ◌+◌, ◌-◌, ◌*◌, ◌/◌, ◌%◌, ◌^◌, ◌<◌, ◌≤◌, List, length, Some, None, refl, sym, ap, ◌∙◌, arith, min}
+use Rattle.std.proofs.Common.{◌≡◌, ℕ, zero, suc, ◌+◌, ◌-◌, ◌*◌, ◌/◌, ◌%◌, ◌^◌, ◌<◌, ◌≤◌, List, length, Some, None, refl, ap, ◌∙◌, arith, min}
 use Rattle.std.proofs.lemmas.List.FromFn.{get_or-map-range_with_len, length-map-range_with_len}
 use Rattle.qrcode_base.specs.declared.types.Mode.{Mode}
 use Rattle.qrcode_base.specs.declared.types.Mode.TheVariants.{Numeric, Alphanumeric, Byte, Kanji}
@@ -52,9 +52,6 @@ empties words all = (length-starts_in words, λ j inside. slot-starts_in words j
 
 -- ---- A start enters
 
-has-single : (mode : Mode) → HasBucket mode 5
-has-single mode = grind arith
-
 module _ (begin bits parts start : ℕ) (low : begin < 8192) (few : bits < 2 ^ 18) (short : parts < 8192) (early : start < 8192) where
   abbrev thirds : ℕ
   thirds = word_of (bits + 10 * (8192 - begin / 3)) parts start
@@ -87,9 +84,6 @@ module _ (begin bits parts start : ℕ) (low : begin < 8192) (few : bits < 2 ^ 1
         IsBetterOf (slot (starts_in old) j) (Some key) (slot (starts_in new) j)
     better-at j word key inside least is = grind (arith, slot-starts_in)
 
-    same-at : (j : ℕ) → j < 8 → word_at new j ≡ word_at old j → slot (starts_in new) j ≡ slot (starts_in old) j
-    same-at j inside same = slot-starts_in new j inside ∙ (ap (bucket_start j) same ∙ sym (slot-starts_in old j inside))
-
     at-third : (j : ℕ) → HasBucket mode j → j < 3 → begin % 3 ≡ j → word_at new j ≡ min (word_at old j) thirds
     at-third j has b e = grind arith
 
@@ -115,11 +109,11 @@ module _ (begin bits parts start : ℕ) (low : begin < 8192) (few : bits < 2 ^ 1
     entered (suc (suc (suc (suc (suc (suc (suc (suc j)))))))) has inside e = absurd (omega arith)
 
     kept : (j : ℕ) → j < 8 → (begin % period (bucket_mode j) ≡ bucket_rest j → ⊥) → slot (starts_in new) j ≡ slot (starts_in old) j
-    kept j inside ne = grind (arith, same-at)
+    kept j inside ne = grind (arith, slot-starts_in)
 
     -- the bucket of Byte has a start
     still_whole : length new ≡ 8 → IsWhole new
-    still_whole long = let has-byte = has-single mode in record { long = long; empty = λ great k inside. absurd (let least = at-single has-byte in omega arith) }
+    still_whole long = grind (arith, at-single)
 
     enters : Enters mode begin bits parts start (starts_in old) (starts_in new)
     enters = (length-starts_in new, λ j has. entered j has (has-inside mode j has), λ j has. kept j (has-inside mode j has))

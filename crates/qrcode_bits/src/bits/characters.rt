@@ -140,6 +140,7 @@ fn digit(c: u8) -> u64
 }
 
 /// The number of three digits.
+#[tactic(auto, using(crate::proofs::Digits::numeric_three))]
 fn three_digits(digits: &[u8]) -> u64
     requires three { length digits.now ≡ 3 }
     requires digits { All IsDigit digits.now }
@@ -184,6 +185,7 @@ fn alphanumeric_value(c: u8) -> u64
 }
 
 /// The number of two characters of the Alphanumeric mode.
+#[tactic(auto, using(crate::proofs::Pairs::pairs_two))]
 fn two_letters(text: &[u8]) -> u64
     requires two { length text.now ≡ 2 }
     requires characters { All (λ c. Contains alphabet c) text.now }
