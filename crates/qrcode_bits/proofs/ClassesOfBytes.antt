@@ -137,3 +137,7 @@ pairs_stop bytes begin end run alone = run_stops bytes Pair begin end run (λ w.
   joins-apart Pair (class_of (get_or bytes end 0)) (λ same. not_pair (get_or bytes end 0) (sym same)),
   alone w ∙ ap (λ (n : ℕ). class_of (get_or bytes end 0) ∷ units (drop (end + n) bytes)) (sym (class_of-one (get_or bytes end 0))),
 ))
+
+pub ruleset alone_segments = (alone_first, alone_more, alone_stops, numbered-is)
+
+pub ruleset pair_segments = (lone_stops, pair_more, pairs_stop, common_steps)

@@ -13,6 +13,7 @@ use qrcode_base::characters::alphanumeric_place;
 
 impl Bits {
     /// Writes digits, for which there is room: twelve at a time are five bytes.
+    #[tactic(auto, using(crate::proofs::Segments::bit_lengths))]
     pub(super) fn push_digits(&mut self, digits: &[u8])
         requires digits { All IsDigit digits.now }
         requires room { length (numeric_bits digits.now) ≤ self.old.room }
@@ -28,6 +29,7 @@ impl Bits {
     }
 
     /// Writes digits in threes, and one or two that are left.
+    #[tactic(auto, using(crate::proofs::Segments::bit_lengths))]
     fn push_last_digits(&mut self, digits: &[u8])
         requires digits { All IsDigit digits.now }
         requires room { length (numeric_bits digits.now) ≤ self.old.room }
@@ -47,6 +49,7 @@ impl Bits {
     }
 
     /// Writes characters of the Alphanumeric mode, for which there is room: eight at a time are five bytes and a half.
+    #[tactic(auto, using(crate::proofs::Segments::bit_lengths))]
     pub(super) fn push_letters(&mut self, text: &[u8])
         requires characters { All (λ c. Contains alphabet c) text.now }
         requires room { length (alphanumeric_bits text.now) ≤ self.old.room }
@@ -64,6 +67,7 @@ impl Bits {
     }
 
     /// Writes characters in pairs, and one that is left.
+    #[tactic(auto, using(crate::proofs::Segments::bit_lengths))]
     fn push_last_letters(&mut self, text: &[u8])
         requires characters { All (λ c. Contains alphabet c) text.now }
         requires room { length (alphanumeric_bits text.now) ≤ self.old.room }
@@ -91,6 +95,7 @@ impl Bits {
     }
 
     /// Writes double-byte characters, for which there is room.
+    #[tactic(auto, using(crate::proofs::Segments::bit_lengths))]
     pub(super) fn push_kanji(&mut self, text: &[u8])
         requires characters { IsKanjiText text.now }
         requires room { length (kanji_bits text.now) ≤ self.old.room }

@@ -175,6 +175,7 @@ fn last_step_short<L: Ledger>(
 }
 
 /// The parts of the chosen plan of all segments, from what is kept of the chosen plans of first segments.
+#[tactic(auto, using(crate::proofs::ReadBack::reads_back))]
 fn read_back_short(
     alloc: Global,
     segments: &[Segment],

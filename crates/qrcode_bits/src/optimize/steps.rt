@@ -120,6 +120,7 @@ pub fn last_step_from<L: Ledger>(
 }
 
 /// The parts of the chosen plan of all segments, from what is kept of the chosen plans of first segments.
+#[tactic(auto, using(crate::proofs::ReadBack::reads_back))]
 pub fn read_back(
     alloc: Global,
     segments: &[Segment],

@@ -4,17 +4,7 @@ use Rattle.std.proofs.lemmas.List.Elements.{All-drop}
 use Rattle.qrcode_bits.proofs.Characters.{InAlphabet}
 use Rattle.qrcode_bits.proofs.Pairs.{pairs_step}
 use Rattle.qrcode_bits.proofs.Streams.{appends_low}
-use Rattle.qrcode_bits.proofs.Numbers.{length-number_bits}
-use Rattle.qrcode_bits.proofs.Segments.{length-alphanumeric_bits}
 use Rattle.qrcode_bits.proofs.bits.Bits.push_letters.Goals as goal
-
-pub push_five_bytes-requires-clause-room : goal.push_five_bytes-requires-clause-room
-push_five_bytes-requires-clause-room c =
-    omega (arith, c.loop-rest.invariant.so_far.room_for, length-alphanumeric_bits c.loop-rest.rest.now)
-
-pub append-requires-clause-room : goal.append-requires-clause-room
-append-requires-clause-room c =
-    omega (arith, c.loop-rest.invariant.so_far.room_for, length-alphanumeric_bits c.loop-rest.rest.now, c.push_five_bytes.ensures.room_left, length-number_bits)
 
 pub loop-rest-preserved : goal.loop-rest-preserved
 loop-rest-preserved c = record {

@@ -1,12 +1,8 @@
 -- Header, characters and mode, one after the other.
 use Rattle.std.proofs.Common.{arith}
 use Rattle.std.proofs.lemmas.Result.{err_from_is_err_and}
-use Rattle.qrcode_bits.proofs.Segments.{refused, length-character_bits}
+use Rattle.qrcode_bits.proofs.Segments.{refused}
 use Rattle.qrcode_bits.proofs.bits.Bits.push_text.Goals as goal
-use Rattle.std.proofs.lemmas.Grind.{common_steps}
-
-pub push_characters-requires-clause-room : goal.push_characters-requires-clause-room
-push_characters-requires-clause-room c = grind (arith, common_steps, length-character_bits)
 
 pub returns-in_err-push_header-clause-refused : goal.returns-in_err-push_header-clause-refused
 returns-in_err-push_header-clause-refused c = grind (arith, err_from_is_err_and, refused)
