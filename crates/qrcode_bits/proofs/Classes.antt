@@ -30,6 +30,7 @@ use Rattle.qrcode_bits.proofs.Upward.{All-map}
 use Rattle.qrcode_bits.proofs.Texts.{texts-reach, texts-plan, plan_lies}
 use Rattle.qrcode_bits.proofs.Choices.{chosen_is_plan, chosen_decides, fits_normal, capacity-grows, class_choice}
 use Rattle.std.proofs.lemmas.Grind.{common_steps}
+use Rattle.qrcode_bits.proofs.Pairs.{bytes_valid}
 
 -- ---- Costs are small
 
@@ -110,6 +111,9 @@ class_fits_not front message l before last most class none unfit n h plan w = el
 pub front_fits : (message : List ℕ) (l : EcLevel) (last : ℕ) (plan : List Segment) (front bits : ℕ) (v : Version) → front ≡ bits → v ≡ normal last →
     Fits front message v l plan → Fits bits message (normal last) l plan
 front_fits message l last plan front bits v same e h = grind arith
+
+-- the bits of the chosen plan are few
+pub ruleset small_plans = (bytes_valid, chosen_is_plan, front_fits, plan_small, normal_headers)
 
 pub front_not : (message : List ℕ) (l : EcLevel) (last front bits : ℕ) (v : Version) → front ≡ bits → v ≡ normal last → FitsNot front message v l → FitsNot bits message (normal last) l
 front_not message l last front bits v same e h =

@@ -22,8 +22,8 @@ classes_are : CLASSES ≡ map (λ b. class_number (class_of b)) (range_with_len 
 unfolding is_alphanumeric
 classes_are = refl
 
-pub CLASSES-at : (b : ℕ) → b < 256 → get_or CLASSES b 0 ≡ class_number (class_of b)
-CLASSES-at b within =
+pub classes_at : (b : ℕ) → b < 256 → get_or CLASSES b 0 ≡ class_number (class_of b)
+classes_at b within =
     ap (λ (z : List ℕ). get_or z b 0) classes_are ∙ get_or-map-range_with_len (λ n. class_number (class_of n)) 0 256 b b 0 within (omega arith)
 
 -- a byte's class by its number

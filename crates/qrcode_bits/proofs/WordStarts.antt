@@ -6,9 +6,9 @@ use Rattle.qrcode_base.specs.declared.types.Mode.TheVariants.{Numeric, Alphanume
 use Rattle.qrcode_bits.specs.declared.optimize.candidate.Candidate.{Candidate}
 use Rattle.qrcode_bits.specs.Merging.{IsNoWorse}
 use Rattle.qrcode_bits.specs.Buckets.{period, period_bits, bucket_mode, bucket_rest, slot, IsBetterOf, HasBucket}
-use Rattle.qrcode_bits.specs.Buckets.{Absorbs, IsEmptyGroup, key_of, Enters}
+use Rattle.qrcode_bits.specs.Buckets.{key_of, Enters}
 use Rattle.qrcode_bits.proofs.Grouping.{has-inside}
-use Rattle.qrcode_bits.specs.Words.{word_of, start_told, bucket_start, word_at, starts_in, IsOffered, AreNone, IsWhole}
+use Rattle.qrcode_bits.specs.Words.{word_of, start_told, bucket_start, word_at, starts_in, IsOffered, IsWhole}
 use Rattle.std.proofs.lemmas.Grind.{common_steps}
 
 pub word-ahead : (more a b : ℕ) → a ≤ b →
@@ -39,16 +39,8 @@ pub length-starts_in : (words : List ℕ) → length (starts_in words) ≡ 8
 unfolding starts_in
 length-starts_in words = length-map-range_with_len (λ (i : ℕ). bucket_start i (word_at words i)) 0 8
 
-pub absorbs : (first : ℕ) (a b c : List ℕ) → ((k : ℕ) → first ≤ k → k < 6 → word_at c k ≡ min (word_at a k) (word_at b k)) →
-    Absorbs first (starts_in a) (starts_in b) (starts_in c)
-absorbs first a b c least = grind (arith, length-starts_in, slot-starts_in)
-
--- no start is better than one that there is none of
-pub absorbs_none : (first : ℕ) (a b : List ℕ) → AreNone b → Absorbs first (starts_in a) (starts_in b) (starts_in a)
-absorbs_none first a b none = grind (arith, length-starts_in, slot-starts_in)
-
-pub empties : (words : List ℕ) → AreNone words → IsEmptyGroup (starts_in words)
-empties words all = (length-starts_in words, λ j inside. slot-starts_in words j inside ∙ no_start j (word_at words j) (all j inside))
+-- the words of a group, as starts
+pub ruleset starts_of_words = (length-starts_in, slot-starts_in, no_start)
 
 -- ---- A start enters
 

@@ -29,7 +29,7 @@ impl Bits {
     }
 
     /// Writes digits in threes, and one or two that are left.
-    #[tactic(auto, using(crate::proofs::Segments::bit_lengths))]
+    #[tactic(auto, using(crate::proofs::Segments::bit_lengths, crate::proofs::Digits::last_digits))]
     fn push_last_digits(&mut self, digits: &[u8])
         requires digits { All IsDigit digits.now }
         requires room { length (numeric_bits digits.now) ≤ self.old.room }
@@ -67,7 +67,7 @@ impl Bits {
     }
 
     /// Writes characters in pairs, and one that is left.
-    #[tactic(auto, using(crate::proofs::Segments::bit_lengths))]
+    #[tactic(auto, using(crate::proofs::Segments::bit_lengths, crate::proofs::Pairs::pairs_end))]
     fn push_last_letters(&mut self, text: &[u8])
         requires characters { All (λ c. Contains alphabet c) text.now }
         requires room { length (alphanumeric_bits text.now) ≤ self.old.room }
@@ -95,7 +95,7 @@ impl Bits {
     }
 
     /// Writes double-byte characters, for which there is room.
-    #[tactic(auto, using(crate::proofs::Segments::bit_lengths))]
+    #[tactic(auto, using(crate::proofs::Segments::bit_lengths, crate::proofs::KanjiText::kanji_end))]
     pub(super) fn push_kanji(&mut self, text: &[u8])
         requires characters { IsKanjiText text.now }
         requires room { length (kanji_bits text.now) ≤ self.old.room }

@@ -244,6 +244,7 @@ fn last_versions(limit: usize) -> ArrayVec<usize, 3>
 
 /// The bits of a header or none and of the chosen plan of the last version of a class, where both fit, in the least
 /// version that holds them.
+#[tactic(auto, using(crate::proofs::Classes::small_plans))]
 fn encode_class(
     alloc: Global,
     header: &Option<Part>,
@@ -281,6 +282,7 @@ fn encode_class(
 }
 
 /// The chosen plan of some bytes in a version, where it fits behind so many bits in front.
+#[tactic(auto, using(crate::proofs::Classes::small_plans))]
 fn chosen_plan(
     alloc: Global,
     front: usize,

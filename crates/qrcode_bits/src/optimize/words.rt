@@ -55,6 +55,7 @@ fn is_empty(group: &[u64]) -> bool
 }
 
 /// Takes what is less in another group, bucket by bucket, from the first one that is needed to that of Byte.
+#[tactic(auto, using(crate::proofs::WordStarts::starts_of_words))]
 fn absorb<L: Ledger>(into: &mut [u64], from: &[u64], first: usize, comparisons: &mut Comparisons<L>)
     requires into { IsWhole into.old }
     requires from { IsWhole from.now }
@@ -72,6 +73,7 @@ fn absorb<L: Ledger>(into: &mut [u64], from: &[u64], first: usize, comparisons: 
 }
 
 /// Takes all starts out of a group.
+#[tactic(auto, using(crate::proofs::WordStarts::starts_of_words))]
 fn clear(group: &mut [u64])
     requires { IsWhole group.old }
     ensures empty { IsEmptyGroup (starts_in group.new) }
@@ -244,6 +246,7 @@ impl Words {
     }
 
     /// The word in a bucket of the group of a mode.
+    #[tactic(auto, using(crate::proofs::WordStarts::starts_of_words))]
     pub fn best(&self, mode: Mode, bucket: usize) -> u64
         requires inside { bucket < 8 }
         requires whole { AreWhole self.now }

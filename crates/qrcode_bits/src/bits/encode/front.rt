@@ -28,6 +28,7 @@ impl Model for Part {
 }
 
 /// How many bits stand in front of the data.
+#[tactic(auto, using(crate::proofs::Reading::header_length))]
 pub fn front_bits(header: &Option<Part>) -> usize
     ensures is { result ≡ length (header_bits header.now) }
     ensures small { result ≤ 20 }

@@ -9,9 +9,8 @@ use Rattle.qrcode_bits.specs.Merging.{HasLinearCosts, IsChosenPlan, total_bits}
 use Rattle.qrcode_bits.proofs.Pairs.{bytes_valid}
 use Rattle.qrcode_bits.proofs.Choices.{chosen_is_plan}
 use Rattle.qrcode_bits.proofs.Lengths.{dense_message}
-use Rattle.qrcode_bits.proofs.Classes.{known_limit, short-linear, plan_small, plan_ordered, chosen_fits_here, lacks_mode, too_many}
+use Rattle.qrcode_bits.proofs.Classes.{known_limit, short-linear, plan_ordered, chosen_fits_here, lacks_mode, too_many}
 use Rattle.qrcode_bits.proofs.bits.encode.chosen_plan.Goals as goal
-use Rattle.std.proofs.lemmas.Grind.{common_steps}
 
 pub optimize_segments-requires-clause-linear : goal.optimize_segments-requires-clause-linear
 optimize_segments-requires-clause-linear c = λ h.
@@ -39,12 +38,6 @@ total_encoded_len-requires-clause-ordered c =
     subst (λ (p : List Segment). All (λ s. s.begin ≤ s.end) p) (sym c.deref-2.ensures.value)
     (plan_ordered c.args.bytes.now c.in-Ok-optimize_segments.plan.items (bytes_valid c.args.bytes.now (λ i. omega (arith, c.type_inv.bytes i)))
     (chosen_is_plan c.args.bytes.now c.args.version c.in-Ok-optimize_segments.plan.items chosen))
-
-pub total_encoded_len-requires-clause-fits : goal.total_encoded_len-requires-clause-fits
-total_encoded_len-requires-clause-fits c = grind (arith, common_steps, bytes_valid, chosen_is_plan, plan_small)
-
-pub overflow_add-front : goal.overflow_add-front
-overflow_add-front c = grind (arith, common_steps, bytes_valid, chosen_is_plan, plan_small)
 
 pub returns-then-front-total_encoded_len-clause-none : goal.returns-then-front-total_encoded_len-clause-none
 returns-then-front-total_encoded_len-clause-none c =

@@ -9,7 +9,7 @@ use Rattle.qrcode_bits.specs.Merging.{IsChosenPlan, total_bits}
 use Rattle.qrcode_bits.specs.Choice.{normal, IsMinVersion}
 use Rattle.qrcode_bits.specs.Encoding.{IsPlanStream}
 use Rattle.qrcode_bits.proofs.Pairs.{bytes_valid}
-use Rattle.qrcode_bits.proofs.Classes.{normal_headers, plan_small, plan_ordered, front_fits, front_not, class_fits, class_encoding}
+use Rattle.qrcode_bits.proofs.Classes.{plan_ordered, front_fits, front_not, class_fits, class_encoding}
 use Rattle.qrcode_bits.proofs.bits.encode.encode_class.Goals as goal
 
 pub returns-in_default-found-clause-none : goal.returns-in_default-found-clause-none
@@ -21,12 +21,6 @@ total_encoded_len-requires-clause-ordered c =
     let fits = front_fits c.args.bytes.now c.args.level c.args.last c.in-Some.plan.items c.front_bits-front.result (length (header_bits c.args.header.now)) c.normal-version.result c.front_bits-front.ensures.is c.normal-version.ensures (rw c.in-Some.is at c.in-Ok.ensures.fits) in
     subst (λ (p : List Segment). All (λ s. s.begin ≤ s.end) p) (sym c.deref.ensures.value)
     (plan_ordered c.args.bytes.now c.in-Some.plan.items (bytes_valid c.args.bytes.now (λ i. omega (arith, c.type_inv.bytes i))) fits.planned)
-
-pub total_encoded_len-requires-clause-fits : goal.total_encoded_len-requires-clause-fits
-total_encoded_len-requires-clause-fits c = grind (arith, front_fits, plan_small, normal_headers, bytes_valid)
-
-pub overflow_add-front : goal.overflow_add-front
-overflow_add-front c = grind (arith, front_fits, plan_small, normal_headers, bytes_valid)
 
 pub encode_plan-requires-clause-fits : goal.encode_plan-requires-clause-fits
 encode_plan-requires-clause-fits c = grind (arith, front_fits, class_fits)
