@@ -46,8 +46,7 @@ module _ (v : Version) where
   had-merged : (s : Segment) (ss : List Segment) → HasMode v (merged s ss).mode → All Had (s ∷ ss)
   had-merged s [] h = All-cons Had s [] h (All-nil Had)
   had-merged s (t ∷ ts) h =
-      All-cons Had s (t ∷ ts) (has_within v (join-upper s.mode (merged t ts).mode) h)
-      (had-merged t ts (has_within v (join-upper_second s.mode (merged t ts).mode) h))
+      grind (arith, All-cons, join-upper, join-upper_second, wide_enough, had-merged t ts (has_within v (join-upper_second s.mode (merged t ts).mode) h))
 
   had-front : (xs ys : List Segment) → All Had (xs ++ ys) → All Had xs
   had-front xs ys h = λ k d b. grind (arith, common_steps, h k d)

@@ -6,8 +6,7 @@ use Rattle.qrcode_base.specs.declared.types.Version.{Version}
 use Rattle.qrcode_base.specs.declared.types.EcLevel.{EcLevel}
 use Rattle.qrcode_base.specs.Symbols.{capacity}
 use Rattle.qrcode_base.specs.declared.types.Mode.{Mode}
-use Rattle.qrcode_base.specs.Modes.{count_width, indicator_width, data_bits, characters}
-use Rattle.qrcode_base.specs.Characters.{IsValid}
+use Rattle.qrcode_base.specs.Modes.{count_width, indicator_width}
 use Rattle.qrcode_bits.specs.declared.optimize.Segment.{Segment}
 use Rattle.qrcode_bits.specs.Merging.{total_bits}
 use Rattle.qrcode_bits.specs.Parsing.{AreTexts}
@@ -18,19 +17,16 @@ use Rattle.qrcode_bits.proofs.Texts.{texts-reach, texts-plan}
 use Rattle.std.proofs.lemmas.Grind.{common_steps}
 
 -- no mode has fewer than ten bits for three bytes
-dense : (m : Mode) (s : List ℕ) (n : ℕ) → IsValid m s → length s ≡ n → 10 * n ≤ 3 * data_bits m (characters m n)
-dense m s n h e = grind arith
-
 module _ (whole : List ℕ) (v : Version) where
   texts-dense : (from to : ℕ) (ss : List Segment) → AreTexts whole from ss to → to ≤ length whole → 10 * (to - from) ≤ 3 * total_bits v ss
   texts-dense from to [] h k = omega arith
-  texts-dense from to (s ∷ ss) h k = grind (arith, texts-reach, dense, length-slice, texts-dense s.end to ss h.3 k)
+  texts-dense from to (s ∷ ss) h k = grind (arith, common_steps, texts-reach, length-slice, texts-dense s.end to ss h.3 k)
 
   -- with the header of the first
   texts-headed : (header from to : ℕ) (ss : List Segment) → ((m : Mode) → header ≤ indicator_width v + count_width v m) → from < to →
       AreTexts whole from ss to → to ≤ length whole → 10 * (to - from) + 3 * header ≤ 3 * total_bits v ss
   texts-headed header from to [] g some h k = absurd (omega arith)
-  texts-headed header from to (s ∷ ss) g some h k = grind (arith, texts-reach, dense, length-slice, texts-dense)
+  texts-headed header from to (s ∷ ss) g some h k = grind (arith, common_steps, texts-reach, length-slice, texts-dense)
 
 -- the shortest header of a segment in the versions 27 to 40
 long_header : (n : ℕ) → 27 ≤ n → (m : Mode) → 16 ≤ indicator_width (normal n) + count_width (normal n) m

@@ -5,7 +5,6 @@ use Rattle.std.proofs.lemmas.List.{drop_all}
 use Rattle.std.proofs.lemmas.Option.{slice_get_past}
 use Rattle.std.proofs.Math.Seq.{take-length}
 use Rattle.std.proofs.lemmas.List.Elements.{All-head, All-tail}
-use Rattle.qrcode_base.specs.declared.types.Version.{Version}
 use Rattle.qrcode_base.specs.declared.types.errors.QrError.{QrError}
 use Rattle.qrcode_base.specs.declared.types.errors.QrError.TheVariants.{OutOfMemory}
 use Rattle.qrcode_base.specs.Characters.{IsValid, IsFirstInvalid}
@@ -92,14 +91,11 @@ pub pieces_at : (bytes : List ℕ) (plan : List Segment) (i : ℕ) → i < lengt
 pieces_at bytes plan i within = grind (arith, drop-cons)
 
 module _ (bytes : List ℕ) (plan : List Segment) (i : ℕ) (within : i < length plan) (old next : Stream) (spelled : AreSpelled old.version (segment_pieces bytes (drop i plan))) where
-  spelled_here : AreSpelled old.version (segment_piece bytes (segment_at plan i) ∷ segment_pieces bytes (drop (i + 1) plan))
-  spelled_here = subst (λ (z : List Piece). AreSpelled old.version z) (pieces_at bytes plan i within) spelled
-
   pub part_spellable : IsSpellable old.version (segment_piece bytes (segment_at plan i))
-  part_spellable = spelled_here.0.0
+  part_spellable = grind (arith, pieces_at)
 
   pub later_spelled : Spells old next (segment_piece bytes (segment_at plan i)) → AreSpelled next.version (segment_pieces bytes (drop (i + 1) plan))
-  later_spelled h = subst (λ (v : Version). AreSpelled v (segment_pieces bytes (drop (i + 1) plan))) (sym h.version_is) spelled_here.1
+  later_spelled h = grind (arith, pieces_at)
 
   pub part_pushed : (new : Stream) → Spells old next (segment_piece bytes (segment_at plan i)) → SpellsAll next new (segment_pieces bytes (drop (i + 1) plan)) →
       SpellsAll old new (segment_pieces bytes (drop i plan))

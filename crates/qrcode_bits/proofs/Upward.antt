@@ -9,7 +9,7 @@ use Rattle.qrcode_base.specs.declared.types.Mode.TheVariants.{Numeric, Alphanume
 use Rattle.qrcode_base.specs.Modes.{IsWithin, same, digits, bytes}
 use Rattle.qrcode_base.specs.Characters.{IsDigit, alphabet, alphanumeric_value, IsKanjiText, IsValid}
 use Rattle.qrcode_base.proofs.Alphabet.{each_below, from_each_below}
-use Rattle.qrcode_bits.proofs.Characters.{value_below, character_at_value, kanji_trail, lead_bounds}
+use Rattle.qrcode_bits.proofs.Characters.{value_below, character_at_value, kanji_trail}
 
 -- Two texts of a mode, one after the other, are one.
 pub valid-append : (m : Mode) (s t : List ℕ) → IsValid m s → IsValid m t → IsValid m (s ++ t)
@@ -59,7 +59,7 @@ sign_byte c h =
 kanji_bytes : (s : List ℕ) → IsKanjiText s → All (λ c. c < 256) s
 kanji_bytes [] h = All-nil (λ c. c < 256)
 kanji_bytes (a ∷ []) h = absurd h
-kanji_bytes (a ∷ b ∷ s) h = grind (arith, kanji_trail, lead_bounds, kanji_bytes s h.1)
+kanji_bytes (a ∷ b ∷ s) h = grind (arith, kanji_trail, kanji_bytes s h.1)
 
 pub valid_bytes : (m : Mode) (s : List ℕ) → IsValid m s → All (λ c. c < 256) s
 valid_bytes Numeric s h = All-map IsDigit (λ c. c < 256) (λ c d. omega arith) s h

@@ -1,8 +1,8 @@
 -- The lesser word is the better start.
-use Rattle.std.proofs.Common.{◌≡◌, ℕ, zero, suc, ◌+◌, ◌-◌, ◌*◌, ◌/◌, ◌%◌, ◌^◌, ◌<◌, ◌≤◌, List, length, Some, None, refl, ap, ◌∙◌, arith, min}
+use Rattle.std.proofs.Common.{◌≡◌, ℕ, zero, suc, ◌+◌, ◌-◌, ◌*◌, ◌/◌, ◌%◌, ◌^◌, ◌<◌, ◌≤◌, List, length, Some, None, refl, arith, min}
 use Rattle.std.proofs.lemmas.List.FromFn.{get_or-map-range_with_len, length-map-range_with_len}
 use Rattle.qrcode_base.specs.declared.types.Mode.{Mode}
-use Rattle.qrcode_base.specs.declared.types.Mode.TheVariants.{Numeric, Alphanumeric, Byte, Kanji}
+use Rattle.qrcode_base.specs.declared.types.Mode.TheVariants.{Alphanumeric, Byte, Kanji}
 use Rattle.qrcode_bits.specs.declared.optimize.candidate.Candidate.{Candidate}
 use Rattle.qrcode_bits.specs.Merging.{IsNoWorse}
 use Rattle.qrcode_bits.specs.Buckets.{period, period_bits, bucket_mode, bucket_rest, slot, IsBetterOf, HasBucket}
@@ -48,9 +48,6 @@ module _ (begin bits parts start : ℕ) (low : begin < 8192) (few : bits < 2 ^ 1
   abbrev thirds : ℕ
   thirds = word_of (bits + 10 * (8192 - begin / 3)) parts start
 
-  thirds-key : (j : ℕ) → bucket_mode j ≡ Numeric → bucket_start j thirds ≡ Some (key_of Numeric begin bits parts start)
-  thirds-key j is = grind arith
-
   abbrev pairs : ℕ
   pairs = word_of (bits + 11 * (8192 - begin / 2)) parts start
 
@@ -82,20 +79,17 @@ module _ (begin bits parts start : ℕ) (low : begin < 8192) (few : bits < 2 ^ 1
     at-pair : (r : ℕ) → HasBucket mode (3 + r) → r < 2 → begin % 2 ≡ r → word_at new (3 + r) ≡ min (word_at old (3 + r)) pairs
     at-pair r has b e = grind arith
 
-    at-single : HasBucket mode 5 → word_at new 5 ≡ min (word_at old 5) singles
-    at-single has = fourth.others 5 (λ w. omega arith) ∙ (third.lesser has ∙ ap (λ (z : ℕ). min z singles) (second.others 5 (λ w. omega arith) ∙ first.others 5 (λ w. omega arith)))
-
     at-character : (r : ℕ) → HasBucket mode (6 + r) → r < 2 → begin % 2 ≡ r → word_at new (6 + r) ≡ min (word_at old (6 + r)) characters
     at-character r has b e = grind arith
 
     entered : (j : ℕ) → HasBucket mode j → j < 8 → begin % period (bucket_mode j) ≡ bucket_rest j →
         IsBetterOf (slot (starts_in old) j) (Some (key_of (bucket_mode j) begin bits parts start)) (slot (starts_in new) j)
-    entered zero has inside e = better-at 0 thirds _ inside (at-third 0 has (omega arith) e) (thirds-key 0 refl)
-    entered (suc zero) has inside e = better-at 1 thirds _ inside (at-third 1 has (omega arith) e) (thirds-key 1 refl)
-    entered (suc (suc zero)) has inside e = better-at 2 thirds _ inside (at-third 2 has (omega arith) e) (thirds-key 2 refl)
+    entered zero has inside e = grind (arith, better-at, at-third)
+    entered (suc zero) has inside e = grind (arith, better-at, at-third)
+    entered (suc (suc zero)) has inside e = grind (arith, better-at, at-third)
     entered (suc (suc (suc zero))) has inside e = better-at 3 pairs _ inside (at-pair 0 has (omega arith) e) (pairs-key 3 refl)
     entered (suc (suc (suc (suc zero)))) has inside e = better-at 4 pairs _ inside (at-pair 1 has (omega arith) e) (pairs-key 4 refl)
-    entered (suc (suc (suc (suc (suc zero))))) has inside e = better-at 5 singles _ inside (at-single has) (singles-key 5 refl)
+    entered (suc (suc (suc (suc (suc zero))))) has inside e = grind (arith, better-at, singles-key)
     entered (suc (suc (suc (suc (suc (suc zero)))))) has inside e = better-at 6 characters _ inside (at-character 0 has (omega arith) e) (characters-key 6 refl)
     entered (suc (suc (suc (suc (suc (suc (suc zero))))))) has inside e = better-at 7 characters _ inside (at-character 1 has (omega arith) e) (characters-key 7 refl)
     entered (suc (suc (suc (suc (suc (suc (suc (suc j)))))))) has inside e = absurd (omega arith)
@@ -105,7 +99,7 @@ module _ (begin bits parts start : ℕ) (low : begin < 8192) (few : bits < 2 ^ 1
 
     -- the bucket of Byte has a start
     still_whole : length new ≡ 8 → IsWhole new
-    still_whole long = grind (arith, at-single)
+    still_whole long = grind arith
 
     enters : Enters mode begin bits parts start (starts_in old) (starts_in new)
     enters = (length-starts_in new, λ j has. entered j has (has-inside mode j has), λ j has. kept j (has-inside mode j has))
