@@ -1,6 +1,6 @@
 -- The choice of the version: a chosen plan fits wherever some plan does, and the first class of versions whose chosen plan fits
 -- decides.
-use Rattle.std.proofs.Common.{◌≡◌, ℕ, zero, suc, ◌+◌, ◌^◌, ◌<◌, ◌≤◌, List, [], ◌∷◌, ◌++◌, Some, length, refl, sym, ◌∙◌, arith, inl, inr}
+use Rattle.std.proofs.Common.{◌≡◌, ℕ, zero, suc, ◌+◌, ◌^◌, ◌<◌, ◌≤◌, List, [], ◌∷◌, ◌++◌, Some, length, refl, sym, ◌∙◌, arith, inl, inr, rules}
 use Rattle.std.specs.Prelude.{All, Option}
 use Rattle.std.proofs.lemmas.Bool.{cases_lt, cases_eq}
 use Rattle.std.proofs.lemmas.List.Elements.{All-head, All-tail, All-nil, All-cons, All-append}
@@ -16,8 +16,7 @@ use Rattle.qrcode_base.proofs.Fields.{SameClass, capacity-rises, capacity-held, 
 use Rattle.qrcode_bits.specs.declared.optimize.Segment.{Segment}
 use Rattle.qrcode_bits.specs.Parsing.{parsed}
 use Rattle.qrcode_bits.specs.Merging.{merged, total_bits, IsChosenPlan, joined, AreNonEmpty, merged_pieces}
-use Rattle.qrcode_bits.specs.Choice.{IsMergePlan, Fits, FitsNot, IsLeastBits, normal, micro, FitsNone, IsChoice}
-use Rattle.qrcode_bits.specs.Choice.{IsLeastHolding, IsClass}
+use Rattle.qrcode_bits.specs.Choice.{IsMergePlan, Fits, FitsNot, IsLeastBits, normal, micro, FitsNone, IsChoice, IsLeastHolding, IsClass}
 use Rattle.qrcode_bits.proofs.Growth.{total_bits-rise, total_bits-same, total_bits-double, chosen-same}
 use Rattle.qrcode_bits.proofs.CuttingPlans.{chosen-cutting, chosen-least}
 use Rattle.std.proofs.lemmas.Grind.{common_steps}
@@ -67,9 +66,7 @@ module _ (v : Version) where
   had-pieces [] some h = h
   had-pieces ([] ∷ ps) some h = absurd (let n = some.0 in omega arith)
   had-pieces ((s ∷ ss) ∷ ps) some h =
-      All-append Had (s ∷ ss) (joined ps)
-      (had-merged s ss (All-head Had (merged s ss) (merged_pieces ps) h))
-      (had-pieces ps some.1 (All-tail Had (merged s ss) (merged_pieces ps) h))
+      search (arith, rules, All-append, had-merged, All-head, All-tail, had-pieces ps some.1 (All-tail Had (merged s ss) (merged_pieces ps) h))
 
   -- All plans of some bytes have their modes in a version, or none has.
   plans-had : (message : List ℕ) (plan other : List Segment) → IsMergePlan message plan → IsMergePlan message other → All Had other → All Had plan

@@ -21,8 +21,7 @@ use Rattle.qrcode_bits.specs.Frame.{Header, header_bits}
 use Rattle.qrcode_bits.specs.Stream.{Stream}
 use Rattle.qrcode_bits.specs.Push.{IsPlace}
 use Rattle.qrcode_bits.specs.Pieces.{LiesIn}
-use Rattle.qrcode_bits.specs.Choice.{IsMergePlan, Fits, FitsNot, FitsNone, normal, IsLeastHolding, IsMinVersion}
-use Rattle.qrcode_bits.specs.Choice.{IsClass, ClassesUpTo}
+use Rattle.qrcode_bits.specs.Choice.{IsMergePlan, Fits, FitsNot, FitsNone, normal, IsLeastHolding, IsMinVersion, IsClass, ClassesUpTo}
 use Rattle.qrcode_bits.specs.Encoding.{IsPlanStream, IsEncoding, IsUnencodable, IsLimit, IsEncodingRefused, IsPartRefused}
 use Rattle.qrcode_bits.proofs.Adjoining.{parsed-linear}
 use Rattle.qrcode_bits.proofs.Growth.{total_bits-rise, total_bits-same}

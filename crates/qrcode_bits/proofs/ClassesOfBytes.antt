@@ -10,8 +10,7 @@ use Rattle.qrcode_base.specs.Characters.{is_alphanumeric, is_kanji_pair}
 use Rattle.qrcode_bits.specs.declared.optimize.parser.TheConstants.{CLASSES}
 use Rattle.qrcode_bits.specs.declared.optimize.parser.Class.{Class}
 use Rattle.qrcode_bits.specs.declared.optimize.parser.Class.TheVariants.{Pair, LoneLead}
-use Rattle.qrcode_bits.specs.Parsing.{class_number, class_numbered, class_of, class_size, units, joins, parsed_from}
-use Rattle.qrcode_bits.specs.Parsing.{class_mode}
+use Rattle.qrcode_bits.specs.Parsing.{class_number, class_numbered, class_of, class_size, units, joins, parsed_from, class_mode}
 use Rattle.qrcode_bits.proofs.Adjoining.{class_of-one}
 use Rattle.qrcode_bits.proofs.Runs.{IsRun, Run-first, Run-more, Run-apart}
 use Rattle.std.proofs.lemmas.Grind.{common_steps}

@@ -5,11 +5,10 @@ use Rattle.std.proofs.lemmas.Nat.{pow-add, and_mask}
 use Rattle.std.proofs.lemmas.List.{drop_all, length-drop}
 use Rattle.std.proofs.Math.Seq.{take-append_seam}
 use borrow.Rule.Slice.PartMut.{post_of}
-use Rattle.std.proofs.lemmas.Grind.{flat_map-append}
+use Rattle.std.proofs.lemmas.Grind.{flat_map-append, common_steps}
 use Rattle.qrcode_base.specs.Numbers.{number_bits, byte_bits}
 use Rattle.qrcode_bits.specs.Stream.{AreShifted, shifted, Stream, Appends, kept_bits, room_in, IsKept}
 use Rattle.qrcode_bits.proofs.Numbers.{number_bits-join, number_bits-cut, number_bits-mod, high_free, length-byte_bits, length-number_bits}
-use Rattle.std.proofs.lemmas.Grind.{common_steps}
 
 low_free : (used before byte : ℕ) → used < 8 → number_bits used (before * 2 ^ 8 + byte) ≡ number_bits used byte
 low_free used before byte part =

@@ -42,9 +42,6 @@ drop-further xs rest a n e = sym (drop-drop n a xs) ∙ ap (λ (z : List ℕ). d
 
 -- ---- Units and runs
 
-unit_valid : (a : ℕ) → a < 256 → IsValid (class_mode (class_of a)) (a ∷ [])
-unit_valid a small = grind (arith, is_alphanumeric-inside)
-
 module _ (whole : List ℕ) where
   pub texts-reach : (from to : ℕ) (ss : List Segment) → AreTexts whole from ss to → from ≤ to
   texts-reach from to [] h = omega arith
@@ -68,9 +65,7 @@ module _ (whole : List ℕ) where
     go false k = rw k (refl, (let s = some in omega arith), v, h)
 
   single : All (λ c. c < 256) whole → (b a : ℕ) (rest : List ℕ) → drop b whole ≡ a ∷ rest → IsValid (class_mode (class_of a)) (slice_range whole b (b + class_size (class_of a)))
-  single are b a rest d =
-      let small : a < 256 = All-head (λ c. c < 256) a rest (subst (λ (z : List ℕ). All (λ c. c < 256) z) d (All-drop (λ c. c < 256) b whole are)) in
-      grind (arith, common_steps, slice-front, class_of-one, unit_valid)
+  single are b a rest d = grind (arith, All-head, All-drop, common_steps, slice-front, class_of-one, is_alphanumeric-inside)
 
   texts-runs : All (λ c. c < 256) whole → (b : ℕ) (bytes : List ℕ) → drop b whole ≡ bytes → AreTexts whole b (map run_segment (runs b (units bytes))) (b + length bytes)
   texts-runs are b [] d = omega arith

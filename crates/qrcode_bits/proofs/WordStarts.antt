@@ -2,11 +2,10 @@
 use Rattle.std.proofs.Common.{◌≡◌, ℕ, zero, suc, ◌+◌, ◌-◌, ◌*◌, ◌/◌, ◌%◌, ◌^◌, ◌<◌, ◌≤◌, List, length, Some, None, refl, arith, min}
 use Rattle.std.proofs.lemmas.List.FromFn.{get_or-map-range_with_len, length-map-range_with_len}
 use Rattle.qrcode_base.specs.declared.types.Mode.{Mode}
-use Rattle.qrcode_base.specs.declared.types.Mode.TheVariants.{Alphanumeric, Byte, Kanji}
+use Rattle.qrcode_base.specs.declared.types.Mode.TheVariants.{Alphanumeric, Kanji}
 use Rattle.qrcode_bits.specs.declared.optimize.candidate.Candidate.{Candidate}
 use Rattle.qrcode_bits.specs.Merging.{IsNoWorse}
-use Rattle.qrcode_bits.specs.Buckets.{period, period_bits, bucket_mode, bucket_rest, slot, IsBetterOf, HasBucket}
-use Rattle.qrcode_bits.specs.Buckets.{key_of, Enters}
+use Rattle.qrcode_bits.specs.Buckets.{period, period_bits, bucket_mode, bucket_rest, slot, IsBetterOf, HasBucket, key_of, Enters}
 use Rattle.qrcode_bits.proofs.Grouping.{has-inside}
 use Rattle.qrcode_bits.specs.Words.{word_of, start_told, bucket_start, word_at, starts_in, IsOffered, IsWhole}
 use Rattle.std.proofs.lemmas.Grind.{common_steps}
@@ -57,9 +56,6 @@ module _ (begin bits parts start : ℕ) (low : begin < 8192) (few : bits < 2 ^ 1
   abbrev singles : ℕ
   singles = word_of (bits + 8 * (8192 - begin)) parts start
 
-  singles-key : (j : ℕ) → bucket_mode j ≡ Byte → bucket_start j singles ≡ Some (key_of Byte begin bits parts start)
-  singles-key j is = grind arith
-
   abbrev characters : ℕ
   characters = word_of (bits + 13 * (8192 - begin / 2)) parts start
 
@@ -89,7 +85,7 @@ module _ (begin bits parts start : ℕ) (low : begin < 8192) (few : bits < 2 ^ 1
     entered (suc (suc zero)) has inside e = grind (arith, better-at, at-third)
     entered (suc (suc (suc zero))) has inside e = better-at 3 pairs _ inside (at-pair 0 has (omega arith) e) (pairs-key 3 refl)
     entered (suc (suc (suc (suc zero)))) has inside e = better-at 4 pairs _ inside (at-pair 1 has (omega arith) e) (pairs-key 4 refl)
-    entered (suc (suc (suc (suc (suc zero))))) has inside e = grind (arith, better-at, singles-key)
+    entered (suc (suc (suc (suc (suc zero))))) has inside e = grind (arith, better-at)
     entered (suc (suc (suc (suc (suc (suc zero)))))) has inside e = better-at 6 characters _ inside (at-character 0 has (omega arith) e) (characters-key 6 refl)
     entered (suc (suc (suc (suc (suc (suc (suc zero))))))) has inside e = better-at 7 characters _ inside (at-character 1 has (omega arith) e) (characters-key 7 refl)
     entered (suc (suc (suc (suc (suc (suc (suc (suc j)))))))) has inside e = absurd (omega arith)
