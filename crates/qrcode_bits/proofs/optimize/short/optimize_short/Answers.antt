@@ -1,8 +1,6 @@
-use Rattle.std.proofs.Common.{◌≡◌, ◌+◌, arith, refl}
+use Rattle.std.proofs.Common.{◌+◌, arith, refl}
 use Rattle.qrcode_bits.specs.Merging.{segment_at, IsStep}
-use Rattle.qrcode_bits.specs.Buckets.{bits_before, parts_before}
 use Rattle.qrcode_bits.specs.Words.{told, step_told}
-use Rattle.qrcode_bits.proofs.Scan.{IsStep-chosen}
 use Rattle.qrcode_bits.proofs.ShortSteps.{step-small, AreShortSteps-push, AreShortSteps-start}
 use Rattle.qrcode_bits.proofs.Grouping.{AreGroups-next, AreGroups-none}
 use Rattle.qrcode_bits.proofs.optimize.short.optimize_short.Goals as goal
@@ -30,11 +28,10 @@ last_step_short-before-requires-clause-words g c =
     let k = c.loop-start.start in
     let inv = c.loop-start.invariant in
     let right : IsStep segments c.args.version k (step_told segments k c.loop-start.before) = rw inv.last (inv.right k (omega (arith, inv.long))) in
-    let known = IsStep-chosen right in
-    let bits : c.bits.result ≡ bits_before segments c.args.version k = omega (arith, c.bits.ensures, known.0) in
-    let parts : c.parts.result + 1 ≡ parts_before segments c.args.version k + 1 = omega (arith, c.parts.ensures, known.1) in
     AreGroups-next segments c.args.version k c.loop-start-test.true (told c.loop-start.words) (told c.advance.new.self) (told c.enter.new.self) (segment_at segments k).mode
-    c.bits.result (c.parts.result + 1) inv.groups refl c.advance.ensures.advances c.enter.ensures.entered bits parts (let near = c.requires.short.near k c.loop-start-test.true in let order = c.requires.linear.ordered k k (omega arith) c.loop-start-test.true in omega arith)
+    (step_told segments k c.loop-start.before) c.bits.result (c.parts.result + 1) inv.groups refl
+    c.advance.ensures.advances c.enter.ensures.entered right (omega (arith, c.bits.ensures)) (omega (arith, c.parts.ensures))
+    (let near = c.requires.short.near k c.loop-start-test.true in let order = c.requires.linear.ordered k k (omega arith) c.loop-start-test.true in omega arith)
 
 pub loop-start-preserved : goal.loop-start-preserved
 loop-start-preserved g c =
@@ -42,11 +39,11 @@ loop-start-preserved g c =
     let k = c.loop-start.start in
     let inv = c.loop-start.invariant in
     let right : IsStep segments c.args.version k (step_told segments k c.loop-start.before) = rw inv.last (inv.right k (omega (arith, inv.long))) in
-    let known = IsStep-chosen right in
-    let bits : c.bits.result ≡ bits_before segments c.args.version k = omega (arith, c.bits.ensures, known.0) in
-    let parts : c.parts.result + 1 ≡ parts_before segments c.args.version k + 1 = omega (arith, c.parts.ensures, known.1) in
     let next = AreGroups-next segments c.args.version k c.loop-start-test.true (told c.loop-start.words) (told c.advance.new.self) (told c.enter.new.self) (segment_at segments k).mode
-    c.bits.result (c.parts.result + 1) inv.groups refl c.advance.ensures.advances c.enter.ensures.entered bits parts (let near = c.requires.short.near k c.loop-start-test.true in let order = c.requires.linear.ordered k k (omega arith) c.loop-start-test.true in omega arith) in
+    (step_told segments k c.loop-start.before) c.bits.result (c.parts.result + 1) inv.groups refl
+    c.advance.ensures.advances c.enter.ensures.entered right (omega (arith, c.bits.ensures)) (omega (arith, c.parts.ensures))
+    (let near = c.requires.short.near k c.loop-start-test.true in
+    let order = c.requires.linear.ordered k k (omega arith) c.loop-start-test.true in omega arith) in
     let w = AreShortSteps-push segments c.args.version c.loop-start.steps.items c.push-in-loop-start.new.self.items c.last_step_short-before.result k inv.long inv.right c.last_step_short-before.ensures.step c.in_ok-push-2.ensures.items in
     record {
       long = w.0;
