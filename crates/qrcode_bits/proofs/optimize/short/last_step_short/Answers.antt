@@ -1,5 +1,5 @@
 -- The best start of each rest was tried, by its word.
-use Rattle.std.proofs.Common.{ℕ, ◌-◌, ◌*◌, arith, ap}
+use Rattle.std.proofs.Common.{ℕ, ◌-◌, ◌*◌, arith, ap, rules}
 use Rattle.qrcode_bits.specs.Merging.{segment_at}
 use Rattle.qrcode_bits.specs.Words.{told}
 use Rattle.qrcode_bits.proofs.ShortSteps.{cost-small, short-rest, short-enough, sought-keeps, sought-takes, sought-nothing, sought-last}
@@ -8,9 +8,7 @@ use Rattle.qrcode_bits.proofs.optimize.short.last_step_short.Goals.{then-found+t
 use Rattle.std.proofs.lemmas.Grind.{common_steps}
 
 pub overflow_sub-last_end-then-found : goal.overflow_sub-last_end-then-found
-overflow_sub-last_end-then-found g c =
-    short-rest c.args.segments.now c.args.version c.args.end c.requires.within c.requires.linear c.loop-bucket.bucket c.best-found.result c.bucket_rest.result
-    (told c.args.words.now) c.bucket_mode-mode.result c.loop-bucket-test.true c.requires.words c.bucket_mode-mode.ensures c.best-found.ensures c.if-found.true c.bucket_rest.ensures
+overflow_sub-last_end-then-found g c = search (arith, rules, short-rest)
 
 pub with_cost-candidate-requires-clause-enough : goal.with_cost-candidate-requires-clause-enough
 with_cost-candidate-requires-clause-enough g c =
