@@ -1,5 +1,5 @@
 -- The blocks of a grid that is read are sound, so other sound lists are far from them.
-use Rattle.std.proofs.Common.{◌<◌, ◌≤◌, sym, arith, Bool, List, length, replicate, length-append}
+use Rattle.std.proofs.Common.{◌<◌, ◌≤◌, sym, arith, Bool, List, length, length-append}
 use Rattle.std.proofs.lemmas.List.{get_or-replicate}
 use Rattle.std.proofs.lemmas.List.Elements.{All-append}
 use Rattle.qrcode_base.specs.declared.types.Color.{Color}
@@ -7,7 +7,7 @@ use Rattle.qrcode_base.specs.declared.types.EcLevel.{EcLevel}
 use Rattle.qrcode_base.specs.declared.types.Version.{Version}
 use Rattle.qrcode_grid.specs.declared.canvas.MaskPattern.{MaskPattern}
 use Rattle.qrcode_grid.specs.Codes.{AreBytes}
-use Rattle.qrcode_grid.specs.Blocks.{block_in, codeword_block}
+use Rattle.qrcode_grid.specs.Blocks.{codeword_block}
 use Rattle.qrcode_base.specs.Symbols.{block_sizes}
 use Rattle.qrcode_core.specs.Reader.{Reading, Carries, Reads}
 use Rattle.qrcode_core.specs.Headline.{CarriesApart, HasBlocksApart}
@@ -19,20 +19,11 @@ use Rattle.qrcode_grid.proofs.Layouts.{IsUsable-of_symbol}
 pub carries_apart : (grid : List Color) (version : Version) (level : EcLevel) (mask : MaskPattern) (bits : List Bool) (r : Carries grid version level mask bits) → CarriesApart grid version level mask bits r
 carries_apart grid version level mask bits r block within = λ other same bytes sound differ.
     let n = r.blocks.correction in let sizes = block_sizes r.blocks in
-    let usable = IsUsable-of_symbol version level r.blocks r.has_level in
     let mine = codeword_block n sizes r.interleaved r.correction block in
-    let long : length mine ≤ 255 =
-    omega (
-      arith,
-      length-append (block_in sizes r.interleaved block) (block_in (replicate (length sizes) n) r.correction block),
-      length-block_in sizes r.interleaved block,
-      length-block_in (replicate (length sizes) n) r.correction block,
-      get_or-replicate (length sizes) block n 0 within,
-      usable.short block within,
-    ) in
+    let usable = IsUsable-of_symbol version level r.blocks r.has_level in
+    let long : length mine ≤ 255 = grind (arith, length-append, length-block_in, get_or-replicate, usable.short block within) in
     let bytes_mine : AreBytes mine =
-    All-append (λ x. x < 256) (block_in sizes r.interleaved block) (block_in (replicate (length sizes) n) r.correction block)
-    (AreBytes-block_in sizes r.interleaved block r.bytes_interleaved) (AreBytes-block_in (replicate (length sizes) n) r.correction block r.bytes_correction) in
+    All-append (λ x. x < 256) _ _ (AreBytes-block_in _ _ _ r.bytes_interleaved) (AreBytes-block_in _ _ _ r.bytes_correction) in
     distance-sound n mine other (sym same) long bytes_mine bytes (r.sound.sound block within) sound (λ e. differ (sym e))
 
 -- So has every grid that is read.

@@ -1,5 +1,5 @@
 -- The raw bits of a grid tell the codewords, and so the data.
-use Rattle.std.proofs.Common.{◌≡◌, ℕ, ◌+◌, ◌*◌, ◌<◌, refl, ap, sym, ◌∙◌, arith, List, [], ◌∷◌, ◌++◌, length, Bool, length-append}
+use Rattle.std.proofs.Common.{◌≡◌, ℕ, ◌+◌, ◌*◌, ◌<◌, refl, ap, arith, List, [], ◌∷◌, ◌++◌, length, Bool, length-append}
 use Rattle.std.proofs.lemmas.List.{length-replicate}
 use Rattle.std.proofs.lemmas.List.Elements.{All-head, All-tail}
 use Rattle.qrcode_base.specs.Numbers.{byte_bits, zero_bits}
@@ -27,6 +27,4 @@ length-drawn xs drawn missing e =
 pub bytes-of_drawn : (xs ys : List ℕ) (missing : ℕ) (dx dy rx ry : List Bool) → AreBytes xs → AreBytes ys → length xs ≡ length ys →
     byte_bits xs ≡ dx ++ zero_bits missing → byte_bits ys ≡ dy ++ zero_bits missing → dx ++ rx ≡ dy ++ ry → xs ≡ ys
 bytes-of_drawn xs ys missing dx dy rx ry hx hy l ex ey e =
-    let lx = length-drawn xs dx missing ex in let ly = length-drawn ys dy missing ey in
-    let same = (front_is dx dy rx ry (omega arith) e).0 in
-    bytes-of_bits xs ys hx hy l (ex ∙ ap (λ d. d ++ zero_bits missing) same ∙ sym ey)
+    grind (arith, length-drawn xs dx missing, length-drawn ys dy missing, front_is dx dy rx ry, bytes-of_bits xs ys)

@@ -1,6 +1,6 @@
 -- The codewords of an ended stream hold its frame.
-use Rattle.std.proofs.Common.{◌≡◌, ℕ, ◌+◌, ◌-◌, ◌*◌, ◌%◌, ◌≤◌, ap, sym, ◌∙◌, arith, ◌⊎◌, List, ◌++◌, length, take, Bool, length-append, append_assoc}
-use Rattle.std.specs.Prelude.{Some, if◌then◌else◌}
+use Rattle.std.proofs.Common.{◌≡◌, ℕ, ◌-◌, ◌%◌, ◌≤◌, ◌∙◌, arith, ◌⊎◌, List, ◌++◌, length, take, Bool, append_assoc}
+use Rattle.std.specs.Prelude.{Some}
 use Rattle.std.proofs.lemmas.List.{take_at, replicate-append-replicate}
 use Rattle.std.proofs.lemmas.Option.{none-some, same_Some}
 use Rattle.qrcode_base.specs.declared.types.EcLevel.{EcLevel}
@@ -8,43 +8,31 @@ use Rattle.qrcode_base.specs.declared.types.Version.{Version}
 use Rattle.qrcode_base.specs.declared.symbols.BlockLayout.{BlockLayout}
 use Rattle.qrcode_base.specs.Symbols.{blocks_of, data_bytes, missing_bits, capacity}
 use Rattle.qrcode_base.specs.Numbers.{byte_bits, zero_bits}
-use Rattle.qrcode_bits.specs.Frame.{tail, half_byte, half_byte_width, ended}
+use Rattle.qrcode_bits.specs.Frame.{tail, half_byte, ended}
 use Rattle.qrcode_bits.proofs.Streams.{length-tail, length-ended}
 use Rattle.std.proofs.lemmas.Grind.{common_steps}
 
--- no bits are missing, or four of at least one byte
-abbrev pub Lacks : Version → BlockLayout → Type 0
-Lacks v b = (missing_bits v ≡ 0) ⊎ ((missing_bits v ≡ 4) × (1 ≤ data_bytes b))
-
-pub lacks : (v : Version) (l : EcLevel) (b : BlockLayout) → blocks_of v l ≡ Some b → Lacks v b
+-- no bits are missing; or four of at least one byte, in one block
+pub lacks : (v : Version) (l : EcLevel) (b : BlockLayout) → blocks_of v l ≡ Some b →
+    (missing_bits v ≡ 0) ⊎ ((missing_bits v ≡ 4) × (1 ≤ data_bytes b))
 lacks v l b e = grind (arith, common_steps, none-some, same_Some)
-
--- zeros of the half byte and zeros to the end of the last byte are together the missing bits
-zeros_are : (missing size limit half : ℕ) → (missing ≡ 0) ⊎ ((missing ≡ 4) × (1 ≤ size)) → limit ≡ 8 * size - missing → (half ≡ missing) ⊎ (half ≡ 0) →
-    half + (8 - (limit + half) % 8) % 8 ≡ missing
-zeros_are missing size limit half lack sized zeros = grind (arith, common_steps)
-
-half_is : (t : Bool) (m : ℕ) → ((if t then m else 0) ≡ m) ⊎ ((if t then m else 0) ≡ 0)
-half_is t m = grind (arith, common_steps)
 
 -- what follows the payload of a stream reaches its capacity
 pub length-tailed : (v : Version) (limit : ℕ) (payload : List Bool) → length payload ≤ limit → length (payload ++ tail v limit (length payload)) ≡ limit
-length-tailed v limit payload fits = omega (arith, length-append payload (tail v limit (length payload)), length-tail v limit (length payload) fits)
+length-tailed v limit payload fits = grind (arith, common_steps, length-tail)
 
 -- The bytes into which an ended stream is turned are its bits up to the capacity, and the missing bits as zeros.
 pub bytes_of_tailed : (v : Version) (l : EcLevel) (b : BlockLayout) (limit : ℕ) (payload : List Bool) (words : List ℕ) → blocks_of v l ≡ Some b →
     capacity v l ≡ Some limit → length payload ≤ limit →
     byte_bits words ≡ ended v limit payload ++ zero_bits ((8 - length (ended v limit payload) % 8) % 8) → byte_bits words ≡ (payload ++ tail v limit (length payload)) ++ zero_bits (missing_bits v)
 bytes_of_tailed v l b limit payload words known limit_is fits are =
-    grind (arith, common_steps, append_assoc, same_Some, length-ended, zeros_are, lacks, half_is, replicate-append-replicate)
+    grind (arith, common_steps, append_assoc, same_Some, length-ended, lacks, replicate-append-replicate)
 
 -- The same, where the bits up to the capacity are the first ones of the ended stream.
 pub bytes_of_ended : (v : Version) (l : EcLevel) (b : BlockLayout) (limit : ℕ) (payload : List Bool) (words : List ℕ) → blocks_of v l ≡ Some b →
     capacity v l ≡ Some limit → length payload ≤ limit →
     byte_bits words ≡ ended v limit payload ++ zero_bits ((8 - length (ended v limit payload) % 8) % 8) → byte_bits words ≡ take limit (ended v limit payload) ++ zero_bits (missing_bits v)
 bytes_of_ended v l b limit payload words known limit_is fits are =
-    let half = half_byte_width v limit (length payload) in
-    let frame : List Bool = payload ++ tail v limit (length payload) in
-    let whole : ended v limit payload ≡ frame ++ zero_bits half = sym (append_assoc payload (tail v limit (length payload)) (half_byte v limit (length payload))) in
-    let front : take limit (ended v limit payload) ≡ frame = ap (take limit) whole ∙ take_at frame (zero_bits half) limit (length-tailed v limit payload fits) in
-    bytes_of_tailed v l b limit payload words known limit_is fits are ∙ ap (λ (z : List Bool). z ++ zero_bits (missing_bits v)) (sym front)
+    let whole = append_assoc payload (tail v limit (length payload)) (half_byte v limit (length payload)) in
+    let front = take_at (payload ++ tail v limit (length payload)) (half_byte v limit (length payload)) limit (length-tailed v limit payload fits) in
+    bytes_of_tailed v l b limit payload words known limit_is fits are ∙ cc

@@ -1,7 +1,7 @@
 -- The last data codeword of M1 and M3 has four bits: in the stream of one block it stands last, as in the data.
-use Rattle.std.proofs.Common.{◌≡◌, ℕ, zero, suc, pos, negsuc, ◌+◌, ◌-◌, refl, ap, sym, ◌∙◌, arith, inl, inr, ◌⊎◌, List, [], ◌∷◌, ◌++◌, length, map, take, min, Bool, length-append, append-nil}
+use Rattle.std.proofs.Common.{◌≡◌, ℕ, zero, suc, pos, negsuc, ◌-◌, refl, ap, sym, ◌∙◌, arith, inl, inr, ◌⊎◌, List, [], ◌∷◌, ◌++◌, length, map, take, min, Bool, length-append, append-nil}
 use Rattle.std.specs.Prelude.{Some}
-use Rattle.std.specs.List.{concat, sum}
+use Rattle.std.specs.List.{concat}
 use Rattle.std.proofs.lemmas.List.{same_lists, get_or_default, length-replicate, take_at}
 use Rattle.std.proofs.lemmas.List.FromFn.{get_or-map-range_with_len, length-map-range_with_len}
 use Rattle.std.proofs.lemmas.Option.{none-some, same_Some}
@@ -44,11 +44,8 @@ pub low_half : (version : Version) (level : EcLevel) (b : BlockLayout) (n : ℕ)
     AreCodewords n (block_sizes b) words stream correction → byte_bits words ≡ frame ++ zero_bits (missing_bits version) →
     (front : List Bool) × (byte_bits stream ≡ front ++ zero_bits (missing_bits version))
 low_half version level b n words stream correction frame e codes ends = elim (lacks_in_one_block version level b e) [
-  | inl none ↦ (byte_bits stream, sym (append-nil (byte_bits stream)) ∙ ap (λ k. byte_bits stream ++ zero_bits k) (sym none))
-  | inr one ↦ (
-      let long : length stream ≡ one.0 = codes.stream_length ∙ ap sum one.1 ∙ (let z : 0 + one.0 ≡ one.0 = omega arith in z) in
-      let same : stream ≡ words = sym (one_block one.0 stream long) ∙ ap (λ sizes. concat (blocks_in sizes stream)) (sym one.1) ∙ codes.in_order in
-      (frame, ap byte_bits same ∙ ends))
+  | inl none ↦ (byte_bits stream, cc (none, append-nil (byte_bits stream)))
+  | inr one ↦ (frame, cc (one_block one.0 stream (codes.stream_length ∙ rw one.1 (omega arith)), one.1, codes.in_order, ends))
 ]
 
 pub cut_at : (bits front : List Bool) (m n : ℕ) → bits ≡ front ++ zero_bits m → length bits ≡ n → bits ≡ take (n - m) bits ++ zero_bits m

@@ -1,18 +1,14 @@
 -- The bits that a caller pushed, ended and drawn, are what the symbol carries.
-use Rattle.std.proofs.Common.{◌≡◌, ◌∙◌, ℕ, sym, subst, Bool, List, ◌++◌, length}
-use Rattle.std.specs.Prelude.{Option, IsSomeAnd}
-use Rattle.qrcode_base.specs.declared.symbols.BlockLayout.{BlockLayout}
+use Rattle.std.proofs.Common.{◌≡◌, ℕ, Bool, List, ◌++◌, length}
 use Rattle.qrcode_base.specs.declared.types.EcLevel.{EcLevel}
-use Rattle.qrcode_base.specs.declared.types.Version.{Version}
 use Rattle.qrcode_base.specs.Numbers.{byte_bits, zero_bits}
-use Rattle.qrcode_base.specs.Symbols.{data_bytes, missing_bits}
+use Rattle.qrcode_base.specs.Symbols.{missing_bits}
 use Rattle.qrcode_bits.specs.Frame.{tail}
 use Rattle.qrcode_bits.specs.Push.{EndsAtLevel}
 use Rattle.qrcode_bits.specs.Stream.{Stream}
 use Rattle.qrcode_core.specs.Drawn.{DrawnSymbol, TellsReading}
 use Rattle.qrcode_core.specs.HeldBits.{HoldsStream}
-use Rattle.qrcode_core.specs.Layers.{IsDrawn, AreAllCodewords, AreBytesOf, FillsSymbol, IsDrawnStream}
-use Rattle.qrcode_core.proofs.Best.{of_family}
+use Rattle.qrcode_core.specs.Layers.{AreBytesOf, FillsSymbol, IsDrawnStream}
 use Rattle.qrcode_core.proofs.BlocksApart.{carries_apart}
 use Rattle.qrcode_core.proofs.DrawnReading.{drawn_carries}
 use Rattle.qrcode_core.proofs.Ending.{bytes_of_tailed, length-tailed}
@@ -33,17 +29,14 @@ module _ (old new : Stream) (level : EcLevel) (ended : EndsAtLevel old new level
   pub ended_fills : FillsSymbol new level
   ended_fills words turned =
       let blocks = has_blocks old.version level ended.limit ended.limit_is in
-      let long = length-filled old.version level words blocks.0 ended.limit bits blocks.1 ended.limit_is (length-tailed old.version ended.limit old.bits ended.fits) (tailed words turned) in
-      subst (λ (v : Version). AreAllCodewords v level (length words)) (sym ended.ends.version_is)
-      (subst (λ (o : Option BlockLayout). IsSomeAnd o (λ b. length words ≡ data_bytes b)) (sym blocks.1) long)
+      let long = length-filled old.version level words blocks.0 ended.limit bits in
+      grind (arith, blocks.1, long, length-tailed old.version ended.limit old.bits, tailed words turned)
 
   -- The symbol that is drawn of them holds the bits as they were before.
   pub holds_stream : (symbol : DrawnSymbol) → IsDrawnStream new level symbol → HoldsStream old level symbol
   holds_stream symbol made =
-      let drawn = subst (λ (v : Version). IsDrawn v level made.codewords symbol) ended.ends.version_is made.drawn in
-      let has_mask = of_family old.version drawn.best.0 symbol.mask drawn.best.1 in
-      let carries =
-      drawn_carries old.version level symbol.mask bits made.codewords drawn.interleaved drawn.correction symbol.modules has_mask (tailed made.codewords made.turned) drawn.streams drawn.carries in
+      let drawn = rw ended.ends.version_is at made.drawn in
+      let carries = drawn_carries old.version level bits made.codewords symbol (tailed made.codewords made.turned) drawn in
       record {
         limit = ended.limit;
         limit_is = ended.limit_is;
@@ -62,5 +55,4 @@ module _ (old new : Stream) (level : EcLevel) (ended : EndsAtLevel old new level
   pub held_reading : (symbol : DrawnSymbol) → IsDrawnStream new level symbol → TellsReading symbol
   held_reading symbol made reading seen =
       let held = (holds_stream symbol made).holds in
-      let same = held.only reading.version reading.level reading.mask seen.frame seen.carries in
-      (held.version_is ∙ sym same.0, held.level_is ∙ sym same.1, sym same.2)
+      grind (arith, held, held.only reading.version reading.level reading.mask seen.frame seen.carries)

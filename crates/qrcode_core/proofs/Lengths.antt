@@ -1,40 +1,24 @@
 -- Data codewords that hold a frame are as many as their symbol has, so that only memory can be wanting for their streams.
-use Rattle.std.proofs.Common.{◌≡◌, ℕ, ◌+◌, ◌-◌, ◌*◌, ap, sym, ◌∙◌, arith, inl, inr, List, ◌++◌, length, Bool, false, length-append}
+use Rattle.std.proofs.Common.{◌≡◌, ℕ, arith, List, ◌++◌, length, Bool}
 use Rattle.std.specs.Prelude.{Option, Some}
-use Rattle.std.proofs.lemmas.List.{length-replicate}
 use Rattle.std.proofs.lemmas.Option.{same_Some}
 use Rattle.qrcode_base.specs.declared.symbols.BlockLayout.{BlockLayout}
 use Rattle.qrcode_base.specs.declared.types.EcLevel.{EcLevel}
 use Rattle.qrcode_base.specs.declared.types.Version.{Version}
-use Rattle.qrcode_base.specs.Symbols.{blocks_of, capacity, capacity_with, data_bytes, missing_bits}
+use Rattle.qrcode_base.specs.Symbols.{blocks_of, capacity, data_bytes, missing_bits}
 use Rattle.qrcode_base.specs.Numbers.{byte_bits, zero_bits}
 use Rattle.qrcode_bits.specs.Frame.{Header}
 use Rattle.qrcode_bits.proofs.Frames.{length-frame}
-use Rattle.qrcode_bits.proofs.Numbers.{length-byte_bits}
 use Rattle.qrcode_core.specs.Layers.{IsEncoded}
-use Rattle.qrcode_core.proofs.Ending.{Lacks, lacks}
-
-whole : (v : Version) (b : BlockLayout) (count limit : ℕ) → Lacks v b → limit ≡ 8 * data_bytes b - missing_bits v → count * 8 ≡ limit + missing_bits v →
-    count ≡ data_bytes b
-whole v b count limit (inl none) sized e = omega (arith, none)
-whole v b count limit (inr four) sized e = omega (arith, four.0, four.1)
+use Rattle.qrcode_core.proofs.Contents.{length-drawn}
+use Rattle.qrcode_core.proofs.Ending.{lacks}
+use Rattle.std.proofs.lemmas.Grind.{common_steps}
 
 -- Codewords that hold as many bits as the capacity are as many as the data codewords of the symbol.
 pub length-filled : (v : Version) (l : EcLevel) (words : List ℕ) (b : BlockLayout) (limit : ℕ) (bits : List Bool) →
     blocks_of v l ≡ Some b → capacity v l ≡ Some limit → length bits ≡ limit → byte_bits words ≡ bits ++ zero_bits (missing_bits v) → length words ≡ data_bytes b
 length-filled v l words b limit bits known limit_is size held =
-    let sized : limit ≡ 8 * data_bytes b - missing_bits v =
-    same_Some limit (8 * data_bytes b - missing_bits v) (sym limit_is ∙ ap (capacity_with v) known) in
-    let long : length words * 8 ≡ limit + missing_bits v =
-    omega (
-      arith,
-      length-byte_bits words,
-      ap (λ (bits : List Bool). length bits) held,
-      length-append bits (zero_bits (missing_bits v)),
-      length-replicate (missing_bits v) false,
-      size,
-    ) in
-    whole v b (length words) limit (lacks v l b known) sized long
+    grind (arith, common_steps, length-drawn words bits (missing_bits v) held, lacks v l b known, same_Some)
 
 -- The codewords of a frame are as many as the data codewords of the symbol.
 pub length-encoded : (v : Version) (l : EcLevel) (h : Option Header) (bytes : List ℕ) (n : ℕ) (words : List ℕ) (b : BlockLayout) →

@@ -1,5 +1,6 @@
 -- Some grids are read as one message at most, and the best symbols of its parts are read as the message.
-use Rattle.std.proofs.Common.{◌≡◌, ℕ, zero, suc, ◌+◌, ◌-◌, ◌<◌, ◌≤◌, refl, ap, sym, ◌∙◌, subst, arith, List, [], ◌∷◌, ◌++◌, length, get_or, drop}
+use Rattle.std.proofs.lemmas.Grind.{common_steps}
+use Rattle.std.proofs.Common.{◌≡◌, ℕ, zero, suc, ◌+◌, ◌-◌, ◌<◌, ◌≤◌, refl, ap, sym, ◌∙◌, arith, List, [], ◌∷◌, ◌++◌, length, get_or, drop}
 use Rattle.std.specs.Prelude.{Some, All, IsPermutation, slice_range}
 use Rattle.std.specs.List.{concat}
 use Rattle.std.specs.List.Sorted.{IsNonDecreasing}
@@ -19,56 +20,42 @@ use Rattle.qrcode_core.proofs.OneReading.{one_reading}
 
 -- a grid is read as one piece with one header
 one_piece : (grid : List Color) (g h : Header) (a b : List ℕ) → ReadsPiece grid g a → ReadsPiece grid h b → (g ≡ h) × (a ≡ b)
-one_piece grid g h a b p q =
-    let same = one_reading grid p.reading q.reading p.reads q.reads in
-    (same_Some g h (sym p.header_is ∙ ap (λ r. r.header) same ∙ q.header_is), sym p.piece_is ∙ ap (λ r. r.bytes) same ∙ q.piece_is)
+one_piece grid g h a b p q = grind (arith, common_steps, one_reading grid p.reading q.reading p.reads q.reads, same_Some)
 
 -- the piece at a place is the same in two readings
-same_piece : (grids shuffled : List (List Color)) (m n : List ℕ) → IsPermutation grids shuffled →
-    (f : ReadsMessage grids m) (g : ReadsMessage shuffled n) (i : ℕ) → i < length grids →
+same_piece : (grids : List (List Color)) (m n : List ℕ) (f : ReadsMessage grids m) (g : ReadsMessage grids n) (i : ℕ) → i < length grids →
     get_or f.pieces i [] ≡ get_or g.pieces i []
-same_piece grids shuffled m n mixed f g i inside =
-    let size : length shuffled ≡ length grids = length_permutation grids shuffled mixed in
-    let sorted : length f.in_order ≡ length grids = length_permutation grids f.in_order f.same_grids in
-    let others : length g.in_order ≡ length shuffled = length_permutation shuffled g.in_order g.same_grids in
+same_piece grids m n f g i inside =
+    let sorted = length_permutation grids f.in_order f.same_grids in
+    let others = length_permutation grids g.in_order g.same_grids in
     let grid = get_or f.in_order i [] in
-    let moved = IsPermutation-trans f.in_order grids g.in_order (IsPermutation-sym grids f.in_order f.same_grids) (IsPermutation-trans grids shuffled g.in_order mixed g.same_grids) in
+    let moved = IsPermutation-trans f.in_order grids g.in_order (IsPermutation-sym grids f.in_order f.same_grids) g.same_grids in
     let found = Contains-permutation f.in_order g.in_order grid moved (Contains-get_or f.in_order i [] (omega arith)) in
-    let j = found.0 in
-    let within : j < length shuffled = omega (arith, found.1, others) in
-    let here : get_or g.in_order j [] ≡ grid = get_or_default g.in_order j [] grid found.1 ∙ found.2 in
-    let there : ReadsPiece grid (header_at (j + 1) (length shuffled) n) (get_or g.pieces j []) =
-    subst (λ (x : List Color). ReadsPiece x (header_at (j + 1) (length shuffled) n) (get_or g.pieces j [])) here (g.each_read j within) in
-    let same = one_piece grid (header_at (i + 1) (length grids) m) (header_at (j + 1) (length shuffled) n) (get_or f.pieces i []) (get_or g.pieces j []) (f.each_read i inside) there in
-    let place : i + 1 ≡ j + 1 = ap (λ h. h.place) same.0 in
-    let at : j ≡ i = omega arith in
-    same.1 ∙ ap (λ k. get_or g.pieces k []) at
-
-pub one_message : HaveOneMessage
-one_message grids shuffled m n mixed f g =
-    let size : length grids ≡ length shuffled = sym (length_permutation grids shuffled mixed) in
-    let pieces : f.pieces ≡ g.pieces =
-    same_lists f.pieces g.pieces (f.a_piece_each ∙ size ∙ sym g.a_piece_each)
-    (λ k d below.
-    let inside : k < length grids = omega (arith, below, f.a_piece_each) in
-    get_or_default f.pieces k d [] below ∙ same_piece grids shuffled m n mixed f g k inside ∙ get_or_default g.pieces k [] d (omega (arith, inside, size, g.a_piece_each))) in
-    f.message_is ∙ ap concat pieces ∙ sym g.message_is
+    let there = g.each_read found.0 (omega (arith, found.1)) in
+    grind (arith, one_piece grid, f.each_read i inside, there, get_or_default g.in_order found.0 [] grid found.1 ∙ found.2)
 
 -- Grids that are read as a message are so in every order.
 in_any_order : (grids shuffled : List (List Color)) (message : List ℕ) → IsPermutation grids shuffled → ReadsMessage grids message →
     ReadsMessage shuffled message
 in_any_order grids shuffled message mixed seen =
-    let size : length grids ≡ length shuffled = sym (length_permutation grids shuffled mixed) in
+    let size = length_permutation grids shuffled mixed in
     record {
       in_order = seen.in_order;
       pieces = seen.pieces;
-      enough = subst IsTotal size seen.enough;
+      enough = grind (arith, size, seen.enough);
       same_grids = IsPermutation-trans shuffled grids seen.in_order (IsPermutation-sym grids shuffled mixed) seen.same_grids;
-      a_piece_each = seen.a_piece_each ∙ size;
-      each_read = λ i inside.
-          subst (λ (total : ℕ). ReadsPiece (get_or seen.in_order i []) (header_at (i + 1) total message) (get_or seen.pieces i [])) size (seen.each_read i (omega (arith, inside, size)));
+      a_piece_each = cc;
+      each_read = λ i inside. grind (arith, common_steps, seen.each_read i (omega arith), size);
       message_is = seen.message_is;
     }
+
+pub one_message : HaveOneMessage
+one_message grids shuffled m n mixed f h =
+    let g = in_any_order shuffled grids n (IsPermutation-sym grids shuffled mixed) h in
+    let pieces : f.pieces ≡ g.pieces = same_lists f.pieces g.pieces (omega (arith, f.a_piece_each, g.a_piece_each)) (λ k d below.
+        let same = same_piece grids m n f g k (omega (arith, below, f.a_piece_each)) in
+        grind (arith, common_steps, same, get_or_default, f.a_piece_each, g.a_piece_each)) in
+    cc (f.message_is, g.message_is)
 
 -- ---- Parts
 
@@ -89,8 +76,7 @@ length-parts start (cut ∷ cuts) message = let rest = length-parts cut cuts mes
 -- Each part runs from the start or the cut before it to its own cut or the end.
 pub part_at : (start : ℕ) (cuts message : List ℕ) (i : ℕ) → i ≤ length cuts →
     get_or (parts_from start cuts message) i [] ≡ slice_range message (get_or (start ∷ cuts) i 0) (get_or (cuts ++ length message ∷ []) i 0)
-part_at start [] message zero inside = sym (take_all (length message - start) (drop start message) (omega (arith, length-drop start message)))
-part_at start [] message (suc i) inside = absurd (omega arith)
+part_at start [] message i inside = grind (arith, common_steps, take_all, length-drop)
 part_at start (cut ∷ cuts) message zero inside = refl
 part_at start (cut ∷ cuts) message (suc i) inside = part_at cut cuts message i (omega arith)
 
@@ -99,13 +85,7 @@ part_at start (cut ∷ cuts) message (suc i) inside = part_at cut cuts message i
 -- The parts between cuts that don't fall are together the message.
 parts_whole : (cuts message : List ℕ) → IsNonDecreasing cuts → All (λ cut. cut ≤ length message) cuts → message ≡ concat (parts_at cuts message)
 parts_whole cuts message rise within =
-    let bounded : All (λ cut. cut ≤ length message) (0 ∷ cuts) = All-cons (λ cut. cut ≤ length message) 0 cuts (omega arith) within in
-    sym (concat-parts 0 cuts message from_start bounded)
-  where
-    from_start : IsNonDecreasing (0 ∷ cuts)
-    from_start zero j d below inside = omega arith
-    from_start (suc i) zero d below inside = absurd (omega arith)
-    from_start (suc i) (suc j) d below inside = rise i j d (omega arith) (omega arith)
+    sym (concat-parts 0 cuts message (grind (arith, common_steps, rise)) (All-cons (λ cut. cut ≤ length message) 0 cuts (omega arith) within))
 
 -- The best symbols of the parts, each with its header, are the answer.
 pub best_symbols : (message cuts : List ℕ) (level : EcLevel) (limit : ℕ) (grids : List (List Color)) →

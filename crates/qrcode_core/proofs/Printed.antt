@@ -1,5 +1,5 @@
 -- The printed symbol of the digits 12345 in M1 is read as these digits: its parts are computed.
-use Rattle.std.proofs.Common.{◌≡◌, ℕ, zero, suc, pos, ◌+◌, ◌*◌, ◌<◌, refl, sym, arith, List, [], ◌∷◌, Bool, true, false, take, subst, rules}
+use Rattle.std.proofs.Common.{◌≡◌, ℕ, zero, suc, pos, ◌+◌, ◌*◌, ◌<◌, refl, arith, List, [], ◌∷◌, Bool, true, false, take, rules}
 use Rattle.std.specs.Prelude.{Option, Some, None, slice_get, codes}
 use Rattle.qrcode_base.specs.declared.types.Color.{Color}
 use Rattle.qrcode_base.specs.declared.types.Color.TheVariants.{Light, Dark}
@@ -20,7 +20,6 @@ use Rattle.qrcode_grid.specs.Regions.{functional_color}
 use Rattle.qrcode_grid.proofs.Tests.{all_pass, passes}
 use Rattle.qrcode_core.specs.Example.{printed, printed_reading}
 use Rattle.qrcode_core.specs.Reader.{Reads}
-use Rattle.std.proofs.lemmas.Grind.{common_steps}
 
 -- ---- Functional colours, computed
 
@@ -34,12 +33,6 @@ shows None seen = true
 shows (Some c) None = false
 shows (Some c) (Some d) = same_color c d
 
-from_same_color : (c d : Color) → same_color c d ≡ true → d ≡ c
-from_same_color c d e = grind (arith, common_steps)
-
-from_shows : (wanted seen : Option Color) (c : Color) → shows wanted seen ≡ true → wanted ≡ Some c → seen ≡ Some c
-from_shows wanted seen c e h = grind (arith, common_steps, from_same_color)
-
 abbrev pub shows_functional : Version → ℕ → ℕ → List Color → Bool
 shows_functional version word w grid =
     all_pass (λ y. all_pass (λ x. shows (functional_color version word x y) (slice_get grid (y * w + x))) 0 w) 0 w
@@ -49,20 +42,12 @@ pub functional-of_test : (version : Version) (word w : ℕ) (grid : List Color) 
 functional-of_test version word w grid test x y c l m e =
     let row = passes (λ y. all_pass (λ x. shows (functional_color version word x y) (slice_get grid (y * w + x))) 0 w) 0 w y test (omega arith) (omega arith) in
     let here = passes (λ x. shows (functional_color version word x y) (slice_get grid (y * w + x))) 0 w x row (omega arith) (omega arith) in
-    from_shows (functional_color version word x y) (slice_get grid (y * w + x)) c here e
+    grind (arith, here)
 
 -- ---- The symbol
 
-printed_word : format_word (Micro (pos 1)) L Diamonds ≡ 0x4E2B
-printed_word = refl
-
-printed_test : shows_functional (Micro (pos 1)) 0x4E2B 11 printed ≡ true
-printed_test = refl
-
 printed_functional : HasFunctionalColors (Micro (pos 1)) L Diamonds printed
-printed_functional =
-    subst (λ (word : ℕ). (x y : ℕ) (c : Color) → x < 11 → y < 11 → functional_color (Micro (pos 1)) word x y ≡ Some c → slice_get printed (y * 11 + x) ≡ Some c)
-    (sym printed_word) (functional-of_test (Micro (pos 1)) 0x4E2B 11 printed printed_test)
+printed_functional = functional-of_test (Micro (pos 1)) (format_word (Micro (pos 1)) L Diamonds) 11 printed refl
 
 abbrev words : List ℕ
 words = 0xA3 ∷ 0xDA ∷ 0xD0 ∷ []
@@ -72,13 +57,10 @@ checks = 0x6E ∷ 0xC7 ∷ []
 
 printed_sound : (block : ℕ) → block < 1 → IsSound 2 (codeword_block 2 (3 ∷ []) words checks block)
 unfolding IsSound value_at power product shift_and_add double block_in place
-printed_sound zero h = λ i below. at i below
-  where
-    at : (i : ℕ) → i < 2 → value_at (0xA3 ∷ 0xDA ∷ 0xD0 ∷ 0x6E ∷ 0xC7 ∷ []) (power 2 i) ≡ 0
-    at zero h = refl
-    at (suc zero) h = refl
-    at (suc (suc i)) h = absurd (omega arith)
-printed_sound (suc block) h = absurd (omega arith)
+printed_sound zero h zero below = refl
+printed_sound zero h (suc zero) below = refl
+printed_sound zero h (suc (suc i)) below = absurd (omega arith)
+printed_sound (suc block) h i below = absurd (omega arith)
 
 printed_codewords : AreCodewords 2 (3 ∷ []) words words checks
 unfolding blocks_in block_in place

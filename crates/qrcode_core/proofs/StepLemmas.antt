@@ -1,5 +1,5 @@
 -- Steps before, and steps after.
-use Rattle.std.proofs.Common.{◌≡◌, ℕ, ◌<◌, ◌+◌, List, [], ◌∷◌, ◌++◌, Result, Ok, Err, inl, inr, subst, sym, take, drop, length, get_or, suc, add-one}
+use Rattle.std.proofs.Common.{◌≡◌, ℕ, ◌<◌, ◌+◌, List, [], ◌∷◌, ◌++◌, Result, Ok, Err, take, length, get_or, add-one}
 use Rattle.std.proofs.Math.Seq.{split_at, take-suc}
 use Rattle.qrcode_core.specs.Grids.{Grid}
 use Rattle.qrcode_core.specs.Registered.{StepsInOrder}
@@ -10,19 +10,14 @@ use Rattle.std.proofs.Common.{arith}
 -- after steps that all succeed, the others go on from where those came to
 pub steps_then : {B : Type 0} (step : B → Grid → Result Unit PluginError → Grid → Type 0) (xs ys : List B) (g m h : Grid) (r : Result Unit PluginError)
     → StepsInOrder step xs g (Ok tt) m → StepsInOrder step ys m r h → StepsInOrder step (xs ++ ys) g r h
-steps_then step [] ys g m h r (e, s) after = let P : Grid → Type 0 = λ k. StepsInOrder step ys k r h in subst P s after
-steps_then step (x ∷ xs) ys g m h r (inl (e, q, s)) after = cc
-steps_then step (x ∷ xs) ys g m h r (inr (k, s, before)) after = inr (k, s, steps_then step xs ys k m h r before after)
+steps_then step [] ys g m h r before after = grind (arith, common_steps)
+steps_then step (x ∷ xs) ys g m h r before after = grind (arith, common_steps, steps_then step xs ys)
 
 -- the step at index i refuses, after all before it succeeded
 pub steps_refused : {B : Type 0} (step : B → Grid → Result Unit PluginError → Grid → Type 0) (xs all : List B) (i : ℕ) (g m h : Grid) (b : B) (e : PluginError) (s r : Result Unit PluginError)
     → xs ≡ all → i < length xs → b ≡ get_or xs i b → s ≡ Err e → r ≡ Err e
     → StepsInOrder step (take i xs) g (Ok tt) m → step b m s h → StepsInOrder step all g r h
-steps_refused {B = B} step xs all i g m h b e s r same inside is was gives before refused =
-    let P : List B → Type 0 = λ ys. StepsInOrder step ys g r h in
-    let Q : B → Type 0 = λ c. step c m s h in
-    let R : Result Unit PluginError → Type 0 = λ t. step (get_or xs i b) m t h in
-    subst P same (subst P (sym (split_at xs i b inside)) (steps_then step (take i xs) (get_or xs i b ∷ drop (suc i) xs) g m h r before (inl (e, gives, subst R was (subst Q is refused)))))
+steps_refused step xs all i g m h b e s r same inside is was gives before refused = grind (arith, common_steps, split_at xs i b, steps_then step)
 
 -- the step at index i succeeds, after all before it
 pub steps_further : {B : Type 0} (step : B → Grid → Result Unit PluginError → Grid → Type 0) (xs : List B) (i : ℕ) (g m h : Grid) (b : B) (s : Result Unit PluginError)

@@ -1,16 +1,13 @@
 -- The stream of the chosen plan in the smallest version, perhaps behind a header, turned into bytes and drawn, is the best symbol.
-use Rattle.std.proofs.Common.{◌≡◌, ℕ, ◌+◌, ◌<◌, ◌≤◌, sym, ◌∙◌, arith, inl, inr, List, ◌++◌, length, length-append, take, Bool, subst}
-use Rattle.std.specs.Prelude.{Option, Some, None, All, IsSomeAnd, Result, IfErr}
-use Rattle.std.proofs.lemmas.Bool.{cases_lt}
+use Rattle.std.proofs.Common.{◌≡◌, ℕ, ◌+◌, ◌<◌, ◌≤◌, arith, List, ◌++◌, length, take, Bool}
+use Rattle.std.specs.Prelude.{Option, Some, None, All, Result, IfErr}
 use Rattle.std.proofs.lemmas.Option.{none-some}
-use Rattle.std.proofs.lemmas.Result.{IfErr-weaker}
 use Rattle.qrcode_base.specs.declared.symbols.BlockLayout.{BlockLayout}
 use Rattle.qrcode_base.specs.declared.types.EcLevel.{EcLevel}
 use Rattle.qrcode_base.specs.declared.types.Version.{Version}
 use Rattle.qrcode_base.specs.declared.types.errors.QrError.{QrError}
 use Rattle.qrcode_base.specs.declared.types.errors.QrError.TheVariants.{DataTooLong, OutOfMemory}
-use Rattle.qrcode_base.specs.Numbers.{byte_bits, zero_bits}
-use Rattle.qrcode_base.specs.Symbols.{blocks_of, capacity, data_bytes, missing_bits}
+use Rattle.qrcode_base.specs.Symbols.{blocks_of, capacity}
 use Rattle.qrcode_bits.specs.Choice.{normal, micro}
 use Rattle.qrcode_bits.specs.Encoding.{IsEncoding, IsUnencodable}
 use Rattle.qrcode_bits.specs.Frame.{Header, header_bits, spellings}
@@ -20,9 +17,9 @@ use Rattle.qrcode_bits.specs.Stream.{Stream}
 use Rattle.qrcode_bits.proofs.Choices.{fits_last}
 use Rattle.qrcode_bits.proofs.Lengths.{long_message, long_for_micro}
 use Rattle.qrcode_bits.proofs.PlanFrames.{spelled_plan}
-use Rattle.qrcode_core.specs.Headline.{IsBest, IsTooLong, IsTooLongForMicro, IsRefusal}
+use Rattle.qrcode_core.specs.Headline.{IsBest, IsTooLong, IsRefusal}
 use Rattle.qrcode_core.specs.Drawn.{DrawnSymbol, TellsReading}
-use Rattle.qrcode_core.specs.Layers.{IsEncoded, IsDrawn, AreAllCodewords, AreBytesOf, FillsSymbol, IsDrawnStream}
+use Rattle.qrcode_core.specs.Layers.{IsEncoded, AreBytesOf, FillsSymbol, IsDrawnStream}
 use Rattle.qrcode_core.proofs.Best.{best_symbol}
 use Rattle.qrcode_core.proofs.Ending.{bytes_of_ended}
 use Rattle.qrcode_core.proofs.Lengths.{length-encoded}
@@ -32,8 +29,8 @@ use Rattle.std.proofs.lemmas.Grind.{common_steps}
 pub has_blocks : (v : Version) (l : EcLevel) (limit : ℕ) → capacity v l ≡ Some limit → (b : BlockLayout) × (blocks_of v l ≡ Some b)
 has_blocks v l limit e = grind (arith, common_steps, none-some)
 
-module _ (kind : ℕ → Version) (header : Option Header) (bytes : List ℕ) (level : EcLevel) (limit : ℕ) (stream : Stream) (words : List ℕ) (are : All (λ c. c < 256) bytes)
-    (encoding : IsEncoding kind header bytes level limit stream) (turned : AreBytesOf words stream.bits) where
+module _ {kind : ℕ → Version} {header : Option Header} {bytes : List ℕ} {level : EcLevel} {limit : ℕ} {stream : Stream}
+    (are : All (λ c. c < 256) bytes) (encoding : IsEncoding kind header bytes level limit stream) where
   abbrev version : Version
   version = kind encoding.number
 
@@ -43,82 +40,52 @@ module _ (kind : ℕ → Version) (header : Option Header) (bytes : List ℕ) (l
   abbrev payload : List Bool
   payload = header_bits header ++ spellings version (segment_pieces bytes encoding.plan)
 
-  encoded : IsEncoded version level header bytes (front + total_bits version encoding.plan) words
-  encoded =
+  encoded : (words : List ℕ) → AreBytesOf words stream.bits → IsEncoded version level header bytes (front + total_bits version encoding.plan) words
+  encoded words turned =
       let held = encoding.stream_is in
       let blocks = has_blocks version level held.limit held.limit_is in
       let spelled = spelled_plan front version level bytes encoding.plan are encoding.choice.fits in
-      let short = held.frame.fits in
-      let room : held.frame.limit ≡ held.limit = same_limit held.frame.limit held.limit (sym held.frame.limit_is ∙ held.limit_is) in
-      let within : length payload ≤ held.limit = omega (arith, length-append (header_bits header) (spellings version (segment_pieces bytes encoding.plan)), spelled.bits, short, room) in
-      record {
-        frame = take held.limit stream.bits;
-        framed = held.frame;
-        frame_is = subst (λ (bits : List Bool). byte_bits words ≡ take held.limit bits ++ zero_bits (missing_bits version)) (sym held.bits_are)
-            (bytes_of_ended version level blocks.0 held.limit payload words blocks.1 held.limit_is within
-            (subst (λ (bits : List Bool). AreBytesOf words bits) held.bits_are turned));
-      }
-    where
-      same_limit : (a b : ℕ) → ◌≡◌ {A = Option ℕ} (Some a) (Some b) → a ≡ b
-      same_limit a b e = cc
+      let within : length payload ≤ held.limit = grind (arith, common_steps, spelled.bits, held.frame.fits, held.frame.limit_is, held.limit_is) in
+      let ends = bytes_of_ended version level blocks.0 held.limit payload words blocks.1 held.limit_is within in
+      record { frame = take held.limit stream.bits; framed = held.frame; frame_is = grind (arith, ends, held.bits_are, turned) }
 
-  -- The codewords are those of the symbol.
-  all_codewords : AreAllCodewords stream.version level (length words)
-  all_codewords =
-      let held = encoding.stream_is in
-      let blocks = has_blocks version level held.limit held.limit_is in
-      let long = length-encoded version level header bytes (front + total_bits version encoding.plan) words blocks.0 encoded blocks.1 in
-      subst (λ (v : Version). AreAllCodewords v level (length words)) (sym held.version_is)
-      (subst (λ (o : Option BlockLayout). IsSomeAnd o (λ b. length words ≡ data_bytes b)) (sym blocks.1) long)
+  -- What an encoding is turned into fills its symbol.
+  pub fills_symbol : FillsSymbol stream level
+  fills_symbol words turned =
+      let long = length-encoded version level header bytes (front + total_bits version encoding.plan) words in
+      grind (arith, common_steps, encoding.stream_is, has_blocks version level, long, encoded words turned)
 
-  -- Drawn, they are the best symbol, in a version up to the limit, and it tells its reading.
-  best_of_words : (symbol : DrawnSymbol) → IsDrawn stream.version level words symbol →
+  -- The symbol that is drawn of it is the best one, in a version up to the limit, and it tells its reading.
+  pub best_of_stream : {symbol : DrawnSymbol} → IsDrawnStream stream level symbol →
       (best : IsBest kind header bytes level symbol.modules) × (best.number ≤ limit) × TellsReading symbol
-  best_of_words symbol drawn =
+  best_of_stream {symbol = symbol} held =
       let choice = encoding.choice in
-      let best = best_symbol kind header bytes level encoding.number (front + total_bits version encoding.plan) encoding.plan words symbol encoded
-      (subst (λ (v : Version). IsDrawn v level words symbol) encoding.stream_is.version_is drawn) choice.fits choice.smallest choice.fewest in
+      let best = best_symbol kind header bytes level encoding.number (front + total_bits version encoding.plan) encoding.plan held.codewords symbol
+      (encoded held.codewords held.turned) (rw encoding.stream_is.version_is at held.drawn) choice.fits choice.smallest choice.fewest in
       (best.0, omega (arith, best.1, choice.up_to), best.2)
-
--- What an encoding is turned into fills its symbol.
-pub fills_symbol : {kind : ℕ → Version} {header : Option Header} {bytes : List ℕ} {level : EcLevel} {limit : ℕ} {stream : Stream} →
-    All (λ c. c < 256) bytes → IsEncoding kind header bytes level limit stream → FillsSymbol stream level
-fills_symbol are encoding = λ words turned. all_codewords _ _ _ _ _ _ words are encoding turned
-
--- The symbol that is drawn of it is the best one, in a version up to the limit, and it tells its reading.
-pub best_of_stream : {kind : ℕ → Version} {header : Option Header} {bytes : List ℕ} {level : EcLevel} {limit : ℕ} {stream : Stream} {symbol : DrawnSymbol} →
-    All (λ c. c < 256) bytes → IsEncoding kind header bytes level limit stream → IsDrawnStream stream level symbol →
-    (best : IsBest kind header bytes level symbol.modules) × (best.number ≤ limit) × TellsReading symbol
-best_of_stream {symbol = symbol} are encoding held = best_of_words _ _ _ _ _ _ held.codewords are encoding held.turned symbol held.drawn
 
 -- What is encoded fits version 40.
 pub encoded_fits : {bytes : List ℕ} {level : EcLevel} {stream : Stream} (limit : ℕ) → limit ≤ 40 → IsEncoding normal None bytes level limit stream →
     IsTooLong bytes level → ⊥
 encoded_fits {bytes = bytes} {level = level} limit h encoding long =
-    let choice = encoding.choice in
-    long encoding.plan (fits_last 0 encoding.number bytes level encoding.plan (let up = choice.up_to in omega arith) choice.fits)
+    long encoding.plan (fits_last 0 encoding.number bytes level encoding.plan (omega (arith, encoding.choice.up_to)) encoding.choice.fits)
 
 -- It has at most 7089 bytes.
 pub encoded_short : {header : Option Header} {bytes : List ℕ} {level : EcLevel} {stream : Stream} (limit : ℕ) →
     limit ≤ 40 → All (λ c. c < 256) bytes → IsEncoding normal header bytes level limit stream → length bytes ≤ 7089
-encoded_short {header = header} {bytes = bytes} {level = level} limit h are encoding = elim (cases_lt 7089 (length bytes)) [
-  | inl long ↦ absurd (long_message (length (header_bits header)) bytes level limit h are long encoding.number encoding.choice.up_to encoding.plan encoding.choice.fits)
-  | inr short ↦ omega (arith, short)
-]
-
-pub encoded_micro_fits : {bytes : List ℕ} {level : EcLevel} {stream : Stream} → IsEncoding micro None bytes level 4 stream → IsTooLongForMicro bytes level → ⊥
-encoded_micro_fits encoding none = none encoding.number encoding.choice.up_to encoding.plan encoding.choice.fits
+encoded_short {header = header} {bytes = bytes} {level = level} limit h are encoding =
+    let none = λ (long : 7089 < length bytes). long_message _ bytes level limit h are long _ encoding.choice.up_to _ encoding.choice.fits in
+    omega arith
 
 pub encoded_micro_short : {bytes : List ℕ} {level : EcLevel} {stream : Stream} → All (λ c. c < 256) bytes → IsEncoding micro None bytes level 4 stream →
     length bytes ≤ 7089
-encoded_micro_short {bytes = bytes} {level = level} are encoding = elim (cases_lt 7089 (length bytes)) [
-  | inl long ↦ absurd (long_for_micro bytes level are long encoding.number encoding.choice.up_to encoding.plan encoding.choice.fits)
-  | inr short ↦ omega (arith, short)
-]
+encoded_micro_short {bytes = bytes} {level = level} are encoding =
+    let none = λ (long : 7089 < length bytes). long_for_micro bytes level are long _ encoding.choice.up_to _ encoding.choice.fits in
+    omega arith
 
 -- Where only memory can be wanting, the refusal is that.
 pub only_memory : {T : Type 0} (r : Result T QrError) (P : QrError → Type 0) → P OutOfMemory → IfErr r (λ e. e ≡ OutOfMemory) → IfErr r P
-only_memory r P why memory = IfErr-weaker r _ _ (λ e is. subst P (sym is) why) memory
+only_memory r P why memory = grind (arith, common_steps)
 
 pub normal_refused : (bytes : List ℕ) (level : EcLevel) (e : QrError) → IsUnencodable normal 0 bytes level 40 e → IsRefusal bytes level e
 normal_refused bytes level DataTooLong none = none 40 (omega arith)

@@ -1,4 +1,5 @@
 -- The symbols of a sequence, as they are made one after the other.
+use Rattle.std.proofs.lemmas.Grind.{common_steps}
 use Rattle.std.proofs.Common.{◌≡◌, ℕ, ◌+◌, ◌<◌, ◌≤◌, sym, ◌∙◌, subst, arith, inl, inr, List, [], ◌∷◌, ◌++◌, length, length-append, get_or}
 use Rattle.std.specs.Prelude.{All, ℤ}
 use Rattle.std.specs.List.Sorted.{IsNonDecreasing}
@@ -11,7 +12,6 @@ use Rattle.qrcode_base.specs.declared.types.errors.QrError.{QrError}
 use Rattle.qrcode_base.specs.declared.types.errors.QrError.TheVariants.{DataTooLong, InvalidResourceLimits, InvalidStructuredAppend, OutOfMemory}
 use Rattle.qrcode_bits.specs.Encoding.{IsLimit, IsPartRefused}
 use Rattle.qrcode_bits.proofs.Reading.{length-header}
-use Rattle.qrcode_bits.specs.Choice.{normal, Fits}
 use Rattle.qrcode_core.specs.Sequence.{header_at, parts_at, IsTotal, IsPartSymbol, AreBestSymbols, IsSomePartTooLong, IsSequenceRefusal}
 use Rattle.qrcode_core.proofs.OneMessage.{best_symbols}
 
@@ -24,21 +24,13 @@ pub one_more : (message cuts : List ℕ) (level : EcLevel) (limit total done : �
     AreFirstSymbols message cuts level limit total done grids →
     IsPartSymbol (header_at (done + 1) total message) (get_or (parts_at cuts message) done []) level limit grid →
     AreFirstSymbols message cuts level limit total (done + 1) (grids ++ grid ∷ [])
-one_more message cuts level limit total done grids grid first next =
-    let long : length (grids ++ grid ∷ []) ≡ done + 1 = omega (arith, length-append grids (grid ∷ []), first.a_grid_each) in
-    record {
-      a_grid_each = long;
-      each_best = λ i below. elim (cases_eq i done) [
-        | inl last ↦ (
-            let here : get_or (grids ++ grid ∷ []) i [] ≡ grid = get_or_push grids grid [] i (first.a_grid_each ∙ sym last) in
-            subst (λ (g : List Color). IsPartSymbol (header_at (i + 1) total message) (get_or (parts_at cuts message) i []) level limit g) (sym here)
-            (subst (λ (k : ℕ). IsPartSymbol (header_at (k + 1) total message) (get_or (parts_at cuts message) k []) level limit grid) (sym last) next))
-        | inr earlier ↦ (
-            let before : i < done = omega arith in
-            let same : get_or (grids ++ grid ∷ []) i [] ≡ get_or grids i [] = get_or_append_left grids (grid ∷ []) [] i (omega (arith, before, first.a_grid_each)) in
-            subst (λ (g : List Color). IsPartSymbol (header_at (i + 1) total message) (get_or (parts_at cuts message) i []) level limit g) (sym same) (first.each_best i before))
-      ];
-    }
+one_more message cuts level limit total done grids grid first next = record {
+  a_grid_each = omega (arith, length-append grids (grid ∷ []), first.a_grid_each);
+  each_best = λ i below. elim (cases_eq i done) [
+    | inl last ↦ rw (last, get_or_push grids grid [] done first.a_grid_each) next
+    | inr earlier ↦ rw (get_or_append_left grids (grid ∷ []) [] i (omega (arith, first.a_grid_each))) (first.each_best i (omega arith))
+  ];
+}
 
 pub all_symbols : (message cuts : List ℕ) (level : EcLevel) (limit total : ℕ) (grids : List (List Color)) →
     IsNonDecreasing cuts → All (λ cut. cut ≤ length message) cuts → IsTotal total → total ≡ length cuts + 1 → AreFirstSymbols message cuts level limit total total grids →
@@ -53,10 +45,7 @@ pub refused_part : (message cuts : List ℕ) (level : EcLevel) (limit : ℤ) (to
     total ≡ length cuts + 1 → i < total →
     IsPartRefused (i + 1) total (get_or (parts_at cuts message) i []) level limit e → IsSequenceRefusal message cuts level limit e
 refused_part message cuts level limit total i InvalidResourceLimits in_range few count inside why = absurd (why in_range)
-refused_part message cuts level limit total i (InvalidStructuredAppend value) in_range few count inside why = elim why.1 [
-  | inl wrong ↦ (let past = wrong.1 few.0 in absurd (omega (arith, past, few.1)))
-  | inr wrong ↦ (let past = wrong.3 (omega arith) in absurd (omega (arith, past, inside)))
-]
+refused_part message cuts level limit total i (InvalidStructuredAppend value) in_range few count inside why = grind (arith, common_steps)
 refused_part message cuts level limit total i DataTooLong in_range few count inside why = (in_range, subst IsTotal count few, (i, omega arith, why.2))
 refused_part message cuts level limit total i OutOfMemory in_range few count inside why = (in_range, subst IsTotal count few)
 refused_part message cuts level limit total i other in_range few count inside why = why.2
@@ -66,10 +55,7 @@ pub none_too_long : (message cuts : List ℕ) (level : EcLevel) (limit : ℕ) (g
     AreBestSymbols message cuts level limit grids → IsSomePartTooLong message cuts level limit → ⊥
 none_too_long message cuts level limit grids all (i, inside, none) =
     let part = all.each_best i (omega (arith, all.a_grid_each)) in
-    let text = get_or (parts_at cuts message) i [] in
-    let fits = subst (λ (front : ℕ). Fits front text (normal part.best.number) level part.best.plan)
-    (length-header (header_at (i + 1) (length grids) message)) part.best.fits in
-    none part.best.number part.up_to part.best.plan fits
+    none part.best.number part.up_to part.best.plan (rw length-header at part.best.fits)
 
 -- The symbols of a sequence are 2 to 16.
 pub so_many : (message cuts : List ℕ) (level : EcLevel) (limit : ℕ) (grids : List (List Color)) → AreBestSymbols message cuts level limit grids →

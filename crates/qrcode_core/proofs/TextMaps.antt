@@ -1,10 +1,9 @@
 -- A tree of strings, read as a map from texts: what `insert` and `get` do to it.
-use Rattle.std.proofs.Common.{ℕ, ◌≡◌, List, [], ◌∷◌, Some, option_map, true, false, cond, refl, ap, String, map}
+use Rattle.std.proofs.Common.{ℕ, ◌≡◌, List, [], ◌∷◌, Some, option_map, cond, refl, ap, String, map}
 use Rattle.std.specs.List.{AllZip, AllByRecursion}
 use Rattle.std.specs.List.Sorted.{IsStrictlySortedBy}
-use Rattle.std.specs.declared.cmp.Ordering.TheVariants.{Less, Equal, Greater}
+use Rattle.std.specs.declared.cmp.Ordering.TheVariants.{Less}
 use Rattle.std.specs.declared.alloc.Global.{Global}
-use Rattle.std.specs.Ordering.{match_ordering}
 use Rattle.std.specs.String.{string_bytes, string_cmp}
 use Rattle.std.specs.BTreeMap.{insert_entry, is_at}
 use Rattle.std.specs.Map.{lookup, keys_of}
@@ -16,11 +15,7 @@ use Rattle.std.proofs.Common.{arith}
 pub text_entries_insert : {V : Type 0} (es : List (String Global × V)) (k : String Global) (v : V) →
     text_entries (insert_entry string_cmp es k v) ≡ with_entry (text_entries es) (string_bytes k) v
 text_entries_insert [] k v = refl
-text_entries_insert {V = V} (e ∷ es) k v =
-    elim (text_cmp (string_bytes k) (string_bytes e.0)) as (λ o.
-    text_entries (match_ordering o ((k, v) ∷ e ∷ es) ((e.0, v) ∷ es) (e ∷ insert_entry string_cmp es k v))
-    ≡ match_ordering o ((string_bytes k, v) ∷ text_entries (e ∷ es)) ((string_bytes e.0, v) ∷ text_entries es) ((string_bytes e.0, e.1) ∷ with_entry (text_entries es) (string_bytes k) v))
-    [ Less ↦ refl | Equal ↦ refl | Greater ↦ ap (λ (t : TextMap V). (string_bytes e.0, e.1) ∷ t) (text_entries_insert es k v) ]
+text_entries_insert (e ∷ es) k v = grind (arith, common_steps, text_entries_insert es k v)
 
 -- what a look-up by a text finds
 pub text_entries_lookup : {V : Type 0} (bs : List ℕ) (es : List (String Global × V)) →
@@ -32,17 +27,11 @@ text_entries_lookup bs (e ∷ es) = ap (cond (is_at (text_cmp bs) (string_bytes 
 pub text_values_insert : (m : TextMap (String Global)) (k : List ℕ) (v : String Global) →
     text_values (with_entry m k v) ≡ with_entry (text_values m) k (string_bytes v)
 text_values_insert [] k v = refl
-text_values_insert (e ∷ es) k v =
-    elim (text_cmp k e.0) as (λ o.
-    text_values (match_ordering o ((k, v) ∷ e ∷ es) ((e.0, v) ∷ es) (e ∷ with_entry es k v))
-    ≡ match_ordering o ((k, string_bytes v) ∷ text_values (e ∷ es)) ((e.0, string_bytes v) ∷ text_values es) ((e.0, string_bytes e.1) ∷ with_entry (text_values es) k (string_bytes v)))
-    [ Less ↦ refl | Equal ↦ refl | Greater ↦ ap (λ (t : TextMap (List ℕ)). (e.0, string_bytes e.1) ∷ t) (text_values_insert es k v) ]
+text_values_insert (e ∷ es) k v = grind (arith, common_steps, text_values_insert es k v)
 
 pub text_values_lookup : (bs : List ℕ) (m : TextMap (String Global)) → at_key (text_values m) bs ≡ option_map string_bytes (at_key m bs)
 text_values_lookup bs [] = refl
-text_values_lookup bs (e ∷ es) =
-    elim (is_at (text_cmp bs) e.0) as (λ b. cond b (Some (string_bytes e.1)) (at_key (text_values es) bs) ≡ option_map string_bytes (cond b (Some e.1) (at_key es bs)))
-    [ true ↦ refl | false ↦ text_values_lookup bs es ]
+text_values_lookup bs (e ∷ es) = grind (arith, common_steps, text_values_lookup bs es)
 
 -- the names of a tree of strings
 pub text_entries_keys : {V : Type 0} (es : List (String Global × V)) → map string_bytes (keys_of es) ≡ key_texts (text_entries es)
@@ -58,10 +47,8 @@ text_values_keys (e ∷ es) = ap (λ (ks : List (List ℕ)). e.0 ∷ ks) (text_v
 pub text_values_clone : (es fs : List (String Global × String Global))
     → AllZip (λ p q. (string_bytes q.0 ≡ string_bytes p.0) × (string_bytes q.1 ≡ string_bytes p.1)) es fs
     → text_values (text_entries fs) ≡ text_values (text_entries es)
-text_values_clone [] [] same = refl
-text_values_clone [] (f ∷ fs) same = absurd same
-text_values_clone (e ∷ es) [] same = absurd same
-text_values_clone (e ∷ es) (f ∷ fs) same = rw (same.0.0, same.0.1, text_values_clone es fs same.1) refl
+text_values_clone [] fs same = grind (arith, common_steps)
+text_values_clone (e ∷ es) fs same = grind (arith, common_steps, text_values_clone es)
 
 -- strings after one string, read as texts
 texts_after : (k : String Global) (ks : List (String Global))

@@ -4,7 +4,8 @@ use Rattle.std.specs.Prelude.{Option, Some, None, IsSomeAnd}
 use Rattle.qrcode_base.specs.declared.symbols.BlockLayout.{BlockLayout}
 use Rattle.qrcode_grid.specs.Symbol.{CarriesCodewords}
 use Rattle.qrcode_grid.proofs.SymbolVersions.{version_of_symbol}
-use Rattle.qrcode_core.proofs.DrawnReading.{are_streams}
+use Rattle.std.proofs.Common.{arith}
+use Rattle.std.proofs.lemmas.Grind.{common_steps}
 use Rattle.qrcode_core.proofs.symbol.owned.draw.Goals as goal
 
 some_of : (o : Option BlockLayout) (P : BlockLayout → Type 0) → IsSomeAnd o P → IsTrue (is_some o)
@@ -30,7 +31,7 @@ returns-in-Ok-draw_symbol-clause-drawn c =
       level_is = refl;
       interleaved = interleaved;
       correction = correction;
-      streams = are_streams version level c.args.codewords.now interleaved correction c.in-Ok.ensures.streams c.in-Ok.ensures.stream_bytes c.in-Ok.ensures.correction_bytes;
+      streams = grind (arith, common_steps, c.in-Ok.ensures);
       carries = subst (λ (e : List ℕ). CarriesCodewords version level mask interleaved e grid) c.deref-in-Ok.ensures.value
           (subst (λ (s : List ℕ). CarriesCodewords version level mask s c.deref-in-Ok.result.now grid) c.deref.ensures.value c.in-Ok-draw_symbol.ensures.carries);
       best = c.in-Ok-draw_symbol.ensures.mask;

@@ -3,7 +3,7 @@ use Rattle.std.proofs.Common.{rules, ◌≢◌, arith}
 use Rattle.std.proofs.lemmas.Result.{IfOk-weaker}
 use Rattle.qrcode_base.specs.declared.types.EcLevel.TheVariants.{H}
 use Rattle.qrcode_bits.proofs.Pairs.{bytes_valid}
-use Rattle.qrcode_core.proofs.StreamEncoding.{best_of_stream, fills_symbol, encoded_micro_fits, encoded_micro_short, only_memory}
+use Rattle.qrcode_core.proofs.StreamEncoding.{best_of_stream, fills_symbol, encoded_micro_short, only_memory}
 use Rattle.qrcode_core.proofs.symbol.owned.Symbol.micro.Goals as goal
 
 pub symbol_of-requires : goal.symbol_of-requires
@@ -20,7 +20,7 @@ returns-in-Ok c =
     record {
       best = IfOk-weaker result _ _ (λ _ made. (best_of_stream are code made).0) drawn;
       reading = IfOk-weaker result _ _ (λ _ made. (best_of_stream are code made).2) drawn;
-      fitting = IfOk-weaker result _ _ (λ _ _. encoded_micro_fits code) drawn;
+      fitting = IfOk-weaker result _ _ (λ _ _ none. none code.number code.choice.up_to code.plan code.choice.fits) drawn;
       limit = IfOk-weaker result _ _ (λ _ _. short) drawn;
       refused = only_memory result _ (some, short) c.symbol_of.ensures.memory;
     }
