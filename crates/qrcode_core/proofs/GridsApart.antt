@@ -1,6 +1,5 @@
 -- Grids that are read as different bytes are far apart in some block.
-use Rattle.std.proofs.Common.{◌≡◌, List}
-use Rattle.std.proofs.Common.{arith}
+use Rattle.std.proofs.Common.{◌≡◌, List, arith}
 use Rattle.std.proofs.lemmas.List.{append_cancel_right}
 use Rattle.qrcode_base.specs.declared.types.Color.{Color}
 use Rattle.qrcode_base.specs.Symbols.{missing_bits}

@@ -1,5 +1,5 @@
 -- The bits that a caller pushed, ended and drawn, are what the symbol carries.
-use Rattle.std.proofs.Common.{◌≡◌, ℕ, Bool, List, ◌++◌, length}
+use Rattle.std.proofs.Common.{◌≡◌, ℕ, Bool, List, ◌++◌, length, arith}
 use Rattle.qrcode_base.specs.declared.types.EcLevel.{EcLevel}
 use Rattle.qrcode_base.specs.Numbers.{byte_bits, zero_bits}
 use Rattle.qrcode_base.specs.Symbols.{missing_bits}
@@ -16,7 +16,6 @@ use Rattle.qrcode_core.proofs.Lengths.{length-filled}
 use Rattle.qrcode_core.proofs.OneReading.{one_carried}
 use Rattle.qrcode_core.proofs.StreamEncoding.{has_blocks}
 use Rattle.std.proofs.lemmas.Grind.{common_steps}
-use Rattle.std.proofs.Common.{arith}
 
 module _ (old new : Stream) (level : EcLevel) (ended : EndsAtLevel old new level) where
   abbrev bits : List Bool

@@ -35,7 +35,7 @@ same_piece grids m n f g i inside =
     grind (arith, one_piece grid, f.each_read i inside, there, get_or_default g.in_order found.0 [] grid found.1 ∙ found.2)
 
 -- Grids that are read as a message are so in every order.
-in_any_order : (grids shuffled : List (List Color)) (message : List ℕ) → IsPermutation grids shuffled → ReadsMessage grids message →
+pub in_any_order : (grids shuffled : List (List Color)) (message : List ℕ) → IsPermutation grids shuffled → ReadsMessage grids message →
     ReadsMessage shuffled message
 in_any_order grids shuffled message mixed seen =
     let size = length_permutation grids shuffled mixed in
@@ -80,40 +80,7 @@ part_at start [] message i inside = grind (arith, common_steps, take_all, length
 part_at start (cut ∷ cuts) message zero inside = refl
 part_at start (cut ∷ cuts) message (suc i) inside = part_at cut cuts message i (omega arith)
 
--- ---- Best symbols
-
 -- The parts between cuts that don't fall are together the message.
-parts_whole : (cuts message : List ℕ) → IsNonDecreasing cuts → All (λ cut. cut ≤ length message) cuts → message ≡ concat (parts_at cuts message)
+pub parts_whole : (cuts message : List ℕ) → IsNonDecreasing cuts → All (λ cut. cut ≤ length message) cuts → message ≡ concat (parts_at cuts message)
 parts_whole cuts message rise within =
     sym (concat-parts 0 cuts message (grind (arith, common_steps, rise)) (All-cons (λ cut. cut ≤ length message) 0 cuts (omega arith) within))
-
--- The best symbols of the parts, each with its header, are the answer.
-pub best_symbols : (message cuts : List ℕ) (level : EcLevel) (limit : ℕ) (grids : List (List Color)) →
-    IsNonDecreasing cuts → All (λ cut. cut ≤ length message) cuts → IsTotal (length grids) → length grids ≡ length cuts + 1 →
-    ((i : ℕ) → i < length grids → IsPartSymbol (header_at (i + 1) (length grids) message) (get_or (parts_at cuts message) i []) level limit (get_or grids i [])) →
-    AreBestSymbols message cuts level limit grids
-best_symbols message cuts level limit grids rise within few long best =
-    let parts = parts_at cuts message in
-    let read : ReadsMessage grids message = record {
-      in_order = grids;
-      pieces = parts;
-      enough = few;
-      same_grids = IsPermutation-refl grids;
-      a_piece_each = length-parts 0 cuts message ∙ sym long;
-      each_read = λ i inside.
-          let symbol = best i inside in
-          let header = header_at (i + 1) (length grids) message in
-          record {
-            reading = reading_of (get_or parts i []) (normal symbol.best.number) level symbol.best.mask (Some header) symbol.best.payload;
-            reads = symbol.best.reads;
-            header_is = refl;
-            piece_is = refl;
-          };
-      message_is = parts_whole cuts message rise within;
-    } in
-    record {
-      a_grid_each = long;
-      each_best = best;
-      reads = λ shuffled mixed. in_any_order grids shuffled message mixed read;
-      only = λ shuffled other mixed seen. sym (one_message grids shuffled message other mixed read seen);
-    }

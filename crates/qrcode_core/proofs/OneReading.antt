@@ -1,6 +1,6 @@
 -- No grid is read in two ways: its size tells the version, its functional colours the level and the mask, and its data cells
 -- the codewords, whose data are a frame of one text.
-use Rattle.std.proofs.Common.{◌≡◌, ap, Bool, List}
+use Rattle.std.proofs.Common.{◌≡◌, ap, Bool, List, arith}
 use Rattle.std.specs.Prelude.{is_some}
 use Rattle.std.proofs.lemmas.List.{append_cancel_right}
 use Rattle.std.proofs.lemmas.Option.{same_Some}
@@ -14,7 +14,6 @@ use Rattle.qrcode_base.proofs.Widths.{version-of_blocks, version-of_size}
 use Rattle.qrcode_core.proofs.Formats.{same_format}
 use Rattle.qrcode_core.proofs.Contents.{bytes-of_drawn}
 use Rattle.std.proofs.lemmas.Grind.{common_steps}
-use Rattle.std.proofs.Common.{arith}
 
 -- What a grid carries in one version: the levels and the masks are one
 with_version : (grid : List Color) (v : Version) (l m : EcLevel) (p q : MaskPattern) (a b : List Bool) → Carries grid v l p a → Carries grid v m q b →

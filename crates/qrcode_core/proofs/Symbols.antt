@@ -1,6 +1,6 @@
 -- The symbols of a sequence, as they are made one after the other.
 use Rattle.std.proofs.lemmas.Grind.{common_steps}
-use Rattle.std.proofs.Common.{◌≡◌, ℕ, ◌+◌, ◌<◌, ◌≤◌, sym, ◌∙◌, subst, arith, inl, inr, List, [], ◌∷◌, ◌++◌, length, length-append, get_or}
+use Rattle.std.proofs.Common.{◌≡◌, refl, ℕ, ◌+◌, ◌<◌, ◌≤◌, sym, ◌∙◌, subst, arith, inl, inr, List, [], ◌∷◌, ◌++◌, length, length-append, get_or}
 use Rattle.std.specs.Prelude.{All, ℤ}
 use Rattle.std.specs.List.Sorted.{IsNonDecreasing}
 use Rattle.std.proofs.lemmas.Bool.{cases_eq}
@@ -12,8 +12,8 @@ use Rattle.qrcode_base.specs.declared.types.errors.QrError.{QrError}
 use Rattle.qrcode_base.specs.declared.types.errors.QrError.TheVariants.{DataTooLong, InvalidResourceLimits, InvalidStructuredAppend, OutOfMemory}
 use Rattle.qrcode_bits.specs.Encoding.{IsLimit, IsPartRefused}
 use Rattle.qrcode_bits.proofs.Reading.{length-header}
-use Rattle.qrcode_core.specs.Sequence.{header_at, parts_at, IsTotal, IsPartSymbol, AreBestSymbols, IsSomePartTooLong, IsSequenceRefusal}
-use Rattle.qrcode_core.proofs.OneMessage.{best_symbols}
+use Rattle.qrcode_core.specs.Sequence.{ReadsMessage, header_at, parts_at, IsTotal, IsPartSymbol, AreBestSymbols, IsSomePartTooLong, IsSequenceRefusal}
+use Rattle.qrcode_core.proofs.OneMessage.{in_any_order, one_message, length-parts, parts_whole}
 
 -- The first symbols of a sequence, for as many first parts.
 pub record AreFirstSymbols (message cuts : List ℕ) (level : EcLevel) (limit total done : ℕ) (grids : List (List Color)) : Type 0 where
@@ -32,13 +32,30 @@ one_more message cuts level limit total done grids grid first next = record {
   ];
 }
 
-pub all_symbols : (message cuts : List ℕ) (level : EcLevel) (limit total : ℕ) (grids : List (List Color)) →
-    IsNonDecreasing cuts → All (λ cut. cut ≤ length message) cuts → IsTotal total → total ≡ length cuts + 1 → AreFirstSymbols message cuts level limit total total grids →
-    AreBestSymbols message cuts level limit grids
-all_symbols message cuts level limit total grids rise within few count first =
-    let size : total ≡ length grids = sym first.a_grid_each in
-    best_symbols message cuts level limit grids rise within (subst IsTotal size few) (sym size ∙ count)
-    (λ i inside. subst (λ (t : ℕ). IsPartSymbol (header_at (i + 1) t message) (get_or (parts_at cuts message) i []) level limit (get_or grids i [])) size (first.each_best i (omega (arith, inside, size))))
+-- All of them are the answer.
+pub best_symbols : (message cuts : List ℕ) (level : EcLevel) (limit total done : ℕ) (grids : List (List Color)) →
+    IsNonDecreasing cuts → All (λ cut. cut ≤ length message) cuts → IsTotal total → total ≡ length cuts + 1 → done ≡ total →
+    AreFirstSymbols message cuts level limit total done grids → AreBestSymbols message cuts level limit grids
+best_symbols message cuts level limit total done grids rise within few count all first =
+    let size : total ≡ length grids = sym (first.a_grid_each ∙ all) in
+    let best = λ (i : ℕ) (inside : i < length grids). rw size at first.each_best i (omega arith) in
+    let read : ReadsMessage grids message = record {
+      in_order = grids;
+      pieces = parts_at cuts message;
+      enough = rw size at few;
+      same_grids = IsPermutation-refl grids;
+      a_piece_each = length-parts 0 cuts message ∙ sym count ∙ size;
+      each_read = λ i inside.
+          let symbol = best i inside in
+          record { reading = _; reads = symbol.best.reads; header_is = refl; piece_is = refl };
+      message_is = parts_whole cuts message rise within;
+    } in
+    record {
+      a_grid_each = sym size ∙ count;
+      each_best = best;
+      reads = λ shuffled mixed. in_any_order grids shuffled message mixed read;
+      only = λ shuffled other mixed seen. sym (one_message grids shuffled message other mixed read seen);
+    }
 
 -- A part that is refused for its length or for memory refuses the sequence so; the limit and the header are no reason.
 pub refused_part : (message cuts : List ℕ) (level : EcLevel) (limit : ℤ) (total i : ℕ) (e : QrError) → IsLimit limit → IsTotal total →

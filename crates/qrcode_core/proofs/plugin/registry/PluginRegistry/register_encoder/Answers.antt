@@ -1,8 +1,5 @@
-use Rattle.std.proofs.Common.{ap, ◌∙◌}
-use Rattle.qrcode_core.specs.Texts.{text_map, at_key}
 use Rattle.qrcode_core.proofs.plugin.registry.PluginRegistry.register_encoder.Goals as goal
 
 -- The key has the bytes of the name.
 pub returns-clause-replaced : goal.returns-clause-replaced
-returns-clause-replaced g c =
-    c.in_ok-replaced.ensures.replaced ∙ ap (at_key (text_map c.args.self.now.encoders)) c.in_ok-key.ensures.ok
+returns-clause-replaced g c = cc (c.in_ok-replaced.ensures.replaced, c.in_ok-key.ensures.ok)

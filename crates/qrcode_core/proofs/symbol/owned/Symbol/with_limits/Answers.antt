@@ -1,4 +1,5 @@
 -- The best encoding up to a version, drawn, is the best symbol within the limits.
+use Rattle.std.proofs.lemmas.Grind.{common_steps}
 use Rattle.std.proofs.Common.{rules, ◌≡◌, ◌≤◌, arith, nat_abs, length}
 use Rattle.std.proofs.lemmas.Result.{IfOk-weaker}
 use mir.Val.{to_z, of_z}
@@ -43,8 +44,4 @@ returns-in-Ok c =
 
 pub returns-in-Err-clause-refused : goal.returns-in-Err-clause-refused
 returns-in-Err-clause-refused c =
-    let budget : IsBudget c.args.limits.now = search (rules, c.validate.ensures.valid.0, c.if-is_err.false, c.is_err.ensures.value) in
-    let short : length c.args.bytes.now ≤ c.args.limits.now.max_data_length = search rules in
-    let number = to_z w16 (of_z w16 c.in-Normal.number) in
-    let most : c.args.limits.now.max_version ≡ Normal number = search rules in
-    limited_refusal c.args.limits.now c.args.bytes.now c.args.level number most budget short c.in-Err.error c.in-Err.ensures.err
+    grind (arith, common_steps, limited_refusal c.args.limits.now c.args.bytes.now c.args.level (to_z w16 (of_z w16 c.in-Normal.number)), c.in-Err.ensures.err)
