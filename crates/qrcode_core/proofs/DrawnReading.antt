@@ -5,7 +5,6 @@ use Rattle.qrcode_base.specs.declared.types.EcLevel.{EcLevel}
 use Rattle.qrcode_base.specs.declared.types.Version.{Version}
 use Rattle.qrcode_base.specs.Numbers.{byte_bits, zero_bits}
 use Rattle.qrcode_base.specs.Symbols.{missing_bits}
-use Rattle.qrcode_bits.proofs.Numbers.{length-byte_bits}
 use Rattle.qrcode_grid.specs.Walk.{left_over}
 use Rattle.qrcode_grid.specs.Data.{bit_color, symbol_bits}
 use Rattle.qrcode_grid.specs.Cells.{is_dark}
@@ -13,7 +12,7 @@ use Rattle.std.proofs.lemmas.Option.{none-some, same_Some}
 use Rattle.qrcode_core.specs.Drawn.{DrawnSymbol}
 use Rattle.qrcode_core.specs.Layers.{IsDrawn}
 use Rattle.qrcode_core.specs.Reader.{Carries}
-use Rattle.qrcode_core.proofs.HalfBytes.{low_half, cut_at}
+use Rattle.qrcode_core.proofs.HalfBytes.{low_half}
 use Rattle.std.proofs.lemmas.Grind.{common_steps}
 
 -- bits that are drawn are seen again
@@ -29,9 +28,7 @@ pub drawn_carries : (version : Version) (level : EcLevel) (bits : List Bool) (co
 drawn_carries version level bits codewords symbol bits_are drawn =
     let missing = missing_bits version in
     let streams = drawn.streams in
-    let stream = byte_bits drawn.interleaved in
-    let front = take (8 * length drawn.interleaved - missing) stream in
-    let low = low_half version level streams.blocks _ codewords drawn.interleaved drawn.correction bits streams.has_level streams.sound bits_are in
+    let front = take (8 * length drawn.interleaved - missing) (byte_bits drawn.interleaved) in
     record {
       blocks = streams.blocks;
       interleaved = drawn.interleaved;
@@ -45,7 +42,7 @@ drawn_carries version level bits codewords symbol bits_are drawn =
       cells = ap (map is_dark) drawn.carries.bits
           ∙ seen_bits (symbol_bits missing drawn.interleaved drawn.correction) (left_over version)
           ∙ append_assoc front (byte_bits drawn.correction) (zero_bits (left_over version));
-      drawn_is = cut_at stream low.0 missing (8 * length drawn.interleaved) low.1 (omega (arith, length-byte_bits drawn.interleaved));
+      drawn_is = low_half version level streams.blocks _ codewords drawn.interleaved drawn.correction bits streams.has_level streams.sound bits_are;
       bytes_interleaved = streams.bytes_interleaved;
       bytes_correction = streams.bytes_correction;
       sound = streams.sound;

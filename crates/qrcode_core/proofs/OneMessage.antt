@@ -1,19 +1,16 @@
 -- Some grids are read as one message at most, and the best symbols of its parts are read as the message.
 use Rattle.std.proofs.lemmas.Grind.{common_steps}
 use Rattle.std.proofs.Common.{◌≡◌, ℕ, zero, suc, ◌+◌, ◌-◌, ◌<◌, ◌≤◌, refl, ap, sym, ◌∙◌, arith, List, [], ◌∷◌, ◌++◌, length, get_or, drop}
-use Rattle.std.specs.Prelude.{Some, All, IsPermutation, slice_range}
+use Rattle.std.specs.Prelude.{All, IsPermutation, slice_range}
 use Rattle.std.specs.List.{concat}
 use Rattle.std.specs.List.Sorted.{IsNonDecreasing}
 use Rattle.std.proofs.lemmas.List.{same_lists, get_or_default, take-append-drop, drop-drop, append-nil, take_all, length-drop}
 use Rattle.std.proofs.lemmas.List.Elements.{Contains-get_or, All-cons, All-tail}
-use Rattle.std.proofs.lemmas.List.Sorted.{IsPermutation-refl, IsPermutation-sym, IsPermutation-trans, Contains-permutation, length_permutation}
+use Rattle.std.proofs.lemmas.List.Sorted.{IsPermutation-sym, IsPermutation-trans, Contains-permutation, length_permutation}
 use Rattle.std.proofs.lemmas.Option.{same_Some}
 use Rattle.qrcode_base.specs.declared.types.Color.{Color}
-use Rattle.qrcode_base.specs.declared.types.EcLevel.{EcLevel}
-use Rattle.qrcode_bits.specs.Choice.{normal}
 use Rattle.qrcode_bits.specs.Frame.{Header}
-use Rattle.qrcode_core.specs.Reader.{reading_of}
-use Rattle.qrcode_core.specs.Sequence.{ReadsPiece, ReadsMessage, HaveOneMessage, header_at, parts_from, parts_at, IsTotal, IsPartSymbol, AreBestSymbols}
+use Rattle.qrcode_core.specs.Sequence.{ReadsPiece, ReadsMessage, HaveOneMessage, parts_from, parts_at}
 use Rattle.qrcode_core.proofs.OneReading.{one_reading}
 
 -- ---- One message

@@ -23,15 +23,11 @@ use Rattle.qrcode_core.specs.Reader.{Reads}
 
 -- ---- Functional colours, computed
 
-abbrev pub same_color : Color → Color → Bool
-same_color Dark Dark = true
-same_color Light Light = true
-same_color _ _ = false
-
 abbrev pub shows : Option Color → Option Color → Bool
 shows None seen = true
-shows (Some c) None = false
-shows (Some c) (Some d) = same_color c d
+shows (Some Dark) (Some Dark) = true
+shows (Some Light) (Some Light) = true
+shows _ _ = false
 
 abbrev pub shows_functional : Version → ℕ → ℕ → List Color → Bool
 shows_functional version word w grid =

@@ -73,8 +73,3 @@ pub none_too_long : (message cuts : List ℕ) (level : EcLevel) (limit : ℕ) (g
 none_too_long message cuts level limit grids all (i, inside, none) =
     let part = all.each_best i (omega (arith, all.a_grid_each)) in
     none part.best.number part.up_to part.best.plan (rw length-header at part.best.fits)
-
--- The symbols of a sequence are 2 to 16.
-pub so_many : (message cuts : List ℕ) (level : EcLevel) (limit : ℕ) (grids : List (List Color)) → AreBestSymbols message cuts level limit grids →
-    IsTotal (length cuts + 1)
-so_many message cuts level limit grids all = subst IsTotal all.a_grid_each (all.reads grids (IsPermutation-refl grids)).enough

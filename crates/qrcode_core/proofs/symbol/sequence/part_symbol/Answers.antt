@@ -1,14 +1,10 @@
 -- The best encoding of a part behind its header, drawn, is the best symbol of the part.
-use Rattle.std.proofs.Common.{rules, ◌≡◌, ℤ, arith, nat_abs, subst}
+use Rattle.std.proofs.Common.{ap, rules, arith, nat_abs}
 use Rattle.std.proofs.lemmas.Result.{IfOk-weaker}
-use mir.Val.{to_z, of_z}
 use mir.Syntax.{w16}
 use Rattle.std.proofs.lemmas.Int.{to_z-of_z}
-use Rattle.qrcode_bits.specs.Encoding.{IsLimit}
 use Rattle.qrcode_bits.specs.Push.{IsPlace}
-use Rattle.qrcode_bits.specs.Frame.{header}
 use Rattle.qrcode_bits.proofs.Pairs.{bytes_valid}
-use Rattle.qrcode_core.specs.Sequence.{IsPartSymbol}
 use Rattle.qrcode_core.proofs.Limited.{few_versions}
 use Rattle.qrcode_core.proofs.StreamEncoding.{best_of_stream, fills_symbol, encoded_short, only_memory}
 use Rattle.qrcode_core.proofs.symbol.sequence.part_symbol.Goals as goal
@@ -20,17 +16,15 @@ pub returns-in-Ok : goal.returns-in-Ok
 returns-in-Ok c =
     let are = bytes_valid c.args.part.now (λ i. omega (arith, c.type_inv.part i)) in
     let code = c.in-Ok.ensures.ok in
-    let placed = header c.args.position c.args.total c.args.parity in
-    let limit = to_z w16 (of_z w16 c.args.max_version) in
-    let same : limit ≡ c.args.max_version = to_z-of_z w16 c.args.max_version c.ranges.max_version in
-    let short = encoded_short (nat_abs limit) (few_versions limit c.in-Ok.ensures.limit) are code in
+    let same = to_z-of_z w16 c.args.max_version c.ranges.max_version in
+    let short = encoded_short _ (few_versions _ c.in-Ok.ensures.limit) are code in
     let place : IsPlace c.args.position c.args.total = search rules in
     let result = c.symbol_of.result in
     let drawn = c.symbol_of.ensures.drawn in
     record {
       best = IfOk-weaker result _ _ (λ symbol made.
           let found = best_of_stream are code made in
-          subst (λ (z : ℤ). IsPartSymbol placed c.args.part.now c.args.level (nat_abs z) symbol.modules) same (record { best = found.0; up_to = found.1 })) drawn;
+          record { best = found.0; up_to = omega (arith, found.1, ap nat_abs same) }) drawn;
       reading = IfOk-weaker result _ _ (λ _ made. (best_of_stream are code made).2) drawn;
-      refused = only_memory result _ (subst (λ (z : ℤ). IsLimit z) same c.in-Ok.ensures.limit, place, short) c.symbol_of.ensures.memory;
+      refused = only_memory result _ (rw same at c.in-Ok.ensures.limit, place, short) c.symbol_of.ensures.memory;
     }

@@ -5,7 +5,7 @@ use Rattle.std.proofs.lemmas.Int.{to_z-of_z}
 use Rattle.std.proofs.lemmas.Result.{IfOk-weaker}
 use mir.Syntax.{w16}
 use Rattle.qrcode_core.specs.Drawn.{modules_of}
-use Rattle.qrcode_core.proofs.Symbols.{so_many}
+use Rattle.std.proofs.lemmas.List.Sorted.{IsPermutation-refl}
 use Rattle.qrcode_core.proofs.symbol.sequence.symbol_sequence.Goals as goal
 
 pub returns-in-Ok-clause-fitting : goal.returns-in-Ok-clause-fitting
@@ -15,7 +15,8 @@ returns-in-Ok-clause-fitting c =
 
 pub returns-in-Ok-clause-refused : goal.returns-in-Ok-clause-refused
 returns-in-Ok-clause-refused c =
-    grind (arith, common_steps, to_z-of_z, so_many c.args.bytes.now c.args.cuts.now c.args.level _ (map modules_of c.in-Ok.symbols.items) c.in-Ok.ensures.best)
+    let grids = map modules_of c.in-Ok.symbols.items in
+    grind (arith, common_steps, to_z-of_z, c.in-Ok.ensures.best.a_grid_each, (c.in-Ok.ensures.best.reads grids (IsPermutation-refl grids)).enough)
 
 pub returns-in-Err-clause-refused : goal.returns-in-Err-clause-refused
 returns-in-Err-clause-refused c = rw (to_z-of_z w16 c.args.max_version c.ranges.max_version) at c.in-Err.ensures.refused

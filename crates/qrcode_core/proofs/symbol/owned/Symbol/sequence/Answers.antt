@@ -1,19 +1,12 @@
 -- Each part's symbol is one more of the answer; a refused part refuses the whole.
-use Rattle.std.proofs.lemmas.Grind.{common_steps}
-use Rattle.std.proofs.Common.{◌≡◌, ℕ, ℤ, ◌+◌, arith, sym, ap, ◌∙◌, subst, List, [], ◌∷◌, ◌++◌, map, get_or, nat_abs}
-use Rattle.std.specs.Prelude.{All}
+use Rattle.std.proofs.Common.{◌+◌, arith, [], ◌∷◌, map, nat_abs}
 use Rattle.std.proofs.lemmas.List.Elements.{All-push}
-use mir.Val.{to_z, of_z}
 use mir.Syntax.{w16}
 use Rattle.std.proofs.lemmas.Int.{to_z-of_z}
 use Rattle.std.proofs.lemmas.List.{map-append}
-use Rattle.qrcode_base.specs.declared.types.Color.{Color}
-use Rattle.qrcode_bits.specs.Encoding.{IsLimit, IsPartRefused}
-use Rattle.qrcode_bits.specs.Frame.{header}
 use Rattle.qrcode_bits.proofs.Classes.{limit_of}
-use Rattle.qrcode_core.specs.Drawn.{DrawnSymbol, TellsReading, modules_of}
-use Rattle.qrcode_core.specs.Sequence.{parts_at, IsPartSymbol, AreBestSymbols}
-use Rattle.qrcode_core.proofs.Symbols.{AreFirstSymbols, one_more, best_symbols, none_too_long, refused_part}
+use Rattle.qrcode_core.specs.Drawn.{TellsReading, modules_of}
+use Rattle.qrcode_core.proofs.Symbols.{one_more, best_symbols, none_too_long, refused_part}
 use Rattle.qrcode_core.proofs.symbol.owned.Symbol.sequence.Goals as goal
 
 pub returns-in-Err-clause-refused : goal.returns-in-Err-clause-refused

@@ -1,6 +1,6 @@
 -- The best encoding up to a version, drawn, is the best symbol within the limits.
 use Rattle.std.proofs.lemmas.Grind.{common_steps}
-use Rattle.std.proofs.Common.{rules, ◌≡◌, ◌≤◌, arith, nat_abs, length}
+use Rattle.std.proofs.Common.{rules, ◌≡◌, ◌≤◌, arith, length}
 use Rattle.std.proofs.lemmas.Result.{IfOk-weaker}
 use mir.Val.{to_z, of_z}
 use mir.Syntax.{w16}
@@ -18,25 +18,22 @@ symbol_of-requires c = fills_symbol (bytes_valid c.args.bytes.now (λ i. omega (
 
 pub returns-in-Ok : goal.returns-in-Ok
 returns-in-Ok c =
-    let bytes = c.args.bytes.now in
-    let level = c.args.level in
     let limits = c.args.limits.now in
-    let number = to_z w16 (of_z w16 c.in-Normal.number) in
     let budget : IsBudget limits = search (rules, c.validate.ensures.valid.0, c.if-is_err.false, c.is_err.ensures.value) in
-    let are = bytes_valid bytes (λ i. omega (arith, c.type_inv.bytes i)) in
-    let short : length bytes ≤ limits.max_data_length = search rules in
-    let most : limits.max_version ≡ Normal number = search rules in
+    let are = bytes_valid c.args.bytes.now (λ i. omega (arith, c.type_inv.bytes i)) in
+    let short : length c.args.bytes.now ≤ limits.max_data_length = search rules in
+    let most : limits.max_version ≡ Normal (to_z w16 (of_z w16 c.in-Normal.number)) = search rules in
     let code = c.in-Ok.ensures.ok in
-    let few = encoded_short (nat_abs number) (few_versions number c.in-Ok.ensures.limit) are code in
-    let within = λ (symbol : DrawnSymbol) (made : IsDrawnStream c.in-Ok.bits level symbol).
+    let few = encoded_short _ (few_versions _ c.in-Ok.ensures.limit) are code in
+    let within = λ (symbol : DrawnSymbol) (made : IsDrawnStream c.in-Ok.bits c.args.level symbol).
     let best = best_of_stream are code made in
-    best_within limits bytes level number most budget short symbol.modules best.0 best.1 in
+    best_within limits c.args.bytes.now c.args.level _ most symbol.modules best.0 best.1 in
     let result = c.symbol_of.result in
     let drawn = c.symbol_of.ensures.drawn in
     record {
       best = IfOk-weaker result _ _ within drawn;
       reading = IfOk-weaker result _ _ (λ _ made. (best_of_stream are code made).2) drawn;
-      fitting = IfOk-weaker result _ _ (λ symbol made. fits_within limits bytes level symbol.modules short (within symbol made)) drawn;
+      fitting = IfOk-weaker result _ _ (λ symbol made. fits_within limits c.args.bytes.now c.args.level symbol.modules short (within symbol made)) drawn;
       budget = IfOk-weaker result _ _ (λ _ _. budget) drawn;
       limit = IfOk-weaker result _ _ (λ _ _. few) drawn;
       refused = only_memory result _ (budget, short, few) c.symbol_of.ensures.memory;
