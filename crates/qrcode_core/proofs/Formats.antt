@@ -1,5 +1,6 @@
 -- The functional colours of a grid tell the level and the mask.
-use Rattle.std.proofs.Common.{zero-add, ◌≡◌, ℕ, zero, suc, pos, negsuc, ◌+◌, ◌*◌, ◌==◌, ◌&&◌, nat_le, ◌<◌, ◌≤◌, refl, sym, ◌∙◌, arith, inl, inr, List, [], ◌∷◌, Bool, true, false, get_or}
+use Rattle.std.proofs.Common.{◌≡◌, ℕ, zero, suc, pos, negsuc, ◌+◌, ◌*◌, ◌==◌, ◌&&◌, nat_le, ◌<◌, ◌≤◌, refl, sym, ◌∙◌, arith, inl, inr}
+use Rattle.std.proofs.Common.{zero-add, List, [], ◌∷◌, Bool, true, false, get_or}
 use Rattle.std.specs.Prelude.{Option, Some, None, is_some, unwrap_or, IsTrue, slice_get}
 use Rattle.std.specs.List.{range_with_len, count_by}
 use Rattle.std.proofs.lemmas.Bool.{cases_eq, ne_eqb, eqb-true, leb-true, eq-eqb}
@@ -73,7 +74,8 @@ pub same_digits : (version : Version) (a b : ℕ) (grid : List Color) → IsVers
     ((x y : ℕ) (c : Color) → x < width_of version → y < width_of version → functional_color version b x y ≡ Some c → slice_get grid (y * width_of version + x) ≡ Some c) →
     (k : ℕ) → k < 15 → digit a k ≡ digit b k
 same_digits version a b grid h f g k below =
-    let p = shows_digit version a k h below in let q = shows_digit version b k h below in
+    let p = shows_digit version a k h below in
+    let q = shows_digit version b k h below in
     grind (arith, color-injective, sym (f _ _ _ p.0 p.1 p.2) ∙ g _ _ _ q.0 q.1 q.2)
 
 none_counted : (p : ℕ → Bool) (a n : ℕ) → ((k : ℕ) → a ≤ k → k < a + n → p k ≡ false) → count_by p (range_with_len a n) ≡ 0
@@ -86,21 +88,21 @@ none_differ n a b same = grind (arith, common_steps, none_counted, eq-eqb)
 
 -- ---- The words tell level and mask
 
--- a mask of the Normal family has a number below 8, which tells it
-normal_numbers : (p q : MaskPattern) → (normal_number p < 8) × (normal_number p ≡ normal_number q → p ≡ q)
+-- masks of the Normal family have numbers below 8, which tell them
+normal_numbers : (p q : MaskPattern) → (normal_number p < 8) × (normal_number q < 8) × (normal_number p ≡ normal_number q → p ≡ q)
 normal_numbers p q = grind (arith, common_steps)
 
-level_numbers : (l m : EcLevel) → (level_number l < 4) × (level_number l ≡ level_number m → l ≡ m)
+level_numbers : (l m : EcLevel) → (level_number l < 4) × (level_number m < 4) × (level_number l ≡ level_number m → l ≡ m)
 level_numbers l m = grind (arith, common_steps)
 
--- a mask of the Micro family has a number below 4, which tells it
+-- masks of the Micro family have numbers below 4, which tell them
 micro_numbers : (p q : MaskPattern) → IsTrue (is_some (micro_number p)) → IsTrue (is_some (micro_number q)) →
-    (unwrap_or (micro_number p) 0 < 4) × (unwrap_or (micro_number p) 0 ≡ unwrap_or (micro_number q) 0 → p ≡ q)
+    (unwrap_or (micro_number p) 0 < 4) × (unwrap_or (micro_number q) 0 < 4) × (unwrap_or (micro_number p) 0 ≡ unwrap_or (micro_number q) 0 → p ≡ q)
 micro_numbers p q h k = grind (arith, common_steps)
 
--- so has a level of a Micro version
+-- so have the levels of a Micro version
 symbol_numbers : (n : ℕ) (l m : EcLevel) → IsVersion (Micro (pos n)) → IsSymbol (Micro (pos n)) l → IsSymbol (Micro (pos n)) m →
-    (symbol_number n l < 8) × (symbol_number n l ≡ symbol_number n m → l ≡ m)
+    (symbol_number n l < 8) × (symbol_number n m < 8) × (symbol_number n l ≡ symbol_number n m → l ≡ m)
 symbol_numbers n l m h s t = grind (arith, common_steps)
 
 -- a format word that shows the same digits has the same data
@@ -116,16 +118,16 @@ pub same_format : (version : Version) (l m : EcLevel) (p q : MaskPattern) (grid 
     IsSymbol version l → IsSymbol version m → IsOfFamily version p → IsOfFamily version q →
     HasFunctionalColors version l p grid → HasFunctionalColors version m q grid → (l ≡ m) × (p ≡ q)
 same_format (Normal (pos n)) l m p q grid h sl sm fp fq f g =
-    let masks = normal_numbers p q in let others = normal_numbers q p in
-    let levels = level_numbers l m in let other_levels = level_numbers m l in
+    let masks = normal_numbers p q in
+    let levels = level_numbers l m in
     let same = data_same normal_format_word normal_format_words_differ (8 * level_number l + normal_number p) (8 * level_number m + normal_number q)
     (omega arith) (omega arith) (same_digits (Normal (pos n)) _ _ grid h f g) in
-    grind (arith, same, masks, others, levels, other_levels)
+    grind (arith, same, masks, levels)
 same_format (Normal (negsuc n)) l m p q grid h sl sm fp fq f g = absurd h
 same_format (Micro (pos n)) l m p q grid h sl sm fp fq f g =
-    let masks = micro_numbers p q fp fq in let others = micro_numbers q p fq fp in
-    let levels = symbol_numbers n l m h sl sm in let other_levels = symbol_numbers n m l h sm sl in
+    let masks = micro_numbers p q fp fq in
+    let levels = symbol_numbers n l m h sl sm in
     let same = data_same micro_format_word micro_format_words_differ (4 * symbol_number n l + unwrap_or (micro_number p) 0)
     (4 * symbol_number n m + unwrap_or (micro_number q) 0) (omega arith) (omega arith) (same_digits (Micro (pos n)) _ _ grid h f g) in
-    grind (arith, same, masks, others, levels, other_levels)
+    grind (arith, same, masks, levels)
 same_format (Micro (negsuc n)) l m p q grid h sl sm fp fq f g = absurd h

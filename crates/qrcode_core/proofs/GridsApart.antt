@@ -22,7 +22,8 @@ bytes_of_codewords grid other r s f g same_version same_level same =
 pub grids_apart : HaveDistance
 unfolding AreApart
 grids_apart grid r f other s g same_version same_level differ =
-    let mine = f.carries in let theirs = g.carries in
+    let mine = f.carries in
+    let theirs = g.carries in
     let blocks : theirs.blocks ≡ mine.blocks = cc (mine.has_level, theirs.has_level) in
     AreApart-from_blocks _ _ mine.codewords mine.interleaved mine.correction mine.sound (blocks_apart grid r f)
     theirs.codewords theirs.interleaved theirs.correction theirs.bytes_interleaved theirs.bytes_correction (rw blocks at theirs.sound)

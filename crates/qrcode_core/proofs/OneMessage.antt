@@ -1,11 +1,11 @@
--- Some grids are read as one message at most, and the best symbols of its parts are read as the message.
+-- Some grids are read as one message at most, in whatever order; and the parts of a message are the message.
 use Rattle.std.proofs.lemmas.Grind.{common_steps}
-use Rattle.std.proofs.Common.{◌≡◌, ℕ, zero, suc, ◌+◌, ◌-◌, ◌<◌, ◌≤◌, refl, ap, sym, ◌∙◌, arith, List, [], ◌∷◌, ◌++◌, length, get_or, drop}
-use Rattle.std.specs.Prelude.{All, IsPermutation, slice_range}
+use Rattle.std.proofs.Common.{◌≡◌, ℕ, zero, suc, ◌+◌, ◌-◌, ◌<◌, ◌≤◌, refl, sym, ◌∙◌, arith, List, [], ◌∷◌, ◌++◌, length, get_or, drop}
+use Rattle.std.specs.Prelude.{IsPermutation, slice_range}
 use Rattle.std.specs.List.{concat}
 use Rattle.std.specs.List.Sorted.{IsNonDecreasing}
 use Rattle.std.proofs.lemmas.List.{same_lists, get_or_default, take-append-drop, drop-drop, append-nil, take_all, length-drop}
-use Rattle.std.proofs.lemmas.List.Elements.{Contains-get_or, All-cons, All-tail}
+use Rattle.std.proofs.lemmas.List.Elements.{Contains-get_or}
 use Rattle.std.proofs.lemmas.List.Sorted.{IsPermutation-sym, IsPermutation-trans, Contains-permutation, length_permutation}
 use Rattle.std.proofs.lemmas.Option.{same_Some}
 use Rattle.qrcode_base.specs.declared.types.Color.{Color}
@@ -57,14 +57,13 @@ one_message grids shuffled m n mixed f h =
 -- ---- Parts
 
 -- The parts between cuts that don't fall, one after the other, are what follows the start.
-concat-parts : (start : ℕ) (cuts message : List ℕ) → IsNonDecreasing (start ∷ cuts) → All (λ cut. cut ≤ length message) (start ∷ cuts) →
-    concat (parts_from start cuts message) ≡ drop start message
-concat-parts start [] message rise within = append-nil (drop start message)
-concat-parts start (cut ∷ cuts) message rise within =
+concat-parts : (start : ℕ) (cuts message : List ℕ) → IsNonDecreasing (start ∷ cuts) → concat (parts_from start cuts message) ≡ drop start message
+concat-parts start [] message rise = append-nil (drop start message)
+concat-parts start (cut ∷ cuts) message rise =
     let up : start ≤ cut = rise 0 1 0 (omega arith) (omega arith) in
-    let rest = concat-parts cut cuts message (λ i j d below inside. rise (suc i) (suc j) d (omega arith) (omega arith)) (All-tail (λ c. c ≤ length message) start (cut ∷ cuts) within) in
-    let after : drop cut message ≡ drop (cut - start) (drop start message) = sym (drop-drop (cut - start) start message ∙ ap (λ (n : ℕ). drop n message) (let n : start + (cut - start) ≡ cut = omega arith in n)) in
-    ap (λ (z : List ℕ). slice_range message start cut ++ z) (rest ∙ after) ∙ take-append-drop (cut - start) (drop start message)
+    let rest = concat-parts cut cuts message (λ i j d below inside. rise (suc i) (suc j) d (omega arith) (omega arith)) in
+    let whole : start + (cut - start) ≡ cut = omega arith in
+    grind (arith, rest, whole, drop-drop (cut - start) start message, take-append-drop (cut - start) (drop start message))
 
 pub length-parts : (start : ℕ) (cuts message : List ℕ) → length (parts_from start cuts message) ≡ length cuts + 1
 length-parts start [] message = refl
@@ -78,6 +77,5 @@ part_at start (cut ∷ cuts) message zero inside = refl
 part_at start (cut ∷ cuts) message (suc i) inside = part_at cut cuts message i (omega arith)
 
 -- The parts between cuts that don't fall are together the message.
-pub parts_whole : (cuts message : List ℕ) → IsNonDecreasing cuts → All (λ cut. cut ≤ length message) cuts → message ≡ concat (parts_at cuts message)
-parts_whole cuts message rise within =
-    sym (concat-parts 0 cuts message (grind (arith, common_steps, rise)) (All-cons (λ cut. cut ≤ length message) 0 cuts (omega arith) within))
+pub parts_whole : (cuts message : List ℕ) → IsNonDecreasing cuts → message ≡ concat (parts_at cuts message)
+parts_whole cuts message rise = sym (concat-parts 0 cuts message (grind (arith, common_steps, rise)))

@@ -39,7 +39,8 @@ module _ {R E P : Type 0} where
     pub registers_refused : (s m t : Registered R E P) (all done rest after : List D) (x : D) (e : PluginError)
         → all ≡ done ++ rest → rest ≡ x ∷ after → m ≡ with_registrations s (map f done) → Registers m (f x ∷ []) (Err e) t → Registers s (map f all) (Err e) t
     registers_refused s m t all done rest after x e split first before now =
-        rw (split, first, map-append) (registers_then s m t (map f done) (f x ∷ map f after) (Err e) before (registers_stops m t (f x ∷ []) (map f after) e now))
+        let later = registers_stops m t (f x ∷ []) (map f after) e now in
+        rw (split, first, map-append) (registers_then s m t (map f done) (f x ∷ map f after) (Err e) before later)
 
 -- an item goes over from what is left to what is done
 pub moved_over : {D : Type 0} (all done rest after : List D) (x : D) → all ≡ done ++ rest → rest ≡ x ∷ after → all ≡ (done ++ x ∷ []) ++ after

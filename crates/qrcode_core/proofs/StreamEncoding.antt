@@ -65,9 +65,8 @@ module _ {kind : ℕ → Version} {header : Option Header} {bytes : List ℕ} {l
       (best.0, omega (arith, best.1, choice.up_to), best.2)
 
 -- What is encoded fits version 40.
-pub encoded_fits : {bytes : List ℕ} {level : EcLevel} {stream : Stream} (limit : ℕ) → limit ≤ 40 → IsEncoding normal None bytes level limit stream →
-    IsTooLong bytes level → ⊥
-encoded_fits {bytes = bytes} {level = level} limit h encoding long =
+pub encoded_fits : {bytes : List ℕ} {level : EcLevel} {stream : Stream} → IsEncoding normal None bytes level 40 stream → IsTooLong bytes level → ⊥
+encoded_fits {bytes = bytes} {level = level} encoding long =
     long encoding.plan (fits_last 0 encoding.number bytes level encoding.plan (omega (arith, encoding.choice.up_to)) encoding.choice.fits)
 
 -- It has at most 7089 bytes.

@@ -1,7 +1,7 @@
 -- The symbols of a sequence, as they are made one after the other.
 use Rattle.std.proofs.lemmas.Grind.{common_steps}
-use Rattle.std.proofs.Common.{◌≡◌, refl, ℕ, ◌+◌, ◌<◌, ◌≤◌, sym, ◌∙◌, subst, arith, inl, inr, List, [], ◌∷◌, ◌++◌, length, length-append, get_or}
-use Rattle.std.specs.Prelude.{All, ℤ}
+use Rattle.std.proofs.Common.{◌≡◌, refl, ℕ, ◌+◌, ◌<◌, sym, ◌∙◌, subst, arith, inl, inr, List, [], ◌∷◌, ◌++◌, length, length-append, get_or}
+use Rattle.std.specs.Prelude.{ℤ}
 use Rattle.std.specs.List.Sorted.{IsNonDecreasing}
 use Rattle.std.proofs.lemmas.Bool.{cases_eq}
 use Rattle.std.proofs.lemmas.List.{get_or_append_left, get_or_push}
@@ -34,9 +34,9 @@ one_more message cuts level limit total done grids grid first next = record {
 
 -- All of them are the answer.
 pub best_symbols : (message cuts : List ℕ) (level : EcLevel) (limit total done : ℕ) (grids : List (List Color)) →
-    IsNonDecreasing cuts → All (λ cut. cut ≤ length message) cuts → IsTotal total → total ≡ length cuts + 1 → done ≡ total →
+    IsNonDecreasing cuts → IsTotal total → total ≡ length cuts + 1 → done ≡ total →
     AreFirstSymbols message cuts level limit total done grids → AreBestSymbols message cuts level limit grids
-best_symbols message cuts level limit total done grids rise within few count all first =
+best_symbols message cuts level limit total done grids rise few count all first =
     let size : total ≡ length grids = sym (first.a_grid_each ∙ all) in
     let best = λ (i : ℕ) (inside : i < length grids). rw size at first.each_best i (omega arith) in
     let read : ReadsMessage grids message = record {
@@ -48,7 +48,7 @@ best_symbols message cuts level limit total done grids rise within few count all
       each_read = λ i inside.
           let symbol = best i inside in
           record { reading = _; reads = symbol.best.reads; header_is = refl; piece_is = refl };
-      message_is = parts_whole cuts message rise within;
+      message_is = parts_whole cuts message rise;
     } in
     record {
       a_grid_each = sym size ∙ count;

@@ -16,4 +16,5 @@ returns c =
     let message = c.args.bytes.now in
     let cuts = c.args.cuts.now in
     let i = c.args.index in
-    grind (arith, common_steps, part_at 0 cuts message i, get_or_push cuts (length message) 0 i, get_or_append_left cuts (length message ∷ []) 0 i, moved 0 cuts i)
+    let end = get_or_append_left cuts (length message ∷ []) 0 i in
+    grind (arith, common_steps, part_at 0 cuts message i, get_or_push cuts (length message) 0 i, end, moved 0 cuts i)

@@ -18,7 +18,7 @@ returns-in-Ok c =
     record {
       best = IfOk-weaker result _ _ (λ _ made. (best_of_stream are code made).0) drawn;
       reading = IfOk-weaker result _ _ (λ _ made. (best_of_stream are code made).2) drawn;
-      fitting = IfOk-weaker result _ _ (λ _ _. encoded_fits 40 (omega arith) code) drawn;
+      fitting = IfOk-weaker result _ _ (λ _ _. encoded_fits code) drawn;
       limit = IfOk-weaker result _ _ (λ _ _. short) drawn;
       refused = only_memory result _ short c.symbol_of.ensures.memory;
     }

@@ -36,7 +36,7 @@ pub returns-clause-best : goal.returns-clause-best
 returns-clause-best c =
     rw (← to_z-of_z w16 c.args.max_version c.ranges.max_version)
     (best_symbols c.args.bytes.now c.args.cuts.now c.args.level _ (c.min.result + 1) c.loop-index.index (map modules_of c.loop-index.symbols.items)
-    c.requires.ordered c.requires.within (omega arith, omega arith) (omega (arith, c.min.ensures)) (omega arith) c.loop-index.invariant.first)
+    c.requires.ordered (omega arith, omega arith) (omega (arith, c.min.ensures)) (omega arith) c.loop-index.invariant.first)
 
 pub returns-clause-fitting : goal.returns-clause-fitting
 returns-clause-fitting c =
