@@ -1,10 +1,11 @@
 -- The grid that is drawn of the best frame, under the first mask of least penalty, is the best symbol.
-use Rattle.std.proofs.Common.{◌≡◌, ℕ, ◌<◌, refl, List, length}
+use Rattle.std.proofs.Common.{ℕ, ◌+◌, ◌≤◌, refl, List, length}
 use Rattle.std.specs.Prelude.{Option}
 use Rattle.qrcode_base.specs.declared.types.EcLevel.{EcLevel}
 use Rattle.qrcode_base.specs.declared.types.Version.{Version}
 use Rattle.qrcode_bits.specs.declared.optimize.Segment.{Segment}
-use Rattle.qrcode_bits.specs.Choice.{Fits, FitsNot, IsLeastBits}
+use Rattle.qrcode_bits.specs.Choice.{IsChoice}
+use Rattle.qrcode_bits.specs.Merging.{total_bits}
 use Rattle.qrcode_bits.specs.Frame.{Header, header_bits}
 use Rattle.qrcode_core.specs.Drawn.{DrawnSymbol, TellsReading}
 use Rattle.qrcode_core.specs.Headline.{IsBest}
@@ -15,15 +16,15 @@ use Rattle.qrcode_core.proofs.DrawnReading.{drawn_carries}
 use Rattle.qrcode_core.proofs.GridsApart.{grids_apart}
 use Rattle.qrcode_core.proofs.OneReading.{one_reading}
 
--- Its number is that of the frame's version, and it tells its reading.
-pub best_symbol : (kind : ℕ → Version) (header : Option Header) (bytes : List ℕ) (level : EcLevel) (number payload : ℕ) (plan : List Segment) (codewords : List ℕ) (symbol : DrawnSymbol) →
-    IsEncoded (kind number) level header bytes payload codewords → IsDrawn (kind number) level codewords symbol →
-    Fits (length (header_bits header)) bytes (kind number) level plan →
-    ((smaller : ℕ) → smaller < number → FitsNot (length (header_bits header)) bytes (kind smaller) level) →
-    IsLeastBits (length (header_bits header)) bytes (kind number) payload →
-    (best : IsBest kind header bytes level symbol.modules) × (best.number ≡ number) × TellsReading symbol
-best_symbol kind header bytes level number payload plan codewords symbol code drawn fits smallest fewest =
+-- Its version is the frame's, up to the limit of the choice, and it tells its reading.
+pub best_symbol : (kind : ℕ → Version) (header : Option Header) (bytes : List ℕ) (level : EcLevel) (limit number : ℕ) (plan : List Segment)
+    (codewords : List ℕ) (symbol : DrawnSymbol) → IsChoice kind (length (header_bits header)) bytes level limit number plan →
+    IsEncoded (kind number) level header bytes (length (header_bits header) + total_bits (kind number) plan) codewords →
+    IsDrawn (kind number) level codewords symbol →
+    (best : IsBest kind header bytes level symbol.modules) × (best.number ≤ limit) × TellsReading symbol
+best_symbol kind header bytes level limit number plan codewords symbol choice code drawn =
     let grid = symbol.modules in
+    let payload = length (header_bits header) + total_bits (kind number) plan in
     let known = reading_of bytes (kind number) level symbol.mask header payload in
     let reads : Reads grid known = record {
       frame = code.frame;
@@ -38,13 +39,13 @@ best_symbol kind header bytes level number payload plan codewords symbol code dr
         reads = reads;
         only = λ other seen. one_reading grid other known seen reads;
         functional = drawn.carries.functional;
-        fits = fits;
-        smallest = smallest;
-        fewest = fewest;
+        fits = choice.fits;
+        smallest = choice.smallest;
+        fewest = choice.fewest;
         best_mask = drawn.best;
         apart = blocks_apart grid known reads;
         far = grids_apart grid known reads;
       },
-      refl,
+      choice.up_to,
       λ other seen. rw (← one_reading grid known other reads seen) (drawn.version_is, drawn.level_is, refl),
     )

@@ -12,11 +12,9 @@ bytes-of_bits [] [] hx hy l e = refl
 bytes-of_bits [] (y ∷ ys) hx hy l e = absurd (omega arith)
 bytes-of_bits (x ∷ xs) [] hx hy l e = absurd (omega arith)
 bytes-of_bits (x ∷ xs) (y ∷ ys) hx hy l e =
-    let bx : x < 256 = All-head (λ x. x < 256) x xs hx in let by : y < 256 = All-head (λ x. x < 256) y ys hy in
-    let first = number_front 8 x y (byte_bits xs) (byte_bits ys) (omega arith) (omega arith) e in
-    let rest : xs ≡ ys = bytes-of_bits xs ys (All-tail (λ x. x < 256) x xs hx) (All-tail (λ x. x < 256) y ys hy) (omega arith) first.1 in
-    let same : x ≡ y = first.0 in
-    cc
+    let first = number_front 8 x y (byte_bits xs) (byte_bits ys) (All-head (λ x. x < 256) x xs hx) (All-head (λ x. x < 256) y ys hy) e in
+    let rest = bytes-of_bits xs ys (All-tail (λ x. x < 256) x xs hx) (All-tail (λ x. x < 256) y ys hy) (omega arith) first.1 in
+    cc (first.0, rest)
 
 -- the bits that are drawn, of bytes of which some last bits are not
 pub length-drawn : (xs : List ℕ) (drawn : List Bool) (missing : ℕ) → byte_bits xs ≡ drawn ++ zero_bits missing → length drawn + missing ≡ length xs * 8

@@ -1,5 +1,5 @@
 -- The codewords of an ended stream hold its frame.
-use Rattle.std.proofs.Common.{[], ◌∷◌, ◌≡◌, ℕ, ◌-◌, ◌%◌, ◌≤◌, ◌∙◌, arith, ◌⊎◌, List, ◌++◌, length, take, Bool, append_assoc}
+use Rattle.std.proofs.Common.{[], ◌∷◌, ◌≡◌, ℕ, ◌-◌, ◌%◌, ◌≤◌, arith, ◌⊎◌, List, ◌++◌, length, take, Bool, append_assoc}
 use Rattle.std.specs.Prelude.{Some}
 use Rattle.std.proofs.lemmas.List.{take_at, replicate-append-replicate}
 use Rattle.std.proofs.lemmas.Option.{none-some, same_Some}
@@ -24,15 +24,15 @@ length-tailed v limit payload fits = grind (arith, common_steps, length-tail)
 -- The bytes into which an ended stream is turned are its bits up to the capacity, and the missing bits as zeros.
 pub bytes_of_tailed : (v : Version) (l : EcLevel) (b : BlockLayout) (limit : ℕ) (payload : List Bool) (words : List ℕ) → blocks_of v l ≡ Some b →
     capacity v l ≡ Some limit → length payload ≤ limit →
-    byte_bits words ≡ ended v limit payload ++ zero_bits ((8 - length (ended v limit payload) % 8) % 8) → byte_bits words ≡ (payload ++ tail v limit (length payload)) ++ zero_bits (missing_bits v)
+    byte_bits words ≡ ended v limit payload ++ zero_bits ((8 - length (ended v limit payload) % 8) % 8) →
+    byte_bits words ≡ (payload ++ tail v limit (length payload)) ++ zero_bits (missing_bits v)
 bytes_of_tailed v l b limit payload words known limit_is fits are =
     grind (arith, common_steps, append_assoc, same_Some, length-ended, lacks, replicate-append-replicate)
 
--- The same, where the bits up to the capacity are the first ones of the ended stream.
-pub bytes_of_ended : (v : Version) (l : EcLevel) (b : BlockLayout) (limit : ℕ) (payload : List Bool) (words : List ℕ) → blocks_of v l ≡ Some b →
-    capacity v l ≡ Some limit → length payload ≤ limit →
-    byte_bits words ≡ ended v limit payload ++ zero_bits ((8 - length (ended v limit payload) % 8) % 8) → byte_bits words ≡ take limit (ended v limit payload) ++ zero_bits (missing_bits v)
-bytes_of_ended v l b limit payload words known limit_is fits are =
+-- The bits up to the capacity are the first ones of the ended stream.
+pub take_ended : (v : Version) (limit : ℕ) (payload : List Bool) → length payload ≤ limit →
+    take limit (ended v limit payload) ≡ payload ++ tail v limit (length payload)
+take_ended v limit payload fits =
     let whole = append_assoc payload (tail v limit (length payload)) (half_byte v limit (length payload)) in
     let front = take_at (payload ++ tail v limit (length payload)) (half_byte v limit (length payload)) limit (length-tailed v limit payload fits) in
-    bytes_of_tailed v l b limit payload words known limit_is fits are ∙ cc
+    cc

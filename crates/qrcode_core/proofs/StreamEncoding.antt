@@ -21,7 +21,7 @@ use Rattle.qrcode_core.specs.Headline.{IsBest, IsTooLong, IsRefusal}
 use Rattle.qrcode_core.specs.Drawn.{DrawnSymbol, TellsReading}
 use Rattle.qrcode_core.specs.Layers.{IsEncoded, AreBytesOf, FillsSymbol, IsDrawnStream}
 use Rattle.qrcode_core.proofs.Best.{best_symbol}
-use Rattle.qrcode_core.proofs.Ending.{bytes_of_ended}
+use Rattle.qrcode_core.proofs.Ending.{bytes_of_tailed, take_ended}
 use Rattle.qrcode_core.proofs.Lengths.{length-encoded}
 use Rattle.std.proofs.lemmas.Grind.{common_steps}
 
@@ -46,8 +46,9 @@ module _ {kind : ℕ → Version} {header : Option Header} {bytes : List ℕ} {l
       let blocks = has_blocks version level held.limit held.limit_is in
       let spelled = spelled_plan front version level bytes encoding.plan are encoding.choice.fits in
       let within : length payload ≤ held.limit = grind (arith, common_steps, spelled.bits, held.frame.fits, held.frame.limit_is, held.limit_is) in
-      let ends = bytes_of_ended version level blocks.0 held.limit payload words blocks.1 held.limit_is within in
-      record { frame = take held.limit stream.bits; framed = held.frame; frame_is = grind (arith, ends, held.bits_are, turned) }
+      let ends = bytes_of_tailed version level blocks.0 held.limit payload words blocks.1 held.limit_is within in
+      let first = take_ended version held.limit payload within in
+      record { frame = take held.limit stream.bits; framed = held.frame; frame_is = grind (arith, ends, first, held.bits_are, turned) }
 
   -- What an encoding is turned into fills its symbol.
   pub fills_symbol : FillsSymbol stream level
@@ -59,10 +60,8 @@ module _ {kind : ℕ → Version} {header : Option Header} {bytes : List ℕ} {l
   pub best_of_stream : {symbol : DrawnSymbol} → IsDrawnStream stream level symbol →
       (best : IsBest kind header bytes level symbol.modules) × (best.number ≤ limit) × TellsReading symbol
   best_of_stream {symbol = symbol} held =
-      let choice = encoding.choice in
-      let best = best_symbol kind header bytes level encoding.number (front + total_bits version encoding.plan) encoding.plan held.codewords symbol
-      (encoded held.codewords held.turned) (rw encoding.stream_is.version_is at held.drawn) choice.fits choice.smallest choice.fewest in
-      (best.0, omega (arith, best.1, choice.up_to), best.2)
+      best_symbol kind header bytes level limit encoding.number encoding.plan held.codewords symbol encoding.choice
+      (encoded held.codewords held.turned) (rw encoding.stream_is.version_is at held.drawn)
 
 -- What is encoded fits version 40.
 pub encoded_fits : {bytes : List ℕ} {level : EcLevel} {stream : Stream} → IsEncoding normal None bytes level 40 stream → IsTooLong bytes level → ⊥
