@@ -50,8 +50,8 @@ pub one_message : HaveOneMessage
 one_message grids shuffled m n mixed f h =
     let g = in_any_order shuffled grids n (IsPermutation-sym grids shuffled mixed) h in
     let pieces : f.pieces ≡ g.pieces = same_lists f.pieces g.pieces (omega (arith, f.a_piece_each, g.a_piece_each)) (λ k d below.
-        let same = same_piece grids m n f g k (omega (arith, below, f.a_piece_each)) in
-        grind (arith, common_steps, same, get_or_default, f.a_piece_each, g.a_piece_each)) in
+    let same = same_piece grids m n f g k (omega (arith, below, f.a_piece_each)) in
+    grind (arith, common_steps, same, get_or_default, f.a_piece_each, g.a_piece_each)) in
     cc (f.message_is, g.message_is)
 
 -- ---- Parts
