@@ -1,5 +1,5 @@
 -- The last data codeword of M1 and M3 has four bits: in the stream of one block it stands last, as in the data.
-use Rattle.std.proofs.Common.{◌*◌, ◌≡◌, ℕ, ◌-◌, ◌∙◌, arith, inl, inr, List, [], ◌∷◌, ◌++◌, length, map, take, min, Bool, length-append, append-nil}
+use Rattle.std.proofs.Common.{◌*◌, ◌≡◌, ℕ, ◌-◌, arith, List, [], ◌∷◌, ◌++◌, length, map, take, min, Bool, length-append, append-nil}
 use Rattle.std.specs.Prelude.{Some}
 use Rattle.std.specs.List.{concat}
 use Rattle.std.proofs.lemmas.List.{same_lists, get_or_default, length-replicate, take_at}
@@ -24,11 +24,6 @@ pub low_half : (version : Version) (level : EcLevel) (b : BlockLayout) (n : ℕ)
     blocks_of version level ≡ Some b →
     AreCodewords n (block_sizes b) words stream correction → byte_bits words ≡ frame ++ zero_bits (missing_bits version) →
     byte_bits stream ≡ take (8 * length stream - missing_bits version) (byte_bits stream) ++ zero_bits (missing_bits version)
-low_half version level b n words stream correction frame e codes ends = elim (lacks version level b e) [
-  | inl none ↦ cut (byte_bits stream) (cc (none, append-nil (byte_bits stream)))
-  | inr one ↦ cut frame (cc (one_block (data_bytes b) stream (codes.stream_length ∙ rw one.2 (omega arith)), one.2, codes.in_order, ends))
-]
-  where
-    cut : (front : List Bool) → byte_bits stream ≡ front ++ zero_bits (missing_bits version) →
-        byte_bits stream ≡ take (8 * length stream - missing_bits version) (byte_bits stream) ++ zero_bits (missing_bits version)
-    cut front e = grind (arith, common_steps, length-append, length-replicate, length-byte_bits, take_at)
+low_half version level b n words stream correction frame e codes ends =
+    let one = one_block (data_bytes b) stream in
+    grind (arith, common_steps, lacks version level b e, one, codes.stream_length, codes.in_order, length-byte_bits stream, length-append, length-replicate, take_at)

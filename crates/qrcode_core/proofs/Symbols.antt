@@ -9,7 +9,7 @@ use Rattle.std.proofs.lemmas.List.Sorted.{IsPermutation-refl}
 use Rattle.qrcode_base.specs.declared.types.Color.{Color}
 use Rattle.qrcode_base.specs.declared.types.EcLevel.{EcLevel}
 use Rattle.qrcode_base.specs.declared.types.errors.QrError.{QrError}
-use Rattle.qrcode_base.specs.declared.types.errors.QrError.TheVariants.{DataTooLong, InvalidResourceLimits, InvalidStructuredAppend, OutOfMemory}
+use Rattle.qrcode_base.specs.declared.types.errors.QrError.TheVariants.{DataTooLong, InvalidResourceLimits}
 use Rattle.qrcode_bits.specs.Encoding.{IsLimit, IsPartRefused}
 use Rattle.qrcode_bits.proofs.Reading.{length-header}
 use Rattle.qrcode_core.specs.Sequence.{ReadsMessage, header_at, parts_at, IsTotal, IsPartSymbol, AreBestSymbols, IsSomePartTooLong, IsSequenceRefusal}
@@ -62,10 +62,8 @@ pub refused_part : (message cuts : List ℕ) (level : EcLevel) (limit : ℤ) (to
     total ≡ length cuts + 1 → i < total →
     IsPartRefused (i + 1) total (get_or (parts_at cuts message) i []) level limit e → IsSequenceRefusal message cuts level limit e
 refused_part message cuts level limit total i InvalidResourceLimits in_range few count inside why = absurd (why in_range)
-refused_part message cuts level limit total i (InvalidStructuredAppend value) in_range few count inside why = grind (arith, common_steps)
 refused_part message cuts level limit total i DataTooLong in_range few count inside why = (in_range, subst IsTotal count few, (i, omega arith, why.2))
-refused_part message cuts level limit total i OutOfMemory in_range few count inside why = (in_range, subst IsTotal count few)
-refused_part message cuts level limit total i other in_range few count inside why = why.2
+refused_part message cuts level limit total i e in_range few count inside why = grind (arith, common_steps)
 
 -- Where each part has its symbol, none is too long.
 pub none_too_long : (message cuts : List ℕ) (level : EcLevel) (limit : ℕ) (grids : List (List Color)) →
