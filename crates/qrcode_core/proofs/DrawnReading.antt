@@ -1,4 +1,4 @@
--- A grid that carries the codewords of a frame is read as the frame's bytes.
+-- The grid that is drawn of the codewords of some bits carries the bits.
 use Rattle.std.proofs.Common.{◌≡◌, ℕ, zero, suc, ◌-◌, ◌*◌, refl, ap, ◌∙◌, arith, List, [], ◌∷◌, ◌++◌, length, map, take, replicate, Bool, false, append_assoc}
 use Rattle.qrcode_base.specs.declared.types.Color.TheVariants.{Light}
 use Rattle.qrcode_base.specs.declared.types.EcLevel.{EcLevel}

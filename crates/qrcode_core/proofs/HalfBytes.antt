@@ -26,4 +26,5 @@ pub low_half : (version : Version) (level : EcLevel) (b : BlockLayout) (n : ℕ)
     byte_bits stream ≡ take (8 * length stream - missing_bits version) (byte_bits stream) ++ zero_bits (missing_bits version)
 low_half version level b n words stream correction frame e codes ends =
     let one = one_block (data_bytes b) stream in
-    grind (arith, common_steps, lacks version level b e, one, codes.stream_length, codes.in_order, length-byte_bits stream, length-append, length-replicate, take_at)
+    let long = length-byte_bits stream in
+    grind (arith, common_steps, lacks version level b e, one, long, codes.stream_length, codes.in_order, length-append, length-replicate, take_at)
