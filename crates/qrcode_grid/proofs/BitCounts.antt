@@ -12,8 +12,7 @@ use lib.Lanes.{zip2, mask_l, top}
 use lib.ListN.{replicate}
 use Rattle.qrcode_grid.specs.Cells.{sum_below}
 use Rattle.qrcode_grid.specs.Scoring.{bit_count}
-use Rattle.qrcode_grid.proofs.Totals.{count_by-total}
-use Rattle.qrcode_grid.proofs.Transposed.{sum_same_below}
+use Rattle.qrcode_grid.proofs.Totals.{count_by-total, total-cong}
 use Rattle.std.proofs.lemmas.Grind.{common_steps}
 use Rattle.std.proofs.lemmas.Bool.Decides.{nat_tests}
 
@@ -77,7 +76,7 @@ bits_in_mask m lanes l t e =
     ∙ ap count_ones (bitmask_splat w8 (λ a b. a == b) (zip2 bit_and lanes (replicate 16 n)) 16 n long (omega arith))
     ∙ ones-mask_l (λ x. x == n) (zip2 bit_and lanes (replicate 16 n))
     ∙ count_as_sum (λ x. x == n) (zip2 bit_and lanes (replicate 16 n)) 16 long
-    ∙ sum_same_below (λ j. cond (get_or (zip2 bit_and lanes (replicate 16 n)) j 0 == n) 1 0) (λ j. bit_at (get_or lanes j 0) m) 16
+    ∙ total-cong (λ j. cond (get_or (zip2 bit_and lanes (replicate 16 n)) j 0 == n) 1 0) (λ j. bit_at (get_or lanes j 0) m) 16
     (λ j h. ap (λ x. cond (x == n) 1 0) (lane_of bit_and lanes (replicate 16 n) l refl j h ∙ ap (bit_and (get_or lanes j 0)) (get_or-replicate 16 j n 0 h)) ∙ tested m (get_or lanes j 0))
 
 sum_le : (f : ℕ → ℕ) (n : ℕ) → ((j : ℕ) → f j < 2) → sum_below f n ≤ n
@@ -90,4 +89,4 @@ bit_count_le m lanes = sum_le (λ j. bit_at (get_or lanes j 0) m) 16 (λ j. bit_
 
 pub no_bit : (m : ℕ) → bit_count m (replicate 16 0) ≡ 0
 unfolding bit_count
-no_bit m = sum_same_below (λ j. bit_at (get_or (replicate {A = ℕ} 16 0) j 0) m) (λ j. 0) 16 (λ j h. ap (λ b. bit_at b m) (get_or-replicate 16 j 0 0 h) ∙ bit_at-zero m)
+no_bit m = total-cong (λ j. bit_at (get_or (replicate {A = ℕ} 16 0) j 0) m) (λ j. 0) 16 (λ j h. ap (λ b. bit_at b m) (get_or-replicate 16 j 0 0 h) ∙ bit_at-zero m)

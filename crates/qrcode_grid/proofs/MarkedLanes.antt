@@ -1,11 +1,12 @@
 -- Lanes that mark where candidates have something.
-use Rattle.std.proofs.Common.{◌≡◌, ℕ, zero, suc, ◌+◌, ◌-◌, ◌%◌, ◌<◌, ◌≤◌, ◌==◌, ◌&&◌, ◌||◌, Bool, false, cond, List, map, length, get_or, refl, ap, ◌∙◌, sym, arith, Fits, w8}
+use Rattle.std.proofs.Common.{◌≡◌, ℕ, zero, suc, ◌+◌, ◌-◌, ◌%◌, ◌<◌, ◌≤◌, ◌==◌, ◌&&◌, ◌||◌, ◌++◌, Bool, false, cond, List, map, take, drop, length, get_or, refl, ap, ◌∙◌, sym, arith, Fits, w8}
 use Rattle.std.specs.Int.{bit_at, bit_not}
 use Rattle.std.specs.Int.Bits.{bit_and, bit_or, bit_xor}
-use Rattle.std.proofs.lemmas.List.{get_or-map, length-map, get_or_past}
+use Rattle.std.proofs.lemmas.List.{get_or-map, length-map, get_or_past, get_or-append-add, get_or_append_left, length-take-le, length-drop}
 use Rattle.std.proofs.lemmas.Nat.Bits.{bit_at-lt, bit_at-zero, bit_at_or, bit_at_not}
-use Rattle.std.proofs.lemmas.Simd.{length-chunk, get_or-chunk, get_or-replicate}
-use lib.Lanes.{zip2, chunk}
+use Rattle.std.proofs.lemmas.Simd.{length-chunk, get_or-chunk, get_or-replicate, get_or-put_chunk_at, length-put_chunk}
+use Rattle.std.proofs.lemmas.Bool.Decides.{nat_tests}
+use lib.Lanes.{zip2, chunk, put_chunk}
 use lib.ListN.{replicate}
 use Rattle.qrcode_grid.specs.Scoring.{Marks, plane}
 use Rattle.qrcode_grid.proofs.BitCounts.{length_of, lane_of, and_at, xor_at}
@@ -13,6 +14,9 @@ use Rattle.std.proofs.lemmas.Grind.{common_steps}
 
 pub plane_at : (m : ℕ) (bytes : List ℕ) (k : ℕ) → get_or (plane m bytes) k 0 ≡ bit_at (get_or bytes k 0) m
 plane_at m bytes k = grind (arith, common_steps, get_or-map, get_or_past, length-map, bit_at-zero)
+
+pub length-plane : (m : ℕ) (bytes : List ℕ) → length (plane m bytes) ≡ length bytes
+length-plane m bytes = length-map bytes (λ b. bit_at b m)
 
 pub plane_small : (m : ℕ) (bytes : List ℕ) (k : ℕ) → get_or (plane m bytes) k 0 < 2
 plane_small m bytes k = omega (arith, plane_at m bytes k, bit_at-lt (get_or bytes k 0) m)
@@ -89,5 +93,11 @@ marks_where a p q e ma = record { whole = ma.whole; bits = λ m j hm hj. ma.bits
 
 pub marks_none : (q : ℕ → ℕ → Bool) → ((m j : ℕ) → j < 16 → false ≡ q m j) → Marks (replicate 16 0) q
 marks_none q e = grind (arith, common_steps, get_or-replicate, bit_at-zero)
+
+-- a lane that is written into a list of bytes
+pub chunk_lane : (bytes lanes rest : List ℕ) (at j : ℕ) → length lanes ≡ 16 → at + 16 ≤ length bytes → j < 16
+    → get_or (take at bytes ++ (put_chunk 0 (take (at + 16 - at) (drop at bytes)) lanes ++ rest)) (at + j) 0 ≡ get_or lanes j 0
+chunk_lane bytes lanes rest at j l within h =
+    grind (arith, nat_tests, length-take-le, length-drop, get_or-append-add, get_or_append_left, length-put_chunk, get_or-put_chunk_at)
 
 pub ruleset dark_marks = (marks_as, marks_dark, common_steps)

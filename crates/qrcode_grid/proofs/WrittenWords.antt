@@ -7,7 +7,7 @@ use Rattle.qrcode_base.specs.declared.types.Color.TheVariants.{Dark}
 use Rattle.qrcode_grid.specs.Regions.{digit_at, first_some, where_true, written}
 use Rattle.qrcode_grid.specs.Words.{digit, digit_color}
 use Rattle.qrcode_grid.proofs.CellSteps.{column_of_place, row_of_place}
-use Rattle.qrcode_grid.proofs.Transposed.{cell_within}
+use Rattle.qrcode_grid.proofs.CellPlaces.{cell_within}
 use Rattle.std.proofs.lemmas.Grind.{common_steps}
 
 equal : (a b : ℕ) → a ≡ b → (a == b) ≡ true

@@ -1,6 +1,6 @@
 -- Eight candidates in one list of bytes, a byte a module: bit m is the colour in candidate m.
-use Rattle.std.specs.Prelude.{ℕ, ◌+◌, ◌*◌, ◌<◌, ◌≡◌, ◌==◌, ◌&&◌, ◌||◌, Bool, if◌then◌else◌, ◌≤◌, List, map, ◌/◌, ◌%◌}
-use Rattle.std.specs.Prelude.{length, slice_index, slice_index_or, slice_range, Option, Some, None}
+use Rattle.std.specs.Prelude.{ℕ, ◌+◌, ◌-◌, ◌*◌, ◌<◌, ◌≡◌, ◌==◌, ◌&&◌, ◌||◌, Bool, if◌then◌else◌, ◌≤◌, List, map, ◌/◌, ◌%◌}
+use Rattle.std.specs.Prelude.{length, slice_index, slice_index_or, Option, Some, None}
 use Rattle.std.specs.Int.{bit_at}
 use Rattle.qrcode_grid.specs.declared.canvas.scoring.planes.Planes.{Planes}
 use Rattle.qrcode_grid.specs.declared.canvas.scoring.planes.Tally.{Tally}
@@ -8,7 +8,7 @@ use Rattle.qrcode_grid.specs.declared.canvas.MaskPattern.{MaskPattern}
 use Rattle.qrcode_grid.specs.declared.canvas.MaskPattern.TheVariants.{Checkerboard}
 use Rattle.qrcode_grid.specs.Masks.{normal_patterns}
 use Rattle.qrcode_grid.specs.declared.canvas.scoring.features.Feature.{Feature}
-use Rattle.qrcode_grid.specs.declared.canvas.scoring.features.Feature.TheVariants.{Five, Six, Finder, Square, Dark}
+use Rattle.qrcode_grid.specs.declared.canvas.scoring.features.Feature.TheVariants.{Finder, Square, Dark}
 use Rattle.qrcode_grid.specs.Cells.{sum_below}
 use Rattle.qrcode_grid.specs.Penalty.{byte_of}
 use Rattle.qrcode_grid.specs.Words.{digit, digit_color}
@@ -42,64 +42,68 @@ held m planes =
 abbrev pub tallied : ℕ → Tally → ℕ
 tallied m tally = 16 * slice_index tally.sums m + held m tally.planes
 
--- the module so many rows below place k of a grid of width w
+-- how far a row is from the next in the lists that the penalties are counted in, and how long these are
+abbrev pub stride : ℕ → ℕ
+stride w = w + 10
+
+abbrev pub list_length : ℕ → ℕ
+list_length w = (w + 14) * (w + 10) + 256
+
+-- how many places are looked at: those of all rows of the grid, 256 at a time
+abbrev pub places : ℕ → ℕ
+places w = 256 * ((w * (w + 10) + 255) / 256)
+
+-- A grid of width w stands in a list: four light rows, ten light modules after each row, and light modules to the end.
+pub record IsPadded (w : ℕ) (cells padded : List ℕ) : Type 0 where
+  pub grid : (x y : ℕ) → x < w → y < w → slice_index padded ((4 + y) * stride w + x) ≡ slice_index cells (y * w + x)
+  pub beside : (x y : ℕ) → w ≤ x → x < stride w → slice_index padded (y * stride w + x) ≡ 0
+  pub above : (k : ℕ) → k < 4 * stride w → slice_index padded k ≡ 0
+  pub below : (k : ℕ) → (4 + w) * stride w ≤ k → slice_index padded k ≡ 0
+
+-- the module so many steps after place k
 abbrev pub cell : ℕ → List ℕ → ℕ → ℕ → ℕ
-cell w cells k row = slice_index cells (k + row * w)
+cell step cells k i = slice_index cells (k + i * step)
 
-abbrev pub is_same_below : ℕ → List ℕ → ℕ → ℕ → Bool
-is_same_below w cells k row = cell w cells k row == cell w cells k (row + 1)
+abbrev pub is_same : ℕ → List ℕ → ℕ → ℕ → Bool
+is_same step cells k i = cell step cells k i == cell step cells k (i + 1)
 
--- five or six modules of one colour from the fourth row on
+-- Edges: 1 where a module of the first columns and rows has the colour of the one a step on, 0 elsewhere.
+pub record AreEdges (w step columns rows : ℕ) (padded edges : List ℕ) : Type 0 where
+  pub same : (x y : ℕ) → x < columns → y < rows →
+      slice_index edges (y * stride w + x) ≡ (if is_same step padded (4 * stride w + (y * stride w + x)) 0 then 1 else 0)
+  pub beside : (x y : ℕ) → columns ≤ x → x < stride w → y < rows → slice_index edges (y * stride w + x) ≡ 0
+  pub below : (k : ℕ) → rows * stride w ≤ k → slice_index edges k ≡ 0
+
+-- five or six modules of one colour from place k on, by their edges
 abbrev pub has_five : ℕ → List ℕ → ℕ → Bool
-has_five w cells k =
-    is_same_below w cells k 4 && is_same_below w cells k 5 && is_same_below w cells k 6 && is_same_below w cells k 7
+has_five step edges k =
+    cell step edges k 0 == 1 && cell step edges k 1 == 1 && cell step edges k 2 == 1 && cell step edges k 3 == 1
 
 abbrev pub has_six : ℕ → List ℕ → ℕ → Bool
-has_six w cells k = has_five w cells k && is_same_below w cells k 8
+has_six step edges k = has_five step edges k && cell step edges k 4 == 1
 
--- four light modules from a row on
+-- four light modules from so many steps after place k on
 abbrev pub is_quiet : ℕ → List ℕ → ℕ → ℕ → Bool
-is_quiet w cells k row =
-    cell w cells k row == 0 && cell w cells k (row + 1) == 0 &&
-    cell w cells k (row + 2) == 0 && cell w cells k (row + 3) == 0
+is_quiet step cells k i =
+    cell step cells k i == 0 && cell step cells k (i + 1) == 0 &&
+    cell step cells k (i + 2) == 0 && cell step cells k (i + 3) == 0
 
--- dark, light, three dark, light, dark from the fourth row on, and four light modules before or after them
+-- dark, light, three dark, light, dark from the fourth step on, and four light modules before or after them
 abbrev pub has_finder : ℕ → List ℕ → ℕ → Bool
-has_finder w cells k =
-    (cell w cells k 4 == 1 && cell w cells k 5 == 0 && cell w cells k 6 == 1 && cell w cells k 7 == 1 &&
-    cell w cells k 8 == 1 && cell w cells k 9 == 0 && cell w cells k 10 == 1) &&
-    (is_quiet w cells k 0 || is_quiet w cells k 11)
+has_finder step cells k =
+    (cell step cells k 4 == 1 && cell step cells k 5 == 0 && cell step cells k 6 == 1 && cell step cells k 7 == 1 &&
+    cell step cells k 8 == 1 && cell step cells k 9 == 0 && cell step cells k 10 == 1) &&
+    (is_quiet step cells k 0 || is_quiet step cells k 11)
 
-abbrev pub has_square : ℕ → List ℕ → ℕ → Bool
-has_square w cells k =
-    (slice_index cells k == slice_index cells (k + 1)) &&
-    ((slice_index cells k == slice_index cells (k + w)) && (slice_index cells k == slice_index cells (k + w + 1)))
+-- a square of one colour, by the edges along its rows
+abbrev pub has_square : ℕ → List ℕ → List ℕ → ℕ → Bool
+has_square s padded edges k = cell s edges k 0 == 1 && cell s edges k 1 == 1 && is_same s padded k 4
 
 -- whether place k of a grid of width w has what is looked for
-abbrev pub has : Feature → ℕ → List ℕ → ℕ → Bool
-has Five w cells k = has_five w cells k
-has Six w cells k = has_six w cells k
-has Finder w cells k = has_finder w cells k
-has Square w cells k = has_square w cells k
-has Dark w cells k = cell w cells k 0 == 1
-
--- how many places after a place are looked at
-abbrev pub reach : Feature → ℕ → ℕ
-reach Five w = 8 * w
-reach Six w = 9 * w
-reach Finder w = 14 * w
-reach Square w = w + 1
-reach Dark w = 0
-
--- A grid of width w stands in a list: four light rows, the grid, and light modules to the end.
-pub record IsPadded (w : ℕ) (padded : List ℕ) : Type 0 where
-  pub whole : length padded ≡ w * w + 20 * w + 16
-  pub before : (k : ℕ) → k < 4 * w → slice_index padded k ≡ 0
-  pub after : (k : ℕ) → 4 * w + w * w ≤ k → slice_index padded k ≡ 0
-
--- the grid in such a list
-abbrev pub grid_in : ℕ → List ℕ → List ℕ
-grid_in w padded = slice_range padded (4 * w) (4 * w + w * w)
+abbrev pub has : Feature → ℕ → ℕ → List ℕ → List ℕ → ℕ → Bool
+has Finder w step padded edges k = has_finder step padded (k + 4 * (stride w - step))
+has Square w step padded edges k = has_square (stride w) padded edges k
+has Dark w step padded edges k = cell (stride w) padded k 4 == 1
 
 -- Bit m of byte k is digit k of a format word.
 abbrev pub AreDigits : List ℕ → ℕ → ℕ → Type 0

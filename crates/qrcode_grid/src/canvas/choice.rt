@@ -65,11 +65,11 @@ fn first_least(values: &[usize]) -> usize
 }
 
 impl Canvas {
-    ghost use Rattle.std.specs.Prelude.{◌≡◌, ◌+◌, ◌*◌, ◌≤◌, IfOk, IfErr, length, map, slice_index};
+    ghost use Rattle.std.specs.Prelude.{◌≡◌, ◌*◌, ◌≤◌, IfOk, IfErr, length, map, slice_index, take};
     ghost use Rattle.qrcode_base.specs.Symbols.{width_of};
     ghost use Rattle.qrcode_grid.specs.declared.canvas.MaskPattern.{MaskPattern};
     ghost use Rattle.qrcode_grid.specs.Penalty.{byte_of};
-    ghost use Rattle.qrcode_grid.specs.Scoring.{grid_in, plane};
+    ghost use Rattle.qrcode_grid.specs.Scoring.{plane};
     ghost use Rattle.qrcode_grid.specs.Canvas.{with_mask};
     ghost use Rattle.qrcode_grid.specs.Masks.{IsOfFamily, normal_number};
     ghost use Rattle.qrcode_grid.specs.Canvas.{colors_of, mask_penalties, IsBestMask, IsBestMasked};
@@ -80,13 +80,13 @@ impl Canvas {
     #[tactic(auto, using(crate::proofs::MaskNumbers::mask_numbers))]
     fn candidates(&self, alloc: Global) -> QrResult<(Vec<u8>, [usize; 8])>
         ensures candidates { IfOk result (λ r. (p : MaskPattern) → IsOfFamily self.now.version p →
-            plane (normal_number p) (grid_in (width_of self.now.version) r.0.items) ≡
+            plane (normal_number p)
+            (take (width_of self.now.version * width_of self.now.version) r.0.items) ≡
             map byte_of (colors_of (with_mask p self.now))) }
         ensures penalties { IfOk result (λ r. (p : MaskPattern) → IsOfFamily self.now.version p →
             slice_index r.1 (normal_number p) ≡
             penalty self.now.version (colors_of (with_mask p self.now))) }
-        ensures long { IfOk result (λ r. 4 * width_of self.now.version + length self.now.modules ≤
-            length r.0.items) }
+        ensures long { IfOk result (λ r. length self.now.modules ≤ length r.0.items) }
         ensures refusal { IfErr result (λ e. e ≡ QrError.OutOfMemory) }
     {
         let words = format_words(self.version, self.level);
@@ -165,8 +165,7 @@ impl Canvas {
         let (scratch, numbered) = self.candidates(alloc)?;
         let (pattern, _) = self.best_of(alloc, &numbered)?;
         let mut colors = repeated(alloc, Color::Light, self.modules.len(), 0)?;
-        let first = 4 * self.width;
-        let grid = &scratch[first..first + self.modules.len()];
+        let grid = &scratch[..self.modules.len()];
         write_colors(grid, mask_number(pattern), &mut colors);
         Ok((colors, pattern))
     }

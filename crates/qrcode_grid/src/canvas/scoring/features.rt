@@ -1,144 +1,142 @@
 //! Where sixteen places have what the penalty counts, in eight candidates at once.
-ghost use Rattle.std.specs.Prelude.{◌≡◌, ◌==◌, ◌+◌, ◌*◌, ◌≤◌, length, slice_index};
-ghost use Rattle.qrcode_grid.specs.Scoring.{Marks, plane, cell, has, has_five, has_six, has_finder};
-ghost use Rattle.qrcode_grid.specs.Scoring.{has_square, is_quiet, reach};
+ghost use Rattle.std.specs.Prelude.{◌≡◌, ◌==◌, ◌+◌, ◌*◌, ◌<◌, ◌≤◌, length};
+ghost use Rattle.qrcode_grid.specs.Scoring.{Marks, cell, plane, has, has_finder, has_five, has_six, has_square};
+ghost use Rattle.qrcode_grid.specs.Scoring.{is_quiet, is_same, list_length};
 
 use std::simd::prelude::*;
 
-/// What is looked for from a place on: five or six modules of one colour from four rows below on, a finder-like pattern
-/// there with light modules on one side, a square of one colour, a dark module.
+/// What is looked for besides runs: where a finder-like pattern with light modules on one side begins, or a square of
+/// one colour, and dark modules.
 #[derive(Clone, Copy)]
 pub enum Feature {
-    Five,
-    Six,
     Finder,
     Square,
     Dark,
 }
 
-/// The dark modules of a row below sixteen places.
+/// The dark modules some steps after sixteen places.
 #[inline(always)]
 #[tactic(auto, using(crate::proofs::MarkedLanes::dark_marks))]
-pub fn dark(bytes: &[u8], width: usize, at: usize, row: usize) -> u8x16
-    requires wide { width ≤ 177 }
-    requires row { row ≤ 14 }
-    requires within { at + row * width + 16 ≤ length bytes.now }
-    ensures { Marks result (λ m j. cell width (plane m bytes.now) (at + j) row == 1) }
+fn dark(list: &[u8], step: usize, at: usize, i: usize) -> u8x16
+    requires step { step ≤ 187 }
+    requires few { i ≤ 14 }
+    requires within { at + i * step + 16 ≤ length list.now }
+    ensures { Marks result (λ m j. cell step (plane m list.now) (at + j) i == 1) }
 {
-    u8x16::from_slice(&bytes[at + row * width..])
+    u8x16::from_slice(&list[at + i * step..])
 }
 
-/// The light modules of a row below sixteen places.
+/// The light modules some steps after sixteen places.
 #[inline(always)]
-fn light(bytes: &[u8], width: usize, at: usize, row: usize) -> u8x16
-    requires wide { width ≤ 177 }
-    requires row { row ≤ 14 }
-    requires within { at + row * width + 16 ≤ length bytes.now }
-    ensures { Marks result (λ m j. cell width (plane m bytes.now) (at + j) row == 0) }
+fn light(list: &[u8], step: usize, at: usize, i: usize) -> u8x16
+    requires step { step ≤ 187 }
+    requires few { i ≤ 14 }
+    requires within { at + i * step + 16 ≤ length list.now }
+    ensures { Marks result (λ m j. cell step (plane m list.now) (at + j) i == 0) }
 {
-    !u8x16::from_slice(&bytes[at + row * width..])
+    !u8x16::from_slice(&list[at + i * step..])
 }
 
-/// Where the modules after sixteen places and after sixteen others have one colour.
+/// Where the module some steps after sixteen places has the colour of the next.
 #[inline(always)]
-#[tactic(auto, using(crate::proofs::MarkedLanes::marks_same))]
-fn same(bytes: &[u8], at: usize, other: usize) -> u8x16
-    requires first { at + 16 ≤ length bytes.now }
-    requires second { other + 16 ≤ length bytes.now }
-    ensures { Marks result (λ m j. slice_index (plane m bytes.now) (at + j) ==
-        slice_index (plane m bytes.now) (other + j)) }
+pub fn same(list: &[u8], step: usize, at: usize, i: usize) -> u8x16
+    requires step { step ≤ 187 }
+    requires few { i ≤ 14 }
+    requires within { at + (i + 1) * step + 16 ≤ length list.now }
+    ensures { Marks result (λ m j. is_same step (plane m list.now) (at + j) i) }
 {
-    u8x16::from_slice(&bytes[at..]) ^ !u8x16::from_slice(&bytes[other..])
+    u8x16::from_slice(&list[at + i * step..]) ^ !u8x16::from_slice(&list[at + (i + 1) * step..])
 }
 
-/// Where a row below sixteen places and the next row have one colour.
+/// Where five modules of one colour begin, by their edges.
 #[inline(always)]
-fn same_rows(bytes: &[u8], width: usize, at: usize, row: usize) -> u8x16
-    requires wide { width ≤ 177 }
-    requires row { row ≤ 8 }
-    requires within { at + (row + 1) * width + 16 ≤ length bytes.now }
-    ensures { Marks result (λ m j. cell width (plane m bytes.now) (at + j) row ==
-        cell width (plane m bytes.now) (at + j) (row + 1)) }
+pub fn fives(edges: &[u8], step: usize, at: usize) -> u8x16
+    requires step { step ≤ 187 }
+    requires within { at + 3 * step + 16 ≤ length edges.now }
+    ensures { Marks result (λ m j. has_five step (plane m edges.now) (at + j)) }
 {
-    same(bytes, at + row * width, at + (row + 1) * width)
+    dark(edges, step, at, 0)
+        & dark(edges, step, at, 1)
+        & dark(edges, step, at, 2)
+        & dark(edges, step, at, 3)
 }
 
-/// Where five modules from four rows below on have one colour.
+/// Where six modules of one colour begin, by the places where five do.
 #[inline(always)]
-fn fives(bytes: &[u8], width: usize, at: usize) -> u8x16
-    requires wide { width ≤ 177 }
-    requires within { at + 8 * width + 16 ≤ length bytes.now }
-    ensures { Marks result (λ m j. has_five width (plane m bytes.now) (at + j)) }
+pub fn sixes(five: u8x16, edges: &[u8], step: usize, at: usize) -> u8x16
+    requires step { step ≤ 187 }
+    requires within { at + 4 * step + 16 ≤ length edges.now }
+    requires five { Marks five (λ m j. has_five step (plane m edges.now) (at + j)) }
+    ensures { Marks result (λ m j. has_six step (plane m edges.now) (at + j)) }
 {
-    same_rows(bytes, width, at, 4)
-        & same_rows(bytes, width, at, 5)
-        & same_rows(bytes, width, at, 6)
-        & same_rows(bytes, width, at, 7)
+    five & dark(edges, step, at, 4)
 }
 
-/// Where six modules from four rows below on have one colour.
+/// Where four light modules begin some steps on.
 #[inline(always)]
-fn sixes(bytes: &[u8], width: usize, at: usize) -> u8x16
-    requires wide { width ≤ 177 }
-    requires within { at + 9 * width + 16 ≤ length bytes.now }
-    ensures { Marks result (λ m j. has_six width (plane m bytes.now) (at + j)) }
+fn quiet(list: &[u8], step: usize, at: usize, i: usize) -> u8x16
+    requires step { step ≤ 187 }
+    requires few { i ≤ 11 }
+    requires within { at + (i + 3) * step + 16 ≤ length list.now }
+    ensures { Marks result (λ m j. is_quiet step (plane m list.now) (at + j) i) }
 {
-    fives(bytes, width, at) & same_rows(bytes, width, at, 8)
+    light(list, step, at, i)
+        & light(list, step, at, i + 1)
+        & light(list, step, at, i + 2)
+        & light(list, step, at, i + 3)
 }
 
-/// Where four modules downwards from a row on are light.
+/// Where a finder-like pattern with light modules on one side begins four steps on.
 #[inline(always)]
-fn quiet(bytes: &[u8], width: usize, at: usize, row: usize) -> u8x16
-    requires wide { width ≤ 177 }
-    requires row { row ≤ 11 }
-    requires within { at + (row + 3) * width + 16 ≤ length bytes.now }
-    ensures { Marks result (λ m j. is_quiet width (plane m bytes.now) (at + j) row) }
+fn finders(list: &[u8], step: usize, at: usize) -> u8x16
+    requires step { step ≤ 187 }
+    requires within { at + 14 * step + 16 ≤ length list.now }
+    ensures { Marks result (λ m j. has_finder step (plane m list.now) (at + j)) }
 {
-    light(bytes, width, at, row)
-        & light(bytes, width, at, row + 1)
-        & light(bytes, width, at, row + 2)
-        & light(bytes, width, at, row + 3)
+    let pattern = dark(list, step, at, 4)
+        & light(list, step, at, 5)
+        & dark(list, step, at, 6)
+        & dark(list, step, at, 7)
+        & dark(list, step, at, 8)
+        & light(list, step, at, 9)
+        & dark(list, step, at, 10);
+    pattern & (quiet(list, step, at, 0) | quiet(list, step, at, 11))
 }
 
-/// Where a finder-like pattern with light modules on one side begins four rows below.
+/// Where a square of one colour begins: edges along the row and along the next, between modules of one colour.
 #[inline(always)]
-fn finders(bytes: &[u8], width: usize, at: usize) -> u8x16
-    requires wide { width ≤ 177 }
-    requires within { at + 14 * width + 16 ≤ length bytes.now }
-    ensures { Marks result (λ m j. has_finder width (plane m bytes.now) (at + j)) }
+fn squares(padded: &[u8], edges: &[u8], stride: usize, at: usize) -> u8x16
+    requires stride { stride ≤ 187 }
+    requires padded { at + 5 * stride + 16 ≤ length padded.now }
+    requires edges { at + stride + 16 ≤ length edges.now }
+    ensures { Marks result (λ m j.
+        has_square stride (plane m padded.now) (plane m edges.now) (at + j)) }
 {
-    let pattern = dark(bytes, width, at, 4)
-        & light(bytes, width, at, 5)
-        & dark(bytes, width, at, 6)
-        & dark(bytes, width, at, 7)
-        & dark(bytes, width, at, 8)
-        & light(bytes, width, at, 9)
-        & dark(bytes, width, at, 10);
-    pattern & (quiet(bytes, width, at, 0) | quiet(bytes, width, at, 11))
-}
-
-/// Where a square of one colour begins.
-#[inline(always)]
-fn squares(bytes: &[u8], width: usize, at: usize) -> u8x16
-    requires wide { width ≤ 177 }
-    requires within { at + width + 17 ≤ length bytes.now }
-    ensures { Marks result (λ m j. has_square width (plane m bytes.now) (at + j)) }
-{
-    same(bytes, at, at + 1) & (same(bytes, at, at + width) & same(bytes, at, at + width + 1))
+    dark(edges, stride, at, 0) & dark(edges, stride, at, 1) & same(padded, stride, at, 4)
 }
 
 /// Which of sixteen places have a feature, in each candidate.
 #[inline(always)]
-pub fn places_of(feature: Feature, bytes: &[u8], width: usize, at: usize) -> u8x16
+pub fn places_of(
+    feature: Feature,
+    width: usize,
+    step: usize,
+    padded: &[u8],
+    edges: &[u8],
+    at: usize,
+) -> u8x16
     requires wide { width ≤ 177 }
-    requires within { at + reach feature width + 16 ≤ length bytes.now }
-    ensures { Marks result (λ m j. has feature width (plane m bytes.now) (at + j)) }
+    requires step { step ≤ width + 10 }
+    requires padded { length padded.now ≡ list_length width }
+    requires edges { length edges.now ≡ list_length width }
+    requires within { at < width * (width + 10) + 240 }
+    ensures { Marks result (λ m j.
+        has feature width step (plane m padded.now) (plane m edges.now) (at + j)) }
 {
+    let stride = width + 10;
     match feature {
-        Feature::Five => fives(bytes, width, at),
-        Feature::Six => sixes(bytes, width, at),
-        Feature::Finder => finders(bytes, width, at),
-        Feature::Square => squares(bytes, width, at),
-        Feature::Dark => dark(bytes, width, at, 0),
+        Feature::Finder => finders(padded, step, at + 4 * (stride - step)),
+        Feature::Square => squares(padded, edges, stride, at),
+        Feature::Dark => dark(padded, stride, at, 4),
     }
 }

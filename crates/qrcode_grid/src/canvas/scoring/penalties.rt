@@ -1,19 +1,19 @@
 //! The penalties of eight candidates at once. A grid is a list of bytes, a byte a module, and bit m of a byte is its
-//! colour in candidate m. It stands between light modules.
-ghost use Rattle.std.specs.Prelude.{◌≡◌, if◌then◌else◌, ℕ, ◌+◌, ◌-◌, ◌*◌, ◌/◌, ◌%◌, ◌<◌, ◌≤◌, length};
-ghost use Rattle.std.specs.Prelude.{slice_index, count_by};
-ghost use Rattle.std.specs.Int.{bit_at};
-ghost use Rattle.qrcode_grid.specs.Penalty.{is_dark_byte, column, line_penalty, squares_penalty, normal_penalty};
-ghost use Rattle.qrcode_grid.specs.Cells.{sum_below};
-ghost use Rattle.qrcode_grid.specs.Scoring.{IsPadded, grid_in, plane, has_square};
+//! colour in candidate m.
+ghost use Rattle.std.specs.Prelude.{◌≡◌, ℕ, ◌+◌, ◌*◌, ◌<◌, ◌≤◌, length, slice_index};
+ghost use Rattle.qrcode_grid.specs.Cells.{count_below};
+ghost use Rattle.qrcode_grid.specs.Penalty.{normal_penalty};
+ghost use Rattle.qrcode_grid.specs.declared.canvas.scoring.features.Feature.{Feature};
+ghost use Rattle.qrcode_grid.specs.Scoring.{has, has_five, has_six, list_length, places, plane};
 
-use crate::canvas::scoring::features::{Feature, places_of};
-use crate::canvas::scoring::tally::{count, count_columns};
+use crate::canvas::scoring::features::Feature;
+use crate::canvas::scoring::lists::{write_edges, write_padded};
+use crate::canvas::scoring::tally::{count, count_runs};
 
 /// What runs and finder-like patterns count: a run of n modules has n - 4 fives and n - 5 sixes, and counts n - 2.
 #[inline(always)]
 fn weighed(fives: &[usize; 8], sixes: &[usize; 8], finders: &[usize; 8]) -> [usize; 8]
-    requires fewer { (m : ℕ) → m < 8 → 2 * slice_index sixes.now m ≤ 3 * slice_index fives.now m }
+    requires fewer { (m : ℕ) → m < 8 → slice_index sixes.now m ≤ slice_index fives.now m }
     requires few { (m : ℕ) → m < 8 → (slice_index fives.now m ≤ 40000)
         × (slice_index finders.now m ≤ 40000) }
     ensures is { (m : ℕ) → m < 8 → slice_index result m + 2 * slice_index sixes.now m ≡
@@ -27,81 +27,49 @@ fn weighed(fives: &[usize; 8], sixes: &[usize; 8], finders: &[usize; 8]) -> [usi
     penalties
 }
 
-/// What all columns count in each candidate.
-#[inline(never)]
-fn penalties_of_columns(width: usize, padded: &[u8]) -> [usize; 8]
-    requires padded { IsPadded width padded.now }
-    requires wide { (16 ≤ width) × (width ≤ 177) }
-    ensures is { (m : ℕ) → m < 8 → slice_index result m ≡
-        sum_below (λ x. line_penalty (column width (plane m (grid_in width padded.now)) x)) width }
+/// What lines count in each candidate whose modules are a step apart, by their edges.
+#[inline(always)]
+fn penalties_of_lines(width: usize, step: usize, padded: &[u8], edges: &[u8]) -> [usize; 8]
+    requires wide { width ≤ 177 }
+    requires step { step ≤ width + 10 }
+    requires padded { length padded.now ≡ list_length width }
+    requires edges { length edges.now ≡ list_length width }
+    ensures is { (m : ℕ) → m < 8 →
+        slice_index result m + 2 * count_below (has_six step (plane m edges.now)) (places width) ≡
+        3 * count_below (has_five step (plane m edges.now)) (places width)
+        + 40 * count_below (has Feature.Finder width step (plane m padded.now) (plane m edges.now))
+        (places width) }
     ensures small { (m : ℕ) → m < 8 → slice_index result m ≤ 2000000 }
 {
-    let (fives, sixes, finders) = count_columns(padded, width);
+    let (fives, sixes) = count_runs(width, step, edges);
+    let finders = count(Feature::Finder, width, step, padded, edges);
     weighed(&fives, &sixes, &finders)
 }
 
-/// Writes where squares of one colour lie across the end of a row, row by row.
-fn write_wraps(width: usize, grid: &[u8], wraps: &mut [u8; 192])
-    requires wide { (16 ≤ width) × (width ≤ 177) }
-    requires within { width * width + 16 ≤ length grid.now }
-    ensures { (m : ℕ) → (y : ℕ) → m < 8 → y < width - 2 →
-        bit_at (slice_index wraps.new y) m ≡
-        (if has_square width (plane m grid.now) (y * width + (width - 1)) then 1 else 0) }
-{
-    for y in 0..width - 2 {
-        let places = places_of(Feature::Square, grid, width, y * width + (width - 1)).to_array();
-        wraps[y] = places[0];
-    }
-}
-
-/// How many squares of one colour each candidate has.
+/// The penalties of eight candidates of a Normal symbol, by two lists of zeros.
 #[inline(never)]
-fn squares_in(width: usize, padded: &[u8]) -> [usize; 8]
-    requires padded { IsPadded width padded.now }
+pub fn penalties_of_normal(
+    width: usize,
+    grid: &[u8],
+    padded: &mut [u8],
+    edges: &mut [u8],
+) -> [usize; 8]
     requires wide { (16 ≤ width) × (width ≤ 177) }
-    ensures is { (m : ℕ) → m < 8 → 3 * slice_index result m ≡
-        squares_penalty width (plane m (grid_in width padded.now)) }
-    ensures small { (m : ℕ) → m < 8 → slice_index result m ≤ 40000 }
+    requires square { length grid.now ≡ width * width }
+    requires padded { length padded.old ≡ list_length width }
+    requires edges { length edges.old ≡ list_length width }
+    requires light { (k : ℕ) → slice_index padded.old k ≡ 0 }
+    requires none { (k : ℕ) → slice_index edges.old k ≡ 0 }
+    ensures { (m : ℕ) → m < 8 → slice_index result m ≡ normal_penalty width (plane m grid.now) }
 {
-    let grid = &padded[4 * width..];
-    let all = count(Feature::Square, grid, width, (width - 1) * width - 1);
-    let mut wraps = [0; 192];
-    write_wraps(width, grid, &mut wraps);
-    let across = count(Feature::Dark, &wraps, width, width - 2);
-    let mut squares = [0; 8];
-    for m in 0..8 {
-        squares[m] = all[m] - across[m];
-    }
-    squares
-}
-
-/// How many modules of each candidate are dark.
-#[inline(never)]
-fn darks_in(width: usize, padded: &[u8]) -> [usize; 8]
-    requires padded { IsPadded width padded.now }
-    requires wide { (16 ≤ width) × (width ≤ 177) }
-    ensures is { (m : ℕ) → m < 8 → slice_index result m ≡
-        count_by is_dark_byte (plane m (grid_in width padded.now)) }
-    ensures small { (m : ℕ) → m < 8 → slice_index result m ≤ 40000 }
-{
-    count(Feature::Dark, &padded[4 * width..], width, width * width)
-}
-
-/// The penalties of eight candidates of a Normal symbol, by the grid and the transposed grid.
-pub fn penalties_of_normal(width: usize, padded: &[u8], turned: &[u8]) -> [usize; 8]
-    requires padded { IsPadded width padded.now }
-    requires turned { IsPadded width turned.now }
-    requires transposed { (k : ℕ) → k < width * width →
-        slice_index (grid_in width turned.now) k ≡
-        slice_index (grid_in width padded.now) (k % width * width + k / width) }
-    requires wide { (16 ≤ width) × (width ≤ 177) }
-    ensures { (m : ℕ) → m < 8 → slice_index result m ≡
-        normal_penalty width (plane m (grid_in width padded.now)) }
-{
-    let rows = penalties_of_columns(width, turned);
-    let columns = penalties_of_columns(width, padded);
-    let squares = squares_in(width, padded);
-    let darks = darks_in(width, padded);
+    let stride = width + 10;
+    write_padded(width, grid, padded);
+    write_edges(width, stride, width, width - 1, padded, edges);
+    let columns = penalties_of_lines(width, stride, padded, edges);
+    write_edges(width, 1, width - 1, width, padded, edges);
+    let rows = penalties_of_lines(width, 1, padded, edges);
+    let squares = count(Feature::Square, width, 1, padded, edges);
+    let darks = count(Feature::Dark, width, 1, padded, edges);
     let mut penalties = [0; 8];
     for m in 0..8 {
         let balance = (200 * darks[m] / (width * width)).abs_diff(100);

@@ -1,4 +1,4 @@
-use Rattle.std.proofs.Common.{◌≡◌, ◌∙◌, ◌+◌, ◌-◌, ◌*◌, take, drop, ap, arith}
+use Rattle.std.proofs.Common.{◌≡◌, ◌∙◌, ◌*◌, take, ap, arith}
 use Rattle.qrcode_base.specs.Symbols.{width_of}
 use Rattle.qrcode_grid.specs.Canvas.{Drawing, colors_of, with_mask}
 use Rattle.qrcode_grid.specs.Masks.{normal_number}
@@ -15,9 +15,9 @@ returns-clause-colors c =
     written_whole new c.in_ok-colors.colors.items c.in_ok-colors.colors.len (c.write_colors.auto.colors ∙ c.deref_mut.ensures.len)
     ∙ same_colors new (colors_of (with_mask pattern c.args.self.now)) (
     c.write_colors.ensures
-    ∙ ap (λ m. plane m (take (4 * width + size - 4 * width) (drop (4 * width) c.deref.result.now))) c.mask_number.ensures.is
-    ∙ ap (λ t. plane (normal_number pattern) (take (4 * width + size - 4 * width) (drop (4 * width) t))) c.deref.ensures.value
-    ∙ ap (λ n. plane (normal_number pattern) (take (4 * width + n - 4 * width) (drop (4 * width) items))) square
-    ∙ ap (λ w. plane (normal_number pattern) (take (4 * w + w * w - 4 * w) (drop (4 * w) items))) wide
+    ∙ ap (λ m. plane m (take size c.deref.result.now)) c.mask_number.ensures.is
+    ∙ ap (λ t. plane (normal_number pattern) (take size t)) c.deref.ensures.value
+    ∙ ap (λ n. plane (normal_number pattern) (take n items)) square
+    ∙ ap (λ w. plane (normal_number pattern) (take (w * w) items)) wide
     ∙ c.in_ok-scratch.ensures.candidates pattern c.in_ok-pattern.ensures.family
     )

@@ -6,7 +6,7 @@ use Rattle.qrcode_grid.specs.Scoring.{pattern_of}
 use Rattle.qrcode_grid.proofs.Conditions.{set_again}
 use Rattle.qrcode_grid.proofs.MaskNumbers.{pattern_of-number}
 use Rattle.qrcode_grid.proofs.Stripes.{is_inverted-repeats_rows}
-use Rattle.qrcode_grid.proofs.Transposed.{cell_within}
+use Rattle.qrcode_grid.proofs.CellPlaces.{cell_within}
 use Rattle.qrcode_grid.specs.declared.canvas.Module.TheVariants.{Empty}
 use Rattle.qrcode_grid.proofs.canvas.drawing.mask_modules.Goals as goal
 

@@ -5,8 +5,8 @@ use Rattle.std.proofs.lemmas.Nat.Bits.{bit_at_ones}
 use Rattle.qrcode_base.specs.declared.types.Color.TheVariants.{Dark}
 use Rattle.qrcode_grid.specs.Scoring.{byte_under, plane}
 use Rattle.qrcode_grid.specs.Regions.{format_first, format_second, where_true, written}
-use Rattle.qrcode_grid.proofs.EightSquares.{length-plane}
 use Rattle.qrcode_grid.proofs.WrittenWords.{dark_written, over_three}
+use Rattle.qrcode_grid.proofs.MarkedLanes.{length-plane}
 use Rattle.qrcode_grid.proofs.canvas.scoring.candidates.write_normal_formats.Goals as goal
 
 pub returns : goal.returns

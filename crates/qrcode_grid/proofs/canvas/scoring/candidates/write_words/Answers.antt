@@ -2,8 +2,8 @@ use Rattle.std.proofs.Common.{◌-◌, ◌+◌, ◌*◌, ◌<◌, ◌∙◌, Lis
 use Rattle.std.specs.Int.{bit_at}
 use Rattle.std.proofs.lemmas.List.{map-set}
 use Rattle.qrcode_grid.specs.Scoring.{byte_under, plane}
-use Rattle.qrcode_grid.proofs.EightSquares.{length-plane}
 use Rattle.qrcode_grid.proofs.WrittenWords.{IsWritten, next_written}
+use Rattle.qrcode_grid.proofs.MarkedLanes.{length-plane}
 use Rattle.qrcode_grid.proofs.canvas.scoring.candidates.write_words.Goals as goal
 
 pub loop-k-preserved : goal.loop-k-preserved

@@ -2,4 +2,4 @@ use Rattle.qrcode_grid.proofs.MarkedLanes.{marks_and}
 use Rattle.qrcode_grid.proofs.canvas.scoring.features.sixes.Goals as goal
 
 pub returns : goal.returns
-returns c = marks_and _ _ _ _ c.fives.ensures c.same_rows.ensures
+returns c = marks_and _ _ _ _ c.requires.five c.dark.ensures

@@ -1,0 +1,102 @@
+//! The lists that the penalties are counted in: the grid between light modules, and the edges of a direction. Row y of
+//! both begins at y times the stride, which is ten more than the width, and the grid stands four rows down.
+ghost use Rattle.std.specs.Prelude.{◌≡◌, if◌then◌else◌, ℕ, ◌+◌, ◌*◌, ◌<◌, ◌≤◌, length, slice_index};
+ghost use Rattle.std.specs.Int.{bit_at};
+ghost use Rattle.qrcode_grid.specs.Scoring.{AreEdges, IsPadded, is_same, list_length, plane, stride};
+
+use crate::canvas::scoring::features::same;
+use std::simd::prelude::*;
+
+/// Writes a row at a place. The other bytes stay.
+fn write_row(row: &[u8], at: usize, list: &mut [u8])
+    requires within { at + length row.now ≤ length list.old }
+    ensures row { (j : ℕ) → j < length row.now → slice_index list.new (at + j) ≡ slice_index row.now j }
+    ensures before { (k : ℕ) → k < at → slice_index list.new k ≡ slice_index list.old k }
+    ensures after { (k : ℕ) → at + length row.now ≤ k → slice_index list.new k ≡ slice_index list.old k }
+{
+    list[at..at + row.len()].copy_from_slice(row);
+}
+
+/// Writes the rows of a grid between light modules.
+pub fn write_padded(width: usize, grid: &[u8], padded: &mut [u8])
+    requires wide { (16 ≤ width) × (width ≤ 177) }
+    requires square { length grid.now ≡ width * width }
+    requires long { length padded.old ≡ list_length width }
+    requires light { (k : ℕ) → slice_index padded.old k ≡ 0 }
+    ensures { IsPadded width grid.now padded.new }
+{
+    for y in 0..width {
+        let row = &grid[y * width..y * width + width];
+        write_row(row, (4 + y) * (width + 10), padded);
+    }
+}
+
+/// Writes 16 bytes at a place. The others stay.
+#[inline(always)]
+#[tactic(auto, using(crate::proofs::MarkedLanes::chunk_lane))]
+fn write_lanes(lanes: u8x16, at: usize, bytes: &mut [u8])
+    requires lanes { length lanes ≡ 16 }
+    requires within { at + 16 ≤ length bytes.old }
+    ensures lanes { (j : ℕ) → j < 16 → slice_index bytes.new (at + j) ≡ slice_index lanes j }
+    ensures before { (k : ℕ) → k < at → slice_index bytes.new k ≡ slice_index bytes.old k }
+    ensures after { (k : ℕ) → at + 16 ≤ k → slice_index bytes.new k ≡ slice_index bytes.old k }
+{
+    lanes.copy_to_slice(&mut bytes[at..at + 16]);
+}
+
+/// Writes the edges of a row, sixteen at a time, and sixteen zeros behind them. What comes before it stays.
+#[inline(always)]
+fn write_edge_row(
+    width: usize,
+    step: usize,
+    columns: usize,
+    padded: &[u8],
+    at: usize,
+    edges: &mut [u8],
+)
+    requires wide { (16 ≤ width) × (width ≤ 177) }
+    requires step { step ≤ width + 10 }
+    requires columns { columns ≤ width }
+    requires padded { length padded.now ≡ list_length width }
+    requires edges { length edges.old ≡ list_length width }
+    requires within { at ≤ width * (width + 10) }
+    ensures same { (m : ℕ) → (x : ℕ) → m < 8 → x < columns →
+        bit_at (slice_index edges.new (at + x)) m ≡
+        (if is_same step (plane m padded.now) (4 * stride width + (at + x)) 0 then 1 else 0) }
+    ensures behind { (x : ℕ) → columns ≤ x → x < columns + 16 → slice_index edges.new (at + x) ≡ 0 }
+    ensures before { (k : ℕ) → k < at → slice_index edges.new k ≡ slice_index edges.old k }
+    ensures after { (k : ℕ) → at + columns + 16 ≤ k →
+        slice_index edges.new k ≡ slice_index edges.old k }
+{
+    for part in 0..(columns + 15) / 16 {
+        let from = 4 * (width + 10) + at + 16 * part;
+        write_lanes(same(padded, step, from, 0), at + 16 * part, edges);
+    }
+    write_lanes(u8x16::splat(0), at + columns, edges);
+}
+
+/// Writes which of the first columns of the first rows have the colour of the module a step on.
+#[inline(always)]
+pub fn write_edges(
+    width: usize,
+    step: usize,
+    columns: usize,
+    rows: usize,
+    padded: &[u8],
+    edges: &mut [u8],
+)
+    requires wide { (16 ≤ width) × (width ≤ 177) }
+    requires step { step ≤ width + 10 }
+    requires columns { (columns ≤ width) × (width ≤ columns + 1) }
+    requires rows { rows ≤ width }
+    requires padded { length padded.now ≡ list_length width }
+    requires edges { length edges.old ≡ list_length width }
+    requires none { (k : ℕ) → rows * stride width ≤ k → slice_index edges.old k ≡ 0 }
+    ensures edges { (m : ℕ) → m < 8 →
+        AreEdges width step columns rows (plane m padded.now) (plane m edges.new) }
+    ensures none { (k : ℕ) → rows * stride width ≤ k → slice_index edges.new k ≡ 0 }
+{
+    for y in 0..rows {
+        write_edge_row(width, step, columns, padded, y * (width + 10), edges);
+    }
+}
