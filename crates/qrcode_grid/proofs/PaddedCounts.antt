@@ -1,13 +1,12 @@
 -- What is counted over all places of a padded grid, by its lines, its squares and its modules.
-use Rattle.std.proofs.Common.{◌≡◌, ℕ, zero, suc, ◌+◌, ◌-◌, ◌*◌, ◌/◌, ◌<◌, ◌≤◌, ◌==◌, ◌&&◌, Bool, false, cond, List, length, get_or, count_by, refl, ap, ◌∙◌, sym, arith, inl, inr}
+use Rattle.std.proofs.Common.{◌≡◌, ℕ, zero, suc, ◌+◌, ◌-◌, ◌*◌, ◌<◌, ◌≤◌, ◌==◌, ◌&&◌, Bool, false, cond, List, length, get_or, count_by, refl, ap, ◌∙◌, sym, arith, inl, inr}
 use Rattle.std.specs.List.{range_with_len}
 use Rattle.std.proofs.Math.Nat.{mul-le-mul_right, add-mul}
 use Rattle.std.proofs.lemmas.Bool.{cases_lt}
 use Rattle.std.proofs.lemmas.Bool.Decides.{nat_tests}
-use Rattle.std.proofs.lemmas.Grind.{common_steps}
 use Rattle.qrcode_grid.specs.Cells.{sum_below, count_below}
 use Rattle.qrcode_grid.specs.Penalty.{row, column, line_penalty, count_of_squares, is_byte_square_at, is_dark_byte, squares_penalty}
-use Rattle.qrcode_grid.specs.Scoring.{AreEdges, IsPadded, cell, has, has_five, has_six, has_finder, has_square, is_same, places, stride}
+use Rattle.qrcode_grid.specs.Scoring.{AreEdges, IsPadded, cell, has, has_five, has_six, has_finder, has_square, places, stride}
 use Rattle.qrcode_grid.specs.declared.canvas.scoring.features.Feature.TheVariants.{Finder, Square, Dark}
 use Rattle.qrcode_grid.proofs.BitCounts.{count_as_sum}
 use Rattle.qrcode_grid.proofs.Columns.{length-column}

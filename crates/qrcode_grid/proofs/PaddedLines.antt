@@ -1,15 +1,14 @@
 -- What is counted over the places of a padded grid is what its rows and columns count.
-use Rattle.std.proofs.Common.{◌≡◌, ℕ, zero, suc, ◌+◌, ◌-◌, ◌*◌, ◌<◌, ◌≤◌, ◌==◌, ◌&&◌, ◌||◌, Bool, true, false, cond, List, [], ◌∷◌, length, take, drop, get_or, refl, ap, ◌∙◌, sym, arith, inl, inr}
+use Rattle.std.proofs.Common.{◌≡◌, ℕ, suc, ◌+◌, ◌-◌, ◌*◌, ◌<◌, ◌≤◌, ◌==◌, ◌&&◌, ◌||◌, Bool, true, false, cond, List, length, take, drop, get_or, refl, ap, ◌∙◌, sym, arith, inl, inr}
 use Rattle.std.proofs.Math.Nat.{mul-le-mul_right, add-mul}
 use Rattle.std.proofs.lemmas.Bool.{cases_lt}
-use Rattle.std.proofs.lemmas.Bool.Decides.{nat_tests}
 use Rattle.std.proofs.lemmas.Grind.{common_steps}
 use Rattle.std.proofs.lemmas.List.{get_or_past}
 use Rattle.std.proofs.lemmas.Simd.{length-chunk, get_or-chunk}
-use Rattle.qrcode_grid.specs.Cells.{sum_below, count_below}
+use Rattle.qrcode_grid.specs.Cells.{count_below}
 use Rattle.qrcode_grid.specs.Penalty.{row, column, quiet, are_light, is_pattern, is_finder_like, line_penalty}
-use Rattle.qrcode_grid.specs.Scoring.{AreEdges, IsPadded, cell, has_five, has_six, has_finder, is_quiet, is_same, stride}
-use Rattle.qrcode_grid.proofs.Columns.{length-column, get_or-column, column_past}
+use Rattle.qrcode_grid.specs.Scoring.{AreEdges, IsPadded, cell, has_five, has_six, has_finder, is_quiet, stride}
+use Rattle.qrcode_grid.proofs.Columns.{length-column, get_or-column}
 use Rattle.qrcode_grid.proofs.LongRuns.{edge, edge_within, edge_past, five_of, six_of, runs_are}
 use Rattle.qrcode_grid.proofs.Totals.{total-cong}
 

@@ -36,13 +36,7 @@ fn rows_of(
 
 /// How many places have a feature, in each candidate.
 #[inline(always)]
-pub fn count(
-    feature: Feature,
-    width: usize,
-    step: usize,
-    padded: &[u8],
-    edges: &[u8],
-) -> [usize; 8]
+pub fn count(feature: Feature, width: usize, step: usize, padded: &[u8], edges: &[u8]) -> [usize; 8]
     requires wide { width ≤ 177 }
     requires step { step ≤ width + 10 }
     requires padded { length padded.now ≡ list_length width }

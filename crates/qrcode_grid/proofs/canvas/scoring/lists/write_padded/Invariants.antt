@@ -1,5 +1,5 @@
 -- The rows before this one are written.
-use Rattle.std.proofs.Common.{◌≡◌, ◌<◌, ◌≤◌, ◌+◌, ◌*◌, ℕ, length, get_or}
+use Rattle.std.proofs.Common.{◌≡◌, ◌<◌, ◌≤◌, ◌+◌, ◌*◌, ℕ, get_or}
 use Rattle.qrcode_grid.specs.Scoring.{stride}
 use Rattle.qrcode_grid.proofs.canvas.scoring.lists.write_padded.Given as goal
 
