@@ -27,22 +27,39 @@ fn weighed(fives: &[usize; 8], sixes: &[usize; 8], finders: &[usize; 8]) -> [usi
     penalties
 }
 
-/// What lines count in each candidate whose modules are a step apart, by their edges.
-#[inline(always)]
-fn penalties_of_lines(width: usize, step: usize, padded: &[u8], edges: &[u8]) -> [usize; 8]
+/// What the columns count in each candidate, by their edges.
+#[inline(never)]
+fn penalties_of_columns(width: usize, padded: &[u8], edges: &[u8]) -> [usize; 8]
     requires wide { width ≤ 177 }
-    requires step { step ≤ width + 10 }
     requires padded { length padded.now ≡ list_length width }
     requires edges { length edges.now ≡ list_length width }
     ensures is { (m : ℕ) → m < 8 →
-        slice_index result m + 2 * count_below (has_six step (plane m edges.now)) (places width) ≡
-        3 * count_below (has_five step (plane m edges.now)) (places width)
-        + 40 * count_below (has Feature.Finder width step (plane m padded.now) (plane m edges.now))
+        slice_index result m + 2 * count_below (has_six (width + 10) (plane m edges.now)) (places width) ≡
+        3 * count_below (has_five (width + 10) (plane m edges.now)) (places width)
+        + 40 * count_below (has Feature.Finder width (width + 10) (plane m padded.now) (plane m edges.now))
         (places width) }
     ensures small { (m : ℕ) → m < 8 → slice_index result m ≤ 2000000 }
 {
-    let (fives, sixes) = count_runs(width, step, edges);
-    let finders = count(Feature::Finder, width, step, padded, edges);
+    let (fives, sixes) = count_runs(width, width + 10, edges);
+    let finders = count(Feature::Finder, width, width + 10, padded, edges);
+    weighed(&fives, &sixes, &finders)
+}
+
+/// What the rows count in each candidate, by their edges. A step of 1 is known to the compiler here.
+#[inline(never)]
+fn penalties_of_rows(width: usize, padded: &[u8], edges: &[u8]) -> [usize; 8]
+    requires wide { width ≤ 177 }
+    requires padded { length padded.now ≡ list_length width }
+    requires edges { length edges.now ≡ list_length width }
+    ensures is { (m : ℕ) → m < 8 →
+        slice_index result m + 2 * count_below (has_six 1 (plane m edges.now)) (places width) ≡
+        3 * count_below (has_five 1 (plane m edges.now)) (places width)
+        + 40 * count_below (has Feature.Finder width 1 (plane m padded.now) (plane m edges.now))
+        (places width) }
+    ensures small { (m : ℕ) → m < 8 → slice_index result m ≤ 2000000 }
+{
+    let (fives, sixes) = count_runs(width, 1, edges);
+    let finders = count(Feature::Finder, width, 1, padded, edges);
     weighed(&fives, &sixes, &finders)
 }
 
@@ -65,9 +82,9 @@ pub fn penalties_of_normal(
     let stride = width + 10;
     write_padded(width, grid, padded);
     write_edges(width, stride, width, width - 1, padded, edges);
-    let columns = penalties_of_lines(width, stride, padded, edges);
+    let columns = penalties_of_columns(width, padded, edges);
     write_edges(width, 1, width - 1, width, padded, edges);
-    let rows = penalties_of_lines(width, 1, padded, edges);
+    let rows = penalties_of_rows(width, padded, edges);
     let squares = count(Feature::Square, width, 1, padded, edges);
     let darks = count(Feature::Dark, width, 1, padded, edges);
     let mut penalties = [0; 8];
