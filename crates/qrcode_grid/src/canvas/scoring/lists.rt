@@ -44,35 +44,39 @@ fn write_lanes(lanes: u8x16, at: usize, bytes: &mut [u8])
     lanes.copy_to_slice(&mut bytes[at..at + 16]);
 }
 
-/// Writes the edges of a row, sixteen at a time, and sixteen zeros behind them. What comes before it stays.
+/// Writes which of the first places have the colour of the module a step on, sixteen at a time, and sixteen zeros behind
+/// them.
 #[inline(always)]
-fn write_edge_row(
-    width: usize,
-    step: usize,
-    columns: usize,
-    padded: &[u8],
-    at: usize,
-    edges: &mut [u8],
-)
+fn write_same(width: usize, step: usize, count: usize, padded: &[u8], edges: &mut [u8])
     requires wide { (16 ≤ width) × (width ≤ 177) }
     requires step { step ≤ width + 10 }
-    requires columns { columns ≤ width }
+    requires count { count ≤ width * (width + 10) }
     requires padded { length padded.now ≡ list_length width }
     requires edges { length edges.old ≡ list_length width }
-    requires within { at ≤ width * (width + 10) }
-    ensures same { (m : ℕ) → (x : ℕ) → m < 8 → x < columns →
-        bit_at (slice_index edges.new (at + x)) m ≡
-        (if is_same step (plane m padded.now) (4 * stride width + (at + x)) 0 then 1 else 0) }
-    ensures behind { (x : ℕ) → columns ≤ x → x < columns + 16 → slice_index edges.new (at + x) ≡ 0 }
-    ensures before { (k : ℕ) → k < at → slice_index edges.new k ≡ slice_index edges.old k }
-    ensures after { (k : ℕ) → at + columns + 16 ≤ k →
-        slice_index edges.new k ≡ slice_index edges.old k }
+    requires none { (k : ℕ) → count ≤ k → slice_index edges.old k ≡ 0 }
+    ensures same { (m : ℕ) → (k : ℕ) → m < 8 → k < count →
+        bit_at (slice_index edges.new k) m ≡
+        (if is_same step (plane m padded.now) (4 * stride width + k) 0 then 1 else 0) }
+    ensures behind { (k : ℕ) → count ≤ k → slice_index edges.new k ≡ 0 }
 {
-    for part in 0..(columns + 15) / 16 {
-        let from = 4 * (width + 10) + at + 16 * part;
-        write_lanes(same(padded, step, from, 0), at + 16 * part, edges);
+    for part in 0..(count + 15) / 16 {
+        let lanes = same(padded, step, 4 * (width + 10) + 16 * part, 0);
+        write_lanes(lanes, 16 * part, edges);
     }
-    write_lanes(u8x16::splat(0), at + columns, edges);
+    write_lanes(u8x16::splat(0), count, edges);
+}
+
+/// Writes zeros from one place to before another. The others stay.
+#[inline(always)]
+fn clear(from: usize, end: usize, list: &mut [u8])
+    requires { (from ≤ end) × (end ≤ length list.old) }
+    ensures zeros { (k : ℕ) → from ≤ k → k < end → slice_index list.new k ≡ 0 }
+    ensures before { (k : ℕ) → k < from → slice_index list.new k ≡ slice_index list.old k }
+    ensures after { (k : ℕ) → end ≤ k → slice_index list.new k ≡ slice_index list.old k }
+{
+    for k in from..end {
+        list[k] = 0;
+    }
 }
 
 /// Writes which of the first columns of the first rows have the colour of the module a step on.
@@ -87,7 +91,7 @@ pub fn write_edges(
 )
     requires wide { (16 ≤ width) × (width ≤ 177) }
     requires step { step ≤ width + 10 }
-    requires columns { (columns ≤ width) × (width ≤ columns + 1) }
+    requires columns { columns ≤ width }
     requires rows { rows ≤ width }
     requires padded { length padded.now ≡ list_length width }
     requires edges { length edges.old ≡ list_length width }
@@ -96,7 +100,9 @@ pub fn write_edges(
         AreEdges width step columns rows (plane m padded.now) (plane m edges.new) }
     ensures none { (k : ℕ) → rows * stride width ≤ k → slice_index edges.new k ≡ 0 }
 {
+    let stride = width + 10;
+    write_same(width, step, rows * stride, padded, edges);
     for y in 0..rows {
-        write_edge_row(width, step, columns, padded, y * (width + 10), edges);
+        clear(y * stride + columns, y * stride + stride, edges);
     }
 }
