@@ -1,12 +1,11 @@
 -- Places counted in rows of sixteen lanes.
-use Rattle.std.proofs.Common.{◌≡◌, ℕ, zero, suc, ◌+◌, ◌*◌, ◌/◌, ◌<◌, ◌≤◌, ◌&&◌, eqb, Bool, true, false, cond, List, [], get_or, ap, ◌∙◌, sym, arith, slice_set, length-set, below_more, get_or-set_other, get_or-set_same, length}
+use Rattle.std.proofs.Common.{◌≡◌, ℕ, zero, suc, ◌+◌, ◌*◌, ◌/◌, ◌<◌, ◌≤◌, ◌&&◌, eqb, Bool, true, false, cond, List, [], get_or, ap, ◌∙◌, sym, arith}
 use Rattle.std.specs.Int.{bit_at}
 use Rattle.std.proofs.Math.Nat.{mul-le-mul_right}
 use Rattle.qrcode_grid.specs.Cells.{sum_below, count_below}
 use Rattle.qrcode_grid.specs.Scoring.{Marks, bit_count}
 use Rattle.qrcode_grid.proofs.Totals.{total-add, total-cong, total-mul}
 use Rattle.std.proofs.lemmas.Grind.{common_steps}
-use Rattle.std.proofs.lemmas.Bool.Decides.{nat_tests}
 
 pub eqb_true : (a b : ℕ) → eqb a b ≡ true → a ≡ b
 eqb_true a b h = grind arith
@@ -51,9 +50,3 @@ fewer a b = grind (arith, common_steps)
 pub count_both_le : (p q : ℕ → Bool) (n : ℕ) → count_below (λ k. p k && q k) n ≤ count_below p n
 count_both_le p q zero = omega arith
 count_both_le p q (suc n) = omega (arith, count_both_le p q n, fewer (p n) (q n))
-
--- what holds of each row before one and of the next two holds when these are set
-pub two_rows_set : (P : ℕ → List ℕ → Type 0) (rows : List (List ℕ)) (n : ℕ) (v w : List ℕ) → n + 1 < length rows → ((i : ℕ) → i < n → P i (get_or rows i [])) → P n v → P (n + 1) w
-    → (i : ℕ) → i < n + 2 → P i (get_or (slice_set (slice_set rows n v) (n + 1) w) i [])
-two_rows_set P rows n v w inside before here next =
-    grind (arith, nat_tests, slice_set, length-set, below_more, get_or-set_other, get_or-set_same)

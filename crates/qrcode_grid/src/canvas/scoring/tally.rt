@@ -9,7 +9,7 @@ use crate::canvas::scoring::counting::{add_rows, no_bits, totals};
 use crate::canvas::scoring::features::{Feature, fives, places_of, sixes};
 use std::simd::prelude::*;
 
-/// Which of 256 places have a feature, in each candidate. Two rows a turn have their addresses in common.
+/// Which of 256 places have a feature, in each candidate.
 #[inline(always)]
 fn rows_of(
     feature: Feature,
@@ -28,10 +28,8 @@ fn rows_of(
         has feature width step (plane m padded.now) (plane m edges.now) (at + 16 * i + j)) }
 {
     let mut rows = [u8x16::splat(0); 16];
-    for pair in 0..8 {
-        let here = at + 32 * pair;
-        rows[2 * pair] = places_of(feature, width, step, padded, edges, here);
-        rows[2 * pair + 1] = places_of(feature, width, step, padded, edges, here + 16);
+    for i in 0..16 {
+        rows[i] = places_of(feature, width, step, padded, edges, at + 16 * i);
     }
     rows
 }
