@@ -35,8 +35,8 @@ module _ (w : ℕ) (p : ℕ → Bool) (beside : (x y : ℕ) → w ≤ x → x < 
 
   in_row_only : (y : ℕ) → y < w → sum_below (λ x. f (y * stride w + x)) (stride w) ≡ count_below (λ x. p (y * stride w + x)) w
   in_row_only y h =
-      let none = sum_zero (λ k. f (y * stride w + (w + k))) 10 (λ k l. ap (λ b. cond b 1 0) (beside (w + k) y (omega arith) (omega (arith, l)) h)) in
-      omega (arith, total-add (λ x. f (y * stride w + x)) w 10, none)
+      let none = sum_zero (λ k. f (y * stride w + (w + k))) 4 (λ k l. ap (λ b. cond b 1 0) (beside (w + k) y (omega arith) (omega (arith, l)) h)) in
+      omega (arith, total-add (λ x. f (y * stride w + x)) w 4, none)
 
   pub over_rows : count_below p (places w) ≡ sum_below (λ y. count_below (λ x. p (y * stride w + x)) w) w
   over_rows =

@@ -2,6 +2,7 @@
 use Rattle.std.proofs.Common.{◌≡◌, ℕ, suc, ◌+◌, ◌-◌, ◌*◌, ◌<◌, ◌≤◌, ◌==◌, ◌&&◌, ◌||◌, Bool, true, false, cond, List, length, take, drop, get_or, refl, ap, ◌∙◌, sym, arith, inl, inr}
 use Rattle.std.proofs.Math.Nat.{mul-le-mul_right, add-mul}
 use Rattle.std.proofs.lemmas.Bool.{cases_lt}
+use Rattle.std.proofs.lemmas.Bool.Decides.{nat_tests}
 use Rattle.std.proofs.lemmas.Grind.{common_steps}
 use Rattle.std.proofs.lemmas.List.{get_or_past}
 use Rattle.std.proofs.lemmas.Simd.{length-chunk, get_or-chunk}
@@ -61,7 +62,7 @@ module _ (w : ℕ) (cells padded : List ℕ) (is : IsPadded w cells padded) (squ
       (λ i h. is.grid x i hx h ∙ sym (get_or-column w cells x i h))
       (λ h. let past : 4 + w ≤ t = omega (arith, h) in is.below (t * s + x) (omega (arith, mul-le-mul_right s past)))
 
-  pub in_row : (y t : ℕ) → y < w → t < w + 14 → get_or padded (y * s + t + 4 * (s - 1)) 0 ≡ get_or (quiet (row w cells y)) t 0
+  pub in_row : (y t : ℕ) → y < w → t < w + 8 → get_or padded (y * s + t + 4 * (s - 1)) 0 ≡ get_or (quiet (row w cells y)) t 0
   in_row y t hy ht =
       let f : ℕ → ℕ = λ t. get_or padded (y * s + t + 4 * (s - 1)) 0 in
       quiet_from (row w cells y) w t f (length-row w cells y square hy)
@@ -116,11 +117,21 @@ and_seven : (a b c d e f g a' b' c' d' e' f' g' : Bool) → a ≡ a' → b ≡ b
     → (a && b && c && d && e && f && g) ≡ (a' && b' && c' && d' && e' && f' && g')
 and_seven a b c d e f g a' b' c' d' e' f' g' ea eb ec ed ee ef eg = grind (arith, common_steps)
 
+-- where a module is light that has to be dark there is no pattern
+no_third : (step : ℕ) (cells : List ℕ) (k : ℕ) → cell step cells k 6 ≡ 0 → has_finder step cells k ≡ false
+no_third step cells k e = grind (arith, nat_tests)
+
+no_last : (step : ℕ) (cells : List ℕ) (k : ℕ) → cell step cells k 10 ≡ 0 → has_finder step cells k ≡ false
+no_last step cells k e = grind (arith, nat_tests)
+
+no_pattern : (line : List ℕ) (k : ℕ) → get_or line (k + 4 + 6) 0 ≡ 0 → is_finder_like line k ≡ false
+no_pattern line k e = grind (arith, nat_tests)
+
 -- a line of n modules, by the places of its edges and of its modules, each a step after the last
 module _ (line edges padded : List ℕ) (n step : ℕ) (at from : ℕ → ℕ) (long : length line ≡ n)
     (next : (j i : ℕ) → at j + i * step ≡ at (j + i)) (next_from : (j i : ℕ) → from j + i * step ≡ from (j + i))
     (on : (t : ℕ) → t < n + 4 → get_or edges (at t) 0 ≡ cond (edge line t) 1 0)
-    (lit : (t : ℕ) → t < n + 14 → get_or padded (from t) 0 ≡ get_or (quiet line) t 0) where
+    (lit : (t : ℕ) → t < n + 8 → get_or padded (from t) 0 ≡ get_or (quiet line) t 0) where
   edge_here : (j i k : ℕ) → j < n → i ≤ 4 → j + i ≡ k → (cell step edges (at j) i == 1) ≡ edge line k
   edge_here j i k h l e =
       ap (λ m. m == 1) (ap (λ p. get_or edges p 0) (next j i) ∙ on (j + i) (omega (arith, h, l))) ∙ one_is (edge line (j + i)) ∙ ap (edge line) e
@@ -133,24 +144,37 @@ module _ (line edges padded : List ℕ) (n step : ℕ) (at from : ℕ → ℕ) (
   six_here : (j : ℕ) → j < n → has_six step edges (at j) ≡ six_of line j
   six_here j h = ap (λ b. b && (cell step edges (at j) 4 == 1)) (five_here j h) ∙ ap (λ b. five_of line j && b) (edge_here j 4 (j + 4) h (omega arith) refl)
 
-  module_here : (j i k : ℕ) → j < n → i ≤ 14 → j + i ≡ k → cell step padded (from j) i ≡ get_or (quiet line) k 0
-  module_here j i k h l e = ap (λ p. get_or padded p 0) (next_from j i) ∙ lit (j + i) (omega (arith, h, l)) ∙ ap (λ p. get_or (quiet line) p 0) e
+  module_here : (j i k : ℕ) → j + i < n + 8 → j + i ≡ k → cell step padded (from j) i ≡ get_or (quiet line) k 0
+  module_here j i k h e = ap (λ p. get_or padded p 0) (next_from j i) ∙ lit (j + i) h ∙ ap (λ p. get_or (quiet line) p 0) e
 
-  light_here : (j i k : ℕ) → j < n → i ≤ 11 → j + i ≡ k → is_quiet step padded (from j) i ≡ are_light (quiet line) k
+  light_here : (j i k : ℕ) → j + 6 < n → i ≤ 11 → j + i ≡ k → is_quiet step padded (from j) i ≡ are_light (quiet line) k
   light_here j i k h l e =
-      let light : (a b : ℕ) → a ≤ 14 → j + a ≡ b → (cell step padded (from j) a == 0) ≡ (get_or (quiet line) b 0 == 0) = λ a b l e. ap (λ m. m == 0) (module_here j a b h l e) in
+      let light : (a b : ℕ) → a ≤ 14 → j + a ≡ b → (cell step padded (from j) a == 0) ≡ (get_or (quiet line) b 0 == 0) = λ a b l e. ap (λ m. m == 0) (module_here j a b (omega (arith, h, l)) e) in
       and_same _ _ _ _ _ _ _ _ (light i k (omega (arith, l)) e) (light (i + 1) (k + 1) (omega (arith, l)) (omega (arith, e)))
       (light (i + 2) (k + 2) (omega (arith, l)) (omega (arith, e))) (light (i + 3) (k + 3) (omega (arith, l)) (omega (arith, e)))
 
-  finder_here : (j : ℕ) → j < n → has_finder step padded (from j) ≡ is_finder_like (quiet line) j
-  finder_here j h =
-      let is : (a i k : ℕ) → i ≤ 14 → j + i ≡ k → (cell step padded (from j) i == a) ≡ (get_or (quiet line) k 0 == a) = λ a i k l e. ap (λ m. m == a) (module_here j i k h l e) in
+  finder_within : (j : ℕ) → j + 6 < n → has_finder step padded (from j) ≡ is_finder_like (quiet line) j
+  finder_within j h =
+      let is : (a i k : ℕ) → i ≤ 14 → j + i ≡ k → (cell step padded (from j) i == a) ≡ (get_or (quiet line) k 0 == a) = λ a i k l e. ap (λ m. m == a) (module_here j i k (omega (arith, h, l)) e) in
       let p = j + 4 in
       let pattern = and_seven _ _ _ _ _ _ _ _ _ _ _ _ _ _ (is 1 4 p (omega arith) refl) (is 0 5 (p + 1) (omega arith) (omega arith)) (is 1 6 (p + 2) (omega arith) (omega arith))
       (is 1 7 (p + 3) (omega arith) (omega arith)) (is 1 8 (p + 4) (omega arith) (omega arith)) (is 0 9 (p + 5) (omega arith) (omega arith)) (is 1 10 (p + 6) (omega arith) (omega arith)) in
       ap (λ t. t && (is_quiet step padded (from j) 0 || is_quiet step padded (from j) 11)) pattern
       ∙ ap (λ t. is_pattern (quiet line) p && (t || is_quiet step padded (from j) 11)) (light_here j 0 j h (omega arith) (omega arith))
       ∙ ap (λ t. is_pattern (quiet line) p && (are_light (quiet line) j || t)) (light_here j 11 (j + 11) h (omega arith) refl)
+
+  -- a pattern that would reach past the end of the line is none: a module that has to be dark is light
+  finder_past : (j : ℕ) → j < n → n ≤ j + 6 → has_finder step padded (from j) ≡ is_finder_like (quiet line) j
+  finder_past j h past =
+      let none : (k : ℕ) → n + 4 ≤ k → get_or (quiet line) k 0 ≡ 0 = λ k l. get_or_past (quiet line) k 0 (omega (arith, l, long)) in
+      elim (cases_lt (j + 2) n) [
+        | inl near ↦ no_last step padded (from j) (module_here j 10 (j + 10) (omega (arith, near)) refl ∙ none (j + 10) (omega (arith, past)))
+        | inr far ↦ no_third step padded (from j) (module_here j 6 (j + 6) (omega (arith, h)) refl ∙ none (j + 6) (omega (arith, far)))
+      ]
+      ∙ sym (no_pattern (quiet line) j (none (j + 4 + 6) (omega (arith, past))))
+
+  finder_here : (j : ℕ) → j < n → has_finder step padded (from j) ≡ is_finder_like (quiet line) j
+  finder_here j h = elim (cases_lt (j + 6) n) [ inl within ↦ finder_within j within | inr past ↦ finder_past j h past ]
 
   pub line_is : line_penalty line + 2 * count_below (λ j. has_six step edges (at j)) n
       ≡ 3 * count_below (λ j. has_five step edges (at j)) n + 40 * count_below (λ j. has_finder step padded (from j)) n

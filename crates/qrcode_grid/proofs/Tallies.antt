@@ -37,10 +37,10 @@ count_below_le p zero = omega arith
 count_below_le p (suc n) = omega (arith, count_below_le p n, one (p n))
 
 -- the places of a symbol's chunks are few
-pub count_few : (p : ℕ → Bool) (w chunk : ℕ) → w ≤ 177 → chunk ≤ (w * (w + 10) + 255) / 256 → count_below p (256 * chunk) ≤ 40000
+pub count_few : (p : ℕ → Bool) (w chunk : ℕ) → w ≤ 177 → chunk ≤ (w * (w + 4) + 255) / 256 → count_below p (256 * chunk) ≤ 40000
 count_few p w chunk wide h =
-    let side : w + 10 ≤ 187 = omega (arith, wide) in
-    let area : w * (w + 10) ≤ 177 * (w + 10) = mul-le-mul_right (w + 10) wide in
+    let side : w + 4 ≤ 181 = omega (arith, wide) in
+    let area : w * (w + 4) ≤ 177 * (w + 4) = mul-le-mul_right (w + 4) wide in
     omega (arith, count_below_le p (256 * chunk), area, side, h)
 
 fewer : (a b : Bool) → cond (a && b) 1 0 ≤ cond a 1 0

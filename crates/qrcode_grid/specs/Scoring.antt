@@ -44,16 +44,16 @@ tallied m tally = 16 * slice_index tally.sums m + held m tally.planes
 
 -- how far a row is from the next in the lists that the penalties are counted in, and how long these are
 abbrev pub stride : ℕ → ℕ
-stride w = w + 10
+stride w = w + 4
 
 abbrev pub list_length : ℕ → ℕ
-list_length w = (w + 14) * (w + 10) + 256
+list_length w = (w + 14) * (w + 4) + 256
 
 -- how many places are looked at: those of all rows of the grid, 256 at a time
 abbrev pub places : ℕ → ℕ
-places w = 256 * ((w * (w + 10) + 255) / 256)
+places w = 256 * ((w * (w + 4) + 255) / 256)
 
--- A grid of width w stands in a list: four light rows, ten light modules after each row, and light modules to the end.
+-- A grid of width w stands in a list: four light rows, four light modules after each row, and light modules to the end.
 pub record IsPadded (w : ℕ) (cells padded : List ℕ) : Type 0 where
   pub grid : (x y : ℕ) → x < w → y < w → slice_index padded ((4 + y) * stride w + x) ≡ slice_index cells (y * w + x)
   pub beside : (x y : ℕ) → w ≤ x → x < stride w → slice_index padded (y * stride w + x) ≡ 0

@@ -29,7 +29,7 @@ fn list_length(width: usize) -> usize
     requires { width ≤ 177 }
     ensures { result ≡ list_length width }
 {
-    (width + 14) * (width + 10) + 256
+    (width + 14) * (width + 4) + 256
 }
 
 /// How long the scratch list is: the candidates, twelve rows of conditions, the candidates between light modules, and

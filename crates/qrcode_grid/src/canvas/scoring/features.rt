@@ -18,7 +18,7 @@ pub enum Feature {
 #[inline(always)]
 #[tactic(auto, using(crate::proofs::MarkedLanes::dark_marks))]
 fn dark(list: &[u8], step: usize, at: usize, i: usize) -> u8x16
-    requires step { step ≤ 187 }
+    requires step { step ≤ 181 }
     requires few { i ≤ 14 }
     requires within { at + i * step + 16 ≤ length list.now }
     ensures { Marks result (λ m j. cell step (plane m list.now) (at + j) i == 1) }
@@ -29,7 +29,7 @@ fn dark(list: &[u8], step: usize, at: usize, i: usize) -> u8x16
 /// The light modules some steps after sixteen places.
 #[inline(always)]
 fn light(list: &[u8], step: usize, at: usize, i: usize) -> u8x16
-    requires step { step ≤ 187 }
+    requires step { step ≤ 181 }
     requires few { i ≤ 14 }
     requires within { at + i * step + 16 ≤ length list.now }
     ensures { Marks result (λ m j. cell step (plane m list.now) (at + j) i == 0) }
@@ -40,7 +40,7 @@ fn light(list: &[u8], step: usize, at: usize, i: usize) -> u8x16
 /// Where the module some steps after sixteen places has the colour of the next.
 #[inline(always)]
 pub fn same(list: &[u8], step: usize, at: usize, i: usize) -> u8x16
-    requires step { step ≤ 187 }
+    requires step { step ≤ 181 }
     requires few { i ≤ 14 }
     requires within { at + (i + 1) * step + 16 ≤ length list.now }
     ensures { Marks result (λ m j. is_same step (plane m list.now) (at + j) i) }
@@ -51,7 +51,7 @@ pub fn same(list: &[u8], step: usize, at: usize, i: usize) -> u8x16
 /// Where five modules of one colour begin, by their edges.
 #[inline(always)]
 pub fn fives(edges: &[u8], step: usize, at: usize) -> u8x16
-    requires step { step ≤ 187 }
+    requires step { step ≤ 181 }
     requires within { at + 3 * step + 16 ≤ length edges.now }
     ensures { Marks result (λ m j. has_five step (plane m edges.now) (at + j)) }
 {
@@ -64,7 +64,7 @@ pub fn fives(edges: &[u8], step: usize, at: usize) -> u8x16
 /// Where six modules of one colour begin, by the places where five do.
 #[inline(always)]
 pub fn sixes(five: u8x16, edges: &[u8], step: usize, at: usize) -> u8x16
-    requires step { step ≤ 187 }
+    requires step { step ≤ 181 }
     requires within { at + 4 * step + 16 ≤ length edges.now }
     requires five { Marks five (λ m j. has_five step (plane m edges.now) (at + j)) }
     ensures { Marks result (λ m j. has_six step (plane m edges.now) (at + j)) }
@@ -75,7 +75,7 @@ pub fn sixes(five: u8x16, edges: &[u8], step: usize, at: usize) -> u8x16
 /// Where four light modules begin some steps on.
 #[inline(always)]
 fn quiet(list: &[u8], step: usize, at: usize, i: usize) -> u8x16
-    requires step { step ≤ 187 }
+    requires step { step ≤ 181 }
     requires few { i ≤ 11 }
     requires within { at + (i + 3) * step + 16 ≤ length list.now }
     ensures { Marks result (λ m j. is_quiet step (plane m list.now) (at + j) i) }
@@ -89,7 +89,7 @@ fn quiet(list: &[u8], step: usize, at: usize, i: usize) -> u8x16
 /// Where a finder-like pattern with light modules on one side begins four steps on.
 #[inline(always)]
 fn finders(list: &[u8], step: usize, at: usize) -> u8x16
-    requires step { step ≤ 187 }
+    requires step { step ≤ 181 }
     requires within { at + 14 * step + 16 ≤ length list.now }
     ensures { Marks result (λ m j. has_finder step (plane m list.now) (at + j)) }
 {
@@ -106,7 +106,7 @@ fn finders(list: &[u8], step: usize, at: usize) -> u8x16
 /// Where a square of one colour begins: edges along the row and along the next, between modules of one colour.
 #[inline(always)]
 fn squares(padded: &[u8], edges: &[u8], stride: usize, at: usize) -> u8x16
-    requires stride { stride ≤ 187 }
+    requires stride { stride ≤ 181 }
     requires padded { at + 5 * stride + 16 ≤ length padded.now }
     requires edges { at + stride + 16 ≤ length edges.now }
     ensures { Marks result (λ m j.
@@ -126,14 +126,14 @@ pub fn places_of(
     at: usize,
 ) -> u8x16
     requires wide { width ≤ 177 }
-    requires step { step ≤ width + 10 }
+    requires step { step ≤ width + 4 }
     requires padded { length padded.now ≡ list_length width }
     requires edges { length edges.now ≡ list_length width }
-    requires within { at < width * (width + 10) + 240 }
+    requires within { at < width * (width + 4) + 240 }
     ensures { Marks result (λ m j.
         has feature width step (plane m padded.now) (plane m edges.now) (at + j)) }
 {
-    let stride = width + 10;
+    let stride = width + 4;
     match feature {
         Feature::Finder => finders(padded, step, at + 4 * (stride - step)),
         Feature::Square => squares(padded, edges, stride, at),

@@ -1,5 +1,5 @@
 //! The lists that the penalties are counted in: the grid between light modules, and the edges of a direction. Row y of
-//! both begins at y times the stride, which is ten more than the width, and the grid stands four rows down.
+//! both begins at y times the stride, which is four more than the width, and the grid stands four rows down.
 ghost use Rattle.std.specs.Prelude.{◌≡◌, if◌then◌else◌, ℕ, ◌+◌, ◌*◌, ◌<◌, ◌≤◌, length, slice_index};
 ghost use Rattle.std.specs.Int.{bit_at};
 ghost use Rattle.qrcode_grid.specs.Scoring.{AreEdges, IsPadded, is_same, list_length, plane, stride};
@@ -27,7 +27,7 @@ pub fn write_padded(width: usize, grid: &[u8], padded: &mut [u8])
 {
     for y in 0..width {
         let row = &grid[y * width..y * width + width];
-        write_row(row, (4 + y) * (width + 10), padded);
+        write_row(row, (4 + y) * (width + 4), padded);
     }
 }
 
@@ -49,8 +49,8 @@ fn write_lanes(lanes: u8x16, at: usize, bytes: &mut [u8])
 #[inline(always)]
 fn write_same(width: usize, step: usize, count: usize, padded: &[u8], edges: &mut [u8])
     requires wide { (16 ≤ width) × (width ≤ 177) }
-    requires step { step ≤ width + 10 }
-    requires count { count ≤ width * (width + 10) }
+    requires step { step ≤ width + 4 }
+    requires count { count ≤ width * (width + 4) }
     requires padded { length padded.now ≡ list_length width }
     requires edges { length edges.old ≡ list_length width }
     requires none { (k : ℕ) → count ≤ k → slice_index edges.old k ≡ 0 }
@@ -60,7 +60,7 @@ fn write_same(width: usize, step: usize, count: usize, padded: &[u8], edges: &mu
     ensures behind { (k : ℕ) → count ≤ k → slice_index edges.new k ≡ 0 }
 {
     for part in 0..(count + 15) / 16 {
-        let lanes = same(padded, step, 4 * (width + 10) + 16 * part, 0);
+        let lanes = same(padded, step, 4 * (width + 4) + 16 * part, 0);
         write_lanes(lanes, 16 * part, edges);
     }
     write_lanes(u8x16::splat(0), count, edges);
@@ -90,7 +90,7 @@ pub fn write_edges(
     edges: &mut [u8],
 )
     requires wide { (16 ≤ width) × (width ≤ 177) }
-    requires step { step ≤ width + 10 }
+    requires step { step ≤ width + 4 }
     requires columns { columns ≤ width }
     requires rows { rows ≤ width }
     requires padded { length padded.now ≡ list_length width }
@@ -100,7 +100,7 @@ pub fn write_edges(
         AreEdges width step columns rows (plane m padded.now) (plane m edges.new) }
     ensures none { (k : ℕ) → rows * stride width ≤ k → slice_index edges.new k ≡ 0 }
 {
-    let stride = width + 10;
+    let stride = width + 4;
     write_same(width, step, rows * stride, padded, edges);
     for y in 0..rows {
         clear(y * stride + columns, y * stride + stride, edges);

@@ -34,14 +34,14 @@ fn penalties_of_columns(width: usize, padded: &[u8], edges: &[u8]) -> [usize; 8]
     requires padded { length padded.now ≡ list_length width }
     requires edges { length edges.now ≡ list_length width }
     ensures is { (m : ℕ) → m < 8 →
-        slice_index result m + 2 * count_below (has_six (width + 10) (plane m edges.now)) (places width) ≡
-        3 * count_below (has_five (width + 10) (plane m edges.now)) (places width)
-        + 40 * count_below (has Feature.Finder width (width + 10) (plane m padded.now) (plane m edges.now))
+        slice_index result m + 2 * count_below (has_six (width + 4) (plane m edges.now)) (places width) ≡
+        3 * count_below (has_five (width + 4) (plane m edges.now)) (places width)
+        + 40 * count_below (has Feature.Finder width (width + 4) (plane m padded.now) (plane m edges.now))
         (places width) }
     ensures small { (m : ℕ) → m < 8 → slice_index result m ≤ 2000000 }
 {
-    let (fives, sixes) = count_runs(width, width + 10, edges);
-    let finders = count(Feature::Finder, width, width + 10, padded, edges);
+    let (fives, sixes) = count_runs(width, width + 4, edges);
+    let finders = count(Feature::Finder, width, width + 4, padded, edges);
     weighed(&fives, &sixes, &finders)
 }
 
@@ -79,7 +79,7 @@ pub fn penalties_of_normal(
     requires none { (k : ℕ) → slice_index edges.old k ≡ 0 }
     ensures { (m : ℕ) → m < 8 → slice_index result m ≡ normal_penalty width (plane m grid.now) }
 {
-    let stride = width + 10;
+    let stride = width + 4;
     write_padded(width, grid, padded);
     write_edges(width, stride, width, width - 1, padded, edges);
     let columns = penalties_of_columns(width, padded, edges);

@@ -20,10 +20,10 @@ fn rows_of(
     at: usize,
 ) -> [u8x16; 16]
     requires wide { width ≤ 177 }
-    requires step { step ≤ width + 10 }
+    requires step { step ≤ width + 4 }
     requires padded { length padded.now ≡ list_length width }
     requires edges { length edges.now ≡ list_length width }
-    requires within { at < width * (width + 10) }
+    requires within { at < width * (width + 4) }
     ensures { (i : ℕ) → i < 16 → Marks (slice_index_or result i []) (λ m j.
         has feature width step (plane m padded.now) (plane m edges.now) (at + 16 * i + j)) }
 {
@@ -38,7 +38,7 @@ fn rows_of(
 #[inline(always)]
 pub fn count(feature: Feature, width: usize, step: usize, padded: &[u8], edges: &[u8]) -> [usize; 8]
     requires wide { width ≤ 177 }
-    requires step { step ≤ width + 10 }
+    requires step { step ≤ width + 4 }
     requires padded { length padded.now ≡ list_length width }
     requires edges { length edges.now ≡ list_length width }
     ensures is { (m : ℕ) → m < 8 → slice_index result m ≡ count_below
@@ -46,7 +46,7 @@ pub fn count(feature: Feature, width: usize, step: usize, padded: &[u8], edges: 
     ensures small { (m : ℕ) → m < 8 → slice_index result m ≤ 40000 }
 {
     let mut tally = no_bits();
-    for chunk in 0..(width * (width + 10) + 255) / 256 {
+    for chunk in 0..(width * (width + 4) + 255) / 256 {
         let rows = rows_of(feature, width, step, padded, edges, 256 * chunk);
         tally = add_rows(tally, &rows);
     }
@@ -64,9 +64,9 @@ fn write_run_rows(
     six: &mut [u8x16; 16],
 )
     requires wide { width ≤ 177 }
-    requires step { step ≤ width + 10 }
+    requires step { step ≤ width + 4 }
     requires edges { length edges.now ≡ list_length width }
-    requires within { at < width * (width + 10) }
+    requires within { at < width * (width + 4) }
     ensures five { (i : ℕ) → i < 16 → Marks (slice_index_or five.new i []) (λ m j.
         has_five step (plane m edges.now) (at + 16 * i + j)) }
     ensures six { (i : ℕ) → i < 16 → Marks (slice_index_or six.new i []) (λ m j.
@@ -84,7 +84,7 @@ fn write_run_rows(
 #[inline(always)]
 pub fn count_runs(width: usize, step: usize, edges: &[u8]) -> ([usize; 8], [usize; 8])
     requires wide { width ≤ 177 }
-    requires step { step ≤ width + 10 }
+    requires step { step ≤ width + 4 }
     requires edges { length edges.now ≡ list_length width }
     ensures fives { (m : ℕ) → m < 8 →
         slice_index result.0 m ≡ count_below (has_five step (plane m edges.now)) (places width) }
@@ -97,7 +97,7 @@ pub fn count_runs(width: usize, step: usize, edges: &[u8]) -> ([usize; 8], [usiz
     let mut six = [zero; 16];
     let mut fives = no_bits();
     let mut sixes = no_bits();
-    for chunk in 0..(width * (width + 10) + 255) / 256 {
+    for chunk in 0..(width * (width + 4) + 255) / 256 {
         write_run_rows(width, step, edges, 256 * chunk, &mut five, &mut six);
         fives = add_rows(fives, &five);
         sixes = add_rows(sixes, &six);

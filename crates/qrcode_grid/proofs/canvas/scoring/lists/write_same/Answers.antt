@@ -14,7 +14,7 @@ loop-part-preserved c =
         | inr late ↦
             let j = k - from in
             let here : k ≡ from + j = omega (arith, late) in
-            let there : 4 * (c.args.width + 10) + from + j ≡ 4 * (c.args.width + 10) + k = omega (arith, late) in
+            let there : 4 * (c.args.width + 4) + from + j ≡ 4 * (c.args.width + 4) + k = omega (arith, late) in
             ap (λ k. bit_at (get_or new k 0) m) here
             ∙ ap (λ b. bit_at b m) (written.lanes j (omega (arith, h, late)))
             ∙ c.same-lanes.ensures.bits m j hm (omega (arith, h, late))

@@ -11,5 +11,5 @@ weighed-requires-clause-fewer c = λ m h.
       arith,
       c.count_runs.ensures.fives m h,
       c.count_runs.ensures.sixes m h,
-      count_both_le (has_five (c.args.width + 10) edges) (λ k. cell (c.args.width + 10) edges k 4 == 1) (places c.args.width),
+      count_both_le (has_five (c.args.width + 4) edges) (λ k. cell (c.args.width + 4) edges k 4 == 1) (places c.args.width),
     )

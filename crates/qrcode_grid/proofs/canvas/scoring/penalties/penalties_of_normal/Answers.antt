@@ -16,8 +16,8 @@ returns c = λ m h.
     let square : length cells ≡ w * w = length-plane m grid ∙ c.requires.square in
     let light : (k : ℕ) → get_or list k 0 ≡ 0 → get_or padded k 0 ≡ 0 = λ k e. plane_at m list k ∙ ap (λ b. bit_at b m) e ∙ bit_at-zero m in
     let stands : IsPadded w cells padded = record {
-      grid = λ x y hx hy. plane_at m list ((4 + y) * (w + 10) + x) ∙ ap (λ b. bit_at b m) (is.grid x y hx hy) ∙ sym (plane_at m grid (y * w + x));
-      beside = λ x y hx l. light (y * (w + 10) + x) (is.beside x y hx l);
+      grid = λ x y hx hy. plane_at m list ((4 + y) * (w + 4) + x) ∙ ap (λ b. bit_at b m) (is.grid x y hx hy) ∙ sym (plane_at m grid (y * w + x));
+      beside = λ x y hx l. light (y * (w + 4) + x) (is.beside x y hx l);
       above = λ k l. light k (is.above k l);
       below = λ k l. light k (is.below k l);
     } in
