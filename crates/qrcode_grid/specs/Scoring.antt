@@ -1,6 +1,6 @@
 -- Eight candidates in one list of bytes, a byte a module: bit m is the colour in candidate m.
-use Rattle.std.specs.Prelude.{ℕ, ◌+◌, ◌-◌, ◌*◌, ◌<◌, ◌≡◌, ◌==◌, ◌&&◌, ◌||◌, Bool, if◌then◌else◌, ◌≤◌, List, map, ◌/◌, ◌%◌}
-use Rattle.std.specs.Prelude.{length, slice_index, slice_index_or, Option, Some, None}
+use Rattle.std.specs.Prelude.{ℕ, ◌+◌, ◌-◌, ◌*◌, ◌/◌, ◌%◌, ◌<◌, ◌≤◌, ◌≡◌, ◌==◌, ◌&&◌, ◌||◌, Bool, if◌then◌else◌}
+use Rattle.std.specs.Prelude.{List, map, length, slice_index, slice_index_or, Option, Some, None}
 use Rattle.std.specs.Int.{bit_at}
 use Rattle.qrcode_grid.specs.declared.canvas.scoring.planes.Planes.{Planes}
 use Rattle.qrcode_grid.specs.declared.canvas.scoring.planes.Tally.{Tally}
@@ -69,8 +69,8 @@ is_same step cells k i = cell step cells k i == cell step cells k (i + 1)
 
 -- Edges: 1 where a module of the first columns and rows has the colour of the one a step on, 0 elsewhere.
 pub record AreEdges (w step columns rows : ℕ) (padded edges : List ℕ) : Type 0 where
-  pub same : (x y : ℕ) → x < columns → y < rows →
-      slice_index edges (y * stride w + x) ≡ (if is_same step padded (4 * stride w + (y * stride w + x)) 0 then 1 else 0)
+  pub same : (x y : ℕ) → x < columns → y < rows → slice_index edges (y * stride w + x) ≡
+      (if is_same step padded (4 * stride w + (y * stride w + x)) 0 then 1 else 0)
   pub beside : (x y : ℕ) → columns ≤ x → x < stride w → y < rows → slice_index edges (y * stride w + x) ≡ 0
   pub below : (k : ℕ) → rows * stride w ≤ k → slice_index edges k ≡ 0
 

@@ -12,7 +12,8 @@ fn write_row(row: &[u8], at: usize, list: &mut [u8])
     requires within { at + length row.now ≤ length list.old }
     ensures row { (j : ℕ) → j < length row.now → slice_index list.new (at + j) ≡ slice_index row.now j }
     ensures before { (k : ℕ) → k < at → slice_index list.new k ≡ slice_index list.old k }
-    ensures after { (k : ℕ) → at + length row.now ≤ k → slice_index list.new k ≡ slice_index list.old k }
+    ensures after { (k : ℕ) → at + length row.now ≤ k →
+        slice_index list.new k ≡ slice_index list.old k }
 {
     list[at..at + row.len()].copy_from_slice(row);
 }
@@ -44,8 +45,8 @@ fn write_lanes(lanes: u8x16, at: usize, bytes: &mut [u8])
     lanes.copy_to_slice(&mut bytes[at..at + 16]);
 }
 
-/// Writes which of the first places have the colour of the module a step on, sixteen at a time, and sixteen zeros behind
-/// them.
+/// Writes which of the first places have the colour of the module a step on, sixteen at a time, and sixteen zeros
+/// behind them.
 #[inline(always)]
 fn write_same(width: usize, step: usize, count: usize, padded: &[u8], edges: &mut [u8])
     requires wide { (16 ≤ width) × (width ≤ 177) }
