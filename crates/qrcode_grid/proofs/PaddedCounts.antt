@@ -34,9 +34,7 @@ module _ (w : ℕ) (p : ℕ → Bool) (beside : (x y : ℕ) → w ≤ x → x < 
   f = λ k. cond (p k) 1 0
 
   in_row_only : (y : ℕ) → y < w → sum_below (λ x. f (y * stride w + x)) (stride w) ≡ count_below (λ x. p (y * stride w + x)) w
-  in_row_only y h =
-      let none = sum_zero (λ k. f (y * stride w + (w + k))) 4 (λ k l. ap (λ b. cond b 1 0) (beside (w + k) y (omega arith) (omega (arith, l)) h)) in
-      omega (arith, total-add (λ x. f (y * stride w + x)) w 4, none)
+  in_row_only y h = grind (arith, sum_zero, total-add)
 
   pub over_rows : count_below p (places w) ≡ sum_below (λ y. count_below (λ x. p (y * stride w + x)) w) w
   over_rows =
@@ -76,10 +74,7 @@ four_modules a b c d u v x y ea eb ec ed = grind (arith, nat_tests)
 
 module _ (w step columns rows : ℕ) (padded edges : List ℕ) (are : AreEdges w step columns rows padded edges) (c : columns ≤ w) (r : rows ≤ w) where
   no_edge_beside : (x y : ℕ) → w ≤ x → x < stride w → y < w → get_or edges (y * stride w + x) 0 ≡ 0
-  no_edge_beside x y h l hy = elim (cases_lt y rows) [
-    | inl within ↦ are.beside x y (omega (arith, h, c)) l within
-    | inr past ↦ are.below (y * stride w + x) (omega (arith, mul-le-mul_right (stride w) past))
-  ]
+  no_edge_beside x y h l hy = grind (arith, cases_lt, mul-le-mul_right)
 
   no_edge_below : (k : ℕ) → w * stride w ≤ k → get_or edges k 0 ≡ 0
   no_edge_below k h = are.below k (omega (arith, h, mul-le-mul_right (stride w) r))

@@ -78,33 +78,10 @@ module _ (w : ℕ) (cells padded : List ℕ) (is : IsPadded w cells padded) (squ
 
   pub column_edge : (edges : List ℕ) → AreEdges w s w (w - 1) padded edges → (x t : ℕ) → x < w → get_or edges (t * s + x) 0 ≡ cond (edge (column w cells x) t) 1 0
   column_edge edges are x t hx =
-      let line = column w cells x in let long = length-column w cells x in
-      elim (cases_lt (t + 1) w) [
-        | inl h ↦
-            let here : 4 * s + (t * s + x) + 0 * s ≡ (4 + t) * s + x = omega (arith, add-mul 4 t s) in
-            let there : 4 * s + (t * s + x) + (0 + 1) * s ≡ (4 + (t + 1)) * s + x = omega (arith, add-mul 4 (t + 1) s, add-mul t 1 s) in
-            let a = ap (λ k. get_or padded k 0) here ∙ is.grid x t hx (omega (arith, h)) ∙ sym (get_or-column w cells x t (omega (arith, h))) in
-            let b = ap (λ k. get_or padded k 0) there ∙ is.grid x (t + 1) hx h ∙ sym (get_or-column w cells x (t + 1) h) in
-            are.same x t hx (omega (arith, h))
-            ∙ ap (λ b. cond b 1 0) (same_modules _ _ _ _ _ a b (edge_within line t (omega (arith, h, long))))
-        | inr h ↦
-            let past : w - 1 ≤ t = omega (arith, h) in
-            are.below (t * s + x) (omega (arith, mul-le-mul_right s past)) ∙ ap (λ b. cond b 1 0) (sym (edge_past line t (omega (arith, h, long))))
-      ]
+      grind (arith, length-column, cases_lt, add-mul, get_or-column, same_modules, edge_within, mul-le-mul_right, edge_past)
 
   pub row_edge : (edges : List ℕ) → AreEdges w 1 (w - 1) w padded edges → (y t : ℕ) → y < w → t < s → get_or edges (y * s + t) 0 ≡ cond (edge (row w cells y) t) 1 0
-  row_edge edges are y t hy ht =
-      let line = row w cells y in let long = length-row w cells y square hy in
-      elim (cases_lt (t + 1) w) [
-        | inl h ↦
-            let here : 4 * s + (y * s + t) + 0 * 1 ≡ (4 + y) * s + t = omega (arith, add-mul 4 y s) in
-            let there : 4 * s + (y * s + t) + (0 + 1) * 1 ≡ (4 + y) * s + (t + 1) = omega (arith, add-mul 4 y s) in
-            let a = ap (λ k. get_or padded k 0) here ∙ is.grid t y (omega (arith, h)) hy ∙ sym (get_or-row w cells y square hy t (omega (arith, h))) in
-            let b = ap (λ k. get_or padded k 0) there ∙ is.grid (t + 1) y h hy ∙ sym (get_or-row w cells y square hy (t + 1) h) in
-            are.same t y (omega (arith, h)) hy
-            ∙ ap (λ b. cond b 1 0) (same_modules _ _ _ _ _ a b (edge_within line t (omega (arith, h, long))))
-        | inr h ↦ are.beside t y (omega (arith, h)) ht hy ∙ ap (λ b. cond b 1 0) (sym (edge_past line t (omega (arith, h, long))))
-      ]
+  row_edge edges are y t hy ht = grind (arith, length-row, cases_lt, add-mul, get_or-row, same_modules, edge_within, edge_past)
 
 one_is : (b : Bool) → (cond b 1 0 == 1) ≡ b
 one_is true = refl
@@ -137,9 +114,7 @@ module _ (line edges padded : List ℕ) (n step : ℕ) (at from : ℕ → ℕ) (
       ap (λ m. m == 1) (ap (λ p. get_or edges p 0) (next j i) ∙ on (j + i) (omega (arith, h, l))) ∙ one_is (edge line (j + i)) ∙ ap (edge line) e
 
   five_here : (j : ℕ) → j < n → has_five step edges (at j) ≡ five_of line j
-  five_here j h =
-      and_same _ _ _ _ _ _ _ _ (edge_here j 0 j h (omega arith) (omega arith)) (edge_here j 1 (j + 1) h (omega arith) refl)
-      (edge_here j 2 (j + 2) h (omega arith) refl) (edge_here j 3 (j + 3) h (omega arith) refl)
+  five_here j h = grind (arith, and_same, edge_here)
 
   six_here : (j : ℕ) → j < n → has_six step edges (at j) ≡ six_of line j
   six_here j h = ap (λ b. b && (cell step edges (at j) 4 == 1)) (five_here j h) ∙ ap (λ b. five_of line j && b) (edge_here j 4 (j + 4) h (omega arith) refl)
@@ -148,10 +123,7 @@ module _ (line edges padded : List ℕ) (n step : ℕ) (at from : ℕ → ℕ) (
   module_here j i k h e = ap (λ p. get_or padded p 0) (next_from j i) ∙ lit (j + i) h ∙ ap (λ p. get_or (quiet line) p 0) e
 
   light_here : (j i k : ℕ) → j + 6 < n → i ≤ 11 → j + i ≡ k → is_quiet step padded (from j) i ≡ are_light (quiet line) k
-  light_here j i k h l e =
-      let light : (a b : ℕ) → a ≤ 14 → j + a ≡ b → (cell step padded (from j) a == 0) ≡ (get_or (quiet line) b 0 == 0) = λ a b l e. ap (λ m. m == 0) (module_here j a b (omega (arith, h, l)) e) in
-      and_same _ _ _ _ _ _ _ _ (light i k (omega (arith, l)) e) (light (i + 1) (k + 1) (omega (arith, l)) (omega (arith, e)))
-      (light (i + 2) (k + 2) (omega (arith, l)) (omega (arith, e))) (light (i + 3) (k + 3) (omega (arith, l)) (omega (arith, e)))
+  light_here j i k h l e = grind (arith, module_here, and_same)
 
   finder_within : (j : ℕ) → j + 6 < n → has_finder step padded (from j) ≡ is_finder_like (quiet line) j
   finder_within j h =
