@@ -1,7 +1,7 @@
 -- The columns of a grid, module by module.
-use Rattle.std.proofs.Common.{◌≡◌, ℕ, ◌+◌, ◌*◌, ◌<◌, ◌≤◌, List, length, get_or, ◌∙◌, arith}
+use Rattle.std.proofs.Common.{◌≡◌, ℕ, ◌+◌, ◌*◌, ◌<◌, List, length, get_or, ◌∙◌, arith}
 use Rattle.std.specs.List.{range_with_len}
-use Rattle.std.proofs.lemmas.List.{length-map, get_or_past}
+use Rattle.std.proofs.lemmas.List.{length-map}
 use Rattle.std.proofs.lemmas.List.FromFn.{length-range_with_len, get_or-map-range_with_len}
 use Rattle.qrcode_grid.specs.Penalty.{column}
 
@@ -10,6 +10,3 @@ length-column w modules x = length-map (range_with_len 0 w) (λ y. get_or module
 
 pub get_or-column : (w : ℕ) (modules : List ℕ) (x y : ℕ) → y < w → get_or (column w modules x) y 0 ≡ get_or modules (y * w + x) 0
 get_or-column w modules x y h = get_or-map-range_with_len (λ y. get_or modules (y * w + x) 0) 0 w y y 0 (omega arith) (omega arith)
-
-pub column_past : (w : ℕ) (modules : List ℕ) (x y : ℕ) → w ≤ y → get_or (column w modules x) y 0 ≡ 0
-column_past w modules x y h = get_or_past (column w modules x) y 0 (omega (arith, h, length-column w modules x))

@@ -6,10 +6,8 @@ use Rattle.std.proofs.lemmas.Bool.Decides.{eqb_tells}
 use Rattle.std.proofs.lemmas.Grind.{common_steps}
 use Rattle.qrcode_grid.specs.Cells.{count_below}
 use Rattle.qrcode_grid.specs.Penalty.{length_penalty, run_penalty, runs_penalty}
-use Rattle.qrcode_grid.proofs.Runs.{new_runs, later_runs, sum_first, sum_same}
-
-same_byte : (b : ℕ) → (b == b) ≡ true
-same_byte b = grind arith
+use Rattle.qrcode_grid.proofs.Runs.{same_byte, new_runs, later_runs}
+use Rattle.qrcode_grid.proofs.Totals.{total-first, total-cong}
 
 -- whether n + 1 modules from place 0 on are inside the line and of one colour
 abbrev alike : ℕ → List ℕ → Bool
@@ -31,7 +29,7 @@ counted c (d ∷ ds) = grind (arith, common_steps, eqb_tells, new_runs, same_byt
 -- what the runs of a line count
 runs_by_alikes : (line : List ℕ) → runs_penalty line + 2 * alikes 5 line ≡ 3 * alikes 4 line
 runs_by_alikes [] = refl
-runs_by_alikes (c ∷ cs) = cc (same_byte c, sum_first (run_penalty (c ∷ cs)) (length cs), later_runs c cs, counted c cs)
+runs_by_alikes (c ∷ cs) = cc (same_byte c, total-first (run_penalty (c ∷ cs)) (length cs), later_runs c cs, counted c cs)
 
 -- whether the module at a place has the colour of the next one in the line
 abbrev pub edge : List ℕ → ℕ → Bool
@@ -62,10 +60,10 @@ by_places : (n : ℕ) (line : List ℕ) → alikes n line ≡ count_below (edges
 by_places n [] = refl
 by_places n (c ∷ cs) =
     let line = c ∷ cs in
-    let later = sum_same (λ k. cond (edges n line (suc k)) 1 0) (λ k. cond (edges n cs k) 1 0) (length cs) (λ k. ap (λ b. cond b 1 0) (edges_later n c cs k)) in
+    let later = total-cong (λ k. cond (edges n line (suc k)) 1 0) (λ k. cond (edges n cs k) 1 0) (length cs) (λ k l. ap (λ b. cond b 1 0) (edges_later n c cs k)) in
     ap (λ b. cond b 1 0 + alikes n cs) (first_edges n c cs)
     ∙ ap (λ t. cond (edges n line 0) 1 0 + t) (by_places n cs ∙ sym later)
-    ∙ sym (sum_first (λ k. cond (edges n line k) 1 0) (length cs))
+    ∙ sym (total-first (λ k. cond (edges n line k) 1 0) (length cs))
 
 -- an edge lies between two modules of the line
 pub edge_within : (line : List ℕ) (i : ℕ) → i + 1 < length line → edge line i ≡ (get_or line i 0 == get_or line (i + 1) 0)
@@ -98,6 +96,6 @@ five_edges line i = grind (arith, common_steps)
 -- what the runs of a line count, by its places
 pub runs_are : (line : List ℕ) → runs_penalty line + 2 * count_below (six_of line) (length line) ≡ 3 * count_below (five_of line) (length line)
 runs_are line =
-    let fives = sum_same (λ k. cond (edges 4 line k) 1 0) (λ k. cond (five_of line k) 1 0) (length line) (λ k. ap (λ b. cond b 1 0) (four_edges line k)) in
-    let sixes = sum_same (λ k. cond (edges 5 line k) 1 0) (λ k. cond (six_of line k) 1 0) (length line) (λ k. ap (λ b. cond b 1 0) (five_edges line k)) in
+    let fives = total-cong (λ k. cond (edges 4 line k) 1 0) (λ k. cond (five_of line k) 1 0) (length line) (λ k l. ap (λ b. cond b 1 0) (four_edges line k)) in
+    let sixes = total-cong (λ k. cond (edges 5 line k) 1 0) (λ k. cond (six_of line k) 1 0) (length line) (λ k l. ap (λ b. cond b 1 0) (five_edges line k)) in
     grind (arith, runs_by_alikes line, by_places 4 line, by_places 5 line, fives, sixes)

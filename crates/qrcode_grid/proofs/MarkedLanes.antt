@@ -1,13 +1,12 @@
 -- Lanes that mark where candidates have something.
-use Rattle.std.proofs.Common.{◌≡◌, ℕ, zero, suc, ◌+◌, ◌-◌, ◌%◌, ◌<◌, ◌≤◌, ◌==◌, ◌&&◌, ◌||◌, ◌++◌, Bool, false, cond, List, map, take, drop, length, get_or, refl, ap, ◌∙◌, sym, arith, Fits, w8}
+use Rattle.std.proofs.Common.{◌≡◌, ℕ, zero, suc, ◌+◌, ◌-◌, ◌%◌, ◌<◌, ◌≤◌, ◌==◌, ◌&&◌, ◌||◌, ◌++◌, Bool, cond, List, map, take, drop, length, get_or, refl, ap, ◌∙◌, sym, arith, Fits, w8}
 use Rattle.std.specs.Int.{bit_at, bit_not}
 use Rattle.std.specs.Int.Bits.{bit_and, bit_or, bit_xor}
 use Rattle.std.proofs.lemmas.List.{get_or-map, length-map, get_or_past, get_or-append-add, get_or_append_left, length-take-le, length-drop}
 use Rattle.std.proofs.lemmas.Nat.Bits.{bit_at-lt, bit_at-zero, bit_at_or, bit_at_not}
-use Rattle.std.proofs.lemmas.Simd.{length-chunk, get_or-chunk, get_or-replicate, get_or-put_chunk_at, length-put_chunk}
+use Rattle.std.proofs.lemmas.Simd.{length-chunk, get_or-chunk, get_or-put_chunk_at, length-put_chunk}
 use Rattle.std.proofs.lemmas.Bool.Decides.{nat_tests}
 use lib.Lanes.{zip2, chunk, put_chunk}
-use lib.ListN.{replicate}
 use Rattle.qrcode_grid.specs.Scoring.{Marks, plane}
 use Rattle.qrcode_grid.proofs.BitCounts.{length_of, lane_of, and_at, xor_at}
 use Rattle.std.proofs.lemmas.Grind.{common_steps}
@@ -87,12 +86,6 @@ marks_same bytes fits at other inside second =
           ∙ ap (λ t. (get_or (plane m bytes) (at + j) 0 + t) % 2) (turned_at bytes fits other second m j hm hj)
           ∙ same_is (get_or (plane m bytes) (at + j) 0) (get_or (plane m bytes) (other + j) 0) (plane_small m bytes (at + j)) (plane_small m bytes (other + j));
     }
-
-pub marks_where : (a : List ℕ) (p q : ℕ → ℕ → Bool) → ((m j : ℕ) → j < 16 → p m j ≡ q m j) → Marks a p → Marks a q
-marks_where a p q e ma = record { whole = ma.whole; bits = λ m j hm hj. ma.bits m j hm hj ∙ ap (λ t. cond t 1 0) (e m j hj) }
-
-pub marks_none : (q : ℕ → ℕ → Bool) → ((m j : ℕ) → j < 16 → false ≡ q m j) → Marks (replicate 16 0) q
-marks_none q e = grind (arith, common_steps, get_or-replicate, bit_at-zero)
 
 -- a lane that is written into a list of bytes
 pub chunk_lane : (bytes lanes rest : List ℕ) (at j : ℕ) → length lanes ≡ 16 → at + 16 ≤ length bytes → j < 16

@@ -27,9 +27,6 @@ module _ (w : ℕ) (cells : List ℕ) (y : ℕ) (square : length cells ≡ w * w
   pub get_or-row : (x : ℕ) → x < w → get_or (row w cells y) x 0 ≡ get_or cells (y * w + x) 0
   get_or-row x h = ap (λ k. get_or (take k (drop (y * w) cells)) x 0) whole ∙ get_or-chunk (y * w) w cells x 0 h
 
-  pub row_past : (x : ℕ) → w ≤ x → get_or (row w cells y) x 0 ≡ 0
-  row_past x h = get_or_past (row w cells y) x 0 (omega (arith, h, length-row))
-
 -- a line by its places: four light modules, the line, and light modules after it
 quiet_from : (line : List ℕ) (n t : ℕ) (f : ℕ → ℕ) → length line ≡ n → ((t : ℕ) → t < 4 → f t ≡ 0) → ((i : ℕ) → i < n → f (4 + i) ≡ get_or line i 0) → (n + 4 ≤ t → f t ≡ 0) → f t ≡ get_or (quiet line) t 0
 quiet_from line n t f long before here after = elim (cases_lt t 4) [

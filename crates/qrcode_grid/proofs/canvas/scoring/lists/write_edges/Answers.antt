@@ -1,19 +1,15 @@
-use Rattle.std.proofs.Common.{◌≡◌, ℕ, ◌+◌, ◌*◌, ◌≤◌, get_or, ap, ◌∙◌, arith, inl, inr}
+use Rattle.std.proofs.Common.{◌≡◌, ◌+◌, ◌*◌, ◌≤◌, ap, ◌∙◌, arith, inl, inr}
 use Rattle.std.specs.Int.{bit_at}
 use Rattle.std.proofs.Math.Nat.{mul-le-mul_right, add-mul}
 use Rattle.std.proofs.lemmas.Bool.{cases_lt}
 use Rattle.std.proofs.lemmas.Nat.Bits.{bit_at-zero}
-use Rattle.qrcode_grid.specs.Scoring.{plane, stride}
+use Rattle.qrcode_grid.specs.Scoring.{stride}
 use Rattle.qrcode_grid.proofs.MarkedLanes.{plane_at}
 use Rattle.qrcode_grid.proofs.PaddedLines.{row_before}
 use Rattle.qrcode_grid.proofs.canvas.scoring.lists.write_edges.Goals as goal
 
 pub loop-y-init : goal.loop-y-init
-loop-y-init c = record {
-  same = λ m x r hm hx hr. c.write_same.ensures.same m (r * stride c.args.width + x) hm (row_before (stride c.args.width) r x c.args.rows hr (omega (arith, hx, c.requires.columns)));
-  beside = λ x r h l none. absurd (omega (arith, none));
-  below = c.write_same.ensures.behind;
-}
+loop-y-init c = grind (arith, row_before)
 
 pub loop-y-preserved : goal.loop-y-preserved
 loop-y-preserved c =
@@ -35,11 +31,4 @@ loop-y-preserved c =
     }
 
 pub returns-clause-edges : goal.returns-clause-edges
-returns-clause-edges c = λ m h.
-    let new = c.loop-y.edges in let s = stride c.args.width in
-    let none : (k : ℕ) → get_or new k 0 ≡ 0 → get_or (plane m new) k 0 ≡ 0 = λ k e. plane_at m new k ∙ ap (λ b. bit_at b m) e ∙ bit_at-zero m in
-    record {
-      same = λ x y hx hy. plane_at m new (y * s + x) ∙ c.loop-y.invariant.same m x y h hx hy;
-      beside = λ x y hx l hy. none (y * s + x) (c.loop-y.invariant.beside x y hx l (omega (arith, hy, c.loop-y-test.false)));
-      below = λ k l. none k (c.loop-y.invariant.below k l);
-    }
+returns-clause-edges c = grind (arith, plane_at, bit_at-zero)

@@ -1,4 +1,4 @@
-use Rattle.std.proofs.Common.{◌+◌, arith}
+use Rattle.std.proofs.Common.{arith}
 use Rattle.qrcode_grid.specs.Scoring.{has_five, places, plane, cell}
 use Rattle.std.proofs.Common.{◌==◌}
 use Rattle.qrcode_grid.proofs.Tallies.{count_both_le}

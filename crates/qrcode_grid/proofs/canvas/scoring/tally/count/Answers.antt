@@ -17,11 +17,4 @@ loop-chunk-preserved c =
     }
 
 pub returns-clause-small : goal.returns-clause-small
-returns-clause-small c = λ m h.
-    let a = c.args in
-    omega (
-      arith,
-      c.totals.ensures m h,
-      c.loop-chunk.invariant.so_far m h,
-      count_few (has a.feature a.width a.step (plane m a.padded.now) (plane m a.edges.now)) a.width c.loop-chunk.chunk c.requires.wide c.loop-chunk.auto.chunk-end,
-    )
+returns-clause-small c = grind (arith, count_few)

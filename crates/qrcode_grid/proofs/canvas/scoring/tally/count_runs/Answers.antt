@@ -20,10 +20,4 @@ loop-chunk-preserved c =
     }
 
 pub returns-clause-small : goal.returns-clause-small
-returns-clause-small c = λ m h.
-    omega (
-      arith,
-      c.totals.ensures m h,
-      c.loop-chunk.invariant.fives m h,
-      count_few (has_five c.args.step (plane m c.args.edges.now)) c.args.width c.loop-chunk.chunk c.requires.wide c.loop-chunk.auto.chunk-end,
-    )
+returns-clause-small c = grind (arith, count_few)
