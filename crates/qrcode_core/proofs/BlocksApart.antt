@@ -11,7 +11,7 @@ use Rattle.qrcode_grid.specs.Blocks.{codeword_block}
 use Rattle.qrcode_base.specs.Symbols.{block_sizes}
 use Rattle.qrcode_core.specs.Reader.{Reading, Carries, Reads}
 use Rattle.qrcode_core.specs.Headline.{CarriesApart, HasBlocksApart}
-use Rattle.qrcode_grid.proofs.Apart.{AreBytes-block_in, length-block_in}
+use Rattle.qrcode_grid.proofs.Distances.{AreBytes-block_in, length-block_in}
 use Rattle.qrcode_grid.proofs.Distance.{distance-sound}
 use Rattle.qrcode_grid.proofs.Layouts.{IsUsable-of_symbol}
 

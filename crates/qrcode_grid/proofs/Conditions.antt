@@ -1,14 +1,23 @@
 -- The table of the conditions of eight masks.
-use Rattle.std.proofs.Common.{◌≡◌, ℕ, zero, suc, ◌+◌, ◌/◌, ◌%◌, ◌<◌, ◌==◌, eqb, Bool, true, false, cond, min, [], get_or, refl, ap, arith}
+use Rattle.std.proofs.Common.{◌≡◌, ℕ, zero, suc, ◌+◌, ◌/◌, ◌%◌, ◌<◌, ◌==◌, eqb, Bool, true, false, cond, min, [], get_or, refl, ap, arith, List, map, length, Option, Some, None, ◌∙◌, sym}
 use Rattle.std.specs.Int.{bit_at}
 use Rattle.qrcode_base.specs.declared.types.Color.TheVariants.{Light, Dark}
 use Rattle.qrcode_grid.specs.declared.canvas.Module.{Module}
 use Rattle.qrcode_grid.specs.declared.canvas.Module.TheVariants.{Empty, Masked, Unmasked}
 use Rattle.qrcode_grid.specs.declared.canvas.conditions.TheConstants.{CONDITIONS}
-use Rattle.qrcode_grid.specs.Scoring.{code_of, masked_code, pattern_of}
-use Rattle.qrcode_grid.specs.Masks.{is_inverted}
-use Rattle.qrcode_grid.proofs.FieldTests.{passes_below, passes_below-at}
-use Rattle.qrcode_grid.proofs.Tallies.{eqb_true}
+use Rattle.qrcode_grid.specs.Scoring.{code_of, masked_code, pattern_of, byte_under}
+use Rattle.qrcode_grid.specs.Masks.{is_inverted, drawn_over, format_color, masked, masked_cell, masked_cells}
+use Rattle.qrcode_grid.proofs.FieldLaws.{passes_below, passes_below-at}
+use Rattle.qrcode_grid.proofs.MarkedLanes.{eqb_true}
+use Rattle.std.proofs.Math.Nat.{add-mul, mul-add, mul_assoc, mul_comm}
+use Rattle.qrcode_grid.specs.declared.canvas.MaskPattern.{MaskPattern}
+use Rattle.std.proofs.lemmas.Grind.{common_steps, same_number_lists}
+use Rattle.std.proofs.lemmas.List.{get_or-map, length-map}
+use Rattle.qrcode_base.specs.declared.types.Color.{Color}
+use Rattle.qrcode_base.specs.declared.types.Version.{Version}
+use Rattle.qrcode_grid.specs.Canvas.{color_of_module}
+use Rattle.qrcode_grid.specs.Penalty.{byte_of}
+use Rattle.qrcode_grid.proofs.CellSteps.{length-map_places, get_or-map_places}
 
 abbrev is_right : ℕ → ℕ → ℕ → Bool
 is_right y k m = eqb (bit_at (get_or (get_or CONDITIONS y []) k 0) m) (cond (is_inverted (pattern_of m) k y) 1 0)
@@ -35,3 +44,47 @@ bits_masked (Unmasked Light) (suc zero) h = refl
 bits_masked (Unmasked Dark) zero h = refl
 bits_masked (Unmasked Dark) (suc zero) h = refl
 bits_masked old (suc (suc b)) h = absurd (omega (arith, h))
+
+-- Each row of a mask pattern repeats after six cells.
+
+pub is_inverted-repeats : (pattern : MaskPattern) (x y : ℕ) → is_inverted pattern x y ≡ is_inverted pattern (x % 6) y
+is_inverted-repeats pattern x y = grind (arith, common_steps, add-mul, mul_assoc)
+
+-- and after twelve rows the pattern itself
+pub is_inverted-repeats_rows : (pattern : MaskPattern) (x y : ℕ) → is_inverted pattern x y ≡ is_inverted pattern x (y % 12)
+is_inverted-repeats_rows pattern x y = grind (arith, common_steps, mul_comm, mul_assoc, mul-add)
+
+-- Modules as bytes, masked and formatted.
+
+drawn_byte : (o : Option Color) (b : Bool) (m : Module) → byte_under o (masked_code (code_of m) b) ≡ byte_of (color_of_module (drawn_over o (masked b m)))
+drawn_byte (Some c) b m = refl
+drawn_byte None b m = grind (arith, common_steps)
+
+abbrev pub candidate_byte : Version → ℕ → ℕ → MaskPattern → List ℕ → ℕ → ℕ
+candidate_byte version w format pattern codes k =
+    byte_under (format_color version w format (k % w) (k / w)) (masked_code (get_or codes k 0) (is_inverted pattern (k % w) (k / w)))
+
+-- the bytes of a candidate are those of the masked modules
+pub candidate_is : (version : Version) (w format : ℕ) (pattern : MaskPattern) (modules : List Module) (codes candidate : List ℕ)
+    → codes ≡ map code_of modules → length candidate ≡ length codes
+    → ((k : ℕ) → k < length codes → get_or candidate k 0 ≡ candidate_byte version w format pattern codes k)
+    → candidate ≡ map byte_of (map color_of_module (masked_cells version w format pattern modules))
+candidate_is version w format pattern modules codes candidate coded long is =
+    let cells = masked_cells version w format pattern modules in
+    let sizes : length cells ≡ length modules = length-map_places (λ i m. masked_cell version w format pattern (i % w) (i / w) m) 0 modules in
+    let same : length codes ≡ length modules = ap length coded ∙ length-map modules code_of in
+    same_number_lists candidate (map byte_of (map color_of_module cells))
+    (omega (arith, length-map (map color_of_module cells) byte_of, length-map cells color_of_module, sizes, same, long))
+    (λ k h.
+    let inside : k < length modules = omega (arith, h, long, same) in
+    let from : 0 + k ≡ k = omega arith in
+    let m = get_or modules k Empty in
+    is k (omega (arith, h, long))
+    ∙ ap (λ c. byte_under (format_color version w format (k % w) (k / w)) (masked_code c (is_inverted pattern (k % w) (k / w)))) (ap (λ cs. get_or cs k 0) coded ∙ get_or-map code_of modules k Empty 0 inside)
+    ∙ drawn_byte (format_color version w format (k % w) (k / w)) (is_inverted pattern (k % w) (k / w)) m
+    ∙ sym (
+    get_or-map byte_of (map color_of_module cells) k Light 0 (omega (arith, length-map cells color_of_module, sizes, inside))
+    ∙ ap byte_of (get_or-map color_of_module cells k Empty Light (omega (arith, sizes, inside)))
+    ∙ ap (λ d. byte_of (color_of_module d)) (get_or-map_places (λ i d. masked_cell version w format pattern (i % w) (i / w) d) 0 modules k Empty inside
+    ∙ ap (λ j. masked_cell version w format pattern (j % w) (j / w) m) from)
+    ))

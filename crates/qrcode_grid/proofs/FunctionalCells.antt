@@ -1,17 +1,21 @@
 -- The functional modules of a symbol are as many as the cells for which `is_functional` holds.
-use Rattle.std.proofs.Common.{◌≡◌, ℕ, pos, negsuc, zero, suc, ◌<◌, ◌≤◌, ◌+◌, ◌-◌, ◌*◌, ◌/◌, ap, ◌∙◌, sym, refl, arith, cond, Bool, true, not, length}
+use Rattle.std.proofs.Common.{◌≡◌, ℕ, pos, negsuc, zero, suc, ◌<◌, ◌≤◌, ◌+◌, ◌-◌, ◌*◌, ◌/◌, ap, ◌∙◌, sym, refl, arith, cond, Bool, true, not, length, ◌==◌}
 use Rattle.std.proofs.lemmas.Bool.Decides.{nat_tests}
 use Rattle.std.proofs.lemmas.List.Sums.{length-filter}
 use Rattle.qrcode_base.specs.declared.types.Version.{Version}
 use Rattle.qrcode_base.specs.declared.types.Version.TheVariants.{Normal, Micro}
 use Rattle.qrcode_base.specs.Symbols.{IsVersion, width_of}
-use Rattle.qrcode_grid.specs.Counts.{functional_cells}
+use Rattle.qrcode_grid.specs.Counts.{functional_cells, data_cell_count, IsFunctionalCount, area_count}
 use Rattle.qrcode_grid.specs.Regions.{is_functional_cell, is_functional_at}
 use Rattle.qrcode_grid.specs.Cells.{sum_below as total}
 use Rattle.qrcode_grid.specs.Walk.{data_cells, walk, walk_column, numbered_cell, timing_column}
-use Rattle.qrcode_grid.proofs.DrawnSymbols.{odd_width, timing_inside}
+use Rattle.qrcode_grid.proofs.WholeSymbols.{odd_width, timing_inside}
 use Rattle.qrcode_grid.proofs.Totals.{total-cong, total-walk, count_by-total}
 use Rattle.std.proofs.lemmas.Grind.{common_steps}
+use Rattle.std.proofs.lemmas.Bool.{eqb-true}
+use Rattle.qrcode_base.specs.declared.types.EcLevel.TheVariants.{L}
+use Rattle.qrcode_grid.proofs.Tests.{passes}
+use Rattle.qrcode_grid.proofs.DataCounts.{length-normal_data_cells, length-micro_data_cells}
 
 -- a sum by pairs
 total-pairs : (f : ℕ → ℕ) (h : ℕ) → total (λ p. f (2 * p) + f (2 * p + 1)) h ≡ total f (2 * h)
@@ -89,3 +93,16 @@ functional_cells-data_cells version canonical =
     ap (λ n. n + few x) (total-cong _ (λ y. cond (is_functional_cell version x y) 1 0) w (λ y m. ap (λ b. cond b 1 0) (same_test version x y canonical)))
     ∙ total-both (is_functional_cell version x) w) in
     omega (arith, walked, timing, columns, all)
+
+-- How many modules of each symbol are functional.
+
+abbrev is_counted : ℕ → Bool
+is_counted n = area_count (Normal (pos n)) + data_cell_count (Normal (pos n)) L == (4 * n + 17) * (4 * n + 17)
+
+-- The count by areas is the count of all modules but the data cells.
+pub area_count_is : (version : Version) → IsVersion version → IsFunctionalCount version (area_count version)
+area_count_is (Normal (pos n)) h =
+    cc (length-normal_data_cells n h.0 h.1, eqb-true _ _ (passes is_counted 1 40 n (refl) h.0 (omega (arith, h.1))))
+area_count_is (Normal (negsuc n)) h = absurd h
+area_count_is (Micro (pos n)) h = grind (arith, common_steps, length-micro_data_cells, eqb-true, passes, (refl))
+area_count_is (Micro (negsuc n)) h = absurd h

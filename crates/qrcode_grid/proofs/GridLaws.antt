@@ -9,10 +9,10 @@ use Rattle.qrcode_grid.specs.Regions.{near, alignment, alignments, alignment_cou
 use Rattle.qrcode_grid.specs.Walk.{timing_column}
 use Rattle.qrcode_grid.specs.Laws.{AreConsistentRegions, HasEveryAlignment, HasItsAlignments, IsWalkOf}
 use Rattle.qrcode_grid.proofs.Tests.{all_pass, passes, both}
-use Rattle.qrcode_grid.proofs.WalkLaws.{cell_number-numbered_cell, numbered_cell-cell_number, cell_number_below, numbered_cell_inside}
+use Rattle.qrcode_grid.proofs.Totals.{cell_number-numbered_cell, numbered_cell-cell_number, cell_number_below, numbered_cell_inside}
 use Rattle.qrcode_grid.proofs.Areas.{is_some-functional_color}
 use Rattle.qrcode_grid.proofs.RegionsAgree.{regions_say}
-use Rattle.qrcode_grid.proofs.DrawnSymbols.{odd_width, timing_inside}
+use Rattle.qrcode_grid.proofs.WholeSymbols.{odd_width, timing_inside}
 use Rattle.std.proofs.lemmas.Grind.{common_steps}
 
 -- each centre coordinate is the one near the five coordinates around it, computed

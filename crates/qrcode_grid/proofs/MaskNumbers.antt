@@ -1,6 +1,6 @@
 -- Masks by their numbers.
-use Rattle.std.proofs.Common.{◌≡◌, ℕ, zero, suc, ◌<◌, List, [], ◌∷◌, ◌++◌, length, take, drop, map, refl, ap, ◌∙◌, sym, arith}
-use Rattle.std.proofs.lemmas.List.{take_at}
+use Rattle.std.proofs.Common.{◌≡◌, ℕ, zero, suc, ◌<◌, List, [], ◌∷◌, ◌++◌, length, take, drop, map, refl, ap, ◌∙◌, sym, arith, ◌+◌, slice_get, Some, option_map}
+use Rattle.std.proofs.lemmas.List.{take_at, take_more}
 use Rattle.qrcode_base.specs.declared.types.Color.{Color}
 use Rattle.qrcode_base.specs.declared.types.Color.TheVariants.{Light, Dark}
 use Rattle.qrcode_base.specs.declared.types.EcLevel.{EcLevel}
@@ -9,11 +9,12 @@ use Rattle.qrcode_base.specs.Symbols.{width_of}
 use Rattle.qrcode_grid.specs.declared.canvas.MaskPattern.{MaskPattern}
 use Rattle.qrcode_grid.specs.declared.canvas.MaskPattern.TheVariants.{Checkerboard, HorizontalLines, VerticalLines, DiagonalLines, LargeCheckerboard, Fields, Diamonds, Meadow}
 use Rattle.qrcode_grid.specs.declared.canvas.Module.{Module}
-use Rattle.qrcode_grid.specs.Canvas.{color_of_module}
-use Rattle.qrcode_grid.specs.Penalty.{byte_of}
-use Rattle.qrcode_grid.specs.Masks.{format_word, masked_cells, normal_number}
+use Rattle.qrcode_grid.specs.Canvas.{color_of_module, Drawing, with_mask, mask_penalties, colors_of}
+use Rattle.qrcode_grid.specs.Penalty.{byte_of, penalty}
+use Rattle.qrcode_grid.specs.Masks.{format_word, masked_cells, normal_number, family}
 use Rattle.qrcode_grid.specs.Scoring.{pattern_of}
 use Rattle.std.proofs.lemmas.Grind.{common_steps}
+use Rattle.std.proofs.lemmas.Option.{slice_get-map, slice_get_within, get_or_from_slice_get}
 
 pub pattern_of-number : (p : MaskPattern) → pattern_of (normal_number p) ≡ p
 pattern_of-number Checkerboard = refl
@@ -62,3 +63,13 @@ pub written_whole : {X : Type 0} (new old : List X) (n : ℕ) → length new ≡
 written_whole new old n e = take_at new (drop (length new) old) n e
 
 pub ruleset mask_numbers = (bytes_of_number, number_small, written_whole, common_steps)
+
+-- The list of penalties grows by one.
+
+pub next_penalty : (d : Drawing) (values : List ℕ) (i : ℕ) (p : MaskPattern) (v : ℕ) → values ≡ take i (mask_penalties d) → slice_get (family d.version) i ≡ Some p →
+    v ≡ penalty d.version (colors_of (with_mask p d)) → values ++ v ∷ [] ≡ take (i + 1) (mask_penalties d)
+next_penalty d values i p v so_far here is =
+    let e : slice_get (mask_penalties d) i ≡ Some (penalty d.version (colors_of (with_mask p d))) =
+    slice_get-map (λ q. penalty d.version (colors_of (with_mask q d))) (family d.version) i ∙ ap (option_map (λ q. penalty d.version (colors_of (with_mask q d)))) here in
+    ap (λ l. l ++ v ∷ []) so_far ∙ ap (λ n. take i (mask_penalties d) ++ n ∷ []) (is ∙ sym (get_or_from_slice_get (mask_penalties d) i _ 0 e))
+    ∙ sym (take_more (mask_penalties d) i 0 (slice_get_within (mask_penalties d) i _ e))

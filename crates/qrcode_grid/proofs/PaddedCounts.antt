@@ -8,10 +8,9 @@ use Rattle.qrcode_grid.specs.Cells.{sum_below, count_below}
 use Rattle.qrcode_grid.specs.Penalty.{row, column, line_penalty, count_of_squares, is_byte_square_at, is_dark_byte, squares_penalty}
 use Rattle.qrcode_grid.specs.Scoring.{AreEdges, IsPadded, cell, has, has_five, has_six, has_finder, has_square, places, stride}
 use Rattle.qrcode_grid.specs.declared.canvas.scoring.features.Feature.TheVariants.{Finder, Square, Dark}
-use Rattle.qrcode_grid.proofs.BitCounts.{count_as_sum}
-use Rattle.qrcode_grid.proofs.Columns.{length-column}
+use Rattle.qrcode_grid.proofs.MarkedLanes.{count_as_sum}
+use Rattle.qrcode_grid.proofs.PaddedLines.{length-column, in_column, in_row, column_edge, row_edge, length-row, get_or-row, line_is}
 use Rattle.qrcode_grid.proofs.LongRuns.{edge_within}
-use Rattle.qrcode_grid.proofs.PaddedLines.{in_column, in_row, column_edge, row_edge, length-row, get_or-row, line_is}
 use Rattle.qrcode_grid.proofs.SquareLanes.{count_one_more}
 use Rattle.qrcode_grid.proofs.Totals.{total-add, total-cong, total-mul, total-plus}
 

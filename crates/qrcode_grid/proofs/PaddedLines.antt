@@ -4,14 +4,23 @@ use Rattle.std.proofs.Math.Nat.{mul-le-mul_right, add-mul}
 use Rattle.std.proofs.lemmas.Bool.{cases_lt}
 use Rattle.std.proofs.lemmas.Bool.Decides.{nat_tests}
 use Rattle.std.proofs.lemmas.Grind.{common_steps}
-use Rattle.std.proofs.lemmas.List.{get_or_past}
+use Rattle.std.proofs.lemmas.List.{get_or_past, length-map}
 use Rattle.std.proofs.lemmas.Simd.{length-chunk, get_or-chunk}
 use Rattle.qrcode_grid.specs.Cells.{count_below}
 use Rattle.qrcode_grid.specs.Penalty.{row, column, quiet, are_light, is_pattern, is_finder_like, line_penalty}
 use Rattle.qrcode_grid.specs.Scoring.{AreEdges, IsPadded, cell, has_five, has_six, has_finder, is_quiet, stride}
-use Rattle.qrcode_grid.proofs.Columns.{length-column, get_or-column}
 use Rattle.qrcode_grid.proofs.LongRuns.{edge, edge_within, edge_past, five_of, six_of, runs_are}
 use Rattle.qrcode_grid.proofs.Totals.{total-cong}
+use Rattle.std.specs.List.{range_with_len}
+use Rattle.std.proofs.lemmas.List.FromFn.{length-range_with_len, get_or-map-range_with_len}
+
+-- The columns of a grid, module by module.
+
+pub length-column : (w : ℕ) (modules : List ℕ) (x : ℕ) → length (column w modules x) ≡ w
+length-column w modules x = length-map (range_with_len 0 w) (λ y. get_or modules (y * w + x) 0) ∙ length-range_with_len 0 w
+
+pub get_or-column : (w : ℕ) (modules : List ℕ) (x y : ℕ) → y < w → get_or (column w modules x) y 0 ≡ get_or modules (y * w + x) 0
+get_or-column w modules x y h = get_or-map-range_with_len (λ y. get_or modules (y * w + x) 0) 0 w y y 0 (omega arith) (omega arith)
 
 -- a place in a row lies before each later row
 pub row_before : (s r x y : ℕ) → r < y → x < s → r * s + x < y * s

@@ -1,18 +1,152 @@
 -- A turn of the division by rows takes in one more byte.
-use Rattle.std.proofs.Common.{◌≡◌, ℕ, zero, suc, ◌<◌, ◌≤◌, ◌+◌, ◌-◌, refl, ap, sym, ◌∙◌, arith, List, [], ◌∷◌, ◌++◌, map, length, get_or, take, drop, replicate}
-use Rattle.std.specs.List.{range_with_len}
+use Rattle.std.proofs.Common.{◌≡◌, ℕ, zero, suc, ◌<◌, ◌≤◌, ◌+◌, ◌-◌, refl, ap, sym, ◌∙◌, arith, List, [], ◌∷◌, ◌++◌, map, length, get_or, take, drop, replicate, ◌/◌, ◌%◌, cond, true, eqb, leb, w8, Fits, Bool, false, ◌^◌, ◌==◌, ◌&&◌, nat_lt}
+use Rattle.std.specs.List.{range_with_len, position_or_len}
 use Rattle.std.specs.Int.Bits.{bit_xor, xor_assoc, xor_zero_r}
 use Rattle.std.proofs.lemmas.Nat.{xor_comm}
 use Rattle.std.proofs.lemmas.List.{append-nil, length-take, length-drop, length-replicate, get_or-take, get_or-drop, same_lists, get_or_default, drop_more}
 use Rattle.std.proofs.lemmas.List.FromFn.{get_or-map-range_with_len, length-map-range_with_len, map-range_with_len_more}
-use Rattle.qrcode_grid.specs.Field.{product, power}
+use Rattle.qrcode_grid.specs.Field.{product, power, double, shift_and_add}
 use Rattle.qrcode_grid.specs.Codes.{value_at}
 use Rattle.qrcode_grid.specs.Rows.{AreTerms, AreRows, IsDivisor, IsTurn, IsRemainder}
 use Rattle.qrcode_grid.proofs.Division.{value_at-cons, value_at-reduced, sums_from_places}
-use Rattle.qrcode_grid.proofs.FieldLaws.{product-adds_left, product-one_left, product-zero_right, product_assoc, product_comm}
-use Rattle.qrcode_grid.proofs.RowLanes.{times_one}
+use Rattle.qrcode_grid.proofs.FieldLaws.{product-adds_left, product-one_left, product-zero_right, product_assoc, product_comm, product-double, product-zero_left, passes_below, passes_below-at}
 use Rattle.qrcode_grid.proofs.Values.{sums, value_at-append, value_at-zeros, power-first}
 use Rattle.std.proofs.lemmas.Grind.{common_steps}
+use Rattle.std.proofs.lemmas.Bool.{eqb-true, ltb-true}
+use Rattle.std.proofs.lemmas.Simd.{get_or-zip2, length-zip2, get_or-replicate, get_or-sel_l, length-sel_l, tops_compared}
+use lib.Lanes.{Each1, zip2, put_chunk, sel_l, top}
+use lib.ListN.{replicate}
+use Rattle.qrcode_grid.specs.Words.{polynomial_product, multiples, code_word, HasOneMultiple, HasOneFormatWord, HasOneVersionWord}
+use Rattle.qrcode_grid.proofs.Tests.{passes, both}
+
+-- Lanes of bytes that are multiplied in the field.
+
+-- What one lane of a vector of bytes is, after an operation.
+
+pub lane_add : (xs ys : List ℕ) (n j : ℕ) → length xs ≡ n → length ys ≡ n → j < n → get_or (zip2 (λ a b. (a + b) % 256) xs ys) j 0 ≡ (get_or xs j 0 + get_or ys j 0) % 256
+lane_add xs ys n j l m h = get_or-zip2 (λ a b. (a + b) % 256) xs ys j 0 0 0 (omega arith) (omega arith)
+
+pub length_add : (xs ys : List ℕ) (n : ℕ) → length xs ≡ n → length ys ≡ n → length (zip2 (λ a b. (a + b) % 256) xs ys) ≡ n
+length_add xs ys n l m = length-zip2 (λ a b. (a + b) % 256) xs ys (l ∙ sym m) ∙ l
+
+-- a choice by a comparison
+abbrev pub chosen : (ℕ → ℕ → Bool) → List ℕ → List ℕ → List ℕ → List ℕ → List ℕ
+chosen t us vs xs ys = sel_l (map (top 7) (zip2 (λ a b. cond (t a b) 255 0) us vs)) xs ys
+
+pub lane_chosen : (t : ℕ → ℕ → Bool) (us vs xs ys : List ℕ) (n j : ℕ) → length us ≡ n → length vs ≡ n → length xs ≡ n → length ys ≡ n → j < n
+    → get_or (chosen t us vs xs ys) j 0 ≡ cond (t (get_or us j 0) (get_or vs j 0)) (get_or xs j 0) (get_or ys j 0)
+lane_chosen t us vs xs ys n j la lb lx ly h =
+    let lz : length (zip2 t us vs) ≡ n = length-zip2 t us vs (la ∙ sym lb) ∙ la in
+    ap (λ ms. get_or (sel_l ms xs ys) j 0) (tops_compared w8 t us vs)
+    ∙ get_or-sel_l (zip2 t us vs) xs ys j 0 (omega arith) (omega arith) (omega arith)
+    ∙ ap (λ m. cond m (get_or xs j 0) (get_or ys j 0)) (get_or-zip2 t us vs j 0 0 false (omega arith) (omega arith))
+
+pub length_chosen : (t : ℕ → ℕ → Bool) (us vs xs ys : List ℕ) (n : ℕ) → length us ≡ n → length vs ≡ n → length xs ≡ n → length ys ≡ n → length (chosen t us vs xs ys) ≡ n
+length_chosen t us vs xs ys n la lb lx ly = grind (arith, common_steps, length-zip2, tops_compared, length-sel_l)
+
+-- a lane is a byte
+pub fits_at : (xs : List ℕ) (j : ℕ) → Each1 (Fits w8) xs → get_or xs j 0 < 256
+fits_at [] j h = omega arith
+fits_at (x ∷ xs) zero h = h.0.fits
+fits_at (x ∷ xs) (suc j) h = fits_at xs j h.1
+
+pub lane_xor : (xs ys : List ℕ) (n j : ℕ) → length xs ≡ n → length ys ≡ n → j < n → get_or (zip2 bit_xor xs ys) j 0 ≡ bit_xor (get_or xs j 0) (get_or ys j 0)
+lane_xor xs ys n j l m h = get_or-zip2 bit_xor xs ys j 0 0 0 (omega arith) (omega arith)
+
+pub length_xor : (xs ys : List ℕ) (n : ℕ) → length xs ≡ n → length ys ≡ n → length (zip2 bit_xor xs ys) ≡ n
+length_xor xs ys n l m = length-zip2 bit_xor xs ys (l ∙ sym m) ∙ l
+
+doubled_test : passes_below 256 (λ a. eqb (bit_xor ((a + a) % 256) (cond (leb 128 a) 29 0)) (double a)) ≡ true
+unfolding double
+doubled_test = refl
+
+-- a lane times 2: a shift, reduced where a bit comes out
+pub lane_doubled : (v : List ℕ) (j : ℕ) → length v ≡ 32 → j < 32 → get_or v j 0 < 256 →
+    get_or (zip2 bit_xor (zip2 (λ a b. (a + b) % 256) v v) (chosen leb (replicate 32 128) v (replicate 32 29) (replicate 32 0))) j 0 ≡ double (get_or v j 0)
+lane_doubled v j long h small =
+    let a = get_or v j 0 in
+    let picked = chosen leb (replicate 32 128) v (replicate 32 29) (replicate 32 0) in
+    lane_xor _ picked 32 j (length_add v v 32 long long) (length_chosen leb (replicate 32 128) v (replicate 32 29) (replicate 32 0) 32 refl long refl refl) h
+    ∙ ap (λ x. bit_xor x (get_or picked j 0)) (lane_add v v 32 j long long h)
+    ∙ ap (λ x. bit_xor ((a + a) % 256) x) (lane_chosen leb (replicate 32 128) v (replicate 32 29) (replicate 32 0) 32 j refl long refl refl h
+    ∙ ap (λ t. cond (leb t a) (get_or (replicate 32 29) j 0) (get_or (replicate 32 0) j 0)) (get_or-replicate 32 j 128 0 h)
+    ∙ ap (λ t. cond (leb 128 a) t (get_or (replicate 32 0) j 0)) (get_or-replicate 32 j 29 0 h)
+    ∙ ap (λ t. cond (leb 128 a) 29 t) (get_or-replicate 32 j 0 0 h))
+    ∙ eqb-true _ _ (passes_below-at (λ a. eqb (bit_xor ((a + a) % 256) (cond (leb 128 a) 29 0)) (double a)) 256 a doubled_test small)
+
+halves_test : passes_below 16 (λ i. eqb (bit_xor (double (i / 2)) (i % 2)) i) ≡ true
+unfolding double
+halves_test = refl
+
+-- the multiple by a number from that by its half
+pub multiple_from_half : (i c : ℕ) → i < 16 → product i c ≡ bit_xor (double (product (i / 2) c)) (product (i % 2) c)
+multiple_from_half i c h =
+    cc (
+      eqb-true _ _ (passes_below-at (λ i. eqb (bit_xor (double (i / 2)) (i % 2)) i) 16 i halves_test h),
+      product-adds_left (double (i / 2)) (i % 2) c,
+      product-double (i / 2) c (omega arith),
+    )
+
+pub multiple_even : (i c : ℕ) → i < 16 → i % 2 ≡ 0 → product i c ≡ double (product (i / 2) c)
+multiple_even i c h e = grind (arith, common_steps, multiple_from_half, product-zero_left, xor_zero_r)
+
+pub multiple_odd : (i c : ℕ) → i < 16 → c < 256 → i % 2 ≡ 1 → product i c ≡ bit_xor (double (product (i / 2) c)) c
+multiple_odd i c h small e = grind (arith, common_steps, multiple_from_half, product-one_left)
+
+-- a byte by its halves
+nibbles_test : passes_below 256 (λ f. eqb (bit_xor (f % 16) (product (f / 16) 16)) f) ≡ true
+unfolding double shift_and_add product
+nibbles_test = refl
+
+pub product-halves : (f c : ℕ) → f < 256 → product f c ≡ bit_xor (product (f % 16) c) (product (f / 16) (product 16 c))
+product-halves f c h =
+    cc (
+      eqb-true _ _ (passes_below-at (λ f. eqb (bit_xor (f % 16) (product (f / 16) 16)) f) 256 f nibbles_test h),
+      product-adds_left (f % 16) (product (f / 16) 16) c,
+      product_assoc (f / 16) 16 c,
+    )
+
+pub times_one : (a t : ℕ) → a < 256 → product a (product 1 t) ≡ product a t
+times_one a t h = sym (product_assoc a 1 t) ∙ ap (λ x. product x t) (product_comm a 1 ∙ product-one_left a h)
+
+sixteen_test : passes_below 256 (λ a. eqb (double (double (double (double a)))) (product 16 a)) ≡ true
+unfolding double shift_and_add product
+sixteen_test = refl
+
+pub four_doublings : (a : ℕ) → a < 256 → double (double (double (double a))) ≡ product 16 a
+four_doublings a h = eqb-true _ _ (passes_below-at (λ a. eqb (double (double (double (double a)))) (product 16 a)) 256 a sixteen_test h)
+
+zeros_at : (n k : ℕ) → get_or {A = ℕ} (replicate n 0) k 0 ≡ 0
+zeros_at zero k = refl
+zeros_at (suc n) zero = refl
+zeros_at (suc n) (suc k) = zeros_at n k
+
+pub padded_at : (xs : List ℕ) (n k : ℕ) → get_or (xs ++ replicate n 0) k 0 ≡ get_or xs k 0
+padded_at [] n k = zeros_at n k
+padded_at (x ∷ xs) n zero = refl
+padded_at (x ∷ xs) n (suc k) = padded_at xs n k
+
+pub drop-zeros : (n m : ℕ) → drop n (replicate {A = ℕ} m 0) ≡ replicate (m - n) 0
+drop-zeros zero m = let all : m - zero ≡ m = omega arith in ap (λ k. replicate k 0) (sym all)
+drop-zeros (suc n) zero = let none : zero - suc n ≡ zero = omega arith in ap (λ k. replicate k 0) (sym none)
+drop-zeros (suc n) (suc m) = let less : m - n ≡ suc m - suc n = omega arith in drop-zeros n m ∙ ap (λ k. replicate k 0) less
+
+-- a lane of a vector joined with zeros, one place on
+pub lane_moved : (xs : List ℕ) (j : ℕ) → j < 32 → get_or (map (λ k. get_or (xs ++ replicate 32 0) k 0) (range_with_len 1 32)) j 0 ≡ get_or xs (j + 1) 0
+lane_moved xs j h =
+    cc (get_or-map-range_with_len (λ k. get_or (xs ++ (replicate 32 0)) k 0) 1 32 j (j + 1) 0 h (omega arith), padded_at xs 32 (j + 1))
+
+-- lanes that are written over as many places
+put_all : (xs ys : List ℕ) → length xs ≡ length ys → put_chunk 0 xs ys ≡ ys
+put_all [] [] h = refl
+put_all [] (y ∷ ys) h = absurd (omega (arith, h))
+put_all (x ∷ xs) [] h = absurd (omega (arith, h))
+put_all (x ∷ xs) (y ∷ ys) h = ap (λ t. y ∷ t) (put_all xs ys (omega (arith, h)))
+
+pub put_in_zeros : (ys : List ℕ) → length ys ≡ 32 → put_chunk 0 (replicate 32 0) ys ≡ ys
+put_in_zeros ys h = put_all (replicate 32 0) ys (sym h)
+
+pub ruleset next_multiples = (fits_at, lane_xor, multiple_even, multiple_odd, common_steps)
 
 value_at-nothing : (a : ℕ) → value_at [] a ≡ 0
 unfolding value_at
@@ -138,3 +272,33 @@ rows_made divisor terms sixteenfold low high padded by_low by_sixteen by_high = 
 pub begun : (xs : List ℕ) → get_or xs 0 0 ≡ 1 → length xs ≡ length xs - 1 + 1
 begun [] first = absurd (omega (arith, first))
 begun (x ∷ xs) first = omega arith
+
+-- The code words of the two generators, computed.
+
+-- the number of the multiple that begins with the data
+abbrev factor : ℕ → ℕ → ℕ → ℕ → ℕ
+factor generator n degree data_bits = position_or_len (λ word. word / 2 ^ degree == data_bits) (multiples generator n)
+
+abbrev is_made : ℕ → ℕ → ℕ → ℕ → Bool
+is_made generator n degree data_bits =
+    nat_lt (factor generator n degree data_bits) (2 ^ n) &&
+    ((polynomial_product n (factor generator n degree data_bits) generator == code_word generator n degree data_bits) &&
+    (code_word generator n degree data_bits / 2 ^ degree == data_bits))
+
+abbrev is_only : ℕ → ℕ → ℕ → ℕ → Bool
+is_only generator n degree a =
+    polynomial_product n a generator == code_word generator n degree (polynomial_product n a generator / 2 ^ degree)
+
+one_multiple : (generator n degree data_bits : ℕ) → is_made generator n degree data_bits ≡ true →
+    ((a : ℕ) → a < 2 ^ n → is_only generator n degree a ≡ true) → HasOneMultiple generator n degree data_bits
+one_multiple generator n degree data_bits made only = grind (arith, common_steps, both, ltb-true, eqb-true)
+
+pub one_format_word : (data_bits : ℕ) → data_bits < 32 → HasOneFormatWord data_bits
+one_format_word data_bits h =
+    one_multiple 0x537 5 10 data_bits (passes (is_made 0x537 5 10) 0 32 data_bits (refl) (omega arith) (omega arith))
+    (λ a l. passes (is_only 0x537 5 10) 0 32 a (refl) (omega arith) l)
+
+pub one_version_word : (number : ℕ) → number < 64 → HasOneVersionWord number
+one_version_word number h =
+    one_multiple 0x1F25 6 12 number (passes (is_made 0x1F25 6 12) 0 64 number (refl) (omega arith) (omega arith))
+    (λ a l. passes (is_only 0x1F25 6 12) 0 64 a (refl) (omega arith) l)

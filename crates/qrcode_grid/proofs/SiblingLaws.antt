@@ -18,8 +18,8 @@ use Rattle.qrcode_grid.specs.Walk.{numbered_cell, timing_column}
 use Rattle.qrcode_grid.proofs.Areas.{is_some-functional_color}
 use Rattle.qrcode_grid.proofs.CellSteps.{length-map_places, get_or-map_places, at_place, cells_are}
 use Rattle.qrcode_grid.proofs.Drawn.{none_of}
-use Rattle.qrcode_grid.proofs.DrawnSymbols.{odd_width, timing_inside}
-use Rattle.qrcode_grid.proofs.WalkLaws.{numbered_cell_inside}
+use Rattle.qrcode_grid.proofs.WholeSymbols.{odd_width, timing_inside}
+use Rattle.qrcode_grid.proofs.Totals.{numbered_cell_inside}
 use Rattle.std.proofs.lemmas.Grind.{common_steps}
 use Rattle.std.proofs.lemmas.Bool.Decides.{nat_tests}
 

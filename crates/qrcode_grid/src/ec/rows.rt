@@ -21,7 +21,7 @@ fn doubled(v: u8x32) -> u8x32
 }
 
 /// A row of multiples, from the one by half the factor.
-#[tactic(auto, using(crate::proofs::RowLanes::next_multiples))]
+#[tactic(auto, using(crate::proofs::RowDivision::next_multiples))]
 fn next_multiple(half: u8x32, terms: u8x32, i: usize) -> u8x32
     requires lanes { (length half ≡ 32) × (length terms ≡ 32) }
     requires small { i < 16 }
@@ -58,7 +58,7 @@ pub fn sixteenfold(terms: u8x32) -> u8x32
 }
 
 /// The lanes moved up by one; a zero comes after the last.
-#[tactic(auto, using(crate::proofs::RowLanes::lane_moved))]
+#[tactic(auto, using(crate::proofs::RowDivision::lane_moved))]
 fn moved(lanes: u8x32) -> u8x32
     requires { length lanes ≡ 32 }
     ensures lanes { length result ≡ 32 }
@@ -128,7 +128,7 @@ fn remainder(body: &[u8], low: &[u8x32; 16], high: &[u8x32; 16]) -> u8x32
 }
 
 /// Lanes as bytes.
-#[tactic(auto, using(crate::proofs::RowLanes::put_in_zeros))]
+#[tactic(auto, using(crate::proofs::RowDivision::put_in_zeros))]
 fn bytes_of(lanes: u8x32) -> [u8; 32]
     requires { length lanes ≡ 32 }
     ensures { result ≡ lanes }

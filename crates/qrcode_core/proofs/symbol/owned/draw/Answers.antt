@@ -1,7 +1,7 @@
 -- The version of the codewords is a symbol's.
 use Rattle.std.proofs.Common.{arith}
 use Rattle.std.proofs.lemmas.Grind.{common_steps}
-use Rattle.qrcode_grid.proofs.SymbolVersions.{version_of_symbol}
+use Rattle.qrcode_grid.proofs.WholeSymbols.{version_of_symbol}
 use Rattle.qrcode_core.proofs.symbol.owned.draw.Goals as goal
 
 pub side-requires : goal.side-requires

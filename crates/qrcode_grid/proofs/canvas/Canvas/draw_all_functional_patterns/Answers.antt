@@ -1,7 +1,7 @@
 use Rattle.std.proofs.Common.{arith}
-use Rattle.qrcode_grid.proofs.SymbolVersions.{version_of_symbol}
+use Rattle.qrcode_grid.proofs.WholeSymbols.{version_of_symbol}
 use Rattle.qrcode_grid.proofs.GridLaws.{consistent_regions, has_its_alignments}
-use Rattle.qrcode_grid.proofs.WordLaws.{far_version_word}
+use Rattle.qrcode_grid.proofs.WrittenWords.{far_version_word}
 use Rattle.qrcode_grid.proofs.canvas.Canvas.draw_all_functional_patterns.Goals as goal
 use Rattle.std.proofs.lemmas.Grind.{common_steps}
 

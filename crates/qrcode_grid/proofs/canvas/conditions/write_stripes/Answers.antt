@@ -4,7 +4,7 @@ use Rattle.std.proofs.Math.Nat.{mul-le-mul_right}
 use Rattle.std.proofs.lemmas.Bool.{cases_lt}
 use Rattle.qrcode_grid.specs.Masks.{is_inverted}
 use Rattle.qrcode_grid.specs.Scoring.{pattern_of}
-use Rattle.qrcode_grid.proofs.Stripes.{is_inverted-repeats}
+use Rattle.qrcode_grid.proofs.Conditions.{is_inverted-repeats}
 use Rattle.qrcode_grid.proofs.canvas.conditions.write_stripes.Goals as goal
 
 pub loop-y-preserved : goal.loop-y-preserved

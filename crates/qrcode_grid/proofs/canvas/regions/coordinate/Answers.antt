@@ -1,5 +1,5 @@
 use Rattle.std.proofs.Common.{arith}
-use Rattle.qrcode_grid.proofs.AlignmentRows.{cells_inside}
+use Rattle.qrcode_grid.proofs.RegionRows.{cells_inside}
 use Rattle.qrcode_grid.proofs.canvas.regions.coordinate.Goals as goal
 
 pub returns-clause-inside : goal.returns-clause-inside

@@ -1,7 +1,6 @@
 use Rattle.std.proofs.Common.{leb, refl}
 use lib.ListN.{replicate}
-use Rattle.qrcode_grid.proofs.ByteLanes.{length_add, length_chosen}
-use Rattle.qrcode_grid.proofs.RowLanes.{fits_at, lane_doubled, length_xor}
+use Rattle.qrcode_grid.proofs.RowDivision.{length_add, length_chosen, fits_at, lane_doubled, length_xor}
 use Rattle.qrcode_grid.proofs.ec.rows.doubled.Goals as goal
 
 pub returns-clause-lanes : goal.returns-clause-lanes

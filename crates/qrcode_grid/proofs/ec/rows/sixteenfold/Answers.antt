@@ -1,5 +1,5 @@
 use Rattle.std.proofs.Common.{arith, arith}
-use Rattle.qrcode_grid.proofs.RowLanes.{fits_at, four_doublings}
+use Rattle.qrcode_grid.proofs.RowDivision.{fits_at, four_doublings}
 use Rattle.qrcode_grid.proofs.ec.rows.sixteenfold.Goals as goal
 use Rattle.std.proofs.lemmas.Grind.{common_steps}
 

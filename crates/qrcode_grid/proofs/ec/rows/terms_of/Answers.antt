@@ -2,7 +2,7 @@ use Rattle.std.proofs.Common.{◌≡◌, ◌+◌, ◌-◌, ℕ, ◌++◌, length
 use Rattle.std.proofs.lemmas.Simd.{get_or-chunk, length-chunk}
 use Rattle.std.proofs.lemmas.List.{get_or-drop, take_all, length-take, length-replicate}
 use lib.ListN.{replicate}
-use Rattle.qrcode_grid.proofs.RowLanes.{padded_at, drop-zeros}
+use Rattle.qrcode_grid.proofs.RowDivision.{padded_at, drop-zeros}
 use Rattle.qrcode_grid.proofs.ec.rows.terms_of.Goals as goal
 
 pub returns-clause-lanes : goal.returns-clause-lanes

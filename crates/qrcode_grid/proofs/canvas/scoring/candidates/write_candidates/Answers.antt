@@ -4,10 +4,8 @@ use Rattle.std.proofs.lemmas.Bool.{cases_lt}
 use Rattle.std.proofs.lemmas.List.{length-map}
 use Rattle.qrcode_grid.specs.Scoring.{byte_under, code_of, masked_code, plane, pattern_of}
 use Rattle.qrcode_grid.specs.Masks.{format_color, is_inverted}
-use Rattle.qrcode_grid.proofs.Conditions.{set_again}
+use Rattle.qrcode_grid.proofs.Conditions.{set_again, is_inverted-repeats_rows, candidate_is}
 use Rattle.qrcode_grid.proofs.MarkedLanes.{length-plane, plane_at}
-use Rattle.qrcode_grid.proofs.MaskedCodes.{candidate_is}
-use Rattle.qrcode_grid.proofs.Stripes.{is_inverted-repeats_rows}
 use Rattle.qrcode_grid.proofs.canvas.scoring.candidates.write_candidates.Goals as goal
 
 pub returns : goal.returns

@@ -1,5 +1,5 @@
 use Rattle.std.proofs.Common.{arith}
-use Rattle.qrcode_grid.proofs.BitCounts.{bit_count_le}
+use Rattle.qrcode_grid.proofs.MarkedLanes.{bit_count_le}
 use Rattle.qrcode_grid.proofs.canvas.scoring.counting.add_rows.Goals as goal
 
 pub returns-clause-small : goal.returns-clause-small

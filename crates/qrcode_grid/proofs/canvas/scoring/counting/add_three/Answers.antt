@@ -1,5 +1,5 @@
 use Rattle.std.proofs.Common.{arith}
-use Rattle.qrcode_grid.proofs.BitCounts.{length-sum, length-carry, three_rows}
+use Rattle.qrcode_grid.proofs.MarkedLanes.{length-sum, length-carry, three_rows}
 use Rattle.qrcode_grid.proofs.canvas.scoring.counting.add_three.Goals as goal
 use Rattle.std.proofs.lemmas.Grind.{common_steps}
 

@@ -1,5 +1,5 @@
 use Rattle.std.proofs.Common.{arith}
-use Rattle.qrcode_grid.proofs.BitCounts.{shifted_one, bits_in_mask, bit_count_le}
+use Rattle.qrcode_grid.proofs.MarkedLanes.{shifted_one, bits_in_mask, bit_count_le}
 use Rattle.qrcode_grid.proofs.canvas.scoring.counting.count_bit.Goals as goal
 
 pub returns-clause-is : goal.returns-clause-is

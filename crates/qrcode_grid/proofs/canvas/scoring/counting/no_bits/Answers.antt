@@ -1,6 +1,6 @@
 use Rattle.std.proofs.Common.{ℕ, arith}
 use Rattle.std.proofs.lemmas.Simd.{get_or-replicate}
-use Rattle.qrcode_grid.proofs.BitCounts.{no_bit}
+use Rattle.qrcode_grid.proofs.MarkedLanes.{no_bit}
 use Rattle.qrcode_grid.proofs.canvas.scoring.counting.no_bits.Goals as goal
 
 pub returns-clause-none : goal.returns-clause-none

@@ -1,7 +1,7 @@
 use Rattle.std.proofs.Common.{◌+◌, arith}
 use Rattle.qrcode_grid.specs.Scoring.{has_five, places, plane, cell}
 use Rattle.std.proofs.Common.{◌==◌}
-use Rattle.qrcode_grid.proofs.Tallies.{count_both_le}
+use Rattle.qrcode_grid.proofs.MarkedLanes.{count_both_le}
 use Rattle.qrcode_grid.proofs.canvas.scoring.penalties.penalties_of_columns.Goals as goal
 
 pub weighed-requires-clause-fewer : goal.weighed-requires-clause-fewer
