@@ -5,7 +5,7 @@ use Rattle.std.proofs.lemmas.Bool.{cases_lt}
 use Rattle.std.proofs.lemmas.Nat.Bits.{bit_at-zero}
 use Rattle.qrcode_grid.specs.Scoring.{stride}
 use Rattle.qrcode_grid.proofs.MarkedLanes.{plane_at}
-use Rattle.qrcode_grid.proofs.PaddedLines.{row_before}
+use Rattle.qrcode_grid.proofs.PaddedCounts.{row_before}
 use Rattle.qrcode_grid.proofs.canvas.scoring.lists.write_edges.Goals as goal
 
 pub loop-y-init : goal.loop-y-init

@@ -3,7 +3,7 @@ use Rattle.std.proofs.Math.Nat.{mul-le-mul_right, add-mul}
 use Rattle.std.proofs.lemmas.Bool.{cases_lt}
 use Rattle.std.proofs.lemmas.Simd.{length-chunk, get_or-chunk}
 use Rattle.qrcode_grid.specs.Scoring.{stride}
-use Rattle.qrcode_grid.proofs.PaddedLines.{row_before}
+use Rattle.qrcode_grid.proofs.PaddedCounts.{row_before}
 use Rattle.qrcode_grid.proofs.canvas.scoring.lists.write_padded.Goals as goal
 
 pub loop-y-preserved : goal.loop-y-preserved
