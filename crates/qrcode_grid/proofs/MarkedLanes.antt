@@ -127,10 +127,7 @@ count_below_le p (suc n) = omega (arith, count_below_le p n, one (p n))
 
 -- the places of a symbol's chunks are few
 pub count_few : (p : ℕ → Bool) (w chunk : ℕ) → w ≤ 177 → chunk ≤ (w * (w + 4) + 255) / 256 → count_below p (256 * chunk) ≤ 40000
-count_few p w chunk wide h =
-    let side : w + 4 ≤ 181 = omega (arith, wide) in
-    let area : w * (w + 4) ≤ 177 * (w + 4) = mul-le-mul_right (w + 4) wide in
-    omega (arith, count_below_le p (256 * chunk), area, side, h)
+count_few p w chunk wide h = grind (arith, mul-le-mul_right, count_below_le)
 
 fewer : (a b : Bool) → cond (a && b) 1 0 ≤ cond a 1 0
 fewer a b = grind (arith, common_steps)
@@ -223,3 +220,7 @@ chunk_lane bytes lanes rest at j l within h =
     grind (arith, nat_tests, length-take-le, length-drop, get_or-append-add, get_or_append_left, length-put_chunk, get_or-put_chunk_at)
 
 pub ruleset dark_marks = (marks_as, marks_dark, common_steps)
+
+pub ruleset bits_gone = (no_bit, get_or-replicate)
+
+pub ruleset three_sums = (length-carry, length-sum, three_rows, common_steps)

@@ -121,8 +121,7 @@ module _ (line edges padded : List ℕ) (n step : ℕ) (at from : ℕ → ℕ) (
     (on : (t : ℕ) → t < n + 4 → get_or edges (at t) 0 ≡ cond (edge line t) 1 0)
     (lit : (t : ℕ) → t < n + 8 → get_or padded (from t) 0 ≡ get_or (quiet line) t 0) where
   edge_here : (j i k : ℕ) → j < n → i ≤ 4 → j + i ≡ k → (cell step edges (at j) i == 1) ≡ edge line k
-  edge_here j i k h l e =
-      ap (λ m. m == 1) (ap (λ p. get_or edges p 0) (next j i) ∙ on (j + i) (omega (arith, h, l))) ∙ one_is (edge line (j + i)) ∙ ap (edge line) e
+  edge_here j i k h l e = grind (arith, one_is, edge)
 
   five_here : (j : ℕ) → j < n → has_five step edges (at j) ≡ five_of line j
   five_here j h = grind (arith, and_same, edge_here)
@@ -234,12 +233,10 @@ module _ (w step columns rows : ℕ) (padded edges : List ℕ) (are : AreEdges w
   no_edge_below k h = are.below k (omega (arith, h, mul-le-mul_right (stride w) r))
 
   pub fives_by_rows : count_below (has_five step edges) (places w) ≡ sum_below (λ y. count_below (λ x. has_five step edges (y * stride w + x)) w) w
-  fives_by_rows =
-      over_rows w (has_five step edges) (λ x y h l hy. no_five step edges (y * stride w + x) (no_edge_beside x y h l hy)) (λ k h. no_five step edges k (no_edge_below k h))
+  fives_by_rows = grind (arith, over_rows, no_five, no_edge_beside, no_edge_below)
 
   pub sixes_by_rows : count_below (has_six step edges) (places w) ≡ sum_below (λ y. count_below (λ x. has_six step edges (y * stride w + x)) w) w
-  sixes_by_rows =
-      over_rows w (has_six step edges) (λ x y h l hy. no_six step edges (y * stride w + x) (no_edge_beside x y h l hy)) (λ k h. no_six step edges k (no_edge_below k h))
+  sixes_by_rows = grind (arith, over_rows, no_six, no_edge_beside, no_edge_below)
 
 module _ (w : ℕ) (cells padded : List ℕ) (is : IsPadded w cells padded) (square : length cells ≡ w * w) where
   abbrev s : ℕ

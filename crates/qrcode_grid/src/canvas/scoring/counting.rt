@@ -8,6 +8,7 @@ use std::simd::prelude::*;
 
 /// The sum and the carry of three bits, at each bit.
 #[inline(always)]
+#[tactic(auto, using(crate::proofs::MarkedLanes::three_sums))]
 fn add_three(a: u8x16, b: u8x16, c: u8x16) -> (u8x16, u8x16)
     requires lanes { (length a ≡ 16) × (length b ≡ 16) × (length c ≡ 16) }
     ensures lanes { (length result.0 ≡ 16) × (length result.1 ≡ 16) }
@@ -38,6 +39,7 @@ fn add_four(ones: u8x16, twos: u8x16, rows: &[u8x16; 16], from: usize) -> (u8x16
 
 /// No bit was set.
 #[inline(always)]
+#[tactic(auto, using(crate::proofs::MarkedLanes::bits_gone))]
 pub fn no_bits() -> Tally
     ensures none { (m : ℕ) → m < 8 → tallied m result ≡ 0 }
     ensures small { (m : ℕ) → m < 8 → slice_index result.sums m ≡ 0 }
@@ -105,6 +107,7 @@ fn add_counts(sums: &mut [usize; 8], lanes: u8x16)
 
 /// Sixteen rows of lanes more.
 #[inline(always)]
+#[tactic(auto, using(crate::proofs::MarkedLanes::bit_count_le))]
 pub fn add_rows(tally: Tally, rows: &[u8x16; 16]) -> Tally
     requires rows { (i : ℕ) → i < 16 → length (slice_index_or rows.now i []) ≡ 16 }
     requires room { (m : ℕ) → m < 8 → slice_index tally.sums m ≤ 1000000 }
