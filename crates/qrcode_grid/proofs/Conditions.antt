@@ -1,9 +1,9 @@
 -- The table of the conditions of eight masks.
-use Rattle.std.proofs.Common.{◌≡◌, ℕ, zero, suc, ◌+◌, ◌/◌, ◌%◌, ◌<◌, ◌==◌, eqb, Bool, true, false, cond, min, [], get_or, refl, ap, arith, List, map, length, Option, Some, None, ◌∙◌, sym}
+use Rattle.std.proofs.Common.{◌≡◌, ℕ, ◌+◌, ◌/◌, ◌%◌, ◌<◌, ◌==◌, eqb, Bool, cond, min, [], get_or, refl, ap, arith, List, map, length, Option, ◌∙◌, sym}
 use Rattle.std.specs.Int.{bit_at}
-use Rattle.qrcode_base.specs.declared.types.Color.TheVariants.{Light, Dark}
+use Rattle.qrcode_base.specs.declared.types.Color.TheVariants.{Light}
 use Rattle.qrcode_grid.specs.declared.canvas.Module.{Module}
-use Rattle.qrcode_grid.specs.declared.canvas.Module.TheVariants.{Empty, Masked, Unmasked}
+use Rattle.qrcode_grid.specs.declared.canvas.Module.TheVariants.{Empty}
 use Rattle.qrcode_grid.specs.declared.canvas.conditions.TheConstants.{CONDITIONS}
 use Rattle.qrcode_grid.specs.Scoring.{code_of, masked_code, pattern_of, byte_under}
 use Rattle.qrcode_grid.specs.Masks.{is_inverted, drawn_over, format_color, masked, masked_cell, masked_cells}
@@ -29,21 +29,10 @@ condition_at m k y hm hk hy =
     (passes_below-at (λ i. passes_below 8 (is_right y i)) 6 k (passes_below-at (λ j. passes_below 6 (λ i. passes_below 8 (is_right j i))) 12 y (refl) hy) hk) hm)
 
 pub set_again : (b : Bool) (n : ℕ) → n ≡ cond b 1 0 → (n == 1) ≡ b
-set_again true n e = ap (λ k. k == 1) e
-set_again false n e = ap (λ k. k == 1) e
+set_again b n h = grind (arith)
 
 pub bits_masked : (old : Module) (b : ℕ) → b < 2 → (cond (code_of old % 2 == 1) 1 0 + min (cond (code_of old / 2 == 1) 1 0) b) % 2 ≡ masked_code (code_of old) (b == 1)
-bits_masked Empty zero h = refl
-bits_masked Empty (suc zero) h = refl
-bits_masked (Masked Light) zero h = refl
-bits_masked (Masked Light) (suc zero) h = refl
-bits_masked (Masked Dark) zero h = refl
-bits_masked (Masked Dark) (suc zero) h = refl
-bits_masked (Unmasked Light) zero h = refl
-bits_masked (Unmasked Light) (suc zero) h = refl
-bits_masked (Unmasked Dark) zero h = refl
-bits_masked (Unmasked Dark) (suc zero) h = refl
-bits_masked old (suc (suc b)) h = absurd (omega (arith, h))
+bits_masked old b h = grind (arith)
 
 -- Each row of a mask pattern repeats after six cells.
 
@@ -57,8 +46,7 @@ is_inverted-repeats_rows pattern x y = grind (arith, common_steps, mul_comm, mul
 -- Modules as bytes, masked and formatted.
 
 drawn_byte : (o : Option Color) (b : Bool) (m : Module) → byte_under o (masked_code (code_of m) b) ≡ byte_of (color_of_module (drawn_over o (masked b m)))
-drawn_byte (Some c) b m = refl
-drawn_byte None b m = grind (arith, common_steps)
+drawn_byte o b m = grind (arith)
 
 abbrev pub candidate_byte : Version → ℕ → ℕ → MaskPattern → List ℕ → ℕ → ℕ
 candidate_byte version w format pattern codes k =

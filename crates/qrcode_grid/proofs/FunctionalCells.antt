@@ -65,10 +65,7 @@ total-none f (suc n) h = omega (arith, total-none f n h, h n)
 
 -- where the version is one of the 44, both tests are the same
 same_test : (version : Version) (x y : ℕ) → IsVersion version → is_functional_at version (width_of version) x y ≡ is_functional_cell version x y
-same_test (Normal (pos n)) x y h = grind (arith, common_steps)
-same_test (Normal (negsuc n)) x y h = absurd h
-same_test (Micro (pos n)) x y h = refl
-same_test (Micro (negsuc n)) x y h = absurd h
+same_test version x y h = grind (arith)
 
 on_timing : (version : Version) (y : ℕ) → IsVersion version → is_functional_cell version (timing_column version) y ≡ true
 on_timing (Normal (pos n)) y h = refl

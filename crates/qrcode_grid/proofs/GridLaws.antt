@@ -1,9 +1,8 @@
 -- The laws of the regions, of the alignment patterns and of the walk.
-use Rattle.std.proofs.Common.{◌≡◌, ◌≢◌, ℕ, pos, negsuc, ◌+◌, ◌-◌, ◌*◌, ◌/◌, ◌%◌, ◌<◌, ◌≤◌, ◌==◌, ◌&&◌, ◌||◌, nat_le, nat_lt, Bool, true, false, Option, Some, None, unwrap_or, ap, subst, refl, arith}
+use Rattle.std.proofs.Common.{◌≡◌, ◌≢◌, ℕ, ◌+◌, ◌-◌, ◌*◌, ◌/◌, ◌%◌, ◌<◌, ◌≤◌, ◌==◌, ◌&&◌, ◌||◌, nat_le, nat_lt, Bool, true, false, Option, Some, unwrap_or, subst, refl, arith}
 use Rattle.std.specs.Int.{abs_diff}
 use Rattle.std.proofs.lemmas.Bool.{eqb-true, leb-true, ltb-true}
 use Rattle.qrcode_base.specs.declared.types.Version.{Version}
-use Rattle.qrcode_base.specs.declared.types.Version.TheVariants.{Normal, Micro}
 use Rattle.qrcode_base.specs.Symbols.{IsVersion, width_of}
 use Rattle.qrcode_grid.specs.Regions.{near, alignment, alignments, alignment_count, alignment_step, alignment_coordinate, alignment_coordinates, is_at_finder, ring}
 use Rattle.qrcode_grid.specs.Walk.{timing_column}
@@ -27,8 +26,7 @@ near_test : all_pass are_near_their_own 0 41 ≡ true
 near_test = refl
 
 some_of : (o : Option ℕ) (c : ℕ) → unwrap_or o 0 ≡ c → 6 ≤ c → o ≡ Some c
-some_of None c e h = absurd (omega (arith, e))
-some_of (Some x) c e h = ap Some e
+some_of o c h l = grind (arith)
 
 around : (c x : ℕ) → 6 ≤ c → abs_diff c x ≤ 2 → c + (x + 2 - c) - 2 ≡ x
 around c x six close = omega (arith, close)
@@ -78,9 +76,7 @@ has_every_alignment n low high =
 
 pub has_its_alignments : (version : Version) → IsVersion version → HasItsAlignments version
 unfolding HasItsAlignments
-has_its_alignments (Normal (pos n)) h = has_every_alignment n h.0 h.1
-has_its_alignments (Normal (negsuc n)) h = tt
-has_its_alignments (Micro z) h = tt
+has_its_alignments version h = grind (arith, has_every_alignment)
 
 pub consistent_regions : (version : Version) → IsVersion version → AreConsistentRegions version
 consistent_regions version h = record { areas = λ format x y l m. is_some-functional_color version format x y h l m; agree = λ format x y l m. regions_say version format x y h l m }

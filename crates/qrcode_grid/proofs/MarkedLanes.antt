@@ -156,17 +156,10 @@ pub marks_as : (a : List ℕ) (p q : ℕ → ℕ → Bool) → ((m j : ℕ) → 
 marks_as a p q e ma = record { whole = ma.whole; bits = λ m j hm hj. ma.bits m j hm hj ∙ ap (λ t. cond t 1 0) (e m j) }
 
 none_is : (b : ℕ) → b < 2 → 1 - b ≡ cond (b == 0) 1 0
-none_is zero h = refl
-none_is (suc zero) h = refl
-none_is (suc (suc b)) h = absurd (omega (arith, h))
+none_is b h = grind (arith)
 
 same_is : (a b : ℕ) → a < 2 → b < 2 → (a + (1 - b)) % 2 ≡ cond (a == b) 1 0
-same_is zero zero h l = refl
-same_is zero (suc zero) h l = refl
-same_is (suc zero) zero h l = refl
-same_is (suc zero) (suc zero) h l = refl
-same_is (suc (suc a)) b h l = absurd (omega (arith, h))
-same_is a (suc (suc b)) h l = absurd (omega (arith, l))
+same_is a b h l = grind (arith)
 
 -- a bit of a lane that was loaded
 loaded_at : (bytes : List ℕ) (at m j : ℕ) → j < 16 → bit_at (get_or (chunk at 16 bytes) j 0) m ≡ get_or (plane m bytes) (at + j) 0

@@ -1,5 +1,5 @@
 -- Regions that say nothing, and what regions say together.
-use Rattle.std.proofs.Common.{◌≡◌, ◌-◌, ◌≤◌, zero, suc, ℕ, ℤ, pos, negsuc, nat_abs, subst, ◌<◌, ◌+◌, ◌*◌, ap, refl, arith, false, nat_lt, nat_le, ◌==◌, ◌&&◌, ◌||◌, ◌≢◌, Option, None, [], ◌∷◌, get_or, ◌/◌, List, map, sym, ◌∙◌, leb, cond, inl, inr, Bool, true, Some}
+use Rattle.std.proofs.Common.{◌≡◌, ◌-◌, ◌≤◌, zero, suc, ℕ, ℤ, nat_abs, ◌<◌, ◌+◌, ◌*◌, ap, refl, arith, false, nat_lt, nat_le, ◌==◌, ◌&&◌, ◌||◌, ◌≢◌, Option, None, [], ◌∷◌, get_or, ◌/◌, List, map, sym, ◌∙◌, leb, cond, inl, inr, Bool, true}
 use Rattle.std.proofs.lemmas.Bool.Decides.{nat_tests}
 use Rattle.qrcode_base.specs.declared.types.Color.{Color}
 use Rattle.qrcode_base.specs.declared.types.Version.{Version}
@@ -40,9 +40,7 @@ pub no_version_below : (n x y : ℕ) → 7 ≤ n → 4 * n + 17 ≤ y + 8 → ve
 no_version_below n x y some low = no_version_cell n x y (grind (arith, nat_tests, low)) (grind (arith, nat_tests, some, low))
 
 pub no_alignments : (n w x y : ℕ) → n < 2 → alignments w (alignment_coordinates n) x y ≡ None
-no_alignments zero w x y h = refl
-no_alignments (suc zero) w x y h = refl
-no_alignments (suc (suc n)) w x y h = absurd (omega arith)
+no_alignments n w x y h = grind (arith)
 
 -- the cells in which no timing pattern lies
 no_timing : (line from to x y : ℕ) → ((y == line && nat_le from x && nat_le x to) || (x == line && nat_le from y && nat_le y to)) ≡ false → timing line from to x y ≡ None
@@ -74,13 +72,11 @@ drawn_nine a b c d e f g h i m = grind (arith, common_steps, drawn_three)
 -- the regions of a version, with its number and its width as the code has them
 pub normal_regions_are : (version : Version) (z : ℤ) (k format x y w : ℕ) → version ≡ Normal z → IsVersion version → w ≡ width_of version → k ≡ nat_abs z →
     first_some (normal_regions k w format x y) ≡ functional_color version format x y
-normal_regions_are version (pos n) k format x y w e v wide is = grind (arith, common_steps)
-normal_regions_are version (negsuc n) k format x y w e v wide is = absurd (subst IsVersion e v)
+normal_regions_are version z k format x y w h l m e = grind (arith)
 
 pub micro_regions_are : (version : Version) (z : ℤ) (format x y w : ℕ) → version ≡ Micro z → IsVersion version → w ≡ width_of version →
     first_some (micro_regions w format x y) ≡ functional_color version format x y
-micro_regions_are version (pos n) format x y w e v wide = grind (arith, common_steps)
-micro_regions_are version (negsuc n) format x y w e v wide = absurd (subst IsVersion e v)
+micro_regions_are version z format x y w h l m = grind (arith)
 
 -- Steps of the loops that look a region up.
 
@@ -141,8 +137,7 @@ far_from_all f x c zero k e far = let none : c - k ≡ 0 = omega arith in ap (λ
 far_from_all f x c (suc m) k e far = grind (arith, common_steps, near_more, far_from_all f x c m (k + 1) (omega arith) far)
 
 before_far : (n k i x : ℕ) → n ≤ 40 → k ≤ alignment_count n → i < k → behind n k ≤ x → 2 < abs_diff (alignment_coordinate n i) x
-before_far n zero i x high within order low = absurd (omega arith)
-before_far n (suc k) i x high within order low = grind (arith, common_steps, apart)
+before_far n k i x h l m e = grind (arith, apart)
 
 all_from_zero : (n x : ℕ) → near (map (alignment_coordinate n) (range_with_len 0 (alignment_count n - 0))) x ≡ None → near (alignment_coordinates n) x ≡ None
 all_from_zero n x e = let all : alignment_count n ≡ alignment_count n - 0 = omega arith in ap (λ m. near (map (alignment_coordinate n) (range_with_len 0 m)) x) all ∙ e
@@ -161,17 +156,13 @@ none_behind n x high low =
     all_from_zero n x (far_from_all (alignment_coordinate n) x (alignment_count n) (alignment_count n) 0 (omega arith) (λ i inside. before_far n (alignment_count n) i x high (omega arith) inside low))
 
 pub behind_before : (n k : ℕ) → n ≤ 40 → k < alignment_count n → behind n k + 2 ≤ alignment_coordinate n k
-behind_before n zero high within = omega (arith, (cells_inside n zero high within).0)
-behind_before n (suc k) high within = omega (arith, apart n k (suc k) high (omega arith) within)
+behind_before n k h l = grind (arith, cells_inside, apart)
 
 pub no_pattern : (w : ℕ) (o p : Option ℕ) (x y : ℕ) → o ≡ None → pattern_at w o p x y ≡ None
-no_pattern w o None x y e = ap (λ t. pattern_at w t None x y) e
-no_pattern w o (Some c) x y e = ap (λ t. pattern_at w t (Some c) x y) e
+no_pattern w o p x y h = grind (arith)
 
 pub no_pattern_row : (w : ℕ) (o p : Option ℕ) (x y : ℕ) → p ≡ None → pattern_at w o p x y ≡ None
-no_pattern_row w None p x y e = ap (λ t. pattern_at w None t x y) e
-no_pattern_row w (Some c) p x y e = ap (λ t. pattern_at w (Some c) t x y) e
+no_pattern_row w o p x y h = grind (arith)
 
 pub behind_within : (n k : ℕ) → n ≤ 40 → k ≤ alignment_count n → behind n k ≤ 4 * n + 17
-behind_within n zero high within = omega arith
-behind_within n (suc k) high within = (cells_inside n k high (omega arith)).1
+behind_within n k h l = grind (arith, cells_inside)

@@ -21,9 +21,7 @@ Agree a b = (c d : Color) → a ≡ Some c → b ≡ Some d → c ≡ d
 
 -- two regions that never both say something
 apart_agree : (a b : Option Color) (s t : Bool) → is_some a ≡ s → is_some b ≡ t → (s && t) ≡ false → Agree a b
-apart_agree None b s t p q e c d ea eb = cc
-apart_agree (Some x) None s t p q e c d ea eb = cc
-apart_agree (Some x) (Some z) s t p q e c d ea eb = absurd (false≢true (sym (ap (λ u. true && u) q ∙ ap (λ u. u && t) p ∙ e)))
+apart_agree a0 a1 a2 a3 a4 a5 a6 a7 a8 a9 a10 = grind (arith, false≢true)
 
 abbrev EachAgrees : Option Color → List (Option Color) → Type 0
 EachAgrees r [] = Unit {0}
@@ -52,8 +50,7 @@ all_say (None ∷ rs) h = All-cons (Says (first_some rs)) None rs tt (all_say rs
 all_say (Some c ∷ rs) h = All-cons (Says (first_some (Some c ∷ rs))) (Some c) rs (fold_some c rs) (each_says (first_some (Some c ∷ rs)) c (fold_some c rs) rs h.0)
 
 and_false : (b : Bool) → (b && false) ≡ false
-and_false true = refl
-and_false false = refl
+and_false b = grind (arith)
 
 -- the copies of the version word
 abbrev copy_test : ℕ → ℕ → ℕ → Bool
@@ -81,9 +78,7 @@ Apart [] = Unit {0}
 Apart (t ∷ ts) = ((t && any ts) ≡ false) × Apart ts
 
 and_or : (s t u : Bool) → (s && (t || u)) ≡ false → ((s && t) ≡ false) × ((s && u) ≡ false)
-and_or false t u e = (refl, refl)
-and_or true true u e = (e, absurd (false≢true (sym e)))
-and_or true false u e = (refl, e)
+and_or s t u h = grind (arith, false≢true)
 
 each_apart : (s : Bool) (a : Option Color) (ts : List Bool) (rs : List (Option Color)) → is_some a ≡ s → Tested ts rs → (s && any ts) ≡ false → EachAgrees a rs
 each_apart s a ts [] p q e = tt
@@ -144,8 +139,7 @@ strip_at n k j low high h i =
     passes (strip_clear n k) 0 11 j (passes (λ k. all_pass (strip_clear n k) 0 11) 0 9 k (passes strips_clear 1 40 n (refl) low (omega arith)) (omega arith) (omega arith)) (omega arith) (omega arith)
 
 not_true : (b : Bool) → not b ≡ true → b ≡ false
-not_true true e = absurd (false≢true e)
-not_true false e = refl
+not_true b h = grind (arith, false≢true)
 
 abbrev Clear : ℕ → ℕ → ℕ → Type 0
 Clear n x y = (is_some (alignments (4 * n + 17) (alignment_coordinates n) x y) && meets_word n x y) ≡ false
@@ -178,9 +172,7 @@ agree (Some Light) (Some Dark) = false
 agree a b = true
 
 agree-sound : (a b : Option Color) → agree a b ≡ true → Agree a b
-agree-sound (Some Dark) (Some Light) h c d e f = absurd (false≢true h)
-agree-sound (Some Light) (Some Dark) h c d e f = absurd (false≢true h)
-agree-sound a b h c d e f = cc
+agree-sound a0 a1 a2 a3 a4 a5 a6 = grind (arith, false≢true)
 
 abbrev timing_agrees : ℕ → ℕ → ℕ → Bool
 timing_agrees n x y = agree (timing 6 8 (4 * n + 17 - 9) x y) (alignments (4 * n + 17) (alignment_coordinates n) x y)

@@ -270,8 +270,7 @@ rows_made divisor terms sixteenfold low high padded by_low by_sixteen by_high = 
 
 -- a list that begins with one is not empty
 pub begun : (xs : List ℕ) → get_or xs 0 0 ≡ 1 → length xs ≡ length xs - 1 + 1
-begun [] first = absurd (omega (arith, first))
-begun (x ∷ xs) first = omega arith
+begun xs h = grind (arith, common_steps)
 
 -- The code words of the two generators, computed.
 

@@ -5,7 +5,7 @@ use Rattle.std.proofs.lemmas.Bool.{false≢true}
 use Rattle.std.proofs.lemmas.Nat.{mul-add-lt}
 use Rattle.std.proofs.lemmas.Option.{slice_get-get_or, get_or_from_slice_get}
 use Rattle.qrcode_base.specs.declared.types.Color.{Color}
-use Rattle.qrcode_base.specs.declared.types.Color.TheVariants.{Light, Dark}
+use Rattle.qrcode_base.specs.declared.types.Color.TheVariants.{Light}
 use Rattle.qrcode_base.specs.declared.types.EcLevel.{EcLevel}
 use Rattle.qrcode_base.specs.declared.types.Version.{Version}
 use Rattle.qrcode_base.specs.Symbols.{IsVersion, width_of}
@@ -24,9 +24,7 @@ use Rattle.std.proofs.lemmas.Grind.{common_steps}
 use Rattle.std.proofs.lemmas.Bool.Decides.{nat_tests}
 
 twice : (b : Bool) (c : Color) → inverted_if b (inverted_if b c) ≡ c
-twice true Light = refl
-twice true Dark = refl
-twice false c = refl
+twice b c = grind (arith)
 
 -- cells that pass a test are mapped alike where both functions agree on them
 map-passing : {X Y : Type 0} (p : X → Bool) (f g : X → Y) (at : ℕ → X) (a n : ℕ) →
@@ -37,8 +35,7 @@ map-passing p f g at a (suc n) same =
     grind (arith, common_steps, map-passing p f g at (a + 1) n (λ k low high. same k (omega arith) (omega arith)))
 
 not_functional : (b : Bool) → not b ≡ true → b ≡ false
-not_functional true e = absurd (false≢true e)
-not_functional false e = refl
+not_functional b h = grind (arith, false≢true)
 
 cell_at-map_cells : {X : Type 0} (w : ℕ) (f : ℕ → ℕ → X → X) (xs : List X) (d : X) (x y : ℕ) → length xs ≡ w * w → x < w → y < w →
     get_or (map_cells w f xs) (y * w + x) d ≡ f x y (get_or xs (y * w + x) d)

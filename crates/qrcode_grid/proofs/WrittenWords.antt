@@ -9,12 +9,10 @@ use Rattle.qrcode_grid.specs.Words.{digit, digit_color, normal_format_word, micr
 use Rattle.qrcode_grid.proofs.CellSteps.{column_of_place, row_of_place, cell_within}
 use Rattle.std.proofs.lemmas.Grind.{common_steps}
 use Rattle.qrcode_base.specs.declared.types.EcLevel.{EcLevel}
-use Rattle.qrcode_base.specs.declared.types.EcLevel.TheVariants.{L, M, Q, H}
 use Rattle.qrcode_base.specs.declared.types.Version.{Version}
 use Rattle.qrcode_base.specs.declared.types.Version.TheVariants.{Normal, Micro}
 use Rattle.qrcode_base.specs.Symbols.{IsVersion}
 use Rattle.qrcode_grid.specs.declared.canvas.MaskPattern.{MaskPattern}
-use Rattle.qrcode_grid.specs.declared.canvas.MaskPattern.TheVariants.{Checkerboard, HorizontalLines, VerticalLines, DiagonalLines, LargeCheckerboard, Fields, Diamonds, Meadow}
 use Rattle.qrcode_grid.specs.Masks.{level_number, normal_number, micro_number, symbol_number}
 use Rattle.qrcode_grid.specs.Laws.{IsFarFormatWord, IsFarVersionWord}
 use Rattle.qrcode_grid.proofs.Distances.{normal_format_words_differ, micro_format_words_differ, version_words_differ}
@@ -26,8 +24,7 @@ differs : (a b : ℕ) → a ≢ b → (a == b) ≡ false
 differs a b h = grind (arith, nat_tests)
 
 and_false : (t : Bool) → (t && false) ≡ false
-and_false true = refl
-and_false false = refl
+and_false t = grind (arith)
 
 digit_here : (p : ℕ × ℕ) (rest : List (ℕ × ℕ)) (x y : ℕ) → x ≡ p.0 → y ≡ p.1 → digit_at (p ∷ rest) x y ≡ Some (length rest)
 digit_here p rest x y e f = grind (arith, common_steps, equal)
@@ -108,44 +105,21 @@ dark_written over none w d now v wide long is x y l m =
 -- what the first of three says is drawn last
 pub over_three : {X : Type 0} (over : Option Color → X → X) → ((c : Color) (a b : X) → over (Some c) a ≡ over (Some c) b) → ((b : X) → over None b ≡ b) →
     (o p q : Option Color) (b : X) → over (first_some (o ∷ p ∷ q ∷ [])) b ≡ over o (over p (over q b))
-over_three over kept none (Some c) p q b = kept c b (over p (over q b))
-over_three over kept none None (Some c) q b = kept c b (over q b) ∙ sym (none (over (Some c) (over q b)))
-over_three over kept none None None (Some c) b = sym (none (over None (over (Some c) b)) ∙ none (over (Some c) b))
-over_three over kept none None None None b = sym (none (over None (over None b)) ∙ none (over None b))
+over_three over h l o p q b = grind (arith)
 
 -- The words that are drawn differ in many digits from all others.
 
 level_small : (level : EcLevel) → level_number level < 4
-level_small L = omega arith
-level_small M = omega arith
-level_small Q = omega arith
-level_small H = omega arith
+level_small level = grind (arith)
 
 normal_small : (pattern : MaskPattern) → normal_number pattern < 8
-normal_small Checkerboard = omega arith
-normal_small HorizontalLines = omega arith
-normal_small VerticalLines = omega arith
-normal_small DiagonalLines = omega arith
-normal_small LargeCheckerboard = omega arith
-normal_small Fields = omega arith
-normal_small Diamonds = omega arith
-normal_small Meadow = omega arith
+normal_small pattern = grind (arith)
 
 micro_small : (pattern : MaskPattern) → unwrap_or (micro_number pattern) 0 < 4
-micro_small Checkerboard = omega arith
-micro_small HorizontalLines = omega arith
-micro_small VerticalLines = omega arith
-micro_small DiagonalLines = omega arith
-micro_small LargeCheckerboard = omega arith
-micro_small Fields = omega arith
-micro_small Diamonds = omega arith
-micro_small Meadow = omega arith
+micro_small pattern = grind (arith)
 
 symbol_small : (n : ℕ) (level : EcLevel) → n ≤ 4 → symbol_number n level < 8
-symbol_small n L h = grind arith
-symbol_small n M h = omega arith
-symbol_small n Q h = omega arith
-symbol_small n H h = omega arith
+symbol_small n level h = grind (arith)
 
 normal_far : (a b : ℕ) → a < 32 → b < 32 → a ≢ b → 7 ≤ differing_digits 15 (normal_format_word a) (normal_format_word b)
 normal_far a b ha hb ne =
