@@ -13,7 +13,7 @@ use Rattle.qrcode_core.specs.Reader.{Reading, Carries, Reads}
 use Rattle.qrcode_core.specs.Headline.{CarriesApart, HasBlocksApart}
 use Rattle.qrcode_grid.proofs.Distances.{AreBytes-block_in, length-block_in}
 use Rattle.qrcode_grid.proofs.Distance.{distance-sound}
-use Rattle.qrcode_grid.proofs.Layouts.{IsUsable-of_symbol}
+use Rattle.qrcode_grid.proofs.WholeSymbols.{IsUsable-of_symbol}
 
 -- Every grid that carries bits has blocks that are apart from other sound lists.
 pub carries_apart : (grid : List Color) (version : Version) (level : EcLevel) (mask : MaskPattern) (bits : List Bool)

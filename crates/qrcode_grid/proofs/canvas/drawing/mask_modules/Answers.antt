@@ -3,8 +3,7 @@ use Rattle.std.proofs.Math.Nat.{mul-le-mul_right}
 use Rattle.qrcode_grid.specs.Masks.{is_inverted, masked}
 use Rattle.qrcode_grid.proofs.CellSteps.{ChangedBelow, changed_set, at_place, cell_within}
 use Rattle.qrcode_grid.specs.Scoring.{pattern_of}
-use Rattle.qrcode_grid.proofs.Conditions.{set_again, is_inverted-repeats_rows}
-use Rattle.qrcode_grid.proofs.MaskNumbers.{pattern_of-number}
+use Rattle.qrcode_grid.proofs.Conditions.{set_again, is_inverted-repeats_rows, pattern_of-number}
 use Rattle.qrcode_grid.specs.declared.canvas.Module.TheVariants.{Empty}
 use Rattle.qrcode_grid.proofs.canvas.drawing.mask_modules.Goals as goal
 
