@@ -11,8 +11,7 @@ use Rattle.qrcode_grid.specs.Blocks.{codeword_block}
 use Rattle.qrcode_base.specs.Symbols.{block_sizes}
 use Rattle.qrcode_core.specs.Reader.{Reading, Carries, Reads}
 use Rattle.qrcode_core.specs.Headline.{CarriesApart, HasBlocksApart}
-use Rattle.qrcode_grid.proofs.Distances.{AreBytes-block_in, length-block_in}
-use Rattle.qrcode_grid.proofs.Distance.{distance-sound}
+use Rattle.qrcode_grid.proofs.Distance.{AreBytes-block_in, length-block_in, distance-sound}
 use Rattle.qrcode_grid.proofs.WholeSymbols.{IsUsable-of_symbol}
 
 -- Every grid that carries bits has blocks that are apart from other sound lists.

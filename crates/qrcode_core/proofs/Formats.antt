@@ -15,7 +15,7 @@ use Rattle.qrcode_grid.specs.Masks.{normal_number, micro_number, level_number, s
 use Rattle.qrcode_base.specs.Symbols.{IsVersion, IsSymbol, width_of}
 use Rattle.qrcode_grid.proofs.Tests.{all_pass, passes, both}
 use Rattle.qrcode_grid.proofs.FormatCells.{functional_color-format}
-use Rattle.qrcode_grid.proofs.Distances.{normal_format_words_differ, micro_format_words_differ}
+use Rattle.qrcode_grid.proofs.Distance.{normal_format_words_differ, micro_format_words_differ}
 use Rattle.std.proofs.lemmas.Grind.{common_steps}
 
 -- ---- The first copy of the format word, in both families

@@ -9,7 +9,7 @@ use Rattle.qrcode_grid.specs.Blocks.{AreApart}
 use Rattle.qrcode_core.specs.Reader.{Reading, Reads}
 use Rattle.qrcode_core.specs.Headline.{HaveDistance}
 use Rattle.qrcode_core.proofs.BlocksApart.{blocks_apart}
-use Rattle.qrcode_grid.proofs.Distances.{AreApart-from_blocks}
+use Rattle.qrcode_grid.proofs.Distance.{AreApart-from_blocks}
 
 -- the data codewords tell the bytes
 bytes_of_codewords : (grid other : List Color) (r s : Reading) (f : Reads grid r) (g : Reads other s) → s.version ≡ r.version → s.level ≡ r.level →

@@ -17,7 +17,7 @@ use Rattle.qrcode_base.specs.declared.types.Color.{Color}
 use Rattle.qrcode_base.specs.declared.types.Version.{Version}
 use Rattle.qrcode_grid.specs.Canvas.{color_of_module, Drawing, with_mask, mask_penalties, colors_of}
 use Rattle.qrcode_grid.specs.Penalty.{byte_of, penalty}
-use Rattle.qrcode_grid.proofs.CellSteps.{length-map_places, get_or-map_places}
+use Rattle.qrcode_grid.proofs.WrittenWords.{length-map_places, get_or-map_places}
 use Rattle.qrcode_base.specs.declared.types.EcLevel.{EcLevel}
 use Rattle.qrcode_base.specs.Symbols.{width_of}
 use Rattle.qrcode_grid.specs.declared.canvas.MaskPattern.TheVariants.{Checkerboard, HorizontalLines, VerticalLines, DiagonalLines, LargeCheckerboard, Fields, Diamonds, Meadow}

@@ -1,21 +1,27 @@
 -- Lanes that mark where candidates have something.
-use Rattle.std.proofs.Common.{◌≡◌, ℕ, zero, suc, ◌+◌, ◌-◌, ◌%◌, ◌<◌, ◌≤◌, ◌==◌, ◌&&◌, ◌||◌, ◌++◌, Bool, cond, List, map, take, drop, length, get_or, refl, ap, ◌∙◌, sym, arith, Fits, w8, ◌*◌, ◌^◌, min, count_by, ◌/◌, eqb, true, false, []}
+use Rattle.std.proofs.Common.{◌≡◌, ℕ, zero, suc, ◌+◌, ◌-◌, ◌%◌, ◌<◌, ◌≤◌, ◌==◌, ◌&&◌, ◌||◌, ◌++◌, Bool, cond, List, map, take, drop, length, get_or, refl, ap, ◌∙◌, sym, arith, Fits, w8, ◌*◌, ◌^◌, min, count_by, ◌/◌, eqb, true, false, [], ◌∷◌, add-zero, zero-add, suc-add}
 use Rattle.std.specs.Int.{bit_at, bit_not}
 use Rattle.std.specs.Int.Bits.{bit_and, bit_or, bit_xor}
 use Rattle.std.proofs.lemmas.List.{get_or-map, length-map, get_or_past, get_or-append-add, get_or_append_left, length-take-le, length-drop}
 use Rattle.std.proofs.lemmas.Nat.Bits.{bit_at-lt, bit_at-zero, bit_at_or, bit_at_not, bit_at_and, bit_at_xor, and_pow}
-use Rattle.std.proofs.lemmas.Simd.{length-chunk, get_or-chunk, get_or-put_chunk_at, length-put_chunk, get_or-zip2, length-zip2, bitmask_splat, ones-mask_l, pick_l_whole, get_or-replicate}
+use Rattle.std.proofs.lemmas.Simd.{length-chunk, get_or-chunk, get_or-put_chunk_at, length-put_chunk, get_or-zip2, length-zip2, bitmask_splat, ones-mask_l, pick_l_whole, get_or-replicate, pick_l-range_with_len, zip2_of_maps, map-map, mask_l-mod}
 use Rattle.std.proofs.lemmas.Bool.Decides.{nat_tests}
 use lib.Lanes.{zip2, chunk, put_chunk, mask_l, top}
 use Rattle.qrcode_grid.specs.Scoring.{Marks, plane, bit_count}
 use Rattle.std.proofs.lemmas.Grind.{common_steps}
-use Rattle.std.specs.Prelude.{count_ones}
+use Rattle.std.specs.Prelude.{count_ones, slice_range}
 use Rattle.std.proofs.Math.Nat.{mod-eq_of_lt, mul-le-mul_right}
 use Rattle.std.proofs.Math.Pow.{pow-lt}
 use Rattle.std.proofs.lemmas.Nat.{pow_pos}
 use lib.ListN.{replicate}
 use Rattle.qrcode_grid.specs.Cells.{sum_below, count_below}
 use Rattle.qrcode_grid.proofs.Totals.{count_by-total, total-cong, total-add, total-mul}
+use Rattle.std.specs.List.{range_with_len}
+use Rattle.std.proofs.lemmas.List.Sums.{sum_by-append, count_by-le-length}
+use Rattle.std.proofs.lemmas.List.FromFn.{length-range_with_len}
+use lib.Bits.{bit_and}
+use Rattle.qrcode_grid.specs.Penalty.{is_byte_square_at}
+use Rattle.std.proofs.Math.Seq.{take-add}
 
 -- Bits of sixteen lanes, counted by their place.
 
@@ -217,3 +223,72 @@ pub ruleset dark_marks = (marks_as, marks_dark, common_steps)
 pub ruleset bits_gone = (no_bit, get_or-replicate)
 
 pub ruleset three_sums = (length-carry, length-sum, three_rows, common_steps)
+
+-- A mask of four comparisons counts the squares of a block.
+
+-- a lane of ones where two bytes are equal
+abbrev pub hit : ℕ → ℕ → ℕ
+hit a b = cond (a == b) 255 0
+
+-- the lanes of a block, by their places
+pub block_at : (xs : List ℕ) (at n : ℕ) → at + n ≤ length xs → take n (drop at xs) ≡ map (λ k. get_or xs k 0) (range_with_len at n)
+block_at xs at n le = sym (pick_l-range_with_len 0 xs at n le)
+
+pub next_places : (xs : List ℕ) (at n : ℕ) → map (λ k. get_or xs k 0) (range_with_len (at + 1) n) ≡ map (λ k. get_or xs (k + 1) 0) (range_with_len at n)
+next_places xs at zero = refl
+next_places xs at (suc n) = ap (λ (t : List ℕ). get_or xs (at + 1) 0 ∷ t) (next_places xs (at + 1) n)
+
+-- the top bit of three comparisons joined
+pub joined : (p q r : Bool) → top 7 (bit_and (cond p 255 0) (bit_and (cond q 255 0) (cond r 255 0))) ≡ p && (q && r)
+joined p q r = grind (arith)
+
+pub map_same : {X Y : Type 0} (f g : X → Y) → ((x : X) → f x ≡ g x) → (xs : List X) → map f xs ≡ map g xs
+map_same f g same [] = refl
+map_same {Y = Y} f g same (x ∷ xs) = ap (λ (t : List Y). f x ∷ t) (map_same f g same xs) ∙ ap (λ (y : Y). y ∷ map g xs) (same x)
+
+pub square_lanes : (u l : List ℕ) (at : ℕ) → at + 33 ≤ length u → length l ≡ length u
+    → count_ones (mask_l (map (top 7)
+    (zip2 bit_and (zip2 hit (take 32 (drop at u)) (take 32 (drop (at + 1) u)))
+    (zip2 bit_and (zip2 hit (take 32 (drop at u)) (take 32 (drop at l))) (zip2 hit (take 32 (drop at u)) (take 32 (drop (at + 1) l)))))) % 2 ^ 64)
+    ≡ count_by (is_byte_square_at u l) (range_with_len at 32)
+square_lanes u l at inside same =
+    let ks : List ℕ = range_with_len at 32 in
+    let a : take 32 (drop at u) ≡ map (λ k. get_or u k 0) ks = block_at u at 32 (omega arith) in
+    let b : take 32 (drop (at + 1) u) ≡ map (λ k. get_or u (k + 1) 0) ks = (block_at u (at + 1) 32 (omega arith) ∙ next_places u at 32) in
+    let c : take 32 (drop at l) ≡ map (λ k. get_or l k 0) ks = block_at l at 32 (omega arith) in
+    let d : take 32 (drop (at + 1) l) ≡ map (λ k. get_or l (k + 1) 0) ks = (block_at l (at + 1) 32 (omega arith) ∙ next_places l at 32) in
+    let ab = zip2_of_maps hit (λ k. get_or u k 0) (λ k. get_or u (k + 1) 0) ks a b in
+    let ac = zip2_of_maps hit (λ k. get_or u k 0) (λ k. get_or l k 0) ks a c in
+    let ad = zip2_of_maps hit (λ k. get_or u k 0) (λ k. get_or l (k + 1) 0) ks a d in
+    let acd = zip2_of_maps bit_and (λ k. hit (get_or u k 0) (get_or l k 0)) (λ k. hit (get_or u k 0) (get_or l (k + 1) 0)) ks ac ad in
+    let all = zip2_of_maps bit_and (λ k. hit (get_or u k 0) (get_or u (k + 1) 0)) (λ k. bit_and (hit (get_or u k 0) (get_or l k 0)) (hit (get_or u k 0) (get_or l (k + 1) 0))) ks ab acd in
+    let tests : map (top 7) (zip2 bit_and (zip2 hit (take 32 (drop at u)) (take 32 (drop (at + 1) u))) (zip2 bit_and (zip2 hit (take 32 (drop at u)) (take 32 (drop at l))) (zip2 hit (take 32 (drop at u)) (take 32 (drop (at + 1) l))))) ≡ map (is_byte_square_at u l) ks
+    = ap (map (top 7)) all ∙ map-map (top 7) (λ k. bit_and (hit (get_or u k 0) (get_or u (k + 1) 0)) (bit_and (hit (get_or u k 0) (get_or l k 0)) (hit (get_or u k 0) (get_or l (k + 1) 0)))) ks ∙ map_same _ (is_byte_square_at u l) (λ k. joined (get_or u k 0 == get_or u (k + 1) 0) (get_or u k 0 == get_or l k 0) (get_or u k 0 == get_or l (k + 1) 0)) ks in
+    let long : length (map (is_byte_square_at u l) ks) ≤ 64 = omega (arith, length-map ks (is_byte_square_at u l), length-range_with_len at 32) in
+    ap (λ (m : List Bool). count_ones (mask_l m % 2 ^ 64)) tests
+    ∙ ap count_ones (mask_l-mod (map (is_byte_square_at u l) ks) 64 long)
+    ∙ ones-mask_l (is_byte_square_at u l) ks
+
+-- the places up to more are those up to at, and the ones from there
+pub places_append : (a n m : ℕ) → range_with_len a (n + m) ≡ range_with_len a n ++ range_with_len (a + n) m
+places_append a zero m = rw (add-zero a, zero-add m) refl
+places_append a (suc n) m = rw suc-add (ap (λ (t : List ℕ). a ∷ t) (places_append (a + 1) n m ∙ ap (λ k. range_with_len (a + 1) n ++ range_with_len k m) (omega arith)))
+
+-- a count over the places goes on
+pub count_of_places : (p : ℕ → Bool) (n m : ℕ) → count_by p (range_with_len 0 (n + m)) ≡ count_by p (range_with_len 0 n) + count_by p (range_with_len n m)
+count_of_places p n m = grind (arith, common_steps, places_append, zero-add, sum_by-append)
+
+-- a count over the places is at most their number
+pub count_of_places_le : (p : ℕ → Bool) (n : ℕ) → count_by p (range_with_len 0 n) ≤ n
+count_of_places_le p n = omega (arith, count_by-le-length p (range_with_len 0 n), length-range_with_len 0 n)
+
+-- one place more
+pub count_one_more : (p : ℕ → Bool) (n : ℕ) (b : Bool) → p n ≡ b → count_by p (range_with_len 0 (n + 1)) ≡ count_by p (range_with_len 0 n) + cond b 1 0
+count_one_more p n b is = count_of_places p n 1 ∙ ap (λ c. count_by p (range_with_len 0 n) + (0 + cond c 1 0)) is ∙ ap (λ k. count_by p (range_with_len 0 n) + k) (zero-add (cond b 1 0))
+
+pub ruleset square_counts = (count_of_places, count_of_places_le, count_one_more, common_steps)
+
+-- A count goes on over a block.
+
+pub count_by_block : {X : Type 0} (p : X → Bool) (xs : List X) (at n : ℕ) → count_by p (take (at + n) xs) ≡ count_by p (take at xs) + count_by p (slice_range xs at (at + n))
+count_by_block p xs at n = grind (arith, common_steps, take-add, sum_by-append)

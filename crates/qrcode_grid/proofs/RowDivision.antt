@@ -1,16 +1,15 @@
 -- A turn of the division by rows takes in one more byte.
-use Rattle.std.proofs.Common.{◌≡◌, ℕ, zero, suc, ◌<◌, ◌≤◌, ◌+◌, ◌-◌, refl, ap, sym, ◌∙◌, arith, List, [], ◌∷◌, ◌++◌, map, length, get_or, take, drop, replicate, ◌/◌, ◌%◌, cond, true, eqb, leb, w8, Fits, Bool, false, ◌^◌, ◌==◌, ◌&&◌, nat_lt}
+use Rattle.std.proofs.Common.{◌≡◌, ℕ, zero, suc, ◌<◌, ◌≤◌, ◌+◌, ◌-◌, refl, ap, sym, ◌∙◌, arith, List, [], ◌∷◌, ◌++◌, map, length, get_or, take, drop, replicate, ◌/◌, ◌%◌, cond, true, eqb, leb, w8, Fits, Bool, false, ◌^◌, ◌==◌, ◌&&◌, nat_lt, subst}
 use Rattle.std.specs.List.{range_with_len, position_or_len}
-use Rattle.std.specs.Int.Bits.{bit_xor, xor_assoc, xor_zero_r}
-use Rattle.std.proofs.lemmas.Nat.{xor_comm}
-use Rattle.std.proofs.lemmas.List.{append-nil, length-take, length-drop, length-replicate, get_or-take, get_or-drop, same_lists, get_or_default, drop_more}
+use Rattle.std.specs.Int.Bits.{bit_xor, xor_assoc, xor_zero_r, xor_self}
+use Rattle.std.proofs.lemmas.Nat.{xor_comm, xor_of_8}
+use Rattle.std.proofs.lemmas.List.{append-nil, length-take, length-drop, length-replicate, get_or-take, get_or-drop, same_lists, get_or_default, drop_more, length-append, length-map, drop-drop, take-append-drop, get_or-map, take_at, drop_at}
 use Rattle.std.proofs.lemmas.List.FromFn.{get_or-map-range_with_len, length-map-range_with_len, map-range_with_len_more}
 use Rattle.qrcode_grid.specs.Field.{product, power, double, shift_and_add}
-use Rattle.qrcode_grid.specs.Codes.{value_at}
+use Rattle.qrcode_grid.specs.Codes.{value_at, AreBytes}
 use Rattle.qrcode_grid.specs.Rows.{AreTerms, AreRows, IsDivisor, IsTurn, IsRemainder}
-use Rattle.qrcode_grid.proofs.Division.{value_at-cons, value_at-reduced, sums_from_places}
-use Rattle.qrcode_grid.proofs.FieldLaws.{product-adds_left, product-one_left, product-zero_right, product_assoc, product_comm, product-double, product-zero_left, passes_below, passes_below-at}
-use Rattle.qrcode_grid.proofs.Values.{sums, value_at-append, value_at-zeros, power-first}
+use Rattle.qrcode_grid.proofs.FieldLaws.{product-adds_left, product-one_left, product-zero_right, product_assoc, product_comm, product-double, product-zero_left, passes_below, passes_below-at, xor-zero, product-bounded, power-bounded}
+use Rattle.qrcode_grid.proofs.Values.{sums, value_at-append, value_at-zeros, power-first, length-sums, value_at-sums, value_at-multiple}
 use Rattle.std.proofs.lemmas.Grind.{common_steps}
 use Rattle.std.proofs.lemmas.Bool.{eqb-true, ltb-true}
 use Rattle.std.proofs.lemmas.Simd.{get_or-zip2, length-zip2, get_or-replicate, get_or-sel_l, length-sel_l, tops_compared}
@@ -18,6 +17,102 @@ use lib.Lanes.{Each1, zip2, put_chunk, sel_l, top}
 use lib.ListN.{replicate}
 use Rattle.qrcode_grid.specs.Words.{polynomial_product, multiples, code_word, HasOneMultiple, HasOneFormatWord, HasOneVersionWord}
 use Rattle.qrcode_grid.proofs.Tests.{passes, both}
+use Rattle.std.proofs.lemmas.List.Elements.{All-same, All-drop, All-take, All-from_get_or, All-get_or, All-append}
+use borrow.Rule.Slice.PartMut.{put_mid}
+
+-- The remainder by a monic polynomial that vanishes at a point has the value of what was divided there.
+
+pub value_at-cons : (x : ℕ) (xs : List ℕ) (a : ℕ) → value_at (x ∷ xs) a ≡ bit_xor (product x (power a (length xs))) (value_at xs a)
+unfolding value_at
+value_at-cons x xs a = refl
+
+-- at a root of a monic polynomial, the leading power is the value of the other terms
+leading_power : (gs : List ℕ) (a : ℕ) → value_at (1 ∷ gs) a ≡ 0 → power a (length gs) ≡ value_at gs a
+leading_power gs a root = grind (arith, common_steps, xor-zero, product-one_left, power-bounded, value_at-cons)
+
+-- the leading byte's multiple of the divisor is taken away
+pub value_at-reduced : (lead : ℕ) (front rest gs : List ℕ) (a : ℕ) → length front ≡ length gs → value_at (1 ∷ gs) a ≡ 0 →
+    value_at (sums front (map (λ g. product lead g) gs) ++ rest) a ≡ value_at (lead ∷ (front ++ rest)) a
+value_at-reduced lead front rest gs a same root =
+    cc (
+      length-map gs (λ g. product lead g),
+      value_at-sums front (map (λ g. product lead g) gs) a (same ∙ sym (length-map gs (λ g. product lead g))),
+      value_at-multiple lead gs a,
+      leading_power gs a root,
+      xor_comm (value_at front a) (product lead (power a (length front))),
+      value_at-cons lead front a,
+      value_at-append (sums front (map (λ g. product lead g) gs)) rest a,
+      value_at-append (lead ∷ front) rest a,
+    )
+
+-- a list that is a sum place by place
+get_or-sums : (xs ys : List ℕ) (k : ℕ) → length xs ≡ length ys → k < length xs → get_or (sums xs ys) k 0 ≡ bit_xor (get_or xs k 0) (get_or ys k 0)
+unfolding sums
+get_or-sums [] ys k same within = absurd (omega (arith, within))
+get_or-sums (x ∷ xs) [] k same within = absurd (omega (arith, same))
+get_or-sums (x ∷ xs) (y ∷ ys) zero same within = refl
+get_or-sums (x ∷ xs) (y ∷ ys) (suc k) same within = get_or-sums xs ys k (omega (arith, same)) (omega (arith, within))
+
+pub sums_from_places : (lead : ℕ) (new front gs : List ℕ) → length new ≡ length front → length front ≡ length gs →
+    ((k : ℕ) → k < length new → get_or new k 0 ≡ bit_xor (get_or front k 0) (product lead (get_or gs k 0))) →
+    new ≡ sums front (map (λ g. product lead g) gs)
+sums_from_places lead new front gs same same' places =
+    let multiple = map (λ g. product lead g) gs in
+    let long : length (sums front multiple) ≡ length front = length-sums front multiple (same' ∙ sym (length-map gs (λ g. product lead g))) in
+    same_lists new (sums front multiple) (same ∙ sym long)
+    (λ k d within.
+    get_or_default new k d 0 within
+    ∙ places k within
+    ∙ ap (λ t. bit_xor (get_or front k 0) t) (sym (get_or-map (λ g. product lead g) gs k 0 0 (omega (arith, within, same, same'))))
+    ∙ sym (get_or-sums front multiple k (same' ∙ sym (length-map gs (λ g. product lead g))) (omega (arith, within, same)))
+    ∙ get_or_default (sums front multiple) k 0 d (omega (arith, within, same, long)))
+
+-- Data followed by the remainder of the data and n zeros vanishes.
+pub value_at-completed : (body ec : List ℕ) (n a : ℕ) → length ec ≡ n → value_at ec a ≡ value_at (body ++ replicate n 0) a → value_at (body ++ ec) a ≡ 0
+value_at-completed body ec n a len same =
+    grind (arith, common_steps, value_at-append, length-replicate, value_at-zeros, xor_zero_r, xor_self)
+
+-- ---- one turn of the long division, as the loop writes it
+
+module _ (i n len lead : ℕ) (work divisor : List ℕ) (long : length work ≡ len) (fits : i + 1 + n ≤ len) (leads : lead ≡ get_or work i lead)
+    (degree : length divisor ≡ n + 1) (monic : get_or divisor 0 0 ≡ 1) where
+  turn-value : (a : ℕ) (new : List ℕ) → value_at divisor a ≡ 0 →
+      new ≡ sums (take n (drop (i + 1) work)) (map (λ g. product lead g) (drop 1 divisor)) →
+      value_at (new ++ drop n (drop (i + 1) work)) a ≡ value_at (drop i work) a
+  turn-value a new root is =
+      grind (arith, common_steps, drop_more, value_at-reduced, length-take, length-drop, take-append-drop, get_or_default)
+
+pub divide_turn : (i n len k lead : ℕ) (work held new front terms divisor tail : List ℕ) (a : ℕ) →
+    held ≡ work → length work ≡ len → i + 1 + n ≤ len → k ≡ n → lead ≡ get_or work i lead →
+    front ≡ take n (drop (i + 1) work) → terms ≡ drop 1 divisor → length divisor ≡ n + 1 → get_or divisor 0 0 ≡ 1 → value_at divisor a ≡ 0 →
+    length new ≡ n →
+    ((p : ℕ) → p < length new → get_or new p 0 ≡ bit_xor (get_or front p 0) (product lead (get_or terms p 0))) →
+    value_at (drop (i + 1) (take len (put_mid (i + 1) k held new ++ tail))) a ≡ value_at (drop i work) a
+divide_turn i n len k lead work held new front terms divisor tail a same long fits kn leads isfront isterms degree monic root newlen places =
+    let flen : length (take n (drop (i + 1) work)) ≡ n = simp (length-take, length-drop) (omega arith) in
+    let glen : length (drop 1 divisor) ≡ n = simp length-drop (omega arith) in
+    let is = sums_from_places lead new (take n (drop (i + 1) work)) (drop 1 divisor) (newlen ∙ sym flen) (flen ∙ sym glen)
+    (λ p within. places p within ∙ ap (λ t. bit_xor (get_or t p 0) (product lead (get_or terms p 0))) isfront ∙ ap (λ t. bit_xor (get_or (take n (drop (i + 1) work)) p 0) (product lead (get_or t p 0))) isterms) in
+    ap (λ t. value_at (drop (i + 1) (take len (put_mid (i + 1) k t new ++ tail))) a) same
+    ∙ ap (λ t. value_at t a) (grind (arith, common_steps, length-append, length-take, length-drop, take_at, drop_at))
+    ∙ turn-value i n len lead work divisor long fits leads degree monic a new root is
+
+-- the bytes that are left stay bytes
+pub divide_bytes : (i n len k lead : ℕ) (work held new front terms tail : List ℕ) →
+    held ≡ work → length work ≡ len → i + 1 + n ≤ len → k ≡ n →
+    front ≡ take n (drop (i + 1) work) → length new ≡ n →
+    ((p : ℕ) → p < length new → get_or new p 0 ≡ bit_xor (get_or front p 0) (product lead (get_or terms p 0))) →
+    AreBytes (drop i work) → AreBytes (drop (i + 1) (take len (put_mid (i + 1) k held new ++ tail)))
+divide_bytes i n len k lead work held new front terms tail same long fits kn isfront newlen places bytes =
+    let P : ℕ → Type 0 = λ x. x < 256 in
+    let rest : AreBytes (drop (i + 1) work) = All-same P (drop (i + 1) work) (drop 1 (drop i work)) (sym (drop-drop 1 i work)) (All-drop P 1 (drop i work) bytes) in
+    let front_bytes : AreBytes front = All-same P front (take n (drop (i + 1) work)) isfront (All-take P n (drop (i + 1) work) rest) in
+    let flen : length front ≡ n = ap length isfront ∙ simp (length-take, length-drop) (omega arith) in
+    let new_bytes : AreBytes new = All-from_get_or P new 0 (λ p within.
+    subst P (sym (places p within)) (xor_of_8 (get_or front p 0) (product lead (get_or terms p 0)) (All-get_or P front p 0 (omega (arith, within, flen, newlen)) front_bytes) (product-bounded lead (get_or terms p 0)))) in
+    All-same P _ (new ++ drop n (drop (i + 1) work))
+    (ap (λ t. drop (i + 1) (take len (put_mid (i + 1) k t new ++ tail))) same ∙ (grind (arith, common_steps, length-append, length-take, length-drop, take_at, drop_at)))
+    (All-append P new (drop n (drop (i + 1) work)) new_bytes (All-drop P n (drop (i + 1) work) rest))
 
 -- Lanes of bytes that are multiplied in the field.
 

@@ -16,7 +16,7 @@ use Rattle.qrcode_grid.specs.Regions.{functional_color, is_functional_cell}
 use Rattle.qrcode_grid.specs.Symbol.{HasItsSiblings}
 use Rattle.qrcode_grid.specs.Walk.{numbered_cell, timing_column}
 use Rattle.qrcode_grid.proofs.Areas.{is_some-functional_color}
-use Rattle.qrcode_grid.proofs.CellSteps.{length-map_places, get_or-map_places, at_place, cells_are}
+use Rattle.qrcode_grid.proofs.WrittenWords.{length-map_places, get_or-map_places, at_place, cells_are}
 use Rattle.qrcode_grid.proofs.Drawn.{none_of}
 use Rattle.qrcode_grid.proofs.WholeSymbols.{odd_width, timing_inside}
 use Rattle.qrcode_grid.proofs.Totals.{numbered_cell_inside}

@@ -1,12 +1,11 @@
 -- A loop that writes a word into a list of places, from the low digit on: its steps, over bytes and over modules alike.
-use Rattle.std.proofs.Common.{◌≡◌, ◌≢◌, ℕ, ◌<◌, ◌≤◌, ◌+◌, ◌-◌, ◌*◌, ◌==◌, ◌&&◌, Bool, true, false, List, [], ◌∷◌, length, get_or, set, drop, Option, Some, None, option_map, cond, ap, ◌∙◌, sym, subst, arith, inl, inr, refl, suc, length-drop, drop-cons, get_or-set_same, get_or-set_other, pos, negsuc, unwrap_or}
-use Rattle.std.proofs.lemmas.Bool.{cases_eq}
+use Rattle.std.proofs.Common.{◌≡◌, ◌≢◌, ℕ, ◌<◌, ◌≤◌, ◌+◌, ◌-◌, ◌*◌, ◌==◌, ◌&&◌, Bool, true, false, List, [], ◌∷◌, length, get_or, set, drop, Option, Some, None, option_map, cond, ap, ◌∙◌, sym, subst, arith, inl, inr, refl, suc, length-drop, drop-cons, get_or-set_same, get_or-set_other, pos, negsuc, unwrap_or, ◌/◌, ◌%◌, zero, length-set, ℤ, slice_get, w16}
+use Rattle.std.proofs.lemmas.Bool.{cases_eq, cases_lt}
 use Rattle.std.proofs.lemmas.Bool.Decides.{nat_tests}
 use Rattle.qrcode_base.specs.declared.types.Color.{Color}
 use Rattle.qrcode_base.specs.declared.types.Color.TheVariants.{Dark}
 use Rattle.qrcode_grid.specs.Regions.{digit_at, first_some, where_true, written}
 use Rattle.qrcode_grid.specs.Words.{digit, digit_color, normal_format_word, micro_format_word, version_word, differing_digits}
-use Rattle.qrcode_grid.proofs.CellSteps.{column_of_place, row_of_place, cell_within}
 use Rattle.std.proofs.lemmas.Grind.{common_steps}
 use Rattle.qrcode_base.specs.declared.types.EcLevel.{EcLevel}
 use Rattle.qrcode_base.specs.declared.types.Version.{Version}
@@ -15,7 +14,129 @@ use Rattle.qrcode_base.specs.Symbols.{IsVersion}
 use Rattle.qrcode_grid.specs.declared.canvas.MaskPattern.{MaskPattern}
 use Rattle.qrcode_grid.specs.Masks.{level_number, normal_number, micro_number, symbol_number}
 use Rattle.qrcode_grid.specs.Laws.{IsFarFormatWord, IsFarVersionWord}
-use Rattle.qrcode_grid.proofs.Distances.{normal_format_words_differ, micro_format_words_differ, version_words_differ}
+use Rattle.qrcode_grid.proofs.Distance.{normal_format_words_differ, micro_format_words_differ, version_words_differ}
+use Rattle.std.proofs.lemmas.List.{same_lists, get_or_default}
+use Rattle.std.proofs.lemmas.Nat.{mod-mul-add, div-mul-add}
+use Rattle.qrcode_grid.specs.Cells.{map_cells, map_places}
+use Rattle.std.proofs.Math.Nat.{mul-le-mul_right}
+use Rattle.std.proofs.lemmas.Int.{to_z-of_z}
+use Rattle.std.proofs.lemmas.Option.{slice_get-get_or}
+use mir.Val.{SFits, of_z, to_z}
+use Rattle.qrcode_grid.specs.Canvas.{Drawing, place}
+
+-- A loop that changes the elements of a list one after another, each by a function of its place.
+
+pub length-map_places : {X : Type 0} (f : ℕ → X → X) (i : ℕ) (xs : List X) → length (map_places f i xs) ≡ length xs
+length-map_places f i [] = refl
+length-map_places f i (x ∷ xs) = ap suc (length-map_places f (i + 1) xs)
+
+pub get_or-map_places : {X : Type 0} (f : ℕ → X → X) (i : ℕ) (xs : List X) (k : ℕ) (d : X) → k < length xs → get_or (map_places f i xs) k d ≡ f (i + k) (get_or xs k d)
+get_or-map_places f i [] k d h = absurd (omega arith)
+get_or-map_places f i (x ∷ xs) zero d h = let e : i ≡ i + 0 = omega arith in ap (λ j. f j x) e
+get_or-map_places f i (x ∷ xs) (suc k) d h = grind (arith, common_steps, get_or-map_places f (i + 1) xs k d (omega arith))
+
+-- ys is xs with the elements below n changed
+pub record ChangedBelow {X : Type 0} (f : ℕ → X → X) (xs ys : List X) (n : ℕ) : Type 0 where
+  pub size : length ys ≡ length xs
+  pub below : (k : ℕ) (d : X) → k < n → k < length xs → get_or ys k d ≡ f k (get_or xs k d)
+  pub above : (k : ℕ) (d : X) → n ≤ k → get_or ys k d ≡ get_or xs k d
+
+-- the element at n is written
+pub changed_set : {X : Type 0} (f : ℕ → X → X) (xs ys : List X) (n : ℕ) (v e : X) → n < length xs → v ≡ f n (get_or ys n e) → ChangedBelow f xs ys n → ChangedBelow f xs (set ys n v) (n + 1)
+changed_set f xs ys n v e l is c = grind (arith, common_steps, length-set, get_or-set_same, get_or_default, get_or-set_other)
+
+-- the elements from n to m are left as they are
+pub changed_skip : {X : Type 0} (f : ℕ → X → X) (xs ys : List X) (n m : ℕ) → n ≤ m → ((k : ℕ) → n ≤ k → k < m → (x : X) → f k x ≡ x) → ChangedBelow f xs ys n → ChangedBelow f xs ys m
+changed_skip f xs ys n m le same c = grind (arith, common_steps)
+
+-- the column and the row of a place
+pub column_of_place : (w x y i : ℕ) → x < w → y * w + x ≡ i → i % w ≡ x
+column_of_place w x y i inside place = ap (λ k. k % w) (sym place) ∙ mod-mul-add y w x inside
+
+pub row_of_place : (w x y i : ℕ) → x < w → y * w + x ≡ i → i / w ≡ y
+row_of_place w x y i inside place = ap (λ k. k / w) (sym place) ∙ div-mul-add y w x inside
+
+-- what is said of a cell, by its place
+pub at_place : {X : Type 0} (f : ℕ → ℕ → X) (w x y i : ℕ) → x < w → y * w + x ≡ i → f x y ≡ f (i % w) (i / w)
+at_place f w x y i inside place = ap (λ k. f k y) (sym (column_of_place w x y i inside place)) ∙ ap (f (i % w)) (sym (row_of_place w x y i inside place))
+
+-- a grid whose cells are changed is the whole change
+pub cells_are : {X : Type 0} (f : ℕ → ℕ → X → X) (w : ℕ) (old now : List X) (d : X) → length now ≡ length old → length old ≡ w * w →
+    ((x y : ℕ) → x < w → y < w → get_or now (y * w + x) d ≡ f x y (get_or old (y * w + x) d)) → now ≡ map_cells w f old
+cells_are f w old now d same square is =
+    same_lists now (map_cells w f old) (same ∙ sym (length-map_places (λ i m. f (i % w) (i / w) m) 0 old))
+    (λ k e h.
+    let inside : k < length old = omega (arith, same) in
+    let some : 0 < w = elim (cases_lt 0 w) [ inl a ↦ a | inr b ↦ let zero_wide : w ≡ 0 = omega arith in absurd (omega (arith, inside, square ∙ ap (λ t. t * w) zero_wide)) ] in
+    let x = k % w in let y = k / w in
+    let column : x < w = omega arith in
+    let row : y < w = elim (cases_lt y w) [ inl a ↦ a | inr b ↦ absurd (omega (arith, inside, square, mul-le-mul_right w b)) ] in
+    let place : y * w + x ≡ k = omega arith in
+    let from : 0 + k ≡ k = omega arith in
+    get_or_default now k e d h ∙ ap (λ j. get_or now j d) (sym place) ∙ is x y column row ∙ ap (λ j. f x y (get_or old j d)) place
+    ∙ ap (f x y) (get_or_default old k d e inside)
+    ∙ sym (get_or-map_places (λ i m. f (i % w) (i / w) m) 0 old k e inside ∙ ap (λ j. f (j % w) (j / w) (get_or old k e)) from))
+
+-- Rows of a grid that are changed from one column to another, where the other cells stay as they are.
+abbrev pub CellsChanged : {X : Type 0} → (ℕ → ℕ → X → X) → ℕ → List X → List X → ℕ → Type 0
+CellsChanged f w xs ys n = ChangedBelow (λ i m. f (i % w) (i / w) m) xs ys n
+
+stays_at : {X : Type 0} (f : ℕ → ℕ → X → X) (w y k : ℕ) (m : X) → y * w ≤ k → k < (y + 1) * w → ((x : ℕ) → x ≡ k - y * w → x < w → f x y m ≡ m) → f (k % w) (k / w) m ≡ m
+stays_at f w y k m low high same =
+    grind (arith, k - y * w, at_place (λ u v. f u v m) w (k - y * w) y k (omega arith) (omega arith), same (k - y * w) refl (omega arith))
+
+-- the columns before the first one are left
+pub row_begins : {X : Type 0} (f : ℕ → ℕ → X → X) (w y a : ℕ) (xs ys : List X) → a ≤ w → ((x : ℕ) → x < a → (m : X) → f x y m ≡ m) → CellsChanged f w xs ys (y * w) → CellsChanged f w xs ys (y * w + a)
+row_begins f w y a xs ys within same c = grind (arith, nat_tests, changed_skip, stays_at)
+
+-- the columns from one to another are left
+pub row_between : {X : Type 0} (f : ℕ → ℕ → X → X) (w y a b : ℕ) (xs ys : List X) → a ≤ b → b ≤ w → ((x : ℕ) → a ≤ x → x < b → (m : X) → f x y m ≡ m) → CellsChanged f w xs ys (y * w + a) → CellsChanged f w xs ys (y * w + b)
+row_between f w y a b xs ys order within same c =
+    changed_skip (λ i m. f (i % w) (i / w) m) xs ys (y * w + a) (y * w + b) (omega arith)
+    (λ k low high m. stays_at f w y k m (omega arith) (omega arith) (λ x at inside. same x (omega arith) (omega arith) m)) c
+
+-- a cell is written
+pub cell_changed : {X : Type 0} (f : ℕ → ℕ → X → X) (w y x : ℕ) (xs ys : List X) (v e : X) → x < w → y < w → length xs ≡ w * w → v ≡ f x y (get_or ys (y * w + x) e) →
+    CellsChanged f w xs ys (y * w + x) → CellsChanged f w xs (set ys (y * w + x) v) (y * w + (x + 1))
+cell_changed f w y x xs ys v e column row square is c =
+    let i = y * w + x in
+    let inside : i < length xs = omega (arith, square, mul-le-mul_right w row) in
+    let next : i + 1 ≡ y * w + (x + 1) = omega arith in
+    let at = at_place (λ u t. f u t (get_or ys i e)) w x y i column refl in
+    let step = changed_set (λ i m. f (i % w) (i / w) m) xs ys i v e inside (is ∙ at) c in
+    subst (λ (n : ℕ). CellsChanged f w xs (set ys i v) n) next step
+
+-- the columns from the last one on are left
+pub row_ends : {X : Type 0} (f : ℕ → ℕ → X → X) (w y b : ℕ) (xs ys : List X) → b ≤ w → ((x : ℕ) → b ≤ x → x < w → (m : X) → f x y m ≡ m) → CellsChanged f w xs ys (y * w + b) → CellsChanged f w xs ys ((y + 1) * w)
+row_ends f w y b xs ys within same c = grind (arith, nat_tests, changed_skip, stays_at)
+
+-- the rows from one to another are left
+pub rows_between : {X : Type 0} (f : ℕ → ℕ → X → X) (w a b : ℕ) (xs ys : List X) → 0 < w → a ≤ b → ((x y : ℕ) → x < w → a ≤ y → y < b → (m : X) → f x y m ≡ m) → CellsChanged f w xs ys (a * w) → CellsChanged f w xs ys (b * w)
+rows_between f w a b xs ys some order same c = grind (arith, common_steps, changed_skip, mul-le-mul_right)
+
+-- before the first row nothing is changed
+pub rows_begin : {X : Type 0} (f : ℕ → ℕ → X → X) (w : ℕ) (xs : List X) → CellsChanged f w xs xs (0 * w)
+rows_begin f w xs = record { size = refl; below = λ k d h l. absurd (omega arith); above = λ k d h. refl }
+
+-- after the last row each cell is
+pub rows_end : {X : Type 0} (f : ℕ → ℕ → X → X) (w y : ℕ) (xs ys : List X) (d : X) → w ≤ y → length xs ≡ w * w → CellsChanged f w xs ys (y * w) →
+    (u v : ℕ) → u < w → v < w → get_or ys (v * w + u) d ≡ f u v (get_or xs (v * w + u) d)
+rows_end f w y xs ys d last square c u v column row =
+    grind (arith, mul-le-mul_right w row, at_place (λ s t. f s t (get_or xs (v * w + u) d)) w u v (v * w + u) column refl)
+
+-- Places of cells in the row-major list.
+
+-- a place that a call was given signed coordinates for
+pub place_passed : (d : Drawing) (x y : ℤ) (i : ℕ) → SFits w16 x → SFits w16 y → i ≡ place d (to_z w16 (of_z w16 x)) (to_z w16 (of_z w16 y)) → i ≡ place d x y
+place_passed d x y i fits_x fits_y e = e ∙ ap (λ u. place d u (to_z w16 (of_z w16 y))) (to_z-of_z w16 x fits_x) ∙ ap (λ v. place d x v) (to_z-of_z w16 y fits_y)
+
+-- an element that was read at a place
+pub slice_get_at : {X : Type 0} (xs : List X) (i k : ℕ) (x : X) → i ≡ k → i < length xs → x ≡ get_or xs i x → slice_get xs k ≡ Some x
+slice_get_at xs i k x e h r = ap (slice_get xs) (sym e) ∙ slice_get-get_or xs i x h ∙ ap Some (sym r)
+
+-- a cell of a row lies within the grid
+pub cell_within : (w x y : ℕ) → x < w → y < w → y * w + x < w * w
+cell_within w x y hx hy = omega (arith, mul-le-mul_right w hy)
 
 equal : (a b : ℕ) → a ≡ b → (a == b) ≡ true
 equal a b h = grind (arith, nat_tests)

@@ -15,7 +15,7 @@ pub struct BitsAhead {
 
 /// The codeword with a number, and how many low bits of it go into a symbol.
 #[inline(always)]
-#[tactic(auto, using(crate::proofs::BitSteps::codewords_ahead))]
+#[tactic(auto, using(crate::proofs::StreamPlaces::codewords_ahead))]
 fn codeword_at(streams: Streams, next: usize) -> Option<(usize, usize)>
     ensures none { result ≡ None → codewords_from streams.entry next ≡ [] }
     ensures some { IfSome result (λ r. codewords_from streams.entry next ≡
@@ -69,7 +69,7 @@ pub fn refilled(streams: Streams, bits: BitsAhead) -> BitsAhead
 /// The next eight bits, as the low bits of a number, and those that follow. There are none where the next codeword
 /// isn't a whole one.
 #[inline(always)]
-#[tactic(auto, using(crate::proofs::BitSteps::eight_ahead, std::proofs::lemmas::Grind::common_steps))]
+#[tactic(auto, using(crate::proofs::StreamPlaces::eight_ahead, std::proofs::lemmas::Grind::common_steps))]
 pub fn next_eight(streams: Streams, bits: BitsAhead) -> Option<(usize, BitsAhead)>
     requires small { bits.left ≤ 8 }
     ensures same { IfSome result (λ r.

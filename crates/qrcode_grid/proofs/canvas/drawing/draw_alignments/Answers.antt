@@ -4,7 +4,7 @@ use Rattle.qrcode_grid.specs.Masks.{drawn_over}
 use Rattle.qrcode_grid.specs.Regions.{alignments, alignment_coordinates, alignment_coordinate, alignment_count, near, pattern_at}
 use Rattle.qrcode_grid.specs.declared.canvas.Module.TheVariants.{Empty}
 use Rattle.qrcode_grid.proofs.RegionRows.{behind, behind_before, cells_inside, behind_within, none_between, none_behind, no_pattern, no_pattern_row, no_alignments, alignment_count_is}
-use Rattle.qrcode_grid.proofs.CellSteps.{CellsChanged, row_between, cell_changed, row_ends, rows_between, rows_end}
+use Rattle.qrcode_grid.proofs.WrittenWords.{CellsChanged, row_between, cell_changed, row_ends, rows_between, rows_end}
 use Rattle.qrcode_grid.proofs.GridLaws.{near_center}
 use Rattle.qrcode_grid.proofs.canvas.drawing.draw_alignments.Goals as goal
 

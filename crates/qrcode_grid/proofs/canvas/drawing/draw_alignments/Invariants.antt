@@ -3,7 +3,7 @@ use Rattle.std.proofs.Common.{◌+◌, ◌*◌}
 use Rattle.qrcode_grid.specs.Masks.{drawn_over}
 use Rattle.qrcode_grid.specs.Regions.{alignments, alignment_coordinates}
 use Rattle.qrcode_grid.proofs.RegionRows.{behind}
-use Rattle.qrcode_grid.proofs.CellSteps.{CellsChanged}
+use Rattle.qrcode_grid.proofs.WrittenWords.{CellsChanged}
 use Rattle.qrcode_grid.proofs.canvas.drawing.draw_alignments.Given as goal
 
 abbrev pub invariant-loop-j : goal.invariant-loop-j

@@ -2,7 +2,7 @@ use Rattle.std.proofs.Common.{◌≤◌, ◌<◌, ◌+◌, ◌*◌, get_or, ap, 
 use Rattle.qrcode_grid.specs.Masks.{drawn_over}
 use Rattle.qrcode_grid.specs.Regions.{finder}
 use Rattle.qrcode_grid.specs.declared.canvas.Module.TheVariants.{Empty}
-use Rattle.qrcode_grid.proofs.CellSteps.{row_begins, cell_changed, row_ends, rows_between, rows_end}
+use Rattle.qrcode_grid.proofs.WrittenWords.{row_begins, cell_changed, row_ends, rows_between, rows_end}
 use Rattle.qrcode_grid.proofs.canvas.drawing.draw_finder.Goals as goal
 
 pub loop-x-init : goal.loop-x-init

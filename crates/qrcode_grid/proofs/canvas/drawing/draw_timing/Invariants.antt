@@ -2,7 +2,7 @@
 use Rattle.std.proofs.Common.{◌+◌, ◌*◌}
 use Rattle.qrcode_grid.specs.Masks.{drawn_over}
 use Rattle.qrcode_grid.specs.Regions.{timing}
-use Rattle.qrcode_grid.proofs.CellSteps.{CellsChanged}
+use Rattle.qrcode_grid.proofs.WrittenWords.{CellsChanged}
 use Rattle.qrcode_grid.proofs.canvas.drawing.draw_timing.Given as goal
 
 abbrev pub invariant-loop-x : goal.invariant-loop-x

@@ -1,4 +1,4 @@
-use Rattle.qrcode_grid.proofs.FieldTables.{POWERS-at}
+use Rattle.qrcode_grid.proofs.FieldLaws.{POWERS-at}
 use Rattle.qrcode_grid.proofs.ec.field.power_of_two.Goals as goal
 
 pub returns : goal.returns

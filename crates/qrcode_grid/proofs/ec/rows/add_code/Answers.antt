@@ -1,6 +1,6 @@
 use Rattle.std.proofs.Common.{◌≡◌, ◌<◌, ◌++◌, length, take, ap, ◌∙◌, arith, length-take}
 use Rattle.std.proofs.lemmas.List.Elements.{All-take}
-use Rattle.qrcode_grid.proofs.Division.{value_at-completed}
+use Rattle.qrcode_grid.proofs.RowDivision.{value_at-completed}
 use Rattle.qrcode_grid.proofs.ec.rows.add_code.Goals as goal
 
 pub returns : goal.returns

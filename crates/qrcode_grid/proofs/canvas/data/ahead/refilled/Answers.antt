@@ -1,5 +1,5 @@
 use Rattle.std.proofs.Common.{arith}
-use Rattle.qrcode_grid.proofs.BitSteps.{no_bits}
+use Rattle.qrcode_grid.proofs.StreamPlaces.{no_bits}
 use Rattle.qrcode_grid.proofs.canvas.data.ahead.refilled.Goals as goal
 use Rattle.std.proofs.lemmas.Grind.{common_steps}
 
