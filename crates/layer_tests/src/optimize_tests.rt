@@ -1,8 +1,8 @@
 //! Worked rows of plans, and plans beside a plain search.
 
 ghost use Rattle.std.specs.Prelude.{◌≡◌, ◌<◌, ◌≤◌, length};
-ghost use Rattle.qrcode_base.specs.Versions.{HasMicroNumber};
-ghost use Rattle.qrcode_bits.specs.Merging.{HasLinearCosts};
+ghost use Rattle.qrcode_base.specs.Symbols.{HasMicroNumber};
+ghost use Rattle.qrcode_bits.specs.Plans.{HasLinearCosts};
 
 use qrcode_base::types::{Mode, QrError, QrResult, Version};
 use qrcode_bits::optimize::{

@@ -1,4 +1,2 @@
 pub mod Devices
-pub mod Faults
-pub mod Symbols
 pub mod Outcome

@@ -1,13 +1,42 @@
 -- What a program leaves that draws what it reads, by the bytes that the reader had before and has after, and those that
 -- the writer had and has. `Shows` says what is drawn of which bytes, and `Refuses` which bytes are refused, and why.
-use Rattle.std.specs.Prelude.{◌≡◌, ◌≢◌, ◌↔◌, ℕ, Bool, IsTrue, IsErrOf, Option, List, Result, Ok, Err}
+use Rattle.std.specs.Prelude.{◌≢◌, ◌⊎◌, ℕ, Bool, List, ◌++◌, [], ◌∷◌, Option, codes, Result, Ok, Err, ◌≡◌, ◌↔◌, IsTrue}
+use Rattle.std.specs.Prelude.{IsErrOf, true, false}
 use Rattle.std.specs.Io.KnownBytes.{Keeps, Appends}
-use Rattle.qrcode_core.specs.declared.types.errors.QrError.{QrError}
+use Rattle.qrcode_core.specs.ErrorTexts.{error_text}
 use Rattle.qrcode_core.specs.declared.types.errors.QrError.TheVariants.{OutOfMemory}
 use Rattle.programs.specs.declared.fault.Fault.{Fault}
 use Rattle.programs.specs.declared.fault.Fault.TheVariants.{Symbol, Read, Write}
-use Rattle.programs.specs.Devices.{ReadsAll, ReadsEnough, AppendsBeginning}
-use Rattle.programs.specs.Faults.{status_of, Says}
+use Rattle.programs.specs.Devices.{Writes, ReadsAll, ReadsEnough, AppendsBeginning}
+use Rattle.qrcode_core.specs.declared.types.errors.QrError.{QrError}
+use Rattle.qrcode_core.specs.declared.types.Color.{Color}
+use Rattle.qrcode_core.specs.declared.types.EcLevel.{EcLevel}
+use Rattle.qrcode_core.specs.Headline.{IsBestSymbol, IsBestMicroSymbol, IsRefusal, IsMicroRefusal}
+
+-- ---- What a program says of a fault, and the status that it ends with.
+
+-- the words of a fault
+abbrev pub words_of : Fault → List ℕ
+words_of (Symbol error) = error_text error
+words_of Read = codes "read failed"
+words_of Write = codes "write failed"
+
+-- the line that a program tells of an outcome: none where all was done, else its name, the words of the fault, and a
+-- line's end
+abbrev pub told : List ℕ → Result (Unit {0}) Fault → List ℕ
+told program (Ok done) = []
+told program (Err error) = program ++ codes ": " ++ words_of error ++ 10 ∷ []
+
+-- 0 where all was done, and 1 where there was a fault
+abbrev pub status_of : Result (Unit {0}) Fault → ℕ
+status_of (Ok done) = 0
+status_of (Err error) = 1
+
+-- The line was written; one that tells of anything but want of memory needs memory, and is left out where it finds
+-- none.
+abbrev pub Says : List ℕ → Option (List ℕ) → Option (List ℕ) → Bool → Result (Unit {0}) Fault → Type 0
+Says program before after mute outcome =
+    Writes before after mute (told program outcome) ⊎ ((outcome ≢ Err (Symbol OutOfMemory)) × Keeps before after)
 
 -- the drawing shows all bytes that were there to be read, and nothing is left
 pub record IsDrawing (Shows : List ℕ → List ℕ → Type 0) (unread left : Option (List ℕ))
@@ -64,3 +93,15 @@ pub record Serves (Shows : List ℕ → List ℕ → Type 0) (Refuses : List ℕ
   pub write : IsErrOf outcome Write ↔ IsTrue dumb
   pub status_is : status ≡ status_of outcome
   pub says : Says program before after mute outcome
+
+-- ---- Which symbol a program draws, and why there is none.
+
+-- the modules are the best symbol, or the best Micro symbol, of the bytes
+abbrev pub IsSymbolOf : Bool → EcLevel → List ℕ → List Color → Type 0
+IsSymbolOf false level bytes = IsBestSymbol bytes level
+IsSymbolOf true level bytes = IsBestMicroSymbol bytes level
+
+-- the call for that symbol refuses the bytes so
+abbrev pub IsRefusalOf : Bool → EcLevel → List ℕ → QrError → Type 0
+IsRefusalOf false level bytes = IsRefusal bytes level
+IsRefusalOf true level bytes = IsMicroRefusal bytes level

@@ -1,7 +1,7 @@
 //! Why a program did not do what it was asked for, and what it says of that.
 ghost use Rattle.std.specs.Prelude.{◌≡◌, IsFalse, Some, Err};
 ghost use Rattle.qrcode_core.specs.declared.types.errors.QrError.TheVariants.{OutOfMemory};
-ghost use Rattle.programs.specs.Faults.{words_of, told, Says};
+ghost use Rattle.programs.specs.Outcome.{words_of, told, Says};
 ghost use Rattle.programs.specs.declared.fault.Fault.TheVariants.{Symbol};
 
 use crate::copying::write_all;

@@ -7,7 +7,7 @@ use Rattle.std.specs.declared.cmp.Ordering.TheVariants.{Less, Equal}
 use Rattle.std.specs.Ordering.{ordering_reverse}
 use Rattle.qrcode_base.specs.declared.types.Mode.{Mode}
 use Rattle.qrcode_base.specs.declared.types.Mode.TheVariants.{Numeric, Alphanumeric, Byte, Kanji}
-use Rattle.qrcode_base.specs.ModeOrder.{mode_order}
+use Rattle.qrcode_base.specs.Modes.{mode_order}
 
 -- Compared the other way round, the answer is the other way round.
 pub mode_order-antisymm : (x y : Mode) → mode_order x y ≡ option_map ordering_reverse (mode_order y x)

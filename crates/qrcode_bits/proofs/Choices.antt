@@ -15,8 +15,8 @@ use Rattle.qrcode_base.proofs.Joins.{join-upper, join-upper_second}
 use Rattle.qrcode_base.proofs.Fields.{SameClass, capacity-rises, capacity-held, capacity-double}
 use Rattle.qrcode_bits.specs.declared.optimize.Segment.{Segment}
 use Rattle.qrcode_bits.specs.Parsing.{parsed}
-use Rattle.qrcode_bits.specs.Merging.{merged, total_bits, IsChosenPlan, joined, AreNonEmpty, merged_pieces}
-use Rattle.qrcode_bits.specs.Choice.{IsMergePlan, Fits, FitsNot, IsLeastBits, normal, micro, FitsNone, IsChoice, IsLeastHolding, IsClass}
+use Rattle.qrcode_bits.specs.Plans.{merged, total_bits, IsChosenPlan, joined, AreNonEmpty, merged_pieces, IsMergePlan, Fits, FitsNot, IsLeastBits, normal}
+use Rattle.qrcode_bits.specs.Plans.{micro, FitsNone, IsChoice, IsLeastHolding, IsClass}
 use Rattle.qrcode_bits.proofs.Growth.{total_bits-rise, total_bits-same, total_bits-double, chosen-same}
 use Rattle.qrcode_bits.proofs.CuttingPlans.{chosen-cutting, chosen-least}
 use Rattle.std.proofs.lemmas.Grind.{common_steps}

@@ -16,13 +16,12 @@ use Rattle.std.proofs.lemmas.Option.{slice_get-get_or}
 use lib.Signed.{lt_z}
 use Rattle.qrcode_bits.specs.declared.optimize.Segment.{Segment}
 use Rattle.qrcode_bits.specs.Parsing.{parsed, AreTexts}
-use Rattle.qrcode_bits.specs.Merging.{HasLinearCosts, IsChosenPlan, total_bits}
+use Rattle.qrcode_bits.specs.Plans.{HasLinearCosts, IsChosenPlan, total_bits, IsMergePlan, Fits, FitsNot, FitsNone, normal, IsLeastHolding, IsMinVersion}
+use Rattle.qrcode_bits.specs.Plans.{IsClass, ClassesUpTo}
 use Rattle.qrcode_bits.specs.Frame.{Header, header_bits}
 use Rattle.qrcode_bits.specs.Stream.{Stream}
-use Rattle.qrcode_bits.specs.Push.{IsPlace}
-use Rattle.qrcode_bits.specs.Pieces.{LiesIn}
-use Rattle.qrcode_bits.specs.Choice.{IsMergePlan, Fits, FitsNot, FitsNone, normal, IsLeastHolding, IsMinVersion, IsClass, ClassesUpTo}
-use Rattle.qrcode_bits.specs.Encoding.{IsPlanStream, IsEncoding, IsUnencodable, IsLimit, IsEncodingRefused, IsPartRefused}
+use Rattle.qrcode_bits.specs.Push.{IsPlace, IsPlanStream, IsEncoding, IsUnencodable, IsLimit, IsEncodingRefused, IsPartRefused}
+use Rattle.qrcode_bits.specs.Spelling.{LiesIn}
 use Rattle.qrcode_bits.proofs.Adjoining.{parsed-linear}
 use Rattle.qrcode_bits.proofs.Growth.{total_bits-rise, total_bits-same}
 use Rattle.qrcode_bits.proofs.Upward.{All-map}

@@ -8,15 +8,12 @@ use Rattle.qrcode_base.specs.declared.types.errors.QrError.TheVariants.{OutOfMem
 use Rattle.qrcode_base.specs.Symbols.{capacity}
 use Rattle.qrcode_bits.specs.declared.bits.modes.EncodingModes.{EncodingModes}
 use Rattle.qrcode_bits.specs.declared.optimize.Segment.{Segment}
-use Rattle.qrcode_bits.specs.Merging.{total_bits}
-use Rattle.qrcode_bits.specs.ModeSets.{no_modes}
-use Rattle.qrcode_bits.specs.Spelling.{Piece}
+use Rattle.qrcode_bits.specs.Plans.{total_bits, Fits}
+use Rattle.qrcode_bits.specs.Buckets.{no_modes}
+use Rattle.qrcode_bits.specs.Spelling.{Piece, segment_pieces}
 use Rattle.qrcode_bits.specs.Frame.{Header, HasHeader, spellings, ended, header_bits, IsFrame}
 use Rattle.qrcode_bits.specs.Stream.{Stream}
-use Rattle.qrcode_bits.specs.Push.{SpellsAll, EndsAtLevel, IsLevelRefused, with_modes}
-use Rattle.qrcode_bits.specs.Pieces.{segment_pieces}
-use Rattle.qrcode_bits.specs.Choice.{Fits}
-use Rattle.qrcode_bits.specs.Encoding.{IsPlanStream}
+use Rattle.qrcode_bits.specs.Push.{SpellsAll, EndsAtLevel, IsLevelRefused, with_modes, IsPlanStream}
 use Rattle.qrcode_bits.proofs.Choices.{some_same}
 use Rattle.qrcode_bits.proofs.PlanFrames.{spelled_plan, plan_frame}
 

@@ -8,9 +8,8 @@ use Rattle.qrcode_base.specs.Symbols.{capacity}
 use Rattle.qrcode_base.specs.declared.types.Mode.{Mode}
 use Rattle.qrcode_base.specs.Modes.{count_width, indicator_width}
 use Rattle.qrcode_bits.specs.declared.optimize.Segment.{Segment}
-use Rattle.qrcode_bits.specs.Merging.{total_bits}
+use Rattle.qrcode_bits.specs.Plans.{total_bits, normal, micro, FitsNot, FitsNone}
 use Rattle.qrcode_bits.specs.Parsing.{AreTexts}
-use Rattle.qrcode_bits.specs.Choice.{normal, micro, FitsNot, FitsNone}
 use Rattle.qrcode_bits.proofs.Choices.{capacity-middle, capacity-most}
 use Rattle.qrcode_bits.proofs.PlanFrames.{length-slice}
 use Rattle.qrcode_bits.proofs.Texts.{texts-reach, texts-plan}

@@ -8,9 +8,8 @@ use Rattle.std.proofs.lemmas.List.{map-id, map-append, take-append-drop}
 use Rattle.std.proofs.lemmas.List.Elements.{All-take}
 use Rattle.qrcode_base.specs.declared.types.errors.QrError.{QrError}
 use Rattle.qrcode_bits.specs.declared.optimize.Segment.{Segment}
-use Rattle.qrcode_bits.specs.Spelling.{Piece}
+use Rattle.qrcode_bits.specs.Spelling.{Piece, segment_piece, segment_pieces}
 use Rattle.qrcode_bits.specs.Stream.{Stream}
-use Rattle.qrcode_bits.specs.Pieces.{segment_piece, segment_pieces}
 use Rattle.qrcode_bits.specs.Push.{PushesPieces, PushesDrawn, StopsAt}
 use Rattle.qrcode_bits.proofs.Pushes.{stops_longer}
 

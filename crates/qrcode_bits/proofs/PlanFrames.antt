@@ -9,11 +9,9 @@ use Rattle.qrcode_base.specs.Modes.{HasMode, data_bits, characters}
 use Rattle.qrcode_base.specs.Characters.{IsValid}
 use Rattle.qrcode_bits.specs.declared.optimize.Segment.{Segment}
 use Rattle.qrcode_bits.specs.Parsing.{AreTexts}
-use Rattle.qrcode_bits.specs.Merging.{segment_bits, total_bits}
-use Rattle.qrcode_bits.specs.Spelling.{spelling}
+use Rattle.qrcode_bits.specs.Plans.{segment_bits, total_bits, Fits}
+use Rattle.qrcode_bits.specs.Spelling.{spelling, segment_piece, segment_pieces}
 use Rattle.qrcode_bits.specs.Frame.{Header, HasHeader, header_bits, AreSpelled, spellings, message, ended, IsFrame}
-use Rattle.qrcode_bits.specs.Pieces.{segment_piece, segment_pieces}
-use Rattle.qrcode_bits.specs.Choice.{Fits}
 use Rattle.qrcode_bits.proofs.Growth.{CountsFit, fits-counts}
 use Rattle.qrcode_bits.proofs.Reading.{length-spelling}
 use Rattle.qrcode_bits.proofs.Segments.{length-character_bits}

@@ -9,10 +9,9 @@ use Rattle.qrcode_base.specs.declared.types.errors.QrError.{QrError}
 use Rattle.qrcode_base.specs.declared.types.errors.QrError.TheVariants.{OutOfMemory}
 use Rattle.qrcode_base.specs.Characters.{IsValid, IsFirstInvalid}
 use Rattle.qrcode_bits.specs.declared.optimize.Segment.{Segment}
-use Rattle.qrcode_bits.specs.Spelling.{Piece, IsSpellable}
+use Rattle.qrcode_bits.specs.Spelling.{Piece, IsSpellable, segment_piece, segment_pieces}
 use Rattle.qrcode_bits.specs.Frame.{AreSpelled}
-use Rattle.qrcode_bits.specs.Merging.{segment_at}
-use Rattle.qrcode_bits.specs.Pieces.{segment_piece, segment_pieces}
+use Rattle.qrcode_bits.specs.Plans.{segment_at}
 use Rattle.qrcode_bits.specs.Stream.{Stream}
 use Rattle.qrcode_bits.specs.Push.{Spells, SpellsAll, StopsAt, PushesDrawn, IsRefused}
 use Rattle.std.proofs.lemmas.Grind.{common_steps}

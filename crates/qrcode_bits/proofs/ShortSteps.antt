@@ -11,10 +11,10 @@ use Rattle.qrcode_bits.specs.declared.optimize.candidate.Candidate.{Candidate}
 use Rattle.qrcode_bits.specs.declared.optimize.groups.Groups.{Groups}
 use Rattle.qrcode_bits.specs.declared.optimize.short.Headers.{Headers}
 use Rattle.qrcode_bits.specs.declared.optimize.short.ShortStep.{ShortStep}
-use Rattle.qrcode_bits.specs.Merging.{IsNoWorse, segment_bits, segment_at, part_bits, HasLinearCosts, IsStep}
-use Rattle.qrcode_bits.specs.Buckets.{chosen_plan, bucket_mode, bucket_rest, part_mode, bits_before, parts_before}
-use Rattle.qrcode_bits.specs.Buckets.{InBucket, IsBestStart, slot, AreGroups, group_of, period, period_bits}
-use Rattle.qrcode_bits.specs.Words.{start_told, bucket_start, IsShort, AreHeaders, header_in, step_told, short_at, AreShortSteps}
+use Rattle.qrcode_bits.specs.Plans.{IsNoWorse, segment_bits, segment_at, part_bits, HasLinearCosts, IsStep}
+use Rattle.qrcode_bits.specs.Buckets.{chosen_plan, bucket_mode, bucket_rest, part_mode, bits_before, parts_before, InBucket, IsBestStart, slot, AreGroups}
+use Rattle.qrcode_bits.specs.Buckets.{group_of, period, period_bits, start_told, bucket_start, IsShort, AreHeaders, header_in, step_told, short_at}
+use Rattle.qrcode_bits.specs.Buckets.{AreShortSteps}
 use Rattle.qrcode_bits.proofs.Ending.{data_bits-linear, bucket_of, bucket_of-is, group-right, IsTried, Tried-leads, Tried-keeps, Tried-takes, Tried-all, cost-is}
 use Rattle.qrcode_bits.proofs.Grouping.{has-own}
 use Rattle.qrcode_bits.proofs.Optimal.{IsGoodStart}

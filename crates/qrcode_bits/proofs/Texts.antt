@@ -13,9 +13,8 @@ use Rattle.qrcode_bits.specs.declared.optimize.Segment.{Segment}
 use Rattle.qrcode_bits.specs.declared.optimize.parser.Class.{Class}
 use Rattle.qrcode_bits.specs.declared.optimize.parser.Class.TheVariants.{Pair}
 use Rattle.qrcode_bits.specs.Parsing.{Run, class_of, class_mode, class_size, joins, add_unit, runs, units, run_segment, parsed, AreTexts}
-use Rattle.qrcode_bits.specs.Merging.{merged, joined, AreNonEmpty, merged_pieces}
-use Rattle.qrcode_bits.specs.Pieces.{segment_pieces, LiesIn}
-use Rattle.qrcode_bits.specs.Choice.{IsMergePlan}
+use Rattle.qrcode_bits.specs.Plans.{merged, joined, AreNonEmpty, merged_pieces, IsMergePlan}
+use Rattle.qrcode_bits.specs.Spelling.{segment_pieces, LiesIn}
 use Rattle.qrcode_bits.specs.Frame.{message}
 use Rattle.qrcode_bits.proofs.Runs.{class_size-some, joins-same}
 use Rattle.qrcode_bits.proofs.Adjoining.{class_of-one}

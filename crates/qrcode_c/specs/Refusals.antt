@@ -4,14 +4,14 @@ use Rattle.std.specs.List.Sorted.{IsNonDecreasing}
 use Rattle.qrcode_base.specs.declared.types.Color.{Color}
 use Rattle.qrcode_base.specs.declared.types.EcLevel.{EcLevel}
 use Rattle.qrcode_base.specs.declared.types.EcLevel.TheVariants.{H}
-use Rattle.qrcode_bits.specs.Encoding.{IsLimit}
-use Rattle.qrcode_core.specs.Drawn.{DrawnSymbol, modules_of}
+use Rattle.qrcode_bits.specs.Push.{IsLimit}
+use Rattle.qrcode_core.specs.Layers.{DrawnSymbol, modules_of}
 use Rattle.qrcode_core.specs.Headline.{IsBestSymbol, IsBestMicroSymbol, IsTooLong, IsTooLongForMicro}
 use Rattle.qrcode_core.specs.Sequence.{AreBestSymbols, IsTotal, IsSomePartTooLong}
 use Rattle.qrcode_c.specs.declared.refusal.Refusal.{Refusal}
 use Rattle.qrcode_c.specs.declared.refusal.Refusal.TheVariants.{DataTooLong, OutOfMemory, InvalidLevel}
-use Rattle.qrcode_c.specs.declared.refusal.Refusal.TheVariants.{InvalidMaxVersion, InvalidPartCount}
-use Rattle.qrcode_c.specs.declared.refusal.Refusal.TheVariants.{InvalidCuts, InvalidIndex, ShortBuffer}
+use Rattle.qrcode_c.specs.declared.refusal.Refusal.TheVariants.{InvalidMaxVersion, InvalidPartCount, InvalidCuts}
+use Rattle.qrcode_c.specs.declared.refusal.Refusal.TheVariants.{InvalidIndex, ShortBuffer}
 use Rattle.qrcode_c.specs.Levels.{AtLevel, IsNoLevel}
 use Rattle.qrcode_c.specs.Statuses.{status_of}
 

@@ -1,7 +1,7 @@
 //! Symbols in a caller's buffer.
 ghost use Rattle.std.specs.Prelude.{◌≡◌, ◌<◌, ◌≤◌, ◌++◌, length, map, drop, OnErr, IfOk, IfErr, IfSome, IfNone};
 ghost use Rattle.qrcode_core.specs.Headline.{IsBestSymbol, IsBestMicroSymbol};
-ghost use Rattle.qrcode_bits.specs.Encoding.{IsLimit};
+ghost use Rattle.qrcode_bits.specs.Push.{IsLimit};
 ghost use Rattle.qrcode_grid.specs.Penalty.{byte_of};
 ghost use Rattle.qrcode_c.specs.Holding.{Holds, HoldsBest, HoldsPart};
 ghost use Rattle.qrcode_c.specs.Levels.{number_of, IsNoLevel};

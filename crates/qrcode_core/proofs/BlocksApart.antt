@@ -9,8 +9,7 @@ use Rattle.qrcode_grid.specs.declared.canvas.MaskPattern.{MaskPattern}
 use Rattle.qrcode_grid.specs.Codes.{AreBytes}
 use Rattle.qrcode_grid.specs.Blocks.{codeword_block}
 use Rattle.qrcode_base.specs.Symbols.{block_sizes}
-use Rattle.qrcode_core.specs.Reader.{Reading, Carries, Reads}
-use Rattle.qrcode_core.specs.Headline.{CarriesApart, HasBlocksApart}
+use Rattle.qrcode_core.specs.Headline.{Reading, Carries, Reads, CarriesApart, HasBlocksApart}
 use Rattle.qrcode_grid.proofs.Distance.{AreBytes-block_in, length-block_in, distance-sound}
 use Rattle.qrcode_grid.proofs.WholeSymbols.{IsUsable-of_symbol}
 

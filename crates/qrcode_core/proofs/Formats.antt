@@ -1,6 +1,6 @@
 -- The functional colours of a grid tell the level and the mask.
-use Rattle.std.proofs.Common.{◌≡◌, ℕ, zero, suc, pos, negsuc, ◌+◌, ◌*◌, ◌==◌, ◌&&◌, nat_le, ◌<◌, ◌≤◌, refl, sym, ◌∙◌, arith, inl, inr}
-use Rattle.std.proofs.Common.{zero-add, List, [], ◌∷◌, Bool, true, false, get_or}
+use Rattle.std.proofs.Common.{◌≡◌, ℕ, zero, suc, pos, negsuc, ◌+◌, ◌*◌, ◌==◌, ◌&&◌, nat_le, ◌<◌, ◌≤◌, refl, sym, ◌∙◌, arith, inl, inr, zero-add, List, [], ◌∷◌}
+use Rattle.std.proofs.Common.{Bool, true, false, get_or}
 use Rattle.std.specs.Prelude.{Option, Some, None, is_some, unwrap_or, IsTrue, slice_get}
 use Rattle.std.specs.List.{range_with_len, count_by}
 use Rattle.std.proofs.lemmas.Bool.{cases_eq, ne_eqb, eqb-true, leb-true, eq-eqb}
@@ -9,8 +9,8 @@ use Rattle.qrcode_base.specs.declared.types.EcLevel.{EcLevel}
 use Rattle.qrcode_base.specs.declared.types.Version.{Version}
 use Rattle.qrcode_base.specs.declared.types.Version.TheVariants.{Normal, Micro}
 use Rattle.qrcode_grid.specs.declared.canvas.MaskPattern.{MaskPattern}
-use Rattle.qrcode_grid.specs.Words.{digit, digit_color, differing_digits, normal_format_word, micro_format_word}
-use Rattle.qrcode_grid.specs.Regions.{functional_color, digit_at, format_first, format_micro}
+use Rattle.qrcode_grid.specs.Regions.{digit, digit_color, differing_digits, normal_format_word, micro_format_word, functional_color, digit_at, format_first}
+use Rattle.qrcode_grid.specs.Regions.{format_micro}
 use Rattle.qrcode_grid.specs.Masks.{normal_number, micro_number, level_number, symbol_number, IsOfFamily, HasFunctionalColors}
 use Rattle.qrcode_base.specs.Symbols.{IsVersion, IsSymbol, width_of}
 use Rattle.qrcode_grid.proofs.Tests.{all_pass, passes, both}

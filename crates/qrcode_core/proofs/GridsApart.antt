@@ -6,8 +6,7 @@ use Rattle.qrcode_base.specs.Symbols.{missing_bits}
 use Rattle.qrcode_base.specs.Numbers.{zero_bits}
 use Rattle.qrcode_bits.proofs.Reading.{frame_one_reading}
 use Rattle.qrcode_grid.specs.Blocks.{AreApart}
-use Rattle.qrcode_core.specs.Reader.{Reading, Reads}
-use Rattle.qrcode_core.specs.Headline.{HaveDistance}
+use Rattle.qrcode_core.specs.Headline.{Reading, Reads, HaveDistance}
 use Rattle.qrcode_core.proofs.BlocksApart.{blocks_apart}
 use Rattle.qrcode_grid.proofs.Distance.{AreApart-from_blocks}
 

@@ -5,11 +5,10 @@ use Rattle.qrcode_base.specs.declared.types.EcLevel.{EcLevel}
 use Rattle.qrcode_base.specs.declared.types.Version.TheVariants.{Normal}
 use Rattle.qrcode_base.specs.declared.types.errors.QrError.{QrError}
 use Rattle.qrcode_base.specs.declared.types.errors.QrError.TheVariants.{DataTooLong, InvalidResourceLimits, OutOfMemory}
-use Rattle.qrcode_bits.specs.Encoding.{IsLimit, IsEncodingRefused}
+use Rattle.qrcode_bits.specs.Push.{IsLimit, IsEncodingRefused}
 use Rattle.qrcode_core.specs.declared.limits.ResourceLimits.{ResourceLimits}
-use Rattle.qrcode_core.specs.Budgets.{IsBudget}
+use Rattle.qrcode_core.specs.Limits.{IsBudget, IsBestWithin, IsTooLongWithin, IsLimitedRefusal}
 use Rattle.qrcode_core.specs.Headline.{IsBestSymbol}
-use Rattle.qrcode_core.specs.Limited.{IsBestWithin, IsTooLongWithin, IsLimitedRefusal}
 
 -- the number of a limit is at most 40
 pub few_versions : (z : ℤ) → IsLimit z → nat_abs z ≤ 40

@@ -9,7 +9,7 @@ use Rattle.qrcode_base.specs.declared.types.EcLevel.{EcLevel}
 use Rattle.qrcode_base.specs.declared.types.Version.{Version}
 use Rattle.qrcode_bits.proofs.Reading.{frame_one_reading}
 use Rattle.qrcode_grid.specs.declared.canvas.MaskPattern.{MaskPattern}
-use Rattle.qrcode_core.specs.Reader.{Carries, HaveOneReading, HaveOneContent}
+use Rattle.qrcode_core.specs.Headline.{Carries, HaveOneReading, HaveOneContent}
 use Rattle.qrcode_base.proofs.Widths.{version-of_blocks, version-of_size}
 use Rattle.qrcode_core.proofs.Formats.{same_format}
 use Rattle.qrcode_core.proofs.Contents.{bytes-of_drawn}

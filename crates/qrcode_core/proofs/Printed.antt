@@ -13,13 +13,11 @@ use Rattle.qrcode_bits.specs.Frame.{IsFrame, bytes_in_turn}
 use Rattle.qrcode_bits.specs.Spelling.{Piece, numeric_bits}
 use Rattle.qrcode_grid.specs.declared.canvas.MaskPattern.TheVariants.{Diamonds}
 use Rattle.qrcode_grid.specs.Blocks.{place, block_in, blocks_in, codeword_block, AreCodewords}
-use Rattle.qrcode_grid.specs.Codes.{value_at, IsSound}
-use Rattle.qrcode_grid.specs.Field.{double, shift_and_add, product, power}
+use Rattle.qrcode_grid.specs.Codes.{value_at, IsSound, double, shift_and_add, product, power}
 use Rattle.qrcode_grid.specs.Masks.{format_word, HasFunctionalColors}
 use Rattle.qrcode_grid.specs.Regions.{functional_color}
 use Rattle.qrcode_grid.proofs.Tests.{all_pass, passes}
-use Rattle.qrcode_core.specs.Example.{printed, printed_reading}
-use Rattle.qrcode_core.specs.Reader.{Reads}
+use Rattle.qrcode_core.specs.Headline.{printed, printed_reading, Reads}
 
 -- ---- Functional colours, computed
 

@@ -3,7 +3,7 @@ use Rattle.std.proofs.Common.{◌≡◌, ◌+◌, List, [], ◌∷◌, ◌++◌,
 use Rattle.std.proofs.Math.Seq.{take-append-add}
 use Rattle.std.proofs.lemmas.List.{take-append-le, length-append, map-append}
 use Rattle.qrcode_core.specs.declared.plugin.error.PluginError.{PluginError}
-use Rattle.qrcode_core.specs.Registered.{Registered, Registration, with_registration, with_registrations, Registers, RegistersBeginning}
+use Rattle.qrcode_core.specs.Registries.{Registered, Registration, with_registration, with_registrations, Registers, RegistersBeginning}
 use Rattle.std.proofs.lemmas.Grind.{common_steps}
 
 module _ {R E P : Type 0} where

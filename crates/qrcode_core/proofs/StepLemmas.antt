@@ -2,7 +2,7 @@
 use Rattle.std.proofs.Common.{◌≡◌, ℕ, ◌<◌, ◌+◌, List, [], ◌∷◌, ◌++◌, Result, Ok, Err, take, length, get_or, add-one, arith}
 use Rattle.std.proofs.Math.Seq.{split_at, take-suc}
 use Rattle.qrcode_core.specs.Grids.{Grid}
-use Rattle.qrcode_core.specs.Registered.{StepsInOrder}
+use Rattle.qrcode_core.specs.Registries.{StepsInOrder}
 use Rattle.qrcode_core.specs.declared.plugin.error.PluginError.{PluginError}
 use Rattle.std.proofs.lemmas.Grind.{common_steps}
 

@@ -8,18 +8,16 @@ use Rattle.qrcode_base.specs.declared.types.Version.{Version}
 use Rattle.qrcode_base.specs.declared.types.errors.QrError.{QrError}
 use Rattle.qrcode_base.specs.declared.types.errors.QrError.TheVariants.{DataTooLong, OutOfMemory}
 use Rattle.qrcode_base.specs.Symbols.{blocks_of, capacity}
-use Rattle.qrcode_bits.specs.Choice.{normal, micro}
-use Rattle.qrcode_bits.specs.Encoding.{IsEncoding, IsUnencodable}
+use Rattle.qrcode_bits.specs.Plans.{normal, micro, total_bits}
+use Rattle.qrcode_bits.specs.Push.{IsEncoding, IsUnencodable}
 use Rattle.qrcode_bits.specs.Frame.{Header, header_bits, spellings}
-use Rattle.qrcode_bits.specs.Merging.{total_bits}
-use Rattle.qrcode_bits.specs.Pieces.{segment_pieces}
+use Rattle.qrcode_bits.specs.Spelling.{segment_pieces}
 use Rattle.qrcode_bits.specs.Stream.{Stream}
 use Rattle.qrcode_bits.proofs.Choices.{fits_last}
 use Rattle.qrcode_bits.proofs.Lengths.{long_message, long_for_micro}
 use Rattle.qrcode_bits.proofs.PlanFrames.{spelled_plan}
 use Rattle.qrcode_core.specs.Headline.{IsBest, IsTooLong, IsRefusal}
-use Rattle.qrcode_core.specs.Drawn.{DrawnSymbol, TellsReading}
-use Rattle.qrcode_core.specs.Layers.{IsEncoded, AreBytesOf, FillsSymbol, IsDrawnStream}
+use Rattle.qrcode_core.specs.Layers.{DrawnSymbol, TellsReading, IsEncoded, AreBytesOf, FillsSymbol, IsDrawnStream}
 use Rattle.qrcode_core.proofs.Best.{best_symbol}
 use Rattle.qrcode_core.proofs.Ending.{bytes_of_tailed, take_ended}
 use Rattle.qrcode_core.proofs.Lengths.{length-encoded}

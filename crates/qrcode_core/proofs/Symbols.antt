@@ -10,7 +10,7 @@ use Rattle.qrcode_base.specs.declared.types.Color.{Color}
 use Rattle.qrcode_base.specs.declared.types.EcLevel.{EcLevel}
 use Rattle.qrcode_base.specs.declared.types.errors.QrError.{QrError}
 use Rattle.qrcode_base.specs.declared.types.errors.QrError.TheVariants.{DataTooLong, InvalidResourceLimits}
-use Rattle.qrcode_bits.specs.Encoding.{IsLimit, IsPartRefused}
+use Rattle.qrcode_bits.specs.Push.{IsLimit, IsPartRefused}
 use Rattle.qrcode_bits.proofs.Reading.{length-header}
 use Rattle.qrcode_core.specs.Sequence.{ReadsMessage, header_at, parts_at, IsTotal, IsPartSymbol, AreBestSymbols, IsSomePartTooLong, IsSequenceRefusal}
 use Rattle.qrcode_core.proofs.OneMessage.{in_any_order, one_message, length-parts, parts_whole}

@@ -7,7 +7,7 @@ use Rattle.std.specs.declared.alloc.Global.{Global}
 use Rattle.std.specs.String.{string_bytes, string_cmp}
 use Rattle.std.specs.BTreeMap.{insert_entry, is_at}
 use Rattle.std.specs.Map.{lookup, keys_of}
-use Rattle.qrcode_core.specs.Texts.{TextMap, text_cmp, text_entries, text_values, with_entry, at_key, key_texts}
+use Rattle.qrcode_core.specs.Plugins.{TextMap, text_cmp, text_entries, text_values, with_entry, at_key, key_texts}
 use Rattle.std.proofs.lemmas.Grind.{common_steps}
 
 -- what `insert` makes of the entries

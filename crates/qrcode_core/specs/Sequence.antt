@@ -1,17 +1,16 @@
 -- A message that is spread over several symbols (ISO/IEC 18004, "Structured Append").
-use Rattle.std.specs.Prelude.{◌≡◌, ℕ, ℤ, nat_abs, ◌+◌, ◌<◌, ◌≤◌, min, List, [], ◌∷◌, length, drop}
-use Rattle.std.specs.Prelude.{slice_index_or, slice_range, fold, bit_xor, Some, IsPermutation}
+use Rattle.std.specs.Prelude.{◌≡◌, ℕ, ℤ, nat_abs, ◌+◌, ◌<◌, ◌≤◌, min, List, [], ◌∷◌, length, drop, slice_index_or}
+use Rattle.std.specs.Prelude.{slice_range, fold, bit_xor, Some, IsPermutation}
 use Rattle.std.specs.List.{concat}
 use Rattle.qrcode_base.specs.declared.types.Color.{Color}
 use Rattle.qrcode_base.specs.declared.types.EcLevel.{EcLevel}
 use Rattle.qrcode_base.specs.declared.types.errors.QrError.{QrError}
 use Rattle.qrcode_base.specs.declared.types.errors.QrError.TheVariants.{DataTooLong, InvalidResourceLimits}
 use Rattle.qrcode_base.specs.declared.types.errors.QrError.TheVariants.{InvalidStructuredAppend, OutOfMemory}
-use Rattle.qrcode_bits.specs.Choice.{normal, FitsNone}
-use Rattle.qrcode_bits.specs.Encoding.{IsLimit}
+use Rattle.qrcode_bits.specs.Plans.{normal, FitsNone}
+use Rattle.qrcode_bits.specs.Push.{IsLimit}
 use Rattle.qrcode_bits.specs.Frame.{Header, header}
-use Rattle.qrcode_core.specs.Headline.{IsBest}
-use Rattle.qrcode_core.specs.Reader.{Reading, Reads}
+use Rattle.qrcode_core.specs.Headline.{IsBest, Reading, Reads}
 
 -- ---- What is read
 

@@ -1,7 +1,6 @@
 //! What holds of grids and of what is read from them.
-ghost use Rattle.qrcode_core.specs.Example.{printed, printed_reading};
-ghost use Rattle.qrcode_core.specs.Headline.{HaveDistance};
-ghost use Rattle.qrcode_core.specs.Reader.{HaveOneContent, HaveOneReading, Reads};
+ghost use Rattle.qrcode_core.specs.Headline.{printed, printed_reading, HaveDistance, HaveOneContent, HaveOneReading};
+ghost use Rattle.qrcode_core.specs.Headline.{Reads};
 ghost use Rattle.qrcode_core.specs.Sequence.{HaveOneMessage};
 
 /// No grid is read in two ways: the bytes, the version, the level, the mask, the header and the payload bits that a

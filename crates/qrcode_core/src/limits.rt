@@ -2,7 +2,7 @@
 ghost use Rattle.std.specs.Prelude.{◌≡◌, Some, None, pos, IsOk, ◌↔◌, IsOkUnless};
 ghost use Rattle.qrcode_base.specs.declared.types.Version.TheVariants.{Normal};
 ghost use Rattle.qrcode_base.specs.declared.types.errors.QrError.TheVariants.{InvalidResourceLimits};
-ghost use Rattle.qrcode_core.specs.Budgets.{IsBudget};
+ghost use Rattle.qrcode_core.specs.Limits.{IsBudget};
 
 use qrcode_base::types::{QrError, QrResult, Version};
 
@@ -71,7 +71,7 @@ impl ResourceLimits {
 }
 
 impl Default for ResourceLimits {
-    ghost use Rattle.qrcode_core.specs.Budgets.{default_budget};
+    ghost use Rattle.qrcode_core.specs.Limits.{default_budget};
 
     ghost is_default = { λ limits. limits ≡ default_budget };
 

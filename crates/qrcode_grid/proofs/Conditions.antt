@@ -1,4 +1,4 @@
--- The table of the conditions of eight masks.
+-- The table of the masks' conditions, modules as bytes, masked and formatted, masks by their numbers, and lists of penalties.
 use Rattle.std.proofs.Common.{◌≡◌, ℕ, ◌+◌, ◌/◌, ◌%◌, ◌<◌, ◌==◌, eqb, Bool, cond, min, [], get_or, refl, ap, arith, List, map, length, Option, ◌∙◌, sym, zero, suc, ◌∷◌, ◌++◌, take, drop, slice_get, Some, option_map}
 use Rattle.std.specs.Int.{bit_at}
 use Rattle.qrcode_base.specs.declared.types.Color.TheVariants.{Light, Dark}

@@ -6,8 +6,7 @@ use Rattle.qrcode_base.specs.declared.types.Version.{Version}
 use Rattle.qrcode_base.specs.declared.types.Version.TheVariants.{Normal, Micro}
 use Rattle.qrcode_base.specs.Symbols.{IsVersion, width_of}
 use Rattle.qrcode_grid.specs.Counts.{functional_cells, data_cell_count, IsFunctionalCount, area_count}
-use Rattle.qrcode_grid.specs.Regions.{is_functional_cell, is_functional_at}
-use Rattle.qrcode_grid.specs.Cells.{sum_below as total}
+use Rattle.qrcode_grid.specs.Regions.{is_functional_cell, is_functional_at, sum_below as total}
 use Rattle.qrcode_grid.specs.Walk.{data_cells, walk, walk_column, numbered_cell, timing_column}
 use Rattle.qrcode_grid.proofs.WholeSymbols.{odd_width, timing_inside}
 use Rattle.qrcode_grid.proofs.Totals.{total-cong, total-walk, count_by-total}

@@ -4,7 +4,7 @@ use Rattle.std.specs.Prelude.{nat_le}
 use Rattle.std.specs.List.{prefix_len}
 use Rattle.std.proofs.lemmas.Bool.Decides.{eqb_tells}
 use Rattle.std.proofs.lemmas.Grind.{common_steps}
-use Rattle.qrcode_grid.specs.Cells.{count_below, sum_below}
+use Rattle.qrcode_grid.specs.Regions.{count_below, sum_below}
 use Rattle.qrcode_grid.specs.Penalty.{length_penalty, run_penalty, runs_penalty}
 use Rattle.qrcode_grid.proofs.Totals.{total-first, total-cong}
 

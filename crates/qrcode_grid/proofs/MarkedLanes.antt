@@ -1,4 +1,4 @@
--- Lanes that mark where candidates have something.
+-- Lanes that mark where candidates have something, and what is counted in rows of lanes.
 use Rattle.std.proofs.Common.{◌≡◌, ℕ, zero, suc, ◌+◌, ◌-◌, ◌%◌, ◌<◌, ◌≤◌, ◌==◌, ◌&&◌, ◌||◌, ◌++◌, Bool, cond, List, map, take, drop, length, get_or, refl, ap, ◌∙◌, sym, arith, Fits, w8, ◌*◌, ◌^◌, min, count_by, ◌/◌, eqb, true, false, [], ◌∷◌, add-zero, zero-add, suc-add}
 use Rattle.std.specs.Int.{bit_at, bit_not}
 use Rattle.std.specs.Int.Bits.{bit_and, bit_or, bit_xor}
@@ -14,7 +14,7 @@ use Rattle.std.proofs.Math.Nat.{mod-eq_of_lt, mul-le-mul_right}
 use Rattle.std.proofs.Math.Pow.{pow-lt}
 use Rattle.std.proofs.lemmas.Nat.{pow_pos}
 use lib.ListN.{replicate}
-use Rattle.qrcode_grid.specs.Cells.{sum_below, count_below}
+use Rattle.qrcode_grid.specs.Regions.{sum_below, count_below}
 use Rattle.qrcode_grid.proofs.Totals.{count_by-total, total-cong, total-add, total-mul}
 use Rattle.std.specs.List.{range_with_len}
 use Rattle.std.proofs.lemmas.List.Sums.{sum_by-append, count_by-le-length}

@@ -4,7 +4,7 @@ use Rattle.std.specs.List.{range_with_len}
 use Rattle.std.proofs.Math.Nat.{mul-le-mul_right, add-mul}
 use Rattle.std.proofs.lemmas.Bool.{cases_lt}
 use Rattle.std.proofs.lemmas.Bool.Decides.{nat_tests}
-use Rattle.qrcode_grid.specs.Cells.{sum_below, count_below}
+use Rattle.qrcode_grid.specs.Regions.{sum_below, count_below}
 use Rattle.qrcode_grid.specs.Penalty.{row, column, line_penalty, count_of_squares, is_byte_square_at, is_dark_byte, squares_penalty, quiet, are_light, is_pattern, is_finder_like}
 use Rattle.qrcode_grid.specs.Scoring.{AreEdges, IsPadded, cell, has, has_five, has_six, has_finder, has_square, places, stride, is_quiet}
 use Rattle.qrcode_grid.specs.declared.canvas.scoring.features.Feature.TheVariants.{Finder, Square, Dark}

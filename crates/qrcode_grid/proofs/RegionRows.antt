@@ -7,11 +7,11 @@ use Rattle.qrcode_base.specs.declared.types.Version.TheVariants.{Normal, Micro}
 use Rattle.qrcode_base.specs.Symbols.{IsVersion, width_of}
 use Rattle.qrcode_grid.specs.declared.canvas.Module.{Module}
 use Rattle.qrcode_grid.specs.Masks.{drawn_over}
-use Rattle.qrcode_grid.specs.Regions.{timing, where_true, dark_if_even, version_copies, alignments, alignment_coordinates, first_some, normal_regions, micro_regions, functional_color, near, alignment_count, pattern_at, alignment_coordinate}
+use Rattle.qrcode_grid.specs.Regions.{timing, where_true, dark_if_even, version_copies, alignments, alignment_coordinates, first_some, normal_regions}
+use Rattle.qrcode_grid.specs.Regions.{micro_regions, functional_color, near, alignment_count, pattern_at, alignment_coordinate, version_word}
 use Rattle.std.proofs.lemmas.Grind.{common_steps}
 use Rattle.std.specs.List.{range_with_len}
 use Rattle.std.proofs.lemmas.List.FromFn.{get_or-map-range_with_len}
-use Rattle.qrcode_grid.specs.Words.{version_word}
 use Rattle.std.specs.Int.{abs_diff}
 use Rattle.std.proofs.lemmas.Bool.{cases_lt, leb-true}
 use Rattle.qrcode_grid.proofs.Tests.{all_pass, passes, both}

@@ -10,8 +10,8 @@ use Rattle.qrcode_base.specs.declared.types.Color.TheVariants.{Light, Dark}
 use Rattle.qrcode_base.specs.declared.types.Version.{Version}
 use Rattle.qrcode_base.specs.declared.types.Version.TheVariants.{Normal, Micro}
 use Rattle.qrcode_base.specs.Symbols.{IsVersion, width_of}
-use Rattle.qrcode_grid.specs.Words.{digit, digit_color}
-use Rattle.qrcode_grid.specs.Regions.{finder, timing, where_true, dark_if_even, digit_at, format_first, format_second, format_micro, written, version_copies, alignments, alignment_coordinates, first_some, functional_color, regions}
+use Rattle.qrcode_grid.specs.Regions.{digit, digit_color, finder, timing, where_true, dark_if_even, digit_at, format_first, format_second, format_micro}
+use Rattle.qrcode_grid.specs.Regions.{written, version_copies, alignments, alignment_coordinates, first_some, functional_color, regions}
 use Rattle.qrcode_grid.proofs.Tests.{all_pass, passes, both}
 use Rattle.qrcode_grid.proofs.Areas.{finder_test, finder_is, timing_test, first_test, first_is, second_test, second_is, micro_is, version_is, some-where_true, some-option_map}
 use Rattle.std.proofs.lemmas.Grind.{common_steps}

@@ -1,13 +1,11 @@
--- A turn of the division by rows takes in one more byte.
+-- Division by rows: its turns, long division, lanes of bytes multiplied in the field, and the two generators, computed.
 use Rattle.std.proofs.Common.{◌≡◌, ℕ, zero, suc, ◌<◌, ◌≤◌, ◌+◌, ◌-◌, refl, ap, sym, ◌∙◌, arith, List, [], ◌∷◌, ◌++◌, map, length, get_or, take, drop, replicate, ◌/◌, ◌%◌, cond, true, eqb, leb, w8, Fits, Bool, false, ◌^◌, ◌==◌, ◌&&◌, nat_lt, subst}
 use Rattle.std.specs.List.{range_with_len, position_or_len}
 use Rattle.std.specs.Int.Bits.{bit_xor, xor_assoc, xor_zero_r, xor_self}
 use Rattle.std.proofs.lemmas.Nat.{xor_comm, xor_of_8}
 use Rattle.std.proofs.lemmas.List.{append-nil, length-take, length-drop, length-replicate, get_or-take, get_or-drop, same_lists, get_or_default, drop_more, length-append, length-map, drop-drop, take-append-drop, get_or-map, take_at, drop_at}
 use Rattle.std.proofs.lemmas.List.FromFn.{get_or-map-range_with_len, length-map-range_with_len, map-range_with_len_more}
-use Rattle.qrcode_grid.specs.Field.{product, power, double, shift_and_add}
-use Rattle.qrcode_grid.specs.Codes.{value_at, AreBytes}
-use Rattle.qrcode_grid.specs.Rows.{AreTerms, AreRows, IsDivisor, IsTurn, IsRemainder}
+use Rattle.qrcode_grid.specs.Codes.{product, power, double, shift_and_add, value_at, AreBytes, AreTerms, AreRows, IsDivisor, IsTurn, IsRemainder}
 use Rattle.qrcode_grid.proofs.FieldLaws.{product-adds_left, product-one_left, product-zero_right, product_assoc, product_comm, product-double, product-zero_left, passes_below, passes_below-at, xor-zero, product-bounded, power-bounded}
 use Rattle.qrcode_grid.proofs.Values.{sums, value_at-append, value_at-zeros, power-first, length-sums, value_at-sums, value_at-multiple}
 use Rattle.std.proofs.lemmas.Grind.{common_steps}
@@ -15,7 +13,7 @@ use Rattle.std.proofs.lemmas.Bool.{eqb-true, ltb-true}
 use Rattle.std.proofs.lemmas.Simd.{get_or-zip2, length-zip2, get_or-replicate, get_or-sel_l, length-sel_l, tops_compared}
 use lib.Lanes.{Each1, zip2, put_chunk, sel_l, top}
 use lib.ListN.{replicate}
-use Rattle.qrcode_grid.specs.Words.{polynomial_product, multiples, code_word, HasOneMultiple, HasOneFormatWord, HasOneVersionWord}
+use Rattle.qrcode_grid.specs.Regions.{polynomial_product, multiples, code_word, HasOneMultiple, HasOneFormatWord, HasOneVersionWord}
 use Rattle.qrcode_grid.proofs.Tests.{passes, both}
 use Rattle.std.proofs.lemmas.List.Elements.{All-same, All-drop, All-take, All-from_get_or, All-get_or, All-append}
 use borrow.Rule.Slice.PartMut.{put_mid}

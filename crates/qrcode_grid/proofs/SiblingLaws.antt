@@ -10,10 +10,9 @@ use Rattle.qrcode_base.specs.declared.types.EcLevel.{EcLevel}
 use Rattle.qrcode_base.specs.declared.types.Version.{Version}
 use Rattle.qrcode_base.specs.Symbols.{IsVersion, width_of}
 use Rattle.qrcode_grid.specs.declared.canvas.MaskPattern.{MaskPattern}
-use Rattle.qrcode_grid.specs.Cells.{map_cells, color_in}
+use Rattle.qrcode_grid.specs.Regions.{map_cells, color_in, functional_color, is_functional_cell}
 use Rattle.qrcode_grid.specs.Masks.{format_word, inverted_if, is_inverted, raw_colors, sibling, HasFunctionalColors}
-use Rattle.qrcode_grid.specs.Regions.{functional_color, is_functional_cell}
-use Rattle.qrcode_grid.specs.Symbol.{HasItsSiblings}
+use Rattle.qrcode_grid.specs.Canvas.{HasItsSiblings}
 use Rattle.qrcode_grid.specs.Walk.{numbered_cell, timing_column}
 use Rattle.qrcode_grid.proofs.Areas.{is_some-functional_color}
 use Rattle.qrcode_grid.proofs.WrittenWords.{length-map_places, get_or-map_places, at_place, cells_are}

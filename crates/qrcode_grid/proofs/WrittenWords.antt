@@ -1,11 +1,11 @@
--- A loop that writes a word into a list of places, from the low digit on: its steps, over bytes and over modules alike.
+-- Words and rows that loops write into a grid: over bytes and over modules alike. Then the distance of drawn words.
 use Rattle.std.proofs.Common.{◌≡◌, ◌≢◌, ℕ, ◌<◌, ◌≤◌, ◌+◌, ◌-◌, ◌*◌, ◌==◌, ◌&&◌, Bool, true, false, List, [], ◌∷◌, length, get_or, set, drop, Option, Some, None, option_map, cond, ap, ◌∙◌, sym, subst, arith, inl, inr, refl, suc, length-drop, drop-cons, get_or-set_same, get_or-set_other, pos, negsuc, unwrap_or, ◌/◌, ◌%◌, zero, length-set, ℤ, slice_get, w16}
 use Rattle.std.proofs.lemmas.Bool.{cases_eq, cases_lt}
 use Rattle.std.proofs.lemmas.Bool.Decides.{nat_tests}
 use Rattle.qrcode_base.specs.declared.types.Color.{Color}
 use Rattle.qrcode_base.specs.declared.types.Color.TheVariants.{Dark}
-use Rattle.qrcode_grid.specs.Regions.{digit_at, first_some, where_true, written}
-use Rattle.qrcode_grid.specs.Words.{digit, digit_color, normal_format_word, micro_format_word, version_word, differing_digits}
+use Rattle.qrcode_grid.specs.Regions.{digit_at, first_some, where_true, written, digit, digit_color, normal_format_word, micro_format_word, version_word}
+use Rattle.qrcode_grid.specs.Regions.{differing_digits, map_cells, map_places}
 use Rattle.std.proofs.lemmas.Grind.{common_steps}
 use Rattle.qrcode_base.specs.declared.types.EcLevel.{EcLevel}
 use Rattle.qrcode_base.specs.declared.types.Version.{Version}
@@ -17,7 +17,6 @@ use Rattle.qrcode_grid.specs.Laws.{IsFarFormatWord, IsFarVersionWord}
 use Rattle.qrcode_grid.proofs.Distance.{normal_format_words_differ, micro_format_words_differ, version_words_differ}
 use Rattle.std.proofs.lemmas.List.{same_lists, get_or_default}
 use Rattle.std.proofs.lemmas.Nat.{mod-mul-add, div-mul-add}
-use Rattle.qrcode_grid.specs.Cells.{map_cells, map_places}
 use Rattle.std.proofs.Math.Nat.{mul-le-mul_right}
 use Rattle.std.proofs.lemmas.Int.{to_z-of_z}
 use Rattle.std.proofs.lemmas.Option.{slice_get-get_or}

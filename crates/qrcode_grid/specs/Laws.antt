@@ -5,10 +5,9 @@ use Rattle.qrcode_base.specs.declared.types.Version.{Version}
 use Rattle.qrcode_base.specs.declared.types.Version.TheVariants.{Normal, Micro}
 use Rattle.qrcode_base.specs.Symbols.{width_of}
 use Rattle.qrcode_grid.specs.declared.canvas.MaskPattern.{MaskPattern}
-use Rattle.qrcode_grid.specs.Words.{normal_format_word, micro_format_word, version_word, differing_digits}
-use Rattle.qrcode_grid.specs.Regions.{regions, functional_color, is_functional_cell, alignment, alignments}
-use Rattle.qrcode_grid.specs.Regions.{alignment_count, alignment_step, alignment_coordinate, alignment_coordinates}
-use Rattle.qrcode_grid.specs.Regions.{is_at_finder, ring}
+use Rattle.qrcode_grid.specs.Regions.{normal_format_word, micro_format_word, version_word, differing_digits, regions}
+use Rattle.qrcode_grid.specs.Regions.{functional_color, is_functional_cell, alignment, alignments, alignment_count}
+use Rattle.qrcode_grid.specs.Regions.{alignment_step, alignment_coordinate, alignment_coordinates, is_at_finder, ring}
 use Rattle.qrcode_grid.specs.Masks.{format_data, format_word}
 use Rattle.qrcode_grid.specs.Walk.{timing_column, cell_number, numbered_cell}
 

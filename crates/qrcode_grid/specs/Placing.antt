@@ -6,9 +6,8 @@ use Rattle.qrcode_grid.specs.declared.canvas.Module.TheVariants.{Empty, Masked, 
 use Rattle.qrcode_grid.specs.declared.canvas.data.ahead.BitsAhead.{BitsAhead}
 use Rattle.qrcode_grid.specs.declared.canvas.data.streams.Streams.{Streams}
 use Rattle.qrcode_grid.specs.declared.canvas.data.Columns.{Columns}
-use Rattle.qrcode_grid.specs.Walk.{walk_column}
+use Rattle.qrcode_grid.specs.Walk.{walk_column, bit_color, symbol_bits, place_in_walk, along_walk, fill_empty}
 use Rattle.qrcode_base.specs.Numbers.{number_bits}
-use Rattle.qrcode_grid.specs.Data.{bit_color, symbol_bits, place_in_walk, along_walk, fill_empty}
 
 -- the bits of a symbol with these streams
 abbrev pub stream_bits : Streams → List Bool

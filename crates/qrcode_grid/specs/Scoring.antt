@@ -1,6 +1,6 @@
 -- Eight candidates in one list of bytes, a byte a module: bit m is the colour in candidate m.
-use Rattle.std.specs.Prelude.{ℕ, ◌+◌, ◌-◌, ◌*◌, ◌/◌, ◌%◌, ◌<◌, ◌≤◌, ◌≡◌, ◌==◌, ◌&&◌, ◌||◌, Bool, if◌then◌else◌}
-use Rattle.std.specs.Prelude.{List, map, length, slice_index, slice_index_or, Option, Some, None}
+use Rattle.std.specs.Prelude.{ℕ, ◌+◌, ◌-◌, ◌*◌, ◌/◌, ◌%◌, ◌<◌, ◌≤◌, ◌≡◌, ◌==◌, ◌&&◌, ◌||◌, Bool, if◌then◌else◌, List}
+use Rattle.std.specs.Prelude.{map, length, slice_index, slice_index_or, Option, Some, None}
 use Rattle.std.specs.Int.{bit_at}
 use Rattle.qrcode_grid.specs.declared.canvas.scoring.planes.Planes.{Planes}
 use Rattle.qrcode_grid.specs.declared.canvas.scoring.planes.Tally.{Tally}
@@ -9,9 +9,8 @@ use Rattle.qrcode_grid.specs.declared.canvas.MaskPattern.TheVariants.{Checkerboa
 use Rattle.qrcode_grid.specs.Masks.{normal_patterns}
 use Rattle.qrcode_grid.specs.declared.canvas.scoring.features.Feature.{Feature}
 use Rattle.qrcode_grid.specs.declared.canvas.scoring.features.Feature.TheVariants.{Finder, Square, Dark}
-use Rattle.qrcode_grid.specs.Cells.{sum_below}
+use Rattle.qrcode_grid.specs.Regions.{sum_below, digit, digit_color}
 use Rattle.qrcode_grid.specs.Penalty.{byte_of}
-use Rattle.qrcode_grid.specs.Words.{digit, digit_color}
 use Rattle.qrcode_base.specs.declared.types.Color.{Color}
 use Rattle.qrcode_grid.specs.declared.canvas.Module.{Module}
 use Rattle.qrcode_grid.specs.declared.canvas.Module.TheVariants.{Empty, Masked, Unmasked}
@@ -47,11 +46,11 @@ abbrev pub stride : ℕ → ℕ
 stride w = w + 4
 
 abbrev pub list_length : ℕ → ℕ
-list_length w = (w + 14) * (w + 4) + 256
+list_length w = (w + 14) * stride w + 256
 
 -- how many places are looked at: those of all rows of the grid, 256 at a time
 abbrev pub places : ℕ → ℕ
-places w = 256 * ((w * (w + 4) + 255) / 256)
+places w = 256 * ((w * stride w + 255) / 256)
 
 -- A grid of width w stands in a list: four light rows, four light modules after each row, and light modules to the end.
 pub record IsPadded (w : ℕ) (cells padded : List ℕ) : Type 0 where

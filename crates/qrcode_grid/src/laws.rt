@@ -6,8 +6,8 @@ ghost use Rattle.qrcode_base.specs.declared.types.EcLevel.{EcLevel};
 ghost use Rattle.qrcode_base.specs.declared.types.Version.{Version};
 ghost use Rattle.qrcode_base.specs.Symbols.{IsVersion, width_of};
 ghost use Rattle.qrcode_grid.specs.declared.canvas.MaskPattern.{MaskPattern};
-ghost use Rattle.qrcode_grid.specs.Words.{HasOneFormatWord, HasOneVersionWord};
-ghost use Rattle.qrcode_grid.specs.Symbol.{HasItsSiblings};
+ghost use Rattle.qrcode_grid.specs.Regions.{HasOneFormatWord, HasOneVersionWord};
+ghost use Rattle.qrcode_grid.specs.Canvas.{HasItsSiblings};
 ghost use Rattle.qrcode_grid.specs.Masks.{HasFunctionalColors};
 
 /// The siblings of a grid with the functional colours of its symbol have its raw colours and the functional colours of

@@ -6,7 +6,7 @@ use Rattle.std.specs.Str.{bytes_eq}
 use Rattle.std.proofs.lemmas.Bool.{false_from_ne_true}
 use Rattle.std.proofs.lemmas.Map.Text.{is_eq-slice_cmp}
 use Rattle.std.proofs.lemmas.Slice.Eq.{bytes_eq-Decides}
-use Rattle.qrcode_core.specs.Registered.{Registered, nothing_registered, with_registration, renderer_of}
+use Rattle.qrcode_core.specs.Registries.{Registered, nothing_registered, with_registration, renderer_of, object_in, object_at}
 use Rattle.std.specs.declared.alloc.Global.{Global}
 use Rattle.std.specs.declared.dyn_box.DynBox.{DynBox}
 use Rattle.qrcode_core.specs.declared.plugin.config.RenderConfig.{RenderConfig}
@@ -14,10 +14,9 @@ use Rattle.qrcode_core.specs.declared.plugin.error.PluginError.{PluginError}
 use Rattle.qrcode_core.specs.declared.plugin.error.PluginError.TheVariants.{RendererNotFound, EncoderNotFound, InvalidConfig, InvalidModuleGrid, RenderFailed, EncodeFailed, PostProcessFailed, OutOfMemory}
 use Rattle.qrcode_core.specs.declared.plugin.output.RenderOutput.{RenderOutput}
 use Rattle.qrcode_core.specs.Grids.{Grid}
-use Rattle.qrcode_core.specs.Registries.{object_in, object_at}
 use Rattle.qrlabel.specs.Pictures.{Picture}
 use Rattle.qrlabel.specs.Rendered.{Renders, Validates}
-use Rattle.qrcode_core.specs.Texts.{TextMap, at_key, text_cmp}
+use Rattle.qrcode_core.specs.Plugins.{TextMap, at_key, text_cmp}
 
 -- the three, in the order of their names
 abbrev pub three : {V : Type 0} → (svg pbm terminal : V) → TextMap V

@@ -4,7 +4,7 @@ use Rattle.std.specs.Prelude.{codes, decimal}
 use Rattle.std.specs.Str.Parse.{IsNumeral, digits_value}
 use Rattle.std.proofs.lemmas.Fmt.{decimal_is_IsNumeral}
 use Rattle.std.proofs.lemmas.Str.Parse.{digit_at, without_leading_plus_none}
-use Rattle.qrcode_core.specs.Texts.{TextMap, with_entry}
+use Rattle.qrcode_core.specs.Plugins.{TextMap, with_entry}
 use Rattle.qrlabel.specs.Options.{IsNumber, AsksFlag, Asks}
 
 -- a number's decimal digits are that number

@@ -2,9 +2,8 @@
 use Rattle.std.specs.Prelude.{◌≡◌, ℕ, Bool, true, false, List, ◌++◌, [], ◌∷◌, Option, codes}
 use Rattle.qrcode_core.specs.declared.types.EcLevel.{EcLevel}
 use Rattle.qrcode_core.specs.declared.types.errors.QrError.{QrError}
-use Rattle.qrcode_core.specs.Drawn.{DrawnSymbol, drawn_grid}
-use Rattle.programs.specs.Outcome.{Serves}
-use Rattle.programs.specs.Symbols.{IsSymbolOf, IsRefusalOf}
+use Rattle.qrcode_core.specs.Layers.{DrawnSymbol, drawn_grid}
+use Rattle.programs.specs.Outcome.{Serves, IsSymbolOf, IsRefusalOf}
 use Rattle.qrlabel.specs.declared.wanted.Format.{Format}
 use Rattle.qrlabel.specs.declared.wanted.Format.TheVariants.{Svg, Pbm, Terminal}
 use Rattle.qrlabel.specs.declared.wanted.Kind.{Kind}

@@ -4,7 +4,7 @@ use Rattle.qrcode_core.specs.declared.plugin.config.RenderConfig.{RenderConfig}
 use Rattle.qrcode_core.specs.declared.plugin.error.PluginError.{PluginError}
 use Rattle.qrcode_core.specs.declared.plugin.output.RenderOutput.{RenderOutput}
 use Rattle.qrcode_core.specs.Grids.{Grid}
-use Rattle.qrcode_core.specs.PluginErrors.{IsRendererMissing}
+use Rattle.qrcode_core.specs.Plugins.{IsRendererMissing}
 use Rattle.qrlabel.specs.Rendered.{Renders, ShowsBitmap, ShowsSvg, ShowsTerminal}
 
 -- Each renderer answers by its name; by any other there is none.

@@ -1,7 +1,7 @@
 -- What the options of a configuration ask of a renderer.
 use Rattle.std.specs.Prelude.{◌≡◌, ℕ, ◌≤◌, Bool, true, false, List, Option, None, Some, codes}
 use Rattle.std.specs.Str.Parse.{IsNumeral, digits_value, without_leading_plus}
-use Rattle.qrcode_core.specs.Texts.{TextMap, at_key}
+use Rattle.qrcode_core.specs.Plugins.{TextMap, at_key}
 
 -- the text is a number in decimal digits, perhaps behind a plus sign
 pub record IsNumber (text : List ℕ) (n : ℕ) : Type 0 where

@@ -6,7 +6,7 @@ use Rattle.qrcode_core.specs.declared.plugin.error.PluginError.{PluginError}
 use Rattle.qrcode_core.specs.declared.plugin.error.PluginError.TheVariants.{InvalidConfig, RenderFailed, OutOfMemory}
 use Rattle.qrcode_core.specs.declared.plugin.output.RenderOutput.{RenderOutput}
 use Rattle.qrcode_core.specs.declared.plugin.output.RenderOutput.TheVariants.{Text, Bytes}
-use Rattle.qrcode_core.specs.Configs.{render_options}
+use Rattle.qrcode_core.specs.Plugins.{render_options}
 use Rattle.qrcode_core.specs.Grids.{Grid}
 use Rattle.qrlabel.specs.Pictures.{Picture, picture}
 use Rattle.qrlabel.specs.Bitmaps.{bitmap_of}

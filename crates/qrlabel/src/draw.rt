@@ -2,7 +2,7 @@
 ghost use Rattle.std.specs.Prelude.{◌≡◌, ◌≢◌, ℕ, ◌≤◌, ◌↔◌, length, IsTrue, IsFalse, IfOk, IfErr, OnOk, IsErrOf};
 ghost use Rattle.programs.specs.Devices.{ReadsAtMost};
 ghost use Rattle.programs.specs.Outcome.{IsDrawing, IsRefused, IfRefused, Gives};
-ghost use Rattle.qrcode_core.specs.Configs.{render_options};
+ghost use Rattle.qrcode_core.specs.Plugins.{render_options};
 ghost use Rattle.qrlabel.specs.Labels.{IsSymbolAs, IsRefusalAs, Shows, Refuses, picture_for};
 ghost use Rattle.qrlabel.specs.Options.{Asks};
 ghost use Rattle.qrlabel.specs.Rendered.{IsOutput};

@@ -2,8 +2,7 @@
 ghost use Rattle.std.specs.Prelude.{◌≡◌, ℕ, ◌≤◌, Bool, codes, decimal, MatchOption, IfOk, IfErr, IfSome, Some};
 ghost use Rattle.std.specs.Option.{option_copied};
 ghost use Rattle.std.specs.String.{string_bytes};
-ghost use Rattle.qrcode_core.specs.Configs.{render_options};
-ghost use Rattle.qrcode_core.specs.Texts.{at_key};
+ghost use Rattle.qrcode_core.specs.Plugins.{render_options, at_key};
 ghost use Rattle.qrlabel.specs.Options.{Asks, AsksForNone, AsksFlag, AsksNumber};
 
 use qrcode_core::plugin::{PluginError, RenderConfig};

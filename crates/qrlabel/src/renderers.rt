@@ -1,10 +1,10 @@
 //! The renderers that a registry holds.
 ghost use Rattle.std.specs.Prelude.{◌≡◌, ℕ, ◌≤◌, Bool, IfOk, IfErr, OnOk};
-ghost use Rattle.qrcode_core.specs.Configs.{render_options};
+ghost use Rattle.qrcode_core.specs.Plugins.{render_options};
 ghost use Rattle.qrlabel.specs.Options.{Asks, AsksForNone};
 ghost use Rattle.qrlabel.specs.Pictures.{picture};
-ghost use Rattle.qrlabel.specs.Rendered.{IsDrawable, IsRefusal, Renders, Validates};
-ghost use Rattle.qrlabel.specs.Rendered.{ShowsBitmap, ShowsSvg, ShowsTerminal};
+ghost use Rattle.qrlabel.specs.Rendered.{IsDrawable, IsRefusal, Renders, Validates, ShowsBitmap, ShowsSvg};
+ghost use Rattle.qrlabel.specs.Rendered.{ShowsTerminal};
 ghost use Rattle.qrlabel.specs.Shown.{shown};
 
 use crate::bitmap::bitmap;

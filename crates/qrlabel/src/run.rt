@@ -1,7 +1,7 @@
 //! From the words of the command line to the status.
 ghost use Rattle.std.specs.Prelude.{◌≡◌, IsFalse, map, Err};
 ghost use Rattle.programs.specs.Devices.{Writes};
-ghost use Rattle.programs.specs.Faults.{Says};
+ghost use Rattle.programs.specs.Outcome.{Says};
 ghost use Rattle.qrlabel.specs.Labels.{program, usage, ServesLabel};
 ghost use Rattle.qrlabel.specs.Words.{Label, Ask, AskForNone};
 

@@ -1,9 +1,7 @@
 //! From the bytes of a source to the text of their symbol.
-ghost use Rattle.std.specs.Prelude.{◌≡◌, ◌≢◌, ◌*◌, ◌≤◌, ◌↔◌, length, IsTrue, IsFalse};
-ghost use Rattle.std.specs.Prelude.{IfOk, IfErr, OnOk, IsErrOf};
+ghost use Rattle.std.specs.Prelude.{◌≡◌, ◌≢◌, ◌*◌, ◌≤◌, ◌↔◌, length, IsTrue, IsFalse, IfOk, IfErr, OnOk, IsErrOf};
 ghost use Rattle.programs.specs.Devices.{ReadsAtMost};
-ghost use Rattle.programs.specs.Outcome.{IsDrawing, IsRefused, IfRefused, Gives};
-ghost use Rattle.programs.specs.Symbols.{IsSymbolOf, IsRefusalOf};
+ghost use Rattle.programs.specs.Outcome.{IsDrawing, IsRefused, IfRefused, Gives, IsSymbolOf, IsRefusalOf};
 ghost use Rattle.qrcode_core.specs.Headline.{IsSquare};
 ghost use Rattle.qrtext.specs.Drawing.{Shows};
 

@@ -1,9 +1,8 @@
 //! From the words of the command line to the status.
 ghost use Rattle.std.specs.Prelude.{◌≡◌, ℕ, map, codes, ◌↔◌, IsTrue, IsFalse, MatchOption, Err};
 ghost use Rattle.programs.specs.Devices.{Writes};
-ghost use Rattle.programs.specs.Faults.{Says};
-ghost use Rattle.qrtext.specs.Words.{Request, request, Ask, AskForNone};
-ghost use Rattle.qrtext.specs.Status.{program, usage, ServesText};
+ghost use Rattle.programs.specs.Outcome.{Says};
+ghost use Rattle.qrtext.specs.Words.{Request, request, Ask, AskForNone, program, usage, ServesText};
 
 use crate::draw::draw;
 use programs::copying::write_all;

@@ -16,14 +16,11 @@ use Rattle.qrcode_base.specs.Symbols.{capacity}
 use Rattle.qrcode_base.proofs.Fields.{count-fits}
 use Rattle.qrcode_base.proofs.Validity.{none_where_valid, first_invalid-is}
 use Rattle.qrcode_bits.specs.declared.optimize.Segment.{Segment}
-use Rattle.qrcode_bits.specs.Choice.{IsMergePlan, normal}
+use Rattle.qrcode_bits.specs.Plans.{IsMergePlan, normal, IsChosenPlan}
 use Rattle.qrcode_bits.specs.Frame.{spellings}
-use Rattle.qrcode_bits.specs.Merging.{IsChosenPlan}
-use Rattle.qrcode_bits.specs.OptimalPush.{PushesOptimally}
+use Rattle.qrcode_bits.specs.Push.{PushesOptimally, IsRefused}
 use Rattle.qrcode_bits.specs.Parsing.{AreTexts, parsed}
-use Rattle.qrcode_bits.specs.Pieces.{segment_piece, segment_pieces}
-use Rattle.qrcode_bits.specs.Push.{IsRefused}
-use Rattle.qrcode_bits.specs.Spelling.{Piece, character_count, spelling}
+use Rattle.qrcode_bits.specs.Spelling.{segment_piece, segment_pieces, Piece, character_count, spelling}
 use Rattle.qrcode_bits.specs.Stream.{Stream, Appends}
 use Rattle.qrcode_bits.proofs.Choices.{chosen_is_plan, fits_normal}
 use Rattle.qrcode_bits.proofs.Lengths.{long_message}

@@ -11,15 +11,14 @@ use Rattle.qrcode_base.specs.declared.types.errors.QrError.TheVariants.{DataTooL
 use Rattle.qrcode_base.specs.Modes.{HasMode, count_width}
 use Rattle.qrcode_base.proofs.Fields.{count-fits}
 use Rattle.qrcode_base.proofs.Validity.{none_where_valid, first_invalid-is}
-use Rattle.qrcode_bits.specs.Indicators.{eci_spelling}
+use Rattle.qrcode_bits.specs.Stream.{eci_spelling, Stream, Appends}
 use Rattle.qrcode_bits.specs.Push.{IsRefused, Spells, piece}
 use Rattle.qrcode_bits.specs.Spelling.{character_count, spelling}
-use Rattle.qrcode_bits.specs.Stream.{Stream, Appends}
 use Rattle.qrcode_bits.proofs.Choices.{capacity-most}
 use Rattle.qrcode_bits.proofs.Pairs.{bytes_valid}
 use Rattle.qrcode_bits.proofs.Reading.{length-spelling}
 use Rattle.qrcode_bits.proofs.Segments.{length-character_bits}
-use Rattle.qrcode_bits.specs.Choice.{normal}
+use Rattle.qrcode_bits.specs.Plans.{normal}
 use Rattle.texts.specs.Smallest.{SaysUtf8, HoldsNoneBelow, IsTooLongIn, IsRefusedIn}
 
 -- ---- A text in UTF-8

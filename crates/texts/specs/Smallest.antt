@@ -8,16 +8,13 @@ use Rattle.qrcode_base.specs.declared.types.errors.QrError.TheVariants.{DataTooL
 use Rattle.qrcode_base.specs.Numbers.{number_bits}
 use Rattle.qrcode_base.specs.Symbols.{capacity}
 use Rattle.qrcode_bits.specs.declared.optimize.Segment.{Segment}
-use Rattle.qrcode_bits.specs.Choice.{normal}
+use Rattle.qrcode_bits.specs.Plans.{normal, IsChosenPlan}
 use Rattle.qrcode_bits.specs.Frame.{spellings, tail}
-use Rattle.qrcode_bits.specs.Indicators.{eci_spelling}
-use Rattle.qrcode_bits.specs.Merging.{IsChosenPlan}
+use Rattle.qrcode_bits.specs.Stream.{eci_spelling}
 use Rattle.qrcode_bits.specs.Parsing.{parsed}
-use Rattle.qrcode_bits.specs.Pieces.{segment_pieces}
+use Rattle.qrcode_bits.specs.Spelling.{segment_pieces, spelling}
 use Rattle.qrcode_bits.specs.Push.{piece}
-use Rattle.qrcode_bits.specs.Spelling.{spelling}
-use Rattle.qrcode_core.specs.Drawn.{DrawnSymbol}
-use Rattle.qrcode_core.specs.HeldBits.{IsSymbolOf}
+use Rattle.qrcode_core.specs.Layers.{DrawnSymbol, IsSymbolOf}
 
 -- a text in UTF-8: the ECI designator 26, and one Byte segment (ISO/IEC 18004, "ECI mode")
 abbrev pub SaysUtf8 : List ℕ → Version → List Bool → Type 0

@@ -2,10 +2,9 @@
 #![tactic(auto)]
 
 ghost use Rattle.std.specs.Prelude.{◌≡◌, ◌≤◌, length, IfOk, IfErr, IsErrOf};
-ghost use Rattle.qrcode_core.specs.Drawn.{TellsReading};
-ghost use Rattle.qrcode_bits.specs.Choice.{normal};
-ghost use Rattle.texts.specs.Smallest.{SaysUtf8, SaysElements, HoldsIn, IsRefusedIn};
-ghost use Rattle.texts.specs.Smallest.{IsSmallest, IsRefusedByAll};
+ghost use Rattle.qrcode_core.specs.Layers.{TellsReading};
+ghost use Rattle.qrcode_bits.specs.Plans.{normal};
+ghost use Rattle.texts.specs.Smallest.{SaysUtf8, SaysElements, HoldsIn, IsRefusedIn, IsSmallest, IsRefusedByAll};
 
 use qrcode_core::bits::Bits;
 use qrcode_core::limits::DEFAULT_MAX_DATA_LENGTH;

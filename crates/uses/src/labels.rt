@@ -1,8 +1,8 @@
 //! Labels with their version and mask, by `qrcode_core`.
 ghost use Rattle.std.specs.Prelude.{◌≡◌, ◌+◌, ◌*◌, ◌≤◌, IfOk, IfErr};
-ghost use Rattle.qrcode_core.specs.Drawn.{TellsReading, drawn_grid};
+ghost use Rattle.qrcode_core.specs.Layers.{TellsReading, drawn_grid};
 ghost use Rattle.qrcode_core.specs.Headline.{IsBestSymbol};
-ghost use Rattle.qrcode_core.specs.Limited.{IsBestWithin, IsLimitedRefusal};
+ghost use Rattle.qrcode_core.specs.Limits.{IsBestWithin, IsLimitedRefusal};
 
 use qrcode_core::limits::ResourceLimits;
 use qrcode_core::symbol::Symbol;

@@ -1,7 +1,7 @@
 //! A plan whose comparisons are counted, by `qrcode_bits`.
 ghost use Rattle.std.specs.Prelude.{◌≡◌, ◌*◌, ◌<◌, ◌≤◌, length, IfOk};
-ghost use Rattle.qrcode_base.specs.Versions.{HasMicroNumber};
-ghost use Rattle.qrcode_bits.specs.Merging.{HasLinearCosts, IsChosenPlan};
+ghost use Rattle.qrcode_base.specs.Symbols.{HasMicroNumber};
+ghost use Rattle.qrcode_bits.specs.Plans.{HasLinearCosts, IsChosenPlan};
 
 use qrcode_base::types::{QrResult, Version};
 use qrcode_bits::optimize::{Comparisons, Segment, optimize_counted};

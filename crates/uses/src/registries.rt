@@ -1,6 +1,6 @@
 //! A renderer by its name, by `qrcode_core`.
 ghost use Rattle.std.specs.Prelude.{◌≡◌, ◌⊎◌, Err, IfNone, IfSome, IsErrAnd};
-ghost use Rattle.qrcode_core.specs.PluginErrors.{IsRendererMissing};
+ghost use Rattle.qrcode_core.specs.Plugins.{IsRendererMissing};
 ghost use Rattle.qrcode_core.specs.Registries.{registered, object_at};
 ghost use Rattle.qrcode_core.specs.declared.plugin.error.PluginError.{PluginError};
 

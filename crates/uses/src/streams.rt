@@ -2,8 +2,8 @@
 ghost use Rattle.std.specs.Prelude.{◌≡◌, pos, None, IfOk, IfErr};
 ghost use Rattle.qrcode_base.specs.declared.types.EcLevel.TheVariants.{M};
 ghost use Rattle.qrcode_base.specs.declared.types.Version.TheVariants.{Normal};
-ghost use Rattle.qrcode_bits.specs.Choice.{normal};
-ghost use Rattle.qrcode_bits.specs.Encoding.{IsEncoding, IsUnencodable};
+ghost use Rattle.qrcode_bits.specs.Plans.{normal};
+ghost use Rattle.qrcode_bits.specs.Push.{IsEncoding, IsUnencodable};
 
 use qrcode_base::types::{EcLevel, QrResult, Version};
 use qrcode_bits::bits::{Bits, encode_auto};

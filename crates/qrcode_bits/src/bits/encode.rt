@@ -5,17 +5,16 @@
 //! Normal versions fall into three classes, 1 to 9, 10 to 26 and 27 to 40. In a class a plan takes the same bits in
 //! each version, so one plan for the last version of a class decides for the class.
 
-ghost use Rattle.std.specs.Prelude.{◌≡◌, ℕ, ◌+◌, ◌≤◌, length, nat_abs, Some, None, OnOk, IfOk, IfErr, IfSome};
-ghost use Rattle.std.specs.Prelude.{IfNone, All, IsTrue, ◌↔◌};
+ghost use Rattle.std.specs.Prelude.{◌≡◌, ℕ, ◌+◌, ◌≤◌, length, nat_abs, Some, None, OnOk, IfOk, IfErr, IfSome, IfNone};
+ghost use Rattle.std.specs.Prelude.{All, IsTrue, ◌↔◌};
 ghost use Rattle.qrcode_base.specs.declared.types.Mode.{Mode};
 ghost use Rattle.qrcode_base.specs.Modes.{HasMode, indicator_width, count_width};
-ghost use Rattle.qrcode_base.specs.Versions.{HasMicroNumber};
+ghost use Rattle.qrcode_base.specs.Symbols.{HasMicroNumber};
 ghost use Rattle.qrcode_bits.specs.Parsing.{parsed};
-ghost use Rattle.qrcode_bits.specs.Merging.{IsChosenPlan};
-ghost use Rattle.qrcode_bits.specs.Choice.{Fits, FitsNot, FitsNone, normal, micro, IsMinVersion, IsClass};
-ghost use Rattle.qrcode_bits.specs.Choice.{ClassesUpTo};
-ghost use Rattle.qrcode_bits.specs.Encoding.{IsPlanStream, IsEncoding, IsUnencodable, IsLimit};
-ghost use Rattle.qrcode_bits.specs.Encoding.{IsEncodingRefused, IsMicroRefused, IsPartRefused};
+ghost use Rattle.qrcode_bits.specs.Plans.{IsChosenPlan, Fits, FitsNot, FitsNone, normal, micro, IsMinVersion, IsClass};
+ghost use Rattle.qrcode_bits.specs.Plans.{ClassesUpTo};
+ghost use Rattle.qrcode_bits.specs.Push.{IsPlanStream, IsEncoding, IsUnencodable, IsLimit, IsEncodingRefused};
+ghost use Rattle.qrcode_bits.specs.Push.{IsMicroRefused, IsPartRefused};
 ghost use Rattle.qrcode_bits.specs.Frame.{HasHeader, header_bits, header};
 
 use super::Bits;

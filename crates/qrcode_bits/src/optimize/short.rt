@@ -2,11 +2,11 @@
 
 ghost use Rattle.std.specs.Prelude.{◌≡◌, ◌+◌, ◌*◌, ◌-◌, ◌/◌, ◌%◌, ◌^◌, ◌<◌, ◌≤◌, length, IfOk, IfErr};
 ghost use Rattle.std.specs.Bool.{OnTrue};
-ghost use Rattle.qrcode_base.specs.Versions.{HasMicroNumber};
+ghost use Rattle.qrcode_base.specs.Symbols.{HasMicroNumber};
 ghost use Rattle.qrcode_base.specs.Modes.{indicator_width, count_width, data_bits, characters};
-ghost use Rattle.qrcode_bits.specs.Merging.{HasLinearCosts, IsChosenPlan, IsStep};
-ghost use Rattle.qrcode_bits.specs.Buckets.{bucket_mode, bucket_rest, AreGroups, period_bits};
-ghost use Rattle.qrcode_bits.specs.Words.{told, header_in, AreWhole, IsShort, AreHeaders, step_told, AreShortSteps};
+ghost use Rattle.qrcode_bits.specs.Plans.{HasLinearCosts, IsChosenPlan, IsStep};
+ghost use Rattle.qrcode_bits.specs.Buckets.{bucket_mode, bucket_rest, AreGroups, period_bits, told, header_in};
+ghost use Rattle.qrcode_bits.specs.Buckets.{AreWhole, IsShort, AreHeaders, step_told, AreShortSteps};
 
 use super::Segment;
 use super::comparisons::Comparisons;

@@ -1,8 +1,8 @@
 //! The last part of the chosen plan of each number of first segments, and the plan that is read back from these.
 
 ghost use Rattle.std.specs.Prelude.{◌≡◌, ◌+◌, ◌<◌, ◌≤◌, length, IfOk, IfErr};
-ghost use Rattle.qrcode_base.specs.Versions.{HasMicroNumber};
-ghost use Rattle.qrcode_bits.specs.Merging.{HasLinearCosts, IsChosenPlan, IsStep, AreSteps};
+ghost use Rattle.qrcode_base.specs.Symbols.{HasMicroNumber};
+ghost use Rattle.qrcode_bits.specs.Plans.{HasLinearCosts, IsChosenPlan, IsStep, AreSteps};
 ghost use Rattle.qrcode_bits.specs.Buckets.{bucket_mode, AreGroups};
 
 use super::Segment;

@@ -5,10 +5,9 @@
 
 ghost use Rattle.std.specs.Prelude.{◌≡◌, ℕ, ◌+◌, ◌*◌, ◌-◌, ◌/◌, ◌%◌, ◌^◌, ◌<◌, ◌≤◌, length, min, IsTrue, ◌↔◌};
 ghost use Rattle.std.specs.Bool.{OnTrue};
-ghost use Rattle.qrcode_bits.specs.Buckets.{HasBucket, Absorbs, Advances, IsEmptyGroup, EntersGroup, Enters};
-ghost use Rattle.qrcode_bits.specs.Buckets.{group_of, slot};
-ghost use Rattle.qrcode_bits.specs.Words.{word_of, starts_in, told, word_at, bucket_start, IsOffered};
-ghost use Rattle.qrcode_bits.specs.Words.{AreNone, IsWhole, AreWhole};
+ghost use Rattle.qrcode_bits.specs.Buckets.{HasBucket, Absorbs, Advances, IsEmptyGroup, EntersGroup, Enters, group_of};
+ghost use Rattle.qrcode_bits.specs.Buckets.{slot, word_of, starts_in, told, word_at, bucket_start, IsOffered, AreNone};
+ghost use Rattle.qrcode_bits.specs.Buckets.{IsWhole, AreWhole};
 
 use super::comparisons::Comparisons;
 use qrcode_base::types::Mode;

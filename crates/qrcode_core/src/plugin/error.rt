@@ -35,7 +35,7 @@ pub enum PluginError {
 }
 
 impl PluginError {
-    ghost use Rattle.qrcode_core.specs.PluginErrors.{IsSameError};
+    ghost use Rattle.qrcode_core.specs.Plugins.{IsSameError};
 
     /// The same error again, with the same text.
     pub fn clone(&self, alloc: Global) -> Result<PluginError, PluginError>

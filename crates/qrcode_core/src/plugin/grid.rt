@@ -19,7 +19,7 @@ pub struct ModuleGrid {
 
 impl ModuleGrid {
     ghost use Rattle.std.specs.Borrow.{sem};
-    ghost use Rattle.qrcode_core.specs.Configs.{owned_grid};
+    ghost use Rattle.qrcode_core.specs.Plugins.{owned_grid};
     ghost use Rattle.qrcode_core.specs.LentModules.{LendsModules};
 
     /// The grid with these modules, row after row. `InvalidModuleGrid` if a side is 0, or the product of the sides is
@@ -65,7 +65,7 @@ impl ModuleGrid {
 }
 
 impl ModuleStorage for ModuleGrid {
-    ghost use Rattle.qrcode_core.specs.Configs.{owned_grid};
+    ghost use Rattle.qrcode_core.specs.Plugins.{owned_grid};
 
     ghost grid = { owned_grid };
 

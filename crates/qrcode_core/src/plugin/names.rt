@@ -2,7 +2,7 @@
 ghost use Rattle.std.specs.Prelude.{◌≡◌, map};
 ghost use Rattle.std.specs.Iterator.{item_count, YieldsFirstRef};
 ghost use Rattle.std.specs.String.{string_bytes};
-ghost use Rattle.qrcode_core.specs.Texts.{names_left};
+ghost use Rattle.qrcode_core.specs.Plugins.{names_left};
 
 use std::collections::btree_map::Keys;
 use std::iter::FusedIterator;

@@ -18,7 +18,7 @@ pub enum RenderOutput {
 }
 
 impl RenderOutput {
-    ghost use Rattle.qrcode_core.specs.Outputs.{IsSameRender};
+    ghost use Rattle.qrcode_core.specs.Plugins.{IsSameRender};
 
     /// The same output again.
     pub fn clone(&self, alloc: Global) -> Result<RenderOutput, PluginError>
@@ -46,7 +46,7 @@ pub enum EncodedOutput {
 }
 
 impl EncodedOutput {
-    ghost use Rattle.qrcode_core.specs.Outputs.{IsSameEncoded};
+    ghost use Rattle.qrcode_core.specs.Plugins.{IsSameEncoded};
 
     /// The same output again.
     pub fn clone(&self, alloc: Global) -> Result<EncodedOutput, PluginError>

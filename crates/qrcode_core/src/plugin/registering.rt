@@ -1,10 +1,10 @@
 //! How a caller registers objects.
 ghost use Rattle.std.specs.Prelude.{◌≡◌, [], ◌∷◌, map, IfOk, OnOk, OnErr, IsOkUnless};
 ghost use Rattle.std.specs.String.{string_bytes};
-ghost use Rattle.qrcode_core.specs.Registered.{Registers, with_registration, version_of, renderer_of};
-ghost use Rattle.qrcode_core.specs.Registered.{encoder_of, postprocessor_of};
-ghost use Rattle.qrcode_core.specs.Registries.{registered, registrations, named_renderer, named_encoder};
-ghost use Rattle.qrcode_core.specs.Texts.{at_key};
+ghost use Rattle.qrcode_core.specs.Registries.{Registers, with_registration, version_of, renderer_of, encoder_of};
+ghost use Rattle.qrcode_core.specs.Registries.{postprocessor_of, registered, registrations, named_renderer};
+ghost use Rattle.qrcode_core.specs.Registries.{named_encoder};
+ghost use Rattle.qrcode_core.specs.Plugins.{at_key};
 ghost use Rattle.qrcode_core.specs.declared.plugin.error.PluginError.TheVariants.{OutOfMemory};
 
 use crate::plugin::error::PluginError;

@@ -2,10 +2,9 @@
 ghost use Rattle.std.specs.Prelude.{◌≡◌, Ok, Err, IfSome, IfNone, MatchOption, MatchResult, IsErrAnd, IsOkAnd};
 ghost use Rattle.std.specs.List.Sorted.{IsStrictlySortedBy};
 ghost use Rattle.std.specs.Option.{option_copied};
-ghost use Rattle.qrcode_core.specs.Texts.{names_left, at_key, key_texts, text_cmp};
-ghost use Rattle.qrcode_core.specs.PluginErrors.{IsRendererMissing, IsEncoderMissing};
-ghost use Rattle.qrcode_core.specs.Registered.{nothing_registered, StepsInOrder};
-ghost use Rattle.qrcode_core.specs.Registries.{registered, object_at};
+ghost use Rattle.qrcode_core.specs.Plugins.{names_left, at_key, key_texts, text_cmp, IsRendererMissing};
+ghost use Rattle.qrcode_core.specs.Plugins.{IsEncoderMissing};
+ghost use Rattle.qrcode_core.specs.Registries.{nothing_registered, StepsInOrder, registered, object_at};
 
 use crate::plugin::config::{EncodeConfig, RenderConfig};
 use crate::plugin::error::PluginError;

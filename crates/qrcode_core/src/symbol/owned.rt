@@ -3,14 +3,12 @@
 //! Answers of calls are matched, arm by arm, where `?` would do: the proofs use what is known in each arm.
 ghost use Rattle.std.specs.Prelude.{◌≡◌, ◌≤◌, length, OnOk, IfOk, IfErr};
 ghost use Rattle.qrcode_base.specs.Symbols.{IsVersion, width_of};
-ghost use Rattle.qrcode_core.specs.Budgets.{IsBudget};
-ghost use Rattle.qrcode_core.specs.Limited.{IsBestWithin, IsTooLongWithin, IsLimitedRefusal};
-ghost use Rattle.qrcode_core.specs.Drawn.{TellsReading, drawn_grid};
-ghost use Rattle.qrcode_core.specs.Headline.{IsBestSymbol, IsBestMicroSymbol, IsTooLong, IsTooLongForMicro};
-ghost use Rattle.qrcode_core.specs.Headline.{IsRefusal, IsMicroRefusal};
+ghost use Rattle.qrcode_core.specs.Limits.{IsBudget, IsBestWithin, IsTooLongWithin, IsLimitedRefusal};
+ghost use Rattle.qrcode_core.specs.Layers.{TellsReading, drawn_grid, HoldsStream, IsStreamRefusal, AreAllCodewords};
+ghost use Rattle.qrcode_core.specs.Layers.{IsDrawn, FillsSymbol, IsDrawnStream};
+ghost use Rattle.qrcode_core.specs.Headline.{IsBestSymbol, IsBestMicroSymbol, IsTooLong, IsTooLongForMicro, IsRefusal};
+ghost use Rattle.qrcode_core.specs.Headline.{IsMicroRefusal};
 ghost use Rattle.qrcode_core.specs.Views.{view_grid};
-ghost use Rattle.qrcode_core.specs.HeldBits.{HoldsStream, IsStreamRefusal};
-ghost use Rattle.qrcode_core.specs.Layers.{AreAllCodewords, IsDrawn, FillsSymbol, IsDrawnStream};
 
 use crate::limits::ResourceLimits;
 use crate::traits::{ModuleSource, ModuleView, QrSymbol};
@@ -37,7 +35,7 @@ pub struct Symbol {
 impl Model for Symbol {
     ghost use Rattle.std.specs.Prelude.{◌≡◌, ◌*◌, length};
     ghost use Rattle.qrcode_base.specs.Symbols.{IsVersion, width_of};
-    ghost use Rattle.qrcode_core.specs.Drawn.{DrawnSymbol};
+    ghost use Rattle.qrcode_core.specs.Layers.{DrawnSymbol};
 
     ghost Value = { DrawnSymbol };
 
@@ -184,7 +182,7 @@ impl Symbol {
 
 impl ModuleSource for Symbol {
     ghost use Rattle.std.specs.Prelude.{◌≤◌};
-    ghost use Rattle.qrcode_core.specs.Drawn.{drawn_grid};
+    ghost use Rattle.qrcode_core.specs.Layers.{drawn_grid};
     ghost use Rattle.qrcode_core.specs.Grids.{HasAllRows, IsFull};
 
     ghost grid = { drawn_grid };
@@ -221,7 +219,7 @@ impl ModuleSource for Symbol {
 }
 
 impl QrSymbol for Symbol {
-    ghost use Rattle.qrcode_core.specs.Drawn.{drawn_version, drawn_level};
+    ghost use Rattle.qrcode_core.specs.Layers.{drawn_version, drawn_level};
 
     ghost version_of = { drawn_version };
 

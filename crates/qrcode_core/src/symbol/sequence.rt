@@ -1,12 +1,12 @@
 //! The symbols of a message that is spread over several of them.
-ghost use Rattle.std.specs.Prelude.{◌≡◌, ◌+◌, ◌≤◌, [], length, map, nat_abs, slice_index_or, All, OnOk, IfOk};
-ghost use Rattle.std.specs.Prelude.{IfErr, IsTrue, vec_items};
+ghost use Rattle.std.specs.Prelude.{◌≡◌, ◌+◌, ◌≤◌, [], length, map, nat_abs, slice_index_or, All, OnOk, IfOk, IfErr};
+ghost use Rattle.std.specs.Prelude.{IsTrue, vec_items};
 ghost use Rattle.std.specs.List.Sorted.{IsNonDecreasing};
-ghost use Rattle.qrcode_bits.specs.Encoding.{IsLimit, IsPartRefused};
+ghost use Rattle.qrcode_bits.specs.Push.{IsLimit, IsPartRefused};
 ghost use Rattle.qrcode_bits.specs.Frame.{header};
-ghost use Rattle.qrcode_core.specs.Drawn.{TellsReading, modules_of};
-ghost use Rattle.qrcode_core.specs.Sequence.{parity_of, parts_at, IsPartSymbol, AreBestSymbols};
-ghost use Rattle.qrcode_core.specs.Sequence.{IsSomePartTooLong, IsSequenceRefusal};
+ghost use Rattle.qrcode_core.specs.Layers.{TellsReading, modules_of};
+ghost use Rattle.qrcode_core.specs.Sequence.{parity_of, parts_at, IsPartSymbol, AreBestSymbols, IsSomePartTooLong};
+ghost use Rattle.qrcode_core.specs.Sequence.{IsSequenceRefusal};
 
 use crate::symbol::owned::{Symbol, symbol_of};
 use qrcode_base::types::{Color, EcLevel, QrError, QrResult};

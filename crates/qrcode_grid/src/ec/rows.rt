@@ -1,9 +1,8 @@
 //! The correction of a block by rows: the multiples of the generator by the two halves of a byte, 32 terms at a time.
 ghost use Rattle.std.specs.Prelude.{◌≡◌, ℕ, ◌+◌, ◌/◌, ◌<◌, ◌≤◌, [], All, List, OnOk, length, slice_index};
 ghost use Rattle.std.specs.Prelude.{slice_index_or};
-ghost use Rattle.qrcode_grid.specs.Codes.{AreBytes};
-ghost use Rattle.qrcode_grid.specs.Field.{double, product};
-ghost use Rattle.qrcode_grid.specs.Rows.{AreMultiples, AreTerms, AreRows, IsDivisor, IsTurn, IsRemainder, AddsCode};
+ghost use Rattle.qrcode_grid.specs.Codes.{AreBytes, double, product, AreMultiples, AreTerms, AreRows, IsDivisor};
+ghost use Rattle.qrcode_grid.specs.Codes.{IsTurn, IsRemainder, AddsCode};
 
 use std::alloc::AllocError;
 use std::simd::prelude::*;

@@ -2,7 +2,7 @@
 use Rattle.std.proofs.Common.{◌≡◌, ◌∙◌, arith}
 use Rattle.std.proofs.lemmas.Result.{err_from_is_err_and, IfOk-weaker, IfErr-weaker}
 use Rattle.qrcode_bits.proofs.Pairs.{bytes_valid}
-use Rattle.qrcode_bits.specs.Choice.{normal}
+use Rattle.qrcode_bits.specs.Plans.{normal}
 use Rattle.texts.specs.Smallest.{SaysElements}
 use Rattle.texts.proofs.Ended.{held, end_refused}
 use Rattle.texts.proofs.ElementStrings.{elements_refused, elements_pushed, one_length}

@@ -1,7 +1,7 @@
 -- The versions before this one, and this one.
 use Rattle.std.proofs.Common.{subst, arith}
 use Rattle.qrcode_base.specs.declared.types.errors.QrError.{QrError}
-use Rattle.qrcode_bits.specs.Choice.{normal}
+use Rattle.qrcode_bits.specs.Plans.{normal}
 use Rattle.qrcode_bits.proofs.Pairs.{bytes_valid}
 use Rattle.texts.specs.Smallest.{SaysElements, IsRefusedIn}
 use Rattle.texts.proofs.ElementStrings.{too_many}

@@ -2,7 +2,7 @@
 use Rattle.std.proofs.Common.{List, ℕ, subst, arith}
 use Rattle.qrcode_base.specs.declared.types.errors.QrError.{QrError}
 use Rattle.qrcode_base.specs.declared.types.errors.QrError.TheVariants.{DataTooLong}
-use Rattle.qrcode_bits.specs.Choice.{normal}
+use Rattle.qrcode_bits.specs.Plans.{normal}
 use Rattle.texts.specs.Smallest.{SaysUtf8, IsRefusedIn}
 use Rattle.texts.proofs.Ended.{next}
 use Rattle.texts.proofs.Utf8.{too_many}

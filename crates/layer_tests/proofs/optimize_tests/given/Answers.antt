@@ -4,7 +4,7 @@ use Rattle.std.proofs.lemmas.Iterator.{YieldsList-from_slice, items_from_drains}
 use Rattle.std.proofs.lemmas.Iterator.Consumers.{YieldsList-from_copied}
 use Rattle.std.proofs.lemmas.List.{map-id}
 use Rattle.qrcode_bits.specs.declared.optimize.Segment.{Segment}
-use Rattle.qrcode_bits.specs.Merging.{HasLinearCosts}
+use Rattle.qrcode_bits.specs.Plans.{HasLinearCosts}
 use Rattle.layer_tests.proofs.optimize_tests.given.Goals as goal
 
 pub new-requires-clause-linear : goal.new-requires-clause-linear

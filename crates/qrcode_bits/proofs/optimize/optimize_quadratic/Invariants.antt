@@ -1,5 +1,5 @@
 use Rattle.std.proofs.Common.{◌≡◌, ◌+◌, ◌*◌, ◌≤◌, length}
-use Rattle.qrcode_bits.specs.Merging.{AreSteps}
+use Rattle.qrcode_bits.specs.Plans.{AreSteps}
 use Rattle.qrcode_bits.proofs.optimize.optimize_quadratic.Given as goal
 
 abbrev pub invariant-loop-done : goal.invariant-loop-done

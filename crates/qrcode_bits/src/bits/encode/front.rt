@@ -1,9 +1,9 @@
 //! What stands in front of the data: the header of a symbol that is part of a sequence, or nothing.
 
 ghost use Rattle.std.specs.Prelude.{◌≡◌, ◌≤◌, length, IfOk, IfErr};
-ghost use Rattle.qrcode_base.specs.Versions.{HasMicroNumber};
+ghost use Rattle.qrcode_base.specs.Symbols.{HasMicroNumber};
 ghost use Rattle.qrcode_bits.specs.Frame.{HasHeader, header_bits};
-ghost use Rattle.qrcode_bits.specs.ModeSets.{no_modes};
+ghost use Rattle.qrcode_bits.specs.Buckets.{no_modes};
 
 use crate::bits::Bits;
 use qrcode_base::types::{QrError, QrResult, Version};

@@ -3,8 +3,8 @@ use Rattle.std.specs.Prelude.{map, nat_abs, ℤ}
 use Rattle.std.proofs.Common.{◌≡◌, ◌∙◌, subst, sym, w16, w32, to_z, of_z, rules, arith}
 use Rattle.std.proofs.lemmas.Int.{to_z-of_z, ints}
 use Rattle.qrcode_base.specs.declared.types.errors.QrError.{QrError}
-use Rattle.qrcode_bits.specs.Encoding.{IsLimit}
-use Rattle.qrcode_core.specs.Drawn.{modules_of}
+use Rattle.qrcode_bits.specs.Push.{IsLimit}
+use Rattle.qrcode_core.specs.Layers.{modules_of}
 use Rattle.qrcode_core.specs.Sequence.{AreBestSymbols, IsSequenceRefusal}
 use Rattle.qrcode_c.specs.Levels.{number_of}
 use Rattle.qrcode_c.specs.Refusals.{IsAsked}

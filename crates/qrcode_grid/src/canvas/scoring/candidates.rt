@@ -1,15 +1,14 @@
 //! Eight candidates in one list of bytes, one for each mask: a byte a module, and bit m of it is the colour under the
 //! mask with number m.
-ghost use Rattle.std.specs.Prelude.{◌≡◌, if◌then◌else◌, ◌==◌, ℕ, ◌+◌, ◌-◌, ◌*◌, ◌/◌, ◌%◌, ◌<◌, ◌≤◌, length};
-ghost use Rattle.std.specs.Prelude.{map, slice_index, All};
+ghost use Rattle.std.specs.Prelude.{◌≡◌, if◌then◌else◌, ◌==◌, ℕ, ◌+◌, ◌-◌, ◌*◌, ◌/◌, ◌%◌, ◌<◌, ◌≤◌, length, map};
+ghost use Rattle.std.specs.Prelude.{slice_index, All};
 ghost use Rattle.std.specs.Int.{bit_at};
 ghost use Rattle.qrcode_base.specs.declared.types.Color.TheVariants.{Dark};
 ghost use Rattle.qrcode_grid.specs.Canvas.{color_of_module};
 ghost use Rattle.qrcode_grid.specs.Scoring.{byte_under, code_of, masked_code, AreDigits, plane, pattern_of};
 ghost use Rattle.qrcode_grid.specs.Penalty.{byte_of};
 ghost use Rattle.qrcode_grid.specs.Masks.{format_color, normal_format_color, masked_cells};
-ghost use Rattle.qrcode_grid.specs.Regions.{written};
-ghost use Rattle.qrcode_grid.specs.Words.{digit, digit_color};
+ghost use Rattle.qrcode_grid.specs.Regions.{written, digit, digit_color};
 
 use crate::canvas::Module;
 use crate::canvas::conditions::write_stripes;

@@ -1,6 +1,6 @@
 //! Bits counted by their place in a byte, sixteen rows of lanes at a time.
 ghost use Rattle.std.specs.Prelude.{◌≡◌, ℕ, ◌+◌, ◌*◌, ◌<◌, ◌≤◌, [], length, slice_index, slice_index_or};
-ghost use Rattle.qrcode_grid.specs.Cells.{sum_below};
+ghost use Rattle.qrcode_grid.specs.Regions.{sum_below};
 ghost use Rattle.qrcode_grid.specs.Scoring.{bit_count, held, tallied};
 
 use crate::canvas::scoring::planes::{Planes, Tally};

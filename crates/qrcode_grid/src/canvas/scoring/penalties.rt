@@ -1,7 +1,7 @@
 //! The penalties of eight candidates at once. A grid is a list of bytes, a byte a module, and bit m of a byte is its
 //! colour in candidate m.
 ghost use Rattle.std.specs.Prelude.{◌≡◌, ℕ, ◌+◌, ◌*◌, ◌<◌, ◌≤◌, length, slice_index};
-ghost use Rattle.qrcode_grid.specs.Cells.{count_below};
+ghost use Rattle.qrcode_grid.specs.Regions.{count_below};
 ghost use Rattle.qrcode_grid.specs.Penalty.{normal_penalty};
 ghost use Rattle.qrcode_grid.specs.declared.canvas.scoring.features.Feature.{Feature};
 ghost use Rattle.qrcode_grid.specs.Scoring.{has, has_five, has_six, list_length, places, plane};

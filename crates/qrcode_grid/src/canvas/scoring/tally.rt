@@ -1,8 +1,7 @@
 //! How many places have what the penalty counts, in eight candidates at once. No place outside the grid has any of it,
 //! so all places are looked at, 256 at a time.
-ghost use Rattle.std.specs.Prelude.{◌≡◌, ℕ, ◌+◌, ◌*◌, ◌<◌, ◌≤◌, [], length, slice_index};
-ghost use Rattle.std.specs.Prelude.{slice_index_or};
-ghost use Rattle.qrcode_grid.specs.Cells.{count_below};
+ghost use Rattle.std.specs.Prelude.{◌≡◌, ℕ, ◌+◌, ◌*◌, ◌<◌, ◌≤◌, [], length, slice_index, slice_index_or};
+ghost use Rattle.qrcode_grid.specs.Regions.{count_below};
 ghost use Rattle.qrcode_grid.specs.Scoring.{Marks, plane, has, has_five, has_six, list_length, places};
 
 use crate::canvas::scoring::counting::{add_rows, no_bits, totals};

@@ -1,7 +1,7 @@
 -- The configuration has just the three texts.
 use Rattle.std.proofs.Common.{◌∙◌}
 use Rattle.std.proofs.lemmas.Result.{IfOk-weaker}
-use Rattle.qrcode_core.specs.Configs.{render_options}
+use Rattle.qrcode_core.specs.Plugins.{render_options}
 use Rattle.qrlabel.proofs.OptionLemmas.{three_options, asked_by}
 use Rattle.qrlabel.proofs.options.configured.Goals as goal
 

@@ -1,7 +1,6 @@
 -- The words ask for one request, which was drawn.
 use Rattle.std.proofs.Common.{◌≡◌, Ok, Err, refl, subst, map, inl}
-use Rattle.qrtext.specs.Status.{ServesText}
-use Rattle.qrtext.specs.Words.{Request, request}
+use Rattle.qrtext.specs.Words.{ServesText, Request, request}
 use Rattle.programs.proofs.DeviceLemmas.{Appends-none}
 use Rattle.qrtext.proofs.Requests.{ask_for_one}
 use Rattle.qrtext.proofs.run.run.Goals as goal

@@ -5,7 +5,7 @@ use Rattle.qrcode_bits.specs.declared.optimize.Segment.{Segment}
 use Rattle.qrcode_base.specs.declared.types.errors.QrError.TheVariants.{InvalidVersion}
 use Rattle.qrcode_base.specs.Symbols.{capacity}
 use Rattle.qrcode_base.specs.Modes.{HasMode}
-use Rattle.qrcode_bits.specs.Merging.{HasLinearCosts, IsChosenPlan, total_bits}
+use Rattle.qrcode_bits.specs.Plans.{HasLinearCosts, IsChosenPlan, total_bits}
 use Rattle.qrcode_bits.proofs.Pairs.{bytes_valid}
 use Rattle.qrcode_bits.proofs.Choices.{chosen_is_plan}
 use Rattle.qrcode_bits.proofs.Lengths.{dense_message}

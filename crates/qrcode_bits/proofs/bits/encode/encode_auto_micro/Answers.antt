@@ -1,7 +1,7 @@
 -- The first Micro version whose chosen plan fits is the choice.
 use Rattle.std.proofs.Common.{◌≡◌, subst, arith, true, false}
 use Rattle.qrcode_base.specs.declared.types.Version.{Version}
-use Rattle.qrcode_bits.specs.Choice.{FitsNot}
+use Rattle.qrcode_bits.specs.Plans.{FitsNot}
 use Rattle.qrcode_bits.proofs.Pairs.{bytes_valid}
 use Rattle.qrcode_bits.proofs.Choices.{micro_next, micro_choice}
 use Rattle.qrcode_bits.proofs.Lengths.{long_for_micro}

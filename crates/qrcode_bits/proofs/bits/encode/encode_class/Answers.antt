@@ -5,9 +5,8 @@ use Rattle.qrcode_base.specs.declared.types.Version.{Version}
 use Rattle.qrcode_bits.specs.declared.optimize.Segment.{Segment}
 use Rattle.qrcode_bits.specs.Frame.{header_bits}
 use Rattle.qrcode_bits.specs.Parsing.{parsed}
-use Rattle.qrcode_bits.specs.Merging.{IsChosenPlan, total_bits}
-use Rattle.qrcode_bits.specs.Choice.{normal, IsMinVersion}
-use Rattle.qrcode_bits.specs.Encoding.{IsPlanStream}
+use Rattle.qrcode_bits.specs.Plans.{IsChosenPlan, total_bits, normal, IsMinVersion}
+use Rattle.qrcode_bits.specs.Push.{IsPlanStream}
 use Rattle.qrcode_bits.proofs.Pairs.{bytes_valid}
 use Rattle.qrcode_bits.proofs.Classes.{plan_ordered, front_fits, front_not, class_fits, class_encoding}
 use Rattle.qrcode_bits.proofs.bits.encode.encode_class.Goals as goal

@@ -2,7 +2,7 @@
 use Rattle.std.proofs.Common.{length, arith, subst, sym}
 use Rattle.qrcode_base.specs.declared.types.Version.{Version}
 use Rattle.qrcode_bits.specs.Frame.{AreSpelled, header_bits}
-use Rattle.qrcode_bits.specs.Pieces.{segment_pieces}
+use Rattle.qrcode_bits.specs.Spelling.{segment_pieces}
 use Rattle.qrcode_bits.proofs.Pairs.{bytes_valid}
 use Rattle.qrcode_bits.proofs.Texts.{plan_lies}
 use Rattle.qrcode_bits.proofs.PlanFrames.{spelled_plan}

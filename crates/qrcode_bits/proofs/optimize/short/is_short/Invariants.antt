@@ -1,5 +1,5 @@
 use Rattle.std.proofs.Common.{ℕ, ◌<◌}
-use Rattle.qrcode_bits.specs.Merging.{segment_at}
+use Rattle.qrcode_bits.specs.Plans.{segment_at}
 use Rattle.qrcode_bits.proofs.optimize.short.is_short.Given as goal
 
 abbrev pub invariant-loop-i : goal.invariant-loop-i

@@ -1,7 +1,7 @@
 -- The best start of each rest was tried, by its word.
 use Rattle.std.proofs.Common.{ℕ, ◌-◌, ◌*◌, arith, ap, rules}
-use Rattle.qrcode_bits.specs.Merging.{segment_at}
-use Rattle.qrcode_bits.specs.Words.{told}
+use Rattle.qrcode_bits.specs.Plans.{segment_at}
+use Rattle.qrcode_bits.specs.Buckets.{told}
 use Rattle.qrcode_bits.proofs.ShortSteps.{cost-small, short-rest, short-enough, sought-keeps, sought-takes, sought-nothing, sought-last}
 use Rattle.qrcode_bits.proofs.optimize.short.last_step_short.Goals as goal
 use Rattle.qrcode_bits.proofs.optimize.short.last_step_short.Goals.{then-found+then-candidate-best, then-found+else-candidate-best, else-found}

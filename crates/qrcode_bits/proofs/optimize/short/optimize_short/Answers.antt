@@ -1,6 +1,6 @@
 use Rattle.std.proofs.Common.{◌+◌, arith, refl}
-use Rattle.qrcode_bits.specs.Merging.{segment_at, IsStep}
-use Rattle.qrcode_bits.specs.Words.{told, step_told}
+use Rattle.qrcode_bits.specs.Plans.{segment_at, IsStep}
+use Rattle.qrcode_bits.specs.Buckets.{told, step_told}
 use Rattle.qrcode_bits.proofs.ShortSteps.{step-small, AreShortSteps-push, AreShortSteps-start}
 use Rattle.qrcode_bits.proofs.Grouping.{AreGroups-next, AreGroups-none}
 use Rattle.qrcode_bits.proofs.optimize.short.optimize_short.Goals as goal

@@ -3,7 +3,7 @@ use Rattle.std.proofs.Math.Nat.{div-div-eq-div-mul}
 use Rattle.std.proofs.lemmas.Nat.{pow-add}
 use Rattle.qrcode_grid.specs.declared.canvas.Module.TheVariants.{Empty, Unmasked}
 use Rattle.qrcode_grid.specs.declared.canvas.data.TheConstants.{ROWS}
-use Rattle.qrcode_grid.specs.Data.{bit_color}
+use Rattle.qrcode_grid.specs.Walk.{bit_color}
 use Rattle.qrcode_grid.proofs.canvas.data.row_of.Goals as goal
 
 right_of : (q : ℕ) → q < 4 → get_or (get_or ROWS q []) 1 Empty ≡ Unmasked (bit_color (q / 2 == 1))

@@ -1,7 +1,7 @@
 use Rattle.std.proofs.Common.{◌+◌, get_or, ap, ◌∙◌, arith}
 use Rattle.std.proofs.lemmas.List.{get_or_default}
 use Rattle.std.specs.Int.Bits.{bit_xor}
-use Rattle.qrcode_grid.specs.Field.{product}
+use Rattle.qrcode_grid.specs.Codes.{product}
 use Rattle.qrcode_grid.proofs.RowDivision.{lane_xor, length_xor}
 use Rattle.qrcode_grid.proofs.ec.rows.turned.Goals as goal
 

@@ -2,7 +2,7 @@
 use Rattle.std.proofs.Common.{rules, length}
 use Rattle.std.proofs.lemmas.Iterator.{YieldsList-from_slice}
 use Rattle.std.proofs.lemmas.Iterator.Consumers.{YieldsList-from_copied}
-use Rattle.qrcode_bits.specs.Pieces.{LiesIn}
+use Rattle.qrcode_bits.specs.Spelling.{LiesIn}
 use Rattle.qrcode_bits.proofs.Listed.{given_all}
 use Rattle.qrcode_tests.proofs.refused_growth.pushes.push_segments_of_three.Goals as goal
 

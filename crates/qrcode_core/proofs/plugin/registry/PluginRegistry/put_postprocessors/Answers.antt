@@ -1,4 +1,4 @@
-use Rattle.qrcode_core.specs.Registered.{postprocessor_of}
+use Rattle.qrcode_core.specs.Registries.{postprocessor_of}
 use Rattle.qrcode_core.proofs.RegistrationLemmas.{registers_refused}
 use Rattle.qrcode_core.proofs.plugin.registry.PluginRegistry.put_postprocessors.Goals as goal
 

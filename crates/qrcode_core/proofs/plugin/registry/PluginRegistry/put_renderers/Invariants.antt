@@ -1,6 +1,5 @@
 use Rattle.std.proofs.Common.{◌≡◌, ◌++◌, map}
-use Rattle.qrcode_core.specs.Registries.{registered, named_renderer}
-use Rattle.qrcode_core.specs.Registered.{with_registrations}
+use Rattle.qrcode_core.specs.Registries.{registered, named_renderer, with_registrations}
 use Rattle.qrcode_core.proofs.plugin.registry.PluginRegistry.put_renderers.Given as goal
 
 -- the yielded items are registered, and the others are still to come

@@ -1,7 +1,6 @@
 use Rattle.std.proofs.Common.{[], ◌∷◌, ◌++◌, map, Err}
 use Rattle.std.specs.String.{string_bytes}
-use Rattle.qrcode_core.specs.Registries.{named_renderer, named_encoder}
-use Rattle.qrcode_core.specs.Registered.{version_of, postprocessor_of}
+use Rattle.qrcode_core.specs.Registries.{named_renderer, named_encoder, version_of, postprocessor_of}
 use Rattle.qrcode_core.proofs.RegistrationLemmas.{registers_then, registers_stops}
 use Rattle.qrcode_core.proofs.plugin.registry.PluginRegistry.register_plugin.Goals as goal
 

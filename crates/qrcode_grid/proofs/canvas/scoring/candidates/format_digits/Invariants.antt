@@ -2,7 +2,7 @@
 use Rattle.std.proofs.Common.{◌≡◌, ◌<◌, ℕ, get_or, length}
 use Rattle.std.specs.Int.{bit_at}
 use Rattle.qrcode_grid.specs.Penalty.{byte_of}
-use Rattle.qrcode_grid.specs.Words.{digit, digit_color}
+use Rattle.qrcode_grid.specs.Regions.{digit, digit_color}
 use Rattle.qrcode_grid.proofs.canvas.scoring.candidates.format_digits.Given as goal
 
 abbrev pub invariant-loop-k : goal.invariant-loop-k

@@ -1,5 +1,5 @@
 use Rattle.std.proofs.Common.{◌≡◌, ◌+◌, ◌*◌, ℕ, ap, arith}
-use Rattle.qrcode_grid.specs.Cells.{count_below}
+use Rattle.qrcode_grid.specs.Regions.{count_below}
 use Rattle.qrcode_grid.specs.Scoring.{has, plane}
 use Rattle.qrcode_grid.proofs.MarkedLanes.{next_rows, count_few}
 use Rattle.qrcode_grid.proofs.canvas.scoring.tally.count.Goals as goal

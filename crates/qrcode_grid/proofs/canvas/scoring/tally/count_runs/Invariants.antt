@@ -1,6 +1,6 @@
 -- The places of the chunks before this one are counted.
 use Rattle.std.proofs.Common.{◌≡◌, ◌<◌, ◌≤◌, ◌*◌, ℕ, get_or}
-use Rattle.qrcode_grid.specs.Cells.{count_below}
+use Rattle.qrcode_grid.specs.Regions.{count_below}
 use Rattle.qrcode_grid.specs.Scoring.{tallied, has_five, has_six, plane}
 use Rattle.qrcode_grid.proofs.canvas.scoring.tally.count_runs.Given as goal
 
