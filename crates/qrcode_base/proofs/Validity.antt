@@ -8,7 +8,8 @@ use Rattle.std.proofs.lemmas.List.Sums.{AllPass-from_list_all, list_all-from_All
 use Rattle.std.proofs.lemmas.Option.{slice_get_within, slice_get-get_or}
 use Rattle.qrcode_base.specs.declared.types.Mode.{Mode}
 use Rattle.qrcode_base.specs.declared.types.Mode.TheVariants.{Numeric, Alphanumeric, Byte, Kanji}
-use Rattle.qrcode_base.specs.Characters.{is_between, IsDigit, alphabet, is_alphanumeric, is_kanji_pair, IsKanjiText, is_kanji_text, IsValid, is_valid, longest_beginning, first_invalid, IsFirstInvalid, FirstInvalid}
+use Rattle.qrcode_base.specs.Characters.{is_between, IsDigit, alphabet, is_alphanumeric, is_kanji_pair, IsKanjiText, is_kanji_text, IsValid, is_valid}
+use Rattle.qrcode_base.specs.Characters.{longest_beginning, first_invalid, IsFirstInvalid, FirstInvalid}
 use Rattle.qrcode_base.proofs.Alphabet.{and_left, and_right, is_alphanumeric-inside, is_alphanumeric-from_inside}
 
 -- ---- The test of a text
@@ -67,7 +68,8 @@ unfolding longest_beginning
 longest-within test text zero = omega arith
 longest-within test text (suc n) = step_within (test (take (suc n) text)) n (longest_beginning test text n) (longest-within test text n)
 
-step_passes : (test : List ℕ → Bool) (text : List ℕ) (b : Bool) (n m : ℕ) → test (take (suc n) text) ≡ b → test (take m text) ≡ true → test (take (if b then suc n else m) text) ≡ true
+step_passes : (test : List ℕ → Bool) (text : List ℕ) (b : Bool) (n m : ℕ) → test (take (suc n) text) ≡ b → test (take m text) ≡ true →
+    test (take (if b then suc n else m) text) ≡ true
 step_passes test text b n m e h = grind arith
 
 longest-passes : (test : List ℕ → Bool) (text : List ℕ) (n : ℕ) → test [] ≡ true → test (take (longest_beginning test text n) text) ≡ true
@@ -82,7 +84,8 @@ step_longest test text b n m e before k above within h = grind arith
 longest-longest : (test : List ℕ → Bool) (text : List ℕ) (n k : ℕ) → longest_beginning test text n < k → k ≤ n → test (take k text) ≡ true → ⊥
 unfolding longest_beginning
 longest-longest test text zero k above within h = omega arith
-longest-longest test text (suc n) k above within h = step_longest test text (test (take (suc n) text)) n (longest_beginning test text n) refl (longest-longest test text n) k above within h
+longest-longest test text (suc n) k above within h = step_longest test text (test (take (suc n) text)) n (longest_beginning test text n) refl
+    (longest-longest test text n) k above within h
 
 -- ---- What stands behind it
 
@@ -125,7 +128,8 @@ same_found : (text : List ℕ) (p q : ℕ × ℕ) → p.0 ≡ q.0 → slice_get 
 unfolding place_and_byte
 same_found text p q place first second = grind arith
 
-one_first : (valid : List ℕ → Type 0) (text : List ℕ) (first second : Option (ℕ × ℕ)) → FirstInvalid valid text first → FirstInvalid valid text second → first ≡ second
+one_first : (valid : List ℕ → Type 0) (text : List ℕ) (first second : Option (ℕ × ℕ)) → FirstInvalid valid text first →
+    FirstInvalid valid text second → first ≡ second
 one_first valid text None None h k = refl
 one_first valid text None (Some q) h k = absurd (not_valid valid text q.0 q.1 k h)
 one_first valid text (Some p) None h k = absurd (not_valid valid text p.0 p.1 h k)
@@ -154,5 +158,6 @@ none_where_valid mode text = nothing_found (IsValid mode) text (first_invalid mo
 pub valid_where_none : (mode : Mode) (text : List ℕ) → None ≡ first_invalid mode text → IsValid mode text
 valid_where_none mode text e = (none_where_valid mode text).1 (sym e)
 
-pub first_where_some : (mode : Mode) (text : List ℕ) (place byte : ℕ) → Some (place, byte) ≡ first_invalid mode text → IsFirstInvalid (IsValid mode) text place byte
+pub first_where_some : (mode : Mode) (text : List ℕ) (place byte : ℕ) → Some (place, byte) ≡ first_invalid mode text →
+    IsFirstInvalid (IsValid mode) text place byte
 first_where_some mode text place byte e = subst (λ (found : Option (ℕ × ℕ)). FirstInvalid (IsValid mode) text found) (sym e) (first_invalid-first mode text)

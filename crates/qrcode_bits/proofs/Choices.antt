@@ -121,8 +121,10 @@ capacity-grows l n m c d h p q = grind (arith, capacity-rises)
 same_class : (n m : ℕ) → SameClass n m → SameClass m n
 same_class n m q2 = grind arith
 
-chosen_same : (segments plan : List Segment) (n m : ℕ) → 1 ≤ n → 1 ≤ m → SameClass n m → IsChosenPlan segments (normal n) plan → IsChosenPlan segments (normal m) plan
-chosen_same segments plan n m h k class w = record { cuts = w.cuts; chosen = chosen-same segments n m (length segments) w.cuts h k class w.chosen; merges = w.merges }
+chosen_same : (segments plan : List Segment) (n m : ℕ) → 1 ≤ n → 1 ≤ m → SameClass n m → IsChosenPlan segments (normal n) plan →
+    IsChosenPlan segments (normal m) plan
+chosen_same segments plan n m h k class w = record { cuts = w.cuts; chosen =
+    chosen-same segments n m (length segments) w.cuts h k class w.chosen; merges = w.merges }
 
 -- a version that holds the bits of a plan fits it, if it is a Normal one
 pub fits_normal : (front n c : ℕ) (message : List ℕ) (l : EcLevel) (plan : List Segment) → IsMergePlan message plan → capacity (normal n) l ≡ Some c →
@@ -133,14 +135,16 @@ module _ (front : ℕ) (message : List ℕ) (l : EcLevel) (before last : ℕ) (p
     (class : IsClass before last) (too_long : FitsNone normal front message l before)
     (chosen : IsChosenPlan (parsed message) (normal last) plan) (known : capacity (normal last) l ≡ Some c) where
   -- a plan that fits a version of the class has at least the bits of the chosen plan of the last one
-  least_in : (n : ℕ) → before < n → n ≤ last → (other : List Segment) → (w : Fits front message (normal n) l other) → front + total_bits (normal last) plan ≤ w.limit
+  least_in : (n : ℕ) → before < n → n ≤ last → (other : List Segment) → (w : Fits front message (normal n) l other) →
+      front + total_bits (normal last) plan ≤ w.limit
   least_in n h k other w =
       let fewer = chosen_bits message (normal last) plan other chosen w.planned in
       let equal = total_bits-same n last (omega arith) (omega arith) (class n h k) other in
       omega (arith, w.within)
 
   -- If it fits, the least version that holds its bits is the choice.
-  pub class_choice : (limit number : ℕ) → last ≤ limit → front + total_bits (normal last) plan ≤ c → IsLeastHolding (front + total_bits (normal last) plan) l number →
+  pub class_choice : (limit number : ℕ) → last ≤ limit → front + total_bits (normal last) plan ≤ c →
+      IsLeastHolding (front + total_bits (normal last) plan) l number →
       IsChoice normal front message l limit number plan
   class_choice limit number h fits w =
       let some : 1 ≤ number = (capacity-held l number w.limit w.limit_is).0 in
@@ -186,7 +190,8 @@ pub capacity-middle : (l : EcLevel) (n c : ℕ) → n ≤ 26 → capacity (norma
 capacity-middle l n c h known = let d = middle_capacity l in let grows = capacity-grows l n 26 c d.0 h known d.1 in omega (arith, d.2)
 
 -- What fits some version fits version 40: from 27 on the bits stay, and before they at most double, and so does what is in front.
-pub fits_last : (front n : ℕ) (message : List ℕ) (l : EcLevel) (plan : List Segment) → n ≤ 40 → Fits front message (normal n) l plan → Fits front message (normal 40) l plan
+pub fits_last : (front n : ℕ) (message : List ℕ) (l : EcLevel) (plan : List Segment) → n ≤ 40 → Fits front message (normal n) l plan →
+    Fits front message (normal 40) l plan
 fits_last front n message l plan h w =
     let some : 1 ≤ n = (capacity-held l n w.limit w.has_level).0 in
     let c = middle_capacity l in

@@ -1,5 +1,6 @@
 -- A chosen plan decides for its version, and that of the last version of a class for the class.
-use Rattle.std.proofs.Common.{◌≡◌, ℕ, zero, suc, ℤ, false, pos, ◌+◌, ◌-◌, ◌*◌, ◌^◌, ◌<◌, ◌≤◌, List, [], ◌∷◌, length, sym, ap, subst, arith, inl, inr, drop, get_or, Result, Ok, Err, drop-cons}
+use Rattle.std.proofs.Common.{◌≡◌, ℕ, zero, suc, ℤ, false, pos, ◌+◌, ◌-◌, ◌*◌, ◌^◌, ◌<◌, ◌≤◌, List, [], ◌∷◌, length, sym, ap, subst, arith, inl, inr, drop}
+use Rattle.std.proofs.Common.{get_or, Result, Ok, Err, drop-cons}
 use Rattle.std.specs.Prelude.{All, Option, Some, nat_abs, MatchOption}
 use Rattle.std.proofs.lemmas.Bool.{cases_lt}
 use Rattle.std.proofs.lemmas.List.{drop_all}
@@ -113,7 +114,8 @@ front_fits message l last plan front bits v same e h = grind arith
 -- the bits of the chosen plan are few
 pub ruleset small_plans = (bytes_valid, chosen_is_plan, front_fits, plan_small, normal_headers)
 
-pub front_not : (message : List ℕ) (l : EcLevel) (last front bits : ℕ) (v : Version) → front ≡ bits → v ≡ normal last → FitsNot front message v l → FitsNot bits message (normal last) l
+pub front_not : (message : List ℕ) (l : EcLevel) (last front bits : ℕ) (v : Version) → front ≡ bits → v ≡ normal last → FitsNot front message v l →
+    FitsNot bits message (normal last) l
 front_not message l last front bits v same e h =
     subst (λ (n : ℕ). FitsNot n message (normal last) l) same (subst (λ (u : Version). FitsNot front message u l) e h)
 
@@ -144,7 +146,8 @@ module _ (header : Option Header) (message : List ℕ) (l : EcLevel) (last : ℕ
       record {
         number = m.0;
         plan = plan;
-        choice = class_choice (length (header_bits header)) message l before last plan fits.limit class none chosen fits.has_level limit m.0 within fits.within m.2;
+        choice = class_choice (length (header_bits header)) message l before last plan fits.limit class none chosen fits.has_level limit
+            m.0 within fits.within m.2;
         stream_is = subst (λ (v : Version). IsPlanStream header message v l plan stream) m.1 s;
       }
 
@@ -165,12 +168,14 @@ IsSearched front message l limit left = (before : ℕ) × ClassesUpTo before lef
 
 -- ---- Refusals
 
-pub refused_limit : (message : List ℕ) (l : EcLevel) (z : ℤ) (n : ℕ) (e : QrError) → IsLimit z → n ≡ nat_abs z → IsUnencodable normal 0 message l n e → IsEncodingRefused message l z e
+pub refused_limit : (message : List ℕ) (l : EcLevel) (z : ℤ) (n : ℕ) (e : QrError) → IsLimit z → n ≡ nat_abs z → IsUnencodable normal 0 message l n e →
+    IsEncodingRefused message l z e
 refused_limit message l z n DataTooLong h same r = (h, subst (λ (k : ℕ). FitsNone normal 0 message l k) same r)
 refused_limit message l z n OutOfMemory h same r = (h, r)
 refused_limit message l z n other h same r = absurd r
 
-pub refused_part : (place total : ℕ) (message : List ℕ) (l : EcLevel) (z : ℤ) (n front : ℕ) (e : QrError) → IsLimit z → IsPlace place total → n ≡ nat_abs z → front ≡ 20 →
+pub refused_part : (place total : ℕ) (message : List ℕ) (l : EcLevel) (z : ℤ) (n front : ℕ) (e : QrError) → IsLimit z →
+    IsPlace place total → n ≡ nat_abs z → front ≡ 20 →
     IsUnencodable normal front message l n e → IsPartRefused place total message l z e
 refused_part place total message l z n front DataTooLong h p same size r =
     (h, p, subst (λ (f : ℕ). FitsNone normal f message l (nat_abs z)) size (subst (λ (k : ℕ). FitsNone normal front message l k) same r))

@@ -49,17 +49,20 @@ unit_or_pair pair a b rest = elim pair [ true ↦ Pair ∷ units rest | false �
 drop-two : (bytes : List ℕ) (at : ℕ) → at + 2 ≤ length bytes → drop at bytes ≡ get_or bytes at 0 ∷ get_or bytes (at + 1) 0 ∷ drop (at + 2) bytes
 drop-two bytes at within = grind (arith, drop-cons)
 
-pub units_pair : (bytes : List ℕ) (at : ℕ) → at + 2 ≤ length bytes → is_kanji_pair (get_or bytes at 0) (get_or bytes (at + 1) 0) ≡ true → units (drop at bytes) ≡ Pair ∷ units (drop (at + 2) bytes)
+pub units_pair : (bytes : List ℕ) (at : ℕ) → at + 2 ≤ length bytes → is_kanji_pair (get_or bytes at 0) (get_or bytes (at + 1) 0) ≡ true →
+    units (drop at bytes) ≡ Pair ∷ units (drop (at + 2) bytes)
 units_pair bytes at within pair = grind (arith, drop-two)
 
 units_alone : (bytes : List ℕ) (at : ℕ) → at + 2 ≤ length bytes → is_kanji_pair (get_or bytes at 0) (get_or bytes (at + 1) 0) ≡ false →
     units (drop at bytes) ≡ class_of (get_or bytes at 0) ∷ units (drop (at + 1) bytes)
 units_alone bytes at within pair = grind (arith, common_steps, drop-two, drop-cons)
 
-pub units_last : (bytes : List ℕ) (at : ℕ) → length bytes - at < 2 → at < length bytes → units (drop at bytes) ≡ class_of (get_or bytes at 0) ∷ units (drop (at + 1) bytes)
+pub units_last : (bytes : List ℕ) (at : ℕ) → length bytes - at < 2 → at < length bytes →
+    units (drop at bytes) ≡ class_of (get_or bytes at 0) ∷ units (drop (at + 1) bytes)
 units_last bytes at short within = grind (arith, drop_all, drop-cons)
 
-units_other : (bytes : List ℕ) (at : ℕ) → at < length bytes → (class_of (get_or bytes at 0) ≡ LoneLead → ⊥) → units (drop at bytes) ≡ class_of (get_or bytes at 0) ∷ units (drop (at + 1) bytes)
+units_other : (bytes : List ℕ) (at : ℕ) → at < length bytes → (class_of (get_or bytes at 0) ≡ LoneLead → ⊥) →
+    units (drop at bytes) ≡ class_of (get_or bytes at 0) ∷ units (drop (at + 1) bytes)
 units_other bytes at within other = grind (arith, common_steps, cases_lt, units_alone, units_last)
 
 -- the next unit is the byte's, or a pair
@@ -95,17 +98,20 @@ module _ (bytes : List ℕ) (begin : ℕ) (within : begin < length bytes) where
   pub alone_first : (class ≡ LoneLead → ⊥) → IsRun bytes class begin (begin + 1)
   alone_first other = grind (arith, common_steps, class_of-one, Run-first, units_other)
 
-  pub alone_more : (end number next : ℕ) → end < length bytes → (class ≡ LoneLead → ⊥) → number ≡ class_number class → next ≡ class_number (class_of (get_or bytes end 0)) → next ≡ number →
+  pub alone_more : (end number next : ℕ) → end < length bytes → (class ≡ LoneLead → ⊥) → number ≡ class_number class →
+      next ≡ class_number (class_of (get_or bytes end 0)) → next ≡ number →
       IsRun bytes class begin end → IsRun bytes class begin (end + 1)
   alone_more end number next below other is next_is same run =
-      let equal : class_of (get_or bytes end 0) ≡ class = sym (numbered-is (get_or bytes end 0) next next_is) ∙ numbered-is (get_or bytes begin 0) next (same ∙ is) in
+      let equal : class_of (get_or bytes end 0) ≡ class = sym (numbered-is (get_or bytes end 0) next next_is)
+          ∙ numbered-is (get_or bytes begin 0) next (same ∙ is) in
       let one = class_of-one (get_or bytes begin 0) in
       let unit : units (drop end bytes) ≡ class ∷ units (drop (end + class_size class) bytes) =
       units_other bytes end below (λ lone. other (sym equal ∙ lone))
       ∙ (ap (λ (d : Class). d ∷ units (drop (end + 1) bytes)) equal ∙ ap (λ (n : ℕ). class ∷ units (drop (end + n) bytes)) (sym one)) in
       Run-more bytes class class begin end 1 (sym one) (joins-self class other) unit run
 
-  pub alone_stops : (end number : ℕ) → number ≡ class_number class → IsRun bytes class begin end → (end < length bytes → class_number (class_of (get_or bytes end 0)) ≡ number → ⊥) →
+  pub alone_stops : (end number : ℕ) → number ≡ class_number class → IsRun bytes class begin end →
+      (end < length bytes → class_number (class_of (get_or bytes end 0)) ≡ number → ⊥) →
       parsed_from begin (drop begin bytes) ≡ record { mode = class_mode class; begin = begin; end = end } ∷ parsed_from end (drop end bytes)
   alone_stops end number is run apart = run_stops bytes class begin end run (λ w.
       let n = next_unit bytes end w in (
@@ -121,15 +127,19 @@ module _ (bytes : List ℕ) (begin : ℕ) (within : begin < length bytes) where
 
 pub lone_stops : (bytes : List ℕ) (begin : ℕ) → begin < length bytes → class_of (get_or bytes begin 0) ≡ LoneLead →
     units (drop begin bytes) ≡ class_of (get_or bytes begin 0) ∷ units (drop (begin + 1) bytes) →
-    parsed_from begin (drop begin bytes) ≡ record { mode = class_mode LoneLead; begin = begin; end = begin + 1 } ∷ parsed_from (begin + 1) (drop (begin + 1) bytes)
+    parsed_from begin (drop begin bytes) ≡ record { mode = class_mode LoneLead; begin = begin; end = begin + 1 } ∷ parsed_from
+        (begin + 1) (drop (begin + 1) bytes)
 lone_stops bytes begin within lone unit =
-    run_stops bytes LoneLead begin (begin + 1) (Run-first bytes LoneLead begin 1 refl (unit ∙ ap (λ (d : Class). d ∷ units (drop (begin + 1) bytes)) lone)) (λ w.
+    run_stops bytes LoneLead begin (begin + 1) (Run-first bytes LoneLead begin 1 refl
+        (unit ∙ ap (λ (d : Class). d ∷ units (drop (begin + 1) bytes)) lone)) (λ w.
     let n = next_unit bytes (begin + 1) w in (n.0, lone_apart n.0, n.2))
 
-pub pair_more : (bytes : List ℕ) (begin end : ℕ) → units (drop end bytes) ≡ Pair ∷ units (drop (end + 2) bytes) → IsRun bytes Pair begin end → IsRun bytes Pair begin (end + 2)
+pub pair_more : (bytes : List ℕ) (begin end : ℕ) → units (drop end bytes) ≡ Pair ∷ units (drop (end + 2) bytes) → IsRun bytes Pair begin end →
+    IsRun bytes Pair begin (end + 2)
 pair_more bytes begin end unit run = Run-more bytes Pair Pair begin end 2 refl refl unit run
 
-pub pairs_stop : (bytes : List ℕ) (begin end : ℕ) → IsRun bytes Pair begin end → (end < length bytes → units (drop end bytes) ≡ class_of (get_or bytes end 0) ∷ units (drop (end + 1) bytes)) →
+pub pairs_stop : (bytes : List ℕ) (begin end : ℕ) → IsRun bytes Pair begin end →
+    (end < length bytes → units (drop end bytes) ≡ class_of (get_or bytes end 0) ∷ units (drop (end + 1) bytes)) →
     parsed_from begin (drop begin bytes) ≡ record { mode = class_mode Pair; begin = begin; end = end } ∷ parsed_from end (drop end bytes)
 pairs_stop bytes begin end run alone = run_stops bytes Pair begin end run (λ w. (
   class_of (get_or bytes end 0),

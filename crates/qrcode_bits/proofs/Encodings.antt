@@ -22,11 +22,13 @@ use Rattle.qrcode_bits.proofs.PlanFrames.{spelled_plan, plan_frame}
 -- ---- The stream of a plan, behind a header or none
 
 module _ (header : Option Header) (bytes : List ℕ) (are : All (λ c. c < 256) bytes) (v : Version) (level : EcLevel) (plan : List Segment)
-    (fits : Fits (length (header_bits header)) bytes v level plan) (start : Stream) (begun : start.bits ≡ header_bits header) (version : start.version ≡ v) where
+    (fits : Fits (length (header_bits header)) bytes v level plan) (start : Stream) (begun : start.bits ≡ header_bits header)
+        (version : start.version ≡ v) where
   abbrev pieces : List Piece
   pieces = segment_pieces bytes plan
 
-  pushed_bits : (middle : Stream) → SpellsAll start middle (segment_pieces bytes plan) → middle.bits ≡ header_bits header ++ spellings v (segment_pieces bytes plan)
+  pushed_bits : (middle : Stream) → SpellsAll start middle (segment_pieces bytes plan) →
+      middle.bits ≡ header_bits header ++ spellings v (segment_pieces bytes plan)
   pushed_bits middle w = grind arith
 
   pushed_version : (middle : Stream) → SpellsAll start middle (segment_pieces bytes plan) → middle.version ≡ v
@@ -40,10 +42,12 @@ module _ (header : Option Header) (bytes : List ℕ) (are : All (λ c. c < 256) 
   pub plan_end_refused : (middle : Stream) (e : QrError) → SpellsAll start middle (segment_pieces bytes plan) → IsLevelRefused middle level e → e ≡ OutOfMemory
   plan_end_refused middle e w r = grind (arith, pushed_size)
 
-  pub plan_stream : (middle last : Stream) → HasHeader v header → start.modes ≡ no_modes → SpellsAll start middle (segment_pieces bytes plan) → EndsAtLevel middle last level →
+  pub plan_stream : (middle last : Stream) → HasHeader v header → start.modes ≡ no_modes → SpellsAll start middle (segment_pieces bytes plan) →
+      EndsAtLevel middle last level →
       IsPlanStream header bytes v level plan last
   plan_stream middle last has modes w e =
-      let same : e.limit ≡ fits.limit = some_same e.limit fits.limit (capacity v level) (subst (λ (u : Version). capacity u level ≡ Some e.limit) (pushed_version middle w) e.limit_is) fits.has_level in
+      let same : e.limit ≡ fits.limit = some_same e.limit fits.limit (capacity v level)
+          (subst (λ (u : Version). capacity u level ≡ Some e.limit) (pushed_version middle w) e.limit_is) fits.has_level in
       let bits : last.bits ≡ ended v fits.limit (header_bits header ++ spellings v pieces) =
       e.ends.bits_are ∙ (ap (λ (u : Version). ended u e.limit middle.bits) (pushed_version middle w)
       ∙ (ap (λ (n : ℕ). ended v n middle.bits) same ∙ ap (λ (z : List Bool). ended v fits.limit z) (pushed_bits middle w))) in

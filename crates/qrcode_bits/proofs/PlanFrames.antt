@@ -32,7 +32,8 @@ module _ (v : Version) (whole : List ℕ) where
   size : (s : Segment) → s.begin < s.end → s.end ≤ length whole → length (text s) ≡ s.end - s.begin
   size s h k = length-slice whole s.begin s.end (omega arith) k
 
-  spelled_size : (s : Segment) → s.begin < s.end → s.end ≤ length whole → IsValid s.mode (text s) → length (spelling v (segment_piece whole s)) ≡ segment_bits v s
+  spelled_size : (s : Segment) → s.begin < s.end → s.end ≤ length whole → IsValid s.mode (text s) →
+      length (spelling v (segment_piece whole s)) ≡ segment_bits v s
   spelled_size s h k valid =
       let count = ap (λ (n : ℕ). data_bits s.mode (characters s.mode n)) (size s h k) in
       omega (arith, length-spelling v (segment_piece whole s), length-character_bits s.mode (text s) valid, count)
@@ -41,19 +42,23 @@ module _ (v : Version) (whole : List ℕ) where
   non_empty s h k e = let none : length (text s) ≡ 0 = ap (λ (z : List ℕ). length z) e in let n = size s h k in absurd (omega arith)
 
   -- the first of some texts
-  own : (from to : ℕ) (s : Segment) (ss : List Segment) → AreTexts whole from (s ∷ ss) to → to ≤ length whole → (s.begin < s.end) × (s.end ≤ length whole) × IsValid s.mode (text s)
+  own : (from to : ℕ) (s : Segment) (ss : List Segment) → AreTexts whole from (s ∷ ss) to → to ≤ length whole →
+      (s.begin < s.end) × (s.end ≤ length whole) × IsValid s.mode (text s)
   own from to s ss h k = grind (arith, texts-reach)
 
   -- Their spellings take the bits of the segments.
-  pub length-spelled : (from to : ℕ) (ss : List Segment) → AreTexts whole from ss to → to ≤ length whole → length (spellings v (segment_pieces whole ss)) ≡ total_bits v ss
+  pub length-spelled : (from to : ℕ) (ss : List Segment) → AreTexts whole from ss to → to ≤ length whole →
+      length (spellings v (segment_pieces whole ss)) ≡ total_bits v ss
   length-spelled from to [] h k = refl
   length-spelled from to (s ∷ ss) h k = grind (arith, own, length-append, spelled_size, length-spelled s.end to ss h.3 k)
 
   -- Each can be spelled, where the version has the modes and the counts fit.
-  pub texts-spelled : (from to : ℕ) (ss : List Segment) → AreTexts whole from ss to → to ≤ length whole → All (λ part. HasMode v part.mode) ss → CountsFit v ss → AreSpelled v (segment_pieces whole ss)
+  pub texts-spelled : (from to : ℕ) (ss : List Segment) → AreTexts whole from ss to → to ≤ length whole → All (λ part. HasMode v part.mode) ss →
+      CountsFit v ss → AreSpelled v (segment_pieces whole ss)
   texts-spelled from to [] h k has counted = tt
   texts-spelled from to (s ∷ ss) h k has counted =
-      grind (arith, common_steps, own, All-head, non_empty, All-tail, texts-spelled s.end to ss h.3 k (All-tail (λ part. HasMode v part.mode) s ss has) counted.1)
+      grind (arith, common_steps, own, All-head, non_empty, All-tail, texts-spelled s.end to ss h.3 k
+          (All-tail (λ part. HasMode v part.mode) s ss has) counted.1)
 
 -- ---- The frame of a plan
 

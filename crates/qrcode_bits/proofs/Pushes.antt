@@ -1,5 +1,6 @@
 -- Several pushes, one after the other.
-use Rattle.std.proofs.Common.{◌≡◌, ℕ, ◌+◌, ◌<◌, ◌≤◌, List, [], ◌∷◌, ◌++◌, length, drop, drop-cons, refl, sym, ap, subst, append_assoc, append-nil, arith, length-append, Some, Result, Ok, Err, inl, inr, ◌⊎◌}
+use Rattle.std.proofs.Common.{◌≡◌, ℕ, ◌+◌, ◌<◌, ◌≤◌, List, [], ◌∷◌, ◌++◌, length, drop, drop-cons, refl, sym, ap, subst, append_assoc, append-nil, arith}
+use Rattle.std.proofs.Common.{length-append, Some, Result, Ok, Err, inl, inr, ◌⊎◌}
 use Rattle.std.specs.Prelude.{All, slice_get}
 use Rattle.std.proofs.lemmas.List.{drop_all}
 use Rattle.std.proofs.lemmas.Option.{slice_get_past}
@@ -63,7 +64,8 @@ stops_longer old new ps qs e w = grind (arith, append_assoc)
 
 -- ---- Segments
 
-pub pieces_more : (bytes : List ℕ) (ys : List Segment) (s : Segment) (rest : List Piece) → segment_pieces bytes (ys ++ s ∷ []) ++ rest ≡ segment_pieces bytes ys ++ (segment_piece bytes s ∷ rest)
+pub pieces_more : (bytes : List ℕ) (ys : List Segment) (s : Segment) (rest : List Piece) → segment_pieces bytes (ys ++ s ∷ []) ++ rest ≡ segment_pieces bytes ys
+    ++ (segment_piece bytes s ∷ rest)
 pieces_more bytes ys s rest = grind (arith, common_steps)
 
 -- what holds of each of some segments holds of the last
@@ -78,7 +80,8 @@ got_within s i x h = grind (arith, slice_get_past)
 -- a valid text has no first invalid byte
 none_invalid : (piece : Piece) (position byte : ℕ) → IsValid piece.mode piece.text → IsFirstInvalid (IsValid piece.mode) piece.text position byte → ⊥
 none_invalid piece position byte valid h =
-    h.longest (length piece.text) (got_within piece.text position byte h.byte_is) (omega arith) (subst (λ (z : List ℕ). IsValid piece.mode z) (sym (take-length piece.text)) valid)
+    h.longest (length piece.text) (got_within piece.text position byte h.byte_is) (omega arith)
+        (subst (λ (z : List ℕ). IsValid piece.mode z) (sym (take-length piece.text)) valid)
 
 -- a piece that can be spelled is refused for memory alone
 pub spellable_refused : (old : Stream) (piece : Piece) (e : QrError) → IsSpellable old.version piece → IsRefused old piece e → e ≡ OutOfMemory
@@ -89,7 +92,8 @@ pub pieces_at : (bytes : List ℕ) (plan : List Segment) (i : ℕ) → i < lengt
     segment_pieces bytes (drop i plan) ≡ segment_piece bytes (segment_at plan i) ∷ segment_pieces bytes (drop (i + 1) plan)
 pieces_at bytes plan i within = grind (arith, drop-cons)
 
-module _ (bytes : List ℕ) (plan : List Segment) (i : ℕ) (within : i < length plan) (old next : Stream) (spelled : AreSpelled old.version (segment_pieces bytes (drop i plan))) where
+module _ (bytes : List ℕ) (plan : List Segment) (i : ℕ) (within : i < length plan) (old next : Stream)
+    (spelled : AreSpelled old.version (segment_pieces bytes (drop i plan))) where
   pub part_spellable : IsSpellable old.version (segment_piece bytes (segment_at plan i))
   part_spellable = grind (arith, pieces_at)
 

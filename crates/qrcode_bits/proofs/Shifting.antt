@@ -1,5 +1,6 @@
 -- Bytes behind bits that are no whole byte yet: each place has the low bits of one byte and the high bits of the next.
-use Rattle.std.proofs.Common.{◌≡◌, ℕ, suc, ◌+◌, ◌-◌, ◌*◌, ◌/◌, ◌%◌, ◌^◌, ◌<◌, ◌≤◌, Bool, List, [], ◌∷◌, ◌++◌, length, sym, ap, ◌∙◌, arith, take, append_assoc, append-nil, add_comm}
+use Rattle.std.proofs.Common.{◌≡◌, ℕ, suc, ◌+◌, ◌-◌, ◌*◌, ◌/◌, ◌%◌, ◌^◌, ◌<◌, ◌≤◌, Bool, List, [], ◌∷◌, ◌++◌, length, sym, ap, ◌∙◌, arith, take, append_assoc}
+use Rattle.std.proofs.Common.{append-nil, add_comm}
 use Rattle.std.specs.Prelude.{slice_index_or, bit_and}
 use Rattle.std.proofs.lemmas.Nat.{pow-add, and_mask}
 use Rattle.std.proofs.lemmas.List.{drop_all, length-drop}
@@ -43,7 +44,8 @@ shifted_bits used partial (b ∷ text) (c ∷ cs) part small are =
 
 -- ---- The stream
 
-pub kept_more : (len cap cap' used partial left n word : ℕ) → IsKept len cap used partial → 8 * n ≤ room_in cap len used → cap ≤ cap' → left ≡ word % 2 ^ used → IsKept (len + n) cap' used left
+pub kept_more : (len cap cap' used partial left n word : ℕ) → IsKept len cap used partial → 8 * n ≤ room_in cap len used → cap ≤ cap' → left ≡ word % 2 ^ used →
+    IsKept (len + n) cap' used left
 kept_more len cap cap' used partial left n word kept room grows is = grind arith
 
 -- the bytes that were there, and these in place of those behind them
@@ -51,10 +53,13 @@ pub replaced : (bytes text whole filled : List ℕ) (start : ℕ) → whole ≡ 
     take start whole ++ (filled ++ post_of start (length whole - start) whole) ≡ bytes ++ filled
 replaced bytes text whole filled start is from = grind (arith, take-append_seam, drop_all, length-drop, append-nil)
 
-pub appends_shifted : (old : Stream) (bytes now text filled : List ℕ) (len len' cap cap' used partial left : ℕ) → old.bits ≡ kept_bits bytes used partial → old.room ≡ room_in cap len used →
-    now ≡ bytes ++ filled → len' ≡ len + length text → cap ≤ cap' → used < 8 → ((k : ℕ) → slice_index_or text k 0 < 2 ^ 8) → AreShifted used partial text filled →
+pub appends_shifted : (old : Stream) (bytes now text filled : List ℕ) (len len' cap cap' used partial left : ℕ) → old.bits ≡ kept_bits bytes used partial →
+    old.room ≡ room_in cap len used →
+    now ≡ bytes ++ filled → len' ≡ len + length text → cap ≤ cap' → used < 8 → ((k : ℕ) → slice_index_or text k 0 < 2 ^ 8) →
+        AreShifted used partial text filled →
     left ≡ slice_index_or (partial ∷ text) (length text) 0 % 2 ^ used →
-    Appends old (record { bits = kept_bits now used left; version = old.version; modes = old.modes; payload = old.payload; room = room_in cap' len' used }) (byte_bits text)
+    Appends old (record { bits = kept_bits now used left; version = old.version; modes = old.modes; payload = old.payload; room =
+        room_in cap' len' used }) (byte_bits text)
 appends_shifted old bytes now text filled len len' cap cap' used partial left bits room is longer grows part small are last =
     grind (arith, common_steps, length-byte_bits, flat_map-append, append_assoc, number_bits-mod, shifted_bits)
 
@@ -68,15 +73,19 @@ pub five_bytes_are : (n : ℕ) →
     byte_bits (n / 2 ^ 32 ∷ bit_and (n / 2 ^ 24) 255 ∷ bit_and (n / 2 ^ 16) 255 ∷ bit_and (n / 2 ^ 8) 255 ∷ bit_and n 255 ∷ []) ≡ number_bits 40 n
 five_bytes_are n =
     let last : number_bits 8 (bit_and n 255) ++ [] ≡ number_bits 8 n = append-nil (number_bits 8 (bit_and n 255)) ∙ low_byte n in
-    let two : number_bits 8 (bit_and (n / 2 ^ 8) 255) ++ (number_bits 8 (bit_and n 255) ++ []) ≡ number_bits 16 n = rw (low_byte (n / 2 ^ 8), last) (sym (number_bits-cut 8 8 n)) in
-    let three : number_bits 8 (bit_and (n / 2 ^ 16) 255) ++ (number_bits 8 (bit_and (n / 2 ^ 8) 255) ++ (number_bits 8 (bit_and n 255) ++ [])) ≡ number_bits 24 n =
+    let two : number_bits 8 (bit_and (n / 2 ^ 8) 255) ++ (number_bits 8 (bit_and n 255) ++ []) ≡ number_bits 16 n =
+        rw (low_byte (n / 2 ^ 8), last) (sym (number_bits-cut 8 8 n)) in
+    let three : number_bits 8 (bit_and (n / 2 ^ 16) 255) ++ (number_bits 8 (bit_and (n / 2 ^ 8) 255)
+        ++ (number_bits 8 (bit_and n 255) ++ [])) ≡ number_bits 24 n =
     rw (low_byte (n / 2 ^ 16), two) (sym (number_bits-cut 8 16 n)) in
-    let four : number_bits 8 (bit_and (n / 2 ^ 24) 255) ++ (number_bits 8 (bit_and (n / 2 ^ 16) 255) ++ (number_bits 8 (bit_and (n / 2 ^ 8) 255) ++ (number_bits 8 (bit_and n 255) ++ []))) ≡ number_bits 32 n =
+    let four : number_bits 8 (bit_and (n / 2 ^ 24) 255) ++ (number_bits 8 (bit_and (n / 2 ^ 16) 255)
+        ++ (number_bits 8 (bit_and (n / 2 ^ 8) 255) ++ (number_bits 8 (bit_and n 255) ++ []))) ≡ number_bits 32 n =
     rw (low_byte (n / 2 ^ 24), three) (sym (number_bits-cut 8 24 n)) in
     ap (λ (z : List Bool). number_bits 8 (n / 2 ^ 32) ++ z) four ∙ sym (number_bits-cut 8 32 n)
 
 -- the stream with a number of 40 bits behind it, as five bytes
-pub kept_five : (old five : List ℕ) (used partial left n wide : ℕ) → used < 8 → n < 2 ^ 40 → wide ≡ partial * 2 ^ 40 + n → byte_bits five ≡ number_bits 40 (wide / 2 ^ used) →
+pub kept_five : (old five : List ℕ) (used partial left n wide : ℕ) → used < 8 → n < 2 ^ 40 → wide ≡ partial * 2 ^ 40 + n →
+    byte_bits five ≡ number_bits 40 (wide / 2 ^ used) →
     left ≡ bit_and n 255 % 2 ^ used → kept_bits (old ++ five) used left ≡ kept_bits old used partial ++ number_bits 40 n
 kept_five old five used partial left n wide part small whole bytes is =
     let low : number_bits used left ≡ number_bits used wide =
@@ -93,8 +102,11 @@ kept_five old five used partial left n wide part small whole bytes is =
     ∙ (ap (λ (z : List Bool). byte_bits old ++ z) cut
     ∙ sym (append_assoc (byte_bits old) (number_bits used partial) (number_bits 40 n))))))
 
-pub appends_five : (old : Stream) (bytes now five : List ℕ) (len len' cap cap' used partial left n wide : ℕ) → old.bits ≡ kept_bits bytes used partial → old.room ≡ room_in cap len used →
-    now ≡ bytes ++ five → len' ≡ len + 5 → cap ≤ cap' → used < 8 → n < 2 ^ 40 → wide ≡ partial * 2 ^ 40 + n → byte_bits five ≡ number_bits 40 (wide / 2 ^ used) → left ≡ bit_and n 255 % 2 ^ used →
-    Appends old (record { bits = kept_bits now used left; version = old.version; modes = old.modes; payload = old.payload; room = room_in cap' len' used }) (number_bits 40 n)
+pub appends_five : (old : Stream) (bytes now five : List ℕ) (len len' cap cap' used partial left n wide : ℕ) → old.bits ≡ kept_bits bytes used partial →
+    old.room ≡ room_in cap len used →
+    now ≡ bytes ++ five → len' ≡ len + 5 → cap ≤ cap' → used < 8 → n < 2 ^ 40 → wide ≡ partial * 2 ^ 40 + n →
+        byte_bits five ≡ number_bits 40 (wide / 2 ^ used) → left ≡ bit_and n 255 % 2 ^ used →
+    Appends old (record { bits = kept_bits now used left; version = old.version; modes = old.modes; payload = old.payload; room =
+        room_in cap' len' used }) (number_bits 40 n)
 appends_five old bytes now five len len' cap cap' used partial left n wide bits room is longer grows part small whole are last =
     grind (arith, common_steps, kept_five, length-number_bits)

@@ -15,7 +15,8 @@ use Rattle.qrcode_bits.specs.Plans.{IsNoWorse, segment_bits, segment_at, part_bi
 use Rattle.qrcode_bits.specs.Buckets.{chosen_plan, bucket_mode, bucket_rest, part_mode, bits_before, parts_before, InBucket, IsBestStart, slot, AreGroups}
 use Rattle.qrcode_bits.specs.Buckets.{group_of, period, period_bits, start_told, bucket_start, IsShort, AreHeaders, header_in, step_told, short_at}
 use Rattle.qrcode_bits.specs.Buckets.{AreShortSteps}
-use Rattle.qrcode_bits.proofs.Ending.{data_bits-linear, bucket_of, bucket_of-is, group-right, IsTried, Tried-leads, Tried-keeps, Tried-takes, Tried-all, cost-is}
+use Rattle.qrcode_bits.proofs.Ending.{data_bits-linear, bucket_of, bucket_of-is, group-right, IsTried, Tried-leads, Tried-keeps, Tried-takes, Tried-all}
+use Rattle.qrcode_bits.proofs.Ending.{cost-is}
 use Rattle.qrcode_bits.proofs.Grouping.{has-own}
 use Rattle.qrcode_bits.proofs.Optimal.{IsGoodStart}
 use Rattle.qrcode_bits.proofs.WordStarts.{word-ahead, some_start, no_start, more_in}
@@ -47,7 +48,8 @@ shifted-low w cost x cand h e = omega arith
 -- The best start of the buckets so far, or none where these have no start.
 pub record IsSought (segments : List Segment) (version : Version) (end tried best : ℕ) (mode : Mode) : Type 0 where
   pub found : best < 2 ^ 60 →
-      IsTried segments version end tried (record { mode = mode; begin = (segment_at segments (start_told 0 best).start).begin; end = (segment_at segments (end - 1)).end }) (start_told 0 best)
+      IsTried segments version end tried (record { mode = mode; begin = (segment_at segments (start_told 0 best).start).begin; end =
+          (segment_at segments (end - 1)).end }) (start_told 0 best)
   pub none : 2 ^ 60 ≤ best → (i t : ℕ) → i < tried → InBucket segments end end (bucket_mode i) i t → ⊥
 
 module _ (segments : List Segment) (version : Version) (end : ℕ) (within : end ≤ length segments) (linear : HasLinearCosts segments version) where
@@ -55,10 +57,13 @@ module _ (segments : List Segment) (version : Version) (end : ℕ) (within : end
   last_end = (segment_at segments (end - 1)).end
 
   -- some start was found in the end
-  pub sought-last : (best : ℕ) (mode : Mode) → 0 < end → IsSought segments version end 8 best mode → IsStep segments version end (step_told segments end (record { word = best; mode = mode }))
+  pub sought-last : (best : ℕ) (mode : Mode) → 0 < end → IsSought segments version end 8 best mode →
+      IsStep segments version end (step_told segments end (record { word = best; mode = mode }))
   sought-last best mode some h = elim (cases_lt best (2 ^ 60)) [
-    | inl small ↦ Tried-all segments version end within linear (record { mode = mode; begin = (segment_at segments (start_told 0 best).start).begin; end = last_end }) (start_told 0 best) some (h.found small)
-    | inr great ↦ absurd (grind (arith, h.none great (bucket_of (part_mode segments 0 end) (segment_at segments 0).begin) 0, bucket_of-is (part_mode segments 0 end) (segment_at segments 0).begin))
+    | inl small ↦ Tried-all segments version end within linear (record { mode = mode; begin = (segment_at segments (start_told 0 best).start).begin; end =
+        last_end }) (start_told 0 best) some (h.found small)
+    | inr great ↦ absurd (grind (arith, h.none great (bucket_of (part_mode segments 0 end) (segment_at segments 0).begin) 0,
+        bucket_of-is (part_mode segments 0 end) (segment_at segments 0).begin))
   ]
 
   -- the rest of a bucket with a start is no more than the end
@@ -77,7 +82,8 @@ module _ (segments : List Segment) (version : Version) (end : ℕ) (within : end
     found-best =
         let here : slot (group_of (bucket_mode j) groups) j ≡ Some found =
         ap (λ m. slot (group_of m groups) j) (sym mode-is) ∙ (sym at ∙ some_start j w small) in
-        subst (IsBestStart segments version (bucket_mode j) (InBucket segments end end (bucket_mode j) j)) here ((group-right (bucket_mode j) groups grouped).1 j (has-own j inside))
+        subst (IsBestStart segments version (bucket_mode j) (InBucket segments end end (bucket_mode j) j)) here
+            ((group-right (bucket_mode j) groups grouped).1 j (has-own j inside))
 
     abbrev begin : ℕ
     begin = (segment_at segments found.start).begin
@@ -89,14 +95,17 @@ module _ (segments : List Segment) (version : Version) (end : ℕ) (within : end
     costs = grind arith
 
     both : (8192 * period_bits (bucket_mode j) ≤ w / 2 ^ 26 + cost)
-        × (w / 2 ^ 26 + cost - 8192 * period_bits (bucket_mode j) ≡ bits_before segments version found.start + (head + data_bits (bucket_mode j) (characters (bucket_mode j) (last_end - begin))))
+        × (w / 2 ^ 26 + cost - 8192 * period_bits (bucket_mode j) ≡ bits_before segments version found.start +
+            (head + data_bits (bucket_mode j) (characters (bucket_mode j) (last_end - begin))))
     both = word-cost (bucket_mode j) (w / 2 ^ 26) cost head begin (bucket_rest j) last_end (bits_before segments version found.start) found-best.0.rest
         (let b = found-best.0.below in linear.ordered found.start (end - 1) (omega arith) (omega arith)) found-best.1.bits costs
 
     pub short-enough : (periods : ℕ) → periods ≡ 8192 * period_bits mode → periods ≤ w / 2 ^ 26 + cost
-    short-enough periods is = let b = both.0 in let e : periods ≡ 8192 * period_bits (bucket_mode j) = is ∙ ap (λ m. 8192 * period_bits m) mode-is in omega arith
+    short-enough periods is = let b = both.0 in let e : periods ≡ 8192 * period_bits (bucket_mode j) =
+        is ∙ ap (λ m. 8192 * period_bits m) mode-is in omega arith
 
-    module _ (periods cand : ℕ) (periods-is : periods ≡ 8192 * period_bits mode) (cand-is : cand ≡ w + cost * 2 ^ 26 - periods * 2 ^ 26) (dear : cost < 2 ^ 18) where
+    module _ (periods cand : ℕ) (periods-is : periods ≡ 8192 * period_bits mode) (cand-is : cand ≡ w + cost * 2 ^ 26 - periods * 2 ^ 26)
+        (dear : cost < 2 ^ 18) where
       high : cand / 2 ^ 26 ≡ bits_before segments version found.start + (head + data_bits (bucket_mode j) (characters (bucket_mode j) (last_end - begin)))
       high = grind (arith, both)
 
@@ -124,10 +133,12 @@ module _ (segments : List Segment) (version : Version) (end : ℕ) (within : end
       abbrev part_here : ℕ → Segment
       part_here s = record { mode = mode; begin = (segment_at segments s).begin; end = last_end }
 
-      leads-here : ((i t : ℕ) → i < j → InBucket segments end end (bucket_mode i) i t → IsGoodStart (part_bits segments version) end (chosen_plan (part_bits segments version)) found.start t) →
+      leads-here : ((i t : ℕ) → i < j → InBucket segments end end (bucket_mode i) i t →
+          IsGoodStart (part_bits segments version) end (chosen_plan (part_bits segments version)) found.start t) →
           IsTried segments version end (j + 1) (part_here (start_told 0 cand).start) (start_told 0 cand)
       leads-here leads =
-          subst (λ (s : ℕ). IsTried segments version end (j + 1) (part_here s) (record { bits = cand / 2 ^ 26 + 0; parts = cand % 2 ^ 26 / 2 ^ 13; start = s })) start-is
+          subst (λ (s : ℕ). IsTried segments version end (j + 1) (part_here s)
+              (record { bits = cand / 2 ^ 26 + 0; parts = cand % 2 ^ 26 / 2 ^ 13; start = s })) start-is
           (Tried-leads segments version end within linear j found found-best here (cand / 2 ^ 26 + 0) (cand % 2 ^ 26 / 2 ^ 13) whole-is counted numbered leads)
 
       module _ (best : ℕ) (best_mode : Mode) (before : IsSought segments version end j best best_mode) where
@@ -136,16 +147,21 @@ module _ (segments : List Segment) (version : Version) (end : ℕ) (within : end
 
         pub sought-keeps : best ≤ cand → IsSought segments version end (j + 1) best best_mode
         sought-keeps h = record {
-          found = λ small. Tried-keeps segments version end within linear j found found-best here (cand / 2 ^ 26 + 0) (cand % 2 ^ 26 / 2 ^ 13) whole-is counted numbered best_part (start_told 0 best) (before.found small)
-              (subst (λ (s : ℕ). IsNoWorse (start_told 0 best).bits (start_told 0 best).parts (start_told 0 best).start (cand / 2 ^ 26 + 0) (cand % 2 ^ 26 / 2 ^ 13) s) (sym start-is) (word-ahead 0 best cand h));
+          found = λ small. Tried-keeps segments version end within linear j found found-best here (cand / 2 ^ 26 + 0)
+              (cand % 2 ^ 26 / 2 ^ 13) whole-is counted numbered best_part (start_told 0 best) (before.found small)
+              (subst (λ (s : ℕ). IsNoWorse (start_told 0 best).bits (start_told 0 best).parts (start_told 0 best).start (cand / 2 ^ 26 + 0)
+                  (cand % 2 ^ 26 / 2 ^ 13) s) (sym start-is) (word-ahead 0 best cand h));
           none = λ great. absurd (let s = small-here in omega arith);
         }
 
         takes-some : cand ≤ best → best < 2 ^ 60 → IsTried segments version end (j + 1) (part_here (start_told 0 cand).start) (start_told 0 cand)
         takes-some h small =
-            subst (λ (s : ℕ). IsTried segments version end (j + 1) (part_here s) (record { bits = cand / 2 ^ 26 + 0; parts = cand % 2 ^ 26 / 2 ^ 13; start = s })) start-is
-            (Tried-takes segments version end within linear j found found-best here (cand / 2 ^ 26 + 0) (cand % 2 ^ 26 / 2 ^ 13) whole-is counted numbered best_part (start_told 0 best) (before.found small)
-            (subst (λ (s : ℕ). IsNoWorse (cand / 2 ^ 26 + 0) (cand % 2 ^ 26 / 2 ^ 13) s (start_told 0 best).bits (start_told 0 best).parts (start_told 0 best).start) (sym start-is) (word-ahead 0 cand best h)))
+            subst (λ (s : ℕ). IsTried segments version end (j + 1) (part_here s)
+                (record { bits = cand / 2 ^ 26 + 0; parts = cand % 2 ^ 26 / 2 ^ 13; start = s })) start-is
+            (Tried-takes segments version end within linear j found found-best here (cand / 2 ^ 26 + 0)
+                (cand % 2 ^ 26 / 2 ^ 13) whole-is counted numbered best_part (start_told 0 best) (before.found small)
+            (subst (λ (s : ℕ). IsNoWorse (cand / 2 ^ 26 + 0) (cand % 2 ^ 26 / 2 ^ 13) s (start_told 0 best).bits (start_told 0 best).parts
+                (start_told 0 best).start) (sym start-is) (word-ahead 0 cand best h)))
 
         pub sought-takes : cand ≤ best → IsSought segments version end (j + 1) cand mode
         sought-takes h = record {
@@ -164,11 +180,13 @@ module _ (segments : List Segment) (version : Version) (end : ℕ) (within : end
 
 -- ---- Steps
 
-pub AreShortSteps-push : (segments : List Segment) (version : Version) (steps next : List ShortStep) (step : ShortStep) (k : ℕ) → length steps ≡ k + 1 → AreShortSteps segments version steps →
+pub AreShortSteps-push : (segments : List Segment) (version : Version) (steps next : List ShortStep) (step : ShortStep) (k : ℕ) → length steps ≡ k + 1 →
+    AreShortSteps segments version steps →
     IsStep segments version (k + 1) (step_told segments (k + 1) step) → next ≡ steps ++ step ∷ [] →
     (length next ≡ k + 1 + 1) × AreShortSteps segments version next × (step ≡ short_at next (k + 1))
 AreShortSteps-push segments version steps next step k long before right is = grind (arith, get_or_push, length_push, get_or_append_left)
 
-pub AreShortSteps-start : (segments : List Segment) (version : Version) (none steps : List ShortStep) (step : ShortStep) → none ≡ [] → step.word ≡ 8191 → steps ≡ none ++ step ∷ [] →
+pub AreShortSteps-start : (segments : List Segment) (version : Version) (none steps : List ShortStep) (step : ShortStep) → none ≡ [] →
+    step.word ≡ 8191 → steps ≡ none ++ step ∷ [] →
     (length steps ≡ 1) × AreShortSteps segments version steps × (step ≡ short_at steps 0)
 AreShortSteps-start segments version none steps step empty word is = grind arith

@@ -11,7 +11,8 @@ use Rattle.qrcode_bits.proofs.Grouping.{has-inside}
 use Rattle.std.proofs.lemmas.Grind.{common_steps}
 
 pub word-ahead : (more a b : ℕ) → a ≤ b →
-    IsNoWorse (start_told more a).bits (start_told more a).parts (start_told more a).start (start_told more b).bits (start_told more b).parts (start_told more b).start
+    IsNoWorse (start_told more a).bits (start_told more a).parts (start_told more a).start (start_told more b).bits
+        (start_told more b).parts (start_told more b).start
 word-ahead more a b h = record { bits = omega arith; parts = λ e. omega arith; start = λ e f. omega arith }
 
 -- ---- A bucket
@@ -62,7 +63,8 @@ module _ (begin bits parts start : ℕ) (low : begin < 8192) (few : bits < 2 ^ 1
   characters-key : (j : ℕ) → bucket_mode j ≡ Kanji → bucket_start j characters ≡ Some (key_of Kanji begin bits parts start)
   characters-key j is = grind arith
 
-  module _ (mode : Mode) (old one two three new : List ℕ) (first : IsOffered mode (begin % 3) thirds old one) (second : IsOffered mode (3 + begin % 2) pairs one two)
+  module _ (mode : Mode) (old one two three new : List ℕ) (first : IsOffered mode (begin % 3) thirds old one)
+      (second : IsOffered mode (3 + begin % 2) pairs one two)
       (third : IsOffered mode 5 singles two three) (fourth : IsOffered mode (6 + begin % 2) characters three new) where
     -- the lesser word in a bucket is the better start
     better-at : (j word : ℕ) (key : Candidate) → j < 8 → word_at new j ≡ min (word_at old j) word → bucket_start j word ≡ Some key →
@@ -87,7 +89,8 @@ module _ (begin bits parts start : ℕ) (low : begin < 8192) (few : bits < 2 ^ 1
     entered (suc (suc (suc (suc zero)))) has inside e = better-at 4 pairs _ inside (at-pair 1 has (omega arith) e) (pairs-key 4 refl)
     entered (suc (suc (suc (suc (suc zero))))) has inside e = grind (arith, better-at)
     entered (suc (suc (suc (suc (suc (suc zero)))))) has inside e = better-at 6 characters _ inside (at-character 0 has (omega arith) e) (characters-key 6 refl)
-    entered (suc (suc (suc (suc (suc (suc (suc zero))))))) has inside e = better-at 7 characters _ inside (at-character 1 has (omega arith) e) (characters-key 7 refl)
+    entered (suc (suc (suc (suc (suc (suc (suc zero))))))) has inside e =
+        better-at 7 characters _ inside (at-character 1 has (omega arith) e) (characters-key 7 refl)
     entered (suc (suc (suc (suc (suc (suc (suc (suc j)))))))) has inside e = absurd (omega arith)
 
     kept : (j : ℕ) → j < 8 → (begin % period (bucket_mode j) ≡ bucket_rest j → ⊥) → slot (starts_in new) j ≡ slot (starts_in old) j
@@ -101,10 +104,12 @@ module _ (begin bits parts start : ℕ) (low : begin < 8192) (few : bits < 2 ^ 1
     enters = (length-starts_in new, λ j has. entered j has (has-inside mode j has), λ j has. kept j (has-inside mode j has))
 
 -- the same of the words that the code has at hand
-pub enters_words : (mode : Mode) (begin bits parts start : ℕ) → begin < 8192 → bits < 2 ^ 18 → parts < 8192 → start < 8192 → (old one two three new : List ℕ) (t p s c : ℕ) →
+pub enters_words : (mode : Mode) (begin bits parts start : ℕ) → begin < 8192 → bits < 2 ^ 18 → parts < 8192 → start < 8192 →
+    (old one two three new : List ℕ) (t p s c : ℕ) →
     t ≡ word_of (bits + 10 * (8192 - begin / 3)) parts start → p ≡ word_of (bits + 11 * (8192 - begin / 2)) parts start →
     s ≡ word_of (bits + 8 * (8192 - begin)) parts start → c ≡ word_of (bits + 13 * (8192 - begin / 2)) parts start →
-    IsOffered mode (begin % 3) t old one → IsOffered mode (3 + begin % 2) p one two → IsOffered mode 5 s two three → IsOffered mode (6 + begin % 2) c three new → length new ≡ 8 →
+    IsOffered mode (begin % 3) t old one → IsOffered mode (3 + begin % 2) p one two → IsOffered mode 5 s two three →
+        IsOffered mode (6 + begin % 2) c three new → length new ≡ 8 →
     Enters mode begin bits parts start (starts_in old) (starts_in new) × IsWhole new
 enters_words mode begin bits parts start low few short early old one two three new t p s c ts ps ss cs first second third fourth long =
     grind (arith, common_steps, enters, still_whole)

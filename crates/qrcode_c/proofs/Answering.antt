@@ -15,7 +15,8 @@ use Rattle.qrcode_c.specs.Holding.{Holds, HoldsBest, HoldsPart}
 use Rattle.qrcode_c.specs.Levels.{number_of}
 use Rattle.qrcode_c.specs.Refusals.{IsPartAbove}
 
-pub best_held : (best : EcLevel → List Color → Type 0) (level : EcLevel) (number : ℤ) (symbol : DrawnSymbol) (before after : List ℕ) (result : Result Shape Refusal) →
+pub best_held : (best : EcLevel → List Color → Type 0) (level : EcLevel) (number : ℤ) (symbol : DrawnSymbol) (before after : List ℕ)
+    (result : Result Shape Refusal) →
     number ≡ number_of level → best level symbol.modules → TellsReading symbol →
     IfOk result (Holds symbol before after) → IfOk result (HoldsBest best number before after)
 best_held best level number symbol before after result level_is is_best reading held =
@@ -40,7 +41,8 @@ within : (message cuts : List ℕ) (level : EcLevel) (limit : ℤ) (index : ℕ)
 within message cuts level limit index symbols best part =
     let count : length symbols ≡ length cuts + 1 = sym (length-map symbols modules_of) ∙ best.a_grid_each in omega arith
 
-pub part_held : (message cuts : List ℕ) (level : EcLevel) (number limit : ℤ) (index : ℕ) (symbols : List DrawnSymbol) (symbol : DrawnSymbol) (before after : List ℕ)
+pub part_held : (message cuts : List ℕ) (level : EcLevel) (number limit : ℤ) (index : ℕ) (symbols : List DrawnSymbol)
+    (symbol : DrawnSymbol) (before after : List ℕ)
     (result : Result Shape Refusal) → number ≡ number_of level → index ≤ length cuts →
     AreBestSymbols message cuts level (nat_abs limit) (map modules_of symbols) → All TellsReading symbols → symbol ≡ get_or symbols index symbol →
     IfOk result (Holds symbol before after) → IfOk result (HoldsPart message cuts number limit index before after)

@@ -1,5 +1,6 @@
 -- The table of the masks' conditions, modules as bytes, masked and formatted, masks by their numbers, and lists of penalties.
-use Rattle.std.proofs.Common.{◌≡◌, ℕ, ◌+◌, ◌/◌, ◌%◌, ◌<◌, ◌==◌, eqb, Bool, cond, min, [], get_or, refl, ap, arith, List, map, length, Option, ◌∙◌, sym, zero, suc, ◌∷◌, ◌++◌, take, drop, slice_get, Some, option_map}
+use Rattle.std.proofs.Common.{◌≡◌, ℕ, ◌+◌, ◌/◌, ◌%◌, ◌<◌, ◌==◌, eqb, Bool, cond, min, [], get_or, refl, ap, arith, List, map, length, Option, ◌∙◌, sym, zero}
+use Rattle.std.proofs.Common.{suc, ◌∷◌, ◌++◌, take, drop, slice_get, Some, option_map}
 use Rattle.std.specs.Int.{bit_at}
 use Rattle.qrcode_base.specs.declared.types.Color.TheVariants.{Light, Dark}
 use Rattle.qrcode_grid.specs.declared.canvas.Module.{Module}
@@ -20,7 +21,8 @@ use Rattle.qrcode_grid.specs.Penalty.{byte_of, penalty}
 use Rattle.qrcode_grid.proofs.WrittenWords.{length-map_places, get_or-map_places}
 use Rattle.qrcode_base.specs.declared.types.EcLevel.{EcLevel}
 use Rattle.qrcode_base.specs.Symbols.{width_of}
-use Rattle.qrcode_grid.specs.declared.canvas.MaskPattern.TheVariants.{Checkerboard, HorizontalLines, VerticalLines, DiagonalLines, LargeCheckerboard, Fields, Diamonds, Meadow}
+use Rattle.qrcode_grid.specs.declared.canvas.MaskPattern.TheVariants.{Checkerboard, HorizontalLines, VerticalLines, DiagonalLines, LargeCheckerboard, Fields}
+use Rattle.qrcode_grid.specs.declared.canvas.MaskPattern.TheVariants.{Diamonds, Meadow}
 use Rattle.std.proofs.lemmas.Option.{slice_get-map, slice_get_within, get_or_from_slice_get}
 
 abbrev is_right : ℕ → ℕ → ℕ → Bool
@@ -30,12 +32,14 @@ pub condition_at : (m k y : ℕ) → m < 8 → k < 6 → y < 12 → bit_at (get_
 condition_at m k y hm hk hy =
     eqb_true (bit_at (get_or (get_or CONDITIONS y []) k 0) m) (cond (is_inverted (pattern_of m) k y) 1 0)
     (passes_below-at (is_right y k) 8 m
-    (passes_below-at (λ i. passes_below 8 (is_right y i)) 6 k (passes_below-at (λ j. passes_below 6 (λ i. passes_below 8 (is_right j i))) 12 y (refl) hy) hk) hm)
+    (passes_below-at (λ i. passes_below 8 (is_right y i)) 6 k (passes_below-at
+        (λ j. passes_below 6 (λ i. passes_below 8 (is_right j i))) 12 y (refl) hy) hk) hm)
 
 pub set_again : (b : Bool) (n : ℕ) → n ≡ cond b 1 0 → (n == 1) ≡ b
 set_again b n h = grind (arith)
 
-pub bits_masked : (old : Module) (b : ℕ) → b < 2 → (cond (code_of old % 2 == 1) 1 0 + min (cond (code_of old / 2 == 1) 1 0) b) % 2 ≡ masked_code (code_of old) (b == 1)
+pub bits_masked : (old : Module) (b : ℕ) → b < 2 → (cond (code_of old % 2 == 1) 1 0 + min (cond (code_of old / 2 == 1) 1 0) b) % 2
+    ≡ masked_code (code_of old) (b == 1)
 bits_masked old b h = grind (arith)
 
 -- Each row of a mask pattern repeats after six cells.
@@ -72,7 +76,8 @@ candidate_is version w format pattern modules codes candidate coded long is =
     let from : 0 + k ≡ k = omega arith in
     let m = get_or modules k Empty in
     is k (omega (arith, h, long))
-    ∙ ap (λ c. byte_under (format_color version w format (k % w) (k / w)) (masked_code c (is_inverted pattern (k % w) (k / w)))) (ap (λ cs. get_or cs k 0) coded ∙ get_or-map code_of modules k Empty 0 inside)
+    ∙ ap (λ c. byte_under (format_color version w format (k % w) (k / w)) (masked_code c (is_inverted pattern (k % w) (k / w)))) (ap (λ cs. get_or cs k 0) coded
+        ∙ get_or-map code_of modules k Empty 0 inside)
     ∙ drawn_byte (format_color version w format (k % w) (k / w)) (is_inverted pattern (k % w) (k / w)) m
     ∙ sym (
     get_or-map byte_of (map color_of_module cells) k Light 0 (omega (arith, length-map cells color_of_module, sizes, inside))
@@ -107,7 +112,8 @@ number_small Meadow = omega arith
 abbrev pub masked_bytes : Version → ℕ → ℕ → MaskPattern → List Module → List ℕ
 masked_bytes version w word p modules = map byte_of (map color_of_module (masked_cells version w word p modules))
 
-pub bytes_of_number : (version : Version) (level : EcLevel) (p : MaskPattern) (w word : ℕ) (held modules : List Module) → w ≡ width_of version → word ≡ format_word version level p → held ≡ modules
+pub bytes_of_number : (version : Version) (level : EcLevel) (p : MaskPattern) (w word : ℕ) (held modules : List Module) → w ≡ width_of version →
+    word ≡ format_word version level p → held ≡ modules
     → masked_bytes version w word (pattern_of (normal_number p)) held ≡ masked_bytes version (width_of version) (format_word version level p) p modules
 bytes_of_number version level p w word held modules wide named same = grind (arith, common_steps, pattern_of-number)
 
@@ -133,10 +139,12 @@ pub ruleset mask_numbers = (bytes_of_number, number_small, written_whole, common
 
 -- The list of penalties grows by one.
 
-pub next_penalty : (d : Drawing) (values : List ℕ) (i : ℕ) (p : MaskPattern) (v : ℕ) → values ≡ take i (mask_penalties d) → slice_get (family d.version) i ≡ Some p →
+pub next_penalty : (d : Drawing) (values : List ℕ) (i : ℕ) (p : MaskPattern) (v : ℕ) → values ≡ take i (mask_penalties d) →
+    slice_get (family d.version) i ≡ Some p →
     v ≡ penalty d.version (colors_of (with_mask p d)) → values ++ v ∷ [] ≡ take (i + 1) (mask_penalties d)
 next_penalty d values i p v so_far here is =
     let e : slice_get (mask_penalties d) i ≡ Some (penalty d.version (colors_of (with_mask p d))) =
-    slice_get-map (λ q. penalty d.version (colors_of (with_mask q d))) (family d.version) i ∙ ap (option_map (λ q. penalty d.version (colors_of (with_mask q d)))) here in
+    slice_get-map (λ q. penalty d.version (colors_of (with_mask q d))) (family d.version) i
+        ∙ ap (option_map (λ q. penalty d.version (colors_of (with_mask q d)))) here in
     ap (λ l. l ++ v ∷ []) so_far ∙ ap (λ n. take i (mask_penalties d) ++ n ∷ []) (is ∙ sym (get_or_from_slice_get (mask_penalties d) i _ 0 e))
     ∙ sym (take_more (mask_penalties d) i 0 (slice_get_within (mask_penalties d) i _ e))

@@ -73,7 +73,8 @@ on_timing (Micro (pos n)) y h = refl
 on_timing (Micro (negsuc n)) y h = absurd h
 
 -- The cells for which `is_functional` holds, and the data cells, are all cells.
-pub functional_cells-data_cells : (version : Version) → IsVersion version → functional_cells version + length (data_cells version) ≡ width_of version * width_of version
+pub functional_cells-data_cells : (version : Version) → IsVersion version → functional_cells version + length (data_cells version)
+    ≡ width_of version * width_of version
 functional_cells-data_cells version canonical =
     let w = width_of version in let t = timing_column version in
     let odd = odd_width version canonical in

@@ -1,10 +1,12 @@
 -- The laws of the regions, of the alignment patterns and of the walk.
-use Rattle.std.proofs.Common.{◌≡◌, ◌≢◌, ℕ, ◌+◌, ◌-◌, ◌*◌, ◌/◌, ◌%◌, ◌<◌, ◌≤◌, ◌==◌, ◌&&◌, ◌||◌, nat_le, nat_lt, Bool, true, false, Option, Some, unwrap_or, subst, refl, arith}
+use Rattle.std.proofs.Common.{◌≡◌, ◌≢◌, ℕ, ◌+◌, ◌-◌, ◌*◌, ◌/◌, ◌%◌, ◌<◌, ◌≤◌, ◌==◌, ◌&&◌, ◌||◌, nat_le, nat_lt, Bool, true, false, Option, Some, unwrap_or}
+use Rattle.std.proofs.Common.{subst, refl, arith}
 use Rattle.std.specs.Int.{abs_diff}
 use Rattle.std.proofs.lemmas.Bool.{eqb-true, leb-true, ltb-true}
 use Rattle.qrcode_base.specs.declared.types.Version.{Version}
 use Rattle.qrcode_base.specs.Symbols.{IsVersion, width_of}
-use Rattle.qrcode_grid.specs.Regions.{near, alignment, alignments, alignment_count, alignment_step, alignment_coordinate, alignment_coordinates, is_at_finder, ring}
+use Rattle.qrcode_grid.specs.Regions.{near, alignment, alignments, alignment_count, alignment_step, alignment_coordinate, alignment_coordinates, is_at_finder}
+use Rattle.qrcode_grid.specs.Regions.{ring}
 use Rattle.qrcode_grid.specs.Walk.{timing_column}
 use Rattle.qrcode_grid.specs.Laws.{AreConsistentRegions, HasEveryAlignment, HasItsAlignments, IsWalkOf}
 use Rattle.qrcode_grid.proofs.Tests.{all_pass, passes, both}
@@ -31,7 +33,8 @@ some_of o c h l = grind (arith)
 around : (c x : ℕ) → 6 ≤ c → abs_diff c x ≤ 2 → c + (x + 2 - c) - 2 ≡ x
 around c x six close = omega (arith, close)
 
-pub near_center : (n i x : ℕ) → n ≤ 40 → i < alignment_count n → abs_diff (alignment_coordinate n i) x ≤ 2 → near (alignment_coordinates n) x ≡ Some (alignment_coordinate n i)
+pub near_center : (n i x : ℕ) → n ≤ 40 → i < alignment_count n → abs_diff (alignment_coordinate n i) x ≤ 2 →
+    near (alignment_coordinates n) x ≡ Some (alignment_coordinate n i)
 near_center n i x high within close =
     let c = alignment_coordinate n i in
     let row = passes are_near_their_own 0 41 n near_test (omega arith) (omega arith) in
@@ -42,7 +45,8 @@ near_center n i x high within close =
     let same : c + u - 2 ≡ x = around c x six close in
     subst (λ (y : ℕ). near (alignment_coordinates n) y ≡ Some c) same (some_of _ c (eqb-true _ _ here.1) six)
 
-every_drawn : (n i j x y : ℕ) → n ≤ 40 → i < alignment_count n → j < alignment_count n → is_at_finder (4 * n + 17) (alignment_coordinate n i) (alignment_coordinate n j) ≡ false →
+every_drawn : (n i j x y : ℕ) → n ≤ 40 → i < alignment_count n → j < alignment_count n →
+    is_at_finder (4 * n + 17) (alignment_coordinate n i) (alignment_coordinate n j) ≡ false →
     ring (alignment_coordinate n i) (alignment_coordinate n j) x y ≤ 2 →
     alignments (4 * n + 17) (alignment_coordinates n) x y ≡ alignment (alignment_coordinate n i) (alignment_coordinate n j) x y
 every_drawn n i j x y high hi hj apart close = grind (arith, common_steps, near_center)
@@ -79,7 +83,8 @@ unfolding HasItsAlignments
 has_its_alignments version h = grind (arith, has_every_alignment)
 
 pub consistent_regions : (version : Version) → IsVersion version → AreConsistentRegions version
-consistent_regions version h = record { areas = λ format x y l m. is_some-functional_color version format x y h l m; agree = λ format x y l m. regions_say version format x y h l m }
+consistent_regions version h = record { areas = λ format x y l m. is_some-functional_color version format x y h l m; agree =
+    λ format x y l m. regions_say version format x y h l m }
 
 pub walk_of : (version : Version) → IsVersion version → IsWalkOf version
 walk_of version h =

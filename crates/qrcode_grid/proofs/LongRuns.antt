@@ -1,5 +1,6 @@
 -- The runs of a line, by its fives and sixes of one colour: a run of n modules, n at least 5, has n - 4 fives and n - 5 sixes.
-use Rattle.std.proofs.Common.{◌≡◌, ℕ, zero, suc, ◌+◌, ◌*◌, ◌<◌, ◌≤◌, ◌==◌, ◌&&◌, Bool, true, false, cond, List, [], ◌∷◌, length, get_or, refl, ap, ◌∙◌, sym, arith, not}
+use Rattle.std.proofs.Common.{◌≡◌, ℕ, zero, suc, ◌+◌, ◌*◌, ◌<◌, ◌≤◌, ◌==◌, ◌&&◌, Bool, true, false, cond, List, [], ◌∷◌, length, get_or, refl, ap, ◌∙◌, sym}
+use Rattle.std.proofs.Common.{arith, not}
 use Rattle.std.specs.Prelude.{nat_le}
 use Rattle.std.specs.List.{prefix_len}
 use Rattle.std.proofs.lemmas.Bool.Decides.{eqb_tells}
@@ -88,7 +89,8 @@ by_places : (n : ℕ) (line : List ℕ) → alikes n line ≡ count_below (edges
 by_places n [] = refl
 by_places n (c ∷ cs) =
     let line = c ∷ cs in
-    let later = total-cong (λ k. cond (edges n line (suc k)) 1 0) (λ k. cond (edges n cs k) 1 0) (length cs) (λ k l. ap (λ b. cond b 1 0) (edges_later n c cs k)) in
+    let later = total-cong (λ k. cond (edges n line (suc k)) 1 0) (λ k. cond (edges n cs k) 1 0) (length cs)
+        (λ k l. ap (λ b. cond b 1 0) (edges_later n c cs k)) in
     ap (λ b. cond b 1 0 + alikes n cs) (first_edges n c cs)
     ∙ ap (λ t. cond (edges n line 0) 1 0 + t) (by_places n cs ∙ sym later)
     ∙ sym (total-first (λ k. cond (edges n line k) 1 0) (length cs))

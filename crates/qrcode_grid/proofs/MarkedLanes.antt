@@ -1,10 +1,12 @@
 -- Lanes that mark where candidates have something, and what is counted in rows of lanes.
-use Rattle.std.proofs.Common.{◌≡◌, ℕ, zero, suc, ◌+◌, ◌-◌, ◌%◌, ◌<◌, ◌≤◌, ◌==◌, ◌&&◌, ◌||◌, ◌++◌, Bool, cond, List, map, take, drop, length, get_or, refl, ap, ◌∙◌, sym, arith, Fits, w8, ◌*◌, ◌^◌, min, count_by, ◌/◌, eqb, true, false, [], ◌∷◌, add-zero, zero-add, suc-add}
+use Rattle.std.proofs.Common.{◌≡◌, ℕ, zero, suc, ◌+◌, ◌-◌, ◌%◌, ◌<◌, ◌≤◌, ◌==◌, ◌&&◌, ◌||◌, ◌++◌, Bool, cond, List, map, take, drop, length, get_or, refl, ap}
+use Rattle.std.proofs.Common.{◌∙◌, sym, arith, Fits, w8, ◌*◌, ◌^◌, min, count_by, ◌/◌, eqb, true, false, [], ◌∷◌, add-zero, zero-add, suc-add}
 use Rattle.std.specs.Int.{bit_at, bit_not}
 use Rattle.std.specs.Int.Bits.{bit_and, bit_or, bit_xor}
 use Rattle.std.proofs.lemmas.List.{get_or-map, length-map, get_or_past, get_or-append-add, get_or_append_left, length-take-le, length-drop}
 use Rattle.std.proofs.lemmas.Nat.Bits.{bit_at-lt, bit_at-zero, bit_at_or, bit_at_not, bit_at_and, bit_at_xor, and_pow}
-use Rattle.std.proofs.lemmas.Simd.{length-chunk, get_or-chunk, get_or-put_chunk_at, length-put_chunk, get_or-zip2, length-zip2, bitmask_splat, ones-mask_l, pick_l_whole, get_or-replicate, pick_l-range_with_len, zip2_of_maps, map-map, mask_l-mod}
+use Rattle.std.proofs.lemmas.Simd.{length-chunk, get_or-chunk, get_or-put_chunk_at, length-put_chunk, get_or-zip2, length-zip2, bitmask_splat, ones-mask_l}
+use Rattle.std.proofs.lemmas.Simd.{pick_l_whole, get_or-replicate, pick_l-range_with_len, zip2_of_maps, map-map, mask_l-mod}
 use Rattle.std.proofs.lemmas.Bool.Decides.{nat_tests}
 use lib.Lanes.{zip2, chunk, put_chunk, mask_l, top}
 use Rattle.qrcode_grid.specs.Scoring.{Marks, plane, bit_count}
@@ -36,10 +38,12 @@ length_of f a b la lb = length-zip2 f a b (la ∙ sym lb) ∙ la
 pub lane_of : (f : ℕ → ℕ → ℕ) (a b : List ℕ) → length a ≡ 16 → length b ≡ 16 → (j : ℕ) → j < 16 → get_or (zip2 f a b) j 0 ≡ f (get_or a j 0) (get_or b j 0)
 lane_of f a b la lb j h = get_or-zip2 f a b j 0 0 0 (omega (arith, la)) (omega (arith, lb))
 
-pub xor_at : (a b : List ℕ) → length a ≡ 16 → length b ≡ 16 → (m j : ℕ) → j < 16 → bit_at (get_or (zip2 bit_xor a b) j 0) m ≡ (bit_at (get_or a j 0) m + bit_at (get_or b j 0) m) % 2
+pub xor_at : (a b : List ℕ) → length a ≡ 16 → length b ≡ 16 → (m j : ℕ) → j < 16 →
+    bit_at (get_or (zip2 bit_xor a b) j 0) m ≡ (bit_at (get_or a j 0) m + bit_at (get_or b j 0) m) % 2
 xor_at a b la lb m j h = ap (λ n. bit_at n m) (lane_of bit_xor a b la lb j h) ∙ bit_at_xor (get_or a j 0) (get_or b j 0) m
 
-pub and_at : (a b : List ℕ) → length a ≡ 16 → length b ≡ 16 → (m j : ℕ) → j < 16 → bit_at (get_or (zip2 bit_and a b) j 0) m ≡ min (bit_at (get_or a j 0) m) (bit_at (get_or b j 0) m)
+pub and_at : (a b : List ℕ) → length a ≡ 16 → length b ≡ 16 → (m j : ℕ) → j < 16 →
+    bit_at (get_or (zip2 bit_and a b) j 0) m ≡ min (bit_at (get_or a j 0) m) (bit_at (get_or b j 0) m)
 and_at a b la lb m j h = ap (λ n. bit_at n m) (lane_of bit_and a b la lb j h) ∙ bit_at_and (get_or a j 0) (get_or b j 0) m
 
 -- the sum and the carry of three rows of lanes
@@ -56,7 +60,8 @@ pub length-carry : (a b c : List ℕ) → length a ≡ 16 → length b ≡ 16 �
 length-carry a b c la lb lc = grind (arith, common_steps, length_of)
 
 sum_at : (a b c : List ℕ) → length a ≡ 16 → length b ≡ 16 → length c ≡ 16 → (m j : ℕ) → j < 16
-    → bit_at (get_or (sum_of a b c) j 0) m + 2 * bit_at (get_or (carry_of a b c) j 0) m ≡ bit_at (get_or a j 0) m + bit_at (get_or b j 0) m + bit_at (get_or c j 0) m
+    → bit_at (get_or (sum_of a b c) j 0) m + 2 * bit_at (get_or (carry_of a b c) j 0) m
+        ≡ bit_at (get_or a j 0) m + bit_at (get_or b j 0) m + bit_at (get_or c j 0) m
 sum_at a b c la lb lc m j h = grind (arith, common_steps, length_of, xor_at, and_at, bit_at-lt)
 
 pub three_rows : (a b c : List ℕ) → length a ≡ 16 → length b ≡ 16 → length c ≡ 16 → (m : ℕ)
@@ -86,7 +91,8 @@ bits_in_mask m lanes l t e =
     ∙ ones-mask_l (λ x. x == n) (zip2 bit_and lanes (replicate 16 n))
     ∙ count_as_sum (λ x. x == n) (zip2 bit_and lanes (replicate 16 n)) 16 long
     ∙ total-cong (λ j. cond (get_or (zip2 bit_and lanes (replicate 16 n)) j 0 == n) 1 0) (λ j. bit_at (get_or lanes j 0) m) 16
-    (λ j h. ap (λ x. cond (x == n) 1 0) (lane_of bit_and lanes (replicate 16 n) l refl j h ∙ ap (bit_and (get_or lanes j 0)) (get_or-replicate 16 j n 0 h)) ∙ tested m (get_or lanes j 0))
+    (λ j h. ap (λ x. cond (x == n) 1 0) (lane_of bit_and lanes (replicate 16 n) l refl j h ∙ ap (bit_and (get_or lanes j 0)) (get_or-replicate 16 j n 0 h))
+        ∙ tested m (get_or lanes j 0))
 
 sum_le : (f : ℕ → ℕ) (n : ℕ) → ((j : ℕ) → f j < 2) → sum_below f n ≤ n
 sum_le f zero h = omega arith
@@ -98,7 +104,8 @@ bit_count_le m lanes = sum_le (λ j. bit_at (get_or lanes j 0) m) 16 (λ j. bit_
 
 pub no_bit : (m : ℕ) → bit_count m (replicate 16 0) ≡ 0
 unfolding bit_count
-no_bit m = total-cong (λ j. bit_at (get_or (replicate {A = ℕ} 16 0) j 0) m) (λ j. 0) 16 (λ j h. ap (λ b. bit_at b m) (get_or-replicate 16 j 0 0 h) ∙ bit_at-zero m)
+no_bit m = total-cong (λ j. bit_at (get_or (replicate {A = ℕ} 16 0) j 0) m) (λ j. 0) 16
+    (λ j h. ap (λ b. bit_at b m) (get_or-replicate 16 j 0 0 h) ∙ bit_at-zero m)
 
 -- Places counted in rows of sixteen lanes.
 
@@ -111,7 +118,8 @@ unfolding bit_count
 count_marks lanes test marks m h = total-cong (λ j. bit_at (get_or lanes j 0) m) (λ j. cond (test m j) 1 0) 16 (λ j l. marks.bits m j h l)
 
 -- so many rows of lanes hold as many places after some place
-pub next_rows : (rows : List (List ℕ)) (test : ℕ → ℕ → Bool) (at s : ℕ) → ((i : ℕ) → i < s → Marks (get_or rows i []) (λ m j. test m (at + 16 * i + j))) → (m : ℕ) → m < 8
+pub next_rows : (rows : List (List ℕ)) (test : ℕ → ℕ → Bool) (at s : ℕ) →
+    ((i : ℕ) → i < s → Marks (get_or rows i []) (λ m j. test m (at + 16 * i + j))) → (m : ℕ) → m < 8
     → count_below (test m) at + sum_below (λ i. bit_count m (get_or rows i [])) s ≡ count_below (test m) (at + s * 16)
 next_rows rows test at s marks m h =
     let f : ℕ → ℕ = λ k. cond (test m k) 1 0 in
@@ -198,7 +206,8 @@ marks_light bytes fits at inside = record {
 }
 
 pub marks_same : (bytes : List ℕ) → ((k : ℕ) → Fits w8 (get_or bytes k 0)) → (at other : ℕ) → at + 16 ≤ length bytes → other + 16 ≤ length bytes
-    → Marks (zip2 bit_xor (chunk at 16 bytes) (map (bit_not w8) (chunk other 16 bytes))) (λ m j. get_or (plane m bytes) (at + j) 0 == get_or (plane m bytes) (other + j) 0)
+    → Marks (zip2 bit_xor (chunk at 16 bytes) (map (bit_not w8) (chunk other 16 bytes))) (λ m j. get_or (plane m bytes) (at + j) 0 ==
+        get_or (plane m bytes) (other + j) 0)
 marks_same bytes fits at other inside second =
     let a = chunk at 16 bytes in let b = map (bit_not w8) (chunk other 16 bytes) in
     let la = length-chunk at 16 bytes inside in
@@ -261,9 +270,15 @@ square_lanes u l at inside same =
     let ac = zip2_of_maps hit (λ k. get_or u k 0) (λ k. get_or l k 0) ks a c in
     let ad = zip2_of_maps hit (λ k. get_or u k 0) (λ k. get_or l (k + 1) 0) ks a d in
     let acd = zip2_of_maps bit_and (λ k. hit (get_or u k 0) (get_or l k 0)) (λ k. hit (get_or u k 0) (get_or l (k + 1) 0)) ks ac ad in
-    let all = zip2_of_maps bit_and (λ k. hit (get_or u k 0) (get_or u (k + 1) 0)) (λ k. bit_and (hit (get_or u k 0) (get_or l k 0)) (hit (get_or u k 0) (get_or l (k + 1) 0))) ks ab acd in
-    let tests : map (top 7) (zip2 bit_and (zip2 hit (take 32 (drop at u)) (take 32 (drop (at + 1) u))) (zip2 bit_and (zip2 hit (take 32 (drop at u)) (take 32 (drop at l))) (zip2 hit (take 32 (drop at u)) (take 32 (drop (at + 1) l))))) ≡ map (is_byte_square_at u l) ks
-    = ap (map (top 7)) all ∙ map-map (top 7) (λ k. bit_and (hit (get_or u k 0) (get_or u (k + 1) 0)) (bit_and (hit (get_or u k 0) (get_or l k 0)) (hit (get_or u k 0) (get_or l (k + 1) 0)))) ks ∙ map_same _ (is_byte_square_at u l) (λ k. joined (get_or u k 0 == get_or u (k + 1) 0) (get_or u k 0 == get_or l k 0) (get_or u k 0 == get_or l (k + 1) 0)) ks in
+    let all = zip2_of_maps bit_and (λ k. hit (get_or u k 0) (get_or u (k + 1) 0))
+        (λ k. bit_and (hit (get_or u k 0) (get_or l k 0)) (hit (get_or u k 0) (get_or l (k + 1) 0))) ks ab acd in
+    let tests : map (top 7) (zip2 bit_and (zip2 hit (take 32 (drop at u)) (take 32 (drop (at + 1) u)))
+        (zip2 bit_and (zip2 hit (take 32 (drop at u)) (take 32 (drop at l))) (zip2 hit (take 32 (drop at u)) (take 32 (drop (at + 1) l)))))
+        ≡ map (is_byte_square_at u l) ks
+    = ap (map (top 7)) all ∙ map-map (top 7) (λ k. bit_and (hit (get_or u k 0) (get_or u (k + 1) 0))
+        (bit_and (hit (get_or u k 0) (get_or l k 0)) (hit (get_or u k 0) (get_or l (k + 1) 0)))) ks
+        ∙ map_same _ (is_byte_square_at u l) (λ k. joined (get_or u k 0 == get_or u (k + 1) 0) (get_or u k 0 ==
+        get_or l k 0) (get_or u k 0 == get_or l (k + 1) 0)) ks in
     let long : length (map (is_byte_square_at u l) ks) ≤ 64 = omega (arith, length-map ks (is_byte_square_at u l), length-range_with_len at 32) in
     ap (λ (m : List Bool). count_ones (mask_l m % 2 ^ 64)) tests
     ∙ ap count_ones (mask_l-mod (map (is_byte_square_at u l) ks) 64 long)
@@ -272,7 +287,8 @@ square_lanes u l at inside same =
 -- the places up to more are those up to at, and the ones from there
 pub places_append : (a n m : ℕ) → range_with_len a (n + m) ≡ range_with_len a n ++ range_with_len (a + n) m
 places_append a zero m = rw (add-zero a, zero-add m) refl
-places_append a (suc n) m = rw suc-add (ap (λ (t : List ℕ). a ∷ t) (places_append (a + 1) n m ∙ ap (λ k. range_with_len (a + 1) n ++ range_with_len k m) (omega arith)))
+places_append a (suc n) m = rw suc-add (ap (λ (t : List ℕ). a ∷ t) (places_append (a + 1) n m
+    ∙ ap (λ k. range_with_len (a + 1) n ++ range_with_len k m) (omega arith)))
 
 -- a count over the places goes on
 pub count_of_places : (p : ℕ → Bool) (n m : ℕ) → count_by p (range_with_len 0 (n + m)) ≡ count_by p (range_with_len 0 n) + count_by p (range_with_len n m)
@@ -284,11 +300,13 @@ count_of_places_le p n = omega (arith, count_by-le-length p (range_with_len 0 n)
 
 -- one place more
 pub count_one_more : (p : ℕ → Bool) (n : ℕ) (b : Bool) → p n ≡ b → count_by p (range_with_len 0 (n + 1)) ≡ count_by p (range_with_len 0 n) + cond b 1 0
-count_one_more p n b is = count_of_places p n 1 ∙ ap (λ c. count_by p (range_with_len 0 n) + (0 + cond c 1 0)) is ∙ ap (λ k. count_by p (range_with_len 0 n) + k) (zero-add (cond b 1 0))
+count_one_more p n b is = count_of_places p n 1 ∙ ap (λ c. count_by p (range_with_len 0 n) + (0 + cond c 1 0)) is
+    ∙ ap (λ k. count_by p (range_with_len 0 n) + k) (zero-add (cond b 1 0))
 
 pub ruleset square_counts = (count_of_places, count_of_places_le, count_one_more, common_steps)
 
 -- A count goes on over a block.
 
-pub count_by_block : {X : Type 0} (p : X → Bool) (xs : List X) (at n : ℕ) → count_by p (take (at + n) xs) ≡ count_by p (take at xs) + count_by p (slice_range xs at (at + n))
+pub count_by_block : {X : Type 0} (p : X → Bool) (xs : List X) (at n : ℕ) →
+    count_by p (take (at + n) xs) ≡ count_by p (take at xs) + count_by p (slice_range xs at (at + n))
 count_by_block p xs at n = grind (arith, common_steps, take-add, sum_by-append)

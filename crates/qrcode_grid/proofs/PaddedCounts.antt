@@ -1,11 +1,13 @@
 -- What is counted over all places of a padded grid, by its lines, its squares and its modules.
-use Rattle.std.proofs.Common.{◌≡◌, ℕ, zero, suc, ◌+◌, ◌-◌, ◌*◌, ◌<◌, ◌≤◌, ◌==◌, ◌&&◌, Bool, false, cond, List, length, get_or, count_by, refl, ap, ◌∙◌, sym, arith, ◌||◌, true, take, drop, inl, inr}
+use Rattle.std.proofs.Common.{◌≡◌, ℕ, zero, suc, ◌+◌, ◌-◌, ◌*◌, ◌<◌, ◌≤◌, ◌==◌, ◌&&◌, Bool, false, cond, List, length, get_or, count_by, refl, ap, ◌∙◌, sym}
+use Rattle.std.proofs.Common.{arith, ◌||◌, true, take, drop, inl, inr}
 use Rattle.std.specs.List.{range_with_len}
 use Rattle.std.proofs.Math.Nat.{mul-le-mul_right, add-mul}
 use Rattle.std.proofs.lemmas.Bool.{cases_lt}
 use Rattle.std.proofs.lemmas.Bool.Decides.{nat_tests}
 use Rattle.qrcode_grid.specs.Regions.{sum_below, count_below}
-use Rattle.qrcode_grid.specs.Penalty.{row, column, line_penalty, count_of_squares, is_byte_square_at, is_dark_byte, squares_penalty, quiet, are_light, is_pattern, is_finder_like}
+use Rattle.qrcode_grid.specs.Penalty.{row, column, line_penalty, count_of_squares, is_byte_square_at, is_dark_byte, squares_penalty, quiet, are_light}
+use Rattle.qrcode_grid.specs.Penalty.{is_pattern, is_finder_like}
 use Rattle.qrcode_grid.specs.Scoring.{AreEdges, IsPadded, cell, has, has_five, has_six, has_finder, has_square, places, stride, is_quiet}
 use Rattle.qrcode_grid.specs.declared.canvas.scoring.features.Feature.TheVariants.{Finder, Square, Dark}
 use Rattle.qrcode_grid.proofs.MarkedLanes.{count_as_sum, count_one_more}
@@ -41,7 +43,8 @@ module _ (w : ℕ) (cells : List ℕ) (y : ℕ) (square : length cells ≡ w * w
   get_or-row x h = ap (λ k. get_or (take k (drop (y * w) cells)) x 0) whole ∙ get_or-chunk (y * w) w cells x 0 h
 
 -- a line by its places: four light modules, the line, and light modules after it
-quiet_from : (line : List ℕ) (n t : ℕ) (f : ℕ → ℕ) → length line ≡ n → ((t : ℕ) → t < 4 → f t ≡ 0) → ((i : ℕ) → i < n → f (4 + i) ≡ get_or line i 0) → (n + 4 ≤ t → f t ≡ 0) → f t ≡ get_or (quiet line) t 0
+quiet_from : (line : List ℕ) (n t : ℕ) (f : ℕ → ℕ) → length line ≡ n → ((t : ℕ) → t < 4 → f t ≡ 0) → ((i : ℕ) → i < n → f (4 + i) ≡ get_or line i 0) →
+    (n + 4 ≤ t → f t ≡ 0) → f t ≡ get_or (quiet line) t 0
 quiet_from line n t f long before here after = elim (cases_lt t 4) [
   | inl early ↦ before t early ∙ sym (none t early)
   | inr on ↦
@@ -86,11 +89,13 @@ module _ (w : ℕ) (cells padded : List ℕ) (is : IsPadded w cells padded) (squ
       let e : y * far + t + 4 * (far - 1) ≡ (4 + y) * far + (t - 4) = omega (arith, add-mul 4 y far, h) in
       ap (λ k. get_or padded k 0) e ∙ is.beside (t - 4) (4 + y) (omega (arith, h)) (omega (arith, h, ht)))
 
-  pub column_edge : (edges : List ℕ) → AreEdges w far w (w - 1) padded edges → (x t : ℕ) → x < w → get_or edges (t * far + x) 0 ≡ cond (edge (column w cells x) t) 1 0
+  pub column_edge : (edges : List ℕ) → AreEdges w far w (w - 1) padded edges → (x t : ℕ) → x < w →
+      get_or edges (t * far + x) 0 ≡ cond (edge (column w cells x) t) 1 0
   column_edge edges are x t hx =
       grind (arith, length-column, cases_lt, add-mul, get_or-column, same_modules, edge_within, mul-le-mul_right, edge_past)
 
-  pub row_edge : (edges : List ℕ) → AreEdges w 1 (w - 1) w padded edges → (y t : ℕ) → y < w → t < far → get_or edges (y * far + t) 0 ≡ cond (edge (row w cells y) t) 1 0
+  pub row_edge : (edges : List ℕ) → AreEdges w 1 (w - 1) w padded edges → (y t : ℕ) → y < w → t < far →
+      get_or edges (y * far + t) 0 ≡ cond (edge (row w cells y) t) 1 0
   row_edge edges are y t hy ht = grind (arith, length-row, cases_lt, add-mul, get_or-row, same_modules, edge_within, edge_past)
 
 one_is : (b : Bool) → (cond b 1 0 == 1) ≡ b
@@ -136,10 +141,13 @@ module _ (line edges padded : List ℕ) (n step : ℕ) (at from : ℕ → ℕ) (
 
   finder_within : (j : ℕ) → j + 6 < n → has_finder step padded (from j) ≡ is_finder_like (quiet line) j
   finder_within j h =
-      let is : (a i k : ℕ) → i ≤ 14 → j + i ≡ k → (cell step padded (from j) i == a) ≡ (get_or (quiet line) k 0 == a) = λ a i k l e. ap (λ m. m == a) (module_here j i k (omega (arith, h, l)) e) in
+      let is : (a i k : ℕ) → i ≤ 14 → j + i ≡ k → (cell step padded (from j) i == a) ≡ (get_or (quiet line) k 0 == a) =
+          λ a i k l e. ap (λ m. m == a) (module_here j i k (omega (arith, h, l)) e) in
       let p = j + 4 in
-      let pattern = and_seven _ _ _ _ _ _ _ _ _ _ _ _ _ _ (is 1 4 p (omega arith) refl) (is 0 5 (p + 1) (omega arith) (omega arith)) (is 1 6 (p + 2) (omega arith) (omega arith))
-      (is 1 7 (p + 3) (omega arith) (omega arith)) (is 1 8 (p + 4) (omega arith) (omega arith)) (is 0 9 (p + 5) (omega arith) (omega arith)) (is 1 10 (p + 6) (omega arith) (omega arith)) in
+      let pattern = and_seven _ _ _ _ _ _ _ _ _ _ _ _ _ _ (is 1 4 p (omega arith) refl) (is 0 5 (p + 1) (omega arith) (omega arith))
+          (is 1 6 (p + 2) (omega arith) (omega arith))
+      (is 1 7 (p + 3) (omega arith) (omega arith)) (is 1 8 (p + 4) (omega arith) (omega arith)) (is 0 9 (p + 5) (omega arith) (omega arith))
+          (is 1 10 (p + 6) (omega arith) (omega arith)) in
       ap (λ t. t && (is_quiet step padded (from j) 0 || is_quiet step padded (from j) 11)) pattern
       ∙ ap (λ t. is_pattern (quiet line) p && (t || is_quiet step padded (from j) 11)) (light_here j 0 j h (omega arith) (omega arith))
       ∙ ap (λ t. is_pattern (quiet line) p && (are_light (quiet line) j || t)) (light_here j 11 (j + 11) h (omega arith) refl)
@@ -176,12 +184,14 @@ exchanged : (f : ℕ → ℕ → ℕ) (h w : ℕ) → sum_below (λ y. sum_below
 exchanged f zero w = sym (sum_zero (λ x. 0) w (λ k l. refl))
 exchanged f (suc h) w = ap (λ t. t + sum_below (f h) w) (exchanged f h w) ∙ sym (total-plus (λ x. sum_below (λ y. f y x) h) (f h) w)
 
-weighed : (f g h k : ℕ → ℕ) (n : ℕ) → ((i : ℕ) → i < n → f i + 2 * g i ≡ 3 * h i + 40 * k i) → sum_below f n + 2 * sum_below g n ≡ 3 * sum_below h n + 40 * sum_below k n
+weighed : (f g h k : ℕ → ℕ) (n : ℕ) → ((i : ℕ) → i < n → f i + 2 * g i ≡ 3 * h i + 40 * k i) →
+    sum_below f n + 2 * sum_below g n ≡ 3 * sum_below h n + 40 * sum_below k n
 weighed f g h k zero e = refl
 weighed f g h k (suc n) e = omega (arith, weighed f g h k n (λ i l. e i (omega (arith, l))), e n (omega arith))
 
 -- a count over all places, where none past the rows of the grid counts
-module _ (w : ℕ) (p : ℕ → Bool) (beside : (x y : ℕ) → w ≤ x → x < stride w → y < w → p (y * stride w + x) ≡ false) (below : (k : ℕ) → w * stride w ≤ k → p k ≡ false) where
+module _ (w : ℕ) (p : ℕ → Bool) (beside : (x y : ℕ) → w ≤ x → x < stride w → y < w → p (y * stride w + x) ≡ false) (below : (k : ℕ) →
+    w * stride w ≤ k → p k ≡ false) where
   abbrev f : ℕ → ℕ
   f = λ k. cond (p k) 1 0
 
@@ -221,7 +231,8 @@ dark_is (suc zero) h = refl
 dark_is (suc (suc b)) h = absurd (omega (arith, h))
 
 -- four modules have one colour where both pairs along the rows have, and the first of each
-four_modules : (a b c d u v x y : ℕ) → a ≡ cond (u == x) 1 0 → b ≡ cond (v == y) 1 0 → c ≡ u → d ≡ v → ((a == 1) && (b == 1) && (c == d)) ≡ ((u == x) && ((u == v) && (u == y)))
+four_modules : (a b c d u v x y : ℕ) → a ≡ cond (u == x) 1 0 → b ≡ cond (v == y) 1 0 → c ≡ u → d ≡ v →
+    ((a == 1) && (b == 1) && (c == d)) ≡ ((u == x) && ((u == v) && (u == y)))
 four_modules a b c d u v x y ea eb ec ed = grind (arith, nat_tests)
 
 module _ (w step columns rows : ℕ) (padded edges : List ℕ) (are : AreEdges w step columns rows padded edges) (c : columns ≤ w) (r : rows ≤ w) where
@@ -241,22 +252,26 @@ module _ (w : ℕ) (cells padded : List ℕ) (is : IsPadded w cells padded) (squ
   abbrev s : ℕ
   s = stride w
 
-  finders_by_rows : (step : ℕ) (edges : List ℕ) → step ≤ s → count_below (has Finder w step padded edges) (places w) ≡ sum_below (λ y. count_below (λ x. has Finder w step padded edges (y * s + x)) w) w
+  finders_by_rows : (step : ℕ) (edges : List ℕ) → step ≤ s → count_below (has Finder w step padded edges) (places w)
+      ≡ sum_below (λ y. count_below (λ x. has Finder w step padded edges (y * s + x)) w) w
   finders_by_rows step edges h =
       over_rows w (has Finder w step padded edges)
       (λ x y l below hy. no_finder step padded (y * s + x + 4 * (s - step)) ((4 + y) * s + x) (omega (arith, h, add-mul 4 y s)) (is.beside x (4 + y) l below))
       (λ k l. no_finder step padded (k + 4 * (s - step)) (k + 4 * s) (omega (arith, h)) (is.below (k + 4 * s) (omega (arith, l, add-mul 4 w s))))
 
-  pub columns_are : (edges : List ℕ) → AreEdges w s w (w - 1) padded edges → sum_below (λ x. line_penalty (column w cells x)) w + 2 * count_below (has_six s edges) (places w)
+  pub columns_are : (edges : List ℕ) → AreEdges w s w (w - 1) padded edges →
+      sum_below (λ x. line_penalty (column w cells x)) w + 2 * count_below (has_six s edges) (places w)
       ≡ 3 * count_below (has_five s edges) (places w) + 40 * count_below (has Finder w s padded edges) (places w)
   columns_are edges are =
       let count : (ℕ → Bool) → ℕ → ℕ = λ p x. count_below (λ y. p (y * s + x)) w in
-      let line : (x : ℕ) → x < w → line_penalty (column w cells x) + 2 * count (has_six s edges) x ≡ 3 * count (has_five s edges) x + 40 * count (has Finder w s padded edges) x = λ x h.
+      let line : (x : ℕ) → x < w → line_penalty (column w cells x) + 2 * count (has_six s edges) x
+          ≡ 3 * count (has_five s edges) x + 40 * count (has Finder w s padded edges) x = λ x h.
       line_is (column w cells x) edges padded w s (λ t. t * s + x) (λ t. t * s + x + 4 * (s - s)) (length-column w cells x)
       (λ j i. omega (arith, add-mul j i s)) (λ j i. omega (arith, add-mul j i s))
       (λ t l. column_edge w cells padded is square edges are x t h)
       (λ t l. let e : t * s + x + 4 * (s - s) ≡ t * s + x = omega arith in ap (λ k. get_or padded k 0) e ∙ in_column w cells padded is square x t h) in
-      let turned : (p : ℕ → Bool) → sum_below (λ y. count_below (λ x. p (y * s + x)) w) w ≡ sum_below (count p) w = λ p. exchanged (λ y x. cond (p (y * s + x)) 1 0) w w in
+      let turned : (p : ℕ → Bool) → sum_below (λ y. count_below (λ x. p (y * s + x)) w) w ≡ sum_below (count p) w =
+          λ p. exchanged (λ y x. cond (p (y * s + x)) 1 0) w w in
       omega (
         arith,
         weighed (λ x. line_penalty (column w cells x)) (count (has_six s edges)) (count (has_five s edges)) (count (has Finder w s padded edges)) w line,
@@ -265,11 +280,13 @@ module _ (w : ℕ) (cells padded : List ℕ) (is : IsPadded w cells padded) (squ
         finders_by_rows s edges (omega arith) ∙ turned (has Finder w s padded edges),
       )
 
-  pub rows_are : (edges : List ℕ) → AreEdges w 1 (w - 1) w padded edges → sum_below (λ y. line_penalty (row w cells y)) w + 2 * count_below (has_six 1 edges) (places w)
+  pub rows_are : (edges : List ℕ) → AreEdges w 1 (w - 1) w padded edges →
+      sum_below (λ y. line_penalty (row w cells y)) w + 2 * count_below (has_six 1 edges) (places w)
       ≡ 3 * count_below (has_five 1 edges) (places w) + 40 * count_below (has Finder w 1 padded edges) (places w)
   rows_are edges are =
       let count : (ℕ → Bool) → ℕ → ℕ = λ p y. count_below (λ x. p (y * s + x)) w in
-      let line : (y : ℕ) → y < w → line_penalty (row w cells y) + 2 * count (has_six 1 edges) y ≡ 3 * count (has_five 1 edges) y + 40 * count (has Finder w 1 padded edges) y = λ y h.
+      let line : (y : ℕ) → y < w → line_penalty (row w cells y) + 2 * count (has_six 1 edges) y
+          ≡ 3 * count (has_five 1 edges) y + 40 * count (has Finder w 1 padded edges) y = λ y h.
       line_is (row w cells y) edges padded w 1 (λ t. y * s + t) (λ t. y * s + t + 4 * (s - 1)) (length-row w cells y square h)
       (λ j i. omega arith) (λ j i. omega arith)
       (λ t l. row_edge w cells padded is square edges are y t h (omega (arith, l)))
@@ -315,7 +332,8 @@ module _ (w : ℕ) (cells padded : List ℕ) (is : IsPadded w cells padded) (squ
         ∙ omega (
           arith,
           ap {B = ℕ} (λ b. cond b 1 0) (no_square edges (y * s + (w - 1)) 0 (omega arith) none),
-          total-cong (λ x. cond (has_square s padded edges (y * s + x)) 1 0) (λ x. cond (is_byte_square_at a b x) 1 0) (w - 1) (λ x l. ap (λ b. cond b 1 0) (square_here x y (omega (arith, l)) h)),
+          total-cong (λ x. cond (has_square s padded edges (y * s + x)) 1 0) (λ x. cond (is_byte_square_at a b x) 1 0) (w - 1)
+              (λ x l. ap (λ b. cond b 1 0) (square_here x y (omega (arith, l)) h)),
           count_places (is_byte_square_at a b) (w - 1),
           ap (λ n. count_by (is_byte_square_at a b) (range_with_len 0 n)) size,
         )
@@ -324,11 +342,13 @@ module _ (w : ℕ) (cells padded : List ℕ) (is : IsPadded w cells padded) (squ
     squares_are =
         let p = has Square w 1 padded edges in
         let f : ℕ → ℕ = λ y. count_below (λ x. p (y * s + x)) w in
-        let at_first : (k : ℕ) → get_or edges k 0 ≡ 0 → p k ≡ false = λ k e. let e0 : k + 0 * s ≡ k = omega arith in no_square edges k 0 (omega arith) (ap (λ k. get_or edges k 0) e0 ∙ e) in
+        let at_first : (k : ℕ) → get_or edges k 0 ≡ 0 → p k ≡ false = λ k e. let e0 : k + 0 * s ≡ k = omega arith in
+            no_square edges k 0 (omega arith) (ap (λ k. get_or edges k 0) e0 ∙ e) in
         let rows = over_rows w p (λ x y h l hy. at_first (y * s + x) (are.beside x y (omega (arith, h)) l hy)) (λ k h. at_first k (are.below k h)) in
         let last : w ≡ suc (w - 1) = omega (arith, wide) in
         let bottom = sum_zero (λ x. cond (p ((w - 1) * s + x)) 1 0) w
-        (λ x h. ap (λ b. cond b 1 0) (no_square edges ((w - 1) * s + x) 1 (omega arith) (are.below ((w - 1) * s + x + 1 * s) (omega (arith, add-mul (w - 1) 1 s, ap (λ n. n * s) last))))) in
+        (λ x h. ap (λ b. cond b 1 0) (no_square edges ((w - 1) * s + x) 1 (omega arith)
+            (are.below ((w - 1) * s + x + 1 * s) (omega (arith, add-mul (w - 1) 1 s, ap (λ n. n * s) last))))) in
         omega (
           arith,
           rows,
@@ -344,8 +364,10 @@ module _ (w : ℕ) (cells padded : List ℕ) (is : IsPadded w cells padded) (squ
       over_rows w (has Dark w 1 padded edges)
       (λ x y h l hy. light (y * s + x) (ap (λ k. get_or padded k 0) (at x y) ∙ is.beside x (4 + y) h l))
       (λ k h. light k (is.below (k + 4 * s) (omega (arith, h, add-mul 4 w s))))
-      ∙ total-cong (λ y. count_below (λ x. has Dark w 1 padded edges (y * s + x)) w) (λ y. sum_below (λ x. cond (is_dark_byte (get_or cells (y * w + x) 0)) 1 0) w) w
+      ∙ total-cong (λ y. count_below (λ x. has Dark w 1 padded edges (y * s + x)) w)
+          (λ y. sum_below (λ x. cond (is_dark_byte (get_or cells (y * w + x) 0)) 1 0) w) w
       (λ y hy. total-cong (λ x. cond (has Dark w 1 padded edges (y * s + x)) 1 0) (λ x. cond (is_dark_byte (get_or cells (y * w + x) 0)) 1 0) w
-      (λ x hx. ap (λ n. cond (n == 1) 1 0) (ap (λ k. get_or padded k 0) (at x y) ∙ is.grid x y hx hy) ∙ ap (λ b. cond b 1 0) (dark_is (get_or cells (y * w + x) 0) (small (y * w + x)))))
+      (λ x hx. ap (λ n. cond (n == 1) 1 0) (ap (λ k. get_or padded k 0) (at x y) ∙ is.grid x y hx hy)
+          ∙ ap (λ b. cond b 1 0) (dark_is (get_or cells (y * w + x) 0) (small (y * w + x)))))
       ∙ sym (total-mul (λ k. cond (is_dark_byte (get_or cells k 0)) 1 0) w w)
       ∙ sym (count_as_sum is_dark_byte cells (w * w) square)

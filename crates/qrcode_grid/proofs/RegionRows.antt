@@ -1,5 +1,6 @@
 -- Regions that say nothing, and what regions say together.
-use Rattle.std.proofs.Common.{◌≡◌, ◌-◌, ◌≤◌, zero, suc, ℕ, ℤ, nat_abs, ◌<◌, ◌+◌, ◌*◌, ap, refl, arith, false, nat_lt, nat_le, ◌==◌, ◌&&◌, ◌||◌, ◌≢◌, Option, None, [], ◌∷◌, get_or, ◌/◌, List, map, sym, ◌∙◌, leb, cond, inl, inr, Bool, true}
+use Rattle.std.proofs.Common.{◌≡◌, ◌-◌, ◌≤◌, zero, suc, ℕ, ℤ, nat_abs, ◌<◌, ◌+◌, ◌*◌, ap, refl, arith, false, nat_lt, nat_le, ◌==◌, ◌&&◌, ◌||◌, ◌≢◌, Option}
+use Rattle.std.proofs.Common.{None, [], ◌∷◌, get_or, ◌/◌, List, map, sym, ◌∙◌, leb, cond, inl, inr, Bool, true}
 use Rattle.std.proofs.lemmas.Bool.Decides.{nat_tests}
 use Rattle.qrcode_base.specs.declared.types.Color.{Color}
 use Rattle.qrcode_base.specs.declared.types.Version.{Version}
@@ -43,7 +44,8 @@ pub no_alignments : (n w x y : ℕ) → n < 2 → alignments w (alignment_coordi
 no_alignments n w x y h = grind (arith)
 
 -- the cells in which no timing pattern lies
-no_timing : (line from to x y : ℕ) → ((y == line && nat_le from x && nat_le x to) || (x == line && nat_le from y && nat_le y to)) ≡ false → timing line from to x y ≡ None
+no_timing : (line from to x y : ℕ) → ((y == line && nat_le from x && nat_le x to) || (x == line && nat_le from y && nat_le y to))
+    ≡ false → timing line from to x y ≡ None
 no_timing line from to x y t = ap (λ b. where_true b (dark_if_even (x + y))) t
 
 pub no_timing_above : (line from to x y : ℕ) → y ≢ line → y < from → timing line from to x y ≡ None
@@ -80,7 +82,8 @@ micro_regions_are version z format x y w h l m = grind (arith)
 
 -- Steps of the loops that look a region up.
 
-pub near_more : (f : ℕ → ℕ) (x k c : ℕ) → k < c → 2 < abs_diff (f k) x → near (map f (range_with_len k (c - k))) x ≡ near (map f (range_with_len (k + 1) (c - (k + 1)))) x
+pub near_more : (f : ℕ → ℕ) (x k c : ℕ) → k < c → 2 < abs_diff (f k) x →
+    near (map f (range_with_len k (c - k))) x ≡ near (map f (range_with_len (k + 1) (c - (k + 1)))) x
 near_more f x k c h far = grind (arith, common_steps)
 
 -- the count of centre coordinates, as the code has it
@@ -140,7 +143,8 @@ before_far : (n k i x : ℕ) → n ≤ 40 → k ≤ alignment_count n → i < k 
 before_far n k i x h l m e = grind (arith, apart)
 
 all_from_zero : (n x : ℕ) → near (map (alignment_coordinate n) (range_with_len 0 (alignment_count n - 0))) x ≡ None → near (alignment_coordinates n) x ≡ None
-all_from_zero n x e = let all : alignment_count n ≡ alignment_count n - 0 = omega arith in ap (λ m. near (map (alignment_coordinate n) (range_with_len 0 m)) x) all ∙ e
+all_from_zero n x e = let all : alignment_count n ≡ alignment_count n - 0 = omega arith in
+    ap (λ m. near (map (alignment_coordinate n) (range_with_len 0 m)) x) all ∙ e
 
 -- between two centres no coordinate is near
 pub none_between : (n k x : ℕ) → n ≤ 40 → k < alignment_count n → behind n k ≤ x → x + 2 < alignment_coordinate n k → near (alignment_coordinates n) x ≡ None
@@ -153,7 +157,8 @@ none_between n k x high within low last =
 -- nor behind the last
 pub none_behind : (n x : ℕ) → n ≤ 40 → behind n (alignment_count n) ≤ x → near (alignment_coordinates n) x ≡ None
 none_behind n x high low =
-    all_from_zero n x (far_from_all (alignment_coordinate n) x (alignment_count n) (alignment_count n) 0 (omega arith) (λ i inside. before_far n (alignment_count n) i x high (omega arith) inside low))
+    all_from_zero n x (far_from_all (alignment_coordinate n) x (alignment_count n) (alignment_count n) 0 (omega arith)
+        (λ i inside. before_far n (alignment_count n) i x high (omega arith) inside low))
 
 pub behind_before : (n k : ℕ) → n ≤ 40 → k < alignment_count n → behind n k + 2 ≤ alignment_coordinate n k
 behind_before n k h l = grind (arith, cells_inside, apart)

@@ -1,6 +1,7 @@
 -- Where the regions of a symbol meet they agree: what any of them says of a cell is its colour.
 -- Only the timing patterns and the alignment patterns meet.
-use Rattle.std.proofs.Common.{◌≡◌, ℕ, pos, negsuc, ◌<◌, ◌≤◌, ◌+◌, ◌-◌, ◌*◌, ap, ◌∙◌, sym, refl, subst, arith, inl, inr, List, [], ◌∷◌, ◌++◌, Bool, true, false, not, ◌==◌, ◌&&◌, ◌||◌, nat_le, nat_lt, fold, All, IfSome, Option, Some, None, is_some}
+use Rattle.std.proofs.Common.{◌≡◌, ℕ, pos, negsuc, ◌<◌, ◌≤◌, ◌+◌, ◌-◌, ◌*◌, ap, ◌∙◌, sym, refl, subst, arith, inl, inr, List, [], ◌∷◌, ◌++◌, Bool, true, false}
+use Rattle.std.proofs.Common.{not, ◌==◌, ◌&&◌, ◌||◌, nat_le, nat_lt, fold, All, IfSome, Option, Some, None, is_some}
 use Rattle.std.specs.Option.{option_or}
 use Rattle.std.proofs.lemmas.Bool.{cases_eq, cases_lt, false≢true}
 use Rattle.std.proofs.lemmas.Bool.Decides.{nat_tests}
@@ -13,7 +14,8 @@ use Rattle.qrcode_base.specs.Symbols.{IsVersion, width_of}
 use Rattle.qrcode_grid.specs.Regions.{digit, digit_color, finder, timing, where_true, dark_if_even, digit_at, format_first, format_second, format_micro}
 use Rattle.qrcode_grid.specs.Regions.{written, version_copies, alignments, alignment_coordinates, first_some, functional_color, regions}
 use Rattle.qrcode_grid.proofs.Tests.{all_pass, passes, both}
-use Rattle.qrcode_grid.proofs.Areas.{finder_test, finder_is, timing_test, first_test, first_is, second_test, second_is, micro_is, version_is, some-where_true, some-option_map}
+use Rattle.qrcode_grid.proofs.Areas.{finder_test, finder_is, timing_test, first_test, first_is, second_test, second_is, micro_is, version_is, some-where_true}
+use Rattle.qrcode_grid.proofs.Areas.{some-option_map}
 use Rattle.std.proofs.lemmas.Grind.{common_steps}
 
 abbrev Agree : Option Color → Option Color → Type 0
@@ -47,7 +49,8 @@ each_says found c e (Some d ∷ rs) h = All-cons (Says found) (Some d) rs (e ∙
 all_say : (rs : List (Option Color)) → PairsAgree rs → All (Says (first_some rs)) rs
 all_say [] h = All-nil (Says None)
 all_say (None ∷ rs) h = All-cons (Says (first_some rs)) None rs tt (all_say rs h.1)
-all_say (Some c ∷ rs) h = All-cons (Says (first_some (Some c ∷ rs))) (Some c) rs (fold_some c rs) (each_says (first_some (Some c ∷ rs)) c (fold_some c rs) rs h.0)
+all_say (Some c ∷ rs) h = All-cons (Says (first_some (Some c ∷ rs))) (Some c) rs (fold_some c rs)
+    (each_says (first_some (Some c ∷ rs)) c (fold_some c rs) rs h.0)
 
 and_false : (b : Bool) → (b && false) ≡ false
 and_false b = grind (arith)
@@ -95,7 +98,8 @@ each_insert : (r a : Option Color) (before after : List (Option Color)) → Each
 each_insert r a [] after h e = (e, h)
 each_insert r a (s ∷ before) after h e = (h.0, each_insert r a before after h.1 e)
 
-pairs_insert : (a : Option Color) (before after : List (Option Color)) → PairsAgree (before ++ after) → EachAgrees a (before ++ after) → PairsAgree (before ++ a ∷ after)
+pairs_insert : (a : Option Color) (before after : List (Option Color)) → PairsAgree (before ++ after) → EachAgrees a (before ++ after) →
+    PairsAgree (before ++ a ∷ after)
 pairs_insert a [] after h e = (e, h)
 pairs_insert a (r ∷ before) after h e = (each_insert r a before after h.0 (λ c d p q. sym (e.0 d c q p)), pairs_insert a before after h.1 e.1)
 
@@ -136,7 +140,8 @@ strips_clear n = all_pass (λ k. all_pass (strip_clear n k) 0 11) 0 9
 
 strip_at : (n k j : ℕ) → 1 ≤ n → n ≤ 40 → k < 9 → j < 11 → strip_clear n k j ≡ true
 strip_at n k j low high h i =
-    passes (strip_clear n k) 0 11 j (passes (λ k. all_pass (strip_clear n k) 0 11) 0 9 k (passes strips_clear 1 40 n (refl) low (omega arith)) (omega arith) (omega arith)) (omega arith) (omega arith)
+    passes (strip_clear n k) 0 11 j (passes (λ k. all_pass (strip_clear n k) 0 11) 0 9 k (passes strips_clear 1 40 n (refl) low (omega arith)) (omega arith)
+        (omega arith)) (omega arith) (omega arith)
 
 not_true : (b : Bool) → not b ≡ true → b ≡ false
 not_true b h = grind (arith, false≢true)
@@ -157,10 +162,12 @@ clear : (n x y : ℕ) → 1 ≤ n → n ≤ 40 → x < 4 * n + 17 → y < 4 * n 
 clear n x y low high l m = elim (cases_lt x 9) [
   | inl a ↦ elim (cases_lt y 9) [
     | inl b ↦ not_true _ (both _ _ (strip_at n x y low high a (omega arith))).0
-    | inr b ↦ elim (cases_lt (y + 11) (4 * n + 17)) [ inl c ↦ none_there n x y (grind (arith, nat_tests)) | inr c ↦ (far_at n x y low high a (omega arith) m).0 ]
+    | inr b ↦ elim (cases_lt (y + 11) (4 * n + 17)) [ inl c ↦ none_there n x y (grind (arith, nat_tests)) | inr c ↦
+        (far_at n x y low high a (omega arith) m).0 ]
   ]
   | inr a ↦ elim (cases_lt y 9) [
-    | inl b ↦ elim (cases_lt (x + 11) (4 * n + 17)) [ inl c ↦ none_there n x y (mid_row (4 * n + 17) x y (nat_le 7 n) (omega arith) a c) | inr c ↦ (far_at n y x low high b (omega arith) l).1 ]
+    | inl b ↦ elim (cases_lt (x + 11) (4 * n + 17)) [ inl c ↦ none_there n x y (mid_row (4 * n + 17) x y (nat_le 7 n) (omega arith) a c) | inr c ↦
+        (far_at n y x low high b (omega arith) l).1 ]
     | inr b ↦ none_there n x y (grind (arith, nat_tests))
   ]
 ]
@@ -180,10 +187,13 @@ timing_agrees n x y = agree (timing 6 8 (4 * n + 17 - 9) x y) (alignments (4 * n
 abbrev timings_agree : ℕ → Bool
 timings_agree n = all_pass (λ k. timing_agrees n k 6 && timing_agrees n 6 k) 0 (4 * n + 17)
 
-timing_agree : (n x y : ℕ) → 1 ≤ n → n ≤ 40 → x < 4 * n + 17 → y < 4 * n + 17 → Agree (timing 6 8 (4 * n + 17 - 9) x y) (alignments (4 * n + 17) (alignment_coordinates n) x y)
+timing_agree : (n x y : ℕ) → 1 ≤ n → n ≤ 40 → x < 4 * n + 17 → y < 4 * n + 17 →
+    Agree (timing 6 8 (4 * n + 17 - 9) x y) (alignments (4 * n + 17) (alignment_coordinates n) x y)
 timing_agree n x y low high l m =
     let w = 4 * n + 17 in
-    let at : (k : ℕ) → k < w → (timing_agrees n k 6 && timing_agrees n 6 k) ≡ true = λ k h. passes (λ k. timing_agrees n k 6 && timing_agrees n 6 k) 0 w k (passes timings_agree 1 40 n (refl) low (omega arith)) (omega arith) (omega arith) in
+    let at : (k : ℕ) → k < w → (timing_agrees n k 6 && timing_agrees n 6 k) ≡ true =
+        λ k h. passes (λ k. timing_agrees n k 6 && timing_agrees n 6 k) 0 w k (passes timings_agree 1 40 n (refl) low (omega arith))
+        (omega arith) (omega arith) in
     elim (cases_eq y 6) [
       | inl row ↦ agree-sound _ _ (ap (timing_agrees n x) row ∙ (both _ _ (at x l)).0)
       | inr off ↦ elim (cases_eq x 6) [
@@ -229,6 +239,7 @@ regions_say (Micro (pos n)) format x y h l m =
     let w = 2 * n + 9 in
     all_say (regions (Micro (pos n)) format x y)
     (pairs_apart (finder_test 3 3 x y ∷ timing_test 0 8 (w - 1) x y ∷ micro_test x y ∷ []) (regions (Micro (pos n)) format x y)
-    (finder_is 3 3 x y, (some-where_true (timing_test 0 8 (w - 1) x y) (dark_if_even (x + y)), (some-option_map (λ k. digit_color (digit format k)) (digit_at format_micro x y) ∙ micro_is x y, tt)))
+    (finder_is 3 3 x y, (some-where_true (timing_test 0 8 (w - 1) x y) (dark_if_even (x + y)),
+        (some-option_map (λ k. digit_color (digit format k)) (digit_at format_micro x y) ∙ micro_is x y, tt)))
     ((grind (arith, nat_tests), (grind (arith, nat_tests), (and_false (micro_test x y), tt)))))
 regions_say (Micro (negsuc n)) format x y h l m = absurd h

@@ -1,12 +1,15 @@
 -- Division by rows: its turns, long division, lanes of bytes multiplied in the field, and the two generators, computed.
-use Rattle.std.proofs.Common.{◌≡◌, ℕ, zero, suc, ◌<◌, ◌≤◌, ◌+◌, ◌-◌, refl, ap, sym, ◌∙◌, arith, List, [], ◌∷◌, ◌++◌, map, length, get_or, take, drop, replicate, ◌/◌, ◌%◌, cond, true, eqb, leb, w8, Fits, Bool, false, ◌^◌, ◌==◌, ◌&&◌, nat_lt, subst}
+use Rattle.std.proofs.Common.{◌≡◌, ℕ, zero, suc, ◌<◌, ◌≤◌, ◌+◌, ◌-◌, refl, ap, sym, ◌∙◌, arith, List, [], ◌∷◌, ◌++◌, map, length, get_or, take, drop, replicate}
+use Rattle.std.proofs.Common.{◌/◌, ◌%◌, cond, true, eqb, leb, w8, Fits, Bool, false, ◌^◌, ◌==◌, ◌&&◌, nat_lt, subst}
 use Rattle.std.specs.List.{range_with_len, position_or_len}
 use Rattle.std.specs.Int.Bits.{bit_xor, xor_assoc, xor_zero_r, xor_self}
 use Rattle.std.proofs.lemmas.Nat.{xor_comm, xor_of_8}
-use Rattle.std.proofs.lemmas.List.{append-nil, length-take, length-drop, length-replicate, get_or-take, get_or-drop, same_lists, get_or_default, drop_more, length-append, length-map, drop-drop, take-append-drop, get_or-map, take_at, drop_at}
+use Rattle.std.proofs.lemmas.List.{append-nil, length-take, length-drop, length-replicate, get_or-take, get_or-drop, same_lists, get_or_default, drop_more}
+use Rattle.std.proofs.lemmas.List.{length-append, length-map, drop-drop, take-append-drop, get_or-map, take_at, drop_at}
 use Rattle.std.proofs.lemmas.List.FromFn.{get_or-map-range_with_len, length-map-range_with_len, map-range_with_len_more}
 use Rattle.qrcode_grid.specs.Codes.{product, power, double, shift_and_add, value_at, AreBytes, AreTerms, AreRows, IsDivisor, IsTurn, IsRemainder}
-use Rattle.qrcode_grid.proofs.FieldLaws.{product-adds_left, product-one_left, product-zero_right, product_assoc, product_comm, product-double, product-zero_left, passes_below, passes_below-at, xor-zero, product-bounded, power-bounded}
+use Rattle.qrcode_grid.proofs.FieldLaws.{product-adds_left, product-one_left, product-zero_right, product_assoc, product_comm, product-double}
+use Rattle.qrcode_grid.proofs.FieldLaws.{product-zero_left, passes_below, passes_below-at, xor-zero, product-bounded, power-bounded}
 use Rattle.qrcode_grid.proofs.Values.{sums, value_at-append, value_at-zeros, power-first, length-sums, value_at-sums, value_at-multiple}
 use Rattle.std.proofs.lemmas.Grind.{common_steps}
 use Rattle.std.proofs.lemmas.Bool.{eqb-true, ltb-true}
@@ -90,7 +93,8 @@ divide_turn i n len k lead work held new front terms divisor tail a same long fi
     let flen : length (take n (drop (i + 1) work)) ≡ n = simp (length-take, length-drop) (omega arith) in
     let glen : length (drop 1 divisor) ≡ n = simp length-drop (omega arith) in
     let is = sums_from_places lead new (take n (drop (i + 1) work)) (drop 1 divisor) (newlen ∙ sym flen) (flen ∙ sym glen)
-    (λ p within. places p within ∙ ap (λ t. bit_xor (get_or t p 0) (product lead (get_or terms p 0))) isfront ∙ ap (λ t. bit_xor (get_or (take n (drop (i + 1) work)) p 0) (product lead (get_or t p 0))) isterms) in
+    (λ p within. places p within ∙ ap (λ t. bit_xor (get_or t p 0) (product lead (get_or terms p 0))) isfront
+        ∙ ap (λ t. bit_xor (get_or (take n (drop (i + 1) work)) p 0) (product lead (get_or t p 0))) isterms) in
     ap (λ t. value_at (drop (i + 1) (take len (put_mid (i + 1) k t new ++ tail))) a) same
     ∙ ap (λ t. value_at t a) (grind (arith, common_steps, length-append, length-take, length-drop, take_at, drop_at))
     ∙ turn-value i n len lead work divisor long fits leads degree monic a new root is
@@ -103,20 +107,24 @@ pub divide_bytes : (i n len k lead : ℕ) (work held new front terms tail : List
     AreBytes (drop i work) → AreBytes (drop (i + 1) (take len (put_mid (i + 1) k held new ++ tail)))
 divide_bytes i n len k lead work held new front terms tail same long fits kn isfront newlen places bytes =
     let P : ℕ → Type 0 = λ x. x < 256 in
-    let rest : AreBytes (drop (i + 1) work) = All-same P (drop (i + 1) work) (drop 1 (drop i work)) (sym (drop-drop 1 i work)) (All-drop P 1 (drop i work) bytes) in
+    let rest : AreBytes (drop (i + 1) work) = All-same P (drop (i + 1) work) (drop 1 (drop i work)) (sym (drop-drop 1 i work))
+        (All-drop P 1 (drop i work) bytes) in
     let front_bytes : AreBytes front = All-same P front (take n (drop (i + 1) work)) isfront (All-take P n (drop (i + 1) work) rest) in
     let flen : length front ≡ n = ap length isfront ∙ simp (length-take, length-drop) (omega arith) in
     let new_bytes : AreBytes new = All-from_get_or P new 0 (λ p within.
-    subst P (sym (places p within)) (xor_of_8 (get_or front p 0) (product lead (get_or terms p 0)) (All-get_or P front p 0 (omega (arith, within, flen, newlen)) front_bytes) (product-bounded lead (get_or terms p 0)))) in
+    subst P (sym (places p within)) (xor_of_8 (get_or front p 0) (product lead (get_or terms p 0))
+        (All-get_or P front p 0 (omega (arith, within, flen, newlen)) front_bytes) (product-bounded lead (get_or terms p 0)))) in
     All-same P _ (new ++ drop n (drop (i + 1) work))
-    (ap (λ t. drop (i + 1) (take len (put_mid (i + 1) k t new ++ tail))) same ∙ (grind (arith, common_steps, length-append, length-take, length-drop, take_at, drop_at)))
+    (ap (λ t. drop (i + 1) (take len (put_mid (i + 1) k t new ++ tail))) same
+        ∙ (grind (arith, common_steps, length-append, length-take, length-drop, take_at, drop_at)))
     (All-append P new (drop n (drop (i + 1) work)) new_bytes (All-drop P n (drop (i + 1) work) rest))
 
 -- Lanes of bytes that are multiplied in the field.
 
 -- What one lane of a vector of bytes is, after an operation.
 
-pub lane_add : (xs ys : List ℕ) (n j : ℕ) → length xs ≡ n → length ys ≡ n → j < n → get_or (zip2 (λ a b. (a + b) % 256) xs ys) j 0 ≡ (get_or xs j 0 + get_or ys j 0) % 256
+pub lane_add : (xs ys : List ℕ) (n j : ℕ) → length xs ≡ n → length ys ≡ n → j < n →
+    get_or (zip2 (λ a b. (a + b) % 256) xs ys) j 0 ≡ (get_or xs j 0 + get_or ys j 0) % 256
 lane_add xs ys n j l m h = get_or-zip2 (λ a b. (a + b) % 256) xs ys j 0 0 0 (omega arith) (omega arith)
 
 pub length_add : (xs ys : List ℕ) (n : ℕ) → length xs ≡ n → length ys ≡ n → length (zip2 (λ a b. (a + b) % 256) xs ys) ≡ n
@@ -134,7 +142,8 @@ lane_chosen t us vs xs ys n j la lb lx ly h =
     ∙ get_or-sel_l (zip2 t us vs) xs ys j 0 (omega arith) (omega arith) (omega arith)
     ∙ ap (λ m. cond m (get_or xs j 0) (get_or ys j 0)) (get_or-zip2 t us vs j 0 0 false (omega arith) (omega arith))
 
-pub length_chosen : (t : ℕ → ℕ → Bool) (us vs xs ys : List ℕ) (n : ℕ) → length us ≡ n → length vs ≡ n → length xs ≡ n → length ys ≡ n → length (chosen t us vs xs ys) ≡ n
+pub length_chosen : (t : ℕ → ℕ → Bool) (us vs xs ys : List ℕ) (n : ℕ) → length us ≡ n → length vs ≡ n → length xs ≡ n → length ys ≡ n →
+    length (chosen t us vs xs ys) ≡ n
 length_chosen t us vs xs ys n la lb lx ly = grind (arith, common_steps, length-zip2, tops_compared, length-sel_l)
 
 -- a lane is a byte
@@ -305,7 +314,8 @@ module _ (n d : ℕ) (divisor terms seen lanes result : List ℕ) (is : IsDiviso
       let next : 1 + k ≡ k + 1 = omega arith in
       get_or-take n result k 0 below ∙ turn k inside
       ∙ ap (λ x. bit_xor x (product lead (get_or terms k 0))) (sym (get_or-window lanes n k below))
-      ∙ ap (λ t. bit_xor (get_or (window lanes 1 n) k 0) (product lead t)) (padded k inside ∙ ap (λ j. get_or divisor j 0) (sym next) ∙ sym (get_or-drop 1 divisor k 0)))
+      ∙ ap (λ t. bit_xor (get_or (window lanes 1 n) k 0) (product lead t)) (padded k inside ∙ ap (λ j. get_or divisor j 0) (sym next)
+          ∙ sym (get_or-drop 1 divisor k 0)))
 
   congruent : (a : ℕ) → value_at divisor a ≡ 0 → value_at (take n result) a ≡ value_at ((seen ++ d ∷ []) ++ replicate n 0) a
   unfolding lead
@@ -323,12 +333,14 @@ module _ (n d : ℕ) (divisor terms seen lanes result : List ℕ) (is : IsDiviso
       let old : value_at (first ∷ front) a ≡ product (product (value_at seen a) (power a n)) (power a 1) =
       ap (λ t. value_at t a) (sym (window-first lanes n) ∙ window-more lanes n ∙ ap (λ z. window lanes 0 n ++ z ∷ []) (before.rest n (omega arith)))
       ∙ (grind (arith, common_steps, value_at-append, value_at-one)) ∙ xor_zero_r (product (value_at (window lanes 0 n) a) (power a 1))
-      ∙ ap (λ v. product v (power a 1)) (ap (λ t. value_at t a) (sym (take-window lanes n (omega (arith, before.size, is.small)))) ∙ before.congruent a root ∙ value_at-shifted seen n a) in
+      ∙ ap (λ v. product v (power a 1)) (ap (λ t. value_at t a) (sym (take-window lanes n (omega (arith, before.size, is.small)))) ∙ before.congruent a root
+          ∙ value_at-shifted seen n a) in
       ap (λ t. value_at t a) reduced ∙ whole
       ∙ value_at-cons lead front a
       ∙ ap (λ v. bit_xor v (value_at front a)) (ap (λ k. product lead (power a k)) wide ∙ product-adds_left d first (power a n))
       ∙ xor_assoc (product d (power a n)) (product first (power a n)) (value_at front a)
-      ∙ ap (bit_xor (product d (power a n))) (ap (λ k. bit_xor (product first (power a k)) (value_at front a)) (sym wide) ∙ sym (value_at-cons first front a) ∙ old)
+      ∙ ap (bit_xor (product d (power a n))) (ap (λ k. bit_xor (product first (power a k)) (value_at front a)) (sym wide)
+          ∙ sym (value_at-cons first front a) ∙ old)
       ∙ regroup (value_at seen a) (power a 1) (power a n) d
       ∙ ap (λ v. product v (power a n)) (sym (grind (arith, common_steps, value_at-append, value_at-one)))
       ∙ sym (value_at-shifted (seen ++ d ∷ []) n a)

@@ -1,5 +1,6 @@
 -- What the siblings of a grid are: the law over any grid with the functional colours of its symbol.
-use Rattle.std.proofs.Common.{◌≡◌, ℕ, zero, suc, ◌<◌, ◌≤◌, ◌+◌, ◌-◌, ◌*◌, ◌/◌, ap, ◌∙◌, sym, refl, arith, Bool, true, false, not, List, map, filter, length, get_or, Some, None, Option, unwrap_or, subst}
+use Rattle.std.proofs.Common.{◌≡◌, ℕ, zero, suc, ◌<◌, ◌≤◌, ◌+◌, ◌-◌, ◌*◌, ◌/◌, ap, ◌∙◌, sym, refl, arith, Bool, true, false, not, List, map, filter, length}
+use Rattle.std.proofs.Common.{get_or, Some, None, Option, unwrap_or, subst}
 use Rattle.std.specs.List.{range_with_len}
 use Rattle.std.proofs.lemmas.Bool.{false≢true}
 use Rattle.std.proofs.lemmas.Nat.{mul-add-lt}
@@ -48,7 +49,8 @@ sibling_color version level pattern other x y c =
 module _ (version : Version) (level : EcLevel) (pattern : MaskPattern) (colors : List Color) (canonical : IsVersion version)
     (square : length colors ≡ width_of version * width_of version) (drawn : HasFunctionalColors version level pattern colors) where
   sibling_at : (other : MaskPattern) (x y : ℕ) → x < width_of version → y < width_of version →
-      color_in (width_of version) (sibling version level pattern other colors) x y ≡ sibling_color version level pattern other x y (color_in (width_of version) colors x y)
+      color_in (width_of version) (sibling version level pattern other colors) x y
+          ≡ sibling_color version level pattern other x y (color_in (width_of version) colors x y)
   sibling_at other x y l m = cell_at-map_cells (width_of version) (sibling_color version level pattern other) colors Light x y square l m
 
   size : (other : MaskPattern) → length (sibling version level pattern other colors) ≡ length colors
@@ -57,9 +59,11 @@ module _ (version : Version) (level : EcLevel) (pattern : MaskPattern) (colors :
   functional : (other : MaskPattern) → HasFunctionalColors version level other (sibling version level pattern other colors)
   functional other = λ x y c l m e.
       let w = width_of version in
-      let inside : y * w + x < length (sibling version level pattern other colors) = subst (λ (n : ℕ). y * w + x < n) (sym (size other ∙ square)) (mul-add-lt y w x w m l) in
+      let inside : y * w + x < length (sibling version level pattern other colors) =
+          subst (λ (n : ℕ). y * w + x < n) (sym (size other ∙ square)) (mul-add-lt y w x w m l) in
       slice_get-get_or (sibling version level pattern other colors) (y * w + x) Light inside
-      ∙ ap Some (sibling_at other x y l m ∙ ap (λ o. unwrap_or o (inverted_if (is_inverted other x y) (inverted_if (is_inverted pattern x y) (color_in w colors x y)))) e)
+      ∙ ap Some (sibling_at other x y l m ∙ ap (λ o. unwrap_or o (inverted_if (is_inverted other x y)
+          (inverted_if (is_inverted pattern x y) (color_in w colors x y)))) e)
 
   data_at : (other : MaskPattern) (x y : ℕ) → x < width_of version → y < width_of version → is_functional_cell version x y ≡ false →
       inverted_if (is_inverted other x y) (color_in (width_of version) (sibling version level pattern other colors) x y) ≡
@@ -83,7 +87,8 @@ module _ (version : Version) (level : EcLevel) (pattern : MaskPattern) (colors :
       sym (cells_are (sibling_color version level pattern pattern) w colors colors Light refl square
       (λ x y l m. same x y l m (functional_color version (format_word version level pattern) x y) refl))
     where
-      same : (x y : ℕ) → x < width_of version → y < width_of version → (o : Option Color) → functional_color version (format_word version level pattern) x y ≡ o →
+      same : (x y : ℕ) → x < width_of version → y < width_of version → (o : Option Color) →
+          functional_color version (format_word version level pattern) x y ≡ o →
           color_in (width_of version) colors x y ≡ sibling_color version level pattern pattern x y (color_in (width_of version) colors x y)
       same x y l m None e =
           let c = color_in (width_of version) colors x y in

@@ -1,5 +1,7 @@
 -- Words and rows that loops write into a grid: over bytes and over modules alike. Then the distance of drawn words.
-use Rattle.std.proofs.Common.{◌≡◌, ◌≢◌, ℕ, ◌<◌, ◌≤◌, ◌+◌, ◌-◌, ◌*◌, ◌==◌, ◌&&◌, Bool, true, false, List, [], ◌∷◌, length, get_or, set, drop, Option, Some, None, option_map, cond, ap, ◌∙◌, sym, subst, arith, inl, inr, refl, suc, length-drop, drop-cons, get_or-set_same, get_or-set_other, pos, negsuc, unwrap_or, ◌/◌, ◌%◌, zero, length-set, ℤ, slice_get, w16}
+use Rattle.std.proofs.Common.{◌≡◌, ◌≢◌, ℕ, ◌<◌, ◌≤◌, ◌+◌, ◌-◌, ◌*◌, ◌==◌, ◌&&◌, Bool, true, false, List, [], ◌∷◌, length, get_or, set, drop, Option, Some, None}
+use Rattle.std.proofs.Common.{option_map, cond, ap, ◌∙◌, sym, subst, arith, inl, inr, refl, suc, length-drop, drop-cons, get_or-set_same, get_or-set_other, pos}
+use Rattle.std.proofs.Common.{negsuc, unwrap_or, ◌/◌, ◌%◌, zero, length-set, ℤ, slice_get, w16}
 use Rattle.std.proofs.lemmas.Bool.{cases_eq, cases_lt}
 use Rattle.std.proofs.lemmas.Bool.Decides.{nat_tests}
 use Rattle.qrcode_base.specs.declared.types.Color.{Color}
@@ -29,7 +31,8 @@ pub length-map_places : {X : Type 0} (f : ℕ → X → X) (i : ℕ) (xs : List 
 length-map_places f i [] = refl
 length-map_places f i (x ∷ xs) = ap suc (length-map_places f (i + 1) xs)
 
-pub get_or-map_places : {X : Type 0} (f : ℕ → X → X) (i : ℕ) (xs : List X) (k : ℕ) (d : X) → k < length xs → get_or (map_places f i xs) k d ≡ f (i + k) (get_or xs k d)
+pub get_or-map_places : {X : Type 0} (f : ℕ → X → X) (i : ℕ) (xs : List X) (k : ℕ) (d : X) → k < length xs →
+    get_or (map_places f i xs) k d ≡ f (i + k) (get_or xs k d)
 get_or-map_places f i [] k d h = absurd (omega arith)
 get_or-map_places f i (x ∷ xs) zero d h = let e : i ≡ i + 0 = omega arith in ap (λ j. f j x) e
 get_or-map_places f i (x ∷ xs) (suc k) d h = grind (arith, common_steps, get_or-map_places f (i + 1) xs k d (omega arith))
@@ -41,11 +44,13 @@ pub record ChangedBelow {X : Type 0} (f : ℕ → X → X) (xs ys : List X) (n :
   pub above : (k : ℕ) (d : X) → n ≤ k → get_or ys k d ≡ get_or xs k d
 
 -- the element at n is written
-pub changed_set : {X : Type 0} (f : ℕ → X → X) (xs ys : List X) (n : ℕ) (v e : X) → n < length xs → v ≡ f n (get_or ys n e) → ChangedBelow f xs ys n → ChangedBelow f xs (set ys n v) (n + 1)
+pub changed_set : {X : Type 0} (f : ℕ → X → X) (xs ys : List X) (n : ℕ) (v e : X) → n < length xs → v ≡ f n (get_or ys n e) → ChangedBelow f xs ys n →
+    ChangedBelow f xs (set ys n v) (n + 1)
 changed_set f xs ys n v e l is c = grind (arith, common_steps, length-set, get_or-set_same, get_or_default, get_or-set_other)
 
 -- the elements from n to m are left as they are
-pub changed_skip : {X : Type 0} (f : ℕ → X → X) (xs ys : List X) (n m : ℕ) → n ≤ m → ((k : ℕ) → n ≤ k → k < m → (x : X) → f k x ≡ x) → ChangedBelow f xs ys n → ChangedBelow f xs ys m
+pub changed_skip : {X : Type 0} (f : ℕ → X → X) (xs ys : List X) (n m : ℕ) → n ≤ m → ((k : ℕ) → n ≤ k → k < m → (x : X) → f k x ≡ x) →
+    ChangedBelow f xs ys n → ChangedBelow f xs ys m
 changed_skip f xs ys n m le same c = grind (arith, common_steps)
 
 -- the column and the row of a place
@@ -66,7 +71,8 @@ cells_are f w old now d same square is =
     same_lists now (map_cells w f old) (same ∙ sym (length-map_places (λ i m. f (i % w) (i / w) m) 0 old))
     (λ k e h.
     let inside : k < length old = omega (arith, same) in
-    let some : 0 < w = elim (cases_lt 0 w) [ inl a ↦ a | inr b ↦ let zero_wide : w ≡ 0 = omega arith in absurd (omega (arith, inside, square ∙ ap (λ t. t * w) zero_wide)) ] in
+    let some : 0 < w = elim (cases_lt 0 w) [ inl a ↦ a | inr b ↦ let zero_wide : w ≡ 0 = omega arith in
+        absurd (omega (arith, inside, square ∙ ap (λ t. t * w) zero_wide)) ] in
     let x = k % w in let y = k / w in
     let column : x < w = omega arith in
     let row : y < w = elim (cases_lt y w) [ inl a ↦ a | inr b ↦ absurd (omega (arith, inside, square, mul-le-mul_right w b)) ] in
@@ -80,22 +86,26 @@ cells_are f w old now d same square is =
 abbrev pub CellsChanged : {X : Type 0} → (ℕ → ℕ → X → X) → ℕ → List X → List X → ℕ → Type 0
 CellsChanged f w xs ys n = ChangedBelow (λ i m. f (i % w) (i / w) m) xs ys n
 
-stays_at : {X : Type 0} (f : ℕ → ℕ → X → X) (w y k : ℕ) (m : X) → y * w ≤ k → k < (y + 1) * w → ((x : ℕ) → x ≡ k - y * w → x < w → f x y m ≡ m) → f (k % w) (k / w) m ≡ m
+stays_at : {X : Type 0} (f : ℕ → ℕ → X → X) (w y k : ℕ) (m : X) → y * w ≤ k → k < (y + 1) * w →
+    ((x : ℕ) → x ≡ k - y * w → x < w → f x y m ≡ m) → f (k % w) (k / w) m ≡ m
 stays_at f w y k m low high same =
     grind (arith, k - y * w, at_place (λ u v. f u v m) w (k - y * w) y k (omega arith) (omega arith), same (k - y * w) refl (omega arith))
 
 -- the columns before the first one are left
-pub row_begins : {X : Type 0} (f : ℕ → ℕ → X → X) (w y a : ℕ) (xs ys : List X) → a ≤ w → ((x : ℕ) → x < a → (m : X) → f x y m ≡ m) → CellsChanged f w xs ys (y * w) → CellsChanged f w xs ys (y * w + a)
+pub row_begins : {X : Type 0} (f : ℕ → ℕ → X → X) (w y a : ℕ) (xs ys : List X) → a ≤ w → ((x : ℕ) → x < a → (m : X) → f x y m ≡ m) →
+    CellsChanged f w xs ys (y * w) → CellsChanged f w xs ys (y * w + a)
 row_begins f w y a xs ys within same c = grind (arith, nat_tests, changed_skip, stays_at)
 
 -- the columns from one to another are left
-pub row_between : {X : Type 0} (f : ℕ → ℕ → X → X) (w y a b : ℕ) (xs ys : List X) → a ≤ b → b ≤ w → ((x : ℕ) → a ≤ x → x < b → (m : X) → f x y m ≡ m) → CellsChanged f w xs ys (y * w + a) → CellsChanged f w xs ys (y * w + b)
+pub row_between : {X : Type 0} (f : ℕ → ℕ → X → X) (w y a b : ℕ) (xs ys : List X) → a ≤ b → b ≤ w → ((x : ℕ) → a ≤ x → x < b → (m : X) → f x y m ≡ m) →
+    CellsChanged f w xs ys (y * w + a) → CellsChanged f w xs ys (y * w + b)
 row_between f w y a b xs ys order within same c =
     changed_skip (λ i m. f (i % w) (i / w) m) xs ys (y * w + a) (y * w + b) (omega arith)
     (λ k low high m. stays_at f w y k m (omega arith) (omega arith) (λ x at inside. same x (omega arith) (omega arith) m)) c
 
 -- a cell is written
-pub cell_changed : {X : Type 0} (f : ℕ → ℕ → X → X) (w y x : ℕ) (xs ys : List X) (v e : X) → x < w → y < w → length xs ≡ w * w → v ≡ f x y (get_or ys (y * w + x) e) →
+pub cell_changed : {X : Type 0} (f : ℕ → ℕ → X → X) (w y x : ℕ) (xs ys : List X) (v e : X) → x < w → y < w → length xs ≡ w * w →
+    v ≡ f x y (get_or ys (y * w + x) e) →
     CellsChanged f w xs ys (y * w + x) → CellsChanged f w xs (set ys (y * w + x) v) (y * w + (x + 1))
 cell_changed f w y x xs ys v e column row square is c =
     let i = y * w + x in
@@ -106,11 +116,13 @@ cell_changed f w y x xs ys v e column row square is c =
     subst (λ (n : ℕ). CellsChanged f w xs (set ys i v) n) next step
 
 -- the columns from the last one on are left
-pub row_ends : {X : Type 0} (f : ℕ → ℕ → X → X) (w y b : ℕ) (xs ys : List X) → b ≤ w → ((x : ℕ) → b ≤ x → x < w → (m : X) → f x y m ≡ m) → CellsChanged f w xs ys (y * w + b) → CellsChanged f w xs ys ((y + 1) * w)
+pub row_ends : {X : Type 0} (f : ℕ → ℕ → X → X) (w y b : ℕ) (xs ys : List X) → b ≤ w → ((x : ℕ) → b ≤ x → x < w → (m : X) → f x y m ≡ m) →
+    CellsChanged f w xs ys (y * w + b) → CellsChanged f w xs ys ((y + 1) * w)
 row_ends f w y b xs ys within same c = grind (arith, nat_tests, changed_skip, stays_at)
 
 -- the rows from one to another are left
-pub rows_between : {X : Type 0} (f : ℕ → ℕ → X → X) (w a b : ℕ) (xs ys : List X) → 0 < w → a ≤ b → ((x y : ℕ) → x < w → a ≤ y → y < b → (m : X) → f x y m ≡ m) → CellsChanged f w xs ys (a * w) → CellsChanged f w xs ys (b * w)
+pub rows_between : {X : Type 0} (f : ℕ → ℕ → X → X) (w a b : ℕ) (xs ys : List X) → 0 < w → a ≤ b → ((x y : ℕ) → x < w → a ≤ y → y < b → (m : X) → f x y m ≡ m) →
+    CellsChanged f w xs ys (a * w) → CellsChanged f w xs ys (b * w)
 rows_between f w a b xs ys some order same c = grind (arith, common_steps, changed_skip, mul-le-mul_right)
 
 -- before the first row nothing is changed
@@ -172,7 +184,8 @@ written_step over w word p rest d old now v column row long is h = λ x y l m.
             ∙ is old_cell ∙ ap (λ o. over (option_map shown o) old_cell) (sym (digit_here p rest x y e f))
         | inr f ↦
             let ne : y * w + x ≢ i = λ same. f (sym (row_of_place w x y i l same) ∙ row_of_place w p.0 p.1 i column refl) in
-            get_or-set_other now i (y * w + x) v d ne ∙ h x y l m ∙ ap (λ o. over (option_map shown o) old_cell) (sym (grind (arith, common_steps, differs, and_false)))
+            get_or-set_other now i (y * w + x) v d ne ∙ h x y l m ∙ ap (λ o. over (option_map shown o) old_cell)
+                (sym (grind (arith, common_steps, differs, and_false)))
       ]
       | inr e ↦
           let ne : y * w + x ≢ i = λ same. e (sym (column_of_place w x y i l same) ∙ column_of_place w p.0 p.1 i column refl) in
@@ -180,7 +193,8 @@ written_step over w word p rest d old now v column row long is h = λ x y l m.
     ]
 
 -- the digit k is written into the place as far from the end
-pub next_written : {X : Type 0} (over : Option Color → X → X) (w word : ℕ) (places : List (ℕ × ℕ)) (k : ℕ) (d : X) (old now : List X) (v : X) → k < length places →
+pub next_written : {X : Type 0} (over : Option Color → X → X) (w word : ℕ) (places : List (ℕ × ℕ)) (k : ℕ) (d : X) (old now : List X)
+    (v : X) → k < length places →
     (get_or places (length places - 1 - k) (0, 0)).0 < w → (get_or places (length places - 1 - k) (0, 0)).1 < w → length now ≡ w * w →
     ((b : X) → v ≡ over (Some (digit_color (digit word k))) b) → IsWritten over w word (drop (length places - k) places) d old now →
     IsWritten over w word (drop (length places - (k + 1)) places) d old
@@ -199,7 +213,8 @@ next_written over w word places k d old now v below column row long is h =
     (written_step over w word p rest d old now v column row long (λ b. is b ∙ ap (λ j. over (Some (digit_color (digit word j))) b) digits) h)
 
 -- the dark module is drawn
-pub dark_written : {X : Type 0} (over : Option Color → X → X) → ((b : X) → over None b ≡ b) → (w : ℕ) (d : X) (now : List X) (v : X) → 9 ≤ w → length now ≡ w * w →
+pub dark_written : {X : Type 0} (over : Option Color → X → X) → ((b : X) → over None b ≡ b) →
+    (w : ℕ) (d : X) (now : List X) (v : X) → 9 ≤ w → length now ≡ w * w →
     ((b : X) → v ≡ over (Some Dark) b) → (x y : ℕ) → x < w → y < w →
     get_or (set now ((w - 8) * w + 8) v) (y * w + x) d ≡ over (where_true (x == 8 && y == w - 8) Dark) (get_or now (y * w + x) d)
 dark_written over none w d now v wide long is x y l m =

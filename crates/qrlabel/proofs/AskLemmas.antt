@@ -7,7 +7,8 @@ use Rattle.programs.proofs.Levels.{one_level}
 use Rattle.qrlabel.specs.declared.wanted.Format.{Format}
 use Rattle.qrlabel.specs.declared.wanted.Kind.{Kind}
 use Rattle.qrlabel.specs.Options.{AsksNumber, AsksFlag}
-use Rattle.qrlabel.specs.Words.{Label, Setting, Ask, AskForNone, format_word, kind_words, spelled, with_scale, with_quiet, with_inverted, usual_scale, usual_quiet}
+use Rattle.qrlabel.specs.Words.{Label, Setting, Ask, AskForNone, format_word, kind_words, spelled, with_scale, with_quiet, with_inverted, usual_scale}
+use Rattle.qrlabel.specs.Words.{usual_quiet}
 use Rattle.qrlabel.proofs.WordLemmas.{one_spelling, one_format, one_kind, after_kind}
 
 -- ---- Numbers and flags
@@ -73,7 +74,8 @@ module _ (words : Words) (f l : List ℕ) (rest : Words) (words_are : words ≡ 
           (subst (λ (s : List Setting). AsksNumber (fold with_quiet None s) (usual_quiet a.kind) 0 16 a.quiet) settings_said asks.quiet_is)
 
 -- Where the given texts ask for no number, the words ask for nothing.
-module _ (words : Words) (f l : List ℕ) (rest : Words) (words_are : words ≡ f ∷ l ∷ rest) (kind : Kind) (options : Words) (rest_is : rest ≡ kind_words kind ++ options)
+module _ (words : Words) (f l : List ℕ) (rest : Words) (words_are : words ≡ f ∷ l ∷ rest) (kind : Kind) (options : Words)
+    (rest_is : rest ≡ kind_words kind ++ options)
     (only : (other : Kind) (settings : List Setting) → rest ≡ kind_words other ++ spelled settings → other ≡ kind)
     (settings : List Setting) (options_are : options ≡ spelled settings) (given : Option (List ℕ)) (usual : ℕ) where
   pub no_scale : (format : Format) → f ≡ format_word format → given ≡ fold with_scale None settings → usual ≡ usual_scale format →
@@ -94,7 +96,8 @@ module _ (words : Words) (f l : List ℕ) (rest : Words) (words_are : words ≡ 
 abbrev made : Format → EcLevel → Kind → (scale quiet : ℕ) → Bool → Label
 made f l k s q i = record { format = f; level = l; kind = k; scale = s; quiet = q; inverted = i }
 
-same_label : (f g : Format) (l m : EcLevel) (k n : Kind) (s t q r : ℕ) (i j : Bool) → f ≡ g → l ≡ m → k ≡ n → s ≡ t → q ≡ r → i ≡ j → made f l k s q i ≡ made g m n t r j
+same_label : (f g : Format) (l m : EcLevel) (k n : Kind) (s t q r : ℕ) (i j : Bool) → f ≡ g → l ≡ m → k ≡ n → s ≡ t → q ≡ r → i ≡ j →
+    made f l k s q i ≡ made g m n t r j
 same_label f g l m k n s t q r i j a b c d e h = cc
 
 pub one_label : (words : Words) (a b : Label) → Ask words a → Ask words b → a ≡ b
@@ -103,12 +106,15 @@ one_label words a b p q =
     let l = q.level_word in
     let options = spelled q.settings in
     let rest = kind_words b.kind ++ options in
-    let only = λ (other : Kind) (settings : List Setting) (e : rest ≡ kind_words other ++ spelled settings). one_kind other b.kind settings q.settings (sym e) in
+    let only = λ (other : Kind) (settings : List Setting) (e : rest ≡ kind_words other
+        ++ spelled settings). one_kind other b.kind settings q.settings (sym e) in
     let settings = settings_said words f l rest q.words_are a p b.kind options refl only q.settings refl in
     same_label a.format b.format a.level b.level a.kind b.kind a.scale b.scale a.quiet b.quiet a.inverted b.inverted
     (one_format a.format b.format (sym (format_said words f l rest q.words_are a p)))
     (one_level (trim l) a.level b.level (level_said words f l rest q.words_are a p) q.level_is)
     (kind_said words f l rest q.words_are a p b.kind options refl only)
-    (one_number (fold with_scale None q.settings) (usual_scale b.format) 1 64 a.scale b.scale (scale_said words f l rest q.words_are a p b.kind options refl only q.settings refl b.format refl) q.scale_is)
-    (one_number (fold with_quiet None q.settings) (usual_quiet b.kind) 0 16 a.quiet b.quiet (quiet_said words f l rest q.words_are a p b.kind options refl only q.settings refl) q.quiet_is)
+    (one_number (fold with_scale None q.settings) (usual_scale b.format) 1 64 a.scale b.scale
+        (scale_said words f l rest q.words_are a p b.kind options refl only q.settings refl b.format refl) q.scale_is)
+    (one_number (fold with_quiet None q.settings) (usual_quiet b.kind) 0 16 a.quiet b.quiet
+        (quiet_said words f l rest q.words_are a p b.kind options refl only q.settings refl) q.quiet_is)
     (p.inverted_is ∙ (ap (λ (s : List Setting). fold with_inverted false s) settings ∙ sym q.inverted_is))

@@ -51,7 +51,8 @@ covered_dark p start x y from to =
     rw e (run_passes p start y (x - start) (omega arith))
 
 -- a run goes on over a dark module behind its last one
-reaches_next : (p : Picture) (start x y : ℕ) → x + 1 < columns_of p → is_dark_module p (x + 1) y ≡ true → start ≤ x → x < start + run_length p start y → x + 1 < start + run_length p start y
+reaches_next : (p : Picture) (start x y : ℕ) → x + 1 < columns_of p → is_dark_module p (x + 1) y ≡ true → start ≤ x → x < start + run_length p start y →
+    x + 1 < start + run_length p start y
 reaches_next p start x y inside dark from to =
     let each : (k : ℕ) → k < x + 2 - start → is_dark_module p (start + k) y ≡ true =
     λ k below. elim (cases_lt (start + k) (x + 1)) [
@@ -72,7 +73,8 @@ covered p (suc x) y inside dark =
     elim (cases_Bool (is_dark_module p x y)) [
       | inl before ↦
           (let run = covered p x y (omega arith) before in
-          (run.0, record { begins = run.1.begins; from = omega (arith, run.1.from); to = rw next (reaches_next p run.0 x y (omega arith) dark_here run.1.from run.1.to) }))
+          (run.0, record { begins = run.1.begins; from = omega (arith, run.1.from); to =
+              rw next (reaches_next p run.0 x y (omega arith) dark_here run.1.from run.1.to) }))
       | inr light ↦
           (let more : run_length p (x + 1) y ≡ 1 + run_length p (x + 1 + 1) y = run_dark p (x + 1) y (omega arith) dark_here in
           (x + 1, record { begins = begins_after_light p x y dark_here light; from = omega arith; to = omega (arith, more) }))

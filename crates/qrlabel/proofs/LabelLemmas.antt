@@ -3,7 +3,8 @@ use Rattle.std.proofs.Common.{◌≡◌, ℕ, Bool, List, refl, sym, ◌∙◌, 
 use Rattle.std.specs.Prelude.{IfOk, IfErr}
 use Rattle.qrcode_core.specs.declared.plugin.config.RenderConfig.{RenderConfig}
 use Rattle.qrcode_core.specs.declared.plugin.error.PluginError.{PluginError}
-use Rattle.qrcode_core.specs.declared.plugin.error.PluginError.TheVariants.{RendererNotFound, EncoderNotFound, InvalidConfig, InvalidModuleGrid, RenderFailed, EncodeFailed, PostProcessFailed, OutOfMemory}
+use Rattle.qrcode_core.specs.declared.plugin.error.PluginError.TheVariants.{RendererNotFound, EncoderNotFound, InvalidConfig, InvalidModuleGrid, RenderFailed}
+use Rattle.qrcode_core.specs.declared.plugin.error.PluginError.TheVariants.{EncodeFailed, PostProcessFailed, OutOfMemory}
 use Rattle.qrcode_core.specs.declared.plugin.output.RenderOutput.{RenderOutput}
 use Rattle.qrcode_core.specs.declared.plugin.output.RenderOutput.TheVariants.{Text, Bytes, Modules}
 use Rattle.qrcode_core.specs.Plugins.{render_options}
@@ -18,9 +19,11 @@ use Rattle.qrlabel.specs.Rendered.{Renders, Draws, IsDrawable, IsOutput, ShowsBi
 use Rattle.qrlabel.specs.Words.{format_word}
 use Rattle.qrlabel.proofs.AskLemmas.{one_number, one_flag}
 
-module _ (grid : Grid) (config : RenderConfig) (scale quiet : ℕ) (inverted : Bool) (asks : (usual : ℕ) → Asks usual (render_options config) scale quiet inverted) where
+module _ (grid : Grid) (config : RenderConfig) (scale quiet : ℕ) (inverted : Bool) (asks : (usual : ℕ) →
+    Asks usual (render_options config) scale quiet inverted) where
   -- The drawing is the one that is asked for.
-  one_drawing : (usual : ℕ) (Shows : Bool → Picture → RenderOutput → Type 0) (output : RenderOutput) → Draws usual Shows grid config output → Shows inverted (picture grid scale quiet) output
+  one_drawing : (usual : ℕ) (Shows : Bool → Picture → RenderOutput → Type 0) (output : RenderOutput) → Draws usual Shows grid config output →
+      Shows inverted (picture grid scale quiet) output
   one_drawing usual Shows output d =
       let s = one_number _ usual 1 64 d.scale scale d.asked.scale_is (asks usual).scale_is in
       let q = one_number _ 4 0 16 d.quiet quiet d.asked.quiet_is (asks usual).quiet_is in
@@ -29,7 +32,8 @@ module _ (grid : Grid) (config : RenderConfig) (scale quiet : ℕ) (inverted : B
       (subst (λ (n : ℕ). Shows d.inverted (picture grid scale n) output) q
       (subst (λ (n : ℕ). Shows d.inverted (picture grid n d.quiet) output) s d.shows))
 
-  written : (format : Format) (output : RenderOutput) → RendersByName (format_word format) grid config (Ok output) → IsOutput output (picture_as format inverted (picture grid scale quiet))
+  written : (format : Format) (output : RenderOutput) → RendersByName (format_word format) grid config (Ok output) →
+      IsOutput output (picture_as format inverted (picture grid scale quiet))
   written Svg (Text text) h = one_drawing 8 ShowsSvg (Text text) (h.svg refl)
   written Svg (Bytes bytes) h = absurd (one_drawing 8 ShowsSvg (Bytes bytes) (h.svg refl))
   written Svg (Modules modules) h = one_drawing 8 ShowsSvg (Modules modules) (h.svg refl)
@@ -41,7 +45,8 @@ module _ (grid : Grid) (config : RenderConfig) (scale quiet : ℕ) (inverted : B
   written Terminal (Modules modules) h = one_drawing 1 ShowsTerminal (Modules modules) (h.terminal refl)
 
   -- Only memory can want: the configuration asks for a drawing, and the grid can be drawn.
-  wants_memory : (usual : ℕ) (Shows : Bool → Picture → RenderOutput → Type 0) (error : PluginError) → IsDrawable grid → Renders usual Shows grid config (Err error) → error ≡ OutOfMemory
+  wants_memory : (usual : ℕ) (Shows : Bool → Picture → RenderOutput → Type 0) (error : PluginError) → IsDrawable grid →
+      Renders usual Shows grid config (Err error) → error ≡ OutOfMemory
   wants_memory usual Shows (RendererNotFound s) small h = absurd h
   wants_memory usual Shows (EncoderNotFound s) small h = absurd h
   wants_memory usual Shows (InvalidConfig s) small h = absurd (h scale quiet inverted (asks usual))
@@ -61,7 +66,8 @@ module _ (grid : Grid) (config : RenderConfig) (scale quiet : ℕ) (inverted : B
   answer_drawn format (Ok output) h = written format output h
   answer_drawn format (Err error) h = tt
 
-  pub answer_refused : (format : Format) (answer : Result RenderOutput PluginError) → IsDrawable grid → RendersByName (format_word format) grid config answer → IfErr answer (λ e. e ≡ OutOfMemory)
+  pub answer_refused : (format : Format) (answer : Result RenderOutput PluginError) → IsDrawable grid → RendersByName (format_word format) grid config answer →
+      IfErr answer (λ e. e ≡ OutOfMemory)
   answer_refused format (Ok output) small h = tt
   answer_refused format (Err error) small h = refused format error small h
 

@@ -11,7 +11,8 @@ use Rattle.std.specs.declared.alloc.Global.{Global}
 use Rattle.std.specs.declared.dyn_box.DynBox.{DynBox}
 use Rattle.qrcode_core.specs.declared.plugin.config.RenderConfig.{RenderConfig}
 use Rattle.qrcode_core.specs.declared.plugin.error.PluginError.{PluginError}
-use Rattle.qrcode_core.specs.declared.plugin.error.PluginError.TheVariants.{RendererNotFound, EncoderNotFound, InvalidConfig, InvalidModuleGrid, RenderFailed, EncodeFailed, PostProcessFailed, OutOfMemory}
+use Rattle.qrcode_core.specs.declared.plugin.error.PluginError.TheVariants.{RendererNotFound, EncoderNotFound, InvalidConfig, InvalidModuleGrid, RenderFailed}
+use Rattle.qrcode_core.specs.declared.plugin.error.PluginError.TheVariants.{EncodeFailed, PostProcessFailed, OutOfMemory}
 use Rattle.qrcode_core.specs.declared.plugin.output.RenderOutput.{RenderOutput}
 use Rattle.qrcode_core.specs.Grids.{Grid}
 use Rattle.qrlabel.specs.Pictures.{Picture}
@@ -71,7 +72,8 @@ refused_alike usual Shows grid config (PostProcessFailed s) h = absurd h
 refused_alike usual Shows grid config OutOfMemory h = tt
 
 -- what is drawn by a name, where the renderer draws or its test refuses
-pub drawn_by_name : (usual : ℕ) (Shows : Bool → Picture → RenderOutput → Type 0) (grid : Grid) (config : RenderConfig) (answer : Result RenderOutput PluginError)
+pub drawn_by_name : (usual : ℕ) (Shows : Bool → Picture → RenderOutput → Type 0) (grid : Grid) (config : RenderConfig)
+    (answer : Result RenderOutput PluginError)
     → Renders usual Shows grid config answer ⊎ ((error : PluginError) × (answer ≡ Err error) × Validates usual config (Err error))
     → Renders usual Shows grid config answer
 drawn_by_name usual Shows grid config answer (inl drawn) = drawn

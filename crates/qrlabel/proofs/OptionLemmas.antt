@@ -26,7 +26,8 @@ pub three_options : (a b c d : TextMap (List ℕ)) (s q i : List ℕ) → a ≡ 
     d ≡ with_entry c (codes "inverted") i → d ≡ three s q i
 three_options a b c d s q i e f g h = rw (h, g, f, e) refl
 
-pub asked_by : (options : TextMap (List ℕ)) (scale quiet : ℕ) (inverted : Bool) (s q i : List ℕ) → options ≡ three s q i → s ≡ decimal scale → q ≡ decimal quiet →
+pub asked_by : (options : TextMap (List ℕ)) (scale quiet : ℕ) (inverted : Bool) (s q i : List ℕ) → options ≡ three s q i →
+    s ≡ decimal scale → q ≡ decimal quiet →
     1 ≤ scale → scale ≤ 64 → quiet ≤ 16 → AsksFlag (Some i) inverted → (usual : ℕ) → Asks usual options scale quiet inverted
 asked_by options scale quiet inverted s q i are s_is q_is least most small flag usual =
     subst (λ (o : TextMap (List ℕ)). Asks usual o scale quiet inverted) (sym are) (record {

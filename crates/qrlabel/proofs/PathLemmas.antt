@@ -12,7 +12,8 @@ unfolding path
 path_start p text = sym (append-nil text)
 
 -- one row more
-pub path_row : (p : Picture) (n : ℕ) (start old new : List ℕ) → old ≡ start ++ path p n → new ≡ old ++ row_path p n (columns_of p) → new ≡ start ++ path p (n + 1)
+pub path_row : (p : Picture) (n : ℕ) (start old new : List ℕ) → old ≡ start ++ path p n →
+    new ≡ old ++ row_path p n (columns_of p) → new ≡ start ++ path p (n + 1)
 unfolding path
 path_row p n start old new was adds =
     joined start (path p n) old (row_path p n (columns_of p)) new (path p (n + 1)) (flat_map_range (λ y. row_path p y (columns_of p)) n) was adds
@@ -27,7 +28,8 @@ unfolding row_path
 row_path_more p y n = flat_map_range (run_at p y) n
 
 -- one run more
-pub row_run : (p : Picture) (y n : ℕ) (start old new : List ℕ) → begins_run p n y ≡ true → old ≡ start ++ row_path p y n → new ≡ old ++ rectangle n y (run_length p n y) → new ≡ start ++ row_path p y (n + 1)
+pub row_run : (p : Picture) (y n : ℕ) (start old new : List ℕ) → begins_run p n y ≡ true → old ≡ start ++ row_path p y n →
+    new ≡ old ++ rectangle n y (run_length p n y) → new ≡ start ++ row_path p y (n + 1)
 unfolding run_at
 row_run p y n start old new begins was adds =
     let run : run_at p y n ≡ rectangle n y (run_length p n y) = rw begins refl in

@@ -1,5 +1,6 @@
 -- Words are spelled in one way.
-use Rattle.std.proofs.Common.{◌≡◌, ℕ, ◌-◌, ◌<◌, ◌+◌, ◌≤◌, true, false, List, [], ◌∷◌, ◌++◌, Bor, length, drop, take, map, slice_index_or, fold, refl, sym, ◌∙◌, ap, arith, append_assoc, append-nil}
+use Rattle.std.proofs.Common.{◌≡◌, ℕ, ◌-◌, ◌<◌, ◌+◌, ◌≤◌, true, false, List, [], ◌∷◌, ◌++◌, Bor, length, drop, take, map, slice_index_or, fold, refl, sym, ◌∙◌}
+use Rattle.std.proofs.Common.{ap, arith, append_assoc, append-nil}
 use Rattle.std.specs.Prelude.{codes}
 use Rattle.std.specs.Str.{bytes_eq}
 use Rattle.std.proofs.lemmas.Slice.Eq.{bytes_eq-Decides}
@@ -43,7 +44,8 @@ first_word (w ∷ words) word some is =
 
 -- the first two words, and those after them
 pub two_words : (words : List (Bor (List ℕ))) → 2 ≤ length words →
-    map (λ w. w.now) words ≡ (slice_index_or words 0 no_word).now ∷ (slice_index_or words 1 no_word).now ∷ map (λ w. w.now) (take (length words - 2) (drop 2 words))
+    map (λ w. w.now) words ≡ (slice_index_or words 0 no_word).now ∷ (slice_index_or words 1 no_word).now ∷ map (λ w. w.now)
+        (take (length words - 2) (drop 2 words))
 two_words [] some = absurd (omega (arith, some))
 two_words (w ∷ []) some = absurd (omega (arith, some))
 two_words (w ∷ v ∷ words) some =
@@ -149,7 +151,8 @@ all_said words at done was end =
     was ∙ (ap (λ (l : Words). spelled done ++ l) none ∙ append-nil (spelled done))
 
 -- what counts, with one option more
-pub counts : {A : Type 0} (f : A → Setting → A) (a new old : A) (done : List Setting) (s : Setting) → new ≡ f old s → old ≡ fold f a done → new ≡ fold f a (done ++ s ∷ [])
+pub counts : {A : Type 0} (f : A → Setting → A) (a new old : A) (done : List Setting) (s : Setting) → new ≡ f old s → old ≡ fold f a done →
+    new ≡ fold f a (done ++ s ∷ [])
 counts f a new old done s is was = is ∙ (ap (λ x. f x s) was ∙ sym (fold-append f a done (s ∷ [])))
 
 -- ---- Forms and kinds
@@ -196,7 +199,8 @@ one_kind Utf8 Micro s t e = absurd (differ (codes "utf8") (codes "micro") (spell
 one_kind Utf8 Utf8 s t e = refl
 
 -- Words that begin with that of a kind ask for this kind.
-pub is_micro : (words rest : Words) → words ≡ codes "micro" ∷ rest → (kind : Kind) (settings : List Setting) → words ≡ kind_words kind ++ spelled settings → kind ≡ Micro
+pub is_micro : (words rest : Words) → words ≡ codes "micro" ∷ rest → (kind : Kind) (settings : List Setting) →
+    words ≡ kind_words kind ++ spelled settings → kind ≡ Micro
 is_micro words rest begins Usual settings e = absurd (no_kind (codes "micro") settings rest refl refl refl (sym e ∙ begins))
 is_micro words rest begins Micro settings e = refl
 is_micro words rest begins Utf8 settings e = absurd (differ (codes "utf8") (codes "micro") (spelled settings) rest refl (sym e ∙ begins))

@@ -9,7 +9,8 @@ use Rattle.qrcode_grid.proofs.canvas.conditions.write_stripes.Goals as goal
 
 pub loop-y-preserved : goal.loop-y-preserved
 loop-y-preserved c = λ m x y b h l. elim (cases_lt y c.loop-y.y) [
-  | inl below ↦ ap (λ n. bit_at n m) (c.write_stripe.ensures.before (y * c.args.width + x) (omega (arith, mul-le-mul_right c.args.width below))) ∙ c.loop-y.invariant m x y b h below
+  | inl below ↦ ap (λ n. bit_at n m) (c.write_stripe.ensures.before (y * c.args.width + x) (omega (arith, mul-le-mul_right c.args.width below)))
+      ∙ c.loop-y.invariant m x y b h below
   | inr above ↦
       let same : c.loop-y.y ≡ y = omega arith in
       ap (λ n. bit_at n m) (ap (λ r. get_or c.write_stripe.new.stripes (r * c.args.width + x) 0) (sym same) ∙ c.write_stripe.ensures.row x h)

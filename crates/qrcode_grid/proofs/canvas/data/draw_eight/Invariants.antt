@@ -5,4 +5,5 @@ use Rattle.qrcode_grid.specs.Placing.{FillsRows}
 use Rattle.qrcode_grid.proofs.canvas.data.draw_eight.Given as goal
 
 abbrev pub invariant-loop-i : goal.invariant-loop-i
-invariant-loop-i l = (after : List Bool) → FillsRows l.columns l.first l.i (number_bits 8 l.eight ++ after) (number_bits (8 - 2 * l.i) l.eight ++ after) l.fn.modules l.modules
+invariant-loop-i l = (after : List Bool) → FillsRows l.columns l.first l.i (number_bits 8 l.eight ++ after) (number_bits (8 - 2 * l.i) l.eight
+    ++ after) l.fn.modules l.modules

@@ -24,6 +24,8 @@ returns g c =
     registers_then _ _ _ (version_of (string_bytes plugin.name) (string_bytes plugin.version) ∷ [])
     (map named_renderer plugin.renderers.items ++ (map named_encoder plugin.encoders.items ++ map postprocessor_of plugin.postprocessors.items))
     last.result c.in_default.ensures
-    (registers_then _ _ _ (map named_renderer plugin.renderers.items) (map named_encoder plugin.encoders.items ++ map postprocessor_of plugin.postprocessors.items)
+    (registers_then _ _ _ (map named_renderer plugin.renderers.items) (map named_encoder plugin.encoders.items
+        ++ map postprocessor_of plugin.postprocessors.items)
     last.result c.in_default-put_renderers.ensures
-    (registers_then _ _ _ (map named_encoder plugin.encoders.items) (map postprocessor_of plugin.postprocessors.items) last.result c.in_default-put_encoders.ensures last.ensures))
+    (registers_then _ _ _ (map named_encoder plugin.encoders.items) (map postprocessor_of plugin.postprocessors.items) last.result
+        c.in_default-put_encoders.ensures last.ensures))

@@ -5,4 +5,5 @@ use Rattle.qrcode_grid.proofs.WrittenWords.{IsWritten}
 use Rattle.qrcode_grid.proofs.canvas.scoring.candidates.write_words.Given as goal
 
 abbrev pub invariant-loop-k : goal.invariant-loop-k
-invariant-loop-k l = (m word : ℕ) → m < 8 → AreDigits l.digits m word → IsWritten byte_under l.width word (drop (l.count - l.k) l.places) 0 (plane m l.fn.grid) (plane m l.grid)
+invariant-loop-k l = (m word : ℕ) → m < 8 → AreDigits l.digits m word →
+    IsWritten byte_under l.width word (drop (l.count - l.k) l.places) 0 (plane m l.fn.grid) (plane m l.grid)

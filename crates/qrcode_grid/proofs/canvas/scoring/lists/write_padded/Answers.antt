@@ -12,10 +12,12 @@ loop-y-preserved c =
     let row = c.write_row.ensures in let new = c.write_row.new.list in let grid = c.args.grid.now in
     let n : y * w + w - y * w ≡ w = omega arith in
     let inside : y * w + w ≤ length grid = omega (arith, c.requires.square, mul-le-mul_right w c.loop-y-test.true, add-mul y 1 w) in
-    let long : length (take (y * w + w - y * w) (drop (y * w) grid)) ≡ w = ap (λ k. length (take k (drop (y * w) grid))) n ∙ length-chunk (y * w) w grid inside in
+    let long : length (take (y * w + w - y * w) (drop (y * w) grid)) ≡ w =
+        ap (λ k. length (take k (drop (y * w) grid))) n ∙ length-chunk (y * w) w grid inside in
     record {
       grid = λ x r hx hr. elim (cases_lt r y) [
-        | inl early ↦ row.before ((4 + r) * s + x) (row_before s (4 + r) x (4 + y) (omega (arith, early)) (omega (arith, hx))) ∙ c.loop-y.invariant.grid x r hx early
+        | inl early ↦ row.before ((4 + r) * s + x) (row_before s (4 + r) x (4 + y) (omega (arith, early)) (omega (arith, hx)))
+            ∙ c.loop-y.invariant.grid x r hx early
         | inr late ↦
             let e : r ≡ y = omega (arith, hr, late) in
             ap (λ r. get_or new ((4 + r) * s + x) 0) e ∙ row.row x (omega (arith, hx, long))
