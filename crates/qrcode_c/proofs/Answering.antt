@@ -6,7 +6,7 @@ use Rattle.std.proofs.lemmas.Option.{slice_get_read}
 use Rattle.std.proofs.lemmas.Result.{IfOk-weaker}
 use Rattle.qrcode_base.specs.declared.types.Color.{Color}
 use Rattle.qrcode_base.specs.declared.types.EcLevel.{EcLevel}
-use Rattle.qrcode_core.specs.Layers.{DrawnSymbol, TellsReading, modules_of}
+use Rattle.qrcode_core.specs.Drawn.{DrawnSymbol, TellsReading, modules_of}
 use Rattle.qrcode_core.specs.Sequence.{AreBestSymbols}
 use Rattle.qrcode_c.specs.declared.refusal.Refusal.{Refusal}
 use Rattle.qrcode_c.specs.declared.refusal.Refusal.TheVariants.{ShortBuffer}

@@ -4,7 +4,7 @@ use Rattle.qrcode_base.specs.declared.types.Color.{Color}
 use Rattle.qrcode_base.specs.declared.types.EcLevel.{EcLevel}
 use Rattle.qrcode_grid.specs.Penalty.{byte_of}
 use Rattle.qrcode_base.specs.Symbols.{width_of}
-use Rattle.qrcode_core.specs.Layers.{DrawnSymbol, TellsReading, modules_of}
+use Rattle.qrcode_core.specs.Drawn.{DrawnSymbol, TellsReading, modules_of}
 use Rattle.qrcode_core.specs.Sequence.{AreBestSymbols}
 use Rattle.qrcode_c.specs.declared.shape.Shape.{Shape}
 use Rattle.qrcode_c.specs.Levels.{number_of}

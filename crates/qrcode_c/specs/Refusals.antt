@@ -5,7 +5,7 @@ use Rattle.qrcode_base.specs.declared.types.Color.{Color}
 use Rattle.qrcode_base.specs.declared.types.EcLevel.{EcLevel}
 use Rattle.qrcode_base.specs.declared.types.EcLevel.TheVariants.{H}
 use Rattle.qrcode_bits.specs.Push.{IsLimit}
-use Rattle.qrcode_core.specs.Layers.{DrawnSymbol, modules_of}
+use Rattle.qrcode_core.specs.Drawn.{DrawnSymbol, modules_of}
 use Rattle.qrcode_core.specs.Headline.{IsBestSymbol, IsBestMicroSymbol, IsTooLong, IsTooLongForMicro}
 use Rattle.qrcode_core.specs.Sequence.{AreBestSymbols, IsTotal, IsSomePartTooLong}
 use Rattle.qrcode_c.specs.declared.refusal.Refusal.{Refusal}

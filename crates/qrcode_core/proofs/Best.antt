@@ -6,7 +6,8 @@ use Rattle.qrcode_base.specs.declared.types.Version.{Version}
 use Rattle.qrcode_bits.specs.declared.optimize.Segment.{Segment}
 use Rattle.qrcode_bits.specs.Plans.{IsChoice, total_bits}
 use Rattle.qrcode_bits.specs.Frame.{Header, header_bits}
-use Rattle.qrcode_core.specs.Layers.{DrawnSymbol, TellsReading, IsEncoded, IsDrawn}
+use Rattle.qrcode_core.specs.Drawn.{DrawnSymbol, TellsReading}
+use Rattle.qrcode_core.specs.Layers.{IsEncoded, IsDrawn}
 use Rattle.qrcode_core.specs.Headline.{IsBest, Reads, reading_of}
 use Rattle.qrcode_core.proofs.BlocksApart.{blocks_apart}
 use Rattle.qrcode_core.proofs.DrawnReading.{drawn_carries}

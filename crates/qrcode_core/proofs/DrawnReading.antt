@@ -8,7 +8,8 @@ use Rattle.qrcode_base.specs.Symbols.{missing_bits}
 use Rattle.qrcode_grid.specs.Walk.{left_over, bit_color, symbol_bits}
 use Rattle.qrcode_grid.specs.Regions.{is_dark}
 use Rattle.std.proofs.lemmas.Option.{none-some, same_Some}
-use Rattle.qrcode_core.specs.Layers.{DrawnSymbol, IsDrawn}
+use Rattle.qrcode_core.specs.Drawn.{DrawnSymbol}
+use Rattle.qrcode_core.specs.Layers.{IsDrawn}
 use Rattle.qrcode_core.specs.Headline.{Carries}
 use Rattle.qrcode_core.proofs.HalfBytes.{low_half}
 use Rattle.std.proofs.lemmas.Grind.{common_steps}

@@ -6,7 +6,8 @@ use Rattle.qrcode_base.specs.Symbols.{missing_bits}
 use Rattle.qrcode_bits.specs.Frame.{tail}
 use Rattle.qrcode_bits.specs.Push.{EndsAtLevel}
 use Rattle.qrcode_bits.specs.Stream.{Stream}
-use Rattle.qrcode_core.specs.Layers.{DrawnSymbol, TellsReading, HoldsStream, AreBytesOf, FillsSymbol, IsDrawnStream}
+use Rattle.qrcode_core.specs.Drawn.{DrawnSymbol, TellsReading, HoldsStream}
+use Rattle.qrcode_core.specs.Layers.{AreBytesOf, FillsSymbol, IsDrawnStream}
 use Rattle.qrcode_core.proofs.BlocksApart.{carries_apart}
 use Rattle.qrcode_core.proofs.DrawnReading.{drawn_carries}
 use Rattle.qrcode_core.proofs.Ending.{bytes_of_tailed, length-tailed}

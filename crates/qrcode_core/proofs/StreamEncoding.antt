@@ -17,7 +17,8 @@ use Rattle.qrcode_bits.proofs.Choices.{fits_last}
 use Rattle.qrcode_bits.proofs.Lengths.{long_message, long_for_micro}
 use Rattle.qrcode_bits.proofs.PlanFrames.{spelled_plan}
 use Rattle.qrcode_core.specs.Headline.{IsBest, IsTooLong, IsRefusal}
-use Rattle.qrcode_core.specs.Layers.{DrawnSymbol, TellsReading, IsEncoded, AreBytesOf, FillsSymbol, IsDrawnStream}
+use Rattle.qrcode_core.specs.Drawn.{DrawnSymbol, TellsReading}
+use Rattle.qrcode_core.specs.Layers.{IsEncoded, AreBytesOf, FillsSymbol, IsDrawnStream}
 use Rattle.qrcode_core.proofs.Best.{best_symbol}
 use Rattle.qrcode_core.proofs.Ending.{bytes_of_tailed, take_ended}
 use Rattle.qrcode_core.proofs.Lengths.{length-encoded}

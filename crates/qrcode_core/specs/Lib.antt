@@ -1,4 +1,5 @@
 pub mod Headline
+pub mod Drawn
 pub mod Layers
 pub mod Sequence
 pub use Rattle.qrcode_base.specs.Names

@@ -2,7 +2,7 @@
 use Rattle.std.specs.Prelude.{◌≡◌, ℕ, Bool, true, false, List, ◌++◌, [], ◌∷◌, Option, codes}
 use Rattle.qrcode_core.specs.declared.types.EcLevel.{EcLevel}
 use Rattle.qrcode_core.specs.declared.types.errors.QrError.{QrError}
-use Rattle.qrcode_core.specs.Layers.{DrawnSymbol, drawn_grid}
+use Rattle.qrcode_core.specs.Drawn.{DrawnSymbol, drawn_grid}
 use Rattle.programs.specs.Outcome.{Serves, IsSymbolOf, IsRefusalOf}
 use Rattle.qrlabel.specs.declared.wanted.Format.{Format}
 use Rattle.qrlabel.specs.declared.wanted.Format.TheVariants.{Svg, Pbm, Terminal}

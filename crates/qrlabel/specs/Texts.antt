@@ -4,7 +4,7 @@ use Rattle.std.specs.Str.{IsUtf8, IsValidUpTo}
 use Rattle.qrcode_core.specs.declared.types.EcLevel.{EcLevel}
 use Rattle.qrcode_core.specs.declared.types.errors.QrError.{QrError}
 use Rattle.qrcode_core.specs.declared.types.errors.QrError.TheVariants.{DataTooLong, InvalidCharacter, OutOfMemory}
-use Rattle.qrcode_core.specs.Layers.{DrawnSymbol}
+use Rattle.qrcode_core.specs.Drawn.{DrawnSymbol}
 use Rattle.texts.specs.Smallest.{SaysUtf8, IsSmallest, IsRefusedByAll}
 
 -- The bytes are a text in UTF-8, and the symbol is the smallest that holds it behind the designator.

@@ -11,7 +11,7 @@ use Rattle.qrcode_base.specs.declared.types.errors.QrError.TheVariants.{DataTooL
 use Rattle.qrcode_base.specs.Symbols.{capacity, capacity_with, normal_blocks}
 use Rattle.qrcode_base.proofs.Alphabet.{each_below, from_each_below}
 use Rattle.qrcode_bits.specs.Stream.{Stream}
-use Rattle.qrcode_core.specs.Layers.{DrawnSymbol, HoldsStream, IsStreamRefusal}
+use Rattle.qrcode_core.specs.Drawn.{DrawnSymbol, HoldsStream, IsStreamRefusal}
 use Rattle.qrcode_bits.specs.Plans.{normal}
 use Rattle.texts.specs.Smallest.{HoldsIn, HoldsNoneBelow, IsTooLongIn, IsRefusedIn}
 

@@ -14,7 +14,7 @@ use Rattle.qrcode_bits.specs.Stream.{eci_spelling}
 use Rattle.qrcode_bits.specs.Parsing.{parsed}
 use Rattle.qrcode_bits.specs.Spelling.{segment_pieces, spelling}
 use Rattle.qrcode_bits.specs.Push.{piece}
-use Rattle.qrcode_core.specs.Layers.{DrawnSymbol, IsSymbolOf}
+use Rattle.qrcode_core.specs.Drawn.{DrawnSymbol, IsSymbolOf}
 
 -- a text in UTF-8: the ECI designator 26, and one Byte segment (ISO/IEC 18004, "ECI mode")
 abbrev pub SaysUtf8 : List ℕ → Version → List Bool → Type 0

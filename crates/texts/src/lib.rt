@@ -2,7 +2,7 @@
 #![tactic(auto)]
 
 ghost use Rattle.std.specs.Prelude.{◌≡◌, ◌≤◌, length, IfOk, IfErr, IsErrOf};
-ghost use Rattle.qrcode_core.specs.Layers.{TellsReading};
+ghost use Rattle.qrcode_core.specs.Drawn.{TellsReading};
 ghost use Rattle.qrcode_bits.specs.Plans.{normal};
 ghost use Rattle.texts.specs.Smallest.{SaysUtf8, SaysElements, HoldsIn, IsRefusedIn, IsSmallest, IsRefusedByAll};
 

@@ -1,6 +1,6 @@
 //! Labels with their version and mask, by `qrcode_core`.
 ghost use Rattle.std.specs.Prelude.{◌≡◌, ◌+◌, ◌*◌, ◌≤◌, IfOk, IfErr};
-ghost use Rattle.qrcode_core.specs.Layers.{TellsReading, drawn_grid};
+ghost use Rattle.qrcode_core.specs.Drawn.{TellsReading, drawn_grid};
 ghost use Rattle.qrcode_core.specs.Headline.{IsBestSymbol};
 ghost use Rattle.qrcode_core.specs.Limits.{IsBestWithin, IsLimitedRefusal};
 

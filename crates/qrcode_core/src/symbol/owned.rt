@@ -4,7 +4,8 @@
 ghost use Rattle.std.specs.Prelude.{◌≡◌, ◌≤◌, length, OnOk, IfOk, IfErr};
 ghost use Rattle.qrcode_base.specs.Symbols.{IsVersion, width_of};
 ghost use Rattle.qrcode_core.specs.Limits.{IsBudget, IsBestWithin, IsTooLongWithin, IsLimitedRefusal};
-ghost use Rattle.qrcode_core.specs.Layers.{TellsReading, drawn_grid, HoldsStream, IsStreamRefusal, AreAllCodewords};
+ghost use Rattle.qrcode_core.specs.Drawn.{TellsReading, drawn_grid, HoldsStream, IsStreamRefusal};
+ghost use Rattle.qrcode_core.specs.Layers.{AreAllCodewords};
 ghost use Rattle.qrcode_core.specs.Layers.{IsDrawn, FillsSymbol, IsDrawnStream};
 ghost use Rattle.qrcode_core.specs.Headline.{IsBestSymbol, IsBestMicroSymbol, IsTooLong, IsTooLongForMicro, IsRefusal};
 ghost use Rattle.qrcode_core.specs.Headline.{IsMicroRefusal};
@@ -35,7 +36,7 @@ pub struct Symbol {
 impl Model for Symbol {
     ghost use Rattle.std.specs.Prelude.{◌≡◌, ◌*◌, length};
     ghost use Rattle.qrcode_base.specs.Symbols.{IsVersion, width_of};
-    ghost use Rattle.qrcode_core.specs.Layers.{DrawnSymbol};
+    ghost use Rattle.qrcode_core.specs.Drawn.{DrawnSymbol};
 
     ghost Value = { DrawnSymbol };
 
@@ -182,7 +183,7 @@ impl Symbol {
 
 impl ModuleSource for Symbol {
     ghost use Rattle.std.specs.Prelude.{◌≤◌};
-    ghost use Rattle.qrcode_core.specs.Layers.{drawn_grid};
+    ghost use Rattle.qrcode_core.specs.Drawn.{drawn_grid};
     ghost use Rattle.qrcode_core.specs.Grids.{HasAllRows, IsFull};
 
     ghost grid = { drawn_grid };
@@ -219,7 +220,7 @@ impl ModuleSource for Symbol {
 }
 
 impl QrSymbol for Symbol {
-    ghost use Rattle.qrcode_core.specs.Layers.{drawn_version, drawn_level};
+    ghost use Rattle.qrcode_core.specs.Drawn.{drawn_version, drawn_level};
 
     ghost version_of = { drawn_version };
 

@@ -4,7 +4,7 @@ ghost use Rattle.std.specs.Prelude.{IsTrue, vec_items};
 ghost use Rattle.std.specs.List.Sorted.{IsNonDecreasing};
 ghost use Rattle.qrcode_bits.specs.Push.{IsLimit, IsPartRefused};
 ghost use Rattle.qrcode_bits.specs.Frame.{header};
-ghost use Rattle.qrcode_core.specs.Layers.{TellsReading, modules_of};
+ghost use Rattle.qrcode_core.specs.Drawn.{TellsReading, modules_of};
 ghost use Rattle.qrcode_core.specs.Sequence.{parity_of, parts_at, IsPartSymbol, AreBestSymbols, IsSomePartTooLong};
 ghost use Rattle.qrcode_core.specs.Sequence.{IsSequenceRefusal};
 

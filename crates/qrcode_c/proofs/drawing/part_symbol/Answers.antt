@@ -4,7 +4,7 @@ use Rattle.std.proofs.Common.{◌≡◌, ◌∙◌, subst, sym, w16, w32, to_z, 
 use Rattle.std.proofs.lemmas.Int.{to_z-of_z, ints}
 use Rattle.qrcode_base.specs.declared.types.errors.QrError.{QrError}
 use Rattle.qrcode_bits.specs.Push.{IsLimit}
-use Rattle.qrcode_core.specs.Layers.{modules_of}
+use Rattle.qrcode_core.specs.Drawn.{modules_of}
 use Rattle.qrcode_core.specs.Sequence.{AreBestSymbols, IsSequenceRefusal}
 use Rattle.qrcode_c.specs.Levels.{number_of}
 use Rattle.qrcode_c.specs.Refusals.{IsAsked}

@@ -4,7 +4,7 @@ use Rattle.std.proofs.lemmas.Grind.{common_steps}
 use Rattle.std.proofs.lemmas.Int.{to_z-of_z}
 use Rattle.std.proofs.lemmas.Result.{IfOk-weaker}
 use mir.Syntax.{w16}
-use Rattle.qrcode_core.specs.Layers.{modules_of}
+use Rattle.qrcode_core.specs.Drawn.{modules_of}
 use Rattle.std.proofs.lemmas.List.Sorted.{IsPermutation-refl}
 use Rattle.qrcode_core.proofs.symbol.sequence.symbol_sequence.Goals as goal
 

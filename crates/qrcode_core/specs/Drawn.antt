@@ -1,0 +1,72 @@
+-- A symbol with modules of its own, as contracts see it.
+use Rattle.std.specs.Prelude.{◌≡◌, List, ℕ, ◌<◌, ◌≤◌, Bool, ◌++◌, length, Some, None}
+use Rattle.qrcode_base.specs.declared.types.Color.{Color}
+use Rattle.qrcode_base.specs.declared.types.EcLevel.{EcLevel}
+use Rattle.qrcode_base.specs.declared.types.Version.{Version}
+use Rattle.qrcode_base.specs.Symbols.{width_of, capacity}
+use Rattle.qrcode_grid.specs.declared.canvas.MaskPattern.{MaskPattern}
+use Rattle.qrcode_core.specs.Grids.{Grid, grid_of}
+use Rattle.qrcode_core.specs.Headline.{Reading, Reads, CarriesApart, Carries}
+use Rattle.qrcode_base.specs.declared.types.errors.QrError.{QrError}
+use Rattle.qrcode_base.specs.declared.types.errors.QrError.TheVariants.{DataTooLong, InvalidVersion, OutOfMemory}
+use Rattle.qrcode_bits.specs.Frame.{tail}
+use Rattle.qrcode_bits.specs.Stream.{Stream}
+use Rattle.qrcode_grid.specs.Penalty.{IsFirstLeastMask}
+
+-- the modules, row after row from the upper left corner, with version, level and mask
+pub record DrawnSymbol : Type 0 where
+  pub modules : List Color
+  pub version : Version
+  pub level : EcLevel
+  pub mask : MaskPattern
+
+abbrev pub modules_of : DrawnSymbol → List Color
+modules_of symbol = symbol.modules
+
+-- the square grid that it shows, as wide as its version
+abbrev pub drawn_grid : DrawnSymbol → Grid
+drawn_grid symbol = grid_of symbol.modules (width_of symbol.version) (width_of symbol.version)
+
+abbrev pub drawn_version : DrawnSymbol → Version
+drawn_version symbol = symbol.version
+
+abbrev pub drawn_level : DrawnSymbol → EcLevel
+drawn_level symbol = symbol.level
+
+-- Version, level and mask are those that a reader finds in the modules.
+abbrev pub TellsReading : DrawnSymbol → Type 0
+TellsReading symbol =
+    (reading : Reading) → Reads symbol.modules reading →
+    (symbol.version ≡ reading.version) × (symbol.level ≡ reading.level) × (symbol.mask ≡ reading.mask)
+
+-- ---- The symbol of bits that a caller pushed.
+
+-- The symbol of some data bits, in a version and at a level: its modules carry the bits, and nothing else. Its mask is
+-- the first under which the grid's sibling has the least penalty. In each block different contents differ in more
+-- codewords than the block has correction codewords.
+pub record IsSymbolOf (bits : List Bool) (version : Version) (level : EcLevel)
+    (symbol : DrawnSymbol) : Type 0 where
+  pub version_is : symbol.version ≡ version
+  pub level_is : symbol.level ≡ level
+  pub carries : Carries symbol.modules version level symbol.mask bits
+  pub only : (v : Version) (l : EcLevel) (m : MaskPattern) (other : List Bool) → Carries symbol.modules v l m other →
+      (v ≡ version) × (l ≡ level) × (m ≡ symbol.mask) × (other ≡ bits)
+  pub best_mask : IsFirstLeastMask version level symbol.mask symbol.modules
+  pub apart : CarriesApart symbol.modules version level symbol.mask bits carries
+
+-- The symbol of a stream's bits in its version, ended by terminator and padding at the capacity of a level.
+pub record HoldsStream (stream : Stream) (level : EcLevel) (symbol : DrawnSymbol) : Type 0 where
+  pub limit : ℕ
+  pub limit_is : capacity stream.version level ≡ Some limit
+  pub fits : length stream.bits ≤ limit
+  pub holds : IsSymbolOf (stream.bits ++ tail stream.version limit (length stream.bits)) stream.version level symbol
+
+-- Which refusal comes when. Of a want of memory nothing more is said than that nothing else was due.
+abbrev pub IsStreamRefusal : Stream → EcLevel → QrError → Type 0
+IsStreamRefusal stream level (InvalidVersion version named) =
+    (version ≡ stream.version) × (named ≡ level) × (capacity stream.version level ≡ None)
+IsStreamRefusal stream level DataTooLong =
+    (limit : ℕ) × (capacity stream.version level ≡ Some limit) × (limit < length stream.bits)
+IsStreamRefusal stream level OutOfMemory =
+    (limit : ℕ) × (capacity stream.version level ≡ Some limit) × (length stream.bits ≤ limit)
+IsStreamRefusal stream level other = ⊥
