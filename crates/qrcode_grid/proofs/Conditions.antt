@@ -5,7 +5,7 @@ use Rattle.std.specs.Int.{bit_at}
 use Rattle.qrcode_base.specs.declared.types.Color.TheVariants.{Light, Dark}
 use Rattle.qrcode_grid.specs.declared.canvas.Module.{Module}
 use Rattle.qrcode_grid.specs.declared.canvas.Module.TheVariants.{Empty}
-use Rattle.qrcode_grid.specs.declared.canvas.conditions.TheConstants.{CONDITIONS}
+use Rattle.qrcode_grid.specs.declared.canvas.masks.TheConstants.{CONDITIONS}
 use Rattle.qrcode_grid.specs.Scoring.{code_of, masked_code, pattern_of, byte_under}
 use Rattle.qrcode_grid.specs.Masks.{is_inverted, drawn_over, format_color, masked, masked_cell, masked_cells, format_word, normal_number, family}
 use Rattle.qrcode_grid.proofs.FieldLaws.{passes_below, passes_below-at}

@@ -9,7 +9,7 @@ use Rattle.qrcode_grid.specs.Regions.{sum_below, count_below}
 use Rattle.qrcode_grid.specs.Penalty.{row, column, line_penalty, count_of_squares, is_byte_square_at, is_dark_byte, squares_penalty, quiet, are_light}
 use Rattle.qrcode_grid.specs.Penalty.{is_pattern, is_finder_like}
 use Rattle.qrcode_grid.specs.Scoring.{AreEdges, IsPadded, cell, has, has_five, has_six, has_finder, has_square, places, stride, is_quiet}
-use Rattle.qrcode_grid.specs.declared.canvas.scoring.features.Feature.TheVariants.{Finder, Square, Dark}
+use Rattle.qrcode_grid.specs.declared.canvas.scoring.lists.Feature.TheVariants.{Finder, Square, Dark}
 use Rattle.qrcode_grid.proofs.MarkedLanes.{count_as_sum, count_one_more}
 use Rattle.qrcode_grid.proofs.LongRuns.{edge_within, edge, edge_past, five_of, six_of, runs_are}
 use Rattle.qrcode_grid.proofs.Totals.{total-add, total-cong, total-mul, total-plus}

@@ -7,8 +7,8 @@ use Rattle.qrcode_grid.specs.declared.canvas.scoring.planes.Tally.{Tally}
 use Rattle.qrcode_grid.specs.declared.canvas.MaskPattern.{MaskPattern}
 use Rattle.qrcode_grid.specs.declared.canvas.MaskPattern.TheVariants.{Checkerboard}
 use Rattle.qrcode_grid.specs.Masks.{normal_patterns}
-use Rattle.qrcode_grid.specs.declared.canvas.scoring.features.Feature.{Feature}
-use Rattle.qrcode_grid.specs.declared.canvas.scoring.features.Feature.TheVariants.{Finder, Square, Dark}
+use Rattle.qrcode_grid.specs.declared.canvas.scoring.lists.Feature.{Feature}
+use Rattle.qrcode_grid.specs.declared.canvas.scoring.lists.Feature.TheVariants.{Finder, Square, Dark}
 use Rattle.qrcode_grid.specs.Regions.{sum_below, digit, digit_color}
 use Rattle.qrcode_grid.specs.Penalty.{byte_of}
 use Rattle.qrcode_base.specs.declared.types.Color.{Color}

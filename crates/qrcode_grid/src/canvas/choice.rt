@@ -3,9 +3,8 @@ ghost use Rattle.std.specs.Prelude.{◌≡◌, ◌*◌, ◌<◌, ◌≤◌, leng
 ghost use Rattle.qrcode_grid.specs.Masks.{family, IsOfFamily};
 ghost use Rattle.qrcode_grid.specs.Penalty.{score, IsFirstLeast};
 
-use crate::canvas::repeated::repeated;
-use crate::canvas::scoring::formats::{format_words, mask_number};
-use crate::canvas::scoring::{penalties_of, scratch_length, write_colors, zeros};
+use crate::canvas::scoring::candidates::{format_words, mask_number};
+use crate::canvas::scoring::{penalties_of, repeated, scratch_length, write_colors, zeros};
 use crate::canvas::{Canvas, MaskPattern};
 use qrcode_base::types::{Color, QrError, QrResult, Version};
 use std::alloc::Global;

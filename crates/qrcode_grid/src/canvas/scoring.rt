@@ -6,20 +6,15 @@ ghost use Rattle.qrcode_grid.specs.Penalty.{byte_of, micro_penalty, modules_pena
 ghost use Rattle.qrcode_grid.specs.Masks.{masked_cells};
 ghost use Rattle.qrcode_grid.specs.Scoring.{list_length, pattern_of, plane};
 
-mod candidates;
+pub mod candidates;
 mod counting;
-mod features;
-pub mod formats;
 mod lists;
 mod penalties;
 mod planes;
-mod tally;
 
 use crate::canvas::Module;
-use crate::canvas::penalty::penalty_of_micro;
-use crate::canvas::repeated::repeated;
 use crate::canvas::scoring::candidates::write_candidates;
-use crate::canvas::scoring::penalties::penalties_of_normal;
+use crate::canvas::scoring::penalties::{penalties_of_normal, penalty_of_micro};
 use qrcode_base::types::{Color, Version};
 use std::alloc::{AllocError, Global};
 
@@ -127,4 +122,24 @@ pub fn write_colors(grid: &[u8], m: usize, colors: &mut [Color])
             Color::Light
         };
     }
+}
+
+/// How many elements are written at once. The C library fills more than 2 KB by `rep stos`, which is slow to begin.
+const PART: usize = 1000;
+
+/// A list of one value, with at least some room.
+pub fn repeated<T: Copy>(
+    alloc: Global,
+    value: T,
+    length: usize,
+    room: usize,
+) -> Result<Vec<T>, AllocError>
+    ensures { IfOk result (λ list. list.items ≡ replicate length value) }
+{
+    let mut list = Vec::with_capacity(alloc, length.max(room))?;
+    for part in 0..length / PART {
+        list.resize(PART * (part + 1), value)?;
+    }
+    list.resize(length, value)?;
+    Ok(list)
 }

@@ -1,5 +1,5 @@
 //! Eight candidates in one list of bytes, one for each mask: a byte a module, and bit m of it is the colour under the
-//! mask with number m.
+//! mask with number m. Then the format words of eight masks.
 ghost use Rattle.std.specs.Prelude.{◌≡◌, if◌then◌else◌, ◌==◌, ℕ, ◌+◌, ◌-◌, ◌*◌, ◌/◌, ◌%◌, ◌<◌, ◌≤◌, length, map};
 ghost use Rattle.std.specs.Prelude.{slice_index, All};
 ghost use Rattle.std.specs.Int.{bit_at};
@@ -7,13 +7,16 @@ ghost use Rattle.qrcode_base.specs.declared.types.Color.TheVariants.{Dark};
 ghost use Rattle.qrcode_grid.specs.Canvas.{color_of_module};
 ghost use Rattle.qrcode_grid.specs.Scoring.{byte_under, code_of, masked_code, AreDigits, plane, pattern_of};
 ghost use Rattle.qrcode_grid.specs.Penalty.{byte_of};
-ghost use Rattle.qrcode_grid.specs.Masks.{format_color, normal_format_color, masked_cells};
+ghost use Rattle.qrcode_grid.specs.Masks.{format_color, normal_format_color, masked_cells, IsOfFamily, format_word};
+ghost use Rattle.qrcode_grid.specs.Masks.{normal_number};
 ghost use Rattle.qrcode_grid.specs.Regions.{written, digit, digit_color};
+ghost use Rattle.qrcode_base.specs.Symbols.{IsSymbol};
+ghost use Rattle.qrcode_grid.specs.declared.canvas.MaskPattern.{MaskPattern};
 
-use crate::canvas::Module;
-use crate::canvas::conditions::write_stripes;
+use crate::canvas::masks::{word_of_format, write_stripes};
 use crate::canvas::regions::{FORMAT_FIRST, FORMAT_MICRO, color_of_digit, second_places};
-use qrcode_base::types::{Color, Version};
+use crate::canvas::{MaskPattern, Module};
+use qrcode_base::types::{Color, EcLevel, Version};
 
 /// A module as a byte: 1 where it is dark, and 2 more where a mask may invert it.
 fn code(old: Module) -> u8
@@ -193,4 +196,51 @@ pub fn write_candidates(
     write_stripes(width, stripes);
     mask_rows(modules, stripes, width, grid);
     write_formats(version, &format_digits(words), width, grid);
+}
+
+/// The number of a mask in Normal symbols.
+pub fn mask_number(pattern: MaskPattern) -> usize
+    ensures is { result ≡ normal_number pattern }
+    ensures small { result < 8 }
+{
+    match pattern {
+        MaskPattern::Checkerboard => 0,
+        MaskPattern::HorizontalLines => 1,
+        MaskPattern::VerticalLines => 2,
+        MaskPattern::DiagonalLines => 3,
+        MaskPattern::LargeCheckerboard => 4,
+        MaskPattern::Fields => 5,
+        MaskPattern::Diamonds => 6,
+        MaskPattern::Meadow => 7,
+    }
+}
+
+/// The format words of the masks of a version's family, by the numbers of the masks in Normal symbols.
+pub fn format_words(version: Version, level: EcLevel) -> [u32; 8]
+    requires { IsSymbol version level }
+    ensures { (p : MaskPattern) → IsOfFamily version p →
+        slice_index result (normal_number p) ≡ format_word version level p }
+{
+    match version {
+        Version::Normal(_) => [
+            word_of_format(version, level, MaskPattern::Checkerboard),
+            word_of_format(version, level, MaskPattern::HorizontalLines),
+            word_of_format(version, level, MaskPattern::VerticalLines),
+            word_of_format(version, level, MaskPattern::DiagonalLines),
+            word_of_format(version, level, MaskPattern::LargeCheckerboard),
+            word_of_format(version, level, MaskPattern::Fields),
+            word_of_format(version, level, MaskPattern::Diamonds),
+            word_of_format(version, level, MaskPattern::Meadow),
+        ],
+        Version::Micro(_) => [
+            0,
+            word_of_format(version, level, MaskPattern::HorizontalLines),
+            0,
+            0,
+            word_of_format(version, level, MaskPattern::LargeCheckerboard),
+            0,
+            word_of_format(version, level, MaskPattern::Diamonds),
+            word_of_format(version, level, MaskPattern::Meadow),
+        ],
+    }
 }

@@ -1,14 +1,13 @@
 //! The penalties of eight candidates at once. A grid is a list of bytes, a byte a module, and bit m of a byte is its
-//! colour in candidate m.
+//! colour in candidate m. Then the penalty of a Micro symbol by its modules: 1 where one is dark, 0 where it is light.
 ghost use Rattle.std.specs.Prelude.{◌≡◌, ℕ, ◌+◌, ◌*◌, ◌<◌, ◌≤◌, length, slice_index};
 ghost use Rattle.qrcode_grid.specs.Regions.{count_below};
-ghost use Rattle.qrcode_grid.specs.Penalty.{normal_penalty};
-ghost use Rattle.qrcode_grid.specs.declared.canvas.scoring.features.Feature.{Feature};
+ghost use Rattle.qrcode_grid.specs.Penalty.{normal_penalty, column, light_after_first, micro_penalty};
+ghost use Rattle.qrcode_grid.specs.declared.canvas.scoring.lists.Feature.{Feature};
 ghost use Rattle.qrcode_grid.specs.Scoring.{has, has_five, has_six, list_length, places, plane};
 
-use crate::canvas::scoring::features::Feature;
-use crate::canvas::scoring::lists::{write_edges, write_padded};
-use crate::canvas::scoring::tally::{count, count_runs};
+use crate::canvas::scoring::counting::{count, count_runs};
+use crate::canvas::scoring::lists::{Feature, write_edges, write_padded};
 
 /// What runs and finder-like patterns count: a run of n modules has n - 4 fives and n - 5 sixes, and counts n - 2.
 #[inline(always)]
@@ -93,4 +92,40 @@ pub fn penalties_of_normal(
         penalties[m] = rows[m] + columns[m] + 3 * squares[m] + balance;
     }
     penalties
+}
+
+/// Copies a column into a line.
+fn copy_column(width: usize, modules: &[u8], x: usize, line: &mut [u8])
+    requires square { length modules.now ≡ width * width }
+    requires wide { width ≤ 177 }
+    requires within { x < width }
+    requires long { length line.old ≡ width }
+    ensures { line.new ≡ column width modules.now x }
+{
+    for y in 0..width {
+        line[y] = modules[y * width + x];
+    }
+}
+
+/// How many modules of a line but its first are light.
+fn count_light(line: &[u8]) -> usize
+    requires { 0 < length line.now }
+    ensures { result ≡ light_after_first line.now }
+{
+    line[1..].iter().filter(|cell| **cell == 0).count()
+}
+
+/// The penalty of a Micro symbol.
+pub fn penalty_of_micro(width: usize, modules: &[u8]) -> usize
+    requires square { length modules.now ≡ width * width }
+    requires wide { (0 < width) × (width ≤ 177) }
+    ensures { result ≡ micro_penalty width modules.now }
+{
+    let last = width - 1;
+    let mut buffer = [0; 177];
+    let line = &mut buffer[..width];
+    copy_column(width, modules, last, line);
+    let h = count_light(&modules[last * width..last * width + width]);
+    let v = count_light(line);
+    16 * h.max(v) + h.min(v)
 }

@@ -1,0 +1,19 @@
+use Rattle.std.proofs.Common.{◌≡◌, ◌+◌, ◌*◌, ◌%◌, get_or, cond, ap, ◌∙◌, sym, arith, inl, inr}
+use Rattle.std.specs.Int.{bit_at}
+use Rattle.std.proofs.Math.Nat.{mul-le-mul_right}
+use Rattle.std.proofs.lemmas.Bool.{cases_lt}
+use Rattle.qrcode_grid.specs.Masks.{is_inverted}
+use Rattle.qrcode_grid.specs.Scoring.{pattern_of}
+use Rattle.qrcode_grid.proofs.Conditions.{is_inverted-repeats}
+use Rattle.qrcode_grid.proofs.canvas.masks.write_stripes.Goals as goal
+
+pub loop-y-preserved : goal.loop-y-preserved
+loop-y-preserved c = λ m x y b h l. elim (cases_lt y c.loop-y.y) [
+  | inl below ↦ ap (λ n. bit_at n m) (c.write_stripe.ensures.before (y * c.args.width + x) (omega (arith, mul-le-mul_right c.args.width below)))
+      ∙ c.loop-y.invariant m x y b h below
+  | inr above ↦
+      let same : c.loop-y.y ≡ y = omega arith in
+      ap (λ n. bit_at n m) (ap (λ r. get_or c.write_stripe.new.stripes (r * c.args.width + x) 0) (sym same) ∙ c.write_stripe.ensures.row x h)
+      ∙ c.first_conditions.ensures m (x % 6) b (omega arith)
+      ∙ ap (λ t. cond t 1 0) (sym (is_inverted-repeats (pattern_of m) x c.loop-y.y) ∙ ap (is_inverted (pattern_of m) x) same)
+]

@@ -1,0 +1,23 @@
+use Rattle.std.proofs.Common.{◌≡◌, ◌+◌, ◌*◌, ap, arith}
+use Rattle.qrcode_grid.specs.Regions.{count_below}
+use Rattle.qrcode_grid.specs.Scoring.{has_five, has_six, plane}
+use Rattle.qrcode_grid.proofs.MarkedLanes.{next_rows, count_few}
+use Rattle.qrcode_grid.proofs.canvas.scoring.counting.count_runs.Goals as goal
+
+pub loop-chunk-preserved : goal.loop-chunk-preserved
+loop-chunk-preserved c =
+    let from = 256 * c.loop-chunk.chunk in let s = c.args.step in let edges = c.args.edges.now in let rows = c.write_run_rows in
+    let end : from + 16 * 16 ≡ 256 * (c.loop-chunk.chunk + 1) = omega arith in
+    record {
+      small_fives = λ m h. omega (arith, c.loop-chunk.invariant.small_fives m h, c.add_rows-fives.ensures.small m h);
+      small_sixes = λ m h. omega (arith, c.loop-chunk.invariant.small_sixes m h, c.add_rows-sixes.ensures.small m h);
+      fives = λ m h.
+          let next = next_rows rows.new.five (λ m k. has_five s (plane m edges) k) from 16 rows.ensures.five m h in
+          omega (arith, c.loop-chunk.invariant.fives m h, c.add_rows-fives.ensures.more m h, next, ap (count_below (has_five s (plane m edges))) end);
+      sixes = λ m h.
+          let next = next_rows rows.new.six (λ m k. has_six s (plane m edges) k) from 16 rows.ensures.six m h in
+          omega (arith, c.loop-chunk.invariant.sixes m h, c.add_rows-sixes.ensures.more m h, next, ap (count_below (has_six s (plane m edges))) end);
+    }
+
+pub returns-clause-small : goal.returns-clause-small
+returns-clause-small c = grind (arith, count_few)

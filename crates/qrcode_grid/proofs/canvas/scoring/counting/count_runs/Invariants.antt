@@ -1,0 +1,13 @@
+-- The places of the chunks before this one are counted.
+use Rattle.std.proofs.Common.{◌≡◌, ◌<◌, ◌≤◌, ◌*◌, ℕ, get_or}
+use Rattle.qrcode_grid.specs.Regions.{count_below}
+use Rattle.qrcode_grid.specs.Scoring.{tallied, has_five, has_six, plane}
+use Rattle.qrcode_grid.proofs.canvas.scoring.counting.count_runs.Given as goal
+
+abbrev pub invariant-loop-chunk : goal.invariant-loop-chunk
+invariant-loop-chunk l = record {
+  small_fives : (m : ℕ) → m < 8 → get_or l.fives.sums m 0 ≤ 16 * l.chunk;
+  small_sixes : (m : ℕ) → m < 8 → get_or l.sixes.sums m 0 ≤ 16 * l.chunk;
+  fives : (m : ℕ) → m < 8 → tallied m l.fives ≡ count_below (has_five l.step (plane m l.edges)) (256 * l.chunk);
+  sixes : (m : ℕ) → m < 8 → tallied m l.sixes ≡ count_below (has_six l.step (plane m l.edges)) (256 * l.chunk);
+}
