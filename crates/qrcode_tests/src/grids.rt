@@ -1,6 +1,6 @@
 //! Grids of the product as the plain reader takes them, and a short sum of one.
-use plain_reader::{Level, Seen};
-use qrcode_core::types::{Color, EcLevel};
+use plain_reader::Seen;
+use qrcode_core::types::Color;
 use std::alloc::Global;
 
 /// The modules of a grid: `true` for a dark one.
@@ -15,16 +15,6 @@ pub(crate) fn modules_of(alloc: Global, grid: &[Color]) -> Option<Vec<bool>> {
 /// What the plain reader sees in a grid.
 pub(crate) fn read(alloc: Global, grid: &[Color]) -> Option<Seen> {
     plain_reader::read(alloc, &modules_of(alloc, grid)?)
-}
-
-/// The plain reader's word for a level.
-pub(crate) fn level_of(level: EcLevel) -> Level {
-    match level {
-        EcLevel::L => Level::L,
-        EcLevel::M => Level::M,
-        EcLevel::Q => Level::Q,
-        EcLevel::H => Level::H,
-    }
 }
 
 /// A hash of the modules (FNV-1a, a byte for each).

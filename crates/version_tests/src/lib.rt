@@ -1,0 +1,7 @@
+//! Tests of symbols of all versions and levels over `qrcode_core`, each read back by `plain_reader`.
+#![tactic(auto)]
+
+#[cfg(test)]
+mod read_back;
+#[cfg(test)]
+mod worked_symbols;

@@ -1,0 +1,104 @@
+//! Symbols as full as their version allows, in all versions at all levels.
+use plain_reader::{Level, Seen, Shape, blank_shape, data_count};
+use qrcode_core::symbol::{symbol, symbol_micro};
+use qrcode_core::types::{Color, EcLevel};
+use std::alloc::Global;
+use std::ops::Range;
+
+/// The levels, each with the plain reader's word for it.
+const LEVELS: [(EcLevel, Level); 4] = [
+    (EcLevel::L, Level::L),
+    (EcLevel::M, Level::M),
+    (EcLevel::Q, Level::Q),
+    (EcLevel::H, Level::H),
+];
+
+/// What the plain reader sees in the symbol of some bytes, or in their Micro symbol.
+pub(crate) fn seen(alloc: Global, bytes: &[u8], level: EcLevel, micro: bool) -> Option<Seen> {
+    let answer = if micro {
+        symbol_micro(alloc, bytes, level)
+    } else {
+        symbol(alloc, bytes, level)
+    };
+    let grid = answer.ok()?;
+    let dark = grid.iter().map(|color| *color == Color::Dark);
+    plain_reader::read(alloc, &dark.collect::<Vec<bool>>(alloc).ok()?)
+}
+
+/// Whether the symbol of as many bytes as a version holds is read as these bytes, at this version and level (which is given in
+/// both words).
+fn is_read_back(alloc: Global, shape: Shape, level: EcLevel, wanted: Level) -> bool {
+    let Some(room) = data_count(shape, wanted) else {
+        return shape.micro;
+    };
+    let bits = room.saturating_mul(8);
+    let header = match (shape.micro, shape.number) {
+        (true, number) => number.saturating_mul(2),
+        (false, 0..10) => 12,
+        (false, _) => 20,
+    };
+    if shape.micro && shape.number < 3 {
+        return true;
+    }
+    let missing = if shape.micro && shape.number == 3 {
+        4
+    } else {
+        0
+    };
+    let count = bits.saturating_sub(header).saturating_sub(missing) / 8;
+    let Ok(bytes) = vec![in alloc; 0xf1; count] else {
+        return false;
+    };
+    seen(alloc, &bytes, level, shape.micro).is_some_and(|seen| {
+        seen.shape == shape && seen.level == wanted && seen.bytes.as_slice() == bytes.as_slice()
+    })
+}
+
+/// The first of some versions that is not read back at some level.
+fn first_not_read_back(alloc: Global, versions: Range<usize>, micro: bool) -> Option<usize> {
+    for number in versions {
+        for (level, wanted) in LEVELS {
+            if !is_read_back(alloc, blank_shape(number, micro), level, wanted) {
+                return Some(number);
+            }
+        }
+    }
+    None
+}
+
+// All versions at all levels, in parts that `rt try --test` ends in its time.
+
+#[test]
+fn reads_versions_1_to_20_back(rt: HostRuntime) {
+    assert_eq!(rt; first_not_read_back(rt.alloc(), 1..21, false), None);
+}
+
+#[test]
+fn reads_versions_21_to_26_back(rt: HostRuntime) {
+    assert_eq!(rt; first_not_read_back(rt.alloc(), 21..27, false), None);
+}
+
+#[test]
+fn reads_versions_27_to_31_back(rt: HostRuntime) {
+    assert_eq!(rt; first_not_read_back(rt.alloc(), 27..32, false), None);
+}
+
+#[test]
+fn reads_versions_32_to_35_back(rt: HostRuntime) {
+    assert_eq!(rt; first_not_read_back(rt.alloc(), 32..36, false), None);
+}
+
+#[test]
+fn reads_versions_36_to_38_back(rt: HostRuntime) {
+    assert_eq!(rt; first_not_read_back(rt.alloc(), 36..39, false), None);
+}
+
+#[test]
+fn reads_versions_39_and_40_back(rt: HostRuntime) {
+    assert_eq!(rt; first_not_read_back(rt.alloc(), 39..41, false), None);
+}
+
+#[test]
+fn reads_micro_versions_back(rt: HostRuntime) {
+    assert_eq!(rt; first_not_read_back(rt.alloc(), 1..5, true), None);
+}
