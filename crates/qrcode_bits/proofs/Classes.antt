@@ -21,7 +21,8 @@ use Rattle.qrcode_bits.specs.Plans.{HasLinearCosts, IsChosenPlan, total_bits, Is
 use Rattle.qrcode_bits.specs.Plans.{IsClass, ClassesUpTo}
 use Rattle.qrcode_bits.specs.Frame.{Header, header_bits}
 use Rattle.qrcode_bits.specs.Stream.{Stream}
-use Rattle.qrcode_bits.specs.Push.{IsPlace, IsPlanStream, IsEncoding, IsUnencodable, IsLimit, IsEncodingRefused, IsPartRefused}
+use Rattle.qrcode_bits.specs.Push.{IsPlace, IsPlanStream, IsEncoding, IsUnencodable, IsEncodingRefused, IsPartRefused}
+use Rattle.qrcode_base.specs.Symbols.{IsNormalNumber}
 use Rattle.qrcode_bits.specs.Spelling.{LiesIn}
 use Rattle.qrcode_bits.proofs.Adjoining.{parsed-linear}
 use Rattle.qrcode_bits.proofs.Growth.{total_bits-rise, total_bits-same}
@@ -168,13 +169,13 @@ IsSearched front message l limit left = (before : ℕ) × ClassesUpTo before lef
 
 -- ---- Refusals
 
-pub refused_limit : (message : List ℕ) (l : EcLevel) (z : ℤ) (n : ℕ) (e : QrError) → IsLimit z → n ≡ nat_abs z → IsUnencodable normal 0 message l n e →
+pub refused_limit : (message : List ℕ) (l : EcLevel) (z : ℤ) (n : ℕ) (e : QrError) → IsNormalNumber z → n ≡ nat_abs z → IsUnencodable normal 0 message l n e →
     IsEncodingRefused message l z e
 refused_limit message l z n DataTooLong h same r = (h, subst (λ (k : ℕ). FitsNone normal 0 message l k) same r)
 refused_limit message l z n OutOfMemory h same r = (h, r)
 refused_limit message l z n other h same r = absurd r
 
-pub refused_part : (place total : ℕ) (message : List ℕ) (l : EcLevel) (z : ℤ) (n front : ℕ) (e : QrError) → IsLimit z →
+pub refused_part : (place total : ℕ) (message : List ℕ) (l : EcLevel) (z : ℤ) (n front : ℕ) (e : QrError) → IsNormalNumber z →
     IsPlace place total → n ≡ nat_abs z → front ≡ 20 →
     IsUnencodable normal front message l n e → IsPartRefused place total message l z e
 refused_part place total message l z n front DataTooLong h p same size r =
@@ -182,5 +183,5 @@ refused_part place total message l z n front DataTooLong h p same size r =
 refused_part place total message l z n front OutOfMemory h p same size r = (h, p, r)
 refused_part place total message l z n front other h p same size r = absurd r
 
-pub limit_of : (z y : ℤ) → y ≡ z → lt_z y (pos 1) ≡ false → lt_z (pos 40) y ≡ false → IsLimit z
+pub limit_of : (z y : ℤ) → y ≡ z → lt_z y (pos 1) ≡ false → lt_z (pos 40) y ≡ false → IsNormalNumber z
 limit_of z y e low high = grind arith

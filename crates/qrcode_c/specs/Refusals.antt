@@ -4,7 +4,7 @@ use Rattle.std.specs.List.Sorted.{IsNonDecreasing}
 use Rattle.qrcode_base.specs.declared.types.Color.{Color}
 use Rattle.qrcode_base.specs.declared.types.EcLevel.{EcLevel}
 use Rattle.qrcode_base.specs.declared.types.EcLevel.TheVariants.{H}
-use Rattle.qrcode_bits.specs.Push.{IsLimit}
+use Rattle.qrcode_base.specs.Symbols.{IsNormalNumber}
 use Rattle.qrcode_core.specs.Drawn.{DrawnSymbol, modules_of}
 use Rattle.qrcode_core.specs.Headline.{IsBestSymbol, IsBestMicroSymbol, IsTooLong, IsTooLongForMicro}
 use Rattle.qrcode_core.specs.Sequence.{AreBestSymbols, IsTotal, IsSomePartTooLong}
@@ -49,7 +49,7 @@ AreCuts cuts end = IsNonDecreasing cuts × All (λ cut. cut ≤ end) cuts
 pub record IsAsked (message cuts : List ℕ) (limit : ℤ) (index : ℕ) : Type 0 where
   pub cuts_good : AreCuts cuts (length message)
   pub is_part : index ≤ length cuts
-  pub is_limit : IsLimit limit
+  pub is_limit : IsNormalNumber limit
 
 -- Of the best symbols for the message, the one at the index has more modules than there is room for.
 pub record IsPartAbove (room : ℕ) (message cuts : List ℕ) (level : EcLevel) (limit : ℤ) (index : ℕ) : Type 0 where
@@ -67,7 +67,7 @@ IsPartRefusal message cuts number limit index room InvalidCuts =
 IsPartRefusal message cuts number limit index room InvalidIndex =
     AtLevel number (λ level. AreCuts cuts (length message) × (length cuts < index))
 IsPartRefusal message cuts number limit index room InvalidMaxVersion =
-    AtLevel number (λ level. AreCuts cuts (length message) × (index ≤ length cuts) × (IsLimit limit → ⊥))
+    AtLevel number (λ level. AreCuts cuts (length message) × (index ≤ length cuts) × (IsNormalNumber limit → ⊥))
 IsPartRefusal message cuts number limit index room InvalidPartCount =
     AtLevel number (λ level. IsAsked message cuts limit index × (IsTotal (length cuts + 1) → ⊥))
 IsPartRefusal message cuts number limit index room DataTooLong =

@@ -1,7 +1,7 @@
 //! Symbols in a caller's buffer.
 ghost use Rattle.std.specs.Prelude.{◌≡◌, ◌<◌, ◌≤◌, ◌++◌, length, map, drop, OnErr, IfOk, IfErr, IfSome, IfNone};
 ghost use Rattle.qrcode_core.specs.Headline.{IsBestSymbol, IsBestMicroSymbol};
-ghost use Rattle.qrcode_bits.specs.Push.{IsLimit};
+ghost use Rattle.qrcode_base.specs.Symbols.{IsNormalNumber};
 ghost use Rattle.qrcode_grid.specs.Penalty.{byte_of};
 ghost use Rattle.qrcode_c.specs.Holding.{Holds, HoldsBest, HoldsPart};
 ghost use Rattle.qrcode_c.specs.Levels.{number_of, IsNoLevel};
@@ -105,8 +105,8 @@ fn level_of(number: i32) -> Option<EcLevel>
 
 /// The greatest version that a number names.
 fn limit_of(number: i32) -> Option<i16>
-    ensures limit { IfSome result (λ limit. (limit ≡ number) × IsLimit limit) }
-    ensures none { IfNone result (IsLimit number → ⊥) }
+    ensures limit { IfSome result (λ limit. (limit ≡ number) × IsNormalNumber limit) }
+    ensures none { IfNone result (IsNormalNumber number → ⊥) }
 {
     if number < 1 || number > 40 {
         return None;

@@ -5,13 +5,14 @@ use Rattle.qrcode_base.specs.declared.types.EcLevel.{EcLevel}
 use Rattle.qrcode_base.specs.declared.types.Version.TheVariants.{Normal}
 use Rattle.qrcode_base.specs.declared.types.errors.QrError.{QrError}
 use Rattle.qrcode_base.specs.declared.types.errors.QrError.TheVariants.{DataTooLong, InvalidResourceLimits, OutOfMemory}
-use Rattle.qrcode_bits.specs.Push.{IsLimit, IsEncodingRefused}
+use Rattle.qrcode_bits.specs.Push.{IsEncodingRefused}
+use Rattle.qrcode_base.specs.Symbols.{IsNormalNumber}
 use Rattle.qrcode_core.specs.declared.limits.ResourceLimits.{ResourceLimits}
 use Rattle.qrcode_core.specs.Limits.{IsBudget, IsBestWithin, IsTooLongWithin, IsLimitedRefusal}
 use Rattle.qrcode_core.specs.Headline.{IsBestSymbol}
 
 -- the number of a limit is at most 40
-pub few_versions : (z : ℤ) → IsLimit z → nat_abs z ≤ 40
+pub few_versions : (z : ℤ) → IsNormalNumber z → nat_abs z ≤ 40
 few_versions z h = grind arith
 
 pub limited_refusal : (limits : ResourceLimits) (bytes : List ℕ) (level : EcLevel) (n : ℤ) → limits.max_version ≡ Normal n → IsBudget limits →

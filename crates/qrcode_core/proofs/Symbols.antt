@@ -10,7 +10,8 @@ use Rattle.qrcode_base.specs.declared.types.Color.{Color}
 use Rattle.qrcode_base.specs.declared.types.EcLevel.{EcLevel}
 use Rattle.qrcode_base.specs.declared.types.errors.QrError.{QrError}
 use Rattle.qrcode_base.specs.declared.types.errors.QrError.TheVariants.{DataTooLong, InvalidResourceLimits}
-use Rattle.qrcode_bits.specs.Push.{IsLimit, IsPartRefused}
+use Rattle.qrcode_bits.specs.Push.{IsPartRefused}
+use Rattle.qrcode_base.specs.Symbols.{IsNormalNumber}
 use Rattle.qrcode_bits.proofs.Reading.{length-header}
 use Rattle.qrcode_core.specs.Sequence.{ReadsMessage, header_at, parts_at, IsTotal, IsPartSymbol, AreBestSymbols, IsSomePartTooLong, IsSequenceRefusal}
 use Rattle.qrcode_core.proofs.OneMessage.{in_any_order, one_message, length-parts, parts_whole}
@@ -58,7 +59,7 @@ best_symbols message cuts level limit total done grids rise few count all first 
     }
 
 -- A part that is refused for its length or for memory refuses the sequence so; the limit and the header are no reason.
-pub refused_part : (message cuts : List ℕ) (level : EcLevel) (limit : ℤ) (total i : ℕ) (e : QrError) → IsLimit limit → IsTotal total →
+pub refused_part : (message cuts : List ℕ) (level : EcLevel) (limit : ℤ) (total i : ℕ) (e : QrError) → IsNormalNumber limit → IsTotal total →
     total ≡ length cuts + 1 → i < total →
     IsPartRefused (i + 1) total (get_or (parts_at cuts message) i []) level limit e → IsSequenceRefusal message cuts level limit e
 refused_part message cuts level limit total i InvalidResourceLimits in_range few count inside why = absurd (why in_range)

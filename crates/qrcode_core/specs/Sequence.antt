@@ -8,7 +8,7 @@ use Rattle.qrcode_base.specs.declared.types.errors.QrError.{QrError}
 use Rattle.qrcode_base.specs.declared.types.errors.QrError.TheVariants.{DataTooLong, InvalidResourceLimits}
 use Rattle.qrcode_base.specs.declared.types.errors.QrError.TheVariants.{InvalidStructuredAppend, OutOfMemory}
 use Rattle.qrcode_bits.specs.Plans.{normal, FitsNone}
-use Rattle.qrcode_bits.specs.Push.{IsLimit}
+use Rattle.qrcode_base.specs.Symbols.{IsNormalNumber}
 use Rattle.qrcode_bits.specs.Frame.{Header, header}
 use Rattle.qrcode_core.specs.Headline.{IsBest, Reading, Reads}
 
@@ -90,10 +90,10 @@ IsSomePartTooLong message cuts level limit =
 
 -- The limit is tested first, then the number of symbols. Of a want of memory nothing more is said.
 abbrev pub IsSequenceRefusal : List ℕ → List ℕ → EcLevel → ℤ → QrError → Type 0
-IsSequenceRefusal message cuts level limit InvalidResourceLimits = IsLimit limit → ⊥
+IsSequenceRefusal message cuts level limit InvalidResourceLimits = IsNormalNumber limit → ⊥
 IsSequenceRefusal message cuts level limit (InvalidStructuredAppend value) =
-    IsLimit limit × (IsTotal (length cuts + 1) → ⊥) × (value ≡ min (length cuts + 1) 255)
+    IsNormalNumber limit × (IsTotal (length cuts + 1) → ⊥) × (value ≡ min (length cuts + 1) 255)
 IsSequenceRefusal message cuts level limit DataTooLong =
-    IsLimit limit × IsTotal (length cuts + 1) × IsSomePartTooLong message cuts level (nat_abs limit)
-IsSequenceRefusal message cuts level limit OutOfMemory = IsLimit limit × IsTotal (length cuts + 1)
+    IsNormalNumber limit × IsTotal (length cuts + 1) × IsSomePartTooLong message cuts level (nat_abs limit)
+IsSequenceRefusal message cuts level limit OutOfMemory = IsNormalNumber limit × IsTotal (length cuts + 1)
 IsSequenceRefusal message cuts level limit other = ⊥

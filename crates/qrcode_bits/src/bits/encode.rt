@@ -13,7 +13,8 @@ ghost use Rattle.qrcode_base.specs.Symbols.{HasMicroNumber};
 ghost use Rattle.qrcode_bits.specs.Parsing.{parsed};
 ghost use Rattle.qrcode_bits.specs.Plans.{IsChosenPlan, Fits, FitsNot, FitsNone, normal, micro, IsMinVersion, IsClass};
 ghost use Rattle.qrcode_bits.specs.Plans.{ClassesUpTo};
-ghost use Rattle.qrcode_bits.specs.Push.{IsPlanStream, IsEncoding, IsUnencodable, IsLimit, IsEncodingRefused};
+ghost use Rattle.qrcode_bits.specs.Push.{IsPlanStream, IsEncoding, IsUnencodable, IsEncodingRefused};
+ghost use Rattle.qrcode_base.specs.Symbols.{IsNormalNumber};
 ghost use Rattle.qrcode_bits.specs.Push.{IsMicroRefused, IsPartRefused};
 ghost use Rattle.qrcode_bits.specs.Frame.{HasHeader, header_bits, header};
 
@@ -56,7 +57,7 @@ pub fn encode_auto_with_max_version(
 ) -> QrResult<Bits>
     ensures ok { IfOk result (λ bits.
         IsEncoding normal None bytes.now level (nat_abs max_version) bits) }
-    ensures limit { OnOk result (IsLimit max_version) }
+    ensures limit { OnOk result (IsNormalNumber max_version) }
     ensures err { IfErr result (λ e. IsEncodingRefused bytes.now level max_version e) }
 {
     if max_version < 1 || max_version > 40 {
@@ -89,7 +90,7 @@ pub fn encode_part(
     ensures ok { IfOk result (λ bits.
         IsEncoding normal (Some (header position total parity)) bytes.now level
         (nat_abs max_version) bits) }
-    ensures limit { OnOk result (IsLimit max_version) }
+    ensures limit { OnOk result (IsNormalNumber max_version) }
     ensures err { IfErr result (λ e. IsPartRefused position total bytes.now level max_version e) }
 {
     if max_version < 1 || max_version > 40 {

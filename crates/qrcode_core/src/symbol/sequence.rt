@@ -2,7 +2,8 @@
 ghost use Rattle.std.specs.Prelude.{◌≡◌, ◌+◌, ◌≤◌, [], length, map, nat_abs, slice_index_or, All, OnOk, IfOk, IfErr};
 ghost use Rattle.std.specs.Prelude.{IsTrue, vec_items};
 ghost use Rattle.std.specs.List.Sorted.{IsNonDecreasing};
-ghost use Rattle.qrcode_bits.specs.Push.{IsLimit, IsPartRefused};
+ghost use Rattle.qrcode_bits.specs.Push.{IsPartRefused};
+ghost use Rattle.qrcode_base.specs.Symbols.{IsNormalNumber};
 ghost use Rattle.qrcode_bits.specs.Frame.{header};
 ghost use Rattle.qrcode_core.specs.Drawn.{TellsReading, modules_of};
 ghost use Rattle.qrcode_core.specs.Sequence.{parity_of, parts_at, IsPartSymbol, AreBestSymbols, IsSomePartTooLong};
@@ -42,7 +43,7 @@ impl Symbol {
         ensures reading { IfOk result (λ symbols. All TellsReading symbols.items) }
         ensures fitting { OnOk result (IsSomePartTooLong bytes.now cuts.now level
             (nat_abs max_version) → ⊥) }
-        ensures limit { OnOk result (IsLimit max_version) }
+        ensures limit { OnOk result (IsNormalNumber max_version) }
         ensures refused { IfErr result (IsSequenceRefusal bytes.now cuts.now level max_version) }
     {
         if max_version < 1 || max_version > 40 {
@@ -101,7 +102,7 @@ pub fn symbol_sequence(
         AreBestSymbols bytes.now cuts.now level (nat_abs max_version) (map vec_items grids.items)) }
     ensures fitting { OnOk result (IsSomePartTooLong bytes.now cuts.now level
         (nat_abs max_version) → ⊥) }
-    ensures limit { OnOk result (IsLimit max_version) }
+    ensures limit { OnOk result (IsNormalNumber max_version) }
     ensures refused { IfErr result (IsSequenceRefusal bytes.now cuts.now level max_version) }
 {
     match Symbol::sequence(alloc, bytes, cuts, level, max_version) {

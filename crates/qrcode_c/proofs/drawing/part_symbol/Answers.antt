@@ -3,7 +3,7 @@ use Rattle.std.specs.Prelude.{map, nat_abs, ℤ}
 use Rattle.std.proofs.Common.{◌≡◌, ◌∙◌, subst, sym, w16, w32, to_z, of_z, rules, arith}
 use Rattle.std.proofs.lemmas.Int.{to_z-of_z, ints}
 use Rattle.qrcode_base.specs.declared.types.errors.QrError.{QrError}
-use Rattle.qrcode_bits.specs.Push.{IsLimit}
+use Rattle.qrcode_base.specs.Symbols.{IsNormalNumber}
 use Rattle.qrcode_core.specs.Drawn.{modules_of}
 use Rattle.qrcode_core.specs.Sequence.{AreBestSymbols, IsSequenceRefusal}
 use Rattle.qrcode_c.specs.Levels.{number_of}
@@ -12,7 +12,7 @@ use Rattle.qrcode_c.proofs.Answering.{part_held, part_above, short_refused}
 use Rattle.qrcode_c.proofs.drawing.part_symbol.Goals as goal
 
 -- a limit is the same number in 16 bits as in 32
-same_limit : (number limit : ℤ) → limit ≡ to_z w32 (of_z w32 number) → to_z w32 (of_z w32 number) ≡ number → IsLimit limit →
+same_limit : (number limit : ℤ) → limit ≡ to_z w32 (of_z w32 number) → to_z w32 (of_z w32 number) ≡ number → IsNormalNumber limit →
     to_z w16 (of_z w16 limit) ≡ number
 same_limit number limit is wide low =
     let narrow : to_z w16 (of_z w16 limit) ≡ limit = search (arith, ints, to_z-of_z, low) in narrow ∙ is ∙ wide
