@@ -3,7 +3,7 @@
 use Rattle.std.specs.Prelude.{◌≢◌, ◌⊎◌, ℕ, Bool, List, ◌++◌, [], ◌∷◌, Option, codes, Result, Ok, Err, ◌≡◌, ◌↔◌, IsTrue}
 use Rattle.std.specs.Prelude.{IsErrOf, true, false}
 use Rattle.std.specs.Io.KnownBytes.{Keeps, Appends}
-use Rattle.qrcode_core.specs.ErrorTexts.{error_text}
+use Rattle.qrcode_core.specs.Names.{error_text}
 use Rattle.qrcode_core.specs.declared.types.errors.QrError.TheVariants.{OutOfMemory}
 use Rattle.programs.specs.declared.fault.Fault.{Fault}
 use Rattle.programs.specs.declared.fault.Fault.TheVariants.{Symbol, Read, Write}
