@@ -123,8 +123,12 @@ same_class n m q2 = grind arith
 
 chosen_same : (segments plan : List Segment) (n m : ℕ) → 1 ≤ n → 1 ≤ m → SameClass n m → IsChosenPlan segments (normal n) plan →
     IsChosenPlan segments (normal m) plan
-chosen_same segments plan n m h k class w = record { cuts = w.cuts; chosen =
-    chosen-same segments n m (length segments) w.cuts h k class w.chosen; merges = w.merges }
+chosen_same segments plan n m h k class w = record {
+  cuts = w.cuts;
+  chosen =
+      chosen-same segments n m (length segments) w.cuts h k class w.chosen;
+  merges = w.merges;
+}
 
 -- a version that holds the bits of a plan fits it, if it is a Normal one
 pub fits_normal : (front n c : ℕ) (message : List ℕ) (l : EcLevel) (plan : List Segment) → IsMergePlan message plan → capacity (normal n) l ≡ Some c →

@@ -103,7 +103,7 @@ module _ (bytes : List ℕ) (begin : ℕ) (within : begin < length bytes) where
       IsRun bytes class begin end → IsRun bytes class begin (end + 1)
   alone_more end number next below other is next_is same run =
       let equal : class_of (get_or bytes end 0) ≡ class = sym (numbered-is (get_or bytes end 0) next next_is)
-          ∙ numbered-is (get_or bytes begin 0) next (same ∙ is) in
+      ∙ numbered-is (get_or bytes begin 0) next (same ∙ is) in
       let one = class_of-one (get_or bytes begin 0) in
       let unit : units (drop end bytes) ≡ class ∷ units (drop (end + class_size class) bytes) =
       units_other bytes end below (λ lone. other (sym equal ∙ lone))
@@ -128,10 +128,10 @@ module _ (bytes : List ℕ) (begin : ℕ) (within : begin < length bytes) where
 pub lone_stops : (bytes : List ℕ) (begin : ℕ) → begin < length bytes → class_of (get_or bytes begin 0) ≡ LoneLead →
     units (drop begin bytes) ≡ class_of (get_or bytes begin 0) ∷ units (drop (begin + 1) bytes) →
     parsed_from begin (drop begin bytes) ≡ record { mode = class_mode LoneLead; begin = begin; end = begin + 1 } ∷ parsed_from
-        (begin + 1) (drop (begin + 1) bytes)
+    (begin + 1) (drop (begin + 1) bytes)
 lone_stops bytes begin within lone unit =
     run_stops bytes LoneLead begin (begin + 1) (Run-first bytes LoneLead begin 1 refl
-        (unit ∙ ap (λ (d : Class). d ∷ units (drop (begin + 1) bytes)) lone)) (λ w.
+    (unit ∙ ap (λ (d : Class). d ∷ units (drop (begin + 1) bytes)) lone)) (λ w.
     let n = next_unit bytes (begin + 1) w in (n.0, lone_apart n.0, n.2))
 
 pub pair_more : (bytes : List ℕ) (begin end : ℕ) → units (drop end bytes) ≡ Pair ∷ units (drop (end + 2) bytes) → IsRun bytes Pair begin end →

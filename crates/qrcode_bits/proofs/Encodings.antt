@@ -23,7 +23,7 @@ use Rattle.qrcode_bits.proofs.PlanFrames.{spelled_plan, plan_frame}
 
 module _ (header : Option Header) (bytes : List ℕ) (are : All (λ c. c < 256) bytes) (v : Version) (level : EcLevel) (plan : List Segment)
     (fits : Fits (length (header_bits header)) bytes v level plan) (start : Stream) (begun : start.bits ≡ header_bits header)
-        (version : start.version ≡ v) where
+    (version : start.version ≡ v) where
   abbrev pieces : List Piece
   pieces = segment_pieces bytes plan
 
@@ -47,7 +47,7 @@ module _ (header : Option Header) (bytes : List ℕ) (are : All (λ c. c < 256) 
       IsPlanStream header bytes v level plan last
   plan_stream middle last has modes w e =
       let same : e.limit ≡ fits.limit = some_same e.limit fits.limit (capacity v level)
-          (subst (λ (u : Version). capacity u level ≡ Some e.limit) (pushed_version middle w) e.limit_is) fits.has_level in
+      (subst (λ (u : Version). capacity u level ≡ Some e.limit) (pushed_version middle w) e.limit_is) fits.has_level in
       let bits : last.bits ≡ ended v fits.limit (header_bits header ++ spellings v pieces) =
       e.ends.bits_are ∙ (ap (λ (u : Version). ended u e.limit middle.bits) (pushed_version middle w)
       ∙ (ap (λ (n : ℕ). ended v n middle.bits) same ∙ ap (λ (z : List Bool). ended v fits.limit z) (pushed_bits middle w))) in

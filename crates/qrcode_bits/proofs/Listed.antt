@@ -33,6 +33,8 @@ module _ {S : Type 0} {steps : S → Option Segment → S → Type 0} (s : S) (a
       let rest : List Segment = drop (length xs) all in
       let whole : xs ++ rest ≡ all = ap (λ (z : List Segment). z ++ rest) (given_so_far (IsOk failed) xs h) ∙ take-append-drop (length xs) all in
       let pieces : segment_pieces bytes xs ++ segment_pieces bytes rest ≡ segment_pieces bytes all =
-      sym (map-append (segment_piece bytes) xs rest) ∙ ap (λ (z : List Segment). segment_pieces bytes z) whole in
-      (segment_pieces bytes rest, subst (λ (z : List Piece). StopsAt old new z (segment_pieces bytes rest) e) pieces
-          (stops_longer old new (segment_pieces bytes xs) (segment_pieces bytes rest) e w))
+      sym (map-append (segment_piece bytes) xs rest) ∙ ap (λ (z : List Segment). segment_pieces bytes z) whole in (
+        segment_pieces bytes rest,
+        subst (λ (z : List Piece). StopsAt old new z (segment_pieces bytes rest) e) pieces
+            (stops_longer old new (segment_pieces bytes xs) (segment_pieces bytes rest) e w),
+      )

@@ -57,8 +57,16 @@ module _ (v : Version) (whole : List ℕ) where
       CountsFit v ss → AreSpelled v (segment_pieces whole ss)
   texts-spelled from to [] h k has counted = tt
   texts-spelled from to (s ∷ ss) h k has counted =
-      grind (arith, common_steps, own, All-head, non_empty, All-tail, texts-spelled s.end to ss h.3 k
-          (All-tail (λ part. HasMode v part.mode) s ss has) counted.1)
+      grind (
+        arith,
+        common_steps,
+        own,
+        All-head,
+        non_empty,
+        All-tail,
+        texts-spelled s.end to ss h.3 k
+            (All-tail (λ part. HasMode v part.mode) s ss has) counted.1,
+      )
 
 -- ---- The frame of a plan
 

@@ -81,7 +81,7 @@ got_within s i x h = grind (arith, slice_get_past)
 none_invalid : (piece : Piece) (position byte : ℕ) → IsValid piece.mode piece.text → IsFirstInvalid (IsValid piece.mode) piece.text position byte → ⊥
 none_invalid piece position byte valid h =
     h.longest (length piece.text) (got_within piece.text position byte h.byte_is) (omega arith)
-        (subst (λ (z : List ℕ). IsValid piece.mode z) (sym (take-length piece.text)) valid)
+    (subst (λ (z : List ℕ). IsValid piece.mode z) (sym (take-length piece.text)) valid)
 
 -- a piece that can be spelled is refused for memory alone
 pub spellable_refused : (old : Stream) (piece : Piece) (e : QrError) → IsSpellable old.version piece → IsRefused old piece e → e ≡ OutOfMemory

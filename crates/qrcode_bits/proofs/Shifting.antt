@@ -56,10 +56,16 @@ replaced bytes text whole filled start is from = grind (arith, take-append_seam,
 pub appends_shifted : (old : Stream) (bytes now text filled : List ℕ) (len len' cap cap' used partial left : ℕ) → old.bits ≡ kept_bits bytes used partial →
     old.room ≡ room_in cap len used →
     now ≡ bytes ++ filled → len' ≡ len + length text → cap ≤ cap' → used < 8 → ((k : ℕ) → slice_index_or text k 0 < 2 ^ 8) →
-        AreShifted used partial text filled →
+    AreShifted used partial text filled →
     left ≡ slice_index_or (partial ∷ text) (length text) 0 % 2 ^ used →
-    Appends old (record { bits = kept_bits now used left; version = old.version; modes = old.modes; payload = old.payload; room =
-        room_in cap' len' used }) (byte_bits text)
+    Appends old (record {
+      bits = kept_bits now used left;
+      version = old.version;
+      modes = old.modes;
+      payload = old.payload;
+      room =
+          room_in cap' len' used;
+    }) (byte_bits text)
 appends_shifted old bytes now text filled len len' cap cap' used partial left bits room is longer grows part small are last =
     grind (arith, common_steps, length-byte_bits, flat_map-append, append_assoc, number_bits-mod, shifted_bits)
 
@@ -74,12 +80,12 @@ pub five_bytes_are : (n : ℕ) →
 five_bytes_are n =
     let last : number_bits 8 (bit_and n 255) ++ [] ≡ number_bits 8 n = append-nil (number_bits 8 (bit_and n 255)) ∙ low_byte n in
     let two : number_bits 8 (bit_and (n / 2 ^ 8) 255) ++ (number_bits 8 (bit_and n 255) ++ []) ≡ number_bits 16 n =
-        rw (low_byte (n / 2 ^ 8), last) (sym (number_bits-cut 8 8 n)) in
+    rw (low_byte (n / 2 ^ 8), last) (sym (number_bits-cut 8 8 n)) in
     let three : number_bits 8 (bit_and (n / 2 ^ 16) 255) ++ (number_bits 8 (bit_and (n / 2 ^ 8) 255)
-        ++ (number_bits 8 (bit_and n 255) ++ [])) ≡ number_bits 24 n =
+    ++ (number_bits 8 (bit_and n 255) ++ [])) ≡ number_bits 24 n =
     rw (low_byte (n / 2 ^ 16), two) (sym (number_bits-cut 8 16 n)) in
     let four : number_bits 8 (bit_and (n / 2 ^ 24) 255) ++ (number_bits 8 (bit_and (n / 2 ^ 16) 255)
-        ++ (number_bits 8 (bit_and (n / 2 ^ 8) 255) ++ (number_bits 8 (bit_and n 255) ++ []))) ≡ number_bits 32 n =
+    ++ (number_bits 8 (bit_and (n / 2 ^ 8) 255) ++ (number_bits 8 (bit_and n 255) ++ []))) ≡ number_bits 32 n =
     rw (low_byte (n / 2 ^ 24), three) (sym (number_bits-cut 8 24 n)) in
     ap (λ (z : List Bool). number_bits 8 (n / 2 ^ 32) ++ z) four ∙ sym (number_bits-cut 8 32 n)
 
@@ -105,8 +111,14 @@ kept_five old five used partial left n wide part small whole bytes is =
 pub appends_five : (old : Stream) (bytes now five : List ℕ) (len len' cap cap' used partial left n wide : ℕ) → old.bits ≡ kept_bits bytes used partial →
     old.room ≡ room_in cap len used →
     now ≡ bytes ++ five → len' ≡ len + 5 → cap ≤ cap' → used < 8 → n < 2 ^ 40 → wide ≡ partial * 2 ^ 40 + n →
-        byte_bits five ≡ number_bits 40 (wide / 2 ^ used) → left ≡ bit_and n 255 % 2 ^ used →
-    Appends old (record { bits = kept_bits now used left; version = old.version; modes = old.modes; payload = old.payload; room =
-        room_in cap' len' used }) (number_bits 40 n)
+    byte_bits five ≡ number_bits 40 (wide / 2 ^ used) → left ≡ bit_and n 255 % 2 ^ used →
+    Appends old (record {
+      bits = kept_bits now used left;
+      version = old.version;
+      modes = old.modes;
+      payload = old.payload;
+      room =
+          room_in cap' len' used;
+    }) (number_bits 40 n)
 appends_five old bytes now five len len' cap cap' used partial left n wide bits room is longer grows part small whole are last =
     grind (arith, common_steps, kept_five, length-number_bits)

@@ -48,8 +48,12 @@ shifted-low w cost x cand h e = omega arith
 -- The best start of the buckets so far, or none where these have no start.
 pub record IsSought (segments : List Segment) (version : Version) (end tried best : ℕ) (mode : Mode) : Type 0 where
   pub found : best < 2 ^ 60 →
-      IsTried segments version end tried (record { mode = mode; begin = (segment_at segments (start_told 0 best).start).begin; end =
-          (segment_at segments (end - 1)).end }) (start_told 0 best)
+      IsTried segments version end tried (record {
+        mode = mode;
+        begin = (segment_at segments (start_told 0 best).start).begin;
+        end =
+            (segment_at segments (end - 1)).end;
+      }) (start_told 0 best)
   pub none : 2 ^ 60 ≤ best → (i t : ℕ) → i < tried → InBucket segments end end (bucket_mode i) i t → ⊥
 
 module _ (segments : List Segment) (version : Version) (end : ℕ) (within : end ≤ length segments) (linear : HasLinearCosts segments version) where
@@ -60,10 +64,17 @@ module _ (segments : List Segment) (version : Version) (end : ℕ) (within : end
   pub sought-last : (best : ℕ) (mode : Mode) → 0 < end → IsSought segments version end 8 best mode →
       IsStep segments version end (step_told segments end (record { word = best; mode = mode }))
   sought-last best mode some h = elim (cases_lt best (2 ^ 60)) [
-    | inl small ↦ Tried-all segments version end within linear (record { mode = mode; begin = (segment_at segments (start_told 0 best).start).begin; end =
-        last_end }) (start_told 0 best) some (h.found small)
-    | inr great ↦ absurd (grind (arith, h.none great (bucket_of (part_mode segments 0 end) (segment_at segments 0).begin) 0,
-        bucket_of-is (part_mode segments 0 end) (segment_at segments 0).begin))
+    | inl small ↦ Tried-all segments version end within linear (record {
+      mode = mode;
+      begin = (segment_at segments (start_told 0 best).start).begin;
+      end =
+          last_end;
+    }) (start_told 0 best) some (h.found small)
+    | inr great ↦ absurd (grind (
+      arith,
+      h.none great (bucket_of (part_mode segments 0 end) (segment_at segments 0).begin) 0,
+      bucket_of-is (part_mode segments 0 end) (segment_at segments 0).begin,
+    ))
   ]
 
   -- the rest of a bucket with a start is no more than the end
@@ -83,7 +94,7 @@ module _ (segments : List Segment) (version : Version) (end : ℕ) (within : end
         let here : slot (group_of (bucket_mode j) groups) j ≡ Some found =
         ap (λ m. slot (group_of m groups) j) (sym mode-is) ∙ (sym at ∙ some_start j w small) in
         subst (IsBestStart segments version (bucket_mode j) (InBucket segments end end (bucket_mode j) j)) here
-            ((group-right (bucket_mode j) groups grouped).1 j (has-own j inside))
+        ((group-right (bucket_mode j) groups grouped).1 j (has-own j inside))
 
     abbrev begin : ℕ
     begin = (segment_at segments found.start).begin
@@ -96,7 +107,7 @@ module _ (segments : List Segment) (version : Version) (end : ℕ) (within : end
 
     both : (8192 * period_bits (bucket_mode j) ≤ w / 2 ^ 26 + cost)
         × (w / 2 ^ 26 + cost - 8192 * period_bits (bucket_mode j) ≡ bits_before segments version found.start +
-            (head + data_bits (bucket_mode j) (characters (bucket_mode j) (last_end - begin))))
+        (head + data_bits (bucket_mode j) (characters (bucket_mode j) (last_end - begin))))
     both = word-cost (bucket_mode j) (w / 2 ^ 26) cost head begin (bucket_rest j) last_end (bits_before segments version found.start) found-best.0.rest
         (let b = found-best.0.below in linear.ordered found.start (end - 1) (omega arith) (omega arith)) found-best.1.bits costs
 
@@ -138,7 +149,7 @@ module _ (segments : List Segment) (version : Version) (end : ℕ) (within : end
           IsTried segments version end (j + 1) (part_here (start_told 0 cand).start) (start_told 0 cand)
       leads-here leads =
           subst (λ (s : ℕ). IsTried segments version end (j + 1) (part_here s)
-              (record { bits = cand / 2 ^ 26 + 0; parts = cand % 2 ^ 26 / 2 ^ 13; start = s })) start-is
+          (record { bits = cand / 2 ^ 26 + 0; parts = cand % 2 ^ 26 / 2 ^ 13; start = s })) start-is
           (Tried-leads segments version end within linear j found found-best here (cand / 2 ^ 26 + 0) (cand % 2 ^ 26 / 2 ^ 13) whole-is counted numbered leads)
 
       module _ (best : ℕ) (best_mode : Mode) (before : IsSought segments version end j best best_mode) where
@@ -150,18 +161,18 @@ module _ (segments : List Segment) (version : Version) (end : ℕ) (within : end
           found = λ small. Tried-keeps segments version end within linear j found found-best here (cand / 2 ^ 26 + 0)
               (cand % 2 ^ 26 / 2 ^ 13) whole-is counted numbered best_part (start_told 0 best) (before.found small)
               (subst (λ (s : ℕ). IsNoWorse (start_told 0 best).bits (start_told 0 best).parts (start_told 0 best).start (cand / 2 ^ 26 + 0)
-                  (cand % 2 ^ 26 / 2 ^ 13) s) (sym start-is) (word-ahead 0 best cand h));
+              (cand % 2 ^ 26 / 2 ^ 13) s) (sym start-is) (word-ahead 0 best cand h));
           none = λ great. absurd (let s = small-here in omega arith);
         }
 
         takes-some : cand ≤ best → best < 2 ^ 60 → IsTried segments version end (j + 1) (part_here (start_told 0 cand).start) (start_told 0 cand)
         takes-some h small =
             subst (λ (s : ℕ). IsTried segments version end (j + 1) (part_here s)
-                (record { bits = cand / 2 ^ 26 + 0; parts = cand % 2 ^ 26 / 2 ^ 13; start = s })) start-is
+            (record { bits = cand / 2 ^ 26 + 0; parts = cand % 2 ^ 26 / 2 ^ 13; start = s })) start-is
             (Tried-takes segments version end within linear j found found-best here (cand / 2 ^ 26 + 0)
-                (cand % 2 ^ 26 / 2 ^ 13) whole-is counted numbered best_part (start_told 0 best) (before.found small)
+            (cand % 2 ^ 26 / 2 ^ 13) whole-is counted numbered best_part (start_told 0 best) (before.found small)
             (subst (λ (s : ℕ). IsNoWorse (cand / 2 ^ 26 + 0) (cand % 2 ^ 26 / 2 ^ 13) s (start_told 0 best).bits (start_told 0 best).parts
-                (start_told 0 best).start) (sym start-is) (word-ahead 0 cand best h)))
+            (start_told 0 best).start) (sym start-is) (word-ahead 0 cand best h)))
 
         pub sought-takes : cand ≤ best → IsSought segments version end (j + 1) cand mode
         sought-takes h = record {

@@ -58,10 +58,10 @@ module _ (whole : List ℕ) where
     go true k =
         let class : c ≡ r.class = joins-same c r.class k in
         let later : IsValid (class_mode c) (slice_range whole (b + class_size c) r.end) =
-            subst (λ (d : Class). IsValid (class_mode d) (slice_range whole (b + class_size c) r.end)) (sym class) h.2 in
+        subst (λ (d : Class). IsValid (class_mode d) (slice_range whole (b + class_size c) r.end)) (sym class) h.2 in
         let both = valid-append (class_mode c) (slice_range whole b (b + class_size c)) (slice_range whole (b + class_size c) r.end) v later in
         let valid : IsValid (class_mode c) (slice_range whole b r.end) =
-            subst (λ (z : List ℕ). IsValid (class_mode c) z) (slice-join whole b (b + class_size c) r.end (omega arith) (omega arith)) both in
+        subst (λ (z : List ℕ). IsValid (class_mode c) z) (slice-join whole b (b + class_size c) r.end (omega arith) (omega arith)) both in
         rw k (refl, omega arith, valid, h.3)
     go false k = rw k (refl, (let s = some in omega arith), v, h)
 
@@ -75,22 +75,22 @@ module _ (whole : List ℕ) where
   texts-runs are b (a ∷ []) d = grind (arith, single)
   texts-runs are b (a ∷ c ∷ rest) d = go (is_kanji_pair a c) refl (texts-runs are (b + 2) rest (drop-further whole (a ∷ c ∷ rest) b 2 d))
       (texts-runs are (b + 1) (c ∷ rest) (drop-further whole (a ∷ c ∷ rest) b 1 d)) where
-    go : (t : Bool) → is_kanji_pair a c ≡ t → AreTexts whole (b + 2) (map run_segment (runs (b + 2) (units rest))) (b + 2 + length rest) →
-        AreTexts whole (b + 1) (map run_segment (runs (b + 1) (units (c ∷ rest)))) (b + 1 + length (c ∷ rest)) →
-        AreTexts whole b (map run_segment (runs b (elim t [ true ↦ Pair ∷ units rest | false ↦ class_of a ∷ units (c ∷ rest) ]))) (b + length (a ∷ c ∷ rest))
-    go true k r q =
-        let size : b + 2 + length rest ≡ b + length (a ∷ c ∷ rest) = omega arith in
-        let valid : IsValid Kanji (slice_range whole b (b + 2)) = subst (λ (z : List ℕ). IsKanjiText z)
+        go : (t : Bool) → is_kanji_pair a c ≡ t → AreTexts whole (b + 2) (map run_segment (runs (b + 2) (units rest))) (b + 2 + length rest) →
+            AreTexts whole (b + 1) (map run_segment (runs (b + 1) (units (c ∷ rest)))) (b + 1 + length (c ∷ rest)) →
+            AreTexts whole b (map run_segment (runs b (elim t [ true ↦ Pair ∷ units rest | false ↦ class_of a ∷ units (c ∷ rest) ]))) (b + length (a ∷ c ∷ rest))
+        go true k r q =
+            let size : b + 2 + length rest ≡ b + length (a ∷ c ∷ rest) = omega arith in
+            let valid : IsValid Kanji (slice_range whole b (b + 2)) = subst (λ (z : List ℕ). IsKanjiText z)
             (sym (slice-front whole (a ∷ c ∷ rest) b 2 d)) (k, tt) in
-        subst (AreTexts whole b (map run_segment (runs b (Pair ∷ units rest)))) size
+            subst (AreTexts whole b (map run_segment (runs b (Pair ∷ units rest)))) size
             (texts-add Pair b (b + 2 + length rest) (runs (b + 2) (units rest)) valid r)
-    go false k r q =
-        let size : b + 1 + length (c ∷ rest) ≡ b + length (a ∷ c ∷ rest) = omega arith in
-        let one : 1 ≡ class_size (class_of a) = sym (class_of-one a) in
-        let later : AreTexts whole (b + class_size (class_of a)) (map run_segment (runs (b + class_size (class_of a)) (units (c ∷ rest))))
+        go false k r q =
+            let size : b + 1 + length (c ∷ rest) ≡ b + length (a ∷ c ∷ rest) = omega arith in
+            let one : 1 ≡ class_size (class_of a) = sym (class_of-one a) in
+            let later : AreTexts whole (b + class_size (class_of a)) (map run_segment (runs (b + class_size (class_of a)) (units (c ∷ rest))))
             (b + 1 + length (c ∷ rest)) =
-        subst (λ (n : ℕ). AreTexts whole (b + n) (map run_segment (runs (b + n) (units (c ∷ rest)))) (b + 1 + length (c ∷ rest))) one q in
-        subst (AreTexts whole b (map run_segment (runs b (class_of a ∷ units (c ∷ rest))))) size
+            subst (λ (n : ℕ). AreTexts whole (b + n) (map run_segment (runs (b + n) (units (c ∷ rest)))) (b + 1 + length (c ∷ rest))) one q in
+            subst (AreTexts whole b (map run_segment (runs b (class_of a ∷ units (c ∷ rest))))) size
             (texts-add (class_of a) b (b + 1 + length (c ∷ rest)) (runs (b + class_size (class_of a)) (units (c ∷ rest))) (single are b a (c ∷ rest) d) later)
 
   pub texts-parsed : All (λ c. c < 256) whole → AreTexts whole 0 (parsed whole) (length whole)
@@ -105,9 +105,9 @@ module _ (whole : List ℕ) where
       let m : Segment = merged t ts in
       let both = valid-append (join s.mode m.mode) (slice_range whole from s.end) (slice_range whole s.end m.end)
       (valid-upward (slice_range whole from s.end) (join-upper s.mode m.mode) h.2)
-          (valid-upward (slice_range whole s.end m.end) (join-upper_second s.mode m.mode) w.2) in
+      (valid-upward (slice_range whole s.end m.end) (join-upper_second s.mode m.mode) w.2) in
       let valid : IsValid (join s.mode m.mode) (slice_range whole from m.end) =
-          subst (λ (z : List ℕ). IsValid (join s.mode m.mode) z) (slice-join whole from s.end m.end (omega arith) (omega arith)) both in
+      subst (λ (z : List ℕ). IsValid (join s.mode m.mode) z) (slice-join whole from s.end m.end (omega arith) (omega arith)) both in
       (h.0, omega arith, valid, w.3)
 
   texts-split : (from to : ℕ) (xs ys : List Segment) → AreTexts whole from (xs ++ ys) to → (mid : ℕ) × AreTexts whole from xs mid × AreTexts whole mid ys to

@@ -12,7 +12,7 @@ use Rattle.std.proofs.lemmas.Grind.{common_steps}
 
 pub word-ahead : (more a b : ℕ) → a ≤ b →
     IsNoWorse (start_told more a).bits (start_told more a).parts (start_told more a).start (start_told more b).bits
-        (start_told more b).parts (start_told more b).start
+    (start_told more b).parts (start_told more b).start
 word-ahead more a b h = record { bits = omega arith; parts = λ e. omega arith; start = λ e f. omega arith }
 
 -- ---- A bucket
@@ -109,7 +109,7 @@ pub enters_words : (mode : Mode) (begin bits parts start : ℕ) → begin < 8192
     t ≡ word_of (bits + 10 * (8192 - begin / 3)) parts start → p ≡ word_of (bits + 11 * (8192 - begin / 2)) parts start →
     s ≡ word_of (bits + 8 * (8192 - begin)) parts start → c ≡ word_of (bits + 13 * (8192 - begin / 2)) parts start →
     IsOffered mode (begin % 3) t old one → IsOffered mode (3 + begin % 2) p one two → IsOffered mode 5 s two three →
-        IsOffered mode (6 + begin % 2) c three new → length new ≡ 8 →
+    IsOffered mode (6 + begin % 2) c three new → length new ≡ 8 →
     Enters mode begin bits parts start (starts_in old) (starts_in new) × IsWhole new
 enters_words mode begin bits parts start low few short early old one two three new t p s c ts ps ss cs first second third fourth long =
     grind (arith, common_steps, enters, still_whole)

@@ -71,9 +71,9 @@ color-injective a b h k e = grind (arith, common_steps)
 -- A grid that has the functional colours of two format words shows the same digits of both.
 pub same_digits : (version : Version) (a b : ℕ) (grid : List Color) → IsVersion version →
     ((x y : ℕ) (c : Color) → x < width_of version → y < width_of version → functional_color version a x y ≡ Some c →
-        slice_get grid (y * width_of version + x) ≡ Some c) →
+    slice_get grid (y * width_of version + x) ≡ Some c) →
     ((x y : ℕ) (c : Color) → x < width_of version → y < width_of version → functional_color version b x y ≡ Some c →
-        slice_get grid (y * width_of version + x) ≡ Some c) →
+    slice_get grid (y * width_of version + x) ≡ Some c) →
     (k : ℕ) → k < 15 → digit a k ≡ digit b k
 same_digits version a b grid h f g k below =
     let p = shows_digit version a k h below in

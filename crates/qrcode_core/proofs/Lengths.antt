@@ -17,7 +17,7 @@ use Rattle.std.proofs.lemmas.Grind.{common_steps}
 -- Codewords that hold as many bits as the capacity are as many as the data codewords of the symbol.
 pub length-filled : (v : Version) (l : EcLevel) (words : List ℕ) (b : BlockLayout) (limit : ℕ) (bits : List Bool) →
     blocks_of v l ≡ Some b → capacity v l ≡ Some limit → length bits ≡ limit →
-        byte_bits words ≡ bits ++ zero_bits (missing_bits v) → length words ≡ data_bytes b
+    byte_bits words ≡ bits ++ zero_bits (missing_bits v) → length words ≡ data_bytes b
 length-filled v l words b limit bits known limit_is size held =
     grind (arith, common_steps, length-drawn words bits (missing_bits v) held, lacks v l b known, same_Some)
 

@@ -33,7 +33,7 @@ condition_at m k y hm hk hy =
     eqb_true (bit_at (get_or (get_or CONDITIONS y []) k 0) m) (cond (is_inverted (pattern_of m) k y) 1 0)
     (passes_below-at (is_right y k) 8 m
     (passes_below-at (λ i. passes_below 8 (is_right y i)) 6 k (passes_below-at
-        (λ j. passes_below 6 (λ i. passes_below 8 (is_right j i))) 12 y (refl) hy) hk) hm)
+    (λ j. passes_below 6 (λ i. passes_below 8 (is_right j i))) 12 y (refl) hy) hk) hm)
 
 pub set_again : (b : Bool) (n : ℕ) → n ≡ cond b 1 0 → (n == 1) ≡ b
 set_again b n h = grind (arith)
@@ -77,7 +77,7 @@ candidate_is version w format pattern modules codes candidate coded long is =
     let m = get_or modules k Empty in
     is k (omega (arith, h, long))
     ∙ ap (λ c. byte_under (format_color version w format (k % w) (k / w)) (masked_code c (is_inverted pattern (k % w) (k / w)))) (ap (λ cs. get_or cs k 0) coded
-        ∙ get_or-map code_of modules k Empty 0 inside)
+    ∙ get_or-map code_of modules k Empty 0 inside)
     ∙ drawn_byte (format_color version w format (k % w) (k / w)) (is_inverted pattern (k % w) (k / w)) m
     ∙ sym (
     get_or-map byte_of (map color_of_module cells) k Light 0 (omega (arith, length-map cells color_of_module, sizes, inside))
@@ -145,6 +145,6 @@ pub next_penalty : (d : Drawing) (values : List ℕ) (i : ℕ) (p : MaskPattern)
 next_penalty d values i p v so_far here is =
     let e : slice_get (mask_penalties d) i ≡ Some (penalty d.version (colors_of (with_mask p d))) =
     slice_get-map (λ q. penalty d.version (colors_of (with_mask q d))) (family d.version) i
-        ∙ ap (option_map (λ q. penalty d.version (colors_of (with_mask q d)))) here in
+    ∙ ap (option_map (λ q. penalty d.version (colors_of (with_mask q d)))) here in
     ap (λ l. l ++ v ∷ []) so_far ∙ ap (λ n. take i (mask_penalties d) ++ n ∷ []) (is ∙ sym (get_or_from_slice_get (mask_penalties d) i _ 0 e))
     ∙ sym (take_more (mask_penalties d) i 0 (slice_get_within (mask_penalties d) i _ e))

@@ -83,8 +83,11 @@ unfolding HasItsAlignments
 has_its_alignments version h = grind (arith, has_every_alignment)
 
 pub consistent_regions : (version : Version) → IsVersion version → AreConsistentRegions version
-consistent_regions version h = record { areas = λ format x y l m. is_some-functional_color version format x y h l m; agree =
-    λ format x y l m. regions_say version format x y h l m }
+consistent_regions version h = record {
+  areas = λ format x y l m. is_some-functional_color version format x y h l m;
+  agree =
+      λ format x y l m. regions_say version format x y h l m;
+}
 
 pub walk_of : (version : Version) → IsVersion version → IsWalkOf version
 walk_of version h =

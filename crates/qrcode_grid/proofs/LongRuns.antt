@@ -90,7 +90,7 @@ by_places n [] = refl
 by_places n (c ∷ cs) =
     let line = c ∷ cs in
     let later = total-cong (λ k. cond (edges n line (suc k)) 1 0) (λ k. cond (edges n cs k) 1 0) (length cs)
-        (λ k l. ap (λ b. cond b 1 0) (edges_later n c cs k)) in
+    (λ k l. ap (λ b. cond b 1 0) (edges_later n c cs k)) in
     ap (λ b. cond b 1 0 + alikes n cs) (first_edges n c cs)
     ∙ ap (λ t. cond (edges n line 0) 1 0 + t) (by_places n cs ∙ sym later)
     ∙ sym (total-first (λ k. cond (edges n line k) 1 0) (length cs))

@@ -61,7 +61,7 @@ length-carry a b c la lb lc = grind (arith, common_steps, length_of)
 
 sum_at : (a b c : List ℕ) → length a ≡ 16 → length b ≡ 16 → length c ≡ 16 → (m j : ℕ) → j < 16
     → bit_at (get_or (sum_of a b c) j 0) m + 2 * bit_at (get_or (carry_of a b c) j 0) m
-        ≡ bit_at (get_or a j 0) m + bit_at (get_or b j 0) m + bit_at (get_or c j 0) m
+    ≡ bit_at (get_or a j 0) m + bit_at (get_or b j 0) m + bit_at (get_or c j 0) m
 sum_at a b c la lb lc m j h = grind (arith, common_steps, length_of, xor_at, and_at, bit_at-lt)
 
 pub three_rows : (a b c : List ℕ) → length a ≡ 16 → length b ≡ 16 → length c ≡ 16 → (m : ℕ)
@@ -92,7 +92,7 @@ bits_in_mask m lanes l t e =
     ∙ count_as_sum (λ x. x == n) (zip2 bit_and lanes (replicate 16 n)) 16 long
     ∙ total-cong (λ j. cond (get_or (zip2 bit_and lanes (replicate 16 n)) j 0 == n) 1 0) (λ j. bit_at (get_or lanes j 0) m) 16
     (λ j h. ap (λ x. cond (x == n) 1 0) (lane_of bit_and lanes (replicate 16 n) l refl j h ∙ ap (bit_and (get_or lanes j 0)) (get_or-replicate 16 j n 0 h))
-        ∙ tested m (get_or lanes j 0))
+    ∙ tested m (get_or lanes j 0))
 
 sum_le : (f : ℕ → ℕ) (n : ℕ) → ((j : ℕ) → f j < 2) → sum_below f n ≤ n
 sum_le f zero h = omega arith
@@ -207,7 +207,7 @@ marks_light bytes fits at inside = record {
 
 pub marks_same : (bytes : List ℕ) → ((k : ℕ) → Fits w8 (get_or bytes k 0)) → (at other : ℕ) → at + 16 ≤ length bytes → other + 16 ≤ length bytes
     → Marks (zip2 bit_xor (chunk at 16 bytes) (map (bit_not w8) (chunk other 16 bytes))) (λ m j. get_or (plane m bytes) (at + j) 0 ==
-        get_or (plane m bytes) (other + j) 0)
+    get_or (plane m bytes) (other + j) 0)
 marks_same bytes fits at other inside second =
     let a = chunk at 16 bytes in let b = map (bit_not w8) (chunk other 16 bytes) in
     let la = length-chunk at 16 bytes inside in
@@ -271,14 +271,14 @@ square_lanes u l at inside same =
     let ad = zip2_of_maps hit (λ k. get_or u k 0) (λ k. get_or l (k + 1) 0) ks a d in
     let acd = zip2_of_maps bit_and (λ k. hit (get_or u k 0) (get_or l k 0)) (λ k. hit (get_or u k 0) (get_or l (k + 1) 0)) ks ac ad in
     let all = zip2_of_maps bit_and (λ k. hit (get_or u k 0) (get_or u (k + 1) 0))
-        (λ k. bit_and (hit (get_or u k 0) (get_or l k 0)) (hit (get_or u k 0) (get_or l (k + 1) 0))) ks ab acd in
+    (λ k. bit_and (hit (get_or u k 0) (get_or l k 0)) (hit (get_or u k 0) (get_or l (k + 1) 0))) ks ab acd in
     let tests : map (top 7) (zip2 bit_and (zip2 hit (take 32 (drop at u)) (take 32 (drop (at + 1) u)))
-        (zip2 bit_and (zip2 hit (take 32 (drop at u)) (take 32 (drop at l))) (zip2 hit (take 32 (drop at u)) (take 32 (drop (at + 1) l)))))
-        ≡ map (is_byte_square_at u l) ks
+    (zip2 bit_and (zip2 hit (take 32 (drop at u)) (take 32 (drop at l))) (zip2 hit (take 32 (drop at u)) (take 32 (drop (at + 1) l)))))
+    ≡ map (is_byte_square_at u l) ks
     = ap (map (top 7)) all ∙ map-map (top 7) (λ k. bit_and (hit (get_or u k 0) (get_or u (k + 1) 0))
-        (bit_and (hit (get_or u k 0) (get_or l k 0)) (hit (get_or u k 0) (get_or l (k + 1) 0)))) ks
-        ∙ map_same _ (is_byte_square_at u l) (λ k. joined (get_or u k 0 == get_or u (k + 1) 0) (get_or u k 0 ==
-        get_or l k 0) (get_or u k 0 == get_or l (k + 1) 0)) ks in
+    (bit_and (hit (get_or u k 0) (get_or l k 0)) (hit (get_or u k 0) (get_or l (k + 1) 0)))) ks
+    ∙ map_same _ (is_byte_square_at u l) (λ k. joined (get_or u k 0 == get_or u (k + 1) 0) (get_or u k 0 ==
+    get_or l k 0) (get_or u k 0 == get_or l (k + 1) 0)) ks in
     let long : length (map (is_byte_square_at u l) ks) ≤ 64 = omega (arith, length-map ks (is_byte_square_at u l), length-range_with_len at 32) in
     ap (λ (m : List Bool). count_ones (mask_l m % 2 ^ 64)) tests
     ∙ ap count_ones (mask_l-mod (map (is_byte_square_at u l) ks) 64 long)

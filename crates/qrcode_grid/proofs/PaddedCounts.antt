@@ -142,12 +142,12 @@ module _ (line edges padded : List ℕ) (n step : ℕ) (at from : ℕ → ℕ) (
   finder_within : (j : ℕ) → j + 6 < n → has_finder step padded (from j) ≡ is_finder_like (quiet line) j
   finder_within j h =
       let is : (a i k : ℕ) → i ≤ 14 → j + i ≡ k → (cell step padded (from j) i == a) ≡ (get_or (quiet line) k 0 == a) =
-          λ a i k l e. ap (λ m. m == a) (module_here j i k (omega (arith, h, l)) e) in
+      λ a i k l e. ap (λ m. m == a) (module_here j i k (omega (arith, h, l)) e) in
       let p = j + 4 in
       let pattern = and_seven _ _ _ _ _ _ _ _ _ _ _ _ _ _ (is 1 4 p (omega arith) refl) (is 0 5 (p + 1) (omega arith) (omega arith))
-          (is 1 6 (p + 2) (omega arith) (omega arith))
+      (is 1 6 (p + 2) (omega arith) (omega arith))
       (is 1 7 (p + 3) (omega arith) (omega arith)) (is 1 8 (p + 4) (omega arith) (omega arith)) (is 0 9 (p + 5) (omega arith) (omega arith))
-          (is 1 10 (p + 6) (omega arith) (omega arith)) in
+      (is 1 10 (p + 6) (omega arith) (omega arith)) in
       ap (λ t. t && (is_quiet step padded (from j) 0 || is_quiet step padded (from j) 11)) pattern
       ∙ ap (λ t. is_pattern (quiet line) p && (t || is_quiet step padded (from j) 11)) (light_here j 0 j h (omega arith) (omega arith))
       ∙ ap (λ t. is_pattern (quiet line) p && (are_light (quiet line) j || t)) (light_here j 11 (j + 11) h (omega arith) refl)
@@ -265,13 +265,13 @@ module _ (w : ℕ) (cells padded : List ℕ) (is : IsPadded w cells padded) (squ
   columns_are edges are =
       let count : (ℕ → Bool) → ℕ → ℕ = λ p x. count_below (λ y. p (y * s + x)) w in
       let line : (x : ℕ) → x < w → line_penalty (column w cells x) + 2 * count (has_six s edges) x
-          ≡ 3 * count (has_five s edges) x + 40 * count (has Finder w s padded edges) x = λ x h.
+      ≡ 3 * count (has_five s edges) x + 40 * count (has Finder w s padded edges) x = λ x h.
       line_is (column w cells x) edges padded w s (λ t. t * s + x) (λ t. t * s + x + 4 * (s - s)) (length-column w cells x)
       (λ j i. omega (arith, add-mul j i s)) (λ j i. omega (arith, add-mul j i s))
       (λ t l. column_edge w cells padded is square edges are x t h)
       (λ t l. let e : t * s + x + 4 * (s - s) ≡ t * s + x = omega arith in ap (λ k. get_or padded k 0) e ∙ in_column w cells padded is square x t h) in
       let turned : (p : ℕ → Bool) → sum_below (λ y. count_below (λ x. p (y * s + x)) w) w ≡ sum_below (count p) w =
-          λ p. exchanged (λ y x. cond (p (y * s + x)) 1 0) w w in
+      λ p. exchanged (λ y x. cond (p (y * s + x)) 1 0) w w in
       omega (
         arith,
         weighed (λ x. line_penalty (column w cells x)) (count (has_six s edges)) (count (has_five s edges)) (count (has Finder w s padded edges)) w line,
@@ -286,7 +286,7 @@ module _ (w : ℕ) (cells padded : List ℕ) (is : IsPadded w cells padded) (squ
   rows_are edges are =
       let count : (ℕ → Bool) → ℕ → ℕ = λ p y. count_below (λ x. p (y * s + x)) w in
       let line : (y : ℕ) → y < w → line_penalty (row w cells y) + 2 * count (has_six 1 edges) y
-          ≡ 3 * count (has_five 1 edges) y + 40 * count (has Finder w 1 padded edges) y = λ y h.
+      ≡ 3 * count (has_five 1 edges) y + 40 * count (has Finder w 1 padded edges) y = λ y h.
       line_is (row w cells y) edges padded w 1 (λ t. y * s + t) (λ t. y * s + t + 4 * (s - 1)) (length-row w cells y square h)
       (λ j i. omega arith) (λ j i. omega arith)
       (λ t l. row_edge w cells padded is square edges are y t h (omega (arith, l)))
@@ -343,12 +343,12 @@ module _ (w : ℕ) (cells padded : List ℕ) (is : IsPadded w cells padded) (squ
         let p = has Square w 1 padded edges in
         let f : ℕ → ℕ = λ y. count_below (λ x. p (y * s + x)) w in
         let at_first : (k : ℕ) → get_or edges k 0 ≡ 0 → p k ≡ false = λ k e. let e0 : k + 0 * s ≡ k = omega arith in
-            no_square edges k 0 (omega arith) (ap (λ k. get_or edges k 0) e0 ∙ e) in
+        no_square edges k 0 (omega arith) (ap (λ k. get_or edges k 0) e0 ∙ e) in
         let rows = over_rows w p (λ x y h l hy. at_first (y * s + x) (are.beside x y (omega (arith, h)) l hy)) (λ k h. at_first k (are.below k h)) in
         let last : w ≡ suc (w - 1) = omega (arith, wide) in
         let bottom = sum_zero (λ x. cond (p ((w - 1) * s + x)) 1 0) w
         (λ x h. ap (λ b. cond b 1 0) (no_square edges ((w - 1) * s + x) 1 (omega arith)
-            (are.below ((w - 1) * s + x + 1 * s) (omega (arith, add-mul (w - 1) 1 s, ap (λ n. n * s) last))))) in
+        (are.below ((w - 1) * s + x + 1 * s) (omega (arith, add-mul (w - 1) 1 s, ap (λ n. n * s) last))))) in
         omega (
           arith,
           rows,
@@ -365,9 +365,9 @@ module _ (w : ℕ) (cells padded : List ℕ) (is : IsPadded w cells padded) (squ
       (λ x y h l hy. light (y * s + x) (ap (λ k. get_or padded k 0) (at x y) ∙ is.beside x (4 + y) h l))
       (λ k h. light k (is.below (k + 4 * s) (omega (arith, h, add-mul 4 w s))))
       ∙ total-cong (λ y. count_below (λ x. has Dark w 1 padded edges (y * s + x)) w)
-          (λ y. sum_below (λ x. cond (is_dark_byte (get_or cells (y * w + x) 0)) 1 0) w) w
+      (λ y. sum_below (λ x. cond (is_dark_byte (get_or cells (y * w + x) 0)) 1 0) w) w
       (λ y hy. total-cong (λ x. cond (has Dark w 1 padded edges (y * s + x)) 1 0) (λ x. cond (is_dark_byte (get_or cells (y * w + x) 0)) 1 0) w
       (λ x hx. ap (λ n. cond (n == 1) 1 0) (ap (λ k. get_or padded k 0) (at x y) ∙ is.grid x y hx hy)
-          ∙ ap (λ b. cond b 1 0) (dark_is (get_or cells (y * w + x) 0) (small (y * w + x)))))
+      ∙ ap (λ b. cond b 1 0) (dark_is (get_or cells (y * w + x) 0) (small (y * w + x)))))
       ∙ sym (total-mul (λ k. cond (is_dark_byte (get_or cells k 0)) 1 0) w w)
       ∙ sym (count_as_sum is_dark_byte cells (w * w) square)

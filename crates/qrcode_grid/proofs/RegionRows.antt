@@ -158,7 +158,7 @@ none_between n k x high within low last =
 pub none_behind : (n x : ℕ) → n ≤ 40 → behind n (alignment_count n) ≤ x → near (alignment_coordinates n) x ≡ None
 none_behind n x high low =
     all_from_zero n x (far_from_all (alignment_coordinate n) x (alignment_count n) (alignment_count n) 0 (omega arith)
-        (λ i inside. before_far n (alignment_count n) i x high (omega arith) inside low))
+    (λ i inside. before_far n (alignment_count n) i x high (omega arith) inside low))
 
 pub behind_before : (n k : ℕ) → n ≤ 40 → k < alignment_count n → behind n k + 2 ≤ alignment_coordinate n k
 behind_before n k h l = grind (arith, cells_inside, apart)

@@ -141,7 +141,7 @@ strips_clear n = all_pass (λ k. all_pass (strip_clear n k) 0 11) 0 9
 strip_at : (n k j : ℕ) → 1 ≤ n → n ≤ 40 → k < 9 → j < 11 → strip_clear n k j ≡ true
 strip_at n k j low high h i =
     passes (strip_clear n k) 0 11 j (passes (λ k. all_pass (strip_clear n k) 0 11) 0 9 k (passes strips_clear 1 40 n (refl) low (omega arith)) (omega arith)
-        (omega arith)) (omega arith) (omega arith)
+    (omega arith)) (omega arith) (omega arith)
 
 not_true : (b : Bool) → not b ≡ true → b ≡ false
 not_true b h = grind (arith, false≢true)
@@ -162,12 +162,18 @@ clear : (n x y : ℕ) → 1 ≤ n → n ≤ 40 → x < 4 * n + 17 → y < 4 * n 
 clear n x y low high l m = elim (cases_lt x 9) [
   | inl a ↦ elim (cases_lt y 9) [
     | inl b ↦ not_true _ (both _ _ (strip_at n x y low high a (omega arith))).0
-    | inr b ↦ elim (cases_lt (y + 11) (4 * n + 17)) [ inl c ↦ none_there n x y (grind (arith, nat_tests)) | inr c ↦
-        (far_at n x y low high a (omega arith) m).0 ]
+    | inr b ↦ elim (cases_lt (y + 11) (4 * n + 17)) [
+      | inl c ↦ none_there n x y (grind (arith, nat_tests))
+      | inr c ↦
+          (far_at n x y low high a (omega arith) m).0
+    ]
   ]
   | inr a ↦ elim (cases_lt y 9) [
-    | inl b ↦ elim (cases_lt (x + 11) (4 * n + 17)) [ inl c ↦ none_there n x y (mid_row (4 * n + 17) x y (nat_le 7 n) (omega arith) a c) | inr c ↦
-        (far_at n y x low high b (omega arith) l).1 ]
+    | inl b ↦ elim (cases_lt (x + 11) (4 * n + 17)) [
+      | inl c ↦ none_there n x y (mid_row (4 * n + 17) x y (nat_le 7 n) (omega arith) a c)
+      | inr c ↦
+          (far_at n y x low high b (omega arith) l).1
+    ]
     | inr b ↦ none_there n x y (grind (arith, nat_tests))
   ]
 ]
@@ -192,8 +198,8 @@ timing_agree : (n x y : ℕ) → 1 ≤ n → n ≤ 40 → x < 4 * n + 17 → y <
 timing_agree n x y low high l m =
     let w = 4 * n + 17 in
     let at : (k : ℕ) → k < w → (timing_agrees n k 6 && timing_agrees n 6 k) ≡ true =
-        λ k h. passes (λ k. timing_agrees n k 6 && timing_agrees n 6 k) 0 w k (passes timings_agree 1 40 n (refl) low (omega arith))
-        (omega arith) (omega arith) in
+    λ k h. passes (λ k. timing_agrees n k 6 && timing_agrees n 6 k) 0 w k (passes timings_agree 1 40 n (refl) low (omega arith))
+    (omega arith) (omega arith) in
     elim (cases_eq y 6) [
       | inl row ↦ agree-sound _ _ (ap (timing_agrees n x) row ∙ (both _ _ (at x l)).0)
       | inr off ↦ elim (cases_eq x 6) [
@@ -238,8 +244,12 @@ regions_say (Normal (negsuc n)) format x y h l m = absurd h
 regions_say (Micro (pos n)) format x y h l m =
     let w = 2 * n + 9 in
     all_say (regions (Micro (pos n)) format x y)
-    (pairs_apart (finder_test 3 3 x y ∷ timing_test 0 8 (w - 1) x y ∷ micro_test x y ∷ []) (regions (Micro (pos n)) format x y)
-    (finder_is 3 3 x y, (some-where_true (timing_test 0 8 (w - 1) x y) (dark_if_even (x + y)),
-        (some-option_map (λ k. digit_color (digit format k)) (digit_at format_micro x y) ∙ micro_is x y, tt)))
+    (pairs_apart (finder_test 3 3 x y ∷ timing_test 0 8 (w - 1) x y ∷ micro_test x y ∷ []) (regions (Micro (pos n)) format x y) (
+      finder_is 3 3 x y,
+      (
+        some-where_true (timing_test 0 8 (w - 1) x y) (dark_if_even (x + y)),
+        (some-option_map (λ k. digit_color (digit format k)) (digit_at format_micro x y) ∙ micro_is x y, tt),
+      ),
+    )
     ((grind (arith, nat_tests), (grind (arith, nat_tests), (and_false (micro_test x y), tt)))))
 regions_say (Micro (negsuc n)) format x y h l m = absurd h

@@ -94,7 +94,7 @@ divide_turn i n len k lead work held new front terms divisor tail a same long fi
     let glen : length (drop 1 divisor) ≡ n = simp length-drop (omega arith) in
     let is = sums_from_places lead new (take n (drop (i + 1) work)) (drop 1 divisor) (newlen ∙ sym flen) (flen ∙ sym glen)
     (λ p within. places p within ∙ ap (λ t. bit_xor (get_or t p 0) (product lead (get_or terms p 0))) isfront
-        ∙ ap (λ t. bit_xor (get_or (take n (drop (i + 1) work)) p 0) (product lead (get_or t p 0))) isterms) in
+    ∙ ap (λ t. bit_xor (get_or (take n (drop (i + 1) work)) p 0) (product lead (get_or t p 0))) isterms) in
     ap (λ t. value_at (drop (i + 1) (take len (put_mid (i + 1) k t new ++ tail))) a) same
     ∙ ap (λ t. value_at t a) (grind (arith, common_steps, length-append, length-take, length-drop, take_at, drop_at))
     ∙ turn-value i n len lead work divisor long fits leads degree monic a new root is
@@ -108,15 +108,15 @@ pub divide_bytes : (i n len k lead : ℕ) (work held new front terms tail : List
 divide_bytes i n len k lead work held new front terms tail same long fits kn isfront newlen places bytes =
     let P : ℕ → Type 0 = λ x. x < 256 in
     let rest : AreBytes (drop (i + 1) work) = All-same P (drop (i + 1) work) (drop 1 (drop i work)) (sym (drop-drop 1 i work))
-        (All-drop P 1 (drop i work) bytes) in
+    (All-drop P 1 (drop i work) bytes) in
     let front_bytes : AreBytes front = All-same P front (take n (drop (i + 1) work)) isfront (All-take P n (drop (i + 1) work) rest) in
     let flen : length front ≡ n = ap length isfront ∙ simp (length-take, length-drop) (omega arith) in
     let new_bytes : AreBytes new = All-from_get_or P new 0 (λ p within.
     subst P (sym (places p within)) (xor_of_8 (get_or front p 0) (product lead (get_or terms p 0))
-        (All-get_or P front p 0 (omega (arith, within, flen, newlen)) front_bytes) (product-bounded lead (get_or terms p 0)))) in
+    (All-get_or P front p 0 (omega (arith, within, flen, newlen)) front_bytes) (product-bounded lead (get_or terms p 0)))) in
     All-same P _ (new ++ drop n (drop (i + 1) work))
     (ap (λ t. drop (i + 1) (take len (put_mid (i + 1) k t new ++ tail))) same
-        ∙ (grind (arith, common_steps, length-append, length-take, length-drop, take_at, drop_at)))
+    ∙ (grind (arith, common_steps, length-append, length-take, length-drop, take_at, drop_at)))
     (All-append P new (drop n (drop (i + 1) work)) new_bytes (All-drop P n (drop (i + 1) work) rest))
 
 -- Lanes of bytes that are multiplied in the field.
@@ -315,7 +315,7 @@ module _ (n d : ℕ) (divisor terms seen lanes result : List ℕ) (is : IsDiviso
       get_or-take n result k 0 below ∙ turn k inside
       ∙ ap (λ x. bit_xor x (product lead (get_or terms k 0))) (sym (get_or-window lanes n k below))
       ∙ ap (λ t. bit_xor (get_or (window lanes 1 n) k 0) (product lead t)) (padded k inside ∙ ap (λ j. get_or divisor j 0) (sym next)
-          ∙ sym (get_or-drop 1 divisor k 0)))
+      ∙ sym (get_or-drop 1 divisor k 0)))
 
   congruent : (a : ℕ) → value_at divisor a ≡ 0 → value_at (take n result) a ≡ value_at ((seen ++ d ∷ []) ++ replicate n 0) a
   unfolding lead
@@ -334,13 +334,13 @@ module _ (n d : ℕ) (divisor terms seen lanes result : List ℕ) (is : IsDiviso
       ap (λ t. value_at t a) (sym (window-first lanes n) ∙ window-more lanes n ∙ ap (λ z. window lanes 0 n ++ z ∷ []) (before.rest n (omega arith)))
       ∙ (grind (arith, common_steps, value_at-append, value_at-one)) ∙ xor_zero_r (product (value_at (window lanes 0 n) a) (power a 1))
       ∙ ap (λ v. product v (power a 1)) (ap (λ t. value_at t a) (sym (take-window lanes n (omega (arith, before.size, is.small)))) ∙ before.congruent a root
-          ∙ value_at-shifted seen n a) in
+      ∙ value_at-shifted seen n a) in
       ap (λ t. value_at t a) reduced ∙ whole
       ∙ value_at-cons lead front a
       ∙ ap (λ v. bit_xor v (value_at front a)) (ap (λ k. product lead (power a k)) wide ∙ product-adds_left d first (power a n))
       ∙ xor_assoc (product d (power a n)) (product first (power a n)) (value_at front a)
       ∙ ap (bit_xor (product d (power a n))) (ap (λ k. bit_xor (product first (power a k)) (value_at front a)) (sym wide)
-          ∙ sym (value_at-cons first front a) ∙ old)
+      ∙ sym (value_at-cons first front a) ∙ old)
       ∙ regroup (value_at seen a) (power a 1) (power a n) d
       ∙ ap (λ v. product v (power a n)) (sym (grind (arith, common_steps, value_at-append, value_at-one)))
       ∙ sym (value_at-shifted (seen ++ d ∷ []) n a)

@@ -50,7 +50,7 @@ module _ (version : Version) (level : EcLevel) (pattern : MaskPattern) (colors :
     (square : length colors ≡ width_of version * width_of version) (drawn : HasFunctionalColors version level pattern colors) where
   sibling_at : (other : MaskPattern) (x y : ℕ) → x < width_of version → y < width_of version →
       color_in (width_of version) (sibling version level pattern other colors) x y
-          ≡ sibling_color version level pattern other x y (color_in (width_of version) colors x y)
+      ≡ sibling_color version level pattern other x y (color_in (width_of version) colors x y)
   sibling_at other x y l m = cell_at-map_cells (width_of version) (sibling_color version level pattern other) colors Light x y square l m
 
   size : (other : MaskPattern) → length (sibling version level pattern other colors) ≡ length colors
@@ -60,10 +60,10 @@ module _ (version : Version) (level : EcLevel) (pattern : MaskPattern) (colors :
   functional other = λ x y c l m e.
       let w = width_of version in
       let inside : y * w + x < length (sibling version level pattern other colors) =
-          subst (λ (n : ℕ). y * w + x < n) (sym (size other ∙ square)) (mul-add-lt y w x w m l) in
+      subst (λ (n : ℕ). y * w + x < n) (sym (size other ∙ square)) (mul-add-lt y w x w m l) in
       slice_get-get_or (sibling version level pattern other colors) (y * w + x) Light inside
       ∙ ap Some (sibling_at other x y l m ∙ ap (λ o. unwrap_or o (inverted_if (is_inverted other x y)
-          (inverted_if (is_inverted pattern x y) (color_in w colors x y)))) e)
+      (inverted_if (is_inverted pattern x y) (color_in w colors x y)))) e)
 
   data_at : (other : MaskPattern) (x y : ℕ) → x < width_of version → y < width_of version → is_functional_cell version x y ≡ false →
       inverted_if (is_inverted other x y) (color_in (width_of version) (sibling version level pattern other colors) x y) ≡

@@ -71,8 +71,11 @@ cells_are f w old now d same square is =
     same_lists now (map_cells w f old) (same ∙ sym (length-map_places (λ i m. f (i % w) (i / w) m) 0 old))
     (λ k e h.
     let inside : k < length old = omega (arith, same) in
-    let some : 0 < w = elim (cases_lt 0 w) [ inl a ↦ a | inr b ↦ let zero_wide : w ≡ 0 = omega arith in
-        absurd (omega (arith, inside, square ∙ ap (λ t. t * w) zero_wide)) ] in
+    let some : 0 < w = elim (cases_lt 0 w) [
+      | inl a ↦ a
+      | inr b ↦ let zero_wide : w ≡ 0 = omega arith in
+          absurd (omega (arith, inside, square ∙ ap (λ t. t * w) zero_wide))
+    ] in
     let x = k % w in let y = k / w in
     let column : x < w = omega arith in
     let row : y < w = elim (cases_lt y w) [ inl a ↦ a | inr b ↦ absurd (omega (arith, inside, square, mul-le-mul_right w b)) ] in
@@ -185,7 +188,7 @@ written_step over w word p rest d old now v column row long is h = λ x y l m.
         | inr f ↦
             let ne : y * w + x ≢ i = λ same. f (sym (row_of_place w x y i l same) ∙ row_of_place w p.0 p.1 i column refl) in
             get_or-set_other now i (y * w + x) v d ne ∙ h x y l m ∙ ap (λ o. over (option_map shown o) old_cell)
-                (sym (grind (arith, common_steps, differs, and_false)))
+            (sym (grind (arith, common_steps, differs, and_false)))
       ]
       | inr e ↦
           let ne : y * w + x ≢ i = λ same. e (sym (column_of_place w x y i l same) ∙ column_of_place w p.0 p.1 i column refl) in

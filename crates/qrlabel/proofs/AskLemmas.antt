@@ -107,14 +107,14 @@ one_label words a b p q =
     let options = spelled q.settings in
     let rest = kind_words b.kind ++ options in
     let only = λ (other : Kind) (settings : List Setting) (e : rest ≡ kind_words other
-        ++ spelled settings). one_kind other b.kind settings q.settings (sym e) in
+    ++ spelled settings). one_kind other b.kind settings q.settings (sym e) in
     let settings = settings_said words f l rest q.words_are a p b.kind options refl only q.settings refl in
     same_label a.format b.format a.level b.level a.kind b.kind a.scale b.scale a.quiet b.quiet a.inverted b.inverted
     (one_format a.format b.format (sym (format_said words f l rest q.words_are a p)))
     (one_level (trim l) a.level b.level (level_said words f l rest q.words_are a p) q.level_is)
     (kind_said words f l rest q.words_are a p b.kind options refl only)
     (one_number (fold with_scale None q.settings) (usual_scale b.format) 1 64 a.scale b.scale
-        (scale_said words f l rest q.words_are a p b.kind options refl only q.settings refl b.format refl) q.scale_is)
+    (scale_said words f l rest q.words_are a p b.kind options refl only q.settings refl b.format refl) q.scale_is)
     (one_number (fold with_quiet None q.settings) (usual_quiet b.kind) 0 16 a.quiet b.quiet
-        (quiet_said words f l rest q.words_are a p b.kind options refl only q.settings refl) q.quiet_is)
+    (quiet_said words f l rest q.words_are a p b.kind options refl only q.settings refl) q.quiet_is)
     (p.inverted_is ∙ (ap (λ (s : List Setting). fold with_inverted false s) settings ∙ sym q.inverted_is))

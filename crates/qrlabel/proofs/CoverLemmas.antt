@@ -72,9 +72,15 @@ covered p (suc x) y inside dark =
     let dark_here : is_dark_module p (x + 1) y ≡ true = rw next at dark in
     elim (cases_Bool (is_dark_module p x y)) [
       | inl before ↦
-          (let run = covered p x y (omega arith) before in
-          (run.0, record { begins = run.1.begins; from = omega (arith, run.1.from); to =
-              rw next (reaches_next p run.0 x y (omega arith) dark_here run.1.from run.1.to) }))
+          (let run = covered p x y (omega arith) before in (
+            run.0,
+            record {
+              begins = run.1.begins;
+              from = omega (arith, run.1.from);
+              to =
+                  rw next (reaches_next p run.0 x y (omega arith) dark_here run.1.from run.1.to);
+            },
+          ))
       | inr light ↦
           (let more : run_length p (x + 1) y ≡ 1 + run_length p (x + 1 + 1) y = run_dark p (x + 1) y (omega arith) dark_here in
           (x + 1, record { begins = begins_after_light p x y dark_here light; from = omega arith; to = omega (arith, more) }))

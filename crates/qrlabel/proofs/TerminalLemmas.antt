@@ -17,6 +17,6 @@ lines_more inverted p n = flat_map_range (line_of inverted p) n
 -- one character more of a line
 pub characters_more : (inverted : Bool) (p : Picture) (line n : ℕ) →
     flat_map (character inverted p line) (range_with_len 0 (n + 1)) ≡ flat_map (character inverted p line) (range_with_len 0 n)
-        ++ encode_utf8 (half_blocks (is_filled inverted p n (2 * line)) (is_filled inverted p n (2 * line + 1)))
+    ++ encode_utf8 (half_blocks (is_filled inverted p n (2 * line)) (is_filled inverted p n (2 * line + 1)))
 unfolding character
 characters_more inverted p line n = flat_map_range (character inverted p line) n

@@ -45,7 +45,7 @@ first_word (w ∷ words) word some is =
 -- the first two words, and those after them
 pub two_words : (words : List (Bor (List ℕ))) → 2 ≤ length words →
     map (λ w. w.now) words ≡ (slice_index_or words 0 no_word).now ∷ (slice_index_or words 1 no_word).now ∷ map (λ w. w.now)
-        (take (length words - 2) (drop 2 words))
+    (take (length words - 2) (drop 2 words))
 two_words [] some = absurd (omega (arith, some))
 two_words (w ∷ []) some = absurd (omega (arith, some))
 two_words (w ∷ v ∷ words) some =

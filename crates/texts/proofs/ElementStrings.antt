@@ -42,7 +42,7 @@ texts_valid : (whole : List ℕ) (from to : ℕ) (plan : List Segment) → AreTe
 texts_valid whole from to [] h = All-nil IsText
 texts_valid whole from to (s ∷ plan) h =
     All-cons IsText (segment_piece whole s) (segment_pieces whole plan) (subst (λ (n : ℕ). IsValid s.mode (slice_range whole n s.end)) (sym h.0) h.2)
-        (texts_valid whole s.end to plan h.3)
+    (texts_valid whole s.end to plan h.3)
 
 pieces_valid : (whole : List ℕ) (version : Version) (plan : List Segment) → All (λ c. c < 256) whole → IsChosenPlan (parsed whole) version plan →
     All IsText (segment_pieces whole plan)
@@ -89,7 +89,7 @@ module _ (old : Stream) (level : EcLevel) (number : ℕ) (text : List ℕ) (is :
   too_long : 2 ^ count_width (normal number) next.mode ≤ character_count next.mode next.text → IsTooLongIn (SaysElements text) (normal number) level
   too_long wide bits limit said limit_is =
       let same : plan ≡ said.0 = one_chosen (parsed text) (normal number) plan said.0
-          (subst (λ (v : Version). IsChosenPlan (parsed text) v plan) is chosen) said.1 in
+      (subst (λ (v : Version). IsChosenPlan (parsed text) v plan) is chosen) said.1 in
       let pieces : segment_pieces text said.0 ≡ done ++ (next ∷ rest) = ap (segment_pieces text) (sym same) ∙ pieces_are in
       let long : length bits ≡ length (number_bits 4 5) + length (spellings (normal number) (done ++ (next ∷ rest))) =
       ap length (said.2 ∙ ap (λ (ps : List Piece). number_bits 4 5 ++ spellings (normal number) ps) pieces)
@@ -101,7 +101,7 @@ module _ (old : Stream) (level : EcLevel) (number : ℕ) (text : List ℕ) (is :
   stopped new UnsupportedCharacterSet now refused = absurd (refused (subst (λ (v : Version). HasMode v next.mode) (sym now) (normal_modes number next.mode)))
   stopped new (InvalidCharacter position byte) now refused =
       absurd (none-some (position, byte) (sym ((none_where_valid next.mode next.text).0 valid)
-          ∙ sym (first_invalid-is next.mode next.text (Some (position, byte)) refused.1)))
+      ∙ sym (first_invalid-is next.mode next.text (Some (position, byte)) refused.1)))
   stopped new DataTooLong now refused =
       too_long (subst (λ (v : Version). 2 ^ count_width v next.mode ≤ character_count next.mode next.text) now refused.1.1)
   stopped new OutOfMemory now refused = tt

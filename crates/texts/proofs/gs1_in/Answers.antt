@@ -21,10 +21,10 @@ returns-clause-holds c =
     let empty = c.new-bits.result in
     let is : empty.version ≡ normal c.args.number = c.new-bits.ensures.version ∙ c.normal.ensures in
     let pushed = elements_pushed empty c.push_fnc1_first_position.new.self c.push_optimal_data.new.self c.args.number
-        c.args.elements.now is c.new-bits.ensures.bits
+    c.args.elements.now is c.new-bits.ensures.bits
     c.in_ok-push_fnc1_first_position.ensures.ok c.in_ok-push_optimal_data.ensures in
     IfOk-weaker c.with_bits.result _ _ (held (SaysElements c.args.elements.now) c.push_optimal_data.new.self c.args.level c.args.number pushed.0
-        pushed.1) c.with_bits.ensures.holds
+    pushed.1) c.with_bits.ensures.holds
 
 pub returns-clause-refused : goal.returns-clause-refused
 returns-clause-refused c =

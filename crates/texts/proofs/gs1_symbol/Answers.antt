@@ -12,7 +12,7 @@ pub loop-number-preserved : goal.loop-number-preserved
 loop-number-preserved c =
     next (SaysElements c.args.elements.now) c.args.level c.loop-number.number c.loop-number.invariant
     (subst (λ (e : QrError). IsRefusedIn (SaysElements c.args.elements.now) (normal c.loop-number.number) c.args.level e) c.in-Err-DataTooLong.field-0-is
-        c.in-Err-DataTooLong.ensures.refused)
+    c.in-Err-DataTooLong.ensures.refused)
 
 pub returns-clause-refused : goal.returns-clause-refused
 returns-clause-refused c n first below = c.loop-number.invariant n first (omega (arith, below, c.loop-number-test.false))

@@ -25,7 +25,7 @@ returns-in-Ok-clause-held c =
     part_held c.args.message.now c.args.cuts.now c.in-Some.level c.args.level c.args.max_version c.args.index c.in-Ok.symbols.items c.index.result.now
     c.args.modules.now _ c.write.result named c.if-index-cuts.false
     (subst (λ (z : ℤ). AreBestSymbols c.args.message.now c.args.cuts.now c.in-Some.level (nat_abs z)
-        (map modules_of c.in-Ok.symbols.items)) same c.in-Ok.ensures.best)
+    (map modules_of c.in-Ok.symbols.items)) same c.in-Ok.ensures.best)
     c.in-Ok.ensures.reading c.index.ensures c.write.ensures.held
 
 pub returns-in-Ok-clause-refused : goal.returns-in-Ok-clause-refused
@@ -34,7 +34,7 @@ returns-in-Ok-clause-refused c =
     let limited = c.in-Some-limit_of.ensures.limit in
     let same = same_limit c.args.max_version c.in-Some-limit_of.limit limited.0 (to_z-of_z w32 c.args.max_version c.ranges.max_version) limited.1 in
     let best = subst (λ (z : ℤ). AreBestSymbols c.args.message.now c.args.cuts.now c.in-Some.level (nat_abs z) (map modules_of c.in-Ok.symbols.items))
-        same c.in-Ok.ensures.best in
+    same c.in-Ok.ensures.best in
     short_refused _ _ c.write.result c.write.ensures.short c.write.ensures.room
     (λ less. (
       c.in-Some.level,
@@ -49,8 +49,8 @@ returns-in-Err-DataTooLong-clause-refused c =
     let limited = c.in-Some-limit_of.ensures.limit in
     let same = same_limit c.args.max_version c.in-Some-limit_of.limit limited.0 (to_z-of_z w32 c.args.max_version c.ranges.max_version) limited.1 in
     let refused = subst (λ (z : ℤ). IsSequenceRefusal c.args.message.now c.args.cuts.now c.in-Some.level z c.in-Err-DataTooLong.field-0) same
-        c.in-Err-DataTooLong.ensures.refused in
+    c.in-Err-DataTooLong.ensures.refused in
     let long = subst (λ (e : QrError). IsSequenceRefusal c.args.message.now c.args.cuts.now c.in-Some.level c.args.max_version e)
-        c.in-Err-DataTooLong.field-0-is refused in
+    c.in-Err-DataTooLong.field-0-is refused in
     let asked : IsAsked c.args.message.now c.args.cuts.now c.args.max_version c.args.index = search rules in
     (c.in-Some.level, named, (asked, long.1, long.2))

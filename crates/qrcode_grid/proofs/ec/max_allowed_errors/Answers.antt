@@ -19,4 +19,4 @@ returns-clause-one_origin c =
     let b = c.in-Some.layout in
     subst (λ (o : Option BlockLayout). IfSome o (HasOneOrigin c.errors_of.result)) c.in-Some.ensures
     (one_origin_of b c.protection_of.result c.errors_of.result (IsUsable-of_symbol c.args.version c.args.ec_level b
-        (sym c.in-Some.ensures)) c.errors_of.ensures)
+    (sym c.in-Some.ensures)) c.errors_of.ensures)

@@ -20,9 +20,9 @@ returns g c =
     let all = (registered c.register_renderer-3.new.self).renderers in
     let held : all ≡ three svg pbm terminal =
     holds_three (registered c.new-registry.result) (registered c.register_renderer.new.self) (registered c.register_renderer-2.new.self)
-        (registered c.register_renderer-3.new.self)
+    (registered c.register_renderer-3.new.self)
     svg pbm terminal c.new-registry.ensures c.in_ok-register_renderer.ensures.ok c.in_ok-register_renderer-2.ensures.ok
-        c.in_ok-register_renderer-3.ensures.ok in
+    c.in_ok-register_renderer-3.ensures.ok in
     record {
       svg = λ e. drawn_by_name 8 ShowsSvg grid config answer
           (subst (λ (P : Type 0). P)
@@ -42,7 +42,7 @@ returns g c =
           (λ j v. j.1.renders v grid config answer ⊎ ((error : PluginError) × (answer ≡ Err error) × j.1.validates v config (Err error)))
           terminal.vtable terminal.value c.in_ok-new-3.field-0.value c.into_dyn_box-in_ok-new-3.ensures.1)
           (object_there all (three svg pbm terminal) c.args.name.now (codes "terminal") terminal _ held e
-              (at_terminal svg pbm terminal) c.render_from.ensures.found));
+          (at_terminal svg pbm terminal) c.render_from.ensures.found));
       missing = λ a b d. nothing_there all (three svg pbm terminal) c.args.name.now _ held
           (at_others svg pbm terminal c.args.name.now a b d) c.render_from.ensures.missing;
     }

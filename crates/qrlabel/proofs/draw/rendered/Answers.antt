@@ -10,7 +10,7 @@ pub returns-clause-drawn : goal.returns-clause-drawn
 returns-clause-drawn c =
     let wanted = c.args.wanted in
     answer_drawn (drawn_grid c.args.symbol.now) c.args.config.now wanted.request.scale wanted.request.quiet wanted.request.inverted c.requires
-        wanted.format c.render_by_name.result
+    wanted.format c.render_by_name.result
     (drawn_at _ _ _ (view_grid c.module_view-view.result) (drawn_grid c.args.symbol.now) c.args.config.now c.render_by_name.result
     c.render_by_name.ensures c.word.ensures c.module_view-view.ensures (sym (reads-grid-1-1 _ _)))
 
@@ -18,7 +18,7 @@ pub returns-clause-refused : goal.returns-clause-refused
 returns-clause-refused c =
     let wanted = c.args.wanted in
     answer_refused (drawn_grid c.args.symbol.now) c.args.config.now wanted.request.scale wanted.request.quiet wanted.request.inverted c.requires
-        wanted.format c.render_by_name.result
+    wanted.format c.render_by_name.result
     (record { columns = omega (arith, c.width.ensures.is, c.width.ensures.small); rows = omega (arith, c.height.ensures.is, c.height.ensures.small) })
     (drawn_at _ _ _ (view_grid c.module_view-view.result) (drawn_grid c.args.symbol.now) c.args.config.now c.render_by_name.result
     c.render_by_name.ensures c.word.ensures c.module_view-view.ensures (sym (reads-grid-1-1 _ _)))

@@ -12,7 +12,7 @@ returns-in_default-clause-served g c = λ asked asks. absurd (c.in_default.ensur
 pub returns-in-Ok-clause-served : goal.returns-in-Ok-clause-served
 returns-in-Ok-clause-served g c = λ asked asks.
     let one : label_of c.in-Some.wanted ≡ asked = one_label (map (λ word. word.now) c.args.words.now)
-        (label_of c.in-Some.wanted) asked c.in-Some.ensures asks in
+    (label_of c.in-Some.wanted) asked c.in-Some.ensures asks in
     let before = g.E.Sink.written c.args.errors.now in
     subst (λ (r : Label). ServesLabel r (g.R.Source.remaining c.args.reader.now) (g.R.Source.remaining c.draw.new.reader)
     (g.W.Sink.written c.args.writer.now) (g.W.Sink.written c.draw.new.writer) (g.W.Sink.handed_on c.draw.new.writer)
@@ -30,7 +30,7 @@ returns-in-Ok-clause-served g c = λ asked asks.
 pub returns-in-Err-clause-served : goal.returns-in-Err-clause-served
 returns-in-Err-clause-served g c = λ asked asks.
     let one : label_of c.in-Some.wanted ≡ asked = one_label (map (λ word. word.now) c.args.words.now)
-        (label_of c.in-Some.wanted) asked c.in-Some.ensures asks in
+    (label_of c.in-Some.wanted) asked c.in-Some.ensures asks in
     subst (λ (r : Label). ServesLabel r (g.R.Source.remaining c.args.reader.now) (g.R.Source.remaining c.draw.new.reader)
     (g.W.Sink.written c.args.writer.now) (g.W.Sink.written c.draw.new.writer) (g.W.Sink.handed_on c.draw.new.writer)
     (g.E.Sink.written c.args.errors.now) (g.E.Sink.written c.give_up.new.errors) (g.R.Source.has_failed c.draw.new.reader)

@@ -13,9 +13,9 @@ pub loop-x-preserved : goal.loop-x-preserved
 loop-x-preserved c =
     let p = shown c.args.picture.now in
     let filled : c.half_block.result ≡ half_blocks (is_filled c.args.inverted p c.loop-x.x (2 * c.args.line))
-        (is_filled c.args.inverted p c.loop-x.x (2 * c.args.line + 1)) =
+    (is_filled c.args.inverted p c.loop-x.x (2 * c.args.line + 1)) =
     c.half_block.ensures ∙ (ap (λ (b : Bool). half_blocks b c.is_filled-lower.result) c.is_filled-upper.ensures
-        ∙ ap (λ (b : Bool). half_blocks (is_filled c.args.inverted p c.loop-x.x (2 * c.args.line)) b) c.is_filled-lower.ensures) in
+    ∙ ap (λ (b : Bool). half_blocks (is_filled c.args.inverted p c.loop-x.x (2 * c.args.line)) b) c.is_filled-lower.ensures) in
     joined (string_bytes c.args.text.now) (flat_map (character c.args.inverted p c.args.line) (range_with_len 0 c.loop-x.x)) _ _ _ _
     (characters_more c.args.inverted p c.args.line c.loop-x.x)
     c.loop-x.invariant

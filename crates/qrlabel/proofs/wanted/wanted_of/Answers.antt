@@ -9,7 +9,7 @@ pub returns-in_err-scale : goal.returns-in_err-scale
 returns-in_err-scale c =
     let none : AskForNone (map (λ word. word.now) c.args.words.now) =
     no_scale (map (λ word. word.now) c.args.words.now) _ _ _ (two_words c.args.words.now c.in-len2-up.len_at_least) c.kind_of-kind.result.0
-        (map (λ word. word.now) c.kind_of-kind.result.1.now)
+    (map (λ word. word.now) c.kind_of-kind.result.1.now)
     c.kind_of-kind.ensures.words c.kind_of-kind.ensures.only c.in_ok-given.ensures.0 c.in_ok-given.ensures.1 _ c.usual_scale.result
     c.in_ok-format.format c.in_ok-format.ensures c.in_ok-given.ensures.2 c.usual_scale.ensures c.in_err-scale.ensures.asked in
     search rules
@@ -18,7 +18,7 @@ pub returns-in_err-quiet : goal.returns-in_err-quiet
 returns-in_err-quiet c =
     let none : AskForNone (map (λ word. word.now) c.args.words.now) =
     no_quiet (map (λ word. word.now) c.args.words.now) _ _ _ (two_words c.args.words.now c.in-len2-up.len_at_least) c.kind_of-kind.result.0
-        (map (λ word. word.now) c.kind_of-kind.result.1.now)
+    (map (λ word. word.now) c.kind_of-kind.result.1.now)
     c.kind_of-kind.ensures.words c.kind_of-kind.ensures.only c.in_ok-given.ensures.0 c.in_ok-given.ensures.1 _ c.usual_quiet.result
     c.in_ok-given.ensures.3 c.usual_quiet.ensures c.in_err-quiet.ensures.asked in
     search rules

@@ -8,14 +8,14 @@ use Rattle.qrcode_bits.proofs.bits.Bits.push_five_bytes.Goals as goal
 pub returns : goal.returns
 returns c =
     let room : room_in (vec_capacity c.self.inside.bytes) (vec_len c.self.inside.bytes) c.self.inside.used ≡ c.args.self.now.room =
-        ap (λ (s : Stream). s.room) c.self.view_is in
+    ap (λ (s : Stream). s.room) c.self.view_is in
     let ok : is_ok c.extend_from_slice.result ≡ true = c.extend_from_slice.ensures.succeeds (omega arith) in
     let items = rw ok at c.extend_from_slice.ensures.items in
     let len = rw ok at c.extend_from_slice.ensures.len in
     let wide : ℕ = c.from.result * 2 ^ 40 % 2 ^ 64 + c.args.number in
     rw (← c.self.view_is) (appends_five _ c.self.inside.bytes.items c.extend_from_slice.new.self.items c.five_bytes.result (vec_len c.self.inside.bytes)
-        (vec_len c.extend_from_slice.new.self)
+    (vec_len c.extend_from_slice.new.self)
     (vec_capacity c.self.inside.bytes) (vec_capacity c.extend_from_slice.new.self) c.self.inside.used c.self.inside.partial c.low_bits-self-inside.result
-        c.args.number wide refl refl
+    c.args.number wide refl refl
     items (omega (arith, len)) c.extend_from_slice.ensures.capacity c.self.invariant.0.part c.requires.small
-        (omega arith) c.five_bytes.ensures c.low_bits-self-inside.ensures)
+    (omega arith) c.five_bytes.ensures c.low_bits-self-inside.ensures)

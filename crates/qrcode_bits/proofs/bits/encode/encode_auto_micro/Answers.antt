@@ -21,7 +21,7 @@ pub loop-smaller-preserved : goal.loop-smaller-preserved
 loop-smaller-preserved c =
     micro_next c.args.bytes.now c.args.level c.loop-smaller.smaller c.loop-smaller.invariant
     (subst (λ (v : Version). FitsNot 0 c.args.bytes.now v c.args.level) c.micro-version.ensures.is
-        (rw c.in_default-found.is at c.in-Ok-chosen_plan.ensures.none))
+    (rw c.in_default-found.is at c.in-Ok-chosen_plan.ensures.none))
 
 pub returns-clause-err : goal.returns-clause-err
 returns-clause-err c = (

@@ -15,5 +15,5 @@ returns-in-Err-encode_up_to-clause-err c =
     let limit = limit_of c.args.max_version (to_z w16 (of_z w16 c.args.max_version)) same c.if-max_version-lt1.false c.if-max_version-gt40.false in
     let numbers = header c.args.position c.args.total c.args.parity in
     refused_part c.args.position c.args.total c.args.bytes.now c.args.level c.args.max_version (nat_abs (to_z w16 (of_z w16 c.args.max_version)))
-        (length (header_spelling numbers))
+    (length (header_spelling numbers))
     c.in-Err-encode_up_to.error limit c.in_default.ensures.ok (ap (λ (z : ℤ). nat_abs z) same) (length-header numbers) c.in-Err-encode_up_to.ensures.err

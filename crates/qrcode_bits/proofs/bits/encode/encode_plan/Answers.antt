@@ -19,14 +19,14 @@ push_plan-requires-clause-spelled c =
     let plan = c.args.plan.now in
     subst (λ (v : Version). AreSpelled v (segment_pieces bytes plan)) (sym c.in-Ok.ensures.version)
     (spelled_plan (length (header_bits c.args.header.now)) c.args.version c.args.level bytes plan
-        (bytes_valid bytes (λ i. omega (arith, c.type_inv.bytes i))) c.requires.fits).spelled
+    (bytes_valid bytes (λ i. omega (arith, c.type_inv.bytes i))) c.requires.fits).spelled
 
 pub returns-in-Err-push_terminator-clause-memory : goal.returns-in-Err-push_terminator-clause-memory
 returns-in-Err-push_terminator-clause-memory c =
     plan_end_refused c.args.header.now c.args.bytes.now (bytes_valid c.args.bytes.now (λ i. omega (arith, c.type_inv.bytes i))) c.args.version c.args.level
-        c.args.plan.now c.requires.fits
+    c.args.plan.now c.requires.fits
     c.in-Ok.bits c.in-Ok.ensures.bits c.in-Ok.ensures.version c.push_plan.new.self c.in-Err-push_terminator.error c.in_default-push_plan.ensures.ok
-        c.in-Err-push_terminator.ensures.refused
+    c.in-Err-push_terminator.ensures.refused
 
 pub returns-clause-ok : goal.returns-clause-ok
 returns-clause-ok c = grind (arith, plan_stream, bytes_valid)

@@ -9,7 +9,7 @@ use Rattle.qrcode_bits.proofs.bits.encode.encode_up_to.Goals as goal
 pub returns-then-bytes-gt-MAX_DATA_LEN-clause-err : goal.returns-then-bytes-gt-MAX_DATA_LEN-clause-err
 returns-then-bytes-gt-MAX_DATA_LEN-clause-err c =
     long_message (length (header_bits c.args.header.now)) c.args.bytes.now c.args.level c.args.limit c.requires.to_forty
-        (bytes_valid c.args.bytes.now (λ i. omega (arith, c.type_inv.bytes i))) c.if-bytes-gt-MAX_DATA_LEN.true
+    (bytes_valid c.args.bytes.now (λ i. omega (arith, c.type_inv.bytes i))) c.if-bytes-gt-MAX_DATA_LEN.true
 
 pub returns-in-Some-clause-ok : goal.returns-in-Some-clause-ok
 returns-in-Some-clause-ok c =
@@ -22,9 +22,12 @@ loop-last-preserved c =
     let i = c.loop-last.invariant in
     let here = classes_here i.0 c.args.limit c.as_slice-last-items.result.now c.loop-last.last-index c.loop-last-test.true i.1 in
     let none = rw c.in_default-found.is at c.in-Ok-encode_class.ensures.none in
-    let last : ℕ = get_or c.as_slice-last-items.result.now c.loop-last.last-index 0 in
-    (last, here.3, class_fits_not (length (header_bits c.args.header.now)) c.args.bytes.now c.args.level i.0 last
-        (omega (arith, here.2, c.requires.to_forty)) here.0 i.2 none)
+    let last : ℕ = get_or c.as_slice-last-items.result.now c.loop-last.last-index 0 in (
+      last,
+      here.3,
+      class_fits_not (length (header_bits c.args.header.now)) c.args.bytes.now c.args.level i.0 last
+          (omega (arith, here.2, c.requires.to_forty)) here.0 i.2 none,
+    )
 
 pub returns-clause-err : goal.returns-clause-err
 returns-clause-err c =

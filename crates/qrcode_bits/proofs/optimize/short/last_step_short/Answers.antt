@@ -13,9 +13,9 @@ overflow_sub-last_end-then-found g c = search (arith, rules, short-rest)
 pub with_cost-candidate-requires-clause-enough : goal.with_cost-candidate-requires-clause-enough
 with_cost-candidate-requires-clause-enough g c =
     short-enough c.args.segments.now c.args.version c.args.end c.requires.within c.requires.linear c.loop-bucket.bucket
-        c.best-found.result c.loop-bucket-test.true
+    c.best-found.result c.loop-bucket-test.true
     (told c.args.words.now) c.requires.words c.bucket_mode-mode.result c.bucket_mode-mode.ensures c.best-found.ensures c.if-found.true
-        c.args.headers.now c.requires.headers
+    c.args.headers.now c.requires.headers
     c.bucket_rest.result c.cost-cost.result c.bucket_rest.ensures c.cost-cost.ensures.cost (8192 * c.period_bits.result)
     (ap (λ (n : ℕ). 8192 * n) c.period_bits.ensures.is)
 
@@ -30,30 +30,42 @@ loop-bucket-preserved g c =
     elim c.if-found.branch [
       | then-found+then-candidate-best w ↦
           let dear = cost-small c.args.version c.args.headers.now mode (last_end - w.bucket_rest.result) w.cost-cost.result c.requires.headers
-              (omega arith) w.cost-cost.ensures.cost in
+          (omega arith) w.cost-cost.ensures.cost in
           let next = sought-takes segments c.args.version end c.requires.within c.requires.linear j c.best-found.result c.loop-bucket-test.true
           (told c.args.words.now) c.requires.words mode c.bucket_mode-mode.ensures c.best-found.ensures w.if-found.true c.args.headers.now c.requires.headers
           w.bucket_rest.result w.cost-cost.result w.bucket_rest.ensures w.cost-cost.ensures.cost
           (8192 * w.period_bits.result) w.with_cost-candidate.result (ap (λ (n : ℕ). 8192 * n) w.period_bits.ensures.is) w.with_cost-candidate.ensures dear
           best c.loop-bucket.best_mode c.loop-bucket.invariant.sought (omega (arith, w.if-candidate-best.true)) in
-          record { within = omega arith; sought = rw (w.best_mode-is, w.best-is) next; ticked =
-              omega (arith, w.comparisons-is, w.tick.ensures, c.loop-bucket.invariant.ticked) }
+          record {
+            within = omega arith;
+            sought = rw (w.best_mode-is, w.best-is) next;
+            ticked =
+                omega (arith, w.comparisons-is, w.tick.ensures, c.loop-bucket.invariant.ticked);
+          }
       | then-found+else-candidate-best w ↦
           let dear = cost-small c.args.version c.args.headers.now mode (last_end - w.bucket_rest.result) w.cost-cost.result c.requires.headers
-              (omega arith) w.cost-cost.ensures.cost in
+          (omega arith) w.cost-cost.ensures.cost in
           let next = sought-keeps segments c.args.version end c.requires.within c.requires.linear j c.best-found.result c.loop-bucket-test.true
           (told c.args.words.now) c.requires.words mode c.bucket_mode-mode.ensures c.best-found.ensures w.if-found.true c.args.headers.now c.requires.headers
           w.bucket_rest.result w.cost-cost.result w.bucket_rest.ensures w.cost-cost.ensures.cost
           (8192 * w.period_bits.result) w.with_cost-candidate.result (ap (λ (n : ℕ). 8192 * n) w.period_bits.ensures.is) w.with_cost-candidate.ensures dear
           best c.loop-bucket.best_mode c.loop-bucket.invariant.sought (omega (arith, w.if-candidate-best.false)) in
-          record { within = omega arith; sought = rw (w.best_mode-is, w.best-is) next; ticked =
-              omega (arith, w.comparisons-is, w.tick.ensures, c.loop-bucket.invariant.ticked) }
+          record {
+            within = omega arith;
+            sought = rw (w.best_mode-is, w.best-is) next;
+            ticked =
+                omega (arith, w.comparisons-is, w.tick.ensures, c.loop-bucket.invariant.ticked);
+          }
       | else-found w ↦
           let next = sought-nothing segments c.args.version end c.requires.within c.requires.linear j c.best-found.result best c.loop-bucket.best_mode mode
           (told c.args.words.now) c.loop-bucket.invariant.sought c.loop-bucket-test.true c.requires.words c.bucket_mode-mode.ensures c.best-found.ensures
-              (omega (arith, w.if-found.false)) in
-          record { within = omega arith; sought = rw (w.best_mode-is, w.best-is) next; ticked =
-              omega (arith, w.comparisons-is, c.loop-bucket.invariant.ticked) }
+          (omega (arith, w.if-found.false)) in
+          record {
+            within = omega arith;
+            sought = rw (w.best_mode-is, w.best-is) next;
+            ticked =
+                omega (arith, w.comparisons-is, c.loop-bucket.invariant.ticked);
+          }
     ]
 
 pub returns-clause-step : goal.returns-clause-step

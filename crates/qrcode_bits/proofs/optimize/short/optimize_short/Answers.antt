@@ -10,7 +10,7 @@ pub loop-start-init : goal.loop-start-init
 loop-start-init g c =
     let segments = c.args.segments.now in
     let w = AreShortSteps-start segments c.args.version c.in_ok-steps.steps.items c.push.new.self.items _ c.in_ok-steps.ensures.items
-        (omega (arith, c.word.ensures.word)) c.in_ok-push.ensures.items in
+    (omega (arith, c.word.ensures.word)) c.in_ok-push.ensures.items in
     record {
       long = w.0;
       right = w.1;
@@ -31,7 +31,7 @@ last_step_short-before-requires-clause-words g c =
     let inv = c.loop-start.invariant in
     let right : IsStep segments c.args.version k (step_told segments k c.loop-start.before) = rw inv.last (inv.right k (omega (arith, inv.long))) in
     AreGroups-next segments c.args.version k c.loop-start-test.true (told c.loop-start.words) (told c.advance.new.self) (told c.enter.new.self)
-        (segment_at segments k).mode
+    (segment_at segments k).mode
     (step_told segments k c.loop-start.before) c.bits.result (c.parts.result + 1) inv.groups refl
     c.advance.ensures.advances c.enter.ensures.entered right (omega (arith, c.bits.ensures)) (omega (arith, c.parts.ensures))
     (let near = c.requires.short.near k c.loop-start-test.true in let order = c.requires.linear.ordered k k (omega arith) c.loop-start-test.true in omega arith)
@@ -43,13 +43,13 @@ loop-start-preserved g c =
     let inv = c.loop-start.invariant in
     let right : IsStep segments c.args.version k (step_told segments k c.loop-start.before) = rw inv.last (inv.right k (omega (arith, inv.long))) in
     let next = AreGroups-next segments c.args.version k c.loop-start-test.true (told c.loop-start.words) (told c.advance.new.self) (told c.enter.new.self)
-        (segment_at segments k).mode
+    (segment_at segments k).mode
     (step_told segments k c.loop-start.before) c.bits.result (c.parts.result + 1) inv.groups refl
     c.advance.ensures.advances c.enter.ensures.entered right (omega (arith, c.bits.ensures)) (omega (arith, c.parts.ensures))
     (let near = c.requires.short.near k c.loop-start-test.true in
     let order = c.requires.linear.ordered k k (omega arith) c.loop-start-test.true in omega arith) in
     let w = AreShortSteps-push segments c.args.version c.loop-start.steps.items c.push-in-loop-start.new.self.items c.last_step_short-before.result k inv.long
-        inv.right c.last_step_short-before.ensures.step c.in_ok-push-2.ensures.items in
+    inv.right c.last_step_short-before.ensures.step c.in_ok-push-2.ensures.items in
     record {
       long = w.0;
       right = w.1;

@@ -17,11 +17,11 @@ loop-i-preserved c = λ after t pair is bits xs f.
     let end : n + 2 * (c.args.first + i) + 2 ≡ n + 2 * c.args.first + 2 * (i + 1) = omega arith in
     let before = subst (λ (k : ℕ). FilledBelow w t bits xs c.loop-i.modules k (number_bits (6 - 2 * i + 2) c.args.eight ++ after)) here
     (subst (λ (k : ℕ). FilledBelow w t bits xs c.loop-i.modules (n + 2 * c.args.first + 2 * i) (number_bits k c.args.eight ++ after)) left
-        (c.loop-i.invariant after t pair is bits xs f)) in
+    (c.loop-i.invariant after t pair is bits xs f)) in
     let both = row_placed t pair c.args.first (c.args.first + i) c.args.columns bits xs c.args.modules.now c.loop-i.modules c.draw_row.new.modules
-        c.place_after-here.result (6 - 2 * i) c.args.eight
+    c.place_after-here.result (6 - 2 * i) c.args.eight
     (number_bits 8 c.args.eight ++ after) after is (c.loop-i.auto.modules ∙ c.requires.square) (omega arith)
-        (omega (arith, four, c.requires.rows)) c.place_after-here.ensures.is (c.requires.empty i four) c.draw_row.ensures f before in
+    (omega (arith, four, c.requires.rows)) c.place_after-here.ensures.is (c.requires.empty i four) c.draw_row.ensures f before in
     subst (λ (k : ℕ). FilledBelow w t bits xs c.draw_row.new.modules k (number_bits (8 - 2 * (i + 1)) c.args.eight ++ after)) end
     (subst (λ (k : ℕ). FilledBelow w t bits xs c.draw_row.new.modules (n + 2 * (c.args.first + i) + 2) (number_bits k c.args.eight ++ after)) less both)
 

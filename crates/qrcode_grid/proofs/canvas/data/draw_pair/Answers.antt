@@ -11,10 +11,10 @@ loop-part-preserved c = record {
       let so_far : first ≡ 0 + first = omega arith in
       let sum : first + 4 ≡ 4 * (c.loop-part.part + 1) = omega arith in
       let part = subst (λ (k : ℕ). FillsRows c.args.columns k 4 (ahead c.loop-part.ahead)
-          (ahead c.draw_four-ahead.result) c.loop-part.modules c.draw_four-ahead.new.modules) so_far c.draw_four-ahead.ensures.fills in
+      (ahead c.draw_four-ahead.result) c.loop-part.modules c.draw_four-ahead.new.modules) so_far c.draw_four-ahead.ensures.fills in
       subst (λ (k : ℕ). FillsRows c.args.columns 0 k (ahead c.args.bits) (ahead c.draw_four-ahead.result) c.args.modules.now c.draw_four-ahead.new.modules) sum
       (more_rows c.args.columns 0 first 4 (ahead c.args.bits) (ahead c.loop-part.ahead)
-          (ahead c.draw_four-ahead.result) c.args.modules.now c.loop-part.modules c.draw_four-ahead.new.modules c.loop-part.invariant.fills part);
+      (ahead c.draw_four-ahead.result) c.args.modules.now c.loop-part.modules c.draw_four-ahead.new.modules c.loop-part.invariant.fills part);
   small = c.draw_four-ahead.ensures.small;
 }
 
@@ -27,7 +27,7 @@ returns-clause-fills c =
     let so_far : w / 4 * 4 ≡ 0 + first = omega (arith, last) in
     let sum : first + (w - w / 4 * 4) ≡ w = omega (arith, last) in
     let rest = subst (λ (k : ℕ). FillsRows c.args.columns k (w - w / 4 * 4) (ahead c.loop-part.ahead)
-        (ahead c.draw_rows.result) c.loop-part.modules c.draw_rows.new.modules) so_far c.draw_rows.ensures.fills in
+    (ahead c.draw_rows.result) c.loop-part.modules c.draw_rows.new.modules) so_far c.draw_rows.ensures.fills in
     subst (λ (k : ℕ). FillsRows c.args.columns 0 k (ahead c.args.bits) (ahead c.draw_rows.result) c.args.modules.now c.draw_rows.new.modules) sum
     (more_rows c.args.columns 0 first (w - w / 4 * 4) (ahead c.args.bits) (ahead c.loop-part.ahead)
-        (ahead c.draw_rows.result) c.args.modules.now c.loop-part.modules c.draw_rows.new.modules c.loop-part.invariant.fills rest)
+    (ahead c.draw_rows.result) c.args.modules.now c.loop-part.modules c.draw_rows.new.modules c.loop-part.invariant.fills rest)

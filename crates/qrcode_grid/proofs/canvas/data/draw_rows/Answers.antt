@@ -13,7 +13,7 @@ loop-row-preserved c = record {
       let rest = bits_from c.args.streams in
       let here : pair * (2 * w) + 2 * c.args.first + 2 * c.loop-row.row ≡ n = omega arith in
       let before = subst (λ (k : ℕ). FilledBelow w t bits xs c.loop-row.modules k (rest c.loop-row.ahead)) here
-          (c.loop-row.invariant.fills t pair is bits xs f) in
+      (c.loop-row.invariant.fills t pair is bits xs f) in
       let square : length xs ≡ w * w = sym before.size ∙ c.loop-row.auto.modules ∙ c.requires.square in
       let odd : w ≡ 2 * (w / 2) + 1 = omega (arith, is.odd) in
       let inside : rows < w = omega (arith, c.loop-row-test.true, c.requires.rows) in
@@ -23,11 +23,11 @@ loop-row-preserved c = record {
       let left = c.place_of-place.ensures.is ∙ row_place-left t pair rows c.args.columns is inside in
       let first =
       offered_step w (w / 2) t bits xs c.loop-row.modules c.offer-ahead.new.modules n (c.place_of-place.result + 1) (rest c.loop-row.ahead)
-          (rest c.offer-ahead.result)
+      (rest c.offer-ahead.result)
       odd is.timing square first_in right c.offer-ahead.ensures.modules c.offer-ahead.ensures.rest before in
       let both =
       offered_step w (w / 2) t bits xs c.offer-ahead.new.modules c.offer-ahead-in-loop-row.new.modules (n + 1) c.place_of-place.result
-          (rest c.offer-ahead.result) (rest c.offer-ahead-in-loop-row.result)
+      (rest c.offer-ahead.result) (rest c.offer-ahead-in-loop-row.result)
       odd is.timing square second_in left c.offer-ahead-in-loop-row.ensures.modules c.offer-ahead-in-loop-row.ensures.rest first in
       let next : n + 1 + 1 ≡ pair * (2 * w) + 2 * c.args.first + 2 * (c.loop-row.row + 1) = omega arith in
       subst (λ (k : ℕ). FilledBelow w t bits xs c.offer-ahead-in-loop-row.new.modules k (rest c.offer-ahead-in-loop-row.result)) next both;

@@ -19,10 +19,10 @@ loop-y-init c =
     let row : c.loop-j.j < alignment_count n = omega (arith, alignment_count_is n (omega (arith, c.if-n-lt2.false)), c.loop-j-test.true) in
     let is : c.coordinate-center_y.result ≡ alignment_coordinate n c.loop-j.j = c.coordinate-center_y.ensures.is in
     rows_between (λ x y m. drawn_over (alignments w (alignment_coordinates n) x y) m) w (behind n c.loop-j.j)
-        (c.coordinate-center_y.result - 2) c.args.modules.now c.loop-j.modules
+    (c.coordinate-center_y.result - 2) c.args.modules.now c.loop-j.modules
     (omega (arith, c.requires.wide)) (omega (arith, is, behind_before n c.loop-j.j c.requires.number row))
     (λ x y l low last m. ap (λ o. drawn_over o m) (no_pattern_row w (near (alignment_coordinates n) x) (near (alignment_coordinates n) y) x y
-        (none_between n c.loop-j.j y c.requires.number row low (omega (arith, is, last)))))
+    (none_between n c.loop-j.j y c.requires.number row low (omega (arith, is, last)))))
     c.loop-j.invariant
 
 pub loop-x-init : goal.loop-x-init
@@ -31,11 +31,11 @@ loop-x-init c =
     let column : c.loop-k.k < alignment_count n = omega (arith, alignment_count_is n (omega (arith, c.if-n-lt2.false)), c.loop-k-test.true) in
     let is : c.coordinate-center_x.result ≡ alignment_coordinate n c.loop-k.k = c.coordinate-center_x.ensures.is in
     row_between (λ x y m. drawn_over (alignments w (alignment_coordinates n) x y) m) w c.loop-y.y (behind n c.loop-k.k)
-        (c.coordinate-center_x.result - 2) c.args.modules.now c.loop-k.modules
+    (c.coordinate-center_x.result - 2) c.args.modules.now c.loop-k.modules
     (omega (arith, is, behind_before n c.loop-k.k c.requires.number column))
-        (omega (arith, is, c.requires.wide, (cells_inside n c.loop-k.k c.requires.number column).1))
+    (omega (arith, is, c.requires.wide, (cells_inside n c.loop-k.k c.requires.number column).1))
     (λ x low last m. ap (λ o. drawn_over o m) (no_pattern w (near (alignment_coordinates n) x) (near (alignment_coordinates n) c.loop-y.y) x c.loop-y.y
-        (none_between n c.loop-k.k x c.requires.number column low (omega (arith, is, last)))))
+    (none_between n c.loop-k.k x c.requires.number column low (omega (arith, is, last)))))
     c.loop-k.invariant
 
 inside_cell : (w x y long size : ℕ) → x < w → y < w → long ≡ size → size ≡ w * w → y * w + x < long
@@ -46,20 +46,40 @@ slice_copy_out-drawn c =
     let n = c.args.n in let w = c.args.width in
     let row : c.loop-j.j < alignment_count n = omega (arith, alignment_count_is n (omega (arith, c.if-n-lt2.false)), c.loop-j-test.true) in
     let column : c.loop-k.k < alignment_count n = omega (arith, alignment_count_is n (omega (arith, c.if-n-lt2.false)), c.loop-k-test.true) in
-    let inside_y : c.loop-y.y < w = omega (arith, c.coordinate-center_y.ensures.is, c.requires.wide, c.loop-y-test.true,
-        (cells_inside n c.loop-j.j c.requires.number row).1) in
-    inside_cell w c.loop-x.x c.loop-y.y _ _ (omega (arith, c.coordinate-center_x.ensures.is, c.requires.wide, c.loop-x-test.true,
-        (cells_inside n c.loop-k.k c.requires.number column).1)) inside_y c.loop-x.invariant.size c.requires.square
+    let inside_y : c.loop-y.y < w = omega (
+      arith,
+      c.coordinate-center_y.ensures.is,
+      c.requires.wide,
+      c.loop-y-test.true,
+      (cells_inside n c.loop-j.j c.requires.number row).1,
+    ) in
+    inside_cell w c.loop-x.x c.loop-y.y _ _ (omega (
+      arith,
+      c.coordinate-center_x.ensures.is,
+      c.requires.wide,
+      c.loop-x-test.true,
+      (cells_inside n c.loop-k.k c.requires.number column).1,
+    )) inside_y c.loop-x.invariant.size c.requires.square
 
 pub bounds-modules-i : goal.bounds-modules-i
 bounds-modules-i c =
     let n = c.args.n in let w = c.args.width in
     let row : c.loop-j.j < alignment_count n = omega (arith, alignment_count_is n (omega (arith, c.if-n-lt2.false)), c.loop-j-test.true) in
     let column : c.loop-k.k < alignment_count n = omega (arith, alignment_count_is n (omega (arith, c.if-n-lt2.false)), c.loop-k-test.true) in
-    let inside_y : c.loop-y.y < w = omega (arith, c.coordinate-center_y.ensures.is, c.requires.wide, c.loop-y-test.true,
-        (cells_inside n c.loop-j.j c.requires.number row).1) in
-    inside_cell w c.loop-x.x c.loop-y.y _ _ (omega (arith, c.coordinate-center_x.ensures.is, c.requires.wide, c.loop-x-test.true,
-        (cells_inside n c.loop-k.k c.requires.number column).1)) inside_y c.loop-x.invariant.size c.requires.square
+    let inside_y : c.loop-y.y < w = omega (
+      arith,
+      c.coordinate-center_y.ensures.is,
+      c.requires.wide,
+      c.loop-y-test.true,
+      (cells_inside n c.loop-j.j c.requires.number row).1,
+    ) in
+    inside_cell w c.loop-x.x c.loop-y.y _ _ (omega (
+      arith,
+      c.coordinate-center_x.ensures.is,
+      c.requires.wide,
+      c.loop-x-test.true,
+      (cells_inside n c.loop-k.k c.requires.number column).1,
+    )) inside_y c.loop-x.invariant.size c.requires.square
 
 pub loop-x-preserved : goal.loop-x-preserved
 loop-x-preserved c =
@@ -67,15 +87,25 @@ loop-x-preserved c =
     let x = c.loop-x.x in let y = c.loop-y.y in let cs = alignment_coordinates n in
     let row : c.loop-j.j < alignment_count n = omega (arith, alignment_count_is n (omega (arith, c.if-n-lt2.false)), c.loop-j-test.true) in
     let column : c.loop-k.k < alignment_count n = omega (arith, alignment_count_is n (omega (arith, c.if-n-lt2.false)), c.loop-k-test.true) in
-    let inside_y : c.loop-y.y < w = omega (arith, c.coordinate-center_y.ensures.is, c.requires.wide, c.loop-y-test.true,
-        (cells_inside n c.loop-j.j c.requires.number row).1) in
+    let inside_y : c.loop-y.y < w = omega (
+      arith,
+      c.coordinate-center_y.ensures.is,
+      c.requires.wide,
+      c.loop-y-test.true,
+      (cells_inside n c.loop-j.j c.requires.number row).1,
+    ) in
     let is_x : c.coordinate-center_x.result ≡ alignment_coordinate n c.loop-k.k = c.coordinate-center_x.ensures.is in
     let is_y : c.coordinate-center_y.result ≡ alignment_coordinate n c.loop-j.j = c.coordinate-center_y.ensures.is in
     let near_x = near_center n c.loop-k.k x c.requires.number column (omega (arith, is_x, c.loop-x-test.true, c.loop-x.auto.x)) in
     let near_y = near_center n c.loop-j.j y c.requires.number row (omega (arith, is_y, c.loop-y-test.true, c.loop-y.auto.y)) in
     cell_changed (λ x y m. drawn_over (alignments w (alignment_coordinates n) x y) m) w y x c.args.modules.now c.loop-x.modules _ Empty
-    (omega (arith, c.coordinate-center_x.ensures.is, c.requires.wide, c.loop-x-test.true,
-        (cells_inside n c.loop-k.k c.requires.number column).1)) inside_y c.requires.square
+    (omega (
+      arith,
+      c.coordinate-center_x.ensures.is,
+      c.requires.wide,
+      c.loop-x-test.true,
+      (cells_inside n c.loop-k.k c.requires.number column).1,
+    )) inside_y c.requires.square
     (c.drawn.ensures ∙ ap (λ o. drawn_over o (get_or c.loop-x.modules (y * w + x) Empty)) (c.alignments_color-color.ensures
     ∙ ap (λ o. pattern_at w o (Some c.coordinate-center_y.result) x y) (ap Some is_x ∙ sym near_x)
     ∙ ap (λ o. pattern_at w (near cs x) o x y) (ap Some is_y ∙ sym near_y))) c.loop-x.invariant
@@ -85,20 +115,24 @@ loop-k-preserved c =
     let n = c.args.n in let k = c.loop-k.k in let w = c.args.width in
     let next : k + 1 ≡ suc k = omega arith in
     let last : c.loop-y.y * w + c.loop-x.x ≡ c.loop-y.y * w + behind n (k + 1) =
-        omega (arith, c.coordinate-center_x.ensures.is, ap (behind n) next, c.loop-x-test.false, c.loop-x.auto.x-end) in
+    omega (arith, c.coordinate-center_x.ensures.is, ap (behind n) next, c.loop-x-test.false, c.loop-x.auto.x-end) in
     subst (λ (i : ℕ). CellsChanged (λ x y m. drawn_over (alignments w (alignment_coordinates n) x y) m) w c.args.modules.now
-        c.loop-x.modules i) last c.loop-x.invariant
+    c.loop-x.modules i) last c.loop-x.invariant
 
 pub loop-y-preserved : goal.loop-y-preserved
 loop-y-preserved c =
     let n = c.args.n in let w = c.args.width in
     let y = c.loop-y.y in let cs = alignment_coordinates n in
-    let last : c.loop-k.k ≡ alignment_count n = omega (arith, alignment_count_is n (omega (arith, c.if-n-lt2.false)),
-        c.loop-k-test.false, c.loop-k.auto.k-end) in
+    let last : c.loop-k.k ≡ alignment_count n = omega (
+      arith,
+      alignment_count_is n (omega (arith, c.if-n-lt2.false)),
+      c.loop-k-test.false,
+      c.loop-k.auto.k-end,
+    ) in
     row_ends (λ x y m. drawn_over (alignments w (alignment_coordinates n) x y) m) w y (behind n c.loop-k.k) c.args.modules.now c.loop-k.modules
-        (omega (arith, c.requires.wide, behind_within n c.loop-k.k c.requires.number (omega (arith, last))))
+    (omega (arith, c.requires.wide, behind_within n c.loop-k.k c.requires.number (omega (arith, last))))
     (λ x low l m. ap (λ o. drawn_over o m) (no_pattern w (near cs x) (near cs y) x y
-        (none_behind n x c.requires.number (omega (arith, low, ap (behind n) last)))))
+    (none_behind n x c.requires.number (omega (arith, low, ap (behind n) last)))))
     c.loop-k.invariant
 
 pub loop-j-preserved : goal.loop-j-preserved
@@ -107,17 +141,21 @@ loop-j-preserved c =
     let next : j + 1 ≡ suc j = omega arith in
     let last : c.loop-y.y ≡ behind n (j + 1) = omega (arith, c.coordinate-center_y.ensures.is, ap (behind n) next, c.loop-y-test.false, c.loop-y.auto.y-end) in
     subst (λ (i : ℕ). CellsChanged (λ x y m. drawn_over (alignments w (alignment_coordinates n) x y) m) w c.args.modules.now c.loop-y.modules
-        (i * w)) last c.loop-y.invariant
+    (i * w)) last c.loop-y.invariant
 
 pub returns : goal.returns
 returns c =
     let n = c.args.n in let w = c.args.width in
     let cs = alignment_coordinates n in
-    let last : c.loop-j.j ≡ alignment_count n = omega (arith, alignment_count_is n (omega (arith, c.if-n-lt2.false)),
-        c.loop-j-test.false, c.loop-j.auto.j-end) in
+    let last : c.loop-j.j ≡ alignment_count n = omega (
+      arith,
+      alignment_count_is n (omega (arith, c.if-n-lt2.false)),
+      c.loop-j-test.false,
+      c.loop-j.auto.j-end,
+    ) in
     rows_end (λ x y m. drawn_over (alignments w (alignment_coordinates n) x y) m) w w c.args.modules.now c.loop-j.modules Empty (omega arith) c.requires.square
     (rows_between (λ x y m. drawn_over (alignments w (alignment_coordinates n) x y) m) w (behind n c.loop-j.j) w c.args.modules.now c.loop-j.modules
     (omega (arith, c.requires.wide)) (omega (arith, c.requires.wide, behind_within n c.loop-j.j c.requires.number (omega (arith, last))))
     (λ x y l low h m. ap (λ o. drawn_over o m) (no_pattern_row w (near cs x) (near cs y) x y
-        (none_behind n y c.requires.number (omega (arith, low, ap (behind n) last)))))
+    (none_behind n y c.requires.number (omega (arith, low, ap (behind n) last)))))
     c.loop-j.invariant)

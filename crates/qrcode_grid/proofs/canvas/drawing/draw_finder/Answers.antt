@@ -8,18 +8,18 @@ use Rattle.qrcode_grid.proofs.canvas.drawing.draw_finder.Goals as goal
 pub loop-x-init : goal.loop-x-init
 loop-x-init c =
     row_begins (λ x y m. drawn_over (finder c.args.center_x c.args.center_y x y) m) c.args.width c.loop-y.y c.finder_columns-left.result.0
-        c.args.modules.now c.loop-y.modules
+    c.args.modules.now c.loop-y.modules
     (omega (arith, c.finder_columns-left.ensures.within)) (λ x h m. ap (λ o. drawn_over o m)
-        (c.finder_columns-left.ensures.before x c.loop-y.y h)) c.loop-y.invariant
+    (c.finder_columns-left.ensures.before x c.loop-y.y h)) c.loop-y.invariant
 
 pub loop-x-preserved : goal.loop-x-preserved
 loop-x-preserved c =
     let column : c.loop-x.x < c.args.width = omega (arith, c.loop-x-test.true, c.finder_columns-left.ensures.within) in
     let row : c.loop-y.y < c.args.width = omega (arith, c.loop-y-test.true, c.finder_rows-top.ensures.within) in
     cell_changed (λ x y m. drawn_over (finder c.args.center_x c.args.center_y x y) m) c.args.width c.loop-y.y c.loop-x.x
-        c.args.modules.now c.loop-x.modules _ Empty
+    c.args.modules.now c.loop-x.modules _ Empty
     column row c.requires.square (sym (ap (λ o. drawn_over o (get_or c.loop-x.modules (c.loop-y.y * c.args.width + c.loop-x.x) Empty))
-        (c.finder_color.ensures))) c.loop-x.invariant
+    (c.finder_color.ensures))) c.loop-x.invariant
 
 pub loop-y-preserved : goal.loop-y-preserved
 loop-y-preserved c =
@@ -30,7 +30,7 @@ loop-y-preserved c =
 pub returns : goal.returns
 returns c =
     rows_end (λ x y m. drawn_over (finder c.args.center_x c.args.center_y x y) m) c.args.width c.args.width c.args.modules.now c.loop-y.modules Empty
-        (omega arith) c.requires.square
+    (omega arith) c.requires.square
     (rows_between (λ x y m. drawn_over (finder c.args.center_x c.args.center_y x y) m) c.args.width c.loop-y.y c.args.width c.args.modules.now c.loop-y.modules
     (omega (arith, c.requires.row)) (omega (arith, c.loop-y.auto.y-end, c.finder_rows-top.ensures.within))
     (λ x y h l k m. ap (λ o. drawn_over o m) (c.finder_rows-top.ensures.after x y (omega (arith, l, c.loop-y-test.false)) k)) c.loop-y.invariant)

@@ -14,7 +14,7 @@ returns c = λ x y l m.
     let old = get_or c.args.modules.now (y * w + x) Empty in
     ap (λ ms. get_or ms (y * w + x) Empty) c.draw_dark_module.ensures
     ∙ dark_written drawn_over (λ b. refl) w Empty c.draw_word-2.new.modules (Masked Dark) c.requires.wide.0 (c.draw_word-2.auto.modules
-        ∙ c.draw_word.auto.modules ∙ c.requires.square) (λ b. refl) x y l m
+    ∙ c.draw_word.auto.modules ∙ c.requires.square) (λ b. refl) x y l m
     ∙ ap (drawn_over dark) (c.draw_word-2.ensures x y l m ∙ ap (drawn_over first) (c.draw_word.ensures x y l m))
     ∙ ap (λ (ps : List (ℕ × ℕ)). drawn_over dark (drawn_over first (drawn_over (written c.args.format ps x y) old))) c.second_places.ensures
     ∙ sym (over_three drawn_over (λ o a b. refl) (λ b. refl) dark first (written c.args.format (format_second w) x y) old)

@@ -15,7 +15,7 @@ returns c = λ x y l m.
     let dark = ap (λ ms. get_or ms (y * w + x) Empty) c.draw_dark_module.ensures
     ∙ dark_written drawn_over (λ b. refl) w Empty c.draw_alignments.new.modules (Masked Dark) some
     (c.draw_alignments.auto.modules ∙ c.draw_word-2.auto.modules ∙ c.draw_word.auto.modules ∙ c.draw_version_words.auto.modules
-        ∙ c.requires.square) (λ b. refl) x y l m in
+    ∙ c.requires.square) (λ b. refl) x y l m in
     c.draw_finder-3.ensures x y l m ∙ ap (drawn_over (finder 3 3 x y)) (
     c.draw_finder-2.ensures x y l m ∙ ap (drawn_over (finder (w - 4) 3 x y)) (
     c.draw_finder.ensures x y l m ∙ ap (drawn_over (finder 3 (w - 4) x y)) (

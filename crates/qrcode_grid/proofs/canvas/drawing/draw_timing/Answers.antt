@@ -12,9 +12,9 @@ loop-x-init c =
     row_begins (λ x y m. drawn_over (timing line from to x y) m) w line from c.args.modules.now c.args.modules.now
     (omega (arith, c.requires.lines)) (λ x h m. ap (λ o. drawn_over o m) (no_timing_before line from to x c.requires.lines.0 h))
     (rows_between (λ x y m. drawn_over (timing line from to x y) m) w 0 line c.args.modules.now c.args.modules.now
-        (omega (arith, c.requires.lines)) (omega arith)
+    (omega (arith, c.requires.lines)) (omega arith)
     (λ x y l low high m. let other : y ≢ line = omega (arith, high) in
-        ap (λ o. drawn_over o m) (no_timing_above line from to x y other (omega (arith, high, c.requires.lines))))
+    ap (λ o. drawn_over o m) (no_timing_above line from to x y other (omega (arith, high, c.requires.lines))))
     (rows_begin (λ x y m. drawn_over (timing line from to x y) m) w c.args.modules.now))
 
 pub loop-x-preserved : goal.loop-x-preserved
@@ -28,10 +28,10 @@ pub loop-y-init : goal.loop-y-init
 loop-y-init c =
     let line = c.args.line in let from = c.args.from in let to = c.args.to in let w = c.args.width in
     rows_between (λ x y m. drawn_over (timing line from to x y) m) w (line + 1) from c.args.modules.now c.loop-x.modules (omega (arith, c.requires.lines))
-        (omega (arith, c.requires.lines))
+    (omega (arith, c.requires.lines))
     (λ x y l low high m. let other : y ≢ line = omega (arith, low) in ap (λ o. drawn_over o m) (no_timing_above line from to x y other high))
     (row_ends (λ x y m. drawn_over (timing line from to x y) m) w line c.loop-x.x c.args.modules.now c.loop-x.modules
-        (omega (arith, c.loop-x.auto.x-end, c.requires.lines))
+    (omega (arith, c.loop-x.auto.x-end, c.requires.lines))
     (λ x low l m. ap (λ o. drawn_over o m) (no_timing_behind line from to x c.requires.lines.0 (omega (arith, low, c.loop-x-test.false)))) c.loop-x.invariant)
 
 pub loop-y-preserved : goal.loop-y-preserved
@@ -53,6 +53,6 @@ returns c =
     let line = c.args.line in let from = c.args.from in let to = c.args.to in let w = c.args.width in
     rows_end (λ x y m. drawn_over (timing line from to x y) m) w w c.args.modules.now c.loop-y.modules Empty (omega arith) c.requires.square
     (rows_between (λ x y m. drawn_over (timing line from to x y) m) w c.loop-y.y w c.args.modules.now c.loop-y.modules (omega (arith, c.requires.lines))
-        (omega (arith, c.loop-y.auto.y-end, c.requires.lines))
+    (omega (arith, c.loop-y.auto.y-end, c.requires.lines))
     (λ x y l low h m. let other : y ≢ line = omega (arith, low, c.loop-y-test.false, c.requires.lines) in
     ap (λ o. drawn_over o m) (no_timing_below line from to x y other (omega (arith, low, c.loop-y-test.false)))) c.loop-y.invariant)

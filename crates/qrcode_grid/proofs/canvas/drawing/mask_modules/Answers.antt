@@ -22,7 +22,7 @@ loop-x-preserved c =
     let next : i + 1 ≡ y * w + (x + 1) = omega arith in
     let step = changed_set _ _ _ _ _ Empty inside (c.mask.ensures ∙ ap (λ b. masked b old) inverted ∙ at) c.loop-x.invariant in
     subst (λ (n : ℕ). ChangedBelow (λ i m. masked (is_inverted c.args.pattern (i % w) (i / w)) m) c.args.modules.now
-        (set c.loop-x.modules i c.mask.result) n) next step
+    (set c.loop-x.modules i c.mask.result) n) next step
 
 pub returns : goal.returns
 returns c = λ x y l m.

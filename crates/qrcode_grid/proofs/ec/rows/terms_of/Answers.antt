@@ -10,9 +10,9 @@ returns-clause-lanes c =
     let n = length c.args.divisor.now - 1 in
     let rest : length (drop n (replicate {A = ℕ} 32 0)) ≡ 32 - n = ap length (drop-zeros n 32) ∙ length-replicate (32 - n) 0 in
     let copied : length c.copy_from_slice.new.self ≡ n = ap length c.copy_from_slice.ensures.after ∙ length-take n (drop 1 c.args.divisor.now)
-        ∙ omega (arith, length-drop 1 c.args.divisor.now) in
+    ∙ omega (arith, length-drop 1 c.args.divisor.now) in
     length-chunk 0 32 (c.copy_from_slice.new.self ++ drop n (replicate {A = ℕ} 32 0))
-        (omega (arith, rest, copied, length-append c.copy_from_slice.new.self (drop n (replicate {A = ℕ} 32 0))))
+    (omega (arith, rest, copied, length-append c.copy_from_slice.new.self (drop n (replicate {A = ℕ} 32 0))))
 
 pub returns-clause-terms : goal.returns-clause-terms
 returns-clause-terms c = λ j h.

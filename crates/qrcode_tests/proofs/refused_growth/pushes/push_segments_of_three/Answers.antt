@@ -9,4 +9,4 @@ use Rattle.qrcode_tests.proofs.refused_growth.pushes.push_segments_of_three.Goal
 pub push_segments-answer-requires-clause-within : goal.push_segments-answer-requires-clause-within
 push_segments-answer-requires-clause-within g c = λ xs came.
     given_all c.copied.result c.iter.result.rest.now (YieldsList-from_copied (YieldsList-from_slice c.iter.result.rest.now (search rules)))
-        (LiesIn (length c.forty_of_each.result)) ⊥ xs (search rules) came
+    (LiesIn (length c.forty_of_each.result)) ⊥ xs (search rules) came

@@ -5,4 +5,4 @@ use Rattle.qrcode_core.proofs.plugin.registry.PluginRegistry.put_postprocessors.
 pub returns-in-Err : goal.returns-in-Err
 returns-in-Err g c =
     registers_refused postprocessor_of _ _ _ _ _ _ _ _ _ c.loop-postprocessor.invariant.1 c.in-Some.ensures.steps.0
-        c.loop-postprocessor.invariant.0 c.in-Err.ensures
+    c.loop-postprocessor.invariant.0 c.in-Err.ensures

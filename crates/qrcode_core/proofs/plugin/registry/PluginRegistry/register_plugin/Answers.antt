@@ -25,7 +25,7 @@ returns g c =
     (map named_renderer plugin.renderers.items ++ (map named_encoder plugin.encoders.items ++ map postprocessor_of plugin.postprocessors.items))
     last.result c.in_default.ensures
     (registers_then _ _ _ (map named_renderer plugin.renderers.items) (map named_encoder plugin.encoders.items
-        ++ map postprocessor_of plugin.postprocessors.items)
+    ++ map postprocessor_of plugin.postprocessors.items)
     last.result c.in_default-put_renderers.ensures
     (registers_then _ _ _ (map named_encoder plugin.encoders.items) (map postprocessor_of plugin.postprocessors.items) last.result
-        c.in_default-put_encoders.ensures last.ensures))
+    c.in_default-put_encoders.ensures last.ensures))

@@ -21,10 +21,10 @@ returns c = λ m h.
     let row : y < w = elim (cases_lt y w) [ inl below ↦ below | inr above ↦ absurd (omega (arith, inside, coded, mul-le-mul_right w above)) ] in
     let place : y * w + x ≡ k = omega (arith, c.requires.wide.0) in
     let inverted = set_again (is_inverted (pattern_of m) x (y % 12)) _ (c.write_stripes.ensures m x (y % 12) h column (omega arith))
-        ∙ sym (is_inverted-repeats_rows (pattern_of m) x y) in
+    ∙ sym (is_inverted-repeats_rows (pattern_of m) x y) in
     let color = format_color c.args.version w word x y in
     sym (ap (λ j. get_or (plane m grid) j 0) place)
     ∙ c.write_formats.ensures m word h (c.format_digits.ensures m h) x y column row
     ∙ ap (byte_under color) (plane_at m c.mask_rows.new.grid (y * w + x) ∙ c.mask_rows.ensures m x y h column row
-        ∙ ap (masked_code (get_or codes (y * w + x) 0)) inverted)
+    ∙ ap (masked_code (get_or codes (y * w + x) 0)) inverted)
     ∙ ap (λ j. byte_under color (masked_code (get_or codes j 0) (is_inverted (pattern_of m) x y))) place)

@@ -15,6 +15,6 @@ loop-k-preserved c = λ m word h are.
     let v = get_or c.args.digits.now k 0 in
     let step = next_written byte_under w word ps k 0 (plane m c.args.grid.now) (plane m c.loop-k.grid) (bit_at v m)
     c.loop-k-test.true inside.0 inside.1 (length-plane m c.loop-k.grid ∙ c.loop-k.auto.grid ∙ c.requires.long)
-        (λ b. are k (omega (arith, c.loop-k-test.true, c.requires.few))) (c.loop-k.invariant m word h are) in
+    (λ b. are k (omega (arith, c.loop-k-test.true, c.requires.few))) (c.loop-k.invariant m word h are) in
     subst (λ (now : List ℕ). IsWritten byte_under w word (drop (length ps - (k + 1)) ps) 0 (plane m c.args.grid.now) now)
     (sym (map-set (λ b. bit_at b m) c.loop-k.grid (place.1 * w + place.0) v)) step

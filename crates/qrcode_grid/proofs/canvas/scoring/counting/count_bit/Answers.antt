@@ -6,5 +6,8 @@ pub returns-clause-is : goal.returns-clause-is
 returns-clause-is c = bits_in_mask c.args.m c.args.lanes c.requires.lanes _ (shifted_one c.args.m c.requires.bit)
 
 pub returns-clause-small : goal.returns-clause-small
-returns-clause-small c = omega (arith, bits_in_mask c.args.m c.args.lanes c.requires.lanes _ (shifted_one c.args.m c.requires.bit),
-    bit_count_le c.args.m c.args.lanes)
+returns-clause-small c = omega (
+  arith,
+  bits_in_mask c.args.m c.args.lanes c.requires.lanes _ (shifted_one c.args.m c.requires.bit),
+  bit_count_le c.args.m c.args.lanes,
+)

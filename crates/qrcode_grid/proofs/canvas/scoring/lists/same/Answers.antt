@@ -13,5 +13,5 @@ returns c =
     let one : at + here + j ≡ at + j + here = omega arith in
     let other : at + next + j ≡ at + j + next = omega arith in
     ap (λ k. get_or (plane m l) k 0 == get_or (plane m l) (at + next + j) 0) one
-        ∙ ap (λ k. get_or (plane m l) (at + j + here) 0 == get_or (plane m l) k 0) other)
+    ∙ ap (λ k. get_or (plane m l) (at + j + here) 0 == get_or (plane m l) k 0) other)
     (marks_same l c.type_inv.list (at + here) (at + next) (omega (arith, far, c.requires.within)) (omega (arith, c.requires.within)))

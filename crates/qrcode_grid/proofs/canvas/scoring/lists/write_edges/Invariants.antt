@@ -8,7 +8,7 @@ abbrev pub invariant-loop-y : goal.invariant-loop-y
 invariant-loop-y l = record {
   same :
       (m x r : ℕ) → m < 8 → x < l.columns → r < l.rows → bit_at (get_or l.edges (r * stride l.width + x) 0) m
-          ≡ cond (is_same l.step (plane m l.padded) (4 * stride l.width + (r * stride l.width + x)) 0) 1 0;
+      ≡ cond (is_same l.step (plane m l.padded) (4 * stride l.width + (r * stride l.width + x)) 0) 1 0;
   beside : (x r : ℕ) → l.columns ≤ x → x < stride l.width → r < l.y → get_or l.edges (r * stride l.width + x) 0 ≡ 0;
   below : (k : ℕ) → l.rows * stride l.width ≤ k → get_or l.edges k 0 ≡ 0;
 }

@@ -13,7 +13,7 @@ loop-y-preserved c =
     let n : y * w + w - y * w ≡ w = omega arith in
     let inside : y * w + w ≤ length grid = omega (arith, c.requires.square, mul-le-mul_right w c.loop-y-test.true, add-mul y 1 w) in
     let long : length (take (y * w + w - y * w) (drop (y * w) grid)) ≡ w =
-        ap (λ k. length (take k (drop (y * w) grid))) n ∙ length-chunk (y * w) w grid inside in
+    ap (λ k. length (take k (drop (y * w) grid))) n ∙ length-chunk (y * w) w grid inside in
     record {
       grid = λ x r hx hr. elim (cases_lt r y) [
         | inl early ↦ row.before ((4 + r) * s + x) (row_before s (4 + r) x (4 + y) (omega (arith, early)) (omega (arith, hx)))

@@ -30,6 +30,6 @@ returns-clause-behind c = λ k h.
       | inl near ↦
           let e : k ≡ n + (k - n) = omega (arith, h) in
           ap (λ k. get_or c.write_lanes-2.new.bytes k 0) e ∙ zeros.lanes (k - n) (omega (arith, h, near))
-              ∙ get_or-replicate 16 (k - n) 0 0 (omega (arith, h, near))
+          ∙ get_or-replicate 16 (k - n) 0 0 (omega (arith, h, near))
       | inr far ↦ zeros.after k far ∙ c.loop-part.invariant.after k (omega (arith, far, c.loop-part.auto.part-end)) ∙ c.requires.none k h
     ]

@@ -25,7 +25,7 @@ returns c = λ m h.
     let darks = darks_are w cells padded stands square second (plane_small m grid) in
     let balance : abs_diff (200 * get_or c.count-darks.result m 0 / (w * w)) 100 ≡ balance_penalty cells =
     ap (λ n. abs_diff (200 * n / (w * w)) 100) (c.count-darks.ensures.is m h ∙ darks)
-        ∙ ap (λ n. abs_diff (200 * count_by is_dark_byte cells / n) 100) (sym square) in
+    ∙ ap (λ n. abs_diff (200 * count_by is_dark_byte cells / n) 100) (sym square) in
     omega (
       arith,
       c.loop-m.invariant.found m (omega (arith, h, c.loop-m-test.false)),

@@ -8,5 +8,5 @@ invariant-loop-m l = record {
   size : length l.penalties ≡ 8;
   found :
       (k : ℕ) → k < l.m → get_or l.penalties k 0 ≡ get_or l.rows k 0 + get_or l.columns k 0 + 3 * get_or l.squares k 0 + abs_diff
-          (200 * get_or l.darks k 0 / (l.width * l.width)) 100;
+      (200 * get_or l.darks k 0 / (l.width * l.width)) 100;
 }
