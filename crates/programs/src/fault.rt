@@ -4,8 +4,7 @@ ghost use Rattle.qrcode_core.specs.declared.types.errors.QrError.TheVariants.{Ou
 ghost use Rattle.programs.specs.Outcome.{words_of, told, Says};
 ghost use Rattle.programs.specs.declared.fault.Fault.TheVariants.{Symbol};
 
-use crate::copying::write_all;
-use crate::devices::Sink;
+use crate::devices::{Sink, write_all};
 use qrcode_core::types::QrError;
 use std::alloc::{AllocError, Global};
 use std::fmt;

@@ -2,7 +2,6 @@
 //! command line.
 #![tactic(auto)]
 
-pub mod copying;
 pub mod devices;
 pub mod fault;
 pub mod words;

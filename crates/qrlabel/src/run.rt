@@ -7,8 +7,7 @@ ghost use Rattle.qrlabel.specs.Words.{Label, Ask, AskForNone};
 
 use crate::draw::draw;
 use crate::wanted::wanted_of;
-use programs::copying::write_all;
-use programs::devices::{Sink, Source};
+use programs::devices::{Sink, Source, write_all};
 use programs::fault::{Fault, fail};
 use std::alloc::Global;
 

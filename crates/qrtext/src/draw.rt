@@ -1,17 +1,16 @@
-//! From the bytes of a source to the text of their symbol.
+//! From the bytes of a source to the text of their symbol, a line for each row.
 ghost use Rattle.std.specs.Prelude.{◌≡◌, ◌≢◌, ◌*◌, ◌≤◌, ◌↔◌, length, IsTrue, IsFalse, IfOk, IfErr, OnOk, IsErrOf};
 ghost use Rattle.programs.specs.Devices.{ReadsAtMost};
 ghost use Rattle.programs.specs.Outcome.{IsDrawing, IsRefused, IfRefused, Gives, IsSymbolOf, IsRefusalOf};
 ghost use Rattle.qrcode_core.specs.Headline.{IsSquare};
-ghost use Rattle.qrtext.specs.Drawing.{Shows};
+ghost use Rattle.std.specs.Prelude.{◌+◌, ◌<◌, ◌++◌};
+ghost use Rattle.qrtext.specs.Drawing.{Shows, character, line_of, lines};
 
-use crate::text::text_of;
-use programs::copying::{read_all, write_all};
-use programs::devices::{Sink, Source};
+use programs::devices::{Sink, Source, read_all, write_all};
 use programs::fault::Fault;
 use qrcode_core::symbol::{symbol, symbol_micro};
 use qrcode_core::types::{Color, EcLevel, QrError};
-use std::alloc::Global;
+use std::alloc::{AllocError, Global};
 
 /// Reads to the end, writes the text of the symbol of all that was read, and flushes. Of more than 7089 bytes, which no
 /// symbol holds, it reads 7090.
@@ -86,4 +85,38 @@ fn encoded(alloc: Global, bytes: &[u8], level: EcLevel, micro: bool) -> Result<V
     } else {
         symbol(alloc, bytes, level)
     }
+}
+
+/// The character of a module.
+fn character(color: &Color) -> u8
+    ensures { result ≡ character color.now }
+{
+    match color {
+        Color::Dark => b'#',
+        Color::Light => b'.',
+    }
+}
+
+/// Adds the line of a row.
+fn push_line(text: &mut Vec<u8>, row: &[Color]) -> Result<(), AllocError>
+    ensures { OnOk result (text.new.items ≡ text.old.items ++ line_of row.now) }
+{
+    for color in row {
+        text.push(character(color))?;
+    }
+    text.push(b'\n')?;
+    Ok(())
+}
+
+/// The text of a grid: a line for each row.
+#[tactic(auto, using(crate::proofs::TextLemmas::lines_none, crate::proofs::TextLemmas::lines_more))]
+pub fn text_of(alloc: Global, grid: &[Color], width: usize) -> Result<Vec<u8>, AllocError>
+    requires square { length grid.now ≡ width * width }
+    ensures { IfOk result (λ text. text.items ≡ lines width grid.now width) }
+{
+    let mut text = Vec::new(alloc);
+    for y in 0..width {
+        push_line(&mut text, &grid[y * width..(y + 1) * width])?;
+    }
+    Ok(text)
 }

@@ -5,8 +5,7 @@ ghost use Rattle.programs.specs.Outcome.{Says};
 ghost use Rattle.qrtext.specs.Words.{Request, request, Ask, AskForNone, program, usage, ServesText};
 
 use crate::draw::draw;
-use programs::copying::write_all;
-use programs::devices::{Sink, Source};
+use programs::devices::{Sink, Source, write_all};
 use programs::fault::{Fault, fail};
 use qrcode_core::types::EcLevel;
 use std::alloc::Global;
