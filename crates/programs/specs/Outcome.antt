@@ -11,7 +11,8 @@ use Rattle.programs.specs.Devices.{Writes, ReadsAll, ReadsEnough, AppendsBeginni
 use Rattle.qrcode_core.specs.declared.types.errors.QrError.{QrError}
 use Rattle.qrcode_core.specs.declared.types.Color.{Color}
 use Rattle.qrcode_core.specs.declared.types.EcLevel.{EcLevel}
-use Rattle.qrcode_core.specs.Headline.{IsBestSymbol, IsBestMicroSymbol, IsRefusal, IsMicroRefusal}
+use Rattle.qrcode_core.specs.Headline.{IsBestSymbol, IsBestMicroSymbol, IsRefusal}
+use Rattle.qrcode_core.specs.Push.{IsMicroRefused}
 
 -- ---- What a program says of a fault, and the status that it ends with.
 
@@ -104,4 +105,4 @@ IsSymbolOf true level bytes = IsBestMicroSymbol bytes level
 -- the call for that symbol refuses the bytes so
 abbrev pub IsRefusalOf : Bool → EcLevel → List ℕ → QrError → Type 0
 IsRefusalOf false level bytes = IsRefusal bytes level
-IsRefusalOf true level bytes = IsMicroRefusal bytes level
+IsRefusalOf true level bytes = IsMicroRefused bytes level

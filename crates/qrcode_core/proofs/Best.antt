@@ -34,6 +34,8 @@ best_symbol kind header bytes level limit number plan codewords symbol choice co
         mask = symbol.mask;
         payload = payload;
         plan = plan;
+        reading = known;
+        says = refl;
         reads = reads;
         only = λ other seen. one_reading grid other known seen reads;
         functional = drawn.carries.functional;

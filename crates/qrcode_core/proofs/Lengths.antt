@@ -5,11 +5,12 @@ use Rattle.std.proofs.lemmas.Option.{same_Some}
 use Rattle.qrcode_base.specs.declared.symbols.BlockLayout.{BlockLayout}
 use Rattle.qrcode_base.specs.declared.types.EcLevel.{EcLevel}
 use Rattle.qrcode_base.specs.declared.types.Version.{Version}
-use Rattle.qrcode_base.specs.Symbols.{blocks_of, capacity, data_bytes, missing_bits}
+use Rattle.qrcode_base.specs.Symbols.{blocks_of, capacity, data_bytes, missing_bits, IsVersion}
+use Rattle.qrcode_grid.proofs.WholeSymbols.{version_of_symbol}
 use Rattle.qrcode_base.specs.Numbers.{byte_bits, zero_bits}
 use Rattle.qrcode_bits.specs.Frame.{Header}
 use Rattle.qrcode_bits.proofs.Frames.{length-frame}
-use Rattle.qrcode_core.specs.Layers.{IsEncoded}
+use Rattle.qrcode_core.specs.Layers.{IsEncoded, AreAllCodewords}
 use Rattle.qrcode_core.proofs.Contents.{length-drawn}
 use Rattle.qrcode_core.proofs.Ending.{lacks}
 use Rattle.std.proofs.lemmas.Grind.{common_steps}
@@ -26,3 +27,7 @@ pub length-encoded : (v : Version) (l : EcLevel) (h : Option Header) (bytes : Li
     IsEncoded v l h bytes n words → blocks_of v l ≡ Some b → length words ≡ data_bytes b
 length-encoded v l h bytes n words b code known =
     length-filled v l words b code.framed.limit code.frame known code.framed.limit_is (length-frame v l h bytes n code.frame code.framed) code.frame_is
+
+-- The version of all codewords of a symbol is one of the 44.
+pub version_of_all : (version : Version) (level : EcLevel) (count : ℕ) → AreAllCodewords version level count → IsVersion version
+version_of_all version level count all = grind (arith, common_steps, version_of_symbol version level)

@@ -1,6 +1,6 @@
 -- The symbols of a sequence, as they are made one after the other.
 use Rattle.std.proofs.lemmas.Grind.{common_steps}
-use Rattle.std.proofs.Common.{◌≡◌, refl, ℕ, ◌+◌, ◌<◌, sym, ◌∙◌, subst, arith, inl, inr, List, [], ◌∷◌, ◌++◌, length, length-append, get_or}
+use Rattle.std.proofs.Common.{◌≡◌, refl, ap, ℕ, ◌+◌, ◌<◌, sym, ◌∙◌, subst, arith, inl, inr, List, [], ◌∷◌, ◌++◌, length, length-append, get_or}
 use Rattle.std.specs.Prelude.{ℤ}
 use Rattle.std.specs.List.Sorted.{IsNonDecreasing}
 use Rattle.std.proofs.lemmas.Bool.{cases_eq}
@@ -48,7 +48,12 @@ best_symbols message cuts level limit total done grids rise few count all first 
       a_piece_each = length-parts 0 cuts message ∙ sym count ∙ size;
       each_read = λ i inside.
           let symbol = best i inside in
-          record { reading = _; reads = symbol.best.reads; header_is = refl; piece_is = refl };
+          record {
+            reading = _;
+            reads = symbol.best.reads;
+            header_is = ap (λ r. r.header) symbol.best.says;
+            piece_is = ap (λ r. r.bytes) symbol.best.says;
+          };
       message_is = parts_whole cuts message rise;
     } in
     record {

@@ -136,15 +136,17 @@ pub record IsBest (kind : ℕ → Version) (header : Option Header) (bytes : Lis
   pub mask : MaskPattern
   pub payload : ℕ
   pub plan : List Segment
-  pub reads : Reads grid (reading_of bytes (kind number) level mask header payload)
-  pub only : (other : Reading) → Reads grid other → other ≡ reading_of bytes (kind number) level mask header payload
+  pub reading : Reading
+  pub says : reading ≡ reading_of bytes (kind number) level mask header payload
+  pub reads : Reads grid reading
+  pub only : (other : Reading) → Reads grid other → other ≡ reading
   pub functional : HasFunctionalColors (kind number) level mask grid
   pub fits : Fits (length (header_bits header)) bytes (kind number) level plan
   pub smallest : (smaller : ℕ) → smaller < number → FitsNot (length (header_bits header)) bytes (kind smaller) level
   pub fewest : IsLeastBits (length (header_bits header)) bytes (kind number) payload
   pub best_mask : IsFirstLeastMask (kind number) level mask grid
-  pub apart : HasBlocksApart grid (reading_of bytes (kind number) level mask header payload) reads
-  pub far : IsFarFromOthers grid (reading_of bytes (kind number) level mask header payload) reads
+  pub apart : HasBlocksApart grid reading reads
+  pub far : IsFarFromOthers grid reading reads
 
 abbrev pub IsBestSymbol : List ℕ → EcLevel → List Color → Type 0
 IsBestSymbol bytes level grid = IsBest normal None bytes level grid
@@ -171,12 +173,6 @@ abbrev pub IsRefusal : List ℕ → EcLevel → QrError → Type 0
 IsRefusal bytes level DataTooLong = IsTooLong bytes level
 IsRefusal bytes level OutOfMemory = length bytes ≤ 7089
 IsRefusal bytes level other = ⊥
-
-abbrev pub IsMicroRefusal : List ℕ → EcLevel → QrError → Type 0
-IsMicroRefusal bytes level DataTooLong = (level ≢ H) × IsTooLongForMicro bytes level
-IsMicroRefusal bytes level (InvalidVersion version named) = (level ≡ H) × (version ≡ Micro (pos 4)) × (named ≡ H)
-IsMicroRefusal bytes level OutOfMemory = (level ≢ H) × (length bytes ≤ 7089)
-IsMicroRefusal bytes level other = ⊥
 
 -- ---- A printed symbol: the digits 12345 in M1 at level L, under the mask Diamonds.
 

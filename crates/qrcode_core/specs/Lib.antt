@@ -3,7 +3,7 @@ pub mod Drawn
 pub mod Layers
 pub mod Sequence
 pub use Rattle.qrcode_base.specs.Names
-pub use Rattle.qrcode_base.specs.Names
+pub use Rattle.qrcode_bits.specs.Push
 pub mod Grids
 pub mod Views
 pub mod Limits

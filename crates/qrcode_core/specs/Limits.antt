@@ -1,4 +1,4 @@
--- Which limits an encoding can keep, and the limits of a caller who names none.
+-- Which limits an encoding can keep, the limits of a caller who names none, and the best symbol within limits.
 use Rattle.std.specs.Prelude.{◌≢◌, Some, None, pos, ℕ, nat_abs, ◌<◌, ◌≤◌, ◌⊎◌, List, length}
 use Rattle.qrcode_base.specs.Symbols.{IsNormalNumber}
 use Rattle.qrcode_base.specs.declared.types.Version.{Version}

@@ -1,4 +1,4 @@
--- Maps from texts, in the order of the texts' bytes.
+-- What plugins hold and answer: maps from texts, errors, configurations, grids and outputs.
 use Rattle.std.specs.Prelude.{ℕ, List, [], ◌∷◌, Option, map, String, ◌≡◌, option_map}
 use Rattle.std.specs.declared.cmp.Ordering.{Ordering}
 use Rattle.std.specs.Ordering.{nat_cmp}

@@ -1,4 +1,4 @@
--- What a registry and a plugin show.
+-- What a registry holds, what registrations and a chain of postprocessors do, and what boxed objects show.
 use Rattle.std.specs.Prelude.{◌≡◌, ℕ, ◌<◌, List, [], ◌∷◌, ◌++◌, Result, take, length, MatchResult, ◌⊎◌, Ok, Err, map}
 use Rattle.std.specs.Prelude.{String, Option, option_map}
 use Rattle.qrcode_core.specs.Plugins.{TextMap, with_entry, at_key, text_map, text_values}

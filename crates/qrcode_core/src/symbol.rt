@@ -1,7 +1,8 @@
 //! The symbol of some bytes: segments, codewords, modules.
 ghost use Rattle.std.specs.Prelude.{◌≤◌, length, OnOk, IfOk, IfErr};
 ghost use Rattle.qrcode_core.specs.Headline.{IsBestSymbol, IsBestMicroSymbol, IsSquare, IsTooLong};
-ghost use Rattle.qrcode_core.specs.Headline.{IsTooLongForMicro, IsRefusal, IsMicroRefusal};
+ghost use Rattle.qrcode_core.specs.Headline.{IsTooLongForMicro, IsRefusal};
+ghost use Rattle.qrcode_bits.specs.Push.{IsMicroRefused};
 
 mod owned;
 mod sequence;
@@ -27,10 +28,7 @@ pub fn symbol(alloc: Global, bytes: &[u8], level: EcLevel) -> QrResult<Vec<Color
     ensures limit { OnOk result (length bytes.now ≤ 7089) }
     ensures refused { IfErr result (IsRefusal bytes.now level) }
 {
-    match Symbol::new(alloc, bytes, level) {
-        Ok(symbol) => Ok(symbol.into_colors()),
-        Err(error) => Err(error),
-    }
+    Ok(Symbol::new(alloc, bytes, level)?.into_colors())
 }
 
 /// The same of the Micro versions: the first of M1 to M4 that has the level and the modes of the data, and in which
@@ -43,10 +41,7 @@ pub fn symbol_micro(alloc: Global, bytes: &[u8], level: EcLevel) -> QrResult<Vec
     ensures square { IfOk result (λ grid. IsSquare grid.items) }
     ensures fitting { OnOk result (IsTooLongForMicro bytes.now level → ⊥) }
     ensures limit { OnOk result (length bytes.now ≤ 7089) }
-    ensures refused { IfErr result (IsMicroRefusal bytes.now level) }
+    ensures refused { IfErr result (IsMicroRefused bytes.now level) }
 {
-    match Symbol::micro(alloc, bytes, level) {
-        Ok(symbol) => Ok(symbol.into_colors()),
-        Err(error) => Err(error),
-    }
+    Ok(Symbol::micro(alloc, bytes, level)?.into_colors())
 }

@@ -1,6 +1,4 @@
 //! A symbol that owns its modules.
-//!
-//! Answers of calls are matched, arm by arm, where `?` would do: the proofs use what is known in each arm.
 ghost use Rattle.std.specs.Prelude.{◌≡◌, ◌≤◌, length, OnOk, IfOk, IfErr};
 ghost use Rattle.qrcode_base.specs.Symbols.{IsVersion, width_of};
 ghost use Rattle.qrcode_core.specs.Limits.{IsBudget, IsBestWithin, IsTooLongWithin, IsLimitedRefusal};
@@ -8,11 +6,12 @@ ghost use Rattle.qrcode_core.specs.Drawn.{TellsReading, drawn_grid, HoldsStream,
 ghost use Rattle.qrcode_core.specs.Layers.{AreAllCodewords};
 ghost use Rattle.qrcode_core.specs.Layers.{IsDrawn, FillsSymbol, IsDrawnStream};
 ghost use Rattle.qrcode_core.specs.Headline.{IsBestSymbol, IsBestMicroSymbol, IsTooLong, IsTooLongForMicro, IsRefusal};
-ghost use Rattle.qrcode_core.specs.Headline.{IsMicroRefusal};
+ghost use Rattle.qrcode_bits.specs.Push.{IsMicroRefused};
 ghost use Rattle.qrcode_core.specs.Views.{view_grid};
 
 use crate::limits::ResourceLimits;
 use crate::traits::{ModuleSource, ModuleView, QrSymbol};
+use qrcode_base::symbols::symbol_width;
 use qrcode_base::types::{Color, EcLevel, QrError, QrResult, Version};
 use qrcode_bits::bits::{Bits, encode_auto, encode_auto_micro, encode_auto_with_max_version};
 use qrcode_grid::canvas::{MaskPattern, draw_symbol};
@@ -61,10 +60,8 @@ impl Symbol {
         ensures limit { OnOk result (length bytes.now ≤ 7089) }
         ensures refused { IfErr result (IsRefusal bytes.now level) }
     {
-        match encode_auto(alloc, bytes, level) {
-            Ok(bits) => symbol_of(alloc, bits, level),
-            Err(error) => Err(error),
-        }
+        let bits = encode_auto(alloc, bytes, level)?;
+        symbol_of(alloc, bits, level)
     }
 
     /// The same of the Micro versions: the first of M1 to M4 that has the level and the modes of the data, and in
@@ -77,12 +74,10 @@ impl Symbol {
         ensures reading { IfOk result TellsReading }
         ensures fitting { OnOk result (IsTooLongForMicro bytes.now level → ⊥) }
         ensures limit { OnOk result (length bytes.now ≤ 7089) }
-        ensures refused { IfErr result (IsMicroRefusal bytes.now level) }
+        ensures refused { IfErr result (IsMicroRefused bytes.now level) }
     {
-        match encode_auto_micro(alloc, bytes, level) {
-            Ok(bits) => symbol_of(alloc, bits, level),
-            Err(error) => Err(error),
-        }
+        let bits = encode_auto_micro(alloc, bytes, level)?;
+        symbol_of(alloc, bits, level)
     }
 
     /// As `new`, in the versions up to the greatest that the limits allow, and for as many bytes.
@@ -113,10 +108,8 @@ impl Symbol {
             Version::Normal(number) => number,
             Version::Micro(_) => unreachable!(),
         };
-        match encode_auto_with_max_version(alloc, bytes, level, max_version) {
-            Ok(bits) => symbol_of(alloc, bits, level),
-            Err(error) => Err(error),
-        }
+        let bits = encode_auto_with_max_version(alloc, bytes, level, max_version)?;
+        symbol_of(alloc, bits, level)
     }
 
     /// The symbol of bits that a caller pushed, in their version and at a level: headers, an ECI designator, FNC1,
@@ -135,10 +128,8 @@ impl Symbol {
         ensures reading { IfOk result TellsReading }
         ensures refused { IfErr result (IsStreamRefusal bits level) }
     {
-        match bits.push_terminator(level) {
-            Ok(()) => symbol_of(alloc, bits, level),
-            Err(error) => Err(error),
-        }
+        bits.push_terminator(level)?;
+        symbol_of(alloc, bits, level)
     }
 
     /// The mask pattern that was applied.
@@ -242,11 +233,7 @@ pub fn symbol_of(alloc: Global, bits: Bits, level: EcLevel) -> QrResult<Symbol>
     ensures memory { IfErr result (λ e. e ≡ QrError.OutOfMemory) }
 {
     let version = bits.version();
-    let codewords = bits.into_bytes();
-    match draw(alloc, version, level, &codewords) {
-        Ok(symbol) => Ok(symbol),
-        Err(error) => Err(error),
-    }
+    draw(alloc, version, level, &bits.into_bytes())
 }
 
 /// The symbol with these data codewords, under the first mask of least penalty.
@@ -255,30 +242,13 @@ fn draw(alloc: Global, version: Version, level: EcLevel, codewords: &[u8]) -> Qr
     ensures drawn { IfOk result (IsDrawn version level codewords.now) }
     ensures memory { IfErr result (λ e. e ≡ QrError.OutOfMemory) }
 {
-    match construct_codewords(alloc, codewords, version, level) {
-        Ok((interleaved, correction)) => {
-            match draw_symbol(alloc, version, level, &interleaved, &correction) {
-                Ok((modules, mask)) => Ok(Symbol {
-                    modules,
-                    width: side(version),
-                    version,
-                    level,
-                    mask,
-                }),
-                Err(error) => Err(error),
-            }
-        }
-        Err(error) => Err(error),
-    }
-}
-
-/// How many modules a side of a symbol has.
-fn side(version: Version) -> usize
-    requires { IsVersion version }
-    ensures { result ≡ width_of version }
-{
-    match version {
-        Version::Normal(n) => n as usize * 4 + 17,
-        Version::Micro(n) => n as usize * 2 + 9,
-    }
+    let (interleaved, correction) = construct_codewords(alloc, codewords, version, level)?;
+    let (modules, mask) = draw_symbol(alloc, version, level, &interleaved, &correction)?;
+    Ok(Symbol {
+        modules,
+        width: symbol_width(version),
+        version,
+        level,
+        mask,
+    })
 }

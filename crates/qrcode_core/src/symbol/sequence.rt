@@ -57,21 +57,8 @@ impl Symbol {
         let mut symbols = Vec::new(alloc);
         for index in 0..total {
             let part = part_at(bytes, cuts, usize::from(index));
-            let symbol = match part_symbol(
-                alloc,
-                part,
-                index + 1,
-                total,
-                parity,
-                level,
-                max_version,
-            ) {
-                Ok(symbol) => symbol,
-                Err(error) => return Err(error),
-            };
-            let Ok(()) = symbols.push(symbol) else {
-                return Err(QrError::OutOfMemory);
-            };
+            let symbol = part_symbol(alloc, part, index + 1, total, parity, level, max_version);
+            symbols.push(symbol?)?;
         }
         Ok(symbols)
     }
@@ -105,10 +92,8 @@ pub fn symbol_sequence(
     ensures limit { OnOk result (IsNormalNumber max_version) }
     ensures refused { IfErr result (IsSequenceRefusal bytes.now cuts.now level max_version) }
 {
-    match Symbol::sequence(alloc, bytes, cuts, level, max_version) {
-        Ok(symbols) => colors_of_all(alloc, symbols),
-        Err(error) => Err(error),
-    }
+    let symbols = Symbol::sequence(alloc, bytes, cuts, level, max_version)?;
+    colors_of_all(alloc, symbols)
 }
 
 /// The modules of each symbol.
@@ -118,9 +103,7 @@ fn colors_of_all(alloc: Global, symbols: Vec<Symbol>) -> QrResult<Vec<Vec<Color>
 {
     let mut grids = Vec::new(alloc);
     for symbol in symbols {
-        let Ok(()) = grids.push(symbol.into_colors()) else {
-            return Err(QrError::OutOfMemory);
-        };
+        grids.push(symbol.into_colors())?;
     }
     Ok(grids)
 }
@@ -163,8 +146,6 @@ fn part_symbol(
     ensures reading { IfOk result TellsReading }
     ensures refused { IfErr result (IsPartRefused position total part.now level max_version) }
 {
-    match encode_part(alloc, part, position, total, parity, level, max_version) {
-        Ok(bits) => symbol_of(alloc, bits, level),
-        Err(error) => Err(error),
-    }
+    let bits = encode_part(alloc, part, position, total, parity, level, max_version)?;
+    symbol_of(alloc, bits, level)
 }

@@ -1,14 +1,17 @@
 -- The version of the codewords is a symbol's.
 use Rattle.std.proofs.Common.{arith}
-use Rattle.std.proofs.lemmas.Grind.{common_steps}
-use Rattle.qrcode_grid.proofs.WholeSymbols.{version_of_symbol}
+use Rattle.qrcode_core.proofs.Lengths.{version_of_all}
 use Rattle.qrcode_core.proofs.symbol.owned.draw.Goals as goal
 
-pub side-requires : goal.side-requires
-side-requires c = grind (arith, common_steps, version_of_symbol c.args.version c.args.level)
+pub symbol_width-requires : goal.symbol_width-requires
+symbol_width-requires c = version_of_all c.args.version c.args.level _ c.requires
 
 pub invariant_of-result : goal.invariant_of-result
-invariant_of-result c = grind (arith, common_steps, version_of_symbol c.args.version c.args.level, c.side.ensures, c.in-Ok-draw_symbol.ensures.carries.size)
+invariant_of-result c = (
+  version_of_all c.args.version c.args.level _ c.requires,
+  c.symbol_width.ensures.is,
+  rw c.symbol_width.ensures.is c.in_ok-modules.ensures.carries.size,
+)
 
-pub returns-in-Ok-draw_symbol-clause-drawn : goal.returns-in-Ok-draw_symbol-clause-drawn
-returns-in-Ok-draw_symbol-clause-drawn c = grind arith
+pub returns-clause-drawn : goal.returns-clause-drawn
+returns-clause-drawn c = grind arith

@@ -10,14 +10,14 @@ use Rattle.qrcode_core.proofs.StreamEncoding.{best_of_stream, fills_symbol, enco
 use Rattle.qrcode_core.proofs.symbol.sequence.part_symbol.Goals as goal
 
 pub symbol_of-requires : goal.symbol_of-requires
-symbol_of-requires c = fills_symbol (bytes_valid c.args.part.now (λ i. omega (arith, c.type_inv.part i))) c.in-Ok.ensures.ok
+symbol_of-requires c = fills_symbol (bytes_valid c.args.part.now (λ i. omega (arith, c.type_inv.part i))) c.in_ok-bits.ensures.ok
 
-pub returns-in-Ok : goal.returns-in-Ok
-returns-in-Ok c =
+pub returns : goal.returns
+returns c =
     let are = bytes_valid c.args.part.now (λ i. omega (arith, c.type_inv.part i)) in
-    let code = c.in-Ok.ensures.ok in
+    let code = c.in_ok-bits.ensures.ok in
     let same = to_z-of_z w16 c.args.max_version c.ranges.max_version in
-    let short = encoded_short _ (few_versions _ c.in-Ok.ensures.limit) are code in
+    let short = encoded_short _ (few_versions _ c.in_ok-bits.ensures.limit) are code in
     let place : IsPlace c.args.position c.args.total = search rules in
     let result = c.symbol_of.result in
     let drawn = c.symbol_of.ensures.drawn in
@@ -26,5 +26,5 @@ returns-in-Ok c =
           let found = best_of_stream are code made in
           record { best = found.0; up_to = omega (arith, found.1, ap nat_abs same) }) drawn;
       reading = IfOk-weaker result _ _ (λ _ made. (best_of_stream are code made).2) drawn;
-      refused = only_memory result _ (rw same at c.in-Ok.ensures.limit, place, short) c.symbol_of.ensures.memory;
+      refused = only_memory result _ (rw same at c.in_ok-bits.ensures.limit, place, short) c.symbol_of.ensures.memory;
     }

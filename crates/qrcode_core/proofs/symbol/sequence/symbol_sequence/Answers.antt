@@ -8,15 +8,17 @@ use Rattle.qrcode_core.specs.Drawn.{modules_of}
 use Rattle.std.proofs.lemmas.List.Sorted.{IsPermutation-refl}
 use Rattle.qrcode_core.proofs.symbol.sequence.symbol_sequence.Goals as goal
 
-pub returns-in-Ok-clause-fitting : goal.returns-in-Ok-clause-fitting
-returns-in-Ok-clause-fitting c =
-    let fitting = rw (to_z-of_z w16 c.args.max_version c.ranges.max_version) at c.in-Ok.ensures.fitting in
+pub returns-clause-fitting : goal.returns-clause-fitting
+returns-clause-fitting c =
+    let fitting = rw (to_z-of_z w16 c.args.max_version c.ranges.max_version) at c.in_ok-symbols.ensures.fitting in
     IfOk-weaker c.colors_of_all.result _ _ (λ _ _. fitting) c.colors_of_all.ensures.all
 
-pub returns-in-Ok-clause-refused : goal.returns-in-Ok-clause-refused
-returns-in-Ok-clause-refused c =
-    let grids = map modules_of c.in-Ok.symbols.items in
-    grind (arith, common_steps, to_z-of_z, c.in-Ok.ensures.best.a_grid_each, (c.in-Ok.ensures.best.reads grids (IsPermutation-refl grids)).enough)
+pub returns-clause-refused : goal.returns-clause-refused
+returns-clause-refused c =
+    let grids = map modules_of c.in_ok-symbols.symbols.items in
+    grind (arith, common_steps, to_z-of_z, c.in_ok-symbols.ensures.best.a_grid_each, (c.in_ok-symbols.ensures.best.reads grids (IsPermutation-refl grids)).enough)
 
-pub returns-in-Err-clause-refused : goal.returns-in-Err-clause-refused
-returns-in-Err-clause-refused c = rw (to_z-of_z w16 c.args.max_version c.ranges.max_version) at c.in-Err.ensures.refused
+pub returns-in_err-symbols-clause-refused : goal.returns-in_err-symbols-clause-refused
+returns-in_err-symbols-clause-refused c =
+    let refused = rw (to_z-of_z w16 c.args.max_version c.ranges.max_version) at c.in_err-symbols.ensures.refused in
+    grind (arith, common_steps, refused)

@@ -7,12 +7,12 @@ use Rattle.qrcode_core.proofs.StreamEncoding.{best_of_stream, fills_symbol, enco
 use Rattle.qrcode_core.proofs.symbol.owned.Symbol.micro.Goals as goal
 
 pub symbol_of-requires : goal.symbol_of-requires
-symbol_of-requires c = fills_symbol (bytes_valid c.args.bytes.now (λ i. omega (arith, c.type_inv.bytes i))) c.in-Ok.ensures.ok
+symbol_of-requires c = fills_symbol (bytes_valid c.args.bytes.now (λ i. omega (arith, c.type_inv.bytes i))) c.in_ok-bits.ensures.ok
 
-pub returns-in-Ok : goal.returns-in-Ok
-returns-in-Ok c =
+pub returns : goal.returns
+returns c =
     let are = bytes_valid c.args.bytes.now (λ i. omega (arith, c.type_inv.bytes i)) in
-    let code = c.in-Ok.ensures.ok in
+    let code = c.in_ok-bits.ensures.ok in
     let short = encoded_micro_short are code in
     let some : c.args.level ≢ H = search rules in
     let result = c.symbol_of.result in

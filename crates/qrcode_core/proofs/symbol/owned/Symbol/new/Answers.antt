@@ -1,17 +1,18 @@
 -- The best encoding, drawn, is the best symbol.
 use Rattle.std.proofs.Common.{arith}
+use Rattle.std.proofs.lemmas.Grind.{common_steps}
 use Rattle.std.proofs.lemmas.Result.{IfOk-weaker}
 use Rattle.qrcode_bits.proofs.Pairs.{bytes_valid}
 use Rattle.qrcode_core.proofs.StreamEncoding.{best_of_stream, fills_symbol, encoded_fits, encoded_short, normal_refused, only_memory}
 use Rattle.qrcode_core.proofs.symbol.owned.Symbol.new.Goals as goal
 
 pub symbol_of-requires : goal.symbol_of-requires
-symbol_of-requires c = fills_symbol (bytes_valid c.args.bytes.now (λ i. omega (arith, c.type_inv.bytes i))) c.in-Ok.ensures.ok
+symbol_of-requires c = fills_symbol (bytes_valid c.args.bytes.now (λ i. omega (arith, c.type_inv.bytes i))) c.in_ok-bits.ensures.ok
 
-pub returns-in-Ok : goal.returns-in-Ok
-returns-in-Ok c =
+pub returns : goal.returns
+returns c =
     let are = bytes_valid c.args.bytes.now (λ i. omega (arith, c.type_inv.bytes i)) in
-    let code = c.in-Ok.ensures.ok in
+    let code = c.in_ok-bits.ensures.ok in
     let short = encoded_short 40 (omega arith) are code in
     let result = c.symbol_of.result in
     let drawn = c.symbol_of.ensures.drawn in
@@ -23,5 +24,6 @@ returns-in-Ok c =
       refused = only_memory result _ short c.symbol_of.ensures.memory;
     }
 
-pub returns-in-Err-clause-refused : goal.returns-in-Err-clause-refused
-returns-in-Err-clause-refused c = normal_refused c.args.bytes.now c.args.level c.in-Err.error c.in-Err.ensures.err
+pub returns-in_err-bits-clause-refused : goal.returns-in_err-bits-clause-refused
+returns-in_err-bits-clause-refused c =
+    grind (arith, common_steps, normal_refused c.args.bytes.now c.args.level c.in_err-bits.field-0.0 c.in_err-bits.ensures.err)

@@ -1,21 +1,31 @@
 -- Each part's symbol is one more of the answer; a refused part refuses the whole.
-use Rattle.std.proofs.Common.{◌+◌, arith, [], ◌∷◌, map, nat_abs}
+use Rattle.std.proofs.lemmas.Grind.{common_steps}
+use Rattle.std.proofs.Common.{◌+◌, arith, length, [], ◌∷◌, map, nat_abs}
 use Rattle.std.proofs.lemmas.List.Elements.{All-push}
 use mir.Syntax.{w16}
 use Rattle.std.proofs.lemmas.Int.{to_z-of_z}
 use Rattle.std.proofs.lemmas.List.{map-append}
 use Rattle.qrcode_bits.proofs.Classes.{limit_of}
 use Rattle.qrcode_core.specs.Drawn.{TellsReading, modules_of}
+use Rattle.qrcode_core.specs.Sequence.{IsTotal}
 use Rattle.qrcode_core.proofs.Symbols.{one_more, best_symbols, none_too_long, refused_part}
 use Rattle.qrcode_core.proofs.symbol.owned.Symbol.sequence.Goals as goal
 
-pub returns-in-Err-clause-refused : goal.returns-in-Err-clause-refused
-returns-in-Err-clause-refused c =
+pub returns-in_err-symbol-clause-refused : goal.returns-in_err-symbol-clause-refused
+returns-in_err-symbol-clause-refused c =
     let same = to_z-of_z w16 c.args.max_version c.ranges.max_version in
     let limit = limit_of c.args.max_version _ same c.if-max_version-lt1.false c.if-max_version-gt40.false in
     let part = rw c.from.ensures at c.part_at-part.ensures in
-    refused_part c.args.bytes.now c.args.cuts.now c.args.level c.args.max_version (c.min.result + 1) c.loop-index.index c.in-Err.error limit
-    (omega arith, omega arith) (omega (arith, c.min.ensures)) (omega arith) (rw (part, same) at c.in-Err.ensures.refused)
+    let refused = refused_part c.args.bytes.now c.args.cuts.now c.args.level c.args.max_version (c.min.result + 1) c.loop-index.index c.in_err-symbol.field-0.0 limit
+    (omega arith, omega arith) (omega (arith, c.min.ensures)) (omega arith) (rw (part, same) at c.in_err-symbol.ensures.refused) in
+    grind (arith, common_steps, refused)
+
+pub returns-in_err-push-clause-refused : goal.returns-in_err-push-clause-refused
+returns-in_err-push-clause-refused c =
+    let same = to_z-of_z w16 c.args.max_version c.ranges.max_version in
+    let limit = limit_of c.args.max_version _ same c.if-max_version-lt1.false c.if-max_version-gt40.false in
+    let few : IsTotal (length c.args.cuts.now + 1) = (omega (arith, c.min.ensures), omega (arith, c.min.ensures)) in
+    grind (arith, limit, few, c.in_err-push.ensures)
 
 pub loop-index-preserved : goal.loop-index-preserved
 loop-index-preserved c =
@@ -24,12 +34,12 @@ loop-index-preserved c =
     let done = c.loop-index.index in
     let before = c.loop-index.symbols.items in
     let part = rw c.from.ensures at c.part_at-part.ensures in
-    let symbol = rw (part, c.parity_of-parity.ensures) at c.in-Ok.ensures.best in
-    let grids = map-append modules_of before (c.in-Ok.symbol ∷ []) in
+    let symbol = rw (part, c.parity_of-parity.ensures) at c.in_ok-symbol.ensures.best in
+    let grids = map-append modules_of before (c.in_ok-symbol.field-0 ∷ []) in
     record {
-      first = rw (c.in-Ok-push.ensures.items, grids)
-          (one_more bytes cuts c.args.level _ (c.min.result + 1) done (map modules_of before) c.in-Ok.symbol.modules c.loop-index.invariant.first symbol);
-      reading = rw c.in-Ok-push.ensures.items (All-push TellsReading before c.in-Ok.symbol c.loop-index.invariant.reading c.in-Ok.ensures.reading);
+      first = rw (c.in_ok-push.ensures.items, grids)
+          (one_more bytes cuts c.args.level _ (c.min.result + 1) done (map modules_of before) c.in_ok-symbol.field-0.modules c.loop-index.invariant.first symbol);
+      reading = rw c.in_ok-push.ensures.items (All-push TellsReading before c.in_ok-symbol.field-0 c.loop-index.invariant.reading c.in_ok-symbol.ensures.reading);
     }
 
 pub returns-clause-best : goal.returns-clause-best

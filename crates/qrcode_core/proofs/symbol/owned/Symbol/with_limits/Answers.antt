@@ -14,18 +14,18 @@ use Rattle.qrcode_core.proofs.StreamEncoding.{best_of_stream, fills_symbol, enco
 use Rattle.qrcode_core.proofs.symbol.owned.Symbol.with_limits.Goals as goal
 
 pub symbol_of-requires : goal.symbol_of-requires
-symbol_of-requires c = fills_symbol (bytes_valid c.args.bytes.now (λ i. omega (arith, c.type_inv.bytes i))) c.in-Ok.ensures.ok
+symbol_of-requires c = fills_symbol (bytes_valid c.args.bytes.now (λ i. omega (arith, c.type_inv.bytes i))) c.in_ok-bits.ensures.ok
 
-pub returns-in-Ok : goal.returns-in-Ok
-returns-in-Ok c =
+pub returns : goal.returns
+returns c =
     let limits = c.args.limits.now in
     let budget : IsBudget limits = search (rules, c.validate.ensures.valid.0, c.if-is_err.false, c.is_err.ensures.value) in
     let are = bytes_valid c.args.bytes.now (λ i. omega (arith, c.type_inv.bytes i)) in
     let short : length c.args.bytes.now ≤ limits.max_data_length = search rules in
     let most : limits.max_version ≡ Normal (to_z w16 (of_z w16 c.in-Normal.number)) = search rules in
-    let code = c.in-Ok.ensures.ok in
-    let few = encoded_short _ (few_versions _ c.in-Ok.ensures.limit) are code in
-    let within = λ (symbol : DrawnSymbol) (made : IsDrawnStream c.in-Ok.bits c.args.level symbol).
+    let code = c.in_ok-bits.ensures.ok in
+    let few = encoded_short _ (few_versions _ c.in_ok-bits.ensures.limit) are code in
+    let within = λ (symbol : DrawnSymbol) (made : IsDrawnStream c.in_ok-bits.bits c.args.level symbol).
     let best = best_of_stream are code made in
     best_within limits c.args.bytes.now c.args.level _ most symbol.modules best.0 best.1 in
     let result = c.symbol_of.result in
@@ -39,6 +39,6 @@ returns-in-Ok c =
       refused = only_memory result _ (budget, short, few) c.symbol_of.ensures.memory;
     }
 
-pub returns-in-Err-clause-refused : goal.returns-in-Err-clause-refused
-returns-in-Err-clause-refused c =
-    grind (arith, common_steps, limited_refusal c.args.limits.now c.args.bytes.now c.args.level (to_z w16 (of_z w16 c.in-Normal.number)), c.in-Err.ensures.err)
+pub returns-in_err-bits-clause-refused : goal.returns-in_err-bits-clause-refused
+returns-in_err-bits-clause-refused c =
+    grind (arith, common_steps, limited_refusal c.args.limits.now c.args.bytes.now c.args.level (to_z w16 (of_z w16 c.in-Normal.number)), c.in_err-bits.ensures.err)
