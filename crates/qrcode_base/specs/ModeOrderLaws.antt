@@ -1,5 +1,5 @@
 -- The order of modes is a partial order, and its ties are the equal modes: what the trait `PartialOrd` asks a proof of.
--- Only proofs stand here; the definition is in ModeOrder.
+-- Only proofs stand here; the definition is in Modes.
 use Rattle.std.proofs.Common.{◌≡◌, Bool, true, refl, subst, ap}
 use Rattle.std.specs.Prelude.{Some, option_map}
 use Rattle.std.specs.Cmp.{IsPartialOrder}
