@@ -22,43 +22,6 @@ pub struct Step {
     pub part: Segment,
 }
 
-/// The last part of the chosen plan of as many segments as there are steps, found by trying each start.
-pub fn last_step<L: Ledger>(
-    segments: &[Segment],
-    version: Version,
-    steps: &[Step],
-    comparisons: &mut Comparisons<L>,
-) -> Step
-    requires micro { HasMicroNumber version }
-    requires some { 0 < length steps.now }
-    requires within { length steps.now ≤ length segments.now }
-    requires linear { HasLinearCosts segments.now version }
-    requires right { AreSteps segments.now version steps.now }
-    ensures step { IsStep segments.now version (length steps.now) result }
-    ensures ticked { comparisons.new + 1 ≡ comparisons.old + length steps.now }
-{
-    let end = steps.len();
-    let mut part = segments[end - 1];
-    let last = steps[end - 1];
-    let mut best_part = part;
-    let mut best = Candidate::new(last.bits + part.wide_len(version), last.parts + 1, end - 1);
-    for start in (0..end - 1).rev() {
-        part = segments[start].merge(part);
-        let step = steps[start];
-        let candidate = Candidate::new(step.bits + part.wide_len(version), step.parts + 1, start);
-        if candidate.is_better(&best, comparisons) {
-            best = candidate;
-            best_part = part;
-        }
-    }
-    Step {
-        bits: best.bits(),
-        parts: best.parts(),
-        start: best.start(),
-        part: best_part,
-    }
-}
-
 /// The mode in which a part ends that begins at a start of a bucket.
 pub fn bucket_mode(bucket: usize) -> Mode
     ensures { result ≡ bucket_mode bucket }
