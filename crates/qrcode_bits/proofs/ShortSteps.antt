@@ -7,7 +7,7 @@ use Rattle.qrcode_base.specs.declared.types.Mode.{Mode}
 use Rattle.qrcode_base.specs.Modes.{indicator_width, count_width, data_bits, characters}
 use Rattle.qrcode_bits.specs.declared.optimize.Segment.{Segment}
 use Rattle.qrcode_bits.specs.declared.optimize.steps.Step.{Step}
-use Rattle.qrcode_bits.specs.declared.optimize.candidate.Candidate.{Candidate}
+use Rattle.qrcode_bits.specs.declared.optimize.steps.Candidate.{Candidate}
 use Rattle.qrcode_bits.specs.declared.optimize.groups.Groups.{Groups}
 use Rattle.qrcode_bits.specs.declared.optimize.short.Headers.{Headers}
 use Rattle.qrcode_bits.specs.declared.optimize.short.ShortStep.{ShortStep}
@@ -26,7 +26,7 @@ pub cost-small : (version : Version) (headers : Headers) (mode : Mode) (size cos
 cost-small version headers mode size cost heads small is = grind arith
 
 pub step-small : (segments : List Segment) (version : Version) (headers : Headers) (end : ℕ) (step : Step) → AreHeaders version headers → IsShort segments →
-    HasLinearCosts segments version → end ≤ length segments → IsStep segments version end step → step.bits < 2 ^ 18
+    HasLinearCosts segments version → end ≤ length segments → IsStep segments version end step → step.best.bits < 2 ^ 18
 step-small segments version headers end step heads short linear within h = elim (cases_lt 0 end) [
   | inl some ↦
       let mode = part_mode segments 0 end in

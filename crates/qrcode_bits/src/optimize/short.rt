@@ -9,8 +9,7 @@ ghost use Rattle.qrcode_bits.specs.Buckets.{bucket_mode, bucket_rest, AreGroups,
 ghost use Rattle.qrcode_bits.specs.Buckets.{AreWhole, IsShort, AreHeaders, step_told, AreShortSteps};
 
 use super::Segment;
-use super::comparisons::Comparisons;
-use super::steps::bucket_mode;
+use super::steps::{Comparisons, bucket_mode};
 use super::words::{NO_START, Words, word};
 use qrcode_base::types::{Mode, QrError, QrResult, Version};
 use std::alloc::Global;

@@ -9,7 +9,7 @@ ghost use Rattle.qrcode_bits.specs.Buckets.{HasBucket, Absorbs, Advances, IsEmpt
 ghost use Rattle.qrcode_bits.specs.Buckets.{slot, word_of, starts_in, told, word_at, bucket_start, IsOffered, AreNone};
 ghost use Rattle.qrcode_bits.specs.Buckets.{IsWhole, AreWhole};
 
-use super::comparisons::Comparisons;
+use super::steps::Comparisons;
 use qrcode_base::types::Mode;
 use std::sync::ledger::Ledger;
 
