@@ -259,7 +259,7 @@ fn encode_class(
         (FitsNot (length (header_bits header.now)) bytes.now (normal last) level)) }
     ensures memory { IfErr result (λ e. e ≡ QrError.OutOfMemory) }
 {
-    let front = front_bits(header);
+    let front = 20 * usize::from(header.is_some());
     let version = normal(last);
     let Some(plan) = chosen_plan(alloc, front, bytes, segments, version, level)? else {
         return Ok(None);
@@ -331,36 +331,11 @@ fn encode_plan(
     ensures ok { IfOk result (λ bits. IsPlanStream header.now bytes.now version level plan.now bits) }
     ensures memory { IfErr result (λ e. e ≡ QrError.OutOfMemory) }
 {
-    let mut bits = started(alloc, header, version)?;
-    bits.push_plan(bytes, plan)?;
-    bits.push_terminator(level)?;
-    Ok(bits)
-}
-
-/// How many bits stand in front of the data.
-#[tactic(auto, using(crate::proofs::Reading::header_length))]
-fn front_bits(header: &Option<SequenceHeader>) -> usize
-    ensures is { result ≡ length (header_bits header.now) }
-    ensures small { result ≤ 20 }
-{
-    match header {
-        Some(_) => 20,
-        None => 0,
-    }
-}
-
-/// A stream that begins with a header, or with nothing.
-fn started(alloc: Global, header: &Option<SequenceHeader>, version: Version) -> QrResult<Bits>
-    requires number { HasMicroNumber version }
-    requires header { HasHeader version header.now }
-    ensures bits { IfOk result (λ bits. bits.bits ≡ header_bits header.now) }
-    ensures version { IfOk result (λ bits. bits.version ≡ version) }
-    ensures modes { IfOk result (λ bits. bits.modes ≡ no_modes) }
-    ensures memory { IfErr result (λ e. e ≡ QrError.OutOfMemory) }
-{
     let mut bits = Bits::new(alloc, version);
     if let Some(header) = header {
         bits.push_structured_append_header(header.position, header.total, header.parity)?;
     }
+    bits.push_plan(bytes, plan)?;
+    bits.push_terminator(level)?;
     Ok(bits)
 }

@@ -86,19 +86,6 @@ fn clear(group: &mut [u64])
     }
 }
 
-/// Whether a group of a mode needs a bucket.
-fn has_bucket(mode: Mode, bucket: usize) -> bool
-    requires { bucket < 8 }
-    ensures { IsTrue result ↔ HasBucket mode bucket }
-{
-    match mode {
-        Mode::Numeric => bucket < 6,
-        Mode::Alphanumeric => 3 <= bucket && bucket < 6,
-        Mode::Byte => bucket == 5,
-        Mode::Kanji => 5 <= bucket,
-    }
-}
-
 /// Offers a word to a bucket, where the group needs it.
 fn offer<L: Ledger>(
     group: &mut [u64],
@@ -113,7 +100,13 @@ fn offer<L: Ledger>(
     ensures long { length group.new ≡ 8 }
     ensures ticked { comparisons.new ≤ comparisons.old + 1 }
 {
-    if has_bucket(mode, bucket) {
+    let needed = match mode {
+        Mode::Numeric => bucket < 6,
+        Mode::Alphanumeric => 3 <= bucket && bucket < 6,
+        Mode::Byte => bucket == 5,
+        Mode::Kanji => 5 <= bucket,
+    };
+    if needed {
         group[bucket] = lesser(group[bucket], word, comparisons);
     }
 }
