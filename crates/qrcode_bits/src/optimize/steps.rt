@@ -143,7 +143,7 @@ pub fn last_step_from<L: Ledger>(
     let end = steps.len();
     let alone = segments[end - 1];
     let last = steps[end - 1].best;
-    let mut best_part = alone;
+    let mut part = alone;
     let mut best = Candidate {
         bits: last.bits + alone.wide_len(version),
         parts: last.parts + 1,
@@ -152,28 +152,24 @@ pub fn last_step_from<L: Ledger>(
     for bucket in 0..8 {
         let mode = bucket_mode(bucket);
         if let Some(found) = groups.best(mode, bucket) {
-            let start = found.start;
-            let part = Segment {
+            let longer = Segment {
                 mode,
-                begin: segments[start].begin,
+                begin: segments[found.start].begin,
                 end: alone.end,
             };
-            let before = steps[start].best;
+            let before = steps[found.start].best;
             let next = Candidate {
-                bits: before.bits + part.wide_len(version),
+                bits: before.bits + longer.wide_len(version),
                 parts: before.parts + 1,
-                start,
+                start: found.start,
             };
             if next.is_better(&best, comparisons) {
                 best = next;
-                best_part = part;
+                part = longer;
             }
         }
     }
-    Step {
-        best,
-        part: best_part,
-    }
+    Step { best, part }
 }
 
 /// The parts of the chosen plan of all segments, from what is kept of the chosen plans of first segments.

@@ -1,7 +1,8 @@
 //! The best starts so far, each as a word of 64 bits, for data of fewer than 8192 bytes.
 //!
 //! A word has the bits of the plan above, then 13 bits of its parts, then 13 bits that fall as the start grows. So the
-//! better of two starts is the lesser word, and no start is the greatest word.
+//! better of two starts is the lesser word, and no start is the greatest word. For each segment `optimize_short` calls
+//! `advance` with its mode and then `enter` with its start, and `last_step_short` asks for the `best` of each bucket.
 
 ghost use Rattle.std.specs.Prelude.{◌≡◌, ℕ, ◌+◌, ◌*◌, ◌-◌, ◌/◌, ◌%◌, ◌^◌, ◌<◌, ◌≤◌, length, min, IsTrue, ◌↔◌};
 ghost use Rattle.std.specs.Bool.{OnTrue};
