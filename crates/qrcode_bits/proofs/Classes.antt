@@ -19,9 +19,9 @@ use Rattle.qrcode_bits.specs.declared.optimize.Segment.{Segment}
 use Rattle.qrcode_bits.specs.Parsing.{parsed, AreTexts}
 use Rattle.qrcode_bits.specs.Plans.{HasLinearCosts, IsChosenPlan, total_bits, IsMergePlan, Fits, FitsNot, FitsNone, normal, IsLeastHolding, IsMinVersion}
 use Rattle.qrcode_bits.specs.Plans.{IsClass, ClassesUpTo}
-use Rattle.qrcode_bits.specs.Frame.{Header, header_bits}
+use Rattle.qrcode_bits.specs.Frame.{Header, IsPlace, header_bits}
 use Rattle.qrcode_bits.specs.Stream.{Stream}
-use Rattle.qrcode_bits.specs.Push.{IsPlace, IsPlanStream, IsEncoding, IsUnencodable, IsEncodingRefused, IsPartRefused}
+use Rattle.qrcode_bits.specs.Push.{IsPlanStream, IsEncoding, IsUnencodable, IsEncodingRefused, IsPartRefused}
 use Rattle.qrcode_base.specs.Symbols.{IsNormalNumber}
 use Rattle.qrcode_bits.specs.Spelling.{LiesIn}
 use Rattle.qrcode_bits.proofs.Adjoining.{parsed-linear}

@@ -6,7 +6,7 @@ use Rattle.qrcode_base.specs.declared.types.EcLevel.{EcLevel}
 use Rattle.qrcode_base.specs.declared.types.errors.QrError.{QrError}
 use Rattle.qrcode_base.specs.declared.types.errors.QrError.TheVariants.{OutOfMemory}
 use Rattle.qrcode_base.specs.Symbols.{capacity}
-use Rattle.qrcode_bits.specs.declared.bits.modes.EncodingModes.{EncodingModes}
+use Rattle.qrcode_bits.specs.declared.bits.headers.EncodingModes.{EncodingModes}
 use Rattle.qrcode_bits.specs.declared.optimize.Segment.{Segment}
 use Rattle.qrcode_bits.specs.Plans.{total_bits, Fits}
 use Rattle.qrcode_bits.specs.Buckets.{no_modes}

@@ -14,7 +14,7 @@ use Rattle.qrcode_bits.specs.Spelling.{Piece, IsSpellable, segment_piece, segmen
 use Rattle.qrcode_bits.specs.Frame.{AreSpelled}
 use Rattle.qrcode_bits.specs.Plans.{segment_at}
 use Rattle.qrcode_bits.specs.Stream.{Stream}
-use Rattle.qrcode_bits.specs.Push.{Spells, SpellsAll, StopsAt, PushesDrawn, IsRefused}
+use Rattle.qrcode_bits.specs.Push.{Spells, SpellsAll, StopsAt, PushesDrawn, IsPushRefused}
 use Rattle.std.proofs.lemmas.Grind.{common_steps}
 
 pub spells_none : (s : Stream) → SpellsAll s s []
@@ -35,7 +35,7 @@ push_first old next new p ps (Err e) h w = record {
   refused = w.refused;
 }
 
-push_refused : (old new : Stream) (p : Piece) (e : QrError) → new ≡ old → IsRefused old p e → StopsAt old new (p ∷ []) [] e
+push_refused : (old new : Stream) (p : Piece) (e : QrError) → new ≡ old → IsPushRefused old p e → StopsAt old new (p ∷ []) [] e
 push_refused old new p e same why = subst (λ (s : Stream). StopsAt old s (p ∷ []) [] e) (sym same) (record {
   done = [];
   next = p;
@@ -51,7 +51,7 @@ abbrev pub PushesInTurn : Stream → List Piece → Result Unit QrError → Stre
 PushesInTurn old [] result new = (result ≡ Ok tt) × (new ≡ old)
 PushesInTurn old (piece ∷ rest) result new =
     ((next : Stream) × Spells old next piece × PushesInTurn next rest result new)
-    ⊎ ((e : QrError) × (result ≡ Err e) × IsRefused old piece e × (new ≡ old) × (rest ≡ []))
+    ⊎ ((e : QrError) × (result ≡ Err e) × IsPushRefused old piece e × (new ≡ old) × (rest ≡ []))
 
 pub in_turn : (old new : Stream) (ps : List Piece) (result : Result Unit QrError) → PushesInTurn old ps result new → PushesDrawn old ps result new
 in_turn old new [] result h = grind (arith, spells_none)
@@ -84,7 +84,7 @@ none_invalid piece position byte valid h =
     (subst (λ (z : List ℕ). IsValid piece.mode z) (sym (take-length piece.text)) valid)
 
 -- a piece that can be spelled is refused for memory alone
-pub spellable_refused : (old : Stream) (piece : Piece) (e : QrError) → IsSpellable old.version piece → IsRefused old piece e → e ≡ OutOfMemory
+pub spellable_refused : (old : Stream) (piece : Piece) (e : QrError) → IsSpellable old.version piece → IsPushRefused old piece e → e ≡ OutOfMemory
 spellable_refused old piece e h r = grind (arith, none_invalid)
 
 -- the parts of a plan from a place on

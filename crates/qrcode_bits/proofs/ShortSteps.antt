@@ -1,5 +1,5 @@
 -- The last part of a chosen plan of short data, by words.
-use Rattle.std.proofs.Common.{◌≡◌, ℕ, ◌+◌, ◌-◌, ◌*◌, ◌/◌, ◌%◌, ◌^◌, ◌<◌, ◌≤◌, List, [], ◌∷◌, ◌++◌, length, Some, refl, sym, ap, ◌∙◌, subst, arith, inl, inr}
+use Rattle.std.proofs.Common.{◌≡◌, ℕ, ◌+◌, ◌-◌, ◌*◌, ◌/◌, ◌%◌, ◌^◌, ◌<◌, ◌≤◌, List, [], ◌∷◌, ◌++◌, length, get_or, Some, refl, sym, ap, ◌∙◌, subst, arith, inl, inr}
 use Rattle.std.proofs.lemmas.List.{length_push, get_or_push, get_or_append_left}
 use Rattle.std.proofs.lemmas.Bool.{cases_lt}
 use Rattle.qrcode_base.specs.declared.types.Version.{Version}
@@ -7,10 +7,11 @@ use Rattle.qrcode_base.specs.declared.types.Mode.{Mode}
 use Rattle.qrcode_base.specs.Modes.{indicator_width, count_width, data_bits, characters}
 use Rattle.qrcode_bits.specs.declared.optimize.Segment.{Segment}
 use Rattle.qrcode_bits.specs.declared.optimize.steps.Step.{Step}
-use Rattle.qrcode_bits.specs.declared.optimize.candidate.Candidate.{Candidate}
+use Rattle.qrcode_bits.specs.declared.optimize.steps.Candidate.{Candidate}
 use Rattle.qrcode_bits.specs.declared.optimize.groups.Groups.{Groups}
 use Rattle.qrcode_bits.specs.declared.optimize.short.Headers.{Headers}
 use Rattle.qrcode_bits.specs.declared.optimize.short.ShortStep.{ShortStep}
+use Rattle.qrcode_bits.specs.declared.optimize.short.TheConstants.{PERIOD_BITS, RESTS}
 use Rattle.qrcode_bits.specs.Plans.{IsNoWorse, segment_bits, segment_at, part_bits, HasLinearCosts, IsStep}
 use Rattle.qrcode_bits.specs.Buckets.{chosen_plan, bucket_mode, bucket_rest, part_mode, bits_before, parts_before, InBucket, IsBestStart, slot, AreGroups}
 use Rattle.qrcode_bits.specs.Buckets.{group_of, period, period_bits, start_told, bucket_start, IsShort, AreHeaders, header_in, step_told, short_at}
@@ -26,7 +27,7 @@ pub cost-small : (version : Version) (headers : Headers) (mode : Mode) (size cos
 cost-small version headers mode size cost heads small is = grind arith
 
 pub step-small : (segments : List Segment) (version : Version) (headers : Headers) (end : ℕ) (step : Step) → AreHeaders version headers → IsShort segments →
-    HasLinearCosts segments version → end ≤ length segments → IsStep segments version end step → step.bits < 2 ^ 18
+    HasLinearCosts segments version → end ≤ length segments → IsStep segments version end step → step.best.bits < 2 ^ 18
 step-small segments version headers end step heads short linear within h = elim (cases_lt 0 end) [
   | inl some ↦
       let mode = part_mode segments 0 end in
@@ -34,6 +35,19 @@ step-small segments version headers end step heads short linear within h = elim 
       omega (arith, h.bits, cost-is segments version end within linear 0 mode some refl, (h.chosen.least (0 ∷ []) (some, refl)).bits)
   | inr none ↦ omega (arith, h.bits, (h.chosen.least [] (omega arith)).bits)
 ]
+
+-- ---- The tables
+
+pub rest-at : (j : ℕ) → j < 8 → get_or RESTS j 0 ≡ bucket_rest j
+rest-at j h = grind arith
+
+pub period_bits-at : (j : ℕ) → j < 8 → get_or PERIOD_BITS j 0 ≡ period_bits (bucket_mode j)
+period_bits-at j h = grind arith
+
+pub period_bits-few : (j : ℕ) → get_or PERIOD_BITS j 0 ≤ 13
+period_bits-few j = grind arith
+
+pub ruleset short_costs = (cost-small, rest-at, period_bits-few)
 
 -- what stands for whole periods is shifted away by the cost of a part from the rest on
 word-cost : (mode : Mode) (q cost head b r e before : ℕ) → b % period mode ≡ r → b ≤ e →

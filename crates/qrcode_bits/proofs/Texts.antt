@@ -77,7 +77,8 @@ module _ (whole : List ℕ) where
       (texts-runs are (b + 1) (c ∷ rest) (drop-further whole (a ∷ c ∷ rest) b 1 d)) where
         go : (t : Bool) → is_kanji_pair a c ≡ t → AreTexts whole (b + 2) (map run_segment (runs (b + 2) (units rest))) (b + 2 + length rest) →
             AreTexts whole (b + 1) (map run_segment (runs (b + 1) (units (c ∷ rest)))) (b + 1 + length (c ∷ rest)) →
-            AreTexts whole b (map run_segment (runs b (elim t [ true ↦ Pair ∷ units rest | false ↦ class_of a ∷ units (c ∷ rest) ]))) (b + length (a ∷ c ∷ rest))
+            AreTexts whole b (map run_segment (runs b (elim t [ true ↦ Pair ∷ units rest | false ↦ class_of a ∷ units (c ∷ rest) ])))
+            (b + length (a ∷ c ∷ rest))
         go true k r q =
             let size : b + 2 + length rest ≡ b + length (a ∷ c ∷ rest) = omega arith in
             let valid : IsValid Kanji (slice_range whole b (b + 2)) = subst (λ (z : List ℕ). IsKanjiText z)

@@ -3,7 +3,7 @@ use Rattle.std.proofs.Common.{◌≡◌, ℕ, zero, suc, ◌+◌, ◌-◌, ◌*�
 use Rattle.std.proofs.lemmas.List.FromFn.{get_or-map-range_with_len, length-map-range_with_len}
 use Rattle.qrcode_base.specs.declared.types.Mode.{Mode}
 use Rattle.qrcode_base.specs.declared.types.Mode.TheVariants.{Alphanumeric, Kanji}
-use Rattle.qrcode_bits.specs.declared.optimize.candidate.Candidate.{Candidate}
+use Rattle.qrcode_bits.specs.declared.optimize.steps.Candidate.{Candidate}
 use Rattle.qrcode_bits.specs.Plans.{IsNoWorse}
 use Rattle.qrcode_bits.specs.Buckets.{period, period_bits, bucket_mode, bucket_rest, slot, IsBetterOf, HasBucket, key_of, Enters, word_of, start_told}
 use Rattle.qrcode_bits.specs.Buckets.{bucket_start, word_at, starts_in, IsOffered, IsWhole}

@@ -155,17 +155,6 @@ fn three_digits(digits: &[u8]) -> u64
     100 * digit(digits[0]) + 10 * digit(digits[1]) + digit(digits[2])
 }
 
-/// The numbers of twice three digits, one behind the other.
-fn six_digits(digits: &[u8]) -> u64
-    requires six { length digits.now ≡ 6 }
-    requires digits { All IsDigit digits.now }
-    ensures bits { number_bits 20 result ≡ numeric_bits digits.now }
-    ensures small { result < 2 ^ 20 }
-{
-    let (first, second) = digits.split_at(3);
-    three_digits(first) * 1024 + three_digits(second)
-}
-
 /// The numbers of four times three digits, one behind the other.
 fn twelve_digits(digits: &[u8]) -> u64
     requires twelve { length digits.now ≡ 12 }
@@ -173,8 +162,12 @@ fn twelve_digits(digits: &[u8]) -> u64
     ensures bits { number_bits 40 result ≡ numeric_bits digits.now }
     ensures small { result < 2 ^ 40 }
 {
-    let (first, second) = digits.split_at(6);
-    six_digits(first) * 0x10_0000 + six_digits(second)
+    let (first, later) = digits.split_at(3);
+    let (second, rest) = later.split_at(3);
+    let (third, fourth) = rest.split_at(3);
+    let high = three_digits(first) * 1024 + three_digits(second);
+    let low = three_digits(third) * 1024 + three_digits(fourth);
+    high * 0x10_0000 + low
 }
 
 /// The value of a character of the Alphanumeric mode.
@@ -200,17 +193,6 @@ fn two_letters(text: &[u8]) -> u64
     45 * alphanumeric_value(text[0]) + alphanumeric_value(text[1])
 }
 
-/// The numbers of twice two characters, one behind the other.
-fn four_letters(text: &[u8]) -> u64
-    requires four { length text.now ≡ 4 }
-    requires characters { All (λ c. Contains alphabet c) text.now }
-    ensures bits { number_bits 22 result ≡ alphanumeric_bits text.now }
-    ensures small { result < 2 ^ 22 }
-{
-    let (first, second) = text.split_at(2);
-    two_letters(first) * 2048 + two_letters(second)
-}
-
 /// The numbers of four times two characters, one behind the other.
 fn eight_letters(text: &[u8]) -> u64
     requires eight { length text.now ≡ 8 }
@@ -218,8 +200,12 @@ fn eight_letters(text: &[u8]) -> u64
     ensures bits { number_bits 44 result ≡ alphanumeric_bits text.now }
     ensures small { result < 2 ^ 44 }
 {
-    let (first, second) = text.split_at(4);
-    four_letters(first) * 0x40_0000 + four_letters(second)
+    let (first, later) = text.split_at(2);
+    let (second, rest) = later.split_at(2);
+    let (third, fourth) = rest.split_at(2);
+    let high = two_letters(first) * 2048 + two_letters(second);
+    let low = two_letters(third) * 2048 + two_letters(fourth);
+    high * 0x40_0000 + low
 }
 
 /// The 13-bit number of a double-byte character.

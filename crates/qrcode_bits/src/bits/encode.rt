@@ -3,7 +3,8 @@
 //! Append").
 //!
 //! Normal versions fall into three classes, 1 to 9, 10 to 26 and 27 to 40. In a class a plan takes the same bits in
-//! each version, so one plan for the last version of a class decides for the class.
+//! each version, so one plan for the last version of a class decides for the class. `encode_up_to` parses the data and
+//! tries the classes, `encode_class` finds the version in one, and `encode_plan` pushes header, plan and terminator.
 
 ghost use Rattle.std.specs.Prelude.{◌≡◌, ℕ, ◌+◌, ◌≤◌, length, nat_abs, Some, None, OnOk, IfOk, IfErr, IfSome, IfNone};
 ghost use Rattle.std.specs.Prelude.{All, IsTrue, ◌↔◌};
@@ -13,25 +14,37 @@ ghost use Rattle.qrcode_base.specs.Symbols.{HasMicroNumber};
 ghost use Rattle.qrcode_bits.specs.Parsing.{parsed};
 ghost use Rattle.qrcode_bits.specs.Plans.{IsChosenPlan, Fits, FitsNot, FitsNone, normal, micro, IsMinVersion, IsClass};
 ghost use Rattle.qrcode_bits.specs.Plans.{ClassesUpTo};
+ghost use Rattle.qrcode_bits.specs.Buckets.{no_modes};
 ghost use Rattle.qrcode_bits.specs.Push.{IsPlanStream, IsEncoding, IsUnencodable, IsEncodingRefused};
 ghost use Rattle.qrcode_base.specs.Symbols.{IsNormalNumber};
 ghost use Rattle.qrcode_bits.specs.Push.{IsMicroRefused, IsPartRefused};
 ghost use Rattle.qrcode_bits.specs.Frame.{HasHeader, header_bits, header};
 
-use super::Bits;
-use super::ending::data_capacity_bits;
-use super::headers::check_place;
-use super::widths::has_mode;
+use super::headers::{check_place, has_mode};
+use super::{Bits, data_capacity_bits};
 use crate::optimize::{Parser, Segment, optimize_segments, total_encoded_len};
 use arrayvec::ArrayVec;
-use front::{Part, front_bits, started};
+use qrcode_base::symbols::LONGEST_DATA;
 use qrcode_base::types::{EcLevel, QrError, QrResult, Version};
 use std::alloc::Global;
+use std::marker::Model;
 
-mod front;
+/// The header of a symbol that is part of a sequence.
+#[derive(Drop)]
+struct SequenceHeader {
+    position: u8,
+    total: u8,
+    parity: u8,
+}
 
-/// The longest data that some symbol holds: 7089 digits in version 40 at level L.
-const MAX_DATA_LEN: usize = 7089;
+// Clauses see the header.
+impl Model for SequenceHeader {
+    ghost use Rattle.qrcode_bits.specs.Frame.{Header};
+
+    ghost Value = { Header };
+
+    ghost view = { λ h. record { place = h.position; total = h.total; parity = h.parity } };
+}
 
 /// The bits of some data in the smallest Normal version in which some plan fits, by the plan that takes the fewest bits
 /// there, up to terminator and padding.
@@ -63,10 +76,7 @@ pub fn encode_auto_with_max_version(
     if max_version < 1 || max_version > 40 {
         return Err(QrError::InvalidResourceLimits);
     }
-    match encode_up_to(alloc, &None, bytes, level, max_version as usize) {
-        Ok(bits) => Ok(bits),
-        Err(error) => Err(error),
-    }
+    encode_up_to(alloc, &None, bytes, level, max_version as usize)
 }
 
 /// The bits of one symbol of a sequence (ISO/IEC 18004, "Structured Append"): the header of 20 bits with the symbol's
@@ -96,18 +106,13 @@ pub fn encode_part(
     if max_version < 1 || max_version > 40 {
         return Err(QrError::InvalidResourceLimits);
     }
-    if let Err(error) = check_place(position, total) {
-        return Err(error);
-    }
-    let header = Part {
+    check_place(position, total)?;
+    let header = SequenceHeader {
         position,
         total,
         parity,
     };
-    match encode_up_to(alloc, &Some(header), bytes, level, max_version as usize) {
-        Ok(bits) => Ok(bits),
-        Err(error) => Err(error),
-    }
+    encode_up_to(alloc, &Some(header), bytes, level, max_version as usize)
 }
 
 /// The bits of some data in the smallest of M1 to M4 that has the level and the modes and in which some plan fits, as
@@ -125,21 +130,14 @@ pub fn encode_auto_micro(alloc: Global, bytes: &[u8], level: EcLevel) -> QrResul
             ec_level: level,
         });
     }
-    if bytes.len() > MAX_DATA_LEN {
+    if bytes.len() > LONGEST_DATA {
         return Err(QrError::DataTooLong);
     }
-    let Ok(segments) = parse(alloc, bytes) else {
-        return Err(QrError::OutOfMemory);
-    };
+    let segments = parse(alloc, bytes)?;
     for smaller in 0..4 {
         let version = micro(smaller + 1);
-        let Ok(found) = chosen_plan(alloc, 0, bytes, &segments, version, level) else {
-            return Err(QrError::OutOfMemory);
-        };
-        if let Some(plan) = found {
-            let Ok(bits) = encode_plan(alloc, &None, bytes, version, level, &plan) else {
-                return Err(QrError::OutOfMemory);
-            };
+        if let Some(plan) = chosen_plan(alloc, 0, bytes, &segments, version, level)? {
+            let bits = encode_plan(alloc, &None, bytes, version, level, &plan)?;
             return Ok(bits);
         }
     }
@@ -183,7 +181,7 @@ fn micro(number: usize) -> Version
 /// The bits of the data behind a header or none, in the smallest Normal version up to a limit, told by its number.
 fn encode_up_to(
     alloc: Global,
-    header: &Option<Part>,
+    header: &Option<SequenceHeader>,
     bytes: &[u8],
     level: EcLevel,
     limit: usize,
@@ -195,18 +193,13 @@ fn encode_up_to(
     ensures err { IfErr result (λ e.
         IsUnencodable normal (length (header_bits header.now)) bytes.now level limit e) }
 {
-    if bytes.len() > MAX_DATA_LEN {
+    if bytes.len() > LONGEST_DATA {
         return Err(QrError::DataTooLong);
     }
-    let Ok(segments) = parse(alloc, bytes) else {
-        return Err(QrError::OutOfMemory);
-    };
+    let segments = parse(alloc, bytes)?;
     let candidates = last_versions(limit);
     for last in candidates.as_slice() {
-        let Ok(found) = encode_class(alloc, header, bytes, &segments, level, *last) else {
-            return Err(QrError::OutOfMemory);
-        };
-        if let Some(bits) = found {
+        if let Some(bits) = encode_class(alloc, header, bytes, &segments, level, *last)? {
             return Ok(bits);
         }
     }
@@ -247,7 +240,7 @@ fn last_versions(limit: usize) -> ArrayVec<usize, 3>
 #[tactic(auto, using(crate::proofs::Classes::small_plans))]
 fn encode_class(
     alloc: Global,
-    header: &Option<Part>,
+    header: &Option<SequenceHeader>,
     bytes: &[u8],
     segments: &[Segment],
     level: EcLevel,
@@ -266,19 +259,14 @@ fn encode_class(
         (FitsNot (length (header_bits header.now)) bytes.now (normal last) level)) }
     ensures memory { IfErr result (λ e. e ≡ QrError.OutOfMemory) }
 {
-    let front = front_bits(header);
+    let front = 20 * usize::from(header.is_some());
     let version = normal(last);
-    let Ok(found) = chosen_plan(alloc, front, bytes, segments, version, level) else {
-        return Err(QrError::OutOfMemory);
-    };
-    let Some(plan) = found else {
+    let Some(plan) = chosen_plan(alloc, front, bytes, segments, version, level)? else {
         return Ok(None);
     };
     let smallest = find_min_version(front + total_encoded_len(&plan, version), level);
-    match encode_plan(alloc, header, bytes, smallest, level, &plan) {
-        Ok(bits) => Ok(Some(bits)),
-        Err(_) => Err(QrError::OutOfMemory),
-    }
+    let bits = encode_plan(alloc, header, bytes, smallest, level, &plan)?;
+    Ok(Some(bits))
 }
 
 /// The chosen plan of some bytes in a version, where it fits behind so many bits in front.
@@ -310,9 +298,7 @@ fn chosen_plan(
     if bytes.len() / 3 * 10 > limit {
         return Ok(None);
     }
-    let Ok(plan) = optimize_segments(alloc, segments, version) else {
-        return Err(QrError::OutOfMemory);
-    };
+    let plan = optimize_segments(alloc, segments, version)?;
     if !has_modes(version, &plan) {
         return Ok(None);
     }
@@ -333,7 +319,7 @@ fn has_modes(version: Version, segments: &[Segment]) -> bool
 /// The bits of a plan that fits a version: a header or none, the spellings of its parts, terminator and padding.
 fn encode_plan(
     alloc: Global,
-    header: &Option<Part>,
+    header: &Option<SequenceHeader>,
     bytes: &[u8],
     version: Version,
     level: EcLevel,
@@ -345,14 +331,11 @@ fn encode_plan(
     ensures ok { IfOk result (λ bits. IsPlanStream header.now bytes.now version level plan.now bits) }
     ensures memory { IfErr result (λ e. e ≡ QrError.OutOfMemory) }
 {
-    let Ok(mut bits) = started(alloc, header, version) else {
-        return Err(QrError::OutOfMemory);
-    };
-    if let Err(error) = bits.push_plan(bytes, plan) {
-        return Err(error);
+    let mut bits = Bits::new(alloc, version);
+    if let Some(header) = header {
+        bits.push_structured_append_header(header.position, header.total, header.parity)?;
     }
-    if let Err(error) = bits.push_terminator(level) {
-        return Err(error);
-    }
+    bits.push_plan(bytes, plan)?;
+    bits.push_terminator(level)?;
     Ok(bits)
 }

@@ -1,4 +1,7 @@
 //! The chosen plan of short data, in one pass over the segments with a word for each start.
+//!
+//! `optimize_counted` calls `optimize_short`. That asks `last_step_short` for each number of first segments, from the
+//! first on, and then `read_back_short`, which answers the parts of the plan.
 
 ghost use Rattle.std.specs.Prelude.{◌≡◌, ◌+◌, ◌*◌, ◌-◌, ◌/◌, ◌%◌, ◌^◌, ◌<◌, ◌≤◌, length, IfOk, IfErr};
 ghost use Rattle.std.specs.Bool.{OnTrue};
@@ -9,24 +12,11 @@ ghost use Rattle.qrcode_bits.specs.Buckets.{bucket_mode, bucket_rest, AreGroups,
 ghost use Rattle.qrcode_bits.specs.Buckets.{AreWhole, IsShort, AreHeaders, step_told, AreShortSteps};
 
 use super::Segment;
-use super::comparisons::Comparisons;
-use super::steps::bucket_mode;
+use super::steps::{Comparisons, bucket_mode};
 use super::words::{NO_START, Words, word};
 use qrcode_base::types::{Mode, QrError, QrResult, Version};
 use std::alloc::Global;
 use std::sync::ledger::Ledger;
-
-/// Whether there are fewer than 8192 segments that end before byte 8192.
-pub fn is_short(segments: &[Segment]) -> bool
-    ensures { OnTrue result (IsShort segments.now) }
-{
-    for i in 0..segments.len() {
-        if segments[i].end >= 8192 {
-            return false;
-        }
-    }
-    segments.len() < 8192
-}
 
 /// How many bits stand in front of the characters of each mode.
 #[derive(Clone, Copy)]
@@ -68,40 +58,11 @@ impl Headers {
     }
 }
 
-/// The bits of a period of bytes in a mode: three digits, two characters, one byte, a pair of bytes.
-fn period_bits(mode: Mode) -> u64
-    ensures is { result ≡ period_bits mode }
-    ensures small { result ≤ 13 }
-{
-    match mode {
-        Mode::Numeric => 10,
-        Mode::Alphanumeric => 11,
-        Mode::Byte => 8,
-        Mode::Kanji => 13,
-    }
-}
+/// The bits of a period of bytes in the mode of each bucket: three digits, two characters, one byte, a pair of bytes.
+const PERIOD_BITS: [u64; 8] = [10, 10, 10, 11, 11, 8, 13, 13];
 
-/// The rest of the begins in a bucket.
-fn bucket_rest(bucket: usize) -> usize
-    requires { bucket < 8 }
-    ensures { result ≡ bucket_rest bucket }
-{
-    match bucket {
-        1 | 4 | 7 => 1,
-        2 => 2,
-        _ => 0,
-    }
-}
-
-/// The word of a bucket with the cost of its part, and without the periods that it has too many.
-fn with_cost(word: u64, cost: u64, periods: u64) -> u64
-    requires word { word < 2 ^ 50 }
-    requires cost { cost < 2 ^ 18 }
-    requires enough { periods ≤ word / 2 ^ 26 + cost }
-    ensures { result ≡ word + cost * 2 ^ 26 - periods * 2 ^ 26 }
-{
-    word + (cost << 26) - (periods << 26)
-}
+/// The rest of the begins in each bucket.
+const RESTS: [usize; 8] = [0, 1, 2, 0, 1, 0, 0, 1];
 
 /// What is kept of the chosen plan of some first segments: the word of its last part's start, and that part's mode.
 #[derive(Clone, Copy)]
@@ -110,30 +71,8 @@ struct ShortStep {
     mode: Mode,
 }
 
-impl ShortStep {
-    /// The bits of the plan.
-    fn bits(&self) -> u64
-        ensures { result ≡ self.now.word / 2 ^ 26 }
-    {
-        self.word >> 26
-    }
-
-    /// How many parts the plan has.
-    fn parts(&self) -> usize
-        ensures { result ≡ self.now.word % 2 ^ 26 / 2 ^ 13 }
-    {
-        (self.word % (1 << 26) >> 13) as usize
-    }
-
-    /// Where the last part starts.
-    fn start(&self) -> usize
-        ensures { result ≡ 8191 - self.now.word % 2 ^ 26 % 2 ^ 13 }
-    {
-        8191 - (self.word % (1 << 26) % (1 << 13)) as usize
-    }
-}
-
 /// The last part of the chosen plan of the first `end` segments, found by trying the best start of each rest.
+#[tactic(auto, using(crate::proofs::ShortSteps::short_costs))]
 fn last_step_short<L: Ledger>(
     segments: &[Segment],
     headers: &Headers,
@@ -159,8 +98,9 @@ fn last_step_short<L: Ledger>(
         let mode = bucket_mode(bucket);
         let found = words.best(mode, bucket);
         if found < 1 << 50 {
-            let cost = headers.cost(mode, last_end - bucket_rest(bucket));
-            let candidate = with_cost(found, cost, 8192 * period_bits(mode));
+            let cost = headers.cost(mode, last_end - RESTS[bucket]);
+            let periods = 8192 * PERIOD_BITS[bucket];
+            let candidate = found + cost * (1 << 26) - periods * (1 << 26);
             comparisons.tick();
             if candidate < best {
                 best = candidate;
@@ -191,7 +131,7 @@ fn read_back_short(
     let mut end = segments.len();
     while end > 0 {
         let step = steps[end];
-        let start = step.start();
+        let start = 8191 - (step.word % (1 << 26) % (1 << 13)) as usize;
         plan.push(Segment {
             mode: step.mode,
             begin: segments[start].begin,
@@ -232,8 +172,8 @@ pub fn optimize_short<L: Ledger>(
         words.enter(
             segment.mode,
             segment.begin,
-            before.bits(),
-            before.parts() + 1,
+            before.word >> 26,
+            (before.word % (1 << 26) >> 13) as usize + 1,
             start,
             comparisons,
         );

@@ -1,62 +1,113 @@
-//! The last part of the chosen plan of each number of first segments, and the plan that is read back from these.
+//! Starts that a last part may have, how two of them are compared and counted, and the last part of the chosen plan of
+//! each number of first segments.
+//!
+//! `optimize_linear` calls `last_step_from` for each number of first segments, from the first on, and then `read_back`,
+//! which answers the parts of the plan. `Groups` holds the starts that are tried, by `better`.
 
-ghost use Rattle.std.specs.Prelude.{◌≡◌, ◌+◌, ◌<◌, ◌≤◌, length, IfOk, IfErr};
+ghost use Rattle.std.specs.Prelude.{◌≡◌, ◌+◌, ◌<◌, ◌≤◌, length, IfOk, IfErr, ℕ};
+ghost use Rattle.std.specs.Bool.{OnTrue, OnFalse};
 ghost use Rattle.qrcode_base.specs.Symbols.{HasMicroNumber};
-ghost use Rattle.qrcode_bits.specs.Plans.{HasLinearCosts, IsChosenPlan, IsStep, AreSteps};
-ghost use Rattle.qrcode_bits.specs.Buckets.{bucket_mode, AreGroups};
+ghost use Rattle.qrcode_bits.specs.Plans.{HasLinearCosts, IsChosenPlan, IsNoWorse, IsStep, AreSteps};
+ghost use Rattle.qrcode_bits.specs.Buckets.{bucket_mode, AreGroups, IsBetterOf};
 
 use super::Segment;
-use super::candidate::Candidate;
-use super::comparisons::Comparisons;
 use super::groups::Groups;
 use qrcode_base::types::{Mode, QrError, QrResult, Version};
 use std::alloc::Global;
-use std::sync::ledger::Ledger;
+use std::marker::Model;
+use std::sync::ledger::{Blank, Book, Ledger, Share};
 
-/// What is kept of the chosen plan of some first segments: its bits, how many parts it has, and its last part.
+/// How many comparisons were made, for contracts alone. It takes no bytes, and `tick` does nothing when it runs.
+#[derive(Drop)]
+pub struct Comparisons<L: Ledger> {
+    book: Book<L>,
+    share: Share<L>,
+}
+
+impl<L: Ledger> Model for Comparisons<L> {
+    ghost Value = { ℕ };
+
+    ghost view = { λ c. c.book.total };
+
+    ghost invariant = { λ c. 0 < c.share.parts };
+}
+
+impl<L: Ledger> Comparisons<L> {
+    /// A count of none.
+    pub fn new(blank: Blank) -> Self
+        requires name { blank.name ≡ L.name }
+        requires parts { blank.parts ≡ L.parts }
+        requires some { 0 < L.parts }
+        ensures { result ≡ 0 }
+    {
+        let (book, share) = blank.open();
+        Comparisons { book, share }
+    }
+
+    /// One comparison more.
+    pub(crate) fn tick(&mut self)
+        ensures { self.new ≡ self.old + 1 }
+    {
+        self.book.add(&mut self.share, 1);
+    }
+}
+
+/// A start that a last part may have: the bits of the plan up to an end that is the same for all that are compared, how
+/// many parts it has with the last one, and the index of the segment at which that starts.
 #[derive(Clone, Copy)]
-pub struct Step {
+pub struct Candidate {
     pub bits: u128,
     pub parts: usize,
     pub start: usize,
-    pub part: Segment,
 }
 
-/// The last part of the chosen plan of as many segments as there are steps, found by trying each start.
-pub fn last_step<L: Ledger>(
-    segments: &[Segment],
-    version: Version,
-    steps: &[Step],
-    comparisons: &mut Comparisons<L>,
-) -> Step
-    requires micro { HasMicroNumber version }
-    requires some { 0 < length steps.now }
-    requires within { length steps.now ≤ length segments.now }
-    requires linear { HasLinearCosts segments.now version }
-    requires right { AreSteps segments.now version steps.now }
-    ensures step { IsStep segments.now version (length steps.now) result }
-    ensures ticked { comparisons.new + 1 ≡ comparisons.old + length steps.now }
-{
-    let end = steps.len();
-    let mut part = segments[end - 1];
-    let last = steps[end - 1];
-    let mut best_part = part;
-    let mut best = Candidate::new(last.bits + part.wide_len(version), last.parts + 1, end - 1);
-    for start in (0..end - 1).rev() {
-        part = segments[start].merge(part);
-        let step = steps[start];
-        let candidate = Candidate::new(step.bits + part.wide_len(version), step.parts + 1, start);
-        if candidate.is_better(&best, comparisons) {
-            best = candidate;
-            best_part = part;
+impl Candidate {
+    /// Fewer bits, with as many fewer parts, with as many of both the later start.
+    pub fn is_better<L: Ledger>(&self, other: &Candidate, comparisons: &mut Comparisons<L>) -> bool
+        ensures wins { OnTrue result (IsNoWorse self.now.bits self.now.parts self.now.start other.now.bits
+            other.now.parts other.now.start) }
+        ensures loses { OnFalse result (IsNoWorse other.now.bits other.now.parts other.now.start
+            self.now.bits self.now.parts self.now.start) }
+        ensures ticked { comparisons.new ≡ comparisons.old + 1 }
+    {
+        comparisons.tick();
+        if self.bits != other.bits {
+            self.bits < other.bits
+        } else if self.parts != other.parts {
+            self.parts < other.parts
+        } else {
+            self.start > other.start
         }
     }
-    Step {
-        bits: best.bits(),
-        parts: best.parts(),
-        start: best.start(),
-        part: best_part,
+}
+
+/// The better of two, where there are two.
+pub fn better<L: Ledger>(
+    a: Option<Candidate>,
+    b: Option<Candidate>,
+    comparisons: &mut Comparisons<L>,
+) -> Option<Candidate>
+    ensures better { IsBetterOf a b result }
+    ensures ticked { comparisons.new ≤ comparisons.old + 1 }
+{
+    match (a, b) {
+        (None, b) => b,
+        (a, None) => a,
+        (Some(a), Some(b)) => {
+            if b.is_better(&a, comparisons) {
+                Some(b)
+            } else {
+                Some(a)
+            }
+        }
     }
+}
+
+/// What is kept of the chosen plan of some first segments: the start of its last part, and that part.
+#[derive(Clone, Copy)]
+pub struct Step {
+    pub best: Candidate,
+    pub part: Segment,
 }
 
 /// The mode in which a part ends that begins at a start of a bucket.
@@ -91,32 +142,34 @@ pub fn last_step_from<L: Ledger>(
 {
     let end = steps.len();
     let alone = segments[end - 1];
-    let last = steps[end - 1];
-    let mut best_part = alone;
-    let mut best = Candidate::new(last.bits + alone.wide_len(version), last.parts + 1, end - 1);
+    let last = steps[end - 1].best;
+    let mut part = alone;
+    let mut best = Candidate {
+        bits: last.bits + alone.wide_len(version),
+        parts: last.parts + 1,
+        start: end - 1,
+    };
     for bucket in 0..8 {
         let mode = bucket_mode(bucket);
         if let Some(found) = groups.best(mode, bucket) {
-            let start = found.start();
-            let part = Segment {
+            let longer = Segment {
                 mode,
-                begin: segments[start].begin,
+                begin: segments[found.start].begin,
                 end: alone.end,
             };
-            let step = steps[start];
-            let next = Candidate::new(step.bits + part.wide_len(version), step.parts + 1, start);
+            let before = steps[found.start].best;
+            let next = Candidate {
+                bits: before.bits + longer.wide_len(version),
+                parts: before.parts + 1,
+                start: found.start,
+            };
             if next.is_better(&best, comparisons) {
                 best = next;
-                best_part = part;
+                part = longer;
             }
         }
     }
-    Step {
-        bits: best.bits(),
-        parts: best.parts(),
-        start: best.start(),
-        part: best_part,
-    }
+    Step { best, part }
 }
 
 /// The parts of the chosen plan of all segments, from what is kept of the chosen plans of first segments.
@@ -137,7 +190,7 @@ pub fn read_back(
     while end > 0 {
         let step = steps[end];
         plan.push(step.part)?;
-        end = step.start;
+        end = step.best.start;
     }
     plan.reverse();
     Ok(plan)

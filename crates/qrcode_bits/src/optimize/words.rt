@@ -1,7 +1,8 @@
 //! The best starts so far, each as a word of 64 bits, for data of fewer than 8192 bytes.
 //!
 //! A word has the bits of the plan above, then 13 bits of its parts, then 13 bits that fall as the start grows. So the
-//! better of two starts is the lesser word, and no start is the greatest word.
+//! better of two starts is the lesser word, and no start is the greatest word. For each segment `optimize_short` calls
+//! `advance` with its mode and then `enter` with its start, and `last_step_short` asks for the `best` of each bucket.
 
 ghost use Rattle.std.specs.Prelude.{◌≡◌, ℕ, ◌+◌, ◌*◌, ◌-◌, ◌/◌, ◌%◌, ◌^◌, ◌<◌, ◌≤◌, length, min, IsTrue, ◌↔◌};
 ghost use Rattle.std.specs.Bool.{OnTrue};
@@ -9,7 +10,7 @@ ghost use Rattle.qrcode_bits.specs.Buckets.{HasBucket, Absorbs, Advances, IsEmpt
 ghost use Rattle.qrcode_bits.specs.Buckets.{slot, word_of, starts_in, told, word_at, bucket_start, IsOffered, AreNone};
 ghost use Rattle.qrcode_bits.specs.Buckets.{IsWhole, AreWhole};
 
-use super::comparisons::Comparisons;
+use super::steps::Comparisons;
 use qrcode_base::types::Mode;
 use std::sync::ledger::Ledger;
 
@@ -86,19 +87,6 @@ fn clear(group: &mut [u64])
     }
 }
 
-/// Whether a group of a mode needs a bucket.
-fn has_bucket(mode: Mode, bucket: usize) -> bool
-    requires { bucket < 8 }
-    ensures { IsTrue result ↔ HasBucket mode bucket }
-{
-    match mode {
-        Mode::Numeric => bucket < 6,
-        Mode::Alphanumeric => 3 <= bucket && bucket < 6,
-        Mode::Byte => bucket == 5,
-        Mode::Kanji => 5 <= bucket,
-    }
-}
-
 /// Offers a word to a bucket, where the group needs it.
 fn offer<L: Ledger>(
     group: &mut [u64],
@@ -113,7 +101,13 @@ fn offer<L: Ledger>(
     ensures long { length group.new ≡ 8 }
     ensures ticked { comparisons.new ≤ comparisons.old + 1 }
 {
-    if has_bucket(mode, bucket) {
+    let needed = match mode {
+        Mode::Numeric => bucket < 6,
+        Mode::Alphanumeric => 3 <= bucket && bucket < 6,
+        Mode::Byte => bucket == 5,
+        Mode::Kanji => 5 <= bucket,
+    };
+    if needed {
         group[bucket] = lesser(group[bucket], word, comparisons);
     }
 }

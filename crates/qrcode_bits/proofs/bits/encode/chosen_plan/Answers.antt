@@ -25,10 +25,10 @@ returns-then-bytes-limit-clause-none c =
 
 pub returns-then-not-has_modes-clause-none : goal.returns-then-not-has_modes-clause-none
 returns-then-not-has_modes-clause-none c =
-    let chosen = subst (λ (s : List Segment). IsChosenPlan s c.args.version c.in-Ok-optimize_segments.plan.items) c.requires.segments
-    c.in-Ok-optimize_segments.ensures.plan in
+    let chosen = subst (λ (s : List Segment). IsChosenPlan s c.args.version c.in_ok-plan.plan.items) c.requires.segments
+    c.in_ok-plan.ensures.plan in
     let known = known_limit (capacity c.args.version c.args.level) c.in-Ok.limit (InvalidVersion c.args.version c.args.level) c.in-Ok.ensures.is in
-    lacks_mode c.args.front c.args.bytes.now c.args.version c.args.level c.in-Ok-optimize_segments.plan.items c.in-Ok.limit chosen known
+    lacks_mode c.args.front c.args.bytes.now c.args.version c.args.level c.in_ok-plan.plan.items c.in-Ok.limit chosen known
     (λ has.
     let no : false ≡ true = c.if-not-has_modes.ensures.1 (subst (λ (p : List Segment). All (λ part. HasMode c.args.version part.mode) p)
     (sym c.deref.ensures.value) has) in
@@ -36,27 +36,27 @@ returns-then-not-has_modes-clause-none c =
 
 pub total_encoded_len-requires-clause-ordered : goal.total_encoded_len-requires-clause-ordered
 total_encoded_len-requires-clause-ordered c =
-    let chosen = subst (λ (s : List Segment). IsChosenPlan s c.args.version c.in-Ok-optimize_segments.plan.items) c.requires.segments
-    c.in-Ok-optimize_segments.ensures.plan in
+    let chosen = subst (λ (s : List Segment). IsChosenPlan s c.args.version c.in_ok-plan.plan.items) c.requires.segments
+    c.in_ok-plan.ensures.plan in
     subst (λ (p : List Segment). All (λ s. s.begin ≤ s.end) p) (sym c.deref-2.ensures.value)
-    (plan_ordered c.args.bytes.now c.in-Ok-optimize_segments.plan.items (bytes_valid c.args.bytes.now (λ i. omega (arith, c.type_inv.bytes i)))
-    (chosen_is_plan c.args.bytes.now c.args.version c.in-Ok-optimize_segments.plan.items chosen))
+    (plan_ordered c.args.bytes.now c.in_ok-plan.plan.items (bytes_valid c.args.bytes.now (λ i. omega (arith, c.type_inv.bytes i)))
+    (chosen_is_plan c.args.bytes.now c.args.version c.in_ok-plan.plan.items chosen))
 
 pub returns-then-front-total_encoded_len-clause-none : goal.returns-then-front-total_encoded_len-clause-none
 returns-then-front-total_encoded_len-clause-none c =
-    let chosen = subst (λ (s : List Segment). IsChosenPlan s c.args.version c.in-Ok-optimize_segments.plan.items) c.requires.segments
-    c.in-Ok-optimize_segments.ensures.plan in
+    let chosen = subst (λ (s : List Segment). IsChosenPlan s c.args.version c.in_ok-plan.plan.items) c.requires.segments
+    c.in_ok-plan.ensures.plan in
     let known = known_limit (capacity c.args.version c.args.level) c.in-Ok.limit (InvalidVersion c.args.version c.args.level) c.in-Ok.ensures.is in
     let size = c.total_encoded_len.ensures ∙ ap (λ (p : List Segment). total_bits c.args.version p) c.deref-2.ensures.value in
-    too_many c.args.front c.args.bytes.now c.args.version c.args.level c.in-Ok-optimize_segments.plan.items c.in-Ok.limit chosen known
+    too_many c.args.front c.args.bytes.now c.args.version c.args.level c.in_ok-plan.plan.items c.in-Ok.limit chosen known
     (subst (λ (n : ℕ). c.in-Ok.limit < c.args.front + n) size c.if-front-total_encoded_len.true)
 
 pub returns-clause-fits : goal.returns-clause-fits
 returns-clause-fits c =
-    let chosen = subst (λ (s : List Segment). IsChosenPlan s c.args.version c.in-Ok-optimize_segments.plan.items) c.requires.segments
-    c.in-Ok-optimize_segments.ensures.plan in
+    let chosen = subst (λ (s : List Segment). IsChosenPlan s c.args.version c.in_ok-plan.plan.items) c.requires.segments
+    c.in_ok-plan.ensures.plan in
     let known = known_limit (capacity c.args.version c.args.level) c.in-Ok.limit (InvalidVersion c.args.version c.args.level) c.in-Ok.ensures.is in
     let size = c.total_encoded_len.ensures ∙ ap (λ (p : List Segment). total_bits c.args.version p) c.deref-2.ensures.value in
-    chosen_fits_here c.args.front c.args.bytes.now c.args.version c.args.level c.in-Ok-optimize_segments.plan.items c.in-Ok.limit chosen known
+    chosen_fits_here c.args.front c.args.bytes.now c.args.version c.args.level c.in_ok-plan.plan.items c.in-Ok.limit chosen known
     (subst (λ (p : List Segment). All (λ part. HasMode c.args.version part.mode) p) c.deref.ensures.value (c.if-not-has_modes.ensures.0 refl))
     (subst (λ (n : ℕ). c.args.front + n ≤ c.in-Ok.limit) size c.if-front-total_encoded_len.false)

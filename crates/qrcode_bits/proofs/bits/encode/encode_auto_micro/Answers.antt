@@ -1,27 +1,42 @@
 -- The first Micro version whose chosen plan fits is the choice.
-use Rattle.std.proofs.Common.{◌≡◌, subst, arith, true, false}
+use Rattle.std.proofs.Common.{◌≡◌, ◌+◌, List, None, subst, arith, true, false}
 use Rattle.qrcode_base.specs.declared.types.Version.{Version}
-use Rattle.qrcode_bits.specs.Plans.{FitsNot}
+use Rattle.qrcode_bits.specs.declared.optimize.Segment.{Segment}
+use Rattle.qrcode_bits.specs.Parsing.{parsed}
+use Rattle.qrcode_bits.specs.Plans.{FitsNot, Fits, IsChosenPlan}
+use Rattle.qrcode_bits.specs.Push.{IsPlanStream}
 use Rattle.qrcode_bits.proofs.Pairs.{bytes_valid}
 use Rattle.qrcode_bits.proofs.Choices.{micro_next, micro_choice}
 use Rattle.qrcode_bits.proofs.Lengths.{long_for_micro}
 use Rattle.qrcode_bits.proofs.bits.encode.encode_auto_micro.Goals as goal
-use Rattle.std.proofs.lemmas.Grind.{common_steps}
 
-pub returns-then-bytes-gt-MAX_DATA_LEN-clause-err : goal.returns-then-bytes-gt-MAX_DATA_LEN-clause-err
-returns-then-bytes-gt-MAX_DATA_LEN-clause-err c = (
+pub returns-then-bytes-gt-LONGEST_DATA-clause-err : goal.returns-then-bytes-gt-LONGEST_DATA-clause-err
+returns-then-bytes-gt-LONGEST_DATA-clause-err c = (
   λ h. let bad : false ≡ true = rw h at c.if-eq.ensures in absurd (cc),
-  long_for_micro c.args.bytes.now c.args.level (bytes_valid c.args.bytes.now (λ i. omega (arith, c.type_inv.bytes i))) c.if-bytes-gt-MAX_DATA_LEN.true,
+  long_for_micro c.args.bytes.now c.args.level (bytes_valid c.args.bytes.now (λ i. omega (arith, c.type_inv.bytes i))) c.if-bytes-gt-LONGEST_DATA.true,
 )
 
 pub returns-in-Some-clause-ok : goal.returns-in-Some-clause-ok
-returns-in-Some-clause-ok c = grind (arith, common_steps, micro_choice)
+returns-in-Some-clause-ok c =
+    let message = c.args.bytes.now in
+    let plan = c.in-Some.plan.items in
+    let number = c.loop-smaller.smaller + 1 in
+    let chosen = subst (λ (v : Version). IsChosenPlan (parsed message) v plan) c.micro-version.ensures.is (rw c.in-Some.is at c.in_ok-plan.ensures.chosen) in
+    let fits = subst (λ (v : Version). Fits 0 message v c.args.level plan) c.micro-version.ensures.is (rw c.in-Some.is at c.in_ok-plan.ensures.fits) in
+    let stream = subst (λ (p : List Segment). IsPlanStream None message c.micro-version.result c.args.level p c.in_ok-bits.bits) c.deref-in-Some.ensures.value
+    c.in_ok-bits.ensures.ok in
+    record {
+      number = number;
+      plan = plan;
+      choice = micro_choice message c.args.level c.loop-smaller.smaller plan (omega arith) c.loop-smaller.invariant chosen fits;
+      stream_is = subst (λ (v : Version). IsPlanStream None message v c.args.level plan c.in_ok-bits.bits) c.micro-version.ensures.is stream;
+    }
 
 pub loop-smaller-preserved : goal.loop-smaller-preserved
 loop-smaller-preserved c =
     micro_next c.args.bytes.now c.args.level c.loop-smaller.smaller c.loop-smaller.invariant
     (subst (λ (v : Version). FitsNot 0 c.args.bytes.now v c.args.level) c.micro-version.ensures.is
-    (rw c.in_default-found.is at c.in-Ok-chosen_plan.ensures.none))
+    (rw c.in_default.is at c.in_ok-plan.ensures.none))
 
 pub returns-clause-err : goal.returns-clause-err
 returns-clause-err c = (

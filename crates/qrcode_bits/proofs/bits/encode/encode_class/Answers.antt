@@ -1,46 +1,68 @@
 -- The chosen plan of the last version of a class decides for the class.
-use Rattle.std.proofs.Common.{◌≡◌, ◌+◌, length, ◌≤◌, ℕ, List, ap, ◌∙◌, sym, subst, arith}
+use Rattle.std.proofs.Common.{◌≡◌, ◌+◌, ◌*◌, length, ◌≤◌, ℕ, List, ap, ◌∙◌, sym, subst, arith}
 use Rattle.std.specs.Prelude.{All}
 use Rattle.qrcode_base.specs.declared.types.Version.{Version}
 use Rattle.qrcode_bits.specs.declared.optimize.Segment.{Segment}
 use Rattle.qrcode_bits.specs.Frame.{header_bits}
 use Rattle.qrcode_bits.specs.Parsing.{parsed}
-use Rattle.qrcode_bits.specs.Plans.{IsChosenPlan, total_bits, normal, IsMinVersion}
+use Rattle.qrcode_bits.specs.Plans.{IsChosenPlan, total_bits, Fits, normal, IsMinVersion}
 use Rattle.qrcode_bits.specs.Push.{IsPlanStream}
+use Rattle.qrcode_bits.proofs.Reading.{front-is}
 use Rattle.qrcode_bits.proofs.Pairs.{bytes_valid}
 use Rattle.qrcode_bits.proofs.Classes.{plan_ordered, front_fits, front_not, class_fits, class_encoding}
 use Rattle.qrcode_bits.proofs.bits.encode.encode_class.Goals as goal
 
-pub returns-in_default-found-clause-none : goal.returns-in_default-found-clause-none
-returns-in_default-found-clause-none c =
-    front_not c.args.bytes.now c.args.level c.args.last c.front_bits-front.result
-    (length (header_bits c.args.header.now)) c.normal-version.result c.front_bits-front.ensures.is c.normal-version.ensures
-    (rw c.in_default-found.is at c.in-Ok.ensures.none)
+pub returns-in_default-clause-none : goal.returns-in_default-clause-none
+returns-in_default-clause-none c =
+    let front : 20 * c.from-front.result ≡ length (header_bits c.args.header.now) =
+    front-is c.args.header.now c.is_some.result c.from-front.result c.is_some.ensures c.from-front.ensures in
+    front_not c.args.bytes.now c.args.level c.args.last (20 * c.from-front.result)
+    (length (header_bits c.args.header.now)) c.normal-version.result front c.normal-version.ensures
+    (rw c.in_default.is at c.in_ok-plan.ensures.none)
 
 pub total_encoded_len-requires-clause-ordered : goal.total_encoded_len-requires-clause-ordered
 total_encoded_len-requires-clause-ordered c =
-    let fits = front_fits c.args.bytes.now c.args.level c.args.last c.in-Some.plan.items c.front_bits-front.result
-    (length (header_bits c.args.header.now)) c.normal-version.result c.front_bits-front.ensures.is c.normal-version.ensures
-    (rw c.in-Some.is at c.in-Ok.ensures.fits) in
+    let front : 20 * c.from-front.result ≡ length (header_bits c.args.header.now) =
+    front-is c.args.header.now c.is_some.result c.from-front.result c.is_some.ensures c.from-front.ensures in
+    let fits = front_fits c.args.bytes.now c.args.level c.args.last c.in-Some.plan.items (20 * c.from-front.result)
+    (length (header_bits c.args.header.now)) c.normal-version.result front c.normal-version.ensures
+    (rw c.in-Some.is at c.in_ok-plan.ensures.fits) in
     subst (λ (p : List Segment). All (λ s. s.begin ≤ s.end) p) (sym c.deref.ensures.value)
     (plan_ordered c.args.bytes.now c.in-Some.plan.items (bytes_valid c.args.bytes.now (λ i. omega (arith, c.type_inv.bytes i))) fits.planned)
 
 pub encode_plan-requires-clause-fits : goal.encode_plan-requires-clause-fits
-encode_plan-requires-clause-fits c = grind (arith, front_fits, class_fits)
-
-pub returns-in-Ok-encode_plan-clause-some : goal.returns-in-Ok-encode_plan-clause-some
-returns-in-Ok-encode_plan-clause-some c = λ before limit class within none.
-    let fits = front_fits c.args.bytes.now c.args.level c.args.last c.in-Some.plan.items c.front_bits-front.result
-    (length (header_bits c.args.header.now)) c.normal-version.result c.front_bits-front.ensures.is c.normal-version.ensures
-    (rw c.in-Some.is at c.in-Ok.ensures.fits) in
+encode_plan-requires-clause-fits c =
+    let front : 20 * c.from-front.result ≡ length (header_bits c.args.header.now) =
+    front-is c.args.header.now c.is_some.result c.from-front.result c.is_some.ensures c.from-front.ensures in
+    let fits = front_fits c.args.bytes.now c.args.level c.args.last c.in-Some.plan.items (20 * c.from-front.result)
+    (length (header_bits c.args.header.now)) c.normal-version.result front c.normal-version.ensures
+    (rw c.in-Some.is at c.in_ok-plan.ensures.fits) in
     let chosen = subst (λ (v : Version). IsChosenPlan (parsed c.args.bytes.now) v c.in-Some.plan.items) c.normal-version.ensures
-    (rw c.in-Some.is at c.in-Ok.ensures.chosen) in
+    (rw c.in-Some.is at c.in_ok-plan.ensures.chosen) in
     let size = c.total_encoded_len.ensures ∙ (ap (λ (v : Version). total_bits v c.deref.result.now) c.normal-version.ensures
     ∙ ap (λ (p : List Segment). total_bits (normal c.args.last) p) c.deref.ensures.value) in
-    let whole : c.front_bits-front.result + c.total_encoded_len.result ≡ length (header_bits c.args.header.now) + total_bits
-    (normal c.args.last) c.in-Some.plan.items = omega (arith, size, c.front_bits-front.ensures.is) in
+    let whole : (20 * c.from-front.result) + c.total_encoded_len.result ≡ length (header_bits c.args.header.now) + total_bits
+    (normal c.args.last) c.in-Some.plan.items = omega (arith, size, front) in
+    let least = subst (λ (n : ℕ). IsMinVersion n c.args.level c.find_min_version-smallest.result) whole c.find_min_version-smallest.ensures in
+    subst (λ (p : List Segment). Fits (length (header_bits c.args.header.now)) c.args.bytes.now c.find_min_version-smallest.result c.args.level p)
+    (sym c.deref-2.ensures.value)
+    (class_fits c.args.header.now c.args.bytes.now c.args.level c.args.last c.in-Some.plan.items chosen fits c.find_min_version-smallest.result least)
+
+pub returns-clause-some : goal.returns-clause-some
+returns-clause-some c = λ before limit class within none.
+    let front : 20 * c.from-front.result ≡ length (header_bits c.args.header.now) =
+    front-is c.args.header.now c.is_some.result c.from-front.result c.is_some.ensures c.from-front.ensures in
+    let fits = front_fits c.args.bytes.now c.args.level c.args.last c.in-Some.plan.items (20 * c.from-front.result)
+    (length (header_bits c.args.header.now)) c.normal-version.result front c.normal-version.ensures
+    (rw c.in-Some.is at c.in_ok-plan.ensures.fits) in
+    let chosen = subst (λ (v : Version). IsChosenPlan (parsed c.args.bytes.now) v c.in-Some.plan.items) c.normal-version.ensures
+    (rw c.in-Some.is at c.in_ok-plan.ensures.chosen) in
+    let size = c.total_encoded_len.ensures ∙ (ap (λ (v : Version). total_bits v c.deref.result.now) c.normal-version.ensures
+    ∙ ap (λ (p : List Segment). total_bits (normal c.args.last) p) c.deref.ensures.value) in
+    let whole : (20 * c.from-front.result) + c.total_encoded_len.result ≡ length (header_bits c.args.header.now) + total_bits
+    (normal c.args.last) c.in-Some.plan.items = omega (arith, size, front) in
     let least = subst (λ (n : ℕ). IsMinVersion n c.args.level c.find_min_version-smallest.result) whole c.find_min_version-smallest.ensures in
     let stream = subst (λ (p : List Segment). IsPlanStream c.args.header.now c.args.bytes.now c.find_min_version-smallest.result c.args.level p
-    c.in-Ok-encode_plan.bits) c.deref-2.ensures.value c.in-Ok-encode_plan.ensures.ok in
+    c.in_ok-bits.bits) c.deref-2.ensures.value c.in_ok-bits.ensures.ok in
     class_encoding c.args.header.now c.args.bytes.now c.args.level c.args.last c.in-Some.plan.items chosen fits c.find_min_version-smallest.result least
-    c.in-Ok-encode_plan.bits stream before limit class within none
+    c.in_ok-bits.bits stream before limit class within none

@@ -4,16 +4,22 @@ use Rattle.std.specs.Prelude.{nat_abs, length}
 use mir.Val.{to_z, of_z}
 use mir.Syntax.{w16}
 use Rattle.std.proofs.lemmas.Int.{ints, to_z-of_z}
+use Rattle.std.proofs.lemmas.Result.{IfErr-weaker}
 use Rattle.qrcode_bits.specs.Frame.{header_spelling, header}
+use Rattle.qrcode_bits.specs.Plans.{normal}
+use Rattle.qrcode_bits.specs.Push.{IsUnencodable, IsPartRefused}
 use Rattle.qrcode_bits.proofs.Classes.{refused_part, limit_of}
 use Rattle.qrcode_bits.proofs.Reading.{length-header}
 use Rattle.qrcode_bits.proofs.bits.encode.encode_part.Goals as goal
 
-pub returns-in-Err-encode_up_to-clause-err : goal.returns-in-Err-encode_up_to-clause-err
-returns-in-Err-encode_up_to-clause-err c =
+pub returns-clause-err : goal.returns-clause-err
+returns-clause-err c =
     let same : to_z w16 (of_z w16 c.args.max_version) ≡ c.args.max_version = search (arith, ints, to_z-of_z) in
+    let number = nat_abs (to_z w16 (of_z w16 c.args.max_version)) in
     let limit = limit_of c.args.max_version (to_z w16 (of_z w16 c.args.max_version)) same c.if-max_version-lt1.false c.if-max_version-gt40.false in
     let numbers = header c.args.position c.args.total c.args.parity in
-    refused_part c.args.position c.args.total c.args.bytes.now c.args.level c.args.max_version (nat_abs (to_z w16 (of_z w16 c.args.max_version)))
-    (length (header_spelling numbers))
-    c.in-Err-encode_up_to.error limit c.in_default.ensures.ok (ap (λ (z : ℤ). nat_abs z) same) (length-header numbers) c.in-Err-encode_up_to.ensures.err
+    let size = length (header_spelling numbers) in
+    IfErr-weaker c.encode_up_to.result (IsUnencodable normal size c.args.bytes.now c.args.level number)
+    (IsPartRefused c.args.position c.args.total c.args.bytes.now c.args.level c.args.max_version)
+    (λ e. refused_part c.args.position c.args.total c.args.bytes.now c.args.level c.args.max_version number size e limit
+    c.in_ok-check_place.ensures.ok (ap (λ (z : ℤ). nat_abs z) same) (length-header numbers)) c.encode_up_to.ensures.err

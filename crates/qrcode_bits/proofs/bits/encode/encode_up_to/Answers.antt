@@ -6,22 +6,22 @@ use Rattle.qrcode_bits.proofs.Lengths.{long_message}
 use Rattle.qrcode_bits.proofs.Classes.{classes_here, classes_end, class_fits_not}
 use Rattle.qrcode_bits.proofs.bits.encode.encode_up_to.Goals as goal
 
-pub returns-then-bytes-gt-MAX_DATA_LEN-clause-err : goal.returns-then-bytes-gt-MAX_DATA_LEN-clause-err
-returns-then-bytes-gt-MAX_DATA_LEN-clause-err c =
+pub returns-then-bytes-gt-LONGEST_DATA-clause-err : goal.returns-then-bytes-gt-LONGEST_DATA-clause-err
+returns-then-bytes-gt-LONGEST_DATA-clause-err c =
     long_message (length (header_bits c.args.header.now)) c.args.bytes.now c.args.level c.args.limit c.requires.to_forty
-    (bytes_valid c.args.bytes.now (λ i. omega (arith, c.type_inv.bytes i))) c.if-bytes-gt-MAX_DATA_LEN.true
+    (bytes_valid c.args.bytes.now (λ i. omega (arith, c.type_inv.bytes i))) c.if-bytes-gt-LONGEST_DATA.true
 
 pub returns-in-Some-clause-ok : goal.returns-in-Some-clause-ok
 returns-in-Some-clause-ok c =
     let i = c.loop-last.invariant in
     let here = classes_here i.0 c.args.limit c.as_slice-last-items.result.now c.loop-last.last-index c.loop-last-test.true i.1 in
-    (rw c.in-Some.is at c.in-Ok-encode_class.ensures.some) i.0 c.args.limit here.0 here.2 i.2
+    (rw c.in-Some.is at c.in_ok-bits.ensures.some) i.0 c.args.limit here.0 here.2 i.2
 
 pub loop-last-preserved : goal.loop-last-preserved
 loop-last-preserved c =
     let i = c.loop-last.invariant in
     let here = classes_here i.0 c.args.limit c.as_slice-last-items.result.now c.loop-last.last-index c.loop-last-test.true i.1 in
-    let none = rw c.in_default-found.is at c.in-Ok-encode_class.ensures.none in
+    let none = rw c.in_default.is at c.in_ok-bits.ensures.none in
     let last : ℕ = get_or c.as_slice-last-items.result.now c.loop-last.last-index 0 in (
       last,
       here.3,

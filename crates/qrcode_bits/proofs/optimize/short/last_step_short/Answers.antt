@@ -1,23 +1,30 @@
 -- The best start of each rest was tried, by its word.
-use Rattle.std.proofs.Common.{ℕ, ◌-◌, ◌*◌, arith, ap, rules}
+use Rattle.std.proofs.Common.{ℕ, ◌-◌, ◌*◌, get_or, arith, ap, sym, ◌∙◌, refl}
+use Rattle.qrcode_bits.specs.declared.optimize.short.TheConstants.{PERIOD_BITS, RESTS}
 use Rattle.qrcode_bits.specs.Plans.{segment_at}
-use Rattle.qrcode_bits.specs.Buckets.{told}
-use Rattle.qrcode_bits.proofs.ShortSteps.{cost-small, short-rest, short-enough, sought-keeps, sought-takes, sought-nothing, sought-last}
+use Rattle.qrcode_bits.specs.Buckets.{told, period_bits}
+use Rattle.qrcode_bits.proofs.ShortSteps.{rest-at, period_bits-at, cost-small, short-rest, short-enough, sought-keeps, sought-takes, sought-nothing, sought-last}
 use Rattle.qrcode_bits.proofs.optimize.short.last_step_short.Goals as goal
 use Rattle.qrcode_bits.proofs.optimize.short.last_step_short.Goals.{then-found+then-candidate-best, then-found+else-candidate-best, else-found}
 use Rattle.std.proofs.lemmas.Grind.{common_steps}
 
 pub overflow_sub-last_end-then-found : goal.overflow_sub-last_end-then-found
-overflow_sub-last_end-then-found g c = search (arith, rules, short-rest)
+overflow_sub-last_end-then-found g c =
+    let j = c.loop-bucket.bucket in
+    short-rest c.args.segments.now c.args.version c.args.end c.requires.within c.requires.linear j c.best-found.result (get_or RESTS j 0)
+    (told c.args.words.now) c.bucket_mode-mode.result c.loop-bucket-test.true c.requires.words c.bucket_mode-mode.ensures c.best-found.ensures
+    c.if-found.true (rest-at j c.loop-bucket-test.true)
 
-pub with_cost-candidate-requires-clause-enough : goal.with_cost-candidate-requires-clause-enough
-with_cost-candidate-requires-clause-enough g c =
-    short-enough c.args.segments.now c.args.version c.args.end c.requires.within c.requires.linear c.loop-bucket.bucket
+pub overflow_sub-candidate : goal.overflow_sub-candidate
+overflow_sub-candidate g c =
+    let j = c.loop-bucket.bucket in
+    let enough = short-enough c.args.segments.now c.args.version c.args.end c.requires.within c.requires.linear j
     c.best-found.result c.loop-bucket-test.true
     (told c.args.words.now) c.requires.words c.bucket_mode-mode.result c.bucket_mode-mode.ensures c.best-found.ensures c.if-found.true
     c.args.headers.now c.requires.headers
-    c.bucket_rest.result c.cost-cost.result c.bucket_rest.ensures c.cost-cost.ensures.cost (8192 * c.period_bits.result)
-    (ap (λ (n : ℕ). 8192 * n) c.period_bits.ensures.is)
+    (get_or RESTS j 0) c.cost-cost.result (rest-at j c.loop-bucket-test.true) c.cost-cost.ensures.cost (8192 * get_or PERIOD_BITS j 0)
+    (ap (λ (n : ℕ). 8192 * n) (period_bits-at j c.loop-bucket-test.true ∙ sym (ap period_bits c.bucket_mode-mode.ensures))) in
+    omega arith
 
 pub loop-bucket-preserved : goal.loop-bucket-preserved
 loop-bucket-preserved g c =
@@ -29,12 +36,12 @@ loop-bucket-preserved g c =
     let mode = c.bucket_mode-mode.result in
     elim c.if-found.branch [
       | then-found+then-candidate-best w ↦
-          let dear = cost-small c.args.version c.args.headers.now mode (last_end - w.bucket_rest.result) w.cost-cost.result c.requires.headers
+          let dear = cost-small c.args.version c.args.headers.now mode (last_end - (get_or RESTS j 0)) w.cost-cost.result c.requires.headers
           (omega arith) w.cost-cost.ensures.cost in
           let next = sought-takes segments c.args.version end c.requires.within c.requires.linear j c.best-found.result c.loop-bucket-test.true
           (told c.args.words.now) c.requires.words mode c.bucket_mode-mode.ensures c.best-found.ensures w.if-found.true c.args.headers.now c.requires.headers
-          w.bucket_rest.result w.cost-cost.result w.bucket_rest.ensures w.cost-cost.ensures.cost
-          (8192 * w.period_bits.result) w.with_cost-candidate.result (ap (λ (n : ℕ). 8192 * n) w.period_bits.ensures.is) w.with_cost-candidate.ensures dear
+          (get_or RESTS j 0) w.cost-cost.result (rest-at j c.loop-bucket-test.true) w.cost-cost.ensures.cost
+          (8192 * get_or PERIOD_BITS j 0) _ (ap (λ (n : ℕ). 8192 * n) (period_bits-at j c.loop-bucket-test.true ∙ sym (ap period_bits c.bucket_mode-mode.ensures))) refl dear
           best c.loop-bucket.best_mode c.loop-bucket.invariant.sought (omega (arith, w.if-candidate-best.true)) in
           record {
             within = omega arith;
@@ -43,12 +50,12 @@ loop-bucket-preserved g c =
                 omega (arith, w.comparisons-is, w.tick.ensures, c.loop-bucket.invariant.ticked);
           }
       | then-found+else-candidate-best w ↦
-          let dear = cost-small c.args.version c.args.headers.now mode (last_end - w.bucket_rest.result) w.cost-cost.result c.requires.headers
+          let dear = cost-small c.args.version c.args.headers.now mode (last_end - (get_or RESTS j 0)) w.cost-cost.result c.requires.headers
           (omega arith) w.cost-cost.ensures.cost in
           let next = sought-keeps segments c.args.version end c.requires.within c.requires.linear j c.best-found.result c.loop-bucket-test.true
           (told c.args.words.now) c.requires.words mode c.bucket_mode-mode.ensures c.best-found.ensures w.if-found.true c.args.headers.now c.requires.headers
-          w.bucket_rest.result w.cost-cost.result w.bucket_rest.ensures w.cost-cost.ensures.cost
-          (8192 * w.period_bits.result) w.with_cost-candidate.result (ap (λ (n : ℕ). 8192 * n) w.period_bits.ensures.is) w.with_cost-candidate.ensures dear
+          (get_or RESTS j 0) w.cost-cost.result (rest-at j c.loop-bucket-test.true) w.cost-cost.ensures.cost
+          (8192 * get_or PERIOD_BITS j 0) _ (ap (λ (n : ℕ). 8192 * n) (period_bits-at j c.loop-bucket-test.true ∙ sym (ap period_bits c.bucket_mode-mode.ensures))) refl dear
           best c.loop-bucket.best_mode c.loop-bucket.invariant.sought (omega (arith, w.if-candidate-best.false)) in
           record {
             within = omega arith;

@@ -1,4 +1,4 @@
-use Rattle.std.proofs.Common.{◌+◌, arith, refl}
+use Rattle.std.proofs.Common.{arith, refl}
 use Rattle.qrcode_bits.specs.Plans.{segment_at, IsStep}
 use Rattle.qrcode_bits.specs.Buckets.{told, step_told}
 use Rattle.qrcode_bits.proofs.ShortSteps.{step-small, AreShortSteps-push, AreShortSteps-start}
@@ -32,8 +32,8 @@ last_step_short-before-requires-clause-words g c =
     let right : IsStep segments c.args.version k (step_told segments k c.loop-start.before) = rw inv.last (inv.right k (omega (arith, inv.long))) in
     AreGroups-next segments c.args.version k c.loop-start-test.true (told c.loop-start.words) (told c.advance.new.self) (told c.enter.new.self)
     (segment_at segments k).mode
-    (step_told segments k c.loop-start.before) c.bits.result (c.parts.result + 1) inv.groups refl
-    c.advance.ensures.advances c.enter.ensures.entered right (omega (arith, c.bits.ensures)) (omega (arith, c.parts.ensures))
+    (step_told segments k c.loop-start.before) _ _ inv.groups refl
+    c.advance.ensures.advances c.enter.ensures.entered right (omega arith) (omega arith)
     (let near = c.requires.short.near k c.loop-start-test.true in let order = c.requires.linear.ordered k k (omega arith) c.loop-start-test.true in omega arith)
 
 pub loop-start-preserved : goal.loop-start-preserved
@@ -44,8 +44,8 @@ loop-start-preserved g c =
     let right : IsStep segments c.args.version k (step_told segments k c.loop-start.before) = rw inv.last (inv.right k (omega (arith, inv.long))) in
     let next = AreGroups-next segments c.args.version k c.loop-start-test.true (told c.loop-start.words) (told c.advance.new.self) (told c.enter.new.self)
     (segment_at segments k).mode
-    (step_told segments k c.loop-start.before) c.bits.result (c.parts.result + 1) inv.groups refl
-    c.advance.ensures.advances c.enter.ensures.entered right (omega (arith, c.bits.ensures)) (omega (arith, c.parts.ensures))
+    (step_told segments k c.loop-start.before) _ _ inv.groups refl
+    c.advance.ensures.advances c.enter.ensures.entered right (omega arith) (omega arith)
     (let near = c.requires.short.near k c.loop-start-test.true in
     let order = c.requires.linear.ordered k k (omega arith) c.loop-start-test.true in omega arith) in
     let w = AreShortSteps-push segments c.args.version c.loop-start.steps.items c.push-in-loop-start.new.self.items c.last_step_short-before.result k inv.long
