@@ -1,12 +1,12 @@
 -- The table of the masks' conditions, modules as bytes, masked and formatted, masks by their numbers, and lists of penalties.
 use Rattle.std.proofs.Common.{◌≡◌, ℕ, ◌+◌, ◌/◌, ◌%◌, ◌<◌, ◌==◌, eqb, Bool, cond, min, [], get_or, refl, ap, arith, List, map, length, Option, ◌∙◌, sym, zero}
-use Rattle.std.proofs.Common.{suc, ◌∷◌, ◌++◌, take, drop, slice_get, Some, option_map}
+use Rattle.std.proofs.Common.{suc, ◌∷◌, ◌++◌, take, drop, slice_get, Some, option_map, unwrap_or}
 use Rattle.std.specs.Int.{bit_at}
 use Rattle.qrcode_base.specs.declared.types.Color.TheVariants.{Light, Dark}
 use Rattle.qrcode_grid.specs.declared.canvas.Module.{Module}
 use Rattle.qrcode_grid.specs.declared.canvas.Module.TheVariants.{Empty}
 use Rattle.qrcode_grid.specs.declared.canvas.masks.TheConstants.{CONDITIONS}
-use Rattle.qrcode_grid.specs.Scoring.{code_of, masked_code, pattern_of, byte_under}
+use Rattle.qrcode_grid.specs.Scoring.{code_of, masked_code, pattern_of}
 use Rattle.qrcode_grid.specs.Masks.{is_inverted, drawn_over, format_color, masked, masked_cell, masked_cells, format_word, normal_number, family}
 use Rattle.qrcode_grid.proofs.FieldLaws.{passes_below, passes_below-at}
 use Rattle.qrcode_grid.proofs.MarkedLanes.{eqb_true}
@@ -52,6 +52,10 @@ pub is_inverted-repeats_rows : (pattern : MaskPattern) (x y : ℕ) → is_invert
 is_inverted-repeats_rows pattern x y = grind (arith, common_steps, mul_comm, mul_assoc, mul-add)
 
 -- Modules as bytes, masked and formatted.
+
+-- a byte after a functional colour is drawn over it, if there is one
+abbrev pub byte_under : Option Color → ℕ → ℕ
+byte_under o b = unwrap_or (option_map byte_of o) b
 
 drawn_byte : (o : Option Color) (b : Bool) (m : Module) → byte_under o (masked_code (code_of m) b) ≡ byte_of (color_of_module (drawn_over o (masked b m)))
 drawn_byte o b m = grind (arith)

@@ -1,15 +1,12 @@
 -- Regions that say nothing, and what regions say together.
-use Rattle.std.proofs.Common.{◌≡◌, ◌-◌, ◌≤◌, zero, suc, ℕ, ℤ, nat_abs, ◌<◌, ◌+◌, ◌*◌, ap, refl, arith, false, nat_lt, nat_le, ◌==◌, ◌&&◌, ◌||◌, ◌≢◌, Option}
+use Rattle.std.proofs.Common.{◌≡◌, ◌-◌, ◌≤◌, zero, suc, ℕ, ◌<◌, ◌+◌, ◌*◌, ap, refl, arith, false, nat_lt, nat_le, ◌==◌, ◌&&◌, ◌||◌, ◌≢◌, Option}
 use Rattle.std.proofs.Common.{None, [], ◌∷◌, get_or, ◌/◌, List, map, sym, ◌∙◌, leb, cond, inl, inr, Bool, true}
 use Rattle.std.proofs.lemmas.Bool.Decides.{nat_tests}
 use Rattle.qrcode_base.specs.declared.types.Color.{Color}
-use Rattle.qrcode_base.specs.declared.types.Version.{Version}
-use Rattle.qrcode_base.specs.declared.types.Version.TheVariants.{Normal, Micro}
-use Rattle.qrcode_base.specs.Symbols.{IsVersion, width_of}
 use Rattle.qrcode_grid.specs.declared.canvas.Module.{Module}
 use Rattle.qrcode_grid.specs.Masks.{drawn_over}
-use Rattle.qrcode_grid.specs.Regions.{timing, where_true, dark_if_even, version_copies, alignments, alignment_coordinates, first_some, normal_regions}
-use Rattle.qrcode_grid.specs.Regions.{micro_regions, functional_color, near, alignment_count, pattern_at, alignment_coordinate, version_word}
+use Rattle.qrcode_grid.specs.Regions.{timing, where_true, dark_if_even, version_copies, alignments, alignment_coordinates, first_some}
+use Rattle.qrcode_grid.specs.Regions.{near, alignment_count, pattern_at, alignment_coordinate, version_word}
 use Rattle.std.proofs.lemmas.Grind.{common_steps}
 use Rattle.std.specs.List.{range_with_len}
 use Rattle.std.proofs.lemmas.List.FromFn.{get_or-map-range_with_len}
@@ -67,18 +64,9 @@ no_timing_behind line from to x order behind = no_timing line from to x line (gr
 pub drawn_three : (a b c : Option Color) (m : Module) → drawn_over (first_some (a ∷ b ∷ c ∷ [])) m ≡ drawn_over a (drawn_over b (drawn_over c m))
 drawn_three a b c m = grind (arith, common_steps)
 
-pub drawn_nine : (a b c d e f g h i : Option Color) (m : Module) → drawn_over (first_some (a ∷ b ∷ c ∷ d ∷ e ∷ f ∷ g ∷ h ∷ i ∷ [])) m
-    ≡ drawn_over a (drawn_over b (drawn_over c (drawn_over d (drawn_over e (drawn_over f (drawn_over g (drawn_over h (drawn_over i m))))))))
-drawn_nine a b c d e f g h i m = grind (arith, common_steps, drawn_three)
-
--- the regions of a version, with its number and its width as the code has them
-pub normal_regions_are : (version : Version) (z : ℤ) (k format x y w : ℕ) → version ≡ Normal z → IsVersion version → w ≡ width_of version → k ≡ nat_abs z →
-    first_some (normal_regions k w format x y) ≡ functional_color version format x y
-normal_regions_are version z k format x y w h l m e = grind (arith)
-
-pub micro_regions_are : (version : Version) (z : ℤ) (format x y w : ℕ) → version ≡ Micro z → IsVersion version → w ≡ width_of version →
-    first_some (micro_regions w format x y) ≡ functional_color version format x y
-micro_regions_are version z format x y w h l m = grind (arith)
+pub drawn_seven : (a b c d e f g : Option Color) (m : Module) → drawn_over (first_some (a ∷ b ∷ c ∷ d ∷ e ∷ f ∷ g ∷ [])) m
+    ≡ drawn_over a (drawn_over b (drawn_over c (drawn_over d (drawn_over e (drawn_over f (drawn_over g m))))))
+drawn_seven a b c d e f g m = grind (arith, common_steps, drawn_three)
 
 -- Steps of the loops that look a region up.
 

@@ -147,6 +147,7 @@ impl Canvas {
     /// The first mask of least penalty, and that penalty.
     fn best_mask(&self, alloc: Global) -> QrResult<(MaskPattern, usize)>
         ensures best { IfOk result (λ r. IsBestMask self.now r.0) }
+        ensures family { IfOk result (λ r. IsOfFamily self.now.version r.0) }
         ensures least { IfOk result (λ r.
             r.1 ≡ penalty self.now.version (colors_of (with_mask r.0 self.now))) }
         ensures refusal { IfErr result (λ e. e ≡ QrError.OutOfMemory) }
