@@ -1,11 +1,12 @@
 -- Regions that say nothing, and what regions say together.
 use Rattle.std.proofs.Common.{◌≡◌, ◌-◌, ◌≤◌, zero, suc, ℕ, ◌<◌, ◌+◌, ◌*◌, ap, refl, arith, false, nat_lt, nat_le, ◌==◌, ◌&&◌, ◌||◌, ◌≢◌, Option}
-use Rattle.std.proofs.Common.{None, [], ◌∷◌, get_or, ◌/◌, List, map, sym, ◌∙◌, leb, cond, inl, inr, Bool, true}
+use Rattle.std.proofs.Common.{None, [], ◌∷◌, get_or, ◌/◌, map, sym, ◌∙◌, leb, cond, inl, inr, Bool, true}
 use Rattle.std.proofs.lemmas.Bool.Decides.{nat_tests}
 use Rattle.qrcode_base.specs.declared.types.Color.{Color}
 use Rattle.qrcode_grid.specs.declared.canvas.Module.{Module}
+use Rattle.qrcode_grid.specs.declared.canvas.regions.TheConstants.{VERSION_WORDS}
 use Rattle.qrcode_grid.specs.Masks.{drawn_over}
-use Rattle.qrcode_grid.specs.Regions.{timing, where_true, dark_if_even, version_copies, alignments, alignment_coordinates, first_some}
+use Rattle.qrcode_grid.specs.Regions.{finder, timing, where_true, dark_if_even, version_copies, alignments, alignment_coordinates, first_some}
 use Rattle.qrcode_grid.specs.Regions.{near, alignment_count, pattern_at, alignment_coordinate, version_word}
 use Rattle.std.proofs.lemmas.Grind.{common_steps}
 use Rattle.std.specs.List.{range_with_len}
@@ -60,6 +61,13 @@ no_timing_before line from to x order before = no_timing line from to x line (gr
 pub no_timing_behind : (line from to x : ℕ) → line < from → to < x → timing line from to x line ≡ None
 no_timing_behind line from to x order behind = no_timing line from to x line (grind (arith, nat_tests, order, behind))
 
+-- the cells that are too far for a finder pattern
+pub no_finder_column : (center_x center_y x y : ℕ) → 4 < abs_diff center_x x → finder center_x center_y x y ≡ None
+no_finder_column center_x center_y x y far = grind (arith, common_steps)
+
+pub no_finder_row : (center_x center_y x y : ℕ) → 4 < abs_diff center_y y → finder center_x center_y x y ≡ None
+no_finder_row center_x center_y x y far = grind (arith, common_steps)
+
 -- what the first of some regions says is drawn last
 pub drawn_three : (a b c : Option Color) (m : Module) → drawn_over (first_some (a ∷ b ∷ c ∷ [])) m ≡ drawn_over a (drawn_over b (drawn_over c m))
 drawn_three a b c m = grind (arith, common_steps)
@@ -79,17 +87,11 @@ pub alignment_count_is : (n : ℕ) → 1 < n → alignment_count n ≡ n / 7 + 2
 alignment_count_is n h = let e : leb n 1 ≡ false = (grind (arith, nat_tests)) in ap (λ b. cond b 0 (n / 7 + 2)) e
 
 -- the version words of the versions 7 to 40, computed
-unfoldable pub version_words : List ℕ
-version_words =
-    31892 ∷ 34236 ∷ 39577 ∷ 42195 ∷ 48118 ∷ 51042 ∷ 55367 ∷ 58893 ∷ 63784 ∷ 68472 ∷ 70749 ∷ 76311 ∷ 79154 ∷ 84390 ∷ 87683 ∷ 92361 ∷ 96236 ∷
-    102084 ∷ 102881 ∷ 110507 ∷ 110734 ∷ 117786 ∷ 119615 ∷ 126325 ∷ 127568 ∷ 133589 ∷ 136944 ∷ 141498 ∷ 145311 ∷ 150283 ∷ 152622 ∷ 158308 ∷ 161089 ∷ 167017 ∷ []
-
-pub version_words_are : map version_word (range_with_len 7 34) ≡ version_words
-unfolding version_words
+pub version_words_are : map version_word (range_with_len 7 34) ≡ VERSION_WORDS
 version_words_are = refl
 
-pub get_or-version_words : (n : ℕ) → 7 ≤ n → n ≤ 40 → get_or version_words (n - 7) 0 ≡ version_word n
-get_or-version_words n low high =
+pub version_word_at : (n : ℕ) → 7 ≤ n → n ≤ 40 → get_or VERSION_WORDS (n - 7) 0 ≡ version_word n
+version_word_at n low high =
     ap (λ ws. get_or ws (n - 7) 0) (sym version_words_are) ∙ get_or-map-range_with_len version_word 7 34 (n - 7) n 0 (omega arith) (omega arith)
 
 pub ruleset near_steps = (near_more, alignment_count_is, common_steps)

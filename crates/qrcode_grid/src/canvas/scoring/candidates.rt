@@ -18,17 +18,6 @@ use crate::canvas::regions::{color_of_digit, write_format};
 use crate::canvas::{MaskPattern, Module};
 use qrcode_base::types::{Color, EcLevel, Version};
 
-/// A module as a byte: 1 where it is dark, and 2 more where a mask may invert it.
-fn code(old: Module) -> u8
-    ensures { result ≡ code_of old }
-{
-    let data = match old {
-        Module::Masked(_) => 0,
-        _ => 2,
-    };
-    data + u8::from(old.is_dark())
-}
-
 /// A bit in all eight places of a byte.
 fn spread(bit: bool) -> u8
     ensures { (m : ℕ) → m < 8 → bit_at result m ≡ (if bit then 1 else 0) }
@@ -43,7 +32,11 @@ fn spread(bit: bool) -> u8
 fn masked_bits(old: Module, conditions: u8) -> u8
     ensures { (m : ℕ) → m < 8 → bit_at result m ≡ masked_code (code_of old) (bit_at conditions m == 1) }
 {
-    let code = code(old);
+    let data = match old {
+        Module::Masked(_) => 0,
+        _ => 2,
+    };
+    let code = data + u8::from(old.is_dark());
     spread(code % 2 == 1) ^ (spread(code / 2 == 1) & conditions)
 }
 
@@ -83,14 +76,6 @@ fn mask_rows(modules: &[Module], stripes: &[u8], width: usize, grid: &mut [u8])
     }
 }
 
-/// A binary digit of a word as a byte.
-fn byte_of_digit(word: u32, k: usize) -> u8
-    requires { k < 32 }
-    ensures { result ≡ byte_of (digit_color (digit word k)) }
-{
-    u8::from(color_of_digit(word, k) == Color::Dark)
-}
-
 /// Some digits and one more.
 fn with_digit(digits: u8, m: usize, digit: u8) -> u8
     requires within { m < 8 }
@@ -113,7 +98,8 @@ fn digits_of(words: &[u32; 8], k: usize) -> u8
 {
     let mut digits = 0;
     for m in 0..8 {
-        digits = with_digit(digits, m, byte_of_digit(words[m], k));
+        let digit = u8::from(color_of_digit(words[m], k) == Color::Dark);
+        digits = with_digit(digits, m, digit);
     }
     digits
 }
