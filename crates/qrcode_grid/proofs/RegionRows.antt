@@ -7,7 +7,7 @@ use Rattle.qrcode_grid.specs.declared.canvas.Module.{Module}
 use Rattle.qrcode_grid.specs.declared.canvas.regions.TheConstants.{VERSION_WORDS}
 use Rattle.qrcode_grid.specs.Masks.{drawn_over}
 use Rattle.qrcode_grid.specs.Regions.{finder, timing, where_true, dark_if_even, version_copies, alignments, alignment_coordinates, first_some}
-use Rattle.qrcode_grid.specs.Regions.{near, alignment_count, pattern_at, alignment_coordinate, version_word}
+use Rattle.qrcode_grid.specs.Regions.{near, alignment_count, alignment_at, alignment_coordinate, version_word}
 use Rattle.std.proofs.lemmas.Grind.{common_steps}
 use Rattle.std.specs.List.{range_with_len}
 use Rattle.std.proofs.lemmas.List.FromFn.{get_or-map-range_with_len}
@@ -153,10 +153,10 @@ none_behind n x high low =
 pub behind_before : (n k : ℕ) → n ≤ 40 → k < alignment_count n → behind n k + 2 ≤ alignment_coordinate n k
 behind_before n k h l = grind (arith, cells_inside, apart)
 
-pub no_pattern : (w : ℕ) (o p : Option ℕ) (x y : ℕ) → o ≡ None → pattern_at w o p x y ≡ None
+pub no_pattern : (w : ℕ) (o p : Option ℕ) (x y : ℕ) → o ≡ None → alignment_at w o p x y ≡ None
 no_pattern w o p x y h = grind (arith)
 
-pub no_pattern_row : (w : ℕ) (o p : Option ℕ) (x y : ℕ) → p ≡ None → pattern_at w o p x y ≡ None
+pub no_pattern_row : (w : ℕ) (o p : Option ℕ) (x y : ℕ) → p ≡ None → alignment_at w o p x y ≡ None
 no_pattern_row w o p x y h = grind (arith)
 
 pub behind_within : (n k : ℕ) → n ≤ 40 → k ≤ alignment_count n → behind n k ≤ 4 * n + 17

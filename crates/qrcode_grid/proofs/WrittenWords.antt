@@ -6,7 +6,7 @@ use Rattle.std.proofs.lemmas.Bool.{cases_eq, cases_lt}
 use Rattle.std.proofs.lemmas.Bool.Decides.{nat_tests}
 use Rattle.qrcode_base.specs.declared.types.Color.{Color}
 use Rattle.qrcode_base.specs.declared.types.Color.TheVariants.{Dark}
-use Rattle.qrcode_grid.specs.Regions.{format_first, format_second, format_micro, digit_at, first_some, where_true, digit}
+use Rattle.qrcode_grid.specs.Regions.{format_first, format_second, format_micro, digit_at, first_some, where_true, binary_digit}
 use Rattle.qrcode_grid.specs.Regions.{digit_color, normal_format_word, micro_format_word, version_word}
 use Rattle.qrcode_grid.specs.Regions.{differing_digits, map_cells, map_places}
 use Rattle.std.proofs.lemmas.Grind.{common_steps}
@@ -250,19 +250,20 @@ digit_at-below (p ∷ places) x y k e = grind (arith, common_steps, digit_at-bel
 
 -- What is shown of values is what a word shows: here by the digits of the values, dark ones by the digits of the word.
 module _ {X Y : Type 0} (show : X → Y) (over : Option Color → Y → Y) (digits : ℕ → X) (dark : X) (word : ℕ)
-    (digit_shown : (k : ℕ) (b : Y) → k < 15 → show (digits k) ≡ over (Some (digit_color (digit word k))) b)
+    (digit_shown : (k : ℕ) (b : Y) → k < 15 → show (digits k) ≡ over (Some (digit_color (binary_digit word k))) b)
     (dark_shown : (b : Y) → show dark ≡ over (Some Dark) b) (none_shown : (b : Y) → over None b ≡ b) where
   abbrev Below : Option ℕ → Type 0
   Below o = (k : ℕ) → o ≡ Some k → k < 15
 
   word_shown : (o : Option ℕ) → Below o → (b : X) →
-      show (unwrap_or (option_map digits o) b) ≡ over (option_map (λ k. digit_color (digit word k)) o) (show b)
+      show (unwrap_or (option_map digits o) b) ≡ over (option_map (λ k. digit_color (binary_digit word k)) o) (show b)
   word_shown (Some k) below b = digit_shown k (show b) (below k refl)
   word_shown None below b = sym (none_shown (show b))
 
   words_shown : (t : Bool) (o p : Option ℕ) → Below o → Below p → (b : X) →
       show (unwrap_or (first_some (where_true t dark ∷ option_map digits o ∷ option_map digits p ∷ [])) b)
-      ≡ over (first_some (where_true t Dark ∷ option_map (λ k. digit_color (digit word k)) o ∷ option_map (λ k. digit_color (digit word k)) p ∷ [])) (show b)
+      ≡ over (first_some (where_true t Dark ∷ option_map (λ k. digit_color (binary_digit word k)) o
+      ∷ option_map (λ k. digit_color (binary_digit word k)) p ∷ [])) (show b)
   words_shown true o p low high b = dark_shown (show b)
   words_shown false (Some k) p low high b = digit_shown k (show b) (low k refl)
   words_shown false None (Some k) low high b = digit_shown k (show b) (high k refl)
