@@ -1,12 +1,14 @@
 -- The table of the masks' conditions, modules as bytes, masked and formatted, masks by their numbers, and lists of penalties.
 use Rattle.std.proofs.Common.{◌≡◌, ℕ, ◌+◌, ◌/◌, ◌%◌, ◌<◌, ◌==◌, eqb, Bool, cond, min, [], get_or, refl, ap, arith, List, map, length, Option, ◌∙◌, sym, zero}
-use Rattle.std.proofs.Common.{suc, ◌∷◌, ◌++◌, take, drop, slice_get, Some, option_map}
+use Rattle.std.proofs.Common.{suc, ◌∷◌, ◌++◌, take, drop, slice_get, Some, option_map, unwrap_or, bit_and, bit_xor}
+use Rattle.std.proofs.lemmas.Nat.Bits.{bit_at-lt, bit_at_xor, bit_at_and}
+use Rattle.std.proofs.lemmas.Bool.Decides.{nat_tests}
 use Rattle.std.specs.Int.{bit_at}
 use Rattle.qrcode_base.specs.declared.types.Color.TheVariants.{Light, Dark}
 use Rattle.qrcode_grid.specs.declared.canvas.Module.{Module}
 use Rattle.qrcode_grid.specs.declared.canvas.Module.TheVariants.{Empty}
 use Rattle.qrcode_grid.specs.declared.canvas.masks.TheConstants.{CONDITIONS}
-use Rattle.qrcode_grid.specs.Scoring.{code_of, masked_code, pattern_of, byte_under}
+use Rattle.qrcode_grid.specs.Scoring.{code_of, masked_code, pattern_of}
 use Rattle.qrcode_grid.specs.Masks.{is_inverted, drawn_over, format_color, masked, masked_cell, masked_cells, format_word, normal_number, family}
 use Rattle.qrcode_grid.proofs.FieldLaws.{passes_below, passes_below-at}
 use Rattle.qrcode_grid.proofs.MarkedLanes.{eqb_true}
@@ -38,9 +40,13 @@ condition_at m k y hm hk hy =
 pub set_again : (b : Bool) (n : ℕ) → n ≡ cond b 1 0 → (n == 1) ≡ b
 set_again b n h = grind (arith)
 
-pub bits_masked : (old : Module) (b : ℕ) → b < 2 → (cond (code_of old % 2 == 1) 1 0 + min (cond (code_of old / 2 == 1) 1 0) b) % 2
-    ≡ masked_code (code_of old) (b == 1)
-bits_masked old b h = grind (arith)
+bits_masked : (code b : ℕ) → code < 4 → b < 2 → (cond (code % 2 == 1) 1 0 + min (cond (code / 2 == 1) 1 0) b) % 2 ≡ masked_code code (b == 1)
+bits_masked code b h l = grind (arith, nat_tests)
+
+-- the bit of a module under one mask, by those of its code
+pub bit_masked : (dark free conditions code m : ℕ) → code < 4 → bit_at dark m ≡ cond (code % 2 == 1) 1 0 → bit_at free m ≡ cond (code / 2 == 1) 1 0 →
+    bit_at (bit_xor dark (bit_and free conditions)) m ≡ masked_code code (bit_at conditions m == 1)
+bit_masked dark free conditions code m h d e = grind (arith, common_steps, bit_at-lt, bit_at_and, bit_at_xor, bits_masked)
 
 -- Each row of a mask pattern repeats after six cells.
 
@@ -52,6 +58,10 @@ pub is_inverted-repeats_rows : (pattern : MaskPattern) (x y : ℕ) → is_invert
 is_inverted-repeats_rows pattern x y = grind (arith, common_steps, mul_comm, mul_assoc, mul-add)
 
 -- Modules as bytes, masked and formatted.
+
+-- a byte after a functional colour is drawn over it, if there is one
+abbrev pub byte_under : Option Color → ℕ → ℕ
+byte_under o b = unwrap_or (option_map byte_of o) b
 
 drawn_byte : (o : Option Color) (b : Bool) (m : Module) → byte_under o (masked_code (code_of m) b) ≡ byte_of (color_of_module (drawn_over o (masked b m)))
 drawn_byte o b m = grind (arith)

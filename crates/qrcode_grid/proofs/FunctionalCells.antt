@@ -9,7 +9,7 @@ use Rattle.qrcode_grid.specs.Counts.{functional_cells, data_cell_count, IsFuncti
 use Rattle.qrcode_grid.specs.Regions.{is_functional_cell, is_functional_at, sum_below as total}
 use Rattle.qrcode_grid.specs.Walk.{data_cells, walk, walk_column, numbered_cell, timing_column}
 use Rattle.qrcode_grid.proofs.WholeSymbols.{odd_width, timing_inside}
-use Rattle.qrcode_grid.proofs.Totals.{total-cong, total-walk, count_by-total}
+use Rattle.qrcode_grid.proofs.Totals.{total-cong, total-walk, count_by-total, total-none}
 use Rattle.std.proofs.lemmas.Grind.{common_steps}
 use Rattle.std.proofs.lemmas.Bool.{eqb-true}
 use Rattle.qrcode_base.specs.declared.types.EcLevel.TheVariants.{L}
@@ -58,10 +58,6 @@ total-rows : (f g : ℕ → ℕ) (w n : ℕ) → ((x : ℕ) → x < n → f x + 
 total-rows f g w zero h = omega arith
 total-rows f g w (suc n) h = omega (arith, total-rows f g w n (λ x l. h x (omega arith)), h n (omega arith))
 
-total-none : (f : ℕ → ℕ) (n : ℕ) → ((k : ℕ) → f k ≡ 0) → total f n ≡ 0
-total-none f zero h = refl
-total-none f (suc n) h = omega (arith, total-none f n h, h n)
-
 -- where the version is one of the 44, both tests are the same
 same_test : (version : Version) (x y : ℕ) → IsVersion version → is_functional_at version (width_of version) x y ≡ is_functional_cell version x y
 same_test version x y h = grind (arith)
@@ -83,7 +79,7 @@ functional_cells-data_cells version canonical =
     length-filter (λ c. not (is_functional_cell version c.0 c.1)) (walk version)
     ∙ count_by-total (λ c. not (is_functional_cell version c.0 c.1)) (numbered_cell w t) (w * (w - 1))
     ∙ total-walk (λ x y. cond (not (is_functional_cell version x y)) 1 0) w (w / 2) t odd in
-    let timing : few t ≡ 0 = total-none _ w (λ y. ap (λ b. cond (not b) 1 0) (on_timing version y canonical)) in
+    let timing : few t ≡ 0 = total-none _ w (λ y below. ap (λ b. cond (not b) 1 0) (on_timing version y canonical)) in
     let columns = total-columns few w t (w / 2) odd (timing_inside version canonical) in
     let all : functional_cells version + total few w ≡ w * w =
     total-rows _ few w w (λ x l.

@@ -12,7 +12,7 @@ use Rattle.qrcode_grid.specs.Scoring.{AreEdges, IsPadded, cell, has, has_five, h
 use Rattle.qrcode_grid.specs.declared.canvas.scoring.lists.Feature.TheVariants.{Finder, Square, Dark}
 use Rattle.qrcode_grid.proofs.MarkedLanes.{count_as_sum, count_one_more}
 use Rattle.qrcode_grid.proofs.LongRuns.{edge_within, edge, edge_past, five_of, six_of, runs_are}
-use Rattle.qrcode_grid.proofs.Totals.{total-add, total-cong, total-mul, total-plus}
+use Rattle.qrcode_grid.proofs.Totals.{total-add, total-cong, total-mul, total-plus, total-none}
 use Rattle.std.proofs.lemmas.Grind.{common_steps}
 use Rattle.std.proofs.lemmas.List.{get_or_past, length-map}
 use Rattle.std.proofs.lemmas.Simd.{length-chunk, get_or-chunk}
@@ -175,13 +175,9 @@ module _ (line edges padded : List ℕ) (n step : ℕ) (at from : ℕ → ℕ) (
       let finders = same (λ j. has_finder step padded (from j)) (is_finder_like (quiet line)) finder_here in
       omega (arith, runs_are line, fives, sixes, finders)
 
-sum_zero : (f : ℕ → ℕ) (n : ℕ) → ((k : ℕ) → k < n → f k ≡ 0) → sum_below f n ≡ 0
-sum_zero f zero h = refl
-sum_zero f (suc n) h = omega (arith, sum_zero f n (λ k l. h k (omega (arith, l))), h n (omega arith))
-
 -- the sum of a table, by rows and by columns
 exchanged : (f : ℕ → ℕ → ℕ) (h w : ℕ) → sum_below (λ y. sum_below (f y) w) h ≡ sum_below (λ x. sum_below (λ y. f y x) h) w
-exchanged f zero w = sym (sum_zero (λ x. 0) w (λ k l. refl))
+exchanged f zero w = sym (total-none (λ x. 0) w (λ k l. refl))
 exchanged f (suc h) w = ap (λ t. t + sum_below (f h) w) (exchanged f h w) ∙ sym (total-plus (λ x. sum_below (λ y. f y x) h) (f h) w)
 
 weighed : (f g h k : ℕ → ℕ) (n : ℕ) → ((i : ℕ) → i < n → f i + 2 * g i ≡ 3 * h i + 40 * k i) →
@@ -196,13 +192,13 @@ module _ (w : ℕ) (p : ℕ → Bool) (beside : (x y : ℕ) → w ≤ x → x < 
   f = λ k. cond (p k) 1 0
 
   in_row_only : (y : ℕ) → y < w → sum_below (λ x. f (y * stride w + x)) (stride w) ≡ count_below (λ x. p (y * stride w + x)) w
-  in_row_only y h = grind (arith, sum_zero, total-add)
+  in_row_only y h = grind (arith, total-none, total-add)
 
   pub over_rows : count_below p (places w) ≡ sum_below (λ y. count_below (λ x. p (y * stride w + x)) w) w
   over_rows =
       let d = places w - w * stride w in
       let all : places w ≡ w * stride w + d = omega arith in
-      let none = sum_zero (λ k. f (w * stride w + k)) d (λ k l. ap (λ b. cond b 1 0) (below (w * stride w + k) (omega arith))) in
+      let none = total-none (λ k. f (w * stride w + k)) d (λ k l. ap (λ b. cond b 1 0) (below (w * stride w + k) (omega arith))) in
       ap (sum_below f) all
       ∙ omega (
         arith,
@@ -346,7 +342,7 @@ module _ (w : ℕ) (cells padded : List ℕ) (is : IsPadded w cells padded) (squ
         no_square edges k 0 (omega arith) (ap (λ k. get_or edges k 0) e0 ∙ e) in
         let rows = over_rows w p (λ x y h l hy. at_first (y * s + x) (are.beside x y (omega (arith, h)) l hy)) (λ k h. at_first k (are.below k h)) in
         let last : w ≡ suc (w - 1) = omega (arith, wide) in
-        let bottom = sum_zero (λ x. cond (p ((w - 1) * s + x)) 1 0) w
+        let bottom = total-none (λ x. cond (p ((w - 1) * s + x)) 1 0) w
         (λ x h. ap (λ b. cond b 1 0) (no_square edges ((w - 1) * s + x) 1 (omega arith)
         (are.below ((w - 1) * s + x + 1 * s) (omega (arith, add-mul (w - 1) 1 s, ap (λ n. n * s) last))))) in
         omega (

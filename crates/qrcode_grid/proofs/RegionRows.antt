@@ -1,15 +1,13 @@
 -- Regions that say nothing, and what regions say together.
-use Rattle.std.proofs.Common.{◌≡◌, ◌-◌, ◌≤◌, zero, suc, ℕ, ℤ, nat_abs, ◌<◌, ◌+◌, ◌*◌, ap, refl, arith, false, nat_lt, nat_le, ◌==◌, ◌&&◌, ◌||◌, ◌≢◌, Option}
-use Rattle.std.proofs.Common.{None, [], ◌∷◌, get_or, ◌/◌, List, map, sym, ◌∙◌, leb, cond, inl, inr, Bool, true}
+use Rattle.std.proofs.Common.{◌≡◌, ◌-◌, ◌≤◌, zero, suc, ℕ, ◌<◌, ◌+◌, ◌*◌, ap, refl, arith, false, nat_lt, nat_le, ◌==◌, ◌&&◌, ◌||◌, ◌≢◌, Option}
+use Rattle.std.proofs.Common.{None, [], ◌∷◌, get_or, ◌/◌, map, sym, ◌∙◌, leb, cond, inl, inr, Bool, true}
 use Rattle.std.proofs.lemmas.Bool.Decides.{nat_tests}
 use Rattle.qrcode_base.specs.declared.types.Color.{Color}
-use Rattle.qrcode_base.specs.declared.types.Version.{Version}
-use Rattle.qrcode_base.specs.declared.types.Version.TheVariants.{Normal, Micro}
-use Rattle.qrcode_base.specs.Symbols.{IsVersion, width_of}
 use Rattle.qrcode_grid.specs.declared.canvas.Module.{Module}
+use Rattle.qrcode_grid.specs.declared.canvas.regions.TheConstants.{VERSION_WORDS}
 use Rattle.qrcode_grid.specs.Masks.{drawn_over}
-use Rattle.qrcode_grid.specs.Regions.{timing, where_true, dark_if_even, version_copies, alignments, alignment_coordinates, first_some, normal_regions}
-use Rattle.qrcode_grid.specs.Regions.{micro_regions, functional_color, near, alignment_count, pattern_at, alignment_coordinate, version_word}
+use Rattle.qrcode_grid.specs.Regions.{finder, timing, where_true, dark_if_even, version_copies, alignments, alignment_coordinates, first_some}
+use Rattle.qrcode_grid.specs.Regions.{near, alignment_count, alignment_at, alignment_coordinate, version_word}
 use Rattle.std.proofs.lemmas.Grind.{common_steps}
 use Rattle.std.specs.List.{range_with_len}
 use Rattle.std.proofs.lemmas.List.FromFn.{get_or-map-range_with_len}
@@ -63,22 +61,20 @@ no_timing_before line from to x order before = no_timing line from to x line (gr
 pub no_timing_behind : (line from to x : ℕ) → line < from → to < x → timing line from to x line ≡ None
 no_timing_behind line from to x order behind = no_timing line from to x line (grind (arith, nat_tests, order, behind))
 
+-- the cells that are too far for a finder pattern
+pub no_finder_column : (center_x center_y x y : ℕ) → 4 < abs_diff center_x x → finder center_x center_y x y ≡ None
+no_finder_column center_x center_y x y far = grind (arith, common_steps)
+
+pub no_finder_row : (center_x center_y x y : ℕ) → 4 < abs_diff center_y y → finder center_x center_y x y ≡ None
+no_finder_row center_x center_y x y far = grind (arith, common_steps)
+
 -- what the first of some regions says is drawn last
 pub drawn_three : (a b c : Option Color) (m : Module) → drawn_over (first_some (a ∷ b ∷ c ∷ [])) m ≡ drawn_over a (drawn_over b (drawn_over c m))
 drawn_three a b c m = grind (arith, common_steps)
 
-pub drawn_nine : (a b c d e f g h i : Option Color) (m : Module) → drawn_over (first_some (a ∷ b ∷ c ∷ d ∷ e ∷ f ∷ g ∷ h ∷ i ∷ [])) m
-    ≡ drawn_over a (drawn_over b (drawn_over c (drawn_over d (drawn_over e (drawn_over f (drawn_over g (drawn_over h (drawn_over i m))))))))
-drawn_nine a b c d e f g h i m = grind (arith, common_steps, drawn_three)
-
--- the regions of a version, with its number and its width as the code has them
-pub normal_regions_are : (version : Version) (z : ℤ) (k format x y w : ℕ) → version ≡ Normal z → IsVersion version → w ≡ width_of version → k ≡ nat_abs z →
-    first_some (normal_regions k w format x y) ≡ functional_color version format x y
-normal_regions_are version z k format x y w h l m e = grind (arith)
-
-pub micro_regions_are : (version : Version) (z : ℤ) (format x y w : ℕ) → version ≡ Micro z → IsVersion version → w ≡ width_of version →
-    first_some (micro_regions w format x y) ≡ functional_color version format x y
-micro_regions_are version z format x y w h l m = grind (arith)
+pub drawn_seven : (a b c d e f g : Option Color) (m : Module) → drawn_over (first_some (a ∷ b ∷ c ∷ d ∷ e ∷ f ∷ g ∷ [])) m
+    ≡ drawn_over a (drawn_over b (drawn_over c (drawn_over d (drawn_over e (drawn_over f (drawn_over g m))))))
+drawn_seven a b c d e f g m = grind (arith, common_steps, drawn_three)
 
 -- Steps of the loops that look a region up.
 
@@ -91,17 +87,11 @@ pub alignment_count_is : (n : ℕ) → 1 < n → alignment_count n ≡ n / 7 + 2
 alignment_count_is n h = let e : leb n 1 ≡ false = (grind (arith, nat_tests)) in ap (λ b. cond b 0 (n / 7 + 2)) e
 
 -- the version words of the versions 7 to 40, computed
-unfoldable pub version_words : List ℕ
-version_words =
-    31892 ∷ 34236 ∷ 39577 ∷ 42195 ∷ 48118 ∷ 51042 ∷ 55367 ∷ 58893 ∷ 63784 ∷ 68472 ∷ 70749 ∷ 76311 ∷ 79154 ∷ 84390 ∷ 87683 ∷ 92361 ∷ 96236 ∷
-    102084 ∷ 102881 ∷ 110507 ∷ 110734 ∷ 117786 ∷ 119615 ∷ 126325 ∷ 127568 ∷ 133589 ∷ 136944 ∷ 141498 ∷ 145311 ∷ 150283 ∷ 152622 ∷ 158308 ∷ 161089 ∷ 167017 ∷ []
-
-pub version_words_are : map version_word (range_with_len 7 34) ≡ version_words
-unfolding version_words
+pub version_words_are : map version_word (range_with_len 7 34) ≡ VERSION_WORDS
 version_words_are = refl
 
-pub get_or-version_words : (n : ℕ) → 7 ≤ n → n ≤ 40 → get_or version_words (n - 7) 0 ≡ version_word n
-get_or-version_words n low high =
+pub version_word_at : (n : ℕ) → 7 ≤ n → n ≤ 40 → get_or VERSION_WORDS (n - 7) 0 ≡ version_word n
+version_word_at n low high =
     ap (λ ws. get_or ws (n - 7) 0) (sym version_words_are) ∙ get_or-map-range_with_len version_word 7 34 (n - 7) n 0 (omega arith) (omega arith)
 
 pub ruleset near_steps = (near_more, alignment_count_is, common_steps)
@@ -163,10 +153,10 @@ none_behind n x high low =
 pub behind_before : (n k : ℕ) → n ≤ 40 → k < alignment_count n → behind n k + 2 ≤ alignment_coordinate n k
 behind_before n k h l = grind (arith, cells_inside, apart)
 
-pub no_pattern : (w : ℕ) (o p : Option ℕ) (x y : ℕ) → o ≡ None → pattern_at w o p x y ≡ None
+pub no_pattern : (w : ℕ) (o p : Option ℕ) (x y : ℕ) → o ≡ None → alignment_at w o p x y ≡ None
 no_pattern w o p x y h = grind (arith)
 
-pub no_pattern_row : (w : ℕ) (o p : Option ℕ) (x y : ℕ) → p ≡ None → pattern_at w o p x y ≡ None
+pub no_pattern_row : (w : ℕ) (o p : Option ℕ) (x y : ℕ) → p ≡ None → alignment_at w o p x y ≡ None
 no_pattern_row w o p x y h = grind (arith)
 
 pub behind_within : (n k : ℕ) → n ≤ 40 → k ≤ alignment_count n → behind n k ≤ 4 * n + 17

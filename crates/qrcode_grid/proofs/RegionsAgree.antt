@@ -11,7 +11,7 @@ use Rattle.qrcode_base.specs.declared.types.Color.TheVariants.{Light, Dark}
 use Rattle.qrcode_base.specs.declared.types.Version.{Version}
 use Rattle.qrcode_base.specs.declared.types.Version.TheVariants.{Normal, Micro}
 use Rattle.qrcode_base.specs.Symbols.{IsVersion, width_of}
-use Rattle.qrcode_grid.specs.Regions.{digit, digit_color, finder, timing, where_true, dark_if_even, digit_at, format_first, format_second, format_micro}
+use Rattle.qrcode_grid.specs.Regions.{binary_digit, digit_color, finder, timing, where_true, dark_if_even, digit_at, format_first, format_second, format_micro}
 use Rattle.qrcode_grid.specs.Regions.{written, version_copies, alignments, alignment_coordinates, first_some, functional_color, regions}
 use Rattle.qrcode_grid.proofs.Tests.{all_pass, passes, both}
 use Rattle.qrcode_grid.proofs.Areas.{finder_test, finder_is, timing_test, first_test, first_is, second_test, second_is, micro_is, version_is, some-where_true}
@@ -220,8 +220,12 @@ normal_pairs n format x y low high l m =
     let in_words : Tested (word_tests w v x y) (dark ∷ words) = (
       some-where_true (x == 8 && y == w - 8) Dark,
       (
-        some-option_map (λ k. digit_color (digit format k)) (digit_at format_first x y) ∙ first_is x y,
-        (some-option_map (λ k. digit_color (digit format k)) (digit_at (format_second w) x y) ∙ second_is w x y (omega arith) l m, (copies_are n x y, tt)),
+        some-option_map (λ k. digit_color (binary_digit format k)) (digit_at format_first x y) ∙ first_is x y,
+        (
+          some-option_map (λ k. digit_color (binary_digit format k)) (digit_at (format_second w) x y)
+              ∙ second_is w x y (omega arith) l m,
+          (copies_are n x y, tt),
+        ),
       ),
     ) in
     let in_timing : is_some t ≡ timing_test 6 8 (w - 9) x y = some-where_true (timing_test 6 8 (w - 9) x y) (dark_if_even (x + y)) in
@@ -248,7 +252,7 @@ regions_say (Micro (pos n)) format x y h l m =
       finder_is 3 3 x y,
       (
         some-where_true (timing_test 0 8 (w - 1) x y) (dark_if_even (x + y)),
-        (some-option_map (λ k. digit_color (digit format k)) (digit_at format_micro x y) ∙ micro_is x y, tt),
+        (some-option_map (λ k. digit_color (binary_digit format k)) (digit_at format_micro x y) ∙ micro_is x y, tt),
       ),
     )
     ((grind (arith, nat_tests), (grind (arith, nat_tests), (and_false (micro_test x y), tt)))))

@@ -1,7 +1,7 @@
--- Division by rows: its turns, long division, lanes of bytes multiplied in the field, and the two generators, computed.
+-- Division by rows: its turns, long division, and lanes of bytes multiplied in the field.
 use Rattle.std.proofs.Common.{◌≡◌, ℕ, zero, suc, ◌<◌, ◌≤◌, ◌+◌, ◌-◌, refl, ap, sym, ◌∙◌, arith, List, [], ◌∷◌, ◌++◌, map, length, get_or, take, drop, replicate}
-use Rattle.std.proofs.Common.{◌/◌, ◌%◌, cond, true, eqb, leb, w8, Fits, Bool, false, ◌^◌, ◌==◌, ◌&&◌, nat_lt, subst}
-use Rattle.std.specs.List.{range_with_len, position_or_len}
+use Rattle.std.proofs.Common.{◌/◌, ◌%◌, cond, true, eqb, leb, w8, Fits, Bool, false, subst}
+use Rattle.std.specs.List.{range_with_len}
 use Rattle.std.specs.Int.Bits.{bit_xor, xor_assoc, xor_zero_r, xor_self}
 use Rattle.std.proofs.lemmas.Nat.{xor_comm, xor_of_8}
 use Rattle.std.proofs.lemmas.List.{append-nil, length-take, length-drop, length-replicate, get_or-take, get_or-drop, same_lists, get_or_default, drop_more}
@@ -12,12 +12,10 @@ use Rattle.qrcode_grid.proofs.FieldLaws.{product-adds_left, product-one_left, pr
 use Rattle.qrcode_grid.proofs.FieldLaws.{product-zero_left, passes_below, passes_below-at, xor-zero, product-bounded, power-bounded}
 use Rattle.qrcode_grid.proofs.Values.{sums, value_at-append, value_at-zeros, power-first, length-sums, value_at-sums, value_at-multiple}
 use Rattle.std.proofs.lemmas.Grind.{common_steps}
-use Rattle.std.proofs.lemmas.Bool.{eqb-true, ltb-true}
+use Rattle.std.proofs.lemmas.Bool.{eqb-true}
 use Rattle.std.proofs.lemmas.Simd.{get_or-zip2, length-zip2, get_or-replicate, get_or-sel_l, length-sel_l, tops_compared}
 use lib.Lanes.{Each1, zip2, put_chunk, sel_l, top}
 use lib.ListN.{replicate}
-use Rattle.qrcode_grid.specs.Regions.{polynomial_product, multiples, code_word, HasOneMultiple, HasOneFormatWord, HasOneVersionWord}
-use Rattle.qrcode_grid.proofs.Tests.{passes, both}
 use Rattle.std.proofs.lemmas.List.Elements.{All-same, All-drop, All-take, All-from_get_or, All-get_or, All-append}
 use borrow.Rule.Slice.PartMut.{put_mid}
 
@@ -376,33 +374,3 @@ rows_made divisor terms sixteenfold low high padded by_low by_sixteen by_high = 
 -- a list that begins with one is not empty
 pub begun : (xs : List ℕ) → get_or xs 0 0 ≡ 1 → length xs ≡ length xs - 1 + 1
 begun xs h = grind (arith, common_steps)
-
--- The code words of the two generators, computed.
-
--- the number of the multiple that begins with the data
-abbrev factor : ℕ → ℕ → ℕ → ℕ → ℕ
-factor generator n degree data_bits = position_or_len (λ word. word / 2 ^ degree == data_bits) (multiples generator n)
-
-abbrev is_made : ℕ → ℕ → ℕ → ℕ → Bool
-is_made generator n degree data_bits =
-    nat_lt (factor generator n degree data_bits) (2 ^ n) &&
-    ((polynomial_product n (factor generator n degree data_bits) generator == code_word generator n degree data_bits) &&
-    (code_word generator n degree data_bits / 2 ^ degree == data_bits))
-
-abbrev is_only : ℕ → ℕ → ℕ → ℕ → Bool
-is_only generator n degree a =
-    polynomial_product n a generator == code_word generator n degree (polynomial_product n a generator / 2 ^ degree)
-
-one_multiple : (generator n degree data_bits : ℕ) → is_made generator n degree data_bits ≡ true →
-    ((a : ℕ) → a < 2 ^ n → is_only generator n degree a ≡ true) → HasOneMultiple generator n degree data_bits
-one_multiple generator n degree data_bits made only = grind (arith, common_steps, both, ltb-true, eqb-true)
-
-pub one_format_word : (data_bits : ℕ) → data_bits < 32 → HasOneFormatWord data_bits
-one_format_word data_bits h =
-    one_multiple 0x537 5 10 data_bits (passes (is_made 0x537 5 10) 0 32 data_bits (refl) (omega arith) (omega arith))
-    (λ a l. passes (is_only 0x537 5 10) 0 32 a (refl) (omega arith) l)
-
-pub one_version_word : (number : ℕ) → number < 64 → HasOneVersionWord number
-one_version_word number h =
-    one_multiple 0x1F25 6 12 number (passes (is_made 0x1F25 6 12) 0 64 number (refl) (omega arith) (omega arith))
-    (λ a l. passes (is_only 0x1F25 6 12) 0 64 a (refl) (omega arith) l)

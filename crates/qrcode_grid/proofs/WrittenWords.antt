@@ -6,7 +6,8 @@ use Rattle.std.proofs.lemmas.Bool.{cases_eq, cases_lt}
 use Rattle.std.proofs.lemmas.Bool.Decides.{nat_tests}
 use Rattle.qrcode_base.specs.declared.types.Color.{Color}
 use Rattle.qrcode_base.specs.declared.types.Color.TheVariants.{Dark}
-use Rattle.qrcode_grid.specs.Regions.{digit_at, first_some, where_true, written, digit, digit_color, normal_format_word, micro_format_word, version_word}
+use Rattle.qrcode_grid.specs.Regions.{format_first, format_second, format_micro, digit_at, first_some, where_true, binary_digit}
+use Rattle.qrcode_grid.specs.Regions.{digit_color, normal_format_word, micro_format_word, version_word}
 use Rattle.qrcode_grid.specs.Regions.{differing_digits, map_cells, map_places}
 use Rattle.std.proofs.lemmas.Grind.{common_steps}
 use Rattle.qrcode_base.specs.declared.types.EcLevel.{EcLevel}
@@ -14,7 +15,7 @@ use Rattle.qrcode_base.specs.declared.types.Version.{Version}
 use Rattle.qrcode_base.specs.declared.types.Version.TheVariants.{Normal, Micro}
 use Rattle.qrcode_base.specs.Symbols.{IsVersion}
 use Rattle.qrcode_grid.specs.declared.canvas.MaskPattern.{MaskPattern}
-use Rattle.qrcode_grid.specs.Masks.{level_number, normal_number, micro_number, symbol_number}
+use Rattle.qrcode_grid.specs.Masks.{format_value, format_color, level_number, normal_number, micro_number, symbol_number}
 use Rattle.qrcode_grid.specs.Laws.{IsFarFormatWord, IsFarVersionWord}
 use Rattle.qrcode_grid.proofs.Distance.{normal_format_words_differ, micro_format_words_differ, version_words_differ}
 use Rattle.std.proofs.lemmas.List.{same_lists, get_or_default}
@@ -167,42 +168,41 @@ digit_here p rest x y e f = grind (arith, common_steps, equal)
 digit_off_column : (p : ℕ × ℕ) (rest : List (ℕ × ℕ)) (x y : ℕ) → x ≢ p.0 → digit_at (p ∷ rest) x y ≡ digit_at rest x y
 digit_off_column p rest x y e = ap (λ b. cond (b && y == p.1) (Some (length rest)) (digit_at rest x y)) (differs x p.0 e)
 
--- The cells of a grid are those of an older one with the last places of the word drawn over them.
-abbrev pub IsWritten : {X : Type 0} → (Option Color → X → X) → ℕ → ℕ → List (ℕ × ℕ) → X → List X → List X → Type 0
-IsWritten over w word places d old now = (x y : ℕ) → x < w → y < w → get_or now (y * w + x) d ≡ over (written word places x y) (get_or old (y * w + x) d)
+-- The cells of a grid are those of an older one with a word over them, which is written into a list of places.
+abbrev pub IsWritten : {X : Type 0} → (ℕ → X) → ℕ → List (ℕ × ℕ) → X → List X → List X → Type 0
+IsWritten digits w places d old now =
+    (x y : ℕ) → x < w → y < w → get_or now (y * w + x) d ≡ unwrap_or (option_map digits (digit_at places x y)) (get_or old (y * w + x) d)
 
 -- one more place is written
-pub written_step : {X : Type 0} (over : Option Color → X → X) (w word : ℕ) (p : ℕ × ℕ) (rest : List (ℕ × ℕ)) (d : X) (old now : List X) (v : X) →
-    p.0 < w → p.1 < w → length now ≡ w * w → ((b : X) → v ≡ over (Some (digit_color (digit word (length rest)))) b) →
-    IsWritten over w word rest d old now → IsWritten over w word (p ∷ rest) d old (set now (p.1 * w + p.0) v)
-written_step over w word p rest d old now v column row long is h = λ x y l m.
+pub written_step : {X : Type 0} (digits : ℕ → X) (w : ℕ) (p : ℕ × ℕ) (rest : List (ℕ × ℕ)) (d : X) (old now : List X) (v : X) →
+    p.0 < w → p.1 < w → length now ≡ w * w → v ≡ digits (length rest) →
+    IsWritten digits w rest d old now → IsWritten digits w (p ∷ rest) d old (set now (p.1 * w + p.0) v)
+written_step digits w p rest d old now v column row long is h = λ x y l m.
     let i = p.1 * w + p.0 in
-    let shown : ℕ → Color = λ (k : ℕ). digit_color (digit word k) in
     let old_cell = get_or old (y * w + x) d in
     elim (cases_eq x p.0) [
       | inl e ↦ elim (cases_eq y p.1) [
         | inl f ↦
             let place : y * w + x ≡ i = ap (λ t. t * w + x) f ∙ ap (λ t. p.1 * w + t) e in
             ap (λ j. get_or (set now i v) j d) place ∙ get_or-set_same now i v d (omega (arith, long, cell_within w p.0 p.1 column row))
-            ∙ is old_cell ∙ ap (λ o. over (option_map shown o) old_cell) (sym (digit_here p rest x y e f))
+            ∙ is ∙ ap (λ o. unwrap_or (option_map digits o) old_cell) (sym (digit_here p rest x y e f))
         | inr f ↦
             let ne : y * w + x ≢ i = λ same. f (sym (row_of_place w x y i l same) ∙ row_of_place w p.0 p.1 i column refl) in
-            get_or-set_other now i (y * w + x) v d ne ∙ h x y l m ∙ ap (λ o. over (option_map shown o) old_cell)
+            get_or-set_other now i (y * w + x) v d ne ∙ h x y l m ∙ ap (λ o. unwrap_or (option_map digits o) old_cell)
             (sym (grind (arith, common_steps, differs, and_false)))
       ]
       | inr e ↦
           let ne : y * w + x ≢ i = λ same. e (sym (column_of_place w x y i l same) ∙ column_of_place w p.0 p.1 i column refl) in
-          get_or-set_other now i (y * w + x) v d ne ∙ h x y l m ∙ ap (λ o. over (option_map shown o) old_cell) (sym (digit_off_column p rest x y e))
+          get_or-set_other now i (y * w + x) v d ne ∙ h x y l m ∙ ap (λ o. unwrap_or (option_map digits o) old_cell) (sym (digit_off_column p rest x y e))
     ]
 
 -- the digit k is written into the place as far from the end
-pub next_written : {X : Type 0} (over : Option Color → X → X) (w word : ℕ) (places : List (ℕ × ℕ)) (k : ℕ) (d : X) (old now : List X)
-    (v : X) → k < length places →
+pub next_written : {X : Type 0} (digits : ℕ → X) (w : ℕ) (places : List (ℕ × ℕ)) (k : ℕ) (d : X) (old now : List X) (v : X) → k < length places →
     (get_or places (length places - 1 - k) (0, 0)).0 < w → (get_or places (length places - 1 - k) (0, 0)).1 < w → length now ≡ w * w →
-    ((b : X) → v ≡ over (Some (digit_color (digit word k))) b) → IsWritten over w word (drop (length places - k) places) d old now →
-    IsWritten over w word (drop (length places - (k + 1)) places) d old
+    v ≡ digits k → IsWritten digits w (drop (length places - k) places) d old now →
+    IsWritten digits w (drop (length places - (k + 1)) places) d old
     (set now ((get_or places (length places - 1 - k) (0, 0)).1 * w + (get_or places (length places - 1 - k) (0, 0)).0) v)
-next_written over w word places k d old now v below column row long is h =
+next_written digits w places k d old now v below column row long is h =
     let n = length places in
     let i = n - 1 - k in
     let p = get_or places i (0, 0) in
@@ -210,17 +210,15 @@ next_written over w word places k d old now v below column row long is h =
     let inside : i < length places = omega arith in
     let at : n - (k + 1) ≡ i = omega arith in
     let next : suc i ≡ n - k = omega arith in
-    let digits : k ≡ length rest = omega (arith, length-drop (n - k) places) in
+    let count : k ≡ length rest = omega (arith, length-drop (n - k) places) in
     let shape : drop (n - (k + 1)) places ≡ p ∷ rest = ap (λ j. drop j places) at ∙ drop-cons places i (0, 0) inside ∙ ap (λ j. p ∷ drop j places) next in
-    subst (λ (ps : List (ℕ × ℕ)). IsWritten over w word ps d old (set now (p.1 * w + p.0) v)) (sym shape)
-    (written_step over w word p rest d old now v column row long (λ b. is b ∙ ap (λ j. over (Some (digit_color (digit word j))) b) digits) h)
+    subst (λ (ps : List (ℕ × ℕ)). IsWritten digits w ps d old (set now (p.1 * w + p.0) v)) (sym shape)
+    (written_step digits w p rest d old now v column row long (is ∙ ap digits count) h)
 
--- the dark module is drawn
-pub dark_written : {X : Type 0} (over : Option Color → X → X) → ((b : X) → over None b ≡ b) →
-    (w : ℕ) (d : X) (now : List X) (v : X) → 9 ≤ w → length now ≡ w * w →
-    ((b : X) → v ≡ over (Some Dark) b) → (x y : ℕ) → x < w → y < w →
-    get_or (set now ((w - 8) * w + 8) v) (y * w + x) d ≡ over (where_true (x == 8 && y == w - 8) Dark) (get_or now (y * w + x) d)
-dark_written over none w d now v wide long is x y l m =
+-- the dark module is written
+pub dark_written : {X : Type 0} (w : ℕ) (d : X) (now : List X) (v : X) → 9 ≤ w → length now ≡ w * w → (x y : ℕ) → x < w → y < w →
+    get_or (set now ((w - 8) * w + 8) v) (y * w + x) d ≡ unwrap_or (where_true (x == 8 && y == w - 8) v) (get_or now (y * w + x) d)
+dark_written w d now v wide long x y l m =
     let i = (w - 8) * w + 8 in
     let b = get_or now (y * w + x) d in
     let column : 8 < w = omega arith in let row : w - 8 < w = omega arith in
@@ -228,22 +226,55 @@ dark_written over none w d now v wide long is x y l m =
       | inl e ↦ elim (cases_eq y (w - 8)) [
         | inl f ↦
             let place : y * w + x ≡ i = ap (λ t. t * w + x) f ∙ ap (λ t. (w - 8) * w + t) e in
-            ap (λ j. get_or (set now i v) j d) place ∙ get_or-set_same now i v d (omega (arith, long, cell_within w 8 (w - 8) column row)) ∙ is b
-            ∙ sym (ap (λ t. over (where_true (t && y == w - 8) Dark) b) (equal x 8 e) ∙ ap (λ t. over (where_true t Dark) b) (equal y (w - 8) f))
+            ap (λ j. get_or (set now i v) j d) place ∙ get_or-set_same now i v d (omega (arith, long, cell_within w 8 (w - 8) column row))
+            ∙ sym (ap (λ t. unwrap_or (where_true (t && y == w - 8) v) b) (equal x 8 e) ∙ ap (λ t. unwrap_or (where_true t v) b) (equal y (w - 8) f))
         | inr f ↦
             let ne : y * w + x ≢ i = λ same. f (sym (row_of_place w x y i l same) ∙ row_of_place w 8 (w - 8) i column refl) in
             get_or-set_other now i (y * w + x) v d ne
-            ∙ sym (ap (λ t. over (where_true (x == 8 && t) Dark) b) (differs y (w - 8) f) ∙ ap (λ t. over (where_true t Dark) b) (and_false (x == 8)) ∙ none b)
+            ∙ sym (ap (λ t. unwrap_or (where_true (x == 8 && t) v) b) (differs y (w - 8) f) ∙ ap (λ t. unwrap_or (where_true t v) b) (and_false (x == 8)))
       ]
       | inr e ↦
           let ne : y * w + x ≢ i = λ same. e (sym (column_of_place w x y i l same) ∙ column_of_place w 8 (w - 8) i column refl) in
-          get_or-set_other now i (y * w + x) v d ne ∙ sym (ap (λ t. over (where_true (t && y == w - 8) Dark) b) (differs x 8 e) ∙ none b)
+          get_or-set_other now i (y * w + x) v d ne ∙ sym (ap (λ t. unwrap_or (where_true (t && y == w - 8) v) b) (differs x 8 e))
     ]
 
--- what the first of three says is drawn last
-pub over_three : {X : Type 0} (over : Option Color → X → X) → ((c : Color) (a b : X) → over (Some c) a ≡ over (Some c) b) → ((b : X) → over None b ≡ b) →
-    (o p q : Option Color) (b : X) → over (first_some (o ∷ p ∷ q ∷ [])) b ≡ over o (over p (over q b))
-over_three over h l o p q b = grind (arith)
+-- what the first of three says is written last
+pub over_three : {X : Type 0} (o p q : Option X) (b : X) → unwrap_or (first_some (o ∷ p ∷ q ∷ [])) b ≡ unwrap_or o (unwrap_or p (unwrap_or q b))
+over_three (Some c) p q b = refl
+over_three None (Some c) q b = refl
+over_three None None q b = refl
+
+digit_at-below : (places : List (ℕ × ℕ)) (x y k : ℕ) → digit_at places x y ≡ Some k → k < length places
+digit_at-below [] x y k e = cc
+digit_at-below (p ∷ places) x y k e = grind (arith, common_steps, digit_at-below places x y k)
+
+-- What is shown of values is what a word shows: here by the digits of the values, dark ones by the digits of the word.
+module _ {X Y : Type 0} (show : X → Y) (over : Option Color → Y → Y) (digits : ℕ → X) (dark : X) (word : ℕ)
+    (digit_shown : (k : ℕ) (b : Y) → k < 15 → show (digits k) ≡ over (Some (digit_color (binary_digit word k))) b)
+    (dark_shown : (b : Y) → show dark ≡ over (Some Dark) b) (none_shown : (b : Y) → over None b ≡ b) where
+  abbrev Below : Option ℕ → Type 0
+  Below o = (k : ℕ) → o ≡ Some k → k < 15
+
+  word_shown : (o : Option ℕ) → Below o → (b : X) →
+      show (unwrap_or (option_map digits o) b) ≡ over (option_map (λ k. digit_color (binary_digit word k)) o) (show b)
+  word_shown (Some k) below b = digit_shown k (show b) (below k refl)
+  word_shown None below b = sym (none_shown (show b))
+
+  words_shown : (t : Bool) (o p : Option ℕ) → Below o → Below p → (b : X) →
+      show (unwrap_or (first_some (where_true t dark ∷ option_map digits o ∷ option_map digits p ∷ [])) b)
+      ≡ over (first_some (where_true t Dark ∷ option_map (λ k. digit_color (binary_digit word k)) o
+      ∷ option_map (λ k. digit_color (binary_digit word k)) p ∷ [])) (show b)
+  words_shown true o p low high b = dark_shown (show b)
+  words_shown false (Some k) p low high b = digit_shown k (show b) (low k refl)
+  words_shown false None (Some k) low high b = digit_shown k (show b) (high k refl)
+  words_shown false None None low high b = sym (none_shown (show b))
+
+  pub format_shown : (version : Version) (w x y : ℕ) (b : X) →
+      show (unwrap_or (format_value version w digits dark x y) b) ≡ over (format_color version w word x y) (show b)
+  format_shown (Normal z) w x y b =
+      words_shown (x == 8 && y == w - 8) (digit_at format_first x y) (digit_at (format_second w) x y)
+      (digit_at-below format_first x y) (digit_at-below (format_second w) x y) b
+  format_shown (Micro z) w x y b = word_shown (digit_at format_micro x y) (digit_at-below format_micro x y) b
 
 -- The words that are drawn differ in many digits from all others.
 

@@ -1,6 +1,6 @@
 -- Eight candidates in one list of bytes, a byte a module: bit m is the colour in candidate m.
 use Rattle.std.specs.Prelude.{ℕ, ◌+◌, ◌-◌, ◌*◌, ◌/◌, ◌%◌, ◌<◌, ◌≤◌, ◌≡◌, ◌==◌, ◌&&◌, ◌||◌, Bool, if◌then◌else◌, List}
-use Rattle.std.specs.Prelude.{map, length, slice_index, slice_index_or, Option, Some, None}
+use Rattle.std.specs.Prelude.{map, length, slice_index, slice_index_or}
 use Rattle.std.specs.Int.{bit_at}
 use Rattle.qrcode_grid.specs.declared.canvas.scoring.planes.Planes.{Planes}
 use Rattle.qrcode_grid.specs.declared.canvas.scoring.planes.Tally.{Tally}
@@ -9,9 +9,8 @@ use Rattle.qrcode_grid.specs.declared.canvas.MaskPattern.TheVariants.{Checkerboa
 use Rattle.qrcode_grid.specs.Masks.{normal_patterns}
 use Rattle.qrcode_grid.specs.declared.canvas.scoring.lists.Feature.{Feature}
 use Rattle.qrcode_grid.specs.declared.canvas.scoring.lists.Feature.TheVariants.{Finder, Square, Dark}
-use Rattle.qrcode_grid.specs.Regions.{sum_below, digit, digit_color}
+use Rattle.qrcode_grid.specs.Regions.{sum_below, binary_digit, digit_color}
 use Rattle.qrcode_grid.specs.Penalty.{byte_of}
-use Rattle.qrcode_base.specs.declared.types.Color.{Color}
 use Rattle.qrcode_grid.specs.declared.canvas.Module.{Module}
 use Rattle.qrcode_grid.specs.declared.canvas.Module.TheVariants.{Empty, Masked, Unmasked}
 
@@ -106,7 +105,8 @@ has Dark w step padded edges k = cell (stride w) padded k 4 == 1
 
 -- Bit m of byte k is digit k of a format word.
 abbrev pub AreDigits : List ℕ → ℕ → ℕ → Type 0
-AreDigits digits m word = (k : ℕ) → k < 15 → bit_at (slice_index digits k) m ≡ byte_of (digit_color (digit word k))
+AreDigits digits m word =
+    (k : ℕ) → k < 15 → bit_at (slice_index digits k) m ≡ byte_of (digit_color (binary_digit word k))
 
 -- a module as a byte: 1 where it is dark, and 2 more where a mask may invert it
 abbrev pub code_of : Module → ℕ
@@ -117,8 +117,3 @@ code_of (Unmasked c) = 2 + byte_of c
 -- the byte of a module after masking, by its code and whether it is inverted
 abbrev pub masked_code : ℕ → Bool → ℕ
 masked_code code inverted = (code % 2 + (if inverted then code / 2 else 0)) % 2
-
--- a byte after a functional colour is drawn over it, if there is one
-abbrev pub byte_under : Option Color → ℕ → ℕ
-byte_under (Some c) b = byte_of c
-byte_under None b = b

@@ -1,12 +1,15 @@
-//! The choice of a mask: the first of least penalty.
-ghost use Rattle.std.specs.Prelude.{◌≡◌, ◌*◌, ◌<◌, ◌≤◌, length, slice_get, Some};
+//! The choice of a mask: the first of least penalty. Then the grid of a whole symbol.
+ghost use Rattle.std.specs.Prelude.{◌≡◌, ◌+◌, ◌*◌, ◌<◌, ◌≤◌, length, slice_get, Some, IfOk, IfErr};
+ghost use Rattle.qrcode_base.specs.Symbols.{IsSymbol, missing_bits};
+ghost use Rattle.qrcode_grid.specs.Counts.{codeword_count};
+ghost use Rattle.qrcode_grid.specs.Canvas.{CarriesCodewords};
 ghost use Rattle.qrcode_grid.specs.Masks.{family, IsOfFamily};
-ghost use Rattle.qrcode_grid.specs.Penalty.{score, IsFirstLeast};
+ghost use Rattle.qrcode_grid.specs.Penalty.{score, IsFirstLeast, IsFirstLeastMask};
 
 use crate::canvas::scoring::candidates::{format_words, mask_number};
 use crate::canvas::scoring::{penalties_of, repeated, scratch_length, write_colors, zeros};
 use crate::canvas::{Canvas, MaskPattern};
-use qrcode_base::types::{Color, QrError, QrResult, Version};
+use qrcode_base::types::{Color, EcLevel, QrError, QrResult, Version};
 use std::alloc::Global;
 
 /// What is told of a penalty: less 720 in Normal symbols, and at most 65535.
@@ -144,17 +147,6 @@ impl Canvas {
         Ok((pattern_at(self.version, i), values[i]))
     }
 
-    /// The first mask of least penalty, and that penalty.
-    fn best_mask(&self, alloc: Global) -> QrResult<(MaskPattern, usize)>
-        ensures best { IfOk result (λ r. IsBestMask self.now r.0) }
-        ensures least { IfOk result (λ r.
-            r.1 ≡ penalty self.now.version (colors_of (with_mask r.0 self.now))) }
-        ensures refusal { IfErr result (λ e. e ≡ QrError.OutOfMemory) }
-    {
-        let (_, numbered) = self.candidates(alloc)?;
-        self.best_of(alloc, &numbered)
-    }
-
     /// The colours under the first mask of least penalty, and that mask.
     pub(super) fn best_colors(&self, alloc: Global) -> QrResult<(Vec<Color>, MaskPattern)>
         ensures best { IfOk result (λ r. IsBestMask self.now r.1) }
@@ -180,7 +172,8 @@ impl Canvas {
             r.2 ≡ score self.now.version (penalty self.now.version (colors_of r.0))) }
         ensures refusal { IfErr result (λ e. e ≡ QrError.OutOfMemory) }
     {
-        let (pattern, penalty) = self.best_mask(alloc)?;
+        let (_, numbered) = self.candidates(alloc)?;
+        let (pattern, penalty) = self.best_of(alloc, &numbered)?;
         let mut canvas = self.clone(alloc)?;
         canvas.apply_mask(pattern);
         Ok((canvas, pattern, score_of(self.version, penalty)))
@@ -204,4 +197,30 @@ impl Canvas {
         let (canvas, _) = self.apply_best_mask_with_pattern(alloc)?;
         Ok(canvas)
     }
+}
+
+/// The colours of the symbol that carries these codewords under the first mask of least penalty, row by row, and that
+/// mask.
+///
+/// The only error is want of memory.
+pub fn draw_symbol(
+    alloc: Global,
+    version: Version,
+    level: EcLevel,
+    codewords: &[u8],
+    correction: &[u8],
+) -> QrResult<(Vec<Color>, MaskPattern)>
+    requires symbol { IsSymbol version level }
+    requires some { missing_bits version ≤ 8 * length codewords.now }
+    requires whole { length codewords.now + length correction.now ≡ codeword_count version level }
+    ensures carries { IfOk result (λ r.
+        CarriesCodewords version level r.1 codewords.now correction.now r.0.items) }
+    ensures mask { IfOk result (λ r. IsFirstLeastMask version level r.1 r.0.items) }
+    ensures refusal { IfErr result (λ e. e ≡ QrError.OutOfMemory) }
+{
+    let mut canvas = Canvas::new(alloc, version, level)?;
+    canvas.draw_all_functional_patterns();
+    canvas.draw_data(codewords, correction);
+    let (colors, pattern) = canvas.best_colors(alloc)?;
+    Ok((colors, pattern))
 }

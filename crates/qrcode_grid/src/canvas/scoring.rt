@@ -1,20 +1,24 @@
-//! The penalties of eight candidates at once.
+//! The penalties of eight candidates at once. A grid is a list of bytes, a byte a module, and bit m of a byte is its
+//! colour in candidate m. In the penalty of one Micro symbol a byte is 1 where a module is dark, 0 where it is light.
 ghost use Rattle.std.specs.Prelude.{◌≡◌, ℕ, ◌+◌, ◌*◌, ◌<◌, ◌≤◌, length, map, replicate, slice_index, take, IfOk};
 ghost use Rattle.qrcode_base.specs.Symbols.{IsVersion, width_of};
 ghost use Rattle.qrcode_grid.specs.Canvas.{color_of_module};
 ghost use Rattle.qrcode_grid.specs.Penalty.{byte_of, micro_penalty, modules_penalty};
+ghost use Rattle.qrcode_grid.specs.Penalty.{normal_penalty, column, light_after_first};
+ghost use Rattle.qrcode_grid.specs.Regions.{count_below};
+ghost use Rattle.qrcode_grid.specs.declared.canvas.scoring.lists.Feature.{Feature};
 ghost use Rattle.qrcode_grid.specs.Masks.{masked_cells};
-ghost use Rattle.qrcode_grid.specs.Scoring.{list_length, pattern_of, plane};
+ghost use Rattle.qrcode_grid.specs.Scoring.{has, has_five, has_six, list_length, pattern_of, places, plane};
 
 pub mod candidates;
 mod counting;
 mod lists;
-mod penalties;
 mod planes;
 
 use crate::canvas::Module;
 use crate::canvas::scoring::candidates::write_candidates;
-use crate::canvas::scoring::penalties::{penalties_of_normal, penalty_of_micro};
+use crate::canvas::scoring::counting::{count, count_runs};
+use crate::canvas::scoring::lists::{Feature, write_edges, write_padded};
 use qrcode_base::types::{Color, Version};
 use std::alloc::{AllocError, Global};
 
@@ -36,18 +40,14 @@ pub fn scratch_length(width: usize) -> usize
     width * width + 12 * width + 6 + 2 * list_length(width)
 }
 
-/// How much room a list of zeros for the scratch of a symbol has. A long one takes 400 KB, of which it touches what it
-/// needs: glibc gives memory back to the system after each symbol where more than 128 KB come free at the heap's end,
-/// and keeps twice as much as the greatest block that it has seen.
-fn scratch_room(length: usize) -> usize {
-    if length > 56_000 { 400_000 } else { 0 }
-}
-
-/// A list of zeros for the scratch of a symbol.
+/// A list of zeros for the scratch of a symbol. A long one takes 400 KB, of which it touches what it needs: glibc gives
+/// memory back to the system after each symbol where more than 128 KB come free at the heap's end, and keeps twice as
+/// much as the greatest block that it has seen.
 pub fn zeros(alloc: Global, length: usize) -> Result<Vec<u8>, AllocError>
     ensures { IfOk result (λ list. list.items ≡ replicate length 0) }
 {
-    repeated(alloc, 0, length, scratch_room(length))
+    let room = if length > 56_000 { 400_000 } else { 0 };
+    repeated(alloc, 0, length, room)
 }
 
 /// Writes one candidate as a list of bytes.
@@ -59,6 +59,127 @@ fn write_plane(grid: &[u8], m: usize, candidate: &mut [u8])
     for k in 0..grid.len() {
         candidate[k] = grid[k] >> m & 1;
     }
+}
+
+/// What runs and finder-like patterns count: a run of n modules has n - 4 fives and n - 5 sixes, and counts n - 2.
+#[inline(always)]
+fn weighed(fives: &[usize; 8], sixes: &[usize; 8], finders: &[usize; 8]) -> [usize; 8]
+    requires fewer { (m : ℕ) → m < 8 → slice_index sixes.now m ≤ slice_index fives.now m }
+    requires few { (m : ℕ) → m < 8 → (slice_index fives.now m ≤ 40000)
+        × (slice_index finders.now m ≤ 40000) }
+    ensures is { (m : ℕ) → m < 8 → slice_index result m + 2 * slice_index sixes.now m ≡
+        3 * slice_index fives.now m + 40 * slice_index finders.now m }
+    ensures small { (m : ℕ) → m < 8 → slice_index result m ≤ 2000000 }
+{
+    let mut penalties = [0; 8];
+    for m in 0..8 {
+        penalties[m] = 3 * fives[m] - 2 * sixes[m] + 40 * finders[m];
+    }
+    penalties
+}
+
+/// What the columns count in each candidate, by their edges.
+#[inline(never)]
+fn penalties_of_columns(width: usize, padded: &[u8], edges: &[u8]) -> [usize; 8]
+    requires wide { width ≤ 177 }
+    requires padded { length padded.now ≡ list_length width }
+    requires edges { length edges.now ≡ list_length width }
+    ensures is { (m : ℕ) → m < 8 →
+        slice_index result m + 2 * count_below (has_six (width + 4) (plane m edges.now)) (places width) ≡
+        3 * count_below (has_five (width + 4) (plane m edges.now)) (places width)
+        + 40 * count_below (has Feature.Finder width (width + 4) (plane m padded.now) (plane m edges.now))
+        (places width) }
+    ensures small { (m : ℕ) → m < 8 → slice_index result m ≤ 2000000 }
+{
+    let (fives, sixes) = count_runs(width, width + 4, edges);
+    let finders = count(Feature::Finder, width, width + 4, padded, edges);
+    weighed(&fives, &sixes, &finders)
+}
+
+/// What the rows count in each candidate, by their edges. A step of 1 is known to the compiler here.
+#[inline(never)]
+fn penalties_of_rows(width: usize, padded: &[u8], edges: &[u8]) -> [usize; 8]
+    requires wide { width ≤ 177 }
+    requires padded { length padded.now ≡ list_length width }
+    requires edges { length edges.now ≡ list_length width }
+    ensures is { (m : ℕ) → m < 8 →
+        slice_index result m + 2 * count_below (has_six 1 (plane m edges.now)) (places width) ≡
+        3 * count_below (has_five 1 (plane m edges.now)) (places width)
+        + 40 * count_below (has Feature.Finder width 1 (plane m padded.now) (plane m edges.now))
+        (places width) }
+    ensures small { (m : ℕ) → m < 8 → slice_index result m ≤ 2000000 }
+{
+    let (fives, sixes) = count_runs(width, 1, edges);
+    let finders = count(Feature::Finder, width, 1, padded, edges);
+    weighed(&fives, &sixes, &finders)
+}
+
+/// The penalties of eight candidates of a Normal symbol, by two lists of zeros.
+#[inline(never)]
+pub fn penalties_of_normal(
+    width: usize,
+    grid: &[u8],
+    padded: &mut [u8],
+    edges: &mut [u8],
+) -> [usize; 8]
+    requires wide { (16 ≤ width) × (width ≤ 177) }
+    requires square { length grid.now ≡ width * width }
+    requires padded { length padded.old ≡ list_length width }
+    requires edges { length edges.old ≡ list_length width }
+    requires light { (k : ℕ) → slice_index padded.old k ≡ 0 }
+    requires none { (k : ℕ) → slice_index edges.old k ≡ 0 }
+    ensures { (m : ℕ) → m < 8 → slice_index result m ≡ normal_penalty width (plane m grid.now) }
+{
+    let stride = width + 4;
+    write_padded(width, grid, padded);
+    write_edges(width, stride, width, width - 1, padded, edges);
+    let columns = penalties_of_columns(width, padded, edges);
+    write_edges(width, 1, width - 1, width, padded, edges);
+    let rows = penalties_of_rows(width, padded, edges);
+    let squares = count(Feature::Square, width, 1, padded, edges);
+    let darks = count(Feature::Dark, width, 1, padded, edges);
+    let mut penalties = [0; 8];
+    for m in 0..8 {
+        let balance = (200 * darks[m] / (width * width)).abs_diff(100);
+        penalties[m] = rows[m] + columns[m] + 3 * squares[m] + balance;
+    }
+    penalties
+}
+
+/// Copies a column into a line.
+fn copy_column(width: usize, modules: &[u8], x: usize, line: &mut [u8])
+    requires square { length modules.now ≡ width * width }
+    requires wide { width ≤ 177 }
+    requires within { x < width }
+    requires long { length line.old ≡ width }
+    ensures { line.new ≡ column width modules.now x }
+{
+    for y in 0..width {
+        line[y] = modules[y * width + x];
+    }
+}
+
+/// How many modules of a line but its first are light.
+fn count_light(line: &[u8]) -> usize
+    requires { 0 < length line.now }
+    ensures { result ≡ light_after_first line.now }
+{
+    line[1..].iter().filter(|cell| **cell == 0).count()
+}
+
+/// The penalty of a Micro symbol.
+pub fn penalty_of_micro(width: usize, modules: &[u8]) -> usize
+    requires square { length modules.now ≡ width * width }
+    requires wide { (0 < width) × (width ≤ 177) }
+    ensures { result ≡ micro_penalty width modules.now }
+{
+    let last = width - 1;
+    let mut buffer = [0; 177];
+    let line = &mut buffer[..width];
+    copy_column(width, modules, last, line);
+    let h = count_light(&modules[last * width..last * width + width]);
+    let v = count_light(line);
+    16 * h.max(v) + h.min(v)
 }
 
 /// The penalties of eight candidates of a Micro symbol, one after the other.

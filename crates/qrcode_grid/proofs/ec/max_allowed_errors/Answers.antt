@@ -16,7 +16,7 @@ one_origin_of b p errors usable is = λ one content damaged other len len' len''
 
 pub returns-clause-one_origin : goal.returns-clause-one_origin
 returns-clause-one_origin c =
-    let b = c.in-Some.layout in
-    subst (λ (o : Option BlockLayout). IfSome o (HasOneOrigin c.errors_of.result)) c.in-Some.ensures
-    (one_origin_of b c.protection_of.result c.errors_of.result (IsUsable-of_symbol c.args.version c.args.ec_level b
-    (sym c.in-Some.ensures)) c.errors_of.ensures)
+    let b = c.in-Some.layout in let p = c.protection_of-protection.result in let errors = c.saturating_sub.result / 2 in
+    let is : errors ≡ (b.correction * block_count b - p) / 2 = grind arith in
+    subst (λ (o : Option BlockLayout). IfSome o (HasOneOrigin errors)) c.in-Some.ensures
+    (one_origin_of b p errors (IsUsable-of_symbol c.args.version c.args.ec_level b (sym c.in-Some.ensures)) is)

@@ -1,13 +1,13 @@
 -- The row is written as far as this block.
 use Rattle.std.proofs.Common.{◌≡◌, length, take}
 use Rattle.std.specs.List.{sum}
-use Rattle.qrcode_grid.specs.Blocks.{place, IsWrittenTo}
+use Rattle.qrcode_grid.specs.Blocks.{place_in_stream, IsWrittenTo}
 use Rattle.qrcode_grid.proofs.ec.write_late_row.Given as goal
 
 abbrev pub invariant-loop-size : goal.invariant-loop-size
 invariant-loop-size l = record {
   long : length l.stream ≡ length l.bytes;
-  next : l.next ≡ place l.sizes l.row l.size-index;
+  next : l.next ≡ place_in_stream l.sizes l.row l.size-index;
   written : IsWrittenTo l.sizes l.bytes l.stream l.next;
   started : l.start ≡ sum (take l.size-index l.sizes);
 }

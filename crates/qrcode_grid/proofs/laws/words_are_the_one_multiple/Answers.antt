@@ -1,4 +1,4 @@
-use Rattle.qrcode_grid.proofs.RowDivision.{one_format_word, one_version_word}
+use Rattle.qrcode_grid.proofs.GridLaws.{one_format_word, one_version_word}
 use Rattle.qrcode_grid.proofs.laws.words_are_the_one_multiple.Goals as goal
 
 pub returns-clause-format : goal.returns-clause-format

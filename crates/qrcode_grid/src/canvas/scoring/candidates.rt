@@ -1,33 +1,22 @@
 //! Eight candidates in one list of bytes, one for each mask: a byte a module, and bit m of it is the colour under the
 //! mask with number m. Then the format words of eight masks.
 ghost use Rattle.std.specs.Prelude.{◌≡◌, if◌then◌else◌, ◌==◌, ℕ, ◌+◌, ◌-◌, ◌*◌, ◌/◌, ◌%◌, ◌<◌, ◌≤◌, length, map};
-ghost use Rattle.std.specs.Prelude.{slice_index, All};
+ghost use Rattle.std.specs.Prelude.{slice_index};
 ghost use Rattle.std.specs.Int.{bit_at};
 ghost use Rattle.qrcode_base.specs.declared.types.Color.TheVariants.{Dark};
 ghost use Rattle.qrcode_grid.specs.Canvas.{color_of_module};
-ghost use Rattle.qrcode_grid.specs.Scoring.{byte_under, code_of, masked_code, AreDigits, plane, pattern_of};
+ghost use Rattle.qrcode_grid.specs.Scoring.{code_of, masked_code, AreDigits, plane, pattern_of};
 ghost use Rattle.qrcode_grid.specs.Penalty.{byte_of};
-ghost use Rattle.qrcode_grid.specs.Masks.{format_color, normal_format_color, masked_cells, IsOfFamily, format_word};
+ghost use Rattle.qrcode_grid.specs.Masks.{masked_cells, IsOfFamily, format_word};
 ghost use Rattle.qrcode_grid.specs.Masks.{normal_number};
-ghost use Rattle.qrcode_grid.specs.Regions.{written, digit, digit_color};
+ghost use Rattle.qrcode_grid.specs.Regions.{binary_digit, digit_color};
 ghost use Rattle.qrcode_base.specs.Symbols.{IsSymbol};
 ghost use Rattle.qrcode_grid.specs.declared.canvas.MaskPattern.{MaskPattern};
 
 use crate::canvas::masks::{word_of_format, write_stripes};
-use crate::canvas::regions::{FORMAT_FIRST, FORMAT_MICRO, color_of_digit, second_places};
+use crate::canvas::regions::{color_of_digit, write_format};
 use crate::canvas::{MaskPattern, Module};
 use qrcode_base::types::{Color, EcLevel, Version};
-
-/// A module as a byte: 1 where it is dark, and 2 more where a mask may invert it.
-fn code(old: Module) -> u8
-    ensures { result ≡ code_of old }
-{
-    let data = match old {
-        Module::Masked(_) => 0,
-        _ => 2,
-    };
-    data + u8::from(old.is_dark())
-}
 
 /// A bit in all eight places of a byte.
 fn spread(bit: bool) -> u8
@@ -43,7 +32,11 @@ fn spread(bit: bool) -> u8
 fn masked_bits(old: Module, conditions: u8) -> u8
     ensures { (m : ℕ) → m < 8 → bit_at result m ≡ masked_code (code_of old) (bit_at conditions m == 1) }
 {
-    let code = code(old);
+    let data = match old {
+        Module::Masked(_) => 0,
+        _ => 2,
+    };
+    let code = data + u8::from(old.is_dark());
     spread(code % 2 == 1) ^ (spread(code / 2 == 1) & conditions)
 }
 
@@ -83,14 +76,6 @@ fn mask_rows(modules: &[Module], stripes: &[u8], width: usize, grid: &mut [u8])
     }
 }
 
-/// A binary digit of a word as a byte.
-fn byte_of_digit(word: u32, k: usize) -> u8
-    requires { k < 32 }
-    ensures { result ≡ byte_of (digit_color (digit word k)) }
-{
-    u8::from(color_of_digit(word, k) == Color::Dark)
-}
-
 /// Some digits and one more.
 fn with_digit(digits: u8, m: usize, digit: u8) -> u8
     requires within { m < 8 }
@@ -109,11 +94,12 @@ fn with_digit(digits: u8, m: usize, digit: u8) -> u8
 fn digits_of(words: &[u32; 8], k: usize) -> u8
     requires { k < 32 }
     ensures { (m : ℕ) → m < 8 → bit_at result m ≡
-        byte_of (digit_color (digit (slice_index words.now m) k)) }
+        byte_of (digit_color (binary_digit (slice_index words.now m) k)) }
 {
     let mut digits = 0;
     for m in 0..8 {
-        digits = with_digit(digits, m, byte_of_digit(words[m], k));
+        let digit = u8::from(color_of_digit(words[m], k) == Color::Dark);
+        digits = with_digit(digits, m, digit);
     }
     digits
 }
@@ -127,53 +113,6 @@ fn format_digits(words: &[u32; 8]) -> [u8; 15]
         digits[k] = digits_of(words, k);
     }
     digits
-}
-
-/// Writes a word of each candidate into a list of places, high digit first. It begins with the low digit, so that a
-/// place's first digit stays.
-fn write_words(digits: &[u8; 15], places: &[(usize, usize)], width: usize, grid: &mut [u8])
-    requires few { length places.now ≤ 15 }
-    requires within { All (λ place. (place.0 < width) × (place.1 < width)) places.now }
-    requires long { length grid.old ≡ width * width }
-    ensures { (m : ℕ) → (word : ℕ) → m < 8 → AreDigits digits.now m word →
-        (x : ℕ) → (y : ℕ) → x < width → y < width →
-        slice_index (plane m grid.new) (y * width + x) ≡
-        byte_under (written word places.now x y) (slice_index (plane m grid.old) (y * width + x)) }
-{
-    let count = places.len();
-    for k in 0..count {
-        let (x, y) = places[count - 1 - k];
-        grid[y * width + x] = digits[k];
-    }
-}
-
-/// Writes both copies of the format words of Normal symbols, and the dark module.
-fn write_normal_formats(digits: &[u8; 15], width: usize, grid: &mut [u8])
-    requires wide { (9 ≤ width) × (width ≤ 177) }
-    requires long { length grid.old ≡ width * width }
-    ensures { (m : ℕ) → (word : ℕ) → m < 8 → AreDigits digits.now m word →
-        (x : ℕ) → (y : ℕ) → x < width → y < width →
-        slice_index (plane m grid.new) (y * width + x) ≡
-        byte_under (normal_format_color width word x y) (slice_index (plane m grid.old) (y * width + x)) }
-{
-    write_words(digits, &second_places(width), width, grid);
-    write_words(digits, &FORMAT_FIRST, width, grid);
-    grid[(width - 8) * width + 8] = 255;
-}
-
-/// Writes the format word of each candidate and, in Normal symbols, the dark module.
-fn write_formats(version: Version, digits: &[u8; 15], width: usize, grid: &mut [u8])
-    requires wide { (9 ≤ width) × (width ≤ 177) }
-    requires long { length grid.old ≡ width * width }
-    ensures { (m : ℕ) → (word : ℕ) → m < 8 → AreDigits digits.now m word →
-        (x : ℕ) → (y : ℕ) → x < width → y < width →
-        slice_index (plane m grid.new) (y * width + x) ≡
-        byte_under (format_color version width word x y) (slice_index (plane m grid.old) (y * width + x)) }
-{
-    match version {
-        Version::Normal(_) => write_normal_formats(digits, width, grid),
-        Version::Micro(_) => write_words(digits, &FORMAT_MICRO, width, grid),
-    }
 }
 
 /// Writes the modules under eight masks, with a format word for each. The stripes are written over.
@@ -195,7 +134,7 @@ pub fn write_candidates(
 {
     write_stripes(width, stripes);
     mask_rows(modules, stripes, width, grid);
-    write_formats(version, &format_digits(words), width, grid);
+    write_format(version, &format_digits(words), 255, width, grid);
 }
 
 /// The number of a mask in Normal symbols.

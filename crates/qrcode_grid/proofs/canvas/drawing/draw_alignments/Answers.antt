@@ -1,7 +1,7 @@
 use Rattle.std.proofs.Common.{◌≡◌, ℕ, ◌<◌, ◌+◌, ◌-◌, ◌*◌, suc, get_or, ap, ◌∙◌, sym, subst, arith, Some}
 use Rattle.std.proofs.lemmas.Nat.{mul-add-lt}
 use Rattle.qrcode_grid.specs.Masks.{drawn_over}
-use Rattle.qrcode_grid.specs.Regions.{alignments, alignment_coordinates, alignment_coordinate, alignment_count, near, pattern_at}
+use Rattle.qrcode_grid.specs.Regions.{alignments, alignment_coordinates, alignment_coordinate, alignment_count, near, alignment_at}
 use Rattle.qrcode_grid.specs.declared.canvas.Module.TheVariants.{Empty}
 use Rattle.qrcode_grid.proofs.RegionRows.{behind, behind_before, cells_inside, behind_within, none_between, none_behind, no_pattern, no_pattern_row}
 use Rattle.qrcode_grid.proofs.RegionRows.{no_alignments, alignment_count_is}
@@ -17,9 +17,9 @@ pub loop-y-init : goal.loop-y-init
 loop-y-init c =
     let n = c.args.n in let w = c.args.width in
     let row : c.loop-j.j < alignment_count n = omega (arith, alignment_count_is n (omega (arith, c.if-n-lt2.false)), c.loop-j-test.true) in
-    let is : c.coordinate-center_y.result ≡ alignment_coordinate n c.loop-j.j = c.coordinate-center_y.ensures.is in
+    let is : c.alignment_coordinate-center_y.result ≡ alignment_coordinate n c.loop-j.j = c.alignment_coordinate-center_y.ensures.is in
     rows_between (λ x y m. drawn_over (alignments w (alignment_coordinates n) x y) m) w (behind n c.loop-j.j)
-    (c.coordinate-center_y.result - 2) c.args.modules.now c.loop-j.modules
+    (c.alignment_coordinate-center_y.result - 2) c.args.modules.now c.loop-j.modules
     (omega (arith, c.requires.wide)) (omega (arith, is, behind_before n c.loop-j.j c.requires.number row))
     (λ x y l low last m. ap (λ o. drawn_over o m) (no_pattern_row w (near (alignment_coordinates n) x) (near (alignment_coordinates n) y) x y
     (none_between n c.loop-j.j y c.requires.number row low (omega (arith, is, last)))))
@@ -29,9 +29,9 @@ pub loop-x-init : goal.loop-x-init
 loop-x-init c =
     let n = c.args.n in let w = c.args.width in
     let column : c.loop-k.k < alignment_count n = omega (arith, alignment_count_is n (omega (arith, c.if-n-lt2.false)), c.loop-k-test.true) in
-    let is : c.coordinate-center_x.result ≡ alignment_coordinate n c.loop-k.k = c.coordinate-center_x.ensures.is in
+    let is : c.alignment_coordinate-center_x.result ≡ alignment_coordinate n c.loop-k.k = c.alignment_coordinate-center_x.ensures.is in
     row_between (λ x y m. drawn_over (alignments w (alignment_coordinates n) x y) m) w c.loop-y.y (behind n c.loop-k.k)
-    (c.coordinate-center_x.result - 2) c.args.modules.now c.loop-k.modules
+    (c.alignment_coordinate-center_x.result - 2) c.args.modules.now c.loop-k.modules
     (omega (arith, is, behind_before n c.loop-k.k c.requires.number column))
     (omega (arith, is, c.requires.wide, (cells_inside n c.loop-k.k c.requires.number column).1))
     (λ x low last m. ap (λ o. drawn_over o m) (no_pattern w (near (alignment_coordinates n) x) (near (alignment_coordinates n) c.loop-y.y) x c.loop-y.y
@@ -48,14 +48,14 @@ slice_copy_out-drawn c =
     let column : c.loop-k.k < alignment_count n = omega (arith, alignment_count_is n (omega (arith, c.if-n-lt2.false)), c.loop-k-test.true) in
     let inside_y : c.loop-y.y < w = omega (
       arith,
-      c.coordinate-center_y.ensures.is,
+      c.alignment_coordinate-center_y.ensures.is,
       c.requires.wide,
       c.loop-y-test.true,
       (cells_inside n c.loop-j.j c.requires.number row).1,
     ) in
     inside_cell w c.loop-x.x c.loop-y.y _ _ (omega (
       arith,
-      c.coordinate-center_x.ensures.is,
+      c.alignment_coordinate-center_x.ensures.is,
       c.requires.wide,
       c.loop-x-test.true,
       (cells_inside n c.loop-k.k c.requires.number column).1,
@@ -68,14 +68,14 @@ bounds-modules-i c =
     let column : c.loop-k.k < alignment_count n = omega (arith, alignment_count_is n (omega (arith, c.if-n-lt2.false)), c.loop-k-test.true) in
     let inside_y : c.loop-y.y < w = omega (
       arith,
-      c.coordinate-center_y.ensures.is,
+      c.alignment_coordinate-center_y.ensures.is,
       c.requires.wide,
       c.loop-y-test.true,
       (cells_inside n c.loop-j.j c.requires.number row).1,
     ) in
     inside_cell w c.loop-x.x c.loop-y.y _ _ (omega (
       arith,
-      c.coordinate-center_x.ensures.is,
+      c.alignment_coordinate-center_x.ensures.is,
       c.requires.wide,
       c.loop-x-test.true,
       (cells_inside n c.loop-k.k c.requires.number column).1,
@@ -89,33 +89,33 @@ loop-x-preserved c =
     let column : c.loop-k.k < alignment_count n = omega (arith, alignment_count_is n (omega (arith, c.if-n-lt2.false)), c.loop-k-test.true) in
     let inside_y : c.loop-y.y < w = omega (
       arith,
-      c.coordinate-center_y.ensures.is,
+      c.alignment_coordinate-center_y.ensures.is,
       c.requires.wide,
       c.loop-y-test.true,
       (cells_inside n c.loop-j.j c.requires.number row).1,
     ) in
-    let is_x : c.coordinate-center_x.result ≡ alignment_coordinate n c.loop-k.k = c.coordinate-center_x.ensures.is in
-    let is_y : c.coordinate-center_y.result ≡ alignment_coordinate n c.loop-j.j = c.coordinate-center_y.ensures.is in
+    let is_x : c.alignment_coordinate-center_x.result ≡ alignment_coordinate n c.loop-k.k = c.alignment_coordinate-center_x.ensures.is in
+    let is_y : c.alignment_coordinate-center_y.result ≡ alignment_coordinate n c.loop-j.j = c.alignment_coordinate-center_y.ensures.is in
     let near_x = near_center n c.loop-k.k x c.requires.number column (omega (arith, is_x, c.loop-x-test.true, c.loop-x.auto.x)) in
     let near_y = near_center n c.loop-j.j y c.requires.number row (omega (arith, is_y, c.loop-y-test.true, c.loop-y.auto.y)) in
     cell_changed (λ x y m. drawn_over (alignments w (alignment_coordinates n) x y) m) w y x c.args.modules.now c.loop-x.modules _ Empty
     (omega (
       arith,
-      c.coordinate-center_x.ensures.is,
+      c.alignment_coordinate-center_x.ensures.is,
       c.requires.wide,
       c.loop-x-test.true,
       (cells_inside n c.loop-k.k c.requires.number column).1,
     )) inside_y c.requires.square
     (c.drawn.ensures ∙ ap (λ o. drawn_over o (get_or c.loop-x.modules (y * w + x) Empty)) (c.alignments_color-color.ensures
-    ∙ ap (λ o. pattern_at w o (Some c.coordinate-center_y.result) x y) (ap Some is_x ∙ sym near_x)
-    ∙ ap (λ o. pattern_at w (near cs x) o x y) (ap Some is_y ∙ sym near_y))) c.loop-x.invariant
+    ∙ ap (λ o. alignment_at w o (Some c.alignment_coordinate-center_y.result) x y) (ap Some is_x ∙ sym near_x)
+    ∙ ap (λ o. alignment_at w (near cs x) o x y) (ap Some is_y ∙ sym near_y))) c.loop-x.invariant
 
 pub loop-k-preserved : goal.loop-k-preserved
 loop-k-preserved c =
     let n = c.args.n in let k = c.loop-k.k in let w = c.args.width in
     let next : k + 1 ≡ suc k = omega arith in
     let last : c.loop-y.y * w + c.loop-x.x ≡ c.loop-y.y * w + behind n (k + 1) =
-    omega (arith, c.coordinate-center_x.ensures.is, ap (behind n) next, c.loop-x-test.false, c.loop-x.auto.x-end) in
+    omega (arith, c.alignment_coordinate-center_x.ensures.is, ap (behind n) next, c.loop-x-test.false, c.loop-x.auto.x-end) in
     subst (λ (i : ℕ). CellsChanged (λ x y m. drawn_over (alignments w (alignment_coordinates n) x y) m) w c.args.modules.now
     c.loop-x.modules i) last c.loop-x.invariant
 
@@ -139,7 +139,8 @@ pub loop-j-preserved : goal.loop-j-preserved
 loop-j-preserved c =
     let n = c.args.n in let j = c.loop-j.j in let w = c.args.width in
     let next : j + 1 ≡ suc j = omega arith in
-    let last : c.loop-y.y ≡ behind n (j + 1) = omega (arith, c.coordinate-center_y.ensures.is, ap (behind n) next, c.loop-y-test.false, c.loop-y.auto.y-end) in
+    let last : c.loop-y.y ≡ behind n (j + 1) =
+    omega (arith, c.alignment_coordinate-center_y.ensures.is, ap (behind n) next, c.loop-y-test.false, c.loop-y.auto.y-end) in
     subst (λ (i : ℕ). CellsChanged (λ x y m. drawn_over (alignments w (alignment_coordinates n) x y) m) w c.args.modules.now c.loop-y.modules
     (i * w)) last c.loop-y.invariant
 

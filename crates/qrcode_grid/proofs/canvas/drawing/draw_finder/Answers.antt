@@ -2,20 +2,21 @@ use Rattle.std.proofs.Common.{◌≤◌, ◌<◌, ◌+◌, ◌*◌, get_or, ap, 
 use Rattle.qrcode_grid.specs.Masks.{drawn_over}
 use Rattle.qrcode_grid.specs.Regions.{finder}
 use Rattle.qrcode_grid.specs.declared.canvas.Module.TheVariants.{Empty}
+use Rattle.qrcode_grid.proofs.RegionRows.{no_finder_column, no_finder_row}
 use Rattle.qrcode_grid.proofs.WrittenWords.{row_begins, cell_changed, row_ends, rows_between, rows_end}
 use Rattle.qrcode_grid.proofs.canvas.drawing.draw_finder.Goals as goal
 
 pub loop-x-init : goal.loop-x-init
 loop-x-init c =
-    row_begins (λ x y m. drawn_over (finder c.args.center_x c.args.center_y x y) m) c.args.width c.loop-y.y c.finder_columns-left.result.0
+    row_begins (λ x y m. drawn_over (finder c.args.center_x c.args.center_y x y) m) c.args.width c.loop-y.y c.near_center-left.result.0
     c.args.modules.now c.loop-y.modules
-    (omega (arith, c.finder_columns-left.ensures.within)) (λ x h m. ap (λ o. drawn_over o m)
-    (c.finder_columns-left.ensures.before x c.loop-y.y h)) c.loop-y.invariant
+    (omega (arith, c.near_center-left.ensures.within)) (λ x h m. ap (λ o. drawn_over o m)
+    (no_finder_column c.args.center_x c.args.center_y x c.loop-y.y (c.near_center-left.ensures.before x h))) c.loop-y.invariant
 
 pub loop-x-preserved : goal.loop-x-preserved
 loop-x-preserved c =
-    let column : c.loop-x.x < c.args.width = omega (arith, c.loop-x-test.true, c.finder_columns-left.ensures.within) in
-    let row : c.loop-y.y < c.args.width = omega (arith, c.loop-y-test.true, c.finder_rows-top.ensures.within) in
+    let column : c.loop-x.x < c.args.width = omega (arith, c.loop-x-test.true, c.near_center-left.ensures.within) in
+    let row : c.loop-y.y < c.args.width = omega (arith, c.loop-y-test.true, c.near_center-top.ensures.within) in
     cell_changed (λ x y m. drawn_over (finder c.args.center_x c.args.center_y x y) m) c.args.width c.loop-y.y c.loop-x.x
     c.args.modules.now c.loop-x.modules _ Empty
     column row c.requires.square (sym (ap (λ o. drawn_over o (get_or c.loop-x.modules (c.loop-y.y * c.args.width + c.loop-x.x) Empty))
@@ -23,14 +24,16 @@ loop-x-preserved c =
 
 pub loop-y-preserved : goal.loop-y-preserved
 loop-y-preserved c =
-    let within : c.loop-x.x ≤ c.args.width = omega (arith, c.loop-x.auto.x-end, c.finder_columns-left.ensures.within) in
+    let within : c.loop-x.x ≤ c.args.width = omega (arith, c.loop-x.auto.x-end, c.near_center-left.ensures.within) in
     row_ends (λ x y m. drawn_over (finder c.args.center_x c.args.center_y x y) m) c.args.width c.loop-y.y c.loop-x.x c.args.modules.now c.loop-x.modules
-    within (λ x h l m. ap (λ o. drawn_over o m) (c.finder_columns-left.ensures.after x c.loop-y.y (omega arith) l)) c.loop-x.invariant
+    within (λ x h l m. ap (λ o. drawn_over o m)
+    (no_finder_column c.args.center_x c.args.center_y x c.loop-y.y (c.near_center-left.ensures.behind x (omega arith) l))) c.loop-x.invariant
 
 pub returns : goal.returns
 returns c =
     rows_end (λ x y m. drawn_over (finder c.args.center_x c.args.center_y x y) m) c.args.width c.args.width c.args.modules.now c.loop-y.modules Empty
     (omega arith) c.requires.square
     (rows_between (λ x y m. drawn_over (finder c.args.center_x c.args.center_y x y) m) c.args.width c.loop-y.y c.args.width c.args.modules.now c.loop-y.modules
-    (omega (arith, c.requires.row)) (omega (arith, c.loop-y.auto.y-end, c.finder_rows-top.ensures.within))
-    (λ x y h l k m. ap (λ o. drawn_over o m) (c.finder_rows-top.ensures.after x y (omega (arith, l, c.loop-y-test.false)) k)) c.loop-y.invariant)
+    (omega (arith, c.requires.row)) (omega (arith, c.loop-y.auto.y-end, c.near_center-top.ensures.within))
+    (λ x y h l k m. ap (λ o. drawn_over o m)
+    (no_finder_row c.args.center_x c.args.center_y x y (c.near_center-top.ensures.behind y (omega (arith, l, c.loop-y-test.false)) k))) c.loop-y.invariant)

@@ -4,7 +4,7 @@ use Rattle.std.proofs.Math.Nat.{mul-le-mul_right}
 use Rattle.std.proofs.lemmas.Bool.{cases_lt}
 use Rattle.qrcode_grid.specs.Masks.{is_inverted}
 use Rattle.qrcode_grid.specs.Scoring.{pattern_of}
-use Rattle.qrcode_grid.proofs.Conditions.{is_inverted-repeats}
+use Rattle.qrcode_grid.proofs.Conditions.{condition_at, is_inverted-repeats}
 use Rattle.qrcode_grid.proofs.canvas.masks.write_stripes.Goals as goal
 
 pub loop-y-preserved : goal.loop-y-preserved
@@ -14,6 +14,6 @@ loop-y-preserved c = λ m x y b h l. elim (cases_lt y c.loop-y.y) [
   | inr above ↦
       let same : c.loop-y.y ≡ y = omega arith in
       ap (λ n. bit_at n m) (ap (λ r. get_or c.write_stripe.new.stripes (r * c.args.width + x) 0) (sym same) ∙ c.write_stripe.ensures.row x h)
-      ∙ c.first_conditions.ensures m (x % 6) b (omega arith)
+      ∙ condition_at m (x % 6) c.loop-y.y b (omega arith) (omega (arith, c.loop-y-test.true))
       ∙ ap (λ t. cond t 1 0) (sym (is_inverted-repeats (pattern_of m) x c.loop-y.y) ∙ ap (is_inverted (pattern_of m) x) same)
 ]

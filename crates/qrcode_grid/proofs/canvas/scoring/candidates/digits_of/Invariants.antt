@@ -2,11 +2,11 @@
 use Rattle.std.proofs.Common.{◌≡◌, ◌<◌, ◌≤◌, ℕ, get_or}
 use Rattle.std.specs.Int.{bit_at}
 use Rattle.qrcode_grid.specs.Penalty.{byte_of}
-use Rattle.qrcode_grid.specs.Regions.{digit, digit_color}
+use Rattle.qrcode_grid.specs.Regions.{binary_digit, digit_color}
 use Rattle.qrcode_grid.proofs.canvas.scoring.candidates.digits_of.Given as goal
 
 abbrev pub invariant-loop-m : goal.invariant-loop-m
 invariant-loop-m l = record {
-  found : (i : ℕ) → i < l.m → bit_at l.digits i ≡ byte_of (digit_color (digit (get_or l.words i 0) l.k));
+  found : (i : ℕ) → i < l.m → bit_at l.digits i ≡ byte_of (digit_color (binary_digit (get_or l.words i 0) l.k));
   none : (i : ℕ) → l.m ≤ i → bit_at l.digits i ≡ 0;
 }

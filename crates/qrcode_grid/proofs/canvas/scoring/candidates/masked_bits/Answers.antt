@@ -1,8 +1,13 @@
-use Rattle.std.proofs.Common.{arith}
-use Rattle.std.proofs.lemmas.Nat.Bits.{bit_at-lt, bit_at_xor, bit_at_and}
-use Rattle.qrcode_grid.proofs.Conditions.{bits_masked}
+use Rattle.std.proofs.Common.{◌≡◌, ◌+◌, ◌<◌, ◌==◌, ap, ◌∙◌, arith}
+use Rattle.std.specs.Int.{bit_at}
+use Rattle.qrcode_grid.specs.Scoring.{code_of, masked_code}
+use Rattle.qrcode_grid.proofs.Conditions.{bit_masked}
 use Rattle.qrcode_grid.proofs.canvas.scoring.candidates.masked_bits.Goals as goal
-use Rattle.std.proofs.lemmas.Grind.{common_steps}
 
 pub returns : goal.returns
-returns c = grind (arith, common_steps, bit_at-lt, bit_at_and, bit_at_xor, bits_masked)
+returns c =
+    let code = c.match-old.data + c.from.result in
+    let coded : code ≡ code_of c.args.old = grind arith in
+    let small : code < 4 = grind arith in
+    λ m h. bit_masked c.spread.result c.spread-2.result c.args.conditions code m small (c.spread.ensures m h) (c.spread-2.ensures m h)
+    ∙ ap (λ k. masked_code k (bit_at c.args.conditions m == 1)) coded

@@ -1,0 +1,13 @@
+use Rattle.std.proofs.Common.{◌+◌, ◌*◌, get_or, ◌∙◌, refl, arith}
+use Rattle.qrcode_base.specs.declared.types.Color.TheVariants.{Dark}
+use Rattle.qrcode_grid.specs.Masks.{drawn_over}
+use Rattle.qrcode_grid.specs.declared.canvas.Module.TheVariants.{Empty, Masked}
+use Rattle.qrcode_grid.proofs.WrittenWords.{format_shown}
+use Rattle.qrcode_grid.proofs.canvas.drawing.draw_format.Goals as goal
+
+pub returns : goal.returns
+returns c = λ x y l m.
+    c.write_format.ensures Empty x y l m
+    ∙ format_shown (λ v. v) drawn_over (λ k. get_or c.loop-k.digits k Empty) (Masked Dark) c.args.format
+    (λ k b h. c.loop-k.invariant.found k (omega (arith, h, c.loop-k-test.false)))
+    (λ b. refl) (λ b. refl) c.args.version c.args.width x y (get_or c.args.modules.now (y * c.args.width + x) Empty)

@@ -1,0 +1,11 @@
+-- The digits before this one are found.
+use Rattle.std.proofs.Common.{◌≡◌, ◌<◌, ℕ, get_or, length}
+use Rattle.qrcode_grid.specs.Regions.{binary_digit, digit_color}
+use Rattle.qrcode_grid.specs.declared.canvas.Module.TheVariants.{Empty, Masked}
+use Rattle.qrcode_grid.proofs.canvas.drawing.draw_format.Given as goal
+
+abbrev pub invariant-loop-k : goal.invariant-loop-k
+invariant-loop-k l = record {
+  size : length l.digits ≡ 15;
+  found : (i : ℕ) → i < l.k → get_or l.digits i Empty ≡ Masked (digit_color (binary_digit l.format i));
+}

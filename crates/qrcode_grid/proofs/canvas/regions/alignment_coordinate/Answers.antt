@@ -1,0 +1,6 @@
+use Rattle.std.proofs.Common.{arith}
+use Rattle.qrcode_grid.proofs.RegionRows.{cells_inside}
+use Rattle.qrcode_grid.proofs.canvas.regions.alignment_coordinate.Goals as goal
+
+pub returns-clause-inside : goal.returns-clause-inside
+returns-clause-inside c = grind (arith, (cells_inside c.args.n c.args.k c.requires.number c.requires.below).0)

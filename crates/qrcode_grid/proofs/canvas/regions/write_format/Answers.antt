@@ -1,0 +1,19 @@
+use Rattle.std.proofs.Common.{◌==◌, ◌&&◌, ◌-◌, ◌+◌, ◌*◌, ℕ, List, get_or, ap, ◌∙◌, sym, unwrap_or, option_map}
+use Rattle.qrcode_grid.specs.Masks.{format_value}
+use Rattle.qrcode_grid.specs.Regions.{digit_at, format_first, format_second, where_true}
+use Rattle.qrcode_grid.proofs.WrittenWords.{dark_written, over_three}
+use Rattle.qrcode_grid.proofs.canvas.regions.write_format.Goals as goal
+
+pub returns-in-Normal : goal.returns-in-Normal
+returns-in-Normal g c = λ any x y l m.
+    let w = c.args.width in
+    let digit = λ (k : ℕ). get_or c.args.digits.now k any in
+    let dark = where_true (x == 8 && y == w - 8) c.args.dark in
+    let first = option_map digit (digit_at format_first x y) in
+    let old = get_or c.args.cells.now (y * w + x) any in
+    dark_written w any c.write_word-in-Normal.new.cells c.args.dark c.requires.wide.0
+    (c.write_word-in-Normal.auto.cells ∙ c.write_word.auto.cells ∙ c.requires.square) x y l m
+    ∙ ap (unwrap_or dark) (c.write_word-in-Normal.ensures any x y l m ∙ ap (unwrap_or first) (c.write_word.ensures any x y l m))
+    ∙ ap (λ (ps : List (ℕ × ℕ)). unwrap_or dark (unwrap_or first (unwrap_or (option_map digit (digit_at ps x y)) old))) c.second_places.ensures
+    ∙ sym (over_three dark first (option_map digit (digit_at (format_second w) x y)) old)
+    ∙ sym (ap (λ v. unwrap_or (format_value v w digit c.args.dark x y) old) c.in-Normal.is)

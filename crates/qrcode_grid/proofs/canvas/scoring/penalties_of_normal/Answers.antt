@@ -1,0 +1,40 @@
+use Rattle.std.proofs.Common.{◌≡◌, ℕ, ◌+◌, ◌*◌, ◌/◌, length, get_or, count_by, ap, ◌∙◌, sym, arith}
+use Rattle.std.specs.Int.{abs_diff, bit_at}
+use Rattle.std.proofs.lemmas.Nat.Bits.{bit_at-zero}
+use Rattle.qrcode_grid.specs.Penalty.{is_dark_byte, balance_penalty, row, column, line_penalty}
+use Rattle.qrcode_grid.specs.Scoring.{IsPadded, plane}
+use Rattle.qrcode_grid.proofs.MarkedLanes.{length-plane, plane_at, plane_small}
+use Rattle.qrcode_grid.proofs.PaddedCounts.{columns_are, rows_are, squares_are, darks_are}
+use Rattle.qrcode_grid.proofs.Totals.{total-plus}
+use Rattle.qrcode_grid.proofs.canvas.scoring.penalties_of_normal.Goals as goal
+
+pub returns : goal.returns
+returns c = λ m h.
+    let w = c.args.width in let grid = c.args.grid.now in let cells = plane m grid in
+    let list = c.write_padded.new.padded in let padded = plane m list in let is = c.write_padded.ensures in
+    let first = plane m c.write_edges.new.edges in let second = plane m c.write_edges-2.new.edges in
+    let square : length cells ≡ w * w = length-plane m grid ∙ c.requires.square in
+    let light : (k : ℕ) → get_or list k 0 ≡ 0 → get_or padded k 0 ≡ 0 = λ k e. plane_at m list k ∙ ap (λ b. bit_at b m) e ∙ bit_at-zero m in
+    let stands : IsPadded w cells padded = record {
+      grid = λ x y hx hy. plane_at m list ((4 + y) * (w + 4) + x) ∙ ap (λ b. bit_at b m) (is.grid x y hx hy) ∙ sym (plane_at m grid (y * w + x));
+      beside = λ x y hx l. light (y * (w + 4) + x) (is.beside x y hx l);
+      above = λ k l. light k (is.above k l);
+      below = λ k l. light k (is.below k l);
+    } in
+    let edges = c.write_edges-2.ensures.edges m h in
+    let darks = darks_are w cells padded stands square second (plane_small m grid) in
+    let balance : abs_diff (200 * get_or c.count-darks.result m 0 / (w * w)) 100 ≡ balance_penalty cells =
+    ap (λ n. abs_diff (200 * n / (w * w)) 100) (c.count-darks.ensures.is m h ∙ darks)
+    ∙ ap (λ n. abs_diff (200 * count_by is_dark_byte cells / n) 100) (sym square) in
+    omega (
+      arith,
+      c.loop-m.invariant.found m (omega (arith, h, c.loop-m-test.false)),
+      c.penalties_of_columns-columns.ensures.is m h,
+      columns_are w cells padded stands square first (c.write_edges.ensures.edges m h),
+      c.penalties_of_rows-rows.ensures.is m h,
+      rows_are w cells padded stands square second edges,
+      c.count-squares.ensures.is m h,
+      squares_are w cells padded stands square second edges (omega (arith, c.requires.wide.0)),
+      total-plus (λ y. line_penalty (row w cells y)) (λ x. line_penalty (column w cells x)) w,
+      balance,
+    )

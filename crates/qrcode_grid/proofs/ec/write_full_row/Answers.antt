@@ -1,0 +1,20 @@
+use Rattle.std.proofs.Common.{arith}
+use Rattle.std.proofs.lemmas.Grind.{common_steps}
+use Rattle.std.proofs.lemmas.List.Sums.{sum_by_more}
+use Rattle.qrcode_grid.proofs.StreamPlaces.{part_end, place-bounded, place-row_end, place-yes, written-more}
+use Rattle.qrcode_grid.proofs.ec.write_full_row.Goals as goal
+
+pub bounds-bytes-start : goal.bounds-bytes-start
+bounds-bytes-start c = grind (arith, common_steps, part_end)
+
+pub bounds-stream-next : goal.bounds-stream-next
+bounds-stream-next c = grind (arith, common_steps, place-bounded)
+
+pub overflow_add-next : goal.overflow_add-next
+overflow_add-next c = grind (arith, common_steps, place-bounded)
+
+pub loop-size-preserved : goal.loop-size-preserved
+loop-size-preserved c = grind (arith, common_steps, place-bounded, place-yes, written-more, sum_by_more)
+
+pub returns-clause-next : goal.returns-clause-next
+returns-clause-next c = grind (arith, common_steps, place-row_end)
