@@ -7,7 +7,8 @@ use Rattle.qrcode_base.specs.declared.types.EcLevel.TheVariants.{H}
 use Rattle.qrcode_base.specs.Symbols.{IsNormalNumber}
 use Rattle.qrcode_core.specs.Drawn.{DrawnSymbol, modules_of}
 use Rattle.qrcode_core.specs.Headline.{IsBestSymbol, IsBestMicroSymbol, IsTooLong, IsTooLongForMicro}
-use Rattle.qrcode_core.specs.Sequence.{AreBestSymbols, IsTotal, IsSomePartTooLong}
+use Rattle.qrcode_core.specs.Sequence.{AreBestSymbols, IsSomePartTooLong}
+use Rattle.qrcode_bits.specs.Frame.{IsTotal}
 use Rattle.qrcode_c.specs.declared.refusal.Refusal.{Refusal}
 use Rattle.qrcode_c.specs.declared.refusal.Refusal.TheVariants.{DataTooLong, OutOfMemory, InvalidLevel}
 use Rattle.qrcode_c.specs.declared.refusal.Refusal.TheVariants.{InvalidMaxVersion, InvalidPartCount, InvalidCuts}

@@ -11,12 +11,12 @@ use Rattle.qrcode_base.specs.Numbers.{byte_bits, zero_bits}
 use Rattle.qrcode_bits.proofs.Numbers.{length-byte_bits}
 use Rattle.qrcode_core.proofs.Ending.{lacks}
 use Rattle.qrcode_base.specs.Symbols.{data_bytes, blocks_of, block_sizes, missing_bits}
-use Rattle.qrcode_grid.specs.Blocks.{place, block_in, blocks_in, AreCodewords}
+use Rattle.qrcode_grid.specs.Blocks.{place_in_stream, block_in, blocks_in, AreCodewords}
 use Rattle.std.proofs.lemmas.Grind.{common_steps}
 
 -- a stream of one block is the block
 pub one_block : (size : ℕ) (stream : List ℕ) → length stream ≡ size → concat (blocks_in (size ∷ []) stream) ≡ stream
-unfolding blocks_in block_in place
+unfolding blocks_in block_in place_in_stream
 one_block size stream long = grind (arith, common_steps, min, append-nil, map, same_lists, length-map-range_with_len, get_or_default, get_or-map-range_with_len)
 
 -- Only symbols of one block lack bits, so the stream ends with the zeros with which the data end.

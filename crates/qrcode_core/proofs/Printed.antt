@@ -12,7 +12,7 @@ use Rattle.qrcode_base.specs.Symbols.{blocks}
 use Rattle.qrcode_bits.specs.Frame.{IsFrame, bytes_in_turn}
 use Rattle.qrcode_bits.specs.Spelling.{Piece, numeric_bits}
 use Rattle.qrcode_grid.specs.declared.canvas.MaskPattern.TheVariants.{Diamonds}
-use Rattle.qrcode_grid.specs.Blocks.{place, block_in, blocks_in, codeword_block, AreCodewords}
+use Rattle.qrcode_grid.specs.Blocks.{place_in_stream, block_in, blocks_in, codeword_block, AreCodewords}
 use Rattle.qrcode_grid.specs.Codes.{value_at, IsSound, double, shift_and_add, product, power}
 use Rattle.qrcode_grid.specs.Masks.{format_word, HasFunctionalColors}
 use Rattle.qrcode_grid.specs.Regions.{functional_color}
@@ -50,14 +50,14 @@ abbrev checks : List ℕ
 checks = 0x6E ∷ 0xC7 ∷ []
 
 printed_sound : (block : ℕ) → block < 1 → IsSound 2 (codeword_block 2 (3 ∷ []) words checks block)
-unfolding IsSound value_at power product shift_and_add double block_in place
+unfolding IsSound value_at power product shift_and_add double block_in place_in_stream
 printed_sound zero h zero below = refl
 printed_sound zero h (suc zero) below = refl
 printed_sound zero h (suc (suc i)) below = absurd (omega arith)
 printed_sound (suc block) h i below = absurd (omega arith)
 
 printed_codewords : AreCodewords 2 (3 ∷ []) words words checks
-unfolding blocks_in block_in place
+unfolding blocks_in block_in place_in_stream
 printed_codewords = record { stream_length = refl; correction_length = refl; in_order = refl; sound = printed_sound }
 
 abbrev digits : Piece

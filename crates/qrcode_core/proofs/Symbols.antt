@@ -11,9 +11,10 @@ use Rattle.qrcode_base.specs.declared.types.EcLevel.{EcLevel}
 use Rattle.qrcode_base.specs.declared.types.errors.QrError.{QrError}
 use Rattle.qrcode_base.specs.declared.types.errors.QrError.TheVariants.{DataTooLong, InvalidResourceLimits}
 use Rattle.qrcode_bits.specs.Push.{IsPartRefused}
+use Rattle.qrcode_bits.specs.Frame.{IsTotal}
 use Rattle.qrcode_base.specs.Symbols.{IsNormalNumber}
 use Rattle.qrcode_bits.proofs.Reading.{length-header}
-use Rattle.qrcode_core.specs.Sequence.{ReadsMessage, header_at, parts_at, IsTotal, IsPartSymbol, AreBestSymbols, IsSomePartTooLong, IsSequenceRefusal}
+use Rattle.qrcode_core.specs.Sequence.{ReadsMessage, header_at, parts_at, IsPartSymbol, AreBestSymbols, IsSomePartTooLong, IsSequenceRefusal}
 use Rattle.qrcode_core.proofs.OneMessage.{in_any_order, one_message, length-parts, parts_whole}
 
 -- The first symbols of a sequence, for as many first parts.

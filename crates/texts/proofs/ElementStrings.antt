@@ -19,7 +19,7 @@ use Rattle.qrcode_base.proofs.Validity.{none_where_valid, first_invalid-is}
 use Rattle.qrcode_bits.specs.declared.optimize.Segment.{Segment}
 use Rattle.qrcode_bits.specs.Plans.{IsMergePlan, normal, IsChosenPlan}
 use Rattle.qrcode_bits.specs.Frame.{spellings}
-use Rattle.qrcode_bits.specs.Push.{PushesOptimally, IsRefused}
+use Rattle.qrcode_bits.specs.Push.{PushesOptimally, IsPushRefused}
 use Rattle.qrcode_bits.specs.Parsing.{AreTexts, parsed}
 use Rattle.qrcode_bits.specs.Spelling.{segment_piece, segment_pieces, Piece, character_count, spelling}
 use Rattle.qrcode_bits.specs.Stream.{Stream, Appends}
@@ -96,7 +96,7 @@ module _ (old : Stream) (level : EcLevel) (number : ℕ) (text : List ℕ) (is :
       ∙ length-append (number_bits 4 5) (spellings (normal number) (done ++ (next ∷ rest))) in
       omega (arith, long, longer (normal number) done rest next, piece_too_long number level next limit valid limit_is wide)
 
-  stopped : (new : Stream) (error : QrError) → new.version ≡ normal number → IsRefused new next error →
+  stopped : (new : Stream) (error : QrError) → new.version ≡ normal number → IsPushRefused new next error →
       IsRefusedIn (SaysElements text) (normal number) level error
   stopped new UnsupportedCharacterSet now refused = absurd (refused (subst (λ (v : Version). HasMode v next.mode) (sym now) (normal_modes number next.mode)))
   stopped new (InvalidCharacter position byte) now refused =

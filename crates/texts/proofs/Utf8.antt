@@ -12,7 +12,7 @@ use Rattle.qrcode_base.specs.Modes.{HasMode, count_width}
 use Rattle.qrcode_base.proofs.Fields.{count-fits}
 use Rattle.qrcode_base.proofs.Validity.{none_where_valid, first_invalid-is}
 use Rattle.qrcode_bits.specs.Stream.{eci_spelling, Stream, Appends}
-use Rattle.qrcode_bits.specs.Push.{IsRefused, Spells, piece}
+use Rattle.qrcode_bits.specs.Push.{IsPushRefused, Spells, piece}
 use Rattle.qrcode_bits.specs.Spelling.{character_count, spelling}
 use Rattle.qrcode_bits.proofs.Choices.{capacity-most}
 use Rattle.qrcode_bits.proofs.Pairs.{bytes_valid}
@@ -43,7 +43,7 @@ text_too_long version level text are wide bits limit said limit_is =
 
 -- Why the push of the text is refused.
 pub text_refused : (old : Stream) (level : EcLevel) (number : ℕ) (text : List ℕ) (error : QrError) → old.version ≡ normal number →
-    All (λ c. c < 256) text → IsRefused old (piece Byte text) error → IsRefusedIn (SaysUtf8 text) (normal number) level error
+    All (λ c. c < 256) text → IsPushRefused old (piece Byte text) error → IsRefusedIn (SaysUtf8 text) (normal number) level error
 text_refused old level number text UnsupportedCharacterSet is are refused =
     absurd (refused (subst (λ (v : Version). HasMode v Byte) (sym is) byte_mode))
   where

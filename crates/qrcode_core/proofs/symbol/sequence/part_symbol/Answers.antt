@@ -3,7 +3,7 @@ use Rattle.std.proofs.Common.{ap, rules, arith, nat_abs}
 use Rattle.std.proofs.lemmas.Result.{IfOk-weaker}
 use mir.Syntax.{w16}
 use Rattle.std.proofs.lemmas.Int.{to_z-of_z}
-use Rattle.qrcode_bits.specs.Push.{IsPlace}
+use Rattle.qrcode_bits.specs.Frame.{IsPlace}
 use Rattle.qrcode_bits.proofs.Pairs.{bytes_valid}
 use Rattle.qrcode_core.proofs.Limited.{few_versions}
 use Rattle.qrcode_core.proofs.StreamEncoding.{best_of_stream, fills_symbol, encoded_short, only_memory}

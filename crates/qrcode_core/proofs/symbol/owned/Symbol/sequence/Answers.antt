@@ -7,7 +7,7 @@ use Rattle.std.proofs.lemmas.Int.{to_z-of_z}
 use Rattle.std.proofs.lemmas.List.{map-append}
 use Rattle.qrcode_bits.proofs.Classes.{limit_of}
 use Rattle.qrcode_core.specs.Drawn.{TellsReading, modules_of}
-use Rattle.qrcode_core.specs.Sequence.{IsTotal}
+use Rattle.qrcode_bits.specs.Frame.{IsTotal}
 use Rattle.qrcode_core.proofs.Symbols.{one_more, best_symbols, none_too_long, refused_part}
 use Rattle.qrcode_core.proofs.symbol.owned.Symbol.sequence.Goals as goal
 
