@@ -1,5 +1,6 @@
 -- What the symbol of some bytes at a level is: the smallest and best one, read in one way (ISO/IEC 18004, encode
--- procedure). First the promise, then the words in which it is told: what a reader finds in a grid, and distance.
+-- procedure). The promise is `IsBest`, near the end, since a definition stands behind those that it names: before it
+-- come what a reader finds in a grid, and distance.
 use Rattle.std.specs.Prelude.{◌≡◌, ℕ, ◌*◌, Bool, List, ◌++◌, length, map, Option, Some, ◌≢◌, pos, ◌<◌, ◌≤◌, None, ◌==◌}
 use Rattle.std.specs.Prelude.{if◌then◌else◌, codes}
 use Rattle.qrcode_base.specs.declared.symbols.BlockLayout.{BlockLayout}
@@ -24,60 +25,6 @@ use Rattle.qrcode_bits.specs.Plans.{normal, micro, Fits, FitsNot, FitsNone, IsLe
 use Rattle.qrcode_grid.specs.Penalty.{IsFirstLeastMask}
 use Rattle.qrcode_base.specs.declared.types.Color.TheVariants.{Light, Dark}
 use Rattle.qrcode_grid.specs.declared.canvas.MaskPattern.TheVariants.{Diamonds}
-
--- ---- The best symbol
-
--- The best symbol of some bytes at a level, with or without the header of a sequence, among the versions of one kind,
--- which are told by their numbers.
---
--- It is read as the bytes at the level, and as nothing else: whatever a reader finds in it (bytes, version, level,
--- mask, header, payload bits) is this. Its functional modules have their colours. Some plan of the bytes fits its
--- version, and none a smaller one. The payload bits are the fewest of all plans there. The mask is the first under
--- which the grid's sibling has the least penalty. In each block different contents differ in more codewords than the
--- block has correction codewords.
-pub record IsBest (kind : ℕ → Version) (header : Option Header) (bytes : List ℕ) (level : EcLevel)
-    (grid : List Color) : Type 0 where
-  pub number : ℕ
-  pub mask : MaskPattern
-  pub payload : ℕ
-  pub plan : List Segment
-  pub reading : Reading
-  pub says : reading ≡ reading_of bytes (kind number) level mask header payload
-  pub reads : Reads grid reading
-  pub only : (other : Reading) → Reads grid other → other ≡ reading
-  pub functional : HasFunctionalColors (kind number) level mask grid
-  pub fits : Fits (length (header_bits header)) bytes (kind number) level plan
-  pub smallest : (smaller : ℕ) → smaller < number → FitsNot (length (header_bits header)) bytes (kind smaller) level
-  pub fewest : IsLeastBits (length (header_bits header)) bytes (kind number) payload
-  pub best_mask : IsFirstLeastMask (kind number) level mask grid
-  pub apart : HasBlocksApart grid reading reads
-  pub far : IsFarFromOthers grid reading reads
-
-abbrev pub IsBestSymbol : List ℕ → EcLevel → List Color → Type 0
-IsBestSymbol bytes level grid = IsBest normal None bytes level grid
-
-abbrev pub IsBestMicroSymbol : List ℕ → EcLevel → List Color → Type 0
-IsBestMicroSymbol bytes level grid = IsBest micro None bytes level grid
-
--- as many modules as the square of a width
-abbrev pub IsSquare : List Color → Type 0
-IsSquare grid = (width : ℕ) × (length grid ≡ width * width)
-
--- ---- Refusals
-
--- No plan fits the greatest version.
-abbrev pub IsTooLong : List ℕ → EcLevel → Type 0
-IsTooLong bytes level = FitsNot 0 bytes (normal 40) level
-
--- No plan fits any Micro version.
-abbrev pub IsTooLongForMicro : List ℕ → EcLevel → Type 0
-IsTooLongForMicro bytes level = FitsNone micro 0 bytes level 4
-
--- Which refusal comes when. More than 7089 bytes want no memory.
-abbrev pub IsRefusal : List ℕ → EcLevel → QrError → Type 0
-IsRefusal bytes level DataTooLong = IsTooLong bytes level
-IsRefusal bytes level OutOfMemory = length bytes ≤ 7089
-IsRefusal bytes level other = ⊥
 
 -- ---- What a grid of colours says: the reader of a symbol, as a relation (ISO/IEC 18004, reference decode algorithm,
 -- without the correction of errors). Nothing here writes a symbol.
@@ -173,6 +120,60 @@ IsFarFromOthers grid r f =
 -- So are any two grids.
 abbrev pub HaveDistance : Type 0
 HaveDistance = (grid : List Color) (r : Reading) (f : Reads grid r) → IsFarFromOthers grid r f
+
+-- ---- The best symbol
+
+-- The best symbol of some bytes at a level, with or without the header of a sequence, among the versions of one kind,
+-- which are told by their numbers.
+--
+-- It is read as the bytes at the level, and as nothing else: whatever a reader finds in it (bytes, version, level,
+-- mask, header, payload bits) is this. Its functional modules have their colours. Some plan of the bytes fits its
+-- version, and none a smaller one. The payload bits are the fewest of all plans there. The mask is the first under
+-- which the grid's sibling has the least penalty. In each block different contents differ in more codewords than the
+-- block has correction codewords.
+pub record IsBest (kind : ℕ → Version) (header : Option Header) (bytes : List ℕ) (level : EcLevel)
+    (grid : List Color) : Type 0 where
+  pub number : ℕ
+  pub mask : MaskPattern
+  pub payload : ℕ
+  pub plan : List Segment
+  pub reading : Reading
+  pub says : reading ≡ reading_of bytes (kind number) level mask header payload
+  pub reads : Reads grid reading
+  pub only : (other : Reading) → Reads grid other → other ≡ reading
+  pub functional : HasFunctionalColors (kind number) level mask grid
+  pub fits : Fits (length (header_bits header)) bytes (kind number) level plan
+  pub smallest : (smaller : ℕ) → smaller < number → FitsNot (length (header_bits header)) bytes (kind smaller) level
+  pub fewest : IsLeastBits (length (header_bits header)) bytes (kind number) payload
+  pub best_mask : IsFirstLeastMask (kind number) level mask grid
+  pub apart : HasBlocksApart grid reading reads
+  pub far : IsFarFromOthers grid reading reads
+
+abbrev pub IsBestSymbol : List ℕ → EcLevel → List Color → Type 0
+IsBestSymbol bytes level grid = IsBest normal None bytes level grid
+
+abbrev pub IsBestMicroSymbol : List ℕ → EcLevel → List Color → Type 0
+IsBestMicroSymbol bytes level grid = IsBest micro None bytes level grid
+
+-- as many modules as the square of a width
+abbrev pub IsSquare : List Color → Type 0
+IsSquare grid = (width : ℕ) × (length grid ≡ width * width)
+
+-- ---- Refusals
+
+-- No plan fits the greatest version.
+abbrev pub IsTooLong : List ℕ → EcLevel → Type 0
+IsTooLong bytes level = FitsNot 0 bytes (normal 40) level
+
+-- No plan fits any Micro version.
+abbrev pub IsTooLongForMicro : List ℕ → EcLevel → Type 0
+IsTooLongForMicro bytes level = FitsNone micro 0 bytes level 4
+
+-- Which refusal comes when. More than 7089 bytes want no memory.
+abbrev pub IsRefusal : List ℕ → EcLevel → QrError → Type 0
+IsRefusal bytes level DataTooLong = IsTooLong bytes level
+IsRefusal bytes level OutOfMemory = length bytes ≤ 7089
+IsRefusal bytes level other = ⊥
 
 -- ---- A printed symbol: the digits 12345 in M1 at level L, under the mask Diamonds.
 
