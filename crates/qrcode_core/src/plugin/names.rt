@@ -30,10 +30,7 @@ impl<'a, V> Iterator for Names<'a, V> {
     ghost remaining = { item_count names_left };
 
     fn next(&mut self) -> Option<&'a str> {
-        match self.keys.next() {
-            Some(key) => Some(key.as_str()),
-            None => None,
-        }
+        Some(self.keys.next()?.as_str())
     }
 }
 

@@ -26,15 +26,9 @@ impl PluginRegistry {
             encoders,
             postprocessors,
         } = plugin;
-        if let Err(e) = self.put_version(name, version) {
-            return Err(e);
-        }
-        if let Err(e) = self.put_renderers(renderers) {
-            return Err(e);
-        }
-        if let Err(e) = self.put_encoders(encoders) {
-            return Err(e);
-        }
+        self.put_version(name, version)?;
+        self.put_renderers(renderers)?;
+        self.put_encoders(encoders)?;
         self.put_postprocessors(postprocessors)
     }
 
@@ -126,10 +120,7 @@ impl PluginRegistry {
             result (registered self.new) }
     {
         for (name, renderer) in all {
-            match self.put_renderer(name, renderer) {
-                Ok(()) => {}
-                Err(e) => return Err(e),
-            }
+            self.put_renderer(name, renderer)?;
         }
         Ok(())
     }
@@ -172,10 +163,7 @@ impl PluginRegistry {
             result (registered self.new) }
     {
         for (name, encoder) in all {
-            match self.put_encoder(name, encoder) {
-                Ok(()) => {}
-                Err(e) => return Err(e),
-            }
+            self.put_encoder(name, encoder)?;
         }
         Ok(())
     }
@@ -196,10 +184,7 @@ impl PluginRegistry {
             result (registered self.new) }
     {
         for postprocessor in all {
-            match self.put_postprocessor(postprocessor) {
-                Ok(()) => {}
-                Err(e) => return Err(e),
-            }
+            self.put_postprocessor(postprocessor)?;
         }
         Ok(())
     }

@@ -71,10 +71,7 @@ impl PluginRegistry {
     pub fn renderer(&self, name: &str) -> Option<&dyn DynRenderer>
         ensures { option_copied result ≡ object_at (registered self.now).renderers name.now }
     {
-        match self.renderers.get(name) {
-            Some(renderer) => Some(lend_renderer(renderer)),
-            None => None,
-        }
+        Some(lend_renderer(self.renderers.get(name)?))
     }
 
     /// The renderer of this name, if it accepts the configuration. `RendererNotFound` if there is none, else what its
@@ -115,10 +112,7 @@ impl PluginRegistry {
     pub fn encoder(&self, name: &str) -> Option<&dyn DynEncoder>
         ensures { option_copied result ≡ object_at (registered self.now).encoders name.now }
     {
-        match self.encoders.get(name) {
-            Some(encoder) => Some(lend_encoder(encoder)),
-            None => None,
-        }
+        Some(lend_encoder(self.encoders.get(name)?))
     }
 
     /// The encoder of this name, whatever the configuration. `EncoderNotFound` if there is none, or `OutOfMemory`

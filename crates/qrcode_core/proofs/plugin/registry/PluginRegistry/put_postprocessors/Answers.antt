@@ -1,8 +1,10 @@
+use Rattle.std.proofs.lemmas.Result.{err_from_is_err_and}
 use Rattle.qrcode_core.specs.Registries.{postprocessor_of}
 use Rattle.qrcode_core.proofs.RegistrationLemmas.{registers_refused}
 use Rattle.qrcode_core.proofs.plugin.registry.PluginRegistry.put_postprocessors.Goals as goal
 
-pub returns-in-Err : goal.returns-in-Err
-returns-in-Err g c =
-    registers_refused postprocessor_of _ _ _ _ _ _ _ _ _ c.loop-postprocessor.invariant.1 c.in-Some.ensures.steps.0
-    c.loop-postprocessor.invariant.0 c.in-Err.ensures
+pub returns-in_err-put_postprocessor : goal.returns-in_err-put_postprocessor
+returns-in_err-put_postprocessor g c =
+    let p = err_from_is_err_and c.from_residual.result c.from_residual.ensures.1 in
+    rw (p.1, p.2) (registers_refused postprocessor_of _ _ _ _ _ _ _ _ _ c.loop-postprocessor.invariant.1 c.in-Some.ensures.steps.0
+    c.loop-postprocessor.invariant.0 c.in_err-put_postprocessor.ensures)

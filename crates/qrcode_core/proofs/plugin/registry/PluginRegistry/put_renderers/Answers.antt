@@ -1,7 +1,10 @@
+use Rattle.std.proofs.lemmas.Result.{err_from_is_err_and}
 use Rattle.qrcode_core.specs.Registries.{named_renderer}
 use Rattle.qrcode_core.proofs.RegistrationLemmas.{registers_refused}
 use Rattle.qrcode_core.proofs.plugin.registry.PluginRegistry.put_renderers.Goals as goal
 
-pub returns-in-Err : goal.returns-in-Err
-returns-in-Err g c =
-    registers_refused named_renderer _ _ _ _ _ _ _ _ _ c.loop-name.invariant.1 c.in-Some.ensures.steps.0 c.loop-name.invariant.0 c.in-Err.ensures
+pub returns-in_err-put_renderer : goal.returns-in_err-put_renderer
+returns-in_err-put_renderer g c =
+    let p = err_from_is_err_and c.from_residual.result c.from_residual.ensures.1 in
+    rw (p.1, p.2) (registers_refused named_renderer _ _ _ _ _ _ _ _ _ c.loop-name.invariant.1 c.in-Some.ensures.steps.0
+    c.loop-name.invariant.0 c.in_err-put_renderer.ensures)
