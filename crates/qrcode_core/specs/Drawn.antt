@@ -44,7 +44,7 @@ TellsReading symbol =
 -- The symbol of some data bits, in a version and at a level: its modules carry the bits, and nothing else. Its mask is
 -- the first under which the grid's sibling has the least penalty. In each block different contents differ in more
 -- codewords than the block has correction codewords.
-pub record IsSymbolOf (bits : List Bool) (version : Version) (level : EcLevel)
+pub record IsSymbolOfBits (bits : List Bool) (version : Version) (level : EcLevel)
     (symbol : DrawnSymbol) : Type 0 where
   pub version_is : symbol.version ≡ version
   pub level_is : symbol.level ≡ level
@@ -59,7 +59,7 @@ pub record HoldsStream (stream : Stream) (level : EcLevel) (symbol : DrawnSymbol
   pub limit : ℕ
   pub limit_is : capacity stream.version level ≡ Some limit
   pub fits : length stream.bits ≤ limit
-  pub holds : IsSymbolOf (stream.bits ++ tail stream.version limit (length stream.bits)) stream.version level symbol
+  pub holds : IsSymbolOfBits (stream.bits ++ tail stream.version limit (length stream.bits)) stream.version level symbol
 
 -- Which refusal comes when. Of a want of memory nothing more is said than that nothing else was due.
 abbrev pub IsStreamRefusal : Stream → EcLevel → QrError → Type 0

@@ -14,7 +14,7 @@ use Rattle.qrcode_bits.specs.Stream.{eci_spelling}
 use Rattle.qrcode_bits.specs.Parsing.{parsed}
 use Rattle.qrcode_bits.specs.Spelling.{segment_pieces, spelling}
 use Rattle.qrcode_bits.specs.Push.{piece}
-use Rattle.qrcode_core.specs.Drawn.{DrawnSymbol, IsSymbolOf}
+use Rattle.qrcode_core.specs.Drawn.{DrawnSymbol, IsSymbolOfBits}
 
 -- a text in UTF-8: the ECI designator 26, and one Byte segment (ISO/IEC 18004, "ECI mode")
 abbrev pub SaysUtf8 : List ℕ → Version → List Bool → Type 0
@@ -33,7 +33,7 @@ pub record HoldsIn (says : Version → List Bool → Type 0) (version : Version)
   pub said : says version bits
   pub limit_is : capacity version level ≡ Some limit
   pub fits : length bits ≤ limit
-  pub holds : IsSymbolOf (bits ++ tail version limit (length bits)) version level symbol
+  pub holds : IsSymbolOfBits (bits ++ tail version limit (length bits)) version level symbol
 
 -- what says so in this version is past its capacity
 abbrev pub IsTooLongIn : (Version → List Bool → Type 0) → Version → EcLevel → Type 0
