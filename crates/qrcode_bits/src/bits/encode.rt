@@ -1,5 +1,5 @@
 //! The choice of the version: the smallest in which some way to merge the parsed segments of the data fits (ISO/IEC
-//! 18004, "Data analysis"), in a symbol that is part of a sequence behind the 20 bits of its header ("Structured
+//! 18004, "Data analysis"), in a symbol of a sequence behind the 20 bits of its header ("Structured
 //! Append").
 //!
 //! Normal versions fall into three classes, 1 to 9, 10 to 26 and 27 to 40. In a class a plan takes the same bits in
@@ -29,7 +29,7 @@ use qrcode_base::types::{EcLevel, QrError, QrResult, Version};
 use std::alloc::Global;
 use std::marker::Model;
 
-/// The header of a symbol that is part of a sequence.
+/// The header of a symbol of a sequence.
 #[derive(Drop)]
 struct SequenceHeader {
     position: u8,
@@ -80,7 +80,7 @@ pub fn encode_auto_with_max_version(
 }
 
 /// The bits of one symbol of a sequence (ISO/IEC 18004, "Structured Append"): the header of 20 bits with the symbol's
-/// place from 1 on, how many symbols there are, and the exclusive or of all bytes of the message; behind it its part of
+/// place from 1 on, how many symbols there are, and the exclusive or of all bytes of the message; behind it its share of
 /// the data, up to terminator and padding.
 ///
 /// The version is the smallest up to `max_version` in which the header and some plan fit, and the plan takes the fewest
