@@ -159,7 +159,8 @@ module _ (bytes : List ℕ) (begin end number : ℕ) (mode : Mode) (within : beg
   pub ends_here : (end < length bytes → class_number (class_of (get_or bytes end 0)) ≡ number → ⊥) → Ends
   ends_here apart = rw (← same) (alone_stops bytes begin within end number is run apart)
 
-pub mode_of_number : (b number : ℕ) (mode : Mode) → number ≡ class_number (class_of b) → class_mode (class_numbered number) ≡ mode → class_mode (class_of b) ≡ mode
+pub mode_of_number : (b number : ℕ) (mode : Mode) → number ≡ class_number (class_of b) → class_mode (class_numbered number) ≡ mode →
+    class_mode (class_of b) ≡ mode
 mode_of_number b number mode is h = grind (arith, numbered-is)
 
 pub other_number : (b number : ℕ) → number ≡ class_number (class_of b) → (number ≡ 0 → ⊥) → (number ≡ 1 → ⊥) → (number ≡ 3 → ⊥) →

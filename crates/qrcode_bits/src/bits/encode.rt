@@ -78,8 +78,8 @@ pub fn encode_auto_with_max_version(
 }
 
 /// The bits of one symbol of a sequence (ISO/IEC 18004, "Structured Append"): the header of 20 bits with the symbol's
-/// place from 1 on, how many symbols there are, and the exclusive or of all bytes of the message; behind it its share of
-/// the data, up to terminator and padding.
+/// place from 1 on, how many symbols there are, and the exclusive or of all bytes of the message; behind it its share
+/// of the data, up to terminator and padding.
 ///
 /// The version is the smallest up to `max_version` in which the header and some plan fit, and the plan takes the fewest
 /// bits there. The payload counts the header. The refusals are `InvalidResourceLimits` where the maximum is outside 1
