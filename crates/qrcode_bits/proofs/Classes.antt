@@ -1,9 +1,8 @@
 -- A chosen plan decides for its version, and that of the last version of a class for the class.
-use Rattle.std.proofs.Common.{◌≡◌, ℕ, zero, suc, ℤ, false, pos, ◌+◌, ◌-◌, ◌*◌, ◌^◌, ◌<◌, ◌≤◌, List, [], ◌∷◌, length, sym, ap, subst, arith, inl, inr, drop}
-use Rattle.std.proofs.Common.{get_or, Result, Ok, Err, drop-cons}
-use Rattle.std.specs.Prelude.{All, Option, Some, nat_abs, MatchOption}
+use Rattle.std.proofs.Common.{◌≡◌, ℕ, zero, suc, ℤ, false, pos, ◌+◌, ◌-◌, ◌*◌, ◌^◌, ◌<◌, ◌≤◌, List, [], ◌∷◌, length, sym, ap, subst, arith, inl, inr}
+use Rattle.std.proofs.Common.{Result, Ok, Err}
+use Rattle.std.specs.Prelude.{All, Option, Some, nat_abs, MatchOption, min, ◌⊎◌}
 use Rattle.std.proofs.lemmas.Bool.{cases_lt}
-use Rattle.std.proofs.lemmas.List.{drop_all}
 use Rattle.qrcode_base.specs.declared.types.Version.{Version}
 use Rattle.qrcode_base.specs.declared.types.EcLevel.{EcLevel}
 use Rattle.qrcode_base.specs.declared.types.Mode.{Mode}
@@ -18,7 +17,7 @@ use lib.Signed.{lt_z}
 use Rattle.qrcode_bits.specs.declared.optimize.Segment.{Segment}
 use Rattle.qrcode_bits.specs.Parsing.{parsed, AreTexts}
 use Rattle.qrcode_bits.specs.Plans.{HasLinearCosts, IsChosenPlan, total_bits, IsMergePlan, Fits, FitsNot, FitsNone, normal, IsLeastHolding, IsMinVersion}
-use Rattle.qrcode_bits.specs.Plans.{IsClass, ClassesUpTo}
+use Rattle.qrcode_bits.specs.Plans.{IsClass}
 use Rattle.qrcode_bits.specs.Frame.{Header, IsPlace, header_bits}
 use Rattle.qrcode_bits.specs.Stream.{Stream}
 use Rattle.qrcode_bits.specs.Push.{IsPlanStream, IsEncoding, IsUnencodable, IsEncodingRefused, IsPartRefused}
@@ -152,20 +151,17 @@ module _ (header : Option Header) (message : List ℕ) (l : EcLevel) (last : ℕ
         stream_is = subst (λ (v : Version). IsPlanStream header message v l plan stream) m.1 s;
       }
 
--- ---- The last versions of the classes
+-- ---- The class behind a version
 
--- the last version that comes next
-pub classes_here : (before limit : ℕ) (xs : List ℕ) (i : ℕ) → i < length xs → ClassesUpTo before (drop i xs) limit →
-    ClassesUpTo before (get_or xs i 0 ∷ drop (i + 1) xs) limit
-classes_here before limit xs i h w = grind (arith, drop-cons)
+-- the last version of the class
+abbrev pub IsClassEnd : ℕ → ℕ → Type 0
+IsClassEnd before end = ((before < 9) × (end ≡ 9)) ⊎ (((9 ≤ before) × (before < 26) × (end ≡ 26)) ⊎ ((26 ≤ before) × (end ≡ 40)))
 
--- no class is left
-pub classes_end : (before limit : ℕ) (xs : List ℕ) (i : ℕ) → length xs ≤ i → ClassesUpTo before (drop i xs) limit → limit ≤ before
-classes_end before limit xs i h w = subst (λ (z : List ℕ). ClassesUpTo before z limit) (drop_all i xs h) w
-
--- What is known before a last version of a class, in the words of the loop.
-abbrev pub IsSearched : ℕ → List ℕ → EcLevel → ℕ → List ℕ → Type 0
-IsSearched front message l limit left = (before : ℕ) × ClassesUpTo before left limit × FitsNone normal front message l before
+pub class_behind : (before limit end : ℕ) → before < limit → IsClassEnd before end → limit ≤ 40 →
+    IsClass before (min limit end) × (before < min limit end)
+class_behind before limit end some (inl h) most = (λ n from to. inl (omega arith, omega arith), omega arith)
+class_behind before limit end some (inr (inl h)) most = (λ n from to. inr (inl (omega arith, omega arith, omega arith, omega arith)), omega arith)
+class_behind before limit end some (inr (inr h)) most = (λ n from to. inr (inr (omega arith, omega arith)), omega arith)
 
 -- ---- Refusals
 

@@ -6,10 +6,12 @@ use Rattle.std.proofs.Math.Seq.{drop-cons}
 use Rattle.std.proofs.lemmas.Bool.{cases_lt}
 use Rattle.std.proofs.lemmas.List.{drop_all}
 use Rattle.std.proofs.lemmas.List.FromFn.{get_or-map-range_with_len}
+use Rattle.qrcode_base.specs.declared.types.Mode.{Mode}
+use Rattle.qrcode_base.specs.declared.types.Mode.TheVariants.{Byte}
 use Rattle.qrcode_base.specs.Characters.{is_alphanumeric, is_kanji_pair}
 use Rattle.qrcode_bits.specs.declared.optimize.parser.TheConstants.{CLASSES}
-use Rattle.qrcode_bits.specs.declared.optimize.parser.Class.{Class}
-use Rattle.qrcode_bits.specs.declared.optimize.parser.Class.TheVariants.{Pair, LoneLead}
+use Rattle.qrcode_bits.specs.Parsing.{Class}
+use Rattle.qrcode_bits.specs.Parsing.{Pair, LoneLead}
 use Rattle.qrcode_bits.specs.Parsing.{class_number, class_numbered, class_of, class_size, units, joins, parsed_from, class_mode}
 use Rattle.qrcode_bits.proofs.Adjoining.{class_of-one}
 use Rattle.qrcode_bits.proofs.Runs.{IsRun, Run-first, Run-more, Run-apart}
@@ -146,6 +148,24 @@ pairs_stop bytes begin end run alone = run_stops bytes Pair begin end run (λ w.
   joins-apart Pair (class_of (get_or bytes end 0)) (λ same. not_pair (get_or bytes end 0) (sym same)),
   alone w ∙ ap (λ (n : ℕ). class_of (get_or bytes end 0) ∷ units (drop (end + n) bytes)) (sym (class_of-one (get_or bytes end 0))),
 ))
+
+-- a run of a class that is not that of pairs, in the words of the loop
+module _ (bytes : List ℕ) (begin end number : ℕ) (mode : Mode) (within : begin < length bytes)
+    (is : number ≡ class_number (class_of (get_or bytes begin 0))) (run : IsRun bytes (class_of (get_or bytes begin 0)) begin end)
+    (same : class_mode (class_of (get_or bytes begin 0)) ≡ mode) where
+  abbrev Ends : Type 0
+  Ends = parsed_from begin (drop begin bytes) ≡ record { mode = mode; begin = begin; end = end } ∷ parsed_from end (drop end bytes)
+
+  pub ends_here : (end < length bytes → class_number (class_of (get_or bytes end 0)) ≡ number → ⊥) → Ends
+  ends_here apart = rw (← same) (alone_stops bytes begin within end number is run apart)
+
+pub mode_of_number : (b number : ℕ) (mode : Mode) → number ≡ class_number (class_of b) → class_mode (class_numbered number) ≡ mode →
+    class_mode (class_of b) ≡ mode
+mode_of_number b number mode is h = grind (arith, numbered-is)
+
+pub other_number : (b number : ℕ) → number ≡ class_number (class_of b) → (number ≡ 0 → ⊥) → (number ≡ 1 → ⊥) → (number ≡ 3 → ⊥) →
+    class_mode (class_of b) ≡ Byte
+other_number b number is h k l = grind (arith, not_pair)
 
 pub ruleset alone_segments = (alone_first, alone_more, alone_stops, numbered-is)
 

@@ -10,8 +10,8 @@ use Rattle.qrcode_base.specs.Characters.{is_kanji_pair, IsKanjiText, IsValid}
 use Rattle.qrcode_base.proofs.Joins.{join-upper, join-upper_second}
 use Rattle.qrcode_base.proofs.Alphabet.{is_alphanumeric-inside}
 use Rattle.qrcode_bits.specs.declared.optimize.Segment.{Segment}
-use Rattle.qrcode_bits.specs.declared.optimize.parser.Class.{Class}
-use Rattle.qrcode_bits.specs.declared.optimize.parser.Class.TheVariants.{Pair}
+use Rattle.qrcode_bits.specs.Parsing.{Class}
+use Rattle.qrcode_bits.specs.Parsing.{Pair}
 use Rattle.qrcode_bits.specs.Parsing.{Run, class_of, class_mode, class_size, joins, add_unit, runs, units, run_segment, parsed, AreTexts}
 use Rattle.qrcode_bits.specs.Plans.{merged, joined, AreNonEmpty, merged_pieces, IsMergePlan}
 use Rattle.qrcode_bits.specs.Spelling.{segment_pieces, LiesIn}

@@ -1,4 +1,7 @@
 //! The bits of characters: ISO/IEC 18004, "Numeric mode", "Alphanumeric mode", "Byte mode" and "Kanji mode".
+//!
+//! `push_text` calls `push_digits`, `push_letters`, `push_bytes` or `push_kanji` behind the header of a segment, once
+//! there is room for all of its characters.
 
 ghost use Rattle.std.specs.Prelude.{◌≡◌, ◌+◌, ◌*◌, ◌%◌, ◌^◌, ◌<◌, ◌≤◌, ◌∷◌, slice_index_or, length, All, Contains};
 ghost use Rattle.qrcode_base.specs.Characters.{IsDigit, digit as digit_of, alphabet};
@@ -91,7 +94,7 @@ impl Bits {
     {
         let start = self.bytes.len();
         let _ = self.bytes.extend_from_slice(text);
-        self.partial = place_shifted(&mut self.bytes[start..], text, self.used, self.partial);
+        self.partial = write_shifted(&mut self.bytes[start..], text, self.used, self.partial);
     }
 
     /// Writes double-byte characters, for which there is room.
@@ -118,11 +121,11 @@ fn shifted(before: u8, byte: u8, used: usize) -> u8
 }
 
 /// Writes bytes behind so many bits, each shifted by these, and answers the bits that are left.
-fn place_shifted(into: &mut [u8], text: &[u8], used: usize, partial: u8) -> u8
+fn write_shifted(into: &mut [u8], text: &[u8], used: usize, partial: u8) -> u8
     requires same { length into.old ≡ length text.now }
     requires part { used < 8 }
     requires small { partial < 2 ^ used }
-    ensures placed { AreShifted used partial text.now into.new }
+    ensures written { AreShifted used partial text.now into.new }
     ensures left { result ≡ slice_index_or (partial ∷ text.now) (length text.now) 0 % 2 ^ used }
 {
     let Some(last) = text.last() else {
@@ -177,7 +180,7 @@ fn alphanumeric_value(c: u8) -> u64
     ensures small { result < 45 }
 {
     match alphanumeric_place(c) {
-        Some(place) => place as u64,
+        Some(value) => value as u64,
         None => 0,
     }
 }

@@ -1,5 +1,5 @@
 //! The choice of the version: the smallest in which some way to merge the parsed segments of the data fits (ISO/IEC
-//! 18004, "Data analysis"), in a symbol that is part of a sequence behind the 20 bits of its header ("Structured
+//! 18004, "Data analysis"), in a symbol of a sequence behind the 20 bits of its header ("Structured
 //! Append").
 //!
 //! Normal versions fall into three classes, 1 to 9, 10 to 26 and 27 to 40. In a class a plan takes the same bits in
@@ -13,7 +13,6 @@ ghost use Rattle.qrcode_base.specs.Modes.{HasMode, indicator_width, count_width}
 ghost use Rattle.qrcode_base.specs.Symbols.{HasMicroNumber};
 ghost use Rattle.qrcode_bits.specs.Parsing.{parsed};
 ghost use Rattle.qrcode_bits.specs.Plans.{IsChosenPlan, Fits, FitsNot, FitsNone, normal, micro, IsMinVersion, IsClass};
-ghost use Rattle.qrcode_bits.specs.Plans.{ClassesUpTo};
 ghost use Rattle.qrcode_bits.specs.Buckets.{no_modes};
 ghost use Rattle.qrcode_bits.specs.Push.{IsPlanStream, IsEncoding, IsUnencodable, IsEncodingRefused};
 ghost use Rattle.qrcode_base.specs.Symbols.{IsNormalNumber};
@@ -23,13 +22,12 @@ ghost use Rattle.qrcode_bits.specs.Frame.{HasHeader, header_bits, header};
 use super::headers::{check_place, has_mode};
 use super::{Bits, data_capacity_bits};
 use crate::optimize::{Parser, Segment, optimize_segments, total_encoded_len};
-use arrayvec::ArrayVec;
 use qrcode_base::symbols::LONGEST_DATA;
 use qrcode_base::types::{EcLevel, QrError, QrResult, Version};
 use std::alloc::Global;
 use std::marker::Model;
 
-/// The header of a symbol that is part of a sequence.
+/// The header of a symbol of a sequence.
 #[derive(Drop)]
 struct SequenceHeader {
     position: u8,
@@ -80,8 +78,8 @@ pub fn encode_auto_with_max_version(
 }
 
 /// The bits of one symbol of a sequence (ISO/IEC 18004, "Structured Append"): the header of 20 bits with the symbol's
-/// place from 1 on, how many symbols there are, and the exclusive or of all bytes of the message; behind it its part of
-/// the data, up to terminator and padding.
+/// place from 1 on, how many symbols there are, and the exclusive or of all bytes of the message; behind it its share
+/// of the data, up to terminator and padding.
 ///
 /// The version is the smallest up to `max_version` in which the header and some plan fit, and the plan takes the fewest
 /// bits there. The payload counts the header. The refusals are `InvalidResourceLimits` where the maximum is outside 1
@@ -197,11 +195,20 @@ fn encode_up_to(
         return Err(QrError::DataTooLong);
     }
     let segments = parse(alloc, bytes)?;
-    let candidates = last_versions(limit);
-    for last in candidates.as_slice() {
-        if let Some(bits) = encode_class(alloc, header, bytes, &segments, level, *last)? {
+    let mut before = 0;
+    while before < limit {
+        let class_end = if before < 9 {
+            9
+        } else if before < 26 {
+            26
+        } else {
+            40
+        };
+        let last = limit.min(class_end);
+        if let Some(bits) = encode_class(alloc, header, bytes, &segments, level, last)? {
             return Ok(bits);
         }
+        before = last;
     }
     Err(QrError::DataTooLong)
 }
@@ -216,23 +223,6 @@ fn parse(alloc: Global, bytes: &[u8]) -> QrResult<Vec<Segment>>
         segments.push(segment)?;
     }
     Ok(segments)
-}
-
-/// The last version of each class of versions up to a limit. In a class a plan takes the same bits in each version,
-/// since the character counts have the same widths.
-fn last_versions(limit: usize) -> ArrayVec<usize, 3>
-    requires { 1 ≤ limit }
-    ensures { ClassesUpTo 0 result.items limit }
-{
-    let mut candidates = ArrayVec::new();
-    if limit > 9 {
-        candidates.push(9);
-    }
-    if limit > 26 {
-        candidates.push(26);
-    }
-    candidates.push(limit);
-    candidates
 }
 
 /// The bits of a header or none and of the chosen plan of the last version of a class, where both fit, in the least

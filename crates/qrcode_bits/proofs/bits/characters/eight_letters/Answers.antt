@@ -29,9 +29,12 @@ returns-clause-bits c =
     let rest = c.split_at-2.result.1.now in
     let high = pairs_join (a ++ b) a b 11 11 c.two_letters.result c.two_letters-2.result refl (omega (arith, c.split_at.ensures.front_len))
     c.two_letters-2.ensures.small c.two_letters.ensures.bits c.two_letters-2.ensures.bits in
-    let low = pairs_join rest c.split_at-3.result.0.now c.split_at-3.result.1.now 11 11 c.two_letters-3.result c.two_letters-4.result c.split_at-3.ensures.by_index.0
+    let low = pairs_join rest c.split_at-3.result.0.now c.split_at-3.result.1.now 11 11 c.two_letters-3.result c.two_letters-4.result
+    c.split_at-3.ensures.by_index.0
     (omega (arith, c.split_at-3.ensures.front_len)) c.two_letters-4.ensures.small c.two_letters-3.ensures.bits c.two_letters-4.ensures.bits in
     let whole : c.args.text.now ≡ (a ++ b) ++ rest = c.split_at.ensures.by_index.0
     ∙ (ap (λ (z : List ℕ). a ++ z) c.split_at-2.ensures.by_index.0 ∙ sym (append_assoc a b rest)) in
-    pairs_join c.args.text.now (a ++ b) rest 22 22 (c.two_letters.result * 2 ^ 11 + c.two_letters-2.result) (c.two_letters-3.result * 2 ^ 11 + c.two_letters-4.result) whole
-    (grind (arith, c.split_at.ensures.front_len, c.split_at-2.ensures.front_len)) (omega (arith, c.two_letters-3.ensures.small, c.two_letters-4.ensures.small)) high low
+    pairs_join c.args.text.now (a ++ b) rest 22 22 (c.two_letters.result * 2 ^ 11 + c.two_letters-2.result)
+    (c.two_letters-3.result * 2 ^ 11 + c.two_letters-4.result) whole
+    (grind (arith, c.split_at.ensures.front_len, c.split_at-2.ensures.front_len))
+    (omega (arith, c.two_letters-3.ensures.small, c.two_letters-4.ensures.small)) high low

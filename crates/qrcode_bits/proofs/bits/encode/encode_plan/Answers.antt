@@ -42,7 +42,8 @@ returns-in_err-push_terminator-clause-memory c =
       | in_default w ↦ rw w.bits-is (grind (arith, common_steps))
     ] in
     let p = err_from_is_err_and c.from_residual-in_err-push_terminator.result c.from_residual-in_err-push_terminator.ensures.1 in
-    rw (p.1, p.2) (plan_end_refused c.args.header.now c.args.bytes.now (bytes_valid c.args.bytes.now (λ i. omega (arith, c.type_inv.bytes i))) c.args.version c.args.level
+    rw (p.1, p.2)
+    (plan_end_refused c.args.header.now c.args.bytes.now (bytes_valid c.args.bytes.now (λ i. omega (arith, c.type_inv.bytes i))) c.args.version c.args.level
     c.args.plan.now c.requires.fits
     c.match-header.bits begun.0 begun.1 c.push_plan.new.self c.in_err-push_terminator.field-0.0 c.in_ok-push_plan.ensures.ok
     c.in_err-push_terminator.ensures.refused)

@@ -1,10 +1,12 @@
 -- The first class whose last version holds the chosen plan decides.
-use Rattle.std.proofs.Common.{ℕ, length, get_or, arith}
+use Rattle.std.proofs.Common.{length, arith, inl, inr}
 use Rattle.qrcode_bits.specs.Frame.{header_bits}
+use Rattle.qrcode_bits.specs.Plans.{IsClass}
 use Rattle.qrcode_bits.proofs.Pairs.{bytes_valid}
 use Rattle.qrcode_bits.proofs.Lengths.{long_message}
-use Rattle.qrcode_bits.proofs.Classes.{classes_here, classes_end, class_fits_not}
+use Rattle.qrcode_bits.proofs.Classes.{IsClassEnd, class_behind, class_fits_not}
 use Rattle.qrcode_bits.proofs.bits.encode.encode_up_to.Goals as goal
+use Rattle.qrcode_bits.proofs.bits.encode.encode_up_to.Goals.{then-before-lt9, else-before-lt9+then-before-lt26, else-before-lt9+else-before-lt26}
 
 pub returns-then-bytes-gt-LONGEST_DATA-clause-err : goal.returns-then-bytes-gt-LONGEST_DATA-clause-err
 returns-then-bytes-gt-LONGEST_DATA-clause-err c =
@@ -13,24 +15,28 @@ returns-then-bytes-gt-LONGEST_DATA-clause-err c =
 
 pub returns-in-Some-clause-ok : goal.returns-in-Some-clause-ok
 returns-in-Some-clause-ok c =
-    let i = c.loop-last.invariant in
-    let here = classes_here i.0 c.args.limit c.as_slice-last-items.result.now c.loop-last.last-index c.loop-last-test.true i.1 in
-    (rw c.in-Some.is at c.in_ok-bits.ensures.some) i.0 c.args.limit here.0 here.2 i.2
+    let before = c.loop-before.before in
+    let which : IsClassEnd before c.if-before-lt9.class_end = elim c.if-before-lt9.branch [
+      | then-before-lt9 w ↦ inl (w.if-before-lt9.true, w.class_end-is)
+      | else-before-lt9+then-before-lt26 w ↦ inr (inl (w.if-before-lt9.false, w.if-before-lt26.true, w.class_end-is))
+      | else-before-lt9+else-before-lt26 w ↦ inr (inr (w.if-before-lt26.false, w.class_end-is))
+    ] in
+    let here = class_behind before c.args.limit c.if-before-lt9.class_end c.loop-before-test.true which c.requires.to_forty in
+    let class : IsClass before c.min-last.result = rw c.min-last.ensures here.0 in
+    (rw c.in-Some.is at c.in_ok-bits.ensures.some) before c.args.limit class (omega (arith, c.min-last.ensures)) c.loop-before.invariant
 
-pub loop-last-preserved : goal.loop-last-preserved
-loop-last-preserved c =
-    let i = c.loop-last.invariant in
-    let here = classes_here i.0 c.args.limit c.as_slice-last-items.result.now c.loop-last.last-index c.loop-last-test.true i.1 in
-    let none = rw c.in_default.is at c.in_ok-bits.ensures.none in
-    let last : ℕ = get_or c.as_slice-last-items.result.now c.loop-last.last-index 0 in (
-      last,
-      here.3,
-      class_fits_not (length (header_bits c.args.header.now)) c.args.bytes.now c.args.level i.0 last
-          (omega (arith, here.2, c.requires.to_forty)) here.0 i.2 none,
-    )
+pub loop-before-preserved : goal.loop-before-preserved
+loop-before-preserved c =
+    let before = c.loop-before.before in
+    let which : IsClassEnd before c.if-before-lt9.class_end = elim c.if-before-lt9.branch [
+      | then-before-lt9 w ↦ inl (w.if-before-lt9.true, w.class_end-is)
+      | else-before-lt9+then-before-lt26 w ↦ inr (inl (w.if-before-lt9.false, w.if-before-lt26.true, w.class_end-is))
+      | else-before-lt9+else-before-lt26 w ↦ inr (inr (w.if-before-lt26.false, w.class_end-is))
+    ] in
+    let here = class_behind before c.args.limit c.if-before-lt9.class_end c.loop-before-test.true which c.requires.to_forty in
+    let class : IsClass before c.min-last.result = rw c.min-last.ensures here.0 in
+    class_fits_not (length (header_bits c.args.header.now)) c.args.bytes.now c.args.level before c.min-last.result
+    (omega (arith, c.min-last.ensures, c.requires.to_forty)) class c.loop-before.invariant (rw c.in_default.is at c.in_ok-bits.ensures.none)
 
 pub returns-clause-err : goal.returns-clause-err
-returns-clause-err c =
-    let i = c.loop-last.invariant in
-    let end = classes_end i.0 c.args.limit c.as_slice-last-items.result.now c.loop-last.last-index (omega (arith, c.loop-last-test.false)) i.1 in
-    λ number few. i.2 number (omega arith)
+returns-clause-err c = λ number few. c.loop-before.invariant number (omega (arith, c.loop-before-test.false))

@@ -3,7 +3,8 @@ use Rattle.std.proofs.Common.{ℕ, ◌-◌, ◌*◌, get_or, arith, ap, sym, ◌
 use Rattle.qrcode_bits.specs.declared.optimize.short.TheConstants.{PERIOD_BITS, RESTS}
 use Rattle.qrcode_bits.specs.Plans.{segment_at}
 use Rattle.qrcode_bits.specs.Buckets.{told, period_bits}
-use Rattle.qrcode_bits.proofs.ShortSteps.{rest-at, period_bits-at, cost-small, short-rest, short-enough, sought-keeps, sought-takes, sought-nothing, sought-last}
+use Rattle.qrcode_bits.proofs.ShortSteps.{rest-at, period_bits-at, cost-small, short-rest, short-enough, sought-keeps, sought-takes, sought-nothing}
+use Rattle.qrcode_bits.proofs.ShortSteps.{sought-last}
 use Rattle.qrcode_bits.proofs.optimize.short.last_step_short.Goals as goal
 use Rattle.qrcode_bits.proofs.optimize.short.last_step_short.Goals.{then-found+then-candidate-best, then-found+else-candidate-best, else-found}
 use Rattle.std.proofs.lemmas.Grind.{common_steps}
@@ -41,7 +42,8 @@ loop-bucket-preserved g c =
           let next = sought-takes segments c.args.version end c.requires.within c.requires.linear j c.best-found.result c.loop-bucket-test.true
           (told c.args.words.now) c.requires.words mode c.bucket_mode-mode.ensures c.best-found.ensures w.if-found.true c.args.headers.now c.requires.headers
           (get_or RESTS j 0) w.cost-cost.result (rest-at j c.loop-bucket-test.true) w.cost-cost.ensures.cost
-          (8192 * get_or PERIOD_BITS j 0) _ (ap (λ (n : ℕ). 8192 * n) (period_bits-at j c.loop-bucket-test.true ∙ sym (ap period_bits c.bucket_mode-mode.ensures))) refl dear
+          (8192 * get_or PERIOD_BITS j 0) _
+          (ap (λ (n : ℕ). 8192 * n) (period_bits-at j c.loop-bucket-test.true ∙ sym (ap period_bits c.bucket_mode-mode.ensures))) refl dear
           best c.loop-bucket.best_mode c.loop-bucket.invariant.sought (omega (arith, w.if-candidate-best.true)) in
           record {
             within = omega arith;
@@ -55,7 +57,8 @@ loop-bucket-preserved g c =
           let next = sought-keeps segments c.args.version end c.requires.within c.requires.linear j c.best-found.result c.loop-bucket-test.true
           (told c.args.words.now) c.requires.words mode c.bucket_mode-mode.ensures c.best-found.ensures w.if-found.true c.args.headers.now c.requires.headers
           (get_or RESTS j 0) w.cost-cost.result (rest-at j c.loop-bucket-test.true) w.cost-cost.ensures.cost
-          (8192 * get_or PERIOD_BITS j 0) _ (ap (λ (n : ℕ). 8192 * n) (period_bits-at j c.loop-bucket-test.true ∙ sym (ap period_bits c.bucket_mode-mode.ensures))) refl dear
+          (8192 * get_or PERIOD_BITS j 0) _
+          (ap (λ (n : ℕ). 8192 * n) (period_bits-at j c.loop-bucket-test.true ∙ sym (ap period_bits c.bucket_mode-mode.ensures))) refl dear
           best c.loop-bucket.best_mode c.loop-bucket.invariant.sought (omega (arith, w.if-candidate-best.false)) in
           record {
             within = omega arith;

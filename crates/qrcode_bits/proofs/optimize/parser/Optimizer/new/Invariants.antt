@@ -1,6 +1,6 @@
 -- The list has what came so far.
 use Rattle.std.proofs.Common.{◌≡◌}
-use Rattle.qrcode_bits.proofs.optimize.iterator.Optimizer.new.Given as goal
+use Rattle.qrcode_bits.proofs.optimize.parser.Optimizer.new.Given as goal
 
 abbrev pub invariant-loop-segment : goal.invariant-loop-segment
 invariant-loop-segment g l = l.all.items ≡ l.yielded

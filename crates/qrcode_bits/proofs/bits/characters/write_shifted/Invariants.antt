@@ -2,7 +2,7 @@
 use Rattle.std.proofs.Common.{◌≡◌, ℕ, ◌<◌, ◌∷◌, length}
 use Rattle.std.specs.Prelude.{slice_index_or}
 use Rattle.qrcode_bits.specs.Stream.{shifted}
-use Rattle.qrcode_bits.proofs.bits.characters.place_shifted.Given as goal
+use Rattle.qrcode_bits.proofs.bits.characters.write_shifted.Given as goal
 
 abbrev pub invariant-loop-i : goal.invariant-loop-i
 invariant-loop-i l = record {
