@@ -3,7 +3,7 @@ use Rattle.std.specs.Prelude.{◌≡◌, ◌==◌, if◌then◌else◌, ◌≤�
 use Rattle.std.specs.Prelude.{drop, length, slice_index_or, slice_get, Option, Some, None}
 use Rattle.qrcode_grid.specs.declared.canvas.Module.{Module}
 use Rattle.qrcode_grid.specs.declared.canvas.Module.TheVariants.{Empty, Masked, Unmasked}
-use Rattle.qrcode_grid.specs.declared.canvas.data.ahead.BitsAhead.{BitsAhead}
+use Rattle.qrcode_grid.specs.declared.canvas.data.BitsAhead.{BitsAhead}
 use Rattle.qrcode_grid.specs.declared.canvas.data.streams.Streams.{Streams}
 use Rattle.qrcode_grid.specs.declared.canvas.data.Columns.{Columns}
 use Rattle.qrcode_grid.specs.Walk.{walk_column, bit_color, symbol_bits, place_in_walk, along_walk, fill_empty}
