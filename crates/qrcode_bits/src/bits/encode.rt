@@ -131,7 +131,7 @@ pub fn encode_auto_micro(alloc: Global, bytes: &[u8], level: EcLevel) -> QrResul
     if bytes.len() > LONGEST_DATA {
         return Err(QrError::DataTooLong);
     }
-    let segments = parse(alloc, bytes)?;
+    let segments = Parser::new(bytes).segments(alloc)?;
     for smaller in 0..4 {
         let version = micro(smaller + 1);
         if let Some(plan) = chosen_plan(alloc, 0, bytes, &segments, version, level)? {
@@ -194,7 +194,7 @@ fn encode_up_to(
     if bytes.len() > LONGEST_DATA {
         return Err(QrError::DataTooLong);
     }
-    let segments = parse(alloc, bytes)?;
+    let segments = Parser::new(bytes).segments(alloc)?;
     let mut before = 0;
     while before < limit {
         let class_end = if before < 9 {
@@ -211,18 +211,6 @@ fn encode_up_to(
         before = last;
     }
     Err(QrError::DataTooLong)
-}
-
-/// The parsed segments of some bytes.
-fn parse(alloc: Global, bytes: &[u8]) -> QrResult<Vec<Segment>>
-    ensures parsed { IfOk result (λ segments. segments.items ≡ parsed bytes.now) }
-    ensures memory { IfErr result (λ e. e ≡ QrError.OutOfMemory) }
-{
-    let mut segments = Vec::new(alloc);
-    for segment in Parser::new(bytes) {
-        segments.push(segment)?;
-    }
-    Ok(segments)
 }
 
 /// The bits of a header or none and of the chosen plan of the last version of a class, where both fit, in the least

@@ -1,6 +1,0 @@
--- The list has what came so far.
-use Rattle.std.proofs.Common.{◌≡◌}
-use Rattle.qrcode_bits.proofs.optimize.parser.Parser.optimize.Given as goal
-
-abbrev pub invariant-loop-segment : goal.invariant-loop-segment
-invariant-loop-segment l = l.segments.items ≡ l.yielded
