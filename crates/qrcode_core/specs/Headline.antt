@@ -16,10 +16,10 @@ use Rattle.qrcode_grid.specs.Codes.{AreBytes, distance}
 use Rattle.qrcode_grid.specs.Walk.{left_over}
 use Rattle.qrcode_grid.specs.Masks.{IsOfFamily, raw_colors, HasFunctionalColors}
 use Rattle.qrcode_grid.specs.Regions.{is_dark}
-use Rattle.qrcode_base.specs.declared.types.EcLevel.TheVariants.{H, L}
+use Rattle.qrcode_base.specs.declared.types.EcLevel.TheVariants.{L}
 use Rattle.qrcode_base.specs.declared.types.Version.TheVariants.{Micro}
 use Rattle.qrcode_base.specs.declared.types.errors.QrError.{QrError}
-use Rattle.qrcode_base.specs.declared.types.errors.QrError.TheVariants.{DataTooLong, InvalidVersion, OutOfMemory}
+use Rattle.qrcode_base.specs.declared.types.errors.QrError.TheVariants.{DataTooLong, OutOfMemory}
 use Rattle.qrcode_bits.specs.declared.optimize.Segment.{Segment}
 use Rattle.qrcode_bits.specs.Plans.{normal, micro, Fits, FitsNot, FitsNone, IsLeastBits}
 use Rattle.qrcode_grid.specs.Penalty.{IsFirstLeastMask}
