@@ -1,4 +1,5 @@
 -- The classes of bytes by their numbers, computed at each byte, and what stands at a place.
+use Rattle.std.proofs.Common.{zero, suc}
 use Rattle.std.proofs.Common.{◌≡◌, ℕ, ◌+◌, ◌-◌, ◌<◌, ◌≤◌, Bool, true, false, List, ◌∷◌, length, drop, get_or, refl, ap, sym, ◌∙◌, arith, inl, inr, ◌⊎◌}
 use Rattle.std.specs.Prelude.{map}
 use Rattle.std.specs.List.{range_with_len}
@@ -10,9 +11,7 @@ use Rattle.qrcode_base.specs.declared.types.Mode.{Mode}
 use Rattle.qrcode_base.specs.declared.types.Mode.TheVariants.{Byte}
 use Rattle.qrcode_base.specs.Characters.{is_alphanumeric, is_kanji_pair}
 use Rattle.qrcode_bits.specs.declared.optimize.parser.TheConstants.{CLASSES}
-use Rattle.qrcode_bits.specs.Parsing.{Class}
-use Rattle.qrcode_bits.specs.Parsing.{Pair, LoneLead}
-use Rattle.qrcode_bits.specs.Parsing.{class_number, class_numbered, class_of, class_size, units, joins, parsed_from, class_mode}
+use Rattle.qrcode_bits.specs.Parsing.{Class, Digit, Sign, Other, Pair, LoneLead, class_number, class_of, class_size, units, joins, parsed_from, class_mode}
 use Rattle.qrcode_bits.proofs.Adjoining.{class_of-one}
 use Rattle.qrcode_bits.proofs.Runs.{IsRun, Run-first, Run-more, Run-apart}
 use Rattle.std.proofs.lemmas.Grind.{common_steps}
@@ -26,6 +25,12 @@ classes_are = refl
 pub classes_at : (b : ℕ) → b < 256 → get_or CLASSES b 0 ≡ class_number (class_of b)
 classes_at b within =
     ap (λ (z : List ℕ). get_or z b 0) classes_are ∙ get_or-map-range_with_len (λ n. class_number (class_of n)) 0 256 b b 0 within (omega arith)
+
+abbrev pub class_numbered : ℕ → Class
+class_numbered zero = Digit
+class_numbered (suc zero) = Sign
+class_numbered (suc (suc zero)) = Other
+class_numbered (suc (suc (suc n))) = LoneLead
 
 -- a byte's class by its number
 pub numbered-is : (b n : ℕ) → n ≡ class_number (class_of b) → class_numbered n ≡ class_of b
