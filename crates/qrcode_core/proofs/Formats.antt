@@ -9,7 +9,8 @@ use Rattle.qrcode_base.specs.declared.types.EcLevel.{EcLevel}
 use Rattle.qrcode_base.specs.declared.types.Version.{Version}
 use Rattle.qrcode_base.specs.declared.types.Version.TheVariants.{Normal, Micro}
 use Rattle.qrcode_grid.specs.declared.canvas.MaskPattern.{MaskPattern}
-use Rattle.qrcode_grid.specs.Regions.{binary_digit, digit_color, differing_digits, normal_format_word, micro_format_word, functional_color, digit_at, format_first}
+use Rattle.qrcode_grid.specs.Regions.{binary_digit, digit_color, differing_digits, normal_format_word, micro_format_word, functional_color}
+use Rattle.qrcode_grid.specs.Regions.{digit_at, format_first}
 use Rattle.qrcode_grid.specs.Regions.{format_micro}
 use Rattle.qrcode_grid.specs.Masks.{normal_number, micro_number, level_number, symbol_number, IsOfFamily, HasFunctionalColors}
 use Rattle.qrcode_base.specs.Symbols.{IsVersion, IsSymbol, width_of}

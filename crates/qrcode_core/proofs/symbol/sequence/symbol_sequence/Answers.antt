@@ -16,7 +16,8 @@ returns-clause-fitting c =
 pub returns-clause-refused : goal.returns-clause-refused
 returns-clause-refused c =
     let grids = map modules_of c.in_ok-symbols.symbols.items in
-    grind (arith, common_steps, to_z-of_z, c.in_ok-symbols.ensures.best.a_grid_each, (c.in_ok-symbols.ensures.best.reads grids (IsPermutation-refl grids)).enough)
+    let best = c.in_ok-symbols.ensures.best in
+    grind (arith, common_steps, to_z-of_z, best.a_grid_each, (best.reads grids (IsPermutation-refl grids)).enough)
 
 pub returns-in_err-symbols-clause-refused : goal.returns-in_err-symbols-clause-refused
 returns-in_err-symbols-clause-refused c =

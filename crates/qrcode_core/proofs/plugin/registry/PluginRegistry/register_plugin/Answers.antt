@@ -9,14 +9,16 @@ pub returns-in_err-put_renderers : goal.returns-in_err-put_renderers
 returns-in_err-put_renderers g c =
     let p = err_from_is_err_and c.from_residual-in_err-put_renderers.result c.from_residual-in_err-put_renderers.ensures.1 in
     let refused = c.in_err-put_renderers in
-    rw (p.1, p.2) (registers_then _ _ _ (version_of (string_bytes c.args.plugin.name) (string_bytes c.args.plugin.version) ∷ []) _ (Err refused.field-0.0) c.in_ok-put_version.ensures
+    let versions = version_of (string_bytes c.args.plugin.name) (string_bytes c.args.plugin.version) ∷ [] in
+    rw (p.1, p.2) (registers_then _ _ _ versions _ (Err refused.field-0.0) c.in_ok-put_version.ensures
     (registers_stops _ _ (map named_renderer c.args.plugin.renderers.items) _ refused.field-0.0 refused.ensures))
 
 pub returns-in_err-put_encoders : goal.returns-in_err-put_encoders
 returns-in_err-put_encoders g c =
     let p = err_from_is_err_and c.from_residual-in_err-put_encoders.result c.from_residual-in_err-put_encoders.ensures.1 in
     let refused = c.in_err-put_encoders in
-    rw (p.1, p.2) (registers_then _ _ _ (version_of (string_bytes c.args.plugin.name) (string_bytes c.args.plugin.version) ∷ []) _ (Err refused.field-0.0) c.in_ok-put_version.ensures
+    let versions = version_of (string_bytes c.args.plugin.name) (string_bytes c.args.plugin.version) ∷ [] in
+    rw (p.1, p.2) (registers_then _ _ _ versions _ (Err refused.field-0.0) c.in_ok-put_version.ensures
     (registers_then _ _ _ (map named_renderer c.args.plugin.renderers.items) _ (Err refused.field-0.0) c.in_ok-put_renderers.ensures
     (registers_stops _ _ (map named_encoder c.args.plugin.encoders.items) _ refused.field-0.0 refused.ensures)))
 

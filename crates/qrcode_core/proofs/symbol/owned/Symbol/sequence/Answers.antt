@@ -16,7 +16,8 @@ returns-in_err-symbol-clause-refused c =
     let same = to_z-of_z w16 c.args.max_version c.ranges.max_version in
     let limit = limit_of c.args.max_version _ same c.if-max_version-lt1.false c.if-max_version-gt40.false in
     let part = rw c.from.ensures at c.part_at-part.ensures in
-    let refused = refused_part c.args.bytes.now c.args.cuts.now c.args.level c.args.max_version (c.min.result + 1) c.loop-index.index c.in_err-symbol.field-0.0 limit
+    let refused = refused_part c.args.bytes.now c.args.cuts.now c.args.level c.args.max_version (c.min.result + 1) c.loop-index.index
+    c.in_err-symbol.field-0.0 limit
     (omega arith, omega arith) (omega (arith, c.min.ensures)) (omega arith) (rw (part, same) at c.in_err-symbol.ensures.refused) in
     grind (arith, common_steps, refused)
 
@@ -38,8 +39,10 @@ loop-index-preserved c =
     let grids = map-append modules_of before (c.in_ok-symbol.field-0 ∷ []) in
     record {
       first = rw (c.in_ok-push.ensures.items, grids)
-          (one_more bytes cuts c.args.level _ (c.min.result + 1) done (map modules_of before) c.in_ok-symbol.field-0.modules c.loop-index.invariant.first symbol);
-      reading = rw c.in_ok-push.ensures.items (All-push TellsReading before c.in_ok-symbol.field-0 c.loop-index.invariant.reading c.in_ok-symbol.ensures.reading);
+          (one_more bytes cuts c.args.level _ (c.min.result + 1) done (map modules_of before) c.in_ok-symbol.field-0.modules
+          c.loop-index.invariant.first symbol);
+      reading = rw c.in_ok-push.ensures.items
+          (All-push TellsReading before c.in_ok-symbol.field-0 c.loop-index.invariant.reading c.in_ok-symbol.ensures.reading);
     }
 
 pub returns-clause-best : goal.returns-clause-best
