@@ -1,13 +1,13 @@
 -- The laws of the regions, of the alignment patterns, of the walk, and of the code words of the two generators.
 use Rattle.std.proofs.Common.{◌≡◌, ◌≢◌, ℕ, ◌+◌, ◌-◌, ◌*◌, ◌/◌, ◌%◌, ◌<◌, ◌≤◌, ◌==◌, ◌&&◌, ◌||◌, nat_le, nat_lt, Bool, true, false, Option, Some, unwrap_or}
-use Rattle.std.proofs.Common.{subst, refl, arith, ◌^◌}
+use Rattle.std.proofs.Common.{subst, refl, arith, ◌^◌, List, map}
 use Rattle.std.specs.Int.{abs_diff}
 use Rattle.std.proofs.lemmas.Bool.{eqb-true, leb-true, ltb-true}
 use Rattle.qrcode_base.specs.declared.types.Version.{Version}
 use Rattle.qrcode_base.specs.Symbols.{IsVersion, width_of}
 use Rattle.qrcode_grid.specs.Regions.{near, alignment, alignments, alignment_count, alignment_step, alignment_coordinate, alignment_coordinates, is_at_finder}
-use Rattle.qrcode_grid.specs.Regions.{ring, polynomial_product, multiples, code_word, HasOneMultiple, HasOneFormatWord, HasOneVersionWord}
-use Rattle.std.specs.List.{position_or_len}
+use Rattle.qrcode_grid.specs.Regions.{ring, polynomial_product, code_word, HasOneMultiple, HasOneFormatWord, HasOneVersionWord}
+use Rattle.std.specs.List.{position_or_len, range_with_len}
 use Rattle.qrcode_grid.specs.Walk.{timing_column}
 use Rattle.qrcode_grid.specs.Laws.{AreConsistentRegions, HasEveryAlignment, HasItsAlignments, IsWalkOf}
 use Rattle.qrcode_grid.proofs.Tests.{all_pass, passes, both}
@@ -103,6 +103,10 @@ walk_of version h =
     }
 
 -- The code words of the two generators, computed.
+
+-- all multiples of a generator by polynomials of n digits
+abbrev multiples : ℕ → ℕ → List ℕ
+multiples generator n = map (λ a. polynomial_product n a generator) (range_with_len 0 (2 ^ n))
 
 -- the number of the multiple that begins with the data
 abbrev factor : ℕ → ℕ → ℕ → ℕ → ℕ

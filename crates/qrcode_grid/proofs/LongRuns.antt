@@ -1,13 +1,30 @@
 -- The runs of a line, by its fives and sixes of one colour: a run of n modules, n at least 5, has n - 4 fives and n - 5 sixes.
-use Rattle.std.proofs.Common.{◌≡◌, ℕ, zero, suc, ◌+◌, ◌*◌, ◌<◌, ◌≤◌, ◌==◌, ◌&&◌, Bool, true, false, cond, List, [], ◌∷◌, length, get_or, refl, ap, ◌∙◌, sym}
+use Rattle.std.proofs.Common.{◌≡◌, ℕ, zero, suc, ◌+◌, ◌-◌, ◌*◌, ◌<◌, ◌≤◌, ◌==◌, ◌&&◌, Bool, true, false, cond, List, [], ◌∷◌, length, get_or, refl, ap, ◌∙◌, sym}
 use Rattle.std.proofs.Common.{arith, not}
 use Rattle.std.specs.Prelude.{nat_le}
 use Rattle.std.specs.List.{prefix_len}
 use Rattle.std.proofs.lemmas.Bool.Decides.{eqb_tells}
 use Rattle.std.proofs.lemmas.Grind.{common_steps}
 use Rattle.qrcode_grid.specs.Regions.{count_below, sum_below}
-use Rattle.qrcode_grid.specs.Penalty.{length_penalty, run_penalty, runs_penalty}
+use Rattle.qrcode_grid.specs.Penalty.{begins_run, run_length, runs_penalty}
 use Rattle.qrcode_grid.proofs.Totals.{total-first, total-cong}
+
+-- what a run of n modules counts
+abbrev pub length_penalty : ℕ → ℕ
+length_penalty n = cond (nat_le 5 n) (n - 2) 0
+
+-- what the run counts that begins at a place, if one does
+abbrev pub run_penalty : List ℕ → ℕ → ℕ
+run_penalty line i = cond (begins_run line i) (length_penalty (run_length line i)) 0
+
+both_tests : (a b : Bool) (n : ℕ) → cond (a && b) n 0 ≡ cond a (cond b n 0) 0
+both_tests true b n = refl
+both_tests false b n = refl
+
+by_runs : (line : List ℕ) → runs_penalty line ≡ sum_below (run_penalty line) (length line)
+by_runs line =
+    total-cong (λ i. cond (begins_run line i && nat_le 5 (run_length line i)) (run_length line i - 2) 0) (run_penalty line) (length line)
+    (λ i l. both_tests (begins_run line i) (nat_le 5 (run_length line i)) (run_length line i - 2))
 
 -- The runs of a line, by those of the line after its first module.
 
@@ -56,7 +73,7 @@ counted c [] = refl
 counted c (d ∷ ds) = grind (arith, common_steps, eqb_tells, new_runs, same_byte, longer, counted d ds)
 
 -- what the runs of a line count
-runs_by_alikes : (line : List ℕ) → runs_penalty line + 2 * alikes 5 line ≡ 3 * alikes 4 line
+runs_by_alikes : (line : List ℕ) → sum_below (run_penalty line) (length line) + 2 * alikes 5 line ≡ 3 * alikes 4 line
 runs_by_alikes [] = refl
 runs_by_alikes (c ∷ cs) = cc (same_byte c, total-first (run_penalty (c ∷ cs)) (length cs), later_runs c cs, counted c cs)
 
@@ -128,4 +145,4 @@ pub runs_are : (line : List ℕ) → runs_penalty line + 2 * count_below (six_of
 runs_are line =
     let fives = total-cong (λ k. cond (edges 4 line k) 1 0) (λ k. cond (five_of line k) 1 0) (length line) (λ k l. ap (λ b. cond b 1 0) (four_edges line k)) in
     let sixes = total-cong (λ k. cond (edges 5 line k) 1 0) (λ k. cond (six_of line k) 1 0) (length line) (λ k l. ap (λ b. cond b 1 0) (five_edges line k)) in
-    grind (arith, runs_by_alikes line, by_places 4 line, by_places 5 line, fives, sixes)
+    omega (arith, by_runs line, runs_by_alikes line, by_places 4 line, by_places 5 line, fives, sixes)

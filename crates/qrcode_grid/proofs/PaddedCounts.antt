@@ -6,9 +6,9 @@ use Rattle.std.proofs.Math.Nat.{mul-le-mul_right, add-mul}
 use Rattle.std.proofs.lemmas.Bool.{cases_lt}
 use Rattle.std.proofs.lemmas.Bool.Decides.{nat_tests}
 use Rattle.qrcode_grid.specs.Regions.{sum_below, count_below}
-use Rattle.qrcode_grid.specs.Penalty.{row, column, line_penalty, count_of_squares, is_byte_square_at, is_dark_byte, squares_penalty, quiet, are_light}
+use Rattle.qrcode_grid.specs.Penalty.{row, column, line_penalty, count_of_squares, is_byte_square_at, quiet, are_light}
 use Rattle.qrcode_grid.specs.Penalty.{is_pattern, is_finder_like}
-use Rattle.qrcode_grid.specs.Scoring.{AreEdges, IsPadded, cell, has, has_five, has_six, has_finder, has_square, places, stride, is_quiet}
+use Rattle.qrcode_grid.specs.Scoring.{is_dark_byte, AreEdges, IsPadded, cell, has, has_five, has_six, has_finder, has_square, places, stride, is_quiet}
 use Rattle.qrcode_grid.specs.declared.canvas.scoring.lists.Feature.TheVariants.{Finder, Square, Dark}
 use Rattle.qrcode_grid.proofs.MarkedLanes.{count_as_sum, count_one_more}
 use Rattle.qrcode_grid.proofs.LongRuns.{edge_within, edge, edge_past, five_of, six_of, runs_are}
@@ -334,7 +334,7 @@ module _ (w : ℕ) (cells padded : List ℕ) (is : IsPadded w cells padded) (squ
           ap (λ n. count_by (is_byte_square_at a b) (range_with_len 0 n)) size,
         )
 
-    pub squares_are : 3 * count_below (has Square w 1 padded edges) (places w) ≡ squares_penalty w cells
+    pub squares_are : 3 * count_below (has Square w 1 padded edges) (places w) ≡ 3 * sum_below (λ y. count_of_squares (row w cells y) (row w cells (y + 1))) (w - 1)
     squares_are =
         let p = has Square w 1 padded edges in
         let f : ℕ → ℕ = λ y. count_below (λ x. p (y * s + x)) w in

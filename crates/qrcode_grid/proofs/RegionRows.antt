@@ -1,12 +1,14 @@
 -- Regions that say nothing, and what regions say together.
 use Rattle.std.proofs.Common.{◌≡◌, ◌-◌, ◌≤◌, zero, suc, ℕ, ◌<◌, ◌+◌, ◌*◌, ap, refl, arith, false, nat_lt, nat_le, ◌==◌, ◌&&◌, ◌||◌, ◌≢◌, Option}
-use Rattle.std.proofs.Common.{None, [], ◌∷◌, get_or, ◌/◌, map, sym, ◌∙◌, leb, cond, inl, inr, Bool, true}
+use Rattle.std.proofs.Common.{None, [], ◌∷◌, get_or, ◌/◌, map, sym, ◌∙◌, leb, cond, inl, inr, Bool, true, ◌%◌, fold}
+use Rattle.std.specs.Option.{option_or}
+use Rattle.qrcode_base.specs.declared.types.Color.TheVariants.{Light, Dark}
 use Rattle.std.proofs.lemmas.Bool.Decides.{nat_tests}
 use Rattle.qrcode_base.specs.declared.types.Color.{Color}
 use Rattle.qrcode_grid.specs.declared.canvas.Module.{Module}
 use Rattle.qrcode_grid.specs.declared.canvas.regions.TheConstants.{VERSION_WORDS}
 use Rattle.qrcode_grid.specs.Masks.{drawn_over}
-use Rattle.qrcode_grid.specs.Regions.{finder, timing, where_true, dark_if_even, version_copies, alignments, alignment_coordinates, first_some}
+use Rattle.qrcode_grid.specs.Regions.{finder, timing, where_true, version_copies, alignments, alignment_coordinates}
 use Rattle.qrcode_grid.specs.Regions.{near, alignment_count, alignment_at, alignment_coordinate, version_word}
 use Rattle.std.proofs.lemmas.Grind.{common_steps}
 use Rattle.std.specs.List.{range_with_len}
@@ -44,7 +46,7 @@ no_alignments n w x y h = grind (arith)
 -- the cells in which no timing pattern lies
 no_timing : (line from to x y : ℕ) → ((y == line && nat_le from x && nat_le x to) || (x == line && nat_le from y && nat_le y to))
     ≡ false → timing line from to x y ≡ None
-no_timing line from to x y t = ap (λ b. where_true b (dark_if_even (x + y))) t
+no_timing line from to x y t = ap (λ b. where_true b (cond ((x + y) % 2 == 0) Dark Light)) t
 
 pub no_timing_above : (line from to x y : ℕ) → y ≢ line → y < from → timing line from to x y ≡ None
 no_timing_above line from to x y other above = no_timing line from to x y (grind (arith, nat_tests, other, above))
@@ -69,10 +71,10 @@ pub no_finder_row : (center_x center_y x y : ℕ) → 4 < abs_diff center_y y �
 no_finder_row center_x center_y x y far = grind (arith, common_steps)
 
 -- what the first of some regions says is drawn last
-pub drawn_three : (a b c : Option Color) (m : Module) → drawn_over (first_some (a ∷ b ∷ c ∷ [])) m ≡ drawn_over a (drawn_over b (drawn_over c m))
+pub drawn_three : (a b c : Option Color) (m : Module) → drawn_over (fold option_or None (a ∷ b ∷ c ∷ [])) m ≡ drawn_over a (drawn_over b (drawn_over c m))
 drawn_three a b c m = grind (arith, common_steps)
 
-pub drawn_seven : (a b c d e f g : Option Color) (m : Module) → drawn_over (first_some (a ∷ b ∷ c ∷ d ∷ e ∷ f ∷ g ∷ [])) m
+pub drawn_seven : (a b c d e f g : Option Color) (m : Module) → drawn_over (fold option_or None (a ∷ b ∷ c ∷ d ∷ e ∷ f ∷ g ∷ [])) m
     ≡ drawn_over a (drawn_over b (drawn_over c (drawn_over d (drawn_over e (drawn_over f (drawn_over g m))))))
 drawn_seven a b c d e f g m = grind (arith, common_steps, drawn_three)
 

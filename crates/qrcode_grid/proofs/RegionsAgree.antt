@@ -1,7 +1,7 @@
 -- Where the regions of a symbol meet they agree: what any of them says of a cell is its colour.
 -- Only the timing patterns and the alignment patterns meet.
 use Rattle.std.proofs.Common.{◌≡◌, ℕ, pos, negsuc, ◌<◌, ◌≤◌, ◌+◌, ◌-◌, ◌*◌, ap, ◌∙◌, sym, refl, subst, arith, inl, inr, List, [], ◌∷◌, ◌++◌, Bool, true, false}
-use Rattle.std.proofs.Common.{not, ◌==◌, ◌&&◌, ◌||◌, nat_le, nat_lt, fold, All, IfSome, Option, Some, None, is_some}
+use Rattle.std.proofs.Common.{not, ◌==◌, ◌&&◌, ◌||◌, nat_le, nat_lt, cond, ◌%◌, fold, All, IfSome, Option, Some, None, is_some}
 use Rattle.std.specs.Option.{option_or}
 use Rattle.std.proofs.lemmas.Bool.{cases_eq, cases_lt, false≢true}
 use Rattle.std.proofs.lemmas.Bool.Decides.{nat_tests}
@@ -11,8 +11,8 @@ use Rattle.qrcode_base.specs.declared.types.Color.TheVariants.{Light, Dark}
 use Rattle.qrcode_base.specs.declared.types.Version.{Version}
 use Rattle.qrcode_base.specs.declared.types.Version.TheVariants.{Normal, Micro}
 use Rattle.qrcode_base.specs.Symbols.{IsVersion, width_of}
-use Rattle.qrcode_grid.specs.Regions.{binary_digit, digit_color, finder, timing, where_true, dark_if_even, digit_at, format_first, format_second, format_micro}
-use Rattle.qrcode_grid.specs.Regions.{written, version_copies, alignments, alignment_coordinates, first_some, functional_color, regions}
+use Rattle.qrcode_grid.specs.Regions.{binary_digit, digit_color, finder, timing, where_true, digit_at, format_first, format_second, format_micro}
+use Rattle.qrcode_grid.specs.Regions.{written, version_copies, alignments, alignment_coordinates, functional_color, regions}
 use Rattle.qrcode_grid.proofs.Tests.{all_pass, passes, both}
 use Rattle.qrcode_grid.proofs.Areas.{finder_test, finder_is, timing_test, first_test, first_is, second_test, second_is, micro_is, version_is, some-where_true}
 use Rattle.qrcode_grid.proofs.Areas.{some-option_map}
@@ -46,11 +46,11 @@ each_says found c e [] h = All-nil (Says found)
 each_says found c e (None ∷ rs) h = All-cons (Says found) None rs tt (each_says found c e rs h.1)
 each_says found c e (Some d ∷ rs) h = All-cons (Says found) (Some d) rs (e ∙ ap Some (h.0 c d refl refl)) (each_says found c e rs h.1)
 
-all_say : (rs : List (Option Color)) → PairsAgree rs → All (Says (first_some rs)) rs
+all_say : (rs : List (Option Color)) → PairsAgree rs → All (Says (fold option_or None rs)) rs
 all_say [] h = All-nil (Says None)
-all_say (None ∷ rs) h = All-cons (Says (first_some rs)) None rs tt (all_say rs h.1)
-all_say (Some c ∷ rs) h = All-cons (Says (first_some (Some c ∷ rs))) (Some c) rs (fold_some c rs)
-    (each_says (first_some (Some c ∷ rs)) c (fold_some c rs) rs h.0)
+all_say (None ∷ rs) h = All-cons (Says (fold option_or None rs)) None rs tt (all_say rs h.1)
+all_say (Some c ∷ rs) h = All-cons (Says (fold option_or None (Some c ∷ rs))) (Some c) rs (fold_some c rs)
+    (each_says (fold option_or None (Some c ∷ rs)) c (fold_some c rs) rs h.0)
 
 and_false : (b : Bool) → (b && false) ≡ false
 and_false b = grind (arith)
@@ -204,7 +204,7 @@ timing_agree n x y low high l m =
       | inl row ↦ agree-sound _ _ (ap (timing_agrees n x) row ∙ (both _ _ (at x l)).0)
       | inr off ↦ elim (cases_eq x 6) [
         | inl column ↦ agree-sound _ _ (ap (λ k. timing_agrees n k y) column ∙ (both _ _ (at y m)).1)
-        | inr neither ↦ apart_agree _ _ _ _ (some-where_true (timing_test 6 8 (w - 9) x y) (dark_if_even (x + y))) refl (grind (arith, nat_tests))
+        | inr neither ↦ apart_agree _ _ _ _ (some-where_true (timing_test 6 8 (w - 9) x y) (cond ((x + y) % 2 == 0) Dark Light)) refl (grind (arith, nat_tests))
       ]
     ]
 
@@ -228,7 +228,7 @@ normal_pairs n format x y low high l m =
         ),
       ),
     ) in
-    let in_timing : is_some t ≡ timing_test 6 8 (w - 9) x y = some-where_true (timing_test 6 8 (w - 9) x y) (dark_if_even (x + y)) in
+    let in_timing : is_some t ≡ timing_test 6 8 (w - 9) x y = some-where_true (timing_test 6 8 (w - 9) x y) (cond ((x + y) % 2 == 0) Dark Light) in
     pairs_insert a (finders ++ t ∷ dark ∷ []) words
     (pairs_apart (finder_tests w x y ++ timing_test 6 8 (w - 9) x y ∷ word_tests w v x y) (finders ++ t ∷ dark ∷ words)
     (finder_is 3 3 x y, (finder_is (w - 4) 3 x y, (finder_is 3 (w - 4) x y, (in_timing, in_words)))) (normal_apart w x y v (omega arith) l m))
@@ -251,7 +251,7 @@ regions_say (Micro (pos n)) format x y h l m =
     (pairs_apart (finder_test 3 3 x y ∷ timing_test 0 8 (w - 1) x y ∷ micro_test x y ∷ []) (regions (Micro (pos n)) format x y) (
       finder_is 3 3 x y,
       (
-        some-where_true (timing_test 0 8 (w - 1) x y) (dark_if_even (x + y)),
+        some-where_true (timing_test 0 8 (w - 1) x y) (cond ((x + y) % 2 == 0) Dark Light),
         (some-option_map (λ k. digit_color (binary_digit format k)) (digit_at format_micro x y) ∙ micro_is x y, tt),
       ),
     )

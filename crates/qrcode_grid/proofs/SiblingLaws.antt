@@ -11,13 +11,13 @@ use Rattle.qrcode_base.specs.declared.types.EcLevel.{EcLevel}
 use Rattle.qrcode_base.specs.declared.types.Version.{Version}
 use Rattle.qrcode_base.specs.Symbols.{IsVersion, width_of}
 use Rattle.qrcode_grid.specs.declared.canvas.MaskPattern.{MaskPattern}
-use Rattle.qrcode_grid.specs.Regions.{map_cells, color_in, functional_color, is_functional_cell}
+use Rattle.qrcode_grid.specs.Regions.{map_cells, functional_color, is_functional_cell}
 use Rattle.qrcode_grid.specs.Masks.{format_word, inverted_if, is_inverted, raw_colors, sibling, HasFunctionalColors}
 use Rattle.qrcode_grid.specs.Canvas.{HasItsSiblings}
 use Rattle.qrcode_grid.specs.Walk.{numbered_cell, timing_column}
 use Rattle.qrcode_grid.proofs.Areas.{is_some-functional_color}
 use Rattle.qrcode_grid.proofs.WrittenWords.{length-map_places, get_or-map_places, at_place, cells_are}
-use Rattle.qrcode_grid.proofs.Drawn.{none_of}
+use Rattle.qrcode_grid.proofs.Drawn.{color_in, none_of}
 use Rattle.qrcode_grid.proofs.WholeSymbols.{odd_width, timing_inside}
 use Rattle.qrcode_grid.proofs.Totals.{numbered_cell_inside}
 use Rattle.std.proofs.lemmas.Grind.{common_steps}

@@ -1,12 +1,13 @@
 -- Words and rows that loops write into a grid: over bytes and over modules alike. Then the distance of drawn words.
 use Rattle.std.proofs.Common.{◌≡◌, ◌≢◌, ℕ, ◌<◌, ◌≤◌, ◌+◌, ◌-◌, ◌*◌, ◌==◌, ◌&&◌, Bool, true, false, List, [], ◌∷◌, length, get_or, set, drop, Option, Some, None}
 use Rattle.std.proofs.Common.{option_map, cond, ap, ◌∙◌, sym, subst, arith, inl, inr, refl, suc, length-drop, drop-cons, get_or-set_same, get_or-set_other, pos}
-use Rattle.std.proofs.Common.{negsuc, unwrap_or, ◌/◌, ◌%◌, zero, length-set, ℤ, slice_get, w16}
+use Rattle.std.proofs.Common.{negsuc, unwrap_or, ◌/◌, ◌%◌, zero, length-set, ℤ, slice_get, w16, fold}
+use Rattle.std.specs.Option.{option_or}
 use Rattle.std.proofs.lemmas.Bool.{cases_eq, cases_lt}
 use Rattle.std.proofs.lemmas.Bool.Decides.{nat_tests}
 use Rattle.qrcode_base.specs.declared.types.Color.{Color}
 use Rattle.qrcode_base.specs.declared.types.Color.TheVariants.{Dark}
-use Rattle.qrcode_grid.specs.Regions.{format_first, format_second, format_micro, digit_at, first_some, where_true, binary_digit}
+use Rattle.qrcode_grid.specs.Regions.{format_first, format_second, format_micro, digit_at, where_true, binary_digit}
 use Rattle.qrcode_grid.specs.Regions.{digit_color, normal_format_word, micro_format_word, version_word}
 use Rattle.qrcode_grid.specs.Regions.{differing_digits, map_cells, map_places}
 use Rattle.std.proofs.lemmas.Grind.{common_steps}
@@ -239,7 +240,7 @@ dark_written w d now v wide long x y l m =
     ]
 
 -- what the first of three says is written last
-pub over_three : {X : Type 0} (o p q : Option X) (b : X) → unwrap_or (first_some (o ∷ p ∷ q ∷ [])) b ≡ unwrap_or o (unwrap_or p (unwrap_or q b))
+pub over_three : {X : Type 0} (o p q : Option X) (b : X) → unwrap_or (fold option_or None (o ∷ p ∷ q ∷ [])) b ≡ unwrap_or o (unwrap_or p (unwrap_or q b))
 over_three (Some c) p q b = refl
 over_three None (Some c) q b = refl
 over_three None None q b = refl
@@ -261,8 +262,8 @@ module _ {X Y : Type 0} (show : X → Y) (over : Option Color → Y → Y) (digi
   word_shown None below b = sym (none_shown (show b))
 
   words_shown : (t : Bool) (o p : Option ℕ) → Below o → Below p → (b : X) →
-      show (unwrap_or (first_some (where_true t dark ∷ option_map digits o ∷ option_map digits p ∷ [])) b)
-      ≡ over (first_some (where_true t Dark ∷ option_map (λ k. digit_color (binary_digit word k)) o
+      show (unwrap_or (fold option_or None (where_true t dark ∷ option_map digits o ∷ option_map digits p ∷ [])) b)
+      ≡ over (fold option_or None (where_true t Dark ∷ option_map (λ k. digit_color (binary_digit word k)) o
       ∷ option_map (λ k. digit_color (binary_digit word k)) p ∷ [])) (show b)
   words_shown true o p low high b = dark_shown (show b)
   words_shown false (Some k) p low high b = digit_shown k (show b) (low k refl)

@@ -1,12 +1,13 @@
 -- Eight candidates in one list of bytes, a byte a module: bit m is the colour in candidate m.
 use Rattle.std.specs.Prelude.{ℕ, ◌+◌, ◌-◌, ◌*◌, ◌/◌, ◌%◌, ◌<◌, ◌≤◌, ◌≡◌, ◌==◌, ◌&&◌, ◌||◌, Bool, if◌then◌else◌, List}
-use Rattle.std.specs.Prelude.{map, length, slice_index, slice_index_or}
+use Rattle.std.specs.Prelude.{map, length, slice_index, slice_index_or, pos, not}
 use Rattle.std.specs.Int.{bit_at}
 use Rattle.qrcode_grid.specs.declared.canvas.scoring.planes.Planes.{Planes}
 use Rattle.qrcode_grid.specs.declared.canvas.scoring.planes.Tally.{Tally}
+use Rattle.qrcode_base.specs.declared.types.Version.TheVariants.{Normal}
 use Rattle.qrcode_grid.specs.declared.canvas.MaskPattern.{MaskPattern}
 use Rattle.qrcode_grid.specs.declared.canvas.MaskPattern.TheVariants.{Checkerboard}
-use Rattle.qrcode_grid.specs.Masks.{normal_patterns}
+use Rattle.qrcode_grid.specs.Masks.{family}
 use Rattle.qrcode_grid.specs.declared.canvas.scoring.lists.Feature.{Feature}
 use Rattle.qrcode_grid.specs.declared.canvas.scoring.lists.Feature.TheVariants.{Finder, Square, Dark}
 use Rattle.qrcode_grid.specs.Regions.{sum_below, binary_digit, digit_color}
@@ -14,13 +15,17 @@ use Rattle.qrcode_grid.specs.Penalty.{byte_of}
 use Rattle.qrcode_grid.specs.declared.canvas.Module.{Module}
 use Rattle.qrcode_grid.specs.declared.canvas.Module.TheVariants.{Empty, Masked, Unmasked}
 
--- the mask with number m
+-- the mask with number m in Normal symbols
 abbrev pub pattern_of : ℕ → MaskPattern
-pattern_of m = slice_index_or normal_patterns m Checkerboard
+pattern_of m = slice_index_or (family (Normal (pos 1))) m Checkerboard
 
 -- candidate m
 abbrev pub plane : ℕ → List ℕ → List ℕ
 plane m bytes = map (λ b. bit_at b m) bytes
+
+-- whether a module as a byte is dark
+abbrev pub is_dark_byte : ℕ → Bool
+is_dark_byte b = not (b == 0)
 
 -- in how many of 16 lanes bit m is set
 unfoldable pub bit_count : ℕ → List ℕ → ℕ

@@ -1,10 +1,11 @@
 //! The penalties of eight candidates at once. A grid is a list of bytes, a byte a module, and bit m of a byte is its
 //! colour in candidate m. In the penalty of one Micro symbol a byte is 1 where a module is dark, 0 where it is light.
 ghost use Rattle.std.specs.Prelude.{◌≡◌, ℕ, ◌+◌, ◌*◌, ◌<◌, ◌≤◌, length, map, replicate, slice_index, take, IfOk};
+ghost use Rattle.std.specs.Prelude.{◌==◌, count_by, drop};
 ghost use Rattle.qrcode_base.specs.Symbols.{IsVersion, width_of};
 ghost use Rattle.qrcode_grid.specs.Canvas.{color_of_module};
-ghost use Rattle.qrcode_grid.specs.Penalty.{byte_of, micro_penalty, modules_penalty};
-ghost use Rattle.qrcode_grid.specs.Penalty.{normal_penalty, column, light_after_first};
+ghost use Rattle.qrcode_grid.specs.Penalty.{byte_of, penalty, micro_penalty};
+ghost use Rattle.qrcode_grid.specs.Penalty.{normal_penalty, column};
 ghost use Rattle.qrcode_grid.specs.Regions.{count_below};
 ghost use Rattle.qrcode_grid.specs.declared.canvas.scoring.lists.Feature.{Feature};
 ghost use Rattle.qrcode_grid.specs.Masks.{masked_cells};
@@ -162,7 +163,7 @@ fn copy_column(width: usize, modules: &[u8], x: usize, line: &mut [u8])
 /// How many modules of a line but its first are light.
 fn count_light(line: &[u8]) -> usize
     requires { 0 < length line.now }
-    ensures { result ≡ light_after_first line.now }
+    ensures { result ≡ count_by (λ m. m == 0) (drop 1 line.now) }
 {
     line[1..].iter().filter(|cell| **cell == 0).count()
 }
@@ -212,9 +213,8 @@ pub fn penalties_of(
     requires long { length scratch.old ≡ width * width + (12 * width + 6) + 2 * list_length width }
     requires light { (k : ℕ) → slice_index scratch.old k ≡ 0 }
     ensures penalties { (m : ℕ) → m < 8 →
-        slice_index result m ≡ modules_penalty version
-        (map byte_of (map color_of_module
-        (masked_cells version width (slice_index words.now m) (pattern_of m) modules.now))) }
+        slice_index result m ≡ penalty version (map color_of_module
+        (masked_cells version width (slice_index words.now m) (pattern_of m) modules.now)) }
     ensures candidates { (m : ℕ) → m < 8 →
         plane m (take (width * width) scratch.new) ≡
         map byte_of (map color_of_module

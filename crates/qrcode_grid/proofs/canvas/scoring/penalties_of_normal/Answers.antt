@@ -1,8 +1,8 @@
-use Rattle.std.proofs.Common.{◌≡◌, ℕ, ◌+◌, ◌*◌, ◌/◌, length, get_or, count_by, ap, ◌∙◌, sym, arith}
+use Rattle.std.proofs.Common.{◌≡◌, ℕ, ◌+◌, ◌*◌, ◌/◌, length, get_or, count_by, not, ◌==◌, ap, ◌∙◌, sym, arith}
 use Rattle.std.specs.Int.{abs_diff, bit_at}
 use Rattle.std.proofs.lemmas.Nat.Bits.{bit_at-zero}
-use Rattle.qrcode_grid.specs.Penalty.{is_dark_byte, balance_penalty, row, column, line_penalty}
-use Rattle.qrcode_grid.specs.Scoring.{IsPadded, plane}
+use Rattle.qrcode_grid.specs.Penalty.{row, column, line_penalty}
+use Rattle.qrcode_grid.specs.Scoring.{IsPadded, is_dark_byte, plane}
 use Rattle.qrcode_grid.proofs.MarkedLanes.{length-plane, plane_at, plane_small}
 use Rattle.qrcode_grid.proofs.PaddedCounts.{columns_are, rows_are, squares_are, darks_are}
 use Rattle.qrcode_grid.proofs.Totals.{total-plus}
@@ -23,7 +23,7 @@ returns c = λ m h.
     } in
     let edges = c.write_edges-2.ensures.edges m h in
     let darks = darks_are w cells padded stands square second (plane_small m grid) in
-    let balance : abs_diff (200 * get_or c.count-darks.result m 0 / (w * w)) 100 ≡ balance_penalty cells =
+    let balance : abs_diff (200 * get_or c.count-darks.result m 0 / (w * w)) 100 ≡ abs_diff (200 * count_by (λ m. not (m == 0)) cells / length cells) 100 =
     ap (λ n. abs_diff (200 * n / (w * w)) 100) (c.count-darks.ensures.is m h ∙ darks)
     ∙ ap (λ n. abs_diff (200 * count_by is_dark_byte cells / n) 100) (sym square) in
     omega (
