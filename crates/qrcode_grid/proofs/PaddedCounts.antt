@@ -1,12 +1,12 @@
 -- What is counted over all places of a padded grid, by its lines, its squares and its modules.
 use Rattle.std.proofs.Common.{◌≡◌, ℕ, zero, suc, ◌+◌, ◌-◌, ◌*◌, ◌<◌, ◌≤◌, ◌==◌, ◌&&◌, Bool, false, cond, List, length, get_or, count_by, refl, ap, ◌∙◌, sym}
-use Rattle.std.proofs.Common.{arith, ◌||◌, true, take, drop, inl, inr}
+use Rattle.std.proofs.Common.{arith, ◌∷◌, ◌||◌, true, take, drop, inl, inr}
 use Rattle.std.specs.List.{range_with_len}
 use Rattle.std.proofs.Math.Nat.{mul-le-mul_right, add-mul}
 use Rattle.std.proofs.lemmas.Bool.{cases_lt}
 use Rattle.std.proofs.lemmas.Bool.Decides.{nat_tests}
 use Rattle.qrcode_grid.specs.Regions.{sum_below, count_below}
-use Rattle.qrcode_grid.specs.Penalty.{row, column, line_penalty, count_of_squares, is_byte_square_at, quiet, are_light}
+use Rattle.qrcode_grid.specs.Penalty.{row, column, line_penalty, count_of_squares, is_byte_square_at, are_light}
 use Rattle.qrcode_grid.specs.Penalty.{is_pattern, is_finder_like}
 use Rattle.qrcode_grid.specs.Scoring.{is_dark_byte, AreEdges, IsPadded, cell, has, has_five, has_six, has_finder, has_square, places, stride, is_quiet}
 use Rattle.qrcode_grid.specs.declared.canvas.scoring.lists.Feature.TheVariants.{Finder, Square, Dark}
@@ -41,6 +41,10 @@ module _ (w : ℕ) (cells : List ℕ) (y : ℕ) (square : length cells ≡ w * w
 
   pub get_or-row : (x : ℕ) → x < w → get_or (row w cells y) x 0 ≡ get_or cells (y * w + x) 0
   get_or-row x h = ap (λ k. get_or (take k (drop (y * w) cells)) x 0) whole ∙ get_or-chunk (y * w) w cells x 0 h
+
+-- a line with the four modules of the quiet zone before it
+abbrev quiet : List ℕ → List ℕ
+quiet line = 0 ∷ 0 ∷ 0 ∷ 0 ∷ line
 
 -- a line by its places: four light modules, the line, and light modules after it
 quiet_from : (line : List ℕ) (n t : ℕ) (f : ℕ → ℕ) → length line ≡ n → ((t : ℕ) → t < 4 → f t ≡ 0) → ((i : ℕ) → i < n → f (4 + i) ≡ get_or line i 0) →
