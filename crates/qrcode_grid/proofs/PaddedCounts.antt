@@ -338,7 +338,8 @@ module _ (w : ℕ) (cells padded : List ℕ) (is : IsPadded w cells padded) (squ
           ap (λ n. count_by (is_byte_square_at a b) (range_with_len 0 n)) size,
         )
 
-    pub squares_are : 3 * count_below (has Square w 1 padded edges) (places w) ≡ 3 * sum_below (λ y. count_of_squares (row w cells y) (row w cells (y + 1))) (w - 1)
+    pub squares_are : 3 * count_below (has Square w 1 padded edges) (places w)
+        ≡ 3 * sum_below (λ y. count_of_squares (row w cells y) (row w cells (y + 1))) (w - 1)
     squares_are =
         let p = has Square w 1 padded edges in
         let f : ℕ → ℕ = λ y. count_below (λ x. p (y * s + x)) w in
