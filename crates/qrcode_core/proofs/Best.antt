@@ -24,7 +24,13 @@ best_symbol kind header bytes level limit number plan codewords symbol choice co
     let grid = symbol.modules in
     let payload = length (header_bits header) + total_bits (kind number) plan in
     let known : Reading = record {
-      bytes = bytes; version = kind number; level = level; mask = symbol.mask; header = header; payload = payload } in
+      bytes = bytes;
+      version = kind number;
+      level = level;
+      mask = symbol.mask;
+      header = header;
+      payload = payload;
+    } in
     let reads : Reads grid known = record {
       frame = code.frame;
       carries = drawn_carries (kind number) level code.frame codewords symbol code.frame_is drawn;

@@ -118,7 +118,13 @@ pub record IsBest (kind : ℕ → Version) (header : Option Header) (bytes : Lis
   pub plan : List Segment
   pub reading : Reading
   pub says : reading ≡ record {
-    bytes = bytes; version = kind number; level = level; mask = mask; header = header; payload = payload }
+    bytes = bytes;
+    version = kind number;
+    level = level;
+    mask = mask;
+    header = header;
+    payload = payload;
+  }
   pub reads : Reads grid reading
   pub only : (other : Reading) → Reads grid other → other ≡ reading
   pub functional : HasFunctionalColors (kind number) level mask grid
@@ -181,4 +187,10 @@ printed = map printed_color printed_rows
 
 abbrev pub printed_reading : Reading
 printed_reading = record {
-    bytes = codes "12345"; version = Micro (pos 1); level = L; mask = Diamonds; header = None; payload = 20 }
+  bytes = codes "12345";
+  version = Micro (pos 1);
+  level = L;
+  mask = Diamonds;
+  header = None;
+  payload = 20;
+}
