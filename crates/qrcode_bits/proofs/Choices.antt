@@ -1,7 +1,7 @@
 -- The choice of the version: a chosen plan fits wherever some plan does, and the first class of versions whose chosen plan fits
 -- decides.
-use Rattle.std.proofs.Common.{◌≡◌, ℕ, zero, suc, ◌+◌, ◌^◌, ◌<◌, ◌≤◌, List, [], ◌∷◌, ◌++◌, Some, length, refl, sym, ◌∙◌, arith, inl, inr, rules}
-use Rattle.std.specs.Prelude.{All, Option}
+use Rattle.std.proofs.Common.{◌≡◌, ℕ, zero, suc, ◌+◌, ◌^◌, ◌<◌, ◌≤◌, List, [], ◌∷◌, ◌++◌, Some, length, refl, sym, subst, ◌∙◌, arith, inl, inr, rules}
+use Rattle.std.specs.Prelude.{All, Option, flat_map}
 use Rattle.std.proofs.lemmas.Bool.{cases_lt, cases_eq}
 use Rattle.std.proofs.lemmas.List.Elements.{All-head, All-tail, All-nil, All-cons, All-append}
 use Rattle.qrcode_base.specs.declared.types.Version.{Version}
@@ -15,10 +15,10 @@ use Rattle.qrcode_base.proofs.Joins.{join-upper, join-upper_second}
 use Rattle.qrcode_base.proofs.Fields.{SameClass, capacity-rises, capacity-held, capacity-double}
 use Rattle.qrcode_bits.specs.declared.optimize.Segment.{Segment}
 use Rattle.qrcode_bits.specs.Parsing.{parsed}
-use Rattle.qrcode_bits.specs.Plans.{merged, total_bits, IsChosenPlan, joined, AreNonEmpty, merged_pieces, IsMergePlan, Fits, FitsNot, IsLeastBits, normal}
+use Rattle.qrcode_bits.specs.Plans.{merged, total_bits, IsChosenPlan, joined, merged_all, IsMergePlan, Fits, FitsNot, IsLeastBits, normal}
 use Rattle.qrcode_bits.specs.Plans.{micro, FitsNone, IsChoice, IsLeastHolding, IsClass}
 use Rattle.qrcode_bits.proofs.Growth.{total_bits-rise, total_bits-same, total_bits-double, chosen-same}
-use Rattle.qrcode_bits.proofs.CuttingPlans.{chosen-cutting, chosen-least}
+use Rattle.qrcode_bits.proofs.CuttingPlans.{AreNonEmpty, first-some, rest-some, chosen-cutting, chosen-least}
 use Rattle.std.proofs.lemmas.Grind.{common_steps}
 
 -- ---- Modes of a version
@@ -54,23 +54,27 @@ module _ (v : Version) where
   had-back xs ys h = λ k d b. grind (arith, common_steps, h (length xs + k) d)
 
   -- A version has the modes of a plan if and only if it has those of the segments.
-  pub pieces-had : (pieces : List (List Segment)) → AreNonEmpty pieces → All Had (joined pieces) → All Had (merged_pieces pieces)
+  pub pieces-had : (pieces : List (List Segment)) → AreNonEmpty pieces → All Had (joined pieces) → All Had (flat_map merged_all pieces)
   pieces-had [] some h = h
-  pieces-had ([] ∷ ps) some h = absurd (let n = some.0 in omega arith)
+  pieces-had ([] ∷ ps) some h = absurd (omega (arith, first-some [] ps some))
   pieces-had ((s ∷ ss) ∷ ps) some h =
-      All-append Had (merged s ss ∷ []) (merged_pieces ps)
+      All-append Had (merged s ss ∷ []) (flat_map merged_all ps)
       (All-cons Had (merged s ss) [] (merged-had s ss (had-front (s ∷ ss) (joined ps) h)) (All-nil Had))
-      (pieces-had ps some.1 (had-back (s ∷ ss) (joined ps) h))
+      (pieces-had ps (rest-some (s ∷ ss) ps some) (had-back (s ∷ ss) (joined ps) h))
 
-  pub had-pieces : (pieces : List (List Segment)) → AreNonEmpty pieces → All Had (merged_pieces pieces) → All Had (joined pieces)
+  pub had-pieces : (pieces : List (List Segment)) → AreNonEmpty pieces → All Had (flat_map merged_all pieces) → All Had (joined pieces)
   had-pieces [] some h = h
-  had-pieces ([] ∷ ps) some h = absurd (let n = some.0 in omega arith)
+  had-pieces ([] ∷ ps) some h = absurd (omega (arith, first-some [] ps some))
   had-pieces ((s ∷ ss) ∷ ps) some h =
-      search (arith, rules, All-append, had-merged, All-head, All-tail, had-pieces ps some.1 (All-tail Had (merged s ss) (merged_pieces ps) h))
+      search (arith, rules, All-append, had-merged, All-head, All-tail, had-pieces ps (rest-some (s ∷ ss) ps some) (All-tail Had (merged s ss) (flat_map merged_all ps) h))
 
   -- All plans of some bytes have their modes in a version, or none has.
   plans-had : (message : List ℕ) (plan other : List Segment) → IsMergePlan message plan → IsMergePlan message other → All Had other → All Had plan
-  plans-had message plan other p q h = grind (arith, had-pieces, pieces-had)
+  plans-had message plan other p q h =
+      let theirs = had-pieces q.pieces q.cutting.nonempty (subst (λ (s : List Segment). All Had s) q.merges h) in
+      let same : joined q.pieces ≡ joined p.pieces = q.cutting.whole ∙ sym p.cutting.whole in
+      let mine = pieces-had p.pieces p.cutting.nonempty (subst (λ (s : List Segment). All Had s) same theirs) in
+      subst (λ (s : List Segment). All Had s) (sym p.merges) mine
 
 -- ---- Chosen plans
 

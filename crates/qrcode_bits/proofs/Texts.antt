@@ -1,6 +1,6 @@
 -- Parsed segments, and those merged from them, are texts of their modes.
 use Rattle.std.proofs.Common.{◌≡◌, ℕ, ◌+◌, ◌-◌, ◌<◌, ◌≤◌, Bool, true, false, List, [], ◌∷◌, ◌++◌, length, map, take, drop, refl, sym, ap, ◌∙◌, subst, arith}
-use Rattle.std.specs.Prelude.{All, slice_range}
+use Rattle.std.specs.Prelude.{All, slice_range, flat_map}
 use Rattle.std.proofs.lemmas.List.{drop-drop}
 use Rattle.std.proofs.Math.Seq.{take-add, take-length}
 use Rattle.std.proofs.lemmas.List.Elements.{All-head, All-nil, All-drop}
@@ -13,9 +13,10 @@ use Rattle.qrcode_bits.specs.declared.optimize.Segment.{Segment}
 use Rattle.qrcode_bits.specs.Parsing.{Class}
 use Rattle.qrcode_bits.specs.Parsing.{Pair}
 use Rattle.qrcode_bits.specs.Parsing.{Run, class_of, class_mode, class_size, joins, add_unit, runs, units, run_segment, parsed, AreTexts}
-use Rattle.qrcode_bits.specs.Plans.{merged, joined, AreNonEmpty, merged_pieces, IsMergePlan}
+use Rattle.qrcode_bits.specs.Plans.{merged, joined, merged_all, IsMergePlan}
 use Rattle.qrcode_bits.specs.Spelling.{segment_pieces, LiesIn}
 use Rattle.qrcode_bits.specs.Frame.{message}
+use Rattle.qrcode_bits.proofs.CuttingPlans.{AreNonEmpty, first-some, rest-some}
 use Rattle.qrcode_bits.proofs.Runs.{class_size-some, joins-same}
 use Rattle.qrcode_bits.proofs.Adjoining.{class_of-one}
 use Rattle.qrcode_bits.proofs.Upward.{valid-append, valid-upward}
@@ -120,12 +121,13 @@ module _ (whole : List ℕ) where
   texts-append from mid to (x ∷ xs) ys h k = (h.0, h.1, h.2, texts-append x.end mid to xs ys h.3 k)
 
   pub texts-pieces : (from to : ℕ) (pieces : List (List Segment)) → AreNonEmpty pieces → AreTexts whole from (joined pieces) to →
-      AreTexts whole from (merged_pieces pieces) to
+      AreTexts whole from (flat_map merged_all pieces) to
   texts-pieces from to [] some h = h
-  texts-pieces from to ([] ∷ ps) some h = absurd (let n = some.0 in omega arith)
+  texts-pieces from to ([] ∷ ps) some h = absurd (omega (arith, first-some [] ps some))
   texts-pieces from to ((s ∷ ss) ∷ ps) some h =
       let w = texts-split from to (s ∷ ss) (joined ps) h in
-      texts-append from w.0 to (merged s ss ∷ []) (merged_pieces ps) (texts-merged s ss from w.0 w.1) (texts-pieces w.0 to ps some.1 w.2)
+      texts-append from w.0 to (merged s ss ∷ []) (flat_map merged_all ps) (texts-merged s ss from w.0 w.1)
+      (texts-pieces w.0 to ps (rest-some (s ∷ ss) ps some) w.2)
 
   -- Each part of a plan of the parsed segments is a text of its mode, and the parts together are all the bytes.
   pub texts-plan : All (λ c. c < 256) whole → (plan : List Segment) → IsMergePlan whole plan → AreTexts whole 0 plan (length whole)

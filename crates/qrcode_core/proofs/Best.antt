@@ -8,7 +8,7 @@ use Rattle.qrcode_bits.specs.Plans.{IsChoice, total_bits}
 use Rattle.qrcode_bits.specs.Frame.{Header, header_bits}
 use Rattle.qrcode_core.specs.Drawn.{DrawnSymbol, TellsReading}
 use Rattle.qrcode_core.specs.Layers.{IsEncoded, IsDrawn}
-use Rattle.qrcode_core.specs.Headline.{IsBest, Reads, reading_of}
+use Rattle.qrcode_core.specs.Headline.{IsBest, Reading, Reads}
 use Rattle.qrcode_core.proofs.BlocksApart.{blocks_apart}
 use Rattle.qrcode_core.proofs.DrawnReading.{drawn_carries}
 use Rattle.qrcode_core.proofs.GridsApart.{grids_apart}
@@ -23,7 +23,14 @@ pub best_symbol : (kind : ℕ → Version) (header : Option Header) (bytes : Lis
 best_symbol kind header bytes level limit number plan codewords symbol choice code drawn =
     let grid = symbol.modules in
     let payload = length (header_bits header) + total_bits (kind number) plan in
-    let known = reading_of bytes (kind number) level symbol.mask header payload in
+    let known : Reading = record {
+      bytes = bytes;
+      version = kind number;
+      level = level;
+      mask = symbol.mask;
+      header = header;
+      payload = payload;
+    } in
     let reads : Reads grid known = record {
       frame = code.frame;
       carries = drawn_carries (kind number) level code.frame codewords symbol code.frame_is drawn;

@@ -7,15 +7,15 @@ use Rattle.qrcode_base.specs.declared.types.EcLevel.{EcLevel}
 use Rattle.qrcode_base.specs.declared.types.Version.{Version}
 use Rattle.qrcode_grid.specs.declared.canvas.MaskPattern.{MaskPattern}
 use Rattle.qrcode_grid.specs.Codes.{AreBytes}
-use Rattle.qrcode_grid.specs.Blocks.{codeword_block}
+use Rattle.qrcode_grid.specs.Blocks.{AreBlocksApart, codeword_block}
 use Rattle.qrcode_base.specs.Symbols.{block_sizes}
-use Rattle.qrcode_core.specs.Headline.{Reading, Carries, Reads, CarriesApart, HasBlocksApart}
+use Rattle.qrcode_core.specs.Headline.{Reading, Carries, Reads}
 use Rattle.qrcode_grid.proofs.Distance.{AreBytes-block_in, length-block_in, distance-sound}
 use Rattle.qrcode_grid.proofs.WholeSymbols.{IsUsable-of_symbol}
 
 -- Every grid that carries bits has blocks that are apart from other sound lists.
 pub carries_apart : (grid : List Color) (version : Version) (level : EcLevel) (mask : MaskPattern) (bits : List Bool)
-    (r : Carries grid version level mask bits) → CarriesApart grid version level mask bits r
+    (r : Carries grid version level mask bits) → AreBlocksApart r.blocks.correction (block_sizes r.blocks) r.interleaved r.correction
 carries_apart grid version level mask bits r block within = λ other same bytes sound differ.
     let mine = codeword_block r.blocks.correction (block_sizes r.blocks) r.interleaved r.correction block in
     let usable = IsUsable-of_symbol version level r.blocks r.has_level in
@@ -25,5 +25,6 @@ carries_apart grid version level mask bits r block within = λ other same bytes 
     distance-sound _ mine other (sym same) long bytes_mine bytes (r.sound.sound block within) sound (λ e. differ (sym e))
 
 -- So has every grid that is read.
-pub blocks_apart : (grid : List Color) (reading : Reading) (r : Reads grid reading) → HasBlocksApart grid reading r
+pub blocks_apart : (grid : List Color) (reading : Reading) (r : Reads grid reading) →
+    AreBlocksApart r.carries.blocks.correction (block_sizes r.carries.blocks) r.carries.interleaved r.carries.correction
 blocks_apart grid reading r = carries_apart grid reading.version reading.level reading.mask r.frame r.carries

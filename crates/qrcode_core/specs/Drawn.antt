@@ -3,10 +3,11 @@ use Rattle.std.specs.Prelude.{◌≡◌, List, ℕ, ◌<◌, ◌≤◌, Bool, �
 use Rattle.qrcode_base.specs.declared.types.Color.{Color}
 use Rattle.qrcode_base.specs.declared.types.EcLevel.{EcLevel}
 use Rattle.qrcode_base.specs.declared.types.Version.{Version}
-use Rattle.qrcode_base.specs.Symbols.{width_of, capacity}
+use Rattle.qrcode_base.specs.Symbols.{width_of, capacity, block_sizes}
 use Rattle.qrcode_grid.specs.declared.canvas.MaskPattern.{MaskPattern}
+use Rattle.qrcode_grid.specs.Blocks.{AreBlocksApart}
 use Rattle.qrcode_core.specs.Grids.{Grid, grid_of}
-use Rattle.qrcode_core.specs.Headline.{Reading, Reads, CarriesApart, Carries}
+use Rattle.qrcode_core.specs.Headline.{Reading, Reads, Carries}
 use Rattle.qrcode_base.specs.declared.types.errors.QrError.{QrError}
 use Rattle.qrcode_base.specs.declared.types.errors.QrError.TheVariants.{DataTooLong, InvalidVersion, OutOfMemory}
 use Rattle.qrcode_bits.specs.Frame.{tail}
@@ -52,7 +53,8 @@ pub record IsSymbolOfBits (bits : List Bool) (version : Version) (level : EcLeve
   pub only : (v : Version) (l : EcLevel) (m : MaskPattern) (other : List Bool) → Carries symbol.modules v l m other →
       (v ≡ version) × (l ≡ level) × (m ≡ symbol.mask) × (other ≡ bits)
   pub best_mask : IsFirstLeastMask version level symbol.mask symbol.modules
-  pub apart : CarriesApart symbol.modules version level symbol.mask bits carries
+  pub apart : AreBlocksApart carries.blocks.correction (block_sizes carries.blocks) carries.interleaved
+      carries.correction
 
 -- The symbol of a stream's bits in its version, ended by terminator and padding at the capacity of a level.
 pub record HoldsStream (stream : Stream) (level : EcLevel) (symbol : DrawnSymbol) : Type 0 where

@@ -39,19 +39,12 @@ pub record Reading : Type 0 where
   pub header : Option Header
   pub payload : ℕ
 
-abbrev pub reading_of : List ℕ → Version → EcLevel → MaskPattern → Option Header → ℕ → Reading
-reading_of bytes version level mask header payload =
-    record { bytes = bytes; version = version; level = level; mask = mask; header = header; payload = payload }
-
--- The bits in the data cells, in their order and with the mask taken off: dark is one.
-abbrev pub raw_bits : Version → MaskPattern → List Color → List Bool
-raw_bits version mask grid = map is_dark (raw_colors version mask grid)
-
 -- A grid carries data bits, in a version, at a level and under a mask.
 --
--- The functional modules are those of the version, and show the level and the mask. The data cells hold the interleaved
--- data codewords, then the interleaved correction codewords, then zeros in the cells that are left over. Put back in
--- their order the codewords are sound blocks, and their data are the bits.
+-- The functional modules are those of the version, and show the level and the mask. The data cells, in their order and
+-- with the mask taken off, hold the interleaved data codewords, then the interleaved correction codewords, then zeros in
+-- the cells that are left over: dark is one. Put back in their order the codewords are sound blocks, and their data are
+-- the bits.
 --
 -- In M1 and M3 symbols the last data codeword has four bits: its low half is not drawn, and counts as zeros.
 pub record Carries (grid : List Color) (version : Version) (level : EcLevel) (mask : MaskPattern)
@@ -65,7 +58,8 @@ pub record Carries (grid : List Color) (version : Version) (level : EcLevel) (ma
   pub has_mask : IsOfFamily version mask
   pub is_square : length grid ≡ width_of version * width_of version
   pub functional : HasFunctionalColors version level mask grid
-  pub cells : raw_bits version mask grid ≡ drawn ++ (byte_bits correction ++ zero_bits (left_over version))
+  pub cells : map is_dark (raw_colors version mask grid) ≡
+      drawn ++ (byte_bits correction ++ zero_bits (left_over version))
   pub drawn_is : byte_bits interleaved ≡ drawn ++ zero_bits (missing_bits version)
   pub bytes_interleaved : AreBytes interleaved
   pub bytes_correction : AreBytes correction
@@ -90,32 +84,17 @@ HaveOneContent =
 
 -- ---- Distance
 
--- In each block, every other sound list of codewords of its length differs from it in more places than the block has
--- correction codewords.
-abbrev pub CarriesApart : (grid : List Color) (version : Version) (level : EcLevel) (mask : MaskPattern)
-    (bits : List Bool) → Carries grid version level mask bits → Type 0
-CarriesApart grid version level mask bits c =
-    AreBlocksApart c.blocks.correction (block_sizes c.blocks) c.interleaved c.correction
-
--- So is each block of a grid that is read.
-abbrev pub HasBlocksApart : (grid : List Color) (reading : Reading) → Reads grid reading → Type 0
-HasBlocksApart grid reading r = CarriesApart grid reading.version reading.level reading.mask r.frame r.carries
-
--- A grid differs from another one, each as it is read, in some block in more codewords than the block has correction
--- codewords.
-abbrev pub AreFarApart : (grid other : List Color) (r s : Reading) → Reads grid r → Reads other s → Type 0
-AreFarApart grid other r s f g =
-    let blocks = f.carries.blocks in
-    (block : ℕ) × (block < length (block_sizes blocks)) ×
-    (blocks.correction <
-    distance (codeword_block blocks.correction (block_sizes blocks) f.carries.interleaved f.carries.correction block)
-    (codeword_block blocks.correction (block_sizes blocks) g.carries.interleaved g.carries.correction block))
-
--- Every other grid that is read at the same version and level as other bytes is far apart from this one.
+-- Every other grid that is read at the same version and level as other bytes differs from this one, each as it is read,
+-- in some block in more codewords than the block has correction codewords.
 abbrev pub IsFarFromOthers : (grid : List Color) (reading : Reading) → Reads grid reading → Type 0
 IsFarFromOthers grid r f =
     (other : List Color) (s : Reading) (g : Reads other s) → s.version ≡ r.version → s.level ≡ r.level →
-    s.bytes ≢ r.bytes → AreFarApart grid other r s f g
+    s.bytes ≢ r.bytes →
+    let n = f.carries.blocks.correction in
+    let sizes = block_sizes f.carries.blocks in
+    (block : ℕ) × (block < length sizes) ×
+    (n < distance (codeword_block n sizes f.carries.interleaved f.carries.correction block)
+    (codeword_block n sizes g.carries.interleaved g.carries.correction block))
 
 -- So are any two grids.
 abbrev pub HaveDistance : Type 0
@@ -138,7 +117,14 @@ pub record IsBest (kind : ℕ → Version) (header : Option Header) (bytes : Lis
   pub payload : ℕ
   pub plan : List Segment
   pub reading : Reading
-  pub says : reading ≡ reading_of bytes (kind number) level mask header payload
+  pub says : reading ≡ record {
+    bytes = bytes;
+    version = kind number;
+    level = level;
+    mask = mask;
+    header = header;
+    payload = payload;
+  }
   pub reads : Reads grid reading
   pub only : (other : Reading) → Reads grid other → other ≡ reading
   pub functional : HasFunctionalColors (kind number) level mask grid
@@ -146,7 +132,8 @@ pub record IsBest (kind : ℕ → Version) (header : Option Header) (bytes : Lis
   pub smallest : (smaller : ℕ) → smaller < number → FitsNot (length (header_bits header)) bytes (kind smaller) level
   pub fewest : IsLeastBits (length (header_bits header)) bytes (kind number) payload
   pub best_mask : IsFirstLeastMask (kind number) level mask grid
-  pub apart : HasBlocksApart grid reading reads
+  pub apart : let found = reads.carries in
+      AreBlocksApart found.blocks.correction (block_sizes found.blocks) found.interleaved found.correction
   pub far : IsFarFromOthers grid reading reads
 
 abbrev pub IsBestSymbol : List ℕ → EcLevel → List Color → Type 0
@@ -199,4 +186,11 @@ abbrev pub printed : List Color
 printed = map printed_color printed_rows
 
 abbrev pub printed_reading : Reading
-printed_reading = reading_of (codes "12345") (Micro (pos 1)) L Diamonds None 20
+printed_reading = record {
+  bytes = codes "12345";
+  version = Micro (pos 1);
+  level = L;
+  mask = Diamonds;
+  header = None;
+  payload = 20;
+}

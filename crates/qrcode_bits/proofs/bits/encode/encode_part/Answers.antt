@@ -1,11 +1,11 @@
 -- The limit is one of 1 to 40, and the place one of the sequence.
 use Rattle.std.proofs.Common.{◌≡◌, ℤ, ap, arith}
-use Rattle.std.specs.Prelude.{nat_abs, length}
+use Rattle.std.specs.Prelude.{nat_abs, length, Some}
 use mir.Val.{to_z, of_z}
 use mir.Syntax.{w16}
 use Rattle.std.proofs.lemmas.Int.{ints, to_z-of_z}
 use Rattle.std.proofs.lemmas.Result.{IfErr-weaker}
-use Rattle.qrcode_bits.specs.Frame.{header_spelling, header}
+use Rattle.qrcode_bits.specs.Frame.{header_bits, header}
 use Rattle.qrcode_bits.specs.Plans.{normal}
 use Rattle.qrcode_bits.specs.Push.{IsUnencodable, IsPartRefused}
 use Rattle.qrcode_bits.proofs.Classes.{refused_part, limit_of}
@@ -18,7 +18,7 @@ returns-clause-err c =
     let number = nat_abs (to_z w16 (of_z w16 c.args.max_version)) in
     let limit = limit_of c.args.max_version (to_z w16 (of_z w16 c.args.max_version)) same c.if-max_version-lt1.false c.if-max_version-gt40.false in
     let numbers = header c.args.position c.args.total c.args.parity in
-    let size = length (header_spelling numbers) in
+    let size = length (header_bits (Some numbers)) in
     IfErr-weaker c.encode_up_to.result (IsUnencodable normal size c.args.bytes.now c.args.level number)
     (IsPartRefused c.args.position c.args.total c.args.bytes.now c.args.level c.args.max_version)
     (λ e. refused_part c.args.position c.args.total c.args.bytes.now c.args.level c.args.max_version number size e limit
