@@ -32,13 +32,13 @@ fn near_center(shape: Shape, coordinate: usize) -> Option<usize> {
     if steps == 0 {
         return None;
     }
-    for back in 0..steps {
-        let center = shape
-            .width
-            .wrapping_sub(7)
-            .wrapping_sub(back.wrapping_mul(step));
-        if center.abs_diff(coordinate) <= 2 {
-            return Some(center);
+    let end = shape.width.wrapping_sub(5);
+    if coordinate <= end {
+        let away = end.wrapping_sub(coordinate);
+        let back = away.checked_div(step).unwrap_or(0);
+        let past = back.wrapping_mul(step);
+        if back < steps && away.wrapping_sub(past) <= 4 {
+            return Some(shape.width.wrapping_sub(7).wrapping_sub(past));
         }
     }
     if coordinate >= 4 && coordinate <= 8 {
@@ -50,13 +50,14 @@ fn near_center(shape: Shape, coordinate: usize) -> Option<usize> {
 
 /// Whether a cell lies in an alignment pattern.
 fn is_in_alignment(shape: Shape, x: usize, y: usize) -> bool {
+    let Some(cx) = near_center(shape, x) else {
+        return false;
+    };
+    let Some(cy) = near_center(shape, y) else {
+        return false;
+    };
     let last = shape.width.wrapping_sub(7);
-    match (near_center(shape, x), near_center(shape, y)) {
-        (Some(cx), Some(cy)) => {
-            !((cx == 6 && cy == 6) || (cx == 6 && cy == last) || (cx == last && cy == 6))
-        }
-        _ => false,
-    }
+    !((cx == 6 && cy == 6) || (cx == 6 && cy == last) || (cx == last && cy == 6))
 }
 
 /// Whether a cell belongs to the version information.

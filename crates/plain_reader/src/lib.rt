@@ -86,14 +86,19 @@ pub fn blank_shape(number: usize, micro: bool) -> Shape {
     }
 }
 
-/// How many data codewords a version has at a level, if it has the level.
-pub fn data_count(shape: Shape, level: Level) -> Option<usize> {
+/// How many data cells a version has.
+pub fn data_cells(shape: Shape) -> usize {
     let mut cells: usize = 0;
     for number in 0..shape.width.wrapping_mul(shape.width.wrapping_sub(1)) {
         if cells::is_data(shape, number) {
             cells = cells.wrapping_add(1);
         }
     }
+    cells
+}
+
+/// How many data codewords a version with so many data cells has at a level, if it has the level.
+pub fn data_count(shape: Shape, level: Level, cells: usize) -> Option<usize> {
     blocks::data_count(shape, level, cells)
 }
 

@@ -1,5 +1,5 @@
 //! Symbols as full as their version allows, in all versions at all levels.
-use plain_reader::{Level, Seen, Shape, blank_shape, data_count};
+use plain_reader::{Level, Seen, Shape, blank_shape, data_cells, data_count};
 use qrcode_core::symbol::{symbol, symbol_micro};
 use qrcode_core::types::{Color, EcLevel};
 use std::alloc::Global;
@@ -25,10 +25,10 @@ pub(crate) fn seen(alloc: Global, bytes: &[u8], level: EcLevel, micro: bool) -> 
     plain_reader::read(alloc, &dark.collect::<Vec<bool>>(alloc).ok()?)
 }
 
-/// Whether the symbol of as many bytes as a version holds is read as these bytes, at this version and level (which is given in
-/// both words).
-fn is_read_back(alloc: Global, shape: Shape, level: EcLevel, wanted: Level) -> bool {
-    let Some(room) = data_count(shape, wanted) else {
+/// Whether the symbol of as many bytes as a version with so many data cells holds is read as these bytes, at this version and
+/// level (which is given in both words).
+fn is_read_back(alloc: Global, shape: Shape, cells: usize, level: EcLevel, wanted: Level) -> bool {
+    let Some(room) = data_count(shape, wanted, cells) else {
         return shape.micro;
     };
     let bits = room.saturating_mul(8);
@@ -57,8 +57,10 @@ fn is_read_back(alloc: Global, shape: Shape, level: EcLevel, wanted: Level) -> b
 /// The first of some versions that is not read back at some level.
 fn first_not_read_back(alloc: Global, versions: Range<usize>, micro: bool) -> Option<usize> {
     for number in versions {
+        let shape = blank_shape(number, micro);
+        let cells = data_cells(shape);
         for (level, wanted) in LEVELS {
-            if !is_read_back(alloc, blank_shape(number, micro), level, wanted) {
+            if !is_read_back(alloc, shape, cells, level, wanted) {
                 return Some(number);
             }
         }
