@@ -1,25 +1,14 @@
 -- The choice of the version: a chosen plan fits wherever some plan does, and the first class of versions whose chosen plan fits
 -- decides.
-use Rattle.std.proofs.Common.{◌≡◌, ℕ, zero, suc, ◌+◌, ◌^◌, ◌<◌, ◌≤◌, List, [], ◌∷◌, ◌++◌, Some, length, refl, sym, subst, ◌∙◌, arith, inl, inr, rules}
-use Rattle.std.specs.Prelude.{All, Option, flat_map}
-use Rattle.std.proofs.lemmas.Bool.{cases_lt, cases_eq}
-use Rattle.std.proofs.lemmas.List.Elements.{All-head, All-tail, All-nil, All-cons, All-append}
-use Rattle.qrcode_base.specs.declared.types.Version.{Version}
-use Rattle.qrcode_base.specs.declared.types.EcLevel.{EcLevel}
-use Rattle.qrcode_base.specs.declared.types.EcLevel.TheVariants.{L, M, Q, H}
-use Rattle.qrcode_base.specs.declared.types.Mode.{Mode}
-use Rattle.qrcode_base.specs.Modes.{IsWithin, same, digits, bytes, HasMode}
-use Rattle.std.proofs.lemmas.Option.{slice_get_past}
-use Rattle.qrcode_base.specs.Symbols.{capacity}
+use Rattle.qrcode_bits.proofs.Prelude.{◌≡◌, ℕ, zero, suc, ◌+◌, ◌^◌, ◌<◌, ◌≤◌, List, [], ◌∷◌, ◌++◌, Some, length, refl, sym, subst, ◌∙◌, arith, inl, inr, rules}
+use Rattle.qrcode_bits.proofs.Prelude.{All, Option, flat_map, cases_lt, cases_eq, All-head, All-tail, All-nil, All-cons, All-append, Version, EcLevel, L, M, Q}
+use Rattle.qrcode_bits.proofs.Prelude.{H, Mode, IsWithin, same, digits, bytes, HasMode, slice_get_past, capacity, Segment, parsed, merged, total_bits}
+use Rattle.qrcode_bits.proofs.Prelude.{IsChosenPlan, joined, merged_all, IsMergePlan, Fits, FitsNot, IsLeastBits, normal, micro, FitsNone, IsChoice}
+use Rattle.qrcode_bits.proofs.Prelude.{IsLeastHolding, IsClass, common_steps}
 use Rattle.qrcode_base.proofs.Joins.{join-upper, join-upper_second}
 use Rattle.qrcode_base.proofs.Fields.{SameClass, capacity-rises, capacity-held, capacity-double}
-use Rattle.qrcode_bits.specs.declared.optimize.Segment.{Segment}
-use Rattle.qrcode_bits.specs.Parsing.{parsed}
-use Rattle.qrcode_bits.specs.Plans.{merged, total_bits, IsChosenPlan, joined, merged_all, IsMergePlan, Fits, FitsNot, IsLeastBits, normal}
-use Rattle.qrcode_bits.specs.Plans.{micro, FitsNone, IsChoice, IsLeastHolding, IsClass}
 use Rattle.qrcode_bits.proofs.Growth.{total_bits-rise, total_bits-same, total_bits-double, chosen-same}
 use Rattle.qrcode_bits.proofs.CuttingPlans.{AreNonEmpty, first-some, rest-some, chosen-cutting, chosen-least}
-use Rattle.std.proofs.lemmas.Grind.{common_steps}
 
 -- ---- Modes of a version
 
@@ -66,7 +55,8 @@ module _ (v : Version) where
   had-pieces [] some h = h
   had-pieces ([] ∷ ps) some h = absurd (omega (arith, first-some [] ps some))
   had-pieces ((s ∷ ss) ∷ ps) some h =
-      search (arith, rules, All-append, had-merged, All-head, All-tail, had-pieces ps (rest-some (s ∷ ss) ps some) (All-tail Had (merged s ss) (flat_map merged_all ps) h))
+      search (arith, rules, All-append, had-merged, All-head, All-tail,
+      had-pieces ps (rest-some (s ∷ ss) ps some) (All-tail Had (merged s ss) (flat_map merged_all ps) h))
 
   -- All plans of some bytes have their modes in a version, or none has.
   plans-had : (message : List ℕ) (plan other : List Segment) → IsMergePlan message plan → IsMergePlan message other → All Had other → All Had plan

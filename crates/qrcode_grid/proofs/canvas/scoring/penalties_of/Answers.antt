@@ -1,10 +1,5 @@
-use Rattle.std.proofs.Common.{◌≡◌, ap, ◌∙◌, sym, map, get_or}
-use Rattle.qrcode_base.specs.declared.types.Version.TheVariants.{Normal}
-use Rattle.qrcode_base.specs.Symbols.{width_of}
-use Rattle.qrcode_grid.specs.Canvas.{color_of_module}
-use Rattle.qrcode_grid.specs.Masks.{masked_cells}
-use Rattle.qrcode_grid.specs.Penalty.{normal_penalty, penalty}
-use Rattle.qrcode_grid.specs.Scoring.{pattern_of, plane}
+use Rattle.qrcode_grid.proofs.Prelude.{◌≡◌, ap, ◌∙◌, sym, map, get_or, Normal, width_of, color_of_module, masked_cells, normal_penalty, penalty, pattern_of}
+use Rattle.qrcode_grid.proofs.Prelude.{plane}
 use Rattle.qrcode_grid.proofs.canvas.scoring.penalties_of.Goals as goal
 
 pub returns-in-Normal-clause-penalties : goal.returns-in-Normal-clause-penalties

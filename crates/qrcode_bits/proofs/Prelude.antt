@@ -1,0 +1,52 @@
+-- Words that many proofs of this crate import: lemmas and types of the toolchain, and types of the crates, each from where it stands.
+pub use Rattle.std.proofs.Common.{Bool, Err, List, None, Ok, Result, Some, [], add-zero, add_comm, ap, append-nil, append_assoc, arith, cond, drop, drop-cons}
+pub use Rattle.std.proofs.Common.{false, get_or, inl, inr, leb, length, length-append, map, max, min, mod-eq_of_lt, one-add, pos, refl, reverse, rules, subst}
+pub use Rattle.std.proofs.Common.{suc, sym, take, true, zero, zero-add, ℕ, ℤ, ◌%◌, ◌*◌, ◌++◌, ◌+◌, ◌-◌, ◌/◌, ◌<◌, ◌^◌, ◌∙◌, ◌∷◌, ◌≡◌, ◌≢◌, ◌≤◌, ◌⊎◌}
+pub use Rattle.std.proofs.Math.Seq.{drop-append_seam, take-add, take-append_seam, take-length}
+pub use Rattle.std.proofs.lemmas.Bool.{and_parts, cases_eq, cases_lt, eqb-true, leb-true, ltb-true}
+pub use Rattle.std.proofs.lemmas.Grind.{common_steps, flat_map-append, get_or_default_zero}
+pub use Rattle.std.proofs.lemmas.Int.{ints, to_z-of_z}
+pub use Rattle.std.proofs.lemmas.List.{drop-drop, drop_all, get_or_append_left, get_or_push, length-drop, length_push, map-append, map-id, take-append-drop}
+pub use Rattle.std.proofs.lemmas.List.Elements.{All-append, All-cons, All-drop, All-head, All-nil, All-tail, All-take}
+pub use Rattle.std.proofs.lemmas.List.FromFn.{get_or-map-range_with_len, length-map-range_with_len}
+pub use Rattle.std.proofs.lemmas.Nat.{and_mask, mod-pow-add, one_shl, or_shifted, pow-add, pow_below, pow_pos, shl_whole, shr-shr, shr_below, shr_split}
+pub use Rattle.std.proofs.lemmas.Option.{slice_get-get_or, slice_get_past}
+pub use Rattle.std.proofs.lemmas.Result.{IfErr-weaker, err_from_is_err_and}
+pub use Rattle.std.specs.Prelude.{All, Contains, IsOk, MatchOption, Option, bit_and, codes, flat_map, if◌then◌else◌, is_ok, is_some, nat_abs, nat_lt, slice_get}
+pub use Rattle.std.specs.Prelude.{slice_index_or, slice_range, vec_capacity, vec_len, ◌==◌}
+pub use Rattle.qrcode_base.specs.Characters.{IsDigit, IsFirstInvalid, IsKanji, IsKanjiText, IsValid, alphabet, digit, is_between, is_kanji_pair}
+unfoldable pub use Rattle.qrcode_base.specs.Characters.{alphanumeric_value, is_alphanumeric, kanji_number}
+pub use Rattle.qrcode_base.specs.Modes.{HasMode, IsWithin, bytes, characters, count_width, data_bits, digits, indicator, indicator_width, join, same}
+pub use Rattle.qrcode_base.specs.Numbers.{byte_bits, zero_bits}
+unfoldable pub use Rattle.qrcode_base.specs.Numbers.{number_bits}
+pub use Rattle.qrcode_base.specs.Symbols.{IsNormalNumber, capacity, capacity_with, normal_blocks}
+pub use Rattle.qrcode_base.specs.declared.types.EcLevel.{EcLevel}
+pub use Rattle.qrcode_base.specs.declared.types.EcLevel.TheVariants.{H, L, M, Q}
+pub use Rattle.qrcode_base.specs.declared.types.Mode.{Mode}
+pub use Rattle.qrcode_base.specs.declared.types.Mode.TheVariants.{Alphanumeric, Byte, Kanji, Numeric}
+pub use Rattle.qrcode_base.specs.declared.types.Version.{Version}
+pub use Rattle.qrcode_base.specs.declared.types.Version.TheVariants.{Micro, Normal}
+pub use Rattle.qrcode_base.specs.declared.types.errors.QrError.{QrError}
+pub use Rattle.qrcode_base.specs.declared.types.errors.QrError.TheVariants.{DataTooLong, InvalidVersion, OutOfMemory}
+pub use Rattle.qrcode_bits.specs.Buckets.{AreGroups, AreShortSteps, Enters, HasBucket, InBucket, IsAhead, IsBestStart, IsBetterOf, IsGroup, at, best_start}
+pub use Rattle.qrcode_bits.specs.Buckets.{bits_before, bucket_first, bucket_mode, bucket_rest, bucket_start, first_mode, group_of, key_of, next_plan, no_modes}
+pub use Rattle.qrcode_bits.specs.Buckets.{part_mode, parts_before, period, period_bits, plans_below, short_at, slot, start_told, step_told, told, word_at}
+unfoldable pub use Rattle.qrcode_bits.specs.Buckets.{chosen_plan}
+pub use Rattle.qrcode_bits.specs.Frame.{AreSpelled, HasHeader, Header, IsFrame, IsPlace, ended, half_byte, half_byte_width, header, header_bits, message}
+pub use Rattle.qrcode_bits.specs.Frame.{padding, spellings, tail, terminator_width}
+unfoldable pub use Rattle.qrcode_bits.specs.Frame.{bytes_in_turn}
+pub use Rattle.qrcode_bits.specs.Parsing.{AreTexts, Class, Digit, LoneLead, Other, Pair, Run, Sign, add_unit, class_mode, class_number, class_of, class_size}
+pub use Rattle.qrcode_bits.specs.Parsing.{joins, parsed, parsed_from, run_segment, runs, units}
+pub use Rattle.qrcode_bits.specs.Plans.{AreSteps, Fits, FitsNone, FitsNot, HasLinearCosts, IsAsGood, IsChoice, IsChosen, IsChosenPlan, IsClass, IsCutting}
+pub use Rattle.qrcode_bits.specs.Plans.{IsLeastBits, IsLeastHolding, IsMergePlan, IsMinVersion, IsNoWorse, IsPlan, IsStep, StartsNoEarlier, joined, merge}
+pub use Rattle.qrcode_bits.specs.Plans.{merged, merged_all, micro, normal, part, part_bits, parts, plan_bits, segment_at, segment_bits, step_at, total_bits}
+pub use Rattle.qrcode_bits.specs.Push.{Ends, EndsAtLevel, IsEncoding, IsEncodingRefused, IsEndRefused, IsHeaderRefused, IsLevelRefused, IsPartRefused}
+pub use Rattle.qrcode_bits.specs.Push.{IsPlanStream, IsPushRefused, IsUnencodable, PushesDrawn, PushesPieces, Spells, SpellsAll, StopsAt, with_modes}
+pub use Rattle.qrcode_bits.specs.Spelling.{IsSpellable, IsSpelling, LiesIn, Piece, character_bits, character_count, segment_piece, segment_pieces, spelling}
+unfoldable pub use Rattle.qrcode_bits.specs.Spelling.{alphanumeric_bits, kanji_bits, numeric_bits}
+pub use Rattle.qrcode_bits.specs.Stream.{Appends, AreShifted, IsKept, Reserves, Stream, eci_spelling, kept_bits, room_in, shifted}
+pub use Rattle.qrcode_bits.specs.declared.optimize.Segment.{Segment}
+pub use Rattle.qrcode_bits.specs.declared.optimize.groups.Groups.{Groups}
+pub use Rattle.qrcode_bits.specs.declared.optimize.short.TheConstants.{PERIOD_BITS, RESTS}
+pub use Rattle.qrcode_bits.specs.declared.optimize.steps.Candidate.{Candidate}
+pub use Rattle.qrcode_bits.specs.declared.optimize.steps.Step.{Step}
