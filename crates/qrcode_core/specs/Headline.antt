@@ -43,8 +43,8 @@ pub record Reading : Type 0 where
 --
 -- The functional modules are those of the version, and show the level and the mask. The data cells, in their order and
 -- with the mask taken off, dark as one, hold the interleaved data codewords, then the interleaved correction codewords,
--- then zeros in the cells that are left over. Put back in their order the codewords are sound blocks, and their data are
--- the bits.
+-- then zeros in the cells that are left over. Put back in their order the codewords are sound blocks, and their data
+-- are the bits.
 --
 -- In M1 and M3 symbols the last data codeword has four bits: its low half is not drawn, and counts as zeros.
 pub record Carries (grid : List Color) (version : Version) (level : EcLevel) (mask : MaskPattern)
