@@ -55,8 +55,15 @@ module _ (v : Version) where
   had-pieces [] some h = h
   had-pieces ([] ∷ ps) some h = absurd (omega (arith, first-some [] ps some))
   had-pieces ((s ∷ ss) ∷ ps) some h =
-      search (arith, rules, All-append, had-merged, All-head, All-tail,
-      had-pieces ps (rest-some (s ∷ ss) ps some) (All-tail Had (merged s ss) (flat_map merged_all ps) h))
+      search (
+        arith,
+        rules,
+        All-append,
+        had-merged,
+        All-head,
+        All-tail,
+        had-pieces ps (rest-some (s ∷ ss) ps some) (All-tail Had (merged s ss) (flat_map merged_all ps) h),
+      )
 
   -- All plans of some bytes have their modes in a version, or none has.
   plans-had : (message : List ℕ) (plan other : List Segment) → IsMergePlan message plan → IsMergePlan message other → All Had other → All Had plan

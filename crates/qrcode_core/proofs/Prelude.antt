@@ -9,7 +9,7 @@ pub use Rattle.std.proofs.lemmas.List.Sorted.{Contains-permutation, IsPermutatio
 pub use Rattle.std.proofs.lemmas.Option.{none-some, same_Some}
 pub use Rattle.std.proofs.lemmas.Result.{IfOk-weaker, err_from_is_err_and}
 pub use Rattle.std.specs.List.{AllByRecursion, AllZip, concat, count_by, range_with_len}
-pub use Rattle.std.specs.List.Sorted.{IsNonDecreasing, IsStrictlySortedBy}
+pub use Rattle.std.specs.List.Sorted.{IsNonDecreasing}
 pub use Rattle.std.specs.Prelude.{All, IsPermutation, IsTrue, None, Option, Some, codes, is_some, slice_get, slice_range, unwrap_or}
 pub use Rattle.std.specs.String.{string_bytes, string_cmp}
 pub use Rattle.qrcode_base.specs.Numbers.{byte_bits, zero_bits}
