@@ -1,15 +1,12 @@
 -- The first invalid byte of a text is one, and one only; there is none exactly where the text is valid.
-use Rattle.std.proofs.Common.{◌≡◌, ℕ, zero, suc, ◌<◌, ◌≤◌, refl, sym, ap, ◌∙◌, arith, subst, List, [], ◌∷◌, length, take, Bool, true, inl, inr}
-use Rattle.std.specs.Prelude.{Option, Some, None, All, Contains, slice_get, option_map, ◌↔◌, if◌then◌else◌, ◌&&◌, nat_le}
+use Rattle.qrcode_base.proofs.Prelude.{◌≡◌, ℕ, zero, suc, ◌<◌, ◌≤◌, refl, sym, ap, ◌∙◌, arith, subst, List, [], ◌∷◌, length, take, Bool, true, inl, inr, Option}
+use Rattle.qrcode_base.proofs.Prelude.{Some, None, All, Contains, slice_get, if◌then◌else◌, ◌&&◌, take-length, cases_lt, slice_get_within, slice_get-get_or}
+use Rattle.qrcode_base.proofs.Prelude.{Mode, Numeric, Alphanumeric, Byte, Kanji, IsDigit, alphabet, is_alphanumeric, is_kanji_pair, IsKanjiText, IsFirstInvalid}
+use Rattle.std.specs.Prelude.{option_map, ◌↔◌, nat_le}
 use Rattle.std.specs.List.{list_all}
-use Rattle.std.proofs.Math.Seq.{take-length}
-use Rattle.std.proofs.lemmas.Bool.{false≢true, cases_lt}
+use Rattle.std.proofs.lemmas.Bool.{false≢true}
 use Rattle.std.proofs.lemmas.List.Sums.{AllPass-from_list_all, list_all-from_AllPass}
-use Rattle.std.proofs.lemmas.Option.{slice_get_within, slice_get-get_or}
-use Rattle.qrcode_base.specs.declared.types.Mode.{Mode}
-use Rattle.qrcode_base.specs.declared.types.Mode.TheVariants.{Numeric, Alphanumeric, Byte, Kanji}
-use Rattle.qrcode_base.specs.Characters.{is_between, IsDigit, alphabet, is_alphanumeric, is_kanji_pair, IsKanjiText, is_kanji_text, IsValid, is_valid}
-use Rattle.qrcode_base.specs.Characters.{longest_beginning, first_invalid, IsFirstInvalid, FirstInvalid}
+use Rattle.qrcode_base.specs.Characters.{is_between, is_kanji_text, IsValid, is_valid, longest_beginning, first_invalid, FirstInvalid}
 use Rattle.qrcode_base.proofs.Alphabet.{and_left, and_right, is_alphanumeric-inside, is_alphanumeric-from_inside}
 
 -- ---- The test of a text

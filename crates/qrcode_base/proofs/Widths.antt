@@ -1,11 +1,6 @@
 -- Which versions have blocks, and that the width of a symbol tells its version.
-use Rattle.std.proofs.Common.{◌≡◌, ℕ, ◌*◌, sym, ◌∙◌, arith}
-use Rattle.std.specs.Prelude.{Some}
-use Rattle.std.proofs.lemmas.Option.{slice_get_within}
-use Rattle.qrcode_base.specs.declared.symbols.BlockLayout.{BlockLayout}
-use Rattle.qrcode_base.specs.declared.types.EcLevel.{EcLevel}
-use Rattle.qrcode_base.specs.declared.types.Version.{Version}
-use Rattle.qrcode_base.specs.Symbols.{blocks_of, IsVersion, width_of}
+use Rattle.qrcode_base.proofs.Prelude.{◌≡◌, ℕ, ◌*◌, sym, ◌∙◌, arith, Some, slice_get_within, BlockLayout, EcLevel, Version, blocks_of}
+use Rattle.qrcode_base.specs.Symbols.{IsVersion, width_of}
 
 -- ---- Versions with blocks
 

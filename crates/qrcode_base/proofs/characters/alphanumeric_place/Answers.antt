@@ -1,5 +1,4 @@
-use Rattle.std.proofs.Common.{arith, get_or, ap, ◌∙◌}
-use Rattle.qrcode_base.specs.declared.characters.TheConstants.{PLACES}
+use Rattle.qrcode_base.proofs.Prelude.{arith, get_or, ap, ◌∙◌, PLACES}
 use Rattle.qrcode_base.proofs.Alphabet.{PLACES-some}
 use Rattle.qrcode_base.proofs.characters.alphanumeric_place.Goals as goal
 

@@ -1,4 +1,4 @@
-use Rattle.std.proofs.Common.{◌≡◌, ℕ, List, [], ◌∷◌, refl, ap, sym, get_or}
+use Rattle.qrcode_base.proofs.Prelude.{◌≡◌, ℕ, List, [], ◌∷◌, refl, ap, sym, get_or}
 use Rattle.std.specs.Hash.{le_bytes}
 use Rattle.qrcode_base.specs.declared.types.Color.TheVariants.{Light, Dark}
 use Rattle.qrcode_base.proofs.laws.colors_hash_as_they_compare.Goals as goal
