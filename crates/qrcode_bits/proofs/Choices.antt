@@ -1,25 +1,16 @@
 -- The choice of the version: a chosen plan fits wherever some plan does, and the first class of versions whose chosen plan fits
 -- decides.
-use Rattle.std.proofs.Common.{◌≡◌, ℕ, zero, suc, ◌+◌, ◌^◌, ◌<◌, ◌≤◌, List, [], ◌∷◌, ◌++◌, Some, length, refl, sym, ◌∙◌, arith, inl, inr, rules}
-use Rattle.std.specs.Prelude.{All, Option}
-use Rattle.std.proofs.lemmas.Bool.{cases_lt, cases_eq}
-use Rattle.std.proofs.lemmas.List.Elements.{All-head, All-tail, All-nil, All-cons, All-append}
-use Rattle.qrcode_base.specs.declared.types.Version.{Version}
-use Rattle.qrcode_base.specs.declared.types.EcLevel.{EcLevel}
-use Rattle.qrcode_base.specs.declared.types.EcLevel.TheVariants.{L, M, Q, H}
-use Rattle.qrcode_base.specs.declared.types.Mode.{Mode}
-use Rattle.qrcode_base.specs.Modes.{IsWithin, same, digits, bytes, HasMode}
-use Rattle.std.proofs.lemmas.Option.{slice_get_past}
-use Rattle.qrcode_base.specs.Symbols.{capacity}
+use Rattle.qrcode_bits.proofs.Prelude.{◌≡◌, ℕ, zero, suc, ◌+◌, ◌^◌, ◌<◌, ◌≤◌, List, [], ◌∷◌, ◌++◌, Some, length, refl, sym, ◌∙◌, arith, inl, inr, rules, All}
+use Rattle.qrcode_bits.proofs.Prelude.{Option, cases_lt, cases_eq, All-head, All-tail, All-nil, All-append, Version, EcLevel, L, M, Mode, IsWithin, same}
+use Rattle.qrcode_bits.proofs.Prelude.{digits, bytes, HasMode, slice_get_past, capacity, Segment, parsed, merged, total_bits, IsChosenPlan, joined, AreNonEmpty}
+use Rattle.qrcode_bits.proofs.Prelude.{merged_pieces, IsMergePlan, Fits, FitsNot, normal, micro, FitsNone, IsLeastHolding, IsClass, common_steps}
+use Rattle.std.proofs.lemmas.List.Elements.{All-cons}
+use Rattle.qrcode_base.specs.declared.types.EcLevel.TheVariants.{Q, H}
 use Rattle.qrcode_base.proofs.Joins.{join-upper, join-upper_second}
 use Rattle.qrcode_base.proofs.Fields.{SameClass, capacity-rises, capacity-held, capacity-double}
-use Rattle.qrcode_bits.specs.declared.optimize.Segment.{Segment}
-use Rattle.qrcode_bits.specs.Parsing.{parsed}
-use Rattle.qrcode_bits.specs.Plans.{merged, total_bits, IsChosenPlan, joined, AreNonEmpty, merged_pieces, IsMergePlan, Fits, FitsNot, IsLeastBits, normal}
-use Rattle.qrcode_bits.specs.Plans.{micro, FitsNone, IsChoice, IsLeastHolding, IsClass}
+use Rattle.qrcode_bits.specs.Plans.{IsLeastBits, IsChoice}
 use Rattle.qrcode_bits.proofs.Growth.{total_bits-rise, total_bits-same, total_bits-double, chosen-same}
 use Rattle.qrcode_bits.proofs.CuttingPlans.{chosen-cutting, chosen-least}
-use Rattle.std.proofs.lemmas.Grind.{common_steps}
 
 -- ---- Modes of a version
 

@@ -1,34 +1,22 @@
 -- A chosen plan decides for its version, and that of the last version of a class for the class.
-use Rattle.std.proofs.Common.{◌≡◌, ℕ, zero, suc, ℤ, false, pos, ◌+◌, ◌-◌, ◌*◌, ◌^◌, ◌<◌, ◌≤◌, List, [], ◌∷◌, length, sym, ap, subst, arith, inl, inr}
-use Rattle.std.proofs.Common.{Result, Ok, Err}
-use Rattle.std.specs.Prelude.{All, Option, Some, nat_abs, MatchOption, min, ◌⊎◌}
-use Rattle.std.proofs.lemmas.Bool.{cases_lt}
-use Rattle.qrcode_base.specs.declared.types.Version.{Version}
-use Rattle.qrcode_base.specs.declared.types.EcLevel.{EcLevel}
-use Rattle.qrcode_base.specs.declared.types.Mode.{Mode}
-use Rattle.qrcode_base.specs.declared.types.errors.QrError.{QrError}
-use Rattle.qrcode_base.specs.declared.types.errors.QrError.TheVariants.{DataTooLong, OutOfMemory}
+use Rattle.qrcode_bits.proofs.Prelude.{◌≡◌, ℕ, zero, suc, ℤ, false, pos, ◌+◌, ◌-◌, ◌*◌, ◌^◌, ◌<◌, ◌≤◌, List, [], ◌∷◌, length, sym, ap, subst, arith, inl, inr}
+use Rattle.qrcode_bits.proofs.Prelude.{Result, Ok, Err, All, Option, nat_abs, MatchOption, cases_lt, Version, EcLevel, Mode, QrError, DataTooLong, OutOfMemory}
+use Rattle.qrcode_bits.proofs.Prelude.{capacity, HasMode, indicator_width, count_width, Segment, parsed, AreTexts, HasLinearCosts, IsChosenPlan, total_bits}
+use Rattle.qrcode_bits.proofs.Prelude.{IsMergePlan, Fits, FitsNot, FitsNone, normal, IsLeastHolding, IsMinVersion, IsClass, Header, header_bits, Stream}
+use Rattle.qrcode_bits.proofs.Prelude.{IsPlanStream, IsUnencodable, IsEncodingRefused, IsPartRefused, LiesIn, common_steps}
+use Rattle.std.specs.Prelude.{Some, min, ◌⊎◌}
 use Rattle.qrcode_base.specs.declared.symbols.BlockLayout.{BlockLayout}
-use Rattle.qrcode_base.specs.Symbols.{normal_blocks, capacity, capacity_with}
-use Rattle.qrcode_base.specs.Modes.{HasMode, indicator_width, count_width}
+use Rattle.qrcode_base.specs.Symbols.{normal_blocks, capacity_with, IsNormalNumber}
 use Rattle.qrcode_base.proofs.Fields.{capacity-held, SameClass}
 use Rattle.std.proofs.lemmas.Option.{slice_get-get_or}
 use lib.Signed.{lt_z}
-use Rattle.qrcode_bits.specs.declared.optimize.Segment.{Segment}
-use Rattle.qrcode_bits.specs.Parsing.{parsed, AreTexts}
-use Rattle.qrcode_bits.specs.Plans.{HasLinearCosts, IsChosenPlan, total_bits, IsMergePlan, Fits, FitsNot, FitsNone, normal, IsLeastHolding, IsMinVersion}
-use Rattle.qrcode_bits.specs.Plans.{IsClass}
-use Rattle.qrcode_bits.specs.Frame.{Header, IsPlace, header_bits}
-use Rattle.qrcode_bits.specs.Stream.{Stream}
-use Rattle.qrcode_bits.specs.Push.{IsPlanStream, IsEncoding, IsUnencodable, IsEncodingRefused, IsPartRefused}
-use Rattle.qrcode_base.specs.Symbols.{IsNormalNumber}
-use Rattle.qrcode_bits.specs.Spelling.{LiesIn}
+use Rattle.qrcode_bits.specs.Frame.{IsPlace}
+use Rattle.qrcode_bits.specs.Push.{IsEncoding}
 use Rattle.qrcode_bits.proofs.Adjoining.{parsed-linear}
 use Rattle.qrcode_bits.proofs.Growth.{total_bits-rise, total_bits-same}
 use Rattle.qrcode_bits.proofs.Upward.{All-map}
 use Rattle.qrcode_bits.proofs.Texts.{texts-reach, texts-plan, plan_lies}
 use Rattle.qrcode_bits.proofs.Choices.{chosen_is_plan, chosen_decides, fits_normal, capacity-grows, class_choice}
-use Rattle.std.proofs.lemmas.Grind.{common_steps}
 use Rattle.qrcode_bits.proofs.Pairs.{bytes_valid}
 
 -- ---- Costs are small

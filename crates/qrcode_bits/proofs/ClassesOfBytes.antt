@@ -1,20 +1,14 @@
 -- The classes of bytes by their numbers, computed at each byte, and what stands at a place.
-use Rattle.std.proofs.Common.{zero, suc}
-use Rattle.std.proofs.Common.{◌≡◌, ℕ, ◌+◌, ◌-◌, ◌<◌, ◌≤◌, Bool, true, false, List, ◌∷◌, length, drop, get_or, refl, ap, sym, ◌∙◌, arith, inl, inr, ◌⊎◌}
+use Rattle.qrcode_bits.proofs.Prelude.{zero, suc, ◌≡◌, ℕ, ◌+◌, ◌-◌, ◌<◌, ◌≤◌, Bool, true, false, List, ◌∷◌, length, drop, get_or, refl, ap, sym, ◌∙◌, arith}
+use Rattle.qrcode_bits.proofs.Prelude.{inl, inr, ◌⊎◌, cases_lt, drop_all, get_or-map-range_with_len, Mode, Byte, is_alphanumeric, is_kanji_pair, Class, Pair}
+use Rattle.qrcode_bits.proofs.Prelude.{class_number, class_of, class_size, units, joins, parsed_from, class_mode, common_steps}
 use Rattle.std.specs.Prelude.{map}
 use Rattle.std.specs.List.{range_with_len}
 use Rattle.std.proofs.Math.Seq.{drop-cons}
-use Rattle.std.proofs.lemmas.Bool.{cases_lt}
-use Rattle.std.proofs.lemmas.List.{drop_all}
-use Rattle.std.proofs.lemmas.List.FromFn.{get_or-map-range_with_len}
-use Rattle.qrcode_base.specs.declared.types.Mode.{Mode}
-use Rattle.qrcode_base.specs.declared.types.Mode.TheVariants.{Byte}
-use Rattle.qrcode_base.specs.Characters.{is_alphanumeric, is_kanji_pair}
 use Rattle.qrcode_bits.specs.declared.optimize.parser.TheConstants.{CLASSES}
-use Rattle.qrcode_bits.specs.Parsing.{Class, Digit, Sign, Other, Pair, LoneLead, class_number, class_of, class_size, units, joins, parsed_from, class_mode}
+use Rattle.qrcode_bits.specs.Parsing.{Digit, Sign, Other, LoneLead}
 use Rattle.qrcode_bits.proofs.Adjoining.{class_of-one}
 use Rattle.qrcode_bits.proofs.Runs.{IsRun, Run-first, Run-more, Run-apart}
-use Rattle.std.proofs.lemmas.Grind.{common_steps}
 
 -- ---- The table
 

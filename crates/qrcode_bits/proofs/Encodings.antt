@@ -1,19 +1,9 @@
 -- The stream of a plan that fits: no push is refused but for memory, and up to the capacity it is a frame.
-use Rattle.std.proofs.Common.{◌≡◌, ℕ, ◌+◌, ◌<◌, Bool, List, ◌++◌, Some, length, take, sym, ap, ◌∙◌, subst, arith, length-append}
-use Rattle.std.specs.Prelude.{All, Option}
-use Rattle.qrcode_base.specs.declared.types.Version.{Version}
-use Rattle.qrcode_base.specs.declared.types.EcLevel.{EcLevel}
-use Rattle.qrcode_base.specs.declared.types.errors.QrError.{QrError}
-use Rattle.qrcode_base.specs.declared.types.errors.QrError.TheVariants.{OutOfMemory}
-use Rattle.qrcode_base.specs.Symbols.{capacity}
+use Rattle.qrcode_bits.proofs.Prelude.{◌≡◌, ℕ, ◌+◌, ◌<◌, Bool, List, ◌++◌, Some, length, take, sym, ap, ◌∙◌, subst, arith, length-append, All, Option, Version}
+use Rattle.qrcode_bits.proofs.Prelude.{EcLevel, QrError, OutOfMemory, capacity, Segment, total_bits, Fits, no_modes, Piece, segment_pieces, Header, HasHeader}
+use Rattle.qrcode_bits.proofs.Prelude.{spellings, ended, header_bits, IsFrame, Stream, SpellsAll, IsLevelRefused, IsPlanStream}
 use Rattle.qrcode_bits.specs.declared.bits.headers.EncodingModes.{EncodingModes}
-use Rattle.qrcode_bits.specs.declared.optimize.Segment.{Segment}
-use Rattle.qrcode_bits.specs.Plans.{total_bits, Fits}
-use Rattle.qrcode_bits.specs.Buckets.{no_modes}
-use Rattle.qrcode_bits.specs.Spelling.{Piece, segment_pieces}
-use Rattle.qrcode_bits.specs.Frame.{Header, HasHeader, spellings, ended, header_bits, IsFrame}
-use Rattle.qrcode_bits.specs.Stream.{Stream}
-use Rattle.qrcode_bits.specs.Push.{SpellsAll, EndsAtLevel, IsLevelRefused, with_modes, IsPlanStream}
+use Rattle.qrcode_bits.specs.Push.{EndsAtLevel, with_modes}
 use Rattle.qrcode_bits.proofs.Choices.{some_same}
 use Rattle.qrcode_bits.proofs.PlanFrames.{spelled_plan, plan_frame}
 

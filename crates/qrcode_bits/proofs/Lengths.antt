@@ -1,19 +1,10 @@
 -- No message of more than 7089 bytes fits a symbol.
-use Rattle.std.proofs.Common.{◌≡◌, ℕ, ◌+◌, ◌-◌, ◌*◌, ◌/◌, ◌<◌, ◌≤◌, List, [], ◌∷◌, Some, length, arith, inl, inr}
-use Rattle.std.specs.Prelude.{All}
-use Rattle.std.proofs.lemmas.Bool.{cases_lt}
-use Rattle.qrcode_base.specs.declared.types.Version.{Version}
-use Rattle.qrcode_base.specs.declared.types.EcLevel.{EcLevel}
-use Rattle.qrcode_base.specs.Symbols.{capacity}
-use Rattle.qrcode_base.specs.declared.types.Mode.{Mode}
-use Rattle.qrcode_base.specs.Modes.{count_width, indicator_width}
-use Rattle.qrcode_bits.specs.declared.optimize.Segment.{Segment}
-use Rattle.qrcode_bits.specs.Plans.{total_bits, normal, micro, FitsNot, FitsNone}
-use Rattle.qrcode_bits.specs.Parsing.{AreTexts}
+use Rattle.qrcode_bits.proofs.Prelude.{◌≡◌, ℕ, ◌+◌, ◌-◌, ◌*◌, ◌/◌, ◌<◌, ◌≤◌, List, [], ◌∷◌, Some, length, arith, inl, inr, All, cases_lt, Version, EcLevel}
+use Rattle.qrcode_bits.proofs.Prelude.{capacity, Mode, count_width, indicator_width, Segment, total_bits, normal, micro, FitsNot, FitsNone, AreTexts}
+use Rattle.qrcode_bits.proofs.Prelude.{common_steps}
 use Rattle.qrcode_bits.proofs.Choices.{capacity-middle, capacity-most}
 use Rattle.qrcode_bits.proofs.PlanFrames.{length-slice}
 use Rattle.qrcode_bits.proofs.Texts.{texts-reach, texts-plan}
-use Rattle.std.proofs.lemmas.Grind.{common_steps}
 
 -- no mode has fewer than ten bits for three bytes
 module _ (whole : List ℕ) (v : Version) where

@@ -1,16 +1,12 @@
 -- Pushes from an iterator that gives a list of segments.
-use Rattle.std.proofs.Common.{◌≡◌, ℕ, List, ◌++◌, length, take, drop, refl, sym, ap, ◌∙◌, subst, Result, Ok, Err}
-use Rattle.std.specs.Prelude.{All, IsOk, Option}
+use Rattle.qrcode_bits.proofs.Prelude.{◌≡◌, ℕ, List, ◌++◌, length, take, drop, refl, sym, ap, ◌∙◌, subst, Result, Ok, Err, All, Option, All-take, QrError}
+use Rattle.qrcode_bits.proofs.Prelude.{Segment, Piece, segment_piece, segment_pieces, Stream, PushesDrawn, StopsAt}
+use Rattle.std.specs.Prelude.{IsOk}
 use Rattle.std.specs.Iterator.{DrainsIf}
 use Rattle.std.proofs.lemmas.Iterator.{YieldsList, items_from_drains}
 use Rattle.std.proofs.lemmas.Iterator.Consumers.{YieldsList-so_far}
 use Rattle.std.proofs.lemmas.List.{map-id, map-append, take-append-drop}
-use Rattle.std.proofs.lemmas.List.Elements.{All-take}
-use Rattle.qrcode_base.specs.declared.types.errors.QrError.{QrError}
-use Rattle.qrcode_bits.specs.declared.optimize.Segment.{Segment}
-use Rattle.qrcode_bits.specs.Spelling.{Piece, segment_piece, segment_pieces}
-use Rattle.qrcode_bits.specs.Stream.{Stream}
-use Rattle.qrcode_bits.specs.Push.{PushesPieces, PushesDrawn, StopsAt}
+use Rattle.qrcode_bits.specs.Push.{PushesPieces}
 use Rattle.qrcode_bits.proofs.Pushes.{stops_longer}
 
 module _ {S : Type 0} {steps : S → Option Segment → S → Type 0} (s : S) (all : List Segment) (gives : YieldsList steps (λ x. x) s all) where

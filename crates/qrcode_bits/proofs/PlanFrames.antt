@@ -1,23 +1,15 @@
 -- The parts of a plan that fits, spelled one after the other, are the front of a frame of the bytes.
-use Rattle.std.proofs.Common.{◌≡◌, ◌≢◌, ℕ, ◌+◌, ◌-◌, ◌<◌, ◌≤◌, List, [], ◌∷◌, ◌++◌, length, take, drop, refl, ap, arith, length-append, length-drop}
-use Rattle.std.specs.Prelude.{All, Option, slice_range}
+use Rattle.qrcode_bits.proofs.Prelude.{◌≡◌, ◌≢◌, ℕ, ◌+◌, ◌-◌, ◌<◌, ◌≤◌, List, [], ◌∷◌, ◌++◌, length, take, drop, refl, ap, arith, length-append, All, Option}
+use Rattle.qrcode_bits.proofs.Prelude.{slice_range, All-head, All-tail, Version, EcLevel, HasMode, data_bits, characters, IsValid, Segment, AreTexts}
+use Rattle.qrcode_bits.proofs.Prelude.{segment_bits, total_bits, Fits, spelling, segment_piece, segment_pieces, Header, HasHeader, header_bits, AreSpelled}
+use Rattle.qrcode_bits.proofs.Prelude.{spellings, message, ended, IsFrame, common_steps}
+use Rattle.std.proofs.Common.{length-drop}
 use Rattle.std.proofs.lemmas.List.{length-take-le}
-use Rattle.std.proofs.lemmas.List.Elements.{All-head, All-tail}
-use Rattle.qrcode_base.specs.declared.types.Version.{Version}
-use Rattle.qrcode_base.specs.declared.types.EcLevel.{EcLevel}
-use Rattle.qrcode_base.specs.Modes.{HasMode, data_bits, characters}
-use Rattle.qrcode_base.specs.Characters.{IsValid}
-use Rattle.qrcode_bits.specs.declared.optimize.Segment.{Segment}
-use Rattle.qrcode_bits.specs.Parsing.{AreTexts}
-use Rattle.qrcode_bits.specs.Plans.{segment_bits, total_bits, Fits}
-use Rattle.qrcode_bits.specs.Spelling.{spelling, segment_piece, segment_pieces}
-use Rattle.qrcode_bits.specs.Frame.{Header, HasHeader, header_bits, AreSpelled, spellings, message, ended, IsFrame}
 use Rattle.qrcode_bits.proofs.Growth.{CountsFit, fits-counts}
 use Rattle.qrcode_bits.proofs.Reading.{length-spelling}
 use Rattle.qrcode_bits.proofs.Segments.{length-character_bits}
 use Rattle.qrcode_bits.proofs.Frames.{ended_frame}
 use Rattle.qrcode_bits.proofs.Texts.{texts-reach, texts-plan, plan_message}
-use Rattle.std.proofs.lemmas.Grind.{common_steps}
 
 pub length-slice : (xs : List ℕ) (a b : ℕ) → a ≤ b → b ≤ length xs → length (slice_range xs a b) ≡ b - a
 length-slice xs a b h k = length-take-le (b - a) (drop a xs) (omega (arith, length-drop a xs))

@@ -1,21 +1,11 @@
 -- Several pushes, one after the other.
-use Rattle.std.proofs.Common.{◌≡◌, ℕ, ◌+◌, ◌<◌, ◌≤◌, List, [], ◌∷◌, ◌++◌, length, drop, drop-cons, refl, sym, ap, subst, append_assoc, append-nil, arith}
-use Rattle.std.proofs.Common.{length-append, Some, Result, Ok, Err, inl, inr, ◌⊎◌}
-use Rattle.std.specs.Prelude.{All, slice_get}
-use Rattle.std.proofs.lemmas.List.{drop_all}
-use Rattle.std.proofs.lemmas.Option.{slice_get_past}
-use Rattle.std.proofs.Math.Seq.{take-length}
-use Rattle.std.proofs.lemmas.List.Elements.{All-head, All-tail}
-use Rattle.qrcode_base.specs.declared.types.errors.QrError.{QrError}
-use Rattle.qrcode_base.specs.declared.types.errors.QrError.TheVariants.{OutOfMemory}
-use Rattle.qrcode_base.specs.Characters.{IsValid, IsFirstInvalid}
-use Rattle.qrcode_bits.specs.declared.optimize.Segment.{Segment}
-use Rattle.qrcode_bits.specs.Spelling.{Piece, IsSpellable, segment_piece, segment_pieces}
-use Rattle.qrcode_bits.specs.Frame.{AreSpelled}
-use Rattle.qrcode_bits.specs.Plans.{segment_at}
-use Rattle.qrcode_bits.specs.Stream.{Stream}
-use Rattle.qrcode_bits.specs.Push.{Spells, SpellsAll, StopsAt, PushesDrawn, IsPushRefused}
-use Rattle.std.proofs.lemmas.Grind.{common_steps}
+use Rattle.qrcode_bits.proofs.Prelude.{◌≡◌, ℕ, ◌+◌, ◌<◌, ◌≤◌, List, [], ◌∷◌, ◌++◌, length, drop, drop-cons, refl, sym, ap, subst, append_assoc, append-nil}
+use Rattle.qrcode_bits.proofs.Prelude.{arith, length-append, Some, Result, Ok, Err, inl, inr, ◌⊎◌, All, drop_all, slice_get_past, take-length, All-head}
+use Rattle.qrcode_bits.proofs.Prelude.{All-tail, QrError, OutOfMemory, IsValid, Segment, Piece, IsSpellable, segment_piece, segment_pieces, AreSpelled}
+use Rattle.qrcode_bits.proofs.Prelude.{segment_at, Stream, SpellsAll, StopsAt, PushesDrawn, IsPushRefused, common_steps}
+use Rattle.std.specs.Prelude.{slice_get}
+use Rattle.qrcode_base.specs.Characters.{IsFirstInvalid}
+use Rattle.qrcode_bits.specs.Push.{Spells}
 
 pub spells_none : (s : Stream) → SpellsAll s s []
 spells_none s = grind (arith, append-nil)

@@ -1,14 +1,10 @@
 -- Bytes behind bits that are no whole byte yet: each place has the low bits of one byte and the high bits of the next.
-use Rattle.std.proofs.Common.{◌≡◌, ℕ, suc, ◌+◌, ◌-◌, ◌*◌, ◌/◌, ◌%◌, ◌^◌, ◌<◌, ◌≤◌, Bool, List, [], ◌∷◌, ◌++◌, length, sym, ap, ◌∙◌, arith, take, append_assoc}
-use Rattle.std.proofs.Common.{append-nil, add_comm}
-use Rattle.std.specs.Prelude.{slice_index_or, bit_and}
-use Rattle.std.proofs.lemmas.Nat.{pow-add, and_mask}
-use Rattle.std.proofs.lemmas.List.{drop_all, length-drop}
-use Rattle.std.proofs.Math.Seq.{take-append_seam}
+use Rattle.qrcode_bits.proofs.Prelude.{◌≡◌, ℕ, suc, ◌+◌, ◌-◌, ◌*◌, ◌/◌, ◌%◌, ◌^◌, ◌<◌, ◌≤◌, Bool, List, [], ◌∷◌, ◌++◌, length, sym, ap, ◌∙◌, arith, take}
+use Rattle.qrcode_bits.proofs.Prelude.{append_assoc, append-nil, add_comm, slice_index_or, bit_and, pow-add, and_mask, drop_all, length-drop, take-append_seam}
+use Rattle.qrcode_bits.proofs.Prelude.{common_steps, number_bits, byte_bits, shifted, Stream, Appends, kept_bits, room_in, IsKept}
 use borrow.Rule.Slice.PartMut.{post_of}
-use Rattle.std.proofs.lemmas.Grind.{flat_map-append, common_steps}
-use Rattle.qrcode_base.specs.Numbers.{number_bits, byte_bits}
-use Rattle.qrcode_bits.specs.Stream.{AreShifted, shifted, Stream, Appends, kept_bits, room_in, IsKept}
+use Rattle.std.proofs.lemmas.Grind.{flat_map-append}
+use Rattle.qrcode_bits.specs.Stream.{AreShifted}
 use Rattle.qrcode_bits.proofs.Numbers.{number_bits-join, number_bits-cut, number_bits-mod, high_free, length-byte_bits, length-number_bits}
 
 low_free : (used before byte : ℕ) → used < 8 → number_bits used (before * 2 ^ 8 + byte) ≡ number_bits used byte

@@ -1,22 +1,13 @@
 -- The last part of a chosen plan of short data, by words.
-use Rattle.std.proofs.Common.{◌≡◌, ℕ, ◌+◌, ◌-◌, ◌*◌, ◌/◌, ◌%◌, ◌^◌, ◌<◌, ◌≤◌, List, [], ◌∷◌, ◌++◌, length, get_or, Some, refl, sym, ap, ◌∙◌, subst}
-use Rattle.std.proofs.Common.{arith, inl, inr}
-use Rattle.std.proofs.lemmas.List.{length_push, get_or_push, get_or_append_left}
-use Rattle.std.proofs.lemmas.Bool.{cases_lt}
-use Rattle.qrcode_base.specs.declared.types.Version.{Version}
-use Rattle.qrcode_base.specs.declared.types.Mode.{Mode}
-use Rattle.qrcode_base.specs.Modes.{indicator_width, count_width, data_bits, characters}
-use Rattle.qrcode_bits.specs.declared.optimize.Segment.{Segment}
-use Rattle.qrcode_bits.specs.declared.optimize.steps.Step.{Step}
-use Rattle.qrcode_bits.specs.declared.optimize.steps.Candidate.{Candidate}
-use Rattle.qrcode_bits.specs.declared.optimize.groups.Groups.{Groups}
+use Rattle.qrcode_bits.proofs.Prelude.{◌≡◌, ℕ, ◌+◌, ◌-◌, ◌*◌, ◌/◌, ◌%◌, ◌^◌, ◌<◌, ◌≤◌, List, [], ◌∷◌, ◌++◌, length, get_or, Some, refl, sym, ap, ◌∙◌, subst}
+use Rattle.qrcode_bits.proofs.Prelude.{arith, inl, inr, length_push, get_or_push, get_or_append_left, cases_lt, Version, Mode, indicator_width, count_width}
+use Rattle.qrcode_bits.proofs.Prelude.{data_bits, characters, Segment, Step, Candidate, Groups, PERIOD_BITS, RESTS, IsNoWorse, segment_bits, segment_at}
+use Rattle.qrcode_bits.proofs.Prelude.{part_bits, HasLinearCosts, IsStep, chosen_plan, bucket_mode, bucket_rest, part_mode, bits_before, parts_before, InBucket}
+use Rattle.qrcode_bits.proofs.Prelude.{IsBestStart, slot, AreGroups, group_of, period, period_bits, start_told, bucket_start, step_told, short_at}
+use Rattle.qrcode_bits.proofs.Prelude.{AreShortSteps}
 use Rattle.qrcode_bits.specs.declared.optimize.short.Headers.{Headers}
 use Rattle.qrcode_bits.specs.declared.optimize.short.ShortStep.{ShortStep}
-use Rattle.qrcode_bits.specs.declared.optimize.short.TheConstants.{PERIOD_BITS, RESTS}
-use Rattle.qrcode_bits.specs.Plans.{IsNoWorse, segment_bits, segment_at, part_bits, HasLinearCosts, IsStep}
-use Rattle.qrcode_bits.specs.Buckets.{chosen_plan, bucket_mode, bucket_rest, part_mode, bits_before, parts_before, InBucket, IsBestStart, slot, AreGroups}
-use Rattle.qrcode_bits.specs.Buckets.{group_of, period, period_bits, start_told, bucket_start, IsShort, AreHeaders, header_in, step_told, short_at}
-use Rattle.qrcode_bits.specs.Buckets.{AreShortSteps}
+use Rattle.qrcode_bits.specs.Buckets.{IsShort, AreHeaders, header_in}
 use Rattle.qrcode_bits.proofs.Ending.{data_bits-linear, bucket_of, bucket_of-is, group-right, IsTried, Tried-leads, Tried-keeps, Tried-takes, Tried-all}
 use Rattle.qrcode_bits.proofs.Ending.{cost-is}
 use Rattle.qrcode_bits.proofs.Grouping.{has-own}

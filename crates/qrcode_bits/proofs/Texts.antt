@@ -1,25 +1,14 @@
 -- Parsed segments, and those merged from them, are texts of their modes.
-use Rattle.std.proofs.Common.{◌≡◌, ℕ, ◌+◌, ◌-◌, ◌<◌, ◌≤◌, Bool, true, false, List, [], ◌∷◌, ◌++◌, length, map, take, drop, refl, sym, ap, ◌∙◌, subst, arith}
-use Rattle.std.specs.Prelude.{All, slice_range}
+use Rattle.qrcode_bits.proofs.Prelude.{◌≡◌, ℕ, ◌+◌, ◌-◌, ◌<◌, ◌≤◌, Bool, true, false, List, [], ◌∷◌, ◌++◌, length, map, take, drop, refl, sym, ap, ◌∙◌, subst}
+use Rattle.qrcode_bits.proofs.Prelude.{arith, All, slice_range, take-add, take-length, All-head, All-nil, All-drop, Kanji, join, is_kanji_pair, IsKanjiText}
+use Rattle.qrcode_bits.proofs.Prelude.{IsValid, Segment, Class, Pair, Run, class_of, class_mode, class_size, joins, add_unit, runs, units, run_segment, parsed}
+use Rattle.qrcode_bits.proofs.Prelude.{AreTexts, merged, joined, AreNonEmpty, merged_pieces, IsMergePlan, segment_pieces, LiesIn, message, common_steps}
 use Rattle.std.proofs.lemmas.List.{drop-drop}
-use Rattle.std.proofs.Math.Seq.{take-add, take-length}
-use Rattle.std.proofs.lemmas.List.Elements.{All-head, All-nil, All-drop}
-use Rattle.qrcode_base.specs.declared.types.Mode.TheVariants.{Kanji}
-use Rattle.qrcode_base.specs.Modes.{join}
-use Rattle.qrcode_base.specs.Characters.{is_kanji_pair, IsKanjiText, IsValid}
 use Rattle.qrcode_base.proofs.Joins.{join-upper, join-upper_second}
 use Rattle.qrcode_base.proofs.Alphabet.{is_alphanumeric-inside}
-use Rattle.qrcode_bits.specs.declared.optimize.Segment.{Segment}
-use Rattle.qrcode_bits.specs.Parsing.{Class}
-use Rattle.qrcode_bits.specs.Parsing.{Pair}
-use Rattle.qrcode_bits.specs.Parsing.{Run, class_of, class_mode, class_size, joins, add_unit, runs, units, run_segment, parsed, AreTexts}
-use Rattle.qrcode_bits.specs.Plans.{merged, joined, AreNonEmpty, merged_pieces, IsMergePlan}
-use Rattle.qrcode_bits.specs.Spelling.{segment_pieces, LiesIn}
-use Rattle.qrcode_bits.specs.Frame.{message}
 use Rattle.qrcode_bits.proofs.Runs.{class_size-some, joins-same}
 use Rattle.qrcode_bits.proofs.Adjoining.{class_of-one}
 use Rattle.qrcode_bits.proofs.Upward.{valid-append, valid-upward}
-use Rattle.std.proofs.lemmas.Grind.{common_steps}
 
 -- ---- Slices
 

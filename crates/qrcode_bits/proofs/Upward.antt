@@ -1,13 +1,9 @@
 -- What a mode can write, each mode above it can write too.
-use Rattle.std.proofs.Common.{◌≡◌, ℕ, ◌+◌, ◌-◌, ◌<◌, Bool, true, List, [], ◌∷◌, ◌++◌, refl, ◌∙◌, subst, arith, get_or}
-use Rattle.std.specs.Prelude.{All, Contains, nat_lt, ◌==◌}
-use Rattle.std.proofs.lemmas.Grind.{get_or_default_zero}
-use Rattle.std.proofs.lemmas.Bool.{ltb-true, eqb-true}
-use Rattle.std.proofs.lemmas.List.Elements.{All-nil, All-append}
-use Rattle.qrcode_base.specs.declared.types.Mode.{Mode}
-use Rattle.qrcode_base.specs.declared.types.Mode.TheVariants.{Numeric, Alphanumeric, Byte, Kanji}
-use Rattle.qrcode_base.specs.Modes.{IsWithin, same, digits, bytes}
-use Rattle.qrcode_base.specs.Characters.{IsDigit, alphabet, alphanumeric_value, IsKanjiText, IsValid}
+use Rattle.qrcode_bits.proofs.Prelude.{◌≡◌, ℕ, ◌+◌, ◌-◌, ◌<◌, Bool, true, List, [], ◌∷◌, ◌++◌, refl, ◌∙◌, subst, arith, get_or, All, Contains, ◌==◌}
+use Rattle.qrcode_bits.proofs.Prelude.{get_or_default_zero, eqb-true, All-nil, All-append, Mode, Numeric, Alphanumeric, Byte, Kanji, IsWithin, same, digits}
+use Rattle.qrcode_bits.proofs.Prelude.{bytes, IsDigit, alphabet, alphanumeric_value, IsKanjiText, IsValid}
+use Rattle.std.specs.Prelude.{nat_lt}
+use Rattle.std.proofs.lemmas.Bool.{ltb-true}
 use Rattle.qrcode_base.proofs.Alphabet.{each_below, from_each_below}
 use Rattle.qrcode_bits.proofs.Characters.{value_below, character_at_value, kanji_trail}
 

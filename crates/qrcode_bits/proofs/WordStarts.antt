@@ -1,14 +1,10 @@
 -- The lesser word is the better start.
-use Rattle.std.proofs.Common.{◌≡◌, ℕ, zero, suc, ◌+◌, ◌-◌, ◌*◌, ◌/◌, ◌%◌, ◌^◌, ◌<◌, ◌≤◌, List, length, Some, None, refl, arith, min}
-use Rattle.std.proofs.lemmas.List.FromFn.{get_or-map-range_with_len, length-map-range_with_len}
-use Rattle.qrcode_base.specs.declared.types.Mode.{Mode}
-use Rattle.qrcode_base.specs.declared.types.Mode.TheVariants.{Alphanumeric, Kanji}
-use Rattle.qrcode_bits.specs.declared.optimize.steps.Candidate.{Candidate}
-use Rattle.qrcode_bits.specs.Plans.{IsNoWorse}
-use Rattle.qrcode_bits.specs.Buckets.{period, period_bits, bucket_mode, bucket_rest, slot, IsBetterOf, HasBucket, key_of, Enters, word_of, start_told}
-use Rattle.qrcode_bits.specs.Buckets.{bucket_start, word_at, starts_in, IsOffered, IsWhole}
+use Rattle.qrcode_bits.proofs.Prelude.{◌≡◌, ℕ, zero, suc, ◌+◌, ◌-◌, ◌*◌, ◌/◌, ◌%◌, ◌^◌, ◌<◌, ◌≤◌, List, length, Some, None, refl, arith, min}
+use Rattle.qrcode_bits.proofs.Prelude.{get_or-map-range_with_len, Mode, Alphanumeric, Kanji, Candidate, IsNoWorse, period, period_bits, bucket_mode}
+use Rattle.qrcode_bits.proofs.Prelude.{bucket_rest, slot, IsBetterOf, HasBucket, key_of, Enters, start_told, bucket_start, word_at, common_steps}
+use Rattle.std.proofs.lemmas.List.FromFn.{length-map-range_with_len}
+use Rattle.qrcode_bits.specs.Buckets.{word_of, starts_in, IsOffered, IsWhole}
 use Rattle.qrcode_bits.proofs.Grouping.{has-inside}
-use Rattle.std.proofs.lemmas.Grind.{common_steps}
 
 pub word-ahead : (more a b : ℕ) → a ≤ b →
     IsNoWorse (start_told more a).bits (start_told more a).parts (start_told more a).start (start_told more b).bits

@@ -1,14 +1,9 @@
 -- The grid that is drawn of the best frame, under the first mask of least penalty, is the best symbol.
-use Rattle.std.proofs.Common.{ℕ, ◌+◌, ◌≤◌, refl, List, length}
-use Rattle.std.specs.Prelude.{Option}
-use Rattle.qrcode_base.specs.declared.types.EcLevel.{EcLevel}
-use Rattle.qrcode_base.specs.declared.types.Version.{Version}
+use Rattle.qrcode_core.proofs.Prelude.{ℕ, ◌+◌, ◌≤◌, refl, List, length, Option, EcLevel, Version, total_bits, Header, header_bits, DrawnSymbol, TellsReading}
+use Rattle.qrcode_core.proofs.Prelude.{IsEncoded, IsDrawn, IsBest, Reads}
 use Rattle.qrcode_bits.specs.declared.optimize.Segment.{Segment}
-use Rattle.qrcode_bits.specs.Plans.{IsChoice, total_bits}
-use Rattle.qrcode_bits.specs.Frame.{Header, header_bits}
-use Rattle.qrcode_core.specs.Drawn.{DrawnSymbol, TellsReading}
-use Rattle.qrcode_core.specs.Layers.{IsEncoded, IsDrawn}
-use Rattle.qrcode_core.specs.Headline.{IsBest, Reads, reading_of}
+use Rattle.qrcode_bits.specs.Plans.{IsChoice}
+use Rattle.qrcode_core.specs.Headline.{reading_of}
 use Rattle.qrcode_core.proofs.BlocksApart.{blocks_apart}
 use Rattle.qrcode_core.proofs.DrawnReading.{drawn_carries}
 use Rattle.qrcode_core.proofs.GridsApart.{grids_apart}

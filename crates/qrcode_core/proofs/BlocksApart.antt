@@ -1,15 +1,9 @@
 -- The blocks of a grid that is read are sound, so other sound lists are far from them.
-use Rattle.std.proofs.Common.{◌<◌, ◌≤◌, sym, arith, Bool, List, length, length-append}
+use Rattle.qrcode_core.proofs.Prelude.{◌<◌, ◌≤◌, sym, arith, Bool, List, length, length-append, Color, EcLevel, Version, MaskPattern, AreBytes, codeword_block}
+use Rattle.qrcode_core.proofs.Prelude.{block_sizes, Reading, Carries, Reads}
 use Rattle.std.proofs.lemmas.List.{get_or-replicate}
 use Rattle.std.proofs.lemmas.List.Elements.{All-append}
-use Rattle.qrcode_base.specs.declared.types.Color.{Color}
-use Rattle.qrcode_base.specs.declared.types.EcLevel.{EcLevel}
-use Rattle.qrcode_base.specs.declared.types.Version.{Version}
-use Rattle.qrcode_grid.specs.declared.canvas.MaskPattern.{MaskPattern}
-use Rattle.qrcode_grid.specs.Codes.{AreBytes}
-use Rattle.qrcode_grid.specs.Blocks.{codeword_block}
-use Rattle.qrcode_base.specs.Symbols.{block_sizes}
-use Rattle.qrcode_core.specs.Headline.{Reading, Carries, Reads, CarriesApart, HasBlocksApart}
+use Rattle.qrcode_core.specs.Headline.{CarriesApart, HasBlocksApart}
 use Rattle.qrcode_grid.proofs.Distance.{AreBytes-block_in, length-block_in, distance-sound}
 use Rattle.qrcode_grid.proofs.WholeSymbols.{IsUsable-of_symbol}
 

@@ -1,10 +1,8 @@
 -- The raw bits of a grid tell the codewords, and so the data.
-use Rattle.std.proofs.Common.{◌≡◌, ℕ, ◌+◌, ◌*◌, ◌<◌, refl, ap, arith, List, [], ◌∷◌, ◌++◌, length, Bool, length-append}
-use Rattle.std.proofs.lemmas.List.{length-replicate}
+use Rattle.qrcode_core.proofs.Prelude.{◌≡◌, ℕ, ◌+◌, ◌*◌, ◌<◌, refl, ap, arith, List, [], ◌∷◌, ◌++◌, length, Bool, length-append, length-replicate, byte_bits}
+use Rattle.qrcode_core.proofs.Prelude.{zero_bits, AreBytes}
 use Rattle.std.proofs.lemmas.List.Elements.{All-head, All-tail}
-use Rattle.qrcode_base.specs.Numbers.{byte_bits, zero_bits}
 use Rattle.qrcode_bits.proofs.Numbers.{number_front, front_is, length-byte_bits}
-use Rattle.qrcode_grid.specs.Codes.{AreBytes}
 
 -- bytes are told by their bits
 pub bytes-of_bits : (xs ys : List ℕ) → AreBytes xs → AreBytes ys → length xs ≡ length ys → byte_bits xs ≡ byte_bits ys → xs ≡ ys

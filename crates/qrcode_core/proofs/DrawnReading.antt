@@ -1,18 +1,11 @@
 -- The grid that is drawn of the codewords of some bits carries the bits.
-use Rattle.std.proofs.Common.{◌≡◌, ℕ, zero, suc, ◌-◌, ◌*◌, refl, ap, ◌∙◌, arith, List, [], ◌∷◌, ◌++◌, length, map, take, replicate, Bool, false, append_assoc}
-use Rattle.qrcode_base.specs.declared.types.Color.TheVariants.{Light}
-use Rattle.qrcode_base.specs.declared.types.EcLevel.{EcLevel}
-use Rattle.qrcode_base.specs.declared.types.Version.{Version}
-use Rattle.qrcode_base.specs.Numbers.{byte_bits, zero_bits}
-use Rattle.qrcode_base.specs.Symbols.{missing_bits}
+use Rattle.qrcode_core.proofs.Prelude.{◌≡◌, ℕ, zero, suc, ◌-◌, ◌*◌, refl, ap, ◌∙◌, arith, List, [], ◌∷◌, ◌++◌, length, map, take, Bool, false, append_assoc}
+use Rattle.qrcode_core.proofs.Prelude.{Light, EcLevel, Version, byte_bits, zero_bits, missing_bits, none-some, same_Some, DrawnSymbol, IsDrawn, Carries}
+use Rattle.qrcode_core.proofs.Prelude.{common_steps}
+use Rattle.std.proofs.Common.{replicate}
 use Rattle.qrcode_grid.specs.Walk.{left_over, bit_color, symbol_bits}
 use Rattle.qrcode_grid.specs.Regions.{is_dark}
-use Rattle.std.proofs.lemmas.Option.{none-some, same_Some}
-use Rattle.qrcode_core.specs.Drawn.{DrawnSymbol}
-use Rattle.qrcode_core.specs.Layers.{IsDrawn}
-use Rattle.qrcode_core.specs.Headline.{Carries}
 use Rattle.qrcode_core.proofs.HalfBytes.{low_half}
-use Rattle.std.proofs.lemmas.Grind.{common_steps}
 
 -- bits that are drawn are seen again
 seen_bits : (bits : List Bool) (k : ℕ) → map is_dark (map bit_color bits ++ replicate k Light) ≡ bits ++ zero_bits k

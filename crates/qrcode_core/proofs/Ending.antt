@@ -1,16 +1,11 @@
 -- The codewords of an ended stream hold its frame.
-use Rattle.std.proofs.Common.{[], ◌∷◌, ◌≡◌, ℕ, ◌-◌, ◌%◌, ◌≤◌, arith, ◌⊎◌, List, ◌++◌, length, take, Bool, append_assoc}
-use Rattle.std.specs.Prelude.{Some}
-use Rattle.std.proofs.lemmas.List.{take_at, replicate-append-replicate}
-use Rattle.std.proofs.lemmas.Option.{none-some, same_Some}
-use Rattle.qrcode_base.specs.declared.types.EcLevel.{EcLevel}
-use Rattle.qrcode_base.specs.declared.types.Version.{Version}
-use Rattle.qrcode_base.specs.declared.symbols.BlockLayout.{BlockLayout}
-use Rattle.qrcode_base.specs.Symbols.{block_sizes, blocks_of, data_bytes, missing_bits, capacity}
-use Rattle.qrcode_base.specs.Numbers.{byte_bits, zero_bits}
-use Rattle.qrcode_bits.specs.Frame.{tail, half_byte, ended}
+use Rattle.qrcode_core.proofs.Prelude.{[], ◌∷◌, ◌≡◌, ℕ, ◌-◌, ◌≤◌, arith, List, ◌++◌, length, take, Bool, append_assoc, Some, take_at, none-some, same_Some}
+use Rattle.qrcode_core.proofs.Prelude.{EcLevel, Version, BlockLayout, block_sizes, blocks_of, data_bytes, missing_bits, capacity, byte_bits, zero_bits, tail}
+use Rattle.qrcode_core.proofs.Prelude.{common_steps}
+use Rattle.std.proofs.Common.{◌%◌, ◌⊎◌}
+use Rattle.std.proofs.lemmas.List.{replicate-append-replicate}
+use Rattle.qrcode_bits.specs.Frame.{half_byte, ended}
 use Rattle.qrcode_bits.proofs.Streams.{length-tail, length-ended}
-use Rattle.std.proofs.lemmas.Grind.{common_steps}
 
 -- no bits are missing; or four of at least one byte, in one block
 pub lacks : (v : Version) (l : EcLevel) (b : BlockLayout) → blocks_of v l ≡ Some b →

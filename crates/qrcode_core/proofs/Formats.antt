@@ -1,23 +1,17 @@
 -- The functional colours of a grid tell the level and the mask.
-use Rattle.std.proofs.Common.{◌≡◌, ℕ, zero, suc, pos, negsuc, ◌+◌, ◌*◌, ◌==◌, ◌&&◌, nat_le, ◌<◌, ◌≤◌, refl, sym, ◌∙◌, arith, inl, inr, zero-add, List, [], ◌∷◌}
-use Rattle.std.proofs.Common.{Bool, true, false, get_or}
-use Rattle.std.specs.Prelude.{Option, Some, None, is_some, unwrap_or, IsTrue, slice_get}
+use Rattle.qrcode_core.proofs.Prelude.{◌≡◌, ℕ, zero, suc, pos, ◌+◌, ◌*◌, ◌<◌, ◌≤◌, refl, sym, ◌∙◌, arith, inl, inr, List, [], ◌∷◌, Bool, true, false, get_or}
+use Rattle.qrcode_core.proofs.Prelude.{Option, Some, None, is_some, slice_get, cases_eq, Color, EcLevel, Version, Normal, Micro, MaskPattern, functional_color}
+use Rattle.qrcode_core.proofs.Prelude.{HasFunctionalColors, IsVersion, common_steps}
+use Rattle.std.proofs.Common.{negsuc, ◌==◌, ◌&&◌, nat_le, zero-add}
+use Rattle.std.specs.Prelude.{unwrap_or, IsTrue}
 use Rattle.std.specs.List.{range_with_len, count_by}
-use Rattle.std.proofs.lemmas.Bool.{cases_eq, ne_eqb, eqb-true, leb-true, eq-eqb}
-use Rattle.qrcode_base.specs.declared.types.Color.{Color}
-use Rattle.qrcode_base.specs.declared.types.EcLevel.{EcLevel}
-use Rattle.qrcode_base.specs.declared.types.Version.{Version}
-use Rattle.qrcode_base.specs.declared.types.Version.TheVariants.{Normal, Micro}
-use Rattle.qrcode_grid.specs.declared.canvas.MaskPattern.{MaskPattern}
-use Rattle.qrcode_grid.specs.Regions.{binary_digit, digit_color, differing_digits, normal_format_word, micro_format_word, functional_color}
-use Rattle.qrcode_grid.specs.Regions.{digit_at, format_first}
-use Rattle.qrcode_grid.specs.Regions.{format_micro}
-use Rattle.qrcode_grid.specs.Masks.{normal_number, micro_number, level_number, symbol_number, IsOfFamily, HasFunctionalColors}
-use Rattle.qrcode_base.specs.Symbols.{IsVersion, IsSymbol, width_of}
+use Rattle.std.proofs.lemmas.Bool.{ne_eqb, eqb-true, leb-true, eq-eqb}
+use Rattle.qrcode_grid.specs.Regions.{binary_digit, digit_color, differing_digits, normal_format_word, micro_format_word, digit_at, format_first, format_micro}
+use Rattle.qrcode_grid.specs.Masks.{normal_number, micro_number, level_number, symbol_number, IsOfFamily}
+use Rattle.qrcode_base.specs.Symbols.{IsSymbol, width_of}
 use Rattle.qrcode_grid.proofs.Tests.{all_pass, passes, both}
 use Rattle.qrcode_grid.proofs.FormatCells.{functional_color-format}
 use Rattle.qrcode_grid.proofs.Distance.{normal_format_words_differ, micro_format_words_differ}
-use Rattle.std.proofs.lemmas.Grind.{common_steps}
 
 -- ---- The first copy of the format word, in both families
 

@@ -1,12 +1,8 @@
 -- Grids that are read as different bytes are far apart in some block.
-use Rattle.std.proofs.Common.{◌≡◌, List, arith}
-use Rattle.std.proofs.lemmas.List.{append_cancel_right}
-use Rattle.qrcode_base.specs.declared.types.Color.{Color}
-use Rattle.qrcode_base.specs.Symbols.{missing_bits}
-use Rattle.qrcode_base.specs.Numbers.{zero_bits}
+use Rattle.qrcode_core.proofs.Prelude.{◌≡◌, List, arith, append_cancel_right, Color, missing_bits, zero_bits, Reading, Reads}
 use Rattle.qrcode_bits.proofs.Reading.{frame_one_reading}
 use Rattle.qrcode_grid.specs.Blocks.{AreApart}
-use Rattle.qrcode_core.specs.Headline.{Reading, Reads, HaveDistance}
+use Rattle.qrcode_core.specs.Headline.{HaveDistance}
 use Rattle.qrcode_core.proofs.BlocksApart.{blocks_apart}
 use Rattle.qrcode_grid.proofs.Distance.{AreApart-from_blocks}
 

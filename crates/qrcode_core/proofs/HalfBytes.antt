@@ -1,18 +1,11 @@
 -- The last data codeword of M1 and M3 has four bits: in the stream of one block it stands last, as in the data.
-use Rattle.std.proofs.Common.{◌*◌, ◌≡◌, ℕ, ◌-◌, arith, List, [], ◌∷◌, ◌++◌, length, map, take, min, Bool, length-append, append-nil}
-use Rattle.std.specs.Prelude.{Some}
-use Rattle.std.specs.List.{concat}
-use Rattle.std.proofs.lemmas.List.{same_lists, get_or_default, length-replicate, take_at}
+use Rattle.qrcode_core.proofs.Prelude.{◌*◌, ◌≡◌, ℕ, ◌-◌, arith, List, [], ◌∷◌, ◌++◌, length, map, take, Bool, length-append, Some, concat, same_lists}
+use Rattle.qrcode_core.proofs.Prelude.{get_or_default, length-replicate, take_at, BlockLayout, EcLevel, Version, byte_bits, zero_bits, data_bytes, blocks_of}
+use Rattle.qrcode_core.proofs.Prelude.{block_sizes, missing_bits, place_in_stream, block_in, blocks_in, AreCodewords, common_steps}
+use Rattle.std.proofs.Common.{min, append-nil}
 use Rattle.std.proofs.lemmas.List.FromFn.{get_or-map-range_with_len, length-map-range_with_len}
-use Rattle.qrcode_base.specs.declared.symbols.BlockLayout.{BlockLayout}
-use Rattle.qrcode_base.specs.declared.types.EcLevel.{EcLevel}
-use Rattle.qrcode_base.specs.declared.types.Version.{Version}
-use Rattle.qrcode_base.specs.Numbers.{byte_bits, zero_bits}
 use Rattle.qrcode_bits.proofs.Numbers.{length-byte_bits}
 use Rattle.qrcode_core.proofs.Ending.{lacks}
-use Rattle.qrcode_base.specs.Symbols.{data_bytes, blocks_of, block_sizes, missing_bits}
-use Rattle.qrcode_grid.specs.Blocks.{place_in_stream, block_in, blocks_in, AreCodewords}
-use Rattle.std.proofs.lemmas.Grind.{common_steps}
 
 -- a stream of one block is the block
 pub one_block : (size : ℕ) (stream : List ℕ) → length stream ≡ size → concat (blocks_in (size ∷ []) stream) ≡ stream

@@ -1,20 +1,14 @@
 -- The bits that a caller pushed, ended and drawn, are what the symbol carries.
-use Rattle.std.proofs.Common.{◌≡◌, ℕ, Bool, List, ◌++◌, length, arith}
-use Rattle.qrcode_base.specs.declared.types.EcLevel.{EcLevel}
-use Rattle.qrcode_base.specs.Numbers.{byte_bits, zero_bits}
-use Rattle.qrcode_base.specs.Symbols.{missing_bits}
-use Rattle.qrcode_bits.specs.Frame.{tail}
+use Rattle.qrcode_core.proofs.Prelude.{◌≡◌, ℕ, Bool, List, ◌++◌, length, arith, EcLevel, byte_bits, zero_bits, missing_bits, tail, Stream, DrawnSymbol}
+use Rattle.qrcode_core.proofs.Prelude.{TellsReading, AreBytesOf, FillsSymbol, IsDrawnStream, common_steps}
 use Rattle.qrcode_bits.specs.Push.{EndsAtLevel}
-use Rattle.qrcode_bits.specs.Stream.{Stream}
-use Rattle.qrcode_core.specs.Drawn.{DrawnSymbol, TellsReading, HoldsStream}
-use Rattle.qrcode_core.specs.Layers.{AreBytesOf, FillsSymbol, IsDrawnStream}
+use Rattle.qrcode_core.specs.Drawn.{HoldsStream}
 use Rattle.qrcode_core.proofs.BlocksApart.{carries_apart}
 use Rattle.qrcode_core.proofs.DrawnReading.{drawn_carries}
 use Rattle.qrcode_core.proofs.Ending.{bytes_of_tailed, length-tailed}
 use Rattle.qrcode_core.proofs.Lengths.{length-filled}
 use Rattle.qrcode_core.proofs.OneReading.{one_carried}
 use Rattle.qrcode_core.proofs.StreamEncoding.{has_blocks}
-use Rattle.std.proofs.lemmas.Grind.{common_steps}
 
 module _ (old new : Stream) (level : EcLevel) (ended : EndsAtLevel old new level) where
   abbrev bits : List Bool

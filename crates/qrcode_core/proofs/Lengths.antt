@@ -1,19 +1,11 @@
 -- Data codewords that hold a frame are as many as their symbol has, so that only memory can be wanting for their streams.
-use Rattle.std.proofs.Common.{◌≡◌, ℕ, arith, List, ◌++◌, length, Bool}
-use Rattle.std.specs.Prelude.{Option, Some}
-use Rattle.std.proofs.lemmas.Option.{same_Some}
-use Rattle.qrcode_base.specs.declared.symbols.BlockLayout.{BlockLayout}
-use Rattle.qrcode_base.specs.declared.types.EcLevel.{EcLevel}
-use Rattle.qrcode_base.specs.declared.types.Version.{Version}
-use Rattle.qrcode_base.specs.Symbols.{blocks_of, capacity, data_bytes, missing_bits, IsVersion}
+use Rattle.qrcode_core.proofs.Prelude.{◌≡◌, ℕ, arith, List, ◌++◌, length, Bool, Option, Some, same_Some, BlockLayout, EcLevel, Version, blocks_of, capacity}
+use Rattle.qrcode_core.proofs.Prelude.{data_bytes, missing_bits, IsVersion, byte_bits, zero_bits, Header, IsEncoded, common_steps}
 use Rattle.qrcode_grid.proofs.WholeSymbols.{version_of_symbol}
-use Rattle.qrcode_base.specs.Numbers.{byte_bits, zero_bits}
-use Rattle.qrcode_bits.specs.Frame.{Header}
 use Rattle.qrcode_bits.proofs.Frames.{length-frame}
-use Rattle.qrcode_core.specs.Layers.{IsEncoded, AreAllCodewords}
+use Rattle.qrcode_core.specs.Layers.{AreAllCodewords}
 use Rattle.qrcode_core.proofs.Contents.{length-drawn}
 use Rattle.qrcode_core.proofs.Ending.{lacks}
-use Rattle.std.proofs.lemmas.Grind.{common_steps}
 
 -- Codewords that hold as many bits as the capacity are as many as the data codewords of the symbol.
 pub length-filled : (v : Version) (l : EcLevel) (words : List ℕ) (b : BlockLayout) (limit : ℕ) (bits : List Bool) →

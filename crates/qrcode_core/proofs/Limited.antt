@@ -1,14 +1,10 @@
 -- The refusals of an encoding up to a greatest version are those within the caller's limits.
-use Rattle.std.proofs.Common.{◌≡◌, ℕ, ℤ, ◌≤◌, nat_abs, arith, inl, inr, List, length}
-use Rattle.qrcode_base.specs.declared.types.Color.{Color}
-use Rattle.qrcode_base.specs.declared.types.EcLevel.{EcLevel}
-use Rattle.qrcode_base.specs.declared.types.Version.TheVariants.{Normal}
-use Rattle.qrcode_base.specs.declared.types.errors.QrError.{QrError}
-use Rattle.qrcode_base.specs.declared.types.errors.QrError.TheVariants.{DataTooLong, InvalidResourceLimits, OutOfMemory}
+use Rattle.qrcode_core.proofs.Prelude.{◌≡◌, ℕ, ◌≤◌, nat_abs, arith, inl, inr, List, length, Color, EcLevel, Normal, QrError, DataTooLong, InvalidResourceLimits}
+use Rattle.qrcode_core.proofs.Prelude.{OutOfMemory, IsNormalNumber, IsBudget}
+use Rattle.std.proofs.Common.{ℤ}
 use Rattle.qrcode_bits.specs.Push.{IsEncodingRefused}
-use Rattle.qrcode_base.specs.Symbols.{IsNormalNumber}
 use Rattle.qrcode_core.specs.declared.limits.ResourceLimits.{ResourceLimits}
-use Rattle.qrcode_core.specs.Limits.{IsBudget, IsBestWithin, IsTooLongWithin, IsLimitedRefusal}
+use Rattle.qrcode_core.specs.Limits.{IsBestWithin, IsTooLongWithin, IsLimitedRefusal}
 use Rattle.qrcode_core.specs.Headline.{IsBestSymbol}
 
 -- the number of a limit is at most 40

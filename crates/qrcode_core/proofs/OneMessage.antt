@@ -1,16 +1,12 @@
 -- Some grids are read as one message at most, in whatever order; and the parts of a message are the message.
-use Rattle.std.proofs.lemmas.Grind.{common_steps}
-use Rattle.std.proofs.Common.{◌≡◌, ℕ, zero, suc, ◌+◌, ◌-◌, ◌<◌, ◌≤◌, refl, sym, ◌∙◌, arith, List, [], ◌∷◌, ◌++◌, length, get_or, drop}
+use Rattle.qrcode_core.proofs.Prelude.{common_steps, ◌≡◌, ℕ, zero, suc, ◌+◌, ◌-◌, ◌<◌, ◌≤◌, refl, sym, ◌∙◌, arith, List, [], ◌∷◌, ◌++◌, length, get_or, concat}
+use Rattle.qrcode_core.proofs.Prelude.{IsNonDecreasing, same_lists, get_or_default, same_Some, Color, Header, ReadsMessage, parts_at}
+use Rattle.std.proofs.Common.{drop}
 use Rattle.std.specs.Prelude.{IsPermutation, slice_range}
-use Rattle.std.specs.List.{concat}
-use Rattle.std.specs.List.Sorted.{IsNonDecreasing}
-use Rattle.std.proofs.lemmas.List.{same_lists, get_or_default, take-append-drop, drop-drop, append-nil, take_all, length-drop}
+use Rattle.std.proofs.lemmas.List.{take-append-drop, drop-drop, append-nil, take_all, length-drop}
 use Rattle.std.proofs.lemmas.List.Elements.{Contains-get_or}
 use Rattle.std.proofs.lemmas.List.Sorted.{IsPermutation-sym, IsPermutation-trans, Contains-permutation, length_permutation}
-use Rattle.std.proofs.lemmas.Option.{same_Some}
-use Rattle.qrcode_base.specs.declared.types.Color.{Color}
-use Rattle.qrcode_bits.specs.Frame.{Header}
-use Rattle.qrcode_core.specs.Sequence.{ReadsPiece, ReadsMessage, HaveOneMessage, parts_from, parts_at}
+use Rattle.qrcode_core.specs.Sequence.{ReadsPiece, HaveOneMessage, parts_from}
 use Rattle.qrcode_core.proofs.OneReading.{one_reading}
 
 -- ---- One message

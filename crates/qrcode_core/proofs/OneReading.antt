@@ -1,19 +1,12 @@
 -- No grid is read in two ways: its size tells the version, its functional colours the level and the mask, and its data cells
 -- the codewords, whose data are a frame of one text.
-use Rattle.std.proofs.Common.{◌≡◌, ap, Bool, List, arith}
-use Rattle.std.specs.Prelude.{is_some}
-use Rattle.std.proofs.lemmas.List.{append_cancel_right}
-use Rattle.std.proofs.lemmas.Option.{same_Some}
-use Rattle.qrcode_base.specs.declared.types.Color.{Color}
-use Rattle.qrcode_base.specs.declared.types.EcLevel.{EcLevel}
-use Rattle.qrcode_base.specs.declared.types.Version.{Version}
+use Rattle.qrcode_core.proofs.Prelude.{◌≡◌, ap, Bool, List, arith, is_some, append_cancel_right, same_Some, Color, EcLevel, Version, MaskPattern, Carries}
+use Rattle.qrcode_core.proofs.Prelude.{common_steps}
 use Rattle.qrcode_bits.proofs.Reading.{frame_one_reading}
-use Rattle.qrcode_grid.specs.declared.canvas.MaskPattern.{MaskPattern}
-use Rattle.qrcode_core.specs.Headline.{Carries, HaveOneReading, HaveOneContent}
+use Rattle.qrcode_core.specs.Headline.{HaveOneReading, HaveOneContent}
 use Rattle.qrcode_base.proofs.Widths.{version-of_blocks, version-of_size}
 use Rattle.qrcode_core.proofs.Formats.{same_format}
 use Rattle.qrcode_core.proofs.Contents.{bytes-of_drawn}
-use Rattle.std.proofs.lemmas.Grind.{common_steps}
 
 -- What a grid carries in one version: the levels and the masks are one
 with_version : (grid : List Color) (v : Version) (l m : EcLevel) (p q : MaskPattern) (a b : List Bool) → Carries grid v l p a → Carries grid v m q b →

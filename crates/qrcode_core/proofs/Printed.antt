@@ -1,23 +1,20 @@
 -- The printed symbol of the digits 12345 in M1 is read as these digits: its parts are computed.
-use Rattle.std.proofs.Common.{◌≡◌, ℕ, zero, suc, pos, ◌+◌, ◌*◌, ◌<◌, refl, arith, List, [], ◌∷◌, Bool, true, false, take, rules}
-use Rattle.std.specs.Prelude.{Option, Some, None, slice_get, codes}
-use Rattle.qrcode_base.specs.declared.types.Color.{Color}
-use Rattle.qrcode_base.specs.declared.types.Color.TheVariants.{Light, Dark}
+use Rattle.qrcode_core.proofs.Prelude.{◌≡◌, ℕ, zero, suc, pos, ◌+◌, ◌*◌, ◌<◌, refl, arith, List, [], ◌∷◌, Bool, true, false, take, rules, Option, Some, None}
+use Rattle.qrcode_core.proofs.Prelude.{slice_get, Color, Light, Version, Micro, byte_bits, place_in_stream, block_in, blocks_in, codeword_block, AreCodewords}
+use Rattle.qrcode_core.proofs.Prelude.{HasFunctionalColors, functional_color, Reads}
+use Rattle.std.specs.Prelude.{codes}
+use Rattle.qrcode_base.specs.declared.types.Color.TheVariants.{Dark}
 use Rattle.qrcode_base.specs.declared.types.EcLevel.TheVariants.{L}
 use Rattle.qrcode_base.specs.declared.types.Mode.TheVariants.{Numeric}
-use Rattle.qrcode_base.specs.declared.types.Version.{Version}
-use Rattle.qrcode_base.specs.declared.types.Version.TheVariants.{Micro}
-use Rattle.qrcode_base.specs.Numbers.{number_bits, byte_bits}
+use Rattle.qrcode_base.specs.Numbers.{number_bits}
 use Rattle.qrcode_base.specs.Symbols.{blocks}
 use Rattle.qrcode_bits.specs.Frame.{IsFrame, bytes_in_turn}
 use Rattle.qrcode_bits.specs.Spelling.{Piece, numeric_bits}
 use Rattle.qrcode_grid.specs.declared.canvas.MaskPattern.TheVariants.{Diamonds}
-use Rattle.qrcode_grid.specs.Blocks.{place_in_stream, block_in, blocks_in, codeword_block, AreCodewords}
 use Rattle.qrcode_grid.specs.Codes.{value_at, IsSound, double, shift_and_add, product, power}
-use Rattle.qrcode_grid.specs.Masks.{format_word, HasFunctionalColors}
-use Rattle.qrcode_grid.specs.Regions.{functional_color}
+use Rattle.qrcode_grid.specs.Masks.{format_word}
 use Rattle.qrcode_grid.proofs.Tests.{all_pass, passes}
-use Rattle.qrcode_core.specs.Headline.{printed, printed_reading, Reads}
+use Rattle.qrcode_core.specs.Headline.{printed, printed_reading}
 
 -- ---- Functional colours, computed
 

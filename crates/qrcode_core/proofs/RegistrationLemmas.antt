@@ -1,10 +1,9 @@
 -- Registrations before, and registrations after.
-use Rattle.std.proofs.Common.{◌≡◌, ◌+◌, List, [], ◌∷◌, ◌++◌, Result, Err, refl, ◌∙◌, take, length, map, arith}
+use Rattle.qrcode_core.proofs.Prelude.{◌≡◌, ◌+◌, List, [], ◌∷◌, ◌++◌, Result, Err, refl, ◌∙◌, take, length, map, arith, map-append, PluginError}
+use Rattle.qrcode_core.proofs.Prelude.{with_registrations, common_steps}
 use Rattle.std.proofs.Math.Seq.{take-append-add}
-use Rattle.std.proofs.lemmas.List.{take-append-le, length-append, map-append}
-use Rattle.qrcode_core.specs.declared.plugin.error.PluginError.{PluginError}
-use Rattle.qrcode_core.specs.Registries.{Registered, Registration, with_registration, with_registrations, Registers, RegistersBeginning}
-use Rattle.std.proofs.lemmas.Grind.{common_steps}
+use Rattle.std.proofs.lemmas.List.{take-append-le, length-append}
+use Rattle.qrcode_core.specs.Registries.{Registered, Registration, with_registration, Registers, RegistersBeginning}
 
 module _ {R E P : Type 0} where
   -- the registrations of two lists, one after the other

@@ -1,10 +1,9 @@
 -- Steps before, and steps after.
-use Rattle.std.proofs.Common.{◌≡◌, ℕ, ◌<◌, ◌+◌, List, [], ◌∷◌, ◌++◌, Result, Ok, Err, take, length, get_or, add-one, arith}
+use Rattle.qrcode_core.proofs.Prelude.{◌≡◌, ℕ, ◌<◌, ◌+◌, List, [], ◌∷◌, ◌++◌, Result, Ok, Err, take, length, get_or, arith, StepsInOrder, PluginError}
+use Rattle.qrcode_core.proofs.Prelude.{common_steps}
+use Rattle.std.proofs.Common.{add-one}
 use Rattle.std.proofs.Math.Seq.{split_at, take-suc}
 use Rattle.qrcode_core.specs.Grids.{Grid}
-use Rattle.qrcode_core.specs.Registries.{StepsInOrder}
-use Rattle.qrcode_core.specs.declared.plugin.error.PluginError.{PluginError}
-use Rattle.std.proofs.lemmas.Grind.{common_steps}
 
 -- after steps that all succeed, the others go on from where those came to
 pub steps_then : {B : Type 0} (step : B → Grid → Result Unit PluginError → Grid → Type 0) (xs ys : List B) (g m h : Grid) (r : Result Unit PluginError)

@@ -1,28 +1,19 @@
 -- The stream of the chosen plan in the smallest version, perhaps behind a header, turned into bytes and drawn, is the best symbol.
-use Rattle.std.proofs.Common.{◌≡◌, ℕ, ◌+◌, ◌<◌, ◌≤◌, arith, List, ◌++◌, length, take, Bool}
-use Rattle.std.specs.Prelude.{Option, Some, None, All, Result, IfErr}
-use Rattle.std.proofs.lemmas.Option.{none-some}
-use Rattle.qrcode_base.specs.declared.symbols.BlockLayout.{BlockLayout}
-use Rattle.qrcode_base.specs.declared.types.EcLevel.{EcLevel}
-use Rattle.qrcode_base.specs.declared.types.Version.{Version}
-use Rattle.qrcode_base.specs.declared.types.errors.QrError.{QrError}
-use Rattle.qrcode_base.specs.declared.types.errors.QrError.TheVariants.{DataTooLong, OutOfMemory}
-use Rattle.qrcode_base.specs.Symbols.{blocks_of, capacity}
-use Rattle.qrcode_bits.specs.Plans.{normal, micro, total_bits}
+use Rattle.qrcode_core.proofs.Prelude.{◌≡◌, ℕ, ◌+◌, ◌<◌, ◌≤◌, arith, List, ◌++◌, length, take, Bool, Option, Some, None, All, none-some, BlockLayout, EcLevel}
+use Rattle.qrcode_core.proofs.Prelude.{Version, QrError, DataTooLong, OutOfMemory, blocks_of, capacity, total_bits, Header, header_bits, Stream, IsBest}
+use Rattle.qrcode_core.proofs.Prelude.{DrawnSymbol, TellsReading, IsEncoded, AreBytesOf, FillsSymbol, IsDrawnStream, common_steps}
+use Rattle.std.specs.Prelude.{Result, IfErr}
+use Rattle.qrcode_bits.specs.Plans.{normal, micro}
 use Rattle.qrcode_bits.specs.Push.{IsEncoding, IsUnencodable}
-use Rattle.qrcode_bits.specs.Frame.{Header, header_bits, spellings}
+use Rattle.qrcode_bits.specs.Frame.{spellings}
 use Rattle.qrcode_bits.specs.Spelling.{segment_pieces}
-use Rattle.qrcode_bits.specs.Stream.{Stream}
 use Rattle.qrcode_bits.proofs.Choices.{fits_last}
 use Rattle.qrcode_bits.proofs.Lengths.{long_message, long_for_micro}
 use Rattle.qrcode_bits.proofs.PlanFrames.{spelled_plan}
-use Rattle.qrcode_core.specs.Headline.{IsBest, IsTooLong, IsRefusal}
-use Rattle.qrcode_core.specs.Drawn.{DrawnSymbol, TellsReading}
-use Rattle.qrcode_core.specs.Layers.{IsEncoded, AreBytesOf, FillsSymbol, IsDrawnStream}
+use Rattle.qrcode_core.specs.Headline.{IsTooLong, IsRefusal}
 use Rattle.qrcode_core.proofs.Best.{best_symbol}
 use Rattle.qrcode_core.proofs.Ending.{bytes_of_tailed, take_ended}
 use Rattle.qrcode_core.proofs.Lengths.{length-encoded}
-use Rattle.std.proofs.lemmas.Grind.{common_steps}
 
 -- a symbol with a capacity has blocks
 pub has_blocks : (v : Version) (l : EcLevel) (limit : ℕ) → capacity v l ≡ Some limit → (b : BlockLayout) × (blocks_of v l ≡ Some b)

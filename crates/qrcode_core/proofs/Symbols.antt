@@ -1,20 +1,12 @@
 -- The symbols of a sequence, as they are made one after the other.
-use Rattle.std.proofs.lemmas.Grind.{common_steps}
-use Rattle.std.proofs.Common.{◌≡◌, ap, ℕ, ◌+◌, ◌<◌, sym, ◌∙◌, subst, arith, inl, inr, List, [], ◌∷◌, ◌++◌, length, length-append, get_or}
+use Rattle.qrcode_core.proofs.Prelude.{common_steps, ◌≡◌, ap, ℕ, ◌+◌, ◌<◌, sym, ◌∙◌, arith, inl, inr, List, [], ◌∷◌, ◌++◌, length, length-append, get_or}
+use Rattle.qrcode_core.proofs.Prelude.{IsNonDecreasing, cases_eq, get_or_append_left, get_or_push, IsPermutation-refl, Color, EcLevel, QrError, DataTooLong}
+use Rattle.qrcode_core.proofs.Prelude.{InvalidResourceLimits, IsTotal, IsNormalNumber, ReadsMessage, parts_at}
+use Rattle.std.proofs.Common.{subst}
 use Rattle.std.specs.Prelude.{ℤ}
-use Rattle.std.specs.List.Sorted.{IsNonDecreasing}
-use Rattle.std.proofs.lemmas.Bool.{cases_eq}
-use Rattle.std.proofs.lemmas.List.{get_or_append_left, get_or_push}
-use Rattle.std.proofs.lemmas.List.Sorted.{IsPermutation-refl}
-use Rattle.qrcode_base.specs.declared.types.Color.{Color}
-use Rattle.qrcode_base.specs.declared.types.EcLevel.{EcLevel}
-use Rattle.qrcode_base.specs.declared.types.errors.QrError.{QrError}
-use Rattle.qrcode_base.specs.declared.types.errors.QrError.TheVariants.{DataTooLong, InvalidResourceLimits}
 use Rattle.qrcode_bits.specs.Push.{IsPartRefused}
-use Rattle.qrcode_bits.specs.Frame.{IsTotal}
-use Rattle.qrcode_base.specs.Symbols.{IsNormalNumber}
 use Rattle.qrcode_bits.proofs.Reading.{length-header}
-use Rattle.qrcode_core.specs.Sequence.{ReadsMessage, header_at, parts_at, IsPartSymbol, AreBestSymbols, IsSomePartTooLong, IsSequenceRefusal}
+use Rattle.qrcode_core.specs.Sequence.{header_at, IsPartSymbol, AreBestSymbols, IsSomePartTooLong, IsSequenceRefusal}
 use Rattle.qrcode_core.proofs.OneMessage.{in_any_order, one_message, length-parts, parts_whole}
 
 -- The first symbols of a sequence, for as many first parts.

@@ -1,14 +1,14 @@
 -- A tree of strings, read as a map from texts: what `insert` and `get` do to it.
-use Rattle.std.proofs.Common.{ℕ, ◌≡◌, List, [], ◌∷◌, Some, option_map, cond, refl, ap, String, map, arith}
+use Rattle.qrcode_core.proofs.Prelude.{ℕ, ◌≡◌, List, [], ◌∷◌, refl, ap, map, arith, string_bytes, common_steps}
+use Rattle.std.proofs.Common.{Some, option_map, cond, String}
 use Rattle.std.specs.List.{AllZip, AllByRecursion}
 use Rattle.std.specs.List.Sorted.{IsStrictlySortedBy}
 use Rattle.std.specs.declared.cmp.Ordering.TheVariants.{Less}
 use Rattle.std.specs.declared.alloc.Global.{Global}
-use Rattle.std.specs.String.{string_bytes, string_cmp}
+use Rattle.std.specs.String.{string_cmp}
 use Rattle.std.specs.BTreeMap.{insert_entry, is_at}
 use Rattle.std.specs.Map.{lookup, keys_of}
 use Rattle.qrcode_core.specs.Plugins.{TextMap, text_cmp, text_entries, text_values, with_entry, at_key, key_texts}
-use Rattle.std.proofs.lemmas.Grind.{common_steps}
 
 -- what `insert` makes of the entries
 pub text_entries_insert : {V : Type 0} (es : List (String Global × V)) (k : String Global) (v : V) →

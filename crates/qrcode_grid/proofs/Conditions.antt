@@ -1,31 +1,19 @@
 -- The table of the masks' conditions, modules as bytes, masked and formatted, masks by their numbers, and lists of penalties.
-use Rattle.std.proofs.Common.{◌≡◌, ℕ, ◌+◌, ◌/◌, ◌%◌, ◌<◌, ◌==◌, eqb, Bool, cond, min, [], get_or, refl, ap, arith, List, map, length, Option, ◌∙◌, sym, zero}
-use Rattle.std.proofs.Common.{suc, ◌∷◌, ◌++◌, take, drop, slice_get, Some, option_map, unwrap_or, bit_and, bit_xor}
-use Rattle.std.proofs.lemmas.Nat.Bits.{bit_at-lt, bit_at_xor, bit_at_and}
-use Rattle.std.proofs.lemmas.Bool.Decides.{nat_tests}
-use Rattle.std.specs.Int.{bit_at}
-use Rattle.qrcode_base.specs.declared.types.Color.TheVariants.{Light, Dark}
-use Rattle.qrcode_grid.specs.declared.canvas.Module.{Module}
-use Rattle.qrcode_grid.specs.declared.canvas.Module.TheVariants.{Empty}
+use Rattle.qrcode_grid.proofs.Prelude.{◌≡◌, ℕ, ◌+◌, ◌/◌, ◌%◌, ◌<◌, ◌==◌, eqb, Bool, cond, min, [], get_or, refl, ap, arith, List, map, length, Option, ◌∙◌, sym}
+use Rattle.qrcode_grid.proofs.Prelude.{zero, suc, ◌∷◌, ◌++◌, take, drop, slice_get, Some, option_map, unwrap_or, bit_at-lt, bit_at_xor, bit_at_and, nat_tests}
+use Rattle.qrcode_grid.proofs.Prelude.{bit_at, Light, Dark, Module, Empty, code_of, masked_code, pattern_of, is_inverted, drawn_over, format_color, masked}
+use Rattle.qrcode_grid.proofs.Prelude.{masked_cell, format_word, normal_number, family, add-mul, mul_assoc, mul_comm, MaskPattern, common_steps}
+use Rattle.qrcode_grid.proofs.Prelude.{same_number_lists, get_or-map, length-map, take_at, take_more, Color, Version, color_of_module, Drawing, with_mask}
+use Rattle.qrcode_grid.proofs.Prelude.{mask_penalties, colors_of, byte_of, penalty, EcLevel, width_of, Fields, Diamonds, get_or_from_slice_get}
+use Rattle.std.proofs.Common.{bit_and, bit_xor}
 use Rattle.qrcode_grid.specs.declared.canvas.masks.TheConstants.{CONDITIONS}
-use Rattle.qrcode_grid.specs.Scoring.{code_of, masked_code, pattern_of}
-use Rattle.qrcode_grid.specs.Masks.{is_inverted, drawn_over, format_color, masked, masked_cell, masked_cells, format_word, normal_number, family}
+use Rattle.qrcode_grid.specs.Masks.{masked_cells}
 use Rattle.qrcode_grid.proofs.FieldLaws.{passes_below, passes_below-at}
 use Rattle.qrcode_grid.proofs.MarkedLanes.{eqb_true}
-use Rattle.std.proofs.Math.Nat.{add-mul, mul-add, mul_assoc, mul_comm}
-use Rattle.qrcode_grid.specs.declared.canvas.MaskPattern.{MaskPattern}
-use Rattle.std.proofs.lemmas.Grind.{common_steps, same_number_lists}
-use Rattle.std.proofs.lemmas.List.{get_or-map, length-map, take_at, take_more}
-use Rattle.qrcode_base.specs.declared.types.Color.{Color}
-use Rattle.qrcode_base.specs.declared.types.Version.{Version}
-use Rattle.qrcode_grid.specs.Canvas.{color_of_module, Drawing, with_mask, mask_penalties, colors_of}
-use Rattle.qrcode_grid.specs.Penalty.{byte_of, penalty}
+use Rattle.std.proofs.Math.Nat.{mul-add}
 use Rattle.qrcode_grid.proofs.WrittenWords.{length-map_places, get_or-map_places}
-use Rattle.qrcode_base.specs.declared.types.EcLevel.{EcLevel}
-use Rattle.qrcode_base.specs.Symbols.{width_of}
-use Rattle.qrcode_grid.specs.declared.canvas.MaskPattern.TheVariants.{Checkerboard, HorizontalLines, VerticalLines, DiagonalLines, LargeCheckerboard, Fields}
-use Rattle.qrcode_grid.specs.declared.canvas.MaskPattern.TheVariants.{Diamonds, Meadow}
-use Rattle.std.proofs.lemmas.Option.{slice_get-map, slice_get_within, get_or_from_slice_get}
+use Rattle.qrcode_grid.specs.declared.canvas.MaskPattern.TheVariants.{Checkerboard, HorizontalLines, VerticalLines, DiagonalLines, LargeCheckerboard, Meadow}
+use Rattle.std.proofs.lemmas.Option.{slice_get-map, slice_get_within}
 
 abbrev is_right : ℕ → ℕ → ℕ → Bool
 is_right y k m = eqb (bit_at (get_or (get_or CONDITIONS y []) k 0) m) (cond (is_inverted (pattern_of m) k y) 1 0)

@@ -1,18 +1,11 @@
 -- The functional modules of a symbol are as many as the cells for which `is_functional` holds.
-use Rattle.std.proofs.Common.{◌≡◌, ℕ, pos, negsuc, zero, suc, ◌<◌, ◌≤◌, ◌+◌, ◌-◌, ◌*◌, ◌/◌, ap, ◌∙◌, sym, refl, arith, cond, Bool, true, not, length, ◌==◌}
-use Rattle.std.proofs.lemmas.Bool.Decides.{nat_tests}
-use Rattle.std.proofs.lemmas.List.Sums.{length-filter}
-use Rattle.qrcode_base.specs.declared.types.Version.{Version}
-use Rattle.qrcode_base.specs.declared.types.Version.TheVariants.{Normal, Micro}
-use Rattle.qrcode_base.specs.Symbols.{IsVersion, width_of}
-use Rattle.qrcode_grid.specs.Counts.{functional_cells, data_cell_count, IsFunctionalCount, area_count}
-use Rattle.qrcode_grid.specs.Regions.{is_functional_cell, is_functional_at, sum_below as total}
-use Rattle.qrcode_grid.specs.Walk.{data_cells, walk, walk_column, numbered_cell, timing_column}
+use Rattle.qrcode_grid.proofs.Prelude.{◌≡◌, ℕ, pos, negsuc, zero, suc, ◌<◌, ◌≤◌, ◌+◌, ◌-◌, ◌*◌, ◌/◌, ap, ◌∙◌, sym, refl, arith, cond, Bool, true, not, length}
+use Rattle.qrcode_grid.proofs.Prelude.{◌==◌, nat_tests, length-filter, Version, Normal, Micro, IsVersion, width_of, data_cell_count, is_functional_cell}
+use Rattle.qrcode_grid.proofs.Prelude.{data_cells, walk, walk_column, numbered_cell, timing_column, common_steps, eqb-true, L}
+use Rattle.qrcode_grid.specs.Counts.{functional_cells, IsFunctionalCount, area_count}
+use Rattle.qrcode_grid.specs.Regions.{is_functional_at, sum_below as total}
 use Rattle.qrcode_grid.proofs.WholeSymbols.{odd_width, timing_inside}
 use Rattle.qrcode_grid.proofs.Totals.{total-cong, total-walk, count_by-total, total-none}
-use Rattle.std.proofs.lemmas.Grind.{common_steps}
-use Rattle.std.proofs.lemmas.Bool.{eqb-true}
-use Rattle.qrcode_base.specs.declared.types.EcLevel.TheVariants.{L}
 use Rattle.qrcode_grid.proofs.Tests.{passes}
 use Rattle.qrcode_grid.proofs.DataCounts.{length-normal_data_cells, length-micro_data_cells}
 

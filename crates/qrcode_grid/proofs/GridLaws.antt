@@ -1,21 +1,16 @@
 -- The laws of the regions, of the alignment patterns, of the walk, and of the code words of the two generators.
-use Rattle.std.proofs.Common.{◌≡◌, ◌≢◌, ℕ, ◌+◌, ◌-◌, ◌*◌, ◌/◌, ◌%◌, ◌<◌, ◌≤◌, ◌==◌, ◌&&◌, ◌||◌, nat_le, nat_lt, Bool, true, false, Option, Some, unwrap_or}
-use Rattle.std.proofs.Common.{subst, refl, arith, ◌^◌}
-use Rattle.std.specs.Int.{abs_diff}
-use Rattle.std.proofs.lemmas.Bool.{eqb-true, leb-true, ltb-true}
-use Rattle.qrcode_base.specs.declared.types.Version.{Version}
-use Rattle.qrcode_base.specs.Symbols.{IsVersion, width_of}
-use Rattle.qrcode_grid.specs.Regions.{near, alignment, alignments, alignment_count, alignment_step, alignment_coordinate, alignment_coordinates, is_at_finder}
-use Rattle.qrcode_grid.specs.Regions.{ring, polynomial_product, multiples, code_word, HasOneMultiple, HasOneFormatWord, HasOneVersionWord}
+use Rattle.qrcode_grid.proofs.Prelude.{◌≡◌, ◌≢◌, ℕ, ◌+◌, ◌-◌, ◌*◌, ◌/◌, ◌%◌, ◌<◌, ◌≤◌, ◌==◌, ◌&&◌, ◌||◌, nat_le, nat_lt, Bool, true, false, Option, Some}
+use Rattle.qrcode_grid.proofs.Prelude.{unwrap_or, subst, refl, arith, ◌^◌, abs_diff, eqb-true, leb-true, ltb-true, Version, IsVersion, width_of, near}
+use Rattle.qrcode_grid.proofs.Prelude.{alignments, alignment_count, alignment_coordinate, alignment_coordinates, ring, timing_column, common_steps}
+use Rattle.qrcode_grid.specs.Regions.{alignment, alignment_step, is_at_finder, polynomial_product, multiples, code_word, HasOneMultiple, HasOneFormatWord}
+use Rattle.qrcode_grid.specs.Regions.{HasOneVersionWord}
 use Rattle.std.specs.List.{position_or_len}
-use Rattle.qrcode_grid.specs.Walk.{timing_column}
 use Rattle.qrcode_grid.specs.Laws.{AreConsistentRegions, HasEveryAlignment, HasItsAlignments, IsWalkOf}
 use Rattle.qrcode_grid.proofs.Tests.{all_pass, passes, both}
 use Rattle.qrcode_grid.proofs.Totals.{cell_number-numbered_cell, numbered_cell-cell_number, cell_number_below, numbered_cell_inside}
 use Rattle.qrcode_grid.proofs.Areas.{is_some-functional_color}
 use Rattle.qrcode_grid.proofs.RegionsAgree.{regions_say}
 use Rattle.qrcode_grid.proofs.WholeSymbols.{odd_width, timing_inside}
-use Rattle.std.proofs.lemmas.Grind.{common_steps}
 
 -- each centre coordinate is the one near the five coordinates around it, computed
 abbrev is_near_its_own : ℕ → ℕ → ℕ → Bool

@@ -1,11 +1,8 @@
 -- The runs of a line, by its fives and sixes of one colour: a run of n modules, n at least 5, has n - 4 fives and n - 5 sixes.
-use Rattle.std.proofs.Common.{◌≡◌, ℕ, zero, suc, ◌+◌, ◌*◌, ◌<◌, ◌≤◌, ◌==◌, ◌&&◌, Bool, true, false, cond, List, [], ◌∷◌, length, get_or, refl, ap, ◌∙◌, sym}
-use Rattle.std.proofs.Common.{arith, not}
+use Rattle.qrcode_grid.proofs.Prelude.{◌≡◌, ℕ, zero, suc, ◌+◌, ◌*◌, ◌<◌, ◌≤◌, ◌==◌, ◌&&◌, Bool, true, false, cond, List, [], ◌∷◌, length, get_or, refl, ap, ◌∙◌}
+use Rattle.qrcode_grid.proofs.Prelude.{sym, arith, not, eqb_tells, common_steps, count_below, sum_below}
 use Rattle.std.specs.Prelude.{nat_le}
 use Rattle.std.specs.List.{prefix_len}
-use Rattle.std.proofs.lemmas.Bool.Decides.{eqb_tells}
-use Rattle.std.proofs.lemmas.Grind.{common_steps}
-use Rattle.qrcode_grid.specs.Regions.{count_below, sum_below}
 use Rattle.qrcode_grid.specs.Penalty.{length_penalty, run_penalty, runs_penalty}
 use Rattle.qrcode_grid.proofs.Totals.{total-first, total-cong}
 

@@ -1,28 +1,23 @@
 -- Lanes that mark where candidates have something, and what is counted in rows of lanes.
-use Rattle.std.proofs.Common.{◌≡◌, ℕ, zero, suc, ◌+◌, ◌-◌, ◌%◌, ◌<◌, ◌≤◌, ◌==◌, ◌&&◌, ◌||◌, ◌++◌, Bool, cond, List, map, take, drop, length, get_or, refl, ap}
-use Rattle.std.proofs.Common.{◌∙◌, sym, arith, Fits, w8, ◌*◌, ◌^◌, min, count_by, ◌/◌, eqb, true, false, [], ◌∷◌, add-zero, zero-add, suc-add}
-use Rattle.std.specs.Int.{bit_at, bit_not}
-use Rattle.std.specs.Int.Bits.{bit_and, bit_or, bit_xor}
-use Rattle.std.proofs.lemmas.List.{get_or-map, length-map, get_or_past, get_or-append-add, get_or_append_left, length-take-le, length-drop}
-use Rattle.std.proofs.lemmas.Nat.Bits.{bit_at-lt, bit_at-zero, bit_at_or, bit_at_not, bit_at_and, bit_at_xor, and_pow}
-use Rattle.std.proofs.lemmas.Simd.{length-chunk, get_or-chunk, get_or-put_chunk_at, length-put_chunk, get_or-zip2, length-zip2, bitmask_splat, ones-mask_l}
-use Rattle.std.proofs.lemmas.Simd.{pick_l_whole, get_or-replicate, pick_l-range_with_len, zip2_of_maps, map-map, mask_l-mod}
-use Rattle.std.proofs.lemmas.Bool.Decides.{nat_tests}
+use Rattle.qrcode_grid.proofs.Prelude.{◌≡◌, ℕ, zero, suc, ◌+◌, ◌-◌, ◌%◌, ◌<◌, ◌≤◌, ◌==◌, ◌&&◌, ◌||◌, ◌++◌, Bool, cond, List, map, take, drop, length, get_or}
+use Rattle.qrcode_grid.proofs.Prelude.{refl, ap, ◌∙◌, sym, arith, Fits, w8, ◌*◌, ◌^◌, min, count_by, ◌/◌, eqb, true, false, [], ◌∷◌, zero-add, bit_at, bit_xor}
+use Rattle.qrcode_grid.proofs.Prelude.{get_or-map, length-map, get_or_past, get_or_append_left, length-take-le, length-drop, bit_at-lt, bit_at-zero, bit_at_and}
+use Rattle.qrcode_grid.proofs.Prelude.{bit_at_xor, length-chunk, get_or-chunk, get_or-zip2, length-zip2, bitmask_splat, ones-mask_l, get_or-replicate}
+use Rattle.qrcode_grid.proofs.Prelude.{nat_tests, Marks, plane, bit_count, common_steps, count_ones, mod-eq_of_lt, mul-le-mul_right, pow_pos, sum_below}
+use Rattle.qrcode_grid.proofs.Prelude.{count_below, range_with_len, sum_by-append, length-range_with_len, is_byte_square_at}
+use Rattle.std.proofs.Common.{add-zero, suc-add}
+use Rattle.std.specs.Int.{bit_not}
+use Rattle.std.specs.Int.Bits.{bit_and, bit_or}
+use Rattle.std.proofs.lemmas.List.{get_or-append-add}
+use Rattle.std.proofs.lemmas.Nat.Bits.{bit_at_or, bit_at_not, and_pow}
+use Rattle.std.proofs.lemmas.Simd.{get_or-put_chunk_at, length-put_chunk, pick_l_whole, pick_l-range_with_len, zip2_of_maps, map-map, mask_l-mod}
 use lib.Lanes.{zip2, chunk, put_chunk, mask_l, top}
-use Rattle.qrcode_grid.specs.Scoring.{Marks, plane, bit_count}
-use Rattle.std.proofs.lemmas.Grind.{common_steps}
-use Rattle.std.specs.Prelude.{count_ones, slice_range}
-use Rattle.std.proofs.Math.Nat.{mod-eq_of_lt, mul-le-mul_right}
+use Rattle.std.specs.Prelude.{slice_range}
 use Rattle.std.proofs.Math.Pow.{pow-lt}
-use Rattle.std.proofs.lemmas.Nat.{pow_pos}
 use lib.ListN.{replicate}
-use Rattle.qrcode_grid.specs.Regions.{sum_below, count_below}
 use Rattle.qrcode_grid.proofs.Totals.{count_by-total, total-cong, total-add, total-mul}
-use Rattle.std.specs.List.{range_with_len}
-use Rattle.std.proofs.lemmas.List.Sums.{sum_by-append, count_by-le-length}
-use Rattle.std.proofs.lemmas.List.FromFn.{length-range_with_len}
+use Rattle.std.proofs.lemmas.List.Sums.{count_by-le-length}
 use lib.Bits.{bit_and}
-use Rattle.qrcode_grid.specs.Penalty.{is_byte_square_at}
 use Rattle.std.proofs.Math.Seq.{take-add}
 
 -- Bits of sixteen lanes, counted by their place.

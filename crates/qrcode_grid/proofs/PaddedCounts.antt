@@ -1,22 +1,15 @@
 -- What is counted over all places of a padded grid, by its lines, its squares and its modules.
-use Rattle.std.proofs.Common.{◌≡◌, ℕ, zero, suc, ◌+◌, ◌-◌, ◌*◌, ◌<◌, ◌≤◌, ◌==◌, ◌&&◌, Bool, false, cond, List, length, get_or, count_by, refl, ap, ◌∙◌, sym}
-use Rattle.std.proofs.Common.{arith, ◌||◌, true, take, drop, inl, inr}
-use Rattle.std.specs.List.{range_with_len}
-use Rattle.std.proofs.Math.Nat.{mul-le-mul_right, add-mul}
-use Rattle.std.proofs.lemmas.Bool.{cases_lt}
-use Rattle.std.proofs.lemmas.Bool.Decides.{nat_tests}
-use Rattle.qrcode_grid.specs.Regions.{sum_below, count_below}
-use Rattle.qrcode_grid.specs.Penalty.{row, column, line_penalty, count_of_squares, is_byte_square_at, is_dark_byte, squares_penalty, quiet, are_light}
-use Rattle.qrcode_grid.specs.Penalty.{is_pattern, is_finder_like}
-use Rattle.qrcode_grid.specs.Scoring.{AreEdges, IsPadded, cell, has, has_five, has_six, has_finder, has_square, places, stride, is_quiet}
+use Rattle.qrcode_grid.proofs.Prelude.{◌≡◌, ℕ, zero, suc, ◌+◌, ◌-◌, ◌*◌, ◌<◌, ◌≤◌, ◌==◌, ◌&&◌, Bool, false, cond, List, length, get_or, count_by, refl, ap, ◌∙◌}
+use Rattle.qrcode_grid.proofs.Prelude.{sym, arith, ◌||◌, true, take, drop, inl, inr, range_with_len, mul-le-mul_right, add-mul, cases_lt, nat_tests, sum_below}
+use Rattle.qrcode_grid.proofs.Prelude.{count_below, row, column, line_penalty, is_byte_square_at, is_dark_byte, IsPadded, cell, has, has_five, has_six, places}
+use Rattle.qrcode_grid.proofs.Prelude.{stride, common_steps, get_or_past, length-map, length-chunk, get_or-chunk, length-range_with_len}
+use Rattle.qrcode_grid.proofs.Prelude.{get_or-map-range_with_len}
+use Rattle.qrcode_grid.specs.Penalty.{count_of_squares, squares_penalty, quiet, are_light, is_pattern, is_finder_like}
+use Rattle.qrcode_grid.specs.Scoring.{AreEdges, has_finder, has_square, is_quiet}
 use Rattle.qrcode_grid.specs.declared.canvas.scoring.lists.Feature.TheVariants.{Finder, Square, Dark}
 use Rattle.qrcode_grid.proofs.MarkedLanes.{count_as_sum, count_one_more}
 use Rattle.qrcode_grid.proofs.LongRuns.{edge_within, edge, edge_past, five_of, six_of, runs_are}
 use Rattle.qrcode_grid.proofs.Totals.{total-add, total-cong, total-mul, total-plus, total-none}
-use Rattle.std.proofs.lemmas.Grind.{common_steps}
-use Rattle.std.proofs.lemmas.List.{get_or_past, length-map}
-use Rattle.std.proofs.lemmas.Simd.{length-chunk, get_or-chunk}
-use Rattle.std.proofs.lemmas.List.FromFn.{length-range_with_len, get_or-map-range_with_len}
 
 -- What is counted over the places of a padded grid is what its rows and columns count.
 

@@ -1,18 +1,9 @@
 -- Regions that say nothing, and what regions say together.
-use Rattle.std.proofs.Common.{◌≡◌, ◌-◌, ◌≤◌, zero, suc, ℕ, ◌<◌, ◌+◌, ◌*◌, ap, refl, arith, false, nat_lt, nat_le, ◌==◌, ◌&&◌, ◌||◌, ◌≢◌, Option}
-use Rattle.std.proofs.Common.{None, [], ◌∷◌, get_or, ◌/◌, map, sym, ◌∙◌, leb, cond, inl, inr, Bool, true}
-use Rattle.std.proofs.lemmas.Bool.Decides.{nat_tests}
-use Rattle.qrcode_base.specs.declared.types.Color.{Color}
-use Rattle.qrcode_grid.specs.declared.canvas.Module.{Module}
-use Rattle.qrcode_grid.specs.declared.canvas.regions.TheConstants.{VERSION_WORDS}
-use Rattle.qrcode_grid.specs.Masks.{drawn_over}
-use Rattle.qrcode_grid.specs.Regions.{finder, timing, where_true, dark_if_even, version_copies, alignments, alignment_coordinates, first_some}
-use Rattle.qrcode_grid.specs.Regions.{near, alignment_count, alignment_at, alignment_coordinate, version_word}
-use Rattle.std.proofs.lemmas.Grind.{common_steps}
-use Rattle.std.specs.List.{range_with_len}
-use Rattle.std.proofs.lemmas.List.FromFn.{get_or-map-range_with_len}
-use Rattle.std.specs.Int.{abs_diff}
-use Rattle.std.proofs.lemmas.Bool.{cases_lt, leb-true}
+use Rattle.qrcode_grid.proofs.Prelude.{◌≡◌, ◌-◌, ◌≤◌, zero, suc, ℕ, ◌<◌, ◌+◌, ◌*◌, ap, refl, arith, false, nat_lt, nat_le, ◌==◌, ◌&&◌, ◌||◌, ◌≢◌, Option, None}
+use Rattle.qrcode_grid.proofs.Prelude.{[], ◌∷◌, get_or, ◌/◌, map, sym, ◌∙◌, leb, cond, inl, inr, Bool, true, nat_tests, Color, Module, VERSION_WORDS}
+use Rattle.qrcode_grid.proofs.Prelude.{drawn_over, finder, timing, where_true, dark_if_even, version_copies, alignments, alignment_coordinates, first_some}
+use Rattle.qrcode_grid.proofs.Prelude.{near, alignment_count, alignment_at, alignment_coordinate, version_word, common_steps, range_with_len}
+use Rattle.qrcode_grid.proofs.Prelude.{get_or-map-range_with_len, abs_diff, cases_lt, leb-true}
 use Rattle.qrcode_grid.proofs.Tests.{all_pass, passes, both}
 
 pub no_version : (n x y : ℕ) → n < 7 → version_copies n x y ≡ None

@@ -1,22 +1,15 @@
 -- Where the regions of a symbol meet they agree: what any of them says of a cell is its colour.
 -- Only the timing patterns and the alignment patterns meet.
-use Rattle.std.proofs.Common.{◌≡◌, ℕ, pos, negsuc, ◌<◌, ◌≤◌, ◌+◌, ◌-◌, ◌*◌, ap, ◌∙◌, sym, refl, subst, arith, inl, inr, List, [], ◌∷◌, ◌++◌, Bool, true, false}
-use Rattle.std.proofs.Common.{not, ◌==◌, ◌&&◌, ◌||◌, nat_le, nat_lt, fold, All, IfSome, Option, Some, None, is_some}
-use Rattle.std.specs.Option.{option_or}
-use Rattle.std.proofs.lemmas.Bool.{cases_eq, cases_lt, false≢true}
-use Rattle.std.proofs.lemmas.Bool.Decides.{nat_tests}
-use Rattle.std.proofs.lemmas.List.Elements.{All-nil, All-cons}
-use Rattle.qrcode_base.specs.declared.types.Color.{Color}
-use Rattle.qrcode_base.specs.declared.types.Color.TheVariants.{Light, Dark}
-use Rattle.qrcode_base.specs.declared.types.Version.{Version}
-use Rattle.qrcode_base.specs.declared.types.Version.TheVariants.{Normal, Micro}
-use Rattle.qrcode_base.specs.Symbols.{IsVersion, width_of}
-use Rattle.qrcode_grid.specs.Regions.{binary_digit, digit_color, finder, timing, where_true, dark_if_even, digit_at, format_first, format_second, format_micro}
-use Rattle.qrcode_grid.specs.Regions.{written, version_copies, alignments, alignment_coordinates, first_some, functional_color, regions}
+use Rattle.qrcode_grid.proofs.Prelude.{◌≡◌, ℕ, pos, negsuc, ◌<◌, ◌≤◌, ◌+◌, ◌-◌, ◌*◌, ap, ◌∙◌, sym, refl, subst, arith, inl, inr, List, [], ◌∷◌, ◌++◌, Bool}
+use Rattle.qrcode_grid.proofs.Prelude.{true, false, not, ◌==◌, ◌&&◌, ◌||◌, nat_le, nat_lt, IfSome, Option, Some, None, is_some, option_or, cases_eq, cases_lt}
+use Rattle.qrcode_grid.proofs.Prelude.{false≢true, nat_tests, All-nil, All-cons, Color, Light, Dark, Version, Normal, Micro, IsVersion, width_of, binary_digit}
+use Rattle.qrcode_grid.proofs.Prelude.{digit_color, finder, timing, where_true, dark_if_even, digit_at, format_first, format_second, format_micro, written}
+use Rattle.qrcode_grid.proofs.Prelude.{version_copies, alignments, alignment_coordinates, first_some, functional_color, common_steps}
+use Rattle.std.proofs.Common.{fold, All}
+use Rattle.qrcode_grid.specs.Regions.{regions}
 use Rattle.qrcode_grid.proofs.Tests.{all_pass, passes, both}
 use Rattle.qrcode_grid.proofs.Areas.{finder_test, finder_is, timing_test, first_test, first_is, second_test, second_is, micro_is, version_is, some-where_true}
 use Rattle.qrcode_grid.proofs.Areas.{some-option_map}
-use Rattle.std.proofs.lemmas.Grind.{common_steps}
 
 abbrev Agree : Option Color → Option Color → Type 0
 Agree a b = (c d : Color) → a ≡ Some c → b ≡ Some d → c ≡ d

@@ -1,22 +1,19 @@
 -- Division by rows: its turns, long division, and lanes of bytes multiplied in the field.
-use Rattle.std.proofs.Common.{◌≡◌, ℕ, zero, suc, ◌<◌, ◌≤◌, ◌+◌, ◌-◌, refl, ap, sym, ◌∙◌, arith, List, [], ◌∷◌, ◌++◌, map, length, get_or, take, drop, replicate}
-use Rattle.std.proofs.Common.{◌/◌, ◌%◌, cond, true, eqb, leb, w8, Fits, Bool, false, subst}
-use Rattle.std.specs.List.{range_with_len}
-use Rattle.std.specs.Int.Bits.{bit_xor, xor_assoc, xor_zero_r, xor_self}
-use Rattle.std.proofs.lemmas.Nat.{xor_comm, xor_of_8}
-use Rattle.std.proofs.lemmas.List.{append-nil, length-take, length-drop, length-replicate, get_or-take, get_or-drop, same_lists, get_or_default, drop_more}
-use Rattle.std.proofs.lemmas.List.{length-append, length-map, drop-drop, take-append-drop, get_or-map, take_at, drop_at}
-use Rattle.std.proofs.lemmas.List.FromFn.{get_or-map-range_with_len, length-map-range_with_len, map-range_with_len_more}
-use Rattle.qrcode_grid.specs.Codes.{product, power, double, shift_and_add, value_at, AreBytes, AreTerms, AreRows, IsDivisor, IsTurn, IsRemainder}
+use Rattle.qrcode_grid.proofs.Prelude.{◌≡◌, ℕ, zero, suc, ◌<◌, ◌≤◌, ◌+◌, ◌-◌, refl, ap, sym, ◌∙◌, arith, List, [], ◌∷◌, ◌++◌, map, length, get_or, take, drop}
+use Rattle.qrcode_grid.proofs.Prelude.{replicate, ◌/◌, ◌%◌, cond, true, eqb, leb, w8, Fits, Bool, false, subst, range_with_len, bit_xor, xor_assoc, xor_zero_r}
+use Rattle.qrcode_grid.proofs.Prelude.{xor_self, xor_comm, xor_of_8, append-nil, length-take, length-drop, length-replicate, get_or-take, get_or-drop}
+use Rattle.qrcode_grid.proofs.Prelude.{same_lists, get_or_default, drop_more, length-map, take-append-drop, get_or-map, take_at, drop_at}
+use Rattle.qrcode_grid.proofs.Prelude.{get_or-map-range_with_len, length-map-range_with_len, map-range_with_len_more, product, power, double, shift_and_add}
+use Rattle.qrcode_grid.proofs.Prelude.{value_at, AreBytes, AreTerms, AreRows, IsDivisor, IsRemainder, common_steps, eqb-true, get_or-zip2, length-zip2}
+use Rattle.qrcode_grid.proofs.Prelude.{get_or-replicate, All-same, All-drop, All-take, All-from_get_or, All-get_or, All-append}
+use Rattle.std.proofs.lemmas.List.{length-append, drop-drop}
+use Rattle.qrcode_grid.specs.Codes.{IsTurn}
 use Rattle.qrcode_grid.proofs.FieldLaws.{product-adds_left, product-one_left, product-zero_right, product_assoc, product_comm, product-double}
 use Rattle.qrcode_grid.proofs.FieldLaws.{product-zero_left, passes_below, passes_below-at, xor-zero, product-bounded, power-bounded}
 use Rattle.qrcode_grid.proofs.Values.{sums, value_at-append, value_at-zeros, power-first, length-sums, value_at-sums, value_at-multiple}
-use Rattle.std.proofs.lemmas.Grind.{common_steps}
-use Rattle.std.proofs.lemmas.Bool.{eqb-true}
-use Rattle.std.proofs.lemmas.Simd.{get_or-zip2, length-zip2, get_or-replicate, get_or-sel_l, length-sel_l, tops_compared}
+use Rattle.std.proofs.lemmas.Simd.{get_or-sel_l, length-sel_l, tops_compared}
 use lib.Lanes.{Each1, zip2, put_chunk, sel_l, top}
 use lib.ListN.{replicate}
-use Rattle.std.proofs.lemmas.List.Elements.{All-same, All-drop, All-take, All-from_get_or, All-get_or, All-append}
 use borrow.Rule.Slice.PartMut.{put_mid}
 
 -- The remainder by a monic polynomial that vanishes at a point has the value of what was divided there.

@@ -1,27 +1,17 @@
 -- What the siblings of a grid are: the law over any grid with the functional colours of its symbol.
-use Rattle.std.proofs.Common.{◌≡◌, ℕ, zero, suc, ◌<◌, ◌≤◌, ◌+◌, ◌-◌, ◌*◌, ◌/◌, ap, ◌∙◌, sym, refl, arith, Bool, true, false, not, List, map, filter, length}
-use Rattle.std.proofs.Common.{get_or, Some, None, Option, unwrap_or, subst}
-use Rattle.std.specs.List.{range_with_len}
-use Rattle.std.proofs.lemmas.Bool.{false≢true}
-use Rattle.std.proofs.lemmas.Nat.{mul-add-lt}
-use Rattle.std.proofs.lemmas.Option.{slice_get-get_or, get_or_from_slice_get}
-use Rattle.qrcode_base.specs.declared.types.Color.{Color}
-use Rattle.qrcode_base.specs.declared.types.Color.TheVariants.{Light}
-use Rattle.qrcode_base.specs.declared.types.EcLevel.{EcLevel}
-use Rattle.qrcode_base.specs.declared.types.Version.{Version}
-use Rattle.qrcode_base.specs.Symbols.{IsVersion, width_of}
-use Rattle.qrcode_grid.specs.declared.canvas.MaskPattern.{MaskPattern}
-use Rattle.qrcode_grid.specs.Regions.{map_cells, color_in, functional_color, is_functional_cell}
-use Rattle.qrcode_grid.specs.Masks.{format_word, inverted_if, is_inverted, raw_colors, sibling, HasFunctionalColors}
+use Rattle.qrcode_grid.proofs.Prelude.{◌≡◌, ℕ, zero, suc, ◌<◌, ◌≤◌, ◌+◌, ◌-◌, ◌*◌, ◌/◌, ap, ◌∙◌, sym, refl, arith, Bool, true, false, not, List, map, length}
+use Rattle.qrcode_grid.proofs.Prelude.{get_or, Some, None, Option, unwrap_or, subst, range_with_len, false≢true, mul-add-lt, slice_get-get_or}
+use Rattle.qrcode_grid.proofs.Prelude.{get_or_from_slice_get, Color, Light, EcLevel, Version, IsVersion, width_of, MaskPattern, map_cells, color_in}
+use Rattle.qrcode_grid.proofs.Prelude.{functional_color, is_functional_cell, format_word, inverted_if, is_inverted, raw_colors, sibling, numbered_cell}
+use Rattle.qrcode_grid.proofs.Prelude.{timing_column, common_steps, nat_tests}
+use Rattle.std.proofs.Common.{filter}
+use Rattle.qrcode_grid.specs.Masks.{HasFunctionalColors}
 use Rattle.qrcode_grid.specs.Canvas.{HasItsSiblings}
-use Rattle.qrcode_grid.specs.Walk.{numbered_cell, timing_column}
 use Rattle.qrcode_grid.proofs.Areas.{is_some-functional_color}
 use Rattle.qrcode_grid.proofs.WrittenWords.{length-map_places, get_or-map_places, at_place, cells_are}
 use Rattle.qrcode_grid.proofs.Drawn.{none_of}
 use Rattle.qrcode_grid.proofs.WholeSymbols.{odd_width, timing_inside}
 use Rattle.qrcode_grid.proofs.Totals.{numbered_cell_inside}
-use Rattle.std.proofs.lemmas.Grind.{common_steps}
-use Rattle.std.proofs.lemmas.Bool.Decides.{nat_tests}
 
 twice : (b : Bool) (c : Color) → inverted_if b (inverted_if b c) ≡ c
 twice b c = grind (arith)

@@ -1,30 +1,18 @@
 -- Words and rows that loops write into a grid: over bytes and over modules alike. Then the distance of drawn words.
-use Rattle.std.proofs.Common.{◌≡◌, ◌≢◌, ℕ, ◌<◌, ◌≤◌, ◌+◌, ◌-◌, ◌*◌, ◌==◌, ◌&&◌, Bool, true, false, List, [], ◌∷◌, length, get_or, set, drop, Option, Some, None}
-use Rattle.std.proofs.Common.{option_map, cond, ap, ◌∙◌, sym, subst, arith, inl, inr, refl, suc, length-drop, drop-cons, get_or-set_same, get_or-set_other, pos}
-use Rattle.std.proofs.Common.{negsuc, unwrap_or, ◌/◌, ◌%◌, zero, length-set, ℤ, slice_get, w16}
-use Rattle.std.proofs.lemmas.Bool.{cases_eq, cases_lt}
-use Rattle.std.proofs.lemmas.Bool.Decides.{nat_tests}
-use Rattle.qrcode_base.specs.declared.types.Color.{Color}
-use Rattle.qrcode_base.specs.declared.types.Color.TheVariants.{Dark}
-use Rattle.qrcode_grid.specs.Regions.{format_first, format_second, format_micro, digit_at, first_some, where_true, binary_digit}
-use Rattle.qrcode_grid.specs.Regions.{digit_color, normal_format_word, micro_format_word, version_word}
-use Rattle.qrcode_grid.specs.Regions.{differing_digits, map_cells, map_places}
-use Rattle.std.proofs.lemmas.Grind.{common_steps}
-use Rattle.qrcode_base.specs.declared.types.EcLevel.{EcLevel}
-use Rattle.qrcode_base.specs.declared.types.Version.{Version}
-use Rattle.qrcode_base.specs.declared.types.Version.TheVariants.{Normal, Micro}
-use Rattle.qrcode_base.specs.Symbols.{IsVersion}
-use Rattle.qrcode_grid.specs.declared.canvas.MaskPattern.{MaskPattern}
-use Rattle.qrcode_grid.specs.Masks.{format_value, format_color, level_number, normal_number, micro_number, symbol_number}
+use Rattle.qrcode_grid.proofs.Prelude.{◌≡◌, ◌≢◌, ℕ, ◌<◌, ◌≤◌, ◌+◌, ◌-◌, ◌*◌, ◌==◌, ◌&&◌, Bool, true, false, List, [], ◌∷◌, length, get_or, set, drop, Option}
+use Rattle.qrcode_grid.proofs.Prelude.{Some, None, option_map, cond, ap, ◌∙◌, sym, subst, arith, inl, inr, refl, suc, get_or-set_same, get_or-set_other, pos}
+use Rattle.qrcode_grid.proofs.Prelude.{negsuc, unwrap_or, ◌/◌, ◌%◌, zero, length-set, ℤ, slice_get, cases_eq, cases_lt, nat_tests, Color, Dark, format_first}
+use Rattle.qrcode_grid.proofs.Prelude.{format_second, format_micro, digit_at, first_some, where_true, binary_digit, digit_color, normal_format_word}
+use Rattle.qrcode_grid.proofs.Prelude.{micro_format_word, version_word, differing_digits, map_cells, common_steps, EcLevel, Version, Normal, Micro, IsVersion}
+use Rattle.qrcode_grid.proofs.Prelude.{MaskPattern, format_value, format_color, normal_number, same_lists, get_or_default, mod-mul-add, div-mul-add}
+use Rattle.qrcode_grid.proofs.Prelude.{mul-le-mul_right, to_z-of_z, slice_get-get_or, Drawing}
+use Rattle.std.proofs.Common.{length-drop, drop-cons, w16}
+use Rattle.qrcode_grid.specs.Regions.{map_places}
+use Rattle.qrcode_grid.specs.Masks.{level_number, micro_number, symbol_number}
 use Rattle.qrcode_grid.specs.Laws.{IsFarFormatWord, IsFarVersionWord}
 use Rattle.qrcode_grid.proofs.Distance.{normal_format_words_differ, micro_format_words_differ, version_words_differ}
-use Rattle.std.proofs.lemmas.List.{same_lists, get_or_default}
-use Rattle.std.proofs.lemmas.Nat.{mod-mul-add, div-mul-add}
-use Rattle.std.proofs.Math.Nat.{mul-le-mul_right}
-use Rattle.std.proofs.lemmas.Int.{to_z-of_z}
-use Rattle.std.proofs.lemmas.Option.{slice_get-get_or}
 use mir.Val.{SFits, of_z, to_z}
-use Rattle.qrcode_grid.specs.Canvas.{Drawing, place}
+use Rattle.qrcode_grid.specs.Canvas.{place}
 
 -- A loop that changes the elements of a list one after another, each by a function of its place.
 

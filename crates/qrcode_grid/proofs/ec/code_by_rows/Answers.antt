@@ -1,5 +1,4 @@
-use Rattle.std.proofs.Common.{◌≡◌, ◌-◌, ◌+◌, ℕ, List, length, subst, arith}
-use Rattle.qrcode_grid.specs.Codes.{AddsCode}
+use Rattle.qrcode_grid.proofs.Prelude.{◌≡◌, ◌-◌, ◌+◌, ℕ, List, length, subst, arith, AddsCode}
 use Rattle.qrcode_grid.proofs.RowDivision.{begun, rows_made}
 use Rattle.qrcode_grid.proofs.ec.code_by_rows.Goals as goal
 

@@ -1,6 +1,4 @@
-use Rattle.std.proofs.Common.{◌≡◌, ℕ, ◌+◌, ◌-◌, ◌*◌, ◌/◌, ◌≤◌, Option, IfSome, sym, ap, ◌∙◌, subst, arith}
-use Rattle.qrcode_base.specs.declared.symbols.BlockLayout.{BlockLayout}
-use Rattle.qrcode_base.specs.Symbols.{block_count}
+use Rattle.qrcode_grid.proofs.Prelude.{◌≡◌, ℕ, ◌+◌, ◌-◌, ◌*◌, ◌/◌, ◌≤◌, Option, IfSome, sym, ap, ◌∙◌, subst, arith, BlockLayout, block_count}
 use Rattle.qrcode_grid.specs.Blocks.{HasOneOrigin}
 use Rattle.qrcode_grid.proofs.Distance.{one_origin}
 use Rattle.qrcode_grid.proofs.WholeSymbols.{IsUsable, IsUsable-of_symbol, one_block_short}

@@ -1,6 +1,4 @@
-use Rattle.std.proofs.Common.{arith}
-use Rattle.std.proofs.lemmas.Grind.{common_steps}
-use Rattle.std.proofs.lemmas.List.Sums.{sum_by_more}
+use Rattle.qrcode_grid.proofs.Prelude.{arith, common_steps, sum_by_more}
 use Rattle.qrcode_grid.proofs.StreamPlaces.{part_end, place-bounded, place-row_end, place-yes, written-more}
 use Rattle.qrcode_grid.proofs.ec.write_full_row.Goals as goal
 

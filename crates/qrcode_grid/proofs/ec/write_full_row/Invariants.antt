@@ -1,7 +1,5 @@
 -- The row is written as far as this block.
-use Rattle.std.proofs.Common.{◌≡◌, length, take}
-use Rattle.std.specs.List.{sum}
-use Rattle.qrcode_grid.specs.Blocks.{place_in_stream, IsWrittenTo}
+use Rattle.qrcode_grid.proofs.Prelude.{◌≡◌, length, take, sum, place_in_stream, IsWrittenTo}
 use Rattle.qrcode_grid.proofs.ec.write_full_row.Given as goal
 
 abbrev pub invariant-loop-size : goal.invariant-loop-size

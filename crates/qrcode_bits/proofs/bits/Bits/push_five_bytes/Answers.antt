@@ -1,7 +1,5 @@
 -- The bytes go behind the others, and the low bits are left.
-use Rattle.std.proofs.Common.{arith, ap, ◌≡◌, ◌+◌, ◌*◌, ◌%◌, ◌^◌, ℕ, refl, true}
-use Rattle.std.specs.Prelude.{vec_len, vec_capacity, is_ok}
-use Rattle.qrcode_bits.specs.Stream.{Stream, room_in}
+use Rattle.qrcode_bits.proofs.Prelude.{arith, ap, ◌≡◌, ◌+◌, ◌*◌, ◌%◌, ◌^◌, ℕ, refl, true, vec_len, vec_capacity, is_ok, Stream, room_in}
 use Rattle.qrcode_bits.proofs.Shifting.{appends_five}
 use Rattle.qrcode_bits.proofs.bits.Bits.push_five_bytes.Goals as goal
 

@@ -1,7 +1,5 @@
 -- Three digits, or the rest.
-use Rattle.std.proofs.Common.{arith}
-use Rattle.std.proofs.lemmas.List.Elements.{All-drop}
-use Rattle.qrcode_base.specs.Characters.{IsDigit}
+use Rattle.qrcode_bits.proofs.Prelude.{arith, All-drop, IsDigit}
 use Rattle.qrcode_bits.proofs.Digits.{digits_step}
 use Rattle.qrcode_bits.proofs.bits.Bits.push_last_digits.Goals as goal
 

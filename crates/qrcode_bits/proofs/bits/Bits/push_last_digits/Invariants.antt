@@ -1,8 +1,5 @@
 -- What was pushed and what is left are the whole.
-use Rattle.std.proofs.Common.{length}
-use Rattle.std.specs.Prelude.{All}
-use Rattle.qrcode_base.specs.Characters.{IsDigit}
-use Rattle.qrcode_bits.specs.Spelling.{numeric_bits}
+use Rattle.qrcode_bits.proofs.Prelude.{length, All, IsDigit, numeric_bits}
 use Rattle.qrcode_bits.proofs.Streams.{Continues}
 use Rattle.qrcode_bits.proofs.bits.Bits.push_last_digits.Given as goal
 

@@ -1,8 +1,5 @@
 -- What was pushed and what is left are the whole.
-use Rattle.std.proofs.Common.{ℕ, length}
-use Rattle.std.specs.Prelude.{All, Contains}
-use Rattle.qrcode_base.specs.Characters.{alphabet}
-use Rattle.qrcode_bits.specs.Spelling.{alphanumeric_bits}
+use Rattle.qrcode_bits.proofs.Prelude.{ℕ, length, All, Contains, alphabet, alphanumeric_bits}
 use Rattle.qrcode_bits.proofs.Streams.{Continues}
 use Rattle.qrcode_bits.proofs.bits.Bits.push_last_letters.Given as goal
 

@@ -1,6 +1,5 @@
 -- Eight characters, or the rest.
-use Rattle.std.proofs.Common.{arith}
-use Rattle.std.proofs.lemmas.List.Elements.{All-drop}
+use Rattle.qrcode_bits.proofs.Prelude.{arith, All-drop}
 use Rattle.qrcode_bits.proofs.Characters.{InAlphabet}
 use Rattle.qrcode_bits.proofs.Pairs.{pairs_step}
 use Rattle.qrcode_bits.proofs.Streams.{appends_low}

@@ -1,6 +1,5 @@
 -- Header, characters and mode, one after the other.
-use Rattle.std.proofs.Common.{arith}
-use Rattle.std.proofs.lemmas.Result.{err_from_is_err_and}
+use Rattle.qrcode_bits.proofs.Prelude.{arith, err_from_is_err_and}
 use Rattle.qrcode_bits.proofs.Segments.{refused}
 use Rattle.qrcode_bits.proofs.bits.Bits.push_text.Goals as goal
 

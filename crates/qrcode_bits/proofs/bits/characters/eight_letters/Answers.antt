@@ -1,8 +1,5 @@
 -- The bits of both halves.
-use Rattle.std.proofs.Common.{arith, refl, ◌+◌, ◌*◌, ◌^◌, ◌++◌, ◌≡◌, ℕ, List, append_assoc, sym, ◌∙◌, ap}
-use Rattle.std.specs.Prelude.{All, Contains}
-use Rattle.std.proofs.lemmas.List.Elements.{All-drop, All-take}
-use Rattle.qrcode_base.specs.Characters.{alphabet}
+use Rattle.qrcode_bits.proofs.Prelude.{arith, refl, ◌+◌, ◌*◌, ◌^◌, ◌++◌, ◌≡◌, ℕ, List, append_assoc, sym, ◌∙◌, ap, All, Contains, All-drop, All-take, alphabet}
 use Rattle.qrcode_bits.proofs.Pairs.{pairs_join}
 use Rattle.qrcode_bits.proofs.bits.characters.eight_letters.Goals as goal
 

@@ -1,5 +1,5 @@
 -- The bits of both halves.
-use Rattle.std.proofs.Common.{arith, refl, ◌+◌, ◌*◌, ◌^◌, ◌++◌, ◌≡◌, ℕ, List, append_assoc, sym, ◌∙◌, ap}
+use Rattle.qrcode_bits.proofs.Prelude.{arith, refl, ◌+◌, ◌*◌, ◌^◌, ◌++◌, ◌≡◌, ℕ, List, append_assoc, sym, ◌∙◌, ap}
 use Rattle.qrcode_bits.proofs.Digits.{digits_join}
 use Rattle.qrcode_bits.proofs.bits.characters.twelve_digits.Goals as goal
 

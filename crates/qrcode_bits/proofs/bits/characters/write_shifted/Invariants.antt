@@ -1,7 +1,5 @@
 -- The places before this one are filled.
-use Rattle.std.proofs.Common.{◌≡◌, ℕ, ◌<◌, ◌∷◌, length}
-use Rattle.std.specs.Prelude.{slice_index_or}
-use Rattle.qrcode_bits.specs.Stream.{shifted}
+use Rattle.qrcode_bits.proofs.Prelude.{◌≡◌, ℕ, ◌<◌, ◌∷◌, length, slice_index_or, shifted}
 use Rattle.qrcode_bits.proofs.bits.characters.write_shifted.Given as goal
 
 abbrev pub invariant-loop-i : goal.invariant-loop-i

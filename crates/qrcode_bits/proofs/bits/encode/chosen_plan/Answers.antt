@@ -1,11 +1,6 @@
 -- The chosen plan decides whether some plan fits.
-use Rattle.std.proofs.Common.{◌≡◌, refl, true, false, ◌+◌, ◌<◌, ◌≤◌, ℕ, List, ap, ◌∙◌, sym, subst, arith}
-use Rattle.std.specs.Prelude.{All}
-use Rattle.qrcode_bits.specs.declared.optimize.Segment.{Segment}
-use Rattle.qrcode_base.specs.declared.types.errors.QrError.TheVariants.{InvalidVersion}
-use Rattle.qrcode_base.specs.Symbols.{capacity}
-use Rattle.qrcode_base.specs.Modes.{HasMode}
-use Rattle.qrcode_bits.specs.Plans.{HasLinearCosts, IsChosenPlan, total_bits}
+use Rattle.qrcode_bits.proofs.Prelude.{◌≡◌, refl, true, false, ◌+◌, ◌<◌, ◌≤◌, ℕ, List, ap, ◌∙◌, sym, subst, arith, All, Segment, InvalidVersion, capacity}
+use Rattle.qrcode_bits.proofs.Prelude.{HasMode, HasLinearCosts, IsChosenPlan, total_bits}
 use Rattle.qrcode_bits.proofs.Pairs.{bytes_valid}
 use Rattle.qrcode_bits.proofs.Choices.{chosen_is_plan}
 use Rattle.qrcode_bits.proofs.Lengths.{dense_message}

@@ -1,10 +1,5 @@
 -- The first Micro version whose chosen plan fits is the choice.
-use Rattle.std.proofs.Common.{◌≡◌, ◌+◌, List, None, subst, arith, true, false}
-use Rattle.qrcode_base.specs.declared.types.Version.{Version}
-use Rattle.qrcode_bits.specs.declared.optimize.Segment.{Segment}
-use Rattle.qrcode_bits.specs.Parsing.{parsed}
-use Rattle.qrcode_bits.specs.Plans.{FitsNot, Fits, IsChosenPlan}
-use Rattle.qrcode_bits.specs.Push.{IsPlanStream}
+use Rattle.qrcode_bits.proofs.Prelude.{◌≡◌, ◌+◌, List, None, subst, arith, true, false, Version, Segment, parsed, FitsNot, Fits, IsChosenPlan, IsPlanStream}
 use Rattle.qrcode_bits.proofs.Pairs.{bytes_valid}
 use Rattle.qrcode_bits.proofs.Choices.{micro_next, micro_choice}
 use Rattle.qrcode_bits.proofs.Lengths.{long_for_micro}

@@ -1,5 +1,5 @@
 -- No plan fits a smaller version.
-use Rattle.qrcode_bits.specs.Plans.{micro, FitsNone}
+use Rattle.qrcode_bits.proofs.Prelude.{micro, FitsNone}
 use Rattle.qrcode_bits.proofs.bits.encode.encode_auto_micro.Given as goal
 
 abbrev pub invariant-loop-smaller : goal.invariant-loop-smaller

@@ -1,12 +1,7 @@
 -- The limit is one of 1 to 40.
-use Rattle.std.proofs.Common.{◌≡◌, ℤ, ap, arith}
-use Rattle.std.specs.Prelude.{nat_abs}
+use Rattle.qrcode_bits.proofs.Prelude.{◌≡◌, ℤ, ap, arith, nat_abs, ints, to_z-of_z, IfErr-weaker, normal, IsUnencodable, IsEncodingRefused}
 use mir.Val.{to_z, of_z}
 use mir.Syntax.{w16}
-use Rattle.std.proofs.lemmas.Int.{ints, to_z-of_z}
-use Rattle.std.proofs.lemmas.Result.{IfErr-weaker}
-use Rattle.qrcode_bits.specs.Plans.{normal}
-use Rattle.qrcode_bits.specs.Push.{IsUnencodable, IsEncodingRefused}
 use Rattle.qrcode_bits.proofs.Classes.{refused_limit, limit_of}
 use Rattle.qrcode_bits.proofs.bits.encode.encode_auto_with_max_version.Goals as goal
 

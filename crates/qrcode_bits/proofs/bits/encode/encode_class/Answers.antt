@@ -1,12 +1,6 @@
 -- The chosen plan of the last version of a class decides for the class.
-use Rattle.std.proofs.Common.{◌≡◌, ◌+◌, ◌*◌, length, ◌≤◌, ℕ, List, ap, ◌∙◌, sym, subst, arith}
-use Rattle.std.specs.Prelude.{All}
-use Rattle.qrcode_base.specs.declared.types.Version.{Version}
-use Rattle.qrcode_bits.specs.declared.optimize.Segment.{Segment}
-use Rattle.qrcode_bits.specs.Frame.{header_bits}
-use Rattle.qrcode_bits.specs.Parsing.{parsed}
-use Rattle.qrcode_bits.specs.Plans.{IsChosenPlan, total_bits, Fits, normal, IsMinVersion}
-use Rattle.qrcode_bits.specs.Push.{IsPlanStream}
+use Rattle.qrcode_bits.proofs.Prelude.{◌≡◌, ◌+◌, ◌*◌, length, ◌≤◌, ℕ, List, ap, ◌∙◌, sym, subst, arith, All, Version, Segment, header_bits, parsed}
+use Rattle.qrcode_bits.proofs.Prelude.{IsChosenPlan, total_bits, Fits, normal, IsMinVersion, IsPlanStream}
 use Rattle.qrcode_bits.proofs.Reading.{front-is}
 use Rattle.qrcode_bits.proofs.Pairs.{bytes_valid}
 use Rattle.qrcode_bits.proofs.Classes.{plan_ordered, front_fits, front_not, class_fits, class_encoding}

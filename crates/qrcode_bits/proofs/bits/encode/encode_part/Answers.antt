@@ -1,13 +1,9 @@
 -- The limit is one of 1 to 40, and the place one of the sequence.
-use Rattle.std.proofs.Common.{◌≡◌, ℤ, ap, arith}
-use Rattle.std.specs.Prelude.{nat_abs, length}
+use Rattle.qrcode_bits.proofs.Prelude.{◌≡◌, ℤ, ap, arith, nat_abs, ints, to_z-of_z, IfErr-weaker, header_spelling, normal, IsUnencodable, IsPartRefused}
+use Rattle.std.specs.Prelude.{length}
 use mir.Val.{to_z, of_z}
 use mir.Syntax.{w16}
-use Rattle.std.proofs.lemmas.Int.{ints, to_z-of_z}
-use Rattle.std.proofs.lemmas.Result.{IfErr-weaker}
-use Rattle.qrcode_bits.specs.Frame.{header_spelling, header}
-use Rattle.qrcode_bits.specs.Plans.{normal}
-use Rattle.qrcode_bits.specs.Push.{IsUnencodable, IsPartRefused}
+use Rattle.qrcode_bits.specs.Frame.{header}
 use Rattle.qrcode_bits.proofs.Classes.{refused_part, limit_of}
 use Rattle.qrcode_bits.proofs.Reading.{length-header}
 use Rattle.qrcode_bits.proofs.bits.encode.encode_part.Goals as goal

@@ -1,19 +1,12 @@
 -- The parts of a plan that fits are spelled and ended; only memory can be wanting.
-use Rattle.std.proofs.Common.{◌≡◌, length, arith, subst, sym}
-use Rattle.std.proofs.lemmas.Result.{err_from_is_err_and}
-use Rattle.qrcode_base.specs.declared.types.Version.{Version}
-use Rattle.std.specs.Prelude.{Option}
-use Rattle.std.proofs.lemmas.Grind.{common_steps}
-use Rattle.qrcode_bits.specs.Stream.{Stream}
-use Rattle.qrcode_bits.specs.Buckets.{no_modes}
-use Rattle.qrcode_bits.specs.Frame.{AreSpelled, Header, header_bits}
-use Rattle.qrcode_bits.specs.Spelling.{segment_pieces}
+use Rattle.qrcode_bits.proofs.Prelude.{◌≡◌, length, arith, subst, sym, err_from_is_err_and, Version, Option, common_steps, Stream, no_modes, AreSpelled, Header}
+use Rattle.qrcode_bits.proofs.Prelude.{header_bits, segment_pieces}
 use Rattle.qrcode_bits.proofs.Pairs.{bytes_valid}
 use Rattle.qrcode_bits.proofs.Texts.{plan_lies}
 use Rattle.qrcode_bits.proofs.PlanFrames.{spelled_plan}
 use Rattle.qrcode_bits.proofs.Encodings.{plan_end_refused, plan_stream}
-use Rattle.qrcode_bits.proofs.bits.encode.encode_plan.Goals as goal
 use Rattle.qrcode_bits.proofs.bits.encode.encode_plan.Goals.{in-Some+in_ok-push_structured_append_header, in_default}
+use Rattle.qrcode_bits.proofs.bits.encode.encode_plan.Goals as goal
 
 -- how the stream begins
 abbrev Begun : Option Header → Version → Stream → Type 0

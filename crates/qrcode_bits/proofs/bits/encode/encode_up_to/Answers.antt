@@ -1,12 +1,10 @@
 -- The first class whose last version holds the chosen plan decides.
-use Rattle.std.proofs.Common.{length, arith, inl, inr}
-use Rattle.qrcode_bits.specs.Frame.{header_bits}
-use Rattle.qrcode_bits.specs.Plans.{IsClass}
+use Rattle.qrcode_bits.proofs.Prelude.{length, arith, inl, inr, header_bits, IsClass}
 use Rattle.qrcode_bits.proofs.Pairs.{bytes_valid}
 use Rattle.qrcode_bits.proofs.Lengths.{long_message}
 use Rattle.qrcode_bits.proofs.Classes.{IsClassEnd, class_behind, class_fits_not}
-use Rattle.qrcode_bits.proofs.bits.encode.encode_up_to.Goals as goal
 use Rattle.qrcode_bits.proofs.bits.encode.encode_up_to.Goals.{then-before-lt9, else-before-lt9+then-before-lt26, else-before-lt9+else-before-lt26}
+use Rattle.qrcode_bits.proofs.bits.encode.encode_up_to.Goals as goal
 
 pub returns-then-bytes-gt-LONGEST_DATA-clause-err : goal.returns-then-bytes-gt-LONGEST_DATA-clause-err
 returns-then-bytes-gt-LONGEST_DATA-clause-err c =

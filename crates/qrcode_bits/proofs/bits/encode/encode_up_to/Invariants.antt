@@ -1,7 +1,5 @@
 -- No plan fits a version up to the last one that was tried.
-use Rattle.std.proofs.Common.{◌-◌, length}
-use Rattle.qrcode_bits.specs.Frame.{header_bits}
-use Rattle.qrcode_bits.specs.Plans.{FitsNone, normal}
+use Rattle.qrcode_bits.proofs.Prelude.{◌-◌, length, header_bits, FitsNone, normal}
 use Rattle.qrcode_bits.proofs.bits.encode.encode_up_to.Given as goal
 
 abbrev pub invariant-loop-before : goal.invariant-loop-before

@@ -1,5 +1,5 @@
 -- No version was found that holds so many bits.
-use Rattle.std.proofs.Common.{refl, inr, arith}
+use Rattle.qrcode_bits.proofs.Prelude.{refl, inr, arith}
 use Rattle.qrcode_bits.proofs.Choices.{none_holds}
 use Rattle.qrcode_bits.proofs.bits.encode.find_min_version.Goals as goal
 

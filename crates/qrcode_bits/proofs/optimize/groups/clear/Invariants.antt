@@ -1,6 +1,5 @@
-use Rattle.std.proofs.Common.{◌≡◌, ℕ, ◌<◌, length}
+use Rattle.qrcode_bits.proofs.Prelude.{◌≡◌, ℕ, ◌<◌, length, slot}
 use Rattle.std.specs.Prelude.{None}
-use Rattle.qrcode_bits.specs.Buckets.{slot}
 use Rattle.qrcode_bits.proofs.optimize.groups.clear.Given as goal
 
 abbrev pub invariant-loop-j : goal.invariant-loop-j

@@ -1,6 +1,5 @@
 -- The pairs so far are one run.
-use Rattle.std.proofs.Common.{◌-◌, ◌<◌, ◌≤◌, length}
-use Rattle.qrcode_bits.specs.Parsing.{Pair}
+use Rattle.qrcode_bits.proofs.Prelude.{◌-◌, ◌<◌, ◌≤◌, length, Pair}
 use Rattle.qrcode_bits.proofs.Runs.{IsRun}
 use Rattle.qrcode_bits.proofs.optimize.parser.segment_of_lead.Given as goal
 

@@ -1,13 +1,9 @@
 -- The best start of each rest was tried, by its word.
-use Rattle.std.proofs.Common.{ℕ, ◌-◌, ◌*◌, get_or, arith, ap, sym, ◌∙◌, refl}
-use Rattle.qrcode_bits.specs.declared.optimize.short.TheConstants.{PERIOD_BITS, RESTS}
-use Rattle.qrcode_bits.specs.Plans.{segment_at}
-use Rattle.qrcode_bits.specs.Buckets.{told, period_bits}
+use Rattle.qrcode_bits.proofs.Prelude.{ℕ, ◌-◌, ◌*◌, get_or, arith, ap, sym, ◌∙◌, refl, PERIOD_BITS, RESTS, segment_at, told, period_bits, common_steps}
 use Rattle.qrcode_bits.proofs.ShortSteps.{rest-at, period_bits-at, cost-small, short-rest, short-enough, sought-keeps, sought-takes, sought-nothing}
 use Rattle.qrcode_bits.proofs.ShortSteps.{sought-last}
-use Rattle.qrcode_bits.proofs.optimize.short.last_step_short.Goals as goal
 use Rattle.qrcode_bits.proofs.optimize.short.last_step_short.Goals.{then-found+then-candidate-best, then-found+else-candidate-best, else-found}
-use Rattle.std.proofs.lemmas.Grind.{common_steps}
+use Rattle.qrcode_bits.proofs.optimize.short.last_step_short.Goals as goal
 
 pub overflow_sub-last_end-then-found : goal.overflow_sub-last_end-then-found
 overflow_sub-last_end-then-found g c =

@@ -1,4 +1,4 @@
-use Rattle.std.proofs.Common.{◌+◌, ◌≤◌}
+use Rattle.qrcode_bits.proofs.Prelude.{◌+◌, ◌≤◌}
 use Rattle.qrcode_bits.proofs.ShortSteps.{IsSought}
 use Rattle.qrcode_bits.proofs.optimize.short.last_step_short.Given as goal
 

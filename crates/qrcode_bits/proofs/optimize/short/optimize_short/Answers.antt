@@ -1,10 +1,7 @@
-use Rattle.std.proofs.Common.{arith, refl}
-use Rattle.qrcode_bits.specs.Plans.{segment_at, IsStep}
-use Rattle.qrcode_bits.specs.Buckets.{told, step_told}
+use Rattle.qrcode_bits.proofs.Prelude.{arith, refl, segment_at, IsStep, told, step_told, common_steps}
 use Rattle.qrcode_bits.proofs.ShortSteps.{step-small, AreShortSteps-push, AreShortSteps-start}
 use Rattle.qrcode_bits.proofs.Grouping.{AreGroups-next, AreGroups-none}
 use Rattle.qrcode_bits.proofs.optimize.short.optimize_short.Goals as goal
-use Rattle.std.proofs.lemmas.Grind.{common_steps}
 
 pub loop-start-init : goal.loop-start-init
 loop-start-init g c =

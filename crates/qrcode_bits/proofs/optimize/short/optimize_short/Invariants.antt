@@ -1,5 +1,5 @@
-use Rattle.std.proofs.Common.{◌≡◌, ◌+◌, ◌*◌, ◌≤◌, length}
-use Rattle.qrcode_bits.specs.Buckets.{AreGroups, told, AreWhole, AreShortSteps, short_at}
+use Rattle.qrcode_bits.proofs.Prelude.{◌≡◌, ◌+◌, ◌*◌, ◌≤◌, length, AreGroups, told, AreShortSteps, short_at}
+use Rattle.qrcode_bits.specs.Buckets.{AreWhole}
 use Rattle.qrcode_bits.proofs.optimize.short.optimize_short.Given as goal
 
 abbrev pub invariant-loop-start : goal.invariant-loop-start

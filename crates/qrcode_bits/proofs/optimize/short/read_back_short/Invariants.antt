@@ -1,4 +1,4 @@
-use Rattle.std.proofs.Common.{◌≤◌, length}
+use Rattle.qrcode_bits.proofs.Prelude.{◌≤◌, length}
 use Rattle.qrcode_bits.proofs.ReadBack.{IsReadFrom}
 use Rattle.qrcode_bits.proofs.optimize.short.read_back_short.Given as goal
 

@@ -1,5 +1,4 @@
-use Rattle.std.proofs.Common.{◌≡◌, ℕ, ◌+◌, ◌<◌, ◌≤◌, length, min}
-use Rattle.qrcode_bits.specs.Buckets.{word_at}
+use Rattle.qrcode_bits.proofs.Prelude.{◌≡◌, ℕ, ◌+◌, ◌<◌, ◌≤◌, length, min, word_at}
 use Rattle.qrcode_bits.proofs.optimize.words.absorb.Given as goal
 
 abbrev pub invariant-loop-j : goal.invariant-loop-j

@@ -1,5 +1,4 @@
-use Rattle.std.proofs.Common.{◌≡◌, ℕ, ◌<◌, length}
-use Rattle.qrcode_bits.specs.Buckets.{word_at}
+use Rattle.qrcode_bits.proofs.Prelude.{◌≡◌, ℕ, ◌<◌, length, word_at}
 use Rattle.qrcode_bits.proofs.optimize.words.clear.Given as goal
 
 abbrev pub invariant-loop-j : goal.invariant-loop-j

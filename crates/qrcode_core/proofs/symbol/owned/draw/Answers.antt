@@ -1,5 +1,5 @@
 -- The version of the codewords is a symbol's.
-use Rattle.std.proofs.Common.{arith}
+use Rattle.qrcode_core.proofs.Prelude.{arith}
 use Rattle.qrcode_core.proofs.Lengths.{version_of_all}
 use Rattle.qrcode_core.proofs.symbol.owned.draw.Goals as goal
 

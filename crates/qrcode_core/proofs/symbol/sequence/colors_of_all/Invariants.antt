@@ -1,6 +1,6 @@
 -- So many symbols have given their modules, and the others are still to come.
-use Rattle.std.proofs.Common.{◌≡◌, ◌++◌, map, vec_items}
-use Rattle.qrcode_core.specs.Drawn.{modules_of}
+use Rattle.qrcode_core.proofs.Prelude.{◌≡◌, ◌++◌, map, modules_of}
+use Rattle.std.proofs.Common.{vec_items}
 use Rattle.qrcode_core.proofs.symbol.sequence.colors_of_all.Given as goal
 
 abbrev pub invariant-loop-symbol : goal.invariant-loop-symbol

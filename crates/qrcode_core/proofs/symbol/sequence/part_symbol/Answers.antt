@@ -1,8 +1,6 @@
 -- The best encoding of a part behind its header, drawn, is the best symbol of the part.
-use Rattle.std.proofs.Common.{ap, rules, arith, nat_abs}
-use Rattle.std.proofs.lemmas.Result.{IfOk-weaker}
+use Rattle.qrcode_core.proofs.Prelude.{ap, rules, arith, nat_abs, IfOk-weaker, to_z-of_z}
 use mir.Syntax.{w16}
-use Rattle.std.proofs.lemmas.Int.{to_z-of_z}
 use Rattle.qrcode_bits.specs.Frame.{IsPlace}
 use Rattle.qrcode_bits.proofs.Pairs.{bytes_valid}
 use Rattle.qrcode_core.proofs.Limited.{few_versions}

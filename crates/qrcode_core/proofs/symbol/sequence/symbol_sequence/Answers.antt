@@ -1,11 +1,6 @@
 -- The symbols of the sequence, without what they tell.
-use Rattle.std.proofs.Common.{arith, map}
-use Rattle.std.proofs.lemmas.Grind.{common_steps}
-use Rattle.std.proofs.lemmas.Int.{to_z-of_z}
-use Rattle.std.proofs.lemmas.Result.{IfOk-weaker}
+use Rattle.qrcode_core.proofs.Prelude.{arith, map, common_steps, to_z-of_z, IfOk-weaker, modules_of, IsPermutation-refl}
 use mir.Syntax.{w16}
-use Rattle.qrcode_core.specs.Drawn.{modules_of}
-use Rattle.std.proofs.lemmas.List.Sorted.{IsPermutation-refl}
 use Rattle.qrcode_core.proofs.symbol.sequence.symbol_sequence.Goals as goal
 
 pub returns-clause-fitting : goal.returns-clause-fitting

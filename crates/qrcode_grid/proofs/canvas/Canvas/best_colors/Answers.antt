@@ -1,8 +1,4 @@
-use Rattle.std.proofs.Common.{◌≡◌, ◌∙◌, ◌*◌, take, ap, arith}
-use Rattle.qrcode_base.specs.Symbols.{width_of}
-use Rattle.qrcode_grid.specs.Canvas.{Drawing, colors_of, with_mask}
-use Rattle.qrcode_grid.specs.Masks.{normal_number}
-use Rattle.qrcode_grid.specs.Scoring.{plane}
+use Rattle.qrcode_grid.proofs.Prelude.{◌≡◌, ◌∙◌, ◌*◌, take, ap, arith, width_of, Drawing, colors_of, with_mask, normal_number, plane}
 use Rattle.qrcode_grid.proofs.Conditions.{same_colors, written_whole}
 use Rattle.qrcode_grid.proofs.canvas.Canvas.best_colors.Goals as goal
 

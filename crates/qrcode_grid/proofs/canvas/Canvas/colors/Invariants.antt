@@ -1,5 +1,4 @@
-use Rattle.std.proofs.Common.{◌≡◌, map, take}
-use Rattle.qrcode_grid.specs.Canvas.{color_of_module}
+use Rattle.qrcode_grid.proofs.Prelude.{◌≡◌, map, take, color_of_module}
 use Rattle.qrcode_grid.proofs.canvas.Canvas.colors.Given as goal
 
 abbrev pub invariant-loop-module : goal.invariant-loop-module

@@ -1,9 +1,8 @@
-use Rattle.std.proofs.Common.{arith}
+use Rattle.qrcode_grid.proofs.Prelude.{arith, common_steps}
 use Rattle.qrcode_grid.proofs.WholeSymbols.{version_of_symbol}
 use Rattle.qrcode_grid.proofs.GridLaws.{consistent_regions, has_its_alignments}
 use Rattle.qrcode_grid.proofs.WrittenWords.{far_version_word}
 use Rattle.qrcode_grid.proofs.canvas.Canvas.draw_all_functional_patterns.Goals as goal
-use Rattle.std.proofs.lemmas.Grind.{common_steps}
 
 pub returns-clause-regions : goal.returns-clause-regions
 returns-clause-regions c = grind (arith, common_steps, consistent_regions, version_of_symbol)

@@ -1,7 +1,4 @@
-use Rattle.std.proofs.Common.{ap, ◌∙◌, sym, subst, List}
-use Rattle.qrcode_base.specs.declared.types.Color.{Color}
-use Rattle.qrcode_grid.specs.Canvas.{Drawing, CarriesCodewords, TakesCodewords, with_functional}
-use Rattle.qrcode_grid.specs.Penalty.{IsFirstLeastMask}
+use Rattle.qrcode_grid.proofs.Prelude.{ap, ◌∙◌, sym, subst, List, Color, Drawing, CarriesCodewords, TakesCodewords, with_functional, IsFirstLeastMask}
 use Rattle.qrcode_grid.proofs.WholeSymbols.{carries, best_is_first}
 use Rattle.qrcode_grid.proofs.canvas.choice.draw_symbol.Goals as goal
 

@@ -1,6 +1,4 @@
-use Rattle.std.proofs.Common.{ℕ, ◌≡◌, ◌<◌, ◌+◌, ◌-◌, ◌*◌, ◌++◌, List, Bool, ap, ◌∙◌, subst, arith}
-use Rattle.qrcode_base.specs.Numbers.{number_bits}
-use Rattle.qrcode_grid.specs.Placing.{FilledBelow}
+use Rattle.qrcode_grid.proofs.Prelude.{ℕ, ◌≡◌, ◌<◌, ◌+◌, ◌-◌, ◌*◌, ◌++◌, List, Bool, ap, ◌∙◌, subst, arith, number_bits, FilledBelow}
 use Rattle.qrcode_grid.proofs.StreamPlaces.{no_bits}
 use Rattle.qrcode_grid.proofs.FillSteps.{row_placed}
 use Rattle.qrcode_grid.proofs.canvas.data.draw_eight.Goals as goal

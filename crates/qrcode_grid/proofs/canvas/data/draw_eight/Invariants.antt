@@ -1,7 +1,5 @@
 -- The bits before these are in the rows before this one.
-use Rattle.std.proofs.Common.{List, Bool, ◌-◌, ◌*◌, ◌++◌}
-use Rattle.qrcode_base.specs.Numbers.{number_bits}
-use Rattle.qrcode_grid.specs.Placing.{FillsRows}
+use Rattle.qrcode_grid.proofs.Prelude.{List, Bool, ◌-◌, ◌*◌, ◌++◌, number_bits, FillsRows}
 use Rattle.qrcode_grid.proofs.canvas.data.draw_eight.Given as goal
 
 abbrev pub invariant-loop-i : goal.invariant-loop-i

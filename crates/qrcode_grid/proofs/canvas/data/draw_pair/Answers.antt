@@ -1,5 +1,4 @@
-use Rattle.std.proofs.Common.{ℕ, ◌≡◌, ◌+◌, ◌-◌, ◌*◌, ◌/◌, subst, arith}
-use Rattle.qrcode_grid.specs.Placing.{bits_from, FillsRows}
+use Rattle.qrcode_grid.proofs.Prelude.{ℕ, ◌≡◌, ◌+◌, ◌-◌, ◌*◌, ◌/◌, subst, arith, bits_from, FillsRows}
 use Rattle.qrcode_grid.proofs.FillSteps.{more_rows}
 use Rattle.qrcode_grid.proofs.canvas.data.draw_pair.Goals as goal
 

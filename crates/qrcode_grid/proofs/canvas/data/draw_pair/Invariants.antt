@@ -1,6 +1,5 @@
 -- The cells of the rows before this part have taken their bits.
-use Rattle.std.proofs.Common.{◌*◌, ◌≤◌}
-use Rattle.qrcode_grid.specs.Placing.{bits_from, FillsRows}
+use Rattle.qrcode_grid.proofs.Prelude.{◌*◌, ◌≤◌, bits_from, FillsRows}
 use Rattle.qrcode_grid.proofs.canvas.data.draw_pair.Given as goal
 
 abbrev pub invariant-loop-part : goal.invariant-loop-part

@@ -1,11 +1,6 @@
-use Rattle.std.proofs.Common.{◌≡◌, ◌<◌, ◌+◌, ◌/◌, ◌%◌, ◌^◌, ◌==◌, ℕ, zero, suc, [], get_or, set, ap, ◌∙◌, refl, arith}
-use Rattle.std.proofs.Math.Nat.{div-div-eq-div-mul}
-use Rattle.std.proofs.lemmas.Nat.{pow-add}
-use Rattle.qrcode_grid.specs.declared.canvas.Module.{Module}
-use Rattle.qrcode_grid.specs.declared.canvas.Module.TheVariants.{Empty, Unmasked}
+use Rattle.qrcode_grid.proofs.Prelude.{◌≡◌, ◌<◌, ◌+◌, ◌/◌, ◌%◌, ◌^◌, ◌==◌, ℕ, zero, suc, [], get_or, set, ap, ◌∙◌, refl, arith, div-div-eq-div-mul, pow-add}
+use Rattle.qrcode_grid.proofs.Prelude.{Module, Empty, Unmasked, data_bit, bit_color}
 use Rattle.qrcode_grid.specs.declared.canvas.data.TheConstants.{ROWS}
-use Rattle.qrcode_grid.specs.Placing.{data_bit}
-use Rattle.qrcode_grid.specs.Walk.{bit_color}
 use Rattle.qrcode_grid.proofs.canvas.data.draw_row.Goals as goal
 
 right_of : (q : ℕ) → q < 4 → get_or (get_or ROWS q []) 1 Empty ≡ Unmasked (bit_color (q / 2 == 1))

@@ -1,8 +1,6 @@
-use Rattle.std.proofs.Common.{◌≡◌, ◌<◌, ◌+◌, ◌-◌, ◌*◌, ◌/◌, ℕ, ap, subst, sym, ◌∙◌, arith, length}
-use Rattle.qrcode_grid.specs.Placing.{bits_from, FilledBelow}
+use Rattle.qrcode_grid.proofs.Prelude.{◌≡◌, ◌<◌, ◌+◌, ◌-◌, ◌*◌, ◌/◌, ℕ, ap, subst, sym, ◌∙◌, arith, length, bits_from, FilledBelow, common_steps}
 use Rattle.qrcode_grid.proofs.FillSteps.{offered_step, number_below, row_place-left, row_place-right}
 use Rattle.qrcode_grid.proofs.canvas.data.draw_rows.Goals as goal
-use Rattle.std.proofs.lemmas.Grind.{common_steps}
 
 pub loop-row-preserved : goal.loop-row-preserved
 loop-row-preserved c = record {

@@ -1,5 +1,4 @@
-use Rattle.std.proofs.Common.{◌≡◌, ◌+◌, ◌-◌, ◌*◌, ap, cond, ◌∙◌, arith}
-use Rattle.std.proofs.lemmas.Nat.{mul-add-lt}
+use Rattle.qrcode_grid.proofs.Prelude.{◌≡◌, ◌+◌, ◌-◌, ◌*◌, ap, cond, ◌∙◌, arith, mul-add-lt}
 use Rattle.qrcode_grid.proofs.canvas.data.place_after.Goals as goal
 
 pub returns-else-columns-clause-within : goal.returns-else-columns-clause-within

@@ -1,7 +1,6 @@
-use Rattle.std.proofs.Common.{◌+◌, ◌<◌, arith}
-use Rattle.std.proofs.lemmas.Nat.{mul-add-lt}
-use Rattle.qrcode_grid.proofs.canvas.data.place_of.Goals as goal
+use Rattle.qrcode_grid.proofs.Prelude.{◌+◌, ◌<◌, arith, mul-add-lt}
 use Rattle.qrcode_grid.proofs.canvas.data.place_of.Goals.{then-columns, else-columns}
+use Rattle.qrcode_grid.proofs.canvas.data.place_of.Goals as goal
 
 pub returns-clause-within : goal.returns-clause-within
 returns-clause-within c =

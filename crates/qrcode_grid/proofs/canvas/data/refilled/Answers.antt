@@ -1,7 +1,6 @@
-use Rattle.std.proofs.Common.{arith}
+use Rattle.qrcode_grid.proofs.Prelude.{arith, common_steps}
 use Rattle.qrcode_grid.proofs.StreamPlaces.{no_bits}
 use Rattle.qrcode_grid.proofs.canvas.data.refilled.Goals as goal
-use Rattle.std.proofs.lemmas.Grind.{common_steps}
 
 pub returns-in-Some-clause-same : goal.returns-in-Some-clause-same
 returns-in-Some-clause-same c = grind (arith, no_bits c.args.bits.word)

@@ -1,8 +1,5 @@
-use Rattle.std.proofs.Common.{◌≡◌, ℕ, ◌<◌, ◌+◌, ◌-◌, ◌*◌, suc, get_or, ap, ◌∙◌, sym, subst, arith, Some}
-use Rattle.std.proofs.lemmas.Nat.{mul-add-lt}
-use Rattle.qrcode_grid.specs.Masks.{drawn_over}
-use Rattle.qrcode_grid.specs.Regions.{alignments, alignment_coordinates, alignment_coordinate, alignment_count, near, alignment_at}
-use Rattle.qrcode_grid.specs.declared.canvas.Module.TheVariants.{Empty}
+use Rattle.qrcode_grid.proofs.Prelude.{◌≡◌, ℕ, ◌<◌, ◌+◌, ◌-◌, ◌*◌, suc, get_or, ap, ◌∙◌, sym, subst, arith, Some, mul-add-lt, drawn_over, alignments}
+use Rattle.qrcode_grid.proofs.Prelude.{alignment_coordinates, alignment_coordinate, alignment_count, near, alignment_at, Empty}
 use Rattle.qrcode_grid.proofs.RegionRows.{behind, behind_before, cells_inside, behind_within, none_between, none_behind, no_pattern, no_pattern_row}
 use Rattle.qrcode_grid.proofs.RegionRows.{no_alignments, alignment_count_is}
 use Rattle.qrcode_grid.proofs.WrittenWords.{CellsChanged, row_between, cell_changed, row_ends, rows_between, rows_end}

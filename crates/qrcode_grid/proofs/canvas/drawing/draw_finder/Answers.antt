@@ -1,7 +1,4 @@
-use Rattle.std.proofs.Common.{◌≤◌, ◌<◌, ◌+◌, ◌*◌, get_or, ap, sym, arith}
-use Rattle.qrcode_grid.specs.Masks.{drawn_over}
-use Rattle.qrcode_grid.specs.Regions.{finder}
-use Rattle.qrcode_grid.specs.declared.canvas.Module.TheVariants.{Empty}
+use Rattle.qrcode_grid.proofs.Prelude.{◌≤◌, ◌<◌, ◌+◌, ◌*◌, get_or, ap, sym, arith, drawn_over, finder, Empty}
 use Rattle.qrcode_grid.proofs.RegionRows.{no_finder_column, no_finder_row}
 use Rattle.qrcode_grid.proofs.WrittenWords.{row_begins, cell_changed, row_ends, rows_between, rows_end}
 use Rattle.qrcode_grid.proofs.canvas.drawing.draw_finder.Goals as goal

@@ -1,7 +1,4 @@
-use Rattle.std.proofs.Common.{◌+◌, ◌*◌, get_or, ◌∙◌, refl, arith}
-use Rattle.qrcode_base.specs.declared.types.Color.TheVariants.{Dark}
-use Rattle.qrcode_grid.specs.Masks.{drawn_over}
-use Rattle.qrcode_grid.specs.declared.canvas.Module.TheVariants.{Empty, Masked}
+use Rattle.qrcode_grid.proofs.Prelude.{◌+◌, ◌*◌, get_or, ◌∙◌, refl, arith, Dark, drawn_over, Empty, Masked}
 use Rattle.qrcode_grid.proofs.WrittenWords.{format_shown}
 use Rattle.qrcode_grid.proofs.canvas.drawing.draw_format.Goals as goal
 

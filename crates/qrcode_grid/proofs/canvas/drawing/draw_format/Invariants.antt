@@ -1,7 +1,5 @@
 -- The digits before this one are found.
-use Rattle.std.proofs.Common.{◌≡◌, ◌<◌, ℕ, get_or, length}
-use Rattle.qrcode_grid.specs.Regions.{binary_digit, digit_color}
-use Rattle.qrcode_grid.specs.declared.canvas.Module.TheVariants.{Empty, Masked}
+use Rattle.qrcode_grid.proofs.Prelude.{◌≡◌, ◌<◌, ℕ, get_or, length, binary_digit, digit_color, Empty, Masked}
 use Rattle.qrcode_grid.proofs.canvas.drawing.draw_format.Given as goal
 
 abbrev pub invariant-loop-k : goal.invariant-loop-k

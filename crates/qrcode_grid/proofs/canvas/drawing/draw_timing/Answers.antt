@@ -1,7 +1,4 @@
-use Rattle.std.proofs.Common.{◌≢◌, ◌<◌, ◌+◌, ◌*◌, get_or, ap, ◌∙◌, arith}
-use Rattle.qrcode_grid.specs.Masks.{drawn_over}
-use Rattle.qrcode_grid.specs.Regions.{timing}
-use Rattle.qrcode_grid.specs.declared.canvas.Module.TheVariants.{Empty}
+use Rattle.qrcode_grid.proofs.Prelude.{◌≢◌, ◌<◌, ◌+◌, ◌*◌, get_or, ap, ◌∙◌, arith, drawn_over, timing, Empty}
 use Rattle.qrcode_grid.proofs.WrittenWords.{row_begins, cell_changed, row_ends, rows_begin, rows_between, rows_end}
 use Rattle.qrcode_grid.proofs.RegionRows.{no_timing_above, no_timing_below, no_timing_beside, no_timing_before, no_timing_behind}
 use Rattle.qrcode_grid.proofs.canvas.drawing.draw_timing.Goals as goal

@@ -1,7 +1,5 @@
 -- The modules before the cell are drawn.
-use Rattle.std.proofs.Common.{◌+◌, ◌*◌}
-use Rattle.qrcode_grid.specs.Masks.{drawn_over}
-use Rattle.qrcode_grid.specs.Regions.{timing}
+use Rattle.qrcode_grid.proofs.Prelude.{◌+◌, ◌*◌, drawn_over, timing}
 use Rattle.qrcode_grid.proofs.WrittenWords.{CellsChanged}
 use Rattle.qrcode_grid.proofs.canvas.drawing.draw_timing.Given as goal
 

@@ -1,7 +1,4 @@
-use Rattle.std.proofs.Common.{◌+◌, ◌*◌, ◌-◌, get_or, ap, ◌∙◌, sym, arith}
-use Rattle.qrcode_grid.specs.Masks.{drawn_over}
-use Rattle.qrcode_grid.specs.Regions.{version_copies}
-use Rattle.qrcode_grid.specs.declared.canvas.Module.TheVariants.{Empty}
+use Rattle.qrcode_grid.proofs.Prelude.{◌+◌, ◌*◌, ◌-◌, get_or, ap, ◌∙◌, sym, arith, drawn_over, version_copies, Empty}
 use Rattle.qrcode_grid.proofs.WrittenWords.{row_begins, cell_changed, row_ends, rows_between, rows_end}
 use Rattle.qrcode_grid.proofs.RegionRows.{no_version, no_version_before, no_version_behind, no_version_between, no_version_beside, no_version_below}
 use Rattle.qrcode_grid.proofs.canvas.drawing.draw_version_words.Goals as goal

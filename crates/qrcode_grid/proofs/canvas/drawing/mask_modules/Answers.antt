@@ -1,10 +1,7 @@
-use Rattle.std.proofs.Common.{◌≡◌, ◌≤◌, ◌+◌, ◌*◌, ◌/◌, ◌%◌, ◌<◌, get_or, set, length, ap, ◌∙◌, sym, arith, subst, ℕ, refl}
-use Rattle.std.proofs.Math.Nat.{mul-le-mul_right}
-use Rattle.qrcode_grid.specs.Masks.{is_inverted, masked}
+use Rattle.qrcode_grid.proofs.Prelude.{◌≡◌, ◌≤◌, ◌+◌, ◌*◌, ◌/◌, ◌%◌, ◌<◌, get_or, set, length, ap, ◌∙◌, sym, arith, subst, ℕ, refl, mul-le-mul_right}
+use Rattle.qrcode_grid.proofs.Prelude.{is_inverted, masked, pattern_of, Empty}
 use Rattle.qrcode_grid.proofs.WrittenWords.{ChangedBelow, changed_set, at_place, cell_within}
-use Rattle.qrcode_grid.specs.Scoring.{pattern_of}
 use Rattle.qrcode_grid.proofs.Conditions.{set_again, is_inverted-repeats_rows, pattern_of-number}
-use Rattle.qrcode_grid.specs.declared.canvas.Module.TheVariants.{Empty}
 use Rattle.qrcode_grid.proofs.canvas.drawing.mask_modules.Goals as goal
 
 pub loop-x-preserved : goal.loop-x-preserved

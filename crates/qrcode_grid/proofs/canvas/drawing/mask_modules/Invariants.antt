@@ -1,6 +1,5 @@
 -- The modules before the cell are masked.
-use Rattle.std.proofs.Common.{◌+◌, ◌*◌, ◌/◌, ◌%◌}
-use Rattle.qrcode_grid.specs.Masks.{is_inverted, masked}
+use Rattle.qrcode_grid.proofs.Prelude.{◌+◌, ◌*◌, ◌/◌, ◌%◌, is_inverted, masked}
 use Rattle.qrcode_grid.proofs.WrittenWords.{ChangedBelow}
 use Rattle.qrcode_grid.proofs.canvas.drawing.mask_modules.Given as goal
 

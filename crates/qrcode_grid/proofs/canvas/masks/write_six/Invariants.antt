@@ -1,5 +1,5 @@
 -- The cells before this one are written, and what comes before the place stays.
-use Rattle.std.proofs.Common.{◌≡◌, ◌<◌, ◌+◌, ℕ, get_or}
+use Rattle.qrcode_grid.proofs.Prelude.{◌≡◌, ◌<◌, ◌+◌, ℕ, get_or}
 use Rattle.qrcode_grid.proofs.canvas.masks.write_six.Given as goal
 
 abbrev pub invariant-loop-k : goal.invariant-loop-k

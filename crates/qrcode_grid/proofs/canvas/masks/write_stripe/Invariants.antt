@@ -1,5 +1,5 @@
 -- The cells of the row in the sixes before this one are written, and what comes before the row stays.
-use Rattle.std.proofs.Common.{◌≡◌, ◌<◌, ◌+◌, ◌*◌, ◌%◌, ℕ, get_or}
+use Rattle.qrcode_grid.proofs.Prelude.{◌≡◌, ◌<◌, ◌+◌, ◌*◌, ◌%◌, ℕ, get_or}
 use Rattle.qrcode_grid.proofs.canvas.masks.write_stripe.Given as goal
 
 abbrev pub invariant-loop-six : goal.invariant-loop-six

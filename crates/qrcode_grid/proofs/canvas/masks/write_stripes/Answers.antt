@@ -1,9 +1,5 @@
-use Rattle.std.proofs.Common.{◌≡◌, ◌+◌, ◌*◌, ◌%◌, get_or, cond, ap, ◌∙◌, sym, arith, inl, inr}
-use Rattle.std.specs.Int.{bit_at}
-use Rattle.std.proofs.Math.Nat.{mul-le-mul_right}
-use Rattle.std.proofs.lemmas.Bool.{cases_lt}
-use Rattle.qrcode_grid.specs.Masks.{is_inverted}
-use Rattle.qrcode_grid.specs.Scoring.{pattern_of}
+use Rattle.qrcode_grid.proofs.Prelude.{◌≡◌, ◌+◌, ◌*◌, ◌%◌, get_or, cond, ap, ◌∙◌, sym, arith, inl, inr, bit_at, mul-le-mul_right, cases_lt, is_inverted}
+use Rattle.qrcode_grid.proofs.Prelude.{pattern_of}
 use Rattle.qrcode_grid.proofs.Conditions.{condition_at, is_inverted-repeats}
 use Rattle.qrcode_grid.proofs.canvas.masks.write_stripes.Goals as goal
 

@@ -1,8 +1,5 @@
 -- The rows before this one are written.
-use Rattle.std.proofs.Common.{◌≡◌, ◌<◌, ◌+◌, ◌*◌, cond, ℕ, get_or}
-use Rattle.std.specs.Int.{bit_at}
-use Rattle.qrcode_grid.specs.Masks.{is_inverted}
-use Rattle.qrcode_grid.specs.Scoring.{pattern_of}
+use Rattle.qrcode_grid.proofs.Prelude.{◌≡◌, ◌<◌, ◌+◌, ◌*◌, cond, ℕ, get_or, bit_at, is_inverted, pattern_of}
 use Rattle.qrcode_grid.proofs.canvas.masks.write_stripes.Given as goal
 
 abbrev pub invariant-loop-y : goal.invariant-loop-y

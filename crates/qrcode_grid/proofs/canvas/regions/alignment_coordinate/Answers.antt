@@ -1,4 +1,4 @@
-use Rattle.std.proofs.Common.{arith}
+use Rattle.qrcode_grid.proofs.Prelude.{arith}
 use Rattle.qrcode_grid.proofs.RegionRows.{cells_inside}
 use Rattle.qrcode_grid.proofs.canvas.regions.alignment_coordinate.Goals as goal
 

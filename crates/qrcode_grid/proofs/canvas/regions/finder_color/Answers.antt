@@ -1,11 +1,7 @@
-use Rattle.std.proofs.Common.{◌≡◌, ℕ, ◌<◌, ◌+◌, ◌-◌, max, Bool, true, false, Option, Some, None, [], ◌∷◌, get_or, refl, ap, ◌∙◌, arith}
-use Rattle.std.proofs.lemmas.Bool.{false≢true}
+use Rattle.qrcode_grid.proofs.Prelude.{◌≡◌, ℕ, ◌<◌, ◌+◌, ◌-◌, max, Bool, true, false, Option, Some, None, [], ◌∷◌, get_or, refl, ap, ◌∙◌, arith, false≢true}
+use Rattle.qrcode_grid.proofs.Prelude.{abs_diff, Color, Light, Dark, finder}
 use Rattle.std.specs.Prelude.{slice_get}
-use Rattle.std.specs.Int.{abs_diff}
-use Rattle.qrcode_base.specs.declared.types.Color.{Color}
-use Rattle.qrcode_base.specs.declared.types.Color.TheVariants.{Light, Dark}
 use Rattle.qrcode_grid.specs.declared.canvas.regions.TheConstants.{FINDER}
-use Rattle.qrcode_grid.specs.Regions.{finder}
 use Rattle.qrcode_grid.proofs.Tests.{all_pass, passes}
 use Rattle.qrcode_grid.proofs.canvas.regions.finder_color.Goals as goal
 

@@ -1,5 +1,4 @@
-use Rattle.std.proofs.Common.{arith}
-use Rattle.std.proofs.lemmas.Grind.{common_steps}
+use Rattle.qrcode_grid.proofs.Prelude.{arith, common_steps}
 use Rattle.qrcode_grid.proofs.RegionRows.{version_word_at}
 use Rattle.qrcode_grid.proofs.canvas.regions.version_color.Goals as goal
 

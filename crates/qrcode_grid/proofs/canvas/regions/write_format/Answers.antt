@@ -1,6 +1,5 @@
-use Rattle.std.proofs.Common.{◌==◌, ◌&&◌, ◌-◌, ◌+◌, ◌*◌, ℕ, List, get_or, ap, ◌∙◌, sym, unwrap_or, option_map}
-use Rattle.qrcode_grid.specs.Masks.{format_value}
-use Rattle.qrcode_grid.specs.Regions.{digit_at, format_first, format_second, where_true}
+use Rattle.qrcode_grid.proofs.Prelude.{◌==◌, ◌&&◌, ◌-◌, ◌+◌, ◌*◌, ℕ, List, get_or, ap, ◌∙◌, sym, unwrap_or, option_map, format_value, digit_at, format_first}
+use Rattle.qrcode_grid.proofs.Prelude.{format_second, where_true}
 use Rattle.qrcode_grid.proofs.WrittenWords.{dark_written, over_three}
 use Rattle.qrcode_grid.proofs.canvas.regions.write_format.Goals as goal
 

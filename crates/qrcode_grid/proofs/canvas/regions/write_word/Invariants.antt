@@ -1,5 +1,5 @@
 -- The low digits are written into the last places.
-use Rattle.std.proofs.Common.{◌-◌, drop, get_or}
+use Rattle.qrcode_grid.proofs.Prelude.{◌-◌, drop, get_or}
 use Rattle.qrcode_grid.proofs.WrittenWords.{IsWritten}
 use Rattle.qrcode_grid.proofs.canvas.regions.write_word.Given as goal
 

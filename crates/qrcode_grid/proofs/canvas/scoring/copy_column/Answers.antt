@@ -1,4 +1,4 @@
-use Rattle.std.proofs.Common.{◌+◌, ◌*◌, get_or, arith}
+use Rattle.qrcode_grid.proofs.Prelude.{◌+◌, ◌*◌, get_or, arith}
 use Rattle.std.proofs.lemmas.List.FromFn.{fill_by_all}
 use Rattle.qrcode_grid.proofs.canvas.scoring.copy_column.Goals as goal
 

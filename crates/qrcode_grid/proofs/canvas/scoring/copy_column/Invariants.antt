@@ -1,4 +1,4 @@
-use Rattle.std.proofs.Common.{◌≡◌, ◌<◌, ◌+◌, ◌*◌, ℕ, get_or}
+use Rattle.qrcode_grid.proofs.Prelude.{◌≡◌, ◌<◌, ◌+◌, ◌*◌, ℕ, get_or}
 use Rattle.qrcode_grid.proofs.canvas.scoring.copy_column.Given as goal
 
 abbrev pub invariant-loop-y : goal.invariant-loop-y

@@ -1,8 +1,5 @@
-use Rattle.std.proofs.Common.{◌≡◌, ap, ◌∙◌, sym}
-use Rattle.qrcode_base.specs.declared.types.Version.TheVariants.{Normal}
-use Rattle.qrcode_base.specs.Symbols.{width_of}
+use Rattle.qrcode_grid.proofs.Prelude.{◌≡◌, ap, ◌∙◌, sym, Normal, width_of, plane}
 use Rattle.qrcode_grid.specs.Penalty.{normal_penalty, modules_penalty}
-use Rattle.qrcode_grid.specs.Scoring.{plane}
 use Rattle.qrcode_grid.proofs.canvas.scoring.penalties_of.Goals as goal
 
 pub returns-in-Normal-clause-penalties : goal.returns-in-Normal-clause-penalties

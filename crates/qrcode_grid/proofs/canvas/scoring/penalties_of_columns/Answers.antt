@@ -1,6 +1,4 @@
-use Rattle.std.proofs.Common.{◌+◌, arith}
-use Rattle.qrcode_grid.specs.Scoring.{has_five, places, plane, cell}
-use Rattle.std.proofs.Common.{◌==◌}
+use Rattle.qrcode_grid.proofs.Prelude.{◌+◌, arith, has_five, places, plane, cell, ◌==◌}
 use Rattle.qrcode_grid.proofs.MarkedLanes.{count_both_le}
 use Rattle.qrcode_grid.proofs.canvas.scoring.penalties_of_columns.Goals as goal
 

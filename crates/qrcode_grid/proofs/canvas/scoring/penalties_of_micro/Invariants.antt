@@ -1,7 +1,6 @@
 -- The penalties of the candidates before this one are found.
-use Rattle.std.proofs.Common.{◌≡◌, ◌<◌, ℕ, length, get_or}
+use Rattle.qrcode_grid.proofs.Prelude.{◌≡◌, ◌<◌, ℕ, length, get_or, plane}
 use Rattle.qrcode_grid.specs.Penalty.{micro_penalty}
-use Rattle.qrcode_grid.specs.Scoring.{plane}
 use Rattle.qrcode_grid.proofs.canvas.scoring.penalties_of_micro.Given as goal
 
 abbrev pub invariant-loop-m : goal.invariant-loop-m

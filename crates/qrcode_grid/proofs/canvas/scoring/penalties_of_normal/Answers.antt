@@ -1,8 +1,6 @@
-use Rattle.std.proofs.Common.{◌≡◌, ℕ, ◌+◌, ◌*◌, ◌/◌, length, get_or, count_by, ap, ◌∙◌, sym, arith}
-use Rattle.std.specs.Int.{abs_diff, bit_at}
-use Rattle.std.proofs.lemmas.Nat.Bits.{bit_at-zero}
-use Rattle.qrcode_grid.specs.Penalty.{is_dark_byte, balance_penalty, row, column, line_penalty}
-use Rattle.qrcode_grid.specs.Scoring.{IsPadded, plane}
+use Rattle.qrcode_grid.proofs.Prelude.{◌≡◌, ℕ, ◌+◌, ◌*◌, ◌/◌, length, get_or, count_by, ap, ◌∙◌, sym, arith, abs_diff, bit_at, bit_at-zero, is_dark_byte, row}
+use Rattle.qrcode_grid.proofs.Prelude.{column, line_penalty, IsPadded, plane}
+use Rattle.qrcode_grid.specs.Penalty.{balance_penalty}
 use Rattle.qrcode_grid.proofs.MarkedLanes.{length-plane, plane_at, plane_small}
 use Rattle.qrcode_grid.proofs.PaddedCounts.{columns_are, rows_are, squares_are, darks_are}
 use Rattle.qrcode_grid.proofs.Totals.{total-plus}

@@ -1,6 +1,5 @@
 -- The penalties of the candidates before this one are found.
-use Rattle.std.proofs.Common.{◌≡◌, ◌<◌, ◌+◌, ◌*◌, ◌/◌, ℕ, get_or, length}
-use Rattle.std.specs.Int.{abs_diff}
+use Rattle.qrcode_grid.proofs.Prelude.{◌≡◌, ◌<◌, ◌+◌, ◌*◌, ◌/◌, ℕ, get_or, length, abs_diff}
 use Rattle.qrcode_grid.proofs.canvas.scoring.penalties_of_normal.Given as goal
 
 abbrev pub invariant-loop-m : goal.invariant-loop-m

@@ -1,5 +1,5 @@
 -- The parts before this one are written.
-use Rattle.std.proofs.Common.{◌≡◌, replicate, ◌*◌}
+use Rattle.qrcode_grid.proofs.Prelude.{◌≡◌, replicate, ◌*◌}
 use Rattle.qrcode_grid.proofs.canvas.scoring.repeated.Given as goal
 
 abbrev pub invariant-loop-part : goal.invariant-loop-part

@@ -1,5 +1,5 @@
 -- The penalties of the candidates before this one are found.
-use Rattle.std.proofs.Common.{◌≡◌, ◌<◌, ◌≤◌, ◌+◌, ◌*◌, ℕ, get_or, length}
+use Rattle.qrcode_grid.proofs.Prelude.{◌≡◌, ◌<◌, ◌≤◌, ◌+◌, ◌*◌, ℕ, get_or, length}
 use Rattle.qrcode_grid.proofs.canvas.scoring.weighed.Given as goal
 
 abbrev pub invariant-loop-m : goal.invariant-loop-m

@@ -1,6 +1,4 @@
-use Rattle.std.proofs.Common.{arith}
-use Rattle.std.proofs.lemmas.Grind.{same_number_lists, common_steps}
-use Rattle.std.proofs.lemmas.List.{get_or-map, length-map}
+use Rattle.qrcode_grid.proofs.Prelude.{arith, same_number_lists, common_steps, get_or-map, length-map}
 use Rattle.qrcode_grid.proofs.MarkedLanes.{length-plane, plane_at}
 use Rattle.qrcode_grid.proofs.canvas.scoring.write_colors.Goals as goal
 

@@ -1,6 +1,5 @@
 -- The places before this one are written.
-use Rattle.std.proofs.Common.{◌≡◌, ◌<◌, ℕ, get_or}
-use Rattle.std.specs.Int.{bit_at}
+use Rattle.qrcode_grid.proofs.Prelude.{◌≡◌, ◌<◌, ℕ, get_or, bit_at}
 use Rattle.qrcode_grid.proofs.canvas.scoring.write_plane.Given as goal
 
 abbrev pub invariant-loop-k : goal.invariant-loop-k

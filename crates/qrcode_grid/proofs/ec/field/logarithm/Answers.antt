@@ -1,6 +1,4 @@
-use Rattle.std.proofs.Common.{ap, ◌∙◌, arith, get_or}
-use Rattle.qrcode_grid.specs.Codes.{power}
-use Rattle.qrcode_grid.specs.declared.ec.field.TheConstants.{LOGS}
+use Rattle.qrcode_grid.proofs.Prelude.{ap, ◌∙◌, arith, get_or, power, LOGS}
 use Rattle.qrcode_grid.proofs.FieldLaws.{LOGS-at}
 use Rattle.qrcode_grid.proofs.ec.field.logarithm.Goals as goal
 

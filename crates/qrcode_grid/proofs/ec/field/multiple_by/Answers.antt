@@ -1,9 +1,6 @@
-use Rattle.std.proofs.Common.{◌≡◌, ◌/◌, ◌%◌, [], get_or, ap, ◌∙◌, sym, arith}
-use Rattle.std.specs.Int.Bits.{bit_xor}
-use Rattle.qrcode_grid.specs.Codes.{product}
+use Rattle.qrcode_grid.proofs.Prelude.{◌≡◌, ◌/◌, ◌%◌, [], get_or, ap, ◌∙◌, sym, arith, bit_xor, product, nat_tests}
 use Rattle.qrcode_grid.proofs.RowDivision.{lane_xor, length_xor, product-halves, times_one}
 use Rattle.qrcode_grid.proofs.ec.field.multiple_by.Goals as goal
-use Rattle.std.proofs.lemmas.Bool.Decides.{nat_tests}
 
 pub returns-clause-lanes : goal.returns-clause-lanes
 returns-clause-lanes c = grind (arith, nat_tests, length_xor)

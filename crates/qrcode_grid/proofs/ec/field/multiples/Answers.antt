@@ -1,7 +1,4 @@
-use Rattle.std.proofs.Common.{◌≡◌, ℕ, List, [], length, get_or, refl, ap, ◌∙◌, sym, arith, replicate}
-use Rattle.std.proofs.lemmas.List.Elements.{All-replicate}
-use Rattle.std.proofs.lemmas.Simd.{get_or-replicate}
-use Rattle.qrcode_grid.specs.Codes.{product}
+use Rattle.qrcode_grid.proofs.Prelude.{◌≡◌, ℕ, List, [], length, get_or, refl, ap, ◌∙◌, sym, arith, replicate, All-replicate, get_or-replicate, product}
 use Rattle.qrcode_grid.proofs.FieldLaws.{product-zero_left}
 use Rattle.qrcode_grid.proofs.ec.field.multiples.Goals as goal
 

@@ -1,7 +1,6 @@
 -- The rows before this one are multiples.
-use Rattle.std.proofs.Common.{◌≡◌, ℕ, ◌<◌, length, get_or, []}
+use Rattle.qrcode_grid.proofs.Prelude.{◌≡◌, ℕ, ◌<◌, length, get_or, [], product}
 use Rattle.std.specs.List.{All}
-use Rattle.qrcode_grid.specs.Codes.{product}
 use Rattle.qrcode_grid.proofs.ec.field.multiples.Given as goal
 
 abbrev pub invariant-loop-i : goal.invariant-loop-i

@@ -1,6 +1,4 @@
-use Rattle.std.proofs.Common.{ℕ, List, get_or, take, refl, sym, subst, arith}
-use Rattle.std.proofs.lemmas.List.{take_all, take_more}
-use Rattle.qrcode_grid.specs.Codes.{IsRemainder}
+use Rattle.qrcode_grid.proofs.Prelude.{ℕ, List, get_or, take, refl, sym, subst, arith, take_all, take_more, IsRemainder}
 use Rattle.qrcode_grid.proofs.RowDivision.{first_remainder, next_remainder}
 use Rattle.qrcode_grid.proofs.ec.field.remainder.Goals as goal
 

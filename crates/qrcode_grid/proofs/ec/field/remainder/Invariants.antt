@@ -1,6 +1,5 @@
 -- The lanes are the remainder of the bytes so far.
-use Rattle.std.proofs.Common.{◌≡◌, ℕ, List, length, take}
-use Rattle.qrcode_grid.specs.Codes.{IsDivisor, AreRows, IsRemainder}
+use Rattle.qrcode_grid.proofs.Prelude.{◌≡◌, ℕ, List, length, take, IsDivisor, AreRows, IsRemainder}
 use Rattle.qrcode_grid.proofs.ec.field.remainder.Given as goal
 
 abbrev pub invariant-loop-byte : goal.invariant-loop-byte

@@ -1,6 +1,6 @@
-use Rattle.std.proofs.Common.{◌≡◌, ◌+◌, ◌-◌, ℕ, ◌++◌, length, get_or, drop, ap, ◌∙◌, arith, length-append, length-drop}
-use Rattle.std.proofs.lemmas.Simd.{get_or-chunk, length-chunk}
-use Rattle.std.proofs.lemmas.List.{get_or-drop, take_all, length-take, length-replicate}
+use Rattle.qrcode_grid.proofs.Prelude.{◌≡◌, ◌+◌, ◌-◌, ℕ, ◌++◌, length, get_or, drop, ap, ◌∙◌, arith, length-append, get_or-chunk, length-chunk, get_or-drop}
+use Rattle.qrcode_grid.proofs.Prelude.{take_all, length-take, length-replicate}
+use Rattle.std.proofs.Common.{length-drop}
 use lib.ListN.{replicate}
 use Rattle.qrcode_grid.proofs.RowDivision.{padded_at, drop-zeros}
 use Rattle.qrcode_grid.proofs.ec.field.terms_of.Goals as goal

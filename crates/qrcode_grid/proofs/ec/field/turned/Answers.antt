@@ -1,7 +1,4 @@
-use Rattle.std.proofs.Common.{◌+◌, get_or, ap, ◌∙◌, arith}
-use Rattle.std.proofs.lemmas.List.{get_or_default}
-use Rattle.std.specs.Int.Bits.{bit_xor}
-use Rattle.qrcode_grid.specs.Codes.{product}
+use Rattle.qrcode_grid.proofs.Prelude.{◌+◌, get_or, ap, ◌∙◌, arith, get_or_default, bit_xor, product}
 use Rattle.qrcode_grid.proofs.RowDivision.{lane_xor, length_xor}
 use Rattle.qrcode_grid.proofs.ec.field.turned.Goals as goal
 

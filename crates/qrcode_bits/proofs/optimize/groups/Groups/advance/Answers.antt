@@ -1,5 +1,5 @@
 -- Each group that goes is absorbed and cleared.
-use Rattle.std.proofs.Common.{rules, refl, arith}
+use Rattle.qrcode_bits.proofs.Prelude.{rules, refl, arith}
 use Rattle.qrcode_bits.proofs.optimize.groups.Groups.advance.Goals as goal
 
 pub returns-in-Byte-clause-advances : goal.returns-in-Byte-clause-advances

@@ -1,5 +1,5 @@
 -- The list has what came so far.
-use Rattle.std.proofs.Common.{◌≡◌}
+use Rattle.qrcode_bits.proofs.Prelude.{◌≡◌}
 use Rattle.qrcode_bits.proofs.optimize.parser.Parser.segments.Given as goal
 
 abbrev pub invariant-loop-segment : goal.invariant-loop-segment

@@ -1,5 +1,4 @@
-use Rattle.std.proofs.Common.{take, Ok}
-use Rattle.qrcode_core.specs.Registries.{StepsInOrder}
+use Rattle.qrcode_core.proofs.Prelude.{take, Ok, StepsInOrder}
 use Rattle.qrcode_core.proofs.plugin.registry.PluginRegistry.process_modules.Given as goal
 
 abbrev pub invariant-loop-postprocessor : goal.invariant-loop-postprocessor

@@ -1,5 +1,4 @@
-use Rattle.std.proofs.Common.{◌≡◌, ◌++◌, map}
-use Rattle.qrcode_core.specs.Registries.{registered, named_encoder, with_registrations}
+use Rattle.qrcode_core.proofs.Prelude.{◌≡◌, ◌++◌, map, registered, named_encoder, with_registrations}
 use Rattle.qrcode_core.proofs.plugin.registry.PluginRegistry.put_encoders.Given as goal
 
 -- the yielded items are registered, and the others are still to come

@@ -1,5 +1,4 @@
-use Rattle.std.proofs.lemmas.Result.{err_from_is_err_and}
-use Rattle.qrcode_core.specs.Registries.{postprocessor_of}
+use Rattle.qrcode_core.proofs.Prelude.{err_from_is_err_and, postprocessor_of}
 use Rattle.qrcode_core.proofs.RegistrationLemmas.{registers_refused}
 use Rattle.qrcode_core.proofs.plugin.registry.PluginRegistry.put_postprocessors.Goals as goal
 

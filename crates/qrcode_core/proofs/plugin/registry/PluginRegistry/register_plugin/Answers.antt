@@ -1,7 +1,5 @@
-use Rattle.std.proofs.lemmas.Result.{err_from_is_err_and}
-use Rattle.std.proofs.Common.{[], ◌∷◌, ◌++◌, map, Err}
-use Rattle.std.specs.String.{string_bytes}
-use Rattle.qrcode_core.specs.Registries.{named_renderer, named_encoder, version_of, postprocessor_of}
+use Rattle.qrcode_core.proofs.Prelude.{err_from_is_err_and, [], ◌∷◌, ◌++◌, map, Err, string_bytes, named_renderer, named_encoder, postprocessor_of}
+use Rattle.qrcode_core.specs.Registries.{version_of}
 use Rattle.qrcode_core.proofs.RegistrationLemmas.{registers_then, registers_stops}
 use Rattle.qrcode_core.proofs.plugin.registry.PluginRegistry.register_plugin.Goals as goal
 

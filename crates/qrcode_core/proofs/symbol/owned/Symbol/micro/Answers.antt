@@ -1,6 +1,6 @@
 -- The best encoding, drawn, is the best symbol.
-use Rattle.std.proofs.Common.{rules, ◌≢◌, arith}
-use Rattle.std.proofs.lemmas.Result.{IfOk-weaker}
+use Rattle.qrcode_core.proofs.Prelude.{rules, arith, IfOk-weaker}
+use Rattle.std.proofs.Common.{◌≢◌}
 use Rattle.qrcode_base.specs.declared.types.EcLevel.TheVariants.{H}
 use Rattle.qrcode_bits.proofs.Pairs.{bytes_valid}
 use Rattle.qrcode_core.proofs.StreamEncoding.{best_of_stream, fills_symbol, encoded_micro_short, only_memory}

@@ -1,13 +1,8 @@
 -- Each part's symbol is one more of the answer; a refused part refuses the whole.
-use Rattle.std.proofs.lemmas.Grind.{common_steps}
-use Rattle.std.proofs.Common.{◌+◌, arith, length, [], ◌∷◌, map, nat_abs}
+use Rattle.qrcode_core.proofs.Prelude.{common_steps, ◌+◌, arith, length, [], ◌∷◌, map, nat_abs, to_z-of_z, map-append, TellsReading, modules_of, IsTotal}
 use Rattle.std.proofs.lemmas.List.Elements.{All-push}
 use mir.Syntax.{w16}
-use Rattle.std.proofs.lemmas.Int.{to_z-of_z}
-use Rattle.std.proofs.lemmas.List.{map-append}
 use Rattle.qrcode_bits.proofs.Classes.{limit_of}
-use Rattle.qrcode_core.specs.Drawn.{TellsReading, modules_of}
-use Rattle.qrcode_bits.specs.Frame.{IsTotal}
 use Rattle.qrcode_core.proofs.Symbols.{one_more, best_symbols, none_too_long, refused_part}
 use Rattle.qrcode_core.proofs.symbol.owned.Symbol.sequence.Goals as goal
 

@@ -1,7 +1,5 @@
 -- So many first symbols are there, and each tells its reading.
-use Rattle.std.proofs.Common.{map, nat_abs}
-use Rattle.std.specs.Prelude.{All}
-use Rattle.qrcode_core.specs.Drawn.{TellsReading, modules_of}
+use Rattle.qrcode_core.proofs.Prelude.{map, nat_abs, All, TellsReading, modules_of}
 use Rattle.qrcode_core.proofs.Symbols.{AreFirstSymbols}
 use Rattle.qrcode_core.proofs.symbol.owned.Symbol.sequence.Given as goal
 

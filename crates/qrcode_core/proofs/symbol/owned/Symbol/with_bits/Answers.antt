@@ -1,5 +1,5 @@
 -- The ended bits, drawn, are held.
-use Rattle.std.proofs.lemmas.Result.{IfOk-weaker}
+use Rattle.qrcode_core.proofs.Prelude.{IfOk-weaker}
 use Rattle.qrcode_core.proofs.HeldBits.{held_reading}
 use Rattle.qrcode_core.proofs.symbol.owned.Symbol.with_bits.Goals as goal
 

@@ -1,14 +1,8 @@
 -- The best encoding up to a version, drawn, is the best symbol within the limits.
-use Rattle.std.proofs.lemmas.Grind.{common_steps}
-use Rattle.std.proofs.Common.{rules, ◌≡◌, ◌≤◌, arith, length}
-use Rattle.std.proofs.lemmas.Result.{IfOk-weaker}
+use Rattle.qrcode_core.proofs.Prelude.{common_steps, rules, ◌≡◌, ◌≤◌, arith, length, IfOk-weaker, Normal, IsBudget, DrawnSymbol, IsDrawnStream}
 use mir.Val.{to_z, of_z}
 use mir.Syntax.{w16}
-use Rattle.qrcode_base.specs.declared.types.Version.TheVariants.{Normal}
 use Rattle.qrcode_bits.proofs.Pairs.{bytes_valid}
-use Rattle.qrcode_core.specs.Limits.{IsBudget}
-use Rattle.qrcode_core.specs.Drawn.{DrawnSymbol}
-use Rattle.qrcode_core.specs.Layers.{IsDrawnStream}
 use Rattle.qrcode_core.proofs.Limited.{few_versions, limited_refusal, best_within, fits_within}
 use Rattle.qrcode_core.proofs.StreamEncoding.{best_of_stream, fills_symbol, encoded_short, only_memory}
 use Rattle.qrcode_core.proofs.symbol.owned.Symbol.with_limits.Goals as goal

@@ -1,8 +1,5 @@
 -- The digits of the words before this one are set, and no others.
-use Rattle.std.proofs.Common.{◌≡◌, ◌<◌, ◌≤◌, ℕ, get_or}
-use Rattle.std.specs.Int.{bit_at}
-use Rattle.qrcode_grid.specs.Penalty.{byte_of}
-use Rattle.qrcode_grid.specs.Regions.{binary_digit, digit_color}
+use Rattle.qrcode_grid.proofs.Prelude.{◌≡◌, ◌<◌, ◌≤◌, ℕ, get_or, bit_at, byte_of, binary_digit, digit_color}
 use Rattle.qrcode_grid.proofs.canvas.scoring.candidates.digits_of.Given as goal
 
 abbrev pub invariant-loop-m : goal.invariant-loop-m

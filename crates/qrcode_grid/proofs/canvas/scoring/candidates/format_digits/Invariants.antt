@@ -1,8 +1,5 @@
 -- The digits before this one are found.
-use Rattle.std.proofs.Common.{◌≡◌, ◌<◌, ℕ, get_or, length}
-use Rattle.std.specs.Int.{bit_at}
-use Rattle.qrcode_grid.specs.Penalty.{byte_of}
-use Rattle.qrcode_grid.specs.Regions.{binary_digit, digit_color}
+use Rattle.qrcode_grid.proofs.Prelude.{◌≡◌, ◌<◌, ℕ, get_or, length, bit_at, byte_of, binary_digit, digit_color}
 use Rattle.qrcode_grid.proofs.canvas.scoring.candidates.format_digits.Given as goal
 
 abbrev pub invariant-loop-k : goal.invariant-loop-k

@@ -1,7 +1,5 @@
 -- The colours of the places before this one are written, and what comes before them stays.
-use Rattle.std.proofs.Common.{◌≡◌, ◌<◌, ◌+◌, ◌==◌, ℕ, map, get_or}
-use Rattle.std.specs.Int.{bit_at}
-use Rattle.qrcode_grid.specs.Scoring.{code_of, masked_code}
+use Rattle.qrcode_grid.proofs.Prelude.{◌≡◌, ◌<◌, ◌+◌, ◌==◌, ℕ, map, get_or, bit_at, code_of, masked_code}
 use Rattle.qrcode_grid.proofs.canvas.scoring.candidates.mask_part.Given as goal
 
 abbrev pub invariant-loop-k : goal.invariant-loop-k

@@ -1,7 +1,5 @@
 -- The rows of the parts before this one are written.
-use Rattle.std.proofs.Common.{◌≡◌, ◌<◌, ◌+◌, ◌*◌, ◌%◌, ◌==◌, ℕ, map, get_or}
-use Rattle.std.specs.Int.{bit_at}
-use Rattle.qrcode_grid.specs.Scoring.{code_of, masked_code}
+use Rattle.qrcode_grid.proofs.Prelude.{◌≡◌, ◌<◌, ◌+◌, ◌*◌, ◌%◌, ◌==◌, ℕ, map, get_or, bit_at, code_of, masked_code}
 use Rattle.qrcode_grid.proofs.canvas.scoring.candidates.mask_rows.Given as goal
 
 abbrev pub invariant-loop-part : goal.invariant-loop-part

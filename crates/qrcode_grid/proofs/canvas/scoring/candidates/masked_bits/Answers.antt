@@ -1,6 +1,4 @@
-use Rattle.std.proofs.Common.{◌≡◌, ◌+◌, ◌<◌, ◌==◌, ap, ◌∙◌, arith}
-use Rattle.std.specs.Int.{bit_at}
-use Rattle.qrcode_grid.specs.Scoring.{code_of, masked_code}
+use Rattle.qrcode_grid.proofs.Prelude.{◌≡◌, ◌+◌, ◌<◌, ◌==◌, ap, ◌∙◌, arith, bit_at, code_of, masked_code}
 use Rattle.qrcode_grid.proofs.Conditions.{bit_masked}
 use Rattle.qrcode_grid.proofs.canvas.scoring.candidates.masked_bits.Goals as goal
 

@@ -1,5 +1,4 @@
-use Rattle.std.proofs.Common.{cond, ap, ◌∙◌, sym}
-use Rattle.std.proofs.lemmas.Nat.Bits.{bit_at_ones}
+use Rattle.qrcode_grid.proofs.Prelude.{cond, ap, ◌∙◌, sym, bit_at_ones}
 use Rattle.qrcode_grid.proofs.canvas.scoring.candidates.spread.Goals as goal
 
 pub returns-then-bit : goal.returns-then-bit

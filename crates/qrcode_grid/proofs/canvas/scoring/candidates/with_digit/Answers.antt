@@ -1,4 +1,4 @@
-use Rattle.std.proofs.Common.{◌∙◌, sym, w8}
+use Rattle.qrcode_grid.proofs.Prelude.{◌∙◌, sym, w8}
 use Rattle.std.proofs.lemmas.Nat.Bits.{bit_at_set_same, bit_at_set_other}
 use Rattle.qrcode_grid.proofs.canvas.scoring.candidates.with_digit.Goals as goal
 

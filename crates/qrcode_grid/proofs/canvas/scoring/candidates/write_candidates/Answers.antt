@@ -1,12 +1,6 @@
-use Rattle.std.proofs.Common.{◌≡◌, ◌+◌, ◌*◌, ◌/◌, ◌%◌, ◌<◌, map, length, get_or, ap, ◌∙◌, sym, refl, arith, inl, inr}
-use Rattle.std.proofs.Math.Nat.{mul-le-mul_right}
-use Rattle.std.proofs.lemmas.Bool.{cases_lt}
-use Rattle.std.proofs.lemmas.List.{length-map}
-use Rattle.qrcode_grid.specs.Scoring.{code_of, masked_code, plane, pattern_of}
-use Rattle.qrcode_grid.specs.Masks.{format_color, is_inverted}
+use Rattle.qrcode_grid.proofs.Prelude.{◌≡◌, ◌+◌, ◌*◌, ◌/◌, ◌%◌, ◌<◌, map, length, get_or, ap, ◌∙◌, sym, refl, arith, inl, inr, mul-le-mul_right, cases_lt}
+use Rattle.qrcode_grid.proofs.Prelude.{length-map, code_of, masked_code, plane, pattern_of, format_color, is_inverted, bit_at, bit_at_ones}
 use Rattle.qrcode_grid.proofs.Conditions.{byte_under, set_again, is_inverted-repeats_rows, candidate_is}
-use Rattle.std.specs.Int.{bit_at}
-use Rattle.std.proofs.lemmas.Nat.Bits.{bit_at_ones}
 use Rattle.qrcode_grid.proofs.WrittenWords.{format_shown}
 use Rattle.qrcode_grid.proofs.MarkedLanes.{length-plane, plane_at}
 use Rattle.qrcode_grid.proofs.canvas.scoring.candidates.write_candidates.Goals as goal

@@ -1,6 +1,5 @@
 -- The sums of the bits before this one have grown.
-use Rattle.std.proofs.Common.{◌≡◌, ◌<◌, ◌≤◌, ◌+◌, ℕ, get_or}
-use Rattle.qrcode_grid.specs.Scoring.{bit_count}
+use Rattle.qrcode_grid.proofs.Prelude.{◌≡◌, ◌<◌, ◌≤◌, ◌+◌, ℕ, get_or, bit_count}
 use Rattle.qrcode_grid.proofs.canvas.scoring.counting.add_counts.Given as goal
 
 abbrev pub invariant-loop-m : goal.invariant-loop-m

@@ -1,6 +1,4 @@
-use Rattle.std.proofs.Common.{◌≡◌, ◌+◌, ◌*◌, ℕ, ap, arith}
-use Rattle.qrcode_grid.specs.Regions.{count_below}
-use Rattle.qrcode_grid.specs.Scoring.{has, plane}
+use Rattle.qrcode_grid.proofs.Prelude.{◌≡◌, ◌+◌, ◌*◌, ℕ, ap, arith, count_below, has, plane}
 use Rattle.qrcode_grid.proofs.MarkedLanes.{next_rows, count_few}
 use Rattle.qrcode_grid.proofs.canvas.scoring.counting.count.Goals as goal
 

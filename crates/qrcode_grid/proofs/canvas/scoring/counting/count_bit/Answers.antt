@@ -1,4 +1,4 @@
-use Rattle.std.proofs.Common.{arith}
+use Rattle.qrcode_grid.proofs.Prelude.{arith}
 use Rattle.qrcode_grid.proofs.MarkedLanes.{shifted_one, bits_in_mask, bit_count_le}
 use Rattle.qrcode_grid.proofs.canvas.scoring.counting.count_bit.Goals as goal
 

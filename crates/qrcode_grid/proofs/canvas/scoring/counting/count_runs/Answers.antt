@@ -1,6 +1,4 @@
-use Rattle.std.proofs.Common.{◌≡◌, ◌+◌, ◌*◌, ap, arith}
-use Rattle.qrcode_grid.specs.Regions.{count_below}
-use Rattle.qrcode_grid.specs.Scoring.{has_five, has_six, plane}
+use Rattle.qrcode_grid.proofs.Prelude.{◌≡◌, ◌+◌, ◌*◌, ap, arith, count_below, has_five, has_six, plane}
 use Rattle.qrcode_grid.proofs.MarkedLanes.{next_rows, count_few}
 use Rattle.qrcode_grid.proofs.canvas.scoring.counting.count_runs.Goals as goal
 

@@ -1,7 +1,5 @@
 -- The places of the chunks before this one are counted.
-use Rattle.std.proofs.Common.{◌≡◌, ◌<◌, ◌≤◌, ◌*◌, ℕ, get_or}
-use Rattle.qrcode_grid.specs.Regions.{count_below}
-use Rattle.qrcode_grid.specs.Scoring.{tallied, has_five, has_six, plane}
+use Rattle.qrcode_grid.proofs.Prelude.{◌≡◌, ◌<◌, ◌≤◌, ◌*◌, ℕ, get_or, count_below, tallied, has_five, has_six, plane}
 use Rattle.qrcode_grid.proofs.canvas.scoring.counting.count_runs.Given as goal
 
 abbrev pub invariant-loop-chunk : goal.invariant-loop-chunk

@@ -1,6 +1,5 @@
 -- The rows before this one are found.
-use Rattle.std.proofs.Common.{◌≡◌, ◌<◌, ◌+◌, ◌*◌, ℕ, length, get_or, []}
-use Rattle.qrcode_grid.specs.Scoring.{Marks, has, plane}
+use Rattle.qrcode_grid.proofs.Prelude.{◌≡◌, ◌<◌, ◌+◌, ◌*◌, ℕ, length, get_or, [], Marks, has, plane}
 use Rattle.qrcode_grid.proofs.canvas.scoring.counting.rows_of.Given as goal
 
 abbrev pub invariant-loop-i : goal.invariant-loop-i

@@ -1,5 +1,5 @@
 -- The totals of the bits before this one are found.
-use Rattle.std.proofs.Common.{◌≡◌, ◌<◌, ◌+◌, ◌*◌, ℕ, get_or, length}
+use Rattle.qrcode_grid.proofs.Prelude.{◌≡◌, ◌<◌, ◌+◌, ◌*◌, ℕ, get_or, length}
 use Rattle.qrcode_grid.specs.Scoring.{held}
 use Rattle.qrcode_grid.proofs.canvas.scoring.counting.totals.Given as goal
 

@@ -1,6 +1,5 @@
 -- The rows before this one are found.
-use Rattle.std.proofs.Common.{◌≡◌, ◌<◌, ◌+◌, ◌*◌, ℕ, length, get_or, []}
-use Rattle.qrcode_grid.specs.Scoring.{Marks, has_five, has_six, plane}
+use Rattle.qrcode_grid.proofs.Prelude.{◌≡◌, ◌<◌, ◌+◌, ◌*◌, ℕ, length, get_or, [], Marks, has_five, has_six, plane}
 use Rattle.qrcode_grid.proofs.canvas.scoring.counting.write_run_rows.Given as goal
 
 abbrev pub invariant-loop-i : goal.invariant-loop-i

@@ -1,5 +1,5 @@
 -- The places before this one are cleared.
-use Rattle.std.proofs.Common.{◌≡◌, ◌<◌, ◌≤◌, ℕ, get_or}
+use Rattle.qrcode_grid.proofs.Prelude.{◌≡◌, ◌<◌, ◌≤◌, ℕ, get_or}
 use Rattle.qrcode_grid.proofs.canvas.scoring.lists.clear.Given as goal
 
 abbrev pub invariant-loop-k : goal.invariant-loop-k

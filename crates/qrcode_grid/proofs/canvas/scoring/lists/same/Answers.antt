@@ -1,6 +1,4 @@
-use Rattle.std.proofs.Common.{◌≡◌, ◌+◌, ◌*◌, ◌==◌, get_or, ap, ◌∙◌, arith}
-use Rattle.std.proofs.Math.Nat.{add-mul}
-use Rattle.qrcode_grid.specs.Scoring.{is_same, plane}
+use Rattle.qrcode_grid.proofs.Prelude.{◌≡◌, ◌+◌, ◌*◌, ◌==◌, get_or, ap, ◌∙◌, arith, add-mul, is_same, plane}
 use Rattle.qrcode_grid.proofs.MarkedLanes.{marks_same, marks_as}
 use Rattle.qrcode_grid.proofs.canvas.scoring.lists.same.Goals as goal
 

@@ -1,9 +1,4 @@
-use Rattle.std.proofs.Common.{◌≡◌, ◌+◌, ◌*◌, ◌≤◌, ap, ◌∙◌, arith, inl, inr}
-use Rattle.std.specs.Int.{bit_at}
-use Rattle.std.proofs.Math.Nat.{mul-le-mul_right, add-mul}
-use Rattle.std.proofs.lemmas.Bool.{cases_lt}
-use Rattle.std.proofs.lemmas.Nat.Bits.{bit_at-zero}
-use Rattle.qrcode_grid.specs.Scoring.{stride}
+use Rattle.qrcode_grid.proofs.Prelude.{◌≡◌, ◌+◌, ◌*◌, ◌≤◌, ap, ◌∙◌, arith, inl, inr, bit_at, mul-le-mul_right, add-mul, cases_lt, bit_at-zero, stride}
 use Rattle.qrcode_grid.proofs.MarkedLanes.{plane_at}
 use Rattle.qrcode_grid.proofs.PaddedCounts.{row_before}
 use Rattle.qrcode_grid.proofs.canvas.scoring.lists.write_edges.Goals as goal

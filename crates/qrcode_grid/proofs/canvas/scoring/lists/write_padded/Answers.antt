@@ -1,8 +1,5 @@
-use Rattle.std.proofs.Common.{◌≡◌, ◌+◌, ◌-◌, ◌*◌, ◌≤◌, length, take, drop, get_or, ap, ◌∙◌, sym, arith, inl, inr}
-use Rattle.std.proofs.Math.Nat.{mul-le-mul_right, add-mul}
-use Rattle.std.proofs.lemmas.Bool.{cases_lt}
-use Rattle.std.proofs.lemmas.Simd.{length-chunk, get_or-chunk}
-use Rattle.qrcode_grid.specs.Scoring.{stride}
+use Rattle.qrcode_grid.proofs.Prelude.{◌≡◌, ◌+◌, ◌-◌, ◌*◌, ◌≤◌, length, take, drop, get_or, ap, ◌∙◌, sym, arith, inl, inr, mul-le-mul_right, add-mul, cases_lt}
+use Rattle.qrcode_grid.proofs.Prelude.{length-chunk, get_or-chunk, stride}
 use Rattle.qrcode_grid.proofs.PaddedCounts.{row_before}
 use Rattle.qrcode_grid.proofs.canvas.scoring.lists.write_padded.Goals as goal
 

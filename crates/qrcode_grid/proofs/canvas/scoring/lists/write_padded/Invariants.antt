@@ -1,6 +1,5 @@
 -- The rows before this one are written.
-use Rattle.std.proofs.Common.{◌≡◌, ◌<◌, ◌≤◌, ◌+◌, ◌*◌, ℕ, get_or}
-use Rattle.qrcode_grid.specs.Scoring.{stride}
+use Rattle.qrcode_grid.proofs.Prelude.{◌≡◌, ◌<◌, ◌≤◌, ◌+◌, ◌*◌, ℕ, get_or, stride}
 use Rattle.qrcode_grid.proofs.canvas.scoring.lists.write_padded.Given as goal
 
 abbrev pub invariant-loop-y : goal.invariant-loop-y

@@ -1,8 +1,4 @@
-use Rattle.std.proofs.Common.{◌≡◌, ◌+◌, ◌-◌, ◌*◌, cond, get_or, ap, ◌∙◌, arith, inl, inr}
-use Rattle.std.specs.Int.{bit_at}
-use Rattle.std.proofs.lemmas.Bool.{cases_lt}
-use Rattle.std.proofs.lemmas.Simd.{get_or-replicate}
-use Rattle.qrcode_grid.specs.Scoring.{is_same, plane}
+use Rattle.qrcode_grid.proofs.Prelude.{◌≡◌, ◌+◌, ◌-◌, ◌*◌, cond, get_or, ap, ◌∙◌, arith, inl, inr, bit_at, cases_lt, get_or-replicate, is_same, plane}
 use Rattle.qrcode_grid.proofs.canvas.scoring.lists.write_same.Goals as goal
 
 pub loop-part-preserved : goal.loop-part-preserved

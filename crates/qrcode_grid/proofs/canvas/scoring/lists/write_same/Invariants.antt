@@ -1,7 +1,5 @@
 -- The parts before this one are written.
-use Rattle.std.proofs.Common.{◌≡◌, ◌<◌, ◌≤◌, ◌+◌, ◌*◌, cond, ℕ, get_or}
-use Rattle.std.specs.Int.{bit_at}
-use Rattle.qrcode_grid.specs.Scoring.{is_same, plane, stride}
+use Rattle.qrcode_grid.proofs.Prelude.{◌≡◌, ◌<◌, ◌≤◌, ◌+◌, ◌*◌, cond, ℕ, get_or, bit_at, is_same, plane, stride}
 use Rattle.qrcode_grid.proofs.canvas.scoring.lists.write_same.Given as goal
 
 abbrev pub invariant-loop-part : goal.invariant-loop-part
