@@ -1,7 +1,7 @@
 -- A chosen plan decides for its version, and that of the last version of a class for the class.
 use Rattle.qrcode_bits.proofs.Prelude.{◌≡◌, ℕ, zero, suc, ℤ, false, pos, ◌+◌, ◌-◌, ◌*◌, ◌^◌, ◌<◌, ◌≤◌, List, [], ◌∷◌, length, sym, ap, subst, arith, inl, inr}
 use Rattle.qrcode_bits.proofs.Prelude.{Result, Ok, Err, All, Option, nat_abs, MatchOption, cases_lt, Version, EcLevel, Mode, QrError, DataTooLong, OutOfMemory}
-use Rattle.qrcode_bits.proofs.Prelude.{normal_blocks, capacity, capacity_with, HasMode, indicator_width, count_width, slice_get-get_or, Segment, parsed}
+use Rattle.qrcode_bits.proofs.Prelude.{normal_blocks, capacity, data_bytes, option_map, HasMode, indicator_width, count_width, slice_get-get_or, Segment, parsed}
 use Rattle.qrcode_bits.proofs.Prelude.{AreTexts, HasLinearCosts, IsChosenPlan, total_bits, IsMergePlan, Fits, FitsNot, FitsNone, normal, IsLeastHolding}
 use Rattle.qrcode_bits.proofs.Prelude.{IsMinVersion, IsClass, Header, IsPlace, header_bits, Stream, IsPlanStream, IsEncoding, IsUnencodable, IsEncodingRefused}
 use Rattle.qrcode_bits.proofs.Prelude.{IsPartRefused, IsNormalNumber, LiesIn, common_steps}
@@ -72,7 +72,7 @@ last_capacity : (l : EcLevel) (n : ℕ) → 1 ≤ n → n ≤ 40 → (c : ℕ) �
 last_capacity l zero some h = absurd (omega arith)
 last_capacity l (suc n) some h =
     let row = slice_get-get_or (normal_blocks l) n no_blocks (omega (arith, all_blocks l)) in
-    (_, ap (λ (o : Option BlockLayout). capacity_with (normal (suc n)) o) row)
+    (_, ap (λ (o : Option BlockLayout). option_map (λ b. 8 * data_bytes b - 0) o) row)
 
 -- what fits a version fits a later one of its class
 fits_later : (front n m : ℕ) (message : List ℕ) (l : EcLevel) (plan : List Segment) → n ≤ m → m ≤ 40 → SameClass n m →

@@ -14,12 +14,12 @@ pub use Rattle.std.proofs.lemmas.Option.{slice_get-get_or, slice_get_past}
 pub use Rattle.std.proofs.lemmas.Result.{IfErr-weaker, err_from_is_err_and}
 pub use Rattle.std.specs.Prelude.{All, Contains, IsOk, MatchOption, Option, bit_and, codes, flat_map, if◌then◌else◌, is_ok, is_some, nat_abs, nat_lt, slice_get}
 pub use Rattle.std.specs.Prelude.{slice_index_or, slice_range, vec_capacity, vec_len, ◌==◌}
-pub use Rattle.qrcode_base.specs.Characters.{IsDigit, IsFirstInvalid, IsKanji, IsKanjiText, IsValid, alphabet, digit, is_between, is_kanji_pair}
+pub use Rattle.qrcode_base.specs.Characters.{IsDigit, IsFirstInvalid, IsKanjiText, IsValid, alphabet, digit, is_between, is_kanji_pair}
 unfoldable pub use Rattle.qrcode_base.specs.Characters.{alphanumeric_value, is_alphanumeric, kanji_number}
 pub use Rattle.qrcode_base.specs.Modes.{HasMode, IsWithin, bytes, characters, count_width, data_bits, digits, indicator, indicator_width, join, same}
 pub use Rattle.qrcode_base.specs.Numbers.{byte_bits, zero_bits}
 unfoldable pub use Rattle.qrcode_base.specs.Numbers.{number_bits}
-pub use Rattle.qrcode_base.specs.Symbols.{IsNormalNumber, capacity, capacity_with, normal_blocks}
+pub use Rattle.qrcode_base.specs.Symbols.{IsNormalNumber, capacity, normal_blocks}
 pub use Rattle.qrcode_base.specs.declared.types.EcLevel.{EcLevel}
 pub use Rattle.qrcode_base.specs.declared.types.EcLevel.TheVariants.{H, L, M, Q}
 pub use Rattle.qrcode_base.specs.declared.types.Mode.{Mode}

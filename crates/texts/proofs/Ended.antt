@@ -1,6 +1,6 @@
 -- What the end of a stream, or its refusal, says of the bits.
 use Rattle.std.proofs.Common.{◌≡◌, ◌∙◌, ℕ, zero, suc, ◌+◌, ◌≤◌, Bool, true, List, length, refl, sym, subst, arith, inl, inr}
-use Rattle.std.specs.Prelude.{Option, Some, None, is_some, slice_get}
+use Rattle.std.specs.Prelude.{Option, Some, None, is_some, slice_get, ◌*◌, ◌-◌, option_map}
 use Rattle.std.proofs.lemmas.Bool.{cases_lt}
 use Rattle.qrcode_base.specs.declared.symbols.BlockLayout.{BlockLayout}
 use Rattle.qrcode_base.specs.declared.types.EcLevel.{EcLevel}
@@ -8,7 +8,7 @@ use Rattle.qrcode_base.specs.declared.types.EcLevel.TheVariants.{L, M, Q, H}
 use Rattle.qrcode_base.specs.declared.types.Version.{Version}
 use Rattle.qrcode_base.specs.declared.types.errors.QrError.{QrError}
 use Rattle.qrcode_base.specs.declared.types.errors.QrError.TheVariants.{DataTooLong, OutOfMemory, InvalidVersion}
-use Rattle.qrcode_base.specs.Symbols.{capacity, capacity_with, normal_blocks}
+use Rattle.qrcode_base.specs.Symbols.{capacity, data_bytes, normal_blocks}
 use Rattle.qrcode_base.proofs.Alphabet.{each_below, from_each_below}
 use Rattle.qrcode_bits.specs.Stream.{Stream}
 use Rattle.qrcode_core.specs.Drawn.{DrawnSymbol, HoldsStream, IsStreamRefusal}
@@ -28,7 +28,7 @@ pub has_capacity : (level : EcLevel) (n : ℕ) → 1 ≤ n → n ≤ 40 → capa
 has_capacity level zero first last none = omega (arith, first)
 has_capacity level (suc n) first last none = go (slice_get (normal_blocks level) n) refl none
   where
-    go : (o : Option BlockLayout) → slice_get (normal_blocks level) n ≡ o → capacity_with (normal (suc n)) o ≡ None → ⊥
+    go : (o : Option BlockLayout) → slice_get (normal_blocks level) n ≡ o → option_map (λ b. 8 * data_bytes b - 0) o ≡ None → ⊥
     go None e q =
         let some = from_each_below 40 (λ k. is_some (slice_get (normal_blocks level) k)) (has_rows level) n (omega (arith, last)) in
         cc

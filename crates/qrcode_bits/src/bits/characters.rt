@@ -5,7 +5,7 @@
 
 ghost use Rattle.std.specs.Prelude.{◌≡◌, ◌+◌, ◌*◌, ◌%◌, ◌^◌, ◌<◌, ◌≤◌, ◌∷◌, slice_index_or, length, All, Contains};
 ghost use Rattle.qrcode_base.specs.Characters.{IsDigit, digit as digit_of, alphabet};
-ghost use Rattle.qrcode_base.specs.Characters.{alphanumeric_value as alphanumeric_value_of, IsKanji};
+ghost use Rattle.qrcode_base.specs.Characters.{alphanumeric_value as alphanumeric_value_of, is_kanji_pair};
 ghost use Rattle.qrcode_base.specs.Characters.{IsKanjiText, kanji_number as kanji_number_of};
 ghost use Rattle.qrcode_base.specs.Numbers.{number_bits, byte_bits};
 ghost use Rattle.qrcode_bits.specs.Spelling.{numeric_bits, alphanumeric_bits, kanji_bits};
@@ -213,7 +213,7 @@ fn eight_letters(text: &[u8]) -> u64
 
 /// The 13-bit number of a double-byte character.
 fn kanji_number(lead: u8, trail: u8) -> u16
-    requires { IsKanji lead trail }
+    requires { is_kanji_pair lead trail ≡ true }
     ensures value { result ≡ kanji_number_of lead trail }
     ensures small { result < 8192 }
 {
