@@ -1,11 +1,12 @@
 -- A chosen plan decides for its version, and that of the last version of a class for the class.
 use Rattle.qrcode_bits.proofs.Prelude.{◌≡◌, ℕ, zero, suc, ℤ, false, pos, ◌+◌, ◌-◌, ◌*◌, ◌^◌, ◌<◌, ◌≤◌, List, [], ◌∷◌, length, sym, ap, subst, arith, inl, inr}
 use Rattle.qrcode_bits.proofs.Prelude.{Result, Ok, Err, All, Option, nat_abs, MatchOption, cases_lt, Version, EcLevel, Mode, QrError, DataTooLong, OutOfMemory}
-use Rattle.qrcode_bits.proofs.Prelude.{normal_blocks, capacity, data_bytes, option_map, HasMode, indicator_width, count_width, slice_get-get_or, Segment, parsed}
+use Rattle.qrcode_bits.proofs.Prelude.{normal_blocks, capacity, HasMode, indicator_width, count_width, slice_get-get_or, Segment, parsed}
 use Rattle.qrcode_bits.proofs.Prelude.{AreTexts, HasLinearCosts, IsChosenPlan, total_bits, IsMergePlan, Fits, FitsNot, FitsNone, normal, IsLeastHolding}
 use Rattle.qrcode_bits.proofs.Prelude.{IsMinVersion, IsClass, Header, IsPlace, header_bits, Stream, IsPlanStream, IsEncoding, IsUnencodable, IsEncodingRefused}
 use Rattle.qrcode_bits.proofs.Prelude.{IsPartRefused, IsNormalNumber, LiesIn, common_steps}
-use Rattle.std.specs.Prelude.{Some, min, ◌⊎◌}
+use Rattle.std.specs.Prelude.{Some, min, ◌⊎◌, option_map}
+use Rattle.qrcode_base.specs.Symbols.{data_bytes}
 use Rattle.qrcode_base.specs.declared.symbols.BlockLayout.{BlockLayout}
 use Rattle.qrcode_base.proofs.Fields.{capacity-held, SameClass}
 use lib.Signed.{lt_z}
