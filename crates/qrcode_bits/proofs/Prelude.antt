@@ -42,7 +42,7 @@ pub use Rattle.qrcode_bits.specs.Plans.{IsLeastBits, IsLeastHolding, IsMergePlan
 pub use Rattle.qrcode_bits.specs.Plans.{merged, merged_all, micro, normal, part, part_bits, parts, plan_bits, segment_at, segment_bits, step_at, total_bits}
 pub use Rattle.qrcode_bits.specs.Push.{Ends, EndsAtLevel, IsEncoding, IsEncodingRefused, IsEndRefused, IsHeaderRefused, IsLevelRefused, IsPartRefused}
 pub use Rattle.qrcode_bits.specs.Push.{IsPlanStream, IsPushRefused, IsUnencodable, PushesDrawn, PushesPieces, Spells, SpellsAll, StopsAt, with_modes}
-pub use Rattle.qrcode_bits.specs.Spelling.{IsSpellable, IsSpelling, LiesIn, Piece, character_bits, character_count, segment_piece, segment_pieces, spelling}
+pub use Rattle.qrcode_bits.specs.Spelling.{IsSpellable, IsSpelling, LiesIn, Piece, character_bits, segment_piece, segment_pieces, spelling}
 unfoldable pub use Rattle.qrcode_bits.specs.Spelling.{alphanumeric_bits, kanji_bits, numeric_bits}
 pub use Rattle.qrcode_bits.specs.Stream.{Appends, AreShifted, IsKept, Reserves, Stream, eci_spelling, kept_bits, room_in, shifted}
 pub use Rattle.qrcode_bits.specs.declared.optimize.Segment.{Segment}

@@ -8,12 +8,12 @@ use Rattle.qrcode_base.specs.declared.types.Mode.TheVariants.{Byte}
 use Rattle.qrcode_base.specs.declared.types.Version.{Version}
 use Rattle.qrcode_base.specs.declared.types.errors.QrError.{QrError}
 use Rattle.qrcode_base.specs.declared.types.errors.QrError.TheVariants.{DataTooLong, OutOfMemory, InvalidCharacter, UnsupportedCharacterSet}
-use Rattle.qrcode_base.specs.Modes.{HasMode, count_width}
+use Rattle.qrcode_base.specs.Modes.{HasMode, characters, count_width}
 use Rattle.qrcode_base.proofs.Fields.{count-fits}
 use Rattle.qrcode_base.proofs.Validity.{none_where_valid, first_invalid-is}
 use Rattle.qrcode_bits.specs.Stream.{eci_spelling, Stream, Appends}
 use Rattle.qrcode_bits.specs.Push.{IsPushRefused, Spells, piece_of}
-use Rattle.qrcode_bits.specs.Spelling.{character_count, spelling}
+use Rattle.qrcode_bits.specs.Spelling.{spelling}
 use Rattle.qrcode_bits.proofs.Choices.{capacity-most}
 use Rattle.qrcode_bits.proofs.Pairs.{bytes_valid}
 use Rattle.qrcode_bits.proofs.Reading.{length-spelling}
@@ -25,7 +25,7 @@ use Rattle.texts.specs.Smallest.{SaysUtf8, HoldsNoneBelow, IsTooLongIn, IsRefuse
 
 -- A count that does not fit its field says that the bits are too many.
 pub text_too_long : (version : Version) (level : EcLevel) (text : List ℕ) → All (λ c. c < 256) text →
-    2 ^ count_width version Byte ≤ character_count Byte text → IsTooLongIn (SaysUtf8 text) version level
+    2 ^ count_width version Byte ≤ characters Byte (length text) → IsTooLongIn (SaysUtf8 text) version level
 text_too_long version level text are wide bits limit said limit_is =
     elim (cases_lt limit (length bits)) [
       | inl more ↦ more
