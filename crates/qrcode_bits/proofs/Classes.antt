@@ -32,10 +32,10 @@ module _ (message : List ℕ) (v : Version) (small : HasSmallHeaders v) (short :
   texts-small from to [] t = omega arith
   texts-small from to (s ∷ ss) t = grind (arith, texts-reach, texts-small s.end to ss t.3)
 
-  pub plan_small : (plan : List Segment) → All (λ c. c < 256) message → IsMergePlan message plan → total_bits v plan < 2 ^ 32
+  pub plan_small : (plan : List Segment) → All (λ c. c < 256) message → IsMergePlan (parsed message) plan → total_bits v plan < 2 ^ 32
   plan_small plan are w = let few = texts-small 0 (length message) plan (texts-plan message are plan w) in omega arith
 
-pub plan_ordered : (message : List ℕ) (plan : List Segment) → All (λ c. c < 256) message → IsMergePlan message plan → All (λ s. s.begin ≤ s.end) plan
+pub plan_ordered : (message : List ℕ) (plan : List Segment) → All (λ c. c < 256) message → IsMergePlan (parsed message) plan → All (λ s. s.begin ≤ s.end) plan
 plan_ordered message plan are w = All-map (LiesIn (length message)) (λ s. s.begin ≤ s.end) (λ s h. h.0) plan (plan_lies message are plan w)
 
 -- ---- One version

@@ -119,7 +119,7 @@ module _ (whole : List ℕ) where
       (texts-pieces w.0 to ps (rest-some (s ∷ ss) ps some) w.2)
 
   -- Each part of a plan of the parsed segments is a text of its mode, and the parts together are all the bytes.
-  pub texts-plan : All (λ c. c < 256) whole → (plan : List Segment) → IsMergePlan whole plan → AreTexts whole 0 plan (length whole)
+  pub texts-plan : All (λ c. c < 256) whole → (plan : List Segment) → IsMergePlan (parsed whole) plan → AreTexts whole 0 plan (length whole)
   texts-plan are plan h = grind (arith, texts-pieces, texts-parsed)
 
   -- ---- The message
@@ -139,5 +139,5 @@ module _ (whole : List ℕ) where
   texts-lie from to (s ∷ ss) h k = grind (arith, texts-reach, texts-lie s.end to ss h.3 k)
 
   -- The parts of a plan lie in the bytes.
-  pub plan_lies : All (λ c. c < 256) whole → (plan : List Segment) → IsMergePlan whole plan → All (LiesIn (length whole)) plan
+  pub plan_lies : All (λ c. c < 256) whole → (plan : List Segment) → IsMergePlan (parsed whole) plan → All (LiesIn (length whole)) plan
   plan_lies are plan h = texts-lie 0 (length whole) plan (texts-plan are plan h) (omega arith)

@@ -153,7 +153,7 @@ one_length stream number text is said bits other =
 -- No version holds so many bytes.
 pub too_many : (text : List ℕ) (level : EcLevel) → All (λ c. c < 256) text → 7089 < length text → HoldsNoneBelow 41 (SaysElements text) level
 too_many text level are many n first below bits limit (plan, chosen, said) limit_is =
-    let planned : IsMergePlan text plan = chosen_is_plan text (normal n) plan chosen in
+    let planned : IsMergePlan (parsed text) plan = chosen_is_plan text (normal n) plan chosen in
     elim (cases_lt limit (length bits)) [
       | inl more ↦ more
       | inr less ↦
