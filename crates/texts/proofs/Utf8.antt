@@ -60,7 +60,8 @@ text_refused old level number text other is are refused = absurd refused
 pub text_pushed : (empty front stream : Stream) (text : List ℕ) → empty.bits ≡ [] → Appends empty front (eci_spelling 26) →
     Spells front stream (piece_of Byte text) → stream.bits ≡ eci_spelling 26 ++ spelling stream.version (piece_of Byte text)
 text_pushed empty front stream text none eci spelled =
-    spelled.bits_are ∙ (ap (λ (z : List Bool). z ++ spelling front.version (piece_of Byte text)) (eci.bits_are ∙ ap (λ (z : List Bool). z ++ eci_spelling 26) none)
+    spelled.bits_are ∙ (ap (λ (z : List Bool). z ++ spelling front.version (piece_of Byte text))
+    (eci.bits_are ∙ ap (λ (z : List Bool). z ++ eci_spelling 26) none)
     ∙ ap (λ (v : Version). eci_spelling 26 ++ spelling v (piece_of Byte text)) (sym spelled.version_is))
 
 -- All that says the text in this version is as long.
