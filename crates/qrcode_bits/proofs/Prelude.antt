@@ -32,7 +32,7 @@ pub use Rattle.qrcode_bits.specs.Buckets.{AreGroups, AreShortSteps, Enters, HasB
 pub use Rattle.qrcode_bits.specs.Buckets.{bits_before, bucket_first, bucket_mode, bucket_rest, bucket_start, first_mode, group_of, key_of, next_plan, no_modes}
 pub use Rattle.qrcode_bits.specs.Buckets.{part_mode, parts_before, period, period_bits, plans_below, short_at, slot, start_told, step_told, told, word_at}
 unfoldable pub use Rattle.qrcode_bits.specs.Buckets.{chosen_plan}
-pub use Rattle.qrcode_bits.specs.Frame.{HasHeader, Header, IsFrame, IsPlace, ended, half_byte, half_byte_width, header_of, header_bits, message}
+pub use Rattle.qrcode_bits.specs.Frame.{HasHeader, Header, IsFrame, IsTotal, ended, half_byte, half_byte_width, header_of, header_bits, message}
 pub use Rattle.qrcode_bits.specs.Frame.{padding, spellings, tail, terminator_width}
 unfoldable pub use Rattle.qrcode_bits.specs.Frame.{bytes_in_turn}
 pub use Rattle.qrcode_bits.specs.Parsing.{AreTexts, Class, Digit, LoneLead, Other, Pair, Run, Sign, add_unit, class_mode, class_number, class_of, class_size}

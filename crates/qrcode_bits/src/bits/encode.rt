@@ -99,7 +99,8 @@ pub fn encode_part(
         IsEncoding normal (Some (header_of position total parity)) bytes.now level
         (nat_abs max_version) bits) }
     ensures limit { OnOk result (IsNormalNumber max_version) }
-    ensures err { IfErr result (λ e. IsPartRefused position total bytes.now level max_version e) }
+    ensures err { IfErr result (λ e. IsPartRefused (header_of position total parity) bytes.now level
+        max_version e) }
 {
     if max_version < 1 || max_version > 40 {
         return Err(QrError::InvalidResourceLimits);

@@ -144,7 +144,8 @@ fn part_symbol(
     ensures best { IfOk result (λ symbol.
         IsPartSymbol (header_of position total parity) part.now level (nat_abs max_version) symbol.modules) }
     ensures reading { IfOk result TellsReading }
-    ensures refused { IfErr result (IsPartRefused position total part.now level max_version) }
+    ensures refused { IfErr result
+        (IsPartRefused (header_of position total parity) part.now level max_version) }
 {
     let bits = encode_part(alloc, part, position, total, parity, level, max_version)?;
     symbol_of(alloc, bits, level)
