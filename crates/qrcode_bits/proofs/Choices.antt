@@ -3,12 +3,12 @@
 use Rattle.qrcode_bits.proofs.Prelude.{◌≡◌, ℕ, zero, suc, ◌+◌, ◌^◌, ◌<◌, ◌≤◌, List, [], ◌∷◌, ◌++◌, Some, length, refl, sym, subst, ◌∙◌, arith, inl, inr, rules}
 use Rattle.qrcode_bits.proofs.Prelude.{All, Option, flat_map, cases_lt, cases_eq, All-head, All-tail, All-nil, All-cons, All-append, Version, EcLevel, L, M, Q}
 use Rattle.qrcode_bits.proofs.Prelude.{H, Mode, IsWithin, same, digits, bytes, HasMode, slice_get_past, capacity, Segment, parsed, merged, total_bits}
-use Rattle.qrcode_bits.proofs.Prelude.{IsChosenPlan, joined, merged_all, IsMergePlan, Fits, FitsNot, IsLeastBits, normal, micro, FitsNone, IsChoice}
+use Rattle.qrcode_bits.proofs.Prelude.{IsChosenPlan, merged_all, IsMergePlan, Fits, FitsNot, IsLeastBits, normal, micro, FitsNone, IsChoice}
 use Rattle.qrcode_bits.proofs.Prelude.{IsLeastHolding, IsClass, common_steps}
 use Rattle.qrcode_base.proofs.Joins.{join-upper, join-upper_second}
 use Rattle.qrcode_base.proofs.Fields.{SameClass, capacity-rises, capacity-held, capacity-double}
 use Rattle.qrcode_bits.proofs.Growth.{total_bits-rise, total_bits-same, total_bits-double, chosen-same}
-use Rattle.qrcode_bits.proofs.CuttingPlans.{AreNonEmpty, first-some, rest-some, chosen-cutting, chosen-least}
+use Rattle.qrcode_bits.proofs.CuttingPlans.{AreNonEmpty, joined, first-some, rest-some, chosen-planned, chosen-least}
 
 -- ---- Modes of a version
 
@@ -65,23 +65,23 @@ module _ (v : Version) where
         had-pieces ps (rest-some (s ∷ ss) ps some) (All-tail Had (merged s ss) (flat_map merged_all ps) h),
       )
 
-  -- All plans of some bytes have their modes in a version, or none has.
-  plans-had : (message : List ℕ) (plan other : List Segment) → IsMergePlan message plan → IsMergePlan message other → All Had other → All Had plan
-  plans-had message plan other p q h =
-      let theirs = had-pieces q.pieces q.cutting.nonempty (subst (λ (s : List Segment). All Had s) q.merges h) in
-      let same : joined q.pieces ≡ joined p.pieces = q.cutting.whole ∙ sym p.cutting.whole in
-      let mine = pieces-had p.pieces p.cutting.nonempty (subst (λ (s : List Segment). All Had s) same theirs) in
+  -- All plans of some segments have their modes in a version, or none has.
+  plans-had : (segments plan other : List Segment) → IsMergePlan segments plan → IsMergePlan segments other → All Had other → All Had plan
+  plans-had segments plan other p q h =
+      let theirs = had-pieces q.pieces q.nonempty (subst (λ (s : List Segment). All Had s) q.merges h) in
+      let same : joined q.pieces ≡ joined p.pieces = q.whole ∙ sym p.whole in
+      let mine = pieces-had p.pieces p.nonempty (subst (λ (s : List Segment). All Had s) same theirs) in
       subst (λ (s : List Segment). All Had s) (sym p.merges) mine
 
 -- ---- Chosen plans
 
-pub chosen_is_plan : (message : List ℕ) (v : Version) (plan : List Segment) → IsChosenPlan (parsed message) v plan → IsMergePlan message plan
-chosen_is_plan message v plan h = let w = chosen-cutting (parsed message) v plan h in record { pieces = w.0; cutting = w.1; merges = w.2 }
+pub chosen_is_plan : (message : List ℕ) (v : Version) (plan : List Segment) → IsChosenPlan (parsed message) v plan → IsMergePlan (parsed message) plan
+chosen_is_plan message v plan h = chosen-planned (parsed message) v plan h
 
 -- no plan takes fewer bits than the chosen one
-pub chosen_bits : (message : List ℕ) (v : Version) (plan other : List Segment) → IsChosenPlan (parsed message) v plan → IsMergePlan message other →
+pub chosen_bits : (message : List ℕ) (v : Version) (plan other : List Segment) → IsChosenPlan (parsed message) v plan → IsMergePlan (parsed message) other →
     total_bits v plan ≤ total_bits v other
-chosen_bits message v plan other h q = rw q.merges (chosen-least (parsed message) v plan q.pieces h q.cutting)
+chosen_bits message v plan other h q = chosen-least (parsed message) v plan other h q
 
 pub chosen_least : (front : ℕ) (message : List ℕ) (v : Version) (plan : List Segment) → IsChosenPlan (parsed message) v plan →
     IsLeastBits front message v (front + total_bits v plan)
@@ -99,7 +99,7 @@ chosen_fits front v l message plan other h fits = record {
   planned = chosen_is_plan message v plan h;
   limit = fits.limit;
   has_level = fits.has_level;
-  has_modes = plans-had v message plan other (chosen_is_plan message v plan h) fits.planned fits.has_modes;
+  has_modes = plans-had v (parsed message) plan other (chosen_is_plan message v plan h) fits.planned fits.has_modes;
   within = let fewer = chosen_bits message v plan other h fits.planned in omega (arith, fits.within);
 }
 
@@ -132,7 +132,7 @@ chosen_same segments plan n m h k class w = record {
 }
 
 -- a version that holds the bits of a plan fits it, if it is a Normal one
-pub fits_normal : (front n c : ℕ) (message : List ℕ) (l : EcLevel) (plan : List Segment) → IsMergePlan message plan → capacity (normal n) l ≡ Some c →
+pub fits_normal : (front n c : ℕ) (message : List ℕ) (l : EcLevel) (plan : List Segment) → IsMergePlan (parsed message) plan → capacity (normal n) l ≡ Some c →
     front + total_bits (normal n) plan ≤ c → Fits front message (normal n) l plan
 fits_normal front n c message l plan h known few = grind arith
 

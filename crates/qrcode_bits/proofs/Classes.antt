@@ -3,8 +3,8 @@ use Rattle.qrcode_bits.proofs.Prelude.{◌≡◌, ℕ, zero, suc, ℤ, false, po
 use Rattle.qrcode_bits.proofs.Prelude.{Result, Ok, Err, All, Option, nat_abs, MatchOption, cases_lt, Version, EcLevel, Mode, QrError, DataTooLong, OutOfMemory}
 use Rattle.qrcode_bits.proofs.Prelude.{normal_blocks, capacity, HasMode, indicator_width, count_width, slice_get-get_or, Segment, parsed}
 use Rattle.qrcode_bits.proofs.Prelude.{AreTexts, HasLinearCosts, IsChosenPlan, total_bits, IsMergePlan, Fits, FitsNot, FitsNone, normal, IsLeastHolding}
-use Rattle.qrcode_bits.proofs.Prelude.{IsMinVersion, IsClass, Header, IsPlace, header_bits, Stream, IsPlanStream, IsEncoding, IsUnencodable, IsEncodingRefused}
-use Rattle.qrcode_bits.proofs.Prelude.{IsPartRefused, IsNormalNumber, LiesIn, common_steps}
+use Rattle.qrcode_bits.proofs.Prelude.{IsMinVersion, IsClass, Header, header_bits, Stream, IsPlanStream, IsEncoding, IsUnencodable, IsEncodingRefused}
+use Rattle.qrcode_bits.proofs.Prelude.{HasHeader, IsPartRefused, IsNormalNumber, LiesIn, common_steps}
 use Rattle.std.specs.Prelude.{Some, min, ◌⊎◌, option_map}
 use Rattle.qrcode_base.specs.Symbols.{data_bytes}
 use Rattle.qrcode_base.specs.declared.symbols.BlockLayout.{BlockLayout}
@@ -33,10 +33,10 @@ module _ (message : List ℕ) (v : Version) (small : HasSmallHeaders v) (short :
   texts-small from to [] t = omega arith
   texts-small from to (s ∷ ss) t = grind (arith, texts-reach, texts-small s.end to ss t.3)
 
-  pub plan_small : (plan : List Segment) → All (λ c. c < 256) message → IsMergePlan message plan → total_bits v plan < 2 ^ 32
+  pub plan_small : (plan : List Segment) → All (λ c. c < 256) message → IsMergePlan (parsed message) plan → total_bits v plan < 2 ^ 32
   plan_small plan are w = let few = texts-small 0 (length message) plan (texts-plan message are plan w) in omega arith
 
-pub plan_ordered : (message : List ℕ) (plan : List Segment) → All (λ c. c < 256) message → IsMergePlan message plan → All (λ s. s.begin ≤ s.end) plan
+pub plan_ordered : (message : List ℕ) (plan : List Segment) → All (λ c. c < 256) message → IsMergePlan (parsed message) plan → All (λ s. s.begin ≤ s.end) plan
 plan_ordered message plan are w = All-map (LiesIn (length message)) (λ s. s.begin ≤ s.end) (λ s h. h.0) plan (plan_lies message are plan w)
 
 -- ---- One version
@@ -157,13 +157,13 @@ refused_limit message l z n DataTooLong h same r = (h, subst (λ (k : ℕ). Fits
 refused_limit message l z n OutOfMemory h same r = (h, r)
 refused_limit message l z n other h same r = absurd r
 
-pub refused_part : (place total : ℕ) (message : List ℕ) (l : EcLevel) (z : ℤ) (n front : ℕ) (e : QrError) → IsNormalNumber z →
-    IsPlace place total → n ≡ nat_abs z → front ≡ 20 →
-    IsUnencodable normal front message l n e → IsPartRefused place total message l z e
-refused_part place total message l z n front DataTooLong h p same size r =
+pub refused_part : (header : Header) (message : List ℕ) (l : EcLevel) (z : ℤ) (n front : ℕ) (e : QrError) → IsNormalNumber z →
+    HasHeader (normal (nat_abs z)) (Some header) → n ≡ nat_abs z → front ≡ 20 →
+    IsUnencodable normal front message l n e → IsPartRefused header message l z e
+refused_part header message l z n front DataTooLong h p same size r =
     (h, p, subst (λ (f : ℕ). FitsNone normal f message l (nat_abs z)) size (subst (λ (k : ℕ). FitsNone normal front message l k) same r))
-refused_part place total message l z n front OutOfMemory h p same size r = (h, p, r)
-refused_part place total message l z n front other h p same size r = absurd r
+refused_part header message l z n front OutOfMemory h p same size r = (h, p, r)
+refused_part header message l z n front other h p same size r = absurd r
 
 pub limit_of : (z y : ℤ) → y ≡ z → lt_z y (pos 1) ≡ false → lt_z (pos 40) y ≡ false → IsNormalNumber z
 limit_of z y e low high = grind arith

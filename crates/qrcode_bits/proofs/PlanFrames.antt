@@ -1,8 +1,9 @@
 -- The parts of a plan that fits, spelled one after the other, are the front of a frame of the bytes.
-use Rattle.qrcode_bits.proofs.Prelude.{◌≡◌, ◌≢◌, ℕ, ◌+◌, ◌-◌, ◌<◌, ◌≤◌, List, [], ◌∷◌, ◌++◌, length, take, drop, refl, ap, arith, length-append, All, Option}
+use Rattle.qrcode_bits.proofs.Prelude.{◌≡◌, ◌≢◌, ℕ, ◌+◌, ◌-◌, ◌^◌, ◌<◌, ◌≤◌, List, [], ◌∷◌, ◌++◌, length, take, drop, refl, ap, arith, length-append, All}
 use Rattle.qrcode_bits.proofs.Prelude.{slice_range, All-head, All-tail, Version, EcLevel, HasMode, data_bits, characters, IsValid, Segment, AreTexts}
-use Rattle.qrcode_bits.proofs.Prelude.{segment_bits, total_bits, Fits, spelling, segment_piece, segment_pieces, Header, HasHeader, header_bits, AreSpelled}
-use Rattle.qrcode_bits.proofs.Prelude.{spellings, message, ended, IsFrame, common_steps}
+use Rattle.qrcode_bits.proofs.Prelude.{segment_bits, total_bits, Fits, spelling, segment_piece, segment_pieces, Header, HasHeader, header_bits, Piece}
+use Rattle.qrcode_bits.proofs.Prelude.{spellings, message, ended, IsFrame, common_steps, IsSpellable, All-nil, All-cons, subst, sym, Option}
+use Rattle.qrcode_bits.proofs.Prelude.{count_width}
 use Rattle.std.proofs.Common.{length-drop}
 use Rattle.std.proofs.lemmas.List.{length-take-le}
 use Rattle.qrcode_bits.proofs.Growth.{CountsFit, fits-counts}
@@ -45,26 +46,35 @@ module _ (v : Version) (whole : List ℕ) where
   length-spelled from to (s ∷ ss) h k = grind (arith, own, length-append, spelled_size, length-spelled s.end to ss h.3 k)
 
   -- Each can be spelled, where the version has the modes and the counts fit.
-  pub texts-spelled : (from to : ℕ) (ss : List Segment) → AreTexts whole from ss to → to ≤ length whole → All (λ part. HasMode v part.mode) ss →
-      CountsFit v ss → AreSpelled v (segment_pieces whole ss)
-  texts-spelled from to [] h k has counted = tt
+  abbrev Has : Segment → Type 0
+  Has s = HasMode v s.mode
+
+  pub texts-spelled : (from to : ℕ) (ss : List Segment) → AreTexts whole from ss to → to ≤ length whole → All Has ss → CountsFit v ss →
+      All (IsSpellable v) (segment_pieces whole ss)
+  texts-spelled from to [] h k has counted = All-nil (IsSpellable v)
   texts-spelled from to (s ∷ ss) h k has counted =
-      grind (
-        arith,
-        common_steps,
-        own,
-        All-head,
-        non_empty,
-        All-tail,
-        texts-spelled s.end to ss h.3 k
-            (All-tail (λ part. HasMode v part.mode) s ss has) counted.1,
-      )
+      let it = own from to s ss h k in
+      let first : IsSpellable v (segment_piece whole s) = record {
+        mode = All-head Has s ss has;
+        valid = it.2;
+        counted = subst (λ (n : ℕ). characters s.mode n < 2 ^ count_width v s.mode) (sym (size s it.0 it.1)) counted.0;
+      } in
+      All-cons (IsSpellable v) (segment_piece whole s) (segment_pieces whole ss) first
+      (texts-spelled s.end to ss h.3 k (All-tail Has s ss has) counted.1)
+
+  -- None of them is empty.
+  pub texts-some : (from to : ℕ) (ss : List Segment) → AreTexts whole from ss to → to ≤ length whole → All (λ p. p.text ≢ []) (segment_pieces whole ss)
+  texts-some from to [] h k = All-nil (λ (p : Piece). p.text ≢ [])
+  texts-some from to (s ∷ ss) h k =
+      let it = own from to s ss h k in
+      All-cons (λ (p : Piece). p.text ≢ []) (segment_piece whole s) (segment_pieces whole ss) (non_empty s it.0 it.1) (texts-some s.end to ss h.3 k)
 
 -- ---- The frame of a plan
 
 -- What a plan of the parsed segments that fits promises of its spellings.
 pub record IsSpelledPlan (v : Version) (bytes : List ℕ) (plan : List Segment) : Type 0 where
-  pub spelled : AreSpelled v (segment_pieces bytes plan)
+  pub spellable : All (IsSpellable v) (segment_pieces bytes plan)
+  pub nonempty : All (λ p. p.text ≢ []) (segment_pieces bytes plan)
   pub whole : message (segment_pieces bytes plan) ≡ bytes
   pub bits : length (spellings v (segment_pieces bytes plan)) ≡ total_bits v plan
 
@@ -73,7 +83,8 @@ pub spelled_plan : (front : ℕ) (v : Version) (l : EcLevel) (bytes : List ℕ) 
 spelled_plan front v l bytes plan are fits =
     let texts = texts-plan bytes are plan fits.planned in
     record {
-      spelled = texts-spelled v bytes 0 (length bytes) plan texts (omega arith) fits.has_modes (fits-counts v l fits.limit plan fits.has_level (omega arith));
+      spellable = texts-spelled v bytes 0 (length bytes) plan texts (omega arith) fits.has_modes (fits-counts v l fits.limit plan fits.has_level (omega arith));
+      nonempty = texts-some v bytes 0 (length bytes) plan texts (omega arith);
       whole = plan_message bytes plan texts;
       bits = length-spelled v bytes 0 (length bytes) plan texts (omega arith);
     }

@@ -32,17 +32,17 @@ pub use Rattle.qrcode_bits.specs.Buckets.{AreGroups, AreShortSteps, Enters, HasB
 pub use Rattle.qrcode_bits.specs.Buckets.{bits_before, bucket_first, bucket_mode, bucket_rest, bucket_start, first_mode, group_of, key_of, next_plan, no_modes}
 pub use Rattle.qrcode_bits.specs.Buckets.{part_mode, parts_before, period, period_bits, plans_below, short_at, slot, start_told, step_told, told, word_at}
 unfoldable pub use Rattle.qrcode_bits.specs.Buckets.{chosen_plan}
-pub use Rattle.qrcode_bits.specs.Frame.{AreSpelled, HasHeader, Header, IsFrame, IsPlace, ended, half_byte, half_byte_width, header, header_bits, message}
+pub use Rattle.qrcode_bits.specs.Frame.{HasHeader, Header, IsFrame, IsTotal, ended, half_byte, half_byte_width, header_of, header_bits, message}
 pub use Rattle.qrcode_bits.specs.Frame.{padding, spellings, tail, terminator_width}
 unfoldable pub use Rattle.qrcode_bits.specs.Frame.{bytes_in_turn}
 pub use Rattle.qrcode_bits.specs.Parsing.{AreTexts, Class, Digit, LoneLead, Other, Pair, Run, Sign, add_unit, class_mode, class_number, class_of, class_size}
-pub use Rattle.qrcode_bits.specs.Parsing.{joins, parsed, parsed_from, run_segment, runs, units}
-pub use Rattle.qrcode_bits.specs.Plans.{AreSteps, Fits, FitsNone, FitsNot, HasLinearCosts, IsAsGood, IsChoice, IsChosen, IsChosenPlan, IsClass, IsCutting}
-pub use Rattle.qrcode_bits.specs.Plans.{IsLeastBits, IsLeastHolding, IsMergePlan, IsMinVersion, IsNoWorse, IsPlan, IsStep, StartsNoEarlier, joined, merge}
+pub use Rattle.qrcode_bits.specs.Parsing.{joins, parsed, run_segment, runs, units}
+pub use Rattle.qrcode_bits.specs.Plans.{AreSteps, Fits, FitsNone, FitsNot, HasLinearCosts, IsAsGood, IsChoice, IsChosen, IsChosenPlan, IsClass}
+pub use Rattle.qrcode_bits.specs.Plans.{IsLeastBits, IsLeastHolding, IsMergePlan, IsMinVersion, IsNoWorse, IsPlan, IsStep, StartsNoEarlier, merge}
 pub use Rattle.qrcode_bits.specs.Plans.{merged, merged_all, micro, normal, part, part_bits, parts, plan_bits, segment_at, segment_bits, step_at, total_bits}
 pub use Rattle.qrcode_bits.specs.Push.{Ends, EndsAtLevel, IsEncoding, IsEncodingRefused, IsEndRefused, IsHeaderRefused, IsLevelRefused, IsPartRefused}
 pub use Rattle.qrcode_bits.specs.Push.{IsPlanStream, IsPushRefused, IsUnencodable, PushesDrawn, PushesPieces, Spells, SpellsAll, StopsAt, with_modes}
-pub use Rattle.qrcode_bits.specs.Spelling.{IsSpellable, IsSpelling, LiesIn, Piece, character_bits, character_count, segment_piece, segment_pieces, spelling}
+pub use Rattle.qrcode_bits.specs.Spelling.{IsSpellable, IsSpelling, LiesIn, Piece, character_bits, segment_piece, segment_pieces, spelling}
 unfoldable pub use Rattle.qrcode_bits.specs.Spelling.{alphanumeric_bits, kanji_bits, numeric_bits}
 pub use Rattle.qrcode_bits.specs.Stream.{Appends, AreShifted, IsKept, Reserves, Stream, eci_spelling, kept_bits, room_in, shifted}
 pub use Rattle.qrcode_bits.specs.declared.optimize.Segment.{Segment}

@@ -2,11 +2,11 @@
 use Rattle.qrcode_bits.proofs.Prelude.{◌≡◌, ℕ, ◌+◌, ◌-◌, ◌<◌, ◌≤◌, Bool, true, false, List, [], ◌∷◌, ◌++◌, length, map, take, drop, refl, sym, ap, ◌∙◌, subst}
 use Rattle.qrcode_bits.proofs.Prelude.{arith, All, slice_range, flat_map, drop-drop, take-add, take-length, All-head, All-nil, All-drop, Kanji, join}
 use Rattle.qrcode_bits.proofs.Prelude.{is_kanji_pair, IsKanjiText, IsValid, Segment, Class, Pair, Run, class_of, class_mode, class_size, joins, add_unit, runs}
-use Rattle.qrcode_bits.proofs.Prelude.{units, run_segment, parsed, AreTexts, merged, joined, merged_all, IsMergePlan, segment_pieces, LiesIn, message}
+use Rattle.qrcode_bits.proofs.Prelude.{units, run_segment, parsed, AreTexts, merged, merged_all, IsMergePlan, segment_pieces, LiesIn, message}
 use Rattle.qrcode_bits.proofs.Prelude.{common_steps}
 use Rattle.qrcode_base.proofs.Joins.{join-upper, join-upper_second}
 use Rattle.qrcode_base.proofs.Alphabet.{is_alphanumeric-inside}
-use Rattle.qrcode_bits.proofs.CuttingPlans.{AreNonEmpty, first-some, rest-some}
+use Rattle.qrcode_bits.proofs.CuttingPlans.{AreNonEmpty, joined, first-some, rest-some}
 use Rattle.qrcode_bits.proofs.Runs.{class_size-some, joins-same}
 use Rattle.qrcode_bits.proofs.Adjoining.{class_of-one}
 use Rattle.qrcode_bits.proofs.Upward.{valid-append, valid-upward}
@@ -119,7 +119,7 @@ module _ (whole : List ℕ) where
       (texts-pieces w.0 to ps (rest-some (s ∷ ss) ps some) w.2)
 
   -- Each part of a plan of the parsed segments is a text of its mode, and the parts together are all the bytes.
-  pub texts-plan : All (λ c. c < 256) whole → (plan : List Segment) → IsMergePlan whole plan → AreTexts whole 0 plan (length whole)
+  pub texts-plan : All (λ c. c < 256) whole → (plan : List Segment) → IsMergePlan (parsed whole) plan → AreTexts whole 0 plan (length whole)
   texts-plan are plan h = grind (arith, texts-pieces, texts-parsed)
 
   -- ---- The message
@@ -139,5 +139,5 @@ module _ (whole : List ℕ) where
   texts-lie from to (s ∷ ss) h k = grind (arith, texts-reach, texts-lie s.end to ss h.3 k)
 
   -- The parts of a plan lie in the bytes.
-  pub plan_lies : All (λ c. c < 256) whole → (plan : List Segment) → IsMergePlan whole plan → All (LiesIn (length whole)) plan
+  pub plan_lies : All (λ c. c < 256) whole → (plan : List Segment) → IsMergePlan (parsed whole) plan → All (LiesIn (length whole)) plan
   plan_lies are plan h = texts-lie 0 (length whole) plan (texts-plan are plan h) (omega arith)

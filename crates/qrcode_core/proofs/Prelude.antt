@@ -22,7 +22,7 @@ pub use Rattle.qrcode_base.specs.declared.types.Version.{Version}
 pub use Rattle.qrcode_base.specs.declared.types.Version.TheVariants.{Micro, Normal}
 pub use Rattle.qrcode_base.specs.declared.types.errors.QrError.{QrError}
 pub use Rattle.qrcode_base.specs.declared.types.errors.QrError.TheVariants.{DataTooLong, InvalidResourceLimits, OutOfMemory}
-pub use Rattle.qrcode_bits.specs.Frame.{Header, IsPlace, IsTotal, ended, half_byte, header_bits, spellings, tail}
+pub use Rattle.qrcode_bits.specs.Frame.{Header, IsTotal, ended, half_byte, header_bits, spellings, tail}
 pub use Rattle.qrcode_bits.specs.Plans.{IsChoice, micro, normal, total_bits}
 pub use Rattle.qrcode_bits.specs.Stream.{Stream}
 pub use Rattle.qrcode_core.specs.Drawn.{DrawnSymbol, HoldsStream, TellsReading, modules_of}

@@ -2,11 +2,13 @@
 use Rattle.qrcode_core.proofs.Prelude.{◌≡◌, ℕ, zero, suc, pos, ◌+◌, ◌*◌, ◌<◌, refl, arith, List, [], ◌∷◌, Bool, true, false, take, rules, Option, Some, None}
 use Rattle.qrcode_core.proofs.Prelude.{slice_get, codes, Color, Light, Dark, Version, Micro, byte_bits, blocks, place_in_stream, block_in, blocks_in}
 use Rattle.qrcode_core.proofs.Prelude.{codeword_block, AreCodewords, format_word, HasFunctionalColors, functional_color, Reads}
+use Rattle.std.specs.Prelude.{◌≢◌}
+use Rattle.std.proofs.lemmas.List.Elements.{All-cons, All-nil}
 use Rattle.qrcode_base.specs.declared.types.EcLevel.TheVariants.{L}
 use Rattle.qrcode_base.specs.declared.types.Mode.TheVariants.{Numeric}
 use Rattle.qrcode_base.specs.Numbers.{number_bits}
 use Rattle.qrcode_bits.specs.Frame.{IsFrame, bytes_in_turn}
-use Rattle.qrcode_bits.specs.Spelling.{Piece, numeric_bits}
+use Rattle.qrcode_bits.specs.Spelling.{Piece, IsSpellable, numeric_bits}
 use Rattle.qrcode_grid.specs.declared.canvas.MaskPattern.TheVariants.{Diamonds}
 use Rattle.qrcode_grid.specs.Codes.{value_at, IsSound, double, shift_and_add, product, power}
 use Rattle.qrcode_grid.proofs.Tests.{all_pass, passes}
@@ -63,7 +65,9 @@ printed_frame = record {
   pieces = digits ∷ [];
   limit_is = refl;
   header_fits = tt;
-  spelled = ((record { mode = omega arith; valid = search rules; counted = omega arith }, λ e. cc), tt);
+  spellable = All-cons (IsSpellable (Micro (pos 1))) digits [] (record { mode = omega arith; valid = search rules; counted = omega arith })
+      (All-nil (IsSpellable (Micro (pos 1))));
+  nonempty = All-cons (λ (piece : Piece). piece.text ≢ []) digits [] (λ e. cc) (All-nil (λ (piece : Piece). piece.text ≢ []));
   bytes_are = refl;
   payload_is = refl;
   fits = omega arith;

@@ -1,7 +1,7 @@
 -- The symbols of a sequence, as they are made one after the other.
 use Rattle.qrcode_core.proofs.Prelude.{common_steps, ◌≡◌, ap, ℕ, ◌+◌, ◌<◌, sym, ◌∙◌, subst, arith, inl, inr, List, [], ◌∷◌, ◌++◌, length, length-append, get_or}
 use Rattle.qrcode_core.proofs.Prelude.{IsNonDecreasing, cases_eq, get_or_append_left, get_or_push, IsPermutation-refl, Color, EcLevel, QrError, DataTooLong}
-use Rattle.qrcode_core.proofs.Prelude.{InvalidResourceLimits, IsTotal, IsNormalNumber, ReadsMessage, parts_at}
+use Rattle.qrcode_core.proofs.Prelude.{Header, InvalidResourceLimits, IsTotal, IsNormalNumber, ReadsMessage, parts_at}
 use Rattle.std.specs.Prelude.{ℤ}
 use Rattle.qrcode_bits.specs.Push.{IsPartRefused}
 use Rattle.qrcode_bits.proofs.Reading.{length-header}
@@ -56,12 +56,13 @@ best_symbols message cuts level limit total done grids rise few count all first 
     }
 
 -- A part that is refused for its length or for memory refuses the sequence so; the limit and the header are no reason.
-pub refused_part : (message cuts : List ℕ) (level : EcLevel) (limit : ℤ) (total i : ℕ) (e : QrError) → IsNormalNumber limit → IsTotal total →
-    total ≡ length cuts + 1 → i < total →
-    IsPartRefused (i + 1) total (get_or (parts_at cuts message) i []) level limit e → IsSequenceRefusal message cuts level limit e
-refused_part message cuts level limit total i InvalidResourceLimits in_range few count inside why = absurd (why in_range)
-refused_part message cuts level limit total i DataTooLong in_range few count inside why = (in_range, subst IsTotal count few, (i, omega arith, why.2))
-refused_part message cuts level limit total i e in_range few count inside why = grind (arith, common_steps)
+pub refused_part : (message cuts : List ℕ) (level : EcLevel) (limit : ℤ) (total i : ℕ) (header : Header) (e : QrError) → IsNormalNumber limit →
+    IsTotal total → total ≡ length cuts + 1 → i < total → header.place ≡ i + 1 → header.total ≡ total →
+    IsPartRefused header (get_or (parts_at cuts message) i []) level limit e → IsSequenceRefusal message cuts level limit e
+refused_part message cuts level limit total i header InvalidResourceLimits in_range few count inside at of why = absurd (why in_range)
+refused_part message cuts level limit total i header DataTooLong in_range few count inside at of why =
+    (in_range, subst IsTotal count few, (i, omega arith, why.2))
+refused_part message cuts level limit total i header e in_range few count inside at of why = grind (arith, common_steps)
 
 -- Where each part has its symbol, none is too long.
 pub none_too_long : (message cuts : List ℕ) (level : EcLevel) (limit : ℕ) (grids : List (List Color)) →

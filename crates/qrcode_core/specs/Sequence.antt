@@ -9,7 +9,7 @@ use Rattle.qrcode_base.specs.declared.types.errors.QrError.TheVariants.{DataTooL
 use Rattle.qrcode_base.specs.declared.types.errors.QrError.TheVariants.{InvalidStructuredAppend, OutOfMemory}
 use Rattle.qrcode_bits.specs.Plans.{normal, FitsNone}
 use Rattle.qrcode_base.specs.Symbols.{IsNormalNumber}
-use Rattle.qrcode_bits.specs.Frame.{Header, header, IsTotal}
+use Rattle.qrcode_bits.specs.Frame.{Header, header_of, IsTotal}
 use Rattle.qrcode_core.specs.Headline.{IsBest, Reading, Reads}
 
 -- ---- What is read
@@ -20,7 +20,7 @@ parity_of message = fold bit_xor 0 message
 
 -- The header of the symbol at a place, counted from 1, of so many that carry a message together.
 abbrev pub header_at : ℕ → ℕ → List ℕ → Header
-header_at place total message = header place total (parity_of message)
+header_at place total message = header_of place total (parity_of message)
 
 -- A grid is read as a piece of a message, with a header.
 pub record ReadsPiece (grid : List Color) (header : Header) (piece : List ℕ) : Type 0 where

@@ -11,7 +11,7 @@ use Rattle.qrcode_base.specs.declared.types.Version.{Version}
 use Rattle.qrcode_base.specs.declared.types.errors.QrError.{QrError}
 use Rattle.qrcode_base.specs.declared.types.errors.QrError.TheVariants.{DataTooLong, OutOfMemory, InvalidCharacter, UnsupportedCharacterSet}
 use Rattle.qrcode_base.specs.Characters.{IsValid}
-use Rattle.qrcode_base.specs.Modes.{HasMode, count_width, indicator_width}
+use Rattle.qrcode_base.specs.Modes.{HasMode, characters, count_width, indicator_width}
 use Rattle.qrcode_base.specs.Numbers.{number_bits}
 use Rattle.qrcode_base.specs.Symbols.{capacity}
 use Rattle.qrcode_base.proofs.Fields.{count-fits}
@@ -21,7 +21,7 @@ use Rattle.qrcode_bits.specs.Plans.{IsMergePlan, normal, IsChosenPlan}
 use Rattle.qrcode_bits.specs.Frame.{spellings}
 use Rattle.qrcode_bits.specs.Push.{PushesOptimally, IsPushRefused}
 use Rattle.qrcode_bits.specs.Parsing.{AreTexts, parsed}
-use Rattle.qrcode_bits.specs.Spelling.{segment_piece, segment_pieces, Piece, character_count, spelling}
+use Rattle.qrcode_bits.specs.Spelling.{segment_piece, segment_pieces, Piece, spelling}
 use Rattle.qrcode_bits.specs.Stream.{Stream, Appends}
 use Rattle.qrcode_bits.proofs.Choices.{chosen_is_plan, fits_normal}
 use Rattle.qrcode_bits.proofs.Lengths.{long_message}
@@ -66,7 +66,7 @@ normal_modes number mode = grind arith
 
 -- A count that does not fit its field says that the bits are too many.
 piece_too_long : (number : ℕ) (level : EcLevel) (next : Piece) (limit : ℕ) → IsText next → capacity (normal number) level ≡ Some limit →
-    2 ^ count_width (normal number) next.mode ≤ character_count next.mode next.text → limit < length (spelling (normal number) next)
+    2 ^ count_width (normal number) next.mode ≤ characters next.mode (length next.text) → limit < length (spelling (normal number) next)
 piece_too_long number level next limit valid limit_is wide =
     elim (cases_lt limit (length (spelling (normal number) next))) [
       | inl more ↦ more
@@ -86,7 +86,7 @@ module _ (old : Stream) (level : EcLevel) (number : ℕ) (text : List ℕ) (is :
   valid : IsText next
   valid = middle IsText done rest next (subst (All IsText) pieces_are (pieces_valid text old.version plan are chosen))
 
-  too_long : 2 ^ count_width (normal number) next.mode ≤ character_count next.mode next.text → IsTooLongIn (SaysElements text) (normal number) level
+  too_long : 2 ^ count_width (normal number) next.mode ≤ characters next.mode (length next.text) → IsTooLongIn (SaysElements text) (normal number) level
   too_long wide bits limit said limit_is =
       let same : plan ≡ said.0 = one_chosen (parsed text) (normal number) plan said.0
       (subst (λ (v : Version). IsChosenPlan (parsed text) v plan) is chosen) said.1 in
@@ -103,7 +103,7 @@ module _ (old : Stream) (level : EcLevel) (number : ℕ) (text : List ℕ) (is :
       absurd (none-some (position, byte) (sym ((none_where_valid next.mode next.text).0 valid)
       ∙ sym (first_invalid-is next.mode next.text (Some (position, byte)) refused.1)))
   stopped new DataTooLong now refused =
-      too_long (subst (λ (v : Version). 2 ^ count_width v next.mode ≤ character_count next.mode next.text) now refused.1.1)
+      too_long (subst (λ (v : Version). 2 ^ count_width v next.mode ≤ characters next.mode (length next.text)) now refused.1.1)
   stopped new OutOfMemory now refused = tt
   stopped new other now refused = absurd refused
 
@@ -153,7 +153,7 @@ one_length stream number text is said bits other =
 -- No version holds so many bytes.
 pub too_many : (text : List ℕ) (level : EcLevel) → All (λ c. c < 256) text → 7089 < length text → HoldsNoneBelow 41 (SaysElements text) level
 too_many text level are many n first below bits limit (plan, chosen, said) limit_is =
-    let planned : IsMergePlan text plan = chosen_is_plan text (normal n) plan chosen in
+    let planned : IsMergePlan (parsed text) plan = chosen_is_plan text (normal n) plan chosen in
     elim (cases_lt limit (length bits)) [
       | inl more ↦ more
       | inr less ↦

@@ -13,12 +13,12 @@ use Rattle.qrcode_bits.specs.Frame.{spellings, tail}
 use Rattle.qrcode_bits.specs.Stream.{eci_spelling}
 use Rattle.qrcode_bits.specs.Parsing.{parsed}
 use Rattle.qrcode_bits.specs.Spelling.{segment_pieces, spelling}
-use Rattle.qrcode_bits.specs.Push.{piece}
+use Rattle.qrcode_bits.specs.Push.{piece_of}
 use Rattle.qrcode_core.specs.Drawn.{DrawnSymbol, IsSymbolOfBits}
 
 -- a text in UTF-8: the ECI designator 26, and one Byte segment (ISO/IEC 18004, "ECI mode")
 abbrev pub SaysUtf8 : List ℕ → Version → List Bool → Type 0
-SaysUtf8 text version bits = bits ≡ eci_spelling 26 ++ spelling version (piece Byte text)
+SaysUtf8 text version bits = bits ≡ eci_spelling 26 ++ spelling version (piece_of Byte text)
 
 -- a GS1 element string: FNC1 in the first position, and the chosen plan of its segments (ISO/IEC 18004, "FNC1 mode")
 abbrev pub SaysElements : List ℕ → Version → List Bool → Type 0

@@ -3,7 +3,8 @@
 //! `push_text` calls `push_digits`, `push_letters`, `push_bytes` or `push_kanji` behind the header of a segment, once
 //! there is room for all of its characters.
 
-ghost use Rattle.std.specs.Prelude.{◌≡◌, ◌+◌, ◌*◌, ◌%◌, ◌^◌, ◌<◌, ◌≤◌, ◌∷◌, slice_index_or, length, All, Contains, true};
+ghost use Rattle.std.specs.Prelude.{◌≡◌, ◌+◌, ◌*◌, ◌%◌, ◌^◌, ◌<◌, ◌≤◌, ◌∷◌, slice_index_or, length, All, Contains};
+ghost use Rattle.std.specs.Prelude.{true};
 ghost use Rattle.qrcode_base.specs.Characters.{IsDigit, digit as digit_of, alphabet};
 ghost use Rattle.qrcode_base.specs.Characters.{alphanumeric_value as alphanumeric_value_of, is_kanji_pair};
 ghost use Rattle.qrcode_base.specs.Characters.{IsKanjiText, kanji_number as kanji_number_of};

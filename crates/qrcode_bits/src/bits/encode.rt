@@ -17,7 +17,7 @@ ghost use Rattle.qrcode_bits.specs.Buckets.{no_modes};
 ghost use Rattle.qrcode_bits.specs.Push.{IsPlanStream, IsEncoding, IsUnencodable, IsEncodingRefused};
 ghost use Rattle.qrcode_base.specs.Symbols.{IsNormalNumber};
 ghost use Rattle.qrcode_bits.specs.Push.{IsMicroRefused, IsPartRefused};
-ghost use Rattle.qrcode_bits.specs.Frame.{HasHeader, header_bits, header};
+ghost use Rattle.qrcode_bits.specs.Frame.{HasHeader, header_bits, header_of};
 
 use super::headers::{check_place, has_mode};
 use super::{Bits, data_capacity_bits};
@@ -96,10 +96,11 @@ pub fn encode_part(
     max_version: i16,
 ) -> QrResult<Bits>
     ensures ok { IfOk result (λ bits.
-        IsEncoding normal (Some (header position total parity)) bytes.now level
+        IsEncoding normal (Some (header_of position total parity)) bytes.now level
         (nat_abs max_version) bits) }
     ensures limit { OnOk result (IsNormalNumber max_version) }
-    ensures err { IfErr result (λ e. IsPartRefused position total bytes.now level max_version e) }
+    ensures err { IfErr result (λ e. IsPartRefused (header_of position total parity) bytes.now level
+        max_version e) }
 {
     if max_version < 1 || max_version > 40 {
         return Err(QrError::InvalidResourceLimits);

@@ -4,7 +4,7 @@ ghost use Rattle.std.specs.Prelude.{IsTrue, vec_items};
 ghost use Rattle.std.specs.List.Sorted.{IsNonDecreasing};
 ghost use Rattle.qrcode_bits.specs.Push.{IsPartRefused};
 ghost use Rattle.qrcode_base.specs.Symbols.{IsNormalNumber};
-ghost use Rattle.qrcode_bits.specs.Frame.{header};
+ghost use Rattle.qrcode_bits.specs.Frame.{header_of};
 ghost use Rattle.qrcode_core.specs.Drawn.{TellsReading, modules_of};
 ghost use Rattle.qrcode_core.specs.Sequence.{parity_of, parts_at, IsPartSymbol, AreBestSymbols, IsSomePartTooLong};
 ghost use Rattle.qrcode_core.specs.Sequence.{IsSequenceRefusal};
@@ -142,9 +142,10 @@ fn part_symbol(
     max_version: i16,
 ) -> QrResult<Symbol>
     ensures best { IfOk result (λ symbol.
-        IsPartSymbol (header position total parity) part.now level (nat_abs max_version) symbol.modules) }
+        IsPartSymbol (header_of position total parity) part.now level (nat_abs max_version) symbol.modules) }
     ensures reading { IfOk result TellsReading }
-    ensures refused { IfErr result (IsPartRefused position total part.now level max_version) }
+    ensures refused { IfErr result
+        (IsPartRefused (header_of position total parity) part.now level max_version) }
 {
     let bits = encode_part(alloc, part, position, total, parity, level, max_version)?;
     symbol_of(alloc, bits, level)

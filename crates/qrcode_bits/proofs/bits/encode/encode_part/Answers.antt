@@ -1,5 +1,5 @@
 -- The limit is one of 1 to 40, and the place one of the sequence.
-use Rattle.qrcode_bits.proofs.Prelude.{◌≡◌, ℤ, ap, arith, nat_abs, ints, to_z-of_z, IfErr-weaker, header_bits, header, normal, IsUnencodable, IsPartRefused}
+use Rattle.qrcode_bits.proofs.Prelude.{◌≡◌, ℤ, ap, arith, nat_abs, ints, to_z-of_z, IfErr-weaker, header_bits, header_of, normal, IsUnencodable, IsPartRefused}
 use Rattle.std.specs.Prelude.{length, Some}
 use mir.Val.{to_z, of_z}
 use mir.Syntax.{w16}
@@ -12,9 +12,10 @@ returns-clause-err c =
     let same : to_z w16 (of_z w16 c.args.max_version) ≡ c.args.max_version = search (arith, ints, to_z-of_z) in
     let number = nat_abs (to_z w16 (of_z w16 c.args.max_version)) in
     let limit = limit_of c.args.max_version (to_z w16 (of_z w16 c.args.max_version)) same c.if-max_version-lt1.false c.if-max_version-gt40.false in
-    let numbers = header c.args.position c.args.total c.args.parity in
+    let numbers = header_of c.args.position c.args.total c.args.parity in
     let size = length (header_bits (Some numbers)) in
+    let place = c.in_ok-check_place.ensures.ok in
     IfErr-weaker c.encode_up_to.result (IsUnencodable normal size c.args.bytes.now c.args.level number)
-    (IsPartRefused c.args.position c.args.total c.args.bytes.now c.args.level c.args.max_version)
-    (λ e. refused_part c.args.position c.args.total c.args.bytes.now c.args.level c.args.max_version number size e limit
-    c.in_ok-check_place.ensures.ok (ap (λ (z : ℤ). nat_abs z) same) (length-header numbers)) c.encode_up_to.ensures.err
+    (IsPartRefused numbers c.args.bytes.now c.args.level c.args.max_version)
+    (λ e. refused_part numbers c.args.bytes.now c.args.level c.args.max_version number size e limit
+    (place.0, place.1, place.2, omega arith) (ap (λ (z : ℤ). nat_abs z) same) (length-header numbers)) c.encode_up_to.ensures.err

@@ -1,6 +1,6 @@
 -- The parts of a plan that fits are spelled and ended; only memory can be wanting.
-use Rattle.qrcode_bits.proofs.Prelude.{◌≡◌, length, arith, subst, sym, err_from_is_err_and, Version, Option, common_steps, Stream, no_modes, AreSpelled, Header}
-use Rattle.qrcode_bits.proofs.Prelude.{header_bits, segment_pieces}
+use Rattle.qrcode_bits.proofs.Prelude.{◌≡◌, length, arith, subst, sym, err_from_is_err_and, Version, Option, common_steps, Stream, no_modes, Header}
+use Rattle.qrcode_bits.proofs.Prelude.{header_bits, segment_pieces, All, IsSpellable}
 use Rattle.qrcode_bits.proofs.Pairs.{bytes_valid}
 use Rattle.qrcode_bits.proofs.Texts.{plan_lies}
 use Rattle.qrcode_bits.proofs.PlanFrames.{spelled_plan}
@@ -16,17 +16,17 @@ pub push_plan-requires-clause-within : goal.push_plan-requires-clause-within
 push_plan-requires-clause-within c = plan_lies c.args.bytes.now (bytes_valid c.args.bytes.now (λ i. omega (arith, c.type_inv.bytes i)))
     c.args.plan.now c.requires.fits.planned
 
-pub push_plan-requires-clause-spelled : goal.push_plan-requires-clause-spelled
-push_plan-requires-clause-spelled c =
+pub push_plan-requires-clause-spellable : goal.push_plan-requires-clause-spellable
+push_plan-requires-clause-spellable c =
     let begun : Begun c.args.header.now c.args.version c.match-header.bits = elim c.match-header.branch [
       | in-Some+in_ok-push_structured_append_header w ↦ rw w.bits-is (grind (arith, common_steps))
       | in_default w ↦ rw w.bits-is (grind (arith, common_steps))
     ] in
     let bytes = c.args.bytes.now in
     let plan = c.args.plan.now in
-    subst (λ (v : Version). AreSpelled v (segment_pieces bytes plan)) (sym begun.1)
+    subst (λ (v : Version). All (IsSpellable v) (segment_pieces bytes plan)) (sym begun.1)
     (spelled_plan (length (header_bits c.args.header.now)) c.args.version c.args.level bytes plan
-    (bytes_valid bytes (λ i. omega (arith, c.type_inv.bytes i))) c.requires.fits).spelled
+    (bytes_valid bytes (λ i. omega (arith, c.type_inv.bytes i))) c.requires.fits).spellable
 
 pub returns-in_err-push_terminator-clause-memory : goal.returns-in_err-push_terminator-clause-memory
 returns-in_err-push_terminator-clause-memory c =

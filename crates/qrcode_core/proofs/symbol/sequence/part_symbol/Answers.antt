@@ -1,5 +1,5 @@
 -- The best encoding of a part behind its header, drawn, is the best symbol of the part.
-use Rattle.qrcode_core.proofs.Prelude.{ap, rules, arith, nat_abs, IfOk-weaker, to_z-of_z, IsPlace}
+use Rattle.qrcode_core.proofs.Prelude.{ap, arith, nat_abs, IfOk-weaker, to_z-of_z}
 use mir.Syntax.{w16}
 use Rattle.qrcode_bits.proofs.Pairs.{bytes_valid}
 use Rattle.qrcode_core.proofs.Limited.{few_versions}
@@ -15,7 +15,6 @@ returns c =
     let code = c.in_ok-bits.ensures.ok in
     let same = to_z-of_z w16 c.args.max_version c.ranges.max_version in
     let short = encoded_short _ (few_versions _ c.in_ok-bits.ensures.limit) are code in
-    let place : IsPlace c.args.position c.args.total = search rules in
     let result = c.symbol_of.result in
     let drawn = c.symbol_of.ensures.drawn in
     record {
@@ -23,5 +22,5 @@ returns c =
           let found = best_of_stream are code made in
           record { best = found.0; up_to = omega (arith, found.1, ap nat_abs same) }) drawn;
       reading = IfOk-weaker result _ _ (λ _ made. (best_of_stream are code made).2) drawn;
-      refused = only_memory result _ (rw same at c.in_ok-bits.ensures.limit, place, short) c.symbol_of.ensures.memory;
+      refused = only_memory result _ (rw same at c.in_ok-bits.ensures.limit, code.stream_is.frame.header_fits, short) c.symbol_of.ensures.memory;
     }

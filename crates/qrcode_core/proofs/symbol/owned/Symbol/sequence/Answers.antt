@@ -1,5 +1,5 @@
 -- Each part's symbol is one more of the answer; a refused part refuses the whole.
-use Rattle.qrcode_core.proofs.Prelude.{common_steps, ◌+◌, arith, length, [], ◌∷◌, map, nat_abs, to_z-of_z, map-append, TellsReading, modules_of, IsTotal}
+use Rattle.qrcode_core.proofs.Prelude.{common_steps, refl, ◌+◌, arith, length, [], ◌∷◌, map, nat_abs, to_z-of_z, map-append, TellsReading, modules_of, IsTotal}
 use Rattle.std.proofs.lemmas.List.Elements.{All-push}
 use mir.Syntax.{w16}
 use Rattle.qrcode_bits.proofs.Classes.{limit_of}
@@ -12,8 +12,8 @@ returns-in_err-symbol-clause-refused c =
     let limit = limit_of c.args.max_version _ same c.if-max_version-lt1.false c.if-max_version-gt40.false in
     let part = rw c.from.ensures at c.part_at-part.ensures in
     let refused = refused_part c.args.bytes.now c.args.cuts.now c.args.level c.args.max_version (c.min.result + 1) c.loop-index.index
-    c.in_err-symbol.field-0.0 limit
-    (omega arith, omega arith) (omega (arith, c.min.ensures)) (omega arith) (rw (part, same) at c.in_err-symbol.ensures.refused) in
+    _ c.in_err-symbol.field-0.0 limit
+    (omega arith, omega arith) (omega (arith, c.min.ensures)) (omega arith) refl refl (rw (part, same) at c.in_err-symbol.ensures.refused) in
     grind (arith, common_steps, refused)
 
 pub returns-in_err-push-clause-refused : goal.returns-in_err-push-clause-refused
