@@ -43,7 +43,6 @@ pub use Rattle.qrcode_bits.specs.Plans.{merged, merged_all, micro, normal, part,
 pub use Rattle.qrcode_bits.specs.Push.{Ends, EndsAtLevel, IsEncoding, IsEncodingRefused, IsEndRefused, IsHeaderRefused, IsLevelRefused, IsPartRefused}
 pub use Rattle.qrcode_bits.specs.Push.{IsPlanStream, IsPushRefused, IsUnencodable, PushesDrawn, PushesPieces, Spells, SpellsAll, StopsAt, with_modes}
 pub use Rattle.qrcode_bits.specs.Spelling.{IsSpellable, IsSpelling, LiesIn, Piece, character_bits, segment_piece, segment_pieces, spelling}
-unfoldable pub use Rattle.qrcode_bits.specs.Spelling.{alphanumeric_bits, kanji_bits, numeric_bits}
 pub use Rattle.qrcode_bits.specs.Stream.{Appends, AreShifted, IsKept, Reserves, Stream, eci_spelling, kept_bits, room_in, shifted}
 pub use Rattle.qrcode_bits.specs.declared.optimize.Segment.{Segment}
 pub use Rattle.qrcode_bits.specs.declared.optimize.groups.Groups.{Groups}
