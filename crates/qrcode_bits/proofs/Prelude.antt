@@ -38,12 +38,11 @@ unfoldable pub use Rattle.qrcode_bits.specs.Frame.{bytes_in_turn}
 pub use Rattle.qrcode_bits.specs.Parsing.{AreTexts, Class, Digit, LoneLead, Other, Pair, Run, Sign, add_unit, class_mode, class_number, class_of, class_size}
 pub use Rattle.qrcode_bits.specs.Parsing.{joins, parsed, run_segment, runs, units}
 pub use Rattle.qrcode_bits.specs.Plans.{AreSteps, Fits, FitsNone, FitsNot, HasLinearCosts, IsAsGood, IsChoice, IsChosen, IsChosenPlan, IsClass}
-pub use Rattle.qrcode_bits.specs.Plans.{IsLeastBits, IsLeastHolding, IsMergePlan, IsMinVersion, IsNoWorse, IsPlan, IsStep, StartsNoEarlier, merge}
+pub use Rattle.qrcode_bits.specs.Plans.{IsLeastBits, IsLeastHolding, IsMergePlan, IsMinVersion, IsNoWorse, IsPlan, IsStep, StartsNoEarlier}
 pub use Rattle.qrcode_bits.specs.Plans.{merged, merged_all, micro, normal, part, part_bits, parts, plan_bits, segment_at, segment_bits, step_at, total_bits}
 pub use Rattle.qrcode_bits.specs.Push.{Ends, EndsAtLevel, IsEncoding, IsEncodingRefused, IsEndRefused, IsHeaderRefused, IsLevelRefused, IsPartRefused}
 pub use Rattle.qrcode_bits.specs.Push.{IsPlanStream, IsPushRefused, IsUnencodable, PushesDrawn, PushesPieces, Spells, SpellsAll, StopsAt, with_modes}
 pub use Rattle.qrcode_bits.specs.Spelling.{IsSpellable, IsSpelling, LiesIn, Piece, character_bits, segment_piece, segment_pieces, spelling}
-unfoldable pub use Rattle.qrcode_bits.specs.Spelling.{alphanumeric_bits, kanji_bits, numeric_bits}
 pub use Rattle.qrcode_bits.specs.Stream.{Appends, AreShifted, IsKept, Reserves, Stream, eci_spelling, kept_bits, room_in, shifted}
 pub use Rattle.qrcode_bits.specs.declared.optimize.Segment.{Segment}
 pub use Rattle.qrcode_bits.specs.declared.optimize.groups.Groups.{Groups}

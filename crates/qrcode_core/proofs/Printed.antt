@@ -8,7 +8,7 @@ use Rattle.qrcode_base.specs.declared.types.EcLevel.TheVariants.{L}
 use Rattle.qrcode_base.specs.declared.types.Mode.TheVariants.{Numeric}
 use Rattle.qrcode_base.specs.Numbers.{number_bits}
 use Rattle.qrcode_bits.specs.Frame.{IsFrame, bytes_in_turn}
-use Rattle.qrcode_bits.specs.Spelling.{Piece, IsSpellable, numeric_bits}
+use Rattle.qrcode_bits.specs.Spelling.{Piece, IsSpellable}
 use Rattle.qrcode_grid.specs.declared.canvas.MaskPattern.TheVariants.{Diamonds}
 use Rattle.qrcode_grid.specs.Codes.{value_at, IsSound, double, shift_and_add, product, power}
 use Rattle.qrcode_grid.proofs.Tests.{all_pass, passes}
@@ -59,7 +59,7 @@ abbrev digits : Piece
 digits = record { mode = Numeric; text = codes "12345" }
 
 printed_frame : IsFrame (Micro (pos 1)) L None (codes "12345") 20 (take 20 (byte_bits words))
-unfolding number_bits numeric_bits bytes_in_turn
+unfolding number_bits bytes_in_turn
 printed_frame = record {
   limit = 20;
   pieces = digits ∷ [];

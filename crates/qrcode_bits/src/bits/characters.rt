@@ -9,7 +9,8 @@ ghost use Rattle.qrcode_base.specs.Characters.{IsDigit, digit as digit_of, alpha
 ghost use Rattle.qrcode_base.specs.Characters.{alphanumeric_value as alphanumeric_value_of, is_kanji_pair};
 ghost use Rattle.qrcode_base.specs.Characters.{IsKanjiText, kanji_number as kanji_number_of};
 ghost use Rattle.qrcode_base.specs.Numbers.{number_bits, byte_bits};
-ghost use Rattle.qrcode_bits.specs.Spelling.{numeric_bits, alphanumeric_bits, kanji_bits};
+ghost use Rattle.qrcode_base.specs.declared.types.Mode.TheVariants.{Numeric, Alphanumeric, Kanji};
+ghost use Rattle.qrcode_bits.specs.Spelling.{character_bits};
 ghost use Rattle.qrcode_bits.specs.Stream.{AreShifted, shifted, Appends};
 
 use super::{Bits, joined, low_bits};
@@ -20,8 +21,8 @@ impl Bits {
     #[tactic(auto, using(crate::proofs::Segments::bit_lengths))]
     pub(super) fn push_digits(&mut self, digits: &[u8])
         requires digits { All IsDigit digits.now }
-        requires room { length (numeric_bits digits.now) ≤ self.old.room }
-        ensures { Appends self.old self.new (numeric_bits digits.now) }
+        requires room { length (character_bits Numeric digits.now) ≤ self.old.room }
+        ensures { Appends self.old self.new (character_bits Numeric digits.now) }
     {
         let mut rest = digits;
         while rest.len() >= 12 {
@@ -36,8 +37,8 @@ impl Bits {
     #[tactic(auto, using(crate::proofs::Segments::bit_lengths, crate::proofs::Digits::last_digits))]
     fn push_last_digits(&mut self, digits: &[u8])
         requires digits { All IsDigit digits.now }
-        requires room { length (numeric_bits digits.now) ≤ self.old.room }
-        ensures { Appends self.old self.new (numeric_bits digits.now) }
+        requires room { length (character_bits Numeric digits.now) ≤ self.old.room }
+        ensures { Appends self.old self.new (character_bits Numeric digits.now) }
     {
         let mut rest = digits;
         while rest.len() >= 3 {
@@ -56,8 +57,8 @@ impl Bits {
     #[tactic(auto, using(crate::proofs::Segments::bit_lengths))]
     pub(super) fn push_letters(&mut self, text: &[u8])
         requires characters { All (λ c. Contains alphabet c) text.now }
-        requires room { length (alphanumeric_bits text.now) ≤ self.old.room }
-        ensures { Appends self.old self.new (alphanumeric_bits text.now) }
+        requires room { length (character_bits Alphanumeric text.now) ≤ self.old.room }
+        ensures { Appends self.old self.new (character_bits Alphanumeric text.now) }
     {
         let mut rest = text;
         while rest.len() >= 8 {
@@ -74,8 +75,8 @@ impl Bits {
     #[tactic(auto, using(crate::proofs::Segments::bit_lengths, crate::proofs::Pairs::pairs_end))]
     fn push_last_letters(&mut self, text: &[u8])
         requires characters { All (λ c. Contains alphabet c) text.now }
-        requires room { length (alphanumeric_bits text.now) ≤ self.old.room }
-        ensures { Appends self.old self.new (alphanumeric_bits text.now) }
+        requires room { length (character_bits Alphanumeric text.now) ≤ self.old.room }
+        ensures { Appends self.old self.new (character_bits Alphanumeric text.now) }
     {
         let mut rest = text;
         while rest.len() >= 2 {
@@ -102,8 +103,8 @@ impl Bits {
     #[tactic(auto, using(crate::proofs::Segments::bit_lengths, crate::proofs::KanjiText::kanji_end))]
     pub(super) fn push_kanji(&mut self, text: &[u8])
         requires characters { IsKanjiText text.now }
-        requires room { length (kanji_bits text.now) ≤ self.old.room }
-        ensures { Appends self.old self.new (kanji_bits text.now) }
+        requires room { length (character_bits Kanji text.now) ≤ self.old.room }
+        ensures { Appends self.old self.new (character_bits Kanji text.now) }
     {
         let mut rest = text;
         while let [lead, trail, tail @ ..] = rest {
@@ -153,7 +154,7 @@ fn digit(c: u8) -> u64
 fn three_digits(digits: &[u8]) -> u64
     requires three { length digits.now ≡ 3 }
     requires digits { All IsDigit digits.now }
-    ensures bits { number_bits 10 result ≡ numeric_bits digits.now }
+    ensures bits { number_bits 10 result ≡ character_bits Numeric digits.now }
     ensures small { result < 2 ^ 10 }
 {
     100 * digit(digits[0]) + 10 * digit(digits[1]) + digit(digits[2])
@@ -163,7 +164,7 @@ fn three_digits(digits: &[u8]) -> u64
 fn twelve_digits(digits: &[u8]) -> u64
     requires twelve { length digits.now ≡ 12 }
     requires digits { All IsDigit digits.now }
-    ensures bits { number_bits 40 result ≡ numeric_bits digits.now }
+    ensures bits { number_bits 40 result ≡ character_bits Numeric digits.now }
     ensures small { result < 2 ^ 40 }
 {
     let (first, later) = digits.split_at(3);
@@ -191,7 +192,7 @@ fn alphanumeric_value(c: u8) -> u64
 fn two_letters(text: &[u8]) -> u64
     requires two { length text.now ≡ 2 }
     requires characters { All (λ c. Contains alphabet c) text.now }
-    ensures bits { number_bits 11 result ≡ alphanumeric_bits text.now }
+    ensures bits { number_bits 11 result ≡ character_bits Alphanumeric text.now }
     ensures small { result < 2 ^ 11 }
 {
     45 * alphanumeric_value(text[0]) + alphanumeric_value(text[1])
@@ -201,7 +202,7 @@ fn two_letters(text: &[u8]) -> u64
 fn eight_letters(text: &[u8]) -> u64
     requires eight { length text.now ≡ 8 }
     requires characters { All (λ c. Contains alphabet c) text.now }
-    ensures bits { number_bits 44 result ≡ alphanumeric_bits text.now }
+    ensures bits { number_bits 44 result ≡ character_bits Alphanumeric text.now }
     ensures small { result < 2 ^ 44 }
 {
     let (first, later) = text.split_at(2);
