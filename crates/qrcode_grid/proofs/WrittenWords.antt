@@ -2,13 +2,13 @@
 use Rattle.qrcode_grid.proofs.Prelude.{◌≡◌, ◌≢◌, ℕ, ◌<◌, ◌≤◌, ◌+◌, ◌-◌, ◌*◌, ◌==◌, ◌&&◌, Bool, true, false, List, [], ◌∷◌, length, get_or, set, drop, Option}
 use Rattle.qrcode_grid.proofs.Prelude.{Some, None, option_map, cond, ap, ◌∙◌, sym, subst, arith, inl, inr, refl, suc, get_or-set_same, get_or-set_other, pos}
 use Rattle.qrcode_grid.proofs.Prelude.{negsuc, unwrap_or, ◌/◌, ◌%◌, zero, length-set, ℤ, slice_get, fold, option_or, cases_eq, cases_lt, nat_tests, Color, Dark}
-use Rattle.qrcode_grid.proofs.Prelude.{format_first, format_second, format_micro, digit_at, where_true, binary_digit, digit_color, normal_format_word}
-use Rattle.qrcode_grid.proofs.Prelude.{micro_format_word, version_word, differing_digits, map_cells, map_places, common_steps, EcLevel, Version, Normal, Micro}
+use Rattle.qrcode_grid.proofs.Prelude.{format_first, format_second, format_micro, digit_at, where_true, binary_digit, digit_color}
+use Rattle.qrcode_grid.proofs.Prelude.{version_word, differing_digits, map_cells, map_places, common_steps, EcLevel, Version, Normal, Micro}
 use Rattle.qrcode_grid.proofs.Prelude.{IsVersion, MaskPattern, format_value, format_color, level_number, normal_number, micro_number, symbol_number, same_lists}
 use Rattle.qrcode_grid.proofs.Prelude.{get_or_default, mod-mul-add, div-mul-add, mul-le-mul_right, to_z-of_z, slice_get-get_or, Drawing}
 use Rattle.std.proofs.Common.{length-drop, drop-cons, w16}
 use Rattle.qrcode_grid.specs.Laws.{IsFarFormatWord, IsFarVersionWord}
-use Rattle.qrcode_grid.proofs.Distance.{normal_format_words_differ, micro_format_words_differ, version_words_differ}
+use Rattle.qrcode_grid.proofs.Distance.{format_codes_differ, version_words_differ}
 use mir.Val.{SFits, of_z, to_z}
 use Rattle.qrcode_grid.specs.Canvas.{place}
 
@@ -276,24 +276,16 @@ micro_small pattern = grind (arith)
 symbol_small : (n : ℕ) (level : EcLevel) → n ≤ 4 → symbol_number n level < 8
 symbol_small n level h = grind (arith)
 
-normal_far : (a b : ℕ) → a < 32 → b < 32 → a ≢ b → 7 ≤ differing_digits 15 (normal_format_word a) (normal_format_word b)
-normal_far a b ha hb ne =
-    let ea : 0 + a ≡ a = omega arith in
-    let eb : 0 + b ≡ b = omega arith in
-    subst (λ (x : ℕ). 7 ≤ differing_digits 15 (normal_format_word x) (normal_format_word b)) ea
-    (subst (λ (y : ℕ). 7 ≤ differing_digits 15 (normal_format_word (0 + a)) (normal_format_word y)) eb (normal_format_words_differ a b ha hb ne))
-
-micro_far : (a b : ℕ) → a < 32 → b < 32 → a ≢ b → 7 ≤ differing_digits 15 (micro_format_word a) (micro_format_word b)
-micro_far a b ha hb ne =
-    let ea : 0 + a ≡ a = omega arith in
-    let eb : 0 + b ≡ b = omega arith in
-    subst (λ (x : ℕ). 7 ≤ differing_digits 15 (micro_format_word x) (micro_format_word b)) ea
-    (subst (λ (y : ℕ). 7 ≤ differing_digits 15 (micro_format_word (0 + a)) (micro_format_word y)) eb (micro_format_words_differ a b ha hb ne))
-
 pub far_format_word : (version : Version) (level : EcLevel) (pattern : MaskPattern) → IsVersion version → IsFarFormatWord version level pattern
 unfolding IsFarFormatWord
-far_format_word (Normal z) level pattern h = grind (arith, common_steps, normal_far, level_small, normal_small)
-far_format_word (Micro (pos n)) level pattern h = grind (arith, common_steps, micro_far, symbol_small, micro_small)
+far_format_word (Normal z) level pattern h =
+    let digits = 8 * level_number level + normal_number pattern in
+    let small : digits < 32 = omega (arith, level_small level, normal_small pattern) in
+    (digits, small, refl, λ other below ne. format_codes_differ (Normal z) digits other small below (λ e. ne (sym e)))
+far_format_word (Micro (pos n)) level pattern h =
+    let digits = 4 * symbol_number n level + unwrap_or (micro_number pattern) 0 in
+    let small : digits < 32 = omega (arith, symbol_small n level h.1, micro_small pattern) in
+    (digits, small, refl, λ other below ne. format_codes_differ (Micro (pos n)) digits other small below (λ e. ne (sym e)))
 far_format_word (Micro (negsuc n)) level pattern h = absurd h
 
 pub far_version_word : (version : Version) → IsVersion version → IsFarVersionWord version

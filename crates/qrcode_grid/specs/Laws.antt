@@ -5,22 +5,19 @@ use Rattle.qrcode_base.specs.declared.types.Version.{Version}
 use Rattle.qrcode_base.specs.declared.types.Version.TheVariants.{Normal, Micro}
 use Rattle.qrcode_base.specs.Symbols.{width_of}
 use Rattle.qrcode_grid.specs.declared.canvas.MaskPattern.{MaskPattern}
-use Rattle.qrcode_grid.specs.Regions.{normal_format_word, micro_format_word, version_word, differing_digits, regions}
+use Rattle.qrcode_grid.specs.Regions.{format_code, version_word, differing_digits, regions}
 use Rattle.qrcode_grid.specs.Regions.{functional_color, is_functional_cell, alignment, alignments, alignment_count}
 use Rattle.qrcode_grid.specs.Regions.{alignment_step, alignment_coordinate, alignment_coordinates, is_at_finder, ring}
-use Rattle.qrcode_grid.specs.Masks.{format_data, format_word}
+use Rattle.qrcode_grid.specs.Masks.{format_word}
 use Rattle.qrcode_grid.specs.Walk.{timing_column, cell_number, numbered_cell}
 
--- the format word of five data digits, in the family of the version
-abbrev pub word_of_data : Version → ℕ → ℕ
-word_of_data (Normal _) data_digits = normal_format_word data_digits
-word_of_data (Micro _) data_digits = micro_format_word data_digits
-
--- A format word differs in at least 7 of its 15 digits from that of every other level or symbol and mask.
+-- A format word is that of five data digits, and differs in at least 7 of its 15 digits from that of every other five,
+-- so of every other level or symbol and mask.
 unfoldable pub IsFarFormatWord : Version → EcLevel → MaskPattern → Type 0
 IsFarFormatWord version level pattern =
-    (other : ℕ) → other < 32 → other ≢ format_data version level pattern →
-    7 ≤ differing_digits 15 (format_word version level pattern) (word_of_data version other)
+    (data_bits : ℕ) × (data_bits < 32) × (format_word version level pattern ≡ format_code version data_bits) ×
+    ((other : ℕ) → other < 32 → other ≢ data_bits →
+    7 ≤ differing_digits 15 (format_word version level pattern) (format_code version other))
 
 -- A version word differs in at least 8 of its 18 digits from that of every other version.
 unfoldable pub IsFarVersionWord : Version → Type 0
