@@ -1,5 +1,6 @@
 -- What holds of the definitions of a symbol's grid beyond what each says by itself.
-use Rattle.std.specs.Prelude.{Some, IfSome, All, ◌≡◌, ◌≢◌, ℕ, pos, negsuc, ◌+◌, ◌-◌, ◌*◌, ◌%◌, ◌<◌, ◌≤◌, false, is_some}
+use Rattle.std.specs.Prelude.{Some, IfSome, All, ◌≡◌, ◌≢◌, ℕ, pos, negsuc, ◌+◌, ◌-◌, ◌*◌, ◌%◌, ◌<◌, ◌≤◌}
+use Rattle.std.specs.Prelude.{false, is_some, ◌==◌, ◌&&◌, ◌||◌}
 use Rattle.qrcode_base.specs.declared.types.EcLevel.{EcLevel}
 use Rattle.qrcode_base.specs.declared.types.Version.{Version}
 use Rattle.qrcode_base.specs.declared.types.Version.TheVariants.{Normal, Micro}
@@ -7,7 +8,7 @@ use Rattle.qrcode_base.specs.Symbols.{width_of}
 use Rattle.qrcode_grid.specs.declared.canvas.MaskPattern.{MaskPattern}
 use Rattle.qrcode_grid.specs.Regions.{format_code, version_word, differing_digits, regions}
 use Rattle.qrcode_grid.specs.Regions.{functional_color, is_functional_cell, alignment, alignments, alignment_count}
-use Rattle.qrcode_grid.specs.Regions.{alignment_step, alignment_coordinate, alignment_coordinates, is_at_finder, ring}
+use Rattle.qrcode_grid.specs.Regions.{alignment_coordinate, alignment_coordinates, ring}
 use Rattle.qrcode_grid.specs.Masks.{format_word}
 use Rattle.qrcode_grid.specs.Walk.{timing_column, cell_number, numbered_cell}
 
@@ -36,18 +37,24 @@ pub record AreConsistentRegions (version : Version) : Type 0 where
       (format x y : ℕ) → x < width_of version → y < width_of version →
       All (λ says. IfSome says (λ c. functional_color version format x y ≡ Some c)) (regions version format x y)
 
--- Every pair of centre coordinates but the three at the finder patterns has its pattern, and the step is the least even
--- one that reaches (but at version 32).
+-- Every pair of centre coordinates has its pattern, but the first with the first or the last, and the last with the
+-- first. The coordinates after the first go back from the last by one step, the least even one that reaches (but at
+-- version 32).
 pub record HasEveryAlignment (n : ℕ) : Type 0 where
   pub drawn :
       (i j x y : ℕ) → i < alignment_count n → j < alignment_count n →
-      is_at_finder (4 * n + 17) (alignment_coordinate n i) (alignment_coordinate n j) ≡ false →
+      (let last = alignment_count n - 1 in
+      (i == 0 && j == 0) || (i == 0 && j == last) || (i == last && j == 0)) ≡ false →
       ring (alignment_coordinate n i) (alignment_coordinate n j) x y ≤ 2 →
       alignments (4 * n + 17) (alignment_coordinates n) x y ≡
       alignment (alignment_coordinate n i) (alignment_coordinate n j) x y
-  pub even : alignment_step n % 2 ≡ 0
-  pub reaches : 2 ≤ n → n ≢ 32 → 4 * n + 4 ≤ (alignment_count n - 1) * alignment_step n
-  pub least : 2 ≤ n → n ≢ 32 → (alignment_count n - 1) * (alignment_step n - 2) < 4 * n + 4
+  pub step : ℕ
+  pub spaced :
+      (k : ℕ) → 1 ≤ k → k < alignment_count n →
+      alignment_coordinate n k ≡ 4 * n + 10 - (alignment_count n - 1 - k) * step
+  pub even : step % 2 ≡ 0
+  pub reaches : 2 ≤ n → n ≢ 32 → 4 * n + 4 ≤ (alignment_count n - 1) * step
+  pub least : 2 ≤ n → n ≢ 32 → (alignment_count n - 1) * (step - 2) < 4 * n + 4
 
 unfoldable pub HasItsAlignments : Version → Type 0
 HasItsAlignments (Normal (pos n)) = HasEveryAlignment n
