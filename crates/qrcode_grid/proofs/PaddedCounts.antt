@@ -4,7 +4,7 @@ use Rattle.qrcode_grid.proofs.Prelude.{sym, arith, ◌∷◌, ◌||◌, true, ta
 use Rattle.qrcode_grid.proofs.Prelude.{sum_below, count_below, row, column, line_penalty, is_byte_square_at, is_dark_byte, AreEdges, IsPadded, cell, has}
 use Rattle.qrcode_grid.proofs.Prelude.{has_five, has_six, has_finder, has_square, places, stride, is_quiet, common_steps, get_or_past, length-map, length-chunk}
 use Rattle.qrcode_grid.proofs.Prelude.{get_or-chunk, length-range_with_len, get_or-map-range_with_len, []}
-use Rattle.qrcode_grid.specs.Penalty.{count_of_squares, has_at, is_finder_like}
+use Rattle.qrcode_grid.specs.Penalty.{has_at, is_finder_like}
 use Rattle.qrcode_grid.specs.declared.canvas.scoring.lists.Feature.TheVariants.{Finder, Square, Dark}
 use Rattle.qrcode_grid.proofs.MarkedLanes.{count_as_sum, count_one_more}
 use Rattle.qrcode_grid.proofs.LongRuns.{edge_within, edge, edge_past, five_of, six_of, runs_are}
@@ -252,10 +252,6 @@ no_six step edges k e = ap (λ b. b && (cell step edges k 4 == 1)) (no_five step
 no_finder : (step : ℕ) (cells : List ℕ) (k i : ℕ) → k + 4 * step ≡ i → get_or cells i 0 ≡ 0 → has_finder step cells k ≡ false
 no_finder step cells k i e z = grind (arith, nat_tests)
 
-count_places : (p : ℕ → Bool) (n : ℕ) → count_by p (range_with_len 0 n) ≡ count_below p n
-count_places p zero = refl
-count_places p (suc n) = grind (arith, count_one_more p n (p n) refl, count_places p n)
-
 dark_is : (b : ℕ) → b < 2 → (b == 1) ≡ is_dark_byte b
 dark_is zero h = refl
 dark_is (suc zero) h = refl
@@ -352,25 +348,23 @@ module _ (w : ℕ) (cells padded : List ℕ) (is : IsPadded w cells padded) (squ
         four_modules _ _ _ _ _ _ _ _ (ap (λ k. get_or edges k 0) e0 ∙ edge_at y this) (ap (λ k. get_or edges k 0) e1 ∙ edge_at (y + 1) hy)
         (ap (λ k. get_or padded k 0) e4 ∙ module_at y this) (ap (λ k. get_or padded k 0) e5 ∙ module_at (y + 1) hy)
 
-    squares_of_row : (y : ℕ) → y + 1 < w → count_below (λ x. has_square s padded edges (y * s + x)) w ≡ count_of_squares (row w cells y) (row w cells (y + 1))
+    squares_of_row : (y : ℕ) → y + 1 < w → count_below (λ x. has_square s padded edges (y * s + x)) w
+        ≡ count_below (is_byte_square_at (row w cells y) (row w cells (y + 1))) (w - 1)
     squares_of_row y h =
         let a = row w cells y in let b = row w cells (y + 1) in let this : y < w = omega (arith, h) in
         let last : w ≡ suc (w - 1) = omega (arith, wide) in
         let e0 : y * s + (w - 1) + 0 * s ≡ y * s + (w - 1) = omega arith in
         let none : get_or edges (y * s + (w - 1) + 0 * s) 0 ≡ 0 = ap (λ k. get_or edges k 0) e0 ∙ are.beside (w - 1) y (omega arith) (omega arith) this in
-        let size : w - 1 ≡ length a - 1 = omega (arith, length-row w cells y square this) in
         ap (count_below (λ x. has_square s padded edges (y * s + x))) last
         ∙ omega (
           arith,
           ap {B = ℕ} (λ b. cond b 1 0) (no_square edges (y * s + (w - 1)) 0 (omega arith) none),
           total-cong (λ x. cond (has_square s padded edges (y * s + x)) 1 0) (λ x. cond (is_byte_square_at a b x) 1 0) (w - 1)
               (λ x l. ap (λ b. cond b 1 0) (square_here x y (omega (arith, l)) h)),
-          count_places (is_byte_square_at a b) (w - 1),
-          ap (λ n. count_by (is_byte_square_at a b) (range_with_len 0 n)) size,
         )
 
     pub squares_are : 3 * count_below (has Square w 1 padded edges) (places w)
-        ≡ 3 * sum_below (λ y. count_of_squares (row w cells y) (row w cells (y + 1))) (w - 1)
+        ≡ 3 * sum_below (λ y. count_below (is_byte_square_at (row w cells y) (row w cells (y + 1))) (w - 1)) (w - 1)
     squares_are =
         let p = has Square w 1 padded edges in
         let f : ℕ → ℕ = λ y. count_below (λ x. p (y * s + x)) w in
@@ -386,7 +380,8 @@ module _ (w : ℕ) (cells padded : List ℕ) (is : IsPadded w cells padded) (squ
           rows,
           ap (sum_below f) last,
           bottom,
-          total-cong f (λ y. count_of_squares (row w cells y) (row w cells (y + 1))) (w - 1) (λ y h. squares_of_row y (omega (arith, h))),
+          total-cong f (λ y. count_below (is_byte_square_at (row w cells y) (row w cells (y + 1))) (w - 1)) (w - 1)
+              (λ y h. squares_of_row y (omega (arith, h))),
         )
 
   pub darks_are : (edges : List ℕ) → ((k : ℕ) → get_or cells k 0 < 2) → count_below (has Dark w 1 padded edges) (places w) ≡ count_by is_dark_byte cells
