@@ -2,7 +2,7 @@
 use Rattle.qrcode_grid.proofs.Prelude.{◌≡◌, ◌≢◌, ℕ, ◌<◌, ◌≤◌, ◌+◌, ◌-◌, ◌*◌, ◌==◌, ◌&&◌, Bool, true, false, List, [], ◌∷◌, length, get_or, set, drop, Option}
 use Rattle.qrcode_grid.proofs.Prelude.{Some, None, option_map, cond, ap, ◌∙◌, sym, subst, arith, inl, inr, refl, suc, get_or-set_same, get_or-set_other, pos}
 use Rattle.qrcode_grid.proofs.Prelude.{negsuc, unwrap_or, ◌/◌, ◌%◌, zero, length-set, ℤ, slice_get, fold, option_or, cases_eq, cases_lt, nat_tests, Color, Dark}
-use Rattle.qrcode_grid.proofs.Prelude.{format_first, format_second, format_micro, digit_at, where_true, binary_digit, digit_color}
+use Rattle.qrcode_grid.proofs.Prelude.{format_first, format_second, format_micro, digit_at, binary_digit, digit_color}
 use Rattle.qrcode_grid.proofs.Prelude.{version_word, differing_digits, map_cells, map_places, common_steps, EcLevel, Version, Normal, Micro}
 use Rattle.qrcode_grid.proofs.Prelude.{IsVersion, MaskPattern, format_value, format_color, level_number, normal_number, micro_number, symbol_number, same_lists}
 use Rattle.qrcode_grid.proofs.Prelude.{get_or_default, mod-mul-add, div-mul-add, mul-le-mul_right, to_z-of_z, slice_get-get_or, Drawing}
@@ -203,9 +203,10 @@ next_written digits w places k d old now v below column row long is h =
 
 -- the dark module is written
 pub dark_written : {X : Type 0} (w : ℕ) (d : X) (now : List X) (v : X) → 9 ≤ w → length now ≡ w * w → (x y : ℕ) → x < w → y < w →
-    get_or (set now ((w - 8) * w + 8) v) (y * w + x) d ≡ unwrap_or (where_true (x == 8 && y == w - 8) v) (get_or now (y * w + x) d)
-dark_written w d now v wide long x y l m =
+    get_or (set now ((w - 8) * w + 8) v) (y * w + x) d ≡ unwrap_or (cond (x == 8 && y == w - 8) (Some v) None) (get_or now (y * w + x) d)
+dark_written {X} w d now v wide long x y l m =
     let i = (w - 8) * w + 8 in
+    let if_dark : Bool → Option X = λ t. cond t (Some v) None in
     let b = get_or now (y * w + x) d in
     let column : 8 < w = omega arith in let row : w - 8 < w = omega arith in
     elim (cases_eq x 8) [
@@ -213,15 +214,15 @@ dark_written w d now v wide long x y l m =
         | inl f ↦
             let place : y * w + x ≡ i = ap (λ t. t * w + x) f ∙ ap (λ t. (w - 8) * w + t) e in
             ap (λ j. get_or (set now i v) j d) place ∙ get_or-set_same now i v d (omega (arith, long, cell_within w 8 (w - 8) column row))
-            ∙ sym (ap (λ t. unwrap_or (where_true (t && y == w - 8) v) b) (equal x 8 e) ∙ ap (λ t. unwrap_or (where_true t v) b) (equal y (w - 8) f))
+            ∙ sym (ap (λ t. unwrap_or (if_dark (t && y == w - 8)) b) (equal x 8 e) ∙ ap (λ t. unwrap_or (if_dark t) b) (equal y (w - 8) f))
         | inr f ↦
             let ne : y * w + x ≢ i = λ same. f (sym (row_of_place w x y i l same) ∙ row_of_place w 8 (w - 8) i column refl) in
             get_or-set_other now i (y * w + x) v d ne
-            ∙ sym (ap (λ t. unwrap_or (where_true (x == 8 && t) v) b) (differs y (w - 8) f) ∙ ap (λ t. unwrap_or (where_true t v) b) (and_false (x == 8)))
+            ∙ sym (ap (λ t. unwrap_or (if_dark (x == 8 && t)) b) (differs y (w - 8) f) ∙ ap (λ t. unwrap_or (if_dark t) b) (and_false (x == 8)))
       ]
       | inr e ↦
           let ne : y * w + x ≢ i = λ same. e (sym (column_of_place w x y i l same) ∙ column_of_place w 8 (w - 8) i column refl) in
-          get_or-set_other now i (y * w + x) v d ne ∙ sym (ap (λ t. unwrap_or (where_true (t && y == w - 8) v) b) (differs x 8 e))
+          get_or-set_other now i (y * w + x) v d ne ∙ sym (ap (λ t. unwrap_or (if_dark (t && y == w - 8)) b) (differs x 8 e))
     ]
 
 -- what the first of three says is written last
@@ -247,8 +248,8 @@ module _ {X Y : Type 0} (show : X → Y) (over : Option Color → Y → Y) (digi
   word_shown None below b = sym (none_shown (show b))
 
   words_shown : (t : Bool) (o p : Option ℕ) → Below o → Below p → (b : X) →
-      show (unwrap_or (fold option_or None (where_true t dark ∷ option_map digits o ∷ option_map digits p ∷ [])) b)
-      ≡ over (fold option_or None (where_true t Dark ∷ option_map (λ k. digit_color (binary_digit word k)) o
+      show (unwrap_or (fold option_or None (cond t (Some dark) None ∷ option_map digits o ∷ option_map digits p ∷ [])) b)
+      ≡ over (fold option_or None (cond t (Some Dark) None ∷ option_map (λ k. digit_color (binary_digit word k)) o
       ∷ option_map (λ k. digit_color (binary_digit word k)) p ∷ [])) (show b)
   words_shown true o p low high b = dark_shown (show b)
   words_shown false (Some k) p low high b = digit_shown k (show b) (low k refl)
