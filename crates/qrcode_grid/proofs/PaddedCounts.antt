@@ -6,7 +6,7 @@ use Rattle.qrcode_grid.proofs.Prelude.{has_five, has_six, has_finder, has_square
 use Rattle.qrcode_grid.proofs.Prelude.{get_or-chunk, length-range_with_len, get_or-map-range_with_len, []}
 use Rattle.qrcode_grid.specs.Penalty.{has_at, is_finder_like}
 use Rattle.qrcode_grid.specs.declared.canvas.scoring.lists.Feature.TheVariants.{Finder, Square, Dark}
-use Rattle.qrcode_grid.proofs.MarkedLanes.{count_as_sum, count_one_more}
+use Rattle.qrcode_grid.proofs.MarkedLanes.{count_as_sum}
 use Rattle.qrcode_grid.proofs.LongRuns.{edge_within, edge, edge_past, five_of, six_of, runs_are}
 use Rattle.qrcode_grid.proofs.Totals.{total-add, total-cong, total-mul, total-plus, total-none}
 
