@@ -10,7 +10,7 @@ use Rattle.qrcode_grid.proofs.Tests.{all_pass, passes, both}
 use Rattle.qrcode_grid.proofs.Totals.{cell_number-numbered_cell, numbered_cell-cell_number, cell_number_below, numbered_cell_inside}
 use Rattle.qrcode_grid.proofs.Areas.{is_some-functional_color}
 use Rattle.qrcode_grid.proofs.RegionsAgree.{regions_say}
-use Rattle.qrcode_grid.proofs.WholeSymbols.{odd_width, timing_inside}
+use Rattle.qrcode_grid.proofs.DataCells.{odd_width, timing_inside}
 
 -- each centre coordinate is the one near the five coordinates around it, computed
 abbrev is_near_its_own : ℕ → ℕ → ℕ → Bool
