@@ -4,7 +4,8 @@ use Rattle.qrcode_core.proofs.Prelude.{Option, Some, None, is_some, unwrap_or, I
 use Rattle.qrcode_core.proofs.Prelude.{leb-true, eq-eqb, Color, EcLevel, Version, Normal, Micro, MaskPattern, functional_color, normal_number, micro_number}
 use Rattle.qrcode_core.proofs.Prelude.{level_number, symbol_number, IsOfFamily, HasFunctionalColors, IsVersion, IsSymbol, width_of, common_steps}
 use Rattle.std.proofs.Common.{negsuc, ◌==◌, ◌&&◌, nat_le}
-use Rattle.qrcode_grid.specs.Regions.{binary_digit, digit_color, differing_digits, format_code, digit_at, format_first, format_micro}
+use Rattle.std.specs.Int.{bit_at}
+use Rattle.qrcode_grid.specs.Regions.{digit_color, differing_digits, format_code, digit_at, format_first, format_micro}
 use Rattle.qrcode_grid.proofs.Tests.{all_pass, passes, both}
 use Rattle.qrcode_grid.proofs.FormatCells.{functional_color-format}
 use Rattle.qrcode_grid.proofs.Distance.{format_codes_differ}
@@ -44,7 +45,7 @@ format_cell (Micro z) k = cell micro_cells k
 -- The functional colours show each digit of the format word.
 pub shows_digit : (version : Version) (format k : ℕ) → IsVersion version → k < 15 →
     ((format_cell version k).0 < width_of version) × ((format_cell version k).1 < width_of version)
-    × (functional_color version format (format_cell version k).0 (format_cell version k).1 ≡ Some (digit_color (binary_digit format k)))
+    × (functional_color version format (format_cell version k).0 (format_cell version k).1 ≡ Some (digit_color (bit_at format k)))
 shows_digit (Normal (pos n)) format k h below =
     let at = digit_cell format_first normal_cells k refl below in
     grind (arith, common_steps, at, functional_color-format (Normal (pos n)) format (cell normal_cells k).0 (cell normal_cells k).1, ne_eqb)
@@ -65,7 +66,7 @@ pub same_digits : (version : Version) (a b : ℕ) (grid : List Color) → IsVers
     slice_get grid (y * width_of version + x) ≡ Some c) →
     ((x y : ℕ) (c : Color) → x < width_of version → y < width_of version → functional_color version b x y ≡ Some c →
     slice_get grid (y * width_of version + x) ≡ Some c) →
-    (k : ℕ) → k < 15 → binary_digit a k ≡ binary_digit b k
+    (k : ℕ) → k < 15 → bit_at a k ≡ bit_at b k
 same_digits version a b grid h f g k below =
     let p = shows_digit version a k h below in
     let q = shows_digit version b k h below in
@@ -76,7 +77,7 @@ none_counted p a zero h = refl
 none_counted p a (suc n) h =
     grind (arith, common_steps, h a (omega arith) (omega arith), none_counted p (a + 1) n (λ k low high. h k (omega arith) (omega arith)))
 
-none_differ : (n a b : ℕ) → ((k : ℕ) → k < n → binary_digit a k ≡ binary_digit b k) → differing_digits n a b ≡ 0
+none_differ : (n a b : ℕ) → ((k : ℕ) → k < n → bit_at a k ≡ bit_at b k) → differing_digits n a b ≡ 0
 none_differ n a b same = grind (arith, common_steps, none_counted, eq-eqb)
 
 -- ---- The words tell level and mask
@@ -100,7 +101,7 @@ symbol_numbers n l m h s t = grind (arith, common_steps)
 
 -- a format word that shows the same digits has the same data
 data_same : (word : ℕ → ℕ) → ((a b : ℕ) → a < 32 → b < 32 → (a ≡ b → ⊥) → 7 ≤ differing_digits 15 (word a) (word b)) →
-    (a b : ℕ) → a < 32 → b < 32 → ((k : ℕ) → k < 15 → binary_digit (word a) k ≡ binary_digit (word b) k) → a ≡ b
+    (a b : ℕ) → a < 32 → b < 32 → ((k : ℕ) → k < 15 → bit_at (word a) k ≡ bit_at (word b) k) → a ≡ b
 data_same word apart a b h k same = elim (cases_eq a b) [
   | inl same ↦ same
   | inr ne ↦ absurd (omega (arith, apart a b h k ne, none_differ 15 (word a) (word b) same))

@@ -3,7 +3,7 @@
 use Rattle.qrcode_grid.proofs.Prelude.{◌≡◌, ℕ, pos, negsuc, ◌<◌, ◌≤◌, ◌+◌, ◌-◌, ◌*◌, ap, ◌∙◌, sym, refl, subst, arith, inl, inr, List, [], ◌∷◌, ◌++◌, Bool}
 use Rattle.qrcode_grid.proofs.Prelude.{true, false, not, ◌==◌, ◌&&◌, ◌||◌, nat_le, nat_lt, cond, ◌%◌, fold, All, IfSome, Option, Some, None, is_some, option_or}
 use Rattle.qrcode_grid.proofs.Prelude.{cases_eq, cases_lt, false≢true, nat_tests, All-nil, All-cons, Color, Light, Dark, Version, Normal, Micro, IsVersion}
-use Rattle.qrcode_grid.proofs.Prelude.{width_of, binary_digit, digit_color, finder, timing, digit_at, format_first, format_second, format_micro}
+use Rattle.qrcode_grid.proofs.Prelude.{width_of, bit_at, digit_color, finder, timing, digit_at, format_first, format_second, format_micro}
 use Rattle.qrcode_grid.proofs.Prelude.{written, version_copies, alignments, alignment_coordinates, functional_color, regions, common_steps}
 use Rattle.qrcode_grid.proofs.Tests.{all_pass, passes, both}
 use Rattle.qrcode_grid.proofs.Areas.{finder_test, finder_is, timing_test, first_test, first_is, second_test, second_is, micro_is, version_is, some-if}
@@ -211,9 +211,9 @@ normal_pairs n format x y low high l m =
     let in_words : Tested (word_tests w v x y) (dark ∷ words) = (
       some-if (x == 8 && y == w - 8) Dark,
       (
-        some-option_map (λ k. digit_color (binary_digit format k)) (digit_at format_first x y) ∙ first_is x y,
+        some-option_map (λ k. digit_color (bit_at format k)) (digit_at format_first x y) ∙ first_is x y,
         (
-          some-option_map (λ k. digit_color (binary_digit format k)) (digit_at (format_second w) x y)
+          some-option_map (λ k. digit_color (bit_at format k)) (digit_at (format_second w) x y)
               ∙ second_is w x y (omega arith) l m,
           (copies_are n x y, tt),
         ),
@@ -243,7 +243,7 @@ regions_say (Micro (pos n)) format x y h l m =
       finder_is 3 3 x y,
       (
         some-if (timing_test 0 8 (w - 1) x y) (cond ((x + y) % 2 == 0) Dark Light),
-        (some-option_map (λ k. digit_color (binary_digit format k)) (digit_at format_micro x y) ∙ micro_is x y, tt),
+        (some-option_map (λ k. digit_color (bit_at format k)) (digit_at format_micro x y) ∙ micro_is x y, tt),
       ),
     )
     ((grind (arith, nat_tests), (grind (arith, nat_tests), (and_false (micro_test x y), tt)))))

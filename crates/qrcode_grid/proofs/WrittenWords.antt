@@ -2,7 +2,7 @@
 use Rattle.qrcode_grid.proofs.Prelude.{◌≡◌, ◌≢◌, ℕ, ◌<◌, ◌≤◌, ◌+◌, ◌-◌, ◌*◌, ◌==◌, ◌&&◌, Bool, true, false, List, [], ◌∷◌, length, get_or, set, drop, Option}
 use Rattle.qrcode_grid.proofs.Prelude.{Some, None, option_map, cond, ap, ◌∙◌, sym, subst, arith, inl, inr, refl, suc, get_or-set_same, get_or-set_other, pos}
 use Rattle.qrcode_grid.proofs.Prelude.{negsuc, unwrap_or, ◌/◌, ◌%◌, zero, length-set, ℤ, slice_get, fold, option_or, cases_eq, cases_lt, nat_tests, Color, Dark}
-use Rattle.qrcode_grid.proofs.Prelude.{format_first, format_second, format_micro, digit_at, binary_digit, digit_color}
+use Rattle.qrcode_grid.proofs.Prelude.{format_first, format_second, format_micro, digit_at, bit_at, digit_color}
 use Rattle.qrcode_grid.proofs.Prelude.{version_word, differing_digits, map_cells, map_places, common_steps, EcLevel, Version, Normal, Micro}
 use Rattle.qrcode_grid.proofs.Prelude.{IsVersion, MaskPattern, format_value, format_color, level_number, normal_number, micro_number, symbol_number, same_lists}
 use Rattle.qrcode_grid.proofs.Prelude.{get_or_default, mod-mul-add, div-mul-add, mul-le-mul_right, to_z-of_z, slice_get-get_or, Drawing}
@@ -237,20 +237,20 @@ digit_at-below (p ∷ places) x y k e = grind (arith, common_steps, digit_at-bel
 
 -- What is shown of values is what a word shows: here by the digits of the values, dark ones by the digits of the word.
 module _ {X Y : Type 0} (show : X → Y) (over : Option Color → Y → Y) (digits : ℕ → X) (dark : X) (word : ℕ)
-    (digit_shown : (k : ℕ) (b : Y) → k < 15 → show (digits k) ≡ over (Some (digit_color (binary_digit word k))) b)
+    (digit_shown : (k : ℕ) (b : Y) → k < 15 → show (digits k) ≡ over (Some (digit_color (bit_at word k))) b)
     (dark_shown : (b : Y) → show dark ≡ over (Some Dark) b) (none_shown : (b : Y) → over None b ≡ b) where
   abbrev Below : Option ℕ → Type 0
   Below o = (k : ℕ) → o ≡ Some k → k < 15
 
   word_shown : (o : Option ℕ) → Below o → (b : X) →
-      show (unwrap_or (option_map digits o) b) ≡ over (option_map (λ k. digit_color (binary_digit word k)) o) (show b)
+      show (unwrap_or (option_map digits o) b) ≡ over (option_map (λ k. digit_color (bit_at word k)) o) (show b)
   word_shown (Some k) below b = digit_shown k (show b) (below k refl)
   word_shown None below b = sym (none_shown (show b))
 
   words_shown : (t : Bool) (o p : Option ℕ) → Below o → Below p → (b : X) →
       show (unwrap_or (fold option_or None (cond t (Some dark) None ∷ option_map digits o ∷ option_map digits p ∷ [])) b)
-      ≡ over (fold option_or None (cond t (Some Dark) None ∷ option_map (λ k. digit_color (binary_digit word k)) o
-      ∷ option_map (λ k. digit_color (binary_digit word k)) p ∷ [])) (show b)
+      ≡ over (fold option_or None (cond t (Some Dark) None ∷ option_map (λ k. digit_color (bit_at word k)) o
+      ∷ option_map (λ k. digit_color (bit_at word k)) p ∷ [])) (show b)
   words_shown true o p low high b = dark_shown (show b)
   words_shown false (Some k) p low high b = digit_shown k (show b) (low k refl)
   words_shown false None (Some k) low high b = digit_shown k (show b) (high k refl)
