@@ -3,11 +3,12 @@ use Rattle.qrcode_core.proofs.Prelude.{◌≡◌, ℕ, zero, suc, pos, ◌+◌, 
 use Rattle.qrcode_core.proofs.Prelude.{Option, Some, None, is_some, unwrap_or, IsTrue, slice_get, range_with_len, count_by, cases_eq, ne_eqb, eqb-true}
 use Rattle.qrcode_core.proofs.Prelude.{leb-true, eq-eqb, Color, EcLevel, Version, Normal, Micro, MaskPattern, functional_color, normal_number, micro_number}
 use Rattle.qrcode_core.proofs.Prelude.{level_number, symbol_number, IsOfFamily, HasFunctionalColors, IsVersion, IsSymbol, width_of, common_steps}
-use Rattle.std.proofs.Common.{negsuc, ◌==◌, ◌&&◌, nat_le, zero-add}
-use Rattle.qrcode_grid.specs.Regions.{binary_digit, digit_color, differing_digits, normal_format_word, micro_format_word, digit_at, format_first, format_micro}
+use Rattle.std.proofs.Common.{negsuc, ◌==◌, ◌&&◌, nat_le}
+use Rattle.std.specs.Int.{bit_at}
+use Rattle.qrcode_grid.specs.Regions.{digit_color, differing_digits, format_code, digit_at, format_first, format_micro}
 use Rattle.qrcode_grid.proofs.Tests.{all_pass, passes, both}
 use Rattle.qrcode_grid.proofs.FormatCells.{functional_color-format}
-use Rattle.qrcode_grid.proofs.Distance.{normal_format_words_differ, micro_format_words_differ}
+use Rattle.qrcode_grid.proofs.Distance.{format_codes_differ}
 
 -- ---- The first copy of the format word, in both families
 
@@ -44,7 +45,7 @@ format_cell (Micro z) k = cell micro_cells k
 -- The functional colours show each digit of the format word.
 pub shows_digit : (version : Version) (format k : ℕ) → IsVersion version → k < 15 →
     ((format_cell version k).0 < width_of version) × ((format_cell version k).1 < width_of version)
-    × (functional_color version format (format_cell version k).0 (format_cell version k).1 ≡ Some (digit_color (binary_digit format k)))
+    × (functional_color version format (format_cell version k).0 (format_cell version k).1 ≡ Some (digit_color (bit_at format k)))
 shows_digit (Normal (pos n)) format k h below =
     let at = digit_cell format_first normal_cells k refl below in
     grind (arith, common_steps, at, functional_color-format (Normal (pos n)) format (cell normal_cells k).0 (cell normal_cells k).1, ne_eqb)
@@ -65,7 +66,7 @@ pub same_digits : (version : Version) (a b : ℕ) (grid : List Color) → IsVers
     slice_get grid (y * width_of version + x) ≡ Some c) →
     ((x y : ℕ) (c : Color) → x < width_of version → y < width_of version → functional_color version b x y ≡ Some c →
     slice_get grid (y * width_of version + x) ≡ Some c) →
-    (k : ℕ) → k < 15 → binary_digit a k ≡ binary_digit b k
+    (k : ℕ) → k < 15 → bit_at a k ≡ bit_at b k
 same_digits version a b grid h f g k below =
     let p = shows_digit version a k h below in
     let q = shows_digit version b k h below in
@@ -76,7 +77,7 @@ none_counted p a zero h = refl
 none_counted p a (suc n) h =
     grind (arith, common_steps, h a (omega arith) (omega arith), none_counted p (a + 1) n (λ k low high. h k (omega arith) (omega arith)))
 
-none_differ : (n a b : ℕ) → ((k : ℕ) → k < n → binary_digit a k ≡ binary_digit b k) → differing_digits n a b ≡ 0
+none_differ : (n a b : ℕ) → ((k : ℕ) → k < n → bit_at a k ≡ bit_at b k) → differing_digits n a b ≡ 0
 none_differ n a b same = grind (arith, common_steps, none_counted, eq-eqb)
 
 -- ---- The words tell level and mask
@@ -99,11 +100,11 @@ symbol_numbers : (n : ℕ) (l m : EcLevel) → IsVersion (Micro (pos n)) → IsS
 symbol_numbers n l m h s t = grind (arith, common_steps)
 
 -- a format word that shows the same digits has the same data
-data_same : (word : ℕ → ℕ) → ((a b : ℕ) → a < 32 → b < 32 → (a ≡ b → ⊥) → 7 ≤ differing_digits 15 (word (0 + a)) (word (0 + b))) →
-    (a b : ℕ) → a < 32 → b < 32 → ((k : ℕ) → k < 15 → binary_digit (word a) k ≡ binary_digit (word b) k) → a ≡ b
+data_same : (word : ℕ → ℕ) → ((a b : ℕ) → a < 32 → b < 32 → (a ≡ b → ⊥) → 7 ≤ differing_digits 15 (word a) (word b)) →
+    (a b : ℕ) → a < 32 → b < 32 → ((k : ℕ) → k < 15 → bit_at (word a) k ≡ bit_at (word b) k) → a ≡ b
 data_same word apart a b h k same = elim (cases_eq a b) [
   | inl same ↦ same
-  | inr ne ↦ absurd (omega (arith, simp zero-add at apart a b h k ne, none_differ 15 (word a) (word b) same))
+  | inr ne ↦ absurd (omega (arith, apart a b h k ne, none_differ 15 (word a) (word b) same))
 ]
 
 -- A version, and the level and mask that a grid's functional colours show.
@@ -113,14 +114,14 @@ pub same_format : (version : Version) (l m : EcLevel) (p q : MaskPattern) (grid 
 same_format (Normal (pos n)) l m p q grid h sl sm fp fq f g =
     let masks = normal_numbers p q in
     let levels = level_numbers l m in
-    let same = data_same normal_format_word normal_format_words_differ (8 * level_number l + normal_number p) (8 * level_number m + normal_number q)
-    (omega arith) (omega arith) (same_digits (Normal (pos n)) _ _ grid h f g) in
+    let same = data_same (format_code (Normal (pos n))) (format_codes_differ (Normal (pos n))) (8 * level_number l + normal_number p)
+    (8 * level_number m + normal_number q) (omega arith) (omega arith) (same_digits (Normal (pos n)) _ _ grid h f g) in
     grind (arith, same, masks, levels)
 same_format (Normal (negsuc n)) l m p q grid h sl sm fp fq f g = absurd h
 same_format (Micro (pos n)) l m p q grid h sl sm fp fq f g =
     let masks = micro_numbers p q fp fq in
     let levels = symbol_numbers n l m h sl sm in
-    let same = data_same micro_format_word micro_format_words_differ (4 * symbol_number n l + unwrap_or (micro_number p) 0)
+    let same = data_same (format_code (Micro (pos n))) (format_codes_differ (Micro (pos n))) (4 * symbol_number n l + unwrap_or (micro_number p) 0)
     (4 * symbol_number n m + unwrap_or (micro_number q) 0) (omega arith) (omega arith) (same_digits (Micro (pos n)) _ _ grid h f g) in
     grind (arith, same, masks, levels)
 same_format (Micro (negsuc n)) l m p q grid h sl sm fp fq f g = absurd h

@@ -4,7 +4,7 @@ use Rattle.qrcode_grid.proofs.Prelude.{◌==◌, nat_tests, length-filter, Versi
 use Rattle.qrcode_grid.proofs.Prelude.{IsFunctionalCount, area_count, is_functional_cell, data_cells, walk, walk_column, numbered_cell, timing_column}
 use Rattle.qrcode_grid.proofs.Prelude.{common_steps, eqb-true, L}
 use Rattle.qrcode_grid.specs.Regions.{is_functional_at, sum_below as total}
-use Rattle.qrcode_grid.proofs.WholeSymbols.{odd_width, timing_inside}
+use Rattle.qrcode_grid.proofs.DataCells.{odd_width, timing_inside, data_cells-by_areas}
 use Rattle.qrcode_grid.proofs.Totals.{total-cong, total-walk, count_by-total, total-none}
 use Rattle.qrcode_grid.proofs.Tests.{passes}
 use Rattle.qrcode_grid.proofs.DataCounts.{length-normal_data_cells, length-micro_data_cells}
@@ -69,7 +69,7 @@ functional_cells-data_cells version canonical =
     let odd = odd_width version canonical in
     let few : ℕ → ℕ = λ x. total (λ y. cond (not (is_functional_cell version x y)) 1 0) w in
     let walked : length (data_cells version) ≡ total (λ p. few (walk_column w t (2 * p)) + few (walk_column w t (2 * p + 1))) (w / 2) =
-    length-filter (λ c. not (is_functional_cell version c.0 c.1)) (walk version)
+    ap length (data_cells-by_areas version canonical) ∙ length-filter (λ c. not (is_functional_cell version c.0 c.1)) (walk version)
     ∙ count_by-total (λ c. not (is_functional_cell version c.0 c.1)) (numbered_cell w t) (w * (w - 1))
     ∙ total-walk (λ x y. cond (not (is_functional_cell version x y)) 1 0) w (w / 2) t odd in
     let timing : few t ≡ 0 = total-none _ w (λ y below. ap (λ b. cond (not b) 1 0) (on_timing version y canonical)) in

@@ -2,15 +2,15 @@
 use Rattle.qrcode_grid.proofs.Prelude.{◌≡◌, ◌≢◌, ℕ, ◌+◌, ◌-◌, ◌*◌, ◌/◌, ◌%◌, ◌<◌, ◌≤◌, ◌==◌, ◌&&◌, ◌||◌, nat_le, nat_lt, Bool, true, false, Option, Some}
 use Rattle.qrcode_grid.proofs.Prelude.{unwrap_or, subst, refl, arith, ◌^◌, List, map, abs_diff, eqb-true, leb-true, ltb-true, Version, IsVersion, width_of}
 use Rattle.qrcode_grid.proofs.Prelude.{near, alignments, alignment_count, alignment_coordinate, alignment_coordinates, ring, position_or_len, range_with_len}
-use Rattle.qrcode_grid.proofs.Prelude.{timing_column, common_steps}
-use Rattle.qrcode_grid.specs.Regions.{alignment, alignment_step, is_at_finder, polynomial_product, code_word, HasOneMultiple, HasOneFormatWord}
+use Rattle.qrcode_grid.proofs.Prelude.{timing_column, common_steps, cond, not, nat_tests, ap}
+use Rattle.qrcode_grid.specs.Regions.{alignment, polynomial_product, code_word, HasOneMultiple, HasOneFormatWord}
 use Rattle.qrcode_grid.specs.Regions.{HasOneVersionWord}
 use Rattle.qrcode_grid.specs.Laws.{AreConsistentRegions, HasEveryAlignment, HasItsAlignments, IsWalkOf}
 use Rattle.qrcode_grid.proofs.Tests.{all_pass, passes, both}
 use Rattle.qrcode_grid.proofs.Totals.{cell_number-numbered_cell, numbered_cell-cell_number, cell_number_below, numbered_cell_inside}
 use Rattle.qrcode_grid.proofs.Areas.{is_some-functional_color}
 use Rattle.qrcode_grid.proofs.RegionsAgree.{regions_say}
-use Rattle.qrcode_grid.proofs.WholeSymbols.{odd_width, timing_inside}
+use Rattle.qrcode_grid.proofs.DataCells.{odd_width, timing_inside}
 
 -- each centre coordinate is the one near the five coordinates around it, computed
 abbrev is_near_its_own : ℕ → ℕ → ℕ → Bool
@@ -41,13 +41,46 @@ near_center n i x high within close =
     let same : c + u - 2 ≡ x = around c x six close in
     subst (λ (y : ℕ). near (alignment_coordinates n) y ≡ Some c) same (some_of _ c (eqb-true _ _ here.1) six)
 
+-- whether a pair of coordinates lies at one of the three finder patterns, by the coordinates and by their places
+abbrev is_at_finder : ℕ → ℕ → ℕ → ℕ → Bool
+is_at_finder first last a b = (a == first && b == first) || (a == first && b == last) || (a == last && b == first)
+
+-- the first coordinate alone is 6 and the last alone the width less 7, computed
+abbrev is_end : ℕ → ℕ → Bool
+is_end n i =
+    (not (alignment_coordinate n i == 6) || i == 0) && (not (alignment_coordinate n i == 4 * n + 17 - 7) || i == alignment_count n - 1)
+
+ends_test : all_pass (λ n. all_pass (is_end n) 0 (alignment_count n)) 0 41 ≡ true
+ends_test = refl
+
+end_of : (c i far last : ℕ) → ((not (c == 6) || i == 0) && (not (c == far) || i == last)) ≡ true → (c ≡ 6 → i ≡ 0) × (c ≡ far → i ≡ last)
+end_of c i far last h = grind (arith, nat_tests)
+
+ends_are : (n i : ℕ) → n ≤ 40 → i < alignment_count n →
+    (alignment_coordinate n i ≡ 6 → i ≡ 0) × (alignment_coordinate n i ≡ 4 * n + 17 - 7 → i ≡ alignment_count n - 1)
+ends_are n i high within =
+    end_of (alignment_coordinate n i) i (4 * n + 17 - 7) (alignment_count n - 1) (passes (is_end n) 0 (alignment_count n) i
+    (passes (λ m. all_pass (is_end m) 0 (alignment_count m)) 0 41 n ends_test (omega arith) (omega arith)) (omega arith) (omega arith))
+
+apart_by_places : (a b i j far last : ℕ) → (a ≡ 6 → i ≡ 0) × (a ≡ far → i ≡ last) → (b ≡ 6 → j ≡ 0) × (b ≡ far → j ≡ last) →
+    is_at_finder 0 last i j ≡ false → is_at_finder 6 far a b ≡ false
+apart_by_places a b i j far last h k apart = grind (arith, nat_tests)
+
 every_drawn : (n i j x y : ℕ) → n ≤ 40 → i < alignment_count n → j < alignment_count n →
-    is_at_finder (4 * n + 17) (alignment_coordinate n i) (alignment_coordinate n j) ≡ false →
+    is_at_finder 6 (4 * n + 17 - 7) (alignment_coordinate n i) (alignment_coordinate n j) ≡ false →
     ring (alignment_coordinate n i) (alignment_coordinate n j) x y ≤ 2 →
     alignments (4 * n + 17) (alignment_coordinates n) x y ≡ alignment (alignment_coordinate n i) (alignment_coordinate n j) x y
 every_drawn n i j x y high hi hj apart close = grind (arith, common_steps, near_center)
 
 -- the step of the alignment patterns is the least even one that reaches, but at 32: computed
+abbrev alignment_step : ℕ → ℕ
+alignment_step n = cond (n == 32) 26 ((4 * n + 2 * alignment_count n + 1) / (2 * alignment_count n - 2) * 2)
+
+spaced_by_step : (n k : ℕ) → 1 ≤ k → alignment_coordinate n k ≡ 4 * n + 10 - (alignment_count n - 1 - k) * alignment_step n
+spaced_by_step n k h =
+    let later : (k == 0) ≡ false = (grind (arith, nat_tests, h)) in
+    ap (λ b. cond b 6 (4 * n + 10 - (alignment_count n - 1 - k) * alignment_step n)) later
+
 abbrev is_least_step : ℕ → Bool
 is_least_step n =
     alignment_step n % 2 == 0 &&
@@ -66,12 +99,17 @@ step_of_test n c s h = grind (arith, common_steps, both, eqb-true, leb-true, ltb
 
 has_every_alignment : (n : ℕ) → 1 ≤ n → n ≤ 40 → HasEveryAlignment n
 has_every_alignment n low high =
-    let step = step_of_test n (alignment_count n) (alignment_step n) (passes is_least_step 1 40 n least_steps low (omega arith)) in
+    let least_step = step_of_test n (alignment_count n) (alignment_step n) (passes is_least_step 1 40 n least_steps low (omega arith)) in
     record {
-      drawn = λ i j x y hi hj apart close. every_drawn n i j x y high hi hj apart close;
-      even = step.0;
-      reaches = step.1.0;
-      least = step.1.1;
+      drawn =
+          λ i j x y hi hj apart close. every_drawn n i j x y high hi hj
+          (apart_by_places (alignment_coordinate n i) (alignment_coordinate n j) i j (4 * n + 17 - 7) (alignment_count n - 1)
+          (ends_are n i high hi) (ends_are n j high hj) apart) close;
+      step = alignment_step n;
+      spaced = λ k h l. spaced_by_step n k h;
+      even = least_step.0;
+      reaches = least_step.1.0;
+      least = least_step.1.1;
     }
 
 pub has_its_alignments : (version : Version) → IsVersion version → HasItsAlignments version

@@ -3,10 +3,10 @@ use Rattle.qrcode_grid.proofs.Prelude.{◌≡◌, ℕ, zero, suc, ◌+◌, ◌-�
 use Rattle.qrcode_grid.proofs.Prelude.{sym, arith, ◌∷◌, ◌||◌, true, take, drop, inl, inr, range_with_len, mul-le-mul_right, add-mul, cases_lt, nat_tests}
 use Rattle.qrcode_grid.proofs.Prelude.{sum_below, count_below, row, column, line_penalty, is_byte_square_at, is_dark_byte, AreEdges, IsPadded, cell, has}
 use Rattle.qrcode_grid.proofs.Prelude.{has_five, has_six, has_finder, has_square, places, stride, is_quiet, common_steps, get_or_past, length-map, length-chunk}
-use Rattle.qrcode_grid.proofs.Prelude.{get_or-chunk, length-range_with_len, get_or-map-range_with_len}
-use Rattle.qrcode_grid.specs.Penalty.{count_of_squares, are_light, is_pattern, is_finder_like}
+use Rattle.qrcode_grid.proofs.Prelude.{get_or-chunk, length-range_with_len, get_or-map-range_with_len, []}
+use Rattle.qrcode_grid.specs.Penalty.{has_at, is_finder_like}
 use Rattle.qrcode_grid.specs.declared.canvas.scoring.lists.Feature.TheVariants.{Finder, Square, Dark}
-use Rattle.qrcode_grid.proofs.MarkedLanes.{count_as_sum, count_one_more}
+use Rattle.qrcode_grid.proofs.MarkedLanes.{count_as_sum}
 use Rattle.qrcode_grid.proofs.LongRuns.{edge_within, edge, edge_past, five_of, six_of, runs_are}
 use Rattle.qrcode_grid.proofs.Totals.{total-add, total-cong, total-mul, total-plus, total-none}
 
@@ -112,8 +112,46 @@ no_third step cells k e = grind (arith, nat_tests)
 no_last : (step : ℕ) (cells : List ℕ) (k : ℕ) → cell step cells k 10 ≡ 0 → has_finder step cells k ≡ false
 no_last step cells k e = grind (arith, nat_tests)
 
+-- four light modules from place k on
+abbrev are_light : List ℕ → ℕ → Bool
+are_light line k = get_or line k 0 == 0 && get_or line (k + 1) 0 == 0 && get_or line (k + 2) 0 == 0 && get_or line (k + 3) 0 == 0
+
+-- dark, light, three dark, light, dark from place k on
+abbrev is_pattern : List ℕ → ℕ → Bool
+is_pattern line k =
+    get_or line k 0 == 1 && get_or line (k + 1) 0 == 0 && get_or line (k + 2) 0 == 1 && get_or line (k + 3) 0 == 1 && get_or line (k + 4) 0 == 1
+    && get_or line (k + 5) 0 == 0 && get_or line (k + 6) 0 == 1
+
+-- each module by its place from k on
+has_light : (line : List ℕ) (k : ℕ) → has_at line k (0 ∷ 0 ∷ 0 ∷ 0 ∷ []) ≡ are_light line k
+has_light line k = grind (arith, common_steps, nat_tests)
+
+regrouped : (a b c d e f g : Bool) → (a && (b && (c && (d && (e && (f && (g && true))))))) ≡ (a && b && c && d && e && f && g)
+regrouped a b c d e f g = grind (arith, common_steps)
+
+has_pattern : (line : List ℕ) (k : ℕ) → has_at line k (1 ∷ 0 ∷ 1 ∷ 1 ∷ 1 ∷ 0 ∷ 1 ∷ []) ≡ is_pattern line k
+has_pattern line k =
+    let is : ℕ → ℕ → Bool = λ m i. get_or line i 0 == m in
+    let at : (m i j : ℕ) → i ≡ j → is m i ≡ is m j = λ m i j e. ap (is m) e in
+    let next : ℕ → ℕ = λ i. i + 1 in
+    let i2 = next (k + 1) in let i3 = next i2 in let i4 = next i3 in let i5 = next i4 in let i6 = next i5 in
+    regrouped (is 1 k) (is 0 (k + 1)) (is 1 i2) (is 1 i3) (is 1 i4) (is 0 i5) (is 1 i6)
+    ∙ and_seven (is 1 k) (is 0 (k + 1)) (is 1 i2) (is 1 i3) (is 1 i4) (is 0 i5) (is 1 i6) (is 1 k) (is 0 (k + 1)) (is 1 (k + 2)) (is 1 (k + 3))
+    (is 1 (k + 4)) (is 0 (k + 5)) (is 1 (k + 6)) refl refl (at 1 i2 (k + 2) (omega arith)) (at 1 i3 (k + 3) (omega arith))
+    (at 1 i4 (k + 4) (omega arith)) (at 0 i5 (k + 5) (omega arith)) (at 1 i6 (k + 6) (omega arith))
+
+window_is : (line : List ℕ) (k : ℕ) → is_finder_like line k ≡ (is_pattern line (k + 4) && (are_light line k || are_light line (k + 11)))
+window_is line k =
+    ap (λ t. t && (has_at line k (0 ∷ 0 ∷ 0 ∷ 0 ∷ []) || has_at line (k + 11) (0 ∷ 0 ∷ 0 ∷ 0 ∷ []))) (has_pattern line (k + 4))
+    ∙ ap (λ t. is_pattern line (k + 4) && (t || has_at line (k + 11) (0 ∷ 0 ∷ 0 ∷ 0 ∷ []))) (has_light line k)
+    ∙ ap (λ t. is_pattern line (k + 4) && (are_light line k || t)) (has_light line (k + 11))
+
 no_pattern : (line : List ℕ) (k : ℕ) → get_or line (k + 4 + 6) 0 ≡ 0 → is_finder_like line k ≡ false
-no_pattern line k e = grind (arith, nat_tests)
+no_pattern line k e = window_is line k ∙ no_window line k e
+  where
+    no_window : (line : List ℕ) (k : ℕ) → get_or line (k + 4 + 6) 0 ≡ 0 →
+        (is_pattern line (k + 4) && (are_light line k || are_light line (k + 11))) ≡ false
+    no_window line k e = grind (arith, nat_tests)
 
 -- a line of n modules, by the places of its edges and of its modules, each a step after the last
 module _ (line edges padded : List ℕ) (n step : ℕ) (at from : ℕ → ℕ) (long : length line ≡ n)
@@ -147,6 +185,7 @@ module _ (line edges padded : List ℕ) (n step : ℕ) (at from : ℕ → ℕ) (
       ap (λ t. t && (is_quiet step padded (from j) 0 || is_quiet step padded (from j) 11)) pattern
       ∙ ap (λ t. is_pattern (quiet line) p && (t || is_quiet step padded (from j) 11)) (light_here j 0 j h (omega arith) (omega arith))
       ∙ ap (λ t. is_pattern (quiet line) p && (are_light (quiet line) j || t)) (light_here j 11 (j + 11) h (omega arith) refl)
+      ∙ sym (window_is (quiet line) j)
 
   -- a pattern that would reach past the end of the line is none: a module that has to be dark is light
   finder_past : (j : ℕ) → j < n → n ≤ j + 6 → has_finder step padded (from j) ≡ is_finder_like (quiet line) j
@@ -212,10 +251,6 @@ no_six step edges k e = ap (λ b. b && (cell step edges k 4 == 1)) (no_five step
 
 no_finder : (step : ℕ) (cells : List ℕ) (k i : ℕ) → k + 4 * step ≡ i → get_or cells i 0 ≡ 0 → has_finder step cells k ≡ false
 no_finder step cells k i e z = grind (arith, nat_tests)
-
-count_places : (p : ℕ → Bool) (n : ℕ) → count_by p (range_with_len 0 n) ≡ count_below p n
-count_places p zero = refl
-count_places p (suc n) = grind (arith, count_one_more p n (p n) refl, count_places p n)
 
 dark_is : (b : ℕ) → b < 2 → (b == 1) ≡ is_dark_byte b
 dark_is zero h = refl
@@ -313,25 +348,23 @@ module _ (w : ℕ) (cells padded : List ℕ) (is : IsPadded w cells padded) (squ
         four_modules _ _ _ _ _ _ _ _ (ap (λ k. get_or edges k 0) e0 ∙ edge_at y this) (ap (λ k. get_or edges k 0) e1 ∙ edge_at (y + 1) hy)
         (ap (λ k. get_or padded k 0) e4 ∙ module_at y this) (ap (λ k. get_or padded k 0) e5 ∙ module_at (y + 1) hy)
 
-    squares_of_row : (y : ℕ) → y + 1 < w → count_below (λ x. has_square s padded edges (y * s + x)) w ≡ count_of_squares (row w cells y) (row w cells (y + 1))
+    squares_of_row : (y : ℕ) → y + 1 < w → count_below (λ x. has_square s padded edges (y * s + x)) w
+        ≡ count_below (is_byte_square_at (row w cells y) (row w cells (y + 1))) (w - 1)
     squares_of_row y h =
         let a = row w cells y in let b = row w cells (y + 1) in let this : y < w = omega (arith, h) in
         let last : w ≡ suc (w - 1) = omega (arith, wide) in
         let e0 : y * s + (w - 1) + 0 * s ≡ y * s + (w - 1) = omega arith in
         let none : get_or edges (y * s + (w - 1) + 0 * s) 0 ≡ 0 = ap (λ k. get_or edges k 0) e0 ∙ are.beside (w - 1) y (omega arith) (omega arith) this in
-        let size : w - 1 ≡ length a - 1 = omega (arith, length-row w cells y square this) in
         ap (count_below (λ x. has_square s padded edges (y * s + x))) last
         ∙ omega (
           arith,
           ap {B = ℕ} (λ b. cond b 1 0) (no_square edges (y * s + (w - 1)) 0 (omega arith) none),
           total-cong (λ x. cond (has_square s padded edges (y * s + x)) 1 0) (λ x. cond (is_byte_square_at a b x) 1 0) (w - 1)
               (λ x l. ap (λ b. cond b 1 0) (square_here x y (omega (arith, l)) h)),
-          count_places (is_byte_square_at a b) (w - 1),
-          ap (λ n. count_by (is_byte_square_at a b) (range_with_len 0 n)) size,
         )
 
     pub squares_are : 3 * count_below (has Square w 1 padded edges) (places w)
-        ≡ 3 * sum_below (λ y. count_of_squares (row w cells y) (row w cells (y + 1))) (w - 1)
+        ≡ 3 * sum_below (λ y. count_below (is_byte_square_at (row w cells y) (row w cells (y + 1))) (w - 1)) (w - 1)
     squares_are =
         let p = has Square w 1 padded edges in
         let f : ℕ → ℕ = λ y. count_below (λ x. p (y * s + x)) w in
@@ -347,7 +380,8 @@ module _ (w : ℕ) (cells padded : List ℕ) (is : IsPadded w cells padded) (squ
           rows,
           ap (sum_below f) last,
           bottom,
-          total-cong f (λ y. count_of_squares (row w cells y) (row w cells (y + 1))) (w - 1) (λ y h. squares_of_row y (omega (arith, h))),
+          total-cong f (λ y. count_below (is_byte_square_at (row w cells y) (row w cells (y + 1))) (w - 1)) (w - 1)
+              (λ y h. squares_of_row y (omega (arith, h))),
         )
 
   pub darks_are : (edges : List ℕ) → ((k : ℕ) → get_or cells k 0 < 2) → count_below (has Dark w 1 padded edges) (places w) ≡ count_by is_dark_byte cells

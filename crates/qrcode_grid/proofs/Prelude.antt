@@ -46,10 +46,10 @@ pub use Rattle.qrcode_grid.specs.Masks.{HasFunctionalColors, IsOfFamily, drawn_o
 pub use Rattle.qrcode_grid.specs.Masks.{level_number, masked, masked_cell, masked_cells, micro_number, normal_number, raw_colors, sibling, symbol_number}
 pub use Rattle.qrcode_grid.specs.Penalty.{IsFirstLeast, IsFirstLeastMask, byte_of, column, is_byte_square_at, line_penalty, normal_penalty, penalty, row}
 pub use Rattle.qrcode_grid.specs.Placing.{FilledBelow, FillsRows, IsEmptyRow, IsPair, bits_from, bits_taken, data_bit, filled, row_place, stream_bits}
-pub use Rattle.qrcode_grid.specs.Regions.{alignment_at, alignment_coordinate, alignment_coordinates, alignment_count, alignments, binary_digit, count_below}
-pub use Rattle.qrcode_grid.specs.Regions.{differing_digits, digit_at, digit_color, finder, format_first, format_micro, format_second, functional_color}
-pub use Rattle.qrcode_grid.specs.Regions.{is_functional_cell, map_cells, map_places, micro_format_word, near, normal_format_word, regions, ring, sum_below}
-pub use Rattle.qrcode_grid.specs.Regions.{timing, version_copies, version_digit, version_word, where_true, written}
+pub use Rattle.qrcode_grid.specs.Regions.{alignment_at, alignment_coordinate, alignment_coordinates, alignment_count, alignments, count_below}
+pub use Rattle.qrcode_grid.specs.Regions.{differing_digits, digit_at, digit_color, finder, format_code, format_first, format_micro, format_second}
+pub use Rattle.qrcode_grid.specs.Regions.{functional_color, is_functional_cell, map_cells, map_places, near, regions, ring, sum_below}
+pub use Rattle.qrcode_grid.specs.Regions.{timing, version_copies, version_digit, version_word, written}
 pub use Rattle.qrcode_grid.specs.Scoring.{AreEdges, IsPadded, Marks, cell, code_of, has, has_finder, has_five, has_six, has_square, held, is_dark_byte}
 pub use Rattle.qrcode_grid.specs.Scoring.{is_quiet, is_same, masked_code, pattern_of, places, plane, stride, tallied}
 unfoldable pub use Rattle.qrcode_grid.specs.Scoring.{bit_count}

@@ -1,9 +1,9 @@
 -- Regions that say nothing, and what regions say together.
 use Rattle.qrcode_grid.proofs.Prelude.{◌≡◌, ◌-◌, ◌≤◌, zero, suc, ℕ, ◌<◌, ◌+◌, ◌*◌, ap, refl, arith, false, nat_lt, nat_le, ◌==◌, ◌&&◌, ◌||◌, ◌≢◌, Option, None}
 use Rattle.qrcode_grid.proofs.Prelude.{[], ◌∷◌, get_or, ◌/◌, map, sym, ◌∙◌, leb, cond, inl, inr, Bool, true, ◌%◌, fold, option_or, Light, Dark, nat_tests}
-use Rattle.qrcode_grid.proofs.Prelude.{Color, Module, VERSION_WORDS, drawn_over, finder, timing, where_true, version_copies, alignments, alignment_coordinates}
+use Rattle.qrcode_grid.proofs.Prelude.{Color, Module, VERSION_WORDS, drawn_over, finder, timing, version_copies, alignments, alignment_coordinates}
 use Rattle.qrcode_grid.proofs.Prelude.{near, alignment_count, alignment_at, alignment_coordinate, version_word, common_steps, range_with_len}
-use Rattle.qrcode_grid.proofs.Prelude.{get_or-map-range_with_len, abs_diff, cases_lt, leb-true}
+use Rattle.qrcode_grid.proofs.Prelude.{get_or-map-range_with_len, abs_diff, cases_lt, leb-true, Some}
 use Rattle.qrcode_grid.proofs.Tests.{all_pass, passes, both}
 
 pub no_version : (n x y : ℕ) → n < 7 → version_copies n x y ≡ None
@@ -35,7 +35,7 @@ no_alignments n w x y h = grind (arith)
 -- the cells in which no timing pattern lies
 no_timing : (line from to x y : ℕ) → ((y == line && nat_le from x && nat_le x to) || (x == line && nat_le from y && nat_le y to))
     ≡ false → timing line from to x y ≡ None
-no_timing line from to x y t = ap (λ b. where_true b (cond ((x + y) % 2 == 0) Dark Light)) t
+no_timing line from to x y t = ap (λ b. cond b (Some (cond ((x + y) % 2 == 0) Dark Light)) None) t
 
 pub no_timing_above : (line from to x y : ℕ) → y ≢ line → y < from → timing line from to x y ≡ None
 no_timing_above line from to x y other above = no_timing line from to x y (grind (arith, nat_tests, other, above))

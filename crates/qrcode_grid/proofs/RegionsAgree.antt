@@ -3,10 +3,10 @@
 use Rattle.qrcode_grid.proofs.Prelude.{◌≡◌, ℕ, pos, negsuc, ◌<◌, ◌≤◌, ◌+◌, ◌-◌, ◌*◌, ap, ◌∙◌, sym, refl, subst, arith, inl, inr, List, [], ◌∷◌, ◌++◌, Bool}
 use Rattle.qrcode_grid.proofs.Prelude.{true, false, not, ◌==◌, ◌&&◌, ◌||◌, nat_le, nat_lt, cond, ◌%◌, fold, All, IfSome, Option, Some, None, is_some, option_or}
 use Rattle.qrcode_grid.proofs.Prelude.{cases_eq, cases_lt, false≢true, nat_tests, All-nil, All-cons, Color, Light, Dark, Version, Normal, Micro, IsVersion}
-use Rattle.qrcode_grid.proofs.Prelude.{width_of, binary_digit, digit_color, finder, timing, where_true, digit_at, format_first, format_second, format_micro}
+use Rattle.qrcode_grid.proofs.Prelude.{width_of, bit_at, digit_color, finder, timing, digit_at, format_first, format_second, format_micro}
 use Rattle.qrcode_grid.proofs.Prelude.{written, version_copies, alignments, alignment_coordinates, functional_color, regions, common_steps}
 use Rattle.qrcode_grid.proofs.Tests.{all_pass, passes, both}
-use Rattle.qrcode_grid.proofs.Areas.{finder_test, finder_is, timing_test, first_test, first_is, second_test, second_is, micro_is, version_is, some-where_true}
+use Rattle.qrcode_grid.proofs.Areas.{finder_test, finder_is, timing_test, first_test, first_is, second_test, second_is, micro_is, version_is, some-if}
 use Rattle.qrcode_grid.proofs.Areas.{some-option_map}
 
 abbrev Agree : Option Color → Option Color → Type 0
@@ -195,7 +195,7 @@ timing_agree n x y low high l m =
       | inl row ↦ agree-sound _ _ (ap (timing_agrees n x) row ∙ (both _ _ (at x l)).0)
       | inr off ↦ elim (cases_eq x 6) [
         | inl column ↦ agree-sound _ _ (ap (λ k. timing_agrees n k y) column ∙ (both _ _ (at y m)).1)
-        | inr neither ↦ apart_agree _ _ _ _ (some-where_true (timing_test 6 8 (w - 9) x y) (cond ((x + y) % 2 == 0) Dark Light)) refl (grind (arith, nat_tests))
+        | inr neither ↦ apart_agree _ _ _ _ (some-if (timing_test 6 8 (w - 9) x y) (cond ((x + y) % 2 == 0) Dark Light)) refl (grind (arith, nat_tests))
       ]
     ]
 
@@ -206,20 +206,20 @@ normal_pairs n format x y low high l m =
     let a = alignments w (alignment_coordinates n) x y in
     let t = timing 6 8 (w - 9) x y in
     let finders : List (Option Color) = finder 3 3 x y ∷ finder (w - 4) 3 x y ∷ finder 3 (w - 4) x y ∷ [] in
-    let dark = where_true (x == 8 && y == w - 8) Dark in
+    let dark = cond (x == 8 && y == w - 8) (Some Dark) None in
     let words : List (Option Color) = written format format_first x y ∷ written format (format_second w) x y ∷ version_copies n x y ∷ [] in
     let in_words : Tested (word_tests w v x y) (dark ∷ words) = (
-      some-where_true (x == 8 && y == w - 8) Dark,
+      some-if (x == 8 && y == w - 8) Dark,
       (
-        some-option_map (λ k. digit_color (binary_digit format k)) (digit_at format_first x y) ∙ first_is x y,
+        some-option_map (λ k. digit_color (bit_at format k)) (digit_at format_first x y) ∙ first_is x y,
         (
-          some-option_map (λ k. digit_color (binary_digit format k)) (digit_at (format_second w) x y)
+          some-option_map (λ k. digit_color (bit_at format k)) (digit_at (format_second w) x y)
               ∙ second_is w x y (omega arith) l m,
           (copies_are n x y, tt),
         ),
       ),
     ) in
-    let in_timing : is_some t ≡ timing_test 6 8 (w - 9) x y = some-where_true (timing_test 6 8 (w - 9) x y) (cond ((x + y) % 2 == 0) Dark Light) in
+    let in_timing : is_some t ≡ timing_test 6 8 (w - 9) x y = some-if (timing_test 6 8 (w - 9) x y) (cond ((x + y) % 2 == 0) Dark Light) in
     pairs_insert a (finders ++ t ∷ dark ∷ []) words
     (pairs_apart (finder_tests w x y ++ timing_test 6 8 (w - 9) x y ∷ word_tests w v x y) (finders ++ t ∷ dark ∷ words)
     (finder_is 3 3 x y, (finder_is (w - 4) 3 x y, (finder_is 3 (w - 4) x y, (in_timing, in_words)))) (normal_apart w x y v (omega arith) l m))
@@ -242,8 +242,8 @@ regions_say (Micro (pos n)) format x y h l m =
     (pairs_apart (finder_test 3 3 x y ∷ timing_test 0 8 (w - 1) x y ∷ micro_test x y ∷ []) (regions (Micro (pos n)) format x y) (
       finder_is 3 3 x y,
       (
-        some-where_true (timing_test 0 8 (w - 1) x y) (cond ((x + y) % 2 == 0) Dark Light),
-        (some-option_map (λ k. digit_color (binary_digit format k)) (digit_at format_micro x y) ∙ micro_is x y, tt),
+        some-if (timing_test 0 8 (w - 1) x y) (cond ((x + y) % 2 == 0) Dark Light),
+        (some-option_map (λ k. digit_color (bit_at format k)) (digit_at format_micro x y) ∙ micro_is x y, tt),
       ),
     )
     ((grind (arith, nat_tests), (grind (arith, nat_tests), (and_false (micro_test x y), tt)))))

@@ -3,13 +3,13 @@ use Rattle.qrcode_grid.proofs.Prelude.{◌≡◌, ℕ, zero, suc, ◌<◌, ◌�
 use Rattle.qrcode_grid.proofs.Prelude.{get_or, Some, None, Option, unwrap_or, subst, range_with_len, false≢true, mul-add-lt, slice_get-get_or}
 use Rattle.qrcode_grid.proofs.Prelude.{get_or_from_slice_get, Color, Light, EcLevel, Version, IsVersion, width_of, MaskPattern, map_cells, functional_color}
 use Rattle.qrcode_grid.proofs.Prelude.{is_functional_cell, format_word, inverted_if, is_inverted, raw_colors, sibling, HasFunctionalColors, numbered_cell}
-use Rattle.qrcode_grid.proofs.Prelude.{timing_column, common_steps, nat_tests}
+use Rattle.qrcode_grid.proofs.Prelude.{timing_column, common_steps, nat_tests, is_some}
 use Rattle.std.proofs.Common.{filter}
 use Rattle.qrcode_grid.specs.Canvas.{HasItsSiblings}
 use Rattle.qrcode_grid.proofs.Areas.{is_some-functional_color}
 use Rattle.qrcode_grid.proofs.WrittenWords.{length-map_places, get_or-map_places, at_place, cells_are}
 use Rattle.qrcode_grid.proofs.Drawn.{color_in, none_of}
-use Rattle.qrcode_grid.proofs.WholeSymbols.{odd_width, timing_inside}
+use Rattle.qrcode_grid.proofs.DataCells.{odd_width, timing_inside}
 use Rattle.qrcode_grid.proofs.Totals.{numbered_cell_inside}
 
 twice : (b : Bool) (c : Color) → inverted_if b (inverted_if b c) ≡ c
@@ -62,13 +62,14 @@ module _ (version : Version) (level : EcLevel) (pattern : MaskPattern) (colors :
   raw : (other : MaskPattern) → raw_colors version other (sibling version level pattern other colors) ≡ raw_colors version pattern colors
   raw other =
       let w = width_of version in let t = timing_column version in
-      map-passing (λ (c : ℕ × ℕ). not (is_functional_cell version c.0 c.1))
+      map-passing (λ (c : ℕ × ℕ). not (is_some (functional_color version 0 c.0 c.1)))
       (λ c. inverted_if (is_inverted other c.0 c.1) (color_in w (sibling version level pattern other colors) c.0 c.1))
       (λ c. inverted_if (is_inverted pattern c.0 c.1) (color_in w colors c.0 c.1))
       (numbered_cell w t) 0 (w * (w - 1))
       (λ k low high passes.
       let at = numbered_cell_inside w (w / 2) t k (odd_width version canonical) (timing_inside version canonical) (omega arith) in
-      data_at other (numbered_cell w t k).0 (numbered_cell w t k).1 at.0 at.1 (not_functional _ passes))
+      let rule = is_some-functional_color version 0 (numbered_cell w t k).0 (numbered_cell w t k).1 canonical at.0 at.1 in
+      data_at other (numbered_cell w t k).0 (numbered_cell w t k).1 at.0 at.1 (sym rule ∙ not_functional _ passes))
 
   itself : sibling version level pattern pattern colors ≡ colors
   itself =

@@ -2,13 +2,13 @@
 use Rattle.qrcode_grid.proofs.Prelude.{◌≡◌, ◌≢◌, ℕ, ◌<◌, ◌≤◌, ◌+◌, ◌-◌, ◌*◌, ◌==◌, ◌&&◌, Bool, true, false, List, [], ◌∷◌, length, get_or, set, drop, Option}
 use Rattle.qrcode_grid.proofs.Prelude.{Some, None, option_map, cond, ap, ◌∙◌, sym, subst, arith, inl, inr, refl, suc, get_or-set_same, get_or-set_other, pos}
 use Rattle.qrcode_grid.proofs.Prelude.{negsuc, unwrap_or, ◌/◌, ◌%◌, zero, length-set, ℤ, slice_get, fold, option_or, cases_eq, cases_lt, nat_tests, Color, Dark}
-use Rattle.qrcode_grid.proofs.Prelude.{format_first, format_second, format_micro, digit_at, where_true, binary_digit, digit_color, normal_format_word}
-use Rattle.qrcode_grid.proofs.Prelude.{micro_format_word, version_word, differing_digits, map_cells, map_places, common_steps, EcLevel, Version, Normal, Micro}
+use Rattle.qrcode_grid.proofs.Prelude.{format_first, format_second, format_micro, digit_at, bit_at, digit_color}
+use Rattle.qrcode_grid.proofs.Prelude.{version_word, differing_digits, map_cells, map_places, common_steps, EcLevel, Version, Normal, Micro}
 use Rattle.qrcode_grid.proofs.Prelude.{IsVersion, MaskPattern, format_value, format_color, level_number, normal_number, micro_number, symbol_number, same_lists}
 use Rattle.qrcode_grid.proofs.Prelude.{get_or_default, mod-mul-add, div-mul-add, mul-le-mul_right, to_z-of_z, slice_get-get_or, Drawing}
 use Rattle.std.proofs.Common.{length-drop, drop-cons, w16}
 use Rattle.qrcode_grid.specs.Laws.{IsFarFormatWord, IsFarVersionWord}
-use Rattle.qrcode_grid.proofs.Distance.{normal_format_words_differ, micro_format_words_differ, version_words_differ}
+use Rattle.qrcode_grid.proofs.Distance.{format_codes_differ, version_words_differ}
 use mir.Val.{SFits, of_z, to_z}
 use Rattle.qrcode_grid.specs.Canvas.{place}
 
@@ -203,9 +203,10 @@ next_written digits w places k d old now v below column row long is h =
 
 -- the dark module is written
 pub dark_written : {X : Type 0} (w : ℕ) (d : X) (now : List X) (v : X) → 9 ≤ w → length now ≡ w * w → (x y : ℕ) → x < w → y < w →
-    get_or (set now ((w - 8) * w + 8) v) (y * w + x) d ≡ unwrap_or (where_true (x == 8 && y == w - 8) v) (get_or now (y * w + x) d)
-dark_written w d now v wide long x y l m =
+    get_or (set now ((w - 8) * w + 8) v) (y * w + x) d ≡ unwrap_or (cond (x == 8 && y == w - 8) (Some v) None) (get_or now (y * w + x) d)
+dark_written {X} w d now v wide long x y l m =
     let i = (w - 8) * w + 8 in
+    let if_dark : Bool → Option X = λ t. cond t (Some v) None in
     let b = get_or now (y * w + x) d in
     let column : 8 < w = omega arith in let row : w - 8 < w = omega arith in
     elim (cases_eq x 8) [
@@ -213,15 +214,15 @@ dark_written w d now v wide long x y l m =
         | inl f ↦
             let place : y * w + x ≡ i = ap (λ t. t * w + x) f ∙ ap (λ t. (w - 8) * w + t) e in
             ap (λ j. get_or (set now i v) j d) place ∙ get_or-set_same now i v d (omega (arith, long, cell_within w 8 (w - 8) column row))
-            ∙ sym (ap (λ t. unwrap_or (where_true (t && y == w - 8) v) b) (equal x 8 e) ∙ ap (λ t. unwrap_or (where_true t v) b) (equal y (w - 8) f))
+            ∙ sym (ap (λ t. unwrap_or (if_dark (t && y == w - 8)) b) (equal x 8 e) ∙ ap (λ t. unwrap_or (if_dark t) b) (equal y (w - 8) f))
         | inr f ↦
             let ne : y * w + x ≢ i = λ same. f (sym (row_of_place w x y i l same) ∙ row_of_place w 8 (w - 8) i column refl) in
             get_or-set_other now i (y * w + x) v d ne
-            ∙ sym (ap (λ t. unwrap_or (where_true (x == 8 && t) v) b) (differs y (w - 8) f) ∙ ap (λ t. unwrap_or (where_true t v) b) (and_false (x == 8)))
+            ∙ sym (ap (λ t. unwrap_or (if_dark (x == 8 && t)) b) (differs y (w - 8) f) ∙ ap (λ t. unwrap_or (if_dark t) b) (and_false (x == 8)))
       ]
       | inr e ↦
           let ne : y * w + x ≢ i = λ same. e (sym (column_of_place w x y i l same) ∙ column_of_place w 8 (w - 8) i column refl) in
-          get_or-set_other now i (y * w + x) v d ne ∙ sym (ap (λ t. unwrap_or (where_true (t && y == w - 8) v) b) (differs x 8 e))
+          get_or-set_other now i (y * w + x) v d ne ∙ sym (ap (λ t. unwrap_or (if_dark (t && y == w - 8)) b) (differs x 8 e))
     ]
 
 -- what the first of three says is written last
@@ -236,20 +237,20 @@ digit_at-below (p ∷ places) x y k e = grind (arith, common_steps, digit_at-bel
 
 -- What is shown of values is what a word shows: here by the digits of the values, dark ones by the digits of the word.
 module _ {X Y : Type 0} (show : X → Y) (over : Option Color → Y → Y) (digits : ℕ → X) (dark : X) (word : ℕ)
-    (digit_shown : (k : ℕ) (b : Y) → k < 15 → show (digits k) ≡ over (Some (digit_color (binary_digit word k))) b)
+    (digit_shown : (k : ℕ) (b : Y) → k < 15 → show (digits k) ≡ over (Some (digit_color (bit_at word k))) b)
     (dark_shown : (b : Y) → show dark ≡ over (Some Dark) b) (none_shown : (b : Y) → over None b ≡ b) where
   abbrev Below : Option ℕ → Type 0
   Below o = (k : ℕ) → o ≡ Some k → k < 15
 
   word_shown : (o : Option ℕ) → Below o → (b : X) →
-      show (unwrap_or (option_map digits o) b) ≡ over (option_map (λ k. digit_color (binary_digit word k)) o) (show b)
+      show (unwrap_or (option_map digits o) b) ≡ over (option_map (λ k. digit_color (bit_at word k)) o) (show b)
   word_shown (Some k) below b = digit_shown k (show b) (below k refl)
   word_shown None below b = sym (none_shown (show b))
 
   words_shown : (t : Bool) (o p : Option ℕ) → Below o → Below p → (b : X) →
-      show (unwrap_or (fold option_or None (where_true t dark ∷ option_map digits o ∷ option_map digits p ∷ [])) b)
-      ≡ over (fold option_or None (where_true t Dark ∷ option_map (λ k. digit_color (binary_digit word k)) o
-      ∷ option_map (λ k. digit_color (binary_digit word k)) p ∷ [])) (show b)
+      show (unwrap_or (fold option_or None (cond t (Some dark) None ∷ option_map digits o ∷ option_map digits p ∷ [])) b)
+      ≡ over (fold option_or None (cond t (Some Dark) None ∷ option_map (λ k. digit_color (bit_at word k)) o
+      ∷ option_map (λ k. digit_color (bit_at word k)) p ∷ [])) (show b)
   words_shown true o p low high b = dark_shown (show b)
   words_shown false (Some k) p low high b = digit_shown k (show b) (low k refl)
   words_shown false None (Some k) low high b = digit_shown k (show b) (high k refl)
@@ -276,24 +277,16 @@ micro_small pattern = grind (arith)
 symbol_small : (n : ℕ) (level : EcLevel) → n ≤ 4 → symbol_number n level < 8
 symbol_small n level h = grind (arith)
 
-normal_far : (a b : ℕ) → a < 32 → b < 32 → a ≢ b → 7 ≤ differing_digits 15 (normal_format_word a) (normal_format_word b)
-normal_far a b ha hb ne =
-    let ea : 0 + a ≡ a = omega arith in
-    let eb : 0 + b ≡ b = omega arith in
-    subst (λ (x : ℕ). 7 ≤ differing_digits 15 (normal_format_word x) (normal_format_word b)) ea
-    (subst (λ (y : ℕ). 7 ≤ differing_digits 15 (normal_format_word (0 + a)) (normal_format_word y)) eb (normal_format_words_differ a b ha hb ne))
-
-micro_far : (a b : ℕ) → a < 32 → b < 32 → a ≢ b → 7 ≤ differing_digits 15 (micro_format_word a) (micro_format_word b)
-micro_far a b ha hb ne =
-    let ea : 0 + a ≡ a = omega arith in
-    let eb : 0 + b ≡ b = omega arith in
-    subst (λ (x : ℕ). 7 ≤ differing_digits 15 (micro_format_word x) (micro_format_word b)) ea
-    (subst (λ (y : ℕ). 7 ≤ differing_digits 15 (micro_format_word (0 + a)) (micro_format_word y)) eb (micro_format_words_differ a b ha hb ne))
-
 pub far_format_word : (version : Version) (level : EcLevel) (pattern : MaskPattern) → IsVersion version → IsFarFormatWord version level pattern
 unfolding IsFarFormatWord
-far_format_word (Normal z) level pattern h = grind (arith, common_steps, normal_far, level_small, normal_small)
-far_format_word (Micro (pos n)) level pattern h = grind (arith, common_steps, micro_far, symbol_small, micro_small)
+far_format_word (Normal z) level pattern h =
+    let digits = 8 * level_number level + normal_number pattern in
+    let small : digits < 32 = omega (arith, level_small level, normal_small pattern) in
+    (digits, small, refl, λ other below ne. format_codes_differ (Normal z) digits other small below (λ e. ne (sym e)))
+far_format_word (Micro (pos n)) level pattern h =
+    let digits = 4 * symbol_number n level + unwrap_or (micro_number pattern) 0 in
+    let small : digits < 32 = omega (arith, symbol_small n level h.1, micro_small pattern) in
+    (digits, small, refl, λ other below ne. format_codes_differ (Micro (pos n)) digits other small below (λ e. ne (sym e)))
 far_format_word (Micro (negsuc n)) level pattern h = absurd h
 
 pub far_version_word : (version : Version) → IsVersion version → IsFarVersionWord version

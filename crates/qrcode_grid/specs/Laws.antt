@@ -1,26 +1,24 @@
 -- What holds of the definitions of a symbol's grid beyond what each says by itself.
-use Rattle.std.specs.Prelude.{Some, IfSome, All, ◌≡◌, ◌≢◌, ℕ, pos, negsuc, ◌+◌, ◌-◌, ◌*◌, ◌%◌, ◌<◌, ◌≤◌, false, is_some}
+use Rattle.std.specs.Prelude.{Some, IfSome, All, ◌≡◌, ◌≢◌, ℕ, pos, negsuc, ◌+◌, ◌-◌, ◌*◌, ◌%◌, ◌<◌, ◌≤◌}
+use Rattle.std.specs.Prelude.{false, is_some, ◌==◌, ◌&&◌, ◌||◌}
 use Rattle.qrcode_base.specs.declared.types.EcLevel.{EcLevel}
 use Rattle.qrcode_base.specs.declared.types.Version.{Version}
 use Rattle.qrcode_base.specs.declared.types.Version.TheVariants.{Normal, Micro}
 use Rattle.qrcode_base.specs.Symbols.{width_of}
 use Rattle.qrcode_grid.specs.declared.canvas.MaskPattern.{MaskPattern}
-use Rattle.qrcode_grid.specs.Regions.{normal_format_word, micro_format_word, version_word, differing_digits, regions}
+use Rattle.qrcode_grid.specs.Regions.{format_code, version_word, differing_digits, regions}
 use Rattle.qrcode_grid.specs.Regions.{functional_color, is_functional_cell, alignment, alignments, alignment_count}
-use Rattle.qrcode_grid.specs.Regions.{alignment_step, alignment_coordinate, alignment_coordinates, is_at_finder, ring}
-use Rattle.qrcode_grid.specs.Masks.{format_data, format_word}
+use Rattle.qrcode_grid.specs.Regions.{alignment_coordinate, alignment_coordinates, ring}
+use Rattle.qrcode_grid.specs.Masks.{format_word}
 use Rattle.qrcode_grid.specs.Walk.{timing_column, cell_number, numbered_cell}
 
--- the format word of five data digits, in the family of the version
-abbrev pub word_of_data : Version → ℕ → ℕ
-word_of_data (Normal _) data_digits = normal_format_word data_digits
-word_of_data (Micro _) data_digits = micro_format_word data_digits
-
--- A format word differs in at least 7 of its 15 digits from that of every other level or symbol and mask.
+-- A format word is that of five data digits, and differs in at least 7 of its 15 digits from that of every other five,
+-- so of every other level or symbol and mask.
 unfoldable pub IsFarFormatWord : Version → EcLevel → MaskPattern → Type 0
 IsFarFormatWord version level pattern =
-    (other : ℕ) → other < 32 → other ≢ format_data version level pattern →
-    7 ≤ differing_digits 15 (format_word version level pattern) (word_of_data version other)
+    (data_bits : ℕ) × (data_bits < 32) × (format_word version level pattern ≡ format_code version data_bits) ×
+    ((other : ℕ) → other < 32 → other ≢ data_bits →
+    7 ≤ differing_digits 15 (format_word version level pattern) (format_code version other))
 
 -- A version word differs in at least 8 of its 18 digits from that of every other version.
 unfoldable pub IsFarVersionWord : Version → Type 0
@@ -39,18 +37,24 @@ pub record AreConsistentRegions (version : Version) : Type 0 where
       (format x y : ℕ) → x < width_of version → y < width_of version →
       All (λ says. IfSome says (λ c. functional_color version format x y ≡ Some c)) (regions version format x y)
 
--- Every pair of centre coordinates but the three at the finder patterns has its pattern, and the step is the least even
--- one that reaches (but at version 32).
+-- Every pair of centre coordinates has its pattern, but the first with the first or the last, and the last with the
+-- first. The coordinates after the first go back from the last by one step, the least even one that reaches (but at
+-- version 32).
 pub record HasEveryAlignment (n : ℕ) : Type 0 where
   pub drawn :
       (i j x y : ℕ) → i < alignment_count n → j < alignment_count n →
-      is_at_finder (4 * n + 17) (alignment_coordinate n i) (alignment_coordinate n j) ≡ false →
+      (let last = alignment_count n - 1 in
+      (i == 0 && j == 0) || (i == 0 && j == last) || (i == last && j == 0)) ≡ false →
       ring (alignment_coordinate n i) (alignment_coordinate n j) x y ≤ 2 →
       alignments (4 * n + 17) (alignment_coordinates n) x y ≡
       alignment (alignment_coordinate n i) (alignment_coordinate n j) x y
-  pub even : alignment_step n % 2 ≡ 0
-  pub reaches : 2 ≤ n → n ≢ 32 → 4 * n + 4 ≤ (alignment_count n - 1) * alignment_step n
-  pub least : 2 ≤ n → n ≢ 32 → (alignment_count n - 1) * (alignment_step n - 2) < 4 * n + 4
+  pub step : ℕ
+  pub spaced :
+      (k : ℕ) → 1 ≤ k → k < alignment_count n →
+      alignment_coordinate n k ≡ 4 * n + 10 - (alignment_count n - 1 - k) * step
+  pub even : step % 2 ≡ 0
+  pub reaches : 2 ≤ n → n ≢ 32 → 4 * n + 4 ≤ (alignment_count n - 1) * step
+  pub least : 2 ≤ n → n ≢ 32 → (alignment_count n - 1) * (step - 2) < 4 * n + 4
 
 unfoldable pub HasItsAlignments : Version → Type 0
 HasItsAlignments (Normal (pos n)) = HasEveryAlignment n

@@ -10,7 +10,7 @@ use Rattle.qrcode_grid.specs.declared.canvas.MaskPattern.TheVariants.{Checkerboa
 use Rattle.qrcode_grid.specs.Masks.{family}
 use Rattle.qrcode_grid.specs.declared.canvas.scoring.lists.Feature.{Feature}
 use Rattle.qrcode_grid.specs.declared.canvas.scoring.lists.Feature.TheVariants.{Finder, Square, Dark}
-use Rattle.qrcode_grid.specs.Regions.{sum_below, binary_digit, digit_color}
+use Rattle.qrcode_grid.specs.Regions.{sum_below, digit_color}
 use Rattle.qrcode_grid.specs.Penalty.{byte_of}
 use Rattle.qrcode_grid.specs.declared.canvas.Module.{Module}
 use Rattle.qrcode_grid.specs.declared.canvas.Module.TheVariants.{Empty, Masked, Unmasked}
@@ -111,7 +111,7 @@ has Dark w step padded edges k = cell (stride w) padded k 4 == 1
 -- Bit m of byte k is digit k of a format word.
 abbrev pub AreDigits : List ℕ → ℕ → ℕ → Type 0
 AreDigits digits m word =
-    (k : ℕ) → k < 15 → bit_at (slice_index digits k) m ≡ byte_of (digit_color (binary_digit word k))
+    (k : ℕ) → k < 15 → bit_at (slice_index digits k) m ≡ byte_of (digit_color (bit_at word k))
 
 -- a module as a byte: 1 where it is dark, and 2 more where a mask may invert it
 abbrev pub code_of : Module → ℕ

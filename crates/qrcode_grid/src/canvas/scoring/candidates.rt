@@ -9,7 +9,7 @@ ghost use Rattle.qrcode_grid.specs.Scoring.{code_of, masked_code, AreDigits, pla
 ghost use Rattle.qrcode_grid.specs.Penalty.{byte_of};
 ghost use Rattle.qrcode_grid.specs.Masks.{masked_cells, IsOfFamily, format_word};
 ghost use Rattle.qrcode_grid.specs.Masks.{normal_number};
-ghost use Rattle.qrcode_grid.specs.Regions.{binary_digit, digit_color};
+ghost use Rattle.qrcode_grid.specs.Regions.{digit_color};
 ghost use Rattle.qrcode_base.specs.Symbols.{IsSymbol};
 ghost use Rattle.qrcode_grid.specs.declared.canvas.MaskPattern.{MaskPattern};
 
@@ -94,7 +94,7 @@ fn with_digit(digits: u8, m: usize, digit: u8) -> u8
 fn digits_of(words: &[u32; 8], k: usize) -> u8
     requires { k < 32 }
     ensures { (m : ℕ) → m < 8 → bit_at result m ≡
-        byte_of (digit_color (binary_digit (slice_index words.now m) k)) }
+        byte_of (digit_color (bit_at (slice_index words.now m) k)) }
 {
     let mut digits = 0;
     for m in 0..8 {

@@ -1,5 +1,5 @@
 use Rattle.qrcode_grid.proofs.Prelude.{◌==◌, ◌&&◌, ◌-◌, ◌+◌, ◌*◌, ℕ, List, get_or, ap, ◌∙◌, sym, unwrap_or, option_map, format_value, digit_at, format_first}
-use Rattle.qrcode_grid.proofs.Prelude.{format_second, where_true}
+use Rattle.qrcode_grid.proofs.Prelude.{format_second, cond, Some, None}
 use Rattle.qrcode_grid.proofs.WrittenWords.{dark_written, over_three}
 use Rattle.qrcode_grid.proofs.canvas.regions.write_format.Goals as goal
 
@@ -7,7 +7,7 @@ pub returns-in-Normal : goal.returns-in-Normal
 returns-in-Normal g c = λ any x y l m.
     let w = c.args.width in
     let digit = λ (k : ℕ). get_or c.args.digits.now k any in
-    let dark = where_true (x == 8 && y == w - 8) c.args.dark in
+    let dark = cond (x == 8 && y == w - 8) (Some c.args.dark) None in
     let first = option_map digit (digit_at format_first x y) in
     let old = get_or c.args.cells.now (y * w + x) any in
     dark_written w any c.write_word-in-Normal.new.cells c.args.dark c.requires.wide.0

@@ -1,0 +1,29 @@
+-- The data cells by areas: the cells of the walk that lie in none.
+use Rattle.qrcode_grid.proofs.Prelude.{◌≡◌, ℕ, zero, suc, ◌<◌, ◌≤◌, ◌+◌, ◌-◌, ◌*◌, ◌/◌, ap, refl, arith, Bool, not, is_some, map, filter, range_with_len}
+use Rattle.qrcode_grid.proofs.Prelude.{Version, IsVersion, width_of, timing_column, numbered_cell, walk, data_cells, functional_color, is_functional_cell}
+use Rattle.qrcode_grid.proofs.Prelude.{common_steps}
+use Rattle.qrcode_grid.proofs.Areas.{is_some-functional_color}
+use Rattle.qrcode_grid.proofs.Totals.{numbered_cell_inside}
+
+pub odd_width : (version : Version) → IsVersion version → width_of version ≡ 2 * (width_of version / 2) + 1
+odd_width version h = grind (arith)
+
+pub timing_inside : (version : Version) → IsVersion version → timing_column version < width_of version
+timing_inside version h = grind (arith)
+
+-- what two tests tell alike is filtered alike
+filter-alike : {X : Type 0} (p q : X → Bool) (at : ℕ → X) (a n : ℕ) → ((k : ℕ) → a ≤ k → k < a + n → p (at k) ≡ q (at k)) →
+    filter p (map at (range_with_len a n)) ≡ filter q (map at (range_with_len a n))
+filter-alike p q at a zero same = refl
+filter-alike p q at a (suc n) same =
+    grind (arith, common_steps, same a (omega arith) (omega arith), filter-alike p q at (a + 1) n (λ k low high. same k (omega arith) (omega arith)))
+
+pub data_cells-by_areas : (version : Version) → IsVersion version →
+    data_cells version ≡ filter (λ c. not (is_functional_cell version c.0 c.1)) (walk version)
+data_cells-by_areas version h =
+    let w = width_of version in let t = timing_column version in
+    filter-alike (λ (c : ℕ × ℕ). not (is_some (functional_color version 0 c.0 c.1))) (λ c. not (is_functional_cell version c.0 c.1))
+    (numbered_cell w t) 0 (w * (w - 1))
+    (λ k low high.
+    let at = numbered_cell_inside w (w / 2) t k (odd_width version h) (timing_inside version h) (omega arith) in
+    ap not (is_some-functional_color version 0 (numbered_cell w t k).0 (numbered_cell w t k).1 h at.0 at.1))
