@@ -9,7 +9,8 @@ returns-clause-candidates c =
     let s = c.self.inside in let v = s.version in let new = c.penalties_of-penalties.new.scratch in
     let items = c.in_ok-scratch.scratch.items in let long = c.in_ok-scratch.scratch.len in
     let whole = written_whole new items long (omega (arith, c.penalties_of-penalties.auto.scratch, c.deref_mut.ensures.len)) in
-    subst (λ (d : Drawing). (p : MaskPattern) → IsOfFamily d.version p → plane (normal_number p) (take (width_of d.version * width_of d.version) (take long (new ++ drop (length new) items)))
+    subst (λ (d : Drawing). (p : MaskPattern) → IsOfFamily d.version p →
+    plane (normal_number p) (take (width_of d.version * width_of d.version) (take long (new ++ drop (length new) items)))
     ≡ map byte_of (colors_of (with_mask p d))) c.self.view_is
     (λ p f.
     ap (λ l. plane (normal_number p) (take (width_of v * width_of v) l)) whole
