@@ -10,7 +10,7 @@ use Rattle.std.proofs.Common.{bit_and, bit_xor}
 use Rattle.qrcode_grid.specs.declared.canvas.masks.TheConstants.{CONDITIONS}
 use Rattle.qrcode_grid.proofs.FieldLaws.{passes_below, passes_below-at}
 use Rattle.qrcode_grid.proofs.MarkedLanes.{eqb_true}
-use Rattle.qrcode_grid.proofs.WrittenWords.{length-map_places, get_or-map_places}
+use Rattle.qrcode_grid.proofs.WrittenWords.{length-enumerated, get_or-enumerated}
 use Rattle.qrcode_grid.specs.declared.canvas.MaskPattern.TheVariants.{Checkerboard, HorizontalLines, VerticalLines, DiagonalLines, LargeCheckerboard, Meadow}
 
 abbrev is_right : ℕ → ℕ → ℕ → Bool
@@ -63,7 +63,7 @@ pub candidate_is : (version : Version) (w format : ℕ) (pattern : MaskPattern) 
     → candidate ≡ map byte_of (map color_of_module (masked_cells version w format pattern modules))
 candidate_is version w format pattern modules codes candidate coded long is =
     let cells = masked_cells version w format pattern modules in
-    let sizes : length cells ≡ length modules = length-map_places (λ i m. masked_cell version w format pattern (i % w) (i / w) m) 0 modules in
+    let sizes : length cells ≡ length modules = length-enumerated (λ p. masked_cell version w format pattern (p.0 % w) (p.0 / w) p.1) 0 modules in
     let same : length codes ≡ length modules = ap length coded ∙ length-map modules code_of in
     same_number_lists candidate (map byte_of (map color_of_module cells))
     (omega (arith, length-map (map color_of_module cells) byte_of, length-map cells color_of_module, sizes, same, long))
@@ -78,7 +78,7 @@ candidate_is version w format pattern modules codes candidate coded long is =
     ∙ sym (
     get_or-map byte_of (map color_of_module cells) k Light 0 (omega (arith, length-map cells color_of_module, sizes, inside))
     ∙ ap byte_of (get_or-map color_of_module cells k Empty Light (omega (arith, sizes, inside)))
-    ∙ ap (λ d. byte_of (color_of_module d)) (get_or-map_places (λ i d. masked_cell version w format pattern (i % w) (i / w) d) 0 modules k Empty inside
+    ∙ ap (λ d. byte_of (color_of_module d)) (get_or-enumerated (λ p. masked_cell version w format pattern (p.0 % w) (p.0 / w) p.1) 0 modules k Empty inside
     ∙ ap (λ j. masked_cell version w format pattern (j % w) (j / w) m) from)
     ))
 
@@ -104,14 +104,15 @@ number_small Fields = omega arith
 number_small Diamonds = omega arith
 number_small Meadow = omega arith
 
--- the bytes of modules under a mask, as the code names width, word and mask
-abbrev pub masked_bytes : Version → ℕ → ℕ → MaskPattern → List Module → List ℕ
-masked_bytes version w word p modules = map byte_of (map color_of_module (masked_cells version w word p modules))
-
-pub bytes_of_number : (version : Version) (level : EcLevel) (p : MaskPattern) (w word : ℕ) (held modules : List Module) → w ≡ width_of version →
-    word ≡ format_word version level p → held ≡ modules
-    → masked_bytes version w word (pattern_of (normal_number p)) held ≡ masked_bytes version (width_of version) (format_word version level p) p modules
-bytes_of_number version level p w word held modules wide named same = grind (arith, common_steps, pattern_of-number)
+-- the modules under a mask, as the code names width, word and mask
+pub masked_by_number : (version : Version) (level : EcLevel) (p : MaskPattern) (w word : ℕ) (held modules : List Module) → w ≡ width_of version →
+    word ≡ format_word version level p → held ≡ modules →
+    masked_cells version w word (pattern_of (normal_number p)) held ≡ masked_cells version (width_of version) (format_word version level p) p modules
+masked_by_number version level p w word held modules wide named same =
+    ap (λ n. masked_cells version n word (pattern_of (normal_number p)) held) wide
+    ∙ ap (λ n. masked_cells version (width_of version) n (pattern_of (normal_number p)) held) named
+    ∙ ap (λ q. masked_cells version (width_of version) (format_word version level p) q held) (pattern_of-number p)
+    ∙ ap (masked_cells version (width_of version) (format_word version level p) p) same
 
 color_of_byte : ℕ → Color
 color_of_byte zero = Light
@@ -130,8 +131,6 @@ same_colors xs ys e = sym (colors_again xs) ∙ ap (map color_of_byte) e ∙ col
 -- a list that was written whole
 pub written_whole : {X : Type 0} (new old : List X) (n : ℕ) → length new ≡ n → take n (new ++ drop (length new) old) ≡ new
 written_whole new old n e = take_at new (drop (length new) old) n e
-
-pub ruleset mask_numbers = (bytes_of_number, number_small, written_whole, common_steps)
 
 -- The list of penalties grows by one.
 

@@ -7,7 +7,7 @@ use Rattle.qrcode_grid.proofs.Prelude.{timing_column, common_steps, nat_tests, i
 use Rattle.std.proofs.Common.{filter}
 use Rattle.qrcode_grid.specs.Canvas.{HasItsSiblings}
 use Rattle.qrcode_grid.proofs.Areas.{is_some-functional_color}
-use Rattle.qrcode_grid.proofs.WrittenWords.{length-map_places, get_or-map_places, at_place, cells_are}
+use Rattle.qrcode_grid.proofs.WrittenWords.{length-enumerated, get_or-enumerated, at_place, cells_are}
 use Rattle.qrcode_grid.proofs.Drawn.{color_in, none_of}
 use Rattle.qrcode_grid.proofs.DataCells.{odd_width, timing_inside}
 use Rattle.qrcode_grid.proofs.Totals.{numbered_cell_inside}
@@ -28,7 +28,7 @@ not_functional b h = grind (arith, false≢true)
 
 cell_at-map_cells : {X : Type 0} (w : ℕ) (f : ℕ → ℕ → X → X) (xs : List X) (d : X) (x y : ℕ) → length xs ≡ w * w → x < w → y < w →
     get_or (map_cells w f xs) (y * w + x) d ≡ f x y (get_or xs (y * w + x) d)
-cell_at-map_cells w f xs d x y square l m = grind (arith, nat_tests, mul-add-lt, get_or-map_places, at_place)
+cell_at-map_cells w f xs d x y square l m = grind (arith, nat_tests, mul-add-lt, get_or-enumerated, at_place)
 
 -- the colour of a cell of a sibling
 abbrev sibling_color : Version → EcLevel → MaskPattern → MaskPattern → ℕ → ℕ → Color → Color
@@ -43,7 +43,7 @@ module _ (version : Version) (level : EcLevel) (pattern : MaskPattern) (colors :
   sibling_at other x y l m = cell_at-map_cells (width_of version) (sibling_color version level pattern other) colors Light x y square l m
 
   size : (other : MaskPattern) → length (sibling version level pattern other colors) ≡ length colors
-  size other = length-map_places _ 0 colors
+  size other = length-enumerated _ 0 colors
 
   functional : (other : MaskPattern) → HasFunctionalColors version level other (sibling version level pattern other colors)
   functional other = λ x y c l m e.

@@ -3,10 +3,11 @@ use Rattle.qrcode_grid.proofs.Prelude.{◌≡◌, ◌≢◌, ℕ, ◌<◌, ◌�
 use Rattle.qrcode_grid.proofs.Prelude.{Some, None, option_map, cond, ap, ◌∙◌, sym, subst, arith, inl, inr, refl, suc, get_or-set_same, get_or-set_other, pos}
 use Rattle.qrcode_grid.proofs.Prelude.{negsuc, unwrap_or, ◌/◌, ◌%◌, zero, length-set, ℤ, slice_get, fold, option_or, cases_eq, cases_lt, nat_tests, Color, Dark}
 use Rattle.qrcode_grid.proofs.Prelude.{format_first, format_second, format_micro, digit_at, bit_at, digit_color}
-use Rattle.qrcode_grid.proofs.Prelude.{version_word, differing_digits, map_cells, map_places, common_steps, EcLevel, Version, Normal, Micro}
+use Rattle.qrcode_grid.proofs.Prelude.{version_word, differing_digits, map_cells, map, common_steps, EcLevel, Version, Normal, Micro}
 use Rattle.qrcode_grid.proofs.Prelude.{IsVersion, MaskPattern, format_value, format_color, level_number, normal_number, micro_number, symbol_number, same_lists}
 use Rattle.qrcode_grid.proofs.Prelude.{get_or_default, mod-mul-add, div-mul-add, mul-le-mul_right, to_z-of_z, slice_get-get_or, Drawing}
 use Rattle.std.proofs.Common.{length-drop, drop-cons, w16}
+use Rattle.std.specs.List.{enumerate_from}
 use Rattle.qrcode_grid.specs.Laws.{IsFarFormatWord, IsFarVersionWord}
 use Rattle.qrcode_grid.proofs.Distance.{format_codes_differ, version_words_differ}
 use mir.Val.{SFits, of_z, to_z}
@@ -14,15 +15,15 @@ use Rattle.qrcode_grid.specs.Canvas.{place}
 
 -- A loop that changes the elements of a list one after another, each by a function of its place.
 
-pub length-map_places : {X : Type 0} (f : ℕ → X → X) (i : ℕ) (xs : List X) → length (map_places f i xs) ≡ length xs
-length-map_places f i [] = refl
-length-map_places f i (x ∷ xs) = ap suc (length-map_places f (i + 1) xs)
+pub length-enumerated : {X : Type 0} (f : ℕ × X → X) (i : ℕ) (xs : List X) → length (map f (enumerate_from i xs)) ≡ length xs
+length-enumerated f i [] = refl
+length-enumerated f i (x ∷ xs) = ap suc (length-enumerated f (i + 1) xs)
 
-pub get_or-map_places : {X : Type 0} (f : ℕ → X → X) (i : ℕ) (xs : List X) (k : ℕ) (d : X) → k < length xs →
-    get_or (map_places f i xs) k d ≡ f (i + k) (get_or xs k d)
-get_or-map_places f i [] k d h = absurd (omega arith)
-get_or-map_places f i (x ∷ xs) zero d h = let e : i ≡ i + 0 = omega arith in ap (λ j. f j x) e
-get_or-map_places f i (x ∷ xs) (suc k) d h = grind (arith, common_steps, get_or-map_places f (i + 1) xs k d (omega arith))
+pub get_or-enumerated : {X : Type 0} (f : ℕ × X → X) (i : ℕ) (xs : List X) (k : ℕ) (d : X) → k < length xs →
+    get_or (map f (enumerate_from i xs)) k d ≡ f (i + k, get_or xs k d)
+get_or-enumerated f i [] k d h = absurd (omega arith)
+get_or-enumerated f i (x ∷ xs) zero d h = let e : i ≡ i + 0 = omega arith in ap (λ j. f (j, x)) e
+get_or-enumerated f i (x ∷ xs) (suc k) d h = grind (arith, common_steps, get_or-enumerated f (i + 1) xs k d (omega arith))
 
 -- ys is xs with the elements below n changed
 pub record ChangedBelow {X : Type 0} (f : ℕ → X → X) (xs ys : List X) (n : ℕ) : Type 0 where
@@ -55,7 +56,7 @@ at_place f w x y i inside place = ap (λ k. f k y) (sym (column_of_place w x y i
 pub cells_are : {X : Type 0} (f : ℕ → ℕ → X → X) (w : ℕ) (old now : List X) (d : X) → length now ≡ length old → length old ≡ w * w →
     ((x y : ℕ) → x < w → y < w → get_or now (y * w + x) d ≡ f x y (get_or old (y * w + x) d)) → now ≡ map_cells w f old
 cells_are f w old now d same square is =
-    same_lists now (map_cells w f old) (same ∙ sym (length-map_places (λ i m. f (i % w) (i / w) m) 0 old))
+    same_lists now (map_cells w f old) (same ∙ sym (length-enumerated (λ p. f (p.0 % w) (p.0 / w) p.1) 0 old))
     (λ k e h.
     let inside : k < length old = omega (arith, same) in
     let some : 0 < w = elim (cases_lt 0 w) [
@@ -70,7 +71,7 @@ cells_are f w old now d same square is =
     let from : 0 + k ≡ k = omega arith in
     get_or_default now k e d h ∙ ap (λ j. get_or now j d) (sym place) ∙ is x y column row ∙ ap (λ j. f x y (get_or old j d)) place
     ∙ ap (f x y) (get_or_default old k d e inside)
-    ∙ sym (get_or-map_places (λ i m. f (i % w) (i / w) m) 0 old k e inside ∙ ap (λ j. f (j % w) (j / w) (get_or old k e)) from))
+    ∙ sym (get_or-enumerated (λ p. f (p.0 % w) (p.0 / w) p.1) 0 old k e inside ∙ ap (λ j. f (j % w) (j / w) (get_or old k e)) from))
 
 -- Rows of a grid that are changed from one column to another, where the other cells stay as they are.
 abbrev pub CellsChanged : {X : Type 0} → (ℕ → ℕ → X → X) → ℕ → List X → List X → ℕ → Type 0

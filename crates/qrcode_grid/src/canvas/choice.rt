@@ -79,7 +79,6 @@ impl Canvas {
 
     /// The candidates under the masks of the family, in a scratch list, and their penalties, by the numbers of the
     /// masks in Normal symbols.
-    #[tactic(auto, using(crate::proofs::Conditions::mask_numbers))]
     fn candidates(&self, alloc: Global) -> QrResult<(Vec<u8>, [usize; 8])>
         ensures candidates { IfOk result (λ r. (p : MaskPattern) → IsOfFamily self.now.version p →
             plane (normal_number p)
