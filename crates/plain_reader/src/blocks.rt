@@ -104,18 +104,54 @@ pub fn data_count(shape: Shape, level: Level, cells: usize) -> Option<usize> {
     Some(layout_of(shape, level, cells)?.data)
 }
 
-/// The byte that eight bits are. Bits past the end are zeros.
-fn byte_at(bits: &[bool], from: usize) -> u8 {
-    let mut byte = 0u8;
-    for place in 0usize..8 {
-        let bit = bits.get(from.wrapping_add(place)).copied().unwrap_or(false);
-        byte = byte << 1 | u8::from(bit);
+/// Bits: whole bytes, the first bit high, and the bits behind them.
+#[derive(Drop)]
+pub struct Bits {
+    bytes: Vec<u8>,
+    last: u8,
+    count: usize,
+}
+
+impl Bits {
+    /// No bits.
+    pub fn new(alloc: Global) -> Bits {
+        Bits {
+            bytes: Vec::new(alloc),
+            last: 0,
+            count: 0,
+        }
     }
-    byte
+
+    /// Adds a bit, where memory is found.
+    pub fn push(&mut self, bit: bool) -> Option<()> {
+        self.last = self.last << 1 | if bit { 1 } else { 0 };
+        self.count = self.count.wrapping_add(1);
+        if self.count % 8 == 0 {
+            self.bytes.push(self.last).ok()?;
+        }
+        Some(())
+    }
+
+    /// A byte, with zeros behind the last bit.
+    fn byte(&self, index: usize) -> u32 {
+        match self.bytes.get(index) {
+            Some(byte) => u32::from(*byte),
+            None if index == self.bytes.len() => {
+                u32::from(self.last) << (8 - self.count % 8) & 0xff
+            }
+            None => 0,
+        }
+    }
+
+    /// The byte that eight bits are.
+    fn byte_at(&self, from: usize) -> u8 {
+        let both = self.byte(from / 8) << 8 | self.byte((from / 8).wrapping_add(1));
+        (both >> (8 - from % 8) & 0xff) as u8
+    }
 }
 
 /// The stream of codewords. The last data codeword of M1 and M3 has four bits.
-fn codewords(alloc: Global, bits: &[bool], layout: Layout) -> Option<Vec<u8>> {
+fn codewords(alloc: Global, bits: &Bits, layout: Layout) -> Option<Vec<u8>> {
     let mut all = Vec::new(alloc);
     let end = layout.data.wrapping_mul(8).wrapping_sub(layout.missing);
     let count = layout
@@ -124,11 +160,11 @@ fn codewords(alloc: Global, bits: &[bool], layout: Layout) -> Option<Vec<u8>> {
     for place in 0..count {
         let from = place.wrapping_mul(8);
         let byte = if place >= layout.data {
-            byte_at(bits, from.wrapping_sub(layout.missing))
+            bits.byte_at(from.wrapping_sub(layout.missing))
         } else if from.wrapping_add(8) > end {
-            byte_at(bits, from) & 0xf0
+            bits.byte_at(from) & 0xf0
         } else {
-            byte_at(bits, from)
+            bits.byte_at(from)
         };
         all.push(byte).ok()?;
     }
@@ -136,12 +172,17 @@ fn codewords(alloc: Global, bits: &[bool], layout: Layout) -> Option<Vec<u8>> {
 }
 
 /// Whether the cells that no codeword takes hold zeros.
-fn rest_is_light(bits: &[bool], layout: Layout) -> bool {
+fn rest_is_light(bits: &Bits, layout: Layout) -> bool {
     let count = layout
         .data
         .wrapping_add(layout.blocks.wrapping_mul(layout.correction));
     let end = count.wrapping_mul(8).wrapping_sub(layout.missing);
-    bits.iter().skip(end).all(|bit| !*bit)
+    for place in end..bits.count {
+        if bits.byte_at(place) >= 0x80 {
+            return false;
+        }
+    }
+    true
 }
 
 /// Twice an element of the field.
@@ -150,33 +191,44 @@ fn times_two(a: u8) -> u8 {
     if a >= 0x80 { shifted ^ 0x1d } else { shifted }
 }
 
-/// The product of two elements of the field, by doubling.
-fn product(a: u8, b: u8) -> u8 {
-    let mut sum = 0;
-    let mut term = a;
-    for place in 0u32..8 {
-        if (b >> place) & 1 == 1 {
-            sum ^= term;
-        }
-        term = times_two(term);
-    }
-    sum
+/// The powers of 2 in the field, and the exponent of each element but 0.
+#[derive(Drop)]
+struct Field {
+    powers: [u8; 255],
+    exponents: [u8; 256],
 }
 
-/// Whether a block vanishes at the first powers of 2.
-fn is_sound(block: &[u8], correction: usize) -> bool {
-    let mut point = 1;
-    for _ in 0..correction {
-        let mut value = 0;
-        for byte in block {
-            value = product(value, point) ^ *byte;
+impl Field {
+    /// The field, by doubling.
+    fn new() -> Field {
+        let mut powers = [0; 255];
+        let mut exponents = [0; 256];
+        let mut power = 1u8;
+        for exponent in 0..255usize {
+            powers[exponent] = power;
+            exponents[power as usize] = exponent as u8;
+            power = times_two(power);
         }
-        if value != 0 {
-            return false;
-        }
-        point = times_two(point);
+        Field { powers, exponents }
     }
-    true
+
+    /// Whether a block vanishes at the first powers of 2.
+    fn is_sound(&self, block: &[u8], correction: usize) -> bool {
+        for point in 0..correction {
+            let mut value = 0u8;
+            for i in 0..block.len() {
+                if value != 0 {
+                    let exponent = self.exponents[value as usize] as usize;
+                    value = self.powers[exponent.wrapping_add(point) % 255];
+                }
+                value ^= block[i];
+            }
+            if value != 0 {
+                return false;
+            }
+        }
+        true
+    }
 }
 
 /// A block of the streams: its data codewords, and then its correction codewords.
@@ -204,16 +256,17 @@ fn block(alloc: Global, stream: &[u8], layout: Layout, number: usize) -> Option<
 }
 
 /// The data codewords of all blocks, one block after the other, where every block is sound and the cells left over are light.
-pub fn data_codewords(alloc: Global, bits: &[bool], shape: Shape, level: Level) -> Option<Vec<u8>> {
-    let layout = layout_of(shape, level, bits.len())?;
+pub fn data_codewords(alloc: Global, bits: &Bits, shape: Shape, level: Level) -> Option<Vec<u8>> {
+    let layout = layout_of(shape, level, bits.count)?;
     let stream = codewords(alloc, bits, layout)?;
     if !rest_is_light(bits, layout) {
         return None;
     }
+    let field = Field::new();
     let mut data = Vec::new(alloc);
     for number in 0..layout.blocks {
         let (block, size) = block(alloc, &stream, layout, number)?;
-        if !is_sound(&block, layout.correction) {
+        if !field.is_sound(&block, layout.correction) {
             return None;
         }
         data.extend_from_slice(block.get(..size)?).ok()?;

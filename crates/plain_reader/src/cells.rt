@@ -1,4 +1,5 @@
 //! Where the modules stand, and what they show.
+use crate::blocks::Bits;
 use crate::{Level, Shape};
 use std::alloc::Global;
 
@@ -26,60 +27,94 @@ fn alignment(number: usize) -> (usize, usize) {
     (steps, half.wrapping_mul(2))
 }
 
-/// The centre coordinate at most two away, if there is one.
-fn near_center(shape: Shape, coordinate: usize) -> Option<usize> {
-    let (steps, step) = alignment(shape.number);
-    if steps == 0 {
-        return None;
-    }
-    let end = shape.width.wrapping_sub(5);
-    if coordinate <= end {
-        let away = end.wrapping_sub(coordinate);
-        let back = away.checked_div(step).unwrap_or(0);
+/// The coordinates that the centres of the alignment patterns have, in columns and rows.
+fn coordinates(alloc: Global, shape: Shape) -> Option<Vec<usize>> {
+    let mut all = Vec::new(alloc);
+    let (steps, step) = if shape.micro {
+        (0, 0)
+    } else {
+        alignment(shape.number)
+    };
+    for back in 0..steps {
         let past = back.wrapping_mul(step);
-        if back < steps && away.wrapping_sub(past) <= 4 {
-            return Some(shape.width.wrapping_sub(7).wrapping_sub(past));
+        all.push(shape.width.wrapping_sub(7).wrapping_sub(past))
+            .ok()?;
+    }
+    if steps > 0 {
+        all.push(6).ok()?;
+    }
+    Some(all)
+}
+
+/// The centres of the alignment patterns: all pairs of the coordinates but those at the three finder patterns.
+pub fn alignments(alloc: Global, shape: Shape) -> Option<Vec<(usize, usize)>> {
+    let coordinates = coordinates(alloc, shape)?;
+    let last = shape.width.wrapping_sub(7);
+    let mut all = Vec::new(alloc);
+    for cy in &coordinates {
+        for cx in &coordinates {
+            let is_finder = (*cx == 6 && (*cy == 6 || *cy == last)) || (*cx == last && *cy == 6);
+            if !is_finder {
+                all.push((*cx, *cy)).ok()?;
+            }
         }
     }
-    if coordinate >= 4 && coordinate <= 8 {
-        Some(6)
-    } else {
-        None
+    Some(all)
+}
+
+/// Marks the cells in some columns and rows, each from one to before another.
+fn mark(cells: &mut [bool], width: usize, columns: (usize, usize), rows: (usize, usize)) {
+    for y in rows.0..rows.1 {
+        for x in columns.0..columns.1 {
+            let place = y.wrapping_mul(width).wrapping_add(x);
+            if place < cells.len() {
+                cells[place] = true;
+            }
+        }
     }
 }
 
-/// Whether a cell lies in an alignment pattern.
-fn is_in_alignment(shape: Shape, x: usize, y: usize) -> bool {
-    let Some(cx) = near_center(shape, x) else {
-        return false;
-    };
-    let Some(cy) = near_center(shape, y) else {
-        return false;
-    };
-    let last = shape.width.wrapping_sub(7);
-    !((cx == 6 && cy == 6) || (cx == 6 && cy == last) || (cx == last && cy == 6))
-}
-
-/// Whether a cell belongs to the version information.
-fn is_in_version(shape: Shape, x: usize, y: usize) -> bool {
-    let far = shape.width.wrapping_sub(11);
-    let end = shape.width.wrapping_sub(8);
-    shape.number >= 7 && ((x < 6 && y >= far && y < end) || (y < 6 && x >= far && x < end))
-}
-
-/// Whether a module is functional, by the areas.
-pub fn is_functional(shape: Shape, x: usize, y: usize) -> bool {
-    if shape.micro {
-        return x == 0 || y == 0 || (x < 9 && y < 9);
+/// Which cells are functional, row by row, by the areas.
+fn functional(alloc: Global, shape: Shape, alignments: &[(usize, usize)]) -> Option<Vec<bool>> {
+    let width = shape.width;
+    let mut cells = vec![in alloc; false; width.wrapping_mul(width)].ok()?;
+    let line = if shape.micro { 0 } else { 6 };
+    mark(&mut cells, width, (0, width), (line, line + 1));
+    mark(&mut cells, width, (line, line + 1), (0, width));
+    mark(&mut cells, width, (0, 9), (0, 9));
+    if !shape.micro {
+        let far = (width.wrapping_sub(8), width);
+        mark(&mut cells, width, (0, 9), far);
+        mark(&mut cells, width, far, (0, 9));
     }
-    let far = shape.width.wrapping_sub(8);
-    x == 6
-        || y == 6
-        || (x < 9 && y < 9)
-        || (x < 9 && y >= far)
-        || (x >= far && y < 9)
-        || is_in_version(shape, x, y)
-        || is_in_alignment(shape, x, y)
+    if !shape.micro && shape.number >= 7 {
+        let far = (width.wrapping_sub(11), width.wrapping_sub(8));
+        mark(&mut cells, width, (0, 6), far);
+        mark(&mut cells, width, far, (0, 6));
+    }
+    for (cx, cy) in alignments {
+        let columns = (cx.wrapping_sub(2), cx.wrapping_add(3));
+        mark(
+            &mut cells,
+            width,
+            columns,
+            (cy.wrapping_sub(2), cy.wrapping_add(3)),
+        );
+    }
+    Some(cells)
+}
+
+/// How many cells of a version no functional pattern takes.
+pub fn data_cells(alloc: Global, shape: Shape) -> Option<usize> {
+    let functional = functional(alloc, shape, &alignments(alloc, shape)?)?;
+    let cells: &[bool] = &functional;
+    let mut count = 0usize;
+    for place in 0..cells.len() {
+        if !cells[place] {
+            count = count.wrapping_add(1);
+        }
+    }
+    Some(count)
 }
 
 /// The remainder of a word by a polynomial, both as bits.
@@ -214,34 +249,42 @@ pub fn format_of(grid: &[bool], shape: Shape) -> Option<(Level, usize)> {
     }
 }
 
-/// The colour that a finder pattern with its border has around a centre, if the cell is in it.
-fn finder(cx: usize, cy: usize, x: usize, y: usize) -> Option<bool> {
-    match cx.abs_diff(x).max(cy.abs_diff(y)) {
-        0 | 1 | 3 => Some(true),
-        2 | 4 => Some(false),
-        _ => None,
+/// Which rings round the centre of a finder pattern are dark, with its light border.
+const FINDER: [bool; 5] = [true, true, false, true, false];
+
+/// Which rings round the centre of an alignment pattern are dark.
+const ALIGNMENT: [bool; 3] = [true, false, true];
+
+/// Whether the rings round a centre have their colours. What lies past an edge is no cell.
+fn has_rings(grid: &[bool], width: usize, cx: usize, cy: usize, rings: &[bool]) -> bool {
+    let reach = rings.len();
+    for y in cy.saturating_sub(reach)..cy.saturating_add(reach).min(width) {
+        for x in cx.saturating_sub(reach)..cx.saturating_add(reach).min(width) {
+            let ring = cx.abs_diff(x).max(cy.abs_diff(y));
+            if ring < reach && is_dark(grid, width, x, y) != rings[ring] {
+                return false;
+            }
+        }
     }
+    true
 }
 
-/// The colour that a cell of a finder, timing or alignment pattern must have.
-fn pattern(shape: Shape, x: usize, y: usize) -> Option<bool> {
-    let far = shape.width.wrapping_sub(4);
-    let mut found = finder(3, 3, x, y);
-    if !shape.micro {
-        found = found.or(finder(far, 3, x, y)).or(finder(3, far, x, y));
+/// Whether the cells of the timing patterns, between the finder patterns, are dark and light in turn.
+fn has_timing(grid: &[bool], shape: Shape) -> bool {
+    let (line, end) = if shape.micro {
+        (0, shape.width)
+    } else {
+        (6, shape.width.wrapping_sub(8))
+    };
+    for i in 8..end {
+        let dark = i % 2 == 0;
+        if is_dark(grid, shape.width, i, line) != dark
+            || is_dark(grid, shape.width, line, i) != dark
+        {
+            return false;
+        }
     }
-    let line = if shape.micro { 0 } else { 6 };
-    if found.is_none() && (x == line || y == line) {
-        found = Some((x ^ y) & 1 == 0);
-    }
-    if found.is_none() && !shape.micro && is_in_alignment(shape, x, y) {
-        let (cx, cy) = (near_center(shape, x)?, near_center(shape, y)?);
-        found = Some(cx.abs_diff(x).max(cy.abs_diff(y)) != 1);
-    }
-    if found.is_none() && !shape.micro && x == 8 && y == shape.width.wrapping_sub(8) {
-        found = Some(true);
-    }
-    found
+    true
 }
 
 /// Whether a copy of the version word is right. The lowest bit stands first.
@@ -257,30 +300,39 @@ fn has_version(grid: &[bool], shape: Shape, turned: bool) -> bool {
 }
 
 /// Whether the finder, timing, alignment patterns, the dark module and the version words are as they must be.
-pub fn has_patterns(grid: &[bool], shape: Shape) -> bool {
-    for y in 0..shape.width {
-        for x in 0..shape.width {
-            if let Some(dark) = pattern(shape, x, y) {
-                if dark != is_dark(grid, shape.width, x, y) {
-                    return false;
-                }
-            }
+pub fn has_patterns(grid: &[bool], shape: Shape, alignments: &[(usize, usize)]) -> bool {
+    let width = shape.width;
+    let far = width.wrapping_sub(4);
+    if !has_rings(grid, width, 3, 3, &FINDER) || !has_timing(grid, shape) {
+        return false;
+    }
+    for (cx, cy) in alignments {
+        if !has_rings(grid, width, *cx, *cy, &ALIGNMENT) {
+            return false;
         }
     }
+    let has_version = shape.number < 7
+        || (has_version(grid, shape, false) && has_version(grid, shape, true));
     shape.micro
-        || shape.number < 7
-        || (has_version(grid, shape, false) && has_version(grid, shape, true))
+        || (has_rings(grid, width, far, 3, &FINDER)
+            && has_rings(grid, width, 3, far, &FINDER)
+            && is_dark(grid, width, 8, width.wrapping_sub(8))
+            && has_version)
 }
 
-/// Whether a mask inverts a cell, by its number in the family.
-fn inverts(shape: Shape, mask: usize, x: usize, y: usize) -> bool {
-    let number = match (shape.micro, mask) {
+/// The number in Normal symbols of a mask of the family.
+fn mask_number(shape: Shape, mask: usize) -> usize {
+    match (shape.micro, mask) {
         (true, 0) => 1,
         (true, 1) => 4,
         (true, 2) => 6,
         (true, _) => 7,
         (false, number) => number,
-    };
+    }
+}
+
+/// Whether a mask inverts a cell, by its number in Normal symbols.
+fn inverts(number: usize, x: usize, y: usize) -> bool {
     let (sum, product) = (x.wrapping_add(y), x.wrapping_mul(y));
     let both = (product % 2).wrapping_add(product % 3);
     let value = match number {
@@ -296,42 +348,45 @@ fn inverts(shape: Shape, mask: usize, x: usize, y: usize) -> bool {
     value == 0
 }
 
-/// The cell that has a number in the walk.
-fn cell(shape: Shape, number: usize) -> (usize, usize) {
-    let last = shape.width.wrapping_sub(1);
-    let pair = number.checked_div(shape.width.wrapping_mul(2)).unwrap_or(0);
-    let rest = number.wrapping_sub(pair.wrapping_mul(shape.width).wrapping_mul(2));
-    let x = last
-        .wrapping_sub(pair.wrapping_mul(2))
-        .wrapping_sub(rest % 2);
-    let x = if !shape.micro && x <= 6 {
-        x.wrapping_sub(1)
+/// The right column of a pair of columns of the walk; the timing column of a Normal symbol is left out.
+fn right_column(shape: Shape, pair: usize) -> usize {
+    let right = shape
+        .width
+        .wrapping_sub(1)
+        .wrapping_sub(pair.wrapping_mul(2));
+    if !shape.micro && right <= 6 {
+        right.wrapping_sub(1)
     } else {
-        x
-    };
-    let row = rest / 2;
-    let y = if pair % 2 == 0 {
-        last.wrapping_sub(row)
-    } else {
-        row
-    };
-    (x, y)
+        right
+    }
 }
 
-/// Whether the cell that has a number in the walk is a data cell.
-pub fn is_data(shape: Shape, number: usize) -> bool {
-    let (x, y) = cell(shape, number);
-    !is_functional(shape, x, y)
-}
-
-/// The bits of the data cells in order, with the mask taken off.
-pub fn raw_bits(alloc: Global, grid: &[bool], shape: Shape, mask: usize) -> Option<Vec<bool>> {
-    let mut bits = Vec::new(alloc);
-    for number in 0..shape.width.wrapping_mul(shape.width.wrapping_sub(1)) {
-        let (x, y) = cell(shape, number);
-        if !is_functional(shape, x, y) {
-            bits.push(is_dark(grid, shape.width, x, y) != inverts(shape, mask, x, y))
-                .ok()?;
+/// The bits of the data cells in order, with the mask taken off: upwards and downwards in turn, the right cell of two first.
+pub fn raw_bits(
+    alloc: Global,
+    grid: &[bool],
+    shape: Shape,
+    alignments: &[(usize, usize)],
+    mask: usize,
+) -> Option<Bits> {
+    let functional = functional(alloc, shape, alignments)?;
+    let is_functional: &[bool] = &functional;
+    let width = shape.width;
+    let number = mask_number(shape, mask);
+    let mut bits = Bits::new(alloc);
+    for pair in 0..width / 2 {
+        let right = right_column(shape, pair);
+        for step in 0..width.wrapping_mul(2) {
+            let x = right.wrapping_sub(step % 2);
+            let y = if pair % 2 == 0 {
+                width.wrapping_sub(1).wrapping_sub(step / 2)
+            } else {
+                step / 2
+            };
+            let place = y.wrapping_mul(width).wrapping_add(x);
+            if place < grid.len() && place < is_functional.len() && !is_functional[place] {
+                bits.push(grid[place] != inverts(number, x, y))?;
+            }
         }
     }
     Some(bits)

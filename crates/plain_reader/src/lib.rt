@@ -1,5 +1,5 @@
 //! A plain reader of symbols, for the tests: of all versions, and of sequences. It names no other crate, so that what it reads
-//! rests on nothing of the product; it walks the cells by their numbers. A grid is a row-major list, `true` for a dark module.
+//! rests on nothing of the product. A grid is a row-major list, `true` for a dark module.
 #![tactic(auto)]
 
 mod blocks;
@@ -54,10 +54,11 @@ pub struct Seen {
 pub fn read(alloc: Global, grid: &[bool]) -> Option<Seen> {
     let shape = shape_of(grid)?;
     let (level, mask) = cells::format_of(grid, shape)?;
-    if !cells::has_patterns(grid, shape) {
+    let alignments = cells::alignments(alloc, shape)?;
+    if !cells::has_patterns(grid, shape, &alignments) {
         return None;
     }
-    let bits = cells::raw_bits(alloc, grid, shape, mask)?;
+    let bits = cells::raw_bits(alloc, grid, shape, &alignments, mask)?;
     let codewords = blocks::data_codewords(alloc, &bits, shape, level)?;
     let text = frame::read(alloc, &codewords, shape)?;
     Some(Seen {
@@ -86,15 +87,9 @@ pub fn blank_shape(number: usize, micro: bool) -> Shape {
     }
 }
 
-/// How many data cells a version has.
-pub fn data_cells(shape: Shape) -> usize {
-    let mut cells: usize = 0;
-    for number in 0..shape.width.wrapping_mul(shape.width.wrapping_sub(1)) {
-        if cells::is_data(shape, number) {
-            cells = cells.wrapping_add(1);
-        }
-    }
-    cells
+/// How many data cells a version has, where memory was found.
+pub fn data_cells(alloc: Global, shape: Shape) -> Option<usize> {
+    cells::data_cells(alloc, shape)
 }
 
 /// How many data codewords a version with so many data cells has at a level, if it has the level.

@@ -7,7 +7,7 @@ use std::alloc::Global;
 pub(crate) fn modules_of(alloc: Global, grid: &[Color]) -> Option<Vec<bool>> {
     let mut modules = Vec::with_capacity(alloc, grid.len()).ok()?;
     for color in grid {
-        modules.push(*color == Color::Dark).ok()?;
+        modules.push(matches!(color, Color::Dark)).ok()?;
     }
     Some(modules)
 }

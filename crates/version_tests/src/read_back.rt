@@ -21,8 +21,11 @@ pub(crate) fn seen(alloc: Global, bytes: &[u8], level: EcLevel, micro: bool) -> 
         symbol(alloc, bytes, level)
     };
     let grid = answer.ok()?;
-    let dark = grid.iter().map(|color| *color == Color::Dark);
-    plain_reader::read(alloc, &dark.collect::<Vec<bool>>(alloc).ok()?)
+    let mut modules = Vec::with_capacity(alloc, grid.len()).ok()?;
+    for color in &grid {
+        modules.push(matches!(color, Color::Dark)).ok()?;
+    }
+    plain_reader::read(alloc, &modules)
 }
 
 /// Whether the symbol of as many bytes as a version with so many data cells holds is read as these bytes, at this version
@@ -58,7 +61,9 @@ fn is_read_back(alloc: Global, shape: Shape, cells: usize, level: EcLevel, wante
 fn first_not_read_back(alloc: Global, versions: Range<usize>, micro: bool) -> Option<usize> {
     for number in versions {
         let shape = blank_shape(number, micro);
-        let cells = data_cells(shape);
+        let Some(cells) = data_cells(alloc, shape) else {
+            return Some(number);
+        };
         for (level, wanted) in LEVELS {
             if !is_read_back(alloc, shape, cells, level, wanted) {
                 return Some(number);

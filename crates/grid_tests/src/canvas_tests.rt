@@ -207,8 +207,9 @@ fn data_cells(alloc: Global, version: Version) -> QrResult<usize> {
     let mut cells = 0usize;
     for y in 0..width {
         for x in 0..width {
-            let module = module_at(&canvas, version, x, y);
-            cells = cells.wrapping_add(usize::from(matches!(module, Module::Empty)));
+            if matches!(canvas.get(x as i16, y as i16), Module::Empty) {
+                cells = cells.wrapping_add(1);
+            }
         }
     }
     Ok(cells)

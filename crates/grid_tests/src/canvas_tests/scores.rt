@@ -1,5 +1,7 @@
 //! Scores beside plain sums of the penalties, and beside values of other programs.
 ghost use Rattle.std.specs.Prelude.{◌≡◌, IfOk};
+ghost use Rattle.qrcode_base.specs.Symbols.{width_of};
+ghost use Rattle.qrcode_grid.specs.Canvas.{IsCoordinate};
 
 use super::plain::{MICRO_MASKS, NORMAL_MASKS, plain_penalties};
 use super::{LEVELS, draw, new_canvas, next_random, side, versions};
@@ -52,15 +54,11 @@ fn is_scored(alloc: Global, canvas: &Canvas, version: Version) -> QrResult<bool>
 }
 
 /// Writes a module in one of the seven ways.
-fn write(canvas: &mut Canvas, version: Version, x: usize, y: usize, way: u32)
-    requires { canvas.old.version ≡ version }
-    ensures { canvas.new.version ≡ version }
+fn write(canvas: &mut Canvas, x: i16, y: i16, way: u32)
+    requires column { IsCoordinate (width_of canvas.old.version) x }
+    requires row { IsCoordinate (width_of canvas.old.version) y }
+    ensures { canvas.new.version ≡ canvas.old.version }
 {
-    let width = side(version);
-    if x >= width || y >= width {
-        return;
-    }
-    let (x, y) = (x as i16, y as i16);
     match way % 7 {
         0 => canvas.put(x, y, Color::Dark),
         1 => canvas.put(x, y, Color::Light),
@@ -80,19 +78,21 @@ fn fill(canvas: &mut Canvas, version: Version, seed: u32)
     requires { canvas.old.version ≡ version }
     ensures { canvas.new.version ≡ version }
 {
+    let width = side(version);
+    let by_rows = seed % 2 == 0;
     let mut state = seed;
     let mut left = 0;
-    for i in 0..side(version) {
-        for j in 0..side(version) {
+    for i in 0..width {
+        for j in 0..width {
             if left == 0 {
                 state = next_random(state);
                 left = RUNS[(state >> 21) as usize % 8];
             }
-            left = left.saturating_sub(1);
-            if seed % 2 == 0 {
-                write(canvas, version, j, i, state >> 24);
+            left = left.wrapping_sub(1);
+            if by_rows {
+                write(canvas, j as i16, i as i16, state >> 24);
             } else {
-                write(canvas, version, i, j, state >> 24);
+                write(canvas, i as i16, j as i16, state >> 24);
             }
         }
     }
@@ -103,12 +103,14 @@ fn paint(canvas: &mut Canvas, version: Version, size: usize, first: usize)
     requires { canvas.old.version ≡ version }
     ensures { canvas.new.version ≡ version }
 {
-    for y in 0..side(version) {
-        for x in 0..side(version) {
-            let column = x.checked_div(size).unwrap_or(0);
-            let row = y.checked_div(size).unwrap_or(0);
-            let light = column.wrapping_add(row).wrapping_add(first) % 2;
-            write(canvas, version, x, y, if light == 0 { 0 } else { 1 });
+    let width = side(version);
+    let size = size.max(1);
+    for y in 0..width {
+        let row = (y / size).wrapping_add(first);
+        for x in 0..width {
+            let is_dark = (x / size).wrapping_add(row) % 2 == 0;
+            let color = if is_dark { Color::Dark } else { Color::Light };
+            canvas.put(x as i16, y as i16, color);
         }
     }
 }
@@ -210,8 +212,8 @@ fn scores_painted_canvases(rt: HostRuntime) -> QrResult<()> {
     let alloc = rt.alloc();
     for (version, want) in versions(alloc)?.iter().zip(PAINTED.iter()) {
         let mut mix = START;
+        let mut canvas = new_canvas(alloc, *version, EcLevel::L)?;
         for (size, first) in [(200, 0), (200, 1), (1, 0), (2, 1), (5, 1)] {
-            let mut canvas = new_canvas(alloc, *version, EcLevel::L)?;
             paint(&mut canvas, *version, size, first);
             mix = mixed(mix, &canvas.penalties(alloc)?);
         }
