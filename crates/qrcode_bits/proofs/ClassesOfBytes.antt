@@ -1,8 +1,7 @@
 -- The classes of bytes by their numbers, computed at each byte, and what stands at a place.
 use Rattle.qrcode_bits.proofs.Prelude.{zero, suc, ◌≡◌, ℕ, ◌+◌, ◌-◌, ◌<◌, ◌≤◌, Bool, true, false, List, ◌∷◌, length, drop, get_or, refl, ap, sym, ◌∙◌, arith}
 use Rattle.qrcode_bits.proofs.Prelude.{inl, inr, ◌⊎◌, cases_lt, drop_all, get_or-map-range_with_len, Mode, Byte, is_alphanumeric, is_kanji_pair, Class, Digit}
-use Rattle.qrcode_bits.proofs.Prelude.{Sign, Other, Pair, LoneLead, class_number, class_of, class_size, units, joins, class_mode, common_steps}
-use Rattle.std.specs.Prelude.{map}
+use Rattle.qrcode_bits.proofs.Prelude.{Sign, Other, Pair, LoneLead, class_number, class_of, class_size, units, joins, class_mode, common_steps, map}
 use Rattle.std.specs.List.{range_with_len}
 use Rattle.std.proofs.Math.Seq.{drop-cons}
 use Rattle.qrcode_bits.specs.declared.optimize.parser.TheConstants.{CLASSES}

@@ -2,9 +2,8 @@
 use Rattle.qrcode_bits.proofs.Prelude.{◌≡◌, ◌≢◌, ℕ, ◌+◌, ◌-◌, ◌^◌, ◌<◌, ◌≤◌, List, [], ◌∷◌, ◌++◌, length, take, drop, refl, ap, arith, length-append, All}
 use Rattle.qrcode_bits.proofs.Prelude.{slice_range, All-head, All-tail, Version, EcLevel, HasMode, data_bits, characters, IsValid, Segment, AreTexts}
 use Rattle.qrcode_bits.proofs.Prelude.{segment_bits, total_bits, Fits, spelling, segment_piece, segment_pieces, Header, HasHeader, header_bits, Piece}
-use Rattle.qrcode_bits.proofs.Prelude.{spellings, message, ended, IsFrame, common_steps, IsSpellable, All-nil, All-cons, subst, sym, Option}
-use Rattle.qrcode_bits.proofs.Prelude.{count_width}
-use Rattle.std.proofs.Common.{length-drop}
+use Rattle.qrcode_bits.proofs.Prelude.{spellings, message, ended, IsFrame, common_steps, IsSpellable, All-nil, All-cons, subst, sym, Option, count_width}
+use Rattle.qrcode_bits.proofs.Prelude.{length-drop}
 use Rattle.std.proofs.lemmas.List.{length-take-le}
 use Rattle.qrcode_bits.proofs.Growth.{CountsFit, fits-counts}
 use Rattle.qrcode_bits.proofs.Reading.{length-spelling}

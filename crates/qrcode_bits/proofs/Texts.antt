@@ -2,8 +2,7 @@
 use Rattle.qrcode_bits.proofs.Prelude.{◌≡◌, ℕ, ◌+◌, ◌-◌, ◌<◌, ◌≤◌, Bool, true, false, List, [], ◌∷◌, ◌++◌, length, map, take, drop, refl, sym, ap, ◌∙◌, subst}
 use Rattle.qrcode_bits.proofs.Prelude.{arith, All, slice_range, flat_map, drop-drop, take-add, take-length, All-head, All-nil, All-drop, Kanji, join}
 use Rattle.qrcode_bits.proofs.Prelude.{is_kanji_pair, IsKanjiText, IsValid, Segment, Class, Pair, Run, class_of, class_mode, class_size, joins, add_unit, runs}
-use Rattle.qrcode_bits.proofs.Prelude.{units, run_segment, parsed, AreTexts, merged, merged_all, IsMergePlan, segment_pieces, LiesIn, message}
-use Rattle.qrcode_bits.proofs.Prelude.{common_steps}
+use Rattle.qrcode_bits.proofs.Prelude.{units, run_segment, parsed, AreTexts, merged, merged_all, IsMergePlan, segment_pieces, LiesIn, message, common_steps}
 use Rattle.qrcode_base.proofs.Joins.{join-upper, join-upper_second}
 use Rattle.qrcode_base.proofs.Alphabet.{is_alphanumeric-inside}
 use Rattle.qrcode_bits.proofs.CuttingPlans.{AreNonEmpty, joined, first-some, rest-some}

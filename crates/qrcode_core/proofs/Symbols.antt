@@ -1,8 +1,7 @@
 -- The symbols of a sequence, as they are made one after the other.
 use Rattle.qrcode_core.proofs.Prelude.{common_steps, ◌≡◌, ap, ℕ, ◌+◌, ◌<◌, sym, ◌∙◌, subst, arith, inl, inr, List, [], ◌∷◌, ◌++◌, length, length-append, get_or}
 use Rattle.qrcode_core.proofs.Prelude.{IsNonDecreasing, cases_eq, get_or_append_left, get_or_push, IsPermutation-refl, Color, EcLevel, QrError, DataTooLong}
-use Rattle.qrcode_core.proofs.Prelude.{Header, InvalidResourceLimits, IsTotal, IsNormalNumber, ReadsMessage, parts_at}
-use Rattle.std.specs.Prelude.{ℤ}
+use Rattle.qrcode_core.proofs.Prelude.{Header, InvalidResourceLimits, IsTotal, IsNormalNumber, ReadsMessage, parts_at, ℤ}
 use Rattle.qrcode_bits.specs.Push.{IsPartRefused}
 use Rattle.qrcode_bits.proofs.Reading.{length-header}
 use Rattle.qrcode_core.specs.Sequence.{header_at, IsPartSymbol, AreBestSymbols, IsSomePartTooLong, IsSequenceRefusal}

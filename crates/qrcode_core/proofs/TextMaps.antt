@@ -1,6 +1,5 @@
 -- A tree of strings, read as a map from texts: what `insert` and `get` do to it.
-use Rattle.qrcode_core.proofs.Prelude.{ℕ, ◌≡◌, List, [], ◌∷◌, refl, ap, map, arith, AllZip, AllByRecursion, string_bytes, string_cmp}
-use Rattle.qrcode_core.proofs.Prelude.{common_steps}
+use Rattle.qrcode_core.proofs.Prelude.{ℕ, ◌≡◌, List, [], ◌∷◌, refl, ap, map, arith, AllZip, AllByRecursion, string_bytes, string_cmp, common_steps}
 use Rattle.std.proofs.Common.{Some, option_map, cond, String}
 use Rattle.std.specs.declared.cmp.Ordering.TheVariants.{Less}
 use Rattle.std.specs.declared.alloc.Global.{Global}

@@ -5,8 +5,7 @@ use Rattle.qrcode_grid.proofs.Prelude.{bit_at, Light, Dark, Module, Empty, code_
 use Rattle.qrcode_grid.proofs.Prelude.{masked_cell, masked_cells, format_word, normal_number, family, add-mul, mul-add, mul_assoc, mul_comm, MaskPattern}
 use Rattle.qrcode_grid.proofs.Prelude.{common_steps, same_number_lists, get_or-map, length-map, take_at, take_more, Color, Version, color_of_module, Drawing}
 use Rattle.qrcode_grid.proofs.Prelude.{with_mask, mask_penalties, colors_of, byte_of, penalty, EcLevel, width_of, Fields, Diamonds, slice_get-map}
-use Rattle.qrcode_grid.proofs.Prelude.{slice_get_within, get_or_from_slice_get}
-use Rattle.std.proofs.Common.{bit_and, bit_xor}
+use Rattle.qrcode_grid.proofs.Prelude.{slice_get_within, get_or_from_slice_get, bit_and, bit_xor}
 use Rattle.qrcode_grid.specs.declared.canvas.masks.TheConstants.{CONDITIONS}
 use Rattle.qrcode_grid.proofs.FieldLaws.{passes_below, passes_below-at}
 use Rattle.qrcode_grid.proofs.MarkedLanes.{eqb_true}

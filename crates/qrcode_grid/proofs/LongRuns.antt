@@ -1,7 +1,6 @@
 -- The runs of a line, by its fives and sixes of one colour: a run of n modules, n at least 5, has n - 4 fives and n - 5 sixes.
 use Rattle.qrcode_grid.proofs.Prelude.{◌≡◌, ℕ, zero, suc, ◌+◌, ◌-◌, ◌*◌, ◌<◌, ◌≤◌, ◌==◌, ◌&&◌, Bool, true, false, cond, List, [], ◌∷◌, length, get_or, refl}
-use Rattle.qrcode_grid.proofs.Prelude.{arith, not, ap, ◌∙◌, sym, prefix_len, eqb_tells, common_steps, count_below, sum_below}
-use Rattle.std.specs.Prelude.{nat_le}
+use Rattle.qrcode_grid.proofs.Prelude.{arith, not, ap, ◌∙◌, sym, prefix_len, eqb_tells, common_steps, count_below, sum_below, nat_le}
 use Rattle.qrcode_grid.specs.Penalty.{begins_run, run_length, runs_penalty}
 use Rattle.qrcode_grid.proofs.Totals.{total-first, total-cong}
 

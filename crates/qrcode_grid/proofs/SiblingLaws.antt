@@ -3,8 +3,7 @@ use Rattle.qrcode_grid.proofs.Prelude.{◌≡◌, ℕ, zero, suc, ◌<◌, ◌�
 use Rattle.qrcode_grid.proofs.Prelude.{get_or, Some, None, Option, unwrap_or, subst, range_with_len, false≢true, mul-add-lt, slice_get-get_or}
 use Rattle.qrcode_grid.proofs.Prelude.{get_or_from_slice_get, Color, Light, EcLevel, Version, IsVersion, width_of, MaskPattern, map_cells, functional_color}
 use Rattle.qrcode_grid.proofs.Prelude.{is_functional_cell, format_word, inverted_if, is_inverted, raw_colors, sibling, HasFunctionalColors, numbered_cell}
-use Rattle.qrcode_grid.proofs.Prelude.{timing_column, common_steps, nat_tests, is_some}
-use Rattle.std.proofs.Common.{filter}
+use Rattle.qrcode_grid.proofs.Prelude.{timing_column, common_steps, nat_tests, is_some, filter}
 use Rattle.qrcode_grid.specs.Canvas.{HasItsSiblings}
 use Rattle.qrcode_grid.proofs.Areas.{is_some-functional_color}
 use Rattle.qrcode_grid.proofs.WrittenWords.{length-enumerated, get_or-enumerated, at_place, cells_are}

@@ -1,5 +1,4 @@
-use Rattle.qrcode_bits.proofs.Prelude.{◌≡◌, ℕ, ◌<◌, length, slot}
-use Rattle.std.specs.Prelude.{None}
+use Rattle.qrcode_bits.proofs.Prelude.{◌≡◌, ℕ, ◌<◌, length, slot, None}
 use Rattle.qrcode_bits.proofs.optimize.groups.clear.Given as goal
 
 abbrev pub invariant-loop-j : goal.invariant-loop-j

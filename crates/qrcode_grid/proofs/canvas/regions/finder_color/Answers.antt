@@ -1,6 +1,5 @@
 use Rattle.qrcode_grid.proofs.Prelude.{◌≡◌, ℕ, ◌<◌, ◌+◌, ◌-◌, max, Bool, true, false, Option, Some, None, [], ◌∷◌, get_or, refl, ap, ◌∙◌, arith, false≢true}
-use Rattle.qrcode_grid.proofs.Prelude.{abs_diff, Color, Light, Dark, FINDER, finder}
-use Rattle.std.specs.Prelude.{slice_get}
+use Rattle.qrcode_grid.proofs.Prelude.{abs_diff, Color, Light, Dark, FINDER, finder, slice_get}
 use Rattle.qrcode_grid.proofs.Tests.{all_pass, passes}
 use Rattle.qrcode_grid.proofs.canvas.regions.finder_color.Goals as goal
 

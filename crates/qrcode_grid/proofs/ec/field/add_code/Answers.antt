@@ -1,5 +1,4 @@
-use Rattle.qrcode_grid.proofs.Prelude.{◌≡◌, ◌<◌, ◌++◌, length, take, ap, ◌∙◌, arith, All-take}
-use Rattle.std.proofs.Common.{length-take}
+use Rattle.qrcode_grid.proofs.Prelude.{◌≡◌, ◌<◌, ◌++◌, length, take, ap, ◌∙◌, arith, All-take, length-take}
 use Rattle.qrcode_grid.proofs.RowDivision.{put_in_zeros, value_at-completed}
 use Rattle.qrcode_grid.proofs.ec.field.add_code.Goals as goal
 

@@ -1,6 +1,5 @@
 use Rattle.qrcode_grid.proofs.Prelude.{◌≡◌, ◌+◌, ◌-◌, ℕ, ◌++◌, length, get_or, drop, ap, ◌∙◌, arith, length-append, get_or-chunk, length-chunk, get_or-drop}
-use Rattle.qrcode_grid.proofs.Prelude.{take_all, length-take, length-replicate}
-use Rattle.std.proofs.Common.{length-drop}
+use Rattle.qrcode_grid.proofs.Prelude.{take_all, length-take, length-replicate, length-drop}
 use lib.ListN.{replicate}
 use Rattle.qrcode_grid.proofs.RowDivision.{padded_at, drop-zeros}
 use Rattle.qrcode_grid.proofs.ec.field.terms_of.Goals as goal
