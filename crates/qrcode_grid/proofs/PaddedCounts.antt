@@ -3,10 +3,11 @@ use Rattle.qrcode_grid.proofs.Prelude.{◌≡◌, ℕ, zero, suc, ◌+◌, ◌-�
 use Rattle.qrcode_grid.proofs.Prelude.{sym, arith, ◌∷◌, ◌||◌, true, take, drop, inl, inr, range_with_len, mul-le-mul_right, add-mul, cases_lt, nat_tests}
 use Rattle.qrcode_grid.proofs.Prelude.{sum_below, count_below, row, column, line_penalty, is_byte_square_at, is_dark_byte, AreEdges, IsPadded, cell, has}
 use Rattle.qrcode_grid.proofs.Prelude.{has_five, has_six, has_finder, has_square, places, stride, is_quiet, common_steps, get_or_past, length-map, length-chunk}
-use Rattle.qrcode_grid.proofs.Prelude.{get_or-chunk, length-range_with_len, get_or-map-range_with_len, []}
-use Rattle.qrcode_grid.specs.Penalty.{has_at, is_finder_like}
+use Rattle.qrcode_grid.proofs.Prelude.{get_or-chunk, length-range_with_len, get_or-map-range_with_len}
+use Rattle.qrcode_grid.specs.Penalty.{is_finder_like}
+use Rattle.qrcode_grid.proofs.Windows.{are_light, is_pattern, and_seven, window_is, no_pattern}
 use Rattle.qrcode_grid.specs.declared.canvas.scoring.lists.Feature.TheVariants.{Finder, Square, Dark}
-use Rattle.qrcode_grid.proofs.MarkedLanes.{count_as_sum}
+use Rattle.qrcode_grid.proofs.MarkedLanes.{count_as_sum, count_one_more}
 use Rattle.qrcode_grid.proofs.LongRuns.{edge_within, edge, edge_past, five_of, six_of, runs_are}
 use Rattle.qrcode_grid.proofs.Totals.{total-add, total-cong, total-mul, total-plus, total-none}
 
@@ -33,6 +34,18 @@ module _ (w : ℕ) (cells : List ℕ) (y : ℕ) (square : length cells ≡ w * w
 
   pub get_or-row : (x : ℕ) → x < w → get_or (row w cells y) x 0 ≡ get_or cells (y * w + x) 0
   get_or-row x h = ap (λ k. get_or (take k (drop (y * w) cells)) x 0) whole ∙ get_or-chunk (y * w) w cells x 0 h
+
+count_places : (p : ℕ → Bool) (n : ℕ) → count_by p (range_with_len 0 n) ≡ count_below p n
+count_places p zero = refl
+count_places p (suc n) = grind (arith, count_one_more p n (p n) refl, count_places p n)
+
+-- The squares that the penalty counts of two rows are those that `count_squares` counts of them.
+pub squares_by_length : (w : ℕ) (cells : List ℕ) (y : ℕ) (next : List ℕ) → length cells ≡ w * w → y < w →
+    count_below (is_byte_square_at (row w cells y) next) (w - 1)
+    ≡ count_by (is_byte_square_at (row w cells y) next) (range_with_len 0 (length (row w cells y) - 1))
+squares_by_length w cells y next square inside =
+    ap (λ n. count_below (is_byte_square_at (row w cells y) next) (n - 1)) (sym (length-row w cells y square inside))
+    ∙ sym (count_places (is_byte_square_at (row w cells y) next) (length (row w cells y) - 1))
 
 -- a line with the four modules of the quiet zone before it
 abbrev quiet : List ℕ → List ℕ
@@ -101,57 +114,12 @@ one_is false = refl
 and_same : (a b c d a' b' c' d' : Bool) → a ≡ a' → b ≡ b' → c ≡ c' → d ≡ d' → (a && b && c && d) ≡ (a' && b' && c' && d')
 and_same a b c d a' b' c' d' ea eb ec ed = grind (arith, common_steps)
 
-and_seven : (a b c d e f g a' b' c' d' e' f' g' : Bool) → a ≡ a' → b ≡ b' → c ≡ c' → d ≡ d' → e ≡ e' → f ≡ f' → g ≡ g'
-    → (a && b && c && d && e && f && g) ≡ (a' && b' && c' && d' && e' && f' && g')
-and_seven a b c d e f g a' b' c' d' e' f' g' ea eb ec ed ee ef eg = grind (arith, common_steps)
-
 -- where a module is light that has to be dark there is no pattern
 no_third : (step : ℕ) (cells : List ℕ) (k : ℕ) → cell step cells k 6 ≡ 0 → has_finder step cells k ≡ false
 no_third step cells k e = grind (arith, nat_tests)
 
 no_last : (step : ℕ) (cells : List ℕ) (k : ℕ) → cell step cells k 10 ≡ 0 → has_finder step cells k ≡ false
 no_last step cells k e = grind (arith, nat_tests)
-
--- four light modules from place k on
-abbrev are_light : List ℕ → ℕ → Bool
-are_light line k = get_or line k 0 == 0 && get_or line (k + 1) 0 == 0 && get_or line (k + 2) 0 == 0 && get_or line (k + 3) 0 == 0
-
--- dark, light, three dark, light, dark from place k on
-abbrev is_pattern : List ℕ → ℕ → Bool
-is_pattern line k =
-    get_or line k 0 == 1 && get_or line (k + 1) 0 == 0 && get_or line (k + 2) 0 == 1 && get_or line (k + 3) 0 == 1 && get_or line (k + 4) 0 == 1
-    && get_or line (k + 5) 0 == 0 && get_or line (k + 6) 0 == 1
-
--- each module by its place from k on
-has_light : (line : List ℕ) (k : ℕ) → has_at line k (0 ∷ 0 ∷ 0 ∷ 0 ∷ []) ≡ are_light line k
-has_light line k = grind (arith, common_steps, nat_tests)
-
-regrouped : (a b c d e f g : Bool) → (a && (b && (c && (d && (e && (f && (g && true))))))) ≡ (a && b && c && d && e && f && g)
-regrouped a b c d e f g = grind (arith, common_steps)
-
-has_pattern : (line : List ℕ) (k : ℕ) → has_at line k (1 ∷ 0 ∷ 1 ∷ 1 ∷ 1 ∷ 0 ∷ 1 ∷ []) ≡ is_pattern line k
-has_pattern line k =
-    let is : ℕ → ℕ → Bool = λ m i. get_or line i 0 == m in
-    let at : (m i j : ℕ) → i ≡ j → is m i ≡ is m j = λ m i j e. ap (is m) e in
-    let next : ℕ → ℕ = λ i. i + 1 in
-    let i2 = next (k + 1) in let i3 = next i2 in let i4 = next i3 in let i5 = next i4 in let i6 = next i5 in
-    regrouped (is 1 k) (is 0 (k + 1)) (is 1 i2) (is 1 i3) (is 1 i4) (is 0 i5) (is 1 i6)
-    ∙ and_seven (is 1 k) (is 0 (k + 1)) (is 1 i2) (is 1 i3) (is 1 i4) (is 0 i5) (is 1 i6) (is 1 k) (is 0 (k + 1)) (is 1 (k + 2)) (is 1 (k + 3))
-    (is 1 (k + 4)) (is 0 (k + 5)) (is 1 (k + 6)) refl refl (at 1 i2 (k + 2) (omega arith)) (at 1 i3 (k + 3) (omega arith))
-    (at 1 i4 (k + 4) (omega arith)) (at 0 i5 (k + 5) (omega arith)) (at 1 i6 (k + 6) (omega arith))
-
-window_is : (line : List ℕ) (k : ℕ) → is_finder_like line k ≡ (is_pattern line (k + 4) && (are_light line k || are_light line (k + 11)))
-window_is line k =
-    ap (λ t. t && (has_at line k (0 ∷ 0 ∷ 0 ∷ 0 ∷ []) || has_at line (k + 11) (0 ∷ 0 ∷ 0 ∷ 0 ∷ []))) (has_pattern line (k + 4))
-    ∙ ap (λ t. is_pattern line (k + 4) && (t || has_at line (k + 11) (0 ∷ 0 ∷ 0 ∷ 0 ∷ []))) (has_light line k)
-    ∙ ap (λ t. is_pattern line (k + 4) && (are_light line k || t)) (has_light line (k + 11))
-
-no_pattern : (line : List ℕ) (k : ℕ) → get_or line (k + 4 + 6) 0 ≡ 0 → is_finder_like line k ≡ false
-no_pattern line k e = window_is line k ∙ no_window line k e
-  where
-    no_window : (line : List ℕ) (k : ℕ) → get_or line (k + 4 + 6) 0 ≡ 0 →
-        (is_pattern line (k + 4) && (are_light line k || are_light line (k + 11))) ≡ false
-    no_window line k e = grind (arith, nat_tests)
 
 -- a line of n modules, by the places of its edges and of its modules, each a step after the last
 module _ (line edges padded : List ℕ) (n step : ℕ) (at from : ℕ → ℕ) (long : length line ≡ n)
