@@ -4,13 +4,12 @@ use Rattle.qrcode_grid.proofs.Prelude.{zero, suc, ◌∷◌, ◌++◌, take, dro
 use Rattle.qrcode_grid.proofs.Prelude.{bit_at, Light, Dark, Module, Empty, code_of, masked_code, pattern_of, is_inverted, drawn_over, format_color, masked}
 use Rattle.qrcode_grid.proofs.Prelude.{masked_cell, masked_cells, format_word, normal_number, family, add-mul, mul-add, mul_assoc, mul_comm, MaskPattern}
 use Rattle.qrcode_grid.proofs.Prelude.{common_steps, same_number_lists, get_or-map, length-map, take_at, take_more, Color, Version, color_of_module, Drawing}
-use Rattle.qrcode_grid.proofs.Prelude.{with_mask, mask_penalties, colors_of, byte_of, penalty, EcLevel, width_of, Fields, Diamonds, slice_get-map}
+use Rattle.qrcode_grid.proofs.Prelude.{with_mask, mask_penalties, colors_of, byte_of, penalty, EcLevel, width_of, slice_get-map}
 use Rattle.qrcode_grid.proofs.Prelude.{slice_get_within, get_or_from_slice_get, bit_and, bit_xor}
 use Rattle.qrcode_grid.specs.declared.canvas.masks.TheConstants.{CONDITIONS}
 use Rattle.qrcode_grid.proofs.FieldLaws.{passes_below, passes_below-at}
 use Rattle.qrcode_grid.proofs.MarkedLanes.{eqb_true}
 use Rattle.qrcode_grid.proofs.WrittenWords.{length-enumerated, get_or-enumerated}
-use Rattle.qrcode_grid.specs.declared.canvas.MaskPattern.TheVariants.{Checkerboard, HorizontalLines, VerticalLines, DiagonalLines, LargeCheckerboard, Meadow}
 
 abbrev is_right : ℕ → ℕ → ℕ → Bool
 is_right y k m = eqb (bit_at (get_or (get_or CONDITIONS y []) k 0) m) (cond (is_inverted (pattern_of m) k y) 1 0)
@@ -84,24 +83,10 @@ candidate_is version w format pattern modules codes candidate coded long is =
 -- Masks by their numbers.
 
 pub pattern_of-number : (p : MaskPattern) → pattern_of (normal_number p) ≡ p
-pattern_of-number Checkerboard = refl
-pattern_of-number HorizontalLines = refl
-pattern_of-number VerticalLines = refl
-pattern_of-number DiagonalLines = refl
-pattern_of-number LargeCheckerboard = refl
-pattern_of-number Fields = refl
-pattern_of-number Diamonds = refl
-pattern_of-number Meadow = refl
+pattern_of-number p = grind arith
 
 pub number_small : (p : MaskPattern) → normal_number p < 8
-number_small Checkerboard = omega arith
-number_small HorizontalLines = omega arith
-number_small VerticalLines = omega arith
-number_small DiagonalLines = omega arith
-number_small LargeCheckerboard = omega arith
-number_small Fields = omega arith
-number_small Diamonds = omega arith
-number_small Meadow = omega arith
+number_small p = grind arith
 
 -- the modules under a mask, as the code names width, word and mask
 pub masked_by_number : (version : Version) (level : EcLevel) (p : MaskPattern) (w word : ℕ) (held modules : List Module) → w ≡ width_of version →
