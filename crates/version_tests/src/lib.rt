@@ -4,4 +4,6 @@
 #[cfg(test)]
 mod read_back;
 #[cfg(test)]
+mod turned_modules;
+#[cfg(test)]
 mod worked_symbols;

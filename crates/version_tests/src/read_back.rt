@@ -13,8 +13,13 @@ const LEVELS: [(EcLevel, Level); 4] = [
     (EcLevel::H, Level::H),
 ];
 
-/// What the plain reader sees in the symbol of some bytes, or in their Micro symbol.
-pub(crate) fn seen(alloc: Global, bytes: &[u8], level: EcLevel, micro: bool) -> Option<Seen> {
+/// The modules of the symbol of some bytes, or of their Micro symbol: `true` where one is dark.
+pub(crate) fn modules(
+    alloc: Global,
+    bytes: &[u8],
+    level: EcLevel,
+    micro: bool,
+) -> Option<Vec<bool>> {
     let answer = if micro {
         symbol_micro(alloc, bytes, level)
     } else {
@@ -25,7 +30,12 @@ pub(crate) fn seen(alloc: Global, bytes: &[u8], level: EcLevel, micro: bool) -> 
     for color in &grid {
         modules.push(matches!(color, Color::Dark)).ok()?;
     }
-    plain_reader::read(alloc, &modules)
+    Some(modules)
+}
+
+/// What the plain reader sees in the symbol of some bytes, or in their Micro symbol.
+pub(crate) fn seen(alloc: Global, bytes: &[u8], level: EcLevel, micro: bool) -> Option<Seen> {
+    plain_reader::read(alloc, &modules(alloc, bytes, level, micro)?)
 }
 
 /// Whether the symbol of as many bytes as a version with so many data cells holds is read as these bytes, at this version
