@@ -1,5 +1,5 @@
-//! Tests of correction, canvases and scores (`qrcode_grid`), by its public calls. They stand apart from their crate, so that the
-//! gate proves it once.
+//! Tests of correction, canvases and scores (`qrcode_grid`), by its public calls. They stand apart from their crate, so
+//! that the gate proves it once.
 #![tactic(auto)]
 
 #[cfg(test)]

@@ -1,5 +1,6 @@
-//! Tests of two layers under `qrcode_core`, each by its public calls: names, tables and modes (`qrcode_base`), plans and pushes
-//! (`qrcode_bits`). They stand apart from their crates, so that the gate proves those once; `grid_tests` has the third layer.
+//! Tests of two layers under `qrcode_core`, each by its public calls: names, tables and modes (`qrcode_base`), plans and
+//! pushes (`qrcode_bits`). They stand apart from their crates, so that the gate proves those once; `grid_tests` has the
+//! third layer.
 #![tactic(auto)]
 
 #[cfg(test)]

@@ -361,7 +361,8 @@ fn right_column(shape: Shape, pair: usize) -> usize {
     }
 }
 
-/// The bits of the data cells in order, with the mask taken off: upwards and downwards in turn, the right cell of two first.
+/// The bits of the data cells in order, with the mask taken off: upwards and downwards in turn, the right cell of two
+/// first.
 pub fn raw_bits(
     alloc: Global,
     grid: &[bool],
