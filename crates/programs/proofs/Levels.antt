@@ -1,5 +1,5 @@
 -- A text names one level at most.
-use Rattle.std.proofs.Common.{◌≡◌, ℕ, sym, ◌∙◌, ap, inl, inr, List}
+use Rattle.std.proofs.Common.{◌≡◌, ℕ, sym, ◌∙◌, List, arith}
 use Rattle.std.specs.Prelude.{◌==◌, ◌||◌, if◌then◌else◌, slice_index}
 use Rattle.qrcode_core.specs.declared.types.EcLevel.{EcLevel}
 use Rattle.qrcode_core.specs.declared.types.EcLevel.TheVariants.{L, M, Q, H}
@@ -14,14 +14,7 @@ first t = slice_index t 0
 
 named : (t : List ℕ) (level : EcLevel) → NamesLevel t level → letter (first t) ≡ level
 unfolding letter
-named t L (inl e) = ap (λ t. letter (first t)) e
-named t L (inr e) = ap (λ t. letter (first t)) e
-named t M (inl e) = ap (λ t. letter (first t)) e
-named t M (inr e) = ap (λ t. letter (first t)) e
-named t Q (inl e) = ap (λ t. letter (first t)) e
-named t Q (inr e) = ap (λ t. letter (first t)) e
-named t H (inl e) = ap (λ t. letter (first t)) e
-named t H (inr e) = ap (λ t. letter (first t)) e
+named t level names = grind (arith, names)
 
 pub one_level : (t : List ℕ) (a b : EcLevel) → NamesLevel t a → NamesLevel t b → a ≡ b
 one_level t a b p q = sym (named t a p) ∙ named t b q
