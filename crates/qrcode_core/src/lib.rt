@@ -25,6 +25,3 @@ pub use qrcode_bits::bits::EncodingModes;
 pub use traits::{
     Builder, Encoder, ModuleSource, ModuleStorage, ModuleView, QrCodeRef, QrSymbol, Renderer,
 };
-
-#[cfg(test)]
-mod tests;

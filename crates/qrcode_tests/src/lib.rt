@@ -1,5 +1,5 @@
-//! Tests that cross crates: symbols, sequences and views over `qrcode_core`, read back by `plain_reader`, and calls whose
-//! growths are refused (`tools/refuse-growth`).
+//! Tests that cross crates: symbols, sequences and views over `qrcode_core`, read back by `plain_reader`, and calls
+//! whose growths are refused (`tools/refuse-growth`).
 #![tactic(auto)]
 
 #[cfg(test)]
@@ -7,7 +7,11 @@ mod grids;
 #[cfg(test)]
 mod refused_growth;
 #[cfg(test)]
+mod registry_tests;
+#[cfg(test)]
 mod sequence_tests;
+#[cfg(test)]
+mod symbol_calls;
 #[cfg(test)]
 mod symbol_tests;
 #[cfg(test)]

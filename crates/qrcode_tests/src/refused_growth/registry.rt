@@ -1,6 +1,6 @@
 //! Registrations and configurations whose growths are refused.
 
-use crate::view_tests::{Darken, Plain, Text};
+use crate::registry_tests::{Darken, Plain, Text};
 use qrcode_core::plugin::{
     DynEncoder, DynRenderer, EncodeConfig, EncodedOutput, ModuleGrid, PluginError, PluginRegistry,
     PostProcessor, QrPlugin, RenderConfig, RenderOutput,

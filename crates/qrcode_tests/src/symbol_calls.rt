@@ -1,10 +1,10 @@
-//! Each call of `symbol` once, on the symbols of known rows. More tests stand in the crate `qrcode_tests`.
-use crate::bits::Bits;
-use crate::canvas::MaskPattern;
-use crate::limits::ResourceLimits;
-use crate::symbol::{Symbol, are_cuts, symbol, symbol_micro, symbol_sequence};
-use crate::traits::{ModuleSource, QrSymbol};
-use crate::types::{Color, EcLevel, QrError, Version};
+//! Each call of `symbol` once, on the symbols of known rows.
+use qrcode_core::bits::Bits;
+use qrcode_core::canvas::MaskPattern;
+use qrcode_core::limits::ResourceLimits;
+use qrcode_core::symbol::{Symbol, are_cuts, symbol, symbol_micro, symbol_sequence};
+use qrcode_core::traits::{ModuleSource, QrSymbol};
+use qrcode_core::types::{Color, EcLevel, QrError, Version};
 use std::test::Fail;
 
 /// The rows of the symbol of `12345` in M1, dark as one (ISO/IEC 18004 has none; the original crate draws it so).
