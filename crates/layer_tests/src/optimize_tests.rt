@@ -1,4 +1,4 @@
-//! Worked rows of plans, and plans beside a plain search.
+//! Worked rows of plans.
 
 ghost use Rattle.std.specs.Prelude.{◌≡◌, ◌<◌, ◌≤◌, length};
 ghost use Rattle.qrcode_base.specs.Symbols.{HasMicroNumber};
@@ -16,7 +16,7 @@ use std::sync::ledger::{Blank, Ledger};
 const ONE: Version = Version::Normal(1);
 
 /// A segment of a mode.
-const fn segment(mode: Mode, begin: usize, end: usize) -> Segment {
+pub(crate) const fn segment(mode: Mode, begin: usize, end: usize) -> Segment {
     Segment { mode, begin, end }
 }
 
@@ -52,7 +52,7 @@ fn planned(rt: &HostRuntime, segments: &[Segment], version: Version) -> QrResult
 }
 
 /// The bits of segments that are not too long for it.
-fn bits_of(segments: &[Segment], version: Version) -> usize
+pub(crate) fn bits_of(segments: &[Segment], version: Version) -> usize
     requires { HasMicroNumber version }
 {
     let mut bits = 0usize;
@@ -254,193 +254,5 @@ fn counted_plans(rt: HostRuntime) -> QrResult<()> {
     ];
     assert!(rt; plan.as_slice() == wanted.as_slice());
     assert_eq!(rt; bits_of(&plan, ONE), 95);
-    Ok(())
-}
-
-/// The versions in which plans are compared, by a number.
-fn version_of(case: usize) -> Version
-    ensures { HasMicroNumber result }
-{
-    match case {
-        0 => Version::Normal(1),
-        1 => Version::Normal(10),
-        2 => Version::Normal(27),
-        3 => Version::Micro(1),
-        4 => Version::Micro(2),
-        5 => Version::Micro(3),
-        _ => Version::Micro(4),
-    }
-}
-
-/// The parts of a plan, by the first segment of the last part up to each end.
-fn parts_of(rt: &HostRuntime, segments: &[Segment], starts: &[usize]) -> QrResult<Vec<Segment>> {
-    let mut backwards = Vec::new(rt.alloc());
-    let mut end = segments.len();
-    for _part in 0..segments.len() {
-        if end == 0 || end > segments.len() || end > starts.len() {
-            break;
-        }
-        let start = starts[end - 1];
-        if start >= end {
-            return Err(QrError::DataTooLong);
-        }
-        backwards.push(joined(&segments[start..end]))?;
-        end = start;
-    }
-    let mut parts = Vec::new(rt.alloc());
-    for part in backwards.iter().rev() {
-        parts.push(*part)?;
-    }
-    Ok(parts)
-}
-
-/// One segment for some, in the least mode that has the characters of each.
-fn joined(segments: &[Segment]) -> Segment
-    requires { 0 < length segments.now }
-{
-    let mut mode = segments[0].mode;
-    for segment in segments {
-        mode = mode.max(segment.mode);
-    }
-    segment(mode, segments[0].begin, segments[segments.len() - 1].end)
-}
-
-/// The plan of fewest bits, of those the ones of fewest parts, and of those the one whose last part begins latest, and so on
-/// backwards: by trying each start for each end.
-fn plain_plan(rt: &HostRuntime, segments: &[Segment], version: Version) -> QrResult<Vec<Segment>>
-    requires { HasMicroNumber version }
-{
-    let mut best = Vec::new(rt.alloc());
-    let mut starts = Vec::new(rt.alloc());
-    best.push((0usize, 0usize))?;
-    for end in 0..segments.len() {
-        let mut least = (usize::MAX, usize::MAX);
-        let mut first = 0;
-        let mut mode = segments[end].mode;
-        for k in 0..end + 1 {
-            let start = end - k;
-            mode = mode.max(segments[start].mode);
-            let part = [segment(mode, segments[start].begin, segments[end].end)];
-            let (bits, parts) = best.get(start).copied().unwrap_or(least);
-            let offer = (
-                bits.saturating_add(bits_of(&part, version)),
-                parts.saturating_add(1),
-            );
-            if offer.0 < least.0 || offer.0 == least.0 && offer.1 < least.1 {
-                least = offer;
-                first = start;
-            }
-        }
-        best.push(least)?;
-        starts.push(first)?;
-    }
-    parts_of(rt, segments, &starts)
-}
-
-/// Whether the chosen plan of these segments, whose costs are linear, is that of the plain search, in seven versions.
-fn agrees(rt: &HostRuntime, segments: &[Segment]) -> QrResult<bool> {
-    for case in 0..7usize {
-        let version = version_of(case);
-        if segments.is_empty() || !supports_linear_costs(segments, version) {
-            return Ok(false);
-        }
-        let plan = optimize_segments(rt.alloc(), segments, version)?;
-        if plan.as_slice() != plain_plan(rt, segments, version)?.as_slice() {
-            return Ok(false);
-        }
-    }
-    Ok(true)
-}
-
-/// A mode by a number.
-fn mode_of(number: usize) -> Mode {
-    match number % 4 {
-        0 => Mode::Numeric,
-        1 => Mode::Alphanumeric,
-        2 => Mode::Byte,
-        _ => Mode::Kanji,
-    }
-}
-
-/// The mode list of a number in base four, each segment of one length, or of the lengths 1, 2, .. in turn for the length 9.
-fn mode_list(
-    rt: &HostRuntime,
-    count: usize,
-    number: usize,
-    size: usize,
-    from: usize,
-) -> QrResult<Vec<Segment>> {
-    let mut segments = Vec::new(rt.alloc());
-    let mut digits = number;
-    let mut begin = from;
-    for place in 0..count {
-        let end = begin.saturating_add(if size == 9 { place + 1 } else { size });
-        segments.push(segment(mode_of(digits), begin, end))?;
-        digits /= 4;
-        begin = end;
-    }
-    Ok(segments)
-}
-
-/// All lists of up to five modes, the short ones in segments of each size.
-#[test]
-fn short_lists(rt: HostRuntime) -> QrResult<()> {
-    let mut lists = 1usize;
-    for count in 1..6usize {
-        lists = lists.saturating_mul(4);
-        for number in 0..lists {
-            for (place, size) in [0, 1, 2, 3, 7, 9].iter().enumerate() {
-                if count < 4 || number % 6 == place {
-                    let from = if number % 3 == 2 {
-                        usize::MAX - 4096
-                    } else {
-                        0
-                    };
-                    let segments = mode_list(&rt, count, number, *size, from)?;
-                    assert!(rt; agrees(&rt, &segments)?);
-                }
-            }
-        }
-    }
-    assert_eq!(rt; lists, 1024);
-    Ok(())
-}
-
-/// The next number of a fixed run, below a bound.
-fn next_below(state: &mut u64, bound: u64) -> usize
-    requires { 0 < bound }
-    ensures { result < bound }
-{
-    *state = state
-        .wrapping_mul(6364136223846793005)
-        .wrapping_add(1442695040888963407);
-    ((*state >> 33) % bound) as usize
-}
-
-/// 33 to 80 segments from a fixed seed, some with gaps between them.
-fn long_list(rt: &HostRuntime, state: &mut u64, from: usize) -> QrResult<Vec<Segment>> {
-    let mut segments = Vec::new(rt.alloc());
-    let mut begin = from;
-    for _place in 0..33 + next_below(state, 48) {
-        let end = begin.saturating_add(next_below(state, 12));
-        segments.push(segment(mode_of(next_below(state, 4)), begin, end))?;
-        begin = end.saturating_add(next_below(state, 3));
-    }
-    Ok(segments)
-}
-
-/// Lists that are too long to try each start of each end.
-#[test]
-fn long_lists(rt: HostRuntime) -> QrResult<()> {
-    let mut state = 7u64;
-    for case in 0..16usize {
-        let from = if case % 4 == 3 {
-            usize::MAX - 4096
-        } else {
-            case
-        };
-        let segments = long_list(&rt, &mut state, from)?;
-        assert!(rt; segments.len() > 32 && agrees(&rt, &segments)?);
-    }
     Ok(())
 }

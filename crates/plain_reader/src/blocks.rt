@@ -255,7 +255,8 @@ fn block(alloc: Global, stream: &[u8], layout: Layout, number: usize) -> Option<
     Some((all, size))
 }
 
-/// The data codewords of all blocks, one block after the other, where every block is sound and the cells left over are light.
+/// The data codewords of all blocks, one block after the other, where every block is sound and the cells left over are
+/// light.
 pub fn data_codewords(alloc: Global, bits: &Bits, shape: Shape, level: Level) -> Option<Vec<u8>> {
     let layout = layout_of(shape, level, bits.count)?;
     let stream = codewords(alloc, bits, layout)?;

@@ -8,8 +8,8 @@ fn is_dark(grid: &[bool], width: usize, x: usize, y: usize) -> bool {
     grid.get(y.wrapping_mul(width).wrapping_add(x)) == Some(&true)
 }
 
-/// How many steps lie between the first and the last centre of the alignment patterns, and how far a step is: the least even
-/// number that reaches, but 26 in version 32.
+/// How many steps lie between the first and the last centre of the alignment patterns, and how far a step is: the least
+/// even number that reaches, but 26 in version 32.
 fn alignment(number: usize) -> (usize, usize) {
     if number < 2 {
         return (0, 0);

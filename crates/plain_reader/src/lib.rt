@@ -1,5 +1,5 @@
-//! A plain reader of symbols, for the tests: of all versions, and of sequences. It names no other crate, so that what it reads
-//! rests on nothing of the product. A grid is a row-major list, `true` for a dark module.
+//! A plain reader of symbols, for the tests: of all versions, and of sequences. It names no other crate, so that what
+//! it reads rests on nothing of the product. A grid is a row-major list, `true` for a dark module.
 #![tactic(auto)]
 
 mod blocks;

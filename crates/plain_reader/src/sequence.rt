@@ -10,7 +10,8 @@ fn at_position(symbols: &[Seen], position: usize) -> Option<&Seen> {
     })
 }
 
-/// The message of some symbols, taken in an order: `None` where they are no whole sequence, or where memory was wanting.
+/// The message of some symbols, taken in an order: `None` where they are no whole sequence, or where memory was
+/// wanting.
 pub fn read_sequence(alloc: Global, grids: &[Vec<bool>], order: &[usize]) -> Option<Vec<u8>> {
     let mut symbols = Vec::new(alloc);
     for index in order {

@@ -1,5 +1,6 @@
-//! Calls that can want memory, each with its row. Where memory is found a test passes; where a growth is refused it ends with
-//! `OutOfMemory`, after it has seen what the call promises to leave; every other answer is a failed assertion.
+//! Calls that can want memory, each with its row. Where memory is found a test passes; where a growth is refused it
+//! ends with `OutOfMemory`, after it has seen what the call promises to leave; every other answer is a failed
+//! assertion.
 //!
 //! `tools/refuse-growth` refuses the growths of each test in turn.
 

@@ -6,7 +6,8 @@ use qrcode_core::types::{Color, EcLevel, QrError, QrResult};
 use std::alloc::Global;
 use std::test::Fail;
 
-/// Data, its cuts and the greatest version; then the version and the payload of each symbol, and the parity of the data.
+/// Data, its cuts and the greatest version; then the version and the payload of each symbol, and the parity of the
+/// data.
 #[derive(Clone, Copy, Drop)]
 struct Row {
     bytes: &'static [u8],

@@ -40,8 +40,9 @@ fn input(alloc: Global, kind: usize, count: usize) -> Option<Vec<u8>> {
     Some(bytes)
 }
 
-/// Answers of the original crate (2.2.0, built as it is): kind and length of the input, level, whether Micro, how many modules,
-// payload bits, hash of the modules; where it refuses, 1 for DataTooLong and 2 for InvalidVersion in place of the modules.
+/// Answers of the original crate (2.2.0, built as it is): kind and length of the input, level, whether Micro, how many
+/// modules, payload bits, hash of the modules; where it refuses, 1 for DataTooLong and 2 for InvalidVersion in place of
+/// the modules.
 const ANSWERS: [(usize, usize, usize, bool, usize, usize, u32); 100] = [
     (0, 41, 0, false, 441, 151, 0xeced6fbb),
     (0, 3058, 0, false, 14641, 10210, 0xe49f6242),

@@ -38,8 +38,8 @@ pub(crate) fn seen(alloc: Global, bytes: &[u8], level: EcLevel, micro: bool) -> 
     plain_reader::read(alloc, &modules(alloc, bytes, level, micro)?)
 }
 
-/// Whether the symbol of as many bytes as a version with so many data cells holds is read as these bytes, at this version
-/// and level (which is given in both words).
+/// Whether the symbol of as many bytes as a version with so many data cells holds is read as these bytes, at this
+/// version and level (which is given in both words).
 fn is_read_back(alloc: Global, shape: Shape, cells: usize, level: EcLevel, wanted: Level) -> bool {
     let Some(room) = data_count(shape, wanted, cells) else {
         return shape.micro;

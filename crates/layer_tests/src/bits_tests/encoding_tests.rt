@@ -261,7 +261,8 @@ fn hello_world_at_each_level(rt: HostRuntime) -> QrResult<()> {
     Ok(())
 }
 
-/// Most characters of each mode in each Micro version (ISO/IEC 18004, table 7), as the number of the version with the count.
+/// Most characters of each mode in each Micro version (ISO/IEC 18004, table 7), as the number of the version with the
+/// count.
 const LIMITS: [(EcLevel, Mode, &[(i16, usize)]); 12] = [
     (
         EcLevel::L,

@@ -43,8 +43,8 @@ const EARLIER: [&str; 16] = [
     "a", "b", "c", "d", "e", "g", "h", "i", "j", "k", "l", "m", "n", "o", "p", "q",
 ];
 
-/// How many registrations of the plugin there are after it was registered where some renderers were there: 5, or the first so
-/// many where a growth was refused.
+/// How many registrations of the plugin there are after it was registered where some renderers were there: 5, or the
+/// first so many where a growth was refused.
 fn kept_after(alloc: Global, earlier: usize) -> Result<usize, PluginError> {
     let mut registry = PluginRegistry::new(alloc);
     for name in EARLIER.iter().take(earlier) {
@@ -64,15 +64,16 @@ fn kept_after(alloc: Global, earlier: usize) -> Result<usize, PluginError> {
     Ok(kept)
 }
 
-/// A refused growth, and how many registrations stood before it; tools/refuse-growth wants to see each number from 0 to 4.
+/// A refused growth, and how many registrations stood before it; tools/refuse-growth wants to see each number from 0 to
+/// 4.
 #[derive(Debug, Drop)]
 enum Refused {
     OutOfMemory { kept: usize },
     Other(PluginError),
 }
 
-/// A refusal keeps the first registrations, and no other. (A map grows once for several names, so that the second renderer
-/// grows it only where others were there before.)
+/// A refusal keeps the first registrations, and no other. (A map grows once for several names, so that the second
+/// renderer grows it only where others were there before.)
 #[test]
 fn register_plugin_of_five(rt: HostRuntime) -> Result<(), Refused> {
     for earlier in 0..EARLIER.len() {

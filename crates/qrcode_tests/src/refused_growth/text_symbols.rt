@@ -1,4 +1,5 @@
-//! Symbols of texts. Their hashes are those of what the original crate draws of the same pushes in the smallest version.
+//! Symbols of texts. Their hashes are those of what the original crate draws of the same pushes in the smallest
+//! version.
 use crate::grids::hash;
 use qrcode_core::types::{EcLevel, QrError, QrResult};
 use std::str;
