@@ -21,11 +21,12 @@ ghost use Rattle.qrcode_bits.specs.Frame.{HasHeader, header_bits, header_of};
 
 use super::headers::{check_place, has_mode};
 use super::{Bits, data_capacity_bits};
-use crate::optimize::{Parser, Segment, optimize_segments, total_encoded_len};
+use crate::optimize::{Parser, Segment, optimize_uncounted, total_encoded_len};
 use qrcode_base::symbols::LONGEST_DATA;
 use qrcode_base::types::{EcLevel, QrError, QrResult, Version};
 use std::alloc::Global;
-use std::marker::Model;
+use std::marker::{Brand, Model};
+use std::sync::ledger::Blank;
 
 /// The header of a symbol of a sequence.
 #[derive(Drop)]
@@ -277,7 +278,7 @@ fn chosen_plan(
     if bytes.len() / 3 * 10 > limit {
         return Ok(None);
     }
-    let plan = optimize_segments(alloc, segments, version)?;
+    let plan = optimize_uncounted::<Brand>(alloc, segments, version, Blank::new(1))?;
     if !has_modes(version, &plan) {
         return Ok(None);
     }

@@ -11,12 +11,11 @@ ghost use Rattle.qrcode_bits.specs.Plans.{HasLinearCosts, IsChosenPlan, IsStep};
 ghost use Rattle.qrcode_bits.specs.Buckets.{bucket_mode, bucket_rest, AreGroups, period_bits, told, header_in};
 ghost use Rattle.qrcode_bits.specs.Buckets.{AreWhole, IsShort, AreHeaders, step_told, AreShortSteps};
 
-use super::Segment;
-use super::steps::{Comparisons, bucket_mode};
-use super::words::{NO_START, Words, word};
+use super::words::{NO_START, Words, bucket_mode, word};
+use super::{Comparisons, Segment};
 use qrcode_base::types::{Mode, QrError, QrResult, Version};
 use std::alloc::Global;
-use std::sync::ledger::Ledger;
+use std::sync::ledger::{Blank, Ledger};
 
 /// How many bits stand in front of the characters of each mode.
 #[derive(Clone, Copy)]
@@ -151,7 +150,6 @@ pub fn optimize_short<L: Ledger>(
     comparisons: &mut Comparisons<L>,
 ) -> QrResult<Vec<Segment>>
     requires micro { HasMicroNumber version }
-    requires some { 0 < length segments.now }
     requires linear { HasLinearCosts segments.now version }
     requires short { IsShort segments.now }
     ensures plan { IfOk result (λ plan. IsChosenPlan segments.now version plan.items) }
@@ -181,4 +179,24 @@ pub fn optimize_short<L: Ledger>(
         steps.push(before)?;
     }
     read_back_short(alloc, segments, version, &steps)
+}
+
+/// The chosen plan of short data, with a count of its own.
+pub fn optimize_uncounted<L: Ledger>(
+    alloc: Global,
+    segments: &[Segment],
+    version: Version,
+    blank: Blank,
+) -> QrResult<Vec<Segment>>
+    requires micro { HasMicroNumber version }
+    requires linear { HasLinearCosts segments.now version }
+    requires short { IsShort segments.now }
+    requires name { blank.name ≡ L.name }
+    requires parts { blank.parts ≡ L.parts }
+    requires part { 0 < L.parts }
+    ensures plan { IfOk result (λ plan. IsChosenPlan segments.now version plan.items) }
+    ensures memory { IfErr result (λ e. e ≡ QrError.OutOfMemory) }
+{
+    let mut comparisons: Comparisons<L> = Comparisons::new(blank);
+    optimize_short(alloc, segments, version, &mut comparisons)
 }

@@ -1,56 +1,21 @@
-//! Starts that a last part may have, how two of them are compared and counted, and the last part of the chosen plan of
+//! Starts that a last part may have, how two of them are compared, and the last part of the chosen plan of
 //! each number of first segments.
 //!
 //! `optimize_linear` calls `last_step_from` for each number of first segments, from the first on, and then `read_back`,
 //! which answers the parts of the plan. `Groups` holds the starts that are tried, by `better`.
 
-ghost use Rattle.std.specs.Prelude.{◌≡◌, ◌+◌, ◌<◌, ◌≤◌, length, IfOk, IfErr, ℕ};
+ghost use Rattle.std.specs.Prelude.{◌≡◌, ◌+◌, ◌<◌, ◌≤◌, length, IfOk, IfErr};
 ghost use Rattle.std.specs.Bool.{OnTrue, OnFalse};
 ghost use Rattle.qrcode_base.specs.Symbols.{HasMicroNumber};
 ghost use Rattle.qrcode_bits.specs.Plans.{HasLinearCosts, IsChosenPlan, IsNoWorse, IsStep, AreSteps};
-ghost use Rattle.qrcode_bits.specs.Buckets.{bucket_mode, AreGroups, IsBetterOf};
+ghost use Rattle.qrcode_bits.specs.Buckets.{AreGroups, IsBetterOf};
 
-use super::Segment;
 use super::groups::Groups;
-use qrcode_base::types::{Mode, QrError, QrResult, Version};
+use super::words::bucket_mode;
+use super::{Comparisons, Segment};
+use qrcode_base::types::{QrError, QrResult, Version};
 use std::alloc::Global;
-use std::marker::Model;
-use std::sync::ledger::{Blank, Book, Ledger, Share};
-
-/// How many comparisons were made, for contracts alone. It takes no bytes, and `tick` does nothing when it runs.
-#[derive(Drop)]
-pub struct Comparisons<L: Ledger> {
-    book: Book<L>,
-    share: Share<L>,
-}
-
-impl<L: Ledger> Model for Comparisons<L> {
-    ghost Value = { ℕ };
-
-    ghost view = { λ c. c.book.total };
-
-    ghost invariant = { λ c. 0 < c.share.parts };
-}
-
-impl<L: Ledger> Comparisons<L> {
-    /// A count of none.
-    pub fn new(blank: Blank) -> Self
-        requires name { blank.name ≡ L.name }
-        requires parts { blank.parts ≡ L.parts }
-        requires some { 0 < L.parts }
-        ensures { result ≡ 0 }
-    {
-        let (book, share) = blank.open();
-        Comparisons { book, share }
-    }
-
-    /// One comparison more.
-    pub(crate) fn tick(&mut self)
-        ensures { self.new ≡ self.old + 1 }
-    {
-        self.book.add(&mut self.share, 1);
-    }
-}
+use std::sync::ledger::Ledger;
 
 /// A start that a last part may have: the bits of the plan up to an end that is the same for all that are compared, how
 /// many parts it has with the last one, and the index of the segment at which that starts.
@@ -108,18 +73,6 @@ pub fn better<L: Ledger>(
 pub struct Step {
     pub best: Candidate,
     pub part: Segment,
-}
-
-/// The mode in which a part ends that begins at a start of a bucket.
-pub fn bucket_mode(bucket: usize) -> Mode
-    ensures { result ≡ bucket_mode bucket }
-{
-    match bucket {
-        0..=2 => Mode::Numeric,
-        3..=4 => Mode::Alphanumeric,
-        5 => Mode::Byte,
-        _ => Mode::Kanji,
-    }
 }
 
 /// The last part of the chosen plan of as many segments as there are steps, found by trying the best start of each

@@ -8,9 +8,9 @@ ghost use Rattle.std.specs.Prelude.{◌≡◌, ℕ, ◌+◌, ◌*◌, ◌-◌, �
 ghost use Rattle.std.specs.Bool.{OnTrue};
 ghost use Rattle.qrcode_bits.specs.Buckets.{HasBucket, Absorbs, Advances, IsEmptyGroup, EntersGroup, Enters, group_of};
 ghost use Rattle.qrcode_bits.specs.Buckets.{slot, word_of, starts_in, told, word_at, bucket_start, IsOffered, AreNone};
-ghost use Rattle.qrcode_bits.specs.Buckets.{IsWhole, AreWhole};
+ghost use Rattle.qrcode_bits.specs.Buckets.{IsWhole, AreWhole, bucket_mode};
 
-use super::steps::Comparisons;
+use super::Comparisons;
 use qrcode_base::types::Mode;
 use std::sync::ledger::Ledger;
 
@@ -24,6 +24,18 @@ pub struct Words {
     alphanumeric: [u64; 8],
     byte: [u64; 8],
     kanji: [u64; 8],
+}
+
+/// The mode in which a part ends that begins at a start of a bucket.
+pub fn bucket_mode(bucket: usize) -> Mode
+    ensures { result ≡ bucket_mode bucket }
+{
+    match bucket {
+        0..=2 => Mode::Numeric,
+        3..=4 => Mode::Alphanumeric,
+        5 => Mode::Byte,
+        _ => Mode::Kanji,
+    }
 }
 
 /// The word of a start.

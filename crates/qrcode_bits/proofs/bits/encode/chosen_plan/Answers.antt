@@ -1,16 +1,22 @@
 -- The chosen plan decides whether some plan fits.
 use Rattle.qrcode_bits.proofs.Prelude.{◌≡◌, refl, true, false, ◌+◌, ◌<◌, ◌≤◌, ℕ, List, ap, ◌∙◌, sym, subst, arith, All, Segment, InvalidVersion, capacity}
 use Rattle.qrcode_bits.proofs.Prelude.{HasMode, HasLinearCosts, IsChosenPlan, total_bits}
+use Rattle.qrcode_bits.specs.Buckets.{IsShort}
+use Rattle.qrcode_bits.proofs.Adjoining.{parsed-short}
 use Rattle.qrcode_bits.proofs.Pairs.{bytes_valid}
 use Rattle.qrcode_bits.proofs.Choices.{chosen_is_plan}
 use Rattle.qrcode_bits.proofs.Lengths.{dense_message}
 use Rattle.qrcode_bits.proofs.Classes.{known_limit, short-linear, plan_ordered, chosen_fits_here, lacks_mode, too_many}
 use Rattle.qrcode_bits.proofs.bits.encode.chosen_plan.Goals as goal
 
-pub optimize_segments-requires-clause-linear : goal.optimize_segments-requires-clause-linear
-optimize_segments-requires-clause-linear c = λ h.
+pub optimize_uncounted-requires-clause-linear : goal.optimize_uncounted-requires-clause-linear
+optimize_uncounted-requires-clause-linear c =
     subst (λ (s : List Segment). HasLinearCosts s c.args.version) (sym c.requires.segments)
     (short-linear c.args.bytes.now c.args.version c.requires.small c.requires.short)
+
+pub optimize_uncounted-requires-clause-short : goal.optimize_uncounted-requires-clause-short
+optimize_uncounted-requires-clause-short c =
+    subst (λ (s : List Segment). IsShort s) (sym c.requires.segments) (parsed-short c.args.bytes.now c.requires.short)
 
 pub returns-then-bytes-limit-clause-none : goal.returns-then-bytes-limit-clause-none
 returns-then-bytes-limit-clause-none c =
