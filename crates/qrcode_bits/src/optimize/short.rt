@@ -1,21 +1,202 @@
-//! The chosen plan of short data, in one pass over the segments with a word for each start.
+//! The chosen plan of short data, in one pass over the segments with a word of 64 bits for each start.
 //!
-//! `optimize_counted` calls `optimize_short`. That asks `last_step_short` for each number of first segments, from the
-//! first on, and then `read_back_short`, which answers the parts of the plan.
+//! A word has the bits of the plan above, then 13 bits of its parts, then 13 bits that fall as the start grows. So the
+//! better of two starts is the lesser word, and no start is the greatest word. For each segment `optimize_short` calls
+//! `advance` with its mode, then `enter` with its start, and then `last_step_short`, which asks for the `best` of each
+//! bucket; in the end `read_back_short` answers the parts of the plan.
 
-ghost use Rattle.std.specs.Prelude.{◌≡◌, ◌+◌, ◌*◌, ◌-◌, ◌/◌, ◌%◌, ◌^◌, ◌<◌, ◌≤◌, length, IfOk, IfErr};
-ghost use Rattle.std.specs.Bool.{OnTrue};
+ghost use Rattle.std.specs.Prelude.{◌≡◌, ℕ, ◌+◌, ◌*◌, ◌-◌, ◌/◌, ◌%◌, ◌^◌, ◌<◌, ◌≤◌, length, IfOk, IfErr};
 ghost use Rattle.qrcode_base.specs.Symbols.{HasMicroNumber};
 ghost use Rattle.qrcode_base.specs.Modes.{indicator_width, count_width, data_bits, characters};
 ghost use Rattle.qrcode_bits.specs.Plans.{HasLinearCosts, IsChosenPlan, IsStep};
 ghost use Rattle.qrcode_bits.specs.Buckets.{bucket_mode, bucket_rest, AreGroups, period_bits, told, header_in};
-ghost use Rattle.qrcode_bits.specs.Buckets.{AreWhole, IsShort, AreHeaders, step_told, AreShortSteps};
+ghost use Rattle.qrcode_bits.specs.Buckets.{AreWhole, IsShort, AreHeaders, step_told, AreShortSteps, Absorbs, Advances};
+ghost use Rattle.qrcode_bits.specs.Buckets.{IsEmptyGroup, EntersGroup, group_of, slot, word_of, starts_in, bucket_start};
+ghost use Rattle.qrcode_bits.specs.Buckets.{IsOffered, EntersAll};
 
-use super::words::{NO_START, Words, bucket_mode, word};
-use super::{Comparisons, Segment};
+use super::{Comparisons, Segment, bucket_mode};
 use qrcode_base::types::{Mode, QrError, QrResult, Version};
 use std::alloc::Global;
 use std::sync::ledger::{Blank, Ledger};
+
+/// The word for no start.
+const NO_START: u64 = u64::MAX;
+
+/// For each mode of a suffix, the best starts for each mode that a part may end in, and each rest of the begin there.
+#[derive(Clone, Copy)]
+struct Words {
+    numeric: [u64; 8],
+    alphanumeric: [u64; 8],
+    byte: [u64; 8],
+    kanji: [u64; 8],
+}
+
+/// The word of a start.
+fn word(bits: u64, parts: usize, start: usize) -> u64
+    requires bits { bits < 2 ^ 20 }
+    requires parts { parts < 8192 }
+    requires start { start < 8192 }
+    ensures word { result ≡ word_of bits parts start }
+    ensures small { result < 2 ^ 46 }
+{
+    (bits << 26) + ((parts as u64) << 13) + (8191 - start as u64)
+}
+
+/// Takes what is less in another group, bucket by bucket, from the first one that is needed to that of Byte.
+#[tactic(auto, using(crate::proofs::WordStarts::starts_of_words))]
+fn absorb<L: Ledger>(into: &mut [u64], from: &[u64], first: usize, comparisons: &mut Comparisons<L>)
+    requires into { length into.old ≡ 8 }
+    requires from { length from.now ≡ 8 }
+    requires first { first ≤ 5 }
+    ensures absorbed { Absorbs first (starts_in into.old) (starts_in from.now) (starts_in into.new) }
+    ensures long { length into.new ≡ 8 }
+    ensures ticked { comparisons.new ≤ comparisons.old + 8 }
+{
+    for j in first..6 {
+        comparisons.tick();
+        into[j] = into[j].min(from[j]);
+    }
+}
+
+/// Offers a word to a bucket, which keeps the lesser.
+fn offer<L: Ledger>(group: &mut [u64], bucket: usize, word: u64, comparisons: &mut Comparisons<L>)
+    requires inside { bucket < length group.old }
+    ensures offered { IsOffered bucket word group.old group.new }
+    ensures long { length group.new ≡ length group.old }
+    ensures ticked { comparisons.new ≡ comparisons.old + 1 }
+{
+    comparisons.tick();
+    group[bucket] = group[bucket].min(word);
+}
+
+/// Offers a start to the four buckets of its rests.
+fn enter<L: Ledger>(
+    group: &mut [u64],
+    begin: usize,
+    bits: u64,
+    parts: usize,
+    start: usize,
+    comparisons: &mut Comparisons<L>,
+)
+    requires group { length group.old ≡ 8 }
+    requires begin { begin < 8192 }
+    requires bits { bits < 2 ^ 18 }
+    requires parts { parts < 8192 }
+    requires start { start < 8192 }
+    ensures entered { EntersAll begin bits parts start (starts_in group.old) (starts_in group.new) }
+    ensures long { length group.new ≡ 8 }
+    ensures ticked { comparisons.new ≤ comparisons.old + 4 }
+{
+    let bytes = begin as u64;
+    let thirds = word(bits + 10 * (8192 - bytes / 3), parts, start);
+    let pairs = word(bits + 11 * (8192 - bytes / 2), parts, start);
+    let singles = word(bits + 8 * (8192 - bytes), parts, start);
+    let characters = word(bits + 13 * (8192 - bytes / 2), parts, start);
+    offer(group, begin % 3, thirds, comparisons);
+    offer(group, 3 + begin % 2, pairs, comparisons);
+    offer(group, 5, singles, comparisons);
+    offer(group, 6 + begin % 2, characters, comparisons);
+}
+
+impl Words {
+    /// No start yet.
+    #[tactic(auto, using(crate::proofs::WordStarts::starts_of_words))]
+    fn new() -> Self
+        ensures numeric { IsEmptyGroup (told result).numeric }
+        ensures alphanumeric { IsEmptyGroup (told result).alphanumeric }
+        ensures byte { IsEmptyGroup (told result).byte }
+        ensures kanji { IsEmptyGroup (told result).kanji }
+        ensures whole { AreWhole result }
+    {
+        Words {
+            numeric: [NO_START; 8],
+            alphanumeric: [NO_START; 8],
+            byte: [NO_START; 8],
+            kanji: [NO_START; 8],
+        }
+    }
+
+    /// Moves each group to that of its mode joined with the next segment's.
+    #[tactic(auto, using(crate::proofs::WordStarts::starts_of_words))]
+    fn advance<L: Ledger>(&mut self, incoming: Mode, comparisons: &mut Comparisons<L>)
+        requires whole { AreWhole self.old }
+        ensures advances { Advances incoming (told self.old) (told self.new) }
+        ensures whole { AreWhole self.new }
+        ensures ticked { comparisons.new ≤ comparisons.old + 24 }
+    {
+        match incoming {
+            Mode::Numeric => {
+                absorb(&mut self.byte, &self.kanji, 5, comparisons);
+                self.kanji = [NO_START; 8];
+            }
+            Mode::Alphanumeric => {
+                absorb(&mut self.alphanumeric, &self.numeric, 3, comparisons);
+                absorb(&mut self.byte, &self.kanji, 5, comparisons);
+                self.numeric = [NO_START; 8];
+                self.kanji = [NO_START; 8];
+            }
+            Mode::Byte => {
+                absorb(&mut self.byte, &self.numeric, 5, comparisons);
+                absorb(&mut self.byte, &self.alphanumeric, 5, comparisons);
+                absorb(&mut self.byte, &self.kanji, 5, comparisons);
+                self.numeric = [NO_START; 8];
+                self.alphanumeric = [NO_START; 8];
+                self.kanji = [NO_START; 8];
+            }
+            Mode::Kanji => {
+                absorb(&mut self.byte, &self.numeric, 5, comparisons);
+                absorb(&mut self.byte, &self.alphanumeric, 5, comparisons);
+                self.numeric = [NO_START; 8];
+                self.alphanumeric = [NO_START; 8];
+            }
+        }
+    }
+
+    /// Offers a start to the group of its segment's mode.
+    fn enter<L: Ledger>(
+        &mut self,
+        mode: Mode,
+        begin: usize,
+        bits: u64,
+        parts: usize,
+        start: usize,
+        comparisons: &mut Comparisons<L>,
+    )
+        requires whole { AreWhole self.old }
+        requires begin { begin < 8192 }
+        requires bits { bits < 2 ^ 18 }
+        requires parts { parts < 8192 }
+        requires start { start < 8192 }
+        ensures entered { EntersGroup mode begin bits parts start (told self.old) (told self.new) }
+        ensures whole { AreWhole self.new }
+        ensures ticked { comparisons.new ≤ comparisons.old + 4 }
+    {
+        match mode {
+            Mode::Numeric => enter(&mut self.numeric, begin, bits, parts, start, comparisons),
+            Mode::Alphanumeric => {
+                let group = &mut self.alphanumeric;
+                enter(group, begin, bits, parts, start, comparisons)
+            }
+            Mode::Byte => enter(&mut self.byte, begin, bits, parts, start, comparisons),
+            Mode::Kanji => enter(&mut self.kanji, begin, bits, parts, start, comparisons),
+        }
+    }
+
+    /// The word in a bucket of the group of a mode.
+    #[tactic(auto, using(crate::proofs::WordStarts::starts_of_words))]
+    fn best(&self, mode: Mode, bucket: usize) -> u64
+        requires inside { bucket < 8 }
+        requires whole { AreWhole self.now }
+        ensures { bucket_start bucket result ≡ slot (group_of mode (told self.now)) bucket }
+    {
+        match mode {
+            Mode::Numeric => self.numeric[bucket],
+            Mode::Alphanumeric => self.alphanumeric[bucket],
+            Mode::Byte => self.byte[bucket],
+            Mode::Kanji => self.kanji[bucket],
+        }
+    }
+}
 
 /// How many bits stand in front of the characters of each mode.
 #[derive(Clone, Copy)]

@@ -1,6 +1,6 @@
 -- Each group that goes is absorbed and cleared.
 use Rattle.qrcode_bits.proofs.Prelude.{rules, refl, arith}
-use Rattle.qrcode_bits.proofs.optimize.groups.Groups.advance.Goals as goal
+use Rattle.qrcode_bits.proofs.optimize.general.Groups.advance.Goals as goal
 
 pub returns-in-Byte-clause-advances : goal.returns-in-Byte-clause-advances
 returns-in-Byte-clause-advances g c =
