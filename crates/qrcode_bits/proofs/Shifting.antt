@@ -99,12 +99,14 @@ five_bytes_are n all is =
 -- the stream with a number of 40 bits behind it, as five bytes
 pub kept_five : (old five : List ℕ) (used partial left n wide : ℕ) → used < 8 → n < 2 ^ 40 → wide ≡ partial * 2 ^ 40 + n →
     byte_bits five ≡ number_bits 40 (wide / 2 ^ used) →
-    left ≡ bit_and n 255 % 2 ^ used → kept_bits (old ++ five) used left ≡ kept_bits old used partial ++ number_bits 40 n
+    left ≡ n % 2 ^ used → kept_bits (old ++ five) used left ≡ kept_bits old used partial ++ number_bits 40 n
 kept_five old five used partial left n wide part small whole bytes is =
     let low : number_bits used left ≡ number_bits used wide =
-    ap (λ (z : ℕ). number_bits used z) is ∙ (number_bits-mod used (bit_and n 255) ∙ (ap (λ (z : ℕ). number_bits used z) (and_mask n 8)
+    ap (λ (z : ℕ). number_bits used z) is ∙ (number_bits-mod used n
+    ∙ (let split : (n / 2 ^ 8) * 2 ^ 8 + n % 2 ^ 8 ≡ n = omega arith in ap (λ (z : ℕ). number_bits used z) (sym split)
+    ∙ (low_free used (n / 2 ^ 8) (n % 2 ^ 8) part
     ∙ (sym (low_free used (partial * 2 ^ 32 + n / 2 ^ 8) (n % 2 ^ 8) part)
-    ∙ (let same : (partial * 2 ^ 32 + n / 2 ^ 8) * 2 ^ 8 + n % 2 ^ 8 ≡ wide = omega arith in ap (λ (z : ℕ). number_bits used z) same)))) in
+    ∙ (let same : (partial * 2 ^ 32 + n / 2 ^ 8) * 2 ^ 8 + n % 2 ^ 8 ≡ wide = omega arith in ap (λ (z : ℕ). number_bits used z) same))))) in
     let cut : number_bits 40 (wide / 2 ^ used) ++ number_bits used wide ≡ number_bits used partial ++ number_bits 40 n =
     sym (number_bits-cut 40 used wide) ∙ (ap (λ (z : ℕ). number_bits z wide) (add_comm 40 used)
     ∙ (ap (λ (z : ℕ). number_bits (used + 40) z) whole ∙ number_bits-join used 40 partial n small)) in
@@ -118,7 +120,7 @@ kept_five old five used partial left n wide part small whole bytes is =
 pub appends_five : (old : Stream) (bytes now five : List ℕ) (len len' cap cap' used partial left n wide : ℕ) → old.bits ≡ kept_bits bytes used partial →
     old.room ≡ room_in cap len used →
     now ≡ bytes ++ five → len' ≡ len + 5 → cap ≤ cap' → used < 8 → n < 2 ^ 40 → wide ≡ partial * 2 ^ 40 + n →
-    byte_bits five ≡ number_bits 40 (wide / 2 ^ used) → left ≡ bit_and n 255 % 2 ^ used →
+    byte_bits five ≡ number_bits 40 (wide / 2 ^ used) → left ≡ n % 2 ^ used →
     Appends old (record {
       bits = kept_bits now used left;
       version = old.version;

@@ -13,7 +13,7 @@ ghost use Rattle.qrcode_base.specs.declared.types.Mode.TheVariants.{Numeric, Alp
 ghost use Rattle.qrcode_bits.specs.Spelling.{character_bits};
 ghost use Rattle.qrcode_bits.specs.Stream.{AreShifted, shifted, Appends};
 
-use super::{Bits, joined, low_bits};
+use super::Bits;
 use qrcode_base::characters::alphanumeric_place;
 
 impl Bits {
@@ -97,6 +97,7 @@ impl Bits {
 }
 
 /// Writes bytes behind so many bits, each shifted by these, and answers the bits that are left.
+#[tactic(auto, using(crate::proofs::Streams::low_is))]
 fn write_shifted(into: &mut [u8], text: &[u8], used: usize, partial: u8) -> u8
     requires same { length into.old ≡ length text.now }
     requires part { used < 8 }
@@ -104,12 +105,16 @@ fn write_shifted(into: &mut [u8], text: &[u8], used: usize, partial: u8) -> u8
     ensures written { AreShifted used partial text.now into.new }
     ensures left { result ≡ slice_index_or (partial ∷ text.now) (length text.now) 0 % 2 ^ used }
 {
-    let mut before = partial;
-    for i in 0..text.len() {
-        into[i] = ((joined(before, 8, u16::from(text[i])) >> used) & 0xff) as u8;
-        before = text[i];
+    let Some(last) = text.last() else {
+        return partial;
+    };
+    let wide = u16::from(partial) * 256 + u16::from(text[0]);
+    into[0] = ((wide >> used) & 0xff) as u8;
+    for i in 1..text.len() {
+        let wide = u16::from(text[i - 1]) * 256 + u16::from(text[i]);
+        into[i] = ((wide >> used) & 0xff) as u8;
     }
-    low_bits(u16::from(before), used)
+    *last & ((1 << used) - 1)
 }
 
 /// The value of a digit, of which 0 has the code 48.

@@ -279,21 +279,15 @@ fn chosen_plan(
         return Ok(None);
     }
     let plan = optimize_uncounted::<Brand>(alloc, segments, version, Blank::new(1))?;
-    if !has_modes(version, &plan) {
-        return Ok(None);
+    for part in &plan {
+        if !has_mode(version, part.mode) {
+            return Ok(None);
+        }
     }
     if front + total_encoded_len(&plan, version) > limit {
         return Ok(None);
     }
     Ok(Some(plan))
-}
-
-/// Whether a version has the modes of all segments.
-fn has_modes(version: Version, segments: &[Segment]) -> bool
-    requires { HasMicroNumber version }
-    ensures { IsTrue result ↔ All (λ part. HasMode version part.mode) segments.now }
-{
-    segments.iter().all(|part| has_mode(version, part.mode))
 }
 
 /// The bits of a plan that fits a version: a header or none, the spellings of its parts, terminator and padding.

@@ -1,4 +1,5 @@
-//! The chosen plan of short data, in one pass over the segments with a word of 64 bits for each start.
+//! The chosen plan of short data, in one pass over the segments with a word of 64 bits for each start, by
+//! `optimize_short`; who asks for no count of comparisons calls `optimize_uncounted`.
 //!
 //! A word has the bits of the plan above, then 13 bits of its parts, then 13 bits that fall as the start grows. So the
 //! better of two starts is the lesser word, and no start is the greatest word. For each segment `optimize_short` calls
@@ -12,7 +13,7 @@ ghost use Rattle.qrcode_bits.specs.Plans.{HasLinearCosts, IsChosenPlan, IsStep};
 ghost use Rattle.qrcode_bits.specs.Buckets.{bucket_mode, bucket_rest, AreGroups, period_bits, told, header_in};
 ghost use Rattle.qrcode_bits.specs.Buckets.{AreWhole, IsShort, AreHeaders, step_told, AreShortSteps, Absorbs, Advances};
 ghost use Rattle.qrcode_bits.specs.Buckets.{IsEmptyGroup, EntersGroup, group_of, slot, word_of, starts_in, bucket_start};
-ghost use Rattle.qrcode_bits.specs.Buckets.{IsOffered, EntersAll};
+ghost use Rattle.qrcode_bits.specs.Buckets.{IsOffered, Enters};
 
 use super::{Comparisons, Segment, bucket_mode};
 use qrcode_base::types::{Mode, QrError, QrResult, Version};
@@ -58,20 +59,36 @@ fn absorb<L: Ledger>(into: &mut [u64], from: &[u64], first: usize, comparisons: 
     }
 }
 
-/// Offers a word to a bucket, which keeps the lesser.
-fn offer<L: Ledger>(group: &mut [u64], bucket: usize, word: u64, comparisons: &mut Comparisons<L>)
-    requires inside { bucket < length group.old }
-    ensures offered { IsOffered bucket word group.old group.new }
-    ensures long { length group.new ≡ length group.old }
-    ensures ticked { comparisons.new ≡ comparisons.old + 1 }
+/// Offers a word to a bucket, which keeps the lesser, where the group needs it.
+fn offer<L: Ledger>(
+    group: &mut [u64],
+    mode: Mode,
+    bucket: usize,
+    word: u64,
+    comparisons: &mut Comparisons<L>,
+)
+    requires long { length group.old ≡ 8 }
+    requires inside { bucket < 8 }
+    ensures offered { IsOffered mode bucket word group.old group.new }
+    ensures long { length group.new ≡ 8 }
+    ensures ticked { comparisons.new ≤ comparisons.old + 1 }
 {
-    comparisons.tick();
-    group[bucket] = group[bucket].min(word);
+    let needed = match mode {
+        Mode::Numeric => bucket < 6,
+        Mode::Alphanumeric => 3 <= bucket && bucket < 6,
+        Mode::Byte => bucket == 5,
+        Mode::Kanji => 5 <= bucket,
+    };
+    if needed {
+        comparisons.tick();
+        group[bucket] = group[bucket].min(word);
+    }
 }
 
-/// Offers a start to the four buckets of its rests.
+/// Offers a start to the buckets of its rests.
 fn enter<L: Ledger>(
     group: &mut [u64],
+    mode: Mode,
     begin: usize,
     bits: u64,
     parts: usize,
@@ -83,7 +100,7 @@ fn enter<L: Ledger>(
     requires bits { bits < 2 ^ 18 }
     requires parts { parts < 8192 }
     requires start { start < 8192 }
-    ensures entered { EntersAll begin bits parts start (starts_in group.old) (starts_in group.new) }
+    ensures entered { Enters mode begin bits parts start (starts_in group.old) (starts_in group.new) }
     ensures long { length group.new ≡ 8 }
     ensures ticked { comparisons.new ≤ comparisons.old + 4 }
 {
@@ -92,10 +109,10 @@ fn enter<L: Ledger>(
     let pairs = word(bits + 11 * (8192 - bytes / 2), parts, start);
     let singles = word(bits + 8 * (8192 - bytes), parts, start);
     let characters = word(bits + 13 * (8192 - bytes / 2), parts, start);
-    offer(group, begin % 3, thirds, comparisons);
-    offer(group, 3 + begin % 2, pairs, comparisons);
-    offer(group, 5, singles, comparisons);
-    offer(group, 6 + begin % 2, characters, comparisons);
+    offer(group, mode, begin % 3, thirds, comparisons);
+    offer(group, mode, 3 + begin % 2, pairs, comparisons);
+    offer(group, mode, 5, singles, comparisons);
+    offer(group, mode, 6 + begin % 2, characters, comparisons);
 }
 
 impl Words {
@@ -172,13 +189,22 @@ impl Words {
         ensures ticked { comparisons.new ≤ comparisons.old + 4 }
     {
         match mode {
-            Mode::Numeric => enter(&mut self.numeric, begin, bits, parts, start, comparisons),
+            Mode::Numeric => {
+                let group = &mut self.numeric;
+                enter(group, mode, begin, bits, parts, start, comparisons)
+            }
             Mode::Alphanumeric => {
                 let group = &mut self.alphanumeric;
-                enter(group, begin, bits, parts, start, comparisons)
+                enter(group, mode, begin, bits, parts, start, comparisons)
             }
-            Mode::Byte => enter(&mut self.byte, begin, bits, parts, start, comparisons),
-            Mode::Kanji => enter(&mut self.kanji, begin, bits, parts, start, comparisons),
+            Mode::Byte => {
+                let group = &mut self.byte;
+                enter(group, mode, begin, bits, parts, start, comparisons)
+            }
+            Mode::Kanji => {
+                let group = &mut self.kanji;
+                enter(group, mode, begin, bits, parts, start, comparisons)
+            }
         }
     }
 
@@ -378,6 +404,10 @@ pub fn optimize_uncounted<L: Ledger>(
     ensures plan { IfOk result (λ plan. IsChosenPlan segments.now version plan.items) }
     ensures memory { IfErr result (λ e. e ≡ QrError.OutOfMemory) }
 {
+    if segments.len() < 2 {
+        let plan = Vec::from_slice(alloc, segments)?;
+        return Ok(plan);
+    }
     let mut comparisons: Comparisons<L> = Comparisons::new(blank);
     optimize_short(alloc, segments, version, &mut comparisons)
 }

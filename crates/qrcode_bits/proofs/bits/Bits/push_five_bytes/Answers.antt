@@ -1,5 +1,6 @@
 -- The bytes go behind the others, and the low bits are left.
 use Rattle.qrcode_bits.proofs.Prelude.{arith, ap, ◌≡◌, ◌+◌, ◌*◌, ◌%◌, ◌^◌, ℕ, refl, true, vec_len, vec_capacity, is_ok, Stream, room_in}
+use Rattle.qrcode_bits.proofs.Streams.{low_of}
 use Rattle.qrcode_bits.proofs.Shifting.{appends_five, five_bytes_are}
 use Rattle.qrcode_bits.proofs.bits.Bits.push_five_bytes.Goals as goal
 
@@ -13,7 +14,7 @@ returns c =
     let wide : ℕ = c.from.result * 2 ^ 40 % 2 ^ 64 + c.args.number in
     rw (← c.self.view_is) (appends_five _ c.self.inside.bytes.items c.extend_from_slice.new.self.items _ (vec_len c.self.inside.bytes)
     (vec_len c.extend_from_slice.new.self)
-    (vec_capacity c.self.inside.bytes) (vec_capacity c.extend_from_slice.new.self) c.self.inside.used c.self.inside.partial c.low_bits-self-inside.result
+    (vec_capacity c.self.inside.bytes) (vec_capacity c.extend_from_slice.new.self) c.self.inside.used c.self.inside.partial _
     c.args.number wide refl refl
     items (omega (arith, len)) c.extend_from_slice.ensures.capacity c.self.invariant.0.part c.requires.small
-    (omega arith) (five_bytes_are _ c.to_be_bytes.result c.to_be_bytes.ensures) c.low_bits-self-inside.ensures)
+    (omega arith) (five_bytes_are _ c.to_be_bytes.result c.to_be_bytes.ensures) (low_of 64 c.args.number c.self.inside.used (let part = c.self.invariant.0.part in omega arith)))
