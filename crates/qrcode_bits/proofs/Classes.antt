@@ -5,6 +5,8 @@ use Rattle.qrcode_bits.proofs.Prelude.{normal_blocks, capacity, HasMode, indicat
 use Rattle.qrcode_bits.proofs.Prelude.{AreTexts, HasLinearCosts, IsChosenPlan, total_bits, IsMergePlan, Fits, FitsNot, FitsNone, normal, IsLeastHolding}
 use Rattle.qrcode_bits.proofs.Prelude.{IsMinVersion, IsClass, Header, header_bits, Stream, IsPlanStream, IsEncoding, IsUnencodable, IsEncodingRefused}
 use Rattle.qrcode_bits.proofs.Prelude.{HasHeader, IsPartRefused, IsNormalNumber, LiesIn, common_steps}
+use Rattle.qrcode_bits.proofs.Prelude.{Numeric, segment_at}
+use Rattle.std.proofs.lemmas.List.{get_or_default}
 use Rattle.std.specs.Prelude.{Some, min, ◌⊎◌, option_map}
 use Rattle.qrcode_base.specs.Symbols.{data_bytes}
 use Rattle.qrcode_base.specs.declared.symbols.BlockLayout.{BlockLayout}
@@ -60,6 +62,20 @@ module _ (front : ℕ) (message : List ℕ) (v : Version) (l : EcLevel) (plan : 
   too_many over = chosen_decides front v l message plan chosen (λ fits.
       let equal : limit ≡ fits.limit = cc in
       let within = fits.within in omega arith)
+
+-- the version has the modes of all parts, where it has those of each
+pub modes_all : (v : Version) (plan items : List Segment) (n : ℕ) → items ≡ plan → length items ≤ n →
+    ((k : ℕ) → k < n → HasMode v (segment_at items k).mode) → All (λ part. HasMode v part.mode) plan
+modes_all v plan items n same long each = λ k d within.
+    subst (λ (s : Segment). HasMode v s.mode) (get_or_default plan k (record { mode = Numeric; begin = 0; end = 0 }) d within)
+    (subst (λ (z : List Segment). HasMode v (segment_at z k).mode) same (each k (omega (arith, ap length same))))
+
+-- or lacks that of one
+pub modes_lack : (v : Version) (plan items : List Segment) (i : ℕ) → items ≡ plan → i < length items →
+    (HasMode v (segment_at items i).mode → ⊥) → All (λ part. HasMode v part.mode) plan → ⊥
+modes_lack v plan items i same inside lacks has =
+    lacks (subst (λ (z : List Segment). HasMode v (segment_at z i).mode) (sym same)
+    (has i (record { mode = Numeric; begin = 0; end = 0 }) (omega (arith, ap length same))))
 
 -- ---- A class of versions
 
