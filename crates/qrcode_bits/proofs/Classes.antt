@@ -5,7 +5,9 @@ use Rattle.qrcode_bits.proofs.Prelude.{normal_blocks, capacity, HasMode, indicat
 use Rattle.qrcode_bits.proofs.Prelude.{AreTexts, HasLinearCosts, IsChosenPlan, total_bits, IsMergePlan, Fits, FitsNot, FitsNone, normal, IsLeastHolding}
 use Rattle.qrcode_bits.proofs.Prelude.{IsMinVersion, IsClass, Header, header_bits, Stream, IsPlanStream, IsEncoding, IsUnencodable, IsEncodingRefused}
 use Rattle.qrcode_bits.proofs.Prelude.{HasHeader, IsPartRefused, IsNormalNumber, LiesIn, common_steps}
-use Rattle.qrcode_bits.proofs.Prelude.{Numeric, segment_at}
+use Rattle.qrcode_bits.proofs.Prelude.{Numeric, Normal, Micro, micro, segment_at, ints, rules}
+use mir.Val.{to_z}
+use mir.Syntax.{w16}
 use Rattle.std.proofs.lemmas.List.{get_or_default}
 use Rattle.std.specs.Prelude.{Some, min, ◌⊎◌, option_map}
 use Rattle.qrcode_base.specs.Symbols.{data_bytes}
@@ -20,6 +22,13 @@ use Rattle.qrcode_bits.proofs.Choices.{chosen_is_plan, chosen_decides, fits_norm
 use Rattle.qrcode_bits.proofs.Pairs.{bytes_valid}
 
 -- ---- Costs are small
+
+-- the version of a number that is cast
+pub normal_is : (n : ℕ) → n ≤ 40 → ◌≡◌ {A = Version} (Normal (to_z w16 n)) (normal n)
+normal_is n few = search (arith, rules, ints)
+
+pub micro_is : (n : ℕ) → n ≤ 4 → ◌≡◌ {A = Version} (Micro (to_z w16 n)) (micro n)
+micro_is n few = search (arith, rules, ints)
 
 abbrev pub HasSmallHeaders : Version → Type 0
 HasSmallHeaders v = (m : Mode) → indicator_width v + count_width v m ≤ 20

@@ -164,6 +164,13 @@ pub other_number : (b number : ℕ) → number ≡ class_number (class_of b) →
     class_mode (class_of b) ≡ Byte
 other_number b number is h k l = grind (arith, not_pair)
 
+-- the class of a byte by the table
+pub class_at : (n b : ℕ) → n ≡ b → b < 256 → get_or CLASSES n 0 ≡ class_number (class_of b)
+class_at n b same within = ap (λ (z : ℕ). get_or CLASSES z 0) same ∙ classes_at b within
+
+pub lead_is : (b n : ℕ) → n ≡ 3 → n ≡ class_number (class_of b) → class_of b ≡ LoneLead
+lead_is b n three is = sym (numbered-is b n is) ∙ ap class_numbered three
+
 pub ruleset alone_segments = (alone_first, alone_more, alone_stops, numbered-is)
 
 pub ruleset pair_segments = (lone_stops, pair_more, pairs_stop, common_steps)

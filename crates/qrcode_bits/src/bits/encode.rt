@@ -134,8 +134,8 @@ pub fn encode_auto_micro(alloc: Global, bytes: &[u8], level: EcLevel) -> QrResul
         return Err(QrError::DataTooLong);
     }
     let segments = Parser::new(bytes).segments(alloc)?;
-    for smaller in 0..4 {
-        let version = micro(smaller + 1);
+    for smaller in 0..4_usize {
+        let version = Version::Micro((smaller + 1) as i16);
         if let Some(plan) = chosen_plan(alloc, 0, bytes, &segments, version, level)? {
             let bits = encode_plan(alloc, &None, bytes, version, level, &plan)?;
             return Ok(bits);
@@ -149,8 +149,8 @@ pub fn encode_auto_micro(alloc: Global, bytes: &[u8], level: EcLevel) -> QrResul
 pub fn find_min_version(length: usize, level: EcLevel) -> Version
     ensures { IsMinVersion length level result }
 {
-    for number in 1..41 {
-        let version = normal(number);
+    for number in 1..41_usize {
+        let version = Version::Normal(number as i16);
         if let Ok(limit) = data_capacity_bits(version, level) {
             if length <= limit {
                 return version;
@@ -158,24 +158,6 @@ pub fn find_min_version(length: usize, level: EcLevel) -> Version
         }
     }
     Version::Normal(40)
-}
-
-/// The Normal version of a number.
-fn normal(number: usize) -> Version
-    requires { number ≤ 40 }
-    ensures { result ≡ normal number }
-{
-    Version::Normal(number as i16)
-}
-
-/// The Micro version of a number.
-fn micro(number: usize) -> Version
-    requires from_one { 1 ≤ number }
-    requires to_four { number ≤ 4 }
-    ensures is { result ≡ micro number }
-    ensures number { HasMicroNumber result }
-{
-    Version::Micro(number as i16)
 }
 
 /// The bits of the data behind a header or none, in the smallest Normal version up to a limit, told by its number.
@@ -240,7 +222,7 @@ fn encode_class(
     ensures memory { IfErr result (λ e. e ≡ QrError.OutOfMemory) }
 {
     let front = 20 * usize::from(header.is_some());
-    let version = normal(last);
+    let version = Version::Normal(last as i16);
     let Some(plan) = chosen_plan(alloc, front, bytes, segments, version, level)? else {
         return Ok(None);
     };

@@ -333,7 +333,7 @@ fn read_back_short(
     ensures plan { IfOk result (λ plan. IsChosenPlan segments.now version plan.items) }
     ensures memory { IfErr result (λ e. e ≡ QrError.OutOfMemory) }
 {
-    let mut plan = Vec::new(alloc);
+    let mut plan = Vec::with_capacity(alloc, segments.len())?;
     let mut end = segments.len();
     while end > 0 {
         let step = steps[end];
