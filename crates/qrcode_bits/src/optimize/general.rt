@@ -1,5 +1,5 @@
-//! The chosen plan of any data, in one pass over the segments with three numbers for each start: its bits in 128 bits, so
-//! that no sum wraps, its parts and its place.
+//! The chosen plan of any data, in one pass over the segments with three numbers for each start: its bits, so wide that
+//! no sum wraps, its parts and its place.
 //!
 //! For each segment `optimize_linear` calls `advance` with its mode, then `enter` with its start, and then
 //! `last_step_from`, which asks for the `best` of each bucket; in the end `read_back` answers the parts of the plan.
@@ -95,16 +95,6 @@ fn absorb<L: Ledger>(
     }
 }
 
-/// Takes all starts out of a group.
-fn clear(group: &mut [Option<Candidate>])
-    requires { length group.old ≡ 8 }
-    ensures { IsEmptyGroup group.new }
-{
-    for j in 0..8 {
-        group[j] = None;
-    }
-}
-
 /// Offers a candidate to a bucket.
 fn offer<L: Ledger>(
     group: &mut [Option<Candidate>],
@@ -177,27 +167,27 @@ impl Groups {
         match incoming {
             Mode::Numeric => {
                 absorb(&mut self.byte, &self.kanji, comparisons);
-                clear(&mut self.kanji);
+                self.kanji = [None; 8];
             }
             Mode::Alphanumeric => {
                 absorb(&mut self.alphanumeric, &self.numeric, comparisons);
                 absorb(&mut self.byte, &self.kanji, comparisons);
-                clear(&mut self.numeric);
-                clear(&mut self.kanji);
+                self.numeric = [None; 8];
+                self.kanji = [None; 8];
             }
             Mode::Byte => {
                 absorb(&mut self.byte, &self.numeric, comparisons);
                 absorb(&mut self.byte, &self.alphanumeric, comparisons);
                 absorb(&mut self.byte, &self.kanji, comparisons);
-                clear(&mut self.numeric);
-                clear(&mut self.alphanumeric);
-                clear(&mut self.kanji);
+                self.numeric = [None; 8];
+                self.alphanumeric = [None; 8];
+                self.kanji = [None; 8];
             }
             Mode::Kanji => {
                 absorb(&mut self.byte, &self.numeric, comparisons);
                 absorb(&mut self.byte, &self.alphanumeric, comparisons);
-                clear(&mut self.numeric);
-                clear(&mut self.alphanumeric);
+                self.numeric = [None; 8];
+                self.alphanumeric = [None; 8];
             }
         }
     }

@@ -1,5 +1,4 @@
-//! The chosen plan of short data, in one pass over the segments with a word of 64 bits for each start, by
-//! `optimize_short`; who asks for no count of comparisons calls `optimize_uncounted`.
+//! The chosen plan of short data, in one pass over the segments with a word of 64 bits for each start.
 //!
 //! A word has the bits of the plan above, then 13 bits of its parts, then 13 bits that fall as the start grows. So the
 //! better of two starts is the lesser word, and no start is the greatest word. For each segment `optimize_short` calls
@@ -12,13 +11,13 @@ ghost use Rattle.qrcode_base.specs.Modes.{indicator_width, count_width, data_bit
 ghost use Rattle.qrcode_bits.specs.Plans.{HasLinearCosts, IsChosenPlan, IsStep};
 ghost use Rattle.qrcode_bits.specs.Buckets.{bucket_mode, bucket_rest, AreGroups, period_bits, told, header_in};
 ghost use Rattle.qrcode_bits.specs.Buckets.{AreWhole, IsShort, AreHeaders, step_told, AreShortSteps, Absorbs, Advances};
-ghost use Rattle.qrcode_bits.specs.Buckets.{IsEmptyGroup, EntersGroup, group_of, slot, word_of, starts_in, bucket_start};
-ghost use Rattle.qrcode_bits.specs.Buckets.{IsOffered, Enters};
+ghost use Rattle.qrcode_bits.specs.Buckets.{IsEmptyGroup, EntersGroup, group_of, slot, word_of, starts_in};
+ghost use Rattle.qrcode_bits.specs.Buckets.{IsOffered, Enters, bucket_start};
 
 use super::{Comparisons, Segment, bucket_mode};
 use qrcode_base::types::{Mode, QrError, QrResult, Version};
 use std::alloc::Global;
-use std::sync::ledger::{Blank, Ledger};
+use std::sync::ledger::Ledger;
 
 /// The word for no start.
 const NO_START: u64 = u64::MAX;
@@ -386,28 +385,4 @@ pub fn optimize_short<L: Ledger>(
         steps.push(before)?;
     }
     read_back_short(alloc, segments, version, &steps)
-}
-
-/// The chosen plan of short data, with a count of its own.
-pub fn optimize_uncounted<L: Ledger>(
-    alloc: Global,
-    segments: &[Segment],
-    version: Version,
-    blank: Blank,
-) -> QrResult<Vec<Segment>>
-    requires micro { HasMicroNumber version }
-    requires linear { HasLinearCosts segments.now version }
-    requires short { IsShort segments.now }
-    requires name { blank.name ≡ L.name }
-    requires parts { blank.parts ≡ L.parts }
-    requires part { 0 < L.parts }
-    ensures plan { IfOk result (λ plan. IsChosenPlan segments.now version plan.items) }
-    ensures memory { IfErr result (λ e. e ≡ QrError.OutOfMemory) }
-{
-    if segments.len() < 2 {
-        let plan = Vec::from_slice(alloc, segments)?;
-        return Ok(plan);
-    }
-    let mut comparisons: Comparisons<L> = Comparisons::new(blank);
-    optimize_short(alloc, segments, version, &mut comparisons)
 }

@@ -17,4 +17,5 @@ returns c =
     (vec_capacity c.self.inside.bytes) (vec_capacity c.extend_from_slice.new.self) c.self.inside.used c.self.inside.partial _
     c.args.number wide refl refl
     items (omega (arith, len)) c.extend_from_slice.ensures.capacity c.self.invariant.0.part c.requires.small
-    (omega arith) (five_bytes_are _ c.to_be_bytes.result c.to_be_bytes.ensures) (low_of 64 c.args.number c.self.inside.used (let part = c.self.invariant.0.part in omega arith)))
+    (omega arith) (five_bytes_are _ c.to_be_bytes.result c.to_be_bytes.ensures)
+    (low_of 64 c.args.number c.self.inside.used (let part = c.self.invariant.0.part in omega arith)))

@@ -1,5 +1,5 @@
 -- One place more is filled.
-use Rattle.qrcode_bits.proofs.Prelude.{arith, common_steps, get_or, ◌-◌, ◌+◌, ◌*◌}
+use Rattle.qrcode_bits.proofs.Prelude.{arith, common_steps, get_or, ◌-◌}
 use Rattle.qrcode_bits.proofs.Shifting.{shifted_more}
 use Rattle.qrcode_bits.proofs.bits.characters.write_shifted.Goals as goal
 

@@ -1,6 +1,6 @@
 -- The chosen plan decides whether some plan fits.
 use Rattle.qrcode_bits.proofs.Prelude.{◌≡◌, refl, true, false, ◌+◌, ◌<◌, ◌≤◌, ℕ, List, ap, ◌∙◌, sym, subst, arith, All, Segment, InvalidVersion, capacity}
-use Rattle.qrcode_bits.proofs.Prelude.{HasMode, HasLinearCosts, IsChosenPlan, total_bits}
+use Rattle.qrcode_bits.proofs.Prelude.{HasLinearCosts, IsChosenPlan, total_bits}
 use Rattle.qrcode_bits.proofs.Prelude.{cases_lt, inl, inr}
 use Rattle.qrcode_bits.specs.Buckets.{IsShort}
 use Rattle.qrcode_bits.proofs.Adjoining.{parsed-short}

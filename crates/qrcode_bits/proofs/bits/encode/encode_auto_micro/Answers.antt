@@ -20,21 +20,24 @@ returns-in-Some-clause-ok c =
     let message = c.args.bytes.now in
     let plan = c.in-Some.plan.items in
     let number = c.loop-smaller.smaller + 1 in
-    let chosen = subst (λ (v : Version). IsChosenPlan (parsed message) v plan) (micro_is (c.loop-smaller.smaller + 1) (omega arith)) (rw c.in-Some.is at c.in_ok-plan.ensures.chosen) in
-    let fits = subst (λ (v : Version). Fits 0 message v c.args.level plan) (micro_is (c.loop-smaller.smaller + 1) (omega arith)) (rw c.in-Some.is at c.in_ok-plan.ensures.fits) in
-    let stream = subst (λ (p : List Segment). IsPlanStream None message (Micro (to_z w16 (c.loop-smaller.smaller + 1))) c.args.level p c.in_ok-bits.bits) c.deref-in-Some.ensures.value
+    let is = micro_is number (omega arith) in
+    let chosen = subst (λ (v : Version). IsChosenPlan (parsed message) v plan) is (rw c.in-Some.is at c.in_ok-plan.ensures.chosen) in
+    let fits = subst (λ (v : Version). Fits 0 message v c.args.level plan) is (rw c.in-Some.is at c.in_ok-plan.ensures.fits) in
+    let stream = subst (λ (p : List Segment). IsPlanStream None message (Micro (to_z w16 number)) c.args.level p c.in_ok-bits.bits)
+    c.deref-in-Some.ensures.value
     c.in_ok-bits.ensures.ok in
     record {
       number = number;
       plan = plan;
       choice = micro_choice message c.args.level c.loop-smaller.smaller plan (omega arith) c.loop-smaller.invariant chosen fits;
-      stream_is = subst (λ (v : Version). IsPlanStream None message v c.args.level plan c.in_ok-bits.bits) (micro_is (c.loop-smaller.smaller + 1) (omega arith)) stream;
+      stream_is = subst (λ (v : Version). IsPlanStream None message v c.args.level plan c.in_ok-bits.bits) is stream;
     }
 
 pub loop-smaller-preserved : goal.loop-smaller-preserved
 loop-smaller-preserved c =
+    let is = micro_is (c.loop-smaller.smaller + 1) (omega arith) in
     micro_next c.args.bytes.now c.args.level c.loop-smaller.smaller c.loop-smaller.invariant
-    (subst (λ (v : Version). FitsNot 0 c.args.bytes.now v c.args.level) (micro_is (c.loop-smaller.smaller + 1) (omega arith))
+    (subst (λ (v : Version). FitsNot 0 c.args.bytes.now v c.args.level) is
     (rw c.in_default.is at c.in_ok-plan.ensures.none))
 
 pub returns-clause-err : goal.returns-clause-err
