@@ -12,7 +12,7 @@ ghost use Rattle.qrcode_bits.specs.Plans.{HasLinearCosts, IsChosenPlan, IsStep};
 ghost use Rattle.qrcode_bits.specs.Buckets.{bucket_mode, bucket_rest, AreGroups, period_bits, told, header_in};
 ghost use Rattle.qrcode_bits.specs.Buckets.{AreWhole, IsShort, AreHeaders, step_told, AreShortSteps, Absorbs, Advances};
 ghost use Rattle.qrcode_bits.specs.Buckets.{IsEmptyGroup, EntersGroup, group_of, slot, word_of, starts_in};
-ghost use Rattle.qrcode_bits.specs.Buckets.{IsOffered, Enters, bucket_start};
+ghost use Rattle.qrcode_bits.specs.Buckets.{IsOffered, Enters, bucket_start, IsWhole};
 
 use super::{Comparisons, Segment, bucket_mode};
 use qrcode_base::types::{Mode, QrError, QrResult, Version};
@@ -42,19 +42,38 @@ fn word(bits: u64, parts: usize, start: usize) -> u64
     (bits << 26) + ((parts as u64) << 13) + (8191 - start as u64)
 }
 
-/// Takes what is less in another group, bucket by bucket, from the first one that is needed to that of Byte.
+/// Takes what is less in another group, bucket by bucket, from the first one that is needed to that of Byte. A group
+/// has no start where its Byte bucket has none.
 #[tactic(auto, using(crate::proofs::WordStarts::starts_of_words))]
 fn absorb<L: Ledger>(into: &mut [u64], from: &[u64], first: usize, comparisons: &mut Comparisons<L>)
-    requires into { length into.old ≡ 8 }
-    requires from { length from.now ≡ 8 }
+    requires into { IsWhole into.old }
+    requires from { IsWhole from.now }
     requires first { first ≤ 5 }
     ensures absorbed { Absorbs first (starts_in into.old) (starts_in from.now) (starts_in into.new) }
-    ensures long { length into.new ≡ 8 }
+    ensures whole { IsWhole into.new }
     ensures ticked { comparisons.new ≤ comparisons.old + 8 }
 {
+    if from[5] >= 1 << 50 {
+        return;
+    }
     for j in first..6 {
         comparisons.tick();
         into[j] = into[j].min(from[j]);
+    }
+}
+
+/// Takes all starts out of a group.
+#[tactic(auto, using(crate::proofs::WordStarts::starts_of_words))]
+fn clear(group: &mut [u64])
+    requires { IsWhole group.old }
+    ensures empty { IsEmptyGroup (starts_in group.new) }
+    ensures whole { IsWhole group.new }
+{
+    if group[5] >= 1 << 50 {
+        return;
+    }
+    for j in 0..8 {
+        group[j] = NO_START;
     }
 }
 
@@ -94,13 +113,13 @@ fn enter<L: Ledger>(
     start: usize,
     comparisons: &mut Comparisons<L>,
 )
-    requires group { length group.old ≡ 8 }
+    requires group { IsWhole group.old }
     requires begin { begin < 8192 }
     requires bits { bits < 2 ^ 18 }
     requires parts { parts < 8192 }
     requires start { start < 8192 }
     ensures entered { Enters mode begin bits parts start (starts_in group.old) (starts_in group.new) }
-    ensures long { length group.new ≡ 8 }
+    ensures whole { IsWhole group.new }
     ensures ticked { comparisons.new ≤ comparisons.old + 4 }
 {
     let bytes = begin as u64;
@@ -143,27 +162,27 @@ impl Words {
         match incoming {
             Mode::Numeric => {
                 absorb(&mut self.byte, &self.kanji, 5, comparisons);
-                self.kanji = [NO_START; 8];
+                clear(&mut self.kanji);
             }
             Mode::Alphanumeric => {
                 absorb(&mut self.alphanumeric, &self.numeric, 3, comparisons);
                 absorb(&mut self.byte, &self.kanji, 5, comparisons);
-                self.numeric = [NO_START; 8];
-                self.kanji = [NO_START; 8];
+                clear(&mut self.numeric);
+                clear(&mut self.kanji);
             }
             Mode::Byte => {
                 absorb(&mut self.byte, &self.numeric, 5, comparisons);
                 absorb(&mut self.byte, &self.alphanumeric, 5, comparisons);
                 absorb(&mut self.byte, &self.kanji, 5, comparisons);
-                self.numeric = [NO_START; 8];
-                self.alphanumeric = [NO_START; 8];
-                self.kanji = [NO_START; 8];
+                clear(&mut self.numeric);
+                clear(&mut self.alphanumeric);
+                clear(&mut self.kanji);
             }
             Mode::Kanji => {
                 absorb(&mut self.byte, &self.numeric, 5, comparisons);
                 absorb(&mut self.byte, &self.alphanumeric, 5, comparisons);
-                self.numeric = [NO_START; 8];
-                self.alphanumeric = [NO_START; 8];
+                clear(&mut self.numeric);
+                clear(&mut self.alphanumeric);
             }
         }
     }
@@ -188,22 +207,29 @@ impl Words {
         ensures ticked { comparisons.new ≤ comparisons.old + 4 }
     {
         match mode {
-            Mode::Numeric => {
-                let group = &mut self.numeric;
-                enter(group, mode, begin, bits, parts, start, comparisons)
-            }
+            Mode::Numeric => enter(
+                &mut self.numeric,
+                mode,
+                begin,
+                bits,
+                parts,
+                start,
+                comparisons,
+            ),
             Mode::Alphanumeric => {
                 let group = &mut self.alphanumeric;
                 enter(group, mode, begin, bits, parts, start, comparisons)
             }
-            Mode::Byte => {
-                let group = &mut self.byte;
-                enter(group, mode, begin, bits, parts, start, comparisons)
-            }
-            Mode::Kanji => {
-                let group = &mut self.kanji;
-                enter(group, mode, begin, bits, parts, start, comparisons)
-            }
+            Mode::Byte => enter(&mut self.byte, mode, begin, bits, parts, start, comparisons),
+            Mode::Kanji => enter(
+                &mut self.kanji,
+                mode,
+                begin,
+                bits,
+                parts,
+                start,
+                comparisons,
+            ),
         }
     }
 
@@ -332,7 +358,7 @@ fn read_back_short(
     ensures plan { IfOk result (λ plan. IsChosenPlan segments.now version plan.items) }
     ensures memory { IfErr result (λ e. e ≡ QrError.OutOfMemory) }
 {
-    let mut plan = Vec::with_capacity(alloc, segments.len())?;
+    let mut plan = Vec::new(alloc);
     let mut end = segments.len();
     while end > 0 {
         let step = steps[end];
