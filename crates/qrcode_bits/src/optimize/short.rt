@@ -42,8 +42,7 @@ fn word(bits: u64, parts: usize, start: usize) -> u64
     (bits << 26) + ((parts as u64) << 13) + (8191 - start as u64)
 }
 
-/// Takes what is less in another group, bucket by bucket, from the first one that is needed to that of Byte. A group
-/// has no start where its Byte bucket has none.
+/// Takes what is less in another group, bucket by bucket, from the first one that is needed to that of Byte.
 #[tactic(auto, using(crate::proofs::WordStarts::starts_of_words))]
 fn absorb<L: Ledger>(into: &mut [u64], from: &[u64], first: usize, comparisons: &mut Comparisons<L>)
     requires into { IsWhole into.old }
@@ -53,12 +52,11 @@ fn absorb<L: Ledger>(into: &mut [u64], from: &[u64], first: usize, comparisons: 
     ensures whole { IsWhole into.new }
     ensures ticked { comparisons.new ≤ comparisons.old + 8 }
 {
-    if from[5] >= 1 << 50 {
-        return;
-    }
-    for j in first..6 {
-        comparisons.tick();
-        into[j] = into[j].min(from[j]);
+    if from[5] < 1 << 50 {
+        for j in first..6 {
+            comparisons.tick();
+            into[j] = into[j].min(from[j]);
+        }
     }
 }
 
@@ -69,11 +67,8 @@ fn clear(group: &mut [u64])
     ensures empty { IsEmptyGroup (starts_in group.new) }
     ensures whole { IsWhole group.new }
 {
-    if group[5] >= 1 << 50 {
-        return;
-    }
-    for j in 0..8 {
-        group[j] = NO_START;
+    if group[5] < 1 << 50 {
+        group.fill(NO_START);
     }
 }
 
@@ -207,29 +202,19 @@ impl Words {
         ensures ticked { comparisons.new ≤ comparisons.old + 4 }
     {
         match mode {
-            Mode::Numeric => enter(
-                &mut self.numeric,
-                mode,
-                begin,
-                bits,
-                parts,
-                start,
-                comparisons,
-            ),
+            Mode::Numeric => {
+                let group = &mut self.numeric;
+                enter(group, mode, begin, bits, parts, start, comparisons)
+            }
             Mode::Alphanumeric => {
                 let group = &mut self.alphanumeric;
                 enter(group, mode, begin, bits, parts, start, comparisons)
             }
             Mode::Byte => enter(&mut self.byte, mode, begin, bits, parts, start, comparisons),
-            Mode::Kanji => enter(
-                &mut self.kanji,
-                mode,
-                begin,
-                bits,
-                parts,
-                start,
-                comparisons,
-            ),
+            Mode::Kanji => {
+                let group = &mut self.kanji;
+                enter(group, mode, begin, bits, parts, start, comparisons)
+            }
         }
     }
 
