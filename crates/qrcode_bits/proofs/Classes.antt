@@ -5,6 +5,10 @@ use Rattle.qrcode_bits.proofs.Prelude.{normal_blocks, capacity, HasMode, indicat
 use Rattle.qrcode_bits.proofs.Prelude.{AreTexts, HasLinearCosts, IsChosenPlan, total_bits, IsMergePlan, Fits, FitsNot, FitsNone, normal, IsLeastHolding}
 use Rattle.qrcode_bits.proofs.Prelude.{IsMinVersion, IsClass, Header, header_bits, Stream, IsPlanStream, IsEncoding, IsUnencodable, IsEncodingRefused}
 use Rattle.qrcode_bits.proofs.Prelude.{HasHeader, IsPartRefused, IsNormalNumber, LiesIn, common_steps}
+use Rattle.qrcode_bits.proofs.Prelude.{Numeric, Normal, Micro, micro, segment_at, ints, rules}
+use mir.Val.{to_z}
+use mir.Syntax.{w16}
+use Rattle.std.proofs.lemmas.List.{get_or_default}
 use Rattle.std.specs.Prelude.{Some, min, ◌⊎◌, option_map}
 use Rattle.qrcode_base.specs.Symbols.{data_bytes}
 use Rattle.qrcode_base.specs.declared.symbols.BlockLayout.{BlockLayout}
@@ -18,6 +22,13 @@ use Rattle.qrcode_bits.proofs.Choices.{chosen_is_plan, chosen_decides, fits_norm
 use Rattle.qrcode_bits.proofs.Pairs.{bytes_valid}
 
 -- ---- Costs are small
+
+-- the version of a number that is cast
+pub normal_is : (n : ℕ) → n ≤ 40 → ◌≡◌ {A = Version} (Normal (to_z w16 n)) (normal n)
+normal_is n few = search (arith, rules, ints)
+
+pub micro_is : (n : ℕ) → n ≤ 4 → ◌≡◌ {A = Version} (Micro (to_z w16 n)) (micro n)
+micro_is n few = search (arith, rules, ints)
 
 abbrev pub HasSmallHeaders : Version → Type 0
 HasSmallHeaders v = (m : Mode) → indicator_width v + count_width v m ≤ 20
@@ -60,6 +71,20 @@ module _ (front : ℕ) (message : List ℕ) (v : Version) (l : EcLevel) (plan : 
   too_many over = chosen_decides front v l message plan chosen (λ fits.
       let equal : limit ≡ fits.limit = cc in
       let within = fits.within in omega arith)
+
+-- the version has the modes of all parts, where it has those of each
+pub modes_all : (v : Version) (plan items : List Segment) (n : ℕ) → items ≡ plan → length items ≤ n →
+    ((k : ℕ) → k < n → HasMode v (segment_at items k).mode) → All (λ part. HasMode v part.mode) plan
+modes_all v plan items n same long each = λ k d within.
+    subst (λ (s : Segment). HasMode v s.mode) (get_or_default plan k (record { mode = Numeric; begin = 0; end = 0 }) d within)
+    (subst (λ (z : List Segment). HasMode v (segment_at z k).mode) same (each k (omega (arith, ap length same))))
+
+-- or lacks that of one
+pub modes_lack : (v : Version) (plan items : List Segment) (i : ℕ) → items ≡ plan → i < length items →
+    (HasMode v (segment_at items i).mode → ⊥) → All (λ part. HasMode v part.mode) plan → ⊥
+modes_lack v plan items i same inside lacks has =
+    lacks (subst (λ (z : List Segment). HasMode v (segment_at z i).mode) (sym same)
+    (has i (record { mode = Numeric; begin = 0; end = 0 }) (omega (arith, ap length same))))
 
 -- ---- A class of versions
 

@@ -2,6 +2,7 @@
 use Rattle.qrcode_bits.proofs.Prelude.{zero, suc, ◌≡◌, ℕ, ◌+◌, ◌-◌, ◌<◌, ◌≤◌, Bool, true, false, List, ◌∷◌, length, drop, get_or, refl, ap, sym, ◌∙◌, arith}
 use Rattle.qrcode_bits.proofs.Prelude.{inl, inr, ◌⊎◌, cases_lt, drop_all, get_or-map-range_with_len, Mode, Byte, is_alphanumeric, is_kanji_pair, Class, Digit}
 use Rattle.qrcode_bits.proofs.Prelude.{Sign, Other, Pair, LoneLead, class_number, class_of, class_size, units, joins, class_mode, common_steps, map}
+use Rattle.std.proofs.Common.{Fits, w8}
 use Rattle.std.specs.List.{range_with_len}
 use Rattle.std.proofs.Math.Seq.{drop-cons}
 use Rattle.qrcode_bits.specs.declared.optimize.parser.TheConstants.{CLASSES}
@@ -163,6 +164,14 @@ mode_of_number b number mode is h = grind (arith, numbered-is)
 pub other_number : (b number : ℕ) → number ≡ class_number (class_of b) → (number ≡ 0 → ⊥) → (number ≡ 1 → ⊥) → (number ≡ 3 → ⊥) →
     class_mode (class_of b) ≡ Byte
 other_number b number is h k l = grind (arith, not_pair)
+
+-- the class of a byte by the table
+pub class_at : (bytes : List ℕ) (i n : ℕ) → n ≡ get_or bytes i 0 → ((k : ℕ) → Fits w8 (get_or bytes k 0)) →
+    get_or CLASSES n 0 ≡ class_number (class_of (get_or bytes i 0))
+class_at bytes i n same within = ap (λ (z : ℕ). get_or CLASSES z 0) same ∙ classes_at (get_or bytes i 0) (omega (arith, within i))
+
+pub lead_is : (b n : ℕ) → n ≡ 3 → n ≡ class_number (class_of b) → class_of b ≡ LoneLead
+lead_is b n three is = sym (numbered-is b n is) ∙ ap class_numbered three
 
 pub ruleset alone_segments = (alone_first, alone_more, alone_stops, numbered-is)
 

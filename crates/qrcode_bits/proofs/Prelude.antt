@@ -45,7 +45,7 @@ pub use Rattle.qrcode_bits.specs.Push.{IsPlanStream, IsPushRefused, IsUnencodabl
 pub use Rattle.qrcode_bits.specs.Spelling.{IsSpellable, IsSpelling, LiesIn, Piece, character_bits, segment_piece, segment_pieces, spelling}
 pub use Rattle.qrcode_bits.specs.Stream.{Appends, AreShifted, IsKept, Reserves, Stream, eci_spelling, kept_bits, room_in, shifted}
 pub use Rattle.qrcode_bits.specs.declared.optimize.Segment.{Segment}
-pub use Rattle.qrcode_bits.specs.declared.optimize.groups.Groups.{Groups}
+pub use Rattle.qrcode_bits.specs.declared.optimize.general.Groups.{Groups}
 pub use Rattle.qrcode_bits.specs.declared.optimize.short.TheConstants.{PERIOD_BITS, RESTS}
-pub use Rattle.qrcode_bits.specs.declared.optimize.steps.Candidate.{Candidate}
-pub use Rattle.qrcode_bits.specs.declared.optimize.steps.Step.{Step}
+pub use Rattle.qrcode_bits.specs.declared.optimize.general.Candidate.{Candidate}
+pub use Rattle.qrcode_bits.specs.declared.optimize.general.Step.{Step}

@@ -3,6 +3,9 @@ use Rattle.qrcode_bits.proofs.Prelude.{◌≡◌, ℕ, suc, ◌+◌, ◌-◌, �
 use Rattle.qrcode_bits.proofs.Prelude.{append_assoc, append-nil, add_comm, slice_index_or, bit_and, pow-add, and_mask, drop_all, length-drop, take-append_seam}
 use Rattle.qrcode_bits.proofs.Prelude.{flat_map-append, common_steps, number_bits, byte_bits, AreShifted, shifted, Stream, Appends, kept_bits, room_in, IsKept}
 use borrow.Rule.Slice.PartMut.{post_of}
+use Rattle.qrcode_bits.proofs.Prelude.{cases_lt, inl, inr}
+use Rattle.std.specs.Prelude.{drop, slice_set}
+use Rattle.std.specs.Int.{to_be_bytes, w64}
 use Rattle.qrcode_bits.proofs.Numbers.{number_bits-join, number_bits-cut, number_bits-mod, high_free, length-byte_bits, length-number_bits}
 
 low_free : (used before byte : ℕ) → used < 8 → number_bits used (before * 2 ^ 8 + byte) ≡ number_bits used byte
@@ -36,6 +39,19 @@ shifted_bits used partial (b ∷ text) (c ∷ cs) part small are =
     ∙ (ap (λ (z : List Bool). number_bits 8 c ++ z) (shifted_bits used b text cs part (λ k. small (suc k)) rest)
     ∙ sym (append_assoc (number_bits 8 c) (byte_bits cs) (number_bits used (slice_index_or (b ∷ text) (length text) 0)))))))
 
+-- one place more
+pub shifted_more : (into text : List ℕ) (used partial before wide i : ℕ) → length into ≡ length text → i < length text →
+    before ≡ slice_index_or (partial ∷ text) i 0 → wide ≡ before * 2 ^ 8 + slice_index_or text i 0 →
+    ((k : ℕ) → k < i → slice_index_or into k 0 ≡ shifted used (slice_index_or (partial ∷ text) k 0) (slice_index_or text k 0)) →
+    (k : ℕ) → k < i + 1 → slice_index_or (slice_set into i (bit_and (wide / 2 ^ used) 255)) k 0 ≡
+    shifted used (slice_index_or (partial ∷ text) k 0) (slice_index_or text k 0)
+shifted_more into text used partial before wide i long inside last is are k below = elim (cases_lt k i) [
+  | inl early ↦ grind (arith, common_steps)
+  | inr late ↦
+      let same : k ≡ i = omega arith in
+      let low = and_mask (wide / 2 ^ used) 8 in grind (arith, common_steps)
+]
+
 -- ---- The stream
 
 pub kept_more : (len cap cap' used partial left n word : ℕ) → IsKept len cap used partial → 8 * n ≤ room_in cap len used → cap ≤ cap' → left ≡ word % 2 ^ used →
@@ -65,33 +81,32 @@ appends_shifted old bytes now text filled len len' cap cap' used partial left bi
 
 -- ---- Five bytes at once
 
--- what a byte keeps of a number
-low_byte : (n : ℕ) → number_bits 8 (bit_and n 255) ≡ number_bits 8 n
-low_byte n = ap (λ (z : ℕ). number_bits 8 z) (and_mask n 8) ∙ number_bits-mod 8 n
-
-pub five_bytes_are : (n : ℕ) →
-    byte_bits (n / 2 ^ 32 ∷ bit_and (n / 2 ^ 24) 255 ∷ bit_and (n / 2 ^ 16) 255 ∷ bit_and (n / 2 ^ 8) 255 ∷ bit_and n 255 ∷ []) ≡ number_bits 40 n
-five_bytes_are n =
-    let last : number_bits 8 (bit_and n 255) ++ [] ≡ number_bits 8 n = append-nil (number_bits 8 (bit_and n 255)) ∙ low_byte n in
-    let two : number_bits 8 (bit_and (n / 2 ^ 8) 255) ++ (number_bits 8 (bit_and n 255) ++ []) ≡ number_bits 16 n =
-    rw (low_byte (n / 2 ^ 8), last) (sym (number_bits-cut 8 8 n)) in
-    let three : number_bits 8 (bit_and (n / 2 ^ 16) 255) ++ (number_bits 8 (bit_and (n / 2 ^ 8) 255)
-    ++ (number_bits 8 (bit_and n 255) ++ [])) ≡ number_bits 24 n =
-    rw (low_byte (n / 2 ^ 16), two) (sym (number_bits-cut 8 16 n)) in
-    let four : number_bits 8 (bit_and (n / 2 ^ 24) 255) ++ (number_bits 8 (bit_and (n / 2 ^ 16) 255)
-    ++ (number_bits 8 (bit_and (n / 2 ^ 8) 255) ++ (number_bits 8 (bit_and n 255) ++ []))) ≡ number_bits 32 n =
-    rw (low_byte (n / 2 ^ 24), three) (sym (number_bits-cut 8 24 n)) in
-    ap (λ (z : List Bool). number_bits 8 (n / 2 ^ 32) ++ z) four ∙ sym (number_bits-cut 8 32 n)
+-- the lowest five of the bytes of a number
+pub five_bytes_are : (n : ℕ) (all : List ℕ) → all ≡ to_be_bytes w64 n → byte_bits (take 5 (drop 3 all)) ≡ number_bits 40 n
+five_bytes_are n all is =
+    let byte : (k : ℕ) → number_bits 8 (n / 2 ^ k % 2 ^ 8) ≡ number_bits 8 (n / 2 ^ k) = λ k. number_bits-mod 8 (n / 2 ^ k) in
+    let last : number_bits 8 (n % 2 ^ 8) ++ [] ≡ number_bits 8 n = append-nil (number_bits 8 (n % 2 ^ 8)) ∙ number_bits-mod 8 n in
+    let two : number_bits 8 (n / 2 ^ 8 % 2 ^ 8) ++ (number_bits 8 (n % 2 ^ 8) ++ []) ≡ number_bits 16 n =
+    rw (byte 8, last) (sym (number_bits-cut 8 8 n)) in
+    let three : number_bits 8 (n / 2 ^ 16 % 2 ^ 8) ++ (number_bits 8 (n / 2 ^ 8 % 2 ^ 8) ++ (number_bits 8 (n % 2 ^ 8) ++ [])) ≡ number_bits 24 n =
+    rw (byte 16, two) (sym (number_bits-cut 8 16 n)) in
+    let four : number_bits 8 (n / 2 ^ 24 % 2 ^ 8) ++ (number_bits 8 (n / 2 ^ 16 % 2 ^ 8) ++ (number_bits 8 (n / 2 ^ 8 % 2 ^ 8)
+    ++ (number_bits 8 (n % 2 ^ 8) ++ []))) ≡ number_bits 32 n =
+    rw (byte 24, three) (sym (number_bits-cut 8 24 n)) in
+    rw is (ap (λ (z : List Bool). number_bits 8 (n / 2 ^ 32 % 2 ^ 8) ++ z) four
+    ∙ (ap (λ (z : List Bool). z ++ number_bits 32 n) (byte 32) ∙ sym (number_bits-cut 8 32 n)))
 
 -- the stream with a number of 40 bits behind it, as five bytes
 pub kept_five : (old five : List ℕ) (used partial left n wide : ℕ) → used < 8 → n < 2 ^ 40 → wide ≡ partial * 2 ^ 40 + n →
     byte_bits five ≡ number_bits 40 (wide / 2 ^ used) →
-    left ≡ bit_and n 255 % 2 ^ used → kept_bits (old ++ five) used left ≡ kept_bits old used partial ++ number_bits 40 n
+    left ≡ n % 2 ^ used → kept_bits (old ++ five) used left ≡ kept_bits old used partial ++ number_bits 40 n
 kept_five old five used partial left n wide part small whole bytes is =
     let low : number_bits used left ≡ number_bits used wide =
-    ap (λ (z : ℕ). number_bits used z) is ∙ (number_bits-mod used (bit_and n 255) ∙ (ap (λ (z : ℕ). number_bits used z) (and_mask n 8)
+    ap (λ (z : ℕ). number_bits used z) is ∙ (number_bits-mod used n
+    ∙ (let split : (n / 2 ^ 8) * 2 ^ 8 + n % 2 ^ 8 ≡ n = omega arith in ap (λ (z : ℕ). number_bits used z) (sym split)
+    ∙ (low_free used (n / 2 ^ 8) (n % 2 ^ 8) part
     ∙ (sym (low_free used (partial * 2 ^ 32 + n / 2 ^ 8) (n % 2 ^ 8) part)
-    ∙ (let same : (partial * 2 ^ 32 + n / 2 ^ 8) * 2 ^ 8 + n % 2 ^ 8 ≡ wide = omega arith in ap (λ (z : ℕ). number_bits used z) same)))) in
+    ∙ (let same : (partial * 2 ^ 32 + n / 2 ^ 8) * 2 ^ 8 + n % 2 ^ 8 ≡ wide = omega arith in ap (λ (z : ℕ). number_bits used z) same))))) in
     let cut : number_bits 40 (wide / 2 ^ used) ++ number_bits used wide ≡ number_bits used partial ++ number_bits 40 n =
     sym (number_bits-cut 40 used wide) ∙ (ap (λ (z : ℕ). number_bits z wide) (add_comm 40 used)
     ∙ (ap (λ (z : ℕ). number_bits (used + 40) z) whole ∙ number_bits-join used 40 partial n small)) in
@@ -105,7 +120,7 @@ kept_five old five used partial left n wide part small whole bytes is =
 pub appends_five : (old : Stream) (bytes now five : List ℕ) (len len' cap cap' used partial left n wide : ℕ) → old.bits ≡ kept_bits bytes used partial →
     old.room ≡ room_in cap len used →
     now ≡ bytes ++ five → len' ≡ len + 5 → cap ≤ cap' → used < 8 → n < 2 ^ 40 → wide ≡ partial * 2 ^ 40 + n →
-    byte_bits five ≡ number_bits 40 (wide / 2 ^ used) → left ≡ bit_and n 255 % 2 ^ used →
+    byte_bits five ≡ number_bits 40 (wide / 2 ^ used) → left ≡ n % 2 ^ used →
     Appends old (record {
       bits = kept_bits now used left;
       version = old.version;

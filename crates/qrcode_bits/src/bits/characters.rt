@@ -13,7 +13,7 @@ ghost use Rattle.qrcode_base.specs.declared.types.Mode.TheVariants.{Numeric, Alp
 ghost use Rattle.qrcode_bits.specs.Spelling.{character_bits};
 ghost use Rattle.qrcode_bits.specs.Stream.{AreShifted, shifted, Appends};
 
-use super::{Bits, joined, low_bits};
+use super::Bits;
 use qrcode_base::characters::alphanumeric_place;
 
 impl Bits {
@@ -53,39 +53,21 @@ impl Bits {
         }
     }
 
-    /// Writes characters of the Alphanumeric mode, for which there is room: eight at a time are five bytes and a half.
-    #[tactic(auto, using(crate::proofs::Segments::bit_lengths))]
+    /// Writes characters of the Alphanumeric mode in pairs, and one that is left.
+    #[tactic(auto, using(crate::proofs::Segments::bit_lengths, crate::proofs::Pairs::pairs_end))]
     pub(super) fn push_letters(&mut self, text: &[u8])
         requires characters { All (λ c. Contains alphabet c) text.now }
         requires room { length (character_bits Alphanumeric text.now) ≤ self.old.room }
         ensures { Appends self.old self.new (character_bits Alphanumeric text.now) }
     {
         let mut rest = text;
-        while rest.len() >= 8 {
-            let (eight, later) = rest.split_at(8);
-            let number = eight_letters(eight);
-            self.push_five_bytes(number >> 4);
-            self.append(4, (number & 0xf) as u16);
-            rest = later;
-        }
-        self.push_last_letters(rest);
-    }
-
-    /// Writes characters in pairs, and one that is left.
-    #[tactic(auto, using(crate::proofs::Segments::bit_lengths, crate::proofs::Pairs::pairs_end))]
-    fn push_last_letters(&mut self, text: &[u8])
-        requires characters { All (λ c. Contains alphabet c) text.now }
-        requires room { length (character_bits Alphanumeric text.now) ≤ self.old.room }
-        ensures { Appends self.old self.new (character_bits Alphanumeric text.now) }
-    {
-        let mut rest = text;
-        while rest.len() >= 2 {
-            let (two, later) = rest.split_at(2);
-            self.push_number(11, two_letters(two) as u16);
-            rest = later;
+        while let [first, second, tail @ ..] = rest {
+            let number = 45 * alphanumeric_value(*first) + alphanumeric_value(*second);
+            self.push_number(11, number);
+            rest = tail;
         }
         if rest.len() == 1 {
-            self.push_number(6, alphanumeric_value(rest[0]) as u16);
+            self.push_number(6, alphanumeric_value(rest[0]));
         }
     }
 
@@ -114,15 +96,8 @@ impl Bits {
     }
 }
 
-/// A byte behind the one before it, both shifted to the right.
-fn shifted(before: u8, byte: u8, used: usize) -> u8
-    requires { used < 8 }
-    ensures { result ≡ shifted used before byte }
-{
-    ((joined(before, 8, u16::from(byte)) >> used) & 0xff) as u8
-}
-
 /// Writes bytes behind so many bits, each shifted by these, and answers the bits that are left.
+#[tactic(auto, using(crate::proofs::Streams::low_is))]
 fn write_shifted(into: &mut [u8], text: &[u8], used: usize, partial: u8) -> u8
     requires same { length into.old ≡ length text.now }
     requires part { used < 8 }
@@ -133,11 +108,13 @@ fn write_shifted(into: &mut [u8], text: &[u8], used: usize, partial: u8) -> u8
     let Some(last) = text.last() else {
         return partial;
     };
-    into[0] = shifted(partial, text[0], used);
+    let wide = u16::from(partial) * 256 + u16::from(text[0]);
+    into[0] = ((wide >> used) & 0xff) as u8;
     for i in 1..text.len() {
-        into[i] = shifted(text[i - 1], text[i], used);
+        let wide = u16::from(text[i - 1]) * 256 + u16::from(text[i]);
+        into[i] = ((wide >> used) & 0xff) as u8;
     }
-    low_bits(u16::from(*last), used)
+    *last & ((1 << used) - 1)
 }
 
 /// The value of a digit, of which 0 has the code 48.
@@ -176,41 +153,15 @@ fn twelve_digits(digits: &[u8]) -> u64
 }
 
 /// The value of a character of the Alphanumeric mode.
-fn alphanumeric_value(c: u8) -> u64
+fn alphanumeric_value(c: u8) -> u16
     requires { Contains alphabet c }
     ensures value { result ≡ alphanumeric_value_of c }
     ensures small { result < 45 }
 {
     match alphanumeric_place(c) {
-        Some(value) => value as u64,
+        Some(value) => value as u16,
         None => 0,
     }
-}
-
-/// The number of two characters of the Alphanumeric mode.
-#[tactic(auto, using(crate::proofs::Pairs::pairs_two))]
-fn two_letters(text: &[u8]) -> u64
-    requires two { length text.now ≡ 2 }
-    requires characters { All (λ c. Contains alphabet c) text.now }
-    ensures bits { number_bits 11 result ≡ character_bits Alphanumeric text.now }
-    ensures small { result < 2 ^ 11 }
-{
-    45 * alphanumeric_value(text[0]) + alphanumeric_value(text[1])
-}
-
-/// The numbers of four times two characters, one behind the other.
-fn eight_letters(text: &[u8]) -> u64
-    requires eight { length text.now ≡ 8 }
-    requires characters { All (λ c. Contains alphabet c) text.now }
-    ensures bits { number_bits 44 result ≡ character_bits Alphanumeric text.now }
-    ensures small { result < 2 ^ 44 }
-{
-    let (first, later) = text.split_at(2);
-    let (second, rest) = later.split_at(2);
-    let (third, fourth) = rest.split_at(2);
-    let high = two_letters(first) * 2048 + two_letters(second);
-    let low = two_letters(third) * 2048 + two_letters(fourth);
-    high * 0x40_0000 + low
 }
 
 /// The 13-bit number of a double-byte character.

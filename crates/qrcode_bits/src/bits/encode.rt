@@ -21,11 +21,12 @@ ghost use Rattle.qrcode_bits.specs.Frame.{HasHeader, header_bits, header_of};
 
 use super::headers::{check_place, has_mode};
 use super::{Bits, data_capacity_bits};
-use crate::optimize::{Parser, Segment, optimize_segments, total_encoded_len};
+use crate::optimize::{Parser, Segment, optimize_uncounted, total_encoded_len};
 use qrcode_base::symbols::LONGEST_DATA;
 use qrcode_base::types::{EcLevel, QrError, QrResult, Version};
 use std::alloc::Global;
-use std::marker::Model;
+use std::marker::{Brand, Model};
+use std::sync::ledger::Blank;
 
 /// The header of a symbol of a sequence.
 #[derive(Drop)]
@@ -133,8 +134,8 @@ pub fn encode_auto_micro(alloc: Global, bytes: &[u8], level: EcLevel) -> QrResul
         return Err(QrError::DataTooLong);
     }
     let segments = Parser::new(bytes).segments(alloc)?;
-    for smaller in 0..4 {
-        let version = micro(smaller + 1);
+    for smaller in 0..4_usize {
+        let version = Version::Micro((smaller + 1) as i16);
         if let Some(plan) = chosen_plan(alloc, 0, bytes, &segments, version, level)? {
             let bits = encode_plan(alloc, &None, bytes, version, level, &plan)?;
             return Ok(bits);
@@ -148,8 +149,8 @@ pub fn encode_auto_micro(alloc: Global, bytes: &[u8], level: EcLevel) -> QrResul
 pub fn find_min_version(length: usize, level: EcLevel) -> Version
     ensures { IsMinVersion length level result }
 {
-    for number in 1..41 {
-        let version = normal(number);
+    for number in 1..41_usize {
+        let version = Version::Normal(number as i16);
         if let Ok(limit) = data_capacity_bits(version, level) {
             if length <= limit {
                 return version;
@@ -157,24 +158,6 @@ pub fn find_min_version(length: usize, level: EcLevel) -> Version
         }
     }
     Version::Normal(40)
-}
-
-/// The Normal version of a number.
-fn normal(number: usize) -> Version
-    requires { number ≤ 40 }
-    ensures { result ≡ normal number }
-{
-    Version::Normal(number as i16)
-}
-
-/// The Micro version of a number.
-fn micro(number: usize) -> Version
-    requires from_one { 1 ≤ number }
-    requires to_four { number ≤ 4 }
-    ensures is { result ≡ micro number }
-    ensures number { HasMicroNumber result }
-{
-    Version::Micro(number as i16)
 }
 
 /// The bits of the data behind a header or none, in the smallest Normal version up to a limit, told by its number.
@@ -239,7 +222,7 @@ fn encode_class(
     ensures memory { IfErr result (λ e. e ≡ QrError.OutOfMemory) }
 {
     let front = 20 * usize::from(header.is_some());
-    let version = normal(last);
+    let version = Version::Normal(last as i16);
     let Some(plan) = chosen_plan(alloc, front, bytes, segments, version, level)? else {
         return Ok(None);
     };
@@ -277,22 +260,16 @@ fn chosen_plan(
     if bytes.len() / 3 * 10 > limit {
         return Ok(None);
     }
-    let plan = optimize_segments(alloc, segments, version)?;
-    if !has_modes(version, &plan) {
-        return Ok(None);
+    let plan = optimize_uncounted::<Brand>(alloc, segments, version, Blank::new(1))?;
+    for part in &plan {
+        if !has_mode(version, part.mode) {
+            return Ok(None);
+        }
     }
     if front + total_encoded_len(&plan, version) > limit {
         return Ok(None);
     }
     Ok(Some(plan))
-}
-
-/// Whether a version has the modes of all segments.
-fn has_modes(version: Version, segments: &[Segment]) -> bool
-    requires { HasMicroNumber version }
-    ensures { IsTrue result ↔ All (λ part. HasMode version part.mode) segments.now }
-{
-    segments.iter().all(|part| has_mode(version, part.mode))
 }
 
 /// The bits of a plan that fits a version: a header or none, the spellings of its parts, terminator and padding.

@@ -1,22 +1,238 @@
-//! The chosen plan of short data, in one pass over the segments with a word for each start.
+//! The chosen plan of short data, in one pass over the segments with a word of 64 bits for each start.
 //!
-//! `optimize_counted` calls `optimize_short`. That asks `last_step_short` for each number of first segments, from the
-//! first on, and then `read_back_short`, which answers the parts of the plan.
+//! A word has the bits of the plan above, then 13 bits of its parts, then 13 bits that fall as the start grows. So the
+//! better of two starts is the lesser word, and no start is the greatest word. For each segment `optimize_short` calls
+//! `advance` with its mode, then `enter` with its start, and then `last_step_short`, which asks for the `best` of each
+//! bucket; in the end `read_back_short` answers the parts of the plan.
 
-ghost use Rattle.std.specs.Prelude.{◌≡◌, ◌+◌, ◌*◌, ◌-◌, ◌/◌, ◌%◌, ◌^◌, ◌<◌, ◌≤◌, length, IfOk, IfErr};
-ghost use Rattle.std.specs.Bool.{OnTrue};
+ghost use Rattle.std.specs.Prelude.{◌≡◌, ℕ, ◌+◌, ◌*◌, ◌-◌, ◌/◌, ◌%◌, ◌^◌, ◌<◌, ◌≤◌, length, IfOk, IfErr};
 ghost use Rattle.qrcode_base.specs.Symbols.{HasMicroNumber};
 ghost use Rattle.qrcode_base.specs.Modes.{indicator_width, count_width, data_bits, characters};
 ghost use Rattle.qrcode_bits.specs.Plans.{HasLinearCosts, IsChosenPlan, IsStep};
 ghost use Rattle.qrcode_bits.specs.Buckets.{bucket_mode, bucket_rest, AreGroups, period_bits, told, header_in};
-ghost use Rattle.qrcode_bits.specs.Buckets.{AreWhole, IsShort, AreHeaders, step_told, AreShortSteps};
+ghost use Rattle.qrcode_bits.specs.Buckets.{AreWhole, IsShort, AreHeaders, step_told, AreShortSteps, Absorbs, Advances};
+ghost use Rattle.qrcode_bits.specs.Buckets.{IsEmptyGroup, EntersGroup, group_of, slot, word_of, starts_in};
+ghost use Rattle.qrcode_bits.specs.Buckets.{IsOffered, Enters, bucket_start, IsWhole};
 
-use super::Segment;
-use super::steps::{Comparisons, bucket_mode};
-use super::words::{NO_START, Words, word};
+use super::{Comparisons, Segment, bucket_mode};
 use qrcode_base::types::{Mode, QrError, QrResult, Version};
 use std::alloc::Global;
 use std::sync::ledger::Ledger;
+
+/// The word for no start.
+const NO_START: u64 = u64::MAX;
+
+/// For each mode of a suffix, the best starts for each mode that a part may end in, and each rest of the begin there.
+#[derive(Clone, Copy)]
+struct Words {
+    numeric: [u64; 8],
+    alphanumeric: [u64; 8],
+    byte: [u64; 8],
+    kanji: [u64; 8],
+}
+
+/// The word of a start.
+fn word(bits: u64, parts: usize, start: usize) -> u64
+    requires bits { bits < 2 ^ 20 }
+    requires parts { parts < 8192 }
+    requires start { start < 8192 }
+    ensures word { result ≡ word_of bits parts start }
+    ensures small { result < 2 ^ 46 }
+{
+    (bits << 26) + ((parts as u64) << 13) + (8191 - start as u64)
+}
+
+/// Takes what is less in another group, bucket by bucket, from the first one that is needed to that of Byte.
+#[tactic(auto, using(crate::proofs::WordStarts::starts_of_words))]
+fn absorb<L: Ledger>(into: &mut [u64], from: &[u64], first: usize, comparisons: &mut Comparisons<L>)
+    requires into { IsWhole into.old }
+    requires from { IsWhole from.now }
+    requires first { first ≤ 5 }
+    ensures absorbed { Absorbs first (starts_in into.old) (starts_in from.now) (starts_in into.new) }
+    ensures whole { IsWhole into.new }
+    ensures ticked { comparisons.new ≤ comparisons.old + 8 }
+{
+    if from[5] < 1 << 50 {
+        for j in first..6 {
+            comparisons.tick();
+            into[j] = into[j].min(from[j]);
+        }
+    }
+}
+
+/// Takes all starts out of a group.
+#[tactic(auto, using(crate::proofs::WordStarts::starts_of_words))]
+fn clear(group: &mut [u64])
+    requires { IsWhole group.old }
+    ensures empty { IsEmptyGroup (starts_in group.new) }
+    ensures whole { IsWhole group.new }
+{
+    if group[5] < 1 << 50 {
+        group.fill(NO_START);
+    }
+}
+
+/// Offers a word to a bucket, which keeps the lesser, where the group needs it.
+fn offer<L: Ledger>(
+    group: &mut [u64],
+    mode: Mode,
+    bucket: usize,
+    word: u64,
+    comparisons: &mut Comparisons<L>,
+)
+    requires long { length group.old ≡ 8 }
+    requires inside { bucket < 8 }
+    ensures offered { IsOffered mode bucket word group.old group.new }
+    ensures long { length group.new ≡ 8 }
+    ensures ticked { comparisons.new ≤ comparisons.old + 1 }
+{
+    let needed = match mode {
+        Mode::Numeric => bucket < 6,
+        Mode::Alphanumeric => 3 <= bucket && bucket < 6,
+        Mode::Byte => bucket == 5,
+        Mode::Kanji => 5 <= bucket,
+    };
+    if needed {
+        comparisons.tick();
+        group[bucket] = group[bucket].min(word);
+    }
+}
+
+/// Offers a start to the buckets of its rests.
+fn enter<L: Ledger>(
+    group: &mut [u64],
+    mode: Mode,
+    begin: usize,
+    bits: u64,
+    parts: usize,
+    start: usize,
+    comparisons: &mut Comparisons<L>,
+)
+    requires group { IsWhole group.old }
+    requires begin { begin < 8192 }
+    requires bits { bits < 2 ^ 18 }
+    requires parts { parts < 8192 }
+    requires start { start < 8192 }
+    ensures entered { Enters mode begin bits parts start (starts_in group.old) (starts_in group.new) }
+    ensures whole { IsWhole group.new }
+    ensures ticked { comparisons.new ≤ comparisons.old + 4 }
+{
+    let bytes = begin as u64;
+    let thirds = word(bits + 10 * (8192 - bytes / 3), parts, start);
+    let pairs = word(bits + 11 * (8192 - bytes / 2), parts, start);
+    let singles = word(bits + 8 * (8192 - bytes), parts, start);
+    let characters = word(bits + 13 * (8192 - bytes / 2), parts, start);
+    offer(group, mode, begin % 3, thirds, comparisons);
+    offer(group, mode, 3 + begin % 2, pairs, comparisons);
+    offer(group, mode, 5, singles, comparisons);
+    offer(group, mode, 6 + begin % 2, characters, comparisons);
+}
+
+impl Words {
+    /// No start yet.
+    #[tactic(auto, using(crate::proofs::WordStarts::starts_of_words))]
+    fn new() -> Self
+        ensures numeric { IsEmptyGroup (told result).numeric }
+        ensures alphanumeric { IsEmptyGroup (told result).alphanumeric }
+        ensures byte { IsEmptyGroup (told result).byte }
+        ensures kanji { IsEmptyGroup (told result).kanji }
+        ensures whole { AreWhole result }
+    {
+        Words {
+            numeric: [NO_START; 8],
+            alphanumeric: [NO_START; 8],
+            byte: [NO_START; 8],
+            kanji: [NO_START; 8],
+        }
+    }
+
+    /// Moves each group to that of its mode joined with the next segment's.
+    #[tactic(auto, using(crate::proofs::WordStarts::starts_of_words))]
+    fn advance<L: Ledger>(&mut self, incoming: Mode, comparisons: &mut Comparisons<L>)
+        requires whole { AreWhole self.old }
+        ensures advances { Advances incoming (told self.old) (told self.new) }
+        ensures whole { AreWhole self.new }
+        ensures ticked { comparisons.new ≤ comparisons.old + 24 }
+    {
+        match incoming {
+            Mode::Numeric => {
+                absorb(&mut self.byte, &self.kanji, 5, comparisons);
+                clear(&mut self.kanji);
+            }
+            Mode::Alphanumeric => {
+                absorb(&mut self.alphanumeric, &self.numeric, 3, comparisons);
+                absorb(&mut self.byte, &self.kanji, 5, comparisons);
+                clear(&mut self.numeric);
+                clear(&mut self.kanji);
+            }
+            Mode::Byte => {
+                absorb(&mut self.byte, &self.numeric, 5, comparisons);
+                absorb(&mut self.byte, &self.alphanumeric, 5, comparisons);
+                absorb(&mut self.byte, &self.kanji, 5, comparisons);
+                clear(&mut self.numeric);
+                clear(&mut self.alphanumeric);
+                clear(&mut self.kanji);
+            }
+            Mode::Kanji => {
+                absorb(&mut self.byte, &self.numeric, 5, comparisons);
+                absorb(&mut self.byte, &self.alphanumeric, 5, comparisons);
+                clear(&mut self.numeric);
+                clear(&mut self.alphanumeric);
+            }
+        }
+    }
+
+    /// Offers a start to the group of its segment's mode.
+    fn enter<L: Ledger>(
+        &mut self,
+        mode: Mode,
+        begin: usize,
+        bits: u64,
+        parts: usize,
+        start: usize,
+        comparisons: &mut Comparisons<L>,
+    )
+        requires whole { AreWhole self.old }
+        requires begin { begin < 8192 }
+        requires bits { bits < 2 ^ 18 }
+        requires parts { parts < 8192 }
+        requires start { start < 8192 }
+        ensures entered { EntersGroup mode begin bits parts start (told self.old) (told self.new) }
+        ensures whole { AreWhole self.new }
+        ensures ticked { comparisons.new ≤ comparisons.old + 4 }
+    {
+        match mode {
+            Mode::Numeric => {
+                let group = &mut self.numeric;
+                enter(group, mode, begin, bits, parts, start, comparisons)
+            }
+            Mode::Alphanumeric => {
+                let group = &mut self.alphanumeric;
+                enter(group, mode, begin, bits, parts, start, comparisons)
+            }
+            Mode::Byte => enter(&mut self.byte, mode, begin, bits, parts, start, comparisons),
+            Mode::Kanji => {
+                let group = &mut self.kanji;
+                enter(group, mode, begin, bits, parts, start, comparisons)
+            }
+        }
+    }
+
+    /// The word in a bucket of the group of a mode.
+    #[tactic(auto, using(crate::proofs::WordStarts::starts_of_words))]
+    fn best(&self, mode: Mode, bucket: usize) -> u64
+        requires inside { bucket < 8 }
+        requires whole { AreWhole self.now }
+        ensures { bucket_start bucket result ≡ slot (group_of mode (told self.now)) bucket }
+    {
+        match mode {
+            Mode::Numeric => self.numeric[bucket],
+            Mode::Alphanumeric => self.alphanumeric[bucket],
+            Mode::Byte => self.byte[bucket],
+            Mode::Kanji => self.kanji[bucket],
+        }
+    }
+}
 
 /// How many bits stand in front of the characters of each mode.
 #[derive(Clone, Copy)]
@@ -151,7 +367,6 @@ pub fn optimize_short<L: Ledger>(
     comparisons: &mut Comparisons<L>,
 ) -> QrResult<Vec<Segment>>
     requires micro { HasMicroNumber version }
-    requires some { 0 < length segments.now }
     requires linear { HasLinearCosts segments.now version }
     requires short { IsShort segments.now }
     ensures plan { IfOk result (λ plan. IsChosenPlan segments.now version plan.items) }

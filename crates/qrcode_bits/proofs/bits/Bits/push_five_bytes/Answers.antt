@@ -1,6 +1,7 @@
 -- The bytes go behind the others, and the low bits are left.
 use Rattle.qrcode_bits.proofs.Prelude.{arith, ap, ◌≡◌, ◌+◌, ◌*◌, ◌%◌, ◌^◌, ℕ, refl, true, vec_len, vec_capacity, is_ok, Stream, room_in}
-use Rattle.qrcode_bits.proofs.Shifting.{appends_five}
+use Rattle.qrcode_bits.proofs.Streams.{low_of}
+use Rattle.qrcode_bits.proofs.Shifting.{appends_five, five_bytes_are}
 use Rattle.qrcode_bits.proofs.bits.Bits.push_five_bytes.Goals as goal
 
 pub returns : goal.returns
@@ -11,9 +12,10 @@ returns c =
     let items = rw ok at c.extend_from_slice.ensures.items in
     let len = rw ok at c.extend_from_slice.ensures.len in
     let wide : ℕ = c.from.result * 2 ^ 40 % 2 ^ 64 + c.args.number in
-    rw (← c.self.view_is) (appends_five _ c.self.inside.bytes.items c.extend_from_slice.new.self.items c.five_bytes.result (vec_len c.self.inside.bytes)
+    rw (← c.self.view_is) (appends_five _ c.self.inside.bytes.items c.extend_from_slice.new.self.items _ (vec_len c.self.inside.bytes)
     (vec_len c.extend_from_slice.new.self)
-    (vec_capacity c.self.inside.bytes) (vec_capacity c.extend_from_slice.new.self) c.self.inside.used c.self.inside.partial c.low_bits-self-inside.result
+    (vec_capacity c.self.inside.bytes) (vec_capacity c.extend_from_slice.new.self) c.self.inside.used c.self.inside.partial _
     c.args.number wide refl refl
     items (omega (arith, len)) c.extend_from_slice.ensures.capacity c.self.invariant.0.part c.requires.small
-    (omega arith) c.five_bytes.ensures c.low_bits-self-inside.ensures)
+    (omega arith) (five_bytes_are _ c.to_be_bytes.result c.to_be_bytes.ensures)
+    (low_of 64 c.args.number c.self.inside.used (let part = c.self.invariant.0.part in omega arith)))

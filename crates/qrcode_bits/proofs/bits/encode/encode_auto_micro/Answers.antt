@@ -1,5 +1,9 @@
 -- The first Micro version whose chosen plan fits is the choice.
 use Rattle.qrcode_bits.proofs.Prelude.{◌≡◌, ◌+◌, List, None, subst, arith, true, false, Version, Segment, parsed, FitsNot, Fits, IsChosenPlan, IsPlanStream}
+use Rattle.qrcode_bits.proofs.Prelude.{Micro}
+use mir.Val.{to_z}
+use mir.Syntax.{w16}
+use Rattle.qrcode_bits.proofs.Classes.{micro_is}
 use Rattle.qrcode_bits.proofs.Pairs.{bytes_valid}
 use Rattle.qrcode_bits.proofs.Choices.{micro_next, micro_choice}
 use Rattle.qrcode_bits.proofs.Lengths.{long_for_micro}
@@ -16,21 +20,24 @@ returns-in-Some-clause-ok c =
     let message = c.args.bytes.now in
     let plan = c.in-Some.plan.items in
     let number = c.loop-smaller.smaller + 1 in
-    let chosen = subst (λ (v : Version). IsChosenPlan (parsed message) v plan) c.micro-version.ensures.is (rw c.in-Some.is at c.in_ok-plan.ensures.chosen) in
-    let fits = subst (λ (v : Version). Fits 0 message v c.args.level plan) c.micro-version.ensures.is (rw c.in-Some.is at c.in_ok-plan.ensures.fits) in
-    let stream = subst (λ (p : List Segment). IsPlanStream None message c.micro-version.result c.args.level p c.in_ok-bits.bits) c.deref-in-Some.ensures.value
+    let is = micro_is number (omega arith) in
+    let chosen = subst (λ (v : Version). IsChosenPlan (parsed message) v plan) is (rw c.in-Some.is at c.in_ok-plan.ensures.chosen) in
+    let fits = subst (λ (v : Version). Fits 0 message v c.args.level plan) is (rw c.in-Some.is at c.in_ok-plan.ensures.fits) in
+    let stream = subst (λ (p : List Segment). IsPlanStream None message (Micro (to_z w16 number)) c.args.level p c.in_ok-bits.bits)
+    c.deref-in-Some.ensures.value
     c.in_ok-bits.ensures.ok in
     record {
       number = number;
       plan = plan;
       choice = micro_choice message c.args.level c.loop-smaller.smaller plan (omega arith) c.loop-smaller.invariant chosen fits;
-      stream_is = subst (λ (v : Version). IsPlanStream None message v c.args.level plan c.in_ok-bits.bits) c.micro-version.ensures.is stream;
+      stream_is = subst (λ (v : Version). IsPlanStream None message v c.args.level plan c.in_ok-bits.bits) is stream;
     }
 
 pub loop-smaller-preserved : goal.loop-smaller-preserved
 loop-smaller-preserved c =
+    let is = micro_is (c.loop-smaller.smaller + 1) (omega arith) in
     micro_next c.args.bytes.now c.args.level c.loop-smaller.smaller c.loop-smaller.invariant
-    (subst (λ (v : Version). FitsNot 0 c.args.bytes.now v c.args.level) c.micro-version.ensures.is
+    (subst (λ (v : Version). FitsNot 0 c.args.bytes.now v c.args.level) is
     (rw c.in_default.is at c.in_ok-plan.ensures.none))
 
 pub returns-clause-err : goal.returns-clause-err

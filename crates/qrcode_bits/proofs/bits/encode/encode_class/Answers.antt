@@ -1,9 +1,12 @@
 -- The chosen plan of the last version of a class decides for the class.
 use Rattle.qrcode_bits.proofs.Prelude.{◌≡◌, ◌+◌, ◌*◌, length, ◌≤◌, ℕ, List, ap, ◌∙◌, sym, subst, arith, All, Version, Segment, header_bits, parsed}
 use Rattle.qrcode_bits.proofs.Prelude.{IsChosenPlan, total_bits, Fits, normal, IsMinVersion, IsPlanStream}
+use Rattle.qrcode_bits.proofs.Prelude.{Normal}
+use mir.Val.{to_z}
+use mir.Syntax.{w16}
 use Rattle.qrcode_bits.proofs.Reading.{front-is}
 use Rattle.qrcode_bits.proofs.Pairs.{bytes_valid}
-use Rattle.qrcode_bits.proofs.Classes.{plan_ordered, front_fits, front_not, class_fits, class_encoding}
+use Rattle.qrcode_bits.proofs.Classes.{plan_ordered, front_fits, front_not, class_fits, class_encoding, normal_is}
 use Rattle.qrcode_bits.proofs.bits.encode.encode_class.Goals as goal
 
 pub returns-in_default-clause-none : goal.returns-in_default-clause-none
@@ -11,7 +14,7 @@ returns-in_default-clause-none c =
     let front : 20 * c.from-front.result ≡ length (header_bits c.args.header.now) =
     front-is c.args.header.now c.is_some.result c.from-front.result c.is_some.ensures c.from-front.ensures in
     front_not c.args.bytes.now c.args.level c.args.last (20 * c.from-front.result)
-    (length (header_bits c.args.header.now)) c.normal-version.result front c.normal-version.ensures
+    (length (header_bits c.args.header.now)) (Normal (to_z w16 c.args.last)) front (normal_is c.args.last c.requires.to_forty)
     (rw c.in_default.is at c.in_ok-plan.ensures.none)
 
 pub total_encoded_len-requires-clause-ordered : goal.total_encoded_len-requires-clause-ordered
@@ -19,7 +22,7 @@ total_encoded_len-requires-clause-ordered c =
     let front : 20 * c.from-front.result ≡ length (header_bits c.args.header.now) =
     front-is c.args.header.now c.is_some.result c.from-front.result c.is_some.ensures c.from-front.ensures in
     let fits = front_fits c.args.bytes.now c.args.level c.args.last c.in-Some.plan.items (20 * c.from-front.result)
-    (length (header_bits c.args.header.now)) c.normal-version.result front c.normal-version.ensures
+    (length (header_bits c.args.header.now)) (Normal (to_z w16 c.args.last)) front (normal_is c.args.last c.requires.to_forty)
     (rw c.in-Some.is at c.in_ok-plan.ensures.fits) in
     subst (λ (p : List Segment). All (λ s. s.begin ≤ s.end) p) (sym c.deref.ensures.value)
     (plan_ordered c.args.bytes.now c.in-Some.plan.items (bytes_valid c.args.bytes.now (λ i. omega (arith, c.type_inv.bytes i))) fits.planned)
@@ -29,11 +32,11 @@ encode_plan-requires-clause-fits c =
     let front : 20 * c.from-front.result ≡ length (header_bits c.args.header.now) =
     front-is c.args.header.now c.is_some.result c.from-front.result c.is_some.ensures c.from-front.ensures in
     let fits = front_fits c.args.bytes.now c.args.level c.args.last c.in-Some.plan.items (20 * c.from-front.result)
-    (length (header_bits c.args.header.now)) c.normal-version.result front c.normal-version.ensures
+    (length (header_bits c.args.header.now)) (Normal (to_z w16 c.args.last)) front (normal_is c.args.last c.requires.to_forty)
     (rw c.in-Some.is at c.in_ok-plan.ensures.fits) in
-    let chosen = subst (λ (v : Version). IsChosenPlan (parsed c.args.bytes.now) v c.in-Some.plan.items) c.normal-version.ensures
+    let chosen = subst (λ (v : Version). IsChosenPlan (parsed c.args.bytes.now) v c.in-Some.plan.items) (normal_is c.args.last c.requires.to_forty)
     (rw c.in-Some.is at c.in_ok-plan.ensures.chosen) in
-    let size = c.total_encoded_len.ensures ∙ (ap (λ (v : Version). total_bits v c.deref.result.now) c.normal-version.ensures
+    let size = c.total_encoded_len.ensures ∙ (ap (λ (v : Version). total_bits v c.deref.result.now) (normal_is c.args.last c.requires.to_forty)
     ∙ ap (λ (p : List Segment). total_bits (normal c.args.last) p) c.deref.ensures.value) in
     let whole : (20 * c.from-front.result) + c.total_encoded_len.result ≡ length (header_bits c.args.header.now) + total_bits
     (normal c.args.last) c.in-Some.plan.items = omega (arith, size, front) in
@@ -47,11 +50,11 @@ returns-clause-some c = λ before limit class within none.
     let front : 20 * c.from-front.result ≡ length (header_bits c.args.header.now) =
     front-is c.args.header.now c.is_some.result c.from-front.result c.is_some.ensures c.from-front.ensures in
     let fits = front_fits c.args.bytes.now c.args.level c.args.last c.in-Some.plan.items (20 * c.from-front.result)
-    (length (header_bits c.args.header.now)) c.normal-version.result front c.normal-version.ensures
+    (length (header_bits c.args.header.now)) (Normal (to_z w16 c.args.last)) front (normal_is c.args.last c.requires.to_forty)
     (rw c.in-Some.is at c.in_ok-plan.ensures.fits) in
-    let chosen = subst (λ (v : Version). IsChosenPlan (parsed c.args.bytes.now) v c.in-Some.plan.items) c.normal-version.ensures
+    let chosen = subst (λ (v : Version). IsChosenPlan (parsed c.args.bytes.now) v c.in-Some.plan.items) (normal_is c.args.last c.requires.to_forty)
     (rw c.in-Some.is at c.in_ok-plan.ensures.chosen) in
-    let size = c.total_encoded_len.ensures ∙ (ap (λ (v : Version). total_bits v c.deref.result.now) c.normal-version.ensures
+    let size = c.total_encoded_len.ensures ∙ (ap (λ (v : Version). total_bits v c.deref.result.now) (normal_is c.args.last c.requires.to_forty)
     ∙ ap (λ (p : List Segment). total_bits (normal c.args.last) p) c.deref.ensures.value) in
     let whole : (20 * c.from-front.result) + c.total_encoded_len.result ≡ length (header_bits c.args.header.now) + total_bits
     (normal c.args.last) c.in-Some.plan.items = omega (arith, size, front) in

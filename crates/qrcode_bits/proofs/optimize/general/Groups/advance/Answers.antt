@@ -1,13 +1,14 @@
 -- Each group that goes is absorbed and cleared.
 use Rattle.qrcode_bits.proofs.Prelude.{rules, refl, arith}
-use Rattle.qrcode_bits.proofs.optimize.groups.Groups.advance.Goals as goal
+use Rattle.qrcode_bits.proofs.Grouping.{none_in}
+use Rattle.qrcode_bits.proofs.optimize.general.Groups.advance.Goals as goal
 
 pub returns-in-Byte-clause-advances : goal.returns-in-Byte-clause-advances
 returns-in-Byte-clause-advances g c =
     rw c.in-Byte.is (
-      c.clear-in-Byte.ensures,
-      c.clear-in-Byte-2.ensures,
-      c.clear-in-Byte-3.ensures,
+      none_in,
+      none_in,
+      none_in,
       (
         c.absorb-in-Byte.new.into,
         c.absorb-in-Byte-2.new.into,
@@ -20,8 +21,8 @@ returns-in-Byte-clause-advances g c =
 pub returns-in-Kanji-clause-advances : goal.returns-in-Kanji-clause-advances
 returns-in-Kanji-clause-advances g c =
     rw c.in-Kanji.is (
-      c.clear-in-Kanji.ensures,
-      c.clear-in-Kanji-2.ensures,
+      none_in,
+      none_in,
       refl,
       (
         c.absorb-in-Kanji.new.into,

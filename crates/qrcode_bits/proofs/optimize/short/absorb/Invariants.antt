@@ -1,5 +1,5 @@
 use Rattle.qrcode_bits.proofs.Prelude.{◌≡◌, ℕ, ◌+◌, ◌<◌, ◌≤◌, length, min, word_at}
-use Rattle.qrcode_bits.proofs.optimize.words.absorb.Given as goal
+use Rattle.qrcode_bits.proofs.optimize.short.absorb.Given as goal
 
 abbrev pub invariant-loop-j : goal.invariant-loop-j
 invariant-loop-j g l = record {

@@ -1,6 +1,6 @@
 -- The start enters its buckets, one after the other.
 use Rattle.qrcode_bits.proofs.WordStarts.{enters_words}
-use Rattle.qrcode_bits.proofs.optimize.words.enter.Goals as goal
+use Rattle.qrcode_bits.proofs.optimize.short.enter.Goals as goal
 
 pub returns-clause-entered : goal.returns-clause-entered
 returns-clause-entered g c =

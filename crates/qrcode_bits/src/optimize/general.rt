@@ -1,0 +1,364 @@
+//! The chosen plan of any data, in one pass over the segments with three numbers for each start: its bits, so wide that
+//! no sum wraps, its parts and its place.
+//!
+//! For each segment `optimize_linear` calls `advance` with its mode, then `enter` with its start, and then
+//! `last_step_from`, which asks for the `best` of each bucket; in the end `read_back` answers the parts of the plan.
+
+ghost use Rattle.std.specs.Prelude.{◌≡◌, ℕ, ◌+◌, ◌*◌, ◌^◌, ◌<◌, ◌≤◌, ◌≢◌, length, IfOk, IfErr};
+ghost use Rattle.std.specs.Bool.{OnTrue, OnFalse};
+ghost use Rattle.qrcode_base.specs.Symbols.{HasMicroNumber};
+ghost use Rattle.qrcode_bits.specs.Plans.{HasLinearCosts, IsChosenPlan, IsNoWorse, IsStep, AreSteps};
+ghost use Rattle.qrcode_bits.specs.Buckets.{IsBetterOf, IsEmptyGroup, Advances, EntersAll, EntersGroup, group_of, slot};
+ghost use Rattle.qrcode_bits.specs.Buckets.{AreGroups};
+
+use super::{Comparisons, Segment, bucket_mode};
+use qrcode_base::types::{Mode, QrError, QrResult, Version};
+use std::alloc::Global;
+use std::sync::ledger::Ledger;
+
+/// A start that a last part may have: the bits of the plan up to an end that is the same for all that are compared, how
+/// many parts it has with the last one, and the index of the segment at which that starts.
+#[derive(Clone, Copy)]
+pub struct Candidate {
+    pub bits: u128,
+    pub parts: usize,
+    pub start: usize,
+}
+
+impl Candidate {
+    /// Fewer bits, with as many fewer parts, with as many of both the later start.
+    pub fn is_better<L: Ledger>(&self, other: &Candidate, comparisons: &mut Comparisons<L>) -> bool
+        ensures wins { OnTrue result (IsNoWorse self.now.bits self.now.parts self.now.start other.now.bits
+            other.now.parts other.now.start) }
+        ensures loses { OnFalse result (IsNoWorse other.now.bits other.now.parts other.now.start
+            self.now.bits self.now.parts self.now.start) }
+        ensures ticked { comparisons.new ≡ comparisons.old + 1 }
+    {
+        comparisons.tick();
+        if self.bits != other.bits {
+            self.bits < other.bits
+        } else if self.parts != other.parts {
+            self.parts < other.parts
+        } else {
+            self.start > other.start
+        }
+    }
+}
+
+/// The better of two, where there are two.
+pub fn better<L: Ledger>(
+    a: Option<Candidate>,
+    b: Option<Candidate>,
+    comparisons: &mut Comparisons<L>,
+) -> Option<Candidate>
+    ensures better { IsBetterOf a b result }
+    ensures ticked { comparisons.new ≤ comparisons.old + 1 }
+{
+    match (a, b) {
+        (None, b) => b,
+        (a, None) => a,
+        (Some(a), Some(b)) => {
+            if b.is_better(&a, comparisons) {
+                Some(b)
+            } else {
+                Some(a)
+            }
+        }
+    }
+}
+
+/// For each mode of a suffix, the best starts for each mode that a part may end in, and each rest of the begin there.
+#[derive(Clone, Copy)]
+pub struct Groups {
+    numeric: [Option<Candidate>; 8],
+    alphanumeric: [Option<Candidate>; 8],
+    byte: [Option<Candidate>; 8],
+    kanji: [Option<Candidate>; 8],
+}
+
+/// Takes from each bucket of one group what is better than in the other.
+fn absorb<L: Ledger>(
+    into: &mut [Option<Candidate>],
+    from: &[Option<Candidate>],
+    comparisons: &mut Comparisons<L>,
+)
+    requires into { length into.old ≡ 8 }
+    requires from { length from.now ≡ 8 }
+    ensures better { (j : ℕ) → j < 8 →
+        IsBetterOf (slot into.old j) (slot from.now j) (slot into.new j) }
+    ensures ticked { comparisons.new ≤ comparisons.old + 8 }
+{
+    for j in 0..8 {
+        if from[j].is_some() {
+            into[j] = better(into[j], from[j], comparisons);
+        }
+    }
+}
+
+/// Offers a candidate to a bucket.
+fn offer<L: Ledger>(
+    group: &mut [Option<Candidate>],
+    bucket: usize,
+    candidate: Candidate,
+    comparisons: &mut Comparisons<L>,
+)
+    requires inside { bucket < length group.old }
+    ensures better { IsBetterOf (slot group.old bucket) (Some candidate) (slot group.new bucket) }
+    ensures others { (j : ℕ) → j ≢ bucket → slot group.new j ≡ slot group.old j }
+    ensures ticked { comparisons.new ≤ comparisons.old + 1 }
+{
+    group[bucket] = better(group[bucket], Some(candidate), comparisons);
+}
+
+/// Offers a start to the four buckets of its rests.
+fn enter<L: Ledger>(
+    group: &mut [Option<Candidate>],
+    begin: usize,
+    bits: u128,
+    parts: usize,
+    start: usize,
+    comparisons: &mut Comparisons<L>,
+)
+    requires group { length group.old ≡ 8 }
+    requires small { bits < 2 ^ 80 }
+    ensures entered { EntersAll begin bits parts start group.old group.new }
+    ensures ticked { comparisons.new ≤ comparisons.old + 4 }
+{
+    let far: u128 = 1 << 64;
+    let mut key = Candidate {
+        bits: bits + 10 * (far - (begin / 3) as u128),
+        parts,
+        start,
+    };
+    offer(group, begin % 3, key, comparisons);
+    key.bits = bits + 11 * (far - (begin / 2) as u128);
+    offer(group, 3 + begin % 2, key, comparisons);
+    key.bits = bits + 8 * (far - begin as u128);
+    offer(group, 5, key, comparisons);
+    key.bits = bits + 13 * (far - (begin / 2) as u128);
+    offer(group, 6 + begin % 2, key, comparisons);
+}
+
+impl Groups {
+    /// No start yet.
+    pub fn new() -> Self
+        ensures numeric { IsEmptyGroup result.numeric }
+        ensures alphanumeric { IsEmptyGroup result.alphanumeric }
+        ensures byte { IsEmptyGroup result.byte }
+        ensures kanji { IsEmptyGroup result.kanji }
+    {
+        Groups {
+            numeric: [None; 8],
+            alphanumeric: [None; 8],
+            byte: [None; 8],
+            kanji: [None; 8],
+        }
+    }
+
+    /// Moves each group to that of its mode joined with the next segment's.
+    pub fn advance<L: Ledger>(&mut self, incoming: Mode, comparisons: &mut Comparisons<L>)
+        requires numeric { length self.old.numeric ≡ 8 }
+        requires alphanumeric { length self.old.alphanumeric ≡ 8 }
+        requires byte { length self.old.byte ≡ 8 }
+        requires kanji { length self.old.kanji ≡ 8 }
+        ensures advances { Advances incoming self.old self.new }
+        ensures ticked { comparisons.new ≤ comparisons.old + 24 }
+    {
+        match incoming {
+            Mode::Numeric => {
+                absorb(&mut self.byte, &self.kanji, comparisons);
+                self.kanji = [None; 8];
+            }
+            Mode::Alphanumeric => {
+                absorb(&mut self.alphanumeric, &self.numeric, comparisons);
+                absorb(&mut self.byte, &self.kanji, comparisons);
+                self.numeric = [None; 8];
+                self.kanji = [None; 8];
+            }
+            Mode::Byte => {
+                absorb(&mut self.byte, &self.numeric, comparisons);
+                absorb(&mut self.byte, &self.alphanumeric, comparisons);
+                absorb(&mut self.byte, &self.kanji, comparisons);
+                self.numeric = [None; 8];
+                self.alphanumeric = [None; 8];
+                self.kanji = [None; 8];
+            }
+            Mode::Kanji => {
+                absorb(&mut self.byte, &self.numeric, comparisons);
+                absorb(&mut self.byte, &self.alphanumeric, comparisons);
+                self.numeric = [None; 8];
+                self.alphanumeric = [None; 8];
+            }
+        }
+    }
+
+    /// The best start in a bucket of the group of a mode.
+    pub fn best(&self, mode: Mode, bucket: usize) -> Option<Candidate>
+        requires inside { bucket < length (group_of mode self.now) }
+        ensures { result ≡ slot (group_of mode self.now) bucket }
+    {
+        match mode {
+            Mode::Numeric => self.numeric[bucket],
+            Mode::Alphanumeric => self.alphanumeric[bucket],
+            Mode::Byte => self.byte[bucket],
+            Mode::Kanji => self.kanji[bucket],
+        }
+    }
+
+    /// Offers a start to the group of its segment's mode.
+    pub fn enter<L: Ledger>(
+        &mut self,
+        mode: Mode,
+        begin: usize,
+        bits: u128,
+        parts: usize,
+        start: usize,
+        comparisons: &mut Comparisons<L>,
+    )
+        requires numeric { length self.old.numeric ≡ 8 }
+        requires alphanumeric { length self.old.alphanumeric ≡ 8 }
+        requires byte { length self.old.byte ≡ 8 }
+        requires kanji { length self.old.kanji ≡ 8 }
+        requires small { bits < 2 ^ 80 }
+        ensures entered { EntersGroup mode begin bits parts start self.old self.new }
+        ensures small { begin < 2 ^ 64 }
+        ensures ticked { comparisons.new ≤ comparisons.old + 4 }
+    {
+        match mode {
+            Mode::Numeric => enter(&mut self.numeric, begin, bits, parts, start, comparisons),
+            Mode::Alphanumeric => enter(
+                &mut self.alphanumeric,
+                begin,
+                bits,
+                parts,
+                start,
+                comparisons,
+            ),
+            Mode::Byte => enter(&mut self.byte, begin, bits, parts, start, comparisons),
+            Mode::Kanji => enter(&mut self.kanji, begin, bits, parts, start, comparisons),
+        }
+    }
+}
+
+/// What is kept of the chosen plan of some first segments: the start of its last part, and that part.
+#[derive(Clone, Copy)]
+pub struct Step {
+    pub best: Candidate,
+    pub part: Segment,
+}
+
+/// The last part of the chosen plan of as many segments as there are steps, found by trying the best start of each
+/// rest.
+pub fn last_step_from<L: Ledger>(
+    segments: &[Segment],
+    version: Version,
+    steps: &[Step],
+    groups: &Groups,
+    comparisons: &mut Comparisons<L>,
+) -> Step
+    requires micro { HasMicroNumber version }
+    requires some { 0 < length steps.now }
+    requires within { length steps.now ≤ length segments.now }
+    requires linear { HasLinearCosts segments.now version }
+    requires right { AreSteps segments.now version steps.now }
+    requires groups { AreGroups segments.now version (length steps.now) (length steps.now) groups.now }
+    ensures step { IsStep segments.now version (length steps.now) result }
+    ensures ticked { comparisons.new ≤ comparisons.old + 8 }
+{
+    let end = steps.len();
+    let alone = segments[end - 1];
+    let last = steps[end - 1].best;
+    let mut part = alone;
+    let mut best = Candidate {
+        bits: last.bits + alone.wide_len(version),
+        parts: last.parts + 1,
+        start: end - 1,
+    };
+    for bucket in 0..8 {
+        let mode = bucket_mode(bucket);
+        if let Some(found) = groups.best(mode, bucket) {
+            let longer = Segment {
+                mode,
+                begin: segments[found.start].begin,
+                end: alone.end,
+            };
+            let before = steps[found.start].best;
+            let next = Candidate {
+                bits: before.bits + longer.wide_len(version),
+                parts: before.parts + 1,
+                start: found.start,
+            };
+            if next.is_better(&best, comparisons) {
+                best = next;
+                part = longer;
+            }
+        }
+    }
+    Step { best, part }
+}
+
+/// The parts of the chosen plan of all segments, from what is kept of the chosen plans of first segments.
+#[tactic(auto, using(crate::proofs::ReadBack::reads_back))]
+pub fn read_back(
+    alloc: Global,
+    segments: &[Segment],
+    version: Version,
+    steps: &[Step],
+) -> QrResult<Vec<Segment>>
+    requires all { length steps.now ≡ length segments.now + 1 }
+    requires right { AreSteps segments.now version steps.now }
+    ensures plan { IfOk result (λ plan. IsChosenPlan segments.now version plan.items) }
+    ensures memory { IfErr result (λ e. e ≡ QrError.OutOfMemory) }
+{
+    let mut plan = Vec::new(alloc);
+    let mut end = segments.len();
+    while end > 0 {
+        let step = steps[end];
+        plan.push(step.part)?;
+        end = step.best.start;
+    }
+    plan.reverse();
+    Ok(plan)
+}
+
+/// The chosen plan, found in one pass over the segments.
+pub fn optimize_linear<L: Ledger>(
+    alloc: Global,
+    segments: &[Segment],
+    version: Version,
+    comparisons: &mut Comparisons<L>,
+) -> QrResult<Vec<Segment>>
+    requires micro { HasMicroNumber version }
+    requires some { 0 < length segments.now }
+    requires linear { HasLinearCosts segments.now version }
+    ensures plan { IfOk result (λ plan. IsChosenPlan segments.now version plan.items) }
+    ensures memory { IfErr result (λ e. e ≡ QrError.OutOfMemory) }
+    ensures ticked { comparisons.new ≤ comparisons.old + 36 * length segments.now }
+{
+    let mut steps = Vec::new(alloc);
+    let mut groups = Groups::new();
+    let mut before = Step {
+        best: Candidate {
+            bits: 0,
+            parts: 0,
+            start: 0,
+        },
+        part: segments[0],
+    };
+    steps.push(before)?;
+    for start in 0..segments.len() {
+        let segment = segments[start];
+        groups.advance(segment.mode, comparisons);
+        groups.enter(
+            segment.mode,
+            segment.begin,
+            before.best.bits,
+            before.best.parts + 1,
+            start,
+            comparisons,
+        );
+        before = last_step_from(segments, version, &steps, &groups, comparisons);
+        steps.push(before)?;
+    }
+    read_back(alloc, segments, version, &steps)
+}
