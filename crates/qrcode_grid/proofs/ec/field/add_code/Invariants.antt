@@ -1,6 +1,6 @@
 -- The lanes are the remainder of the bytes so far.
 use Rattle.qrcode_grid.proofs.Prelude.{◌≡◌, ℕ, List, length, take, IsDivisor, AreRows, IsRemainder}
-use Rattle.qrcode_grid.proofs.ec.field.remainder.Given as goal
+use Rattle.qrcode_grid.proofs.ec.field.add_code.Given as goal
 
 abbrev pub invariant-loop-byte : goal.invariant-loop-byte
 invariant-loop-byte l = record {
