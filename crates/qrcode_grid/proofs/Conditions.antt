@@ -1,6 +1,6 @@
 -- The table of the masks' conditions, modules as bytes, masked and formatted, masks by their numbers, and lists of penalties.
 use Rattle.qrcode_grid.proofs.Prelude.{◌≡◌, ℕ, ◌+◌, ◌/◌, ◌%◌, ◌<◌, ◌==◌, eqb, Bool, cond, min, [], get_or, refl, ap, arith, List, map, length, Option, ◌∙◌, sym}
-use Rattle.qrcode_grid.proofs.Prelude.{zero, suc, ◌∷◌, ◌++◌, take, drop, slice_get, Some, option_map, unwrap_or, bit_at-lt, bit_at_xor, bit_at_and, nat_tests}
+use Rattle.qrcode_grid.proofs.Prelude.{zero, suc, ◌∷◌, ◌++◌, take, drop, slice_get, Some, option_map, unwrap_or, bit_at-lt, bit_at_xor, bit_at_and, bit_at_ones, bit_at-zero, true, false, nat_tests}
 use Rattle.qrcode_grid.proofs.Prelude.{bit_at, Light, Dark, Module, Empty, code_of, masked_code, pattern_of, is_inverted, drawn_over, format_color, masked}
 use Rattle.qrcode_grid.proofs.Prelude.{masked_cell, masked_cells, format_word, normal_number, family, add-mul, mul-add, mul_assoc, mul_comm, MaskPattern}
 use Rattle.qrcode_grid.proofs.Prelude.{common_steps, same_number_lists, get_or-map, length-map, take_at, take_more, Color, Version, color_of_module, Drawing}
@@ -31,6 +31,11 @@ bits_masked code b h l = grind (arith, nat_tests)
 pub bit_masked : (dark free conditions code m : ℕ) → code < 4 → bit_at dark m ≡ cond (code % 2 == 1) 1 0 → bit_at free m ≡ cond (code / 2 == 1) 1 0 →
     bit_at (bit_xor dark (bit_and free conditions)) m ≡ masked_code code (bit_at conditions m == 1)
 bit_masked dark free conditions code m h d e = grind (arith, common_steps, bit_at-lt, bit_at_and, bit_at_xor, bits_masked)
+
+-- a bit in all eight places of a byte
+pub spread_bit : (bit : Bool) (byte m : ℕ) → m < 8 → byte ≡ cond bit 255 0 → bit_at byte m ≡ cond bit 1 0
+spread_bit true byte m h is = ap (λ b. bit_at b m) is ∙ bit_at_ones 8 m h
+spread_bit false byte m h is = ap (λ b. bit_at b m) is ∙ bit_at-zero m
 
 -- Each row of a mask pattern repeats after six cells.
 

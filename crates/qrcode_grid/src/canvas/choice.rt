@@ -7,7 +7,7 @@ ghost use Rattle.qrcode_grid.specs.Masks.{family, IsOfFamily};
 ghost use Rattle.qrcode_grid.specs.Penalty.{score, IsFirstLeast, IsFirstLeastMask};
 
 use crate::canvas::scoring::candidates::{format_words, mask_number};
-use crate::canvas::scoring::{penalties_of, repeated, scratch_length, write_colors, zeros};
+use crate::canvas::scoring::{penalties_of, repeated, scratch, write_colors};
 use crate::canvas::{Canvas, MaskPattern};
 use qrcode_base::types::{Color, EcLevel, QrError, QrResult, Version};
 use std::alloc::Global;
@@ -91,7 +91,7 @@ impl Canvas {
         ensures refusal { IfErr result (λ e. e ≡ QrError.OutOfMemory) }
     {
         let words = format_words(self.version, self.level);
-        let mut scratch = zeros(alloc, scratch_length(self.width))?;
+        let mut scratch = scratch(alloc, self.width)?;
         let penalties = penalties_of(
             &self.modules,
             self.version,

@@ -18,16 +18,6 @@ use crate::canvas::regions::{color_of_digit, write_format};
 use crate::canvas::{MaskPattern, Module};
 use qrcode_base::types::{Color, EcLevel, Version};
 
-/// A bit in all eight places of a byte.
-fn spread(bit: bool) -> u8
-    ensures { (m : ℕ) → m < 8 → bit_at result m ≡ (if bit then 1 else 0) }
-{
-    if bit {
-        return 255;
-    }
-    0
-}
-
 /// The colours of a module under eight masks, by the conditions of its cell.
 fn masked_bits(old: Module, conditions: u8) -> u8
     ensures { (m : ℕ) → m < 8 → bit_at result m ≡ masked_code (code_of old) (bit_at conditions m == 1) }
@@ -37,7 +27,9 @@ fn masked_bits(old: Module, conditions: u8) -> u8
         _ => 2,
     };
     let code = data + u8::from(old.is_dark());
-    spread(code % 2 == 1) ^ (spread(code / 2 == 1) & conditions)
+    let dark = if code % 2 == 1 { 255 } else { 0 };
+    let free = if code / 2 == 1 { 255 } else { 0 };
+    dark ^ (free & conditions)
 }
 
 /// Writes the colours of some modules under eight masks, by the stripes from the first one on. What comes before them
@@ -76,20 +68,6 @@ fn mask_rows(modules: &[Module], stripes: &[u8], width: usize, grid: &mut [u8])
     }
 }
 
-/// Some digits and one more.
-fn with_digit(digits: u8, m: usize, digit: u8) -> u8
-    requires within { m < 8 }
-    requires none { bit_at digits m ≡ 0 }
-    requires digit { digit < 2 }
-    ensures here { bit_at result m ≡ digit }
-    ensures others { (i : ℕ) → ¬ (i ≡ m) → bit_at result i ≡ bit_at digits i }
-{
-    if digit == 1 {
-        return digits | 1 << m;
-    }
-    digits
-}
-
 /// One digit of eight words as the bits of a byte.
 fn digits_of(words: &[u32; 8], k: usize) -> u8
     requires { k < 32 }
@@ -98,8 +76,9 @@ fn digits_of(words: &[u32; 8], k: usize) -> u8
 {
     let mut digits = 0;
     for m in 0..8 {
-        let digit = u8::from(color_of_digit(words[m], k) == Color::Dark);
-        digits = with_digit(digits, m, digit);
+        if color_of_digit(words[m], k) == Color::Dark {
+            digits |= 1 << m;
+        }
     }
     digits
 }

@@ -97,18 +97,6 @@ fn count_bit(lanes: u8x16, m: usize) -> usize
     (lanes & bit).simd_eq(bit).to_bitmask().count_ones() as usize
 }
 
-/// Adds in how many lanes each bit is set.
-#[inline(always)]
-fn add_counts(sums: &mut [usize; 8], lanes: u8x16)
-    requires lanes { length lanes ≡ 16 }
-    requires room { (m : ℕ) → m < 8 → slice_index sums.old m ≤ 1000000 }
-    ensures { (m : ℕ) → m < 8 → slice_index sums.new m ≡ slice_index sums.old m + bit_count m lanes }
-{
-    for m in 0..8 {
-        sums[m] += count_bit(lanes, m);
-    }
-}
-
 /// Sixteen rows of lanes more.
 #[inline(always)]
 #[tactic(auto, using(crate::proofs::MarkedLanes::bit_count_le))]
@@ -122,7 +110,9 @@ pub fn add_rows(tally: Tally, rows: &[u8x16; 16]) -> Tally
 {
     let (planes, sixteens) = add_sixteen(tally.planes, rows);
     let mut sums = tally.sums;
-    add_counts(&mut sums, sixteens);
+    for m in 0..8 {
+        sums[m] += count_bit(sixteens, m);
+    }
     Tally { planes, sums }
 }
 
@@ -223,6 +213,7 @@ pub fn count_runs(width: usize, step: usize, edges: &[u8]) -> ([usize; 8], [usiz
         slice_index result.0 m ≡ count_below (has_five step (plane m edges.now)) (places width) }
     ensures sixes { (m : ℕ) → m < 8 →
         slice_index result.1 m ≡ count_below (has_six step (plane m edges.now)) (places width) }
+    ensures fewer { (m : ℕ) → m < 8 → slice_index result.1 m ≤ slice_index result.0 m }
     ensures small { (m : ℕ) → m < 8 → slice_index result.0 m ≤ 40000 }
 {
     let zero = u8x16::splat(0);

@@ -1,5 +1,5 @@
-use Rattle.qrcode_grid.proofs.Prelude.{◌≡◌, ◌+◌, ◌<◌, ◌==◌, ap, ◌∙◌, arith, bit_at, code_of, masked_code}
-use Rattle.qrcode_grid.proofs.Conditions.{bit_masked}
+use Rattle.qrcode_grid.proofs.Prelude.{◌≡◌, ◌+◌, ◌/◌, ◌%◌, ◌<◌, ◌==◌, cond, ap, ◌∙◌, arith, common_steps, bit_at, code_of, masked_code}
+use Rattle.qrcode_grid.proofs.Conditions.{bit_masked, spread_bit}
 use Rattle.qrcode_grid.proofs.canvas.scoring.candidates.masked_bits.Goals as goal
 
 pub returns : goal.returns
@@ -7,5 +7,7 @@ returns c =
     let code = c.match-old.data + c.from.result in
     let coded : code ≡ code_of c.args.old = grind arith in
     let small : code < 4 = grind arith in
-    λ m h. bit_masked c.spread.result c.spread-2.result c.args.conditions code m small (c.spread.ensures m h) (c.spread-2.ensures m h)
+    let dark : c.if-code-eq1.dark ≡ cond (code % 2 == 1) 255 0 = grind (arith, common_steps) in
+    let free : c.if-code-eq1-2.free ≡ cond (code / 2 == 1) 255 0 = grind (arith, common_steps) in
+    λ m h. bit_masked c.if-code-eq1.dark c.if-code-eq1-2.free c.args.conditions code m small (spread_bit _ _ m h dark) (spread_bit _ _ m h free)
     ∙ ap (λ k. masked_code k (bit_at c.args.conditions m == 1)) coded

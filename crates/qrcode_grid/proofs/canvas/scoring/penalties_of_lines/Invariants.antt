@@ -1,6 +1,6 @@
 -- The penalties of the candidates before this one are found.
 use Rattle.qrcode_grid.proofs.Prelude.{◌≡◌, ◌<◌, ◌≤◌, ◌+◌, ◌*◌, ℕ, get_or, length}
-use Rattle.qrcode_grid.proofs.canvas.scoring.weighed.Given as goal
+use Rattle.qrcode_grid.proofs.canvas.scoring.penalties_of_lines.Given as goal
 
 abbrev pub invariant-loop-m : goal.invariant-loop-m
 invariant-loop-m l = record {
