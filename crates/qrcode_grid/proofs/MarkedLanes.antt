@@ -1,4 +1,5 @@
 -- Lanes that mark where candidates have something, and what is counted in rows of lanes.
+use borrow.Rule.Slice.PartMut.{put_mid}
 use Rattle.qrcode_grid.proofs.Prelude.{◌≡◌, ℕ, zero, suc, ◌+◌, ◌-◌, ◌%◌, ◌<◌, ◌≤◌, ◌==◌, ◌&&◌, ◌||◌, ◌++◌, Bool, cond, List, map, take, drop, length, get_or}
 use Rattle.qrcode_grid.proofs.Prelude.{refl, ap, ◌∙◌, sym, arith, Fits, w8, ◌*◌, ◌^◌, min, count_by, ◌/◌, eqb, true, false, [], ◌∷◌, zero-add, bit_at, bit_not}
 use Rattle.qrcode_grid.proofs.Prelude.{bit_and, bit_or, bit_xor, get_or-map, length-map, get_or_past, get_or-append-add, get_or_append_left, length-take-le}
@@ -209,6 +210,17 @@ marks_same bytes fits at other inside second =
           ∙ ap (λ t. (get_or (plane m bytes) (at + j) 0 + t) % 2) (turned_at bytes fits other second m j hm hj)
           ∙ same_is (get_or (plane m bytes) (at + j) 0) (get_or (plane m bytes) (other + j) 0) (plane_small m bytes (at + j)) (plane_small m bytes (other + j));
     }
+
+-- A part of a list of numbers that is written over.
+
+pub part_here : (at k : ℕ) (xs ys : List ℕ) (j : ℕ) → at ≤ length xs → j < length ys → get_or (put_mid at k xs ys) (at + j) 0 ≡ get_or ys j 0
+part_here at k xs ys j within h = grind (arith, common_steps)
+
+pub part_before : (at k : ℕ) (xs ys : List ℕ) (i : ℕ) → i < at → at ≤ length xs → get_or (put_mid at k xs ys) i 0 ≡ get_or xs i 0
+part_before at k xs ys i h within = grind (arith, common_steps)
+
+pub part_behind : (at k : ℕ) (xs ys : List ℕ) (i : ℕ) → at + k ≤ i → at + k ≤ length xs → length ys ≡ k → get_or (put_mid at k xs ys) i 0 ≡ get_or xs i 0
+part_behind at k xs ys i h within long = grind (arith, common_steps)
 
 -- a lane that is written into a list of bytes
 pub chunk_lane : (bytes lanes rest : List ℕ) (at j : ℕ) → length lanes ≡ 16 → at + 16 ≤ length bytes → j < 16

@@ -8,17 +8,6 @@ ghost use Rattle.qrcode_grid.specs.Scoring.{has_finder, has_five, has_six, has_s
 
 use std::simd::prelude::*;
 
-/// Writes a row at a place. The other bytes stay.
-fn write_row(row: &[u8], at: usize, list: &mut [u8])
-    requires within { at + length row.now ≤ length list.old }
-    ensures row { (j : ℕ) → j < length row.now → slice_index list.new (at + j) ≡ slice_index row.now j }
-    ensures before { (k : ℕ) → k < at → slice_index list.new k ≡ slice_index list.old k }
-    ensures after { (k : ℕ) → at + length row.now ≤ k →
-        slice_index list.new k ≡ slice_index list.old k }
-{
-    list[at..at + row.len()].copy_from_slice(row);
-}
-
 /// Writes the rows of a grid between light modules.
 pub fn write_padded(width: usize, grid: &[u8], padded: &mut [u8])
     requires wide { (16 ≤ width) × (width ≤ 177) }
@@ -29,7 +18,8 @@ pub fn write_padded(width: usize, grid: &[u8], padded: &mut [u8])
 {
     for y in 0..width {
         let row = &grid[y * width..y * width + width];
-        write_row(row, (4 + y) * (width + 4), padded);
+        let at = (4 + y) * (width + 4);
+        padded[at..at + width].copy_from_slice(row);
     }
 }
 
