@@ -1,7 +1,7 @@
 //! The penalties of eight candidates at once. A grid is a list of bytes, a byte a module, and bit m of a byte is its
 //! colour in candidate m. In the penalty of one Micro symbol a byte is 1 where a module is dark, 0 where it is light.
 ghost use Rattle.std.specs.Prelude.{◌≡◌, ℕ, ◌+◌, ◌*◌, ◌<◌, ◌≤◌, length, map, replicate, slice_index, take, IfOk};
-ghost use Rattle.std.specs.Prelude.{◌==◌, count_by, drop};
+ghost use Rattle.std.specs.Prelude.{◌==◌, count_by, drop, if◌then◌else◌};
 ghost use Rattle.qrcode_base.specs.Symbols.{IsVersion, width_of};
 ghost use Rattle.qrcode_grid.specs.Canvas.{color_of_module};
 ghost use Rattle.qrcode_grid.specs.Penalty.{byte_of, penalty, micro_penalty};
@@ -49,12 +49,17 @@ fn write_plane(grid: &[u8], m: usize, candidate: &mut [u8])
     }
 }
 
-/// What the columns or the rows count in each candidate, by their edges: a run of n modules has n - 4 fives and n - 5
-/// sixes, and counts n - 2.
-#[inline(always)]
-fn penalties_of_lines(width: usize, step: usize, padded: &[u8], edges: &[u8]) -> [usize; 8]
+/// What the rows or the columns count in each candidate, by their edges: a run of n modules has n - 4 fives and n - 5
+/// sixes, and counts n - 2. There is one of it for each direction, so that the step of rows is known to the compiler.
+#[inline(never)]
+fn penalties_of_lines<const ROWS: bool>(
+    width: usize,
+    step: usize,
+    padded: &[u8],
+    edges: &[u8],
+) -> [usize; 8]
     requires wide { width ≤ 177 }
-    requires step { step ≤ width + 4 }
+    requires step { step ≡ (if ROWS then 1 else width + 4) }
     requires padded { length padded.now ≡ list_length width }
     requires edges { length edges.now ≡ list_length width }
     ensures is { (m : ℕ) → m < 8 →
@@ -92,9 +97,9 @@ pub fn penalties_of_normal(
     let stride = width + 4;
     write_padded(width, grid, padded);
     write_edges(width, stride, width, width - 1, padded, edges);
-    let columns = penalties_of_lines(width, stride, padded, edges);
+    let columns = penalties_of_lines::<false>(width, stride, padded, edges);
     write_edges(width, 1, width - 1, width, padded, edges);
-    let rows = penalties_of_lines(width, 1, padded, edges);
+    let rows = penalties_of_lines::<true>(width, 1, padded, edges);
     let squares = count(Feature::Square, width, 1, padded, edges);
     let darks = count(Feature::Dark, width, 1, padded, edges);
     let mut penalties = [0; 8];
