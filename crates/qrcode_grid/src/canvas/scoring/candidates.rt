@@ -121,16 +121,7 @@ pub fn mask_number(pattern: MaskPattern) -> usize
     ensures is { result ≡ normal_number pattern }
     ensures small { result < 8 }
 {
-    match pattern {
-        MaskPattern::Checkerboard => 0,
-        MaskPattern::HorizontalLines => 1,
-        MaskPattern::VerticalLines => 2,
-        MaskPattern::DiagonalLines => 3,
-        MaskPattern::LargeCheckerboard => 4,
-        MaskPattern::Fields => 5,
-        MaskPattern::Diamonds => 6,
-        MaskPattern::Meadow => 7,
-    }
+    pattern as usize
 }
 
 /// The format words of the masks of a version's family, by the numbers of the masks in Normal symbols.
