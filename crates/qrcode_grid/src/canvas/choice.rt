@@ -6,7 +6,7 @@ ghost use Rattle.qrcode_grid.specs.Canvas.{CarriesCodewords};
 ghost use Rattle.qrcode_grid.specs.Masks.{family, IsOfFamily};
 ghost use Rattle.qrcode_grid.specs.Penalty.{score, IsFirstLeast, IsFirstLeastMask};
 
-use crate::canvas::scoring::candidates::{format_words, mask_number};
+use crate::canvas::masks::{format_words, mask_number};
 use crate::canvas::scoring::{penalties_of, repeated, scratch, write_colors};
 use crate::canvas::{Canvas, MaskPattern};
 use qrcode_base::types::{Color, EcLevel, QrError, QrResult, Version};

@@ -11,13 +11,12 @@ ghost use Rattle.qrcode_grid.specs.declared.canvas.scoring.lists.Feature.{Featur
 ghost use Rattle.qrcode_grid.specs.Masks.{masked_cells};
 ghost use Rattle.qrcode_grid.specs.Scoring.{has, has_five, has_six, list_length, pattern_of, places, plane};
 
-pub mod candidates;
 mod counting;
 mod lists;
 mod planes;
 
 use crate::canvas::Module;
-use crate::canvas::scoring::candidates::write_candidates;
+use crate::canvas::masks::write_candidates;
 use crate::canvas::scoring::counting::{count, count_runs};
 use crate::canvas::scoring::lists::{Feature, write_edges, write_padded};
 use qrcode_base::types::{Color, Version};

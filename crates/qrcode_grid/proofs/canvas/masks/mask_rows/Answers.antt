@@ -1,6 +1,6 @@
 use Rattle.qrcode_grid.proofs.Prelude.{◌≡◌, ◌+◌, ◌-◌, ◌*◌, ◌%◌, ◌<◌, ◌==◌, map, get_or, ap, ◌∙◌, sym, arith, inl, inr, bit_at, mul-le-mul_right, add-mul}
 use Rattle.qrcode_grid.proofs.Prelude.{cases_lt, code_of, masked_code, common_steps}
-use Rattle.qrcode_grid.proofs.canvas.scoring.candidates.mask_rows.Goals as goal
+use Rattle.qrcode_grid.proofs.canvas.masks.mask_rows.Goals as goal
 
 pub mask_part-requires-clause-within : goal.mask_part-requires-clause-within
 mask_part-requires-clause-within c = grind (arith, common_steps, add-mul, mul-le-mul_right)

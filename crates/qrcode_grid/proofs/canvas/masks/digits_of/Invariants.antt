@@ -1,6 +1,6 @@
 -- The digits of the words before this one are set, and no others.
 use Rattle.qrcode_grid.proofs.Prelude.{◌≡◌, ◌<◌, ◌≤◌, ℕ, get_or, bit_at, byte_of, digit_color}
-use Rattle.qrcode_grid.proofs.canvas.scoring.candidates.digits_of.Given as goal
+use Rattle.qrcode_grid.proofs.canvas.masks.digits_of.Given as goal
 
 abbrev pub invariant-loop-m : goal.invariant-loop-m
 invariant-loop-m l = record {

@@ -3,7 +3,7 @@ use Rattle.qrcode_grid.proofs.Prelude.{length-map, code_of, masked_code, plane, 
 use Rattle.qrcode_grid.proofs.Conditions.{byte_under, set_again, is_inverted-repeats_rows, candidate_is}
 use Rattle.qrcode_grid.proofs.WrittenWords.{format_shown}
 use Rattle.qrcode_grid.proofs.MarkedLanes.{length-plane, plane_at}
-use Rattle.qrcode_grid.proofs.canvas.scoring.candidates.write_candidates.Goals as goal
+use Rattle.qrcode_grid.proofs.canvas.masks.write_candidates.Goals as goal
 
 pub returns : goal.returns
 returns c = λ m h.

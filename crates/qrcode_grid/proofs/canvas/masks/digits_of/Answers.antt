@@ -1,8 +1,8 @@
 use Rattle.qrcode_grid.proofs.Prelude.{◌≡◌, ◌<◌, ℕ, ap, ◌∙◌, sym, inl, inr, cases_lt, arith, common_steps, w8, get_or, bit_at, byte_of, digit_color}
 use Rattle.qrcode_base.specs.declared.types.Color.TheVariants.{Dark}
 use Rattle.std.proofs.lemmas.Nat.Bits.{bit_at_set_same, bit_at_set_other}
-use Rattle.qrcode_grid.proofs.canvas.scoring.candidates.digits_of.Goals.{then-eq, else-eq}
-use Rattle.qrcode_grid.proofs.canvas.scoring.candidates.digits_of.Goals as goal
+use Rattle.qrcode_grid.proofs.canvas.masks.digits_of.Goals.{then-eq, else-eq}
+use Rattle.qrcode_grid.proofs.canvas.masks.digits_of.Goals as goal
 
 pub loop-m-preserved : goal.loop-m-preserved
 loop-m-preserved c =

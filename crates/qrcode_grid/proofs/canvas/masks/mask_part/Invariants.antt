@@ -1,6 +1,6 @@
 -- The colours of the places before this one are written, and what comes before them stays.
 use Rattle.qrcode_grid.proofs.Prelude.{◌≡◌, ◌<◌, ◌+◌, ◌==◌, ℕ, map, get_or, bit_at, code_of, masked_code}
-use Rattle.qrcode_grid.proofs.canvas.scoring.candidates.mask_part.Given as goal
+use Rattle.qrcode_grid.proofs.canvas.masks.mask_part.Given as goal
 
 abbrev pub invariant-loop-k : goal.invariant-loop-k
 invariant-loop-k l = record {

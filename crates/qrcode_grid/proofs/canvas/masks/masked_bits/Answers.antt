@@ -1,6 +1,6 @@
 use Rattle.qrcode_grid.proofs.Prelude.{◌≡◌, ◌+◌, ◌/◌, ◌%◌, ◌<◌, ◌==◌, cond, ap, ◌∙◌, arith, common_steps, bit_at, code_of, masked_code}
 use Rattle.qrcode_grid.proofs.Conditions.{bit_masked, spread_bit}
-use Rattle.qrcode_grid.proofs.canvas.scoring.candidates.masked_bits.Goals as goal
+use Rattle.qrcode_grid.proofs.canvas.masks.masked_bits.Goals as goal
 
 pub returns : goal.returns
 returns c =
