@@ -37,17 +37,6 @@ pub fn scratch(alloc: Global, width: usize) -> Result<Vec<u8>, AllocError>
     repeated(alloc, 0, length, room)
 }
 
-/// Writes one candidate as a list of bytes.
-fn write_plane(grid: &[u8], m: usize, candidate: &mut [u8])
-    requires bit { m < 8 }
-    requires long { length candidate.old ≡ length grid.now }
-    ensures { candidate.new ≡ plane m grid.now }
-{
-    for k in 0..grid.len() {
-        candidate[k] = grid[k] >> m & 1;
-    }
-}
-
 /// What the rows or the columns count in each candidate, by their edges: a run of n modules has n - 4 fives and n - 5
 /// sixes, and counts n - 2. There is one of it for each direction, so that the step of rows is known to the compiler.
 #[inline(never)]
@@ -109,53 +98,33 @@ pub fn penalties_of_normal(
     penalties
 }
 
-/// Copies a column into a line.
-fn copy_column(width: usize, modules: &[u8], x: usize, line: &mut [u8])
-    requires square { length modules.now ≡ width * width }
-    requires wide { width ≤ 177 }
-    requires within { x < width }
-    requires long { length line.old ≡ width }
-    ensures { line.new ≡ column width modules.now x }
-{
-    for y in 0..width {
-        line[y] = modules[y * width + x];
-    }
-}
-
-/// How many modules of a line but its first are light.
-fn count_light(line: &[u8]) -> usize
-    requires { 0 < length line.now }
-    ensures { result ≡ count_by (λ m. m == 0) (drop 1 line.now) }
-{
-    line[1..].iter().filter(|cell| **cell == 0).count()
-}
-
-/// The penalty of a Micro symbol.
-pub fn penalty_of_micro(width: usize, modules: &[u8]) -> usize
-    requires square { length modules.now ≡ width * width }
+/// The penalty of one candidate of a Micro symbol, by the light modules of its bottom row and of its right column, but
+/// for their first.
+fn penalty_of_micro(width: usize, grid: &[u8], m: usize) -> usize
+    requires square { length grid.now ≡ width * width }
     requires wide { (0 < width) × (width ≤ 177) }
-    ensures { result ≡ micro_penalty width modules.now }
+    requires bit { m < 8 }
+    ensures { result ≡ micro_penalty width (plane m grid.now) }
 {
     let last = width - 1;
-    let mut buffer = [0; 177];
-    let line = &mut buffer[..width];
-    copy_column(width, modules, last, line);
-    let h = count_light(&modules[last * width..last * width + width]);
-    let v = count_light(line);
+    let mut h = 0;
+    let mut v = 0;
+    for k in 1..width {
+        h += 1 - usize::from(grid[last * width + k] >> m & 1);
+        v += 1 - usize::from(grid[k * width + last] >> m & 1);
+    }
     16 * h.max(v) + h.min(v)
 }
 
 /// The penalties of eight candidates of a Micro symbol, one after the other.
-fn penalties_of_micro(width: usize, grid: &[u8], candidate: &mut [u8]) -> [usize; 8]
+fn penalties_of_micro(width: usize, grid: &[u8]) -> [usize; 8]
     requires square { length grid.now ≡ width * width }
-    requires long { length candidate.old ≡ width * width }
     requires wide { (0 < width) × (width ≤ 177) }
     ensures { (m : ℕ) → m < 8 → slice_index result m ≡ micro_penalty width (plane m grid.now) }
 {
     let mut penalties = [0; 8];
     for m in 0..8 {
-        write_plane(grid, m, candidate);
-        penalties[m] = penalty_of_micro(width, candidate);
+        penalties[m] = penalty_of_micro(width, grid, m);
     }
     penalties
 }
@@ -188,7 +157,7 @@ pub fn penalties_of(
     write_candidates(modules, version, width, words, stripes, grid);
     match version {
         Version::Normal(_) => penalties_of_normal(width, grid, padded, edges),
-        Version::Micro(_) => penalties_of_micro(width, grid, &mut padded[..width * width]),
+        Version::Micro(_) => penalties_of_micro(width, grid),
     }
 }
 
