@@ -1,6 +1,7 @@
 -- The table of the masks' conditions, modules as bytes, masked and formatted, masks by their numbers, and lists of penalties.
 use Rattle.qrcode_grid.proofs.Prelude.{◌≡◌, ℕ, ◌+◌, ◌/◌, ◌%◌, ◌<◌, ◌==◌, eqb, Bool, cond, min, [], get_or, refl, ap, arith, List, map, length, Option, ◌∙◌, sym}
-use Rattle.qrcode_grid.proofs.Prelude.{zero, suc, ◌∷◌, ◌++◌, take, drop, slice_get, Some, option_map, unwrap_or, bit_at-lt, bit_at_xor, bit_at_and, bit_at_ones, bit_at-zero, true, false, nat_tests}
+use Rattle.qrcode_grid.proofs.Prelude.{zero, suc, ◌∷◌, ◌++◌, take, drop, slice_get, Some, option_map, unwrap_or, bit_at-lt, bit_at_xor, bit_at_and}
+use Rattle.qrcode_grid.proofs.Prelude.{bit_at_ones, bit_at-zero, true, false, nat_tests}
 use Rattle.qrcode_grid.proofs.Prelude.{bit_at, Light, Dark, Module, Empty, code_of, masked_code, pattern_of, is_inverted, drawn_over, format_color, masked}
 use Rattle.qrcode_grid.proofs.Prelude.{masked_cell, masked_cells, format_word, normal_number, family, add-mul, mul-add, mul_assoc, mul_comm, MaskPattern}
 use Rattle.qrcode_grid.proofs.Prelude.{common_steps, same_number_lists, get_or-map, length-map, take_at, take_more, Color, Version, color_of_module, Drawing}

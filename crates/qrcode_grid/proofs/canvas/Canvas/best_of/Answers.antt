@@ -1,4 +1,5 @@
-use Rattle.qrcode_grid.proofs.Prelude.{◌≡◌, ◌<◌, ℕ, ap, ◌∙◌, sym, subst, arith, List, length, get_or, get_or_default, slice_get, Some, Drawing, MaskPattern, family, penalty}
+use Rattle.qrcode_grid.proofs.Prelude.{◌≡◌, ◌<◌, ℕ, ap, ◌∙◌, sym, subst, arith, List, length, get_or, get_or_default, slice_get, Some, Drawing}
+use Rattle.qrcode_grid.proofs.Prelude.{MaskPattern, family, penalty}
 use Rattle.qrcode_grid.proofs.Prelude.{colors_of, with_mask, mask_penalties, IsFirstLeast, IsOfFamily, slice_get-get_or, length-map}
 use Rattle.qrcode_grid.specs.declared.canvas.MaskPattern.TheVariants.{Checkerboard}
 use Rattle.qrcode_grid.proofs.Conditions.{some_mask, of_family, penalty_at}
@@ -24,8 +25,7 @@ value_at_best c =
 pub returns-clause-best : goal.returns-clause-best
 returns-clause-best c =
     let d = c.args.self.now in
-    let i = c.loop-i.best in
-    (
+    let i = c.loop-i.best in (
       i,
       subst (λ (masks : List MaskPattern). slice_get (family d.version) i ≡ Some (get_or masks i Checkerboard)) (sym (family_is c))
           (slice_get-get_or (family d.version) i Checkerboard (within c)),

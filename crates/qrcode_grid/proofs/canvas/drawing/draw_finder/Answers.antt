@@ -44,7 +44,8 @@ loop-x-init c =
     row_begins (λ x y m. drawn_over (finder c.args.center_x c.args.center_y x y) m) c.args.width c.loop-y.y c.saturating_sub-left.result
     c.args.modules.now c.loop-y.modules
     (omega (arith, c.saturating_sub-left.ensures)) (λ x h m. ap (λ o. drawn_over o m)
-    (no_finder_column c.args.center_x c.args.center_y x c.loop-y.y (far_before c.args.center_x c.saturating_sub-left.result x c.saturating_sub-left.ensures h))) c.loop-y.invariant
+    (no_finder_column c.args.center_x c.args.center_y x c.loop-y.y
+    (far_before c.args.center_x c.saturating_sub-left.result x c.saturating_sub-left.ensures h))) c.loop-y.invariant
 
 pub loop-x-preserved : goal.loop-x-preserved
 loop-x-preserved c =
@@ -60,7 +61,8 @@ loop-y-preserved c =
     let within : c.loop-x.x ≤ c.args.width = omega (arith, c.loop-x.auto.x-end, c.min-right.ensures, c.saturating_sub-left.ensures) in
     row_ends (λ x y m. drawn_over (finder c.args.center_x c.args.center_y x y) m) c.args.width c.loop-y.y c.loop-x.x c.args.modules.now c.loop-x.modules
     within (λ x h l m. ap (λ o. drawn_over o m)
-    (no_finder_column c.args.center_x c.args.center_y x c.loop-y.y (far_behind c.args.center_x c.min-right.result c.args.width x c.min-right.ensures (omega arith) l))) c.loop-x.invariant
+    (no_finder_column c.args.center_x c.args.center_y x c.loop-y.y
+    (far_behind c.args.center_x c.min-right.result c.args.width x c.min-right.ensures (omega arith) l))) c.loop-x.invariant
 
 pub returns : goal.returns
 returns c =
@@ -69,4 +71,5 @@ returns c =
     (rows_between (λ x y m. drawn_over (finder c.args.center_x c.args.center_y x y) m) c.args.width c.loop-y.y c.args.width c.args.modules.now c.loop-y.modules
     (omega (arith, c.requires.row)) (omega (arith, c.loop-y.auto.y-end, c.min-bottom.ensures, c.saturating_sub-top.ensures))
     (λ x y h l k m. ap (λ o. drawn_over o m)
-    (no_finder_row c.args.center_x c.args.center_y x y (far_behind c.args.center_y c.min-bottom.result c.args.width y c.min-bottom.ensures (omega (arith, l, c.loop-y-test.false)) k))) c.loop-y.invariant)
+    (no_finder_row c.args.center_x c.args.center_y x y
+    (far_behind c.args.center_y c.min-bottom.result c.args.width y c.min-bottom.ensures (omega (arith, l, c.loop-y-test.false)) k))) c.loop-y.invariant)

@@ -1,4 +1,5 @@
-use Rattle.qrcode_grid.proofs.Prelude.{ℕ, ◌≡◌, ◌+◌, ◌-◌, ◌*◌, ◌%◌, ◌<◌, ◌≤◌, length, get_or, ap, ◌∙◌, sym, arith, inl, inr, cases_lt, mul-le-mul_right, add-mul, take, drop, length-chunk}
+use Rattle.qrcode_grid.proofs.Prelude.{◌≡◌, ◌+◌, ◌-◌, ◌*◌, ◌%◌, ◌≤◌, length, get_or, ap, ◌∙◌, arith, inl, inr, cases_lt, mul-le-mul_right, add-mul}
+use Rattle.qrcode_grid.proofs.Prelude.{take, drop, length-chunk}
 use borrow.Rule.Slice.PartMut.{put_mid}
 use Rattle.qrcode_grid.proofs.MarkedLanes.{part_here, part_before}
 use Rattle.qrcode_grid.proofs.canvas.masks.write_stripe.Goals as goal

@@ -1,6 +1,5 @@
 use Rattle.qrcode_grid.proofs.Prelude.{◌≡◌, ℕ, ◌+◌, ◌-◌, ◌*◌, ◌<◌, ◌≤◌, ◌==◌, [], ◌∷◌, ◌++◌, List, count_by, drop, take, get_or, length, ap, ◌∙◌, sym, arith}
-use Rattle.qrcode_grid.proofs.Prelude.{row, column, plane, bit_at, take_more, take_all, length-take, common_steps, length-chunk, get_or-chunk, mul-le-mul_right, add-mul}
-use Rattle.qrcode_grid.proofs.Prelude.{length-map-range_with_len, get_or-map-range_with_len}
+use Rattle.qrcode_grid.proofs.Prelude.{row, column, plane, take_more, take_all, length-take, common_steps}
 use Rattle.std.proofs.lemmas.List.{drop-append-le}
 use Rattle.std.proofs.lemmas.Nat.Bits.{shr_and_one}
 use Rattle.qrcode_grid.proofs.PaddedCounts.{length-row, length-column, get_or-row, get_or-column}

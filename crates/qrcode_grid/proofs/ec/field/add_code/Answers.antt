@@ -1,4 +1,5 @@
-use Rattle.qrcode_grid.proofs.Prelude.{◌≡◌, ℕ, List, ◌<◌, ◌++◌, length, get_or, take, ap, ◌∙◌, refl, sym, subst, arith, take_all, take_more, All-drop, AreBytes, length-take, IsRemainder}
+use Rattle.qrcode_grid.proofs.Prelude.{◌≡◌, ℕ, List, ◌<◌, ◌++◌, length, get_or, take, ap, ◌∙◌, refl, sym, subst, arith, take_all, take_more, All-drop}
+use Rattle.qrcode_grid.proofs.Prelude.{AreBytes, length-take, IsRemainder}
 use Rattle.qrcode_grid.proofs.RowDivision.{first_remainder, next_remainder, put_in_zeros, value_at-completed}
 use Rattle.std.proofs.Math.Seq.{drop-append_seam}
 use Rattle.qrcode_grid.proofs.ec.field.add_code.Goals as goal
@@ -39,7 +40,7 @@ returns c = record {
         appended = appended;
         size = size;
         bytes = subst AreBytes (drop-append_seam old (take n lanes))
-        (All-drop (λ x. x < 256) (length old) (old ++ take n lanes) (subst AreBytes appended c.type_inv.codes));
+            (All-drop (λ x. x < 256) (length old) (old ++ take n lanes) (subst AreBytes appended c.type_inv.codes));
         vanishes = λ a root. value_at-completed c.args.body.now (take n lanes) n a size (is.congruent a root);
       };
 }

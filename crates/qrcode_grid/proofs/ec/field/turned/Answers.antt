@@ -1,4 +1,5 @@
-use Rattle.qrcode_grid.proofs.Prelude.{◌≡◌, ◌+◌, ◌<◌, length, xor_of_8, ◌/◌, ◌%◌, List, ℕ, [], ◌++◌, map, get_or, ap, ◌∙◌, sym, refl, arith, range_with_len, get_or_default, bit_xor, product}
+use Rattle.qrcode_grid.proofs.Prelude.{◌≡◌, ◌+◌, ◌<◌, length, xor_of_8, ◌/◌, ◌%◌, List, ℕ, [], ◌++◌, map, get_or, ap, ◌∙◌, sym, refl, arith}
+use Rattle.qrcode_grid.proofs.Prelude.{range_with_len, get_or_default, bit_xor, product}
 use lib.ListN.{replicate}
 use lib.Lanes.{zip2}
 use Rattle.qrcode_grid.proofs.RowDivision.{fits_at, lane_moved, lane_xor, length_xor, product-halves, times_one}
@@ -10,7 +11,8 @@ first_lane lanes first some is = is ∙ get_or_default lanes 0 first 0 some
 pub returns-clause-lanes : goal.returns-clause-lanes
 returns-clause-lanes c =
     let first : c.index.result.now ≡ get_or c.args.lanes 0 0 = first_lane c.args.lanes c.index.result.now (omega arith) c.index.ensures in
-    let small : bit_xor c.args.byte c.index.result.now < 256 = xor_of_8 c.args.byte c.index.result.now (omega arith) (omega (arith, fits_at c.args.lanes 0 c.fits-lanes.1)) in
+    let small : bit_xor c.args.byte c.index.result.now < 256 =
+    xor_of_8 c.args.byte c.index.result.now (omega arith) (omega (arith, fits_at c.args.lanes 0 c.fits-lanes.1)) in
     let moved = map (λ k. get_or (c.args.lanes ++ replicate 32 0) k 0) (range_with_len 1 32) in
     length_xor moved _ 32 refl
     (length_xor _ _ 32 (c.requires.low c.from.result [] (omega arith)) (c.requires.high c.from-2.result [] (omega arith)))

@@ -1,4 +1,5 @@
-use Rattle.qrcode_grid.proofs.Prelude.{ℕ, ◌≡◌, ◌+◌, ◌-◌, ◌*◌, ◌≤◌, ◌<◌, length, take, drop, get_or, ap, ◌∙◌, sym, arith, inl, inr, mul-le-mul_right, add-mul, cases_lt}
+use Rattle.qrcode_grid.proofs.Prelude.{ℕ, ◌≡◌, ◌+◌, ◌-◌, ◌*◌, ◌≤◌, ◌<◌, length, take, drop, get_or, ap, ◌∙◌, sym, arith, inl, inr, mul-le-mul_right}
+use Rattle.qrcode_grid.proofs.Prelude.{add-mul, cases_lt}
 use Rattle.qrcode_grid.proofs.Prelude.{length-chunk, get_or-chunk, stride}
 use borrow.Rule.Slice.PartMut.{put_mid}
 use Rattle.qrcode_grid.proofs.PaddedCounts.{row_before}
@@ -19,14 +20,16 @@ loop-y-preserved c =
     let last : first + w ≤ length old =
     let up : 4 + y ≤ w + 14 = omega arith in omega (arith, mul-le-mul_right s up, c.requires.long) in
     let before = λ (i : ℕ) (h : i < first). part_before first (first + w - first) old part i h (omega (arith, last)) in
-    let after = λ (i : ℕ) (h : first + w ≤ i). part_behind first (first + w - first) old part i (omega (arith, h)) (omega (arith, last)) (omega (arith, size)) in
+    let after = λ (i : ℕ) (h : first + w ≤ i).
+    part_behind first (first + w - first) old part i (omega (arith, h)) (omega (arith, last)) (omega (arith, size)) in
     record {
       grid = λ x r hx hr. elim (cases_lt r y) [
         | inl early ↦ before ((4 + r) * s + x) (row_before s (4 + r) x (4 + y) (omega (arith, early)) (omega (arith, hx)))
             ∙ c.loop-y.invariant.grid x r hx early
         | inr late ↦
             let e : r ≡ y = omega (arith, hr, late) in
-            ap (λ r. get_or new ((4 + r) * s + x) 0) e ∙ part_here first (first + w - first) old part x (omega (arith, last)) (omega (arith, hx, size)) ∙ ap (λ xs. get_or xs x 0) same
+            ap (λ r. get_or new ((4 + r) * s + x) 0) e
+            ∙ part_here first (first + w - first) old part x (omega (arith, last)) (omega (arith, hx, size)) ∙ ap (λ xs. get_or xs x 0) same
             ∙ ap (λ k. get_or (take k (drop (y * w) grid)) x 0) n
             ∙ get_or-chunk (y * w) w grid x 0 hx
             ∙ ap (λ r. get_or grid (r * w + x) 0) (sym e)
