@@ -1,11 +1,14 @@
 -- The table of the masks' conditions, modules as bytes, masked and formatted, masks by their numbers, and lists of penalties.
 use Rattle.qrcode_grid.proofs.Prelude.{◌≡◌, ℕ, ◌+◌, ◌/◌, ◌%◌, ◌<◌, ◌==◌, eqb, Bool, cond, min, [], get_or, refl, ap, arith, List, map, length, Option, ◌∙◌, sym}
-use Rattle.qrcode_grid.proofs.Prelude.{zero, suc, ◌∷◌, ◌++◌, take, drop, slice_get, Some, option_map, unwrap_or, bit_at-lt, bit_at_xor, bit_at_and, nat_tests}
+use Rattle.qrcode_grid.proofs.Prelude.{zero, suc, ◌∷◌, ◌++◌, take, drop, slice_get, Some, option_map, unwrap_or, bit_at-lt, bit_at_xor, bit_at_and}
+use Rattle.qrcode_grid.proofs.Prelude.{bit_at_ones, bit_at-zero, true, false, nat_tests}
 use Rattle.qrcode_grid.proofs.Prelude.{bit_at, Light, Dark, Module, Empty, code_of, masked_code, pattern_of, is_inverted, drawn_over, format_color, masked}
 use Rattle.qrcode_grid.proofs.Prelude.{masked_cell, masked_cells, format_word, normal_number, family, add-mul, mul-add, mul_assoc, mul_comm, MaskPattern}
 use Rattle.qrcode_grid.proofs.Prelude.{common_steps, same_number_lists, get_or-map, length-map, take_at, take_more, Color, Version, color_of_module, Drawing}
 use Rattle.qrcode_grid.proofs.Prelude.{with_mask, mask_penalties, colors_of, byte_of, penalty, EcLevel, width_of, slice_get-map}
 use Rattle.qrcode_grid.proofs.Prelude.{slice_get_within, get_or_from_slice_get, bit_and, bit_xor}
+use Rattle.qrcode_grid.proofs.Prelude.{Normal, Micro, IsOfFamily}
+use Rattle.qrcode_grid.specs.declared.canvas.MaskPattern.TheVariants.{Checkerboard}
 use Rattle.qrcode_grid.specs.declared.canvas.masks.TheConstants.{CONDITIONS}
 use Rattle.qrcode_grid.proofs.FieldLaws.{passes_below, passes_below-at}
 use Rattle.qrcode_grid.proofs.MarkedLanes.{eqb_true}
@@ -31,6 +34,11 @@ bits_masked code b h l = grind (arith, nat_tests)
 pub bit_masked : (dark free conditions code m : ℕ) → code < 4 → bit_at dark m ≡ cond (code % 2 == 1) 1 0 → bit_at free m ≡ cond (code / 2 == 1) 1 0 →
     bit_at (bit_xor dark (bit_and free conditions)) m ≡ masked_code code (bit_at conditions m == 1)
 bit_masked dark free conditions code m h d e = grind (arith, common_steps, bit_at-lt, bit_at_and, bit_at_xor, bits_masked)
+
+-- a bit in all eight places of a byte
+pub spread_bit : (bit : Bool) (byte m : ℕ) → m < 8 → byte ≡ cond bit 255 0 → bit_at byte m ≡ cond bit 1 0
+spread_bit true byte m h is = ap (λ b. bit_at b m) is ∙ bit_at_ones 8 m h
+spread_bit false byte m h is = ap (λ b. bit_at b m) is ∙ bit_at-zero m
 
 -- Each row of a mask pattern repeats after six cells.
 
@@ -115,6 +123,24 @@ same_colors xs ys e = sym (colors_again xs) ∙ ap (map color_of_byte) e ∙ col
 -- a list that was written whole
 pub written_whole : {X : Type 0} (new old : List X) (n : ℕ) → length new ≡ n → take n (new ++ drop (length new) old) ≡ new
 written_whole new old n e = take_at new (drop (length new) old) n e
+
+-- The masks of a family: one at each of its places, with a penalty of its own.
+
+pub some_mask : (v : Version) → 0 < length (family v)
+some_mask (Normal z) = omega arith
+some_mask (Micro z) = omega arith
+
+pub of_family : (v : Version) (i : ℕ) → i < length (family v) → IsOfFamily v (get_or (family v) i Checkerboard)
+of_family (Normal z) i h = tt
+of_family (Micro z) zero h = refl
+of_family (Micro z) (suc zero) h = refl
+of_family (Micro z) (suc (suc zero)) h = refl
+of_family (Micro z) (suc (suc (suc zero))) h = refl
+of_family (Micro z) (suc (suc (suc (suc i)))) h = absurd (omega (arith, h))
+
+pub penalty_at : (d : Drawing) (i : ℕ) → i < length (family d.version) →
+    get_or (mask_penalties d) i 0 ≡ penalty d.version (colors_of (with_mask (get_or (family d.version) i Checkerboard) d))
+penalty_at d i h = get_or-map (λ q. penalty d.version (colors_of (with_mask q d))) (family d.version) i Checkerboard 0 h
 
 -- The list of penalties grows by one.
 

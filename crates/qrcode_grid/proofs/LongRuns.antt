@@ -1,12 +1,20 @@
 -- The runs of a line, by its fives and sixes of one colour: a run of n modules, n at least 5, has n - 4 fives and n - 5 sixes.
 use Rattle.qrcode_grid.proofs.Prelude.{◌≡◌, ℕ, zero, suc, ◌+◌, ◌-◌, ◌*◌, ◌<◌, ◌≤◌, ◌==◌, ◌&&◌, Bool, true, false, cond, List, [], ◌∷◌, length, get_or, refl}
-use Rattle.qrcode_grid.proofs.Prelude.{arith, not, ap, ◌∙◌, sym, prefix_len, eqb_tells, common_steps, count_below, sum_below, nat_le}
-use Rattle.qrcode_grid.specs.Penalty.{begins_run, run_length, runs_penalty}
+use Rattle.qrcode_grid.proofs.Prelude.{◌||◌, arith, not, ap, ◌∙◌, sym, prefix_len, eqb_tells, common_steps, count_below, sum_below, nat_le}
+use Rattle.qrcode_grid.specs.Penalty.{run_length}
 use Rattle.qrcode_grid.proofs.Totals.{total-first, total-cong}
 
 -- what a run of n modules counts
 abbrev pub length_penalty : ℕ → ℕ
 length_penalty n = cond (nat_le 5 n) (n - 2) 0
+
+-- whether a maximal run begins at a place
+abbrev begins_run : List ℕ → ℕ → Bool
+begins_run line i = i == 0 || not (get_or line (i - 1) 0 == get_or line i 0)
+
+-- what the runs of a line count
+abbrev pub runs_penalty : List ℕ → ℕ
+runs_penalty line = sum_below (λ i. cond (begins_run line i && nat_le 5 (run_length line i)) (run_length line i - 2) 0) (length line)
 
 -- what the run counts that begins at a place, if one does
 abbrev pub run_penalty : List ℕ → ℕ → ℕ

@@ -1,4 +1,5 @@
 -- Lanes that mark where candidates have something, and what is counted in rows of lanes.
+use borrow.Rule.Slice.PartMut.{put_mid}
 use Rattle.qrcode_grid.proofs.Prelude.{◌≡◌, ℕ, zero, suc, ◌+◌, ◌-◌, ◌%◌, ◌<◌, ◌≤◌, ◌==◌, ◌&&◌, ◌||◌, ◌++◌, Bool, cond, List, map, take, drop, length, get_or}
 use Rattle.qrcode_grid.proofs.Prelude.{refl, ap, ◌∙◌, sym, arith, Fits, w8, ◌*◌, ◌^◌, min, count_by, ◌/◌, eqb, true, false, [], ◌∷◌, zero-add, bit_at, bit_not}
 use Rattle.qrcode_grid.proofs.Prelude.{bit_and, bit_or, bit_xor, get_or-map, length-map, get_or_past, get_or-append-add, get_or_append_left, length-take-le}
@@ -210,11 +211,39 @@ marks_same bytes fits at other inside second =
           ∙ same_is (get_or (plane m bytes) (at + j) 0) (get_or (plane m bytes) (other + j) 0) (plane_small m bytes (at + j)) (plane_small m bytes (other + j));
     }
 
--- a lane that is written into a list of bytes
-pub chunk_lane : (bytes lanes rest : List ℕ) (at j : ℕ) → length lanes ≡ 16 → at + 16 ≤ length bytes → j < 16
-    → get_or (take at bytes ++ (put_chunk 0 (take (at + 16 - at) (drop at bytes)) lanes ++ rest)) (at + j) 0 ≡ get_or lanes j 0
-chunk_lane bytes lanes rest at j l within h =
-    grind (arith, nat_tests, length-take-le, length-drop, get_or-append-add, get_or_append_left, length-put_chunk, get_or-put_chunk_at)
+-- A part of a list of numbers that is written over.
+
+pub part_here : (at k : ℕ) (xs ys : List ℕ) (j : ℕ) → at ≤ length xs → j < length ys → get_or (put_mid at k xs ys) (at + j) 0 ≡ get_or ys j 0
+part_here at k xs ys j within h = grind (arith, common_steps)
+
+pub part_before : (at k : ℕ) (xs ys : List ℕ) (i : ℕ) → i < at → at ≤ length xs → get_or (put_mid at k xs ys) i 0 ≡ get_or xs i 0
+part_before at k xs ys i h within = grind (arith, common_steps)
+
+pub part_behind : (at k : ℕ) (xs ys : List ℕ) (i : ℕ) → at + k ≤ i → at + k ≤ length xs → length ys ≡ k → get_or (put_mid at k xs ys) i 0 ≡ get_or xs i 0
+part_behind at k xs ys i h within long = grind (arith, common_steps)
+
+-- sixteen lanes that are written into a list of bytes
+abbrev pub with_lanes : ℕ → List ℕ → List ℕ → List ℕ
+with_lanes at bytes lanes = put_mid at (at + 16 - at) bytes (put_chunk 0 (take (at + 16 - at) (drop at bytes)) lanes)
+
+lanes_long : (at : ℕ) (bytes lanes : List ℕ) → at + 16 ≤ length bytes → length (put_chunk 0 (take (at + 16 - at) (drop at bytes)) lanes) ≡ 16
+lanes_long at bytes lanes within = grind (arith, nat_tests, length-take-le, length-drop, length-put_chunk)
+
+lane_put : (at : ℕ) (bytes lanes : List ℕ) (j : ℕ) → length lanes ≡ 16 → at + 16 ≤ length bytes → j < 16 →
+    get_or (put_chunk 0 (take (at + 16 - at) (drop at bytes)) lanes) j 0 ≡ get_or lanes j 0
+lane_put at bytes lanes j l within h = grind (arith, nat_tests, length-take-le, length-drop, get_or-put_chunk_at)
+
+pub lanes_here : (at : ℕ) (bytes lanes : List ℕ) (j : ℕ) → length lanes ≡ 16 → at + 16 ≤ length bytes → j < 16 →
+    get_or (with_lanes at bytes lanes) (at + j) 0 ≡ get_or lanes j 0
+lanes_here at bytes lanes j l within h =
+    part_here at (at + 16 - at) bytes _ j (omega arith) (omega (arith, lanes_long at bytes lanes within)) ∙ lane_put at bytes lanes j l within h
+
+pub lanes_before : (at : ℕ) (bytes lanes : List ℕ) (k : ℕ) → at + 16 ≤ length bytes → k < at → get_or (with_lanes at bytes lanes) k 0 ≡ get_or bytes k 0
+lanes_before at bytes lanes k within h = part_before at (at + 16 - at) bytes _ k h (omega arith)
+
+pub lanes_behind : (at : ℕ) (bytes lanes : List ℕ) (k : ℕ) → at + 16 ≤ length bytes → at + 16 ≤ k → get_or (with_lanes at bytes lanes) k 0 ≡ get_or bytes k 0
+lanes_behind at bytes lanes k within h =
+    part_behind at (at + 16 - at) bytes _ k (omega arith) (omega arith) (omega (arith, lanes_long at bytes lanes within))
 
 pub ruleset dark_marks = (marks_as, marks_dark, common_steps)
 

@@ -60,5 +60,5 @@ pub use Rattle.qrcode_grid.specs.declared.canvas.MaskPattern.TheVariants.{Diamon
 pub use Rattle.qrcode_grid.specs.declared.canvas.Module.{Module}
 pub use Rattle.qrcode_grid.specs.declared.canvas.Module.TheVariants.{Empty, Masked, Unmasked}
 pub use Rattle.qrcode_grid.specs.declared.canvas.data.Columns.{Columns}
-pub use Rattle.qrcode_grid.specs.declared.canvas.regions.TheConstants.{FINDER, VERSION_WORDS}
+pub use Rattle.qrcode_grid.specs.declared.canvas.regions.TheConstants.{VERSION_WORDS}
 pub use Rattle.qrcode_grid.specs.declared.ec.field.TheConstants.{LOGS, POWERS}

@@ -3,7 +3,7 @@ use Rattle.qrcode_grid.proofs.Prelude.{◌≡◌, ◌-◌, ◌≤◌, zero, suc,
 use Rattle.qrcode_grid.proofs.Prelude.{[], ◌∷◌, get_or, ◌/◌, map, sym, ◌∙◌, leb, cond, inl, inr, Bool, true, ◌%◌, fold, option_or, Light, Dark, nat_tests}
 use Rattle.qrcode_grid.proofs.Prelude.{Color, Module, VERSION_WORDS, drawn_over, finder, timing, version_copies, alignments, alignment_coordinates}
 use Rattle.qrcode_grid.proofs.Prelude.{near, alignment_count, alignment_at, alignment_coordinate, version_word, common_steps, range_with_len}
-use Rattle.qrcode_grid.proofs.Prelude.{get_or-map-range_with_len, abs_diff, cases_lt, leb-true, Some}
+use Rattle.qrcode_grid.proofs.Prelude.{get_or-map-range_with_len, abs_diff, min, cases_lt, leb-true, Some}
 use Rattle.qrcode_grid.proofs.Tests.{all_pass, passes, both}
 
 pub no_version : (n x y : ℕ) → n < 7 → version_copies n x y ≡ None
@@ -51,6 +51,13 @@ no_timing_before line from to x order before = no_timing line from to x line (gr
 
 pub no_timing_behind : (line from to x : ℕ) → line < from → to < x → timing line from to x line ≡ None
 no_timing_behind line from to x order behind = no_timing line from to x line (grind (arith, nat_tests, order, behind))
+
+-- the columns or rows that are too far from the centre of a finder pattern
+pub far_before : (center first k : ℕ) → first ≡ center - 4 → k < first → 4 < abs_diff center k
+far_before center first k is before = grind (arith, common_steps)
+
+pub far_behind : (center end width k : ℕ) → end ≡ min (center + 5) width → end ≤ k → k < width → 4 < abs_diff center k
+far_behind center end width k is behind inside = grind (arith, common_steps)
 
 -- the cells that are too far for a finder pattern
 pub no_finder_column : (center_x center_y x y : ℕ) → 4 < abs_diff center_x x → finder center_x center_y x y ≡ None

@@ -189,6 +189,12 @@ multiple_even i c h e = grind (arith, common_steps, multiple_from_half, product-
 pub multiple_odd : (i c : ℕ) → i < 16 → c < 256 → i % 2 ≡ 1 → product i c ≡ bit_xor (double (product (i / 2) c)) c
 multiple_odd i c h small e = grind (arith, common_steps, multiple_from_half, product-one_left)
 
+-- a lane of an odd multiple, from the even one below it
+pub odd_lane : (even terms : List ℕ) (i j : ℕ) → length even ≡ 32 → length terms ≡ 32 → i < 16 → i % 2 ≡ 1 → j < 32 → get_or terms j 0 < 256 →
+    get_or even j 0 ≡ double (product (i / 2) (get_or terms j 0)) → get_or (zip2 bit_xor even terms) j 0 ≡ product i (get_or terms j 0)
+odd_lane even terms i j la lb below odd h small is =
+    lane_xor even terms 32 j la lb h ∙ ap (λ x. bit_xor x (get_or terms j 0)) is ∙ sym (multiple_odd i (get_or terms j 0) below small odd)
+
 -- a byte by its halves
 nibbles_test : passes_below 256 (λ f. eqb (bit_xor (f % 16) (product (f / 16) 16)) f) ≡ true
 unfolding double shift_and_add product
@@ -204,13 +210,6 @@ product-halves f c h =
 
 pub times_one : (a t : ℕ) → a < 256 → product a (product 1 t) ≡ product a t
 times_one a t h = sym (product_assoc a 1 t) ∙ ap (λ x. product x t) (product_comm a 1 ∙ product-one_left a h)
-
-sixteen_test : passes_below 256 (λ a. eqb (double (double (double (double a)))) (product 16 a)) ≡ true
-unfolding double shift_and_add product
-sixteen_test = refl
-
-pub four_doublings : (a : ℕ) → a < 256 → double (double (double (double a))) ≡ product 16 a
-four_doublings a h = eqb-true _ _ (passes_below-at (λ a. eqb (double (double (double (double a)))) (product 16 a)) 256 a sixteen_test h)
 
 zeros_at : (n k : ℕ) → get_or {A = ℕ} (replicate n 0) k 0 ≡ 0
 zeros_at zero k = refl
@@ -241,8 +240,6 @@ put_all (x ∷ xs) (y ∷ ys) h = ap (λ t. y ∷ t) (put_all xs ys (omega (arit
 
 pub put_in_zeros : (ys : List ℕ) → length ys ≡ 32 → put_chunk 0 (replicate 32 0) ys ≡ ys
 put_in_zeros ys h = put_all (replicate 32 0) ys (sym h)
-
-pub ruleset next_multiples = (fits_at, lane_xor, multiple_even, multiple_odd, common_steps)
 
 value_at-nothing : (a : ℕ) → value_at [] a ≡ 0
 unfolding value_at
@@ -361,11 +358,15 @@ first_remainder n divisor h = record {
 }
 
 -- rows of the terms, and of 16 times the terms
-pub rows_made : (divisor terms sixteenfold : List ℕ) (low high : List (List ℕ)) → AreTerms divisor terms →
+pub rows_made : (divisor terms twice : List ℕ) (low high : List (List ℕ)) → AreTerms divisor terms →
     ((i j : ℕ) → i < 16 → j < 32 → get_or (get_or low i []) j 0 ≡ product i (get_or terms j 0)) →
-    ((j : ℕ) → j < 32 → get_or sixteenfold j 0 ≡ product 16 (get_or terms j 0)) →
-    ((i j : ℕ) → i < 16 → j < 32 → get_or (get_or high i []) j 0 ≡ product i (get_or sixteenfold j 0)) → AreRows divisor terms low high
-rows_made divisor terms sixteenfold low high padded by_low by_sixteen by_high = grind (arith, common_steps, times_one)
+    ((j : ℕ) → j < 32 → get_or twice j 0 ≡ double (get_or (get_or low 8 []) j 0)) →
+    ((i j : ℕ) → i < 16 → j < 32 → get_or (get_or high i []) j 0 ≡ product i (get_or twice j 0)) → AreRows divisor terms low high
+unfolding double
+rows_made divisor terms twice low high padded by_low doubled by_high =
+    let sixteen : (j : ℕ) → j < 32 → get_or twice j 0 ≡ product 16 (get_or terms j 0) = λ j h.
+    doubled j h ∙ ap double (by_low 8 j (omega arith) h) ∙ sym (product-double 8 (get_or terms j 0) (omega arith)) in
+    grind (arith, common_steps, times_one)
 
 -- a list that begins with one is not empty
 pub begun : (xs : List ℕ) → get_or xs 0 0 ≡ 1 → length xs ≡ length xs - 1 + 1

@@ -1,5 +1,6 @@
 -- Words and rows that loops write into a grid: over bytes and over modules alike. Then the distance of drawn words.
-use Rattle.qrcode_grid.proofs.Prelude.{◌≡◌, ◌≢◌, ℕ, ◌<◌, ◌≤◌, ◌+◌, ◌-◌, ◌*◌, ◌==◌, ◌&&◌, Bool, true, false, List, [], ◌∷◌, length, get_or, set, drop, Option}
+use Rattle.qrcode_grid.proofs.Prelude.{All, rules, ◌≡◌, ◌≢◌, ℕ, ◌<◌, ◌≤◌, ◌+◌, ◌-◌, ◌*◌, ◌==◌, ◌&&◌, Bool, true, false, List, [], ◌∷◌, length, get_or}
+use Rattle.qrcode_grid.proofs.Prelude.{set, drop, Option}
 use Rattle.qrcode_grid.proofs.Prelude.{Some, None, option_map, cond, ap, ◌∙◌, sym, subst, arith, inl, inr, refl, suc, get_or-set_same, get_or-set_other, pos}
 use Rattle.qrcode_grid.proofs.Prelude.{negsuc, unwrap_or, ◌/◌, ◌%◌, zero, length-set, ℤ, slice_get, fold, option_or, cases_eq, cases_lt, nat_tests, Color, Dark}
 use Rattle.qrcode_grid.proofs.Prelude.{format_first, format_second, format_micro, digit_at, bit_at, digit_color}
@@ -135,6 +136,10 @@ place_passed d x y i fits_x fits_y e = e ∙ ap (λ u. place d u (to_z w16 (of_z
 -- an element that was read at a place
 pub slice_get_at : {X : Type 0} (xs : List X) (i k : ℕ) (x : X) → i ≡ k → i < length xs → x ≡ get_or xs i x → slice_get xs k ≡ Some x
 slice_get_at xs i k x e h r = ap (slice_get xs) (sym e) ∙ slice_get-get_or xs i x h ∙ ap Some (sym r)
+
+-- the places of the second copy of the format word lie within the grid
+pub second_within : (w : ℕ) → 9 ≤ w → All (λ (place : ℕ × ℕ). (place.0 < w) × (place.1 < w)) (format_second w)
+second_within w h = search rules
 
 -- a cell of a row lies within the grid
 pub cell_within : (w x y : ℕ) → x < w → y < w → y * w + x < w * w

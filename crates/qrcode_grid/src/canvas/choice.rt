@@ -6,8 +6,8 @@ ghost use Rattle.qrcode_grid.specs.Canvas.{CarriesCodewords};
 ghost use Rattle.qrcode_grid.specs.Masks.{family, IsOfFamily};
 ghost use Rattle.qrcode_grid.specs.Penalty.{score, IsFirstLeast, IsFirstLeastMask};
 
-use crate::canvas::scoring::candidates::{format_words, mask_number};
-use crate::canvas::scoring::{penalties_of, repeated, scratch_length, write_colors, zeros};
+use crate::canvas::masks::{format_words, mask_number};
+use crate::canvas::scoring::{penalties_of, repeated, scratch, write_colors};
 use crate::canvas::{Canvas, MaskPattern};
 use qrcode_base::types::{Color, EcLevel, QrError, QrResult, Version};
 use std::alloc::Global;
@@ -23,47 +23,34 @@ fn score_of(version: Version, penalty: usize) -> u16
     if told < 65535 { told as u16 } else { 65535 }
 }
 
-/// How many masks the family of a version has.
-fn family_size(version: Version) -> usize
-    ensures is { result ≡ length (family version) }
-    ensures some { (0 < result) × (result ≤ 8) }
+/// The masks of Normal symbols, in order.
+static NORMAL_FAMILY: [MaskPattern; 8] = [
+    MaskPattern::Checkerboard,
+    MaskPattern::HorizontalLines,
+    MaskPattern::VerticalLines,
+    MaskPattern::DiagonalLines,
+    MaskPattern::LargeCheckerboard,
+    MaskPattern::Fields,
+    MaskPattern::Diamonds,
+    MaskPattern::Meadow,
+];
+
+/// The masks of Micro symbols, in order.
+static MICRO_FAMILY: [MaskPattern; 4] = [
+    MaskPattern::HorizontalLines,
+    MaskPattern::LargeCheckerboard,
+    MaskPattern::Diamonds,
+    MaskPattern::Meadow,
+];
+
+/// The masks of the family of a version, in order.
+fn family_of(version: Version) -> &'static [MaskPattern]
+    ensures { result.now ≡ family version }
 {
     match version {
-        Version::Normal(_) => 8,
-        Version::Micro(_) => 4,
+        Version::Normal(_) => &NORMAL_FAMILY,
+        Version::Micro(_) => &MICRO_FAMILY,
     }
-}
-
-/// The mask at a place of the family.
-fn pattern_at(version: Version, i: usize) -> MaskPattern
-    requires { i < length (family version) }
-    ensures is { slice_get (family version) i ≡ Some result }
-    ensures family { IsOfFamily version result }
-{
-    match (version, i) {
-        (Version::Normal(_), 0) => MaskPattern::Checkerboard,
-        (Version::Normal(_), 1) | (Version::Micro(_), 0) => MaskPattern::HorizontalLines,
-        (Version::Normal(_), 2) => MaskPattern::VerticalLines,
-        (Version::Normal(_), 3) => MaskPattern::DiagonalLines,
-        (Version::Normal(_), 4) | (Version::Micro(_), 1) => MaskPattern::LargeCheckerboard,
-        (Version::Normal(_), 5) => MaskPattern::Fields,
-        (Version::Normal(_), 6) | (Version::Micro(_), 2) => MaskPattern::Diamonds,
-        _ => MaskPattern::Meadow,
-    }
-}
-
-/// The place of the first least value.
-fn first_least(values: &[usize]) -> usize
-    requires { 0 < length values.now }
-    ensures { IsFirstLeast values.now result }
-{
-    let mut best = 0;
-    for i in 1..values.len() {
-        if values[i] < values[best] {
-            best = i;
-        }
-    }
-    best
 }
 
 impl Canvas {
@@ -91,7 +78,7 @@ impl Canvas {
         ensures refusal { IfErr result (λ e. e ≡ QrError.OutOfMemory) }
     {
         let words = format_words(self.version, self.level);
-        let mut scratch = zeros(alloc, scratch_length(self.width))?;
+        let mut scratch = scratch(alloc, self.width)?;
         let penalties = penalties_of(
             &self.modules,
             self.version,
@@ -111,9 +98,8 @@ impl Canvas {
         ensures refusal { IfErr result (λ e. e ≡ QrError.OutOfMemory) }
     {
         let mut values = Vec::with_capacity(alloc, 8)?;
-        for i in 0..family_size(self.version) {
-            let pattern = pattern_at(self.version, i);
-            values.push(numbered[mask_number(pattern)])?;
+        for pattern in family_of(self.version) {
+            values.push(numbered[mask_number(*pattern)])?;
         }
         Ok(values)
     }
@@ -142,8 +128,13 @@ impl Canvas {
         ensures refusal { IfErr result (λ e. e ≡ QrError.OutOfMemory) }
     {
         let values = self.penalties_in_order(alloc, numbered)?;
-        let i = first_least(&values);
-        Ok((pattern_at(self.version, i), values[i]))
+        let mut best = 0;
+        for i in 1..values.len() {
+            if values[i] < values[best] {
+                best = i;
+            }
+        }
+        Ok((family_of(self.version)[best], values[best]))
     }
 
     /// The colours under the first mask of least penalty, and that mask.

@@ -1,7 +1,7 @@
 //! The penalties of eight candidates at once. A grid is a list of bytes, a byte a module, and bit m of a byte is its
 //! colour in candidate m. In the penalty of one Micro symbol a byte is 1 where a module is dark, 0 where it is light.
 ghost use Rattle.std.specs.Prelude.{◌≡◌, ℕ, ◌+◌, ◌*◌, ◌<◌, ◌≤◌, length, map, replicate, slice_index, take, IfOk};
-ghost use Rattle.std.specs.Prelude.{◌==◌, count_by, drop};
+ghost use Rattle.std.specs.Prelude.{◌==◌, count_by, drop, if◌then◌else◌};
 ghost use Rattle.qrcode_base.specs.Symbols.{IsVersion, width_of};
 ghost use Rattle.qrcode_grid.specs.Canvas.{color_of_module};
 ghost use Rattle.qrcode_grid.specs.Penalty.{byte_of, penalty, micro_penalty};
@@ -11,108 +11,59 @@ ghost use Rattle.qrcode_grid.specs.declared.canvas.scoring.lists.Feature.{Featur
 ghost use Rattle.qrcode_grid.specs.Masks.{masked_cells};
 ghost use Rattle.qrcode_grid.specs.Scoring.{has, has_five, has_six, list_length, pattern_of, places, plane};
 
-pub mod candidates;
 mod counting;
 mod lists;
 mod planes;
 
 use crate::canvas::Module;
-use crate::canvas::scoring::candidates::write_candidates;
+use crate::canvas::masks::write_candidates;
 use crate::canvas::scoring::counting::{count, count_runs};
 use crate::canvas::scoring::lists::{Feature, write_edges, write_padded};
 use qrcode_base::types::{Color, Version};
 use std::alloc::{AllocError, Global};
 
-/// How long a list is in which a grid stands between light modules: 14 rows more, and what the last 256 places that are
-/// looked at reach.
-fn list_length(width: usize) -> usize
+/// A list of zeros for the scratch of a symbol: the candidates, twelve rows of conditions, the candidates between light
+/// modules, and the edges. The last two are 14 rows longer than the grid, and as what the last 256 places that are
+/// looked at reach. A long list takes 400 KB, of which it touches what it needs: glibc gives memory back to the system
+/// after each symbol where more than 128 KB come free at the heap's end, and keeps twice as much as the greatest block
+/// that it has seen.
+pub fn scratch(alloc: Global, width: usize) -> Result<Vec<u8>, AllocError>
     requires { width ≤ 177 }
-    ensures { result ≡ list_length width }
+    ensures { IfOk result (λ list. list.items ≡
+        replicate (width * width + (12 * width + 6) + 2 * list_length width) 0) }
 {
-    (width + 14) * (width + 4) + 256
-}
-
-/// How long the scratch list is: the candidates, twelve rows of conditions, the candidates between light modules, and
-/// the edges.
-pub fn scratch_length(width: usize) -> usize
-    requires { width ≤ 177 }
-    ensures { result ≡ width * width + (12 * width + 6) + 2 * list_length width }
-{
-    width * width + 12 * width + 6 + 2 * list_length(width)
-}
-
-/// A list of zeros for the scratch of a symbol. A long one takes 400 KB, of which it touches what it needs: glibc gives
-/// memory back to the system after each symbol where more than 128 KB come free at the heap's end, and keeps twice as
-/// much as the greatest block that it has seen.
-pub fn zeros(alloc: Global, length: usize) -> Result<Vec<u8>, AllocError>
-    ensures { IfOk result (λ list. list.items ≡ replicate length 0) }
-{
+    let length = width * width + 12 * width + 6 + 2 * ((width + 14) * (width + 4) + 256);
     let room = if length > 56_000 { 400_000 } else { 0 };
     repeated(alloc, 0, length, room)
 }
 
-/// Writes one candidate as a list of bytes.
-fn write_plane(grid: &[u8], m: usize, candidate: &mut [u8])
-    requires bit { m < 8 }
-    requires long { length candidate.old ≡ length grid.now }
-    ensures { candidate.new ≡ plane m grid.now }
-{
-    for k in 0..grid.len() {
-        candidate[k] = grid[k] >> m & 1;
-    }
-}
-
-/// What runs and finder-like patterns count: a run of n modules has n - 4 fives and n - 5 sixes, and counts n - 2.
-#[inline(always)]
-fn weighed(fives: &[usize; 8], sixes: &[usize; 8], finders: &[usize; 8]) -> [usize; 8]
-    requires fewer { (m : ℕ) → m < 8 → slice_index sixes.now m ≤ slice_index fives.now m }
-    requires few { (m : ℕ) → m < 8 → (slice_index fives.now m ≤ 40000)
-        × (slice_index finders.now m ≤ 40000) }
-    ensures is { (m : ℕ) → m < 8 → slice_index result m + 2 * slice_index sixes.now m ≡
-        3 * slice_index fives.now m + 40 * slice_index finders.now m }
+/// What the rows or the columns count in each candidate, by their edges: a run of n modules has n - 4 fives and n - 5
+/// sixes, and counts n - 2. There is one of it for each direction, so that the step of rows is known to the compiler.
+#[inline(never)]
+fn penalties_of_lines<const ROWS: bool>(
+    width: usize,
+    step: usize,
+    padded: &[u8],
+    edges: &[u8],
+) -> [usize; 8]
+    requires wide { width ≤ 177 }
+    requires step { step ≡ (if ROWS then 1 else width + 4) }
+    requires padded { length padded.now ≡ list_length width }
+    requires edges { length edges.now ≡ list_length width }
+    ensures is { (m : ℕ) → m < 8 →
+        slice_index result m + 2 * count_below (has_six step (plane m edges.now)) (places width) ≡
+        3 * count_below (has_five step (plane m edges.now)) (places width)
+        + 40 * count_below (has Feature.Finder width step (plane m padded.now) (plane m edges.now))
+        (places width) }
     ensures small { (m : ℕ) → m < 8 → slice_index result m ≤ 2000000 }
 {
+    let (fives, sixes) = count_runs(width, step, edges);
+    let finders = count(Feature::Finder, width, step, padded, edges);
     let mut penalties = [0; 8];
     for m in 0..8 {
         penalties[m] = 3 * fives[m] - 2 * sixes[m] + 40 * finders[m];
     }
     penalties
-}
-
-/// What the columns count in each candidate, by their edges.
-#[inline(never)]
-fn penalties_of_columns(width: usize, padded: &[u8], edges: &[u8]) -> [usize; 8]
-    requires wide { width ≤ 177 }
-    requires padded { length padded.now ≡ list_length width }
-    requires edges { length edges.now ≡ list_length width }
-    ensures is { (m : ℕ) → m < 8 →
-        slice_index result m + 2 * count_below (has_six (width + 4) (plane m edges.now)) (places width) ≡
-        3 * count_below (has_five (width + 4) (plane m edges.now)) (places width)
-        + 40 * count_below (has Feature.Finder width (width + 4) (plane m padded.now) (plane m edges.now))
-        (places width) }
-    ensures small { (m : ℕ) → m < 8 → slice_index result m ≤ 2000000 }
-{
-    let (fives, sixes) = count_runs(width, width + 4, edges);
-    let finders = count(Feature::Finder, width, width + 4, padded, edges);
-    weighed(&fives, &sixes, &finders)
-}
-
-/// What the rows count in each candidate, by their edges. A step of 1 is known to the compiler here.
-#[inline(never)]
-fn penalties_of_rows(width: usize, padded: &[u8], edges: &[u8]) -> [usize; 8]
-    requires wide { width ≤ 177 }
-    requires padded { length padded.now ≡ list_length width }
-    requires edges { length edges.now ≡ list_length width }
-    ensures is { (m : ℕ) → m < 8 →
-        slice_index result m + 2 * count_below (has_six 1 (plane m edges.now)) (places width) ≡
-        3 * count_below (has_five 1 (plane m edges.now)) (places width)
-        + 40 * count_below (has Feature.Finder width 1 (plane m padded.now) (plane m edges.now))
-        (places width) }
-    ensures small { (m : ℕ) → m < 8 → slice_index result m ≤ 2000000 }
-{
-    let (fives, sixes) = count_runs(width, 1, edges);
-    let finders = count(Feature::Finder, width, 1, padded, edges);
-    weighed(&fives, &sixes, &finders)
 }
 
 /// The penalties of eight candidates of a Normal symbol, by two lists of zeros.
@@ -134,9 +85,9 @@ pub fn penalties_of_normal(
     let stride = width + 4;
     write_padded(width, grid, padded);
     write_edges(width, stride, width, width - 1, padded, edges);
-    let columns = penalties_of_columns(width, padded, edges);
+    let columns = penalties_of_lines::<false>(width, stride, padded, edges);
     write_edges(width, 1, width - 1, width, padded, edges);
-    let rows = penalties_of_rows(width, padded, edges);
+    let rows = penalties_of_lines::<true>(width, 1, padded, edges);
     let squares = count(Feature::Square, width, 1, padded, edges);
     let darks = count(Feature::Dark, width, 1, padded, edges);
     let mut penalties = [0; 8];
@@ -147,53 +98,33 @@ pub fn penalties_of_normal(
     penalties
 }
 
-/// Copies a column into a line.
-fn copy_column(width: usize, modules: &[u8], x: usize, line: &mut [u8])
-    requires square { length modules.now ≡ width * width }
-    requires wide { width ≤ 177 }
-    requires within { x < width }
-    requires long { length line.old ≡ width }
-    ensures { line.new ≡ column width modules.now x }
-{
-    for y in 0..width {
-        line[y] = modules[y * width + x];
-    }
-}
-
-/// How many modules of a line but its first are light.
-fn count_light(line: &[u8]) -> usize
-    requires { 0 < length line.now }
-    ensures { result ≡ count_by (λ m. m == 0) (drop 1 line.now) }
-{
-    line[1..].iter().filter(|cell| **cell == 0).count()
-}
-
-/// The penalty of a Micro symbol.
-pub fn penalty_of_micro(width: usize, modules: &[u8]) -> usize
-    requires square { length modules.now ≡ width * width }
+/// The penalty of one candidate of a Micro symbol, by the light modules of its bottom row and of its right column, but
+/// for their first.
+fn penalty_of_micro(width: usize, grid: &[u8], m: usize) -> usize
+    requires square { length grid.now ≡ width * width }
     requires wide { (0 < width) × (width ≤ 177) }
-    ensures { result ≡ micro_penalty width modules.now }
+    requires bit { m < 8 }
+    ensures { result ≡ micro_penalty width (plane m grid.now) }
 {
     let last = width - 1;
-    let mut buffer = [0; 177];
-    let line = &mut buffer[..width];
-    copy_column(width, modules, last, line);
-    let h = count_light(&modules[last * width..last * width + width]);
-    let v = count_light(line);
+    let mut h = 0;
+    let mut v = 0;
+    for k in 1..width {
+        h += 1 - usize::from(grid[last * width + k] >> m & 1);
+        v += 1 - usize::from(grid[k * width + last] >> m & 1);
+    }
     16 * h.max(v) + h.min(v)
 }
 
 /// The penalties of eight candidates of a Micro symbol, one after the other.
-fn penalties_of_micro(width: usize, grid: &[u8], candidate: &mut [u8]) -> [usize; 8]
+fn penalties_of_micro(width: usize, grid: &[u8]) -> [usize; 8]
     requires square { length grid.now ≡ width * width }
-    requires long { length candidate.old ≡ width * width }
     requires wide { (0 < width) × (width ≤ 177) }
     ensures { (m : ℕ) → m < 8 → slice_index result m ≡ micro_penalty width (plane m grid.now) }
 {
     let mut penalties = [0; 8];
     for m in 0..8 {
-        write_plane(grid, m, candidate);
-        penalties[m] = penalty_of_micro(width, candidate);
+        penalties[m] = penalty_of_micro(width, grid, m);
     }
     penalties
 }
@@ -222,11 +153,11 @@ pub fn penalties_of(
 {
     let (grid, rest) = scratch.split_at_mut(width * width);
     let (stripes, lists) = rest.split_at_mut(12 * width + 6);
-    let (padded, edges) = lists.split_at_mut(list_length(width));
+    let (padded, edges) = lists.split_at_mut(lists.len() / 2);
     write_candidates(modules, version, width, words, stripes, grid);
     match version {
         Version::Normal(_) => penalties_of_normal(width, grid, padded, edges),
-        Version::Micro(_) => penalties_of_micro(width, grid, &mut padded[..width * width]),
+        Version::Micro(_) => penalties_of_micro(width, grid),
     }
 }
 

@@ -8,6 +8,6 @@ returns c =
     let n = length divisor - 1 in
     let degree : length divisor ≡ n + 1 = begun divisor c.requires.monic in
     subst (λ (old : List ℕ). AddsCode n divisor c.args.data.now old c.add_code.new.codes.items) c.in_ok-code.ensures.items
-    (c.in_ok-add_code.ensures.adds divisor c.terms_of-terms.result (record { small = omega (arith, c.requires.few); degree = degree; monic = c.requires.monic })
-    (rows_made divisor c.terms_of-terms.result c.sixteenfold.result c.multiples-low.result c.multiples-high.result c.terms_of-terms.ensures.terms
-    c.multiples-low.ensures.by_lane c.sixteenfold.ensures.by_lane c.multiples-high.ensures.by_lane))
+    (c.in_ok-add_code.ensures.adds divisor c.terms_of.result (record { small = omega (arith, c.requires.few); degree = degree; monic = c.requires.monic })
+    (rows_made divisor c.terms_of.result c.doubled.result c.multiples-low.result c.multiples-high.result c.terms_of.ensures.terms
+    c.multiples-low.ensures.by_lane c.doubled.ensures.by_lane c.multiples-high.ensures.by_lane))

@@ -61,30 +61,6 @@ pub fn no_bits() -> Tally
     }
 }
 
-/// Sixteen rows of lanes more, and the carry to the sixteens.
-#[inline(always)]
-fn add_sixteen(planes: Planes, rows: &[u8x16; 16]) -> (Planes, u8x16)
-    requires rows { (i : ℕ) → i < 16 → length (slice_index_or rows.now i []) ≡ 16 }
-    ensures lanes { length result.1 ≡ 16 }
-    ensures sum { (m : ℕ) → held m result.0 + 16 * bit_count m result.1 ≡
-        held m planes + sum_below (λ i. bit_count m (slice_index_or rows.now i [])) 16 }
-{
-    let (ones, twos, a) = add_four(planes.ones, planes.twos, rows, 0);
-    let (ones, twos, b) = add_four(ones, twos, rows, 4);
-    let (ones, twos, c) = add_four(ones, twos, rows, 8);
-    let (ones, twos, d) = add_four(ones, twos, rows, 12);
-    let (fours, first) = add_three(planes.fours, a, b);
-    let (fours, second) = add_three(fours, c, d);
-    let (eights, sixteens) = add_three(planes.eights, first, second);
-    let planes = Planes {
-        ones,
-        twos,
-        fours,
-        eights,
-    };
-    (planes, sixteens)
-}
-
 /// In how many lanes a bit is set.
 #[inline(always)]
 fn count_bit(lanes: u8x16, m: usize) -> usize
@@ -95,18 +71,6 @@ fn count_bit(lanes: u8x16, m: usize) -> usize
 {
     let bit = u8x16::splat(1 << m);
     (lanes & bit).simd_eq(bit).to_bitmask().count_ones() as usize
-}
-
-/// Adds in how many lanes each bit is set.
-#[inline(always)]
-fn add_counts(sums: &mut [usize; 8], lanes: u8x16)
-    requires lanes { length lanes ≡ 16 }
-    requires room { (m : ℕ) → m < 8 → slice_index sums.old m ≤ 1000000 }
-    ensures { (m : ℕ) → m < 8 → slice_index sums.new m ≡ slice_index sums.old m + bit_count m lanes }
-{
-    for m in 0..8 {
-        sums[m] += count_bit(lanes, m);
-    }
 }
 
 /// Sixteen rows of lanes more.
@@ -120,9 +84,24 @@ pub fn add_rows(tally: Tally, rows: &[u8x16; 16]) -> Tally
         + sum_below (λ i. bit_count m (slice_index_or rows.now i [])) 16 }
     ensures small { (m : ℕ) → m < 8 → slice_index result.sums m ≤ slice_index tally.sums m + 16 }
 {
-    let (planes, sixteens) = add_sixteen(tally.planes, rows);
+    let planes = tally.planes;
+    let (ones, twos, a) = add_four(planes.ones, planes.twos, rows, 0);
+    let (ones, twos, b) = add_four(ones, twos, rows, 4);
+    let (ones, twos, c) = add_four(ones, twos, rows, 8);
+    let (ones, twos, d) = add_four(ones, twos, rows, 12);
+    let (fours, first) = add_three(planes.fours, a, b);
+    let (fours, second) = add_three(fours, c, d);
+    let (eights, sixteens) = add_three(planes.eights, first, second);
+    let planes = Planes {
+        ones,
+        twos,
+        fours,
+        eights,
+    };
     let mut sums = tally.sums;
-    add_counts(&mut sums, sixteens);
+    for m in 0..8 {
+        sums[m] += count_bit(sixteens, m);
+    }
     Tally { planes, sums }
 }
 
@@ -223,6 +202,7 @@ pub fn count_runs(width: usize, step: usize, edges: &[u8]) -> ([usize; 8], [usiz
         slice_index result.0 m ≡ count_below (has_five step (plane m edges.now)) (places width) }
     ensures sixes { (m : ℕ) → m < 8 →
         slice_index result.1 m ≡ count_below (has_six step (plane m edges.now)) (places width) }
+    ensures fewer { (m : ℕ) → m < 8 → slice_index result.1 m ≤ slice_index result.0 m }
     ensures small { (m : ℕ) → m < 8 → slice_index result.0 m ≤ 40000 }
 {
     let zero = u8x16::splat(0);

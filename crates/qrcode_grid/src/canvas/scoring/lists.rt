@@ -8,17 +8,6 @@ ghost use Rattle.qrcode_grid.specs.Scoring.{has_finder, has_five, has_six, has_s
 
 use std::simd::prelude::*;
 
-/// Writes a row at a place. The other bytes stay.
-fn write_row(row: &[u8], at: usize, list: &mut [u8])
-    requires within { at + length row.now ≤ length list.old }
-    ensures row { (j : ℕ) → j < length row.now → slice_index list.new (at + j) ≡ slice_index row.now j }
-    ensures before { (k : ℕ) → k < at → slice_index list.new k ≡ slice_index list.old k }
-    ensures after { (k : ℕ) → at + length row.now ≤ k →
-        slice_index list.new k ≡ slice_index list.old k }
-{
-    list[at..at + row.len()].copy_from_slice(row);
-}
-
 /// Writes the rows of a grid between light modules.
 pub fn write_padded(width: usize, grid: &[u8], padded: &mut [u8])
     requires wide { (16 ≤ width) × (width ≤ 177) }
@@ -29,21 +18,9 @@ pub fn write_padded(width: usize, grid: &[u8], padded: &mut [u8])
 {
     for y in 0..width {
         let row = &grid[y * width..y * width + width];
-        write_row(row, (4 + y) * (width + 4), padded);
+        let at = (4 + y) * (width + 4);
+        padded[at..at + width].copy_from_slice(row);
     }
-}
-
-/// Writes 16 bytes at a place. The others stay.
-#[inline(always)]
-#[tactic(auto, using(crate::proofs::MarkedLanes::chunk_lane))]
-fn write_lanes(lanes: u8x16, at: usize, bytes: &mut [u8])
-    requires lanes { length lanes ≡ 16 }
-    requires within { at + 16 ≤ length bytes.old }
-    ensures lanes { (j : ℕ) → j < 16 → slice_index bytes.new (at + j) ≡ slice_index lanes j }
-    ensures before { (k : ℕ) → k < at → slice_index bytes.new k ≡ slice_index bytes.old k }
-    ensures after { (k : ℕ) → at + 16 ≤ k → slice_index bytes.new k ≡ slice_index bytes.old k }
-{
-    lanes.copy_to_slice(&mut bytes[at..at + 16]);
 }
 
 /// Writes which of the first places have the colour of the module a step on, sixteen at a time, and sixteen zeros
@@ -63,9 +40,9 @@ fn write_same(width: usize, step: usize, count: usize, padded: &[u8], edges: &mu
 {
     for part in 0..(count + 15) / 16 {
         let lanes = same(padded, step, 4 * (width + 4) + 16 * part, 0);
-        write_lanes(lanes, 16 * part, edges);
+        lanes.copy_to_slice(&mut edges[16 * part..16 * part + 16]);
     }
-    write_lanes(u8x16::splat(0), count, edges);
+    u8x16::splat(0).copy_to_slice(&mut edges[count..count + 16]);
 }
 
 /// Writes zeros from one place to before another. The others stay.

@@ -26,9 +26,9 @@ returns c = λ m h.
     omega (
       arith,
       c.loop-m.invariant.found m (omega (arith, h, c.loop-m-test.false)),
-      c.penalties_of_columns-columns.ensures.is m h,
+      c.penalties_of_lines-columns.ensures.is m h,
       columns_are w cells padded stands square first (c.write_edges.ensures.edges m h),
-      c.penalties_of_rows-rows.ensures.is m h,
+      c.penalties_of_lines-rows.ensures.is m h,
       rows_are w cells padded stands square second edges,
       c.count-squares.ensures.is m h,
       squares_are w cells padded stands square second edges (omega (arith, c.requires.wide.0)),

@@ -1,5 +1,5 @@
-use Rattle.qrcode_grid.proofs.Prelude.{◌≡◌, ◌+◌, ◌*◌, ap, arith, count_below, has_five, has_six, plane}
-use Rattle.qrcode_grid.proofs.MarkedLanes.{next_rows, count_few}
+use Rattle.qrcode_grid.proofs.Prelude.{◌≡◌, ◌+◌, ◌*◌, ap, arith, count_below, has_five, has_six, plane, cell, ◌==◌}
+use Rattle.qrcode_grid.proofs.MarkedLanes.{next_rows, count_few, count_both_le}
 use Rattle.qrcode_grid.proofs.canvas.scoring.counting.count_runs.Goals as goal
 
 pub loop-chunk-preserved : goal.loop-chunk-preserved
@@ -19,3 +19,16 @@ loop-chunk-preserved c =
 
 pub returns-clause-small : goal.returns-clause-small
 returns-clause-small c = grind (arith, count_few)
+
+pub returns-clause-fewer : goal.returns-clause-fewer
+returns-clause-fewer c = λ m h.
+    let edges = plane m c.args.edges.now in
+    let both = count_both_le (has_five c.args.step edges) (λ k. cell c.args.step edges k 4 == 1) (256 * c.loop-chunk.chunk) in
+    omega (
+      arith,
+      c.totals.ensures m h,
+      c.totals-2.ensures m h,
+      c.loop-chunk.invariant.fives m h,
+      c.loop-chunk.invariant.sixes m h,
+      both,
+    )
