@@ -18,9 +18,7 @@ mod text;
 mod wanted;
 
 use crate::run::{give_up, run};
-use programs::devices::{FromReader, FromWriter};
-use programs::fault::Fault;
-use programs::words::{arguments, words_of};
+use programs::{Fault, FromReader, FromWriter, arguments, words_of};
 use std::alloc::AllocError;
 use std::io::ErrorKind;
 use std::process::ExitCode;

@@ -1,8 +1,7 @@
 //! Devices that fail, and the words of the command line.
 use crate::draw::draw;
-use crate::run::{give_up, run};
-use programs::devices::{FromReader, FromWriter, Sink, Source};
-use programs::fault::Fault;
+use crate::{give_up, run};
+use programs::{Fault, FromReader, FromWriter, Sink, Source};
 use qrcode_core::types::{EcLevel, QrError};
 use std::alloc::AllocError;
 use std::io;

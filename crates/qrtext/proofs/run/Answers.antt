@@ -3,7 +3,7 @@ use Rattle.std.proofs.Common.{◌≡◌, Ok, Err, refl, subst, map, inl}
 use Rattle.qrtext.specs.Words.{ServesText, Request, request}
 use Rattle.programs.proofs.DeviceLemmas.{Appends-none}
 use Rattle.qrtext.proofs.Requests.{ask_for_one}
-use Rattle.qrtext.proofs.run.run.Goals as goal
+use Rattle.qrtext.proofs.run.Goals as goal
 
 pub returns-in-Ok-clause-served : goal.returns-in-Ok-clause-served
 returns-in-Ok-clause-served g c = λ asked asks.
