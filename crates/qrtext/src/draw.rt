@@ -1,12 +1,12 @@
 //! From the bytes of a source to the text of their symbol, a line for each row.
-ghost use Rattle.std.specs.Prelude.{◌≡◌, ◌*◌, ◌++◌, ◌≤◌, ◌↔◌, length, IsTrue, IsFalse, IfOk, IfErr, OnOk, IsErrOf};
+ghost use Rattle.std.specs.Prelude.{◌≡◌, ◌++◌, ◌≤◌, ◌↔◌, length, IsTrue, IsFalse, IfOk, IfErr, OnOk, IsErrOf};
 ghost use Rattle.programs.specs.Devices.{ReadsAtMost};
 ghost use Rattle.programs.specs.Outcome.{Gives, IsSymbolOf, IsRefusalOf};
-ghost use Rattle.qrtext.specs.Drawing.{Shows, line_of, lines};
+ghost use Rattle.qrtext.specs.Drawing.{Shows, IsTextOf, line_of};
+ghost use Rattle.qrcode_core.specs.Headline.{IsSquare};
 
 use programs::{Fault, Sink, Source, read_all, write_all};
 use qrcode_core::symbol::Symbol;
-use qrcode_core::traits::ModuleSource;
 use qrcode_core::types::{Color, EcLevel, QrError};
 use std::alloc::{AllocError, Global};
 
@@ -36,8 +36,8 @@ pub fn draw<R: Source, W: Sink>(
     ensures write { IsErrOf result Fault.Write ↔ IsTrue (W.has_failed writer.new) }
 {
     let bytes = read_all(alloc, reader)?;
-    let symbol = encoded(alloc, &bytes, level, micro)?;
-    let text = text_of(alloc, symbol.modules(), symbol.width())?;
+    let grid = encoded(alloc, &bytes, level, micro)?.into_colors();
+    let text = text_of(alloc, &grid)?;
     write_all(writer, &text)
 }
 
@@ -54,12 +54,13 @@ fn encoded(alloc: Global, bytes: &[u8], level: EcLevel, micro: bool) -> Result<S
     }
 }
 
-/// The text of a grid: a line for each row.
+/// The text of a square grid: a line for each row.
 #[tactic(auto, using(crate::proofs::TextLemmas::lines_none, crate::proofs::TextLemmas::lines_more))]
-pub fn text_of(alloc: Global, grid: &[Color], width: usize) -> Result<Vec<u8>, AllocError>
-    requires square { length grid.now ≡ width * width }
-    ensures { IfOk result (λ text. text.items ≡ lines width grid.now width) }
+fn text_of(alloc: Global, grid: &[Color]) -> Result<Vec<u8>, AllocError>
+    requires { IsSquare grid.now }
+    ensures { IfOk result (λ text. IsTextOf grid.now text.items) }
 {
+    let width = grid.len().isqrt();
     let mut text = Vec::new(alloc);
     for y in 0..width {
         push_line(&mut text, &grid[y * width..(y + 1) * width])?;

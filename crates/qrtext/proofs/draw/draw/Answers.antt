@@ -12,9 +12,9 @@ returns-clause-outcome g c =
       bytes = c.in_ok-bytes.bytes.items;
       read = ReadsAll-short _ _ c.in_ok-bytes.bytes.items c.in_ok-bytes.ensures.read (search rules);
       shows = record {
-        grid = c.in_ok-symbol.symbol.modules;
+        grid = c.into_colors-grid.result.items;
         symbol = search rules;
-        text_of = record { width = c.width.result; square = search rules; lines_of = search rules };
+        text_of = search rules;
       };
     } in
     search (rules, drawing)
