@@ -3,11 +3,10 @@
 #![tactic(auto)]
 
 ghost use Rattle.std.specs.Prelude.{◌≡◌, ℕ, ◌<◌, ◌≤◌, ◌↔◌, ◌⊎◌, Bool, not, if◌then◌else◌, is_none, Option, None, Some};
-ghost use Rattle.std.specs.Prelude.{List, length, take, map, IsTrue, IsFalse, IfSome, MatchOption};
+ghost use Rattle.std.specs.Prelude.{List, length, take, IsTrue, IsFalse, IfSome, MatchOption};
 ghost use Rattle.std.specs.Prelude.{Err, IfOk, IfErr, OnOk, IsErrOf, is_err};
 ghost use Rattle.std.specs.Bool.{OnTrue};
 ghost use Rattle.std.specs.Io.KnownBytes.{Keeps, Appends, Consumes, IsAtEnd};
-ghost use Rattle.std.specs.String.{string_bytes};
 ghost use Rattle.qrcode_core.specs.declared.types.errors.QrError.TheVariants.{OutOfMemory};
 ghost use Rattle.programs.specs.Devices.{ReadsEnough, ReadsAtMost, Writes};
 ghost use Rattle.programs.specs.Outcome.{words_of, told, Says};
@@ -15,26 +14,19 @@ ghost use Rattle.programs.specs.declared.Fault.TheVariants.{Symbol};
 
 use qrcode_core::types::QrError;
 use std::alloc::{AllocError, Global};
-use std::io::{Read, Write};
-use std::{env, fmt, io};
+use std::io::{ErrorKind, Read, Write};
+use std::{env, fmt};
 
-/// The arguments after the program's name.
-pub fn arguments(rt: &HostRuntime) -> io::Result<Vec<String>> {
-    let args = env::args(rt)?;
+/// The words of the command line after the program's name. Where they are no text there are none.
+pub fn arguments(rt: &HostRuntime) -> Result<Vec<String>, Fault> {
+    let args = match env::args(rt) {
+        Ok(args) => args,
+        Err(error) if error.kind() == ErrorKind::OutOfMemory => return Err(Fault::from(AllocError)),
+        Err(_) => return Ok(Vec::new(rt.alloc())),
+    };
     let mut words = Vec::with_capacity(rt.alloc(), args.len())?;
     for arg in args.skip(1) {
-        words.push(arg)?;
-    }
-    Ok(words)
-}
-
-/// The arguments as texts.
-pub fn words_of(alloc: Global, args: &[String]) -> Result<Vec<&str>, AllocError>
-    ensures { IfOk result (λ words. map (λ word. word.now) words.items ≡ map string_bytes args.now) }
-{
-    let mut words = Vec::with_capacity(alloc, args.len())?;
-    for arg in args {
-        words.push(arg.as_str())?;
+        words.push(arg).map_err(AllocError::from)?;
     }
     Ok(words)
 }
