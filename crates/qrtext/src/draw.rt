@@ -2,7 +2,7 @@
 ghost use Rattle.std.specs.Prelude.{◌≡◌, ◌++◌, ◌≤◌, ◌↔◌, length, IsTrue, IsFalse, IfOk, IfErr, OnOk, IsErrOf};
 ghost use Rattle.programs.specs.Devices.{ReadsAtMost};
 ghost use Rattle.programs.specs.Outcome.{Gives, IsSymbolOf, IsRefusalOf};
-ghost use Rattle.qrtext.specs.Drawing.{Shows, IsTextOf, line_of};
+ghost use Rattle.qrtext.specs.Drawing.{Shows, IsTextOf};
 ghost use Rattle.qrcode_core.specs.Headline.{IsSquare};
 
 use programs::{Fault, Sink, Source, read_all, write_all};
@@ -63,18 +63,10 @@ fn text_of(alloc: Global, grid: &[Color]) -> Result<Vec<u8>, AllocError>
     let width = grid.len().isqrt();
     let mut text = Vec::new(alloc);
     for y in 0..width {
-        push_line(&mut text, &grid[y * width..(y + 1) * width])?;
+        for color in &grid[y * width..(y + 1) * width] {
+            text.push(color.select(b'#', b'.'))?;
+        }
+        text.push(b'\n')?;
     }
     Ok(text)
-}
-
-/// Adds the line of a row.
-fn push_line(text: &mut Vec<u8>, row: &[Color]) -> Result<(), AllocError>
-    ensures { OnOk result (text.new.items ≡ text.old.items ++ line_of row.now) }
-{
-    for color in row {
-        text.push(color.select(b'#', b'.'))?;
-    }
-    text.push(b'\n')?;
-    Ok(())
 }
