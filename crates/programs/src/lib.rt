@@ -1,5 +1,5 @@
-//! What the programs share: the words of the command line, devices to read from and write to, reading and writing all of
-//! something, faults and their lines.
+//! What the programs share: the words of the command line, devices to read from and write to, reading and writing all
+//! of something, faults and their lines.
 #![tactic(auto)]
 
 ghost use Rattle.std.specs.Prelude.{◌≡◌, ℕ, ◌<◌, ◌≤◌, ◌↔◌, ◌⊎◌, Bool, not, if◌then◌else◌, is_none, Option, None, Some};
