@@ -1,7 +1,7 @@
 //! Devices that fail, and the words of the command line.
 use crate::draw::draw;
-use crate::{give_up, run};
-use programs::{Fault, FromReader, FromWriter, Sink, Source};
+use crate::{OUT_OF_MEMORY, PROGRAM, run};
+use programs::{Fault, FromReader, FromWriter, Sink, Source, fail};
 use qrcode_core::types::{EcLevel, QrError};
 use std::alloc::{AllocError, Global};
 use std::io;
@@ -313,7 +313,8 @@ fn runs_with_devices_that_give_up(rt: HostRuntime) -> Result<(), Fail> {
 fn tells_want_of_memory(rt: HostRuntime) -> Result<(), Fail> {
     let mut said: Vec<u8> = Vec::new(rt.alloc());
     let mut errors = FromWriter::new(&mut said);
-    let status = give_up(rt.alloc(), &mut errors, Fault::from(AllocError));
+    let wanting = Fault::from(AllocError);
+    let status = fail(rt.alloc(), &mut errors, PROGRAM, OUT_OF_MEMORY, wanting);
     assert_eq!(rt; status, 1);
     assert_eq!(rt; said.as_slice(), "qrtext: out of memory\n".as_bytes());
     Ok(())
