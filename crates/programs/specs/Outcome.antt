@@ -5,8 +5,8 @@ use Rattle.std.specs.Prelude.{IsErrOf, true, false}
 use Rattle.std.specs.Io.KnownBytes.{Keeps, Appends}
 use Rattle.qrcode_core.specs.Names.{error_text}
 use Rattle.qrcode_core.specs.declared.types.errors.QrError.TheVariants.{OutOfMemory}
-use Rattle.programs.specs.declared.fault.Fault.{Fault}
-use Rattle.programs.specs.declared.fault.Fault.TheVariants.{Symbol, Read, Write}
+use Rattle.programs.specs.declared.Fault.{Fault}
+use Rattle.programs.specs.declared.Fault.TheVariants.{Symbol, Read, Write}
 use Rattle.programs.specs.Devices.{Writes, ReadsAll, ReadsEnough, AppendsBeginning}
 use Rattle.qrcode_core.specs.declared.types.errors.QrError.{QrError}
 use Rattle.qrcode_core.specs.declared.types.Color.{Color}

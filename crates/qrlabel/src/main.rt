@@ -1,6 +1,9 @@
 //! Draws the symbol of what is read as a picture: SVG, a portable bitmap, or text for a terminal.
 #![tactic(auto)]
 
+ghost use Rattle.std.specs.Prelude.{◌≡◌, map, IfOk};
+ghost use Rattle.std.specs.String.{string_bytes};
+
 mod bitmap;
 mod bundle;
 mod draw;
@@ -18,14 +21,11 @@ mod text;
 mod wanted;
 
 use crate::run::{give_up, run};
-use programs::devices::{FromReader, FromWriter};
-use programs::fault::Fault;
-use programs::words::{arguments, words_of};
-use std::alloc::AllocError;
-use std::io::ErrorKind;
+use programs::{Fault, FromReader, FromWriter, arguments};
+use std::alloc::{AllocError, Global};
 use std::process::ExitCode;
 
-/// Runs over the process's words, input and outputs. Words that are no text ask for nothing.
+/// Runs over the process's words, input and outputs.
 fn main(rt: HostRuntime) -> ExitCode {
     let mut reader = FromReader::new(rt.stdin());
     let mut writer = FromWriter::new(rt.stdout());
@@ -35,10 +35,18 @@ fn main(rt: HostRuntime) -> ExitCode {
             Ok(words) => run(rt.alloc(), &words, &mut reader, &mut writer, &mut errors),
             Err(error) => give_up(rt.alloc(), &mut errors, Fault::from(error)),
         },
-        Err(error) if error.kind() == ErrorKind::OutOfMemory => {
-            give_up(rt.alloc(), &mut errors, Fault::from(AllocError))
-        }
-        Err(_) => run(rt.alloc(), &[], &mut reader, &mut writer, &mut errors),
+        Err(fault) => give_up(rt.alloc(), &mut errors, fault),
     };
     ExitCode::from(status)
+}
+
+/// The arguments as texts.
+fn words_of(alloc: Global, args: &[String]) -> Result<Vec<&str>, AllocError>
+    ensures { IfOk result (λ words. map (λ word. word.now) words.items ≡ map string_bytes args.now) }
+{
+    let mut words = Vec::with_capacity(alloc, args.len())?;
+    for arg in args {
+        words.push(arg.as_str())?;
+    }
+    Ok(words)
 }

@@ -7,8 +7,7 @@ ghost use Rattle.qrlabel.specs.Words.{Label, Ask, AskForNone};
 
 use crate::draw::draw;
 use crate::wanted::wanted_of;
-use programs::devices::{Sink, Source, write_all};
-use programs::fault::{Fault, fail};
+use programs::{Fault, Sink, Source, fail, write_all};
 use std::alloc::Global;
 
 /// What is said where the words ask for nothing.

@@ -2,7 +2,7 @@
 use crate::bundle::render_by_name;
 use crate::renderers::{Pbm, Svg, Terminal};
 use crate::run::run;
-use programs::devices::{FromReader, FromWriter};
+use programs::{FromReader, FromWriter};
 use qrcode_core::plugin::{DynRenderer, PluginError, RenderConfig, RenderOutput};
 use qrcode_core::traits::ModuleView;
 use qrcode_core::types::Color;

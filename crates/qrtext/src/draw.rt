@@ -1,14 +1,12 @@
 //! From the bytes of a source to the text of their symbol, a line for each row.
-ghost use Rattle.std.specs.Prelude.{◌≡◌, ◌≢◌, ◌*◌, ◌≤◌, ◌↔◌, length, IsTrue, IsFalse, IfOk, IfErr, OnOk, IsErrOf};
+ghost use Rattle.std.specs.Prelude.{◌≡◌, ◌++◌, ◌≤◌, ◌↔◌, length, IsTrue, IsFalse, IfOk, IfErr, OnOk, IsErrOf};
 ghost use Rattle.programs.specs.Devices.{ReadsAtMost};
-ghost use Rattle.programs.specs.Outcome.{IsDrawing, IsRefused, IfRefused, Gives, IsSymbolOf, IsRefusalOf};
+ghost use Rattle.programs.specs.Outcome.{Gives, IsSymbolOf, IsRefusalOf};
+ghost use Rattle.qrtext.specs.Drawing.{Shows, IsTextOf};
 ghost use Rattle.qrcode_core.specs.Headline.{IsSquare};
-ghost use Rattle.std.specs.Prelude.{◌+◌, ◌<◌, ◌++◌};
-ghost use Rattle.qrtext.specs.Drawing.{Shows, character, line_of, lines};
 
-use programs::devices::{Sink, Source, read_all, write_all};
-use programs::fault::Fault;
-use qrcode_core::symbol::{symbol, symbol_micro};
+use programs::{Fault, Sink, Source, read_all, write_all};
+use qrcode_core::symbol::Symbol;
 use qrcode_core::types::{Color, EcLevel, QrError};
 use std::alloc::{AllocError, Global};
 
@@ -37,86 +35,38 @@ pub fn draw<R: Source, W: Sink>(
     ensures read { IsErrOf result Fault.Read ↔ IsTrue (R.has_failed reader.new) }
     ensures write { IsErrOf result Fault.Write ↔ IsTrue (W.has_failed writer.new) }
 {
-    let text = drawing(alloc, reader, level, micro)?;
+    let bytes = read_all(alloc, reader)?;
+    let grid = encoded(alloc, &bytes, level, micro)?.into_colors();
+    let text = text_of(alloc, &grid)?;
     write_all(writer, &text)
 }
 
-/// Reads to the end, and answers the text of the symbol of all that was read.
-fn drawing<R: Source>(
-    alloc: Global,
-    reader: &mut R,
-    level: EcLevel,
-    micro: bool,
-) -> Result<Vec<u8>, Fault>
-    requires { IsFalse (R.has_failed reader.old) }
-    ensures drawn { IfOk result (λ text. IsDrawing (Shows micro level)
-        (R.remaining reader.old) (R.remaining reader.new) text.items) }
-    ensures refused { IfErr result (IfRefused (λ error. IsRefused (IsRefusalOf micro level) error
-        (R.remaining reader.old) (R.remaining reader.new))) }
-    ensures few { ReadsAtMost 7090 (R.remaining reader.old) (R.remaining reader.new) }
-    ensures fewer { IsErrOf result Fault.Read →
-        ReadsAtMost 7089 (R.remaining reader.old) (R.remaining reader.new) }
-    ensures read { IsErrOf result Fault.Read ↔ IsTrue (R.has_failed reader.new) }
-    ensures no_write { IfErr result (λ e. e ≢ Fault.Write) }
-{
-    let bytes = read_all(alloc, reader)?;
-    let grid = encoded(alloc, &bytes, level, micro)?;
-    let width = width_of(&grid);
-    Ok(text_of(alloc, &grid, width)?)
-}
-
-/// How many modules a row of a square grid has.
-fn width_of(grid: &[Color]) -> usize
-    requires { IsSquare grid.now }
-    ensures { length grid.now ≡ result * result }
-{
-    grid.len().isqrt()
-}
-
-/// The grid of the symbol, or of the Micro symbol, of the bytes.
-fn encoded(alloc: Global, bytes: &[u8], level: EcLevel, micro: bool) -> Result<Vec<Color>, QrError>
-    ensures grid { IfOk result (λ grid. IsSymbolOf micro level bytes.now grid.items) }
-    ensures square { IfOk result (λ grid. IsSquare grid.items) }
+/// The symbol, or the Micro symbol, of the bytes.
+fn encoded(alloc: Global, bytes: &[u8], level: EcLevel, micro: bool) -> Result<Symbol, QrError>
+    ensures symbol { IfOk result (λ symbol. IsSymbolOf micro level bytes.now symbol.modules) }
     ensures limit { OnOk result (length bytes.now ≤ 7089) }
     ensures refused { IfErr result (IsRefusalOf micro level bytes.now) }
 {
     if micro {
-        symbol_micro(alloc, bytes, level)
+        Symbol::micro(alloc, bytes, level)
     } else {
-        symbol(alloc, bytes, level)
+        Symbol::new(alloc, bytes, level)
     }
 }
 
-/// The character of a module.
-fn character(color: &Color) -> u8
-    ensures { result ≡ character color.now }
-{
-    match color {
-        Color::Dark => b'#',
-        Color::Light => b'.',
-    }
-}
-
-/// Adds the line of a row.
-fn push_line(text: &mut Vec<u8>, row: &[Color]) -> Result<(), AllocError>
-    ensures { OnOk result (text.new.items ≡ text.old.items ++ line_of row.now) }
-{
-    for color in row {
-        text.push(character(color))?;
-    }
-    text.push(b'\n')?;
-    Ok(())
-}
-
-/// The text of a grid: a line for each row.
+/// The text of a square grid: a line for each row.
 #[tactic(auto, using(crate::proofs::TextLemmas::lines_none, crate::proofs::TextLemmas::lines_more))]
-pub fn text_of(alloc: Global, grid: &[Color], width: usize) -> Result<Vec<u8>, AllocError>
-    requires square { length grid.now ≡ width * width }
-    ensures { IfOk result (λ text. text.items ≡ lines width grid.now width) }
+fn text_of(alloc: Global, grid: &[Color]) -> Result<Vec<u8>, AllocError>
+    requires { IsSquare grid.now }
+    ensures { IfOk result (λ text. IsTextOf grid.now text.items) }
 {
+    let width = grid.len().isqrt();
     let mut text = Vec::new(alloc);
     for y in 0..width {
-        push_line(&mut text, &grid[y * width..(y + 1) * width])?;
+        for color in &grid[y * width..(y + 1) * width] {
+            text.push(color.select(b'#', b'.'))?;
+        }
+        text.push(b'\n')?;
     }
     Ok(text)
 }

@@ -2,8 +2,7 @@
 
 use crate::draw::draw;
 use crate::tests::HELLO;
-use programs::devices::{FromReader, FromWriter};
-use programs::fault::Fault;
+use programs::{Fault, FromReader, FromWriter};
 use qrcode_core::types::{EcLevel, QrError, QrResult};
 
 /// A refused growth leaves what is written as it was. The text of 21 lines has 462 bytes.

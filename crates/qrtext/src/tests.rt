@@ -1,10 +1,9 @@
 //! Devices that fail, and the words of the command line.
 use crate::draw::draw;
-use crate::run::{give_up, run};
-use programs::devices::{FromReader, FromWriter, Sink, Source};
-use programs::fault::Fault;
+use crate::{OUT_OF_MEMORY, PROGRAM, run};
+use programs::{Fault, FromReader, FromWriter, Sink, Source, fail};
 use qrcode_core::types::{EcLevel, QrError};
-use std::alloc::AllocError;
+use std::alloc::{AllocError, Global};
 use std::io;
 use std::io::{ErrorKind, Read, Write};
 use std::test::Fail;
@@ -216,6 +215,17 @@ fn drawn(rt: &HostRuntime, most: usize, calls: usize, then: Then) -> Result<(boo
     Ok((outcome == wanted, kept))
 }
 
+/// Words as the process gives them.
+fn as_given(alloc: Global, words: &[&str]) -> Result<Vec<String>, AllocError> {
+    let mut given = Vec::with_capacity(alloc, words.len())?;
+    for word in words {
+        given
+            .push(String::from_str(alloc, word)?)
+            .map_err(AllocError::from)?;
+    }
+    Ok(given)
+}
+
 #[test]
 fn runs(rt: HostRuntime) -> Result<(), Fail> {
     let long = vec![in rt.alloc(); b'a'; 2954]?;
@@ -239,7 +249,8 @@ fn runs(rt: HostRuntime) -> Result<(), Fail> {
         let mut reader = FromReader::new(&mut bytes);
         let mut writer = FromWriter::new(&mut text);
         let mut errors = FromWriter::new(&mut said);
-        let answer = run(rt.alloc(), words, &mut reader, &mut writer, &mut errors);
+        let asked = as_given(rt.alloc(), words)?;
+        let answer = run(rt.alloc(), &asked, &mut reader, &mut writer, &mut errors);
         assert_eq!(rt; answer, status, "{words:?}");
         assert_eq!(rt; text.len(), length, "{words:?}");
         assert_eq!(rt; said.as_slice(), line.as_bytes());
@@ -284,7 +295,8 @@ fn runs_with_devices_that_give_up(rt: HostRuntime) -> Result<(), Fail> {
         });
         let mut writer = FromWriter::new(bearing(&mut text, writes));
         let mut errors = FromWriter::new(bearing(&mut said, tells));
-        let answer = run(rt.alloc(), words, &mut reader, &mut writer, &mut errors);
+        let asked = as_given(rt.alloc(), words)?;
+        let answer = run(rt.alloc(), &asked, &mut reader, &mut writer, &mut errors);
         assert_eq!(rt; answer, status, "{reads} {writes} {tells}");
         let read_failed = status == 1 && reads < 9;
         let write_failed = status == 1 && !read_failed;
@@ -301,7 +313,8 @@ fn runs_with_devices_that_give_up(rt: HostRuntime) -> Result<(), Fail> {
 fn tells_want_of_memory(rt: HostRuntime) -> Result<(), Fail> {
     let mut said: Vec<u8> = Vec::new(rt.alloc());
     let mut errors = FromWriter::new(&mut said);
-    let status = give_up(rt.alloc(), &mut errors, Fault::from(AllocError));
+    let wanting = Fault::from(AllocError);
+    let status = fail(rt.alloc(), &mut errors, PROGRAM, OUT_OF_MEMORY, wanting);
     assert_eq!(rt; status, 1);
     assert_eq!(rt; said.as_slice(), "qrtext: out of memory\n".as_bytes());
     Ok(())

@@ -3,8 +3,7 @@ ghost use Rattle.std.specs.Prelude.{◌≡◌, ◌≤◌, length, OnOk, IfOk, If
 ghost use Rattle.qrcode_base.specs.Symbols.{IsVersion, width_of};
 ghost use Rattle.qrcode_core.specs.Limits.{IsBudget, IsBestWithin, IsTooLongWithin, IsLimitedRefusal};
 ghost use Rattle.qrcode_core.specs.Drawn.{TellsReading, drawn_grid, HoldsStream, IsStreamRefusal};
-ghost use Rattle.qrcode_core.specs.Layers.{AreAllCodewords};
-ghost use Rattle.qrcode_core.specs.Layers.{IsDrawn, FillsSymbol, IsDrawnStream};
+ghost use Rattle.qrcode_core.specs.Layers.{FillsSymbol, IsDrawnStream};
 ghost use Rattle.qrcode_core.specs.Headline.{IsBestSymbol, IsBestMicroSymbol, IsTooLong, IsTooLongForMicro, IsRefusal};
 ghost use Rattle.qrcode_bits.specs.Push.{IsMicroRefused};
 ghost use Rattle.qrcode_core.specs.Views.{view_grid};
@@ -226,23 +225,15 @@ impl QrSymbol for Symbol {
     }
 }
 
-/// The symbol of some bits that fill it.
+/// The symbol of some bits that fill it: their codewords, under the first mask of least penalty.
 pub fn symbol_of(alloc: Global, bits: Bits, level: EcLevel) -> QrResult<Symbol>
     requires { FillsSymbol bits level }
     ensures drawn { IfOk result (IsDrawnStream bits level) }
     ensures memory { IfErr result (λ e. e ≡ QrError.OutOfMemory) }
 {
     let version = bits.version();
-    draw(alloc, version, level, &bits.into_bytes())
-}
-
-/// The symbol with these data codewords, under the first mask of least penalty.
-fn draw(alloc: Global, version: Version, level: EcLevel, codewords: &[u8]) -> QrResult<Symbol>
-    requires { AreAllCodewords version level (length codewords.now) }
-    ensures drawn { IfOk result (IsDrawn version level codewords.now) }
-    ensures memory { IfErr result (λ e. e ≡ QrError.OutOfMemory) }
-{
-    let (interleaved, correction) = construct_codewords(alloc, codewords, version, level)?;
+    let codewords = bits.into_bytes();
+    let (interleaved, correction) = construct_codewords(alloc, &codewords, version, level)?;
     let (modules, mask) = draw_symbol(alloc, version, level, &interleaved, &correction)?;
     Ok(Symbol {
         modules,

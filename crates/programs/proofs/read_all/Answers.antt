@@ -1,7 +1,7 @@
 use Rattle.std.proofs.Common.{◌++◌, take, arith}
 use Rattle.std.proofs.lemmas.Grind.{common_steps}
 use Rattle.programs.proofs.DeviceLemmas.{Consumes-append}
-use Rattle.programs.proofs.devices.read_all.Goals as goal
+use Rattle.programs.proofs.read_all.Goals as goal
 
 pub returns-in_err-extend_from_slice-clause-few : goal.returns-in_err-extend_from_slice-clause-few
 returns-in_err-extend_from_slice-clause-few g c = (
