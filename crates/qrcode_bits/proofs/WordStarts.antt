@@ -3,7 +3,8 @@ use Rattle.qrcode_bits.proofs.Prelude.{◌≡◌, ℕ, zero, suc, ◌+◌, ◌-�
 use Rattle.qrcode_bits.proofs.Prelude.{get_or-map-range_with_len, length-map-range_with_len, Mode, Alphanumeric, Kanji, Candidate, IsNoWorse, period}
 use Rattle.qrcode_bits.proofs.Prelude.{period_bits, bucket_mode, bucket_rest, slot, IsBetterOf, HasBucket, key_of, Enters, start_told, bucket_start, word_at}
 use Rattle.qrcode_bits.proofs.Prelude.{common_steps}
-use Rattle.qrcode_bits.specs.Buckets.{word_of, starts_in, IsOffered, IsWhole}
+use Rattle.qrcode_bits.specs.Buckets.{word_of, starts_in, IsOffered, IsEmptyGroup}
+use Rattle.std.specs.Prelude.{replicate}
 use Rattle.qrcode_bits.proofs.Grouping.{has-inside}
 
 pub word-ahead : (more a b : ℕ) → a ≤ b →
@@ -37,6 +38,10 @@ length-starts_in words = length-map-range_with_len (λ (i : ℕ). bucket_start i
 
 -- the words of a group, as starts
 pub ruleset starts_of_words = (length-starts_in, slot-starts_in, no_start)
+
+-- no word but the greatest is no start
+pub no_starts : IsEmptyGroup (starts_in (replicate 8 18446744073709551615))
+no_starts = grind (arith, common_steps, length-starts_in, slot-starts_in, no_start)
 
 -- ---- A start enters
 
@@ -92,10 +97,6 @@ module _ (begin bits parts start : ℕ) (low : begin < 8192) (few : bits < 2 ^ 1
     kept : (j : ℕ) → j < 8 → (begin % period (bucket_mode j) ≡ bucket_rest j → ⊥) → slot (starts_in new) j ≡ slot (starts_in old) j
     kept j inside ne = grind (arith, slot-starts_in)
 
-    -- the bucket of Byte has a start
-    still_whole : length new ≡ 8 → IsWhole new
-    still_whole long = grind arith
-
     enters : Enters mode begin bits parts start (starts_in old) (starts_in new)
     enters = (length-starts_in new, λ j has. entered j has (has-inside mode j has), λ j has. kept j (has-inside mode j has))
 
@@ -105,7 +106,6 @@ pub enters_words : (mode : Mode) (begin bits parts start : ℕ) → begin < 8192
     t ≡ word_of (bits + 10 * (8192 - begin / 3)) parts start → p ≡ word_of (bits + 11 * (8192 - begin / 2)) parts start →
     s ≡ word_of (bits + 8 * (8192 - begin)) parts start → c ≡ word_of (bits + 13 * (8192 - begin / 2)) parts start →
     IsOffered mode (begin % 3) t old one → IsOffered mode (3 + begin % 2) p one two → IsOffered mode 5 s two three →
-    IsOffered mode (6 + begin % 2) c three new → length new ≡ 8 →
-    Enters mode begin bits parts start (starts_in old) (starts_in new) × IsWhole new
-enters_words mode begin bits parts start low few short early old one two three new t p s c ts ps ss cs first second third fourth long =
-    grind (arith, common_steps, enters, still_whole)
+    IsOffered mode (6 + begin % 2) c three new → Enters mode begin bits parts start (starts_in old) (starts_in new)
+enters_words mode begin bits parts start low few short early old one two three new t p s c ts ps ss cs first second third fourth =
+    grind (arith, common_steps, enters)

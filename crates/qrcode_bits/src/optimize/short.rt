@@ -12,7 +12,7 @@ ghost use Rattle.qrcode_bits.specs.Plans.{HasLinearCosts, IsChosenPlan, IsStep};
 ghost use Rattle.qrcode_bits.specs.Buckets.{bucket_mode, bucket_rest, AreGroups, period_bits, told, header_in};
 ghost use Rattle.qrcode_bits.specs.Buckets.{AreWhole, IsShort, AreHeaders, step_told, AreShortSteps, Absorbs, Advances};
 ghost use Rattle.qrcode_bits.specs.Buckets.{IsEmptyGroup, EntersGroup, group_of, slot, word_of, starts_in};
-ghost use Rattle.qrcode_bits.specs.Buckets.{IsOffered, Enters, bucket_start, IsWhole};
+ghost use Rattle.qrcode_bits.specs.Buckets.{IsOffered, Enters, bucket_start};
 
 use super::{Comparisons, Segment, bucket_mode};
 use qrcode_base::types::{Mode, QrError, QrResult, Version};
@@ -45,30 +45,16 @@ fn word(bits: u64, parts: usize, start: usize) -> u64
 /// Takes what is less in another group, bucket by bucket, from the first one that is needed to that of Byte.
 #[tactic(auto, using(crate::proofs::WordStarts::starts_of_words))]
 fn absorb<L: Ledger>(into: &mut [u64], from: &[u64], first: usize, comparisons: &mut Comparisons<L>)
-    requires into { IsWhole into.old }
-    requires from { IsWhole from.now }
+    requires into { length into.old ≡ 8 }
+    requires from { length from.now ≡ 8 }
     requires first { first ≤ 5 }
     ensures absorbed { Absorbs first (starts_in into.old) (starts_in from.now) (starts_in into.new) }
-    ensures whole { IsWhole into.new }
+    ensures long { length into.new ≡ 8 }
     ensures ticked { comparisons.new ≤ comparisons.old + 8 }
 {
-    if from[5] < 1 << 50 {
-        for j in first..6 {
-            comparisons.tick();
-            into[j] = into[j].min(from[j]);
-        }
-    }
-}
-
-/// Takes all starts out of a group.
-#[tactic(auto, using(crate::proofs::WordStarts::starts_of_words))]
-fn clear(group: &mut [u64])
-    requires { IsWhole group.old }
-    ensures empty { IsEmptyGroup (starts_in group.new) }
-    ensures whole { IsWhole group.new }
-{
-    if group[5] < 1 << 50 {
-        group.fill(NO_START);
+    for j in first..6 {
+        comparisons.tick();
+        into[j] = into[j].min(from[j]);
     }
 }
 
@@ -108,13 +94,13 @@ fn enter<L: Ledger>(
     start: usize,
     comparisons: &mut Comparisons<L>,
 )
-    requires group { IsWhole group.old }
+    requires group { length group.old ≡ 8 }
     requires begin { begin < 8192 }
     requires bits { bits < 2 ^ 18 }
     requires parts { parts < 8192 }
     requires start { start < 8192 }
     ensures entered { Enters mode begin bits parts start (starts_in group.old) (starts_in group.new) }
-    ensures whole { IsWhole group.new }
+    ensures long { length group.new ≡ 8 }
     ensures ticked { comparisons.new ≤ comparisons.old + 4 }
 {
     let bytes = begin as u64;
@@ -157,27 +143,27 @@ impl Words {
         match incoming {
             Mode::Numeric => {
                 absorb(&mut self.byte, &self.kanji, 5, comparisons);
-                clear(&mut self.kanji);
+                self.kanji = [NO_START; 8];
             }
             Mode::Alphanumeric => {
                 absorb(&mut self.alphanumeric, &self.numeric, 3, comparisons);
                 absorb(&mut self.byte, &self.kanji, 5, comparisons);
-                clear(&mut self.numeric);
-                clear(&mut self.kanji);
+                self.numeric = [NO_START; 8];
+                self.kanji = [NO_START; 8];
             }
             Mode::Byte => {
                 absorb(&mut self.byte, &self.numeric, 5, comparisons);
                 absorb(&mut self.byte, &self.alphanumeric, 5, comparisons);
                 absorb(&mut self.byte, &self.kanji, 5, comparisons);
-                clear(&mut self.numeric);
-                clear(&mut self.alphanumeric);
-                clear(&mut self.kanji);
+                self.numeric = [NO_START; 8];
+                self.alphanumeric = [NO_START; 8];
+                self.kanji = [NO_START; 8];
             }
             Mode::Kanji => {
                 absorb(&mut self.byte, &self.numeric, 5, comparisons);
                 absorb(&mut self.byte, &self.alphanumeric, 5, comparisons);
-                clear(&mut self.numeric);
-                clear(&mut self.alphanumeric);
+                self.numeric = [NO_START; 8];
+                self.alphanumeric = [NO_START; 8];
             }
         }
     }
@@ -210,7 +196,10 @@ impl Words {
                 let group = &mut self.alphanumeric;
                 enter(group, mode, begin, bits, parts, start, comparisons)
             }
-            Mode::Byte => enter(&mut self.byte, mode, begin, bits, parts, start, comparisons),
+            Mode::Byte => {
+                let group = &mut self.byte;
+                enter(group, mode, begin, bits, parts, start, comparisons)
+            }
             Mode::Kanji => {
                 let group = &mut self.kanji;
                 enter(group, mode, begin, bits, parts, start, comparisons)
