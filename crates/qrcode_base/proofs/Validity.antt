@@ -1,13 +1,13 @@
 -- The first invalid byte of a text is one, and one only; there is none exactly where the text is valid.
-use Rattle.qrcode_base.proofs.Prelude.{◌≡◌, ℕ, zero, suc, ◌<◌, ◌≤◌, refl, sym, ap, ◌∙◌, arith, subst, List, [], ◌∷◌, length, take, Bool, true, inl, inr, Option}
-use Rattle.qrcode_base.proofs.Prelude.{Some, None, All, Contains, slice_get, if◌then◌else◌, ◌&&◌, take-length, false≢true, cases_lt, slice_get_within}
+use Rattle.qrcode_base.proofs.Prelude.{◌≡◌, ℕ, zero, suc, ◌<◌, ◌≤◌, refl, sym, ap, ◌∙◌, arith, subst, List, [], ◌∷◌, length, take, Bool, true, Option}
+use Rattle.qrcode_base.proofs.Prelude.{Some, None, All, Contains, slice_get, if◌then◌else◌, take-length, false≢true, cases_lt, slice_get_within}
 use Rattle.qrcode_base.proofs.Prelude.{slice_get-get_or, Mode, Numeric, Alphanumeric, Byte, Kanji, is_between, IsDigit, alphabet, is_alphanumeric}
-use Rattle.qrcode_base.proofs.Prelude.{is_kanji_pair, IsKanjiText, is_kanji_text, IsValid, is_valid, longest_beginning, first_invalid, IsFirstInvalid}
+use Rattle.qrcode_base.proofs.Prelude.{and_parts, is_kanji_pair, IsKanjiText, is_kanji_text, IsValid, is_valid, longest_beginning, first_invalid, IsFirstInvalid}
 use Rattle.qrcode_base.proofs.Prelude.{FirstInvalid}
-use Rattle.std.specs.Prelude.{option_map, ◌↔◌, nat_le}
+use Rattle.std.specs.Prelude.{option_map, ◌↔◌}
 use Rattle.std.specs.List.{list_all}
 use Rattle.std.proofs.lemmas.List.Sums.{AllPass-from_list_all, list_all-from_AllPass}
-use Rattle.qrcode_base.proofs.Alphabet.{and_left, and_right, is_alphanumeric-inside, is_alphanumeric-from_inside}
+use Rattle.qrcode_base.proofs.Alphabet.{is_alphanumeric-inside, is_alphanumeric-from_inside}
 
 -- ---- The test of a text
 
@@ -17,62 +17,43 @@ passes_all P test text each h = list_all-from_AllPass test text (λ k d within. 
 holds_of_all : (P : ℕ → Type 0) (test : ℕ → Bool) (text : List ℕ) → ((c : ℕ) → test c ≡ true → P c) → list_all test text ≡ true → All P text
 holds_of_all P test text each h = λ k d within. each _ (AllPass-from_list_all test text h k d within)
 
-between-is : (low high c : ℕ) → low ≤ c → c ≤ high → is_between low high c ≡ true
-between-is low high c above below = grind arith
-
-above_low : (low high c : ℕ) → is_between low high c ≡ true → low ≤ c
-above_low low high c h = let test = and_left (nat_le low c) (nat_le c high) h in grind arith
-
-below_high : (low high c : ℕ) → is_between low high c ≡ true → c ≤ high
-below_high low high c h = let test = and_right (nat_le low c) (nat_le c high) h in grind arith
-
-both : (a b : Bool) → a ≡ true → b ≡ true → (a && b) ≡ true
-both a b h k = grind arith
-
 kanji-passes : (text : List ℕ) → IsKanjiText text → is_kanji_text text ≡ true
 unfolding is_kanji_text
 kanji-passes [] h = refl
 kanji-passes (a ∷ []) h = absurd h
-kanji-passes (a ∷ b ∷ rest) h = both (is_kanji_pair a b) (is_kanji_text rest) h.0 (kanji-passes rest h.1)
+kanji-passes (a ∷ b ∷ rest) h = grind (arith, kanji-passes rest)
 
 kanji-holds : (text : List ℕ) → is_kanji_text text ≡ true → IsKanjiText text
 unfolding is_kanji_text
 kanji-holds [] h = tt
 kanji-holds (a ∷ []) h = false≢true h
-kanji-holds (a ∷ b ∷ rest) h = (and_left (is_kanji_pair a b) (is_kanji_text rest) h, kanji-holds rest (and_right (is_kanji_pair a b) (is_kanji_text rest) h))
+kanji-holds (a ∷ b ∷ rest) h = let parts = and_parts (is_kanji_pair a b) (is_kanji_text rest) h in (parts.0, kanji-holds rest parts.1)
 
 valid-passes : (mode : Mode) (text : List ℕ) → IsValid mode text → is_valid mode text ≡ true
 unfolding is_valid
-valid-passes Numeric text h = passes_all IsDigit (is_between 48 57) text (λ c d. between-is 48 57 c d.0 (omega (arith, d.1))) h
+valid-passes Numeric text h = passes_all IsDigit (is_between 48 57) text (λ c d. grind arith) h
 valid-passes Alphanumeric text h = passes_all (λ c. Contains alphabet c) is_alphanumeric text is_alphanumeric-from_inside h
-valid-passes Byte text h = passes_all (λ c. c < 256) (is_between 0 255) text (λ c d. between-is 0 255 c (omega arith) (omega (arith, d))) h
+valid-passes Byte text h = passes_all (λ c. c < 256) (is_between 0 255) text (λ c d. grind arith) h
 valid-passes Kanji text h = kanji-passes text h
 
 valid-holds : (mode : Mode) (text : List ℕ) → is_valid mode text ≡ true → IsValid mode text
 unfolding is_valid
-valid-holds Numeric text h = holds_of_all IsDigit (is_between 48 57) text (λ c d. (above_low 48 57 c d, omega (arith, below_high 48 57 c d))) h
+valid-holds Numeric text h = holds_of_all IsDigit (is_between 48 57) text (λ c d. grind arith) h
 valid-holds Alphanumeric text h = holds_of_all (λ c. Contains alphabet c) is_alphanumeric text is_alphanumeric-inside h
-valid-holds Byte text h = holds_of_all (λ c. c < 256) (is_between 0 255) text (λ c d. omega (arith, below_high 0 255 c d)) h
+valid-holds Byte text h = holds_of_all (λ c. c < 256) (is_between 0 255) text (λ c d. grind arith) h
 valid-holds Kanji text h = kanji-holds text h
 
 -- ---- The longest beginning that passes
 
-step_within : (b : Bool) (n m : ℕ) → m ≤ n → (if b then suc n else m) ≤ suc n
-step_within b n m h = grind arith
-
 longest-within : (test : List ℕ → Bool) (text : List ℕ) (n : ℕ) → longest_beginning test text n ≤ n
 unfolding longest_beginning
 longest-within test text zero = omega arith
-longest-within test text (suc n) = step_within (test (take (suc n) text)) n (longest_beginning test text n) (longest-within test text n)
-
-step_passes : (test : List ℕ → Bool) (text : List ℕ) (b : Bool) (n m : ℕ) → test (take (suc n) text) ≡ b → test (take m text) ≡ true →
-    test (take (if b then suc n else m) text) ≡ true
-step_passes test text b n m e h = grind arith
+longest-within test text (suc n) = grind (arith, longest-within test text n)
 
 longest-passes : (test : List ℕ → Bool) (text : List ℕ) (n : ℕ) → test [] ≡ true → test (take (longest_beginning test text n) text) ≡ true
 unfolding longest_beginning
 longest-passes test text zero h = h
-longest-passes test text (suc n) h = step_passes test text (test (take (suc n) text)) n (longest_beginning test text n) refl (longest-passes test text n h)
+longest-passes test text (suc n) h = grind (arith, longest-passes test text n h)
 
 step_longest : (test : List ℕ → Bool) (text : List ℕ) (b : Bool) (n m : ℕ) → test (take (suc n) text) ≡ b →
     ((k : ℕ) → m < k → k ≤ n → test (take k text) ≡ true → ⊥) → (k : ℕ) → (if b then suc n else m) < k → k ≤ suc n → test (take k text) ≡ true → ⊥
@@ -87,11 +68,7 @@ longest-longest test text (suc n) k above within h = step_longest test text (tes
 -- ---- What stands behind it
 
 past_end : (text : List ℕ) (k : ℕ) → slice_get text k ≡ None → k ≤ length text → k ≡ length text
-past_end text k none within =
-    elim (cases_lt k (length text)) [
-      | inl below ↦ let some = slice_get-get_or text k 0 below in absurd (cc)
-      | inr above ↦ omega arith
-    ]
+past_end text k none within = grind (arith, slice_get-get_or text k 0, cases_lt k (length text))
 
 empty_valid : (mode : Mode) → is_valid mode [] ≡ true
 empty_valid mode = grind (arith, valid-passes)
@@ -118,11 +95,7 @@ not_valid valid text position byte first whole =
 not_before : (valid : List ℕ → Type 0) (text : List ℕ) (p q : ℕ × ℕ) → IsFirstInvalid valid text p.0 p.1 → IsFirstInvalid valid text q.0 q.1 → p.0 < q.0 → ⊥
 not_before valid text p q first second before = grind (arith, slice_get_within)
 
-place_and_byte : ℕ → ℕ → Option (ℕ × ℕ)
-place_and_byte place byte = Some (place, byte)
-
 same_found : (text : List ℕ) (p q : ℕ × ℕ) → p.0 ≡ q.0 → slice_get text p.0 ≡ Some p.1 → slice_get text q.0 ≡ Some q.1 → Some p ≡ Some q
-unfolding place_and_byte
 same_found text p q place first second = grind arith
 
 one_first : (valid : List ℕ → Type 0) (text : List ℕ) (first second : Option (ℕ × ℕ)) → FirstInvalid valid text first →
@@ -130,14 +103,7 @@ one_first : (valid : List ℕ → Type 0) (text : List ℕ) (first second : Opti
 one_first valid text None None h k = refl
 one_first valid text None (Some q) h k = absurd (not_valid valid text q.0 q.1 k h)
 one_first valid text (Some p) None h k = absurd (not_valid valid text p.0 p.1 h k)
-one_first valid text (Some p) (Some q) h k =
-    elim (cases_lt p.0 q.0) [
-      | inl before ↦ absurd (not_before valid text p q h k before)
-      | inr after ↦ elim (cases_lt q.0 p.0) [
-        | inl before ↦ absurd (not_before valid text q p k h before)
-        | inr same ↦ same_found text p q (omega arith) h.byte_is k.byte_is
-      ]
-    ]
+one_first valid text (Some p) (Some q) h k = grind (arith, not_before valid text p q h k, not_before valid text q p k h, same_found text p q)
 
 -- What is first is what `first_invalid` tells.
 pub first_invalid-is : (mode : Mode) (text : List ℕ) (found : Option (ℕ × ℕ)) → FirstInvalid (IsValid mode) text found → found ≡ first_invalid mode text
