@@ -142,10 +142,6 @@ IsBestSymbol bytes level grid = IsBest normal None bytes level grid
 abbrev pub IsBestMicroSymbol : List ℕ → EcLevel → List Color → Type 0
 IsBestMicroSymbol bytes level grid = IsBest micro None bytes level grid
 
--- as many modules as the square of a width
-abbrev pub IsSquare : List Color → Type 0
-IsSquare grid = (width : ℕ) × (length grid ≡ width * width)
-
 -- ---- Refusals
 
 -- No plan fits the greatest version.

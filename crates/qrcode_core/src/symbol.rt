@@ -1,6 +1,6 @@
 //! The symbol of some bytes: segments, codewords, modules.
-ghost use Rattle.std.specs.Prelude.{◌≤◌, length, OnOk, IfOk, IfErr};
-ghost use Rattle.qrcode_core.specs.Headline.{IsBestSymbol, IsBestMicroSymbol, IsSquare, IsTooLong};
+ghost use Rattle.std.specs.Prelude.{◌≡◌, ℕ, ◌*◌, ◌≤◌, length, OnOk, IfOk, IfErr};
+ghost use Rattle.qrcode_core.specs.Headline.{IsBestSymbol, IsBestMicroSymbol, IsTooLong};
 ghost use Rattle.qrcode_core.specs.Headline.{IsTooLongForMicro, IsRefusal};
 ghost use Rattle.qrcode_bits.specs.Push.{IsMicroRefused};
 
@@ -23,7 +23,7 @@ use std::alloc::Global;
 /// memory. `OutOfMemory` comes where a growth was refused.
 pub fn symbol(alloc: Global, bytes: &[u8], level: EcLevel) -> QrResult<Vec<Color>>
     ensures best { IfOk result (λ grid. IsBestSymbol bytes.now level grid.items) }
-    ensures square { IfOk result (λ grid. IsSquare grid.items) }
+    ensures square { IfOk result (λ grid. (width : ℕ) × (length grid.items ≡ width * width)) }
     ensures fitting { OnOk result (IsTooLong bytes.now level → ⊥) }
     ensures limit { OnOk result (length bytes.now ≤ 7089) }
     ensures refused { IfErr result (IsRefusal bytes.now level) }
@@ -38,7 +38,7 @@ pub fn symbol(alloc: Global, bytes: &[u8], level: EcLevel) -> QrResult<Vec<Color
 /// nothing fits any of them, and `OutOfMemory` where a growth was refused.
 pub fn symbol_micro(alloc: Global, bytes: &[u8], level: EcLevel) -> QrResult<Vec<Color>>
     ensures best { IfOk result (λ grid. IsBestMicroSymbol bytes.now level grid.items) }
-    ensures square { IfOk result (λ grid. IsSquare grid.items) }
+    ensures square { IfOk result (λ grid. (width : ℕ) × (length grid.items ≡ width * width)) }
     ensures fitting { OnOk result (IsTooLongForMicro bytes.now level → ⊥) }
     ensures limit { OnOk result (length bytes.now ≤ 7089) }
     ensures refused { IfErr result (IsMicroRefused bytes.now level) }

@@ -1,13 +1,12 @@
 //! From the bytes of a source to the text of their symbol, a line for each row.
-ghost use Rattle.std.specs.Prelude.{◌≡◌, ◌++◌, ◌≤◌, ◌↔◌, length, IsTrue, IsFalse, IfOk, IfErr, OnOk, IsErrOf};
+ghost use Rattle.std.specs.Prelude.{◌≡◌, ℕ, ◌*◌, ◌↔◌, length, IsTrue, IsFalse, IfOk, IsErrOf};
 ghost use Rattle.programs.specs.Devices.{ReadsAtMost};
-ghost use Rattle.programs.specs.Outcome.{Gives, IsSymbolOf, IsRefusalOf};
+ghost use Rattle.programs.specs.Outcome.{Gives, IsRefusalOf};
 ghost use Rattle.qrtext.specs.Drawing.{Shows, IsTextOf};
-ghost use Rattle.qrcode_core.specs.Headline.{IsSquare};
 
 use programs::{Fault, Sink, Source, read_all, write_all};
 use qrcode_core::symbol::Symbol;
-use qrcode_core::types::{Color, EcLevel, QrError};
+use qrcode_core::types::{Color, EcLevel};
 use std::alloc::{AllocError, Global};
 
 /// Reads to the end, writes the text of the symbol of all that was read, and flushes. Of more than 7089 bytes, which no
@@ -36,28 +35,20 @@ pub fn draw<R: Source, W: Sink>(
     ensures write { IsErrOf result Fault.Write ↔ IsTrue (W.has_failed writer.new) }
 {
     let bytes = read_all(alloc, reader)?;
-    let grid = encoded(alloc, &bytes, level, micro)?.into_colors();
+    let symbol = if micro {
+        Symbol::micro(alloc, &bytes, level)?
+    } else {
+        Symbol::new(alloc, &bytes, level)?
+    };
+    let grid = symbol.into_colors();
     let text = text_of(alloc, &grid)?;
     write_all(writer, &text)
-}
-
-/// The symbol, or the Micro symbol, of the bytes.
-fn encoded(alloc: Global, bytes: &[u8], level: EcLevel, micro: bool) -> Result<Symbol, QrError>
-    ensures symbol { IfOk result (λ symbol. IsSymbolOf micro level bytes.now symbol.modules) }
-    ensures limit { OnOk result (length bytes.now ≤ 7089) }
-    ensures refused { IfErr result (IsRefusalOf micro level bytes.now) }
-{
-    if micro {
-        Symbol::micro(alloc, bytes, level)
-    } else {
-        Symbol::new(alloc, bytes, level)
-    }
 }
 
 /// The text of a square grid: a line for each row.
 #[tactic(auto, using(crate::proofs::TextLemmas::lines_none, crate::proofs::TextLemmas::lines_more))]
 fn text_of(alloc: Global, grid: &[Color]) -> Result<Vec<u8>, AllocError>
-    requires { IsSquare grid.now }
+    requires { (width : ℕ) × (length grid.now ≡ width * width) }
     ensures { IfOk result (λ text. IsTextOf grid.now text.items) }
 {
     let width = grid.len().isqrt();

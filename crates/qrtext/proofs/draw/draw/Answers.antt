@@ -1,9 +1,22 @@
 -- The text that is written is that of the symbol of all that was read.
-use Rattle.std.proofs.Common.{rules}
+use Rattle.std.proofs.Common.{rules, ◌≡◌, ◌*◌, ℕ, Bool, true, false, List, length}
+use Rattle.qrcode_core.specs.declared.types.Color.{Color}
+use Rattle.qrcode_core.specs.declared.types.EcLevel.{EcLevel}
 use Rattle.programs.proofs.DeviceLemmas.{ReadsAll-short}
-use Rattle.programs.specs.Outcome.{IsDrawing}
+use Rattle.programs.specs.Outcome.{IsDrawing, IsSymbolOf}
 use Rattle.qrtext.specs.Drawing.{Shows}
 use Rattle.qrtext.proofs.draw.draw.Goals as goal
+
+-- either symbol is square
+square_of : (micro : Bool) (level : EcLevel) (bytes : List ℕ) (grid : List Color) → IsSymbolOf micro level bytes grid →
+    (width : ℕ) × (length grid ≡ width * width)
+square_of true level bytes grid best = (_, best.reads.carries.is_square)
+square_of false level bytes grid best = (_, best.reads.carries.is_square)
+
+pub text_of-requires : goal.text_of-requires
+text_of-requires g c =
+    let symbol : IsSymbolOf c.args.micro c.args.level c.in_ok-bytes.bytes.items c.into_colors-grid.result.items = search rules in
+    rw c.deref-2.ensures.value (square_of c.args.micro c.args.level _ _ symbol)
 
 pub returns-clause-outcome : goal.returns-clause-outcome
 returns-clause-outcome g c =
@@ -17,4 +30,5 @@ returns-clause-outcome g c =
         text_of = search rules;
       };
     } in
-    search (rules, drawing)
+    let writes = rw c.deref-3.ensures.value at c.write_all.ensures.writes in
+    search (rules, drawing, writes, c.write_all.ensures.handed_on, c.write_all.ensures.failure, c.write_all.ensures.fault)
