@@ -1,7 +1,7 @@
 -- The codewords of an ended stream hold its frame.
 use Rattle.qrcode_core.proofs.Prelude.{[], ◌∷◌, ◌≡◌, ℕ, ◌-◌, ◌%◌, ◌≤◌, arith, ◌⊎◌, List, ◌++◌, length, take, Bool, append_assoc, Some, take_at, none-some}
 use Rattle.qrcode_core.proofs.Prelude.{same_Some, EcLevel, Version, BlockLayout, block_sizes, blocks_of, data_bytes, missing_bits, capacity, byte_bits}
-use Rattle.qrcode_core.proofs.Prelude.{zero_bits, tail, half_byte, ended, common_steps}
+use Rattle.qrcode_core.proofs.Prelude.{zero_bits, tail, ended, common_steps}
 use Rattle.std.proofs.lemmas.List.{replicate-append-replicate}
 use Rattle.qrcode_bits.proofs.Streams.{length-tail, length-ended}
 
@@ -25,7 +25,4 @@ bytes_of_tailed v l b limit payload words known limit_is fits are =
 -- The bits up to the capacity are the first ones of the ended stream.
 pub take_ended : (v : Version) (limit : ℕ) (payload : List Bool) → length payload ≤ limit →
     take limit (ended v limit payload) ≡ payload ++ tail v limit (length payload)
-take_ended v limit payload fits =
-    let whole = append_assoc payload (tail v limit (length payload)) (half_byte v limit (length payload)) in
-    let front = take_at (payload ++ tail v limit (length payload)) (half_byte v limit (length payload)) limit (length-tailed v limit payload fits) in
-    cc
+take_ended v limit payload fits = grind (arith, append_assoc, take_at, length-tailed)

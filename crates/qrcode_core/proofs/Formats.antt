@@ -1,5 +1,5 @@
 -- The functional colours of a grid tell the level and the mask.
-use Rattle.qrcode_core.proofs.Prelude.{◌≡◌, ℕ, zero, suc, pos, ◌+◌, ◌*◌, ◌<◌, ◌≤◌, refl, sym, ◌∙◌, arith, inl, inr, List, [], ◌∷◌, Bool, true, false, get_or}
+use Rattle.qrcode_core.proofs.Prelude.{◌≡◌, ℕ, zero, suc, pos, ◌+◌, ◌*◌, ◌<◌, ◌≤◌, refl, sym, ◌∙◌, arith, List, [], ◌∷◌, Bool, true, false, get_or}
 use Rattle.qrcode_core.proofs.Prelude.{Option, Some, None, is_some, unwrap_or, IsTrue, slice_get, range_with_len, count_by, cases_eq, ne_eqb, eqb-true}
 use Rattle.qrcode_core.proofs.Prelude.{leb-true, eq-eqb, Color, EcLevel, Version, Normal, Micro, MaskPattern, functional_color, normal_number, micro_number}
 use Rattle.qrcode_core.proofs.Prelude.{level_number, symbol_number, IsOfFamily, HasFunctionalColors, IsVersion, IsSymbol, width_of, common_steps}
@@ -102,10 +102,7 @@ symbol_numbers n l m h s t = grind (arith, common_steps)
 -- a format word that shows the same digits has the same data
 data_same : (word : ℕ → ℕ) → ((a b : ℕ) → a < 32 → b < 32 → (a ≡ b → ⊥) → 7 ≤ differing_digits 15 (word a) (word b)) →
     (a b : ℕ) → a < 32 → b < 32 → ((k : ℕ) → k < 15 → bit_at (word a) k ≡ bit_at (word b) k) → a ≡ b
-data_same word apart a b h k same = elim (cases_eq a b) [
-  | inl same ↦ same
-  | inr ne ↦ absurd (omega (arith, apart a b h k ne, none_differ 15 (word a) (word b) same))
-]
+data_same word apart a b h k same = grind (arith, cases_eq a b, apart a b h k, none_differ 15 (word a) (word b) same)
 
 -- A version, and the level and mask that a grid's functional colours show.
 pub same_format : (version : Version) (l m : EcLevel) (p q : MaskPattern) (grid : List Color) → IsVersion version →
