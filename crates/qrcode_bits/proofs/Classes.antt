@@ -87,16 +87,12 @@ module _ (front : ℕ) (message : List ℕ) (v : Version) (l : EcLevel) (plan : 
 -- the version has the modes of all parts, where it has those of each
 pub modes_all : (v : Version) (plan items : List Segment) (n : ℕ) → items ≡ plan → length items ≤ n →
     ((k : ℕ) → k < n → HasMode v (segment_at items k).mode) → All (λ part. HasMode v part.mode) plan
-modes_all v plan items n same long each = λ k d within.
-    subst (λ (s : Segment). HasMode v s.mode) (get_or_default plan k (record { mode = Numeric; begin = 0; end = 0 }) d within)
-    (subst (λ (z : List Segment). HasMode v (segment_at z k).mode) same (each k (omega (arith, ap length same))))
+modes_all v plan items n same long each = grind (arith, get_or_default)
 
 -- or lacks that of one
 pub modes_lack : (v : Version) (plan items : List Segment) (i : ℕ) → items ≡ plan → i < length items →
     (HasMode v (segment_at items i).mode → ⊥) → All (λ part. HasMode v part.mode) plan → ⊥
-modes_lack v plan items i same inside lacks has =
-    lacks (subst (λ (z : List Segment). HasMode v (segment_at z i).mode) (sym same)
-    (has i (record { mode = Numeric; begin = 0; end = 0 }) (omega (arith, ap length same))))
+modes_lack v plan items i same inside lacks has = grind (arith)
 
 -- ---- A class of versions
 

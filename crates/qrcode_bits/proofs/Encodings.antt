@@ -1,8 +1,8 @@
 -- The stream of a plan that fits: no push is refused but for memory, and up to the capacity it is a frame.
-use Rattle.qrcode_bits.proofs.Prelude.{◌≡◌, ℕ, ◌+◌, ◌<◌, ◌≤◌, Bool, List, ◌++◌, Some, length, take, sym, ap, ◌∙◌, subst, arith, length-append, All, Option, Version}
+use Rattle.qrcode_bits.proofs.Prelude.{◌≡◌, ℕ, ◌+◌, ◌<◌, ◌≤◌, Bool, List, ◌++◌, Some, length, take, sym, ap, ◌∙◌, subst, arith, length-append}
 use Rattle.qrcode_bits.proofs.Prelude.{EcLevel, QrError, OutOfMemory, capacity, Segment, total_bits, Fits, no_modes, segment_pieces, Header, HasHeader}
-use Rattle.qrcode_bits.proofs.Prelude.{spellings, ended, header_bits, IsFrame, Stream, Spells, EndsAtLevel, IsLevelRefused, with_modes, IsPlanStream, drop, segment_at}
-use Rattle.qrcode_bits.proofs.Prelude.{segment_piece, IsSpellable, All-head, All-tail, drop_all, append-nil, append_assoc}
+use Rattle.qrcode_bits.proofs.Prelude.{spellings, ended, header_bits, IsFrame, Stream, Spells, EndsAtLevel, IsLevelRefused, with_modes, IsPlanStream, drop}
+use Rattle.qrcode_bits.proofs.Prelude.{segment_piece, IsSpellable, All-head, All-tail, drop_all, append-nil, append_assoc, segment_at, All, Option, Version}
 use Rattle.qrcode_bits.specs.declared.bits.headers.EncodingModes.{EncodingModes}
 use Rattle.qrcode_bits.proofs.Choices.{some_same}
 use Rattle.qrcode_bits.proofs.PlanFrames.{spelled_plan, plan_frame}
@@ -49,7 +49,8 @@ module _ (header : Option Header) (bytes : List ℕ) (are : All (λ c. c < 256) 
 
     pushed_size : length middle.bits ≡ length (header_bits header) + total_bits v plan
     pushed_size =
-        omega (arith, ap (λ (z : List Bool). length z) pushed_bits, length-append {A = Bool}, (spelled_plan (length (header_bits header)) v level bytes plan are fits).bits)
+        let spelled = spelled_plan (length (header_bits header)) v level bytes plan are fits in
+        omega (arith, ap (λ (z : List Bool). length z) pushed_bits, length-append {A = Bool}, spelled.bits)
 
     pub plan_end_refused : (e : QrError) → IsLevelRefused middle level e → e ≡ OutOfMemory
     plan_end_refused e r = grind (arith, pushed_size, w)

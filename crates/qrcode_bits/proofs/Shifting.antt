@@ -3,7 +3,7 @@ use Rattle.qrcode_bits.proofs.Prelude.{◌≡◌, ℕ, suc, ◌+◌, ◌-◌, �
 use Rattle.qrcode_bits.proofs.Prelude.{append_assoc, append-nil, add_comm, slice_index_or, bit_and, pow-add, and_mask, drop_all, length-drop, take-append_seam}
 use Rattle.qrcode_bits.proofs.Prelude.{flat_map-append, common_steps, number_bits, byte_bits, AreShifted, shifted, Stream, Appends, kept_bits, room_in, IsKept}
 use borrow.Rule.Slice.PartMut.{post_of}
-use Rattle.qrcode_bits.proofs.Prelude.{cases_lt, inl, inr}
+use Rattle.qrcode_bits.proofs.Prelude.{cases_lt}
 use Rattle.std.specs.Prelude.{drop, slice_set}
 use Rattle.std.specs.Int.{to_be_bytes, w64}
 use Rattle.qrcode_bits.proofs.Numbers.{number_bits-join, number_bits-cut, number_bits-mod, high_free, length-byte_bits, length-number_bits}
@@ -45,12 +45,7 @@ pub shifted_more : (into text : List ℕ) (used partial before wide i : ℕ) →
     ((k : ℕ) → k < i → slice_index_or into k 0 ≡ shifted used (slice_index_or (partial ∷ text) k 0) (slice_index_or text k 0)) →
     (k : ℕ) → k < i + 1 → slice_index_or (slice_set into i (bit_and (wide / 2 ^ used) 255)) k 0 ≡
     shifted used (slice_index_or (partial ∷ text) k 0) (slice_index_or text k 0)
-shifted_more into text used partial before wide i long inside last is are k below = elim (cases_lt k i) [
-  | inl early ↦ grind (arith, common_steps)
-  | inr late ↦
-      let same : k ≡ i = omega arith in
-      let low = and_mask (wide / 2 ^ used) 8 in grind (arith, common_steps)
-]
+shifted_more into text used partial before wide i long inside last is are k below = grind (arith, common_steps, and_mask, cases_lt, cases_lt k i)
 
 -- ---- The stream
 

@@ -7,7 +7,8 @@ use Rattle.qrcode_bits.proofs.Adjoining.{parsed-short}
 use Rattle.qrcode_bits.proofs.Pairs.{bytes_valid}
 use Rattle.qrcode_bits.proofs.Choices.{chosen_is_plan}
 use Rattle.qrcode_bits.proofs.Lengths.{dense_message}
-use Rattle.qrcode_bits.proofs.Classes.{known_limit, short-linear, plan_ordered, plan_small, counted_all, chosen_fits_here, lacks_mode, too_many, counted_more, modes_all, modes_lack}
+use Rattle.qrcode_bits.proofs.Classes.{known_limit, short-linear, plan_ordered, plan_small, counted_all, counted_more}
+use Rattle.qrcode_bits.proofs.Classes.{chosen_fits_here, lacks_mode, too_many, modes_all, modes_lack}
 use Rattle.qrcode_bits.proofs.bits.encode.chosen_plan.Goals as goal
 
 pub optimize_uncounted-requires-clause-linear : goal.optimize_uncounted-requires-clause-linear
