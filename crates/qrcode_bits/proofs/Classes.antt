@@ -1,7 +1,7 @@
 -- A chosen plan decides for its version, and that of the last version of a class for the class.
 use Rattle.qrcode_bits.proofs.Prelude.{◌≡◌, ℕ, zero, suc, ℤ, false, pos, ◌+◌, ◌-◌, ◌*◌, ◌^◌, ◌<◌, ◌≤◌, List, [], ◌∷◌, length, sym, ap, subst, arith, inl, inr}
 use Rattle.qrcode_bits.proofs.Prelude.{Result, Ok, Err, All, Option, nat_abs, MatchOption, cases_lt, Version, EcLevel, Mode, QrError, DataTooLong, OutOfMemory}
-use Rattle.qrcode_bits.proofs.Prelude.{normal_blocks, capacity, HasMode, indicator_width, count_width, slice_get-get_or, Segment, parsed}
+use Rattle.qrcode_bits.proofs.Prelude.{normal_blocks, capacity, HasMode, indicator, indicator_width, count_width, ◌%◌, one_shl, slice_get-get_or, Segment, parsed}
 use Rattle.qrcode_bits.proofs.Prelude.{AreTexts, HasLinearCosts, IsChosenPlan, total_bits, IsMergePlan, Fits, FitsNot, FitsNone, normal, IsLeastHolding}
 use Rattle.qrcode_bits.proofs.Prelude.{IsMinVersion, IsClass, Header, header_bits, Stream, IsPlanStream, IsEncoding, IsUnencodable, IsEncodingRefused}
 use Rattle.qrcode_bits.proofs.Prelude.{HasHeader, IsPartRefused, IsNormalNumber, LiesIn, common_steps}
@@ -83,6 +83,11 @@ module _ (front : ℕ) (message : List ℕ) (v : Version) (l : EcLevel) (plan : 
   too_many over = chosen_decides front v l message plan chosen (λ fits.
       let equal : limit ≡ fits.limit = cc in
       let within = fits.within in omega arith)
+
+-- a mode whose number is too great
+pub lacks_number : (v : Version) (m : Mode) (n w : ℕ) → n ≡ indicator v m → w ≡ indicator_width v → w < 16 → 1 * 2 ^ w % 2 ^ 16 ≤ n →
+    HasMode v m → ⊥
+lacks_number v m n w is width narrow great has = grind (arith, one_shl w 16 narrow)
 
 -- the version has the modes of all parts, where it has those of each
 pub modes_all : (v : Version) (plan items : List Segment) (n : ℕ) → items ≡ plan → length items ≤ n →

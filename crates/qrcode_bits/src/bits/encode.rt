@@ -20,7 +20,7 @@ ghost use Rattle.qrcode_base.specs.Symbols.{IsNormalNumber};
 ghost use Rattle.qrcode_bits.specs.Push.{IsMicroRefused, IsPartRefused};
 ghost use Rattle.qrcode_bits.specs.Frame.{HasHeader, header_bits, header_of};
 
-use super::headers::{check_place, has_mode};
+use super::headers::{check_place, indicator_number};
 use super::{Bits, data_capacity_bits};
 use crate::optimize::{Parser, Segment, optimize_uncounted};
 use qrcode_base::symbols::LONGEST_DATA;
@@ -235,7 +235,7 @@ fn chosen_plan(
     let plan = optimize_uncounted::<Brand>(alloc, segments, version, Blank::new(1))?;
     let mut size = front;
     for part in &plan {
-        if !has_mode(version, part.mode) {
+        if indicator_number(version, part.mode) >= 1 << version.mode_bits_count() {
             return Ok(None);
         }
         size += part.wide_len(version) as usize;

@@ -8,7 +8,7 @@ use Rattle.qrcode_bits.proofs.Pairs.{bytes_valid}
 use Rattle.qrcode_bits.proofs.Choices.{chosen_is_plan}
 use Rattle.qrcode_bits.proofs.Lengths.{dense_message}
 use Rattle.qrcode_bits.proofs.Classes.{known_limit, short-linear, plan_ordered, plan_small, counted_all, counted_more}
-use Rattle.qrcode_bits.proofs.Classes.{chosen_fits_here, lacks_mode, too_many, modes_all, modes_lack}
+use Rattle.qrcode_bits.proofs.Classes.{chosen_fits_here, lacks_mode, lacks_number, too_many, modes_all, modes_lack}
 use Rattle.qrcode_bits.proofs.bits.encode.chosen_plan.Goals as goal
 
 pub optimize_uncounted-requires-clause-linear : goal.optimize_uncounted-requires-clause-linear
@@ -45,20 +45,22 @@ loop-part-preserved c = record {
   few = c.loop-part.invariant.few;
   had = λ k below. elim (cases_lt k c.loop-part.part-index) [
     | inl early ↦ c.loop-part.invariant.had k early
-    | inr late ↦ (let here : k ≡ c.loop-part.part-index = omega arith in rw here (c.if-not-has_mode.ensures.0 refl))
+    | inr late ↦ (let here : k ≡ c.loop-part.part-index = omega arith in rw here (grind arith))
   ];
   counted = counted_more c.args.version c.deref-part-items.result.now c.loop-part.part-index c.loop-part.size c.args.front c.loop-part.invariant.counted
       c.wide_len.result c.loop-part-test.true c.wide_len.ensures.bits;
 }
 
-pub returns-then-not-has_mode-clause-none : goal.returns-then-not-has_mode-clause-none
-returns-then-not-has_mode-clause-none c =
+pub returns-then-indicator_number-mode_bits_count-clause-none : goal.returns-then-indicator_number-mode_bits_count-clause-none
+returns-then-indicator_number-mode_bits_count-clause-none c =
     let chosen = subst (λ (s : List Segment). IsChosenPlan s c.args.version c.in_ok-plan.plan.items) c.requires.segments
     c.in_ok-plan.ensures.plan in
     let known = known_limit (capacity c.args.version c.args.level) c.in-Ok.limit (InvalidVersion c.args.version c.args.level) c.in-Ok.ensures.is in
     lacks_mode c.args.front c.args.bytes.now c.args.version c.args.level c.in_ok-plan.plan.items c.in-Ok.limit chosen known
     (modes_lack c.args.version c.in_ok-plan.plan.items c.deref-part-items.result.now c.loop-part.part-index c.deref-part-items.ensures.value
-    c.loop-part-test.true (λ has. let no : false ≡ true = c.if-not-has_mode.ensures.1 has in absurd (cc)))
+    c.loop-part-test.true 
+    (lacks_number c.args.version _ c.indicator_number.result c.mode_bits_count.result c.indicator_number.ensures c.mode_bits_count.ensures.width
+    (omega (arith, c.mode_bits_count.ensures)) c.if-indicator_number-mode_bits_count.true))
 
 pub returns-then-size-limit-clause-none : goal.returns-then-size-limit-clause-none
 returns-then-size-limit-clause-none c =
