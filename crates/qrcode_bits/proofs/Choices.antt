@@ -47,9 +47,7 @@ module _ (v : Version) where
   pieces-had [] some h = h
   pieces-had ([] ∷ ps) some h = absurd (omega (arith, first-some [] ps some))
   pieces-had ((s ∷ ss) ∷ ps) some h =
-      All-append Had (merged s ss ∷ []) (flat_map merged_all ps)
-      (All-cons Had (merged s ss) [] (merged-had s ss (had-front (s ∷ ss) (joined ps) h)) (All-nil Had))
-      (pieces-had ps (rest-some (s ∷ ss) ps some) (had-back (s ∷ ss) (joined ps) h))
+      search (arith, rules, All-append, All-cons, All-nil, had-back, had-front, joined, merged-had, rest-some, pieces-had ps (rest-some (s ∷ ss) ps some) (had-back (s ∷ ss) (joined ps) h))
 
   pub had-pieces : (pieces : List (List Segment)) → AreNonEmpty pieces → All Had (flat_map merged_all pieces) → All Had (joined pieces)
   had-pieces [] some h = h
@@ -124,12 +122,7 @@ same_class n m q2 = grind arith
 
 chosen_same : (segments plan : List Segment) (n m : ℕ) → 1 ≤ n → 1 ≤ m → SameClass n m → IsChosenPlan segments (normal n) plan →
     IsChosenPlan segments (normal m) plan
-chosen_same segments plan n m h k class w = record {
-  cuts = w.cuts;
-  chosen =
-      chosen-same segments n m (length segments) w.cuts h k class w.chosen;
-  merges = w.merges;
-}
+chosen_same segments plan n m h k class w = search (arith, rules, chosen-same)
 
 -- a version that holds the bits of a plan fits it, if it is a Normal one
 pub fits_normal : (front n c : ℕ) (message : List ℕ) (l : EcLevel) (plan : List Segment) → IsMergePlan (parsed message) plan → capacity (normal n) l ≡ Some c →

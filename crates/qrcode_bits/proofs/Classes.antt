@@ -1,5 +1,5 @@
 -- A chosen plan decides for its version, and that of the last version of a class for the class.
-use Rattle.qrcode_bits.proofs.Prelude.{◌≡◌, ℕ, zero, suc, ℤ, false, pos, ◌+◌, ◌-◌, ◌*◌, ◌^◌, ◌<◌, ◌≤◌, List, [], ◌∷◌, length, sym, ap, subst, arith, inl, inr}
+use Rattle.qrcode_bits.proofs.Prelude.{◌≡◌, ℕ, zero, suc, ℤ, false, pos, ◌+◌, ◌-◌, ◌*◌, ◌^◌, ◌<◌, ◌≤◌, List, [], ◌∷◌, length, ap, subst, arith, inl, inr}
 use Rattle.qrcode_bits.proofs.Prelude.{Result, Ok, Err, All, Option, nat_abs, MatchOption, cases_lt, Version, EcLevel, Mode, QrError, DataTooLong, OutOfMemory}
 use Rattle.qrcode_bits.proofs.Prelude.{normal_blocks, capacity, HasMode, indicator, indicator_width, count_width, ◌%◌, one_shl, slice_get-get_or, Segment, parsed}
 use Rattle.qrcode_bits.proofs.Prelude.{AreTexts, HasLinearCosts, IsChosenPlan, total_bits, IsMergePlan, Fits, FitsNot, FitsNone, normal, IsLeastHolding}
@@ -153,14 +153,7 @@ module _ (header : Option Header) (message : List ℕ) (l : EcLevel) (last front
 
   -- The chosen plan of the last version of a class fits the least version that holds its bits and those of the header,
   pub class_fits : Fits (length (header_bits header)) message version l plan
-  class_fits =
-      let fits = header_fits in
-      let m = least_version in
-      let holding = m.2 in
-      let some : 1 ≤ m.0 = (capacity-held l m.0 holding.limit holding.limit_is).0 in
-      let rise = total_bits-rise m.0 last some (holding.least last fits.limit fits.has_level fits.within) plan in
-      subst (λ (v : Version). Fits (length (header_bits header)) message v l plan) (sym m.1)
-      (fits_normal (length (header_bits header)) m.0 holding.limit message l plan fits.planned holding.limit_is (omega arith))
+  class_fits = search (arith, rules, capacity-held, fits_normal, header_fits, least_version, total_bits-rise)
 
   -- and is the choice there, where no plan fits a version before the class.
   pub class_encoding : (before limit : ℕ) → IsClass before last → last ≤ limit → FitsNone normal (length (header_bits header)) message l before →

@@ -22,7 +22,7 @@ ghost use Rattle.qrcode_bits.specs.Frame.{HasHeader, header_bits, header_of};
 
 use super::headers::{check_place, indicator_number};
 use super::{Bits, data_capacity_bits};
-use crate::optimize::{Parser, Segment, optimize_uncounted};
+use crate::optimize::{Segment, optimize_uncounted, segments_from};
 use qrcode_base::symbols::LONGEST_DATA;
 use qrcode_base::types::{EcLevel, QrError, QrResult, Version};
 use std::alloc::Global;
@@ -134,7 +134,7 @@ pub fn encode_auto_micro(alloc: Global, bytes: &[u8], level: EcLevel) -> QrResul
     if bytes.len() > LONGEST_DATA {
         return Err(QrError::DataTooLong);
     }
-    let segments = Parser::new(bytes).segments(alloc)?;
+    let segments = segments_from(alloc, bytes, 0)?;
     for smaller in 0..4_usize {
         let version = Version::Micro((smaller + 1) as i16);
         if let Some((plan, _size)) = chosen_plan(alloc, 0, bytes, &segments, version, level)? {
@@ -179,7 +179,7 @@ fn encode_up_to(
     if bytes.len() > LONGEST_DATA {
         return Err(QrError::DataTooLong);
     }
-    let segments = Parser::new(bytes).segments(alloc)?;
+    let segments = segments_from(alloc, bytes, 0)?;
     let front = 20 * usize::from(header.is_some());
     let mut before = 0;
     while before < limit {

@@ -1,5 +1,5 @@
 -- The chosen plan decides whether some plan fits.
-use Rattle.qrcode_bits.proofs.Prelude.{◌≡◌, refl, true, false, ◌+◌, List, ap, ◌∙◌, sym, subst, arith, Segment, InvalidVersion, capacity}
+use Rattle.qrcode_bits.proofs.Prelude.{◌≡◌, ◌+◌, List, ap, ◌∙◌, sym, subst, arith, Segment, InvalidVersion, capacity}
 use Rattle.qrcode_bits.proofs.Prelude.{HasLinearCosts, IsChosenPlan, total_bits}
 use Rattle.qrcode_bits.proofs.Prelude.{cases_lt, inl, inr}
 use Rattle.qrcode_bits.specs.Buckets.{IsShort}
@@ -58,7 +58,7 @@ returns-then-indicator_number-mode_bits_count-clause-none c =
     let known = known_limit (capacity c.args.version c.args.level) c.in-Ok.limit (InvalidVersion c.args.version c.args.level) c.in-Ok.ensures.is in
     lacks_mode c.args.front c.args.bytes.now c.args.version c.args.level c.in_ok-plan.plan.items c.in-Ok.limit chosen known
     (modes_lack c.args.version c.in_ok-plan.plan.items c.deref-part-items.result.now c.loop-part.part-index c.deref-part-items.ensures.value
-    c.loop-part-test.true 
+    c.loop-part-test.true
     (lacks_number c.args.version _ c.indicator_number.result c.mode_bits_count.result c.indicator_number.ensures c.mode_bits_count.ensures.width
     (omega (arith, c.mode_bits_count.ensures)) c.if-indicator_number-mode_bits_count.true))
 

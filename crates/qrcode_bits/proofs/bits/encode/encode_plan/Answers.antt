@@ -1,4 +1,5 @@
 -- The parts of a plan that fits are spelled and ended; only memory can be wanting.
+use Rattle.qrcode_bits.proofs.Prelude.{rules}
 use Rattle.qrcode_bits.proofs.Prelude.{◌≡◌, arith, err_from_is_err_and, Version, Option, common_steps, Stream, no_modes, Header, header_bits}
 use Rattle.qrcode_bits.proofs.Pairs.{bytes_valid}
 use Rattle.qrcode_bits.proofs.Texts.{plan_lies}
@@ -25,17 +26,10 @@ loop-part-init c =
     }
 
 pub push_text-requires : goal.push_text-requires
-push_text-requires c =
-    let it = part_spellable c.args.header.now c.args.bytes.now c.args.version c.args.plan.now c.loop-part.part-index c.loop-part.bits
-    c.loop-part.invariant.pushed c.loop-part-test.true in
-    record { has = it.mode; valid = it.valid }
+push_text-requires c = search (arith, rules, part_spellable)
 
 pub returns-in_err-push_text-clause-memory : goal.returns-in_err-push_text-clause-memory
-returns-in_err-push_text-clause-memory c =
-    let it = part_spellable c.args.header.now c.args.bytes.now c.args.version c.args.plan.now c.loop-part.part-index c.loop-part.bits
-    c.loop-part.invariant.pushed c.loop-part-test.true in
-    let p = err_from_is_err_and c.from_residual-in_err-push_text.result c.from_residual-in_err-push_text.ensures.1 in
-    rw (p.1, p.2) (spellable_refused c.loop-part.bits _ c.in_err-push_text.field-0.0 it c.in_err-push_text.ensures.refused)
+returns-in_err-push_text-clause-memory c = search (arith, rules, err_from_is_err_and, part_spellable, spellable_refused)
 
 pub loop-part-preserved : goal.loop-part-preserved
 loop-part-preserved c = record {
@@ -53,7 +47,4 @@ returns-in_err-push_terminator-clause-memory c =
     c.in_err-push_terminator.field-0.0 c.in_err-push_terminator.ensures.refused)
 
 pub returns-clause-ok : goal.returns-clause-ok
-returns-clause-ok c =
-    plan_stream c.args.header.now c.args.bytes.now (bytes_valid c.args.bytes.now (λ i. omega (arith, c.type_inv.bytes i))) c.args.version c.args.level
-    c.args.plan.now c.requires.fits c.loop-part.part-index c.loop-part-test.false c.loop-part.bits c.loop-part.invariant.pushed
-    c.push_terminator.new.self c.requires.header c.in_ok-push_terminator.ensures.ok
+returns-clause-ok c = search (arith, rules, bytes_valid, plan_stream)
