@@ -1,11 +1,11 @@
 -- A chosen plan decides for its version, and that of the last version of a class for the class.
 use Rattle.qrcode_bits.proofs.Prelude.{◌≡◌, ℕ, zero, suc, ℤ, false, pos, ◌+◌, ◌-◌, ◌*◌, ◌^◌, ◌<◌, ◌≤◌, List, [], ◌∷◌, length, ap, subst, arith, inl, inr}
 use Rattle.qrcode_bits.proofs.Prelude.{Result, Ok, Err, All, Option, nat_abs, MatchOption, cases_lt, Version, EcLevel, Mode, QrError, DataTooLong, OutOfMemory}
-use Rattle.qrcode_bits.proofs.Prelude.{normal_blocks, capacity, HasMode, indicator, indicator_width, count_width, ◌%◌, one_shl, slice_get-get_or, Segment, parsed}
+use Rattle.qrcode_bits.proofs.Prelude.{normal_blocks, capacity, HasMode, indicator, indicator_width, count_width, ◌%◌, one_shl}
 use Rattle.qrcode_bits.proofs.Prelude.{AreTexts, HasLinearCosts, IsChosenPlan, total_bits, IsMergePlan, Fits, FitsNot, FitsNone, normal, IsLeastHolding}
 use Rattle.qrcode_bits.proofs.Prelude.{IsMinVersion, IsClass, Header, header_bits, Stream, IsPlanStream, IsEncoding, IsUnencodable, IsEncodingRefused}
 use Rattle.qrcode_bits.proofs.Prelude.{HasHeader, IsPartRefused, IsNormalNumber, LiesIn, common_steps}
-use Rattle.qrcode_bits.proofs.Prelude.{Numeric, Normal, Micro, micro, segment_at, ints, rules, drop, drop_all, drop-cons, segment_bits}
+use Rattle.qrcode_bits.proofs.Prelude.{slice_get-get_or, Segment, parsed, Numeric, Normal, Micro, micro, segment_at, ints, rules, drop, drop_all, drop-cons, segment_bits}
 use mir.Val.{to_z}
 use mir.Syntax.{w16}
 use Rattle.std.proofs.lemmas.List.{get_or_default}
@@ -31,9 +31,6 @@ micro_is n few = search (arith, rules, ints)
 
 abbrev pub HasSmallHeaders : Version → Type 0
 HasSmallHeaders v = (m : Mode) → indicator_width v + count_width v m ≤ 20
-
-pub normal_headers : (n : ℕ) → HasSmallHeaders (normal n)
-normal_headers n q1 = grind arith
 
 module _ (message : List ℕ) (v : Version) (small : HasSmallHeaders v) (short : length message ≤ 7089) where
   pub short-linear : HasLinearCosts (parsed message) v

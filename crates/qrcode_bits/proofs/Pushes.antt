@@ -1,5 +1,5 @@
 -- Several pushes, one after the other.
-use Rattle.qrcode_bits.proofs.Prelude.{◌≡◌, ℕ, ◌+◌, ◌<◌, List, [], ◌∷◌, ◌++◌, length, drop, drop-cons, refl, sym, ap, subst, append_assoc, append-nil}
+use Rattle.qrcode_bits.proofs.Prelude.{◌≡◌, ℕ, ◌+◌, ◌<◌, List, [], ◌∷◌, ◌++◌, length, drop, drop-cons, append_assoc, append-nil}
 use Rattle.qrcode_bits.proofs.Prelude.{arith, length-append, Some, Result, Ok, Err, inl, inr, ◌⊎◌, All, slice_get, slice_get_past, take-length}
 use Rattle.qrcode_bits.proofs.Prelude.{All-head, All-tail, QrError, OutOfMemory, IsValid, IsFirstInvalid, Segment, Piece, IsSpellable, segment_piece}
 use Rattle.qrcode_bits.proofs.Prelude.{segment_pieces, segment_at, Stream, Spells, SpellsAll, StopsAt, PushesDrawn, IsPushRefused, common_steps}
@@ -14,22 +14,10 @@ spells_first old next new p ps h w = grind (arith, append_assoc, length-append)
 push_first : (old next new : Stream) (p : Piece) (ps : List Piece) (result : Result Unit QrError) → Spells old next p → PushesDrawn next ps result new →
     PushesDrawn old (p ∷ ps) result new
 push_first old next new p ps (Ok u) h w = spells_first old next new p ps h w
-push_first old next new p ps (Err e) h w = record {
-  done = p ∷ w.done;
-  next = w.next;
-  pieces_are = ap (λ (z : List Piece). p ∷ z) w.pieces_are;
-  pushed = spells_first old next new p w.done h w.pushed;
-  refused = w.refused;
-}
+push_first old next new p ps (Err e) h w = grind (arith, spells_first old next new p w.done h w.pushed)
 
 push_refused : (old new : Stream) (p : Piece) (e : QrError) → new ≡ old → IsPushRefused old p e → StopsAt old new (p ∷ []) [] e
-push_refused old new p e same why = subst (λ (s : Stream). StopsAt old s (p ∷ []) [] e) (sym same) (record {
-  done = [];
-  next = p;
-  pieces_are = refl;
-  pushed = spells_none old;
-  refused = why;
-})
+push_refused old new p e same why = grind (arith, spells_none old)
 
 -- ---- In turn
 
@@ -66,9 +54,7 @@ got_within s i x h = grind (arith, slice_get_past)
 
 -- a valid text has no first invalid byte
 none_invalid : (piece : Piece) (position byte : ℕ) → IsValid piece.mode piece.text → IsFirstInvalid (IsValid piece.mode) piece.text position byte → ⊥
-none_invalid piece position byte valid h =
-    h.longest (length piece.text) (got_within piece.text position byte h.byte_is) (omega arith)
-    (subst (λ (z : List ℕ). IsValid piece.mode z) (sym (take-length piece.text)) valid)
+none_invalid piece position byte valid h = grind (arith, got_within piece.text position byte h.byte_is, take-length piece.text)
 
 -- a piece that can be spelled is refused for memory alone
 pub spellable_refused : (old : Stream) (piece : Piece) (e : QrError) → IsSpellable old.version piece → IsPushRefused old piece e → e ≡ OutOfMemory

@@ -1,7 +1,7 @@
 -- The chosen plan decides whether some plan fits.
-use Rattle.qrcode_bits.proofs.Prelude.{◌≡◌, ◌+◌, List, ap, ◌∙◌, sym, subst, arith, Segment, InvalidVersion, capacity}
-use Rattle.qrcode_bits.proofs.Prelude.{HasLinearCosts, IsChosenPlan, total_bits}
-use Rattle.qrcode_bits.proofs.Prelude.{cases_lt, inl, inr}
+use Rattle.qrcode_bits.proofs.Prelude.{◌+◌, List, ap, ◌∙◌, sym, subst, arith, Segment, InvalidVersion, capacity}
+use Rattle.qrcode_bits.proofs.Prelude.{IsChosenPlan, total_bits}
+use Rattle.qrcode_bits.proofs.Prelude.{cases_lt}
 use Rattle.qrcode_bits.specs.Buckets.{IsShort}
 use Rattle.qrcode_bits.proofs.Adjoining.{parsed-short}
 use Rattle.qrcode_bits.proofs.Pairs.{bytes_valid}
@@ -12,9 +12,7 @@ use Rattle.qrcode_bits.proofs.Classes.{chosen_fits_here, lacks_mode, lacks_numbe
 use Rattle.qrcode_bits.proofs.bits.encode.chosen_plan.Goals as goal
 
 pub optimize_uncounted-requires-clause-linear : goal.optimize_uncounted-requires-clause-linear
-optimize_uncounted-requires-clause-linear c =
-    subst (λ (s : List Segment). HasLinearCosts s c.args.version) (sym c.requires.segments)
-    (short-linear c.args.bytes.now c.args.version c.requires.small c.requires.short)
+optimize_uncounted-requires-clause-linear c = grind (arith, short-linear c.args.bytes.now c.args.version c.requires.small c.requires.short)
 
 pub optimize_uncounted-requires-clause-short : goal.optimize_uncounted-requires-clause-short
 optimize_uncounted-requires-clause-short c =
@@ -40,16 +38,12 @@ loop-part-init c =
     }
 
 pub loop-part-preserved : goal.loop-part-preserved
-loop-part-preserved c = record {
-  ordered = c.loop-part.invariant.ordered;
-  few = c.loop-part.invariant.few;
-  had = λ k below. elim (cases_lt k c.loop-part.part-index) [
-    | inl early ↦ c.loop-part.invariant.had k early
-    | inr late ↦ (let here : k ≡ c.loop-part.part-index = omega arith in rw here (grind arith))
-  ];
-  counted = counted_more c.args.version c.deref-part-items.result.now c.loop-part.part-index c.loop-part.size c.args.front c.loop-part.invariant.counted
-      c.wide_len.result c.loop-part-test.true c.wide_len.ensures.bits;
-}
+loop-part-preserved c =
+    grind (
+      arith,
+      cases_lt,
+      counted_more c.args.version c.deref-part-items.result.now c.loop-part.part-index c.loop-part.size c.args.front c.loop-part.invariant.counted c.wide_len.result c.loop-part-test.true c.wide_len.ensures.bits,
+    )
 
 pub returns-then-indicator_number-mode_bits_count-clause-none : goal.returns-then-indicator_number-mode_bits_count-clause-none
 returns-then-indicator_number-mode_bits_count-clause-none c =

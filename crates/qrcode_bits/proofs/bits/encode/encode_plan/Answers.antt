@@ -32,11 +32,11 @@ pub returns-in_err-push_text-clause-memory : goal.returns-in_err-push_text-claus
 returns-in_err-push_text-clause-memory c = search (arith, rules, err_from_is_err_and, part_spellable, spellable_refused)
 
 pub loop-part-preserved : goal.loop-part-preserved
-loop-part-preserved c = record {
-  within = c.loop-part.invariant.within;
-  pushed = pushed_more c.args.header.now c.args.bytes.now c.args.version c.args.plan.now c.loop-part.part-index c.loop-part.bits
-      c.loop-part.invariant.pushed c.push_text.new.self c.loop-part-test.true c.in_ok-push_text.ensures.ok;
-}
+loop-part-preserved c =
+    grind (
+      arith,
+      pushed_more c.args.header.now c.args.bytes.now c.args.version c.args.plan.now c.loop-part.part-index c.loop-part.bits c.loop-part.invariant.pushed c.push_text.new.self c.loop-part-test.true c.in_ok-push_text.ensures.ok,
+    )
 
 pub returns-in_err-push_terminator-clause-memory : goal.returns-in_err-push_terminator-clause-memory
 returns-in_err-push_terminator-clause-memory c =
