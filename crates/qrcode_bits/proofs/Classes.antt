@@ -5,7 +5,8 @@ use Rattle.qrcode_bits.proofs.Prelude.{normal_blocks, capacity, HasMode, indicat
 use Rattle.qrcode_bits.proofs.Prelude.{AreTexts, HasLinearCosts, IsChosenPlan, total_bits, IsMergePlan, Fits, FitsNot, FitsNone, normal, IsLeastHolding}
 use Rattle.qrcode_bits.proofs.Prelude.{IsMinVersion, IsClass, Header, header_bits, Stream, IsPlanStream, IsEncoding, IsUnencodable, IsEncodingRefused}
 use Rattle.qrcode_bits.proofs.Prelude.{HasHeader, IsPartRefused, IsNormalNumber, LiesIn, common_steps}
-use Rattle.qrcode_bits.proofs.Prelude.{slice_get-get_or, Segment, parsed, Numeric, Normal, Micro, micro, segment_at, ints, rules, drop, drop_all, drop-cons, segment_bits}
+use Rattle.qrcode_bits.proofs.Prelude.{slice_get-get_or, Segment, parsed, Numeric, Normal, Micro, micro, segment_at, ints, rules, drop}
+use Rattle.qrcode_bits.proofs.Prelude.{drop_all, drop-cons, segment_bits}
 use mir.Val.{to_z}
 use mir.Syntax.{w16}
 use Rattle.std.proofs.lemmas.List.{get_or_default}

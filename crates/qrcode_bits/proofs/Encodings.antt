@@ -25,7 +25,8 @@ module _ (header : Option Header) (bytes : List ℕ) (v : Version) (plan : List 
   pushed_more next within w =
       grind (
         arith,
-        All-tail (IsSpellable v) (segment_piece bytes (segment_at plan i)) (segment_pieces bytes (drop (i + 1) plan)) (subst (All (IsSpellable v)) (pieces_at bytes plan i within) h.spellable),
+        All-tail (IsSpellable v) (segment_piece bytes (segment_at plan i)) (segment_pieces bytes (drop (i + 1) plan))
+            (subst (All (IsSpellable v)) (pieces_at bytes plan i within) h.spellable),
         append_assoc,
         pieces_at bytes plan i within,
       )

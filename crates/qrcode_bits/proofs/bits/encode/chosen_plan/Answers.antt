@@ -42,7 +42,8 @@ loop-part-preserved c =
     grind (
       arith,
       cases_lt,
-      counted_more c.args.version c.deref-part-items.result.now c.loop-part.part-index c.loop-part.size c.args.front c.loop-part.invariant.counted c.wide_len.result c.loop-part-test.true c.wide_len.ensures.bits,
+      counted_more c.args.version c.deref-part-items.result.now c.loop-part.part-index c.loop-part.size c.args.front
+          c.loop-part.invariant.counted c.wide_len.result c.loop-part-test.true c.wide_len.ensures.bits,
     )
 
 pub returns-then-indicator_number-mode_bits_count-clause-none : goal.returns-then-indicator_number-mode_bits_count-clause-none

@@ -35,7 +35,8 @@ pub loop-part-preserved : goal.loop-part-preserved
 loop-part-preserved c =
     grind (
       arith,
-      pushed_more c.args.header.now c.args.bytes.now c.args.version c.args.plan.now c.loop-part.part-index c.loop-part.bits c.loop-part.invariant.pushed c.push_text.new.self c.loop-part-test.true c.in_ok-push_text.ensures.ok,
+      pushed_more c.args.header.now c.args.bytes.now c.args.version c.args.plan.now c.loop-part.part-index c.loop-part.bits
+          c.loop-part.invariant.pushed c.push_text.new.self c.loop-part-test.true c.in_ok-push_text.ensures.ok,
     )
 
 pub returns-in_err-push_terminator-clause-memory : goal.returns-in_err-push_terminator-clause-memory
