@@ -47,9 +47,18 @@ module _ (v : Version) where
   pieces-had [] some h = h
   pieces-had ([] ∷ ps) some h = absurd (omega (arith, first-some [] ps some))
   pieces-had ((s ∷ ss) ∷ ps) some h =
-      All-append Had (merged s ss ∷ []) (flat_map merged_all ps)
-      (All-cons Had (merged s ss) [] (merged-had s ss (had-front (s ∷ ss) (joined ps) h)) (All-nil Had))
-      (pieces-had ps (rest-some (s ∷ ss) ps some) (had-back (s ∷ ss) (joined ps) h))
+      search (
+        arith,
+        rules,
+        All-append,
+        All-cons,
+        All-nil,
+        had-back,
+        had-front,
+        merged-had,
+        rest-some,
+        pieces-had ps (rest-some (s ∷ ss) ps some) (had-back (s ∷ ss) (joined ps) h),
+      )
 
   pub had-pieces : (pieces : List (List Segment)) → AreNonEmpty pieces → All Had (flat_map merged_all pieces) → All Had (joined pieces)
   had-pieces [] some h = h
@@ -95,13 +104,14 @@ chosen_least front message v plan h = record {
 -- Where some plan fits, the chosen plan fits.
 pub chosen_fits : (front : ℕ) (v : Version) (l : EcLevel) (message : List ℕ) (plan other : List Segment) → IsChosenPlan (parsed message) v plan →
     Fits front message v l other → Fits front message v l plan
-chosen_fits front v l message plan other h fits = record {
-  planned = chosen_is_plan message v plan h;
-  limit = fits.limit;
-  has_level = fits.has_level;
-  has_modes = plans-had v (parsed message) plan other (chosen_is_plan message v plan h) fits.planned fits.has_modes;
-  within = let fewer = chosen_bits message v plan other h fits.planned in omega (arith, fits.within);
-}
+chosen_fits front v l message plan other h fits =
+    grind (
+      arith,
+      chosen_bits message v plan other h fits.planned,
+      chosen_is_plan message v plan h,
+      chosen_is_plan message v plan h,
+      plans-had v (parsed message) plan other (chosen_is_plan message v plan h) fits.planned fits.has_modes,
+    )
 
 -- Where the chosen plan does not fit, no plan fits.
 pub chosen_decides : (front : ℕ) (v : Version) (l : EcLevel) (message : List ℕ) (plan : List Segment) → IsChosenPlan (parsed message) v plan →
@@ -124,12 +134,7 @@ same_class n m q2 = grind arith
 
 chosen_same : (segments plan : List Segment) (n m : ℕ) → 1 ≤ n → 1 ≤ m → SameClass n m → IsChosenPlan segments (normal n) plan →
     IsChosenPlan segments (normal m) plan
-chosen_same segments plan n m h k class w = record {
-  cuts = w.cuts;
-  chosen =
-      chosen-same segments n m (length segments) w.cuts h k class w.chosen;
-  merges = w.merges;
-}
+chosen_same segments plan n m h k class w = search (arith, rules, chosen-same)
 
 -- a version that holds the bits of a plan fits it, if it is a Normal one
 pub fits_normal : (front n c : ℕ) (message : List ℕ) (l : EcLevel) (plan : List Segment) → IsMergePlan (parsed message) plan → capacity (normal n) l ≡ Some c →
@@ -142,10 +147,7 @@ module _ (front : ℕ) (message : List ℕ) (l : EcLevel) (before last : ℕ) (p
   -- a plan that fits a version of the class has at least the bits of the chosen plan of the last one
   least_in : (n : ℕ) → before < n → n ≤ last → (other : List Segment) → (w : Fits front message (normal n) l other) →
       front + total_bits (normal last) plan ≤ w.limit
-  least_in n h k other w =
-      let fewer = chosen_bits message (normal last) plan other chosen w.planned in
-      let equal = total_bits-same n last (omega arith) (omega arith) (class n h k) other in
-      omega (arith, w.within)
+  least_in n h k other w = grind (arith, chosen_bits message (normal last) plan other chosen w.planned, total_bits-same)
 
   -- If it fits, the least version that holds its bits is the choice.
   pub class_choice : (limit number : ℕ) → last ≤ limit → front + total_bits (normal last) plan ≤ c →

@@ -1,11 +1,12 @@
 -- A chosen plan decides for its version, and that of the last version of a class for the class.
-use Rattle.qrcode_bits.proofs.Prelude.{◌≡◌, ℕ, zero, suc, ℤ, false, pos, ◌+◌, ◌-◌, ◌*◌, ◌^◌, ◌<◌, ◌≤◌, List, [], ◌∷◌, length, sym, ap, subst, arith, inl, inr}
+use Rattle.qrcode_bits.proofs.Prelude.{◌≡◌, ℕ, zero, suc, ℤ, false, pos, ◌+◌, ◌-◌, ◌*◌, ◌^◌, ◌<◌, ◌≤◌, List, [], ◌∷◌, length, ap, subst, arith, inl, inr}
 use Rattle.qrcode_bits.proofs.Prelude.{Result, Ok, Err, All, Option, nat_abs, MatchOption, cases_lt, Version, EcLevel, Mode, QrError, DataTooLong, OutOfMemory}
-use Rattle.qrcode_bits.proofs.Prelude.{normal_blocks, capacity, HasMode, indicator_width, count_width, slice_get-get_or, Segment, parsed}
+use Rattle.qrcode_bits.proofs.Prelude.{normal_blocks, capacity, HasMode, indicator, indicator_width, count_width, ◌%◌, one_shl}
 use Rattle.qrcode_bits.proofs.Prelude.{AreTexts, HasLinearCosts, IsChosenPlan, total_bits, IsMergePlan, Fits, FitsNot, FitsNone, normal, IsLeastHolding}
 use Rattle.qrcode_bits.proofs.Prelude.{IsMinVersion, IsClass, Header, header_bits, Stream, IsPlanStream, IsEncoding, IsUnencodable, IsEncodingRefused}
 use Rattle.qrcode_bits.proofs.Prelude.{HasHeader, IsPartRefused, IsNormalNumber, LiesIn, common_steps}
-use Rattle.qrcode_bits.proofs.Prelude.{Numeric, Normal, Micro, micro, segment_at, ints, rules}
+use Rattle.qrcode_bits.proofs.Prelude.{slice_get-get_or, Segment, parsed, Numeric, Normal, Micro, micro, segment_at, ints, rules, drop}
+use Rattle.qrcode_bits.proofs.Prelude.{drop_all, drop-cons, segment_bits}
 use mir.Val.{to_z}
 use mir.Syntax.{w16}
 use Rattle.std.proofs.lemmas.List.{get_or_default}
@@ -19,7 +20,6 @@ use Rattle.qrcode_bits.proofs.Growth.{total_bits-rise, total_bits-same}
 use Rattle.qrcode_bits.proofs.Upward.{All-map}
 use Rattle.qrcode_bits.proofs.Texts.{texts-reach, texts-plan, plan_lies}
 use Rattle.qrcode_bits.proofs.Choices.{chosen_is_plan, chosen_decides, fits_normal, capacity-grows, class_choice}
-use Rattle.qrcode_bits.proofs.Pairs.{bytes_valid}
 
 -- ---- Costs are small
 
@@ -32,9 +32,6 @@ micro_is n few = search (arith, rules, ints)
 
 abbrev pub HasSmallHeaders : Version → Type 0
 HasSmallHeaders v = (m : Mode) → indicator_width v + count_width v m ≤ 20
-
-pub normal_headers : (n : ℕ) → HasSmallHeaders (normal n)
-normal_headers n q1 = grind arith
 
 module _ (message : List ℕ) (v : Version) (small : HasSmallHeaders v) (short : length message ≤ 7089) where
   pub short-linear : HasLinearCosts (parsed message) v
@@ -49,6 +46,19 @@ module _ (message : List ℕ) (v : Version) (small : HasSmallHeaders v) (short :
 
 pub plan_ordered : (message : List ℕ) (plan : List Segment) → All (λ c. c < 256) message → IsMergePlan (parsed message) plan → All (λ s. s.begin ≤ s.end) plan
 plan_ordered message plan are w = All-map (LiesIn (length message)) (λ s. s.begin ≤ s.end) (λ s h. h.0) plan (plan_lies message are plan w)
+
+-- the bits of the parts that were counted and those of the parts that are left
+module _ (v : Version) (items : List Segment) (i size front : ℕ) (so_far : size + total_bits v (drop i items) ≡ front + total_bits v items) where
+  pub counted_more : (wide : ℕ) → i < length items → wide ≡ segment_bits v (segment_at items i) →
+      size + wide + total_bits v (drop (i + 1) items) ≡ front + total_bits v items
+  counted_more wide within is = grind (arith, drop-cons)
+
+  pub counted_all : length items ≤ i → size ≡ front + total_bits v items
+  counted_all past = grind (arith, drop_all)
+
+-- each part begins before its end
+pub part_ordered : (items : List Segment) (i : ℕ) → All (λ s. s.begin ≤ s.end) items → i < length items → (segment_at items i).begin ≤ (segment_at items i).end
+part_ordered items i ordered within = ordered i (record { mode = Numeric; begin = 0; end = 0 }) within
 
 -- ---- One version
 
@@ -72,19 +82,20 @@ module _ (front : ℕ) (message : List ℕ) (v : Version) (l : EcLevel) (plan : 
       let equal : limit ≡ fits.limit = cc in
       let within = fits.within in omega arith)
 
+-- a mode whose number is too great
+pub lacks_number : (v : Version) (m : Mode) (n w : ℕ) → n ≡ indicator v m → w ≡ indicator_width v → w < 16 → 1 * 2 ^ w % 2 ^ 16 ≤ n →
+    HasMode v m → ⊥
+lacks_number v m n w is width narrow great has = grind (arith, one_shl w 16 narrow)
+
 -- the version has the modes of all parts, where it has those of each
 pub modes_all : (v : Version) (plan items : List Segment) (n : ℕ) → items ≡ plan → length items ≤ n →
     ((k : ℕ) → k < n → HasMode v (segment_at items k).mode) → All (λ part. HasMode v part.mode) plan
-modes_all v plan items n same long each = λ k d within.
-    subst (λ (s : Segment). HasMode v s.mode) (get_or_default plan k (record { mode = Numeric; begin = 0; end = 0 }) d within)
-    (subst (λ (z : List Segment). HasMode v (segment_at z k).mode) same (each k (omega (arith, ap length same))))
+modes_all v plan items n same long each = grind (arith, get_or_default)
 
 -- or lacks that of one
 pub modes_lack : (v : Version) (plan items : List Segment) (i : ℕ) → items ≡ plan → i < length items →
     (HasMode v (segment_at items i).mode → ⊥) → All (λ part. HasMode v part.mode) plan → ⊥
-modes_lack v plan items i same inside lacks has =
-    lacks (subst (λ (z : List Segment). HasMode v (segment_at z i).mode) (sym same)
-    (has i (record { mode = Numeric; begin = 0; end = 0 }) (omega (arith, ap length same))))
+modes_lack v plan items i same inside lacks has = grind (arith)
 
 -- ---- A class of versions
 
@@ -117,48 +128,42 @@ class_fits_not front message l before last most class none unfit n h plan w = el
   | inr early ↦ none n early plan w
 ]
 
--- the same bits in front, in the same version
-pub front_fits : (message : List ℕ) (l : EcLevel) (last : ℕ) (plan : List Segment) (front bits : ℕ) (v : Version) → front ≡ bits → v ≡ normal last →
-    Fits front message v l plan → Fits bits message (normal last) l plan
-front_fits message l last plan front bits v same e h = grind arith
-
--- the bits of the chosen plan are few
-pub ruleset small_plans = (bytes_valid, chosen_is_plan, front_fits, plan_small, normal_headers)
-
 pub front_not : (message : List ℕ) (l : EcLevel) (last front bits : ℕ) (v : Version) → front ≡ bits → v ≡ normal last → FitsNot front message v l →
     FitsNot bits message (normal last) l
 front_not message l last front bits v same e h =
     subst (λ (n : ℕ). FitsNot n message (normal last) l) same (subst (λ (u : Version). FitsNot front message u l) e h)
 
-module _ (header : Option Header) (message : List ℕ) (l : EcLevel) (last : ℕ) (plan : List Segment)
-    (chosen : IsChosenPlan (parsed message) (normal last) plan) (fits : Fits (length (header_bits header)) message (normal last) l plan)
-    (version : Version) (least : IsMinVersion (length (header_bits header) + total_bits (normal last) plan) l version) where
+-- the bits of a plan that were counted
+pub ruleset small_plans = (counted_more, counted_all, part_ordered)
+
+-- a plan of some class, found by the last version of it, behind so many bits in front
+module _ (header : Option Header) (message : List ℕ) (l : EcLevel) (last front size : ℕ) (plan : List Segment) (v version : Version)
+    (ahead : front ≡ length (header_bits header)) (is : v ≡ normal last) (chosen : IsChosenPlan (parsed message) v plan)
+    (found : Fits front message v l plan) (counted : size ≡ front + total_bits v plan) (least : IsMinVersion size l version) where
+  pub header_fits : Fits (length (header_bits header)) message (normal last) l plan
+  header_fits = grind arith
+
   abbrev Least : Type 0
   Least = (number : ℕ) × (version ≡ normal number) × IsLeastHolding (length (header_bits header) + total_bits (normal last) plan) l number
 
   least_version : Least
-  least_version = grind arith
+  least_version = grind (arith, header_fits)
 
   -- The chosen plan of the last version of a class fits the least version that holds its bits and those of the header,
   pub class_fits : Fits (length (header_bits header)) message version l plan
-  class_fits =
-      let m = least_version in
-      let holding = m.2 in
-      let some : 1 ≤ m.0 = (capacity-held l m.0 holding.limit holding.limit_is).0 in
-      let rise = total_bits-rise m.0 last some (holding.least last fits.limit fits.has_level fits.within) plan in
-      subst (λ (v : Version). Fits (length (header_bits header)) message v l plan) (sym m.1)
-      (fits_normal (length (header_bits header)) m.0 holding.limit message l plan fits.planned holding.limit_is (omega arith))
+  class_fits = search (arith, rules, capacity-held, fits_normal, header_fits, least_version, total_bits-rise)
 
   -- and is the choice there, where no plan fits a version before the class.
-  pub class_encoding : (stream : Stream) → IsPlanStream header message version l plan stream → (before limit : ℕ) → IsClass before last → last ≤ limit →
-      FitsNone normal (length (header_bits header)) message l before → IsEncoding normal header message l limit stream
-  class_encoding stream s before limit class within none =
+  pub class_encoding : (before limit : ℕ) → IsClass before last → last ≤ limit → FitsNone normal (length (header_bits header)) message l before →
+      (stream : Stream) → IsPlanStream header message version l plan stream → IsEncoding normal header message l limit stream
+  class_encoding before limit class within none stream s =
+      let fits = header_fits in
       let m = least_version in
       record {
         number = m.0;
         plan = plan;
-        choice = class_choice (length (header_bits header)) message l before last plan fits.limit class none chosen fits.has_level limit
-            m.0 within fits.within m.2;
+        choice = class_choice (length (header_bits header)) message l before last plan fits.limit class none
+            (subst (λ (u : Version). IsChosenPlan (parsed message) u plan) is chosen) fits.has_level limit m.0 within fits.within m.2;
         stream_is = subst (λ (v : Version). IsPlanStream header message v l plan stream) m.1 s;
       }
 

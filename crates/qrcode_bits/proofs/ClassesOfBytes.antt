@@ -43,15 +43,8 @@ joins-self c other = grind arith
 
 -- ---- What stands at a place
 
-abbrev unit_or_pair : Bool → ℕ → ℕ → List ℕ → List Class
-unit_or_pair pair a b rest = elim pair [ true ↦ Pair ∷ units rest | false ↦ class_of a ∷ units (b ∷ rest) ]
-
 drop-two : (bytes : List ℕ) (at : ℕ) → at + 2 ≤ length bytes → drop at bytes ≡ get_or bytes at 0 ∷ get_or bytes (at + 1) 0 ∷ drop (at + 2) bytes
 drop-two bytes at within = grind (arith, drop-cons)
-
-pub units_pair : (bytes : List ℕ) (at : ℕ) → at + 2 ≤ length bytes → is_kanji_pair (get_or bytes at 0) (get_or bytes (at + 1) 0) ≡ true →
-    units (drop at bytes) ≡ Pair ∷ units (drop (at + 2) bytes)
-units_pair bytes at within pair = grind (arith, drop-two)
 
 units_alone : (bytes : List ℕ) (at : ℕ) → at + 2 ≤ length bytes → is_kanji_pair (get_or bytes at 0) (get_or bytes (at + 1) 0) ≡ false →
     units (drop at bytes) ≡ class_of (get_or bytes at 0) ∷ units (drop (at + 1) bytes)
@@ -102,13 +95,15 @@ module _ (bytes : List ℕ) (begin : ℕ) (within : begin < length bytes) where
       next ≡ class_number (class_of (get_or bytes end 0)) → next ≡ number →
       IsRun bytes class begin end → IsRun bytes class begin (end + 1)
   alone_more end number next below other is next_is same run =
-      let equal : class_of (get_or bytes end 0) ≡ class = sym (numbered-is (get_or bytes end 0) next next_is)
-      ∙ numbered-is (get_or bytes begin 0) next (same ∙ is) in
-      let one = class_of-one (get_or bytes begin 0) in
-      let unit : units (drop end bytes) ≡ class ∷ units (drop (end + class_size class) bytes) =
-      units_other bytes end below (λ lone. other (sym equal ∙ lone))
-      ∙ (ap (λ (d : Class). d ∷ units (drop (end + 1) bytes)) equal ∙ ap (λ (n : ℕ). class ∷ units (drop (end + n) bytes)) (sym one)) in
-      Run-more bytes class class begin end 1 (sym one) (joins-self class other) unit run
+      grind (
+        arith,
+        Run-more,
+        class_of-one (get_or bytes begin 0),
+        joins-self class other,
+        numbered-is (get_or bytes end 0) next next_is,
+        numbered-is (get_or bytes begin 0) next (same ∙ is),
+        units_other,
+      )
 
   pub alone_stops : (end number : ℕ) → number ≡ class_number class → IsRun bytes class begin end →
       (end < length bytes → class_number (class_of (get_or bytes end 0)) ≡ number → ⊥) →

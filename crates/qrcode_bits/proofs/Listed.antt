@@ -1,5 +1,6 @@
 -- Pushes from an iterator that gives a list of segments.
-use Rattle.qrcode_bits.proofs.Prelude.{◌≡◌, ℕ, List, ◌++◌, length, take, drop, refl, sym, ap, ◌∙◌, subst, Result, Ok, Err, All, IsOk, Option, map-id}
+use Rattle.qrcode_bits.proofs.Prelude.{arith}
+use Rattle.qrcode_bits.proofs.Prelude.{◌≡◌, ℕ, List, ◌++◌, length, take, drop, sym, ap, ◌∙◌, subst, Result, Ok, Err, All, IsOk, Option, map-id}
 use Rattle.qrcode_bits.proofs.Prelude.{map-append, take-append-drop, All-take, QrError, Segment, Piece, segment_piece, segment_pieces, Stream, PushesPieces}
 use Rattle.qrcode_bits.proofs.Prelude.{PushesDrawn, StopsAt}
 use Rattle.std.specs.Iterator.{DrainsIf}
@@ -19,9 +20,7 @@ module _ {S : Type 0} {steps : S → Option Segment → S → Type 0} (s : S) (a
   -- A push of what came is a push of the list: all came, or one that came was refused.
   pub pushes_all : (old new : Stream) (bytes : List ℕ) (xs : List Segment) (result : Result Unit QrError) → DrainsIf steps (IsOk result) s xs →
       PushesDrawn old (segment_pieces bytes xs) result new → PushesPieces old (segment_pieces bytes all) result new
-  pushes_all old new bytes xs (Ok u) h w =
-      let came : xs ≡ all = sym (map-id xs) ∙ items_from_drains xs (h.0, h.1, λ _. h.2 refl) gives in
-      subst (λ (z : List Segment). PushesDrawn old (segment_pieces bytes z) (Ok u) new) came w
+  pushes_all old new bytes xs (Ok u) h w = grind (arith, items_from_drains, map-id xs)
   pushes_all old new bytes xs (Err e) h w =
       let failed : Result Unit QrError = Err e in
       let rest : List Segment = drop (length xs) all in

@@ -1,8 +1,8 @@
 -- The parts of a plan that fits, spelled one after the other, are the front of a frame of the bytes.
-use Rattle.qrcode_bits.proofs.Prelude.{◌≡◌, ◌≢◌, ℕ, ◌+◌, ◌-◌, ◌^◌, ◌<◌, ◌≤◌, List, [], ◌∷◌, ◌++◌, length, take, drop, refl, ap, arith, length-append, All}
-use Rattle.qrcode_bits.proofs.Prelude.{slice_range, All-head, All-tail, Version, EcLevel, HasMode, data_bits, characters, IsValid, Segment, AreTexts}
+use Rattle.qrcode_bits.proofs.Prelude.{◌≡◌, ◌≢◌, ℕ, ◌+◌, ◌-◌, ◌<◌, ◌≤◌, List, [], ◌∷◌, ◌++◌, length, take, drop, refl, ap, arith, length-append, All}
+use Rattle.qrcode_bits.proofs.Prelude.{slice_range, All-head, All-tail, Version, EcLevel, HasMode, IsValid, Segment, AreTexts}
 use Rattle.qrcode_bits.proofs.Prelude.{segment_bits, total_bits, Fits, spelling, segment_piece, segment_pieces, Header, HasHeader, header_bits, Piece}
-use Rattle.qrcode_bits.proofs.Prelude.{spellings, message, ended, IsFrame, common_steps, IsSpellable, All-nil, All-cons, subst, sym, Option, count_width}
+use Rattle.qrcode_bits.proofs.Prelude.{spellings, message, ended, IsFrame, IsSpellable, All-nil, All-cons, Option}
 use Rattle.qrcode_bits.proofs.Prelude.{length-drop}
 use Rattle.std.proofs.lemmas.List.{length-take-le}
 use Rattle.qrcode_bits.proofs.Growth.{CountsFit, fits-counts}
@@ -26,9 +26,7 @@ module _ (v : Version) (whole : List ℕ) where
 
   spelled_size : (s : Segment) → s.begin < s.end → s.end ≤ length whole → IsValid s.mode (text s) →
       length (spelling v (segment_piece whole s)) ≡ segment_bits v s
-  spelled_size s h k valid =
-      let count = ap (λ (n : ℕ). data_bits s.mode (characters s.mode n)) (size s h k) in
-      omega (arith, length-spelling v (segment_piece whole s), length-character_bits s.mode (text s) valid, count)
+  spelled_size s h k valid = grind (arith, length-character_bits s.mode (text s) valid, length-spelling v (segment_piece whole s), size s h k)
 
   non_empty : (s : Segment) → s.begin < s.end → s.end ≤ length whole → text s ≢ []
   non_empty s h k e = let none : length (text s) ≡ 0 = ap (λ (z : List ℕ). length z) e in let n = size s h k in absurd (omega arith)
@@ -52,21 +50,12 @@ module _ (v : Version) (whole : List ℕ) where
       All (IsSpellable v) (segment_pieces whole ss)
   texts-spelled from to [] h k has counted = All-nil (IsSpellable v)
   texts-spelled from to (s ∷ ss) h k has counted =
-      let it = own from to s ss h k in
-      let first : IsSpellable v (segment_piece whole s) = record {
-        mode = All-head Has s ss has;
-        valid = it.2;
-        counted = subst (λ (n : ℕ). characters s.mode n < 2 ^ count_width v s.mode) (sym (size s it.0 it.1)) counted.0;
-      } in
-      All-cons (IsSpellable v) (segment_piece whole s) (segment_pieces whole ss) first
-      (texts-spelled s.end to ss h.3 k (All-tail Has s ss has) counted.1)
+      grind (arith, All-cons, All-head, All-tail, own, size, texts-spelled s.end to ss h.3 k (All-tail Has s ss has) counted.1)
 
   -- None of them is empty.
   pub texts-some : (from to : ℕ) (ss : List Segment) → AreTexts whole from ss to → to ≤ length whole → All (λ p. p.text ≢ []) (segment_pieces whole ss)
   texts-some from to [] h k = All-nil (λ (p : Piece). p.text ≢ [])
-  texts-some from to (s ∷ ss) h k =
-      let it = own from to s ss h k in
-      All-cons (λ (p : Piece). p.text ≢ []) (segment_piece whole s) (segment_pieces whole ss) (non_empty s it.0 it.1) (texts-some s.end to ss h.3 k)
+  texts-some from to (s ∷ ss) h k = grind (arith, All-cons, non_empty, own, texts-some s.end to ss h.3 k)
 
 -- ---- The frame of a plan
 
@@ -94,6 +83,4 @@ pub plan_frame : (v : Version) (l : EcLevel) (header : Option Header) (bytes : L
     (fits : Fits (length (header_bits header)) bytes v l plan) →
     IsFrame v l header bytes (length (header_bits header) + total_bits v plan)
     (take fits.limit (ended v fits.limit (header_bits header ++ spellings v (segment_pieces bytes plan))))
-plan_frame v l header bytes plan are has fits =
-    let w = spelled_plan (length (header_bits header)) v l bytes plan are fits in
-    grind (arith, common_steps, length-append, ended_frame)
+plan_frame v l header bytes plan are has fits = grind (arith, ended_frame, length-append, spelled_plan (length (header_bits header)) v l bytes plan are fits)

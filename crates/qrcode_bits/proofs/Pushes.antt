@@ -1,7 +1,7 @@
 -- Several pushes, one after the other.
-use Rattle.qrcode_bits.proofs.Prelude.{◌≡◌, ℕ, ◌+◌, ◌<◌, ◌≤◌, List, [], ◌∷◌, ◌++◌, length, drop, drop-cons, refl, sym, ap, subst, append_assoc, append-nil}
-use Rattle.qrcode_bits.proofs.Prelude.{arith, length-append, Some, Result, Ok, Err, inl, inr, ◌⊎◌, All, slice_get, drop_all, slice_get_past, take-length}
-use Rattle.qrcode_bits.proofs.Prelude.{All-head, All-tail, QrError, OutOfMemory, IsValid, IsFirstInvalid, Version, Segment, Piece, IsSpellable, segment_piece}
+use Rattle.qrcode_bits.proofs.Prelude.{◌≡◌, ℕ, ◌+◌, ◌<◌, List, [], ◌∷◌, ◌++◌, length, drop, drop-cons, append_assoc, append-nil}
+use Rattle.qrcode_bits.proofs.Prelude.{arith, length-append, Some, Result, Ok, Err, inl, inr, ◌⊎◌, All, slice_get, slice_get_past, take-length}
+use Rattle.qrcode_bits.proofs.Prelude.{All-head, All-tail, QrError, OutOfMemory, IsValid, IsFirstInvalid, Segment, Piece, IsSpellable, segment_piece}
 use Rattle.qrcode_bits.proofs.Prelude.{segment_pieces, segment_at, Stream, Spells, SpellsAll, StopsAt, PushesDrawn, IsPushRefused, common_steps}
 
 pub spells_none : (s : Stream) → SpellsAll s s []
@@ -14,22 +14,10 @@ spells_first old next new p ps h w = grind (arith, append_assoc, length-append)
 push_first : (old next new : Stream) (p : Piece) (ps : List Piece) (result : Result Unit QrError) → Spells old next p → PushesDrawn next ps result new →
     PushesDrawn old (p ∷ ps) result new
 push_first old next new p ps (Ok u) h w = spells_first old next new p ps h w
-push_first old next new p ps (Err e) h w = record {
-  done = p ∷ w.done;
-  next = w.next;
-  pieces_are = ap (λ (z : List Piece). p ∷ z) w.pieces_are;
-  pushed = spells_first old next new p w.done h w.pushed;
-  refused = w.refused;
-}
+push_first old next new p ps (Err e) h w = grind (arith, spells_first old next new p w.done h w.pushed)
 
 push_refused : (old new : Stream) (p : Piece) (e : QrError) → new ≡ old → IsPushRefused old p e → StopsAt old new (p ∷ []) [] e
-push_refused old new p e same why = subst (λ (s : Stream). StopsAt old s (p ∷ []) [] e) (sym same) (record {
-  done = [];
-  next = p;
-  pieces_are = refl;
-  pushed = spells_none old;
-  refused = why;
-})
+push_refused old new p e same why = grind (arith, spells_none old)
 
 -- ---- In turn
 
@@ -66,9 +54,7 @@ got_within s i x h = grind (arith, slice_get_past)
 
 -- a valid text has no first invalid byte
 none_invalid : (piece : Piece) (position byte : ℕ) → IsValid piece.mode piece.text → IsFirstInvalid (IsValid piece.mode) piece.text position byte → ⊥
-none_invalid piece position byte valid h =
-    h.longest (length piece.text) (got_within piece.text position byte h.byte_is) (omega arith)
-    (subst (λ (z : List ℕ). IsValid piece.mode z) (sym (take-length piece.text)) valid)
+none_invalid piece position byte valid h = grind (arith, got_within piece.text position byte h.byte_is, take-length piece.text)
 
 -- a piece that can be spelled is refused for memory alone
 pub spellable_refused : (old : Stream) (piece : Piece) (e : QrError) → IsSpellable old.version piece → IsPushRefused old piece e → e ≡ OutOfMemory
@@ -78,23 +64,3 @@ spellable_refused old piece e h r = grind (arith, none_invalid)
 pub pieces_at : (bytes : List ℕ) (plan : List Segment) (i : ℕ) → i < length plan →
     segment_pieces bytes (drop i plan) ≡ segment_piece bytes (segment_at plan i) ∷ segment_pieces bytes (drop (i + 1) plan)
 pieces_at bytes plan i within = grind (arith, drop-cons)
-
-module _ (bytes : List ℕ) (plan : List Segment) (i : ℕ) (within : i < length plan) (old next : Stream)
-    (spellable : All (IsSpellable old.version) (segment_pieces bytes (drop i plan))) where
-  from_here : All (IsSpellable old.version) (segment_piece bytes (segment_at plan i) ∷ segment_pieces bytes (drop (i + 1) plan))
-  from_here = subst (All (IsSpellable old.version)) (pieces_at bytes plan i within) spellable
-
-  pub part_spellable : IsSpellable old.version (segment_piece bytes (segment_at plan i))
-  part_spellable = All-head (IsSpellable old.version) (segment_piece bytes (segment_at plan i)) (segment_pieces bytes (drop (i + 1) plan)) from_here
-
-  pub later_spellable : Spells old next (segment_piece bytes (segment_at plan i)) →
-      All (IsSpellable next.version) (segment_pieces bytes (drop (i + 1) plan))
-  later_spellable h = subst (λ (v : Version). All (IsSpellable v) (segment_pieces bytes (drop (i + 1) plan))) (sym h.version_is)
-      (All-tail (IsSpellable old.version) (segment_piece bytes (segment_at plan i)) (segment_pieces bytes (drop (i + 1) plan)) from_here)
-
-  pub part_pushed : (new : Stream) → Spells old next (segment_piece bytes (segment_at plan i)) → SpellsAll next new (segment_pieces bytes (drop (i + 1) plan)) →
-      SpellsAll old new (segment_pieces bytes (drop i plan))
-  part_pushed new h w = grind (arith, common_steps, pieces_at, spells_first)
-
-pub none_left : (bytes : List ℕ) (plan : List Segment) (i : ℕ) (s : Stream) → length plan ≤ i → SpellsAll s s (segment_pieces bytes (drop i plan))
-none_left bytes plan i s past = subst (λ (z : List Segment). SpellsAll s s (segment_pieces bytes z)) (sym (drop_all i plan past)) (spells_none s)

@@ -3,27 +3,19 @@ use Rattle.qrcode_bits.proofs.Prelude.{◌≡◌, ℕ, suc, ◌+◌, ◌-◌, �
 use Rattle.qrcode_bits.proofs.Prelude.{append_assoc, append-nil, add_comm, slice_index_or, bit_and, pow-add, and_mask, drop_all, length-drop, take-append_seam}
 use Rattle.qrcode_bits.proofs.Prelude.{flat_map-append, common_steps, number_bits, byte_bits, AreShifted, shifted, Stream, Appends, kept_bits, room_in, IsKept}
 use borrow.Rule.Slice.PartMut.{post_of}
-use Rattle.qrcode_bits.proofs.Prelude.{cases_lt, inl, inr}
+use Rattle.qrcode_bits.proofs.Prelude.{cases_lt}
 use Rattle.std.specs.Prelude.{drop, slice_set}
 use Rattle.std.specs.Int.{to_be_bytes, w64}
 use Rattle.qrcode_bits.proofs.Numbers.{number_bits-join, number_bits-cut, number_bits-mod, high_free, length-byte_bits, length-number_bits}
 
 low_free : (used before byte : ℕ) → used < 8 → number_bits used (before * 2 ^ 8 + byte) ≡ number_bits used byte
-low_free used before byte part =
-    let eight : 8 - used + used ≡ 8 = omega arith in
-    let power : 2 ^ 8 ≡ 2 ^ (8 - used) * 2 ^ used = ap (λ (n : ℕ). 2 ^ n) (sym eight) ∙ pow-add 2 (8 - used) used in
-    ap (λ (n : ℕ). number_bits used n) (rw power (omega arith)) ∙ high_free used (before * 2 ^ (8 - used)) byte
+low_free used before byte part = grind (arith, high_free used (before * 2 ^ (8 - used)) byte, pow-add 2 (8 - used) used)
 
 -- one byte more
 one_shifted : (used before byte : ℕ) → used < 8 → byte < 2 ^ 8 →
     number_bits used before ++ number_bits 8 byte ≡ number_bits 8 (shifted used before byte) ++ number_bits used byte
 one_shifted used before byte part small =
-    let wide : ℕ = before * 2 ^ 8 + byte in
-    sym (number_bits-join used 8 before byte small)
-    ∙ (ap (λ (n : ℕ). number_bits n wide) (add_comm used 8)
-    ∙ (number_bits-cut 8 used wide
-    ∙ (ap (λ (z : List Bool). z ++ number_bits used wide) (sym (number_bits-mod 8 (wide / 2 ^ used)))
-    ∙ ap (λ (z : List Bool). number_bits 8 (shifted used before byte) ++ z) (low_free used before byte part))))
+    grind (arith, add_comm used 8, low_free used before byte part, number_bits-cut, number_bits-join used 8 before byte small, number_bits-mod)
 
 pub shifted_bits : (used partial : ℕ) (text bytes : List ℕ) → used < 8 → ((k : ℕ) → slice_index_or text k 0 < 2 ^ 8) → AreShifted used partial text bytes →
     number_bits used partial ++ byte_bits text ≡ byte_bits bytes ++ number_bits used (slice_index_or (partial ∷ text) (length text) 0)
@@ -45,12 +37,7 @@ pub shifted_more : (into text : List ℕ) (used partial before wide i : ℕ) →
     ((k : ℕ) → k < i → slice_index_or into k 0 ≡ shifted used (slice_index_or (partial ∷ text) k 0) (slice_index_or text k 0)) →
     (k : ℕ) → k < i + 1 → slice_index_or (slice_set into i (bit_and (wide / 2 ^ used) 255)) k 0 ≡
     shifted used (slice_index_or (partial ∷ text) k 0) (slice_index_or text k 0)
-shifted_more into text used partial before wide i long inside last is are k below = elim (cases_lt k i) [
-  | inl early ↦ grind (arith, common_steps)
-  | inr late ↦
-      let same : k ≡ i = omega arith in
-      let low = and_mask (wide / 2 ^ used) 8 in grind (arith, common_steps)
-]
+shifted_more into text used partial before wide i long inside last is are k below = grind (arith, common_steps, and_mask, cases_lt, cases_lt k i)
 
 -- ---- The stream
 
@@ -101,21 +88,18 @@ pub kept_five : (old five : List ℕ) (used partial left n wide : ℕ) → used 
     byte_bits five ≡ number_bits 40 (wide / 2 ^ used) →
     left ≡ n % 2 ^ used → kept_bits (old ++ five) used left ≡ kept_bits old used partial ++ number_bits 40 n
 kept_five old five used partial left n wide part small whole bytes is =
-    let low : number_bits used left ≡ number_bits used wide =
-    ap (λ (z : ℕ). number_bits used z) is ∙ (number_bits-mod used n
-    ∙ (let split : (n / 2 ^ 8) * 2 ^ 8 + n % 2 ^ 8 ≡ n = omega arith in ap (λ (z : ℕ). number_bits used z) (sym split)
-    ∙ (low_free used (n / 2 ^ 8) (n % 2 ^ 8) part
-    ∙ (sym (low_free used (partial * 2 ^ 32 + n / 2 ^ 8) (n % 2 ^ 8) part)
-    ∙ (let same : (partial * 2 ^ 32 + n / 2 ^ 8) * 2 ^ 8 + n % 2 ^ 8 ≡ wide = omega arith in ap (λ (z : ℕ). number_bits used z) same))))) in
-    let cut : number_bits 40 (wide / 2 ^ used) ++ number_bits used wide ≡ number_bits used partial ++ number_bits 40 n =
-    sym (number_bits-cut 40 used wide) ∙ (ap (λ (z : ℕ). number_bits z wide) (add_comm 40 used)
-    ∙ (ap (λ (z : ℕ). number_bits (used + 40) z) whole ∙ number_bits-join used 40 partial n small)) in
-    ap (λ (z : List Bool). z ++ number_bits used left) (flat_map-append (number_bits 8) old five)
-    ∙ (append_assoc (byte_bits old) (byte_bits five) (number_bits used left)
-    ∙ (ap (λ (z : List Bool). byte_bits old ++ (z ++ number_bits used left)) bytes
-    ∙ (ap (λ (z : List Bool). byte_bits old ++ (number_bits 40 (wide / 2 ^ used) ++ z)) low
-    ∙ (ap (λ (z : List Bool). byte_bits old ++ z) cut
-    ∙ sym (append_assoc (byte_bits old) (number_bits used partial) (number_bits 40 n))))))
+    grind (
+      arith,
+      add_comm 40 used,
+      append_assoc (byte_bits old) (byte_bits five) (number_bits used left),
+      append_assoc (byte_bits old) (number_bits used partial) (number_bits 40 n),
+      flat_map-append (number_bits 8) old five,
+      low_free used (n / 2 ^ 8) (n % 2 ^ 8) part,
+      low_free used (partial * 2 ^ 32 + n / 2 ^ 8) (n % 2 ^ 8) part,
+      number_bits-cut 40 used wide,
+      number_bits-join used 40 partial n small,
+      number_bits-mod used n,
+    )
 
 pub appends_five : (old : Stream) (bytes now five : List ℕ) (len len' cap cap' used partial left n wide : ℕ) → old.bits ≡ kept_bits bytes used partial →
     old.room ≡ room_in cap len used →

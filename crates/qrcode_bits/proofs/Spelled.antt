@@ -1,4 +1,5 @@
 -- Pieces that a version can spell, none of them empty, told from the first on, and told of all.
+use Rattle.qrcode_bits.proofs.Prelude.{arith}
 use Rattle.qrcode_bits.proofs.Prelude.{◌≢◌, List, [], ◌∷◌, All, All-head, All-tail, All-nil, All-cons, Version, Piece, IsSpellable}
 
 abbrev HasText : Piece → Type 0
@@ -10,13 +11,9 @@ AreSpelled version (piece ∷ rest) = (IsSpellable version piece × (piece.text 
 
 pub each-spelled : (version : Version) (pieces : List Piece) → All (IsSpellable version) pieces → All HasText pieces → AreSpelled version pieces
 each-spelled version [] spellable some = tt
-each-spelled version (piece ∷ rest) spellable some = (
-  (All-head (IsSpellable version) piece rest spellable, All-head HasText piece rest some),
-  each-spelled version rest (All-tail (IsSpellable version) piece rest spellable) (All-tail HasText piece rest some),
-)
+each-spelled version (piece ∷ rest) spellable some =
+    grind (arith, All-head, All-tail, each-spelled version rest (All-tail (IsSpellable version) piece rest spellable) (All-tail HasText piece rest some))
 
 pub spelled-each : (version : Version) (pieces : List Piece) → AreSpelled version pieces → All (IsSpellable version) pieces × All HasText pieces
 spelled-each version [] h = (All-nil (IsSpellable version), All-nil HasText)
-spelled-each version (piece ∷ rest) h =
-    let later = spelled-each version rest h.1 in
-    (All-cons (IsSpellable version) piece rest h.0.0 later.0, All-cons HasText piece rest h.0.1 later.1)
+spelled-each version (piece ∷ rest) h = grind (arith, All-cons, spelled-each version rest h.1)

@@ -14,12 +14,7 @@ use Rattle.qrcode_bits.proofs.Upward.{valid-append, valid-upward}
 
 -- two neighbouring slices are one
 pub slice-join : (xs : List ℕ) (a b c : ℕ) → a ≤ b → b ≤ c → slice_range xs a b ++ slice_range xs b c ≡ slice_range xs a c
-slice-join xs a b c h k =
-    sym (
-    ap (λ (n : ℕ). take n (drop a xs)) (sym (omega arith))
-    ∙ (take-add (b - a) (c - b) (drop a xs)
-    ∙ ap (λ (z : List ℕ). take (b - a) (drop a xs) ++ take (c - b) z) (drop-drop (b - a) a xs ∙ ap (λ (n : ℕ). drop n xs) (omega arith)))
-    )
+slice-join xs a b c h k = grind (arith, drop-drop (b - a) a xs, take-add (b - a) (c - b) (drop a xs))
 
 -- the bytes from a place on
 slice-front : (xs rest : List ℕ) (a n : ℕ) → drop a xs ≡ rest → slice_range xs a (a + n) ≡ take n rest

@@ -4,7 +4,7 @@
 //!
 //! Normal versions fall into three classes, 1 to 9, 10 to 26 and 27 to 40. In a class a plan takes the same bits in
 //! each version, so one plan for the last version of a class decides for the class. `encode_up_to` parses the data and
-//! tries the classes, `encode_class` finds the version in one, and `encode_plan` pushes header, plan and terminator.
+//! tries the classes, `chosen_plan` tells whether the plan fits, and `encode_plan` pushes header, plan and terminator.
 
 ghost use Rattle.std.specs.Prelude.{◌≡◌, ℕ, ◌+◌, ◌≤◌, length, nat_abs, Some, None, OnOk, IfOk, IfErr, IfSome, IfNone};
 ghost use Rattle.std.specs.Prelude.{All, IsTrue, ◌↔◌};
@@ -12,16 +12,17 @@ ghost use Rattle.qrcode_base.specs.declared.types.Mode.{Mode};
 ghost use Rattle.qrcode_base.specs.Modes.{HasMode, indicator_width, count_width};
 ghost use Rattle.qrcode_base.specs.Symbols.{HasMicroNumber};
 ghost use Rattle.qrcode_bits.specs.Parsing.{parsed};
-ghost use Rattle.qrcode_bits.specs.Plans.{IsChosenPlan, Fits, FitsNot, FitsNone, normal, micro, IsMinVersion, IsClass};
+ghost use Rattle.qrcode_bits.specs.Plans.{IsChosenPlan, Fits, FitsNot, FitsNone, normal, micro, IsMinVersion};
+ghost use Rattle.qrcode_bits.specs.Plans.{total_bits};
 ghost use Rattle.qrcode_bits.specs.Buckets.{no_modes};
 ghost use Rattle.qrcode_bits.specs.Push.{IsPlanStream, IsEncoding, IsUnencodable, IsEncodingRefused};
 ghost use Rattle.qrcode_base.specs.Symbols.{IsNormalNumber};
 ghost use Rattle.qrcode_bits.specs.Push.{IsMicroRefused, IsPartRefused};
 ghost use Rattle.qrcode_bits.specs.Frame.{HasHeader, header_bits, header_of};
 
-use super::headers::{check_place, has_mode};
+use super::headers::{check_place, indicator_number};
 use super::{Bits, data_capacity_bits};
-use crate::optimize::{Parser, Segment, optimize_uncounted, total_encoded_len};
+use crate::optimize::{Segment, optimize_uncounted, segments_from};
 use qrcode_base::symbols::LONGEST_DATA;
 use qrcode_base::types::{EcLevel, QrError, QrResult, Version};
 use std::alloc::Global;
@@ -133,10 +134,10 @@ pub fn encode_auto_micro(alloc: Global, bytes: &[u8], level: EcLevel) -> QrResul
     if bytes.len() > LONGEST_DATA {
         return Err(QrError::DataTooLong);
     }
-    let segments = Parser::new(bytes).segments(alloc)?;
+    let segments = segments_from(alloc, bytes, 0)?;
     for smaller in 0..4_usize {
         let version = Version::Micro((smaller + 1) as i16);
-        if let Some(plan) = chosen_plan(alloc, 0, bytes, &segments, version, level)? {
+        if let Some((plan, _size)) = chosen_plan(alloc, 0, bytes, &segments, version, level)? {
             let bits = encode_plan(alloc, &None, bytes, version, level, &plan)?;
             return Ok(bits);
         }
@@ -178,7 +179,8 @@ fn encode_up_to(
     if bytes.len() > LONGEST_DATA {
         return Err(QrError::DataTooLong);
     }
-    let segments = Parser::new(bytes).segments(alloc)?;
+    let segments = segments_from(alloc, bytes, 0)?;
+    let front = 20 * usize::from(header.is_some());
     let mut before = 0;
     while before < limit {
         let class_end = if before < 9 {
@@ -189,49 +191,17 @@ fn encode_up_to(
             40
         };
         let last = limit.min(class_end);
-        if let Some(bits) = encode_class(alloc, header, bytes, &segments, level, last)? {
-            return Ok(bits);
+        let version = Version::Normal(last as i16);
+        if let Some((plan, size)) = chosen_plan(alloc, front, bytes, &segments, version, level)? {
+            let smallest = find_min_version(size, level);
+            return encode_plan(alloc, header, bytes, smallest, level, &plan);
         }
         before = last;
     }
     Err(QrError::DataTooLong)
 }
 
-/// The bits of a header or none and of the chosen plan of the last version of a class, where both fit, in the least
-/// version that holds them.
-#[tactic(auto, using(crate::proofs::Classes::small_plans))]
-fn encode_class(
-    alloc: Global,
-    header: &Option<SequenceHeader>,
-    bytes: &[u8],
-    segments: &[Segment],
-    level: EcLevel,
-    last: usize,
-) -> QrResult<Option<Bits>>
-    requires header { HasHeader (normal last) header.now }
-    requires from_one { 1 ≤ last }
-    requires to_forty { last ≤ 40 }
-    requires segments { segments.now ≡ parsed bytes.now }
-    requires short { length bytes.now ≤ 7089 }
-    ensures some { IfOk result (λ found.
-        IfSome found (λ bits. (before limit : ℕ) → IsClass before last → last ≤ limit →
-        FitsNone normal (length (header_bits header.now)) bytes.now level before →
-        IsEncoding normal header.now bytes.now level limit bits)) }
-    ensures none { IfOk result (λ found. IfNone found
-        (FitsNot (length (header_bits header.now)) bytes.now (normal last) level)) }
-    ensures memory { IfErr result (λ e. e ≡ QrError.OutOfMemory) }
-{
-    let front = 20 * usize::from(header.is_some());
-    let version = Version::Normal(last as i16);
-    let Some(plan) = chosen_plan(alloc, front, bytes, segments, version, level)? else {
-        return Ok(None);
-    };
-    let smallest = find_min_version(front + total_encoded_len(&plan, version), level);
-    let bits = encode_plan(alloc, header, bytes, smallest, level, &plan)?;
-    Ok(Some(bits))
-}
-
-/// The chosen plan of some bytes in a version, where it fits behind so many bits in front.
+/// The chosen plan of some bytes in a version, and how many bits it takes with those in front, where these fit.
 #[tactic(auto, using(crate::proofs::Classes::small_plans))]
 fn chosen_plan(
     alloc: Global,
@@ -240,16 +210,18 @@ fn chosen_plan(
     segments: &[Segment],
     version: Version,
     level: EcLevel,
-) -> QrResult<Option<Vec<Segment>>>
+) -> QrResult<Option<(Vec<Segment>, usize)>>
     requires front { front ≤ 20 }
     requires number { HasMicroNumber version }
     requires small { (mode : Mode) → indicator_width version + count_width version mode ≤ 20 }
     requires segments { segments.now ≡ parsed bytes.now }
     requires short { length bytes.now ≤ 7089 }
     ensures chosen { IfOk result (λ found.
-        IfSome found (λ plan. IsChosenPlan (parsed bytes.now) version plan.items)) }
+        IfSome found (λ plan. IsChosenPlan (parsed bytes.now) version plan.0.items)) }
     ensures fits { IfOk result (λ found.
-        IfSome found (λ plan. Fits front bytes.now version level plan.items)) }
+        IfSome found (λ plan. Fits front bytes.now version level plan.0.items)) }
+    ensures bits { IfOk result (λ found.
+        IfSome found (λ plan. plan.1 ≡ front + total_bits version plan.0.items)) }
     ensures none { IfOk result (λ found. IfNone found (FitsNot front bytes.now version level)) }
     ensures memory { IfErr result (λ e. e ≡ QrError.OutOfMemory) }
 {
@@ -261,15 +233,17 @@ fn chosen_plan(
         return Ok(None);
     }
     let plan = optimize_uncounted::<Brand>(alloc, segments, version, Blank::new(1))?;
+    let mut size = front;
     for part in &plan {
-        if !has_mode(version, part.mode) {
+        if indicator_number(version, part.mode) >= 1 << version.mode_bits_count() {
             return Ok(None);
         }
+        size += part.wide_len(version) as usize;
     }
-    if front + total_encoded_len(&plan, version) > limit {
+    if size > limit {
         return Ok(None);
     }
-    Ok(Some(plan))
+    Ok(Some((plan, size)))
 }
 
 /// The bits of a plan that fits a version: a header or none, the spellings of its parts, terminator and padding.
@@ -291,7 +265,9 @@ fn encode_plan(
     if let Some(header) = header {
         bits.push_structured_append_header(header.position, header.total, header.parity)?;
     }
-    bits.push_plan(bytes, plan)?;
+    for part in plan {
+        bits.push_text(part.mode, &bytes[part.begin..part.end])?;
+    }
     bits.push_terminator(level)?;
     Ok(bits)
 }

@@ -1,19 +1,18 @@
 -- The chosen plan decides whether some plan fits.
-use Rattle.qrcode_bits.proofs.Prelude.{◌≡◌, refl, true, false, ◌+◌, ◌<◌, ◌≤◌, ℕ, List, ap, ◌∙◌, sym, subst, arith, All, Segment, InvalidVersion, capacity}
-use Rattle.qrcode_bits.proofs.Prelude.{HasLinearCosts, IsChosenPlan, total_bits}
-use Rattle.qrcode_bits.proofs.Prelude.{cases_lt, inl, inr}
+use Rattle.qrcode_bits.proofs.Prelude.{◌+◌, List, ap, ◌∙◌, sym, subst, arith, Segment, InvalidVersion, capacity}
+use Rattle.qrcode_bits.proofs.Prelude.{IsChosenPlan, total_bits}
+use Rattle.qrcode_bits.proofs.Prelude.{cases_lt}
 use Rattle.qrcode_bits.specs.Buckets.{IsShort}
 use Rattle.qrcode_bits.proofs.Adjoining.{parsed-short}
 use Rattle.qrcode_bits.proofs.Pairs.{bytes_valid}
 use Rattle.qrcode_bits.proofs.Choices.{chosen_is_plan}
 use Rattle.qrcode_bits.proofs.Lengths.{dense_message}
-use Rattle.qrcode_bits.proofs.Classes.{known_limit, short-linear, plan_ordered, chosen_fits_here, lacks_mode, too_many, modes_all, modes_lack}
+use Rattle.qrcode_bits.proofs.Classes.{known_limit, short-linear, plan_ordered, plan_small, counted_all, counted_more}
+use Rattle.qrcode_bits.proofs.Classes.{chosen_fits_here, lacks_mode, lacks_number, too_many, modes_all, modes_lack}
 use Rattle.qrcode_bits.proofs.bits.encode.chosen_plan.Goals as goal
 
 pub optimize_uncounted-requires-clause-linear : goal.optimize_uncounted-requires-clause-linear
-optimize_uncounted-requires-clause-linear c =
-    subst (λ (s : List Segment). HasLinearCosts s c.args.version) (sym c.requires.segments)
-    (short-linear c.args.bytes.now c.args.version c.requires.small c.requires.short)
+optimize_uncounted-requires-clause-linear c = grind (arith, short-linear c.args.bytes.now c.args.version c.requires.small c.requires.short)
 
 pub optimize_uncounted-requires-clause-short : goal.optimize_uncounted-requires-clause-short
 optimize_uncounted-requires-clause-short c =
@@ -25,47 +24,54 @@ returns-then-bytes-limit-clause-none c =
     let known = known_limit (capacity c.args.version c.args.level) c.in-Ok.limit (InvalidVersion c.args.version c.args.level) c.in-Ok.ensures.is in
     dense_message c.args.front c.args.bytes.now c.args.version c.args.level c.in-Ok.limit are known c.if-bytes-limit.true
 
-pub loop-part-preserved : goal.loop-part-preserved
-loop-part-preserved c = λ k below. elim (cases_lt k c.loop-part.part-index) [
-  | inl early ↦ c.loop-part.invariant k early
-  | inr late ↦
-      let here : k ≡ c.loop-part.part-index = omega arith in
-      rw here (c.if-not-has_mode.ensures.0 refl)
-]
+pub loop-part-init : goal.loop-part-init
+loop-part-init c =
+    let chosen = subst (λ (s : List Segment). IsChosenPlan s c.args.version c.in_ok-plan.plan.items) c.requires.segments
+    c.in_ok-plan.ensures.plan in
+    let are = bytes_valid c.args.bytes.now (λ i. omega (arith, c.type_inv.bytes i)) in
+    let planned = chosen_is_plan c.args.bytes.now c.args.version c.in_ok-plan.plan.items chosen in
+    rw c.deref-part-items.ensures.value record {
+      ordered = plan_ordered c.args.bytes.now c.in_ok-plan.plan.items are planned;
+      few = plan_small c.args.bytes.now c.args.version c.requires.small c.requires.short c.in_ok-plan.plan.items are planned;
+      had = λ k below. absurd (omega arith);
+      counted = omega arith;
+    }
 
-pub returns-then-not-has_mode-clause-none : goal.returns-then-not-has_mode-clause-none
-returns-then-not-has_mode-clause-none c =
+pub loop-part-preserved : goal.loop-part-preserved
+loop-part-preserved c =
+    grind (
+      arith,
+      cases_lt,
+      counted_more c.args.version c.deref-part-items.result.now c.loop-part.part-index c.loop-part.size c.args.front
+          c.loop-part.invariant.counted c.wide_len.result c.loop-part-test.true c.wide_len.ensures.bits,
+    )
+
+pub returns-then-indicator_number-mode_bits_count-clause-none : goal.returns-then-indicator_number-mode_bits_count-clause-none
+returns-then-indicator_number-mode_bits_count-clause-none c =
     let chosen = subst (λ (s : List Segment). IsChosenPlan s c.args.version c.in_ok-plan.plan.items) c.requires.segments
     c.in_ok-plan.ensures.plan in
     let known = known_limit (capacity c.args.version c.args.level) c.in-Ok.limit (InvalidVersion c.args.version c.args.level) c.in-Ok.ensures.is in
     lacks_mode c.args.front c.args.bytes.now c.args.version c.args.level c.in_ok-plan.plan.items c.in-Ok.limit chosen known
     (modes_lack c.args.version c.in_ok-plan.plan.items c.deref-part-items.result.now c.loop-part.part-index c.deref-part-items.ensures.value
-    c.loop-part-test.true (λ has. let no : false ≡ true = c.if-not-has_mode.ensures.1 has in absurd (cc)))
+    c.loop-part-test.true
+    (lacks_number c.args.version _ c.indicator_number.result c.mode_bits_count.result c.indicator_number.ensures c.mode_bits_count.ensures.width
+    (omega (arith, c.mode_bits_count.ensures)) c.if-indicator_number-mode_bits_count.true))
 
-pub total_encoded_len-requires-clause-ordered : goal.total_encoded_len-requires-clause-ordered
-total_encoded_len-requires-clause-ordered c =
-    let chosen = subst (λ (s : List Segment). IsChosenPlan s c.args.version c.in_ok-plan.plan.items) c.requires.segments
-    c.in_ok-plan.ensures.plan in
-    subst (λ (p : List Segment). All (λ s. s.begin ≤ s.end) p) (sym c.deref.ensures.value)
-    (plan_ordered c.args.bytes.now c.in_ok-plan.plan.items (bytes_valid c.args.bytes.now (λ i. omega (arith, c.type_inv.bytes i)))
-    (chosen_is_plan c.args.bytes.now c.args.version c.in_ok-plan.plan.items chosen))
-
-pub returns-then-front-total_encoded_len-clause-none : goal.returns-then-front-total_encoded_len-clause-none
-returns-then-front-total_encoded_len-clause-none c =
+pub returns-then-size-limit-clause-none : goal.returns-then-size-limit-clause-none
+returns-then-size-limit-clause-none c =
     let chosen = subst (λ (s : List Segment). IsChosenPlan s c.args.version c.in_ok-plan.plan.items) c.requires.segments
     c.in_ok-plan.ensures.plan in
     let known = known_limit (capacity c.args.version c.args.level) c.in-Ok.limit (InvalidVersion c.args.version c.args.level) c.in-Ok.ensures.is in
-    let size = c.total_encoded_len.ensures ∙ ap (λ (p : List Segment). total_bits c.args.version p) c.deref.ensures.value in
     too_many c.args.front c.args.bytes.now c.args.version c.args.level c.in_ok-plan.plan.items c.in-Ok.limit chosen known
-    (subst (λ (n : ℕ). c.in-Ok.limit < c.args.front + n) size c.if-front-total_encoded_len.true)
+    (grind (arith, counted_all))
 
 pub returns-clause-fits : goal.returns-clause-fits
 returns-clause-fits c =
     let chosen = subst (λ (s : List Segment). IsChosenPlan s c.args.version c.in_ok-plan.plan.items) c.requires.segments
     c.in_ok-plan.ensures.plan in
     let known = known_limit (capacity c.args.version c.args.level) c.in-Ok.limit (InvalidVersion c.args.version c.args.level) c.in-Ok.ensures.is in
-    let size = c.total_encoded_len.ensures ∙ ap (λ (p : List Segment). total_bits c.args.version p) c.deref.ensures.value in
+    let size = counted_all c.args.version c.deref-part-items.result.now c.loop-part.part-index c.loop-part.size c.args.front c.loop-part.invariant.counted
+    c.loop-part-test.false ∙ ap (λ (p : List Segment). c.args.front + total_bits c.args.version p) c.deref-part-items.ensures.value in
     chosen_fits_here c.args.front c.args.bytes.now c.args.version c.args.level c.in_ok-plan.plan.items c.in-Ok.limit chosen known
     (modes_all c.args.version c.in_ok-plan.plan.items c.deref-part-items.result.now c.loop-part.part-index c.deref-part-items.ensures.value
-    (omega (arith, c.loop-part-test.false)) c.loop-part.invariant)
-    (subst (λ (n : ℕ). c.args.front + n ≤ c.in-Ok.limit) size c.if-front-total_encoded_len.false)
+    (omega (arith, c.loop-part-test.false)) c.loop-part.invariant.had) (omega (arith, size, c.if-size-limit.false))

@@ -1,8 +1,5 @@
 -- The first Micro version whose chosen plan fits is the choice.
-use Rattle.qrcode_bits.proofs.Prelude.{◌≡◌, ◌+◌, List, None, subst, arith, true, false, Version, Segment, parsed, FitsNot, Fits, IsChosenPlan, IsPlanStream}
-use Rattle.qrcode_bits.proofs.Prelude.{Micro}
-use mir.Val.{to_z}
-use mir.Syntax.{w16}
+use Rattle.qrcode_bits.proofs.Prelude.{◌≡◌, ◌+◌, subst, arith, true, false, Version, FitsNot}
 use Rattle.qrcode_bits.proofs.Classes.{micro_is}
 use Rattle.qrcode_bits.proofs.Pairs.{bytes_valid}
 use Rattle.qrcode_bits.proofs.Choices.{micro_next, micro_choice}
@@ -16,22 +13,7 @@ returns-then-bytes-gt-LONGEST_DATA-clause-err c = (
 )
 
 pub returns-in-Some-clause-ok : goal.returns-in-Some-clause-ok
-returns-in-Some-clause-ok c =
-    let message = c.args.bytes.now in
-    let plan = c.in-Some.plan.items in
-    let number = c.loop-smaller.smaller + 1 in
-    let is = micro_is number (omega arith) in
-    let chosen = subst (λ (v : Version). IsChosenPlan (parsed message) v plan) is (rw c.in-Some.is at c.in_ok-plan.ensures.chosen) in
-    let fits = subst (λ (v : Version). Fits 0 message v c.args.level plan) is (rw c.in-Some.is at c.in_ok-plan.ensures.fits) in
-    let stream = subst (λ (p : List Segment). IsPlanStream None message (Micro (to_z w16 number)) c.args.level p c.in_ok-bits.bits)
-    c.deref-in-Some.ensures.value
-    c.in_ok-bits.ensures.ok in
-    record {
-      number = number;
-      plan = plan;
-      choice = micro_choice message c.args.level c.loop-smaller.smaller plan (omega arith) c.loop-smaller.invariant chosen fits;
-      stream_is = subst (λ (v : Version). IsPlanStream None message v c.args.level plan c.in_ok-bits.bits) is stream;
-    }
+returns-in-Some-clause-ok c = grind (arith, micro_choice, micro_is)
 
 pub loop-smaller-preserved : goal.loop-smaller-preserved
 loop-smaller-preserved c =

@@ -1,8 +1,12 @@
 -- The first class whose last version holds the chosen plan decides.
-use Rattle.qrcode_bits.proofs.Prelude.{length, arith, inl, inr, header_bits, IsClass}
+use Rattle.qrcode_bits.proofs.Prelude.{◌*◌, length, arith, inl, inr, header_bits, IsClass, Normal}
+use mir.Val.{to_z}
+use mir.Syntax.{w16}
+use Rattle.std.proofs.lemmas.Result.{IfOk-weaker}
 use Rattle.qrcode_bits.proofs.Pairs.{bytes_valid}
+use Rattle.qrcode_bits.proofs.Reading.{front-is}
 use Rattle.qrcode_bits.proofs.Lengths.{long_message}
-use Rattle.qrcode_bits.proofs.Classes.{IsClassEnd, class_behind, class_fits_not}
+use Rattle.qrcode_bits.proofs.Classes.{IsClassEnd, class_behind, class_fits_not, class_fits, class_encoding, normal_is, front_not}
 use Rattle.qrcode_bits.proofs.bits.encode.encode_up_to.Goals.{then-before-lt9, else-before-lt9+then-before-lt26, else-before-lt9+else-before-lt26}
 use Rattle.qrcode_bits.proofs.bits.encode.encode_up_to.Goals as goal
 
@@ -10,6 +14,14 @@ pub returns-then-bytes-gt-LONGEST_DATA-clause-err : goal.returns-then-bytes-gt-L
 returns-then-bytes-gt-LONGEST_DATA-clause-err c =
     long_message (length (header_bits c.args.header.now)) c.args.bytes.now c.args.level c.args.limit c.requires.to_forty
     (bytes_valid c.args.bytes.now (λ i. omega (arith, c.type_inv.bytes i))) c.if-bytes-gt-LONGEST_DATA.true
+
+pub encode_plan-requires-clause-fits : goal.encode_plan-requires-clause-fits
+encode_plan-requires-clause-fits c =
+    let plan = rw c.in-Some.is at c.in_ok-plan.ensures in
+    rw c.deref-in-Some.ensures.value (class_fits c.args.header.now c.args.bytes.now c.args.level c.min-last.result (20 * c.from-front.result) c.in-Some.size
+    c.in-Some.plan.items (Normal (to_z w16 c.min-last.result)) c.find_min_version-smallest.result
+    (front-is c.args.header.now c.is_some.result c.from-front.result c.is_some.ensures c.from-front.ensures)
+    (normal_is c.min-last.result (omega (arith, c.min-last.ensures))) plan.chosen plan.fits plan.bits c.find_min_version-smallest.ensures)
 
 pub returns-in-Some-clause-ok : goal.returns-in-Some-clause-ok
 returns-in-Some-clause-ok c =
@@ -21,7 +33,14 @@ returns-in-Some-clause-ok c =
     ] in
     let here = class_behind before c.args.limit c.if-before-lt9.class_end c.loop-before-test.true which c.requires.to_forty in
     let class : IsClass before c.min-last.result = rw c.min-last.ensures here.0 in
-    (rw c.in-Some.is at c.in_ok-bits.ensures.some) before c.args.limit class (omega (arith, c.min-last.ensures)) c.loop-before.invariant
+    let plan = rw c.in-Some.is at c.in_ok-plan.ensures in
+    IfOk-weaker c.encode_plan.result _ _
+    (class_encoding c.args.header.now c.args.bytes.now c.args.level c.min-last.result (20 * c.from-front.result) c.in-Some.size
+    c.in-Some.plan.items (Normal (to_z w16 c.min-last.result)) c.find_min_version-smallest.result
+    (front-is c.args.header.now c.is_some.result c.from-front.result c.is_some.ensures c.from-front.ensures)
+    (normal_is c.min-last.result (omega (arith, c.min-last.ensures))) plan.chosen plan.fits plan.bits c.find_min_version-smallest.ensures
+    before c.args.limit class (omega (arith, c.min-last.ensures)) c.loop-before.invariant)
+    (rw c.deref-in-Some.ensures.value at c.encode_plan.ensures.ok)
 
 pub loop-before-preserved : goal.loop-before-preserved
 loop-before-preserved c =
@@ -34,7 +53,10 @@ loop-before-preserved c =
     let here = class_behind before c.args.limit c.if-before-lt9.class_end c.loop-before-test.true which c.requires.to_forty in
     let class : IsClass before c.min-last.result = rw c.min-last.ensures here.0 in
     class_fits_not (length (header_bits c.args.header.now)) c.args.bytes.now c.args.level before c.min-last.result
-    (omega (arith, c.min-last.ensures, c.requires.to_forty)) class c.loop-before.invariant (rw c.in_default.is at c.in_ok-bits.ensures.none)
+    (omega (arith, c.min-last.ensures, c.requires.to_forty)) class c.loop-before.invariant
+    (front_not c.args.bytes.now c.args.level c.min-last.result (20 * c.from-front.result) (length (header_bits c.args.header.now))
+    (Normal (to_z w16 c.min-last.result)) (front-is c.args.header.now c.is_some.result c.from-front.result c.is_some.ensures c.from-front.ensures)
+    (normal_is c.min-last.result (omega (arith, c.min-last.ensures))) (rw c.in_default.is at c.in_ok-plan.ensures.none))
 
 pub returns-clause-err : goal.returns-clause-err
 returns-clause-err c = λ number few. c.loop-before.invariant number (omega (arith, c.loop-before-test.false))

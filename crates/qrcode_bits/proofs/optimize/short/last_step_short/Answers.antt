@@ -1,4 +1,5 @@
 -- The best start of each rest was tried, by its word.
+use Rattle.qrcode_bits.proofs.Prelude.{rules}
 use Rattle.qrcode_bits.proofs.Prelude.{ℕ, ◌-◌, ◌*◌, get_or, arith, ap, sym, ◌∙◌, refl, PERIOD_BITS, RESTS, segment_at, told, period_bits, common_steps}
 use Rattle.qrcode_bits.proofs.ShortSteps.{rest-at, period_bits-at, cost-small, short-rest, short-enough, sought-keeps, sought-takes, sought-nothing}
 use Rattle.qrcode_bits.proofs.ShortSteps.{sought-last}
@@ -6,11 +7,7 @@ use Rattle.qrcode_bits.proofs.optimize.short.last_step_short.Goals.{then-found+t
 use Rattle.qrcode_bits.proofs.optimize.short.last_step_short.Goals as goal
 
 pub overflow_sub-last_end-then-found : goal.overflow_sub-last_end-then-found
-overflow_sub-last_end-then-found g c =
-    let j = c.loop-bucket.bucket in
-    short-rest c.args.segments.now c.args.version c.args.end c.requires.within c.requires.linear j c.best-found.result (get_or RESTS j 0)
-    (told c.args.words.now) c.bucket_mode-mode.result c.loop-bucket-test.true c.requires.words c.bucket_mode-mode.ensures c.best-found.ensures
-    c.if-found.true (rest-at j c.loop-bucket-test.true)
+overflow_sub-last_end-then-found g c = search (arith, rules, rest-at, short-rest)
 
 pub overflow_sub-candidate : goal.overflow_sub-candidate
 overflow_sub-candidate g c =

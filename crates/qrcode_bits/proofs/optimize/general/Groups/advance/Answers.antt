@@ -1,5 +1,5 @@
 -- Each group that goes is absorbed and cleared.
-use Rattle.qrcode_bits.proofs.Prelude.{rules, refl, arith}
+use Rattle.qrcode_bits.proofs.Prelude.{rules, arith}
 use Rattle.qrcode_bits.proofs.Grouping.{none_in}
 use Rattle.qrcode_bits.proofs.optimize.general.Groups.advance.Goals as goal
 
@@ -19,14 +19,4 @@ returns-in-Byte-clause-advances g c =
     )
 
 pub returns-in-Kanji-clause-advances : goal.returns-in-Kanji-clause-advances
-returns-in-Kanji-clause-advances g c =
-    rw c.in-Kanji.is (
-      none_in,
-      none_in,
-      refl,
-      (
-        c.absorb-in-Kanji.new.into,
-        (search rules, λ j from inside. c.absorb-in-Kanji.ensures.better j (omega arith)),
-        (search rules, λ j from inside. c.absorb-in-Kanji-2.ensures.better j (omega arith)),
-      ),
-    )
+returns-in-Kanji-clause-advances g c = grind (arith, none_in)

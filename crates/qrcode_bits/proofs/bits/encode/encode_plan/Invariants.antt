@@ -1,0 +1,10 @@
+-- What was pushed and the parts from here on are the whole plan; each part lies in the data.
+use Rattle.qrcode_bits.proofs.Prelude.{All, length, LiesIn}
+use Rattle.qrcode_bits.proofs.Encodings.{IsPushedTo}
+use Rattle.qrcode_bits.proofs.bits.encode.encode_plan.Given as goal
+
+abbrev pub invariant-loop-part : goal.invariant-loop-part
+invariant-loop-part l = record {
+  within : All (LiesIn (length l.bytes)) l.plan;
+  pushed : IsPushedTo l.header l.bytes l.fn.version l.plan l.part-index l.bits;
+}

@@ -1,6 +1,0 @@
--- The list has what came so far.
-use Rattle.qrcode_bits.proofs.Prelude.{◌≡◌}
-use Rattle.qrcode_bits.proofs.optimize.parser.Parser.segments.Given as goal
-
-abbrev pub invariant-loop-segment : goal.invariant-loop-segment
-invariant-loop-segment l = l.all.items ≡ l.yielded
