@@ -198,7 +198,7 @@ fn segments_take_bits(rt: HostRuntime) {
 }
 
 #[test]
-fn modes_find_the_first_invalid_character(rt: HostRuntime) {
+fn kanji_find_the_first_invalid_character(rt: HostRuntime) {
     for (bytes, want) in [
         (b"\x93\x5f\xe4".as_slice(), Some((2, 0xe4))),
         (b"\xeb\xc0".as_slice(), Some((0, 0xeb))),
@@ -209,6 +209,10 @@ fn modes_find_the_first_invalid_character(rt: HostRuntime) {
         assert_eq!(rt; KanjiMode::invalid_character(bytes), want);
         assert_eq!(rt; KanjiMode::validate(bytes), want.is_none());
     }
+}
+
+#[test]
+fn modes_know_their_characters(rt: HostRuntime) {
     assert_eq!(rt; NumericMode::invalid_character(b"12a"), Some((2, b'a')));
     assert_eq!(rt;
         AlphanumericMode::invalid_character(b"A:b"),

@@ -7,6 +7,7 @@ use qrcode_core::plugin::{
 use qrcode_core::traits::{ModuleSource, ModuleStorage};
 use qrcode_core::types::Color;
 use std::alloc::Global;
+use std::process::Abort;
 use std::test::Fail;
 
 /// Renders a mark for each module, with the option `dark` for dark ones; refuses the option `light`.
@@ -137,10 +138,17 @@ fn error_with(number: usize, text: String) -> PluginError {
     }
 }
 
-/// What a renderer prints of one dark module.
-fn mark_of(alloc: Global, renderer: &dyn DynRenderer) -> Result<RenderOutput, PluginError> {
+/// A renderer prints this text of one dark module.
+fn renderer_prints(
+    rt: &impl Abort,
+    alloc: Global,
+    renderer: &dyn DynRenderer,
+    text: &str,
+) -> Result<(), Fail> {
     let grid = grid_of_text(alloc, "#", 1, 1)?;
-    renderer.render(alloc, &grid, &RenderConfig::new(alloc))
+    let output = renderer.render(alloc, &grid, &RenderConfig::new(alloc))?;
+    assert_eq!(rt; output, RenderOutput::Text(String::from_str(alloc, text)?));
+    Ok(())
 }
 
 /// Prints its own text, whatever the grid.
@@ -173,13 +181,13 @@ fn a_replaced_box_is_given_back(rt: HostRuntime) -> Result<(), Fail> {
     let none = registry.register_renderer("alpha", Box::new(alloc, Says("first"))?)?;
     assert!(rt; none.is_none());
     let replaced = registry.register_renderer("alpha", Box::new(alloc, Says("second"))?)?;
-    let replaced = replaced.ok_or("nothing came back")?;
-    let text = RenderOutput::Text(String::from_str(alloc, "first")?);
-    assert_eq!(rt; mark_of(alloc, &*replaced)?, text);
-    let there = registry.renderer("alpha").ok_or("no renderer")?;
-    let text = RenderOutput::Text(String::from_str(alloc, "second")?);
-    assert_eq!(rt; mark_of(alloc, there)?, text);
-    Ok(())
+    renderer_prints(&rt, alloc, &*replaced.ok_or("nothing came back")?, "first")?;
+    renderer_prints(
+        &rt,
+        alloc,
+        registry.renderer("alpha").ok_or("no renderer")?,
+        "second",
+    )
 }
 
 #[test]
@@ -190,12 +198,16 @@ fn names_come_in_order(rt: HostRuntime) -> Result<(), Fail> {
         let replaced = registry.register_renderer(name, Box::new(alloc, Text)?)?;
         assert_eq!(rt; replaced.is_none(), is_new);
     }
-    let mut names = registry.renderer_names();
-    assert_eq!(rt; names.next(), Some("alpha"));
-    assert_eq!(rt; names.next(), Some("zeta"));
-    assert!(rt; names.next().is_none());
-    assert!(rt; registry.renderer("zeta").is_some() && registry.renderer("text").is_none());
+    names_alpha_and_zeta(&rt, &registry);
     Ok(())
+}
+
+/// The renderers are `alpha` and `zeta`, named in this order.
+fn names_alpha_and_zeta(rt: &impl Abort, registry: &PluginRegistry) {
+    let mut names = registry.renderer_names();
+    let named = [names.next(), names.next(), names.next()];
+    assert_eq!(rt; named, [Some("alpha"), Some("zeta"), None]);
+    assert!(rt; registry.renderer("zeta").is_some() && registry.renderer("text").is_none());
 }
 
 #[test]
@@ -206,20 +218,32 @@ fn encoders_are_lent(rt: HostRuntime) -> Result<(), Fail> {
         let replaced = registry.register_encoder("plain", Box::new(alloc, Plain)?)?;
         assert_eq!(rt; replaced.is_none(), is_new);
     }
+    encoder_is_missing(&rt, alloc, &registry)?;
+    encoder_copies(&rt, alloc, &registry, "plain")
+}
+
+/// The encoder `missing` is told as missing.
+fn encoder_is_missing(
+    rt: &impl Abort,
+    alloc: Global,
+    registry: &PluginRegistry,
+) -> Result<(), Fail> {
+    let built = registry.build_encoder("missing", &EncodeConfig::new(alloc));
+    let printed = format!(in alloc; "{}", built.err().ok_or("found")?)?;
+    assert_eq!(rt; printed.as_str(), "encoder plugin not found: missing");
+    Ok(())
+}
+
+/// An encoder is built, and encodes bytes as they are.
+fn encoder_copies(
+    rt: &impl Abort,
+    alloc: Global,
+    registry: &PluginRegistry,
+    name: &str,
+) -> Result<(), Fail> {
     let config = EncodeConfig::new(alloc);
-    let missing = registry
-        .build_encoder("missing", &config)
-        .err()
-        .ok_or("found")?;
-    assert_eq!(rt;
-        format!(in alloc; "{missing}")?.as_str(),
-        "encoder plugin not found: missing"
-    );
-    let encoder = registry
-        .build_encoder("plain", &config)
-        .ok()
-        .ok_or("missing")?;
-    let output = encoder.encode(alloc, b"abc", &config)?;
+    let built = registry.build_encoder(name, &config).ok();
+    let output = built.ok_or("no encoder")?.encode(alloc, b"abc", &config)?;
     assert_eq!(rt;
         output,
         EncodedOutput::Bytes(Vec::from_slice(alloc, b"abc")?)
@@ -239,35 +263,54 @@ fn plugins_are_registered_whole(rt: HostRuntime) -> Result<(), Fail> {
         assert_eq!(rt; registry.plugin_version("demo"), Some("0.1.0"));
         assert_eq!(rt; registry.postprocessors().len(), times);
     }
-    for (names, want) in [
-        (registry.plugin_names().last(), "demo"),
-        (registry.renderer_names().last(), "text"),
-        (registry.encoder_names().last(), "length"),
+    // The objects of the bundle are named, built and serve.
+    names_the_bundle(&rt, &registry);
+    bundle_renders(&rt, alloc, &registry)?;
+    encoder_copies(&rt, alloc, &registry, "length")?;
+    bundle_darkens(&rt, alloc, &registry)
+}
+
+/// The plugin, the renderer and the encoder of the bundle are named, each once, and no others.
+fn names_the_bundle(rt: &impl Abort, registry: &PluginRegistry) {
+    for (count, last, want) in [
+        (
+            registry.plugin_names().count(),
+            registry.plugin_names().last(),
+            "demo",
+        ),
+        (
+            registry.renderer_names().count(),
+            registry.renderer_names().last(),
+            "text",
+        ),
+        (
+            registry.encoder_names().count(),
+            registry.encoder_names().last(),
+            "length",
+        ),
     ] {
-        assert_eq!(rt; names, Some(want));
+        assert_eq!(rt; (count, last), (1, Some(want)));
     }
-    // The objects of the bundle are built and serve.
-    let config = RenderConfig::new(alloc);
-    let text = RenderOutput::Text(String::from_str(alloc, "#..#")?);
-    assert_eq!(rt; printed(&registry, alloc, &config)?, text);
-    let built = registry
-        .build_encoder("length", &EncodeConfig::new(alloc))
-        .ok();
-    let encoder = built.ok_or("no encoder")?;
-    let bytes = encoder.encode(alloc, b"abc", &EncodeConfig::new(alloc))?;
+}
+
+/// The renderer of the bundle prints marks.
+fn bundle_renders(rt: &impl Abort, alloc: Global, registry: &PluginRegistry) -> Result<(), Fail> {
+    let output = printed(registry, alloc, &RenderConfig::new(alloc))?;
     assert_eq!(rt;
-        bytes,
-        EncodedOutput::Bytes(Vec::from_slice(alloc, b"abc")?)
+        output,
+        RenderOutput::Text(String::from_str(alloc, "#..#")?)
     );
+    Ok(())
+}
+
+/// The postprocessors of the bundle set the first module dark.
+fn bundle_darkens(rt: &impl Abort, alloc: Global, registry: &PluginRegistry) -> Result<(), Fail> {
     let mut grid = grid_of_text(alloc, "..", 2, 1)?;
     assert_eq!(rt; registry.process_modules(&mut grid), Ok(()));
     assert_eq!(rt;
         ModuleStorage::modules(&grid),
         [Color::Dark, Color::Light].as_slice()
     );
-    assert_eq!(rt; registry.plugin_names().count(), 1);
-    assert_eq!(rt; registry.renderer_names().count(), 1);
-    assert_eq!(rt; registry.encoder_names().count(), 1);
     Ok(())
 }
 
@@ -277,8 +320,13 @@ fn renderers_take_options(rt: HostRuntime) -> Result<(), Fail> {
     let mut registry = PluginRegistry::new(alloc);
     let replaced = registry.register_renderer("text", Box::new(alloc, Text)?)?;
     assert!(rt; replaced.is_none());
+    option_is_taken(&rt, alloc, &registry)
+}
+
+/// The renderer `text` prints the mark that is asked for, and its output is copied whole.
+fn option_is_taken(rt: &impl Abort, alloc: Global, registry: &PluginRegistry) -> Result<(), Fail> {
     let config = RenderConfig::new(alloc).with_option("dark", "X")?;
-    let output = printed(&registry, alloc, &config)?;
+    let output = printed(registry, alloc, &config)?;
     assert_eq!(rt;
         output,
         RenderOutput::Text(String::from_str(alloc, "X..X")?)
@@ -295,6 +343,11 @@ fn configurations_keep_what_is_asked(rt: HostRuntime) -> Result<(), Fail> {
         .with_option("dark", "X")?;
     let copy = render.clone(alloc)?;
     assert!(rt; copy.format() == Some("svg") && copy.option("dark") == Some("X"));
+    encoding_keeps_what_is_asked(&rt, alloc)
+}
+
+/// The same of an encoder's configuration, and of what an encoder answers.
+fn encoding_keeps_what_is_asked(rt: &impl Abort, alloc: Global) -> Result<(), Fail> {
     let encode = EncodeConfig::new(alloc).with_option("dark", "X")?;
     let copy = encode.clone(alloc)?;
     assert!(rt; copy.option("dark") == Some("X") && copy.option("light").is_none());
@@ -309,14 +362,33 @@ fn configurations_are_refused(rt: HostRuntime) -> Result<(), Fail> {
     let mut registry = PluginRegistry::new(alloc);
     let replaced = registry.register_renderer("text", Box::new(alloc, Text)?)?;
     assert!(rt; replaced.is_none());
+    refuses_to_build(
+        &rt,
+        alloc,
+        &registry,
+        "text",
+        "invalid plugin config: light",
+    )?;
+    refuses_to_build(
+        &rt,
+        alloc,
+        &registry,
+        "missing",
+        "renderer plugin not found: missing",
+    )
+}
+
+/// A renderer is not built with the option `light`, and the refusal is told by this text.
+fn refuses_to_build(
+    rt: &impl Abort,
+    alloc: Global,
+    registry: &PluginRegistry,
+    name: &str,
+    text: &str,
+) -> Result<(), Fail> {
     let config = RenderConfig::new(alloc).with_option("light", "X")?;
-    for (name, want) in [
-        ("text", "invalid plugin config: light"),
-        ("missing", "renderer plugin not found: missing"),
-    ] {
-        let refused = registry.build_renderer(name, &config).err().ok_or("built")?;
-        assert_eq!(rt; format!(in alloc; "{refused}")?.as_str(), want);
-    }
+    let refused = registry.build_renderer(name, &config).err().ok_or("built")?;
+    assert_eq!(rt; format!(in alloc; "{refused}")?.as_str(), text);
     Ok(())
 }
 
@@ -327,6 +399,11 @@ fn processing_stops_at_a_refusal(rt: HostRuntime) -> Result<(), Fail> {
     registry.register_postprocessor(Box::new(alloc, Darken { x: 0 })?)?;
     registry.register_postprocessor(Box::new(alloc, Boom)?)?;
     registry.register_postprocessor(Box::new(alloc, Darken { x: 1 })?)?;
+    stops_at_boom(&rt, alloc, &registry)
+}
+
+/// The modules are processed up to the refusal `boom`, behind which nothing more is done.
+fn stops_at_boom(rt: &impl Abort, alloc: Global, registry: &PluginRegistry) -> Result<(), Fail> {
     let mut grid = grid_of_text(alloc, "....", 2, 2)?;
     let boom = PluginError::PostProcessFailed(String::from_str(alloc, "boom")?);
     assert_eq!(rt; registry.process_modules(&mut grid), Err(boom));

@@ -1,9 +1,10 @@
 //! Sequences of symbols: worked rows, read back by the plain reader.
 use crate::grids::{hash, modules_of, read};
-use plain_reader::{Level, read_sequence};
+use plain_reader::{Level, Seen, read_sequence};
 use qrcode_core::symbol::{are_cuts, symbol_sequence};
 use qrcode_core::types::{Color, EcLevel, QrError, QrResult};
 use std::alloc::Global;
+use std::process::Abort;
 use std::test::Fail;
 
 /// Data, its cuts and the greatest version; then the version and the payload of each symbol, and the parity of the
@@ -85,17 +86,22 @@ fn draws_each_part(rt: HostRuntime) -> Result<(), Fail> {
     for row in ROWS {
         let grids = grids(rt.alloc(), &row).ok_or("no symbols")?;
         assert_eq!(rt; grids.len(), row.symbols.len());
-        for (index, (grid, symbol)) in grids.iter().zip(row.symbols).enumerate() {
+        for (index, grid) in grids.iter().enumerate() {
             let seen = read(rt.alloc(), grid).ok_or("no symbol")?;
-            assert!(rt; !seen.shape.micro);
-            assert_eq!(rt; (seen.shape.number, seen.payload), *symbol);
-            assert_eq!(rt; seen.level, Level::L);
-            let header = seen.header.ok_or("no header")?;
-            assert_eq!(rt; usize::from(header.0), index + 1);
-            assert_eq!(rt; usize::from(header.1), grids.len());
-            assert_eq!(rt; header.2, row.parity);
+            is_part(&rt, &seen, &row, index)?;
         }
     }
+    Ok(())
+}
+
+/// A symbol has the version, the payload and the header of a part of a row.
+fn is_part(rt: &impl Abort, seen: &Seen, row: &Row, index: usize) -> Result<(), Fail> {
+    let symbol = row.symbols.get(index).ok_or("no part")?;
+    assert!(rt; !seen.shape.micro && seen.level == Level::L);
+    assert_eq!(rt; (seen.shape.number, seen.payload), *symbol);
+    let (position, total, parity) = seen.header.ok_or("no header")?;
+    let header = (usize::from(position), usize::from(total), parity);
+    assert_eq!(rt; header, (index + 1, row.symbols.len(), row.parity));
     Ok(())
 }
 

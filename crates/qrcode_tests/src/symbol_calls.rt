@@ -5,6 +5,7 @@ use qrcode_core::limits::ResourceLimits;
 use qrcode_core::symbol::{Symbol, are_cuts, symbol, symbol_micro, symbol_sequence};
 use qrcode_core::traits::{ModuleSource, QrSymbol};
 use qrcode_core::types::{Color, EcLevel, QrError, Version};
+use std::process::Abort;
 use std::test::Fail;
 
 /// The rows of the symbol of `12345` in M1, dark as one (ISO/IEC 18004 has none; the original crate draws it so).
@@ -45,10 +46,12 @@ fn draws_micro_symbol(rt: HostRuntime) -> Result<(), Fail> {
 #[test]
 fn tells_micro_symbol(rt: HostRuntime) -> Result<(), Fail> {
     let symbol = Symbol::micro(rt.alloc(), b"12345", EcLevel::L)?;
-    assert_eq!(rt; symbol.version(), Version::Micro(1));
-    assert_eq!(rt; symbol.error_correction_level(), EcLevel::L);
-    assert_eq!(rt; symbol.mask(), MaskPattern::Diamonds);
-    assert_eq!(rt; symbol.quiet_zone(), 2);
+    let level = symbol.error_correction_level();
+    assert_eq!(rt; (symbol.version(), level), (Version::Micro(1), EcLevel::L));
+    assert_eq!(rt;
+        (symbol.mask(), symbol.quiet_zone()),
+        (MaskPattern::Diamonds, 2)
+    );
     assert_eq!(rt; (symbol.width(), symbol.height()), (11, 11));
     assert_eq!(rt; symbol.get(9, 0), Color::Light);
     assert_eq!(rt; symbol.get(10, 0), Color::Dark);
@@ -61,17 +64,24 @@ fn tells_micro_symbol(rt: HostRuntime) -> Result<(), Fail> {
 fn tells_symbol(rt: HostRuntime) -> Result<(), Fail> {
     let alloc = rt.alloc();
     let symbol = Symbol::new(alloc, b"01234567", EcLevel::M)?;
-    assert_eq!(rt; symbol.version(), Version::Normal(1));
-    assert_eq!(rt; symbol.error_correction_level(), EcLevel::M);
-    assert_eq!(rt; symbol.mask(), MaskPattern::VerticalLines);
-    assert_eq!(rt; symbol.quiet_zone(), 4);
+    is_the_example(&rt, &symbol);
     let again = symbol.clone(alloc)?;
-    assert_eq!(rt; again.mask(), MaskPattern::VerticalLines);
+    is_the_example(&rt, &again);
     assert!(rt; again.modules() == symbol.modules());
-    assert!(rt; symbol.module_view().row(20) == symbol.row(20));
     let colors = symbol.into_colors();
     assert!(rt; again.modules() == colors.as_slice());
     Ok(())
+}
+
+/// What the example says of itself, and that its view has its rows.
+fn is_the_example(rt: &impl Abort, symbol: &Symbol) {
+    let level = symbol.error_correction_level();
+    assert_eq!(rt; (symbol.version(), level), (Version::Normal(1), EcLevel::M));
+    assert_eq!(rt;
+        (symbol.mask(), symbol.quiet_zone()),
+        (MaskPattern::VerticalLines, 4)
+    );
+    assert!(rt; symbol.module_view().row(20) == symbol.row(20));
 }
 
 #[test]

@@ -195,6 +195,11 @@ fn encoded_bytes(rt: HostRuntime) -> QrResult<()> {
             ]
             .as_slice()
     );
+    Ok(())
+}
+
+#[test]
+fn encoded_micro_bytes(rt: HostRuntime) -> QrResult<()> {
     let mut bits = encode_auto_micro(rt.alloc(), b"1", EcLevel::L)?;
     assert!(rt;
         bits.version() == Version::Micro(1) && bits.payload_bits_len() == 7 && bits.len() == 24
@@ -206,6 +211,11 @@ fn encoded_bytes(rt: HostRuntime) -> QrResult<()> {
         bits.version() == Version::Micro(1) && bits.payload_bits_len() == 0 && bits.len() == 24
     );
     assert!(rt; bits.into_bytes().as_slice() == [0, 0xec, 0].as_slice());
+    Ok(())
+}
+
+#[test]
+fn micro_versions_by_level_and_count(rt: HostRuntime) {
     let rows = [
         (EcLevel::M, Ok((Version::Micro(2), 0))),
         (EcLevel::Q, Ok((Version::Micro(4), 0))),
@@ -232,7 +242,6 @@ fn encoded_bytes(rt: HostRuntime) -> QrResult<()> {
             );
         }
     }
-    Ok(())
 }
 
 /// The same payload at all four levels, in the smallest version of each. The original crate gives the same.

@@ -7,6 +7,7 @@ use qrcode_core::plugin::{
 };
 use qrcode_core::types::Color;
 use std::alloc::Global;
+use std::process::Abort;
 
 /// A plugin of five registrations: its version, two renderers, an encoder and a postprocessor.
 fn bundle(
@@ -157,6 +158,11 @@ fn copies(rt: HostRuntime) -> Result<(), PluginError> {
     assert_eq!(rt; grid.clone(alloc)?, grid);
     let text = RenderOutput::Text(String::from_str(alloc, "X")?);
     assert_eq!(rt; text.clone(alloc)?, text);
+    copies_of_bytes(&rt, alloc)
+}
+
+/// What an encoder answers, and an error, are copied.
+fn copies_of_bytes(rt: &impl Abort, alloc: Global) -> Result<(), PluginError> {
     let bytes = EncodedOutput::Bytes(Vec::from_slice(alloc, b"X")?);
     assert_eq!(rt; bytes.clone(alloc)?, bytes);
     let error = PluginError::RenderFailed(String::from_str(alloc, "X")?);
