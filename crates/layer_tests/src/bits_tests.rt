@@ -205,89 +205,87 @@ pub const DIGITS: &[Mode] = &[Mode::Numeric];
 
 pub const BYTES: &[Mode] = &[Mode::Byte];
 
-/// The rows of `data_and_terminators`.
-const DATA_AND_TERMINATORS: [Row; 9] = [
-    accepted(
-        ONE,
-        &[],
-        Push::Numeric(b"01234567"),
-        41,
-        41,
-        DIGITS,
-        &[0x10, 0x20, 0x0c, 0x56, 0x61, 0x80],
-    ),
-    accepted(
-        ONE,
-        &[],
-        Push::Kanji(&[0x93, 0x5f, 0xe4, 0xaa]),
-        38,
-        38,
-        &[Mode::Kanji],
-        &[0x80, 0x26, 0xcf, 0xea, 0xa8],
-    ),
-    accepted(ONE, &[], Push::Byte(&[]), 12, 12, BYTES, &[0x40, 0]),
-    accepted(
-        ONE,
-        &[Push::Number(3, 5)],
-        Push::Byte(&[0xff, 0]),
-        31,
-        31,
-        BYTES,
-        &[0xa8, 0x05, 0xfe, 0],
-    ),
-    accepted(
-        ONE,
-        &[Push::Numeric(b"01234567")],
-        Push::Terminator(EcLevel::M),
-        128,
-        41,
-        DIGITS,
-        &[
-            0x10, 0x20, 0x0c, 0x56, 0x61, 0x80, 0xec, 0x11, 0xec, 0x11, 0xec, 0x11, 0xec, 0x11,
-            0xec, 0x11,
-        ],
-    ),
-    accepted(
-        M3,
-        &[],
-        Push::Terminator(EcLevel::L),
-        88,
-        0,
-        &[],
-        &[0, 0xec, 0x11, 0xec, 0x11, 0xec, 0x11, 0xec, 0x11, 0xec, 0],
-    ),
-    accepted(
-        M3,
-        &[],
-        Push::Terminator(EcLevel::M),
-        72,
-        0,
-        &[],
-        &[0, 0xec, 0x11, 0xec, 0x11, 0xec, 0x11, 0xec, 0],
-    ),
-    accepted(
-        M1,
-        &[Push::Numeric(b"123")],
-        Push::Terminator(EcLevel::L),
-        24,
-        13,
-        DIGITS,
-        &[0x63, 0xd8, 0],
-    ),
-    accepted(
-        M3,
-        &[Push::Numeric(b"00000000000000000000")],
-        Push::Terminator(EcLevel::L),
-        88,
-        74,
-        DIGITS,
-        &[0x28, 0, 0, 0, 0, 0, 0, 0, 0, 0, 0],
-    ),
-];
-
 #[test]
 fn data_and_terminators(rt: HostRuntime) -> QrResult<()> {
-    for row in &DATA_AND_TERMINATORS {
+    let rows = [
+        accepted(
+            ONE,
+            &[],
+            Push::Numeric(b"01234567"),
+            41,
+            41,
+            DIGITS,
+            &[0x10, 0x20, 0x0c, 0x56, 0x61, 0x80],
+        ),
+        accepted(
+            ONE,
+            &[],
+            Push::Kanji(&[0x93, 0x5f, 0xe4, 0xaa]),
+            38,
+            38,
+            &[Mode::Kanji],
+            &[0x80, 0x26, 0xcf, 0xea, 0xa8],
+        ),
+        accepted(ONE, &[], Push::Byte(&[]), 12, 12, BYTES, &[0x40, 0]),
+        accepted(
+            ONE,
+            &[Push::Number(3, 5)],
+            Push::Byte(&[0xff, 0]),
+            31,
+            31,
+            BYTES,
+            &[0xa8, 0x05, 0xfe, 0],
+        ),
+        accepted(
+            ONE,
+            &[Push::Numeric(b"01234567")],
+            Push::Terminator(EcLevel::M),
+            128,
+            41,
+            DIGITS,
+            &[
+                0x10, 0x20, 0x0c, 0x56, 0x61, 0x80, 0xec, 0x11, 0xec, 0x11, 0xec, 0x11, 0xec, 0x11,
+                0xec, 0x11,
+            ],
+        ),
+        accepted(
+            M3,
+            &[],
+            Push::Terminator(EcLevel::L),
+            88,
+            0,
+            &[],
+            &[0, 0xec, 0x11, 0xec, 0x11, 0xec, 0x11, 0xec, 0x11, 0xec, 0],
+        ),
+        accepted(
+            M3,
+            &[],
+            Push::Terminator(EcLevel::M),
+            72,
+            0,
+            &[],
+            &[0, 0xec, 0x11, 0xec, 0x11, 0xec, 0x11, 0xec, 0],
+        ),
+        accepted(
+            M1,
+            &[Push::Numeric(b"123")],
+            Push::Terminator(EcLevel::L),
+            24,
+            13,
+            DIGITS,
+            &[0x63, 0xd8, 0],
+        ),
+        accepted(
+            M3,
+            &[Push::Numeric(b"00000000000000000000")],
+            Push::Terminator(EcLevel::L),
+            88,
+            74,
+            DIGITS,
+            &[0x28, 0, 0, 0, 0, 0, 0, 0, 0, 0, 0],
+        ),
+    ];
+    for row in &rows {
         assert!(rt; holds(&rt, row)?);
     }
     Ok(())

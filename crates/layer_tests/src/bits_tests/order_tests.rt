@@ -13,223 +13,218 @@ const FIRST: Push = Push::Header(1, 3, 0x5a);
 const END: Push = Push::Terminator(EcLevel::L);
 
 /// Digits and letters that end in a whole group, and in a rest of one and of two. The original crate gives the same.
-const RESTS_OF_ONE_AND_TWO: [Row; 15] = [
-    accepted(
-        ONE,
-        &[],
-        Push::Numeric(b"9"),
-        18,
-        18,
-        DIGITS,
-        &[0x10, 0x06, 0x40],
-    ),
-    accepted(
-        ONE,
-        &[],
-        Push::Numeric(b"98"),
-        21,
-        21,
-        DIGITS,
-        &[0x10, 0x0b, 0x10],
-    ),
-    accepted(
-        ONE,
-        &[],
-        Push::Numeric(b"987"),
-        24,
-        24,
-        DIGITS,
-        &[0x10, 0x0f, 0xdb],
-    ),
-    accepted(
-        ONE,
-        &[],
-        Push::Numeric(b"9876"),
-        28,
-        28,
-        DIGITS,
-        &[0x10, 0x13, 0xdb, 0x60],
-    ),
-    accepted(
-        Version::Normal(27),
-        &[],
-        Push::Numeric(b"98765"),
-        35,
-        35,
-        DIGITS,
-        &[0x10, 0x01, 0x7d, 0xb8, 0x20],
-    ),
-    accepted(M1, &[], Push::Numeric(b"9"), 7, 7, DIGITS, &[0x32]),
-    accepted(M1, &[], Push::Numeric(b"98"), 10, 10, DIGITS, &[0x58, 0x80]),
-    accepted(
-        M4,
-        &[],
-        Push::Numeric(b"9876"),
-        23,
-        23,
-        DIGITS,
-        &[0x02, 0x7b, 0x6c],
-    ),
-    accepted(
-        M4,
-        &[],
-        Push::Numeric(b"98765"),
-        26,
-        26,
-        DIGITS,
-        &[0x02, 0xfb, 0x70, 0x40],
-    ),
-    accepted(
-        ONE,
-        &[],
-        Push::Alphanumeric(b"Z"),
-        19,
-        19,
-        SIGNS,
-        &[0x20, 0x0c, 0x60],
-    ),
-    accepted(
-        ONE,
-        &[],
-        Push::Alphanumeric(b"Z:"),
-        24,
-        24,
-        SIGNS,
-        &[0x20, 0x16, 0x53],
-    ),
-    accepted(
-        Version::Normal(10),
-        &[],
-        Push::Alphanumeric(b"Z:7"),
-        32,
-        32,
-        SIGNS,
-        &[0x20, 0x07, 0x94, 0xc7],
-    ),
-    accepted(
-        M2,
-        &[],
-        Push::Alphanumeric(b"Z"),
-        10,
-        10,
-        SIGNS,
-        &[0x98, 0xc0],
-    ),
-    accepted(
-        M3,
-        &[],
-        Push::Alphanumeric(b"Z:"),
-        17,
-        17,
-        SIGNS,
-        &[0x4b, 0x29, 0x80],
-    ),
-    accepted(
-        M4,
-        &[],
-        Push::Alphanumeric(b"Z:7"),
-        25,
-        25,
-        SIGNS,
-        &[0x23, 0xca, 0x63, 0x80],
-    ),
-];
-
 #[test]
 fn rests_of_one_and_two(rt: HostRuntime) -> QrResult<()> {
-    for row in &RESTS_OF_ONE_AND_TWO {
+    let rows = [
+        accepted(
+            ONE,
+            &[],
+            Push::Numeric(b"9"),
+            18,
+            18,
+            DIGITS,
+            &[0x10, 0x06, 0x40],
+        ),
+        accepted(
+            ONE,
+            &[],
+            Push::Numeric(b"98"),
+            21,
+            21,
+            DIGITS,
+            &[0x10, 0x0b, 0x10],
+        ),
+        accepted(
+            ONE,
+            &[],
+            Push::Numeric(b"987"),
+            24,
+            24,
+            DIGITS,
+            &[0x10, 0x0f, 0xdb],
+        ),
+        accepted(
+            ONE,
+            &[],
+            Push::Numeric(b"9876"),
+            28,
+            28,
+            DIGITS,
+            &[0x10, 0x13, 0xdb, 0x60],
+        ),
+        accepted(
+            Version::Normal(27),
+            &[],
+            Push::Numeric(b"98765"),
+            35,
+            35,
+            DIGITS,
+            &[0x10, 0x01, 0x7d, 0xb8, 0x20],
+        ),
+        accepted(M1, &[], Push::Numeric(b"9"), 7, 7, DIGITS, &[0x32]),
+        accepted(M1, &[], Push::Numeric(b"98"), 10, 10, DIGITS, &[0x58, 0x80]),
+        accepted(
+            M4,
+            &[],
+            Push::Numeric(b"9876"),
+            23,
+            23,
+            DIGITS,
+            &[0x02, 0x7b, 0x6c],
+        ),
+        accepted(
+            M4,
+            &[],
+            Push::Numeric(b"98765"),
+            26,
+            26,
+            DIGITS,
+            &[0x02, 0xfb, 0x70, 0x40],
+        ),
+        accepted(
+            ONE,
+            &[],
+            Push::Alphanumeric(b"Z"),
+            19,
+            19,
+            SIGNS,
+            &[0x20, 0x0c, 0x60],
+        ),
+        accepted(
+            ONE,
+            &[],
+            Push::Alphanumeric(b"Z:"),
+            24,
+            24,
+            SIGNS,
+            &[0x20, 0x16, 0x53],
+        ),
+        accepted(
+            Version::Normal(10),
+            &[],
+            Push::Alphanumeric(b"Z:7"),
+            32,
+            32,
+            SIGNS,
+            &[0x20, 0x07, 0x94, 0xc7],
+        ),
+        accepted(
+            M2,
+            &[],
+            Push::Alphanumeric(b"Z"),
+            10,
+            10,
+            SIGNS,
+            &[0x98, 0xc0],
+        ),
+        accepted(
+            M3,
+            &[],
+            Push::Alphanumeric(b"Z:"),
+            17,
+            17,
+            SIGNS,
+            &[0x4b, 0x29, 0x80],
+        ),
+        accepted(
+            M4,
+            &[],
+            Push::Alphanumeric(b"Z:7"),
+            25,
+            25,
+            SIGNS,
+            &[0x23, 0xca, 0x63, 0x80],
+        ),
+    ];
+    for row in &rows {
         assert!(rt; holds(&rt, row)?);
     }
     Ok(())
 }
-
-/// The rows of `headers`.
-const HEADERS: [Row; 9] = [
-    accepted(ONE, &[], Push::Eci(899), 20, 20, &[], &[0x78, 0x38, 0x30]),
-    accepted(
-        ONE,
-        &[],
-        Push::Eci(999999),
-        28,
-        28,
-        &[],
-        &[0x7c, 0xf4, 0x23, 0xf0],
-    ),
-    accepted(ONE, &[], Push::Fnc1First, 4, 4, &[], &[0x50]),
-    accepted(
-        ONE,
-        &[],
-        Push::Indicator(ExtendedMode::Eci),
-        4,
-        4,
-        &[],
-        &[0x70],
-    ),
-    accepted(ONE, &[], Push::Fnc1Second(37), 12, 12, &[], &[0x92, 0x50]),
-    accepted(ONE, &[], FIRST, 20, 20, &[], &[0x30, 0x25, 0xa0]),
-    accepted(
-        ONE,
-        &[FIRST],
-        Push::Header(2, 3, 0x5a),
-        40,
-        40,
-        &[],
-        &[0x30, 0x25, 0xa3, 0x12, 0x5a],
-    ),
-    accepted(
-        ONE,
-        &[],
-        Push::Number(16, 65535),
-        16,
-        16,
-        &[],
-        &[0xff, 0xff],
-    ),
-    accepted(ONE, &[], Push::Number(0, 0), 0, 0, &[], &[]),
-];
 
 #[test]
 fn headers(rt: HostRuntime) -> QrResult<()> {
-    for row in &HEADERS {
+    let rows = [
+        accepted(ONE, &[], Push::Eci(899), 20, 20, &[], &[0x78, 0x38, 0x30]),
+        accepted(
+            ONE,
+            &[],
+            Push::Eci(999999),
+            28,
+            28,
+            &[],
+            &[0x7c, 0xf4, 0x23, 0xf0],
+        ),
+        accepted(ONE, &[], Push::Fnc1First, 4, 4, &[], &[0x50]),
+        accepted(
+            ONE,
+            &[],
+            Push::Indicator(ExtendedMode::Eci),
+            4,
+            4,
+            &[],
+            &[0x70],
+        ),
+        accepted(ONE, &[], Push::Fnc1Second(37), 12, 12, &[], &[0x92, 0x50]),
+        accepted(ONE, &[], FIRST, 20, 20, &[], &[0x30, 0x25, 0xa0]),
+        accepted(
+            ONE,
+            &[FIRST],
+            Push::Header(2, 3, 0x5a),
+            40,
+            40,
+            &[],
+            &[0x30, 0x25, 0xa3, 0x12, 0x5a],
+        ),
+        accepted(
+            ONE,
+            &[],
+            Push::Number(16, 65535),
+            16,
+            16,
+            &[],
+            &[0xff, 0xff],
+        ),
+        accepted(ONE, &[], Push::Number(0, 0), 0, 0, &[], &[]),
+    ];
+    for row in &rows {
         assert!(rt; holds(&rt, row)?);
     }
     Ok(())
 }
 
-/// The rows of `refused_headers`.
-const REFUSED_HEADERS: [Row; 7] = [
-    refused(
-        ONE,
-        &[],
-        Push::Eci(1000000),
-        QrError::InvalidEciDesignator { value: 1000000 },
-    ),
-    refused(
-        M4,
-        &[],
-        Push::Eci(1000000),
-        QrError::UnsupportedCharacterSet,
-    ),
-    refused(
-        ONE,
-        &[],
-        Push::Header(1, 17, 0x5a),
-        QrError::InvalidStructuredAppend { value: 17 },
-    ),
-    refused(
-        ONE,
-        &[],
-        Push::Header(0, 3, 0x5a),
-        QrError::InvalidStructuredAppend { value: 0 },
-    ),
-    refused(ONE, &[], Push::Number(0, 1), QrError::DataTooLong),
-    refused(ONE, &[], Push::Number(17, 0), QrError::DataTooLong),
-    refused(ONE, &[FIRST], Push::Number(99, 0), QrError::DataTooLong),
-];
-
 #[test]
 fn refused_headers(rt: HostRuntime) -> QrResult<()> {
-    for row in &REFUSED_HEADERS {
+    let rows = [
+        refused(
+            ONE,
+            &[],
+            Push::Eci(1000000),
+            QrError::InvalidEciDesignator { value: 1000000 },
+        ),
+        refused(
+            M4,
+            &[],
+            Push::Eci(1000000),
+            QrError::UnsupportedCharacterSet,
+        ),
+        refused(
+            ONE,
+            &[],
+            Push::Header(1, 17, 0x5a),
+            QrError::InvalidStructuredAppend { value: 17 },
+        ),
+        refused(
+            ONE,
+            &[],
+            Push::Header(0, 3, 0x5a),
+            QrError::InvalidStructuredAppend { value: 0 },
+        ),
+        refused(ONE, &[], Push::Number(0, 1), QrError::DataTooLong),
+        refused(ONE, &[], Push::Number(17, 0), QrError::DataTooLong),
+        refused(ONE, &[FIRST], Push::Number(99, 0), QrError::DataTooLong),
+    ];
+    for row in &rows {
         assert!(rt; leaves_all(&rt, row)?);
     }
     Ok(())
@@ -247,41 +242,39 @@ const ENDED_AND_MORE: [u8; 23] = [
     0x11, 0xec, 0x11, 0x70, 0x94, 0x01, 0x61,
 ];
 
-/// The rows of `unusual_orders`.
-const UNUSUAL_ORDERS: [Row; 4] = [
-    accepted(ONE, &[END], Push::Eci(9), 164, 0, &[], &ENDED),
-    accepted(
-        ONE,
-        &[END, Push::Eci(9)],
-        Push::Byte(b"a"),
-        184,
-        184,
-        BYTES,
-        &ENDED_AND_MORE,
-    ),
-    accepted(
-        M1,
-        &[Push::Numeric(b"1234"), END],
-        END,
-        20,
-        20,
-        DIGITS,
-        &[0x83, 0xda, 0],
-    ),
-    accepted(
-        Version::Normal(0),
-        &[],
-        Push::Numeric(b"1"),
-        22,
-        22,
-        DIGITS,
-        &[0x10, 0, 0x44],
-    ),
-];
-
 #[test]
 fn unusual_orders(rt: HostRuntime) -> QrResult<()> {
-    for row in &UNUSUAL_ORDERS {
+    let rows = [
+        accepted(ONE, &[END], Push::Eci(9), 164, 0, &[], &ENDED),
+        accepted(
+            ONE,
+            &[END, Push::Eci(9)],
+            Push::Byte(b"a"),
+            184,
+            184,
+            BYTES,
+            &ENDED_AND_MORE,
+        ),
+        accepted(
+            M1,
+            &[Push::Numeric(b"1234"), END],
+            END,
+            20,
+            20,
+            DIGITS,
+            &[0x83, 0xda, 0],
+        ),
+        accepted(
+            Version::Normal(0),
+            &[],
+            Push::Numeric(b"1"),
+            22,
+            22,
+            DIGITS,
+            &[0x10, 0, 0x44],
+        ),
+    ];
+    for row in &rows {
         assert!(rt; holds(&rt, row)?);
     }
     Ok(())
