@@ -6,7 +6,8 @@ use Rattle.qrcode_grid.proofs.Prelude.{bit_and, bit_or, bit_xor, get_or-map, len
 use Rattle.qrcode_grid.proofs.Prelude.{length-drop, bit_at-lt, bit_at-zero, bit_at_or, bit_at_not, bit_at_and, bit_at_xor, and_pow, length-chunk, get_or-chunk}
 use Rattle.qrcode_grid.proofs.Prelude.{get_or-zip2, length-zip2, bitmask_splat, ones-mask_l, get_or-replicate, nat_tests, Marks, plane, bit_count, common_steps}
 use Rattle.qrcode_grid.proofs.Prelude.{count_ones, slice_range, mod-eq_of_lt, mul-le-mul_right, pow_pos, sum_below, count_below, range_with_len, sum_by-append}
-use Rattle.qrcode_grid.proofs.Prelude.{count_by-le-length, length-range_with_len, is_byte_square_at, take-add, inl, inr, cases_eq, subst, set, get_or-set_same, get_or-set_other}
+use Rattle.qrcode_grid.proofs.Prelude.{count_by-le-length, length-range_with_len, is_byte_square_at, take-add}
+use Rattle.qrcode_grid.proofs.Prelude.{inl, inr, cases_eq, subst, set, get_or-set_same, get_or-set_other}
 use Rattle.std.proofs.Common.{add-zero, suc-add}
 use Rattle.std.proofs.lemmas.Simd.{get_or-put_chunk_at, length-put_chunk, pick_l_whole, pick_l-range_with_len, zip2_of_maps, map-map, mask_l-mod}
 use lib.Lanes.{zip2, chunk, put_chunk, mask_l, top}

@@ -1,5 +1,5 @@
-use Rattle.qrcode_grid.proofs.Prelude.{◌≡◌, ◌<◌, ℕ, List, ◌+◌, ◌-◌, ◌*◌, ◌≤◌, ap, ◌∙◌, refl, arith, inl, inr, bit_at, mul-le-mul_right, add-mul, cases_lt, bit_at-zero, stride}
-use Rattle.qrcode_grid.proofs.Prelude.{length, cond, get_or, get_or-replicate, is_same, plane}
+use Rattle.qrcode_grid.proofs.Prelude.{◌≡◌, ◌<◌, ℕ, List, ◌+◌, ◌-◌, ◌*◌, ◌≤◌, ap, ◌∙◌, refl, arith, inl, inr, bit_at, mul-le-mul_right, add-mul}
+use Rattle.qrcode_grid.proofs.Prelude.{cases_lt, bit_at-zero, stride, length, cond, get_or, get_or-replicate, is_same, plane}
 use lib.ListN.{replicate}
 use Rattle.qrcode_grid.proofs.MarkedLanes.{plane_at, with_lanes, lanes_here, lanes_before, lanes_behind}
 use Rattle.qrcode_grid.proofs.PaddedCounts.{row_before}
