@@ -1,6 +1,6 @@
 -- The digits before this one are found, and of this one those of the words before this one, and no others.
 use Rattle.qrcode_grid.proofs.Prelude.{◌≡◌, ◌<◌, ◌≤◌, ℕ, get_or, length, bit_at, byte_of, digit_color}
-use Rattle.qrcode_grid.proofs.canvas.masks.format_digits.Given as goal
+use Rattle.qrcode_grid.proofs.canvas.masks.write_candidates.Given as goal
 
 abbrev pub invariant-loop-k : goal.invariant-loop-k
 invariant-loop-k l = record {
