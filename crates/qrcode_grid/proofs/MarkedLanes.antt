@@ -7,6 +7,7 @@ use Rattle.qrcode_grid.proofs.Prelude.{length-drop, bit_at-lt, bit_at-zero, bit_
 use Rattle.qrcode_grid.proofs.Prelude.{get_or-zip2, length-zip2, bitmask_splat, ones-mask_l, get_or-replicate, nat_tests, Marks, plane, bit_count, common_steps}
 use Rattle.qrcode_grid.proofs.Prelude.{count_ones, slice_range, mod-eq_of_lt, mul-le-mul_right, pow_pos, sum_below, count_below, range_with_len, sum_by-append}
 use Rattle.qrcode_grid.proofs.Prelude.{count_by-le-length, length-range_with_len, is_byte_square_at, take-add}
+use Rattle.qrcode_grid.proofs.Prelude.{inl, inr, cases_eq, subst, set, get_or-set_same, get_or-set_other}
 use Rattle.std.proofs.Common.{add-zero, suc-add}
 use Rattle.std.proofs.lemmas.Simd.{get_or-put_chunk_at, length-put_chunk, pick_l_whole, pick_l-range_with_len, zip2_of_maps, map-map, mask_l-mod}
 use lib.Lanes.{zip2, chunk, put_chunk, mask_l, top}
@@ -158,6 +159,15 @@ marks_or a b p q ma mb = grind (arith, common_steps, length_of, lane_of, bit_at_
 
 pub marks_as : (a : List ℕ) (p q : ℕ → ℕ → Bool) → ((m j : ℕ) → p m j ≡ q m j) → Marks a p → Marks a q
 marks_as a p q e ma = record { whole = ma.whole; bits = λ m j hm hj. ma.bits m j hm hj ∙ ap (λ t. cond t 1 0) (e m j) }
+
+-- rows of lanes of which one more is marked
+pub row_marked : (test : ℕ → ℕ → ℕ → Bool) (rows : List (List ℕ)) (n : ℕ) (row : List ℕ) → n < length rows →
+    ((i : ℕ) → i < n → Marks (get_or rows i []) (test i)) → Marks row (test n) → (i : ℕ) → i < n + 1 → Marks (get_or (set rows n row) i []) (test i)
+row_marked test rows n row inside before now i h = elim (cases_eq i n) [
+  | inl here ↦ subst (λ k. Marks (get_or (set rows n row) k []) (test k)) (sym here)
+      (subst (λ (r : List ℕ). Marks r (test n)) (sym (get_or-set_same rows n row [] inside)) now)
+  | inr other ↦ subst (λ (r : List ℕ). Marks r (test i)) (sym (get_or-set_other rows n i row [] other)) (before i (omega (arith, h, other)))
+]
 
 none_is : (b : ℕ) → b < 2 → 1 - b ≡ cond (b == 0) 1 0
 none_is b h = grind (arith)

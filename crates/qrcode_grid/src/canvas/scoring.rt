@@ -98,33 +98,23 @@ pub fn penalties_of_normal(
     penalties
 }
 
-/// The penalty of one candidate of a Micro symbol, by the light modules of its bottom row and of its right column, but
-/// for their first.
-fn penalty_of_micro(width: usize, grid: &[u8], m: usize) -> usize
-    requires square { length grid.now ≡ width * width }
-    requires wide { (0 < width) × (width ≤ 177) }
-    requires bit { m < 8 }
-    ensures { result ≡ micro_penalty width (plane m grid.now) }
-{
-    let last = width - 1;
-    let mut h = 0;
-    let mut v = 0;
-    for k in 1..width {
-        h += 1 - usize::from(grid[last * width + k] >> m & 1);
-        v += 1 - usize::from(grid[k * width + last] >> m & 1);
-    }
-    16 * h.max(v) + h.min(v)
-}
-
-/// The penalties of eight candidates of a Micro symbol, one after the other.
+/// The penalties of eight candidates of a Micro symbol, each by the light modules of its bottom row and of its right
+/// column, but for their first.
 fn penalties_of_micro(width: usize, grid: &[u8]) -> [usize; 8]
     requires square { length grid.now ≡ width * width }
     requires wide { (0 < width) × (width ≤ 177) }
     ensures { (m : ℕ) → m < 8 → slice_index result m ≡ micro_penalty width (plane m grid.now) }
 {
+    let last = width - 1;
     let mut penalties = [0; 8];
     for m in 0..8 {
-        penalties[m] = penalty_of_micro(width, grid, m);
+        let mut h = 0;
+        let mut v = 0;
+        for k in 1..width {
+            h += 1 - usize::from(grid[last * width + k] >> m & 1);
+            v += 1 - usize::from(grid[k * width + last] >> m & 1);
+        }
+        penalties[m] = 16 * h.max(v) + h.min(v);
     }
     penalties
 }

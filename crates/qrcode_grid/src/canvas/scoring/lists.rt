@@ -23,42 +23,8 @@ pub fn write_padded(width: usize, grid: &[u8], padded: &mut [u8])
     }
 }
 
-/// Writes which of the first places have the colour of the module a step on, sixteen at a time, and sixteen zeros
-/// behind them.
-#[inline(always)]
-fn write_same(width: usize, step: usize, count: usize, padded: &[u8], edges: &mut [u8])
-    requires wide { (16 ≤ width) × (width ≤ 177) }
-    requires step { step ≤ width + 4 }
-    requires count { count ≤ width * (width + 4) }
-    requires padded { length padded.now ≡ list_length width }
-    requires edges { length edges.old ≡ list_length width }
-    requires none { (k : ℕ) → count ≤ k → slice_index edges.old k ≡ 0 }
-    ensures same { (m : ℕ) → (k : ℕ) → m < 8 → k < count →
-        bit_at (slice_index edges.new k) m ≡
-        (if is_same step (plane m padded.now) (4 * stride width + k) 0 then 1 else 0) }
-    ensures behind { (k : ℕ) → count ≤ k → slice_index edges.new k ≡ 0 }
-{
-    for part in 0..(count + 15) / 16 {
-        let lanes = same(padded, step, 4 * (width + 4) + 16 * part, 0);
-        lanes.copy_to_slice(&mut edges[16 * part..16 * part + 16]);
-    }
-    u8x16::splat(0).copy_to_slice(&mut edges[count..count + 16]);
-}
-
-/// Writes zeros from one place to before another. The others stay.
-#[inline(always)]
-fn clear(from: usize, end: usize, list: &mut [u8])
-    requires { (from ≤ end) × (end ≤ length list.old) }
-    ensures zeros { (k : ℕ) → from ≤ k → k < end → slice_index list.new k ≡ 0 }
-    ensures before { (k : ℕ) → k < from → slice_index list.new k ≡ slice_index list.old k }
-    ensures after { (k : ℕ) → end ≤ k → slice_index list.new k ≡ slice_index list.old k }
-{
-    for k in from..end {
-        list[k] = 0;
-    }
-}
-
-/// Writes which of the first columns of the first rows have the colour of the module a step on.
+/// Writes which of the first columns of the first rows have the colour of the module a step on, sixteen places at a
+/// time, and zeros beside them and behind them.
 #[inline(always)]
 pub fn write_edges(
     width: usize,
@@ -80,9 +46,16 @@ pub fn write_edges(
     ensures none { (k : ℕ) → rows * stride width ≤ k → slice_index edges.new k ≡ 0 }
 {
     let stride = width + 4;
-    write_same(width, step, rows * stride, padded, edges);
+    let count = rows * stride;
+    for part in 0..(count + 15) / 16 {
+        let lanes = same(padded, step, 4 * stride + 16 * part, 0);
+        lanes.copy_to_slice(&mut edges[16 * part..16 * part + 16]);
+    }
+    u8x16::splat(0).copy_to_slice(&mut edges[count..count + 16]);
     for y in 0..rows {
-        clear(y * stride + columns, y * stride + stride, edges);
+        for x in columns..stride {
+            edges[y * stride + x] = 0;
+        }
     }
 }
 
@@ -98,7 +71,7 @@ pub enum Feature {
 /// The dark modules some steps after sixteen places.
 #[inline(always)]
 #[tactic(auto, using(crate::proofs::MarkedLanes::dark_marks))]
-fn dark(list: &[u8], step: usize, at: usize, i: usize) -> u8x16
+pub fn dark(list: &[u8], step: usize, at: usize, i: usize) -> u8x16
     requires step { step ≤ 181 }
     requires few { i ≤ 14 }
     requires within { at + i * step + 16 ≤ length list.now }
@@ -129,44 +102,6 @@ pub fn same(list: &[u8], step: usize, at: usize, i: usize) -> u8x16
     u8x16::from_slice(&list[at + i * step..]) ^ !u8x16::from_slice(&list[at + (i + 1) * step..])
 }
 
-/// Where five modules of one colour begin, by their edges.
-#[inline(always)]
-pub fn fives(edges: &[u8], step: usize, at: usize) -> u8x16
-    requires step { step ≤ 181 }
-    requires within { at + 3 * step + 16 ≤ length edges.now }
-    ensures { Marks result (λ m j. has_five step (plane m edges.now) (at + j)) }
-{
-    dark(edges, step, at, 0)
-        & dark(edges, step, at, 1)
-        & dark(edges, step, at, 2)
-        & dark(edges, step, at, 3)
-}
-
-/// Where six modules of one colour begin, by the places where five do.
-#[inline(always)]
-pub fn sixes(five: u8x16, edges: &[u8], step: usize, at: usize) -> u8x16
-    requires step { step ≤ 181 }
-    requires within { at + 4 * step + 16 ≤ length edges.now }
-    requires five { Marks five (λ m j. has_five step (plane m edges.now) (at + j)) }
-    ensures { Marks result (λ m j. has_six step (plane m edges.now) (at + j)) }
-{
-    five & dark(edges, step, at, 4)
-}
-
-/// Where four light modules begin some steps on.
-#[inline(always)]
-fn quiet(list: &[u8], step: usize, at: usize, i: usize) -> u8x16
-    requires step { step ≤ 181 }
-    requires few { i ≤ 11 }
-    requires within { at + (i + 3) * step + 16 ≤ length list.now }
-    ensures { Marks result (λ m j. is_quiet step (plane m list.now) (at + j) i) }
-{
-    light(list, step, at, i)
-        & light(list, step, at, i + 1)
-        & light(list, step, at, i + 2)
-        & light(list, step, at, i + 3)
-}
-
 /// Where a finder-like pattern with light modules on one side begins four steps on.
 #[inline(always)]
 fn finders(list: &[u8], step: usize, at: usize) -> u8x16
@@ -181,7 +116,15 @@ fn finders(list: &[u8], step: usize, at: usize) -> u8x16
         & dark(list, step, at, 8)
         & light(list, step, at, 9)
         & dark(list, step, at, 10);
-    pattern & (quiet(list, step, at, 0) | quiet(list, step, at, 11))
+    let before = light(list, step, at, 0)
+        & light(list, step, at, 1)
+        & light(list, step, at, 2)
+        & light(list, step, at, 3);
+    let after = light(list, step, at, 11)
+        & light(list, step, at, 12)
+        & light(list, step, at, 13)
+        & light(list, step, at, 14);
+    pattern & (before | after)
 }
 
 /// Where a square of one colour begins: edges along the row and along the next, between modules of one colour.

@@ -1,4 +1,4 @@
-use Rattle.qrcode_grid.proofs.Prelude.{◌≢◌, ◌<◌, ◌+◌, ◌*◌, get_or, ap, ◌∙◌, arith, drawn_over, timing, Empty}
+use Rattle.qrcode_grid.proofs.Prelude.{◌≡◌, ◌≢◌, ◌<◌, ◌+◌, ◌*◌, get_or, ap, arith, sym, Some, common_steps, drawn_over, timing, Empty}
 use Rattle.qrcode_grid.proofs.WrittenWords.{row_begins, cell_changed, row_ends, rows_begin, rows_between, rows_end}
 use Rattle.qrcode_grid.proofs.RegionRows.{no_timing_above, no_timing_below, no_timing_beside, no_timing_before, no_timing_behind}
 use Rattle.qrcode_grid.proofs.canvas.drawing.draw_timing.Goals as goal
@@ -17,9 +17,10 @@ loop-x-init c =
 pub loop-x-preserved : goal.loop-x-preserved
 loop-x-preserved c =
     let line = c.args.line in let from = c.args.from in let to = c.args.to in let w = c.args.width in
+    let on : timing line from to c.loop-x.x line ≡ Some c.if-x-line-eq0.color = grind (arith, common_steps) in
     cell_changed (λ x y m. drawn_over (timing line from to x y) m) w line c.loop-x.x c.args.modules.now c.loop-x.modules _ Empty
     (omega (arith, c.loop-x-test.true, c.requires.lines)) (omega (arith, c.requires.lines)) c.requires.square
-    (c.drawn.ensures ∙ ap (λ o. drawn_over o (get_or c.loop-x.modules (line * w + c.loop-x.x) Empty)) c.timing_color.ensures) c.loop-x.invariant
+    (ap (λ o. drawn_over o (get_or c.loop-x.modules (line * w + c.loop-x.x) Empty)) (sym on)) c.loop-x.invariant
 
 pub loop-y-init : goal.loop-y-init
 loop-y-init c =
@@ -38,10 +39,11 @@ loop-y-preserved c =
     let row : y < w = omega (arith, c.loop-y-test.true, c.requires.lines) in
     let column : line < w = omega (arith, c.requires.lines) in
     let other : y ≢ line = omega (arith, c.loop-y.auto.y, c.requires.lines) in
+    let on : timing line from to line y ≡ Some c.if-line-y-eq0.color = grind (arith, common_steps) in
     row_ends (λ x y m. drawn_over (timing line from to x y) m) w y (line + 1) c.args.modules.now _ (omega (arith, column))
     (λ x low l m. let beside : x ≢ line = omega (arith, low) in ap (λ o. drawn_over o m) (no_timing_beside line from to x y other beside))
     (cell_changed (λ x y m. drawn_over (timing line from to x y) m) w y line c.args.modules.now c.loop-y.modules _ Empty column row c.requires.square
-    (c.drawn-in-loop-y.ensures ∙ ap (λ o. drawn_over o (get_or c.loop-y.modules (y * w + line) Empty)) c.timing_color-in-loop-y.ensures)
+    (ap (λ o. drawn_over o (get_or c.loop-y.modules (y * w + line) Empty)) (sym on))
     (row_begins (λ x y m. drawn_over (timing line from to x y) m) w y line c.args.modules.now c.loop-y.modules (omega (arith, column))
     (λ x h m. let beside : x ≢ line = omega (arith, h) in ap (λ o. drawn_over o m) (no_timing_beside line from to x y other beside)) c.loop-y.invariant))
 

@@ -8,9 +8,10 @@ loop-chunk-preserved c =
     let test = λ (m : ℕ). has a.feature a.width a.step (plane m a.padded.now) (plane m a.edges.now) in
     let end : from + 16 * 16 ≡ 256 * (c.loop-chunk.chunk + 1) = omega arith in
     record {
+      size = c.loop-i.invariant.size;
       small = λ m h. omega (arith, c.loop-chunk.invariant.small m h, c.add_rows-tally.ensures.small m h);
       so_far = λ m h.
-          let next = next_rows c.rows_of-rows.result test from 16 c.rows_of-rows.ensures m h in
+          let next = next_rows c.loop-i.rows test from 16 (λ i l. c.loop-i.invariant.found i (omega (arith, l, c.loop-i-test.false))) m h in
           omega (arith, c.loop-chunk.invariant.so_far m h, c.add_rows-tally.ensures.more m h, next, ap (count_below (test m)) end);
     }
 

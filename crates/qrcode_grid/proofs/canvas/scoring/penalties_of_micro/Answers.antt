@@ -4,7 +4,7 @@ use Rattle.std.proofs.lemmas.List.{drop-append-le}
 use Rattle.std.proofs.lemmas.Nat.Bits.{shr_and_one}
 use Rattle.qrcode_grid.proofs.PaddedCounts.{length-row, length-column, get_or-row, get_or-column}
 use Rattle.qrcode_grid.proofs.MarkedLanes.{length-plane, plane_at, plane_small}
-use Rattle.qrcode_grid.proofs.canvas.scoring.penalty_of_micro.Goals as goal
+use Rattle.qrcode_grid.proofs.canvas.scoring.penalties_of_micro.Goals as goal
 
 -- one more module of a line is looked at
 lights_more : (xs : List ℕ) (k n b : ℕ) → 1 ≤ k → k < length xs → n ≡ count_by (λ m. m == 0) (drop 1 (take k xs)) → get_or xs k 0 ≡ b → b ≤ 1 →
@@ -16,7 +16,7 @@ lights_more xs k n b some inside is here bit =
 
 pub loop-k-preserved : goal.loop-k-preserved
 loop-k-preserved c =
-    let w = c.args.width in let m = c.args.m in let grid = c.args.grid.now in let cells = plane m grid in let k = c.loop-k.k in let y = w - 1 in
+    let w = c.args.width in let m = c.loop-m.m in let grid = c.args.grid.now in let cells = plane m grid in let k = c.loop-k.k in let y = w - 1 in
     let square : length cells ≡ w * w = length-plane m grid ∙ c.requires.square in
     let inside : k < w = omega arith in
     let last : y < w = omega arith in
@@ -33,10 +33,10 @@ loop-k-preserved c =
       low = omega (arith, c.loop-k.invariant.low);
     }
 
-pub returns : goal.returns
-returns c =
-    let w = c.args.width in let cells = plane c.args.m c.args.grid.now in let y = w - 1 in
-    let square : length cells ≡ w * w = length-plane c.args.m c.args.grid.now ∙ c.requires.square in
+pub loop-m-preserved : goal.loop-m-preserved
+loop-m-preserved c =
+    let w = c.args.width in let cells = plane c.loop-m.m c.args.grid.now in let y = w - 1 in
+    let square : length cells ≡ w * w = length-plane c.loop-m.m c.args.grid.now ∙ c.requires.square in
     let end : c.loop-k.k ≡ w = omega arith in
     let last : y < w = omega (arith, c.requires.wide.0) in
     let light = λ (xs : List ℕ). count_by (λ b. b == 0) (drop 1 xs) in
@@ -44,4 +44,4 @@ returns c =
     c.loop-k.invariant.row ∙ ap light (take_all c.loop-k.k (row w cells y) (omega (arith, length-row w cells y square last))) in
     let v : c.loop-k.v ≡ light (column w cells y) =
     c.loop-k.invariant.column ∙ ap light (take_all c.loop-k.k (column w cells y) (omega (arith, length-column w cells y))) in
-    omega (arith, h, v)
+    grind (arith, common_steps, h, v)
