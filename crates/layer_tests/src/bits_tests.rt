@@ -7,6 +7,8 @@ mod part_tests;
 use qrcode_base::mode::{AlphanumericMode, EncodingMode};
 use qrcode_base::types::{EcLevel, Mode, QrError, QrResult, Version};
 use qrcode_bits::bits::{Bits, EncodingModes, ExtendedMode};
+use std::alloc::Global;
+use std::process::Abort;
 
 /// One push.
 #[derive(Clone, Copy)]
@@ -89,27 +91,28 @@ impl Push {
     }
 }
 
-/// Pushes that succeed, one push more with its answer, and where it succeeds what is there then.
-#[derive(Drop)]
-pub struct Row<'a> {
-    version: Version,
-    first: &'a [Push],
-    last: Push,
-    answer: QrResult<()>,
-    len: usize,
-    payload: usize,
-    modes: &'a [Mode],
-    bytes: &'a [u8],
-}
+/// Pushes that succeed, one push more that does too, and what is there then: bits, payload, modes and bytes.
+pub type Accepted = (
+    Version,
+    &'static [Push],
+    Push,
+    usize,
+    usize,
+    &'static [Mode],
+    &'static [u8],
+);
+
+/// Pushes that succeed, and one push more with its refusal.
+pub type Refused = (Version, &'static [Push], Push, QrError);
 
 /// Empty bits of a version.
-fn started(rt: &HostRuntime, version: Version) -> Bits {
+fn started(alloc: Global, version: Version) -> Bits {
     match version {
-        Version::Micro(1) => Bits::new(rt.alloc(), Version::Micro(1)),
-        Version::Micro(2) => Bits::new(rt.alloc(), Version::Micro(2)),
-        Version::Micro(3) => Bits::new(rt.alloc(), Version::Micro(3)),
-        Version::Micro(_) => Bits::new(rt.alloc(), Version::Micro(4)),
-        Version::Normal(number) => Bits::new(rt.alloc(), Version::Normal(number)),
+        Version::Micro(1) => Bits::new(alloc, Version::Micro(1)),
+        Version::Micro(2) => Bits::new(alloc, Version::Micro(2)),
+        Version::Micro(3) => Bits::new(alloc, Version::Micro(3)),
+        Version::Micro(_) => Bits::new(alloc, Version::Micro(4)),
+        Version::Normal(number) => Bits::new(alloc, Version::Normal(number)),
     }
 }
 
@@ -119,8 +122,8 @@ fn has_modes(set: EncodingModes, modes: &[Mode]) -> bool {
 }
 
 /// The stream after some pushes, which succeed.
-fn pushed(rt: &HostRuntime, version: Version, pushes: &[Push]) -> QrResult<Bits> {
-    let mut bits = started(rt, version);
+fn pushed(alloc: Global, version: Version, pushes: &[Push]) -> QrResult<Bits> {
+    let mut bits = started(alloc, version);
     for push in pushes {
         push.apply(&mut bits)?;
     }
@@ -128,28 +131,46 @@ fn pushed(rt: &HostRuntime, version: Version, pushes: &[Push]) -> QrResult<Bits>
 }
 
 /// Whether the row comes out.
-pub fn holds(rt: &HostRuntime, row: &Row) -> QrResult<bool> {
-    let mut bits = pushed(rt, row.version, row.first)?;
-    row.last.apply(&mut bits)?;
-    let told = bits.len() == row.len && bits.payload_bits_len() == row.payload;
-    let noted = has_modes(bits.encoding_modes(), row.modes) && bits.version() == row.version;
-    Ok(told && noted && bits.into_bytes().as_slice() == row.bytes)
+fn holds(alloc: Global, row: &Accepted) -> QrResult<bool> {
+    let (version, first, last, len, payload, modes, bytes) = *row;
+    let mut bits = pushed(alloc, version, first)?;
+    last.apply(&mut bits)?;
+    let told = bits.len() == len && bits.payload_bits_len() == payload;
+    let noted = has_modes(bits.encoding_modes(), modes) && bits.version() == version;
+    Ok(told && noted && bits.into_bytes().as_slice() == bytes)
+}
+
+/// Each row comes out.
+pub fn all_hold(rt: &impl Abort, alloc: Global, rows: &[Accepted]) -> QrResult<()> {
+    for (place, row) in rows.iter().enumerate() {
+        assert!(rt; holds(alloc, row)?, "row {place}");
+    }
+    Ok(())
 }
 
 /// Whether the push is refused so, and leaves length, payload, modes, version and bits as they were.
-pub fn leaves_all(rt: &HostRuntime, row: &Row) -> QrResult<bool> {
-    let before = pushed(rt, row.version, row.first)?;
-    let mut after = pushed(rt, row.version, row.first)?;
-    let answer = row.last.apply(&mut after);
+fn leaves_all(alloc: Global, row: &Refused) -> QrResult<bool> {
+    let (version, first, last, error) = *row;
+    let before = pushed(alloc, version, first)?;
+    let mut after = pushed(alloc, version, first)?;
+    let answer = last.apply(&mut after);
     let told = before.len() == after.len()
         && before.payload_bits_len() == after.payload_bits_len()
         && before.encoding_modes() == after.encoding_modes()
         && before.version() == after.version();
     Ok(
-        answer == row.answer
+        answer == Err(error)
             && told
             && before.into_bytes().as_slice() == after.into_bytes().as_slice(),
     )
+}
+
+/// Each row is refused.
+pub fn all_leave(rt: &impl Abort, alloc: Global, rows: &[Refused]) -> QrResult<()> {
+    for (place, row) in rows.iter().enumerate() {
+        assert!(rt; leaves_all(alloc, row)?, "row {place}");
+    }
+    Ok(())
 }
 
 pub const ONE: Version = Version::Normal(1);
@@ -160,133 +181,90 @@ pub const M3: Version = Version::Micro(3);
 
 pub const M4: Version = Version::Micro(4);
 
-/// A row of pushes that all go well.
-pub const fn accepted<'a>(
-    version: Version,
-    first: &'a [Push],
-    last: Push,
-    len: usize,
-    payload: usize,
-    modes: &'a [Mode],
-    bytes: &'a [u8],
-) -> Row<'a> {
-    Row {
-        version,
-        first,
-        last,
-        answer: Ok(()),
-        len,
-        payload,
-        modes,
-        bytes,
-    }
-}
-
-/// A row whose last push is refused.
-pub const fn refused<'a>(
-    version: Version,
-    first: &'a [Push],
-    last: Push,
-    error: QrError,
-) -> Row<'a> {
-    Row {
-        version,
-        first,
-        last,
-        answer: Err(error),
-        len: 0,
-        payload: 0,
-        modes: &[],
-        bytes: &[],
-    }
-}
-
 pub const DIGITS: &[Mode] = &[Mode::Numeric];
 
 pub const BYTES: &[Mode] = &[Mode::Byte];
 
+static ENDINGS: [Accepted; 9] = [
+    (
+        ONE,
+        &[],
+        Push::Numeric(b"01234567"),
+        41,
+        41,
+        DIGITS,
+        &[0x10, 0x20, 0x0c, 0x56, 0x61, 0x80],
+    ),
+    (
+        ONE,
+        &[],
+        Push::Kanji(&[0x93, 0x5f, 0xe4, 0xaa]),
+        38,
+        38,
+        &[Mode::Kanji],
+        &[0x80, 0x26, 0xcf, 0xea, 0xa8],
+    ),
+    (ONE, &[], Push::Byte(&[]), 12, 12, BYTES, &[0x40, 0]),
+    (
+        ONE,
+        &[Push::Number(3, 5)],
+        Push::Byte(&[0xff, 0]),
+        31,
+        31,
+        BYTES,
+        &[0xa8, 0x05, 0xfe, 0],
+    ),
+    (
+        ONE,
+        &[Push::Numeric(b"01234567")],
+        Push::Terminator(EcLevel::M),
+        128,
+        41,
+        DIGITS,
+        &[
+            0x10, 0x20, 0x0c, 0x56, 0x61, 0x80, 0xec, 0x11, 0xec, 0x11, 0xec, 0x11, 0xec, 0x11,
+            0xec, 0x11,
+        ],
+    ),
+    (
+        M3,
+        &[],
+        Push::Terminator(EcLevel::L),
+        88,
+        0,
+        &[],
+        &[0, 0xec, 0x11, 0xec, 0x11, 0xec, 0x11, 0xec, 0x11, 0xec, 0],
+    ),
+    (
+        M3,
+        &[],
+        Push::Terminator(EcLevel::M),
+        72,
+        0,
+        &[],
+        &[0, 0xec, 0x11, 0xec, 0x11, 0xec, 0x11, 0xec, 0],
+    ),
+    (
+        M1,
+        &[Push::Numeric(b"123")],
+        Push::Terminator(EcLevel::L),
+        24,
+        13,
+        DIGITS,
+        &[0x63, 0xd8, 0],
+    ),
+    (
+        M3,
+        &[Push::Numeric(b"00000000000000000000")],
+        Push::Terminator(EcLevel::L),
+        88,
+        74,
+        DIGITS,
+        &[0x28, 0, 0, 0, 0, 0, 0, 0, 0, 0, 0],
+    ),
+];
+
 #[test]
 fn data_and_terminators(rt: HostRuntime) -> QrResult<()> {
-    let rows = [
-        accepted(
-            ONE,
-            &[],
-            Push::Numeric(b"01234567"),
-            41,
-            41,
-            DIGITS,
-            &[0x10, 0x20, 0x0c, 0x56, 0x61, 0x80],
-        ),
-        accepted(
-            ONE,
-            &[],
-            Push::Kanji(&[0x93, 0x5f, 0xe4, 0xaa]),
-            38,
-            38,
-            &[Mode::Kanji],
-            &[0x80, 0x26, 0xcf, 0xea, 0xa8],
-        ),
-        accepted(ONE, &[], Push::Byte(&[]), 12, 12, BYTES, &[0x40, 0]),
-        accepted(
-            ONE,
-            &[Push::Number(3, 5)],
-            Push::Byte(&[0xff, 0]),
-            31,
-            31,
-            BYTES,
-            &[0xa8, 0x05, 0xfe, 0],
-        ),
-        accepted(
-            ONE,
-            &[Push::Numeric(b"01234567")],
-            Push::Terminator(EcLevel::M),
-            128,
-            41,
-            DIGITS,
-            &[
-                0x10, 0x20, 0x0c, 0x56, 0x61, 0x80, 0xec, 0x11, 0xec, 0x11, 0xec, 0x11, 0xec, 0x11,
-                0xec, 0x11,
-            ],
-        ),
-        accepted(
-            M3,
-            &[],
-            Push::Terminator(EcLevel::L),
-            88,
-            0,
-            &[],
-            &[0, 0xec, 0x11, 0xec, 0x11, 0xec, 0x11, 0xec, 0x11, 0xec, 0],
-        ),
-        accepted(
-            M3,
-            &[],
-            Push::Terminator(EcLevel::M),
-            72,
-            0,
-            &[],
-            &[0, 0xec, 0x11, 0xec, 0x11, 0xec, 0x11, 0xec, 0],
-        ),
-        accepted(
-            M1,
-            &[Push::Numeric(b"123")],
-            Push::Terminator(EcLevel::L),
-            24,
-            13,
-            DIGITS,
-            &[0x63, 0xd8, 0],
-        ),
-        accepted(
-            M3,
-            &[Push::Numeric(b"00000000000000000000")],
-            Push::Terminator(EcLevel::L),
-            88,
-            74,
-            DIGITS,
-            &[0x28, 0, 0, 0, 0, 0, 0, 0, 0, 0, 0],
-        ),
-    ];
-    for row in &rows {
-        assert!(rt; holds(&rt, row)?);
-    }
-    Ok(())
+    all_hold(&rt, rt.alloc(), &ENDINGS)
 }

@@ -21,13 +21,13 @@ pub(crate) const fn segment(mode: Mode, begin: usize, end: usize) -> Segment {
 }
 
 /// The plan of segments whose costs are linear, by the iterator.
-fn given(rt: &HostRuntime, segments: &[Segment], version: Version) -> QrResult<Vec<Segment>>
+fn given(alloc: Global, segments: &[Segment], version: Version) -> QrResult<Vec<Segment>>
     requires micro { HasMicroNumber version }
     requires linear { 2 ≤ length segments.now → HasLinearCosts segments.now version }
 {
-    let plan = Optimizer::new(rt.alloc(), segments.iter().copied(), version)?;
+    let plan = Optimizer::new(alloc, segments.iter().copied(), version)?;
     let count = plan.len();
-    let parts: Vec<Segment> = plan.collect(rt.alloc())?;
+    let parts: Vec<Segment> = plan.collect(alloc)?;
     if parts.len() == count {
         Ok(parts)
     } else {
@@ -36,14 +36,14 @@ fn given(rt: &HostRuntime, segments: &[Segment], version: Version) -> QrResult<V
 }
 
 /// The plan of segments whose costs are linear, by the call and by the iterator.
-fn planned(rt: &HostRuntime, segments: &[Segment], version: Version) -> QrResult<Vec<Segment>>
+fn planned(alloc: Global, segments: &[Segment], version: Version) -> QrResult<Vec<Segment>>
     requires { HasMicroNumber version }
 {
     if segments.len() >= 2 && !supports_linear_costs(segments, version) {
         return Err(QrError::DataTooLong);
     }
-    let plan = optimize_segments(rt.alloc(), segments, version)?;
-    let again = given(rt, segments, version)?;
+    let plan = optimize_segments(alloc, segments, version)?;
+    let again = given(alloc, segments, version)?;
     if again.as_slice() == plan.as_slice() {
         Ok(plan)
     } else {
@@ -64,76 +64,119 @@ pub(crate) fn bits_of(segments: &[Segment], version: Version) -> usize
     bits
 }
 
+/// A segment as rows name it: mode, begin and end.
+type Part = (Mode, usize, usize);
+
+/// The segments of a row.
+fn segments_of(alloc: Global, parts: &[Part]) -> QrResult<Vec<Segment>> {
+    let mut segments = Vec::with_capacity(alloc, parts.len())?;
+    for (mode, begin, end) in parts {
+        segments.push(segment(*mode, *begin, *end))?;
+    }
+    Ok(segments)
+}
+
+const SHORT_DIGITS: &[Part] = &[(Mode::Numeric, 0, 3), (Mode::Alphanumeric, 3, 4)];
+
+const TIE: &[Part] = &[
+    (Mode::Numeric, 0, 7),
+    (Mode::Alphanumeric, 7, 8),
+    (Mode::Numeric, 8, 15),
+];
+
+const PLAN_OF_TIE: &[Part] = &[(Mode::Alphanumeric, 0, 8), (Mode::Numeric, 8, 15)];
+
+const BACKWARDS: &[Part] = &[(Mode::Byte, 2, 1)];
+
+/// Segments, the version, their plan and its bits.
+static PLANS: [(&[Part], Version, &[Part], usize); 5] = [
+    (TIE, ONE, PLAN_OF_TIE, 95),
+    (
+        &[
+            (Mode::Numeric, 0, 7),
+            (Mode::Alphanumeric, 7, 8),
+            (Mode::Numeric, 8, 9),
+        ],
+        ONE,
+        &[(Mode::Numeric, 0, 7), (Mode::Alphanumeric, 7, 9)],
+        62,
+    ),
+    (SHORT_DIGITS, Version::Micro(2), SHORT_DIGITS, 25),
+    (
+        SHORT_DIGITS,
+        Version::Micro(3),
+        &[(Mode::Alphanumeric, 0, 4)],
+        28,
+    ),
+    (BACKWARDS, ONE, BACKWARDS, 0),
+];
+
+/// The bits of the plan of a row, which is the one that is wanted.
+fn bits_of_plan(
+    alloc: Global,
+    parts: &[Part],
+    version: Version,
+    wanted: &[Part],
+) -> QrResult<Option<usize>>
+    requires { HasMicroNumber version }
+{
+    let plan = planned(alloc, &segments_of(alloc, parts)?, version)?;
+    let is_wanted = plan.as_slice() == segments_of(alloc, wanted)?.as_slice();
+    Ok(is_wanted.then(|| bits_of(&plan, version)))
+}
+
 #[test]
 fn chosen_plans(rt: HostRuntime) -> QrResult<()> {
-    let digits = [
-        segment(Mode::Numeric, 0, 3),
-        segment(Mode::Alphanumeric, 3, 4),
-    ];
-    let tie = [
-        segment(Mode::Numeric, 0, 7),
-        segment(Mode::Alphanumeric, 7, 8),
-        segment(Mode::Numeric, 8, 15),
-    ];
-    let mut short = tie;
-    short[2] = segment(Mode::Numeric, 8, 9);
-    let plan = planned(&rt, &tie, ONE)?;
-    assert!(rt;
-        plan.as_slice()
-            == [
-                segment(Mode::Alphanumeric, 0, 8),
-                segment(Mode::Numeric, 8, 15)
-            ]
-            .as_slice()
-    );
-    assert_eq!(rt; bits_of(&plan, ONE), 95);
-    let plan = planned(&rt, &short, ONE)?;
-    assert!(rt;
-        plan.as_slice()
-            == [
-                segment(Mode::Numeric, 0, 7),
-                segment(Mode::Alphanumeric, 7, 9)
-            ]
-            .as_slice()
-    );
-    let plan = planned(&rt, &digits, Version::Micro(2))?;
-    assert!(rt; plan.as_slice() == digits.as_slice() && bits_of(&plan, Version::Micro(2)) == 25);
-    let plan = planned(&rt, &digits, Version::Micro(3))?;
-    assert!(rt;
-        plan.as_slice() == [segment(Mode::Alphanumeric, 0, 4)].as_slice()
-            && bits_of(&plan, Version::Micro(3)) == 28
-    );
-    let backwards = [segment(Mode::Byte, 2, 1)];
-    let plan = planned(&rt, &backwards, ONE)?;
-    assert!(rt; plan.as_slice() == backwards.as_slice());
+    for (parts, version, wanted, bits) in &PLANS {
+        assert_eq!(rt;
+            bits_of_plan(rt.alloc(), parts, *version, wanted)?,
+            Some(*bits)
+        );
+    }
     Ok(())
+}
+
+/// So many letters and digits in turn, each a segment.
+fn in_turn(alloc: Global, count: usize) -> QrResult<Vec<Segment>> {
+    let mut segments = Vec::new(alloc);
+    for place in 0..count {
+        let mode = if place % 2 == 0 {
+            Mode::Alphanumeric
+        } else {
+            Mode::Numeric
+        };
+        segments.push(segment(mode, place, place + 1))?;
+    }
+    Ok(segments)
 }
 
 #[test]
 fn letters_and_digits_in_turn(rt: HostRuntime) -> QrResult<()> {
     for (count, bits) in [(32usize, 189usize), (33, 195), (1024, 5645)] {
-        let mut segments = Vec::new(rt.alloc());
-        for place in 0..count {
-            let mode = if place % 2 == 0 {
-                Mode::Alphanumeric
-            } else {
-                Mode::Numeric
-            };
-            segments.push(segment(mode, place, place + 1))?;
-        }
-        let plan = planned(&rt, &segments, ONE)?;
+        let plan = planned(rt.alloc(), &in_turn(rt.alloc(), count)?, ONE)?;
         assert!(rt; plan.as_slice() == [segment(Mode::Alphanumeric, 0, count)].as_slice());
         assert_eq!(rt; bits_of(&plan, ONE), bits);
     }
     Ok(())
 }
 
+static FAR: [Segment; 2] = [
+    Segment {
+        mode: Mode::Byte,
+        begin: 0,
+        end: 0,
+    },
+    Segment {
+        mode: Mode::Byte,
+        begin: usize::MAX / 4,
+        end: usize::MAX / 4,
+    },
+];
+
 #[test]
 fn linear_costs(rt: HostRuntime) {
     let backwards = [segment(Mode::Byte, 2, 1), segment(Mode::Byte, 2, 1)];
-    let far = usize::MAX / 4;
-    let wide = [segment(Mode::Byte, 0, 0), segment(Mode::Byte, far, far)];
-    assert!(rt; !supports_linear_costs(&backwards, ONE) && !supports_linear_costs(&wide, ONE));
+    assert!(rt; !supports_linear_costs(&backwards, ONE) && !supports_linear_costs(&FAR, ONE));
     assert!(rt; supports_linear_costs(&[], ONE));
     let parts = [
         Segment {
@@ -150,65 +193,83 @@ fn linear_costs(rt: HostRuntime) {
     assert_eq!(rt; total_encoded_len(&parts, ONE), 95);
 }
 
+/// Bytes, and their segments.
+static PARSED: [(&[u8], &[Part]); 3] = [
+    (
+        &[0x82, 0xa0, 0x81, 0x41, 0x41, 0xb1, 0x81, 0xf0],
+        &[
+            (Mode::Kanji, 0, 4),
+            (Mode::Alphanumeric, 4, 5),
+            (Mode::Byte, 5, 6),
+            (Mode::Kanji, 6, 8),
+        ],
+    ),
+    (
+        &[0xeb, 0xe0, 0x40],
+        &[(Mode::Byte, 0, 1), (Mode::Kanji, 1, 3)],
+    ),
+    (&[0xeb, 0xc0], &[(Mode::Byte, 0, 1), (Mode::Byte, 1, 2)]),
+];
+
+/// Whether the parser cuts bytes into these segments.
+fn is_parsed(alloc: Global, bytes: &[u8], parts: &[Part]) -> QrResult<bool> {
+    let all: Vec<Segment> = Parser::new(bytes).collect(alloc)?;
+    Ok(all.as_slice() == segments_of(alloc, parts)?.as_slice())
+}
+
 #[test]
 fn parsed_segments(rt: HostRuntime) -> QrResult<()> {
-    let all: Vec<Segment> = Parser::new(&[0x82, 0xa0, 0x81, 0x41, 0x41, 0xb1, 0x81, 0xf0]).collect(
-        rt.alloc(),
-    )?;
-    let wanted = [
-        segment(Mode::Kanji, 0, 4),
-        segment(Mode::Alphanumeric, 4, 5),
-        segment(Mode::Byte, 5, 6),
-        segment(Mode::Kanji, 6, 8),
-    ];
-    assert!(rt; all.as_slice() == wanted.as_slice());
-    let all: Vec<Segment> = Parser::new(&[0xeb, 0xe0, 0x40]).collect(rt.alloc())?;
-    assert!(rt;
-        all.as_slice() == [segment(Mode::Byte, 0, 1), segment(Mode::Kanji, 1, 3)].as_slice()
-    );
-    let all: Vec<Segment> = Parser::new(&[0xeb, 0xc0]).collect(rt.alloc())?;
-    assert!(rt;
-        all.as_slice() == [segment(Mode::Byte, 0, 1), segment(Mode::Byte, 1, 2)].as_slice()
-    );
+    for (bytes, parts) in &PARSED {
+        assert!(rt; is_parsed(rt.alloc(), bytes, parts)?);
+    }
+    Ok(())
+}
+
+#[test]
+fn plan_of_a_text(rt: HostRuntime) -> QrResult<()> {
     let plan = Parser::new(b"ABC123abcd").optimize(rt.alloc(), ONE)?;
     let plan: Vec<Segment> = plan.collect(rt.alloc())?;
-    assert!(rt;
-        plan.as_slice()
-            == [
-                segment(Mode::Alphanumeric, 0, 6),
-                segment(Mode::Byte, 6, 10)
-            ]
-            .as_slice()
-    );
+    let wanted = segments_of(
+        rt.alloc(),
+        &[(Mode::Alphanumeric, 0, 6), (Mode::Byte, 6, 10)],
+    )?;
+    assert!(rt; plan.as_slice() == wanted.as_slice());
     assert_eq!(rt; bits_of(&plan, ONE), 90);
     Ok(())
 }
 
-/// Segments of texts in UTF-8, as the original crate cuts them: bytes of one character can be pairs of the Kanji mode.
+/// Texts in UTF-8, and their segments as the original crate cuts them: bytes of one character can be pairs of the Kanji
+/// mode.
+static PARSED_UTF_8: [(&str, &[Part]); 2] = [
+    (
+        "\u{20ac}50 Z\u{fc}rich 2024",
+        &[
+            (Mode::Kanji, 0, 2),
+            (Mode::Byte, 2, 3),
+            (Mode::Numeric, 3, 5),
+            (Mode::Alphanumeric, 5, 7),
+            (Mode::Byte, 7, 13),
+            (Mode::Alphanumeric, 13, 14),
+            (Mode::Numeric, 14, 18),
+        ],
+    ),
+    (
+        "\u{1f600}A1",
+        &[
+            (Mode::Byte, 0, 1),
+            (Mode::Kanji, 1, 3),
+            (Mode::Byte, 3, 4),
+            (Mode::Alphanumeric, 4, 5),
+            (Mode::Numeric, 5, 6),
+        ],
+    ),
+];
+
 #[test]
 fn parsed_utf_8(rt: HostRuntime) -> QrResult<()> {
-    let text = "\u{20ac}50 Z\u{fc}rich 2024";
-    let all: Vec<Segment> = Parser::new(text.as_bytes()).collect(rt.alloc())?;
-    let wanted = [
-        segment(Mode::Kanji, 0, 2),
-        segment(Mode::Byte, 2, 3),
-        segment(Mode::Numeric, 3, 5),
-        segment(Mode::Alphanumeric, 5, 7),
-        segment(Mode::Byte, 7, 13),
-        segment(Mode::Alphanumeric, 13, 14),
-        segment(Mode::Numeric, 14, 18),
-    ];
-    assert!(rt; all.as_slice() == wanted.as_slice());
-    let text = "\u{1f600}A1";
-    let all: Vec<Segment> = Parser::new(text.as_bytes()).collect(rt.alloc())?;
-    let wanted = [
-        segment(Mode::Byte, 0, 1),
-        segment(Mode::Kanji, 1, 3),
-        segment(Mode::Byte, 3, 4),
-        segment(Mode::Alphanumeric, 4, 5),
-        segment(Mode::Numeric, 5, 6),
-    ];
-    assert!(rt; all.as_slice() == wanted.as_slice());
+    for (text, parts) in &PARSED_UTF_8 {
+        assert!(rt; is_parsed(rt.alloc(), text.as_bytes(), parts)?, "at {text}");
+    }
     Ok(())
 }
 
@@ -239,20 +300,12 @@ fn plan_by_count(alloc: Global, segments: &[Segment], version: Version) -> QrRes
 
 #[test]
 fn counted_plans(rt: HostRuntime) -> QrResult<()> {
-    let segments = [
-        segment(Mode::Numeric, 0, 7),
-        segment(Mode::Alphanumeric, 7, 8),
-        segment(Mode::Numeric, 8, 15),
-    ];
+    let segments = segments_of(rt.alloc(), TIE)?;
     if !supports_linear_costs(&segments, ONE) {
         return Err(QrError::DataTooLong);
     }
     let plan = plan_by_count(rt.alloc(), &segments, ONE)?;
-    let wanted = [
-        segment(Mode::Alphanumeric, 0, 8),
-        segment(Mode::Numeric, 8, 15),
-    ];
-    assert!(rt; plan.as_slice() == wanted.as_slice());
+    assert!(rt; plan.as_slice() == segments_of(rt.alloc(), PLAN_OF_TIE)?.as_slice());
     assert_eq!(rt; bits_of(&plan, ONE), 95);
     Ok(())
 }

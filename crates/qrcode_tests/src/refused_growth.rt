@@ -21,11 +21,11 @@ use qrcode_core::types::{EcLevel, Mode, QrError, QrResult, Version};
 const ONE: Version = Version::Normal(1);
 
 /// The data codewords of `HELLO WORLD` in version 1 at level M, and their correction.
-const HELLO_WORLD: [u8; 16] = [
+static HELLO_WORLD: [u8; 16] = [
     0x20, 0x5b, 0x0b, 0x78, 0xd1, 0x72, 0xdc, 0x4d, 0x43, 0x40, 0xec, 0x11, 0xec, 0x11, 0xec, 0x11,
 ];
 
-const HELLO_WORLD_CORRECTION: [u8; 10] = [
+static HELLO_WORLD_CORRECTION: [u8; 10] = [
     0xc4, 0x23, 0x27, 0x77, 0xeb, 0xd7, 0xe7, 0xe2, 0x5d, 0x17,
 ];
 

@@ -113,7 +113,7 @@ fn printed(
 }
 
 /// The texts of the errors, with `x` as the kept text.
-const ERROR_TEXTS: [&str; 8] = [
+static ERROR_TEXTS: [&str; 8] = [
     "renderer plugin not found: x",
     "encoder plugin not found: x",
     "invalid plugin config: x",

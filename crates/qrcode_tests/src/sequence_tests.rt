@@ -18,7 +18,7 @@ struct Row {
     parity: u8,
 }
 
-const ROWS: [Row; 6] = [
+static ROWS: [Row; 6] = [
     Row {
         bytes: b"AB12cd",
         cuts: &[2, 4],
@@ -83,12 +83,12 @@ fn grids(alloc: Global, row: &Row) -> Option<Vec<Vec<Color>>> {
 
 #[test]
 fn draws_each_part(rt: HostRuntime) -> Result<(), Fail> {
-    for row in ROWS {
-        let grids = grids(rt.alloc(), &row).ok_or("no symbols")?;
+    for row in &ROWS {
+        let grids = grids(rt.alloc(), row).ok_or("no symbols")?;
         assert_eq!(rt; grids.len(), row.symbols.len());
         for (index, grid) in grids.iter().enumerate() {
             let seen = read(rt.alloc(), grid).ok_or("no symbol")?;
-            is_part(&rt, &seen, &row, index)?;
+            is_part(&rt, &seen, row, index)?;
         }
     }
     Ok(())
@@ -106,7 +106,7 @@ fn is_part(rt: &impl Abort, seen: &Seen, row: &Row, index: usize) -> Result<(), 
 }
 
 /// The hashes of the symbols of the third row, which are those of the original crate's.
-const SIXTEEN: [u32; 16] = [
+static SIXTEEN: [u32; 16] = [
     0x345666eb, 0x9f199b39, 0xb06ad7e3, 0xe7e97707, 0x001794e7, 0x38e1dccd, 0x24994a97, 0x58d81acf,
     0x2329c377, 0xf6ae5043, 0xe5436a69, 0x11891f6d, 0x528fd71b, 0xe75e49cb, 0xc64aa0d7, 0x543a66a9,
 ];
@@ -132,7 +132,7 @@ fn codewords(alloc: Global, row: &Row, index: usize) -> Option<Vec<u8>> {
 }
 
 /// The first symbol of the first row, both of the second and the last of the third.
-const CODEWORDS: [(usize, usize, [u8; 19]); 4] = [
+static CODEWORDS: [(usize, usize, [u8; 19]); 4] = [
     (
         0,
         0,
@@ -169,9 +169,9 @@ const CODEWORDS: [(usize, usize, [u8; 19]); 4] = [
 
 #[test]
 fn writes_header_and_part(rt: HostRuntime) -> Result<(), Fail> {
-    for (row, index, wanted) in CODEWORDS {
-        let row = ROWS.get(row).ok_or("no row")?;
-        let codewords = codewords(rt.alloc(), row, index).ok_or("no symbol")?;
+    for (row, index, wanted) in &CODEWORDS {
+        let row = ROWS.get(*row).ok_or("no row")?;
+        let codewords = codewords(rt.alloc(), row, *index).ok_or("no symbol")?;
         assert_eq!(rt; codewords.as_slice(), wanted.as_slice());
     }
     Ok(())
@@ -206,8 +206,8 @@ fn all_modules(alloc: Global, grids: &[Vec<Color>]) -> Option<Vec<Vec<bool>>> {
 
 #[test]
 fn reads_in_any_order(rt: HostRuntime) -> Result<(), Fail> {
-    for row in ROWS {
-        let grids = grids(rt.alloc(), &row).ok_or("no symbols")?;
+    for row in &ROWS {
+        let grids = grids(rt.alloc(), row).ok_or("no symbols")?;
         let symbols = all_modules(rt.alloc(), &grids).ok_or("no memory")?;
         for order in &whole_orders(rt.alloc(), grids.len()).ok_or("no order")? {
             let message = read_sequence(rt.alloc(), &symbols, order).ok_or("no message")?;
@@ -220,35 +220,35 @@ fn reads_in_any_order(rt: HostRuntime) -> Result<(), Fail> {
     Ok(())
 }
 
+/// Data, its cuts and the greatest version, with the refusal.
+static REFUSED: [(&[u8], &[usize], i16, QrError); 6] = [
+    (
+        b"AB12cd",
+        &[],
+        40,
+        QrError::InvalidStructuredAppend { value: 1 },
+    ),
+    (b"AB12cd", &[2, 4], 41, QrError::InvalidResourceLimits),
+    (b"", &[], 0, QrError::InvalidResourceLimits),
+    (
+        b"",
+        &[0; 16],
+        40,
+        QrError::InvalidStructuredAppend { value: 17 },
+    ),
+    (
+        b"",
+        &[0; 300],
+        40,
+        QrError::InvalidStructuredAppend { value: 255 },
+    ),
+    (&[b'a'; 31], &[15], 1, QrError::DataTooLong),
+];
+
 #[test]
 fn refuses_sequences(rt: HostRuntime) {
-    let many = [0; 300];
-    let long = [b'a'; 31];
-    let rows: [(&[u8], &[usize], i16, QrError); 6] = [
-        (
-            b"AB12cd",
-            &[],
-            40,
-            QrError::InvalidStructuredAppend { value: 1 },
-        ),
-        (b"AB12cd", &[2, 4], 41, QrError::InvalidResourceLimits),
-        (b"", &[], 0, QrError::InvalidResourceLimits),
-        (
-            b"",
-            &many[..16],
-            40,
-            QrError::InvalidStructuredAppend { value: 17 },
-        ),
-        (
-            b"",
-            &many,
-            40,
-            QrError::InvalidStructuredAppend { value: 255 },
-        ),
-        (&long, &[15], 1, QrError::DataTooLong),
-    ];
-    for (bytes, cuts, limit, error) in rows {
-        let refused = answer(rt.alloc(), bytes, cuts, limit).and_then(|answer| answer.err());
-        assert_eq!(rt; refused, Some(error));
+    for (bytes, cuts, limit, error) in &REFUSED {
+        let refused = answer(rt.alloc(), bytes, cuts, *limit).and_then(|answer| answer.err());
+        assert_eq!(rt; refused, Some(*error));
     }
 }

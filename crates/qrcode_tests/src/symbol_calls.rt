@@ -9,7 +9,7 @@ use std::process::Abort;
 use std::test::Fail;
 
 /// The rows of the symbol of `12345` in M1, dark as one (ISO/IEC 18004 has none; the original crate draws it so).
-const ROWS: [u16; 11] = [
+static ROWS: [u16; 11] = [
     0b11111110101,
     0b10000010110,
     0b10111010100,

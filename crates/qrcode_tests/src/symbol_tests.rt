@@ -4,7 +4,7 @@ use qrcode_core::symbol::{symbol, symbol_micro};
 use qrcode_core::types::{EcLevel, QrError};
 use std::alloc::Global;
 
-const LEVELS: [EcLevel; 4] = [EcLevel::L, EcLevel::M, EcLevel::Q, EcLevel::H];
+static LEVELS: [EcLevel; 4] = [EcLevel::L, EcLevel::M, EcLevel::Q, EcLevel::H];
 
 /// An input of a kind: digits, signs, bytes, pairs of Shift JIS, all of them in turn, or one of three other rows.
 fn input(alloc: Global, kind: usize, count: usize) -> Option<Vec<u8>> {
@@ -43,7 +43,7 @@ fn input(alloc: Global, kind: usize, count: usize) -> Option<Vec<u8>> {
 /// Answers of the original crate (2.2.0, built as it is): kind and length of the input, level, whether Micro, how many
 /// modules, payload bits, hash of the modules; where it refuses, 1 for DataTooLong and 2 for InvalidVersion in place of
 /// the modules.
-const ANSWERS: [(usize, usize, usize, bool, usize, usize, u32); 100] = [
+static ANSWERS: [(usize, usize, usize, bool, usize, usize, u32); 100] = [
     (0, 41, 0, false, 441, 151, 0xeced6fbb),
     (0, 3058, 0, false, 14641, 10210, 0xe49f6242),
     (1, 395, 0, false, 3249, 2188, 0x0e2bdcf1),
@@ -178,7 +178,8 @@ fn answer(
 
 #[test]
 fn answers_as_the_original(rt: HostRuntime) {
-    for (kind, count, level, micro, modules, payload, sum) in ANSWERS {
+    for row in &ANSWERS {
+        let (kind, count, level, micro, modules, payload, sum) = *row;
         let got = answer(rt.alloc(), kind, count, level, micro);
         assert_eq!(rt;
             got,

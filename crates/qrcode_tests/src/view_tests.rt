@@ -12,7 +12,7 @@ use std::alloc::{AllocError, Global};
 use std::test::Fail;
 
 /// The symbol of `12345` in M1, a row a number, dark as one.
-const SYMBOL: [u16; 11] = [
+static SYMBOL: [u16; 11] = [
     0b11111110101,
     0b10000010110,
     0b10111010100,
@@ -27,7 +27,7 @@ const SYMBOL: [u16; 11] = [
 ];
 
 /// What is printed of it.
-const PRINTED: [&str; 11] = [
+static PRINTED: [&str; 11] = [
     "#######.#.#",
     "#.....#.##.",
     "#.###.#.#..",
@@ -57,7 +57,7 @@ fn colors(alloc: Global, text: &str) -> Result<Vec<Color>, AllocError> {
 /// The colors of the symbol.
 fn symbol_colors(alloc: Global) -> Result<Vec<Color>, AllocError> {
     let mut list = Vec::new(alloc);
-    for row in SYMBOL {
+    for row in &SYMBOL {
         for column in 0..11u32 {
             let is_dark = (row >> (10 - column)) & 1 == 1;
             list.push(if is_dark { Color::Dark } else { Color::Light })?;
@@ -193,26 +193,28 @@ pub(crate) fn grid_of_text(
     ModuleGrid::new(colors(alloc, text)?, width, height)
 }
 
+/// The greatest version, the greatest size and the milliseconds of limits, and whether they are valid.
+static LIMITS: [(Version, (u32, u32), Option<u64>, bool); 8] = [
+    (Version::Normal(40), (4096, 4096), None, true),
+    (Version::Normal(1), (1, 1), Some(1), true),
+    (Version::Normal(0), (1, 1), None, false),
+    (Version::Normal(41), (1, 1), None, false),
+    (Version::Micro(4), (1, 1), None, false),
+    (Version::Normal(40), (0, 1), None, false),
+    (Version::Normal(40), (1, 0), None, false),
+    (Version::Normal(40), (1, 1), Some(0), false),
+];
+
 #[test]
 fn limits_are_validated(rt: HostRuntime) {
-    let normal = Version::Normal(40);
-    for (version, size, time, want) in [
-        (normal, (4096, 4096), None, true),
-        (Version::Normal(1), (1, 1), Some(1), true),
-        (Version::Normal(0), (1, 1), None, false),
-        (Version::Normal(41), (1, 1), None, false),
-        (Version::Micro(4), (1, 1), None, false),
-        (normal, (0, 1), None, false),
-        (normal, (1, 0), None, false),
-        (normal, (1, 1), Some(0), false),
-    ] {
-        let mut limits = ResourceLimits::new(7089, version, size);
-        if let Some(millis) = time {
+    for (version, size, time, want) in &LIMITS {
+        let mut limits = ResourceLimits::new(7089, *version, *size);
+        if let Some(millis) = *time {
             limits = limits.with_encoding_timeout_millis(millis);
         }
-        assert_eq!(rt; limits.validate().is_ok(), want);
+        assert_eq!(rt; limits.validate().is_ok(), *want);
     }
-    let default = ResourceLimits::new(7089, normal, (4096, 4096));
+    let default = ResourceLimits::new(7089, Version::Normal(40), (4096, 4096));
     assert_eq!(rt; ResourceLimits::default(), default);
 }
 

@@ -6,12 +6,14 @@ use qrcode_bits::bits::{
     find_min_version,
 };
 use qrcode_bits::optimize::Segment;
+use std::alloc::Global;
+use std::process::Abort;
 
 const ONE: Version = Version::Normal(1);
 
 /// So many characters of one kind, that the mode is the least to write.
-fn text_of(rt: &HostRuntime, mode: Mode, count: usize) -> QrResult<Vec<u8>> {
-    let mut text = Vec::new(rt.alloc());
+fn text_of(alloc: Global, mode: Mode, count: usize) -> QrResult<Vec<u8>> {
+    let mut text = Vec::new(alloc);
     for _place in 0..count {
         match mode {
             Mode::Numeric => text.push(b'7')?,
@@ -25,12 +27,12 @@ fn text_of(rt: &HostRuntime, mode: Mode, count: usize) -> QrResult<Vec<u8>> {
 
 /// So many characters pushed into a stream, with the answer.
 fn pushed(
-    rt: &HostRuntime,
+    alloc: Global,
     mut bits: Bits,
     mode: Mode,
     count: usize,
 ) -> QrResult<(QrResult<()>, Bits)> {
-    let text = text_of(rt, mode, count)?;
+    let text = text_of(alloc, mode, count)?;
     let answer = match mode {
         Mode::Numeric => bits.push_numeric_data(&text),
         Mode::Alphanumeric => bits.push_alphanumeric_data(&text),
@@ -40,94 +42,130 @@ fn pushed(
     Ok((answer, bits))
 }
 
+/// Versions and modes, with the most characters that a field tells, and the bits of so many.
+static COUNTS: [(Version, Mode, usize, usize); 4] = [
+    (ONE, Mode::Byte, 255, 2052),
+    (ONE, Mode::Numeric, 1023, 3424),
+    (Version::Micro(4), Mode::Byte, 31, 256),
+    (Version::Micro(3), Mode::Kanji, 7, 96),
+];
+
 #[test]
 fn counts_that_fit_their_field(rt: HostRuntime) -> QrResult<()> {
-    let rows = [
-        (ONE, Mode::Byte, 255, 2052),
-        (ONE, Mode::Numeric, 1023, 3424),
-        (Version::Micro(4), Mode::Byte, 31, 256),
-        (Version::Micro(3), Mode::Kanji, 7, 96),
-    ];
-    for (version, mode, most, len) in rows {
-        let (answer, bits) = pushed(&rt, Bits::new(rt.alloc(), version), mode, most)?;
-        assert_eq!(rt; answer, Ok(()));
-        assert_eq!(rt; (bits.len(), bits.payload_bits_len()), (len, len));
-        assert_eq!(rt; bits.encoding_modes(), EncodingModes::from_mode(mode));
-        let (answer, bits) = pushed(&rt, Bits::new(rt.alloc(), version), mode, most + 1)?;
-        assert_eq!(rt; answer, Err(QrError::DataTooLong));
-        assert_eq!(rt; (bits.len(), bits.payload_bits_len()), (0, 0));
-        assert!(rt; bits.encoding_modes().is_empty() && bits.version() == version);
+    for row in &COUNTS {
+        takes_all(&rt, rt.alloc(), row)?;
+        takes_no_more(&rt, rt.alloc(), row)?;
     }
     Ok(())
+}
+
+/// The most characters go in.
+fn takes_all(rt: &impl Abort, alloc: Global, row: &(Version, Mode, usize, usize)) -> QrResult<()> {
+    let (version, mode, most, len) = *row;
+    let (answer, bits) = pushed(alloc, Bits::new(alloc, version), mode, most)?;
+    assert_eq!(rt;
+        (answer, bits.len(), bits.payload_bits_len()),
+        (Ok(()), len, len)
+    );
+    assert_eq!(rt; bits.encoding_modes(), EncodingModes::from_mode(mode));
+    Ok(())
+}
+
+/// One more is refused, and leaves nothing.
+fn takes_no_more(
+    rt: &impl Abort,
+    alloc: Global,
+    row: &(Version, Mode, usize, usize),
+) -> QrResult<()> {
+    let (version, mode, most, _) = *row;
+    let (answer, bits) = pushed(alloc, Bits::new(alloc, version), mode, more_than(most))?;
+    assert_eq!(rt;
+        (answer, bits.len(), bits.payload_bits_len()),
+        (Err(QrError::DataTooLong), 0, 0)
+    );
+    assert!(rt; bits.encoding_modes().is_empty() && bits.version() == version);
+    Ok(())
+}
+
+/// Eight digits in version 1, ended so many times at level M: the capacity, the payload, and what is left.
+fn ended(alloc: Global, times: usize) -> QrResult<(usize, usize, usize)> {
+    let mut bits = Bits::new(alloc, ONE);
+    bits.push_numeric_data(b"01234567")?;
+    for _time in 0..times {
+        bits.push_terminator(EcLevel::M)?;
+    }
+    Ok((
+        bits.max_len(EcLevel::M)?,
+        bits.payload_bits_len(),
+        bits.remaining_capacity_bits(EcLevel::M)?,
+    ))
 }
 
 #[test]
 fn capacities(rt: HostRuntime) -> QrResult<()> {
-    let mut bits = Bits::new(rt.alloc(), ONE);
-    assert!(rt; bits.is_empty() && bits.version() == ONE && bits.encoding_modes().is_empty());
-    bits.push_numeric_data(b"01234567")?;
-    assert_eq!(rt;
-        (
-            bits.max_len(EcLevel::M)?,
-            bits.remaining_capacity_bits(EcLevel::M)?
-        ),
-        (128, 87)
-    );
-    bits.push_terminator(EcLevel::M)?;
-    assert_eq!(rt;
-        (
-            bits.payload_bits_len(),
-            bits.remaining_capacity_bits(EcLevel::M)?
-        ),
-        (41, 87)
-    );
-    bits.push_terminator(EcLevel::M)?;
-    assert_eq!(rt;
-        (
-            bits.payload_bits_len(),
-            bits.remaining_capacity_bits(EcLevel::M)?
-        ),
-        (128, 0)
-    );
-    let none = Bits::new(rt.alloc(), Version::Normal(0)).max_len(EcLevel::L);
-    assert!(rt;
-        none == Err(QrError::InvalidVersion {
-            version: Version::Normal(0),
-            ec_level: EcLevel::L
-        })
-    );
-    let none = Bits::new(rt.alloc(), Version::Micro(1)).remaining_capacity_bits(EcLevel::M);
-    assert!(rt;
-        none == Err(QrError::InvalidVersion {
-            version: Version::Micro(1),
-            ec_level: EcLevel::M
-        })
-    );
-    for (length, number) in [(0, 1), (152, 1), (153, 2), (23648, 40), (23649, 40)] {
-        assert!(rt; find_min_version(length, EcLevel::L) == Version::Normal(number));
+    for (times, payload, room) in [(0usize, 41usize, 87usize), (1, 41, 87), (2, 128, 0)] {
+        assert_eq!(rt; ended(rt.alloc(), times)?, (128, payload, room));
     }
     Ok(())
 }
 
-/// Bytes behind so many ones, pushed whole and bit by bit.
+#[test]
+fn new_bits_are_empty(rt: HostRuntime) {
+    let bits = Bits::new(rt.alloc(), ONE);
+    assert!(rt; bits.is_empty() && bits.version() == ONE && bits.encoding_modes().is_empty());
+}
+
+#[test]
+fn lacking_versions_have_no_capacity(rt: HostRuntime) {
+    let none = Bits::new(rt.alloc(), Version::Normal(0)).max_len(EcLevel::L);
+    assert!(rt; none == Err(lacking(Version::Normal(0), EcLevel::L)));
+    let none = Bits::new(rt.alloc(), Version::Micro(1)).remaining_capacity_bits(EcLevel::M);
+    assert!(rt; none == Err(lacking(Version::Micro(1), EcLevel::M)));
+}
+
+/// That there is no such symbol.
+fn lacking(version: Version, ec_level: EcLevel) -> QrError {
+    QrError::InvalidVersion { version, ec_level }
+}
+
+#[test]
+fn least_versions_of_lengths(rt: HostRuntime) {
+    for (length, number) in [(0, 1), (152, 1), (153, 2), (23648, 40), (23649, 40)] {
+        assert!(rt; find_min_version(length, EcLevel::L) == Version::Normal(number));
+    }
+}
+
+const TEXT: [u8; 4] = [0xff, 0, 0xa5, 0x3c];
+
+/// Bytes behind so many ones, pushed whole.
+fn whole(alloc: Global, offset: usize, ones: usize) -> QrResult<Bits> {
+    let mut bits = Bits::new(alloc, ONE);
+    bits.push_number_checked(offset, ones)?;
+    bits.push_byte_data(&TEXT)?;
+    Ok(bits)
+}
+
+/// The same, pushed bit by bit.
+fn single(alloc: Global, offset: usize, ones: usize) -> QrResult<Bits> {
+    let mut bits = Bits::new(alloc, ONE);
+    bits.push_number_checked(offset, ones)?;
+    bits.push_number_checked(12, 0x404)?;
+    for byte in TEXT {
+        for place in 0..8usize {
+            bits.push_number_checked(1, usize::from(byte) >> (7 - place) & 1)?;
+        }
+    }
+    Ok(bits)
+}
+
 #[test]
 fn bytes_at_each_offset(rt: HostRuntime) -> QrResult<()> {
-    let text = [0xff, 0, 0xa5, 0x3c];
     for offset in 0..8usize {
         let ones = (1 << offset) - 1;
-        let mut whole = Bits::new(rt.alloc(), ONE);
-        whole.push_number_checked(offset, ones)?;
-        whole.push_byte_data(&text)?;
-        let mut single = Bits::new(rt.alloc(), ONE);
-        single.push_number_checked(offset, ones)?;
-        single.push_number_checked(12, 0x404)?;
-        for byte in text {
-            for place in 0..8usize {
-                single.push_number_checked(1, usize::from(byte) >> (7 - place) & 1)?;
-            }
-        }
-        assert_eq!(rt; whole.len(), offset + 44);
-        assert!(rt; whole.into_bytes().as_slice() == single.into_bytes().as_slice());
+        let bits = whole(rt.alloc(), offset, ones)?;
+        assert_eq!(rt; bits.len(), offset + 44);
+        let same = single(rt.alloc(), offset, ones)?;
+        assert!(rt; bits.into_bytes().as_slice() == same.into_bytes().as_slice());
     }
     Ok(())
 }
@@ -138,141 +176,143 @@ fn taken(bits: QrResult<Bits>) -> QrResult<(Version, usize)> {
     Ok((bits.version(), bits.payload_bits_len()))
 }
 
+/// Numbers of letters and the greatest version, with what they take at level L.
+static LETTERS: [(usize, i16, QrResult<(Version, usize)>); 8] = [
+    (17, 1, Ok((ONE, 148))),
+    (18, 1, Err(QrError::DataTooLong)),
+    (1, 0, Err(QrError::InvalidResourceLimits)),
+    (1, 41, Err(QrError::InvalidResourceLimits)),
+    (230, 40, Ok((Version::Normal(9), 1852))),
+    (231, 40, Ok((Version::Normal(10), 1868))),
+    (2953, 40, Ok((Version::Normal(40), 23644))),
+    (2954, 40, Err(QrError::DataTooLong)),
+];
+
 #[test]
 fn smallest_versions(rt: HostRuntime) -> QrResult<()> {
-    let mut letters = Vec::new(rt.alloc());
-    let mut digits = Vec::new(rt.alloc());
-    for _place in 0..7090usize {
-        letters.push(b'a')?;
-        digits.push(b'7')?;
+    for (count, limit, wanted) in &LETTERS {
+        let letters = text_of(rt.alloc(), Mode::Byte, *count)?;
+        let bits = encode_auto_with_max_version(rt.alloc(), &letters, EcLevel::L, *limit);
+        assert!(rt; taken(bits) == *wanted);
     }
-    let long = QrError::DataTooLong;
-    let rows = [
-        (17, 1, Ok((ONE, 148))),
-        (18, 1, Err(QrError::DataTooLong)),
-        (1, 0, Err(QrError::InvalidResourceLimits)),
-        (1, 41, Err(QrError::InvalidResourceLimits)),
-        (230, 40, Ok((Version::Normal(9), 1852))),
-        (231, 40, Ok((Version::Normal(10), 1868))),
-        (2953, 40, Ok((Version::Normal(40), 23644))),
-        (2954, 40, Err(long)),
-    ];
-    for (count, limit, wanted) in &rows {
-        if *count <= letters.len() {
-            let bits = encode_auto_with_max_version(
-                rt.alloc(),
-                &letters[..*count],
-                EcLevel::L,
-                *limit,
-            );
-            assert!(rt; taken(bits) == *wanted);
-        }
-    }
-    assert!(rt; taken(encode_auto(rt.alloc(), &digits, EcLevel::L)) == Err(QrError::DataTooLong));
-    let _ = digits.pop();
-    assert!(rt;
-        taken(encode_auto(rt.alloc(), &digits, EcLevel::L)) == Ok((Version::Normal(40), 23648))
-    );
     Ok(())
 }
+
+/// What so many digits take at level L.
+fn digits_taken(alloc: Global, count: usize) -> QrResult<(Version, usize)> {
+    taken(encode_auto(alloc, &text_of(alloc, Mode::Numeric, count)?, EcLevel::L))
+}
+
+#[test]
+fn most_digits(rt: HostRuntime) {
+    assert!(rt; digits_taken(rt.alloc(), 7090) == Err(QrError::DataTooLong));
+    assert!(rt; digits_taken(rt.alloc(), 7089) == Ok((Version::Normal(40), 23648)));
+}
+
+/// Data as it is encoded: version, payload and bytes.
+type Encoded = (Version, usize, &'static [u8]);
+
+/// Data, and what it comes to.
+fn is_encoded(bits: Bits, wanted: &Encoded) -> bool {
+    let (version, payload, bytes) = *wanted;
+    bits.version() == version
+        && bits.payload_bits_len() == payload
+        && bits.into_bytes().as_slice() == bytes
+}
+
+const HELLO_WORLD: &[u8] = &[
+    0x20, 0x5b, 0x0b, 0x78, 0xd1, 0x72, 0xdc, 0x4d, 0x43, 0x40, 0xec, 0x11, 0xec, 0x11, 0xec, 0x11,
+];
+
+const NOTHING: &[u8] = &[
+    0, 0xec, 0x11, 0xec, 0x11, 0xec, 0x11, 0xec, 0x11, 0xec, 0x11, 0xec, 0x11, 0xec, 0x11, 0xec,
+    0x11, 0xec, 0x11,
+];
 
 #[test]
 fn encoded_bytes(rt: HostRuntime) -> QrResult<()> {
     let bits = encode_auto(rt.alloc(), b"HELLO WORLD", EcLevel::M)?;
-    assert!(rt; bits.version() == ONE && bits.payload_bits_len() == 74);
-    let wanted = [
-        0x20, 0x5b, 0x0b, 0x78, 0xd1, 0x72, 0xdc, 0x4d, 0x43, 0x40, 0xec, 0x11, 0xec, 0x11, 0xec,
-        0x11,
-    ];
-    assert!(rt; bits.into_bytes().as_slice() == wanted.as_slice());
+    assert!(rt; is_encoded(bits, &(ONE, 74, HELLO_WORLD)));
     let bits = encode_auto(rt.alloc(), b"", EcLevel::L)?;
-    assert!(rt; bits.payload_bits_len() == 0 && bits.encoding_modes().is_empty());
-    assert!(rt;
-        bits.into_bytes().as_slice()
-            == [
-                0, 0xec, 0x11, 0xec, 0x11, 0xec, 0x11, 0xec, 0x11, 0xec, 0x11, 0xec, 0x11, 0xec,
-                0x11, 0xec, 0x11, 0xec, 0x11,
-            ]
-            .as_slice()
-    );
+    assert!(rt; bits.encoding_modes().is_empty());
+    assert!(rt; is_encoded(bits, &(ONE, 0, NOTHING)));
     Ok(())
 }
 
 #[test]
 fn encoded_micro_bytes(rt: HostRuntime) -> QrResult<()> {
     let mut bits = encode_auto_micro(rt.alloc(), b"1", EcLevel::L)?;
-    assert!(rt;
-        bits.version() == Version::Micro(1) && bits.payload_bits_len() == 7 && bits.len() == 24
-    );
+    assert!(rt; bits.len() == 24);
     assert!(rt; bits.push_terminator(EcLevel::L) == Err(QrError::DataTooLong));
-    assert!(rt; bits.into_bytes().as_slice() == [0x22, 0, 0].as_slice());
+    assert!(rt; is_encoded(bits, &(Version::Micro(1), 7, &[0x22, 0, 0])));
     let bits = encode_auto_micro(rt.alloc(), b"", EcLevel::L)?;
-    assert!(rt;
-        bits.version() == Version::Micro(1) && bits.payload_bits_len() == 0 && bits.len() == 24
-    );
-    assert!(rt; bits.into_bytes().as_slice() == [0, 0xec, 0].as_slice());
+    assert!(rt; bits.len() == 24);
+    assert!(rt; is_encoded(bits, &(Version::Micro(1), 0, &[0, 0xec, 0])));
     Ok(())
 }
 
+/// Levels, and what no data takes in a Micro symbol.
+static MICRO_LEVELS: [(EcLevel, QrResult<(Version, usize)>); 3] = [
+    (EcLevel::M, Ok((Version::Micro(2), 0))),
+    (EcLevel::Q, Ok((Version::Micro(4), 0))),
+    (
+        EcLevel::H,
+        Err(QrError::InvalidVersion {
+            version: Version::Micro(4),
+            ec_level: EcLevel::H,
+        }),
+    ),
+];
+
+/// Numbers of digits, and what they take in a Micro symbol.
+static MICRO_DIGITS: [(&[u8], QrResult<(Version, usize)>); 2] = [
+    (&[b'7'; 35], Ok((Version::Micro(4), 126))),
+    (&[b'7'; 36], Err(QrError::DataTooLong)),
+];
+
 #[test]
 fn micro_versions_by_level_and_count(rt: HostRuntime) {
-    let rows = [
-        (EcLevel::M, Ok((Version::Micro(2), 0))),
-        (EcLevel::Q, Ok((Version::Micro(4), 0))),
-        (
-            EcLevel::H,
-            Err(QrError::InvalidVersion {
-                version: Version::Micro(4),
-                ec_level: EcLevel::H,
-            }),
-        ),
-    ];
-    for (level, wanted) in &rows {
+    for (level, wanted) in &MICRO_LEVELS {
         assert!(rt; taken(encode_auto_micro(rt.alloc(), b"", *level)) == *wanted);
     }
-    let rows = [
-        (35, Ok((Version::Micro(4), 126))),
-        (36, Err(QrError::DataTooLong)),
-    ];
-    for (count, wanted) in &rows {
-        let digits = [b'7'; 36];
-        if *count <= digits.len() {
-            assert!(rt;
-                taken(encode_auto_micro(rt.alloc(), &digits[..*count], EcLevel::L)) == *wanted
-            );
-        }
+    for (digits, wanted) in &MICRO_DIGITS {
+        assert!(rt; taken(encode_auto_micro(rt.alloc(), digits, EcLevel::L)) == *wanted);
     }
 }
+
+/// The smallest version of each level for the same payload, and its codewords.
+static HELLO_WORLDS: [(EcLevel, i16, usize); 4] = [
+    (EcLevel::L, 1, 19),
+    (EcLevel::M, 1, 16),
+    (EcLevel::Q, 1, 13),
+    (EcLevel::H, 2, 16),
+];
 
 /// The same payload at all four levels, in the smallest version of each. The original crate gives the same.
 #[test]
 fn hello_world_at_each_level(rt: HostRuntime) -> QrResult<()> {
-    let spelled = [0x20, 0x5b, 0x0b, 0x78, 0xd1, 0x72, 0xdc, 0x4d, 0x43, 0x40];
-    for (level, number, len) in [
-        (EcLevel::L, 1, 19),
-        (EcLevel::M, 1, 16),
-        (EcLevel::Q, 1, 13),
-        (EcLevel::H, 2, 16),
-    ] {
-        let bits = encode_auto(rt.alloc(), b"HELLO WORLD", level)?;
+    for (level, number, len) in &HELLO_WORLDS {
+        let bits = encode_auto(rt.alloc(), b"HELLO WORLD", *level)?;
         assert_eq!(rt;
             (bits.version(), bits.payload_bits_len()),
-            (Version::Normal(number), 74)
+            (Version::Normal(*number), 74)
         );
-        let bytes = bits.into_bytes();
-        assert_eq!(rt; bytes.len(), len);
-        assert!(rt; bytes.as_slice().starts_with(&spelled));
-        for place in 10..len {
-            let pad = if place % 2 == 0 { 0xec } else { 0x11 };
-            assert!(rt; bytes.get(place) == Some(&pad));
-        }
+        assert!(rt; is_hello_world(&bits.into_bytes(), *len));
     }
     Ok(())
 }
 
+/// Whether so many bytes spell `HELLO WORLD`, and then EC and 11 in turn.
+fn is_hello_world(bytes: &[u8], len: usize) -> bool {
+    let mut pads = bytes.iter().enumerate().skip(10);
+    bytes.len() == len
+        && bytes.starts_with(&HELLO_WORLD[..10])
+        && pads.all(|(place, byte)| *byte == if place % 2 == 0 { 0xec } else { 0x11 })
+}
+
 /// Most characters of each mode in each Micro version (ISO/IEC 18004, table 7), as the number of the version with the
 /// count.
-const LIMITS: [(EcLevel, Mode, &[(i16, usize)]); 12] = [
+static LIMITS: [(EcLevel, Mode, &[(i16, usize)]); 12] = [
     (
         EcLevel::L,
         Mode::Numeric,
@@ -299,95 +339,111 @@ fn more_than(count: usize) -> usize {
 /// Each count takes its version, and one character more takes the next one, or is too long.
 #[test]
 fn micro_versions_at_their_limits(rt: HostRuntime) -> QrResult<()> {
-    for (level, mode, limits) in LIMITS {
+    for (level, mode, limits) in &LIMITS {
         let mut before = 0;
-        for (number, most) in limits {
-            for count in [more_than(before), *most] {
-                let text = text_of(&rt, mode, count)?;
-                let bits = encode_auto_micro(rt.alloc(), &text, level)?;
-                assert_eq!(rt; bits.version(), Version::Micro(*number));
-                assert_eq!(rt; bits.encoding_modes(), EncodingModes::from_mode(mode));
-            }
+        for (number, most) in *limits {
+            takes_version(&rt, rt.alloc(), (*level, *mode, more_than(before)), *number)?;
+            takes_version(&rt, rt.alloc(), (*level, *mode, *most), *number)?;
             before = *most;
         }
-        let text = text_of(&rt, mode, more_than(before))?;
-        let refused = encode_auto_micro(rt.alloc(), &text, level);
+        let text = text_of(rt.alloc(), *mode, more_than(before))?;
+        let refused = encode_auto_micro(rt.alloc(), &text, *level);
         assert!(rt; refused.err() == Some(QrError::DataTooLong));
     }
     Ok(())
 }
 
+/// So many characters of a mode take a Micro version at a level.
+fn takes_version(
+    rt: &impl Abort,
+    alloc: Global,
+    (level, mode, count): (EcLevel, Mode, usize),
+    number: i16,
+) -> QrResult<()> {
+    let bits = encode_auto_micro(alloc, &text_of(alloc, mode, count)?, level)?;
+    assert_eq!(rt; bits.version(), Version::Micro(number));
+    assert_eq!(rt; bits.encoding_modes(), EncodingModes::from_mode(mode));
+    Ok(())
+}
+
 /// Texts in UTF-8, as the original crate encodes them at level L.
-#[test]
-fn texts_in_utf_8(rt: HostRuntime) -> QrResult<()> {
-    let rows = [
+static UTF_8: [(&str, Encoded); 3] = [
+    (
+        "na\u{ef}ve caf\u{e9} 12",
         (
-            "na\u{ef}ve caf\u{e9} 12",
+            ONE,
             132,
-            [
+            &[
                 0x40, 0xf6, 0xe6, 0x1c, 0x3a, 0xf7, 0x66, 0x52, 0x06, 0x36, 0x16, 0x6c, 0x3a, 0x92,
                 0x03, 0x13, 0x20, 0xec, 0x11,
             ],
         ),
+    ),
+    (
+        "\u{65e5}\u{672c}\u{8a9e}",
         (
-            "\u{65e5}\u{672c}\u{8a9e}",
+            ONE,
             84,
-            [
+            &[
                 0x40, 0x9e, 0x69, 0x7a, 0x5e, 0x69, 0xca, 0xce, 0x8a, 0xa9, 0xe0, 0xec, 0x11, 0xec,
                 0x11, 0xec, 0x11, 0xec, 0x11,
             ],
         ),
+    ),
+    (
+        "\u{20ac}50 Z\u{fc}rich 2024",
         (
-            "\u{20ac}50 Z\u{fc}rich 2024",
+            ONE,
             152,
-            [
+            &[
                 0x40, 0xee, 0x28, 0x2a, 0xc3, 0x53, 0x02, 0x05, 0xac, 0x3b, 0xc7, 0x26, 0x96, 0x36,
                 0x82, 0x01, 0x01, 0x0c, 0xa4,
             ],
         ),
-    ];
-    for (text, payload, wanted) in rows {
+    ),
+];
+
+#[test]
+fn texts_in_utf_8(rt: HostRuntime) -> QrResult<()> {
+    for (text, wanted) in &UTF_8 {
         let bits = encode_auto(rt.alloc(), text.as_bytes(), EcLevel::L)?;
-        assert_eq!(rt;
-            (bits.version(), bits.payload_bits_len()),
-            (ONE, payload),
-            "at {text}"
-        );
-        assert!(rt;
-            bits.into_bytes().as_slice() == wanted.as_slice(),
-            "at {text}"
-        );
+        assert!(rt; is_encoded(bits, wanted), "at {text}");
     }
     Ok(())
 }
 
+/// Two segments of digits.
+static TWO: [Segment; 2] = [
+    Segment {
+        mode: Mode::Numeric,
+        begin: 0,
+        end: 2,
+    },
+    Segment {
+        mode: Mode::Numeric,
+        begin: 2,
+        end: 3,
+    },
+];
+
 #[test]
 fn segments_up_to_a_refusal(rt: HostRuntime) -> QrResult<()> {
     let mut bits = Bits::new(rt.alloc(), ONE);
-    let segments = [
-        Segment {
-            mode: Mode::Numeric,
-            begin: 0,
-            end: 2,
-        },
-        Segment {
-            mode: Mode::Numeric,
-            begin: 2,
-            end: 3,
-        },
-    ];
-    let refusal = bits.push_segments(b"12a", segments.iter().copied());
-    assert!(rt;
-        refusal
-            == Err(QrError::InvalidCharacter {
-                position: 0,
-                byte: 0x61
-            })
-    );
+    let refusal = bits.push_segments(b"12a", TWO.iter().copied());
+    let invalid = QrError::InvalidCharacter {
+        position: 0,
+        byte: 0x61,
+    };
+    assert!(rt; refusal == Err(invalid));
     assert!(rt;
         bits.len() == 21 && bits.encoding_modes() == EncodingModes::from_mode(Mode::Numeric)
     );
     assert!(rt; bits.into_bytes().as_slice() == [0x10, 0x08, 0x60].as_slice());
+    Ok(())
+}
+
+#[test]
+fn modes_of_a_plan(rt: HostRuntime) -> QrResult<()> {
     let mut bits = Bits::new(rt.alloc(), ONE);
     bits.push_optimal_data(b"ABC123abcd")?;
     assert_eq!(rt; bits.len(), 90);

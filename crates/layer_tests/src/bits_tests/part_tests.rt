@@ -1,7 +1,8 @@
 //! Worked rows of one symbol of a sequence.
 
 use qrcode_base::types::{EcLevel, QrError, QrResult, Version};
-use qrcode_bits::bits::encode_part;
+use qrcode_bits::bits::{Bits, encode_part};
+use std::alloc::Global;
 
 const L: EcLevel = EcLevel::L;
 
@@ -16,7 +17,7 @@ struct Row {
     bytes: &'static [u8],
 }
 
-const ROWS: [Row; 4] = [
+static ROWS: [Row; 4] = [
     Row {
         data: b"AB",
         position: 1,
@@ -52,8 +53,8 @@ const ROWS: [Row; 4] = [
 ];
 
 /// The first bytes, and EC and 11 in turn up to 19 bytes.
-fn padded(rt: &HostRuntime, first: &[u8]) -> QrResult<Vec<u8>> {
-    let mut bytes = Vec::new(rt.alloc());
+fn padded(alloc: Global, first: &[u8]) -> QrResult<Vec<u8>> {
+    let mut bytes = Vec::new(alloc);
     bytes.extend_from_slice(first)?;
     for place in first.len()..19 {
         let is_even = (place - first.len()) % 2 == 0;
@@ -64,67 +65,67 @@ fn padded(rt: &HostRuntime, first: &[u8]) -> QrResult<Vec<u8>> {
 
 #[test]
 fn parts_in_version_1(rt: HostRuntime) -> QrResult<()> {
-    for row in ROWS {
-        let Row {
-            data,
-            position,
-            total,
-            parity,
-            ..
-        } = row;
-        let bits = encode_part(rt.alloc(), data, position, total, parity, L, 40)?;
+    for row in &ROWS {
+        let bits = part(rt.alloc(), row)?;
         assert!(rt; bits.version() == Version::Normal(1) && bits.len() == 152);
         assert_eq!(rt; bits.payload_bits_len(), row.payload);
-        assert_eq!(rt;
-            bits.into_bytes().as_slice(),
-            padded(&rt, row.bytes)?.as_slice()
-        );
+        assert!(rt; bits.into_bytes().as_slice() == padded(rt.alloc(), row.bytes)?.as_slice());
     }
     Ok(())
+}
+
+/// The part of a row.
+fn part(alloc: Global, row: &Row) -> QrResult<Bits> {
+    let Row {
+        data,
+        position,
+        total,
+        parity,
+        ..
+    } = *row;
+    encode_part(alloc, data, position, total, parity, L, 40)
 }
 
 /// What the first of two parts takes: the version, and the bits before the terminator.
-fn taken(rt: &HostRuntime, data: &[u8], max_version: i16) -> QrResult<(Version, usize)> {
-    let bits = encode_part(rt.alloc(), data, 1, 2, 0x61, L, max_version)?;
+fn taken(alloc: Global, data: &[u8], max_version: i16) -> QrResult<(Version, usize)> {
+    let bits = encode_part(alloc, data, 1, 2, 0x61, L, max_version)?;
     Ok((bits.version(), bits.payload_bits_len()))
 }
 
+/// Numbers of letters and the greatest version, with what the first of two parts takes.
+static LETTERS: [(usize, i16, QrResult<(Version, usize)>); 6] = [
+    (15, 1, Ok((Version::Normal(1), 152))),
+    (16, 1, Err(QrError::DataTooLong)),
+    (16, 2, Ok((Version::Normal(2), 160))),
+    (228, 40, Ok((Version::Normal(9), 1856))),
+    (229, 40, Ok((Version::Normal(10), 1872))),
+    (7090, 40, Err(QrError::DataTooLong)),
+];
+
 #[test]
 fn smallest_versions_of_parts(rt: HostRuntime) -> QrResult<()> {
-    let mut letters = Vec::new(rt.alloc());
-    for _place in 0..7090usize {
-        letters.push(b'a')?;
-    }
-    let rows = [
-        (15, 1, Ok((Version::Normal(1), 152))),
-        (16, 1, Err(QrError::DataTooLong)),
-        (16, 2, Ok((Version::Normal(2), 160))),
-        (228, 40, Ok((Version::Normal(9), 1856))),
-        (229, 40, Ok((Version::Normal(10), 1872))),
-        (7090, 40, Err(QrError::DataTooLong)),
-    ];
-    for (count, limit, wanted) in &rows {
-        if *count <= letters.len() {
-            assert!(rt; taken(&rt, &letters[..*count], *limit) == *wanted);
-        }
+    for (count, limit, wanted) in &LETTERS {
+        let letters = vec![in rt.alloc(); b'a'; *count]?;
+        assert!(rt; taken(rt.alloc(), &letters, *limit) == *wanted);
     }
     Ok(())
 }
 
+/// Positions, totals and greatest versions, with the refusal.
+static REFUSED: [(u8, u8, i16, QrError); 7] = [
+    (4, 3, 40, QrError::InvalidStructuredAppend { value: 4 }),
+    (0, 3, 40, QrError::InvalidStructuredAppend { value: 0 }),
+    (1, 17, 40, QrError::InvalidStructuredAppend { value: 17 }),
+    (1, 1, 40, QrError::InvalidStructuredAppend { value: 1 }),
+    (9, 1, 40, QrError::InvalidStructuredAppend { value: 1 }),
+    (4, 3, 0, QrError::InvalidResourceLimits),
+    (1, 3, 41, QrError::InvalidResourceLimits),
+];
+
 #[test]
-fn refused_parts(rt: HostRuntime) -> QrResult<()> {
-    let rows = [
-        (4, 3, 40, QrError::InvalidStructuredAppend { value: 4 }),
-        (0, 3, 40, QrError::InvalidStructuredAppend { value: 0 }),
-        (1, 17, 40, QrError::InvalidStructuredAppend { value: 17 }),
-        (1, 1, 40, QrError::InvalidStructuredAppend { value: 1 }),
-        (9, 1, 40, QrError::InvalidStructuredAppend { value: 1 }),
-        (4, 3, 0, QrError::InvalidResourceLimits),
-        (1, 3, 41, QrError::InvalidResourceLimits),
-    ];
-    for (position, total, limit, wanted) in &rows {
+fn refused_parts(rt: HostRuntime) {
+    for (position, total, limit, wanted) in &REFUSED {
         let refused = encode_part(rt.alloc(), b"AB", *position, *total, 0x07, L, *limit);
         assert!(rt; refused.err() == Some(*wanted));
     }
-    Ok(())
 }

@@ -47,7 +47,7 @@ impl Push {
 }
 
 /// What each push writes into an empty stream of version 1: so many bits, and their bytes.
-const ROWS: [(Push, usize, &[u8]); 13] = [
+static ROWS: [(Push, usize, &[u8]); 13] = [
     (Push::Number(16, 65535), 16, &[0xff, 0xff]),
     (Push::Indicator(ExtendedMode::Eci), 4, &[0x70]),
     (Push::Eci(899), 20, &[0x78, 0x38, 0x30]),
@@ -82,7 +82,7 @@ const ROWS: [(Push, usize, &[u8]); 13] = [
 /// A refused push leaves an empty stream empty.
 #[test]
 fn single_pushes(rt: HostRuntime) -> QrResult<()> {
-    for (push, len, bytes) in ROWS {
+    for (push, len, bytes) in &ROWS {
         let mut bits = Bits::new(rt.alloc(), Version::Normal(1));
         let answer = push.apply(&mut bits);
         if answer == Err(QrError::OutOfMemory) {
@@ -92,20 +92,20 @@ fn single_pushes(rt: HostRuntime) -> QrResult<()> {
             return answer;
         }
         assert_eq!(rt; answer, Ok(()));
-        assert_eq!(rt; bits.len(), len);
-        assert_eq!(rt; bits.into_bytes().as_slice(), bytes);
+        assert_eq!(rt; bits.len(), *len);
+        assert_eq!(rt; bits.into_bytes().as_slice(), *bytes);
     }
     Ok(())
 }
 
 /// The letter a in version 1, ended at level L.
-const ENDED: [u8; 19] = [
+static ENDED: [u8; 19] = [
     0x40, 0x16, 0x10, 0xec, 0x11, 0xec, 0x11, 0xec, 0x11, 0xec, 0x11, 0xec, 0x11, 0xec, 0x11, 0xec,
     0x11, 0xec, 0x11,
 ];
 
 /// Pushes that no room is left for, and how many bits they add.
-const LONG: [(Push, usize); 4] = [
+static LONG: [(Push, usize); 4] = [
     (Push::Numeric(&[b'7'; 999]), 4 + 10 + 3330),
     (Push::Alphanumeric(&[b'A'; 400]), 4 + 9 + 2200),
     (Push::Byte(&[b'b'; 200]), 4 + 8 + 1600),
@@ -115,7 +115,7 @@ const LONG: [(Push, usize); 4] = [
 /// A refused push leaves an ended stream with its bits, its modes and its payload.
 #[test]
 fn pushes_behind_an_end(rt: HostRuntime) -> QrResult<()> {
-    for (push, added) in LONG {
+    for (push, added) in &LONG {
         let mut bits = Bits::new(rt.alloc(), Version::Normal(1));
         bits.push_byte_data(b"a")?;
         bits.push_terminator(EcLevel::L)?;
@@ -152,7 +152,7 @@ fn pushes_after_reserve(rt: HostRuntime) -> QrResult<()> {
 }
 
 /// How many bits stand after none, one, two and all of three segments: forty digits, forty letters a, forty letters A.
-const LENGTHS: [usize; 4] = [0, 148, 480, 713];
+static LENGTHS: [usize; 4] = [0, 148, 480, 713];
 
 /// Forty digits, forty small letters and forty capitals.
 fn forty_of_each() -> [u8; 120] {

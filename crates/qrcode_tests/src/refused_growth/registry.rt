@@ -40,7 +40,7 @@ fn registrations(registry: &PluginRegistry) -> [bool; 5] {
 }
 
 /// Names for renderers that are there before.
-const EARLIER: [&str; 16] = [
+static EARLIER: [&str; 16] = [
     "a", "b", "c", "d", "e", "g", "h", "i", "j", "k", "l", "m", "n", "o", "p", "q",
 ];
 
