@@ -288,29 +288,22 @@ fn fetched(version: Version, level: EcLevel) -> QrResult<u8> {
 }
 
 /// Versions and levels, and what is fetched for them.
-static FETCHED: [(Version, EcLevel, QrResult<u8>); 3] = [
-    (Version::Normal(1), EcLevel::L, Ok(0)),
-    (Version::Normal(40), EcLevel::Q, Ok(3)),
-    (Version::Micro(3), EcLevel::M, Ok(5)),
-];
-
-/// Versions and levels that no symbol has.
-static LACKING: [(Version, EcLevel); 4] = [
-    (Version::Micro(1), EcLevel::M),
-    (Version::Micro(5), EcLevel::L),
-    (Version::Normal(0), EcLevel::L),
-    (Version::Normal(41), EcLevel::L),
+static FETCHED: [(Version, EcLevel, Option<u8>); 7] = [
+    (Version::Normal(1), EcLevel::L, Some(0)),
+    (Version::Normal(40), EcLevel::Q, Some(3)),
+    (Version::Micro(3), EcLevel::M, Some(5)),
+    (Version::Micro(1), EcLevel::M, None),
+    (Version::Micro(5), EcLevel::L, None),
+    (Version::Normal(0), EcLevel::L, None),
+    (Version::Normal(41), EcLevel::L, None),
 ];
 
 #[test]
 fn tables_are_read(rt: HostRuntime) {
-    for (version, level, want) in &FETCHED {
-        assert_eq!(rt; fetched(*version, *level), *want);
-    }
-    for row in &LACKING {
-        let (version, ec_level) = *row;
-        let want = Err(QrError::InvalidVersion { version, ec_level });
-        assert_eq!(rt; fetched(version, ec_level), want);
+    for (version, ec_level, want) in &FETCHED {
+        let (version, ec_level) = (*version, *ec_level);
+        let lacking = QrError::InvalidVersion { version, ec_level };
+        assert_eq!(rt; fetched(version, ec_level), want.ok_or(lacking));
     }
 }
 

@@ -8,7 +8,6 @@ use qrcode_core::traits::{ModuleSource, ModuleStorage};
 use qrcode_core::types::Color;
 use std::alloc::Global;
 use std::process::Abort;
-use std::test::Fail;
 
 /// Renders a mark for each module, with the option `dark` for dark ones; refuses the option `light`.
 #[derive(Drop)]
@@ -83,20 +82,29 @@ impl PostProcessor for Boom {
     }
 }
 
+/// A text of its own.
+fn own(rt: &impl Abort, alloc: Global, text: &str) -> String {
+    String::from_str(alloc, text).expect(rt, "memory")
+}
+
 /// The plugin `demo` with a renderer `text`, an encoder `length` and a postprocessor.
-fn demo(
-    alloc: Global,
-    renderer: Box<dyn DynRenderer>,
-    encoder: Box<dyn DynEncoder>,
-    postprocessor: Box<dyn PostProcessor>,
-) -> Result<QrPlugin, PluginError> {
-    Ok(QrPlugin {
-        name: String::from_str(alloc, "demo")?,
-        version: String::from_str(alloc, "0.1.0")?,
-        renderers: Vec::from_array(alloc, [(String::from_str(alloc, "text")?, renderer)])?,
-        encoders: Vec::from_array(alloc, [(String::from_str(alloc, "length")?, encoder)])?,
-        postprocessors: Vec::from_array(alloc, [postprocessor])?,
-    })
+fn demo(rt: &impl Abort, alloc: Global) -> QrPlugin {
+    let renderer: Box<dyn DynRenderer> = Box::new(alloc, Text).expect(rt, "memory");
+    let encoder: Box<dyn DynEncoder> = Box::new(alloc, Plain).expect(rt, "memory");
+    let postprocessor: Box<dyn PostProcessor> = Box::new(alloc, Darken { x: 0 }).expect(
+        rt, "memory",
+    );
+    QrPlugin {
+        name: own(rt, alloc, "demo"),
+        version: own(rt, alloc, "0.1.0"),
+        renderers: Vec::from_array(alloc, [(own(rt, alloc, "text"), renderer)]).expect(
+            rt, "memory",
+        ),
+        encoders: Vec::from_array(alloc, [(own(rt, alloc, "length"), encoder)]).expect(
+            rt, "memory",
+        ),
+        postprocessors: Vec::from_array(alloc, [postprocessor]).expect(rt, "memory"),
+    }
 }
 
 /// What the renderer `text` prints of two by two modules.
@@ -138,17 +146,20 @@ fn error_with(number: usize, text: String) -> PluginError {
     }
 }
 
+/// The text that was rendered; empty for what is none.
+fn text_of(output: &RenderOutput) -> &str {
+    match output {
+        RenderOutput::Text(text) => text.as_str(),
+        _ => "",
+    }
+}
+
 /// A renderer prints this text of one dark module.
-fn renderer_prints(
-    rt: &impl Abort,
-    alloc: Global,
-    renderer: &dyn DynRenderer,
-    text: &str,
-) -> Result<(), Fail> {
-    let grid = grid_of_text(alloc, "#", 1, 1)?;
-    let output = renderer.render(alloc, &grid, &RenderConfig::new(alloc))?;
-    assert_eq!(rt; output, RenderOutput::Text(String::from_str(alloc, text)?));
-    Ok(())
+fn renderer_prints(rt: &impl Abort, alloc: Global, renderer: &dyn DynRenderer, text: &str) {
+    let grid = grid_of_text(alloc, "#", 1, 1).expect(rt, "a grid");
+    let config = RenderConfig::new(alloc);
+    let output = renderer.render(alloc, &grid, &config).expect(rt, "output");
+    assert_eq!(rt; text_of(&output), text);
 }
 
 /// Prints its own text, whatever the grid.
@@ -174,32 +185,45 @@ impl DynRenderer for Says {
     }
 }
 
-#[test]
-fn a_replaced_box_is_given_back(rt: HostRuntime) -> Result<(), Fail> {
-    let alloc = rt.alloc();
-    let mut registry = PluginRegistry::new(alloc);
-    let none = registry.register_renderer("alpha", Box::new(alloc, Says("first"))?)?;
-    assert!(rt; none.is_none());
-    let replaced = registry.register_renderer("alpha", Box::new(alloc, Says("second"))?)?;
-    renderer_prints(&rt, alloc, &*replaced.ok_or("nothing came back")?, "first")?;
-    renderer_prints(
-        &rt,
-        alloc,
-        registry.renderer("alpha").ok_or("no renderer")?,
-        "second",
-    )
+/// A renderer that prints this text.
+fn saying(rt: &impl Abort, alloc: Global, text: &'static str) -> Box<dyn DynRenderer> {
+    Box::new(alloc, Says(text)).expect(rt, "memory")
 }
 
 #[test]
-fn names_come_in_order(rt: HostRuntime) -> Result<(), Fail> {
+fn a_replaced_box_is_given_back(rt: HostRuntime) {
     let alloc = rt.alloc();
     let mut registry = PluginRegistry::new(alloc);
-    for (name, is_new) in [("zeta", true), ("alpha", true), ("alpha", false)] {
-        let replaced = registry.register_renderer(name, Box::new(alloc, Text)?)?;
-        assert_eq!(rt; replaced.is_none(), is_new);
-    }
+    let none = registry.register_renderer("alpha", saying(&rt, alloc, "first"));
+    assert!(rt; none.expect(&rt, "memory").is_none());
+    let replaced = registry.register_renderer("alpha", saying(&rt, alloc, "second"));
+    let replaced = replaced
+        .expect(&rt, "memory")
+        .expect(&rt, "nothing came back");
+    renderer_prints(&rt, alloc, &*replaced, "first");
+    let renderer = registry.renderer("alpha").expect(&rt, "no renderer");
+    renderer_prints(&rt, alloc, renderer, "second");
+}
+
+/// Registers the renderer that prints marks, and says whether none had its name.
+fn is_new_renderer(
+    rt: &impl Abort,
+    alloc: Global,
+    registry: &mut PluginRegistry,
+    name: &str,
+) -> bool {
+    let renderer = Box::new(alloc, Text).expect(rt, "memory");
+    let replaced = registry.register_renderer(name, renderer);
+    replaced.expect(rt, "memory").is_none()
+}
+
+#[test]
+fn names_come_in_order(rt: HostRuntime) {
+    let mut registry = PluginRegistry::new(rt.alloc());
+    assert!(rt; is_new_renderer(&rt, rt.alloc(), &mut registry, "zeta"));
+    assert!(rt; is_new_renderer(&rt, rt.alloc(), &mut registry, "alpha"));
+    assert!(rt; !is_new_renderer(&rt, rt.alloc(), &mut registry, "alpha"));
     names_alpha_and_zeta(&rt, &registry);
-    Ok(())
 }
 
 /// The renderers are `alpha` and `zeta`, named in this order.
@@ -211,171 +235,136 @@ fn names_alpha_and_zeta(rt: &impl Abort, registry: &PluginRegistry) {
 }
 
 #[test]
-fn encoders_are_lent(rt: HostRuntime) -> Result<(), Fail> {
+fn encoders_are_lent(rt: HostRuntime) {
     let alloc = rt.alloc();
     let mut registry = PluginRegistry::new(alloc);
     for is_new in [true, false] {
-        let replaced = registry.register_encoder("plain", Box::new(alloc, Plain)?)?;
-        assert_eq!(rt; replaced.is_none(), is_new);
+        let encoder = Box::new(alloc, Plain).expect(&rt, "memory");
+        let replaced = registry.register_encoder("plain", encoder);
+        assert!(rt; replaced.expect(&rt, "memory").is_none() == is_new);
     }
-    encoder_is_missing(&rt, alloc, &registry)?;
-    encoder_copies(&rt, alloc, &registry, "plain")
+    encoder_is_missing(&rt, alloc, &registry);
+    encoder_copies(&rt, alloc, &registry, "plain");
+}
+
+/// An error is told by this text.
+fn is_told(rt: &impl Abort, alloc: Global, error: &PluginError, text: &str) {
+    let printed = format!(in alloc; "{error}").expect(rt, "memory");
+    assert_eq!(rt; printed.as_str(), text);
 }
 
 /// The encoder `missing` is told as missing.
-fn encoder_is_missing(
-    rt: &impl Abort,
-    alloc: Global,
-    registry: &PluginRegistry,
-) -> Result<(), Fail> {
+fn encoder_is_missing(rt: &impl Abort, alloc: Global, registry: &PluginRegistry) {
     let built = registry.build_encoder("missing", &EncodeConfig::new(alloc));
-    let printed = format!(in alloc; "{}", built.err().ok_or("found")?)?;
-    assert_eq!(rt; printed.as_str(), "encoder plugin not found: missing");
-    Ok(())
+    let error = built.err().expect(rt, "found");
+    is_told(rt, alloc, &error, "encoder plugin not found: missing");
 }
 
 /// An encoder is built, and encodes bytes as they are.
-fn encoder_copies(
-    rt: &impl Abort,
-    alloc: Global,
-    registry: &PluginRegistry,
-    name: &str,
-) -> Result<(), Fail> {
+fn encoder_copies(rt: &impl Abort, alloc: Global, registry: &PluginRegistry, name: &str) {
     let config = EncodeConfig::new(alloc);
-    let built = registry.build_encoder(name, &config).ok();
-    let output = built.ok_or("no encoder")?.encode(alloc, b"abc", &config)?;
-    assert_eq!(rt;
-        output,
-        EncodedOutput::Bytes(Vec::from_slice(alloc, b"abc")?)
+    let encoder = registry
+        .build_encoder(name, &config)
+        .ok()
+        .expect(rt, "no encoder");
+    let output = encoder.encode(alloc, b"abc", &config).expect(rt, "output");
+    assert!(rt;
+        matches!(&output, EncodedOutput::Bytes(bytes) if bytes.as_slice() == b"abc".as_slice())
     );
-    Ok(())
 }
 
 #[test]
-fn plugins_are_registered_whole(rt: HostRuntime) -> Result<(), Fail> {
+fn plugins_are_registered_whole(rt: HostRuntime) {
     let alloc = rt.alloc();
     let mut registry = PluginRegistry::new(alloc);
     for times in 1..3usize {
-        let renderer = Box::new(alloc, Text)?;
-        let encoder = Box::new(alloc, Plain)?;
-        let postprocessor = Box::new(alloc, Darken { x: 0 })?;
-        registry.register_plugin(demo(alloc, renderer, encoder, postprocessor)?)?;
-        assert_eq!(rt; registry.plugin_version("demo"), Some("0.1.0"));
+        registry
+            .register_plugin(demo(&rt, alloc))
+            .expect(&rt, "memory");
+        assert!(rt; registry.plugin_version("demo") == Some("0.1.0"));
         assert_eq!(rt; registry.postprocessors().len(), times);
     }
     // The objects of the bundle are named, built and serve.
     names_the_bundle(&rt, &registry);
-    bundle_renders(&rt, alloc, &registry)?;
-    encoder_copies(&rt, alloc, &registry, "length")?;
-    bundle_darkens(&rt, alloc, &registry)
+    bundle_renders(&rt, alloc, &registry);
+    encoder_copies(&rt, alloc, &registry, "length");
+    bundle_darkens(&rt, alloc, &registry);
 }
 
 /// The plugin, the renderer and the encoder of the bundle are named, each once, and no others.
 fn names_the_bundle(rt: &impl Abort, registry: &PluginRegistry) {
-    for (count, last, want) in [
-        (
-            registry.plugin_names().count(),
-            registry.plugin_names().last(),
-            "demo",
-        ),
-        (
-            registry.renderer_names().count(),
-            registry.renderer_names().last(),
-            "text",
-        ),
-        (
-            registry.encoder_names().count(),
-            registry.encoder_names().last(),
-            "length",
-        ),
-    ] {
-        assert_eq!(rt; (count, last), (1, Some(want)));
-    }
+    assert!(rt; registry.plugin_names().eq(["demo"].iter().copied()));
+    assert!(rt; registry.renderer_names().eq(["text"].iter().copied()));
+    assert!(rt; registry.encoder_names().eq(["length"].iter().copied()));
 }
 
 /// The renderer of the bundle prints marks.
-fn bundle_renders(rt: &impl Abort, alloc: Global, registry: &PluginRegistry) -> Result<(), Fail> {
-    let output = printed(registry, alloc, &RenderConfig::new(alloc))?;
-    assert_eq!(rt;
-        output,
-        RenderOutput::Text(String::from_str(alloc, "#..#")?)
-    );
-    Ok(())
+fn bundle_renders(rt: &impl Abort, alloc: Global, registry: &PluginRegistry) {
+    let output = printed(registry, alloc, &RenderConfig::new(alloc)).expect(rt, "output");
+    assert_eq!(rt; text_of(&output), "#..#");
 }
 
 /// The postprocessors of the bundle set the first module dark.
-fn bundle_darkens(rt: &impl Abort, alloc: Global, registry: &PluginRegistry) -> Result<(), Fail> {
-    let mut grid = grid_of_text(alloc, "..", 2, 1)?;
-    assert_eq!(rt; registry.process_modules(&mut grid), Ok(()));
-    assert_eq!(rt;
-        ModuleStorage::modules(&grid),
-        [Color::Dark, Color::Light].as_slice()
-    );
-    Ok(())
+fn bundle_darkens(rt: &impl Abort, alloc: Global, registry: &PluginRegistry) {
+    let mut grid = grid_of_text(alloc, "..", 2, 1).expect(rt, "a grid");
+    assert!(rt; registry.process_modules(&mut grid).is_ok());
+    assert!(rt; ModuleStorage::modules(&grid) == [Color::Dark, Color::Light].as_slice());
 }
 
 #[test]
-fn renderers_take_options(rt: HostRuntime) -> Result<(), Fail> {
-    let alloc = rt.alloc();
-    let mut registry = PluginRegistry::new(alloc);
-    let replaced = registry.register_renderer("text", Box::new(alloc, Text)?)?;
-    assert!(rt; replaced.is_none());
-    option_is_taken(&rt, alloc, &registry)
+fn renderers_take_options(rt: HostRuntime) {
+    let mut registry = PluginRegistry::new(rt.alloc());
+    assert!(rt; is_new_renderer(&rt, rt.alloc(), &mut registry, "text"));
+    option_is_taken(&rt, rt.alloc(), &registry);
 }
 
 /// The renderer `text` prints the mark that is asked for, and its output is copied whole.
-fn option_is_taken(rt: &impl Abort, alloc: Global, registry: &PluginRegistry) -> Result<(), Fail> {
-    let config = RenderConfig::new(alloc).with_option("dark", "X")?;
-    let output = printed(registry, alloc, &config)?;
-    assert_eq!(rt;
-        output,
-        RenderOutput::Text(String::from_str(alloc, "X..X")?)
-    );
-    assert_eq!(rt; output.clone(alloc)?, output);
-    Ok(())
+fn option_is_taken(rt: &impl Abort, alloc: Global, registry: &PluginRegistry) {
+    let config = RenderConfig::new(alloc).with_option("dark", "X");
+    let output = printed(registry, alloc, &config.expect(rt, "memory")).expect(rt, "output");
+    assert_eq!(rt; text_of(&output), "X..X");
+    assert!(rt; output.clone(alloc).expect(rt, "memory") == output);
 }
 
 #[test]
-fn configurations_keep_what_is_asked(rt: HostRuntime) -> Result<(), Fail> {
-    let alloc = rt.alloc();
-    let render = RenderConfig::new(alloc)
-        .with_format("svg")?
-        .with_option("dark", "X")?;
-    let copy = render.clone(alloc)?;
+fn configurations_keep_what_is_asked(rt: HostRuntime) {
+    let render = RenderConfig::new(rt.alloc()).with_format("svg");
+    let render = render.expect(&rt, "memory").with_option("dark", "X");
+    let copy = render
+        .expect(&rt, "memory")
+        .clone(rt.alloc())
+        .expect(&rt, "memory");
     assert!(rt; copy.format() == Some("svg") && copy.option("dark") == Some("X"));
-    encoding_keeps_what_is_asked(&rt, alloc)
+    encoding_keeps_what_is_asked(&rt, rt.alloc());
+    encoded_bytes_are_copied(&rt, rt.alloc());
 }
 
-/// The same of an encoder's configuration, and of what an encoder answers.
-fn encoding_keeps_what_is_asked(rt: &impl Abort, alloc: Global) -> Result<(), Fail> {
-    let encode = EncodeConfig::new(alloc).with_option("dark", "X")?;
-    let copy = encode.clone(alloc)?;
+/// The same of an encoder's configuration.
+fn encoding_keeps_what_is_asked(rt: &impl Abort, alloc: Global) {
+    let encode = EncodeConfig::new(alloc).with_option("dark", "X");
+    let copy = encode
+        .expect(rt, "memory")
+        .clone(alloc)
+        .expect(rt, "memory");
     assert!(rt; copy.option("dark") == Some("X") && copy.option("light").is_none());
-    let bytes = EncodedOutput::Bytes(Vec::from_slice(alloc, b"abc")?);
-    assert_eq!(rt; bytes.clone(alloc)?, bytes);
-    Ok(())
+}
+
+/// The same of what an encoder answers.
+fn encoded_bytes_are_copied(rt: &impl Abort, alloc: Global) {
+    let bytes = EncodedOutput::Bytes(Vec::from_slice(alloc, b"abc").expect(rt, "memory"));
+    assert!(rt; bytes.clone(alloc).expect(rt, "memory") == bytes);
 }
 
 #[test]
-fn configurations_are_refused(rt: HostRuntime) -> Result<(), Fail> {
-    let alloc = rt.alloc();
-    let mut registry = PluginRegistry::new(alloc);
-    let replaced = registry.register_renderer("text", Box::new(alloc, Text)?)?;
-    assert!(rt; replaced.is_none());
-    refuses_to_build(
-        &rt,
-        alloc,
-        &registry,
-        "text",
-        "invalid plugin config: light",
-    )?;
-    refuses_to_build(
-        &rt,
-        alloc,
-        &registry,
-        "missing",
-        "renderer plugin not found: missing",
-    )
+fn configurations_are_refused(rt: HostRuntime) {
+    let mut registry = PluginRegistry::new(rt.alloc());
+    assert!(rt; is_new_renderer(&rt, rt.alloc(), &mut registry, "text"));
+    for (name, text) in [
+        ("text", "invalid plugin config: light"),
+        ("missing", "renderer plugin not found: missing"),
+    ] {
+        refuses_to_build(&rt, rt.alloc(), &registry, name, text);
+    }
 }
 
 /// A renderer is not built with the option `light`, and the refusal is told by this text.
@@ -385,42 +374,51 @@ fn refuses_to_build(
     registry: &PluginRegistry,
     name: &str,
     text: &str,
-) -> Result<(), Fail> {
-    let config = RenderConfig::new(alloc).with_option("light", "X")?;
-    let refused = registry.build_renderer(name, &config).err().ok_or("built")?;
-    assert_eq!(rt; format!(in alloc; "{refused}")?.as_str(), text);
-    Ok(())
+) {
+    let config = RenderConfig::new(alloc).with_option("light", "X");
+    let built = registry
+        .build_renderer(name, &config.expect(rt, "memory"))
+        .err();
+    is_told(rt, alloc, &built.expect(rt, "built"), text);
 }
 
 #[test]
-fn processing_stops_at_a_refusal(rt: HostRuntime) -> Result<(), Fail> {
+fn processing_stops_at_a_refusal(rt: HostRuntime) {
     let alloc = rt.alloc();
     let mut registry = PluginRegistry::new(alloc);
-    registry.register_postprocessor(Box::new(alloc, Darken { x: 0 })?)?;
-    registry.register_postprocessor(Box::new(alloc, Boom)?)?;
-    registry.register_postprocessor(Box::new(alloc, Darken { x: 1 })?)?;
-    stops_at_boom(&rt, alloc, &registry)
+    darkens(&rt, alloc, &mut registry, 0);
+    let boom = Box::new(alloc, Boom).expect(&rt, "memory");
+    registry.register_postprocessor(boom).expect(&rt, "memory");
+    darkens(&rt, alloc, &mut registry, 1);
+    stops_at_boom(&rt, alloc, &registry);
+}
+
+/// Registers a postprocessor for a module of the top row.
+fn darkens(rt: &impl Abort, alloc: Global, registry: &mut PluginRegistry, x: usize) {
+    let darken = Box::new(alloc, Darken { x }).expect(rt, "memory");
+    registry.register_postprocessor(darken).expect(rt, "memory");
 }
 
 /// The modules are processed up to the refusal `boom`, behind which nothing more is done.
-fn stops_at_boom(rt: &impl Abort, alloc: Global, registry: &PluginRegistry) -> Result<(), Fail> {
-    let mut grid = grid_of_text(alloc, "....", 2, 2)?;
-    let boom = PluginError::PostProcessFailed(String::from_str(alloc, "boom")?);
-    assert_eq!(rt; registry.process_modules(&mut grid), Err(boom));
-    assert_eq!(rt;
-        text_of_marks(alloc, ModuleStorage::modules(&grid), "#")?.as_str(),
-        "#..."
+fn stops_at_boom(rt: &impl Abort, alloc: Global, registry: &PluginRegistry) {
+    let mut grid = grid_of_text(alloc, "....", 2, 2).expect(rt, "a grid");
+    let answer = registry.process_modules(&mut grid);
+    assert!(rt;
+        matches!(&answer, Err(PluginError::PostProcessFailed(text)) if text.as_str() == "boom")
     );
-    Ok(())
+    let marks = text_of_marks(alloc, ModuleStorage::modules(&grid), "#").expect(rt, "memory");
+    assert_eq!(rt; marks.as_str(), "#...");
 }
 
 #[test]
-fn errors_print_their_texts(rt: HostRuntime) -> Result<(), Fail> {
+fn errors_print_their_texts(rt: HostRuntime) {
     let alloc = rt.alloc();
     for (number, want) in ERROR_TEXTS.iter().enumerate() {
-        let error = error_with(number, String::from_str(alloc, "x")?);
-        assert_eq!(rt; format!(in alloc; "{error}")?.as_str(), *want);
-        assert_eq!(rt; error.clone(alloc)?, error);
+        let error = error_with(number, own(&rt, alloc, "x"));
+        is_told(&rt, alloc, &error, want);
+        assert!(rt;
+            error.clone(alloc).expect(&rt, "memory") == error,
+            "at {want}"
+        );
     }
-    Ok(())
 }

@@ -1,5 +1,6 @@
 //! Counts, capacities and encoded data.
 
+use super::started;
 use qrcode_base::types::{EcLevel, Mode, QrError, QrResult, Version};
 use qrcode_bits::bits::{
     Bits, EncodingModes, encode_auto, encode_auto_micro, encode_auto_with_max_version,
@@ -62,7 +63,7 @@ fn counts_that_fit_their_field(rt: HostRuntime) -> QrResult<()> {
 /// The most characters go in.
 fn takes_all(rt: &impl Abort, alloc: Global, row: &(Version, Mode, usize, usize)) -> QrResult<()> {
     let (version, mode, most, len) = *row;
-    let (answer, bits) = pushed(alloc, Bits::new(alloc, version), mode, most)?;
+    let (answer, bits) = pushed(alloc, started(alloc, version), mode, most)?;
     assert_eq!(rt;
         (answer, bits.len(), bits.payload_bits_len()),
         (Ok(()), len, len)
@@ -78,7 +79,7 @@ fn takes_no_more(
     row: &(Version, Mode, usize, usize),
 ) -> QrResult<()> {
     let (version, mode, most, _) = *row;
-    let (answer, bits) = pushed(alloc, Bits::new(alloc, version), mode, more_than(most))?;
+    let (answer, bits) = pushed(alloc, started(alloc, version), mode, more_than(most))?;
     assert_eq!(rt;
         (answer, bits.len(), bits.payload_bits_len()),
         (Err(QrError::DataTooLong), 0, 0)
