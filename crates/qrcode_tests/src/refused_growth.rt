@@ -14,9 +14,10 @@ use qrcode_core::bits::{
 };
 use qrcode_core::canvas::{Canvas, MaskPattern};
 use qrcode_core::ec::{construct_codewords, create_error_correction_code};
-use qrcode_core::optimize::{Parser, optimize_segments, supports_linear_costs};
+use qrcode_core::optimize::{Parser, Segment, optimize_segments, supports_linear_costs};
 use qrcode_core::symbol::{symbol, symbol_micro, symbol_sequence};
 use qrcode_core::types::{EcLevel, Mode, QrError, QrResult, Version};
+use std::alloc::Global;
 
 const ONE: Version = Version::Normal(1);
 
@@ -66,16 +67,15 @@ fn symbol_micro_of_five_digits(rt: HostRuntime) -> QrResult<()> {
     Ok(())
 }
 
+static HASHES: [u32; 3] = [0xc43428a1, 0xf64cb6af, 0xd9083bff];
+
 #[test]
 fn symbol_sequence_of_three(rt: HostRuntime) -> QrResult<()> {
     let grids = symbol_sequence(rt.alloc(), b"AB12cd", &[2, 4], EcLevel::L, 40)?;
-    let hashes = [0xc43428a1, 0xf64cb6af, 0xd9083bff];
-    assert!(rt;
-        grids
-            .iter()
-            .map(|grid| hash(grid))
-            .eq(hashes.iter().copied())
-    );
+    assert_eq!(rt; grids.len(), HASHES.len());
+    for (grid, sum) in grids.iter().zip(HASHES.iter()) {
+        assert_eq!(rt; hash(grid), *sum);
+    }
     Ok(())
 }
 
@@ -132,6 +132,19 @@ fn encode_part_of_two_letters(rt: HostRuntime) -> QrResult<()> {
     Ok(())
 }
 
+static PARTS: [Segment; 2] = [
+    Segment {
+        mode: Mode::Alphanumeric,
+        begin: 0,
+        end: 6,
+    },
+    Segment {
+        mode: Mode::Byte,
+        begin: 6,
+        end: 10,
+    },
+];
+
 /// Letters and digits, and then bytes: the least plan joins the first two.
 #[test]
 fn plans_of_three_segments(rt: HostRuntime) -> QrResult<()> {
@@ -141,8 +154,7 @@ fn plans_of_three_segments(rt: HostRuntime) -> QrResult<()> {
     }
     assert!(rt; supports_linear_costs(&segments, ONE));
     let plan = optimize_segments(rt.alloc(), &segments, ONE)?;
-    let parts = plan.iter().map(|part| (part.mode, part.end));
-    assert!(rt; parts.eq([(Mode::Alphanumeric, 6), (Mode::Byte, 10)].iter().copied()));
+    assert!(rt; plan.as_slice() == PARTS.as_slice());
     let parsed = Parser::new(b"ABC123abcd").optimize(rt.alloc(), ONE)?;
     assert!(rt; parsed.eq(plan.iter().copied()));
     Ok(())
@@ -158,25 +170,43 @@ fn create_error_correction_code_of_hello_world(rt: HostRuntime) -> QrResult<()> 
 #[test]
 fn construct_codewords_of_hello_world(rt: HostRuntime) -> QrResult<()> {
     let (data, correction) = construct_codewords(rt.alloc(), &HELLO_WORLD, ONE, EcLevel::M)?;
-    assert_eq!(rt; data.as_slice(), &HELLO_WORLD[..]);
-    assert_eq!(rt; correction.as_slice(), &HELLO_WORLD_CORRECTION[..]);
+    assert!(rt; data.as_slice() == HELLO_WORLD.as_slice());
+    assert!(rt; correction.as_slice() == HELLO_WORLD_CORRECTION.as_slice());
     Ok(())
 }
 
-/// The three choices of a mask agree on the symbol of `12345`, which is known with its score.
-#[test]
-fn best_masks_of_five_digits(rt: HostRuntime) -> QrResult<()> {
-    let mut canvas = Canvas::new(rt.alloc(), Version::Micro(1), EcLevel::L)?;
+/// A canvas of `12345`, whose symbol is known with its score.
+fn five_digits(alloc: Global) -> QrResult<Canvas> {
+    let mut canvas = Canvas::new(alloc, Version::Micro(1), EcLevel::L)?;
     canvas.draw_all_functional_patterns();
     canvas.draw_data(&[0xa3, 0xda, 0xd0], &[0x6e, 0xc7]);
-    let (scored, pattern, score) = canvas
-        .clone(rt.alloc())?
-        .apply_best_mask_with_score(rt.alloc())?;
-    assert_eq!(rt; (pattern, score), (MaskPattern::Diamonds, 85));
-    let (masked, pattern) = canvas.apply_best_mask_with_pattern(rt.alloc())?;
-    assert_eq!(rt; pattern, MaskPattern::Diamonds);
-    for best in [scored, masked, canvas.apply_best_mask(rt.alloc())?] {
-        assert_eq!(rt; hash(&best.into_colors(rt.alloc())?), 0x31f2a162);
-    }
+    canvas.clone(alloc)
+}
+
+// The three choices of a mask agree.
+
+#[test]
+fn best_masks_of_five_digits(rt: HostRuntime) -> QrResult<()> {
+    let best = five_digits(rt.alloc())?.apply_best_mask(rt.alloc())?;
+    assert_eq!(rt; hash(&best.into_colors(rt.alloc())?), 0x31f2a162);
+    Ok(())
+}
+
+#[test]
+fn best_mask_with_pattern_of_five_digits(rt: HostRuntime) -> QrResult<()> {
+    let canvas = five_digits(rt.alloc())?;
+    let (best, pattern) = canvas.apply_best_mask_with_pattern(rt.alloc())?;
+    assert!(rt; pattern == MaskPattern::Diamonds);
+    assert_eq!(rt; hash(&best.into_colors(rt.alloc())?), 0x31f2a162);
+    Ok(())
+}
+
+#[test]
+fn best_mask_with_score_of_five_digits(rt: HostRuntime) -> QrResult<()> {
+    let canvas = five_digits(rt.alloc())?;
+    let (best, pattern, score) = canvas.apply_best_mask_with_score(rt.alloc())?;
+    assert!(rt; pattern == MaskPattern::Diamonds);
+    assert_eq!(rt; score, 85);
+    assert_eq!(rt; hash(&best.into_colors(rt.alloc())?), 0x31f2a162);
     Ok(())
 }

@@ -5,7 +5,6 @@ use qrcode_core::symbol::{are_cuts, symbol_sequence};
 use qrcode_core::types::{Color, EcLevel, QrError, QrResult};
 use std::alloc::Global;
 use std::process::Abort;
-use std::test::Fail;
 
 /// Data, its cuts and the greatest version; then the version and the payload of each symbol, and the parity of the
 /// data.
@@ -82,27 +81,25 @@ fn grids(alloc: Global, row: &Row) -> Option<Vec<Vec<Color>>> {
 }
 
 #[test]
-fn draws_each_part(rt: HostRuntime) -> Result<(), Fail> {
+fn draws_each_part(rt: HostRuntime) {
     for row in &ROWS {
-        let grids = grids(rt.alloc(), row).ok_or("no symbols")?;
+        let grids = grids(rt.alloc(), row).expect(&rt, "no symbols");
         assert_eq!(rt; grids.len(), row.symbols.len());
         for (index, grid) in grids.iter().enumerate() {
-            let seen = read(rt.alloc(), grid).ok_or("no symbol")?;
-            is_part(&rt, &seen, row, index)?;
+            let seen = read(rt.alloc(), grid).expect(&rt, "no symbol");
+            is_part(&rt, &seen, row, index);
         }
     }
-    Ok(())
 }
 
 /// A symbol has the version, the payload and the header of a part of a row.
-fn is_part(rt: &impl Abort, seen: &Seen, row: &Row, index: usize) -> Result<(), Fail> {
-    let symbol = row.symbols.get(index).ok_or("no part")?;
+fn is_part(rt: &impl Abort, seen: &Seen, row: &Row, index: usize) {
+    let symbol = row.symbols.get(index).expect(rt, "no part");
     assert!(rt; !seen.shape.micro && seen.level == Level::L);
     assert_eq!(rt; (seen.shape.number, seen.payload), *symbol);
-    let (position, total, parity) = seen.header.ok_or("no header")?;
+    let (position, total, parity) = seen.header.expect(rt, "no header");
     let header = (usize::from(position), usize::from(total), parity);
     assert_eq!(rt; header, (index + 1, row.symbols.len(), row.parity));
-    Ok(())
 }
 
 /// The hashes of the symbols of the third row, which are those of the original crate's.
@@ -112,17 +109,12 @@ static SIXTEEN: [u32; 16] = [
 ];
 
 #[test]
-fn draws_sixteen_symbols(rt: HostRuntime) -> Result<(), Fail> {
-    let row = ROWS.get(2).ok_or("no row")?;
-    let grids = grids(rt.alloc(), row).ok_or("no symbols")?;
-    assert_eq!(rt; grids.len(), SIXTEEN.len());
-    assert!(rt;
-        grids
-            .iter()
-            .map(|grid| hash(grid))
-            .eq(SIXTEEN.iter().copied())
-    );
-    Ok(())
+fn draws_sixteen_symbols(rt: HostRuntime) {
+    let grids = grids(rt.alloc(), &ROWS[2]).expect(&rt, "no symbols");
+    assert_eq!(rt; grids.len(), 16);
+    for (grid, sum) in grids.iter().zip(SIXTEEN.iter()) {
+        assert_eq!(rt; hash(grid), *sum);
+    }
 }
 
 /// The data codewords of one symbol of a row.
@@ -132,11 +124,11 @@ fn codewords(alloc: Global, row: &Row, index: usize) -> Option<Vec<u8>> {
 }
 
 /// The first symbol of the first row, both of the second and the last of the third.
-static CODEWORDS: [(usize, usize, [u8; 19]); 4] = [
+static CODEWORDS: [(usize, usize, &[u8]); 4] = [
     (
         0,
         0,
-        [
+        &[
             0x30, 0x20, 0x72, 0x01, 0x1c, 0xd0, 0xec, 0x11, 0xec, 0x11, 0xec, 0x11, 0xec, 0x11,
             0xec, 0x11, 0xec, 0x11, 0xec,
         ],
@@ -144,7 +136,7 @@ static CODEWORDS: [(usize, usize, [u8; 19]); 4] = [
     (
         1,
         0,
-        [
+        &[
             0x30, 0x10, 0x00, 0xec, 0x11, 0xec, 0x11, 0xec, 0x11, 0xec, 0x11, 0xec, 0x11, 0xec,
             0x11, 0xec, 0x11, 0xec, 0x11,
         ],
@@ -152,7 +144,7 @@ static CODEWORDS: [(usize, usize, [u8; 19]); 4] = [
     (
         1,
         1,
-        [
+        &[
             0x31, 0x10, 0x00, 0xec, 0x11, 0xec, 0x11, 0xec, 0x11, 0xec, 0x11, 0xec, 0x11, 0xec,
             0x11, 0xec, 0x11, 0xec, 0x11,
         ],
@@ -160,7 +152,7 @@ static CODEWORDS: [(usize, usize, [u8; 19]); 4] = [
     (
         2,
         15,
-        [
+        &[
             0x3f, 0xf1, 0x04, 0x01, 0x70, 0x00, 0xec, 0x11, 0xec, 0x11, 0xec, 0x11, 0xec, 0x11,
             0xec, 0x11, 0xec, 0x11, 0xec,
         ],
@@ -168,31 +160,30 @@ static CODEWORDS: [(usize, usize, [u8; 19]); 4] = [
 ];
 
 #[test]
-fn writes_header_and_part(rt: HostRuntime) -> Result<(), Fail> {
+fn writes_header_and_part(rt: HostRuntime) {
     for (row, index, wanted) in &CODEWORDS {
-        let row = ROWS.get(*row).ok_or("no row")?;
-        let codewords = codewords(rt.alloc(), row, *index).ok_or("no symbol")?;
-        assert_eq!(rt; codewords.as_slice(), wanted.as_slice());
+        let row = ROWS.get(*row).expect(&rt, "no row");
+        let codewords = codewords(rt.alloc(), row, *index).expect(&rt, "no symbol");
+        assert_eq!(rt; codewords.as_slice(), *wanted);
     }
-    Ok(())
 }
 
-/// All symbols in order, reversed, and rotated by one.
-fn whole_orders(alloc: Global, total: usize) -> Option<[Vec<usize>; 3]> {
-    Some([
-        (0..total).collect(alloc).ok()?,
-        (0..total).rev().collect(alloc).ok()?,
-        (1..total).chain(0..1).collect(alloc).ok()?,
-    ])
+/// All symbols in order, reversed, or rotated by one.
+fn whole_order(alloc: Global, total: usize, way: usize) -> Option<Vec<usize>> {
+    match way {
+        0 => (0..total).collect(alloc).ok(),
+        1 => (0..total).rev().collect(alloc).ok(),
+        _ => (1..total).chain(0..1).collect(alloc).ok(),
+    }
 }
 
-/// One symbol taken out, one given twice, and one given in the place of another.
-fn broken_orders(alloc: Global, total: usize) -> Option<[Vec<usize>; 3]> {
-    Some([
-        (1..total).collect(alloc).ok()?,
-        (0..total).chain(0..1).collect(alloc).ok()?,
-        (1..total).chain(1..2).collect(alloc).ok()?,
-    ])
+/// One symbol taken out, one given twice, or one given in the place of another.
+fn broken_order(alloc: Global, total: usize, way: usize) -> Option<Vec<usize>> {
+    match way {
+        0 => (1..total).collect(alloc).ok(),
+        1 => (0..total).chain(0..1).collect(alloc).ok(),
+        _ => (1..total).chain(1..2).collect(alloc).ok(),
+    }
 }
 
 /// The modules of some grids, for the plain reader.
@@ -205,19 +196,28 @@ fn all_modules(alloc: Global, grids: &[Vec<Color>]) -> Option<Vec<Vec<bool>>> {
 }
 
 #[test]
-fn reads_in_any_order(rt: HostRuntime) -> Result<(), Fail> {
+fn reads_in_any_order(rt: HostRuntime) {
     for row in &ROWS {
-        let grids = grids(rt.alloc(), row).ok_or("no symbols")?;
-        let symbols = all_modules(rt.alloc(), &grids).ok_or("no memory")?;
-        for order in &whole_orders(rt.alloc(), grids.len()).ok_or("no order")? {
-            let message = read_sequence(rt.alloc(), &symbols, order).ok_or("no message")?;
-            assert_eq!(rt; message.as_slice(), row.bytes);
-        }
-        for order in &broken_orders(rt.alloc(), grids.len()).ok_or("no order")? {
-            assert!(rt; read_sequence(rt.alloc(), &symbols, order).is_none());
+        let grids = grids(rt.alloc(), row).expect(&rt, "no symbols");
+        let symbols = all_modules(rt.alloc(), &grids).expect(&rt, "no memory");
+        for way in 0..3usize {
+            reads_whole(&rt, rt.alloc(), &symbols, row.bytes, way);
+            reads_nothing(&rt, rt.alloc(), &symbols, way);
         }
     }
-    Ok(())
+}
+
+/// The symbols in a whole order give the bytes.
+fn reads_whole(rt: &impl Abort, alloc: Global, symbols: &[Vec<bool>], bytes: &[u8], way: usize) {
+    let order = whole_order(alloc, symbols.len(), way).expect(rt, "no order");
+    let message = read_sequence(alloc, symbols, &order).expect(rt, "no message");
+    assert_eq!(rt; message.as_slice(), bytes);
+}
+
+/// The symbols in a broken order give nothing.
+fn reads_nothing(rt: &impl Abort, alloc: Global, symbols: &[Vec<bool>], way: usize) {
+    let order = broken_order(alloc, symbols.len(), way).expect(rt, "no order");
+    assert!(rt; read_sequence(alloc, symbols, &order).is_none());
 }
 
 /// Data, its cuts and the greatest version, with the refusal.

@@ -4,9 +4,9 @@ use qrcode_core::canvas::MaskPattern;
 use qrcode_core::limits::ResourceLimits;
 use qrcode_core::symbol::{Symbol, are_cuts, symbol, symbol_micro, symbol_sequence};
 use qrcode_core::traits::{ModuleSource, QrSymbol};
-use qrcode_core::types::{Color, EcLevel, QrError, Version};
+use qrcode_core::types::{Color, EcLevel, QrError, QrResult, Version};
+use std::alloc::Global;
 use std::process::Abort;
-use std::test::Fail;
 
 /// The rows of the symbol of `12345` in M1, dark as one (ISO/IEC 18004 has none; the original crate draws it so).
 static ROWS: [u16; 11] = [
@@ -24,8 +24,8 @@ static ROWS: [u16; 11] = [
 ];
 
 #[test]
-fn draws_micro_symbol(rt: HostRuntime) -> Result<(), Fail> {
-    let grid = symbol_micro(rt.alloc(), b"12345", EcLevel::L)?;
+fn draws_micro_symbol(rt: HostRuntime) {
+    let grid = symbol_micro(rt.alloc(), b"12345", EcLevel::L).expect(&rt, "no symbol");
     assert_eq!(rt; grid.len(), 121);
     for (y, row) in ROWS.iter().enumerate() {
         for x in 0..11 {
@@ -40,110 +40,119 @@ fn draws_micro_symbol(rt: HostRuntime) -> Result<(), Fail> {
             );
         }
     }
-    Ok(())
 }
 
 #[test]
-fn tells_micro_symbol(rt: HostRuntime) -> Result<(), Fail> {
-    let symbol = Symbol::micro(rt.alloc(), b"12345", EcLevel::L)?;
-    let level = symbol.error_correction_level();
-    assert_eq!(rt; (symbol.version(), level), (Version::Micro(1), EcLevel::L));
-    assert_eq!(rt;
-        (symbol.mask(), symbol.quiet_zone()),
-        (MaskPattern::Diamonds, 2)
-    );
-    assert_eq!(rt; (symbol.width(), symbol.height()), (11, 11));
-    assert_eq!(rt; symbol.get(9, 0), Color::Light);
-    assert_eq!(rt; symbol.get(10, 0), Color::Dark);
-    assert_eq!(rt; symbol.get(0, 9), Color::Light);
-    Ok(())
+fn tells_micro_symbol(rt: HostRuntime) {
+    let symbol = Symbol::micro(rt.alloc(), b"12345", EcLevel::L).expect(&rt, "no symbol");
+    assert!(rt; symbol.version() == Version::Micro(1));
+    assert!(rt; symbol.error_correction_level() == EcLevel::L);
+    assert!(rt; symbol.mask() == MaskPattern::Diamonds && symbol.quiet_zone() == 2);
+    assert!(rt; symbol.width() == 11 && symbol.height() == 11);
+    assert!(rt; symbol.get(9, 0) == Color::Light && symbol.get(10, 0) == Color::Dark);
+    assert!(rt; symbol.get(0, 9) == Color::Light);
 }
 
 /// The example of ISO/IEC 18004, annex I: version 1, level M, data mask pattern 010.
 #[test]
-fn tells_symbol(rt: HostRuntime) -> Result<(), Fail> {
+fn tells_symbol(rt: HostRuntime) {
     let alloc = rt.alloc();
-    let symbol = Symbol::new(alloc, b"01234567", EcLevel::M)?;
+    let symbol = Symbol::new(alloc, b"01234567", EcLevel::M).expect(&rt, "no symbol");
     is_the_example(&rt, &symbol);
-    let again = symbol.clone(alloc)?;
+    let again = symbol.clone(alloc).expect(&rt, "memory");
     is_the_example(&rt, &again);
     assert!(rt; again.modules() == symbol.modules());
     let colors = symbol.into_colors();
     assert!(rt; again.modules() == colors.as_slice());
-    Ok(())
 }
 
 /// What the example says of itself, and that its view has its rows.
 fn is_the_example(rt: &impl Abort, symbol: &Symbol) {
-    let level = symbol.error_correction_level();
-    assert_eq!(rt; (symbol.version(), level), (Version::Normal(1), EcLevel::M));
-    assert_eq!(rt;
-        (symbol.mask(), symbol.quiet_zone()),
-        (MaskPattern::VerticalLines, 4)
-    );
+    assert!(rt; symbol.version() == Version::Normal(1));
+    assert!(rt; symbol.error_correction_level() == EcLevel::M);
+    assert!(rt; symbol.mask() == MaskPattern::VerticalLines && symbol.quiet_zone() == 4);
     assert!(rt; symbol.module_view().row(20) == symbol.row(20));
 }
 
 #[test]
-fn tells_sequence(rt: HostRuntime) -> Result<(), Fail> {
+fn tells_sequence(rt: HostRuntime) {
     let cuts = [2, 4];
     assert!(rt; are_cuts(&cuts, 6));
-    let symbols = Symbol::sequence(rt.alloc(), b"AB12cd", &cuts, EcLevel::Q, 40)?;
+    let symbols = Symbol::sequence(rt.alloc(), b"AB12cd", &cuts, EcLevel::Q, 40);
+    let symbols = symbols.expect(&rt, "no symbols");
     assert_eq!(rt; symbols.len(), 3);
     for symbol in &symbols {
-        assert_eq!(rt; symbol.version(), Version::Normal(1));
-        assert_eq!(rt; symbol.error_correction_level(), EcLevel::Q);
+        assert!(rt; symbol.version() == Version::Normal(1));
+        assert!(rt; symbol.error_correction_level() == EcLevel::Q);
     }
-    Ok(())
 }
 
 #[test]
-fn holds_bits(rt: HostRuntime) -> Result<(), Fail> {
-    let alloc = rt.alloc();
-    let mut bits = Bits::new(alloc, Version::Micro(1));
-    bits.push_numeric_data(b"12345")?;
-    let symbol = Symbol::with_bits(alloc, bits, EcLevel::L)?;
-    assert_eq!(rt; symbol.mask(), MaskPattern::Diamonds);
-    let same = symbol_micro(alloc, b"12345", EcLevel::L)?;
+fn holds_bits(rt: HostRuntime) {
+    let mut bits = Bits::new(rt.alloc(), Version::Micro(1));
+    assert!(rt; bits.push_numeric_data(b"12345").is_ok());
+    let symbol = Symbol::with_bits(rt.alloc(), bits, EcLevel::L).expect(&rt, "no symbol");
+    assert!(rt; symbol.mask() == MaskPattern::Diamonds);
+    let same = symbol_micro(rt.alloc(), b"12345", EcLevel::L).expect(&rt, "no symbol");
     assert!(rt; symbol.modules() == same.as_slice());
-    let none = Bits::new(alloc, Version::Normal(41));
-    let refused = Symbol::with_bits(alloc, none, EcLevel::L);
+}
+
+#[test]
+fn refuses_bits(rt: HostRuntime) {
+    let none = Bits::new(rt.alloc(), Version::Normal(41));
+    let refused = Symbol::with_bits(rt.alloc(), none, EcLevel::L).err();
     let lacking = QrError::InvalidVersion {
         version: Version::Normal(41),
         ec_level: EcLevel::L,
     };
-    assert_eq!(rt; refused.err(), Some(lacking));
-    let mut long = Bits::new(alloc, Version::Normal(1));
-    long.push_byte_data(b"eighteen character")?;
-    let refused = Symbol::with_bits(alloc, long, EcLevel::L);
-    assert_eq!(rt; refused.err(), Some(QrError::DataTooLong));
-    Ok(())
+    assert!(rt; refused == Some(lacking));
+    let mut long = Bits::new(rt.alloc(), Version::Normal(1));
+    assert!(rt; long.push_byte_data(b"eighteen character").is_ok());
+    let refused = Symbol::with_bits(rt.alloc(), long, EcLevel::L).err();
+    assert!(rt; refused == Some(QrError::DataTooLong));
+}
+
+/// The version of a symbol under limits, or its refusal.
+fn under(alloc: Global, bytes: &[u8], version: Version) -> QrResult<Version> {
+    let limits = ResourceLimits::new(18, version, (100, 100));
+    Ok(Symbol::with_limits(alloc, bytes, EcLevel::L, &limits)?.version())
+}
+
+/// Bytes and the greatest version, with the answer at level L for up to 18 bytes.
+static LIMITED: [(&[u8], Version, QrResult<Version>); 4] = [
+    (
+        b"seventeen letters",
+        Version::Normal(1),
+        Ok(Version::Normal(1)),
+    ),
+    (
+        b"eighteen character",
+        Version::Normal(1),
+        Err(QrError::DataTooLong),
+    ),
+    (
+        b"0123456789012345678",
+        Version::Normal(1),
+        Err(QrError::DataTooLong),
+    ),
+    (b"", Version::Micro(4), Err(QrError::InvalidResourceLimits)),
+];
+
+#[test]
+fn keeps_limits(rt: HostRuntime) {
+    for (bytes, version, wanted) in &LIMITED {
+        assert_eq!(rt; under(rt.alloc(), bytes, *version), *wanted);
+    }
 }
 
 #[test]
-fn keeps_limits(rt: HostRuntime) -> Result<(), Fail> {
-    let alloc = rt.alloc();
-    let limits = ResourceLimits::new(18, Version::Normal(1), (100, 100));
-    let symbol = Symbol::with_limits(alloc, b"seventeen letters", EcLevel::L, &limits)?;
-    assert_eq!(rt; symbol.version(), Version::Normal(1));
-    let wide = Symbol::with_limits(alloc, b"eighteen character", EcLevel::L, &limits);
-    assert_eq!(rt; wide.err(), Some(QrError::DataTooLong));
-    let long = Symbol::with_limits(alloc, b"0123456789012345678", EcLevel::L, &limits);
-    assert_eq!(rt; long.err(), Some(QrError::DataTooLong));
-    let none = ResourceLimits::new(18, Version::Micro(4), (100, 100));
-    let refused = Symbol::with_limits(alloc, b"", EcLevel::L, &none);
-    assert_eq!(rt; refused.err(), Some(QrError::InvalidResourceLimits));
-    Ok(())
-}
-
-#[test]
-fn draws_symbols(rt: HostRuntime) -> Result<(), Fail> {
-    assert_eq!(rt; symbol(rt.alloc(), b"hello", EcLevel::L)?.len(), 21 * 21);
+fn draws_symbols(rt: HostRuntime) {
+    let grid = symbol(rt.alloc(), b"hello", EcLevel::L).expect(&rt, "no symbol");
+    assert_eq!(rt; grid.len(), 21 * 21);
     let cuts = [2, 4];
     assert!(rt; are_cuts(&cuts, 6));
-    let grids = symbol_sequence(rt.alloc(), b"AB12cd", &cuts, EcLevel::L, 40)?;
-    assert_eq!(rt; grids.len(), 3);
-    Ok(())
+    let grids = symbol_sequence(rt.alloc(), b"AB12cd", &cuts, EcLevel::L, 40);
+    assert_eq!(rt; grids.expect(&rt, "no symbols").len(), 3);
 }
 
 #[test]
@@ -155,18 +164,16 @@ fn tests_cuts(rt: HostRuntime) {
 }
 
 #[test]
-fn refuses(rt: HostRuntime) -> Result<(), Fail> {
-    let long = vec![in rt.alloc(); b'a'; 2954]?;
-    let answer = symbol(rt.alloc(), &long, EcLevel::L);
-    assert_eq!(rt; answer.err(), Some(QrError::DataTooLong));
+fn refuses(rt: HostRuntime) {
+    let answer = symbol(rt.alloc(), &[b'a'; 2954], EcLevel::L);
+    assert!(rt; answer.err() == Some(QrError::DataTooLong));
     let digits = b"123451234512345123451234512345123456";
     let answer = symbol_micro(rt.alloc(), digits, EcLevel::L);
-    assert_eq!(rt; answer.err(), Some(QrError::DataTooLong));
+    assert!(rt; answer.err() == Some(QrError::DataTooLong));
     let answer = symbol_micro(rt.alloc(), b"1", EcLevel::H);
     let lacking = QrError::InvalidVersion {
         version: Version::Micro(4),
         ec_level: EcLevel::H,
     };
-    assert_eq!(rt; answer.err(), Some(lacking));
-    Ok(())
+    assert!(rt; answer.err() == Some(lacking));
 }

@@ -9,7 +9,7 @@ use qrcode_core::traits::{
 };
 use qrcode_core::types::{Color, EcLevel, QrError, Version};
 use std::alloc::{AllocError, Global};
-use std::test::Fail;
+use std::process::Abort;
 
 /// The symbol of `12345` in M1, a row a number, dark as one.
 static SYMBOL: [u16; 11] = [
@@ -215,90 +215,134 @@ fn limits_are_validated(rt: HostRuntime) {
         assert_eq!(rt; limits.validate().is_ok(), *want);
     }
     let default = ResourceLimits::new(7089, Version::Normal(40), (4096, 4096));
-    assert_eq!(rt; ResourceLimits::default(), default);
+    assert!(rt; ResourceLimits::default() == default);
 }
 
+/// Three by three modules.
+static NINE: [Color; 9] = [
+    Color::Dark,
+    Color::Dark,
+    Color::Light,
+    Color::Light,
+    Color::Dark,
+    Color::Light,
+    Color::Dark,
+    Color::Light,
+    Color::Dark,
+];
+
 #[test]
-fn views_lend_rows(rt: HostRuntime) -> Result<(), Fail> {
-    let list = colors(rt.alloc(), "##..#.#.#")?;
-    let view = ModuleView::new(&list, 3).ok_or("no view")?;
-    let lower = view.row_range(1, 3).ok_or("no rows")?;
-    assert!(rt; lower.modules() == &list[3..] && lower.height() == 2 && lower.width() == 3);
+fn views_lend_rows(rt: HostRuntime) {
+    let view = ModuleView::new(&NINE, 3).expect(&rt, "no view");
+    let lower = view.row_range(1, 3).expect(&rt, "no rows");
+    assert!(rt; lower.modules() == &NINE[3..] && lower.height() == 2 && lower.width() == 3);
     assert!(rt; view.row_range(2, 2).is_none() && view.row_range(2, 4).is_none());
-    assert!(rt; view.row(1) == &list[3..6] && view.get(1, 1) == Color::Dark && !view.is_empty());
-    assert!(rt; ModuleView::new(&list, 4).is_none() && ModuleView::new(&[], 0).is_none());
-    assert!(rt; ModuleView::new_rect(&list, usize::MAX, 2).is_none());
-    let flat = ModuleView::new_rect(&list[..6], 3, 2).ok_or("no view")?;
-    assert!(rt; flat.width() == 3 && flat.height() == 2 && flat.modules() == &list[..6]);
-    assert!(rt; flat.get(2, 1) == Color::Light && flat.get(1, 1) == Color::Dark);
-    Ok(())
+    assert!(rt; view.row(1) == &NINE[3..6] && view.get(1, 1) == Color::Dark && !view.is_empty());
 }
 
 #[test]
-fn lent_symbols_keep_version_and_level(rt: HostRuntime) -> Result<(), Fail> {
-    let list = symbol_colors(rt.alloc())?;
-    let micro = QrCodeRef::new(&list, 11, Version::Micro(1), EcLevel::L).ok_or("no symbol")?;
+fn views_fit_their_modules(rt: HostRuntime) {
+    assert!(rt; ModuleView::new(&NINE, 4).is_none() && ModuleView::new(&[], 0).is_none());
+    assert!(rt; ModuleView::new_rect(&NINE, usize::MAX, 2).is_none());
+}
+
+#[test]
+fn flat_view_lends_rows(rt: HostRuntime) {
+    let flat = ModuleView::new_rect(&NINE[..6], 3, 2).expect(&rt, "no view");
+    assert!(rt; flat.width() == 3 && flat.height() == 2 && flat.modules() == &NINE[..6]);
+    assert!(rt; flat.get(2, 1) == Color::Light && flat.get(1, 1) == Color::Dark);
+}
+
+#[test]
+fn lent_symbols_keep_version_and_level(rt: HostRuntime) {
+    let list = symbol_colors(rt.alloc()).expect(&rt, "memory");
+    micro_symbol_is_lent(&rt, &list);
+    let normal = QrCodeRef::new(&list, 11, Version::Normal(1), EcLevel::H);
+    assert_eq!(rt; normal.expect(&rt, "no symbol").quiet_zone(), 4);
+    assert!(rt; QrCodeRef::new(&list, 12, Version::Micro(1), EcLevel::L).is_none());
+}
+
+/// A lent Micro symbol tells version, level, quiet zone and modules.
+fn micro_symbol_is_lent(rt: &impl Abort, list: &[Color]) {
+    let micro = QrCodeRef::new(list, 11, Version::Micro(1), EcLevel::L).expect(rt, "no symbol");
     assert!(rt; micro.version() == Version::Micro(1) && micro.quiet_zone() == 2);
     assert!(rt; micro.error_correction_level() == EcLevel::L);
-    assert!(rt; micro.module_view() == ModuleView::new(&list, 11).ok_or("no view")?);
-    let normal = QrCodeRef::new(&list, 11, Version::Normal(1), EcLevel::H).ok_or("no symbol")?;
-    assert_eq!(rt; normal.quiet_zone(), 4);
-    assert!(rt; QrCodeRef::new(&list, 12, Version::Micro(1), EcLevel::L).is_none());
-    Ok(())
+    assert!(rt; ModuleView::new(list, 11) == Some(micro.module_view()));
 }
 
 #[test]
-fn a_renderer_prints_modules(rt: HostRuntime) -> Result<(), Fail> {
-    let alloc = rt.alloc();
+fn a_renderer_prints_modules(rt: HostRuntime) {
     let four = [Color::Dark, Color::Light, Color::Light, Color::Dark];
-    let view = ModuleView::new(&four, 2).ok_or("no view")?;
-    assert_eq!(rt; Marks.render(alloc, &view)?.as_str(), "#..#");
-    let list = symbol_colors(alloc)?;
-    let symbol = ModuleView::new(&list, 11).ok_or("no view")?;
+    let view = ModuleView::new(&four, 2).expect(&rt, "no view");
+    marks_are(&rt, rt.alloc(), &view, "#..#");
+    let list = symbol_colors(rt.alloc()).expect(&rt, "memory");
+    let symbol = ModuleView::new(&list, 11).expect(&rt, "no view");
     for (y, line) in PRINTED.iter().enumerate() {
-        let row = symbol.row_range(y, y + 1).ok_or("no row")?;
-        assert_eq!(rt; Marks.render(alloc, &row)?.as_str(), *line);
+        let row = symbol.row_range(y, y + 1).expect(&rt, "no row");
+        marks_are(&rt, rt.alloc(), &row, line);
     }
-    Ok(())
+}
+
+/// The marks of a view are this text.
+fn marks_are(rt: &impl Abort, alloc: Global, view: &ModuleView, text: &str) {
+    let marks = Marks.render(alloc, view).expect(rt, "memory");
+    assert_eq!(rt; marks.as_str(), text);
 }
 
 #[test]
-fn own_objects_serve(rt: HostRuntime) -> Result<(), Fail> {
-    let alloc = rt.alloc();
+fn own_objects_serve(rt: HostRuntime) {
     let mut square = Square {
         modules: [Color::Light; 4],
     };
     square.set(1, 0, Color::Dark);
-    assert_eq!(rt; square.row(0), [Color::Light, Color::Dark].as_slice());
-    assert_eq!(rt; Marks.render(alloc, &square)?.as_str(), ".#..");
-    assert_eq!(rt; Count.encode(alloc, b"abc")?, 3);
-    let longer = Longer {
-        modules: [Color::Dark; 7],
-    };
-    assert_eq!(rt; longer.row(1), [Color::Dark; 3].as_slice());
-    assert!(rt; longer.modules().len() == 7 && !longer.is_empty());
-    let lone = Lone(Color::Dark).build(alloc)?;
-    assert_eq!(rt; ModuleStorage::modules(&lone), [Color::Dark].as_slice());
-    Ok(())
+    assert!(rt; square.row(0) == [Color::Light, Color::Dark].as_slice());
+    let marks = Marks.render(rt.alloc(), &square).expect(&rt, "memory");
+    assert_eq!(rt; marks.as_str(), ".#..");
 }
 
 #[test]
-fn grids_fit_their_sides(rt: HostRuntime) -> Result<(), Fail> {
-    let alloc = rt.alloc();
-    for (text, width, height) in [("", usize::MAX, 2), ("", 0, 2), ("##", 2, 0), ("##.", 2, 2)] {
-        let refused = grid_of_text(alloc, text, width, height);
-        assert_eq!(rt; refused, Err(PluginError::InvalidModuleGrid));
+fn own_rows_serve(rt: HostRuntime) {
+    let longer = Longer {
+        modules: [Color::Dark; 7],
+    };
+    assert!(rt; longer.row(1) == [Color::Dark; 3].as_slice());
+    assert!(rt; longer.modules().len() == 7 && !longer.is_empty());
+}
+
+#[test]
+fn own_encoders_and_builders_serve(rt: HostRuntime) {
+    assert!(rt; Count.encode(rt.alloc(), b"abc") == Ok(3));
+    let lone = Lone(Color::Dark).build(rt.alloc()).expect(&rt, "a grid");
+    assert!(rt; ModuleStorage::modules(&lone) == [Color::Dark].as_slice());
+}
+
+/// Texts and sides that they don't fill.
+static MISFITS: [(&str, usize, usize); 4] = [
+    ("", usize::MAX, 2),
+    ("", 0, 2),
+    ("##", 2, 0),
+    ("##.", 2, 2),
+];
+
+#[test]
+fn grids_fit_their_sides(rt: HostRuntime) {
+    for (text, width, height) in &MISFITS {
+        let refused = grid_of_text(rt.alloc(), text, *width, *height).err();
+        assert_eq!(rt; refused, Some(PluginError::InvalidModuleGrid));
     }
-    let mut grid = grid_of_text(alloc, "#..#.#", 3, 2)?;
-    let same = grid.clone(alloc)?;
+}
+
+#[test]
+fn copies_of_grids_are_their_own(rt: HostRuntime) {
+    let mut grid = grid_of_text(rt.alloc(), "#..#.#", 3, 2).expect(&rt, "a grid");
+    let same = grid.clone(rt.alloc()).expect(&rt, "memory");
     grid.modules_mut().reverse();
-    assert_eq!(rt;
-        text_of_marks(alloc, ModuleStorage::modules(&grid), "#")?.as_str(),
-        "#.#..#"
-    );
-    assert_eq!(rt;
-        text_of_marks(alloc, ModuleStorage::modules(&same), "#")?.as_str(),
-        "#..#.#"
-    );
-    Ok(())
+    grid_shows(&rt, rt.alloc(), &grid, "#.#..#");
+    grid_shows(&rt, rt.alloc(), &same, "#..#.#");
+}
+
+/// The modules of a grid show this text.
+fn grid_shows(rt: &impl Abort, alloc: Global, grid: &ModuleGrid, text: &str) {
+    let marks = text_of_marks(alloc, ModuleStorage::modules(grid), "#").expect(rt, "memory");
+    assert_eq!(rt; marks.as_str(), text);
 }

@@ -4,6 +4,8 @@ use qrcode_core::bits::{Bits, EncodingModes, ExtendedMode};
 use qrcode_core::mode::ByteMode;
 use qrcode_core::optimize::Segment;
 use qrcode_core::types::{EcLevel, Mode, QrError, QrResult, Version};
+use std::alloc::Global;
+use std::process::Abort;
 
 /// One push.
 #[derive(Clone, Copy)]
@@ -86,16 +88,21 @@ fn single_pushes(rt: HostRuntime) -> QrResult<()> {
         let mut bits = Bits::new(rt.alloc(), Version::Normal(1));
         let answer = push.apply(&mut bits);
         if answer == Err(QrError::OutOfMemory) {
-            assert!(rt; bits.is_empty() && bits.payload_bits_len() == 0);
-            assert!(rt; bits.encoding_modes().is_empty());
-            assert!(rt; bits.into_bytes().is_empty());
+            is_as_new(&rt, bits);
             return answer;
         }
         assert_eq!(rt; answer, Ok(()));
         assert_eq!(rt; bits.len(), *len);
-        assert_eq!(rt; bits.into_bytes().as_slice(), *bytes);
+        assert!(rt; bits.into_bytes().as_slice() == *bytes);
     }
     Ok(())
+}
+
+/// Nothing stands in a stream.
+fn is_as_new(rt: &impl Abort, bits: Bits) {
+    assert!(rt; bits.is_empty() && bits.payload_bits_len() == 0);
+    assert!(rt; bits.encoding_modes().is_empty());
+    assert!(rt; bits.into_bytes().is_empty());
 }
 
 /// The letter a in version 1, ended at level L.
@@ -112,25 +119,36 @@ static LONG: [(Push, usize); 4] = [
     (Push::Reserve(5000), 0),
 ];
 
+/// A stream of the letter a, ended.
+fn ended(alloc: Global) -> QrResult<Bits> {
+    let mut bits = Bits::new(alloc, Version::Normal(1));
+    bits.push_byte_data(b"a")?;
+    bits.push_terminator(EcLevel::L)?;
+    Ok(bits)
+}
+
 /// A refused push leaves an ended stream with its bits, its modes and its payload.
 #[test]
 fn pushes_behind_an_end(rt: HostRuntime) -> QrResult<()> {
     for (push, added) in &LONG {
-        let mut bits = Bits::new(rt.alloc(), Version::Normal(1));
-        bits.push_byte_data(b"a")?;
-        bits.push_terminator(EcLevel::L)?;
+        let mut bits = ended(rt.alloc())?;
         let answer = push.apply(&mut bits);
         if answer == Err(QrError::OutOfMemory) {
-            assert_eq!(rt; (bits.len(), bits.payload_bits_len()), (152, 20));
-            assert_eq!(rt; bits.encoding_modes(), EncodingModes::from_mode(Mode::Byte));
-            assert_eq!(rt; bits.into_bytes().as_slice(), &ENDED[..]);
+            is_ended(&rt, bits);
             return answer;
         }
         assert_eq!(rt; answer, Ok(()));
-        assert_eq!(rt; bits.len(), 152 + added);
+        assert_eq!(rt; bits.len(), 152 + *added);
         assert!(rt; bits.into_bytes().as_slice().starts_with(&ENDED));
     }
     Ok(())
+}
+
+/// The stream is as it was ended.
+fn is_ended(rt: &impl Abort, bits: Bits) {
+    assert_eq!(rt; (bits.len(), bits.payload_bits_len()), (152, 20));
+    assert!(rt; bits.encoding_modes() == EncodingModes::from_mode(Mode::Byte));
+    assert!(rt; bits.into_bytes().as_slice() == ENDED.as_slice());
 }
 
 /// After `reserve` no push of as many bits wants memory, so that only the one growth of `reserve` is met.

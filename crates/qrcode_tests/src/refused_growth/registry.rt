@@ -9,22 +9,40 @@ use qrcode_core::types::Color;
 use std::alloc::Global;
 use std::process::Abort;
 
+/// A renderer and its name.
+fn named(alloc: Global, name: &str) -> Result<(String, Box<dyn DynRenderer>), PluginError> {
+    let renderer: Box<dyn DynRenderer> = Box::new(alloc, Text)?;
+    Ok((String::from_str(alloc, name)?, renderer))
+}
+
+/// Two renderers and their names.
+fn renderers(alloc: Global) -> Result<Vec<(String, Box<dyn DynRenderer>)>, PluginError> {
+    let first = named(alloc, "first")?;
+    let second = named(alloc, "second")?;
+    Ok(Vec::from_array(alloc, [first, second])?)
+}
+
+/// An encoder and its name.
+fn encoders(alloc: Global) -> Result<Vec<(String, Box<dyn DynEncoder>)>, PluginError> {
+    let encoder: Box<dyn DynEncoder> = Box::new(alloc, Plain)?;
+    let name = String::from_str(alloc, "third")?;
+    Ok(Vec::from_array(alloc, [(name, encoder)])?)
+}
+
+/// A postprocessor.
+fn postprocessors(alloc: Global) -> Result<Vec<Box<dyn PostProcessor>>, PluginError> {
+    let postprocessor: Box<dyn PostProcessor> = Box::new(alloc, Darken { x: 0 })?;
+    Ok(Vec::from_array(alloc, [postprocessor])?)
+}
+
 /// A plugin of five registrations: its version, two renderers, an encoder and a postprocessor.
-fn bundle(
-    alloc: Global,
-    first: Box<dyn DynRenderer>,
-    second: Box<dyn DynRenderer>,
-    encoder: Box<dyn DynEncoder>,
-    postprocessor: Box<dyn PostProcessor>,
-) -> Result<QrPlugin, PluginError> {
-    let first = (String::from_str(alloc, "first")?, first);
-    let second = (String::from_str(alloc, "second")?, second);
+fn bundle(alloc: Global) -> Result<QrPlugin, PluginError> {
     Ok(QrPlugin {
         name: String::from_str(alloc, "bundle")?,
         version: String::from_str(alloc, "0.1.0")?,
-        renderers: Vec::from_array(alloc, [first, second])?,
-        encoders: Vec::from_array(alloc, [(String::from_str(alloc, "third")?, encoder)])?,
-        postprocessors: Vec::from_array(alloc, [postprocessor])?,
+        renderers: renderers(alloc)?,
+        encoders: encoders(alloc)?,
+        postprocessors: postprocessors(alloc)?,
     })
 }
 
@@ -44,25 +62,31 @@ static EARLIER: [&str; 16] = [
     "a", "b", "c", "d", "e", "g", "h", "i", "j", "k", "l", "m", "n", "o", "p", "q",
 ];
 
-/// How many registrations of the plugin there are after it was registered where some renderers were there: 5, or the
-/// first so many where a growth was refused.
-fn kept_after(alloc: Global, earlier: usize) -> Result<usize, PluginError> {
+/// A registry with some renderers.
+fn registry_of(alloc: Global, earlier: usize) -> Result<PluginRegistry, PluginError> {
     let mut registry = PluginRegistry::new(alloc);
     for name in EARLIER.iter().take(earlier) {
         registry.register_renderer(name, Box::new(alloc, Text)?)?;
     }
-    let first = Box::new(alloc, Text)?;
-    let second = Box::new(alloc, Text)?;
-    let encoder = Box::new(alloc, Plain)?;
-    let postprocessor = Box::new(alloc, Darken { x: 0 })?;
-    let plugin = bundle(alloc, first, second, encoder, postprocessor)?;
-    let answer = registry.register_plugin(plugin);
-    let there = registrations(&registry);
+    Ok(registry)
+}
+
+/// How many registrations of the plugin there are, where they are the first of it: 5 where it succeeded, and fewer
+/// where it did not.
+fn kept_of(there: [bool; 5], succeeded: bool) -> Option<usize> {
     let kept = there.iter().take_while(|is| **is).count();
-    if there.iter().skip(kept).any(|is| *is) || answer.is_ok() != (kept == 5) {
-        return Err(PluginError::InvalidModuleGrid);
+    if there.iter().skip(kept).any(|is| *is) || succeeded != (kept == 5) {
+        return None;
     }
-    Ok(kept)
+    Some(kept)
+}
+
+/// How many registrations of the plugin there are after it was registered where some renderers were there: 5, or the
+/// first so many where a growth was refused.
+fn kept_after(alloc: Global, earlier: usize) -> Result<usize, PluginError> {
+    let mut registry = registry_of(alloc, earlier)?;
+    let succeeded = registry.register_plugin(bundle(alloc)?).is_ok();
+    kept_of(registrations(&registry), succeeded).ok_or(PluginError::InvalidModuleGrid)
 }
 
 /// A refused growth, and how many registrations stood before it; tools/refuse-growth wants to see each number from 0 to
@@ -90,82 +114,110 @@ fn register_plugin_of_five(rt: HostRuntime) -> Result<(), Refused> {
 /// A refused registration leaves the registry as it was.
 #[test]
 fn single_registrations(rt: HostRuntime) -> Result<(), PluginError> {
-    let alloc = rt.alloc();
-    let mut registry = PluginRegistry::new(alloc);
-    let renderer = Box::new(alloc, Text)?;
-    let answer = registry.register_renderer("first", renderer);
-    assert_eq!(rt; registry.renderer("first").is_some(), answer.is_ok());
-    answer?;
-    let encoder = Box::new(alloc, Plain)?;
-    let answer = registry.register_encoder("third", encoder);
-    assert_eq!(rt; registry.encoder("third").is_some(), answer.is_ok());
-    answer?;
-    let darken = Box::new(alloc, Darken { x: 0 })?;
+    let mut registry = PluginRegistry::new(rt.alloc());
+    single_renderer(&rt, rt.alloc(), &mut registry)?;
+    single_encoder(&rt, rt.alloc(), &mut registry)?;
+    let darken = Box::new(rt.alloc(), Darken { x: 0 })?;
     let answer = registry.register_postprocessor(darken);
-    assert_eq!(rt; registry.postprocessors().len() == 1, answer.is_ok());
+    assert!(rt; (registry.postprocessors().len() == 1) == answer.is_ok());
     assert!(rt; registry.renderer("first").is_some() && registry.encoder("third").is_some());
     answer
 }
 
+/// Registers a renderer.
+fn single_renderer(
+    rt: &impl Abort,
+    alloc: Global,
+    registry: &mut PluginRegistry,
+) -> Result<(), PluginError> {
+    let answer = registry.register_renderer("first", Box::new(alloc, Text)?);
+    assert!(rt; registry.renderer("first").is_some() == answer.is_ok());
+    answer?;
+    Ok(())
+}
+
+/// Registers an encoder.
+fn single_encoder(
+    rt: &impl Abort,
+    alloc: Global,
+    registry: &mut PluginRegistry,
+) -> Result<(), PluginError> {
+    let answer = registry.register_encoder("third", Box::new(alloc, Plain)?);
+    assert!(rt; registry.encoder("third").is_some() == answer.is_ok());
+    answer?;
+    Ok(())
+}
+
+/// The name of a renderer that is not found.
+fn missing_renderer(alloc: Global) -> Result<String, PluginError> {
+    let registry = PluginRegistry::new(alloc);
+    let built = registry.build_renderer("missing", &RenderConfig::new(alloc));
+    match built.err() {
+        Some(PluginError::RendererNotFound(name)) => Ok(name),
+        Some(error) => Err(error),
+        None => Err(PluginError::InvalidModuleGrid),
+    }
+}
+
+/// The name of an encoder that is not found.
+fn missing_encoder(alloc: Global) -> Result<String, PluginError> {
+    let registry = PluginRegistry::new(alloc);
+    let built = registry.build_encoder("missing", &EncodeConfig::new(alloc));
+    match built.err() {
+        Some(PluginError::EncoderNotFound(name)) => Ok(name),
+        Some(error) => Err(error),
+        None => Err(PluginError::InvalidModuleGrid),
+    }
+}
+
 #[test]
 fn missing_objects(rt: HostRuntime) -> Result<(), PluginError> {
-    let registry = PluginRegistry::new(rt.alloc());
-    match registry
-        .build_renderer("missing", &RenderConfig::new(rt.alloc()))
-        .err()
-    {
-        Some(PluginError::RendererNotFound(name)) => {
-            assert_eq!(rt; name.as_str(), "missing");
-        }
-        Some(error) => return Err(error),
-        None => assert!(rt; false, "a renderer"),
-    }
-    match registry
-        .build_encoder("missing", &EncodeConfig::new(rt.alloc()))
-        .err()
-    {
-        Some(PluginError::EncoderNotFound(name)) => {
-            assert_eq!(rt; name.as_str(), "missing");
-        }
-        Some(error) => return Err(error),
-        None => assert!(rt; false, "an encoder"),
-    }
+    assert_eq!(rt; missing_renderer(rt.alloc())?.as_str(), "missing");
+    assert_eq!(rt; missing_encoder(rt.alloc())?.as_str(), "missing");
     Ok(())
 }
 
 #[test]
 fn configurations(rt: HostRuntime) -> Result<(), PluginError> {
-    let alloc = rt.alloc();
-    let render = RenderConfig::new(alloc)
-        .with_format("svg")?
-        .with_option("dark", "X")?
-        .clone(alloc)?;
-    assert_eq!(rt;
-        (render.format(), render.option("dark")),
-        (Some("svg"), Some("X"))
-    );
-    let encode = EncodeConfig::new(alloc)
-        .with_option("dark", "X")?
-        .clone(alloc)?;
-    assert_eq!(rt; encode.option("dark"), Some("X"));
+    let render = RenderConfig::new(rt.alloc()).with_format("svg")?;
+    let render = render.with_option("dark", "X")?.clone(rt.alloc())?;
+    assert!(rt; render.format() == Some("svg"));
+    assert!(rt; render.option("dark") == Some("X"));
+    Ok(())
+}
+
+#[test]
+fn configurations_of_encoders(rt: HostRuntime) -> Result<(), PluginError> {
+    let encode = EncodeConfig::new(rt.alloc()).with_option("dark", "X")?;
+    assert!(rt; encode.clone(rt.alloc())?.option("dark") == Some("X"));
     Ok(())
 }
 
 #[test]
 fn copies(rt: HostRuntime) -> Result<(), PluginError> {
-    let alloc = rt.alloc();
-    let grid = ModuleGrid::new(Vec::from_array(alloc, [Color::Dark])?, 1, 1)?;
-    assert_eq!(rt; grid.clone(alloc)?, grid);
-    let text = RenderOutput::Text(String::from_str(alloc, "X")?);
-    assert_eq!(rt; text.clone(alloc)?, text);
-    copies_of_bytes(&rt, alloc)
+    let dark = Vec::from_array(rt.alloc(), [Color::Dark])?;
+    let grid = ModuleGrid::new(dark, 1, 1)?;
+    assert!(rt; grid.clone(rt.alloc())? == grid);
+    Ok(())
 }
 
-/// What an encoder answers, and an error, are copied.
-fn copies_of_bytes(rt: &impl Abort, alloc: Global) -> Result<(), PluginError> {
-    let bytes = EncodedOutput::Bytes(Vec::from_slice(alloc, b"X")?);
-    assert_eq!(rt; bytes.clone(alloc)?, bytes);
-    let error = PluginError::RenderFailed(String::from_str(alloc, "X")?);
-    assert_eq!(rt; error.clone(alloc)?, error);
+#[test]
+fn copies_of_outputs(rt: HostRuntime) -> Result<(), PluginError> {
+    let text = RenderOutput::Text(String::from_str(rt.alloc(), "X")?);
+    assert!(rt; text.clone(rt.alloc())? == text);
+    Ok(())
+}
+
+#[test]
+fn copies_of_bytes(rt: HostRuntime) -> Result<(), PluginError> {
+    let bytes = EncodedOutput::Bytes(Vec::from_slice(rt.alloc(), b"X")?);
+    assert!(rt; bytes.clone(rt.alloc())? == bytes);
+    Ok(())
+}
+
+#[test]
+fn copies_of_errors(rt: HostRuntime) -> Result<(), PluginError> {
+    let error = PluginError::RenderFailed(String::from_str(rt.alloc(), "X")?);
+    assert!(rt; error.clone(rt.alloc())? == error);
     Ok(())
 }
