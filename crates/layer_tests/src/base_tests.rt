@@ -6,6 +6,7 @@ use qrcode_base::symbols::block_layout;
 use qrcode_base::types::{Color, EcLevel, EnumParseError, Mode, QrError, QrResult, Version};
 use qrcode_base::version::{ConstVersion, StaticVersion};
 use std::cmp::Ordering;
+use std::process::Abort;
 use std::test::Fail;
 
 const NO_NUMBER: &str = "expected a version number";
@@ -28,7 +29,7 @@ static VERSION_TEXTS: [(&str, Version); 7] = [
 #[test]
 fn texts_name_versions(rt: HostRuntime) {
     for (text, want) in &VERSION_TEXTS {
-        assert_eq!(rt; text.parse::<Version>().ok(), Some(*want), "at {text}");
+        assert!(rt; text.parse::<Version>().ok() == Some(*want), "at {text}");
     }
 }
 
@@ -54,7 +55,7 @@ fn texts_name_no_version(rt: HostRuntime) -> Result<(), Fail> {
             return Err(Fail::from("a version"));
         };
         let printed = format!(in rt.alloc(); "{error}")?;
-        assert_eq!(rt; printed.as_str(), *want, "at {text}");
+        assert!(rt; printed.as_str() == *want, "at {text}: {printed}");
     }
     Ok(())
 }
@@ -72,7 +73,7 @@ static LEVEL_TEXTS: [(&str, Option<EcLevel>); 6] = [
 #[test]
 fn texts_name_levels(rt: HostRuntime) {
     for (text, want) in &LEVEL_TEXTS {
-        assert_eq!(rt; text.parse::<EcLevel>().ok(), *want, "at {text}");
+        assert!(rt; text.parse::<EcLevel>().ok() == *want, "at {text}");
     }
     assert_eq!(rt;
         refusal("x".parse::<EcLevel>()),
@@ -92,7 +93,7 @@ static MODE_TEXTS: [(&str, Option<Mode>); 5] = [
 #[test]
 fn texts_name_modes(rt: HostRuntime) {
     for (text, want) in &MODE_TEXTS {
-        assert_eq!(rt; text.parse::<Mode>().ok(), *want, "at {text}");
+        assert!(rt; text.parse::<Mode>().ok() == *want, "at {text}");
     }
     assert_eq!(rt;
         refusal("x".parse::<Mode>()),
@@ -188,9 +189,14 @@ fn errors_say_what_is_wrong_and_what_to_do(rt: HostRuntime) -> Result<(), Fail> 
     for (error, text, suggestion) in &ERRORS {
         let printed = format!(in rt.alloc(); "{error}")?;
         assert_eq!(rt; printed.as_str(), *text);
-        assert_eq!(rt; error.suggestion(), *suggestion);
+        suggests(&rt, error, *suggestion);
     }
     Ok(())
+}
+
+/// An error says what to do.
+fn suggests(rt: &impl Abort, error: &QrError, suggestion: Option<&str>) {
+    assert_eq!(rt; error.suggestion(), suggestion);
 }
 
 /// Modes, numbers of characters, and the bits that these take.
@@ -275,7 +281,7 @@ static WIDTHS: [(usize, Option<Version>); 12] = [
 #[test]
 fn widths_name_versions(rt: HostRuntime) {
     for (width, want) in &WIDTHS {
-        assert_eq!(rt; Version::of_width(*width), *want, "at {width}");
+        assert!(rt; Version::of_width(*width) == *want, "at {width}");
     }
 }
 

@@ -151,13 +151,13 @@ fn in_turn(alloc: Global, count: usize) -> QrResult<Vec<Segment>> {
 }
 
 #[test]
-fn letters_and_digits_in_turn(rt: HostRuntime) -> QrResult<()> {
+fn letters_and_digits_in_turn(rt: HostRuntime) {
     for (count, bits) in [(32usize, 189usize), (33, 195), (1024, 5645)] {
-        let plan = planned(rt.alloc(), &in_turn(rt.alloc(), count)?, ONE)?;
+        let segments = in_turn(rt.alloc(), count).expect(&rt, "memory");
+        let plan = planned(rt.alloc(), &segments, ONE).expect(&rt, "no plan");
         assert!(rt; plan.as_slice() == [segment(Mode::Alphanumeric, 0, count)].as_slice());
         assert_eq!(rt; bits_of(&plan, ONE), bits);
     }
-    Ok(())
 }
 
 static FAR: [Segment; 2] = [
@@ -225,17 +225,20 @@ fn parsed_segments(rt: HostRuntime) -> QrResult<()> {
     Ok(())
 }
 
+/// The plan of a text.
+fn plan_of(alloc: Global, text: &[u8]) -> QrResult<Vec<Segment>> {
+    Ok(Parser::new(text).optimize(alloc, ONE)?.collect(alloc)?)
+}
+
 #[test]
-fn plan_of_a_text(rt: HostRuntime) -> QrResult<()> {
-    let plan = Parser::new(b"ABC123abcd").optimize(rt.alloc(), ONE)?;
-    let plan: Vec<Segment> = plan.collect(rt.alloc())?;
-    let wanted = segments_of(
-        rt.alloc(),
-        &[(Mode::Alphanumeric, 0, 6), (Mode::Byte, 6, 10)],
-    )?;
+fn plan_of_a_text(rt: HostRuntime) {
+    let plan = plan_of(rt.alloc(), b"ABC123abcd").expect(&rt, "no plan");
+    let wanted = [
+        segment(Mode::Alphanumeric, 0, 6),
+        segment(Mode::Byte, 6, 10),
+    ];
     assert!(rt; plan.as_slice() == wanted.as_slice());
     assert_eq!(rt; bits_of(&plan, ONE), 90);
-    Ok(())
 }
 
 /// Texts in UTF-8, and their segments as the original crate cuts them: bytes of one character can be pairs of the Kanji
@@ -299,13 +302,11 @@ fn plan_by_count(alloc: Global, segments: &[Segment], version: Version) -> QrRes
 }
 
 #[test]
-fn counted_plans(rt: HostRuntime) -> QrResult<()> {
-    let segments = segments_of(rt.alloc(), TIE)?;
-    if !supports_linear_costs(&segments, ONE) {
-        return Err(QrError::DataTooLong);
-    }
-    let plan = plan_by_count(rt.alloc(), &segments, ONE)?;
-    assert!(rt; plan.as_slice() == segments_of(rt.alloc(), PLAN_OF_TIE)?.as_slice());
+fn counted_plans(rt: HostRuntime) {
+    let segments = segments_of(rt.alloc(), TIE).expect(&rt, "memory");
+    assert!(rt; supports_linear_costs(&segments, ONE));
+    let plan = plan_by_count(rt.alloc(), &segments, ONE).expect(&rt, "no plan");
+    let wanted = segments_of(rt.alloc(), PLAN_OF_TIE).expect(&rt, "memory");
+    assert!(rt; plan.as_slice() == wanted.as_slice());
     assert_eq!(rt; bits_of(&plan, ONE), 95);
-    Ok(())
 }

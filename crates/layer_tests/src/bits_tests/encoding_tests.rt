@@ -160,15 +160,14 @@ fn single(alloc: Global, offset: usize, ones: usize) -> QrResult<Bits> {
 }
 
 #[test]
-fn bytes_at_each_offset(rt: HostRuntime) -> QrResult<()> {
+fn bytes_at_each_offset(rt: HostRuntime) {
     for offset in 0..8usize {
         let ones = (1 << offset) - 1;
-        let bits = whole(rt.alloc(), offset, ones)?;
+        let bits = whole(rt.alloc(), offset, ones).expect(&rt, "no bits");
         assert_eq!(rt; bits.len(), offset + 44);
-        let same = single(rt.alloc(), offset, ones)?;
+        let same = single(rt.alloc(), offset, ones).expect(&rt, "no bits");
         assert!(rt; bits.into_bytes().as_slice() == same.into_bytes().as_slice());
     }
-    Ok(())
 }
 
 /// What data takes: the version, and the bits before the terminator.
@@ -241,15 +240,18 @@ fn encoded_bytes(rt: HostRuntime) -> QrResult<()> {
 }
 
 #[test]
-fn encoded_micro_bytes(rt: HostRuntime) -> QrResult<()> {
-    let mut bits = encode_auto_micro(rt.alloc(), b"1", EcLevel::L)?;
+fn encoded_micro_bytes(rt: HostRuntime) {
+    let mut bits = encode_auto_micro(rt.alloc(), b"1", EcLevel::L).expect(&rt, "no bits");
     assert!(rt; bits.len() == 24);
     assert!(rt; bits.push_terminator(EcLevel::L) == Err(QrError::DataTooLong));
     assert!(rt; is_encoded(bits, &(Version::Micro(1), 7, &[0x22, 0, 0])));
-    let bits = encode_auto_micro(rt.alloc(), b"", EcLevel::L)?;
+}
+
+#[test]
+fn encoded_empty_micro_bytes(rt: HostRuntime) {
+    let bits = encode_auto_micro(rt.alloc(), b"", EcLevel::L).expect(&rt, "no bits");
     assert!(rt; bits.len() == 24);
     assert!(rt; is_encoded(bits, &(Version::Micro(1), 0, &[0, 0xec, 0])));
-    Ok(())
 }
 
 /// Levels, and what no data takes in a Micro symbol.
@@ -339,19 +341,18 @@ fn more_than(count: usize) -> usize {
 
 /// Each count takes its version, and one character more takes the next one, or is too long.
 #[test]
-fn micro_versions_at_their_limits(rt: HostRuntime) -> QrResult<()> {
+fn micro_versions_at_their_limits(rt: HostRuntime) {
     for (level, mode, limits) in &LIMITS {
         let mut before = 0;
         for (number, most) in *limits {
-            takes_version(&rt, rt.alloc(), (*level, *mode, more_than(before)), *number)?;
-            takes_version(&rt, rt.alloc(), (*level, *mode, *most), *number)?;
+            takes_version(&rt, rt.alloc(), (*level, *mode, more_than(before)), *number);
+            takes_version(&rt, rt.alloc(), (*level, *mode, *most), *number);
             before = *most;
         }
-        let text = text_of(rt.alloc(), *mode, more_than(before))?;
+        let text = text_of(rt.alloc(), *mode, more_than(before)).expect(&rt, "memory");
         let refused = encode_auto_micro(rt.alloc(), &text, *level);
         assert!(rt; refused.err() == Some(QrError::DataTooLong));
     }
-    Ok(())
 }
 
 /// So many characters of a mode take a Micro version at a level.
@@ -360,11 +361,11 @@ fn takes_version(
     alloc: Global,
     (level, mode, count): (EcLevel, Mode, usize),
     number: i16,
-) -> QrResult<()> {
-    let bits = encode_auto_micro(alloc, &text_of(alloc, mode, count)?, level)?;
+) {
+    let text = text_of(alloc, mode, count).expect(rt, "memory");
+    let bits = encode_auto_micro(alloc, &text, level).expect(rt, "no bits");
     assert_eq!(rt; bits.version(), Version::Micro(number));
-    assert_eq!(rt; bits.encoding_modes(), EncodingModes::from_mode(mode));
-    Ok(())
+    assert!(rt; bits.encoding_modes() == EncodingModes::from_mode(mode));
 }
 
 /// Texts in UTF-8, as the original crate encodes them at level L.
@@ -444,13 +445,16 @@ fn segments_up_to_a_refusal(rt: HostRuntime) -> QrResult<()> {
 }
 
 #[test]
-fn modes_of_a_plan(rt: HostRuntime) -> QrResult<()> {
+fn modes_of_a_plan(rt: HostRuntime) {
     let mut bits = Bits::new(rt.alloc(), ONE);
-    bits.push_optimal_data(b"ABC123abcd")?;
-    assert_eq!(rt; bits.len(), 90);
-    let modes = bits.encoding_modes();
+    assert!(rt; bits.push_optimal_data(b"ABC123abcd") == Ok(()));
+    assert!(rt; bits.len() == 90);
+    has_two_modes(&rt, rt.alloc(), bits.encoding_modes());
+}
+
+/// The modes are Alphanumeric and Byte.
+fn has_two_modes(rt: &impl Abort, alloc: Global, modes: EncodingModes) {
     assert!(rt; modes.len() == 2 && modes.contains(Mode::Byte) && modes.iter().len() == 2);
-    let modes: Vec<Mode> = modes.iter().collect(rt.alloc())?;
+    let modes: Vec<Mode> = modes.iter().collect(alloc).expect(rt, "memory");
     assert!(rt; modes.as_slice() == [Mode::Alphanumeric, Mode::Byte].as_slice());
-    Ok(())
 }
