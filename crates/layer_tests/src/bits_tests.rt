@@ -1,6 +1,7 @@
 //! Worked rows of pushes.
 
 mod encoding_tests;
+mod micro_tests;
 mod order_tests;
 mod part_tests;
 
