@@ -1,5 +1,5 @@
 //! A registry with objects of the tests' own.
-use crate::view_tests::{grid_of_text, text_of_marks};
+use crate::view_tests::{grid_of_text, grid_shows, text_of_marks};
 use qrcode_core::plugin::{
     DynEncoder, DynRenderer, EncodeConfig, EncodedOutput, PluginError, PluginRegistry,
     PostProcessor, QrPlugin, RenderConfig, RenderOutput,
@@ -323,7 +323,12 @@ fn option_is_taken(rt: &impl Abort, alloc: Global, registry: &PluginRegistry) {
     let config = RenderConfig::new(alloc).with_option("dark", "X");
     let output = printed(registry, alloc, &config.expect(rt, "memory")).expect(rt, "output");
     assert_eq!(rt; text_of(&output), "X..X");
-    assert!(rt; output.clone(alloc).expect(rt, "memory") == output);
+    output_is_copied(rt, alloc, &output);
+}
+
+/// What was rendered is copied whole.
+fn output_is_copied(rt: &impl Abort, alloc: Global, output: &RenderOutput) {
+    assert!(rt; output.clone(alloc).expect(rt, "memory") == *output);
 }
 
 #[test]
@@ -399,15 +404,16 @@ fn darkens(rt: &impl Abort, alloc: Global, registry: &mut PluginRegistry, x: usi
     registry.register_postprocessor(darken).expect(rt, "memory");
 }
 
+/// Whether modules were refused with `boom`.
+fn is_boom(answer: &Result<(), PluginError>) -> bool {
+    matches!(answer, Err(PluginError::PostProcessFailed(text)) if text.as_str() == "boom")
+}
+
 /// The modules are processed up to the refusal `boom`, behind which nothing more is done.
 fn stops_at_boom(rt: &impl Abort, alloc: Global, registry: &PluginRegistry) {
     let mut grid = grid_of_text(alloc, "....", 2, 2).expect(rt, "a grid");
-    let answer = registry.process_modules(&mut grid);
-    assert!(rt;
-        matches!(&answer, Err(PluginError::PostProcessFailed(text)) if text.as_str() == "boom")
-    );
-    let marks = text_of_marks(alloc, ModuleStorage::modules(&grid), "#").expect(rt, "memory");
-    assert_eq!(rt; marks.as_str(), "#...");
+    assert!(rt; is_boom(&registry.process_modules(&mut grid)));
+    grid_shows(rt, alloc, &grid, "#...");
 }
 
 #[test]

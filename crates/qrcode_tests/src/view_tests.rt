@@ -342,7 +342,7 @@ fn copies_of_grids_are_their_own(rt: HostRuntime) {
 }
 
 /// The modules of a grid show this text.
-fn grid_shows(rt: &impl Abort, alloc: Global, grid: &ModuleGrid, text: &str) {
+pub(crate) fn grid_shows(rt: &impl Abort, alloc: Global, grid: &ModuleGrid, text: &str) {
     let marks = text_of_marks(alloc, ModuleStorage::modules(grid), "#").expect(rt, "memory");
     assert_eq!(rt; marks.as_str(), text);
 }
