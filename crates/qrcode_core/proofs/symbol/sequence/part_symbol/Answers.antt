@@ -3,7 +3,7 @@ use Rattle.qrcode_core.proofs.Prelude.{ap, arith, nat_abs, IfOk-weaker, to_z-of_
 use mir.Syntax.{w16}
 use Rattle.qrcode_bits.proofs.Pairs.{bytes_valid}
 use Rattle.qrcode_core.proofs.Limited.{few_versions}
-use Rattle.qrcode_core.proofs.StreamEncoding.{best_of_stream, fills_symbol, encoded_short, only_memory}
+use Rattle.qrcode_core.proofs.Best.{best_of_stream, fills_symbol, encoded_short, only_memory}
 use Rattle.qrcode_core.proofs.symbol.sequence.part_symbol.Goals as goal
 
 pub symbol_of-requires : goal.symbol_of-requires
