@@ -14,15 +14,10 @@ use Rattle.qrlabel.proofs.WordLemmas.{one_spelling, one_format, one_kind, after_
 -- ---- Numbers and flags
 
 pub one_number : (o : Option (List ℕ)) (usual least most m n : ℕ) → AsksNumber o usual least most m → AsksNumber o usual least most n → m ≡ n
-one_number None usual least most m n p q = p ∙ sym q
-one_number (Some text) usual least most m n p q = sym p.0.value ∙ q.0.value
+one_number o usual least most m n h k = grind arith
 
 pub one_flag : (o : Option (List ℕ)) (a b : Bool) → AsksFlag o a → AsksFlag o b → a ≡ b
-one_flag None a b p q = p ∙ sym q
-one_flag (Some text) true true p q = refl
-one_flag (Some text) true false p q = cc
-one_flag (Some text) false true p q = cc
-one_flag (Some text) false false p q = refl
+one_flag o a b h k = grind arith
 
 -- ---- What words say of a label that they ask for
 
@@ -34,9 +29,7 @@ same_parts f g l m us vs e = (cc, cc, cc)
 
 -- less than two words ask for nothing
 pub too_few : (words : Words) (a : Label) → length words < 2 → Ask words a → ⊥
-too_few words a few asks =
-    let two : length words ≡ suc (suc (length (kind_words a.kind ++ spelled asks.settings))) = ap length asks.words_are in
-    omega (arith, two)
+too_few words a few asks = grind (arith, kind_words)
 
 module _ (words : Words) (f l : List ℕ) (rest : Words) (words_are : words ≡ f ∷ l ∷ rest) (a : Label) (asks : Ask words a) where
   parts : (f ≡ format_word a.format) × (l ≡ asks.level_word) × (rest ≡ kind_words a.kind ++ spelled asks.settings)
@@ -54,9 +47,7 @@ module _ (words : Words) (f l : List ℕ) (rest : Words) (words_are : words ≡ 
     kind_said = only a.kind asks.settings parts.2
 
     pub options_said : options ≡ spelled asks.settings
-    options_said =
-        after_kind kind options (spelled asks.settings)
-        (sym rest_is ∙ (parts.2 ∙ ap (λ (k : Kind). kind_words k ++ spelled asks.settings) kind_said))
+    options_said = grind (arith, after_kind, parts, kind_words, kind_said)
 
     module _ (settings : List Setting) (options_are : options ≡ spelled settings) where
       pub settings_said : asks.settings ≡ settings

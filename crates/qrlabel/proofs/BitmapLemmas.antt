@@ -23,8 +23,7 @@ spelled_more f x n =
     ∙ fold-append (λ n bit. n * 2 + (if bit then 1 else 0)) 0 (map f (range_with_len x n)) (f (x + n) ∷ [])
 
 bit_small : (b : Bool) → (if b then 1 else 0) ≤ 1
-bit_small true = omega arith
-bit_small false = omega arith
+bit_small b = grind arith
 
 -- n bits spell less than 2 to the n
 spelled_below : (f : ℕ → Bool) (x n : ℕ) → spelled f x n + 1 ≤ 2 ^ n
@@ -37,10 +36,7 @@ spelled_below f x (suc n) =
 
 -- less than eight bits leave room for one more in a byte
 pub spelled_small : (f : ℕ → Bool) (x n : ℕ) → n < 8 → spelled f x n * 2 + 1 < 256
-spelled_small f x n below =
-    let few : n ≤ 7 = omega arith in
-    let power : 2 ^ n ≤ 2 ^ 7 = pow_mono few in
-    omega (arith, power, spelled_below f x n)
+spelled_small f x n below = grind (arith, pow_mono, spelled_below)
 
 pub rows_none : (p : Picture) → first_rows p 0 ≡ []
 unfolding first_rows
@@ -53,8 +49,7 @@ rows_more p n = flat_map_range (row_of p) n
 -- rows of pixels in one row of modules are the same
 row_same : (p : Picture) (y z : ℕ) → y / p.scale ≡ z / p.scale → row_of p y ≡ row_of p z
 unfolding row_of byte_of
-row_same p y z e =
-    ap (λ (row : ℕ). map (λ place. spelled (λ x. is_dark_module p (x / p.scale) row) (8 * place) 8) (range_with_len 0 ((width_of p + 7) / 8))) e
+row_same p y z e = grind (arith, is_dark_module, range_with_len, width_of)
 
 -- one byte more of a row
 pub bytes_more : (p : Picture) (y n : ℕ) → map (byte_of p y) (range_with_len 0 (n + 1)) ≡ map (byte_of p y) (range_with_len 0 n) ++ byte_of p y n ∷ []

@@ -16,5 +16,4 @@ flat_map_range f n =
 
 -- one piece more behind what was there at the start
 pub joined : {A : Type 0} (start before old piece new next : List A) → next ≡ before ++ piece → old ≡ start ++ before → new ≡ old ++ piece → new ≡ start ++ next
-joined start before old piece new next more was adds =
-    adds ∙ ap (λ l. l ++ piece) was ∙ append_assoc start before piece ∙ ap (λ l. start ++ l) (sym more)
+joined start before old piece new next more was adds = grind (arith, append_assoc)
