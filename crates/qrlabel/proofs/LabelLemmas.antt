@@ -1,10 +1,9 @@
 -- What a renderer by its name makes of a grid, where the configuration asks for one drawing.
-use Rattle.std.proofs.Common.{◌≡◌, ℕ, Bool, List, refl, sym, ◌∙◌, subst, Result, Ok, Err}
+use Rattle.std.proofs.Common.{◌≡◌, ℕ, Bool, List, refl, sym, ◌∙◌, arith, Result, Ok, Err}
 use Rattle.std.specs.Prelude.{IfOk, IfErr}
 use Rattle.qrcode_core.specs.declared.plugin.config.RenderConfig.{RenderConfig}
 use Rattle.qrcode_core.specs.declared.plugin.error.PluginError.{PluginError}
-use Rattle.qrcode_core.specs.declared.plugin.error.PluginError.TheVariants.{RendererNotFound, EncoderNotFound, InvalidConfig, InvalidModuleGrid, RenderFailed}
-use Rattle.qrcode_core.specs.declared.plugin.error.PluginError.TheVariants.{EncodeFailed, PostProcessFailed, OutOfMemory}
+use Rattle.qrcode_core.specs.declared.plugin.error.PluginError.TheVariants.{InvalidConfig, RenderFailed, OutOfMemory}
 use Rattle.qrcode_core.specs.declared.plugin.output.RenderOutput.{RenderOutput}
 use Rattle.qrcode_core.specs.declared.plugin.output.RenderOutput.TheVariants.{Text, Bytes, Modules}
 use Rattle.qrcode_core.specs.Plugins.{render_options}
@@ -28,33 +27,21 @@ module _ (grid : Grid) (config : RenderConfig) (scale quiet : ℕ) (inverted : B
       let s = one_number _ usual 1 64 d.scale scale d.asked.scale_is (asks usual).scale_is in
       let q = one_number _ 4 0 16 d.quiet quiet d.asked.quiet_is (asks usual).quiet_is in
       let i = one_flag _ d.inverted inverted d.asked.inverted_is (asks usual).inverted_is in
-      subst (λ (flag : Bool). Shows flag (picture grid scale quiet) output) i
-      (subst (λ (n : ℕ). Shows d.inverted (picture grid scale n) output) q
-      (subst (λ (n : ℕ). Shows d.inverted (picture grid n d.quiet) output) s d.shows))
+      rw (s, q, i) at d.shows
 
   written : (format : Format) (output : RenderOutput) → RendersByName (format_word format) grid config (Ok output) →
       IsOutput output (picture_as format inverted (picture grid scale quiet))
-  written Svg (Text text) h = one_drawing 8 ShowsSvg (Text text) (h.svg refl)
-  written Svg (Bytes bytes) h = absurd (one_drawing 8 ShowsSvg (Bytes bytes) (h.svg refl))
-  written Svg (Modules modules) h = one_drawing 8 ShowsSvg (Modules modules) (h.svg refl)
-  written Pbm (Text text) h = absurd (one_drawing 8 ShowsBitmap (Text text) (h.pbm refl))
-  written Pbm (Bytes bytes) h = one_drawing 8 ShowsBitmap (Bytes bytes) (h.pbm refl)
-  written Pbm (Modules modules) h = one_drawing 8 ShowsBitmap (Modules modules) (h.pbm refl)
-  written Terminal (Text text) h = one_drawing 1 ShowsTerminal (Text text) (h.terminal refl)
-  written Terminal (Bytes bytes) h = absurd (one_drawing 1 ShowsTerminal (Bytes bytes) (h.terminal refl))
-  written Terminal (Modules modules) h = one_drawing 1 ShowsTerminal (Modules modules) (h.terminal refl)
+  written Svg output h = grind (arith, one_drawing 8 ShowsSvg output (h.svg refl))
+  written Pbm output h = grind (arith, one_drawing 8 ShowsBitmap output (h.pbm refl))
+  written Terminal output h = grind (arith, one_drawing 1 ShowsTerminal output (h.terminal refl))
 
   -- Only memory can want: the configuration asks for a drawing, and the grid can be drawn.
   wants_memory : (usual : ℕ) (Shows : Bool → Picture → RenderOutput → Type 0) (error : PluginError) → IsDrawable grid →
       Renders usual Shows grid config (Err error) → error ≡ OutOfMemory
-  wants_memory usual Shows (RendererNotFound s) small h = absurd h
-  wants_memory usual Shows (EncoderNotFound s) small h = absurd h
   wants_memory usual Shows (InvalidConfig s) small h = absurd (h scale quiet inverted (asks usual))
-  wants_memory usual Shows InvalidModuleGrid small h = absurd h
   wants_memory usual Shows (RenderFailed s) small h = absurd (h small)
-  wants_memory usual Shows (EncodeFailed s) small h = absurd h
-  wants_memory usual Shows (PostProcessFailed s) small h = absurd h
   wants_memory usual Shows OutOfMemory small h = refl
+  wants_memory usual Shows other small h = absurd h
 
   refused : (format : Format) (error : PluginError) → IsDrawable grid → RendersByName (format_word format) grid config (Err error) → error ≡ OutOfMemory
   refused Svg error small h = wants_memory 8 ShowsSvg error small (h.svg refl)
@@ -74,6 +61,4 @@ module _ (grid : Grid) (config : RenderConfig) (scale quiet : ℕ) (inverted : B
 -- the answer at a name and a grid is that at the same ones by other names
 pub drawn_at : (name same_name : List ℕ) (grid middle same_grid : Grid) (config : RenderConfig) (answer : Result RenderOutput PluginError)
     → RendersByName name grid config answer → name ≡ same_name → middle ≡ same_grid → middle ≡ grid → RendersByName same_name same_grid config answer
-drawn_at name same_name grid middle same_grid config answer h named is first =
-    subst (λ (n : List ℕ). RendersByName n same_grid config answer) named
-    (subst (λ (g : Grid). RendersByName name g config answer) (sym first ∙ is) h)
+drawn_at name same_name grid middle same_grid config answer h named is first = rw (named, sym first ∙ is) at h

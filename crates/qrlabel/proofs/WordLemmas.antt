@@ -21,12 +21,6 @@ Words = List (List ℕ)
 differ : (u v : List ℕ) (us vs : Words) → bytes_eq u v ≡ false → u ∷ us ≡ v ∷ vs → ⊥
 differ u v us vs test e = grind (arith, bytes_eq, bytes_eq-Decides)
 
-behind_one : (w : List ℕ) (us vs : Words) → w ∷ us ≡ w ∷ vs → us ≡ vs
-behind_one w us vs e = cc
-
-behind_two : (w a b : List ℕ) (us vs : Words) → w ∷ a ∷ us ≡ w ∷ b ∷ vs → (a ≡ b) × (us ≡ vs)
-behind_two w a b us vs e = (cc, cc)
-
 -- ---- Lent words
 
 abbrev pub no_word : Bor (List ℕ)
@@ -54,7 +48,7 @@ pub begins_with_two : (words : List (Bor (List ℕ))) (word : List ℕ) → 1 �
 begins_with_two words word some is more =
     let after = take (length words - 1) (drop 1 words) in
     let second = begins_with after (slice_index_or after 0 no_word).now more refl in
-    (second.0, first_word words word some is ∙ ap (λ (ws : Words). word ∷ ws) second.1)
+    (second.0, grind (arith, first_word words word some is, second.1))
 
 -- the words from a place on
 pub words_from : (words : List (Bor (List ℕ))) (at : ℕ) → map (λ w. w.now) (take (length words - at) (drop at words)) ≡ drop at (map (λ w. w.now) words)
@@ -67,7 +61,7 @@ some_left words at below = omega (arith, length-drop at (map (λ (w : Bor (List 
 -- ---- Settings
 
 same_start : (s d : Setting) (us vs : Words) → setting_words s ++ us ≡ setting_words d ++ vs → (s ≡ d) × (us ≡ vs)
-same_start s d us vs h = grind (arith, behind_two, differ, behind_one)
+same_start s d us vs h = grind (arith, differ)
 
 not_empty : (s : Setting) (us : Words) → setting_words s ++ us ≡ [] → ⊥
 not_empty s us h = grind arith
@@ -80,27 +74,19 @@ none_spelled (s ∷ settings) e = absurd (not_empty s (spelled settings) e)
 said_first : (done settings : List Setting) (left : Words) → spelled settings ≡ spelled done ++ left →
     (rest : List Setting) × (spelled rest ≡ left) × (settings ≡ done ++ rest)
 said_first [] settings left e = (settings, e, refl)
-said_first (d ∷ done) [] left e =
-    absurd (not_empty d (spelled done ++ left) (sym (e ∙ append_assoc (setting_words d) (spelled done) left)))
+said_first (d ∷ done) [] left e = grind (arith, not_empty, append_assoc)
 said_first (d ∷ done) (s ∷ settings) left e =
     let p = same_start s d (spelled settings) (spelled done ++ left) (e ∙ append_assoc (setting_words d) (spelled done) left) in
     let r = said_first done settings left p.1 in
-    (r.0, r.1, same_cons s d settings (done ++ r.0) p.0 r.2)
-  where
-    same_cons : (s d : Setting) (ss ds : List Setting) → s ≡ d → ss ≡ ds → s ∷ ss ≡ d ∷ ds
-    same_cons s d ss ds e f = cc
+    (r.0, r.1, cc (p.0, r.2))
 
 pub one_spelling : (a b : List Setting) → spelled a ≡ spelled b → a ≡ b
-one_spelling a b e =
-    let r = said_first b a [] (e ∙ sym (append-nil (spelled b))) in
-    r.2 ∙ (ap (λ (l : List Setting). b ++ l) (none_spelled r.0 r.1) ∙ append-nil b)
+one_spelling a b e = grind (arith, said_first b a [], none_spelled, append-nil)
 
 -- Where no option begins the rest, the words are no options.
 pub stuck : (words left : Words) (done : List Setting) → words ≡ spelled done ++ left → 0 < length left →
     ((s : Setting) (rest : Words) → left ≡ setting_words s ++ rest → ⊥) → (settings : List Setting) → words ≡ spelled settings → ⊥
-stuck words left done was some none settings e =
-    let r = said_first done settings left (sym e ∙ was) in
-    go r.0 r.1
+stuck words left done was some none settings e = let r = said_first done settings left (sym e ∙ was) in go r.0 r.1
   where
     go : (rest : List Setting) → spelled rest ≡ left → ⊥
     go [] f = omega (arith, ap length f)
@@ -121,7 +107,7 @@ all_said words at done was end = grind (arith, drop_all, append-nil)
 -- what counts, with one option more
 pub counts : {A : Type 0} (f : A → Setting → A) (a new old : A) (done : List Setting) (s : Setting) → new ≡ f old s → old ≡ fold f a done →
     new ≡ fold f a (done ++ s ∷ [])
-counts f a new old done s is was = is ∙ (ap (λ x. f x s) was ∙ sym (fold-append f a done (s ∷ [])))
+counts f a new old done s is was = grind (arith, fold-append)
 
 -- ---- Forms and kinds
 
@@ -135,13 +121,11 @@ one_format f g h = grind (arith, apart)
 pub no_kind : (kind : List ℕ) (settings : List Setting) (rest : Words) → bytes_eq (codes "--scale") kind ≡ false → bytes_eq (codes "--quiet") kind ≡ false →
     bytes_eq (codes "--inverted") kind ≡ false → spelled settings ≡ kind ∷ rest → ⊥
 no_kind kind [] rest a b c e = cc
-no_kind kind (Scale text ∷ settings) rest a b c e = differ (codes "--scale") kind (text ∷ spelled settings) rest a e
-no_kind kind (Quiet text ∷ settings) rest a b c e = differ (codes "--quiet") kind (text ∷ spelled settings) rest b e
-no_kind kind (Inverted ∷ settings) rest a b c e = differ (codes "--inverted") kind (spelled settings) rest c e
+no_kind kind (s ∷ settings) rest a b c e = grind (arith, differ)
 
 -- The words after those of the kind are those of the options.
 pub after_kind : (kind : Kind) (us vs : Words) → kind_words kind ++ us ≡ kind_words kind ++ vs → us ≡ vs
-after_kind kind us vs h = grind (arith, behind_one)
+after_kind kind us vs h = grind arith
 
 pub one_kind : (k m : Kind) (s t : List Setting) → kind_words k ++ spelled s ≡ kind_words m ++ spelled t → k ≡ m
 one_kind k m s t h = grind (arith, no_kind, differ)

@@ -1,9 +1,9 @@
 -- What pushes, refused or not, and the end of a stream say of the bits of a text.
-use Rattle.qrcode_bits.proofs.Prelude.{◌≡◌, ◌∙◌, ℕ, suc, ◌+◌, ◌-◌, ◌*◌, ◌^◌, ◌<◌, ◌≤◌, Bool, true, List, [], ◌∷◌, ◌++◌, length, get_or, ap, sym, subst, refl}
-use Rattle.qrcode_bits.proofs.Prelude.{arith, inl, inr, length-append, Err, Ok, Option, Some, None, All, slice_range, slice_get, is_some, cases_lt, common_steps}
-use Rattle.qrcode_bits.proofs.Prelude.{All-head, All-tail, All-nil, All-cons, EcLevel, Mode, Byte, Version, QrError, DataTooLong, OutOfMemory, InvalidVersion}
-use Rattle.qrcode_bits.proofs.Prelude.{IsValid, HasMode, characters, count_width, indicator_width, number_bits, capacity, normal_blocks, IsMergePlan}
-use Rattle.qrcode_bits.proofs.Prelude.{normal, IsChosenPlan, spellings, IsPushRefused, Spells, AreTexts, parsed, segment_piece, segment_pieces, Piece, spelling}
+use Rattle.qrcode_bits.proofs.Prelude.{◌≡◌, ◌∙◌, ℕ, ◌+◌, ◌-◌, ◌^◌, ◌<◌, ◌≤◌, Bool, true, List, [], ◌∷◌, ◌++◌, length, get_or, ap, sym, subst}
+use Rattle.qrcode_bits.proofs.Prelude.{arith, inl, inr, length-append, Err, Ok, Some, None, All, slice_get, is_some, cases_lt, common_steps}
+use Rattle.qrcode_bits.proofs.Prelude.{All-head, All-tail, All-nil, All-cons, EcLevel, Byte, Version, QrError, DataTooLong, OutOfMemory}
+use Rattle.qrcode_bits.proofs.Prelude.{IsValid, characters, count_width, indicator_width, number_bits, capacity, normal_blocks}
+use Rattle.qrcode_bits.proofs.Prelude.{normal, spellings, IsPushRefused, Spells, AreTexts, parsed, segment_piece, segment_pieces, Piece, spelling}
 use Rattle.qrcode_bits.proofs.Prelude.{Stream, Appends, eci_spelling}
 use Rattle.std.proofs.lemmas.Option.{none-some}
 use Rattle.qrcode_base.specs.declared.types.errors.QrError.TheVariants.{InvalidCharacter, UnsupportedCharacterSet}
@@ -94,8 +94,12 @@ pub text_refused : (old : Stream) (level : EcLevel) (number : ℕ) (text : List 
     All (λ c. c < 256) text → IsPushRefused old (piece_of Byte text) error → IsRefusedIn (SaysUtf8 text) (normal number) level error
 text_refused old level number text error is are =
     push_refused (SaysUtf8 text) old level number (piece_of Byte text) error is are (λ wide bits limit said limit_is.
-    omega (arith, ap length said, length-append (eci_spelling 26) (spelling (normal number) (piece_of Byte text)),
-    piece_too_long (normal number) level (piece_of Byte text) limit are limit_is wide))
+    omega (
+      arith,
+      ap length said,
+      length-append (eci_spelling 26) (spelling (normal number) (piece_of Byte text)),
+      piece_too_long (normal number) level (piece_of Byte text) limit are limit_is wide,
+    ))
 
 -- What is pushed behind the designator.
 pub text_pushed : (empty front stream : Stream) (text : List ℕ) → empty.bits ≡ [] → Appends empty front (eci_spelling 26) →
