@@ -1,13 +1,11 @@
 -- The first invalid byte of a text is one, and one only; there is none exactly where the text is valid.
-use Rattle.qrcode_base.proofs.Prelude.{◌≡◌, ℕ, zero, suc, ◌<◌, ◌≤◌, refl, sym, ap, ◌∙◌, arith, subst, List, [], ◌∷◌, length, take, Bool, true, Option}
-use Rattle.qrcode_base.proofs.Prelude.{Some, None, All, Contains, slice_get, if◌then◌else◌, take-length, false≢true, cases_lt, slice_get_within}
-use Rattle.qrcode_base.proofs.Prelude.{slice_get-get_or, Mode, Numeric, Alphanumeric, Byte, Kanji, is_between, IsDigit, alphabet, is_alphanumeric}
-use Rattle.qrcode_base.proofs.Prelude.{is_kanji_pair, IsKanjiText, is_kanji_text, IsValid, is_valid, longest_beginning, first_invalid, IsFirstInvalid}
-use Rattle.qrcode_base.proofs.Prelude.{FirstInvalid, and_parts}
-use Rattle.std.specs.Prelude.{option_map, ◌↔◌}
-use Rattle.std.specs.List.{list_all}
-use Rattle.std.proofs.lemmas.List.Sums.{AllPass-from_list_all, list_all-from_AllPass}
+use Rattle.qrcode_base.proofs.Prelude.{◌≡◌, ℕ, zero, suc, ◌<◌, ◌≤◌, refl, sym, ap, ◌∙◌, arith, subst, List, [], ◌∷◌, length, take, Bool, true, Option, Some}
+use Rattle.qrcode_base.proofs.Prelude.{None, All, Contains, slice_get, if◌then◌else◌, take-length, false≢true, cases_lt, slice_get_within, slice_get-get_or}
+use Rattle.qrcode_base.proofs.Prelude.{Mode, Numeric, Alphanumeric, Byte, Kanji, is_between, IsDigit, alphabet, is_alphanumeric, is_kanji_pair, IsKanjiText}
+use Rattle.qrcode_base.proofs.Prelude.{is_kanji_text, IsValid, is_valid, longest_beginning, first_invalid, IsFirstInvalid, FirstInvalid, and_parts}
 use Rattle.qrcode_base.proofs.Alphabet.{is_alphanumeric-inside, is_alphanumeric-from_inside}
+use Rattle.std.specs.Prelude.{option_map, ◌↔◌}
+use Rattle.std.{specs.List.list_all, proofs.lemmas.List.Sums.AllPass-from_list_all, proofs.lemmas.List.Sums.list_all-from_AllPass}
 
 -- ---- The test of a text
 

@@ -5,20 +5,14 @@ use Rattle.qrcode_core.proofs.Prelude.{HaveDistance, ℕ, ◌+◌, refl, Option,
 use Rattle.qrcode_core.proofs.Prelude.{IsDrawn, IsBest, ◌++◌, take, Some, None, All, none-some, BlockLayout, QrError, DataTooLong, OutOfMemory, blocks_of}
 use Rattle.qrcode_core.proofs.Prelude.{capacity, normal, micro, spellings, Stream, IsTooLong, IsRefusal, AreBytesOf, FillsSymbol, IsDrawnStream, common_steps}
 use Rattle.qrcode_core.proofs.Prelude.{byte_bits, tail, HoldsStream}
-use Rattle.std.proofs.lemmas.List.{get_or-replicate}
-use Rattle.std.proofs.lemmas.List.Elements.{All-append}
-use Rattle.qrcode_grid.proofs.Distance.{AreBytes-block_in, length-block_in, distance-sound, AreApart-from_blocks}
-use Rattle.qrcode_grid.proofs.WholeSymbols.{IsUsable-of_symbol}
-use Rattle.qrcode_bits.proofs.Reading.{frame_one_reading}
-use Rattle.qrcode_bits.specs.declared.optimize.Segment.{Segment}
 use Rattle.qrcode_core.proofs.Codewords.{drawn_carries, bytes_of_tailed, take_ended, length-encoded, length-tailed, length-filled}
 use Rattle.qrcode_core.proofs.OneReading.{one_reading, one_carried}
-use Rattle.std.specs.Prelude.{Result, IfErr}
+use Rattle.std.{proofs.lemmas.List.get_or-replicate, proofs.lemmas.List.Elements.All-append, specs.Prelude.Result, specs.Prelude.IfErr}
+use Rattle.qrcode_grid.proofs.Distance.{AreBytes-block_in, length-block_in, distance-sound, AreApart-from_blocks}
+use Rattle.qrcode_grid.proofs.WholeSymbols.{IsUsable-of_symbol}
 use Rattle.qrcode_bits.specs.Push.{IsEncoding, IsUnencodable, EndsAtLevel}
-use Rattle.qrcode_bits.specs.Spelling.{segment_pieces}
-use Rattle.qrcode_bits.proofs.Choices.{fits_last}
-use Rattle.qrcode_bits.proofs.Lengths.{long_message, long_for_micro}
-use Rattle.qrcode_bits.proofs.PlanFrames.{spelled_plan}
+use Rattle.qrcode_bits.{proofs.Reading.frame_one_reading, specs.declared.optimize.Segment.Segment, specs.Spelling.segment_pieces, proofs.Choices.fits_last}
+use Rattle.qrcode_bits.{proofs.Lengths.long_message, proofs.Lengths.long_for_micro, proofs.PlanFrames.spelled_plan}
 
 -- ---- The blocks of a grid that is read are sound, so other sound lists are far from them
 

@@ -4,15 +4,10 @@ use Rattle.qrcode_core.proofs.Prelude.{zero_bits, AreBytes, ◌-◌, ◌%◌, �
 use Rattle.qrcode_core.proofs.Prelude.{BlockLayout, block_sizes, blocks_of, data_bytes, missing_bits, capacity, tail, ended, common_steps, Option, IsVersion}
 use Rattle.qrcode_core.proofs.Prelude.{Header, IsEncoded, AreAllCodewords, map, concat, same_lists, get_or_default, place_in_stream, block_in, blocks_in}
 use Rattle.qrcode_core.proofs.Prelude.{AreCodewords, zero, suc, ◌∙◌, replicate, false, Light, is_dark, DrawnSymbol, IsDrawn, Carries}
-use Rattle.std.proofs.lemmas.List.Elements.{All-head, All-tail}
-use Rattle.qrcode_bits.proofs.Numbers.{number_front, front_is, length-byte_bits}
-use Rattle.std.proofs.lemmas.List.{replicate-append-replicate}
-use Rattle.qrcode_bits.proofs.Streams.{length-tail, length-ended}
-use Rattle.qrcode_grid.proofs.WholeSymbols.{version_of_symbol}
-use Rattle.qrcode_bits.proofs.Frames.{length-frame}
-use Rattle.std.proofs.Common.{min, append-nil}
-use Rattle.std.proofs.lemmas.List.FromFn.{get_or-map-range_with_len, length-map-range_with_len}
-use Rattle.qrcode_grid.specs.Walk.{left_over, bit_color, symbol_bits}
+use Rattle.std.proofs.{lemmas.List.Elements.All-head, lemmas.List.Elements.All-tail, lemmas.List.replicate-append-replicate, Common.min, Common.append-nil}
+use Rattle.std.proofs.{lemmas.List.FromFn.get_or-map-range_with_len, lemmas.List.FromFn.length-map-range_with_len}
+use Rattle.qrcode_bits.proofs.{Numbers.number_front, Numbers.front_is, Numbers.length-byte_bits, Streams.length-tail, Streams.length-ended, Frames.length-frame}
+use Rattle.qrcode_grid.{proofs.WholeSymbols.version_of_symbol, specs.Walk.left_over, specs.Walk.bit_color, specs.Walk.symbol_bits}
 
 -- ---- The raw bits of a grid tell the codewords, and so the data
 

@@ -4,15 +4,13 @@ use Rattle.qrcode_core.proofs.Prelude.{Some, None, is_some, unwrap_or, IsTrue, s
 use Rattle.qrcode_core.proofs.Prelude.{eq-eqb, Color, EcLevel, Version, Normal, Micro, MaskPattern, functional_color, normal_number, micro_number, level_number}
 use Rattle.qrcode_core.proofs.Prelude.{symbol_number, IsOfFamily, HasFunctionalColors, IsVersion, IsSymbol, width_of, common_steps, ap, append_cancel_right}
 use Rattle.qrcode_core.proofs.Prelude.{same_Some, Carries, HaveOneReading, HaveOneContent}
+use Rattle.qrcode_core.proofs.Codewords.{bytes-of_drawn}
 use Rattle.std.proofs.Common.{negsuc, ◌==◌, ◌&&◌, nat_le}
 use Rattle.std.specs.Int.{bit_at}
 use Rattle.qrcode_grid.specs.Regions.{digit_color, differing_digits, format_code, digit_at, format_first, format_micro}
-use Rattle.qrcode_grid.proofs.Tests.{all_pass, passes, both}
-use Rattle.qrcode_grid.proofs.FormatCells.{functional_color-format}
-use Rattle.qrcode_grid.proofs.Distance.{format_codes_differ}
+use Rattle.qrcode_grid.proofs.{Tests.all_pass, Tests.passes, Tests.both, FormatCells.functional_color-format, Distance.format_codes_differ}
 use Rattle.qrcode_bits.proofs.Reading.{frame_one_reading}
 use Rattle.qrcode_base.proofs.Widths.{version-of_blocks, version-of_size}
-use Rattle.qrcode_core.proofs.Codewords.{bytes-of_drawn}
 
 -- ---- The functional colours of a grid tell the level and the mask
 

@@ -1,17 +1,13 @@
 -- What the registry holds as a map from texts; registrations and drawing steps, before and after.
 use Rattle.qrcode_core.proofs.Prelude.{ℕ, ◌≡◌, List, [], ◌∷◌, refl, ap, map, arith, AllZip, AllByRecursion, string_bytes, string_cmp, common_steps, ◌+◌, ◌++◌}
 use Rattle.qrcode_core.proofs.Prelude.{Result, Err, ◌∙◌, take, length, map-append, PluginError, with_registrations, ◌<◌, Ok, get_or, StepsInOrder}
-use Rattle.std.proofs.Common.{Some, option_map, cond, String, add-one}
-use Rattle.std.specs.declared.cmp.Ordering.TheVariants.{Less}
-use Rattle.std.specs.declared.alloc.Global.{Global}
-use Rattle.std.specs.BTreeMap.{insert_entry, is_at}
-use Rattle.std.specs.Map.{lookup, keys_of}
 use Rattle.qrcode_core.specs.Plugins.{TextMap, text_cmp, text_entries, text_values, with_entry, at_key, key_texts}
-use Rattle.std.specs.List.Sorted.{IsStrictlySortedBy}
-use Rattle.std.proofs.Math.Seq.{take-append-add, split_at, take-suc}
-use Rattle.std.proofs.lemmas.List.{take-append-le, length-append}
 use Rattle.qrcode_core.specs.Registries.{Registered, Registration, with_registration, Registers, RegistersBeginning}
 use Rattle.qrcode_core.specs.Grids.{Grid}
+use Rattle.std.proofs.Common.{Some, option_map, cond, String, add-one}
+use Rattle.std.proofs.Math.Seq.{take-append-add, split_at, take-suc}
+use Rattle.std.{specs.declared.cmp.Ordering.TheVariants.Less, specs.declared.alloc.Global.Global, specs.BTreeMap.insert_entry, specs.BTreeMap.is_at}
+use Rattle.std.{specs.Map.lookup, specs.Map.keys_of, specs.List.Sorted.IsStrictlySortedBy, proofs.lemmas.List.take-append-le, proofs.lemmas.List.length-append}
 
 -- ---- A tree of strings, read as a map from texts: what `insert` and `get` do to it
 

@@ -4,12 +4,10 @@ use Rattle.qrcode_core.proofs.Prelude.{IsPermutation, slice_range, concat, IsNon
 use Rattle.qrcode_core.proofs.Prelude.{Contains-permutation, length_permutation, same_Some, Color, Header, ReadsPiece, ReadsMessage, HaveOneMessage, parts_from}
 use Rattle.qrcode_core.proofs.Prelude.{parts_at, ap, subst, inl, inr, length-append, cases_eq, get_or_append_left, get_or_push, IsPermutation-refl, EcLevel}
 use Rattle.qrcode_core.proofs.Prelude.{QrError, DataTooLong, InvalidResourceLimits, IsTotal, IsNormalNumber, ℤ}
-use Rattle.std.proofs.lemmas.List.{take-append-drop, drop-drop, append-nil, take_all, length-drop}
-use Rattle.std.proofs.lemmas.List.Elements.{Contains-get_or}
 use Rattle.qrcode_core.proofs.OneReading.{one_reading}
-use Rattle.qrcode_bits.specs.Push.{IsPartRefused}
-use Rattle.qrcode_bits.proofs.Reading.{length-header}
 use Rattle.qrcode_core.specs.Sequence.{header_at, IsPartSymbol, AreBestSymbols, IsSomePartTooLong, IsSequenceRefusal}
+use Rattle.std.proofs.lemmas.List.{take-append-drop, drop-drop, append-nil, take_all, length-drop, Elements.Contains-get_or}
+use Rattle.qrcode_bits.{specs.Push.IsPartRefused, proofs.Reading.length-header}
 
 -- ---- Some grids are read as one message at most, in whatever order; and the parts of a message are the message
 

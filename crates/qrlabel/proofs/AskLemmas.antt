@@ -1,15 +1,12 @@
 -- Words ask for one label at most.
 use Rattle.std.proofs.Common.{◌≡◌, ℕ, suc, ◌<◌, Bool, true, false, Option, None, Some, List, ◌∷◌, ◌++◌, length, fold, refl, sym, ◌∙◌, ap, subst, arith}
 use Rattle.std.specs.Str.{trim}
-use Rattle.qrcode_core.specs.declared.types.EcLevel.{EcLevel}
-use Rattle.qrcode_core.specs.Names.{NamesLevel}
+use Rattle.qrcode_core.specs.{declared.types.EcLevel.EcLevel, Names.NamesLevel}
 use Rattle.programs.proofs.Levels.{one_level}
-use Rattle.qrlabel.specs.declared.wanted.Format.{Format}
-use Rattle.qrlabel.specs.declared.wanted.Kind.{Kind}
-use Rattle.qrlabel.specs.Options.{AsksNumber, AsksFlag}
 use Rattle.qrlabel.specs.Words.{Label, Setting, Ask, AskForNone, format_word, kind_words, spelled, with_scale, with_quiet, with_inverted, usual_scale}
 use Rattle.qrlabel.specs.Words.{usual_quiet}
 use Rattle.qrlabel.proofs.WordLemmas.{one_spelling, one_format, one_kind, after_kind}
+use Rattle.qrlabel.specs.{declared.wanted.Format.Format, declared.wanted.Kind.Kind, Options.AsksNumber, Options.AsksFlag}
 
 -- ---- Numbers and flags
 

@@ -2,15 +2,10 @@
 use Rattle.std.proofs.Common.{◌≡◌, ℕ, zero, suc, ◌+◌, ◌*◌, ◌/◌, ◌<◌, ◌≤◌, ◌^◌, ◌++◌, Bool, true, false, List, [], ◌∷◌, map, refl, sym, ◌∙◌, ap, arith, add-one}
 use Rattle.std.proofs.Common.{append-nil}
 use Rattle.std.specs.Prelude.{if◌then◌else◌}
-use Rattle.std.specs.List.{range_with_len}
-use Rattle.std.proofs.Math.Pow.{pow_mono}
-use Rattle.std.proofs.lemmas.Grind.{pow_more}
-use Rattle.std.proofs.lemmas.List.FromFn.{map-range_with_len_more}
-use Rattle.std.proofs.lemmas.Nat.{div-mul-add}
-use Rattle.std.proofs.lemmas.List.Sums.{fold-append}
-use Rattle.qrlabel.specs.Pictures.{Picture, width_of, is_dark_module}
+use Rattle.std.{specs.List.range_with_len, proofs.Math.Pow.pow_mono, proofs.lemmas.Grind.pow_more, proofs.lemmas.List.FromFn.map-range_with_len_more}
+use Rattle.std.{proofs.lemmas.Nat.div-mul-add, proofs.lemmas.List.Sums.fold-append}
 use Rattle.qrlabel.specs.Bitmaps.{number_of, byte_of, row_of, first_rows}
-use Rattle.qrlabel.proofs.Ranges.{flat_map_range}
+use Rattle.qrlabel.{specs.Pictures.Picture, specs.Pictures.width_of, specs.Pictures.is_dark_module, proofs.Ranges.flat_map_range}
 
 -- the number that the tests of n places from x on spell
 abbrev pub spelled : (ℕ → Bool) → ℕ → ℕ → ℕ

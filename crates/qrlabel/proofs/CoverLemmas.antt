@@ -1,11 +1,8 @@
 -- The rectangles of the runs of a row cover its dark modules, and each module by one.
 use Rattle.std.proofs.Common.{◌≡◌, ℕ, zero, suc, ◌+◌, ◌-◌, ◌<◌, ◌≤◌, true, false, refl, arith, inl, inr}
-use Rattle.std.proofs.lemmas.Bool.{true_from_ne_false, cases_lt, cases_Bool}
-use Rattle.std.proofs.lemmas.Bool.Decides.{nat_tests}
-use Rattle.qrlabel.specs.Pictures.{Picture, columns_of, is_dark_module}
-use Rattle.qrlabel.specs.Paths.{begins_run, run_length}
-use Rattle.qrlabel.specs.Covered.{Covers, CoversDarkModules}
-use Rattle.qrlabel.proofs.PathLemmas.{run_dark, run_light, run_end}
+use Rattle.std.proofs.lemmas.Bool.{true_from_ne_false, cases_lt, cases_Bool, Decides.nat_tests}
+use Rattle.qrlabel.{specs.Pictures.Picture, specs.Pictures.columns_of, specs.Pictures.is_dark_module, specs.Paths.begins_run, specs.Paths.run_length}
+use Rattle.qrlabel.{specs.Covered.Covers, specs.Covered.CoversDarkModules, proofs.PathLemmas.run_dark, proofs.PathLemmas.run_light, proofs.PathLemmas.run_end}
 
 -- a run of some modules begins within the row, and with a dark module
 run_inside : (p : Picture) (a y : ℕ) → 0 < run_length p a y → a < columns_of p
@@ -17,12 +14,7 @@ first_dark p a y some = grind (arith, true_from_ne_false, is_dark_module, run_li
 -- and so is each of its modules
 run_passes : (p : Picture) (a y k : ℕ) → k < run_length p a y → is_dark_module p (a + k) y ≡ true
 run_passes p a y zero some = let e : a + 0 ≡ a = omega arith in rw e (first_dark p a y some)
-run_passes p a y (suc k) some =
-    let positive : 0 < run_length p a y = omega arith in
-    let more : run_length p a y ≡ 1 + run_length p (a + 1) y = run_dark p a y (run_inside p a y positive) (first_dark p a y positive) in
-    let rest : k < run_length p (a + 1) y = omega (arith, more, some) in
-    let e : a + suc k ≡ a + 1 + k = omega arith in
-    rw e (run_passes p (a + 1) y k rest)
+run_passes p a y (suc k) some = grind (arith, run_length, run_dark, run_inside, first_dark, run_passes p (a + 1) y k)
 
 -- it reaches as far as the modules are dark
 run_reaches : (p : Picture) (a y n : ℕ) → a + n ≤ columns_of p → ((k : ℕ) → k < n → is_dark_module p (a + k) y ≡ true) → n ≤ run_length p a y

@@ -1,22 +1,13 @@
 -- Three renderers by their names.
 use Rattle.std.proofs.Common.{◌≡◌, ◌≢◌, ℕ, List, [], ◌∷◌, Some, None, Bool, false, refl, ◌∙◌, sym, subst, inl, inr}
 use Rattle.std.specs.Prelude.{codes, ◌⊎◌, IfSome, IfNone, Result, Err}
-use Rattle.std.specs.Ordering.{is_eq}
-use Rattle.std.specs.Str.{bytes_eq}
-use Rattle.std.proofs.lemmas.Bool.{false_from_ne_true}
-use Rattle.std.proofs.lemmas.Map.Text.{is_eq-slice_cmp}
-use Rattle.std.proofs.lemmas.Slice.Eq.{bytes_eq-Decides}
+use Rattle.std.{specs.Ordering.is_eq, specs.Str.bytes_eq, proofs.lemmas.Bool.false_from_ne_true, proofs.lemmas.Map.Text.is_eq-slice_cmp}
+use Rattle.std.{proofs.lemmas.Slice.Eq.bytes_eq-Decides, specs.declared.alloc.Global.Global, specs.declared.dyn_box.DynBox.DynBox}
 use Rattle.qrcode_core.specs.Registries.{Registered, nothing_registered, with_registration, renderer_of, object_in, object_at}
-use Rattle.std.specs.declared.alloc.Global.{Global}
-use Rattle.std.specs.declared.dyn_box.DynBox.{DynBox}
-use Rattle.qrcode_core.specs.declared.plugin.config.RenderConfig.{RenderConfig}
-use Rattle.qrcode_core.specs.declared.plugin.error.PluginError.{PluginError}
-use Rattle.qrcode_core.specs.declared.plugin.error.PluginError.TheVariants.{InvalidConfig, OutOfMemory}
-use Rattle.qrcode_core.specs.declared.plugin.output.RenderOutput.{RenderOutput}
-use Rattle.qrcode_core.specs.Grids.{Grid}
-use Rattle.qrlabel.specs.Pictures.{Picture}
-use Rattle.qrlabel.specs.Rendered.{Renders, Validates}
-use Rattle.qrcode_core.specs.Plugins.{TextMap, at_key, text_cmp}
+use Rattle.qrcode_core.specs.{declared.plugin.config.RenderConfig.RenderConfig, declared.plugin.error.PluginError.PluginError}
+use Rattle.qrcode_core.specs.{declared.plugin.error.PluginError.TheVariants.InvalidConfig, declared.plugin.error.PluginError.TheVariants.OutOfMemory}
+use Rattle.qrcode_core.specs.{declared.plugin.output.RenderOutput.RenderOutput, Grids.Grid, Plugins.TextMap, Plugins.at_key, Plugins.text_cmp}
+use Rattle.qrlabel.specs.{Pictures.Picture, Rendered.Renders, Rendered.Validates}
 
 -- the three, in the order of their names
 abbrev pub three : {V : Type 0} → (svg pbm terminal : V) → TextMap V

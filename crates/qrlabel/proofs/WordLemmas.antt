@@ -1,18 +1,12 @@
 -- Words are spelled in one way.
 use Rattle.std.proofs.Common.{◌≡◌, ℕ, ◌-◌, ◌<◌, ◌+◌, ◌≤◌, true, false, List, [], ◌∷◌, ◌++◌, Bor, length, drop, take, map, slice_index_or, fold, refl, sym, ◌∙◌}
 use Rattle.std.proofs.Common.{ap, arith, append_assoc, append-nil}
-use Rattle.std.specs.Prelude.{codes}
-use Rattle.std.specs.Str.{bytes_eq}
-use Rattle.std.proofs.lemmas.Slice.Eq.{bytes_eq-Decides}
-use Rattle.std.proofs.lemmas.Grind.{flat_map-append}
+use Rattle.std.proofs.lemmas.Grind.{flat_map-append, common_steps}
 use Rattle.std.proofs.lemmas.List.{take_all, drop_all, drop-drop, drop-map, length-map, length-drop}
-use Rattle.std.proofs.lemmas.List.Sums.{fold-append}
-use Rattle.qrlabel.specs.declared.wanted.Format.{Format}
-use Rattle.qrlabel.specs.declared.wanted.Format.TheVariants.{Svg, Pbm, Terminal}
-use Rattle.qrlabel.specs.declared.wanted.Kind.{Kind}
-use Rattle.qrlabel.specs.declared.wanted.Kind.TheVariants.{Usual, Micro, Utf8}
+use Rattle.std.{specs.Prelude.codes, specs.Str.bytes_eq, proofs.lemmas.Slice.Eq.bytes_eq-Decides, proofs.lemmas.List.Sums.fold-append}
 use Rattle.qrlabel.specs.Words.{Setting, Scale, Quiet, Inverted, format_word, kind_words, setting_words, spelled}
-use Rattle.std.proofs.lemmas.Grind.{common_steps}
+use Rattle.qrlabel.specs.declared.wanted.{Format.Format, Format.TheVariants.Svg, Format.TheVariants.Pbm, Format.TheVariants.Terminal, Kind.Kind}
+use Rattle.qrlabel.specs.declared.wanted.{Kind.TheVariants.Usual, Kind.TheVariants.Micro, Kind.TheVariants.Utf8}
 
 abbrev Words : Type 0
 Words = List (List ℕ)
@@ -75,10 +69,7 @@ said_first : (done settings : List Setting) (left : Words) → spelled settings 
     (rest : List Setting) × (spelled rest ≡ left) × (settings ≡ done ++ rest)
 said_first [] settings left e = (settings, e, refl)
 said_first (d ∷ done) [] left e = grind (arith, not_empty, append_assoc)
-said_first (d ∷ done) (s ∷ settings) left e =
-    let p = same_start s d (spelled settings) (spelled done ++ left) (e ∙ append_assoc (setting_words d) (spelled done) left) in
-    let r = said_first done settings left p.1 in
-    (r.0, r.1, cc (p.0, r.2))
+said_first (d ∷ done) (s ∷ settings) left e = grind (arith, same_start, append_assoc, setting_words, said_first done settings left)
 
 pub one_spelling : (a b : List Setting) → spelled a ≡ spelled b → a ≡ b
 one_spelling a b e = grind (arith, said_first b a [], none_spelled, append-nil)

@@ -1,26 +1,17 @@
 -- What pushes, refused or not, and the end of a stream say of the bits of a text.
-use Rattle.qrcode_bits.proofs.Prelude.{◌≡◌, ◌∙◌, ℕ, ◌+◌, ◌-◌, ◌^◌, ◌<◌, ◌≤◌, Bool, true, List, [], ◌∷◌, ◌++◌, length, get_or, ap, sym, subst}
-use Rattle.qrcode_bits.proofs.Prelude.{arith, inl, inr, length-append, Err, Ok, Some, None, All, slice_get, is_some, cases_lt, common_steps}
-use Rattle.qrcode_bits.proofs.Prelude.{All-head, All-tail, All-nil, All-cons, EcLevel, Byte, Version, QrError, DataTooLong, OutOfMemory}
-use Rattle.qrcode_bits.proofs.Prelude.{IsValid, characters, count_width, indicator_width, number_bits, capacity, normal_blocks}
-use Rattle.qrcode_bits.proofs.Prelude.{normal, spellings, IsPushRefused, Spells, AreTexts, parsed, segment_piece, segment_pieces, Piece, spelling}
-use Rattle.qrcode_bits.proofs.Prelude.{Stream, Appends, eci_spelling}
-use Rattle.std.proofs.lemmas.Option.{none-some}
-use Rattle.qrcode_base.specs.declared.types.errors.QrError.TheVariants.{InvalidCharacter, UnsupportedCharacterSet}
-use Rattle.qrcode_base.proofs.Alphabet.{each_below, from_each_below}
-use Rattle.qrcode_base.proofs.Fields.{count-fits}
-use Rattle.qrcode_base.proofs.Validity.{none_where_valid, first_invalid-is}
-use Rattle.qrcode_bits.specs.Push.{PushesOptimally, piece_of}
-use Rattle.qrcode_bits.specs.declared.optimize.Segment.{Segment}
+use Rattle.qrcode_bits.proofs.Prelude.{◌≡◌, ◌∙◌, ℕ, ◌+◌, ◌-◌, ◌^◌, ◌<◌, ◌≤◌, Bool, true, List, [], ◌∷◌, ◌++◌, length, get_or, ap, sym, subst, arith, inl, inr}
+use Rattle.qrcode_bits.proofs.Prelude.{length-append, Err, Ok, Some, None, All, slice_get, is_some, cases_lt, common_steps, All-head, All-tail, All-nil}
+use Rattle.qrcode_bits.proofs.Prelude.{All-cons, EcLevel, Byte, Version, QrError, DataTooLong, OutOfMemory, IsValid, characters, count_width, indicator_width}
+use Rattle.qrcode_bits.proofs.Prelude.{number_bits, capacity, normal_blocks, normal, spellings, IsPushRefused, Spells, AreTexts, parsed, segment_piece}
+use Rattle.qrcode_bits.proofs.Prelude.{segment_pieces, Piece, spelling, Stream, Appends, eci_spelling}
 use Rattle.qrcode_bits.proofs.Choices.{capacity-most, chosen_is_plan, fits_normal}
-use Rattle.qrcode_bits.proofs.Lengths.{long_message}
-use Rattle.qrcode_bits.proofs.Numbers.{length-number_bits}
-use Rattle.qrcode_bits.proofs.Pairs.{bytes_valid}
-use Rattle.qrcode_bits.proofs.PlanFrames.{length-spelled}
-use Rattle.qrcode_bits.proofs.PlanLaws.{one_chosen}
-use Rattle.qrcode_bits.proofs.Reading.{length-spelling}
-use Rattle.qrcode_bits.proofs.Segments.{length-character_bits}
-use Rattle.qrcode_bits.proofs.Texts.{texts-plan}
+use Rattle.qrcode_bits.{specs.Push.PushesOptimally, specs.Push.piece_of, specs.declared.optimize.Segment.Segment, proofs.Lengths.long_message}
+use Rattle.qrcode_bits.{proofs.Numbers.length-number_bits, proofs.Pairs.bytes_valid, proofs.PlanFrames.length-spelled, proofs.PlanLaws.one_chosen}
+use Rattle.qrcode_bits.{proofs.Reading.length-spelling, proofs.Segments.length-character_bits, proofs.Texts.texts-plan}
+use Rattle.std.proofs.lemmas.Option.{none-some}
+use Rattle.qrcode_base.{specs.declared.types.errors.QrError.TheVariants.InvalidCharacter}
+use Rattle.qrcode_base.{specs.declared.types.errors.QrError.TheVariants.UnsupportedCharacterSet, proofs.Alphabet.each_below, proofs.Alphabet.from_each_below}
+use Rattle.qrcode_base.{proofs.Fields.count-fits, proofs.Validity.none_where_valid, proofs.Validity.first_invalid-is}
 use Rattle.qrcode_core.specs.Drawn.{DrawnSymbol, HoldsStream, IsStreamRefusal}
 use Rattle.texts.specs.Smallest.{SaysUtf8, SaysElements, HoldsIn, HoldsNoneBelow, IsTooLongIn, IsRefusedIn}
 

@@ -1,10 +1,7 @@
 -- The second word is `micro`.
 use Rattle.std.proofs.Common.{rules, arith, ◌≡◌, ◌≤◌, ◌<◌, ℕ, List, [], ◌∷◌, length, get_or, map, true, refl}
-use Rattle.std.specs.Prelude.{codes}
-use Rattle.std.specs.Str.{trim}
-use Rattle.std.specs.String.{string_bytes}
-use Rattle.qrcode_core.specs.declared.types.EcLevel.{EcLevel}
-use Rattle.qrcode_core.specs.Names.{NamesLevel}
+use Rattle.std.specs.{Prelude.codes, Str.trim, String.string_bytes}
+use Rattle.qrcode_core.specs.{declared.types.EcLevel.EcLevel, Names.NamesLevel}
 use Rattle.qrtext.specs.Words.{request, Ask}
 use Rattle.qrtext.proofs.request_of.Goals as goal
 

@@ -1,8 +1,7 @@
 -- The pushes behind each other, and the refusal of each.
 use Rattle.std.proofs.Common.{◌≡◌, ◌∙◌, arith}
 use Rattle.std.proofs.lemmas.Result.{err_from_is_err_and, IfOk-weaker, IfErr-weaker}
-use Rattle.qrcode_bits.proofs.Pairs.{bytes_valid}
-use Rattle.qrcode_bits.specs.Plans.{normal}
+use Rattle.qrcode_bits.{proofs.Pairs.bytes_valid, specs.Plans.normal}
 use Rattle.texts.specs.Smallest.{SaysElements}
 use Rattle.texts.proofs.Texts.{held, end_refused, elements_refused, elements_pushed, elements_length}
 use Rattle.texts.proofs.gs1_in.Goals as goal

@@ -1,10 +1,8 @@
 -- The versions before this one, and this one.
 use Rattle.std.proofs.Common.{subst, arith}
 use Rattle.qrcode_base.specs.declared.types.errors.QrError.{QrError}
-use Rattle.qrcode_bits.specs.Plans.{normal}
-use Rattle.qrcode_bits.proofs.Pairs.{bytes_valid}
-use Rattle.texts.specs.Smallest.{SaysElements, IsRefusedIn}
-use Rattle.texts.proofs.Texts.{elements_too_long, next}
+use Rattle.qrcode_bits.{specs.Plans.normal, proofs.Pairs.bytes_valid}
+use Rattle.texts.{specs.Smallest.SaysElements, specs.Smallest.IsRefusedIn, proofs.Texts.elements_too_long, proofs.Texts.next}
 use Rattle.texts.proofs.gs1_symbol.Goals as goal
 
 pub loop-number-preserved : goal.loop-number-preserved

@@ -1,10 +1,8 @@
 -- The versions before this one, and this one.
 use Rattle.std.proofs.Common.{List, ℕ, subst, arith}
-use Rattle.qrcode_base.specs.declared.types.errors.QrError.{QrError}
-use Rattle.qrcode_base.specs.declared.types.errors.QrError.TheVariants.{DataTooLong}
+use Rattle.qrcode_base.specs.declared.types.errors.QrError.{QrError, TheVariants.DataTooLong}
 use Rattle.qrcode_bits.specs.Plans.{normal}
-use Rattle.texts.specs.Smallest.{SaysUtf8, IsRefusedIn}
-use Rattle.texts.proofs.Texts.{next, text_too_long}
+use Rattle.texts.{specs.Smallest.SaysUtf8, specs.Smallest.IsRefusedIn, proofs.Texts.next, proofs.Texts.text_too_long}
 use Rattle.texts.proofs.utf8_symbol.Goals as goal
 
 pub loop-number-preserved : goal.loop-number-preserved
