@@ -78,8 +78,7 @@ same_digits version a b grid h f g k below =
 
 none_counted : (p : ℕ → Bool) (a n : ℕ) → ((k : ℕ) → a ≤ k → k < a + n → p k ≡ false) → count_by p (range_with_len a n) ≡ 0
 none_counted p a zero h = refl
-none_counted p a (suc n) h =
-    grind (arith, common_steps, h a (omega arith) (omega arith), none_counted p (a + 1) n (λ k low high. h k (omega arith) (omega arith)))
+none_counted p a (suc n) h = grind (arith, common_steps, none_counted p (a + 1) n)
 
 none_differ : (n a b : ℕ) → ((k : ℕ) → k < n → bit_at a k ≡ bit_at b k) → differing_digits n a b ≡ 0
 none_differ n a b same = grind (arith, common_steps, none_counted, eq-eqb)
@@ -148,7 +147,5 @@ one_carried grid v w l m p q a b f g =
 
 pub one_reading : HaveOneReading
 one_reading grid r s f g =
-    let same = one_carried grid r.version s.version r.level s.level r.mask s.mask f.frame g.frame f.carries g.carries in
-    let framed = rw (same.0, same.1, same.3) at f.framed in
-    let rest = frame_one_reading s.version s.level r.header s.header r.bytes s.bytes r.payload s.payload g.frame framed g.framed in
-    grind (arith, same, rest)
+    grind (arith, one_carried grid r.version s.version r.level s.level r.mask s.mask f.frame g.frame f.carries g.carries,
+    frame_one_reading s.version s.level r.header s.header r.bytes s.bytes r.payload s.payload g.frame)

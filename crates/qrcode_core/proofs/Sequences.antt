@@ -33,16 +33,9 @@ same_piece grids m n f g i inside =
 pub in_any_order : (grids shuffled : List (List Color)) (message : List ℕ) → IsPermutation grids shuffled → ReadsMessage grids message →
     ReadsMessage shuffled message
 in_any_order grids shuffled message mixed seen =
-    let size = length_permutation grids shuffled mixed in
-    record {
-      in_order = seen.in_order;
-      pieces = seen.pieces;
-      enough = grind (arith, size, seen.enough);
-      same_grids = IsPermutation-trans shuffled grids seen.in_order (IsPermutation-sym grids shuffled mixed) seen.same_grids;
-      a_piece_each = cc;
-      each_read = λ i inside. grind (arith, common_steps, seen.each_read i (omega arith), size);
-      message_is = seen.message_is;
-    }
+    grind (arith, length_permutation grids shuffled mixed,
+    IsPermutation-trans shuffled grids seen.in_order (IsPermutation-sym grids shuffled mixed) seen.same_grids, IsPermutation-sym grids shuffled mixed,
+    common_steps)
 
 pub one_message : HaveOneMessage
 one_message grids shuffled m n mixed f h =

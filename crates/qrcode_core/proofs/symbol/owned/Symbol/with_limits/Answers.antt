@@ -34,6 +34,4 @@ returns c =
     }
 
 pub returns-in_err-bits-clause-refused : goal.returns-in_err-bits-clause-refused
-returns-in_err-bits-clause-refused c =
-    let number = to_z w16 (of_z w16 c.in-Normal.number) in
-    grind (arith, common_steps, limited_refusal c.args.limits.now c.args.bytes.now c.args.level number, c.in_err-bits.ensures.err)
+returns-in_err-bits-clause-refused c = grind (arith, common_steps, limited_refusal c.args.limits.now c.args.bytes.now c.args.level, c.in_err-bits.ensures.err)
