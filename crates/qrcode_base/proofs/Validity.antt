@@ -1,13 +1,11 @@
 -- The first invalid byte of a text is one, and one only; there is none exactly where the text is valid.
-use Rattle.qrcode_base.proofs.Prelude.{◌≡◌, ℕ, zero, suc, ◌<◌, ◌≤◌, refl, sym, ap, ◌∙◌, arith, subst, List, [], ◌∷◌, length, take, Bool, true, Option}
-use Rattle.qrcode_base.proofs.Prelude.{Some, None, All, Contains, slice_get, if◌then◌else◌, take-length, false≢true, cases_lt, slice_get_within}
-use Rattle.qrcode_base.proofs.Prelude.{slice_get-get_or, Mode, Numeric, Alphanumeric, Byte, Kanji, is_between, IsDigit, alphabet, is_alphanumeric}
-use Rattle.qrcode_base.proofs.Prelude.{is_kanji_pair, IsKanjiText, is_kanji_text, IsValid, is_valid, longest_beginning, first_invalid, IsFirstInvalid}
-use Rattle.qrcode_base.proofs.Prelude.{FirstInvalid, and_parts}
-use Rattle.std.specs.Prelude.{option_map, ◌↔◌}
-use Rattle.std.specs.List.{list_all}
-use Rattle.std.proofs.lemmas.List.Sums.{AllPass-from_list_all, list_all-from_AllPass}
+use Rattle.qrcode_base.proofs.Prelude.{◌≡◌, ℕ, zero, suc, ◌<◌, ◌≤◌, refl, sym, ap, ◌∙◌, arith, subst, List, [], ◌∷◌, length, take, Bool, true, Option, Some}
+use Rattle.qrcode_base.proofs.Prelude.{None, All, Contains, slice_get, if◌then◌else◌, take-length, false≢true, cases_lt, slice_get_within, slice_get-get_or}
+use Rattle.qrcode_base.proofs.Prelude.{Mode, Numeric, Alphanumeric, Byte, Kanji, is_between, IsDigit, alphabet, is_alphanumeric, is_kanji_pair, IsKanjiText}
+use Rattle.qrcode_base.proofs.Prelude.{is_kanji_text, IsValid, is_valid, longest_beginning, first_invalid, IsFirstInvalid, FirstInvalid, and_parts}
 use Rattle.qrcode_base.proofs.Alphabet.{is_alphanumeric-inside, is_alphanumeric-from_inside}
+use Rattle.std.specs.Prelude.{option_map, ◌↔◌}
+use Rattle.std.{specs.List.list_all, proofs.lemmas.List.Sums.AllPass-from_list_all, proofs.lemmas.List.Sums.list_all-from_AllPass}
 
 -- ---- The test of a text
 
@@ -76,10 +74,8 @@ empty_valid mode = grind (arith, valid-passes)
 found_behind : (mode : Mode) (text : List ℕ) (place : ℕ) (found : Option ℕ) → slice_get text place ≡ found →
     place ≡ longest_beginning (is_valid mode) text (length text) → FirstInvalid (IsValid mode) text (option_map (λ byte. (place, byte)) found)
 found_behind mode text place None none at =
-    let within : place ≤ length text = omega (arith, longest-within (is_valid mode) text (length text)) in
-    let whole : take place text ≡ text = ap (λ (k : ℕ). take k text) (past_end text place none within) ∙ take-length text in
-    let passes = subst (λ (k : ℕ). is_valid mode (take k text) ≡ true) (sym at) (longest-passes (is_valid mode) text (length text) (empty_valid mode)) in
-    subst (λ (t : List ℕ). IsValid mode t) whole (valid-holds mode (take place text) passes)
+    grind (arith, longest-within (is_valid mode) text (length text), is_valid mode, past_end text place none, take-length text,
+    longest-passes (is_valid mode) text (length text) (empty_valid mode), empty_valid mode, valid-holds mode (take place text))
 found_behind mode text place (Some byte) some at = grind (arith, valid-holds, longest-passes, longest-longest, valid-passes)
 
 pub first_invalid-first : (mode : Mode) (text : List ℕ) → FirstInvalid (IsValid mode) text (first_invalid mode text)
@@ -89,8 +85,7 @@ first_invalid-first mode text = grind (arith, found_behind)
 -- ---- No other is first
 
 not_valid : (valid : List ℕ → Type 0) (text : List ℕ) (position byte : ℕ) → IsFirstInvalid valid text position byte → valid text → ⊥
-not_valid valid text position byte first whole =
-    first.longest (length text) (slice_get_within text position byte first.byte_is) (omega arith) (subst valid (sym (take-length text)) whole)
+not_valid valid text position byte first whole = grind (arith, slice_get_within text position byte first.byte_is, take-length text)
 
 not_before : (valid : List ℕ → Type 0) (text : List ℕ) (p q : ℕ × ℕ) → IsFirstInvalid valid text p.0 p.1 → IsFirstInvalid valid text q.0 q.1 → p.0 < q.0 → ⊥
 not_before valid text p q first second before = grind (arith, slice_get_within)

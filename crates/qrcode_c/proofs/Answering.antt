@@ -1,19 +1,11 @@
 -- What a call answers, by what was written of the symbol.
 use Rattle.std.specs.Prelude.{◌≡◌, ◌+◌, ◌<◌, ◌≤◌, ℕ, ℤ, List, length, map, nat_abs, All, Result, Ok, Err, IfOk, IfErr, OnErr}
 use Rattle.std.proofs.Common.{get_or, subst, sym, refl, ◌∙◌, arith}
-use Rattle.std.proofs.lemmas.List.{length-map}
-use Rattle.std.proofs.lemmas.Option.{slice_get_read}
-use Rattle.std.proofs.lemmas.Result.{IfOk-weaker}
-use Rattle.qrcode_base.specs.declared.types.Color.{Color}
-use Rattle.qrcode_base.specs.declared.types.EcLevel.{EcLevel}
-use Rattle.qrcode_core.specs.Drawn.{DrawnSymbol, TellsReading, modules_of}
-use Rattle.qrcode_core.specs.Sequence.{AreBestSymbols}
-use Rattle.qrcode_c.specs.declared.refusal.Refusal.{Refusal}
-use Rattle.qrcode_c.specs.declared.refusal.Refusal.TheVariants.{ShortBuffer}
-use Rattle.qrcode_c.specs.declared.shape.Shape.{Shape}
-use Rattle.qrcode_c.specs.Holding.{Holds, HoldsBest, HoldsPart}
-use Rattle.qrcode_c.specs.Levels.{number_of}
-use Rattle.qrcode_c.specs.Refusals.{IsPartAbove}
+use Rattle.std.proofs.lemmas.{List.length-map, Option.slice_get_read, Result.IfOk-weaker}
+use Rattle.qrcode_base.specs.declared.types.{Color.Color, EcLevel.EcLevel}
+use Rattle.qrcode_core.specs.{Drawn.DrawnSymbol, Drawn.TellsReading, Drawn.modules_of, Sequence.AreBestSymbols}
+use Rattle.qrcode_c.specs.{declared.refusal.Refusal.Refusal, declared.refusal.Refusal.TheVariants.ShortBuffer, declared.shape.Shape.Shape, Holding.Holds}
+use Rattle.qrcode_c.specs.{Holding.HoldsBest, Holding.HoldsPart, Levels.number_of, Refusals.IsPartAbove}
 
 pub best_held : (best : EcLevel → List Color → Type 0) (level : EcLevel) (number : ℤ) (symbol : DrawnSymbol) (before after : List ℕ)
     (result : Result Shape Refusal) →

@@ -1,21 +1,9 @@
 pub mod Prelude
-pub mod Formats
-pub mod Contents
+pub mod Codewords
 pub mod OneReading
-pub mod HalfBytes
-pub mod DrawnReading
-pub mod Ending
-pub mod Lengths
 pub mod Printed
-pub mod BlocksApart
-pub mod GridsApart
 pub mod Best
-pub mod StreamEncoding
-pub mod OneMessage
-pub mod Symbols
+pub mod Sequences
 mod Limited
-mod HeldBits
 mod RowCounts
-mod TextMaps
-mod StepLemmas
-mod RegistrationLemmas
+mod Plugins

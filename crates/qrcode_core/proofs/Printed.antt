@@ -2,17 +2,13 @@
 use Rattle.qrcode_core.proofs.Prelude.{◌≡◌, ℕ, zero, suc, pos, ◌+◌, ◌*◌, ◌<◌, refl, arith, List, [], ◌∷◌, Bool, true, false, take, rules, Option, Some, None}
 use Rattle.qrcode_core.proofs.Prelude.{slice_get, codes, Color, Light, Dark, Version, Micro, byte_bits, blocks, place_in_stream, block_in, blocks_in}
 use Rattle.qrcode_core.proofs.Prelude.{codeword_block, AreCodewords, format_word, HasFunctionalColors, functional_color, Reads}
+use Rattle.qrcode_core.specs.Headline.{printed, printed_reading}
 use Rattle.std.specs.Prelude.{◌≢◌}
 use Rattle.std.proofs.lemmas.List.Elements.{All-cons, All-nil}
-use Rattle.qrcode_base.specs.declared.types.EcLevel.TheVariants.{L}
-use Rattle.qrcode_base.specs.declared.types.Mode.TheVariants.{Numeric}
-use Rattle.qrcode_base.specs.Numbers.{number_bits}
-use Rattle.qrcode_bits.specs.Frame.{IsFrame, bytes_in_turn}
-use Rattle.qrcode_bits.specs.Spelling.{Piece, IsSpellable}
-use Rattle.qrcode_grid.specs.declared.canvas.MaskPattern.TheVariants.{Diamonds}
+use Rattle.qrcode_base.specs.{declared.types.EcLevel.TheVariants.L, declared.types.Mode.TheVariants.Numeric, Numbers.number_bits}
+use Rattle.qrcode_bits.specs.{Frame.IsFrame, Frame.bytes_in_turn, Spelling.Piece, Spelling.IsSpellable}
 use Rattle.qrcode_grid.specs.Codes.{value_at, IsSound, double, shift_and_add, product, power}
-use Rattle.qrcode_grid.proofs.Tests.{all_pass, passes}
-use Rattle.qrcode_core.specs.Headline.{printed, printed_reading}
+use Rattle.qrcode_grid.{specs.declared.canvas.MaskPattern.TheVariants.Diamonds, proofs.Tests.all_pass, proofs.Tests.passes}
 
 -- ---- Functional colours, computed
 

@@ -2,15 +2,10 @@
 use Rattle.std.proofs.Common.{◌≡◌, ℕ, zero, suc, ◌+◌, ◌*◌, ◌/◌, ◌<◌, ◌≤◌, ◌^◌, ◌++◌, Bool, true, false, List, [], ◌∷◌, map, refl, sym, ◌∙◌, ap, arith, add-one}
 use Rattle.std.proofs.Common.{append-nil}
 use Rattle.std.specs.Prelude.{if◌then◌else◌}
-use Rattle.std.specs.List.{range_with_len}
-use Rattle.std.proofs.Math.Pow.{pow_mono}
-use Rattle.std.proofs.lemmas.Grind.{pow_more}
-use Rattle.std.proofs.lemmas.List.FromFn.{map-range_with_len_more}
-use Rattle.std.proofs.lemmas.Nat.{div-mul-add}
-use Rattle.std.proofs.lemmas.List.Sums.{fold-append}
-use Rattle.qrlabel.specs.Pictures.{Picture, width_of, is_dark_module}
+use Rattle.std.{specs.List.range_with_len, proofs.Math.Pow.pow_mono, proofs.lemmas.Grind.pow_more, proofs.lemmas.List.FromFn.map-range_with_len_more}
+use Rattle.std.{proofs.lemmas.Nat.div-mul-add, proofs.lemmas.List.Sums.fold-append}
 use Rattle.qrlabel.specs.Bitmaps.{number_of, byte_of, row_of, first_rows}
-use Rattle.qrlabel.proofs.Ranges.{flat_map_range}
+use Rattle.qrlabel.{specs.Pictures.Picture, specs.Pictures.width_of, specs.Pictures.is_dark_module, proofs.Ranges.flat_map_range}
 
 -- the number that the tests of n places from x on spell
 abbrev pub spelled : (ℕ → Bool) → ℕ → ℕ → ℕ
@@ -18,29 +13,16 @@ spelled f x n = number_of (map f (range_with_len x n))
 
 -- one bit more
 pub spelled_more : (f : ℕ → Bool) (x n : ℕ) → spelled f x (n + 1) ≡ spelled f x n * 2 + (if f (x + n) then 1 else 0)
-spelled_more f x n =
-    ap number_of (map-range_with_len_more f x n (x + n) refl)
-    ∙ fold-append (λ n bit. n * 2 + (if bit then 1 else 0)) 0 (map f (range_with_len x n)) (f (x + n) ∷ [])
-
-bit_small : (b : Bool) → (if b then 1 else 0) ≤ 1
-bit_small true = omega arith
-bit_small false = omega arith
+spelled_more f x n = grind (arith, map-range_with_len_more f x n (x + n) refl, fold-append)
 
 -- n bits spell less than 2 to the n
 spelled_below : (f : ℕ → Bool) (x n : ℕ) → spelled f x n + 1 ≤ 2 ^ n
 spelled_below f x zero = omega arith
-spelled_below f x (suc n) =
-    let more : spelled f x (suc n) ≡ spelled f x n * 2 + (if f (x + n) then 1 else 0) =
-    ap (λ (k : ℕ). spelled f x k) (sym (add-one n)) ∙ spelled_more f x n in
-    let power : 2 ^ suc n ≡ 2 ^ n * 2 = ap (λ (k : ℕ). 2 ^ k) (sym (add-one n)) ∙ pow_more 2 n in
-    omega (arith, more, power, spelled_below f x n, bit_small (f (x + n)))
+spelled_below f x (suc n) = grind (arith, add-one, spelled_more f x n, pow_more 2 n, spelled_below f x n)
 
 -- less than eight bits leave room for one more in a byte
 pub spelled_small : (f : ℕ → Bool) (x n : ℕ) → n < 8 → spelled f x n * 2 + 1 < 256
-spelled_small f x n below =
-    let few : n ≤ 7 = omega arith in
-    let power : 2 ^ n ≤ 2 ^ 7 = pow_mono few in
-    omega (arith, power, spelled_below f x n)
+spelled_small f x n below = grind (arith, pow_mono, spelled_below)
 
 pub rows_none : (p : Picture) → first_rows p 0 ≡ []
 unfolding first_rows
@@ -53,8 +35,7 @@ rows_more p n = flat_map_range (row_of p) n
 -- rows of pixels in one row of modules are the same
 row_same : (p : Picture) (y z : ℕ) → y / p.scale ≡ z / p.scale → row_of p y ≡ row_of p z
 unfolding row_of byte_of
-row_same p y z e =
-    ap (λ (row : ℕ). map (λ place. spelled (λ x. is_dark_module p (x / p.scale) row) (8 * place) 8) (range_with_len 0 ((width_of p + 7) / 8))) e
+row_same p y z e = grind (arith, is_dark_module, range_with_len, width_of)
 
 -- one byte more of a row
 pub bytes_more : (p : Picture) (y n : ℕ) → map (byte_of p y) (range_with_len 0 (n + 1)) ≡ map (byte_of p y) (range_with_len 0 n) ++ byte_of p y n ∷ []
@@ -65,18 +46,14 @@ pub rows_copy : (p : Picture) (scale row copy : ℕ) → p.scale ≡ scale → c
     first_rows p (row * scale + (copy + 1)) ≡ first_rows p (row * scale + copy) ++ row_of p (row * scale)
 rows_copy p scale row copy e below =
     let next : row * scale + (copy + 1) ≡ (row * scale + copy) + 1 = omega arith in
-    let first : (row * scale + 0) / scale ≡ row = div-mul-add row scale 0 (omega arith) in
     let start : row * scale + 0 ≡ row * scale = omega arith in
-    let upper : (row * scale) / p.scale ≡ row = rw (e, ← start) first in
+    let upper : (row * scale) / p.scale ≡ row = rw (e, ← start) (div-mul-add row scale 0 (omega arith)) in
     let lower : (row * scale + copy) / p.scale ≡ row = rw e (div-mul-add row scale copy below) in
-    ap (first_rows p) next ∙ rows_more p (row * scale + copy)
-    ∙ ap (λ l. first_rows p (row * scale + copy) ++ l) (row_same p (row * scale + copy) (row * scale) (lower ∙ sym upper))
+    grind (arith, next, rows_more p (row * scale + copy), row_same p (row * scale + copy) (row * scale) (lower ∙ sym upper))
 
 -- the first row begins with none
 pub rows_start : (p : Picture) (scale : ℕ) (bytes : List ℕ) → bytes ≡ bytes ++ first_rows p (0 * scale)
-rows_start p scale bytes =
-    let none : 0 * scale ≡ 0 = omega arith in
-    rw (none, rows_none p) (sym (append-nil bytes))
+rows_start p scale bytes = let none : 0 * scale ≡ 0 = omega arith in rw (none, rows_none p) (sym (append-nil bytes))
 
 pub ruleset bits = (spelled_more, spelled_small)
 

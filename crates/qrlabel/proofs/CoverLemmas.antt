@@ -1,29 +1,20 @@
 -- The rectangles of the runs of a row cover its dark modules, and each module by one.
 use Rattle.std.proofs.Common.{◌≡◌, ℕ, zero, suc, ◌+◌, ◌-◌, ◌<◌, ◌≤◌, true, false, refl, arith, inl, inr}
-use Rattle.std.proofs.lemmas.Bool.{true_from_ne_false, cases_lt, cases_Bool}
-use Rattle.std.proofs.lemmas.Bool.Decides.{nat_tests}
-use Rattle.qrlabel.specs.Pictures.{Picture, columns_of, is_dark_module}
-use Rattle.qrlabel.specs.Paths.{begins_run, run_length}
-use Rattle.qrlabel.specs.Covered.{Covers, CoversDarkModules}
-use Rattle.qrlabel.proofs.PathLemmas.{run_dark, run_light, run_end}
+use Rattle.std.proofs.lemmas.Bool.{true_from_ne_false, cases_lt, cases_Bool, Decides.nat_tests}
+use Rattle.qrlabel.{specs.Pictures.Picture, specs.Pictures.columns_of, specs.Pictures.is_dark_module, specs.Paths.begins_run, specs.Paths.run_length}
+use Rattle.qrlabel.{specs.Covered.Covers, specs.Covered.CoversDarkModules, proofs.PathLemmas.run_dark, proofs.PathLemmas.run_light, proofs.PathLemmas.run_end}
 
 -- a run of some modules begins within the row, and with a dark module
 run_inside : (p : Picture) (a y : ℕ) → 0 < run_length p a y → a < columns_of p
 run_inside p a y some = elim (cases_lt a (columns_of p)) [ inl inside ↦ inside | inr outside ↦ absurd (omega (arith, run_end p a y outside, some)) ]
 
 first_dark : (p : Picture) (a y : ℕ) → 0 < run_length p a y → is_dark_module p a y ≡ true
-first_dark p a y some =
-    true_from_ne_false (is_dark_module p a y) (λ light. omega (arith, run_light p a y (run_inside p a y some) light, some))
+first_dark p a y some = grind (arith, true_from_ne_false, is_dark_module, run_light, run_inside)
 
 -- and so is each of its modules
 run_passes : (p : Picture) (a y k : ℕ) → k < run_length p a y → is_dark_module p (a + k) y ≡ true
 run_passes p a y zero some = let e : a + 0 ≡ a = omega arith in rw e (first_dark p a y some)
-run_passes p a y (suc k) some =
-    let positive : 0 < run_length p a y = omega arith in
-    let more : run_length p a y ≡ 1 + run_length p (a + 1) y = run_dark p a y (run_inside p a y positive) (first_dark p a y positive) in
-    let rest : k < run_length p (a + 1) y = omega (arith, more, some) in
-    let e : a + suc k ≡ a + 1 + k = omega arith in
-    rw e (run_passes p (a + 1) y k rest)
+run_passes p a y (suc k) some = grind (arith, run_length, run_dark, run_inside, first_dark, run_passes p (a + 1) y k)
 
 -- it reaches as far as the modules are dark
 run_reaches : (p : Picture) (a y n : ℕ) → a + n ≤ columns_of p → ((k : ℕ) → k < n → is_dark_module p (a + k) y ≡ true) → n ≤ run_length p a y
@@ -40,9 +31,7 @@ begins_first : (p : Picture) (y : ℕ) → is_dark_module p 0 y ≡ true → beg
 begins_first p y dark = rw dark refl
 
 begins_after_light : (p : Picture) (x y : ℕ) → is_dark_module p (x + 1) y ≡ true → is_dark_module p x y ≡ false → begins_run p (x + 1) y ≡ true
-begins_after_light p x y dark light =
-    let e : x + 1 - 1 ≡ x = omega arith in
-    rw (dark, e, light) (grind (arith, nat_tests))
+begins_after_light p x y dark light = grind (arith, nat_tests)
 
 -- the modules of a run, by their columns
 covered_dark : (p : Picture) (start x y : ℕ) → start ≤ x → x < start + run_length p start y → is_dark_module p x y ≡ true
@@ -91,12 +80,7 @@ no_begin : (p : Picture) (b y : ℕ) → 0 < b → is_dark_module p (b - 1) y �
 no_begin p b y some dark = rw dark (grind (arith, nat_tests))
 
 not_before : (p : Picture) (a b x y : ℕ) → Covers p a x y → Covers p b x y → a < b → ⊥
-not_before p a b x y first second earlier =
-    let before : is_dark_module p (b - 1) y ≡ true =
-    covered_dark p a (b - 1) y (omega arith) (omega (arith, first.to, second.from)) in
-    let none : begins_run p b y ≡ false = no_begin p b y (omega arith) before in
-    let begins : begins_run p b y ≡ true = second.begins in
-    cc
+not_before p a b x y first second earlier = grind (arith, is_dark_module, covered_dark, begins_run, no_begin)
 
 -- no two rectangles cover a module
 one_each : (p : Picture) (a b x y : ℕ) → Covers p a x y → Covers p b x y → a ≡ b

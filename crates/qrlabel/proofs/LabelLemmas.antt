@@ -1,60 +1,33 @@
 -- What a renderer by its name makes of a grid, where the configuration asks for one drawing.
-use Rattle.std.proofs.Common.{◌≡◌, ℕ, Bool, List, refl, sym, ◌∙◌, subst, Result, Ok, Err}
+use Rattle.std.proofs.Common.{◌≡◌, ℕ, Bool, List, refl, sym, ◌∙◌, arith, Result, Ok, Err}
 use Rattle.std.specs.Prelude.{IfOk, IfErr}
-use Rattle.qrcode_core.specs.declared.plugin.config.RenderConfig.{RenderConfig}
-use Rattle.qrcode_core.specs.declared.plugin.error.PluginError.{PluginError}
-use Rattle.qrcode_core.specs.declared.plugin.error.PluginError.TheVariants.{RendererNotFound, EncoderNotFound, InvalidConfig, InvalidModuleGrid, RenderFailed}
-use Rattle.qrcode_core.specs.declared.plugin.error.PluginError.TheVariants.{EncodeFailed, PostProcessFailed, OutOfMemory}
-use Rattle.qrcode_core.specs.declared.plugin.output.RenderOutput.{RenderOutput}
+use Rattle.qrcode_core.specs.declared.plugin.error.PluginError.TheVariants.{InvalidConfig, RenderFailed, OutOfMemory}
 use Rattle.qrcode_core.specs.declared.plugin.output.RenderOutput.TheVariants.{Text, Bytes, Modules}
-use Rattle.qrcode_core.specs.Plugins.{render_options}
-use Rattle.qrcode_core.specs.Grids.{Grid}
-use Rattle.qrlabel.specs.declared.wanted.Format.{Format}
+use Rattle.qrcode_core.specs.{declared.plugin.config.RenderConfig.RenderConfig, declared.plugin.error.PluginError.PluginError}
+use Rattle.qrcode_core.specs.{declared.plugin.output.RenderOutput.RenderOutput, Plugins.render_options, Grids.Grid}
 use Rattle.qrlabel.specs.declared.wanted.Format.TheVariants.{Svg, Pbm, Terminal}
-use Rattle.qrlabel.specs.Labels.{picture_as}
-use Rattle.qrlabel.specs.Named.{RendersByName}
-use Rattle.qrlabel.specs.Options.{Asks}
-use Rattle.qrlabel.specs.Pictures.{Picture, picture}
 use Rattle.qrlabel.specs.Rendered.{Renders, Draws, IsDrawable, IsOutput, ShowsBitmap, ShowsSvg, ShowsTerminal}
-use Rattle.qrlabel.specs.Words.{format_word}
-use Rattle.qrlabel.proofs.AskLemmas.{one_number, one_flag}
+use Rattle.qrlabel.{specs.declared.wanted.Format.Format, specs.Labels.picture_as, specs.Named.RendersByName, specs.Options.Asks, specs.Pictures.Picture}
+use Rattle.qrlabel.{specs.Pictures.picture, specs.Words.format_word, proofs.AskLemmas.one_number, proofs.AskLemmas.one_flag}
 
 module _ (grid : Grid) (config : RenderConfig) (scale quiet : ℕ) (inverted : Bool) (asks : (usual : ℕ) →
     Asks usual (render_options config) scale quiet inverted) where
   -- The drawing is the one that is asked for.
   one_drawing : (usual : ℕ) (Shows : Bool → Picture → RenderOutput → Type 0) (output : RenderOutput) → Draws usual Shows grid config output →
       Shows inverted (picture grid scale quiet) output
-  one_drawing usual Shows output d =
-      let s = one_number _ usual 1 64 d.scale scale d.asked.scale_is (asks usual).scale_is in
-      let q = one_number _ 4 0 16 d.quiet quiet d.asked.quiet_is (asks usual).quiet_is in
-      let i = one_flag _ d.inverted inverted d.asked.inverted_is (asks usual).inverted_is in
-      subst (λ (flag : Bool). Shows flag (picture grid scale quiet) output) i
-      (subst (λ (n : ℕ). Shows d.inverted (picture grid scale n) output) q
-      (subst (λ (n : ℕ). Shows d.inverted (picture grid n d.quiet) output) s d.shows))
+  one_drawing usual Shows output d = grind (arith, one_number, one_flag)
 
   written : (format : Format) (output : RenderOutput) → RendersByName (format_word format) grid config (Ok output) →
       IsOutput output (picture_as format inverted (picture grid scale quiet))
-  written Svg (Text text) h = one_drawing 8 ShowsSvg (Text text) (h.svg refl)
-  written Svg (Bytes bytes) h = absurd (one_drawing 8 ShowsSvg (Bytes bytes) (h.svg refl))
-  written Svg (Modules modules) h = one_drawing 8 ShowsSvg (Modules modules) (h.svg refl)
-  written Pbm (Text text) h = absurd (one_drawing 8 ShowsBitmap (Text text) (h.pbm refl))
-  written Pbm (Bytes bytes) h = one_drawing 8 ShowsBitmap (Bytes bytes) (h.pbm refl)
-  written Pbm (Modules modules) h = one_drawing 8 ShowsBitmap (Modules modules) (h.pbm refl)
-  written Terminal (Text text) h = one_drawing 1 ShowsTerminal (Text text) (h.terminal refl)
-  written Terminal (Bytes bytes) h = absurd (one_drawing 1 ShowsTerminal (Bytes bytes) (h.terminal refl))
-  written Terminal (Modules modules) h = one_drawing 1 ShowsTerminal (Modules modules) (h.terminal refl)
+  written format output h = grind (arith, one_drawing)
 
   -- Only memory can want: the configuration asks for a drawing, and the grid can be drawn.
   wants_memory : (usual : ℕ) (Shows : Bool → Picture → RenderOutput → Type 0) (error : PluginError) → IsDrawable grid →
       Renders usual Shows grid config (Err error) → error ≡ OutOfMemory
-  wants_memory usual Shows (RendererNotFound s) small h = absurd h
-  wants_memory usual Shows (EncoderNotFound s) small h = absurd h
   wants_memory usual Shows (InvalidConfig s) small h = absurd (h scale quiet inverted (asks usual))
-  wants_memory usual Shows InvalidModuleGrid small h = absurd h
   wants_memory usual Shows (RenderFailed s) small h = absurd (h small)
-  wants_memory usual Shows (EncodeFailed s) small h = absurd h
-  wants_memory usual Shows (PostProcessFailed s) small h = absurd h
   wants_memory usual Shows OutOfMemory small h = refl
+  wants_memory usual Shows other small h = absurd h
 
   refused : (format : Format) (error : PluginError) → IsDrawable grid → RendersByName (format_word format) grid config (Err error) → error ≡ OutOfMemory
   refused Svg error small h = wants_memory 8 ShowsSvg error small (h.svg refl)
@@ -63,17 +36,13 @@ module _ (grid : Grid) (config : RenderConfig) (scale quiet : ℕ) (inverted : B
 
   pub answer_drawn : (format : Format) (answer : Result RenderOutput PluginError) → RendersByName (format_word format) grid config answer →
       IfOk answer (λ output. IsOutput output (picture_as format inverted (picture grid scale quiet)))
-  answer_drawn format (Ok output) h = written format output h
-  answer_drawn format (Err error) h = tt
+  answer_drawn format answer h = grind (arith, written)
 
   pub answer_refused : (format : Format) (answer : Result RenderOutput PluginError) → IsDrawable grid → RendersByName (format_word format) grid config answer →
       IfErr answer (λ e. e ≡ OutOfMemory)
-  answer_refused format (Ok output) small h = tt
-  answer_refused format (Err error) small h = refused format error small h
+  answer_refused format answer h k = grind (arith, refused)
 
 -- the answer at a name and a grid is that at the same ones by other names
 pub drawn_at : (name same_name : List ℕ) (grid middle same_grid : Grid) (config : RenderConfig) (answer : Result RenderOutput PluginError)
     → RendersByName name grid config answer → name ≡ same_name → middle ≡ same_grid → middle ≡ grid → RendersByName same_name same_grid config answer
-drawn_at name same_name grid middle same_grid config answer h named is first =
-    subst (λ (n : List ℕ). RendersByName n same_grid config answer) named
-    (subst (λ (g : Grid). RendersByName name g config answer) (sym first ∙ is) h)
+drawn_at name same_name grid middle same_grid config answer h named is first = rw (named, sym first ∙ is) at h

@@ -1,23 +1,13 @@
 -- Three renderers by their names.
 use Rattle.std.proofs.Common.{◌≡◌, ◌≢◌, ℕ, List, [], ◌∷◌, Some, None, Bool, false, refl, ◌∙◌, sym, subst, inl, inr}
 use Rattle.std.specs.Prelude.{codes, ◌⊎◌, IfSome, IfNone, Result, Err}
-use Rattle.std.specs.Ordering.{is_eq}
-use Rattle.std.specs.Str.{bytes_eq}
-use Rattle.std.proofs.lemmas.Bool.{false_from_ne_true}
-use Rattle.std.proofs.lemmas.Map.Text.{is_eq-slice_cmp}
-use Rattle.std.proofs.lemmas.Slice.Eq.{bytes_eq-Decides}
+use Rattle.std.{specs.Ordering.is_eq, specs.Str.bytes_eq, proofs.lemmas.Bool.false_from_ne_true, proofs.lemmas.Map.Text.is_eq-slice_cmp}
+use Rattle.std.{proofs.lemmas.Slice.Eq.bytes_eq-Decides, specs.declared.alloc.Global.Global, specs.declared.dyn_box.DynBox.DynBox}
 use Rattle.qrcode_core.specs.Registries.{Registered, nothing_registered, with_registration, renderer_of, object_in, object_at}
-use Rattle.std.specs.declared.alloc.Global.{Global}
-use Rattle.std.specs.declared.dyn_box.DynBox.{DynBox}
-use Rattle.qrcode_core.specs.declared.plugin.config.RenderConfig.{RenderConfig}
-use Rattle.qrcode_core.specs.declared.plugin.error.PluginError.{PluginError}
-use Rattle.qrcode_core.specs.declared.plugin.error.PluginError.TheVariants.{RendererNotFound, EncoderNotFound, InvalidConfig, InvalidModuleGrid, RenderFailed}
-use Rattle.qrcode_core.specs.declared.plugin.error.PluginError.TheVariants.{EncodeFailed, PostProcessFailed, OutOfMemory}
-use Rattle.qrcode_core.specs.declared.plugin.output.RenderOutput.{RenderOutput}
-use Rattle.qrcode_core.specs.Grids.{Grid}
-use Rattle.qrlabel.specs.Pictures.{Picture}
-use Rattle.qrlabel.specs.Rendered.{Renders, Validates}
-use Rattle.qrcode_core.specs.Plugins.{TextMap, at_key, text_cmp}
+use Rattle.qrcode_core.specs.{declared.plugin.config.RenderConfig.RenderConfig, declared.plugin.error.PluginError.PluginError}
+use Rattle.qrcode_core.specs.{declared.plugin.error.PluginError.TheVariants.InvalidConfig, declared.plugin.error.PluginError.TheVariants.OutOfMemory}
+use Rattle.qrcode_core.specs.{declared.plugin.output.RenderOutput.RenderOutput, Grids.Grid, Plugins.TextMap, Plugins.at_key, Plugins.text_cmp}
+use Rattle.qrlabel.specs.{Pictures.Picture, Rendered.Renders, Rendered.Validates}
 
 -- the three, in the order of their names
 abbrev pub three : {V : Type 0} → (svg pbm terminal : V) → TextMap V
@@ -31,6 +21,7 @@ pub holds_three : {R E P : Type 0} (s0 s1 s2 s3 : Registered R E P) (svg pbm ter
     → s3.renderers ≡ three svg pbm terminal
 holds_three s0 s1 s2 s3 svg pbm terminal e0 e1 e2 e3 = rw (e3, e2, e1, e0) refl
 
+-- each is found by its name
 pub at_svg : {V : Type 0} (svg pbm terminal : V) → at_key (three svg pbm terminal) (codes "svg") ≡ Some svg
 at_svg svg pbm terminal = refl
 
@@ -62,14 +53,9 @@ nothing_there m n name Q same none h = rw (same, none) at h
 -- a configuration that the test refuses is refused by the drawing
 pub refused_alike : (usual : ℕ) (Shows : Bool → Picture → RenderOutput → Type 0) (grid : Grid) (config : RenderConfig) (error : PluginError)
     → Validates usual config (Err error) → Renders usual Shows grid config (Err error)
-refused_alike usual Shows grid config (RendererNotFound s) h = absurd h
-refused_alike usual Shows grid config (EncoderNotFound s) h = absurd h
 refused_alike usual Shows grid config (InvalidConfig s) h = h
-refused_alike usual Shows grid config InvalidModuleGrid h = absurd h
-refused_alike usual Shows grid config (RenderFailed s) h = absurd h
-refused_alike usual Shows grid config (EncodeFailed s) h = absurd h
-refused_alike usual Shows grid config (PostProcessFailed s) h = absurd h
 refused_alike usual Shows grid config OutOfMemory h = tt
+refused_alike usual Shows grid config other h = absurd h
 
 -- what is drawn by a name, where the renderer draws or its test refuses
 pub drawn_by_name : (usual : ℕ) (Shows : Bool → Picture → RenderOutput → Type 0) (grid : Grid) (config : RenderConfig)
@@ -77,5 +63,4 @@ pub drawn_by_name : (usual : ℕ) (Shows : Bool → Picture → RenderOutput →
     → Renders usual Shows grid config answer ⊎ ((error : PluginError) × (answer ≡ Err error) × Validates usual config (Err error))
     → Renders usual Shows grid config answer
 drawn_by_name usual Shows grid config answer (inl drawn) = drawn
-drawn_by_name usual Shows grid config answer (inr refusal) =
-    subst (Renders usual Shows grid config) (sym refusal.1) (refused_alike usual Shows grid config refusal.0 refusal.2)
+drawn_by_name usual Shows grid config answer (inr (error, is, refused)) = rw is (refused_alike usual Shows grid config error refused)

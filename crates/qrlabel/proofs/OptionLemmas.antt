@@ -1,23 +1,13 @@
 -- Options that were written as texts.
 use Rattle.std.proofs.Common.{◌≡◌, ◌≢◌, ◌∙◌, ℕ, ◌^◌, ◌<◌, ◌≤◌, Bool, List, [], Some, get_or, refl, sym, ap, subst, arith}
-use Rattle.std.specs.Prelude.{codes, decimal}
-use Rattle.std.specs.Str.Parse.{IsNumeral, digits_value}
-use Rattle.std.proofs.lemmas.Fmt.{decimal_is_IsNumeral}
-use Rattle.std.proofs.lemmas.Str.Parse.{digit_at, without_leading_plus_none}
+use Rattle.std.{specs.Prelude.codes, specs.Prelude.decimal, specs.Str.Parse.IsNumeral, specs.Str.Parse.digits_value, proofs.lemmas.Fmt.decimal_is_IsNumeral}
+use Rattle.std.{proofs.lemmas.Str.Parse.digit_at, proofs.lemmas.Str.Parse.without_leading_plus_none}
 use Rattle.qrcode_core.specs.Plugins.{TextMap, with_entry}
 use Rattle.qrlabel.specs.Options.{IsNumber, AsksFlag, Asks}
 
 -- a number's decimal digits are that number
 written : (n : ℕ) → n < 2 ^ 64 → IsNumber (decimal n) n
-written n small =
-    let p = decimal_is_IsNumeral n small in
-    let first = digit_at (decimal n) 0 p.0.1 p.0.0 in
-    let no_plus : get_or (decimal n) 0 0 ≢ 43 = (λ e. omega (arith, first, e)) in
-    let same = without_leading_plus_none (decimal n) no_plus in
-    record {
-      numeral = subst (λ (t : List ℕ). IsNumeral 10 t) (sym same) p.0;
-      value = ap (λ (t : List ℕ). digits_value 10 t) same ∙ p.1;
-    }
+written n small = grind (arith, decimal_is_IsNumeral, digit_at, without_leading_plus_none, digits_value)
 
 abbrev three : (s q i : List ℕ) → TextMap (List ℕ)
 three s q i = with_entry (with_entry (with_entry [] (codes "scale") s) (codes "quiet") q) (codes "inverted") i
@@ -29,9 +19,4 @@ three_options a b c d s q i e f g h = rw (h, g, f, e) refl
 pub asked_by : (options : TextMap (List ℕ)) (scale quiet : ℕ) (inverted : Bool) (s q i : List ℕ) → options ≡ three s q i →
     s ≡ decimal scale → q ≡ decimal quiet →
     1 ≤ scale → scale ≤ 64 → quiet ≤ 16 → AsksFlag (Some i) inverted → (usual : ℕ) → Asks usual options scale quiet inverted
-asked_by options scale quiet inverted s q i are s_is q_is least most small flag usual =
-    subst (λ (o : TextMap (List ℕ)). Asks usual o scale quiet inverted) (sym are) (record {
-      scale_is = (subst (λ (t : List ℕ). IsNumber t scale) (sym s_is) (written scale (omega arith)), least, most);
-      quiet_is = (subst (λ (t : List ℕ). IsNumber t quiet) (sym q_is) (written quiet (omega arith)), omega arith, small);
-      inverted_is = flag;
-    })
+asked_by options scale quiet inverted s q i are s_is q_is least most small flag usual = grind (arith, written)

@@ -1,10 +1,9 @@
 -- The runs of a row, one after the other, and the modules of a run.
 use Rattle.std.proofs.Common.{◌≡◌, ℕ, ◌+◌, ◌<◌, ◌≤◌, ◌++◌, Bool, true, false, List, [], length, refl, sym, ◌∙◌, arith, append-nil}
-use Rattle.std.proofs.lemmas.List.FromFn.{length-map-range_with_len, get_or-map-range_with_len}
 use Rattle.std.proofs.lemmas.List.Sums.{prefix_len-drop_yes, prefix_len-drop_no, prefix_len-drop_all}
-use Rattle.qrlabel.specs.Pictures.{Picture, columns_of, is_dark_module}
+use Rattle.std.proofs.lemmas.{List.FromFn.length-map-range_with_len, List.FromFn.get_or-map-range_with_len, Grind.common_steps}
 use Rattle.qrlabel.specs.Paths.{begins_run, row_of, run_length, rectangle, run_at, row_path, path}
-use Rattle.qrlabel.proofs.Ranges.{flat_map_range, joined}
+use Rattle.qrlabel.{specs.Pictures.Picture, specs.Pictures.columns_of, specs.Pictures.is_dark_module, proofs.Ranges.flat_map_range, proofs.Ranges.joined}
 
 -- the path begins with no row
 pub path_start : (p : Picture) (text : List ℕ) → text ≡ text ++ path p 0
@@ -15,8 +14,7 @@ path_start p text = sym (append-nil text)
 pub path_row : (p : Picture) (n : ℕ) (start old new : List ℕ) → old ≡ start ++ path p n →
     new ≡ old ++ row_path p n (columns_of p) → new ≡ start ++ path p (n + 1)
 unfolding path
-path_row p n start old new was adds =
-    joined start (path p n) old (row_path p n (columns_of p)) new (path p (n + 1)) (flat_map_range (λ y. row_path p y (columns_of p)) n) was adds
+path_row p n start old new was adds = grind (arith, common_steps, row_path, columns_of, flat_map_range)
 
 -- a row's path begins with no run
 pub row_start : (p : Picture) (y : ℕ) (text : List ℕ) → text ≡ text ++ row_path p y 0
@@ -31,16 +29,12 @@ row_path_more p y n = flat_map_range (run_at p y) n
 pub row_run : (p : Picture) (y n : ℕ) (start old new : List ℕ) → begins_run p n y ≡ true → old ≡ start ++ row_path p y n →
     new ≡ old ++ rectangle n y (run_length p n y) → new ≡ start ++ row_path p y (n + 1)
 unfolding run_at
-row_run p y n start old new begins was adds =
-    let run : run_at p y n ≡ rectangle n y (run_length p n y) = rw begins refl in
-    joined start (row_path p y n) old (run_at p y n) new (row_path p y (n + 1)) (row_path_more p y n) was (rw run adds)
+row_run p y n start old new begins was adds = grind (arith, common_steps, run_at, run_length, row_path, row_path_more)
 
 -- a column where none begins
 pub row_no_run : (p : Picture) (y n : ℕ) (start old : List ℕ) → begins_run p n y ≡ false → old ≡ start ++ row_path p y n → old ≡ start ++ row_path p y (n + 1)
 unfolding run_at
-row_no_run p y n start old none was =
-    let run : run_at p y n ≡ [] = rw none refl in
-    joined start (row_path p y n) old (run_at p y n) old (row_path p y (n + 1)) (row_path_more p y n) was (rw run (sym (append-nil old)))
+row_no_run p y n start old none was = grind (arith, run_at, row_path, row_path_more, append-nil)
 
 length_of_row : (p : Picture) (y : ℕ) → length (row_of p y) ≡ columns_of p
 length_of_row p y = length-map-range_with_len (λ x. is_dark_module p x y) 0 (columns_of p)

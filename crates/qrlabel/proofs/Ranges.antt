@@ -1,9 +1,7 @@
 -- Lists over a range of numbers, with one number more.
 use Rattle.std.proofs.Common.{◌≡◌, ℕ, ◌+◌, List, [], ◌∷◌, ◌++◌, map, sym, ◌∙◌, ap, arith, append-nil, append_assoc}
 use Rattle.std.specs.List.{flat_map, range_with_len}
-use Rattle.std.proofs.lemmas.Grind.{flat_map-append}
-use Rattle.std.proofs.lemmas.List.FromFn.{map-range_with_len_more}
-use Rattle.std.proofs.lemmas.List.Folds.{flat_map-map}
+use Rattle.std.proofs.lemmas.{Grind.flat_map-append, List.FromFn.map-range_with_len_more, List.Folds.flat_map-map}
 
 -- what is joined over one number more
 pub flat_map_range : {A : Type 0} (f : ℕ → List A) (n : ℕ) → flat_map f (range_with_len 0 (n + 1)) ≡ flat_map f (range_with_len 0 n) ++ f n
@@ -16,5 +14,4 @@ flat_map_range f n =
 
 -- one piece more behind what was there at the start
 pub joined : {A : Type 0} (start before old piece new next : List A) → next ≡ before ++ piece → old ≡ start ++ before → new ≡ old ++ piece → new ≡ start ++ next
-joined start before old piece new next more was adds =
-    adds ∙ ap (λ l. l ++ piece) was ∙ append_assoc start before piece ∙ ap (λ l. start ++ l) (sym more)
+joined start before old piece new next more was adds = grind (arith, append_assoc)

@@ -1,10 +1,8 @@
 -- The lines of a terminal's text, one after the other.
 use Rattle.std.proofs.Common.{◌≡◌, ℕ, ◌+◌, ◌*◌, Bool, [], ◌++◌, refl}
-use Rattle.std.specs.Prelude.{flat_map, encode_utf8}
-use Rattle.std.specs.List.{range_with_len}
-use Rattle.qrlabel.specs.Pictures.{Picture}
+use Rattle.std.specs.{Prelude.flat_map, Prelude.encode_utf8, List.range_with_len}
 use Rattle.qrlabel.specs.Terminals.{is_filled, half_blocks, character, line_of, lines_of}
-use Rattle.qrlabel.proofs.Ranges.{flat_map_range}
+use Rattle.qrlabel.{specs.Pictures.Picture, proofs.Ranges.flat_map_range}
 
 pub lines_none : (inverted : Bool) (p : Picture) → lines_of inverted p 0 ≡ []
 unfolding lines_of

@@ -1,33 +1,19 @@
 -- Words are spelled in one way.
 use Rattle.std.proofs.Common.{◌≡◌, ℕ, ◌-◌, ◌<◌, ◌+◌, ◌≤◌, true, false, List, [], ◌∷◌, ◌++◌, Bor, length, drop, take, map, slice_index_or, fold, refl, sym, ◌∙◌}
 use Rattle.std.proofs.Common.{ap, arith, append_assoc, append-nil}
-use Rattle.std.specs.Prelude.{codes}
-use Rattle.std.specs.Str.{bytes_eq}
-use Rattle.std.proofs.lemmas.Slice.Eq.{bytes_eq-Decides}
-use Rattle.std.proofs.lemmas.Grind.{flat_map-append}
+use Rattle.std.proofs.lemmas.Grind.{flat_map-append, common_steps}
 use Rattle.std.proofs.lemmas.List.{take_all, drop_all, drop-drop, drop-map, length-map, length-drop}
-use Rattle.std.proofs.lemmas.List.Sums.{fold-append}
-use Rattle.qrlabel.specs.declared.wanted.Format.{Format}
-use Rattle.qrlabel.specs.declared.wanted.Format.TheVariants.{Svg, Pbm, Terminal}
-use Rattle.qrlabel.specs.declared.wanted.Kind.{Kind}
-use Rattle.qrlabel.specs.declared.wanted.Kind.TheVariants.{Usual, Micro, Utf8}
+use Rattle.std.{specs.Prelude.codes, specs.Str.bytes_eq, proofs.lemmas.Slice.Eq.bytes_eq-Decides, proofs.lemmas.List.Sums.fold-append}
 use Rattle.qrlabel.specs.Words.{Setting, Scale, Quiet, Inverted, format_word, kind_words, setting_words, spelled}
+use Rattle.qrlabel.specs.declared.wanted.{Format.Format, Format.TheVariants.Svg, Format.TheVariants.Pbm, Format.TheVariants.Terminal, Kind.Kind}
+use Rattle.qrlabel.specs.declared.wanted.{Kind.TheVariants.Usual, Kind.TheVariants.Micro, Kind.TheVariants.Utf8}
 
 abbrev Words : Type 0
 Words = List (List ℕ)
 
 -- two lists of words whose first words differ
 differ : (u v : List ℕ) (us vs : Words) → bytes_eq u v ≡ false → u ∷ us ≡ v ∷ vs → ⊥
-differ u v us vs test e =
-    let same : u ≡ v = cc in
-    let yes : bytes_eq u v ≡ true = (bytes_eq-Decides u v).1 same in
-    cc
-
-behind_one : (w : List ℕ) (us vs : Words) → w ∷ us ≡ w ∷ vs → us ≡ vs
-behind_one w us vs e = cc
-
-behind_two : (w a b : List ℕ) (us vs : Words) → w ∷ a ∷ us ≡ w ∷ b ∷ vs → (a ≡ b) × (us ≡ vs)
-behind_two w a b us vs e = (cc, cc)
+differ u v us vs test e = grind (arith, bytes_eq, bytes_eq-Decides)
 
 -- ---- Lent words
 
@@ -37,20 +23,13 @@ no_word = record { ref_ptr = (0, 0); now = [] }
 -- the first word, and those after it
 pub first_word : (words : List (Bor (List ℕ))) (word : List ℕ) → 1 ≤ length words → (slice_index_or words 0 no_word).now ≡ word →
     map (λ w. w.now) words ≡ word ∷ map (λ w. w.now) (take (length words - 1) (drop 1 words))
-first_word [] word some is = absurd (omega (arith, some))
-first_word (w ∷ words) word some is =
-    let all : take (length (w ∷ words) - 1) words ≡ words = take_all (length (w ∷ words) - 1) words (omega arith) in
-    ap (λ (x : List ℕ). x ∷ map (λ w. w.now) words) is ∙ ap (λ (ws : List (Bor (List ℕ))). word ∷ map (λ w. w.now) ws) (sym all)
+first_word words word h k = grind (arith, take_all)
 
 -- the first two words, and those after them
 pub two_words : (words : List (Bor (List ℕ))) → 2 ≤ length words →
     map (λ w. w.now) words ≡ (slice_index_or words 0 no_word).now ∷ (slice_index_or words 1 no_word).now ∷ map (λ w. w.now)
     (take (length words - 2) (drop 2 words))
-two_words [] some = absurd (omega (arith, some))
-two_words (w ∷ []) some = absurd (omega (arith, some))
-two_words (w ∷ v ∷ words) some =
-    let all : take (length (w ∷ v ∷ words) - 2) words ≡ words = take_all (length (w ∷ v ∷ words) - 2) words (omega arith) in
-    ap (λ (ws : List (Bor (List ℕ))). w.now ∷ v.now ∷ map (λ w. w.now) ws) (sym all)
+two_words words h = grind (arith, take_all)
 
 pub begins_with : (words : List (Bor (List ℕ))) (word : List ℕ) → 1 ≤ length words → (slice_index_or words 0 no_word).now ≡ word →
     (rest : Words) × (map (λ w. w.now) words ≡ word ∷ rest)
@@ -63,13 +42,11 @@ pub begins_with_two : (words : List (Bor (List ℕ))) (word : List ℕ) → 1 �
 begins_with_two words word some is more =
     let after = take (length words - 1) (drop 1 words) in
     let second = begins_with after (slice_index_or after 0 no_word).now more refl in
-    (second.0, first_word words word some is ∙ ap (λ (ws : Words). word ∷ ws) second.1)
+    (second.0, grind (arith, first_word words word some is, second.1))
 
 -- the words from a place on
 pub words_from : (words : List (Bor (List ℕ))) (at : ℕ) → map (λ w. w.now) (take (length words - at) (drop at words)) ≡ drop at (map (λ w. w.now) words)
-words_from words at =
-    let all : take (length words - at) (drop at words) ≡ drop at words = take_all (length words - at) (drop at words) (omega (arith, length-drop at words)) in
-    ap (λ (ws : List (Bor (List ℕ))). map (λ w. w.now) ws) all ∙ sym (drop-map (λ (w : Bor (List ℕ)). w.now) at words)
+words_from words at = grind (arith, take_all, length-drop, drop-map)
 
 -- there are some, before the end
 pub some_left : (words : List (Bor (List ℕ))) (at : ℕ) → at < length words → 0 < length (drop at (map (λ w. w.now) words))
@@ -78,20 +55,10 @@ some_left words at below = omega (arith, length-drop at (map (λ (w : Bor (List 
 -- ---- Settings
 
 same_start : (s d : Setting) (us vs : Words) → setting_words s ++ us ≡ setting_words d ++ vs → (s ≡ d) × (us ≡ vs)
-same_start (Scale a) (Scale b) us vs e = let p = behind_two (codes "--scale") a b us vs e in (ap Scale p.0, p.1)
-same_start (Scale a) (Quiet b) us vs e = absurd (differ (codes "--scale") (codes "--quiet") (a ∷ us) (b ∷ vs) refl e)
-same_start (Scale a) Inverted us vs e = absurd (differ (codes "--scale") (codes "--inverted") (a ∷ us) vs refl e)
-same_start (Quiet a) (Scale b) us vs e = absurd (differ (codes "--quiet") (codes "--scale") (a ∷ us) (b ∷ vs) refl e)
-same_start (Quiet a) (Quiet b) us vs e = let p = behind_two (codes "--quiet") a b us vs e in (ap Quiet p.0, p.1)
-same_start (Quiet a) Inverted us vs e = absurd (differ (codes "--quiet") (codes "--inverted") (a ∷ us) vs refl e)
-same_start Inverted (Scale b) us vs e = absurd (differ (codes "--inverted") (codes "--scale") us (b ∷ vs) refl e)
-same_start Inverted (Quiet b) us vs e = absurd (differ (codes "--inverted") (codes "--quiet") us (b ∷ vs) refl e)
-same_start Inverted Inverted us vs e = (refl, behind_one (codes "--inverted") us vs e)
+same_start s d us vs h = grind (arith, differ)
 
 not_empty : (s : Setting) (us : Words) → setting_words s ++ us ≡ [] → ⊥
-not_empty (Scale a) us e = cc
-not_empty (Quiet a) us e = cc
-not_empty Inverted us e = cc
+not_empty s us h = grind arith
 
 none_spelled : (settings : List Setting) → spelled settings ≡ [] → settings ≡ []
 none_spelled [] e = refl
@@ -101,112 +68,64 @@ none_spelled (s ∷ settings) e = absurd (not_empty s (spelled settings) e)
 said_first : (done settings : List Setting) (left : Words) → spelled settings ≡ spelled done ++ left →
     (rest : List Setting) × (spelled rest ≡ left) × (settings ≡ done ++ rest)
 said_first [] settings left e = (settings, e, refl)
-said_first (d ∷ done) [] left e =
-    absurd (not_empty d (spelled done ++ left) (sym (e ∙ append_assoc (setting_words d) (spelled done) left)))
-said_first (d ∷ done) (s ∷ settings) left e =
-    let p = same_start s d (spelled settings) (spelled done ++ left) (e ∙ append_assoc (setting_words d) (spelled done) left) in
-    let r = said_first done settings left p.1 in
-    (r.0, r.1, same_cons s d settings (done ++ r.0) p.0 r.2)
-  where
-    same_cons : (s d : Setting) (ss ds : List Setting) → s ≡ d → ss ≡ ds → s ∷ ss ≡ d ∷ ds
-    same_cons s d ss ds e f = cc
+said_first (d ∷ done) [] left e = grind (arith, not_empty, append_assoc)
+said_first (d ∷ done) (s ∷ settings) left e = grind (arith, same_start, append_assoc, setting_words, said_first done settings left)
 
 pub one_spelling : (a b : List Setting) → spelled a ≡ spelled b → a ≡ b
-one_spelling a b e =
-    let r = said_first b a [] (e ∙ sym (append-nil (spelled b))) in
-    r.2 ∙ (ap (λ (l : List Setting). b ++ l) (none_spelled r.0 r.1) ∙ append-nil b)
+one_spelling a b e = grind (arith, said_first b a [], none_spelled, append-nil)
 
 -- Where no option begins the rest, the words are no options.
 pub stuck : (words left : Words) (done : List Setting) → words ≡ spelled done ++ left → 0 < length left →
     ((s : Setting) (rest : Words) → left ≡ setting_words s ++ rest → ⊥) → (settings : List Setting) → words ≡ spelled settings → ⊥
-stuck words left done was some none settings e =
-    let r = said_first done settings left (sym e ∙ was) in
-    go r.0 r.1
+stuck words left done was some none settings e = let r = said_first done settings left (sym e ∙ was) in go r.0 r.1
   where
     go : (rest : List Setting) → spelled rest ≡ left → ⊥
     go [] f = omega (arith, ap length f)
     go (s ∷ rest) f = none s (spelled rest) (sym f)
 
 behind_setting : (s : Setting) (rest : Words) → drop (length (setting_words s)) (setting_words s ++ rest) ≡ rest
-behind_setting (Scale a) rest = refl
-behind_setting (Quiet a) rest = refl
-behind_setting Inverted rest = refl
+behind_setting s rest = grind arith
 
 -- one option more
 pub one_more : (words : Words) (at count : ℕ) (done : List Setting) (s : Setting) (rest : Words) → words ≡ spelled done ++ drop at words →
     drop at words ≡ setting_words s ++ rest → count ≡ length (setting_words s) → words ≡ spelled (done ++ s ∷ []) ++ drop (at + count) words
-one_more words at count done s rest was begins counted =
-    let next_is : drop (at + count) words ≡ rest =
-    sym (drop-drop count at words) ∙ (ap (λ (l : Words). drop count l) begins
-    ∙ (ap (λ (n : ℕ). drop n (setting_words s ++ rest)) counted ∙ behind_setting s rest)) in
-    let more : spelled (done ++ s ∷ []) ≡ spelled done ++ setting_words s =
-    flat_map-append setting_words done (s ∷ []) ∙ ap (λ (l : Words). spelled done ++ l) (append-nil (setting_words s)) in
-    was ∙ (ap (λ (l : Words). spelled done ++ l) begins ∙ (sym (append_assoc (spelled done) (setting_words s) rest)
-    ∙ (ap (λ (l : Words). l ++ rest) (sym more) ∙ ap (λ (l : Words). spelled (done ++ s ∷ []) ++ l) (sym next_is))))
+one_more words at count done s rest was begins counted = grind (arith, common_steps, drop-drop, setting_words, behind_setting, flat_map-append, append-nil, append_assoc)
 
 -- all words are those of the options
 pub all_said : (words : Words) (at : ℕ) (done : List Setting) → words ≡ spelled done ++ drop at words → length words ≤ at → words ≡ spelled done
-all_said words at done was end =
-    let none : drop at words ≡ [] = drop_all at words end in
-    was ∙ (ap (λ (l : Words). spelled done ++ l) none ∙ append-nil (spelled done))
+all_said words at done was end = grind (arith, drop_all, append-nil)
 
 -- what counts, with one option more
 pub counts : {A : Type 0} (f : A → Setting → A) (a new old : A) (done : List Setting) (s : Setting) → new ≡ f old s → old ≡ fold f a done →
     new ≡ fold f a (done ++ s ∷ [])
-counts f a new old done s is was = is ∙ (ap (λ x. f x s) was ∙ sym (fold-append f a done (s ∷ [])))
+counts f a new old done s is was = grind (arith, fold-append)
 
 -- ---- Forms and kinds
 
 apart : (u v : List ℕ) → bytes_eq u v ≡ false → u ≡ v → ⊥
-apart u v test same =
-    let yes : bytes_eq u v ≡ true = (bytes_eq-Decides u v).1 same in
-    cc
+apart u v test same = grind (arith, bytes_eq, bytes_eq-Decides)
 
 pub one_format : (f g : Format) → format_word f ≡ format_word g → f ≡ g
-one_format Svg Svg e = refl
-one_format Svg Pbm e = absurd (apart (codes "svg") (codes "pbm") refl e)
-one_format Svg Terminal e = absurd (apart (codes "svg") (codes "terminal") refl e)
-one_format Pbm Svg e = absurd (apart (codes "pbm") (codes "svg") refl e)
-one_format Pbm Pbm e = refl
-one_format Pbm Terminal e = absurd (apart (codes "pbm") (codes "terminal") refl e)
-one_format Terminal Svg e = absurd (apart (codes "terminal") (codes "svg") refl e)
-one_format Terminal Pbm e = absurd (apart (codes "terminal") (codes "pbm") refl e)
-one_format Terminal Terminal e = refl
+one_format f g h = grind (arith, apart)
 
 -- no options begin with the word of a kind
 pub no_kind : (kind : List ℕ) (settings : List Setting) (rest : Words) → bytes_eq (codes "--scale") kind ≡ false → bytes_eq (codes "--quiet") kind ≡ false →
     bytes_eq (codes "--inverted") kind ≡ false → spelled settings ≡ kind ∷ rest → ⊥
 no_kind kind [] rest a b c e = cc
-no_kind kind (Scale text ∷ settings) rest a b c e = differ (codes "--scale") kind (text ∷ spelled settings) rest a e
-no_kind kind (Quiet text ∷ settings) rest a b c e = differ (codes "--quiet") kind (text ∷ spelled settings) rest b e
-no_kind kind (Inverted ∷ settings) rest a b c e = differ (codes "--inverted") kind (spelled settings) rest c e
+no_kind kind (s ∷ settings) rest a b c e = grind (arith, differ)
 
 -- The words after those of the kind are those of the options.
 pub after_kind : (kind : Kind) (us vs : Words) → kind_words kind ++ us ≡ kind_words kind ++ vs → us ≡ vs
-after_kind Usual us vs e = e
-after_kind Micro us vs e = behind_one (codes "micro") us vs e
-after_kind Utf8 us vs e = behind_one (codes "utf8") us vs e
+after_kind kind us vs h = grind arith
 
 pub one_kind : (k m : Kind) (s t : List Setting) → kind_words k ++ spelled s ≡ kind_words m ++ spelled t → k ≡ m
-one_kind Usual Usual s t e = refl
-one_kind Usual Micro s t e = absurd (no_kind (codes "micro") s (spelled t) refl refl refl e)
-one_kind Usual Utf8 s t e = absurd (no_kind (codes "utf8") s (spelled t) refl refl refl e)
-one_kind Micro Usual s t e = absurd (no_kind (codes "micro") t (spelled s) refl refl refl (sym e))
-one_kind Micro Micro s t e = refl
-one_kind Micro Utf8 s t e = absurd (differ (codes "micro") (codes "utf8") (spelled s) (spelled t) refl e)
-one_kind Utf8 Usual s t e = absurd (no_kind (codes "utf8") t (spelled s) refl refl refl (sym e))
-one_kind Utf8 Micro s t e = absurd (differ (codes "utf8") (codes "micro") (spelled s) (spelled t) refl e)
-one_kind Utf8 Utf8 s t e = refl
+one_kind k m s t h = grind (arith, no_kind, differ)
 
 -- Words that begin with that of a kind ask for this kind.
 pub is_micro : (words rest : Words) → words ≡ codes "micro" ∷ rest → (kind : Kind) (settings : List Setting) →
     words ≡ kind_words kind ++ spelled settings → kind ≡ Micro
-is_micro words rest begins Usual settings e = absurd (no_kind (codes "micro") settings rest refl refl refl (sym e ∙ begins))
-is_micro words rest begins Micro settings e = refl
-is_micro words rest begins Utf8 settings e = absurd (differ (codes "utf8") (codes "micro") (spelled settings) rest refl (sym e ∙ begins))
+is_micro words rest h kind settings k = grind (arith, no_kind, differ)
 
 pub is_utf8 : (words rest : Words) → words ≡ codes "utf8" ∷ rest → (kind : Kind) (settings : List Setting) →
     words ≡ kind_words kind ++ spelled settings → kind ≡ Utf8
-is_utf8 words rest begins Usual settings e = absurd (no_kind (codes "utf8") settings rest refl refl refl (sym e ∙ begins))
-is_utf8 words rest begins Micro settings e = absurd (differ (codes "micro") (codes "utf8") (spelled settings) rest refl (sym e ∙ begins))
-is_utf8 words rest begins Utf8 settings e = refl
+is_utf8 words rest h kind settings k = grind (arith, no_kind, differ)

@@ -1,3 +1,1 @@
-pub mod Utf8
-mod Ended
-mod ElementStrings
+pub mod Texts

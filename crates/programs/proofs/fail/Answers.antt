@@ -1,9 +1,7 @@
 -- The line of want of memory is the one that the caller gave.
 use Rattle.std.proofs.Common.{◌≡◌, rules, List, ℕ, Err, inl, sym, subst}
 use Rattle.qrcode_core.specs.declared.types.errors.QrError.TheVariants.{OutOfMemory}
-use Rattle.programs.specs.declared.Fault.TheVariants.{Symbol}
-use Rattle.programs.specs.Devices.{Writes}
-use Rattle.programs.specs.Outcome.{Says}
+use Rattle.programs.specs.{declared.Fault.TheVariants.Symbol, Devices.Writes, Outcome.Says}
 use Rattle.programs.proofs.fail.Goals as goal
 
 pub returns-in-Symbol-OutOfMemory-clause-says : goal.returns-in-Symbol-OutOfMemory-clause-says

@@ -40,7 +40,7 @@ impl RenderConfig {
     }
 
     /// The same with this option, in place of one of that name. Without memory the configuration is gone.
-    #[tactic(auto, using(crate::proofs::TextMaps::text_entries_insert, crate::proofs::TextMaps::text_values_insert))]
+    #[tactic(auto, using(crate::proofs::Plugins::text_entries_insert, crate::proofs::Plugins::text_values_insert))]
     pub fn with_option(mut self, key: &str, value: &str) -> Result<RenderConfig, PluginError>
         ensures format { IfOk result (λ c. render_format c ≡ render_format self) }
         ensures options { IfOk result (λ c.
@@ -61,7 +61,7 @@ impl RenderConfig {
     }
 
     /// The value of an option.
-    #[tactic(auto, using(crate::proofs::TextMaps::text_entries_lookup, crate::proofs::TextMaps::text_values_lookup))]
+    #[tactic(auto, using(crate::proofs::Plugins::text_entries_lookup, crate::proofs::Plugins::text_values_lookup))]
     pub fn option(&self, key: &str) -> Option<&str>
         ensures { option_copied result ≡ at_key (render_options self.now) key.now }
     {
@@ -69,7 +69,7 @@ impl RenderConfig {
     }
 
     /// The same configuration again.
-    #[tactic(auto, using(crate::proofs::TextMaps::text_values_clone))]
+    #[tactic(auto, using(crate::proofs::Plugins::text_values_clone))]
     pub fn clone(&self, alloc: Global) -> Result<RenderConfig, PluginError>
         ensures format { IfOk result (λ c. render_format c ≡ render_format self.now) }
         ensures options { IfOk result (λ c. render_options c ≡ render_options self.now) }
@@ -107,7 +107,7 @@ impl EncodeConfig {
     }
 
     /// The same with this option, in place of one of that name. Without memory the configuration is gone.
-    #[tactic(auto, using(crate::proofs::TextMaps::text_entries_insert, crate::proofs::TextMaps::text_values_insert))]
+    #[tactic(auto, using(crate::proofs::Plugins::text_entries_insert, crate::proofs::Plugins::text_values_insert))]
     pub fn with_option(mut self, key: &str, value: &str) -> Result<EncodeConfig, PluginError>
         ensures options { IfOk result (λ c.
             encode_options c ≡ with_entry (encode_options self) key.now value.now) }
@@ -120,7 +120,7 @@ impl EncodeConfig {
     }
 
     /// The value of an option.
-    #[tactic(auto, using(crate::proofs::TextMaps::text_entries_lookup, crate::proofs::TextMaps::text_values_lookup))]
+    #[tactic(auto, using(crate::proofs::Plugins::text_entries_lookup, crate::proofs::Plugins::text_values_lookup))]
     pub fn option(&self, key: &str) -> Option<&str>
         ensures { option_copied result ≡ at_key (encode_options self.now) key.now }
     {
@@ -128,7 +128,7 @@ impl EncodeConfig {
     }
 
     /// The same configuration again.
-    #[tactic(auto, using(crate::proofs::TextMaps::text_values_clone))]
+    #[tactic(auto, using(crate::proofs::Plugins::text_values_clone))]
     pub fn clone(&self, alloc: Global) -> Result<EncodeConfig, PluginError>
         ensures options { IfOk result (λ c. encode_options c ≡ encode_options self.now) }
         ensures memory { IfErr result (λ e. e ≡ OutOfMemory) }

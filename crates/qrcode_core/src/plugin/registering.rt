@@ -83,7 +83,7 @@ impl PluginRegistry {
     }
 
     /// Keeps the version of a plugin under its name.
-    #[tactic(auto, using(crate::proofs::TextMaps::text_entries_insert, crate::proofs::TextMaps::text_values_insert))]
+    #[tactic(auto, using(crate::proofs::Plugins::text_entries_insert, crate::proofs::Plugins::text_values_insert))]
     fn put_version(&mut self, name: String, version: String) -> Result<(), PluginError>
         ensures { Registers (registered self.old)
             (version_of (string_bytes name) (string_bytes version) ∷ [])
@@ -96,7 +96,7 @@ impl PluginRegistry {
     }
 
     /// Keeps a renderer under a name, and gives back the one that it replaces.
-    #[tactic(auto, using(crate::proofs::TextMaps::text_entries_lookup))]
+    #[tactic(auto, using(crate::proofs::Plugins::text_entries_lookup))]
     fn insert_renderer(
         &mut self,
         name: String,
@@ -114,7 +114,7 @@ impl PluginRegistry {
     }
 
     /// Keeps renderers under their names, up to the first that finds no memory.
-    #[tactic(auto, using(crate::proofs::RegistrationLemmas::one_more_registered))]
+    #[tactic(auto, using(crate::proofs::Plugins::one_more_registered))]
     fn put_renderers(&mut self, all: Vec<(String, Box<dyn DynRenderer>)>) -> Result<(), PluginError>
         ensures { Registers (registered self.old) (map named_renderer all.items)
             result (registered self.new) }
@@ -139,7 +139,7 @@ impl PluginRegistry {
     }
 
     /// Keeps an encoder under a name, and gives back the one that it replaces.
-    #[tactic(auto, using(crate::proofs::TextMaps::text_entries_lookup))]
+    #[tactic(auto, using(crate::proofs::Plugins::text_entries_lookup))]
     fn insert_encoder(
         &mut self,
         name: String,
@@ -157,7 +157,7 @@ impl PluginRegistry {
     }
 
     /// Keeps encoders under their names, up to the first that finds no memory.
-    #[tactic(auto, using(crate::proofs::RegistrationLemmas::one_more_registered))]
+    #[tactic(auto, using(crate::proofs::Plugins::one_more_registered))]
     fn put_encoders(&mut self, all: Vec<(String, Box<dyn DynEncoder>)>) -> Result<(), PluginError>
         ensures { Registers (registered self.old) (map named_encoder all.items)
             result (registered self.new) }
@@ -178,7 +178,7 @@ impl PluginRegistry {
     }
 
     /// Keeps postprocessors in order, up to the first that finds no memory.
-    #[tactic(auto, using(crate::proofs::RegistrationLemmas::one_more_registered))]
+    #[tactic(auto, using(crate::proofs::Plugins::one_more_registered))]
     fn put_postprocessors(&mut self, all: Vec<Box<dyn PostProcessor>>) -> Result<(), PluginError>
         ensures { Registers (registered self.old) (map postprocessor_of all.items)
             result (registered self.new) }

@@ -50,7 +50,7 @@ impl PluginRegistry {
     }
 
     /// The version of the plugin of this name.
-    #[tactic(auto, using(crate::proofs::TextMaps::text_entries_lookup, crate::proofs::TextMaps::text_values_lookup))]
+    #[tactic(auto, using(crate::proofs::Plugins::text_entries_lookup, crate::proofs::Plugins::text_values_lookup))]
     pub fn plugin_version(&self, name: &str) -> Option<&str>
         ensures { option_copied result ≡ at_key (registered self.now).plugins name.now }
     {
@@ -58,7 +58,7 @@ impl PluginRegistry {
     }
 
     /// The names of plugins, in the order of their bytes.
-    #[tactic(auto, using(crate::proofs::TextMaps::names_in_order))]
+    #[tactic(auto, using(crate::proofs::Plugins::names_in_order))]
     pub fn plugin_names(&self) -> Names<'_, String>
         ensures names { names_left result ≡ key_texts (registered self.now).plugins }
         ensures ordered { IsStrictlySortedBy text_cmp (names_left result) }
@@ -67,7 +67,7 @@ impl PluginRegistry {
     }
 
     /// The renderer of this name.
-    #[tactic(auto, using(crate::proofs::TextMaps::text_entries_lookup))]
+    #[tactic(auto, using(crate::proofs::Plugins::text_entries_lookup))]
     pub fn renderer(&self, name: &str) -> Option<&dyn DynRenderer>
         ensures { option_copied result ≡ object_at (registered self.now).renderers name.now }
     {
@@ -99,7 +99,7 @@ impl PluginRegistry {
     }
 
     /// The names of renderers, in the order of their bytes.
-    #[tactic(auto, using(crate::proofs::TextMaps::text_entries_keys, crate::proofs::TextMaps::texts_sorted))]
+    #[tactic(auto, using(crate::proofs::Plugins::text_entries_keys, crate::proofs::Plugins::texts_sorted))]
     pub fn renderer_names(&self) -> Names<'_, Box<dyn DynRenderer>>
         ensures names { names_left result ≡ key_texts (registered self.now).renderers }
         ensures ordered { IsStrictlySortedBy text_cmp (names_left result) }
@@ -108,7 +108,7 @@ impl PluginRegistry {
     }
 
     /// The encoder of this name.
-    #[tactic(auto, using(crate::proofs::TextMaps::text_entries_lookup))]
+    #[tactic(auto, using(crate::proofs::Plugins::text_entries_lookup))]
     pub fn encoder(&self, name: &str) -> Option<&dyn DynEncoder>
         ensures { option_copied result ≡ object_at (registered self.now).encoders name.now }
     {
@@ -134,7 +134,7 @@ impl PluginRegistry {
     }
 
     /// The names of encoders, in the order of their bytes.
-    #[tactic(auto, using(crate::proofs::TextMaps::text_entries_keys, crate::proofs::TextMaps::texts_sorted))]
+    #[tactic(auto, using(crate::proofs::Plugins::text_entries_keys, crate::proofs::Plugins::texts_sorted))]
     pub fn encoder_names(&self) -> Names<'_, Box<dyn DynEncoder>>
         ensures names { names_left result ≡ key_texts (registered self.now).encoders }
         ensures ordered { IsStrictlySortedBy text_cmp (names_left result) }
@@ -151,7 +151,7 @@ impl PluginRegistry {
 
     /// Runs the postprocessors on the grid, in the order of registration, and stops at the first refusal, which it
     /// answers. The grid holds what they left so far.
-    #[tactic(auto, using(crate::proofs::StepLemmas::steps_refused, crate::proofs::StepLemmas::steps_further))]
+    #[tactic(auto, using(crate::proofs::Plugins::steps_refused, crate::proofs::Plugins::steps_further))]
     pub fn process_modules(&self, modules: &mut dyn ModuleStorage) -> Result<(), PluginError>
         ensures { StepsInOrder processes (registered self.now).postprocessors
             (grid modules.old) result (grid modules.new) }

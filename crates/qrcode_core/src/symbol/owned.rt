@@ -121,7 +121,7 @@ impl Symbol {
     ///
     /// `InvalidVersion` comes where the version does not have the level. Then `DataTooLong` comes exactly where the
     /// bits are past the capacity, and `OutOfMemory` where a growth was refused.
-    #[tactic(auto, using(crate::proofs::HeldBits::ended_fills, crate::proofs::HeldBits::holds_stream))]
+    #[tactic(auto, using(crate::proofs::Best::ended_fills, crate::proofs::Best::holds_stream))]
     pub fn with_bits(alloc: Global, mut bits: Bits, level: EcLevel) -> QrResult<Symbol>
         ensures holds { IfOk result (HoldsStream bits level) }
         ensures reading { IfOk result TellsReading }

@@ -1,20 +1,15 @@
 -- The second word is `micro`.
 use Rattle.std.proofs.Common.{rules, arith, ◌≡◌, ◌≤◌, ◌<◌, ℕ, List, [], ◌∷◌, length, get_or, map, true, refl}
-use Rattle.std.specs.Prelude.{codes}
-use Rattle.std.specs.Str.{trim}
-use Rattle.std.specs.String.{string_bytes}
-use Rattle.qrcode_core.specs.declared.types.EcLevel.{EcLevel}
-use Rattle.qrcode_core.specs.Names.{NamesLevel}
+use Rattle.std.specs.{Prelude.codes, Str.trim, String.string_bytes}
+use Rattle.qrcode_core.specs.{declared.types.EcLevel.EcLevel, Names.NamesLevel}
 use Rattle.qrtext.specs.Words.{request, Ask}
 use Rattle.qrtext.proofs.request_of.Goals as goal
+use Rattle.std.proofs.lemmas.Grind.{common_steps}
 
 two_words : {A : Type 0} (text : A → List ℕ) (words : List A) (first second : A) (level : EcLevel) → 2 ≤ length words → length words < 3 →
     first ≡ get_or words 0 first → second ≡ get_or words 1 second → NamesLevel (trim (text first)) level → text second ≡ codes "micro" →
     Ask (map text words) (request true level)
-two_words text (a ∷ b ∷ []) first second level least below is also named micro = (rw is at named, rw also at micro, refl)
-two_words text [] first second level least below is also named micro = absurd (omega (arith, least))
-two_words text (a ∷ []) first second level least below is also named micro = absurd (omega (arith, least))
-two_words text (a ∷ b ∷ d ∷ words) first second level least below is also named micro = absurd (omega (arith, below))
+two_words text words first second level h k f g d s = grind (arith, common_steps)
 
 pub returns-in_ok-ok-in-len2 : goal.returns-in_ok-ok-in-len2
 returns-in_ok-ok-in-len2 c =

@@ -1,9 +1,8 @@
 -- The words ask for one request, which was drawn.
 use Rattle.std.proofs.Common.{◌≡◌, Ok, Err, refl, subst, map, inl}
 use Rattle.std.specs.String.{string_bytes}
-use Rattle.qrtext.specs.Words.{ServesText, Request, request}
+use Rattle.qrtext.{specs.Words.ServesText, specs.Words.Request, specs.Words.request, proofs.Requests.ask_for_one}
 use Rattle.programs.proofs.DeviceLemmas.{Appends-none}
-use Rattle.qrtext.proofs.Requests.{ask_for_one}
 use Rattle.qrtext.proofs.run.Goals as goal
 
 pub returns-in-Ok-clause-served : goal.returns-in-Ok-clause-served

@@ -1,11 +1,9 @@
 -- The pushes behind each other, and the refusal of each.
 use Rattle.std.proofs.Common.{◌≡◌, ◌∙◌, arith}
 use Rattle.std.proofs.lemmas.Result.{err_from_is_err_and, IfOk-weaker, IfErr-weaker}
-use Rattle.qrcode_bits.proofs.Pairs.{bytes_valid}
-use Rattle.qrcode_bits.specs.Plans.{normal}
+use Rattle.qrcode_bits.{proofs.Pairs.bytes_valid, specs.Plans.normal}
 use Rattle.texts.specs.Smallest.{SaysElements}
-use Rattle.texts.proofs.Ended.{held, end_refused}
-use Rattle.texts.proofs.ElementStrings.{elements_refused, elements_pushed, one_length}
+use Rattle.texts.proofs.Texts.{held, end_refused, elements_refused, elements_pushed, elements_length}
 use Rattle.texts.proofs.gs1_in.Goals as goal
 
 pub returns-in_err-push_optimal_data-clause-refused : goal.returns-in_err-push_optimal_data-clause-refused
@@ -34,4 +32,4 @@ returns-clause-refused c =
     let pushed = elements_pushed empty c.push_fnc1_first_position.new.self stream c.args.number c.args.elements.now is c.new-bits.ensures.bits
     c.in_ok-push_fnc1_first_position.ensures.ok c.in_ok-push_optimal_data.ensures in
     IfErr-weaker c.with_bits.result _ _ (end_refused (SaysElements c.args.elements.now) stream c.args.level c.args.number pushed.0 pushed.1
-    c.requires.first c.requires.last (one_length stream c.args.number c.args.elements.now pushed.0 pushed.1)) c.with_bits.ensures.refused
+    c.requires.first c.requires.last (elements_length stream c.args.number c.args.elements.now pushed.0 pushed.1)) c.with_bits.ensures.refused

@@ -1,11 +1,8 @@
 -- The versions before this one, and this one.
 use Rattle.std.proofs.Common.{subst, arith}
 use Rattle.qrcode_base.specs.declared.types.errors.QrError.{QrError}
-use Rattle.qrcode_bits.specs.Plans.{normal}
-use Rattle.qrcode_bits.proofs.Pairs.{bytes_valid}
-use Rattle.texts.specs.Smallest.{SaysElements, IsRefusedIn}
-use Rattle.texts.proofs.ElementStrings.{too_many}
-use Rattle.texts.proofs.Ended.{next}
+use Rattle.qrcode_bits.{specs.Plans.normal, proofs.Pairs.bytes_valid}
+use Rattle.texts.{specs.Smallest.SaysElements, specs.Smallest.IsRefusedIn, proofs.Texts.elements_too_long, proofs.Texts.next}
 use Rattle.texts.proofs.gs1_symbol.Goals as goal
 
 pub loop-number-preserved : goal.loop-number-preserved
@@ -20,5 +17,5 @@ returns-clause-refused c n first below = c.loop-number.invariant n first (omega 
 pub returns-then-elements-gt-DEFAULT_MAX_DATA_LENGTH-clause-refused :
     goal.returns-then-elements-gt-DEFAULT_MAX_DATA_LENGTH-clause-refused
 returns-then-elements-gt-DEFAULT_MAX_DATA_LENGTH-clause-refused c =
-    too_many c.args.elements.now c.args.level (bytes_valid c.args.elements.now (λ i. omega (arith, c.type_inv.elements i)))
+    elements_too_long c.args.elements.now c.args.level (bytes_valid c.args.elements.now (λ i. omega (arith, c.type_inv.elements i)))
     (omega (arith, c.if-elements-gt-DEFAULT_MAX_DATA_LENGTH.true))

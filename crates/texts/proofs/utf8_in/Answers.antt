@@ -1,11 +1,9 @@
 -- The pushes behind each other, and the refusal of each.
 use Rattle.std.proofs.Common.{◌≡◌, ◌∙◌, arith}
 use Rattle.std.proofs.lemmas.Result.{err_from_is_err_and, IfOk-weaker, IfErr-weaker}
-use Rattle.qrcode_bits.proofs.Pairs.{bytes_valid}
-use Rattle.qrcode_bits.specs.Plans.{normal}
+use Rattle.qrcode_bits.{proofs.Pairs.bytes_valid, specs.Plans.normal}
 use Rattle.texts.specs.Smallest.{SaysUtf8}
-use Rattle.texts.proofs.Ended.{held, end_refused}
-use Rattle.texts.proofs.Utf8.{text_refused, text_pushed, one_length}
+use Rattle.texts.proofs.Texts.{held, end_refused, text_refused, text_pushed, text_length}
 use Rattle.texts.proofs.utf8_in.Goals as goal
 
 pub returns-in_err-push_byte_data-clause-refused :
@@ -36,4 +34,4 @@ returns-clause-refused c =
     let said = text_pushed c.new-bits.result front stream c.args.text.now c.new-bits.ensures.bits eci spelled in
     let is : stream.version ≡ normal c.args.number = spelled.version_is ∙ (eci.version_is ∙ (c.new-bits.ensures.version ∙ c.normal.ensures)) in
     IfErr-weaker c.with_bits.result _ _ (end_refused (SaysUtf8 c.args.text.now) stream c.args.level c.args.number is said
-    c.requires.first c.requires.last (one_length stream c.args.number c.args.text.now is said)) c.with_bits.ensures.refused
+    c.requires.first c.requires.last (text_length stream c.args.number c.args.text.now is said)) c.with_bits.ensures.refused

@@ -1,11 +1,8 @@
 -- The versions before this one, and this one.
 use Rattle.std.proofs.Common.{List, ℕ, subst, arith}
-use Rattle.qrcode_base.specs.declared.types.errors.QrError.{QrError}
-use Rattle.qrcode_base.specs.declared.types.errors.QrError.TheVariants.{DataTooLong}
+use Rattle.qrcode_base.specs.declared.types.errors.QrError.{QrError, TheVariants.DataTooLong}
 use Rattle.qrcode_bits.specs.Plans.{normal}
-use Rattle.texts.specs.Smallest.{SaysUtf8, IsRefusedIn}
-use Rattle.texts.proofs.Ended.{next}
-use Rattle.texts.proofs.Utf8.{too_many}
+use Rattle.texts.{specs.Smallest.SaysUtf8, specs.Smallest.IsRefusedIn, proofs.Texts.next, proofs.Texts.text_too_long}
 use Rattle.texts.proofs.utf8_symbol.Goals as goal
 
 pub loop-number-preserved : goal.loop-number-preserved
@@ -18,4 +15,4 @@ loop-number-preserved c =
 pub returns-then-text-gt-DEFAULT_MAX_DATA_LENGTH-clause-refused :
     goal.returns-then-text-gt-DEFAULT_MAX_DATA_LENGTH-clause-refused
 returns-then-text-gt-DEFAULT_MAX_DATA_LENGTH-clause-refused c =
-    too_many c.args.text.now c.args.level (λ i. omega (arith, c.type_inv.text i)) (omega (arith, c.if-text-gt-DEFAULT_MAX_DATA_LENGTH.true))
+    text_too_long c.args.text.now c.args.level (λ i. omega (arith, c.type_inv.text i)) (omega (arith, c.if-text-gt-DEFAULT_MAX_DATA_LENGTH.true))

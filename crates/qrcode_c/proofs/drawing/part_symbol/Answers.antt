@@ -1,14 +1,9 @@
 -- The symbol at the index, written or too large for the buffer.
-use Rattle.std.specs.Prelude.{map, nat_abs, ℤ}
 use Rattle.std.proofs.Common.{◌≡◌, ◌∙◌, subst, sym, w16, w32, to_z, of_z, rules, arith}
-use Rattle.std.proofs.lemmas.Int.{to_z-of_z, ints}
-use Rattle.qrcode_base.specs.declared.types.errors.QrError.{QrError}
-use Rattle.qrcode_base.specs.Symbols.{IsNormalNumber}
-use Rattle.qrcode_core.specs.Drawn.{modules_of}
-use Rattle.qrcode_core.specs.Sequence.{AreBestSymbols, IsSequenceRefusal}
-use Rattle.qrcode_c.specs.Levels.{number_of}
-use Rattle.qrcode_c.specs.Refusals.{IsAsked}
-use Rattle.qrcode_c.proofs.Answering.{part_held, part_above, short_refused}
+use Rattle.std.{specs.Prelude.map, specs.Prelude.nat_abs, specs.Prelude.ℤ, proofs.lemmas.Int.to_z-of_z, proofs.lemmas.Int.ints}
+use Rattle.qrcode_base.specs.{declared.types.errors.QrError.QrError, Symbols.IsNormalNumber}
+use Rattle.qrcode_core.specs.{Drawn.modules_of, Sequence.AreBestSymbols, Sequence.IsSequenceRefusal}
+use Rattle.qrcode_c.{specs.Levels.number_of, specs.Refusals.IsAsked, proofs.Answering.part_held, proofs.Answering.part_above, proofs.Answering.short_refused}
 use Rattle.qrcode_c.proofs.drawing.part_symbol.Goals as goal
 
 -- a limit is the same number in 16 bits as in 32

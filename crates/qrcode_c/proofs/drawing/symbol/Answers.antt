@@ -2,8 +2,7 @@
 use Rattle.std.proofs.Common.{◌≡◌, ◌∙◌, sym, w32}
 use Rattle.std.proofs.lemmas.Int.{to_z-of_z}
 use Rattle.qrcode_core.specs.Headline.{IsBestSymbol}
-use Rattle.qrcode_c.specs.Levels.{number_of}
-use Rattle.qrcode_c.proofs.Answering.{best_held, short_refused}
+use Rattle.qrcode_c.{specs.Levels.number_of, proofs.Answering.best_held, proofs.Answering.short_refused}
 use Rattle.qrcode_c.proofs.drawing.symbol.Goals as goal
 
 pub returns-in-Ok-clause-held : goal.returns-in-Ok-clause-held

@@ -1,5 +1,5 @@
 -- The law of one reading.
-use Rattle.qrcode_core.proofs.OneMessage.{one_message}
+use Rattle.qrcode_core.proofs.Sequences.{one_message}
 use Rattle.qrcode_core.proofs.laws.have_one_message.Goals as goal
 
 pub returns : goal.returns

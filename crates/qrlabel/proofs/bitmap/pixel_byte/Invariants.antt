@@ -1,8 +1,6 @@
 -- The bits so far are spelled.
 use Rattle.std.proofs.Common.{◌≡◌, ◌*◌}
-use Rattle.qrlabel.specs.Pictures.{is_dark_pixel}
-use Rattle.qrlabel.specs.Shown.{shown}
-use Rattle.qrlabel.proofs.BitmapLemmas.{spelled}
+use Rattle.qrlabel.{specs.Pictures.is_dark_pixel, specs.Shown.shown, proofs.BitmapLemmas.spelled}
 use Rattle.qrlabel.proofs.bitmap.pixel_byte.Given as goal
 
 abbrev pub invariant-loop-bit : goal.invariant-loop-bit

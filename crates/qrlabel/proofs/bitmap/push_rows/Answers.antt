@@ -1,9 +1,6 @@
 -- One row of pixels more.
 use Rattle.std.proofs.Common.{◌+◌, ◌*◌, ◌++◌, ◌∙◌, ap, sym}
-use Rattle.qrlabel.specs.Shown.{shown}
-use Rattle.qrlabel.specs.Bitmaps.{first_rows, row_of}
-use Rattle.qrlabel.proofs.Ranges.{joined}
-use Rattle.qrlabel.proofs.BitmapLemmas.{rows_copy}
+use Rattle.qrlabel.{specs.Shown.shown, specs.Bitmaps.first_rows, specs.Bitmaps.row_of, proofs.Ranges.joined, proofs.BitmapLemmas.rows_copy}
 use Rattle.qrlabel.proofs.bitmap.push_rows.Goals as goal
 
 pub loop-copy-preserved : goal.loop-copy-preserved

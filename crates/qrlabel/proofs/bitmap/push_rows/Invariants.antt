@@ -1,7 +1,6 @@
 -- The rows of pixels so far were added.
 use Rattle.std.proofs.Common.{◌≡◌, ◌+◌, ◌*◌, ◌++◌}
-use Rattle.qrlabel.specs.Bitmaps.{first_rows}
-use Rattle.qrlabel.specs.Shown.{shown}
+use Rattle.qrlabel.specs.{Bitmaps.first_rows, Shown.shown}
 use Rattle.qrlabel.proofs.bitmap.push_rows.Given as goal
 
 abbrev pub invariant-loop-row : goal.invariant-loop-row

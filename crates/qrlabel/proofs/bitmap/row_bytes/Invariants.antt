@@ -1,8 +1,7 @@
 -- The bytes so far are the first of the row.
 use Rattle.std.proofs.Common.{◌≡◌, map}
 use Rattle.std.specs.List.{range_with_len}
-use Rattle.qrlabel.specs.Bitmaps.{byte_of}
-use Rattle.qrlabel.specs.Shown.{shown}
+use Rattle.qrlabel.specs.{Bitmaps.byte_of, Shown.shown}
 use Rattle.qrlabel.proofs.bitmap.row_bytes.Given as goal
 
 abbrev pub invariant-loop-place : goal.invariant-loop-place

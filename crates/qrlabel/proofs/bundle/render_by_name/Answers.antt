@@ -1,11 +1,10 @@
 -- The registry has the three renderers by their names.
 use Rattle.std.proofs.Common.{◌≡◌, refl, subst}
 use Rattle.std.specs.Prelude.{◌⊎◌, Err, codes}
-use denote.Param.Object.{read_made}
-use Rattle.qrcode_core.specs.declared.plugin.error.PluginError.{PluginError}
-use Rattle.qrcode_core.specs.Registries.{registered}
+use Rattle.qrcode_core.specs.{declared.plugin.error.PluginError.PluginError, Registries.registered}
 use Rattle.qrlabel.specs.Rendered.{ShowsSvg, ShowsBitmap, ShowsTerminal}
 use Rattle.qrlabel.proofs.NameLemmas.{three, holds_three, at_svg, at_pbm, at_terminal, at_others, object_there, nothing_there, drawn_by_name}
+use denote.Param.Object.{read_made}
 use Rattle.qrlabel.proofs.bundle.render_by_name.OwnLists as own
 use Rattle.qrlabel.proofs.bundle.render_by_name.Goals as goal
 

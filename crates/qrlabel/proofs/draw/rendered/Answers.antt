@@ -1,9 +1,7 @@
 -- The renderer of this name draws what is asked for, of a grid that is small enough.
 use Rattle.std.proofs.Common.{sym, arith}
-use Rattle.qrcode_core.specs.Drawn.{drawn_grid}
-use Rattle.qrcode_core.specs.Views.{view_grid}
-use Rattle.qrlabel.proofs.LabelLemmas.{answer_drawn, answer_refused, drawn_at}
-use Rattle.qrlabel.proofs.draw.rendered.OwnLists.{reads-grid-1-1}
+use Rattle.qrcode_core.specs.{Drawn.drawn_grid, Views.view_grid}
+use Rattle.qrlabel.proofs.{LabelLemmas.answer_drawn, LabelLemmas.answer_refused, LabelLemmas.drawn_at, draw.rendered.OwnLists.reads-grid-1-1}
 use Rattle.qrlabel.proofs.draw.rendered.Goals as goal
 
 pub returns-clause-drawn : goal.returns-clause-drawn

@@ -1,9 +1,8 @@
 -- One option more, or none that the words go on with.
 use Rattle.std.proofs.Common.{◌∙◌, [], ◌∷◌, ◌++◌, map, drop, None, false, sym, arith}
 use Rattle.std.proofs.lemmas.List.{length-map}
-use Rattle.qrlabel.specs.Choices.{setting_of}
-use Rattle.qrlabel.specs.Words.{with_scale, with_quiet, with_inverted}
 use Rattle.qrlabel.proofs.WordLemmas.{words_from, some_left, stuck, one_more, counts, all_said}
+use Rattle.qrlabel.specs.{Choices.setting_of, Words.with_scale, Words.with_quiet, Words.with_inverted}
 use Rattle.qrlabel.proofs.given.given_by.Goals as goal
 
 pub returns-in_default : goal.returns-in_default

@@ -1,9 +1,7 @@
 -- The words ask for one label, which was drawn.
 use Rattle.std.proofs.Common.{◌≡◌, Ok, Err, refl, subst, map, inl}
 use Rattle.programs.proofs.DeviceLemmas.{Appends-none}
-use Rattle.qrlabel.specs.Labels.{ServesLabel}
-use Rattle.qrlabel.specs.Words.{Label, label_of}
-use Rattle.qrlabel.proofs.AskLemmas.{one_label}
+use Rattle.qrlabel.{specs.Labels.ServesLabel, specs.Words.Label, specs.Words.label_of, proofs.AskLemmas.one_label}
 use Rattle.qrlabel.proofs.run.run.Goals as goal
 
 pub returns-in_default-clause-served : goal.returns-in_default-clause-served

@@ -1,7 +1,6 @@
 -- What is counted, and the run from here on, make the run.
 use Rattle.std.proofs.Common.{◌≡◌, ◌+◌, ◌≤◌}
-use Rattle.qrlabel.specs.Paths.{run_length}
-use Rattle.qrlabel.specs.Shown.{shown}
+use Rattle.qrlabel.specs.{Paths.run_length, Shown.shown}
 use Rattle.qrlabel.proofs.svg.run_length.Given as goal
 
 abbrev pub invariant-loop-column : goal.invariant-loop-column

@@ -1,8 +1,7 @@
 -- The text has the rectangles of the rows so far.
 use Rattle.std.proofs.Common.{◌≡◌, ◌++◌}
 use Rattle.std.specs.String.{string_bytes}
-use Rattle.qrlabel.specs.Paths.{path}
-use Rattle.qrlabel.specs.Shown.{shown}
+use Rattle.qrlabel.specs.{Paths.path, Shown.shown}
 use Rattle.qrlabel.proofs.svg.svg.Given as goal
 
 abbrev pub invariant-loop-y : goal.invariant-loop-y

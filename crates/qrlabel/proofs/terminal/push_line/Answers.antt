@@ -1,12 +1,8 @@
 -- One character more.
 use Rattle.std.proofs.Common.{◌≡◌, ℕ, Bool, ◌+◌, ◌*◌, ◌++◌, ◌∙◌, ap}
-use Rattle.std.specs.Prelude.{flat_map, encode_utf8}
-use Rattle.std.specs.List.{range_with_len}
-use Rattle.std.specs.String.{string_bytes}
-use Rattle.qrlabel.specs.Shown.{shown}
+use Rattle.std.specs.{Prelude.flat_map, Prelude.encode_utf8, List.range_with_len, String.string_bytes}
 use Rattle.qrlabel.specs.Terminals.{character, half_blocks, is_filled}
-use Rattle.qrlabel.proofs.Ranges.{joined}
-use Rattle.qrlabel.proofs.TerminalLemmas.{characters_more}
+use Rattle.qrlabel.{specs.Shown.shown, proofs.Ranges.joined, proofs.TerminalLemmas.characters_more}
 use Rattle.qrlabel.proofs.terminal.push_line.Goals as goal
 
 pub loop-x-preserved : goal.loop-x-preserved

@@ -1,10 +1,7 @@
 -- The characters so far were added.
 use Rattle.std.proofs.Common.{◌≡◌, ◌++◌}
-use Rattle.std.specs.Prelude.{flat_map}
-use Rattle.std.specs.List.{range_with_len}
-use Rattle.std.specs.String.{string_bytes}
-use Rattle.qrlabel.specs.Shown.{shown}
-use Rattle.qrlabel.specs.Terminals.{character}
+use Rattle.std.specs.{Prelude.flat_map, List.range_with_len, String.string_bytes}
+use Rattle.qrlabel.specs.{Shown.shown, Terminals.character}
 use Rattle.qrlabel.proofs.terminal.push_line.Given as goal
 
 abbrev pub invariant-loop-x : goal.invariant-loop-x

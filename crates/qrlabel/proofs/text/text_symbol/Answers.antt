@@ -1,14 +1,13 @@
 -- More bytes than any version holds are too long, whatever they are; else the first that is no UTF-8 is told.
-use Rattle.std.proofs.Common.{arith}
-use Rattle.std.proofs.lemmas.Option.{slice_get-get_or}
-use Rattle.texts.proofs.Utf8.{too_many}
+use Rattle.std.proofs.{Common.arith, lemmas.Option.slice_get-get_or}
+use Rattle.texts.proofs.Texts.{text_too_long}
 use Rattle.qrlabel.proofs.text.text_symbol.Goals as goal
 
 pub returns-then-bytes-gt-DEFAULT_MAX_DATA_LENGTH-clause-refused :
     goal.returns-then-bytes-gt-DEFAULT_MAX_DATA_LENGTH-clause-refused
 returns-then-bytes-gt-DEFAULT_MAX_DATA_LENGTH-clause-refused c = (
   λ few. absurd (omega (arith, c.if-bytes-gt-DEFAULT_MAX_DATA_LENGTH.true, few)),
-  too_many c.args.bytes.now c.args.level (λ i. omega (arith, c.type_inv.bytes i)) (omega (arith, c.if-bytes-gt-DEFAULT_MAX_DATA_LENGTH.true)),
+  text_too_long c.args.bytes.now c.args.level (λ i. omega (arith, c.type_inv.bytes i)) (omega (arith, c.if-bytes-gt-DEFAULT_MAX_DATA_LENGTH.true)),
 )
 
 pub returns-in-Err-clause-refused : goal.returns-in-Err-clause-refused

@@ -1,8 +1,6 @@
 -- The numbers that are given are out of their bounds.
 use Rattle.std.proofs.Common.{map, rules}
-use Rattle.qrlabel.specs.Words.{AskForNone}
-use Rattle.qrlabel.proofs.WordLemmas.{two_words}
-use Rattle.qrlabel.proofs.AskLemmas.{no_scale, no_quiet}
+use Rattle.qrlabel.{specs.Words.AskForNone, proofs.WordLemmas.two_words, proofs.AskLemmas.no_scale, proofs.AskLemmas.no_quiet}
 use Rattle.qrlabel.proofs.wanted.wanted_of.Goals as goal
 
 pub returns-in_err-scale : goal.returns-in_err-scale

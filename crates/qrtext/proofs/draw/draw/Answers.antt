@@ -1,9 +1,7 @@
 -- The text that is written is that of the symbol of all that was read.
 use Rattle.std.proofs.Common.{rules, ◌≡◌, ◌*◌, ℕ, Bool, true, false, List, length}
-use Rattle.qrcode_core.specs.declared.types.Color.{Color}
-use Rattle.qrcode_core.specs.declared.types.EcLevel.{EcLevel}
-use Rattle.programs.proofs.DeviceLemmas.{ReadsAll-short}
-use Rattle.programs.specs.Outcome.{IsDrawing, IsSymbolOf}
+use Rattle.qrcode_core.specs.declared.types.{Color.Color, EcLevel.EcLevel}
+use Rattle.programs.{proofs.DeviceLemmas.ReadsAll-short, specs.Outcome.IsDrawing, specs.Outcome.IsSymbolOf}
 use Rattle.qrtext.specs.Drawing.{Shows}
 use Rattle.qrtext.proofs.draw.draw.Goals as goal
 

@@ -2,8 +2,7 @@
 use Rattle.std.proofs.Common.{rules, arith, ◌≡◌, ℕ, ◌+◌, ◌*◌, ◌<◌, ◌≤◌, List, [], ◌∷◌, ◌++◌, length, map, take}
 use Rattle.std.proofs.lemmas.Grind.{common_steps}
 use Rattle.qrcode_core.specs.declared.types.Color.{Color}
-use Rattle.qrtext.specs.Drawing.{lines, row_of, character}
-use Rattle.qrtext.proofs.TextLemmas.{lines_none, lines_more}
+use Rattle.qrtext.{specs.Drawing.lines, specs.Drawing.row_of, specs.Drawing.character, proofs.TextLemmas.lines_none, proofs.TextLemmas.lines_more}
 use Rattle.qrtext.proofs.draw.text_of.Goals as goal
 
 square_of_root : (n root width : ℕ) → n ≡ width * width → root * root ≤ n → n < (root + 1) * (root + 1) → n ≡ root * root

@@ -1,6 +1,6 @@
 -- The bytes of the bits are all codewords of a symbol's version; their streams are drawn.
 use Rattle.qrcode_core.proofs.Prelude.{arith, refl}
-use Rattle.qrcode_core.proofs.Lengths.{version_of_all}
+use Rattle.qrcode_core.proofs.Codewords.{version_of_all}
 use Rattle.qrcode_core.proofs.symbol.owned.symbol_of.Goals as goal
 
 pub symbol_width-requires : goal.symbol_width-requires

@@ -7,8 +7,5 @@ pub returns-then-is_sorted-clause-ordered : goal.returns-then-is_sorted-clause-o
 returns-then-is_sorted-clause-ordered c = λ all. non_decreasing_from_is_sorted c.args.cuts.now true c.if-is_sorted.ensures.cases
 
 pub returns-else-is_sorted-clause-refused : goal.returns-else-is_sorted-clause-refused
-returns-else-is_sorted-clause-refused c = λ ordered within.
-    let falls = non_decreasing_from_is_sorted c.args.cuts.now false c.if-is_sorted.ensures.cases in
-    let rises = ordered falls.0 (falls.0 + 1) 0 (omega arith) falls.1 in
-    let drop = falls.2 0 in
-    absurd (omega arith)
+returns-else-is_sorted-clause-refused c =
+    grind (arith, non_decreasing_from_is_sorted c.args.cuts.now false c.if-is_sorted.ensures.cases, c.if-is_sorted.ensures.cases)

@@ -1,6 +1,6 @@
 -- A part runs from the start or the cut before it to its own cut or the end.
 use Rattle.qrcode_core.proofs.Prelude.{get_or_tail, [], ◌∷◌, length, arith, get_or_append_left, get_or_push}
-use Rattle.qrcode_core.proofs.OneMessage.{part_at}
+use Rattle.qrcode_core.proofs.Sequences.{part_at}
 use Rattle.qrcode_core.proofs.symbol.sequence.part_at.Goals as goal
 
 pub returns : goal.returns

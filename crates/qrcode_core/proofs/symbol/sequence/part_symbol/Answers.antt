@@ -1,9 +1,8 @@
 -- The best encoding of a part behind its header, drawn, is the best symbol of the part.
 use Rattle.qrcode_core.proofs.Prelude.{ap, arith, nat_abs, IfOk-weaker, to_z-of_z}
-use mir.Syntax.{w16}
+use Rattle.qrcode_core.proofs.{Limited.few_versions, Best.best_of_stream, Best.fills_symbol, Best.encoded_short, Best.only_memory}
 use Rattle.qrcode_bits.proofs.Pairs.{bytes_valid}
-use Rattle.qrcode_core.proofs.Limited.{few_versions}
-use Rattle.qrcode_core.proofs.StreamEncoding.{best_of_stream, fills_symbol, encoded_short, only_memory}
+use mir.Syntax.{w16}
 use Rattle.qrcode_core.proofs.symbol.sequence.part_symbol.Goals as goal
 
 pub symbol_of-requires : goal.symbol_of-requires

@@ -1,5 +1,5 @@
 -- The tree's entries are read as texts.
-use Rattle.qrcode_core.proofs.TextMaps.{text_entries_insert}
+use Rattle.qrcode_core.proofs.Plugins.{text_entries_insert}
 use Rattle.qrcode_core.proofs.plugin.registry.PluginRegistry.insert_encoder.Goals as goal
 
 pub returns-clause-ok : goal.returns-clause-ok

@@ -1,5 +1,5 @@
 use Rattle.qrcode_core.proofs.Prelude.{err_from_is_err_and, postprocessor_of}
-use Rattle.qrcode_core.proofs.RegistrationLemmas.{registers_refused}
+use Rattle.qrcode_core.proofs.Plugins.{registers_refused}
 use Rattle.qrcode_core.proofs.plugin.registry.PluginRegistry.put_postprocessors.Goals as goal
 
 pub returns-in_err-put_postprocessor : goal.returns-in_err-put_postprocessor

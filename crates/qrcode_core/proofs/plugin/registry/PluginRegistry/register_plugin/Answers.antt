@@ -1,5 +1,5 @@
 use Rattle.qrcode_core.proofs.Prelude.{err_from_is_err_and, [], ◌∷◌, ◌++◌, map, Err, string_bytes, named_renderer, named_encoder, version_of, postprocessor_of}
-use Rattle.qrcode_core.proofs.RegistrationLemmas.{registers_then, registers_stops}
+use Rattle.qrcode_core.proofs.Plugins.{registers_then, registers_stops}
 use Rattle.qrcode_core.proofs.plugin.registry.PluginRegistry.register_plugin.Goals as goal
 
 pub returns-in_err-put_renderers : goal.returns-in_err-put_renderers

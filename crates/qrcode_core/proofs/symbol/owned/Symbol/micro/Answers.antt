@@ -3,7 +3,7 @@ use Rattle.qrcode_core.proofs.Prelude.{rules, arith, IfOk-weaker}
 use Rattle.std.proofs.Common.{◌≢◌}
 use Rattle.qrcode_base.specs.declared.types.EcLevel.TheVariants.{H}
 use Rattle.qrcode_bits.proofs.Pairs.{bytes_valid}
-use Rattle.qrcode_core.proofs.StreamEncoding.{best_of_stream, fills_symbol, encoded_micro_short, only_memory}
+use Rattle.qrcode_core.proofs.Best.{best_of_stream, fills_symbol, encoded_micro_short, only_memory}
 use Rattle.qrcode_core.proofs.symbol.owned.Symbol.micro.Goals as goal
 
 pub symbol_of-requires : goal.symbol_of-requires

@@ -1,7 +1,7 @@
 -- The best encoding, drawn, is the best symbol.
 use Rattle.qrcode_core.proofs.Prelude.{arith, common_steps, IfOk-weaker}
 use Rattle.qrcode_bits.proofs.Pairs.{bytes_valid}
-use Rattle.qrcode_core.proofs.StreamEncoding.{best_of_stream, fills_symbol, encoded_fits, encoded_short, normal_refused, only_memory}
+use Rattle.qrcode_core.proofs.Best.{best_of_stream, fills_symbol, encoded_fits, encoded_short, normal_refused, only_memory}
 use Rattle.qrcode_core.proofs.symbol.owned.Symbol.new.Goals as goal
 
 pub symbol_of-requires : goal.symbol_of-requires

@@ -3,7 +3,7 @@ use Rattle.qrcode_core.proofs.Prelude.{common_steps, refl, ◌+◌, arith, lengt
 use Rattle.std.proofs.lemmas.List.Elements.{All-push}
 use mir.Syntax.{w16}
 use Rattle.qrcode_bits.proofs.Classes.{limit_of}
-use Rattle.qrcode_core.proofs.Symbols.{one_more, best_symbols, none_too_long, refused_part}
+use Rattle.qrcode_core.proofs.Sequences.{one_more, best_symbols, none_too_long, refused_part}
 use Rattle.qrcode_core.proofs.symbol.owned.Symbol.sequence.Goals as goal
 
 pub returns-in_err-symbol-clause-refused : goal.returns-in_err-symbol-clause-refused

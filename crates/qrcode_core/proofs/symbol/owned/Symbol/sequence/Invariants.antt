@@ -1,6 +1,6 @@
 -- So many first symbols are there, and each tells its reading.
 use Rattle.qrcode_core.proofs.Prelude.{map, nat_abs, All, TellsReading, modules_of}
-use Rattle.qrcode_core.proofs.Symbols.{AreFirstSymbols}
+use Rattle.qrcode_core.proofs.Sequences.{AreFirstSymbols}
 use Rattle.qrcode_core.proofs.symbol.owned.Symbol.sequence.Given as goal
 
 abbrev pub invariant-loop-index : goal.invariant-loop-index

@@ -1,6 +1,6 @@
 -- The ended bits, drawn, are held.
 use Rattle.qrcode_core.proofs.Prelude.{IfOk-weaker}
-use Rattle.qrcode_core.proofs.HeldBits.{held_reading}
+use Rattle.qrcode_core.proofs.Best.{held_reading}
 use Rattle.qrcode_core.proofs.symbol.owned.Symbol.with_bits.Goals as goal
 
 pub returns-clause-reading : goal.returns-clause-reading

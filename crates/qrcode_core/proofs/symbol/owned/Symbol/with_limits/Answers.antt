@@ -4,7 +4,7 @@ use mir.Val.{to_z, of_z}
 use mir.Syntax.{w16}
 use Rattle.qrcode_bits.proofs.Pairs.{bytes_valid}
 use Rattle.qrcode_core.proofs.Limited.{few_versions, limited_refusal, best_within, fits_within}
-use Rattle.qrcode_core.proofs.StreamEncoding.{best_of_stream, fills_symbol, encoded_short, only_memory}
+use Rattle.qrcode_core.proofs.Best.{best_of_stream, fills_symbol, encoded_short, only_memory}
 use Rattle.qrcode_core.proofs.symbol.owned.Symbol.with_limits.Goals as goal
 
 pub symbol_of-requires : goal.symbol_of-requires
@@ -34,6 +34,4 @@ returns c =
     }
 
 pub returns-in_err-bits-clause-refused : goal.returns-in_err-bits-clause-refused
-returns-in_err-bits-clause-refused c =
-    let number = to_z w16 (of_z w16 c.in-Normal.number) in
-    grind (arith, common_steps, limited_refusal c.args.limits.now c.args.bytes.now c.args.level number, c.in_err-bits.ensures.err)
+returns-in_err-bits-clause-refused c = grind (arith, common_steps, limited_refusal c.args.limits.now c.args.bytes.now c.args.level, c.in_err-bits.ensures.err)
