@@ -3,6 +3,8 @@
 #![tactic(auto)]
 
 #[cfg(test)]
+mod configuration_tests;
+#[cfg(test)]
 mod grids;
 #[cfg(test)]
 mod refused_growth;

@@ -332,35 +332,6 @@ fn output_is_copied(rt: &impl Abort, alloc: Global, output: &RenderOutput) {
 }
 
 #[test]
-fn configurations_keep_what_is_asked(rt: HostRuntime) {
-    let render = RenderConfig::new(rt.alloc()).with_format("svg");
-    let render = render.expect(&rt, "memory").with_option("dark", "X");
-    let copy = render
-        .expect(&rt, "memory")
-        .clone(rt.alloc())
-        .expect(&rt, "memory");
-    assert!(rt; copy.format() == Some("svg") && copy.option("dark") == Some("X"));
-    encoding_keeps_what_is_asked(&rt, rt.alloc());
-    encoded_bytes_are_copied(&rt, rt.alloc());
-}
-
-/// The same of an encoder's configuration.
-fn encoding_keeps_what_is_asked(rt: &impl Abort, alloc: Global) {
-    let encode = EncodeConfig::new(alloc).with_option("dark", "X");
-    let copy = encode
-        .expect(rt, "memory")
-        .clone(alloc)
-        .expect(rt, "memory");
-    assert!(rt; copy.option("dark") == Some("X") && copy.option("light").is_none());
-}
-
-/// The same of what an encoder answers.
-fn encoded_bytes_are_copied(rt: &impl Abort, alloc: Global) {
-    let bytes = EncodedOutput::Bytes(Vec::from_slice(alloc, b"abc").expect(rt, "memory"));
-    assert!(rt; bytes.clone(alloc).expect(rt, "memory") == bytes);
-}
-
-#[test]
 fn configurations_are_refused(rt: HostRuntime) {
     let mut registry = PluginRegistry::new(rt.alloc());
     assert!(rt; is_new_renderer(&rt, rt.alloc(), &mut registry, "text"));
