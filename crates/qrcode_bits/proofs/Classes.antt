@@ -83,9 +83,9 @@ module _ (front : ℕ) (message : List ℕ) (v : Version) (l : EcLevel) (plan : 
       let within = fits.within in omega arith)
 
 -- a mode whose number is too great
-pub lacks_number : (v : Version) (m : Mode) (n w : ℕ) → n ≡ indicator v m → w ≡ indicator_width v → w < 16 → 1 * 2 ^ w % 2 ^ 16 ≤ n →
+pub lacks_number : (v : Version) (m : Mode) (n w : ℕ) → n ≡ indicator v m → w ≡ indicator_width v → w < 64 → 1 * 2 ^ w % 2 ^ 64 ≤ n →
     HasMode v m → ⊥
-lacks_number v m n w is width narrow great has = grind (arith, one_shl w 16 narrow)
+lacks_number v m n w is width narrow great has = grind (arith, one_shl w 64 narrow)
 
 -- the version has the modes of all parts, where it has those of each
 pub modes_all : (v : Version) (plan items : List Segment) (n : ℕ) → items ≡ plan → length items ≤ n →

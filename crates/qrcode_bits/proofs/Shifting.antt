@@ -4,9 +4,8 @@ use Rattle.qrcode_bits.proofs.Prelude.{append_assoc, append-nil, add_comm, slice
 use Rattle.qrcode_bits.proofs.Prelude.{flat_map-append, common_steps, number_bits, byte_bits, AreShifted, shifted, Stream, Appends, kept_bits, room_in, IsKept}
 use borrow.Rule.Slice.PartMut.{post_of}
 use Rattle.qrcode_bits.proofs.Prelude.{cases_lt}
-use Rattle.std.specs.Prelude.{drop, slice_set}
-use Rattle.std.specs.Int.{to_be_bytes, w64}
-use Rattle.qrcode_bits.proofs.Numbers.{number_bits-join, number_bits-cut, number_bits-mod, high_free, length-byte_bits, length-number_bits}
+use Rattle.std.specs.Prelude.{slice_set}
+use Rattle.qrcode_bits.proofs.Numbers.{number_bits-join, number_bits-cut, number_bits-mod, high_free, length-byte_bits}
 
 low_free : (used before byte : ℕ) → used < 8 → number_bits used (before * 2 ^ 8 + byte) ≡ number_bits used byte
 low_free used before byte part = grind (arith, high_free used (before * 2 ^ (8 - used)) byte, pow-add 2 (8 - used) used)
@@ -65,53 +64,3 @@ pub appends_shifted : (old : Stream) (bytes now text filled : List ℕ) (len len
     }) (byte_bits text)
 appends_shifted old bytes now text filled len len' cap cap' used partial left bits room is longer grows part small are last =
     grind (arith, common_steps, length-byte_bits, flat_map-append, append_assoc, number_bits-mod, shifted_bits)
-
--- ---- Five bytes at once
-
--- the lowest five of the bytes of a number
-pub five_bytes_are : (n : ℕ) (all : List ℕ) → all ≡ to_be_bytes w64 n → byte_bits (take 5 (drop 3 all)) ≡ number_bits 40 n
-five_bytes_are n all is =
-    let byte : (k : ℕ) → number_bits 8 (n / 2 ^ k % 2 ^ 8) ≡ number_bits 8 (n / 2 ^ k) = λ k. number_bits-mod 8 (n / 2 ^ k) in
-    let last : number_bits 8 (n % 2 ^ 8) ++ [] ≡ number_bits 8 n = append-nil (number_bits 8 (n % 2 ^ 8)) ∙ number_bits-mod 8 n in
-    let two : number_bits 8 (n / 2 ^ 8 % 2 ^ 8) ++ (number_bits 8 (n % 2 ^ 8) ++ []) ≡ number_bits 16 n =
-    rw (byte 8, last) (sym (number_bits-cut 8 8 n)) in
-    let three : number_bits 8 (n / 2 ^ 16 % 2 ^ 8) ++ (number_bits 8 (n / 2 ^ 8 % 2 ^ 8) ++ (number_bits 8 (n % 2 ^ 8) ++ [])) ≡ number_bits 24 n =
-    rw (byte 16, two) (sym (number_bits-cut 8 16 n)) in
-    let four : number_bits 8 (n / 2 ^ 24 % 2 ^ 8) ++ (number_bits 8 (n / 2 ^ 16 % 2 ^ 8) ++ (number_bits 8 (n / 2 ^ 8 % 2 ^ 8)
-    ++ (number_bits 8 (n % 2 ^ 8) ++ []))) ≡ number_bits 32 n =
-    rw (byte 24, three) (sym (number_bits-cut 8 24 n)) in
-    rw is (ap (λ (z : List Bool). number_bits 8 (n / 2 ^ 32 % 2 ^ 8) ++ z) four
-    ∙ (ap (λ (z : List Bool). z ++ number_bits 32 n) (byte 32) ∙ sym (number_bits-cut 8 32 n)))
-
--- the stream with a number of 40 bits behind it, as five bytes
-pub kept_five : (old five : List ℕ) (used partial left n wide : ℕ) → used < 8 → n < 2 ^ 40 → wide ≡ partial * 2 ^ 40 + n →
-    byte_bits five ≡ number_bits 40 (wide / 2 ^ used) →
-    left ≡ n % 2 ^ used → kept_bits (old ++ five) used left ≡ kept_bits old used partial ++ number_bits 40 n
-kept_five old five used partial left n wide part small whole bytes is =
-    grind (
-      arith,
-      add_comm 40 used,
-      append_assoc (byte_bits old) (byte_bits five) (number_bits used left),
-      append_assoc (byte_bits old) (number_bits used partial) (number_bits 40 n),
-      flat_map-append (number_bits 8) old five,
-      low_free used (n / 2 ^ 8) (n % 2 ^ 8) part,
-      low_free used (partial * 2 ^ 32 + n / 2 ^ 8) (n % 2 ^ 8) part,
-      number_bits-cut 40 used wide,
-      number_bits-join used 40 partial n small,
-      number_bits-mod used n,
-    )
-
-pub appends_five : (old : Stream) (bytes now five : List ℕ) (len len' cap cap' used partial left n wide : ℕ) → old.bits ≡ kept_bits bytes used partial →
-    old.room ≡ room_in cap len used →
-    now ≡ bytes ++ five → len' ≡ len + 5 → cap ≤ cap' → used < 8 → n < 2 ^ 40 → wide ≡ partial * 2 ^ 40 + n →
-    byte_bits five ≡ number_bits 40 (wide / 2 ^ used) → left ≡ n % 2 ^ used →
-    Appends old (record {
-      bits = kept_bits now used left;
-      version = old.version;
-      modes = old.modes;
-      payload = old.payload;
-      room =
-          room_in cap' len' used;
-    }) (number_bits 40 n)
-appends_five old bytes now five len len' cap cap' used partial left n wide bits room is longer grows part small whole are last =
-    grind (arith, common_steps, kept_five, length-number_bits)

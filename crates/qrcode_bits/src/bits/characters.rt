@@ -27,7 +27,7 @@ impl Bits {
         let mut rest = digits;
         while rest.len() >= 12 {
             let (twelve, later) = rest.split_at(12);
-            self.push_five_bytes(twelve_digits(twelve));
+            self.push_number(40, twelve_digits(twelve));
             rest = later;
         }
         self.push_last_digits(rest);
@@ -43,13 +43,13 @@ impl Bits {
         let mut rest = digits;
         while rest.len() >= 3 {
             let (three, later) = rest.split_at(3);
-            self.push_number(10, three_digits(three) as u16);
+            self.push_number(10, three_digits(three));
             rest = later;
         }
         if rest.len() == 2 {
-            self.push_number(7, (10 * digit(rest[0]) + digit(rest[1])) as u16);
+            self.push_number(7, 10 * digit(rest[0]) + digit(rest[1]));
         } else if rest.len() == 1 {
-            self.push_number(4, digit(rest[0]) as u16);
+            self.push_number(4, digit(rest[0]));
         }
     }
 
@@ -153,24 +153,24 @@ fn twelve_digits(digits: &[u8]) -> u64
 }
 
 /// The value of a character of the Alphanumeric mode.
-fn alphanumeric_value(c: u8) -> u16
+fn alphanumeric_value(c: u8) -> u64
     requires { Contains alphabet c }
     ensures value { result ≡ alphanumeric_value_of c }
     ensures small { result < 45 }
 {
     match alphanumeric_place(c) {
-        Some(value) => value as u16,
+        Some(value) => value as u64,
         None => 0,
     }
 }
 
 /// The 13-bit number of a double-byte character.
-fn kanji_number(lead: u8, trail: u8) -> u16
+fn kanji_number(lead: u8, trail: u8) -> u64
     requires { is_kanji_pair lead trail ≡ true }
     ensures value { result ≡ kanji_number_of lead trail }
     ensures small { result < 8192 }
 {
-    let code = u16::from(lead) * 256 + u16::from(trail);
+    let code = u64::from(lead) * 256 + u64::from(trail);
     let offset = if code < 0xe040 {
         code - 0x8140
     } else {
