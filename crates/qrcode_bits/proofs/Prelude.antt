@@ -43,7 +43,7 @@ pub use Rattle.qrcode_bits.specs.Plans.{merged, merged_all, micro, normal, part,
 pub use Rattle.qrcode_bits.specs.Push.{Ends, EndsAtLevel, IsEncoding, IsEncodingRefused, IsEndRefused, IsHeaderRefused, IsLevelRefused, IsPartRefused}
 pub use Rattle.qrcode_bits.specs.Push.{IsPlanStream, IsPushRefused, IsUnencodable, PushesDrawn, PushesPieces, Spells, SpellsAll, StopsAt, with_modes}
 pub use Rattle.qrcode_bits.specs.Spelling.{IsSpellable, IsSpelling, LiesIn, Piece, character_bits, segment_piece, segment_pieces, spelling}
-pub use Rattle.qrcode_bits.specs.Stream.{Appends, AreShifted, IsKept, Reserves, Stream, eci_spelling, kept_bits, room_in, shifted}
+pub use Rattle.qrcode_bits.specs.Stream.{Appends, IsKept, Reserves, Stream, eci_spelling, kept_bits, room_in}
 pub use Rattle.qrcode_bits.specs.declared.optimize.Segment.{Segment}
 pub use Rattle.qrcode_bits.specs.declared.optimize.general.Groups.{Groups}
 pub use Rattle.qrcode_bits.specs.declared.optimize.short.TheConstants.{PERIOD_BITS, RESTS}
