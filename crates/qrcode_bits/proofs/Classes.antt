@@ -88,14 +88,14 @@ pub lacks_number : (v : Version) (m : Mode) (n w : ℕ) → n ≡ indicator v m 
 lacks_number v m n w is width narrow great has = grind (arith, one_shl w 64 narrow)
 
 -- the version has the modes of all parts, where it has those of each
-pub modes_all : (v : Version) (plan items : List Segment) (n : ℕ) → items ≡ plan → length items ≤ n →
-    ((k : ℕ) → k < n → HasMode v (segment_at items k).mode) → All (λ part. HasMode v part.mode) plan
-modes_all v plan items n same long each = grind (arith, get_or_default)
+pub modes_all : (v : Version) (items : List Segment) (n : ℕ) → length items ≤ n → ((k : ℕ) → k < n → HasMode v (segment_at items k).mode) →
+    All (λ part. HasMode v part.mode) items
+modes_all v items n long each = grind (arith, get_or_default)
 
 -- or lacks that of one
-pub modes_lack : (v : Version) (plan items : List Segment) (i : ℕ) → items ≡ plan → i < length items →
-    (HasMode v (segment_at items i).mode → ⊥) → All (λ part. HasMode v part.mode) plan → ⊥
-modes_lack v plan items i same inside lacks has = grind (arith)
+pub modes_lack : (v : Version) (items : List Segment) (i : ℕ) → i < length items → (HasMode v (segment_at items i).mode → ⊥) →
+    All (λ part. HasMode v part.mode) items → ⊥
+modes_lack v items i inside lacks has = grind arith
 
 -- ---- A class of versions
 
