@@ -66,5 +66,9 @@ returns-clause-fits c =
     let known = known_limit (capacity c.args.version c.args.level) c.in-Ok.limit (InvalidVersion c.args.version c.args.level) c.in-Ok.ensures.is in
     rw (← c.deref-part-items.ensures.value) (chosen_fits_here c.args.front c.args.bytes.now c.args.version c.args.level c.deref-part-items.result.now
     c.in-Ok.limit c.loop-part.invariant.chosen known (modes_all c.args.version c.deref-part-items.result.now c.loop-part.part-index
-    (omega (arith, c.loop-part-test.false)) c.loop-part.invariant.had) (omega (arith, c.if-size-limit.false, counted_all c.args.version
-    c.deref-part-items.result.now c.loop-part.part-index c.loop-part.size c.args.front c.loop-part.invariant.counted c.loop-part-test.false)))
+    (omega (arith, c.loop-part-test.false)) c.loop-part.invariant.had) (omega (
+      arith,
+      c.if-size-limit.false,
+      counted_all c.args.version
+          c.deref-part-items.result.now c.loop-part.part-index c.loop-part.size c.args.front c.loop-part.invariant.counted c.loop-part-test.false,
+    )))
