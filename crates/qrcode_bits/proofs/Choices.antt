@@ -2,7 +2,7 @@
 -- decides.
 use Rattle.qrcode_bits.proofs.Prelude.{◌≡◌, ℕ, zero, suc, ◌+◌, ◌^◌, ◌<◌, ◌≤◌, List, [], ◌∷◌, ◌++◌, Some, length, refl, sym, subst, ◌∙◌, arith, inl, inr, rules}
 use Rattle.qrcode_bits.proofs.Prelude.{All, Option, flat_map, cases_lt, cases_eq, All-head, All-tail, All-nil, All-cons, All-append, Version, EcLevel, L, M, Q}
-use Rattle.qrcode_bits.proofs.Prelude.{H, Mode, IsWithin, same, digits, bytes, HasMode, slice_get_past, capacity, Segment, parsed, merged, total_bits}
+use Rattle.qrcode_bits.proofs.Prelude.{H, Mode, IsWithin, HasMode, slice_get_past, capacity, Segment, parsed, merged, total_bits}
 use Rattle.qrcode_bits.proofs.Prelude.{IsChosenPlan, merged_all, IsMergePlan, Fits, FitsNot, IsLeastBits, normal, micro, FitsNone, IsChoice}
 use Rattle.qrcode_bits.proofs.Prelude.{IsLeastHolding, IsClass, common_steps}
 use Rattle.qrcode_base.proofs.Joins.{join-upper, join-upper_second}
@@ -19,9 +19,7 @@ wide_enough (suc p) h = omega arith
 
 -- a version that has a mode has those that it takes in
 has_within : {m k : Mode} (v : Version) → IsWithin m k → HasMode v k → HasMode v m
-has_within v same h = h
-has_within v digits h = grind arith
-has_within v bytes h = grind (arith, wide_enough)
+has_within v w h = grind (arith, wide_enough)
 
 module _ (v : Version) where
   abbrev Had : Segment → Type 0

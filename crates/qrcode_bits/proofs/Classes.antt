@@ -10,7 +10,7 @@ use Rattle.qrcode_bits.proofs.Prelude.{drop_all, drop-cons, segment_bits}
 use mir.Val.{to_z}
 use mir.Syntax.{w16}
 use Rattle.std.proofs.lemmas.List.{get_or_default}
-use Rattle.std.specs.Prelude.{Some, min, ◌⊎◌, option_map}
+use Rattle.std.specs.Prelude.{Some, option_map}
 use Rattle.qrcode_base.specs.Symbols.{data_bytes}
 use Rattle.qrcode_base.specs.declared.symbols.BlockLayout.{BlockLayout}
 use Rattle.qrcode_base.proofs.Fields.{capacity-held, SameClass}
@@ -166,18 +166,6 @@ module _ (header : Option Header) (message : List ℕ) (l : EcLevel) (last front
             (subst (λ (u : Version). IsChosenPlan (parsed message) u plan) is chosen) fits.has_level limit m.0 within fits.within m.2;
         stream_is = subst (λ (v : Version). IsPlanStream header message v l plan stream) m.1 s;
       }
-
--- ---- The class behind a version
-
--- the last version of the class
-abbrev pub IsClassEnd : ℕ → ℕ → Type 0
-IsClassEnd before end = ((before < 9) × (end ≡ 9)) ⊎ (((9 ≤ before) × (before < 26) × (end ≡ 26)) ⊎ ((26 ≤ before) × (end ≡ 40)))
-
-pub class_behind : (before limit end : ℕ) → before < limit → IsClassEnd before end → limit ≤ 40 →
-    IsClass before (min limit end) × (before < min limit end)
-class_behind before limit end some (inl h) most = (λ n from to. inl (omega arith, omega arith), omega arith)
-class_behind before limit end some (inr (inl h)) most = (λ n from to. inr (inl (omega arith, omega arith, omega arith, omega arith)), omega arith)
-class_behind before limit end some (inr (inr h)) most = (λ n from to. inr (inr (omega arith, omega arith)), omega arith)
 
 -- ---- Refusals
 

@@ -5,7 +5,6 @@ use Rattle.qrcode_bits.proofs.Pairs.{bytes_valid}
 use Rattle.qrcode_bits.proofs.Texts.{plan_lies}
 use Rattle.qrcode_bits.proofs.Pushes.{spellable_refused}
 use Rattle.qrcode_bits.proofs.Encodings.{part_spellable, pushed_none, pushed_more, plan_end_refused, plan_stream}
-use Rattle.qrcode_bits.proofs.bits.encode.encode_plan.Goals.{in-Some+in_ok-push_structured_append_header, in_default}
 use Rattle.qrcode_bits.proofs.bits.encode.encode_plan.Goals as goal
 
 -- how the stream begins
@@ -14,10 +13,7 @@ Begun header version bits = (bits.bits ≡ header_bits header) × (bits.version 
 
 pub loop-part-init : goal.loop-part-init
 loop-part-init c =
-    let begun : Begun c.args.header.now c.args.version c.match-header.bits = elim c.match-header.branch [
-      | in-Some+in_ok-push_structured_append_header w ↦ rw w.bits-is (grind (arith, common_steps))
-      | in_default w ↦ rw w.bits-is (grind (arith, common_steps))
-    ] in
+    let begun : Begun c.args.header.now c.args.version c.match-header.bits = grind (arith, common_steps) in
     let are = bytes_valid c.args.bytes.now (λ i. omega (arith, c.type_inv.bytes i)) in
     record {
       within = plan_lies c.args.bytes.now are c.args.plan.now c.requires.fits.planned;

@@ -1,13 +1,12 @@
 -- The first class whose last version holds the chosen plan decides.
-use Rattle.qrcode_bits.proofs.Prelude.{◌*◌, length, arith, inl, inr, header_bits, IsClass, Normal}
+use Rattle.qrcode_bits.proofs.Prelude.{◌*◌, length, arith, header_bits, IsClass, Normal}
 use mir.Val.{to_z}
 use mir.Syntax.{w16}
 use Rattle.std.proofs.lemmas.Result.{IfOk-weaker}
 use Rattle.qrcode_bits.proofs.Pairs.{bytes_valid}
 use Rattle.qrcode_bits.proofs.Reading.{front-is}
 use Rattle.qrcode_bits.proofs.Lengths.{long_message}
-use Rattle.qrcode_bits.proofs.Classes.{IsClassEnd, class_behind, class_fits_not, class_fits, class_encoding, normal_is, front_not}
-use Rattle.qrcode_bits.proofs.bits.encode.encode_up_to.Goals.{then-before-lt9, else-before-lt9+then-before-lt26, else-before-lt9+else-before-lt26}
+use Rattle.qrcode_bits.proofs.Classes.{class_fits_not, class_fits, class_encoding, normal_is, front_not}
 use Rattle.qrcode_bits.proofs.bits.encode.encode_up_to.Goals as goal
 
 pub returns-then-bytes-gt-LONGEST_DATA-clause-err : goal.returns-then-bytes-gt-LONGEST_DATA-clause-err
@@ -26,13 +25,7 @@ encode_plan-requires-clause-fits c =
 pub returns-in-Some-clause-ok : goal.returns-in-Some-clause-ok
 returns-in-Some-clause-ok c =
     let before = c.loop-before.before in
-    let which : IsClassEnd before c.if-before-lt9.class_end = elim c.if-before-lt9.branch [
-      | then-before-lt9 w ↦ inl (w.if-before-lt9.true, w.class_end-is)
-      | else-before-lt9+then-before-lt26 w ↦ inr (inl (w.if-before-lt9.false, w.if-before-lt26.true, w.class_end-is))
-      | else-before-lt9+else-before-lt26 w ↦ inr (inr (w.if-before-lt26.false, w.class_end-is))
-    ] in
-    let here = class_behind before c.args.limit c.if-before-lt9.class_end c.loop-before-test.true which c.requires.to_forty in
-    let class : IsClass before c.min-last.result = rw c.min-last.ensures here.0 in
+    let class : IsClass before c.min-last.result = grind arith in
     let plan = rw c.in-Some.is at c.in_ok-plan.ensures in
     IfOk-weaker c.encode_plan.result _ _
     (class_encoding c.args.header.now c.args.bytes.now c.args.level c.min-last.result (20 * c.from-front.result) c.in-Some.size
@@ -45,13 +38,7 @@ returns-in-Some-clause-ok c =
 pub loop-before-preserved : goal.loop-before-preserved
 loop-before-preserved c =
     let before = c.loop-before.before in
-    let which : IsClassEnd before c.if-before-lt9.class_end = elim c.if-before-lt9.branch [
-      | then-before-lt9 w ↦ inl (w.if-before-lt9.true, w.class_end-is)
-      | else-before-lt9+then-before-lt26 w ↦ inr (inl (w.if-before-lt9.false, w.if-before-lt26.true, w.class_end-is))
-      | else-before-lt9+else-before-lt26 w ↦ inr (inr (w.if-before-lt26.false, w.class_end-is))
-    ] in
-    let here = class_behind before c.args.limit c.if-before-lt9.class_end c.loop-before-test.true which c.requires.to_forty in
-    let class : IsClass before c.min-last.result = rw c.min-last.ensures here.0 in
+    let class : IsClass before c.min-last.result = grind arith in
     class_fits_not (length (header_bits c.args.header.now)) c.args.bytes.now c.args.level before c.min-last.result
     (omega (arith, c.min-last.ensures, c.requires.to_forty)) class c.loop-before.invariant
     (front_not c.args.bytes.now c.args.level c.min-last.result (20 * c.from-front.result) (length (header_bits c.args.header.now))
