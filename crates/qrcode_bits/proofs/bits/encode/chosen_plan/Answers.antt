@@ -1,5 +1,5 @@
 -- The chosen plan decides whether some plan fits.
-use Rattle.qrcode_bits.proofs.Prelude.{List, sym, subst, arith, Segment, InvalidVersion, capacity}
+use Rattle.qrcode_bits.proofs.Prelude.{List, sym, subst, arith, Segment, capacity}
 use Rattle.qrcode_bits.proofs.Prelude.{IsChosenPlan}
 use Rattle.qrcode_bits.proofs.Prelude.{cases_lt, common_steps, parsed}
 use Rattle.qrcode_bits.specs.Buckets.{IsShort}
@@ -22,8 +22,8 @@ optimize_uncounted-requires-clause-short c =
 pub returns-then-bytes-limit-clause-none : goal.returns-then-bytes-limit-clause-none
 returns-then-bytes-limit-clause-none c =
     let are = bytes_valid c.args.bytes.now (λ i. omega (arith, c.type_inv.bytes i)) in
-    let known = known_limit (capacity c.args.version c.args.level) c.in-Ok.limit (InvalidVersion c.args.version c.args.level) c.in-Ok.ensures.is in
-    dense_message c.args.front c.args.bytes.now c.args.version c.args.level c.in-Ok.limit are known c.if-bytes-limit.true
+    let known = known_limit (capacity c.args.version c.args.level) c.in-Ok.limit _ c.in-Ok.ensures.is in
+    dense_message _ _ _ _ _ are known c.if-bytes-limit.true
 
 pub loop-part-init : goal.loop-part-init
 loop-part-init c =
@@ -40,35 +40,23 @@ loop-part-init c =
 
 pub loop-part-preserved : goal.loop-part-preserved
 loop-part-preserved c =
-    grind (
-      arith,
-      cases_lt,
-      counted_more c.args.version c.deref-part-items.result.now c.loop-part.part-index c.loop-part.size c.args.front
-          c.loop-part.invariant.counted c.wide_len.result c.loop-part-test.true c.wide_len.ensures.bits,
-    )
+    grind (arith, cases_lt, counted_more _ _ c.loop-part.part-index _ _ c.loop-part.invariant.counted _ c.loop-part-test.true c.wide_len.ensures.bits)
 
 pub returns-then-indicator_number-mode_bits_count-clause-none : goal.returns-then-indicator_number-mode_bits_count-clause-none
 returns-then-indicator_number-mode_bits_count-clause-none c =
-    let known = known_limit (capacity c.args.version c.args.level) c.in-Ok.limit (InvalidVersion c.args.version c.args.level) c.in-Ok.ensures.is in
-    lacks_mode c.args.front c.args.bytes.now c.args.version c.args.level c.deref-part-items.result.now c.in-Ok.limit c.loop-part.invariant.chosen known
-    (modes_lack c.args.version c.deref-part-items.result.now c.loop-part.part-index c.loop-part-test.true
-    (lacks_number c.args.version _ c.indicator_number.result c.mode_bits_count.result c.indicator_number.ensures c.mode_bits_count.ensures.width
+    let known = known_limit (capacity c.args.version c.args.level) c.in-Ok.limit _ c.in-Ok.ensures.is in
+    lacks_mode _ _ _ _ _ _ c.loop-part.invariant.chosen known (modes_lack _ _ c.loop-part.part-index c.loop-part-test.true
+    (lacks_number _ _ c.indicator_number.result c.mode_bits_count.result c.indicator_number.ensures c.mode_bits_count.ensures.width
     (omega (arith, c.mode_bits_count.ensures)) c.if-indicator_number-mode_bits_count.true))
 
 pub returns-then-size-limit-clause-none : goal.returns-then-size-limit-clause-none
 returns-then-size-limit-clause-none c =
-    let known = known_limit (capacity c.args.version c.args.level) c.in-Ok.limit (InvalidVersion c.args.version c.args.level) c.in-Ok.ensures.is in
-    too_many c.args.front c.args.bytes.now c.args.version c.args.level c.deref-part-items.result.now c.in-Ok.limit c.loop-part.invariant.chosen known
-    (grind (arith, counted_all))
+    let known = known_limit (capacity c.args.version c.args.level) c.in-Ok.limit _ c.in-Ok.ensures.is in
+    too_many _ _ _ _ _ _ c.loop-part.invariant.chosen known (grind (arith, counted_all))
 
 pub returns-clause-fits : goal.returns-clause-fits
 returns-clause-fits c =
-    let known = known_limit (capacity c.args.version c.args.level) c.in-Ok.limit (InvalidVersion c.args.version c.args.level) c.in-Ok.ensures.is in
-    rw (← c.deref-part-items.ensures.value) (chosen_fits_here c.args.front c.args.bytes.now c.args.version c.args.level c.deref-part-items.result.now
-    c.in-Ok.limit c.loop-part.invariant.chosen known (modes_all c.args.version c.deref-part-items.result.now c.loop-part.part-index
-    (omega (arith, c.loop-part-test.false)) c.loop-part.invariant.had) (omega (
-      arith,
-      c.if-size-limit.false,
-      counted_all c.args.version
-          c.deref-part-items.result.now c.loop-part.part-index c.loop-part.size c.args.front c.loop-part.invariant.counted c.loop-part-test.false,
-    )))
+    let known = known_limit (capacity c.args.version c.args.level) c.in-Ok.limit _ c.in-Ok.ensures.is in
+    let counted = counted_all _ _ c.loop-part.part-index _ _ c.loop-part.invariant.counted c.loop-part-test.false in
+    rw (← c.deref-part-items.ensures.value) (chosen_fits_here _ _ _ _ _ _ c.loop-part.invariant.chosen known (modes_all _ _ c.loop-part.part-index
+    (omega (arith, c.loop-part-test.false)) c.loop-part.invariant.had) (omega (arith, c.if-size-limit.false, counted)))

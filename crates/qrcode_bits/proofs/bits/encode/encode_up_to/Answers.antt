@@ -1,7 +1,5 @@
 -- The first class whose last version holds the chosen plan decides.
-use Rattle.qrcode_bits.proofs.Prelude.{◌*◌, length, arith, header_bits, IsClass, Normal}
-use mir.Val.{to_z}
-use mir.Syntax.{w16}
+use Rattle.qrcode_bits.proofs.Prelude.{length, arith, header_bits, IsClass}
 use Rattle.std.proofs.lemmas.Result.{IfOk-weaker}
 use Rattle.qrcode_bits.proofs.Pairs.{bytes_valid}
 use Rattle.qrcode_bits.proofs.Reading.{front-is}
@@ -17,32 +15,25 @@ returns-then-bytes-gt-LONGEST_DATA-clause-err c =
 pub encode_plan-requires-clause-fits : goal.encode_plan-requires-clause-fits
 encode_plan-requires-clause-fits c =
     let plan = rw c.in-Some.is at c.in_ok-plan.ensures in
-    rw c.deref-in-Some.ensures.value (class_fits c.args.header.now c.args.bytes.now c.args.level c.min-last.result (20 * c.from-front.result) c.in-Some.size
-    c.in-Some.plan.items (Normal (to_z w16 c.min-last.result)) c.find_min_version-smallest.result
-    (front-is c.args.header.now c.is_some.result c.from-front.result c.is_some.ensures c.from-front.ensures)
+    rw c.deref-in-Some.ensures.value (class_fits _ _ _ c.min-last.result _ _ _ _ _
+    (front-is _ c.is_some.result c.from-front.result c.is_some.ensures c.from-front.ensures)
     (normal_is c.min-last.result (omega (arith, c.min-last.ensures))) plan.chosen plan.fits plan.bits c.find_min_version-smallest.ensures)
 
 pub returns-in-Some-clause-ok : goal.returns-in-Some-clause-ok
 returns-in-Some-clause-ok c =
-    let before = c.loop-before.before in
-    let class : IsClass before c.min-last.result = grind arith in
+    let class : IsClass c.loop-before.before c.min-last.result = grind arith in
     let plan = rw c.in-Some.is at c.in_ok-plan.ensures in
-    IfOk-weaker c.encode_plan.result _ _
-    (class_encoding c.args.header.now c.args.bytes.now c.args.level c.min-last.result (20 * c.from-front.result) c.in-Some.size
-    c.in-Some.plan.items (Normal (to_z w16 c.min-last.result)) c.find_min_version-smallest.result
-    (front-is c.args.header.now c.is_some.result c.from-front.result c.is_some.ensures c.from-front.ensures)
+    IfOk-weaker c.encode_plan.result _ _ (class_encoding _ _ _ c.min-last.result _ _ _ _ _
+    (front-is _ c.is_some.result c.from-front.result c.is_some.ensures c.from-front.ensures)
     (normal_is c.min-last.result (omega (arith, c.min-last.ensures))) plan.chosen plan.fits plan.bits c.find_min_version-smallest.ensures
-    before c.args.limit class (omega (arith, c.min-last.ensures)) c.loop-before.invariant)
+    c.loop-before.before c.args.limit class (omega (arith, c.min-last.ensures)) c.loop-before.invariant)
     (rw c.deref-in-Some.ensures.value at c.encode_plan.ensures.ok)
 
 pub loop-before-preserved : goal.loop-before-preserved
 loop-before-preserved c =
-    let before = c.loop-before.before in
-    let class : IsClass before c.min-last.result = grind arith in
-    class_fits_not (length (header_bits c.args.header.now)) c.args.bytes.now c.args.level before c.min-last.result
-    (omega (arith, c.min-last.ensures, c.requires.to_forty)) class c.loop-before.invariant
-    (front_not c.args.bytes.now c.args.level c.min-last.result (20 * c.from-front.result) (length (header_bits c.args.header.now))
-    (Normal (to_z w16 c.min-last.result)) (front-is c.args.header.now c.is_some.result c.from-front.result c.is_some.ensures c.from-front.ensures)
+    let class : IsClass c.loop-before.before c.min-last.result = grind arith in
+    class_fits_not _ _ _ c.loop-before.before c.min-last.result (omega (arith, c.min-last.ensures, c.requires.to_forty)) class c.loop-before.invariant
+    (front_not _ _ c.min-last.result _ _ _ (front-is _ c.is_some.result c.from-front.result c.is_some.ensures c.from-front.ensures)
     (normal_is c.min-last.result (omega (arith, c.min-last.ensures))) (rw c.in_default.is at c.in_ok-plan.ensures.none))
 
 pub returns-clause-err : goal.returns-clause-err
