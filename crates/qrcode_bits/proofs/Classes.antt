@@ -1,24 +1,18 @@
 -- A chosen plan decides for its version, and that of the last version of a class for the class.
 use Rattle.qrcode_bits.proofs.Prelude.{◌≡◌, ℕ, zero, suc, ℤ, false, pos, ◌+◌, ◌-◌, ◌*◌, ◌^◌, ◌<◌, ◌≤◌, List, [], ◌∷◌, length, ap, subst, arith, inl, inr}
 use Rattle.qrcode_bits.proofs.Prelude.{Result, Ok, Err, All, Option, nat_abs, MatchOption, cases_lt, Version, EcLevel, Mode, QrError, DataTooLong, OutOfMemory}
-use Rattle.qrcode_bits.proofs.Prelude.{normal_blocks, capacity, HasMode, indicator, indicator_width, count_width, ◌%◌, one_shl}
-use Rattle.qrcode_bits.proofs.Prelude.{AreTexts, HasLinearCosts, IsChosenPlan, total_bits, IsMergePlan, Fits, FitsNot, FitsNone, normal, IsLeastHolding}
-use Rattle.qrcode_bits.proofs.Prelude.{IsMinVersion, IsClass, Header, header_bits, Stream, IsPlanStream, IsEncoding, IsUnencodable, IsEncodingRefused}
-use Rattle.qrcode_bits.proofs.Prelude.{HasHeader, IsPartRefused, IsNormalNumber, LiesIn, common_steps}
-use Rattle.qrcode_bits.proofs.Prelude.{slice_get-get_or, Segment, parsed, Numeric, Normal, Micro, micro, segment_at, ints, rules, drop}
-use Rattle.qrcode_bits.proofs.Prelude.{drop_all, drop-cons, segment_bits}
+use Rattle.qrcode_bits.proofs.Prelude.{normal_blocks, capacity, HasMode, indicator, indicator_width, count_width, ◌%◌, one_shl, AreTexts, HasLinearCosts}
+use Rattle.qrcode_bits.proofs.Prelude.{IsChosenPlan, total_bits, IsMergePlan, Fits, FitsNot, FitsNone, normal, IsLeastHolding, IsMinVersion, IsClass, Header}
+use Rattle.qrcode_bits.proofs.Prelude.{header_bits, Stream, IsPlanStream, IsEncoding, IsUnencodable, IsEncodingRefused, HasHeader, IsPartRefused}
+use Rattle.qrcode_bits.proofs.Prelude.{IsNormalNumber, LiesIn, common_steps, slice_get-get_or, Segment, parsed, Numeric, Normal, Micro, micro, segment_at, ints}
+use Rattle.qrcode_bits.proofs.Prelude.{rules, drop, drop_all, drop-cons, segment_bits}
 use mir.Val.{to_z}
 use mir.Syntax.{w16}
-use Rattle.std.proofs.lemmas.List.{get_or_default}
-use Rattle.std.specs.Prelude.{Some, option_map}
-use Rattle.qrcode_base.specs.Symbols.{data_bytes}
-use Rattle.qrcode_base.specs.declared.symbols.BlockLayout.{BlockLayout}
-use Rattle.qrcode_base.proofs.Fields.{capacity-held, SameClass}
+use Rattle.std.{proofs.lemmas.List.get_or_default, specs.Prelude.Some, specs.Prelude.option_map}
+use Rattle.qrcode_base.{specs.Symbols.data_bytes, specs.declared.symbols.BlockLayout.BlockLayout, proofs.Fields.capacity-held, proofs.Fields.SameClass}
 use lib.Signed.{lt_z}
-use Rattle.qrcode_bits.proofs.Adjoining.{parsed-linear}
-use Rattle.qrcode_bits.proofs.Growth.{total_bits-rise, total_bits-same}
-use Rattle.qrcode_bits.proofs.Upward.{All-map}
-use Rattle.qrcode_bits.proofs.Texts.{texts-reach, texts-plan, plan_lies}
+use Rattle.qrcode_bits.proofs.{Adjoining.parsed-linear, Growth.total_bits-rise, Growth.total_bits-same, Upward.All-map, Texts.texts-reach, Texts.texts-plan}
+use Rattle.qrcode_bits.proofs.{Texts.plan_lies}
 use Rattle.qrcode_bits.proofs.Choices.{chosen_is_plan, chosen_decides, fits_normal, capacity-grows, class_choice}
 
 -- ---- Costs are small

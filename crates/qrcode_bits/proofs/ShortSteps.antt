@@ -5,14 +5,11 @@ use Rattle.qrcode_bits.proofs.Prelude.{data_bits, characters, Segment, Step, Can
 use Rattle.qrcode_bits.proofs.Prelude.{part_bits, HasLinearCosts, IsStep, chosen_plan, bucket_mode, bucket_rest, part_mode, bits_before, parts_before, InBucket}
 use Rattle.qrcode_bits.proofs.Prelude.{IsBestStart, slot, AreGroups, group_of, period, period_bits, start_told, bucket_start, step_told, short_at}
 use Rattle.qrcode_bits.proofs.Prelude.{AreShortSteps}
-use Rattle.qrcode_bits.specs.declared.optimize.short.Headers.{Headers}
-use Rattle.qrcode_bits.specs.declared.optimize.short.ShortStep.{ShortStep}
-use Rattle.qrcode_bits.specs.Buckets.{IsShort, AreHeaders, header_in}
+use Rattle.qrcode_bits.specs.{declared.optimize.short.Headers.Headers, declared.optimize.short.ShortStep.ShortStep, Buckets.IsShort, Buckets.AreHeaders}
+use Rattle.qrcode_bits.specs.{Buckets.header_in}
 use Rattle.qrcode_bits.proofs.Ending.{data_bits-linear, bucket_of, bucket_of-is, group-right, IsTried, Tried-leads, Tried-keeps, Tried-takes, Tried-all}
 use Rattle.qrcode_bits.proofs.Ending.{cost-is}
-use Rattle.qrcode_bits.proofs.Grouping.{has-own}
-use Rattle.qrcode_bits.proofs.Optimal.{IsGoodStart}
-use Rattle.qrcode_bits.proofs.WordStarts.{word-ahead, some_start, no_start, more_in}
+use Rattle.qrcode_bits.proofs.{Grouping.has-own, Optimal.IsGoodStart, WordStarts.word-ahead, WordStarts.some_start, WordStarts.no_start, WordStarts.more_in}
 
 pub cost-small : (version : Version) (headers : Headers) (mode : Mode) (size cost : ℕ) → AreHeaders version headers → size < 8192 →
     cost ≡ header_in headers mode + data_bits mode (characters mode size) → cost < 2 ^ 18

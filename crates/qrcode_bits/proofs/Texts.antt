@@ -3,12 +3,9 @@ use Rattle.qrcode_bits.proofs.Prelude.{◌≡◌, ℕ, ◌+◌, ◌-◌, ◌<◌
 use Rattle.qrcode_bits.proofs.Prelude.{arith, All, slice_range, flat_map, drop-drop, take-add, take-length, All-head, All-nil, All-drop, Kanji, join}
 use Rattle.qrcode_bits.proofs.Prelude.{is_kanji_pair, IsKanjiText, IsValid, Segment, Class, Pair, Run, class_of, class_mode, class_size, joins, add_unit, runs}
 use Rattle.qrcode_bits.proofs.Prelude.{units, run_segment, parsed, AreTexts, merged, merged_all, IsMergePlan, segment_pieces, LiesIn, message, common_steps}
-use Rattle.qrcode_base.proofs.Joins.{join-upper, join-upper_second}
-use Rattle.qrcode_base.proofs.Alphabet.{is_alphanumeric-inside}
-use Rattle.qrcode_bits.proofs.CuttingPlans.{AreNonEmpty, joined, first-some, rest-some}
-use Rattle.qrcode_bits.proofs.Runs.{class_size-some, joins-same}
-use Rattle.qrcode_bits.proofs.Adjoining.{class_of-one}
-use Rattle.qrcode_bits.proofs.Upward.{valid-append, valid-upward}
+use Rattle.qrcode_base.{proofs.Joins.join-upper, proofs.Joins.join-upper_second, proofs.Alphabet.is_alphanumeric-inside}
+use Rattle.qrcode_bits.proofs.{CuttingPlans.AreNonEmpty, CuttingPlans.joined, CuttingPlans.first-some, CuttingPlans.rest-some, Runs.class_size-some}
+use Rattle.qrcode_bits.proofs.{Runs.joins-same, Adjoining.class_of-one, Upward.valid-append, Upward.valid-upward}
 
 -- ---- Slices
 

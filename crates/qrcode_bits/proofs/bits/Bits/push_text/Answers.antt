@@ -1,7 +1,5 @@
 -- Only the room for header and characters was too small.
-use Rattle.qrcode_bits.proofs.Prelude.{arith, cases_lt, err_from_is_err_and}
-use Rattle.qrcode_bits.proofs.Segments.{refused}
-use Rattle.qrcode_bits.proofs.Streams.{not_both}
+use Rattle.qrcode_bits.proofs.{Prelude.arith, Prelude.cases_lt, Prelude.err_from_is_err_and, Segments.refused, Streams.not_both}
 use Rattle.qrcode_bits.proofs.bits.Bits.push_text.Goals.{in-Kanji, in_default}
 use Rattle.qrcode_bits.proofs.bits.Bits.push_text.Goals as goal
 

@@ -1,15 +1,9 @@
 -- The chosen plan decides whether some plan fits.
-use Rattle.qrcode_bits.proofs.Prelude.{List, sym, subst, arith, Segment, capacity}
-use Rattle.qrcode_bits.proofs.Prelude.{IsChosenPlan}
-use Rattle.qrcode_bits.proofs.Prelude.{cases_lt, common_steps, parsed}
+use Rattle.qrcode_bits.proofs.Prelude.{List, sym, subst, arith, Segment, capacity, IsChosenPlan, cases_lt, common_steps, parsed}
 use Rattle.qrcode_bits.specs.Buckets.{IsShort}
-use Rattle.qrcode_bits.proofs.Adjoining.{parsed-short}
-use Rattle.qrcode_bits.proofs.Pairs.{bytes_valid}
-use Rattle.qrcode_bits.proofs.Choices.{chosen_is_plan}
-use Rattle.qrcode_bits.proofs.Lengths.{dense_message}
-use Rattle.qrcode_bits.proofs.ReadBack.{short-chosen}
-use Rattle.qrcode_bits.proofs.Classes.{known_limit, short-linear, plan_ordered, plan_small, counted_all, counted_more}
-use Rattle.qrcode_bits.proofs.Classes.{chosen_fits_here, lacks_mode, lacks_number, too_many, modes_all, modes_lack}
+use Rattle.qrcode_bits.proofs.{Adjoining.parsed-short, Pairs.bytes_valid, Choices.chosen_is_plan, Lengths.dense_message, ReadBack.short-chosen}
+use Rattle.qrcode_bits.proofs.Classes.{known_limit, short-linear, plan_ordered, plan_small, counted_all, counted_more, chosen_fits_here, lacks_mode}
+use Rattle.qrcode_bits.proofs.Classes.{lacks_number, too_many, modes_all, modes_lack}
 use Rattle.qrcode_bits.proofs.bits.encode.chosen_plan.Goals as goal
 
 pub optimize_uncounted-requires-clause-linear : goal.optimize_uncounted-requires-clause-linear

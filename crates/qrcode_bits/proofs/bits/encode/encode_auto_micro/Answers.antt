@@ -1,9 +1,6 @@
 -- The first Micro version whose chosen plan fits is the choice.
 use Rattle.qrcode_bits.proofs.Prelude.{◌≡◌, ◌+◌, subst, arith, true, false, Version, FitsNot}
-use Rattle.qrcode_bits.proofs.Classes.{micro_is}
-use Rattle.qrcode_bits.proofs.Pairs.{bytes_valid}
-use Rattle.qrcode_bits.proofs.Choices.{micro_next, micro_choice}
-use Rattle.qrcode_bits.proofs.Lengths.{long_for_micro}
+use Rattle.qrcode_bits.proofs.{Classes.micro_is, Pairs.bytes_valid, Choices.micro_next, Choices.micro_choice, Lengths.long_for_micro}
 use Rattle.qrcode_bits.proofs.bits.encode.encode_auto_micro.Goals as goal
 
 pub returns-then-bytes-gt-LONGEST_DATA-clause-err : goal.returns-then-bytes-gt-LONGEST_DATA-clause-err

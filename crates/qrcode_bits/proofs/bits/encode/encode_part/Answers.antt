@@ -2,8 +2,7 @@
 use Rattle.qrcode_bits.proofs.Prelude.{◌≡◌, ℤ, ap, arith, nat_abs, ints, to_z-of_z, IfErr-weaker, header_of}
 use mir.Val.{to_z, of_z}
 use mir.Syntax.{w16}
-use Rattle.qrcode_bits.proofs.Classes.{refused_part, limit_of}
-use Rattle.qrcode_bits.proofs.Reading.{length-header}
+use Rattle.qrcode_bits.proofs.{Classes.refused_part, Classes.limit_of, Reading.length-header}
 use Rattle.qrcode_bits.proofs.bits.encode.encode_part.Goals as goal
 
 pub returns-clause-err : goal.returns-clause-err

@@ -1,9 +1,6 @@
 -- The parts of a plan that fits are spelled and ended; only memory can be wanting.
-use Rattle.qrcode_bits.proofs.Prelude.{rules}
-use Rattle.qrcode_bits.proofs.Prelude.{arith, err_from_is_err_and, common_steps}
-use Rattle.qrcode_bits.proofs.Pairs.{bytes_valid}
-use Rattle.qrcode_bits.proofs.Texts.{plan_lies}
-use Rattle.qrcode_bits.proofs.Pushes.{spellable_refused}
+use Rattle.qrcode_bits.proofs.Prelude.{rules, arith, err_from_is_err_and, common_steps}
+use Rattle.qrcode_bits.proofs.{Pairs.bytes_valid, Texts.plan_lies, Pushes.spellable_refused}
 use Rattle.qrcode_bits.proofs.Encodings.{part_spellable, pushed_none, pushed_more, plan_end_refused, plan_stream}
 use Rattle.qrcode_bits.proofs.bits.encode.encode_plan.Goals as goal
 

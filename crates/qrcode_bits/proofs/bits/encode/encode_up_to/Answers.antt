@@ -1,9 +1,6 @@
 -- The first class whose last version holds the chosen plan decides.
-use Rattle.qrcode_bits.proofs.Prelude.{length, arith, header_bits, IsClass}
+use Rattle.qrcode_bits.proofs.{Prelude.length, Prelude.arith, Prelude.header_bits, Prelude.IsClass, Pairs.bytes_valid, Reading.front-is, Lengths.long_message}
 use Rattle.std.proofs.lemmas.Result.{IfOk-weaker}
-use Rattle.qrcode_bits.proofs.Pairs.{bytes_valid}
-use Rattle.qrcode_bits.proofs.Reading.{front-is}
-use Rattle.qrcode_bits.proofs.Lengths.{long_message}
 use Rattle.qrcode_bits.proofs.Classes.{class_fits_not, class_fits, class_encoding, normal_is, front_not}
 use Rattle.qrcode_bits.proofs.bits.encode.encode_up_to.Goals as goal
 
