@@ -61,19 +61,12 @@ module _ (whole : List ℕ) where
             AreTexts whole b (map run_segment (runs b (elim t [ true ↦ Pair ∷ units rest | false ↦ class_of a ∷ units (c ∷ rest) ])))
             (b + length (a ∷ c ∷ rest))
         go true k r q =
-            let size : b + 2 + length rest ≡ b + length (a ∷ c ∷ rest) = omega arith in
             let valid : IsValid Kanji (slice_range whole b (b + 2)) = subst (λ (z : List ℕ). IsKanjiText z)
             (sym (slice-front whole (a ∷ c ∷ rest) b 2 d)) (k, tt) in
-            subst (AreTexts whole b (map run_segment (runs b (Pair ∷ units rest)))) size
-            (texts-add Pair b (b + 2 + length rest) (runs (b + 2) (units rest)) valid r)
+            grind (arith, texts-add Pair b (b + 2 + length rest) (runs (b + 2) (units rest)) valid r)
         go false k r q =
-            let size : b + 1 + length (c ∷ rest) ≡ b + length (a ∷ c ∷ rest) = omega arith in
-            let one : 1 ≡ class_size (class_of a) = sym (class_of-one a) in
-            let later : AreTexts whole (b + class_size (class_of a)) (map run_segment (runs (b + class_size (class_of a)) (units (c ∷ rest))))
-            (b + 1 + length (c ∷ rest)) =
-            subst (λ (n : ℕ). AreTexts whole (b + n) (map run_segment (runs (b + n) (units (c ∷ rest)))) (b + 1 + length (c ∷ rest))) one q in
-            subst (AreTexts whole b (map run_segment (runs b (class_of a ∷ units (c ∷ rest))))) size
-            (texts-add (class_of a) b (b + 1 + length (c ∷ rest)) (runs (b + class_size (class_of a)) (units (c ∷ rest))) (single are b a (c ∷ rest) d) later)
+            let one : class_size (class_of a) ≡ 1 = class_of-one a in
+            grind (arith, texts-add (class_of a) b (b + 1 + length (c ∷ rest)) (runs (b + 1) (units (c ∷ rest))), single are b a (c ∷ rest) d)
 
   pub texts-parsed : All (λ c. c < 256) whole → AreTexts whole 0 (parsed whole) (length whole)
   texts-parsed are = let e : 0 + length whole ≡ length whole = omega arith in subst (AreTexts whole 0 (parsed whole)) e (texts-runs are 0 whole refl)
