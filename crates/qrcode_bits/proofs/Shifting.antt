@@ -44,10 +44,9 @@ pub replaced : (bytes text whole filled : List ℕ) (start : ℕ) → whole ≡ 
     take start whole ++ (filled ++ post_of start (length whole - start) whole) ≡ bytes ++ filled
 replaced bytes text whole filled start is from = grind (arith, take-append_seam, drop_all, length-drop, append-nil)
 
-pub appends_shifted : (old : Stream) (bytes now text filled : List ℕ) (len len' cap cap' used partial before left : ℕ) → old.bits ≡ kept_bits bytes used partial →
-    old.room ≡ room_in cap len used →
-    now ≡ bytes ++ filled → len' ≡ len + length text → cap ≤ cap' → used < 8 → byte_bits filled ++ number_bits used before ≡ number_bits used partial ++ byte_bits text →
-    left ≡ before % 2 ^ used →
+pub appends_shifted : (old : Stream) (bytes now text filled : List ℕ) (len len' cap cap' used partial before left : ℕ) →
+    old.bits ≡ kept_bits bytes used partial → old.room ≡ room_in cap len used → now ≡ bytes ++ filled → len' ≡ len + length text → cap ≤ cap' → used < 8 →
+    byte_bits filled ++ number_bits used before ≡ number_bits used partial ++ byte_bits text → left ≡ before % 2 ^ used →
     Appends old (record {
       bits = kept_bits now used left;
       version = old.version;

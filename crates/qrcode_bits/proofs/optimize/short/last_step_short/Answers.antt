@@ -12,8 +12,8 @@ pub overflow_sub-candidate : goal.overflow_sub-candidate
 overflow_sub-candidate g c =
     let j = c.loop-bucket.bucket in
     let inside = c.loop-bucket-test.true in
-    let enough = short-enough c.args.segments.now c.args.version c.args.end c.requires.within c.requires.linear j c.best-found.result inside _ c.requires.words _
-    c.bucket_mode-mode.ensures c.best-found.ensures c.if-found.true _ c.requires.headers _ c.cost-cost.result (rest-at j inside) c.cost-cost.ensures.cost _
+    let enough = short-enough c.args.segments.now c.args.version c.args.end c.requires.within c.requires.linear j c.best-found.result inside _ c.requires.words
+    _ c.bucket_mode-mode.ensures c.best-found.ensures c.if-found.true _ c.requires.headers _ c.cost-cost.result (rest-at j inside) c.cost-cost.ensures.cost _
     (ap (λ (n : ℕ). 8192 * n) (period_bits-at j inside ∙ sym (ap period_bits c.bucket_mode-mode.ensures))) in
     omega arith
 
