@@ -44,32 +44,15 @@ module _ (v : Version) where
   pieces-had [] some h = h
   pieces-had ([] ∷ ps) some h = absurd (omega (arith, first-some [] ps some))
   pieces-had ((s ∷ ss) ∷ ps) some h =
-      search (
-        arith,
-        rules,
-        All-append,
-        All-cons,
-        All-nil,
-        had-back,
-        had-front,
-        merged-had,
-        rest-some,
-        pieces-had ps (rest-some (s ∷ ss) ps some) (had-back (s ∷ ss) (joined ps) h),
-      )
+      let back = pieces-had ps (rest-some (s ∷ ss) ps some) (had-back (s ∷ ss) (joined ps) h) in
+      search (arith, rules, All-append, All-cons, had-front, merged-had)
 
   pub had-pieces : (pieces : List (List Segment)) → AreNonEmpty pieces → All Had (flat_map merged_all pieces) → All Had (joined pieces)
   had-pieces [] some h = h
   had-pieces ([] ∷ ps) some h = absurd (omega (arith, first-some [] ps some))
   had-pieces ((s ∷ ss) ∷ ps) some h =
-      search (
-        arith,
-        rules,
-        All-append,
-        had-merged,
-        All-head,
-        All-tail,
-        had-pieces ps (rest-some (s ∷ ss) ps some) (All-tail Had (merged s ss) (flat_map merged_all ps) h),
-      )
+      let back = had-pieces ps (rest-some (s ∷ ss) ps some) (All-tail Had (merged s ss) (flat_map merged_all ps) h) in
+      search (arith, rules, All-append, had-merged, All-head)
 
   -- All plans of some segments have their modes in a version, or none has.
   plans-had : (segments plan other : List Segment) → IsMergePlan segments plan → IsMergePlan segments other → All Had other → All Had plan
