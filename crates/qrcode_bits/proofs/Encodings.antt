@@ -21,7 +21,8 @@ module _ (header : Option Header) (bytes : List ℕ) (v : Version) (plan : List 
   pub pushed_more : (next : Stream) → i < length plan → Spells now next (segment_piece bytes (segment_at plan i)) →
       IsPushedTo header bytes v plan (i + 1) next
   pushed_more next within w =
-      let left = All-tail (IsSpellable v) _ (segment_pieces bytes (drop (i + 1) plan)) (subst (All (IsSpellable v)) (pieces_at bytes plan i within) h.spellable) in
+      let left = All-tail (IsSpellable v) _ (segment_pieces bytes (drop (i + 1) plan))
+      (subst (All (IsSpellable v)) (pieces_at bytes plan i within) h.spellable) in
       grind (arith, append_assoc, pieces_at bytes plan i within)
 
 -- ---- The stream of a plan, behind a header or none
