@@ -28,8 +28,12 @@ long_message front message l limit last are long n k plan w =
     let bare = texts-dense message (normal n) 0 (length message) plan texts (omega arith) in
     elim (cases_lt n 27) [
       | inl early ↦ grind (arith, capacity-middle l n w.limit (omega arith) w.has_level)
-      | inr late ↦ grind (arith, capacity-most l n w.limit (omega arith) w.has_level, texts-headed message (normal n) 16 0 (length message) plan
-          (long_header n late) (omega arith) texts (omega arith))
+      | inr late ↦ grind (
+        arith,
+        capacity-most l n w.limit (omega arith) w.has_level,
+        texts-headed message (normal n) 16 0 (length message) plan
+            (long_header n late) (omega arith) texts (omega arith),
+      )
     ]
 
 -- No plan of more bytes than three for ten bits of the capacity fits a version.
