@@ -2,9 +2,8 @@
 -- decides.
 use Rattle.qrcode_bits.proofs.Prelude.{◌≡◌, ℕ, zero, suc, ◌+◌, ◌^◌, ◌<◌, ◌≤◌, List, [], ◌∷◌, ◌++◌, Some, length, refl, sym, subst, ◌∙◌, arith, inl, inr, rules}
 use Rattle.qrcode_bits.proofs.Prelude.{All, Option, flat_map, cases_lt, cases_eq, All-head, All-tail, All-nil, All-cons, All-append, Version, EcLevel, L, M, Q}
-use Rattle.qrcode_bits.proofs.Prelude.{H, Mode, IsWithin, same, digits, bytes, HasMode, slice_get_past, capacity, Segment, parsed, merged, total_bits}
-use Rattle.qrcode_bits.proofs.Prelude.{IsChosenPlan, merged_all, IsMergePlan, Fits, FitsNot, IsLeastBits, normal, micro, FitsNone, IsChoice}
-use Rattle.qrcode_bits.proofs.Prelude.{IsLeastHolding, IsClass, common_steps}
+use Rattle.qrcode_bits.proofs.Prelude.{H, Mode, IsWithin, HasMode, slice_get_past, capacity, Segment, parsed, merged, total_bits, IsChosenPlan, merged_all}
+use Rattle.qrcode_bits.proofs.Prelude.{IsMergePlan, Fits, FitsNot, IsLeastBits, normal, micro, FitsNone, IsChoice, IsLeastHolding, IsClass, common_steps}
 use Rattle.qrcode_base.proofs.Joins.{join-upper, join-upper_second}
 use Rattle.qrcode_base.proofs.Fields.{SameClass, capacity-rises, capacity-held, capacity-double}
 use Rattle.qrcode_bits.proofs.Growth.{total_bits-rise, total_bits-same, total_bits-double, chosen-same}
@@ -19,9 +18,7 @@ wide_enough (suc p) h = omega arith
 
 -- a version that has a mode has those that it takes in
 has_within : {m k : Mode} (v : Version) → IsWithin m k → HasMode v k → HasMode v m
-has_within v same h = h
-has_within v digits h = grind arith
-has_within v bytes h = grind (arith, wide_enough)
+has_within v w h = grind (arith, wide_enough)
 
 module _ (v : Version) where
   abbrev Had : Segment → Type 0
@@ -47,32 +44,15 @@ module _ (v : Version) where
   pieces-had [] some h = h
   pieces-had ([] ∷ ps) some h = absurd (omega (arith, first-some [] ps some))
   pieces-had ((s ∷ ss) ∷ ps) some h =
-      search (
-        arith,
-        rules,
-        All-append,
-        All-cons,
-        All-nil,
-        had-back,
-        had-front,
-        merged-had,
-        rest-some,
-        pieces-had ps (rest-some (s ∷ ss) ps some) (had-back (s ∷ ss) (joined ps) h),
-      )
+      let back = pieces-had ps (rest-some (s ∷ ss) ps some) (had-back (s ∷ ss) (joined ps) h) in
+      search (arith, rules, All-append, All-cons, had-front, merged-had)
 
   pub had-pieces : (pieces : List (List Segment)) → AreNonEmpty pieces → All Had (flat_map merged_all pieces) → All Had (joined pieces)
   had-pieces [] some h = h
   had-pieces ([] ∷ ps) some h = absurd (omega (arith, first-some [] ps some))
   had-pieces ((s ∷ ss) ∷ ps) some h =
-      search (
-        arith,
-        rules,
-        All-append,
-        had-merged,
-        All-head,
-        All-tail,
-        had-pieces ps (rest-some (s ∷ ss) ps some) (All-tail Had (merged s ss) (flat_map merged_all ps) h),
-      )
+      let back = had-pieces ps (rest-some (s ∷ ss) ps some) (All-tail Had (merged s ss) (flat_map merged_all ps) h) in
+      search (arith, rules, All-append, had-merged, All-head)
 
   -- All plans of some segments have their modes in a version, or none has.
   plans-had : (segments plan other : List Segment) → IsMergePlan segments plan → IsMergePlan segments other → All Had other → All Had plan

@@ -1,24 +1,18 @@
 -- A chosen plan decides for its version, and that of the last version of a class for the class.
 use Rattle.qrcode_bits.proofs.Prelude.{◌≡◌, ℕ, zero, suc, ℤ, false, pos, ◌+◌, ◌-◌, ◌*◌, ◌^◌, ◌<◌, ◌≤◌, List, [], ◌∷◌, length, ap, subst, arith, inl, inr}
 use Rattle.qrcode_bits.proofs.Prelude.{Result, Ok, Err, All, Option, nat_abs, MatchOption, cases_lt, Version, EcLevel, Mode, QrError, DataTooLong, OutOfMemory}
-use Rattle.qrcode_bits.proofs.Prelude.{normal_blocks, capacity, HasMode, indicator, indicator_width, count_width, ◌%◌, one_shl}
-use Rattle.qrcode_bits.proofs.Prelude.{AreTexts, HasLinearCosts, IsChosenPlan, total_bits, IsMergePlan, Fits, FitsNot, FitsNone, normal, IsLeastHolding}
-use Rattle.qrcode_bits.proofs.Prelude.{IsMinVersion, IsClass, Header, header_bits, Stream, IsPlanStream, IsEncoding, IsUnencodable, IsEncodingRefused}
-use Rattle.qrcode_bits.proofs.Prelude.{HasHeader, IsPartRefused, IsNormalNumber, LiesIn, common_steps}
-use Rattle.qrcode_bits.proofs.Prelude.{slice_get-get_or, Segment, parsed, Numeric, Normal, Micro, micro, segment_at, ints, rules, drop}
-use Rattle.qrcode_bits.proofs.Prelude.{drop_all, drop-cons, segment_bits}
+use Rattle.qrcode_bits.proofs.Prelude.{normal_blocks, capacity, HasMode, indicator, indicator_width, count_width, ◌%◌, one_shl, AreTexts, HasLinearCosts}
+use Rattle.qrcode_bits.proofs.Prelude.{IsChosenPlan, total_bits, IsMergePlan, Fits, FitsNot, FitsNone, normal, IsLeastHolding, IsMinVersion, IsClass, Header}
+use Rattle.qrcode_bits.proofs.Prelude.{header_bits, Stream, IsPlanStream, IsEncoding, IsUnencodable, IsEncodingRefused, HasHeader, IsPartRefused}
+use Rattle.qrcode_bits.proofs.Prelude.{IsNormalNumber, LiesIn, common_steps, slice_get-get_or, Segment, parsed, Numeric, Normal, Micro, micro, segment_at, ints}
+use Rattle.qrcode_bits.proofs.Prelude.{rules, drop, drop_all, drop-cons, segment_bits}
 use mir.Val.{to_z}
 use mir.Syntax.{w16}
-use Rattle.std.proofs.lemmas.List.{get_or_default}
-use Rattle.std.specs.Prelude.{Some, min, ◌⊎◌, option_map}
-use Rattle.qrcode_base.specs.Symbols.{data_bytes}
-use Rattle.qrcode_base.specs.declared.symbols.BlockLayout.{BlockLayout}
-use Rattle.qrcode_base.proofs.Fields.{capacity-held, SameClass}
+use Rattle.std.{proofs.lemmas.List.get_or_default, specs.Prelude.Some, specs.Prelude.option_map}
+use Rattle.qrcode_base.{specs.Symbols.data_bytes, specs.declared.symbols.BlockLayout.BlockLayout, proofs.Fields.capacity-held, proofs.Fields.SameClass}
 use lib.Signed.{lt_z}
-use Rattle.qrcode_bits.proofs.Adjoining.{parsed-linear}
-use Rattle.qrcode_bits.proofs.Growth.{total_bits-rise, total_bits-same}
-use Rattle.qrcode_bits.proofs.Upward.{All-map}
-use Rattle.qrcode_bits.proofs.Texts.{texts-reach, texts-plan, plan_lies}
+use Rattle.qrcode_bits.proofs.{Adjoining.parsed-linear, Growth.total_bits-rise, Growth.total_bits-same, Upward.All-map, Texts.texts-reach, Texts.texts-plan}
+use Rattle.qrcode_bits.proofs.{Texts.plan_lies}
 use Rattle.qrcode_bits.proofs.Choices.{chosen_is_plan, chosen_decides, fits_normal, capacity-grows, class_choice}
 
 -- ---- Costs are small
@@ -83,19 +77,19 @@ module _ (front : ℕ) (message : List ℕ) (v : Version) (l : EcLevel) (plan : 
       let within = fits.within in omega arith)
 
 -- a mode whose number is too great
-pub lacks_number : (v : Version) (m : Mode) (n w : ℕ) → n ≡ indicator v m → w ≡ indicator_width v → w < 16 → 1 * 2 ^ w % 2 ^ 16 ≤ n →
+pub lacks_number : (v : Version) (m : Mode) (n w : ℕ) → n ≡ indicator v m → w ≡ indicator_width v → w < 64 → 1 * 2 ^ w % 2 ^ 64 ≤ n →
     HasMode v m → ⊥
-lacks_number v m n w is width narrow great has = grind (arith, one_shl w 16 narrow)
+lacks_number v m n w is width narrow great has = grind (arith, one_shl w 64 narrow)
 
 -- the version has the modes of all parts, where it has those of each
-pub modes_all : (v : Version) (plan items : List Segment) (n : ℕ) → items ≡ plan → length items ≤ n →
-    ((k : ℕ) → k < n → HasMode v (segment_at items k).mode) → All (λ part. HasMode v part.mode) plan
-modes_all v plan items n same long each = grind (arith, get_or_default)
+pub modes_all : (v : Version) (items : List Segment) (n : ℕ) → length items ≤ n → ((k : ℕ) → k < n → HasMode v (segment_at items k).mode) →
+    All (λ part. HasMode v part.mode) items
+modes_all v items n long each = grind (arith, get_or_default)
 
 -- or lacks that of one
-pub modes_lack : (v : Version) (plan items : List Segment) (i : ℕ) → items ≡ plan → i < length items →
-    (HasMode v (segment_at items i).mode → ⊥) → All (λ part. HasMode v part.mode) plan → ⊥
-modes_lack v plan items i same inside lacks has = grind (arith)
+pub modes_lack : (v : Version) (items : List Segment) (i : ℕ) → i < length items → (HasMode v (segment_at items i).mode → ⊥) →
+    All (λ part. HasMode v part.mode) items → ⊥
+modes_lack v items i inside lacks has = grind arith
 
 -- ---- A class of versions
 
@@ -166,18 +160,6 @@ module _ (header : Option Header) (message : List ℕ) (l : EcLevel) (last front
             (subst (λ (u : Version). IsChosenPlan (parsed message) u plan) is chosen) fits.has_level limit m.0 within fits.within m.2;
         stream_is = subst (λ (v : Version). IsPlanStream header message v l plan stream) m.1 s;
       }
-
--- ---- The class behind a version
-
--- the last version of the class
-abbrev pub IsClassEnd : ℕ → ℕ → Type 0
-IsClassEnd before end = ((before < 9) × (end ≡ 9)) ⊎ (((9 ≤ before) × (before < 26) × (end ≡ 26)) ⊎ ((26 ≤ before) × (end ≡ 40)))
-
-pub class_behind : (before limit end : ℕ) → before < limit → IsClassEnd before end → limit ≤ 40 →
-    IsClass before (min limit end) × (before < min limit end)
-class_behind before limit end some (inl h) most = (λ n from to. inl (omega arith, omega arith), omega arith)
-class_behind before limit end some (inr (inl h)) most = (λ n from to. inr (inl (omega arith, omega arith, omega arith, omega arith)), omega arith)
-class_behind before limit end some (inr (inr h)) most = (λ n from to. inr (inr (omega arith, omega arith)), omega arith)
 
 -- ---- Refusals
 

@@ -2,9 +2,7 @@
 use Rattle.qrcode_bits.proofs.Prelude.{◌≡◌, ℕ, ◌+◌, ◌-◌, ◌*◌, ◌/◌, ◌<◌, ◌≤◌, List, [], ◌∷◌, Some, length, arith, inl, inr, All, cases_lt, Version, EcLevel}
 use Rattle.qrcode_bits.proofs.Prelude.{capacity, Mode, count_width, indicator_width, Segment, total_bits, normal, micro, FitsNot, FitsNone, AreTexts}
 use Rattle.qrcode_bits.proofs.Prelude.{common_steps}
-use Rattle.qrcode_bits.proofs.Choices.{capacity-middle, capacity-most}
-use Rattle.qrcode_bits.proofs.PlanFrames.{length-slice}
-use Rattle.qrcode_bits.proofs.Texts.{texts-reach, texts-plan}
+use Rattle.qrcode_bits.proofs.{Choices.capacity-middle, Choices.capacity-most, PlanFrames.length-slice, Texts.texts-reach, Texts.texts-plan}
 
 -- no mode has fewer than ten bits for three bytes
 module _ (whole : List ℕ) (v : Version) where
@@ -29,9 +27,13 @@ long_message front message l limit last are long n k plan w =
     let texts = texts-plan message are plan w.planned in
     let bare = texts-dense message (normal n) 0 (length message) plan texts (omega arith) in
     elim (cases_lt n 27) [
-      | inl early ↦ (let held = capacity-middle l n w.limit (omega arith) w.has_level in omega arith)
-      | inr late ↦ (let held = capacity-most l n w.limit (omega arith) w.has_level in
-          let headed = texts-headed message (normal n) 16 0 (length message) plan (long_header n late) (omega arith) texts (omega arith) in omega arith)
+      | inl early ↦ grind (arith, capacity-middle l n w.limit (omega arith) w.has_level)
+      | inr late ↦ grind (
+        arith,
+        capacity-most l n w.limit (omega arith) w.has_level,
+        texts-headed message (normal n) 16 0 (length message) plan
+            (long_header n late) (omega arith) texts (omega arith),
+      )
     ]
 
 -- No plan of more bytes than three for ten bits of the capacity fits a version.

@@ -1,11 +1,9 @@
 -- Pushes from an iterator that gives a list of segments.
-use Rattle.qrcode_bits.proofs.Prelude.{arith}
-use Rattle.qrcode_bits.proofs.Prelude.{◌≡◌, ℕ, List, ◌++◌, length, take, drop, sym, ap, ◌∙◌, subst, Result, Ok, Err, All, IsOk, Option, map-id}
+use Rattle.qrcode_bits.proofs.Prelude.{arith, ◌≡◌, ℕ, List, ◌++◌, length, take, drop, sym, ap, ◌∙◌, subst, Result, Ok, Err, All, IsOk, Option, map-id}
 use Rattle.qrcode_bits.proofs.Prelude.{map-append, take-append-drop, All-take, QrError, Segment, Piece, segment_piece, segment_pieces, Stream, PushesPieces}
 use Rattle.qrcode_bits.proofs.Prelude.{PushesDrawn, StopsAt}
-use Rattle.std.specs.Iterator.{DrainsIf}
-use Rattle.std.proofs.lemmas.Iterator.{YieldsList, items_from_drains}
-use Rattle.std.proofs.lemmas.Iterator.Consumers.{YieldsList-so_far}
+use Rattle.std.{specs.Iterator.DrainsIf, proofs.lemmas.Iterator.YieldsList, proofs.lemmas.Iterator.items_from_drains}
+use Rattle.std.{proofs.lemmas.Iterator.Consumers.YieldsList-so_far}
 use Rattle.qrcode_bits.proofs.Pushes.{stops_longer}
 
 module _ {S : Type 0} {steps : S → Option Segment → S → Type 0} (s : S) (all : List Segment) (gives : YieldsList steps (λ x. x) s all) where

@@ -1,15 +1,11 @@
 -- The parts of a plan that fits, spelled one after the other, are the front of a frame of the bytes.
 use Rattle.qrcode_bits.proofs.Prelude.{◌≡◌, ◌≢◌, ℕ, ◌+◌, ◌-◌, ◌<◌, ◌≤◌, List, [], ◌∷◌, ◌++◌, length, take, drop, refl, ap, arith, length-append, All}
-use Rattle.qrcode_bits.proofs.Prelude.{slice_range, All-head, All-tail, Version, EcLevel, HasMode, IsValid, Segment, AreTexts}
-use Rattle.qrcode_bits.proofs.Prelude.{segment_bits, total_bits, Fits, spelling, segment_piece, segment_pieces, Header, HasHeader, header_bits, Piece}
-use Rattle.qrcode_bits.proofs.Prelude.{spellings, message, ended, IsFrame, IsSpellable, All-nil, All-cons, Option}
-use Rattle.qrcode_bits.proofs.Prelude.{length-drop}
+use Rattle.qrcode_bits.proofs.Prelude.{slice_range, All-head, All-tail, Version, EcLevel, HasMode, IsValid, Segment, AreTexts, segment_bits, total_bits, Fits}
+use Rattle.qrcode_bits.proofs.Prelude.{spelling, segment_piece, segment_pieces, Header, HasHeader, header_bits, Piece, spellings, message, ended, IsFrame}
+use Rattle.qrcode_bits.proofs.Prelude.{IsSpellable, All-nil, All-cons, Option, length-drop}
 use Rattle.std.proofs.lemmas.List.{length-take-le}
-use Rattle.qrcode_bits.proofs.Growth.{CountsFit, fits-counts}
-use Rattle.qrcode_bits.proofs.Reading.{length-spelling}
-use Rattle.qrcode_bits.proofs.Segments.{length-character_bits}
-use Rattle.qrcode_bits.proofs.Frames.{ended_frame}
-use Rattle.qrcode_bits.proofs.Texts.{texts-reach, texts-plan, plan_message}
+use Rattle.qrcode_bits.proofs.{Growth.CountsFit, Growth.fits-counts, Reading.length-spelling, Segments.length-character_bits, Frames.ended_frame}
+use Rattle.qrcode_bits.proofs.{Texts.texts-reach, Texts.texts-plan, Texts.plan_message}
 
 pub length-slice : (xs : List ℕ) (a b : ℕ) → a ≤ b → b ≤ length xs → length (slice_range xs a b) ≡ b - a
 length-slice xs a b h k = length-take-le (b - a) (drop a xs) (omega (arith, length-drop a xs))

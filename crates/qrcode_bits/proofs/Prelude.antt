@@ -40,10 +40,10 @@ pub use Rattle.qrcode_bits.specs.Parsing.{joins, parsed, run_segment, runs, unit
 pub use Rattle.qrcode_bits.specs.Plans.{AreSteps, Fits, FitsNone, FitsNot, HasLinearCosts, IsAsGood, IsChoice, IsChosen, IsChosenPlan, IsClass}
 pub use Rattle.qrcode_bits.specs.Plans.{IsLeastBits, IsLeastHolding, IsMergePlan, IsMinVersion, IsNoWorse, IsPlan, IsStep, StartsNoEarlier}
 pub use Rattle.qrcode_bits.specs.Plans.{merged, merged_all, micro, normal, part, part_bits, parts, plan_bits, segment_at, segment_bits, step_at, total_bits}
-pub use Rattle.qrcode_bits.specs.Push.{Ends, EndsAtLevel, IsEncoding, IsEncodingRefused, IsEndRefused, IsHeaderRefused, IsLevelRefused, IsPartRefused}
+pub use Rattle.qrcode_bits.specs.Push.{Ends, EndsAtLevel, IsEncoding, IsEncodingRefused, IsEndRefused, IsLevelRefused, IsPartRefused}
 pub use Rattle.qrcode_bits.specs.Push.{IsPlanStream, IsPushRefused, IsUnencodable, PushesDrawn, PushesPieces, Spells, SpellsAll, StopsAt, with_modes}
 pub use Rattle.qrcode_bits.specs.Spelling.{IsSpellable, IsSpelling, LiesIn, Piece, character_bits, segment_piece, segment_pieces, spelling}
-pub use Rattle.qrcode_bits.specs.Stream.{Appends, AreShifted, IsKept, Reserves, Stream, eci_spelling, kept_bits, room_in, shifted}
+pub use Rattle.qrcode_bits.specs.Stream.{Appends, IsKept, Reserves, Stream, eci_spelling, kept_bits, room_in}
 pub use Rattle.qrcode_bits.specs.declared.optimize.Segment.{Segment}
 pub use Rattle.qrcode_bits.specs.declared.optimize.general.Groups.{Groups}
 pub use Rattle.qrcode_bits.specs.declared.optimize.short.TheConstants.{PERIOD_BITS, RESTS}

@@ -1,43 +1,37 @@
 -- Bytes behind bits that are no whole byte yet: each place has the low bits of one byte and the high bits of the next.
-use Rattle.qrcode_bits.proofs.Prelude.{◌≡◌, ℕ, suc, ◌+◌, ◌-◌, ◌*◌, ◌/◌, ◌%◌, ◌^◌, ◌<◌, ◌≤◌, Bool, List, [], ◌∷◌, ◌++◌, length, sym, ap, ◌∙◌, arith, take}
-use Rattle.qrcode_bits.proofs.Prelude.{append_assoc, append-nil, add_comm, slice_index_or, bit_and, pow-add, and_mask, drop_all, length-drop, take-append_seam}
-use Rattle.qrcode_bits.proofs.Prelude.{flat_map-append, common_steps, number_bits, byte_bits, AreShifted, shifted, Stream, Appends, kept_bits, room_in, IsKept}
+use Rattle.qrcode_bits.proofs.Prelude.{◌≡◌, ℕ, ◌+◌, ◌-◌, ◌*◌, ◌/◌, ◌%◌, ◌^◌, ◌<◌, ◌≤◌, List, ◌++◌, length, arith, take, append_assoc, append-nil, add_comm}
+use Rattle.qrcode_bits.proofs.Prelude.{slice_index_or, bit_and, pow-add, and_mask, drop_all, length-drop, take-append_seam, flat_map-append, common_steps}
+use Rattle.qrcode_bits.proofs.Prelude.{number_bits, byte_bits, Stream, Appends, kept_bits, room_in, IsKept}
 use borrow.Rule.Slice.PartMut.{post_of}
-use Rattle.qrcode_bits.proofs.Prelude.{cases_lt}
-use Rattle.std.specs.Prelude.{drop, slice_set}
-use Rattle.std.specs.Int.{to_be_bytes, w64}
-use Rattle.qrcode_bits.proofs.Numbers.{number_bits-join, number_bits-cut, number_bits-mod, high_free, length-byte_bits, length-number_bits}
+use Rattle.std.{specs.Prelude.slice_set, proofs.lemmas.List.take_more, proofs.lemmas.List.take_more_set}
+use Rattle.qrcode_bits.proofs.Numbers.{byte_bits-push, number_bits-join, number_bits-cut, number_bits-mod, high_free, length-byte_bits}
 
 low_free : (used before byte : ℕ) → used < 8 → number_bits used (before * 2 ^ 8 + byte) ≡ number_bits used byte
 low_free used before byte part = grind (arith, high_free used (before * 2 ^ (8 - used)) byte, pow-add 2 (8 - used) used)
 
 -- one byte more
 one_shifted : (used before byte : ℕ) → used < 8 → byte < 2 ^ 8 →
-    number_bits used before ++ number_bits 8 byte ≡ number_bits 8 (shifted used before byte) ++ number_bits used byte
+    number_bits used before ++ number_bits 8 byte ≡ number_bits 8 ((before * 2 ^ 8 + byte) / 2 ^ used % 2 ^ 8) ++ number_bits used byte
 one_shifted used before byte part small =
     grind (arith, add_comm used 8, low_free used before byte part, number_bits-cut, number_bits-join used 8 before byte small, number_bits-mod)
 
-pub shifted_bits : (used partial : ℕ) (text bytes : List ℕ) → used < 8 → ((k : ℕ) → slice_index_or text k 0 < 2 ^ 8) → AreShifted used partial text bytes →
-    number_bits used partial ++ byte_bits text ≡ byte_bits bytes ++ number_bits used (slice_index_or (partial ∷ text) (length text) 0)
-shifted_bits used partial [] [] part small are = append-nil (number_bits used partial)
-shifted_bits used partial [] (c ∷ cs) part small are = absurd (let long = are.long in omega arith)
-shifted_bits used partial (b ∷ text) [] part small are = absurd (let long = are.long in omega arith)
-shifted_bits used partial (b ∷ text) (c ∷ cs) part small are =
-    let rest : AreShifted used b text cs = record { long = (let long = are.long in omega arith); are = λ k below. are.are (suc k) (omega arith) } in
-    sym (append_assoc (number_bits used partial) (number_bits 8 b) (byte_bits text))
-    ∙ (ap (λ (z : List Bool). z ++ byte_bits text) (one_shifted used partial b part (small 0))
-    ∙ (append_assoc (number_bits 8 (shifted used partial b)) (number_bits used b) (byte_bits text)
-    ∙ (ap (λ (n : ℕ). number_bits 8 n ++ (number_bits used b ++ byte_bits text)) (sym (are.are 0 (omega arith)))
-    ∙ (ap (λ (z : List Bool). number_bits 8 c ++ z) (shifted_bits used b text cs part (λ k. small (suc k)) rest)
-    ∙ sym (append_assoc (number_bits 8 c) (byte_bits cs) (number_bits used (slice_index_or (b ∷ text) (length text) 0)))))))
-
--- one place more
-pub shifted_more : (into text : List ℕ) (used partial before wide i : ℕ) → length into ≡ length text → i < length text →
-    before ≡ slice_index_or (partial ∷ text) i 0 → wide ≡ before * 2 ^ 8 + slice_index_or text i 0 →
-    ((k : ℕ) → k < i → slice_index_or into k 0 ≡ shifted used (slice_index_or (partial ∷ text) k 0) (slice_index_or text k 0)) →
-    (k : ℕ) → k < i + 1 → slice_index_or (slice_set into i (bit_and (wide / 2 ^ used) 255)) k 0 ≡
-    shifted used (slice_index_or (partial ∷ text) k 0) (slice_index_or text k 0)
-shifted_more into text used partial before wide i long inside last is are k below = grind (arith, common_steps, and_mask, cases_lt, cases_lt k i)
+-- one place more: what stands up to it and the bits that are left are the bits before and the text up to there
+pub shifted_more : (into text : List ℕ) (used partial before wide next i : ℕ) → length into ≡ length text → i < length text → used < 8 →
+    wide ≡ before * 2 ^ 8 + next → next ≡ slice_index_or text i 0 → slice_index_or text i 0 < 2 ^ 8 →
+    byte_bits (take i into) ++ number_bits used before ≡ number_bits used partial ++ byte_bits (take i text) →
+    byte_bits (take (i + 1) (slice_set into i (bit_and (wide / 2 ^ used) 255))) ++ number_bits used next
+    ≡ number_bits used partial ++ byte_bits (take (i + 1) text)
+shifted_more into text used partial before wide next i long inside part is here small so_far =
+    grind (
+      arith,
+      common_steps,
+      and_mask (wide / 2 ^ used) 8,
+      one_shifted used before (slice_index_or text i 0) part small,
+      append_assoc,
+      byte_bits-push,
+      take_more text i 0 (omega arith),
+      take_more_set into i,
+    )
 
 -- ---- The stream
 
@@ -50,11 +44,9 @@ pub replaced : (bytes text whole filled : List ℕ) (start : ℕ) → whole ≡ 
     take start whole ++ (filled ++ post_of start (length whole - start) whole) ≡ bytes ++ filled
 replaced bytes text whole filled start is from = grind (arith, take-append_seam, drop_all, length-drop, append-nil)
 
-pub appends_shifted : (old : Stream) (bytes now text filled : List ℕ) (len len' cap cap' used partial left : ℕ) → old.bits ≡ kept_bits bytes used partial →
-    old.room ≡ room_in cap len used →
-    now ≡ bytes ++ filled → len' ≡ len + length text → cap ≤ cap' → used < 8 → ((k : ℕ) → slice_index_or text k 0 < 2 ^ 8) →
-    AreShifted used partial text filled →
-    left ≡ slice_index_or (partial ∷ text) (length text) 0 % 2 ^ used →
+pub appends_shifted : (old : Stream) (bytes now text filled : List ℕ) (len len' cap cap' used partial before left : ℕ) →
+    old.bits ≡ kept_bits bytes used partial → old.room ≡ room_in cap len used → now ≡ bytes ++ filled → len' ≡ len + length text → cap ≤ cap' → used < 8 →
+    byte_bits filled ++ number_bits used before ≡ number_bits used partial ++ byte_bits text → left ≡ before % 2 ^ used →
     Appends old (record {
       bits = kept_bits now used left;
       version = old.version;
@@ -63,55 +55,5 @@ pub appends_shifted : (old : Stream) (bytes now text filled : List ℕ) (len len
       room =
           room_in cap' len' used;
     }) (byte_bits text)
-appends_shifted old bytes now text filled len len' cap cap' used partial left bits room is longer grows part small are last =
-    grind (arith, common_steps, length-byte_bits, flat_map-append, append_assoc, number_bits-mod, shifted_bits)
-
--- ---- Five bytes at once
-
--- the lowest five of the bytes of a number
-pub five_bytes_are : (n : ℕ) (all : List ℕ) → all ≡ to_be_bytes w64 n → byte_bits (take 5 (drop 3 all)) ≡ number_bits 40 n
-five_bytes_are n all is =
-    let byte : (k : ℕ) → number_bits 8 (n / 2 ^ k % 2 ^ 8) ≡ number_bits 8 (n / 2 ^ k) = λ k. number_bits-mod 8 (n / 2 ^ k) in
-    let last : number_bits 8 (n % 2 ^ 8) ++ [] ≡ number_bits 8 n = append-nil (number_bits 8 (n % 2 ^ 8)) ∙ number_bits-mod 8 n in
-    let two : number_bits 8 (n / 2 ^ 8 % 2 ^ 8) ++ (number_bits 8 (n % 2 ^ 8) ++ []) ≡ number_bits 16 n =
-    rw (byte 8, last) (sym (number_bits-cut 8 8 n)) in
-    let three : number_bits 8 (n / 2 ^ 16 % 2 ^ 8) ++ (number_bits 8 (n / 2 ^ 8 % 2 ^ 8) ++ (number_bits 8 (n % 2 ^ 8) ++ [])) ≡ number_bits 24 n =
-    rw (byte 16, two) (sym (number_bits-cut 8 16 n)) in
-    let four : number_bits 8 (n / 2 ^ 24 % 2 ^ 8) ++ (number_bits 8 (n / 2 ^ 16 % 2 ^ 8) ++ (number_bits 8 (n / 2 ^ 8 % 2 ^ 8)
-    ++ (number_bits 8 (n % 2 ^ 8) ++ []))) ≡ number_bits 32 n =
-    rw (byte 24, three) (sym (number_bits-cut 8 24 n)) in
-    rw is (ap (λ (z : List Bool). number_bits 8 (n / 2 ^ 32 % 2 ^ 8) ++ z) four
-    ∙ (ap (λ (z : List Bool). z ++ number_bits 32 n) (byte 32) ∙ sym (number_bits-cut 8 32 n)))
-
--- the stream with a number of 40 bits behind it, as five bytes
-pub kept_five : (old five : List ℕ) (used partial left n wide : ℕ) → used < 8 → n < 2 ^ 40 → wide ≡ partial * 2 ^ 40 + n →
-    byte_bits five ≡ number_bits 40 (wide / 2 ^ used) →
-    left ≡ n % 2 ^ used → kept_bits (old ++ five) used left ≡ kept_bits old used partial ++ number_bits 40 n
-kept_five old five used partial left n wide part small whole bytes is =
-    grind (
-      arith,
-      add_comm 40 used,
-      append_assoc (byte_bits old) (byte_bits five) (number_bits used left),
-      append_assoc (byte_bits old) (number_bits used partial) (number_bits 40 n),
-      flat_map-append (number_bits 8) old five,
-      low_free used (n / 2 ^ 8) (n % 2 ^ 8) part,
-      low_free used (partial * 2 ^ 32 + n / 2 ^ 8) (n % 2 ^ 8) part,
-      number_bits-cut 40 used wide,
-      number_bits-join used 40 partial n small,
-      number_bits-mod used n,
-    )
-
-pub appends_five : (old : Stream) (bytes now five : List ℕ) (len len' cap cap' used partial left n wide : ℕ) → old.bits ≡ kept_bits bytes used partial →
-    old.room ≡ room_in cap len used →
-    now ≡ bytes ++ five → len' ≡ len + 5 → cap ≤ cap' → used < 8 → n < 2 ^ 40 → wide ≡ partial * 2 ^ 40 + n →
-    byte_bits five ≡ number_bits 40 (wide / 2 ^ used) → left ≡ n % 2 ^ used →
-    Appends old (record {
-      bits = kept_bits now used left;
-      version = old.version;
-      modes = old.modes;
-      payload = old.payload;
-      room =
-          room_in cap' len' used;
-    }) (number_bits 40 n)
-appends_five old bytes now five len len' cap cap' used partial left n wide bits room is longer grows part small whole are last =
-    grind (arith, common_steps, kept_five, length-number_bits)
+appends_shifted old bytes now text filled len len' cap cap' used partial before left bits room is longer grows part are last =
+    grind (arith, common_steps, length-byte_bits, flat_map-append, append_assoc, number_bits-mod)

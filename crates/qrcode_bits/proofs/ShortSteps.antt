@@ -5,14 +5,11 @@ use Rattle.qrcode_bits.proofs.Prelude.{data_bits, characters, Segment, Step, Can
 use Rattle.qrcode_bits.proofs.Prelude.{part_bits, HasLinearCosts, IsStep, chosen_plan, bucket_mode, bucket_rest, part_mode, bits_before, parts_before, InBucket}
 use Rattle.qrcode_bits.proofs.Prelude.{IsBestStart, slot, AreGroups, group_of, period, period_bits, start_told, bucket_start, step_told, short_at}
 use Rattle.qrcode_bits.proofs.Prelude.{AreShortSteps}
-use Rattle.qrcode_bits.specs.declared.optimize.short.Headers.{Headers}
-use Rattle.qrcode_bits.specs.declared.optimize.short.ShortStep.{ShortStep}
-use Rattle.qrcode_bits.specs.Buckets.{IsShort, AreHeaders, header_in}
+use Rattle.qrcode_bits.specs.{declared.optimize.short.Headers.Headers, declared.optimize.short.ShortStep.ShortStep, Buckets.IsShort, Buckets.AreHeaders}
+use Rattle.qrcode_bits.specs.{Buckets.header_in}
 use Rattle.qrcode_bits.proofs.Ending.{data_bits-linear, bucket_of, bucket_of-is, group-right, IsTried, Tried-leads, Tried-keeps, Tried-takes, Tried-all}
 use Rattle.qrcode_bits.proofs.Ending.{cost-is}
-use Rattle.qrcode_bits.proofs.Grouping.{has-own}
-use Rattle.qrcode_bits.proofs.Optimal.{IsGoodStart}
-use Rattle.qrcode_bits.proofs.WordStarts.{word-ahead, some_start, no_start, more_in}
+use Rattle.qrcode_bits.proofs.{Grouping.has-own, Optimal.IsGoodStart, WordStarts.word-ahead, WordStarts.some_start, WordStarts.no_start, WordStarts.more_in}
 
 pub cost-small : (version : Version) (headers : Headers) (mode : Mode) (size cost : ℕ) → AreHeaders version headers → size < 8192 →
     cost ≡ header_in headers mode + data_bits mode (characters mode size) → cost < 2 ^ 18
@@ -114,7 +111,7 @@ module _ (segments : List Segment) (version : Version) (end : ℕ) (within : end
     both : (8192 * period_bits (bucket_mode j) ≤ w / 2 ^ 26 + cost)
         × (w / 2 ^ 26 + cost - 8192 * period_bits (bucket_mode j) ≡ bits_before segments version found.start +
         (head + data_bits (bucket_mode j) (characters (bucket_mode j) (last_end - begin))))
-    both = word-cost (bucket_mode j) (w / 2 ^ 26) cost head begin (bucket_rest j) last_end (bits_before segments version found.start) found-best.0.rest
+    both = word-cost (bucket_mode j) (w / 2 ^ 26) cost head _ _ _ _ found-best.0.rest
         (let b = found-best.0.below in linear.ordered found.start (end - 1) (omega arith) (omega arith)) found-best.1.bits costs
 
     pub short-enough : (periods : ℕ) → periods ≡ 8192 * period_bits mode → periods ≤ w / 2 ^ 26 + cost
@@ -156,16 +153,12 @@ module _ (segments : List Segment) (version : Version) (end : ℕ) (within : end
       leads-here leads =
           subst (λ (s : ℕ). IsTried segments version end (j + 1) (part_here s)
           (record { bits = cand / 2 ^ 26 + 0; parts = cand % 2 ^ 26 / 2 ^ 13; start = s })) start-is
-          (Tried-leads segments version end within linear j found found-best here (cand / 2 ^ 26 + 0) (cand % 2 ^ 26 / 2 ^ 13) whole-is counted numbered leads)
+          (Tried-leads _ _ _ within linear j found found-best here _ _ whole-is counted numbered leads)
 
       module _ (best : ℕ) (best_mode : Mode) (before : IsSought segments version end j best best_mode) where
-        abbrev best_part : Segment
-        best_part = record { mode = best_mode; begin = (segment_at segments (start_told 0 best).start).begin; end = last_end }
-
         pub sought-keeps : best ≤ cand → IsSought segments version end (j + 1) best best_mode
         sought-keeps h = record {
-          found = λ small. Tried-keeps segments version end within linear j found found-best here (cand / 2 ^ 26 + 0)
-              (cand % 2 ^ 26 / 2 ^ 13) whole-is counted numbered best_part (start_told 0 best) (before.found small)
+          found = λ small. Tried-keeps _ _ _ within linear j found found-best here _ _ whole-is counted numbered _ _ (before.found small)
               (subst (λ (s : ℕ). IsNoWorse (start_told 0 best).bits (start_told 0 best).parts (start_told 0 best).start (cand / 2 ^ 26 + 0)
               (cand % 2 ^ 26 / 2 ^ 13) s) (sym start-is) (word-ahead 0 best cand h));
           none = λ great. absurd (let s = small-here in omega arith);
@@ -175,8 +168,7 @@ module _ (segments : List Segment) (version : Version) (end : ℕ) (within : end
         takes-some h small =
             subst (λ (s : ℕ). IsTried segments version end (j + 1) (part_here s)
             (record { bits = cand / 2 ^ 26 + 0; parts = cand % 2 ^ 26 / 2 ^ 13; start = s })) start-is
-            (Tried-takes segments version end within linear j found found-best here (cand / 2 ^ 26 + 0)
-            (cand % 2 ^ 26 / 2 ^ 13) whole-is counted numbered best_part (start_told 0 best) (before.found small)
+            (Tried-takes _ _ _ within linear j found found-best here _ _ whole-is counted numbered _ _ (before.found small)
             (subst (λ (s : ℕ). IsNoWorse (cand / 2 ^ 26 + 0) (cand % 2 ^ 26 / 2 ^ 13) s (start_told 0 best).bits (start_told 0 best).parts
             (start_told 0 best).start) (sym start-is) (word-ahead 0 cand best h)))
 

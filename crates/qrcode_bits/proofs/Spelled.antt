@@ -1,6 +1,5 @@
 -- Pieces that a version can spell, none of them empty, told from the first on, and told of all.
-use Rattle.qrcode_bits.proofs.Prelude.{arith}
-use Rattle.qrcode_bits.proofs.Prelude.{◌≢◌, List, [], ◌∷◌, All, All-head, All-tail, All-nil, All-cons, Version, Piece, IsSpellable}
+use Rattle.qrcode_bits.proofs.Prelude.{arith, ◌≢◌, List, [], ◌∷◌, All, All-head, All-tail, All-nil, All-cons, Version, Piece, IsSpellable}
 
 abbrev HasText : Piece → Type 0
 HasText piece = piece.text ≢ []

@@ -1,14 +1,11 @@
 -- Parsed segments, and those merged from them, are texts of their modes.
 use Rattle.qrcode_bits.proofs.Prelude.{◌≡◌, ℕ, ◌+◌, ◌-◌, ◌<◌, ◌≤◌, Bool, true, false, List, [], ◌∷◌, ◌++◌, length, map, take, drop, refl, sym, ap, ◌∙◌, subst}
 use Rattle.qrcode_bits.proofs.Prelude.{arith, All, slice_range, flat_map, drop-drop, take-add, take-length, All-head, All-nil, All-drop, Kanji, join}
-use Rattle.qrcode_bits.proofs.Prelude.{is_kanji_pair, IsKanjiText, IsValid, Segment, Class, Pair, Run, class_of, class_mode, class_size, joins, add_unit, runs}
+use Rattle.qrcode_bits.proofs.Prelude.{is_kanji_pair, IsKanjiText, IsValid, Segment, Class, Pair, Run, class_of, class_mode, class_size, add_unit, runs}
 use Rattle.qrcode_bits.proofs.Prelude.{units, run_segment, parsed, AreTexts, merged, merged_all, IsMergePlan, segment_pieces, LiesIn, message, common_steps}
-use Rattle.qrcode_base.proofs.Joins.{join-upper, join-upper_second}
-use Rattle.qrcode_base.proofs.Alphabet.{is_alphanumeric-inside}
-use Rattle.qrcode_bits.proofs.CuttingPlans.{AreNonEmpty, joined, first-some, rest-some}
-use Rattle.qrcode_bits.proofs.Runs.{class_size-some, joins-same}
-use Rattle.qrcode_bits.proofs.Adjoining.{class_of-one}
-use Rattle.qrcode_bits.proofs.Upward.{valid-append, valid-upward}
+use Rattle.qrcode_base.{proofs.Joins.join-upper, proofs.Joins.join-upper_second, proofs.Alphabet.is_alphanumeric-inside}
+use Rattle.qrcode_bits.proofs.{CuttingPlans.AreNonEmpty, CuttingPlans.joined, CuttingPlans.first-some, CuttingPlans.rest-some, Runs.class_size-some}
+use Rattle.qrcode_bits.proofs.{Runs.joins-same, Adjoining.class_of-one, Upward.valid-append, Upward.valid-upward}
 
 -- ---- Slices
 
@@ -34,20 +31,8 @@ module _ (whole : List ℕ) where
   texts-add : (c : Class) (b e : ℕ) (rs : List Run) → IsValid (class_mode c) (slice_range whole b (b + class_size c)) →
       AreTexts whole (b + class_size c) (map run_segment rs) e → AreTexts whole b (map run_segment (add_unit c b rs)) e
   texts-add c b e [] v h = let s = class_size-some c in (refl, omega arith, v, h)
-  texts-add c b e (r ∷ rs) v h = go (joins c r.class) refl where
-    some : 1 ≤ class_size c
-    some = class_size-some c
-
-    go : (t : Bool) → joins c r.class ≡ t → AreTexts whole b (map run_segment (add_unit c b (r ∷ rs))) e
-    go true k =
-        let class : c ≡ r.class = joins-same c r.class k in
-        let later : IsValid (class_mode c) (slice_range whole (b + class_size c) r.end) =
-        subst (λ (d : Class). IsValid (class_mode d) (slice_range whole (b + class_size c) r.end)) (sym class) h.2 in
-        let both = valid-append (class_mode c) (slice_range whole b (b + class_size c)) (slice_range whole (b + class_size c) r.end) v later in
-        let valid : IsValid (class_mode c) (slice_range whole b r.end) =
-        subst (λ (z : List ℕ). IsValid (class_mode c) z) (slice-join whole b (b + class_size c) r.end (omega arith) (omega arith)) both in
-        rw k (refl, omega arith, valid, h.3)
-    go false k = rw k (refl, (let s = some in omega arith), v, h)
+  texts-add c b e (r ∷ rs) v h =
+      grind (arith, class_size-some c, joins-same c r.class, valid-append (class_mode c) _ (slice_range whole (b + class_size c) r.end) v, slice-join)
 
   single : All (λ c. c < 256) whole → (b a : ℕ) (rest : List ℕ) → drop b whole ≡ a ∷ rest →
       IsValid (class_mode (class_of a)) (slice_range whole b (b + class_size (class_of a)))
@@ -64,19 +49,12 @@ module _ (whole : List ℕ) where
             AreTexts whole b (map run_segment (runs b (elim t [ true ↦ Pair ∷ units rest | false ↦ class_of a ∷ units (c ∷ rest) ])))
             (b + length (a ∷ c ∷ rest))
         go true k r q =
-            let size : b + 2 + length rest ≡ b + length (a ∷ c ∷ rest) = omega arith in
             let valid : IsValid Kanji (slice_range whole b (b + 2)) = subst (λ (z : List ℕ). IsKanjiText z)
             (sym (slice-front whole (a ∷ c ∷ rest) b 2 d)) (k, tt) in
-            subst (AreTexts whole b (map run_segment (runs b (Pair ∷ units rest)))) size
-            (texts-add Pair b (b + 2 + length rest) (runs (b + 2) (units rest)) valid r)
+            grind (arith, texts-add Pair b (b + 2 + length rest) (runs (b + 2) (units rest)) valid r)
         go false k r q =
-            let size : b + 1 + length (c ∷ rest) ≡ b + length (a ∷ c ∷ rest) = omega arith in
-            let one : 1 ≡ class_size (class_of a) = sym (class_of-one a) in
-            let later : AreTexts whole (b + class_size (class_of a)) (map run_segment (runs (b + class_size (class_of a)) (units (c ∷ rest))))
-            (b + 1 + length (c ∷ rest)) =
-            subst (λ (n : ℕ). AreTexts whole (b + n) (map run_segment (runs (b + n) (units (c ∷ rest)))) (b + 1 + length (c ∷ rest))) one q in
-            subst (AreTexts whole b (map run_segment (runs b (class_of a ∷ units (c ∷ rest))))) size
-            (texts-add (class_of a) b (b + 1 + length (c ∷ rest)) (runs (b + class_size (class_of a)) (units (c ∷ rest))) (single are b a (c ∷ rest) d) later)
+            let one : class_size (class_of a) ≡ 1 = class_of-one a in
+            grind (arith, texts-add (class_of a) b (b + 1 + length (c ∷ rest)) (runs (b + 1) (units (c ∷ rest))), single are b a (c ∷ rest) d)
 
   pub texts-parsed : All (λ c. c < 256) whole → AreTexts whole 0 (parsed whole) (length whole)
   texts-parsed are = let e : 0 + length whole ≡ length whole = omega arith in subst (AreTexts whole 0 (parsed whole)) e (texts-runs are 0 whole refl)
@@ -88,12 +66,9 @@ module _ (whole : List ℕ) where
   texts-merged s (t ∷ ts) from to h =
       let w = texts-merged t ts s.end to h.3 in
       let m : Segment = merged t ts in
-      let both = valid-append (join s.mode m.mode) (slice_range whole from s.end) (slice_range whole s.end m.end)
-      (valid-upward (slice_range whole from s.end) (join-upper s.mode m.mode) h.2)
+      let both = valid-append (join s.mode m.mode) _ _ (valid-upward (slice_range whole from s.end) (join-upper s.mode m.mode) h.2)
       (valid-upward (slice_range whole s.end m.end) (join-upper_second s.mode m.mode) w.2) in
-      let valid : IsValid (join s.mode m.mode) (slice_range whole from m.end) =
-      subst (λ (z : List ℕ). IsValid (join s.mode m.mode) z) (slice-join whole from s.end m.end (omega arith) (omega arith)) both in
-      (h.0, omega arith, valid, w.3)
+      grind (arith, slice-join)
 
   texts-split : (from to : ℕ) (xs ys : List Segment) → AreTexts whole from (xs ++ ys) to → (mid : ℕ) × AreTexts whole from xs mid × AreTexts whole mid ys to
   texts-split from to [] ys h = (from, refl, h)

@@ -1,7 +1,7 @@
 -- What a mode can write, each mode above it can write too.
 use Rattle.qrcode_bits.proofs.Prelude.{◌≡◌, ℕ, ◌+◌, ◌-◌, ◌<◌, Bool, true, List, [], ◌∷◌, ◌++◌, refl, ◌∙◌, subst, arith, get_or, All, Contains, nat_lt, ◌==◌}
 use Rattle.qrcode_bits.proofs.Prelude.{get_or_default_zero, ltb-true, eqb-true, All-nil, All-append, Mode, Numeric, Alphanumeric, Byte, Kanji, IsWithin, same}
-use Rattle.qrcode_bits.proofs.Prelude.{digits, bytes, IsDigit, alphabet, alphanumeric_value, IsKanjiText, IsValid}
+use Rattle.qrcode_bits.proofs.Prelude.{digits, bytes, IsDigit, alphabet, IsKanjiText, IsValid}
 use Rattle.qrcode_base.proofs.Alphabet.{each_below, from_each_below}
 use Rattle.qrcode_bits.proofs.Characters.{value_below, character_at_value, kanji_trail}
 
@@ -31,9 +31,7 @@ alphabet_digits = refl
 
 digit_sign : (c : ℕ) → IsDigit c → Contains alphabet c
 digit_sign c h =
-    let place : c - 48 < 10 = omega arith in
-    let same : get_or alphabet (c - 48) 0 ≡ c - 48 + 48 =
-    eqb-true (get_or alphabet (c - 48) 0) (c - 48 + 48) (from_each_below 10 (λ k. get_or alphabet k 0 == k + 48) alphabet_digits (c - 48) place) in
+    let same = eqb-true _ _ (from_each_below 10 (λ k. get_or alphabet k 0 == k + 48) alphabet_digits (c - 48) (omega arith)) in
     subst (λ (z : ℕ). Contains alphabet z) (same ∙ omega arith) (in_alphabet (c - 48) (omega arith))
 
 -- ---- Each character is a byte
@@ -47,8 +45,7 @@ alphabet_small = refl
 
 sign_byte : (c : ℕ) → Contains alphabet c → c < 256
 sign_byte c h =
-    let small = ltb-true (get_or alphabet (alphanumeric_value c) 0) 256 (from_each_below 45 small_at alphabet_small (alphanumeric_value c) (value_below c h)) in
-    subst (λ (z : ℕ). z < 256) (character_at_value c h) small
+    subst (λ (z : ℕ). z < 256) (character_at_value c h) (ltb-true _ _ (from_each_below 45 small_at alphabet_small _ (value_below c h)))
 
 kanji_bytes : (s : List ℕ) → IsKanjiText s → All (λ c. c < 256) s
 kanji_bytes [] h = All-nil (λ c. c < 256)

@@ -3,7 +3,7 @@
 //! `push_text` calls `push_digits`, `push_letters`, `push_bytes` or `push_kanji` behind the header of a segment, once
 //! there is room for all of its characters.
 
-ghost use Rattle.std.specs.Prelude.{◌≡◌, ◌+◌, ◌*◌, ◌%◌, ◌^◌, ◌<◌, ◌≤◌, ◌∷◌, slice_index_or, length, All, Contains};
+ghost use Rattle.std.specs.Prelude.{◌≡◌, ◌^◌, ◌<◌, ◌≤◌, length, All, Contains};
 ghost use Rattle.std.specs.Prelude.{true};
 ghost use Rattle.qrcode_base.specs.Characters.{IsDigit, digit as digit_of, alphabet};
 ghost use Rattle.qrcode_base.specs.Characters.{alphanumeric_value as alphanumeric_value_of, is_kanji_pair};
@@ -11,7 +11,7 @@ ghost use Rattle.qrcode_base.specs.Characters.{IsKanjiText, kanji_number as kanj
 ghost use Rattle.qrcode_base.specs.Numbers.{number_bits, byte_bits};
 ghost use Rattle.qrcode_base.specs.declared.types.Mode.TheVariants.{Numeric, Alphanumeric, Kanji};
 ghost use Rattle.qrcode_bits.specs.Spelling.{character_bits};
-ghost use Rattle.qrcode_bits.specs.Stream.{AreShifted, shifted, Appends};
+ghost use Rattle.qrcode_bits.specs.Stream.{Appends};
 
 use super::Bits;
 use qrcode_base::characters::alphanumeric_place;
@@ -27,7 +27,7 @@ impl Bits {
         let mut rest = digits;
         while rest.len() >= 12 {
             let (twelve, later) = rest.split_at(12);
-            self.push_five_bytes(twelve_digits(twelve));
+            self.push_number(40, twelve_digits(twelve));
             rest = later;
         }
         self.push_last_digits(rest);
@@ -43,13 +43,13 @@ impl Bits {
         let mut rest = digits;
         while rest.len() >= 3 {
             let (three, later) = rest.split_at(3);
-            self.push_number(10, three_digits(three) as u16);
+            self.push_number(10, three_digits(three));
             rest = later;
         }
         if rest.len() == 2 {
-            self.push_number(7, (10 * digit(rest[0]) + digit(rest[1])) as u16);
+            self.push_number(7, 10 * digit(rest[0]) + digit(rest[1]));
         } else if rest.len() == 1 {
-            self.push_number(4, digit(rest[0]) as u16);
+            self.push_number(4, digit(rest[0]));
         }
     }
 
@@ -76,9 +76,20 @@ impl Bits {
         requires { length (byte_bits text.now) ≤ self.old.room }
         ensures { Appends self.old self.new (byte_bits text.now) }
     {
+        let Some(last) = text.last() else {
+            return;
+        };
         let start = self.bytes.len();
         let _ = self.bytes.extend_from_slice(text);
-        self.partial = write_shifted(&mut self.bytes[start..], text, self.used, self.partial);
+        let (used, before) = (self.used, self.partial);
+        let into = &mut self.bytes[start..];
+        let first = u16::from(before) * 256 + u16::from(text[0]);
+        into[0] = ((first >> used) & 0xff) as u8;
+        for i in 1..text.len() {
+            let wide = u16::from(text[i - 1]) * 256 + u16::from(text[i]);
+            into[i] = ((wide >> used) & 0xff) as u8;
+        }
+        self.partial = *last & ((1 << used) - 1);
     }
 
     /// Writes double-byte characters, for which there is room.
@@ -94,27 +105,6 @@ impl Bits {
             rest = tail;
         }
     }
-}
-
-/// Writes bytes behind so many bits, each shifted by these, and answers the bits that are left.
-#[tactic(auto, using(crate::proofs::Streams::low_is))]
-fn write_shifted(into: &mut [u8], text: &[u8], used: usize, partial: u8) -> u8
-    requires same { length into.old ≡ length text.now }
-    requires part { used < 8 }
-    requires small { partial < 2 ^ used }
-    ensures written { AreShifted used partial text.now into.new }
-    ensures left { result ≡ slice_index_or (partial ∷ text.now) (length text.now) 0 % 2 ^ used }
-{
-    let Some(last) = text.last() else {
-        return partial;
-    };
-    let wide = u16::from(partial) * 256 + u16::from(text[0]);
-    into[0] = ((wide >> used) & 0xff) as u8;
-    for i in 1..text.len() {
-        let wide = u16::from(text[i - 1]) * 256 + u16::from(text[i]);
-        into[i] = ((wide >> used) & 0xff) as u8;
-    }
-    *last & ((1 << used) - 1)
 }
 
 /// The value of a digit, of which 0 has the code 48.
@@ -153,24 +143,24 @@ fn twelve_digits(digits: &[u8]) -> u64
 }
 
 /// The value of a character of the Alphanumeric mode.
-fn alphanumeric_value(c: u8) -> u16
+fn alphanumeric_value(c: u8) -> u64
     requires { Contains alphabet c }
     ensures value { result ≡ alphanumeric_value_of c }
     ensures small { result < 45 }
 {
     match alphanumeric_place(c) {
-        Some(value) => value as u16,
+        Some(value) => value as u64,
         None => 0,
     }
 }
 
 /// The 13-bit number of a double-byte character.
-fn kanji_number(lead: u8, trail: u8) -> u16
+fn kanji_number(lead: u8, trail: u8) -> u64
     requires { is_kanji_pair lead trail ≡ true }
     ensures value { result ≡ kanji_number_of lead trail }
     ensures small { result < 8192 }
 {
-    let code = u16::from(lead) * 256 + u16::from(trail);
+    let code = u64::from(lead) * 256 + u64::from(trail);
     let offset = if code < 0xe040 {
         code - 0x8140
     } else {

@@ -232,7 +232,11 @@ fn chosen_plan(
     if bytes.len() / 3 * 10 > limit {
         return Ok(None);
     }
-    let plan = optimize_uncounted::<Brand>(alloc, segments, version, Blank::new(1))?;
+    let plan = if segments.len() < 2 {
+        Vec::from_slice(alloc, segments)?
+    } else {
+        optimize_uncounted::<Brand>(alloc, segments, version, Blank::new(1))?
+    };
     let mut size = front;
     for part in &plan {
         if indicator_number(version, part.mode) >= 1 << version.mode_bits_count() {

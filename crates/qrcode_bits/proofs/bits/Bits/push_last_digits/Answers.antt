@@ -1,7 +1,5 @@
 -- Three digits, or the rest.
-use Rattle.qrcode_bits.proofs.Prelude.{common_steps}
-use Rattle.qrcode_bits.proofs.Prelude.{arith, All-drop}
-use Rattle.qrcode_bits.proofs.Digits.{digits_step}
+use Rattle.qrcode_bits.proofs.{Prelude.common_steps, Prelude.arith, Prelude.All-drop, Digits.digits_step}
 use Rattle.qrcode_bits.proofs.bits.Bits.push_last_digits.Goals as goal
 
 pub loop-rest-preserved : goal.loop-rest-preserved

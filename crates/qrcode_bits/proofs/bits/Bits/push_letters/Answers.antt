@@ -1,6 +1,5 @@
 -- Two characters, or one.
-use Rattle.qrcode_bits.proofs.Prelude.{arith, rules}
-use Rattle.qrcode_bits.proofs.Pairs.{pairs_step, pairs_last, rest_letters}
+use Rattle.qrcode_bits.proofs.{Prelude.arith, Prelude.rules, Pairs.pairs_step, Pairs.pairs_last, Pairs.rest_letters}
 use Rattle.qrcode_bits.proofs.bits.Bits.push_letters.Goals as goal
 
 pub loop-rest-preserved : goal.loop-rest-preserved

@@ -1,9 +1,10 @@
 -- Only the room for header and characters was too small.
-use Rattle.qrcode_bits.proofs.Prelude.{arith, cases_lt, err_from_is_err_and}
-use Rattle.qrcode_bits.proofs.Segments.{refused}
-use Rattle.qrcode_bits.proofs.Streams.{not_both}
-use Rattle.qrcode_bits.proofs.bits.Bits.push_text.Goals.{in-Kanji, in_default}
+use Rattle.qrcode_bits.proofs.Prelude.{arith, common_steps, err_from_is_err_and}
+use Rattle.qrcode_bits.proofs.{Segments.refused, Streams.not_both}
 use Rattle.qrcode_bits.proofs.bits.Bits.push_text.Goals as goal
 
 pub returns-in_err-reserve-clause-refused : goal.returns-in_err-reserve-clause-refused
-returns-in_err-reserve-clause-refused c = grind (arith, cases_lt, err_from_is_err_and, not_both, refused)
+returns-in_err-reserve-clause-refused c =
+    let p = err_from_is_err_and c.from_residual.result c.from_residual.ensures.1 in
+    rw (p.1, p.2, c.in_err-reserve.ensures.memory) (refused c.args.self.now c.args.mode c.args.text.now c.wide_len.result c.requires.has c.requires.valid
+    (grind (arith, common_steps)) (grind (arith, common_steps)) (λ room. not_both (c.in_err-reserve.ensures.enough room)))

@@ -1,14 +1,9 @@
 -- The chosen plan decides whether some plan fits.
-use Rattle.qrcode_bits.proofs.Prelude.{◌+◌, List, ap, ◌∙◌, sym, subst, arith, Segment, InvalidVersion, capacity}
-use Rattle.qrcode_bits.proofs.Prelude.{IsChosenPlan, total_bits}
-use Rattle.qrcode_bits.proofs.Prelude.{cases_lt}
+use Rattle.qrcode_bits.proofs.Prelude.{List, sym, subst, arith, Segment, capacity, IsChosenPlan, cases_lt, common_steps, parsed}
 use Rattle.qrcode_bits.specs.Buckets.{IsShort}
-use Rattle.qrcode_bits.proofs.Adjoining.{parsed-short}
-use Rattle.qrcode_bits.proofs.Pairs.{bytes_valid}
-use Rattle.qrcode_bits.proofs.Choices.{chosen_is_plan}
-use Rattle.qrcode_bits.proofs.Lengths.{dense_message}
-use Rattle.qrcode_bits.proofs.Classes.{known_limit, short-linear, plan_ordered, plan_small, counted_all, counted_more}
-use Rattle.qrcode_bits.proofs.Classes.{chosen_fits_here, lacks_mode, lacks_number, too_many, modes_all, modes_lack}
+use Rattle.qrcode_bits.proofs.{Adjoining.parsed-short, Pairs.bytes_valid, Choices.chosen_is_plan, Lengths.dense_message, ReadBack.short-chosen}
+use Rattle.qrcode_bits.proofs.Classes.{known_limit, short-linear, plan_ordered, plan_small, counted_all, counted_more, chosen_fits_here, lacks_mode}
+use Rattle.qrcode_bits.proofs.Classes.{lacks_number, too_many, modes_all, modes_lack}
 use Rattle.qrcode_bits.proofs.bits.encode.chosen_plan.Goals as goal
 
 pub optimize_uncounted-requires-clause-linear : goal.optimize_uncounted-requires-clause-linear
@@ -21,57 +16,41 @@ optimize_uncounted-requires-clause-short c =
 pub returns-then-bytes-limit-clause-none : goal.returns-then-bytes-limit-clause-none
 returns-then-bytes-limit-clause-none c =
     let are = bytes_valid c.args.bytes.now (λ i. omega (arith, c.type_inv.bytes i)) in
-    let known = known_limit (capacity c.args.version c.args.level) c.in-Ok.limit (InvalidVersion c.args.version c.args.level) c.in-Ok.ensures.is in
-    dense_message c.args.front c.args.bytes.now c.args.version c.args.level c.in-Ok.limit are known c.if-bytes-limit.true
+    let known = known_limit (capacity c.args.version c.args.level) c.in-Ok.limit _ c.in-Ok.ensures.is in
+    dense_message _ _ _ _ _ are known c.if-bytes-limit.true
 
 pub loop-part-init : goal.loop-part-init
 loop-part-init c =
-    let chosen = subst (λ (s : List Segment). IsChosenPlan s c.args.version c.in_ok-plan.plan.items) c.requires.segments
-    c.in_ok-plan.ensures.plan in
+    let chosen : IsChosenPlan (parsed c.args.bytes.now) c.args.version c.if-segments-lt2.plan.items = grind (arith, common_steps, short-chosen) in
     let are = bytes_valid c.args.bytes.now (λ i. omega (arith, c.type_inv.bytes i)) in
-    let planned = chosen_is_plan c.args.bytes.now c.args.version c.in_ok-plan.plan.items chosen in
+    let planned = chosen_is_plan c.args.bytes.now c.args.version c.if-segments-lt2.plan.items chosen in
     rw c.deref-part-items.ensures.value record {
-      ordered = plan_ordered c.args.bytes.now c.in_ok-plan.plan.items are planned;
-      few = plan_small c.args.bytes.now c.args.version c.requires.small c.requires.short c.in_ok-plan.plan.items are planned;
+      chosen = chosen;
+      ordered = plan_ordered c.args.bytes.now c.if-segments-lt2.plan.items are planned;
+      few = plan_small c.args.bytes.now c.args.version c.requires.small c.requires.short c.if-segments-lt2.plan.items are planned;
       had = λ k below. absurd (omega arith);
       counted = omega arith;
     }
 
 pub loop-part-preserved : goal.loop-part-preserved
 loop-part-preserved c =
-    grind (
-      arith,
-      cases_lt,
-      counted_more c.args.version c.deref-part-items.result.now c.loop-part.part-index c.loop-part.size c.args.front
-          c.loop-part.invariant.counted c.wide_len.result c.loop-part-test.true c.wide_len.ensures.bits,
-    )
+    grind (arith, cases_lt, counted_more _ _ c.loop-part.part-index _ _ c.loop-part.invariant.counted _ c.loop-part-test.true c.wide_len.ensures.bits)
 
 pub returns-then-indicator_number-mode_bits_count-clause-none : goal.returns-then-indicator_number-mode_bits_count-clause-none
 returns-then-indicator_number-mode_bits_count-clause-none c =
-    let chosen = subst (λ (s : List Segment). IsChosenPlan s c.args.version c.in_ok-plan.plan.items) c.requires.segments
-    c.in_ok-plan.ensures.plan in
-    let known = known_limit (capacity c.args.version c.args.level) c.in-Ok.limit (InvalidVersion c.args.version c.args.level) c.in-Ok.ensures.is in
-    lacks_mode c.args.front c.args.bytes.now c.args.version c.args.level c.in_ok-plan.plan.items c.in-Ok.limit chosen known
-    (modes_lack c.args.version c.in_ok-plan.plan.items c.deref-part-items.result.now c.loop-part.part-index c.deref-part-items.ensures.value
-    c.loop-part-test.true
-    (lacks_number c.args.version _ c.indicator_number.result c.mode_bits_count.result c.indicator_number.ensures c.mode_bits_count.ensures.width
+    let known = known_limit (capacity c.args.version c.args.level) c.in-Ok.limit _ c.in-Ok.ensures.is in
+    lacks_mode _ _ _ _ _ _ c.loop-part.invariant.chosen known (modes_lack _ _ c.loop-part.part-index c.loop-part-test.true
+    (lacks_number _ _ c.indicator_number.result c.mode_bits_count.result c.indicator_number.ensures c.mode_bits_count.ensures.width
     (omega (arith, c.mode_bits_count.ensures)) c.if-indicator_number-mode_bits_count.true))
 
 pub returns-then-size-limit-clause-none : goal.returns-then-size-limit-clause-none
 returns-then-size-limit-clause-none c =
-    let chosen = subst (λ (s : List Segment). IsChosenPlan s c.args.version c.in_ok-plan.plan.items) c.requires.segments
-    c.in_ok-plan.ensures.plan in
-    let known = known_limit (capacity c.args.version c.args.level) c.in-Ok.limit (InvalidVersion c.args.version c.args.level) c.in-Ok.ensures.is in
-    too_many c.args.front c.args.bytes.now c.args.version c.args.level c.in_ok-plan.plan.items c.in-Ok.limit chosen known
-    (grind (arith, counted_all))
+    let known = known_limit (capacity c.args.version c.args.level) c.in-Ok.limit _ c.in-Ok.ensures.is in
+    too_many _ _ _ _ _ _ c.loop-part.invariant.chosen known (grind (arith, counted_all))
 
 pub returns-clause-fits : goal.returns-clause-fits
 returns-clause-fits c =
-    let chosen = subst (λ (s : List Segment). IsChosenPlan s c.args.version c.in_ok-plan.plan.items) c.requires.segments
-    c.in_ok-plan.ensures.plan in
-    let known = known_limit (capacity c.args.version c.args.level) c.in-Ok.limit (InvalidVersion c.args.version c.args.level) c.in-Ok.ensures.is in
-    let size = counted_all c.args.version c.deref-part-items.result.now c.loop-part.part-index c.loop-part.size c.args.front c.loop-part.invariant.counted
-    c.loop-part-test.false ∙ ap (λ (p : List Segment). c.args.front + total_bits c.args.version p) c.deref-part-items.ensures.value in
-    chosen_fits_here c.args.front c.args.bytes.now c.args.version c.args.level c.in_ok-plan.plan.items c.in-Ok.limit chosen known
-    (modes_all c.args.version c.in_ok-plan.plan.items c.deref-part-items.result.now c.loop-part.part-index c.deref-part-items.ensures.value
-    (omega (arith, c.loop-part-test.false)) c.loop-part.invariant.had) (omega (arith, size, c.if-size-limit.false))
+    let known = known_limit (capacity c.args.version c.args.level) c.in-Ok.limit _ c.in-Ok.ensures.is in
+    let counted = counted_all _ _ c.loop-part.part-index _ _ c.loop-part.invariant.counted c.loop-part-test.false in
+    rw (← c.deref-part-items.ensures.value) (chosen_fits_here _ _ _ _ _ _ c.loop-part.invariant.chosen known (modes_all _ _ c.loop-part.part-index
+    (omega (arith, c.loop-part-test.false)) c.loop-part.invariant.had) (omega (arith, c.if-size-limit.false, counted)))

@@ -1,9 +1,10 @@
 -- The version has the modes of the parts before this one, and their bits are counted.
-use Rattle.qrcode_bits.proofs.Prelude.{◌≡◌, ℕ, ◌+◌, ◌<◌, ◌≤◌, ◌^◌, All, drop, HasMode, segment_at, total_bits}
+use Rattle.qrcode_bits.proofs.Prelude.{◌≡◌, ℕ, ◌+◌, ◌<◌, ◌≤◌, ◌^◌, All, drop, HasMode, segment_at, total_bits, parsed, IsChosenPlan}
 use Rattle.qrcode_bits.proofs.bits.encode.chosen_plan.Given as goal
 
 abbrev pub invariant-loop-part : goal.invariant-loop-part
 invariant-loop-part l = record {
+  chosen : IsChosenPlan (parsed l.bytes) l.version l.part-items;
   ordered : All (λ s. s.begin ≤ s.end) l.part-items;
   few : total_bits l.version l.part-items < 2 ^ 32;
   had : (k : ℕ) → k < l.part-index → HasMode l.version (segment_at l.part-items k).mode;

@@ -1,6 +1,5 @@
 -- The limit is one of 1 to 40.
-use Rattle.qrcode_bits.proofs.Prelude.{arith, to_z-of_z, IfErr-weaker}
-use Rattle.qrcode_bits.proofs.Classes.{refused_limit, limit_of}
+use Rattle.qrcode_bits.proofs.{Prelude.arith, Prelude.to_z-of_z, Prelude.IfErr-weaker, Classes.refused_limit, Classes.limit_of}
 use Rattle.qrcode_bits.proofs.bits.encode.encode_auto_with_max_version.Goals as goal
 
 pub returns-clause-err : goal.returns-clause-err

@@ -1,6 +1,5 @@
 -- What was pushed and the parts from here on are the whole plan; each part lies in the data.
-use Rattle.qrcode_bits.proofs.Prelude.{All, length, LiesIn}
-use Rattle.qrcode_bits.proofs.Encodings.{IsPushedTo}
+use Rattle.qrcode_bits.proofs.{Prelude.All, Prelude.length, Prelude.LiesIn, Encodings.IsPushedTo}
 use Rattle.qrcode_bits.proofs.bits.encode.encode_plan.Given as goal
 
 abbrev pub invariant-loop-part : goal.invariant-loop-part

@@ -1,13 +1,7 @@
 -- The first class whose last version holds the chosen plan decides.
-use Rattle.qrcode_bits.proofs.Prelude.{◌*◌, length, arith, inl, inr, header_bits, IsClass, Normal}
-use mir.Val.{to_z}
-use mir.Syntax.{w16}
+use Rattle.qrcode_bits.proofs.{Prelude.length, Prelude.arith, Prelude.header_bits, Prelude.IsClass, Pairs.bytes_valid, Reading.front-is, Lengths.long_message}
 use Rattle.std.proofs.lemmas.Result.{IfOk-weaker}
-use Rattle.qrcode_bits.proofs.Pairs.{bytes_valid}
-use Rattle.qrcode_bits.proofs.Reading.{front-is}
-use Rattle.qrcode_bits.proofs.Lengths.{long_message}
-use Rattle.qrcode_bits.proofs.Classes.{IsClassEnd, class_behind, class_fits_not, class_fits, class_encoding, normal_is, front_not}
-use Rattle.qrcode_bits.proofs.bits.encode.encode_up_to.Goals.{then-before-lt9, else-before-lt9+then-before-lt26, else-before-lt9+else-before-lt26}
+use Rattle.qrcode_bits.proofs.Classes.{class_fits_not, class_fits, class_encoding, normal_is, front_not}
 use Rattle.qrcode_bits.proofs.bits.encode.encode_up_to.Goals as goal
 
 pub returns-then-bytes-gt-LONGEST_DATA-clause-err : goal.returns-then-bytes-gt-LONGEST_DATA-clause-err
@@ -18,44 +12,25 @@ returns-then-bytes-gt-LONGEST_DATA-clause-err c =
 pub encode_plan-requires-clause-fits : goal.encode_plan-requires-clause-fits
 encode_plan-requires-clause-fits c =
     let plan = rw c.in-Some.is at c.in_ok-plan.ensures in
-    rw c.deref-in-Some.ensures.value (class_fits c.args.header.now c.args.bytes.now c.args.level c.min-last.result (20 * c.from-front.result) c.in-Some.size
-    c.in-Some.plan.items (Normal (to_z w16 c.min-last.result)) c.find_min_version-smallest.result
-    (front-is c.args.header.now c.is_some.result c.from-front.result c.is_some.ensures c.from-front.ensures)
+    rw c.deref-in-Some.ensures.value (class_fits _ _ _ c.min-last.result _ _ _ _ _
+    (front-is _ c.is_some.result c.from-front.result c.is_some.ensures c.from-front.ensures)
     (normal_is c.min-last.result (omega (arith, c.min-last.ensures))) plan.chosen plan.fits plan.bits c.find_min_version-smallest.ensures)
 
 pub returns-in-Some-clause-ok : goal.returns-in-Some-clause-ok
 returns-in-Some-clause-ok c =
-    let before = c.loop-before.before in
-    let which : IsClassEnd before c.if-before-lt9.class_end = elim c.if-before-lt9.branch [
-      | then-before-lt9 w ↦ inl (w.if-before-lt9.true, w.class_end-is)
-      | else-before-lt9+then-before-lt26 w ↦ inr (inl (w.if-before-lt9.false, w.if-before-lt26.true, w.class_end-is))
-      | else-before-lt9+else-before-lt26 w ↦ inr (inr (w.if-before-lt26.false, w.class_end-is))
-    ] in
-    let here = class_behind before c.args.limit c.if-before-lt9.class_end c.loop-before-test.true which c.requires.to_forty in
-    let class : IsClass before c.min-last.result = rw c.min-last.ensures here.0 in
+    let class : IsClass c.loop-before.before c.min-last.result = grind arith in
     let plan = rw c.in-Some.is at c.in_ok-plan.ensures in
-    IfOk-weaker c.encode_plan.result _ _
-    (class_encoding c.args.header.now c.args.bytes.now c.args.level c.min-last.result (20 * c.from-front.result) c.in-Some.size
-    c.in-Some.plan.items (Normal (to_z w16 c.min-last.result)) c.find_min_version-smallest.result
-    (front-is c.args.header.now c.is_some.result c.from-front.result c.is_some.ensures c.from-front.ensures)
+    IfOk-weaker c.encode_plan.result _ _ (class_encoding _ _ _ c.min-last.result _ _ _ _ _
+    (front-is _ c.is_some.result c.from-front.result c.is_some.ensures c.from-front.ensures)
     (normal_is c.min-last.result (omega (arith, c.min-last.ensures))) plan.chosen plan.fits plan.bits c.find_min_version-smallest.ensures
-    before c.args.limit class (omega (arith, c.min-last.ensures)) c.loop-before.invariant)
+    c.loop-before.before c.args.limit class (omega (arith, c.min-last.ensures)) c.loop-before.invariant)
     (rw c.deref-in-Some.ensures.value at c.encode_plan.ensures.ok)
 
 pub loop-before-preserved : goal.loop-before-preserved
 loop-before-preserved c =
-    let before = c.loop-before.before in
-    let which : IsClassEnd before c.if-before-lt9.class_end = elim c.if-before-lt9.branch [
-      | then-before-lt9 w ↦ inl (w.if-before-lt9.true, w.class_end-is)
-      | else-before-lt9+then-before-lt26 w ↦ inr (inl (w.if-before-lt9.false, w.if-before-lt26.true, w.class_end-is))
-      | else-before-lt9+else-before-lt26 w ↦ inr (inr (w.if-before-lt26.false, w.class_end-is))
-    ] in
-    let here = class_behind before c.args.limit c.if-before-lt9.class_end c.loop-before-test.true which c.requires.to_forty in
-    let class : IsClass before c.min-last.result = rw c.min-last.ensures here.0 in
-    class_fits_not (length (header_bits c.args.header.now)) c.args.bytes.now c.args.level before c.min-last.result
-    (omega (arith, c.min-last.ensures, c.requires.to_forty)) class c.loop-before.invariant
-    (front_not c.args.bytes.now c.args.level c.min-last.result (20 * c.from-front.result) (length (header_bits c.args.header.now))
-    (Normal (to_z w16 c.min-last.result)) (front-is c.args.header.now c.is_some.result c.from-front.result c.is_some.ensures c.from-front.ensures)
+    let class : IsClass c.loop-before.before c.min-last.result = grind arith in
+    class_fits_not _ _ _ c.loop-before.before c.min-last.result (omega (arith, c.min-last.ensures, c.requires.to_forty)) class c.loop-before.invariant
+    (front_not _ _ c.min-last.result _ _ _ (front-is _ c.is_some.result c.from-front.result c.is_some.ensures c.from-front.ensures)
     (normal_is c.min-last.result (omega (arith, c.min-last.ensures))) (rw c.in_default.is at c.in_ok-plan.ensures.none))
 
 pub returns-clause-err : goal.returns-clause-err

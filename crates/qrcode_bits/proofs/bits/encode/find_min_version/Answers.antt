@@ -1,6 +1,5 @@
 -- No version was found that holds so many bits.
-use Rattle.qrcode_bits.proofs.Prelude.{refl, inr, arith}
-use Rattle.qrcode_bits.proofs.Choices.{none_holds}
+use Rattle.qrcode_bits.proofs.{Prelude.refl, Prelude.inr, Prelude.arith, Choices.none_holds}
 use Rattle.qrcode_bits.proofs.bits.encode.find_min_version.Goals as goal
 
 pub returns : goal.returns

@@ -1,7 +1,5 @@
 -- The start enters its buckets, one after the other.
-use Rattle.qrcode_bits.proofs.Prelude.{rules}
-use Rattle.qrcode_bits.proofs.Prelude.{arith}
-use Rattle.qrcode_bits.proofs.WordStarts.{enters_words}
+use Rattle.qrcode_bits.proofs.{Prelude.rules, Prelude.arith, WordStarts.enters_words}
 use Rattle.qrcode_bits.proofs.optimize.short.enter.Goals as goal
 
 pub returns-clause-entered : goal.returns-clause-entered

@@ -1,5 +1,4 @@
-use Rattle.qrcode_bits.proofs.Prelude.{◌+◌, ◌≤◌}
-use Rattle.qrcode_bits.proofs.ShortSteps.{IsSought}
+use Rattle.qrcode_bits.proofs.{Prelude.◌+◌, Prelude.◌≤◌, ShortSteps.IsSought}
 use Rattle.qrcode_bits.proofs.optimize.short.last_step_short.Given as goal
 
 abbrev pub invariant-loop-bucket : goal.invariant-loop-bucket

@@ -1,5 +1,4 @@
-use Rattle.qrcode_bits.proofs.Prelude.{◌≤◌, length}
-use Rattle.qrcode_bits.proofs.ReadBack.{IsReadFrom}
+use Rattle.qrcode_bits.proofs.{Prelude.◌≤◌, Prelude.length, ReadBack.IsReadFrom}
 use Rattle.qrcode_bits.proofs.optimize.short.read_back_short.Given as goal
 
 abbrev pub invariant-loop-end : goal.invariant-loop-end

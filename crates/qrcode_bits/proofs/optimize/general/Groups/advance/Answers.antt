@@ -1,6 +1,5 @@
 -- Each group that goes is absorbed and cleared.
-use Rattle.qrcode_bits.proofs.Prelude.{rules, arith}
-use Rattle.qrcode_bits.proofs.Grouping.{none_in}
+use Rattle.qrcode_bits.proofs.{Prelude.rules, Prelude.arith, Grouping.none_in}
 use Rattle.qrcode_bits.proofs.optimize.general.Groups.advance.Goals as goal
 
 pub returns-in-Byte-clause-advances : goal.returns-in-Byte-clause-advances

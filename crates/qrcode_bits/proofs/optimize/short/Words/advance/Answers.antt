@@ -1,6 +1,5 @@
 -- Three groups go to that of Byte.
-use Rattle.qrcode_bits.proofs.Prelude.{arith}
-use Rattle.qrcode_bits.proofs.WordStarts.{no_starts}
+use Rattle.qrcode_bits.proofs.{Prelude.arith, WordStarts.no_starts}
 use Rattle.qrcode_bits.proofs.optimize.short.Words.advance.Goals as goal
 
 pub returns-in-Byte-clause-advances : goal.returns-in-Byte-clause-advances

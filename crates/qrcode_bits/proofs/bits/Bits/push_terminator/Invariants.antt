@@ -1,7 +1,6 @@
 -- The bytes that were pushed and those that are left are all.
-use Rattle.qrcode_bits.proofs.Prelude.{◌-◌, ◌/◌, ◌<◌, bytes_in_turn}
-use Rattle.qrcode_bits.proofs.Streams.{Continues}
-use Rattle.qrcode_bits.proofs.bits.Bits.push_padding.Given as goal
+use Rattle.qrcode_bits.proofs.{Prelude.◌-◌, Prelude.◌/◌, Prelude.◌<◌, Prelude.bytes_in_turn, Streams.Continues}
+use Rattle.qrcode_bits.proofs.bits.Bits.push_terminator.Given as goal
 
 abbrev pub invariant-loop-i : goal.invariant-loop-i
 invariant-loop-i l = record {
