@@ -74,24 +74,14 @@ chosen_bits message v plan other h q = chosen-least (parsed message) v plan othe
 
 pub chosen_least : (front : ℕ) (message : List ℕ) (v : Version) (plan : List Segment) → IsChosenPlan (parsed message) v plan →
     IsLeastBits front message v (front + total_bits v plan)
-chosen_least front message v plan h = record {
-  plan = plan;
-  planned = chosen_is_plan message v plan h;
-  reached = refl;
-  least = λ other q. let fewer = chosen_bits message v plan other h q in omega arith;
-}
+chosen_least front message v plan h = grind (arith, chosen_is_plan message v plan h, chosen_bits message v plan)
 
 -- Where some plan fits, the chosen plan fits.
 pub chosen_fits : (front : ℕ) (v : Version) (l : EcLevel) (message : List ℕ) (plan other : List Segment) → IsChosenPlan (parsed message) v plan →
     Fits front message v l other → Fits front message v l plan
 chosen_fits front v l message plan other h fits =
-    grind (
-      arith,
-      chosen_bits message v plan other h fits.planned,
-      chosen_is_plan message v plan h,
-      chosen_is_plan message v plan h,
-      plans-had v (parsed message) plan other (chosen_is_plan message v plan h) fits.planned fits.has_modes,
-    )
+    grind (arith, chosen_bits message v plan other h fits.planned, chosen_is_plan message v plan h,
+    plans-had v (parsed message) plan other (chosen_is_plan message v plan h) fits.planned fits.has_modes)
 
 -- Where the chosen plan does not fit, no plan fits.
 pub chosen_decides : (front : ℕ) (v : Version) (l : EcLevel) (message : List ℕ) (plan : List Segment) → IsChosenPlan (parsed message) v plan →
@@ -180,16 +170,8 @@ capacity-middle l n c h known = let d = middle_capacity l in let grows = capacit
 pub fits_last : (front n : ℕ) (message : List ℕ) (l : EcLevel) (plan : List Segment) → n ≤ 40 → Fits front message (normal n) l plan →
     Fits front message (normal 40) l plan
 fits_last front n message l plan h w =
-    let some : 1 ≤ n = (capacity-held l n w.limit w.has_level).0 in
-    let c = middle_capacity l in
-    let d = last_capacity l in
-    let doubled = total_bits-double n 40 some (omega arith) plan in
-    let room = capacity-double l c.0 d.0 c.1 d.1 in
-    fits_normal front 40 d.0 message l plan w.planned d.1 (elim (cases_lt n 27) [
-      | inl early ↦ (let low = capacity-grows l n 26 w.limit c.0 (omega arith) w.has_level c.1 in omega arith)
-      | inr late ↦ (let low = capacity-grows l n 40 w.limit d.0 h w.has_level d.1 in
-          let equal = total_bits-same n 40 some (omega arith) (inr (inr (late, omega arith))) plan in omega arith)
-    ])
+    grind (arith, capacity-held l n w.limit w.has_level, middle_capacity l, last_capacity l, total_bits-double n 40, capacity-double l, fits_normal front 40,
+    cases_lt n 27, capacity-grows l n 26 w.limit, capacity-grows l n 40 w.limit, total_bits-same n 40)
 
 -- ---- The least version that holds so many bits
 

@@ -93,9 +93,8 @@ module _ (bytes : List ℕ) (begin : ℕ) (within : begin < length bytes) where
       next ≡ class_number (class_of (get_or bytes end 0)) → next ≡ number →
       IsRun bytes class begin end → IsRun bytes class begin (end + 1)
   alone_more end number next below other is next_is same run =
-      let here = numbered-is (get_or bytes end 0) next next_is in
-      let first = numbered-is (get_or bytes begin 0) next (same ∙ is) in
-      grind (arith, Run-more, class_of-one (get_or bytes begin 0), joins-self class other, units_other)
+      grind (arith, Run-more, class_of-one (get_or bytes begin 0), joins-self class other, numbered-is (get_or bytes end 0) next next_is,
+      numbered-is (get_or bytes begin 0) next (same ∙ is), units_other)
 
   pub alone_stops : (end number : ℕ) → number ≡ class_number class → IsRun bytes class begin end →
       (end < length bytes → class_number (class_of (get_or bytes end 0)) ≡ number → ⊥) →
@@ -117,9 +116,7 @@ pub lone_stops : (bytes : List ℕ) (begin : ℕ) → begin < length bytes → c
     parsed_from begin (drop begin bytes) ≡ record { mode = class_mode LoneLead; begin = begin; end = begin + 1 } ∷ parsed_from
     (begin + 1) (drop (begin + 1) bytes)
 lone_stops bytes begin within lone unit =
-    run_stops bytes LoneLead begin (begin + 1) (Run-first bytes LoneLead begin 1 refl
-    (unit ∙ ap (λ (d : Class). d ∷ units (drop (begin + 1) bytes)) lone)) (λ w.
-    let n = next_unit bytes (begin + 1) w in (n.0, lone_apart n.0, n.2))
+    grind (arith, run_stops bytes LoneLead begin (begin + 1), Run-first bytes LoneLead begin 1 refl, next_unit bytes (begin + 1), lone_apart)
 
 pub pair_more : (bytes : List ℕ) (begin end : ℕ) → units (drop end bytes) ≡ Pair ∷ units (drop (end + 2) bytes) → IsRun bytes Pair begin end →
     IsRun bytes Pair begin (end + 2)

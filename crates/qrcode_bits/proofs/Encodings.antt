@@ -4,6 +4,7 @@ use Rattle.qrcode_bits.proofs.Prelude.{total_bits, Fits, no_modes, segment_piece
 use Rattle.qrcode_bits.proofs.Prelude.{IsLevelRefused, with_modes, IsPlanStream, drop, segment_piece, IsSpellable, All-head, All-tail, drop_all, append-nil}
 use Rattle.qrcode_bits.proofs.Prelude.{append_assoc, segment_at, All, Option, Version}
 use Rattle.qrcode_bits.proofs.{Choices.some_same, PlanFrames.spelled_plan, PlanFrames.plan_frame, Pushes.pieces_at}
+use Rattle.std.proofs.lemmas.Grind.{common_steps}
 
 -- What is pushed of a plan before a part, and what is left, are the header and the whole plan; each part can be spelled.
 pub record IsPushedTo (header : Option Header) (bytes : List ℕ) (v : Version) (plan : List Segment) (i : ℕ) (now : Stream) : Type 0 where
@@ -21,9 +22,7 @@ module _ (header : Option Header) (bytes : List ℕ) (v : Version) (plan : List 
   pub pushed_more : (next : Stream) → i < length plan → Spells now next (segment_piece bytes (segment_at plan i)) →
       IsPushedTo header bytes v plan (i + 1) next
   pushed_more next within w =
-      let left = All-tail (IsSpellable v) _ (segment_pieces bytes (drop (i + 1) plan))
-      (subst (All (IsSpellable v)) (pieces_at bytes plan i within) h.spellable) in
-      grind (arith, append_assoc, pieces_at bytes plan i within)
+      grind (arith, common_steps, All-tail (IsSpellable v) (segment_piece bytes (segment_at plan i)) (segment_pieces bytes (drop (i + 1) plan)) (subst (All (IsSpellable v)) (pieces_at bytes plan i within) h.spellable), append_assoc)
 
 -- ---- The stream of a plan, behind a header or none
 

@@ -27,21 +27,16 @@ long_message front message l limit last are long n k plan w =
     let texts = texts-plan message are plan w.planned in
     let bare = texts-dense message (normal n) 0 (length message) plan texts (omega arith) in
     elim (cases_lt n 27) [
-      | inl early ↦ grind (arith, capacity-middle l n w.limit (omega arith) w.has_level)
-      | inr late ↦ grind (
-        arith,
-        capacity-most l n w.limit (omega arith) w.has_level,
-        texts-headed message (normal n) 16 0 (length message) plan
-            (long_header n late) (omega arith) texts (omega arith),
-      )
+      | inl early ↦ (let held = capacity-middle l n w.limit (omega arith) w.has_level in omega arith)
+      | inr late ↦ (let held = capacity-most l n w.limit (omega arith) w.has_level in
+          let headed = texts-headed message (normal n) 16 0 (length message) plan (long_header n late) (omega arith) texts (omega arith) in omega arith)
     ]
 
 -- No plan of more bytes than three for ten bits of the capacity fits a version.
 pub dense_message : (front : ℕ) (message : List ℕ) (v : Version) (l : EcLevel) (limit : ℕ) → All (λ c. c < 256) message → capacity v l ≡ Some limit →
     limit < length message / 3 * 10 → FitsNot front message v l
 dense_message front message v l limit are known long plan w =
-    let bare = texts-dense message v 0 (length message) plan (texts-plan message are plan w.planned) (omega arith) in
-    grind (arith, common_steps)
+    grind (arith, texts-dense message v 0 (length message) plan (texts-plan message are plan w.planned), common_steps)
 
 -- ---- Micro
 
@@ -51,6 +46,4 @@ micro-most l n c k h = grind arith
 -- No plan of more than 7089 bytes fits a Micro version.
 pub long_for_micro : (message : List ℕ) (l : EcLevel) → All (λ c. c < 256) message → 7089 < length message → FitsNone micro 0 message l 4
 long_for_micro message l are long n k plan w =
-    let held = micro-most l n w.limit k w.has_level in
-    let bare = texts-dense message (micro n) 0 (length message) plan (texts-plan message are plan w.planned) (omega arith) in
-    absurd (omega arith)
+    grind (arith, micro-most l n w.limit k w.has_level, texts-dense message (micro n) 0 (length message) plan (texts-plan message are plan w.planned))

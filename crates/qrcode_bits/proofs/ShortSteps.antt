@@ -115,8 +115,7 @@ module _ (segments : List Segment) (version : Version) (end : ℕ) (within : end
         (let b = found-best.0.below in linear.ordered found.start (end - 1) (omega arith) (omega arith)) found-best.1.bits costs
 
     pub short-enough : (periods : ℕ) → periods ≡ 8192 * period_bits mode → periods ≤ w / 2 ^ 26 + cost
-    short-enough periods is = let b = both.0 in let e : periods ≡ 8192 * period_bits (bucket_mode j) =
-        is ∙ ap (λ m. 8192 * period_bits m) mode-is in omega arith
+    short-enough periods is = grind (arith, both)
 
     module _ (periods cand : ℕ) (periods-is : periods ≡ 8192 * period_bits mode) (cand-is : cand ≡ w + cost * 2 ^ 26 - periods * 2 ^ 26)
         (dear : cost < 2 ^ 18) where
