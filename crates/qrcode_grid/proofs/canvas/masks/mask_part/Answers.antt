@@ -1,11 +1,11 @@
 use Rattle.qrcode_grid.proofs.Prelude.{◌≡◌, ◌+◌, ◌/◌, ◌%◌, ◌<◌, ◌==◌, ℕ, map, get_or, cond, ap, ◌∙◌, arith, common_steps, bit_at, bit_and, bit_xor, code_of, masked_code}
-use Rattle.qrcode_grid.proofs.Prelude.{get_or-map, get_or-set_same, get_or-set_other, cases_lt, inl, inr}
+use Rattle.qrcode_grid.proofs.Prelude.{byte_of, get_or-map, get_or-set_same, get_or-set_other, cases_lt, inl, inr}
 use Rattle.qrcode_grid.proofs.Conditions.{bit_masked, spread_bit}
 use Rattle.qrcode_grid.proofs.canvas.masks.mask_part.Goals as goal
 
 pub loop-k-preserved : goal.loop-k-preserved
 loop-k-preserved c =
-    let k = c.loop-k.k in let code = c.match-modules-from.code in
+    let k = c.loop-k.k in let code = c.match-old.data + byte_of c.match-old-2.color in
     let coded : code ≡ get_or (map code_of c.args.modules.now) (c.args.from + k) 0 = grind (arith, common_steps, get_or-map) in
     let small : code < 4 = grind arith in
     let dark : c.if-code-eq1.dark ≡ cond (code % 2 == 1) 255 0 = grind (arith, common_steps) in
