@@ -1,10 +1,17 @@
-use Rattle.qrcode_grid.proofs.Prelude.{arith, common_steps}
+use Rattle.qrcode_grid.proofs.Prelude.{◌≡◌, arith, common_steps, bits_from}
 use Rattle.qrcode_grid.proofs.StreamPlaces.{no_bits, first_bit}
-use Rattle.qrcode_grid.proofs.canvas.data.offer.Goals.{then-ahead-eq0+in-Some, else-ahead-eq0}
+use Rattle.qrcode_grid.proofs.canvas.data.offer.Goals.{then-bits-gt0, else-bits-gt0+in-Some, else-bits-gt0+in-None}
 use Rattle.qrcode_grid.proofs.canvas.data.offer.Goals as goal
 
-pub returns-after-ahead-eq0-clause-rest : goal.returns-after-ahead-eq0-clause-rest
-returns-after-ahead-eq0-clause-rest c = elim c.if-ahead-eq0.branch [
-  | then-ahead-eq0+in-Some w ↦ grind (arith, common_steps, first_bit, no_bits, w.in-Some.ensures.some, w.in-Some.ensures.count)
-  | else-ahead-eq0 w ↦ grind (arith, common_steps, first_bit)
-]
+pub returns-else-ahead-eq0 : goal.returns-else-ahead-eq0
+returns-else-ahead-eq0 c =
+    let same : bits_from c.args.streams c.if-bits-gt0.ahead ≡ bits_from c.args.streams c.args.bits = elim c.if-bits-gt0.branch [
+      | then-bits-gt0 w ↦ grind (arith)
+      | else-bits-gt0+in-Some w ↦ grind (arith, no_bits c.args.bits.word)
+      | else-bits-gt0+in-None w ↦ grind (arith)
+    ] in
+    record {
+      small = grind (arith);
+      modules = grind (arith, common_steps, first_bit, same);
+      rest = grind (arith, common_steps, first_bit, same);
+    }
