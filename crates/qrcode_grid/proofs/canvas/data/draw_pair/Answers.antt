@@ -2,20 +2,10 @@ use Rattle.qrcode_grid.proofs.Prelude.{◌≡◌, ◌-◌, ◌*◌, ◌/◌, Lis
 use Rattle.qrcode_grid.proofs.FillSteps.{more_rows}
 use Rattle.qrcode_grid.proofs.canvas.data.draw_pair.Goals as goal
 
-pub loop-part-preserved-in-Some : goal.loop-part-preserved-in-Some
-loop-part-preserved-in-Some c = record {
-  fills =
-      let rest = bits_from c.args.streams c.in-Some.rest in
-      let rows = subst (λ (bits : List Bool). FillsRows c.args.columns (4 * c.loop-part.part) 4 bits rest c.loop-part.modules c.draw_eight.new.modules)
-          (sym c.in-Some.ensures.same) (c.draw_eight.ensures rest) in
-      more_rows c.args.columns (4 * c.loop-part.part) 4 _ _ _ _ _ _ _ (omega arith) c.loop-part.invariant.fills rows;
-  small = c.in-Some.ensures.small;
-}
-
 pub loop-part-preserved : goal.loop-part-preserved
 loop-part-preserved c = record {
-  fills = more_rows c.args.columns (4 * c.loop-part.part) 4 _ _ _ _ _ _ _ (omega arith) c.loop-part.invariant.fills c.draw_rows-ahead.ensures.fills;
-  small = c.draw_rows-ahead.ensures.small;
+  fills = more_rows c.args.columns (4 * c.loop-part.part) 4 _ _ _ _ _ _ _ (omega arith) c.loop-part.invariant.fills c.draw_four-ahead.ensures.fills;
+  small = c.draw_four-ahead.ensures.small;
 }
 
 pub returns-clause-fills : goal.returns-clause-fills
