@@ -6,25 +6,19 @@ use Rattle.qrcode_grid.proofs.StreamPlaces.{no_bits}
 use Rattle.qrcode_grid.proofs.FillSteps.{row_placed}
 use Rattle.qrcode_grid.proofs.canvas.data.draw_eight.Goals as goal
 
-right_of : (q : ℕ) → q < 4 → get_or (get_or ROWS q []) 1 Empty ≡ Unmasked (bit_color (q / 2 == 1))
-right_of zero h = refl
-right_of (suc zero) h = refl
-right_of (suc (suc zero)) h = refl
-right_of (suc (suc (suc zero))) h = refl
-right_of (suc (suc (suc (suc q)))) h = absurd (omega (arith, h))
-
-left_of : (q : ℕ) → q < 4 → get_or (get_or ROWS q []) 0 Empty ≡ Unmasked (bit_color (q % 2 == 1))
-left_of zero h = refl
-left_of (suc zero) h = refl
-left_of (suc (suc zero)) h = refl
-left_of (suc (suc (suc zero))) h = refl
-left_of (suc (suc (suc (suc q)))) h = absurd (omega (arith, h))
+row_of : (q : ℕ) → q < 4 →
+    (get_or (get_or ROWS q []) 1 Empty ≡ Unmasked (bit_color (q / 2 == 1))) × (get_or (get_or ROWS q []) 0 Empty ≡ Unmasked (bit_color (q % 2 == 1)))
+row_of zero h = (refl, refl)
+row_of (suc zero) h = (refl, refl)
+row_of (suc (suc zero)) h = (refl, refl)
+row_of (suc (suc (suc zero))) h = (refl, refl)
+row_of (suc (suc (suc (suc q)))) h = absurd (omega (arith, h))
 
 right_bit : (word k : ℕ) → get_or (get_or ROWS (word / 2 ^ k % 4) []) 1 Empty ≡ data_bit word (k + 1)
-right_bit word k = grind (arith, word / 2 ^ k, div-div-eq-div-mul word (2 ^ k) 2, pow-add 2 k 1, right_of ((word / 2 ^ k) % 4) (omega arith))
+right_bit word k = grind (arith, word / 2 ^ k, div-div-eq-div-mul word (2 ^ k) 2, pow-add 2 k 1, (row_of ((word / 2 ^ k) % 4) (omega arith)).0)
 
 left_bit : (word k : ℕ) → get_or (get_or ROWS (word / 2 ^ k % 4) []) 0 Empty ≡ data_bit word k
-left_bit word k = grind (arith, word / 2 ^ k, left_of ((word / 2 ^ k) % 4) (omega arith))
+left_bit word k = grind (arith, word / 2 ^ k, (row_of ((word / 2 ^ k) % 4) (omega arith)).1)
 
 pub loop-i-preserved : goal.loop-i-preserved
 loop-i-preserved c = λ after t pair is bits xs f.
