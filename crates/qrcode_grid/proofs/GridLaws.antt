@@ -19,25 +19,19 @@ is_near_its_own n i u =
 abbrev are_near_their_own : ℕ → Bool
 are_near_their_own n = all_pass (λ i. all_pass (is_near_its_own n i) 0 5) 0 (alignment_count n)
 
-near_test : all_pass are_near_their_own 0 41 ≡ true
-near_test = refl
-
 some_of : (o : Option ℕ) (c : ℕ) → unwrap_or o 0 ≡ c → 6 ≤ c → o ≡ Some c
 some_of o c h l = grind (arith)
-
-around : (c x : ℕ) → 6 ≤ c → abs_diff c x ≤ 2 → c + (x + 2 - c) - 2 ≡ x
-around c x six close = omega (arith, close)
 
 pub near_center : (n i x : ℕ) → n ≤ 40 → i < alignment_count n → abs_diff (alignment_coordinate n i) x ≤ 2 →
     near (alignment_coordinates n) x ≡ Some (alignment_coordinate n i)
 near_center n i x high within close =
     let c = alignment_coordinate n i in
-    let row = passes are_near_their_own 0 41 n near_test (omega arith) (omega arith) in
+    let row = passes are_near_their_own 0 41 n refl (omega arith) (omega arith) in
     let at = passes (λ j. all_pass (is_near_its_own n j) 0 5) 0 (alignment_count n) i row (omega arith) (omega arith) in
     let u = x + 2 - c in
     let here = both _ _ (passes (is_near_its_own n i) 0 5 u at (omega arith) (omega (arith, close))) in
     let six : 6 ≤ c = leb-true 6 c here.0 in
-    let same : c + u - 2 ≡ x = around c x six close in
+    let same : c + u - 2 ≡ x = omega (arith, six, close) in
     subst (λ (y : ℕ). near (alignment_coordinates n) y ≡ Some c) same (some_of _ c (eqb-true _ _ here.1) six)
 
 -- whether a pair of coordinates lies at one of the three finder patterns, by the coordinates and by their places
@@ -49,9 +43,6 @@ abbrev is_end : ℕ → ℕ → Bool
 is_end n i =
     (not (alignment_coordinate n i == 6) || i == 0) && (not (alignment_coordinate n i == 4 * n + 17 - 7) || i == alignment_count n - 1)
 
-ends_test : all_pass (λ n. all_pass (is_end n) 0 (alignment_count n)) 0 41 ≡ true
-ends_test = refl
-
 end_of : (c i far last : ℕ) → ((not (c == 6) || i == 0) && (not (c == far) || i == last)) ≡ true → (c ≡ 6 → i ≡ 0) × (c ≡ far → i ≡ last)
 end_of c i far last h = grind (arith, nat_tests)
 
@@ -59,7 +50,7 @@ ends_are : (n i : ℕ) → n ≤ 40 → i < alignment_count n →
     (alignment_coordinate n i ≡ 6 → i ≡ 0) × (alignment_coordinate n i ≡ 4 * n + 17 - 7 → i ≡ alignment_count n - 1)
 ends_are n i high within =
     end_of (alignment_coordinate n i) i (4 * n + 17 - 7) (alignment_count n - 1) (passes (is_end n) 0 (alignment_count n) i
-    (passes (λ m. all_pass (is_end m) 0 (alignment_count m)) 0 41 n ends_test (omega arith) (omega arith)) (omega arith) (omega arith))
+    (passes (λ m. all_pass (is_end m) 0 (alignment_count m)) 0 41 n refl (omega arith) (omega arith)) (omega arith) (omega arith))
 
 apart_by_places : (a b i j far last : ℕ) → (a ≡ 6 → i ≡ 0) × (a ≡ far → i ≡ last) → (b ≡ 6 → j ≡ 0) × (b ≡ far → j ≡ last) →
     is_at_finder 0 last i j ≡ false → is_at_finder 6 far a b ≡ false
@@ -86,9 +77,6 @@ is_least_step n =
     (nat_le n 1 || n == 32 ||
     (nat_le (4 * n + 4) ((alignment_count n - 1) * alignment_step n) && nat_lt ((alignment_count n - 1) * (alignment_step n - 2)) (4 * n + 4)))
 
-least_steps : all_pass is_least_step 1 40 ≡ true
-least_steps = refl
-
 abbrev step_reaches : ℕ → ℕ → ℕ → Bool
 step_reaches n c s = nat_le (4 * n + 4) ((c - 1) * s) && nat_lt ((c - 1) * (s - 2)) (4 * n + 4)
 
@@ -98,7 +86,7 @@ step_of_test n c s h = grind (arith, common_steps, both, eqb-true, leb-true, ltb
 
 has_every_alignment : (n : ℕ) → 1 ≤ n → n ≤ 40 → HasEveryAlignment n
 has_every_alignment n low high =
-    let least_step = step_of_test n (alignment_count n) (alignment_step n) (passes is_least_step 1 40 n least_steps low (omega arith)) in
+    let least_step = step_of_test n (alignment_count n) (alignment_step n) (passes is_least_step 1 40 n refl low (omega arith)) in
     record {
       drawn =
           λ i j x y hi hj apart close. every_drawn n i j x y high hi hj
