@@ -20,10 +20,4 @@ filter-alike p q at a (suc n) same =
 
 pub data_cells-by_areas : (version : Version) → IsVersion version →
     data_cells version ≡ filter (λ c. not (is_functional_cell version c.0 c.1)) (walk version)
-data_cells-by_areas version h =
-    let w = width_of version in let t = timing_column version in
-    filter-alike (λ (c : ℕ × ℕ). not (is_some (functional_color version 0 c.0 c.1))) (λ c. not (is_functional_cell version c.0 c.1))
-    (numbered_cell w t) 0 (w * (w - 1))
-    (λ k low high.
-    let at = numbered_cell_inside w (w / 2) t k (odd_width version h) (timing_inside version h) (omega arith) in
-    ap not (is_some-functional_color version 0 (numbered_cell w t k).0 (numbered_cell w t k).1 h at.0 at.1))
+data_cells-by_areas version h = grind (arith, filter-alike, numbered_cell_inside, odd_width, timing_inside, is_some-functional_color)

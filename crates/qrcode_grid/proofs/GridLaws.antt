@@ -67,9 +67,7 @@ abbrev alignment_step : ℕ → ℕ
 alignment_step n = cond (n == 32) 26 ((4 * n + 2 * alignment_count n + 1) / (2 * alignment_count n - 2) * 2)
 
 spaced_by_step : (n k : ℕ) → 1 ≤ k → alignment_coordinate n k ≡ 4 * n + 10 - (alignment_count n - 1 - k) * alignment_step n
-spaced_by_step n k h =
-    let later : (k == 0) ≡ false = (grind (arith, nat_tests, h)) in
-    ap (λ b. cond b 6 (4 * n + 10 - (alignment_count n - 1 - k) * alignment_step n)) later
+spaced_by_step n k h = grind arith
 
 abbrev is_least_step : ℕ → Bool
 is_least_step n =
@@ -104,11 +102,7 @@ unfolding HasItsAlignments
 has_its_alignments version h = grind (arith, has_every_alignment)
 
 pub consistent_regions : (version : Version) → IsVersion version → AreConsistentRegions version
-consistent_regions version h = record {
-  areas = λ format x y l m. is_some-functional_color version format x y h l m;
-  agree =
-      λ format x y l m. regions_say version format x y h l m;
-}
+consistent_regions version h = grind (arith, is_some-functional_color, regions_say)
 
 pub walk_of : (version : Version) → IsVersion version → IsWalkOf version
 walk_of version h =

@@ -7,8 +7,7 @@ use Rattle.qrcode_grid.proofs.GridLaws.{near_center}
 use Rattle.qrcode_grid.proofs.canvas.drawing.draw_alignments.Goals as goal
 
 pub returns-then-n-lt2 : goal.returns-then-n-lt2
-returns-then-n-lt2 c = λ x y l m. ap (λ o. drawn_over o (get_or c.args.modules.now (y * c.args.width + x) Empty))
-    (sym (no_alignments c.args.n c.args.width x y c.if-n-lt2.true))
+returns-then-n-lt2 c = grind (arith, no_alignments)
 
 pub loop-y-init : goal.loop-y-init
 loop-y-init c =

@@ -58,5 +58,4 @@ returns c =
     (omega (arith, low, c.loop-row-test.false, c.requires.wide)))) c.loop-row.invariant)
 
 pub returns-then-n-lt7 : goal.returns-then-n-lt7
-returns-then-n-lt7 c = λ x y l m. ap (λ o. drawn_over o (get_or c.args.modules.now (y * c.args.width + x) Empty))
-    (sym (no_version c.args.n x y c.if-n-lt7.true))
+returns-then-n-lt7 c = grind (arith, no_version)
