@@ -1,6 +1,6 @@
 -- The data cells by areas: the cells of the walk that lie in none.
-use Rattle.qrcode_grid.proofs.Prelude.{◌≡◌, ℕ, zero, suc, ◌<◌, ◌≤◌, ◌+◌, ◌-◌, ◌*◌, ◌/◌, ap, refl, arith, Bool, not, is_some, map, filter, range_with_len}
-use Rattle.qrcode_grid.proofs.Prelude.{Version, IsVersion, width_of, timing_column, numbered_cell, walk, data_cells, functional_color, is_functional_cell}
+use Rattle.qrcode_grid.proofs.Prelude.{◌≡◌, ℕ, zero, suc, ◌<◌, ◌≤◌, ◌+◌, ◌*◌, ◌/◌, refl, arith, Bool, not, map, filter, range_with_len}
+use Rattle.qrcode_grid.proofs.Prelude.{Version, IsVersion, width_of, timing_column, walk, data_cells, is_functional_cell}
 use Rattle.qrcode_grid.proofs.Prelude.{common_steps}
 use Rattle.qrcode_grid.proofs.Areas.{is_some-functional_color}
 use Rattle.qrcode_grid.proofs.Totals.{numbered_cell_inside}

@@ -2,7 +2,7 @@
 use Rattle.qrcode_grid.proofs.Prelude.{◌≡◌, ◌≢◌, ℕ, ◌+◌, ◌-◌, ◌*◌, ◌/◌, ◌%◌, ◌<◌, ◌≤◌, ◌==◌, ◌&&◌, ◌||◌, nat_le, nat_lt, Bool, true, false, Option, Some}
 use Rattle.qrcode_grid.proofs.Prelude.{unwrap_or, subst, refl, arith, ◌^◌, List, map, abs_diff, eqb-true, leb-true, ltb-true, Version, IsVersion, width_of}
 use Rattle.qrcode_grid.proofs.Prelude.{near, alignments, alignment_count, alignment_coordinate, alignment_coordinates, ring, position_or_len, range_with_len}
-use Rattle.qrcode_grid.proofs.Prelude.{timing_column, common_steps, cond, not, nat_tests, ap}
+use Rattle.qrcode_grid.proofs.Prelude.{timing_column, common_steps, cond, not, nat_tests}
 use Rattle.qrcode_grid.specs.Regions.{alignment, polynomial_product, code_word, HasOneMultiple, HasOneFormatWord, HasOneVersionWord}
 use Rattle.qrcode_grid.specs.Laws.{AreConsistentRegions, HasEveryAlignment, HasItsAlignments, IsWalkOf}
 use Rattle.qrcode_grid.proofs.Tests.{all_pass, passes, both}

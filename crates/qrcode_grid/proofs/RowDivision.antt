@@ -1,6 +1,6 @@
 -- Division by rows: its turns, long division, and lanes of bytes multiplied in the field.
 use Rattle.qrcode_grid.proofs.Prelude.{◌≡◌, ℕ, zero, suc, ◌<◌, ◌≤◌, ◌+◌, ◌-◌, refl, ap, sym, ◌∙◌, arith, List, [], ◌∷◌, ◌++◌, map, length, get_or, take, drop}
-use Rattle.qrcode_grid.proofs.Prelude.{replicate, ◌/◌, ◌%◌, cond, true, eqb, leb, w8, Fits, Bool, false, subst, range_with_len, bit_xor, xor_assoc, xor_zero_r}
+use Rattle.qrcode_grid.proofs.Prelude.{replicate, ◌/◌, ◌%◌, cond, eqb, leb, w8, Fits, Bool, false, subst, range_with_len, bit_xor, xor_assoc, xor_zero_r}
 use Rattle.qrcode_grid.proofs.Prelude.{xor_self, xor_comm, xor_of_8, append-nil, length-take, length-drop, length-replicate, get_or-take, get_or-drop}
 use Rattle.qrcode_grid.proofs.Prelude.{same_lists, get_or_default, drop_more, length-map, take-append-drop, get_or-map, take_at, drop_at}
 use Rattle.qrcode_grid.proofs.Prelude.{get_or-map-range_with_len, length-map-range_with_len, map-range_with_len_more, product, power, double, shift_and_add}
@@ -8,7 +8,7 @@ use Rattle.qrcode_grid.proofs.Prelude.{value_at, AreBytes, AreTerms, AreRows, Is
 use Rattle.qrcode_grid.proofs.Prelude.{get_or-replicate, get_or_past, All-same, All-drop, All-take, All-from_get_or, All-get_or, All-append}
 use Rattle.std.proofs.lemmas.List.{length-append, drop-drop, take-replicate}
 use Rattle.qrcode_grid.proofs.FieldLaws.{product-adds_left, product-one_left, product-zero_right, product_assoc, product_comm, product-double}
-use Rattle.qrcode_grid.proofs.FieldLaws.{product-zero_left, passes_below, passes_below-at, xor-zero, product-bounded, power-bounded}
+use Rattle.qrcode_grid.proofs.FieldLaws.{product-zero_left, passes_below-at, xor-zero, product-bounded, power-bounded}
 use Rattle.qrcode_grid.proofs.Values.{sums, value_at-append, value_at-zeros, power-first, length-sums, value_at-sums, value_at-multiple}
 use Rattle.std.proofs.lemmas.Simd.{get_or-sel_l, length-sel_l, tops_compared}
 use lib.Lanes.{Each1, zip2, put_chunk, sel_l, top}

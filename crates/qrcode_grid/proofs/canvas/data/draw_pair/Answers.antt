@@ -1,4 +1,4 @@
-use Rattle.qrcode_grid.proofs.Prelude.{◌≡◌, ◌-◌, ◌*◌, ◌/◌, List, Bool, subst, sym, arith, bits_from, FillsRows}
+use Rattle.qrcode_grid.proofs.Prelude.{◌≡◌, ◌-◌, ◌*◌, ◌/◌, arith}
 use Rattle.qrcode_grid.proofs.FillSteps.{more_rows}
 use Rattle.qrcode_grid.proofs.canvas.data.draw_pair.Goals as goal
 

@@ -1,4 +1,4 @@
-use Rattle.qrcode_grid.proofs.Prelude.{◌+◌, ◌*◌, ◌-◌, get_or, ap, ◌∙◌, sym, arith, drawn_over, version_copies, Empty}
+use Rattle.qrcode_grid.proofs.Prelude.{◌+◌, ◌*◌, ◌-◌, get_or, ap, ◌∙◌, arith, drawn_over, version_copies, Empty}
 use Rattle.qrcode_grid.proofs.WrittenWords.{row_begins, cell_changed, row_ends, rows_between, rows_end}
 use Rattle.qrcode_grid.proofs.RegionRows.{no_version, no_version_before, no_version_behind, no_version_between, no_version_beside, no_version_below}
 use Rattle.qrcode_grid.proofs.canvas.drawing.draw_version_words.Goals as goal

@@ -1,5 +1,5 @@
-use Rattle.qrcode_grid.proofs.Prelude.{◌≡◌, ◌+◌, ◌/◌, ◌%◌, ◌<◌, ◌==◌, ℕ, map, get_or, cond, ap, ◌∙◌, arith, common_steps, bit_at, bit_and, bit_xor, code_of, masked_code}
-use Rattle.qrcode_grid.proofs.Prelude.{Empty, get_or-map, get_or-set_same, get_or-set_other, cases_lt, inl, inr}
+use Rattle.qrcode_grid.proofs.Prelude.{arith}
+use Rattle.qrcode_grid.proofs.Prelude.{get_or-map, get_or-set_same, get_or-set_other}
 use Rattle.qrcode_grid.proofs.Conditions.{bit_masked, spread_bit}
 use Rattle.qrcode_grid.proofs.canvas.masks.mask_part.Goals as goal
 

@@ -1,7 +1,5 @@
-use Rattle.qrcode_grid.proofs.Prelude.{◌≡◌, ◌+◌, ◌-◌, ◌*◌, ◌%◌, ◌≤◌, [], length, get_or, cond, ap, ◌∙◌, sym, arith, inl, inr, bit_at, mul-le-mul_right}
-use Rattle.qrcode_grid.proofs.Prelude.{add-mul, take, drop, length-chunk, cases_lt, is_inverted, pattern_of}
-use Rattle.qrcode_grid.specs.declared.canvas.masks.TheConstants.{CONDITIONS}
-use borrow.Rule.Slice.PartMut.{put_mid}
+use Rattle.qrcode_grid.proofs.Prelude.{◌≡◌, ◌+◌, ◌*◌, ◌%◌, get_or, cond, ap, ◌∙◌, sym, arith, inl, inr, bit_at, mul-le-mul_right}
+use Rattle.qrcode_grid.proofs.Prelude.{add-mul, length-chunk, cases_lt, is_inverted, pattern_of}
 use Rattle.qrcode_grid.proofs.Conditions.{condition_at, is_inverted-repeats}
 use Rattle.qrcode_grid.proofs.MarkedLanes.{part_here, part_before}
 use Rattle.qrcode_grid.proofs.canvas.masks.write_stripes.Goals as goal

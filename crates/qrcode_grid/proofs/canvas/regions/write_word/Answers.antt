@@ -1,4 +1,4 @@
-use Rattle.qrcode_grid.proofs.Prelude.{◌+◌, ◌-◌, ◌*◌, ◌<◌, length, get_or, ◌∙◌, arith, rules, get_or_default}
+use Rattle.qrcode_grid.proofs.Prelude.{◌+◌, ◌-◌, ◌*◌, ◌<◌, length, get_or, arith, rules, get_or_default}
 use Rattle.qrcode_grid.proofs.WrittenWords.{cell_within, next_written}
 use Rattle.qrcode_grid.proofs.canvas.regions.write_word.Goals as goal
 

@@ -1,4 +1,4 @@
-use Rattle.qrcode_grid.proofs.Prelude.{◌≡◌, ℕ, ◌+◌, ◌-◌, ◌*◌, ◌<◌, ◌≤◌, ◌==◌, [], ◌∷◌, ◌++◌, List, count_by, drop, take, get_or, length, ap, ◌∙◌, sym, arith}
+use Rattle.qrcode_grid.proofs.Prelude.{◌≡◌, ℕ, ◌+◌, ◌-◌, ◌*◌, ◌<◌, ◌≤◌, ◌==◌, List, count_by, drop, take, get_or, length, ◌∙◌, sym, arith}
 use Rattle.qrcode_grid.proofs.Prelude.{row, column, plane, take_more, take_all, length-take, common_steps}
 use Rattle.std.proofs.lemmas.List.{drop-append-le}
 use Rattle.std.proofs.lemmas.Nat.Bits.{shr_and_one}
