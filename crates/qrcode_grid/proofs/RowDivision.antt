@@ -64,8 +64,7 @@ sums_from_places lead new front gs same same' places =
 
 -- Data followed by the remainder of the data and n zeros vanishes.
 pub value_at-completed : (body ec : List ℕ) (n a : ℕ) → length ec ≡ n → value_at ec a ≡ value_at (body ++ replicate n 0) a → value_at (body ++ ec) a ≡ 0
-value_at-completed body ec n a len same =
-    grind (arith, common_steps, value_at-append, length-replicate, value_at-zeros, xor_zero_r, xor_self)
+value_at-completed body ec n a len same = grind (arith, value_at-append, length-replicate, value_at-zeros, xor_zero_r, xor_self)
 
 -- ---- one turn of the long division, as the loop writes it
 
@@ -186,8 +185,7 @@ multiple_odd i c h small e = grind (arith, common_steps, multiple_from_half, pro
 -- a lane of an odd multiple, from the even one below it
 pub odd_lane : (even terms : List ℕ) (i j : ℕ) → length even ≡ 32 → length terms ≡ 32 → i < 16 → i % 2 ≡ 1 → j < 32 → get_or terms j 0 < 256 →
     get_or even j 0 ≡ double (product (i / 2) (get_or terms j 0)) → get_or (zip2 bit_xor even terms) j 0 ≡ product i (get_or terms j 0)
-odd_lane even terms i j la lb below odd h small is =
-    lane_xor even terms 32 j la lb h ∙ ap (λ x. bit_xor x (get_or terms j 0)) is ∙ sym (multiple_odd i (get_or terms j 0) below small odd)
+odd_lane even terms i j la lb below odd h small is = grind (arith, lane_xor, multiple_odd)
 
 -- a byte by its halves
 pub product-halves : (f c : ℕ) → f < 256 → product f c ≡ bit_xor (product (f % 16) c) (product (f / 16) (product 16 c))
@@ -243,8 +241,7 @@ window lanes first n = map (λ k. get_or lanes k 0) (range_with_len first n)
 
 take-window : (lanes : List ℕ) (n : ℕ) → n ≤ length lanes → take n lanes ≡ window lanes 0 n
 unfolding window
-take-window lanes n h =
-    grind (arith, common_steps, length-take, same_lists, length-map-range_with_len, get_or_default, get_or-take, get_or-map-range_with_len)
+take-window lanes n h = grind (arith, length-take, same_lists, length-map-range_with_len, get_or_default, get_or-take, get_or-map-range_with_len)
 
 window-more : (lanes : List ℕ) (n : ℕ) → window lanes 0 (suc n) ≡ window lanes 0 n ++ get_or lanes n 0 ∷ []
 unfolding window

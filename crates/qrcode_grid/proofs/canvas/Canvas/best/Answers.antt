@@ -10,17 +10,13 @@ family_is : (c : goal.After-drop-values) → c.family_of.result.now ≡ family c
 family_is c = c.family_of.ensures ∙ ap (λ (d : Drawing). family d.version) c.self.view_is
 
 size_is : (c : goal.After-drop-values) → length c.in_ok-scratch.values.items ≡ length (family c.args.self.now.version)
-size_is c =
-    let d = c.args.self.now in
-    ap length c.in_ok-scratch.ensures.penalties ∙ length-map (family d.version) (λ q. penalty d.version (colors_of (with_mask q d)))
+size_is c = grind (arith, length-map)
 
 within : (c : goal.After-drop-values) → c.loop-i.best < length (family c.args.self.now.version)
 within c = omega (arith, size_is c, some_mask c.args.self.now.version)
 
 value_at_best : (c : goal.After-drop-values) → c.index-2.result.now ≡ get_or (mask_penalties c.args.self.now) c.loop-i.best 0
-value_at_best c =
-    c.index-2.ensures ∙ get_or_default c.in_ok-scratch.values.items c.loop-i.best c.index-2.result.now 0 (omega (arith, size_is c, within c))
-    ∙ ap (λ values. get_or values c.loop-i.best 0) c.in_ok-scratch.ensures.penalties
+value_at_best c = grind (arith, get_or_default, size_is)
 
 pub returns-clause-best : goal.returns-clause-best
 returns-clause-best c =
@@ -34,9 +30,7 @@ returns-clause-best c =
     )
 
 pub returns-clause-family : goal.returns-clause-family
-returns-clause-family c =
-    let v = c.args.self.now.version in
-    subst (λ (masks : List MaskPattern). IsOfFamily v (get_or masks c.loop-i.best Checkerboard)) (sym (family_is c)) (of_family v c.loop-i.best (within c))
+returns-clause-family c = grind (arith, family_is, of_family)
 
 pub returns-clause-least : goal.returns-clause-least
 returns-clause-least c =

@@ -11,14 +11,10 @@ pub penalties_of-numbered-requires-clause-symbol : goal.penalties_of-numbered-re
 penalties_of-numbered-requires-clause-symbol c = grind (arith, common_steps, version_of_symbol)
 
 pub overflow_mul-length-4 : goal.overflow_mul-length-4
-overflow_mul-length-4 c =
-    let known : IsVersion c.self.inside.version = version_of_symbol _ _ c.self.invariant.0 in
-    let small : c.self.inside.width ≤ 177 = search rules in search rules
+overflow_mul-length-4 c = grind (arith, common_steps, version_of_symbol)
 
 pub overflow_add-length-6 : goal.overflow_add-length-6
-overflow_add-length-6 c =
-    let known : IsVersion c.self.inside.version = version_of_symbol _ _ c.self.invariant.0 in
-    let small : c.self.inside.width ≤ 177 = search rules in search rules
+overflow_add-length-6 c = grind (arith, common_steps, version_of_symbol)
 
 pub loop-pattern-preserved : goal.loop-pattern-preserved
 loop-pattern-preserved c =

@@ -1,5 +1,5 @@
 use Rattle.qrcode_grid.proofs.Prelude.{◌≡◌, ◌++◌, ◌*◌, take, drop, length, ap, ◌∙◌, sym, subst, width_of, plane, normal_number, Drawing, Color, List}
-use Rattle.qrcode_grid.proofs.Prelude.{CarriesCodewords, TakesCodewords, IsFirstLeastMask, with_functional, colors_of, with_mask}
+use Rattle.qrcode_grid.proofs.Prelude.{arith, CarriesCodewords, TakesCodewords, IsFirstLeastMask, with_functional, colors_of, with_mask}
 use Rattle.qrcode_grid.specs.Canvas.{blank}
 use Rattle.qrcode_grid.proofs.Conditions.{same_colors, written_whole}
 use Rattle.qrcode_grid.proofs.WholeSymbols.{carries, best_is_first, version_of_symbol}
@@ -10,8 +10,7 @@ symbol_width-width-requires c = version_of_symbol _ _ c.requires.symbol
 
 took : (c : goal.After-drop-canvas-inside-2) →
     TakesCodewords c.args.codewords.now c.args.correction.now (with_functional 0 (blank c.args.version c.args.level)) c.draw_data.new.self
-took c = subst (λ (e : Drawing). TakesCodewords c.args.codewords.now c.args.correction.now e c.draw_data.new.self)
-    (c.draw_all_functional_patterns.ensures.drawn ∙ ap (with_functional 0) c.in_ok-canvas.ensures.is) c.draw_data.ensures.takes
+took c = grind arith
 
 -- the colours are those of the canvas under the mask
 colored : (c : goal.After-drop-canvas-inside-2) → take c.in_ok-colors.colors.len (c.write_colors.new.colors ++ drop (length c.write_colors.new.colors)
