@@ -1,4 +1,4 @@
-use Rattle.qrcode_grid.proofs.Prelude.{◌≡◌, ◌++◌, ◌*◌, take, drop, length, ap, ◌∙◌, sym, subst, width_of, plane, normal_number, Drawing, Color, List}
+use Rattle.qrcode_grid.proofs.Prelude.{◌≡◌, ◌++◌, ◌*◌, take, drop, length, ap, ◌∙◌, sym, subst, width_of, plane, normal_number, Color, List}
 use Rattle.qrcode_grid.proofs.Prelude.{arith, CarriesCodewords, TakesCodewords, IsFirstLeastMask, with_functional, colors_of, with_mask}
 use Rattle.qrcode_grid.specs.Canvas.{blank}
 use Rattle.qrcode_grid.proofs.Conditions.{same_colors, written_whole}

@@ -1,5 +1,4 @@
-use Rattle.qrcode_grid.proofs.Prelude.{◌==◌, ◌&&◌, ◌-◌, ◌+◌, ◌*◌, ℕ, get_or, ap, ◌∙◌, sym, unwrap_or, option_map, arith, format_value, digit_at, format_first}
-use Rattle.qrcode_grid.proofs.Prelude.{format_second, cond, Some, None}
+use Rattle.qrcode_grid.proofs.Prelude.{arith}
 use Rattle.qrcode_grid.proofs.WrittenWords.{dark_written, over_three, second_within}
 use Rattle.qrcode_grid.proofs.canvas.regions.write_format.Goals as goal
 
