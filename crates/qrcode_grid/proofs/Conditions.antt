@@ -100,11 +100,7 @@ number_small p = grind arith
 pub masked_by_number : (version : Version) (level : EcLevel) (p : MaskPattern) (w word : ℕ) (held modules : List Module) → w ≡ width_of version →
     word ≡ format_word version level p → held ≡ modules →
     masked_cells version w word (pattern_of (normal_number p)) held ≡ masked_cells version (width_of version) (format_word version level p) p modules
-masked_by_number version level p w word held modules wide named same =
-    ap (λ n. masked_cells version n word (pattern_of (normal_number p)) held) wide
-    ∙ ap (λ n. masked_cells version (width_of version) n (pattern_of (normal_number p)) held) named
-    ∙ ap (λ q. masked_cells version (width_of version) (format_word version level p) q held) (pattern_of-number p)
-    ∙ ap (masked_cells version (width_of version) (format_word version level p) p) same
+masked_by_number version level p w word held modules wide named same = cc (pattern_of-number p)
 
 color_of_byte : ℕ → Color
 color_of_byte zero = Light

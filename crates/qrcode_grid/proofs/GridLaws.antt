@@ -1,15 +1,33 @@
 -- The laws of the regions, of the alignment patterns, of the walk, and of the code words of the two generators.
-use Rattle.qrcode_grid.proofs.Prelude.{◌≡◌, ◌≢◌, ℕ, ◌+◌, ◌-◌, ◌*◌, ◌/◌, ◌%◌, ◌<◌, ◌≤◌, ◌==◌, ◌&&◌, ◌||◌, nat_le, nat_lt, Bool, true, false, Option, Some}
-use Rattle.qrcode_grid.proofs.Prelude.{unwrap_or, subst, refl, arith, ◌^◌, List, map, abs_diff, eqb-true, leb-true, ltb-true, Version, IsVersion, width_of}
-use Rattle.qrcode_grid.proofs.Prelude.{near, alignments, alignment_count, alignment_coordinate, alignment_coordinates, ring, position_or_len, range_with_len}
-use Rattle.qrcode_grid.proofs.Prelude.{timing_column, common_steps, cond, not, nat_tests, ap}
+use Rattle.qrcode_grid.proofs.Prelude.{◌≡◌, ℕ, zero, suc, ◌<◌, ◌≤◌, ◌+◌, ◌*◌, ◌/◌, refl, arith, Bool, not, map, filter, range_with_len, Version, IsVersion}
+use Rattle.qrcode_grid.proofs.Prelude.{width_of, timing_column, walk, data_cells, is_functional_cell, common_steps, ◌≢◌, ◌-◌, ◌%◌, ◌==◌, ◌&&◌, ◌||◌, nat_le}
+use Rattle.qrcode_grid.proofs.Prelude.{nat_lt, true, false, Option, Some, unwrap_or, subst, ◌^◌, List, abs_diff, eqb-true, leb-true, ltb-true, near}
+use Rattle.qrcode_grid.proofs.Prelude.{alignments, alignment_count, alignment_coordinate, alignment_coordinates, ring, position_or_len, cond, nat_tests}
+use Rattle.qrcode_grid.proofs.Areas.{is_some-functional_color}
+use Rattle.qrcode_grid.proofs.Totals.{numbered_cell_inside, cell_number-numbered_cell, numbered_cell-cell_number, cell_number_below}
 use Rattle.qrcode_grid.specs.Regions.{alignment, polynomial_product, code_word, HasOneMultiple, HasOneFormatWord, HasOneVersionWord}
 use Rattle.qrcode_grid.specs.Laws.{AreConsistentRegions, HasEveryAlignment, HasItsAlignments, IsWalkOf}
 use Rattle.qrcode_grid.proofs.Tests.{all_pass, passes, both}
-use Rattle.qrcode_grid.proofs.Totals.{cell_number-numbered_cell, numbered_cell-cell_number, cell_number_below, numbered_cell_inside}
-use Rattle.qrcode_grid.proofs.Areas.{is_some-functional_color}
 use Rattle.qrcode_grid.proofs.RegionsAgree.{regions_say}
-use Rattle.qrcode_grid.proofs.DataCells.{odd_width, timing_inside}
+
+pub odd_width : (version : Version) → IsVersion version → width_of version ≡ 2 * (width_of version / 2) + 1
+odd_width version h = grind (arith)
+
+pub timing_inside : (version : Version) → IsVersion version → timing_column version < width_of version
+timing_inside version h = grind (arith)
+
+-- what two tests tell alike is filtered alike
+filter-alike : {X : Type 0} (p q : X → Bool) (at : ℕ → X) (a n : ℕ) → ((k : ℕ) → a ≤ k → k < a + n → p (at k) ≡ q (at k)) →
+    filter p (map at (range_with_len a n)) ≡ filter q (map at (range_with_len a n))
+filter-alike p q at a zero same = refl
+filter-alike p q at a (suc n) same =
+    grind (arith, common_steps, same a (omega arith) (omega arith), filter-alike p q at (a + 1) n (λ k low high. same k (omega arith) (omega arith)))
+
+pub data_cells-by_areas : (version : Version) → IsVersion version →
+    data_cells version ≡ filter (λ c. not (is_functional_cell version c.0 c.1)) (walk version)
+data_cells-by_areas version h = grind (arith, filter-alike, numbered_cell_inside, odd_width, timing_inside, is_some-functional_color)
+
+-- The laws of the regions, of the alignment patterns, of the walk, and of the code words of the two generators.
 
 -- each centre coordinate is the one near the five coordinates around it, computed
 abbrev is_near_its_own : ℕ → ℕ → ℕ → Bool
@@ -19,25 +37,19 @@ is_near_its_own n i u =
 abbrev are_near_their_own : ℕ → Bool
 are_near_their_own n = all_pass (λ i. all_pass (is_near_its_own n i) 0 5) 0 (alignment_count n)
 
-near_test : all_pass are_near_their_own 0 41 ≡ true
-near_test = refl
-
 some_of : (o : Option ℕ) (c : ℕ) → unwrap_or o 0 ≡ c → 6 ≤ c → o ≡ Some c
 some_of o c h l = grind (arith)
-
-around : (c x : ℕ) → 6 ≤ c → abs_diff c x ≤ 2 → c + (x + 2 - c) - 2 ≡ x
-around c x six close = omega (arith, close)
 
 pub near_center : (n i x : ℕ) → n ≤ 40 → i < alignment_count n → abs_diff (alignment_coordinate n i) x ≤ 2 →
     near (alignment_coordinates n) x ≡ Some (alignment_coordinate n i)
 near_center n i x high within close =
     let c = alignment_coordinate n i in
-    let row = passes are_near_their_own 0 41 n near_test (omega arith) (omega arith) in
+    let row = passes are_near_their_own 0 41 n refl (omega arith) (omega arith) in
     let at = passes (λ j. all_pass (is_near_its_own n j) 0 5) 0 (alignment_count n) i row (omega arith) (omega arith) in
     let u = x + 2 - c in
     let here = both _ _ (passes (is_near_its_own n i) 0 5 u at (omega arith) (omega (arith, close))) in
     let six : 6 ≤ c = leb-true 6 c here.0 in
-    let same : c + u - 2 ≡ x = around c x six close in
+    let same : c + u - 2 ≡ x = omega (arith, six, close) in
     subst (λ (y : ℕ). near (alignment_coordinates n) y ≡ Some c) same (some_of _ c (eqb-true _ _ here.1) six)
 
 -- whether a pair of coordinates lies at one of the three finder patterns, by the coordinates and by their places
@@ -49,9 +61,6 @@ abbrev is_end : ℕ → ℕ → Bool
 is_end n i =
     (not (alignment_coordinate n i == 6) || i == 0) && (not (alignment_coordinate n i == 4 * n + 17 - 7) || i == alignment_count n - 1)
 
-ends_test : all_pass (λ n. all_pass (is_end n) 0 (alignment_count n)) 0 41 ≡ true
-ends_test = refl
-
 end_of : (c i far last : ℕ) → ((not (c == 6) || i == 0) && (not (c == far) || i == last)) ≡ true → (c ≡ 6 → i ≡ 0) × (c ≡ far → i ≡ last)
 end_of c i far last h = grind (arith, nat_tests)
 
@@ -59,7 +68,7 @@ ends_are : (n i : ℕ) → n ≤ 40 → i < alignment_count n →
     (alignment_coordinate n i ≡ 6 → i ≡ 0) × (alignment_coordinate n i ≡ 4 * n + 17 - 7 → i ≡ alignment_count n - 1)
 ends_are n i high within =
     end_of (alignment_coordinate n i) i (4 * n + 17 - 7) (alignment_count n - 1) (passes (is_end n) 0 (alignment_count n) i
-    (passes (λ m. all_pass (is_end m) 0 (alignment_count m)) 0 41 n ends_test (omega arith) (omega arith)) (omega arith) (omega arith))
+    (passes (λ m. all_pass (is_end m) 0 (alignment_count m)) 0 41 n refl (omega arith) (omega arith)) (omega arith) (omega arith))
 
 apart_by_places : (a b i j far last : ℕ) → (a ≡ 6 → i ≡ 0) × (a ≡ far → i ≡ last) → (b ≡ 6 → j ≡ 0) × (b ≡ far → j ≡ last) →
     is_at_finder 0 last i j ≡ false → is_at_finder 6 far a b ≡ false
@@ -76,18 +85,13 @@ abbrev alignment_step : ℕ → ℕ
 alignment_step n = cond (n == 32) 26 ((4 * n + 2 * alignment_count n + 1) / (2 * alignment_count n - 2) * 2)
 
 spaced_by_step : (n k : ℕ) → 1 ≤ k → alignment_coordinate n k ≡ 4 * n + 10 - (alignment_count n - 1 - k) * alignment_step n
-spaced_by_step n k h =
-    let later : (k == 0) ≡ false = (grind (arith, nat_tests, h)) in
-    ap (λ b. cond b 6 (4 * n + 10 - (alignment_count n - 1 - k) * alignment_step n)) later
+spaced_by_step n k h = grind arith
 
 abbrev is_least_step : ℕ → Bool
 is_least_step n =
     alignment_step n % 2 == 0 &&
     (nat_le n 1 || n == 32 ||
     (nat_le (4 * n + 4) ((alignment_count n - 1) * alignment_step n) && nat_lt ((alignment_count n - 1) * (alignment_step n - 2)) (4 * n + 4)))
-
-least_steps : all_pass is_least_step 1 40 ≡ true
-least_steps = refl
 
 abbrev step_reaches : ℕ → ℕ → ℕ → Bool
 step_reaches n c s = nat_le (4 * n + 4) ((c - 1) * s) && nat_lt ((c - 1) * (s - 2)) (4 * n + 4)
@@ -98,7 +102,7 @@ step_of_test n c s h = grind (arith, common_steps, both, eqb-true, leb-true, ltb
 
 has_every_alignment : (n : ℕ) → 1 ≤ n → n ≤ 40 → HasEveryAlignment n
 has_every_alignment n low high =
-    let least_step = step_of_test n (alignment_count n) (alignment_step n) (passes is_least_step 1 40 n least_steps low (omega arith)) in
+    let least_step = step_of_test n (alignment_count n) (alignment_step n) (passes is_least_step 1 40 n refl low (omega arith)) in
     record {
       drawn =
           λ i j x y hi hj apart close. every_drawn n i j x y high hi hj
@@ -116,11 +120,7 @@ unfolding HasItsAlignments
 has_its_alignments version h = grind (arith, has_every_alignment)
 
 pub consistent_regions : (version : Version) → IsVersion version → AreConsistentRegions version
-consistent_regions version h = record {
-  areas = λ format x y l m. is_some-functional_color version format x y h l m;
-  agree =
-      λ format x y l m. regions_say version format x y h l m;
-}
+consistent_regions version h = grind (arith, is_some-functional_color, regions_say)
 
 pub walk_of : (version : Version) → IsVersion version → IsWalkOf version
 walk_of version h =

@@ -25,9 +25,7 @@ both_tests true b n = refl
 both_tests false b n = refl
 
 by_runs : (line : List ℕ) → runs_penalty line ≡ sum_below (run_penalty line) (length line)
-by_runs line =
-    total-cong (λ i. cond (begins_run line i && nat_le 5 (run_length line i)) (run_length line i - 2) 0) (run_penalty line) (length line)
-    (λ i l. both_tests (begins_run line i) (nat_le 5 (run_length line i)) (run_length line i - 2))
+by_runs line = grind (arith, total-cong, both_tests)
 
 -- The runs of a line, by those of the line after its first module.
 
@@ -120,9 +118,7 @@ pub edge_within : (line : List ℕ) (i : ℕ) → i + 1 < length line → edge l
 edge_within [] i h = absurd (omega (arith, h))
 edge_within (c ∷ []) i h = absurd (omega (arith, h))
 edge_within (c ∷ d ∷ ds) zero h = refl
-edge_within (c ∷ d ∷ ds) (suc i) h =
-    let e : suc i + 1 ≡ suc (i + 1) = omega arith in
-    edge_within (d ∷ ds) i (omega (arith, h)) ∙ ap (λ k. get_or (d ∷ ds) i 0 == get_or (c ∷ d ∷ ds) k 0) (sym e)
+edge_within (c ∷ d ∷ ds) (suc i) h = grind (arith, edge_within (d ∷ ds) i (omega (arith, h)))
 
 pub edge_past : (line : List ℕ) (i : ℕ) → length line ≤ i + 1 → edge line i ≡ false
 edge_past [] i h = refl

@@ -95,8 +95,7 @@ bit_count_le m lanes = sum_le (λ j. bit_at (get_or lanes j 0) m) 16 (λ j. bit_
 
 pub no_bit : (m : ℕ) → bit_count m (replicate 16 0) ≡ 0
 unfolding bit_count
-no_bit m = total-cong (λ j. bit_at (get_or (replicate {A = ℕ} 16 0) j 0) m) (λ j. 0) 16
-    (λ j h. ap (λ b. bit_at b m) (get_or-replicate 16 j 0 0 h) ∙ bit_at-zero m)
+no_bit m = cc (bit_at-zero m)
 
 -- Places counted in rows of sixteen lanes.
 
@@ -163,11 +162,7 @@ marks_as a p q e ma = record { whole = ma.whole; bits = λ m j hm hj. ma.bits m 
 -- rows of lanes of which one more is marked
 pub row_marked : (test : ℕ → ℕ → ℕ → Bool) (rows : List (List ℕ)) (n : ℕ) (row : List ℕ) → n < length rows →
     ((i : ℕ) → i < n → Marks (get_or rows i []) (test i)) → Marks row (test n) → (i : ℕ) → i < n + 1 → Marks (get_or (set rows n row) i []) (test i)
-row_marked test rows n row inside before now i h = elim (cases_eq i n) [
-  | inl here ↦ subst (λ k. Marks (get_or (set rows n row) k []) (test k)) (sym here)
-      (subst (λ (r : List ℕ). Marks r (test n)) (sym (get_or-set_same rows n row [] inside)) now)
-  | inr other ↦ subst (λ (r : List ℕ). Marks r (test i)) (sym (get_or-set_other rows n i row [] other)) (before i (omega (arith, h, other)))
-]
+row_marked test rows n row inside before now i h = grind (arith, cases_eq, get_or-set_same, get_or-set_other)
 
 none_is : (b : ℕ) → b < 2 → 1 - b ≡ cond (b == 0) 1 0
 none_is b h = grind (arith)
@@ -183,17 +178,9 @@ loaded_at bytes at m j h = ap (λ n. bit_at n m) (get_or-chunk at 16 bytes j 0 h
 turned_at : (bytes : List ℕ) → ((k : ℕ) → Fits w8 (get_or bytes k 0)) → (at : ℕ) → at + 16 ≤ length bytes → (m j : ℕ) → m < 8 → j < 16
     → bit_at (get_or (map (bit_not w8) (chunk at 16 bytes)) j 0) m ≡ 1 - get_or (plane m bytes) (at + j) 0
 turned_at bytes fits at inside m j hm hj =
-    cc (
-      length-chunk at 16 bytes inside,
-      get_or-chunk at 16 bytes j 0 hj,
-      get_or-map (bit_not w8) (chunk at 16 bytes) j 0 0 (omega (
-        arith,
-        (length-chunk at 16 bytes inside),
-        hj,
-      )),
-      bit_at_not w8 (get_or bytes (at + j) 0) m ((fits (at + j)).fits) hm,
-      plane_at m bytes (at + j),
-    )
+    grind (arith, length-chunk at 16 bytes inside, get_or-chunk at 16 bytes j 0 hj,
+    get_or-map (bit_not w8) (chunk at 16 bytes) j 0 0 (omega ( arith, (length-chunk at 16 bytes inside), hj, )),
+    bit_at_not w8 (get_or bytes (at + j) 0) m ((fits (at + j)).fits) hm, plane_at m bytes (at + j))
 
 pub marks_dark : (bytes : List ℕ) (at : ℕ) → at + 16 ≤ length bytes → Marks (chunk at 16 bytes) (λ m j. get_or (plane m bytes) (at + j) 0 == 1)
 marks_dark bytes at inside = grind (arith, common_steps, length-chunk, loaded_at, plane_small)
@@ -245,15 +232,13 @@ lane_put at bytes lanes j l within h = grind (arith, nat_tests, length-take-le, 
 
 pub lanes_here : (at : ℕ) (bytes lanes : List ℕ) (j : ℕ) → length lanes ≡ 16 → at + 16 ≤ length bytes → j < 16 →
     get_or (with_lanes at bytes lanes) (at + j) 0 ≡ get_or lanes j 0
-lanes_here at bytes lanes j l within h =
-    part_here at (at + 16 - at) bytes _ j (omega arith) (omega (arith, lanes_long at bytes lanes within)) ∙ lane_put at bytes lanes j l within h
+lanes_here at bytes lanes j l within h = grind (arith, part_here, lanes_long, lane_put)
 
 pub lanes_before : (at : ℕ) (bytes lanes : List ℕ) (k : ℕ) → at + 16 ≤ length bytes → k < at → get_or (with_lanes at bytes lanes) k 0 ≡ get_or bytes k 0
 lanes_before at bytes lanes k within h = part_before at (at + 16 - at) bytes _ k h (omega arith)
 
 pub lanes_behind : (at : ℕ) (bytes lanes : List ℕ) (k : ℕ) → at + 16 ≤ length bytes → at + 16 ≤ k → get_or (with_lanes at bytes lanes) k 0 ≡ get_or bytes k 0
-lanes_behind at bytes lanes k within h =
-    part_behind at (at + 16 - at) bytes _ k (omega arith) (omega arith) (omega (arith, lanes_long at bytes lanes within))
+lanes_behind at bytes lanes k within h = grind (arith, part_behind, lanes_long)
 
 pub ruleset dark_marks = (marks_as, marks_dark, common_steps)
 
@@ -328,8 +313,7 @@ count_of_places_le p n = omega (arith, count_by-le-length p (range_with_len 0 n)
 
 -- one place more
 pub count_one_more : (p : ℕ → Bool) (n : ℕ) (b : Bool) → p n ≡ b → count_by p (range_with_len 0 (n + 1)) ≡ count_by p (range_with_len 0 n) + cond b 1 0
-count_one_more p n b is = count_of_places p n 1 ∙ ap (λ c. count_by p (range_with_len 0 n) + (0 + cond c 1 0)) is
-    ∙ ap (λ k. count_by p (range_with_len 0 n) + k) (zero-add (cond b 1 0))
+count_one_more p n b is = grind (arith, count_of_places, zero-add)
 
 pub ruleset square_counts = (count_of_places, count_of_places_le, count_one_more, common_steps)
 

@@ -89,8 +89,7 @@ pub version_words_are : map version_word (range_with_len 7 34) ≡ VERSION_WORDS
 version_words_are = refl
 
 pub version_word_at : (n : ℕ) → 7 ≤ n → n ≤ 40 → get_or VERSION_WORDS (n - 7) 0 ≡ version_word n
-version_word_at n low high =
-    ap (λ ws. get_or ws (n - 7) 0) (sym version_words_are) ∙ get_or-map-range_with_len version_word 7 34 (n - 7) n 0 (omega arith) (omega arith)
+version_word_at n low high = cc (get_or-map-range_with_len version_word 7 34 (n - 7) n 0 (omega arith) (omega arith))
 
 pub ruleset near_steps = (near_more, alignment_count_is, common_steps)
 
@@ -131,8 +130,7 @@ before_far : (n k i x : ℕ) → n ≤ 40 → k ≤ alignment_count n → i < k 
 before_far n k i x h l m e = grind (arith, apart)
 
 all_from_zero : (n x : ℕ) → near (map (alignment_coordinate n) (range_with_len 0 (alignment_count n - 0))) x ≡ None → near (alignment_coordinates n) x ≡ None
-all_from_zero n x e = let all : alignment_count n ≡ alignment_count n - 0 = omega arith in
-    ap (λ m. near (map (alignment_coordinate n) (range_with_len 0 m)) x) all ∙ e
+all_from_zero n x e = grind arith
 
 -- between two centres no coordinate is near
 pub none_between : (n k x : ℕ) → n ≤ 40 → k < alignment_count n → behind n k ≤ x → x + 2 < alignment_coordinate n k → near (alignment_coordinates n) x ≡ None

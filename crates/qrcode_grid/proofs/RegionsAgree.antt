@@ -40,8 +40,7 @@ each_says found c e (Some d ∷ rs) h = All-cons (Says found) (Some d) rs (e ∙
 all_say : (rs : List (Option Color)) → PairsAgree rs → All (Says (fold option_or None rs)) rs
 all_say [] h = All-nil (Says None)
 all_say (None ∷ rs) h = All-cons (Says (fold option_or None rs)) None rs tt (all_say rs h.1)
-all_say (Some c ∷ rs) h = All-cons (Says (fold option_or None (Some c ∷ rs))) (Some c) rs (fold_some c rs)
-    (each_says (fold option_or None (Some c ∷ rs)) c (fold_some c rs) rs h.0)
+all_say (Some c ∷ rs) h = grind (arith, All-cons, fold_some, each_says)
 
 and_false : (b : Bool) → (b && false) ≡ false
 and_false b = grind (arith)

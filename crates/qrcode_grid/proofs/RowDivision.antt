@@ -1,14 +1,14 @@
 -- Division by rows: its turns, long division, and lanes of bytes multiplied in the field.
 use Rattle.qrcode_grid.proofs.Prelude.{◌≡◌, ℕ, zero, suc, ◌<◌, ◌≤◌, ◌+◌, ◌-◌, refl, ap, sym, ◌∙◌, arith, List, [], ◌∷◌, ◌++◌, map, length, get_or, take, drop}
-use Rattle.qrcode_grid.proofs.Prelude.{replicate, ◌/◌, ◌%◌, cond, true, eqb, leb, w8, Fits, Bool, false, subst, range_with_len, bit_xor, xor_assoc, xor_zero_r}
+use Rattle.qrcode_grid.proofs.Prelude.{replicate, ◌/◌, ◌%◌, cond, eqb, leb, w8, Fits, Bool, false, subst, range_with_len, bit_xor, xor_assoc, xor_zero_r}
 use Rattle.qrcode_grid.proofs.Prelude.{xor_self, xor_comm, xor_of_8, append-nil, length-take, length-drop, length-replicate, get_or-take, get_or-drop}
 use Rattle.qrcode_grid.proofs.Prelude.{same_lists, get_or_default, drop_more, length-map, take-append-drop, get_or-map, take_at, drop_at}
 use Rattle.qrcode_grid.proofs.Prelude.{get_or-map-range_with_len, length-map-range_with_len, map-range_with_len_more, product, power, double, shift_and_add}
 use Rattle.qrcode_grid.proofs.Prelude.{value_at, AreBytes, AreTerms, AreRows, IsDivisor, IsTurn, IsRemainder, common_steps, eqb-true, get_or-zip2, length-zip2}
-use Rattle.qrcode_grid.proofs.Prelude.{get_or-replicate, All-same, All-drop, All-take, All-from_get_or, All-get_or, All-append}
-use Rattle.std.proofs.lemmas.List.{length-append, drop-drop}
+use Rattle.qrcode_grid.proofs.Prelude.{get_or-replicate, get_or_past, All-same, All-drop, All-take, All-from_get_or, All-get_or, All-append}
+use Rattle.std.proofs.lemmas.List.{length-append, drop-drop, take-replicate}
 use Rattle.qrcode_grid.proofs.FieldLaws.{product-adds_left, product-one_left, product-zero_right, product_assoc, product_comm, product-double}
-use Rattle.qrcode_grid.proofs.FieldLaws.{product-zero_left, passes_below, passes_below-at, xor-zero, product-bounded, power-bounded}
+use Rattle.qrcode_grid.proofs.FieldLaws.{product-zero_left, passes_below-at, xor-zero, product-bounded, power-bounded}
 use Rattle.qrcode_grid.proofs.Values.{sums, value_at-append, value_at-zeros, power-first, length-sums, value_at-sums, value_at-multiple}
 use Rattle.std.proofs.lemmas.Simd.{get_or-sel_l, length-sel_l, tops_compared}
 use lib.Lanes.{Each1, zip2, put_chunk, sel_l, top}
@@ -64,8 +64,7 @@ sums_from_places lead new front gs same same' places =
 
 -- Data followed by the remainder of the data and n zeros vanishes.
 pub value_at-completed : (body ec : List ℕ) (n a : ℕ) → length ec ≡ n → value_at ec a ≡ value_at (body ++ replicate n 0) a → value_at (body ++ ec) a ≡ 0
-value_at-completed body ec n a len same =
-    grind (arith, common_steps, value_at-append, length-replicate, value_at-zeros, xor_zero_r, xor_self)
+value_at-completed body ec n a len same = grind (arith, value_at-append, length-replicate, value_at-zeros, xor_zero_r, xor_self)
 
 -- ---- one turn of the long division, as the loop writes it
 
@@ -152,13 +151,10 @@ lane_xor xs ys n j l m h = get_or-zip2 bit_xor xs ys j 0 0 0 (omega arith) (omeg
 pub length_xor : (xs ys : List ℕ) (n : ℕ) → length xs ≡ n → length ys ≡ n → length (zip2 bit_xor xs ys) ≡ n
 length_xor xs ys n l m = length-zip2 bit_xor xs ys (l ∙ sym m) ∙ l
 
-doubled_test : passes_below 256 (λ a. eqb (bit_xor ((a + a) % 256) (cond (leb 128 a) 29 0)) (double a)) ≡ true
-unfolding double
-doubled_test = refl
-
 -- a lane times 2: a shift, reduced where a bit comes out
 pub lane_doubled : (v : List ℕ) (j : ℕ) → length v ≡ 32 → j < 32 → get_or v j 0 < 256 →
     get_or (zip2 bit_xor (zip2 (λ a b. (a + b) % 256) v v) (chosen leb (replicate 32 128) v (replicate 32 29) (replicate 32 0))) j 0 ≡ double (get_or v j 0)
+unfolding double
 lane_doubled v j long h small =
     let a = get_or v j 0 in
     let picked = chosen leb (replicate 32 128) v (replicate 32 29) (replicate 32 0) in
@@ -168,17 +164,14 @@ lane_doubled v j long h small =
     ∙ ap (λ t. cond (leb t a) (get_or (replicate 32 29) j 0) (get_or (replicate 32 0) j 0)) (get_or-replicate 32 j 128 0 h)
     ∙ ap (λ t. cond (leb 128 a) t (get_or (replicate 32 0) j 0)) (get_or-replicate 32 j 29 0 h)
     ∙ ap (λ t. cond (leb 128 a) 29 t) (get_or-replicate 32 j 0 0 h))
-    ∙ eqb-true _ _ (passes_below-at (λ a. eqb (bit_xor ((a + a) % 256) (cond (leb 128 a) 29 0)) (double a)) 256 a doubled_test small)
-
-halves_test : passes_below 16 (λ i. eqb (bit_xor (double (i / 2)) (i % 2)) i) ≡ true
-unfolding double
-halves_test = refl
+    ∙ eqb-true _ _ (passes_below-at (λ a. eqb (bit_xor ((a + a) % 256) (cond (leb 128 a) 29 0)) (double a)) 256 a refl small)
 
 -- the multiple by a number from that by its half
 pub multiple_from_half : (i c : ℕ) → i < 16 → product i c ≡ bit_xor (double (product (i / 2) c)) (product (i % 2) c)
+unfolding double
 multiple_from_half i c h =
     cc (
-      eqb-true _ _ (passes_below-at (λ i. eqb (bit_xor (double (i / 2)) (i % 2)) i) 16 i halves_test h),
+      eqb-true _ _ (passes_below-at (λ i. eqb (bit_xor (double (i / 2)) (i % 2)) i) 16 i refl h),
       product-adds_left (double (i / 2)) (i % 2) c,
       product-double (i / 2) c (omega arith),
     )
@@ -192,18 +185,14 @@ multiple_odd i c h small e = grind (arith, common_steps, multiple_from_half, pro
 -- a lane of an odd multiple, from the even one below it
 pub odd_lane : (even terms : List ℕ) (i j : ℕ) → length even ≡ 32 → length terms ≡ 32 → i < 16 → i % 2 ≡ 1 → j < 32 → get_or terms j 0 < 256 →
     get_or even j 0 ≡ double (product (i / 2) (get_or terms j 0)) → get_or (zip2 bit_xor even terms) j 0 ≡ product i (get_or terms j 0)
-odd_lane even terms i j la lb below odd h small is =
-    lane_xor even terms 32 j la lb h ∙ ap (λ x. bit_xor x (get_or terms j 0)) is ∙ sym (multiple_odd i (get_or terms j 0) below small odd)
+odd_lane even terms i j la lb below odd h small is = grind (arith, lane_xor, multiple_odd)
 
 -- a byte by its halves
-nibbles_test : passes_below 256 (λ f. eqb (bit_xor (f % 16) (product (f / 16) 16)) f) ≡ true
-unfolding double shift_and_add product
-nibbles_test = refl
-
 pub product-halves : (f c : ℕ) → f < 256 → product f c ≡ bit_xor (product (f % 16) c) (product (f / 16) (product 16 c))
+unfolding double shift_and_add product
 product-halves f c h =
     cc (
-      eqb-true _ _ (passes_below-at (λ f. eqb (bit_xor (f % 16) (product (f / 16) 16)) f) 256 f nibbles_test h),
+      eqb-true _ _ (passes_below-at (λ f. eqb (bit_xor (f % 16) (product (f / 16) 16)) f) 256 f refl h),
       product-adds_left (f % 16) (product (f / 16) 16) c,
       product_assoc (f / 16) 16 c,
     )
@@ -220,11 +209,6 @@ pub padded_at : (xs : List ℕ) (n k : ℕ) → get_or (xs ++ replicate n 0) k 0
 padded_at [] n k = zeros_at n k
 padded_at (x ∷ xs) n zero = refl
 padded_at (x ∷ xs) n (suc k) = padded_at xs n k
-
-pub drop-zeros : (n m : ℕ) → drop n (replicate {A = ℕ} m 0) ≡ replicate (m - n) 0
-drop-zeros zero m = let all : m - zero ≡ m = omega arith in ap (λ k. replicate k 0) (sym all)
-drop-zeros (suc n) zero = let none : zero - suc n ≡ zero = omega arith in ap (λ k. replicate k 0) (sym none)
-drop-zeros (suc n) (suc m) = let less : m - n ≡ suc m - suc n = omega arith in drop-zeros n m ∙ ap (λ k. replicate k 0) less
 
 -- a lane of a vector joined with zeros, one place on
 pub lane_moved : (xs : List ℕ) (j : ℕ) → j < 32 → get_or (map (λ k. get_or (xs ++ replicate 32 0) k 0) (range_with_len 1 32)) j 0 ≡ get_or xs (j + 1) 0
@@ -257,8 +241,7 @@ window lanes first n = map (λ k. get_or lanes k 0) (range_with_len first n)
 
 take-window : (lanes : List ℕ) (n : ℕ) → n ≤ length lanes → take n lanes ≡ window lanes 0 n
 unfolding window
-take-window lanes n h =
-    grind (arith, common_steps, length-take, same_lists, length-map-range_with_len, get_or_default, get_or-take, get_or-map-range_with_len)
+take-window lanes n h = grind (arith, length-take, same_lists, length-map-range_with_len, get_or_default, get_or-take, get_or-map-range_with_len)
 
 window-more : (lanes : List ℕ) (n : ℕ) → window lanes 0 (suc n) ≡ window lanes 0 n ++ get_or lanes n 0 ∷ []
 unfolding window
@@ -276,11 +259,6 @@ length-window : (lanes : List ℕ) (first n : ℕ) → length (window lanes firs
 unfolding window
 length-window lanes first n = length-map-range_with_len (λ k. get_or lanes k 0) first n
 
-past : (xs : List ℕ) (k : ℕ) → length xs ≤ k → get_or xs k 0 ≡ 0
-past [] k h = refl
-past (x ∷ xs) zero h = absurd (omega arith)
-past (x ∷ xs) (suc k) h = past xs k (omega arith)
-
 regroup : (s p q d : ℕ) → bit_xor (product d q) (product (product s q) p) ≡ product (bit_xor (product s p) d) q
 regroup s p q d = grind (arith, common_steps, xor_comm, product_assoc, product_comm, product-adds_left)
 
@@ -291,7 +269,7 @@ module _ (n d : ℕ) (divisor terms seen lanes result : List ℕ) (is : IsDiviso
 
   rest : (k : ℕ) → n ≤ k → get_or result k 0 ≡ 0
   unfolding lead
-  rest k h = grind (arith, common_steps, past, lead, product-zero_right)
+  rest k h = grind (arith, common_steps, get_or_past, lead, product-zero_right)
 
   reduced : take n result ≡ sums (window lanes 1 n) (map (λ g. product lead g) (drop 1 divisor))
   unfolding lead
@@ -339,22 +317,12 @@ module _ (n d : ℕ) (divisor terms seen lanes result : List ℕ) (is : IsDiviso
   pub next_remainder : IsRemainder n divisor (seen ++ d ∷ []) result
   next_remainder = record { size = long; rest = rest; congruent = congruent }
 
-take-zeros : (n m : ℕ) → n ≤ m → take n (replicate {A = ℕ} m 0) ≡ replicate n 0
-take-zeros zero m h = refl
-take-zeros (suc n) zero h = absurd (omega arith)
-take-zeros (suc n) (suc m) h = ap (λ t. 0 ∷ t) (take-zeros n m (omega arith))
-
-zeros_past : (n k : ℕ) → get_or {A = ℕ} (replicate n 0) k 0 ≡ 0
-zeros_past zero k = refl
-zeros_past (suc n) zero = refl
-zeros_past (suc n) (suc k) = zeros_past n k
-
 -- before the first byte all lanes are 0
 pub first_remainder : (n : ℕ) (divisor : List ℕ) → n ≤ 32 → IsRemainder n divisor [] (replicate 32 0)
 first_remainder n divisor h = record {
   size = refl;
-  rest = λ k low. zeros_past 32 k;
-  congruent = λ a root. ap (λ t. value_at t a) (take-zeros n 32 h);
+  rest = λ k low. zeros_at 32 k;
+  congruent = λ a root. ap (λ t. value_at t a) (take-replicate n 32 0 h);
 }
 
 -- rows of the terms, and of 16 times the terms

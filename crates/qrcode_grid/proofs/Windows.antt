@@ -35,10 +35,7 @@ has_pattern line k =
     (at 1 i4 (k + 4) (omega arith)) (at 0 i5 (k + 5) (omega arith)) (at 1 i6 (k + 6) (omega arith))
 
 pub window_is : (line : List ℕ) (k : ℕ) → is_finder_like line k ≡ (is_pattern line (k + 4) && (are_light line k || are_light line (k + 11)))
-window_is line k =
-    ap (λ t. t && (has_at line k (0 ∷ 0 ∷ 0 ∷ 0 ∷ []) || has_at line (k + 11) (0 ∷ 0 ∷ 0 ∷ 0 ∷ []))) (has_pattern line (k + 4))
-    ∙ ap (λ t. is_pattern line (k + 4) && (t || has_at line (k + 11) (0 ∷ 0 ∷ 0 ∷ 0 ∷ []))) (has_light line k)
-    ∙ ap (λ t. is_pattern line (k + 4) && (are_light line k || t)) (has_light line (k + 11))
+window_is line k = grind (arith, has_pattern, has_light)
 
 pub no_pattern : (line : List ℕ) (k : ℕ) → get_or line (k + 4 + 6) 0 ≡ 0 → is_finder_like line k ≡ false
 no_pattern line k e = window_is line k ∙ no_window line k e

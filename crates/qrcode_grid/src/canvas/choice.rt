@@ -7,8 +7,9 @@ ghost use Rattle.qrcode_grid.specs.Masks.{family, IsOfFamily};
 ghost use Rattle.qrcode_grid.specs.Penalty.{score, IsFirstLeast, IsFirstLeastMask};
 
 use crate::canvas::masks::{format_words, mask_number};
-use crate::canvas::scoring::{penalties_of, repeated, scratch, write_colors};
+use crate::canvas::scoring::{penalties_of, repeated, write_colors};
 use crate::canvas::{Canvas, MaskPattern};
+use qrcode_base::symbols::symbol_width;
 use qrcode_base::types::{Color, EcLevel, QrError, QrResult, Version};
 use std::alloc::Global;
 
@@ -64,44 +65,34 @@ impl Canvas {
     ghost use Rattle.qrcode_grid.specs.Canvas.{colors_of, mask_penalties, IsBestMask, IsBestMasked};
     ghost use Rattle.qrcode_grid.specs.Penalty.{penalty, score};
 
-    /// The candidates under the masks of the family, in a scratch list, and their penalties, by the numbers of the
-    /// masks in Normal symbols.
-    fn candidates(&self, alloc: Global) -> QrResult<(Vec<u8>, [usize; 8])>
+    /// The candidates under the masks of the family, in a scratch list, by the numbers of the masks in Normal symbols,
+    /// and their penalties, in order.
+    ///
+    /// The scratch has the candidates, twelve rows of conditions, the candidates between light modules, and the edges.
+    /// The last two are 14 rows longer than the grid, and as what the last 256 places that are looked at reach. A long
+    /// list takes 400 KB, of which it touches what it needs: glibc gives memory back to the system after each symbol
+    /// where more than 128 KB come free at the heap's end, and keeps twice as much as the greatest block that it has
+    /// seen.
+    fn candidates(&self, alloc: Global) -> QrResult<(Vec<u8>, Vec<usize>)>
         ensures candidates { IfOk result (λ r. (p : MaskPattern) → IsOfFamily self.now.version p →
             plane (normal_number p)
             (take (width_of self.now.version * width_of self.now.version) r.0.items) ≡
             map byte_of (colors_of (with_mask p self.now))) }
-        ensures penalties { IfOk result (λ r. (p : MaskPattern) → IsOfFamily self.now.version p →
-            slice_index r.1 (normal_number p) ≡
-            penalty self.now.version (colors_of (with_mask p self.now))) }
+        ensures penalties { IfOk result (λ r. r.1.items ≡ mask_penalties self.now) }
         ensures long { IfOk result (λ r. length self.now.modules ≤ length r.0.items) }
         ensures refusal { IfErr result (λ e. e ≡ QrError.OutOfMemory) }
     {
+        let width = self.width;
+        let length = width * width + 12 * width + 6 + 2 * ((width + 14) * (width + 4) + 256);
+        let room = if length > 56_000 { 400_000 } else { 0 };
+        let mut scratch = repeated(alloc, 0, length, room)?;
         let words = format_words(self.version, self.level);
-        let mut scratch = scratch(alloc, self.width)?;
-        let penalties = penalties_of(
-            &self.modules,
-            self.version,
-            self.width,
-            &words,
-            &mut scratch,
-        );
-        Ok((scratch, penalties))
-    }
-
-    /// The penalties after each mask of the family, by the penalties by the numbers of the masks.
-    fn penalties_in_order(&self, alloc: Global, numbered: &[usize; 8]) -> QrResult<Vec<usize>>
-        requires { (p : MaskPattern) → IsOfFamily self.now.version p →
-            slice_index numbered.now (normal_number p) ≡
-            penalty self.now.version (colors_of (with_mask p self.now)) }
-        ensures is { IfOk result (λ values. values.items ≡ mask_penalties self.now) }
-        ensures refusal { IfErr result (λ e. e ≡ QrError.OutOfMemory) }
-    {
+        let numbered = penalties_of(&self.modules, self.version, width, &words, &mut scratch);
         let mut values = Vec::with_capacity(alloc, 8)?;
         for pattern in family_of(self.version) {
             values.push(numbered[mask_number(*pattern)])?;
         }
-        Ok(values)
+        Ok((scratch, values))
     }
 
     /// The penalty that the canvas would have after each mask of its family, in the order of the masks' numbers
@@ -112,43 +103,30 @@ impl Canvas {
         ensures is { IfOk result (λ values. values.items ≡ mask_penalties self.now) }
         ensures refusal { IfErr result (λ e. e ≡ QrError.OutOfMemory) }
     {
-        let (_, numbered) = self.candidates(alloc)?;
-        self.penalties_in_order(alloc, &numbered)
+        let (_, values) = self.candidates(alloc)?;
+        Ok(values)
     }
 
-    /// The first mask of least penalty, and that penalty, by the penalties by the numbers of the masks.
-    fn best_of(&self, alloc: Global, numbered: &[usize; 8]) -> QrResult<(MaskPattern, usize)>
-        requires { (p : MaskPattern) → IsOfFamily self.now.version p →
-            slice_index numbered.now (normal_number p) ≡
-            penalty self.now.version (colors_of (with_mask p self.now)) }
+    /// The first mask of least penalty, that penalty, and a scratch list that begins with the candidates.
+    fn best(&self, alloc: Global) -> QrResult<(MaskPattern, usize, Vec<u8>)>
         ensures best { IfOk result (λ r. IsBestMask self.now r.0) }
-        ensures family { IfOk result (λ r. IsOfFamily self.now.version r.0) }
         ensures least { IfOk result (λ r.
             r.1 ≡ penalty self.now.version (colors_of (with_mask r.0 self.now))) }
+        ensures family { IfOk result (λ r. IsOfFamily self.now.version r.0) }
+        ensures candidate { IfOk result (λ r. plane (normal_number r.0)
+            (take (width_of self.now.version * width_of self.now.version) r.2.items) ≡
+            map byte_of (colors_of (with_mask r.0 self.now))) }
+        ensures long { IfOk result (λ r. length self.now.modules ≤ length r.2.items) }
         ensures refusal { IfErr result (λ e. e ≡ QrError.OutOfMemory) }
     {
-        let values = self.penalties_in_order(alloc, numbered)?;
+        let (scratch, values) = self.candidates(alloc)?;
         let mut best = 0;
         for i in 1..values.len() {
             if values[i] < values[best] {
                 best = i;
             }
         }
-        Ok((family_of(self.version)[best], values[best]))
-    }
-
-    /// The colours under the first mask of least penalty, and that mask.
-    pub(super) fn best_colors(&self, alloc: Global) -> QrResult<(Vec<Color>, MaskPattern)>
-        ensures best { IfOk result (λ r. IsBestMask self.now r.1) }
-        ensures colors { IfOk result (λ r. r.0.items ≡ colors_of (with_mask r.1 self.now)) }
-        ensures refusal { IfErr result (λ e. e ≡ QrError.OutOfMemory) }
-    {
-        let (scratch, numbered) = self.candidates(alloc)?;
-        let (pattern, _) = self.best_of(alloc, &numbered)?;
-        let mut colors = repeated(alloc, Color::Light, self.modules.len(), 0)?;
-        let grid = &scratch[..self.modules.len()];
-        write_colors(grid, mask_number(pattern), &mut colors);
-        Ok((colors, pattern))
+        Ok((family_of(self.version)[best], values[best], scratch))
     }
 
     /// The canvas under the first mask of least penalty, that mask, and its score: the penalty, less 720 in a Normal
@@ -162,8 +140,7 @@ impl Canvas {
             r.2 ≡ score self.now.version (penalty self.now.version (colors_of r.0))) }
         ensures refusal { IfErr result (λ e. e ≡ QrError.OutOfMemory) }
     {
-        let (_, numbered) = self.candidates(alloc)?;
-        let (pattern, penalty) = self.best_of(alloc, &numbered)?;
+        let (pattern, penalty, _) = self.best(alloc)?;
         let mut canvas = self.clone(alloc)?;
         canvas.apply_mask(pattern);
         Ok((canvas, pattern, score_of(self.version, penalty)))
@@ -211,6 +188,9 @@ pub fn draw_symbol(
     let mut canvas = Canvas::new(alloc, version, level)?;
     canvas.draw_all_functional_patterns();
     canvas.draw_data(codewords, correction);
-    let (colors, pattern) = canvas.best_colors(alloc)?;
+    let (pattern, _, scratch) = canvas.best(alloc)?;
+    let width = symbol_width(version);
+    let mut colors = repeated(alloc, Color::Light, width * width, 0)?;
+    write_colors(&scratch[..width * width], mask_number(pattern), &mut colors);
     Ok((colors, pattern))
 }

@@ -22,21 +22,6 @@ use crate::canvas::scoring::lists::{Feature, write_edges, write_padded};
 use qrcode_base::types::{Color, Version};
 use std::alloc::{AllocError, Global};
 
-/// A list of zeros for the scratch of a symbol: the candidates, twelve rows of conditions, the candidates between light
-/// modules, and the edges. The last two are 14 rows longer than the grid, and as what the last 256 places that are
-/// looked at reach. A long list takes 400 KB, of which it touches what it needs: glibc gives memory back to the system
-/// after each symbol where more than 128 KB come free at the heap's end, and keeps twice as much as the greatest block
-/// that it has seen.
-pub fn scratch(alloc: Global, width: usize) -> Result<Vec<u8>, AllocError>
-    requires { width ≤ 177 }
-    ensures { IfOk result (λ list. list.items ≡
-        replicate (width * width + (12 * width + 6) + 2 * list_length width) 0) }
-{
-    let length = width * width + 12 * width + 6 + 2 * ((width + 14) * (width + 4) + 256);
-    let room = if length > 56_000 { 400_000 } else { 0 };
-    repeated(alloc, 0, length, room)
-}
-
 /// What the rows or the columns count in each candidate, by their edges: a run of n modules has n - 4 fives and n - 5
 /// sixes, and counts n - 2. There is one of it for each direction, so that the step of rows is known to the compiler.
 #[inline(never)]

@@ -1,4 +1,4 @@
-use Rattle.qrcode_grid.proofs.SiblingLaws.{siblings}
+use Rattle.qrcode_grid.proofs.WholeSymbols.{siblings}
 use Rattle.qrcode_grid.proofs.laws.siblings_have_the_same_data.Goals as goal
 
 pub returns : goal.returns

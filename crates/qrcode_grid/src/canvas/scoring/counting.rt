@@ -24,23 +24,6 @@ fn add_three(a: u8x16, b: u8x16, c: u8x16) -> (u8x16, u8x16)
     (u ^ c, a ^ (u & v))
 }
 
-/// Four rows of lanes more in the ones and twos, and the carry to the fours.
-#[inline(always)]
-fn add_four(ones: u8x16, twos: u8x16, rows: &[u8x16; 16], from: usize) -> (u8x16, u8x16, u8x16)
-    requires lanes { (length ones ≡ 16) × (length twos ≡ 16) }
-    requires rows { (i : ℕ) → i < 16 → length (slice_index_or rows.now i []) ≡ 16 }
-    requires within { from + 4 ≤ 16 }
-    ensures lanes { (length result.0 ≡ 16) × (length result.1 ≡ 16) × (length result.2 ≡ 16) }
-    ensures sum { (m : ℕ) → bit_count m result.0 + 2 * bit_count m result.1 + 4 * bit_count m result.2 ≡
-        bit_count m ones + 2 * bit_count m twos
-        + sum_below (λ i. bit_count m (slice_index_or rows.now (from + i) [])) 4 }
-{
-    let (ones, first) = add_three(ones, rows[from], rows[from + 1]);
-    let (ones, second) = add_three(ones, rows[from + 2], rows[from + 3]);
-    let (twos, fours) = add_three(twos, first, second);
-    (ones, twos, fours)
-}
-
 /// No bit was set.
 #[inline(always)]
 #[tactic(auto, using(crate::proofs::MarkedLanes::bits_gone))]
@@ -85,13 +68,21 @@ pub fn add_rows(tally: Tally, rows: &[u8x16; 16]) -> Tally
     ensures small { (m : ℕ) → m < 8 → slice_index result.sums m ≤ slice_index tally.sums m + 16 }
 {
     let planes = tally.planes;
-    let (ones, twos, a) = add_four(planes.ones, planes.twos, rows, 0);
-    let (ones, twos, b) = add_four(ones, twos, rows, 4);
-    let (ones, twos, c) = add_four(ones, twos, rows, 8);
-    let (ones, twos, d) = add_four(ones, twos, rows, 12);
-    let (fours, first) = add_three(planes.fours, a, b);
-    let (fours, second) = add_three(fours, c, d);
-    let (eights, sixteens) = add_three(planes.eights, first, second);
+    let (ones, low) = add_three(planes.ones, rows[0], rows[1]);
+    let (ones, high) = add_three(ones, rows[2], rows[3]);
+    let (twos, a) = add_three(planes.twos, low, high);
+    let (ones, low) = add_three(ones, rows[4], rows[5]);
+    let (ones, high) = add_three(ones, rows[6], rows[7]);
+    let (twos, b) = add_three(twos, low, high);
+    let (ones, low) = add_three(ones, rows[8], rows[9]);
+    let (ones, high) = add_three(ones, rows[10], rows[11]);
+    let (twos, c) = add_three(twos, low, high);
+    let (ones, low) = add_three(ones, rows[12], rows[13]);
+    let (ones, high) = add_three(ones, rows[14], rows[15]);
+    let (twos, d) = add_three(twos, low, high);
+    let (fours, low) = add_three(planes.fours, a, b);
+    let (fours, high) = add_three(fours, c, d);
+    let (eights, sixteens) = add_three(planes.eights, low, high);
     let planes = Planes {
         ones,
         twos,

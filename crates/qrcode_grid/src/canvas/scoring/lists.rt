@@ -102,43 +102,6 @@ pub fn same(list: &[u8], step: usize, at: usize, i: usize) -> u8x16
     u8x16::from_slice(&list[at + i * step..]) ^ !u8x16::from_slice(&list[at + (i + 1) * step..])
 }
 
-/// Where a finder-like pattern with light modules on one side begins four steps on.
-#[inline(always)]
-fn finders(list: &[u8], step: usize, at: usize) -> u8x16
-    requires step { step ≤ 181 }
-    requires within { at + 14 * step + 16 ≤ length list.now }
-    ensures { Marks result (λ m j. has_finder step (plane m list.now) (at + j)) }
-{
-    let pattern = dark(list, step, at, 4)
-        & light(list, step, at, 5)
-        & dark(list, step, at, 6)
-        & dark(list, step, at, 7)
-        & dark(list, step, at, 8)
-        & light(list, step, at, 9)
-        & dark(list, step, at, 10);
-    let before = light(list, step, at, 0)
-        & light(list, step, at, 1)
-        & light(list, step, at, 2)
-        & light(list, step, at, 3);
-    let after = light(list, step, at, 11)
-        & light(list, step, at, 12)
-        & light(list, step, at, 13)
-        & light(list, step, at, 14);
-    pattern & (before | after)
-}
-
-/// Where a square of one colour begins: edges along the row and along the next, between modules of one colour.
-#[inline(always)]
-fn squares(padded: &[u8], edges: &[u8], stride: usize, at: usize) -> u8x16
-    requires stride { stride ≤ 181 }
-    requires padded { at + 5 * stride + 16 ≤ length padded.now }
-    requires edges { at + stride + 16 ≤ length edges.now }
-    ensures { Marks result (λ m j.
-        has_square stride (plane m padded.now) (plane m edges.now) (at + j)) }
-{
-    dark(edges, stride, at, 0) & dark(edges, stride, at, 1) & same(padded, stride, at, 4)
-}
-
 /// Which of sixteen places have a feature, in each candidate.
 #[inline(always)]
 pub fn places_of(
@@ -159,8 +122,30 @@ pub fn places_of(
 {
     let stride = width + 4;
     match feature {
-        Feature::Finder => finders(padded, step, at + 4 * (stride - step)),
-        Feature::Square => squares(padded, edges, stride, at),
+        // It begins four steps on.
+        Feature::Finder => {
+            let at = at + 4 * (stride - step);
+            let pattern = dark(padded, step, at, 4)
+                & light(padded, step, at, 5)
+                & dark(padded, step, at, 6)
+                & dark(padded, step, at, 7)
+                & dark(padded, step, at, 8)
+                & light(padded, step, at, 9)
+                & dark(padded, step, at, 10);
+            let before = light(padded, step, at, 0)
+                & light(padded, step, at, 1)
+                & light(padded, step, at, 2)
+                & light(padded, step, at, 3);
+            let after = light(padded, step, at, 11)
+                & light(padded, step, at, 12)
+                & light(padded, step, at, 13)
+                & light(padded, step, at, 14);
+            pattern & (before | after)
+        }
+        // Edges along the row and along the next, between modules of one colour.
+        Feature::Square => {
+            dark(edges, stride, at, 0) & dark(edges, stride, at, 1) & same(padded, stride, at, 4)
+        }
         Feature::Dark => dark(padded, stride, at, 4),
     }
 }

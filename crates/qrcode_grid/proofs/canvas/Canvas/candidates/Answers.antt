@@ -1,30 +1,53 @@
--- The candidates and penalties by the numbers of the masks are those of the masks.
-use Rattle.qrcode_grid.proofs.Prelude.{◌≡◌, ◌*◌, ap, ◌∙◌, sym, subst, arith, map, take, get_or, length, MaskPattern, IsOfFamily, normal_number, plane}
-use Rattle.qrcode_grid.proofs.Prelude.{width_of, byte_of, penalty, color_of_module, colors_of, with_mask, Drawing, drop, ◌++◌}
-use Rattle.qrcode_grid.proofs.Conditions.{masked_by_number, number_small, written_whole}
+-- The candidates by the numbers of the masks are those of the masks, and their penalties come in order.
+use Rattle.qrcode_grid.proofs.Prelude.{◌≡◌, ◌<◌, ◌*◌, ap, ◌∙◌, sym, subst, arith, map, take, get_or, length, List, MaskPattern, IsOfFamily}
+use Rattle.qrcode_grid.proofs.Prelude.{width_of, byte_of, penalty, color_of_module, colors_of, with_mask, Drawing, drop, ◌++◌, family, slice_get, Some}
+use Rattle.qrcode_grid.proofs.Prelude.{normal_number, plane, common_steps, slice_get-get_or}
+use Rattle.qrcode_grid.specs.declared.canvas.MaskPattern.TheVariants.{Checkerboard}
+use Rattle.qrcode_grid.proofs.Conditions.{masked_by_number, number_small, written_whole, next_penalty, of_family}
+use Rattle.qrcode_grid.proofs.WholeSymbols.{version_of_symbol}
 use Rattle.qrcode_grid.proofs.canvas.Canvas.candidates.Goals as goal
+
+pub penalties_of-numbered-requires-clause-symbol : goal.penalties_of-numbered-requires-clause-symbol
+penalties_of-numbered-requires-clause-symbol c = grind (arith, common_steps, version_of_symbol)
+
+pub overflow_mul-length-4 : goal.overflow_mul-length-4
+overflow_mul-length-4 c = grind (arith, common_steps, version_of_symbol)
+
+pub overflow_add-length-6 : goal.overflow_add-length-6
+overflow_add-length-6 c = grind (arith, common_steps, version_of_symbol)
+
+pub loop-pattern-preserved : goal.loop-pattern-preserved
+loop-pattern-preserved c =
+    let d = c.args.self.now in let s = c.self.inside in let v = d.version in
+    let i = c.loop-pattern.pattern-index in
+    let read = c.family_of-pattern-items.result.now in
+    let pattern = get_or read i Checkerboard in
+    let masks : read ≡ family v = c.family_of-pattern-items.ensures ∙ ap (λ (e : Drawing). family e.version) c.self.view_is in
+    let inside : i < length (family v) = omega (arith, ap length masks) in
+    let here : slice_get (family v) i ≡ Some pattern =
+    slice_get-get_or (family v) i Checkerboard inside ∙ ap (λ (ms : List MaskPattern). Some (get_or ms i Checkerboard)) (sym masks) in
+    let known : IsOfFamily v pattern = subst (λ (ms : List MaskPattern). IsOfFamily v (get_or ms i Checkerboard)) (sym masks) (of_family v i inside) in
+    let value = subst (λ (d : Drawing). (p : MaskPattern) → IsOfFamily d.version p →
+    get_or c.penalties_of-numbered.result (normal_number p) 0 ≡ penalty d.version (colors_of (with_mask p d))) c.self.view_is
+    (λ p f.
+    c.penalties_of-numbered.ensures.penalties (normal_number p) (number_small p)
+    ∙ ap (λ ms. penalty s.version (map color_of_module ms)) (masked_by_number s.version s.level p s.width _ c.deref.result.now s.modules.items
+    c.self.invariant.1 (c.format_words-words.ensures p f) c.deref.ensures.value)) pattern known in
+    c.in_ok-push.ensures.items ∙ next_penalty d c.loop-pattern.values.items i pattern
+    (get_or c.penalties_of-numbered.result c.mask_number.result 0) c.loop-pattern.invariant here
+    (ap (λ n. get_or c.penalties_of-numbered.result n 0) c.mask_number.ensures.is ∙ value)
 
 pub returns-clause-candidates : goal.returns-clause-candidates
 returns-clause-candidates c =
-    let s = c.self.inside in let v = s.version in let new = c.penalties_of-penalties.new.scratch in
+    let s = c.self.inside in let v = s.version in let new = c.penalties_of-numbered.new.scratch in
     let items = c.in_ok-scratch.scratch.items in let long = c.in_ok-scratch.scratch.len in
-    let whole = written_whole new items long (omega (arith, c.penalties_of-penalties.auto.scratch, c.deref_mut.ensures.len)) in
+    let whole = written_whole new items long (omega (arith, c.penalties_of-numbered.auto.scratch, c.deref_mut.ensures.len)) in
     subst (λ (d : Drawing). (p : MaskPattern) → IsOfFamily d.version p →
     plane (normal_number p) (take (width_of d.version * width_of d.version) (take long (new ++ drop (length new) items)))
     ≡ map byte_of (colors_of (with_mask p d))) c.self.view_is
     (λ p f.
     ap (λ l. plane (normal_number p) (take (width_of v * width_of v) l)) whole
     ∙ ap (λ n. plane (normal_number p) (take (n * n) new)) (sym c.self.invariant.1)
-    ∙ c.penalties_of-penalties.ensures.candidates (normal_number p) (number_small p)
+    ∙ c.penalties_of-numbered.ensures.candidates (normal_number p) (number_small p)
     ∙ ap (λ ms. map byte_of (map color_of_module ms)) (masked_by_number v s.level p s.width _ c.deref.result.now s.modules.items c.self.invariant.1
-    (c.format_words-words.ensures p f) c.deref.ensures.value))
-
-pub returns-clause-penalties : goal.returns-clause-penalties
-returns-clause-penalties c =
-    let s = c.self.inside in let v = s.version in
-    subst (λ (d : Drawing). (p : MaskPattern) → IsOfFamily d.version p →
-    get_or c.penalties_of-penalties.result (normal_number p) 0 ≡ penalty d.version (colors_of (with_mask p d))) c.self.view_is
-    (λ p f.
-    c.penalties_of-penalties.ensures.penalties (normal_number p) (number_small p)
-    ∙ ap (λ ms. penalty v (map color_of_module ms)) (masked_by_number v s.level p s.width _ c.deref.result.now s.modules.items c.self.invariant.1
     (c.format_words-words.ensures p f) c.deref.ensures.value))

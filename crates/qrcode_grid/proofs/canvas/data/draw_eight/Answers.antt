@@ -6,25 +6,19 @@ use Rattle.qrcode_grid.proofs.StreamPlaces.{no_bits}
 use Rattle.qrcode_grid.proofs.FillSteps.{row_placed}
 use Rattle.qrcode_grid.proofs.canvas.data.draw_eight.Goals as goal
 
-right_of : (q : ℕ) → q < 4 → get_or (get_or ROWS q []) 1 Empty ≡ Unmasked (bit_color (q / 2 == 1))
-right_of zero h = refl
-right_of (suc zero) h = refl
-right_of (suc (suc zero)) h = refl
-right_of (suc (suc (suc zero))) h = refl
-right_of (suc (suc (suc (suc q)))) h = absurd (omega (arith, h))
-
-left_of : (q : ℕ) → q < 4 → get_or (get_or ROWS q []) 0 Empty ≡ Unmasked (bit_color (q % 2 == 1))
-left_of zero h = refl
-left_of (suc zero) h = refl
-left_of (suc (suc zero)) h = refl
-left_of (suc (suc (suc zero))) h = refl
-left_of (suc (suc (suc (suc q)))) h = absurd (omega (arith, h))
+row_of : (q : ℕ) → q < 4 →
+    (get_or (get_or ROWS q []) 1 Empty ≡ Unmasked (bit_color (q / 2 == 1))) × (get_or (get_or ROWS q []) 0 Empty ≡ Unmasked (bit_color (q % 2 == 1)))
+row_of zero h = (refl, refl)
+row_of (suc zero) h = (refl, refl)
+row_of (suc (suc zero)) h = (refl, refl)
+row_of (suc (suc (suc zero))) h = (refl, refl)
+row_of (suc (suc (suc (suc q)))) h = absurd (omega (arith, h))
 
 right_bit : (word k : ℕ) → get_or (get_or ROWS (word / 2 ^ k % 4) []) 1 Empty ≡ data_bit word (k + 1)
-right_bit word k = grind (arith, word / 2 ^ k, div-div-eq-div-mul word (2 ^ k) 2, pow-add 2 k 1, right_of ((word / 2 ^ k) % 4) (omega arith))
+right_bit word k = grind (arith, word / 2 ^ k, div-div-eq-div-mul word (2 ^ k) 2, pow-add 2 k 1, (row_of ((word / 2 ^ k) % 4) (omega arith)).0)
 
 left_bit : (word k : ℕ) → get_or (get_or ROWS (word / 2 ^ k % 4) []) 0 Empty ≡ data_bit word k
-left_bit word k = grind (arith, word / 2 ^ k, left_of ((word / 2 ^ k) % 4) (omega arith))
+left_bit word k = grind (arith, word / 2 ^ k, (row_of ((word / 2 ^ k) % 4) (omega arith)).1)
 
 pub loop-i-preserved : goal.loop-i-preserved
 loop-i-preserved c = λ after t pair is bits xs f.
@@ -40,16 +34,16 @@ loop-i-preserved c = λ after t pair is bits xs f.
     (subst (λ (k : ℕ). FilledBelow w t bits xs c.loop-i.modules (n + 2 * c.args.first + 2 * i) (number_bits k c.args.eight ++ after)) left
     (c.loop-i.invariant after t pair is bits xs f)) in
     let ms = c.loop-i.modules in
-    let here_at = c.place_after-here.result in
+    let here_at = c.place_of-here.result in
     let q = c.args.eight / 2 ^ (6 - 2 * i) % 4 in
     let zs = set (set ms (here_at + 1) (get_or (get_or ROWS q []) 1 Empty)) here_at (get_or (get_or ROWS q []) 0 Empty) in
     let new : zs ≡ set (set ms (here_at + 1) (data_bit c.args.eight (6 - 2 * i + 1))) here_at (data_bit c.args.eight (6 - 2 * i)) =
     ap (λ (m : Module). set (set ms (here_at + 1) m) here_at (get_or (get_or ROWS q []) 0 Empty)) (right_bit c.args.eight (6 - 2 * i))
     ∙ ap (λ (m : Module). set (set ms (here_at + 1) (data_bit c.args.eight (6 - 2 * i + 1))) here_at m) (left_bit c.args.eight (6 - 2 * i)) in
     let both = row_placed t pair c.args.first (c.args.first + i) c.args.columns bits xs c.args.modules.now c.loop-i.modules zs
-    c.place_after-here.result (6 - 2 * i) c.args.eight
+    c.place_of-here.result (6 - 2 * i) c.args.eight
     (number_bits 8 c.args.eight ++ after) after is (c.loop-i.auto.modules ∙ c.requires.square) (omega arith)
-    (omega (arith, four, c.requires.rows)) c.place_after-here.ensures.is (c.requires.empty i four) new f before in
+    (omega (arith, four, c.requires.rows)) c.place_of-here.ensures.is (c.requires.empty i four) new f before in
     subst (λ (k : ℕ). FilledBelow w t bits xs zs k (number_bits (8 - 2 * (i + 1)) c.args.eight ++ after)) end
     (subst (λ (k : ℕ). FilledBelow w t bits xs zs (n + 2 * (c.args.first + i) + 2) (number_bits k c.args.eight ++ after)) less both)
 

@@ -1,4 +1,4 @@
-use Rattle.qrcode_grid.proofs.Prelude.{◌≡◌, ℕ, ◌<◌, ◌+◌, ◌-◌, ◌*◌, suc, get_or, ap, ◌∙◌, sym, subst, arith, Some, mul-add-lt, drawn_over, alignments}
+use Rattle.qrcode_grid.proofs.Prelude.{◌≡◌, ℕ, ◌<◌, ◌≤◌, ◌+◌, ◌-◌, ◌*◌, ◌/◌, suc, get_or, ap, ◌∙◌, sym, subst, arith, Some, mul-add-lt, drawn_over, alignments}
 use Rattle.qrcode_grid.proofs.Prelude.{alignment_coordinates, alignment_coordinate, alignment_count, near, alignment_at, Empty}
 use Rattle.qrcode_grid.proofs.RegionRows.{behind, behind_before, cells_inside, behind_within, none_between, none_behind, no_pattern, no_pattern_row}
 use Rattle.qrcode_grid.proofs.RegionRows.{no_alignments, alignment_count_is}
@@ -7,13 +7,12 @@ use Rattle.qrcode_grid.proofs.GridLaws.{near_center}
 use Rattle.qrcode_grid.proofs.canvas.drawing.draw_alignments.Goals as goal
 
 pub returns-then-n-lt2 : goal.returns-then-n-lt2
-returns-then-n-lt2 c = λ x y l m. ap (λ o. drawn_over o (get_or c.args.modules.now (y * c.args.width + x) Empty))
-    (sym (no_alignments c.args.n c.args.width x y c.if-n-lt2.true))
+returns-then-n-lt2 c = grind (arith, no_alignments)
 
 pub loop-y-init : goal.loop-y-init
 loop-y-init c =
     let n = c.args.n in let w = c.args.width in
-    let row : c.loop-j.j < alignment_count n = omega (arith, alignment_count_is n (omega (arith, c.if-n-lt2.false)), c.loop-j-test.true) in
+    let row : c.loop-j.j < alignment_count n = omega (arith, alignment_count_is n c.if-n-lt2.false, c.loop-j-test.true) in
     let is : c.alignment_coordinate-center_y.result ≡ alignment_coordinate n c.loop-j.j = c.alignment_coordinate-center_y.ensures.is in
     rows_between (λ x y m. drawn_over (alignments w (alignment_coordinates n) x y) m) w (behind n c.loop-j.j)
     (c.alignment_coordinate-center_y.result - 2) c.args.modules.now c.loop-j.modules
@@ -25,7 +24,7 @@ loop-y-init c =
 pub loop-x-init : goal.loop-x-init
 loop-x-init c =
     let n = c.args.n in let w = c.args.width in
-    let column : c.loop-k.k < alignment_count n = omega (arith, alignment_count_is n (omega (arith, c.if-n-lt2.false)), c.loop-k-test.true) in
+    let column : c.loop-k.k < alignment_count n = omega (arith, alignment_count_is n c.if-n-lt2.false, c.loop-k-test.true) in
     let is : c.alignment_coordinate-center_x.result ≡ alignment_coordinate n c.loop-k.k = c.alignment_coordinate-center_x.ensures.is in
     row_between (λ x y m. drawn_over (alignments w (alignment_coordinates n) x y) m) w c.loop-y.y (behind n c.loop-k.k)
     (c.alignment_coordinate-center_x.result - 2) c.args.modules.now c.loop-k.modules
@@ -38,71 +37,40 @@ loop-x-init c =
 inside_cell : (w x y long size : ℕ) → x < w → y < w → long ≡ size → size ≡ w * w → y * w + x < long
 inside_cell w x y long size column row same square = let cell = mul-add-lt y w x w row column in omega (arith, cell)
 
+-- the cells of a pattern are in the grid
+in_pattern : (n k at center w : ℕ) → n ≤ 40 → w ≡ 4 * n + 17 → 2 ≤ n → k < n / 7 + 2 → center ≡ alignment_coordinate n k → at < center + 3 → at < w
+in_pattern n k at center w number wide some within is near =
+    omega (arith, is, wide, near, (cells_inside n k number (omega (arith, alignment_count_is n some))).1)
+
 pub slice_copy_out-drawn : goal.slice_copy_out-drawn
 slice_copy_out-drawn c =
     let n = c.args.n in let w = c.args.width in
-    let row : c.loop-j.j < alignment_count n = omega (arith, alignment_count_is n (omega (arith, c.if-n-lt2.false)), c.loop-j-test.true) in
-    let column : c.loop-k.k < alignment_count n = omega (arith, alignment_count_is n (omega (arith, c.if-n-lt2.false)), c.loop-k-test.true) in
-    let inside_y : c.loop-y.y < w = omega (
-      arith,
-      c.alignment_coordinate-center_y.ensures.is,
-      c.requires.wide,
-      c.loop-y-test.true,
-      (cells_inside n c.loop-j.j c.requires.number row).1,
-    ) in
-    inside_cell w c.loop-x.x c.loop-y.y _ _ (omega (
-      arith,
-      c.alignment_coordinate-center_x.ensures.is,
-      c.requires.wide,
-      c.loop-x-test.true,
-      (cells_inside n c.loop-k.k c.requires.number column).1,
-    )) inside_y c.loop-x.invariant.size c.requires.square
+    inside_cell w c.loop-x.x c.loop-y.y _ _ (in_pattern n c.loop-k.k c.loop-x.x _ w c.requires.number c.requires.wide c.if-n-lt2.false c.loop-k-test.true
+    c.alignment_coordinate-center_x.ensures.is c.loop-x-test.true)
+    (in_pattern n c.loop-j.j c.loop-y.y _ w c.requires.number c.requires.wide c.if-n-lt2.false c.loop-j-test.true
+    c.alignment_coordinate-center_y.ensures.is c.loop-y-test.true) c.loop-x.invariant.size c.requires.square
 
 pub bounds-modules-i : goal.bounds-modules-i
 bounds-modules-i c =
     let n = c.args.n in let w = c.args.width in
-    let row : c.loop-j.j < alignment_count n = omega (arith, alignment_count_is n (omega (arith, c.if-n-lt2.false)), c.loop-j-test.true) in
-    let column : c.loop-k.k < alignment_count n = omega (arith, alignment_count_is n (omega (arith, c.if-n-lt2.false)), c.loop-k-test.true) in
-    let inside_y : c.loop-y.y < w = omega (
-      arith,
-      c.alignment_coordinate-center_y.ensures.is,
-      c.requires.wide,
-      c.loop-y-test.true,
-      (cells_inside n c.loop-j.j c.requires.number row).1,
-    ) in
-    inside_cell w c.loop-x.x c.loop-y.y _ _ (omega (
-      arith,
-      c.alignment_coordinate-center_x.ensures.is,
-      c.requires.wide,
-      c.loop-x-test.true,
-      (cells_inside n c.loop-k.k c.requires.number column).1,
-    )) inside_y c.loop-x.invariant.size c.requires.square
+    inside_cell w c.loop-x.x c.loop-y.y _ _ (in_pattern n c.loop-k.k c.loop-x.x _ w c.requires.number c.requires.wide c.if-n-lt2.false c.loop-k-test.true
+    c.alignment_coordinate-center_x.ensures.is c.loop-x-test.true)
+    (in_pattern n c.loop-j.j c.loop-y.y _ w c.requires.number c.requires.wide c.if-n-lt2.false c.loop-j-test.true
+    c.alignment_coordinate-center_y.ensures.is c.loop-y-test.true) c.loop-x.invariant.size c.requires.square
 
 pub loop-x-preserved : goal.loop-x-preserved
 loop-x-preserved c =
     let n = c.args.n in let w = c.args.width in
     let x = c.loop-x.x in let y = c.loop-y.y in let cs = alignment_coordinates n in
-    let row : c.loop-j.j < alignment_count n = omega (arith, alignment_count_is n (omega (arith, c.if-n-lt2.false)), c.loop-j-test.true) in
-    let column : c.loop-k.k < alignment_count n = omega (arith, alignment_count_is n (omega (arith, c.if-n-lt2.false)), c.loop-k-test.true) in
-    let inside_y : c.loop-y.y < w = omega (
-      arith,
-      c.alignment_coordinate-center_y.ensures.is,
-      c.requires.wide,
-      c.loop-y-test.true,
-      (cells_inside n c.loop-j.j c.requires.number row).1,
-    ) in
+    let row : c.loop-j.j < alignment_count n = omega (arith, alignment_count_is n c.if-n-lt2.false, c.loop-j-test.true) in
+    let column : c.loop-k.k < alignment_count n = omega (arith, alignment_count_is n c.if-n-lt2.false, c.loop-k-test.true) in
     let is_x : c.alignment_coordinate-center_x.result ≡ alignment_coordinate n c.loop-k.k = c.alignment_coordinate-center_x.ensures.is in
     let is_y : c.alignment_coordinate-center_y.result ≡ alignment_coordinate n c.loop-j.j = c.alignment_coordinate-center_y.ensures.is in
     let near_x = near_center n c.loop-k.k x c.requires.number column (omega (arith, is_x, c.loop-x-test.true, c.loop-x.auto.x)) in
     let near_y = near_center n c.loop-j.j y c.requires.number row (omega (arith, is_y, c.loop-y-test.true, c.loop-y.auto.y)) in
     cell_changed (λ x y m. drawn_over (alignments w (alignment_coordinates n) x y) m) w y x c.args.modules.now c.loop-x.modules _ Empty
-    (omega (
-      arith,
-      c.alignment_coordinate-center_x.ensures.is,
-      c.requires.wide,
-      c.loop-x-test.true,
-      (cells_inside n c.loop-k.k c.requires.number column).1,
-    )) inside_y c.requires.square
+    (in_pattern n c.loop-k.k x _ w c.requires.number c.requires.wide c.if-n-lt2.false c.loop-k-test.true is_x c.loop-x-test.true)
+    (in_pattern n c.loop-j.j y _ w c.requires.number c.requires.wide c.if-n-lt2.false c.loop-j-test.true is_y c.loop-y-test.true) c.requires.square
     (c.drawn.ensures ∙ ap (λ o. drawn_over o (get_or c.loop-x.modules (y * w + x) Empty)) (c.alignments_color-color.ensures
     ∙ ap (λ o. alignment_at w o (Some c.alignment_coordinate-center_y.result) x y) (ap Some is_x ∙ sym near_x)
     ∙ ap (λ o. alignment_at w (near cs x) o x y) (ap Some is_y ∙ sym near_y))) c.loop-x.invariant
@@ -120,12 +88,7 @@ pub loop-y-preserved : goal.loop-y-preserved
 loop-y-preserved c =
     let n = c.args.n in let w = c.args.width in
     let y = c.loop-y.y in let cs = alignment_coordinates n in
-    let last : c.loop-k.k ≡ alignment_count n = omega (
-      arith,
-      alignment_count_is n (omega (arith, c.if-n-lt2.false)),
-      c.loop-k-test.false,
-      c.loop-k.auto.k-end,
-    ) in
+    let last : c.loop-k.k ≡ alignment_count n = omega (arith, alignment_count_is n c.if-n-lt2.false, c.loop-k-test.false, c.loop-k.auto.k-end) in
     row_ends (λ x y m. drawn_over (alignments w (alignment_coordinates n) x y) m) w y (behind n c.loop-k.k) c.args.modules.now c.loop-k.modules
     (omega (arith, c.requires.wide, behind_within n c.loop-k.k c.requires.number (omega (arith, last))))
     (λ x low l m. ap (λ o. drawn_over o m) (no_pattern w (near cs x) (near cs y) x y
@@ -145,12 +108,7 @@ pub returns : goal.returns
 returns c =
     let n = c.args.n in let w = c.args.width in
     let cs = alignment_coordinates n in
-    let last : c.loop-j.j ≡ alignment_count n = omega (
-      arith,
-      alignment_count_is n (omega (arith, c.if-n-lt2.false)),
-      c.loop-j-test.false,
-      c.loop-j.auto.j-end,
-    ) in
+    let last : c.loop-j.j ≡ alignment_count n = omega (arith, alignment_count_is n c.if-n-lt2.false, c.loop-j-test.false, c.loop-j.auto.j-end) in
     rows_end (λ x y m. drawn_over (alignments w (alignment_coordinates n) x y) m) w w c.args.modules.now c.loop-j.modules Empty (omega arith) c.requires.square
     (rows_between (λ x y m. drawn_over (alignments w (alignment_coordinates n) x y) m) w (behind n c.loop-j.j) w c.args.modules.now c.loop-j.modules
     (omega (arith, c.requires.wide)) (omega (arith, c.requires.wide, behind_within n c.loop-j.j c.requires.number (omega (arith, last))))

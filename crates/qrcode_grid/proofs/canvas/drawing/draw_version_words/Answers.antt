@@ -1,4 +1,4 @@
-use Rattle.qrcode_grid.proofs.Prelude.{◌+◌, ◌*◌, ◌-◌, get_or, ap, ◌∙◌, sym, arith, drawn_over, version_copies, Empty}
+use Rattle.qrcode_grid.proofs.Prelude.{◌+◌, ◌*◌, ◌-◌, get_or, ap, ◌∙◌, arith, drawn_over, version_copies, Empty}
 use Rattle.qrcode_grid.proofs.WrittenWords.{row_begins, cell_changed, row_ends, rows_between, rows_end}
 use Rattle.qrcode_grid.proofs.RegionRows.{no_version, no_version_before, no_version_behind, no_version_between, no_version_beside, no_version_below}
 use Rattle.qrcode_grid.proofs.canvas.drawing.draw_version_words.Goals as goal
@@ -58,5 +58,4 @@ returns c =
     (omega (arith, low, c.loop-row-test.false, c.requires.wide)))) c.loop-row.invariant)
 
 pub returns-then-n-lt7 : goal.returns-then-n-lt7
-returns-then-n-lt7 c = λ x y l m. ap (λ o. drawn_over o (get_or c.args.modules.now (y * c.args.width + x) Empty))
-    (sym (no_version c.args.n x y c.if-n-lt7.true))
+returns-then-n-lt7 c = grind (arith, no_version)

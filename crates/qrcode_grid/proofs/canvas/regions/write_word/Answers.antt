@@ -1,16 +1,9 @@
-use Rattle.qrcode_grid.proofs.Prelude.{◌+◌, ◌-◌, ◌*◌, ◌<◌, length, get_or, ◌∙◌, arith, rules, get_or_default}
+use Rattle.qrcode_grid.proofs.Prelude.{◌+◌, ◌-◌, ◌*◌, ◌<◌, length, get_or, arith, rules, get_or_default}
 use Rattle.qrcode_grid.proofs.WrittenWords.{cell_within, next_written}
 use Rattle.qrcode_grid.proofs.canvas.regions.write_word.Goals as goal
 
 pub loop-k-preserved : goal.loop-k-preserved
-loop-k-preserved g c = λ any.
-    let ps = c.args.places.now in let k = c.loop-k.k in let v = c.index-digits-k.result in
-    let at : length ps - 1 - k < length ps = omega (arith, c.loop-k-test.true) in
-    let inside = c.requires.within (length ps - 1 - k) (0, 0) at in
-    let within : k < length c.args.digits.now = omega (arith, c.loop-k-test.true, c.requires.few) in
-    next_written (λ j. get_or c.args.digits.now j any) c.args.width ps k any c.args.cells.now c.loop-k.cells v
-    c.loop-k-test.true inside.0 inside.1 (c.loop-k.auto.cells ∙ c.requires.square)
-    (c.index-digits-k.is ∙ get_or_default c.args.digits.now k v any within) (c.loop-k.invariant any)
+loop-k-preserved g c = grind (arith, next_written, get_or_default)
 
 pub offset_bounds-cells-y : goal.offset_bounds-cells-y
 offset_bounds-cells-y g c =

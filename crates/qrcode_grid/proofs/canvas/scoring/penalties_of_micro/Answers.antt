@@ -1,4 +1,4 @@
-use Rattle.qrcode_grid.proofs.Prelude.{◌≡◌, ℕ, ◌+◌, ◌-◌, ◌*◌, ◌<◌, ◌≤◌, ◌==◌, [], ◌∷◌, ◌++◌, List, count_by, drop, take, get_or, length, ap, ◌∙◌, sym, arith}
+use Rattle.qrcode_grid.proofs.Prelude.{◌≡◌, ℕ, ◌+◌, ◌-◌, ◌*◌, ◌<◌, ◌≤◌, ◌==◌, List, count_by, drop, take, get_or, length, ◌∙◌, sym, arith}
 use Rattle.qrcode_grid.proofs.Prelude.{row, column, plane, take_more, take_all, length-take, common_steps}
 use Rattle.std.proofs.lemmas.List.{drop-append-le}
 use Rattle.std.proofs.lemmas.Nat.Bits.{shr_and_one}
@@ -9,10 +9,7 @@ use Rattle.qrcode_grid.proofs.canvas.scoring.penalties_of_micro.Goals as goal
 -- one more module of a line is looked at
 lights_more : (xs : List ℕ) (k n b : ℕ) → 1 ≤ k → k < length xs → n ≡ count_by (λ m. m == 0) (drop 1 (take k xs)) → get_or xs k 0 ≡ b → b ≤ 1 →
     n + (1 - b) ≡ count_by (λ m. m == 0) (drop 1 (take (k + 1) xs))
-lights_more xs k n b some inside is here bit =
-    let more : drop 1 (take (k + 1) xs) ≡ drop 1 (take k xs) ++ get_or xs k 0 ∷ [] =
-    ap (drop 1) (take_more xs k 0 inside) ∙ drop-append-le 1 (take k xs) (get_or xs k 0 ∷ []) (omega (arith, length-take k xs)) in
-    grind (arith, common_steps)
+lights_more xs k n b some inside is here bit = grind (arith, common_steps, take_more, drop-append-le, length-take)
 
 pub loop-k-preserved : goal.loop-k-preserved
 loop-k-preserved c =
@@ -34,14 +31,4 @@ loop-k-preserved c =
     }
 
 pub loop-m-preserved : goal.loop-m-preserved
-loop-m-preserved c =
-    let w = c.args.width in let cells = plane c.loop-m.m c.args.grid.now in let y = w - 1 in
-    let square : length cells ≡ w * w = length-plane c.loop-m.m c.args.grid.now ∙ c.requires.square in
-    let end : c.loop-k.k ≡ w = omega arith in
-    let last : y < w = omega (arith, c.requires.wide.0) in
-    let light = λ (xs : List ℕ). count_by (λ b. b == 0) (drop 1 xs) in
-    let h : c.loop-k.h ≡ light (row w cells y) =
-    c.loop-k.invariant.row ∙ ap light (take_all c.loop-k.k (row w cells y) (omega (arith, length-row w cells y square last))) in
-    let v : c.loop-k.v ≡ light (column w cells y) =
-    c.loop-k.invariant.column ∙ ap light (take_all c.loop-k.k (column w cells y) (omega (arith, length-column w cells y))) in
-    grind (arith, common_steps, h, v)
+loop-m-preserved c = grind (arith, common_steps, length-plane, take_all, length-row, length-column)

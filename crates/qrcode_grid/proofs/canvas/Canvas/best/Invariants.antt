@@ -1,5 +1,5 @@
 use Rattle.qrcode_grid.proofs.Prelude.{◌≤◌, ◌<◌, ℕ, get_or}
-use Rattle.qrcode_grid.proofs.canvas.Canvas.best_of.Given as goal
+use Rattle.qrcode_grid.proofs.canvas.Canvas.best.Given as goal
 
 -- the first least of those that were seen
 abbrev pub invariant-loop-i : goal.invariant-loop-i
