@@ -1,18 +1,14 @@
 -- The table of the masks' conditions, modules as bytes, masked and formatted, masks by their numbers, and lists of penalties.
 use Rattle.qrcode_grid.proofs.Prelude.{◌≡◌, ℕ, ◌+◌, ◌/◌, ◌%◌, ◌<◌, ◌==◌, eqb, Bool, cond, min, [], get_or, refl, ap, arith, List, map, length, Option, ◌∙◌, sym}
-use Rattle.qrcode_grid.proofs.Prelude.{zero, suc, ◌∷◌, ◌++◌, take, drop, slice_get, Some, option_map, unwrap_or, bit_at-lt, bit_at_xor, bit_at_and}
-use Rattle.qrcode_grid.proofs.Prelude.{bit_at_ones, bit_at-zero, true, false, nat_tests}
-use Rattle.qrcode_grid.proofs.Prelude.{bit_at, Light, Dark, Module, Empty, code_of, masked_code, pattern_of, is_inverted, drawn_over, format_color, masked}
-use Rattle.qrcode_grid.proofs.Prelude.{masked_cell, masked_cells, format_word, normal_number, family, add-mul, mul-add, mul_assoc, mul_comm, MaskPattern}
-use Rattle.qrcode_grid.proofs.Prelude.{common_steps, same_number_lists, get_or-map, length-map, take_at, take_more, Color, Version, color_of_module, Drawing}
-use Rattle.qrcode_grid.proofs.Prelude.{with_mask, mask_penalties, colors_of, byte_of, penalty, EcLevel, width_of, slice_get-map}
-use Rattle.qrcode_grid.proofs.Prelude.{slice_get_within, get_or_from_slice_get, bit_and, bit_xor}
-use Rattle.qrcode_grid.proofs.Prelude.{Normal, Micro, IsOfFamily}
-use Rattle.qrcode_grid.specs.declared.canvas.MaskPattern.TheVariants.{Checkerboard}
-use Rattle.qrcode_grid.specs.declared.canvas.masks.TheConstants.{CONDITIONS}
-use Rattle.qrcode_grid.proofs.FieldLaws.{passes_below, passes_below-at}
-use Rattle.qrcode_grid.proofs.MarkedLanes.{eqb_true}
-use Rattle.qrcode_grid.proofs.WrittenWords.{length-enumerated, get_or-enumerated}
+use Rattle.qrcode_grid.proofs.Prelude.{zero, suc, ◌∷◌, ◌++◌, take, drop, slice_get, Some, option_map, unwrap_or, bit_at-lt, bit_at_xor, bit_at_and, bit_at_ones}
+use Rattle.qrcode_grid.proofs.Prelude.{bit_at-zero, true, false, nat_tests, bit_at, Light, Dark, Module, Empty, code_of, masked_code, pattern_of, is_inverted}
+use Rattle.qrcode_grid.proofs.Prelude.{drawn_over, format_color, masked, masked_cell, masked_cells, format_word, normal_number, family, add-mul, mul-add}
+use Rattle.qrcode_grid.proofs.Prelude.{mul_assoc, mul_comm, MaskPattern, common_steps, same_number_lists, get_or-map, length-map, take_at, take_more, Color}
+use Rattle.qrcode_grid.proofs.Prelude.{Version, color_of_module, Drawing, with_mask, mask_penalties, colors_of, byte_of, penalty, EcLevel, width_of}
+use Rattle.qrcode_grid.proofs.Prelude.{slice_get-map, slice_get_within, get_or_from_slice_get, bit_and, bit_xor, Normal, Micro, IsOfFamily}
+use Rattle.qrcode_grid.{specs.declared.canvas.MaskPattern.TheVariants.Checkerboard, specs.declared.canvas.masks.TheConstants.CONDITIONS}
+use Rattle.qrcode_grid.{proofs.FieldLaws.passes_below, proofs.FieldLaws.passes_below-at, proofs.MarkedLanes.eqb_true, proofs.WrittenWords.length-enumerated}
+use Rattle.qrcode_grid.{proofs.WrittenWords.get_or-enumerated}
 
 abbrev is_right : ℕ → ℕ → ℕ → Bool
 is_right y k m = eqb (bit_at (get_or (get_or CONDITIONS y []) k 0) m) (cond (is_inverted (pattern_of m) k y) 1 0)
@@ -123,16 +119,10 @@ written_whole new old n e = take_at new (drop (length new) old) n e
 -- The masks of a family: one at each of its places, with a penalty of its own.
 
 pub some_mask : (v : Version) → 0 < length (family v)
-some_mask (Normal z) = omega arith
-some_mask (Micro z) = omega arith
+some_mask v = grind arith
 
 pub of_family : (v : Version) (i : ℕ) → i < length (family v) → IsOfFamily v (get_or (family v) i Checkerboard)
-of_family (Normal z) i h = tt
-of_family (Micro z) zero h = refl
-of_family (Micro z) (suc zero) h = refl
-of_family (Micro z) (suc (suc zero)) h = refl
-of_family (Micro z) (suc (suc (suc zero))) h = refl
-of_family (Micro z) (suc (suc (suc (suc i)))) h = absurd (omega (arith, h))
+of_family v i h = grind arith
 
 pub penalty_at : (d : Drawing) (i : ℕ) → i < length (family d.version) →
     get_or (mask_penalties d) i 0 ≡ penalty d.version (colors_of (with_mask (get_or (family d.version) i Checkerboard) d))

@@ -1,14 +1,12 @@
 -- The laws of the regions, of the alignment patterns, of the walk, and of the code words of the two generators.
 use Rattle.qrcode_grid.proofs.Prelude.{◌≡◌, ℕ, zero, suc, ◌<◌, ◌≤◌, ◌+◌, ◌*◌, ◌/◌, refl, arith, Bool, not, map, filter, range_with_len, Version, IsVersion}
 use Rattle.qrcode_grid.proofs.Prelude.{width_of, timing_column, walk, data_cells, is_functional_cell, common_steps, ◌≢◌, ◌-◌, ◌%◌, ◌==◌, ◌&&◌, ◌||◌, nat_le}
-use Rattle.qrcode_grid.proofs.Prelude.{nat_lt, true, false, Option, Some, unwrap_or, subst, ◌^◌, List, abs_diff, eqb-true, leb-true, ltb-true, near}
-use Rattle.qrcode_grid.proofs.Prelude.{alignments, alignment_count, alignment_coordinate, alignment_coordinates, ring, position_or_len, cond, nat_tests}
-use Rattle.qrcode_grid.proofs.Areas.{is_some-functional_color}
+use Rattle.qrcode_grid.proofs.Prelude.{nat_lt, true, false, Option, Some, unwrap_or, subst, ◌^◌, List, abs_diff, eqb-true, leb-true, ltb-true, near, alignments}
+use Rattle.qrcode_grid.proofs.Prelude.{alignment_count, alignment_coordinate, alignment_coordinates, ring, position_or_len, cond, nat_tests}
 use Rattle.qrcode_grid.proofs.Totals.{numbered_cell_inside, cell_number-numbered_cell, numbered_cell-cell_number, cell_number_below}
 use Rattle.qrcode_grid.specs.Regions.{alignment, polynomial_product, code_word, HasOneMultiple, HasOneFormatWord, HasOneVersionWord}
 use Rattle.qrcode_grid.specs.Laws.{AreConsistentRegions, HasEveryAlignment, HasItsAlignments, IsWalkOf}
-use Rattle.qrcode_grid.proofs.Tests.{all_pass, passes, both}
-use Rattle.qrcode_grid.proofs.RegionsAgree.{regions_say}
+use Rattle.qrcode_grid.proofs.{Areas.is_some-functional_color, Tests.all_pass, Tests.passes, Tests.both, RegionsAgree.regions_say}
 
 pub odd_width : (version : Version) → IsVersion version → width_of version ≡ 2 * (width_of version / 2) + 1
 odd_width version h = grind (arith)
@@ -20,8 +18,7 @@ timing_inside version h = grind (arith)
 filter-alike : {X : Type 0} (p q : X → Bool) (at : ℕ → X) (a n : ℕ) → ((k : ℕ) → a ≤ k → k < a + n → p (at k) ≡ q (at k)) →
     filter p (map at (range_with_len a n)) ≡ filter q (map at (range_with_len a n))
 filter-alike p q at a zero same = refl
-filter-alike p q at a (suc n) same =
-    grind (arith, common_steps, same a (omega arith) (omega arith), filter-alike p q at (a + 1) n (λ k low high. same k (omega arith) (omega arith)))
+filter-alike p q at a (suc n) same = grind (arith, common_steps, filter-alike p q at (a + 1) n)
 
 pub data_cells-by_areas : (version : Version) → IsVersion version →
     data_cells version ≡ filter (λ c. not (is_functional_cell version c.0 c.1)) (walk version)

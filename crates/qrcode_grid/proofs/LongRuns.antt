@@ -1,8 +1,7 @@
 -- The runs of a line, by its fives and sixes of one colour: a run of n modules, n at least 5, has n - 4 fives and n - 5 sixes.
 use Rattle.qrcode_grid.proofs.Prelude.{◌≡◌, ℕ, zero, suc, ◌+◌, ◌-◌, ◌*◌, ◌<◌, ◌≤◌, ◌==◌, ◌&&◌, Bool, true, false, cond, List, [], ◌∷◌, length, get_or, refl}
 use Rattle.qrcode_grid.proofs.Prelude.{◌||◌, arith, not, ap, ◌∙◌, sym, prefix_len, eqb_tells, common_steps, count_below, sum_below, nat_le}
-use Rattle.qrcode_grid.specs.Penalty.{run_length}
-use Rattle.qrcode_grid.proofs.Totals.{total-first, total-cong}
+use Rattle.qrcode_grid.{specs.Penalty.run_length, proofs.Totals.total-first, proofs.Totals.total-cong}
 
 -- what a run of n modules counts
 abbrev pub length_penalty : ℕ → ℕ
@@ -21,8 +20,7 @@ abbrev pub run_penalty : List ℕ → ℕ → ℕ
 run_penalty line i = cond (begins_run line i) (length_penalty (run_length line i)) 0
 
 both_tests : (a b : Bool) (n : ℕ) → cond (a && b) n 0 ≡ cond a (cond b n 0) 0
-both_tests true b n = refl
-both_tests false b n = refl
+both_tests a b n = grind arith
 
 by_runs : (line : List ℕ) → runs_penalty line ≡ sum_below (run_penalty line) (length line)
 by_runs line = grind (arith, total-cong, both_tests)
@@ -42,8 +40,7 @@ shifted : (c d : ℕ) (ds : List ℕ) (k : ℕ) → run_penalty (c ∷ d ∷ ds)
 shifted c d ds k = (grind (arith, common_steps))
 
 not_cond : (b : Bool) (n : ℕ) → cond (not b) n 0 ≡ cond b 0 n
-not_cond true n = refl
-not_cond false n = refl
+not_cond b n = grind arith
 
 pub later_runs : (c : ℕ) (cs : List ℕ) → sum_below (λ k. run_penalty (c ∷ cs) (suc k)) (length cs) ≡ new_runs c cs
 later_runs c [] = refl
@@ -91,8 +88,7 @@ edges zero line i = true
 edges (suc n) line i = edge line i && edges n line (suc i)
 
 edge_later : (c : ℕ) (cs : List ℕ) (i : ℕ) → edge (c ∷ cs) (suc i) ≡ edge cs i
-edge_later c [] i = refl
-edge_later c (d ∷ ds) i = refl
+edge_later c cs i = grind arith
 
 edges_later : (n c : ℕ) (cs : List ℕ) (i : ℕ) → edges n (c ∷ cs) (suc i) ≡ edges n cs i
 edges_later zero c cs i = refl

@@ -1,19 +1,18 @@
 -- Lanes that mark where candidates have something, and what is counted in rows of lanes.
-use borrow.Rule.Slice.PartMut.{put_mid}
 use Rattle.qrcode_grid.proofs.Prelude.{◌≡◌, ℕ, zero, suc, ◌+◌, ◌-◌, ◌%◌, ◌<◌, ◌≤◌, ◌==◌, ◌&&◌, ◌||◌, ◌++◌, Bool, cond, List, map, take, drop, length, get_or}
 use Rattle.qrcode_grid.proofs.Prelude.{refl, ap, ◌∙◌, sym, arith, Fits, w8, ◌*◌, ◌^◌, min, count_by, ◌/◌, eqb, true, false, [], ◌∷◌, zero-add, bit_at, bit_not}
 use Rattle.qrcode_grid.proofs.Prelude.{bit_and, bit_or, bit_xor, get_or-map, length-map, get_or_past, get_or-append-add, get_or_append_left, length-take-le}
 use Rattle.qrcode_grid.proofs.Prelude.{length-drop, bit_at-lt, bit_at-zero, bit_at_or, bit_at_not, bit_at_and, bit_at_xor, and_pow, length-chunk, get_or-chunk}
 use Rattle.qrcode_grid.proofs.Prelude.{get_or-zip2, length-zip2, bitmask_splat, ones-mask_l, get_or-replicate, nat_tests, Marks, plane, bit_count, common_steps}
 use Rattle.qrcode_grid.proofs.Prelude.{count_ones, slice_range, mod-eq_of_lt, mul-le-mul_right, pow_pos, sum_below, count_below, range_with_len, sum_by-append}
-use Rattle.qrcode_grid.proofs.Prelude.{count_by-le-length, length-range_with_len, is_byte_square_at, take-add}
-use Rattle.qrcode_grid.proofs.Prelude.{inl, inr, cases_eq, subst, set, get_or-set_same, get_or-set_other}
-use Rattle.std.proofs.Common.{add-zero, suc-add}
-use Rattle.std.proofs.lemmas.Simd.{get_or-put_chunk_at, length-put_chunk, pick_l_whole, pick_l-range_with_len, zip2_of_maps, map-map, mask_l-mod}
-use lib.Lanes.{zip2, chunk, put_chunk, mask_l, top}
-use Rattle.std.proofs.Math.Pow.{pow-lt}
-use lib.ListN.{replicate}
+use Rattle.qrcode_grid.proofs.Prelude.{count_by-le-length, length-range_with_len, is_byte_square_at, take-add, inl, inr, cases_eq, subst, set, get_or-set_same}
+use Rattle.qrcode_grid.proofs.Prelude.{get_or-set_other}
 use Rattle.qrcode_grid.proofs.Totals.{count_by-total, total-cong, total-add, total-mul}
+use Rattle.std.proofs.lemmas.Simd.{get_or-put_chunk_at, length-put_chunk, pick_l_whole, pick_l-range_with_len, zip2_of_maps, map-map, mask_l-mod}
+use Rattle.std.proofs.{Common.add-zero, Common.suc-add, Math.Pow.pow-lt}
+use borrow.Rule.Slice.PartMut.{put_mid}
+use lib.Lanes.{zip2, chunk, put_chunk, mask_l, top}
+use lib.ListN.{replicate}
 use lib.Bits.{bit_and}
 
 -- Bits of sixteen lanes, counted by their place.
@@ -121,8 +120,7 @@ next_rows rows test at s marks m h =
     ∙ sym (total-add f at (s * 16))
 
 one : (b : Bool) → cond b 1 0 ≤ 1
-one true = omega arith
-one false = omega arith
+one b = grind arith
 
 -- a count is at most the number of places
 pub count_below_le : (p : ℕ → Bool) (n : ℕ) → count_below p n ≤ n
@@ -187,10 +185,7 @@ marks_dark bytes at inside = grind (arith, common_steps, length-chunk, loaded_at
 
 pub marks_light : (bytes : List ℕ) → ((k : ℕ) → Fits w8 (get_or bytes k 0)) → (at : ℕ) → at + 16 ≤ length bytes
     → Marks (map (bit_not w8) (chunk at 16 bytes)) (λ m j. get_or (plane m bytes) (at + j) 0 == 0)
-marks_light bytes fits at inside = record {
-  whole = length-map (chunk at 16 bytes) (bit_not w8) ∙ length-chunk at 16 bytes inside;
-  bits = λ m j hm hj. turned_at bytes fits at inside m j hm hj ∙ none_is (get_or (plane m bytes) (at + j) 0) (plane_small m bytes (at + j));
-}
+marks_light bytes fits at inside = grind (arith, common_steps, turned_at bytes fits)
 
 pub marks_same : (bytes : List ℕ) → ((k : ℕ) → Fits w8 (get_or bytes k 0)) → (at other : ℕ) → at + 16 ≤ length bytes → other + 16 ≤ length bytes
     → Marks (zip2 bit_xor (chunk at 16 bytes) (map (bit_not w8) (chunk other 16 bytes))) (λ m j. get_or (plane m bytes) (at + j) 0 ==

@@ -4,12 +4,11 @@ use Rattle.qrcode_grid.proofs.Prelude.{sym, arith, ◌∷◌, ◌||◌, true, ta
 use Rattle.qrcode_grid.proofs.Prelude.{sum_below, count_below, row, column, line_penalty, is_byte_square_at, is_dark_byte, AreEdges, IsPadded, cell, has}
 use Rattle.qrcode_grid.proofs.Prelude.{has_five, has_six, has_finder, has_square, places, stride, is_quiet, common_steps, get_or_past, length-map, length-chunk}
 use Rattle.qrcode_grid.proofs.Prelude.{get_or-chunk, length-range_with_len, get_or-map-range_with_len}
-use Rattle.qrcode_grid.specs.Penalty.{is_finder_like}
 use Rattle.qrcode_grid.proofs.Windows.{are_light, is_pattern, and_seven, window_is, no_pattern}
 use Rattle.qrcode_grid.specs.declared.canvas.scoring.lists.Feature.TheVariants.{Finder, Square, Dark}
-use Rattle.qrcode_grid.proofs.MarkedLanes.{count_as_sum, count_one_more}
 use Rattle.qrcode_grid.proofs.LongRuns.{edge_within, edge, edge_past, five_of, six_of, runs_are}
 use Rattle.qrcode_grid.proofs.Totals.{total-add, total-cong, total-mul, total-plus, total-none}
+use Rattle.qrcode_grid.{specs.Penalty.is_finder_like, proofs.MarkedLanes.count_as_sum, proofs.MarkedLanes.count_one_more}
 
 -- What is counted over the places of a padded grid is what its rows and columns count.
 
@@ -43,9 +42,7 @@ count_places p (suc n) = grind (arith, count_one_more p n (p n) refl, count_plac
 pub squares_by_length : (w : ℕ) (cells : List ℕ) (y : ℕ) (next : List ℕ) → length cells ≡ w * w → y < w →
     count_below (is_byte_square_at (row w cells y) next) (w - 1)
     ≡ count_by (is_byte_square_at (row w cells y) next) (range_with_len 0 (length (row w cells y) - 1))
-squares_by_length w cells y next square inside =
-    ap (λ n. count_below (is_byte_square_at (row w cells y) next) (n - 1)) (sym (length-row w cells y square inside))
-    ∙ sym (count_places (is_byte_square_at (row w cells y) next) (length (row w cells y) - 1))
+squares_by_length w cells y next square inside = grind (arith, length-row, count_places)
 
 -- a line with the four modules of the quiet zone before it
 abbrev quiet : List ℕ → List ℕ
@@ -54,21 +51,7 @@ quiet line = 0 ∷ 0 ∷ 0 ∷ 0 ∷ line
 -- a line by its places: four light modules, the line, and light modules after it
 quiet_from : (line : List ℕ) (n t : ℕ) (f : ℕ → ℕ) → length line ≡ n → ((t : ℕ) → t < 4 → f t ≡ 0) → ((i : ℕ) → i < n → f (4 + i) ≡ get_or line i 0) →
     (n + 4 ≤ t → f t ≡ 0) → f t ≡ get_or (quiet line) t 0
-quiet_from line n t f long before here after = elim (cases_lt t 4) [
-  | inl early ↦ before t early ∙ sym (none t early)
-  | inr on ↦
-      let i = t - 4 in
-      let e : t ≡ 4 + i = omega (arith, on) in
-      let shape : t ≡ suc (suc (suc (suc i))) = omega (arith, on) in
-      elim (cases_lt i n) [
-        | inl within ↦ ap f e ∙ here i within
-        | inr past ↦ after (omega (arith, past, on)) ∙ sym (get_or_past line i 0 (omega (arith, past, long)))
-      ]
-      ∙ sym (ap (λ k. get_or (quiet line) k 0) shape)
-]
-  where
-    none : (i : ℕ) → i < 4 → get_or (quiet line) i 0 ≡ 0
-    none i h = grind (arith, common_steps)
+quiet_from line n t f long before here after = grind (arith, cases_lt, get_or_past, common_steps)
 
 same_modules : (a b c d : ℕ) (e : Bool) → a ≡ c → b ≡ d → e ≡ (c == d) → (a == b) ≡ e
 same_modules a b c d e ea eb ee = ap (λ n. n == b) ea ∙ ap (λ n. c == n) eb ∙ sym ee
@@ -100,16 +83,14 @@ module _ (w : ℕ) (cells padded : List ℕ) (is : IsPadded w cells padded) (squ
 
   pub column_edge : (edges : List ℕ) → AreEdges w far w (w - 1) padded edges → (x t : ℕ) → x < w →
       get_or edges (t * far + x) 0 ≡ cond (edge (column w cells x) t) 1 0
-  column_edge edges are x t hx =
-      grind (arith, length-column, cases_lt, add-mul, get_or-column, same_modules, edge_within, mul-le-mul_right, edge_past)
+  column_edge edges are x t hx = grind (arith, length-column, cases_lt, add-mul, get_or-column, same_modules, edge_within, mul-le-mul_right, edge_past)
 
   pub row_edge : (edges : List ℕ) → AreEdges w 1 (w - 1) w padded edges → (y t : ℕ) → y < w → t < far →
       get_or edges (y * far + t) 0 ≡ cond (edge (row w cells y) t) 1 0
   row_edge edges are y t hy ht = grind (arith, length-row, cases_lt, add-mul, get_or-row, same_modules, edge_within, edge_past)
 
 one_is : (b : Bool) → (cond b 1 0 == 1) ≡ b
-one_is true = refl
-one_is false = refl
+one_is b = grind arith
 
 and_same : (a b c d a' b' c' d' : Bool) → a ≡ a' → b ≡ b' → c ≡ c' → d ≡ d' → (a && b && c && d) ≡ (a' && b' && c' && d')
 and_same a b c d a' b' c' d' ea eb ec ed = grind (arith, common_steps)
@@ -221,9 +202,7 @@ no_finder : (step : ℕ) (cells : List ℕ) (k i : ℕ) → k + 4 * step ≡ i �
 no_finder step cells k i e z = grind (arith, nat_tests)
 
 dark_is : (b : ℕ) → b < 2 → (b == 1) ≡ is_dark_byte b
-dark_is zero h = refl
-dark_is (suc zero) h = refl
-dark_is (suc (suc b)) h = absurd (omega (arith, h))
+dark_is b h = grind arith
 
 -- four modules have one colour where both pairs along the rows have, and the first of each
 four_modules : (a b c d u v x y : ℕ) → a ≡ cond (u == x) 1 0 → b ≡ cond (v == y) 1 0 → c ≡ u → d ≡ v →

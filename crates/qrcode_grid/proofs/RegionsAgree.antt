@@ -3,11 +3,10 @@
 use Rattle.qrcode_grid.proofs.Prelude.{◌≡◌, ℕ, pos, negsuc, ◌<◌, ◌≤◌, ◌+◌, ◌-◌, ◌*◌, ap, ◌∙◌, sym, refl, subst, arith, inl, inr, List, [], ◌∷◌, ◌++◌, Bool}
 use Rattle.qrcode_grid.proofs.Prelude.{true, false, not, ◌==◌, ◌&&◌, ◌||◌, nat_le, nat_lt, cond, ◌%◌, fold, All, IfSome, Option, Some, None, is_some, option_or}
 use Rattle.qrcode_grid.proofs.Prelude.{cases_eq, cases_lt, false≢true, nat_tests, All-nil, All-cons, Color, Light, Dark, Version, Normal, Micro, IsVersion}
-use Rattle.qrcode_grid.proofs.Prelude.{width_of, bit_at, digit_color, finder, timing, digit_at, format_first, format_second, format_micro}
-use Rattle.qrcode_grid.proofs.Prelude.{written, version_copies, alignments, alignment_coordinates, functional_color, regions, common_steps}
-use Rattle.qrcode_grid.proofs.Tests.{all_pass, passes, both}
-use Rattle.qrcode_grid.proofs.Areas.{finder_test, finder_is, timing_test, first_test, first_is, second_test, second_is, micro_is, version_is, some-if}
-use Rattle.qrcode_grid.proofs.Areas.{some-option_map}
+use Rattle.qrcode_grid.proofs.Prelude.{width_of, bit_at, digit_color, finder, timing, digit_at, format_first, format_second, format_micro, written}
+use Rattle.qrcode_grid.proofs.Prelude.{version_copies, alignments, alignment_coordinates, functional_color, regions, common_steps}
+use Rattle.qrcode_grid.proofs.{Tests.all_pass, Tests.passes, Tests.both, Areas.finder_test, Areas.finder_is, Areas.timing_test, Areas.first_test}
+use Rattle.qrcode_grid.proofs.{Areas.first_is, Areas.second_test, Areas.second_is, Areas.micro_is, Areas.version_is, Areas.some-if, Areas.some-option_map}
 
 abbrev Agree : Option Color → Option Color → Type 0
 Agree a b = (c d : Color) → a ≡ Some c → b ≡ Some d → c ≡ d

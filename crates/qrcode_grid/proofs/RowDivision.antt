@@ -6,11 +6,10 @@ use Rattle.qrcode_grid.proofs.Prelude.{same_lists, get_or_default, drop_more, le
 use Rattle.qrcode_grid.proofs.Prelude.{get_or-map-range_with_len, length-map-range_with_len, map-range_with_len_more, product, power, double, shift_and_add}
 use Rattle.qrcode_grid.proofs.Prelude.{value_at, AreBytes, AreTerms, AreRows, IsDivisor, IsTurn, IsRemainder, common_steps, eqb-true, get_or-zip2, length-zip2}
 use Rattle.qrcode_grid.proofs.Prelude.{get_or-replicate, get_or_past, All-same, All-drop, All-take, All-from_get_or, All-get_or, All-append}
-use Rattle.std.proofs.lemmas.List.{length-append, drop-drop, take-replicate}
 use Rattle.qrcode_grid.proofs.FieldLaws.{product-adds_left, product-one_left, product-zero_right, product_assoc, product_comm, product-double}
 use Rattle.qrcode_grid.proofs.FieldLaws.{product-zero_left, passes_below-at, xor-zero, product-bounded, power-bounded}
 use Rattle.qrcode_grid.proofs.Values.{sums, value_at-append, value_at-zeros, power-first, length-sums, value_at-sums, value_at-multiple}
-use Rattle.std.proofs.lemmas.Simd.{get_or-sel_l, length-sel_l, tops_compared}
+use Rattle.std.proofs.lemmas.{List.length-append, List.drop-drop, List.take-replicate, Simd.get_or-sel_l, Simd.length-sel_l, Simd.tops_compared}
 use lib.Lanes.{Each1, zip2, put_chunk, sel_l, top}
 use lib.ListN.{replicate}
 use borrow.Rule.Slice.PartMut.{put_mid}
@@ -73,8 +72,7 @@ module _ (i n len lead : ℕ) (work divisor : List ℕ) (long : length work ≡ 
   turn-value : (a : ℕ) (new : List ℕ) → value_at divisor a ≡ 0 →
       new ≡ sums (take n (drop (i + 1) work)) (map (λ g. product lead g) (drop 1 divisor)) →
       value_at (new ++ drop n (drop (i + 1) work)) a ≡ value_at (drop i work) a
-  turn-value a new root is =
-      grind (arith, common_steps, drop_more, value_at-reduced, length-take, length-drop, take-append-drop, get_or_default)
+  turn-value a new root is = grind (arith, common_steps, drop_more, value_at-reduced, length-take, length-drop, take-append-drop, get_or_default)
 
 pub divide_turn : (i n len k lead : ℕ) (work held new front terms divisor tail : List ℕ) (a : ℕ) →
     held ≡ work → length work ≡ len → i + 1 + n ≤ len → k ≡ n → lead ≡ get_or work i lead →
@@ -130,10 +128,7 @@ chosen t us vs xs ys = sel_l (map (top 7) (zip2 (λ a b. cond (t a b) 255 0) us 
 pub lane_chosen : (t : ℕ → ℕ → Bool) (us vs xs ys : List ℕ) (n j : ℕ) → length us ≡ n → length vs ≡ n → length xs ≡ n → length ys ≡ n → j < n
     → get_or (chosen t us vs xs ys) j 0 ≡ cond (t (get_or us j 0) (get_or vs j 0)) (get_or xs j 0) (get_or ys j 0)
 lane_chosen t us vs xs ys n j la lb lx ly h =
-    let lz : length (zip2 t us vs) ≡ n = length-zip2 t us vs (la ∙ sym lb) ∙ la in
-    ap (λ ms. get_or (sel_l ms xs ys) j 0) (tops_compared w8 t us vs)
-    ∙ get_or-sel_l (zip2 t us vs) xs ys j 0 (omega arith) (omega arith) (omega arith)
-    ∙ ap (λ m. cond m (get_or xs j 0) (get_or ys j 0)) (get_or-zip2 t us vs j 0 0 false (omega arith) (omega arith))
+    grind (arith, length-zip2 t us vs (la ∙ sym lb), tops_compared w8 t us vs, get_or-sel_l (zip2 t us vs) xs ys j 0, get_or-zip2 t us vs j 0 0 false)
 
 pub length_chosen : (t : ℕ → ℕ → Bool) (us vs xs ys : List ℕ) (n : ℕ) → length us ≡ n → length vs ≡ n → length xs ≡ n → length ys ≡ n →
     length (chosen t us vs xs ys) ≡ n
@@ -331,10 +326,7 @@ pub rows_made : (divisor terms twice : List ℕ) (low high : List (List ℕ)) �
     ((j : ℕ) → j < 32 → get_or twice j 0 ≡ double (get_or (get_or low 8 []) j 0)) →
     ((i j : ℕ) → i < 16 → j < 32 → get_or (get_or high i []) j 0 ≡ product i (get_or twice j 0)) → AreRows divisor terms low high
 unfolding double
-rows_made divisor terms twice low high padded by_low doubled by_high =
-    let sixteen : (j : ℕ) → j < 32 → get_or twice j 0 ≡ product 16 (get_or terms j 0) = λ j h.
-    doubled j h ∙ ap double (by_low 8 j (omega arith) h) ∙ sym (product-double 8 (get_or terms j 0) (omega arith)) in
-    grind (arith, common_steps, times_one)
+rows_made divisor terms twice low high padded by_low doubled by_high = grind (arith, product-double 8, common_steps, times_one)
 
 -- a list that begins with one is not empty
 pub begun : (xs : List ℕ) → get_or xs 0 0 ≡ 1 → length xs ≡ length xs - 1 + 1

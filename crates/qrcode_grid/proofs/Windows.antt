@@ -38,8 +38,4 @@ pub window_is : (line : List ℕ) (k : ℕ) → is_finder_like line k ≡ (is_pa
 window_is line k = grind (arith, has_pattern, has_light)
 
 pub no_pattern : (line : List ℕ) (k : ℕ) → get_or line (k + 4 + 6) 0 ≡ 0 → is_finder_like line k ≡ false
-no_pattern line k e = window_is line k ∙ no_window line k e
-  where
-    no_window : (line : List ℕ) (k : ℕ) → get_or line (k + 4 + 6) 0 ≡ 0 →
-        (is_pattern line (k + 4) && (are_light line k || are_light line (k + 11))) ≡ false
-    no_window line k e = grind (arith, nat_tests)
+no_pattern line k e = grind (arith, common_steps, window_is, nat_tests)

@@ -1,18 +1,15 @@
 -- Words and rows that loops write into a grid: over bytes and over modules alike. Then the distance of drawn words.
-use Rattle.qrcode_grid.proofs.Prelude.{All, rules, ◌≡◌, ◌≢◌, ℕ, ◌<◌, ◌≤◌, ◌+◌, ◌-◌, ◌*◌, ◌==◌, ◌&&◌, Bool, true, false, List, [], ◌∷◌, length, get_or}
-use Rattle.qrcode_grid.proofs.Prelude.{set, drop, Option}
-use Rattle.qrcode_grid.proofs.Prelude.{Some, None, option_map, cond, ap, ◌∙◌, sym, subst, arith, inl, inr, refl, suc, get_or-set_same, get_or-set_other, pos}
-use Rattle.qrcode_grid.proofs.Prelude.{negsuc, unwrap_or, ◌/◌, ◌%◌, zero, length-set, ℤ, slice_get, fold, option_or, cases_eq, cases_lt, nat_tests, Color, Dark}
-use Rattle.qrcode_grid.proofs.Prelude.{format_first, format_second, format_micro, digit_at, bit_at, digit_color}
-use Rattle.qrcode_grid.proofs.Prelude.{version_word, differing_digits, map_cells, map, common_steps, EcLevel, Version, Normal, Micro}
-use Rattle.qrcode_grid.proofs.Prelude.{IsVersion, MaskPattern, format_value, format_color, level_number, normal_number, micro_number, symbol_number, same_lists}
-use Rattle.qrcode_grid.proofs.Prelude.{get_or_default, mod-mul-add, div-mul-add, mul-le-mul_right, to_z-of_z, slice_get-get_or, Drawing}
-use Rattle.std.proofs.Common.{length-drop, drop-cons, w16}
-use Rattle.std.specs.List.{enumerate_from}
-use Rattle.qrcode_grid.specs.Laws.{IsFarFormatWord, IsFarVersionWord}
-use Rattle.qrcode_grid.proofs.Distance.{format_codes_differ, version_words_differ}
+use Rattle.qrcode_grid.proofs.Prelude.{All, rules, ◌≡◌, ◌≢◌, ℕ, ◌<◌, ◌≤◌, ◌+◌, ◌-◌, ◌*◌, ◌==◌, ◌&&◌, Bool, true, false, List, [], ◌∷◌, length, get_or, set}
+use Rattle.qrcode_grid.proofs.Prelude.{drop, Option, Some, None, option_map, cond, ap, ◌∙◌, sym, subst, arith, inl, inr, refl, suc, get_or-set_same}
+use Rattle.qrcode_grid.proofs.Prelude.{get_or-set_other, pos, negsuc, unwrap_or, ◌/◌, ◌%◌, zero, length-set, ℤ, slice_get, fold, option_or, cases_eq, cases_lt}
+use Rattle.qrcode_grid.proofs.Prelude.{nat_tests, Color, Dark, format_first, format_second, format_micro, digit_at, bit_at, digit_color, version_word}
+use Rattle.qrcode_grid.proofs.Prelude.{differing_digits, map_cells, map, common_steps, EcLevel, Version, Normal, Micro, IsVersion, MaskPattern, format_value}
+use Rattle.qrcode_grid.proofs.Prelude.{format_color, level_number, normal_number, micro_number, symbol_number, same_lists, get_or_default, mod-mul-add}
+use Rattle.qrcode_grid.proofs.Prelude.{div-mul-add, mul-le-mul_right, to_z-of_z, slice_get-get_or, Drawing}
+use Rattle.qrcode_grid.{specs.Laws.IsFarFormatWord, specs.Laws.IsFarVersionWord, proofs.Distance.format_codes_differ, proofs.Distance.version_words_differ}
+use Rattle.qrcode_grid.{specs.Canvas.place}
+use Rattle.std.{proofs.Common.length-drop, proofs.Common.drop-cons, proofs.Common.w16, specs.List.enumerate_from}
 use mir.Val.{SFits, of_z, to_z}
-use Rattle.qrcode_grid.specs.Canvas.{place}
 
 -- A loop that changes the elements of a list one after another, each by a function of its place.
 
@@ -91,9 +88,7 @@ row_begins f w y a xs ys within same c = grind (arith, nat_tests, changed_skip, 
 -- the columns from one to another are left
 pub row_between : {X : Type 0} (f : ℕ → ℕ → X → X) (w y a b : ℕ) (xs ys : List X) → a ≤ b → b ≤ w → ((x : ℕ) → a ≤ x → x < b → (m : X) → f x y m ≡ m) →
     CellsChanged f w xs ys (y * w + a) → CellsChanged f w xs ys (y * w + b)
-row_between f w y a b xs ys order within same c =
-    changed_skip (λ i m. f (i % w) (i / w) m) xs ys (y * w + a) (y * w + b) (omega arith)
-    (λ k low high m. stays_at f w y k m (omega arith) (omega arith) (λ x at inside. same x (omega arith) (omega arith) m)) c
+row_between f w y a b xs ys order within same c = grind (arith, changed_skip, stays_at f w y)
 
 -- a cell is written
 pub cell_changed : {X : Type 0} (f : ℕ → ℕ → X → X) (w y x : ℕ) (xs ys : List X) (v e : X) → x < w → y < w → length xs ≡ w * w →
@@ -233,9 +228,7 @@ dark_written {X} w d now v wide long x y l m =
 
 -- what the first of three says is written last
 pub over_three : {X : Type 0} (o p q : Option X) (b : X) → unwrap_or (fold option_or None (o ∷ p ∷ q ∷ [])) b ≡ unwrap_or o (unwrap_or p (unwrap_or q b))
-over_three (Some c) p q b = refl
-over_three None (Some c) q b = refl
-over_three None None q b = refl
+over_three o p q b = grind arith
 
 digit_at-below : (places : List (ℕ × ℕ)) (x y k : ℕ) → digit_at places x y ≡ Some k → k < length places
 digit_at-below [] x y k e = cc
@@ -250,17 +243,13 @@ module _ {X Y : Type 0} (show : X → Y) (over : Option Color → Y → Y) (digi
 
   word_shown : (o : Option ℕ) → Below o → (b : X) →
       show (unwrap_or (option_map digits o) b) ≡ over (option_map (λ k. digit_color (bit_at word k)) o) (show b)
-  word_shown (Some k) below b = digit_shown k (show b) (below k refl)
-  word_shown None below b = sym (none_shown (show b))
+  word_shown o h b = grind arith
 
   words_shown : (t : Bool) (o p : Option ℕ) → Below o → Below p → (b : X) →
       show (unwrap_or (fold option_or None (cond t (Some dark) None ∷ option_map digits o ∷ option_map digits p ∷ [])) b)
       ≡ over (fold option_or None (cond t (Some Dark) None ∷ option_map (λ k. digit_color (bit_at word k)) o
       ∷ option_map (λ k. digit_color (bit_at word k)) p ∷ [])) (show b)
-  words_shown true o p low high b = dark_shown (show b)
-  words_shown false (Some k) p low high b = digit_shown k (show b) (low k refl)
-  words_shown false None (Some k) low high b = digit_shown k (show b) (high k refl)
-  words_shown false None None low high b = sym (none_shown (show b))
+  words_shown t o p h k b = grind arith
 
   pub format_shown : (version : Version) (w x y : ℕ) (b : X) →
       show (unwrap_or (format_value version w digits dark x y) b) ≡ over (format_color version w word x y) (show b)

@@ -1,6 +1,5 @@
 use Rattle.qrcode_grid.proofs.Prelude.{◌≡◌, ℕ, ◌+◌, ◌-◌, ◌*◌, ◌/◌, ◌≤◌, Option, IfSome, sym, ap, ◌∙◌, subst, arith, BlockLayout, block_count, HasOneOrigin}
-use Rattle.qrcode_grid.proofs.Distance.{one_origin}
-use Rattle.qrcode_grid.proofs.WholeSymbols.{IsUsable, IsUsable-of_symbol, one_block_short}
+use Rattle.qrcode_grid.proofs.{Distance.one_origin, WholeSymbols.IsUsable, WholeSymbols.IsUsable-of_symbol, WholeSymbols.one_block_short}
 use Rattle.qrcode_grid.proofs.ec.max_allowed_errors.Goals as goal
 
 half_of : (n count p errors : ℕ) → count ≡ 1 → errors ≡ (n * count - p) / 2 → errors + errors ≤ n

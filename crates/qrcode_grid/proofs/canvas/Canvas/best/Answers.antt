@@ -1,6 +1,5 @@
-use Rattle.qrcode_grid.proofs.Prelude.{◌≡◌, ◌<◌, ℕ, ap, ◌∙◌, sym, subst, arith, List, length, get_or, get_or_default, slice_get, Some, Drawing}
-use Rattle.qrcode_grid.proofs.Prelude.{MaskPattern, family, penalty}
-use Rattle.qrcode_grid.proofs.Prelude.{colors_of, with_mask, mask_penalties, IsFirstLeast, slice_get-get_or, length-map}
+use Rattle.qrcode_grid.proofs.Prelude.{◌≡◌, ◌<◌, ℕ, ap, ◌∙◌, sym, subst, arith, List, length, get_or, get_or_default, slice_get, Some, Drawing, MaskPattern}
+use Rattle.qrcode_grid.proofs.Prelude.{family, penalty, colors_of, with_mask, mask_penalties, IsFirstLeast, slice_get-get_or, length-map}
 use Rattle.qrcode_grid.specs.declared.canvas.MaskPattern.TheVariants.{Checkerboard}
 use Rattle.qrcode_grid.proofs.Conditions.{some_mask, of_family, penalty_at}
 use Rattle.qrcode_grid.proofs.canvas.Canvas.best.Goals as goal

@@ -1,10 +1,9 @@
 -- The candidates by the numbers of the masks are those of the masks, and their penalties come in order.
-use Rattle.qrcode_grid.proofs.Prelude.{◌≡◌, ◌<◌, ◌*◌, ap, ◌∙◌, sym, subst, arith, map, take, get_or, length, List, MaskPattern, IsOfFamily}
-use Rattle.qrcode_grid.proofs.Prelude.{width_of, byte_of, penalty, color_of_module, colors_of, with_mask, Drawing, drop, ◌++◌, family, slice_get, Some}
-use Rattle.qrcode_grid.proofs.Prelude.{normal_number, plane, common_steps, slice_get-get_or}
-use Rattle.qrcode_grid.specs.declared.canvas.MaskPattern.TheVariants.{Checkerboard}
+use Rattle.qrcode_grid.proofs.Prelude.{◌≡◌, ◌<◌, ◌*◌, ap, ◌∙◌, sym, subst, arith, map, take, get_or, length, List, MaskPattern, IsOfFamily, width_of, byte_of}
+use Rattle.qrcode_grid.proofs.Prelude.{penalty, color_of_module, colors_of, with_mask, Drawing, drop, ◌++◌, family, slice_get, Some, normal_number, plane}
+use Rattle.qrcode_grid.proofs.Prelude.{common_steps, slice_get-get_or}
 use Rattle.qrcode_grid.proofs.Conditions.{masked_by_number, number_small, written_whole, next_penalty, of_family}
-use Rattle.qrcode_grid.proofs.WholeSymbols.{version_of_symbol}
+use Rattle.qrcode_grid.{specs.declared.canvas.MaskPattern.TheVariants.Checkerboard, proofs.WholeSymbols.version_of_symbol}
 use Rattle.qrcode_grid.proofs.canvas.Canvas.candidates.Goals as goal
 
 pub penalties_of-numbered-requires-clause-symbol : goal.penalties_of-numbered-requires-clause-symbol

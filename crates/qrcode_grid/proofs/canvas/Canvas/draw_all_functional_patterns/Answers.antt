@@ -1,7 +1,5 @@
 use Rattle.qrcode_grid.proofs.Prelude.{arith, common_steps}
-use Rattle.qrcode_grid.proofs.WholeSymbols.{version_of_symbol}
-use Rattle.qrcode_grid.proofs.GridLaws.{consistent_regions, has_its_alignments}
-use Rattle.qrcode_grid.proofs.WrittenWords.{far_version_word}
+use Rattle.qrcode_grid.proofs.{WholeSymbols.version_of_symbol, GridLaws.consistent_regions, GridLaws.has_its_alignments, WrittenWords.far_version_word}
 use Rattle.qrcode_grid.proofs.canvas.Canvas.draw_all_functional_patterns.Goals as goal
 
 pub returns-clause-regions : goal.returns-clause-regions

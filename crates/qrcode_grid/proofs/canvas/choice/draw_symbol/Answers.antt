@@ -1,8 +1,7 @@
-use Rattle.qrcode_grid.proofs.Prelude.{◌≡◌, ◌++◌, ◌*◌, take, drop, length, ap, ◌∙◌, sym, subst, width_of, plane, normal_number, Color, List}
-use Rattle.qrcode_grid.proofs.Prelude.{arith, CarriesCodewords, TakesCodewords, IsFirstLeastMask, with_functional, colors_of, with_mask}
-use Rattle.qrcode_grid.specs.Canvas.{blank}
-use Rattle.qrcode_grid.proofs.Conditions.{same_colors, written_whole}
+use Rattle.qrcode_grid.proofs.Prelude.{◌≡◌, ◌++◌, ◌*◌, take, drop, length, ap, ◌∙◌, sym, subst, width_of, plane, normal_number, Color, List, arith}
+use Rattle.qrcode_grid.proofs.Prelude.{CarriesCodewords, TakesCodewords, IsFirstLeastMask, with_functional, colors_of, with_mask}
 use Rattle.qrcode_grid.proofs.WholeSymbols.{carries, best_is_first, version_of_symbol}
+use Rattle.qrcode_grid.{specs.Canvas.blank, proofs.Conditions.same_colors, proofs.Conditions.written_whole}
 use Rattle.qrcode_grid.proofs.canvas.choice.draw_symbol.Goals as goal
 
 pub symbol_width-width-requires : goal.symbol_width-width-requires

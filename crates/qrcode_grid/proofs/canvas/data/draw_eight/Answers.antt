@@ -1,9 +1,6 @@
-use Rattle.qrcode_grid.proofs.Prelude.{ℕ, ◌≡◌, ◌<◌, ◌+◌, ◌-◌, ◌*◌, ◌++◌, List, Bool, ap, ◌∙◌, subst, arith, number_bits, FilledBelow}
-use Rattle.qrcode_grid.proofs.Prelude.{◌/◌, ◌%◌, ◌^◌, ◌==◌, zero, suc, [], get_or, set, refl, div-div-eq-div-mul, pow-add}
-use Rattle.qrcode_grid.proofs.Prelude.{Module, Empty, Unmasked, data_bit, bit_color}
-use Rattle.qrcode_grid.specs.declared.canvas.data.TheConstants.{ROWS}
-use Rattle.qrcode_grid.proofs.StreamPlaces.{no_bits}
-use Rattle.qrcode_grid.proofs.FillSteps.{row_placed}
+use Rattle.qrcode_grid.proofs.Prelude.{ℕ, ◌≡◌, ◌<◌, ◌+◌, ◌-◌, ◌*◌, ◌++◌, List, Bool, ap, ◌∙◌, subst, arith, number_bits, FilledBelow, ◌/◌, ◌%◌, ◌^◌, ◌==◌, zero}
+use Rattle.qrcode_grid.proofs.Prelude.{suc, [], get_or, set, refl, div-div-eq-div-mul, pow-add, Module, Empty, Unmasked, data_bit, bit_color}
+use Rattle.qrcode_grid.{specs.declared.canvas.data.TheConstants.ROWS, proofs.StreamPlaces.no_bits, proofs.FillSteps.row_placed}
 use Rattle.qrcode_grid.proofs.canvas.data.draw_eight.Goals as goal
 
 row_of : (q : ℕ) → q < 4 →

@@ -1,7 +1,6 @@
 -- The modules before the cell are drawn; between two centres, those before the cells of the next one.
 use Rattle.qrcode_grid.proofs.Prelude.{◌+◌, ◌*◌, drawn_over, alignments, alignment_coordinates}
-use Rattle.qrcode_grid.proofs.RegionRows.{behind}
-use Rattle.qrcode_grid.proofs.WrittenWords.{CellsChanged}
+use Rattle.qrcode_grid.proofs.{RegionRows.behind, WrittenWords.CellsChanged}
 use Rattle.qrcode_grid.proofs.canvas.drawing.draw_alignments.Given as goal
 
 abbrev pub invariant-loop-j : goal.invariant-loop-j

@@ -1,10 +1,8 @@
-use Rattle.qrcode_grid.proofs.Prelude.{◌≡◌, ℕ, ◌-◌, max, Bool, true, false, Option, Some, None, [], ◌∷◌, refl, ◌∙◌, false≢true}
-use Rattle.qrcode_grid.proofs.Prelude.{abs_diff, Color, Light, Dark, slice_get}
-use Rattle.qrcode_grid.proofs.Tests.{all_pass, passes}
-use Rattle.qrcode_grid.specs.declared.canvas.drawing.TheConstants.{FINDER}
-use Rattle.qrcode_grid.proofs.Prelude.{◌≤◌, ◌<◌, ◌+◌, ◌*◌, get_or, ap, sym, arith, drawn_over, finder, Empty}
+use Rattle.qrcode_grid.proofs.Prelude.{◌≡◌, ℕ, ◌-◌, max, Bool, true, false, Option, Some, None, [], ◌∷◌, refl, ◌∙◌, false≢true, abs_diff, Color, Light, Dark}
+use Rattle.qrcode_grid.proofs.Prelude.{slice_get, ◌≤◌, ◌<◌, ◌+◌, ◌*◌, get_or, ap, sym, arith, drawn_over, finder, Empty}
 use Rattle.qrcode_grid.proofs.RegionRows.{far_before, far_behind, no_finder_column, no_finder_row}
 use Rattle.qrcode_grid.proofs.WrittenWords.{row_begins, cell_changed, row_ends, rows_between, rows_end}
+use Rattle.qrcode_grid.{proofs.Tests.all_pass, proofs.Tests.passes, specs.declared.canvas.drawing.TheConstants.FINDER}
 use Rattle.qrcode_grid.proofs.canvas.drawing.draw_finder.Goals as goal
 
 abbrev is_colored : Option Color → Color → Bool

@@ -1,5 +1,4 @@
-use Rattle.qrcode_grid.proofs.Prelude.{arith}
-use Rattle.qrcode_grid.proofs.Prelude.{get_or-map, get_or-set_same, get_or-set_other}
+use Rattle.qrcode_grid.proofs.Prelude.{arith, get_or-map, get_or-set_same, get_or-set_other}
 use Rattle.qrcode_grid.proofs.Conditions.{bit_masked, spread_bit}
 use Rattle.qrcode_grid.proofs.canvas.masks.mask_part.Goals as goal
 

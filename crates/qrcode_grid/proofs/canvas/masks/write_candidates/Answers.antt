@@ -1,11 +1,10 @@
 use Rattle.qrcode_grid.proofs.Prelude.{◌≡◌, ◌+◌, ◌*◌, ◌/◌, ◌%◌, ◌<◌, map, length, get_or, ap, ◌∙◌, sym, refl, arith, inl, inr, mul-le-mul_right, cases_lt}
-use Rattle.qrcode_grid.proofs.Prelude.{length-map, code_of, masked_code, plane, pattern_of, format_color, is_inverted, bit_at, bit_at_ones}
+use Rattle.qrcode_grid.proofs.Prelude.{length-map, code_of, masked_code, plane, pattern_of, format_color, is_inverted, bit_at, bit_at_ones, common_steps, w8, ℕ}
+use Rattle.qrcode_grid.proofs.Prelude.{byte_of, digit_color, Dark}
 use Rattle.qrcode_grid.proofs.Conditions.{byte_under, set_again, is_inverted-repeats_rows, candidate_is}
-use Rattle.qrcode_grid.proofs.WrittenWords.{format_shown}
-use Rattle.qrcode_grid.proofs.MarkedLanes.{length-plane, plane_at}
-use Rattle.qrcode_grid.proofs.Prelude.{common_steps, w8, ℕ, byte_of, digit_color, Dark}
+use Rattle.qrcode_grid.proofs.{WrittenWords.format_shown, MarkedLanes.length-plane, MarkedLanes.plane_at, canvas.masks.write_candidates.Goals.then-eq}
+use Rattle.qrcode_grid.proofs.{canvas.masks.write_candidates.Goals.else-eq}
 use Rattle.std.proofs.lemmas.Nat.Bits.{bit_at_set_same, bit_at_set_other}
-use Rattle.qrcode_grid.proofs.canvas.masks.write_candidates.Goals.{then-eq, else-eq}
 use Rattle.qrcode_grid.proofs.canvas.masks.write_candidates.Goals as goal
 
 pub loop-m-preserved : goal.loop-m-preserved

@@ -1,7 +1,6 @@
-use Rattle.qrcode_grid.proofs.Prelude.{◌≡◌, ◌+◌, ◌*◌, ◌%◌, get_or, cond, ap, ◌∙◌, sym, arith, inl, inr, bit_at, mul-le-mul_right}
-use Rattle.qrcode_grid.proofs.Prelude.{add-mul, length-chunk, cases_lt, is_inverted, pattern_of}
-use Rattle.qrcode_grid.proofs.Conditions.{condition_at, is_inverted-repeats}
-use Rattle.qrcode_grid.proofs.MarkedLanes.{part_here, part_before}
+use Rattle.qrcode_grid.proofs.Prelude.{◌≡◌, ◌+◌, ◌*◌, ◌%◌, get_or, cond, ap, ◌∙◌, sym, arith, inl, inr, bit_at, mul-le-mul_right, add-mul, length-chunk}
+use Rattle.qrcode_grid.proofs.Prelude.{cases_lt, is_inverted, pattern_of}
+use Rattle.qrcode_grid.proofs.{Conditions.condition_at, Conditions.is_inverted-repeats, MarkedLanes.part_here, MarkedLanes.part_before}
 use Rattle.qrcode_grid.proofs.canvas.masks.write_stripes.Goals as goal
 
 pub loop-six-preserved : goal.loop-six-preserved

@@ -1,9 +1,8 @@
-use Rattle.qrcode_grid.proofs.Prelude.{◌≡◌, ℕ, ◌+◌, ◌-◌, ◌*◌, ◌<◌, ◌≤◌, ◌==◌, List, count_by, drop, take, get_or, length, ◌∙◌, sym, arith}
-use Rattle.qrcode_grid.proofs.Prelude.{row, column, plane, take_more, take_all, length-take, common_steps}
-use Rattle.std.proofs.lemmas.List.{drop-append-le}
-use Rattle.std.proofs.lemmas.Nat.Bits.{shr_and_one}
+use Rattle.qrcode_grid.proofs.Prelude.{◌≡◌, ℕ, ◌+◌, ◌-◌, ◌*◌, ◌<◌, ◌≤◌, ◌==◌, List, count_by, drop, take, get_or, length, ◌∙◌, sym, arith, row, column, plane}
+use Rattle.qrcode_grid.proofs.Prelude.{take_more, take_all, length-take, common_steps}
 use Rattle.qrcode_grid.proofs.PaddedCounts.{length-row, length-column, get_or-row, get_or-column}
 use Rattle.qrcode_grid.proofs.MarkedLanes.{length-plane, plane_at, plane_small}
+use Rattle.std.proofs.lemmas.{List.drop-append-le, Nat.Bits.shr_and_one}
 use Rattle.qrcode_grid.proofs.canvas.scoring.penalties_of_micro.Goals as goal
 
 -- one more module of a line is looked at

@@ -1,8 +1,7 @@
 use Rattle.qrcode_grid.proofs.Prelude.{◌≡◌, ℕ, ◌+◌, ◌*◌, ◌/◌, length, get_or, count_by, not, ◌==◌, ap, ◌∙◌, sym, arith, abs_diff, bit_at, bit_at-zero, row}
 use Rattle.qrcode_grid.proofs.Prelude.{column, line_penalty, IsPadded, is_dark_byte, plane}
-use Rattle.qrcode_grid.proofs.MarkedLanes.{length-plane, plane_at, plane_small}
 use Rattle.qrcode_grid.proofs.PaddedCounts.{columns_are, rows_are, squares_are, darks_are}
-use Rattle.qrcode_grid.proofs.Totals.{total-plus}
+use Rattle.qrcode_grid.proofs.{MarkedLanes.length-plane, MarkedLanes.plane_at, MarkedLanes.plane_small, Totals.total-plus}
 use Rattle.qrcode_grid.proofs.canvas.scoring.penalties_of_normal.Goals as goal
 
 pub returns : goal.returns

@@ -1,8 +1,7 @@
-use Rattle.qrcode_grid.proofs.Prelude.{◌≡◌, ℕ, List, [], length, get_or, refl, ap, ◌∙◌, sym, arith, replicate, All-replicate, get_or-replicate, product}
-use Rattle.qrcode_grid.proofs.FieldLaws.{product-zero_left}
-use Rattle.qrcode_grid.proofs.Prelude.{◌<◌, ◌/◌, double, common_steps}
+use Rattle.qrcode_grid.proofs.Prelude.{◌≡◌, ℕ, List, [], length, get_or, refl, ap, ◌∙◌, sym, arith, replicate, All-replicate, get_or-replicate, product, ◌<◌}
+use Rattle.qrcode_grid.proofs.Prelude.{◌/◌, double, common_steps}
 use Rattle.qrcode_grid.proofs.RowDivision.{fits_at, length_xor, multiple_even, odd_lane}
-use Rattle.qrcode_grid.proofs.ec.field.multiples.Goals.{then-i-eq0, else-i-eq0}
+use Rattle.qrcode_grid.proofs.{FieldLaws.product-zero_left, ec.field.multiples.Goals.then-i-eq0, ec.field.multiples.Goals.else-i-eq0}
 use Rattle.qrcode_grid.proofs.ec.field.multiples.Goals as goal
 
 pub loop-i-init : goal.loop-i-init

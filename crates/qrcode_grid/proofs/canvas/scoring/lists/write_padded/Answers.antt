@@ -1,9 +1,7 @@
-use Rattle.qrcode_grid.proofs.Prelude.{ℕ, ◌≡◌, ◌+◌, ◌-◌, ◌*◌, ◌≤◌, ◌<◌, length, take, drop, get_or, ap, ◌∙◌, sym, arith, inl, inr, mul-le-mul_right}
-use Rattle.qrcode_grid.proofs.Prelude.{add-mul, cases_lt}
-use Rattle.qrcode_grid.proofs.Prelude.{length-chunk, get_or-chunk, stride}
+use Rattle.qrcode_grid.proofs.Prelude.{ℕ, ◌≡◌, ◌+◌, ◌-◌, ◌*◌, ◌≤◌, ◌<◌, length, take, drop, get_or, ap, ◌∙◌, sym, arith, inl, inr, mul-le-mul_right, add-mul}
+use Rattle.qrcode_grid.proofs.Prelude.{cases_lt, length-chunk, get_or-chunk, stride}
+use Rattle.qrcode_grid.proofs.{PaddedCounts.row_before, MarkedLanes.part_here, MarkedLanes.part_before, MarkedLanes.part_behind}
 use borrow.Rule.Slice.PartMut.{put_mid}
-use Rattle.qrcode_grid.proofs.PaddedCounts.{row_before}
-use Rattle.qrcode_grid.proofs.MarkedLanes.{part_here, part_before, part_behind}
 use Rattle.qrcode_grid.proofs.canvas.scoring.lists.write_padded.Goals as goal
 
 pub loop-y-preserved : goal.loop-y-preserved
