@@ -80,8 +80,12 @@ chosen_least front message v plan h = grind (arith, chosen_is_plan message v pla
 pub chosen_fits : (front : ℕ) (v : Version) (l : EcLevel) (message : List ℕ) (plan other : List Segment) → IsChosenPlan (parsed message) v plan →
     Fits front message v l other → Fits front message v l plan
 chosen_fits front v l message plan other h fits =
-    grind (arith, chosen_bits message v plan other h fits.planned, chosen_is_plan message v plan h,
-    plans-had v (parsed message) plan other (chosen_is_plan message v plan h) fits.planned fits.has_modes)
+    grind (
+      arith,
+      chosen_bits message v plan other h fits.planned,
+      chosen_is_plan message v plan h,
+      plans-had v (parsed message) plan other (chosen_is_plan message v plan h) fits.planned fits.has_modes,
+    )
 
 -- Where the chosen plan does not fit, no plan fits.
 pub chosen_decides : (front : ℕ) (v : Version) (l : EcLevel) (message : List ℕ) (plan : List Segment) → IsChosenPlan (parsed message) v plan →
@@ -170,8 +174,19 @@ capacity-middle l n c h known = let d = middle_capacity l in let grows = capacit
 pub fits_last : (front n : ℕ) (message : List ℕ) (l : EcLevel) (plan : List Segment) → n ≤ 40 → Fits front message (normal n) l plan →
     Fits front message (normal 40) l plan
 fits_last front n message l plan h w =
-    grind (arith, capacity-held l n w.limit w.has_level, middle_capacity l, last_capacity l, total_bits-double n 40, capacity-double l, fits_normal front 40,
-    cases_lt n 27, capacity-grows l n 26 w.limit, capacity-grows l n 40 w.limit, total_bits-same n 40)
+    grind (
+      arith,
+      capacity-held l n w.limit w.has_level,
+      middle_capacity l,
+      last_capacity l,
+      total_bits-double n 40,
+      capacity-double l,
+      fits_normal front 40,
+      cases_lt n 27,
+      capacity-grows l n 26 w.limit,
+      capacity-grows l n 40 w.limit,
+      total_bits-same n 40,
+    )
 
 -- ---- The least version that holds so many bits
 

@@ -93,8 +93,15 @@ module _ (bytes : List ℕ) (begin : ℕ) (within : begin < length bytes) where
       next ≡ class_number (class_of (get_or bytes end 0)) → next ≡ number →
       IsRun bytes class begin end → IsRun bytes class begin (end + 1)
   alone_more end number next below other is next_is same run =
-      grind (arith, Run-more, class_of-one (get_or bytes begin 0), joins-self class other, numbered-is (get_or bytes end 0) next next_is,
-      numbered-is (get_or bytes begin 0) next (same ∙ is), units_other)
+      grind (
+        arith,
+        Run-more,
+        class_of-one (get_or bytes begin 0),
+        joins-self class other,
+        numbered-is (get_or bytes end 0) next next_is,
+        numbered-is (get_or bytes begin 0) next (same ∙ is),
+        units_other,
+      )
 
   pub alone_stops : (end number : ℕ) → number ≡ class_number class → IsRun bytes class begin end →
       (end < length bytes → class_number (class_of (get_or bytes end 0)) ≡ number → ⊥) →

@@ -22,7 +22,13 @@ module _ (header : Option Header) (bytes : List ℕ) (v : Version) (plan : List 
   pub pushed_more : (next : Stream) → i < length plan → Spells now next (segment_piece bytes (segment_at plan i)) →
       IsPushedTo header bytes v plan (i + 1) next
   pushed_more next within w =
-      grind (arith, common_steps, All-tail (IsSpellable v) (segment_piece bytes (segment_at plan i)) (segment_pieces bytes (drop (i + 1) plan)) (subst (All (IsSpellable v)) (pieces_at bytes plan i within) h.spellable), append_assoc)
+      grind (
+        arith,
+        common_steps,
+        All-tail (IsSpellable v) (segment_piece bytes (segment_at plan i)) (segment_pieces bytes (drop (i + 1) plan))
+            (subst (All (IsSpellable v)) (pieces_at bytes plan i within) h.spellable),
+        append_assoc,
+      )
 
 -- ---- The stream of a plan, behind a header or none
 

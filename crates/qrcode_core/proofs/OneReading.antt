@@ -126,7 +126,7 @@ same_format (Micro (pos n)) l m p q grid h sl sm fp fq f g =
     grind (arith, same, masks, levels)
 same_format (Micro (negsuc n)) l m p q grid h sl sm fp fq f g = absurd h
 
--- ---- No grid is read in two ways: its size tells the version, its functional colours the level and the mask, and its data cells the codewords, whose data are a frame of one text
+-- ---- No grid is read in two ways
 
 -- What a grid carries in one version: the levels and the masks are one
 with_version : (grid : List Color) (v : Version) (l m : EcLevel) (p q : MaskPattern) (a b : List Bool) → Carries grid v l p a → Carries grid v m q b →

@@ -5,7 +5,7 @@ use Rattle.qrcode_grid.proofs.Prelude.{bit_at-zero, true, false, nat_tests, bit_
 use Rattle.qrcode_grid.proofs.Prelude.{drawn_over, format_color, masked, masked_cell, masked_cells, format_word, normal_number, family, add-mul, mul-add}
 use Rattle.qrcode_grid.proofs.Prelude.{mul_assoc, mul_comm, MaskPattern, common_steps, same_number_lists, get_or-map, length-map, take_at, take_more, Color}
 use Rattle.qrcode_grid.proofs.Prelude.{Version, color_of_module, Drawing, with_mask, mask_penalties, colors_of, byte_of, penalty, EcLevel, width_of}
-use Rattle.qrcode_grid.proofs.Prelude.{slice_get-map, slice_get_within, get_or_from_slice_get, bit_and, bit_xor, Normal, Micro, IsOfFamily}
+use Rattle.qrcode_grid.proofs.Prelude.{slice_get-map, slice_get_within, get_or_from_slice_get, bit_and, bit_xor, IsOfFamily}
 use Rattle.qrcode_grid.{specs.declared.canvas.MaskPattern.TheVariants.Checkerboard, specs.declared.canvas.masks.TheConstants.CONDITIONS}
 use Rattle.qrcode_grid.{proofs.FieldLaws.passes_below, proofs.FieldLaws.passes_below-at, proofs.MarkedLanes.eqb_true, proofs.WrittenWords.length-enumerated}
 use Rattle.qrcode_grid.{proofs.WrittenWords.get_or-enumerated}

@@ -176,9 +176,14 @@ loaded_at bytes at m j h = ap (λ n. bit_at n m) (get_or-chunk at 16 bytes j 0 h
 turned_at : (bytes : List ℕ) → ((k : ℕ) → Fits w8 (get_or bytes k 0)) → (at : ℕ) → at + 16 ≤ length bytes → (m j : ℕ) → m < 8 → j < 16
     → bit_at (get_or (map (bit_not w8) (chunk at 16 bytes)) j 0) m ≡ 1 - get_or (plane m bytes) (at + j) 0
 turned_at bytes fits at inside m j hm hj =
-    grind (arith, length-chunk at 16 bytes inside, get_or-chunk at 16 bytes j 0 hj,
-    get_or-map (bit_not w8) (chunk at 16 bytes) j 0 0 (omega ( arith, (length-chunk at 16 bytes inside), hj, )),
-    bit_at_not w8 (get_or bytes (at + j) 0) m ((fits (at + j)).fits) hm, plane_at m bytes (at + j))
+    grind (
+      arith,
+      length-chunk at 16 bytes inside,
+      get_or-chunk at 16 bytes j 0 hj,
+      get_or-map (bit_not w8) (chunk at 16 bytes) j 0 0 (omega (arith, (length-chunk at 16 bytes inside), hj)),
+      bit_at_not w8 (get_or bytes (at + j) 0) m ((fits (at + j)).fits) hm,
+      plane_at m bytes (at + j),
+    )
 
 pub marks_dark : (bytes : List ℕ) (at : ℕ) → at + 16 ≤ length bytes → Marks (chunk at 16 bytes) (λ m j. get_or (plane m bytes) (at + j) 0 == 1)
 marks_dark bytes at inside = grind (arith, common_steps, length-chunk, loaded_at, plane_small)

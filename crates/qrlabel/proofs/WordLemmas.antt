@@ -89,7 +89,8 @@ behind_setting s rest = grind arith
 -- one option more
 pub one_more : (words : Words) (at count : ℕ) (done : List Setting) (s : Setting) (rest : Words) → words ≡ spelled done ++ drop at words →
     drop at words ≡ setting_words s ++ rest → count ≡ length (setting_words s) → words ≡ spelled (done ++ s ∷ []) ++ drop (at + count) words
-one_more words at count done s rest was begins counted = grind (arith, common_steps, drop-drop, setting_words, behind_setting, flat_map-append, append-nil, append_assoc)
+one_more words at count done s rest was begins counted =
+    grind (arith, common_steps, drop-drop, setting_words, behind_setting, flat_map-append, append-nil, append_assoc)
 
 -- all words are those of the options
 pub all_said : (words : Words) (at : ℕ) (done : List Setting) → words ≡ spelled done ++ drop at words → length words ≤ at → words ≡ spelled done

@@ -107,7 +107,8 @@ pub text_too_long : (text : List ℕ) (level : EcLevel) → ((i : ℕ) → get_o
 text_too_long text level are many n first below bits limit said limit_is =
     let sizes = length-append (eci_spelling 26) (spelling (normal n) (piece_of Byte text)) in
     let bytes = length-character_bits Byte text (bytes_valid text are) in
-    omega (arith, many, ap length said, sizes, length-spelling (normal n) (piece_of Byte text), bytes, capacity-most level n limit (omega (arith, below)) limit_is)
+    let most = capacity-most level n limit (omega (arith, below)) limit_is in
+    omega (arith, many, ap length said, sizes, length-spelling (normal n) (piece_of Byte text), bytes, most)
 
 -- ---- An element string
 

@@ -1,4 +1,4 @@
-use Rattle.qrcode_base.proofs.Prelude.{arith, get_or, ap, ◌∙◌, PLACES}
+use Rattle.qrcode_base.proofs.Prelude.{arith}
 use Rattle.qrcode_base.proofs.Alphabet.{PLACES-some}
 use Rattle.qrcode_base.proofs.characters.alphanumeric_place.Goals as goal
 

@@ -18,7 +18,7 @@ colored c =
     let new = c.write_colors.new.colors in let pattern = c.in_ok-pattern.pattern in let d = c.draw_data.new.self in
     let size = c.symbol_width-width.result * c.symbol_width-width.result in let n = normal_number pattern in
     let square : size ≡ width_of d.version * width_of d.version =
-        cc (c.symbol_width-width.ensures.is, ap width_of (took c).version) in
+    cc (c.symbol_width-width.ensures.is, ap width_of (took c).version) in
     written_whole new c.in_ok-colors.colors.items c.in_ok-colors.colors.len (c.write_colors.auto.colors ∙ c.deref_mut.ensures.len)
     ∙ same_colors new (colors_of (with_mask pattern d)) (
     c.write_colors.ensures
