@@ -1,5 +1,5 @@
 -- The first invalid byte of a text is one, and one only; there is none exactly where the text is valid.
-use Rattle.qrcode_base.proofs.Prelude.{◌≡◌, ℕ, zero, suc, ◌<◌, ◌≤◌, refl, sym, arith, subst, List, [], ◌∷◌, length, take, Bool, true, Option, Some}
+use Rattle.qrcode_base.proofs.Prelude.{◌≡◌, ℕ, zero, suc, ◌<◌, ◌≤◌, refl, sym, ap, ◌∙◌, arith, subst, List, [], ◌∷◌, length, take, Bool, true, Option, Some}
 use Rattle.qrcode_base.proofs.Prelude.{None, All, Contains, slice_get, if◌then◌else◌, take-length, false≢true, cases_lt, slice_get_within, slice_get-get_or}
 use Rattle.qrcode_base.proofs.Prelude.{Mode, Numeric, Alphanumeric, Byte, Kanji, is_between, IsDigit, alphabet, is_alphanumeric, is_kanji_pair, IsKanjiText}
 use Rattle.qrcode_base.proofs.Prelude.{is_kanji_text, IsValid, is_valid, longest_beginning, first_invalid, IsFirstInvalid, FirstInvalid, and_parts}
@@ -74,16 +74,10 @@ empty_valid mode = grind (arith, valid-passes)
 found_behind : (mode : Mode) (text : List ℕ) (place : ℕ) (found : Option ℕ) → slice_get text place ≡ found →
     place ≡ longest_beginning (is_valid mode) text (length text) → FirstInvalid (IsValid mode) text (option_map (λ byte. (place, byte)) found)
 found_behind mode text place None none at =
-    grind (
-      arith,
-      longest-within (is_valid mode) text (length text),
-      is_valid mode,
-      past_end text place none,
-      take-length text,
-      longest-passes (is_valid mode) text (length text) (empty_valid mode),
-      empty_valid mode,
-      valid-holds mode (take place text),
-    )
+    let within : place ≤ length text = omega (arith, longest-within (is_valid mode) text (length text)) in
+    let whole : take place text ≡ text = ap (λ (k : ℕ). take k text) (past_end text place none within) ∙ take-length text in
+    let passes = subst (λ (k : ℕ). is_valid mode (take k text) ≡ true) (sym at) (longest-passes (is_valid mode) text (length text) (empty_valid mode)) in
+    subst (λ (t : List ℕ). IsValid mode t) whole (valid-holds mode (take place text) passes)
 found_behind mode text place (Some byte) some at = grind (arith, valid-holds, longest-passes, longest-longest, valid-passes)
 
 pub first_invalid-first : (mode : Mode) (text : List ℕ) → FirstInvalid (IsValid mode) text (first_invalid mode text)

@@ -4,10 +4,9 @@ use Rattle.qrcode_bits.proofs.Prelude.{◌≡◌, ℕ, zero, suc, ◌+◌, ◌^�
 use Rattle.qrcode_bits.proofs.Prelude.{All, Option, flat_map, cases_lt, cases_eq, All-head, All-tail, All-nil, All-cons, All-append, Version, EcLevel, L, M, Q}
 use Rattle.qrcode_bits.proofs.Prelude.{H, Mode, IsWithin, HasMode, slice_get_past, capacity, Segment, parsed, merged, total_bits, IsChosenPlan, merged_all}
 use Rattle.qrcode_bits.proofs.Prelude.{IsMergePlan, Fits, FitsNot, IsLeastBits, normal, micro, FitsNone, IsChoice, IsLeastHolding, IsClass, common_steps}
-use Rattle.qrcode_base.proofs.Joins.{join-upper, join-upper_second}
-use Rattle.qrcode_base.proofs.Fields.{SameClass, capacity-rises, capacity-held, capacity-double}
 use Rattle.qrcode_bits.proofs.Growth.{total_bits-rise, total_bits-same, total_bits-double, chosen-same}
 use Rattle.qrcode_bits.proofs.CuttingPlans.{AreNonEmpty, joined, first-some, rest-some, chosen-planned, chosen-least}
+use Rattle.qrcode_base.proofs.{Joins.join-upper, Joins.join-upper_second, Fields.SameClass, Fields.capacity-rises, Fields.capacity-held, Fields.capacity-double}
 
 -- ---- Modes of a version
 
@@ -174,19 +173,7 @@ capacity-middle l n c h known = let d = middle_capacity l in let grows = capacit
 pub fits_last : (front n : ℕ) (message : List ℕ) (l : EcLevel) (plan : List Segment) → n ≤ 40 → Fits front message (normal n) l plan →
     Fits front message (normal 40) l plan
 fits_last front n message l plan h w =
-    grind (
-      arith,
-      capacity-held l n w.limit w.has_level,
-      middle_capacity l,
-      last_capacity l,
-      total_bits-double n 40,
-      capacity-double l,
-      fits_normal front 40,
-      cases_lt n 27,
-      capacity-grows l n 26 w.limit,
-      capacity-grows l n 40 w.limit,
-      total_bits-same n 40,
-    )
+    grind (arith, last_capacity l, total_bits-double n 40, capacity-grows l n 26 w.limit, capacity-grows l n 40 w.limit, total_bits-same n 40)
 
 -- ---- The least version that holds so many bits
 

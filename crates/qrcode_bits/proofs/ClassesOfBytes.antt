@@ -2,10 +2,9 @@
 use Rattle.qrcode_bits.proofs.Prelude.{zero, suc, ◌≡◌, ℕ, ◌+◌, ◌-◌, ◌<◌, ◌≤◌, Bool, true, false, List, ◌∷◌, length, drop, get_or, refl, ap, sym, ◌∙◌, arith}
 use Rattle.qrcode_bits.proofs.Prelude.{inl, inr, ◌⊎◌, cases_lt, drop_all, get_or-map-range_with_len, Mode, Byte, is_alphanumeric, is_kanji_pair, Class, Digit}
 use Rattle.qrcode_bits.proofs.Prelude.{Sign, Other, Pair, LoneLead, class_number, class_of, class_size, units, joins, class_mode, common_steps, map}
-use Rattle.std.{proofs.Common.Fits, proofs.Common.w8, specs.List.range_with_len, proofs.Math.Seq.drop-cons}
-use Rattle.qrcode_bits.specs.declared.optimize.parser.TheConstants.{CLASSES}
-use Rattle.qrcode_bits.proofs.Adjoining.{class_of-one}
 use Rattle.qrcode_bits.proofs.Runs.{parsed_from, IsRun, Run-first, Run-more, Run-apart}
+use Rattle.qrcode_bits.{specs.declared.optimize.parser.TheConstants.CLASSES, proofs.Adjoining.class_of-one}
+use Rattle.std.{proofs.Common.Fits, proofs.Common.w8, specs.List.range_with_len, proofs.Math.Seq.drop-cons}
 
 -- ---- The table
 
@@ -93,15 +92,7 @@ module _ (bytes : List ℕ) (begin : ℕ) (within : begin < length bytes) where
       next ≡ class_number (class_of (get_or bytes end 0)) → next ≡ number →
       IsRun bytes class begin end → IsRun bytes class begin (end + 1)
   alone_more end number next below other is next_is same run =
-      grind (
-        arith,
-        Run-more,
-        class_of-one (get_or bytes begin 0),
-        joins-self class other,
-        numbered-is (get_or bytes end 0) next next_is,
-        numbered-is (get_or bytes begin 0) next (same ∙ is),
-        units_other,
-      )
+      grind (arith, Run-more, numbered-is (get_or bytes end 0) next next_is, numbered-is (get_or bytes begin 0) next (same ∙ is), units_other)
 
   pub alone_stops : (end number : ℕ) → number ≡ class_number class → IsRun bytes class begin end →
       (end < length bytes → class_number (class_of (get_or bytes end 0)) ≡ number → ⊥) →

@@ -25,9 +25,7 @@ module _ (header : Option Header) (bytes : List ℕ) (v : Version) (plan : List 
       grind (
         arith,
         common_steps,
-        All-tail (IsSpellable v) (segment_piece bytes (segment_at plan i)) (segment_pieces bytes (drop (i + 1) plan))
-            (subst (All (IsSpellable v)) (pieces_at bytes plan i within) h.spellable),
-        append_assoc,
+        All-tail (IsSpellable v) (segment_piece bytes (segment_at plan i)) (segment_pieces bytes (drop (i + 1) plan)) (subst (All (IsSpellable v)) (pieces_at bytes plan i within) h.spellable),
       )
 
 -- ---- The stream of a plan, behind a header or none

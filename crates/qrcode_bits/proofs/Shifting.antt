@@ -22,16 +22,7 @@ pub shifted_more : (into text : List ℕ) (used partial before wide next i : ℕ
     byte_bits (take (i + 1) (slice_set into i (bit_and (wide / 2 ^ used) 255))) ++ number_bits used next
     ≡ number_bits used partial ++ byte_bits (take (i + 1) text)
 shifted_more into text used partial before wide next i long inside part is here small so_far =
-    grind (
-      arith,
-      common_steps,
-      and_mask (wide / 2 ^ used) 8,
-      one_shifted used before (slice_index_or text i 0) part small,
-      append_assoc,
-      byte_bits-push,
-      take_more text i 0 (omega arith),
-      take_more_set into i,
-    )
+    grind (arith, common_steps, one_shifted used before (slice_index_or text i 0) part small)
 
 -- ---- The stream
 

@@ -3,9 +3,8 @@ use Rattle.qrcode_bits.proofs.Prelude.{◌≡◌, ℕ, zero, suc, ◌+◌, ◌-�
 use Rattle.qrcode_bits.proofs.Prelude.{get_or-map-range_with_len, length-map-range_with_len, Mode, Alphanumeric, Kanji, Candidate, IsNoWorse, period}
 use Rattle.qrcode_bits.proofs.Prelude.{period_bits, bucket_mode, bucket_rest, slot, IsBetterOf, HasBucket, key_of, Enters, start_told, bucket_start, word_at}
 use Rattle.qrcode_bits.proofs.Prelude.{common_steps}
-use Rattle.qrcode_bits.specs.Buckets.{word_of, starts_in, IsOffered, IsEmptyGroup}
+use Rattle.qrcode_bits.{specs.Buckets.word_of, specs.Buckets.starts_in, specs.Buckets.IsOffered, specs.Buckets.IsEmptyGroup, proofs.Grouping.has-inside}
 use Rattle.std.specs.Prelude.{replicate}
-use Rattle.qrcode_bits.proofs.Grouping.{has-inside}
 
 pub word-ahead : (more a b : ℕ) → a ≤ b →
     IsNoWorse (start_told more a).bits (start_told more a).parts (start_told more a).start (start_told more b).bits

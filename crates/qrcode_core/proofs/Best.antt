@@ -176,8 +176,9 @@ module _ (old new : Stream) (level : EcLevel) (ended : EndsAtLevel old new level
   -- Ended bits fill their symbol.
   pub ended_fills : FillsSymbol new level
   ended_fills words turned =
-      grind (arith, has_blocks old.version level ended.limit ended.limit_is, length-filled old.version level words,
-      length-tailed old.version ended.limit old.bits, tailed words turned)
+      let blocks = has_blocks old.version level ended.limit ended.limit_is in
+      let long = length-filled old.version level words blocks.0 ended.limit bits in
+      grind (arith, blocks.1, long, length-tailed old.version ended.limit old.bits, tailed words turned)
 
   -- The symbol that is drawn of them holds the bits as they were before.
   pub holds_stream : (symbol : DrawnSymbol) → IsDrawnStream new level symbol → HoldsStream old level symbol

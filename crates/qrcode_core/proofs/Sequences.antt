@@ -33,9 +33,13 @@ same_piece grids m n f g i inside =
 pub in_any_order : (grids shuffled : List (List Color)) (message : List ℕ) → IsPermutation grids shuffled → ReadsMessage grids message →
     ReadsMessage shuffled message
 in_any_order grids shuffled message mixed seen =
-    grind (arith, length_permutation grids shuffled mixed,
-    IsPermutation-trans shuffled grids seen.in_order (IsPermutation-sym grids shuffled mixed) seen.same_grids, IsPermutation-sym grids shuffled mixed,
-    common_steps)
+    grind (
+      arith,
+      length_permutation grids shuffled mixed,
+      IsPermutation-trans shuffled grids seen.in_order (IsPermutation-sym grids shuffled mixed) seen.same_grids,
+      IsPermutation-sym grids shuffled mixed,
+      common_steps,
+    )
 
 pub one_message : HaveOneMessage
 one_message grids shuffled m n mixed f h =

@@ -178,7 +178,6 @@ turned_at : (bytes : List ℕ) → ((k : ℕ) → Fits w8 (get_or bytes k 0)) �
 turned_at bytes fits at inside m j hm hj =
     grind (
       arith,
-      length-chunk at 16 bytes inside,
       get_or-chunk at 16 bytes j 0 hj,
       get_or-map (bit_not w8) (chunk at 16 bytes) j 0 0 (omega (arith, (length-chunk at 16 bytes inside), hj)),
       bit_at_not w8 (get_or bytes (at + j) 0) m ((fits (at + j)).fits) hm,

@@ -75,7 +75,7 @@ module _ (words : Words) (f l : List ℕ) (rest : Words) (words_are : words ≡ 
 pub one_label : (words : Words) (a b : Label) → Ask words a → Ask words b → a ≡ b
 one_label words a b p q =
     let same : format_word a.format ∷ p.level_word ∷ (kind_words a.kind ++ spelled p.settings)
-        ≡ format_word b.format ∷ q.level_word ∷ (kind_words b.kind ++ spelled q.settings) = sym p.words_are ∙ q.words_are in
+    ≡ format_word b.format ∷ q.level_word ∷ (kind_words b.kind ++ spelled q.settings) = sym p.words_are ∙ q.words_are in
     let parts = same_parts _ _ _ _ _ _ same in
     let format = one_format a.format b.format parts.0 in
     let level = one_level (trim q.level_word) a.level b.level (rw parts.1 at p.level_is) q.level_is in

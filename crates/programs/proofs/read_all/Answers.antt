@@ -4,6 +4,8 @@ use Rattle.programs.proofs.DeviceLemmas.{Consumes-append}
 use Rattle.programs.proofs.read_all.Goals as goal
 
 pub returns-in_err-extend_from_slice-clause-few : goal.returns-in_err-extend_from_slice-clause-few
-returns-in_err-extend_from_slice-clause-few g c =
-    grind (arith, Consumes-append _ _ _ c.reading.bytes.items (take c.in-Some.n c.pull.new.buf) c.reading.invariant.read c.in-Some.ensures.bytes,
-    c.reading.invariant.read, c.in-Some.ensures.bytes, common_steps)
+returns-in_err-extend_from_slice-clause-few g c = (
+  c.reading.bytes.items ++ take c.in-Some.n c.pull.new.buf,
+  Consumes-append _ _ _ c.reading.bytes.items (take c.in-Some.n c.pull.new.buf) c.reading.invariant.read c.in-Some.ensures.bytes,
+  grind (arith, common_steps),
+)

@@ -1,10 +1,9 @@
 -- The second word is `micro`.
 use Rattle.std.proofs.Common.{rules, arith, ◌≡◌, ◌≤◌, ◌<◌, ℕ, List, [], ◌∷◌, length, get_or, map, true, refl}
-use Rattle.std.specs.{Prelude.codes, Str.trim, String.string_bytes}
+use Rattle.std.{specs.Prelude.codes, specs.Str.trim, specs.String.string_bytes, proofs.lemmas.Grind.common_steps}
 use Rattle.qrcode_core.specs.{declared.types.EcLevel.EcLevel, Names.NamesLevel}
 use Rattle.qrtext.specs.Words.{request, Ask}
 use Rattle.qrtext.proofs.request_of.Goals as goal
-use Rattle.std.proofs.lemmas.Grind.{common_steps}
 
 two_words : {A : Type 0} (text : A → List ℕ) (words : List A) (first second : A) (level : EcLevel) → 2 ≤ length words → length words < 3 →
     first ≡ get_or words 0 first → second ≡ get_or words 1 second → NamesLevel (trim (text first)) level → text second ≡ codes "micro" →
