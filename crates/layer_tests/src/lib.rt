@@ -11,3 +11,5 @@ mod bits_tests;
 mod optimize_tests;
 #[cfg(test)]
 mod search_tests;
+#[cfg(test)]
+mod segmentation_tests;

@@ -8,7 +8,7 @@ use qrcode_base::types::{Mode, QrError, QrResult, Version};
 use qrcode_bits::optimize::{Segment, optimize_segments, supports_linear_costs};
 
 /// The versions in which plans are compared, by a number.
-fn version_of(case: usize) -> Version
+pub(crate) fn version_of(case: usize) -> Version
     ensures { HasMicroNumber result }
 {
     match case {
@@ -158,7 +158,7 @@ fn short_lists(rt: HostRuntime) -> QrResult<()> {
 }
 
 /// The next number of a fixed run, below a bound.
-fn next_below(state: &mut u64, bound: u64) -> usize
+pub(crate) fn next_below(state: &mut u64, bound: u64) -> usize
     requires { 0 < bound }
     ensures { result < bound }
 {

@@ -6,7 +6,7 @@ use Rattle.qrcode_bits.proofs.Prelude.{H, Mode, IsWithin, HasMode, slice_get_pas
 use Rattle.qrcode_bits.proofs.Prelude.{IsMergePlan, Fits, FitsNot, IsLeastBits, normal, micro, FitsNone, IsChoice, IsLeastHolding, IsClass, common_steps}
 use Rattle.qrcode_bits.proofs.Growth.{total_bits-rise, total_bits-same, total_bits-double, chosen-same}
 use Rattle.qrcode_bits.proofs.CuttingPlans.{AreNonEmpty, joined, first-some, rest-some, chosen-planned, chosen-least}
-use Rattle.qrcode_base.proofs.{Joins.join-upper, Joins.join-upper_second, Fields.SameClass, Fields.capacity-rises, Fields.capacity-held, Fields.capacity-double}
+use Rattle.qrcode_base.proofs.{Joins.join-upper, Joins.join-upper_second, Fields.SameClass, Fields.capacity-rises, Fields.capacity-held}
 
 -- ---- Modes of a version
 
@@ -16,7 +16,7 @@ wide_enough zero h = grind arith
 wide_enough (suc p) h = omega arith
 
 -- a version that has a mode has those that it takes in
-has_within : {m k : Mode} (v : Version) → IsWithin m k → HasMode v k → HasMode v m
+pub has_within : {m k : Mode} (v : Version) → IsWithin m k → HasMode v k → HasMode v m
 has_within v w h = grind (arith, wide_enough)
 
 module _ (v : Version) where

@@ -96,7 +96,7 @@ modes_lack v items i inside lacks has = grind arith
 no_blocks : BlockLayout
 no_blocks = record { correction = 0; first_size = 0; first_count = 0; second_size = 0; second_count = 0 }
 
-all_blocks : (l : EcLevel) → length (normal_blocks l) ≡ 40
+pub all_blocks : (l : EcLevel) → length (normal_blocks l) ≡ 40
 all_blocks l = grind arith
 
 last_capacity : (l : EcLevel) (n : ℕ) → 1 ≤ n → n ≤ 40 → (c : ℕ) × (capacity (normal n) l ≡ Some c)

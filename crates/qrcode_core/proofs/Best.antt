@@ -10,6 +10,7 @@ use Rattle.qrcode_core.proofs.OneReading.{one_reading, one_carried}
 use Rattle.std.{proofs.lemmas.List.get_or-replicate, proofs.lemmas.List.Elements.All-append, specs.Prelude.Result, specs.Prelude.IfErr}
 use Rattle.qrcode_grid.proofs.Distance.{AreBytes-block_in, length-block_in, distance-sound, AreApart-from_blocks}
 use Rattle.qrcode_grid.proofs.WholeSymbols.{IsUsable-of_symbol}
+use Rattle.qrcode_core.proofs.NoneBetter.{none_better}
 use Rattle.qrcode_bits.specs.Push.{IsEncoding, IsUnencodable, EndsAtLevel}
 use Rattle.qrcode_bits.{proofs.Reading.frame_one_reading, specs.declared.optimize.Segment.Segment, specs.Spelling.segment_pieces, proofs.Choices.fits_last}
 use Rattle.qrcode_bits.{proofs.Lengths.long_message, proofs.Lengths.long_for_micro, proofs.PlanFrames.spelled_plan}
@@ -89,6 +90,7 @@ best_symbol kind header bytes level limit number plan codewords symbol choice co
         fits = choice.fits;
         smallest = choice.smallest;
         fewest = choice.fewest;
+        none_better = none_better kind header bytes level number payload choice.smallest choice.fewest;
         best_mask = drawn.best;
         apart = blocks_apart grid known reads;
         far = grids_apart grid known reads;

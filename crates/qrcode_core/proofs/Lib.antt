@@ -7,3 +7,4 @@ pub mod Sequences
 mod Limited
 mod RowCounts
 mod Plugins
+pub mod NoneBetter

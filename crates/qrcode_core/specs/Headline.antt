@@ -1,7 +1,7 @@
 -- What the symbol of some bytes at a level is: the smallest and best one, read in one way (ISO/IEC 18004, encode
 -- procedure). The promise is `IsBest`, near the end, since a definition stands behind those that it names: before it
 -- come what a reader finds in a grid, and distance.
-use Rattle.std.specs.Prelude.{◌≡◌, ℕ, ◌*◌, Bool, List, ◌++◌, length, map, Option, Some, ◌≢◌, pos, ◌<◌, ◌≤◌, None, ◌==◌}
+use Rattle.std.specs.Prelude.{◌≡◌, ℕ, ◌+◌, ◌*◌, Bool, List, ◌++◌, length, map, Option, Some, ◌≢◌, pos, ◌<◌, ◌≤◌, None, ◌==◌}
 use Rattle.std.specs.Prelude.{if◌then◌else◌, codes}
 use Rattle.qrcode_base.specs.declared.symbols.BlockLayout.{BlockLayout}
 use Rattle.qrcode_base.specs.declared.types.Color.{Color}
@@ -9,7 +9,7 @@ use Rattle.qrcode_base.specs.declared.types.EcLevel.{EcLevel}
 use Rattle.qrcode_base.specs.declared.types.Version.{Version}
 use Rattle.qrcode_base.specs.Numbers.{byte_bits, zero_bits}
 use Rattle.qrcode_base.specs.Symbols.{blocks_of, block_sizes, missing_bits, width_of}
-use Rattle.qrcode_bits.specs.Frame.{Header, IsFrame, header_bits}
+use Rattle.qrcode_bits.specs.Frame.{Header, IsFrame, header_bits, HasNoPair}
 use Rattle.qrcode_grid.specs.declared.canvas.MaskPattern.{MaskPattern}
 use Rattle.qrcode_grid.specs.Blocks.{AreCodewords, AreBlocksApart, codeword_block}
 use Rattle.qrcode_grid.specs.Codes.{AreBytes, distance}
@@ -100,6 +100,41 @@ IsFarFromOthers grid r f =
 abbrev pub HaveDistance : Type 0
 HaveDistance = (grid : List Color) (r : Reading) (f : Reads grid r) → IsFarFromOthers grid r f
 
+-- ---- No better symbol
+
+-- a reading, by its parts
+abbrev pub reading_of : Version → EcLevel → MaskPattern → Option Header → List ℕ → ℕ → Reading
+reading_of version level mask header bytes payload = record {
+  bytes = bytes;
+  version = version;
+  level = level;
+  mask = mask;
+  header = header;
+  payload = payload;
+}
+
+-- Where no two neighbouring bytes are a pair of the Kanji mode, no grid is better than one that holds the bytes in
+-- version `number` with this payload: every grid that is read as the bytes at the level, after the same header, has no
+-- smaller version of the kind, nor fewer payload bits in the same version. Its pieces may be cut anywhere.
+abbrev pub NoneIsBetter : (ℕ → Version) → Option Header → List ℕ → EcLevel → ℕ → ℕ → Type 0
+NoneIsBetter kind header bytes level number payload =
+    HasNoPair bytes → (grid : List Color) (other bits : ℕ) (mask : MaskPattern) →
+    Reads grid (reading_of (kind other) level mask header bytes bits) →
+    (number ≤ other) × (other ≡ number → payload ≤ bits)
+
+-- Nor is any grid that has a header before the bytes: in the same version its payload is 20 bits greater at least.
+abbrev pub NoneIsBetterWithHeader : (ℕ → Version) → List ℕ → EcLevel → ℕ → ℕ → Type 0
+NoneIsBetterWithHeader kind bytes level number payload =
+    HasNoPair bytes → (grid : List Color) (other bits : ℕ) (mask : MaskPattern) (header : Header) →
+    Reads grid (reading_of (kind other) level mask (Some header) bytes bits) →
+    (number ≤ other) × (other ≡ number → payload + 20 ≤ bits)
+
+-- No grid of a version of the kind is read as the bytes at the level, with a header before them or without.
+abbrev pub NoneIsRead : (ℕ → Version) → List ℕ → EcLevel → Type 0
+NoneIsRead kind bytes level =
+    (grid : List Color) (number payload : ℕ) (mask : MaskPattern) (header : Option Header) →
+    Reads grid (reading_of (kind number) level mask header bytes payload) → ⊥
+
 -- ---- The best symbol
 
 -- The best symbol of some bytes at a level, with or without the header of a sequence, among the versions of one kind,
@@ -107,9 +142,10 @@ HaveDistance = (grid : List Color) (r : Reading) (f : Reads grid r) → IsFarFro
 --
 -- It is read as the bytes at the level, and as nothing else: whatever a reader finds in it (bytes, version, level,
 -- mask, header, payload bits) is this. Its functional modules have their colours. Some plan of the bytes fits its
--- version, and none a smaller one. The payload bits are the fewest of all plans there. The mask is the first under
--- which the grid's sibling has the least penalty. In each block different contents differ in more codewords than the
--- block has correction codewords.
+-- version, and none a smaller one. The payload bits are the fewest of all plans there. Where no two neighbouring bytes
+-- are a pair of the Kanji mode, no other grid of the bytes is better. The mask is the first under which the grid's
+-- sibling has the least penalty. In each block different contents differ in more codewords than the block has
+-- correction codewords.
 pub record IsBest (kind : ℕ → Version) (header : Option Header) (bytes : List ℕ) (level : EcLevel)
     (grid : List Color) : Type 0 where
   pub number : ℕ
@@ -117,20 +153,14 @@ pub record IsBest (kind : ℕ → Version) (header : Option Header) (bytes : Lis
   pub payload : ℕ
   pub plan : List Segment
   pub reading : Reading
-  pub says : reading ≡ record {
-    bytes = bytes;
-    version = kind number;
-    level = level;
-    mask = mask;
-    header = header;
-    payload = payload;
-  }
+  pub says : reading ≡ reading_of (kind number) level mask header bytes payload
   pub reads : Reads grid reading
   pub only : (other : Reading) → Reads grid other → other ≡ reading
   pub functional : HasFunctionalColors (kind number) level mask grid
   pub fits : Fits (length (header_bits header)) bytes (kind number) level plan
   pub smallest : (smaller : ℕ) → smaller < number → FitsNot (length (header_bits header)) bytes (kind smaller) level
   pub fewest : IsLeastBits (length (header_bits header)) bytes (kind number) payload
+  pub none_better : NoneIsBetter kind header bytes level number payload
   pub best_mask : IsFirstLeastMask (kind number) level mask grid
   pub apart : let found = reads.carries in
       AreBlocksApart found.blocks.correction (block_sizes found.blocks) found.interleaved found.correction

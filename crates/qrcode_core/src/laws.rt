@@ -1,6 +1,14 @@
 //! What holds of grids and of what is read from them.
+
+ghost use Rattle.std.specs.Prelude.{ℕ, List, Option, None};
+ghost use Rattle.qrcode_base.specs.declared.types.Color.{Color};
+ghost use Rattle.qrcode_base.specs.declared.types.EcLevel.{EcLevel};
+ghost use Rattle.qrcode_base.specs.declared.types.Version.{Version};
+ghost use Rattle.qrcode_bits.specs.Frame.{Header, HasNoPair};
+ghost use Rattle.qrcode_bits.specs.Plans.{normal, micro};
 ghost use Rattle.qrcode_core.specs.Headline.{printed, printed_reading, HaveDistance, HaveOneContent, HaveOneReading};
-ghost use Rattle.qrcode_core.specs.Headline.{Reads};
+ghost use Rattle.qrcode_core.specs.Headline.{Reads, IsBest, IsTooLong, IsTooLongForMicro};
+ghost use Rattle.qrcode_core.specs.Headline.{NoneIsBetter, NoneIsBetterWithHeader, NoneIsRead};
 ghost use Rattle.qrcode_core.specs.Sequence.{HaveOneMessage};
 
 /// No grid is read in two ways: the bytes, the version, the level, the mask, the header and the payload bits that a
@@ -31,4 +39,21 @@ pub fn have_distance()
 /// Append").
 pub fn have_one_message()
     ensures { HaveOneMessage }
+{}
+
+/// Where no two neighbouring bytes are a pair of the Kanji mode, no symbol of them is better than the best one, however
+/// its bytes were cut into pieces: none has a smaller version of the kind, nor fewer payload bits in the same version.
+/// With the header of a sequence before the bytes it takes 20 bits more at least. No symbol holds bytes that are
+/// too long.
+pub fn none_is_better()
+    ensures better { (kind : ℕ → Version) (header : Option Header) (bytes : List ℕ) (level : EcLevel)
+        (grid : List Color) (best : IsBest kind header bytes level grid) →
+        NoneIsBetter kind header bytes level best.number best.payload }
+    ensures better_with_header { (kind : ℕ → Version) (bytes : List ℕ) (level : EcLevel)
+        (grid : List Color) (best : IsBest kind None bytes level grid) →
+        NoneIsBetterWithHeader kind bytes level best.number best.payload }
+    ensures too_long { (bytes : List ℕ) (level : EcLevel) →
+        HasNoPair bytes → IsTooLong bytes level → NoneIsRead normal bytes level }
+    ensures too_long_for_micro { (bytes : List ℕ) (level : EcLevel) →
+        HasNoPair bytes → IsTooLongForMicro bytes level → NoneIsRead micro bytes level }
 {}

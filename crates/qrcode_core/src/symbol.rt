@@ -17,7 +17,8 @@ use std::alloc::Global;
 ///
 /// It is the smallest Normal version in which some way to merge the parsed segments fits, with the fewest payload
 /// bits of all such ways, under the first mask of least penalty. A reader finds in it exactly the bytes (ISO/IEC
-/// 18004, encode procedure).
+/// 18004, encode procedure). Where no two neighbouring bytes are a pair of the Kanji mode, as in ASCII, no symbol of
+/// the bytes at all is smaller (`laws::none_is_better`).
 ///
 /// `DataTooLong` comes exactly where nothing fits version 40 at the level; more than 7089 bytes are refused without
 /// memory. `OutOfMemory` comes where a growth was refused.
@@ -32,7 +33,7 @@ pub fn symbol(alloc: Global, bytes: &[u8], level: EcLevel) -> QrResult<Vec<Color
 }
 
 /// The same of the Micro versions: the first of M1 to M4 that has the level and the modes of the data, and in which
-/// some way to merge the segments fits.
+/// some way to merge the segments fits. `laws::none_is_better` holds of it too.
 ///
 /// Level H, which no Micro version has, is `InvalidVersion` with `Micro(4)`. Then `DataTooLong` comes exactly where
 /// nothing fits any of them, and `OutOfMemory` where a growth was refused.

@@ -47,7 +47,9 @@ impl Model for SequenceHeader {
 }
 
 /// The bits of some data in the smallest Normal version in which some plan fits, by the plan that takes the fewest bits
-/// there, up to terminator and padding.
+/// there, up to terminator and padding. Where no two neighbouring bytes are a pair of the Kanji mode, no other way to
+/// cut the bytes into segments fits a smaller version or takes fewer bits (`laws::no_segmentation_is_shorter`,
+/// `laws::frames_have_plans`).
 ///
 /// `DataTooLong` comes where no plan fits version 40 at this level, so for more than 7089 bytes before any memory is
 /// taken; `OutOfMemory` where a growth was refused.

@@ -48,7 +48,8 @@ impl Symbol {
     /// The best symbol of some bytes at a level (ISO/IEC 18004, encode procedure): the smallest Normal version in
     /// which some way to merge the parsed segments fits, with the fewest payload bits of all such ways, under the
     /// first mask of least penalty. A reader finds in it exactly the bytes, and the version, the level and the mask
-    /// that the symbol tells.
+    /// that the symbol tells. Where no two neighbouring bytes are a pair of the Kanji mode, as in ASCII, no symbol of
+    /// the bytes at all is smaller (`laws::none_is_better`).
     ///
     /// `DataTooLong` comes exactly where nothing fits version 40 at the level; more than 7089 bytes are refused
     /// without memory. `OutOfMemory` comes where a growth was refused.
@@ -64,7 +65,8 @@ impl Symbol {
     }
 
     /// The same of the Micro versions: the first of M1 to M4 that has the level and the modes of the data, and in
-    /// which some way to merge the segments fits (ISO/IEC 18004, "Micro QR Code").
+    /// which some way to merge the segments fits (ISO/IEC 18004, "Micro QR Code"). `laws::none_is_better` holds of
+    /// it too.
     ///
     /// Level H, which no Micro version has, is `InvalidVersion` with `Micro(4)`. Then `DataTooLong` comes exactly
     /// where nothing fits any of them, and `OutOfMemory` where a growth was refused.
@@ -79,7 +81,8 @@ impl Symbol {
         symbol_of(alloc, bits, level)
     }
 
-    /// As `new`, in the versions up to the greatest that the limits allow, and for as many bytes.
+    /// As `new`, in the versions up to the greatest that the limits allow, and for as many bytes. `laws::none_is_better`
+    /// holds of the symbol as of one of `new`.
     ///
     /// Limits that no encoding can keep, as `ResourceLimits::validate` tells, are `InvalidResourceLimits`. Then
     /// `DataTooLong` comes exactly where the bytes are more than are allowed, or nothing fits any version that is; then

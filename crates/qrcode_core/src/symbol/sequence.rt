@@ -70,7 +70,8 @@ impl Symbol {
 /// The parts lie between the start of the message, the cuts in order, and its end; they may be empty. Each symbol
 /// begins with a header that tells its position, how many symbols there are, and the exclusive or of all bytes of the
 /// message. It is the best symbol of its part (as with `symbol`) in the versions from 1 to `max_version`, where the
-/// header takes 20 bits. Read in any order, the symbols are the message.
+/// header takes 20 bits. Read in any order, the symbols are the message. Of a part in which no two neighbouring bytes
+/// are a pair of the Kanji mode, no symbol with this header is smaller (`laws::none_is_better`).
 ///
 /// A `max_version` outside 1 to 40 is `InvalidResourceLimits`. Then a number of parts other than 2 to 16 is
 /// `InvalidStructuredAppend` with this number, or with 255 where it is greater. Then `DataTooLong` comes exactly
