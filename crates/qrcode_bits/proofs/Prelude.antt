@@ -47,5 +47,5 @@ pub use Rattle.qrcode_bits.specs.Stream.{Appends, IsKept, Reserves, Stream, eci_
 pub use Rattle.qrcode_bits.specs.declared.optimize.Segment.{Segment}
 pub use Rattle.qrcode_bits.specs.declared.optimize.general.Groups.{Groups}
 pub use Rattle.qrcode_bits.specs.declared.optimize.short.TheConstants.{PERIOD_BITS, RESTS}
-pub use Rattle.qrcode_bits.specs.declared.optimize.general.Candidate.{Candidate}
+pub use Rattle.qrcode_bits.specs.declared.optimize.candidate.Candidate.{Candidate}
 pub use Rattle.qrcode_bits.specs.declared.optimize.general.Step.{Step}

@@ -65,7 +65,7 @@ module _ (segments : List Segment) (version : Version) (end : ℕ) (within : end
 
   -- some start was found in the end
   pub sought-last : (best : ℕ) (mode : Mode) → 0 < end → IsSought segments version end 8 best mode →
-      IsStep segments version end (step_told segments end (record { word = best; mode = mode }))
+      IsStep segments version end (step_told segments end (record { start = best; mode = mode }))
   sought-last best mode some h = elim (cases_lt best (2 ^ 60)) [
     | inl small ↦ Tried-all segments version end within linear (record {
       mode = mode;
@@ -195,6 +195,6 @@ pub AreShortSteps-push : (segments : List Segment) (version : Version) (steps ne
 AreShortSteps-push segments version steps next step k long before right is = grind (arith, get_or_push, length_push, get_or_append_left)
 
 pub AreShortSteps-start : (segments : List Segment) (version : Version) (none steps : List ShortStep) (step : ShortStep) → none ≡ [] →
-    step.word ≡ 8191 → steps ≡ none ++ step ∷ [] →
+    step.start ≡ 8191 → steps ≡ none ++ step ∷ [] →
     (length steps ≡ 1) × AreShortSteps segments version steps × (step ≡ short_at steps 0)
 AreShortSteps-start segments version none steps step empty word is = grind arith

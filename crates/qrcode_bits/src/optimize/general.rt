@@ -11,61 +11,11 @@ ghost use Rattle.qrcode_bits.specs.Plans.{HasLinearCosts, IsChosenPlan, IsNoWors
 ghost use Rattle.qrcode_bits.specs.Buckets.{IsBetterOf, IsEmptyGroup, Advances, EntersAll, EntersGroup, group_of, slot};
 ghost use Rattle.qrcode_bits.specs.Buckets.{AreGroups};
 
+use super::candidate::{Candidate, better};
 use super::{Comparisons, Segment, bucket_mode};
 use qrcode_base::types::{Mode, QrError, QrResult, Version};
 use std::alloc::Global;
 use std::sync::ledger::Ledger;
-
-/// A start that a last part may have: the bits of the plan up to an end that is the same for all that are compared, how
-/// many parts it has with the last one, and the index of the segment at which that starts.
-#[derive(Clone, Copy)]
-pub struct Candidate {
-    pub bits: u128,
-    pub parts: usize,
-    pub start: usize,
-}
-
-impl Candidate {
-    /// Fewer bits, with as many fewer parts, with as many of both the later start.
-    pub fn is_better<L: Ledger>(&self, other: &Candidate, comparisons: &mut Comparisons<L>) -> bool
-        ensures wins { OnTrue result (IsNoWorse self.now.bits self.now.parts self.now.start other.now.bits
-            other.now.parts other.now.start) }
-        ensures loses { OnFalse result (IsNoWorse other.now.bits other.now.parts other.now.start
-            self.now.bits self.now.parts self.now.start) }
-        ensures ticked { comparisons.new ≡ comparisons.old + 1 }
-    {
-        comparisons.tick();
-        if self.bits != other.bits {
-            self.bits < other.bits
-        } else if self.parts != other.parts {
-            self.parts < other.parts
-        } else {
-            self.start > other.start
-        }
-    }
-}
-
-/// The better of two, where there are two.
-pub fn better<L: Ledger>(
-    a: Option<Candidate>,
-    b: Option<Candidate>,
-    comparisons: &mut Comparisons<L>,
-) -> Option<Candidate>
-    ensures better { IsBetterOf a b result }
-    ensures ticked { comparisons.new ≤ comparisons.old + 1 }
-{
-    match (a, b) {
-        (None, b) => b,
-        (a, None) => a,
-        (Some(a), Some(b)) => {
-            if b.is_better(&a, comparisons) {
-                Some(b)
-            } else {
-                Some(a)
-            }
-        }
-    }
-}
 
 /// For each mode of a suffix, the best starts for each mode that a part may end in, and each rest of the begin there.
 #[derive(Clone, Copy)]
@@ -125,18 +75,14 @@ fn enter<L: Ledger>(
     ensures ticked { comparisons.new ≤ comparisons.old + 4 }
 {
     let far: u128 = 1 << 64;
-    let mut key = Candidate {
-        bits: bits + 10 * (far - (begin / 3) as u128),
-        parts,
-        start,
-    };
-    offer(group, begin % 3, key, comparisons);
-    key.bits = bits + 11 * (far - (begin / 2) as u128);
-    offer(group, 3 + begin % 2, key, comparisons);
-    key.bits = bits + 8 * (far - begin as u128);
-    offer(group, 5, key, comparisons);
-    key.bits = bits + 13 * (far - (begin / 2) as u128);
-    offer(group, 6 + begin % 2, key, comparisons);
+    let thirds = Candidate::new(bits + 10 * (far - (begin / 3) as u128), parts, start);
+    offer(group, begin % 3, thirds, comparisons);
+    let pairs = Candidate::new(bits + 11 * (far - (begin / 2) as u128), parts, start);
+    offer(group, 3 + begin % 2, pairs, comparisons);
+    let singles = Candidate::new(bits + 8 * (far - begin as u128), parts, start);
+    offer(group, 5, singles, comparisons);
+    let characters = Candidate::new(bits + 13 * (far - (begin / 2) as u128), parts, start);
+    offer(group, 6 + begin % 2, characters, comparisons);
 }
 
 impl Groups {
@@ -269,25 +215,18 @@ pub fn last_step_from<L: Ledger>(
     let alone = segments[end - 1];
     let last = steps[end - 1].best;
     let mut part = alone;
-    let mut best = Candidate {
-        bits: last.bits + alone.wide_len(version),
-        parts: last.parts + 1,
-        start: end - 1,
-    };
+    let mut best = last.longer(alone.wide_len(version), end - 1);
     for bucket in 0..8 {
         let mode = bucket_mode(bucket);
         if let Some(found) = groups.best(mode, bucket) {
+            let start = found.start();
             let longer = Segment {
                 mode,
-                begin: segments[found.start].begin,
+                begin: segments[start].begin,
                 end: alone.end,
             };
-            let before = steps[found.start].best;
-            let next = Candidate {
-                bits: before.bits + longer.wide_len(version),
-                parts: before.parts + 1,
-                start: found.start,
-            };
+            let before = steps[start].best;
+            let next = before.longer(longer.wide_len(version), start);
             if next.is_better(&best, comparisons) {
                 best = next;
                 part = longer;
@@ -315,7 +254,7 @@ pub fn read_back(
     while end > 0 {
         let step = steps[end];
         plan.push(step.part)?;
-        end = step.best.start;
+        end = step.best.start();
     }
     plan.reverse();
     Ok(plan)
@@ -338,11 +277,7 @@ pub fn optimize_linear<L: Ledger>(
     let mut steps = Vec::new(alloc);
     let mut groups = Groups::new();
     let mut before = Step {
-        best: Candidate {
-            bits: 0,
-            parts: 0,
-            start: 0,
-        },
+        best: Candidate::new(0, 0, 0),
         part: segments[0],
     };
     steps.push(before)?;
@@ -352,8 +287,8 @@ pub fn optimize_linear<L: Ledger>(
         groups.enter(
             segment.mode,
             segment.begin,
-            before.best.bits,
-            before.best.parts + 1,
+            before.best.bits(),
+            before.best.parts() + 1,
             start,
             comparisons,
         );

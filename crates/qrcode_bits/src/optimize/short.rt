@@ -1,9 +1,8 @@
-//! The chosen plan of short data, in one pass over the segments with a word of 64 bits for each start.
+//! The chosen plan of short data, in one pass over the segments with a `Start` of 64 bits for each start.
 //!
-//! A word has the bits of the plan above, then 13 bits of its parts, then 13 bits that fall as the start grows. So the
-//! better of two starts is the lesser word, and no start is the greatest word. For each segment `optimize_short` calls
-//! `advance` with its mode, then `enter` with its start, and then `last_step_short`, which asks for the `best` of each
-//! bucket; in the end `read_back_short` answers the parts of the plan.
+//! For each segment `optimize_short` calls `advance` with its mode, then `enter` with its start, and then
+//! `last_step_short`, which asks for the `best` of each bucket; in the end `read_back_short` returns the parts of the
+//! plan.
 
 ghost use Rattle.std.specs.Prelude.{◌≡◌, ℕ, ◌+◌, ◌*◌, ◌-◌, ◌/◌, ◌%◌, ◌^◌, ◌<◌, ◌≤◌, length, IfOk, IfErr};
 ghost use Rattle.qrcode_base.specs.Symbols.{HasMicroNumber};
@@ -14,37 +13,29 @@ ghost use Rattle.qrcode_bits.specs.Buckets.{AreWhole, IsShort, AreHeaders, step_
 ghost use Rattle.qrcode_bits.specs.Buckets.{IsEmptyGroup, EntersGroup, group_of, slot, word_of, starts_in};
 ghost use Rattle.qrcode_bits.specs.Buckets.{IsOffered, Enters, bucket_start};
 
+use super::start::Start;
 use super::{Comparisons, Segment, bucket_mode};
 use qrcode_base::types::{Mode, QrError, QrResult, Version};
 use std::alloc::Global;
 use std::sync::ledger::Ledger;
 
-/// The word for no start.
-const NO_START: u64 = u64::MAX;
-
 /// For each mode of a suffix, the best starts for each mode that a part may end in, and each rest of the begin there.
 #[derive(Clone, Copy)]
 struct Words {
-    numeric: [u64; 8],
-    alphanumeric: [u64; 8],
-    byte: [u64; 8],
-    kanji: [u64; 8],
+    numeric: [Start; 8],
+    alphanumeric: [Start; 8],
+    byte: [Start; 8],
+    kanji: [Start; 8],
 }
 
-/// The word of a start.
-fn word(bits: u64, parts: usize, start: usize) -> u64
-    requires bits { bits < 2 ^ 20 }
-    requires parts { parts < 8192 }
-    requires start { start < 8192 }
-    ensures word { result ≡ word_of bits parts start }
-    ensures small { result < 2 ^ 46 }
-{
-    (bits << 26) + ((parts as u64) << 13) + (8191 - start as u64)
-}
-
-/// Takes what is less in another group, bucket by bucket, from the first one that is needed to that of Byte.
+/// Takes what is better in another group, bucket by bucket, from the first one that is needed to that of Byte.
 #[tactic(auto, using(crate::proofs::WordStarts::starts_of_words))]
-fn absorb<L: Ledger>(into: &mut [u64], from: &[u64], first: usize, comparisons: &mut Comparisons<L>)
+fn absorb<L: Ledger>(
+    into: &mut [Start],
+    from: &[Start],
+    first: usize,
+    comparisons: &mut Comparisons<L>,
+)
     requires into { length into.old ≡ 8 }
     requires from { length from.now ≡ 8 }
     requires first { first ≤ 5 }
@@ -53,22 +44,21 @@ fn absorb<L: Ledger>(into: &mut [u64], from: &[u64], first: usize, comparisons: 
     ensures ticked { comparisons.new ≤ comparisons.old + 8 }
 {
     for j in first..6 {
-        comparisons.tick();
-        into[j] = into[j].min(from[j]);
+        into[j] = into[j].better(&from[j], comparisons);
     }
 }
 
-/// Offers a word to a bucket, which keeps the lesser, where the group needs it.
+/// Offers a start to a bucket, which keeps the better one, where the group needs it.
 fn offer<L: Ledger>(
-    group: &mut [u64],
+    group: &mut [Start],
     mode: Mode,
     bucket: usize,
-    word: u64,
+    start: Start,
     comparisons: &mut Comparisons<L>,
 )
     requires long { length group.old ≡ 8 }
     requires inside { bucket < 8 }
-    ensures offered { IsOffered mode bucket word group.old group.new }
+    ensures offered { IsOffered mode bucket start group.old group.new }
     ensures long { length group.new ≡ 8 }
     ensures ticked { comparisons.new ≤ comparisons.old + 1 }
 {
@@ -79,14 +69,13 @@ fn offer<L: Ledger>(
         Mode::Kanji => 5 <= bucket,
     };
     if needed {
-        comparisons.tick();
-        group[bucket] = group[bucket].min(word);
+        group[bucket] = group[bucket].better(&start, comparisons);
     }
 }
 
 /// Offers a start to the buckets of its rests.
 fn enter<L: Ledger>(
-    group: &mut [u64],
+    group: &mut [Start],
     mode: Mode,
     begin: usize,
     bits: u64,
@@ -104,14 +93,23 @@ fn enter<L: Ledger>(
     ensures ticked { comparisons.new ≤ comparisons.old + 4 }
 {
     let bytes = begin as u64;
-    let thirds = word(bits + 10 * (8192 - bytes / 3), parts, start);
-    let pairs = word(bits + 11 * (8192 - bytes / 2), parts, start);
-    let singles = word(bits + 8 * (8192 - bytes), parts, start);
-    let characters = word(bits + 13 * (8192 - bytes / 2), parts, start);
+    let thirds = Start::new(bits + 10 * (8192 - bytes / 3), parts, start);
+    let pairs = Start::new(bits + 11 * (8192 - bytes / 2), parts, start);
+    let singles = Start::new(bits + 8 * (8192 - bytes), parts, start);
+    let characters = Start::new(bits + 13 * (8192 - bytes / 2), parts, start);
     offer(group, mode, begin % 3, thirds, comparisons);
     offer(group, mode, 3 + begin % 2, pairs, comparisons);
     offer(group, mode, 5, singles, comparisons);
     offer(group, mode, 6 + begin % 2, characters, comparisons);
+}
+
+/// No start in any bucket.
+#[tactic(auto, using(crate::proofs::WordStarts::starts_of_words))]
+fn no_starts() -> [Start; 8]
+    ensures empty { IsEmptyGroup (starts_in result) }
+    ensures long { length result ≡ 8 }
+{
+    [Start::none(); 8]
 }
 
 impl Words {
@@ -125,10 +123,10 @@ impl Words {
         ensures whole { AreWhole result }
     {
         Words {
-            numeric: [NO_START; 8],
-            alphanumeric: [NO_START; 8],
-            byte: [NO_START; 8],
-            kanji: [NO_START; 8],
+            numeric: no_starts(),
+            alphanumeric: no_starts(),
+            byte: no_starts(),
+            kanji: no_starts(),
         }
     }
 
@@ -143,27 +141,27 @@ impl Words {
         match incoming {
             Mode::Numeric => {
                 absorb(&mut self.byte, &self.kanji, 5, comparisons);
-                self.kanji = [NO_START; 8];
+                self.kanji = no_starts();
             }
             Mode::Alphanumeric => {
                 absorb(&mut self.alphanumeric, &self.numeric, 3, comparisons);
                 absorb(&mut self.byte, &self.kanji, 5, comparisons);
-                self.numeric = [NO_START; 8];
-                self.kanji = [NO_START; 8];
+                self.numeric = no_starts();
+                self.kanji = no_starts();
             }
             Mode::Byte => {
                 absorb(&mut self.byte, &self.numeric, 5, comparisons);
                 absorb(&mut self.byte, &self.alphanumeric, 5, comparisons);
                 absorb(&mut self.byte, &self.kanji, 5, comparisons);
-                self.numeric = [NO_START; 8];
-                self.alphanumeric = [NO_START; 8];
-                self.kanji = [NO_START; 8];
+                self.numeric = no_starts();
+                self.alphanumeric = no_starts();
+                self.kanji = no_starts();
             }
             Mode::Kanji => {
                 absorb(&mut self.byte, &self.numeric, 5, comparisons);
                 absorb(&mut self.byte, &self.alphanumeric, 5, comparisons);
-                self.numeric = [NO_START; 8];
-                self.alphanumeric = [NO_START; 8];
+                self.numeric = no_starts();
+                self.alphanumeric = no_starts();
             }
         }
     }
@@ -207,9 +205,9 @@ impl Words {
         }
     }
 
-    /// The word in a bucket of the group of a mode.
+    /// The best start in a bucket of the group of a mode, or none.
     #[tactic(auto, using(crate::proofs::WordStarts::starts_of_words))]
-    fn best(&self, mode: Mode, bucket: usize) -> u64
+    fn best(&self, mode: Mode, bucket: usize) -> Start
         requires inside { bucket < 8 }
         requires whole { AreWhole self.now }
         ensures { bucket_start bucket result ≡ slot (group_of mode (told self.now)) bucket }
@@ -269,10 +267,10 @@ const PERIOD_BITS: [u64; 8] = [10, 10, 10, 11, 11, 8, 13, 13];
 /// The rest of the begins in each bucket.
 const RESTS: [usize; 8] = [0, 1, 2, 0, 1, 0, 0, 1];
 
-/// What is kept of the chosen plan of some first segments: the word of its last part's start, and that part's mode.
+/// What is kept of the chosen plan of some first segments: its last part's start, and that part's mode.
 #[derive(Clone, Copy)]
 struct ShortStep {
-    word: u64,
+    start: Start,
     mode: Mode,
 }
 
@@ -297,24 +295,22 @@ fn last_step_short<L: Ledger>(
     ensures ticked { comparisons.new ≤ comparisons.old + 8 }
 {
     let last_end = segments[end - 1].end;
-    let mut best = NO_START;
+    let mut best = Start::none();
     let mut best_mode = Mode::Byte;
     for bucket in 0..8 {
         let mode = bucket_mode(bucket);
         let found = words.best(mode, bucket);
-        if found < 1 << 50 {
+        if found.is_some() {
             let cost = headers.cost(mode, last_end - RESTS[bucket]);
-            let periods = 8192 * PERIOD_BITS[bucket];
-            let candidate = found + cost * (1 << 26) - periods * (1 << 26);
-            comparisons.tick();
-            if candidate < best {
+            let candidate = found.moved(cost, 8192 * PERIOD_BITS[bucket]);
+            if candidate.is_better(&best, comparisons) {
                 best = candidate;
                 best_mode = mode;
             }
         }
     }
     ShortStep {
-        word: best,
+        start: best,
         mode: best_mode,
     }
 }
@@ -336,7 +332,7 @@ fn read_back_short(
     let mut end = segments.len();
     while end > 0 {
         let step = steps[end];
-        let start = 8191 - (step.word % (1 << 26) % (1 << 13)) as usize;
+        let start = step.start.index();
         plan.push(Segment {
             mode: step.mode,
             begin: segments[start].begin,
@@ -366,7 +362,7 @@ pub fn optimize_short<L: Ledger>(
     let mut steps = Vec::with_capacity(alloc, segments.len() + 1)?;
     let mut words = Words::new();
     let mut before = ShortStep {
-        word: word(0, 0, 0),
+        start: Start::new(0, 0, 0),
         mode: Mode::Byte,
     };
     steps.push(before)?;
@@ -376,8 +372,8 @@ pub fn optimize_short<L: Ledger>(
         words.enter(
             segment.mode,
             segment.begin,
-            before.word >> 26,
-            (before.word % (1 << 26) >> 13) as usize + 1,
+            before.start.bits(),
+            before.start.parts() + 1,
             start,
             comparisons,
         );

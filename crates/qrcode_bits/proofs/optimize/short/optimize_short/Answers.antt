@@ -5,7 +5,7 @@ use Rattle.qrcode_bits.proofs.optimize.short.optimize_short.Goals as goal
 
 pub loop-start-init : goal.loop-start-init
 loop-start-init g c =
-    let w = AreShortSteps-start c.args.segments.now c.args.version _ _ _ c.in_ok-steps.ensures.items (omega (arith, c.word.ensures.word))
+    let w = AreShortSteps-start c.args.segments.now c.args.version _ _ _ c.in_ok-steps.ensures.items (omega (arith, c.new.ensures.word))
     c.in_ok-push.ensures.items in
     let new = c.new-words.ensures in
     record {
@@ -28,8 +28,8 @@ last_step_short-before-requires-clause-words g c =
     rw inv.last (inv.right k (omega (arith, inv.long))) in
     let near = c.requires.short.near k c.loop-start-test.true in
     let order = c.requires.linear.ordered k k (omega arith) c.loop-start-test.true in
-    AreGroups-next _ _ k c.loop-start-test.true _ _ _ _ _ _ _ inv.groups refl c.advance.ensures.advances c.enter.ensures.entered right (omega arith)
-    (omega arith) (omega arith)
+    AreGroups-next _ _ k c.loop-start-test.true _ _ _ _ _ _ _ inv.groups refl c.advance.ensures.advances c.enter.ensures.entered right
+    (omega (arith, c.bits.ensures)) (omega (arith, c.parts.ensures)) (omega arith)
 
 pub loop-start-preserved : goal.loop-start-preserved
 loop-start-preserved g c =
@@ -45,7 +45,7 @@ loop-start-preserved g c =
       right = w.1;
       ticked = omega (arith, inv.ticked, c.advance.ensures.ticked, c.enter.ensures.ticked, c.last_step_short-before.ensures.ticked);
       last = w.2;
-      groups = AreGroups-next _ _ k c.loop-start-test.true _ _ _ _ _ _ _ inv.groups refl c.advance.ensures.advances c.enter.ensures.entered right (omega arith)
-          (omega arith) (omega arith);
+      groups = AreGroups-next _ _ k c.loop-start-test.true _ _ _ _ _ _ _ inv.groups refl c.advance.ensures.advances c.enter.ensures.entered right
+          (omega (arith, c.bits.ensures)) (omega (arith, c.parts.ensures)) (omega arith);
       whole = c.enter.ensures.whole;
     }
