@@ -87,15 +87,21 @@ fn plain_plan(rt: &HostRuntime, segments: &[Segment], version: Version) -> QrRes
     parts_of(rt, segments, &starts)
 }
 
-/// Whether the chosen plan of these segments, whose costs are linear, is that of the plain search, in seven versions.
+/// Whether the chosen plan of these segments, whose costs are linear, is that of the plain search.
+fn agrees_in(rt: &HostRuntime, segments: &[Segment], version: Version) -> QrResult<bool>
+    requires { HasMicroNumber version }
+{
+    if segments.is_empty() || !supports_linear_costs(segments, version) {
+        return Ok(false);
+    }
+    let plan = optimize_segments(rt.alloc(), segments, version)?;
+    Ok(plan.as_slice() == plain_plan(rt, segments, version)?.as_slice())
+}
+
+/// The same in seven versions.
 fn agrees(rt: &HostRuntime, segments: &[Segment]) -> QrResult<bool> {
     for case in 0..7usize {
-        let version = version_of(case);
-        if segments.is_empty() || !supports_linear_costs(segments, version) {
-            return Ok(false);
-        }
-        let plan = optimize_segments(rt.alloc(), segments, version)?;
-        if plan.as_slice() != plain_plan(rt, segments, version)?.as_slice() {
+        if !agrees_in(rt, segments, version_of(case))? {
             return Ok(false);
         }
     }
@@ -133,27 +139,58 @@ fn mode_list(
     Ok(segments)
 }
 
-/// All lists of up to five modes, the short ones in segments of each size.
-#[test]
-fn short_lists(rt: HostRuntime) -> QrResult<()> {
-    let mut lists = 1usize;
-    for count in 1..6usize {
-        lists = lists.saturating_mul(4);
-        for number in 0..lists {
-            for (place, size) in [0, 1, 2, 3, 7, 9].iter().enumerate() {
-                if count < 4 || number % 6 == place {
-                    let from = if number % 3 == 2 {
-                        usize::MAX - 4096
-                    } else {
-                        0
-                    };
-                    let segments = mode_list(&rt, count, number, *size, from)?;
-                    assert!(rt; agrees(&rt, &segments)?);
-                }
-            }
+/// Whether the plans of all lists of so many modes agree, in segments of one size, from a first begin on.
+fn all_agree(rt: &HostRuntime, count: usize, size: usize, from: usize) -> QrResult<bool> {
+    let lists = 4usize.saturating_pow(count as u32);
+    for number in 0..lists {
+        let segments = mode_list(rt, count, number, size, from)?;
+        if !agrees(rt, &segments)? {
+            return Ok(false);
         }
     }
-    assert_eq!(rt; lists, 1024);
+    Ok(lists > 1)
+}
+
+/// All lists of up to five modes, in segments of each size, near the first byte and near the greatest index.
+#[test]
+fn lists_of_up_to_five(rt: HostRuntime) -> QrResult<()> {
+    for count in 1..6usize {
+        for size in [0, 1, 2, 3, 7, 9] {
+            assert!(rt; all_agree(&rt, count, size, 0)?);
+        }
+    }
+    Ok(())
+}
+
+#[test]
+fn lists_of_up_to_five_far_away(rt: HostRuntime) -> QrResult<()> {
+    for count in 1..6usize {
+        for size in [0, 1, 2, 3, 7, 9] {
+            assert!(rt; all_agree(&rt, count, size, usize::MAX - 4096)?);
+        }
+    }
+    Ok(())
+}
+
+/// All lists of six modes, two sizes a test.
+#[test]
+fn lists_of_six_of_0_or_1(rt: HostRuntime) -> QrResult<()> {
+    assert!(rt; all_agree(&rt, 6, 0, 0)?);
+    assert!(rt; all_agree(&rt, 6, 1, 0)?);
+    Ok(())
+}
+
+#[test]
+fn lists_of_six_of_2_or_3(rt: HostRuntime) -> QrResult<()> {
+    assert!(rt; all_agree(&rt, 6, 2, 0)?);
+    assert!(rt; all_agree(&rt, 6, 3, 0)?);
+    Ok(())
+}
+
+#[test]
+fn lists_of_six_of_7_or_in_turn(rt: HostRuntime) -> QrResult<()> {
+    assert!(rt; all_agree(&rt, 6, 7, 0)?);
+    assert!(rt; all_agree(&rt, 6, 9, 0)?);
     Ok(())
 }
 
@@ -168,11 +205,11 @@ pub(crate) fn next_below(state: &mut u64, bound: u64) -> usize
     ((*state >> 33) % bound) as usize
 }
 
-/// 33 to 80 segments from a fixed seed, some with gaps between them.
+/// 33 to 256 segments from a fixed seed, some with gaps between them.
 fn long_list(rt: &HostRuntime, state: &mut u64, from: usize) -> QrResult<Vec<Segment>> {
     let mut segments = Vec::new(rt.alloc());
     let mut begin = from;
-    for _place in 0..33 + next_below(state, 48) {
+    for _place in 0..33 + next_below(state, 224) {
         let end = begin.saturating_add(next_below(state, 12));
         segments.push(segment(mode_of(next_below(state, 4)), begin, end))?;
         begin = end.saturating_add(next_below(state, 3));
@@ -180,18 +217,19 @@ fn long_list(rt: &HostRuntime, state: &mut u64, from: usize) -> QrResult<Vec<Seg
     Ok(segments)
 }
 
-/// Lists that are too long to try each start of each end.
+/// 512 lists of more segments than a search by all cuts can take, each in one of the versions, every fourth one near
+/// the greatest index.
 #[test]
 fn long_lists(rt: HostRuntime) -> QrResult<()> {
     let mut state = 7u64;
-    for case in 0..16usize {
+    for case in 0..512usize {
         let from = if case % 4 == 3 {
             usize::MAX - 4096
         } else {
             case
         };
         let segments = long_list(&rt, &mut state, from)?;
-        assert!(rt; segments.len() > 32 && agrees(&rt, &segments)?);
+        assert!(rt; segments.len() > 32 && agrees_in(&rt, &segments, version_of(case % 7))?);
     }
     Ok(())
 }

@@ -5,7 +5,7 @@ use Rattle.qrcode_bits.proofs.Prelude.{normal_blocks, capacity, HasMode, indicat
 use Rattle.qrcode_bits.proofs.Prelude.{IsChosenPlan, total_bits, IsMergePlan, Fits, FitsNot, FitsNone, normal, IsLeastHolding, IsMinVersion, IsClass, Header}
 use Rattle.qrcode_bits.proofs.Prelude.{header_bits, Stream, IsPlanStream, IsEncoding, IsUnencodable, IsEncodingRefused, HasHeader, IsPartRefused}
 use Rattle.qrcode_bits.proofs.Prelude.{IsNormalNumber, LiesIn, common_steps, slice_get-get_or, Segment, parsed, Numeric, Normal, Micro, micro, segment_at, ints}
-use Rattle.qrcode_bits.proofs.Prelude.{rules, drop, drop_all, drop-cons, segment_bits}
+use Rattle.qrcode_bits.proofs.Prelude.{get_or, rules, drop, drop_all, drop-cons, segment_bits}
 use mir.Val.{to_z}
 use mir.Syntax.{w16}
 use Rattle.std.{proofs.lemmas.List.get_or_default, specs.Prelude.Some, specs.Prelude.option_map}
@@ -13,6 +13,7 @@ use Rattle.qrcode_base.{specs.Symbols.data_bytes, specs.declared.symbols.BlockLa
 use lib.Signed.{lt_z}
 use Rattle.qrcode_bits.proofs.{Adjoining.parsed-linear, Growth.total_bits-rise, Growth.total_bits-same, Upward.All-map, Texts.texts-reach, Texts.texts-plan}
 use Rattle.qrcode_bits.proofs.{Texts.plan_lies}
+use Rattle.qrcode_bits.specs.Plans.{AreCandidates}
 use Rattle.qrcode_bits.proofs.Choices.{chosen_is_plan, chosen_decides, fits_normal, capacity-grows, class_choice}
 
 -- ---- Costs are small
@@ -126,6 +127,23 @@ pub front_not : (message : List ℕ) (l : EcLevel) (last front bits : ℕ) (v : 
     FitsNot bits message (normal last) l
 front_not message l last front bits v same e h =
     subst (λ (n : ℕ). FitsNot n message (normal last) l) same (subst (λ (u : Version). FitsNot front message u l) e h)
+
+-- ---- The candidates
+
+-- the one that comes next
+pub candidates_here : (before limit : ℕ) (xs : List ℕ) (i : ℕ) → i < length xs → AreCandidates before (drop i xs) limit →
+    AreCandidates before (get_or xs i 0 ∷ drop (i + 1) xs) limit
+candidates_here before limit xs i h w = grind (arith, drop-cons)
+
+-- none is left
+pub candidates_end : (before limit : ℕ) (xs : List ℕ) (i : ℕ) → length xs ≤ i → AreCandidates before (drop i xs) limit → limit ≤ before
+candidates_end before limit xs i h w = subst (λ (z : List ℕ). AreCandidates before z limit) (drop_all i xs h) w
+
+-- What is known before a candidate: none up to the one before it holds a plan.
+abbrev pub IsSearched : ℕ → List ℕ → EcLevel → ℕ → List ℕ → Type 0
+IsSearched front message l limit left = (before : ℕ) × AreCandidates before left limit × FitsNone normal front message l before
+
+-- ---- Plans
 
 -- the bits of a plan that were counted
 pub ruleset small_plans = (counted_more, counted_all, part_ordered)

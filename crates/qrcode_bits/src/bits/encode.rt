@@ -3,8 +3,9 @@
 //! Append").
 //!
 //! Normal versions fall into three classes, 1 to 9, 10 to 26 and 27 to 40. In a class a plan takes the same bits in
-//! each version, so one plan for the last version of a class decides for the class. `encode_up_to` parses the data and
-//! tries the classes, `chosen_plan` tells whether the plan fits, and `encode_plan` pushes header, plan and terminator.
+//! each version, so one plan for the last version of a class decides for the class: these are the `candidates`.
+//! `encode_up_to` parses the data and tries them, `chosen_plan` finds whether the plan fits, and `encode_plan` pushes
+//! header, plan and terminator.
 
 ghost use Rattle.std.specs.Prelude.{◌≡◌, ℕ, ◌+◌, ◌≤◌, length, nat_abs, Some, None, OnOk, IfOk, IfErr, IfSome, IfNone};
 ghost use Rattle.std.specs.Prelude.{All, IsTrue, ◌↔◌};
@@ -13,7 +14,7 @@ ghost use Rattle.qrcode_base.specs.Modes.{HasMode, indicator_width, count_width}
 ghost use Rattle.qrcode_base.specs.Symbols.{HasMicroNumber};
 ghost use Rattle.qrcode_bits.specs.Parsing.{parsed};
 ghost use Rattle.qrcode_bits.specs.Plans.{IsChosenPlan, Fits, FitsNot, FitsNone, normal, micro, IsMinVersion};
-ghost use Rattle.qrcode_bits.specs.Plans.{total_bits};
+ghost use Rattle.qrcode_bits.specs.Plans.{total_bits, AreCandidates};
 ghost use Rattle.qrcode_bits.specs.Buckets.{no_modes};
 ghost use Rattle.qrcode_bits.specs.Push.{IsPlanStream, IsEncoding, IsUnencodable, IsEncodingRefused};
 ghost use Rattle.qrcode_base.specs.Symbols.{IsNormalNumber};
@@ -23,6 +24,7 @@ ghost use Rattle.qrcode_bits.specs.Frame.{HasHeader, header_bits, header_of};
 use super::headers::{check_place, indicator_number};
 use super::{Bits, data_capacity_bits};
 use crate::optimize::{Segment, optimize_uncounted, segments_from};
+use arrayvec::ArrayVec;
 use qrcode_base::symbols::LONGEST_DATA;
 use qrcode_base::types::{EcLevel, QrError, QrResult, Version};
 use std::alloc::Global;
@@ -163,7 +165,23 @@ pub fn find_min_version(length: usize, level: EcLevel) -> Version
     Version::Normal(40)
 }
 
-/// The bits of the data behind a header or none, in the smallest Normal version up to a limit, told by its number.
+/// The candidate versions up to a limit, by their numbers: the last version of each class.
+fn candidates(limit: usize) -> ArrayVec<usize, 3>
+    requires { 1 ≤ limit }
+    ensures { AreCandidates 0 result.items limit }
+{
+    let mut candidates = ArrayVec::new();
+    if limit > 9 {
+        candidates.push(9);
+    }
+    if limit > 26 {
+        candidates.push(26);
+    }
+    candidates.push(limit);
+    candidates
+}
+
+/// The bits of the data after a header or none, in the smallest Normal version up to a limit, told by its number.
 fn encode_up_to(
     alloc: Global,
     header: &Option<SequenceHeader>,
@@ -183,22 +201,13 @@ fn encode_up_to(
     }
     let segments = segments_from(alloc, bytes, 0)?;
     let front = 20 * usize::from(header.is_some());
-    let mut before = 0;
-    while before < limit {
-        let class_end = if before < 9 {
-            9
-        } else if before < 26 {
-            26
-        } else {
-            40
-        };
-        let last = limit.min(class_end);
-        let version = Version::Normal(last as i16);
+    let candidates = candidates(limit);
+    for last in candidates.as_slice() {
+        let version = Version::Normal(*last as i16);
         if let Some((plan, size)) = chosen_plan(alloc, front, bytes, &segments, version, level)? {
             let smallest = find_min_version(size, level);
             return encode_plan(alloc, header, bytes, smallest, level, &plan);
         }
-        before = last;
     }
     Err(QrError::DataTooLong)
 }

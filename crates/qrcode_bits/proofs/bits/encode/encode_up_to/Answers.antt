@@ -1,7 +1,9 @@
--- The first class whose last version holds the chosen plan decides.
-use Rattle.qrcode_bits.proofs.{Prelude.length, Prelude.arith, Prelude.header_bits, Prelude.IsClass, Pairs.bytes_valid, Reading.front-is, Lengths.long_message}
+-- The first candidate that holds the chosen plan decides.
+use Rattle.qrcode_bits.proofs.{Prelude.ℕ, Prelude.length, Prelude.get_or, Prelude.arith, Prelude.header_bits, Pairs.bytes_valid, Reading.front-is}
+use Rattle.qrcode_bits.proofs.{Lengths.long_message}
 use Rattle.std.proofs.lemmas.Result.{IfOk-weaker}
-use Rattle.qrcode_bits.proofs.Classes.{class_fits_not, class_fits, class_encoding, normal_is, front_not}
+use Rattle.qrcode_bits.specs.Plans.{AreCandidates}
+use Rattle.qrcode_bits.proofs.Classes.{class_fits_not, class_fits, class_encoding, normal_is, front_not, candidates_here, candidates_end}
 use Rattle.qrcode_bits.proofs.bits.encode.encode_up_to.Goals as goal
 
 pub returns-then-bytes-gt-LONGEST_DATA-clause-err : goal.returns-then-bytes-gt-LONGEST_DATA-clause-err
@@ -11,27 +13,40 @@ returns-then-bytes-gt-LONGEST_DATA-clause-err c =
 
 pub encode_plan-requires-clause-fits : goal.encode_plan-requires-clause-fits
 encode_plan-requires-clause-fits c =
+    let i = c.loop-last.invariant in
+    let here = candidates_here i.0 c.args.limit c.as_slice-last-items.result.now c.loop-last.last-index c.loop-last-test.true i.1 in
+    let last : ℕ = get_or c.as_slice-last-items.result.now c.loop-last.last-index 0 in
     let plan = rw c.in-Some.is at c.in_ok-plan.ensures in
-    rw c.deref-in-Some.ensures.value (class_fits _ _ _ c.min-last.result _ _ _ _ _
+    rw c.deref-in-Some.ensures.value (class_fits _ _ _ last _ _ _ _ _
     (front-is _ c.is_some.result c.from-front.result c.is_some.ensures c.from-front.ensures)
-    (normal_is c.min-last.result (omega (arith, c.min-last.ensures))) plan.chosen plan.fits plan.bits c.find_min_version-smallest.ensures)
+    (normal_is last (omega (arith, here.2, c.requires.to_forty))) plan.chosen plan.fits plan.bits c.find_min_version-smallest.ensures)
 
 pub returns-in-Some-clause-ok : goal.returns-in-Some-clause-ok
 returns-in-Some-clause-ok c =
-    let class : IsClass c.loop-before.before c.min-last.result = grind arith in
+    let i = c.loop-last.invariant in
+    let here = candidates_here i.0 c.args.limit c.as_slice-last-items.result.now c.loop-last.last-index c.loop-last-test.true i.1 in
+    let last : ℕ = get_or c.as_slice-last-items.result.now c.loop-last.last-index 0 in
     let plan = rw c.in-Some.is at c.in_ok-plan.ensures in
-    IfOk-weaker c.encode_plan.result _ _ (class_encoding _ _ _ c.min-last.result _ _ _ _ _
+    IfOk-weaker c.encode_plan.result _ _ (class_encoding _ _ _ last _ _ _ _ _
     (front-is _ c.is_some.result c.from-front.result c.is_some.ensures c.from-front.ensures)
-    (normal_is c.min-last.result (omega (arith, c.min-last.ensures))) plan.chosen plan.fits plan.bits c.find_min_version-smallest.ensures
-    c.loop-before.before c.args.limit class (omega (arith, c.min-last.ensures)) c.loop-before.invariant)
+    (normal_is last (omega (arith, here.2, c.requires.to_forty))) plan.chosen plan.fits plan.bits c.find_min_version-smallest.ensures
+    i.0 c.args.limit here.0 here.2 i.2)
     (rw c.deref-in-Some.ensures.value at c.encode_plan.ensures.ok)
 
-pub loop-before-preserved : goal.loop-before-preserved
-loop-before-preserved c =
-    let class : IsClass c.loop-before.before c.min-last.result = grind arith in
-    class_fits_not _ _ _ c.loop-before.before c.min-last.result (omega (arith, c.min-last.ensures, c.requires.to_forty)) class c.loop-before.invariant
-    (front_not _ _ c.min-last.result _ _ _ (front-is _ c.is_some.result c.from-front.result c.is_some.ensures c.from-front.ensures)
-    (normal_is c.min-last.result (omega (arith, c.min-last.ensures))) (rw c.in_default.is at c.in_ok-plan.ensures.none))
+pub loop-last-preserved : goal.loop-last-preserved
+loop-last-preserved c =
+    let i = c.loop-last.invariant in
+    let here = candidates_here i.0 c.args.limit c.as_slice-last-items.result.now c.loop-last.last-index c.loop-last-test.true i.1 in
+    let last : ℕ = get_or c.as_slice-last-items.result.now c.loop-last.last-index 0 in (
+      last,
+      here.3,
+      class_fits_not _ _ _ i.0 last (omega (arith, here.2, c.requires.to_forty)) here.0 i.2
+          (front_not _ _ last _ _ _ (front-is _ c.is_some.result c.from-front.result c.is_some.ensures c.from-front.ensures)
+          (normal_is last (omega (arith, here.2, c.requires.to_forty))) (rw c.in_default.is at c.in_ok-plan.ensures.none)),
+    )
 
 pub returns-clause-err : goal.returns-clause-err
-returns-clause-err c = λ number few. c.loop-before.invariant number (omega (arith, c.loop-before-test.false))
+returns-clause-err c =
+    let i = c.loop-last.invariant in
+    let end = candidates_end i.0 c.args.limit c.as_slice-last-items.result.now c.loop-last.last-index (omega (arith, c.loop-last-test.false)) i.1 in
+    λ number few. i.2 number (omega arith)

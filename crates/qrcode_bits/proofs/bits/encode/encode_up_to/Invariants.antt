@@ -1,9 +1,7 @@
--- No plan fits a version up to the last one that was tried.
-use Rattle.qrcode_bits.proofs.Prelude.{◌-◌, length, header_bits, FitsNone, normal}
+-- No plan fits a version before the candidates that are left.
+use Rattle.qrcode_bits.proofs.Prelude.{length, drop, header_bits}
+use Rattle.qrcode_bits.proofs.Classes.{IsSearched}
 use Rattle.qrcode_bits.proofs.bits.encode.encode_up_to.Given as goal
 
-abbrev pub invariant-loop-before : goal.invariant-loop-before
-invariant-loop-before l = FitsNone normal (length (header_bits l.header)) l.bytes l.level l.before
-
-abbrev pub decreases-loop-before : goal.decreases-loop-before
-decreases-loop-before l = l.limit - l.before
+abbrev pub invariant-loop-last : goal.invariant-loop-last
+invariant-loop-last l = IsSearched (length (header_bits l.header)) l.bytes l.level l.limit (drop l.last-index l.last-items)
