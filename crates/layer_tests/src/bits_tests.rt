@@ -1,5 +1,6 @@
 //! Worked rows of pushes.
 
+mod case_tests;
 mod encoding_tests;
 mod micro_tests;
 mod order_tests;
@@ -69,7 +70,7 @@ impl EncodingMode for Stubborn {
 
 impl Push {
     /// Does the push.
-    fn apply(self, bits: &mut Bits) -> QrResult<()> {
+    pub fn apply(self, bits: &mut Bits) -> QrResult<()> {
         match self {
             Push::Number(width, number) => bits.push_number_checked(width, number),
             Push::Eci(designator) => bits.push_eci_designator(designator),
@@ -118,12 +119,12 @@ fn started(alloc: Global, version: Version) -> Bits {
 }
 
 /// Whether a set has these modes and no other.
-fn has_modes(set: EncodingModes, modes: &[Mode]) -> bool {
+pub fn has_modes(set: EncodingModes, modes: &[Mode]) -> bool {
     set.len() == modes.len() && modes.iter().all(|mode| set.contains(*mode))
 }
 
 /// The stream after some pushes, which succeed.
-fn pushed(alloc: Global, version: Version, pushes: &[Push]) -> QrResult<Bits> {
+pub fn pushed(alloc: Global, version: Version, pushes: &[Push]) -> QrResult<Bits> {
     let mut bits = started(alloc, version);
     for push in pushes {
         push.apply(&mut bits)?;

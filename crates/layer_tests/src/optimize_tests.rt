@@ -194,7 +194,7 @@ fn linear_costs(rt: HostRuntime) {
 }
 
 /// Bytes, and their segments.
-static PARSED: [(&[u8], &[Part]); 3] = [
+static PARSED: [(&[u8], &[Part]); 6] = [
     (
         &[0x82, 0xa0, 0x81, 0x41, 0x41, 0xb1, 0x81, 0xf0],
         &[
@@ -209,6 +209,12 @@ static PARSED: [(&[u8], &[Part]); 3] = [
         &[(Mode::Byte, 0, 1), (Mode::Kanji, 1, 3)],
     ),
     (&[0xeb, 0xc0], &[(Mode::Byte, 0, 1), (Mode::Byte, 1, 2)]),
+    (&[0x81, 0x30], &[(Mode::Byte, 0, 1), (Mode::Numeric, 1, 2)]),
+    (&[0x81, 0x7f], &[(Mode::Byte, 0, 1), (Mode::Byte, 1, 2)]),
+    (
+        &[0x81, 0x40, 0x81],
+        &[(Mode::Kanji, 0, 2), (Mode::Byte, 2, 3)],
+    ),
 ];
 
 /// Whether the parser cuts bytes into these segments.

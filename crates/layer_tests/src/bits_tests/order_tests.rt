@@ -189,7 +189,13 @@ fn headers(rt: HostRuntime) -> QrResult<()> {
     all_hold(&rt, rt.alloc(), &HEADERS)
 }
 
-static REFUSED_HEADERS: [Refused; 7] = [
+static REFUSED_HEADERS: [Refused; 8] = [
+    (
+        M4,
+        &[],
+        Push::Header(1, 3, 0x5a),
+        QrError::UnsupportedCharacterSet,
+    ),
     (
         ONE,
         &[],
