@@ -1,5 +1,8 @@
-//! Symbols through the library: sizes by the standard's table of capacities, grids by the original crate's answers.
+//! Symbols through the library: sizes by the standard's table of capacities, grids by the original crate's.
+use answers::Answer;
 use sicklespan::{Error, Level, Symbol, Version};
+
+mod answers;
 
 const LEVELS: [Level; 4] = [Level::L, Level::M, Level::Q, Level::H];
 
@@ -70,7 +73,7 @@ fn draws_all_micro_versions_and_levels() {
     assert_eq!(Symbol::micro(b"12345", Level::L).unwrap().mask, 2);
 }
 
-/// The inputs of the answers that stand in crates/qrcode_tests, by kind and length.
+/// The inputs of the rows in `answers`, by kind and length.
 fn input(kind: usize, count: usize) -> Vec<u8> {
     let signs = b"0123456789ABCDEFGHIJKLMNOPQRSTUVWXYZ $%*+-./:";
     (0..count)
@@ -95,44 +98,24 @@ fn input(kind: usize, count: usize) -> Vec<u8> {
         .collect()
 }
 
-/// The answers of the original crate: kind and length of the input, level, whether Micro, how many modules (1 for data that are
-/// too long, 2 for a level that no Micro version has), payload bits, hash of the modules.
-fn answers() -> Vec<[u64; 7]> {
-    let text = include_str!("../../../crates/qrcode_tests/src/symbol_tests.rt");
-    let rows = text.split("const ANSWERS").nth(1).unwrap().split("];").next().unwrap().lines().skip(1);
-    rows.map(|row| {
-        let mut words = row.trim().trim_start_matches('(').trim_end_matches("),").split(", ").map(|word| match word {
-            "true" => 1,
-            "false" => 0,
-            _ => match word.strip_prefix("0x") {
-                Some(digits) => u64::from_str_radix(digits, 16).unwrap(),
-                None => word.parse().unwrap(),
-            },
-        });
-        std::array::from_fn(|_| words.next().unwrap())
-    })
-    .collect()
-}
-
 /// FNV-1a, a byte for each module.
-fn hash(modules: &[bool]) -> u64 {
-    modules.iter().fold(0x811c_9dc5u32, |sum, dark| (sum ^ u32::from(*dark)).wrapping_mul(0x0100_0193)).into()
+fn hash(modules: &[bool]) -> u32 {
+    modules.iter().fold(0x811c_9dc5, |sum, dark| (sum ^ u32::from(*dark)).wrapping_mul(0x0100_0193))
 }
 
 #[test]
 fn answers_as_the_original() {
-    let answers = answers();
-    assert_eq!(answers.len(), 100);
-    for [kind, count, level, micro, modules, _, sum] in answers {
-        let (bytes, level) = (input(kind as usize, count as usize), LEVELS[level as usize]);
-        let answer = if micro == 1 { Symbol::micro(&bytes, level) } else { Symbol::new(&bytes, level) };
-        let got = match answer {
-            Ok(symbol) => (symbol.modules.len() as u64, hash(&symbol.modules)),
+    for answer in answers::answers() {
+        let (bytes, level) = (input(answer.kind, answer.count), LEVELS[answer.level]);
+        let drawn = if answer.micro { Symbol::micro(&bytes, level) } else { Symbol::new(&bytes, level) };
+        let got = match drawn {
+            Ok(symbol) => (symbol.modules.len(), hash(&symbol.modules)),
             Err(Error::DataTooLong) => (1, 0),
             Err(Error::InvalidLevel) => (2, 0),
             Err(error) => panic!("{error}"),
         };
-        assert_eq!(got, (modules, sum), "kind {kind}, {count} bytes, {level:?}, {micro}");
+        let Answer { kind, count, micro, .. } = answer;
+        assert_eq!(got, (answer.modules, answer.hash), "kind {kind}, {count} bytes, {level:?}, {micro}");
     }
 }
 
