@@ -1,3 +1,4 @@
+// SPDX-License-Identifier: MIT OR Apache-2.0
 // Stands before malloc, realloc and free (by LD_PRELOAD), for tools/refuse-growth.
 //
 // REFUSED=N lets the Nth allocation of a run fail, REFUSED_FROM=N each one from the Nth on. At the

@@ -1,3 +1,4 @@
+/* SPDX-License-Identifier: MIT OR Apache-2.0 */
 /* Prints the symbol of a word at level L, `#` dark and `.` light:  example WORD */
 #include "sicklespan.h"
 

@@ -1,3 +1,4 @@
+/* SPDX-License-Identifier: MIT OR Apache-2.0 */
 /*
  * The border: what C can pass and a slice of Rattle cannot be (null, too long, overlapping) is
  * refused here. All else is done by the proved functions of crates/qrcode_c, which it calls.

@@ -1,3 +1,4 @@
+/* SPDX-License-Identifier: MIT OR Apache-2.0 */
 /*
  * Sicklespan: QR and Micro QR symbols by a library that is proved (docs/BINDINGS.md).
  *

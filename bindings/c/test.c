@@ -1,3 +1,4 @@
+/* SPDX-License-Identifier: MIT OR Apache-2.0 */
 /*
  * Calls with wrong arguments, buffers that lie beside and over each other, buffers of every size
  * round a symbol's, and allocations that fail one after the other: linked with

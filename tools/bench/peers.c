@@ -1,3 +1,4 @@
+// SPDX-License-Identifier: MIT OR Apache-2.0
 // The encoders beside which this workspace is measured, each as one call: the width of the symbol at level L, or 0.
 #include <stdbool.h>
 #include <stddef.h>
