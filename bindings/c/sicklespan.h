@@ -96,7 +96,7 @@ int32_t sicklespan_part_symbol(const uint8_t *message, size_t length, const size
 /* SICKLESPAN_GREATEST_SIZE, for callers that do not read this file. */
 size_t sicklespan_greatest_size(void);
 
-/* The number of the version with so many modules a side: 1 to 40, or 1 to 4 for the widths 11 to
+/* The number of the version with this many modules a side: 1 to 40, or 1 to 4 for the widths 11 to
  * 17; else 0. */
 int32_t sicklespan_version_of_width(size_t width);
 

@@ -5,8 +5,8 @@ use crate::{
 };
 use std::alloc::Global;
 
-/// One byte more than version 40 holds at level L in Byte mode (ISO/IEC 18004, "Data capacity for all versions"), and on
-/// to the most digits that any version holds.
+/// One byte more than version 40 holds at level L in Byte mode (ISO/IEC 18004, "Data capacity for
+/// all versions"), and on to the most digits that any version holds.
 static MANY: [u8; 7089] = [b'a'; 7089];
 
 const BLANK: Shape = Shape {
@@ -104,7 +104,8 @@ fn refuses_what_is_too_long(rt: HostRuntime) {
     assert_eq!(rt; refused(rt.alloc(), &MANY[..2953], false), Some(8));
 }
 
-/// The status of `qrcode_c_part_symbol` for two parts, of which the first has some bytes and the second none.
+/// The status of `qrcode_c_part_symbol` for two parts, of which the first has some bytes and the
+/// second none.
 fn refused_part(alloc: Global, message: &[u8], max_version: i32) -> Option<i32> {
     let (mut modules, mut shape) = ([7; 122], BLANK);
     let cuts = [message.len()];
@@ -127,7 +128,8 @@ fn refused_part(alloc: Global, message: &[u8], max_version: i32) -> Option<i32> 
 
 #[test]
 fn refuses_a_part_that_is_too_long(rt: HostRuntime) {
-    // The header takes 20 bits: version 40 then holds 2951 bytes at level L, and version 1 holds 15.
+    // The header takes 20 bits: version 40 then holds 2951 bytes at level L, and version 1 holds
+    // 15.
     for length in [2952, 2954, 5000, 7089] {
         if let Some(bytes) = MANY.get(..length) {
             assert_eq!(rt; refused_part(rt.alloc(), bytes, 40), Some(1));

@@ -1,5 +1,5 @@
-//! A hundred symbols of the original crate: `qrcode-core` 2.2.0, built as it is, printed them in a program that links it.
-//! The tests of `crates/qrcode_tests` have the same rows.
+//! A hundred symbols of the original crate: `qrcode-core` 2.2.0, built as it is, printed them in a
+//! program that links it. The tests of `crates/qrcode_tests` have the same rows.
 
 /// What the original crate draws of an input.
 pub struct Answer {
@@ -11,13 +11,15 @@ pub struct Answer {
     pub level: usize,
     /// Whether a Micro symbol is asked for.
     pub micro: bool,
-    /// How many modules the symbol has; 1 where the data are too long, 2 where no Micro version has the level.
+    /// How many modules the symbol has; 1 where the data are too long, 2 where no Micro version has
+    /// the level.
     pub modules: usize,
     /// The FNV-1a hash of the modules, a byte for each; 0 where there is no symbol.
     pub hash: u32,
 }
 
-/// A row: kind, length, level, whether Micro, modules, payload bits (which the C library does not return), hash.
+/// A row: kind, length, level, whether Micro, modules, payload bits (which the C library does not
+/// return), hash.
 type Row = (usize, usize, usize, bool, usize, usize, u32);
 
 /// The hundred symbols.
