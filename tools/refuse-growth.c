@@ -1,8 +1,9 @@
+// SPDX-License-Identifier: MIT OR Apache-2.0
 // Stands before malloc, realloc and free (by LD_PRELOAD), for tools/refuse-growth.
 //
-// REFUSED=N refuses the Nth growth of a run, REFUSED_FROM=N each one from the Nth on. At the end it writes a line to the file
-// COUNTS: how many growths were asked for, how many of these were refused, how many blocks are still held, and how many were held
-// at once at most.
+// REFUSED=N lets the Nth allocation of a run fail, REFUSED_FROM=N each one from the Nth on. At the
+// end it writes a line to the file COUNTS: how many allocations there were, how many of these
+// failed, how many blocks are still held, and how many were held at once at most.
 #include <errno.h>
 #include <fcntl.h>
 #include <stdio.h>

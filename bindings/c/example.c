@@ -1,3 +1,4 @@
+/* SPDX-License-Identifier: MIT OR Apache-2.0 */
 /* Prints the symbol of a word at level L, `#` dark and `.` light:  example WORD */
 #include "sicklespan.h"
 
@@ -11,8 +12,8 @@ int main(int count, char **words) {
     }
     static uint8_t modules[SICKLESPAN_GREATEST_SIZE];
     sicklespan_shape shape;
-    int32_t status = sicklespan_symbol((const uint8_t *)words[1], strlen(words[1]), SICKLESPAN_LEVEL_L, modules,
-                                       sizeof modules, &shape);
+    int32_t status = sicklespan_symbol((const uint8_t *)words[1], strlen(words[1]),
+                                       SICKLESPAN_LEVEL_L, modules, sizeof modules, &shape);
     if (status != SICKLESPAN_DONE) {
         fprintf(stderr, "example: %s\n", sicklespan_status_text(status));
         return 1;

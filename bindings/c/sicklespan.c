@@ -1,15 +1,17 @@
+/* SPDX-License-Identifier: MIT OR Apache-2.0 */
 /*
- * The border: what C can pass and a slice of Rattle cannot be (null, too long, overlapping) is answered here. All else is
- * done by the proved functions of crates/qrcode_c, to which the calls go on.
+ * The border: what C can pass and a slice of Rattle cannot be (null, too long, overlapping) is
+ * refused here. All else is done by the proved functions of crates/qrcode_c, which it calls.
  */
 #include "sicklespan.h"
 
-int32_t qrcode_c_symbol(const uint8_t *bytes, size_t length, int32_t level, uint8_t *modules, size_t room,
-                        sicklespan_shape *shape);
-int32_t qrcode_c_micro_symbol(const uint8_t *bytes, size_t length, int32_t level, uint8_t *modules, size_t room,
-                              sicklespan_shape *shape);
-int32_t qrcode_c_part_symbol(const uint8_t *message, size_t length, const size_t *cuts, size_t cut_count, int32_t level,
-                             int32_t max_version, size_t index, uint8_t *modules, size_t room, sicklespan_shape *shape);
+int32_t qrcode_c_symbol(const uint8_t *bytes, size_t length, int32_t level, uint8_t *modules,
+                        size_t room, sicklespan_shape *shape);
+int32_t qrcode_c_micro_symbol(const uint8_t *bytes, size_t length, int32_t level, uint8_t *modules,
+                              size_t room, sicklespan_shape *shape);
+int32_t qrcode_c_part_symbol(const uint8_t *message, size_t length, const size_t *cuts,
+                             size_t cut_count, int32_t level, int32_t max_version, size_t index,
+                             uint8_t *modules, size_t room, sicklespan_shape *shape);
 size_t qrcode_c_greatest_size(void);
 int32_t qrcode_c_version_of_width(size_t width);
 
@@ -22,55 +24,60 @@ struct span {
 /* What stands for a null pointer: nothing is read or written there. */
 static size_t nowhere;
 
-static bool is_span(struct span it) { return it.size <= PTRDIFF_MAX && (it.at != NULL || it.size == 0); }
+static bool is_span(struct span it) {
+    return it.size <= PTRDIFF_MAX && (it.at != NULL || it.size == 0);
+}
 
 static bool overlap(struct span a, struct span b) {
     uintptr_t x = (uintptr_t)a.at, y = (uintptr_t)b.at;
     return a.size > 0 && b.size > 0 && (x <= y ? y - x < a.size : x - y < b.size);
 }
 
-/* Whether these are good pointers, and nothing else lies where the modules and the shape are written. */
+/* Whether the pointers are good, and what is written, modules and shape, overlaps with nothing. */
 static bool are_good(struct span bytes, struct span cuts, struct span modules, struct span shape) {
-    return is_span(bytes) && is_span(cuts) && is_span(modules) && shape.at != NULL && !overlap(modules, bytes) &&
-           !overlap(modules, cuts) && !overlap(modules, shape) && !overlap(shape, bytes) && !overlap(shape, cuts);
+    return is_span(bytes) && is_span(cuts) && is_span(modules) && shape.at != NULL &&
+           !overlap(modules, bytes) && !overlap(modules, cuts) && !overlap(modules, shape) &&
+           !overlap(shape, bytes) && !overlap(shape, cuts);
 }
 
 static size_t least(size_t a, size_t b) { return a < b ? a : b; }
 
 typedef int32_t draw(const uint8_t *, size_t, int32_t, uint8_t *, size_t, sicklespan_shape *);
 
-static int32_t drawn(draw *by, const uint8_t *bytes, size_t length, int32_t level, uint8_t *modules, size_t room,
-                     sicklespan_shape *shape) {
+static int32_t drawn(draw *by, const uint8_t *bytes, size_t length, int32_t level, uint8_t *modules,
+                     size_t room, sicklespan_shape *shape) {
     room = least(room, SICKLESPAN_GREATEST_SIZE);
-    struct span none = {NULL, 0}, input = {bytes, length}, output = {modules, room}, told = {shape, sizeof *shape};
-    if (!are_good(input, none, output, told)) return SICKLESPAN_INVALID_POINTER;
+    struct span none = {NULL, 0}, input = {bytes, length};
+    struct span output = {modules, room}, about = {shape, sizeof *shape};
+    if (!are_good(input, none, output, about)) return SICKLESPAN_INVALID_POINTER;
     if (bytes == NULL) bytes = (const uint8_t *)&nowhere;
     if (modules == NULL) modules = (uint8_t *)&nowhere;
     return by(bytes, length, level, modules, room, shape);
 }
 
-int32_t sicklespan_symbol(const uint8_t *bytes, size_t length, int32_t level, uint8_t *modules, size_t room,
-                          sicklespan_shape *shape) {
+int32_t sicklespan_symbol(const uint8_t *bytes, size_t length, int32_t level, uint8_t *modules,
+                          size_t room, sicklespan_shape *shape) {
     return drawn(qrcode_c_symbol, bytes, length, level, modules, room, shape);
 }
 
-int32_t sicklespan_micro_symbol(const uint8_t *bytes, size_t length, int32_t level, uint8_t *modules, size_t room,
-                                sicklespan_shape *shape) {
+int32_t sicklespan_micro_symbol(const uint8_t *bytes, size_t length, int32_t level,
+                                uint8_t *modules, size_t room, sicklespan_shape *shape) {
     return drawn(qrcode_c_micro_symbol, bytes, length, level, modules, room, shape);
 }
 
-int32_t sicklespan_part_symbol(const uint8_t *message, size_t length, const size_t *cuts, size_t cut_count,
-                               int32_t level, int32_t max_version, size_t index, uint8_t *modules, size_t room,
-                               sicklespan_shape *shape) {
+int32_t sicklespan_part_symbol(const uint8_t *message, size_t length, const size_t *cuts,
+                               size_t cut_count, int32_t level, int32_t max_version, size_t index,
+                               uint8_t *modules, size_t room, sicklespan_shape *shape) {
     room = least(room, SICKLESPAN_GREATEST_SIZE);
     if (cut_count > PTRDIFF_MAX / sizeof *cuts) return SICKLESPAN_INVALID_POINTER;
     struct span input = {message, length}, at = {cuts, cut_count * sizeof *cuts};
-    struct span output = {modules, room}, told = {shape, sizeof *shape};
-    if (!are_good(input, at, output, told)) return SICKLESPAN_INVALID_POINTER;
+    struct span output = {modules, room}, about = {shape, sizeof *shape};
+    if (!are_good(input, at, output, about)) return SICKLESPAN_INVALID_POINTER;
     if (message == NULL) message = (const uint8_t *)&nowhere;
     if (cuts == NULL) cuts = &nowhere;
     if (modules == NULL) modules = (uint8_t *)&nowhere;
-    return qrcode_c_part_symbol(message, length, cuts, cut_count, level, max_version, index, modules, room, shape);
+    return qrcode_c_part_symbol(message, length, cuts, cut_count, level, max_version, index,
+                                modules, room, shape);
 }
 
 size_t sicklespan_greatest_size(void) { return qrcode_c_greatest_size(); }

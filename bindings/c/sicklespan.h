@@ -1,10 +1,12 @@
+/* SPDX-License-Identifier: MIT OR Apache-2.0 */
 /*
  * Sicklespan: QR and Micro QR symbols by a library that is proved (docs/BINDINGS.md).
  *
- *     cc program.c -L bindings/out -l sicklespan
+ *     cc program.c -I bindings/c -L bindings/out -l:libsicklespan.a -o program
  *
- * Each function may be called from several threads at once, on buffers of their own. It keeps nothing: all memory that
- * it takes by malloc is freed when it returns, and the caller owns every buffer that it passes.
+ * Each function may be called from several threads at once, on buffers of their own. It keeps
+ * nothing: all memory that it takes by malloc is freed when it returns, and the caller owns every
+ * buffer that it passes.
  */
 #ifndef SICKLESPAN_H
 #define SICKLESPAN_H
@@ -25,12 +27,12 @@ enum sicklespan_level {
     SICKLESPAN_LEVEL_H = 3
 };
 
-/* What a call answers. */
+/* What a call returns. */
 enum sicklespan_status {
     SICKLESPAN_DONE = 0,
-    SICKLESPAN_DATA_TOO_LONG = 1,       /* the bytes fit no symbol that was asked for */
-    SICKLESPAN_OUT_OF_MEMORY = 2,       /* malloc found no memory */
-    SICKLESPAN_INVALID_LEVEL = 3,       /* the level is not 0 to 3, or it is 3 and the symbol is Micro */
+    SICKLESPAN_DATA_TOO_LONG = 1, /* the bytes fit no symbol that was asked for */
+    SICKLESPAN_OUT_OF_MEMORY = 2, /* malloc found no memory */
+    SICKLESPAN_INVALID_LEVEL = 3, /* the level is not 0 to 3, or it is 3 and the symbol is Micro */
     SICKLESPAN_INVALID_MAX_VERSION = 4, /* the greatest version is not 1 to 40 */
     SICKLESPAN_INVALID_PART_COUNT = 5,  /* the parts are not 2 to 16 */
     SICKLESPAN_INVALID_CUTS = 6,        /* a cut is below the one before it, or above the length */
@@ -47,55 +49,59 @@ typedef struct sicklespan_shape {
     bool micro;
 } sicklespan_shape;
 
-/* So many modules has the greatest symbol: a buffer of as many bytes is never short. */
+/* The greatest symbol has this many modules: a buffer of as many bytes is never too short. */
 #define SICKLESPAN_GREATEST_SIZE (177 * 177)
 
 /*
- * The functions below write the modules of a symbol to `modules`, which has `room` bytes: width * width bytes, row by
- * row from the upper left corner, 1 for a dark module and 0 for a light one, with no quiet zone around (it is 4 modules
- * wide, and 2 at a Micro symbol). They write the shape, and answer SICKLESPAN_DONE. With any other answer they write
- * nothing. What `modules` has behind the symbol stays in either case.
+ * The functions below write the modules of a symbol to `modules`, which has `room` bytes: a byte
+ * for each of width * width modules, row by row from the upper left corner, 1 for a dark module and
+ * 0 for a light one, without the quiet zone (4 modules wide, 2 around a Micro symbol). They write
+ * the shape, and return SICKLESPAN_DONE. Where they return anything else they write nothing. The
+ * bytes of `modules` behind the symbol keep their values in either case.
  *
- * A pointer may be null where its length is 0; else, and where `shape` is null, or a length is above PTRDIFF_MAX, or
- * `shape` or the first SICKLESPAN_GREATEST_SIZE bytes of `modules` overlap with something else that is passed, the
- * answer is SICKLESPAN_INVALID_POINTER, before any other. The other refusals come in the order that is given.
+ * A pointer may be null where its length is 0. They return SICKLESPAN_INVALID_POINTER, before any
+ * other status, where another pointer or `shape` is null, where a length is above PTRDIFF_MAX, and
+ * where `shape` or the first SICKLESPAN_GREATEST_SIZE bytes of `modules` overlap with something
+ * else that is passed. The other statuses are tested in the order in which they are listed.
  */
 
 /*
- * The best symbol of some bytes at a level: in the smallest of the versions 1 to 40 into which they fit, in the fewest
- * bits, under the best mask. The bytes may be any, also none.
+ * The best symbol of some bytes at a level: in the smallest of the versions 1 to 40 into which they
+ * fit, in the fewest bits, under the best mask. The bytes may be any, also none.
  *
- * SICKLESPAN_INVALID_LEVEL, SICKLESPAN_DATA_TOO_LONG (exactly where they fit no version at the level),
- * SICKLESPAN_OUT_OF_MEMORY, SICKLESPAN_SHORT_BUFFER.
+ * SICKLESPAN_INVALID_LEVEL, SICKLESPAN_DATA_TOO_LONG (exactly where they fit no version at the
+ * level), SICKLESPAN_OUT_OF_MEMORY, SICKLESPAN_SHORT_BUFFER.
  */
-int32_t sicklespan_symbol(const uint8_t *bytes, size_t length, int32_t level, uint8_t *modules, size_t room,
-                          sicklespan_shape *shape);
+int32_t sicklespan_symbol(const uint8_t *bytes, size_t length, int32_t level, uint8_t *modules,
+                          size_t room, sicklespan_shape *shape);
 
-/* The same in the Micro versions M1 to M4, none of which has level H: it is SICKLESPAN_INVALID_LEVEL. */
-int32_t sicklespan_micro_symbol(const uint8_t *bytes, size_t length, int32_t level, uint8_t *modules, size_t room,
-                                sicklespan_shape *shape);
+/* The same in M1 to M4. None of them has level H, which is SICKLESPAN_INVALID_LEVEL. */
+int32_t sicklespan_micro_symbol(const uint8_t *bytes, size_t length, int32_t level,
+                                uint8_t *modules, size_t room, sicklespan_shape *shape);
 
 /*
- * One of the 2 to 16 symbols that carry a message together (Structured Append), the one at `index`, counted from 0.
- * Part i of the message ends at cuts[i] and the last one at its end, so there is one cut less than there are parts; they
- * may be empty. Each symbol is the best for its part in the versions 1 to `max_version`, where its header takes 20 bits.
- * Each call draws all symbols.
+ * One of the 2 to 16 symbols that carry a message together (Structured Append), the one at `index`,
+ * counted from 0. Part i of the message ends at cuts[i] and the last one at its end, so there is
+ * one cut less than there are parts; they may be empty. Each symbol is the best for its part in the
+ * versions 1 to `max_version`, where its header takes 20 bits. Each call draws all symbols.
  *
- * SICKLESPAN_INVALID_LEVEL, SICKLESPAN_INVALID_CUTS, SICKLESPAN_INVALID_INDEX, SICKLESPAN_INVALID_MAX_VERSION,
- * SICKLESPAN_INVALID_PART_COUNT, SICKLESPAN_DATA_TOO_LONG (exactly where some part fits none of the versions),
- * SICKLESPAN_OUT_OF_MEMORY, SICKLESPAN_SHORT_BUFFER.
+ * SICKLESPAN_INVALID_LEVEL, SICKLESPAN_INVALID_CUTS, SICKLESPAN_INVALID_INDEX,
+ * SICKLESPAN_INVALID_MAX_VERSION, SICKLESPAN_INVALID_PART_COUNT, SICKLESPAN_DATA_TOO_LONG (exactly
+ * where some part fits none of the versions), SICKLESPAN_OUT_OF_MEMORY, SICKLESPAN_SHORT_BUFFER.
  */
-int32_t sicklespan_part_symbol(const uint8_t *message, size_t length, const size_t *cuts, size_t cut_count,
-                               int32_t level, int32_t max_version, size_t index, uint8_t *modules, size_t room,
-                               sicklespan_shape *shape);
+int32_t sicklespan_part_symbol(const uint8_t *message, size_t length, const size_t *cuts,
+                               size_t cut_count, int32_t level, int32_t max_version, size_t index,
+                               uint8_t *modules, size_t room, sicklespan_shape *shape);
 
 /* SICKLESPAN_GREATEST_SIZE, for callers that do not read this file. */
 size_t sicklespan_greatest_size(void);
 
-/* The number of the version with so many modules a side: 1 to 40, or 1 to 4 for the widths 11 to 17; else 0. */
+/* The number of the version with this many modules a side: 1 to 40, or 1 to 4 for the widths 11 to
+ * 17; else 0. */
 int32_t sicklespan_version_of_width(size_t width);
 
-/* What a status says, in a few words. The text is static, and never null: other numbers are "unknown status". */
+/* What a status says, in a few words. The text is static, and never null: other numbers are
+ * "unknown status". */
 const char *sicklespan_status_text(int32_t status);
 
 #ifdef __cplusplus

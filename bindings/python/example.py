@@ -1,5 +1,8 @@
 #!/usr/bin/env python3
-"""Prints the symbol of a word at level L, `#` dark and `.` light, through the shared object:  example.py LIBRARY WORD"""
+"""Prints the symbol of a word at level L, `#` dark and `.` light, through the shared object.
+
+    example.py LIBRARY WORD
+"""
 
 import ctypes
 import sys
@@ -8,14 +11,16 @@ import sys
 class Shape(ctypes.Structure):
     """`sicklespan_shape` of bindings/c/sicklespan.h."""
 
-    _fields_ = [("width", ctypes.c_int32), ("version", ctypes.c_int32), ("mask", ctypes.c_int32), ("micro", ctypes.c_bool)]
+    _fields_ = [("width", ctypes.c_int32), ("version", ctypes.c_int32), ("mask", ctypes.c_int32),
+                ("micro", ctypes.c_bool)]
 
 
 def library(path):
     """The library, with the types of the functions that are called here."""
     it = ctypes.CDLL(path)
     it.sicklespan_symbol.argtypes = [
-        ctypes.c_char_p, ctypes.c_size_t, ctypes.c_int32, ctypes.c_char_p, ctypes.c_size_t, ctypes.POINTER(Shape)]
+        ctypes.c_char_p, ctypes.c_size_t, ctypes.c_int32, ctypes.c_char_p, ctypes.c_size_t,
+        ctypes.POINTER(Shape)]
     it.sicklespan_symbol.restype = ctypes.c_int32
     it.sicklespan_greatest_size.restype = ctypes.c_size_t
     it.sicklespan_status_text.argtypes = [ctypes.c_int32]

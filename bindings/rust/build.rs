@@ -4,8 +4,14 @@ use std::path::PathBuf;
 
 fn main() {
     println!("cargo:rerun-if-env-changed=SICKLESPAN_LIB");
-    let folder = env::var_os("SICKLESPAN_LIB")
-        .map_or_else(|| PathBuf::from(env::var_os("CARGO_MANIFEST_DIR").unwrap()).join("../out"), PathBuf::from);
+    let folder = env::var_os("SICKLESPAN_LIB").map_or_else(
+        || PathBuf::from(env::var_os("CARGO_MANIFEST_DIR").unwrap()).join("../out"),
+        PathBuf::from,
+    );
+    let archive = folder.join("libsicklespan.a");
+    if !archive.exists() {
+        println!("cargo:warning={} is not there: run bindings/build library", archive.display());
+    }
     println!("cargo:rustc-link-search=native={}", folder.display());
-    println!("cargo:rerun-if-changed={}", folder.join("libsicklespan.a").display());
+    println!("cargo:rerun-if-changed={}", archive.display());
 }

@@ -1,5 +1,5 @@
-//! Symbols of this workspace beside those of other encoders, at level L: times, one call for callgrind, and a comparison of grids
-//! with the original crate's.
+//! Symbols of this workspace beside those of other encoders, at level L: times, one call for
+//! callgrind, and a comparison of grids with the original crate's.
 //!
 //!     driver table          least times of many short rounds, in microseconds
 //!     driver growth         full symbols by their versions
@@ -21,9 +21,22 @@ struct Shape {
 }
 
 unsafe extern "C" {
-    fn sicklespan_symbol(bytes: *const u8, len: usize, level: i32, out: *mut u8, room: usize, shape: &mut Shape) -> i32;
-    fn sicklespan_micro_symbol(bytes: *const u8, len: usize, level: i32, out: *mut u8, room: usize, shape: &mut Shape)
-    -> i32;
+    fn sicklespan_symbol(
+        bytes: *const u8,
+        len: usize,
+        level: i32,
+        out: *mut u8,
+        room: usize,
+        shape: &mut Shape,
+    ) -> i32;
+    fn sicklespan_micro_symbol(
+        bytes: *const u8,
+        len: usize,
+        level: i32,
+        out: *mut u8,
+        room: usize,
+        shape: &mut Shape,
+    ) -> i32;
     fn peer_qrencode(bytes: *const u8, len: usize, kanji: bool) -> i32;
     #[cfg(zint)]
     fn peer_zint(bytes: *const u8, len: usize) -> i32;
@@ -49,14 +62,18 @@ fn here(bytes: &[u8], level: usize, micro: bool, out: &mut [u8]) -> usize {
     let mut shape = Shape::default();
     let draw = if micro { sicklespan_micro_symbol } else { sicklespan_symbol };
     let (level, room) = (level as i32, out.len());
-    let status = unsafe { draw(bytes.as_ptr(), bytes.len(), level, out.as_mut_ptr(), room, &mut shape) };
+    let status =
+        unsafe { draw(bytes.as_ptr(), bytes.len(), level, out.as_mut_ptr(), room, &mut shape) };
     if status == 0 { (shape.width * shape.width) as usize } else { 0 }
 }
 
 fn drawn(encoded: QrResult<Bits>, level: EcLevel, out: &mut [u8]) -> usize {
     let Ok(encoded) = encoded else { return 0 };
     let version = encoded.version();
-    let Ok((data, correction)) = ec::construct_codewords(&encoded.into_bytes(), version, level) else { return 0 };
+    let Ok((data, correction)) = ec::construct_codewords(&encoded.into_bytes(), version, level)
+    else {
+        return 0;
+    };
     let mut canvas = Canvas::new(version, level);
     canvas.draw_all_functional_patterns();
     canvas.draw_data(&data, &correction);
@@ -69,17 +86,21 @@ fn drawn(encoded: QrResult<Bits>, level: EcLevel, out: &mut [u8]) -> usize {
 
 fn original(bytes: &[u8], level: usize, micro: bool, out: &mut [u8]) -> usize {
     let level = LEVELS[level];
-    let encoded = if micro { bits::encode_auto_micro(bytes, level) } else { bits::encode_auto(bytes, level) };
+    let encoded =
+        if micro { bits::encode_auto_micro(bytes, level) } else { bits::encode_auto(bytes, level) };
     drawn(encoded, level, out)
 }
 
-/// The modules of an encoder's symbol at level L; of the others than ours and the original their number alone.
+/// The modules of an encoder's symbol at level L; of the others than ours and the original their
+/// number alone.
 fn asked(who: &str, input: &Input, out: &mut [u8]) -> usize {
     let bytes = &input.bytes;
     let width = match who {
         "here" => return here(bytes, 0, false, out),
         "original" => return original(bytes, 0, false, out),
-        "libqrencode" => unsafe { peer_qrencode(bytes.as_ptr(), bytes.len(), input.key == "mixed300") },
+        "libqrencode" => unsafe {
+            peer_qrencode(bytes.as_ptr(), bytes.len(), input.key == "mixed300")
+        },
         #[cfg(zint)]
         "zint" => unsafe { peer_zint(bytes.as_ptr(), bytes.len()) },
         #[cfg(qrcodegen)]
@@ -144,8 +165,8 @@ fn inputs() -> [Input; 7] {
     .map(|(key, name, bytes)| Input { key, name, bytes })
 }
 
-/// The least times of some calls, in microseconds: many short rounds, each with all calls in turn, so that what else the
-/// machine does spoils some rounds of each and not all rounds of one.
+/// The least times of some calls, in microseconds: many short rounds, each with all calls in turn,
+/// so that what else the machine does spoils some rounds of each and not all rounds of one.
 fn least_times(calls: &mut [&mut dyn FnMut() -> usize]) -> Vec<f64> {
     let mut least = vec![f64::INFINITY; calls.len()];
     let end = Instant::now() + Duration::from_secs(6);
@@ -165,20 +186,33 @@ fn least_times(calls: &mut [&mut dyn FnMut() -> usize]) -> Vec<f64> {
 }
 
 fn print_table() {
-    println!("| Input | Modules | {} | of the faster of original and libqrencode |", ENCODERS.join(" | "));
+    println!(
+        "| Input | Modules | {} | of the faster of original and libqrencode |",
+        ENCODERS.join(" | ")
+    );
     println!("|---|---{}|---|", "|---".repeat(ENCODERS.len()));
     for input in inputs() {
         let (mut ours, mut theirs) = (vec![0; MOST_MODULES], vec![0; MOST_MODULES]);
         let modules = asked("here", &input, &mut ours);
-        assert!(modules > 0 && modules == asked("original", &input, &mut theirs), "{}: sizes differ", input.key);
+        assert!(
+            modules > 0 && modules == asked("original", &input, &mut theirs),
+            "{}: sizes differ",
+            input.key
+        );
         assert!(ours == theirs, "{}: the grids differ", input.key);
         let mut outs = vec![vec![0; MOST_MODULES]; ENCODERS.len()];
         let mut calls: Vec<_> =
             ENCODERS.iter().zip(&mut outs).map(|(who, out)| || asked(who, &input, out)).collect();
-        let mut calls: Vec<&mut dyn FnMut() -> usize> = calls.iter_mut().map(|it| it as _).collect();
+        let mut calls: Vec<&mut dyn FnMut() -> usize> =
+            calls.iter_mut().map(|it| it as _).collect();
         let times = least_times(&mut calls);
         let shown: Vec<_> = times.iter().map(|it| format!("{it:.1}")).collect();
-        println!("| {} | {modules} | {} | {:.3} |", input.name, shown.join(" | "), times[0] / times[1].min(times[2]));
+        println!(
+            "| {} | {modules} | {} | {:.3} |",
+            input.name,
+            shown.join(" | "),
+            times[0] / times[1].min(times[2])
+        );
     }
 }
 
@@ -192,12 +226,16 @@ fn print_growth() {
         let modules = here(&bytes, 0, false, &mut out);
         assert!(modules == (17 + 4 * version) * (17 + 4 * version), "version {version}");
         let time = least_times(&mut [&mut || here(&bytes, 0, false, &mut out)])[0];
-        println!("| {version} | {count} | {modules} | {time:.1} | {:.1} |", 1e3 * time / modules as f64);
+        println!(
+            "| {version} | {count} | {modules} | {time:.1} | {:.1} |",
+            1e3 * time / modules as f64
+        );
     }
 }
 
-/// An input of a random kind: runs of one mode or of several, Shift JIS pairs, lone leads, zeros, random bytes. The length is
-/// short for Micro; else it is spread over the versions, with some that are just too long.
+/// An input of a random kind: runs of one mode or of several, Shift JIS pairs, lone leads, zeros,
+/// random bytes. The length is short for Micro; else it is spread over the versions, with some that
+/// are just too long.
 fn random_input(random: &mut Random, micro: bool) -> Vec<u8> {
     let most = if micro { 40 } else { [60, 400, 1500, 3000, 7200][random.below(5)] };
     let count = random.below(most + 1);
@@ -212,7 +250,9 @@ fn random_input(random: &mut Random, micro: bool) -> Vec<u8> {
         let any = random.next() as u8;
         match kind {
             0 => bytes.push(b'0' + any % 10),
-            1 => bytes.push(b"0123456789ABCDEFGHIJKLMNOPQRSTUVWXYZ $%*+-./:"[usize::from(any) % 45]),
+            1 => {
+                bytes.push(b"0123456789ABCDEFGHIJKLMNOPQRSTUVWXYZ $%*+-./:"[usize::from(any) % 45])
+            }
             2 => bytes.push(b'a' + any % 26),
             3 => bytes.extend([0x81 + any % 31, 0x40 + (any >> 2)]),
             4 => bytes.extend([0xe0 + any % 13, 0x80 + any % 125]),
@@ -235,12 +275,18 @@ fn compare(count: usize) {
         let level = number % 4;
         let bytes = random_input(&mut random, micro);
         let modules = here(&bytes, level, micro, &mut ours);
-        assert!(modules == original(&bytes, level, micro, &mut theirs), "input {number}: the sizes differ");
+        assert!(
+            modules == original(&bytes, level, micro, &mut theirs),
+            "input {number}: the sizes differ"
+        );
         assert!(ours[..modules] == theirs[..modules], "input {number}: the grids differ");
         if modules == 0 { refused += 1 } else { *symbols.entry(modules).or_default() += 1 }
     }
-    println!("{count} inputs, all equal: {refused} refused by both, {} widths, each at least {} times", symbols.len(),
-        symbols.values().min().unwrap_or(&0));
+    println!(
+        "{count} inputs, all equal: {refused} refused by both, {} widths, each at least {} times",
+        symbols.len(),
+        symbols.values().min().unwrap_or(&0)
+    );
 }
 
 fn main() {

@@ -1,4 +1,6 @@
-// The encoders beside which this workspace is measured, each as one call: the width of the symbol at level L, or 0.
+// SPDX-License-Identifier: MIT OR Apache-2.0
+// The encoders beside which this workspace is measured, each as one call: the width of the symbol
+// at level L, or 0.
 #include <stdbool.h>
 #include <stddef.h>
 #include <stdint.h>
@@ -44,10 +46,12 @@ int peer_qrcodegen(const uint8_t *bytes, size_t count) {
     text[count] = 0;
     bool done;
     if (strlen(text) == count && (qrcodegen_isNumeric(text) || qrcodegen_isAlphanumeric(text))) {
-        done = qrcodegen_encodeText(text, scratch, grid, qrcodegen_Ecc_LOW, 1, 40, qrcodegen_Mask_AUTO, false);
+        done = qrcodegen_encodeText(text, scratch, grid, qrcodegen_Ecc_LOW, 1, 40,
+                                    qrcodegen_Mask_AUTO, false);
     } else {
         memcpy(scratch, bytes, count);
-        done = qrcodegen_encodeBinary(scratch, count, grid, qrcodegen_Ecc_LOW, 1, 40, qrcodegen_Mask_AUTO, false);
+        done = qrcodegen_encodeBinary(scratch, count, grid, qrcodegen_Ecc_LOW, 1, 40,
+                                      qrcodegen_Mask_AUTO, false);
     }
     return done ? qrcodegen_getSize(grid) : 0;
 }

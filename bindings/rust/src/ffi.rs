@@ -48,14 +48,33 @@ extern "C" {
     fn sicklespan_status_text(status: i32) -> *const c_char;
 }
 
-// In each call the pointers and lengths are those of slices, which are valid, apart, and no longer than they say.
+// In each call the pointers and lengths are those of slices, which are valid, apart, and no longer
+// than they say.
 
 pub fn symbol(bytes: &[u8], level: i32, modules: &mut [u8], shape: &mut Shape) -> i32 {
-    unsafe { sicklespan_symbol(bytes.as_ptr(), bytes.len(), level, modules.as_mut_ptr(), modules.len(), shape) }
+    unsafe {
+        sicklespan_symbol(
+            bytes.as_ptr(),
+            bytes.len(),
+            level,
+            modules.as_mut_ptr(),
+            modules.len(),
+            shape,
+        )
+    }
 }
 
 pub fn micro_symbol(bytes: &[u8], level: i32, modules: &mut [u8], shape: &mut Shape) -> i32 {
-    unsafe { sicklespan_micro_symbol(bytes.as_ptr(), bytes.len(), level, modules.as_mut_ptr(), modules.len(), shape) }
+    unsafe {
+        sicklespan_micro_symbol(
+            bytes.as_ptr(),
+            bytes.len(),
+            level,
+            modules.as_mut_ptr(),
+            modules.len(),
+            shape,
+        )
+    }
 }
 
 pub fn part_symbol(

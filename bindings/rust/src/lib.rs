@@ -1,5 +1,5 @@
-//! QR and Micro QR symbols by a library that is proved: the smallest symbol that holds the bytes, in the fewest bits,
-//! under the best mask (docs/BINDINGS.md tells what of the proof holds here).
+//! QR and Micro QR symbols by a library that is proved: the smallest symbol that holds the bytes,
+//! in the fewest bits, under the best mask (docs/BINDINGS.md says what of the proof holds here).
 //!
 //! ```
 //! use sicklespan::{Level, Symbol, Version};
@@ -41,7 +41,7 @@ pub enum Version {
 }
 
 impl Version {
-    /// The version whose symbols have so many modules a side, if there is one.
+    /// The version whose symbols have this many modules a side, if there is one.
     ///
     /// ```
     /// # use sicklespan::Version;
@@ -116,12 +116,14 @@ pub struct Symbol {
     pub version: Version,
     /// The number of its mask pattern: 0 to 7, and 0 to 3 of a Micro symbol.
     pub mask: u8,
-    /// Its modules, row by row from the upper left corner, `true` for a dark one, with no quiet zone.
+    /// Its modules, row by row from the upper left corner, `true` for a dark one, with no quiet
+    /// zone.
     pub modules: Vec<bool>,
 }
 
 impl Symbol {
-    /// The best symbol of some bytes at a level, in the smallest of the versions 1 to 40 into which they fit.
+    /// The best symbol of some bytes at a level, in the smallest of the versions 1 to 40 into which
+    /// they fit.
     ///
     /// `DataTooLong` comes exactly where they fit no version at the level.
     pub fn new(bytes: &[u8], level: Level) -> Result<Symbol, Error> {
@@ -140,8 +142,9 @@ impl Symbol {
         Symbol::drawn(|modules, shape| ffi::micro_symbol(bytes, level as i32, modules, shape))
     }
 
-    /// The 2 to 16 symbols that carry a message together (Structured Append), each in a version up to the greatest. The
-    /// parts lie between the start of the message, the cuts in order, and its end.
+    /// The 2 to 16 symbols that carry a message together (Structured Append), each in a version up
+    /// to the greatest. The parts lie between the start of the message, the cuts in order, and its
+    /// end.
     ///
     /// ```
     /// # use sicklespan::{Error, Level, Symbol};
@@ -150,11 +153,24 @@ impl Symbol {
     /// assert_eq!(Symbol::sequence(b"alone", &[], Level::M, 40), Err(Error::InvalidPartCount));
     /// # Ok::<(), Error>(())
     /// ```
-    pub fn sequence(message: &[u8], cuts: &[usize], level: Level, max_version: u8) -> Result<Vec<Symbol>, Error> {
+    pub fn sequence(
+        message: &[u8],
+        cuts: &[usize],
+        level: Level,
+        max_version: u8,
+    ) -> Result<Vec<Symbol>, Error> {
         (0..=cuts.len())
             .map(|index| {
                 Symbol::drawn(|modules, shape| {
-                    ffi::part_symbol(message, cuts, level as i32, max_version.into(), index, modules, shape)
+                    ffi::part_symbol(
+                        message,
+                        cuts,
+                        level as i32,
+                        max_version.into(),
+                        index,
+                        modules,
+                        shape,
+                    )
                 })
             })
             .collect()

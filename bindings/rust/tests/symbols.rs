@@ -1,25 +1,34 @@
-//! Symbols through the library: sizes by the standard's table of capacities, grids by the original crate's answers.
+//! Symbols through the library: sizes by the standard's table of capacities, grids by those of the
+//! original crate.
+use answers::Answer;
 use sicklespan::{Error, Level, Symbol, Version};
+
+mod answers;
 
 const LEVELS: [Level; 4] = [Level::L, Level::M, Level::Q, Level::H];
 
-/// How many bytes the versions 1 to 40 hold in Byte mode (ISO/IEC 18004, "Data capacity for all versions"), by level.
+/// How many bytes the versions 1 to 40 hold in Byte mode (ISO/IEC 18004, "Data capacity for all
+/// versions"), by level.
 const BYTES: [[usize; 40]; 4] = [
     [
-        17, 32, 53, 78, 106, 134, 154, 192, 230, 271, 321, 367, 425, 458, 520, 586, 644, 718, 792, 858, 929, 1003,
-        1091, 1171, 1273, 1367, 1465, 1528, 1628, 1732, 1840, 1952, 2068, 2188, 2303, 2431, 2563, 2699, 2809, 2953,
+        17, 32, 53, 78, 106, 134, 154, 192, 230, 271, 321, 367, 425, 458, 520, 586, 644, 718, 792,
+        858, 929, 1003, 1091, 1171, 1273, 1367, 1465, 1528, 1628, 1732, 1840, 1952, 2068, 2188,
+        2303, 2431, 2563, 2699, 2809, 2953,
     ],
     [
-        14, 26, 42, 62, 84, 106, 122, 152, 180, 213, 251, 287, 331, 362, 412, 450, 504, 560, 624, 666, 711, 779, 857,
-        911, 997, 1059, 1125, 1190, 1264, 1370, 1452, 1538, 1628, 1722, 1809, 1911, 1989, 2099, 2213, 2331,
+        14, 26, 42, 62, 84, 106, 122, 152, 180, 213, 251, 287, 331, 362, 412, 450, 504, 560, 624,
+        666, 711, 779, 857, 911, 997, 1059, 1125, 1190, 1264, 1370, 1452, 1538, 1628, 1722, 1809,
+        1911, 1989, 2099, 2213, 2331,
     ],
     [
-        11, 20, 32, 46, 60, 74, 86, 108, 130, 151, 177, 203, 241, 258, 292, 322, 364, 394, 442, 482, 509, 565, 611,
-        661, 715, 751, 805, 868, 908, 982, 1030, 1112, 1168, 1228, 1283, 1351, 1423, 1499, 1579, 1663,
+        11, 20, 32, 46, 60, 74, 86, 108, 130, 151, 177, 203, 241, 258, 292, 322, 364, 394, 442,
+        482, 509, 565, 611, 661, 715, 751, 805, 868, 908, 982, 1030, 1112, 1168, 1228, 1283, 1351,
+        1423, 1499, 1579, 1663,
     ],
     [
-        7, 14, 24, 34, 44, 58, 64, 84, 98, 119, 137, 155, 177, 194, 220, 250, 280, 310, 338, 382, 403, 439, 461, 511,
-        535, 593, 625, 658, 698, 742, 790, 842, 898, 958, 983, 1051, 1093, 1139, 1219, 1273,
+        7, 14, 24, 34, 44, 58, 64, 84, 98, 119, 137, 155, 177, 194, 220, 250, 280, 310, 338, 382,
+        403, 439, 461, 511, 535, 593, 625, 658, 698, 742, 790, 842, 898, 958, 983, 1051, 1093,
+        1139, 1219, 1273,
     ],
 ];
 
@@ -59,18 +68,24 @@ fn draws_all_versions_and_levels() {
 fn draws_all_micro_versions_and_levels() {
     for (number, level, most) in DIGITS {
         let symbol = Symbol::micro(&vec![b'7'; most], level).unwrap();
-        assert_eq!((symbol.version, symbol.width), (Version::Micro(number), 9 + 2 * usize::from(number)));
+        assert_eq!(
+            (symbol.version, symbol.width),
+            (Version::Micro(number), 9 + 2 * usize::from(number))
+        );
         assert_eq!(Version::of_width(symbol.width), Some(symbol.version));
         assert!(symbol.mask < 4);
         let next = DIGITS.iter().find(|(other, at, _)| *other > number && *at == level);
         let answer = Symbol::micro(&vec![b'7'; most + 1], level).map(|symbol| symbol.version);
-        assert_eq!(answer, next.map(|(other, ..)| Version::Micro(*other)).ok_or(Error::DataTooLong));
+        assert_eq!(
+            answer,
+            next.map(|(other, ..)| Version::Micro(*other)).ok_or(Error::DataTooLong)
+        );
     }
     // Worked by hand from the standard's steps.
     assert_eq!(Symbol::micro(b"12345", Level::L).unwrap().mask, 2);
 }
 
-/// The inputs of the answers that stand in crates/qrcode_tests, by kind and length.
+/// The inputs of the rows in `answers`, by kind and length.
 fn input(kind: usize, count: usize) -> Vec<u8> {
     let signs = b"0123456789ABCDEFGHIJKLMNOPQRSTUVWXYZ $%*+-./:";
     (0..count)
@@ -95,44 +110,29 @@ fn input(kind: usize, count: usize) -> Vec<u8> {
         .collect()
 }
 
-/// The answers of the original crate: kind and length of the input, level, whether Micro, how many modules (1 for data that are
-/// too long, 2 for a level that no Micro version has), payload bits, hash of the modules.
-fn answers() -> Vec<[u64; 7]> {
-    let text = include_str!("../../../crates/qrcode_tests/src/symbol_tests.rt");
-    let rows = text.split("const ANSWERS").nth(1).unwrap().split("];").next().unwrap().lines().skip(1);
-    rows.map(|row| {
-        let mut words = row.trim().trim_start_matches('(').trim_end_matches("),").split(", ").map(|word| match word {
-            "true" => 1,
-            "false" => 0,
-            _ => match word.strip_prefix("0x") {
-                Some(digits) => u64::from_str_radix(digits, 16).unwrap(),
-                None => word.parse().unwrap(),
-            },
-        });
-        std::array::from_fn(|_| words.next().unwrap())
-    })
-    .collect()
-}
-
 /// FNV-1a, a byte for each module.
-fn hash(modules: &[bool]) -> u64 {
-    modules.iter().fold(0x811c_9dc5u32, |sum, dark| (sum ^ u32::from(*dark)).wrapping_mul(0x0100_0193)).into()
+fn hash(modules: &[bool]) -> u32 {
+    modules.iter().fold(0x811c_9dc5, |sum, dark| (sum ^ u32::from(*dark)).wrapping_mul(0x0100_0193))
 }
 
 #[test]
 fn answers_as_the_original() {
-    let answers = answers();
-    assert_eq!(answers.len(), 100);
-    for [kind, count, level, micro, modules, _, sum] in answers {
-        let (bytes, level) = (input(kind as usize, count as usize), LEVELS[level as usize]);
-        let answer = if micro == 1 { Symbol::micro(&bytes, level) } else { Symbol::new(&bytes, level) };
-        let got = match answer {
-            Ok(symbol) => (symbol.modules.len() as u64, hash(&symbol.modules)),
+    for answer in answers::answers() {
+        let (bytes, level) = (input(answer.kind, answer.count), LEVELS[answer.level]);
+        let drawn =
+            if answer.micro { Symbol::micro(&bytes, level) } else { Symbol::new(&bytes, level) };
+        let got = match drawn {
+            Ok(symbol) => (symbol.modules.len(), hash(&symbol.modules)),
             Err(Error::DataTooLong) => (1, 0),
             Err(Error::InvalidLevel) => (2, 0),
             Err(error) => panic!("{error}"),
         };
-        assert_eq!(got, (modules, sum), "kind {kind}, {count} bytes, {level:?}, {micro}");
+        let Answer { kind, count, micro, .. } = answer;
+        assert_eq!(
+            got,
+            (answer.modules, answer.hash),
+            "kind {kind}, {count} bytes, {level:?}, {micro}"
+        );
     }
 }
 

@@ -10,14 +10,15 @@ use Rattle.qrcode_c.specs.declared.shape.Shape.{Shape}
 use Rattle.qrcode_c.specs.Levels.{number_of}
 use Rattle.qrcode_c.specs.Shapes.{shape_of}
 
--- The first bytes of the buffer are the modules of the symbol, as many as the square of its width, and the others are
--- as before. The shape is that of the symbol.
+-- The first bytes of the buffer are the modules of the symbol, as many as the square of its width,
+-- and the others are as before. The shape is that of the symbol.
 pub record Holds (symbol : DrawnSymbol) (before after : List ℕ) (shape : Shape) : Type 0 where
   pub modules : after ≡ map byte_of symbol.modules ++ drop (length symbol.modules) before
   pub square : length symbol.modules ≡ width_of symbol.version * width_of symbol.version
   pub shape_is : shape ≡ shape_of symbol
 
--- They hold the symbol that is best at the level that the number names. The shape tells what a reader finds in it.
+-- They hold the symbol that is best at the level that the number names. The shape is what a reader
+-- finds in it.
 pub record HoldsBest (best : EcLevel → List Color → Type 0) (number : ℤ)
     (before after : List ℕ) (shape : Shape) : Type 0 where
   pub level : EcLevel

@@ -24,7 +24,8 @@ IsStatusOf comes status = (refusal : Refusal) × (status ≡ status_of refusal) 
 abbrev pub IsAbove : ℕ → (List Color → Type 0) → Type 0
 IsAbove room best = (modules : List Color) × best modules × (room < length modules)
 
--- Which refusal comes for the symbol of some bytes, by the number of the level and the room of the buffer.
+-- Which refusal comes for the symbol of some bytes, by the number of the level and the room of the
+-- buffer.
 abbrev pub IsSymbolRefusal : List ℕ → ℤ → ℕ → Refusal → Type 0
 IsSymbolRefusal bytes number room InvalidLevel = IsNoLevel number
 IsSymbolRefusal bytes number room DataTooLong = AtLevel number (IsTooLong bytes)
@@ -42,17 +43,19 @@ IsMicroRefusal bytes number room ShortBuffer =
     AtLevel number (λ level. IsAbove room (IsBestMicroSymbol bytes level))
 IsMicroRefusal bytes number room _ = ⊥
 
--- The cuts don't fall, and lie within so many bytes.
+-- No cut is below the one before it, and none is past the end.
 abbrev pub AreCuts : List ℕ → ℕ → Type 0
 AreCuts cuts end = IsNonDecreasing cuts × All (λ cut. cut ≤ end) cuts
 
--- Such symbols can be asked for: the cuts are good, there is a part at the index, and the greatest version is one.
+-- Such symbols can be asked for: the cuts are good, there is a part at the index, and the greatest
+-- version is one.
 pub record IsAsked (message cuts : List ℕ) (limit : ℤ) (index : ℕ) : Type 0 where
   pub cuts_good : AreCuts cuts (length message)
   pub is_part : index ≤ length cuts
   pub is_limit : IsNormalNumber limit
 
--- Of the best symbols for the message, the one at the index has more modules than there is room for.
+-- Of the best symbols for the message, the one at the index has more modules than the buffer has
+-- bytes.
 pub record IsPartAbove (room : ℕ) (message cuts : List ℕ) (level : EcLevel) (limit : ℤ) (index : ℕ) : Type 0 where
   pub symbols : List DrawnSymbol
   pub are_best : AreBestSymbols message cuts level (nat_abs limit) (map modules_of symbols)
@@ -60,7 +63,8 @@ pub record IsPartAbove (room : ℕ) (message cuts : List ℕ) (level : EcLevel) 
   pub at_index : slice_get symbols index ≡ Some symbol
   pub above : room < length symbol.modules
 
--- The same for the symbol at an index of those that carry a message, tested in the order of the lines.
+-- The same for the symbol at an index of those that carry a message, tested in the order of the
+-- lines.
 abbrev pub IsPartRefusal : List ℕ → List ℕ → ℤ → ℤ → ℕ → ℕ → Refusal → Type 0
 IsPartRefusal message cuts number limit index room InvalidLevel = IsNoLevel number
 IsPartRefusal message cuts number limit index room InvalidCuts =

@@ -1,4 +1,4 @@
--- What a caller is told of a symbol beside its modules.
+-- What a caller gets of a symbol beside its modules.
 use Rattle.std.specs.Prelude.{◌≡◌, ℕ, ℤ, pos, unwrap_or}
 use Rattle.qrcode_base.specs.declared.types.Version.{Version}
 use Rattle.qrcode_base.specs.declared.types.Version.TheVariants.{Normal, Micro}

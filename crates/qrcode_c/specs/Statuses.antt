@@ -1,4 +1,4 @@
--- The numbers by which a caller is told of refusals.
+-- The numbers of the refusals.
 use Rattle.std.specs.Prelude.{ℤ, pos}
 use Rattle.qrcode_c.specs.declared.refusal.Refusal.{Refusal}
 use Rattle.qrcode_c.specs.declared.refusal.Refusal.TheVariants.{DataTooLong, OutOfMemory, InvalidLevel}

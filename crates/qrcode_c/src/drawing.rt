@@ -1,5 +1,6 @@
 //! Symbols in a caller's buffer.
-ghost use Rattle.std.specs.Prelude.{◌≡◌, ◌<◌, ◌≤◌, ◌++◌, length, map, drop, OnErr, IfOk, IfErr, IfSome, IfNone};
+ghost use Rattle.std.specs.Prelude.{◌≡◌, ◌<◌, ◌≤◌, ◌++◌, length, map, drop};
+ghost use Rattle.std.specs.Prelude.{OnErr, IfOk, IfErr, IfSome, IfNone};
 ghost use Rattle.qrcode_core.specs.Headline.{IsBestSymbol, IsBestMicroSymbol};
 ghost use Rattle.qrcode_base.specs.Symbols.{IsNormalNumber};
 ghost use Rattle.qrcode_grid.specs.Penalty.{byte_of};
@@ -114,7 +115,7 @@ fn limit_of(number: i32) -> Option<i16>
     Some(number as i16)
 }
 
-/// Writes the modules of a symbol, and answers its shape.
+/// Writes the modules of a symbol, and returns its shape.
 fn write(symbol: &Symbol, modules: &mut [u8]) -> Result<Shape, Refusal>
     ensures held { IfOk result (Holds symbol.now modules.old modules.new) }
     ensures short { IfErr result (λ refusal. refusal ≡ Refusal.ShortBuffer) }

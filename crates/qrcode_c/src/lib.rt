@@ -1,8 +1,9 @@
-//! The functions that `libsicklespan.a` defines for C. `bindings/c/sicklespan.h` declares them to its users, behind
-//! tests of the pointers that they pass; docs/BINDINGS.md tells what holds across the border.
+//! The functions that `libsicklespan.a` defines for C. `bindings/c/sicklespan.h` declares those
+//! that a program calls, which test the pointers first; docs/BINDINGS.md says what holds across the
+//! border.
 //!
-//! No function has a `requires`, since nothing checks one for a caller in C: what is asked wrongly is a status. A call
-//! shares nothing with any other, and frees all memory that it takes.
+//! No function has a `requires`, since nothing checks one for a caller in C: each wrong argument
+//! has a status. A call shares nothing with any other, and frees all memory that it takes.
 #![tactic(auto)]
 
 ghost use Rattle.std.specs.Prelude.{◌≡◌, ◌≢◌, ◌*◌, pos, length};
@@ -10,7 +11,8 @@ ghost use Rattle.qrcode_core.specs.Headline.{IsBestSymbol, IsBestMicroSymbol};
 ghost use Rattle.qrcode_base.specs.declared.types.Version.{Version};
 ghost use Rattle.qrcode_base.specs.Symbols.{IsVersion, width_of};
 ghost use Rattle.qrcode_c.specs.Holding.{HoldsBest, HoldsPart};
-ghost use Rattle.qrcode_c.specs.Refusals.{IsStatusOf, IsSymbolRefusal, IsMicroRefusal, IsPartRefusal};
+ghost use Rattle.qrcode_c.specs.Refusals.{IsStatusOf};
+ghost use Rattle.qrcode_c.specs.Refusals.{IsSymbolRefusal, IsMicroRefusal, IsPartRefusal};
 ghost use Rattle.qrcode_c.specs.Shapes.{IsNumberAtWidth};
 
 use qrcode_core::types::Version;
@@ -24,14 +26,17 @@ mod shape;
 #[cfg(test)]
 mod tests;
 
-/// The status of a call that did what it was asked for. Each other status is the number of a `Refusal`.
+/// The status of a call that did what it was asked for. Each other status is the number of a
+/// `Refusal`.
 pub const DONE: i32 = 0;
 
-/// Writes the best symbol of some bytes at a level, a byte for each module, row by row from the upper left corner: 1
-/// for a dark one, 0 for a light one. The levels L, M, Q and H are 0 to 3. What `modules` has behind them stays.
+/// Writes the best symbol of some bytes at a level, a byte for each module, row by row from the
+/// upper left corner: 1 for a dark one, 0 for a light one. The levels L, M, Q and H are 0 to 3. The
+/// bytes of `modules` after these keep their values.
 ///
-/// Otherwise nothing is written, and the status is, in this order: `InvalidLevel`; `DataTooLong` exactly where the
-/// bytes fit no version at the level; `OutOfMemory` where a growth was refused; `ShortBuffer`.
+/// Otherwise nothing is written, and the status is, in this order: `InvalidLevel`; `DataTooLong`
+/// exactly where the bytes fit no version at the level; `OutOfMemory` where an allocation failed;
+/// `ShortBuffer`.
 #[unsafe(no_mangle)]
 pub extern "C" fn qrcode_c_symbol(
     alloc: Global,
@@ -55,7 +60,8 @@ pub extern "C" fn qrcode_c_symbol(
     }
 }
 
-/// As `qrcode_c_symbol`, in the Micro versions M1 to M4. Level H, which none of them has, is `InvalidLevel`.
+/// As `qrcode_c_symbol`, in the Micro versions M1 to M4. Level H, which none of them has, is
+/// `InvalidLevel`.
 #[unsafe(no_mangle)]
 pub extern "C" fn qrcode_c_micro_symbol(
     alloc: Global,
@@ -79,14 +85,15 @@ pub extern "C" fn qrcode_c_micro_symbol(
     }
 }
 
-/// Writes one of the 2 to 16 symbols that carry a message together (ISO/IEC 18004, "Structured Append"): the one at an
-/// index, counted from 0. The parts of the message lie between its start, the cuts in order, and its end.
+/// Writes one of the 2 to 16 symbols that carry a message together (ISO/IEC 18004, "Structured
+/// Append"): the one at an index, counted from 0. The parts of the message lie between its start,
+/// the cuts in order, and its end.
 ///
-/// Otherwise nothing is written, and the status is, in this order: `InvalidLevel`; `InvalidCuts` where a cut falls
-/// below the one before it, or lies behind the end; `InvalidIndex` where there are no more parts than the index;
-/// `InvalidMaxVersion` where it is not 1 to 40; `InvalidPartCount` where the parts are not 2 to 16; `DataTooLong`
-/// exactly where some part fits no version up to the greatest, beside its header; `OutOfMemory` where a growth was
-/// refused; `ShortBuffer`.
+/// Otherwise nothing is written, and the status is, in this order: `InvalidLevel`; `InvalidCuts`
+/// where a cut is below the one before it, or past the end; `InvalidIndex` where there are no more
+/// parts than the index; `InvalidMaxVersion` where it is not 1 to 40; `InvalidPartCount` where the
+/// parts are not 2 to 16; `DataTooLong` exactly where some part fits no version up to the greatest,
+/// beside its header; `OutOfMemory` where an allocation failed; `ShortBuffer`.
 #[unsafe(no_mangle)]
 pub extern "C" fn qrcode_c_part_symbol(
     alloc: Global,
@@ -101,7 +108,8 @@ pub extern "C" fn qrcode_c_part_symbol(
     ensures done { result ≡ DONE →
         HoldsPart message.now cuts.now level max_version index modules.old modules.new shape.new }
     ensures refused { result ≢ DONE →
-        IsStatusOf (IsPartRefusal message.now cuts.now level max_version index (length modules.old)) result }
+        IsStatusOf
+        (IsPartRefusal message.now cuts.now level max_version index (length modules.old)) result }
     ensures kept { result ≢ DONE → (modules.new ≡ modules.old) × (shape.new ≡ shape.old) }
 {
     match drawing::part_symbol(alloc, message, cuts, level, max_version, index, modules) {
@@ -113,7 +121,7 @@ pub extern "C" fn qrcode_c_part_symbol(
     }
 }
 
-/// How many modules the greatest symbol has, so how many bytes `modules` needs at most.
+/// The number of modules of the greatest symbol, which is the most bytes that `modules` needs.
 #[unsafe(no_mangle)]
 pub extern "C" fn qrcode_c_greatest_size() -> usize
     ensures { result ≡ 177 * 177 }
@@ -121,8 +129,8 @@ pub extern "C" fn qrcode_c_greatest_size() -> usize
     177 * 177
 }
 
-/// The number of the version whose symbols have so many modules a side: 1 to 40, or 1 to 4 of a Micro version, whose
-/// widths are below 21. 0 where no symbol is as wide.
+/// The number of the version whose symbols have this many modules a side: 1 to 40, or 1 to 4 of a
+/// Micro version, whose widths are below 21. 0 where no symbol is as wide.
 #[unsafe(no_mangle)]
 pub extern "C" fn qrcode_c_version_of_width(width: usize) -> i32
     ensures version { result ≢ pos 0 → IsNumberAtWidth result width }

@@ -7,7 +7,7 @@ ghost use Rattle.qrcode_c.specs.Statuses.{status_of};
 pub enum Refusal {
     /// The bytes fit no symbol that was asked for.
     DataTooLong = 1,
-    /// A growth found no memory.
+    /// An allocation failed.
     OutOfMemory = 2,
     /// The level is not 0 to 3, or it is 3 and the symbol is Micro.
     InvalidLevel = 3,
@@ -15,7 +15,7 @@ pub enum Refusal {
     InvalidMaxVersion = 4,
     /// The parts of a sequence are not 2 to 16.
     InvalidPartCount = 5,
-    /// A cut falls below the one before it, or lies behind the end of the message.
+    /// A cut is below the one before it, or past the end of the message.
     InvalidCuts = 6,
     /// There are no more parts than the index.
     InvalidIndex = 7,

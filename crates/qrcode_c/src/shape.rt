@@ -1,4 +1,4 @@
-//! What a caller is told of a symbol beside its modules.
+//! What a caller gets of a symbol beside its modules.
 ghost use Rattle.std.specs.Prelude.{◌≡◌};
 ghost use Rattle.qrcode_c.specs.Shapes.{shape_of, mask_number};
 
@@ -7,7 +7,7 @@ use qrcode_core::symbol::Symbol;
 use qrcode_core::traits::{ModuleSource, QrSymbol};
 use qrcode_core::types::Version;
 
-/// What a caller is told of a symbol beside its modules.
+/// What a caller gets of a symbol beside its modules.
 #[repr(C)]
 #[derive(Clone, Copy, Debug, PartialEq, Eq)]
 pub struct Shape {
@@ -15,7 +15,8 @@ pub struct Shape {
     pub width: i32,
     /// The number of the version: 1 to 40, and 1 to 4 of a Micro symbol.
     pub version: i32,
-    /// The number of the mask pattern, by which the format information names it: 0 to 7, and 0 to 3 of a Micro symbol.
+    /// The number of the mask pattern, by which the format information names it: 0 to 7, and 0 to 3
+    /// of a Micro symbol.
     pub mask: i32,
     /// Whether it is a Micro symbol.
     pub micro: bool,

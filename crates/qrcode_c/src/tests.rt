@@ -3,6 +3,11 @@ use crate::{
     DONE, Shape, qrcode_c_greatest_size, qrcode_c_micro_symbol, qrcode_c_part_symbol,
     qrcode_c_symbol, qrcode_c_version_of_width,
 };
+use std::alloc::Global;
+
+/// One byte more than version 40 holds at level L in Byte mode (ISO/IEC 18004, "Data capacity for
+/// all versions"), and on to the most digits that any version holds.
+static MANY: [u8; 7089] = [b'a'; 7089];
 
 const BLANK: Shape = Shape {
     width: 0,
@@ -70,6 +75,70 @@ fn draws_a_part(rt: HostRuntime) {
         &mut shape,
     );
     assert_eq!(rt; status, 7);
+}
+
+/// The status of `qrcode_c_symbol`, or of `qrcode_c_micro_symbol`, where it writes nothing.
+fn refused(alloc: Global, bytes: &[u8], micro: bool) -> Option<i32> {
+    let (mut modules, mut shape) = ([7; 122], BLANK);
+    let status = if micro {
+        qrcode_c_micro_symbol(alloc, bytes, 0, &mut modules, &mut shape)
+    } else {
+        qrcode_c_symbol(alloc, bytes, 0, &mut modules, &mut shape)
+    };
+    if modules == [7; 122] && shape == BLANK {
+        Some(status)
+    } else {
+        None
+    }
+}
+
+#[test]
+fn refuses_what_is_too_long(rt: HostRuntime) {
+    for micro in [false, true] {
+        assert_eq!(rt; refused(rt.alloc(), &MANY[..2954], micro), Some(1));
+        assert_eq!(rt; refused(rt.alloc(), &MANY[..5000], micro), Some(1));
+        assert_eq!(rt; refused(rt.alloc(), &MANY, micro), Some(1));
+    }
+    // M4 holds 15 bytes at level L; version 40 has more modules than the buffer has bytes.
+    assert_eq!(rt; refused(rt.alloc(), &MANY[..16], true), Some(1));
+    assert_eq!(rt; refused(rt.alloc(), &MANY[..2953], false), Some(8));
+}
+
+/// The status of `qrcode_c_part_symbol` for two parts, of which the first has some bytes and the
+/// second none.
+fn refused_part(alloc: Global, message: &[u8], max_version: i32) -> Option<i32> {
+    let (mut modules, mut shape) = ([7; 122], BLANK);
+    let cuts = [message.len()];
+    let status = qrcode_c_part_symbol(
+        alloc,
+        message,
+        &cuts,
+        0,
+        max_version,
+        0,
+        &mut modules,
+        &mut shape,
+    );
+    if modules == [7; 122] && shape == BLANK {
+        Some(status)
+    } else {
+        None
+    }
+}
+
+#[test]
+fn refuses_a_part_that_is_too_long(rt: HostRuntime) {
+    // The header takes 20 bits: version 40 then holds 2951 bytes at level L, and version 1 holds
+    // 15.
+    for length in [2952, 2954, 5000, 7089] {
+        if let Some(bytes) = MANY.get(..length) {
+            assert_eq!(rt; refused_part(rt.alloc(), bytes, 40), Some(1));
+            assert_eq!(rt; refused_part(rt.alloc(), bytes, 1), Some(1));
+        }
+    }
+    assert_eq!(rt; refused_part(rt.alloc(), &MANY[..2951], 40), Some(8));
+    assert_eq!(rt; refused_part(rt.alloc(), &MANY[..16], 1), Some(1));
+    assert_eq!(rt; refused_part(rt.alloc(), &MANY[..15], 1), Some(8));
 }
 
 #[test]
