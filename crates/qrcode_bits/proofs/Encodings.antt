@@ -2,7 +2,7 @@
 use Rattle.qrcode_bits.proofs.Prelude.{◌≡◌, ℕ, ◌+◌, ◌<◌, ◌≤◌, List, ◌++◌, length, subst, arith, length-append, EcLevel, QrError, OutOfMemory, Segment}
 use Rattle.qrcode_bits.proofs.Prelude.{total_bits, Fits, no_modes, segment_pieces, Header, HasHeader, spellings, header_bits, Stream, Spells, EndsAtLevel}
 use Rattle.qrcode_bits.proofs.Prelude.{IsLevelRefused, with_modes, IsPlanStream, drop, segment_piece, IsSpellable, All-head, All-tail, drop_all, append-nil}
-use Rattle.qrcode_bits.proofs.Prelude.{append_assoc, segment_at, All, Option, Version}
+use Rattle.qrcode_bits.proofs.Prelude.{segment_at, All, Option, Version}
 use Rattle.qrcode_bits.proofs.{Choices.some_same, PlanFrames.spelled_plan, PlanFrames.plan_frame, Pushes.pieces_at}
 use Rattle.std.proofs.lemmas.Grind.{common_steps}
 

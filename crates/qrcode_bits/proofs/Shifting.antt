@@ -1,10 +1,10 @@
 -- Bytes behind bits that are no whole byte yet: each place has the low bits of one byte and the high bits of the next.
 use Rattle.qrcode_bits.proofs.Prelude.{◌≡◌, ℕ, ◌+◌, ◌-◌, ◌*◌, ◌/◌, ◌%◌, ◌^◌, ◌<◌, ◌≤◌, List, ◌++◌, length, arith, take, append_assoc, append-nil, add_comm}
-use Rattle.qrcode_bits.proofs.Prelude.{slice_index_or, bit_and, pow-add, and_mask, drop_all, length-drop, take-append_seam, flat_map-append, common_steps}
+use Rattle.qrcode_bits.proofs.Prelude.{slice_index_or, bit_and, pow-add, drop_all, length-drop, take-append_seam, flat_map-append, common_steps}
 use Rattle.qrcode_bits.proofs.Prelude.{number_bits, byte_bits, Stream, Appends, kept_bits, room_in, IsKept}
 use borrow.Rule.Slice.PartMut.{post_of}
-use Rattle.std.{specs.Prelude.slice_set, proofs.lemmas.List.take_more, proofs.lemmas.List.take_more_set}
-use Rattle.qrcode_bits.proofs.Numbers.{byte_bits-push, number_bits-join, number_bits-cut, number_bits-mod, high_free, length-byte_bits}
+use Rattle.std.{specs.Prelude.slice_set}
+use Rattle.qrcode_bits.proofs.Numbers.{number_bits-join, number_bits-cut, number_bits-mod, high_free, length-byte_bits}
 
 low_free : (used before byte : ℕ) → used < 8 → number_bits used (before * 2 ^ 8 + byte) ≡ number_bits used byte
 low_free used before byte part = grind (arith, high_free used (before * 2 ^ (8 - used)) byte, pow-add 2 (8 - used) used)

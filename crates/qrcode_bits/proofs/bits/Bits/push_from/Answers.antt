@@ -1,5 +1,5 @@
 -- The segments that came, and the one that is pushed.
-use Rattle.qrcode_bits.proofs.Prelude.{arith, ◌≡◌, List, [], ◌∷◌, ◌++◌, refl, sym, ◌∙◌, subst, append-nil, inl, inr, Ok, Err, err_from_is_err_and, Piece}
+use Rattle.qrcode_bits.proofs.Prelude.{◌≡◌, List, [], ◌∷◌, ◌++◌, refl, sym, ◌∙◌, subst, append-nil, inl, inr, Ok, Err, err_from_is_err_and, Piece}
 use Rattle.qrcode_bits.proofs.Prelude.{segment_piece, segment_pieces, LiesIn, Segment, Option, Some, All, ℕ, Stream, Spells, StopsAt, QrError, IsPushRefused}
 use Rattle.std.{specs.Iterator.Yields, specs.Iterator.DrainsIf, proofs.iter.Next.Yields-more}
 use Rattle.qrcode_bits.proofs.Pushes.{PushesInTurn, in_turn, pieces_more, last_of}

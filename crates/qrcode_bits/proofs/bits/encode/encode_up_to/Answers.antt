@@ -2,7 +2,6 @@
 use Rattle.qrcode_bits.proofs.{Prelude.ℕ, Prelude.length, Prelude.get_or, Prelude.arith, Prelude.header_bits, Pairs.bytes_valid, Reading.front-is}
 use Rattle.qrcode_bits.proofs.{Lengths.long_message}
 use Rattle.std.proofs.lemmas.Result.{IfOk-weaker}
-use Rattle.qrcode_bits.specs.Plans.{AreCandidates}
 use Rattle.qrcode_bits.proofs.Classes.{class_fits_not, class_fits, class_encoding, normal_is, front_not, candidates_here, candidates_end}
 use Rattle.qrcode_bits.proofs.bits.encode.encode_up_to.Goals as goal
 

@@ -1,5 +1,5 @@
 -- The best start of each rest was tried, by its word.
-use Rattle.qrcode_bits.proofs.Prelude.{rules, ℕ, ◌*◌, arith, ap, sym, ◌∙◌, refl, period_bits, common_steps}
+use Rattle.qrcode_bits.proofs.Prelude.{ℕ, ◌*◌, arith, ap, sym, ◌∙◌, period_bits, common_steps}
 use Rattle.qrcode_bits.proofs.ShortSteps.{rest-at, period_bits-at, cost-small, short-rest, short-enough, sought-keeps, sought-takes, sought-nothing}
 use Rattle.qrcode_bits.proofs.ShortSteps.{sought-last}
 use Rattle.qrcode_bits.proofs.optimize.short.last_step_short.Goals.{then-is_some+then-is_better, then-is_some+else-is_better, else-is_some}
