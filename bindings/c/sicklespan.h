@@ -15,6 +15,8 @@
 #include <stddef.h>
 #include <stdint.h>
 
+#define SICKLESPAN_VERSION "0.3.0"
+
 #ifdef __cplusplus
 extern "C" {
 #endif
