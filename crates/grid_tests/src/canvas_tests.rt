@@ -5,6 +5,7 @@ ghost use Rattle.qrcode_grid.specs.Penalty.{IsFirstLeastMask};
 
 mod plain;
 mod scores;
+mod tables;
 mod words;
 
 use qrcode_base::symbols::block_layout;
@@ -248,6 +249,22 @@ fn tells_functional_cells(rt: HostRuntime) {
     assert!(rt; !is_functional(Version::Normal(1), 21, -1, -1));
     assert!(rt; is_functional(Version::Normal(7), 45, 22, 22));
     assert!(rt; is_functional(Version::Micro(1), 11, 8, 8));
+}
+
+/// A negative coordinate counts from the far edge.
+#[test]
+fn counts_from_the_far_edge(rt: HostRuntime) -> QrResult<()> {
+    let mut canvas = Canvas::new(rt.alloc(), Version::Normal(1), EcLevel::L)?;
+    canvas.put(-21, -21, Color::Dark);
+    canvas.put(-1, -7, Color::Light);
+    *canvas.get_mut(-2, 3) = Module::Unmasked(Color::Dark);
+    assert!(rt; canvas.get(0, 0) == Module::Masked(Color::Dark));
+    for (x, y) in [(-1, -7), (20, -7), (-1, 14), (20, 14)] {
+        assert!(rt; canvas.get(x, y) == Module::Masked(Color::Light));
+    }
+    assert!(rt; canvas.get(19, -18) == Module::Unmasked(Color::Dark));
+    assert!(rt; canvas.get(-7, -1) == Module::Empty);
+    Ok(())
 }
 
 #[test]
