@@ -3,7 +3,8 @@ use Rattle.qrcode_grid.proofs.Prelude.{◌≡◌, ◌-◌, ◌≤◌, zero, suc,
 use Rattle.qrcode_grid.proofs.Prelude.{[], ◌∷◌, get_or, ◌/◌, map, ◌∙◌, leb, cond, inl, inr, Bool, true, ◌%◌, fold, option_or, Light, Dark, nat_tests}
 use Rattle.qrcode_grid.proofs.Prelude.{Color, Module, VERSION_WORDS, drawn_over, finder, timing, version_copies, alignments, alignment_coordinates}
 use Rattle.qrcode_grid.proofs.Prelude.{near, alignment_count, alignment_at, alignment_coordinate, version_word, common_steps, range_with_len}
-use Rattle.qrcode_grid.proofs.Prelude.{get_or-map-range_with_len, abs_diff, min, cases_lt, leb-true, Some, List, length, drop, drop_more, drop_all, length-map-range_with_len}
+use Rattle.qrcode_grid.proofs.Prelude.{get_or-map-range_with_len, abs_diff, min, cases_lt, leb-true, Some}
+use Rattle.qrcode_grid.proofs.Prelude.{List, length, drop, drop_more, drop_all, length-map-range_with_len}
 use Rattle.qrcode_grid.proofs.Tests.{all_pass, passes, both}
 
 pub no_version : (n x y : ℕ) → n < 7 → version_copies n x y ≡ None

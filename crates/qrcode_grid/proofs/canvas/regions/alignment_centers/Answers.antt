@@ -1,5 +1,5 @@
-use Rattle.qrcode_grid.proofs.Prelude.{◌∙◌, ◌++◌, ◌∷◌, [], List, ℕ, ap, sym, arith, length-map-range_with_len, map-range_with_len_more, alignment_coordinate, map, range_with_len}
-use Rattle.qrcode_grid.proofs.Prelude.{◌≤◌, ◌+◌, ◌*◌, All-append, All-cons, All, All-nil, subst}
+use Rattle.qrcode_grid.proofs.Prelude.{◌∙◌, ◌++◌, ◌∷◌, [], List, ℕ, ap, sym, arith, length-map-range_with_len, map-range_with_len_more}
+use Rattle.qrcode_grid.proofs.Prelude.{alignment_coordinate, map, range_with_len, ◌≤◌, ◌+◌, ◌*◌, All-append, All-cons, All, All-nil, subst}
 use Rattle.qrcode_grid.proofs.canvas.regions.alignment_centers.Goals as goal
 
 pub push-requires : goal.push-requires
