@@ -85,6 +85,11 @@ near_more f x k c h far = grind (arith, common_steps)
 pub alignment_count_is : (n : ℕ) → 1 < n → alignment_count n ≡ n / 7 + 2
 alignment_count_is n h = let e : leb n 1 ≡ false = (grind (arith, nat_tests)) in ap (λ b. cond b 0 (n / 7 + 2)) e
 
+-- a centre coordinate behind the first, as the code has it
+pub coordinate_is : (n k step : ℕ) → 1 < n → 1 ≤ k → step ≡ cond (n == 32) 26 ((4 * n + 2 * (n / 7 + 2) + 1) / (2 * (n / 7 + 2) - 2) * 2) →
+    4 * n + 10 - (n / 7 + 2 - 1 - k) * step ≡ alignment_coordinate n k
+coordinate_is n k step some behind_first is = grind (arith, nat_tests, is, alignment_count_is n some)
+
 -- a list of the centre coordinates
 pub centers_count : (n : ℕ) (centers : List ℕ) → centers ≡ alignment_coordinates n → length centers ≡ alignment_count n
 centers_count n centers is = ap length is ∙ length-map-range_with_len (alignment_coordinate n) 0 (alignment_count n)
