@@ -1,11 +1,14 @@
 use Rattle.qrcode_grid.proofs.Prelude.{◌≡◌, ℕ, ◌<◌, ◌≤◌, ◌+◌, ◌-◌, ◌*◌, suc, get_or, ap, ◌∙◌, sym, subst, arith, Some, mul-add-lt, drawn_over, alignments}
 use Rattle.qrcode_grid.proofs.Prelude.{alignment_coordinates, alignment_count, near, alignment_at, Empty}
 use Rattle.qrcode_grid.proofs.RegionRows.{behind, behind_before, cells_inside, behind_within, none_between, none_behind, no_pattern, no_pattern_row}
-use Rattle.qrcode_grid.proofs.RegionRows.{centers_count, center_is}
+use Rattle.qrcode_grid.proofs.RegionRows.{centers_count, center_is, no_alignments}
 use Rattle.qrcode_grid.proofs.Prelude.{List, length, All}
 use Rattle.qrcode_grid.proofs.WrittenWords.{CellsChanged, row_between, cell_changed, row_ends, rows_between, rows_end}
 use Rattle.qrcode_grid.proofs.GridLaws.{near_center}
 use Rattle.qrcode_grid.proofs.canvas.drawing.draw_alignments.Goals as goal
+
+pub returns-then-n-lt2 : goal.returns-then-n-lt2
+returns-then-n-lt2 c = grind (arith, no_alignments)
 
 pub loop-y-init : goal.loop-y-init
 loop-y-init c =
