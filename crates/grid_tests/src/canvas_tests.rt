@@ -285,15 +285,18 @@ fn masks_by_each_pattern(rt: HostRuntime) {
     assert!(rt; diamonds(1, 2) && !meadow(1, 0));
 }
 
+/// The longest of these rows.
+const LONGEST: usize = 530;
+
 /// Whether a pair of alternating rows with one square of a colour at a place has one square.
 fn has_one_square(width: usize, place: usize, color: u8) -> bool {
-    let mut upper = [0; 177];
-    let mut lower = [1; 177];
-    for i in 0..177usize {
+    let mut upper = [0; LONGEST];
+    let mut lower = [1; LONGEST];
+    for i in 0..LONGEST {
         upper[i] = if i % 2 == 0 { 0 } else { 1 };
         lower[i] = if i % 2 == 0 { 1 } else { 0 };
     }
-    if place >= 176 || width > 177 {
+    if place >= LONGEST - 1 || width > LONGEST {
         return false;
     }
     for i in place..place + 2 {
@@ -303,9 +306,10 @@ fn has_one_square(width: usize, place: usize, color: u8) -> bool {
     count_squares(&upper[..width], &lower[..width]) == 1
 }
 
+/// The rows end in lanes and behind them, and the longest has several blocks of lanes.
 #[test]
 fn finds_a_square_at_each_place(rt: HostRuntime) {
-    for width in [21, 33, 37, 177] {
+    for width in [21, 33, 37, 177, LONGEST] {
         for place in 0..width - 1 {
             for color in [0, 1] {
                 assert!(rt;
@@ -334,6 +338,9 @@ fn counts_dark_bytes_around_the_lanes(rt: HostRuntime) -> QrResult<()> {
         (0, 0),
         (1, 0),
         (2, 1),
+        (15, 10),
+        (16, 10),
+        (17, 11),
         (31, 20),
         (32, 21),
         (33, 22),
@@ -343,6 +350,10 @@ fn counts_dark_bytes_around_the_lanes(rt: HostRuntime) -> QrResult<()> {
         (95, 63),
         (96, 64),
         (97, 64),
+        (255, 170),
+        (256, 170),
+        (257, 171),
+        (272, 181),
         (31329, 20886),
     ] {
         assert!(rt; count_dark(&striped(alloc, len)?) == want, "of {len}");

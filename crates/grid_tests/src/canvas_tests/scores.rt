@@ -104,8 +104,8 @@ fn fill(canvas: &mut Canvas, version: Version, seed: u32)
     }
 }
 
-/// Puts a checkerboard of squares of a size, dark at the corner where the first is 0 and light where
-/// it is 1.
+/// Puts a checkerboard of squares of a size, dark at the corner where the first is 0 and light
+/// where it is 1.
 fn paint(canvas: &mut Canvas, version: Version, size: usize, first: usize)
     requires { canvas.old.version ≡ version }
     ensures { canvas.new.version ≡ version }

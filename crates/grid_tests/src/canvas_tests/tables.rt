@@ -32,8 +32,8 @@ pub static SYMBOLS: [u32; 44] = [
     0xB7332252, 0x1E9013DC, 0xA570ACE0, 0xBC09DB85,
 ];
 
-/// In each version, a canvas of one colour, dark and then light, three checkerboards of squares, and
-/// a new canvas.
+/// In each version, a canvas of one colour, dark and then light, three checkerboards of squares,
+/// and a new canvas.
 pub static PAINTED: [u32; 44] = [
     0xA22D075C, 0xB6BB87B4, 0x3E56AFAA, 0x6D9779A7, 0x2F364098, 0x0326A6A0, 0xF1B02DDC, 0x2DA44380,
     0x4E513139, 0x2341B737, 0x2D3F6316, 0xCA20712B, 0x287C405B, 0x78A01C4D, 0x7AAF0A5E, 0x8E57F5E8,
