@@ -1,10 +1,11 @@
 //! Texts behind a header that tells what they are, in the smallest version that holds them, by `qrcode_core`.
 #![tactic(auto)]
 
-ghost use Rattle.std.specs.Prelude.{◌≡◌, ◌≤◌, length, None, IfOk, IfErr, OnOk, IsErrOf};
+ghost use Rattle.std.specs.Prelude.{◌≡◌, ◌+◌, ◌*◌, ◌≤◌, length, None, Some, IfOk, IfErr, OnOk, IsErrOf};
+ghost use Rattle.qrcode_base.specs.Symbols.{capacity};
 ghost use Rattle.qrcode_core.specs.Drawn.{TellsReading};
 ghost use Rattle.qrcode_bits.specs.Plans.{normal};
-ghost use Rattle.texts.specs.Smallest.{SaysUtf8, SaysElements, HoldsIn, IsRefusedIn, IsSmallest, IsRefusedByAll};
+ghost use Rattle.texts.specs.Smallest.{SaysUtf8, SaysElements, FitsIn, HoldsIn, IsRefusedIn, IsSmallest, IsRefusedByAll};
 ghost use Rattle.texts.specs.Elements.{first_percent, AreElementsRefused};
 
 use qrcode_core::bits::Bits;
@@ -14,14 +15,14 @@ use qrcode_core::types::{EcLevel, QrError, QrResult, Version};
 use std::alloc::Global;
 
 /// A text as one Byte segment behind the ECI designator of UTF-8, in the smallest version that holds both (ISO/IEC
-/// 18004, "ECI mode"). `DataTooLong` comes exactly where none does, for more than 7089 bytes without asking for memory.
+/// 18004, "ECI mode"). `DataTooLong` comes exactly where none does, and needs no memory.
 pub fn utf8_symbol(alloc: Global, text: &str, level: EcLevel) -> QrResult<Symbol>
     ensures smallest { IfOk result (IsSmallest (SaysUtf8 text.now) level) }
     ensures reading { IfOk result TellsReading }
     ensures refused { IfErr result (IsRefusedByAll (SaysUtf8 text.now) level) }
-    ensures memory { IsErrOf result QrError.OutOfMemory → length text.now ≤ 7089 }
+    ensures memory { IsErrOf result QrError.OutOfMemory → FitsIn (SaysUtf8 text.now) (normal 40) level }
 {
-    if text.len() > DEFAULT_MAX_DATA_LENGTH {
+    if text.len() > longest_text(level) {
         return Err(QrError::DataTooLong);
     }
     for number in 1..41 {
@@ -32,6 +33,18 @@ pub fn utf8_symbol(alloc: Global, text: &str, level: EcLevel) -> QrResult<Symbol
         }
     }
     Err(QrError::DataTooLong)
+}
+
+/// How many bytes of a text fill version 40, with 12 bits of the designator and 20 of the header.
+fn longest_text(level: EcLevel) -> usize
+    ensures { capacity (normal 40) level ≡ Some (8 * result + 32) }
+{
+    match level {
+        EcLevel::L => 2952,
+        EcLevel::M => 2330,
+        EcLevel::Q => 1662,
+        EcLevel::H => 1272,
+    }
 }
 
 /// The same in the Normal version of a number.

@@ -17,7 +17,9 @@ returns-clause-refused c =
 
 pub returns-then-elements-gt-DEFAULT_MAX_DATA_LENGTH-clause-refused :
     goal.returns-then-elements-gt-DEFAULT_MAX_DATA_LENGTH-clause-refused
-returns-then-elements-gt-DEFAULT_MAX_DATA_LENGTH-clause-refused c =
-    (search rules, elements_too_long c.args.elements.now c.args.level
-    (bytes_valid c.args.elements.now (λ i. omega (arith, c.type_inv.elements i)))
-    (omega (arith, c.if-elements-gt-DEFAULT_MAX_DATA_LENGTH.true)))
+returns-then-elements-gt-DEFAULT_MAX_DATA_LENGTH-clause-refused c = (
+  search rules,
+  elements_too_long c.args.elements.now c.args.level
+      (bytes_valid c.args.elements.now (λ i. omega (arith, c.type_inv.elements i)))
+      (omega (arith, c.if-elements-gt-DEFAULT_MAX_DATA_LENGTH.true)),
+)
