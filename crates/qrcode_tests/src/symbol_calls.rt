@@ -8,6 +8,7 @@ use qrcode_core::traits::{ModuleSource, QrSymbol};
 use qrcode_core::types::{Color, EcLevel, QrError, QrResult, Version};
 use std::alloc::Global;
 use std::process::Abort;
+use texts::gs1_symbol;
 
 /// The rows of the symbol of `12345` in M1, dark as one (ISO/IEC 18004 has none; the original crate draws it so).
 static ROWS: [u16; 11] = [
@@ -219,4 +220,17 @@ fn refuses(rt: HostRuntime) {
         ec_level: EcLevel::H,
     };
     assert!(rt; answer.err() == Some(lacking));
+}
+
+/// Readers would take a `%` for the byte 1D hex: the first one is refused, before their number is looked at.
+#[test]
+fn gs1_symbols_with_a_percent_sign(rt: HostRuntime) {
+    let mut many = [b'7'; 7090];
+    many[7089] = b'%';
+    let rows: [(&[u8], usize); 3] = [(b"10AB%12%", 4), (b"%", 0), (&many, 7089)];
+    for (elements, position) in rows {
+        let refused = gs1_symbol(rt.alloc(), elements, EcLevel::M).err();
+        let byte = b'%';
+        assert!(rt; refused == Some(QrError::InvalidCharacter { position, byte }));
+    }
 }
