@@ -5,6 +5,7 @@ ghost use Rattle.qrcode_grid.specs.Penalty.{IsFirstLeastMask};
 
 mod plain;
 mod scores;
+mod tables;
 mod words;
 
 use qrcode_base::symbols::block_layout;
@@ -250,6 +251,22 @@ fn tells_functional_cells(rt: HostRuntime) {
     assert!(rt; is_functional(Version::Micro(1), 11, 8, 8));
 }
 
+/// A negative coordinate counts from the far edge.
+#[test]
+fn counts_from_the_far_edge(rt: HostRuntime) -> QrResult<()> {
+    let mut canvas = Canvas::new(rt.alloc(), Version::Normal(1), EcLevel::L)?;
+    canvas.put(-21, -21, Color::Dark);
+    canvas.put(-1, -7, Color::Light);
+    *canvas.get_mut(-2, 3) = Module::Unmasked(Color::Dark);
+    assert!(rt; canvas.get(0, 0) == Module::Masked(Color::Dark));
+    for (x, y) in [(-1, -7), (20, -7), (-1, 14), (20, 14)] {
+        assert!(rt; canvas.get(x, y) == Module::Masked(Color::Light));
+    }
+    assert!(rt; canvas.get(19, -18) == Module::Unmasked(Color::Dark));
+    assert!(rt; canvas.get(-7, -1) == Module::Empty);
+    Ok(())
+}
+
 #[test]
 fn masks_by_each_pattern(rt: HostRuntime) {
     let at_origin = [
@@ -268,15 +285,18 @@ fn masks_by_each_pattern(rt: HostRuntime) {
     assert!(rt; diamonds(1, 2) && !meadow(1, 0));
 }
 
+/// The longest of these rows.
+const LONGEST: usize = 530;
+
 /// Whether a pair of alternating rows with one square of a colour at a place has one square.
 fn has_one_square(width: usize, place: usize, color: u8) -> bool {
-    let mut upper = [0; 177];
-    let mut lower = [1; 177];
-    for i in 0..177usize {
+    let mut upper = [0; LONGEST];
+    let mut lower = [1; LONGEST];
+    for i in 0..LONGEST {
         upper[i] = if i % 2 == 0 { 0 } else { 1 };
         lower[i] = if i % 2 == 0 { 1 } else { 0 };
     }
-    if place >= 176 || width > 177 {
+    if place >= LONGEST - 1 || width > LONGEST {
         return false;
     }
     for i in place..place + 2 {
@@ -286,9 +306,10 @@ fn has_one_square(width: usize, place: usize, color: u8) -> bool {
     count_squares(&upper[..width], &lower[..width]) == 1
 }
 
+/// The rows end in lanes and behind them, and the longest has several blocks of lanes.
 #[test]
 fn finds_a_square_at_each_place(rt: HostRuntime) {
-    for width in [21, 33, 37, 177] {
+    for width in [21, 33, 37, 177, LONGEST] {
         for place in 0..width - 1 {
             for color in [0, 1] {
                 assert!(rt;
@@ -317,6 +338,9 @@ fn counts_dark_bytes_around_the_lanes(rt: HostRuntime) -> QrResult<()> {
         (0, 0),
         (1, 0),
         (2, 1),
+        (15, 10),
+        (16, 10),
+        (17, 11),
         (31, 20),
         (32, 21),
         (33, 22),
@@ -326,6 +350,10 @@ fn counts_dark_bytes_around_the_lanes(rt: HostRuntime) -> QrResult<()> {
         (95, 63),
         (96, 64),
         (97, 64),
+        (255, 170),
+        (256, 170),
+        (257, 171),
+        (272, 181),
         (31329, 20886),
     ] {
         assert!(rt; count_dark(&striped(alloc, len)?) == want, "of {len}");

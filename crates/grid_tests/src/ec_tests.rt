@@ -1,4 +1,7 @@
 //! Worked values of the error correction.
+
+mod plain;
+
 use qrcode_base::types::{EcLevel, QrError, QrResult, Version};
 use qrcode_grid::ec::{construct_codewords, create_error_correction_code, max_allowed_errors};
 

@@ -140,8 +140,10 @@ fn mode_list(
 }
 
 /// Whether the plans of all lists of so many modes agree, in segments of one size, from a first begin on.
-fn all_agree(rt: &HostRuntime, count: usize, size: usize, from: usize) -> QrResult<bool> {
-    let lists = 4usize.saturating_pow(count as u32);
+fn all_agree(rt: &HostRuntime, count: usize, size: usize, from: usize) -> QrResult<bool>
+    requires { count < 8 }
+{
+    let lists = 1usize << (2 * count);
     for number in 0..lists {
         let segments = mode_list(rt, count, number, size, from)?;
         if !agrees(rt, &segments)? {

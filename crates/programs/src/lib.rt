@@ -3,9 +3,10 @@
 #![tactic(auto)]
 
 ghost use Rattle.std.specs.Prelude.{◌≡◌, ℕ, ◌<◌, ◌≤◌, ◌↔◌, ◌⊎◌, Bool, not, if◌then◌else◌, is_none, Option, None, Some};
-ghost use Rattle.std.specs.Prelude.{List, length, take, IsTrue, IsFalse, IfSome, MatchOption};
+ghost use Rattle.std.specs.Prelude.{List, length, take, map, IsTrue, IsFalse, IfSome, MatchOption};
 ghost use Rattle.std.specs.Prelude.{Err, IfOk, IfErr, OnOk, IsErrOf, is_err};
 ghost use Rattle.std.specs.Bool.{OnTrue};
+ghost use Rattle.std.specs.String.{string_bytes};
 ghost use Rattle.std.specs.Io.KnownBytes.{Keeps, Appends, Consumes, IsAtEnd};
 ghost use Rattle.qrcode_core.specs.declared.types.errors.QrError.TheVariants.{OutOfMemory};
 ghost use Rattle.programs.specs.Devices.{ReadsEnough, ReadsAtMost, Writes};
@@ -29,6 +30,17 @@ pub fn arguments(rt: &HostRuntime) -> Result<Vec<String>, Fault> {
         words.push(arg).map_err(AllocError::from)?;
     }
     Ok(words)
+}
+
+/// Words, lent as texts.
+pub fn lent_words(alloc: Global, words: &[String]) -> Result<Vec<&str>, AllocError>
+    ensures { IfOk result (λ lent. map (λ word. word.now) lent.items ≡ map string_bytes words.now) }
+{
+    let mut lent = Vec::with_capacity(alloc, words.len())?;
+    for word in words {
+        lent.push(word.as_str())?;
+    }
+    Ok(lent)
 }
 
 /// Something to read bytes from.

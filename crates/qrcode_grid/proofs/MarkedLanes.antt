@@ -267,35 +267,6 @@ pub map_same : {X Y : Type 0} (f g : X → Y) → ((x : X) → f x ≡ g x) → 
 map_same f g same [] = refl
 map_same {Y = Y} f g same (x ∷ xs) = ap (λ (t : List Y). f x ∷ t) (map_same f g same xs) ∙ ap (λ (y : Y). y ∷ map g xs) (same x)
 
-pub square_lanes : (u l : List ℕ) (at : ℕ) → at + 33 ≤ length u → length l ≡ length u
-    → count_ones (mask_l (map (top 7)
-    (zip2 bit_and (zip2 hit (take 32 (drop at u)) (take 32 (drop (at + 1) u)))
-    (zip2 bit_and (zip2 hit (take 32 (drop at u)) (take 32 (drop at l))) (zip2 hit (take 32 (drop at u)) (take 32 (drop (at + 1) l)))))) % 2 ^ 64)
-    ≡ count_by (is_byte_square_at u l) (range_with_len at 32)
-square_lanes u l at inside same =
-    let ks : List ℕ = range_with_len at 32 in
-    let a : take 32 (drop at u) ≡ map (λ k. get_or u k 0) ks = block_at u at 32 (omega arith) in
-    let b : take 32 (drop (at + 1) u) ≡ map (λ k. get_or u (k + 1) 0) ks = (block_at u (at + 1) 32 (omega arith) ∙ next_places u at 32) in
-    let c : take 32 (drop at l) ≡ map (λ k. get_or l k 0) ks = block_at l at 32 (omega arith) in
-    let d : take 32 (drop (at + 1) l) ≡ map (λ k. get_or l (k + 1) 0) ks = (block_at l (at + 1) 32 (omega arith) ∙ next_places l at 32) in
-    let ab = zip2_of_maps hit (λ k. get_or u k 0) (λ k. get_or u (k + 1) 0) ks a b in
-    let ac = zip2_of_maps hit (λ k. get_or u k 0) (λ k. get_or l k 0) ks a c in
-    let ad = zip2_of_maps hit (λ k. get_or u k 0) (λ k. get_or l (k + 1) 0) ks a d in
-    let acd = zip2_of_maps bit_and (λ k. hit (get_or u k 0) (get_or l k 0)) (λ k. hit (get_or u k 0) (get_or l (k + 1) 0)) ks ac ad in
-    let all = zip2_of_maps bit_and (λ k. hit (get_or u k 0) (get_or u (k + 1) 0))
-    (λ k. bit_and (hit (get_or u k 0) (get_or l k 0)) (hit (get_or u k 0) (get_or l (k + 1) 0))) ks ab acd in
-    let tests : map (top 7) (zip2 bit_and (zip2 hit (take 32 (drop at u)) (take 32 (drop (at + 1) u)))
-    (zip2 bit_and (zip2 hit (take 32 (drop at u)) (take 32 (drop at l))) (zip2 hit (take 32 (drop at u)) (take 32 (drop (at + 1) l)))))
-    ≡ map (is_byte_square_at u l) ks
-    = ap (map (top 7)) all ∙ map-map (top 7) (λ k. bit_and (hit (get_or u k 0) (get_or u (k + 1) 0))
-    (bit_and (hit (get_or u k 0) (get_or l k 0)) (hit (get_or u k 0) (get_or l (k + 1) 0)))) ks
-    ∙ map_same _ (is_byte_square_at u l) (λ k. joined (get_or u k 0 == get_or u (k + 1) 0) (get_or u k 0 ==
-    get_or l k 0) (get_or u k 0 == get_or l (k + 1) 0)) ks in
-    let long : length (map (is_byte_square_at u l) ks) ≤ 64 = omega (arith, length-map ks (is_byte_square_at u l), length-range_with_len at 32) in
-    ap (λ (m : List Bool). count_ones (mask_l m % 2 ^ 64)) tests
-    ∙ ap count_ones (mask_l-mod (map (is_byte_square_at u l) ks) 64 long)
-    ∙ ones-mask_l (is_byte_square_at u l) ks
-
 -- the places up to more are those up to at, and the ones from there
 pub places_append : (a n m : ℕ) → range_with_len a (n + m) ≡ range_with_len a n ++ range_with_len (a + n) m
 places_append a zero m = rw (add-zero a, zero-add m) refl
@@ -306,18 +277,6 @@ places_append a (suc n) m = rw suc-add (ap (λ (t : List ℕ). a ∷ t) (places_
 pub count_of_places : (p : ℕ → Bool) (n m : ℕ) → count_by p (range_with_len 0 (n + m)) ≡ count_by p (range_with_len 0 n) + count_by p (range_with_len n m)
 count_of_places p n m = grind (arith, common_steps, places_append, zero-add, sum_by-append)
 
--- a count over the places is at most their number
-pub count_of_places_le : (p : ℕ → Bool) (n : ℕ) → count_by p (range_with_len 0 n) ≤ n
-count_of_places_le p n = omega (arith, count_by-le-length p (range_with_len 0 n), length-range_with_len 0 n)
-
 -- one place more
 pub count_one_more : (p : ℕ → Bool) (n : ℕ) (b : Bool) → p n ≡ b → count_by p (range_with_len 0 (n + 1)) ≡ count_by p (range_with_len 0 n) + cond b 1 0
 count_one_more p n b is = grind (arith, count_of_places, zero-add)
-
-pub ruleset square_counts = (count_of_places, count_of_places_le, count_one_more, common_steps)
-
--- A count goes on over a block.
-
-pub count_by_block : {X : Type 0} (p : X → Bool) (xs : List X) (at n : ℕ) →
-    count_by p (take (at + n) xs) ≡ count_by p (take at xs) + count_by p (slice_range xs at (at + n))
-count_by_block p xs at n = grind (arith, common_steps, take-add, sum_by-append)

@@ -1,9 +1,10 @@
 -- Regions that say nothing, and what regions say together.
 use Rattle.qrcode_grid.proofs.Prelude.{◌≡◌, ◌-◌, ◌≤◌, zero, suc, ℕ, ◌<◌, ◌+◌, ◌*◌, ap, refl, arith, false, nat_lt, nat_le, ◌==◌, ◌&&◌, ◌||◌, ◌≢◌, Option, None}
-use Rattle.qrcode_grid.proofs.Prelude.{[], ◌∷◌, get_or, ◌/◌, map, sym, ◌∙◌, leb, cond, inl, inr, Bool, true, ◌%◌, fold, option_or, Light, Dark, nat_tests}
+use Rattle.qrcode_grid.proofs.Prelude.{[], ◌∷◌, get_or, ◌/◌, map, ◌∙◌, leb, cond, inl, inr, Bool, true, ◌%◌, fold, option_or, Light, Dark, nat_tests}
 use Rattle.qrcode_grid.proofs.Prelude.{Color, Module, VERSION_WORDS, drawn_over, finder, timing, version_copies, alignments, alignment_coordinates}
 use Rattle.qrcode_grid.proofs.Prelude.{near, alignment_count, alignment_at, alignment_coordinate, version_word, common_steps, range_with_len}
 use Rattle.qrcode_grid.proofs.Prelude.{get_or-map-range_with_len, abs_diff, min, cases_lt, leb-true, Some}
+use Rattle.qrcode_grid.proofs.Prelude.{List, length, drop, drop_more, drop_all, length-map-range_with_len}
 use Rattle.qrcode_grid.proofs.Tests.{all_pass, passes, both}
 
 pub no_version : (n x y : ℕ) → n < 7 → version_copies n x y ≡ None
@@ -84,6 +85,20 @@ near_more f x k c h far = grind (arith, common_steps)
 pub alignment_count_is : (n : ℕ) → 1 < n → alignment_count n ≡ n / 7 + 2
 alignment_count_is n h = let e : leb n 1 ≡ false = (grind (arith, nat_tests)) in ap (λ b. cond b 0 (n / 7 + 2)) e
 
+-- a centre coordinate behind the first, as the code has it
+pub coordinate_is : (n k step : ℕ) → 1 < n → 1 ≤ k → step ≡ cond (n == 32) 26 ((4 * n + 2 * (n / 7 + 2) + 1) / (2 * (n / 7 + 2) - 2) * 2) →
+    4 * n + 10 - (n / 7 + 2 - 1 - k) * step ≡ alignment_coordinate n k
+coordinate_is n k step some behind_first is = grind (arith, nat_tests, is, alignment_count_is n some)
+
+-- a list of the centre coordinates
+pub centers_count : (n : ℕ) (centers : List ℕ) → centers ≡ alignment_coordinates n → length centers ≡ alignment_count n
+centers_count n centers is = ap length is ∙ length-map-range_with_len (alignment_coordinate n) 0 (alignment_count n)
+
+pub center_is : (n k : ℕ) (xs centers : List ℕ) → xs ≡ centers → centers ≡ alignment_coordinates n → k < alignment_count n
+    → get_or xs k 0 ≡ alignment_coordinate n k
+center_is n k xs centers same is h =
+    ap (λ (ys : List ℕ). get_or ys k 0) (same ∙ is) ∙ get_or-map-range_with_len (alignment_coordinate n) 0 (alignment_count n) k k 0 h (omega arith)
+
 -- the version words of the versions 7 to 40, computed
 pub version_words_are : map version_word (range_with_len 7 34) ≡ VERSION_WORDS
 version_words_are = refl
@@ -91,7 +106,16 @@ version_words_are = refl
 pub version_word_at : (n : ℕ) → 7 ≤ n → n ≤ 40 → get_or VERSION_WORDS (n - 7) 0 ≡ version_word n
 version_word_at n low high = cc (get_or-map-range_with_len version_word 7 34 (n - 7) n 0 (omega arith) (omega arith))
 
-pub ruleset near_steps = (near_more, alignment_count_is, common_steps)
+-- The coordinates from place k on: the one there is near, or what follows decides.
+
+pub near_found : (cs : List ℕ) (k x : ℕ) → k < length cs → abs_diff (get_or cs k 0) x ≤ 2 → near (drop k cs) x ≡ Some (get_or cs k 0)
+near_found cs k x h e = grind (arith, common_steps, drop_more)
+
+pub near_past : (cs : List ℕ) (k x : ℕ) → k < length cs → 2 < abs_diff (get_or cs k 0) x → near (drop k cs) x ≡ near (drop (k + 1) cs) x
+near_past cs k x h e = grind (arith, common_steps, drop_more)
+
+pub near_end : (cs : List ℕ) (k x : ℕ) → length cs ≤ k → near (drop k cs) x ≡ None
+near_end cs k x h = grind (arith, common_steps, drop_all)
 
 -- The cells of a row that no alignment pattern covers: before, between and behind the five cells of each centre.
 

@@ -11,7 +11,7 @@ use Rattle.qrcode_grid.specs.Masks.{family}
 use Rattle.qrcode_grid.specs.declared.canvas.scoring.lists.Feature.{Feature}
 use Rattle.qrcode_grid.specs.declared.canvas.scoring.lists.Feature.TheVariants.{Finder, Square, Dark}
 use Rattle.qrcode_grid.specs.Regions.{sum_below, digit_color}
-use Rattle.qrcode_grid.specs.Penalty.{byte_of}
+use Rattle.qrcode_grid.specs.Penalty.{byte_of, is_byte_square_at}
 use Rattle.qrcode_grid.specs.declared.canvas.Module.{Module}
 use Rattle.qrcode_grid.specs.declared.canvas.Module.TheVariants.{Empty, Masked, Unmasked}
 
@@ -26,6 +26,11 @@ plane m bytes = map (λ b. bit_at b m) bytes
 -- whether a module as a byte is dark
 abbrev pub is_dark_byte : ℕ → Bool
 is_dark_byte b = not (b == 0)
+
+-- whether place k of two rows of bytes begins a square of one colour, or the byte there is dark
+abbrev pub has_byte : Bool → List ℕ → List ℕ → ℕ → Bool
+has_byte squares upper lower k =
+    if squares then is_byte_square_at upper lower k else is_dark_byte (slice_index upper k)
 
 -- in how many of 16 lanes bit m is set
 unfoldable pub bit_count : ℕ → List ℕ → ℕ

@@ -9,13 +9,14 @@ mod registry;
 mod text_symbols;
 
 use crate::grids::hash;
+use crate::sequence_tests::SIXTEEN;
 use qrcode_core::bits::{
     encode_auto, encode_auto_micro, encode_auto_with_max_version, encode_part,
 };
 use qrcode_core::canvas::{Canvas, MaskPattern};
 use qrcode_core::ec::{construct_codewords, create_error_correction_code};
 use qrcode_core::optimize::{Parser, Segment, optimize_segments, supports_linear_costs};
-use qrcode_core::symbol::{symbol, symbol_micro, symbol_sequence};
+use qrcode_core::symbol::{are_cuts, symbol, symbol_micro, symbol_sequence};
 use qrcode_core::types::{EcLevel, Mode, QrError, QrResult, Version};
 use std::alloc::Global;
 
@@ -74,6 +75,19 @@ fn symbol_sequence_of_three(rt: HostRuntime) -> QrResult<()> {
     let grids = symbol_sequence(rt.alloc(), b"AB12cd", &[2, 4], EcLevel::L, 40)?;
     assert_eq!(rt; grids.len(), HASHES.len());
     for (grid, sum) in grids.iter().zip(HASHES.iter()) {
+        assert_eq!(rt; hash(grid), *sum);
+    }
+    Ok(())
+}
+
+static CUTS: [usize; 15] = [1, 2, 3, 4, 5, 6, 7, 8, 9, 10, 11, 12, 13, 14, 15];
+
+#[test]
+fn symbol_sequence_of_sixteen(rt: HostRuntime) -> QrResult<()> {
+    assert!(rt; are_cuts(&CUTS, 16));
+    let grids = symbol_sequence(rt.alloc(), b"abcdefghijklmnop", &CUTS, EcLevel::L, 40)?;
+    assert_eq!(rt; grids.len(), SIXTEEN.len());
+    for (grid, sum) in grids.iter().zip(SIXTEEN.iter()) {
         assert_eq!(rt; hash(grid), *sum);
     }
     Ok(())

@@ -103,7 +103,7 @@ fn is_part(rt: &impl Abort, seen: &Seen, row: &Row, index: usize) {
 }
 
 /// The hashes of the symbols of the third row, which are those of the original crate's.
-static SIXTEEN: [u32; 16] = [
+pub(crate) static SIXTEEN: [u32; 16] = [
     0x345666eb, 0x9f199b39, 0xb06ad7e3, 0xe7e97707, 0x001794e7, 0x38e1dccd, 0x24994a97, 0x58d81acf,
     0x2329c377, 0xf6ae5043, 0xe5436a69, 0x11891f6d, 0x528fd71b, 0xe75e49cb, 0xc64aa0d7, 0x543a66a9,
 ];

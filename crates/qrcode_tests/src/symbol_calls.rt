@@ -1,4 +1,5 @@
 //! Each call of `symbol` once, on the symbols of known rows.
+use crate::grids::read;
 use qrcode_core::bits::Bits;
 use qrcode_core::canvas::MaskPattern;
 use qrcode_core::limits::ResourceLimits;
@@ -7,6 +8,7 @@ use qrcode_core::traits::{ModuleSource, QrSymbol};
 use qrcode_core::types::{Color, EcLevel, QrError, QrResult, Version};
 use std::alloc::Global;
 use std::process::Abort;
+use texts::gs1_symbol;
 
 /// The rows of the symbol of `12345` in M1, dark as one (ISO/IEC 18004 has none; the original crate draws it so).
 static ROWS: [u16; 11] = [
@@ -112,6 +114,48 @@ fn refuses_bits(rt: HostRuntime) {
     assert!(rt; refused == Some(QrError::DataTooLong));
 }
 
+/// Digits and a letter in two segments, as ISO/IEC 18004 asks of M2: 0 and a count of 4 bits, 123 in 10; 1 and a count
+/// of 3 bits, A in 6. Then a terminator of 5 bits, zeros to the end of the byte, and a pad codeword.
+static DIGITS_AND_LETTER: [u8; 5] = [
+    0b0_0011_000,
+    0b1111011_1,
+    0b001_00101,
+    0b0_00000_00,
+    0b11101100,
+];
+
+#[test]
+fn holds_digits_and_letter_in_m2(rt: HostRuntime) {
+    let mut bits = Bits::new(rt.alloc(), Version::Micro(2));
+    assert!(rt; bits.push_optimal_data(b"123A").is_ok());
+    assert_eq!(rt; bits.len(), 25);
+    assert!(rt; bits.push_terminator(EcLevel::L).is_ok());
+    assert!(rt; bits.into_bytes().as_slice() == DIGITS_AND_LETTER.as_slice());
+}
+
+#[test]
+fn draws_digits_and_letter_in_m2(rt: HostRuntime) {
+    let grid = symbol_micro(rt.alloc(), b"123A", EcLevel::L).expect(&rt, "no symbol");
+    let seen = read(rt.alloc(), &grid).expect(&rt, "no reading");
+    assert!(rt; seen.shape.micro && seen.shape.number == 2 && seen.payload == 25);
+    assert!(rt; seen.codewords.as_slice() == DIGITS_AND_LETTER.as_slice());
+    assert!(rt; seen.bytes.as_slice() == b"123A".as_slice());
+}
+
+#[test]
+fn refuses_headers_in_micro_symbols(rt: HostRuntime) {
+    refuses_headers(&rt, &mut Bits::new(rt.alloc(), Version::Micro(1)));
+    refuses_headers(&rt, &mut Bits::new(rt.alloc(), Version::Micro(4)));
+}
+
+/// A Micro symbol has no header, also where the header is none.
+fn refuses_headers(rt: &impl Abort, bits: &mut Bits) {
+    for (position, total) in [(1, 2), (3, 2), (1, 17)] {
+        let refused = bits.push_structured_append_header(position, total, 0);
+        assert!(rt; refused == Err(QrError::UnsupportedCharacterSet) && bits.is_empty());
+    }
+}
+
 /// The version of a symbol under limits, or its refusal.
 fn under(alloc: Global, bytes: &[u8], version: Version) -> QrResult<Version> {
     let limits = ResourceLimits::new(18, version, (100, 100));
@@ -176,4 +220,17 @@ fn refuses(rt: HostRuntime) {
         ec_level: EcLevel::H,
     };
     assert!(rt; answer.err() == Some(lacking));
+}
+
+/// Readers would take a `%` for the byte 1D hex: the first one is refused, before their number is looked at.
+#[test]
+fn gs1_symbols_with_a_percent_sign(rt: HostRuntime) {
+    let mut many = [b'7'; 7090];
+    many[7089] = b'%';
+    let rows: [(&[u8], usize); 3] = [(b"10AB%12%", 4), (b"%", 0), (&many, 7089)];
+    for (elements, position) in rows {
+        let refused = gs1_symbol(rt.alloc(), elements, EcLevel::M).err();
+        let byte = b'%';
+        assert!(rt; refused == Some(QrError::InvalidCharacter { position, byte }));
+    }
 }

@@ -1,5 +1,7 @@
 //! Views and limits, with objects of the tests' own.
-ghost use Rattle.std.specs.Prelude.{◌≡◌, length, Ok};
+ghost use Rattle.std.specs.Prelude.{◌≡◌, length, Ok, [], ◌∷◌};
+ghost use Rattle.qrcode_core.specs.declared.types.Color.TheVariants.{Dark};
+ghost use Rattle.qrcode_core.specs.declared.types.EcLevel.TheVariants.{Q};
 ghost use Rattle.qrcode_core.specs.Grids.{grid_of};
 
 use qrcode_core::limits::ResourceLimits;
@@ -135,6 +137,66 @@ impl ModuleSource for Longer {
     }
 }
 
+/// Three rows of no modules.
+struct NoColumns;
+
+impl ModuleSource for NoColumns {
+    ghost grid = { λ _. grid_of [] 0 3 };
+
+    fn get(&self, _x: usize, _y: usize) -> Color {
+        Color::Light
+    }
+
+    fn width(&self) -> usize {
+        0
+    }
+
+    fn height(&self) -> usize {
+        3
+    }
+
+    fn modules(&self) -> &[Color] {
+        &[]
+    }
+}
+
+/// One module that says that it is a symbol.
+struct Spot(Version);
+
+impl ModuleSource for Spot {
+    ghost grid = { λ _. grid_of (Dark ∷ []) 1 1 };
+
+    fn get(&self, _x: usize, _y: usize) -> Color {
+        Color::Dark
+    }
+
+    fn width(&self) -> usize {
+        1
+    }
+
+    fn height(&self) -> usize {
+        1
+    }
+
+    fn modules(&self) -> &[Color] {
+        &[Color::Dark]
+    }
+}
+
+impl QrSymbol for Spot {
+    ghost version_of = { λ s. s.0 };
+
+    ghost level_of = { λ _. Q };
+
+    fn version(&self) -> Version {
+        self.0
+    }
+
+    fn error_correction_level(&self) -> EcLevel {
+        EcLevel::Q
+    }
+}
+
 /// Renders a mark for each module.
 struct Marks;
 
@@ -260,6 +322,7 @@ fn lent_symbols_keep_version_and_level(rt: HostRuntime) {
     let normal = QrCodeRef::new(&list, 11, Version::Normal(1), EcLevel::H);
     assert_eq!(rt; normal.expect(&rt, "no symbol").quiet_zone(), 4);
     assert!(rt; QrCodeRef::new(&list, 12, Version::Micro(1), EcLevel::L).is_none());
+    assert!(rt; QrCodeRef::new(&[], usize::MAX, Version::Normal(1), EcLevel::L).is_none());
 }
 
 /// A lent Micro symbol tells version, level, quiet zone and modules.
@@ -307,6 +370,25 @@ fn own_rows_serve(rt: HostRuntime) {
     };
     assert!(rt; longer.row(1) == [Color::Dark; 3].as_slice());
     assert!(rt; longer.modules().len() == 7 && !longer.is_empty());
+}
+
+#[test]
+fn own_symbols_serve(rt: HostRuntime) {
+    is_spot(&rt, &Spot(Version::Normal(3)), 4);
+    is_spot(&rt, &Spot(Version::Micro(3)), 2);
+}
+
+/// A symbol of one dark module at level Q, with this quiet zone.
+fn is_spot<S: QrSymbol>(rt: &impl Abort, symbol: &S, zone: u32) {
+    assert_eq!(rt; symbol.quiet_zone(), zone);
+    assert!(rt; symbol.error_correction_level() == EcLevel::Q);
+    assert!(rt; symbol.modules() == [Color::Dark].as_slice() && !symbol.is_empty());
+}
+
+#[test]
+fn own_sources_without_columns_serve(rt: HostRuntime) {
+    assert!(rt; NoColumns.is_empty() && NoColumns.modules().len() == 0);
+    assert!(rt; NoColumns.height() == 3 && NoColumns.row(2).len() == 0);
 }
 
 #[test]

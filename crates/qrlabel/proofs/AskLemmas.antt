@@ -1,10 +1,10 @@
 -- Words ask for one label at most.
-use Rattle.std.proofs.Common.{◌≡◌, ℕ, suc, ◌<◌, Bool, true, false, Option, None, Some, List, ◌∷◌, ◌++◌, length, fold, refl, sym, ◌∙◌, ap, subst, arith}
-use Rattle.std.specs.Str.{trim}
-use Rattle.qrcode_core.specs.{declared.types.EcLevel.EcLevel, Names.NamesLevel}
+use Rattle.std.proofs.Common.{◌≡◌, ℕ, ◌<◌, Bool, false, Option, None, List, ◌∷◌, ◌++◌, length, fold, sym, ◌∙◌, subst, arith}
+use Rattle.std.specs.{Str.trim, Prelude.IsTrue}
+use Rattle.qrcode_core.specs.{Names.NamesLevel}
 use Rattle.programs.proofs.Levels.{one_level}
 use Rattle.qrlabel.specs.Words.{Label, Setting, Ask, AskForNone, format_word, kind_words, spelled, with_scale, with_quiet, with_inverted, usual_scale}
-use Rattle.qrlabel.specs.Words.{usual_quiet}
+use Rattle.qrlabel.specs.Words.{usual_quiet, is_text}
 use Rattle.qrlabel.proofs.WordLemmas.{one_spelling, one_format, one_kind, after_kind}
 use Rattle.qrlabel.specs.{declared.wanted.Format.Format, declared.wanted.Kind.Kind, Options.AsksNumber, Options.AsksFlag}
 
@@ -56,19 +56,28 @@ module _ (words : Words) (f l : List ℕ) (rest : Words) (words_are : words ≡ 
       pub quiet_said : AsksNumber (fold with_quiet None settings) (usual_quiet kind) 0 16 a.quiet
       quiet_said = rw (kind_said, settings_said) at asks.quiet_is
 
--- Where the given texts ask for no number, the words ask for nothing.
+-- Where the given texts ask for no number, or what is to be inverted is not text, the words ask for nothing.
 module _ (words : Words) (f l : List ℕ) (rest : Words) (words_are : words ≡ f ∷ l ∷ rest) (kind : Kind) (options : Words)
     (rest_is : rest ≡ kind_words kind ++ options)
     (only : (other : Kind) (settings : List Setting) → rest ≡ kind_words other ++ spelled settings → other ≡ kind)
-    (settings : List Setting) (options_are : options ≡ spelled settings) (given : Option (List ℕ)) (usual : ℕ) where
-  pub no_scale : (format : Format) → f ≡ format_word format → given ≡ fold with_scale None settings → usual ≡ usual_scale format →
-      ((n : ℕ) → AsksNumber given usual 1 64 n → ⊥) → AskForNone words
-  no_scale format is given_is usual_is none asked asks =
-      none asked.scale (rw (usual_is, given_is) (scale_said words f l rest words_are asked asks kind options rest_is only settings options_are format is))
+    (settings : List Setting) (options_are : options ≡ spelled settings) where
+  pub no_inverted : (format : Format) (inverted : Bool) → f ≡ format_word format → inverted ≡ fold with_inverted false settings →
+      IsTrue inverted → (IsTrue (is_text format) → ⊥) → AskForNone words
+  no_inverted format inverted is given_is turned none asked asks =
+      let said = settings_said words f l rest words_are asked asks kind options rest_is only settings options_are in
+      let one = one_format asked.format format (sym (format_said words f l rest words_are asked asks) ∙ is) in
+      let same : asked.inverted ≡ inverted = rw said at asks.inverted_is ∙ sym given_is in
+      none (subst (λ (g : Format). IsTrue (is_text g)) one (asks.inverts_text (subst IsTrue (sym same) turned)))
 
-  pub no_quiet : given ≡ fold with_quiet None settings → usual ≡ usual_quiet kind → ((n : ℕ) → AsksNumber given usual 0 16 n → ⊥) → AskForNone words
-  no_quiet given_is usual_is none asked asks =
-      none asked.quiet (rw (usual_is, given_is) (quiet_said words f l rest words_are asked asks kind options rest_is only settings options_are))
+  module _ (given : Option (List ℕ)) (usual : ℕ) where
+    pub no_scale : (format : Format) → f ≡ format_word format → given ≡ fold with_scale None settings → usual ≡ usual_scale format →
+        ((n : ℕ) → AsksNumber given usual 1 64 n → ⊥) → AskForNone words
+    no_scale format is given_is usual_is none asked asks =
+        none asked.scale (rw (usual_is, given_is) (scale_said words f l rest words_are asked asks kind options rest_is only settings options_are format is))
+
+    pub no_quiet : given ≡ fold with_quiet None settings → usual ≡ usual_quiet kind → ((n : ℕ) → AsksNumber given usual 0 16 n → ⊥) → AskForNone words
+    no_quiet given_is usual_is none asked asks =
+        none asked.quiet (rw (usual_is, given_is) (quiet_said words f l rest words_are asked asks kind options rest_is only settings options_are))
 
 -- ---- Labels
 

@@ -2,7 +2,6 @@
 use Rattle.std.proofs.Common.{◌≡◌, ℕ, Bool, List, refl, sym, ◌∙◌, arith, Result, Ok, Err}
 use Rattle.std.specs.Prelude.{IfOk, IfErr}
 use Rattle.qrcode_core.specs.declared.plugin.error.PluginError.TheVariants.{InvalidConfig, RenderFailed, OutOfMemory}
-use Rattle.qrcode_core.specs.declared.plugin.output.RenderOutput.TheVariants.{Text, Bytes, Modules}
 use Rattle.qrcode_core.specs.{declared.plugin.config.RenderConfig.RenderConfig, declared.plugin.error.PluginError.PluginError}
 use Rattle.qrcode_core.specs.{declared.plugin.output.RenderOutput.RenderOutput, Plugins.render_options, Grids.Grid}
 use Rattle.qrlabel.specs.declared.wanted.Format.TheVariants.{Svg, Pbm, Terminal}

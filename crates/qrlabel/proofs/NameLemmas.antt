@@ -1,5 +1,5 @@
 -- Three renderers by their names.
-use Rattle.std.proofs.Common.{◌≡◌, ◌≢◌, ℕ, List, [], ◌∷◌, Some, None, Bool, false, refl, ◌∙◌, sym, subst, inl, inr}
+use Rattle.std.proofs.Common.{◌≡◌, ◌≢◌, ℕ, List, [], ◌∷◌, Some, None, Bool, false, refl, ◌∙◌, inl, inr}
 use Rattle.std.specs.Prelude.{codes, ◌⊎◌, IfSome, IfNone, Result, Err}
 use Rattle.std.{specs.Ordering.is_eq, specs.Str.bytes_eq, proofs.lemmas.Bool.false_from_ne_true, proofs.lemmas.Map.Text.is_eq-slice_cmp}
 use Rattle.std.{proofs.lemmas.Slice.Eq.bytes_eq-Decides, specs.declared.alloc.Global.Global, specs.declared.dyn_box.DynBox.DynBox}

@@ -1,6 +1,6 @@
 -- Options that were written as texts.
-use Rattle.std.proofs.Common.{◌≡◌, ◌≢◌, ◌∙◌, ℕ, ◌^◌, ◌<◌, ◌≤◌, Bool, List, [], Some, get_or, refl, sym, ap, subst, arith}
-use Rattle.std.{specs.Prelude.codes, specs.Prelude.decimal, specs.Str.Parse.IsNumeral, specs.Str.Parse.digits_value, proofs.lemmas.Fmt.decimal_is_IsNumeral}
+use Rattle.std.proofs.Common.{◌≡◌, ℕ, ◌^◌, ◌<◌, ◌≤◌, Bool, List, [], Some, refl, arith}
+use Rattle.std.{specs.Prelude.codes, specs.Prelude.decimal, specs.Str.Parse.digits_value, proofs.lemmas.Fmt.decimal_is_IsNumeral}
 use Rattle.std.{proofs.lemmas.Str.Parse.digit_at, proofs.lemmas.Str.Parse.without_leading_plus_none}
 use Rattle.qrcode_core.specs.Plugins.{TextMap, with_entry}
 use Rattle.qrlabel.specs.Options.{IsNumber, AsksFlag, Asks}

@@ -1,9 +1,9 @@
 -- The runs of a row, one after the other, and the modules of a run.
-use Rattle.std.proofs.Common.{◌≡◌, ℕ, ◌+◌, ◌<◌, ◌≤◌, ◌++◌, Bool, true, false, List, [], length, refl, sym, ◌∙◌, arith, append-nil}
+use Rattle.std.proofs.Common.{◌≡◌, ℕ, ◌+◌, ◌<◌, ◌≤◌, ◌++◌, Bool, true, false, List, length, sym, ◌∙◌, arith, append-nil}
 use Rattle.std.proofs.lemmas.List.Sums.{prefix_len-drop_yes, prefix_len-drop_no, prefix_len-drop_all}
 use Rattle.std.proofs.lemmas.{List.FromFn.length-map-range_with_len, List.FromFn.get_or-map-range_with_len, Grind.common_steps}
 use Rattle.qrlabel.specs.Paths.{begins_run, row_of, run_length, rectangle, run_at, row_path, path}
-use Rattle.qrlabel.{specs.Pictures.Picture, specs.Pictures.columns_of, specs.Pictures.is_dark_module, proofs.Ranges.flat_map_range, proofs.Ranges.joined}
+use Rattle.qrlabel.{specs.Pictures.Picture, specs.Pictures.columns_of, specs.Pictures.is_dark_module, proofs.Ranges.flat_map_range}
 
 -- the path begins with no row
 pub path_start : (p : Picture) (text : List ℕ) → text ≡ text ++ path p 0

@@ -1,12 +1,12 @@
 -- Words are spelled in one way.
-use Rattle.std.proofs.Common.{◌≡◌, ℕ, ◌-◌, ◌<◌, ◌+◌, ◌≤◌, true, false, List, [], ◌∷◌, ◌++◌, Bor, length, drop, take, map, slice_index_or, fold, refl, sym, ◌∙◌}
+use Rattle.std.proofs.Common.{◌≡◌, ℕ, ◌-◌, ◌<◌, ◌+◌, ◌≤◌, false, List, [], ◌∷◌, ◌++◌, Bor, length, drop, take, map, slice_index_or, fold, refl, sym, ◌∙◌}
 use Rattle.std.proofs.Common.{ap, arith, append_assoc, append-nil}
 use Rattle.std.proofs.lemmas.Grind.{flat_map-append, common_steps}
 use Rattle.std.proofs.lemmas.List.{take_all, drop_all, drop-drop, drop-map, length-map, length-drop}
 use Rattle.std.{specs.Prelude.codes, specs.Str.bytes_eq, proofs.lemmas.Slice.Eq.bytes_eq-Decides, proofs.lemmas.List.Sums.fold-append}
-use Rattle.qrlabel.specs.Words.{Setting, Scale, Quiet, Inverted, format_word, kind_words, setting_words, spelled}
-use Rattle.qrlabel.specs.declared.wanted.{Format.Format, Format.TheVariants.Svg, Format.TheVariants.Pbm, Format.TheVariants.Terminal, Kind.Kind}
-use Rattle.qrlabel.specs.declared.wanted.{Kind.TheVariants.Usual, Kind.TheVariants.Micro, Kind.TheVariants.Utf8}
+use Rattle.qrlabel.specs.Words.{Setting, format_word, kind_words, setting_words, spelled}
+use Rattle.qrlabel.specs.declared.wanted.{Format.Format, Kind.Kind}
+use Rattle.qrlabel.specs.declared.wanted.{Kind.TheVariants.Micro, Kind.TheVariants.Utf8}
 
 abbrev Words : Type 0
 Words = List (List ℕ)

@@ -1,5 +1,5 @@
 -- What the words of the command line ask for.
-use Rattle.std.specs.Prelude.{◌≡◌, ℕ, Bool, true, false, List, [], ◌∷◌, ◌++◌, codes, flat_map, fold, Option, None, Some}
+use Rattle.std.specs.Prelude.{◌≡◌, ℕ, Bool, true, false, List, [], ◌∷◌, ◌++◌, codes, flat_map, fold, Option, None, Some, IsTrue}
 use Rattle.std.specs.Str.{trim}
 use Rattle.qrcode_core.specs.declared.types.EcLevel.{EcLevel}
 use Rattle.qrcode_core.specs.Names.{NamesLevel}
@@ -77,8 +77,13 @@ abbrev pub usual_quiet : Kind → ℕ
 usual_quiet Micro = 2
 usual_quiet _ = 4
 
+-- whether the picture is text, which alone can be for a dark screen
+abbrev pub is_text : Format → Bool
+is_text Terminal = true
+is_text _ = false
+
 -- The words ask for a label: a format, a level with white space around it perhaps, perhaps a kind, and then options in
--- any order. Of those that stand there more than once the last one counts.
+-- any order. Of those that stand there more than once the last one counts. `--inverted` asks for text.
 pub record Ask (words : List (List ℕ)) (asked : Label) : Type 0 where
   pub level_word : List ℕ
   pub settings : List Setting
@@ -87,6 +92,7 @@ pub record Ask (words : List (List ℕ)) (asked : Label) : Type 0 where
   pub scale_is : AsksNumber (fold with_scale None settings) (usual_scale asked.format) 1 64 asked.scale
   pub quiet_is : AsksNumber (fold with_quiet None settings) (usual_quiet asked.kind) 0 16 asked.quiet
   pub inverted_is : asked.inverted ≡ fold with_inverted false settings
+  pub inverts_text : IsTrue asked.inverted → IsTrue (is_text asked.format)
 
 -- They ask for none.
 abbrev pub AskForNone : List (List ℕ) → Type 0

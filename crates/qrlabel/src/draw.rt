@@ -20,7 +20,7 @@ use qrcode_core::types::{EcLevel, QrError};
 use std::alloc::Global;
 
 /// Reads to the end, writes the label of the symbol of all that was read, and flushes. Of more than 7089 bytes, which
-/// no symbol holds, it reads 7090. Without memory for its configuration it reads nothing.
+/// no symbol holds, it reads 7090.
 pub fn draw<R: Source, W: Sink>(
     alloc: Global,
     reader: &mut R,

@@ -218,7 +218,7 @@ fn ran(alloc: Global, words: &[&str], input: &[u8]) -> Served {
 /// The words, the status, and how many bytes are written: a bitmap of so many columns and rows.
 #[test]
 fn runs(rt: HostRuntime) -> Result<(), PluginError> {
-    let rows: [(&[&str], u8, usize); 18] = [
+    let rows: [(&[&str], u8, usize); 20] = [
         (&["pbm", "L"], 0, 11 + 29 * 232),
         (&["pbm", "L", "--scale", "1"], 0, 9 + 4 * 29),
         (
@@ -228,11 +228,9 @@ fn runs(rt: HostRuntime) -> Result<(), PluginError> {
             0,
             9 + 3 * 21,
         ),
-        (
-            &["pbm", "q", "micro", "--inverted", "--scale", "1"],
-            0,
-            9 + 3 * 21,
-        ),
+        (&["pbm", "q", "micro", "--scale", "1"], 0, 9 + 3 * 21),
+        (&["pbm", "q", "micro", "--inverted", "--scale", "1"], 2, 0),
+        (&["svg", "L", "--quiet", "1", "--inverted"], 2, 0),
         (&["pbm", "H", "micro"], 1, 0),
         (
             &["pbm", "l", "utf8", "--scale", "1", "--quiet", "1"],
@@ -290,6 +288,30 @@ fn draws_utf8(rt: HostRuntime) -> Result<(), PluginError> {
     assert_eq!(rt; answer.status, 0);
     assert_eq!(rt; answer.label.as_slice(), THANKS.as_bytes());
     assert_eq!(rt; answer.said.len(), 0);
+    Ok(())
+}
+
+/// What stands for a character where light modules are drawn in place of dark ones.
+fn inverted(character: char) -> char {
+    match character {
+        '█' => ' ',
+        ' ' => '█',
+        '▀' => '▄',
+        '▄' => '▀',
+        other => other,
+    }
+}
+
+/// Only text is inverted: the other forms refuse it (`runs`).
+#[test]
+fn inverts_text(rt: HostRuntime) -> Result<(), PluginError> {
+    let words = ["terminal", "L", "utf8", "--inverted", "--quiet", "0"];
+    let answer = ran(rt.alloc(), &words, "ありがとう".as_bytes());
+    let Ok(text) = str::from_utf8(&answer.label) else {
+        return Err(PluginError::InvalidModuleGrid);
+    };
+    assert_eq!(rt; answer.status, 0);
+    assert!(rt; text.chars().eq(THANKS.chars().map(inverted)));
     Ok(())
 }
 

@@ -3,7 +3,7 @@ ghost use Rattle.std.specs.Prelude.{◌≡◌, ◌++◌, List, map, MatchOption}
 ghost use Rattle.qrlabel.specs.declared.wanted.Format.{Format};
 ghost use Rattle.qrlabel.specs.declared.wanted.Kind.{Kind};
 ghost use Rattle.qrlabel.specs.Words.{Setting, label_of, Ask, AskForNone, format_word, kind_words, spelled};
-ghost use Rattle.qrlabel.specs.Words.{usual_scale, usual_quiet};
+ghost use Rattle.qrlabel.specs.Words.{usual_scale, usual_quiet, is_text};
 
 use crate::given::given_by;
 use crate::options::{Request, number};
@@ -56,6 +56,16 @@ impl Format {
             Format::Terminal => 1,
         }
     }
+
+    /// Whether the picture is text, which can be for a dark screen.
+    fn is_text(self) -> bool
+        ensures { result ≡ is_text self }
+    {
+        match self {
+            Format::Svg | Format::Pbm => false,
+            Format::Terminal => true,
+        }
+    }
 }
 
 impl Kind {
@@ -83,6 +93,9 @@ pub fn wanted_of(words: &[&str]) -> Option<Wanted>
     let level = level.parse().ok()?;
     let (kind, options) = kind_of(rest);
     let given = given_by(options)?;
+    if given.inverted && !format.is_text() {
+        return None;
+    }
     let scale = number(given.scale, format.usual_scale(), 1, 64)?;
     let quiet = number(given.quiet, kind.usual_quiet(), 0, 16)?;
     let request = Request {

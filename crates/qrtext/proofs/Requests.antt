@@ -1,6 +1,5 @@
 -- Words ask for one request at most.
-use Rattle.std.proofs.Common.{◌≡◌, ℕ, List, [], ◌∷◌, arith}
-use Rattle.std.specs.Str.{trim}
+use Rattle.std.proofs.Common.{◌≡◌, ℕ, List, arith}
 use Rattle.programs.proofs.Levels.{one_level}
 use Rattle.qrtext.specs.Words.{Request, Ask}
 

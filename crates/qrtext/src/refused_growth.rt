@@ -1,8 +1,7 @@
 //! Drawing while growths are refused: see `tools/refuse-growth`.
 
-use crate::draw::draw;
 use crate::tests::HELLO;
-use programs::{Fault, FromReader, FromWriter};
+use crate::{FromReader, FromWriter, TextError, draw};
 use qrcode_core::types::{EcLevel, QrError, QrResult};
 
 /// A refused growth leaves what is written as it was. The text of 21 lines has 462 bytes.
@@ -14,7 +13,7 @@ fn draw_of_hello(rt: HostRuntime) -> QrResult<()> {
     let mut reader = FromReader::new(&mut bytes);
     let mut writer = FromWriter::new(&mut room);
     let outcome = draw(rt.alloc(), &mut reader, &mut writer, EcLevel::L, false);
-    if outcome == Err(Fault::Symbol(QrError::OutOfMemory)) {
+    if outcome == Err(TextError::Symbol(QrError::OutOfMemory)) {
         assert!(rt; page.iter().all(|byte| *byte == b'?'));
         return Err(QrError::OutOfMemory);
     }

@@ -1,9 +1,7 @@
 //! Devices that fail, and the words of the command line.
-use crate::draw::draw;
-use crate::{OUT_OF_MEMORY, PROGRAM, run};
-use programs::{Fault, FromReader, FromWriter, Sink, Source, fail};
+use crate::{FromReader, FromWriter, Sink, Source, TextError, draw, give_up, run};
 use qrcode_core::types::{EcLevel, QrError};
-use std::alloc::{AllocError, Global};
+use std::alloc::AllocError;
 use std::io;
 use std::io::{ErrorKind, Read, Write};
 use std::test::Fail;
@@ -146,7 +144,7 @@ fn reads_give_up(rt: HostRuntime) -> Result<(), Fail> {
             });
             let mut writer = FromWriter::new(&mut text);
             let outcome = draw(rt.alloc(), &mut reader, &mut writer, EcLevel::L, false);
-            assert_eq!(rt; outcome, Err(Fault::Read), "after {calls} calls");
+            assert_eq!(rt; outcome, Err(TextError::Read), "after {calls} calls");
             assert_eq!(rt; text.len(), 0);
         }
     }
@@ -160,7 +158,7 @@ fn reads_no_more_than_is_too_many(rt: HostRuntime) -> Result<(), Fail> {
     let mut reader = FromReader::new(&mut endless);
     let mut writer = FromWriter::new(&mut text);
     let outcome = draw(rt.alloc(), &mut reader, &mut writer, EcLevel::L, false);
-    assert_eq!(rt; outcome, Err(Fault::Symbol(QrError::DataTooLong)));
+    assert_eq!(rt; outcome, Err(TextError::Symbol(QrError::DataTooLong)));
     assert_eq!(rt; text.len(), 0);
     assert_eq!(rt; endless.given, 7090);
     Ok(())
@@ -208,22 +206,11 @@ fn drawn(rt: &HostRuntime, most: usize, calls: usize, then: Then) -> Result<(boo
     });
     let outcome = draw(rt.alloc(), &mut reader, &mut writer, EcLevel::L, false);
     let wanted = if calls < usize::MAX {
-        Err(Fault::Write)
+        Err(TextError::Write)
     } else {
         Ok(())
     };
     Ok((outcome == wanted, kept))
-}
-
-/// Words as the process gives them.
-fn as_given(alloc: Global, words: &[&str]) -> Result<Vec<String>, AllocError> {
-    let mut given = Vec::with_capacity(alloc, words.len())?;
-    for word in words {
-        given
-            .push(String::from_str(alloc, word)?)
-            .map_err(AllocError::from)?;
-    }
-    Ok(given)
 }
 
 #[test]
@@ -249,8 +236,7 @@ fn runs(rt: HostRuntime) -> Result<(), Fail> {
         let mut reader = FromReader::new(&mut bytes);
         let mut writer = FromWriter::new(&mut text);
         let mut errors = FromWriter::new(&mut said);
-        let asked = as_given(rt.alloc(), words)?;
-        let answer = run(rt.alloc(), &asked, &mut reader, &mut writer, &mut errors);
+        let answer = run(rt.alloc(), words, &mut reader, &mut writer, &mut errors);
         assert_eq!(rt; answer, status, "{words:?}");
         assert_eq!(rt; text.len(), length, "{words:?}");
         assert_eq!(rt; said.as_slice(), line.as_bytes());
@@ -295,8 +281,7 @@ fn runs_with_devices_that_give_up(rt: HostRuntime) -> Result<(), Fail> {
         });
         let mut writer = FromWriter::new(bearing(&mut text, writes));
         let mut errors = FromWriter::new(bearing(&mut said, tells));
-        let asked = as_given(rt.alloc(), words)?;
-        let answer = run(rt.alloc(), &asked, &mut reader, &mut writer, &mut errors);
+        let answer = run(rt.alloc(), words, &mut reader, &mut writer, &mut errors);
         assert_eq!(rt; answer, status, "{reads} {writes} {tells}");
         let read_failed = status == 1 && reads < 9;
         let write_failed = status == 1 && !read_failed;
@@ -313,8 +298,8 @@ fn runs_with_devices_that_give_up(rt: HostRuntime) -> Result<(), Fail> {
 fn tells_want_of_memory(rt: HostRuntime) -> Result<(), Fail> {
     let mut said: Vec<u8> = Vec::new(rt.alloc());
     let mut errors = FromWriter::new(&mut said);
-    let wanting = Fault::from(AllocError);
-    let status = fail(rt.alloc(), &mut errors, PROGRAM, OUT_OF_MEMORY, wanting);
+    let wanting = TextError::from(AllocError);
+    let status = give_up(rt.alloc(), &mut errors, wanting);
     assert_eq!(rt; status, 1);
     assert_eq!(rt; said.as_slice(), "qrtext: out of memory\n".as_bytes());
     Ok(())

@@ -1,19 +1,19 @@
 -- What pushes, refused or not, and the end of a stream say of the bits of a text.
-use Rattle.qrcode_bits.proofs.Prelude.{◌≡◌, ◌∙◌, ℕ, ◌+◌, ◌-◌, ◌^◌, ◌<◌, ◌≤◌, Bool, true, List, [], ◌∷◌, ◌++◌, length, get_or, ap, sym, subst, arith, inl, inr}
+use Rattle.qrcode_bits.proofs.Prelude.{◌≡◌, ◌∙◌, ℕ, ◌+◌, ◌-◌, ◌^◌, ◌*◌, ◌<◌, ◌≤◌, Bool, true, List, [], ◌∷◌, ◌++◌, length, get_or, ap, sym, refl, subst, arith, inl, inr}
 use Rattle.qrcode_bits.proofs.Prelude.{length-append, Err, Ok, Some, None, All, slice_get, is_some, cases_lt, common_steps, All-head, All-tail, All-nil}
-use Rattle.qrcode_bits.proofs.Prelude.{All-cons, EcLevel, Byte, Version, QrError, DataTooLong, OutOfMemory, IsValid, characters, count_width, indicator_width}
+use Rattle.qrcode_bits.proofs.Prelude.{All-cons, EcLevel, L, M, Q, H, Byte, Version, QrError, DataTooLong, OutOfMemory, IsValid, characters, count_width, indicator_width}
 use Rattle.qrcode_bits.proofs.Prelude.{number_bits, capacity, normal_blocks, normal, spellings, IsPushRefused, Spells, AreTexts, parsed, segment_piece}
 use Rattle.qrcode_bits.proofs.Prelude.{segment_pieces, Piece, spelling, Stream, Appends, eci_spelling}
-use Rattle.qrcode_bits.proofs.Choices.{capacity-most, chosen_is_plan, fits_normal}
+use Rattle.qrcode_bits.proofs.Choices.{capacity-grows, chosen_is_plan, fits_normal}
 use Rattle.qrcode_bits.{specs.Push.PushesOptimally, specs.Push.piece_of, specs.declared.optimize.Segment.Segment, proofs.Lengths.long_message}
 use Rattle.qrcode_bits.{proofs.Numbers.length-number_bits, proofs.Pairs.bytes_valid, proofs.PlanFrames.length-spelled, proofs.PlanLaws.one_chosen}
 use Rattle.qrcode_bits.{proofs.Reading.length-spelling, proofs.Segments.length-character_bits, proofs.Texts.texts-plan}
 use Rattle.std.proofs.lemmas.Option.{none-some}
 use Rattle.qrcode_base.{specs.declared.types.errors.QrError.TheVariants.InvalidCharacter}
 use Rattle.qrcode_base.{specs.declared.types.errors.QrError.TheVariants.UnsupportedCharacterSet, proofs.Alphabet.each_below, proofs.Alphabet.from_each_below}
-use Rattle.qrcode_base.{proofs.Fields.count-fits, proofs.Validity.none_where_valid, proofs.Validity.first_invalid-is}
+use Rattle.qrcode_base.{proofs.Fields.count-fits, proofs.Fields.capacity-held, specs.Modes.by_class, proofs.Validity.none_where_valid, proofs.Validity.first_invalid-is}
 use Rattle.qrcode_core.specs.Drawn.{DrawnSymbol, HoldsStream, IsStreamRefusal}
-use Rattle.texts.specs.Smallest.{SaysUtf8, SaysElements, HoldsIn, HoldsNoneBelow, IsTooLongIn, IsRefusedIn}
+use Rattle.texts.specs.Smallest.{SaysUtf8, SaysElements, FitsIn, HoldsIn, HoldsNoneBelow, IsTooLongIn, IsRefusedIn}
 
 -- ---- A stream that says something, and its end
 
@@ -80,6 +80,9 @@ push_refused says old level number piece other is valid long refused = absurd re
 
 -- ---- A text in UTF-8
 
+capacity-least : (level : EcLevel) (c : ℕ) → capacity (normal 40) level ≡ Some c → 10208 ≤ c
+capacity-least level c h = grind arith
+
 -- Why the push of the text is refused.
 pub text_refused : (old : Stream) (level : EcLevel) (number : ℕ) (text : List ℕ) (error : QrError) → old.version ≡ normal number →
     All (λ c. c < 256) text → IsPushRefused old (piece_of Byte text) error → IsRefusedIn (SaysUtf8 text) (normal number) level error
@@ -102,13 +105,54 @@ pub text_length : (stream : Stream) (number : ℕ) (text : List ℕ) → stream.
     (bits : List Bool) → SaysUtf8 text (normal number) bits → length bits ≡ length stream.bits
 text_length stream number text is said bits same = grind arith
 
--- No version holds so many bytes.
-pub text_too_long : (text : List ℕ) (level : EcLevel) → ((i : ℕ) → get_or text i 0 < 256) → 7089 < length text → HoldsNoneBelow 41 (SaysUtf8 text) level
-text_too_long text level are many n first below bits limit said limit_is =
+class_small : (n a b c : ℕ) → 1 ≤ n → n ≤ 9 → by_class n a b c ≡ a
+class_small n a b c first early = grind arith
+
+class_large : (n a b : ℕ) → 9 < n → by_class n a b b ≡ b
+class_large n a b later = grind arith
+
+-- How many bits say a text.
+said_length : (text : List ℕ) (n : ℕ) → All (λ c. c < 256) text →
+    length (eci_spelling 26 ++ spelling (normal n) (piece_of Byte text)) ≡ 16 + by_class n 8 16 16 + 8 * length text
+said_length text n are =
     let sizes = length-append (eci_spelling 26) (spelling (normal n) (piece_of Byte text)) in
-    let bytes = length-character_bits Byte text (bytes_valid text are) in
-    let most = capacity-most level n limit (omega (arith, below)) limit_is in
-    omega (arith, many, ap length said, sizes, length-spelling (normal n) (piece_of Byte text), bytes, most)
+    let designator : length (eci_spelling 26) ≡ 12 =
+    omega (arith, length-append (number_bits 4 7) (number_bits 8 26), length-number_bits 4 7, length-number_bits 8 26) in
+    omega (arith, sizes, designator, length-spelling (normal n) (piece_of Byte text), length-character_bits Byte text are)
+
+module _ (text : List ℕ) (level : EcLevel) (most : ℕ) (are : (i : ℕ) → get_or text i 0 < 256) (full : capacity (normal 40) level ≡ Some (8 * most + 32)) where
+  -- No version holds more bytes than fill version 40.
+  pub text_past : most < length text → HoldsNoneBelow 41 (SaysUtf8 text) level
+  text_past many n first below bits limit said limit_is =
+      let size = ap length said ∙ said_length text n (bytes_valid text are) in
+      let least = capacity-least level (8 * most + 32) full in
+      let held = capacity-held level n limit limit_is in
+      let grows = capacity-grows level n 40 limit (8 * most + 32) (omega (arith, below)) limit_is full in
+      elim (cases_lt 9 n) [
+        | inl later ↦ (let wide : by_class n 8 16 16 ≡ 16 = class_large n 8 16 later in omega (arith, many, size, wide, grows))
+        | inr early ↦ (let small : by_class n 1856 10960 23648 ≡ 1856 = class_small n 1856 10960 23648 first early in
+            omega (arith, many, size, held.1, small, least))
+      ]
+
+  -- Version 40 holds as many.
+  pub text_fits : length text ≤ most → FitsIn (SaysUtf8 text) (normal 40) level
+  text_fits few = record {
+    bits = eci_spelling 26 ++ spelling (normal 40) (piece_of Byte text);
+    limit = 8 * most + 32;
+    said = refl;
+    limit_is = full;
+    fits = omega (arith, few, said_length text 40 (bytes_valid text are));
+  }
+
+longest : (level : EcLevel) → (most : ℕ) × (capacity (normal 40) level ≡ Some (8 * most + 32)) × (most ≤ 7089)
+longest L = (2952, refl, omega arith)
+longest M = (2330, refl, omega arith)
+longest Q = (1662, refl, omega arith)
+longest H = (1272, refl, omega arith)
+
+-- No version holds more bytes than any symbol holds.
+pub text_too_long : (text : List ℕ) (level : EcLevel) → ((i : ℕ) → get_or text i 0 < 256) → 7089 < length text → HoldsNoneBelow 41 (SaysUtf8 text) level
+text_too_long text level are many = let l = longest level in text_past text level l.0 are l.1 (omega (arith, l.2, many))
 
 -- ---- An element string
 

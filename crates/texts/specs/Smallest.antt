@@ -25,6 +25,14 @@ abbrev pub SaysElements : List ℕ → Version → List Bool → Type 0
 SaysElements text version bits = (plan : List Segment) × IsChosenPlan (parsed text) version plan
     × (bits ≡ number_bits 4 5 ++ spellings version (segment_pieces text plan))
 
+-- bits that say so in this version are within its capacity
+pub record FitsIn (says : Version → List Bool → Type 0) (version : Version) (level : EcLevel) : Type 0 where
+  pub bits : List Bool
+  pub limit : ℕ
+  pub said : says version bits
+  pub limit_is : capacity version level ≡ Some limit
+  pub fits : length bits ≤ limit
+
 -- the bits say so in this version, and its symbol holds them
 pub record HoldsIn (says : Version → List Bool → Type 0) (version : Version) (level : EcLevel)
     (symbol : DrawnSymbol) : Type 0 where

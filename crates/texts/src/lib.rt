@@ -1,10 +1,12 @@
 //! Texts behind a header that tells what they are, in the smallest version that holds them, by `qrcode_core`.
 #![tactic(auto)]
 
-ghost use Rattle.std.specs.Prelude.{◌≡◌, ◌≤◌, length, IfOk, IfErr, IsErrOf};
+ghost use Rattle.std.specs.Prelude.{◌≡◌, ◌+◌, ◌*◌, ◌≤◌, length, None, Some, IfOk, IfErr, OnOk, IsErrOf};
+ghost use Rattle.qrcode_base.specs.Symbols.{capacity};
 ghost use Rattle.qrcode_core.specs.Drawn.{TellsReading};
 ghost use Rattle.qrcode_bits.specs.Plans.{normal};
-ghost use Rattle.texts.specs.Smallest.{SaysUtf8, SaysElements, HoldsIn, IsRefusedIn, IsSmallest, IsRefusedByAll};
+ghost use Rattle.texts.specs.Smallest.{SaysUtf8, SaysElements, FitsIn, HoldsIn, IsRefusedIn, IsSmallest, IsRefusedByAll};
+ghost use Rattle.texts.specs.Elements.{first_percent, AreElementsRefused};
 
 use qrcode_core::bits::Bits;
 use qrcode_core::limits::DEFAULT_MAX_DATA_LENGTH;
@@ -13,14 +15,14 @@ use qrcode_core::types::{EcLevel, QrError, QrResult, Version};
 use std::alloc::Global;
 
 /// A text as one Byte segment behind the ECI designator of UTF-8, in the smallest version that holds both (ISO/IEC
-/// 18004, "ECI mode"). `DataTooLong` comes exactly where none does, for more than 7089 bytes without asking for memory.
+/// 18004, "ECI mode"). `DataTooLong` comes exactly where none does, and needs no memory.
 pub fn utf8_symbol(alloc: Global, text: &str, level: EcLevel) -> QrResult<Symbol>
     ensures smallest { IfOk result (IsSmallest (SaysUtf8 text.now) level) }
     ensures reading { IfOk result TellsReading }
     ensures refused { IfErr result (IsRefusedByAll (SaysUtf8 text.now) level) }
-    ensures memory { IsErrOf result QrError.OutOfMemory → length text.now ≤ 7089 }
+    ensures memory { IsErrOf result QrError.OutOfMemory → FitsIn (SaysUtf8 text.now) (normal 40) level }
 {
-    if text.len() > DEFAULT_MAX_DATA_LENGTH {
+    if text.len() > longest_text(level) {
         return Err(QrError::DataTooLong);
     }
     for number in 1..41 {
@@ -31,6 +33,18 @@ pub fn utf8_symbol(alloc: Global, text: &str, level: EcLevel) -> QrResult<Symbol
         }
     }
     Err(QrError::DataTooLong)
+}
+
+/// How many bytes of a text fill version 40, with 12 bits of the designator and 20 of the header.
+fn longest_text(level: EcLevel) -> usize
+    ensures { capacity (normal 40) level ≡ Some (8 * result + 32) }
+{
+    match level {
+        EcLevel::L => 2952,
+        EcLevel::M => 2330,
+        EcLevel::Q => 1662,
+        EcLevel::H => 1272,
+    }
 }
 
 /// The same in the Normal version of a number.
@@ -47,16 +61,24 @@ fn utf8_in(alloc: Global, text: &[u8], number: usize, level: EcLevel) -> QrResul
     Symbol::with_bits(alloc, bits, level)
 }
 
-/// A GS1 element string behind FNC1 in the first position, in the fewest bits, in the smallest version that holds both
-/// (ISO/IEC 18004, "FNC1 mode"). FNC1 between elements is the byte 1D hex; the elements have no `%`, which stands for
-/// FNC1 too where it is Alphanumeric. `DataTooLong` comes exactly where no version holds them, for more than 7089 bytes
-/// without asking for memory.
+/// A GS1 element string behind FNC1 in the first position, in the smallest version that holds both (ISO/IEC 18004,
+/// "FNC1 mode"). FNC1 between elements is the byte 1D hex, which stands in a Byte segment; the segments are the chosen
+/// plan of the bytes.
+///
+/// Readers take a `%` for FNC1 where it is Alphanumeric. So `InvalidCharacter` comes first, exactly where there is a `%`,
+/// with the position of the first one. Then `DataTooLong` comes exactly where no version holds the elements; for more
+/// than 7089 bytes it needs no memory.
 pub fn gs1_symbol(alloc: Global, elements: &[u8], level: EcLevel) -> QrResult<Symbol>
     ensures smallest { IfOk result (IsSmallest (SaysElements elements.now) level) }
     ensures reading { IfOk result TellsReading }
-    ensures refused { IfErr result (IsRefusedByAll (SaysElements elements.now) level) }
+    ensures plain { OnOk result (first_percent elements.now ≡ None) }
+    ensures refused { IfErr result (AreElementsRefused elements.now level) }
     ensures memory { IsErrOf result QrError.OutOfMemory → length elements.now ≤ 7089 }
 {
+    if let Some(position) = first_percent(elements) {
+        let byte = b'%';
+        return Err(QrError::InvalidCharacter { position, byte });
+    }
     if elements.len() > DEFAULT_MAX_DATA_LENGTH {
         return Err(QrError::DataTooLong);
     }
@@ -68,6 +90,13 @@ pub fn gs1_symbol(alloc: Global, elements: &[u8], level: EcLevel) -> QrResult<Sy
         }
     }
     Err(QrError::DataTooLong)
+}
+
+/// The position of the first `%`.
+fn first_percent(elements: &[u8]) -> Option<usize>
+    ensures { result ≡ first_percent elements.now }
+{
+    elements.iter().position(|byte| *byte == b'%')
 }
 
 /// The same in the Normal version of a number.

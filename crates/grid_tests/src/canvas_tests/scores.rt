@@ -1,9 +1,11 @@
-//! Scores beside plain sums of the penalties, and beside values of other programs.
+//! Scores beside plain sums of the penalties. In small versions the tests add these up themselves.
+//! In all versions they stand in `tables`, as a program prints them that states the rules alone.
 ghost use Rattle.std.specs.Prelude.{◌≡◌, IfOk};
 ghost use Rattle.qrcode_base.specs.Symbols.{width_of};
 ghost use Rattle.qrcode_grid.specs.Canvas.{IsCoordinate};
 
 use super::plain::{MICRO_MASKS, NORMAL_MASKS, plain_penalties};
+use super::tables::{ALL_DARK, DIGITS, MICRO_PRINTED, NEW, PAINTED, PRINTED, SYMBOLS, WRITTEN};
 use super::{LEVELS, draw, new_canvas, next_random, side, versions};
 use qrcode_base::types::{Color, EcLevel, QrResult, Version};
 use qrcode_grid::canvas::{Canvas, MaskPattern, Module};
@@ -37,20 +39,24 @@ fn told(version: Version, sum: usize) -> usize {
     sum.saturating_sub(less).min(65535)
 }
 
-/// Whether the penalties of a canvas under all masks are the plain sums, and the best mask and its score are those of
-/// the first least.
+/// Whether the best mask of a canvas is the first of the least of some sums, with the score of that
+/// sum.
+fn is_chosen(alloc: Global, canvas: &Canvas, version: Version, sums: &[usize]) -> QrResult<bool> {
+    let (_best, pattern, score) = canvas.apply_best_mask_with_score(alloc)?;
+    let first = first_of_least(sums);
+    let chosen = masks_of(version).get(first).copied() == Some(pattern);
+    let least = sums.get(first).copied().unwrap_or(0);
+    Ok(chosen && usize::from(score) == told(version, least))
+}
+
+/// Whether the penalties of a canvas under all masks are the plain sums, and the best mask and its
+/// score are those of the first least.
 fn is_scored(alloc: Global, canvas: &Canvas, version: Version) -> QrResult<bool>
     requires { canvas.now.version ≡ version }
 {
-    let masks = masks_of(version);
-    let sums = plain_penalties(alloc, canvas, version, masks)?;
+    let sums = plain_penalties(alloc, canvas, version, masks_of(version))?;
     let counted = canvas.penalties(alloc)?;
-    let (_best, pattern, score) = canvas.apply_best_mask_with_score(alloc)?;
-    let first = first_of_least(&sums);
-    let chosen = masks.get(first).copied() == Some(pattern);
-    let least = sums.get(first).copied().unwrap_or(0);
-    let scored = usize::from(score) == told(version, least);
-    Ok(counted.as_slice() == sums.as_slice() && chosen && scored)
+    Ok(counted.as_slice() == sums.as_slice() && is_chosen(alloc, canvas, version, &sums)?)
 }
 
 /// Writes a module in one of the seven ways.
@@ -98,7 +104,8 @@ fn fill(canvas: &mut Canvas, version: Version, seed: u32)
     }
 }
 
-/// Puts a checkerboard of squares of a size, dark at the corner where the first is 0 and light where it is 1.
+/// Puts a checkerboard of squares of a size, dark at the corner where the first is 0 and light
+/// where it is 1.
 fn paint(canvas: &mut Canvas, version: Version, size: usize, first: usize)
     requires { canvas.old.version ≡ version }
     ensures { canvas.new.version ≡ version }
@@ -123,24 +130,6 @@ fn drawn(alloc: Global, version: Version, seed: u32) -> QrResult<Canvas>
     draw(&mut canvas, seed);
     Ok(canvas)
 }
-
-/// Penalties of Normal symbols under all masks, less 720, printed by another program.
-const PRINTED: [(i16, [usize; 8]); 6] = [
-    (1, [293, 336, 360, 337, 418, 379, 400, 324]),
-    (2, [497, 403, 587, 518, 502, 443, 399, 487]),
-    (7, [1433, 1325, 1505, 1426, 1362, 1557, 1477, 1387]),
-    (14, [3604, 3772, 3845, 4053, 4058, 3888, 3757, 3759]),
-    (25, [9461, 9395, 10106, 9878, 9460, 9512, 9537, 9158]),
-    (40, [21784, 21990, 21944, 21332, 22036, 22241, 21923, 22068]),
-];
-
-/// The same of Micro symbols.
-const MICRO_PRINTED: [(i16, [usize; 4]); 4] = [
-    (1, [98, 67, 116, 116]),
-    (2, [118, 165, 101, 135]),
-    (3, [133, 133, 136, 149]),
-    (4, [150, 169, 150, 165]),
-];
 
 /// Whether penalties are the printed ones and so much more.
 fn are_printed(counted: &[usize], printed: &[usize], more: usize) -> bool {
@@ -177,35 +166,20 @@ fn mixed(start: u32, values: &[usize]) -> u32 {
 /// With what such a number begins.
 const START: u32 = 2166136261;
 
-/// The penalties of a symbol of each version, mixed; printed by another program, as are the next two tables.
-const SYMBOLS: [u32; 44] = [
-    0xFA919D5C, 0xFC746D25, 0x0760A566, 0xFFC6A669, 0x82C8CD92, 0x9451B64F, 0x1FDECAF1, 0x474799A0,
-    0x97A3E8C9, 0x8650E42C, 0x7F8F1D5C, 0x22580F92, 0x28E4BBFD, 0xF98878D5, 0x7F7CA862, 0x992046F9,
-    0xE23F6A40, 0x9DEC55D7, 0xCE52A3B7, 0xE244645E, 0xD820E410, 0x469EAEA4, 0xBCDD4E7C, 0x9FB36309,
-    0xB013162A, 0x014655C7, 0x43AF9610, 0xD3FF4832, 0x57691FB0, 0xD7F9349A, 0xE22C4629, 0x4496211F,
-    0x50AC5EBB, 0xEC3DCF75, 0x01BB2D90, 0xEE048605, 0x45FB8307, 0x63482A44, 0x5FA80A15, 0xEB706747,
-    0xB7332252, 0x1E9013DC, 0xA570ACE0, 0xBC09DB85,
-];
-
 #[test]
 fn scores_symbols(rt: HostRuntime) -> QrResult<()> {
     let alloc = rt.alloc();
     for (version, want) in versions(alloc)?.iter().zip(SYMBOLS.iter()) {
-        let counted = drawn(alloc, *version, 1)?.penalties(alloc)?;
+        let canvas = drawn(alloc, *version, 1)?;
+        let counted = canvas.penalties(alloc)?;
         assert!(rt; mixed(START, &counted) == *want, "{version:?}");
+        assert!(rt;
+            is_chosen(alloc, &canvas, *version, &counted)?,
+            "{version:?}"
+        );
     }
     Ok(())
 }
-
-/// The penalties of canvases of one colour, dark and light, of three checkerboards of squares, and of a new canvas.
-const PAINTED: [u32; 44] = [
-    0xA22D075C, 0xB6BB87B4, 0x3E56AFAA, 0x6D9779A7, 0x2F364098, 0x0326A6A0, 0xF1B02DDC, 0x2DA44380,
-    0x4E513139, 0x2341B737, 0x2D3F6316, 0xCA20712B, 0x287C405B, 0x78A01C4D, 0x7AAF0A5E, 0x8E57F5E8,
-    0x4A69B7B7, 0x7E8786A0, 0x472C9A06, 0x79F95DE3, 0xE8A8868C, 0xC73CACE2, 0xBAA21797, 0x2E2CE920,
-    0x3845AF1E, 0xF8F8D55D, 0x9CDD4946, 0x653EAA8F, 0xB2896FDF, 0x9B6C4BF8, 0xBEEED580, 0x1E0537FC,
-    0xF1AE2463, 0xA73C245A, 0x5E468380, 0xD5621EA3, 0xEF49BB29, 0xC30AC141, 0xEABAD47B, 0xEE700235,
-    0xA9D9EFCD, 0x140FF811, 0x5A850559, 0xAC50B7D7,
-];
 
 #[test]
 fn scores_painted_canvases(rt: HostRuntime) -> QrResult<()> {
@@ -223,16 +197,6 @@ fn scores_painted_canvases(rt: HostRuntime) -> QrResult<()> {
     }
     Ok(())
 }
-
-/// The penalties of four or five canvases of each version, with modules of all kinds in runs.
-const WRITTEN: [u32; 44] = [
-    0x29075C7E, 0x22D6D68D, 0x3E7FDEAF, 0x674989B6, 0xE8DF1FE8, 0xEDA19F47, 0x7DCD4AC6, 0x337B3B58,
-    0xF89CC6E4, 0x2B1258B9, 0xC0851C98, 0x847745E3, 0x43B86FCA, 0x5D1EF686, 0xBA083F56, 0xABCD2E3D,
-    0x2CE7CE73, 0xF83D41DF, 0xA41F7D5E, 0x52F9E71A, 0x3B31D2D2, 0x9895BAFB, 0x8E17CBA0, 0x7DB10BA9,
-    0xEB06373F, 0xCF45B49C, 0x97C4E2FC, 0x76F2C07B, 0x3B6E499D, 0x2DF25628, 0xA4FDC775, 0xB8DBDF8A,
-    0x0C82BB71, 0xA95FB246, 0x7F64D31E, 0x6C09CCA6, 0xBF1776DF, 0xE2FDAC0D, 0xF000650F, 0x1D65E4D1,
-    0x5A927BB5, 0x1EBA2C10, 0x6BD0F2DA, 0x3D825610,
-];
 
 #[test]
 fn scores_written_canvases(rt: HostRuntime) -> QrResult<()> {
@@ -280,34 +244,25 @@ fn scores_by_plain_sums(rt: HostRuntime) -> QrResult<()> {
     Ok(())
 }
 
-/// The best mask and the score of a new canvas: in Normal symbols the first mask, of a sum below 720.
-fn score_of_new(version: Version, level: EcLevel) -> (MaskPattern, u16) {
-    match (version, level) {
-        (Version::Micro(1), _) => (MaskPattern::Diamonds, 68),
-        (Version::Micro(2), _) => (MaskPattern::Diamonds, 0),
-        (Version::Micro(3), _) => (MaskPattern::Diamonds, 85),
-        (Version::Micro(4), _) => (MaskPattern::Diamonds, 102),
-        _ => (MaskPattern::Checkerboard, 0),
-    }
-}
-
+/// In Normal symbols the sums are below 720, so that the score is 0.
 #[test]
 fn scores_new_canvases(rt: HostRuntime) -> QrResult<()> {
     let alloc = rt.alloc();
-    let mut symbols = 0usize;
+    let mut wanted = NEW.iter();
     for version in &versions(alloc)? {
         for level in LEVELS {
             if let Ok(canvas) = new_canvas(alloc, *version, level) {
-                symbols = symbols.wrapping_add(1);
-                let (_best, pattern, score) = canvas.apply_best_mask_with_score(alloc)?;
+                let counted = canvas.penalties(alloc)?;
+                let mix = mixed(START, &counted);
+                assert!(rt; wanted.next() == Some(&mix), "{version:?}, {level:?}");
                 assert!(rt;
-                    (pattern, score) == score_of_new(*version, level),
+                    is_chosen(alloc, &canvas, *version, &counted)?,
                     "{version:?}, {level:?}"
                 );
             }
         }
     }
-    assert!(rt; symbols == 168);
+    assert!(rt; wanted.next().is_none());
     Ok(())
 }
 
@@ -319,20 +274,41 @@ fn score_of_color(alloc: Global, version: Version, first: usize) -> QrResult<(Ma
     Ok((pattern, score))
 }
 
+/// In M1 all masks have one penalty, so that the first is taken. In version 40 the least sum is
+/// that of Diamonds, and the score of every mask is 65535.
 #[test]
 fn scores_dark_and_light(rt: HostRuntime) -> QrResult<()> {
     let alloc = rt.alloc();
-    for (version, first, want) in [
-        (Version::Micro(1), 0, 0),
-        (Version::Micro(1), 1, 170),
-        (Version::Normal(40), 0, 65535),
+    for (version, first, mask, want) in [
+        (Version::Micro(1), 0, MaskPattern::HorizontalLines, 0),
+        (Version::Micro(1), 1, MaskPattern::HorizontalLines, 170),
+        (Version::Normal(40), 0, MaskPattern::Diamonds, 65535),
     ] {
         let (pattern, score) = score_of_color(alloc, version, first)?;
         assert!(rt; score == want, "{version:?}");
-        assert!(rt;
-            pattern == MaskPattern::HorizontalLines || want == 65535,
-            "{version:?}"
-        );
+        assert!(rt; pattern == mask, "{version:?}");
     }
+    Ok(())
+}
+
+#[test]
+fn scores_all_dark(rt: HostRuntime) -> QrResult<()> {
+    let alloc = rt.alloc();
+    let mut canvas = new_canvas(alloc, Version::Normal(40), EcLevel::L)?;
+    paint(&mut canvas, Version::Normal(40), 200, 0);
+    assert!(rt; canvas.penalties(alloc)?.as_slice() == &ALL_DARK[..]);
+    assert!(rt; first_of_least(&ALL_DARK) == MaskPattern::Diamonds as usize);
+    Ok(())
+}
+
+/// The four masks of the symbol of the digits 12345.
+#[test]
+fn scores_digits(rt: HostRuntime) -> QrResult<()> {
+    let alloc = rt.alloc();
+    let mut canvas = new_canvas(alloc, Version::Micro(1), EcLevel::L)?;
+    canvas.draw_all_functional_patterns();
+    canvas.draw_data(&[0xA3, 0xDA, 0xD0], &[0x6E, 0xC7]);
+    assert!(rt; canvas.penalties(alloc)?.as_slice() == &DIGITS[..]);
+    assert!(rt; is_chosen(alloc, &canvas, Version::Micro(1), &DIGITS)?);
     Ok(())
 }

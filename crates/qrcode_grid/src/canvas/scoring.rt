@@ -11,7 +11,7 @@ ghost use Rattle.qrcode_grid.specs.declared.canvas.scoring.lists.Feature.{Featur
 ghost use Rattle.qrcode_grid.specs.Masks.{masked_cells};
 ghost use Rattle.qrcode_grid.specs.Scoring.{has, has_five, has_six, list_length, pattern_of, places, plane};
 
-mod counting;
+pub mod counting;
 mod lists;
 mod planes;
 

@@ -21,13 +21,28 @@ fn gs1_symbol_of_a_batch(rt: HostRuntime) -> QrResult<()> {
     Ok(())
 }
 
-/// More bytes than any symbol holds are refused without memory.
+/// Version 40 has 23648 bits at level L. FNC1, the header of digits and 7089 of them take 4, 18 and 23630: where memory
+/// is found, the call says that no version holds them.
+#[test]
+fn gs1_symbol_of_too_many_digits(rt: HostRuntime) -> QrResult<()> {
+    let refused = gs1_symbol(rt.alloc(), &[b'7'; 7089], EcLevel::L).err();
+    if refused == Some(QrError::OutOfMemory) {
+        return Err(QrError::OutOfMemory);
+    }
+    assert!(rt; refused == Some(QrError::DataTooLong));
+    Ok(())
+}
+
+/// More bytes than any symbol holds are refused without memory. So is each text that is too long: the designator, the
+/// header of bytes and 2953 of them take 12, 20 and 23624 bits.
 #[test]
 fn texts_of_too_many_bytes(rt: HostRuntime) {
     let digits = [b'7'; 7090];
     let refused = gs1_symbol(rt.alloc(), &digits, EcLevel::L);
     assert!(rt; matches!(refused, Err(QrError::DataTooLong)));
-    let text = str::from_utf8(&digits);
-    let refused = text.map(|text| utf8_symbol(rt.alloc(), text, EcLevel::L));
-    assert!(rt; matches!(refused, Ok(Err(QrError::DataTooLong))));
+    for count in [7090, 2953] {
+        let text = str::from_utf8(&digits[..count]);
+        let refused = text.map(|text| utf8_symbol(rt.alloc(), text, EcLevel::L));
+        assert!(rt; matches!(refused, Ok(Err(QrError::DataTooLong))));
+    }
 }

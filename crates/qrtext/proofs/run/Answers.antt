@@ -1,6 +1,5 @@
 -- The words ask for one request, which was drawn.
 use Rattle.std.proofs.Common.{◌≡◌, Ok, Err, refl, subst, map, inl}
-use Rattle.std.specs.String.{string_bytes}
 use Rattle.qrtext.{specs.Words.ServesText, specs.Words.Request, specs.Words.request, proofs.Requests.ask_for_one}
 use Rattle.programs.proofs.DeviceLemmas.{Appends-none}
 use Rattle.qrtext.proofs.run.Goals as goal
@@ -8,7 +7,7 @@ use Rattle.qrtext.proofs.run.Goals as goal
 pub returns-in-Ok-clause-served : goal.returns-in-Ok-clause-served
 returns-in-Ok-clause-served g c = λ asked asks.
     let one : request c.in-Some.micro c.in-Some.level ≡ asked =
-    ask_for_one (map string_bytes c.args.words.now) (request c.in-Some.micro c.in-Some.level) asked c.in-Some.ensures asks in
+    ask_for_one (map (λ word. word.now) c.args.words.now) (request c.in-Some.micro c.in-Some.level) asked c.in-Some.ensures asks in
     let before = g.E.Sink.written c.args.errors.now in
     subst (λ (r : Request). ServesText r (g.R.Source.remaining c.args.reader.now) (g.R.Source.remaining c.draw.new.reader)
     (g.W.Sink.written c.args.writer.now) (g.W.Sink.written c.draw.new.writer) (g.W.Sink.handed_on c.draw.new.writer)
@@ -26,16 +25,16 @@ returns-in-Ok-clause-served g c = λ asked asks.
 pub returns-in-Err-clause-served : goal.returns-in-Err-clause-served
 returns-in-Err-clause-served g c = λ asked asks.
     let one : request c.in-Some.micro c.in-Some.level ≡ asked =
-    ask_for_one (map string_bytes c.args.words.now) (request c.in-Some.micro c.in-Some.level) asked c.in-Some.ensures asks in
+    ask_for_one (map (λ word. word.now) c.args.words.now) (request c.in-Some.micro c.in-Some.level) asked c.in-Some.ensures asks in
     subst (λ (r : Request). ServesText r (g.R.Source.remaining c.args.reader.now) (g.R.Source.remaining c.draw.new.reader)
     (g.W.Sink.written c.args.writer.now) (g.W.Sink.written c.draw.new.writer) (g.W.Sink.handed_on c.draw.new.writer)
-    (g.E.Sink.written c.args.errors.now) (g.E.Sink.written c.fail.new.errors) (g.R.Source.has_failed c.draw.new.reader)
-    (g.W.Sink.has_failed c.draw.new.writer) (g.E.Sink.has_failed c.fail.new.errors) c.fail.result) one
+    (g.E.Sink.written c.args.errors.now) (g.E.Sink.written c.give_up.new.errors) (g.R.Source.has_failed c.draw.new.reader)
+    (g.W.Sink.has_failed c.draw.new.writer) (g.E.Sink.has_failed c.give_up.new.errors) c.give_up.result) one
     (record {
       outcome = Err c.in-Err.fault;
       gives = c.in-Err.ensures.outcome;
       read = c.in-Err.ensures.read;
       write = c.in-Err.ensures.write;
-      status_is = c.fail.ensures.status;
-      says = c.fail.ensures.says;
+      status_is = c.give_up.ensures.status;
+      says = c.give_up.ensures.says;
     })

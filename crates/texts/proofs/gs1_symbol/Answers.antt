@@ -1,5 +1,5 @@
--- The versions before this one, and this one.
-use Rattle.std.proofs.Common.{subst, arith}
+-- The versions before this one, and this one; behind the first `%`.
+use Rattle.std.proofs.Common.{subst, arith, rules}
 use Rattle.qrcode_base.specs.declared.types.errors.QrError.{QrError}
 use Rattle.qrcode_bits.{specs.Plans.normal, proofs.Pairs.bytes_valid}
 use Rattle.texts.{specs.Smallest.SaysElements, specs.Smallest.IsRefusedIn, proofs.Texts.elements_too_long, proofs.Texts.next}
@@ -12,10 +12,14 @@ loop-number-preserved c =
     c.in-Err-DataTooLong.ensures.refused)
 
 pub returns-clause-refused : goal.returns-clause-refused
-returns-clause-refused c n first below = c.loop-number.invariant n first (omega (arith, below, c.loop-number-test.false))
+returns-clause-refused c =
+    (search rules, λ n first below. c.loop-number.invariant n first (omega (arith, below, c.loop-number-test.false)))
 
 pub returns-then-elements-gt-DEFAULT_MAX_DATA_LENGTH-clause-refused :
     goal.returns-then-elements-gt-DEFAULT_MAX_DATA_LENGTH-clause-refused
-returns-then-elements-gt-DEFAULT_MAX_DATA_LENGTH-clause-refused c =
-    elements_too_long c.args.elements.now c.args.level (bytes_valid c.args.elements.now (λ i. omega (arith, c.type_inv.elements i)))
-    (omega (arith, c.if-elements-gt-DEFAULT_MAX_DATA_LENGTH.true))
+returns-then-elements-gt-DEFAULT_MAX_DATA_LENGTH-clause-refused c = (
+  search rules,
+  elements_too_long c.args.elements.now c.args.level
+      (bytes_valid c.args.elements.now (λ i. omega (arith, c.type_inv.elements i)))
+      (omega (arith, c.if-elements-gt-DEFAULT_MAX_DATA_LENGTH.true)),
+)

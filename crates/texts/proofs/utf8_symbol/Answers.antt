@@ -2,7 +2,7 @@
 use Rattle.std.proofs.Common.{List, ℕ, subst, arith}
 use Rattle.qrcode_base.specs.declared.types.errors.QrError.{QrError, TheVariants.DataTooLong}
 use Rattle.qrcode_bits.specs.Plans.{normal}
-use Rattle.texts.{specs.Smallest.SaysUtf8, specs.Smallest.IsRefusedIn, proofs.Texts.next, proofs.Texts.text_too_long}
+use Rattle.texts.{specs.Smallest.SaysUtf8, specs.Smallest.IsRefusedIn, proofs.Texts.next, proofs.Texts.text_past, proofs.Texts.text_fits}
 use Rattle.texts.proofs.utf8_symbol.Goals as goal
 
 pub loop-number-preserved : goal.loop-number-preserved
@@ -12,7 +12,12 @@ loop-number-preserved c =
     (subst (λ (e : QrError). IsRefusedIn (SaysUtf8 c.as_bytes.result.now) (normal c.loop-number.number) c.args.level e)
     c.in-Err-DataTooLong.field-0-is c.in-Err-DataTooLong.ensures.refused))
 
-pub returns-then-text-gt-DEFAULT_MAX_DATA_LENGTH-clause-refused :
-    goal.returns-then-text-gt-DEFAULT_MAX_DATA_LENGTH-clause-refused
-returns-then-text-gt-DEFAULT_MAX_DATA_LENGTH-clause-refused c =
-    text_too_long c.args.text.now c.args.level (λ i. omega (arith, c.type_inv.text i)) (omega (arith, c.if-text-gt-DEFAULT_MAX_DATA_LENGTH.true))
+pub returns-then-text-longest_text-clause-refused :
+    goal.returns-then-text-longest_text-clause-refused
+returns-then-text-longest_text-clause-refused c =
+    text_past c.args.text.now c.args.level c.longest_text.result (λ i. omega (arith, c.type_inv.text i)) c.longest_text.ensures (omega (arith, c.if-text-longest_text.true))
+
+pub returns-in-Err-clause-memory : goal.returns-in-Err-clause-memory
+returns-in-Err-clause-memory c = λ wants.
+    text_fits c.args.text.now c.args.level c.longest_text.result (λ i. omega (arith, c.type_inv.text i)) c.longest_text.ensures
+    (omega (arith, c.if-text-longest_text.false))

@@ -3,7 +3,7 @@ use Rattle.std.proofs.Common.{rules, ◌≡◌, ◌*◌, ℕ, Bool, true, false,
 use Rattle.qrcode_core.specs.declared.types.{Color.Color, EcLevel.EcLevel}
 use Rattle.programs.{proofs.DeviceLemmas.ReadsAll-short, specs.Outcome.IsDrawing, specs.Outcome.IsSymbolOf}
 use Rattle.qrtext.specs.Drawing.{Shows}
-use Rattle.qrtext.proofs.draw.draw.Goals as goal
+use Rattle.qrtext.proofs.drawing.draw.Goals as goal
 
 -- either symbol is square
 square_of : (micro : Bool) (level : EcLevel) (bytes : List ℕ) (grid : List Color) → IsSymbolOf micro level bytes grid →

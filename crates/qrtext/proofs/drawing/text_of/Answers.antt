@@ -3,7 +3,7 @@ use Rattle.std.proofs.Common.{rules, arith, ◌≡◌, ℕ, ◌+◌, ◌*◌, �
 use Rattle.std.proofs.lemmas.Grind.{common_steps}
 use Rattle.qrcode_core.specs.declared.types.Color.{Color}
 use Rattle.qrtext.{specs.Drawing.lines, specs.Drawing.row_of, specs.Drawing.character, proofs.TextLemmas.lines_none, proofs.TextLemmas.lines_more}
-use Rattle.qrtext.proofs.draw.text_of.Goals as goal
+use Rattle.qrtext.proofs.drawing.text_of.Goals as goal
 
 square_of_root : (n root width : ℕ) → n ≡ width * width → root * root ≤ n → n < (root + 1) * (root + 1) → n ≡ root * root
 square_of_root n root width square low high = grind (arith, common_steps)

@@ -4,7 +4,8 @@ ghost use Rattle.programs.specs.Devices.{ReadsAtMost};
 ghost use Rattle.programs.specs.Outcome.{Gives, IsRefusalOf};
 ghost use Rattle.qrtext.specs.Drawing.{Shows, IsTextOf};
 
-use programs::{Fault, Sink, Source, read_all, write_all};
+use crate::{Sink, Source, TextError};
+use programs::{read_all, write_all};
 use qrcode_core::symbol::Symbol;
 use qrcode_core::types::{Color, EcLevel};
 use std::alloc::{AllocError, Global};
@@ -17,7 +18,7 @@ pub fn draw<R: Source, W: Sink>(
     writer: &mut W,
     level: EcLevel,
     micro: bool,
-) -> Result<(), Fault>
+) -> Result<(), TextError>
     requires reader_sound { IsFalse (R.has_failed reader.old) }
     requires writer_sound { IsFalse (W.has_failed writer.old) }
 
@@ -27,12 +28,12 @@ pub fn draw<R: Source, W: Sink>(
 
     // No more is read than is too many, and less where the reader failed.
     ensures few { ReadsAtMost 7090 (R.remaining reader.old) (R.remaining reader.new) }
-    ensures fewer { IsErrOf result Fault.Read →
+    ensures fewer { IsErrOf result TextError.Read →
         ReadsAtMost 7089 (R.remaining reader.old) (R.remaining reader.new) }
 
     // A device's fault is answered exactly where that device failed.
-    ensures read { IsErrOf result Fault.Read ↔ IsTrue (R.has_failed reader.new) }
-    ensures write { IsErrOf result Fault.Write ↔ IsTrue (W.has_failed writer.new) }
+    ensures read { IsErrOf result TextError.Read ↔ IsTrue (R.has_failed reader.new) }
+    ensures write { IsErrOf result TextError.Write ↔ IsTrue (W.has_failed writer.new) }
 {
     let bytes = read_all(alloc, reader)?;
     let symbol = if micro {
