@@ -51,7 +51,8 @@ fn planned(alloc: Global, segments: &[Segment], version: Version) -> QrResult<Ve
     }
 }
 
-/// Returns the bits of segments, if `total_encoded_len` may be called with them.
+/// Returns the bits of segments together, without those that end before they begin or have 100,000
+/// bytes or more.
 pub(crate) fn bits_of(segments: &[Segment], version: Version) -> usize
     requires { HasMicroNumber version }
 {

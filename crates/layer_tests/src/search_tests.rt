@@ -22,7 +22,7 @@ pub(crate) fn version_of(case: usize) -> Version
     }
 }
 
-/// Returns the parts of a plan, from the first segment of the last part up to each end.
+/// Returns the parts of a plan; `starts` has the first segment of the last part for each end.
 fn parts_of(rt: &HostRuntime, segments: &[Segment], starts: &[usize]) -> QrResult<Vec<Segment>> {
     let mut backwards = Vec::new(rt.alloc());
     let mut end = segments.len();

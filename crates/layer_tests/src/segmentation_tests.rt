@@ -52,7 +52,7 @@ fn has_mode(version: Version, mode: Mode) -> bool {
     }
 }
 
-/// In which modes some bytes can be encoded, and how many bits they take, updated byte by byte.
+/// In which modes some bytes can be encoded, updated byte by byte.
 #[derive(Clone, Copy)]
 struct Kinds {
     is_numeric: bool,

@@ -263,7 +263,7 @@ fn hello_world_at_each_level(rt: HostRuntime) -> QrResult<()> {
     Ok(())
 }
 
-/// Returns whether the first `len` bytes are the segment `HELLO WORLD`, followed by EC and 11 (hex)
+/// Returns whether there are `len` bytes: the segment `HELLO WORLD`, and then EC and 11 (hex)
 /// in turn.
 fn is_hello_world(bytes: &[u8], len: usize) -> bool {
     let mut pads = bytes.iter().enumerate().skip(10);
