@@ -289,8 +289,8 @@ fn masks_by_each_pattern(rt: HostRuntime) {
 /// The length of the longest of these rows.
 const LONGEST: usize = 530;
 
-/// Returns whether a pair of alternating rows in which one square has a single colour has exactly
-/// one such square.
+/// Returns whether exactly one square is counted in a pair of alternating rows that has a square of
+/// two by two modules in one colour at a place.
 fn has_one_square(width: usize, place: usize, color: u8) -> bool {
     let mut upper = [0; LONGEST];
     let mut lower = [1; LONGEST];
