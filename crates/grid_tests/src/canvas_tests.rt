@@ -1,4 +1,4 @@
-//! Printed symbols, the grids of the table's codewords, and counts in lanes.
+//! Tests of printed symbols, of the number of data cells, and of counts of modules by colour.
 ghost use Rattle.std.specs.Prelude.{◌≡◌, ◌<◌, ◌≤◌, IfOk};
 ghost use Rattle.qrcode_base.specs.Symbols.{IsSymbol, width_of};
 ghost use Rattle.qrcode_grid.specs.Penalty.{IsFirstLeastMask};
@@ -35,7 +35,7 @@ const PRINTED: [&str; 11] = [
 
 const LEVELS: [EcLevel; 4] = [EcLevel::L, EcLevel::M, EcLevel::Q, EcLevel::H];
 
-/// The 44 versions.
+/// Returns the 44 versions.
 fn versions(alloc: Global) -> QrResult<Vec<Version>> {
     let mut all = Vec::new(alloc);
     for n in 1..41i16 {
@@ -47,7 +47,7 @@ fn versions(alloc: Global) -> QrResult<Vec<Version>> {
     Ok(all)
 }
 
-/// How many modules a side of a symbol has, and 0 where the version is none.
+/// Returns the number of modules along a side of a symbol, or 0 if there is no such version.
 fn side(version: Version) -> usize
     ensures is { 0 < result → result ≡ width_of version }
     ensures small { result ≤ 177 }
@@ -59,7 +59,7 @@ fn side(version: Version) -> usize
     }
 }
 
-/// The module at a column and a row, and an empty one outside.
+/// Returns the module at a column and a row, or an empty module outside the grid.
 fn module_at(canvas: &Canvas, version: Version, x: usize, y: usize) -> Module
     requires { canvas.now.version ≡ version }
 {
@@ -71,7 +71,7 @@ fn module_at(canvas: &Canvas, version: Version, x: usize, y: usize) -> Module
     }
 }
 
-/// A new canvas, where the version has the level.
+/// Returns a new canvas, if the version has the level.
 fn new_canvas(alloc: Global, version: Version, level: EcLevel) -> QrResult<Canvas>
     ensures { IfOk result (λ canvas. canvas.version ≡ version) }
 {
@@ -84,12 +84,12 @@ fn new_canvas(alloc: Global, version: Version, level: EcLevel) -> QrResult<Canva
     Canvas::new(alloc, version, level)
 }
 
-/// The next number of a fixed sequence.
+/// Returns the next number of a fixed sequence.
 fn next_random(state: u32) -> u32 {
     state.wrapping_mul(1664525).wrapping_add(1013904223)
 }
 
-/// A symbol with codewords of a fixed sequence.
+/// Draws a symbol with codewords from a fixed sequence.
 fn draw(canvas: &mut Canvas, seed: u32)
     ensures { canvas.new.version ≡ canvas.old.version }
 {
@@ -103,7 +103,7 @@ fn draw(canvas: &mut Canvas, seed: u32)
     canvas.draw_data(&data, &data);
 }
 
-/// Whether colours are those of the printed symbol.
+/// Returns whether colours are those of the printed symbol.
 fn is_printed(colors: &[Color]) -> bool {
     let mut rest = colors.iter();
     for line in &PRINTED {
@@ -131,7 +131,7 @@ fn draws_12345(rt: HostRuntime) -> QrResult<()> {
     Ok(())
 }
 
-/// The grid of some padded data.
+/// Returns the grid of some padded data.
 fn grid(
     alloc: Global,
     bytes: &[u8],
@@ -181,7 +181,8 @@ fn drops_bits_past_the_last_cell(rt: HostRuntime) -> QrResult<()> {
     Ok(())
 }
 
-/// How many cells of a version no codeword takes; four codeword bits are missing in M1 and M3.
+/// Returns how many cells of a version no codeword takes, and how many codeword bits are missing:
+/// four in M1 and M3.
 fn left_over(version: Version) -> (usize, usize) {
     match version {
         Version::Normal(n) => (
@@ -200,7 +201,7 @@ fn left_over(version: Version) -> (usize, usize) {
     }
 }
 
-/// How many cells of a grid its functional patterns leave.
+/// Returns how many cells of a grid are not in functional patterns.
 fn data_cells(alloc: Global, version: Version) -> QrResult<usize> {
     let mut canvas = new_canvas(alloc, version, EcLevel::L)?;
     canvas.draw_all_functional_patterns();
@@ -216,7 +217,7 @@ fn data_cells(alloc: Global, version: Version) -> QrResult<usize> {
     Ok(cells)
 }
 
-/// The codewords of the table take all data cells of each grid but those left over.
+/// The codewords take all data cells of each grid except those left over.
 #[test]
 fn codewords_fit_the_grids(rt: HostRuntime) -> QrResult<()> {
     let alloc = rt.alloc();
@@ -285,10 +286,11 @@ fn masks_by_each_pattern(rt: HostRuntime) {
     assert!(rt; diamonds(1, 2) && !meadow(1, 0));
 }
 
-/// The longest of these rows.
+/// The length of the longest of these rows.
 const LONGEST: usize = 530;
 
-/// Whether a pair of alternating rows with one square of a colour at a place has one square.
+/// Returns whether exactly one square is counted in a pair of alternating rows that has a square of
+/// two by two modules in one colour at a place.
 fn has_one_square(width: usize, place: usize, color: u8) -> bool {
     let mut upper = [0; LONGEST];
     let mut lower = [1; LONGEST];
@@ -306,7 +308,8 @@ fn has_one_square(width: usize, place: usize, color: u8) -> bool {
     count_squares(&upper[..width], &lower[..width]) == 1
 }
 
-/// The rows end in lanes and behind them, and the longest has several blocks of lanes.
+/// The rows end at and after multiples of the lane width, and the longest has several blocks
+/// of lanes.
 #[test]
 fn finds_a_square_at_each_place(rt: HostRuntime) {
     for width in [21, 33, 37, 177, LONGEST] {
@@ -321,7 +324,7 @@ fn finds_a_square_at_each_place(rt: HostRuntime) {
     }
 }
 
-/// Bytes of which each third one, from the first on, is 0.
+/// Returns bytes of which every third one, from the first on, is 0.
 fn striped(alloc: Global, len: usize) -> QrResult<Vec<u8>> {
     let mut bytes = Vec::with_capacity(alloc, len)?;
     for i in 0..len {

@@ -1,4 +1,4 @@
-//! Worked values of the error correction.
+//! Tests of error correction, with worked values.
 
 mod plain;
 
@@ -82,7 +82,8 @@ fn interleaves_four_blocks(rt: HostRuntime) {
     );
 }
 
-/// The remainders of a block of 15 data bytes, and of the text HELLO WORLD at 1-Q, by generators of several degrees.
+/// The remainders of a block of 15 data bytes, and of the text HELLO WORLD at 1-Q, by generators of
+/// several degrees.
 #[test]
 fn divides(rt: HostRuntime) -> QrResult<()> {
     let data = [

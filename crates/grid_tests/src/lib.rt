@@ -1,5 +1,5 @@
-//! Tests of correction, canvases and scores (`qrcode_grid`), by its public calls. They stand apart from their crate, so
-//! that the gate proves it once.
+//! Tests of error correction, canvases and scores (`qrcode_grid`) by its public calls. They are in
+//! a crate of their own so that the gate proves the tested crate only once.
 #![tactic(auto)]
 
 #[cfg(test)]

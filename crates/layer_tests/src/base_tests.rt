@@ -1,4 +1,4 @@
-//! Names, texts, tables and modes.
+//! Tests of names, texts, tables and modes.
 use qrcode_base::cast::{As, Truncate};
 use qrcode_base::characters::{alphanumeric_place, is_alphanumeric, is_kanji_pair, is_lead};
 use qrcode_base::mode::{AlphanumericMode, ByteMode, EncodingMode, KanjiMode, NumericMode};
@@ -15,7 +15,7 @@ const NORMAL_RANGE: &str = "QR version must be between 1 and 40";
 
 const MICRO_RANGE: &str = "Micro QR version must be between M1 and M4";
 
-/// Texts, and the versions that they name.
+/// Texts and the versions that they name.
 static VERSION_TEXTS: [(&str, Version); 7] = [
     ("+5", Version::Normal(5)),
     ("007", Version::Normal(7)),
@@ -33,7 +33,7 @@ fn texts_name_versions(rt: HostRuntime) {
     }
 }
 
-/// Texts that name no version, and what they are refused with.
+/// Texts that name no version, and the text of the error.
 static REFUSED_TEXTS: [(&str, &str); 11] = [
     ("-1", NORMAL_RANGE),
     ("M-1", MICRO_RANGE),
@@ -60,7 +60,7 @@ fn texts_name_no_version(rt: HostRuntime) -> Result<(), Fail> {
     Ok(())
 }
 
-/// Texts, and the levels that they name.
+/// Texts and the levels that they name, if any.
 static LEVEL_TEXTS: [(&str, Option<EcLevel>); 6] = [
     ("L", Some(EcLevel::L)),
     (" m\n", Some(EcLevel::M)),
@@ -81,7 +81,7 @@ fn texts_name_levels(rt: HostRuntime) {
     );
 }
 
-/// Texts, and the modes that they name.
+/// Texts and the modes that they name, if any.
 static MODE_TEXTS: [(&str, Option<Mode>); 5] = [
     ("numeric", Some(Mode::Numeric)),
     ("\tAlphanumeric", Some(Mode::Alphanumeric)),
@@ -101,7 +101,7 @@ fn texts_name_modes(rt: HostRuntime) {
     );
 }
 
-/// What a text was refused with.
+/// Returns the text of the error of a parse, or an empty text on success.
 fn refusal<T: Drop>(answer: Result<T, EnumParseError>) -> &'static str {
     match answer {
         Ok(_) => "",
@@ -109,7 +109,7 @@ fn refusal<T: Drop>(answer: Result<T, EnumParseError>) -> &'static str {
     }
 }
 
-/// The errors, what each says, and what to do.
+/// The errors, the text that each prints, and its suggestion.
 static ERRORS: [(QrError, &str, Option<&str>); 11] = [
     (
         QrError::DataTooLong,
@@ -194,7 +194,7 @@ fn errors_say_what_is_wrong_and_what_to_do(rt: HostRuntime) -> Result<(), Fail> 
     Ok(())
 }
 
-/// An error says what to do.
+/// Checks the suggestion of an error.
 fn suggests(rt: &impl Abort, error: &QrError, suggestion: Option<&str>) {
     assert_eq!(rt; error.suggestion(), suggestion);
 }
@@ -230,7 +230,7 @@ fn modes_join(rt: HostRuntime) {
     assert!(rt; Mode::Numeric.partial_cmp(&Mode::Kanji).is_none());
 }
 
-/// Bytes, and the first invalid character of the Kanji mode in them.
+/// Bytes and the first invalid character of the Kanji mode in them.
 static KANJI: [(&[u8], Option<(usize, u8)>); 5] = [
     (b"\x93\x5f\xe4", Some((2, 0xe4))),
     (b"\xeb\xc0", Some((0, 0xeb))),
@@ -262,7 +262,7 @@ fn modes_know_their_counts(rt: HostRuntime) {
     assert!(rt; KanjiMode::MODE == Mode::Kanji);
 }
 
-/// Widths, and the versions that they name.
+/// Widths and the versions that have them.
 static WIDTHS: [(usize, Option<Version>); 12] = [
     (21, Some(Version::Normal(1))),
     (45, Some(Version::Normal(7))),
@@ -285,7 +285,7 @@ fn widths_name_versions(rt: HostRuntime) {
     }
 }
 
-/// What `fetch` finds in a table of zeros, with numbers for version 40 and for M3 at level M.
+/// Returns what `fetch` finds in a table of zeros, except for version 40 and for M3 at level M.
 fn fetched(version: Version, level: EcLevel) -> QrResult<u8> {
     let mut table = [[0; 4]; 44];
     table[39] = [1, 2, 3, 4];
@@ -293,7 +293,7 @@ fn fetched(version: Version, level: EcLevel) -> QrResult<u8> {
     version.fetch(level, &table)
 }
 
-/// Versions and levels, and what is fetched for them.
+/// Versions and levels, and the entry that is found for them.
 static FETCHED: [(Version, EcLevel, Option<u8>); 7] = [
     (Version::Normal(1), EcLevel::L, Some(0)),
     (Version::Normal(40), EcLevel::Q, Some(3)),

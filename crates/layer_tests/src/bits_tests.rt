@@ -1,4 +1,4 @@
-//! Worked rows of pushes.
+//! Tests of pushes, each with a row of expected values.
 
 mod case_tests;
 mod encoding_tests;
@@ -12,7 +12,7 @@ use qrcode_bits::bits::{Bits, EncodingModes, ExtendedMode};
 use std::alloc::Global;
 use std::process::Abort;
 
-/// One push.
+/// A push.
 #[derive(Clone, Copy)]
 pub enum Push {
     Number(usize, usize),
@@ -32,7 +32,7 @@ pub enum Push {
     Reserve(usize),
 }
 
-/// A mode type that takes every byte for a digit.
+/// A mode type that accepts every byte as a digit.
 struct Careless;
 
 impl EncodingMode for Careless {
@@ -50,7 +50,7 @@ impl EncodingMode for Careless {
     }
 }
 
-/// A mode type that always finds the same byte, which need not be there.
+/// A mode type that always reports the same byte as invalid, even if it is not in the text.
 struct Stubborn;
 
 impl EncodingMode for Stubborn {
@@ -69,7 +69,7 @@ impl EncodingMode for Stubborn {
 }
 
 impl Push {
-    /// Does the push.
+    /// Performs the push.
     pub fn apply(self, bits: &mut Bits) -> QrResult<()> {
         match self {
             Push::Number(width, number) => bits.push_number_checked(width, number),
@@ -93,7 +93,8 @@ impl Push {
     }
 }
 
-/// Pushes that succeed, one push more that does too, and what is there then: bits, payload, modes and bytes.
+/// Pushes that succeed, one more push that succeeds, and the expected result: bits, payload, modes
+/// and bytes.
 pub type Accepted = (
     Version,
     &'static [Push],
@@ -104,10 +105,10 @@ pub type Accepted = (
     &'static [u8],
 );
 
-/// Pushes that succeed, and one push more with its refusal.
+/// Pushes that succeed, and one more push with its error.
 pub type Refused = (Version, &'static [Push], Push, QrError);
 
-/// Empty bits of a version.
+/// Returns an empty stream of a version.
 fn started(alloc: Global, version: Version) -> Bits {
     match version {
         Version::Micro(1) => Bits::new(alloc, Version::Micro(1)),
@@ -118,12 +119,12 @@ fn started(alloc: Global, version: Version) -> Bits {
     }
 }
 
-/// Whether a set has these modes and no other.
+/// Returns whether a set has exactly these modes.
 pub fn has_modes(set: EncodingModes, modes: &[Mode]) -> bool {
     set.len() == modes.len() && modes.iter().all(|mode| set.contains(*mode))
 }
 
-/// The stream after some pushes, which succeed.
+/// Returns the stream after some pushes, which succeed.
 pub fn pushed(alloc: Global, version: Version, pushes: &[Push]) -> QrResult<Bits> {
     let mut bits = started(alloc, version);
     for push in pushes {
@@ -132,7 +133,7 @@ pub fn pushed(alloc: Global, version: Version, pushes: &[Push]) -> QrResult<Bits
     Ok(bits)
 }
 
-/// Whether the row comes out.
+/// Returns whether the result of a row is as expected.
 fn holds(alloc: Global, row: &Accepted) -> QrResult<bool> {
     let (version, first, last, len, payload, modes, bytes) = *row;
     let mut bits = pushed(alloc, version, first)?;
@@ -142,7 +143,7 @@ fn holds(alloc: Global, row: &Accepted) -> QrResult<bool> {
     Ok(told && noted && bits.into_bytes().as_slice() == bytes)
 }
 
-/// Each row comes out.
+/// Checks each row.
 pub fn all_hold(rt: &impl Abort, alloc: Global, rows: &[Accepted]) -> QrResult<()> {
     for (place, row) in rows.iter().enumerate() {
         assert!(rt; holds(alloc, row)?, "row {place}");
@@ -150,7 +151,8 @@ pub fn all_hold(rt: &impl Abort, alloc: Global, rows: &[Accepted]) -> QrResult<(
     Ok(())
 }
 
-/// Whether the push is refused so, and leaves length, payload, modes, version and bits as they were.
+/// Returns whether the push fails with the expected error and leaves length, payload, modes,
+/// version and bits unchanged.
 fn leaves_all(alloc: Global, row: &Refused) -> QrResult<bool> {
     let (version, first, last, error) = *row;
     let before = pushed(alloc, version, first)?;
@@ -167,7 +169,7 @@ fn leaves_all(alloc: Global, row: &Refused) -> QrResult<bool> {
     )
 }
 
-/// Each row is refused.
+/// Checks each row of failing pushes.
 pub fn all_leave(rt: &impl Abort, alloc: Global, rows: &[Refused]) -> QrResult<()> {
     for (place, row) in rows.iter().enumerate() {
         assert!(rt; leaves_all(alloc, row)?, "row {place}");

@@ -1,6 +1,6 @@
-//! Tests of two layers under `qrcode_core`, each by its public calls: names, tables and modes (`qrcode_base`), plans
-//! and pushes (`qrcode_bits`). They stand apart from their crates, so that the gate proves those once; `grid_tests` has
-//! the third layer.
+//! Tests of two layers below `qrcode_core` by their public calls: names, tables and modes
+//! (`qrcode_base`), plans and pushes (`qrcode_bits`). They are in a crate of their own so that the
+//! gate proves the tested crates only once; `grid_tests` tests the third layer.
 #![tactic(auto)]
 
 #[cfg(test)]

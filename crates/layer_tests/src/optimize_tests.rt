@@ -1,4 +1,4 @@
-//! Worked rows of plans.
+//! Tests of plans, with rows of expected values.
 
 ghost use Rattle.std.specs.Prelude.{◌≡◌, ◌<◌, ◌≤◌, length};
 ghost use Rattle.qrcode_base.specs.Symbols.{HasMicroNumber};
@@ -15,12 +15,12 @@ use std::sync::ledger::{Blank, Ledger};
 
 const ONE: Version = Version::Normal(1);
 
-/// A segment of a mode.
+/// Returns a segment.
 pub(crate) const fn segment(mode: Mode, begin: usize, end: usize) -> Segment {
     Segment { mode, begin, end }
 }
 
-/// The plan of segments whose costs are linear, by the iterator.
+/// Returns the plan of segments with linear costs, by the iterator.
 fn given(alloc: Global, segments: &[Segment], version: Version) -> QrResult<Vec<Segment>>
     requires micro { HasMicroNumber version }
     requires linear { 2 ≤ length segments.now → HasLinearCosts segments.now version }
@@ -35,7 +35,7 @@ fn given(alloc: Global, segments: &[Segment], version: Version) -> QrResult<Vec<
     }
 }
 
-/// The plan of segments whose costs are linear, by the call and by the iterator.
+/// Returns the plan of segments with linear costs, by the call and by the iterator.
 fn planned(alloc: Global, segments: &[Segment], version: Version) -> QrResult<Vec<Segment>>
     requires { HasMicroNumber version }
 {
@@ -51,7 +51,8 @@ fn planned(alloc: Global, segments: &[Segment], version: Version) -> QrResult<Ve
     }
 }
 
-/// The bits of segments that are not too long for it.
+/// Returns the bits of segments together, without those that end before they begin or have 100,000
+/// bytes or more.
 pub(crate) fn bits_of(segments: &[Segment], version: Version) -> usize
     requires { HasMicroNumber version }
 {
@@ -64,10 +65,10 @@ pub(crate) fn bits_of(segments: &[Segment], version: Version) -> usize
     bits
 }
 
-/// A segment as rows name it: mode, begin and end.
+/// A segment in a row of a table: mode, begin and end.
 type Part = (Mode, usize, usize);
 
-/// The segments of a row.
+/// Returns the segments of a row.
 fn segments_of(alloc: Global, parts: &[Part]) -> QrResult<Vec<Segment>> {
     let mut segments = Vec::with_capacity(alloc, parts.len())?;
     for (mode, begin, end) in parts {
@@ -111,7 +112,7 @@ static PLANS: [(&[Part], Version, &[Part], usize); 5] = [
     (BACKWARDS, ONE, BACKWARDS, 0),
 ];
 
-/// The bits of the plan of a row, which is the one that is wanted.
+/// Returns the bits of the plan of a row, after checking that it is the expected plan.
 fn bits_of_plan(
     alloc: Global,
     parts: &[Part],
@@ -136,7 +137,7 @@ fn chosen_plans(rt: HostRuntime) -> QrResult<()> {
     Ok(())
 }
 
-/// So many letters and digits in turn, each a segment.
+/// Returns `count` segments of letters and digits in turn.
 fn in_turn(alloc: Global, count: usize) -> QrResult<Vec<Segment>> {
     let mut segments = Vec::new(alloc);
     for place in 0..count {
@@ -193,7 +194,7 @@ fn linear_costs(rt: HostRuntime) {
     assert_eq!(rt; total_encoded_len(&parts, ONE), 95);
 }
 
-/// Bytes, and their segments.
+/// Bytes and their segments.
 static PARSED: [(&[u8], &[Part]); 6] = [
     (
         &[0x82, 0xa0, 0x81, 0x41, 0x41, 0xb1, 0x81, 0xf0],
@@ -217,7 +218,7 @@ static PARSED: [(&[u8], &[Part]); 6] = [
     ),
 ];
 
-/// Whether the parser cuts bytes into these segments.
+/// Returns whether the parser cuts bytes into these segments.
 fn is_parsed(alloc: Global, bytes: &[u8], parts: &[Part]) -> QrResult<bool> {
     let all: Vec<Segment> = Parser::new(bytes).collect(alloc)?;
     Ok(all.as_slice() == segments_of(alloc, parts)?.as_slice())
@@ -231,7 +232,7 @@ fn parsed_segments(rt: HostRuntime) -> QrResult<()> {
     Ok(())
 }
 
-/// The plan of a text.
+/// Returns the plan of a text.
 fn plan_of(alloc: Global, text: &[u8]) -> QrResult<Vec<Segment>> {
     Ok(Parser::new(text).optimize(alloc, ONE)?.collect(alloc)?)
 }
@@ -247,8 +248,8 @@ fn plan_of_a_text(rt: HostRuntime) {
     assert_eq!(rt; bits_of(&plan, ONE), 90);
 }
 
-/// Texts in UTF-8, and their segments as the original crate cuts them: bytes of one character can be pairs of the Kanji
-/// mode.
+/// Texts in UTF-8, with the segments into which the original crate cuts them: bytes of one
+/// character can be pairs of the Kanji mode.
 static PARSED_UTF_8: [(&str, &[Part]); 2] = [
     (
         "\u{20ac}50 Z\u{fc}rich 2024",
@@ -282,7 +283,7 @@ fn parsed_utf_8(rt: HostRuntime) -> QrResult<()> {
     Ok(())
 }
 
-/// The chosen plan with a count of the caller's.
+/// Returns the chosen plan, with a count from the caller.
 fn counted<L: Ledger>(
     alloc: Global,
     segments: &[Segment],
@@ -299,7 +300,7 @@ fn counted<L: Ledger>(
     optimize_counted(alloc, segments, version, &mut comparisons)
 }
 
-/// The same, with a count that is let go.
+/// Returns the same, with a count that is dropped.
 fn plan_by_count(alloc: Global, segments: &[Segment], version: Version) -> QrResult<Vec<Segment>>
     requires micro { HasMicroNumber version }
     requires linear { 2 ≤ length segments.now → HasLinearCosts segments.now version }

@@ -1,4 +1,4 @@
-//! Plans beside those of a plain search.
+//! Compares plans with those of a plain search.
 
 ghost use Rattle.std.specs.Prelude.{◌<◌, length};
 ghost use Rattle.qrcode_base.specs.Symbols.{HasMicroNumber};
@@ -7,7 +7,7 @@ use crate::optimize_tests::{bits_of, segment};
 use qrcode_base::types::{Mode, QrError, QrResult, Version};
 use qrcode_bits::optimize::{Segment, optimize_segments, supports_linear_costs};
 
-/// The versions in which plans are compared, by a number.
+/// Returns a version in which plans are compared, by number.
 pub(crate) fn version_of(case: usize) -> Version
     ensures { HasMicroNumber result }
 {
@@ -22,7 +22,7 @@ pub(crate) fn version_of(case: usize) -> Version
     }
 }
 
-/// The parts of a plan, by the first segment of the last part up to each end.
+/// Returns the parts of a plan; `starts` has the first segment of the last part for each end.
 fn parts_of(rt: &HostRuntime, segments: &[Segment], starts: &[usize]) -> QrResult<Vec<Segment>> {
     let mut backwards = Vec::new(rt.alloc());
     let mut end = segments.len();
@@ -44,7 +44,7 @@ fn parts_of(rt: &HostRuntime, segments: &[Segment], starts: &[usize]) -> QrResul
     Ok(parts)
 }
 
-/// One segment for some, in the least mode that has the characters of each.
+/// Returns some segments as one, in the least mode that has the characters of each.
 fn joined(segments: &[Segment]) -> Segment
     requires { 0 < length segments.now }
 {
@@ -55,8 +55,8 @@ fn joined(segments: &[Segment]) -> Segment
     segment(mode, segments[0].begin, segments[segments.len() - 1].end)
 }
 
-/// The plan of fewest bits, of those the ones of fewest parts, and of those the one whose last part begins latest, and
-/// so on backwards: by trying each start for each end.
+/// Returns the plan of fewest bits, among these that of fewest parts, and among these that whose
+/// last part begins latest, and so on backwards, by trying each start for each end.
 fn plain_plan(rt: &HostRuntime, segments: &[Segment], version: Version) -> QrResult<Vec<Segment>>
     requires { HasMicroNumber version }
 {
@@ -87,7 +87,8 @@ fn plain_plan(rt: &HostRuntime, segments: &[Segment], version: Version) -> QrRes
     parts_of(rt, segments, &starts)
 }
 
-/// Whether the chosen plan of these segments, whose costs are linear, is that of the plain search.
+/// Returns whether the chosen plan of these segments, which have linear costs, is that of the
+/// plain search.
 fn agrees_in(rt: &HostRuntime, segments: &[Segment], version: Version) -> QrResult<bool>
     requires { HasMicroNumber version }
 {
@@ -98,7 +99,7 @@ fn agrees_in(rt: &HostRuntime, segments: &[Segment], version: Version) -> QrResu
     Ok(plan.as_slice() == plain_plan(rt, segments, version)?.as_slice())
 }
 
-/// The same in seven versions.
+/// Returns the same for seven versions.
 fn agrees(rt: &HostRuntime, segments: &[Segment]) -> QrResult<bool> {
     for case in 0..7usize {
         if !agrees_in(rt, segments, version_of(case))? {
@@ -108,7 +109,7 @@ fn agrees(rt: &HostRuntime, segments: &[Segment]) -> QrResult<bool> {
     Ok(true)
 }
 
-/// A mode by a number.
+/// Returns a mode by number.
 fn mode_of(number: usize) -> Mode {
     match number % 4 {
         0 => Mode::Numeric,
@@ -118,8 +119,8 @@ fn mode_of(number: usize) -> Mode {
     }
 }
 
-/// The mode list of a number in base four, each segment of one length, or of the lengths 1, 2, .. in turn for the
-/// length 9.
+/// Returns the segments whose modes are the digits of a number in base four, each of one length, or
+/// of the lengths 1, 2, .. in turn for the length 9.
 fn mode_list(
     rt: &HostRuntime,
     count: usize,
@@ -139,7 +140,8 @@ fn mode_list(
     Ok(segments)
 }
 
-/// Whether the plans of all lists of so many modes agree, in segments of one size, from a first begin on.
+/// Returns whether the plans of all lists of `count` modes agree, in segments of one size, from a
+/// first byte on.
 fn all_agree(rt: &HostRuntime, count: usize, size: usize, from: usize) -> QrResult<bool>
     requires { count < 8 }
 {
@@ -153,7 +155,8 @@ fn all_agree(rt: &HostRuntime, count: usize, size: usize, from: usize) -> QrResu
     Ok(lists > 1)
 }
 
-/// All lists of up to five modes, in segments of each size, near the first byte and near the greatest index.
+/// All lists of up to five modes, in segments of each size, near the first byte and near the
+/// greatest index.
 #[test]
 fn lists_of_up_to_five(rt: HostRuntime) -> QrResult<()> {
     for count in 1..6usize {
@@ -174,7 +177,7 @@ fn lists_of_up_to_five_far_away(rt: HostRuntime) -> QrResult<()> {
     Ok(())
 }
 
-/// All lists of six modes, two sizes a test.
+/// All lists of six modes, two sizes in each test.
 #[test]
 fn lists_of_six_of_0_or_1(rt: HostRuntime) -> QrResult<()> {
     assert!(rt; all_agree(&rt, 6, 0, 0)?);
@@ -196,7 +199,7 @@ fn lists_of_six_of_7_or_in_turn(rt: HostRuntime) -> QrResult<()> {
     Ok(())
 }
 
-/// The next number of a fixed run, below a bound.
+/// Returns the next number of a fixed pseudorandom sequence, below a bound.
 pub(crate) fn next_below(state: &mut u64, bound: u64) -> usize
     requires { 0 < bound }
     ensures { result < bound }
@@ -207,7 +210,7 @@ pub(crate) fn next_below(state: &mut u64, bound: u64) -> usize
     ((*state >> 33) % bound) as usize
 }
 
-/// 33 to 256 segments from a fixed seed, some with gaps between them.
+/// Returns 33 to 256 segments from a fixed seed, some with gaps between them.
 fn long_list(rt: &HostRuntime, state: &mut u64, from: usize) -> QrResult<Vec<Segment>> {
     let mut segments = Vec::new(rt.alloc());
     let mut begin = from;
@@ -219,8 +222,8 @@ fn long_list(rt: &HostRuntime, state: &mut u64, from: usize) -> QrResult<Vec<Seg
     Ok(segments)
 }
 
-/// 512 lists of more segments than a search by all cuts can take, each in one of the versions, every fourth one near
-/// the greatest index.
+/// 512 lists of more segments than a search of all cuts can handle, each in one of the versions,
+/// every fourth one near the greatest index.
 #[test]
 fn long_lists(rt: HostRuntime) -> QrResult<()> {
     let mut state = 7u64;

@@ -1,4 +1,5 @@
-//! The chosen plan beside the least of all ways to cut some bytes into pieces of any modes.
+//! Compares the chosen plan with the least number of bits over all ways to cut some bytes into
+//! pieces of any modes.
 
 ghost use Rattle.std.specs.Prelude.{◌<◌, ◌≤◌, length};
 ghost use Rattle.qrcode_base.specs.Symbols.{HasMicroNumber};
@@ -8,10 +9,11 @@ use crate::search_tests::{next_below, version_of};
 use qrcode_base::types::{Mode, QrResult, Version};
 use qrcode_bits::optimize::{Parser, Segment, optimize_segments, supports_linear_costs};
 
-/// A digit, a letter, a byte of no other class, and the two halves of a pair of the Kanji mode.
+/// A digit, a letter, a byte of no other class, and the two bytes of a pair of the Kanji mode.
 static LETTERS: [u8; 5] = [b'7', b'A', b'\n', 0x93, 0xFA];
 
-/// Whether two bytes are a pair of the Kanji mode (Shift JIS 8140 to 9FFC and E040 to EBBF).
+/// Returns whether two bytes are a pair of the Kanji mode (Shift JIS 8140 to 9FFC and E040
+/// to EBBF).
 fn is_pair(first: u8, second: u8) -> bool {
     let is_trail = 0x40 <= second && second <= 0xFC && second != 0x7F;
     match first {
@@ -21,12 +23,13 @@ fn is_pair(first: u8, second: u8) -> bool {
     }
 }
 
-/// Whether a byte is a character of the Alphanumeric mode.
+/// Returns whether a byte is a character of the Alphanumeric mode.
 fn is_alphanumeric(byte: u8) -> bool {
     byte.is_ascii_digit() || byte.is_ascii_uppercase() || b" $%*+-./:".contains(&byte)
 }
 
-/// The places where a piece may end so that no pair is cut: pairs are taken from left to right.
+/// Returns at which positions a piece may end without cutting a pair; pairs are taken from left
+/// to right.
 fn ends_of_units(rt: &HostRuntime, bytes: &[u8]) -> QrResult<Vec<bool>> {
     let mut ends = Vec::new(rt.alloc());
     ends.push(true)?;
@@ -39,7 +42,8 @@ fn ends_of_units(rt: &HostRuntime, bytes: &[u8]) -> QrResult<Vec<bool>> {
     Ok(ends)
 }
 
-/// Whether a version has a mode: M1 has Numeric alone, M2 Alphanumeric too, the others have all four.
+/// Returns whether a version has a mode: M1 has Numeric alone, M2 also Alphanumeric, the others
+/// have all four.
 fn has_mode(version: Version, mode: Mode) -> bool {
     match version {
         Version::Micro(1) => mode == Mode::Numeric,
@@ -48,7 +52,7 @@ fn has_mode(version: Version, mode: Mode) -> bool {
     }
 }
 
-/// What can be written of some bytes, byte by byte.
+/// In which modes some bytes can be encoded, updated byte by byte.
 #[derive(Clone, Copy)]
 struct Kinds {
     is_numeric: bool,
@@ -58,7 +62,7 @@ struct Kinds {
 }
 
 impl Kinds {
-    /// With one more byte.
+    /// Adds one more byte.
     fn add(&mut self, byte: u8) {
         self.is_numeric = self.is_numeric && byte.is_ascii_digit();
         self.is_alphanumeric = self.is_alphanumeric && is_alphanumeric(byte);
@@ -70,7 +74,8 @@ impl Kinds {
         }
     }
 
-    /// The bits of a piece of these bytes in a mode that can write them.
+    /// Returns the bits of a piece of these bytes in a mode, or `None` if the mode cannot
+    /// encode them.
     fn bits_in(&self, mode: Mode, size: usize, version: Version) -> Option<usize>
         requires { HasMicroNumber version }
     {
@@ -84,7 +89,8 @@ impl Kinds {
     }
 }
 
-/// The least bits of all pieces that begin here, each with the least bits of what follows it.
+/// Returns the least bits of all pieces that begin at a position, each with the least bits of what
+/// follows it.
 fn least_from(
     bytes: &[u8],
     begin: usize,
@@ -119,7 +125,8 @@ fn least_from(
     best
 }
 
-/// The least bits of all ways to cut some bytes at some of these ends, each piece in any mode that can write it.
+/// Returns the least bits of all ways to cut some bytes at some of the given positions, each piece
+/// in any mode that can encode it.
 fn least_bits(
     rt: &HostRuntime,
     bytes: &[u8],
@@ -142,7 +149,7 @@ fn least_bits(
     Ok(least.first().copied().flatten())
 }
 
-/// The bits of the chosen plan.
+/// Returns the bits of the chosen plan.
 fn planned_bits(rt: &HostRuntime, bytes: &[u8], version: Version) -> QrResult<Option<usize>>
     requires { HasMicroNumber version }
 {
@@ -154,7 +161,7 @@ fn planned_bits(rt: &HostRuntime, bytes: &[u8], version: Version) -> QrResult<Op
     Ok(Some(bits_of(&plan, version)))
 }
 
-/// Whether two neighbouring bytes are a pair somewhere.
+/// Returns whether any two neighbouring bytes are a pair.
 fn has_pair(bytes: &[u8]) -> bool {
     let mut before = 0;
     for byte in bytes {
@@ -166,9 +173,9 @@ fn has_pair(bytes: &[u8]) -> bool {
     false
 }
 
-/// Whether nothing is shorter than the chosen plan, in the three classes of Normal versions and in M1 to M4: no way
-/// that keeps the pairs whole, which is each way where there are none. A version that lacks a mode for these bytes
-/// has no way.
+/// Returns whether nothing is shorter than the chosen plan, in the three classes of Normal versions
+/// and in M1 to M4: no way that keeps the pairs whole, which is every way if there are no pairs. If
+/// a version lacks a mode for these bytes, it has no way.
 fn nothing_is_shorter(rt: &HostRuntime, bytes: &[u8]) -> QrResult<bool> {
     let ends = ends_of_units(rt, bytes)?;
     if !has_pair(bytes) && ends.contains(&false) {
@@ -185,7 +192,7 @@ fn nothing_is_shorter(rt: &HostRuntime, bytes: &[u8]) -> QrResult<bool> {
     Ok(true)
 }
 
-/// The text of a number in base five.
+/// Returns the text of a number in base five.
 fn text_of(rt: &HostRuntime, length: usize, number: usize) -> QrResult<Vec<u8>> {
     let mut text = Vec::new(rt.alloc());
     let mut digits = number;
@@ -244,10 +251,12 @@ const ALTERNATING: &[u8] =
     b"aaaa\x81\x81\x81\x81\x81\x81\x81\x81\x81\x81\x81\x81\x81\x81\x81\x81\x81\x81\x81\x81A\
     \x82B\x82B\x82B\x82B\x82B\x82B\x82B\x82B\x82B";
 
-/// Texts in which a way that cuts a pair is shorter, the version, the least bits of all ways, and those of the plan.
+/// Texts for which a way that cuts a pair is shorter, the version, the least bits of all ways, and
+/// the bits of the plan.
 ///
-/// The first by hand: Byte 81 and Kanji (81 41)^6 take 20 and 90 bits; a plan has the pair 81 81 first, so that Byte
-/// 81 81 41 and Kanji (81 41)^5 take 36 and 77. The others were found by a search in another language.
+/// The first one by hand: Byte 81 and Kanji (81 41)^6 take 20 and 90 bits; the first pair of a plan
+/// is 81 81, so that it has Byte 81 81 41 and Kanji (81 41)^5, of 36 and 77 bits. The others come
+/// from a search by a program in another language.
 static SHORTER: [(&[u8], Version, usize, usize); 3] = [
     (
         b"\x81\x81A\x81A\x81A\x81A\x81A\x81A",

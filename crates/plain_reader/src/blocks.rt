@@ -1,8 +1,8 @@
-//! Blocks of codewords, and whether they are sound.
+//! Blocks of codewords, and whether they are valid.
 use crate::{Level, Shape};
 use std::alloc::Global;
 
-/// The correction codewords of each block, by level and version.
+/// The number of correction codewords in each block, by level and version.
 const CORRECTION: [[u8; 40]; 4] = [
     [
         7, 10, 15, 20, 26, 18, 20, 24, 30, 18, 20, 24, 26, 30, 22, 24, 28, 30, 28, 28, 28, 28, 30,
@@ -22,7 +22,7 @@ const CORRECTION: [[u8; 40]; 4] = [
     ],
 ];
 
-/// How many blocks there are, by level and version.
+/// The number of blocks, by level and version.
 const BLOCKS: [[u8; 40]; 4] = [
     [
         1, 1, 1, 1, 1, 2, 2, 2, 2, 4, 4, 4, 4, 4, 6, 6, 6, 6, 7, 8, 8, 9, 9, 10, 12, 12, 12, 13,
@@ -42,7 +42,8 @@ const BLOCKS: [[u8; 40]; 4] = [
     ],
 ];
 
-/// How the codewords are cut: so many blocks, each with so many correction codewords.
+/// How the codewords are divided: the number of blocks, the number of correction codewords in each,
+/// the number of data codewords in all, and how many bits the last of these lacks.
 #[derive(Clone, Copy)]
 struct Layout {
     blocks: usize,
@@ -51,7 +52,7 @@ struct Layout {
     missing: usize,
 }
 
-/// The column of a level in the tables.
+/// Returns the column of a level in the tables.
 fn column(level: Level) -> usize {
     match level {
         Level::L => 0,
@@ -61,7 +62,7 @@ fn column(level: Level) -> usize {
     }
 }
 
-/// The correction codewords of a Micro symbol, and all its codewords.
+/// Returns the number of correction codewords of a Micro symbol, and that of all its codewords.
 fn micro_layout(number: usize, level: Level) -> Option<(usize, usize)> {
     match (number, level) {
         (1, Level::L) => Some((2, 5)),
@@ -76,7 +77,7 @@ fn micro_layout(number: usize, level: Level) -> Option<(usize, usize)> {
     }
 }
 
-/// How the codewords of a symbol are cut into blocks.
+/// Returns how the codewords of a symbol are divided into blocks.
 fn layout_of(shape: Shape, level: Level, cells: usize) -> Option<Layout> {
     if shape.micro {
         let (correction, all) = micro_layout(shape.number, level)?;
@@ -99,12 +100,13 @@ fn layout_of(shape: Shape, level: Level, cells: usize) -> Option<Layout> {
     })
 }
 
-/// How many data codewords a symbol with so many data cells has, if the version has the level.
+/// Returns how many data codewords a symbol with `cells` data cells has, if the version has
+/// the level.
 pub fn data_count(shape: Shape, level: Level, cells: usize) -> Option<usize> {
     Some(layout_of(shape, level, cells)?.data)
 }
 
-/// Bits: whole bytes, the first bit high, and the bits behind them.
+/// Bits: whole bytes, the first bit highest, and the bits after them.
 #[derive(Drop)]
 pub struct Bits {
     bytes: Vec<u8>,
@@ -113,7 +115,7 @@ pub struct Bits {
 }
 
 impl Bits {
-    /// No bits.
+    /// Returns an empty list of bits.
     pub fn new(alloc: Global) -> Bits {
         Bits {
             bytes: Vec::new(alloc),
@@ -122,7 +124,7 @@ impl Bits {
         }
     }
 
-    /// Adds a bit, where memory is found.
+    /// Appends a bit. Returns `None` if an allocation fails.
     pub fn push(&mut self, bit: bool) -> Option<()> {
         self.last = self.last << 1 | if bit { 1 } else { 0 };
         self.count = self.count.wrapping_add(1);
@@ -132,7 +134,7 @@ impl Bits {
         Some(())
     }
 
-    /// A byte, with zeros behind the last bit.
+    /// Returns a byte, with zeros after the last bit.
     fn byte(&self, index: usize) -> u32 {
         match self.bytes.get(index) {
             Some(byte) => u32::from(*byte),
@@ -143,14 +145,14 @@ impl Bits {
         }
     }
 
-    /// The byte that eight bits are.
+    /// Returns the byte in the eight bits from an index on.
     fn byte_at(&self, from: usize) -> u8 {
         let both = self.byte(from / 8) << 8 | self.byte((from / 8).wrapping_add(1));
         (both >> (8 - from % 8) & 0xff) as u8
     }
 }
 
-/// The stream of codewords. The last data codeword of M1 and M3 has four bits.
+/// Returns the stream of codewords. The last data codeword of M1 and M3 has four bits.
 fn codewords(alloc: Global, bits: &Bits, layout: Layout) -> Option<Vec<u8>> {
     let mut all = Vec::new(alloc);
     let end = layout.data.wrapping_mul(8).wrapping_sub(layout.missing);
@@ -171,7 +173,7 @@ fn codewords(alloc: Global, bits: &Bits, layout: Layout) -> Option<Vec<u8>> {
     Some(all)
 }
 
-/// Whether the cells that no codeword takes hold zeros.
+/// Returns whether the cells that no codeword takes are zeros.
 fn rest_is_light(bits: &Bits, layout: Layout) -> bool {
     let count = layout
         .data
@@ -185,13 +187,13 @@ fn rest_is_light(bits: &Bits, layout: Layout) -> bool {
     true
 }
 
-/// Twice an element of the field.
+/// Returns twice an element of the field.
 fn times_two(a: u8) -> u8 {
     let shifted = (a & 0x7f) << 1;
     if a >= 0x80 { shifted ^ 0x1d } else { shifted }
 }
 
-/// The powers of 2 in the field, and the exponent of each element but 0.
+/// The powers of 2 in the field, and the exponent of each element except 0.
 #[derive(Drop)]
 struct Field {
     powers: [u8; 255],
@@ -199,7 +201,7 @@ struct Field {
 }
 
 impl Field {
-    /// The field, by doubling.
+    /// Computes the field by doubling.
     fn new() -> Field {
         let mut powers = [0; 255];
         let mut exponents = [0; 256];
@@ -212,7 +214,7 @@ impl Field {
         Field { powers, exponents }
     }
 
-    /// Whether a block vanishes at the first powers of 2.
+    /// Returns whether a block, as a polynomial, is zero at the first powers of 2.
     fn is_sound(&self, block: &[u8], correction: usize) -> bool {
         for point in 0..correction {
             let mut value = 0u8;
@@ -231,7 +233,8 @@ impl Field {
     }
 }
 
-/// A block of the streams: its data codewords, and then its correction codewords.
+/// Returns a block of the streams: its data codewords followed by its correction codewords, and the
+/// number of data codewords.
 fn block(alloc: Global, stream: &[u8], layout: Layout, number: usize) -> Option<(Vec<u8>, usize)> {
     let short = layout.data.checked_div(layout.blocks)?;
     let long = layout.data.checked_rem(layout.blocks)?;
@@ -255,8 +258,8 @@ fn block(alloc: Global, stream: &[u8], layout: Layout, number: usize) -> Option<
     Some((all, size))
 }
 
-/// The data codewords of all blocks, one block after the other, where every block is sound and the cells left over are
-/// light.
+/// Returns the data codewords of all blocks, one block after the other, if every block is valid and
+/// the cells left over are light.
 pub fn data_codewords(alloc: Global, bits: &Bits, shape: Shape, level: Level) -> Option<Vec<u8>> {
     let layout = layout_of(shape, level, bits.count)?;
     let stream = codewords(alloc, bits, layout)?;

@@ -1,15 +1,15 @@
-//! Where the modules stand, and what they show.
+//! The places of the modules, and what the modules encode.
 use crate::blocks::Bits;
 use crate::{Level, Shape};
 use std::alloc::Global;
 
-/// Whether a cell is dark.
+/// Returns whether a cell is dark.
 fn is_dark(grid: &[bool], width: usize, x: usize, y: usize) -> bool {
     grid.get(y.wrapping_mul(width).wrapping_add(x)) == Some(&true)
 }
 
-/// How many steps lie between the first and the last centre of the alignment patterns, and how far a step is: the least
-/// even number that reaches, but 26 in version 32.
+/// Returns the number of steps between the first and the last centre of the alignment patterns, and
+/// the length of a step: the least even number that suffices, but 26 in version 32.
 fn alignment(number: usize) -> (usize, usize) {
     if number < 2 {
         return (0, 0);
@@ -27,7 +27,7 @@ fn alignment(number: usize) -> (usize, usize) {
     (steps, half.wrapping_mul(2))
 }
 
-/// The coordinates that the centres of the alignment patterns have, in columns and rows.
+/// Returns the coordinates of the centres of the alignment patterns, in columns and rows.
 fn coordinates(alloc: Global, shape: Shape) -> Option<Vec<usize>> {
     let mut all = Vec::new(alloc);
     let (steps, step) = if shape.micro {
@@ -46,7 +46,8 @@ fn coordinates(alloc: Global, shape: Shape) -> Option<Vec<usize>> {
     Some(all)
 }
 
-/// The centres of the alignment patterns: all pairs of the coordinates but those at the three finder patterns.
+/// Returns the centres of the alignment patterns: all pairs of the coordinates except those at the
+/// three finder patterns.
 pub fn alignments(alloc: Global, shape: Shape) -> Option<Vec<(usize, usize)>> {
     let coordinates = coordinates(alloc, shape)?;
     let last = shape.width.wrapping_sub(7);
@@ -62,7 +63,7 @@ pub fn alignments(alloc: Global, shape: Shape) -> Option<Vec<(usize, usize)>> {
     Some(all)
 }
 
-/// Marks the cells in some columns and rows, each from one to before another.
+/// Marks the cells in some columns and rows, each range without its end.
 fn mark(cells: &mut [bool], width: usize, columns: (usize, usize), rows: (usize, usize)) {
     for y in rows.0..rows.1 {
         for x in columns.0..columns.1 {
@@ -74,7 +75,7 @@ fn mark(cells: &mut [bool], width: usize, columns: (usize, usize), rows: (usize,
     }
 }
 
-/// Which cells are functional, row by row, by the areas.
+/// Returns which cells are functional, row by row, from the areas that they fill.
 fn functional(alloc: Global, shape: Shape, alignments: &[(usize, usize)]) -> Option<Vec<bool>> {
     let width = shape.width;
     let mut cells = vec![in alloc; false; width.wrapping_mul(width)].ok()?;
@@ -104,7 +105,7 @@ fn functional(alloc: Global, shape: Shape, alignments: &[(usize, usize)]) -> Opt
     Some(cells)
 }
 
-/// How many cells of a version no functional pattern takes.
+/// Returns how many cells of a version are in no functional pattern.
 pub fn data_cells(alloc: Global, shape: Shape) -> Option<usize> {
     let functional = functional(alloc, shape, &alignments(alloc, shape)?)?;
     let cells: &[bool] = &functional;
@@ -117,7 +118,7 @@ pub fn data_cells(alloc: Global, shape: Shape) -> Option<usize> {
     Some(count)
 }
 
-/// The remainder of a word by a polynomial, both as bits.
+/// Returns the remainder of a word divided by a polynomial, both as bits.
 fn remainder(word: u32, polynomial: u32, degree: u32) -> u32 {
     let mut rest = word;
     for shift in 0u32..8 {
@@ -129,7 +130,7 @@ fn remainder(word: u32, polynomial: u32, degree: u32) -> u32 {
     rest
 }
 
-/// The word that stands in some cells, its highest digit first.
+/// Returns the word in some cells, its highest bit first.
 fn format_word(grid: &[bool], width: usize, places: &[(usize, usize)]) -> u32 {
     let mut word = 0;
     for (x, y) in places {
@@ -174,7 +175,7 @@ const MICRO: [(usize, usize); 15] = [
     (8, 1),
 ];
 
-/// The cells of the second copy of the format information.
+/// Returns the cells of the second copy of the format information.
 fn second(width: usize) -> [(usize, usize); 15] {
     let from = |back: usize| width.wrapping_sub(back);
     [
@@ -196,7 +197,7 @@ fn second(width: usize) -> [(usize, usize); 15] {
     ]
 }
 
-/// The format word as it is drawn, where all copies agree.
+/// Returns the format word as drawn, if all copies agree.
 pub fn drawn_format(grid: &[bool], shape: Shape) -> Option<u32> {
     if shape.micro {
         return Some(format_word(grid, shape.width, &MICRO));
@@ -209,7 +210,7 @@ pub fn drawn_format(grid: &[bool], shape: Shape) -> Option<u32> {
     }
 }
 
-/// The five data bits of the format word, where the check bits are right.
+/// Returns the five data bits of the format word, if its check bits are right.
 fn format_bits(grid: &[bool], shape: Shape) -> Option<u32> {
     let family = if shape.micro { 0x4445 } else { 0x5412 };
     let word = drawn_format(grid, shape)? ^ family;
@@ -220,7 +221,7 @@ fn format_bits(grid: &[bool], shape: Shape) -> Option<u32> {
     }
 }
 
-/// The level and the number of the mask that the format word shows.
+/// Returns the level and the mask number of the format word.
 pub fn format_of(grid: &[bool], shape: Shape) -> Option<(Level, usize)> {
     let bits = format_bits(grid, shape)?;
     if !shape.micro {
@@ -249,13 +250,14 @@ pub fn format_of(grid: &[bool], shape: Shape) -> Option<(Level, usize)> {
     }
 }
 
-/// Which rings round the centre of a finder pattern are dark, with its light border.
+/// Which rings around the centre of a finder pattern are dark; the last is its light border.
 const FINDER: [bool; 5] = [true, true, false, true, false];
 
-/// Which rings round the centre of an alignment pattern are dark.
+/// Which rings around the centre of an alignment pattern are dark.
 const ALIGNMENT: [bool; 3] = [true, false, true];
 
-/// Whether the rings round a centre have their colours. What lies past an edge is no cell.
+/// Returns whether the rings around a centre have their colours. Cells outside the grid
+/// are ignored.
 fn has_rings(grid: &[bool], width: usize, cx: usize, cy: usize, rings: &[bool]) -> bool {
     let reach = rings.len();
     for y in cy.saturating_sub(reach)..cy.saturating_add(reach).min(width) {
@@ -269,7 +271,8 @@ fn has_rings(grid: &[bool], width: usize, cx: usize, cy: usize, rings: &[bool]) 
     true
 }
 
-/// Whether the cells of the timing patterns, between the finder patterns, are dark and light in turn.
+/// Returns whether the cells of the timing patterns, between the finder patterns, are dark and
+/// light in turn.
 fn has_timing(grid: &[bool], shape: Shape) -> bool {
     let (line, end) = if shape.micro {
         (0, shape.width)
@@ -287,7 +290,7 @@ fn has_timing(grid: &[bool], shape: Shape) -> bool {
     true
 }
 
-/// Whether a copy of the version word is right. The lowest bit stands first.
+/// Returns whether a copy of the version word is right. The lowest bit comes first.
 fn has_version(grid: &[bool], shape: Shape, turned: bool) -> bool {
     let mut word = 0;
     for place in 0usize..18 {
@@ -299,7 +302,8 @@ fn has_version(grid: &[bool], shape: Shape, turned: bool) -> bool {
     remainder(word, 0x1f25, 12) == 0 && (word >> 12) as usize == shape.number
 }
 
-/// Whether the finder, timing, alignment patterns, the dark module and the version words are as they must be.
+/// Returns whether the finder, timing and alignment patterns, the dark module and the version words
+/// are right.
 pub fn has_patterns(grid: &[bool], shape: Shape, alignments: &[(usize, usize)]) -> bool {
     let width = shape.width;
     let far = width.wrapping_sub(4);
@@ -320,7 +324,7 @@ pub fn has_patterns(grid: &[bool], shape: Shape, alignments: &[(usize, usize)]) 
             && has_version)
 }
 
-/// The number in Normal symbols of a mask of the family.
+/// Returns the number in Normal symbols of a mask of the family.
 fn mask_number(shape: Shape, mask: usize) -> usize {
     match (shape.micro, mask) {
         (true, 0) => 1,
@@ -331,7 +335,7 @@ fn mask_number(shape: Shape, mask: usize) -> usize {
     }
 }
 
-/// Whether a mask inverts a cell, by its number in Normal symbols.
+/// Returns whether a mask, by its number in Normal symbols, inverts a cell.
 fn inverts(number: usize, x: usize, y: usize) -> bool {
     let (sum, product) = (x.wrapping_add(y), x.wrapping_mul(y));
     let both = (product % 2).wrapping_add(product % 3);
@@ -348,7 +352,8 @@ fn inverts(number: usize, x: usize, y: usize) -> bool {
     value == 0
 }
 
-/// The right column of a pair of columns of the walk; the timing column of a Normal symbol is left out.
+/// Returns the right column of a pair of columns; the vertical timing column of a Normal symbol
+/// is skipped.
 fn right_column(shape: Shape, pair: usize) -> usize {
     let right = shape
         .width
@@ -361,8 +366,8 @@ fn right_column(shape: Shape, pair: usize) -> usize {
     }
 }
 
-/// The bits of the data cells in order, with the mask taken off: upwards and downwards in turn, the right cell of two
-/// first.
+/// Returns the bits of the data cells in order, with the mask removed: upwards and downwards in
+/// turn, the right cell of two first.
 pub fn raw_bits(
     alloc: Global,
     grid: &[bool],

@@ -1,8 +1,8 @@
-//! The data bits: segments, terminator and padding.
+//! Reading of the data bits: segments, terminator and padding.
 use crate::Shape;
 use std::alloc::Global;
 
-/// What the data bits say.
+/// What is read from the data bits.
 #[derive(Drop)]
 pub struct Text {
     pub header: Option<(u8, u8, u8)>,
@@ -10,7 +10,7 @@ pub struct Text {
     pub bytes: Vec<u8>,
 }
 
-/// Codewords, of which the last bits may be missing, and the place of the next bit.
+/// Codewords, of which the last bits may be missing, and the index of the next bit.
 #[derive(Drop)]
 struct Cursor<'a> {
     codewords: &'a [u8],
@@ -19,12 +19,12 @@ struct Cursor<'a> {
 }
 
 impl Cursor<'_> {
-    /// How many bits are left.
+    /// Returns how many bits are left.
     fn left(&self) -> usize {
         self.end.saturating_sub(self.at)
     }
 
-    /// The bit at a place.
+    /// Returns the bit at an index.
     fn bit(&self, place: usize) -> usize {
         match self.codewords.get(place / 8) {
             Some(byte) => usize::from(byte >> (7 - place % 8) & 1),
@@ -32,7 +32,7 @@ impl Cursor<'_> {
         }
     }
 
-    /// The number in the next bits, without taking them.
+    /// Returns the number in the next bits, without taking them.
     fn look(&self, count: usize) -> Option<usize> {
         if count > self.left() || count > 32 {
             return None;
@@ -46,7 +46,7 @@ impl Cursor<'_> {
         Some(number)
     }
 
-    /// The number that the next bits spell, where there are so many.
+    /// Takes the next bits and returns their number, if there are that many.
     fn take(&mut self, count: usize) -> Option<usize> {
         let number = self.look(count)?;
         self.at = self.at.wrapping_add(count);
@@ -54,7 +54,7 @@ impl Cursor<'_> {
     }
 }
 
-/// A mode: its number of the four, from Numeric to Kanji.
+/// One of the four modes, from Numeric to Kanji.
 #[derive(Clone, Copy, PartialEq, Eq)]
 enum Kind {
     Digits,
@@ -63,7 +63,7 @@ enum Kind {
     Pairs,
 }
 
-/// What an indicator begins, in this kind of symbol.
+/// Returns the mode that an indicator begins, in this kind of symbol.
 fn kind_of(shape: Shape, indicator: usize) -> Option<Kind> {
     match (shape.micro, indicator) {
         (true, 0) | (false, 1) => Some(Kind::Digits),
@@ -74,7 +74,7 @@ fn kind_of(shape: Shape, indicator: usize) -> Option<Kind> {
     }
 }
 
-/// How wide the character count is.
+/// Returns the width of the character count indicator.
 fn count_width(shape: Shape, kind: Kind) -> usize {
     let class = if shape.number < 10 {
         0
@@ -94,7 +94,7 @@ fn count_width(shape: Shape, kind: Kind) -> usize {
     }
 }
 
-/// Reads so many digits.
+/// Reads `count` digits.
 fn read_digits(cursor: &mut Cursor, count: usize, bytes: &mut Vec<u8>) -> Option<()> {
     for group in 0..count.div_ceil(3) {
         let size = count.wrapping_sub(group.wrapping_mul(3)).min(3);
@@ -115,7 +115,7 @@ fn read_digits(cursor: &mut Cursor, count: usize, bytes: &mut Vec<u8>) -> Option
     Some(())
 }
 
-/// Reads so many of the 45 characters.
+/// Reads `count` of the 45 Alphanumeric characters.
 fn read_signs(cursor: &mut Cursor, count: usize, bytes: &mut Vec<u8>) -> Option<()> {
     let signs = b"0123456789ABCDEFGHIJKLMNOPQRSTUVWXYZ $%*+-./:";
     for pair in 0..count.div_ceil(2) {
@@ -130,7 +130,7 @@ fn read_signs(cursor: &mut Cursor, count: usize, bytes: &mut Vec<u8>) -> Option<
     Some(())
 }
 
-/// Reads so many pairs of Shift JIS.
+/// Reads `count` pairs of Shift JIS.
 fn read_pairs(cursor: &mut Cursor, count: usize, bytes: &mut Vec<u8>) -> Option<()> {
     for _ in 0..count {
         let number = cursor.take(13)?;
@@ -146,7 +146,7 @@ fn read_pairs(cursor: &mut Cursor, count: usize, bytes: &mut Vec<u8>) -> Option<
     Some(())
 }
 
-/// Reads a segment, and adds its bytes.
+/// Reads a segment, and appends its bytes.
 fn read_segment(cursor: &mut Cursor, shape: Shape, bytes: &mut Vec<u8>) -> Option<()> {
     let width = if shape.micro {
         shape.number.wrapping_sub(1)
@@ -168,7 +168,7 @@ fn read_segment(cursor: &mut Cursor, shape: Shape, bytes: &mut Vec<u8>) -> Optio
     }
 }
 
-/// How wide the terminator is.
+/// Returns the width of the terminator.
 fn terminator(shape: Shape) -> usize {
     if shape.micro {
         shape.number.wrapping_mul(2).wrapping_add(1)
@@ -177,7 +177,7 @@ fn terminator(shape: Shape) -> usize {
     }
 }
 
-/// Whether the rest is a terminator and padding.
+/// Returns whether the remaining bits are a terminator and padding.
 fn is_ended(cursor: &Cursor, shape: Shape) -> bool {
     let width = terminator(shape).min(cursor.left());
     let zeros = cursor.at.wrapping_add(width);
@@ -200,7 +200,8 @@ fn is_ended(cursor: &Cursor, shape: Shape) -> bool {
     true
 }
 
-/// Reads the segments, and checks that terminator and padding follow them.
+/// Reads the header, if there is one, and the segments, and checks that terminator and
+/// padding follow.
 pub fn read(alloc: Global, codewords: &[u8], shape: Shape) -> Option<Text> {
     let missing = if shape.micro && shape.number % 2 == 1 {
         4

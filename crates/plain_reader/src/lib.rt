@@ -1,5 +1,10 @@
-//! A plain reader of symbols, for the tests: of all versions, and of sequences. It names no other crate, so that what
-//! it reads rests on nothing of the product. A grid is a row-major list, `true` for a dark module.
+//! A plain reader of symbols for the tests: of all versions, and of sequences. It depends on no
+//! other crate, so that what it reads rests on nothing of the product. A grid is a row-major list,
+//! `true` for a dark module:
+//!
+//! ```text
+//! let seen = read(alloc, &modules)?; // version, level, mask, codewords, bytes, ..
+//! ```
 #![tactic(auto)]
 
 mod blocks;
@@ -10,7 +15,7 @@ mod sequence;
 pub use sequence::read_sequence;
 use std::alloc::Global;
 
-/// A level of error correction.
+/// An error correction level.
 #[derive(Clone, Copy, Debug, PartialEq, Eq)]
 pub enum Level {
     L,
@@ -19,7 +24,7 @@ pub enum Level {
     H,
 }
 
-/// The shape of a grid: its width, and the number of its version.
+/// The shape of a grid: its width, and the number and kind of its version.
 #[derive(Clone, Copy, Debug, PartialEq, Eq)]
 pub struct Shape {
     pub width: usize,
@@ -27,30 +32,30 @@ pub struct Shape {
     pub micro: bool,
 }
 
-/// What a grid says.
+/// What is read from a grid.
 #[derive(Drop)]
 pub struct Seen {
     pub shape: Shape,
     pub level: Level,
 
-    /// The format word as it is drawn.
+    /// The format word, as drawn.
     pub format: u32,
 
     /// The number of the mask in the family of the version.
     pub mask: usize,
 
-    /// The data codewords, in the order of the blocks.
+    /// The data codewords, block by block.
     pub codewords: Vec<u8>,
 
-    /// The position, the total and the parity of a sequence, where the frame begins with a header.
+    /// The position, the total and the parity of a sequence, if the data begin with such a header.
     pub header: Option<(u8, u8, u8)>,
 
-    /// How many bits stand before the terminator.
+    /// The number of bits before the terminator.
     pub payload: usize,
     pub bytes: Vec<u8>,
 }
 
-/// Reads a grid: `None` where it is no symbol, or where memory was wanting.
+/// Reads a grid. Returns `None` if it is not a valid symbol, or if an allocation fails.
 pub fn read(alloc: Global, grid: &[bool]) -> Option<Seen> {
     let shape = shape_of(grid)?;
     let (level, mask) = cells::format_of(grid, shape)?;
@@ -73,7 +78,7 @@ pub fn read(alloc: Global, grid: &[bool]) -> Option<Seen> {
     })
 }
 
-/// The shape of a version.
+/// Returns the shape of a version.
 pub fn blank_shape(number: usize, micro: bool) -> Shape {
     let width = if micro {
         number.wrapping_mul(2).wrapping_add(9)
@@ -87,17 +92,18 @@ pub fn blank_shape(number: usize, micro: bool) -> Shape {
     }
 }
 
-/// How many data cells a version has, where memory was found.
+/// Returns how many data cells a version has, or `None` if an allocation fails.
 pub fn data_cells(alloc: Global, shape: Shape) -> Option<usize> {
     cells::data_cells(alloc, shape)
 }
 
-/// How many data codewords a version with so many data cells has at a level, if it has the level.
+/// Returns how many data codewords a version with `cells` data cells has at a level, if it has
+/// the level.
 pub fn data_count(shape: Shape, level: Level, cells: usize) -> Option<usize> {
     blocks::data_count(shape, level, cells)
 }
 
-/// The size of a grid, if a symbol has it.
+/// Returns the shape of a grid, if it has the size of a symbol.
 fn shape_of(grid: &[bool]) -> Option<Shape> {
     let width = grid.len().isqrt();
     if width.wrapping_mul(width) != grid.len() {

@@ -1,8 +1,8 @@
-//! A message that is spread over several symbols.
+//! Reading of a message that is spread over several symbols.
 use crate::{Seen, read};
 use std::alloc::Global;
 
-/// The symbol whose header tells a position.
+/// Returns the symbol whose header has a position.
 fn at_position(symbols: &[Seen], position: usize) -> Option<&Seen> {
     symbols.iter().find(|seen| {
         seen.header
@@ -10,8 +10,8 @@ fn at_position(symbols: &[Seen], position: usize) -> Option<&Seen> {
     })
 }
 
-/// The message of some symbols, taken in an order: `None` where they are no whole sequence, or where memory was
-/// wanting.
+/// Returns the message of some symbols, read in the given order, or `None` if they are not one
+/// whole sequence or an allocation fails.
 pub fn read_sequence(alloc: Global, grids: &[Vec<bool>], order: &[usize]) -> Option<Vec<u8>> {
     let mut symbols = Vec::new(alloc);
     for index in order {

@@ -1,4 +1,5 @@
--- Words that many proofs of this crate import: lemmas and types of the toolchain, and types of the crates, each from where it stands.
+-- Names that many proofs of this crate import, re-exported: lemmas and types of the toolchain, and
+-- types of the crates.
 pub use Rattle.std.proofs.Common.{Bool, IsTrue, List, [], ap, arith, below_more, drop, false, get_or, inl, inr, length, length-drop, negsuc, pos, refl, rules}
 pub use Rattle.std.proofs.Common.{subst, suc, sym, take, true, zero, ℕ, ◌*◌, ◌++◌, ◌+◌, ◌-◌, ◌<◌, ◌^◌, ◌∙◌, ◌∷◌, ◌≡◌, ◌≤◌}
 pub use Rattle.std.proofs.Math.Seq.{take-length}

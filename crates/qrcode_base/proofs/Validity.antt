@@ -1,4 +1,4 @@
--- The first invalid byte of a text is one, and one only; there is none exactly where the text is valid.
+-- A text has exactly one first invalid byte, or none; it has none exactly if it is valid.
 use Rattle.qrcode_base.proofs.Prelude.{◌≡◌, ℕ, zero, suc, ◌<◌, ◌≤◌, refl, sym, ap, ◌∙◌, arith, subst, List, [], ◌∷◌, length, take, Bool, true, Option, Some}
 use Rattle.qrcode_base.proofs.Prelude.{None, All, Contains, slice_get, if◌then◌else◌, take-length, false≢true, cases_lt, slice_get_within, slice_get-get_or}
 use Rattle.qrcode_base.proofs.Prelude.{Mode, Numeric, Alphanumeric, Byte, Kanji, is_between, IsDigit, alphabet, is_alphanumeric, is_kanji_pair, IsKanjiText}
@@ -41,7 +41,7 @@ valid-holds Alphanumeric text h = holds_of_all (λ c. Contains alphabet c) is_al
 valid-holds Byte text h = holds_of_all (λ c. c < 256) (is_between 0 255) text (λ c d. grind arith) h
 valid-holds Kanji text h = kanji-holds text h
 
--- ---- The longest beginning that passes
+-- ---- The longest prefix that passes the test
 
 longest-within : (test : List ℕ → Bool) (text : List ℕ) (n : ℕ) → longest_beginning test text n ≤ n
 unfolding longest_beginning
@@ -63,7 +63,7 @@ longest-longest test text zero k above within h = omega arith
 longest-longest test text (suc n) k above within h = step_longest test text (test (take (suc n) text)) n (longest_beginning test text n) refl
     (longest-longest test text n) k above within h
 
--- ---- What stands behind it
+-- ---- The byte after it
 
 past_end : (text : List ℕ) (k : ℕ) → slice_get text k ≡ None → k ≤ length text → k ≡ length text
 past_end text k none within = grind (arith, slice_get-get_or text k 0, cases_lt k (length text))
@@ -84,7 +84,7 @@ pub first_invalid-first : (mode : Mode) (text : List ℕ) → FirstInvalid (IsVa
 unfolding first_invalid
 first_invalid-first mode text = grind (arith, found_behind)
 
--- ---- No other is first
+-- ---- No other byte is the first invalid one
 
 not_valid : (valid : List ℕ → Type 0) (text : List ℕ) (position byte : ℕ) → IsFirstInvalid valid text position byte → valid text → ⊥
 not_valid valid text position byte first whole = grind (arith, slice_get_within text position byte first.byte_is, take-length text)
@@ -102,7 +102,7 @@ one_first valid text None (Some q) h k = absurd (not_valid valid text q.0 q.1 k 
 one_first valid text (Some p) None h k = absurd (not_valid valid text p.0 p.1 h k)
 one_first valid text (Some p) (Some q) h k = grind (arith, not_before valid text p q h k, not_before valid text q p k h, same_found text p q)
 
--- What is first is what `first_invalid` tells.
+-- The first invalid byte is what `first_invalid` returns.
 pub first_invalid-is : (mode : Mode) (text : List ℕ) (found : Option (ℕ × ℕ)) → FirstInvalid (IsValid mode) text found → found ≡ first_invalid mode text
 first_invalid-is mode text found h = one_first (IsValid mode) text found (first_invalid mode text) h (first_invalid-first mode text)
 
@@ -113,7 +113,7 @@ nothing_found valid text (Some p) h = (λ v. absurd (not_valid valid text p.0 p.
 pub none_where_valid : (mode : Mode) (text : List ℕ) → (IsValid mode text) ↔ (first_invalid mode text ≡ None)
 none_where_valid mode text = nothing_found (IsValid mode) text (first_invalid mode text) (first_invalid-first mode text)
 
--- ---- What a caller of the four types reads off
+-- ---- What callers of the four types use
 
 pub valid_where_none : (mode : Mode) (text : List ℕ) → None ≡ first_invalid mode text → IsValid mode text
 valid_where_none mode text e = (none_where_valid mode text).1 (sym e)

@@ -1,5 +1,5 @@
--- The order of modes is a partial order, and its ties are the equal modes: what the trait `PartialOrd` asks a proof of.
--- Only proofs stand here; the definition is in Modes.
+-- The order of modes is a partial order in which only equal modes compare as equal: the proof that
+-- the trait `PartialOrd` requires. This file has only proofs; the order is defined in Modes.
 use Rattle.std.proofs.Common.{◌≡◌, Bool, true, refl, subst, ap}
 use Rattle.std.specs.Prelude.{Some, option_map}
 use Rattle.std.specs.Cmp.{IsPartialOrder}
@@ -9,7 +9,7 @@ use Rattle.qrcode_base.specs.declared.types.Mode.{Mode}
 use Rattle.qrcode_base.specs.declared.types.Mode.TheVariants.{Numeric, Alphanumeric, Byte, Kanji}
 use Rattle.qrcode_base.specs.Modes.{mode_order}
 
--- Compared the other way round, the answer is the other way round.
+-- Comparing in the other direction gives the opposite result.
 pub mode_order-antisymm : (x y : Mode) → mode_order x y ≡ option_map ordering_reverse (mode_order y x)
 mode_order-antisymm Numeric Numeric = refl
 mode_order-antisymm Numeric Alphanumeric = refl
@@ -28,7 +28,7 @@ mode_order-antisymm Kanji Alphanumeric = refl
 mode_order-antisymm Kanji Byte = refl
 mode_order-antisymm Kanji Kanji = refl
 
--- What is below a mode below another is below that one.
+-- The order is transitive.
 pub mode_order-trans : (x y z : Mode) →
     mode_order x y ≡ Some Less → mode_order y z ≡ Some Less → mode_order x z ≡ Some Less
 mode_order-trans Numeric Numeric z p q = cc
@@ -60,13 +60,14 @@ mode_order-trans Kanji Byte Byte p q = cc
 mode_order-trans Kanji Byte Kanji p q = cc
 mode_order-trans Kanji Kanji z p q = cc
 
+-- Each mode compares as equal to itself.
 pub mode_order-self : (x : Mode) → mode_order x x ≡ Some Equal
 mode_order-self Numeric = refl
 mode_order-self Alphanumeric = refl
 mode_order-self Byte = refl
 mode_order-self Kanji = refl
 
--- Only equal modes tie.
+-- Only equal modes compare as equal.
 pub mode_order-equal : (x y : Mode) → mode_order x y ≡ Some Equal → x ≡ y
 mode_order-equal Numeric Numeric h = refl
 mode_order-equal Alphanumeric Alphanumeric h = refl
@@ -74,7 +75,7 @@ mode_order-equal Byte Byte h = refl
 mode_order-equal Kanji Kanji h = refl
 mode_order-equal _ _ h = cc
 
--- The laws beside any test of equality.
+-- The laws of `PartialOrd`, for any test of equality that holds of exactly the equal modes.
 pub mode_order-laws : (E : Mode → Mode → Bool) →
     ((x : Mode) → E x x ≡ true) →
     ((x y : Mode) → E x y ≡ true → x ≡ y) →

@@ -1,14 +1,16 @@
--- A piece of text before a plan: some plan of both takes no more bits. The units of the piece come in front from its last
--- one on. They go to the plan's first part while that is of a mode below the piece's, and to the piece from then on, which
--- takes the first part too, where it is of its mode, and the first segment of it, where it is of a mode above.
+-- A piece of text before a plan: some plan of both takes no more bits. The units of the piece are
+-- added in front one by one, from its last one on. They are added to the plan's first part as
+-- long as the mode of that part is below the piece's. From then on they are added to the piece,
+-- which also takes the first part if it has the piece's mode, and the first segment of it if its
+-- mode is above.
 use Rattle.qrcode_bits.proofs.Prelude.{◌≡◌, ℕ, ◌+◌, ◌-◌, ◌≤◌, List, [], ◌∷◌, ◌++◌, refl, sym, ap, ◌∙◌, subst, arith, ◌⊎◌, inl, inr, Version, Mode}
 use Rattle.qrcode_bits.proofs.Prelude.{Segment, join, Bool, true, false, map, if◌then◌else◌, Class, Run, class_mode, class_size, joins, add_unit, runs, run_segment}
 use Rattle.qrcode_bits.proofs.{Runs.joins-same, Runs.class_size-some, Adjoining.Adjoin, Adjoining.Adjoin-runs, Adjoining.total_size}
 use Rattle.qrcode_bits.proofs.Cuts.{Below, UpTo, order, join-up_to, join-above_second, not_above, bits_of, piece_bits, merge_bits, move_bits, lower_bits, Cut}
 use Rattle.qrcode_bits.proofs.Cuts.{Parted, alone, together, some, Cut-some, Cut-first, Cut-longer}
 
--- A piece of mode `m` has `n` bytes so far, and a plan of `cost` bits comes after it. Either the first part of a cut stands
--- for the piece, however many bytes come in front,
+-- A piece of mode `m` has `n` bytes so far, and a plan of `cost` bits comes after it. Either the
+-- first part of a cut represents the piece, however many bytes are added in front,
 pub record IsOpen (v : Version) (m : Mode) (cost n : ℕ) (ss : List Segment) : Type 0 where
   pub mode : Mode
   pub size : ℕ
@@ -17,7 +19,7 @@ pub record IsOpen (v : Version) (m : Mode) (cost n : ℕ) (ss : List Segment) : 
   pub up_to : UpTo mode m
   pub few : (k x y : ℕ) → x ≡ size + k → y ≡ n + k → bits_of m x + rest ≤ bits_of m y + cost
 
--- or the bytes so far went to the plan.
+-- or the bytes so far were added to the plan.
 pub record IsShut (v : Version) (m : Mode) (cost n : ℕ) (ss : List Segment) : Type 0 where
   pub bits : ℕ
   pub parted : Parted v ss bits
@@ -74,7 +76,7 @@ module _ (v : Version) (m : Mode) (cost n : ℕ) (a : Mode) (within : UpTo a m) 
   }
 
   module _ (r q : Segment) (rs : List Segment) (longer : IsLonger a z r q) where
-    -- what is known of a cut where the bytes so far went to it
+    -- what is known of a cut if the bytes so far were added to it
     abbrev Few : Mode → ℕ → ℕ → Type 0
     Few j s t = (k y : ℕ) → y ≡ n + k → bits_of m k + (piece_bits v j s + t) ≤ bits_of m y + cost
 
@@ -129,7 +131,7 @@ module _ (v : Version) (m : Mode) (cost n : ℕ) (a : Mode) (within : UpTo a m) 
           shut-cut j s w c (λ k y f. omega (arith, few k y f))
           (order a j m (subst (λ i. UpTo i j) longer.old (Cut-first v r rs j s w c)) within)
 
-  -- one unit more in front
+  -- one more unit in front
   add-state : (ss qs : List Segment) → Added a z ss qs → State v m cost n ss → State v m cost (z + n) qs
   add-state ss qs (inl w) (inl o) = inl (subst (λ i. IsOpen v m cost (z + n) i) (sym w.2) (open-new w.0 ss w.1 o))
   add-state ss qs (inl w) (inr o) = inl (subst (λ i. IsOpen v m cost (z + n) i) (sym w.2) (shut-new w.0 ss w.1 o))
@@ -169,7 +171,7 @@ add_unit-added c b to (r ∷ rs) h = go (joins c r.class) refl where
   )
   go false e = inl (run_segment (record { class = c; begin = b; end = b + class_size c }), record { mode = refl; size = omega arith }, refl)
 
--- units that a mode can write
+-- units that a mode can encode
 abbrev pub AreUpTo : Mode → List Class → Type 0
 AreUpTo m [] = Unit {0}
 AreUpTo m (c ∷ cs) = UpTo (class_mode c) m × AreUpTo m cs

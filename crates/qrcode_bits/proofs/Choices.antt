@@ -1,5 +1,5 @@
--- The choice of the version: a chosen plan fits wherever some plan does, and the first class of versions whose chosen plan fits
--- decides.
+-- The choice of the version: a chosen plan fits if some plan does, and the first class of versions
+-- whose chosen plan fits decides.
 use Rattle.qrcode_bits.proofs.Prelude.{◌≡◌, ℕ, zero, suc, ◌+◌, ◌^◌, ◌<◌, ◌≤◌, List, [], ◌∷◌, ◌++◌, Some, length, refl, sym, subst, ◌∙◌, arith, inl, inr, rules}
 use Rattle.qrcode_bits.proofs.Prelude.{All, Option, flat_map, cases_lt, cases_eq, All-head, All-tail, All-nil, All-cons, All-append, Version, EcLevel, L, M, Q}
 use Rattle.qrcode_bits.proofs.Prelude.{H, Mode, IsWithin, HasMode, slice_get_past, capacity, Segment, parsed, merged, total_bits, IsChosenPlan, merged_all}
@@ -10,12 +10,12 @@ use Rattle.qrcode_base.proofs.{Joins.join-upper, Joins.join-upper_second, Fields
 
 -- ---- Modes of a version
 
--- a version with the mode of bytes has two bits to tell modes
+-- a version with the Byte mode has at least two bits in a mode indicator
 wide_enough : (p : ℕ) → 2 < 2 ^ p → 3 < 2 ^ p
 wide_enough zero h = grind arith
 wide_enough (suc p) h = omega arith
 
--- a version that has a mode has those that it takes in
+-- a version that has a mode has those that are less
 pub has_within : {m k : Mode} (v : Version) → IsWithin m k → HasMode v k → HasMode v m
 has_within v w h = grind (arith, wide_enough)
 
@@ -75,7 +75,7 @@ pub chosen_least : (front : ℕ) (message : List ℕ) (v : Version) (plan : List
     IsLeastBits front message v (front + total_bits v plan)
 chosen_least front message v plan h = grind (arith, chosen_is_plan message v plan h, chosen_bits message v plan)
 
--- Where some plan fits, the chosen plan fits.
+-- If some plan fits, the chosen plan fits.
 pub chosen_fits : (front : ℕ) (v : Version) (l : EcLevel) (message : List ℕ) (plan other : List Segment) → IsChosenPlan (parsed message) v plan →
     Fits front message v l other → Fits front message v l plan
 chosen_fits front v l message plan other h fits =
@@ -86,7 +86,7 @@ chosen_fits front v l message plan other h fits =
       plans-had v (parsed message) plan other (chosen_is_plan message v plan h) fits.planned fits.has_modes,
     )
 
--- Where the chosen plan does not fit, no plan fits.
+-- If the chosen plan does not fit, no plan fits.
 pub chosen_decides : (front : ℕ) (v : Version) (l : EcLevel) (message : List ℕ) (plan : List Segment) → IsChosenPlan (parsed message) v plan →
     (Fits front message v l plan → ⊥) → FitsNot front message v l
 chosen_decides front v l message plan h unfit other w = unfit (chosen_fits front v l message plan other h w)
@@ -109,7 +109,7 @@ chosen_same : (segments plan : List Segment) (n m : ℕ) → 1 ≤ n → 1 ≤ m
     IsChosenPlan segments (normal m) plan
 chosen_same segments plan n m h k class w = search (arith, rules, chosen-same)
 
--- a version that holds the bits of a plan fits it, if it is a Normal one
+-- a Normal version that holds the bits of a plan fits it
 pub fits_normal : (front n c : ℕ) (message : List ℕ) (l : EcLevel) (plan : List Segment) → IsMergePlan (parsed message) plan → capacity (normal n) l ≡ Some c →
     front + total_bits (normal n) plan ≤ c → Fits front message (normal n) l plan
 fits_normal front n c message l plan h known few = grind arith
@@ -117,7 +117,8 @@ fits_normal front n c message l plan h known few = grind arith
 module _ (front : ℕ) (message : List ℕ) (l : EcLevel) (before last : ℕ) (plan : List Segment) (c : ℕ)
     (class : IsClass before last) (too_long : FitsNone normal front message l before)
     (chosen : IsChosenPlan (parsed message) (normal last) plan) (known : capacity (normal last) l ≡ Some c) where
-  -- a plan that fits a version of the class has at least the bits of the chosen plan of the last one
+  -- a plan that fits a version of the class has at least the bits of the chosen plan of the
+  -- last one
   least_in : (n : ℕ) → before < n → n ≤ last → (other : List Segment) → (w : Fits front message (normal n) l other) →
       front + total_bits (normal last) plan ≤ w.limit
   least_in n h k other w = grind (arith, chosen_bits message (normal last) plan other chosen w.planned, total_bits-same)
@@ -169,15 +170,16 @@ capacity-most l n c h known = let d = last_capacity l in let grows = capacity-gr
 pub capacity-middle : (l : EcLevel) (n c : ℕ) → n ≤ 26 → capacity (normal n) l ≡ Some c → c ≤ 10960
 capacity-middle l n c h known = let d = middle_capacity l in let grows = capacity-grows l n 26 c d.0 h known d.1 in omega (arith, d.2)
 
--- What fits some version fits version 40: from 27 on the bits stay, and before they at most double, and so does what is in front.
+-- What fits some version fits version 40: from version 27 on the number of bits stays the same; up
+-- to 26 it at most doubles, together with the bits in front.
 pub fits_last : (front n : ℕ) (message : List ℕ) (l : EcLevel) (plan : List Segment) → n ≤ 40 → Fits front message (normal n) l plan →
     Fits front message (normal 40) l plan
 fits_last front n message l plan h w =
     grind (arith, last_capacity l, total_bits-double n 40, capacity-grows l n 26 w.limit, capacity-grows l n 40 w.limit, total_bits-same n 40)
 
--- ---- The least version that holds so many bits
+-- ---- The least version that holds a number of bits
 
--- no version before a number holds so many bits
+-- no version before a number holds that many bits
 abbrev pub HoldsLess : ℕ → EcLevel → ℕ → Type 0
 HoldsLess size l number = (n c : ℕ) → n < number → capacity (normal n) l ≡ Some c → c < size
 
@@ -198,7 +200,7 @@ micro_choice message l number plan h none chosen fits = record {
   fewest = chosen_least 0 message (micro (number + 1)) plan chosen;
 }
 
--- ---- No version holds so many bits
+-- ---- No version holds that many bits
 
 pub none_holds : (size : ℕ) (l : EcLevel) (number : ℕ) → 41 ≤ number → HoldsLess size l number → (other c : ℕ) → capacity (normal other) l ≡ Some c → c < size
 none_holds size l number h w other c known = grind (arith, slice_get_past)

@@ -82,7 +82,7 @@ pub lacks_number : (v : Version) (m : Mode) (n w : ℕ) → n ≡ indicator v m 
     HasMode v m → ⊥
 lacks_number v m n w is width narrow great has = grind (arith, one_shl w 64 narrow)
 
--- the version has the modes of all parts, where it has those of each
+-- the version has the modes of all parts, if it has that of each
 pub modes_all : (v : Version) (items : List Segment) (n : ℕ) → length items ≤ n → ((k : ℕ) → k < n → HasMode v (segment_at items k).mode) →
     All (λ part. HasMode v part.mode) items
 modes_all v items n long each = grind (arith, get_or_default)
@@ -115,7 +115,7 @@ fits_later front n m message l plan h most class w =
     let grows = capacity-grows l n m w.limit c.0 h w.has_level c.1 in
     grind (arith, common_steps, total_bits-same, fits_normal)
 
--- Where no plan fits the last version of a class, none fits any version of the class.
+-- If no plan fits the last version of a class, none fits any version of the class.
 pub class_fits_not : (front : ℕ) (message : List ℕ) (l : EcLevel) (before last : ℕ) → last ≤ 40 → IsClass before last → FitsNone normal front message l before →
     FitsNot front message (normal last) l → FitsNone normal front message l last
 class_fits_not front message l before last most class none unfit n h plan w = elim (cases_lt before n) [
@@ -148,7 +148,7 @@ IsSearched front message l limit left = (before : ℕ) × AreCandidates before l
 -- the bits of a plan that were counted
 pub ruleset small_plans = (counted_more, counted_all, part_ordered)
 
--- a plan of some class, found by the last version of it, behind so many bits in front
+-- a plan of some class, found by its last version, after a number of bits in front
 module _ (header : Option Header) (message : List ℕ) (l : EcLevel) (last front size : ℕ) (plan : List Segment) (v version : Version)
     (ahead : front ≡ length (header_bits header)) (is : v ≡ normal last) (chosen : IsChosenPlan (parsed message) v plan)
     (found : Fits front message v l plan) (counted : size ≡ front + total_bits v plan) (least : IsMinVersion size l version) where
@@ -161,11 +161,12 @@ module _ (header : Option Header) (message : List ℕ) (l : EcLevel) (last front
   least_version : Least
   least_version = grind (arith, header_fits)
 
-  -- The chosen plan of the last version of a class fits the least version that holds its bits and those of the header,
+  -- The chosen plan of the last version of a class fits the least version that holds its bits and
+  -- those of the header,
   pub class_fits : Fits (length (header_bits header)) message version l plan
   class_fits = search (arith, rules, capacity-held, fits_normal, header_fits, least_version, total_bits-rise)
 
-  -- and is the choice there, where no plan fits a version before the class.
+  -- and is the choice there, if no plan fits a version before the class.
   pub class_encoding : (before limit : ℕ) → IsClass before last → last ≤ limit → FitsNone normal (length (header_bits header)) message l before →
       (stream : Stream) → IsPlanStream header message version l plan stream → IsEncoding normal header message l limit stream
   class_encoding before limit class within none stream s =
@@ -179,7 +180,7 @@ module _ (header : Option Header) (message : List ℕ) (l : EcLevel) (last front
         stream_is = subst (λ (v : Version). IsPlanStream header message v l plan stream) m.1 s;
       }
 
--- ---- Refusals
+-- ---- Errors
 
 pub refused_limit : (message : List ℕ) (l : EcLevel) (z : ℤ) (n : ℕ) (e : QrError) → IsNormalNumber z → n ≡ nat_abs z → IsUnencodable normal 0 message l n e →
     IsEncodingRefused message l z e

@@ -1,4 +1,4 @@
--- The classes of bytes by their numbers, computed at each byte, and what stands at a place.
+-- The classes of bytes by their numbers, computed for each byte, and the unit at an index.
 use Rattle.qrcode_bits.proofs.Prelude.{zero, suc, ◌≡◌, ℕ, ◌+◌, ◌-◌, ◌<◌, ◌≤◌, Bool, true, false, List, ◌∷◌, length, drop, get_or, refl, ap, sym, ◌∙◌, arith}
 use Rattle.qrcode_bits.proofs.Prelude.{inl, inr, ◌⊎◌, cases_lt, drop_all, get_or-map-range_with_len, Mode, Byte, is_alphanumeric, is_kanji_pair, Class, Digit}
 use Rattle.qrcode_bits.proofs.Prelude.{Sign, Other, Pair, LoneLead, class_number, class_of, class_size, units, joins, class_mode, common_steps, map}
@@ -38,7 +38,7 @@ lone_apart d = grind arith
 joins-self : (c : Class) → (c ≡ LoneLead → ⊥) → joins c c ≡ true
 joins-self c other = grind arith
 
--- ---- What stands at a place
+-- ---- The unit at an index
 
 drop-two : (bytes : List ℕ) (at : ℕ) → at + 2 ≤ length bytes → drop at bytes ≡ get_or bytes at 0 ∷ get_or bytes (at + 1) 0 ∷ drop (at + 2) bytes
 drop-two bytes at within = grind (arith, drop-cons)
@@ -73,7 +73,7 @@ next_unit bytes at within = elim (cases_lt (at + 1) (length bytes)) [
 
 -- ---- Runs
 
--- a run ends with the data, or where a unit of another class stands
+-- a run ends with the data, or before a unit of another class
 run_stops : (bytes : List ℕ) (c : Class) (begin end : ℕ) → IsRun bytes c begin end →
     (end < length bytes → (d : Class) × (joins c d ≡ false) × (units (drop end bytes) ≡ d ∷ units (drop (end + class_size d) bytes))) →
     parsed_from begin (drop begin bytes) ≡ record { mode = class_mode c; begin = begin; end = end } ∷ parsed_from end (drop end bytes)

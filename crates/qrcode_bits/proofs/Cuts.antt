@@ -1,8 +1,8 @@
--- Cuts of segments into parts, told by what the first part is and what the later ones take.
+-- Cuts of segments into parts, described by the first part and the bits of the later ones.
 use Rattle.qrcode_bits.proofs.Prelude.{◌≡◌, ℕ, ◌+◌, ◌-◌, ◌*◌, ◌/◌, ◌≤◌, List, [], ◌∷◌, sym, ap, subst, ◌∙◌, arith, ◌⊎◌, inl, Version}
 use Rattle.qrcode_bits.proofs.Prelude.{Mode, Numeric, Alphanumeric, Byte, Kanji, join, count_width, indicator_width, data_bits, characters, Segment}
 
--- ---- Modes in the order of what a byte takes in them
+-- ---- Modes in the order of how many bits a byte takes in them
 
 abbrev pub Below : Mode → Mode → Type 0
 Below Numeric Alphanumeric = Unit {0}
@@ -14,7 +14,7 @@ Below _ _ = ⊥
 abbrev pub UpTo : Mode → Mode → Type 0
 UpTo j m = (j ≡ m) ⊎ Below j m
 
--- two modes that can write what a third one writes
+-- two modes that can encode what a third one can
 pub order : (a j m : Mode) → UpTo a j → UpTo a m → Below j m ⊎ ((j ≡ m) ⊎ Below m j)
 order a j m g h = grind arith
 
@@ -32,7 +32,8 @@ not_above a m g h = grind arith
 
 -- ---- Bits
 
--- What so many bytes take, rounded up: the bits of a text, but a half Kanji character takes seven.
+-- The bits of a number of bytes, rounded up: those of a text, but half a Kanji character
+-- takes seven.
 abbrev pub bits_of : Mode → ℕ → ℕ
 bits_of Numeric n = (10 * n + 2) / 3
 bits_of Alphanumeric n = (11 * n + 1) / 2
@@ -50,7 +51,7 @@ data_bits-below m n = grind arith
 pub merge_bits : (m : Mode) (a b c : ℕ) → c ≡ a + b → bits_of m c ≤ bits_of m a + bits_of m b
 merge_bits m a b c e = grind arith
 
--- bytes go from a mode to one below it
+-- bytes move from a mode to one below it
 pub move_bits : (j m : Mode) → Below j m → (r s k x y : ℕ) → x ≡ r + s → y ≡ r + k → bits_of j x + bits_of m k ≤ bits_of j s + bits_of m y
 move_bits j m h r s k x y e f = grind arith
 
@@ -60,8 +61,9 @@ lower_bits v j m h s some = grind arith
 
 -- ---- Cuts
 
--- The segments can be cut so that the first part has this mode and this size, and the later parts take so many bits;
--- and so that all parts take so many bits.
+-- `Cut`: the segments can be cut so that the first part has this mode and this size, and the
+-- later parts take this number of bits. `Parted`: they can be cut so that all parts take this
+-- number of bits.
 mutual
   pub data Cut (v : Version) : List Segment → Mode → ℕ → ℕ → Type 0 where
     alone : {r : Segment} {rs : List Segment} {j : Mode} {s t : ℕ} → j ≡ r.mode → s ≡ r.end - r.begin → 1 ≤ s → Parted v rs t → Cut v (r ∷ rs) j s t

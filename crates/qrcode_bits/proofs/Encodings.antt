@@ -1,4 +1,5 @@
--- The stream of a plan that fits: no push is refused but for memory, and up to the capacity it is a frame.
+-- The stream of a plan that fits: a push fails only with `OutOfMemory`, and up to the capacity the
+-- stream is a frame.
 use Rattle.qrcode_bits.proofs.Prelude.{◌≡◌, ℕ, ◌+◌, ◌<◌, ◌≤◌, List, ◌++◌, length, subst, arith, length-append, EcLevel, QrError, OutOfMemory, Segment}
 use Rattle.qrcode_bits.proofs.Prelude.{total_bits, Fits, no_modes, segment_pieces, Header, HasHeader, spellings, header_bits, Stream, Spells, EndsAtLevel}
 use Rattle.qrcode_bits.proofs.Prelude.{IsLevelRefused, with_modes, IsPlanStream, drop, segment_piece, IsSpellable, All-head, All-tail, drop_all, append-nil}
@@ -6,7 +7,8 @@ use Rattle.qrcode_bits.proofs.Prelude.{segment_at, All, Option, Version}
 use Rattle.qrcode_bits.proofs.{Choices.some_same, PlanFrames.spelled_plan, PlanFrames.plan_frame, Pushes.pieces_at}
 use Rattle.std.proofs.lemmas.Grind.{common_steps}
 
--- What is pushed of a plan before a part, and what is left, are the header and the whole plan; each part can be spelled.
+-- What is pushed of a plan before a part, and what is left, are the header and the whole plan; each
+-- part can be spelled.
 pub record IsPushedTo (header : Option Header) (bytes : List ℕ) (v : Version) (plan : List Segment) (i : ℕ) (now : Stream) : Type 0 where
   pub version : now.version ≡ v
   pub spellable : All (IsSpellable v) (segment_pieces bytes (drop i plan))
@@ -28,7 +30,7 @@ module _ (header : Option Header) (bytes : List ℕ) (v : Version) (plan : List 
         All-tail (IsSpellable v) (segment_piece bytes (segment_at plan i)) (segment_pieces bytes (drop (i + 1) plan)) (subst (All (IsSpellable v)) (pieces_at bytes plan i within) h.spellable),
       )
 
--- ---- The stream of a plan, behind a header or none
+-- ---- The stream of a plan, after a header if there is one
 
 module _ (header : Option Header) (bytes : List ℕ) (are : All (λ c. c < 256) bytes) (v : Version) (level : EcLevel) (plan : List Segment)
     (fits : Fits (length (header_bits header)) bytes v level plan) where

@@ -1,4 +1,4 @@
--- Pushes from an iterator that gives a list of segments.
+-- Pushes from an iterator over a list of segments.
 use Rattle.qrcode_bits.proofs.Prelude.{arith, ◌≡◌, ℕ, List, ◌++◌, length, take, drop, sym, ap, ◌∙◌, subst, Result, Ok, Err, All, IsOk, Option, map-id}
 use Rattle.qrcode_bits.proofs.Prelude.{map-append, take-append-drop, All-take, QrError, Segment, Piece, segment_piece, segment_pieces, Stream, PushesPieces}
 use Rattle.qrcode_bits.proofs.Prelude.{PushesDrawn, StopsAt}
@@ -7,15 +7,15 @@ use Rattle.std.{proofs.lemmas.Iterator.Consumers.YieldsList-so_far}
 use Rattle.qrcode_bits.proofs.Pushes.{stops_longer}
 
 module _ {S : Type 0} {steps : S → Option Segment → S → Type 0} (s : S) (all : List Segment) (gives : YieldsList steps (λ x. x) s all) where
-  -- what came so far is a beginning of the list
+  -- what was taken so far is a prefix of the list
   given_so_far : (W : Type 0) (xs : List Segment) → DrainsIf steps W s xs → xs ≡ take (length xs) all
   given_so_far W xs h = sym (map-id xs) ∙ YieldsList-so_far gives xs h.0 h.1
 
-  -- what holds of each of the list holds of each that came
+  -- what holds of each segment of the list holds of each that was taken
   pub given_all : (P : Segment → Type 0) (W : Type 0) (xs : List Segment) → All P all → DrainsIf steps W s xs → All P xs
   given_all P W xs each h = subst (λ (z : List Segment). All P z) (sym (given_so_far W xs h)) (All-take P (length xs) all each)
 
-  -- A push of what came is a push of the list: all came, or one that came was refused.
+  -- A push of what was taken is a push of the list: all were taken, or the push of one failed.
   pub pushes_all : (old new : Stream) (bytes : List ℕ) (xs : List Segment) (result : Result Unit QrError) → DrainsIf steps (IsOk result) s xs →
       PushesDrawn old (segment_pieces bytes xs) result new → PushesPieces old (segment_pieces bytes all) result new
   pushes_all old new bytes xs (Ok u) h w = grind (arith, items_from_drains, map-id xs)

@@ -1,4 +1,5 @@
--- The parts of a plan that fits, spelled one after the other, are the front of a frame of the bytes.
+-- The parts of a plan that fits, spelled one after the other, are the front of a frame of
+-- the bytes.
 use Rattle.qrcode_bits.proofs.Prelude.{◌≡◌, ◌≢◌, ℕ, ◌+◌, ◌-◌, ◌<◌, ◌≤◌, List, [], ◌∷◌, ◌++◌, length, take, drop, refl, ap, arith, length-append, All}
 use Rattle.qrcode_bits.proofs.Prelude.{slice_range, All-head, All-tail, Version, EcLevel, HasMode, IsValid, Segment, AreTexts, segment_bits, total_bits, Fits}
 use Rattle.qrcode_bits.proofs.Prelude.{spelling, segment_piece, segment_pieces, Header, HasHeader, header_bits, Piece, spellings, message, ended, IsFrame}
@@ -13,7 +14,7 @@ length-slice xs a b h k = length-take-le (b - a) (drop a xs) (omega (arith, leng
 -- ---- Segments that are texts of their modes
 
 module _ (v : Version) (whole : List ℕ) where
-  -- what a segment is, of which a list of texts begins with it
+  -- a segment with which a list of texts begins
   abbrev text : Segment → List ℕ
   text s = slice_range whole s.begin s.end
 
@@ -38,7 +39,7 @@ module _ (v : Version) (whole : List ℕ) where
   length-spelled from to [] h k = refl
   length-spelled from to (s ∷ ss) h k = grind (arith, own, length-append, spelled_size, length-spelled s.end to ss h.3 k)
 
-  -- Each can be spelled, where the version has the modes and the counts fit.
+  -- Each can be spelled, if the version has the modes and the counts fit.
   abbrev Has : Segment → Type 0
   Has s = HasMode v s.mode
 
@@ -55,7 +56,7 @@ module _ (v : Version) (whole : List ℕ) where
 
 -- ---- The frame of a plan
 
--- What a plan of the parsed segments that fits promises of its spellings.
+-- The spellings of a plan of the parsed segments that fits.
 pub record IsSpelledPlan (v : Version) (bytes : List ℕ) (plan : List Segment) : Type 0 where
   pub spellable : All (IsSpellable v) (segment_pieces bytes plan)
   pub nonempty : All (λ p. p.text ≢ []) (segment_pieces bytes plan)
@@ -73,8 +74,9 @@ spelled_plan front v l bytes plan are fits =
       bits = length-spelled v bytes 0 (length bytes) plan texts (omega arith);
     }
 
--- A plan of the parsed segments that fits, spelled behind a header or none and ended at the capacity, has a frame of the bytes in
--- front, and the payload is the bits of the plan and of what stands in front.
+-- A plan of the parsed segments that fits, spelled after a header if there is one and ended at
+-- the capacity, begins with a frame of the bytes. The payload is the bits of the header and of
+-- the plan.
 pub plan_frame : (v : Version) (l : EcLevel) (header : Option Header) (bytes : List ℕ) (plan : List Segment) → All (λ c. c < 256) bytes → HasHeader v header →
     (fits : Fits (length (header_bits header)) bytes v l plan) →
     IsFrame v l header bytes (length (header_bits header) + total_bits v plan)

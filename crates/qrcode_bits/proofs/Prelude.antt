@@ -1,4 +1,5 @@
--- Words that many proofs of this crate import: lemmas and types of the toolchain, and types of the crates, each from where it stands.
+-- Names that many proofs of this crate import, re-exported: lemmas and types of the toolchain, and
+-- types of the crates.
 pub use Rattle.std.proofs.Common.{Bool, Err, List, None, Ok, Result, Some, [], add-zero, add_comm, ap, append-nil, append_assoc, arith, cond, drop, drop-cons}
 pub use Rattle.std.proofs.Common.{false, get_or, inl, inr, leb, length, length-append, map, max, min, mod-eq_of_lt, one-add, pos, refl, reverse, rules, subst}
 pub use Rattle.std.proofs.Common.{suc, sym, take, true, zero, zero-add, ℕ, ℤ, ◌%◌, ◌*◌, ◌++◌, ◌+◌, ◌-◌, ◌/◌, ◌<◌, ◌^◌, ◌∙◌, ◌∷◌, ◌≡◌, ◌≢◌, ◌≤◌, ◌⊎◌}

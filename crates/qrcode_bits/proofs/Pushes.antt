@@ -7,7 +7,7 @@ use Rattle.qrcode_bits.proofs.Prelude.{segment_pieces, segment_at, Stream, Spell
 pub spells_none : (s : Stream) → SpellsAll s s []
 spells_none s = grind (arith, append-nil)
 
--- one push more, in front
+-- one more push, in front
 spells_first : (old next new : Stream) (p : Piece) (ps : List Piece) → Spells old next p → SpellsAll next new ps → SpellsAll old new (p ∷ ps)
 spells_first old next new p ps h w = grind (arith, append_assoc, length-append)
 
@@ -21,7 +21,7 @@ push_refused old new p e same why = grind (arith, spells_none old)
 
 -- ---- In turn
 
--- One push after the other, of which only the last may be refused.
+-- One push after the other, of which only the last may fail.
 abbrev pub PushesInTurn : Stream → List Piece → Result Unit QrError → Stream → Type 0
 PushesInTurn old [] result new = (result ≡ Ok tt) × (new ≡ old)
 PushesInTurn old (piece ∷ rest) result new =
@@ -56,11 +56,11 @@ got_within s i x h = grind (arith, slice_get_past)
 none_invalid : (piece : Piece) (position byte : ℕ) → IsValid piece.mode piece.text → IsFirstInvalid (IsValid piece.mode) piece.text position byte → ⊥
 none_invalid piece position byte valid h = grind (arith, got_within piece.text position byte h.byte_is, take-length piece.text)
 
--- a piece that can be spelled is refused for memory alone
+-- the push of a piece that can be spelled fails only with `OutOfMemory`
 pub spellable_refused : (old : Stream) (piece : Piece) (e : QrError) → IsSpellable old.version piece → IsPushRefused old piece e → e ≡ OutOfMemory
 spellable_refused old piece e h r = grind (arith, none_invalid)
 
--- the parts of a plan from a place on
+-- the parts of a plan from an index on
 pub pieces_at : (bytes : List ℕ) (plan : List Segment) (i : ℕ) → i < length plan →
     segment_pieces bytes (drop i plan) ≡ segment_piece bytes (segment_at plan i) ∷ segment_pieces bytes (drop (i + 1) plan)
 pieces_at bytes plan i within = grind (arith, drop-cons)

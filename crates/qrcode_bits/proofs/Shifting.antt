@@ -1,4 +1,5 @@
--- Bytes behind bits that are no whole byte yet: each place has the low bits of one byte and the high bits of the next.
+-- Bytes after an incomplete byte: each index has the low bits of one byte and the high bits of
+-- the next.
 use Rattle.qrcode_bits.proofs.Prelude.{◌≡◌, ℕ, ◌+◌, ◌-◌, ◌*◌, ◌/◌, ◌%◌, ◌^◌, ◌<◌, ◌≤◌, List, ◌++◌, length, arith, take, append_assoc, append-nil, add_comm}
 use Rattle.qrcode_bits.proofs.Prelude.{slice_index_or, bit_and, pow-add, drop_all, length-drop, take-append_seam, flat_map-append, common_steps}
 use Rattle.qrcode_bits.proofs.Prelude.{number_bits, byte_bits, Stream, Appends, kept_bits, room_in, IsKept}
@@ -15,7 +16,8 @@ one_shifted : (used before byte : ℕ) → used < 8 → byte < 2 ^ 8 →
 one_shifted used before byte part small =
     grind (arith, add_comm used 8, low_free used before byte part, number_bits-cut, number_bits-join used 8 before byte small, number_bits-mod)
 
--- one place more: what stands up to it and the bits that are left are the bits before and the text up to there
+-- one more index: the bytes up to it and the bits that are left are the bits before and the text up
+-- to there
 pub shifted_more : (into text : List ℕ) (used partial before wide next i : ℕ) → length into ≡ length text → i < length text → used < 8 →
     wide ≡ before * 2 ^ 8 + next → next ≡ slice_index_or text i 0 → slice_index_or text i 0 < 2 ^ 8 →
     byte_bits (take i into) ++ number_bits used before ≡ number_bits used partial ++ byte_bits (take i text) →
@@ -30,7 +32,7 @@ pub kept_more : (len cap cap' used partial left n word : ℕ) → IsKept len cap
     IsKept (len + n) cap' used left
 kept_more len cap cap' used partial left n word kept room grows is = grind arith
 
--- the bytes that were there, and these in place of those behind them
+-- the bytes that were there, and these in place of those after them
 pub replaced : (bytes text whole filled : List ℕ) (start : ℕ) → whole ≡ bytes ++ text → start ≡ length bytes →
     take start whole ++ (filled ++ post_of start (length whole - start) whole) ≡ bytes ++ filled
 replaced bytes text whole filled start is from = grind (arith, take-append_seam, drop_all, length-drop, append-nil)

@@ -1,4 +1,4 @@
--- The last part of a chosen plan of short data, by words.
+-- The last part of a chosen plan of short data, from words of 64 bits.
 use Rattle.qrcode_bits.proofs.Prelude.{◌≡◌, ℕ, ◌+◌, ◌-◌, ◌*◌, ◌/◌, ◌%◌, ◌^◌, ◌<◌, ◌≤◌, List, [], ◌∷◌, ◌++◌, length, get_or, Some, refl, sym, ap, ◌∙◌, subst}
 use Rattle.qrcode_bits.proofs.Prelude.{arith, inl, inr, length_push, get_or_push, get_or_append_left, cases_lt, Version, Mode, indicator_width, count_width}
 use Rattle.qrcode_bits.proofs.Prelude.{data_bits, characters, Segment, Step, Candidate, Groups, PERIOD_BITS, RESTS, IsNoWorse, segment_bits, segment_at}
@@ -38,7 +38,7 @@ period_bits-few j = grind arith
 
 pub ruleset short_costs = (cost-small, rest-at, period_bits-few)
 
--- what stands for whole periods is shifted away by the cost of a part from the rest on
+-- the bits of whole periods cancel out with the cost of a part from the offset on
 word-cost : (mode : Mode) (q cost head b r e before : ℕ) → b % period mode ≡ r → b ≤ e →
     q + period_bits mode * (2 ^ 64 - 2 ^ 13) + period_bits mode * (b / period mode) ≡ before + period_bits mode * 2 ^ 64 →
     cost ≡ head + data_bits mode (characters mode (e - r)) →
@@ -48,7 +48,7 @@ word-cost mode q cost head b r e before rest low stands is = grind arith
 shifted-low : (w cost x cand : ℕ) → x ≤ w / 2 ^ 26 + cost → cand ≡ w + cost * 2 ^ 26 - x * 2 ^ 26 → cand % 2 ^ 26 ≡ w % 2 ^ 26
 shifted-low w cost x cand h e = omega arith
 
--- The best start of the buckets so far, or none where these have no start.
+-- The best start of the buckets so far, or none if these have no start.
 pub record IsSought (segments : List Segment) (version : Version) (end tried best : ℕ) (mode : Mode) : Type 0 where
   pub found : best < 2 ^ 60 →
       IsTried segments version end tried (record {
@@ -80,7 +80,7 @@ module _ (segments : List Segment) (version : Version) (end : ℕ) (within : end
     ))
   ]
 
-  -- the rest of a bucket with a start is no more than the end
+  -- the offset of a bucket with a start is at most the end
   pub short-rest : (j w rest : ℕ) (groups : Groups) (mode : Mode) → j < 8 → AreGroups segments version end end groups → mode ≡ bucket_mode j →
       bucket_start j w ≡ slot (group_of mode groups) j → w < 2 ^ 50 → rest ≡ bucket_rest j → rest ≤ last_end
   short-rest j w rest groups mode inside grouped mode-is at small is = grind arith

@@ -11,7 +11,7 @@ use Rattle.qrcode_bits.specs.Frame.{KeepUnits, HasNoPair}
 use Rattle.qrcode_bits.proofs.{Cuts.UpTo, Cuts.bits_of, Cuts.piece_bits, Cuts.Parted, Cuts.none, Carrying.segments_of, Carrying.AreUpTo, Carrying.one_piece, CutPlans.parted-merges}
 use Rattle.qrcode_bits.proofs.{Adjoining.parsed-adjoin, Adjoining.units-size, Reading.length-spelling, Segments.length-character_bits}
 
--- ---- The units of a text are of classes that its mode can write
+-- ---- The units of a text are of classes that its mode can encode
 
 units-alone : (a : ℕ) (w : List ℕ) → is_lead a ≡ false → units (a ∷ w) ≡ class_of a ∷ units w
 units-alone a [] h = refl
@@ -112,7 +112,7 @@ shortest v pieces spellable kept =
     let plan = parted-merges v (parsed (message pieces)) few.0 0 (length (message pieces)) cut (parsed-adjoin (message pieces)) in
     (plan.0, plan.1, omega (arith, plan.2, few.2))
 
--- ---- Where no two neighbouring bytes are a pair
+-- ---- If no two neighbouring bytes are a pair
 
 units-apart : (a b : ℕ) (w : List ℕ) → is_kanji_pair a b ≡ false → units (a ∷ b ∷ w) ≡ class_of a ∷ units (b ∷ w)
 units-apart a b w h = grind arith

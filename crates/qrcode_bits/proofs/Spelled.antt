@@ -1,4 +1,4 @@
--- Pieces that a version can spell, none of them empty, told from the first on, and told of all.
+-- Pieces that a version can spell, none of them empty: stated one by one, and of all.
 use Rattle.qrcode_bits.proofs.Prelude.{arith, ◌≢◌, List, [], ◌∷◌, All, All-head, All-tail, All-nil, All-cons, Version, Piece, IsSpellable}
 
 abbrev HasText : Piece → Type 0

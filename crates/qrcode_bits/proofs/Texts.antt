@@ -13,7 +13,7 @@ use Rattle.qrcode_bits.proofs.{Runs.joins-same, Adjoining.class_of-one, Upward.v
 pub slice-join : (xs : List ℕ) (a b c : ℕ) → a ≤ b → b ≤ c → slice_range xs a b ++ slice_range xs b c ≡ slice_range xs a c
 slice-join xs a b c h k = grind (arith, drop-drop (b - a) a xs, take-add (b - a) (c - b) (drop a xs))
 
--- the bytes from a place on
+-- the bytes from an index on
 slice-front : (xs rest : List ℕ) (a n : ℕ) → drop a xs ≡ rest → slice_range xs a (a + n) ≡ take n rest
 slice-front xs rest a n e = grind arith
 
@@ -27,7 +27,7 @@ module _ (whole : List ℕ) where
   texts-reach from to [] h = omega arith
   texts-reach from to (s ∷ ss) h = let r = texts-reach s.end to ss h.3 in let f = h.1 in omega arith
 
-  -- a unit joins the run after it, or stands before it
+  -- a unit joins the run after it, or is a run before it
   texts-add : (c : Class) (b e : ℕ) (rs : List Run) → IsValid (class_mode c) (slice_range whole b (b + class_size c)) →
       AreTexts whole (b + class_size c) (map run_segment rs) e → AreTexts whole b (map run_segment (add_unit c b rs)) e
   texts-add c b e [] v h = let s = class_size-some c in (refl, omega arith, v, h)
@@ -87,7 +87,8 @@ module _ (whole : List ℕ) where
       texts-append from w.0 to (merged s ss ∷ []) (flat_map merged_all ps) (texts-merged s ss from w.0 w.1)
       (texts-pieces w.0 to ps (rest-some (s ∷ ss) ps some) w.2)
 
-  -- Each part of a plan of the parsed segments is a text of its mode, and the parts together are all the bytes.
+  -- Each part of a plan of the parsed segments is a text of its mode, and the parts together are
+  -- all the bytes.
   pub texts-plan : All (λ c. c < 256) whole → (plan : List Segment) → IsMergePlan (parsed whole) plan → AreTexts whole 0 plan (length whole)
   texts-plan are plan h = grind (arith, texts-pieces, texts-parsed)
 
@@ -101,12 +102,12 @@ module _ (whole : List ℕ) where
   pub plan_message : (plan : List Segment) → AreTexts whole 0 plan (length whole) → message (segment_pieces whole plan) ≡ whole
   plan_message plan h = grind (arith, common_steps, texts-message, take-length)
 
-  -- ---- Places
+  -- ---- Positions
 
   texts-lie : (from to : ℕ) (ss : List Segment) → AreTexts whole from ss to → to ≤ length whole → All (LiesIn (length whole)) ss
   texts-lie from to [] h k = All-nil (LiesIn (length whole))
   texts-lie from to (s ∷ ss) h k = grind (arith, texts-reach, texts-lie s.end to ss h.3 k)
 
-  -- The parts of a plan lie in the bytes.
+  -- The parts of a plan lie within the bytes.
   pub plan_lies : All (λ c. c < 256) whole → (plan : List Segment) → IsMergePlan (parsed whole) plan → All (LiesIn (length whole)) plan
   plan_lies are plan h = texts-lie 0 (length whole) plan (texts-plan are plan h) (omega arith)

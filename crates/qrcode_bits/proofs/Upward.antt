@@ -1,4 +1,4 @@
--- What a mode can write, each mode above it can write too.
+-- What a mode can encode, each greater mode can encode too.
 use Rattle.qrcode_bits.proofs.Prelude.{◌≡◌, ℕ, ◌+◌, ◌-◌, ◌<◌, Bool, true, List, [], ◌∷◌, ◌++◌, refl, ◌∙◌, subst, arith, get_or, All, Contains, nat_lt, ◌==◌}
 use Rattle.qrcode_bits.proofs.Prelude.{get_or_default_zero, ltb-true, eqb-true, All-nil, All-append, Mode, Numeric, Alphanumeric, Byte, Kanji, IsWithin, same}
 use Rattle.qrcode_bits.proofs.Prelude.{digits, bytes, IsDigit, alphabet, IsKanjiText, IsValid}
@@ -58,7 +58,7 @@ valid_bytes Alphanumeric s h = All-map (λ c. Contains alphabet c) (λ c. c < 25
 valid_bytes Byte s h = h
 valid_bytes Kanji s h = kanji_bytes s h
 
--- What a mode can write, each mode above it can write.
+-- What a mode can encode, each greater mode can encode.
 pub valid-upward : {m k : Mode} (s : List ℕ) → IsWithin m k → IsValid m s → IsValid k s
 valid-upward s same h = h
 valid-upward s digits h = All-map IsDigit (λ c. Contains alphabet c) digit_sign s h

@@ -38,11 +38,11 @@ length-starts_in words = length-map-range_with_len (λ (i : ℕ). bucket_start i
 -- the words of a group, as starts
 pub ruleset starts_of_words = (length-starts_in, slot-starts_in, no_start)
 
--- no word but the greatest is no start
+-- only the greatest word is no start
 pub no_starts : IsEmptyGroup (starts_in (replicate 8 18446744073709551615))
 no_starts = grind (arith, common_steps, length-starts_in, slot-starts_in, no_start)
 
--- ---- A start enters
+-- ---- A start is added
 
 module _ (begin bits parts start : ℕ) (low : begin < 8192) (few : bits < 2 ^ 18) (short : parts < 8192) (early : start < 8192) where
   abbrev thirds : ℕ
@@ -99,7 +99,7 @@ module _ (begin bits parts start : ℕ) (low : begin < 8192) (few : bits < 2 ^ 1
     enters : Enters mode begin bits parts start (starts_in old) (starts_in new)
     enters = (length-starts_in new, λ j has. entered j has (has-inside mode j has), λ j has. kept j (has-inside mode j has))
 
--- the same of the words that the code has at hand
+-- the same for the words of the code
 pub enters_words : (mode : Mode) (begin bits parts start : ℕ) → begin < 8192 → bits < 2 ^ 18 → parts < 8192 → start < 8192 →
     (old one two three new : List ℕ) (t p s c : ℕ) →
     t ≡ word_of (bits + 10 * (8192 - begin / 3)) parts start → p ≡ word_of (bits + 11 * (8192 - begin / 2)) parts start →

@@ -1,4 +1,4 @@
-//! Configurations of renderers and encoders, and copies of what encoders answer.
+//! Tests of the configurations of renderers and encoders, and of copies of encoded output.
 use qrcode_core::plugin::{EncodeConfig, EncodedOutput, RenderConfig};
 use std::alloc::Global;
 use std::process::Abort;
@@ -16,7 +16,7 @@ fn configurations_keep_what_is_asked(rt: HostRuntime) {
     encoded_bytes_are_copied(&rt, rt.alloc());
 }
 
-/// The same of an encoder's configuration.
+/// A copy of an encoder's configuration has its options.
 fn encoding_keeps_what_is_asked(rt: &impl Abort, alloc: Global) {
     let encode = EncodeConfig::new(alloc).with_option("dark", "X");
     let copy = encode
@@ -26,7 +26,7 @@ fn encoding_keeps_what_is_asked(rt: &impl Abort, alloc: Global) {
     assert!(rt; copy.option("dark") == Some("X") && copy.option("light").is_none());
 }
 
-/// The same of what an encoder answers.
+/// A copy of encoded output is equal to it.
 fn encoded_bytes_are_copied(rt: &impl Abort, alloc: Global) {
     let bytes = EncodedOutput::Bytes(Vec::from_slice(alloc, b"abc").expect(rt, "memory"));
     assert!(rt; bytes.clone(alloc).expect(rt, "memory") == bytes);

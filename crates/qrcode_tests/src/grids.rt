@@ -1,9 +1,9 @@
-//! Grids of the product as the plain reader takes them, and a short sum of one.
+//! Grids of the product in the form that the plain reader takes, and a hash of a grid.
 use plain_reader::Seen;
 use qrcode_core::types::Color;
 use std::alloc::Global;
 
-/// The modules of a grid: `true` for a dark one.
+/// Returns the modules of a grid: `true` for a dark one.
 pub(crate) fn modules_of(alloc: Global, grid: &[Color]) -> Option<Vec<bool>> {
     let mut modules = Vec::with_capacity(alloc, grid.len()).ok()?;
     for color in grid {
@@ -12,12 +12,12 @@ pub(crate) fn modules_of(alloc: Global, grid: &[Color]) -> Option<Vec<bool>> {
     Some(modules)
 }
 
-/// What the plain reader sees in a grid.
+/// Returns what the plain reader reads from a grid.
 pub(crate) fn read(alloc: Global, grid: &[Color]) -> Option<Seen> {
     plain_reader::read(alloc, &modules_of(alloc, grid)?)
 }
 
-/// A hash of the modules (FNV-1a, a byte for each).
+/// Returns a hash of the modules (FNV-1a, one byte for each module).
 pub(crate) fn hash(grid: &[Color]) -> u32 {
     let mut sum = 0x811c_9dc5u32;
     for color in grid {

@@ -1,5 +1,5 @@
-//! Tests that cross crates: symbols, sequences and views over `qrcode_core`, read back by `plain_reader`, and calls
-//! whose growths are refused (`tools/refuse-growth`).
+//! Tests that cross crates: symbols, sequences and views of `qrcode_core`, read back by
+//! `plain_reader`, and calls whose allocations fail (`tools/refuse-growth`).
 #![tactic(auto)]
 
 #[cfg(test)]

@@ -1,8 +1,8 @@
-//! Calls that can want memory, each with its row. Where memory is found a test passes; where a growth is refused it
-//! ends with `OutOfMemory`, after it has seen what the call promises to leave; every other answer is a failed
-//! assertion.
+//! Calls that allocate, each with its expected value. A test passes if all allocations succeed. If
+//! one fails, the test returns `OutOfMemory`, after it has checked what the call promises to leave
+//! unchanged; every other result is a failed assertion.
 //!
-//! `tools/refuse-growth` refuses the growths of each test in turn.
+//! `tools/refuse-growth` lets the allocations of each test fail in turn.
 
 mod pushes;
 mod registry;
@@ -22,7 +22,7 @@ use std::alloc::Global;
 
 const ONE: Version = Version::Normal(1);
 
-/// The data codewords of `HELLO WORLD` in version 1 at level M, and their correction.
+/// The data codewords of `HELLO WORLD` in version 1 at level M; their correction is below.
 static HELLO_WORLD: [u8; 16] = [
     0x20, 0x5b, 0x0b, 0x78, 0xd1, 0x72, 0xdc, 0x4d, 0x43, 0x40, 0xec, 0x11, 0xec, 0x11, 0xec, 0x11,
 ];
@@ -31,7 +31,7 @@ static HELLO_WORLD_CORRECTION: [u8; 10] = [
     0xc4, 0x23, 0x27, 0x77, 0xeb, 0xd7, 0xe7, 0xe2, 0x5d, 0x17,
 ];
 
-// The hashes of these symbols are those of the original crate's.
+// The hashes of these symbols are those of the original crate's symbols.
 
 #[test]
 fn symbol_of_hello(rt: HostRuntime) -> QrResult<()> {
@@ -93,7 +93,7 @@ fn symbol_sequence_of_sixteen(rt: HostRuntime) -> QrResult<()> {
     Ok(())
 }
 
-/// More digits than any symbol holds are refused without memory.
+/// More digits than any symbol holds are rejected without an allocation.
 #[test]
 fn symbols_of_too_many_digits(rt: HostRuntime) {
     let digits = [b'7'; 7090];
@@ -189,7 +189,7 @@ fn construct_codewords_of_hello_world(rt: HostRuntime) -> QrResult<()> {
     Ok(())
 }
 
-/// A canvas of `12345`, whose symbol is known with its score.
+/// Returns a canvas of `12345`, whose symbol and score are known.
 fn five_digits(alloc: Global) -> QrResult<Canvas> {
     let mut canvas = Canvas::new(alloc, Version::Micro(1), EcLevel::L)?;
     canvas.draw_all_functional_patterns();
@@ -197,7 +197,7 @@ fn five_digits(alloc: Global) -> QrResult<Canvas> {
     canvas.clone(alloc)
 }
 
-// The three choices of a mask agree.
+// The three functions that choose a mask agree.
 
 #[test]
 fn best_masks_of_five_digits(rt: HostRuntime) -> QrResult<()> {

@@ -1,4 +1,4 @@
-//! A registry with objects of the tests' own.
+//! Tests of a registry, with types that implement the traits.
 use crate::view_tests::{grid_of_text, grid_shows, text_of_marks};
 use qrcode_core::plugin::{
     DynEncoder, DynRenderer, EncodeConfig, EncodedOutput, PluginError, PluginRegistry,
@@ -9,7 +9,8 @@ use qrcode_core::types::Color;
 use std::alloc::Global;
 use std::process::Abort;
 
-/// Renders a mark for each module, with the option `dark` for dark ones; refuses the option `light`.
+/// A renderer that writes a mark for each module, for dark ones that of the option `dark`; it
+/// rejects the option `light`.
 #[derive(Drop)]
 pub(crate) struct Text;
 
@@ -36,7 +37,7 @@ impl DynRenderer for Text {
     }
 }
 
-/// Encodes bytes as they are.
+/// An encoder that returns the bytes unchanged.
 #[derive(Drop)]
 pub(crate) struct Plain;
 
@@ -53,7 +54,7 @@ impl DynEncoder for Plain {
     }
 }
 
-/// Sets a module of the top row dark.
+/// A postprocessor that sets a module of the top row dark.
 #[derive(Drop)]
 pub(crate) struct Darken {
     pub(crate) x: usize,
@@ -70,7 +71,7 @@ impl PostProcessor for Darken {
     }
 }
 
-/// Refuses with `boom`.
+/// A postprocessor that fails with `boom`.
 #[derive(Drop)]
 struct Boom;
 
@@ -82,12 +83,12 @@ impl PostProcessor for Boom {
     }
 }
 
-/// A text of its own.
+/// Returns a text as a `String`.
 fn own(rt: &impl Abort, alloc: Global, text: &str) -> String {
     String::from_str(alloc, text).expect(rt, "memory")
 }
 
-/// The plugin `demo` with a renderer `text`, an encoder `length` and a postprocessor.
+/// Returns the plugin `demo` with a renderer `text`, an encoder `length` and a postprocessor.
 fn demo(rt: &impl Abort, alloc: Global) -> QrPlugin {
     let renderer: Box<dyn DynRenderer> = Box::new(alloc, Text).expect(rt, "memory");
     let encoder: Box<dyn DynEncoder> = Box::new(alloc, Plain).expect(rt, "memory");
@@ -107,7 +108,7 @@ fn demo(rt: &impl Abort, alloc: Global) -> QrPlugin {
     }
 }
 
-/// What the renderer `text` prints of two by two modules.
+/// Returns what the renderer `text` writes for two by two modules.
 fn printed(
     registry: &PluginRegistry,
     alloc: Global,
@@ -120,7 +121,7 @@ fn printed(
     }
 }
 
-/// The texts of the errors, with `x` as the kept text.
+/// The texts of the errors, with `x` as the text that they have.
 static ERROR_TEXTS: [&str; 8] = [
     "renderer plugin not found: x",
     "encoder plugin not found: x",
@@ -132,7 +133,7 @@ static ERROR_TEXTS: [&str; 8] = [
     "out of memory",
 ];
 
-/// The errors in the order of their texts.
+/// Returns an error, by the index of its text.
 fn error_with(number: usize, text: String) -> PluginError {
     match number {
         0 => PluginError::RendererNotFound(text),
@@ -146,7 +147,7 @@ fn error_with(number: usize, text: String) -> PluginError {
     }
 }
 
-/// The text that was rendered; empty for what is none.
+/// Returns the text that was rendered, or an empty text for other output.
 fn text_of(output: &RenderOutput) -> &str {
     match output {
         RenderOutput::Text(text) => text.as_str(),
@@ -154,7 +155,7 @@ fn text_of(output: &RenderOutput) -> &str {
     }
 }
 
-/// A renderer prints this text of one dark module.
+/// Checks the text that a renderer writes for one dark module.
 fn renderer_prints(rt: &impl Abort, alloc: Global, renderer: &dyn DynRenderer, text: &str) {
     let grid = grid_of_text(alloc, "#", 1, 1).expect(rt, "a grid");
     let config = RenderConfig::new(alloc);
@@ -162,7 +163,7 @@ fn renderer_prints(rt: &impl Abort, alloc: Global, renderer: &dyn DynRenderer, t
     assert_eq!(rt; text_of(&output), text);
 }
 
-/// Prints its own text, whatever the grid.
+/// A renderer that writes its own text for any grid.
 #[derive(Drop)]
 struct Says(&'static str);
 
@@ -185,7 +186,7 @@ impl DynRenderer for Says {
     }
 }
 
-/// A renderer that prints this text.
+/// Returns a renderer that writes this text.
 fn saying(rt: &impl Abort, alloc: Global, text: &'static str) -> Box<dyn DynRenderer> {
     Box::new(alloc, Says(text)).expect(rt, "memory")
 }
@@ -205,7 +206,7 @@ fn a_replaced_box_is_given_back(rt: HostRuntime) {
     renderer_prints(&rt, alloc, renderer, "second");
 }
 
-/// Registers the renderer that prints marks, and says whether none had its name.
+/// Registers the renderer of marks, and returns whether its name was free.
 fn is_new_renderer(
     rt: &impl Abort,
     alloc: Global,
@@ -226,7 +227,7 @@ fn names_come_in_order(rt: HostRuntime) {
     names_alpha_and_zeta(&rt, &registry);
 }
 
-/// The renderers are `alpha` and `zeta`, named in this order.
+/// Checks that the renderers are `alpha` and `zeta`, listed in this order.
 fn names_alpha_and_zeta(rt: &impl Abort, registry: &PluginRegistry) {
     let mut names = registry.renderer_names();
     let named = [names.next(), names.next(), names.next()];
@@ -247,20 +248,20 @@ fn encoders_are_lent(rt: HostRuntime) {
     encoder_copies(&rt, alloc, &registry, "plain");
 }
 
-/// An error is told by this text.
+/// Checks the text that an error prints.
 fn is_told(rt: &impl Abort, alloc: Global, error: &PluginError, text: &str) {
     let printed = format!(in alloc; "{error}").expect(rt, "memory");
     assert_eq!(rt; printed.as_str(), text);
 }
 
-/// The encoder `missing` is told as missing.
+/// Checks that the encoder `missing` is reported as missing.
 fn encoder_is_missing(rt: &impl Abort, alloc: Global, registry: &PluginRegistry) {
     let built = registry.build_encoder("missing", &EncodeConfig::new(alloc));
     let error = built.err().expect(rt, "found");
     is_told(rt, alloc, &error, "encoder plugin not found: missing");
 }
 
-/// An encoder is built, and encodes bytes as they are.
+/// Checks that an encoder is built and returns the bytes unchanged.
 fn encoder_copies(rt: &impl Abort, alloc: Global, registry: &PluginRegistry, name: &str) {
     let config = EncodeConfig::new(alloc);
     let encoder = registry
@@ -284,27 +285,28 @@ fn plugins_are_registered_whole(rt: HostRuntime) {
         assert!(rt; registry.plugin_version("demo") == Some("0.1.0"));
         assert_eq!(rt; registry.postprocessors().len(), times);
     }
-    // The objects of the bundle are named, built and serve.
+    // The objects of the bundle are listed, built and work.
     names_the_bundle(&rt, &registry);
     bundle_renders(&rt, alloc, &registry);
     encoder_copies(&rt, alloc, &registry, "length");
     bundle_darkens(&rt, alloc, &registry);
 }
 
-/// The plugin, the renderer and the encoder of the bundle are named, each once, and no others.
+/// Checks that the plugin, the renderer and the encoder of the bundle are listed, each once, and
+/// no others.
 fn names_the_bundle(rt: &impl Abort, registry: &PluginRegistry) {
     assert!(rt; registry.plugin_names().eq(["demo"].iter().copied()));
     assert!(rt; registry.renderer_names().eq(["text"].iter().copied()));
     assert!(rt; registry.encoder_names().eq(["length"].iter().copied()));
 }
 
-/// The renderer of the bundle prints marks.
+/// Checks that the renderer of the bundle writes marks.
 fn bundle_renders(rt: &impl Abort, alloc: Global, registry: &PluginRegistry) {
     let output = printed(registry, alloc, &RenderConfig::new(alloc)).expect(rt, "output");
     assert_eq!(rt; text_of(&output), "#..#");
 }
 
-/// The postprocessors of the bundle set the first module dark.
+/// Checks that the postprocessors of the bundle set the first module dark.
 fn bundle_darkens(rt: &impl Abort, alloc: Global, registry: &PluginRegistry) {
     let mut grid = grid_of_text(alloc, "..", 2, 1).expect(rt, "a grid");
     assert!(rt; registry.process_modules(&mut grid).is_ok());
@@ -318,7 +320,8 @@ fn renderers_take_options(rt: HostRuntime) {
     option_is_taken(&rt, rt.alloc(), &registry);
 }
 
-/// The renderer `text` prints the mark that is asked for, and its output is copied whole.
+/// Checks that the renderer `text` writes the mark in the option, and that a copy of its output
+/// is equal.
 fn option_is_taken(rt: &impl Abort, alloc: Global, registry: &PluginRegistry) {
     let config = RenderConfig::new(alloc).with_option("dark", "X");
     let output = printed(registry, alloc, &config.expect(rt, "memory")).expect(rt, "output");
@@ -326,7 +329,7 @@ fn option_is_taken(rt: &impl Abort, alloc: Global, registry: &PluginRegistry) {
     output_is_copied(rt, alloc, &output);
 }
 
-/// What was rendered is copied whole.
+/// Checks that a copy of rendered output is equal to it.
 fn output_is_copied(rt: &impl Abort, alloc: Global, output: &RenderOutput) {
     assert!(rt; output.clone(alloc).expect(rt, "memory") == *output);
 }
@@ -343,7 +346,7 @@ fn configurations_are_refused(rt: HostRuntime) {
     }
 }
 
-/// A renderer is not built with the option `light`, and the refusal is told by this text.
+/// Checks that a renderer is not built with the option `light`, and the text of the error.
 fn refuses_to_build(
     rt: &impl Abort,
     alloc: Global,
@@ -375,12 +378,12 @@ fn darkens(rt: &impl Abort, alloc: Global, registry: &mut PluginRegistry, x: usi
     registry.register_postprocessor(darken).expect(rt, "memory");
 }
 
-/// Whether modules were refused with `boom`.
+/// Returns whether a postprocessor failed with `boom`.
 fn is_boom(answer: &Result<(), PluginError>) -> bool {
     matches!(answer, Err(PluginError::PostProcessFailed(text)) if text.as_str() == "boom")
 }
 
-/// The modules are processed up to the refusal `boom`, behind which nothing more is done.
+/// Checks that the modules are processed up to the error `boom`, and that nothing is done after it.
 fn stops_at_boom(rt: &impl Abort, alloc: Global, registry: &PluginRegistry) {
     let mut grid = grid_of_text(alloc, "....", 2, 2).expect(rt, "a grid");
     assert!(rt; is_boom(&registry.process_modules(&mut grid)));

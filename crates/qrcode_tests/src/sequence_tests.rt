@@ -1,4 +1,4 @@
-//! Sequences of symbols: worked rows, read back by the plain reader.
+//! Tests of sequences of symbols, with rows of expected values, read back by the plain reader.
 use crate::grids::{hash, modules_of, read};
 use plain_reader::{Level, Seen, read_sequence};
 use qrcode_core::symbol::{are_cuts, symbol_sequence};
@@ -6,8 +6,8 @@ use qrcode_core::types::{Color, EcLevel, QrError, QrResult};
 use std::alloc::Global;
 use std::process::Abort;
 
-/// Data, its cuts and the greatest version; then the version and the payload of each symbol, and the parity of the
-/// data.
+/// Data, its cuts and the greatest version; then the version and the payload of each symbol, and
+/// the parity of the data.
 #[derive(Clone, Copy, Drop)]
 struct Row {
     bytes: &'static [u8],
@@ -62,7 +62,7 @@ static ROWS: [Row; 6] = [
     },
 ];
 
-/// The answer at level L, where the cuts don't fall and lie in the data.
+/// Returns the result at level L, or `None` if the cuts decrease or are outside the data.
 fn answer(
     alloc: Global,
     bytes: &[u8],
@@ -75,7 +75,7 @@ fn answer(
     Some(symbol_sequence(alloc, bytes, cuts, EcLevel::L, limit))
 }
 
-/// The grids of a row, if there are any.
+/// Returns the grids of a row, if there are any.
 fn grids(alloc: Global, row: &Row) -> Option<Vec<Vec<Color>>> {
     answer(alloc, row.bytes, row.cuts, row.limit)?.ok()
 }
@@ -92,7 +92,7 @@ fn draws_each_part(rt: HostRuntime) {
     }
 }
 
-/// A symbol has the version, the payload and the header of a part of a row.
+/// Checks that a symbol has the version, the payload and the header of a part of a row.
 fn is_part(rt: &impl Abort, seen: &Seen, row: &Row, index: usize) {
     let symbol = row.symbols.get(index).expect(rt, "no part");
     assert!(rt; !seen.shape.micro && seen.level == Level::L);
@@ -102,7 +102,7 @@ fn is_part(rt: &impl Abort, seen: &Seen, row: &Row, index: usize) {
     assert_eq!(rt; header, (index + 1, row.symbols.len(), row.parity));
 }
 
-/// The hashes of the symbols of the third row, which are those of the original crate's.
+/// The hashes of the symbols of the third row, which are those of the original crate's symbols.
 pub(crate) static SIXTEEN: [u32; 16] = [
     0x345666eb, 0x9f199b39, 0xb06ad7e3, 0xe7e97707, 0x001794e7, 0x38e1dccd, 0x24994a97, 0x58d81acf,
     0x2329c377, 0xf6ae5043, 0xe5436a69, 0x11891f6d, 0x528fd71b, 0xe75e49cb, 0xc64aa0d7, 0x543a66a9,
@@ -117,13 +117,13 @@ fn draws_sixteen_symbols(rt: HostRuntime) {
     }
 }
 
-/// The data codewords of one symbol of a row.
+/// Returns the data codewords of one symbol of a row.
 fn codewords(alloc: Global, row: &Row, index: usize) -> Option<Vec<u8>> {
     let grids = grids(alloc, row)?;
     Some(read(alloc, grids.get(index)?)?.codewords)
 }
 
-/// The first symbol of the first row, both of the second and the last of the third.
+/// The first symbol of the first row, both symbols of the second and the last of the third.
 static CODEWORDS: [(usize, usize, &[u8]); 4] = [
     (
         0,
@@ -168,7 +168,7 @@ fn writes_header_and_part(rt: HostRuntime) {
     }
 }
 
-/// All symbols in order, reversed, or rotated by one.
+/// Returns the indices of all symbols in order, reversed, or rotated by one.
 fn whole_order(alloc: Global, total: usize, way: usize) -> Option<Vec<usize>> {
     match way {
         0 => (0..total).collect(alloc).ok(),
@@ -177,7 +177,7 @@ fn whole_order(alloc: Global, total: usize, way: usize) -> Option<Vec<usize>> {
     }
 }
 
-/// One symbol taken out, one given twice, or one given in the place of another.
+/// Returns indices with one left out, one repeated, or one in the place of another.
 fn broken_order(alloc: Global, total: usize, way: usize) -> Option<Vec<usize>> {
     match way {
         0 => (1..total).collect(alloc).ok(),
@@ -186,7 +186,7 @@ fn broken_order(alloc: Global, total: usize, way: usize) -> Option<Vec<usize>> {
     }
 }
 
-/// The modules of some grids, for the plain reader.
+/// Returns the modules of some grids, for the plain reader.
 fn all_modules(alloc: Global, grids: &[Vec<Color>]) -> Option<Vec<Vec<bool>>> {
     let mut symbols = Vec::new(alloc);
     for grid in grids {
@@ -207,20 +207,20 @@ fn reads_in_any_order(rt: HostRuntime) {
     }
 }
 
-/// The symbols in a whole order give the bytes.
+/// Checks that all symbols in some order are read as the bytes.
 fn reads_whole(rt: &impl Abort, alloc: Global, symbols: &[Vec<bool>], bytes: &[u8], way: usize) {
     let order = whole_order(alloc, symbols.len(), way).expect(rt, "no order");
     let message = read_sequence(alloc, symbols, &order).expect(rt, "no message");
     assert_eq!(rt; message.as_slice(), bytes);
 }
 
-/// The symbols in a broken order give nothing.
+/// Checks that an incomplete or repeated set of symbols is not read.
 fn reads_nothing(rt: &impl Abort, alloc: Global, symbols: &[Vec<bool>], way: usize) {
     let order = broken_order(alloc, symbols.len(), way).expect(rt, "no order");
     assert!(rt; read_sequence(alloc, symbols, &order).is_none());
 }
 
-/// Data, its cuts and the greatest version, with the refusal.
+/// Data, its cuts and the greatest version, with the error.
 static REFUSED: [(&[u8], &[usize], i16, QrError); 6] = [
     (
         b"AB12cd",

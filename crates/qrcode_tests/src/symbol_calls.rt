@@ -1,4 +1,4 @@
-//! Each call of `symbol` once, on the symbols of known rows.
+//! Tests that call each function of `symbol` once, on known symbols.
 use crate::grids::read;
 use qrcode_core::bits::Bits;
 use qrcode_core::canvas::MaskPattern;
@@ -10,7 +10,8 @@ use std::alloc::Global;
 use std::process::Abort;
 use texts::gs1_symbol;
 
-/// The rows of the symbol of `12345` in M1, dark as one (ISO/IEC 18004 has none; the original crate draws it so).
+/// The rows of the symbol of `12345` in M1, dark as one. ISO/IEC 18004:2006 has no such example;
+/// the original crate draws this symbol.
 static ROWS: [u16; 11] = [
     0b11111110101,
     0b10000010110,
@@ -55,7 +56,7 @@ fn tells_micro_symbol(rt: HostRuntime) {
     assert!(rt; symbol.get(0, 9) == Color::Light);
 }
 
-/// The example of ISO/IEC 18004, annex I: version 1, level M, data mask pattern 010.
+/// The example of ISO/IEC 18004:2006, annex I: version 1, level M, data mask pattern 010.
 #[test]
 fn tells_symbol(rt: HostRuntime) {
     let alloc = rt.alloc();
@@ -68,7 +69,7 @@ fn tells_symbol(rt: HostRuntime) {
     assert!(rt; again.modules() == colors.as_slice());
 }
 
-/// What the example says of itself, and that its view has its rows.
+/// Checks the fields of the example, and that its view has its rows.
 fn is_the_example(rt: &impl Abort, symbol: &Symbol) {
     assert!(rt; symbol.version() == Version::Normal(1));
     assert!(rt; symbol.error_correction_level() == EcLevel::M);
@@ -114,8 +115,9 @@ fn refuses_bits(rt: HostRuntime) {
     assert!(rt; refused == Some(QrError::DataTooLong));
 }
 
-/// Digits and a letter in two segments, as ISO/IEC 18004 asks of M2: 0 and a count of 4 bits, 123 in 10; 1 and a count
-/// of 3 bits, A in 6. Then a terminator of 5 bits, zeros to the end of the byte, and a pad codeword.
+/// Digits and a letter in two segments, as ISO/IEC 18004:2006 encodes them in M2: 0 and a count of
+/// 4 bits, 123 in 10 bits; 1 and a count of 3 bits, A in 6 bits. Then a terminator of 5 bits, zeros
+/// to the end of the byte, and a pad codeword.
 static DIGITS_AND_LETTER: [u8; 5] = [
     0b0_0011_000,
     0b1111011_1,
@@ -148,7 +150,8 @@ fn refuses_headers_in_micro_symbols(rt: HostRuntime) {
     refuses_headers(&rt, &mut Bits::new(rt.alloc(), Version::Micro(4)));
 }
 
-/// A Micro symbol has no header, also where the header is none.
+/// A Micro symbol has no Structured Append header: pushing one fails with
+/// `UnsupportedCharacterSet`, also if its numbers are invalid.
 fn refuses_headers(rt: &impl Abort, bits: &mut Bits) {
     for (position, total) in [(1, 2), (3, 2), (1, 17)] {
         let refused = bits.push_structured_append_header(position, total, 0);
@@ -156,13 +159,13 @@ fn refuses_headers(rt: &impl Abort, bits: &mut Bits) {
     }
 }
 
-/// The version of a symbol under limits, or its refusal.
+/// Returns the version of a symbol under limits, or the error.
 fn under(alloc: Global, bytes: &[u8], version: Version) -> QrResult<Version> {
     let limits = ResourceLimits::new(18, version, (100, 100));
     Ok(Symbol::with_limits(alloc, bytes, EcLevel::L, &limits)?.version())
 }
 
-/// Bytes and the greatest version, with the answer at level L for up to 18 bytes.
+/// Bytes and the greatest version, with the result at level L for a limit of 18 bytes.
 static LIMITED: [(&[u8], Version, QrResult<Version>); 4] = [
     (
         b"seventeen letters",
@@ -222,7 +225,8 @@ fn refuses(rt: HostRuntime) {
     assert!(rt; answer.err() == Some(lacking));
 }
 
-/// Readers would take a `%` for the byte 1D hex: the first one is refused, before their number is looked at.
+/// In these symbols readers take a `%` for the byte 1D (hex). The first `%` is rejected before the
+/// number of bytes is checked.
 #[test]
 fn gs1_symbols_with_a_percent_sign(rt: HostRuntime) {
     let mut many = [b'7'; 7090];

@@ -1,4 +1,5 @@
-//! Symbols, read by the plain reader, and compared with those of the original crate.
+//! Tests of symbols, which are read by the plain reader and compared with those of the
+//! original crate.
 use crate::grids::{hash, read};
 use qrcode_core::symbol::{symbol, symbol_micro};
 use qrcode_core::types::{EcLevel, QrError};
@@ -6,7 +7,8 @@ use std::alloc::Global;
 
 static LEVELS: [EcLevel; 4] = [EcLevel::L, EcLevel::M, EcLevel::Q, EcLevel::H];
 
-/// An input of a kind: digits, signs, bytes, pairs of Shift JIS, all of them in turn, or one of three other rows.
+/// Returns an input of a kind: digits, Alphanumeric characters, bytes, pairs of Shift JIS, all of
+/// them in turn, or one of three other sequences.
 fn input(alloc: Global, kind: usize, count: usize) -> Option<Vec<u8>> {
     let signs = b"0123456789ABCDEFGHIJKLMNOPQRSTUVWXYZ $%*+-./:";
     let mut bytes = Vec::new(alloc);
@@ -40,9 +42,9 @@ fn input(alloc: Global, kind: usize, count: usize) -> Option<Vec<u8>> {
     Some(bytes)
 }
 
-/// Answers of the original crate (2.2.0, built as it is): kind and length of the input, level, whether Micro, how many
-/// modules, payload bits, hash of the modules; where it refuses, 1 for DataTooLong and 2 for InvalidVersion in place of
-/// the modules.
+/// Results of the original crate (2.2.0, unmodified): kind and length of the input, level, whether
+/// Micro, number of modules, payload bits, hash of the modules. If it returns an error, 1 for
+/// `DataTooLong` and 2 for `InvalidVersion` in place of the number of modules.
 static ANSWERS: [(usize, usize, usize, bool, usize, usize, u32); 100] = [
     (0, 41, 0, false, 441, 151, 0xeced6fbb),
     (0, 3058, 0, false, 14641, 10210, 0xe49f6242),
@@ -146,7 +148,8 @@ static ANSWERS: [(usize, usize, usize, bool, usize, usize, u32); 100] = [
     (7, 9, 3, true, 2, 0, 0),
 ];
 
-/// The modules, the payload bits and the hash of our answer, or which refusal it is.
+/// Returns the number of modules, the payload bits and the hash of our symbol, or the number of
+/// the error.
 fn answer(
     alloc: Global,
     kind: usize,

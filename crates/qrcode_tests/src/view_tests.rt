@@ -1,4 +1,4 @@
-//! Views and limits, with objects of the tests' own.
+//! Tests of views and limits, with types that implement the traits.
 ghost use Rattle.std.specs.Prelude.{◌≡◌, length, Ok, [], ◌∷◌};
 ghost use Rattle.qrcode_core.specs.declared.types.Color.TheVariants.{Dark};
 ghost use Rattle.qrcode_core.specs.declared.types.EcLevel.TheVariants.{Q};
@@ -13,7 +13,7 @@ use qrcode_core::types::{Color, EcLevel, QrError, Version};
 use std::alloc::{AllocError, Global};
 use std::process::Abort;
 
-/// The symbol of `12345` in M1, a row a number, dark as one.
+/// The symbol of `12345` in M1, one number per row, dark as one.
 static SYMBOL: [u16; 11] = [
     0b11111110101,
     0b10000010110,
@@ -28,7 +28,7 @@ static SYMBOL: [u16; 11] = [
     0b11110000011,
 ];
 
-/// What is printed of it.
+/// The text that is printed of it.
 static PRINTED: [&str; 11] = [
     "#######.#.#",
     "#.....#.##.",
@@ -43,7 +43,7 @@ static PRINTED: [&str; 11] = [
     "####.....##",
 ];
 
-/// A list of colors, dark where the text has `#`.
+/// Returns a list of colours, dark where the text has `#`.
 fn colors(alloc: Global, text: &str) -> Result<Vec<Color>, AllocError> {
     let mut list = Vec::new(alloc);
     for byte in text.as_bytes() {
@@ -56,7 +56,7 @@ fn colors(alloc: Global, text: &str) -> Result<Vec<Color>, AllocError> {
     Ok(list)
 }
 
-/// The colors of the symbol.
+/// Returns the colours of the symbol.
 fn symbol_colors(alloc: Global) -> Result<Vec<Color>, AllocError> {
     let mut list = Vec::new(alloc);
     for row in &SYMBOL {
@@ -68,7 +68,7 @@ fn symbol_colors(alloc: Global) -> Result<Vec<Color>, AllocError> {
     Ok(list)
 }
 
-/// A text with a mark for each module: `dark` for a dark one, and a point for a light one.
+/// Returns a text with a mark for each module: `dark` for a dark one, and a point for a light one.
 pub(crate) fn text_of_marks(
     alloc: Global,
     modules: &[Color],
@@ -81,7 +81,7 @@ pub(crate) fn text_of_marks(
     Ok(text)
 }
 
-/// Four modules.
+/// A grid of two by two modules.
 #[derive(Drop)]
 struct Square {
     modules: [Color; 4],
@@ -111,7 +111,7 @@ impl ModuleStorage for Square {
     }
 }
 
-/// Two rows of three modules, with one more behind that is no part of the grid.
+/// A grid of two rows of three modules, with one more in the list that is not part of the grid.
 #[derive(Drop)]
 struct Longer {
     modules: [Color; 7],
@@ -137,7 +137,7 @@ impl ModuleSource for Longer {
     }
 }
 
-/// Three rows of no modules.
+/// A grid of three rows without any module.
 struct NoColumns;
 
 impl ModuleSource for NoColumns {
@@ -160,7 +160,7 @@ impl ModuleSource for NoColumns {
     }
 }
 
-/// One module that says that it is a symbol.
+/// A grid of one module that claims to be a symbol.
 struct Spot(Version);
 
 impl ModuleSource for Spot {
@@ -197,7 +197,7 @@ impl QrSymbol for Spot {
     }
 }
 
-/// Renders a mark for each module.
+/// A renderer that writes a mark for each module.
 struct Marks;
 
 impl<Code: ModuleSource> Renderer<Code> for Marks {
@@ -212,7 +212,7 @@ impl<Code: ModuleSource> Renderer<Code> for Marks {
     }
 }
 
-/// Counts bytes.
+/// An encoder that returns the number of bytes.
 struct Count;
 
 impl Encoder for Count {
@@ -227,7 +227,7 @@ impl Encoder for Count {
     }
 }
 
-/// Builds a grid of one module.
+/// A builder of a grid of one module.
 #[derive(Drop)]
 struct Lone(Color);
 
@@ -245,7 +245,7 @@ impl Builder for Lone {
     }
 }
 
-/// A grid of the modules that the text shows.
+/// Returns a grid of the modules in the text.
 pub(crate) fn grid_of_text(
     alloc: Global,
     text: &str,
@@ -255,7 +255,8 @@ pub(crate) fn grid_of_text(
     ModuleGrid::new(colors(alloc, text)?, width, height)
 }
 
-/// The greatest version, the greatest size and the milliseconds of limits, and whether they are valid.
+/// The greatest version, the greatest size and the milliseconds of limits, and whether they
+/// are valid.
 static LIMITS: [(Version, (u32, u32), Option<u64>, bool); 8] = [
     (Version::Normal(40), (4096, 4096), None, true),
     (Version::Normal(1), (1, 1), Some(1), true),
@@ -325,7 +326,7 @@ fn lent_symbols_keep_version_and_level(rt: HostRuntime) {
     assert!(rt; QrCodeRef::new(&[], usize::MAX, Version::Normal(1), EcLevel::L).is_none());
 }
 
-/// A lent Micro symbol tells version, level, quiet zone and modules.
+/// A borrowed Micro symbol has its version, level, quiet zone and modules.
 fn micro_symbol_is_lent(rt: &impl Abort, list: &[Color]) {
     let micro = QrCodeRef::new(list, 11, Version::Micro(1), EcLevel::L).expect(rt, "no symbol");
     assert!(rt; micro.version() == Version::Micro(1) && micro.quiet_zone() == 2);
@@ -346,7 +347,7 @@ fn a_renderer_prints_modules(rt: HostRuntime) {
     }
 }
 
-/// The marks of a view are this text.
+/// Checks the marks of a view.
 fn marks_are(rt: &impl Abort, alloc: Global, view: &ModuleView, text: &str) {
     let marks = Marks.render(alloc, view).expect(rt, "memory");
     assert_eq!(rt; marks.as_str(), text);
@@ -378,7 +379,7 @@ fn own_symbols_serve(rt: HostRuntime) {
     is_spot(&rt, &Spot(Version::Micro(3)), 2);
 }
 
-/// A symbol of one dark module at level Q, with this quiet zone.
+/// Checks a symbol of one dark module at level Q with this quiet zone.
 fn is_spot<S: QrSymbol>(rt: &impl Abort, symbol: &S, zone: u32) {
     assert_eq!(rt; symbol.quiet_zone(), zone);
     assert!(rt; symbol.error_correction_level() == EcLevel::Q);
@@ -398,7 +399,7 @@ fn own_encoders_and_builders_serve(rt: HostRuntime) {
     assert!(rt; ModuleStorage::modules(&lone) == [Color::Dark].as_slice());
 }
 
-/// Texts and sides that they don't fill.
+/// Texts, with a width and a height that they do not fill.
 static MISFITS: [(&str, usize, usize); 4] = [
     ("", usize::MAX, 2),
     ("", 0, 2),
@@ -423,7 +424,7 @@ fn copies_of_grids_are_their_own(rt: HostRuntime) {
     grid_shows(&rt, rt.alloc(), &same, "#..#.#");
 }
 
-/// The modules of a grid show this text.
+/// Checks the modules of a grid.
 pub(crate) fn grid_shows(rt: &impl Abort, alloc: Global, grid: &ModuleGrid, text: &str) {
     let marks = text_of_marks(alloc, ModuleStorage::modules(grid), "#").expect(rt, "memory");
     assert_eq!(rt; marks.as_str(), text);

@@ -8,7 +8,7 @@ use qrcode_grid::canvas::{MaskPattern, draw_symbol};
 use qrcode_grid::ec::construct_codewords;
 use std::alloc::Global;
 
-/// The modules of some data in a version, row by row, with their mask.
+/// Returns the modules of some data in a version, row by row, with their mask.
 pub fn grid(
     alloc: Global,
     bytes: &[u8],

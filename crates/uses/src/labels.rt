@@ -10,7 +10,7 @@ use qrcode_core::traits::{ModuleSource, QrSymbol};
 use qrcode_core::types::{EcLevel, QrResult};
 use std::alloc::Global;
 
-/// The symbol of a label at level M, with its version and its mask.
+/// Returns the symbol of a label at level M, with its version and its mask.
 pub fn label(alloc: Global, bytes: &[u8]) -> QrResult<Symbol>
     ensures best { IfOk result (λ symbol. IsBestSymbol bytes.now EcLevel.M symbol.modules) }
     ensures reading { IfOk result TellsReading }
@@ -18,7 +18,8 @@ pub fn label(alloc: Global, bytes: &[u8]) -> QrResult<Symbol>
     Symbol::new(alloc, bytes, EcLevel::M)
 }
 
-/// How many pixels wide its picture is, at so many pixels a module, with a quiet zone of four modules on each side.
+/// Returns the width in pixels of a picture with `scale` pixels per module and a quiet zone of four
+/// modules on each side.
 pub fn picture_width(symbol: &Symbol, scale: usize) -> usize
     requires { scale ≤ 64 }
     ensures { result ≡ ((drawn_grid symbol.now).columns + 8) * scale }
@@ -26,7 +27,7 @@ pub fn picture_width(symbol: &Symbol, scale: usize) -> usize
     (symbol.width() + 8) * scale
 }
 
-/// As `label`, within limits.
+/// Returns the symbol as `label` does, within limits.
 pub fn small_label(alloc: Global, bytes: &[u8], limits: &ResourceLimits) -> QrResult<Symbol>
     ensures best { IfOk result (λ symbol. IsBestWithin limits.now bytes.now EcLevel.M symbol.modules) }
     ensures refused { IfErr result (IsLimitedRefusal limits.now bytes.now EcLevel.M) }

@@ -1,4 +1,5 @@
-//! The callers of the calling pages: code that the gate proves, and that `tools/quotes` compares with the pages.
+//! The code that the calling pages quote. The gate proves it, and `tools/quotes` compares it with
+//! the pages.
 #![tactic(auto)]
 
 pub mod grids;

@@ -1,4 +1,4 @@
-//! A label of each of many lines, by `qrcode_core`.
+//! A label for each of many lines, by `qrcode_core`.
 ghost use Rattle.std.specs.Prelude.{◌≡◌, length, IfOk};
 
 use crate::labels::label;
@@ -6,8 +6,8 @@ use qrcode_core::traits::ModuleSource;
 use qrcode_core::types::QrResult;
 use std::alloc::Global;
 
-/// Draws the labels of lines, one after the other, and answers how many modules wide each is. A symbol is freed before
-/// the next one is drawn.
+/// Draws a label for each line and returns the widths of all in modules. Each symbol is freed
+/// before the next one is drawn.
 pub fn label_widths(alloc: Global, lines: &[&[u8]]) -> QrResult<Vec<usize>>
     ensures each { IfOk result (λ widths. length widths.items ≡ length lines.now) }
 {

@@ -9,7 +9,7 @@ use std::alloc::Global;
 use std::marker::Brand;
 use std::sync::ledger::{Blank, Ledger};
 
-/// The plan, counted on a ledger of its own.
+/// Returns the chosen plan and counts its comparisons on a ledger of its own.
 fn plan_on<L: Ledger>(
     alloc: Global,
     segments: &[Segment],
@@ -25,11 +25,11 @@ fn plan_on<L: Ledger>(
 {
     let mut comparisons: Comparisons<L> = Comparisons::new(blank);
     let plan = optimize_counted(alloc, segments, version, &mut comparisons);
-    // Here `comparisons` is at most 36 for each segment.
+    // Here `comparisons` is at most 36 per segment.
     plan
 }
 
-/// The chosen plan of some segments.
+/// Returns the chosen plan of some segments.
 pub fn plan(alloc: Global, segments: &[Segment], version: Version) -> QrResult<Vec<Segment>>
     requires micro { HasMicroNumber version }
     requires linear { 2 ≤ length segments.now → HasLinearCosts segments.now version }

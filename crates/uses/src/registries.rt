@@ -1,4 +1,4 @@
-//! A renderer by its name, by `qrcode_core`.
+//! Rendering by the name of a renderer, by `qrcode_core`.
 ghost use Rattle.std.specs.Prelude.{◌≡◌, ◌⊎◌, Err, IfNone, IfSome, IsErrAnd};
 ghost use Rattle.qrcode_core.specs.Plugins.{IsRendererMissing};
 ghost use Rattle.qrcode_core.specs.Registries.{registered, object_at};
@@ -8,7 +8,8 @@ use qrcode_core::plugin::{PluginError, PluginRegistry, RenderConfig, RenderOutpu
 use qrcode_core::traits::ModuleSource;
 use std::alloc::Global;
 
-/// Draws by the renderer that a registry has under this name, if that takes the configuration, and else answers why not.
+/// Renders with the renderer registered under this name, or returns why there is none or why it
+/// rejects the configuration.
 pub fn draw_by_name(
     alloc: Global,
     registry: &PluginRegistry,

@@ -1,4 +1,4 @@
-//! A message in more symbols than one, by `qrcode_core`.
+//! A message in several symbols, by `qrcode_core`.
 ghost use Rattle.std.specs.Prelude.{◌/◌, ◌∷◌, [], length, map, vec_items, IfOk, IfSome};
 ghost use Rattle.qrcode_core.specs.Sequence.{AreBestSymbols};
 
@@ -6,7 +6,7 @@ use qrcode_core::symbol::{are_cuts, symbol_sequence};
 use qrcode_core::types::{Color, EcLevel, QrResult};
 use std::alloc::Global;
 
-/// The modules of two symbols at level M that carry a half of the bytes each.
+/// Returns the modules of two symbols at level M, each with one half of the bytes.
 pub fn halves(alloc: Global, bytes: &[u8]) -> QrResult<Vec<Vec<Color>>>
     ensures best { IfOk result (λ grids. AreBestSymbols bytes.now ((length bytes.now / 2) ∷ []) EcLevel.M 40 (map vec_items grids.items)) }
 {
@@ -14,7 +14,8 @@ pub fn halves(alloc: Global, bytes: &[u8]) -> QrResult<Vec<Vec<Color>>>
     symbol_sequence(alloc, bytes, &cuts, EcLevel::M, 40)
 }
 
-/// The modules of the symbols at level M that carry the bytes cut there; `None` where they can't be cut there.
+/// Returns the modules of symbols at level M with the bytes cut at `cuts`, or `None` if they cannot
+/// be cut there.
 pub fn parts(alloc: Global, bytes: &[u8], cuts: &[usize]) -> Option<QrResult<Vec<Vec<Color>>>>
     ensures best { IfSome result (λ answer. IfOk answer (λ grids.
         AreBestSymbols bytes.now cuts.now EcLevel.M 40 (map vec_items grids.items))) }

@@ -9,7 +9,7 @@ use qrcode_base::types::{EcLevel, QrResult, Version};
 use qrcode_bits::bits::{Bits, encode_auto};
 use std::alloc::Global;
 
-/// A text behind the ECI designator of UTF-8, in version 5 at level M.
+/// Returns the bits of a text in UTF-8, after the ECI designator of UTF-8, in version 5 at level M.
 pub fn label(alloc: Global, text: &[u8]) -> QrResult<Bits>
     ensures { IfOk result (λ bits. bits.version ≡ Normal (pos 5)) }
 {
@@ -20,7 +20,7 @@ pub fn label(alloc: Global, text: &[u8]) -> QrResult<Bits>
     Ok(bits)
 }
 
-/// The bits of the smallest symbol for a text at level M.
+/// Returns the bits of the smallest symbol for a text at level M.
 pub fn ticket(alloc: Global, text: &[u8]) -> QrResult<Bits>
     ensures ok { IfOk result (λ bits. IsEncoding normal None text.now M 40 bits) }
     ensures err { IfErr result (λ e. IsUnencodable normal 0 text.now M 40 e) }

@@ -6,7 +6,7 @@ use qrcode_core::symbol::symbol;
 use qrcode_core::types::{Color, EcLevel, QrResult};
 use std::alloc::Global;
 
-/// The modules of a label at level M.
+/// Returns the modules of a label at level M.
 pub fn label(alloc: Global, bytes: &[u8]) -> QrResult<Vec<Color>>
     ensures best { IfOk result (λ grid. IsBestSymbol bytes.now EcLevel.M grid.items) }
     ensures refused { IfErr result (IsRefusal bytes.now EcLevel.M) }

@@ -1,4 +1,4 @@
-//! Digits and tables, by `qrcode_base`.
+//! Digits and the table of blocks, by `qrcode_base`.
 ghost use Rattle.std.specs.Prelude.{◌≡◌, ◌*◌, ◌^◌, ◌<◌, ◌↔◌, length, Some, option_map, IsSome, IfSome, IfOk, IfErr};
 ghost use Rattle.qrcode_base.specs.Characters.{IsValid};
 ghost use Rattle.qrcode_base.specs.Modes.{data_bits};
@@ -11,7 +11,7 @@ use qrcode_base::mode::{EncodingMode, NumericMode};
 use qrcode_base::symbols::block_layout;
 use qrcode_base::types::{EcLevel, Mode, QrError, QrResult, Version};
 
-/// How many bits digits take as data, or `None` if some byte is no digit.
+/// Returns how many bits digits take as data, or `None` if some byte is no digit.
 pub fn bits_of_digits(bytes: &[u8]) -> Option<usize>
     requires { 13 * length bytes.now < 2 ^ 64 }
     ensures digits { IsSome result ↔ IsValid Numeric bytes.now }
@@ -25,7 +25,8 @@ pub fn bits_of_digits(bytes: &[u8]) -> Option<usize>
     }
 }
 
-/// How many data codewords a symbol has, which is refused where the version does not have the level.
+/// Returns the number of data codewords of a symbol, or `InvalidVersion` if the version lacks
+/// the level.
 pub fn data_codewords(version: Version, ec_level: EcLevel) -> QrResult<usize>
     ensures codewords { IfOk result (λ n. option_map data_bytes (blocks_of version ec_level) ≡ Some n) }
     ensures refused { IfErr result (λ e. e ≡ InvalidVersion version ec_level) }

@@ -1,4 +1,4 @@
-//! Tests of symbols of all versions and levels over `qrcode_core`, each read back by `plain_reader`.
+//! Tests of symbols of all versions and levels of `qrcode_core`, each read back by `plain_reader`.
 #![tactic(auto)]
 
 #[cfg(test)]

@@ -5,7 +5,7 @@ use qrcode_core::types::{Color, EcLevel};
 use std::alloc::Global;
 use std::ops::Range;
 
-/// The levels, each with the plain reader's word for it.
+/// The levels, each with its type in the plain reader.
 const LEVELS: [(EcLevel, Level); 4] = [
     (EcLevel::L, Level::L),
     (EcLevel::M, Level::M),
@@ -13,7 +13,8 @@ const LEVELS: [(EcLevel, Level); 4] = [
     (EcLevel::H, Level::H),
 ];
 
-/// The modules of the symbol of some bytes, or of their Micro symbol: `true` where one is dark.
+/// Returns the modules of the symbol of some bytes, or of their Micro symbol: `true` for a
+/// dark one.
 pub(crate) fn modules(
     alloc: Global,
     bytes: &[u8],
@@ -33,13 +34,13 @@ pub(crate) fn modules(
     Some(modules)
 }
 
-/// What the plain reader sees in the symbol of some bytes, or in their Micro symbol.
+/// Returns what the plain reader reads from the symbol of some bytes, or from their Micro symbol.
 pub(crate) fn seen(alloc: Global, bytes: &[u8], level: EcLevel, micro: bool) -> Option<Seen> {
     plain_reader::read(alloc, &modules(alloc, bytes, level, micro)?)
 }
 
-/// Whether the symbol of as many bytes as a version with so many data cells holds is read as these bytes, at this
-/// version and level (which is given in both words).
+/// Returns whether the symbol of as many bytes as fit a version with `cells` data cells is read
+/// back as these bytes, in this version and level (which is given in both types).
 fn is_read_back(alloc: Global, shape: Shape, cells: usize, level: EcLevel, wanted: Level) -> bool {
     let Some(room) = data_count(shape, wanted, cells) else {
         return shape.micro;
@@ -67,7 +68,7 @@ fn is_read_back(alloc: Global, shape: Shape, cells: usize, level: EcLevel, wante
     })
 }
 
-/// The first of some versions that is not read back at some level.
+/// Returns the first of some versions that is not read back at some level.
 fn first_not_read_back(alloc: Global, versions: Range<usize>, micro: bool) -> Option<usize> {
     for number in versions {
         let shape = blank_shape(number, micro);
@@ -83,7 +84,7 @@ fn first_not_read_back(alloc: Global, versions: Range<usize>, micro: bool) -> Op
     None
 }
 
-// All versions at all levels, in parts that `rt try --test` ends in its time.
+// All versions at all levels, in parts that each finish within the time limit of `rt try --test`.
 
 #[test]
 fn reads_versions_1_to_20_back(rt: HostRuntime) {

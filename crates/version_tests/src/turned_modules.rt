@@ -1,10 +1,11 @@
-//! The plain reader refuses a symbol of which any one module has the other colour: it looks at each.
+//! The plain reader rejects a symbol in which any single module has the other colour, so it checks
+//! each module.
 use crate::read_back::modules;
 use qrcode_core::types::EcLevel;
 use std::alloc::Global;
 use std::test::Fail;
 
-/// How many symbols are read, of those that come of one by turning a single module.
+/// Returns how many of the symbols that differ from one in a single module are read.
 fn read_when_turned(alloc: Global, symbol: &[bool]) -> Option<usize> {
     let mut grid = Vec::new(alloc);
     grid.extend_from_slice(symbol).ok()?;
@@ -20,14 +21,15 @@ fn read_when_turned(alloc: Global, symbol: &[bool]) -> Option<usize> {
             *module = !*module;
         }
     }
-    // as it was, it is read
+    // The unchanged symbol is read.
     plain_reader::read(alloc, &grid)?;
     Some(read)
 }
 
 #[test]
 fn refuses_turned_modules(rt: HostRuntime) -> Result<(), Fail> {
-    // version 2 has an alignment pattern, version 7 version information and six alignment patterns
+    // Version 2 has an alignment pattern, version 7 has version information and six
+    // alignment patterns.
     for (count, width) in [(18, 25), (150, 45)] {
         let bytes = vec![in rt.alloc(); b'a'; count]?;
         let symbol = modules(rt.alloc(), &bytes, EcLevel::L, false).ok_or("no symbol")?;

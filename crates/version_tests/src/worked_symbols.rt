@@ -1,10 +1,11 @@
-//! Worked symbols: their codewords, their payloads, and where the next version begins.
+//! Worked symbols: their codewords, their payloads, and the lengths at which the next
+//! version begins.
 use crate::read_back::seen;
 use plain_reader::Level;
 use qrcode_core::types::EcLevel;
 use std::test::Fail;
 
-/// Padding after some bytes: EC and 11 in turn.
+/// Returns whether codewords are the padding: EC and 11 (hex) in turn.
 fn is_padding(codewords: &[u8]) -> bool {
     codewords
         .iter()

@@ -26,12 +26,12 @@ pub const MICRO_MASKS: [MaskPattern; 4] = [
     MaskPattern::Meadow,
 ];
 
-/// Whether a cell of a line is there and dark.
+/// Returns whether a line has a cell at an index and it is dark.
 fn is_dark_at(line: &[bool], i: usize) -> bool {
     line.get(i).copied().unwrap_or(false)
 }
 
-/// The penalty of runs of five and more.
+/// Returns the penalty of runs of five or more cells.
 fn plain_runs(line: &[bool]) -> usize {
     let mut total = 0usize;
     for start in 0..line.len() {
@@ -49,7 +49,7 @@ fn plain_runs(line: &[bool]) -> usize {
     total
 }
 
-/// Whether the seven cells of a finder pattern begin at a cell.
+/// Returns whether the seven cells of a finder pattern begin at a cell.
 fn has_shape(line: &[bool], start: usize) -> bool {
     for (i, want) in [true, false, true, true, true, false, true]
         .iter()
@@ -62,7 +62,7 @@ fn has_shape(line: &[bool], start: usize) -> bool {
     true
 }
 
-/// Whether they do, with four light cells before or behind them.
+/// Returns whether they do, with four light cells before or after them.
 fn is_window(line: &[bool], start: usize) -> bool {
     if start.saturating_add(7) > line.len() || !has_shape(line, start) {
         return false;
@@ -78,7 +78,7 @@ fn is_window(line: &[bool], start: usize) -> bool {
     !(before && after)
 }
 
-/// The penalty of a line.
+/// Returns the penalty of a line.
 fn plain_line(line: &[bool]) -> usize {
     let mut total = plain_runs(line);
     for start in 0..line.len() {
@@ -89,7 +89,7 @@ fn plain_line(line: &[bool]) -> usize {
     total
 }
 
-/// A row or a column of a grid.
+/// Returns a row or a column of a grid.
 fn line_of(
     alloc: Global,
     width: usize,
@@ -104,7 +104,7 @@ fn line_of(
     Ok(line)
 }
 
-/// The penalty of squares of one colour.
+/// Returns the penalty of squares of one colour.
 fn plain_squares(width: usize, cells: &[bool]) -> usize {
     let mut total = 0usize;
     for i in 0..cells.len() {
@@ -122,7 +122,7 @@ fn plain_squares(width: usize, cells: &[bool]) -> usize {
     total
 }
 
-/// The penalty of a Normal symbol.
+/// Returns the penalty of a Normal symbol.
 fn plain_normal(alloc: Global, width: usize, cells: &[bool]) -> QrResult<usize> {
     let mut total = plain_squares(width, cells);
     for i in 0..width {
@@ -137,7 +137,7 @@ fn plain_normal(alloc: Global, width: usize, cells: &[bool]) -> QrResult<usize> 
     Ok(total.wrapping_add(share.abs_diff(100)))
 }
 
-/// The penalty of a Micro symbol.
+/// Returns the penalty of a Micro symbol.
 fn plain_micro(alloc: Global, width: usize, cells: &[bool]) -> QrResult<usize> {
     let last = width.wrapping_sub(1);
     let row = line_of(
@@ -153,7 +153,7 @@ fn plain_micro(alloc: Global, width: usize, cells: &[bool]) -> QrResult<usize> {
     Ok(h.max(v).wrapping_mul(16).wrapping_add(h.min(v)))
 }
 
-/// The penalty of a masked canvas as a plain sum.
+/// Returns the penalty of a masked canvas as a plain sum.
 fn plain_penalty(alloc: Global, canvas: Canvas, version: Version) -> QrResult<usize> {
     let width = side(version);
     let mut cells = Vec::new(alloc);
@@ -166,7 +166,7 @@ fn plain_penalty(alloc: Global, canvas: Canvas, version: Version) -> QrResult<us
     }
 }
 
-/// Masks a canvas by a pattern that its version has.
+/// Masks a canvas with a pattern that its version has.
 pub fn apply(canvas: &mut Canvas, version: Version, pattern: MaskPattern)
     requires { canvas.old.version ≡ version }
     ensures { canvas.new.version ≡ version }
@@ -185,7 +185,7 @@ pub fn apply(canvas: &mut Canvas, version: Version, pattern: MaskPattern)
     }
 }
 
-/// The plain sums of a canvas under each of some masks.
+/// Returns the plain sums of a canvas under each of some masks.
 pub fn plain_penalties(
     alloc: Global,
     canvas: &Canvas,

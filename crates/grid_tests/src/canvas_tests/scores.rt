@@ -1,5 +1,6 @@
-//! Scores beside plain sums of the penalties. In small versions the tests add these up themselves.
-//! In all versions they stand in `tables`, as a program prints them that states the rules alone.
+//! Compares scores with plain sums of the penalties. For small versions the tests compute these
+//! sums themselves. For all versions the sums are in `tables`, printed by a program that implements
+//! only the rules.
 ghost use Rattle.std.specs.Prelude.{◌≡◌, IfOk};
 ghost use Rattle.qrcode_base.specs.Symbols.{width_of};
 ghost use Rattle.qrcode_grid.specs.Canvas.{IsCoordinate};
@@ -11,7 +12,7 @@ use qrcode_base::types::{Color, EcLevel, QrResult, Version};
 use qrcode_grid::canvas::{Canvas, MaskPattern, Module};
 use std::alloc::Global;
 
-/// The masks of a version.
+/// Returns the masks of a version.
 fn masks_of(version: Version) -> &'static [MaskPattern] {
     match version {
         Version::Normal(_) => &NORMAL_MASKS,
@@ -19,7 +20,7 @@ fn masks_of(version: Version) -> &'static [MaskPattern] {
     }
 }
 
-/// The place of the first least of some sums.
+/// Returns the index of the first least of some sums.
 fn first_of_least(sums: &[usize]) -> usize {
     let mut best = (0usize, usize::MAX);
     for (i, sum) in sums.iter().enumerate() {
@@ -30,7 +31,7 @@ fn first_of_least(sums: &[usize]) -> usize {
     best.0
 }
 
-/// What is told of a plain sum.
+/// Returns the score that is reported for a plain sum.
 fn told(version: Version, sum: usize) -> usize {
     let less = match version {
         Version::Normal(_) => 720,
@@ -39,8 +40,8 @@ fn told(version: Version, sum: usize) -> usize {
     sum.saturating_sub(less).min(65535)
 }
 
-/// Whether the best mask of a canvas is the first of the least of some sums, with the score of that
-/// sum.
+/// Returns whether the best mask of a canvas is that of the first least sum, with the score of
+/// that sum.
 fn is_chosen(alloc: Global, canvas: &Canvas, version: Version, sums: &[usize]) -> QrResult<bool> {
     let (_best, pattern, score) = canvas.apply_best_mask_with_score(alloc)?;
     let first = first_of_least(sums);
@@ -49,8 +50,8 @@ fn is_chosen(alloc: Global, canvas: &Canvas, version: Version, sums: &[usize]) -
     Ok(chosen && usize::from(score) == told(version, least))
 }
 
-/// Whether the penalties of a canvas under all masks are the plain sums, and the best mask and its
-/// score are those of the first least.
+/// Returns whether the penalties of a canvas under all masks are the plain sums, and the best mask
+/// and its score are those of the first least sum.
 fn is_scored(alloc: Global, canvas: &Canvas, version: Version) -> QrResult<bool>
     requires { canvas.now.version ≡ version }
 {
@@ -76,7 +77,7 @@ fn write(canvas: &mut Canvas, x: i16, y: i16, way: u32)
     }
 }
 
-/// How many modules in a row are written alike, by three bits of a number.
+/// How many modules in a row are written in the same way, by three bits of a number.
 const RUNS: [u32; 8] = [1, 1, 2, 3, 4, 5, 7, 40];
 
 /// Writes every module, row by row or column by column, in runs of one kind from a fixed sequence.
@@ -104,8 +105,8 @@ fn fill(canvas: &mut Canvas, version: Version, seed: u32)
     }
 }
 
-/// Puts a checkerboard of squares of a size, dark at the corner where the first is 0 and light
-/// where it is 1.
+/// Writes a checkerboard of squares of one size; the corner is dark if `first` is 0 and light if it
+/// is 1.
 fn paint(canvas: &mut Canvas, version: Version, size: usize, first: usize)
     requires { canvas.old.version ≡ version }
     ensures { canvas.new.version ≡ version }
@@ -122,7 +123,7 @@ fn paint(canvas: &mut Canvas, version: Version, size: usize, first: usize)
     }
 }
 
-/// A symbol of a version with codewords of a fixed sequence.
+/// Returns a symbol of a version with codewords of a fixed sequence.
 fn drawn(alloc: Global, version: Version, seed: u32) -> QrResult<Canvas>
     ensures { IfOk result (λ canvas. canvas.version ≡ version) }
 {
@@ -131,7 +132,7 @@ fn drawn(alloc: Global, version: Version, seed: u32) -> QrResult<Canvas>
     Ok(canvas)
 }
 
-/// Whether penalties are the printed ones and so much more.
+/// Returns whether each penalty is the printed one plus `more`.
 fn are_printed(counted: &[usize], printed: &[usize], more: usize) -> bool {
     counted.len() == printed.len()
         && counted
@@ -154,7 +155,7 @@ fn has_the_printed_penalties(rt: HostRuntime) -> QrResult<()> {
     Ok(())
 }
 
-/// A number made of others, in order.
+/// Returns a hash of some numbers, in order.
 fn mixed(start: u32, values: &[usize]) -> u32 {
     let mut mix = start;
     for value in values {
@@ -163,7 +164,7 @@ fn mixed(start: u32, values: &[usize]) -> u32 {
     mix
 }
 
-/// With what such a number begins.
+/// The initial value of such a hash.
 const START: u32 = 2166136261;
 
 #[test]
@@ -216,7 +217,7 @@ fn scores_written_canvases(rt: HostRuntime) -> QrResult<()> {
     Ok(())
 }
 
-/// The penalties, the best mask and its score beside plain sums, in small versions.
+/// The penalties, the best mask and its score agree with plain sums, in small versions.
 #[test]
 fn scores_by_plain_sums(rt: HostRuntime) -> QrResult<()> {
     let alloc = rt.alloc();
@@ -244,7 +245,7 @@ fn scores_by_plain_sums(rt: HostRuntime) -> QrResult<()> {
     Ok(())
 }
 
-/// In Normal symbols the sums are below 720, so that the score is 0.
+/// In these Normal symbols the sums are below 720, so that the score is 0.
 #[test]
 fn scores_new_canvases(rt: HostRuntime) -> QrResult<()> {
     let alloc = rt.alloc();
@@ -266,7 +267,8 @@ fn scores_new_canvases(rt: HostRuntime) -> QrResult<()> {
     Ok(())
 }
 
-/// The mask and the score of a canvas with every cell put in one colour: dark for 0, light for 1.
+/// Returns the mask and the score of a canvas with every cell in one colour: dark for 0, light
+/// for 1.
 fn score_of_color(alloc: Global, version: Version, first: usize) -> QrResult<(MaskPattern, u16)> {
     let mut canvas = new_canvas(alloc, version, EcLevel::L)?;
     paint(&mut canvas, version, 200, first);
@@ -274,8 +276,8 @@ fn score_of_color(alloc: Global, version: Version, first: usize) -> QrResult<(Ma
     Ok((pattern, score))
 }
 
-/// In M1 all masks have one penalty, so that the first is taken. In version 40 the least sum is
-/// that of Diamonds, and the score of every mask is 65535.
+/// In M1 all masks have the same penalty, so that the first is chosen. In version 40 the least sum
+/// is that of Diamonds, and the score of every mask is 65535.
 #[test]
 fn scores_dark_and_light(rt: HostRuntime) -> QrResult<()> {
     let alloc = rt.alloc();

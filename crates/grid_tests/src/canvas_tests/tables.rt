@@ -1,8 +1,8 @@
-//! Penalties of the canvases of the tests of scores. The program tools/scores.c prints all of them,
-//! from the rules of the standard alone, and tools/scores compares what it prints with this file.
+//! Penalties of the canvases in the tests of scores. The program tools/scores.c computes all of
+//! them from the rules of the standard alone, and tools/scores compares its output with this file.
 //!
-//! The penalties of a canvas under the masks of its family are mixed into one number, and those of
-//! several canvases one after the other.
+//! The penalties of a canvas under the masks of its family are hashed into one number, and so are
+//! those of several canvases one after the other.
 
 /// Penalties of symbols of Normal versions under all masks, less 720.
 pub static PRINTED: [(i16, [usize; 8]); 6] = [
@@ -32,8 +32,8 @@ pub static SYMBOLS: [u32; 44] = [
     0xB7332252, 0x1E9013DC, 0xA570ACE0, 0xBC09DB85,
 ];
 
-/// In each version, a canvas of one colour, dark and then light, three checkerboards of squares,
-/// and a new canvas.
+/// For each version, canvases of one colour (dark, then light), three checkerboards, and a
+/// new canvas.
 pub static PAINTED: [u32; 44] = [
     0xA22D075C, 0xB6BB87B4, 0x3E56AFAA, 0x6D9779A7, 0x2F364098, 0x0326A6A0, 0xF1B02DDC, 0x2DA44380,
     0x4E513139, 0x2341B737, 0x2D3F6316, 0xCA20712B, 0x287C405B, 0x78A01C4D, 0x7AAF0A5E, 0x8E57F5E8,
@@ -43,7 +43,7 @@ pub static PAINTED: [u32; 44] = [
     0xA9D9EFCD, 0x140FF811, 0x5A850559, 0xAC50B7D7,
 ];
 
-/// In each version, four or five canvases with modules of all kinds in runs.
+/// For each version, four or five canvases with modules of all kinds in runs.
 pub static WRITTEN: [u32; 44] = [
     0x29075C7E, 0x22D6D68D, 0x3E7FDEAF, 0x674989B6, 0xE8DF1FE8, 0xEDA19F47, 0x7DCD4AC6, 0x337B3B58,
     0xF89CC6E4, 0x2B1258B9, 0xC0851C98, 0x847745E3, 0x43B86FCA, 0x5D1EF686, 0xBA083F56, 0xABCD2E3D,

@@ -1,4 +1,4 @@
-//! Format words, version words and alignment patterns, as they stand on canvases.
+//! Tests of format words, version words and alignment patterns, as they are on canvases.
 ghost use Rattle.std.specs.Prelude.{◌≡◌, IfOk};
 
 use super::plain::{MICRO_MASKS, NORMAL_MASKS, apply};
@@ -7,7 +7,7 @@ use qrcode_base::types::{Color, EcLevel, QrResult, Version};
 use qrcode_grid::canvas::{Canvas, MaskPattern, Module};
 use std::alloc::Global;
 
-/// A canvas with the functional patterns of its version.
+/// Returns a canvas with the functional patterns of its version.
 fn patterned(alloc: Global, version: Version, level: EcLevel) -> QrResult<Canvas>
     ensures { IfOk result (λ canvas. canvas.version ≡ version) }
 {
@@ -16,7 +16,7 @@ fn patterned(alloc: Global, version: Version, level: EcLevel) -> QrResult<Canvas
     Ok(canvas)
 }
 
-/// The word whose digits stand at some places, the high one first.
+/// Returns the word whose bits are at some places, the highest bit first.
 fn word_at(canvas: &Canvas, version: Version, places: &[(usize, usize)]) -> u32
     requires { canvas.now.version ≡ version }
 {
@@ -27,7 +27,7 @@ fn word_at(canvas: &Canvas, version: Version, places: &[(usize, usize)]) -> u32
     word
 }
 
-/// How many pairs of words differ in fewer digits than asked.
+/// Returns how many pairs of words differ in fewer than `digits` bits.
 fn close_pairs(words: &[u32], digits: u32) -> usize {
     let mut close = 0usize;
     for i in 0..words.len() {
@@ -40,7 +40,8 @@ fn close_pairs(words: &[u32], digits: u32) -> usize {
     close
 }
 
-/// The places of the format word beside the first finder pattern (ISO/IEC 18004, format information).
+/// The cells of the format word beside the first finder pattern (ISO/IEC 18004:2006,
+/// "Format information").
 const NORMAL_PLACES: [(usize, usize); 15] = [
     (0, 8),
     (1, 8),
@@ -59,7 +60,7 @@ const NORMAL_PLACES: [(usize, usize); 15] = [
     (8, 0),
 ];
 
-/// Its places in a Micro symbol.
+/// Its cells in a Micro symbol.
 const MICRO_PLACES: [(usize, usize); 15] = [
     (1, 8),
     (2, 8),
@@ -78,7 +79,7 @@ const MICRO_PLACES: [(usize, usize); 15] = [
     (8, 1),
 ];
 
-/// The format words of a version at a level, under each of some masks.
+/// Appends the format words of a version at a level, under each of some masks.
 fn push_words(
     alloc: Global,
     words: &mut Vec<u32>,
@@ -126,12 +127,12 @@ fn format_words_are_far(rt: HostRuntime) -> QrResult<()> {
     }
     assert!(rt; normal.len() == 32 && close_pairs(&normal, 7) == 0);
     assert!(rt; micro.len() == 32 && close_pairs(&micro, 7) == 0);
-    // Level M under the mask of number 5.
+    // Level M under mask number 5.
     assert!(rt; normal.get(13) == Some(&0x40CE));
     Ok(())
 }
 
-/// The version word of a canvas, by its lower left copy.
+/// Returns the version word of a canvas, from its lower left copy.
 fn version_word(canvas: &Canvas, version: Version) -> u32
     requires { canvas.now.version ≡ version }
 {
@@ -157,7 +158,7 @@ fn version_words_are_far(rt: HostRuntime) -> QrResult<()> {
     Ok(())
 }
 
-/// Whether an alignment pattern has its centre two columns and two rows behind a cell.
+/// Returns whether an alignment pattern has its centre two columns and two rows after a cell.
 fn is_alignment(canvas: &Canvas, version: Version, x: usize, y: usize) -> bool
     requires { canvas.now.version ≡ version }
 {
@@ -174,7 +175,7 @@ fn is_alignment(canvas: &Canvas, version: Version, x: usize, y: usize) -> bool
     true
 }
 
-/// The centres of alignment patterns on a canvas, row by row.
+/// Returns the centres of the alignment patterns on a canvas, row by row.
 fn alignment_centers(alloc: Global, version: Version) -> QrResult<Vec<(usize, usize)>> {
     let canvas = patterned(alloc, version, EcLevel::L)?;
     let mut centers = Vec::new(alloc);
@@ -188,7 +189,8 @@ fn alignment_centers(alloc: Global, version: Version) -> QrResult<Vec<(usize, us
     Ok(centers)
 }
 
-/// Whether the centres are all pairs of some coordinates but the three at the finder patterns.
+/// Returns whether the centres are all pairs of some coordinates except the three at the
+/// finder patterns.
 fn are_pairs(centers: &[(usize, usize)], coordinates: &[usize]) -> bool {
     let mut rest = centers.iter();
     let last = coordinates.last();

@@ -1,5 +1,6 @@
-//! Correction and codewords beside a second computation from the rules: products by shifts,
-//! division by a generator that is multiplied out, and blocks written row by row.
+//! Compares error correction and codewords with a second computation from the rules of the
+//! standard: products by shifts, division by a generator that is multiplied out, and blocks written
+//! row by row.
 
 ghost use Rattle.std.specs.Prelude.{◌≤◌};
 
@@ -8,7 +9,8 @@ use qrcode_base::types::{EcLevel, QrError, QrResult, Version};
 use qrcode_grid::ec::{construct_codewords, create_error_correction_code};
 use std::alloc::Global;
 
-/// The product of two elements of the field: a sum of shifted elements, reduced by 11D hex.
+/// Returns the product of two elements of the field: a sum of shifted elements, reduced by
+/// 11D (hex).
 fn times(a: u8, b: u8) -> u8 {
     let mut product = 0;
     let mut shifted = a;
@@ -24,7 +26,8 @@ fn times(a: u8, b: u8) -> u8 {
     product
 }
 
-/// The generator of n correction bytes, the product of x plus each of the first n powers of 2.
+/// Returns the generator for `n` correction bytes: the product of x plus each of the first n powers
+/// of 2.
 fn plain_generator(alloc: Global, n: usize) -> QrResult<Vec<u8>> {
     let mut generator = Vec::new(alloc);
     generator.push(1)?;
@@ -42,7 +45,7 @@ fn plain_generator(alloc: Global, n: usize) -> QrResult<Vec<u8>> {
     Ok(generator)
 }
 
-/// The rest of the data followed by n zeros, divided by a generator of degree n.
+/// Returns the remainder of the data followed by n zeros, divided by a generator of degree n.
 fn plain_code(alloc: Global, data: &[u8], generator: &[u8]) -> QrResult<Vec<u8>> {
     let mut work = Vec::new(alloc);
     work.extend_from_slice(data)?;
@@ -62,7 +65,7 @@ fn plain_code(alloc: Global, data: &[u8], generator: &[u8]) -> QrResult<Vec<u8>>
     Ok(code)
 }
 
-/// Bytes of a fixed sequence.
+/// Returns bytes of a fixed sequence.
 fn bytes_of(alloc: Global, len: usize, seed: u32) -> QrResult<Vec<u8>> {
     let mut bytes = Vec::with_capacity(alloc, len)?;
     let mut state = seed;
@@ -73,7 +76,7 @@ fn bytes_of(alloc: Global, len: usize, seed: u32) -> QrResult<Vec<u8>> {
     Ok(bytes)
 }
 
-/// Whether the correction of data of nine lengths is the plain rest.
+/// Returns whether the correction of data of nine lengths is the plain remainder.
 fn divides_by(alloc: Global, n: usize) -> QrResult<bool>
     requires { n ≤ 69 }
 {
@@ -96,7 +99,7 @@ fn divides_by_each_generator(rt: HostRuntime) -> QrResult<()> {
     Ok(())
 }
 
-/// The sizes of the blocks, in order.
+/// Returns the sizes of the blocks, in order.
 fn plain_sizes(alloc: Global, layout: &BlockLayout) -> QrResult<Vec<usize>> {
     let mut sizes = Vec::new(alloc);
     for _ in 0..layout.first_count {
@@ -108,7 +111,7 @@ fn plain_sizes(alloc: Global, layout: &BlockLayout) -> QrResult<Vec<usize>> {
     Ok(sizes)
 }
 
-/// The first bytes of all blocks, then the second bytes, and so on.
+/// Returns the first bytes of all blocks, then the second bytes, and so on.
 fn plain_stream(alloc: Global, blocks: &[Vec<u8>]) -> QrResult<Vec<u8>> {
     let mut stream = Vec::new(alloc);
     let longest = blocks.iter().map(|block| block.len()).max().unwrap_or(0);
@@ -122,7 +125,7 @@ fn plain_stream(alloc: Global, blocks: &[Vec<u8>]) -> QrResult<Vec<u8>> {
     Ok(stream)
 }
 
-/// The two streams of some data.
+/// Returns the two streams of some data: data and correction, interleaved.
 fn plain_streams(alloc: Global, data: &[u8], layout: &BlockLayout) -> QrResult<(Vec<u8>, Vec<u8>)> {
     let generator = plain_generator(alloc, usize::from(layout.correction))?;
     let mut bytes = data.iter();
@@ -139,10 +142,10 @@ fn plain_streams(alloc: Global, data: &[u8], layout: &BlockLayout) -> QrResult<(
     Ok((plain_stream(alloc, &blocks)?, plain_stream(alloc, &codes)?))
 }
 
-/// A pair of a version and a level.
+/// A version and a level.
 type Pair = (Version, EcLevel);
 
-/// The pairs that have a symbol, or those that have none.
+/// Returns the pairs that have a symbol, or those that have none.
 fn pairs(alloc: Global, with_symbol: bool) -> QrResult<Vec<Pair>> {
     let mut pairs = Vec::new(alloc);
     for place in 0..44i16 {
@@ -160,7 +163,7 @@ fn pairs(alloc: Global, with_symbol: bool) -> QrResult<Vec<Pair>> {
     Ok(pairs)
 }
 
-/// Whether the codewords of a symbol with data of a fixed sequence are the plain streams.
+/// Returns whether the codewords of a symbol, with data of a fixed sequence, are the plain streams.
 fn is_interleaved(alloc: Global, pair: Pair, layout: &BlockLayout) -> QrResult<bool> {
     let data = bytes_of(alloc, layout.data_bytes(), 1)?;
     let counted = construct_codewords(alloc, &data, pair.0, pair.1)?;
@@ -181,7 +184,7 @@ fn interleaves_each_symbol(rt: HostRuntime) -> QrResult<()> {
     Ok(())
 }
 
-/// Whether data of a length that is not the symbol's is refused.
+/// Returns whether data of a length that is not the symbol's fails with the expected error.
 fn refuses_length(alloc: Global, pair: Pair, expected: usize, actual: usize) -> QrResult<bool> {
     let data = bytes_of(alloc, actual, 1)?;
     let refusal = construct_codewords(alloc, &data, pair.0, pair.1).err();

@@ -1,4 +1,5 @@
-//! Examples of the standard, what is left of an iterator, what is free after a terminator, and all sets of modes.
+//! Tests of examples of the standard, of what is left of an iterator, of what is free after a
+//! terminator, and of all sets of modes.
 
 use super::{DIGITS, M1, M3, ONE, Push, pushed};
 use qrcode_base::types::{EcLevel, Mode, QrError, QrResult, Version};
@@ -7,11 +8,11 @@ use qrcode_bits::optimize::Segment;
 
 const M2: Version = Version::Micro(2);
 
-/// The digits of an example of ISO/IEC 18004, section "Numeric mode".
+/// The digits of an example in ISO/IEC 18004:2006, section "Numeric mode".
 const SIXTEEN: &[u8] = b"0123456789012345";
 
-/// In M3 the standard prints its bits: 00, 10000, five groups of ten and one of four. In a Normal version the indicator
-/// is 0001 and the count has ten bits.
+/// The standard prints the bits for M3: 00, 10000, five groups of ten and one of four. In a Normal
+/// version the indicator is 0001 and the count has ten bits.
 #[test]
 fn sixteen_digits(rt: HostRuntime) -> QrResult<()> {
     let micro = pushed(rt.alloc(), M3, &[Push::Numeric(SIXTEEN)])?;
@@ -25,7 +26,8 @@ fn sixteen_digits(rt: HostRuntime) -> QrResult<()> {
     Ok(())
 }
 
-/// Three digits and a letter in M2: 0, 0011, 0001111011, then 1, 001, 001010. As one segment they take a bit more.
+/// Three digits and a letter in M2: 0, 0011, 0001111011, then 1, 001, 001010. As one segment they
+/// take one bit more.
 #[test]
 fn digits_and_a_letter_in_m2(rt: HostRuntime) -> QrResult<()> {
     let mut bits = Bits::new(rt.alloc(), M2);
@@ -36,7 +38,7 @@ fn digits_and_a_letter_in_m2(rt: HostRuntime) -> QrResult<()> {
     Ok(())
 }
 
-/// Two digits, a letter that is said to be a digit, and a byte.
+/// Two digits, a letter in a segment of the Numeric mode, and a byte.
 static THREE: [Segment; 3] = [
     Segment {
         mode: Mode::Numeric,
@@ -55,7 +57,7 @@ static THREE: [Segment; 3] = [
     },
 ];
 
-/// The segments after one that fails are still in the iterator of the caller.
+/// The segments after one that fails are still in the caller's iterator.
 #[test]
 fn what_is_left_of_an_iterator(rt: HostRuntime) {
     let mut bits = Bits::new(rt.alloc(), ONE);
@@ -71,7 +73,8 @@ fn what_is_left_of_an_iterator(rt: HostRuntime) {
     assert!(rt; segments.next().is_none());
 }
 
-/// 164 bits after a terminator and an ECI designator, then 184: the payload is that of the first end, then all.
+/// 164 bits after a terminator and an ECI designator, then 184: the payload is that of the first
+/// terminator, then all bits.
 #[test]
 fn what_is_free_after_a_terminator(rt: HostRuntime) -> QrResult<()> {
     let level = EcLevel::L;
@@ -90,7 +93,7 @@ fn what_is_free_after_a_terminator(rt: HostRuntime) -> QrResult<()> {
     Ok(())
 }
 
-/// A push in each mode, in the order in which sets are gone through.
+/// A push in each mode, in the order in which a set iterates over them.
 static PUSHES: [(Mode, Push); 4] = [
     (Mode::Numeric, Push::Numeric(b"1")),
     (Mode::Alphanumeric, Push::Alphanumeric(b"A")),
@@ -98,7 +101,8 @@ static PUSHES: [(Mode, Push); 4] = [
     (Mode::Kanji, Push::Kanji(&[0x93, 0x5f])),
 ];
 
-/// The modes of a set by its number, pushed from the last to the first, come in their order.
+/// Returns whether the modes of a set, given by number and pushed from the last to the first, are
+/// returned in their order.
 fn comes_in_order(rt: &HostRuntime, number: usize) -> QrResult<bool> {
     let mut bits = Bits::new(rt.alloc(), ONE);
     let mut wanted = Vec::new(rt.alloc());

@@ -1,4 +1,4 @@
-//! Counts, capacities and encoded data.
+//! Tests of counts, capacities and encoded data.
 
 use super::started;
 use qrcode_base::types::{EcLevel, Mode, QrError, QrResult, Version};
@@ -11,7 +11,7 @@ use std::process::Abort;
 
 const ONE: Version = Version::Normal(1);
 
-/// So many characters of one kind, that the mode is the least to write.
+/// Returns `count` characters for which the mode is the least that can encode them.
 pub fn text_of(alloc: Global, mode: Mode, count: usize) -> QrResult<Vec<u8>> {
     let mut text = Vec::new(alloc);
     for _place in 0..count {
@@ -25,7 +25,7 @@ pub fn text_of(alloc: Global, mode: Mode, count: usize) -> QrResult<Vec<u8>> {
     Ok(text)
 }
 
-/// So many characters pushed into a stream, with the answer.
+/// Returns the result of pushing `count` characters into a stream, with the stream.
 fn pushed(
     alloc: Global,
     mut bits: Bits,
@@ -42,7 +42,8 @@ fn pushed(
     Ok((answer, bits))
 }
 
-/// Versions and modes, with the most characters that a field tells, and the bits of so many.
+/// Versions and modes, with the greatest count that the field can hold and the bits that so long a
+/// text takes.
 static COUNTS: [(Version, Mode, usize, usize); 4] = [
     (ONE, Mode::Byte, 255, 2052),
     (ONE, Mode::Numeric, 1023, 3424),
@@ -59,7 +60,7 @@ fn counts_that_fit_their_field(rt: HostRuntime) -> QrResult<()> {
     Ok(())
 }
 
-/// The most characters go in.
+/// Checks that the greatest count succeeds.
 fn takes_all(rt: &impl Abort, alloc: Global, row: &(Version, Mode, usize, usize)) -> QrResult<()> {
     let (version, mode, most, len) = *row;
     let (answer, bits) = pushed(alloc, started(alloc, version), mode, most)?;
@@ -71,7 +72,7 @@ fn takes_all(rt: &impl Abort, alloc: Global, row: &(Version, Mode, usize, usize)
     Ok(())
 }
 
-/// One more is refused, and leaves nothing.
+/// Checks that one character more fails and leaves the stream empty.
 fn takes_no_more(
     rt: &impl Abort,
     alloc: Global,
@@ -87,7 +88,8 @@ fn takes_no_more(
     Ok(())
 }
 
-/// Eight digits in version 1, ended so many times at level M: the capacity, the payload, and what is left.
+/// Pushes eight digits in version 1, ends the stream `times` times at level M, and returns the
+/// capacity, the payload, and the bits that are left.
 fn ended(alloc: Global, times: usize) -> QrResult<(usize, usize, usize)> {
     let mut bits = Bits::new(alloc, ONE);
     bits.push_numeric_data(b"01234567")?;
@@ -123,7 +125,7 @@ fn lacking_versions_have_no_capacity(rt: HostRuntime) {
     assert!(rt; none == Err(lacking(Version::Micro(1), EcLevel::M)));
 }
 
-/// That there is no such symbol.
+/// Returns the error for a version that lacks a level.
 fn lacking(version: Version, ec_level: EcLevel) -> QrError {
     QrError::InvalidVersion { version, ec_level }
 }
@@ -137,7 +139,7 @@ fn least_versions_of_lengths(rt: HostRuntime) {
 
 const TEXT: [u8; 4] = [0xff, 0, 0xa5, 0x3c];
 
-/// Bytes behind so many ones, pushed whole.
+/// Pushes bytes after a number of one bits, all in one push.
 fn whole(alloc: Global, offset: usize, ones: usize) -> QrResult<Bits> {
     let mut bits = Bits::new(alloc, ONE);
     bits.push_number_checked(offset, ones)?;
@@ -145,7 +147,7 @@ fn whole(alloc: Global, offset: usize, ones: usize) -> QrResult<Bits> {
     Ok(bits)
 }
 
-/// The same, pushed bit by bit.
+/// Pushes the same bit by bit.
 fn single(alloc: Global, offset: usize, ones: usize) -> QrResult<Bits> {
     let mut bits = Bits::new(alloc, ONE);
     bits.push_number_checked(offset, ones)?;
@@ -169,13 +171,13 @@ fn bytes_at_each_offset(rt: HostRuntime) {
     }
 }
 
-/// What data takes: the version, and the bits before the terminator.
+/// Returns the version of encoded data and its bits before the terminator.
 pub fn taken(bits: QrResult<Bits>) -> QrResult<(Version, usize)> {
     let bits = bits?;
     Ok((bits.version(), bits.payload_bits_len()))
 }
 
-/// Numbers of letters and the greatest version, with what they take at level L.
+/// Numbers of letters and greatest versions, with the version and the bits at level L.
 static LETTERS: [(usize, i16, QrResult<(Version, usize)>); 8] = [
     (17, 1, Ok((ONE, 148))),
     (18, 1, Err(QrError::DataTooLong)),
@@ -197,7 +199,7 @@ fn smallest_versions(rt: HostRuntime) -> QrResult<()> {
     Ok(())
 }
 
-/// What so many digits take at level L.
+/// Returns the version and the bits that `count` digits take at level L.
 fn digits_taken(alloc: Global, count: usize) -> QrResult<(Version, usize)> {
     taken(encode_auto(alloc, &text_of(alloc, Mode::Numeric, count)?, EcLevel::L))
 }
@@ -208,10 +210,10 @@ fn most_digits(rt: HostRuntime) {
     assert!(rt; digits_taken(rt.alloc(), 7089) == Ok((Version::Normal(40), 23648)));
 }
 
-/// Data as it is encoded: version, payload and bytes.
+/// Encoded data: version, payload and bytes.
 pub type Encoded = (Version, usize, &'static [u8]);
 
-/// Data, and what it comes to.
+/// Returns whether encoded data is as expected.
 pub fn is_encoded(bits: Bits, wanted: &Encoded) -> bool {
     let (version, payload, bytes) = *wanted;
     bits.version() == version
@@ -238,7 +240,7 @@ fn encoded_bytes(rt: HostRuntime) -> QrResult<()> {
     Ok(())
 }
 
-/// The smallest version of each level for the same payload, and its codewords.
+/// The smallest version of each level for the same payload, and its number of codewords.
 static HELLO_WORLDS: [(EcLevel, i16, usize); 4] = [
     (EcLevel::L, 1, 19),
     (EcLevel::M, 1, 16),
@@ -246,7 +248,8 @@ static HELLO_WORLDS: [(EcLevel, i16, usize); 4] = [
     (EcLevel::H, 2, 16),
 ];
 
-/// The same payload at all four levels, in the smallest version of each. The original crate gives the same.
+/// The same payload at all four levels, in the smallest version of each. The original crate returns
+/// the same.
 #[test]
 fn hello_world_at_each_level(rt: HostRuntime) -> QrResult<()> {
     for (level, number, len) in &HELLO_WORLDS {
@@ -260,7 +263,8 @@ fn hello_world_at_each_level(rt: HostRuntime) -> QrResult<()> {
     Ok(())
 }
 
-/// Whether so many bytes spell `HELLO WORLD`, and then EC and 11 in turn.
+/// Returns whether there are `len` bytes: the segment `HELLO WORLD`, and then EC and 11 (hex)
+/// in turn.
 fn is_hello_world(bytes: &[u8], len: usize) -> bool {
     let mut pads = bytes.iter().enumerate().skip(10);
     bytes.len() == len
@@ -268,12 +272,12 @@ fn is_hello_world(bytes: &[u8], len: usize) -> bool {
         && pads.all(|(place, byte)| *byte == if place % 2 == 0 { 0xec } else { 0x11 })
 }
 
-/// One more than so many.
+/// Returns `count` plus one.
 pub fn more_than(count: usize) -> usize {
     count.saturating_add(1)
 }
 
-/// Texts in UTF-8, as the original crate encodes them at level L.
+/// Texts in UTF-8, with what the original crate encodes them as at level L.
 static UTF_8: [(&str, Encoded); 3] = [
     (
         "na\u{ef}ve caf\u{e9} 12",
@@ -357,7 +361,7 @@ fn modes_of_a_plan(rt: HostRuntime) {
     has_two_modes(&rt, rt.alloc(), bits.encoding_modes());
 }
 
-/// The modes are Alphanumeric and Byte.
+/// Checks that the modes are Alphanumeric and Byte.
 fn has_two_modes(rt: &impl Abort, alloc: Global, modes: EncodingModes) {
     assert!(rt; modes.len() == 2 && modes.contains(Mode::Byte) && modes.iter().len() == 2);
     let modes: Vec<Mode> = modes.iter().collect(alloc).expect(rt, "memory");

@@ -1,4 +1,4 @@
-//! Micro symbols: encoded data, and the versions that it takes.
+//! Tests of Micro symbols: encoded data and the versions that it takes.
 
 use super::encoding_tests::{is_encoded, more_than, taken, text_of};
 use qrcode_base::types::{EcLevel, Mode, QrError, QrResult, Version};
@@ -21,7 +21,7 @@ fn encoded_empty_micro_bytes(rt: HostRuntime) {
     assert!(rt; is_encoded(bits, &(Version::Micro(1), 0, &[0, 0xec, 0])));
 }
 
-/// Levels, and what no data takes in a Micro symbol.
+/// Levels, with what empty data takes in a Micro symbol.
 static MICRO_LEVELS: [(EcLevel, QrResult<(Version, usize)>); 3] = [
     (EcLevel::M, Ok((Version::Micro(2), 0))),
     (EcLevel::Q, Ok((Version::Micro(4), 0))),
@@ -34,7 +34,7 @@ static MICRO_LEVELS: [(EcLevel, QrResult<(Version, usize)>); 3] = [
     ),
 ];
 
-/// Numbers of digits, and what they take in a Micro symbol.
+/// Digits, with what they take in a Micro symbol.
 static MICRO_DIGITS: [(&[u8], QrResult<(Version, usize)>); 2] = [
     (&[b'7'; 35], Ok((Version::Micro(4), 126))),
     (&[b'7'; 36], Err(QrError::DataTooLong)),
@@ -50,8 +50,8 @@ fn micro_versions_by_level_and_count(rt: HostRuntime) {
     }
 }
 
-/// Most characters of each mode in each Micro version (ISO/IEC 18004, table 7), as the number of the version with the
-/// count.
+/// The greatest counts of each mode in each Micro version (ISO/IEC 18004:2006, table 7), as pairs
+/// of the version number and the count.
 static LIMITS: [(EcLevel, Mode, &[(i16, usize)]); 12] = [
     (
         EcLevel::L,
@@ -71,7 +71,7 @@ static LIMITS: [(EcLevel, Mode, &[(i16, usize)]); 12] = [
     (EcLevel::Q, Mode::Kanji, &[(4, 5)]),
 ];
 
-/// Each count takes its version, and one character more takes the next one, or is too long.
+/// Each count takes its version, and one character more takes the next version or is too long.
 #[test]
 fn micro_versions_at_their_limits(rt: HostRuntime) {
     for (level, mode, limits) in &LIMITS {
@@ -87,7 +87,7 @@ fn micro_versions_at_their_limits(rt: HostRuntime) {
     }
 }
 
-/// So many characters of a mode take a Micro version at a level.
+/// Checks that `count` characters of a mode take a Micro version at a level.
 fn takes_version(
     rt: &impl Abort,
     alloc: Global,

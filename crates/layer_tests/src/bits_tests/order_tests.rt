@@ -1,4 +1,4 @@
-//! Rests of digits and letters, headers, unusual orders of pushes, and refusals.
+//! Tests of incomplete groups of digits and letters, headers, unusual orders of pushes, and errors.
 
 use super::{Accepted, BYTES, DIGITS, M1, M3, M4, ONE, Push, Refused, all_hold, all_leave};
 use qrcode_base::types::{EcLevel, Mode, QrError, QrResult, Version};
@@ -134,7 +134,8 @@ static RESTS: [Accepted; 15] = [
     ),
 ];
 
-/// Digits and letters that end in a whole group, and in a rest of one and of two. The original crate gives the same.
+/// Digits and letters that end in a whole group, or with one or two left. The original crate
+/// returns the same.
 #[test]
 fn rests_of_one_and_two(rt: HostRuntime) -> QrResult<()> {
     all_hold(&rt, rt.alloc(), &RESTS)
@@ -230,13 +231,13 @@ fn refused_headers(rt: HostRuntime) -> QrResult<()> {
     all_leave(&rt, rt.alloc(), &REFUSED_HEADERS)
 }
 
-/// 164 bits: version 1 ended at level L, and the indicator and designator of an ECI behind it.
+/// 164 bits: version 1, ended at level L, and the indicator and designator of an ECI after it.
 const ENDED: [u8; 21] = [
     0, 0xec, 0x11, 0xec, 0x11, 0xec, 0x11, 0xec, 0x11, 0xec, 0x11, 0xec, 0x11, 0xec, 0x11, 0xec,
     0x11, 0xec, 0x11, 0x70, 0x90,
 ];
 
-/// The same, with the letter a as a Byte segment behind it.
+/// The same, with the letter a as a Byte segment after it.
 const ENDED_AND_MORE: [u8; 23] = [
     0, 0xec, 0x11, 0xec, 0x11, 0xec, 0x11, 0xec, 0x11, 0xec, 0x11, 0xec, 0x11, 0xec, 0x11, 0xec,
     0x11, 0xec, 0x11, 0x70, 0x94, 0x01, 0x61,

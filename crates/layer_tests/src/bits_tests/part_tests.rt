@@ -1,4 +1,4 @@
-//! Worked rows of one symbol of a sequence.
+//! Tests of single symbols of a sequence, with rows of expected values.
 
 use qrcode_base::types::{EcLevel, QrError, QrResult, Version};
 use qrcode_bits::bits::{Bits, encode_part};
@@ -6,7 +6,7 @@ use std::alloc::Global;
 
 const L: EcLevel = EcLevel::L;
 
-/// A part, and what it comes to: the payload, and the first bytes. The rest is EC and 11 in turn.
+/// A part, with its expected payload and first bytes. The rest is EC and 11 (hex) in turn.
 #[derive(Clone, Copy, Drop)]
 struct Row {
     data: &'static [u8],
@@ -52,7 +52,7 @@ static ROWS: [Row; 4] = [
     },
 ];
 
-/// The first bytes, and EC and 11 in turn up to 19 bytes.
+/// Returns the first bytes, followed by EC and 11 in turn up to 19 bytes.
 fn padded(alloc: Global, first: &[u8]) -> QrResult<Vec<u8>> {
     let mut bytes = Vec::new(alloc);
     bytes.extend_from_slice(first)?;
@@ -74,7 +74,7 @@ fn parts_in_version_1(rt: HostRuntime) {
     }
 }
 
-/// The part of a row.
+/// Encodes the part of a row.
 fn part(alloc: Global, row: &Row) -> QrResult<Bits> {
     let Row {
         data,
@@ -86,13 +86,14 @@ fn part(alloc: Global, row: &Row) -> QrResult<Bits> {
     encode_part(alloc, data, position, total, parity, L, 40)
 }
 
-/// What the first of two parts takes: the version, and the bits before the terminator.
+/// Returns the version of the first of two parts and its bits before the terminator.
 fn taken(alloc: Global, data: &[u8], max_version: i16) -> QrResult<(Version, usize)> {
     let bits = encode_part(alloc, data, 1, 2, 0x61, L, max_version)?;
     Ok((bits.version(), bits.payload_bits_len()))
 }
 
-/// Numbers of letters and the greatest version, with what the first of two parts takes.
+/// Numbers of letters and greatest versions, with the version and the bits of the first of
+/// two parts.
 static LETTERS: [(usize, i16, QrResult<(Version, usize)>); 6] = [
     (15, 1, Ok((Version::Normal(1), 152))),
     (16, 1, Err(QrError::DataTooLong)),
@@ -111,7 +112,7 @@ fn smallest_versions_of_parts(rt: HostRuntime) -> QrResult<()> {
     Ok(())
 }
 
-/// Positions, totals and greatest versions, with the refusal.
+/// Positions, totals and greatest versions, with the error.
 static REFUSED: [(u8, u8, i16, QrError); 7] = [
     (4, 3, 40, QrError::InvalidStructuredAppend { value: 4 }),
     (0, 3, 40, QrError::InvalidStructuredAppend { value: 0 }),

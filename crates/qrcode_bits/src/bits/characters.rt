@@ -1,7 +1,8 @@
-//! The bits of characters: ISO/IEC 18004, "Numeric mode", "Alphanumeric mode", "Byte mode" and "Kanji mode".
+//! The bits of characters: ISO/IEC 18004:2006, "Numeric mode", "Alphanumeric mode", "Byte mode" and
+//! "Kanji mode".
 //!
-//! `push_text` calls `push_digits`, `push_letters`, `push_bytes` or `push_kanji` behind the header of a segment, once
-//! there is room for all of its characters.
+//! `push_text` calls `push_digits`, `push_letters`, `push_bytes` or `push_kanji` after it has
+//! pushed the header of a segment and made room for all of its characters.
 
 ghost use Rattle.std.specs.Prelude.{◌≡◌, ◌^◌, ◌<◌, ◌≤◌, length, All, Contains};
 ghost use Rattle.std.specs.Prelude.{true};
@@ -17,7 +18,7 @@ use super::Bits;
 use qrcode_base::characters::alphanumeric_place;
 
 impl Bits {
-    /// Writes digits, for which there is room: twelve at a time are five bytes.
+    /// Appends digits, for which there is room, twelve at a time: these are five bytes.
     #[tactic(auto, using(crate::proofs::Segments::bit_lengths))]
     pub(super) fn push_digits(&mut self, digits: &[u8])
         requires digits { All IsDigit digits.now }
@@ -33,7 +34,7 @@ impl Bits {
         self.push_last_digits(rest);
     }
 
-    /// Writes digits in threes, and one or two that are left.
+    /// Appends digits in threes, and then the one or two that are left.
     #[tactic(auto, using(crate::proofs::Segments::bit_lengths, crate::proofs::Digits::last_digits))]
     fn push_last_digits(&mut self, digits: &[u8])
         requires digits { All IsDigit digits.now }
@@ -53,7 +54,7 @@ impl Bits {
         }
     }
 
-    /// Writes characters of the Alphanumeric mode in pairs, and one that is left.
+    /// Appends characters of the Alphanumeric mode in pairs, and then the one that is left.
     #[tactic(auto, using(crate::proofs::Segments::bit_lengths, crate::proofs::Pairs::pairs_end))]
     pub(super) fn push_letters(&mut self, text: &[u8])
         requires characters { All (λ c. Contains alphabet c) text.now }
@@ -71,7 +72,8 @@ impl Bits {
         }
     }
 
-    /// Writes bytes, for which there is room, each shifted by the bits that are no whole byte yet.
+    /// Appends bytes, for which there is room, each shifted by the number of bits in the incomplete
+    /// last byte.
     pub(super) fn push_bytes(&mut self, text: &[u8])
         requires { length (byte_bits text.now) ≤ self.old.room }
         ensures { Appends self.old self.new (byte_bits text.now) }
@@ -92,7 +94,7 @@ impl Bits {
         self.partial = *last & ((1 << used) - 1);
     }
 
-    /// Writes double-byte characters, for which there is room.
+    /// Appends double-byte Shift JIS characters, for which there is room.
     #[tactic(auto, using(crate::proofs::Segments::bit_lengths, crate::proofs::KanjiText::kanji_end))]
     pub(super) fn push_kanji(&mut self, text: &[u8])
         requires characters { IsKanjiText text.now }
@@ -107,7 +109,7 @@ impl Bits {
     }
 }
 
-/// The value of a digit, of which 0 has the code 48.
+/// Returns the value of an ASCII digit; the code of 0 is 48.
 fn digit(c: u8) -> u64
     requires { IsDigit c }
     ensures value { result ≡ digit_of c }
@@ -116,7 +118,7 @@ fn digit(c: u8) -> u64
     u64::from(c) - 48
 }
 
-/// The number of three digits.
+/// Returns the number that three digits form.
 #[tactic(auto, using(crate::proofs::Digits::numeric_three))]
 fn three_digits(digits: &[u8]) -> u64
     requires three { length digits.now ≡ 3 }
@@ -127,7 +129,7 @@ fn three_digits(digits: &[u8]) -> u64
     100 * digit(digits[0]) + 10 * digit(digits[1]) + digit(digits[2])
 }
 
-/// The numbers of four times three digits, one behind the other.
+/// Returns the 10-bit numbers of four groups of three digits, concatenated.
 fn twelve_digits(digits: &[u8]) -> u64
     requires twelve { length digits.now ≡ 12 }
     requires digits { All IsDigit digits.now }
@@ -142,7 +144,7 @@ fn twelve_digits(digits: &[u8]) -> u64
     high * 0x10_0000 + low
 }
 
-/// The value of a character of the Alphanumeric mode.
+/// Returns the value of a character of the Alphanumeric mode.
 fn alphanumeric_value(c: u8) -> u64
     requires { Contains alphabet c }
     ensures value { result ≡ alphanumeric_value_of c }
@@ -154,7 +156,7 @@ fn alphanumeric_value(c: u8) -> u64
     }
 }
 
-/// The 13-bit number of a double-byte character.
+/// Returns the 13-bit number of a double-byte character of the Kanji mode.
 fn kanji_number(lead: u8, trail: u8) -> u64
     requires { is_kanji_pair lead trail ≡ true }
     ensures value { result ≡ kanji_number_of lead trail }

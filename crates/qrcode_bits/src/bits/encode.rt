@@ -1,11 +1,18 @@
-//! The choice of the version: the smallest in which some way to merge the parsed segments of the data fits (ISO/IEC
-//! 18004, "Data analysis"), in a symbol of a sequence behind the 20 bits of its header ("Structured
-//! Append").
+//! The choice of the version: the smallest in which some plan of the data fits (ISO/IEC 18004:2006,
+//! "Data analysis"). In a symbol of a sequence the 20 bits of its header precede the plan
+//! ("Structured Append").
 //!
-//! Normal versions fall into three classes, 1 to 9, 10 to 26 and 27 to 40. In a class a plan takes the same bits in
-//! each version, so one plan for the last version of a class decides for the class: these are the `candidates`.
-//! `encode_up_to` parses the data and tries them, `chosen_plan` finds whether the plan fits, and `encode_plan` pushes
-//! header, plan and terminator.
+//! ```text
+//! let bits = encode_auto(alloc, data, EcLevel::M)?;
+//! let small = encode_auto_micro(alloc, data, EcLevel::L)?;
+//! let second = encode_part(alloc, share, 2, 3, parity, EcLevel::M, 40)?; // symbol 2 of 3
+//! ```
+//!
+//! Normal versions fall into three classes: 1 to 9, 10 to 26 and 27 to 40. A plan takes the same
+//! number of bits in each version of a class, so the plan for the last version of a class decides
+//! for the class: these last versions are the `candidates`. `encode_up_to` parses the data and
+//! tries them, `chosen_plan` decides whether the plan fits, and `encode_plan` pushes header, plan
+//! and terminator.
 
 ghost use Rattle.std.specs.Prelude.{◌≡◌, ℕ, ◌+◌, ◌≤◌, length, nat_abs, Some, None, OnOk, IfOk, IfErr, IfSome, IfNone};
 ghost use Rattle.std.specs.Prelude.{All, IsTrue, ◌↔◌};
@@ -31,7 +38,7 @@ use std::alloc::Global;
 use std::marker::{Brand, Model};
 use std::sync::ledger::Blank;
 
-/// The header of a symbol of a sequence.
+/// The Structured Append header of a symbol of a sequence.
 #[derive(Drop)]
 struct SequenceHeader {
     position: u8,
@@ -48,13 +55,13 @@ impl Model for SequenceHeader {
     ghost view = { λ h. record { place = h.position; total = h.total; parity = h.parity } };
 }
 
-/// The bits of some data in the smallest Normal version in which some plan fits, by the plan that takes the fewest bits
-/// there, up to terminator and padding. Where no two neighbouring bytes are a pair of the Kanji mode, no other way to
-/// cut the bytes into segments fits a smaller version or takes fewer bits (`laws::no_segmentation_is_shorter`,
-/// `laws::frames_have_plans`).
+/// Returns the bits of some data in the smallest Normal version in which some plan fits, by the
+/// plan that takes the fewest bits there, with terminator and padding. If no two neighbouring bytes
+/// are a pair of the Kanji mode, no other way to cut the bytes into segments fits a smaller version
+/// or takes fewer bits (`laws::no_segmentation_is_shorter`, `laws::frames_have_plans`).
 ///
-/// `DataTooLong` comes where no plan fits version 40 at this level, so for more than 7089 bytes before any memory is
-/// taken; `OutOfMemory` where a growth was refused.
+/// Fails with `DataTooLong` if no plan fits version 40 at this level, which includes all data of
+/// more than 7089 bytes, before any allocation; and with `OutOfMemory` if an allocation fails.
 pub fn encode_auto(alloc: Global, bytes: &[u8], level: EcLevel) -> QrResult<Bits>
     ensures ok { IfOk result (λ bits. IsEncoding normal None bytes.now level 40 bits) }
     ensures err { IfErr result (λ e. IsUnencodable normal 0 bytes.now level 40 e) }
@@ -62,10 +69,11 @@ pub fn encode_auto(alloc: Global, bytes: &[u8], level: EcLevel) -> QrResult<Bits
     encode_up_to(alloc, &None, bytes, level, 40)
 }
 
-/// As `encode_auto`, but with no version past `max_version`.
+/// Returns the bits of some data as `encode_auto` does, but in a version of at most `max_version`.
 ///
-/// A maximum outside 1 to 40 is `InvalidResourceLimits`, which is tested first. Then `DataTooLong` comes where no plan
-/// fits any of the versions, and `OutOfMemory` where a growth was refused.
+/// Fails with `InvalidResourceLimits` if `max_version` is outside 1 to 40, which is checked first;
+/// then with `DataTooLong` if no plan fits any of the versions, and with `OutOfMemory` if an
+/// allocation fails.
 pub fn encode_auto_with_max_version(
     alloc: Global,
     bytes: &[u8],
@@ -83,15 +91,17 @@ pub fn encode_auto_with_max_version(
     encode_up_to(alloc, &None, bytes, level, max_version as usize)
 }
 
-/// The bits of one symbol of a sequence (ISO/IEC 18004, "Structured Append"): the header of 20 bits with the symbol's
-/// place from 1 on, how many symbols there are, and the exclusive or of all bytes of the message; behind it its share
-/// of the data, up to terminator and padding.
+/// Returns the bits of one symbol of a sequence (ISO/IEC 18004:2006, "Structured Append"): the
+/// header of 20 bits with the symbol's position (from 1 on), the number of symbols, and the
+/// exclusive or of all bytes of the message; after it the symbol's share of the data, terminator
+/// and padding.
 ///
-/// The version is the smallest up to `max_version` in which the header and some plan fit, and the plan takes the fewest
-/// bits there. The payload counts the header. The refusals are `InvalidResourceLimits` where the maximum is outside 1
-/// to 40, then `InvalidStructuredAppend` with the total where it is not 2 to 16, else with the position where it is not
-/// 1 to the total, then `DataTooLong` where no plan fits, so for more than 7089 bytes before any memory is taken;
-/// `OutOfMemory` where a growth was refused.
+/// The version is the smallest up to `max_version` in which the header and some plan fit, and the
+/// plan takes the fewest bits there. The payload includes the header. Fails with
+/// `InvalidResourceLimits` if `max_version` is outside 1 to 40, then with `InvalidStructuredAppend`
+/// that names the total if it is not 2 to 16, or else the position if it is not 1 to the total,
+/// then with `DataTooLong` if no plan fits, which includes all data of more than 7089 bytes, before
+/// any allocation; and with `OutOfMemory` if an allocation fails.
 pub fn encode_part(
     alloc: Global,
     bytes: &[u8],
@@ -120,11 +130,12 @@ pub fn encode_part(
     encode_up_to(alloc, &Some(header), bytes, level, max_version as usize)
 }
 
-/// The bits of some data in the smallest of M1 to M4 that has the level and the modes and in which some plan fits, as
-/// with `encode_auto`.
+/// Returns the bits of some data in the smallest of M1 to M4 that has the level and the modes and
+/// in which some plan fits, by the plan that takes the fewest bits there, as `encode_auto` does.
 ///
-/// Level H, which no Micro version has, is `InvalidVersion` with M4. Then `DataTooLong` comes where no plan fits any of
-/// the four, and `OutOfMemory` where a growth was refused.
+/// Fails with `InvalidVersion` that names M4 if the level is H, which no Micro version has;
+/// then with `DataTooLong` if no plan fits any of the four, and with `OutOfMemory` if an
+/// allocation fails.
 pub fn encode_auto_micro(alloc: Global, bytes: &[u8], level: EcLevel) -> QrResult<Bits>
     ensures ok { IfOk result (λ bits. IsEncoding micro None bytes.now level 4 bits) }
     ensures err { IfErr result (λ e. IsMicroRefused bytes.now level e) }
@@ -149,8 +160,8 @@ pub fn encode_auto_micro(alloc: Global, bytes: &[u8], level: EcLevel) -> QrResul
     Err(QrError::DataTooLong)
 }
 
-/// The least Normal version whose capacity at the level is at least so many bits, or version 40 where no version holds
-/// so many.
+/// Returns the smallest Normal version that holds at least `length` bits at the level, or version
+/// 40 if none does.
 pub fn find_min_version(length: usize, level: EcLevel) -> Version
     ensures { IsMinVersion length level result }
 {
@@ -165,7 +176,7 @@ pub fn find_min_version(length: usize, level: EcLevel) -> Version
     Version::Normal(40)
 }
 
-/// The candidate versions up to a limit, by their numbers: the last version of each class.
+/// Returns the numbers of the candidate versions up to a limit: the last version of each class.
 fn candidates(limit: usize) -> ArrayVec<usize, 3>
     requires { 1 ≤ limit }
     ensures { AreCandidates 0 result.items limit }
@@ -181,7 +192,8 @@ fn candidates(limit: usize) -> ArrayVec<usize, 3>
     candidates
 }
 
-/// The bits of the data after a header or none, in the smallest Normal version up to a limit, told by its number.
+/// Returns the bits of the data, after a header if there is one, in the smallest Normal version
+/// whose number is at most `limit`.
 fn encode_up_to(
     alloc: Global,
     header: &Option<SequenceHeader>,
@@ -212,7 +224,8 @@ fn encode_up_to(
     Err(QrError::DataTooLong)
 }
 
-/// The chosen plan of some bytes in a version, and how many bits it takes with those in front, where these fit.
+/// Returns the chosen plan of some bytes in a version, with its number of bits including the
+/// `front` bits before it, or `None` if no plan fits the version at the level.
 #[tactic(auto, using(crate::proofs::Classes::small_plans))]
 fn chosen_plan(
     alloc: Global,
@@ -239,7 +252,7 @@ fn chosen_plan(
     let Ok(limit) = data_capacity_bits(version, level) else {
         return Ok(None);
     };
-    // No mode takes less than ten bits for three bytes.
+    // No mode takes fewer than ten bits for three bytes.
     if bytes.len() / 3 * 10 > limit {
         return Ok(None);
     }
@@ -261,7 +274,8 @@ fn chosen_plan(
     Ok(Some((plan, size)))
 }
 
-/// The bits of a plan that fits a version: a header or none, the spellings of its parts, terminator and padding.
+/// Returns the bits of a plan that fits a version: the header if there is one, the segments of the
+/// plan, terminator and padding.
 fn encode_plan(
     alloc: Global,
     header: &Option<SequenceHeader>,

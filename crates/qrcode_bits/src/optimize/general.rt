@@ -1,8 +1,9 @@
-//! The chosen plan of any data, in one pass over the segments with three numbers for each start: its bits, so wide that
-//! no sum wraps, its parts and its place.
+//! The chosen plan of any data, in one pass over the segments with a `Candidate` for each start:
+//! its number of bits, in an integer that cannot overflow, its number of parts and its index.
 //!
-//! For each segment `optimize_linear` calls `advance` with its mode, then `enter` with its start, and then
-//! `last_step_from`, which asks for the `best` of each bucket; in the end `read_back` answers the parts of the plan.
+//! For each segment `optimize_linear` calls `advance` with its mode, then `enter` with its start,
+//! and then `last_step_from`, which takes the `best` start of each bucket; at the end `read_back`
+//! returns the parts of the plan.
 
 ghost use Rattle.std.specs.Prelude.{◌≡◌, ℕ, ◌+◌, ◌*◌, ◌^◌, ◌<◌, ◌≤◌, ◌≢◌, length, IfOk, IfErr};
 ghost use Rattle.std.specs.Bool.{OnTrue, OnFalse};
@@ -17,7 +18,8 @@ use qrcode_base::types::{Mode, QrError, QrResult, Version};
 use std::alloc::Global;
 use std::sync::ledger::Ledger;
 
-/// For each mode of a suffix, the best starts for each mode that a part may end in, and each rest of the begin there.
+/// The best starts, by group and bucket: a group per joined mode of the segments from the start on,
+/// and a bucket per final mode of the part and offset of its first byte modulo that mode's period.
 #[derive(Clone, Copy)]
 pub struct Groups {
     numeric: [Option<Candidate>; 8],
@@ -26,7 +28,7 @@ pub struct Groups {
     kanji: [Option<Candidate>; 8],
 }
 
-/// Takes from each bucket of one group what is better than in the other.
+/// Replaces the start in each bucket of a group by that of another group if the latter is better.
 fn absorb<L: Ledger>(
     into: &mut [Option<Candidate>],
     from: &[Option<Candidate>],
@@ -45,7 +47,7 @@ fn absorb<L: Ledger>(
     }
 }
 
-/// Offers a candidate to a bucket.
+/// Replaces the candidate in a bucket if the new one is better.
 fn offer<L: Ledger>(
     group: &mut [Option<Candidate>],
     bucket: usize,
@@ -60,7 +62,7 @@ fn offer<L: Ledger>(
     group[bucket] = better(group[bucket], Some(candidate), comparisons);
 }
 
-/// Offers a start to the four buckets of its rests.
+/// Offers a start to its four buckets, one per final mode.
 fn enter<L: Ledger>(
     group: &mut [Option<Candidate>],
     begin: usize,
@@ -86,7 +88,7 @@ fn enter<L: Ledger>(
 }
 
 impl Groups {
-    /// No start yet.
+    /// Returns groups without any start.
     pub fn new() -> Self
         ensures numeric { IsEmptyGroup result.numeric }
         ensures alphanumeric { IsEmptyGroup result.alphanumeric }
@@ -101,7 +103,7 @@ impl Groups {
         }
     }
 
-    /// Moves each group to that of its mode joined with the next segment's.
+    /// Moves the starts of each group to the group of its mode joined with the next segment's mode.
     pub fn advance<L: Ledger>(&mut self, incoming: Mode, comparisons: &mut Comparisons<L>)
         requires numeric { length self.old.numeric ≡ 8 }
         requires alphanumeric { length self.old.alphanumeric ≡ 8 }
@@ -138,7 +140,7 @@ impl Groups {
         }
     }
 
-    /// The best start in a bucket of the group of a mode.
+    /// Returns the best start in a bucket of the group of a mode, or `None`.
     pub fn best(&self, mode: Mode, bucket: usize) -> Option<Candidate>
         requires inside { bucket < length (group_of mode self.now) }
         ensures { result ≡ slot (group_of mode self.now) bucket }
@@ -186,15 +188,16 @@ impl Groups {
     }
 }
 
-/// What is kept of the chosen plan of some first segments: the start of its last part, and that part.
+/// What is kept of the chosen plan of the first segments: the start of its last part, and
+/// that part.
 #[derive(Clone, Copy)]
 pub struct Step {
     pub best: Candidate,
     pub part: Segment,
 }
 
-/// The last part of the chosen plan of as many segments as there are steps, found by trying the best start of each
-/// rest.
+/// Returns the last part of the chosen plan of the first `steps.len()` segments, by comparing the
+/// best starts of all buckets.
 pub fn last_step_from<L: Ledger>(
     segments: &[Segment],
     version: Version,
@@ -236,7 +239,8 @@ pub fn last_step_from<L: Ledger>(
     Step { best, part }
 }
 
-/// The parts of the chosen plan of all segments, from what is kept of the chosen plans of first segments.
+/// Returns the parts of the chosen plan of all segments, from what is kept of the chosen plans of
+/// first segments. Fails with `OutOfMemory` if an allocation fails.
 #[tactic(auto, using(crate::proofs::ReadBack::reads_back))]
 pub fn read_back(
     alloc: Global,
@@ -260,7 +264,8 @@ pub fn read_back(
     Ok(plan)
 }
 
-/// The chosen plan, found in one pass over the segments.
+/// Returns the chosen plan, found in one pass over the segments. Fails with `OutOfMemory` if an
+/// allocation fails.
 pub fn optimize_linear<L: Ledger>(
     alloc: Global,
     segments: &[Segment],

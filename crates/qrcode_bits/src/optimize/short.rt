@@ -1,8 +1,9 @@
-//! The chosen plan of short data, in one pass over the segments with a `Start` of 64 bits for each start.
+//! The chosen plan of short data, in one pass over the segments with a 64-bit `Start` for
+//! each start.
 //!
-//! For each segment `optimize_short` calls `advance` with its mode, then `enter` with its start, and then
-//! `last_step_short`, which asks for the `best` of each bucket; in the end `read_back_short` returns the parts of the
-//! plan.
+//! For each segment `optimize_short` calls `advance` with its mode, then `enter` with its start,
+//! and then `last_step_short`, which takes the `best` start of each bucket; at the end
+//! `read_back_short` returns the parts of the plan.
 
 ghost use Rattle.std.specs.Prelude.{◌≡◌, ℕ, ◌+◌, ◌*◌, ◌-◌, ◌/◌, ◌%◌, ◌^◌, ◌<◌, ◌≤◌, length, IfOk, IfErr};
 ghost use Rattle.qrcode_base.specs.Symbols.{HasMicroNumber};
@@ -19,7 +20,8 @@ use qrcode_base::types::{Mode, QrError, QrResult, Version};
 use std::alloc::Global;
 use std::sync::ledger::Ledger;
 
-/// For each mode of a suffix, the best starts for each mode that a part may end in, and each rest of the begin there.
+/// The best starts, by group and bucket: a group per joined mode of the segments from the start on,
+/// and a bucket per final mode of the part and offset of its first byte modulo that mode's period.
 #[derive(Clone, Copy)]
 struct Words {
     numeric: [Start; 8],
@@ -28,7 +30,8 @@ struct Words {
     kanji: [Start; 8],
 }
 
-/// Takes what is better in another group, bucket by bucket, from the first one that is needed to that of Byte.
+/// Replaces the start in each bucket of a group, from `first` to Byte, by that of another group if
+/// the latter is better.
 #[tactic(auto, using(crate::proofs::WordStarts::starts_of_words))]
 fn absorb<L: Ledger>(
     into: &mut [Start],
@@ -48,7 +51,7 @@ fn absorb<L: Ledger>(
     }
 }
 
-/// Offers a start to a bucket, which keeps the better one, where the group needs it.
+/// Replaces the start in a bucket if the new one is better and the group needs the bucket.
 fn offer<L: Ledger>(
     group: &mut [Start],
     mode: Mode,
@@ -73,7 +76,7 @@ fn offer<L: Ledger>(
     }
 }
 
-/// Offers a start to the buckets of its rests.
+/// Offers a start to its four buckets, one per final mode.
 fn enter<L: Ledger>(
     group: &mut [Start],
     mode: Mode,
@@ -103,7 +106,7 @@ fn enter<L: Ledger>(
     offer(group, mode, 6 + begin % 2, characters, comparisons);
 }
 
-/// No start in any bucket.
+/// Returns a group with no start in any bucket.
 #[tactic(auto, using(crate::proofs::WordStarts::starts_of_words))]
 fn no_starts() -> [Start; 8]
     ensures empty { IsEmptyGroup (starts_in result) }
@@ -113,7 +116,7 @@ fn no_starts() -> [Start; 8]
 }
 
 impl Words {
-    /// No start yet.
+    /// Returns groups without any start.
     #[tactic(auto, using(crate::proofs::WordStarts::starts_of_words))]
     fn new() -> Self
         ensures numeric { IsEmptyGroup (told result).numeric }
@@ -130,7 +133,7 @@ impl Words {
         }
     }
 
-    /// Moves each group to that of its mode joined with the next segment's.
+    /// Moves the starts of each group to the group of its mode joined with the next segment's mode.
     #[tactic(auto, using(crate::proofs::WordStarts::starts_of_words))]
     fn advance<L: Ledger>(&mut self, incoming: Mode, comparisons: &mut Comparisons<L>)
         requires whole { AreWhole self.old }
@@ -205,7 +208,7 @@ impl Words {
         }
     }
 
-    /// The best start in a bucket of the group of a mode, or none.
+    /// Returns the best start in a bucket of the group of a mode, or the empty start.
     #[tactic(auto, using(crate::proofs::WordStarts::starts_of_words))]
     fn best(&self, mode: Mode, bucket: usize) -> Start
         requires inside { bucket < 8 }
@@ -221,7 +224,8 @@ impl Words {
     }
 }
 
-/// How many bits stand in front of the characters of each mode.
+/// How many bits precede the characters of a segment in each mode: mode indicator and
+/// character count.
 #[derive(Clone, Copy)]
 struct Headers {
     numeric: usize,
@@ -231,7 +235,7 @@ struct Headers {
 }
 
 impl Headers {
-    /// The widths of indicator and count in a version.
+    /// Returns the widths of indicator and count together in a version.
     fn new(version: Version) -> Self
         requires { HasMicroNumber version }
         ensures { AreHeaders version result }
@@ -245,7 +249,7 @@ impl Headers {
         }
     }
 
-    /// What a part of so many bytes takes in a mode.
+    /// Returns how many bits a part of `size` bytes takes in a mode.
     fn cost(&self, mode: Mode, size: usize) -> u64
         requires size { size < 8192 }
         requires small { header_in self.now mode < 2 ^ 16 }
@@ -261,20 +265,23 @@ impl Headers {
     }
 }
 
-/// The bits of a period of bytes in the mode of each bucket: three digits, two characters, one byte, a pair of bytes.
+/// How many bits a period takes in the mode of each bucket: three digits, two characters, one byte,
+/// a pair of bytes.
 const PERIOD_BITS: [u64; 8] = [10, 10, 10, 11, 11, 8, 13, 13];
 
-/// The rest of the begins in each bucket.
+/// The offset of the first byte modulo the period, for each bucket.
 const RESTS: [usize; 8] = [0, 1, 2, 0, 1, 0, 0, 1];
 
-/// What is kept of the chosen plan of some first segments: its last part's start, and that part's mode.
+/// What is kept of the chosen plan of the first segments: the start of its last part, and the mode
+/// of that part.
 #[derive(Clone, Copy)]
 struct ShortStep {
     start: Start,
     mode: Mode,
 }
 
-/// The last part of the chosen plan of the first `end` segments, found by trying the best start of each rest.
+/// Returns the last part of the chosen plan of the first `end` segments, by comparing the best
+/// starts of all buckets.
 #[tactic(auto, using(crate::proofs::ShortSteps::short_costs))]
 fn last_step_short<L: Ledger>(
     segments: &[Segment],
@@ -315,7 +322,8 @@ fn last_step_short<L: Ledger>(
     }
 }
 
-/// The parts of the chosen plan of all segments, from what is kept of the chosen plans of first segments.
+/// Returns the parts of the chosen plan of all segments, from what is kept of the chosen plans of
+/// first segments. Fails with `OutOfMemory` if an allocation fails.
 #[tactic(auto, using(crate::proofs::ReadBack::reads_back))]
 fn read_back_short(
     alloc: Global,
@@ -344,7 +352,8 @@ fn read_back_short(
     Ok(plan)
 }
 
-/// The chosen plan of short data, found in one pass over the segments.
+/// Returns the chosen plan of short data, found in one pass over the segments. Fails with
+/// `OutOfMemory` if an allocation fails.
 pub fn optimize_short<L: Ledger>(
     alloc: Global,
     segments: &[Segment],

@@ -1,4 +1,4 @@
-//! Starts of the last part of a plan of short data, and the one way to compare two of them.
+//! Starts of the last part of a plan of short data, and the one function that compares two of them.
 
 ghost use Rattle.std.specs.Prelude.{◌≡◌, ◌+◌, ◌*◌, ◌-◌, ◌/◌, ◌%◌, ◌^◌, ◌<◌, ◌≤◌, min};
 ghost use Rattle.std.specs.Bool.{OnTrue, OnFalse};
@@ -8,9 +8,10 @@ use super::Comparisons;
 use std::marker::Model;
 use std::sync::ledger::Ledger;
 
-/// A start that a last part may have, or none, in a word of 64 bits: the bits of the plan above, then 13 bits for its
-/// parts, then 13 bits that fall as the index of the segment grows. So the lesser word is the better start: fewer bits,
-/// then fewer parts, then the later segment. No start is the greatest word.
+/// A possible start of the last part, or none, in a word of 64 bits: the number of bits of the plan
+/// in the high bits, then 13 bits for its number of parts, then 13 bits that decrease as the index
+/// of the segment increases. So the lesser word is the better start: fewer bits, then fewer parts,
+/// then the later segment. The greatest word is no start.
 #[derive(Clone, Copy)]
 pub struct Start {
     word: u64,
@@ -28,7 +29,7 @@ impl Model for Start {
 }
 
 impl Start {
-    /// The start of a last part at the segment of an index, by which a plan has so many parts and takes so many bits.
+    /// Returns the start at the segment of an index, for a plan of `bits` bits in `parts` parts.
     pub fn new(bits: u64, parts: usize, index: usize) -> Self
         requires bits { bits < 2 ^ 20 }
         requires parts { parts < 8192 }
@@ -41,14 +42,14 @@ impl Start {
         }
     }
 
-    /// No start.
+    /// Returns the word for no start.
     pub fn none() -> Self
         ensures { result ≡ 18446744073709551615 }
     {
         Start { word: u64::MAX }
     }
 
-    /// Whether it is a start. The words of starts are far below that of none.
+    /// Returns whether this is a start. The words of starts are far below that of none.
     pub fn is_some(&self) -> bool
         ensures some { OnTrue result (self.now < 2 ^ 50) }
         ensures none { OnFalse result (2 ^ 50 ≤ self.now) }
@@ -56,7 +57,7 @@ impl Start {
         self.word < 1 << 50
     }
 
-    /// The same start with bits added, and others taken away.
+    /// Returns the same start with `more` bits added and `less` bits subtracted.
     pub fn moved(&self, more: u64, less: u64) -> Self
         requires some { self.now < 2 ^ 50 }
         requires more { more < 2 ^ 18 }
@@ -68,28 +69,29 @@ impl Start {
         }
     }
 
-    /// The bits of the plan.
+    /// Returns the number of bits of the plan.
     pub fn bits(&self) -> u64
         ensures { result ≡ self.now / 2 ^ 26 }
     {
         self.word >> 26
     }
 
-    /// The parts of the plan, with the last one.
+    /// Returns the number of parts of the plan, including the last one.
     pub fn parts(&self) -> usize
         ensures { result ≡ self.now % 2 ^ 26 / 2 ^ 13 }
     {
         (self.word % (1 << 26) >> 13) as usize
     }
 
-    /// The index of the segment at which the last part starts.
+    /// Returns the index of the segment at which the last part starts.
     pub fn index(&self) -> usize
         ensures { result ≡ 8191 - self.now % 2 ^ 26 % 2 ^ 13 }
     {
         8191 - (self.word % (1 << 26) % (1 << 13)) as usize
     }
 
-    /// Whether it is better than another one. Nothing else compares two starts, and each call is counted.
+    /// Returns whether this start is better than another one. Nothing else compares two starts, and
+    /// each call is counted.
     pub fn is_better<L: Ledger>(&self, other: &Start, comparisons: &mut Comparisons<L>) -> bool
         ensures wins { OnTrue result (self.now < other.now) }
         ensures loses { OnFalse result (other.now ≤ self.now) }
@@ -99,7 +101,7 @@ impl Start {
         self.word < other.word
     }
 
-    /// The better of two.
+    /// Returns the better of two starts.
     pub fn better<L: Ledger>(&self, other: &Start, comparisons: &mut Comparisons<L>) -> Start
         ensures better { result ≡ min self.now other.now }
         ensures ticked { comparisons.new ≡ comparisons.old + 1 }

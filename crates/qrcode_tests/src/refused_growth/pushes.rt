@@ -1,4 +1,4 @@
-//! Pushes whose growths are refused.
+//! Pushes whose allocations fail.
 
 use qrcode_core::bits::{Bits, EncodingModes, ExtendedMode};
 use qrcode_core::mode::ByteMode;
@@ -7,7 +7,7 @@ use qrcode_core::types::{EcLevel, Mode, QrError, QrResult, Version};
 use std::alloc::Global;
 use std::process::Abort;
 
-/// One push.
+/// A push.
 #[derive(Clone, Copy)]
 enum Push {
     Number(usize, usize),
@@ -26,7 +26,7 @@ enum Push {
 }
 
 impl Push {
-    /// Does the push.
+    /// Performs the push.
     fn apply(self, bits: &mut Bits) -> QrResult<()> {
         match self {
             Push::Number(width, number) => bits.push_number_checked(width, number),
@@ -48,7 +48,7 @@ impl Push {
     }
 }
 
-/// What each push writes into an empty stream of version 1: so many bits, and their bytes.
+/// What each push appends to an empty stream of version 1: the number of bits, and their bytes.
 static ROWS: [(Push, usize, &[u8]); 13] = [
     (Push::Number(16, 65535), 16, &[0xff, 0xff]),
     (Push::Indicator(ExtendedMode::Eci), 4, &[0x70]),
@@ -81,7 +81,7 @@ static ROWS: [(Push, usize, &[u8]); 13] = [
     (Push::Reserve(1000), 0, &[]),
 ];
 
-/// A refused push leaves an empty stream empty.
+/// A push that fails leaves an empty stream empty.
 #[test]
 fn single_pushes(rt: HostRuntime) -> QrResult<()> {
     for (push, len, bytes) in &ROWS {
@@ -98,7 +98,7 @@ fn single_pushes(rt: HostRuntime) -> QrResult<()> {
     Ok(())
 }
 
-/// Nothing stands in a stream.
+/// Checks that a stream is empty.
 fn is_as_new(rt: &impl Abort, bits: Bits) {
     assert!(rt; bits.is_empty() && bits.payload_bits_len() == 0);
     assert!(rt; bits.encoding_modes().is_empty());
@@ -111,7 +111,7 @@ static ENDED: [u8; 19] = [
     0x11, 0xec, 0x11,
 ];
 
-/// Pushes that no room is left for, and how many bits they add.
+/// Pushes for which there is no room left, and how many bits they append.
 static LONG: [(Push, usize); 4] = [
     (Push::Numeric(&[b'7'; 999]), 4 + 10 + 3330),
     (Push::Alphanumeric(&[b'A'; 400]), 4 + 9 + 2200),
@@ -119,7 +119,7 @@ static LONG: [(Push, usize); 4] = [
     (Push::Reserve(5000), 0),
 ];
 
-/// A stream of the letter a, ended.
+/// Returns a stream of the letter a, ended.
 fn ended(alloc: Global) -> QrResult<Bits> {
     let mut bits = Bits::new(alloc, Version::Normal(1));
     bits.push_byte_data(b"a")?;
@@ -127,7 +127,7 @@ fn ended(alloc: Global) -> QrResult<Bits> {
     Ok(bits)
 }
 
-/// A refused push leaves an ended stream with its bits, its modes and its payload.
+/// A push that fails leaves an ended stream with its bits, its modes and its payload.
 #[test]
 fn pushes_behind_an_end(rt: HostRuntime) -> QrResult<()> {
     for (push, added) in &LONG {
@@ -144,14 +144,15 @@ fn pushes_behind_an_end(rt: HostRuntime) -> QrResult<()> {
     Ok(())
 }
 
-/// The stream is as it was ended.
+/// Checks that the stream is as it was when it was ended.
 fn is_ended(rt: &impl Abort, bits: Bits) {
     assert_eq!(rt; (bits.len(), bits.payload_bits_len()), (152, 20));
     assert!(rt; bits.encoding_modes() == EncodingModes::from_mode(Mode::Byte));
     assert!(rt; bits.into_bytes().as_slice() == ENDED.as_slice());
 }
 
-/// After `reserve` no push of as many bits wants memory, so that only the one growth of `reserve` is met.
+/// After `reserve` pushes of as many bits do not allocate, so that the only allocation is that
+/// of `reserve`.
 #[test]
 fn pushes_after_reserve(rt: HostRuntime) -> QrResult<()> {
     let mut bits = Bits::new(rt.alloc(), Version::Normal(1));
@@ -169,10 +170,11 @@ fn pushes_after_reserve(rt: HostRuntime) -> QrResult<()> {
     Ok(())
 }
 
-/// How many bits stand after none, one, two and all of three segments: forty digits, forty letters a, forty letters A.
+/// The number of bits after none, one, two and all of three segments: forty digits, forty letters
+/// a, forty letters A.
 static LENGTHS: [usize; 4] = [0, 148, 480, 713];
 
-/// Forty digits, forty small letters and forty capitals.
+/// Returns forty digits, forty small letters and forty capitals.
 fn forty_of_each() -> [u8; 120] {
     let mut bytes = [b'7'; 120];
     bytes[40..80].fill(b'a');
@@ -180,7 +182,7 @@ fn forty_of_each() -> [u8; 120] {
     bytes
 }
 
-/// Whether exactly the first few segments are there, but not all, and their modes.
+/// Returns whether exactly the first segments are present, but not all, with their modes.
 fn has_first_segments(bits: &Bits) -> bool {
     let modes = bits.encoding_modes();
     let kept = modes.len();

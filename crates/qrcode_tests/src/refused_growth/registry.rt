@@ -1,4 +1,4 @@
-//! Registrations and configurations whose growths are refused.
+//! Registrations and configurations whose allocations fail.
 
 use crate::registry_tests::{Darken, Plain, Text};
 use qrcode_core::plugin::{
@@ -9,33 +9,34 @@ use qrcode_core::types::Color;
 use std::alloc::Global;
 use std::process::Abort;
 
-/// A renderer and its name.
+/// Returns a renderer with its name.
 fn named(alloc: Global, name: &str) -> Result<(String, Box<dyn DynRenderer>), PluginError> {
     let renderer: Box<dyn DynRenderer> = Box::new(alloc, Text)?;
     Ok((String::from_str(alloc, name)?, renderer))
 }
 
-/// Two renderers and their names.
+/// Returns two renderers with their names.
 fn renderers(alloc: Global) -> Result<Vec<(String, Box<dyn DynRenderer>)>, PluginError> {
     let first = named(alloc, "first")?;
     let second = named(alloc, "second")?;
     Ok(Vec::from_array(alloc, [first, second])?)
 }
 
-/// An encoder and its name.
+/// Returns an encoder with its name.
 fn encoders(alloc: Global) -> Result<Vec<(String, Box<dyn DynEncoder>)>, PluginError> {
     let encoder: Box<dyn DynEncoder> = Box::new(alloc, Plain)?;
     let name = String::from_str(alloc, "third")?;
     Ok(Vec::from_array(alloc, [(name, encoder)])?)
 }
 
-/// A postprocessor.
+/// Returns a postprocessor.
 fn postprocessors(alloc: Global) -> Result<Vec<Box<dyn PostProcessor>>, PluginError> {
     let postprocessor: Box<dyn PostProcessor> = Box::new(alloc, Darken { x: 0 })?;
     Ok(Vec::from_array(alloc, [postprocessor])?)
 }
 
-/// A plugin of five registrations: its version, two renderers, an encoder and a postprocessor.
+/// Returns a plugin of five registrations: its version, two renderers, an encoder and
+/// a postprocessor.
 fn bundle(alloc: Global) -> Result<QrPlugin, PluginError> {
     Ok(QrPlugin {
         name: String::from_str(alloc, "bundle")?,
@@ -46,7 +47,7 @@ fn bundle(alloc: Global) -> Result<QrPlugin, PluginError> {
     })
 }
 
-/// The registrations of the plugin that are there, in their order.
+/// Returns which registrations of the plugin are present, in their order.
 fn registrations(registry: &PluginRegistry) -> [bool; 5] {
     [
         registry.plugin_version("bundle") == Some("0.1.0"),
@@ -57,12 +58,12 @@ fn registrations(registry: &PluginRegistry) -> [bool; 5] {
     ]
 }
 
-/// Names for renderers that are there before.
+/// Names of renderers that are registered before the plugin.
 static EARLIER: [&str; 16] = [
     "a", "b", "c", "d", "e", "g", "h", "i", "j", "k", "l", "m", "n", "o", "p", "q",
 ];
 
-/// A registry with some renderers.
+/// Returns a registry with the first `earlier` of these renderers.
 fn registry_of(alloc: Global, earlier: usize) -> Result<PluginRegistry, PluginError> {
     let mut registry = PluginRegistry::new(alloc);
     for name in EARLIER.iter().take(earlier) {
@@ -71,8 +72,8 @@ fn registry_of(alloc: Global, earlier: usize) -> Result<PluginRegistry, PluginEr
     Ok(registry)
 }
 
-/// How many registrations of the plugin there are, where they are the first of it: 5 where it succeeded, and fewer
-/// where it did not.
+/// Returns how many registrations of the plugin are present: 5 if it succeeded, and otherwise
+/// fewer, which must be the first ones.
 fn kept_of(there: [bool; 5], succeeded: bool) -> Option<usize> {
     let kept = there.iter().take_while(|is| **is).count();
     if there.iter().skip(kept).any(|is| *is) || succeeded != (kept == 5) {
@@ -81,24 +82,24 @@ fn kept_of(there: [bool; 5], succeeded: bool) -> Option<usize> {
     Some(kept)
 }
 
-/// How many registrations of the plugin there are after it was registered where some renderers were there: 5, or the
-/// first so many where a growth was refused.
+/// Registers the plugin after some renderers, and returns how many of its registrations are
+/// present: 5, or fewer if an allocation failed, which must be the first ones.
 fn kept_after(alloc: Global, earlier: usize) -> Result<usize, PluginError> {
     let mut registry = registry_of(alloc, earlier)?;
     let succeeded = registry.register_plugin(bundle(alloc)?).is_ok();
     kept_of(registrations(&registry), succeeded).ok_or(PluginError::InvalidModuleGrid)
 }
 
-/// A refused growth, and how many registrations stood before it; tools/refuse-growth wants to see each number from 0 to
-/// 4.
+/// An allocation failed: how many registrations were made before that. `tools/refuse-growth`
+/// requires each number from 0 to 4 to occur.
 #[derive(Debug, Drop)]
 enum Refused {
     OutOfMemory { kept: usize },
     Other(PluginError),
 }
 
-/// A refusal keeps the first registrations, and no other. (A map grows once for several names, so that the second
-/// renderer grows it only where others were there before.)
+/// On an error the first registrations are kept, and no others. (A map allocates once for several
+/// names, so that the second renderer makes it allocate only if others were registered before.)
 #[test]
 fn register_plugin_of_five(rt: HostRuntime) -> Result<(), Refused> {
     for earlier in 0..EARLIER.len() {
@@ -111,7 +112,7 @@ fn register_plugin_of_five(rt: HostRuntime) -> Result<(), Refused> {
     Ok(())
 }
 
-/// A refused registration leaves the registry as it was.
+/// A registration that fails leaves the registry unchanged.
 #[test]
 fn single_registrations(rt: HostRuntime) -> Result<(), PluginError> {
     let mut registry = PluginRegistry::new(rt.alloc());
@@ -148,7 +149,7 @@ fn single_encoder(
     Ok(())
 }
 
-/// The name of a renderer that is not found.
+/// Returns the name in the error for a missing renderer.
 fn missing_renderer(alloc: Global) -> Result<String, PluginError> {
     let registry = PluginRegistry::new(alloc);
     let built = registry.build_renderer("missing", &RenderConfig::new(alloc));
@@ -159,7 +160,7 @@ fn missing_renderer(alloc: Global) -> Result<String, PluginError> {
     }
 }
 
-/// The name of an encoder that is not found.
+/// Returns the name in the error for a missing encoder.
 fn missing_encoder(alloc: Global) -> Result<String, PluginError> {
     let registry = PluginRegistry::new(alloc);
     let built = registry.build_encoder("missing", &EncodeConfig::new(alloc));

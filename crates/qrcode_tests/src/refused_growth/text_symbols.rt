@@ -1,5 +1,5 @@
-//! Symbols of texts. Their hashes are those of what the original crate draws of the same pushes in the smallest
-//! version.
+//! Symbols of texts. Their hashes are those of the symbols that the original crate draws for the
+//! same pushes in the smallest version.
 use crate::grids::hash;
 use qrcode_core::types::{EcLevel, QrError, QrResult};
 use std::str;
@@ -12,7 +12,7 @@ fn utf8_symbol_of_thanks(rt: HostRuntime) -> QrResult<()> {
     Ok(())
 }
 
-/// A number of goods and a batch, with the byte 1D hex between them.
+/// The number of an article and a batch, with the byte 1D (hex) between them.
 #[test]
 fn gs1_symbol_of_a_batch(rt: HostRuntime) -> QrResult<()> {
     let elements = b"01049123451234591597033130128\x1D10ABC123";
@@ -21,8 +21,8 @@ fn gs1_symbol_of_a_batch(rt: HostRuntime) -> QrResult<()> {
     Ok(())
 }
 
-/// Version 40 has 23648 bits at level L. FNC1, the header of digits and 7089 of them take 4, 18 and 23630: where memory
-/// is found, the call says that no version holds them.
+/// Version 40 has 23648 bits at level L. FNC1, the header of digits and 7089 of them take 4, 18 and
+/// 23630: if the allocations succeed, the call returns `DataTooLong`.
 #[test]
 fn gs1_symbol_of_too_many_digits(rt: HostRuntime) -> QrResult<()> {
     let refused = gs1_symbol(rt.alloc(), &[b'7'; 7089], EcLevel::L).err();
@@ -33,8 +33,8 @@ fn gs1_symbol_of_too_many_digits(rt: HostRuntime) -> QrResult<()> {
     Ok(())
 }
 
-/// More bytes than any symbol holds are refused without memory. So is each text that is too long: the designator, the
-/// header of bytes and 2953 of them take 12, 20 and 23624 bits.
+/// More bytes than any symbol holds are rejected without an allocation. So is each text that is too
+/// long: the designator, the header of bytes and 2953 of them take 12, 20 and 23624 bits.
 #[test]
 fn texts_of_too_many_bytes(rt: HostRuntime) {
     let digits = [b'7'; 7090];

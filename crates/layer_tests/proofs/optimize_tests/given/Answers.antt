@@ -1,4 +1,4 @@
--- The iterator gives the segments of the slice.
+-- The iterator returns the segments of the slice.
 use Rattle.std.proofs.Common.{rules, ◌≡◌, ◌≤◌, ◌∙◌, List, length, sym, subst}
 use Rattle.std.proofs.lemmas.Iterator.{YieldsList-from_slice, items_from_drains}
 use Rattle.std.proofs.lemmas.Iterator.Consumers.{YieldsList-from_copied}

@@ -1,4 +1,4 @@
--- The ledger's name and parts are the sheet's.
+-- The ledger has the name and the parts of the `Blank`.
 use Rattle.layer_tests.proofs.optimize_tests.plan_by_count.Given as goal
 
 abbrev pub ghosts-counted : goal.ghosts-counted

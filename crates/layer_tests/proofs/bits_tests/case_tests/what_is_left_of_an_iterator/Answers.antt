@@ -1,4 +1,4 @@
--- The segments lie in the bytes.
+-- The segments lie within the bytes.
 use Rattle.std.proofs.Common.{rules, length, List, [], ◌∷◌, Option, ap}
 use Rattle.std.specs.Iterator.{Yields}
 use Rattle.std.proofs.iter.Yields.{copies, fronts}
@@ -8,7 +8,7 @@ use Rattle.qrcode_bits.specs.Spelling.{LiesIn}
 use Rattle.qrcode_bits.proofs.Listed.{given_all}
 use Rattle.layer_tests.proofs.bits_tests.case_tests.what_is_left_of_an_iterator.Goals as goal
 
--- what comes of an iterator that is lent comes of the iterator
+-- what is taken through a borrow of an iterator is taken from the iterator
 lent : {S T A : Type 0} (f : T → S) (gives : S → Option A → S → Type 0) (xs : List A) (s t : T) →
     Yields (λ a r b. gives (f a) r (f b)) s xs t → Yields gives (f s) xs (f t)
 lent f gives [] s t e = ap f e

@@ -1,4 +1,4 @@
--- The segments that came, and the one that is pushed.
+-- The segments that were taken, and the one that is pushed.
 use Rattle.qrcode_bits.proofs.Prelude.{◌≡◌, List, [], ◌∷◌, ◌++◌, refl, sym, ◌∙◌, subst, append-nil, inl, inr, Ok, Err, err_from_is_err_and, Piece}
 use Rattle.qrcode_bits.proofs.Prelude.{segment_piece, segment_pieces, LiesIn, Segment, Option, Some, All, ℕ, Stream, Spells, StopsAt, QrError, IsPushRefused}
 use Rattle.std.{specs.Iterator.Yields, specs.Iterator.DrainsIf, proofs.iter.Next.Yields-more}
@@ -6,7 +6,7 @@ use Rattle.qrcode_bits.proofs.Pushes.{PushesInTurn, in_turn, pieces_more, last_o
 use Rattle.qrcode_bits.proofs.bits.Bits.push_from.Invariants.{InTurn}
 use Rattle.qrcode_bits.proofs.bits.Bits.push_from.Goals as goal
 
--- what came last lies in the data
+-- the last segment that was taken lies within the data
 drawn_lies : {S : Type 0} (gives : S → Option Segment → S → Type 0) (start now next : S) (xs : List Segment) (x : Segment) (n : ℕ) →
     Yields gives start xs now → gives now (Some x) next → ((ys : List Segment) → DrainsIf gives ⊥ start ys → All (LiesIn n) ys) → LiesIn n x
 drawn_lies gives start now next xs x n came step within =

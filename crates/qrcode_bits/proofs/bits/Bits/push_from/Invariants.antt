@@ -1,4 +1,4 @@
--- Some segments came, and what they and others do is what the others do from here.
+-- Some segments were taken; pushing them and others is pushing the others from here.
 use Rattle.qrcode_bits.proofs.Prelude.{List, ◌++◌, Result, QrError, Stream, Piece, Segment, segment_pieces, ℕ}
 use Rattle.std.specs.Iterator.{Yields, IsFinite, size}
 use Rattle.qrcode_bits.proofs.Pushes.{PushesInTurn}

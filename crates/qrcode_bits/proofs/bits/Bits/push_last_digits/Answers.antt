@@ -1,4 +1,4 @@
--- Three digits, or the rest.
+-- Three digits, or those that are left.
 use Rattle.qrcode_bits.proofs.{Prelude.common_steps, Prelude.arith, Prelude.All-drop, Digits.digits_step}
 use Rattle.qrcode_bits.proofs.bits.Bits.push_last_digits.Goals as goal
 

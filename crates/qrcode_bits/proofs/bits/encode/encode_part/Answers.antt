@@ -1,4 +1,4 @@
--- The limit is one of 1 to 40, and the place one of the sequence.
+-- The limit is one of 1 to 40, and the position one of the sequence.
 use Rattle.qrcode_bits.proofs.Prelude.{◌≡◌, ℤ, ap, arith, nat_abs, ints, to_z-of_z, IfErr-weaker, header_of}
 use mir.Val.{to_z, of_z}
 use mir.Syntax.{w16}

@@ -1,4 +1,4 @@
--- The parts of a plan that fits are spelled and ended; only memory can be wanting.
+-- The parts of a plan that fits are spelled and ended; only an allocation can fail.
 use Rattle.qrcode_bits.proofs.Prelude.{rules, arith, err_from_is_err_and, common_steps}
 use Rattle.qrcode_bits.proofs.{Pairs.bytes_valid, Texts.plan_lies, Pushes.spellable_refused}
 use Rattle.qrcode_bits.proofs.Encodings.{part_spellable, pushed_none, pushed_more, plan_end_refused, plan_stream}

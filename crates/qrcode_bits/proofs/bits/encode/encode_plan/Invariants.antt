@@ -1,4 +1,4 @@
--- What was pushed and the parts from here on are the whole plan; each part lies in the data.
+-- What was pushed and the parts from here on are the whole plan; each part lies within the data.
 use Rattle.qrcode_bits.proofs.{Prelude.All, Prelude.length, Prelude.LiesIn, Encodings.IsPushedTo}
 use Rattle.qrcode_bits.proofs.bits.encode.encode_plan.Given as goal
 

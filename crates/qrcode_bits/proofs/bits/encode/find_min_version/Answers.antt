@@ -1,4 +1,4 @@
--- No version was found that holds so many bits.
+-- No version was found that holds that many bits.
 use Rattle.qrcode_bits.proofs.{Prelude.refl, Prelude.inr, Prelude.arith, Choices.none_holds}
 use Rattle.qrcode_bits.proofs.bits.encode.find_min_version.Goals as goal
 

@@ -1,4 +1,4 @@
--- No version before this one holds so many bits.
+-- No version before this one holds that many bits.
 use Rattle.qrcode_bits.proofs.Choices.{HoldsLess}
 use Rattle.qrcode_bits.proofs.bits.encode.find_min_version.Given as goal
 

@@ -1,4 +1,4 @@
--- The start enters its buckets, one after the other.
+-- The start is added to its buckets, one after the other.
 use Rattle.qrcode_bits.proofs.{Prelude.rules, Prelude.arith, WordStarts.enters_words}
 use Rattle.qrcode_bits.proofs.optimize.short.enter.Goals as goal
 

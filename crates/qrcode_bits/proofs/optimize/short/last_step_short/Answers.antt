@@ -1,4 +1,4 @@
--- The best start of each rest was tried, by its word.
+-- The best start of each bucket was tried, by its word.
 use Rattle.qrcode_bits.proofs.Prelude.{ℕ, ◌*◌, arith, ap, sym, ◌∙◌, period_bits, common_steps}
 use Rattle.qrcode_bits.proofs.ShortSteps.{rest-at, period_bits-at, cost-small, short-rest, short-enough, sought-keeps, sought-takes, sought-nothing}
 use Rattle.qrcode_bits.proofs.ShortSteps.{sought-last}

@@ -1,4 +1,4 @@
--- Each group that goes is absorbed and cleared.
+-- Each group that moves is absorbed and cleared.
 use Rattle.qrcode_bits.proofs.{Prelude.rules, Prelude.arith, Grouping.none_in}
 use Rattle.qrcode_bits.proofs.optimize.general.Groups.advance.Goals as goal
 

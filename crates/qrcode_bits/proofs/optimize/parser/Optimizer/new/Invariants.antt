@@ -1,4 +1,4 @@
--- The list has what came so far.
+-- The list has what was taken so far.
 use Rattle.qrcode_bits.proofs.Prelude.{◌≡◌}
 use Rattle.qrcode_bits.proofs.optimize.parser.Optimizer.new.Given as goal
 

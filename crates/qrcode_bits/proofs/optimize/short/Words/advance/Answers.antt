@@ -1,4 +1,4 @@
--- Three groups go to that of Byte.
+-- Three groups are absorbed by that of Byte.
 use Rattle.qrcode_bits.proofs.{Prelude.arith, WordStarts.no_starts}
 use Rattle.qrcode_bits.proofs.optimize.short.Words.advance.Goals as goal
 
