@@ -6,7 +6,7 @@
 //!
 //! ```text
 //! let mut registry = PluginRegistry::new(alloc);
-//! registry.register_renderer("svg", Box::new(alloc, Svg {})?)?;
+//! registry.register_renderer("svg", Box::new(alloc, Svg)?)?;
 //! let config = RenderConfig::new(alloc).with_option("scale", "8")?;
 //! let output = registry.build_renderer("svg", &config)?.render(alloc, &view, &config)?;
 //! ```
