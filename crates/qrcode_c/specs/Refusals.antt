@@ -54,8 +54,8 @@ pub record IsAsked (message cuts : List ℕ) (limit : ℤ) (index : ℕ) : Type 
   pub is_part : index ≤ length cuts
   pub is_limit : IsNormalNumber limit
 
--- Among the best symbols of the message, the one at the index has more modules than the buffer has
--- bytes.
+-- Among the best symbols of the message, the one at the index has more modules than the buffer
+-- has bytes.
 pub record IsPartAbove (room : ℕ) (message cuts : List ℕ) (level : EcLevel) (limit : ℤ) (index : ℕ) : Type 0 where
   pub symbols : List DrawnSymbol
   pub are_best : AreBestSymbols message cuts level (nat_abs limit) (map modules_of symbols)

@@ -13,8 +13,7 @@ abbrev pub version_number : Version → ℤ
 version_number (Normal number) = number
 version_number (Micro number) = number
 
--- The number of a mask pattern in the symbols of a version (ISO/IEC 18004:2006, format
--- information).
+-- The number of a mask pattern in a version's format information (ISO/IEC 18004:2006).
 abbrev pub mask_number : Version → MaskPattern → ℤ
 mask_number (Normal _) mask = pos (normal_number mask)
 mask_number (Micro _) mask = pos (unwrap_or (micro_number mask) 0)

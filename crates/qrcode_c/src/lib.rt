@@ -36,8 +36,8 @@ pub const DONE: i32 = 0;
 /// # Errors
 ///
 /// On an error nothing is written. The status is, in this order: `InvalidLevel`; `DataTooLong`
-/// exactly where the bytes fit no version at the level; `OutOfMemory` where an allocation failed;
-/// `ShortBuffer`.
+/// exactly where the bytes fit no version at the level; `OutOfMemory` where an allocation
+/// failed; `ShortBuffer`.
 #[unsafe(no_mangle)]
 pub extern "C" fn qrcode_c_symbol(
     alloc: Global,
@@ -92,12 +92,12 @@ pub extern "C" fn qrcode_c_micro_symbol(
 ///
 /// # Errors
 ///
-/// On an error nothing is written. The status is, in this order: `InvalidLevel`; `InvalidCuts` if a
-/// cut is less than the one before it, or greater than the length; `InvalidIndex` if the index is
-/// not less than the number of parts; `InvalidMaxVersion` if the greatest version is not 1 to 40;
-/// `InvalidPartCount` if the number of parts is not 2 to 16; `DataTooLong` exactly where some part
-/// and its header fit no version up to the greatest; `OutOfMemory` where an allocation failed;
-/// `ShortBuffer`.
+/// On an error nothing is written. The status is, in this order: `InvalidLevel`; `InvalidCuts` if
+/// a cut is less than the one before it, or greater than the length; `InvalidIndex` if the index
+/// is not less than the number of parts; `InvalidMaxVersion` if the greatest version is not 1 to
+/// 40; `InvalidPartCount` if the number of parts is not 2 to 16; `DataTooLong` exactly where some
+/// part and its header fit no version up to the greatest; `OutOfMemory` where an allocation
+/// failed; `ShortBuffer`.
 #[unsafe(no_mangle)]
 pub extern "C" fn qrcode_c_part_symbol(
     alloc: Global,
@@ -125,8 +125,8 @@ pub extern "C" fn qrcode_c_part_symbol(
     }
 }
 
-/// Returns the number of modules of the largest symbol: a buffer of this many bytes always
-/// suffices.
+/// Returns the number of modules of the largest symbol: a buffer of this many bytes
+/// always suffices.
 #[unsafe(no_mangle)]
 pub extern "C" fn qrcode_c_greatest_size() -> usize
     ensures { result ≡ 177 * 177 }

@@ -15,8 +15,8 @@ pub struct Shape {
     pub width: i32,
     /// The number of the version: 1 to 40, or 1 to 4 for a Micro symbol.
     pub version: i32,
-    /// The number of the mask pattern in the format information: 0 to 7, or 0 to 3 for a Micro
-    /// symbol.
+    /// The number of the mask pattern in the format information: 0 to 7, or 0 to 3 for a
+    /// Micro symbol.
     pub mask: i32,
     /// Whether the symbol is a Micro symbol.
     pub micro: bool,

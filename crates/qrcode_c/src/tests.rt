@@ -6,8 +6,8 @@ use crate::{
 use std::alloc::Global;
 
 /// Input that is too long: from one byte more than version 40 holds at level L in Byte mode
-/// (ISO/IEC 18004:2006, "Data capacity for all versions") to the most digits that any version
-/// holds.
+/// (ISO/IEC 18004:2006, "Data capacity for all versions") to the most digits that any
+/// version holds.
 static MANY: [u8; 7089] = [b'a'; 7089];
 
 const BLANK: Shape = Shape {
@@ -128,8 +128,8 @@ fn refused_part(alloc: Global, message: &[u8], max_version: i32) -> Option<i32> 
 
 #[test]
 fn refuses_a_part_that_is_too_long(rt: HostRuntime) {
-    // The header takes 20 bits: version 40 then holds 2951 bytes at level L, and version 1 holds
-    // 15.
+    // After the 20 bits of the header, version 40 holds 2951 bytes at level L, and version 1 holds
+    // 15 bytes.
     for length in [2952, 2954, 5000, 7089] {
         if let Some(bytes) = MANY.get(..length) {
             assert_eq!(rt; refused_part(rt.alloc(), bytes, 40), Some(1));

@@ -68,8 +68,8 @@ pub record HoldsStream (stream : Stream) (level : EcLevel) (symbol : DrawnSymbol
   pub fits : length stream.bits ≤ limit
   pub holds : IsSymbolOfBits (stream.bits ++ tail stream.version limit (length stream.bits)) stream.version level symbol
 
--- When `Symbol::with_bits` fails with which error. `OutOfMemory` says only that no other error was
--- due.
+-- When `Symbol::with_bits` fails with which error. `OutOfMemory` says only that no other error
+-- was due.
 abbrev pub IsStreamRefusal : Stream → EcLevel → QrError → Type 0
 IsStreamRefusal stream level (InvalidVersion version named) =
     (version ≡ stream.version) × (named ≡ level) × (capacity stream.version level ≡ None)

@@ -41,8 +41,8 @@ rows_between g first last =
 abbrev pub with_color : Grid → ℕ → ℕ → Color → Grid
 with_color g x y c = record g { cells = slice_set g.cells (y * g.columns + x) c }
 
--- The width of the quiet zone in modules, on each side of a symbol (ISO/IEC 18004:2006, "Quiet
--- zone").
+-- The width of the quiet zone in modules, on each side of a symbol (ISO/IEC 18004:2006,
+-- "Quiet zone").
 abbrev pub quiet_zone_of : Version → ℕ
 quiet_zone_of (Normal n) = 4
 quiet_zone_of (Micro n) = 2

@@ -30,9 +30,9 @@ use Rattle.qrcode_grid.specs.declared.canvas.MaskPattern.TheVariants.{Diamonds}
 -- ---- What a grid says: the reader of a symbol, as a relation (ISO/IEC 18004:2006, reference
 -- decode algorithm, without the correction of errors). It does not describe how a symbol is made.
 
--- What a reader finds in a grid: the bytes, the version, level and mask of the symbol, the header
--- of a sequence if there is one, and the payload, which is the number of bits before the
--- terminator.
+-- What a reader finds in a grid: the bytes, the version, level and mask of the symbol, the
+-- header of a sequence if there is one, and the payload, which is the number of bits before
+-- the terminator.
 pub record Reading : Type 0 where
   pub bytes : List ℕ
   pub version : Version
@@ -49,8 +49,8 @@ pub record Reading : Type 0 where
 -- remainder cells (`cells`). The codewords, put back in order, are sound blocks (`sound`), and
 -- their data are the bits (`bits_are`).
 --
--- In M1 and M3 symbols the last data codeword has four bits: its low half is not drawn, and is zero
--- (`drawn_is`).
+-- In M1 and M3 symbols the last data codeword has four bits: its low half is not drawn, and is
+-- zero (`drawn_is`).
 pub record Carries (grid : List Color) (version : Version) (level : EcLevel) (mask : MaskPattern)
     (bits : List Bool) : Type 0 where
   pub blocks : BlockLayout
@@ -120,9 +120,9 @@ reading_of version level mask header bytes payload = record {
 
 -- Where no two neighbouring bytes are a pair of the Kanji mode, no grid is better than one that
 -- holds the bytes in version `number` with this payload. Every grid that is read as the bytes at
--- the level, after the same header, has the same or a greater version number of this kind, and in
--- the same version at least as many payload bits. The bytes of that grid may be cut into segments
--- anywhere.
+-- the level, after the same header, has the same or a greater version number of this kind, and
+-- in the same version at least as many payload bits. The bytes of that grid may be cut into
+-- segments anywhere.
 abbrev pub NoneIsBetter : (ℕ → Version) → Option Header → List ℕ → EcLevel → ℕ → ℕ → Type 0
 NoneIsBetter kind header bytes level number payload =
     HasNoPair bytes → (grid : List Color) (other bits : ℕ) (mask : MaskPattern) →

@@ -14,7 +14,7 @@ with_modules g colors =
     let v = with_items g.modules colors in
     record { modules = v; width = g.width; height = g.height; full = sym v.ok.0 ∙ (g.modules.ok.0 ∙ g.full) }
 
--- When the borrow ends, the grid has the modules that the slice has then, and the sides that it had
--- before.
+-- When the borrow ends, the grid has the modules that the slice has then, and the sides that it
+-- had before.
 abbrev pub LendsModules : MutBor ModuleGrid → MutBor (List Color) → Fml
 LendsModules grid slice = Lends the_row (Array color_row 0) grid slice (with_modules grid.now)

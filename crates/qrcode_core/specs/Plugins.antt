@@ -77,15 +77,15 @@ IsSameError (PostProcessFailed s) (PostProcessFailed t) = string_bytes t ≡ str
 IsSameError OutOfMemory OutOfMemory = Unit {0}
 IsSameError _ _ = ⊥
 
--- The error reports that there is no renderer of this name, or that there was no memory for the
--- name.
+-- The error reports that there is no renderer of this name, or that there was no memory for
+-- the name.
 abbrev pub IsRendererMissing : List ℕ → PluginError → Type 0
 IsRendererMissing name (RendererNotFound s) = string_bytes s ≡ name
 IsRendererMissing name OutOfMemory = Unit {0}
 IsRendererMissing name _ = ⊥
 
--- The error reports that there is no encoder of this name, or that there was no memory for the
--- name.
+-- The error reports that there is no encoder of this name, or that there was no memory for
+-- the name.
 abbrev pub IsEncoderMissing : List ℕ → PluginError → Type 0
 IsEncoderMissing name (EncoderNotFound s) = string_bytes s ≡ name
 IsEncoderMissing name OutOfMemory = Unit {0}

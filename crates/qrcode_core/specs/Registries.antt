@@ -96,8 +96,8 @@ named_renderer e = renderer_of (string_bytes e.0) e.1
 abbrev pub named_encoder : {R E P : Type 0} → String Global × E → Registration R E P
 named_encoder e = encoder_of (string_bytes e.0) e.1
 
--- The registrations of a plugin: its name and version, its renderers, its encoders, its
--- postprocessors.
+-- The registrations of a plugin: its name and version, its renderers, its encoders,
+-- its postprocessors.
 abbrev pub registrations : {A B C : Type 0} {F : A → Type 0} {G : B → Type 0} {H : C → Type 0}
     → QrPlugin A B C F G H
     → List (Registration (DynBox A Global F) (DynBox B Global G) (DynBox C Global H))

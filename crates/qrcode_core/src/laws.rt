@@ -18,8 +18,8 @@ pub fn have_one_reading()
     ensures { HaveOneReading }
 {}
 
-/// No grid carries two lists of data bits, nor bits in two versions, at two levels or under two
-/// masks.
+/// No grid carries two lists of data bits, nor bits in two versions, at two levels or under
+/// two masks.
 pub fn have_one_content()
     ensures { HaveOneContent }
 {}

@@ -57,9 +57,9 @@ impl ResourceLimits {
         self
     }
 
-    /// Returns `Ok` where an encoding can keep to the limits: the version is one of Normal 1 to 40,
-    /// neither side of the size is 0, and the time is not 0. Otherwise it fails with
-    /// `InvalidResourceLimits`.
+    /// Returns `Ok` where an encoding can keep to the limits: the version is one of Normal
+    /// 1 to 40, neither side of the size is 0, and the time is not 0. Otherwise it fails
+    /// with `InvalidResourceLimits`.
     pub fn validate(self) -> QrResult<()>
         ensures valid { IsOk result ↔ IsBudget self }
         ensures refused { IsOkUnless result InvalidResourceLimits }

@@ -52,9 +52,9 @@ pub trait DynRenderer: Drop {
     ) -> Result<RenderOutput, PluginError>
         ensures { renders self.now (grid code.now) config.now result };
 
-    /// Returns `Ok(())` where the renderer accepts the configuration, and otherwise an error that
-    /// says what is wrong with it. A renderer that accepts every configuration always returns
-    /// `Ok(())`.
+    /// Returns `Ok(())` where the renderer accepts the configuration, and otherwise an error
+    /// that says what is wrong with it. A renderer that accepts every configuration always
+    /// returns `Ok(())`.
     fn validate_config(&self, alloc: Global, config: &RenderConfig) -> Result<(), PluginError>
         ensures { validates self.now config.now result };
 }

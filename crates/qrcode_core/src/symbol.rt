@@ -27,11 +27,11 @@ use std::alloc::Global;
 /// corner. The width is the square root of their number. `Symbol::new` returns the version and the
 /// mask too.
 ///
-/// The symbol has the smallest Normal version in which some way to merge the parsed segments fits,
-/// the fewest payload bits of all such ways, and the first mask of least penalty. A reader finds
-/// exactly the bytes in it (ISO/IEC 18004:2006, encode procedure). Where no two neighbouring bytes
-/// are a pair of the Kanji mode, as in ASCII, no other symbol of the bytes is smaller
-/// (`laws::none_is_better`).
+/// The symbol has the smallest Normal version in which some way to merge the parsed segments
+/// fits, the fewest payload bits of all such ways, and the first mask of least penalty. A reader
+/// finds exactly the bytes in it (ISO/IEC 18004:2006, encode procedure). Where no two
+/// neighbouring bytes are a pair of the Kanji mode, as in ASCII, no other symbol of the bytes is
+/// smaller (`laws::none_is_better`).
 ///
 /// # Errors
 ///

@@ -243,8 +243,8 @@ pub trait Renderer<Code: ModuleSource> {
 /// both from 0. The quiet zone is not part of the grid.
 ///
 /// An implementation defines by `grid` which list, width and height it has. It then proves that
-/// `get` and `row` read from the list that `modules` returns: `get(x, y)` is its element `y * width
-/// + x`, and `row(y)` is its elements from `y * width` on.
+/// `get` and `row` read from the list that `modules` returns: `get(x, y)` is its element
+/// `y * width + x`, and `row(y)` is its elements from `y * width` on.
 pub trait ModuleSource {
     ghost grid: { Self → Grid };
 

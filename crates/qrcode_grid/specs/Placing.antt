@@ -40,8 +40,8 @@ bits_taken Empty = 1
 bits_taken (Masked c) = 0
 bits_taken (Unmasked c) = 0
 
--- The list ys is xs with the first n cells of the walk filled, and `ahead` has the bits that are
--- left.
+-- The list ys is xs with the first n cells of the walk filled, and `ahead` has the bits that
+-- are left.
 pub record FilledBelow (w t : ℕ) (bits : List Bool) (xs ys : List Module) (n : ℕ) (ahead : List Bool) : Type 0 where
   pub size : length ys ≡ length xs
   pub done :
@@ -53,8 +53,8 @@ pub record FilledBelow (w t : ℕ) (bits : List Bool) (xs ys : List Module) (n :
   pub left : drop n (fill_empty (along_walk w t xs) bits) ≡ fill_empty (drop n (along_walk w t xs)) ahead
   pub timing : (y : ℕ) → y < w → slice_get ys (y * w + t) ≡ slice_get xs (y * w + t)
 
--- If the first n cells of the walk are filled in `old`, the next `count` cells are filled too in
--- `new`.
+-- If the first n cells of the walk are filled in `old`, the next `count` cells are filled too
+-- in `new`.
 abbrev pub FillsCells : ℕ → ℕ → ℕ → ℕ → List Bool → List Bool → List Module → List Module → Type 0
 FillsCells w t n count before after old new =
     (bits : List Bool) (xs : List Module) → FilledBelow w t bits xs old n before →
@@ -64,8 +64,8 @@ FillsCells w t n count before after old new =
 abbrev pub data_bit : ℕ → ℕ → Module
 data_bit word k = Unmasked (bit_color (word / 2 ^ k % 2 == 1))
 
--- The index of the left module in a row of a pair of columns, where rows are counted along the
--- walk.
+-- The index of the left module in a row of a pair of columns, where rows are counted along
+-- the walk.
 abbrev pub row_place : Columns → ℕ → ℕ
 row_place c rows = (if c.up then c.width - 1 - rows else rows) * c.width + c.left
 

@@ -7,8 +7,8 @@ use Rattle.qrcode_core.specs.Grids.{Grid}
 use Rattle.qrcode_core.specs.Plugins.{IsRendererMissing}
 use Rattle.qrlabel.specs.Rendered.{Renders, ShowsBitmap, ShowsSvg, ShowsTerminal}
 
--- The result is that of the renderer of this name; for any other name it is the error for a missing
--- renderer.
+-- The result is that of the renderer of this name; for any other name it is the error for a
+-- missing renderer.
 pub record RendersByName (name : List ℕ) (grid : Grid) (config : RenderConfig)
     (answer : Result RenderOutput PluginError) : Type 0 where
   pub svg : name ≡ codes "svg" → Renders 8 ShowsSvg grid config answer

@@ -8,8 +8,8 @@ pub record IsNumber (text : List ℕ) (n : ℕ) : Type 0 where
   pub numeral : IsNumeral 10 (without_leading_plus text)
   pub value : digits_value 10 (without_leading_plus text) ≡ n
 
--- The number of an option: that of its text, within the bounds, or the default if the option is not
--- given.
+-- The number of an option: that of its text, within the bounds, or the default if the option is
+-- not given.
 abbrev pub AsksNumber : Option (List ℕ) → (usual least most n : ℕ) → Type 0
 AsksNumber None usual least most n = n ≡ usual
 AsksNumber (Some text) usual least most n = IsNumber text n × (least ≤ n) × (n ≤ most)

@@ -35,8 +35,8 @@ row_path p y columns = flat_map (run_at p y) (range_with_len 0 columns)
 unfoldable pub path : Picture → ℕ → List ℕ
 path p rows = flat_map (λ y. row_path p y (columns_of p)) (range_with_len 0 rows)
 
--- The head of the document, with its sides in pixels and in modules: the view box, and the light
--- background.
+-- The head of the document, with its sides in pixels and in modules: the view box, and the
+-- light background.
 unfoldable pub opening : (width height columns rows : ℕ) → List ℕ
 opening width height columns rows =
     codes "<svg xmlns=\"http://www.w3.org/2000/svg\" width=\"" ++ (decimal width ++

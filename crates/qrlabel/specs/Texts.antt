@@ -7,8 +7,8 @@ use Rattle.qrcode_core.specs.declared.types.errors.QrError.TheVariants.{DataTooL
 use Rattle.qrcode_core.specs.Drawn.{DrawnSymbol}
 use Rattle.texts.specs.Smallest.{SaysUtf8, IsSmallest, IsRefusedByAll}
 
--- The bytes are a text in UTF-8, and the symbol is the smallest that holds the designator and the
--- text.
+-- The bytes are a text in UTF-8, and the symbol is the smallest that holds the designator and
+-- the text.
 pub record IsTextSymbol (level : EcLevel) (bytes : List ℕ) (symbol : DrawnSymbol) : Type 0 where
   pub text : IsUtf8 bytes
   pub smallest : IsSmallest (SaysUtf8 bytes) level symbol

@@ -1,5 +1,5 @@
-//! `qrlabel` draws the symbol of its input as a picture: SVG, a portable bitmap, or text for a
-//! terminal.
+//! `qrlabel` draws the symbol of its input as a picture: SVG, a portable bitmap, or text for
+//! a terminal.
 //!
 //! 1. Read the command line (`wanted`, `given`).
 //! 2. Read the input and make the symbol (`draw`, `text`).

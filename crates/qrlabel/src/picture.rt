@@ -95,8 +95,8 @@ impl<'a> Picture<'a> {
         self.rows() * self.scale
     }
 
-    /// Whether the module in this column and row, counted from the corner of the quiet zone, is
-    /// dark.
+    /// Whether the module in this column and row, counted from the corner of the quiet zone,
+    /// is dark.
     #[tactic(auto, unfolding(crate::specs::Pictures::is_dark_module))]
     pub fn is_dark(&self, column: usize, row: usize) -> bool
         ensures { result ≡ is_dark_module (shown self.now) column row }

@@ -151,8 +151,8 @@ fn unclear(alloc: Global) -> PluginError
     }
 }
 
-/// Returns the error for a grid that is too large, or `OutOfMemory` if there is no memory for its
-/// text.
+/// Returns the error for a grid that is too large, or `OutOfMemory` if there is no memory for
+/// its text.
 fn too_large(alloc: Global) -> PluginError
     ensures { IsRefusal ⊥ (Unit {0}) result }
 {

@@ -1,5 +1,5 @@
-//! Tests of pictures of small grids, written by hand from the file formats, of errors, and of
-//! arguments.
+//! Tests of pictures of small grids, written by hand from the file formats, of errors, and
+//! of arguments.
 use crate::bundle::render_by_name;
 use crate::renderers::{Pbm, Svg, Terminal};
 use crate::run::run;
@@ -190,8 +190,8 @@ fn draws_by_name(rt: HostRuntime) -> Result<(), PluginError> {
     Ok(())
 }
 
-/// The result of a run: the status, the number of bytes left unread, and what was written to both
-/// outputs.
+/// The result of a run: the status, the number of bytes left unread, and what was written to
+/// both outputs.
 #[derive(Drop)]
 struct Served {
     status: u8,

@@ -61,8 +61,8 @@ pub record IsSmallest (says : Version → List Bool → Type 0) (level : EcLevel
   pub holds : HoldsIn says (normal number) level symbol
   pub smallest : HoldsNoneBelow number says level
 
--- When one version fails with which error: there are more bits than its capacity, or an allocation
--- failed.
+-- When one version fails with which error: there are more bits than its capacity, or an
+-- allocation failed.
 abbrev pub IsRefusedIn : (Version → List Bool → Type 0) → Version → EcLevel → QrError → Type 0
 IsRefusedIn says version level DataTooLong = IsTooLongIn says version level
 IsRefusedIn says version level OutOfMemory = Unit {0}

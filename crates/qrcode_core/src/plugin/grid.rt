@@ -8,8 +8,8 @@ use crate::traits::ModuleStorage;
 use qrcode_base::types::Color;
 use std::alloc::Global;
 
-/// A grid that owns its modules. Postprocessors change it, and renderers and encoders may return
-/// it.
+/// A grid that owns its modules. Postprocessors change it, and renderers and encoders may
+/// return it.
 #[derive(Debug, Drop, PartialEq, Eq)]
 pub struct ModuleGrid {
     modules: Vec<Color>,
@@ -24,8 +24,8 @@ impl ModuleGrid {
     ghost use Rattle.qrcode_core.specs.LentModules.{LendsModules};
 
     /// Returns the grid of these modules, row after row. It fails with `InvalidModuleGrid` if a
-    /// side is 0, or if the product of the sides is not the length of the list or does not fit a
-    /// `usize`.
+    /// side is 0, or if the product of the sides is not the length of the list or does not fit
+    /// a `usize`.
     pub fn new(modules: Vec<Color>, width: usize, height: usize) -> Result<ModuleGrid, PluginError>
         ensures exact { IsOk result ↔ (0 < width × 0 < height × vec_len modules ≡ height * width) }
         ensures made { IfOk result (λ g. owned_grid g ≡ grid_of modules.items width height) }

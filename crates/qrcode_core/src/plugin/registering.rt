@@ -12,9 +12,9 @@ use crate::plugin::registry::{PluginRegistry, QrPlugin};
 use crate::plugin::{DynEncoder, DynRenderer, PostProcessor};
 
 impl PluginRegistry {
-    /// Registers everything in a plugin: its name and version, then its renderers, its encoders and
-    /// its postprocessors, each list in order. A registered object whose name is taken again is
-    /// dropped.
+    /// Registers everything in a plugin: its name and version, then its renderers, its encoders
+    /// and its postprocessors, each list in order. A registered object whose name is taken again
+    /// is dropped.
     ///
     /// It fails with `OutOfMemory`. The registrations before the failed one stay then, and the
     /// other objects are dropped.

@@ -55,9 +55,9 @@ impl Symbol {
     ///
     /// # Errors
     ///
-    /// It fails with `DataTooLong` exactly where nothing fits version 40 at the level; more than
-    /// 7089 bytes fail without an allocation. It fails with `OutOfMemory` where an allocation
-    /// failed.
+    /// It fails with `DataTooLong` exactly where nothing fits version 40 at the level; more
+    /// than 7089 bytes fail without an allocation. It fails with `OutOfMemory` where an
+    /// allocation failed.
     pub fn new(alloc: Global, bytes: &[u8], level: EcLevel) -> QrResult<Symbol>
         ensures best { IfOk result (λ symbol. IsBestSymbol bytes.now level symbol.modules) }
         ensures reading { IfOk result TellsReading }
@@ -69,10 +69,10 @@ impl Symbol {
         symbol_of(alloc, bits, level)
     }
 
-    /// Returns the best Micro symbol of the bytes at a level (ISO/IEC 18004:2006, "Micro QR Code"),
-    /// as `new` does. Its version is the first of M1 to M4 that has the level and the modes of the
-    /// data, and in which some way to merge the segments fits. `laws::none_is_better` holds of it
-    /// too.
+    /// Returns the best Micro symbol of the bytes at a level (ISO/IEC 18004:2006, "Micro QR
+    /// Code"), as `new` does. Its version is the first of M1 to M4 that has the level and the
+    /// modes of the data, and in which some way to merge the segments fits. `laws::none_is_better`
+    /// holds of it too.
     ///
     /// # Errors
     ///

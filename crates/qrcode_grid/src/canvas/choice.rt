@@ -150,8 +150,8 @@ impl Canvas {
         Ok((canvas, pattern, score_of(self.version, penalty)))
     }
 
-    /// Returns the canvas under the first mask of least penalty, and that mask. It fails with
-    /// `OutOfMemory`.
+    /// Returns the canvas under the first mask of least penalty, and that mask. It fails
+    /// with `OutOfMemory`.
     pub fn apply_best_mask_with_pattern(&self, alloc: Global) -> QrResult<(Canvas, MaskPattern)>
         ensures best { IfOk result (λ r. IsBestMask self.now r.1) }
         ensures canvas { IfOk result (λ r. r.0 ≡ with_mask r.1 self.now) }

@@ -159,8 +159,8 @@ pub fn write_colors(grid: &[u8], m: usize, colors: &mut [Color])
     }
 }
 
-/// The number of elements that are written at once. The C library fills more than 2 KB with `rep
-/// stos`, which is slow to start.
+/// The number of elements that are written at once. The C library fills more than 2 KB with
+/// `rep stos`, which is slow to start.
 const PART: usize = 1000;
 
 /// Returns a list of `length` copies of a value, with a capacity of at least `room` elements.

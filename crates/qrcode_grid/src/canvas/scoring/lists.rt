@@ -94,8 +94,8 @@ fn light(list: &[u8], step: usize, at: usize, i: usize) -> u8x16
     !u8x16::from_slice(&list[at + i * step..])
 }
 
-/// Marks which modules, i steps after sixteen places, have the same colour as the module one step
-/// further.
+/// Marks which modules, i steps after sixteen places, have the same colour as the module one
+/// step further.
 #[inline(always)]
 pub fn same(list: &[u8], step: usize, at: usize, i: usize) -> u8x16
     requires step { step ≤ 181 }
