@@ -1,5 +1,5 @@
--- The options of the command line as settings. The file stands apart, since `Words` does not depend
--- on the program's types of options.
+-- The options of the command line as settings. They are not in `Words`, since the contracts
+-- of the file that declares `Choice` use `Words`: that would be an import cycle.
 use Rattle.qrlabel.specs.declared.given.Choice.{Choice}
 use Rattle.qrlabel.specs.declared.given.Choice.TheVariants.{Scale as ChoosesScale, Quiet as ChoosesQuiet}
 use Rattle.qrlabel.specs.declared.given.Choice.TheVariants.{Inverted as ChoosesInverted}

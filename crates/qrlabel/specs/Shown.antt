@@ -1,5 +1,5 @@
--- The picture that a `Picture` of the program is. The file stands apart, since `Pictures` does not
--- depend on the program's types.
+-- The picture that a `Picture` of the program is. It is not in `Pictures`, since the
+-- contracts of the file that declares the type use `Pictures`: that would be an import cycle.
 use Rattle.qrcode_core.specs.Grids.{grid_of}
 use Rattle.qrlabel.specs.declared.picture.Picture.{Picture as Lent}
 use Rattle.qrlabel.specs.Pictures.{Picture, picture}

@@ -13,7 +13,8 @@ use qrcode_base::symbols::symbol_width;
 use qrcode_base::types::{Color, EcLevel, QrError, QrResult, Version};
 use std::alloc::Global;
 
-/// Returns the score of a penalty: in Normal symbols the penalty minus 720, in all at most 65535.
+/// Returns the score of a penalty, at most 65535. In a Normal symbol it is the penalty minus 720,
+/// or 0 if that is negative.
 fn score_of(version: Version, penalty: usize) -> u16
     ensures { result ≡ score version penalty }
 {
@@ -132,9 +133,9 @@ impl Canvas {
         Ok((family_of(self.version)[best], values[best], scratch))
     }
 
-    /// Returns the canvas under the first mask of least penalty, that mask, and its score (ISO/IEC
-    /// 18004:2006, evaluation of data masking results). The score is the penalty, at most 65535; in
-    /// a Normal symbol it is the penalty minus 720, or 0 if that is negative.
+    /// Returns the canvas under the first mask of least penalty, that mask, and its score
+    /// (ISO/IEC 18004:2006, evaluation of data masking results). The score is the penalty, at most
+    /// 65535; in a Normal symbol it is the penalty minus 720, or 0 if that is negative.
     ///
     /// It fails with `OutOfMemory`.
     pub fn apply_best_mask_with_score(&self, alloc: Global) -> QrResult<(Canvas, MaskPattern, u16)>

@@ -1,5 +1,5 @@
-//! The codewords of a symbol. The type has a file of its own, since `data` and the definitions both
-//! use it.
+//! The codewords of a symbol. The type is not in `data`, since the contracts there use definitions
+//! of the type: one file would be an import cycle.
 ghost use Rattle.std.specs.Prelude.{◌≤◌};
 
 /// The data codewords and the error correction codewords of a symbol, and the number of low bits of

@@ -1,5 +1,5 @@
-//! Counters of bits, as rows of lanes. The types have a file of their own, since `counting` and the
-//! definitions both use them.
+//! Counters of bits, as rows of lanes. The types are not in `counting`, since the contracts there
+//! use definitions of the types: one file would be an import cycle.
 ghost use Rattle.std.specs.Prelude.{◌≡◌, length};
 
 use std::simd::prelude::*;
