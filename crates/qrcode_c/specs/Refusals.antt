@@ -1,4 +1,4 @@
--- When a call fails with which error.
+-- The errors of a call, and when each is returned.
 use Rattle.std.specs.Prelude.{◌≡◌, ◌≢◌, ◌⊎◌, ◌+◌, ◌<◌, ◌≤◌, ℕ, ℤ, nat_abs, List, length, map, slice_get, All, Some}
 use Rattle.std.specs.List.Sorted.{IsNonDecreasing}
 use Rattle.qrcode_base.specs.declared.types.Color.{Color}
@@ -24,8 +24,8 @@ IsStatusOf comes status = (refusal : Refusal) × (status ≡ status_of refusal) 
 abbrev pub IsAbove : ℕ → (List Color → Type 0) → Type 0
 IsAbove room best = (modules : List Color) × best modules × (room < length modules)
 
--- When the call for a symbol fails with which error, for the number of the level and the length of
--- the buffer.
+-- The errors of the call for a symbol, and when each is returned, for the number of the level and
+-- the length of the buffer.
 abbrev pub IsSymbolRefusal : List ℕ → ℤ → ℕ → Refusal → Type 0
 IsSymbolRefusal bytes number room InvalidLevel = IsNoLevel number
 IsSymbolRefusal bytes number room DataTooLong = AtLevel number (IsTooLong bytes)
@@ -33,7 +33,8 @@ IsSymbolRefusal bytes number room OutOfMemory = AtLevel number (λ level. length
 IsSymbolRefusal bytes number room ShortBuffer = AtLevel number (λ level. IsAbove room (IsBestSymbol bytes level))
 IsSymbolRefusal bytes number room _ = ⊥
 
--- When the call for a Micro symbol fails with which error. No Micro version has level H.
+-- The errors of the call for a Micro symbol, and when each is returned. No Micro version has
+-- level H.
 abbrev pub IsMicroRefusal : List ℕ → ℤ → ℕ → Refusal → Type 0
 IsMicroRefusal bytes number room InvalidLevel = AtLevel number (λ level. level ≡ H) ⊎ IsNoLevel number
 IsMicroRefusal bytes number room DataTooLong =
@@ -63,8 +64,8 @@ pub record IsPartAbove (room : ℕ) (message cuts : List ℕ) (level : EcLevel) 
   pub at_index : slice_get symbols index ≡ Some symbol
   pub above : room < length symbol.modules
 
--- When the call for a part of a message fails with which error. The errors are checked in the order
--- of the lines.
+-- The errors of the call for a part of a message, and when each is returned. The errors are checked
+-- in the order of the lines.
 abbrev pub IsPartRefusal : List ℕ → List ℕ → ℤ → ℤ → ℕ → ℕ → Refusal → Type 0
 IsPartRefusal message cuts number limit index room InvalidLevel = IsNoLevel number
 IsPartRefusal message cuts number limit index room InvalidCuts =

@@ -47,8 +47,8 @@ TellsReading symbol =
 
 -- The symbol of some data bits, in a version and at a level. Its modules carry the bits (`carries`)
 -- and nothing else (`only`). Its mask is the first under which the grid has the least penalty
--- (`best_mask`). In each block, different contents differ in more codewords than the block has
--- correction codewords (`apart`).
+-- (`best_mask`). Each block differs from every other sound block of its length in more codewords
+-- than it has correction codewords (`apart`).
 pub record IsSymbolOfBits (bits : List Bool) (version : Version) (level : EcLevel)
     (symbol : DrawnSymbol) : Type 0 where
   pub version_is : symbol.version ≡ version
@@ -68,8 +68,8 @@ pub record HoldsStream (stream : Stream) (level : EcLevel) (symbol : DrawnSymbol
   pub fits : length stream.bits ≤ limit
   pub holds : IsSymbolOfBits (stream.bits ++ tail stream.version limit (length stream.bits)) stream.version level symbol
 
--- When `Symbol::with_bits` fails with which error. `OutOfMemory` says only that no other error
--- was due.
+-- The errors of `Symbol::with_bits`, and when each is returned. `OutOfMemory` says only that no
+-- other error was due.
 abbrev pub IsStreamRefusal : Stream → EcLevel → QrError → Type 0
 IsStreamRefusal stream level (InvalidVersion version named) =
     (version ≡ stream.version) × (named ≡ level) × (capacity stream.version level ≡ None)

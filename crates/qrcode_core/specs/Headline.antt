@@ -155,8 +155,9 @@ NoneIsRead kind bytes level =
 -- (`smallest`). The payload bits are the fewest of all plans there (`fewest`). Where no two
 -- neighbouring bytes are a pair of the Kanji mode, no other grid of the bytes is better
 -- (`none_better`). The mask is the first under which the grid has the least penalty (`best_mask`).
--- In each block, different contents differ in more codewords than the block has correction
--- codewords (`apart`), and so does every grid that is read as other bytes (`far`).
+-- Each block differs from every other sound block of its length in more codewords than it has
+-- correction codewords (`apart`), and every grid of the same version and level that is read as
+-- other bytes differs from this one by as much in some block (`far`).
 pub record IsBest (kind : ℕ → Version) (header : Option Header) (bytes : List ℕ) (level : EcLevel)
     (grid : List Color) : Type 0 where
   pub number : ℕ
@@ -195,7 +196,7 @@ IsTooLong bytes level = FitsNot 0 bytes (normal 40) level
 abbrev pub IsTooLongForMicro : List ℕ → EcLevel → Type 0
 IsTooLongForMicro bytes level = FitsNone micro 0 bytes level 4
 
--- When `symbol` fails with which error. For more than 7089 bytes it needs no memory.
+-- The errors of `symbol`, and when each is returned. For more than 7089 bytes it needs no memory.
 abbrev pub IsRefusal : List ℕ → EcLevel → QrError → Type 0
 IsRefusal bytes level DataTooLong = IsTooLong bytes level
 IsRefusal bytes level OutOfMemory = length bytes ≤ 7089

@@ -54,8 +54,8 @@ IsTooLongWithin limits bytes level =
     (limits.max_data_length < length bytes)
     ⊎ FitsNone normal 0 bytes level (greatest_number limits.max_version)
 
--- When `Symbol::with_limits` fails with which error. The limits themselves are checked first.
--- `OutOfMemory` comes only where the number of bytes is within the limit.
+-- The errors of `Symbol::with_limits`, and when each is returned. The limits themselves are checked
+-- first. `OutOfMemory` comes only where the number of bytes is within the limit.
 abbrev pub IsLimitedRefusal : ResourceLimits → List ℕ → EcLevel → QrError → Type 0
 IsLimitedRefusal limits bytes level InvalidResourceLimits = IsBudget limits → ⊥
 IsLimitedRefusal limits bytes level DataTooLong = IsBudget limits × IsTooLongWithin limits bytes level

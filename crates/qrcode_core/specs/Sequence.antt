@@ -86,8 +86,8 @@ abbrev pub IsSomePartTooLong : List ℕ → List ℕ → EcLevel → ℕ → Typ
 IsSomePartTooLong message cuts level limit =
     (i : ℕ) × (i < length cuts + 1) × FitsNone normal 20 (slice_index_or (parts_at cuts message) i []) level limit
 
--- When `symbol_sequence` fails with which error. The greatest version is checked first, then the
--- number of symbols. `OutOfMemory` says only that both were valid.
+-- The errors of `symbol_sequence`, and when each is returned. The greatest version is checked
+-- first, then the number of symbols. `OutOfMemory` says only that both were valid.
 abbrev pub IsSequenceRefusal : List ℕ → List ℕ → EcLevel → ℤ → QrError → Type 0
 IsSequenceRefusal message cuts level limit InvalidResourceLimits = IsNormalNumber limit → ⊥
 IsSequenceRefusal message cuts level limit (InvalidStructuredAppend value) =

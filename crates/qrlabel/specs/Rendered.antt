@@ -50,8 +50,8 @@ pub record Draws (usual : ℕ) (Shows : Bool → Picture → RenderOutput → Ty
   pub drawable : IsDrawable grid
   pub shows : Shows inverted (picture grid scale quiet) output
 
--- When a renderer fails with which error: the configuration is invalid (`unclear`), the grid cannot
--- be drawn (`impossible`), or memory ran out.
+-- The errors of a renderer, and when each is returned: the configuration is invalid (`unclear`),
+-- the grid cannot be drawn (`impossible`), or memory ran out.
 abbrev pub IsRefusal : (unclear impossible : Type 0) → PluginError → Type 0
 IsRefusal unclear impossible (InvalidConfig what) = unclear
 IsRefusal unclear impossible (RenderFailed what) = impossible

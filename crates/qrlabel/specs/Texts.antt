@@ -13,9 +13,9 @@ pub record IsTextSymbol (level : EcLevel) (bytes : List ℕ) (symbol : DrawnSymb
   pub text : IsUtf8 bytes
   pub smallest : IsSmallest (SaysUtf8 bytes) level symbol
 
--- When the call fails with which error. First come more than 7089 bytes, which no version holds;
--- then bytes that are not UTF-8, with the position after the longest prefix that is, and the byte
--- there; then a text that no version holds.
+-- The errors of the call, and when each is returned. First come more than 7089 bytes, which no
+-- version holds; then bytes that are not UTF-8, with the position after the longest prefix that is,
+-- and the byte there; then a text that no version holds.
 abbrev pub IsTextRefusal : EcLevel → List ℕ → QrError → Type 0
 IsTextRefusal level bytes DataTooLong =
     (length bytes ≤ 7089 → IsUtf8 bytes) × IsRefusedByAll (SaysUtf8 bytes) level DataTooLong

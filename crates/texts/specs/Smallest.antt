@@ -61,14 +61,15 @@ pub record IsSmallest (says : Version → List Bool → Type 0) (level : EcLevel
   pub holds : HoldsIn says (normal number) level symbol
   pub smallest : HoldsNoneBelow number says level
 
--- When one version fails with which error: there are more bits than its capacity, or an
--- allocation failed.
+-- The errors of one version, and when each is returned: there are more bits than its capacity, or
+-- an allocation failed.
 abbrev pub IsRefusedIn : (Version → List Bool → Type 0) → Version → EcLevel → QrError → Type 0
 IsRefusedIn says version level DataTooLong = IsTooLongIn says version level
 IsRefusedIn says version level OutOfMemory = Unit {0}
 IsRefusedIn says version level other = ⊥
 
--- When the whole call fails with which error: no version holds the bits, or an allocation failed.
+-- The errors of the whole call, and when each is returned: no version holds the bits, or an
+-- allocation failed.
 abbrev pub IsRefusedByAll : (Version → List Bool → Type 0) → EcLevel → QrError → Type 0
 IsRefusedByAll says level DataTooLong = HoldsNoneBelow 41 says level
 IsRefusedByAll says level OutOfMemory = Unit {0}
