@@ -1,5 +1,12 @@
-//! What the programs share: the words of the command line, devices to read from and write to, reading and writing all
-//! of something, faults and their lines.
+//! What the programs share: the arguments of the process, devices to read from and write to,
+//! reading and writing all of something, and errors as one line.
+//!
+//! ```text
+//! let mut reader = FromReader::new(stdin);
+//! let mut writer = FromWriter::new(stdout);
+//! let bytes = read_all(alloc, &mut reader)?;
+//! write_all(&mut writer, text)?;
+//! ```
 #![tactic(auto)]
 
 ghost use Rattle.std.specs.Prelude.{◌≡◌, ℕ, ◌<◌, ◌≤◌, ◌↔◌, ◌⊎◌, Bool, not, if◌then◌else◌, is_none, Option, None, Some};
@@ -18,7 +25,8 @@ use std::alloc::{AllocError, Global};
 use std::io::{ErrorKind, Read, Write};
 use std::{env, fmt};
 
-/// The words of the command line after the program's name. Where they are no text there are none.
+/// Returns the arguments of the process without the program's name. There are none if one of them
+/// is not valid UTF-8. It fails only for lack of memory.
 pub fn arguments(rt: &HostRuntime) -> Result<Vec<String>, Fault> {
     let args = match env::args(rt) {
         Ok(args) => args,
@@ -32,7 +40,7 @@ pub fn arguments(rt: &HostRuntime) -> Result<Vec<String>, Fault> {
     Ok(words)
 }
 
-/// Words, lent as texts.
+/// Returns the strings as borrowed texts.
 pub fn lent_words(alloc: Global, words: &[String]) -> Result<Vec<&str>, AllocError>
     ensures { IfOk result (λ lent. map (λ word. word.now) lent.items ≡ map string_bytes words.now) }
 {
@@ -43,15 +51,15 @@ pub fn lent_words(alloc: Global, words: &[String]) -> Result<Vec<&str>, AllocErr
     Ok(lent)
 }
 
-/// Something to read bytes from.
+/// A device to read bytes from.
 pub trait Source {
-    // The bytes that pulls will give from here on, where they are known.
+    // The bytes that are still to be read, where they are known.
     ghost remaining: { Self → Option (List ℕ) };
 
     // Whether a pull has failed.
     ghost has_failed: { Self → Bool };
 
-    /// Takes some of the next bytes, and answers how many: 0 at the end, `None` where it failed.
+    /// Reads some of the next bytes, and returns how many: 0 at the end, `None` if it failed.
     fn pull(&mut self, buf: &mut [u8]) -> Option<usize>
         requires room { 0 < length buf.old }
         requires sound { IsFalse (has_failed self.old) }
@@ -67,18 +75,18 @@ pub trait Source {
         ensures { result ≡ has_failed self.now };
 }
 
-/// Something to write bytes to.
+/// A device to write bytes to.
 pub trait Sink {
     // The bytes that were written, where they are known.
     ghost written: { Self → Option (List ℕ) };
 
-    // Of these, the ones that a flush has handed on, where they are known.
+    // Those of them that a flush passed on, where they are known.
     ghost handed_on: { Self → Option (List ℕ) };
 
     // Whether a push or a flush has failed.
     ghost has_failed: { Self → Bool };
 
-    /// Writes some of the bytes from the front, and answers how many: `None` where it failed.
+    /// Writes some of the bytes from the start, and returns how many: `None` if it failed.
     fn push(&mut self, buf: &[u8]) -> Option<usize>
         requires some { 0 < length buf.now }
         requires sound { IsFalse (has_failed self.old) }
@@ -88,7 +96,7 @@ pub trait Sink {
             (λ n. Appends (written self.old) (written self.new) (take n buf.now)) }
         ensures failure { has_failed self.new ≡ is_none result };
 
-    /// Hands on what is held back, and answers whether that went well.
+    /// Passes on the bytes that are buffered, and returns whether this succeeded.
     fn flush(&mut self) -> bool
         requires sound { IsFalse (has_failed self.old) }
         ensures bytes { Keeps (written self.old) (written self.new) }
@@ -100,7 +108,7 @@ pub trait Sink {
         ensures { result ≡ has_failed self.now };
 }
 
-/// A source over a reader. A read that was interrupted has failed.
+/// A source from a reader. An interrupted read counts as a failure.
 #[derive(Drop)]
 pub struct FromReader<R> {
     inner: R,
@@ -108,7 +116,7 @@ pub struct FromReader<R> {
 }
 
 impl<R: Read> FromReader<R> {
-    /// The source of what the reader gives, before any pull.
+    /// Returns the source of the reader's bytes.
     pub fn new(inner: R) -> FromReader<R>
         ensures inner { result.inner ≡ inner }
         ensures sound { IsFalse result.has_failed }
@@ -140,7 +148,7 @@ impl<R: Read> Source for FromReader<R> {
     }
 }
 
-/// A sink over a writer. A write that was interrupted, or wrote nothing, has failed.
+/// A sink into a writer. A write that is interrupted, or writes nothing, counts as a failure.
 #[derive(Drop)]
 pub struct FromWriter<W> {
     inner: W,
@@ -149,7 +157,7 @@ pub struct FromWriter<W> {
 }
 
 impl<W: Write> FromWriter<W> {
-    /// The sink that hands on to the writer, before any push.
+    /// Returns the sink that writes to the writer.
     pub fn new(inner: W) -> FromWriter<W>
         ensures inner { result.inner ≡ inner }
         ensures sound { IsFalse result.has_failed }
@@ -165,7 +173,7 @@ impl<W: Write> FromWriter<W> {
 impl<W: Write> Sink for FromWriter<W> {
     ghost written = { λ s. W.contents s.inner };
 
-    // Known after a flush alone, as a writer says of no push what it hands on.
+    // This is known only after a flush, since a writer does not say what a push passes on.
     ghost handed_on = { λ s. if s.is_flushed then W.contents s.inner else None };
 
     ghost has_failed = { λ s. s.has_failed };
@@ -192,7 +200,7 @@ impl<W: Write> Sink for FromWriter<W> {
     }
 }
 
-/// Why nothing, or not all, was drawn: a refusal of the symbol's call, or a device's fault.
+/// Why nothing, or not everything, was drawn: an error of the symbol's call, or of a device.
 #[derive(Clone, Copy, Debug, PartialEq, Eq)]
 pub enum Fault {
     Symbol(QrError),
@@ -228,10 +236,11 @@ impl From<QrError> for Fault {
     }
 }
 
-/// More bytes than any symbol holds.
+/// A number of bytes that no symbol holds.
 const TOO_MANY: usize = 7090;
 
-/// Reads to the end, or until there are too many bytes.
+/// Reads to the end, or until there are 7090 bytes, which no symbol holds. It fails with `Read` if
+/// the reader failed, and with `OutOfMemory`.
 #[tactic(auto, using(crate::proofs::DeviceLemmas::reading))]
 pub fn read_all<R: Source>(alloc: Global, reader: &mut R) -> Result<Vec<u8>, Fault>
     requires { IsFalse (R.has_failed reader.old) }
@@ -258,7 +267,7 @@ pub fn read_all<R: Source>(alloc: Global, reader: &mut R) -> Result<Vec<u8>, Fau
     Ok(bytes)
 }
 
-/// Writes all of the text and flushes.
+/// Writes the whole text, and flushes. It fails with `Write` if the writer failed.
 #[tactic(auto, using(crate::proofs::DeviceLemmas::writing))]
 pub fn write_all<W: Sink>(writer: &mut W, text: &[u8]) -> Result<(), Fault>
     requires { IsFalse (W.has_failed writer.old) }
@@ -282,8 +291,9 @@ pub fn write_all<W: Sink>(writer: &mut W, text: &[u8]) -> Result<(), Fault>
     }
 }
 
-/// Tells a fault in one line behind the program's name, and answers the status 1. Want of memory is told without
-/// memory, by the line that the caller gives; any other line is left out where there is none for it.
+/// Writes an error as one line after the program's name, and returns the status 1. Out of memory is
+/// written without an allocation, as the line `want_of_memory`. Any other line needs memory, and is
+/// left out if there is none.
 pub fn fail<E: Sink>(
     alloc: Global,
     errors: &mut E,

@@ -1,4 +1,4 @@
--- What a call answers, by what was written of the symbol.
+-- The result of a call, from what was written of the symbol.
 use Rattle.std.specs.Prelude.{◌≡◌, ◌+◌, ◌<◌, ◌≤◌, ℕ, ℤ, List, length, map, nat_abs, All, Result, Ok, Err, IfOk, IfErr, OnErr}
 use Rattle.std.proofs.Common.{get_or, subst, sym, refl, ◌∙◌, arith}
 use Rattle.std.proofs.lemmas.{List.length-map, Option.slice_get_read, Result.IfOk-weaker}
@@ -21,7 +21,7 @@ best_held best level number symbol before after result level_is is_best reading 
       holds = holds;
     }) held
 
--- A refusal to write is that of a short buffer.
+-- An error in writing is that of a short buffer.
 pub short_refused : (comes : Refusal → Type 0) (longer : Type 0) (result : Result Shape Refusal) →
     IfErr result (λ refusal. refusal ≡ ShortBuffer) → OnErr result longer → (longer → comes ShortBuffer) → IfErr result comes
 short_refused comes longer (Ok shape) short room why = tt

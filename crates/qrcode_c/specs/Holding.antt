@@ -1,4 +1,4 @@
--- What a buffer and a shape hold of a symbol.
+-- A symbol in a buffer, and its shape.
 use Rattle.std.specs.Prelude.{◌≡◌, ◌*◌, ◌++◌, ℕ, ℤ, nat_abs, List, length, map, drop, slice_get, Some}
 use Rattle.qrcode_base.specs.declared.types.Color.{Color}
 use Rattle.qrcode_base.specs.declared.types.EcLevel.{EcLevel}
@@ -10,15 +10,15 @@ use Rattle.qrcode_c.specs.declared.shape.Shape.{Shape}
 use Rattle.qrcode_c.specs.Levels.{number_of}
 use Rattle.qrcode_c.specs.Shapes.{shape_of}
 
--- The first bytes of the buffer are the modules of the symbol, as many as the square of its width,
--- and the others are as before. The shape is that of the symbol.
+-- The first bytes of the buffer are the modules of the symbol, as many as the square of its width;
+-- the other bytes are unchanged. The shape is that of the symbol.
 pub record Holds (symbol : DrawnSymbol) (before after : List ℕ) (shape : Shape) : Type 0 where
   pub modules : after ≡ map byte_of symbol.modules ++ drop (length symbol.modules) before
   pub square : length symbol.modules ≡ width_of symbol.version * width_of symbol.version
   pub shape_is : shape ≡ shape_of symbol
 
--- They hold the symbol that is best at the level that the number names. The shape is what a reader
--- finds in it.
+-- The buffer and the shape hold the best symbol at the level of the number, and the shape is what a
+-- reader finds in it.
 pub record HoldsBest (best : EcLevel → List Color → Type 0) (number : ℤ)
     (before after : List ℕ) (shape : Shape) : Type 0 where
   pub level : EcLevel
@@ -28,7 +28,7 @@ pub record HoldsBest (best : EcLevel → List Color → Type 0) (number : ℤ)
   pub reading : TellsReading symbol
   pub holds : Holds symbol before after shape
 
--- They hold the symbol at an index of those that carry a message together.
+-- The buffer and the shape hold the symbol at an index of those that carry a message together.
 pub record HoldsPart (message cuts : List ℕ) (number limit : ℤ) (index : ℕ)
     (before after : List ℕ) (shape : Shape) : Type 0 where
   pub level : EcLevel

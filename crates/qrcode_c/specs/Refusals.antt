@@ -1,4 +1,4 @@
--- Which refusal comes when.
+-- The errors of a call, and when each is returned.
 use Rattle.std.specs.Prelude.{◌≡◌, ◌≢◌, ◌⊎◌, ◌+◌, ◌<◌, ◌≤◌, ℕ, ℤ, nat_abs, List, length, map, slice_get, All, Some}
 use Rattle.std.specs.List.Sorted.{IsNonDecreasing}
 use Rattle.qrcode_base.specs.declared.types.Color.{Color}
@@ -16,16 +16,16 @@ use Rattle.qrcode_c.specs.declared.refusal.Refusal.TheVariants.{InvalidIndex, Sh
 use Rattle.qrcode_c.specs.Levels.{AtLevel, IsNoLevel}
 use Rattle.qrcode_c.specs.Statuses.{status_of}
 
--- The status is the number of a refusal that comes.
+-- The status is the number of an error for which the fact is true.
 abbrev pub IsStatusOf : (Refusal → Type 0) → ℤ → Type 0
 IsStatusOf comes status = (refusal : Refusal) × (status ≡ status_of refusal) × comes refusal
 
--- The best symbol has more modules than there is room for.
+-- The best symbol has more modules than the buffer has bytes.
 abbrev pub IsAbove : ℕ → (List Color → Type 0) → Type 0
 IsAbove room best = (modules : List Color) × best modules × (room < length modules)
 
--- Which refusal comes for the symbol of some bytes, by the number of the level and the room of the
--- buffer.
+-- The errors of the call for a symbol, and when each is returned, for the number of the level and
+-- the length of the buffer.
 abbrev pub IsSymbolRefusal : List ℕ → ℤ → ℕ → Refusal → Type 0
 IsSymbolRefusal bytes number room InvalidLevel = IsNoLevel number
 IsSymbolRefusal bytes number room DataTooLong = AtLevel number (IsTooLong bytes)
@@ -33,7 +33,8 @@ IsSymbolRefusal bytes number room OutOfMemory = AtLevel number (λ level. length
 IsSymbolRefusal bytes number room ShortBuffer = AtLevel number (λ level. IsAbove room (IsBestSymbol bytes level))
 IsSymbolRefusal bytes number room _ = ⊥
 
--- The same for the Micro symbol, which no version has at level H.
+-- The errors of the call for a Micro symbol, and when each is returned. No Micro version has
+-- level H.
 abbrev pub IsMicroRefusal : List ℕ → ℤ → ℕ → Refusal → Type 0
 IsMicroRefusal bytes number room InvalidLevel = AtLevel number (λ level. level ≡ H) ⊎ IsNoLevel number
 IsMicroRefusal bytes number room DataTooLong =
@@ -43,19 +44,19 @@ IsMicroRefusal bytes number room ShortBuffer =
     AtLevel number (λ level. IsAbove room (IsBestMicroSymbol bytes level))
 IsMicroRefusal bytes number room _ = ⊥
 
--- No cut is below the one before it, and none is past the end.
+-- No cut is less than the one before it, and none is greater than the length of the message.
 abbrev pub AreCuts : List ℕ → ℕ → Type 0
 AreCuts cuts end = IsNonDecreasing cuts × All (λ cut. cut ≤ end) cuts
 
--- Such symbols can be asked for: the cuts are good, there is a part at the index, and the greatest
--- version is one.
+-- The arguments are valid: the cuts are, there is a part at the index, and the greatest version is
+-- 1 to 40.
 pub record IsAsked (message cuts : List ℕ) (limit : ℤ) (index : ℕ) : Type 0 where
   pub cuts_good : AreCuts cuts (length message)
   pub is_part : index ≤ length cuts
   pub is_limit : IsNormalNumber limit
 
--- Of the best symbols for the message, the one at the index has more modules than the buffer has
--- bytes.
+-- Among the best symbols of the message, the one at the index has more modules than the buffer
+-- has bytes.
 pub record IsPartAbove (room : ℕ) (message cuts : List ℕ) (level : EcLevel) (limit : ℤ) (index : ℕ) : Type 0 where
   pub symbols : List DrawnSymbol
   pub are_best : AreBestSymbols message cuts level (nat_abs limit) (map modules_of symbols)
@@ -63,8 +64,8 @@ pub record IsPartAbove (room : ℕ) (message cuts : List ℕ) (level : EcLevel) 
   pub at_index : slice_get symbols index ≡ Some symbol
   pub above : room < length symbol.modules
 
--- The same for the symbol at an index of those that carry a message, tested in the order of the
--- lines.
+-- The errors of the call for a part of a message, and when each is returned. The errors are checked
+-- in the order of the lines.
 abbrev pub IsPartRefusal : List ℕ → List ℕ → ℤ → ℤ → ℕ → ℕ → Refusal → Type 0
 IsPartRefusal message cuts number limit index room InvalidLevel = IsNoLevel number
 IsPartRefusal message cuts number limit index room InvalidCuts =

@@ -1,4 +1,4 @@
--- What a caller gets of a symbol beside its modules.
+-- The properties of a symbol besides its modules.
 use Rattle.std.specs.Prelude.{◌≡◌, ℕ, ℤ, pos, unwrap_or}
 use Rattle.qrcode_base.specs.declared.types.Version.{Version}
 use Rattle.qrcode_base.specs.declared.types.Version.TheVariants.{Normal, Micro}
@@ -8,16 +8,17 @@ use Rattle.qrcode_grid.specs.Masks.{normal_number, micro_number}
 use Rattle.qrcode_core.specs.Drawn.{DrawnSymbol}
 use Rattle.qrcode_c.specs.declared.shape.Shape.{Shape}
 
--- the number of a version among those of its kind
+-- The number of a version: 1 to 40, or 1 to 4 for a Micro version.
 abbrev pub version_number : Version → ℤ
 version_number (Normal number) = number
 version_number (Micro number) = number
 
--- the number of a mask pattern in the symbols of a version (ISO/IEC 18004, format information)
+-- The number of a mask pattern in a version's format information (ISO/IEC 18004:2006).
 abbrev pub mask_number : Version → MaskPattern → ℤ
 mask_number (Normal _) mask = pos (normal_number mask)
 mask_number (Micro _) mask = pos (unwrap_or (micro_number mask) 0)
 
+-- The shape of a symbol.
 abbrev pub shape_of : DrawnSymbol → Shape
 shape_of symbol = record {
   width = pos (width_of symbol.version);
@@ -26,7 +27,7 @@ shape_of symbol = record {
   micro = is_micro symbol.version;
 }
 
--- The number is that of a version whose symbols are so wide.
+-- The number is that of a version whose symbols have this width.
 abbrev pub IsNumberAtWidth : ℤ → ℕ → Type 0
 IsNumberAtWidth number width =
     (version : Version) × IsVersion version × (width_of version ≡ width) × (number ≡ version_number version)

@@ -1,10 +1,11 @@
--- The numbers of the refusals.
+-- The numbers of the errors.
 use Rattle.std.specs.Prelude.{ℤ, pos}
 use Rattle.qrcode_c.specs.declared.refusal.Refusal.{Refusal}
 use Rattle.qrcode_c.specs.declared.refusal.Refusal.TheVariants.{DataTooLong, OutOfMemory, InvalidLevel}
 use Rattle.qrcode_c.specs.declared.refusal.Refusal.TheVariants.{InvalidMaxVersion, InvalidPartCount}
 use Rattle.qrcode_c.specs.declared.refusal.Refusal.TheVariants.{InvalidCuts, InvalidIndex, ShortBuffer}
 
+-- The number of an error, which is the status of the call.
 abbrev pub status_of : Refusal → ℤ
 status_of DataTooLong = pos 1
 status_of OutOfMemory = pos 2

@@ -1,4 +1,7 @@
 //! Symbols in a caller's buffer.
+//!
+//! 1. Check the arguments, and make the symbol.
+//! 2. Write its modules to the buffer, and return its shape.
 ghost use Rattle.std.specs.Prelude.{◌≡◌, ◌<◌, ◌≤◌, ◌++◌, length, map, drop};
 ghost use Rattle.std.specs.Prelude.{OnErr, IfOk, IfErr, IfSome, IfNone};
 ghost use Rattle.qrcode_core.specs.Headline.{IsBestSymbol, IsBestMicroSymbol};
@@ -15,7 +18,7 @@ use qrcode_core::traits::ModuleSource;
 use qrcode_core::types::{Color, EcLevel, QrError};
 use std::alloc::Global;
 
-/// Writes the best symbol of some bytes.
+/// Writes the best symbol of the bytes, and returns its shape.
 pub fn symbol(alloc: Global, bytes: &[u8], level: i32, modules: &mut [u8]) -> Result<Shape, Refusal>
     ensures held { IfOk result (HoldsBest (IsBestSymbol bytes.now) level modules.old modules.new) }
     ensures refused { IfErr result (IsSymbolRefusal bytes.now level (length modules.old)) }
@@ -31,7 +34,7 @@ pub fn symbol(alloc: Global, bytes: &[u8], level: i32, modules: &mut [u8]) -> Re
     }
 }
 
-/// Writes the best Micro symbol of some bytes.
+/// Writes the best Micro symbol of the bytes, and returns its shape.
 pub fn micro_symbol(
     alloc: Global,
     bytes: &[u8],
@@ -54,7 +57,7 @@ pub fn micro_symbol(
     }
 }
 
-/// Writes the symbol at an index of those that carry a message together.
+/// Writes the symbol at an index of those that carry a message together, and returns its shape.
 pub fn part_symbol(
     alloc: Global,
     message: &[u8],
@@ -90,7 +93,7 @@ pub fn part_symbol(
     }
 }
 
-/// The level that a number names.
+/// Returns the level of a number, 0 to 3.
 fn level_of(number: i32) -> Option<EcLevel>
     ensures level { IfSome result (λ level. number ≡ number_of level) }
     ensures none { IfNone result (IsNoLevel number) }
@@ -104,7 +107,7 @@ fn level_of(number: i32) -> Option<EcLevel>
     }
 }
 
-/// The greatest version that a number names.
+/// Returns the greatest version of a number, 1 to 40.
 fn limit_of(number: i32) -> Option<i16>
     ensures limit { IfSome result (λ limit. (limit ≡ number) × IsNormalNumber limit) }
     ensures none { IfNone result (IsNormalNumber number → ⊥) }
@@ -115,7 +118,7 @@ fn limit_of(number: i32) -> Option<i16>
     Some(number as i16)
 }
 
-/// Writes the modules of a symbol, and returns its shape.
+/// Writes the modules of a symbol to the start of a buffer, and returns the shape of the symbol.
 fn write(symbol: &Symbol, modules: &mut [u8]) -> Result<Shape, Refusal>
     ensures held { IfOk result (Holds symbol.now modules.old modules.new) }
     ensures short { IfErr result (λ refusal. refusal ≡ Refusal.ShortBuffer) }
@@ -130,7 +133,7 @@ fn write(symbol: &Symbol, modules: &mut [u8]) -> Result<Shape, Refusal>
     Ok(shape_of(symbol))
 }
 
-/// Writes a byte for each color to the start of a buffer.
+/// Writes a byte for each colour to the start of a buffer.
 fn write_colors(colors: &[Color], modules: &mut [u8])
     requires { length colors.now ≤ length modules.old }
     ensures { modules.new ≡ map byte_of colors.now ++ drop (length colors.now) modules.old }
@@ -140,7 +143,7 @@ fn write_colors(colors: &[Color], modules: &mut [u8])
     }
 }
 
-/// The byte that stands for a color.
+/// Returns the byte of a colour: 1 for dark, 0 for light.
 fn byte_of(color: Color) -> u8
     ensures { result ≡ byte_of color }
 {

@@ -1,9 +1,9 @@
-//! The functions that `libsicklespan.a` defines for C. `bindings/c/sicklespan.h` declares those
-//! that a program calls, which test the pointers first; docs/BINDINGS.md says what holds across the
-//! border.
+//! The functions of `libsicklespan.a` for C. `bindings/c/sicklespan.h` declares the functions that
+//! a program calls; they check the pointers first, and then call these. docs/BINDINGS.md says what
+//! they promise.
 //!
-//! No function has a `requires`, since nothing checks one for a caller in C: each wrong argument
-//! has a status. A call shares nothing with any other, and frees all memory that it takes.
+//! No function has a `requires`, since nothing checks one for a caller in C: each invalid argument
+//! has a status. Calls share no state, and each frees all memory that it allocates.
 #![tactic(auto)]
 
 ghost use Rattle.std.specs.Prelude.{◌≡◌, ◌≢◌, ◌*◌, pos, length};
@@ -26,17 +26,18 @@ mod shape;
 #[cfg(test)]
 mod tests;
 
-/// The status of a call that did what it was asked for. Each other status is the number of a
-/// `Refusal`.
+/// The status of success. Each other status is the number of a `Refusal`.
 pub const DONE: i32 = 0;
 
-/// Writes the best symbol of some bytes at a level, a byte for each module, row by row from the
-/// upper left corner: 1 for a dark one, 0 for a light one. The levels L, M, Q and H are 0 to 3. The
-/// bytes of `modules` after these keep their values.
+/// Writes the best symbol of the bytes at a level, one byte per module, row by row from the upper
+/// left corner: 1 for a dark module, 0 for a light one. The levels L, M, Q and H are 0 to 3. The
+/// bytes of `modules` after these keep their values. Returns `DONE`.
 ///
-/// Otherwise nothing is written, and the status is, in this order: `InvalidLevel`; `DataTooLong`
-/// exactly where the bytes fit no version at the level; `OutOfMemory` where an allocation failed;
-/// `ShortBuffer`.
+/// # Errors
+///
+/// On an error nothing is written. The status is, in this order: `InvalidLevel`; `DataTooLong`
+/// exactly where the bytes fit no version at the level; `OutOfMemory` where an allocation
+/// failed; `ShortBuffer`.
 #[unsafe(no_mangle)]
 pub extern "C" fn qrcode_c_symbol(
     alloc: Global,
@@ -60,8 +61,8 @@ pub extern "C" fn qrcode_c_symbol(
     }
 }
 
-/// As `qrcode_c_symbol`, in the Micro versions M1 to M4. Level H, which none of them has, is
-/// `InvalidLevel`.
+/// Writes the best Micro symbol of the bytes at a level, as `qrcode_c_symbol` does, in the versions
+/// M1 to M4. Level H, which none of them has, is `InvalidLevel`.
 #[unsafe(no_mangle)]
 pub extern "C" fn qrcode_c_micro_symbol(
     alloc: Global,
@@ -85,15 +86,18 @@ pub extern "C" fn qrcode_c_micro_symbol(
     }
 }
 
-/// Writes one of the 2 to 16 symbols that carry a message together (ISO/IEC 18004, "Structured
+/// Writes one of the 2 to 16 symbols that carry a message together (ISO/IEC 18004:2006, "Structured
 /// Append"): the one at an index, counted from 0. The parts of the message lie between its start,
-/// the cuts in order, and its end.
+/// the cuts in order, and its end. Returns `DONE`.
 ///
-/// Otherwise nothing is written, and the status is, in this order: `InvalidLevel`; `InvalidCuts`
-/// where a cut is below the one before it, or past the end; `InvalidIndex` where there are no more
-/// parts than the index; `InvalidMaxVersion` where it is not 1 to 40; `InvalidPartCount` where the
-/// parts are not 2 to 16; `DataTooLong` exactly where some part fits no version up to the greatest,
-/// beside its header; `OutOfMemory` where an allocation failed; `ShortBuffer`.
+/// # Errors
+///
+/// On an error nothing is written. The status is, in this order: `InvalidLevel`; `InvalidCuts` if
+/// a cut is less than the one before it, or greater than the length; `InvalidIndex` if the index
+/// is not less than the number of parts; `InvalidMaxVersion` if the greatest version is not 1 to
+/// 40; `InvalidPartCount` if the number of parts is not 2 to 16; `DataTooLong` exactly where some
+/// part and its header fit no version up to the greatest; `OutOfMemory` where an allocation
+/// failed; `ShortBuffer`.
 #[unsafe(no_mangle)]
 pub extern "C" fn qrcode_c_part_symbol(
     alloc: Global,
@@ -121,7 +125,8 @@ pub extern "C" fn qrcode_c_part_symbol(
     }
 }
 
-/// The number of modules of the greatest symbol, which is the most bytes that `modules` needs.
+/// Returns the number of modules of the largest symbol: a buffer of this many bytes
+/// always suffices.
 #[unsafe(no_mangle)]
 pub extern "C" fn qrcode_c_greatest_size() -> usize
     ensures { result ≡ 177 * 177 }
@@ -129,8 +134,8 @@ pub extern "C" fn qrcode_c_greatest_size() -> usize
     177 * 177
 }
 
-/// The number of the version whose symbols have this many modules a side: 1 to 40, or 1 to 4 of a
-/// Micro version, whose widths are below 21. 0 where no symbol is as wide.
+/// Returns the number of the version whose symbols have this width in modules: 1 to 40, or 1 to 4
+/// for a Micro version, whose widths are below 21. Returns 0 if no version has the width.
 #[unsafe(no_mangle)]
 pub extern "C" fn qrcode_c_version_of_width(width: usize) -> i32
     ensures version { result ≢ pos 0 → IsNumberAtWidth result width }

@@ -1,30 +1,30 @@
-//! Why a call has no symbol to give.
+//! The errors of a call.
 ghost use Rattle.std.specs.Prelude.{◌≡◌};
 ghost use Rattle.qrcode_c.specs.Statuses.{status_of};
 
-/// Why a call has no symbol to give. The numbers are those of the header.
+/// The errors of a call, with the numbers that the header has.
 #[derive(Clone, Copy, Debug, PartialEq, Eq)]
 pub enum Refusal {
-    /// The bytes fit no symbol that was asked for.
+    /// The bytes do not fit any symbol of the call.
     DataTooLong = 1,
     /// An allocation failed.
     OutOfMemory = 2,
-    /// The level is not 0 to 3, or it is 3 and the symbol is Micro.
+    /// The level is not 0 to 3, or it is 3 for a Micro symbol.
     InvalidLevel = 3,
     /// The greatest version of a sequence is not 1 to 40.
     InvalidMaxVersion = 4,
-    /// The parts of a sequence are not 2 to 16.
+    /// The number of parts of a sequence is not 2 to 16.
     InvalidPartCount = 5,
-    /// A cut is below the one before it, or past the end of the message.
+    /// A cut is less than the one before it, or greater than the length of the message.
     InvalidCuts = 6,
-    /// There are no more parts than the index.
+    /// The index is not less than the number of parts.
     InvalidIndex = 7,
     /// The buffer is too short for the modules of the symbol.
     ShortBuffer = 8,
 }
 
 impl Refusal {
-    /// Its number.
+    /// Returns the number of the error.
     pub fn status(self) -> i32
         ensures { result ≡ status_of self }
     {

@@ -1,4 +1,4 @@
-//! What a caller gets of a symbol beside its modules.
+//! The properties of a symbol besides its modules.
 ghost use Rattle.std.specs.Prelude.{◌≡◌};
 ghost use Rattle.qrcode_c.specs.Shapes.{shape_of, mask_number};
 
@@ -7,22 +7,22 @@ use qrcode_core::symbol::Symbol;
 use qrcode_core::traits::{ModuleSource, QrSymbol};
 use qrcode_core::types::Version;
 
-/// What a caller gets of a symbol beside its modules.
+/// The properties of a symbol that a call returns besides the modules.
 #[repr(C)]
 #[derive(Clone, Copy, Debug, PartialEq, Eq)]
 pub struct Shape {
-    /// How many modules a side has: 21 to 177, and 11 to 17 of a Micro symbol.
+    /// The number of modules on a side: 21 to 177, or 11 to 17 for a Micro symbol.
     pub width: i32,
-    /// The number of the version: 1 to 40, and 1 to 4 of a Micro symbol.
+    /// The number of the version: 1 to 40, or 1 to 4 for a Micro symbol.
     pub version: i32,
-    /// The number of the mask pattern, by which the format information names it: 0 to 7, and 0 to 3
-    /// of a Micro symbol.
+    /// The number of the mask pattern in the format information: 0 to 7, or 0 to 3 for a
+    /// Micro symbol.
     pub mask: i32,
-    /// Whether it is a Micro symbol.
+    /// Whether the symbol is a Micro symbol.
     pub micro: bool,
 }
 
-/// The shape of a symbol.
+/// Returns the shape of a symbol.
 pub fn shape_of(symbol: &Symbol) -> Shape
     ensures { result ≡ shape_of symbol.now }
 {
@@ -38,7 +38,7 @@ pub fn shape_of(symbol: &Symbol) -> Shape
     }
 }
 
-/// The number of a mask pattern in the symbols of a version.
+/// Returns the number of a mask pattern in the symbols of a version.
 fn mask_number(version: Version, mask: MaskPattern) -> i32
     ensures { result ≡ mask_number version mask }
 {

@@ -1,12 +1,13 @@
-//! Each exported function once, where memory is ample.
+//! Tests of each exported function, where memory is ample.
 use crate::{
     DONE, Shape, qrcode_c_greatest_size, qrcode_c_micro_symbol, qrcode_c_part_symbol,
     qrcode_c_symbol, qrcode_c_version_of_width,
 };
 use std::alloc::Global;
 
-/// One byte more than version 40 holds at level L in Byte mode (ISO/IEC 18004, "Data capacity for
-/// all versions"), and on to the most digits that any version holds.
+/// Input that is too long: from one byte more than version 40 holds at level L in Byte mode
+/// (ISO/IEC 18004:2006, "Data capacity for all versions") to the most digits that any
+/// version holds.
 static MANY: [u8; 7089] = [b'a'; 7089];
 
 const BLANK: Shape = Shape {
@@ -77,7 +78,7 @@ fn draws_a_part(rt: HostRuntime) {
     assert_eq!(rt; status, 7);
 }
 
-/// The status of `qrcode_c_symbol`, or of `qrcode_c_micro_symbol`, where it writes nothing.
+/// Returns the status of `qrcode_c_symbol` or `qrcode_c_micro_symbol` if it writes nothing.
 fn refused(alloc: Global, bytes: &[u8], micro: bool) -> Option<i32> {
     let (mut modules, mut shape) = ([7; 122], BLANK);
     let status = if micro {
@@ -104,8 +105,7 @@ fn refuses_what_is_too_long(rt: HostRuntime) {
     assert_eq!(rt; refused(rt.alloc(), &MANY[..2953], false), Some(8));
 }
 
-/// The status of `qrcode_c_part_symbol` for two parts, of which the first has some bytes and the
-/// second none.
+/// Returns the status of `qrcode_c_part_symbol` for two parts, of which the second is empty.
 fn refused_part(alloc: Global, message: &[u8], max_version: i32) -> Option<i32> {
     let (mut modules, mut shape) = ([7; 122], BLANK);
     let cuts = [message.len()];
@@ -128,8 +128,8 @@ fn refused_part(alloc: Global, message: &[u8], max_version: i32) -> Option<i32> 
 
 #[test]
 fn refuses_a_part_that_is_too_long(rt: HostRuntime) {
-    // The header takes 20 bits: version 40 then holds 2951 bytes at level L, and version 1 holds
-    // 15.
+    // After the 20 bits of the header, version 40 holds 2951 bytes at level L, and version 1 holds
+    // 15 bytes.
     for length in [2952, 2954, 5000, 7089] {
         if let Some(bytes) = MANY.get(..length) {
             assert_eq!(rt; refused_part(rt.alloc(), bytes, 40), Some(1));

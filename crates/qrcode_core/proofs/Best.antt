@@ -1,4 +1,5 @@
--- What is encoded and drawn is the best symbol, or holds the bits that a caller pushed; and its grid is far from others.
+-- What is encoded and drawn is the best symbol, or holds the bits that a caller pushed; and its
+-- grid is far from others.
 use Rattle.qrcode_core.proofs.Prelude.{◌<◌, ◌≤◌, sym, arith, Bool, List, length, length-append, Color, EcLevel, Version, MaskPattern, AreBytes, AreBlocksApart}
 use Rattle.qrcode_core.proofs.Prelude.{codeword_block, block_sizes, Reading, Carries, Reads, ◌≡◌, append_cancel_right, missing_bits, zero_bits, AreApart}
 use Rattle.qrcode_core.proofs.Prelude.{HaveDistance, ℕ, ◌+◌, refl, Option, IsChoice, total_bits, Header, header_bits, DrawnSymbol, TellsReading, IsEncoded}
@@ -35,7 +36,7 @@ blocks_apart grid reading r = carries_apart grid reading.version reading.level r
 
 -- ---- Grids that are read as different bytes are far apart in some block
 
--- the data codewords tell the bytes
+-- the data codewords determine the bytes
 bytes_of_codewords : (grid other : List Color) (r s : Reading) (f : Reads grid r) (g : Reads other s) → s.version ≡ r.version → s.level ≡ r.level →
     g.carries.codewords ≡ f.carries.codewords → s.bytes ≡ r.bytes
 bytes_of_codewords grid other r s f g same_version same_level same =
@@ -53,9 +54,10 @@ grids_apart grid r f other s g same_version same_level differ =
     theirs.codewords theirs.interleaved theirs.correction theirs.bytes_interleaved theirs.bytes_correction (rw blocks at theirs.sound)
     (λ same. differ (bytes_of_codewords grid other r s f g same_version same_level same))
 
--- ---- The grid that is drawn of the best frame, under the first mask of least penalty, is the best symbol
+-- ---- The grid that is drawn of the best frame, under the first mask of least penalty, is the best
+-- symbol
 
--- Its version is the frame's, up to the limit of the choice, and it tells its reading.
+-- Its version is the frame's, up to the limit of the choice, and it returns its reading.
 pub best_symbol : (kind : ℕ → Version) (header : Option Header) (bytes : List ℕ) (level : EcLevel) (limit number : ℕ) (plan : List Segment)
     (codewords : List ℕ) (symbol : DrawnSymbol) → IsChoice kind (length (header_bits header)) bytes level limit number plan →
     IsEncoded (kind number) level header bytes (length (header_bits header) + total_bits (kind number) plan) codewords →
@@ -99,7 +101,8 @@ best_symbol kind header bytes level limit number plan codewords symbol choice co
       λ other seen. rw (← one_reading grid known other reads seen) (drawn.version_is, drawn.level_is, refl),
     )
 
--- ---- The stream of the chosen plan in the smallest version, perhaps behind a header, turned into bytes and drawn, is the best symbol
+-- ---- The stream of the chosen plan in the smallest version, with or without a header, as bytes
+-- and drawn, is the best symbol
 
 -- a symbol with a capacity has blocks
 pub has_blocks : (v : Version) (l : EcLevel) (limit : ℕ) → capacity v l ≡ Some limit → (b : BlockLayout) × (blocks_of v l ≡ Some b)
@@ -132,7 +135,8 @@ module _ {kind : ℕ → Version} {header : Option Header} {bytes : List ℕ} {l
       let long = length-encoded version level header bytes (front + total_bits version encoding.plan) words in
       grind (arith, common_steps, encoding.stream_is, has_blocks version level, long, encoded words turned)
 
-  -- The symbol that is drawn of it is the best one, in a version up to the limit, and it tells its reading.
+  -- The symbol that is drawn of it is the best one, in a version up to the limit, and it returns
+  -- its reading.
   pub best_of_stream : {symbol : DrawnSymbol} → IsDrawnStream stream level symbol →
       (best : IsBest kind header bytes level symbol.modules) × (best.number ≤ limit) × TellsReading symbol
   best_of_stream {symbol = symbol} held =
@@ -157,7 +161,7 @@ encoded_micro_short {bytes = bytes} {level = level} are encoding =
     let none = λ (long : 7089 < length bytes). long_for_micro bytes level are long _ encoding.choice.up_to _ encoding.choice.fits in
     omega arith
 
--- Where only memory can be wanting, the refusal is that.
+-- Where only memory can run out, that is the error.
 pub only_memory : {T : Type 0} (r : Result T QrError) (P : QrError → Type 0) → P OutOfMemory → IfErr r (λ e. e ≡ OutOfMemory) → IfErr r P
 only_memory r P why memory = grind (arith, common_steps)
 

@@ -1,4 +1,5 @@
--- From the bits of a frame to the codewords of a symbol, and back: how many they are, and what its grid carries.
+-- From the bits of a frame to the codewords of a symbol, and back: how many they are, and what its
+-- grid carries.
 use Rattle.qrcode_core.proofs.Prelude.{◌≡◌, ℕ, ◌+◌, ◌*◌, ◌<◌, refl, ap, arith, List, [], ◌∷◌, ◌++◌, length, Bool, length-append, length-replicate, byte_bits}
 use Rattle.qrcode_core.proofs.Prelude.{zero_bits, AreBytes, ◌-◌, ◌%◌, ◌≤◌, ◌⊎◌, take, append_assoc, Some, take_at, none-some, same_Some, EcLevel, Version}
 use Rattle.qrcode_core.proofs.Prelude.{BlockLayout, block_sizes, blocks_of, data_bytes, missing_bits, capacity, tail, ended, common_steps, Option, IsVersion}
@@ -9,9 +10,9 @@ use Rattle.std.proofs.{lemmas.List.FromFn.get_or-map-range_with_len, lemmas.List
 use Rattle.qrcode_bits.proofs.{Numbers.number_front, Numbers.front_is, Numbers.length-byte_bits, Streams.length-tail, Streams.length-ended, Frames.length-frame}
 use Rattle.qrcode_grid.{proofs.WholeSymbols.version_of_symbol, specs.Walk.left_over, specs.Walk.bit_color, specs.Walk.symbol_bits}
 
--- ---- The raw bits of a grid tell the codewords, and so the data
+-- ---- The raw bits of a grid determine the codewords, and so the data
 
--- bytes are told by their bits
+-- bytes are determined by their bits
 pub bytes-of_bits : (xs ys : List ℕ) → AreBytes xs → AreBytes ys → length xs ≡ length ys → byte_bits xs ≡ byte_bits ys → xs ≡ ys
 bytes-of_bits [] [] hx hy l e = refl
 bytes-of_bits [] (y ∷ ys) hx hy l e = absurd (omega arith)
@@ -43,7 +44,8 @@ lacks v l b e = grind (arith, common_steps, none-some, same_Some)
 pub length-tailed : (v : Version) (limit : ℕ) (payload : List Bool) → length payload ≤ limit → length (payload ++ tail v limit (length payload)) ≡ limit
 length-tailed v limit payload fits = grind (arith, common_steps, length-tail)
 
--- The bytes into which an ended stream is turned are its bits up to the capacity, and the missing bits as zeros.
+-- The bytes into which an ended stream is turned are its bits up to the capacity, and the missing
+-- bits as zeros.
 pub bytes_of_tailed : (v : Version) (l : EcLevel) (b : BlockLayout) (limit : ℕ) (payload : List Bool) (words : List ℕ) → blocks_of v l ≡ Some b →
     capacity v l ≡ Some limit → length payload ≤ limit →
     byte_bits words ≡ ended v limit payload ++ zero_bits ((8 - length (ended v limit payload) % 8) % 8) →
@@ -56,7 +58,8 @@ pub take_ended : (v : Version) (limit : ℕ) (payload : List Bool) → length pa
     take limit (ended v limit payload) ≡ payload ++ tail v limit (length payload)
 take_ended v limit payload fits = grind (arith, append_assoc, take_at, length-tailed)
 
--- ---- Data codewords that hold a frame are as many as their symbol has, so that only memory can be wanting for their streams
+-- ---- Data codewords that hold a frame are as many as their symbol has, so that only memory can be
+-- wanting for their streams
 
 -- Codewords that hold as many bits as the capacity are as many as the data codewords of the symbol.
 pub length-filled : (v : Version) (l : EcLevel) (words : List ℕ) (b : BlockLayout) (limit : ℕ) (bits : List Bool) →
@@ -75,7 +78,8 @@ length-encoded v l h bytes n words b code known =
 pub version_of_all : (version : Version) (level : EcLevel) (count : ℕ) → AreAllCodewords version level count → IsVersion version
 version_of_all version level count all = grind (arith, common_steps, version_of_symbol version level)
 
--- ---- The last data codeword of M1 and M3 has four bits: in the stream of one block it stands last, as in the data
+-- ---- The last data codeword of M1 and M3 has four bits: it is the last of the stream of one
+-- block, as of the data
 
 -- a stream of one block is the block
 pub one_block : (size : ℕ) (stream : List ℕ) → length stream ≡ size → concat (blocks_in (size ∷ []) stream) ≡ stream

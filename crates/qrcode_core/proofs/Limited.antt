@@ -1,4 +1,4 @@
--- The refusals of an encoding up to a greatest version are those within the caller's limits.
+-- The errors of an encoding up to a greatest version are those within the caller's limits.
 use Rattle.qrcode_core.proofs.Prelude.{◌≡◌, ℕ, ℤ, ◌≤◌, nat_abs, arith, inl, inr, List, length, Color, EcLevel, Normal, QrError, DataTooLong}
 use Rattle.qrcode_core.proofs.Prelude.{InvalidResourceLimits, OutOfMemory, IsNormalNumber, IsBudget, IsBestWithin, IsTooLongWithin, IsLimitedRefusal}
 use Rattle.qrcode_core.proofs.Prelude.{IsBestSymbol}

@@ -1,4 +1,5 @@
--- No grid is read in two ways: its size tells the version, its functional colours level and mask, its data cells the codewords.
+-- No grid is read in two ways: its size gives the version, its functional colours the level and
+-- mask, its data cells the codewords.
 use Rattle.qrcode_core.proofs.Prelude.{◌≡◌, ℕ, zero, suc, pos, ◌+◌, ◌*◌, ◌<◌, ◌≤◌, refl, sym, ◌∙◌, arith, List, [], ◌∷◌, Bool, true, false, get_or, Option}
 use Rattle.qrcode_core.proofs.Prelude.{Some, None, is_some, unwrap_or, IsTrue, slice_get, range_with_len, count_by, cases_eq, ne_eqb, eqb-true, leb-true}
 use Rattle.qrcode_core.proofs.Prelude.{eq-eqb, Color, EcLevel, Version, Normal, Micro, MaskPattern, functional_color, normal_number, micro_number, level_number}
@@ -12,7 +13,7 @@ use Rattle.qrcode_grid.proofs.{Tests.all_pass, Tests.passes, Tests.both, FormatC
 use Rattle.qrcode_bits.proofs.Reading.{frame_one_reading}
 use Rattle.qrcode_base.proofs.Widths.{version-of_blocks, version-of_size}
 
--- ---- The functional colours of a grid tell the level and the mask
+-- ---- The functional colours of a grid determine the level and the mask
 
 -- ---- The first copy of the format word, in both families
 
@@ -32,7 +33,7 @@ abbrev is_digit : Option ℕ → ℕ → Bool
 is_digit None k = false
 is_digit (Some j) k = j == k
 
--- the digit k stands at cell k, inside the corner of 9 by 9 cells
+-- bit k is at cell k, inside the corner of 9 by 9 cells
 abbrev is_at : List (ℕ × ℕ) → List (ℕ × ℕ) → ℕ → Bool
 is_at places cells k = is_digit (digit_at places (cell cells k).0 (cell cells k).1) k && (nat_le (cell cells k).0 8 && nat_le (cell cells k).1 8)
 
@@ -83,16 +84,16 @@ none_counted p a (suc n) h = grind (arith, common_steps, none_counted p (a + 1) 
 none_differ : (n a b : ℕ) → ((k : ℕ) → k < n → bit_at a k ≡ bit_at b k) → differing_digits n a b ≡ 0
 none_differ n a b same = grind (arith, common_steps, none_counted, eq-eqb)
 
--- ---- The words tell level and mask
+-- ---- The format words determine level and mask
 
--- masks of the Normal family have numbers below 8, which tell them
+-- masks of Normal symbols have different numbers, below 8
 normal_numbers : (p q : MaskPattern) → (normal_number p < 8) × (normal_number q < 8) × (normal_number p ≡ normal_number q → p ≡ q)
 normal_numbers p q = grind (arith, common_steps)
 
 level_numbers : (l m : EcLevel) → (level_number l < 4) × (level_number m < 4) × (level_number l ≡ level_number m → l ≡ m)
 level_numbers l m = grind (arith, common_steps)
 
--- masks of the Micro family have numbers below 4, which tell them
+-- masks of Micro symbols have different numbers, below 4
 micro_numbers : (p q : MaskPattern) → IsTrue (is_some (micro_number p)) → IsTrue (is_some (micro_number q)) →
     (unwrap_or (micro_number p) 0 < 4) × (unwrap_or (micro_number q) 0 < 4) × (unwrap_or (micro_number p) 0 ≡ unwrap_or (micro_number q) 0 → p ≡ q)
 micro_numbers p q h k = grind (arith, common_steps)

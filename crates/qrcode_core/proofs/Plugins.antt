@@ -79,7 +79,7 @@ module _ {R E P : Type 0} where
   with_registrations_append s [] ys = refl
   with_registrations_append s (x ∷ xs) ys = with_registrations_append (with_registration s x) xs ys
 
-  -- a refusal among the second list, after all of the first
+  -- an error in the second list, after all of the first
   pub beginning_after : (s m t : Registered R E P) (xs ys : List (Registration R E P)) → m ≡ with_registrations s xs → RegistersBeginning m ys t →
       RegistersBeginning s (xs ++ ys) t
   beginning_after s m t xs ys all (k, below, is) =
@@ -90,7 +90,7 @@ module _ {R E P : Type 0} where
       → m ≡ with_registrations s xs → Registers m ys r t → Registers s (xs ++ ys) r t
   registers_then s m t xs ys r all later = grind (arith, with_registrations_append s xs ys, beginning_after s m t xs ys all)
 
-  -- a refusal in the first of two lists
+  -- an error in the first of two lists
   pub registers_stops : (s t : Registered R E P) (xs ys : List (Registration R E P)) (e : PluginError)
       → Registers s xs (Err e) t → Registers s (xs ++ ys) (Err e) t
   registers_stops s t xs ys e h = grind (arith, common_steps, length-append, take-append-le)
@@ -101,7 +101,7 @@ module _ {R E P : Type 0} where
         → m ≡ with_registrations s (map f done) → t ≡ with_registration m (f x) → t ≡ with_registrations s (map f (done ++ x ∷ []))
     registers_more s m t done x before now = grind (arith, common_steps, with_registrations_append, map-append)
 
-    -- a loop in which an item is refused
+    -- a loop in which an item fails
     pub registers_refused : (s m t : Registered R E P) (all done rest after : List D) (x : D) (e : PluginError)
         → all ≡ done ++ rest → rest ≡ x ∷ after → m ≡ with_registrations s (map f done) → Registers m (f x ∷ []) (Err e) t → Registers s (map f all) (Err e) t
     registers_refused s m t all done rest after x e split first before now =
@@ -123,7 +123,7 @@ pub steps_then : {B : Type 0} (step : B → Grid → Result Unit PluginError →
 steps_then step [] ys g m h r before after = grind (arith, common_steps)
 steps_then step (x ∷ xs) ys g m h r before after = grind (arith, common_steps, steps_then step xs ys)
 
--- the step at index i refuses, after all before it succeeded
+-- the step at index i fails, after all before it succeeded
 pub steps_refused : {B : Type 0} (step : B → Grid → Result Unit PluginError → Grid → Type 0) (xs all : List B) (i : ℕ) (g m h : Grid) (b : B) (e : PluginError)
     (s r : Result Unit PluginError)
     → xs ≡ all → i < length xs → b ≡ get_or xs i b → s ≡ Err e → r ≡ Err e

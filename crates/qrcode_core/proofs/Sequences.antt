@@ -1,4 +1,5 @@
--- The symbols of a sequence: parts that are one message, in whatever order, and the best symbol of each.
+-- The symbols of a sequence: parts that are one message, in whatever order, and the best symbol of
+-- each.
 use Rattle.qrcode_core.proofs.Prelude.{common_steps, ◌≡◌, ℕ, zero, suc, ◌+◌, ◌-◌, ◌<◌, ◌≤◌, refl, sym, ◌∙◌, arith, List, [], ◌∷◌, ◌++◌, length, get_or, drop}
 use Rattle.qrcode_core.proofs.Prelude.{IsPermutation, slice_range, concat, IsNonDecreasing, same_lists, get_or_default, IsPermutation-sym, IsPermutation-trans}
 use Rattle.qrcode_core.proofs.Prelude.{Contains-permutation, length_permutation, same_Some, Color, Header, ReadsPiece, ReadsMessage, HaveOneMessage, parts_from}
@@ -9,7 +10,8 @@ use Rattle.qrcode_core.specs.Sequence.{header_at, IsPartSymbol, AreBestSymbols, 
 use Rattle.std.proofs.lemmas.List.{take-append-drop, drop-drop, append-nil, take_all, length-drop, Elements.Contains-get_or}
 use Rattle.qrcode_bits.{specs.Push.IsPartRefused, proofs.Reading.length-header}
 
--- ---- Some grids are read as one message at most, in whatever order; and the parts of a message are the message
+-- ---- Some grids are read as one message at most, in whatever order; and the parts of a message
+-- are the message
 
 -- ---- One message
 
@@ -94,7 +96,7 @@ one_more message cuts level limit total done grids grid first next = record {
   ];
 }
 
--- All of them are the answer.
+-- All of them are the result.
 pub best_symbols : (message cuts : List ℕ) (level : EcLevel) (limit total done : ℕ) (grids : List (List Color)) →
     IsNonDecreasing cuts → IsTotal total → total ≡ length cuts + 1 → done ≡ total →
     AreFirstSymbols message cuts level limit total done grids → AreBestSymbols message cuts level limit grids
@@ -124,7 +126,8 @@ best_symbols message cuts level limit total done grids rise few count all first 
       only = λ shuffled other mixed seen. sym (one_message grids shuffled message other mixed read seen);
     }
 
--- A part that is refused for its length or for memory refuses the sequence so; the limit and the header are no reason.
+-- A part that fails for its length or for memory makes the sequence fail likewise; the limit and
+-- the header are no reason.
 pub refused_part : (message cuts : List ℕ) (level : EcLevel) (limit : ℤ) (total i : ℕ) (header : Header) (e : QrError) → IsNormalNumber limit →
     IsTotal total → total ≡ length cuts + 1 → i < total → header.place ≡ i + 1 → header.total ≡ total →
     IsPartRefused header (get_or (parts_at cuts message) i []) level limit e → IsSequenceRefusal message cuts level limit e

@@ -1,4 +1,4 @@
--- A symbol with modules of its own, as contracts see it.
+-- A `Symbol` as contracts see it, and the symbol of bits that a caller pushed.
 use Rattle.std.specs.Prelude.{◌≡◌, List, ℕ, ◌<◌, ◌≤◌, Bool, ◌++◌, length, Some, None}
 use Rattle.qrcode_base.specs.declared.types.Color.{Color}
 use Rattle.qrcode_base.specs.declared.types.EcLevel.{EcLevel}
@@ -14,27 +14,30 @@ use Rattle.qrcode_bits.specs.Frame.{tail}
 use Rattle.qrcode_bits.specs.Stream.{Stream}
 use Rattle.qrcode_grid.specs.Penalty.{IsFirstLeastMask}
 
--- the modules, row after row from the upper left corner, with version, level and mask
+-- A symbol: its modules, row after row from the upper left corner, and its version, level and mask.
 pub record DrawnSymbol : Type 0 where
   pub modules : List Color
   pub version : Version
   pub level : EcLevel
   pub mask : MaskPattern
 
+-- The modules of a symbol.
 abbrev pub modules_of : DrawnSymbol → List Color
 modules_of symbol = symbol.modules
 
--- the square grid that it shows, as wide as its version
+-- The square grid of a symbol, as wide as its version.
 abbrev pub drawn_grid : DrawnSymbol → Grid
 drawn_grid symbol = grid_of symbol.modules (width_of symbol.version) (width_of symbol.version)
 
+-- The version of a symbol.
 abbrev pub drawn_version : DrawnSymbol → Version
 drawn_version symbol = symbol.version
 
+-- The level of a symbol.
 abbrev pub drawn_level : DrawnSymbol → EcLevel
 drawn_level symbol = symbol.level
 
--- Version, level and mask are those that a reader finds in the modules.
+-- The version, the level and the mask are those that a reader finds in the modules.
 abbrev pub TellsReading : DrawnSymbol → Type 0
 TellsReading symbol =
     (reading : Reading) → Reads symbol.modules reading →
@@ -42,9 +45,10 @@ TellsReading symbol =
 
 -- ---- The symbol of bits that a caller pushed.
 
--- The symbol of some data bits, in a version and at a level: its modules carry the bits, and nothing else. Its mask is
--- the first under which the grid's sibling has the least penalty. In each block different contents differ in more
--- codewords than the block has correction codewords.
+-- The symbol of some data bits, in a version and at a level. Its modules carry the bits (`carries`)
+-- and nothing else (`only`). Its mask is the first under which the grid has the least penalty
+-- (`best_mask`). Each block differs from every other sound block of its length in more codewords
+-- than it has correction codewords (`apart`).
 pub record IsSymbolOfBits (bits : List Bool) (version : Version) (level : EcLevel)
     (symbol : DrawnSymbol) : Type 0 where
   pub version_is : symbol.version ≡ version
@@ -56,14 +60,16 @@ pub record IsSymbolOfBits (bits : List Bool) (version : Version) (level : EcLeve
   pub apart : AreBlocksApart carries.blocks.correction (block_sizes carries.blocks) carries.interleaved
       carries.correction
 
--- The symbol of a stream's bits in its version, ended by terminator and padding at the capacity of a level.
+-- The symbol of the bits of a stream, in the version of the stream: the bits fit the capacity of
+-- the level, and terminator and padding follow them.
 pub record HoldsStream (stream : Stream) (level : EcLevel) (symbol : DrawnSymbol) : Type 0 where
   pub limit : ℕ
   pub limit_is : capacity stream.version level ≡ Some limit
   pub fits : length stream.bits ≤ limit
   pub holds : IsSymbolOfBits (stream.bits ++ tail stream.version limit (length stream.bits)) stream.version level symbol
 
--- Which refusal comes when. Of a want of memory nothing more is said than that nothing else was due.
+-- The errors of `Symbol::with_bits`, and when each is returned. `OutOfMemory` says only that no
+-- other error was due.
 abbrev pub IsStreamRefusal : Stream → EcLevel → QrError → Type 0
 IsStreamRefusal stream level (InvalidVersion version named) =
     (version ≡ stream.version) × (named ≡ level) × (capacity stream.version level ≡ None)

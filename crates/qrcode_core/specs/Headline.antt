@@ -1,6 +1,7 @@
--- What the symbol of some bytes at a level is: the smallest and best one, read in one way (ISO/IEC 18004, encode
--- procedure). The promise is `IsBest`, near the end, since a definition stands behind those that it names: before it
--- come what a reader finds in a grid, and distance.
+-- The best symbol of some bytes at a level: it is the smallest one, and it can be read in only one
+-- way (ISO/IEC 18004:2006, encode procedure). The promise is `IsBest`, near the end of the file,
+-- since each definition comes after those that it uses: first what a reader finds in a grid, then
+-- distance, then better symbols.
 use Rattle.std.specs.Prelude.{◌≡◌, ℕ, ◌+◌, ◌*◌, Bool, List, ◌++◌, length, map, Option, Some, ◌≢◌, pos, ◌<◌, ◌≤◌, None, ◌==◌}
 use Rattle.std.specs.Prelude.{if◌then◌else◌, codes}
 use Rattle.qrcode_base.specs.declared.symbols.BlockLayout.{BlockLayout}
@@ -26,11 +27,12 @@ use Rattle.qrcode_grid.specs.Penalty.{IsFirstLeastMask}
 use Rattle.qrcode_base.specs.declared.types.Color.TheVariants.{Light, Dark}
 use Rattle.qrcode_grid.specs.declared.canvas.MaskPattern.TheVariants.{Diamonds}
 
--- ---- What a grid of colours says: the reader of a symbol, as a relation (ISO/IEC 18004, reference decode algorithm,
--- without the correction of errors). Nothing here writes a symbol.
+-- ---- What a grid says: the reader of a symbol, as a relation (ISO/IEC 18004:2006, reference
+-- decode algorithm, without the correction of errors). It does not describe how a symbol is made.
 
--- What is read from a grid: the bytes, the symbol that carries them, perhaps the header of a sequence, and how many
--- bits stand before the terminator.
+-- What a reader finds in a grid: the bytes, the version, level and mask of the symbol, the
+-- header of a sequence if there is one, and the payload, which is the number of bits before
+-- the terminator.
 pub record Reading : Type 0 where
   pub bytes : List ℕ
   pub version : Version
@@ -41,12 +43,14 @@ pub record Reading : Type 0 where
 
 -- A grid carries data bits, in a version, at a level and under a mask.
 --
--- The functional modules are those of the version, and show the level and the mask. The data cells, in their order and
--- with the mask taken off, dark as one, hold the interleaved data codewords, then the interleaved correction codewords,
--- then zeros in the cells that are left over. Put back in their order the codewords are sound blocks, and their data
--- are the bits.
+-- The functional modules are those of the version, and encode the level and the mask
+-- (`functional`). The data cells in their order, with the mask removed and a dark module as one,
+-- hold the interleaved data codewords, then the interleaved correction codewords, then zeros in the
+-- remainder cells (`cells`). The codewords, put back in order, are sound blocks (`sound`), and
+-- their data are the bits (`bits_are`).
 --
--- In M1 and M3 symbols the last data codeword has four bits: its low half is not drawn, and counts as zeros.
+-- In M1 and M3 symbols the last data codeword has four bits: its low half is not drawn, and is
+-- zero (`drawn_is`).
 pub record Carries (grid : List Color) (version : Version) (level : EcLevel) (mask : MaskPattern)
     (bits : List Bool) : Type 0 where
   pub blocks : BlockLayout
@@ -66,17 +70,18 @@ pub record Carries (grid : List Color) (version : Version) (level : EcLevel) (ma
   pub sound : AreCodewords blocks.correction (block_sizes blocks) codewords interleaved correction
   pub bits_are : byte_bits codewords ≡ bits ++ zero_bits (missing_bits version)
 
--- A grid is read so: it carries a frame of the bytes, in the version, at the level and under the mask.
+-- A reader finds this in a grid: the grid carries a frame of the bytes, that is header, segments,
+-- terminator and padding, in the version, at the level and under the mask.
 pub record Reads (grid : List Color) (reading : Reading) : Type 0 where
   pub frame : List Bool
   pub carries : Carries grid reading.version reading.level reading.mask frame
   pub framed : IsFrame reading.version reading.level reading.header reading.bytes reading.payload frame
 
--- No grid is read in two ways.
+-- No grid can be read in two ways.
 abbrev pub HaveOneReading : Type 0
 HaveOneReading = (grid : List Color) (first second : Reading) → Reads grid first → Reads grid second → first ≡ second
 
--- No grid carries two lists of bits, nor bits in two versions, at two levels or under two masks.
+-- No grid carries two lists of bits, or bits in two versions, at two levels or under two masks.
 abbrev pub HaveOneContent : Type 0
 HaveOneContent =
     (grid : List Color) (v w : Version) (l m : EcLevel) (p q : MaskPattern) (a b : List Bool) →
@@ -84,8 +89,8 @@ HaveOneContent =
 
 -- ---- Distance
 
--- Every other grid that is read at the same version and level as other bytes differs from this one, each as it is read,
--- in some block in more codewords than the block has correction codewords.
+-- Every other grid that is read as other bytes, at the same version and level, differs from this
+-- grid: in some block they differ in more codewords than the block has correction codewords.
 abbrev pub IsFarFromOthers : (grid : List Color) (reading : Reading) → Reads grid reading → Type 0
 IsFarFromOthers grid r f =
     (other : List Color) (s : Reading) (g : Reads other s) → s.version ≡ r.version → s.level ≡ r.level →
@@ -96,13 +101,13 @@ IsFarFromOthers grid r f =
     (n < distance (codeword_block n sizes f.carries.interleaved f.carries.correction block)
     (codeword_block n sizes g.carries.interleaved g.carries.correction block))
 
--- So are any two grids.
+-- This holds of every grid that can be read.
 abbrev pub HaveDistance : Type 0
 HaveDistance = (grid : List Color) (r : Reading) (f : Reads grid r) → IsFarFromOthers grid r f
 
 -- ---- No better symbol
 
--- a reading, by its parts
+-- The reading with these parts.
 abbrev pub reading_of : Version → EcLevel → MaskPattern → Option Header → List ℕ → ℕ → Reading
 reading_of version level mask header bytes payload = record {
   bytes = bytes;
@@ -113,23 +118,27 @@ reading_of version level mask header bytes payload = record {
   payload = payload;
 }
 
--- Where no two neighbouring bytes are a pair of the Kanji mode, no grid is better than one that holds the bytes in
--- version `number` with this payload: every grid that is read as the bytes at the level, after the same header, has no
--- smaller version of the kind, nor fewer payload bits in the same version. Its pieces may be cut anywhere.
+-- Where no two neighbouring bytes are a pair of the Kanji mode, no grid is better than one that
+-- holds the bytes in version `number` with this payload. Every grid that is read as the bytes at
+-- the level, after the same header, has the same or a greater version number of this kind, and
+-- in the same version at least as many payload bits. The bytes of that grid may be cut into
+-- segments anywhere.
 abbrev pub NoneIsBetter : (ℕ → Version) → Option Header → List ℕ → EcLevel → ℕ → ℕ → Type 0
 NoneIsBetter kind header bytes level number payload =
     HasNoPair bytes → (grid : List Color) (other bits : ℕ) (mask : MaskPattern) →
     Reads grid (reading_of (kind other) level mask header bytes bits) →
     (number ≤ other) × (other ≡ number → payload ≤ bits)
 
--- Nor is any grid that has a header before the bytes: in the same version its payload is 20 bits greater at least.
+-- The same for grids with a header before the bytes: in the same version they have at least 20 more
+-- payload bits.
 abbrev pub NoneIsBetterWithHeader : (ℕ → Version) → List ℕ → EcLevel → ℕ → ℕ → Type 0
 NoneIsBetterWithHeader kind bytes level number payload =
     HasNoPair bytes → (grid : List Color) (other bits : ℕ) (mask : MaskPattern) (header : Header) →
     Reads grid (reading_of (kind other) level mask (Some header) bytes bits) →
     (number ≤ other) × (other ≡ number → payload + 20 ≤ bits)
 
--- No grid of a version of the kind is read as the bytes at the level, with a header before them or without.
+-- No grid of a version of this kind is read as the bytes at the level, with or without a header
+-- before them.
 abbrev pub NoneIsRead : (ℕ → Version) → List ℕ → EcLevel → Type 0
 NoneIsRead kind bytes level =
     (grid : List Color) (number payload : ℕ) (mask : MaskPattern) (header : Option Header) →
@@ -137,15 +146,18 @@ NoneIsRead kind bytes level =
 
 -- ---- The best symbol
 
--- The best symbol of some bytes at a level, with or without the header of a sequence, among the versions of one kind,
--- which are told by their numbers.
+-- The best symbol of some bytes at a level, with or without the header of a sequence, among the
+-- versions of one kind: `normal` or `micro`, which give the version of each number.
 --
--- It is read as the bytes at the level, and as nothing else: whatever a reader finds in it (bytes, version, level,
--- mask, header, payload bits) is this. Its functional modules have their colours. Some plan of the bytes fits its
--- version, and none a smaller one. The payload bits are the fewest of all plans there. Where no two neighbouring bytes
--- are a pair of the Kanji mode, no other grid of the bytes is better. The mask is the first under which the grid's
--- sibling has the least penalty. In each block different contents differ in more codewords than the block has
--- correction codewords.
+-- A reader finds the bytes at the level in it (`reads`), and nothing else: no other bytes, version,
+-- level, mask, header or number of payload bits (`only`). Its functional modules have their colours
+-- (`functional`). Some plan of segments fits its version (`fits`), and none fits a smaller one
+-- (`smallest`). The payload bits are the fewest of all plans there (`fewest`). Where no two
+-- neighbouring bytes are a pair of the Kanji mode, no other grid of the bytes is better
+-- (`none_better`). The mask is the first under which the grid has the least penalty (`best_mask`).
+-- Each block differs from every other sound block of its length in more codewords than it has
+-- correction codewords (`apart`), and every grid of the same version and level that is read as
+-- other bytes differs from this one by as much in some block (`far`).
 pub record IsBest (kind : ℕ → Version) (header : Option Header) (bytes : List ℕ) (level : EcLevel)
     (grid : List Color) : Type 0 where
   pub number : ℕ
@@ -166,34 +178,37 @@ pub record IsBest (kind : ℕ → Version) (header : Option Header) (bytes : Lis
       AreBlocksApart found.blocks.correction (block_sizes found.blocks) found.interleaved found.correction
   pub far : IsFarFromOthers grid reading reads
 
+-- The best Normal symbol, without a header.
 abbrev pub IsBestSymbol : List ℕ → EcLevel → List Color → Type 0
 IsBestSymbol bytes level grid = IsBest normal None bytes level grid
 
+-- The best Micro symbol.
 abbrev pub IsBestMicroSymbol : List ℕ → EcLevel → List Color → Type 0
 IsBestMicroSymbol bytes level grid = IsBest micro None bytes level grid
 
--- ---- Refusals
+-- ---- Errors
 
--- No plan fits the greatest version.
+-- No plan of the bytes fits version 40.
 abbrev pub IsTooLong : List ℕ → EcLevel → Type 0
 IsTooLong bytes level = FitsNot 0 bytes (normal 40) level
 
--- No plan fits any Micro version.
+-- No plan of the bytes fits any Micro version.
 abbrev pub IsTooLongForMicro : List ℕ → EcLevel → Type 0
 IsTooLongForMicro bytes level = FitsNone micro 0 bytes level 4
 
--- Which refusal comes when. More than 7089 bytes want no memory.
+-- The errors of `symbol`, and when each is returned. For more than 7089 bytes it needs no memory.
 abbrev pub IsRefusal : List ℕ → EcLevel → QrError → Type 0
 IsRefusal bytes level DataTooLong = IsTooLong bytes level
 IsRefusal bytes level OutOfMemory = length bytes ≤ 7089
 IsRefusal bytes level other = ⊥
 
--- ---- A printed symbol: the digits 12345 in M1 at level L, under the mask Diamonds.
+-- ---- A printed symbol: the digits 12345 in M1 at level L, under the mask Diamonds
 
--- the colour of a printed character: `#` is dark
+-- The colour of a printed character: `#` is dark.
 abbrev pub printed_color : ℕ → Color
 printed_color c = if c == 35 then Dark else Light
 
+-- The characters of the printed symbol, row after row.
 abbrev pub printed_rows : List ℕ
 printed_rows =
     codes "#######.#.#" ++
@@ -208,9 +223,11 @@ printed_rows =
     (codes ".#.#...##.." ++
     codes "####.....##")))))))))
 
+-- The grid of the printed symbol.
 abbrev pub printed : List Color
 printed = map printed_color printed_rows
 
+-- What a reader finds in the printed symbol.
 abbrev pub printed_reading : Reading
 printed_reading = record {
   bytes = codes "12345";

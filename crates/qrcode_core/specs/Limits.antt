@@ -1,4 +1,4 @@
--- Which limits an encoding can keep, the limits of a caller who names none, and the best symbol within limits.
+-- The limits that an encoding can keep to, the default limits, and the best symbol within limits.
 use Rattle.std.specs.Prelude.{◌≢◌, Some, None, pos, ℕ, nat_abs, ◌<◌, ◌≤◌, ◌⊎◌, List, length}
 use Rattle.qrcode_base.specs.Symbols.{IsNormalNumber}
 use Rattle.qrcode_base.specs.declared.types.Version.{Version}
@@ -11,12 +11,13 @@ use Rattle.qrcode_base.specs.declared.types.errors.QrError.TheVariants.{DataTooL
 use Rattle.qrcode_bits.specs.Plans.{normal, FitsNone}
 use Rattle.qrcode_core.specs.Headline.{IsBestSymbol}
 
--- a version of ISO/IEC 18004, "Symbol versions and sizes", that is not a Micro version
+-- The version is one of Normal 1 to 40 (ISO/IEC 18004:2006, "Symbol versions and sizes").
 abbrev pub IsNormalVersion : Version → Type 0
 IsNormalVersion (Normal n) = IsNormalNumber n
 IsNormalVersion (Micro n) = ⊥
 
--- The version is a Normal one, no side is 0, and the time, if there is a limit of it, is not 0.
+-- An encoding can keep to the limits: the version is a Normal one, neither side is 0, and the time,
+-- if it is limited, is not 0.
 abbrev pub IsBudget : ResourceLimits → Type 0
 IsBudget l =
     IsNormalVersion l.max_version
@@ -24,7 +25,8 @@ IsBudget l =
     × (l.max_render_size.1 ≢ 0)
     × (l.encoding_timeout ≢ Some 0)
 
--- as many bytes as the largest symbol has digits, every Normal version, a size of 4096 by 4096, and any time
+-- The default limits: 7089 bytes, which is the number of digits that the largest symbol holds,
+-- every Normal version, a size of 4096 by 4096, and any time.
 abbrev pub default_budget : ResourceLimits
 default_budget = record {
   max_data_length = 7089;
@@ -33,27 +35,27 @@ default_budget = record {
   encoding_timeout = None;
 }
 
--- ---- The symbol of some bytes within what a caller allows.
+-- ---- The symbol of some bytes within limits
 
--- the number of the greatest Normal version up to a version
+-- The number of the greatest Normal version that a limit allows.
 abbrev pub greatest_number : Version → ℕ
 greatest_number (Normal n) = nat_abs n
 greatest_number (Micro n) = 0
 
--- The best symbol of some bytes, in a version up to the greatest that is allowed.
+-- The best symbol of the bytes, in a version within the limit.
 pub record IsBestWithin (limits : ResourceLimits) (bytes : List ℕ) (level : EcLevel)
     (grid : List Color) : Type 0 where
   pub best : IsBestSymbol bytes level grid
   pub up_to : best.number ≤ greatest_number limits.max_version
 
--- The bytes are more than are allowed, or no plan of them fits any version that is allowed.
+-- There are more bytes than the limit, or no plan of them fits any version within the limit.
 abbrev pub IsTooLongWithin : ResourceLimits → List ℕ → EcLevel → Type 0
 IsTooLongWithin limits bytes level =
     (limits.max_data_length < length bytes)
     ⊎ FitsNone normal 0 bytes level (greatest_number limits.max_version)
 
--- Which refusal comes when: the limits themselves are tested first. Want of memory comes only for bytes that are not
--- too many.
+-- The errors of `Symbol::with_limits`, and when each is returned. The limits themselves are checked
+-- first. `OutOfMemory` comes only where the number of bytes is within the limit.
 abbrev pub IsLimitedRefusal : ResourceLimits → List ℕ → EcLevel → QrError → Type 0
 IsLimitedRefusal limits bytes level InvalidResourceLimits = IsBudget limits → ⊥
 IsLimitedRefusal limits bytes level DataTooLong = IsBudget limits × IsTooLongWithin limits bytes level

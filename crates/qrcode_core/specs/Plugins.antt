@@ -1,4 +1,5 @@
--- What plugins hold and answer: maps from texts, errors, configurations, grids and outputs.
+-- The values of plugins, as contracts see them: maps with strings as keys, errors, configurations,
+-- grids and outputs.
 use Rattle.std.specs.Prelude.{ℕ, List, [], ◌∷◌, Option, map, String, ◌≡◌, option_map}
 use Rattle.std.specs.declared.cmp.Ordering.{Ordering}
 use Rattle.std.specs.Ordering.{nat_cmp}
@@ -22,48 +23,49 @@ use Rattle.qrcode_core.specs.declared.plugin.output.RenderOutput.{RenderOutput}
 use Rattle.qrcode_core.specs.declared.plugin.output.RenderOutput.TheVariants.{Text, Bytes, Modules}
 use Rattle.qrcode_core.specs.declared.plugin.output.EncodedOutput.TheVariants as encoded
 
--- the order of texts: the first byte that differs decides, and a beginning comes first
+-- The order of strings: the first byte that differs decides, and a prefix comes first.
 abbrev pub text_cmp : List ℕ → List ℕ → Ordering
 text_cmp = slice_cmp nat_cmp
 
--- a map from texts, as its entries in the order of the keys
+-- A map with strings as keys: its entries in the order of the keys.
 abbrev pub TextMap : Type 0 → Type 0
 TextMap V = List (List ℕ × V)
 
--- the map that a tree of strings holds
+-- The map of the entries of a tree of strings.
 abbrev pub text_entries : {V : Type 0} → List (String Global × V) → TextMap V
 text_entries [] = []
 text_entries (e ∷ es) = (string_bytes e.0, e.1) ∷ text_entries es
 
+-- The map that a `BTreeMap` holds.
 abbrev pub text_map : {V : Type 0} → BTreeMap (String Global) V → TextMap V
 text_map m = text_entries m.entries
 
--- the map with this value at the key, in place of what it had there
+-- The map with this value at the key, in place of the old one if there is one.
 abbrev pub with_entry : {V : Type 0} → TextMap V → List ℕ → V → TextMap V
 with_entry m key value = insert_entry text_cmp m key value
 
--- what the map has at the key
+-- The value of the map at the key, if there is one.
 abbrev pub at_key : {V : Type 0} → TextMap V → List ℕ → Option V
 at_key m key = lookup (is_at (text_cmp key)) m
 
--- the keys, in order
+-- The keys, in order.
 abbrev pub key_texts : {V : Type 0} → TextMap V → List (List ℕ)
 key_texts m = map (λ e. e.0) m
 
--- the map with its strings read as texts
+-- The map with the bytes of each string as its values.
 abbrev pub text_values : TextMap (String Global) → TextMap (List ℕ)
 text_values [] = []
 text_values (e ∷ es) = (e.0, string_bytes e.1) ∷ text_values es
 
 -- ---- Names
 
--- the names that are left, in order
+-- The names that an iterator has yet to return, in order.
 abbrev pub names_left : {V : Type 0} → Names V → List (List ℕ)
 names_left s = map string_bytes s.keys
 
--- ---- Errors of the registry and of its objects: which are the same, and which tell of a missing name.
+-- ---- Errors of the registry and of its objects: which are equal, and which report a missing name
 
--- the same kind of error with the same text
+-- The errors are of the same kind and have the same text.
 abbrev pub IsSameError : PluginError → PluginError → Type 0
 IsSameError (RendererNotFound s) (RendererNotFound t) = string_bytes t ≡ string_bytes s
 IsSameError (EncoderNotFound s) (EncoderNotFound t) = string_bytes t ≡ string_bytes s
@@ -75,45 +77,48 @@ IsSameError (PostProcessFailed s) (PostProcessFailed t) = string_bytes t ≡ str
 IsSameError OutOfMemory OutOfMemory = Unit {0}
 IsSameError _ _ = ⊥
 
--- No renderer has the name; or the error says only that there was no memory for the name.
+-- The error reports that there is no renderer of this name, or that there was no memory for
+-- the name.
 abbrev pub IsRendererMissing : List ℕ → PluginError → Type 0
 IsRendererMissing name (RendererNotFound s) = string_bytes s ≡ name
 IsRendererMissing name OutOfMemory = Unit {0}
 IsRendererMissing name _ = ⊥
 
--- the same of an encoder
+-- The error reports that there is no encoder of this name, or that there was no memory for
+-- the name.
 abbrev pub IsEncoderMissing : List ℕ → PluginError → Type 0
 IsEncoderMissing name (EncoderNotFound s) = string_bytes s ≡ name
 IsEncoderMissing name OutOfMemory = Unit {0}
 IsEncoderMissing name _ = ⊥
 
--- ---- What configurations and an owned grid show.
+-- ---- The values of configurations and of an owned grid
 
--- the format that is asked for
+-- The format of a configuration.
 abbrev pub render_format : RenderConfig → Option (List ℕ)
 render_format c = option_map string_bytes c.format
 
--- the options, as a map from texts to texts
+-- The options of a renderer's configuration, as a map from strings to strings.
 abbrev pub render_options : RenderConfig → TextMap (List ℕ)
 render_options c = text_values (text_map c.options)
 
+-- The options of an encoder's configuration.
 abbrev pub encode_options : EncodeConfig → TextMap (List ℕ)
 encode_options c = text_values (text_map c.options)
 
--- the grid that an owned list shows
+-- The grid of a `ModuleGrid`.
 abbrev pub owned_grid : ModuleGrid → Grid
 owned_grid g = grid_of g.modules.items g.width g.height
 
--- ---- Outputs of renderers and encoders: which are the same.
+-- ---- Outputs of renderers and encoders: which are equal
 
--- the same kind of output, with the same text, bytes or grid
+-- The outputs are of the same kind and have the same text, bytes or grid.
 abbrev pub IsSameRender : RenderOutput → RenderOutput → Type 0
 IsSameRender (Text s) (Text t) = string_bytes t ≡ string_bytes s
 IsSameRender (Bytes b) (Bytes c) = c.items ≡ b.items
 IsSameRender (Modules g) (Modules h) = owned_grid h ≡ owned_grid g
 IsSameRender _ _ = ⊥
 
--- the same kind of output, with the same grid or bytes
+-- The outputs are of the same kind and have the same grid or bytes.
 abbrev pub IsSameEncoded : EncodedOutput → EncodedOutput → Type 0
 IsSameEncoded (encoded.Modules g) (encoded.Modules h) = owned_grid h ≡ owned_grid g
 IsSameEncoded (encoded.Bytes b) (encoded.Bytes c) = c.items ≡ b.items

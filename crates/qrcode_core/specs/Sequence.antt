@@ -1,4 +1,4 @@
--- A message that is spread over several symbols (ISO/IEC 18004, "Structured Append").
+-- A message that is spread over several symbols (ISO/IEC 18004:2006, "Structured Append").
 use Rattle.std.specs.Prelude.{◌≡◌, ℕ, ℤ, nat_abs, ◌+◌, ◌<◌, ◌≤◌, min, List, [], ◌∷◌, length, drop, slice_index_or}
 use Rattle.std.specs.Prelude.{slice_range, fold, bit_xor, Some, IsPermutation}
 use Rattle.std.specs.List.{concat}
@@ -12,26 +12,26 @@ use Rattle.qrcode_base.specs.Symbols.{IsNormalNumber}
 use Rattle.qrcode_bits.specs.Frame.{Header, header_of, IsTotal}
 use Rattle.qrcode_core.specs.Headline.{IsBest, Reading, Reads}
 
--- ---- What is read
+-- ---- What a reader finds
 
 -- The parity of a message: the exclusive or of all its bytes.
 abbrev pub parity_of : List ℕ → ℕ
 parity_of message = fold bit_xor 0 message
 
--- The header of the symbol at a place, counted from 1, of so many that carry a message together.
+-- The header of the symbol at a position, counted from 1, of `total` symbols that carry a message.
 abbrev pub header_at : ℕ → ℕ → List ℕ → Header
 header_at place total message = header_of place total (parity_of message)
 
--- A grid is read as a piece of a message, with a header.
+-- A reader finds a piece of a message in the grid, with a header.
 pub record ReadsPiece (grid : List Color) (header : Header) (piece : List ℕ) : Type 0 where
   pub reading : Reading
   pub reads : Reads grid reading
   pub header_is : reading.header ≡ Some header
   pub piece_is : reading.bytes ≡ piece
 
--- Two to 16 grids, in whatever order they are given, are read as a message. Each has a header that tells how many they
--- are and the parity of the whole message. In the order of the places that the headers tell, which are 1, 2 and so on,
--- each once, their pieces are the message.
+-- A reader finds a message in 2 to 16 grids, in whatever order they are given. Each grid has a
+-- header with its position, the number of grids, and the parity of the whole message. The positions
+-- are 1, 2 and so on, each once, and the pieces in this order are the message.
 pub record ReadsMessage (grids : List (List Color)) (message : List ℕ) : Type 0 where
   pub in_order : List (List Color)
   pub pieces : List (List ℕ)
@@ -43,30 +43,32 @@ pub record ReadsMessage (grids : List (List Color)) (message : List ℕ) : Type 
       (slice_index_or pieces i [])
   pub message_is : message ≡ concat pieces
 
--- No grids are read as two messages, in whatever order they are given.
+-- No grids can be read as two messages, in whatever order they are given.
 abbrev pub HaveOneMessage : Type 0
 HaveOneMessage =
     (grids shuffled : List (List Color)) (first second : List ℕ) → IsPermutation grids shuffled →
     ReadsMessage grids first → ReadsMessage shuffled second → first ≡ second
 
--- ---- What is answered
+-- ---- What `symbol_sequence` returns
 
--- The parts of a message from a start to the first cut, from each cut to the next, and from the last to the end.
+-- The parts of a message: from a start to the first cut, from each cut to the next, and from the
+-- last cut to the end.
 abbrev pub parts_from : ℕ → List ℕ → List ℕ → List (List ℕ)
 parts_from start [] message = drop start message ∷ []
 parts_from start (cut ∷ cuts) message = slice_range message start cut ∷ parts_from cut cuts message
 
+-- The parts of a whole message.
 abbrev pub parts_at : List ℕ → List ℕ → List (List ℕ)
 parts_at cuts message = parts_from 0 cuts message
 
--- The best symbol of a part, with a header, in a version up to a limit.
+-- The best symbol of a part with a header, in a version up to a limit.
 pub record IsPartSymbol (header : Header) (part : List ℕ) (level : EcLevel) (limit : ℕ)
     (grid : List Color) : Type 0 where
   pub best : IsBest normal (Some header) part level grid
   pub up_to : best.number ≤ limit
 
--- There is a symbol for each part of the message. The one at each place carries the part of that place, and is the best
--- one for it. In every order the symbols are read as the message, and as no other.
+-- There is a symbol for each part of the message, and it is the best one of its part (`each_best`).
+-- In any order, a reader finds the message in the symbols (`reads`), and no other message (`only`).
 pub record AreBestSymbols (message cuts : List ℕ) (level : EcLevel) (limit : ℕ)
     (grids : List (List Color)) : Type 0 where
   pub a_grid_each : length grids ≡ length cuts + 1
@@ -77,14 +79,15 @@ pub record AreBestSymbols (message cuts : List ℕ) (level : EcLevel) (limit : �
   pub only : (shuffled : List (List Color)) (other : List ℕ) → IsPermutation grids shuffled →
       ReadsMessage shuffled other → other ≡ message
 
--- ---- Which refusal comes when
+-- ---- Errors
 
--- Some part has no plan that fits any version up to a limit beside the header, which takes 20 bits.
+-- No plan of some part fits any version up to a limit, after the 20 bits of the header.
 abbrev pub IsSomePartTooLong : List ℕ → List ℕ → EcLevel → ℕ → Type 0
 IsSomePartTooLong message cuts level limit =
     (i : ℕ) × (i < length cuts + 1) × FitsNone normal 20 (slice_index_or (parts_at cuts message) i []) level limit
 
--- The limit is tested first, then the number of symbols. Of a want of memory nothing more is said.
+-- The errors of `symbol_sequence`, and when each is returned. The greatest version is checked
+-- first, then the number of symbols. `OutOfMemory` says only that both were valid.
 abbrev pub IsSequenceRefusal : List ℕ → List ℕ → EcLevel → ℤ → QrError → Type 0
 IsSequenceRefusal message cuts level limit InvalidResourceLimits = IsNormalNumber limit → ⊥
 IsSequenceRefusal message cuts level limit (InvalidStructuredAppend value) =

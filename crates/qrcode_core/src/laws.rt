@@ -1,4 +1,5 @@
-//! What holds of grids and of what is read from them.
+//! Laws: facts about grids and about what a reader finds in them. Each function has no body; its
+//! contract is the fact.
 
 ghost use Rattle.std.specs.Prelude.{ℕ, List, Option, None};
 ghost use Rattle.qrcode_base.specs.declared.types.Color.{Color};
@@ -11,40 +12,42 @@ ghost use Rattle.qrcode_core.specs.Headline.{Reads, IsBest, IsTooLong, IsTooLong
 ghost use Rattle.qrcode_core.specs.Headline.{NoneIsBetter, NoneIsBetterWithHeader, NoneIsRead};
 ghost use Rattle.qrcode_core.specs.Sequence.{HaveOneMessage};
 
-/// No grid is read in two ways: the bytes, the version, the level, the mask, the header and the payload bits that a
-/// reader finds are the only ones.
+/// No grid can be read in two ways: a reader finds one list of bytes, one version, one level, one
+/// mask, one header and one number of payload bits.
 pub fn have_one_reading()
     ensures { HaveOneReading }
 {}
 
-/// No grid carries two lists of data bits, nor bits in two versions, at two levels or under two masks.
+/// No grid carries two lists of data bits, nor bits in two versions, at two levels or under
+/// two masks.
 pub fn have_one_content()
     ensures { HaveOneContent }
 {}
 
-/// The reader reads a printed symbol: the digits `12345` in M1 at level L under the mask Diamonds, with 20 payload
-/// bits.
+/// A reader reads a printed symbol, the digits `12345` in M1 at level L under the mask `Diamonds`,
+/// with 20 payload bits.
 #[tactic(auto, using(crate::proofs::Printed::printed_reads))]
 pub fn printed_symbol_is_read()
     ensures { Reads printed printed_reading }
 {}
 
-/// Two grids that are read as different bytes, at one version and level, differ in some block in more codewords than
-/// the block has correction codewords (ISO/IEC 18004, error correction).
+/// Two grids that are read as different bytes, at one version and level, differ in some block in
+/// more codewords than the block has correction codewords (ISO/IEC 18004:2006, error correction).
 pub fn have_distance()
     ensures { HaveDistance }
 {}
 
-/// No grids are read as two messages of a sequence, in whatever order they are given (ISO/IEC 18004, "Structured
-/// Append").
+/// No set of grids can be read as two messages of a sequence, in whatever order the grids are given
+/// (ISO/IEC 18004:2006, "Structured Append").
 pub fn have_one_message()
     ensures { HaveOneMessage }
 {}
 
-/// Where no two neighbouring bytes are a pair of the Kanji mode, no symbol of them is better than the best one, however
-/// its bytes were cut into pieces: none has a smaller version of the kind, nor fewer payload bits in the same version.
-/// With the header of a sequence before the bytes it takes 20 bits more at least. No symbol holds bytes that are
-/// too long.
+/// Where no two neighbouring bytes are a pair of the Kanji mode, no symbol of the bytes is better
+/// than the best one, however its bytes are cut into segments: no other symbol has a smaller
+/// version of the same kind, or fewer payload bits in the same version. A symbol with the header of
+/// a sequence before the bytes takes at least 20 bits more. Where the bytes are too long, no symbol
+/// holds them.
 pub fn none_is_better()
     ensures better { (kind : ℕ → Version) (header : Option Header) (bytes : List ℕ) (level : EcLevel)
         (grid : List Color) (best : IsBest kind header bytes level grid) →

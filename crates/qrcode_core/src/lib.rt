@@ -1,5 +1,16 @@
-//! QR codes and Micro QR codes: from bytes to a grid of light and dark modules, with views of grids and a registry of
-//! renderers.
+//! QR codes and Micro QR codes: from bytes to a grid of light and dark modules, with views of grids
+//! and a registry of renderers.
+//!
+//! `Symbol::new` makes a whole symbol in one call:
+//!
+//! ```text
+//! let symbol = Symbol::new(alloc, b"hello", EcLevel::M)?;
+//! let color = symbol.get(0, 0);
+//! ```
+//!
+//! Each step is public too. `bits` encodes the data, `ec` adds the error correction codewords, and
+//! `canvas` draws the modules. `traits` lends a grid to renderers, and `plugin` registers renderers
+//! by name.
 #![tactic(auto)]
 
 pub use qrcode_base::{cast, mode, types, version};

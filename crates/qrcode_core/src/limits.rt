@@ -1,4 +1,9 @@
-//! What a caller allows an encoding to use.
+//! Limits that a caller puts on an encoding.
+//!
+//! ```text
+//! let limits = ResourceLimits::new(1000, Version::Normal(10), DEFAULT_MAX_RENDER_SIZE);
+//! let symbol = Symbol::with_limits(alloc, bytes, EcLevel::M, &limits)?;
+//! ```
 ghost use Rattle.std.specs.Prelude.{◌≡◌, Some, None, pos, IsOk, ◌↔◌, IsOkUnless};
 ghost use Rattle.qrcode_base.specs.declared.types.Version.TheVariants.{Normal};
 ghost use Rattle.qrcode_base.specs.declared.types.errors.QrError.TheVariants.{InvalidResourceLimits};
@@ -6,29 +11,30 @@ ghost use Rattle.qrcode_core.specs.Limits.{IsBudget};
 
 use qrcode_base::types::{QrError, QrResult, Version};
 
-/// The most bytes that a symbol is asked to hold, if the caller says nothing else: as many as version 40 has digits at
-/// level L.
+/// The default limit of the input, in bytes: version 40 holds this many digits at level L.
 pub const DEFAULT_MAX_DATA_LENGTH: usize = 7089;
 
-/// The greatest width and height of a drawn symbol, if the caller says nothing else.
+/// The default limit of the width and the height of a drawn symbol.
 pub const DEFAULT_MAX_RENDER_SIZE: (u32, u32) = (4096, 4096);
 
-/// What a caller allows an encoding to use. Each part may be set to anything; `validate` tells whether an encoding can
-/// keep it.
+/// Limits that a caller puts on an encoding. Each field may have any value; `validate` says whether
+/// an encoding can keep to the limits.
 #[derive(Clone, Copy, Debug, PartialEq, Eq)]
 pub struct ResourceLimits {
-    /// The most bytes of input.
+    /// The greatest length of the input, in bytes.
     pub max_data_length: usize,
-    /// The greatest version that is chosen by itself.
+    /// The greatest version that an encoding may choose.
     pub max_version: Version,
-    /// The greatest width and height of the drawn symbol.
+    /// The greatest width and height of the drawn symbol. It is for renderers to keep; no encoding
+    /// reads it.
     pub max_render_size: (u32, u32),
-    /// How many milliseconds an encoding may take, `None` for any number.
+    /// The time that an encoding may take, in milliseconds; `None` for any time. It is for the
+    /// caller to keep; no encoding reads it.
     pub encoding_timeout: Option<u64>,
 }
 
 impl ResourceLimits {
-    /// These limits, with no limit of time.
+    /// Returns these limits, without a limit of time.
     pub fn new(max_data_length: usize, max_version: Version, max_render_size: (u32, u32)) -> Self
         ensures length { result.max_data_length ≡ max_data_length }
         ensures version { result.max_version ≡ max_version }
@@ -43,7 +49,7 @@ impl ResourceLimits {
         }
     }
 
-    /// The same limits, with this many milliseconds.
+    /// Returns the same limits with a limit of time, in milliseconds.
     pub fn with_encoding_timeout_millis(mut self, timeout_ms: u64) -> Self
         ensures { result ≡ record self { encoding_timeout = Some timeout_ms } }
     {
@@ -51,8 +57,9 @@ impl ResourceLimits {
         self
     }
 
-    /// Answers `InvalidResourceLimits` unless the version is 1 to 40 and not a Micro version, no side of the size is
-    /// 0, and the time is not 0.
+    /// Returns `Ok` where an encoding can keep to the limits: the version is one of Normal
+    /// 1 to 40, neither side of the size is 0, and the time is not 0. Otherwise it fails
+    /// with `InvalidResourceLimits`.
     pub fn validate(self) -> QrResult<()>
         ensures valid { IsOk result ↔ IsBudget self }
         ensures refused { IsOkUnless result InvalidResourceLimits }
@@ -75,7 +82,7 @@ impl Default for ResourceLimits {
 
     ghost is_default = { λ limits. limits ≡ default_budget };
 
-    /// The default length and size, version 40, and no limit of time.
+    /// Returns the default length and size, version 40, and no limit of time.
     fn default() -> Self {
         ResourceLimits {
             max_data_length: DEFAULT_MAX_DATA_LENGTH,

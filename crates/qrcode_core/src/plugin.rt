@@ -1,4 +1,15 @@
-//! Renderers, encoders and postprocessors that a caller makes and registers by name.
+//! Renderers, encoders and postprocessors that a caller implements and registers by name.
+//!
+//! 1. Implement `DynRenderer`, `DynEncoder` or `PostProcessor`.
+//! 2. Register boxes of them in a `PluginRegistry`.
+//! 3. Look one up by its name, and call it.
+//!
+//! ```text
+//! let mut registry = PluginRegistry::new(alloc);
+//! registry.register_renderer("svg", Box::new(alloc, Svg)?)?;
+//! let config = RenderConfig::new(alloc).with_option("scale", "8")?;
+//! let output = registry.build_renderer("svg", &config)?.render(alloc, &view, &config)?;
+//! ```
 ghost use Rattle.std.specs.Prelude.{◌≡◌, ℕ, List, Result};
 ghost use Rattle.qrcode_core.specs.Grids.{Grid};
 ghost use Rattle.qrcode_core.specs.declared.plugin.config.EncodeConfig.{EncodeConfig};
@@ -24,15 +35,15 @@ pub use output::{EncodedOutput, RenderOutput};
 pub use registry::{PluginRegistry, QrPlugin};
 use std::alloc::Global;
 
-/// Turns a grid of modules into an output.
+/// A renderer: it turns a grid of modules into an output.
 pub trait DynRenderer: Drop {
-    // The answers that a renderer may give for a grid and a configuration.
+    // The results that the renderer may return for a grid and a configuration.
     ghost renders: { Self → Grid → RenderConfig → Result RenderOutput PluginError → Type 0 };
 
-    // The answers that it may give on a configuration alone.
+    // The results that `validate_config` may return for a configuration.
     ghost validates: { Self → RenderConfig → Result Unit PluginError → Type 0 };
 
-    /// Renders the grid that `code` shows.
+    /// Renders the grid of `code`.
     fn render(
         &self,
         alloc: Global,
@@ -41,15 +52,16 @@ pub trait DynRenderer: Drop {
     ) -> Result<RenderOutput, PluginError>
         ensures { renders self.now (grid code.now) config.now result };
 
-    /// Accepts the configuration, or says what is wrong with it. A renderer that takes every configuration answers
-    /// `Ok(())`.
+    /// Returns `Ok(())` where the renderer accepts the configuration, and otherwise an error
+    /// that says what is wrong with it. A renderer that accepts every configuration always
+    /// returns `Ok(())`.
     fn validate_config(&self, alloc: Global, config: &RenderConfig) -> Result<(), PluginError>
         ensures { validates self.now config.now result };
 }
 
-/// Turns bytes into an output.
+/// An encoder: it turns bytes into an output.
 pub trait DynEncoder: Drop {
-    // The answers that an encoder may give for the bytes and a configuration.
+    // The results that the encoder may return for the bytes and a configuration.
     ghost encodes: { Self → List ℕ → EncodeConfig → Result EncodedOutput PluginError → Type 0 };
 
     /// Encodes the bytes.
@@ -62,12 +74,12 @@ pub trait DynEncoder: Drop {
         ensures { encodes self.now input.now config.now result };
 }
 
-/// Changes a grid of modules in place.
+/// A postprocessor: it changes a grid of modules in place.
 pub trait PostProcessor: Drop {
-    // The answers that a postprocessor may give for a grid, and the grid that it leaves with each.
+    // The results that the postprocessor may return for a grid, each with the grid that it leaves.
     ghost processes: { Self → Grid → Result Unit PluginError → Grid → Type 0 };
 
-    /// Changes the grid, or refuses; also a refusal may leave it changed.
+    /// Changes the grid in place. On an error the grid may already have been changed.
     fn process(&self, alloc: Global, modules: &mut dyn ModuleStorage) -> Result<(), PluginError>
         ensures { processes self.now (grid modules.old) result (grid modules.new) };
 }

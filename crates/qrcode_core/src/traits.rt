@@ -1,4 +1,16 @@
-//! What a symbol offers to those who draw it, and the traits of encoders, builders and renderers.
+//! Traits of grids, symbols, encoders, builders and renderers, and views that lend a grid without
+//! copying it.
+//!
+//! A renderer reads a grid through `ModuleSource`, whatever type the grid has:
+//!
+//! ```text
+//! let view = ModuleView::new(&colors, 21)?;
+//! for y in 0..view.height() {
+//!     for x in 0..view.width() {
+//!         let color = view.get(x, y);
+//!     }
+//! }
+//! ```
 ghost use Rattle.std.specs.Prelude.{◌≡◌, ℕ, ◌*◌, ◌<◌, ◌≤◌, ◌↔◌, ◌⊎◌, IsTrue, Some, length, List, Result};
 ghost use Rattle.std.specs.Prelude.{IfSome, IsSome};
 ghost use Rattle.qrcode_base.specs.declared.types.EcLevel.{EcLevel};
@@ -9,7 +21,7 @@ ghost use Rattle.qrcode_core.specs.Grids.{quiet_zone_of, rows_between};
 use qrcode_base::types::{Color, EcLevel, Version};
 use std::alloc::Global;
 
-/// A lent list of modules, row after row, read as a grid. Nothing is copied.
+/// A borrowed list of modules, row after row, seen as a grid. Nothing is copied.
 #[derive(Clone, Copy, Debug, PartialEq, Eq)]
 pub struct ModuleView<'a> {
     modules: &'a [Color],
@@ -23,7 +35,8 @@ pub struct ModuleView<'a> {
 impl<'a> ModuleView<'a> {
     ghost use Rattle.qrcode_core.specs.Views.{view_grid};
 
-    /// The square view of this width; `None` if the width is 0 or its square is not the length of the list.
+    /// Returns the square view of this width, or `None` if the width is 0 or its square is not the
+    /// length of the list.
     pub fn new(modules: &'a [Color], width: usize) -> Option<Self>
         ensures exact { IsSome result ↔ (0 < width × length modules.now ≡ width * width) }
         ensures made { IfSome result (λ v. view_grid v ≡ grid_of modules.now width width) }
@@ -31,7 +44,8 @@ impl<'a> ModuleView<'a> {
         Self::new_rect(modules, width, width)
     }
 
-    /// The view with these sides; `None` if one is 0 or their product is not the length of the list.
+    /// Returns the view with these sides, or `None` if one is 0 or their product is not the length
+    /// of the list.
     pub fn new_rect(modules: &'a [Color], width: usize, height: usize) -> Option<Self>
         ensures exact { IsSome result ↔ (0 < width × 0 < height × length modules.now ≡ height * width) }
         ensures made { IfSome result (λ v. view_grid v ≡ grid_of modules.now width height) }
@@ -49,8 +63,8 @@ impl<'a> ModuleView<'a> {
         })
     }
 
-    /// The rows from `start` on, up to but not with `end`, as a view of the same list; `None` if `start` is not below
-    /// `end`, or `end` is above the height.
+    /// Returns the rows `start..end` as a view of the same list, or `None` unless `start` is less
+    /// than `end` and `end` is at most the height.
     #[tactic(auto, using(crate::proofs::RowCounts::rows_length))]
     pub fn row_range(&self, start: usize, end: usize) -> Option<Self>
         ensures exact { IsSome result ↔ (start < end × end ≤ (view_grid self.now).rows) }
@@ -94,7 +108,7 @@ impl ModuleSource for ModuleView<'_> {
     }
 }
 
-/// The lent modules of a symbol, with its version and level. Nothing is copied.
+/// The borrowed modules of a symbol, with its version and level. Nothing is copied.
 #[derive(Clone, Copy, Debug, PartialEq, Eq)]
 pub struct QrCodeRef<'a> {
     modules: &'a [Color],
@@ -108,8 +122,8 @@ pub struct QrCodeRef<'a> {
 impl<'a> QrCodeRef<'a> {
     ghost use Rattle.qrcode_core.specs.Views.{view_grid, symbol_grid, symbol_version, symbol_level};
 
-    /// The symbol of this width; `None` if the width is 0 or its square is not the length of the list. The version
-    /// and the level are kept as given, whatever the width.
+    /// Returns the symbol of this width, or `None` if the width is 0 or its square is not the
+    /// length of the list. The version and the level are not checked against the width.
     pub fn new(
         modules: &'a [Color],
         width: usize,
@@ -132,7 +146,7 @@ impl<'a> QrCodeRef<'a> {
         })
     }
 
-    /// The modules alone, as a view of the same list.
+    /// Returns the modules as a view of the same list.
     pub fn module_view(self) -> ModuleView<'a>
         ensures { view_grid result ≡ symbol_grid self.entry }
     {
@@ -186,7 +200,7 @@ impl QrSymbol for QrCodeRef<'_> {
     }
 }
 
-/// Turns bytes into an output of its own kind.
+/// An encoder, which turns bytes into an output of its own type.
 pub trait Encoder {
     type Output;
 
@@ -199,7 +213,7 @@ pub trait Encoder {
         ensures { encodes self.now input.now result };
 }
 
-/// Is turned into an output.
+/// A builder, which is turned into an output.
 pub trait Builder {
     type Output;
 
@@ -207,12 +221,12 @@ pub trait Builder {
 
     ghost builds: { Self → Result Self.Output Self.Error → Type 0 };
 
-    /// Makes the output; the builder is used up.
+    /// Builds the output, and consumes the builder.
     fn build(self, alloc: Global) -> Result<Self::Output, Self::Error>
         ensures { builds self result };
 }
 
-/// Turns a grid of modules into an output of its own kind.
+/// A renderer, which turns a grid of modules into an output of its own type.
 pub trait Renderer<Code: ModuleSource> {
     type Output;
 
@@ -220,40 +234,40 @@ pub trait Renderer<Code: ModuleSource> {
 
     ghost renders: { Self → Grid → Result Self.Output Self.Error → Type 0 };
 
-    /// Renders the grid that `code` shows.
+    /// Renders the grid of `code`.
     fn render(&self, alloc: Global, code: &Code) -> Result<Self::Output, Self::Error>
         ensures { renders self.now (Code.grid code.now) result };
 }
 
-/// A grid of modules that can be read. Columns are counted from the left and rows from the top, both from 0, and the
-/// quiet zone is no part of it.
+/// A grid of modules that can be read. Columns are counted from the left and rows from the top,
+/// both from 0. The quiet zone is not part of the grid.
 ///
-/// An implementation says by `grid` which list, width and height it shows. It then proves that `get` and `row` read
-/// from the list that `modules` lends: `get(x, y)` is its element `y * width + x`, and `row(y)` its elements from `y
-/// * width` on.
+/// An implementation defines by `grid` which list, width and height it has. It then proves that
+/// `get` and `row` read from the list that `modules` returns: `get(x, y)` is its element
+/// `y * width + x`, and `row(y)` is its elements from `y * width` on.
 pub trait ModuleSource {
     ghost grid: { Self → Grid };
 
-    /// The color in column `x` of row `y`.
+    /// Returns the colour in column `x` of row `y`.
     fn get(&self, x: usize, y: usize) -> Color
         requires column { x < (grid self.now).columns }
         requires row { y < (grid self.now).rows }
         ensures { color_at (grid self.now) x y ≡ Some result };
 
-    /// How many modules a row has.
+    /// Returns the number of modules in a row.
     fn width(&self) -> usize
         ensures { result ≡ (grid self.now).columns };
 
-    /// How many rows there are.
+    /// Returns the number of rows.
     fn height(&self) -> usize
         ensures { result ≡ (grid self.now).rows };
 
-    /// All modules, row after row. What may stand behind the last row is no part of the grid.
+    /// Returns all modules, row after row. Elements after the last row are not part of the grid.
     fn modules(&self) -> &[Color]
         ensures list { result.now ≡ (grid self.now).cells }
         ensures rows { HasAllRows (grid self.now) };
 
-    /// The modules of row `y`.
+    /// Returns the modules of row `y`.
     fn row(&self, y: usize) -> &[Color]
         requires exists { y < (grid self.now).rows }
         ensures { result.now ≡ row_of (grid self.now) y }
@@ -264,7 +278,7 @@ pub trait ModuleSource {
         &modules[start..start + width]
     }
 
-    /// Tells whether there is no module: the width or the height is 0.
+    /// Whether the grid has no modules: its width or its height is 0.
     fn is_empty(&self) -> bool
         ensures { IsTrue result ↔ (((grid self.now).columns ≡ 0) ⊎ ((grid self.now).rows ≡ 0)) }
     {
@@ -278,15 +292,16 @@ pub trait QrSymbol: ModuleSource {
 
     ghost level_of: { Self → EcLevel };
 
-    /// The version.
+    /// Returns the version.
     fn version(&self) -> Version
         ensures { result ≡ version_of self.now };
 
-    /// The error correction level.
+    /// Returns the error correction level.
     fn error_correction_level(&self) -> EcLevel
         ensures { result ≡ level_of self.now };
 
-    /// How many light modules stay free on each side: four, two round a Micro symbol (ISO/IEC 18004, "Quiet zone").
+    /// Returns the width of the quiet zone in modules: 4 on each side, or 2 for a Micro symbol
+    /// (ISO/IEC 18004:2006, "Quiet zone").
     fn quiet_zone(&self) -> u32
         ensures { result ≡ quiet_zone_of (version_of self.now) }
     {
@@ -294,36 +309,37 @@ pub trait QrSymbol: ModuleSource {
     }
 }
 
-/// A grid of modules that can be read and changed. Each type that implements this is a `ModuleSource` too.
+/// A grid of modules that can be read and changed. Each type that implements this is a
+/// `ModuleSource` too.
 pub trait ModuleStorage {
     ghost grid: { Self → Grid };
 
-    /// The color in column `x` of row `y`.
+    /// Returns the colour in column `x` of row `y`.
     fn get(&self, x: usize, y: usize) -> Color
         requires column { x < (grid self.now).columns }
         requires row { y < (grid self.now).rows }
         ensures { color_at (grid self.now) x y ≡ Some result };
 
-    /// Sets the color in column `x` of row `y`, and nothing else.
+    /// Sets the colour in column `x` of row `y`, and nothing else.
     fn set(&mut self, x: usize, y: usize, color: Color)
         requires column { x < (grid self.old).columns }
         requires row { y < (grid self.old).rows }
         ensures { grid self.new ≡ with_color (grid self.old) x y color };
 
-    /// How many modules a row has.
+    /// Returns the number of modules in a row.
     fn width(&self) -> usize
         ensures { result ≡ (grid self.now).columns };
 
-    /// How many rows there are.
+    /// Returns the number of rows.
     fn height(&self) -> usize
         ensures { result ≡ (grid self.now).rows };
 
-    /// All modules, row after row.
+    /// Returns all modules, row after row.
     fn modules(&self) -> &[Color]
         ensures list { result.now ≡ (grid self.now).cells }
         ensures full { IsFull (grid self.now) };
 
-    /// Tells whether there is no module: the width or the height is 0.
+    /// Whether the grid has no modules: its width or its height is 0.
     fn is_empty(&self) -> bool
         ensures { IsTrue result ↔ (((grid self.now).columns ≡ 0) ⊎ ((grid self.now).rows ≡ 0)) }
     {

@@ -71,7 +71,7 @@ squares_marked u l at inside same =
     (λ j h. ap (λ (ts : List Bool). get_or ts j false) tests
     ∙ get_or-map-range_with_len (is_byte_square_at u l) at 16 j (at + j) false h refl)
 
--- rows of lanes behind the marked ones have no bit
+-- rows of lanes after the marked ones have no bit
 nothing : (n : ℕ) → sum_below (λ i. 0) n ≡ 0
 nothing zero = refl
 nothing (suc n) = omega (arith, nothing n)

@@ -1,4 +1,5 @@
--- The laws of the regions, of the alignment patterns, of the walk, and of the code words of the two generators.
+-- The laws of the regions, of the alignment patterns, of the walk, and of the code words of the two
+-- generators.
 use Rattle.qrcode_grid.proofs.Prelude.{◌≡◌, ℕ, zero, suc, ◌<◌, ◌≤◌, ◌+◌, ◌*◌, ◌/◌, refl, arith, Bool, not, map, filter, range_with_len, Version, IsVersion}
 use Rattle.qrcode_grid.proofs.Prelude.{width_of, timing_column, walk, data_cells, is_functional_cell, common_steps, ◌≢◌, ◌-◌, ◌%◌, ◌==◌, ◌&&◌, ◌||◌, nat_le}
 use Rattle.qrcode_grid.proofs.Prelude.{nat_lt, true, false, Option, Some, unwrap_or, subst, ◌^◌, List, abs_diff, eqb-true, leb-true, ltb-true, near, alignments}
@@ -14,7 +15,7 @@ odd_width version h = grind (arith)
 pub timing_inside : (version : Version) → IsVersion version → timing_column version < width_of version
 timing_inside version h = grind (arith)
 
--- what two tests tell alike is filtered alike
+-- two tests that agree filter alike
 filter-alike : {X : Type 0} (p q : X → Bool) (at : ℕ → X) (a n : ℕ) → ((k : ℕ) → a ≤ k → k < a + n → p (at k) ≡ q (at k)) →
     filter p (map at (range_with_len a n)) ≡ filter q (map at (range_with_len a n))
 filter-alike p q at a zero same = refl
@@ -24,7 +25,8 @@ pub data_cells-by_areas : (version : Version) → IsVersion version →
     data_cells version ≡ filter (λ c. not (is_functional_cell version c.0 c.1)) (walk version)
 data_cells-by_areas version h = grind (arith, filter-alike, numbered_cell_inside, odd_width, timing_inside, is_some-functional_color)
 
--- The laws of the regions, of the alignment patterns, of the walk, and of the code words of the two generators.
+-- The laws of the regions, of the alignment patterns, of the walk, and of the code words of the two
+-- generators.
 
 -- each centre coordinate is the one near the five coordinates around it, computed
 abbrev is_near_its_own : ℕ → ℕ → ℕ → Bool
@@ -49,7 +51,8 @@ near_center n i x high within close =
     let same : c + u - 2 ≡ x = omega (arith, six, close) in
     subst (λ (y : ℕ). near (alignment_coordinates n) y ≡ Some c) same (some_of _ c (eqb-true _ _ here.1) six)
 
--- whether a pair of coordinates lies at one of the three finder patterns, by the coordinates and by their places
+-- whether a pair of coordinates lies at one of the three finder patterns, by the coordinates and by
+-- their places
 abbrev is_at_finder : ℕ → ℕ → ℕ → ℕ → Bool
 is_at_finder first last a b = (a == first && b == first) || (a == first && b == last) || (a == last && b == first)
 

@@ -1,4 +1,5 @@
--- The runs of a line, by its fives and sixes of one colour: a run of n modules, n at least 5, has n - 4 fives and n - 5 sixes.
+-- The runs of a line, by its fives and sixes of one colour: a run of n modules, n at least 5, has n
+-- - 4 fives and n - 5 sixes.
 use Rattle.qrcode_grid.proofs.Prelude.{◌≡◌, ℕ, zero, suc, ◌+◌, ◌-◌, ◌*◌, ◌<◌, ◌≤◌, ◌==◌, ◌&&◌, Bool, true, false, cond, List, [], ◌∷◌, length, get_or, refl}
 use Rattle.qrcode_grid.proofs.Prelude.{◌||◌, arith, not, ap, ◌∙◌, sym, prefix_len, eqb_tells, common_steps, count_below, sum_below, nat_le}
 use Rattle.qrcode_grid.{specs.Penalty.run_length, proofs.Totals.total-first, proofs.Totals.total-cong}
@@ -82,7 +83,7 @@ edge (c ∷ []) i = false
 edge (c ∷ d ∷ ds) zero = c == d
 edge (c ∷ d ∷ ds) (suc i) = edge (d ∷ ds) i
 
--- so many edges from a place on
+-- whether each of n modules from an index on has the colour of the next
 abbrev edges : ℕ → List ℕ → ℕ → Bool
 edges zero line i = true
 edges (suc n) line i = edge line i && edges n line (suc i)

@@ -106,7 +106,7 @@ count_marks : (lanes : List ℕ) (test : ℕ → ℕ → Bool) → Marks lanes t
 unfolding bit_count
 count_marks lanes test marks m h = total-cong (λ j. bit_at (get_or lanes j 0) m) (λ j. cond (test m j) 1 0) 16 (λ j l. marks.bits m j h l)
 
--- so many rows of lanes hold as many places after some place
+-- the next s rows of lanes count the next 16 * s places
 pub next_rows : (rows : List (List ℕ)) (test : ℕ → ℕ → Bool) (at s : ℕ) →
     ((i : ℕ) → i < s → Marks (get_or rows i []) (λ m j. test m (at + 16 * i + j))) → (m : ℕ) → m < 8
     → count_below (test m) at + sum_below (λ i. bit_count m (get_or rows i [])) s ≡ count_below (test m) (at + s * 16)

@@ -85,7 +85,7 @@ near_more f x k c h far = grind (arith, common_steps)
 pub alignment_count_is : (n : ℕ) → 1 < n → alignment_count n ≡ n / 7 + 2
 alignment_count_is n h = let e : leb n 1 ≡ false = (grind (arith, nat_tests)) in ap (λ b. cond b 0 (n / 7 + 2)) e
 
--- a centre coordinate behind the first, as the code has it
+-- a centre coordinate after the first, as the code has it
 pub coordinate_is : (n k step : ℕ) → 1 < n → 1 ≤ k → step ≡ cond (n == 32) 26 ((4 * n + 2 * (n / 7 + 2) + 1) / (2 * (n / 7 + 2) - 2) * 2) →
     4 * n + 10 - (n / 7 + 2 - 1 - k) * step ≡ alignment_coordinate n k
 coordinate_is n k step some behind_first is = grind (arith, nat_tests, is, alignment_count_is n some)
@@ -117,7 +117,8 @@ near_past cs k x h e = grind (arith, common_steps, drop_more)
 pub near_end : (cs : List ℕ) (k x : ℕ) → length cs ≤ k → near (drop k cs) x ≡ None
 near_end cs k x h = grind (arith, common_steps, drop_all)
 
--- The cells of a row that no alignment pattern covers: before, between and behind the five cells of each centre.
+-- The cells of a row that no alignment pattern covers: before, between and after the five cells of
+-- each centre.
 
 -- computed: the centre coordinates are five apart and more, and each has its five cells in the grid
 abbrev is_rising : ℕ → Bool
@@ -141,7 +142,7 @@ cells_inside n k high within =
     (passes is_inside 0 41 n inside (omega arith) (omega arith)) (omega arith) (omega arith)) in
     (leb-true _ _ t.0, leb-true _ _ t.1)
 
--- the first column behind the cells of the centres before a number
+-- the first column after the cells of the centres before a number
 abbrev pub behind : ℕ → ℕ → ℕ
 behind n zero = 0
 behind n (suc k) = alignment_coordinate n k + 3
@@ -164,7 +165,7 @@ none_between n k x high within low last =
       | inr after ↦ (grind (arith, common_steps, apart))
     ]))
 
--- nor behind the last
+-- nor after the last
 pub none_behind : (n x : ℕ) → n ≤ 40 → behind n (alignment_count n) ≤ x → near (alignment_coordinates n) x ≡ None
 none_behind n x high low =
     all_from_zero n x (far_from_all (alignment_coordinate n) x (alignment_count n) (alignment_count n) 0 (omega arith)

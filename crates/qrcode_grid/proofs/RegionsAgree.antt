@@ -82,7 +82,7 @@ pairs_apart ts [] q e = tt
 pairs_apart [] (r ∷ rs) q e = absurd q
 pairs_apart (t ∷ ts) (r ∷ rs) q e = (each_apart t r ts rs q.0 q.1 e.0, pairs_apart ts rs q.1 e.1)
 
--- a region that agrees with others may stand among them
+-- a region that agrees with others may be put among them
 each_insert : (r a : Option Color) (before after : List (Option Color)) → EachAgrees r (before ++ after) → Agree r a → EachAgrees r (before ++ a ∷ after)
 each_insert r a [] after h e = (e, h)
 each_insert r a (s ∷ before) after h e = (h.0, each_insert r a before after h.1 e)

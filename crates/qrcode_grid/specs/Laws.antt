@@ -1,4 +1,4 @@
--- What holds of the definitions of a symbol's grid beyond what each says by itself.
+-- Properties of the definitions of a symbol's grid that follow from them.
 use Rattle.std.specs.Prelude.{Some, IfSome, All, ◌≡◌, ◌≢◌, ℕ, pos, negsuc, ◌+◌, ◌-◌, ◌*◌, ◌%◌, ◌<◌, ◌≤◌}
 use Rattle.std.specs.Prelude.{false, is_some, ◌==◌, ◌&&◌, ◌||◌}
 use Rattle.qrcode_base.specs.declared.types.EcLevel.{EcLevel}
@@ -12,15 +12,15 @@ use Rattle.qrcode_grid.specs.Regions.{alignment_coordinate, alignment_coordinate
 use Rattle.qrcode_grid.specs.Masks.{format_word}
 use Rattle.qrcode_grid.specs.Walk.{timing_column, cell_number, numbered_cell}
 
--- A format word is that of five data digits, and differs in at least 7 of its 15 digits from that of every other five,
--- so of every other level or symbol and mask.
+-- The format word is the one of five data bits, and differs in at least 7 of its 15 bits from that
+-- of every other five bits, so from that of every other level, version or mask.
 unfoldable pub IsFarFormatWord : Version → EcLevel → MaskPattern → Type 0
 IsFarFormatWord version level pattern =
     (data_bits : ℕ) × (data_bits < 32) × (format_word version level pattern ≡ format_code version data_bits) ×
     ((other : ℕ) → other < 32 → other ≢ data_bits →
     7 ≤ differing_digits 15 (format_word version level pattern) (format_code version other))
 
--- A version word differs in at least 8 of its 18 digits from that of every other version.
+-- The version word differs in at least 8 of its 18 bits from that of every other version.
 unfoldable pub IsFarVersionWord : Version → Type 0
 IsFarVersionWord (Normal (pos n)) =
     7 ≤ n → (other : ℕ) → 7 ≤ other → other ≤ 40 → other ≢ n →
@@ -28,7 +28,8 @@ IsFarVersionWord (Normal (pos n)) =
 IsFarVersionWord (Normal (negsuc n)) = Unit {0}
 IsFarVersionWord (Micro z) = Unit {0}
 
--- What any region says of a cell is its colour, and the cells that have one are those of the areas.
+-- Regions that overlap agree (`agree`): the colour that any region gives a cell is the functional
+-- colour of the cell. The cells that have one are those of the whole areas (`areas`).
 pub record AreConsistentRegions (version : Version) : Type 0 where
   pub areas :
       (format x y : ℕ) → x < width_of version → y < width_of version →
@@ -37,9 +38,10 @@ pub record AreConsistentRegions (version : Version) : Type 0 where
       (format x y : ℕ) → x < width_of version → y < width_of version →
       All (λ says. IfSome says (λ c. functional_color version format x y ≡ Some c)) (regions version format x y)
 
--- Every pair of centre coordinates has its pattern, but the first with the first or the last, and the last with the
--- first. The coordinates after the first go back from the last by one step, the least even one that reaches (but at
--- version 32).
+-- Every pair of centre coordinates has its alignment pattern, except the first with the first, the
+-- first with the last, and the last with the first, where the finder patterns are (`drawn`). The
+-- coordinates after the first have equal steps up to the last (`spaced`). The step is the least
+-- even one that reaches the first coordinate (`even`, `reaches`, `least`), except in version 32.
 pub record HasEveryAlignment (n : ℕ) : Type 0 where
   pub drawn :
       (i j x y : ℕ) → i < alignment_count n → j < alignment_count n →
@@ -56,12 +58,14 @@ pub record HasEveryAlignment (n : ℕ) : Type 0 where
   pub reaches : 2 ≤ n → n ≢ 32 → 4 * n + 4 ≤ (alignment_count n - 1) * step
   pub least : 2 ≤ n → n ≢ 32 → (alignment_count n - 1) * (step - 2) < 4 * n + 4
 
+-- A Normal version has every alignment pattern; a Micro version has none.
 unfoldable pub HasItsAlignments : Version → Type 0
 HasItsAlignments (Normal (pos n)) = HasEveryAlignment n
 HasItsAlignments (Normal (negsuc n)) = Unit {0}
 HasItsAlignments (Micro z) = Unit {0}
 
--- The walk comes once to every cell outside the timing column: numbers and cells are one to one.
+-- The walk visits every cell outside the timing column exactly once: each number has one cell, and
+-- each cell one number.
 pub record IsWalkOf (version : Version) : Type 0 where
   pub inside :
       (k : ℕ) → k < width_of version * (width_of version - 1) →

@@ -1,4 +1,5 @@
-//! Laws: facts about the definitions that other crates and users rest on. Each function only carries its contract.
+//! Laws: facts about the definitions that other crates and users can cite. Each function has no
+//! body; its contract is the fact.
 
 ghost use Rattle.std.specs.Prelude.{◌≡◌, ℕ, ◌*◌, ◌<◌, List, length};
 ghost use Rattle.qrcode_base.specs.declared.types.Color.{Color};
@@ -10,8 +11,9 @@ ghost use Rattle.qrcode_grid.specs.Regions.{HasOneFormatWord, HasOneVersionWord}
 ghost use Rattle.qrcode_grid.specs.Canvas.{HasItsSiblings};
 ghost use Rattle.qrcode_grid.specs.Masks.{HasFunctionalColors};
 
-/// The siblings of a grid with the functional colours of its symbol have its raw colours and the functional colours of
-/// their own masks. Under its own mask the sibling is the grid itself.
+/// For a grid with the functional colours of its symbol, the grid under each other mask (its
+/// sibling) has the same raw colours and the functional colours of that mask. Under its own mask
+/// the sibling is the grid itself.
 pub fn siblings_have_the_same_data()
     ensures { (version : Version) (level : EcLevel) (pattern : MaskPattern) (colors : List Color) →
         IsVersion version → length colors ≡ width_of version * width_of version →
@@ -19,8 +21,8 @@ pub fn siblings_have_the_same_data()
         HasItsSiblings version level pattern colors }
 {}
 
-/// Of the multiples of a generator one begins with some data, and no other does: the code word. So each format word and
-/// each version word is there, and is the only one.
+/// Exactly one multiple of the generator begins with given data bits: their code word. So each
+/// format word and each version word exists and is unique.
 pub fn words_are_the_one_multiple()
     ensures format { (data_bits : ℕ) → data_bits < 32 → HasOneFormatWord data_bits }
     ensures version { (number : ℕ) → number < 64 → HasOneVersionWord number }

@@ -39,7 +39,7 @@ covered_dark p start x y from to =
     let e : x ≡ start + (x - start) = omega arith in
     rw e (run_passes p start y (x - start) (omega arith))
 
--- a run goes on over a dark module behind its last one
+-- a run goes on over a dark module after its last one
 reaches_next : (p : Picture) (start x y : ℕ) → x + 1 < columns_of p → is_dark_module p (x + 1) y ≡ true → start ≤ x → x < start + run_length p start y →
     x + 1 < start + run_length p start y
 reaches_next p start x y inside dark from to =
@@ -75,7 +75,7 @@ covered p (suc x) y inside dark =
           (x + 1, record { begins = begins_after_light p x y dark_here light; from = omega arith; to = omega (arith, more) }))
     ]
 
--- no run begins behind a dark module
+-- no run begins after a dark module
 no_begin : (p : Picture) (b y : ℕ) → 0 < b → is_dark_module p (b - 1) y ≡ true → begins_run p b y ≡ false
 no_begin p b y some dark = rw dark (grind (arith, nat_tests))
 

@@ -20,7 +20,7 @@ module _ (grid : Grid) (config : RenderConfig) (scale quiet : ℕ) (inverted : B
       IsOutput output (picture_as format inverted (picture grid scale quiet))
   written format output h = grind (arith, one_drawing)
 
-  -- Only memory can want: the configuration asks for a drawing, and the grid can be drawn.
+  -- Only memory can run out: the configuration is valid, and the grid can be drawn.
   wants_memory : (usual : ℕ) (Shows : Bool → Picture → RenderOutput → Type 0) (error : PluginError) → IsDrawable grid →
       Renders usual Shows grid config (Err error) → error ≡ OutOfMemory
   wants_memory usual Shows (InvalidConfig s) small h = absurd (h scale quiet inverted (asks usual))
@@ -41,7 +41,7 @@ module _ (grid : Grid) (config : RenderConfig) (scale quiet : ℕ) (inverted : B
       IfErr answer (λ e. e ≡ OutOfMemory)
   answer_refused format answer h k = grind (arith, refused)
 
--- the answer at a name and a grid is that at the same ones by other names
+-- the result for a name and a grid is the same for equal ones
 pub drawn_at : (name same_name : List ℕ) (grid middle same_grid : Grid) (config : RenderConfig) (answer : Result RenderOutput PluginError)
     → RendersByName name grid config answer → name ≡ same_name → middle ≡ same_grid → middle ≡ grid → RendersByName same_name same_grid config answer
 drawn_at name same_name grid middle same_grid config answer h named is first = rw (named, sym first ∙ is) at h

@@ -50,14 +50,14 @@ pub nothing_there : {A : Type 0} {F : A → Type 0} (m n : TextMap (DynBox A Glo
     → m ≡ n → at_key n name ≡ None → IfNone (object_at m name) Q → Q
 nothing_there m n name Q same none h = rw (same, none) at h
 
--- a configuration that the test refuses is refused by the drawing
+-- a configuration that `validate_config` rejects is rejected by the renderer
 pub refused_alike : (usual : ℕ) (Shows : Bool → Picture → RenderOutput → Type 0) (grid : Grid) (config : RenderConfig) (error : PluginError)
     → Validates usual config (Err error) → Renders usual Shows grid config (Err error)
 refused_alike usual Shows grid config (InvalidConfig s) h = h
 refused_alike usual Shows grid config OutOfMemory h = tt
 refused_alike usual Shows grid config other h = absurd h
 
--- what is drawn by a name, where the renderer draws or its test refuses
+-- the result for a name, where the renderer draws or its `validate_config` fails
 pub drawn_by_name : (usual : ℕ) (Shows : Bool → Picture → RenderOutput → Type 0) (grid : Grid) (config : RenderConfig)
     (answer : Result RenderOutput PluginError)
     → Renders usual Shows grid config answer ⊎ ((error : PluginError) × (answer ≡ Err error) × Validates usual config (Err error))

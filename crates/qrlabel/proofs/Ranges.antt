@@ -12,6 +12,6 @@ flat_map_range f n =
     ∙ flat_map-append each (map f (range_with_len 0 n)) (f n ∷ [])
     ∙ simp (flat_map-map, append-nil)
 
--- one piece more behind what was there at the start
+-- one piece more after what was there at the start
 pub joined : {A : Type 0} (start before old piece new next : List A) → next ≡ before ++ piece → old ≡ start ++ before → new ≡ old ++ piece → new ≡ start ++ next
 joined start before old piece new next more was adds = grind (arith, append_assoc)

@@ -3,26 +3,26 @@ use Rattle.std.specs.Prelude.{ℕ, ◌+◌, ◌*◌, ◌/◌, Bool, List, ◌++�
 use Rattle.std.specs.List.{range_with_len}
 use Rattle.qrlabel.specs.Pictures.{Picture, width_of, height_of, is_dark_pixel}
 
--- "P4", and the width and the height in decimal
+-- The header: "P4", and the width and the height in decimal digits.
 unfoldable pub header : (width height : ℕ) → List ℕ
 header width height = codes "P4\n" ++ (decimal width ++ (codes " " ++ (decimal height ++ codes "\n")))
 
--- the number that bits spell, the highest first
+-- The number of some bits, the highest first.
 abbrev pub number_of : List Bool → ℕ
 number_of bits = fold (λ n bit. n * 2 + (if bit then 1 else 0)) 0 bits
 
--- a byte of row y: a bit for each of the eight pixels from column 8 * place on, dark is one
+-- A byte of row y: one bit for each of the eight pixels from column 8 * place on; dark is 1.
 unfoldable pub byte_of : Picture → ℕ → ℕ → ℕ
 byte_of p y place = number_of (map (λ x. is_dark_pixel p x y) (range_with_len (8 * place) 8))
 
--- the bytes of row y; light pixels behind the last one fill the last byte
+-- The bytes of row y; light pixels fill up the last byte.
 unfoldable pub row_of : Picture → ℕ → List ℕ
 row_of p y = map (byte_of p y) (range_with_len 0 ((width_of p + 7) / 8))
 
--- the bytes of the first rows, from the top
+-- The bytes of the first rows, from the top.
 unfoldable pub first_rows : Picture → ℕ → List ℕ
 first_rows p rows = flat_map (row_of p) (range_with_len 0 rows)
 
--- the bitmap: the header and all rows
+-- The bitmap: the header and all rows.
 abbrev pub bitmap_of : Picture → List ℕ
 bitmap_of p = header (width_of p) (height_of p) ++ first_rows p (height_of p)

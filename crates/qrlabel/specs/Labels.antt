@@ -1,4 +1,4 @@
--- What a label is: the picture of the symbol of some bytes.
+-- A label: the picture of the symbol of some bytes.
 use Rattle.std.specs.Prelude.{◌≡◌, ℕ, Bool, true, false, List, ◌++◌, [], ◌∷◌, Option, codes}
 use Rattle.qrcode_core.specs.declared.types.EcLevel.{EcLevel}
 use Rattle.qrcode_core.specs.declared.types.errors.QrError.{QrError}
@@ -15,45 +15,48 @@ use Rattle.qrlabel.specs.Terminals.{terminal_text}
 use Rattle.qrlabel.specs.Texts.{IsTextSymbol, IsTextRefusal}
 use Rattle.qrlabel.specs.Words.{Label}
 
+-- The name of the program.
 abbrev pub program : List ℕ
 program = codes "qrlabel"
 
+-- The usage line.
 abbrev pub usage : List ℕ
 usage = codes "usage: qrlabel svg|pbm|terminal L|M|Q|H [micro|utf8] [--scale N] [--quiet N] [--inverted]" ++ 10 ∷ []
 
--- the symbol of this kind is that of the bytes
+-- The symbol is that of the bytes, of this kind.
 abbrev pub IsSymbolAs : Kind → EcLevel → List ℕ → DrawnSymbol → Type 0
 IsSymbolAs Usual level bytes symbol = IsSymbolOf false level bytes symbol.modules
 IsSymbolAs Micro level bytes symbol = IsSymbolOf true level bytes symbol.modules
 IsSymbolAs Utf8 level bytes symbol = IsTextSymbol level bytes symbol
 
--- there is no symbol of this kind of the bytes
+-- The call for the symbol of this kind fails with this error.
 abbrev pub IsRefusalAs : Kind → EcLevel → List ℕ → QrError → Type 0
 IsRefusalAs Usual = IsRefusalOf false
 IsRefusalAs Micro = IsRefusalOf true
 IsRefusalAs Utf8 = IsTextRefusal
 
--- a picture in its form
+-- A picture in its format.
 abbrev pub picture_as : Format → Bool → Picture → List ℕ
 picture_as Svg inverted p = svg_text p
 picture_as Pbm inverted p = bitmap_of p
 picture_as Terminal inverted p = terminal_text inverted p
 
--- the picture of a symbol that is asked for
+-- The picture of a symbol as the label describes it.
 abbrev pub picture_for : Label → DrawnSymbol → List ℕ
 picture_for asked symbol = picture_as asked.format asked.inverted (picture (drawn_grid symbol) asked.scale asked.quiet)
 
--- the label shows the symbol of the bytes
+-- The label shows the symbol of the bytes.
 pub record Shows (asked : Label) (bytes label : List ℕ) : Type 0 where
   pub symbol : DrawnSymbol
   pub is_symbol : IsSymbolAs asked.kind asked.level bytes symbol
   pub label_is : label ≡ picture_for asked symbol
 
--- the bytes are refused
+-- The call for the label's symbol fails with this error.
 abbrev pub Refuses : Label → List ℕ → QrError → Type 0
 Refuses asked = IsRefusalAs asked.kind asked.level
 
--- the label that is asked for was drawn
+-- The program drew the label, or reported an error. `deaf`, `dumb` and `mute` say whether the
+-- reader, the writer and the error output failed.
 abbrev pub ServesLabel : Label → (unread left written now handed_on before after : Option (List ℕ)) →
     (deaf dumb mute : Bool) → ℕ → Type 0
 ServesLabel asked = Serves (Shows asked) (Refuses asked) program

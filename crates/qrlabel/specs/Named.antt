@@ -1,4 +1,4 @@
--- What a drawing by the name of its renderer answers.
+-- Rendering by the name of the renderer.
 use Rattle.std.specs.Prelude.{◌≡◌, ◌≢◌, ℕ, List, codes, Result, IsErrAnd}
 use Rattle.qrcode_core.specs.declared.plugin.config.RenderConfig.{RenderConfig}
 use Rattle.qrcode_core.specs.declared.plugin.error.PluginError.{PluginError}
@@ -7,7 +7,8 @@ use Rattle.qrcode_core.specs.Grids.{Grid}
 use Rattle.qrcode_core.specs.Plugins.{IsRendererMissing}
 use Rattle.qrlabel.specs.Rendered.{Renders, ShowsBitmap, ShowsSvg, ShowsTerminal}
 
--- Each renderer answers by its name; by any other there is none.
+-- The result is that of the renderer of this name; for any other name it is the error for a
+-- missing renderer.
 pub record RendersByName (name : List ℕ) (grid : Grid) (config : RenderConfig)
     (answer : Result RenderOutput PluginError) : Type 0 where
   pub svg : name ≡ codes "svg" → Renders 8 ShowsSvg grid config answer

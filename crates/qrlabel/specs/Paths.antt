@@ -1,40 +1,42 @@
--- A picture as SVG: a light ground, and on it one path of a rectangle for each run of dark modules in a row.
+-- A picture as SVG: a light background, and on it one path with a rectangle for each run of dark
+-- modules in a row.
 use Rattle.std.specs.Prelude.{ℕ, ◌-◌, Bool, if◌then◌else◌, ◌==◌, ◌&&◌, ◌||◌, not}
 use Rattle.std.specs.Prelude.{List, [], ◌++◌, map, drop, flat_map, codes, decimal}
 use Rattle.std.specs.List.{range_with_len, prefix_len}
 use Rattle.qrlabel.specs.Pictures.{Picture, columns_of, rows_of, width_of, height_of, is_dark_module}
 
--- whether a run begins in column x of row y: the module is dark, and the one to its left is not
+-- Whether a run begins in column x of row y: the module is dark, and the one to its left is not.
 abbrev pub begins_run : Picture → ℕ → ℕ → Bool
 begins_run p x y = is_dark_module p x y && ((x == 0) || not (is_dark_module p (x - 1) y))
 
--- which modules of row y are dark
+-- Whether each module of row y is dark.
 abbrev pub row_of : Picture → ℕ → List Bool
 row_of p y = map (λ x. is_dark_module p x y) (range_with_len 0 (columns_of p))
 
--- how many modules from column x on are dark, up to the first that is light
+-- The number of dark modules from column x up to the first light one.
 unfoldable pub run_length : Picture → ℕ → ℕ → ℕ
 run_length p x y = prefix_len (λ is_dark. is_dark) (drop x (row_of p y))
 
--- the rectangle that covers `length` modules from column x of row y on
+-- The rectangle that covers `length` modules from column x of row y on.
 unfoldable pub rectangle : ℕ → ℕ → ℕ → List ℕ
 rectangle x y length =
     codes "M" ++ (decimal x ++ (codes " " ++ (decimal y ++
     (codes "h" ++ (decimal length ++ (codes "v1h-" ++ (decimal length ++ codes "z")))))))
 
--- the rectangle of the run that begins in column x of row y, if one does
+-- The rectangle of the run that begins in column x of row y, if one does.
 unfoldable pub run_at : Picture → ℕ → ℕ → List ℕ
 run_at p y x = if begins_run p x y then rectangle x y (run_length p x y) else []
 
--- the rectangles of the runs in a row, from the left
+-- The rectangles of the runs in a row, from the left.
 unfoldable pub row_path : Picture → ℕ → ℕ → List ℕ
 row_path p y columns = flat_map (run_at p y) (range_with_len 0 columns)
 
--- the rectangles of all runs in the first rows, from the top
+-- The rectangles of all runs in the first rows, from the top.
 unfoldable pub path : Picture → ℕ → List ℕ
 path p rows = flat_map (λ y. row_path p y (columns_of p)) (range_with_len 0 rows)
 
--- the head of the document, by its sides in pixels and in modules: a box of modules, and the light ground
+-- The head of the document, with its sides in pixels and in modules: the view box, and the
+-- light background.
 unfoldable pub opening : (width height columns rows : ℕ) → List ℕ
 opening width height columns rows =
     codes "<svg xmlns=\"http://www.w3.org/2000/svg\" width=\"" ++ (decimal width ++
@@ -43,10 +45,10 @@ opening width height columns rows =
     (codes "\">\n<rect width=\"" ++ (decimal columns ++ (codes "\" height=\"" ++ (decimal rows ++
     codes "\" fill=\"#fff\"/>\n<path d=\"")))))))))))
 
--- the end of the document
+-- The end of the document.
 abbrev pub closing : List ℕ
 closing = codes "\"/>\n</svg>\n"
 
--- the document of a picture
+-- The document of a picture.
 abbrev pub svg_text : Picture → List ℕ
 svg_text p = opening (width_of p) (height_of p) (columns_of p) (rows_of p) ++ (path p (rows_of p) ++ closing)

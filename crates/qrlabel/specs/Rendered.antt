@@ -1,4 +1,4 @@
--- What the renderers answer.
+-- The results of the renderers.
 use Rattle.std.specs.Prelude.{◌≡◌, ℕ, ◌≤◌, Bool, List, Result, Ok, Err}
 use Rattle.std.specs.String.{string_bytes}
 use Rattle.qrcode_core.specs.declared.plugin.config.RenderConfig.{RenderConfig}
@@ -14,31 +14,33 @@ use Rattle.qrlabel.specs.Terminals.{terminal_text}
 use Rattle.qrlabel.specs.Paths.{svg_text}
 use Rattle.qrlabel.specs.Options.{Asks, AsksForNone}
 
--- the grid is no larger than a symbol: at most 177 columns and rows
+-- The grid is not larger than a symbol: it has at most 177 columns and rows.
 pub record IsDrawable (grid : Grid) : Type 0 where
   pub columns : grid.columns ≤ 177
   pub rows : grid.rows ≤ 177
 
--- which outputs show a picture: a bitmap, a text for a terminal, a document of SVG
+-- The output is the picture as a bitmap.
 abbrev pub ShowsBitmap : Bool → Picture → RenderOutput → Type 0
 ShowsBitmap inverted p (Bytes bytes) = bytes.items ≡ bitmap_of p
 ShowsBitmap inverted p _ = ⊥
 
+-- The output is the picture as text for a terminal.
 abbrev pub ShowsTerminal : Bool → Picture → RenderOutput → Type 0
 ShowsTerminal inverted p (Text text) = string_bytes text ≡ terminal_text inverted p
 ShowsTerminal inverted p _ = ⊥
 
+-- The output is the picture as SVG.
 abbrev pub ShowsSvg : Bool → Picture → RenderOutput → Type 0
 ShowsSvg inverted p (Text text) = string_bytes text ≡ svg_text p
 ShowsSvg inverted p _ = ⊥
 
--- the bytes of an output that is written
+-- The bytes of an output as the program writes them.
 abbrev pub IsOutput : RenderOutput → List ℕ → Type 0
 IsOutput (Text text) bytes = string_bytes text ≡ bytes
 IsOutput (Bytes list) bytes = list.items ≡ bytes
 IsOutput _ bytes = ⊥
 
--- the output shows the grid as the options ask
+-- The output shows the grid as the options say.
 pub record Draws (usual : ℕ) (Shows : Bool → Picture → RenderOutput → Type 0) (grid : Grid) (config : RenderConfig)
     (output : RenderOutput) : Type 0 where
   pub scale : ℕ
@@ -48,21 +50,23 @@ pub record Draws (usual : ℕ) (Shows : Bool → Picture → RenderOutput → Ty
   pub drawable : IsDrawable grid
   pub shows : Shows inverted (picture grid scale quiet) output
 
--- Why nothing is drawn: the configuration is not clear, or the drawing is not possible; or memory ran out.
+-- The errors of a renderer, and when each is returned: the configuration is invalid (`unclear`),
+-- the grid cannot be drawn (`impossible`), or memory ran out.
 abbrev pub IsRefusal : (unclear impossible : Type 0) → PluginError → Type 0
 IsRefusal unclear impossible (InvalidConfig what) = unclear
 IsRefusal unclear impossible (RenderFailed what) = impossible
 IsRefusal unclear impossible OutOfMemory = Unit {0}
 IsRefusal unclear impossible _ = ⊥
 
--- what a renderer answers: the output, or that the options ask for nothing, or that the grid is too large
+-- The results of a renderer: the output, or the error that the options are invalid or that the grid
+-- is too large.
 abbrev pub Renders : ℕ → (Bool → Picture → RenderOutput → Type 0) → Grid → RenderConfig →
     Result RenderOutput PluginError → Type 0
 Renders usual Shows grid config (Ok output) = Draws usual Shows grid config output
 Renders usual Shows grid config (Err error) =
     IsRefusal (AsksForNone usual (render_options config)) (IsDrawable grid → ⊥) error
 
--- what it answers on a configuration alone
+-- The results of a renderer's `validate_config`.
 abbrev pub Validates : ℕ → RenderConfig → Result (Unit {0}) PluginError → Type 0
 Validates usual config (Ok done) =
     (scale quiet : ℕ) × (inverted : Bool) × Asks usual (render_options config) scale quiet inverted

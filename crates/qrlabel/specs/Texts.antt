@@ -1,4 +1,4 @@
--- Bytes that are drawn as a text in UTF-8, behind the ECI designator that says so.
+-- Bytes that are drawn as a text in UTF-8, after the ECI designator of UTF-8.
 use Rattle.std.specs.Prelude.{◌≡◌, ℕ, ◌≤◌, List, length, Some, slice_get}
 use Rattle.std.specs.Str.{IsUtf8, IsValidUpTo}
 use Rattle.qrcode_core.specs.declared.types.EcLevel.{EcLevel}
@@ -7,13 +7,15 @@ use Rattle.qrcode_core.specs.declared.types.errors.QrError.TheVariants.{DataTooL
 use Rattle.qrcode_core.specs.Drawn.{DrawnSymbol}
 use Rattle.texts.specs.Smallest.{SaysUtf8, IsSmallest, IsRefusedByAll}
 
--- The bytes are a text in UTF-8, and the symbol is the smallest that holds it behind the designator.
+-- The bytes are a text in UTF-8, and the symbol is the smallest that holds the designator and
+-- the text.
 pub record IsTextSymbol (level : EcLevel) (bytes : List ℕ) (symbol : DrawnSymbol) : Type 0 where
   pub text : IsUtf8 bytes
   pub smallest : IsSmallest (SaysUtf8 bytes) level symbol
 
--- Which refusal comes when: more than 7089 bytes, which no version holds; then bytes that are no UTF-8, with the place
--- where the longest UTF-8 in front ends, and the byte there; then a text that no version holds.
+-- The errors of the call, and when each is returned. First come more than 7089 bytes, which no
+-- version holds; then bytes that are not UTF-8, with the position after the longest prefix that is,
+-- and the byte there; then a text that no version holds.
 abbrev pub IsTextRefusal : EcLevel → List ℕ → QrError → Type 0
 IsTextRefusal level bytes DataTooLong =
     (length bytes ≤ 7089 → IsUtf8 bytes) × IsRefusedByAll (SaysUtf8 bytes) level DataTooLong

@@ -1,4 +1,4 @@
--- What the words of the command line ask for.
+-- The arguments of the program, and the label that they describe.
 use Rattle.std.specs.Prelude.{◌≡◌, ℕ, Bool, true, false, List, [], ◌∷◌, ◌++◌, codes, flat_map, fold, Option, None, Some, IsTrue}
 use Rattle.std.specs.Str.{trim}
 use Rattle.qrcode_core.specs.declared.types.EcLevel.{EcLevel}
@@ -10,8 +10,8 @@ use Rattle.qrlabel.specs.declared.wanted.Kind.TheVariants.{Usual, Micro, Utf8}
 use Rattle.qrlabel.specs.declared.wanted.Wanted.{Wanted}
 use Rattle.qrlabel.specs.Options.{AsksNumber}
 
--- What is asked for: the form of the picture, the level and the kind of the symbol, how many pixels the side of a module
--- has, how many modules wide the zone is, and whether text is for a dark screen.
+-- A label: the format of the picture, the level and the kind of the symbol, the width of a module
+-- in pixels, the width of the quiet zone in modules, and whether text is for a dark screen.
 pub record Label : Type 0 where
   pub format : Format
   pub level : EcLevel
@@ -20,6 +20,7 @@ pub record Label : Type 0 where
   pub quiet : ℕ
   pub inverted : Bool
 
+-- The label that the program's value stands for.
 abbrev pub label_of : Wanted → Label
 label_of w = record {
   format = w.format;
@@ -30,60 +31,67 @@ label_of w = record {
   inverted = w.request.inverted;
 }
 
--- an option, with the text of its number
+-- An option, with the text of its number.
 pub data Setting : Type 0 where
   Scale : List ℕ → Setting
   Quiet : List ℕ → Setting
   Inverted : Setting
 
--- the words
+-- The argument of a format.
 abbrev pub format_word : Format → List ℕ
 format_word Svg = codes "svg"
 format_word Pbm = codes "pbm"
 format_word Terminal = codes "terminal"
 
+-- The arguments of a kind of symbol.
 abbrev pub kind_words : Kind → List (List ℕ)
 kind_words Usual = []
 kind_words Micro = codes "micro" ∷ []
 kind_words Utf8 = codes "utf8" ∷ []
 
+-- The arguments of an option.
 abbrev pub setting_words : Setting → List (List ℕ)
 setting_words (Scale text) = codes "--scale" ∷ text ∷ []
 setting_words (Quiet text) = codes "--quiet" ∷ text ∷ []
 setting_words Inverted = codes "--inverted" ∷ []
 
+-- The arguments of some options, in order.
 abbrev pub spelled : List Setting → List (List ℕ)
 spelled settings = flat_map setting_words settings
 
--- the text of the last `--scale`, if there is one, that of the last `--quiet`, and whether there is an `--inverted`
+-- The text of the last `--scale`, after one more option.
 abbrev pub with_scale : Option (List ℕ) → Setting → Option (List ℕ)
 with_scale before (Scale text) = Some text
 with_scale before _ = before
 
+-- The text of the last `--quiet`, after one more option.
 abbrev pub with_quiet : Option (List ℕ) → Setting → Option (List ℕ)
 with_quiet before (Quiet text) = Some text
 with_quiet before _ = before
 
+-- Whether there is an `--inverted`, after one more option.
 abbrev pub with_inverted : Bool → Setting → Bool
 with_inverted before Inverted = true
 with_inverted before _ = before
 
--- how many pixels a module usually has, and how many modules wide the zone usually is
+-- The default scale of a format: the width of a module in pixels.
 abbrev pub usual_scale : Format → ℕ
 usual_scale Terminal = 1
 usual_scale _ = 8
 
+-- The default width of the quiet zone in modules.
 abbrev pub usual_quiet : Kind → ℕ
 usual_quiet Micro = 2
 usual_quiet _ = 4
 
--- whether the picture is text, which alone can be for a dark screen
+-- Whether the picture is text, which alone can be inverted for a dark screen.
 abbrev pub is_text : Format → Bool
 is_text Terminal = true
 is_text _ = false
 
--- The words ask for a label: a format, a level with white space around it perhaps, perhaps a kind, and then options in
--- any order. Of those that stand there more than once the last one counts. `--inverted` asks for text.
+-- The arguments describe a label: a format, a level with or without white space around it, a kind
+-- if one is given, and then options in any order. Of repeated options the last one counts.
+-- `--inverted` is valid only for text.
 pub record Ask (words : List (List ℕ)) (asked : Label) : Type 0 where
   pub level_word : List ℕ
   pub settings : List Setting
@@ -94,6 +102,6 @@ pub record Ask (words : List (List ℕ)) (asked : Label) : Type 0 where
   pub inverted_is : asked.inverted ≡ fold with_inverted false settings
   pub inverts_text : IsTrue asked.inverted → IsTrue (is_text asked.format)
 
--- They ask for none.
+-- The arguments describe no label.
 abbrev pub AskForNone : List (List ℕ) → Type 0
 AskForNone words = (asked : Label) → Ask words asked → ⊥

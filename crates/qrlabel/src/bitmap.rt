@@ -1,4 +1,4 @@
-//! Pictures as portable bitmaps.
+//! Pictures as portable bitmaps: the header, then the rows of pixels.
 ghost use Rattle.std.specs.Prelude.{◌≡◌, ◌+◌, ◌*◌, ◌/◌, ◌≤◌, ◌<◌, ◌++◌, map, IfOk, OnOk};
 ghost use Rattle.std.specs.String.{string_bytes};
 ghost use Rattle.qrlabel.specs.Bitmaps.{bitmap_of, byte_of, first_rows, header, row_of};
@@ -8,7 +8,8 @@ ghost use Rattle.qrlabel.specs.Shown.{shown};
 use crate::picture::Picture;
 use std::alloc::{AllocError, Global};
 
-/// The picture as a portable bitmap, in its binary form (`P4` of Netpbm).
+/// Returns the picture as a portable bitmap, in its binary form (`P4` of Netpbm). It fails only for
+/// lack of memory.
 pub fn bitmap(alloc: Global, picture: &Picture) -> Result<Vec<u8>, AllocError>
     ensures { IfOk result (λ bytes. bytes.items ≡ bitmap_of (shown picture.now)) }
 {
@@ -20,7 +21,7 @@ pub fn bitmap(alloc: Global, picture: &Picture) -> Result<Vec<u8>, AllocError>
     Ok(bytes)
 }
 
-/// The header.
+/// Appends the header: `P4`, the width and the height.
 #[tactic(auto, unfolding(crate::specs::Bitmaps::header))]
 fn header(alloc: Global, width: usize, height: usize) -> Result<String, AllocError>
     ensures { IfOk result (λ text. string_bytes text ≡ header width height) }
@@ -28,7 +29,7 @@ fn header(alloc: Global, width: usize, height: usize) -> Result<String, AllocErr
     format!(in alloc; "P4\n{width} {height}\n")
 }
 
-/// Adds all rows. The pixels of a row of modules repeat.
+/// Appends all rows of pixels. Those of one row of modules are equal.
 #[tactic(auto, using(crate::proofs::BitmapLemmas::rows))]
 fn push_rows(alloc: Global, bytes: &mut Vec<u8>, picture: &Picture) -> Result<(), AllocError>
     ensures { OnOk result
@@ -44,7 +45,7 @@ fn push_rows(alloc: Global, bytes: &mut Vec<u8>, picture: &Picture) -> Result<()
     Ok(())
 }
 
-/// The bytes of a row of pixels.
+/// Appends the bytes of a row of pixels.
 #[tactic(auto, using(crate::proofs::BitmapLemmas::bytes_more), unfolding(crate::specs::Bitmaps::row_of))]
 fn row_bytes(alloc: Global, picture: &Picture, y: usize) -> Result<Vec<u8>, AllocError>
     ensures { IfOk result (λ line. line.items ≡ row_of (shown picture.now) y) }
@@ -57,7 +58,7 @@ fn row_bytes(alloc: Global, picture: &Picture, y: usize) -> Result<Vec<u8>, Allo
     Ok(line)
 }
 
-/// The byte of eight pixels of a row, the first in the highest bit.
+/// Returns the byte of eight pixels of a row, the first in the highest bit.
 #[tactic(auto, using(crate::proofs::BitmapLemmas::bits), unfolding(crate::specs::Bitmaps::byte_of))]
 fn pixel_byte(picture: &Picture, place: usize, y: usize) -> u8
     requires { place < 1672 }

@@ -1,4 +1,4 @@
-//! The renderers by name.
+//! The registry of the renderers, and rendering by name.
 ghost use Rattle.std.specs.Prelude.{◌≡◌, ◌⊎◌, Err, IfNone, IfSome, IsErrAnd};
 ghost use Rattle.qrcode_core.specs.Plugins.{IsRendererMissing};
 ghost use Rattle.qrcode_core.specs.Registries.{registered, object_at};
@@ -10,9 +10,9 @@ use qrcode_core::plugin::{PluginError, PluginRegistry, RenderConfig, RenderOutpu
 use qrcode_core::traits::ModuleSource;
 use std::alloc::Global;
 
-/// Draws what `code` shows by the renderer of this name: `svg`, `pbm` or `terminal`.
+/// Renders the grid of `code` with the renderer of this name: `svg`, `pbm` or `terminal`.
 ///
-/// The registry is made, filled and used here, so that no signature hands it out.
+/// The registry is made, filled and used here, so that no signature has it.
 pub fn render_by_name(
     alloc: Global,
     name: &str,
@@ -28,7 +28,7 @@ pub fn render_by_name(
     render_from(&registry, alloc, name, code, config)
 }
 
-/// Draws by what a registry has under this name, if that accepts the configuration.
+/// Renders with the renderer of this name in a registry, if it accepts the configuration.
 fn render_from(
     registry: &PluginRegistry,
     alloc: Global,

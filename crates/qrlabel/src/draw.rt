@@ -1,4 +1,9 @@
 //! From the bytes of a source to the label of their symbol.
+//!
+//! 1. Read the input (`read_all`).
+//! 2. Make the symbol (`encoded`).
+//! 3. Render its picture (`rendered`, `shown`).
+//! 4. Write the picture (`write_all`).
 ghost use Rattle.std.specs.Prelude.{◌≡◌, ◌≢◌, ℕ, ◌≤◌, ◌↔◌, length, IsTrue, IsFalse, IfOk, IfErr, OnOk, IsErrOf};
 ghost use Rattle.programs.specs.Devices.{ReadsAtMost};
 ghost use Rattle.programs.specs.Outcome.{IsDrawing, IsRefused, IfRefused, Gives};
@@ -19,8 +24,8 @@ use qrcode_core::traits::ModuleSource;
 use qrcode_core::types::{EcLevel, QrError};
 use std::alloc::Global;
 
-/// Reads to the end, writes the label of the symbol of all that was read, and flushes. Of more than 7089 bytes, which
-/// no symbol holds, it reads 7090.
+/// Reads to the end, writes the label of the symbol of all bytes that were read, and flushes. Of
+/// more than 7089 bytes, which no symbol holds, it reads 7090.
 pub fn draw<R: Source, W: Sink>(
     alloc: Global,
     reader: &mut R,
@@ -34,11 +39,11 @@ pub fn draw<R: Source, W: Sink>(
         (R.remaining reader.old) (R.remaining reader.new)
         (W.written writer.old) (W.written writer.new) (W.handed_on writer.new) result }
 
-    // No more is read than is too many, and less where the reader failed.
+    // At most 7090 bytes are read, and at most 7089 if the reader failed.
     ensures few { ReadsAtMost 7090 (R.remaining reader.old) (R.remaining reader.new) }
     ensures fewer { IsErrOf result Fault.Read → ReadsAtMost 7089 (R.remaining reader.old) (R.remaining reader.new) }
 
-    // A device's fault is answered exactly where that device failed.
+    // `Read` is returned exactly if the reader failed, and `Write` exactly if the writer failed.
     ensures read { IsErrOf result Fault.Read ↔ IsTrue (R.has_failed reader.new) }
     ensures write { IsErrOf result Fault.Write ↔ IsTrue (W.has_failed writer.new) }
 {
@@ -49,7 +54,7 @@ pub fn draw<R: Source, W: Sink>(
     write_all(writer, &label)
 }
 
-/// Reads to the end, and answers the label of the symbol of all that was read.
+/// Reads to the end, and returns the label of the symbol of all bytes that were read.
 fn drawing<R: Source>(
     alloc: Global,
     reader: &mut R,
@@ -73,7 +78,7 @@ fn drawing<R: Source>(
     shown(alloc, wanted, &symbol, config)
 }
 
-/// The symbol of this kind of the bytes.
+/// Returns the symbol of the bytes, of this kind.
 fn encoded(alloc: Global, bytes: &[u8], level: EcLevel, kind: Kind) -> Result<Symbol, QrError>
     ensures symbol { IfOk result (λ symbol. IsSymbolAs kind level bytes.now symbol) }
     ensures limit { OnOk result (length bytes.now ≤ 7089) }
@@ -86,7 +91,7 @@ fn encoded(alloc: Global, bytes: &[u8], level: EcLevel, kind: Kind) -> Result<Sy
     }
 }
 
-/// The bytes of a symbol's picture. It is refused for want of memory alone.
+/// Returns the bytes of a symbol's picture. It fails only for lack of memory.
 fn shown(
     alloc: Global,
     wanted: Wanted,
@@ -107,7 +112,8 @@ fn shown(
     }
 }
 
-/// What the renderer that is wanted makes of a symbol. No symbol is too large for it, and the configuration is clear.
+/// Renders a symbol. No symbol is too large for the renderers, and the configuration is valid, so
+/// that it fails only with `OutOfMemory`.
 fn rendered(
     alloc: Global,
     wanted: Wanted,

@@ -1,10 +1,10 @@
-//! The options that words give.
+//! The options on the command line.
 ghost use Rattle.std.specs.Prelude.{◌≡◌, ◌++◌, ◌<◌, ◌≤◌, ℕ, List, map, fold, length, false, None, MatchOption};
 ghost use Rattle.std.specs.Option.{option_copied};
 ghost use Rattle.qrlabel.specs.Choices.{setting_of};
 ghost use Rattle.qrlabel.specs.Words.{Setting, setting_words, spelled, with_scale, with_quiet, with_inverted};
 
-/// The options that were given, each as it was given last.
+/// The options that were given; of repeated ones the last.
 #[derive(Clone, Copy)]
 pub struct Given<'a> {
     pub scale: Option<&'a str>,
@@ -20,7 +20,7 @@ enum Choice<'a> {
     Inverted,
 }
 
-/// The options that the words give, where they give options and nothing else.
+/// Returns the options of the arguments, or `None` if some argument does not belong to an option.
 pub fn given_by<'a>(words: &[&'a str]) -> Option<Given<'a>>
     ensures { MatchOption result
         ((settings : List Setting) → map (λ word. word.now) words.now ≡ spelled settings → ⊥)
@@ -45,7 +45,7 @@ pub fn given_by<'a>(words: &[&'a str]) -> Option<Given<'a>>
     Some(given)
 }
 
-/// The option that the words begin with.
+/// Returns the option with which the arguments begin.
 fn first_choice<'a>(words: &[&'a str]) -> Option<Choice<'a>>
     ensures { MatchOption result
         ((setting : Setting) (rest : List (List ℕ)) →
@@ -71,7 +71,7 @@ fn first_choice<'a>(words: &[&'a str]) -> Option<Choice<'a>>
     }
 }
 
-/// How many words an option is.
+/// Returns the number of arguments that an option takes, itself included.
 fn word_count(choice: Choice) -> usize
     ensures exact { result ≡ length (setting_words (setting_of choice.entry)) }
     ensures some { 0 < result }
@@ -83,7 +83,7 @@ fn word_count(choice: Choice) -> usize
     }
 }
 
-/// The options with one more, which counts.
+/// Returns the options with one more, which replaces an earlier one of the same name.
 fn with<'a>(mut given: Given<'a>, choice: Choice<'a>) -> Given<'a>
     ensures scale { option_copied result.scale ≡
         with_scale (option_copied given.entry.scale) (setting_of choice.entry) }

@@ -1,4 +1,10 @@
-//! Draws the symbol of what is read as a picture: SVG, a portable bitmap, or text for a terminal.
+//! `qrlabel` draws the symbol of its input as a picture: SVG, a portable bitmap, or text for
+//! a terminal.
+//!
+//! 1. Read the command line (`wanted`, `given`).
+//! 2. Read the input and make the symbol (`draw`, `text`).
+//! 3. Render it (`options`, `bundle`, `renderers`, `picture`, and `svg`, `bitmap` or `terminal`).
+//! 4. Write the picture, and return the exit status (`run`).
 #![tactic(auto)]
 
 mod bitmap;
@@ -21,7 +27,7 @@ use crate::run::{give_up, run};
 use programs::{Fault, FromReader, FromWriter, arguments, lent_words};
 use std::process::ExitCode;
 
-/// Runs over the process's words, input and outputs.
+/// Runs with the arguments, the input and the outputs of the process.
 fn main(rt: HostRuntime) -> ExitCode {
     let mut reader = FromReader::new(rt.stdin());
     let mut writer = FromWriter::new(rt.stdout());

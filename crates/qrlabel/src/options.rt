@@ -1,4 +1,4 @@
-//! What the options of a configuration ask of a renderer.
+//! The options of a renderer's configuration.
 ghost use Rattle.std.specs.Prelude.{◌≡◌, ℕ, ◌≤◌, Bool, codes, decimal, MatchOption, IfOk, IfErr, IfSome, Some};
 ghost use Rattle.std.specs.Option.{option_copied};
 ghost use Rattle.std.specs.String.{string_bytes};
@@ -8,12 +8,12 @@ ghost use Rattle.qrlabel.specs.Options.{Asks, AsksForNone, AsksFlag, AsksNumber}
 use qrcode_core::plugin::{PluginError, RenderConfig};
 use std::alloc::{AllocError, Global};
 
-/// How a grid is to be drawn.
+/// The way in which a grid is drawn.
 #[derive(Clone, Copy, Debug, PartialEq, Eq)]
 pub struct Request {
-    /// The pixels of a module's side.
+    /// The width of a module in pixels.
     pub scale: usize,
-    /// The modules of the zone's width.
+    /// The width of the quiet zone in modules.
     pub quiet: usize,
     /// Whether text is for a dark screen.
     pub inverted: bool,
@@ -22,7 +22,7 @@ pub struct Request {
     ghost small_zone: { quiet ≤ 16 },
 }
 
-/// What the options of the configuration ask for, where they ask for something that can be drawn.
+/// Returns the options of a configuration, or `None` if one of them is invalid.
 pub fn request_of(config: &RenderConfig, usual_scale: usize) -> Option<Request>
     requires least { 1 ≤ usual_scale }
     requires most { usual_scale ≤ 64 }
@@ -40,7 +40,8 @@ pub fn request_of(config: &RenderConfig, usual_scale: usize) -> Option<Request>
     })
 }
 
-/// The number that the text of an option asks for.
+/// Returns the number of an option's text, or the default without a text. Returns `None` if the
+/// text is not a number from `least` to `most`.
 pub fn number(text: Option<&str>, usual: usize, least: usize, most: usize) -> Option<usize>
     requires at_least { least ≤ usual }
     requires at_most { usual ≤ most }
@@ -60,7 +61,7 @@ pub fn number(text: Option<&str>, usual: usize, least: usize, most: usize) -> Op
     }
 }
 
-/// The flag that an option asks for.
+/// Returns the value of a flag, or `None` if it is neither `true` nor `false`.
 fn flag(config: &RenderConfig, key: &str) -> Option<bool>
     ensures { MatchOption result
         ((b : Bool) → AsksFlag (at_key (render_options config.now) key.now) b → ⊥)
@@ -78,7 +79,7 @@ fn flag(config: &RenderConfig, key: &str) -> Option<bool>
     }
 }
 
-/// The configuration that asks for just this.
+/// Returns the configuration with exactly these options.
 pub fn configured(alloc: Global, request: Request) -> Result<RenderConfig, PluginError>
     ensures asked { IfOk result (λ config. (usual : ℕ) →
         Asks usual (render_options config) request.scale request.quiet request.inverted) }
@@ -93,14 +94,14 @@ pub fn configured(alloc: Global, request: Request) -> Result<RenderConfig, Plugi
         .with_option("inverted", inverted)
 }
 
-/// The word for a flag.
+/// Returns the text of a flag: `true` or `false`.
 fn flag_word(flag: bool) -> &'static str
     ensures { AsksFlag (Some result.now) flag }
 {
     if flag { "true" } else { "false" }
 }
 
-/// A number in decimal digits.
+/// Returns a number in decimal digits.
 fn decimal(alloc: Global, n: usize) -> Result<String, AllocError>
     ensures { IfOk result (λ text. string_bytes text ≡ decimal n) }
 {

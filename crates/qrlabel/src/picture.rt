@@ -1,14 +1,14 @@
-//! A grid as it is drawn.
+//! A picture: a grid with its scale and its quiet zone.
 ghost use Rattle.std.specs.Prelude.{◌≡◌, ◌*◌, ◌≤◌, length};
 ghost use Rattle.qrlabel.specs.Pictures.{columns_of, rows_of, width_of, height_of, is_dark_module, is_dark_pixel};
 
 use qrcode_core::types::Color;
 
-/// The most columns, and the most rows, of a grid that is drawn: those of version 40.
+/// The greatest number of columns and of rows of a grid that is drawn: those of version 40.
 pub const MOST_MODULES: usize = 177;
 
-/// A lent grid with the sizes of its picture: how many pixels the side of a module has, and how many modules wide the
-/// light zone around the grid is. Nothing is copied.
+/// A borrowed grid, with the width of a module in pixels and the width of the light quiet zone
+/// around the grid in modules. Nothing is copied.
 #[derive(Clone, Copy, Debug, PartialEq, Eq)]
 pub struct Picture<'a> {
     modules: &'a [Color],
@@ -29,7 +29,7 @@ impl<'a> Picture<'a> {
     ghost use Rattle.qrlabel.specs.Pictures.{picture};
     ghost use Rattle.qrlabel.specs.Shown.{shown};
 
-    /// The picture of the first `rows * columns` modules.
+    /// Returns the picture of the first `rows * columns` modules.
     pub fn new(
         modules: &'a [Color],
         columns: usize,
@@ -54,7 +54,7 @@ impl<'a> Picture<'a> {
         }
     }
 
-    /// How many pixels the side of a module has.
+    /// Returns the width of a module in pixels.
     pub fn scale(&self) -> usize
         ensures exact { result ≡ (shown self.now).scale }
         ensures at_least_one { 1 ≤ result }
@@ -63,7 +63,7 @@ impl<'a> Picture<'a> {
         self.scale
     }
 
-    /// How many modules lie side by side, with the zone.
+    /// Returns the number of columns of modules, with the quiet zone.
     pub fn columns(&self) -> usize
         ensures exact { result ≡ columns_of (shown self.now) }
         ensures bound { result ≤ 209 }
@@ -71,7 +71,7 @@ impl<'a> Picture<'a> {
         self.columns + 2 * self.quiet
     }
 
-    /// How many modules lie one above the other, with the zone.
+    /// Returns the number of rows of modules, with the quiet zone.
     pub fn rows(&self) -> usize
         ensures exact { result ≡ rows_of (shown self.now) }
         ensures bound { result ≤ 209 }
@@ -79,7 +79,7 @@ impl<'a> Picture<'a> {
         self.rows + 2 * self.quiet
     }
 
-    /// How many pixels the picture is wide.
+    /// Returns the width of the picture in pixels.
     pub fn width(&self) -> usize
         ensures exact { result ≡ width_of (shown self.now) }
         ensures bound { result ≤ 13376 }
@@ -87,7 +87,7 @@ impl<'a> Picture<'a> {
         self.columns() * self.scale
     }
 
-    /// How many pixels the picture is high.
+    /// Returns the height of the picture in pixels.
     pub fn height(&self) -> usize
         ensures exact { result ≡ height_of (shown self.now) }
         ensures bound { result ≤ 13376 }
@@ -95,7 +95,8 @@ impl<'a> Picture<'a> {
         self.rows() * self.scale
     }
 
-    /// Whether the module in this column and row, counted from the corner of the zone, is dark.
+    /// Whether the module in this column and row, counted from the corner of the quiet zone,
+    /// is dark.
     #[tactic(auto, unfolding(crate::specs::Pictures::is_dark_module))]
     pub fn is_dark(&self, column: usize, row: usize) -> bool
         ensures { result ≡ is_dark_module (shown self.now) column row }

@@ -1,4 +1,4 @@
-//! The renderers that a registry holds.
+//! The renderers `svg`, `pbm` and `terminal`.
 ghost use Rattle.std.specs.Prelude.{◌≡◌, ℕ, ◌≤◌, Bool, IfOk, IfErr, OnOk};
 ghost use Rattle.qrcode_core.specs.Plugins.{render_options};
 ghost use Rattle.qrlabel.specs.Options.{Asks, AsksForNone};
@@ -16,21 +16,23 @@ use qrcode_core::plugin::{DynRenderer, PluginError, RenderConfig, RenderOutput};
 use qrcode_core::traits::ModuleSource;
 use std::alloc::Global;
 
-/// The usual scale of an image.
+/// The default scale of an image.
 const IMAGE_SCALE: usize = 8;
 
-/// The usual scale of text.
+/// The default scale of text.
 const TEXT_SCALE: usize = 1;
 
-/// Draws SVG, as text: 8 pixels a module, unless the option `scale` says otherwise.
+/// A renderer of SVG, as text. A module is 8 pixels wide, unless the option `scale` is given.
 #[derive(Debug, Drop)]
 pub struct Svg;
 
-/// Draws a portable bitmap, as bytes: 8 pixels a module, unless the option `scale` says otherwise.
+/// A renderer of portable bitmaps, as bytes. A module is 8 pixels wide, unless the option `scale`
+/// is given.
 #[derive(Debug, Drop)]
 pub struct Pbm;
 
-/// Draws text for a terminal: one pixel a module, unless the option `scale` says otherwise, and two rows a line.
+/// A renderer of text for a terminal, with two rows of pixels in a line. A module is one pixel
+/// wide, unless the option `scale` is given.
 #[derive(Debug, Drop)]
 pub struct Terminal;
 
@@ -100,7 +102,7 @@ impl DynRenderer for Terminal {
     }
 }
 
-/// What the options ask for, where the grid can be drawn.
+/// Returns the options of a configuration, if they are valid and the grid is not too large.
 fn drawable(
     alloc: Global,
     code: &dyn ModuleSource,
@@ -122,7 +124,7 @@ fn drawable(
     Ok(request)
 }
 
-/// What the options ask for.
+/// Returns the options of a configuration, if they are valid.
 fn asked(alloc: Global, config: &RenderConfig, usual_scale: usize) -> Result<Request, PluginError>
     requires least { 1 ≤ usual_scale }
     requires most { usual_scale ≤ 64 }
@@ -136,7 +138,7 @@ fn asked(alloc: Global, config: &RenderConfig, usual_scale: usize) -> Result<Req
     }
 }
 
-/// That the options ask for nothing; without memory for the words, `OutOfMemory`.
+/// Returns the error for invalid options, or `OutOfMemory` if there is no memory for its text.
 fn unclear(alloc: Global) -> PluginError
     ensures { IsRefusal (Unit {0}) ⊥ result }
 {
@@ -149,7 +151,8 @@ fn unclear(alloc: Global) -> PluginError
     }
 }
 
-/// That the grid is too large; without memory for the words, `OutOfMemory`.
+/// Returns the error for a grid that is too large, or `OutOfMemory` if there is no memory for
+/// its text.
 fn too_large(alloc: Global) -> PluginError
     ensures { IsRefusal ⊥ (Unit {0}) result }
 {
@@ -159,7 +162,7 @@ fn too_large(alloc: Global) -> PluginError
     }
 }
 
-/// The picture of what `code` shows.
+/// Returns the picture of the grid of `code`.
 fn picture_of<'a>(code: &'a dyn ModuleSource, request: Request) -> Picture<'a>
     requires { IsDrawable (grid code.now) }
     ensures { shown result ≡ picture (grid code.now) request.scale request.quiet }

@@ -1,4 +1,4 @@
-//! From the words of the command line to the status.
+//! From the arguments to the exit status.
 ghost use Rattle.std.specs.Prelude.{◌≡◌, IsFalse, map, Err};
 ghost use Rattle.programs.specs.Devices.{Writes};
 ghost use Rattle.programs.specs.Outcome.{Says};
@@ -10,14 +10,14 @@ use crate::wanted::wanted_of;
 use programs::{Fault, Sink, Source, fail, write_all};
 use std::alloc::Global;
 
-/// What is said where the words ask for nothing.
+/// The usage line.
 const USAGE: &[u8] =
     b"usage: qrlabel svg|pbm|terminal L|M|Q|H [micro|utf8] [--scale N] [--quiet N] [--inverted]\n";
 
-/// Serves the words after the program's name, and answers the status: 0 where the label was written, 1 where there was
-/// a fault, 2 where the words ask for nothing.
+/// Runs the program with its arguments, and returns the exit status: 0 if the label was written, 1
+/// after an error, 2 if the arguments are invalid.
 ///
-/// A fault is told on `errors` in one line, and so is the usage; a fault of `errors` itself is dropped.
+/// An error is one line on `errors`, and so is the usage. An error of `errors` itself is ignored.
 pub fn run<R: Source, W: Sink, E: Sink>(
     alloc: Global,
     words: &[&str],
@@ -29,7 +29,7 @@ pub fn run<R: Source, W: Sink, E: Sink>(
     requires writer_sound { IsFalse (W.has_failed writer.old) }
     requires errors_sound { IsFalse (E.has_failed errors.old) }
 
-    // Words that ask for nothing have the status 2, and nothing is read or drawn.
+    // For invalid arguments the status is 2, and nothing is read or drawn.
     ensures misused { AskForNone (map (λ word. word.now) words.now) → (result ≡ 2)
         × (reader.new ≡ reader.old) × (writer.new ≡ writer.old)
         × Writes (E.written errors.old) (E.written errors.new) (E.has_failed errors.new) usage }
@@ -48,7 +48,7 @@ pub fn run<R: Source, W: Sink, E: Sink>(
     }
 }
 
-/// Tells a fault in one line, and answers the status 1.
+/// Writes an error as one line, and returns the status 1.
 pub fn give_up<E: Sink>(alloc: Global, errors: &mut E, fault: Fault) -> u8
     requires sound { IsFalse (E.has_failed errors.old) }
     ensures status { result ≡ 1 }

@@ -1,4 +1,4 @@
-//! Pictures as SVG.
+//! Pictures as SVG: a light background, and one path with a rectangle for each run of dark modules.
 ghost use Rattle.std.specs.Prelude.{◌≡◌, ◌<◌, ◌≤◌, ◌++◌, IfOk, OnOk};
 ghost use Rattle.std.specs.String.{string_bytes};
 ghost use Rattle.qrlabel.specs.Paths.{begins_run, opening, rectangle, row_path, run_length, svg_text};
@@ -8,7 +8,8 @@ ghost use Rattle.qrlabel.specs.Shown.{shown};
 use crate::picture::Picture;
 use std::alloc::{AllocError, Global};
 
-/// The picture as SVG: a light ground, and one path of a rectangle for each run of dark modules in a row.
+/// Returns the picture as SVG: a light background, and one path with a rectangle for each run of
+/// dark modules in a row. It fails only for lack of memory.
 #[tactic(auto, using(crate::proofs::PathLemmas::paths))]
 pub fn svg(alloc: Global, picture: &Picture) -> Result<String, AllocError>
     ensures { IfOk result (λ text. string_bytes text ≡ svg_text (shown picture.now)) }
@@ -22,7 +23,7 @@ pub fn svg(alloc: Global, picture: &Picture) -> Result<String, AllocError>
     Ok(text)
 }
 
-/// The head of the document, up to the path.
+/// Appends the head of the document, up to the path.
 #[tactic(auto, unfolding(crate::specs::Paths::opening))]
 fn opening(
     alloc: Global,
@@ -40,7 +41,7 @@ fn opening(
     )
 }
 
-/// Adds the rectangles of a row.
+/// Appends the rectangles of a row.
 #[tactic(auto, using(crate::proofs::PathLemmas::rows))]
 fn push_row(alloc: Global, text: &mut String, picture: &Picture, y: usize) -> Result<(), AllocError>
     ensures { OnOk result
@@ -64,7 +65,7 @@ fn begins_run(picture: &Picture, x: usize, y: usize) -> bool
     picture.is_dark(x, y) && (x == 0 || !picture.is_dark(x - 1, y))
 }
 
-/// How many modules from here on are dark.
+/// Returns the number of dark modules from here up to the first light one.
 #[tactic(auto, using(crate::proofs::PathLemmas::runs))]
 fn run_length(picture: &Picture, x: usize, y: usize) -> usize
     requires { x ≤ columns_of (shown picture.now) }
@@ -80,7 +81,7 @@ fn run_length(picture: &Picture, x: usize, y: usize) -> usize
     length
 }
 
-/// The rectangle that covers some modules of a row.
+/// Appends the rectangle of some modules of a row.
 #[tactic(auto, unfolding(crate::specs::Paths::rectangle))]
 fn rectangle(alloc: Global, x: usize, y: usize, length: usize) -> Result<String, AllocError>
     ensures { IfOk result (λ text. string_bytes text ≡ rectangle x y length) }

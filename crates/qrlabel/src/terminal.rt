@@ -7,8 +7,8 @@ ghost use Rattle.qrlabel.specs.Terminals.{half_blocks, is_filled, line_of, termi
 use crate::picture::Picture;
 use std::alloc::{AllocError, Global};
 
-/// The picture as text: a line for every two rows of pixels, in half blocks. `inverted` fills the light pixels, for a
-/// dark screen.
+/// Returns the picture as text: one line for every two rows of pixels, in half blocks. `inverted`
+/// fills the light pixels, for a dark screen. It fails only for lack of memory.
 #[tactic(auto, using(crate::proofs::TerminalLemmas::lines_none, crate::proofs::TerminalLemmas::lines_more))]
 pub fn terminal(alloc: Global, picture: &Picture, inverted: bool) -> Result<String, AllocError>
     ensures { IfOk result (λ text. string_bytes text ≡ terminal_text inverted (shown picture.now)) }
@@ -20,7 +20,7 @@ pub fn terminal(alloc: Global, picture: &Picture, inverted: bool) -> Result<Stri
     Ok(text)
 }
 
-/// Adds a line.
+/// Appends a line.
 #[tactic(auto, using(crate::proofs::TerminalLemmas::characters_more))]
 fn push_line(
     text: &mut String,
@@ -48,7 +48,7 @@ fn is_filled(picture: &Picture, inverted: bool, x: usize, y: usize) -> bool
     picture.is_dark_pixel(x, y) != inverted
 }
 
-/// The character that fills its upper half, its lower half, both or none.
+/// Returns the character that fills its upper half, its lower half, both or none.
 fn half_block(upper: bool, lower: bool) -> char
     ensures { result ≡ half_blocks upper lower }
 {

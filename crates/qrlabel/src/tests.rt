@@ -1,4 +1,5 @@
-//! Pictures of small grids, written by hand from the formats, refusals, and the words of the command line.
+//! Tests of pictures of small grids, written by hand from the file formats, of errors, and
+//! of arguments.
 use crate::bundle::render_by_name;
 use crate::renderers::{Pbm, Svg, Terminal};
 use crate::run::run;
@@ -18,7 +19,7 @@ const CELLS: [Color; 6] = [
     Color::Light,
 ];
 
-/// What a renderer makes of some columns and rows of modules, with these options.
+/// Returns the output of a renderer for some columns and rows of modules, with these options.
 fn drawn(
     alloc: Global,
     renderer: &dyn DynRenderer,
@@ -36,7 +37,7 @@ fn drawn(
     }
 }
 
-/// The bytes of an output.
+/// Returns the bytes of an output.
 fn bytes_of(output: &RenderOutput) -> &[u8] {
     match output {
         RenderOutput::Text(text) => text.as_bytes(),
@@ -45,7 +46,7 @@ fn bytes_of(output: &RenderOutput) -> &[u8] {
     }
 }
 
-/// Rows of whole bytes, padded with light.
+/// Rows of a bitmap have whole bytes, padded with light pixels.
 #[test]
 fn draws_bitmaps(rt: HostRuntime) -> Result<(), PluginError> {
     let alloc = rt.alloc();
@@ -65,7 +66,7 @@ fn draws_bitmaps(rt: HostRuntime) -> Result<(), PluginError> {
     Ok(())
 }
 
-/// Two rows a line, dark ones filled, or light ones on a dark screen.
+/// A line has two rows; the dark pixels are filled, or the light ones for a dark screen.
 #[test]
 fn draws_text(rt: HostRuntime) -> Result<(), PluginError> {
     let alloc = rt.alloc();
@@ -77,7 +78,7 @@ fn draws_text(rt: HostRuntime) -> Result<(), PluginError> {
     let output = drawn(alloc, &Terminal, &CELLS, (3, 2), &inverted)?;
     assert_eq!(rt; bytes_of(&output), "█▀█▀█\n█▄▄██\n".as_bytes());
 
-    // Three rows, and a light one below them.
+    // Three rows, and a light row below them.
     let output = drawn(alloc, &Terminal, &[Color::Dark], (1, 1), &inverted)?;
     assert_eq!(rt; bytes_of(&output), "█▀█\n███\n".as_bytes());
 
@@ -103,7 +104,7 @@ const WHOLE_RUN: &str =
 </svg>
 "##;
 
-/// A rectangle a run, in modules.
+/// There is one rectangle for each run, in modules.
 #[test]
 fn draws_svg(rt: HostRuntime) -> Result<(), PluginError> {
     let alloc = rt.alloc();
@@ -117,7 +118,7 @@ fn draws_svg(rt: HostRuntime) -> Result<(), PluginError> {
     Ok(())
 }
 
-/// Options that ask for nothing are refused by each renderer, and by the test of the configuration alone.
+/// Each renderer rejects invalid options, and so does `validate_config`.
 #[test]
 fn refuses_options(rt: HostRuntime) -> Result<(), PluginError> {
     let alloc = rt.alloc();
@@ -154,7 +155,7 @@ fn refuses_options(rt: HostRuntime) -> Result<(), PluginError> {
     Ok(())
 }
 
-/// A grid that is larger than a symbol is refused.
+/// A grid that is larger than a symbol is rejected.
 #[test]
 fn refuses_large_grids(rt: HostRuntime) -> Result<(), PluginError> {
     let alloc = rt.alloc();
@@ -167,7 +168,7 @@ fn refuses_large_grids(rt: HostRuntime) -> Result<(), PluginError> {
     Ok(())
 }
 
-/// By its name each renderer draws what it draws itself.
+/// Rendering by name gives the same output as the renderer itself.
 #[test]
 fn draws_by_name(rt: HostRuntime) -> Result<(), PluginError> {
     let alloc = rt.alloc();
@@ -189,7 +190,8 @@ fn draws_by_name(rt: HostRuntime) -> Result<(), PluginError> {
     Ok(())
 }
 
-/// What a run did: its status, how much it left unread, and what it wrote to both outputs.
+/// The result of a run: the status, the number of bytes left unread, and what was written to
+/// both outputs.
 #[derive(Drop)]
 struct Served {
     status: u8,
@@ -198,7 +200,7 @@ struct Served {
     said: Vec<u8>,
 }
 
-/// Runs over words and an input.
+/// Runs the program with arguments and an input.
 fn ran(alloc: Global, words: &[&str], input: &[u8]) -> Served {
     let mut bytes = input;
     let mut label: Vec<u8> = Vec::new(alloc);
@@ -215,7 +217,8 @@ fn ran(alloc: Global, words: &[&str], input: &[u8]) -> Served {
     }
 }
 
-/// The words, the status, and how many bytes are written: a bitmap of so many columns and rows.
+/// Each row has the arguments, the status and the number of bytes written: those of a bitmap of
+/// that many columns and rows.
 #[test]
 fn runs(rt: HostRuntime) -> Result<(), PluginError> {
     let rows: [(&[&str], u8, usize); 20] = [
@@ -264,8 +267,8 @@ fn runs(rt: HostRuntime) -> Result<(), PluginError> {
     Ok(())
 }
 
-/// "ありがとう" at level L: the modules that the Rust crate `qrcode-core` 2.2.0 draws of the ECI designator 26 and one Byte
-/// segment in version 1, which zbar reads.
+/// "ありがとう" at level L: the modules that the Rust crate `qrcode-core` 2.2.0 draws for the ECI
+/// designator 26 and one Byte segment in version 1. zbar reads them.
 const THANKS: &str = "\
 █▀▀▀▀▀█ ▄▄▄█▀ █▀▀▀▀▀█
 █ ███ █ ▀████ █ ███ █
@@ -280,7 +283,7 @@ const THANKS: &str = "\
 ▀▀▀▀▀▀▀ ▀ ▀    ▀ ▀ ▀ 
 ";
 
-/// A text in UTF-8 says so, and is in one Byte segment.
+/// A text in UTF-8 has the ECI designator, and is in one Byte segment.
 #[test]
 fn draws_utf8(rt: HostRuntime) -> Result<(), PluginError> {
     let words = ["terminal", "L", "utf8", "--quiet", "0"];
@@ -291,7 +294,7 @@ fn draws_utf8(rt: HostRuntime) -> Result<(), PluginError> {
     Ok(())
 }
 
-/// What stands for a character where light modules are drawn in place of dark ones.
+/// Returns the character in which light and dark modules are exchanged.
 fn inverted(character: char) -> char {
     match character {
         '█' => ' ',
@@ -302,7 +305,7 @@ fn inverted(character: char) -> char {
     }
 }
 
-/// Only text is inverted: the other forms refuse it (`runs`).
+/// Only text can be inverted: the other formats reject the option (`runs`).
 #[test]
 fn inverts_text(rt: HostRuntime) -> Result<(), PluginError> {
     let words = ["terminal", "L", "utf8", "--inverted", "--quiet", "0"];
@@ -315,7 +318,8 @@ fn inverts_text(rt: HostRuntime) -> Result<(), PluginError> {
     Ok(())
 }
 
-/// With `utf8` other bytes are refused, and too many: a version 40 has room for 2952 behind the designator.
+/// With `utf8`, bytes that are not UTF-8 are rejected, and so are too many: version 40 holds 2952
+/// bytes after the designator.
 #[test]
 fn refuses_with_utf8(rt: HostRuntime) -> Result<(), PluginError> {
     let many = [0xFF; 7090];
@@ -344,7 +348,8 @@ fn refuses_with_utf8(rt: HostRuntime) -> Result<(), PluginError> {
     Ok(())
 }
 
-/// A hundred labels in one process: `tools/refuse-growth` looks that each is let go before the next.
+/// A hundred labels are drawn in one process: `tools/refuse-growth` checks that each is freed
+/// before the next.
 #[test]
 fn draws_a_hundred_labels(rt: HostRuntime) -> Result<(), PluginError> {
     let text = [b'a'; 100];

@@ -8,7 +8,9 @@ use qrcode_core::types::{EcLevel, QrError, QrResult};
 use std::alloc::Global;
 use texts::utf8_symbol;
 
-/// The symbol of a text in UTF-8 that says that it is one.
+/// Returns the symbol of a text in UTF-8, with the ECI designator of UTF-8. It fails with
+/// `DataTooLong` for more than 7089 bytes, then with `InvalidCharacter` at the first byte that is
+/// not UTF-8, and then as `utf8_symbol` does.
 pub fn text_symbol(alloc: Global, bytes: &[u8], level: EcLevel) -> QrResult<Symbol>
     ensures symbol { IfOk result (IsTextSymbol level bytes.now) }
     ensures limit { OnOk result (length bytes.now ≤ 7089) }

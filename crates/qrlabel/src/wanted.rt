@@ -1,4 +1,4 @@
-//! What the words of the command line ask for.
+//! The label that the arguments describe: a format, a level, a kind of symbol, and options.
 ghost use Rattle.std.specs.Prelude.{◌≡◌, ◌++◌, List, map, MatchOption};
 ghost use Rattle.qrlabel.specs.declared.wanted.Format.{Format};
 ghost use Rattle.qrlabel.specs.declared.wanted.Kind.{Kind};
@@ -9,7 +9,7 @@ use crate::given::given_by;
 use crate::options::{Request, number};
 use qrcode_core::types::EcLevel;
 
-/// The form of a picture.
+/// The format of a picture.
 #[derive(Clone, Copy, Debug, PartialEq, Eq)]
 pub enum Format {
     Svg,
@@ -17,16 +17,16 @@ pub enum Format {
     Terminal,
 }
 
-/// Which symbol is drawn.
+/// The kind of symbol that is drawn.
 #[derive(Clone, Copy, Debug, PartialEq, Eq)]
 pub enum Kind {
     Usual,
     Micro,
-    /// That of a text in UTF-8, which says so.
+    /// A text in UTF-8, with the ECI designator of UTF-8.
     Utf8,
 }
 
-/// A label that is asked for.
+/// The label to be drawn.
 #[derive(Clone, Copy, Debug, PartialEq, Eq)]
 pub struct Wanted {
     pub format: Format,
@@ -36,7 +36,7 @@ pub struct Wanted {
 }
 
 impl Format {
-    /// The word for it, which is the name of its renderer.
+    /// Returns the name of the format, which is the name of its renderer.
     pub fn word(self) -> &'static str
         ensures { result.now ≡ format_word self }
     {
@@ -47,7 +47,7 @@ impl Format {
         }
     }
 
-    /// How many pixels a module usually has.
+    /// Returns the default scale: the width of a module in pixels.
     fn usual_scale(self) -> usize
         ensures { result ≡ usual_scale self }
     {
@@ -57,7 +57,7 @@ impl Format {
         }
     }
 
-    /// Whether the picture is text, which can be for a dark screen.
+    /// Whether the picture is text, which alone can be inverted for a dark screen.
     fn is_text(self) -> bool
         ensures { result ≡ is_text self }
     {
@@ -69,7 +69,7 @@ impl Format {
 }
 
 impl Kind {
-    /// How many modules wide the zone usually is.
+    /// Returns the default width of the quiet zone in modules.
     fn usual_quiet(self) -> usize
         ensures { result ≡ usual_quiet self }
     {
@@ -80,7 +80,7 @@ impl Kind {
     }
 }
 
-/// What the words ask for, where they ask for a label.
+/// Returns the label that the arguments describe, or `None` if they are invalid.
 pub fn wanted_of(words: &[&str]) -> Option<Wanted>
     ensures { MatchOption result
         (AskForNone (map (λ word. word.now) words.now))
@@ -111,7 +111,7 @@ pub fn wanted_of(words: &[&str]) -> Option<Wanted>
     })
 }
 
-/// The form that a word asks for.
+/// Returns the format of a name.
 fn format_of(word: &str) -> Option<Format>
     ensures { MatchOption result
         ((format : Format) → word.now ≡ format_word format → ⊥)
@@ -128,7 +128,7 @@ fn format_of(word: &str) -> Option<Format>
     }
 }
 
-/// The kind that the words begin with, and the words after it.
+/// Returns the kind of symbol with which the arguments begin, and the arguments after it.
 fn kind_of<'a, 'w>(words: &'w [&'a str]) -> (Kind, &'w [&'a str])
     ensures words { map (λ word. word.now) words.now ≡ kind_words result.0 ++ map (λ word. word.now) result.1.now }
     ensures only { (kind : Kind) (settings : List Setting) →

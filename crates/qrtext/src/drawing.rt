@@ -1,4 +1,8 @@
-//! From the bytes of a source to the text of their symbol, a line for each row.
+//! From the bytes of a source to the text of their symbol, one line for each row.
+//!
+//! 1. Read the input (`read_all`).
+//! 2. Make the symbol, and its text (`text_of`).
+//! 3. Write the text (`write_all`).
 ghost use Rattle.std.specs.Prelude.{◌≡◌, ℕ, ◌*◌, ◌↔◌, length, IsTrue, IsFalse, IfOk, IsErrOf};
 ghost use Rattle.programs.specs.Devices.{ReadsAtMost};
 ghost use Rattle.programs.specs.Outcome.{Gives, IsRefusalOf};
@@ -10,8 +14,8 @@ use qrcode_core::symbol::Symbol;
 use qrcode_core::types::{Color, EcLevel};
 use std::alloc::{AllocError, Global};
 
-/// Reads to the end, writes the text of the symbol of all that was read, and flushes. Of more than 7089 bytes, which no
-/// symbol holds, it reads 7090.
+/// Reads to the end, writes the text of the symbol of all bytes that were read, and flushes. Of
+/// more than 7089 bytes, which no symbol holds, it reads 7090.
 pub fn draw<R: Source, W: Sink>(
     alloc: Global,
     reader: &mut R,
@@ -26,12 +30,12 @@ pub fn draw<R: Source, W: Sink>(
         (R.remaining reader.old) (R.remaining reader.new)
         (W.written writer.old) (W.written writer.new) (W.handed_on writer.new) result }
 
-    // No more is read than is too many, and less where the reader failed.
+    // At most 7090 bytes are read, and at most 7089 if the reader failed.
     ensures few { ReadsAtMost 7090 (R.remaining reader.old) (R.remaining reader.new) }
     ensures fewer { IsErrOf result TextError.Read →
         ReadsAtMost 7089 (R.remaining reader.old) (R.remaining reader.new) }
 
-    // A device's fault is answered exactly where that device failed.
+    // `Read` is returned exactly if the reader failed, and `Write` exactly if the writer failed.
     ensures read { IsErrOf result TextError.Read ↔ IsTrue (R.has_failed reader.new) }
     ensures write { IsErrOf result TextError.Write ↔ IsTrue (W.has_failed writer.new) }
 {
@@ -46,7 +50,7 @@ pub fn draw<R: Source, W: Sink>(
     write_all(writer, &text)
 }
 
-/// The text of a square grid: a line for each row.
+/// Returns the text of a square grid: one line for each row.
 #[tactic(auto, using(crate::proofs::TextLemmas::lines_none, crate::proofs::TextLemmas::lines_more))]
 fn text_of(alloc: Global, grid: &[Color]) -> Result<Vec<u8>, AllocError>
     requires { (width : ℕ) × (length grid.now ≡ width * width) }

@@ -1,10 +1,10 @@
-//! Drawing while growths are refused: see `tools/refuse-growth`.
+//! Drawing while allocations fail: see `tools/refuse-growth`.
 
 use crate::tests::HELLO;
 use crate::{FromReader, FromWriter, TextError, draw};
 use qrcode_core::types::{EcLevel, QrError, QrResult};
 
-/// A refused growth leaves what is written as it was. The text of 21 lines has 462 bytes.
+/// A failed allocation leaves the output unchanged. The text of 21 lines has 462 bytes.
 #[test]
 fn draw_of_hello(rt: HostRuntime) -> QrResult<()> {
     let mut page = [b'?'; 462];

@@ -1,4 +1,4 @@
-//! Devices that fail, and the words of the command line.
+//! Tests of devices that fail, and of the arguments.
 use crate::{FromReader, FromWriter, Sink, Source, TextError, draw, give_up, run};
 use qrcode_core::types::{EcLevel, QrError};
 use std::alloc::AllocError;
@@ -6,7 +6,7 @@ use std::io;
 use std::io::{ErrorKind, Read, Write};
 use std::test::Fail;
 
-/// Gives its bytes, at most three a call, and fails at one of the calls.
+/// A reader that gives at most three bytes a call, and fails after some calls.
 #[derive(Drop)]
 struct Fragile<'a> {
     bytes: &'a [u8],
@@ -25,7 +25,7 @@ impl Read for Fragile<'_> {
     }
 }
 
-/// Never ends, and counts the bytes that it gave.
+/// A reader that never ends, and counts the bytes that it gave.
 #[derive(Drop)]
 struct Endless {
     given: usize,
@@ -46,7 +46,7 @@ enum Then {
     TakesNothing,
 }
 
-/// Keeps at most `most` bytes a call, for some calls.
+/// A writer that keeps at most `most` bytes a call, for some calls.
 #[derive(Drop)]
 struct Narrow<'a> {
     kept: &'a mut Vec<u8>,
@@ -174,7 +174,7 @@ fn writes_give_up(rt: HostRuntime) -> Result<(), Fail> {
         Then::Fails(ErrorKind::Interrupted),
         Then::TakesNothing,
     ] {
-        // After five calls all is written, and the flush fails.
+        // After five calls everything is written, and the flush fails.
         for calls in 0..6 {
             let (is_due, text) = drawn(&rt, 100, calls, then)?;
             assert!(rt; is_due);
@@ -192,8 +192,8 @@ fn writes_give_up(rt: HostRuntime) -> Result<(), Fail> {
     Ok(())
 }
 
-/// Whether a writer that takes at most `most` bytes a call, for some calls, has the outcome that
-/// is due, and what it keeps.
+/// Draws `hello` to a writer that takes at most `most` bytes a call, for some calls. Returns
+/// whether the outcome is the expected one, and what the writer kept.
 fn drawn(rt: &HostRuntime, most: usize, calls: usize, then: Then) -> Result<(bool, Vec<u8>), Fail> {
     let mut kept = Vec::new(rt.alloc());
     let mut bytes: &[u8] = b"hello";
@@ -247,7 +247,7 @@ fn runs(rt: HostRuntime) -> Result<(), Fail> {
     Ok(())
 }
 
-/// A writer that keeps what it is given, up to `calls` calls, and then fails.
+/// Returns a writer that keeps what it is given for some calls, and then fails.
 fn bearing(kept: &mut Vec<u8>, calls: usize) -> Narrow<'_> {
     Narrow {
         kept,
@@ -257,8 +257,8 @@ fn bearing(kept: &mut Vec<u8>, calls: usize) -> Narrow<'_> {
     }
 }
 
-/// Each device may fail, the one for errors too: how many calls the reader, the writer and that one bear, the words, and then
-/// the status and the line.
+/// Each device may fail, the error output too. A row has the number of calls after which the
+/// reader, the writer and the error output fail, the arguments, and then the status and the line.
 #[test]
 fn runs_with_devices_that_give_up(rt: HostRuntime) -> Result<(), Fail> {
     let rows: [(usize, usize, usize, &[&str], u8, &str); 8] = [

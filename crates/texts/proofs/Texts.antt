@@ -1,4 +1,4 @@
--- What pushes, refused or not, and the end of a stream say of the bits of a text.
+-- What pushes, failed or not, and the end of a stream say of the bits of a text.
 use Rattle.qrcode_bits.proofs.Prelude.{◌≡◌, ◌∙◌, ℕ, ◌+◌, ◌-◌, ◌^◌, ◌*◌, ◌<◌, ◌≤◌, Bool, true, List, [], ◌∷◌, ◌++◌, length, get_or, ap, sym, refl, subst, arith, inl, inr}
 use Rattle.qrcode_bits.proofs.Prelude.{length-append, Err, Ok, Some, None, All, slice_get, is_some, cases_lt, common_steps, All-head, All-tail, All-nil}
 use Rattle.qrcode_bits.proofs.Prelude.{All-cons, EcLevel, L, M, Q, H, Byte, Version, QrError, DataTooLong, OutOfMemory, IsValid, characters, count_width, indicator_width}
@@ -42,7 +42,7 @@ module _ (says : Version → List Bool → Type 0) (stream : Stream) (level : Ec
       } in
       rw is at here
 
-  -- Why its end is refused, where all that says so is as long.
+  -- The error at its end, where all such bits have the same length.
   pub end_refused : 1 ≤ number → number ≤ 40 → ((bits : List Bool) → says (normal number) bits → length bits ≡ length stream.bits) →
       (error : QrError) → IsStreamRefusal stream level error → IsRefusedIn says (normal number) level error
   end_refused first last same error refused = grind (arith, common_steps, is, has_capacity level number first last, same)
@@ -65,7 +65,8 @@ piece_too_long version level piece limit valid limit_is wide =
       | inr less ↦ absurd (omega (arith, wide, count-fits version level piece.mode limit (length piece.text) limit_is (omega (arith, less, bits, content))))
     ]
 
--- Why the push of a valid piece is refused, where a count past its field says that the bits are too many.
+-- The error of the push of a valid piece, where a count that does not fit its field says that there
+-- are too many bits.
 push_refused : (says : Version → List Bool → Type 0) (old : Stream) (level : EcLevel) (number : ℕ) (piece : Piece) (error : QrError) →
     old.version ≡ normal number → IsValid piece.mode piece.text →
     (2 ^ count_width (normal number) piece.mode ≤ characters piece.mode (length piece.text) → IsTooLongIn says (normal number) level) →
@@ -83,7 +84,7 @@ push_refused says old level number piece other is valid long refused = absurd re
 capacity-least : (level : EcLevel) (c : ℕ) → capacity (normal 40) level ≡ Some c → 10208 ≤ c
 capacity-least level c h = grind arith
 
--- Why the push of the text is refused.
+-- The error of the push of the text.
 pub text_refused : (old : Stream) (level : EcLevel) (number : ℕ) (text : List ℕ) (error : QrError) → old.version ≡ normal number →
     All (λ c. c < 256) text → IsPushRefused old (piece_of Byte text) error → IsRefusedIn (SaysUtf8 text) (normal number) level error
 text_refused old level number text error is are =
@@ -95,7 +96,7 @@ text_refused old level number text error is are =
       piece_too_long (normal number) level (piece_of Byte text) limit are limit_is wide,
     ))
 
--- What is pushed behind the designator.
+-- What is pushed after the designator.
 pub text_pushed : (empty front stream : Stream) (text : List ℕ) → empty.bits ≡ [] → Appends empty front (eci_spelling 26) →
     Spells front stream (piece_of Byte text) → stream.bits ≡ eci_spelling 26 ++ spelling stream.version (piece_of Byte text)
 text_pushed empty front stream text none eci spelled = grind arith
@@ -174,7 +175,7 @@ longer version [] rest next = omega (arith, length-append (spelling version next
 longer version (piece ∷ done) rest next =
     omega (arith, length-append (spelling version piece) (spellings version (done ++ next ∷ rest)), longer version done rest next)
 
--- Why the push of the elements is refused.
+-- The error of the push of the elements.
 pub elements_refused : (old new : Stream) (level : EcLevel) (number : ℕ) (text : List ℕ) (error : QrError) → old.version ≡ normal number →
     All (λ c. c < 256) text → PushesOptimally text old (Err error) new → IsRefusedIn (SaysElements text) (normal number) level error
 elements_refused old new level number text error is are (inl (plan, chosen, halt)) =
@@ -203,7 +204,7 @@ elements_length stream number text is said bits other =
     let same = one_chosen (parsed text) (normal number) other.0 here.0 other.1 here.1 in
     ap length (rw same at other.2 ∙ sym here.2)
 
--- No version holds so many bytes.
+-- No version holds that many bytes.
 pub elements_too_long : (text : List ℕ) (level : EcLevel) → All (λ c. c < 256) text → 7089 < length text → HoldsNoneBelow 41 (SaysElements text) level
 elements_too_long text level are many n first below bits limit (plan, chosen, said) limit_is =
     let planned = chosen_is_plan text (normal n) plan chosen in

@@ -1,4 +1,10 @@
-//! Texts behind a header that tells what they are, in the smallest version that holds them, by `qrcode_core`.
+//! Symbols of UTF-8 texts and of GS1 element strings, each after the header that identifies it, in
+//! the smallest version that holds both.
+//!
+//! ```text
+//! let symbol = utf8_symbol(alloc, "Grüße", EcLevel::M)?;
+//! let symbol = gs1_symbol(alloc, b"010950600013435217260930", EcLevel::M)?;
+//! ```
 #![tactic(auto)]
 
 ghost use Rattle.std.specs.Prelude.{◌≡◌, ◌+◌, ◌*◌, ◌≤◌, length, None, Some, IfOk, IfErr, OnOk, IsErrOf};
@@ -14,8 +20,11 @@ use qrcode_core::symbol::Symbol;
 use qrcode_core::types::{EcLevel, QrError, QrResult, Version};
 use std::alloc::Global;
 
-/// A text as one Byte segment behind the ECI designator of UTF-8, in the smallest version that holds both (ISO/IEC
-/// 18004, "ECI mode"). `DataTooLong` comes exactly where none does, and needs no memory.
+/// Returns the symbol of a text in UTF-8: the ECI designator of UTF-8 and one Byte segment, in the
+/// smallest Normal version that holds both (ISO/IEC 18004:2006, "ECI mode").
+///
+/// It fails with `DataTooLong` exactly where no version holds them, without an allocation, and with
+/// `OutOfMemory` where an allocation failed.
 pub fn utf8_symbol(alloc: Global, text: &str, level: EcLevel) -> QrResult<Symbol>
     ensures smallest { IfOk result (IsSmallest (SaysUtf8 text.now) level) }
     ensures reading { IfOk result TellsReading }
@@ -35,7 +44,8 @@ pub fn utf8_symbol(alloc: Global, text: &str, level: EcLevel) -> QrResult<Symbol
     Err(QrError::DataTooLong)
 }
 
-/// How many bytes of a text fill version 40, with 12 bits of the designator and 20 of the header.
+/// Returns the number of bytes of text that fill version 40 after the designator of 12 bits and the
+/// header of 20.
 fn longest_text(level: EcLevel) -> usize
     ensures { capacity (normal 40) level ≡ Some (8 * result + 32) }
 {
@@ -47,7 +57,7 @@ fn longest_text(level: EcLevel) -> usize
     }
 }
 
-/// The same in the Normal version of a number.
+/// Returns the symbol of a text in UTF-8 in the Normal version of a number.
 fn utf8_in(alloc: Global, text: &[u8], number: usize, level: EcLevel) -> QrResult<Symbol>
     requires first { 1 ≤ number }
     requires last { number ≤ 40 }
@@ -61,13 +71,16 @@ fn utf8_in(alloc: Global, text: &[u8], number: usize, level: EcLevel) -> QrResul
     Symbol::with_bits(alloc, bits, level)
 }
 
-/// A GS1 element string behind FNC1 in the first position, in the smallest version that holds both (ISO/IEC 18004,
-/// "FNC1 mode"). FNC1 between elements is the byte 1D hex, which stands in a Byte segment; the segments are the chosen
-/// plan of the bytes.
+/// Returns the symbol of a GS1 element string: FNC1 in the first position and the chosen plan of
+/// the bytes, in the smallest Normal version that holds both (ISO/IEC 18004:2006, "FNC1 mode").
+/// FNC1 between elements is the byte 1D hex, which is in a Byte segment.
 ///
-/// Readers take a `%` for FNC1 where it is Alphanumeric. So `InvalidCharacter` comes first, exactly where there is a `%`,
-/// with the position of the first one. Then `DataTooLong` comes exactly where no version holds the elements; for more
-/// than 7089 bytes it needs no memory.
+/// # Errors
+///
+/// Readers take a `%` in an Alphanumeric segment for FNC1, so the call fails with
+/// `InvalidCharacter` exactly where there is a `%`, with the position of the first one. Then it
+/// fails with `DataTooLong` exactly where no version holds the elements; more than 7089 bytes fail
+/// without an allocation. It fails with `OutOfMemory` where an allocation failed.
 pub fn gs1_symbol(alloc: Global, elements: &[u8], level: EcLevel) -> QrResult<Symbol>
     ensures smallest { IfOk result (IsSmallest (SaysElements elements.now) level) }
     ensures reading { IfOk result TellsReading }
@@ -92,14 +105,14 @@ pub fn gs1_symbol(alloc: Global, elements: &[u8], level: EcLevel) -> QrResult<Sy
     Err(QrError::DataTooLong)
 }
 
-/// The position of the first `%`.
+/// Returns the position of the first `%`.
 fn first_percent(elements: &[u8]) -> Option<usize>
     ensures { result ≡ first_percent elements.now }
 {
     elements.iter().position(|byte| *byte == b'%')
 }
 
-/// The same in the Normal version of a number.
+/// Returns the symbol of a GS1 element string in the Normal version of a number.
 fn gs1_in(alloc: Global, elements: &[u8], number: usize, level: EcLevel) -> QrResult<Symbol>
     requires first { 1 ≤ number }
     requires last { number ≤ 40 }
@@ -113,7 +126,7 @@ fn gs1_in(alloc: Global, elements: &[u8], number: usize, level: EcLevel) -> QrRe
     Symbol::with_bits(alloc, bits, level)
 }
 
-/// The Normal version of a number.
+/// Returns the Normal version of a number.
 fn normal(number: usize) -> Version
     requires { number ≤ 40 }
     ensures { result ≡ normal number }

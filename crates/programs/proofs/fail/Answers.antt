@@ -1,4 +1,4 @@
--- The line of want of memory is the one that the caller gave.
+-- The line of `OutOfMemory` is the one that the caller gave.
 use Rattle.std.proofs.Common.{◌≡◌, rules, List, ℕ, Err, inl, sym, subst}
 use Rattle.qrcode_core.specs.declared.types.errors.QrError.TheVariants.{OutOfMemory}
 use Rattle.programs.specs.{declared.Fault.TheVariants.Symbol, Devices.Writes, Outcome.Says}

@@ -1,4 +1,4 @@
-//! What a caller asks of a renderer or an encoder.
+//! Configurations of renderers and encoders.
 ghost use Rattle.std.specs.Prelude.{◌≡◌, [], Some, None, IfOk, IfErr, IsOkUnless};
 ghost use Rattle.std.specs.Option.{option_copied};
 ghost use Rattle.qrcode_core.specs.Plugins.{render_format, render_options, encode_options, with_entry, at_key};
@@ -8,7 +8,7 @@ use crate::plugin::error::PluginError;
 use std::alloc::Global;
 use std::collections::BTreeMap;
 
-/// What a caller asks of a renderer: a format, and options by name.
+/// The configuration of a renderer: an optional format, and options by name.
 #[derive(Debug, Drop, PartialEq, Eq)]
 pub struct RenderConfig {
     format: Option<String>,
@@ -17,7 +17,7 @@ pub struct RenderConfig {
 }
 
 impl RenderConfig {
-    /// Asks for no format and has no option.
+    /// Returns a configuration without a format and without options.
     pub fn new(alloc: Global) -> RenderConfig
         ensures format { render_format result ≡ None }
         ensures options { render_options result ≡ [] }
@@ -29,7 +29,8 @@ impl RenderConfig {
         }
     }
 
-    /// The same with this format, in place of the one it had. Without memory the configuration is gone.
+    /// Returns the configuration with this format, which replaces the old one. It fails with
+    /// `OutOfMemory`, and the configuration is dropped then.
     pub fn with_format(mut self, format: &str) -> Result<RenderConfig, PluginError>
         ensures format { IfOk result (λ c. render_format c ≡ Some format.now) }
         ensures options { IfOk result (λ c. render_options c ≡ render_options self) }
@@ -39,7 +40,8 @@ impl RenderConfig {
         Ok(self)
     }
 
-    /// The same with this option, in place of one of that name. Without memory the configuration is gone.
+    /// Returns the configuration with this option, which replaces an option of the same name. It
+    /// fails with `OutOfMemory`, and the configuration is dropped then.
     #[tactic(auto, using(crate::proofs::Plugins::text_entries_insert, crate::proofs::Plugins::text_values_insert))]
     pub fn with_option(mut self, key: &str, value: &str) -> Result<RenderConfig, PluginError>
         ensures format { IfOk result (λ c. render_format c ≡ render_format self) }
@@ -53,14 +55,14 @@ impl RenderConfig {
         Ok(self)
     }
 
-    /// The format that is asked for.
+    /// Returns the format, or `None` if there is none.
     pub fn format(&self) -> Option<&str>
         ensures { option_copied result ≡ render_format self.now }
     {
         self.format.as_ref().map(|format| format.as_str())
     }
 
-    /// The value of an option.
+    /// Returns the value of an option, or `None` if there is no option of this name.
     #[tactic(auto, using(crate::proofs::Plugins::text_entries_lookup, crate::proofs::Plugins::text_values_lookup))]
     pub fn option(&self, key: &str) -> Option<&str>
         ensures { option_copied result ≡ at_key (render_options self.now) key.now }
@@ -68,7 +70,7 @@ impl RenderConfig {
         self.options.get(key).map(|value| value.as_str())
     }
 
-    /// The same configuration again.
+    /// Returns a copy of the configuration. It fails with `OutOfMemory`.
     #[tactic(auto, using(crate::proofs::Plugins::text_values_clone))]
     pub fn clone(&self, alloc: Global) -> Result<RenderConfig, PluginError>
         ensures format { IfOk result (λ c. render_format c ≡ render_format self.now) }
@@ -88,7 +90,7 @@ impl RenderConfig {
     }
 }
 
-/// What a caller asks of an encoder: options by name.
+/// The configuration of an encoder: options by name.
 #[derive(Debug, Drop, PartialEq, Eq)]
 pub struct EncodeConfig {
     options: BTreeMap<String, String>,
@@ -96,7 +98,7 @@ pub struct EncodeConfig {
 }
 
 impl EncodeConfig {
-    /// Has no option.
+    /// Returns a configuration without options.
     pub fn new(alloc: Global) -> EncodeConfig
         ensures { encode_options result ≡ [] }
     {
@@ -106,7 +108,8 @@ impl EncodeConfig {
         }
     }
 
-    /// The same with this option, in place of one of that name. Without memory the configuration is gone.
+    /// Returns the configuration with this option, which replaces an option of the same name. It
+    /// fails with `OutOfMemory`, and the configuration is dropped then.
     #[tactic(auto, using(crate::proofs::Plugins::text_entries_insert, crate::proofs::Plugins::text_values_insert))]
     pub fn with_option(mut self, key: &str, value: &str) -> Result<EncodeConfig, PluginError>
         ensures options { IfOk result (λ c.
@@ -119,7 +122,7 @@ impl EncodeConfig {
         Ok(self)
     }
 
-    /// The value of an option.
+    /// Returns the value of an option, or `None` if there is no option of this name.
     #[tactic(auto, using(crate::proofs::Plugins::text_entries_lookup, crate::proofs::Plugins::text_values_lookup))]
     pub fn option(&self, key: &str) -> Option<&str>
         ensures { option_copied result ≡ at_key (encode_options self.now) key.now }
@@ -127,7 +130,7 @@ impl EncodeConfig {
         self.options.get(key).map(|value| value.as_str())
     }
 
-    /// The same configuration again.
+    /// Returns a copy of the configuration. It fails with `OutOfMemory`.
     #[tactic(auto, using(crate::proofs::Plugins::text_values_clone))]
     pub fn clone(&self, alloc: Global) -> Result<EncodeConfig, PluginError>
         ensures options { IfOk result (λ c. encode_options c ≡ encode_options self.now) }

@@ -1,11 +1,12 @@
-//! Why a registry, or an object in it, refuses.
+//! The errors of a registry and of the objects in it.
 ghost use Rattle.std.specs.Prelude.{◌≡◌, IfOk, IfErr};
 ghost use Rattle.qrcode_core.specs.declared.plugin.error.PluginError.TheVariants.{OutOfMemory};
 
 use std::alloc::{AllocError, AllocFailed, Global};
 use thiserror::Error;
 
-/// Why a registry, or an object in it, refuses. `Display` prints the kept text after what went wrong.
+/// An error of a registry, or of an object in it. `Display` prints what went wrong, and then the
+/// text that the error holds.
 #[derive(Debug, Drop, PartialEq, Eq, Error)]
 pub enum PluginError {
     /// No renderer has this name.
@@ -14,22 +15,22 @@ pub enum PluginError {
     /// No encoder has this name.
     #[error("encoder plugin not found: {0}")]
     EncoderNotFound(String),
-    /// A configuration is not one that the object takes.
+    /// The object does not accept the configuration.
     #[error("invalid plugin config: {0}")]
     InvalidConfig(String),
-    /// The modules are not as many as the sides ask, or there is none.
+    /// The number of modules is 0, or not the product of the sides.
     #[error("invalid module grid")]
     InvalidModuleGrid,
-    /// A renderer could not draw.
+    /// A renderer failed.
     #[error("renderer plugin failed: {0}")]
     RenderFailed(String),
-    /// An encoder could not encode.
+    /// An encoder failed.
     #[error("encoder plugin failed: {0}")]
     EncodeFailed(String),
-    /// A postprocessor refused.
+    /// A postprocessor failed.
     #[error("postprocessor plugin failed: {0}")]
     PostProcessFailed(String),
-    /// A growth found no memory.
+    /// An allocation failed.
     #[error("out of memory")]
     OutOfMemory,
 }
@@ -37,7 +38,7 @@ pub enum PluginError {
 impl PluginError {
     ghost use Rattle.qrcode_core.specs.Plugins.{IsSameError};
 
-    /// The same error again, with the same text.
+    /// Returns a copy of the error, with the same text. It fails with `OutOfMemory`.
     pub fn clone(&self, alloc: Global) -> Result<PluginError, PluginError>
         ensures same { IfOk result (IsSameError self.now) }
         ensures memory { IfErr result (λ e. e ≡ OutOfMemory) }

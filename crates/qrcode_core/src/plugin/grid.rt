@@ -1,4 +1,4 @@
-//! A grid of modules that owns its list.
+//! A grid that owns its modules.
 ghost use Rattle.std.specs.Prelude.{◌≡◌, ◌*◌, ◌<◌, ◌↔◌, IfOk, IfErr, IsOk, IsOkUnless, vec_len};
 ghost use Rattle.qrcode_core.specs.Grids.{IsFull, grid_of};
 ghost use Rattle.qrcode_core.specs.declared.plugin.error.PluginError.TheVariants.{InvalidModuleGrid, OutOfMemory};
@@ -8,7 +8,8 @@ use crate::traits::ModuleStorage;
 use qrcode_base::types::Color;
 use std::alloc::Global;
 
-/// A grid of modules that owns its list, for postprocessors and as an output.
+/// A grid that owns its modules. Postprocessors change it, and renderers and encoders may
+/// return it.
 #[derive(Debug, Drop, PartialEq, Eq)]
 pub struct ModuleGrid {
     modules: Vec<Color>,
@@ -22,8 +23,9 @@ impl ModuleGrid {
     ghost use Rattle.qrcode_core.specs.Plugins.{owned_grid};
     ghost use Rattle.qrcode_core.specs.LentModules.{LendsModules};
 
-    /// The grid with these modules, row after row. `InvalidModuleGrid` if a side is 0, or the product of the sides is
-    /// not the length of the list or is more than a `usize` counts.
+    /// Returns the grid of these modules, row after row. It fails with `InvalidModuleGrid` if a
+    /// side is 0, or if the product of the sides is not the length of the list or does not fit
+    /// a `usize`.
     pub fn new(modules: Vec<Color>, width: usize, height: usize) -> Result<ModuleGrid, PluginError>
         ensures exact { IsOk result ↔ (0 < width × 0 < height × vec_len modules ≡ height * width) }
         ensures made { IfOk result (λ g. owned_grid g ≡ grid_of modules.items width height) }
@@ -42,7 +44,7 @@ impl ModuleGrid {
         }
     }
 
-    /// Lends all modules to be changed, row after row.
+    /// Returns all modules as a mutable slice, row after row.
     pub fn modules_mut(&mut self) -> &mut [Color]
         ensures* writes_back { sem 𝓛 (LendsModules self.entry result) }
         ensures value { result.now ≡ (owned_grid self.old).cells }
@@ -50,7 +52,7 @@ impl ModuleGrid {
         self.modules.as_mut_slice()
     }
 
-    /// The same grid again.
+    /// Returns a copy of the grid. It fails with `OutOfMemory`.
     pub fn clone(&self, alloc: Global) -> Result<ModuleGrid, PluginError>
         ensures same { IfOk result (λ g. owned_grid g ≡ owned_grid self.now) }
         ensures memory { IfErr result (λ e. e ≡ OutOfMemory) }

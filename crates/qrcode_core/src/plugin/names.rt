@@ -1,4 +1,4 @@
-//! The names in a registry's map, in the order of their bytes.
+//! The names in a map of a registry, in the order of their bytes.
 ghost use Rattle.std.specs.Prelude.{◌≡◌, map};
 ghost use Rattle.std.specs.Iterator.{item_count, YieldsFirstRef};
 ghost use Rattle.std.specs.String.{string_bytes};
@@ -7,14 +7,14 @@ ghost use Rattle.qrcode_core.specs.Plugins.{names_left};
 use std::collections::btree_map::Keys;
 use std::iter::FusedIterator;
 
-/// Gives each name of a registry's map once, in the order of their bytes.
+/// An iterator over the names in a map of a registry: each name once, in the order of their bytes.
 #[derive(Drop)]
 pub struct Names<'a, V> {
     keys: Keys<'a, String, V>,
 }
 
 impl<'a, V> Names<'a, V> {
-    /// The names that are the keys of a map.
+    /// Returns the iterator over the keys of a map.
     pub(crate) fn new(keys: Keys<'a, String, V>) -> Names<'a, V>
         ensures { names_left result ≡ map string_bytes keys.entry }
     {

@@ -1,4 +1,4 @@
-//! What renderers and encoders of a registry give.
+//! The outputs of renderers and encoders.
 ghost use Rattle.std.specs.Prelude.{◌≡◌, IfOk, IfErr};
 ghost use Rattle.qrcode_core.specs.declared.plugin.error.PluginError.TheVariants.{OutOfMemory};
 
@@ -6,21 +6,21 @@ use crate::plugin::error::PluginError;
 use crate::plugin::grid::ModuleGrid;
 use std::alloc::Global;
 
-/// What a renderer of a registry gives.
+/// The output of a renderer.
 #[derive(Debug, Drop, PartialEq, Eq)]
 pub enum RenderOutput {
-    /// A text, as lines of characters or a drawing written as text.
+    /// A text: lines of characters, or a drawing as text.
     Text(String),
-    /// Bytes, as those of an image.
+    /// Bytes, such as those of an image.
     Bytes(Vec<u8>),
-    /// A changed grid of modules.
+    /// A grid of modules.
     Modules(ModuleGrid),
 }
 
 impl RenderOutput {
     ghost use Rattle.qrcode_core.specs.Plugins.{IsSameRender};
 
-    /// The same output again.
+    /// Returns a copy of the output. It fails with `OutOfMemory`.
     pub fn clone(&self, alloc: Global) -> Result<RenderOutput, PluginError>
         ensures same { IfOk result (IsSameRender self.now) }
         ensures memory { IfErr result (λ e. e ≡ OutOfMemory) }
@@ -36,7 +36,7 @@ impl RenderOutput {
     }
 }
 
-/// What an encoder of a registry gives.
+/// The output of an encoder.
 #[derive(Debug, Drop, PartialEq, Eq)]
 pub enum EncodedOutput {
     /// The modules of a symbol.
@@ -48,7 +48,7 @@ pub enum EncodedOutput {
 impl EncodedOutput {
     ghost use Rattle.qrcode_core.specs.Plugins.{IsSameEncoded};
 
-    /// The same output again.
+    /// Returns a copy of the output. It fails with `OutOfMemory`.
     pub fn clone(&self, alloc: Global) -> Result<EncodedOutput, PluginError>
         ensures same { IfOk result (IsSameEncoded self.now) }
         ensures memory { IfErr result (λ e. e ≡ OutOfMemory) }

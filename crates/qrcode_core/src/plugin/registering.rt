@@ -1,4 +1,4 @@
-//! How a caller registers objects.
+//! The registration of plugins and of single objects.
 ghost use Rattle.std.specs.Prelude.{◌≡◌, [], ◌∷◌, map, IfOk, OnOk, OnErr, IsOkUnless};
 ghost use Rattle.std.specs.String.{string_bytes};
 ghost use Rattle.qrcode_core.specs.Registries.{Registers, with_registration, version_of, renderer_of, encoder_of};
@@ -12,9 +12,12 @@ use crate::plugin::registry::{PluginRegistry, QrPlugin};
 use crate::plugin::{DynEncoder, DynRenderer, PostProcessor};
 
 impl PluginRegistry {
-    /// Registers all of a plugin: its name and version, then its renderers, encoders and postprocessors, each list in
-    /// order. An object whose name was taken is dropped for the new one. Without memory the registrations so far
-    /// stay, and the others are dropped.
+    /// Registers everything in a plugin: its name and version, then its renderers, its encoders
+    /// and its postprocessors, each list in order. A registered object whose name is taken again
+    /// is dropped.
+    ///
+    /// It fails with `OutOfMemory`. The registrations before the failed one stay then, and the
+    /// other objects are dropped.
     pub fn register_plugin(&mut self, plugin: QrPlugin) -> Result<(), PluginError>
         ensures { Registers (registered self.old) (registrations plugin)
             result (registered self.new) }
@@ -32,8 +35,8 @@ impl PluginRegistry {
         self.put_postprocessors(postprocessors)
     }
 
-    /// Registers a renderer, and gives back the one that had the name. Without memory nothing changes, and the
-    /// renderer is dropped.
+    /// Registers a renderer, and returns the one that had the name before. It fails with
+    /// `OutOfMemory`; the registry is unchanged then, and the renderer is dropped.
     pub fn register_renderer(
         &mut self,
         name: &str,
@@ -50,8 +53,8 @@ impl PluginRegistry {
         Ok(replaced)
     }
 
-    /// Registers an encoder, and gives back the one that had the name. Without memory nothing changes, and the
-    /// encoder is dropped.
+    /// Registers an encoder, and returns the one that had the name before. It fails with
+    /// `OutOfMemory`; the registry is unchanged then, and the encoder is dropped.
     pub fn register_encoder(
         &mut self,
         name: &str,
@@ -68,7 +71,8 @@ impl PluginRegistry {
         Ok(replaced)
     }
 
-    /// Registers a postprocessor after all others. Without memory nothing changes, and the postprocessor is dropped.
+    /// Registers a postprocessor after all others. It fails with `OutOfMemory`; the registry is
+    /// unchanged then, and the postprocessor is dropped.
     pub fn register_postprocessor(
         &mut self,
         postprocessor: Box<dyn PostProcessor>,
@@ -82,7 +86,7 @@ impl PluginRegistry {
         Ok(())
     }
 
-    /// Keeps the version of a plugin under its name.
+    /// Inserts the version of a plugin under its name.
     #[tactic(auto, using(crate::proofs::Plugins::text_entries_insert, crate::proofs::Plugins::text_values_insert))]
     fn put_version(&mut self, name: String, version: String) -> Result<(), PluginError>
         ensures { Registers (registered self.old)
@@ -95,7 +99,7 @@ impl PluginRegistry {
         }
     }
 
-    /// Keeps a renderer under a name, and gives back the one that it replaces.
+    /// Inserts a renderer under a name, and returns the one that it replaces.
     #[tactic(auto, using(crate::proofs::Plugins::text_entries_lookup))]
     fn insert_renderer(
         &mut self,
@@ -113,7 +117,7 @@ impl PluginRegistry {
         Ok(replaced)
     }
 
-    /// Keeps renderers under their names, up to the first that finds no memory.
+    /// Inserts renderers under their names, up to the first one whose allocation fails.
     #[tactic(auto, using(crate::proofs::Plugins::one_more_registered))]
     fn put_renderers(&mut self, all: Vec<(String, Box<dyn DynRenderer>)>) -> Result<(), PluginError>
         ensures { Registers (registered self.old) (map named_renderer all.items)
@@ -125,7 +129,7 @@ impl PluginRegistry {
         Ok(())
     }
 
-    /// Keeps a renderer under a name.
+    /// Inserts a renderer under a name, and drops the one that it replaces.
     fn put_renderer(
         &mut self,
         name: String,
@@ -138,7 +142,7 @@ impl PluginRegistry {
         Ok(())
     }
 
-    /// Keeps an encoder under a name, and gives back the one that it replaces.
+    /// Inserts an encoder under a name, and returns the one that it replaces.
     #[tactic(auto, using(crate::proofs::Plugins::text_entries_lookup))]
     fn insert_encoder(
         &mut self,
@@ -156,7 +160,7 @@ impl PluginRegistry {
         Ok(replaced)
     }
 
-    /// Keeps encoders under their names, up to the first that finds no memory.
+    /// Inserts encoders under their names, up to the first one whose allocation fails.
     #[tactic(auto, using(crate::proofs::Plugins::one_more_registered))]
     fn put_encoders(&mut self, all: Vec<(String, Box<dyn DynEncoder>)>) -> Result<(), PluginError>
         ensures { Registers (registered self.old) (map named_encoder all.items)
@@ -168,7 +172,7 @@ impl PluginRegistry {
         Ok(())
     }
 
-    /// Keeps an encoder under a name.
+    /// Inserts an encoder under a name, and drops the one that it replaces.
     fn put_encoder(&mut self, name: String, encoder: Box<dyn DynEncoder>) -> Result<(), PluginError>
         ensures { Registers (registered self.old) (encoder_of (string_bytes name) encoder ∷ [])
             result (registered self.new) }
@@ -177,7 +181,7 @@ impl PluginRegistry {
         Ok(())
     }
 
-    /// Keeps postprocessors in order, up to the first that finds no memory.
+    /// Appends postprocessors in order, up to the first one whose allocation fails.
     #[tactic(auto, using(crate::proofs::Plugins::one_more_registered))]
     fn put_postprocessors(&mut self, all: Vec<Box<dyn PostProcessor>>) -> Result<(), PluginError>
         ensures { Registers (registered self.old) (map postprocessor_of all.items)
@@ -189,7 +193,7 @@ impl PluginRegistry {
         Ok(())
     }
 
-    /// Keeps a postprocessor behind the others.
+    /// Appends a postprocessor to the others.
     fn put_postprocessor(
         &mut self,
         postprocessor: Box<dyn PostProcessor>,

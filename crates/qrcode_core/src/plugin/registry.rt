@@ -1,4 +1,4 @@
-//! The registry: what a caller registered, and how it is looked up and used.
+//! The registry: what a caller registered, how it is looked up, and how postprocessors are run.
 ghost use Rattle.std.specs.Prelude.{◌≡◌, Ok, Err, IfSome, IfNone, MatchOption, MatchResult, IsErrAnd, IsOkAnd};
 ghost use Rattle.std.specs.List.Sorted.{IsStrictlySortedBy};
 ghost use Rattle.std.specs.Option.{option_copied};
@@ -17,15 +17,20 @@ use std::collections::BTreeMap;
 /// Renderers, encoders and postprocessors that are registered together, under a name and a version.
 #[derive(Drop)]
 pub struct QrPlugin {
+    /// The name of the plugin.
     pub name: String,
+    /// The version of the plugin.
     pub version: String,
+    /// The renderers, each with its name.
     pub renderers: Vec<(String, Box<dyn DynRenderer>)>,
+    /// The encoders, each with its name.
     pub encoders: Vec<(String, Box<dyn DynEncoder>)>,
+    /// The postprocessors, in the order in which they run.
     pub postprocessors: Vec<Box<dyn PostProcessor>>,
 }
 
-/// What is registered: the versions of plugins, renderers and encoders by name, and postprocessors in the order in
-/// which they came.
+/// The registered objects: versions of plugins, renderers and encoders, each by name, and
+/// postprocessors in the order of registration.
 #[derive(Drop)]
 pub struct PluginRegistry {
     pub(super) plugins: BTreeMap<String, String>,
@@ -36,7 +41,7 @@ pub struct PluginRegistry {
 }
 
 impl PluginRegistry {
-    /// Nothing is registered.
+    /// Returns an empty registry.
     pub fn new(alloc: Global) -> PluginRegistry
         ensures { registered result ≡ nothing_registered }
     {
@@ -49,7 +54,7 @@ impl PluginRegistry {
         }
     }
 
-    /// The version of the plugin of this name.
+    /// Returns the version of the plugin of this name.
     #[tactic(auto, using(crate::proofs::Plugins::text_entries_lookup, crate::proofs::Plugins::text_values_lookup))]
     pub fn plugin_version(&self, name: &str) -> Option<&str>
         ensures { option_copied result ≡ at_key (registered self.now).plugins name.now }
@@ -57,7 +62,7 @@ impl PluginRegistry {
         self.plugins.get(name).map(|version| version.as_str())
     }
 
-    /// The names of plugins, in the order of their bytes.
+    /// Returns the names of the plugins, in the order of their bytes.
     #[tactic(auto, using(crate::proofs::Plugins::names_in_order))]
     pub fn plugin_names(&self) -> Names<'_, String>
         ensures names { names_left result ≡ key_texts (registered self.now).plugins }
@@ -66,7 +71,7 @@ impl PluginRegistry {
         Names::new(self.plugins.keys())
     }
 
-    /// The renderer of this name.
+    /// Returns the renderer of this name.
     #[tactic(auto, using(crate::proofs::Plugins::text_entries_lookup))]
     pub fn renderer(&self, name: &str) -> Option<&dyn DynRenderer>
         ensures { option_copied result ≡ object_at (registered self.now).renderers name.now }
@@ -74,9 +79,10 @@ impl PluginRegistry {
         Some(lend_renderer(self.renderers.get(name)?))
     }
 
-    /// The renderer of this name, if it accepts the configuration. `RendererNotFound` if there is none, else what its
-    /// `validate_config` refuses. `OutOfMemory` comes in place of `RendererNotFound` where there is no memory for the
-    /// name.
+    /// Returns the renderer of this name, if its `validate_config` accepts the configuration.
+    ///
+    /// If there is no such renderer, it fails with `RendererNotFound`, or with `OutOfMemory` if the
+    /// name cannot be copied. Otherwise it fails with the error of `validate_config`.
     pub fn build_renderer(
         &self,
         name: &str,
@@ -98,7 +104,7 @@ impl PluginRegistry {
         }
     }
 
-    /// The names of renderers, in the order of their bytes.
+    /// Returns the names of the renderers, in the order of their bytes.
     #[tactic(auto, using(crate::proofs::Plugins::text_entries_keys, crate::proofs::Plugins::texts_sorted))]
     pub fn renderer_names(&self) -> Names<'_, Box<dyn DynRenderer>>
         ensures names { names_left result ≡ key_texts (registered self.now).renderers }
@@ -107,7 +113,7 @@ impl PluginRegistry {
         Names::new(self.renderers.keys())
     }
 
-    /// The encoder of this name.
+    /// Returns the encoder of this name.
     #[tactic(auto, using(crate::proofs::Plugins::text_entries_lookup))]
     pub fn encoder(&self, name: &str) -> Option<&dyn DynEncoder>
         ensures { option_copied result ≡ object_at (registered self.now).encoders name.now }
@@ -115,8 +121,8 @@ impl PluginRegistry {
         Some(lend_encoder(self.encoders.get(name)?))
     }
 
-    /// The encoder of this name, whatever the configuration. `EncoderNotFound` if there is none, or `OutOfMemory`
-    /// where there is no memory for the name.
+    /// Returns the encoder of this name, whatever the configuration is. If there is none, it fails
+    /// with `EncoderNotFound`, or with `OutOfMemory` if the name cannot be copied.
     pub fn build_encoder(
         &self,
         name: &str,
@@ -133,7 +139,7 @@ impl PluginRegistry {
         }
     }
 
-    /// The names of encoders, in the order of their bytes.
+    /// Returns the names of the encoders, in the order of their bytes.
     #[tactic(auto, using(crate::proofs::Plugins::text_entries_keys, crate::proofs::Plugins::texts_sorted))]
     pub fn encoder_names(&self) -> Names<'_, Box<dyn DynEncoder>>
         ensures names { names_left result ≡ key_texts (registered self.now).encoders }
@@ -142,15 +148,15 @@ impl PluginRegistry {
         Names::new(self.encoders.keys())
     }
 
-    /// The postprocessors, in the order of registration.
+    /// Returns the postprocessors, in the order of registration.
     pub fn postprocessors(&self) -> &[Box<dyn PostProcessor>]
         ensures { result.now ≡ (registered self.now).postprocessors }
     {
         self.postprocessors.as_slice()
     }
 
-    /// Runs the postprocessors on the grid, in the order of registration, and stops at the first refusal, which it
-    /// answers. The grid holds what they left so far.
+    /// Runs the postprocessors on the grid, in the order of registration, up to the first error,
+    /// which it returns. The grid keeps the changes that were made until then.
     #[tactic(auto, using(crate::proofs::Plugins::steps_refused, crate::proofs::Plugins::steps_further))]
     pub fn process_modules(&self, modules: &mut dyn ModuleStorage) -> Result<(), PluginError>
         ensures { StepsInOrder processes (registered self.now).postprocessors
@@ -163,7 +169,7 @@ impl PluginRegistry {
     }
 }
 
-/// Has one postprocessor process the modules.
+/// Runs one postprocessor on the modules.
 fn process_by(
     postprocessor: &Box<dyn PostProcessor>,
     alloc: Global,
@@ -174,21 +180,21 @@ fn process_by(
     postprocessor.process(alloc, modules)
 }
 
-/// Lends what a box holds.
+/// Returns a reference to the renderer in a box.
 fn lend_renderer(renderer: &Box<dyn DynRenderer>) -> &dyn DynRenderer
     ensures { result.now ≡ (renderer.now.vtable, renderer.now.value) }
 {
     &**renderer
 }
 
-/// Lends what a box holds.
+/// Returns a reference to the encoder in a box.
 fn lend_encoder(encoder: &Box<dyn DynEncoder>) -> &dyn DynEncoder
     ensures { result.now ≡ (encoder.now.vtable, encoder.now.value) }
 {
     &**encoder
 }
 
-/// That there is no renderer of this name; without memory for it, `OutOfMemory`.
+/// Returns `RendererNotFound` with this name, or `OutOfMemory` if the name cannot be copied.
 fn missing_renderer(alloc: Global, name: &str) -> PluginError
     ensures { IsRendererMissing name.now result }
 {
@@ -198,7 +204,7 @@ fn missing_renderer(alloc: Global, name: &str) -> PluginError
     }
 }
 
-/// That there is no encoder of this name; without memory for it, `OutOfMemory`.
+/// Returns `EncoderNotFound` with this name, or `OutOfMemory` if the name cannot be copied.
 fn missing_encoder(alloc: Global, name: &str) -> PluginError
     ensures { IsEncoderMissing name.now result }
 {

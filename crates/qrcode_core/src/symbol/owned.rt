@@ -1,4 +1,4 @@
-//! A symbol that owns its modules.
+//! `Symbol`: a symbol that owns its modules.
 ghost use Rattle.std.specs.Prelude.{◌≡◌, ◌≤◌, length, OnOk, IfOk, IfErr};
 ghost use Rattle.qrcode_base.specs.Symbols.{IsVersion, width_of};
 ghost use Rattle.qrcode_core.specs.Limits.{IsBudget, IsBestWithin, IsTooLongWithin, IsLimitedRefusal};
@@ -18,9 +18,9 @@ use qrcode_grid::ec::construct_codewords;
 use std::alloc::Global;
 use std::marker::Model;
 
-/// A symbol with modules of its own, and its version, level and mask.
+/// A symbol that owns its modules, with its version, level and mask.
 ///
-/// The modules stand row by row from the upper left corner, with no quiet zone.
+/// The modules are stored row by row from the upper left corner, without a quiet zone.
 #[derive(Debug, Drop)]
 pub struct Symbol {
     modules: Vec<Color>,
@@ -30,7 +30,7 @@ pub struct Symbol {
     mask: MaskPattern,
 }
 
-// Clauses see the modules, the version, the level and the mask.
+// Contracts see the modules, the version, the level and the mask.
 impl Model for Symbol {
     ghost use Rattle.std.specs.Prelude.{◌≡◌, ◌*◌, length};
     ghost use Rattle.qrcode_base.specs.Symbols.{IsVersion, width_of};
@@ -45,14 +45,19 @@ impl Model for Symbol {
 }
 
 impl Symbol {
-    /// The best symbol of some bytes at a level (ISO/IEC 18004, encode procedure): the smallest Normal version in
-    /// which some way to merge the parsed segments fits, with the fewest payload bits of all such ways, under the
-    /// first mask of least penalty. A reader finds in it exactly the bytes, and the version, the level and the mask
-    /// that the symbol tells. Where no two neighbouring bytes are a pair of the Kanji mode, as in ASCII, no symbol of
-    /// the bytes at all is smaller (`laws::none_is_better`).
+    /// Returns the best symbol of the bytes at a level (ISO/IEC 18004:2006, encode procedure). It
+    /// has the smallest Normal version in which some way to merge the parsed segments fits, the
+    /// fewest payload bits of all such ways, and the first mask of least penalty.
     ///
-    /// `DataTooLong` comes exactly where nothing fits version 40 at the level; more than 7089 bytes are refused
-    /// without memory. `OutOfMemory` comes where a growth was refused.
+    /// A reader finds exactly the bytes in it, and the version, the level and the mask that the
+    /// symbol returns. Where no two neighbouring bytes are a pair of the Kanji mode, as in ASCII,
+    /// no other symbol of the bytes is smaller (`laws::none_is_better`).
+    ///
+    /// # Errors
+    ///
+    /// It fails with `DataTooLong` exactly where nothing fits version 40 at the level; more
+    /// than 7089 bytes fail without an allocation. It fails with `OutOfMemory` where an
+    /// allocation failed.
     pub fn new(alloc: Global, bytes: &[u8], level: EcLevel) -> QrResult<Symbol>
         ensures best { IfOk result (λ symbol. IsBestSymbol bytes.now level symbol.modules) }
         ensures reading { IfOk result TellsReading }
@@ -64,12 +69,16 @@ impl Symbol {
         symbol_of(alloc, bits, level)
     }
 
-    /// The same of the Micro versions: the first of M1 to M4 that has the level and the modes of the data, and in
-    /// which some way to merge the segments fits (ISO/IEC 18004, "Micro QR Code"). `laws::none_is_better` holds of
-    /// it too.
+    /// Returns the best Micro symbol of the bytes at a level (ISO/IEC 18004:2006, "Micro QR
+    /// Code"), as `new` does. Its version is the first of M1 to M4 that has the level and the
+    /// modes of the data, and in which some way to merge the segments fits. `laws::none_is_better`
+    /// holds of it too.
     ///
-    /// Level H, which no Micro version has, is `InvalidVersion` with `Micro(4)`. Then `DataTooLong` comes exactly
-    /// where nothing fits any of them, and `OutOfMemory` where a growth was refused.
+    /// # Errors
+    ///
+    /// It fails with `InvalidVersion` and `Micro(4)` for level H, which no Micro version has. Then
+    /// it fails with `DataTooLong` exactly where nothing fits any of the versions, and with
+    /// `OutOfMemory` where an allocation failed.
     pub fn micro(alloc: Global, bytes: &[u8], level: EcLevel) -> QrResult<Symbol>
         ensures best { IfOk result (λ symbol. IsBestMicroSymbol bytes.now level symbol.modules) }
         ensures reading { IfOk result TellsReading }
@@ -81,12 +90,15 @@ impl Symbol {
         symbol_of(alloc, bits, level)
     }
 
-    /// As `new`, in the versions up to the greatest that the limits allow, and for as many bytes. `laws::none_is_better`
-    /// holds of the symbol as of one of `new`.
+    /// Returns the best symbol of the bytes at a level, as `new` does, within limits: the version
+    /// and the number of bytes are at most those of the limits. `laws::none_is_better` holds of it
+    /// too. The size of a drawn symbol and the time are not checked.
     ///
-    /// Limits that no encoding can keep, as `ResourceLimits::validate` tells, are `InvalidResourceLimits`. Then
-    /// `DataTooLong` comes exactly where the bytes are more than are allowed, or nothing fits any version that is; then
-    /// `OutOfMemory` where a growth was refused. The size of a drawn symbol and the time are no concern of this call.
+    /// # Errors
+    ///
+    /// It fails with `InvalidResourceLimits` for limits that `ResourceLimits::validate` rejects.
+    /// Then it fails with `DataTooLong` exactly where there are more bytes than the limit, or
+    /// nothing fits a version within the limit, and with `OutOfMemory` where an allocation failed.
     pub fn with_limits(
         alloc: Global,
         bytes: &[u8],
@@ -114,16 +126,20 @@ impl Symbol {
         symbol_of(alloc, bits, level)
     }
 
-    /// The symbol of bits that a caller pushed, in their version and at a level: headers, an ECI designator, FNC1,
-    /// segments, in the caller's order.
+    /// Returns the symbol of bits that a caller pushed (headers, an ECI designator, FNC1, segments,
+    /// in any order), in the version of the bits and at a level.
     ///
-    /// The bits are ended by terminator and padding (ISO/IEC 18004, "Terminator" and "Bit stream to codeword
-    /// conversion"). The modules carry exactly these bits in sound blocks, under the first mask of least penalty. What
-    /// they say is the caller's concern. Bits that were ended before are taken as they are; in M1 and M3 they may be
-    /// half a byte too long then, and are refused.
+    /// Terminator and padding are appended to the bits (ISO/IEC 18004:2006, "Terminator" and "Bit
+    /// stream to codeword conversion"). The modules carry exactly these bits in sound blocks, under
+    /// the first mask of least penalty. The call does not check what the bits mean. Bits that
+    /// already end with terminator and padding are taken as they are; in M1 and M3 they can then be
+    /// half a byte too long, and the call fails with `DataTooLong`.
     ///
-    /// `InvalidVersion` comes where the version does not have the level. Then `DataTooLong` comes exactly where the
-    /// bits are past the capacity, and `OutOfMemory` where a growth was refused.
+    /// # Errors
+    ///
+    /// It fails with `InvalidVersion` where the version does not have the level. Then it fails with
+    /// `DataTooLong` exactly where there are more bits than the capacity, and with `OutOfMemory`
+    /// where an allocation failed.
     #[tactic(auto, using(crate::proofs::Best::ended_fills, crate::proofs::Best::holds_stream))]
     pub fn with_bits(alloc: Global, mut bits: Bits, level: EcLevel) -> QrResult<Symbol>
         ensures holds { IfOk result (HoldsStream bits level) }
@@ -134,14 +150,14 @@ impl Symbol {
         symbol_of(alloc, bits, level)
     }
 
-    /// The mask pattern that was applied.
+    /// Returns the mask pattern of the symbol.
     pub fn mask(&self) -> MaskPattern
         ensures { result ≡ self.now.mask }
     {
         self.mask
     }
 
-    /// The modules, lent as a view. It shows the same grid.
+    /// Returns a view of the modules, which shows the same grid.
     pub fn module_view(&self) -> ModuleView<'_>
         ensures { view_grid result ≡ drawn_grid self.now }
     {
@@ -151,7 +167,7 @@ impl Symbol {
         }
     }
 
-    /// The same symbol again, or `OutOfMemory`.
+    /// Returns a copy of the symbol. It fails with `OutOfMemory`.
     pub fn clone(&self, alloc: Global) -> QrResult<Symbol>
         ensures same { IfOk result (λ symbol. symbol ≡ self.now) }
         ensures memory { IfErr result (λ e. e ≡ QrError.OutOfMemory) }
@@ -166,7 +182,7 @@ impl Symbol {
         })
     }
 
-    /// The modules alone, row by row from the upper left corner.
+    /// Returns the modules, row by row from the upper left corner.
     pub fn into_colors(self) -> Vec<Color>
         ensures { result.items ≡ self.modules }
     {
@@ -185,7 +201,7 @@ impl ModuleSource for Symbol {
         self.modules[y * self.width + x]
     }
 
-    /// How many modules a row has: 21 to 177, and 11 to 17 in a Micro symbol.
+    /// Returns the number of modules in a row: 21 to 177, or 11 to 17 in a Micro symbol.
     fn width(&self) -> usize
         ensures is { result ≡ (drawn_grid self.now).columns }
         ensures some { 11 ≤ result }
@@ -194,7 +210,7 @@ impl ModuleSource for Symbol {
         self.width
     }
 
-    /// How many rows there are, as many as columns.
+    /// Returns the number of rows, which is also the number of columns.
     fn height(&self) -> usize
         ensures is { result ≡ (drawn_grid self.now).rows }
         ensures some { 11 ≤ result }
@@ -228,7 +244,8 @@ impl QrSymbol for Symbol {
     }
 }
 
-/// The symbol of some bits that fill it: their codewords, under the first mask of least penalty.
+/// Returns the symbol of bits that fill its data codewords, under the first mask of least penalty.
+/// It fails with `OutOfMemory`.
 pub fn symbol_of(alloc: Global, bits: Bits, level: EcLevel) -> QrResult<Symbol>
     requires { FillsSymbol bits level }
     ensures drawn { IfOk result (IsDrawnStream bits level) }

@@ -1,4 +1,7 @@
 //! The symbols of a message that is spread over several of them.
+//!
+//! 1. Cut the message into parts (`part_at`).
+//! 2. Make the best symbol of each part, with its header (`part_symbol`).
 ghost use Rattle.std.specs.Prelude.{◌≡◌, ◌+◌, ◌≤◌, [], length, map, nat_abs, slice_index_or, All, OnOk, IfOk, IfErr};
 ghost use Rattle.std.specs.Prelude.{IsTrue, vec_items};
 ghost use Rattle.std.specs.List.Sorted.{IsNonDecreasing};
@@ -14,9 +17,10 @@ use qrcode_base::types::{Color, EcLevel, QrError, QrResult};
 use qrcode_bits::bits::encode_part;
 use std::alloc::Global;
 
-/// Whether a message of this length can be cut there: no cut falls below the one before it, or lies behind the end.
+/// Whether a message of this length can be cut at these places: no cut is less than the one before
+/// it, or greater than the length.
 ///
-/// It is what `symbol_sequence` asks of its cuts.
+/// `symbol_sequence` requires this of its cuts.
 pub fn are_cuts(cuts: &[usize], length: usize) -> bool
     ensures ordered { IsTrue result → IsNonDecreasing cuts.now }
     ensures within { IsTrue result → All (λ cut. cut ≤ length) cuts.now }
@@ -26,9 +30,10 @@ pub fn are_cuts(cuts: &[usize], length: usize) -> bool
 }
 
 impl Symbol {
-    /// The 2 to 16 symbols that carry some bytes together, in the order of the parts (ISO/IEC 18004, "Structured
-    /// Append"), as `symbol_sequence` tells them, with its refusals. A reader finds in each the version, the level
-    /// and the mask that it tells.
+    /// Returns the 2 to 16 symbols that carry a message together, in the order of its parts
+    /// (ISO/IEC 18004:2006, "Structured Append"). `symbol_sequence` says what the parts and the
+    /// symbols are, and how the call fails. A reader finds in each symbol the version, the level
+    /// and the mask that the symbol returns.
     pub fn sequence(
         alloc: Global,
         bytes: &[u8],
@@ -64,19 +69,22 @@ impl Symbol {
     }
 }
 
-/// The modules of 2 to 16 symbols that carry a message together, in the order of its parts (ISO/IEC 18004,
-/// "Structured Append").
+/// Returns the modules of 2 to 16 symbols that carry a message together, in the order of its parts
+/// (ISO/IEC 18004:2006, "Structured Append").
 ///
-/// The parts lie between the start of the message, the cuts in order, and its end; they may be empty. Each symbol
-/// begins with a header that tells its position, how many symbols there are, and the exclusive or of all bytes of the
-/// message. It is the best symbol of its part (as with `symbol`) in the versions from 1 to `max_version`, where the
-/// header takes 20 bits. Read in any order, the symbols are the message. Of a part in which no two neighbouring bytes
-/// are a pair of the Kanji mode, no symbol with this header is smaller (`laws::none_is_better`).
+/// The parts lie between the start of the message, the cuts in order, and its end; they may be
+/// empty. Each symbol begins with a header, which holds its position, the number of symbols, and
+/// the exclusive or of all bytes of the message. It is the best symbol of its part (as `symbol`
+/// returns it) in the versions 1 to `max_version`, where the header takes 20 bits. Read in any
+/// order, the symbols give the message. Where no two neighbouring bytes of a part are a pair of the
+/// Kanji mode, no other symbol of the part with this header is smaller (`laws::none_is_better`).
 ///
-/// A `max_version` outside 1 to 40 is `InvalidResourceLimits`. Then a number of parts other than 2 to 16 is
-/// `InvalidStructuredAppend` with this number, or with 255 where it is greater. Then `DataTooLong` comes exactly
-/// where some part fits none of the versions, and `OutOfMemory` where a growth was refused. A refused call gives no
-/// symbol.
+/// # Errors
+///
+/// It fails with `InvalidResourceLimits` if `max_version` is outside 1 to 40. Then it fails with
+/// `InvalidStructuredAppend` if the number of parts is not 2 to 16; the error holds that number, at
+/// most 255. Then it fails with `DataTooLong` exactly where some part fits none of the versions,
+/// and with `OutOfMemory` where an allocation failed. A call that fails returns no symbol.
 pub fn symbol_sequence(
     alloc: Global,
     bytes: &[u8],
@@ -97,7 +105,7 @@ pub fn symbol_sequence(
     colors_of_all(alloc, symbols)
 }
 
-/// The modules of each symbol.
+/// Returns the modules of each symbol, in order. It fails with `OutOfMemory`.
 fn colors_of_all(alloc: Global, symbols: Vec<Symbol>) -> QrResult<Vec<Vec<Color>>>
     ensures all { IfOk result (λ grids. map vec_items grids.items ≡ map modules_of symbols.items) }
     ensures memory { IfErr result (λ e. e ≡ QrError.OutOfMemory) }
@@ -109,14 +117,15 @@ fn colors_of_all(alloc: Global, symbols: Vec<Symbol>) -> QrResult<Vec<Vec<Color>
     Ok(grids)
 }
 
-/// The exclusive or of some bytes.
+/// Returns the exclusive or of the bytes.
 fn parity_of(bytes: &[u8]) -> u8
     ensures { result ≡ parity_of bytes.now }
 {
     bytes.iter().fold(0, |sum, byte| sum ^ *byte)
 }
 
-/// The part of the message that begins at the start or a cut, and ends at the next cut or the end.
+/// Returns part `index` of the message, which begins at the start or a cut, and ends before the
+/// next cut or at the end.
 fn part_at<'a>(bytes: &'a [u8], cuts: &[usize], index: usize) -> &'a [u8]
     requires ordered { IsNonDecreasing cuts.now }
     requires within { All (λ cut. cut ≤ length bytes.now) cuts.now }
@@ -132,7 +141,7 @@ fn part_at<'a>(bytes: &'a [u8], cuts: &[usize], index: usize) -> &'a [u8]
     &bytes[start..end]
 }
 
-/// The best symbol of a part, with its header.
+/// Returns the best symbol of a part, with its header.
 fn part_symbol(
     alloc: Global,
     part: &[u8],

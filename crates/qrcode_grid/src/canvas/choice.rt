@@ -1,4 +1,4 @@
-//! The choice of a mask: the first of least penalty. Then the grid of a whole symbol.
+//! The choice of the first mask of least penalty, and the grid of a whole symbol.
 ghost use Rattle.std.specs.Prelude.{◌≡◌, ◌+◌, ◌*◌, ◌<◌, ◌≤◌, length, slice_get, Some, IfOk, IfErr};
 ghost use Rattle.qrcode_base.specs.Symbols.{IsSymbol, missing_bits};
 ghost use Rattle.qrcode_grid.specs.Counts.{codeword_count};
@@ -13,7 +13,8 @@ use qrcode_base::symbols::symbol_width;
 use qrcode_base::types::{Color, EcLevel, QrError, QrResult, Version};
 use std::alloc::Global;
 
-/// What is told of a penalty: less 720 in Normal symbols, and at most 65535.
+/// Returns the score of a penalty, at most 65535. In a Normal symbol it is the penalty minus 720,
+/// or 0 if that is negative.
 fn score_of(version: Version, penalty: usize) -> u16
     ensures { result ≡ score version penalty }
 {
@@ -24,7 +25,7 @@ fn score_of(version: Version, penalty: usize) -> u16
     if told < 65535 { told as u16 } else { 65535 }
 }
 
-/// The masks of Normal symbols, in order.
+/// The masks of Normal symbols, in the order of their numbers.
 static NORMAL_FAMILY: [MaskPattern; 8] = [
     MaskPattern::Checkerboard,
     MaskPattern::HorizontalLines,
@@ -36,7 +37,7 @@ static NORMAL_FAMILY: [MaskPattern; 8] = [
     MaskPattern::Meadow,
 ];
 
-/// The masks of Micro symbols, in order.
+/// The masks of Micro symbols, in the order of their numbers.
 static MICRO_FAMILY: [MaskPattern; 4] = [
     MaskPattern::HorizontalLines,
     MaskPattern::LargeCheckerboard,
@@ -44,7 +45,7 @@ static MICRO_FAMILY: [MaskPattern; 4] = [
     MaskPattern::Meadow,
 ];
 
-/// The masks of the family of a version, in order.
+/// Returns the masks that a version has, in the order of their numbers.
 fn family_of(version: Version) -> &'static [MaskPattern]
     ensures { result.now ≡ family version }
 {
@@ -65,14 +66,16 @@ impl Canvas {
     ghost use Rattle.qrcode_grid.specs.Canvas.{colors_of, mask_penalties, IsBestMask, IsBestMasked};
     ghost use Rattle.qrcode_grid.specs.Penalty.{penalty, score};
 
-    /// The candidates under the masks of the family, in a scratch list, by the numbers of the masks in Normal symbols,
-    /// and their penalties, in order.
+    /// Returns a scratch list that begins with the masked candidates, and the penalties of the
+    /// masks that the version has, in order. Bit m of a byte of the candidates is the colour under
+    /// the mask with number m in Normal symbols.
     ///
-    /// The scratch has the candidates, twelve rows of conditions, the candidates between light modules, and the edges.
-    /// The last two are 14 rows longer than the grid, and as what the last 256 places that are looked at reach. A long
-    /// list takes 400 KB, of which it touches what it needs: glibc gives memory back to the system after each symbol
-    /// where more than 128 KB come free at the heap's end, and keeps twice as much as the greatest block that it has
-    /// seen.
+    /// The scratch list has four parts: the candidates, twelve rows of mask conditions, the
+    /// candidates within light modules, and the edges. The last two have 14 more rows than the grid
+    /// and 256 more bytes, because counting reads whole blocks of 256. A long list reserves 400 KB,
+    /// of which only the used part is touched. Otherwise glibc would give memory back to the system
+    /// after each symbol: it does so where more than 128 KB are free at the end of the heap, and
+    /// keeps twice the size of the largest block so far.
     fn candidates(&self, alloc: Global) -> QrResult<(Vec<u8>, Vec<usize>)>
         ensures candidates { IfOk result (λ r. (p : MaskPattern) → IsOfFamily self.now.version p →
             plane (normal_number p)
@@ -95,10 +98,10 @@ impl Canvas {
         Ok((scratch, values))
     }
 
-    /// The penalty that the canvas would have after each mask of its family, in the order of the masks' numbers
-    /// (ISO/IEC 18004, evaluation of data masking results).
+    /// Returns the penalty that the canvas would have under each mask of its version, in the order
+    /// of the masks' numbers (ISO/IEC 18004:2006, evaluation of data masking results).
     ///
-    /// The only error is want of memory.
+    /// It fails with `OutOfMemory`.
     pub fn penalties(&self, alloc: Global) -> QrResult<Vec<usize>>
         ensures is { IfOk result (λ values. values.items ≡ mask_penalties self.now) }
         ensures refusal { IfErr result (λ e. e ≡ QrError.OutOfMemory) }
@@ -107,7 +110,8 @@ impl Canvas {
         Ok(values)
     }
 
-    /// The first mask of least penalty, that penalty, and a scratch list that begins with the candidates.
+    /// Returns the first mask of least penalty, that penalty, and a scratch list that begins with
+    /// the masked candidates.
     fn best(&self, alloc: Global) -> QrResult<(MaskPattern, usize, Vec<u8>)>
         ensures best { IfOk result (λ r. IsBestMask self.now r.0) }
         ensures least { IfOk result (λ r.
@@ -129,10 +133,11 @@ impl Canvas {
         Ok((family_of(self.version)[best], values[best], scratch))
     }
 
-    /// The canvas under the first mask of least penalty, that mask, and its score: the penalty, less 720 in a Normal
-    /// symbol (0 where it is below), and at most 65535 (ISO/IEC 18004, evaluation of data masking results).
+    /// Returns the canvas under the first mask of least penalty, that mask, and its score
+    /// (ISO/IEC 18004:2006, evaluation of data masking results). The score is the penalty, at most
+    /// 65535; in a Normal symbol it is the penalty minus 720, or 0 if that is negative.
     ///
-    /// The only error is want of memory.
+    /// It fails with `OutOfMemory`.
     pub fn apply_best_mask_with_score(&self, alloc: Global) -> QrResult<(Canvas, MaskPattern, u16)>
         ensures best { IfOk result (λ r. IsBestMask self.now r.1) }
         ensures canvas { IfOk result (λ r. r.0 ≡ with_mask r.1 self.now) }
@@ -146,7 +151,8 @@ impl Canvas {
         Ok((canvas, pattern, score_of(self.version, penalty)))
     }
 
-    /// The canvas under the first mask of least penalty, and that mask. The only error is want of memory.
+    /// Returns the canvas under the first mask of least penalty, and that mask. It fails
+    /// with `OutOfMemory`.
     pub fn apply_best_mask_with_pattern(&self, alloc: Global) -> QrResult<(Canvas, MaskPattern)>
         ensures best { IfOk result (λ r. IsBestMask self.now r.1) }
         ensures canvas { IfOk result (λ r. r.0 ≡ with_mask r.1 self.now) }
@@ -156,7 +162,7 @@ impl Canvas {
         Ok((canvas, pattern))
     }
 
-    /// The canvas under the first mask of least penalty. The only error is want of memory.
+    /// Returns the canvas under the first mask of least penalty. It fails with `OutOfMemory`.
     pub fn apply_best_mask(&self, alloc: Global) -> QrResult<Canvas>
         ensures is { IfOk result (IsBestMasked self.now) }
         ensures refusal { IfErr result (λ e. e ≡ QrError.OutOfMemory) }
@@ -166,10 +172,10 @@ impl Canvas {
     }
 }
 
-/// The colours of the symbol that carries these codewords under the first mask of least penalty, row by row, and that
-/// mask.
+/// Returns the colours of the symbol that carries these codewords under the first mask of least
+/// penalty, row by row, and that mask.
 ///
-/// The only error is want of memory.
+/// It fails with `OutOfMemory`.
 pub fn draw_symbol(
     alloc: Global,
     version: Version,

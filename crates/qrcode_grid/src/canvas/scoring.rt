@@ -1,5 +1,10 @@
-//! The penalties of eight candidates at once. A grid is a list of bytes, a byte a module, and bit m of a byte is its
-//! colour in candidate m. In the penalty of one Micro symbol a byte is 1 where a module is dark, 0 where it is light.
+//! The penalties of eight masked candidates at once. A grid is a list with one byte per module, and
+//! bit m of a byte is the colour in candidate m (1 is dark).
+//!
+//! 1. Write the eight candidates (`masks`).
+//! 2. For each direction, mark the edges between modules of one colour (`lists`).
+//! 3. Count runs, finder-like patterns, squares and dark modules in all candidates (`counting`),
+//!    and add up their penalties.
 ghost use Rattle.std.specs.Prelude.{◌≡◌, ℕ, ◌+◌, ◌*◌, ◌<◌, ◌≤◌, length, map, replicate, slice_index, take, IfOk};
 ghost use Rattle.std.specs.Prelude.{◌==◌, count_by, drop, if◌then◌else◌};
 ghost use Rattle.qrcode_base.specs.Symbols.{IsVersion, width_of};
@@ -22,8 +27,10 @@ use crate::canvas::scoring::lists::{Feature, write_edges, write_padded};
 use qrcode_base::types::{Color, Version};
 use std::alloc::{AllocError, Global};
 
-/// What the rows or the columns count in each candidate, by their edges: a run of n modules has n - 4 fives and n - 5
-/// sixes, and counts n - 2. There is one of it for each direction, so that the step of rows is known to the compiler.
+/// Returns the penalty of the rows or of the columns in each candidate, from their edges. A run of
+/// n modules, where n is at least 5, begins five equal modules at n - 4 places and six at n - 5, so
+/// that 3 for each five and -2 for each six add up to its penalty n - 2. The function is
+/// instantiated once per direction so that the compiler knows that the step of rows is 1.
 #[inline(never)]
 fn penalties_of_lines<const ROWS: bool>(
     width: usize,
@@ -51,7 +58,8 @@ fn penalties_of_lines<const ROWS: bool>(
     penalties
 }
 
-/// The penalties of eight candidates of a Normal symbol, by two lists of zeros.
+/// Returns the penalties of eight candidates of a Normal symbol. `padded` and `edges` are scratch
+/// lists of zeros.
 #[inline(never)]
 pub fn penalties_of_normal(
     width: usize,
@@ -83,8 +91,8 @@ pub fn penalties_of_normal(
     penalties
 }
 
-/// The penalties of eight candidates of a Micro symbol, each by the light modules of its bottom row and of its right
-/// column, but for their first.
+/// Returns the penalties of eight candidates of a Micro symbol, each from the light modules of the
+/// bottom row and of the right column, without the first module of either.
 fn penalties_of_micro(width: usize, grid: &[u8]) -> [usize; 8]
     requires square { length grid.now ≡ width * width }
     requires wide { (0 < width) × (width ≤ 177) }
@@ -104,8 +112,8 @@ fn penalties_of_micro(width: usize, grid: &[u8]) -> [usize; 8]
     penalties
 }
 
-/// The penalties of the modules under eight masks, each with its format word, by the numbers of the masks. The scratch
-/// list then begins with the candidates.
+/// Returns the penalties of the modules under eight masks, each with its format word, by the
+/// numbers of the masks. The scratch list must be zeros. Afterwards it begins with the candidates.
 pub fn penalties_of(
     modules: &[Module],
     version: Version,
@@ -136,7 +144,7 @@ pub fn penalties_of(
     }
 }
 
-/// Writes the colours of one candidate.
+/// Writes the colours of candidate m.
 pub fn write_colors(grid: &[u8], m: usize, colors: &mut [Color])
     requires bit { m < 8 }
     requires long { length colors.old ≡ length grid.now }
@@ -151,10 +159,11 @@ pub fn write_colors(grid: &[u8], m: usize, colors: &mut [Color])
     }
 }
 
-/// How many elements are written at once. The C library fills more than 2 KB by `rep stos`, which is slow to begin.
+/// The number of elements that are written at once. The C library fills more than 2 KB with
+/// `rep stos`, which is slow to start.
 const PART: usize = 1000;
 
-/// A list of one value, with at least some room.
+/// Returns a list of `length` copies of a value, with a capacity of at least `room` elements.
 pub fn repeated<T: Copy>(
     alloc: Global,
     value: T,

@@ -1,4 +1,4 @@
--- The versions before this one, and this one; behind the first `%`.
+-- The versions before this one, and this one; after the test for `%`.
 use Rattle.std.proofs.Common.{subst, arith, rules}
 use Rattle.qrcode_base.specs.declared.types.errors.QrError.{QrError}
 use Rattle.qrcode_bits.{specs.Plans.normal, proofs.Pairs.bytes_valid}

@@ -1,4 +1,4 @@
--- The pushes behind each other, and the refusal of each.
+-- The pushes one after the other, and the error of each.
 use Rattle.std.proofs.Common.{◌≡◌, ◌∙◌, arith}
 use Rattle.std.proofs.lemmas.Result.{err_from_is_err_and, IfOk-weaker, IfErr-weaker}
 use Rattle.qrcode_bits.{proofs.Pairs.bytes_valid, specs.Plans.normal}

@@ -1,8 +1,9 @@
-//! The codewords of a symbol.
+//! The codewords of a symbol. The type is not in `data`, since the contracts there use definitions
+//! of the type: one file would be an import cycle.
 ghost use Rattle.std.specs.Prelude.{◌≤◌};
 
-/// The data codewords of a symbol and its correction codewords, and how many low bits of the last data codeword are
-/// left out.
+/// The data codewords and the error correction codewords of a symbol, and the number of low bits of
+/// the last data codeword that are left out (4 in M1 and M3).
 #[derive(Clone, Copy)]
 pub struct Streams<'a> {
     pub codewords: &'a [u8],

@@ -1,6 +1,8 @@
-//! Bits counted by their place in a byte, sixteen rows of lanes at a time, and so how many places have what the penalty
-//! counts, in eight candidates at once. No place outside the grid has any of it, so all places are looked at, 256 at a
-//! time.
+//! Counts what the penalty rules look for, in eight candidates at once. A row of sixteen lanes
+//! marks sixteen places, and bit m of a lane belongs to candidate m. Sixteen rows at a time are
+//! added bit by bit: a carry-save adder keeps the counts of each bit in four rows of lanes, of
+//! weights 1, 2, 4 and 8. Places outside the grid are never marked, so that all places are counted,
+//! 256 at a time.
 ghost use Rattle.std.specs.Prelude.{◌≡◌, ℕ, ◌+◌, ◌*◌, ◌<◌, ◌≤◌, [], length, slice_index, slice_index_or};
 ghost use Rattle.qrcode_grid.specs.Regions.{sum_below, count_below};
 ghost use Rattle.qrcode_grid.specs.Scoring.{bit_count, held, tallied, Marks, plane, has, has_five, has_six};
@@ -10,7 +12,7 @@ use crate::canvas::scoring::lists::{Feature, dark, places_of};
 use crate::canvas::scoring::planes::{Planes, Tally};
 use std::simd::prelude::*;
 
-/// The sum and the carry of three bits, at each bit.
+/// Returns the sum and the carry of three rows, bit by bit.
 #[inline(always)]
 #[tactic(auto, using(crate::proofs::MarkedLanes::three_sums))]
 fn add_three(a: u8x16, b: u8x16, c: u8x16) -> (u8x16, u8x16)
@@ -24,7 +26,7 @@ fn add_three(a: u8x16, b: u8x16, c: u8x16) -> (u8x16, u8x16)
     (u ^ c, a ^ (u & v))
 }
 
-/// No bit was set.
+/// Returns the count in which no bit was set.
 #[inline(always)]
 #[tactic(auto, using(crate::proofs::MarkedLanes::bits_gone))]
 pub fn no_bits() -> Tally
@@ -44,7 +46,7 @@ pub fn no_bits() -> Tally
     }
 }
 
-/// In how many lanes a bit is set.
+/// Returns the number of lanes in which bit m is set.
 #[inline(always)]
 fn count_bit(lanes: u8x16, m: usize) -> usize
     requires lanes { length lanes ≡ 16 }
@@ -56,7 +58,7 @@ fn count_bit(lanes: u8x16, m: usize) -> usize
     (lanes & bit).simd_eq(bit).to_bitmask().count_ones() as usize
 }
 
-/// Sixteen rows of lanes more.
+/// Adds sixteen rows of lanes to the count.
 #[inline(always)]
 #[tactic(auto, using(crate::proofs::MarkedLanes::bit_count_le))]
 pub fn add_rows(tally: Tally, rows: &[u8x16; 16]) -> Tally
@@ -96,7 +98,7 @@ pub fn add_rows(tally: Tally, rows: &[u8x16; 16]) -> Tally
     Tally { planes, sums }
 }
 
-/// How often each bit was set.
+/// Returns how often each bit was set.
 #[inline(always)]
 pub fn totals(tally: Tally) -> [usize; 8]
     requires room { (m : ℕ) → m < 8 → slice_index tally.sums m ≤ 1000000 }
@@ -112,7 +114,7 @@ pub fn totals(tally: Tally) -> [usize; 8]
     result
 }
 
-/// How many places have a feature, in each candidate.
+/// Returns the number of places with a feature, in each candidate.
 #[inline(always)]
 pub fn count(feature: Feature, width: usize, step: usize, padded: &[u8], edges: &[u8]) -> [usize; 8]
     requires wide { width ≤ 177 }
@@ -134,7 +136,8 @@ pub fn count(feature: Feature, width: usize, step: usize, padded: &[u8], edges: 
     totals(tally)
 }
 
-/// How many places begin five modules of one colour, and how many six, in each candidate.
+/// Returns the number of places at which five modules of one colour begin, and at which six begin,
+/// in each candidate.
 #[inline(always)]
 pub fn count_runs(width: usize, step: usize, edges: &[u8]) -> ([usize; 8], [usize; 8])
     requires wide { width ≤ 177 }

@@ -1,6 +1,9 @@
-//! The lists that the penalties are counted in: the grid between light modules, and the edges of a direction. Row y of
-//! both begins at y times the stride, which is four more than the width, and the grid stands four rows down. Then where
-//! sixteen places of these have what the penalty counts, in eight candidates at once.
+//! The lists in which the penalties are counted, and tests of sixteen neighbouring places in eight
+//! candidates at once.
+//!
+//! The padded list is the grid within light modules, and the edges mark where a module and the next
+//! one in a direction have the same colour. Row y of both lists begins at y times the stride, which
+//! is the width plus four, and the grid begins four rows down in the padded list.
 ghost use Rattle.std.specs.Prelude.{◌≡◌, if◌then◌else◌, ℕ, ◌+◌, ◌*◌, ◌<◌, ◌≤◌, length, slice_index, ◌==◌};
 ghost use Rattle.std.specs.Int.{bit_at};
 ghost use Rattle.qrcode_grid.specs.Scoring.{AreEdges, IsPadded, is_same, list_length, plane, stride, Marks, cell, has};
@@ -8,7 +11,7 @@ ghost use Rattle.qrcode_grid.specs.Scoring.{has_finder, has_five, has_six, has_s
 
 use std::simd::prelude::*;
 
-/// Writes the rows of a grid between light modules.
+/// Copies the rows of a grid into a list of light modules.
 pub fn write_padded(width: usize, grid: &[u8], padded: &mut [u8])
     requires wide { (16 ≤ width) × (width ≤ 177) }
     requires square { length grid.now ≡ width * width }
@@ -23,8 +26,8 @@ pub fn write_padded(width: usize, grid: &[u8], padded: &mut [u8])
     }
 }
 
-/// Writes which of the first columns of the first rows have the colour of the module a step on, sixteen places at a
-/// time, and zeros beside them and behind them.
+/// Writes which modules of the first `columns` columns and `rows` rows have the same colour as the
+/// module one step further, sixteen places at a time, and zeros to the right of them and below.
 #[inline(always)]
 pub fn write_edges(
     width: usize,
@@ -59,8 +62,8 @@ pub fn write_edges(
     }
 }
 
-/// What is looked for besides runs: where a finder-like pattern with light modules on one side begins, or a square of
-/// one colour, and dark modules.
+/// A feature that is counted besides runs: the beginning of a finder-like pattern with four light
+/// modules on one side, the beginning of a square of one colour, or a dark module.
 #[derive(Clone, Copy)]
 pub enum Feature {
     Finder,
@@ -68,7 +71,7 @@ pub enum Feature {
     Dark,
 }
 
-/// The dark modules some steps after sixteen places.
+/// Marks which modules are dark, i steps after sixteen places.
 #[inline(always)]
 #[tactic(auto, using(crate::proofs::MarkedLanes::dark_marks))]
 pub fn dark(list: &[u8], step: usize, at: usize, i: usize) -> u8x16
@@ -80,7 +83,7 @@ pub fn dark(list: &[u8], step: usize, at: usize, i: usize) -> u8x16
     u8x16::from_slice(&list[at + i * step..])
 }
 
-/// The light modules some steps after sixteen places.
+/// Marks which modules are light, i steps after sixteen places.
 #[inline(always)]
 fn light(list: &[u8], step: usize, at: usize, i: usize) -> u8x16
     requires step { step ≤ 181 }
@@ -91,7 +94,8 @@ fn light(list: &[u8], step: usize, at: usize, i: usize) -> u8x16
     !u8x16::from_slice(&list[at + i * step..])
 }
 
-/// Where the module some steps after sixteen places has the colour of the next.
+/// Marks which modules, i steps after sixteen places, have the same colour as the module one
+/// step further.
 #[inline(always)]
 pub fn same(list: &[u8], step: usize, at: usize, i: usize) -> u8x16
     requires step { step ≤ 181 }
@@ -102,7 +106,7 @@ pub fn same(list: &[u8], step: usize, at: usize, i: usize) -> u8x16
     u8x16::from_slice(&list[at + i * step..]) ^ !u8x16::from_slice(&list[at + (i + 1) * step..])
 }
 
-/// Which of sixteen places have a feature, in each candidate.
+/// Marks which of sixteen places have a feature, in each candidate.
 #[inline(always)]
 pub fn places_of(
     feature: Feature,
@@ -122,7 +126,7 @@ pub fn places_of(
 {
     let stride = width + 4;
     match feature {
-        // It begins four steps on.
+        // The pattern begins four steps after the place.
         Feature::Finder => {
             let at = at + 4 * (stride - step);
             let pattern = dark(padded, step, at, 4)
@@ -142,7 +146,7 @@ pub fn places_of(
                 & light(padded, step, at, 14);
             pattern & (before | after)
         }
-        // Edges along the row and along the next, between modules of one colour.
+        // Both rows have an edge here, and the modules one below the other have the same colour.
         Feature::Square => {
             dark(edges, stride, at, 0) & dark(edges, stride, at, 1) & same(padded, stride, at, 4)
         }

@@ -1,4 +1,5 @@
--- More bytes than any version holds are too long, whatever they are; else the first that is no UTF-8 is told.
+-- More bytes than any version holds are too long, whatever they are; else the first byte that is
+-- not UTF-8 is reported.
 use Rattle.std.proofs.{Common.arith, lemmas.Option.slice_get-get_or}
 use Rattle.texts.proofs.Texts.{text_too_long}
 use Rattle.qrlabel.proofs.text.text_symbol.Goals as goal

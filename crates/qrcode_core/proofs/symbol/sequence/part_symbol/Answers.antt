@@ -1,4 +1,4 @@
--- The best encoding of a part behind its header, drawn, is the best symbol of the part.
+-- The symbol of the best encoding of a part after its header is the best symbol of the part.
 use Rattle.qrcode_core.proofs.Prelude.{ap, arith, nat_abs, IfOk-weaker, to_z-of_z}
 use Rattle.qrcode_core.proofs.{Limited.few_versions, Best.best_of_stream, Best.fills_symbol, Best.encoded_short, Best.only_memory}
 use Rattle.qrcode_bits.proofs.Pairs.{bytes_valid}

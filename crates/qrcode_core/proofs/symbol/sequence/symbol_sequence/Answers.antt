@@ -1,4 +1,4 @@
--- The symbols of the sequence, without what they tell.
+-- The modules of the symbols of the sequence.
 use Rattle.qrcode_core.proofs.Prelude.{arith, map, common_steps, to_z-of_z, IfOk-weaker, modules_of, IsPermutation-refl}
 use mir.Syntax.{w16}
 use Rattle.qrcode_core.proofs.symbol.sequence.symbol_sequence.Goals as goal

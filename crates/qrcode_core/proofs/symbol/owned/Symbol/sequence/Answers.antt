@@ -1,4 +1,4 @@
--- Each part's symbol is one more of the answer; a refused part refuses the whole.
+-- Each part's symbol is one more of the result; where a part fails, the whole call fails.
 use Rattle.qrcode_core.proofs.Prelude.{common_steps, refl, ◌+◌, arith, length, [], ◌∷◌, map, nat_abs, to_z-of_z, map-append, TellsReading, modules_of, IsTotal}
 use Rattle.std.proofs.lemmas.List.Elements.{All-push}
 use mir.Syntax.{w16}

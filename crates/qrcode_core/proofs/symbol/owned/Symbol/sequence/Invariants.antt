@@ -1,4 +1,4 @@
--- So many first symbols are there, and each tells its reading.
+-- The symbols of the first parts are made, and each returns its reading.
 use Rattle.qrcode_core.proofs.Prelude.{map, nat_abs, All, TellsReading, modules_of}
 use Rattle.qrcode_core.proofs.Sequences.{AreFirstSymbols}
 use Rattle.qrcode_core.proofs.symbol.owned.Symbol.sequence.Given as goal
