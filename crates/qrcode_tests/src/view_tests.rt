@@ -1,6 +1,6 @@
 //! Tests of views and limits, with types that implement the traits.
-ghost use Rattle.std.specs.Prelude.{◌≡◌, length, Ok, [], ◌∷◌};
-ghost use Rattle.qrcode_core.specs.declared.types.Color.TheVariants.{Dark};
+ghost use Rattle.std.specs.Prelude.{◌≡◌, if◌then◌else◌, length, Ok, [], ◌∷◌};
+ghost use Rattle.qrcode_core.specs.declared.types.Color.TheVariants.{Dark, Light};
 ghost use Rattle.qrcode_core.specs.declared.types.EcLevel.TheVariants.{Q};
 ghost use Rattle.qrcode_core.specs.Grids.{grid_of};
 
@@ -137,26 +137,33 @@ impl ModuleSource for Longer {
     }
 }
 
-/// A grid of three rows without any module.
-struct NoColumns;
+/// A row of one light module, or of none.
+#[derive(Clone, Copy)]
+struct Column {
+    is_there: bool,
+}
 
-impl ModuleSource for NoColumns {
-    ghost grid = { λ _. grid_of [] 0 3 };
+impl ModuleSource for Column {
+    ghost grid = { λ s. if s.is_there then grid_of (Light ∷ []) 1 1 else grid_of [] 0 1 };
 
     fn get(&self, _x: usize, _y: usize) -> Color {
-        Color::Light
+        if self.is_there {
+            Color::Light
+        } else {
+            Color::Dark
+        }
     }
 
     fn width(&self) -> usize {
-        0
+        if self.is_there { 1 } else { 0 }
     }
 
     fn height(&self) -> usize {
-        3
+        1
     }
 
     fn modules(&self) -> &[Color] {
-        &[]
+        if self.is_there { &[Color::Light] } else { &[] }
     }
 }
 
@@ -388,8 +395,11 @@ fn is_spot<S: QrSymbol>(rt: &impl Abort, symbol: &S, zone: u32) {
 
 #[test]
 fn own_sources_without_columns_serve(rt: HostRuntime) {
-    assert!(rt; NoColumns.is_empty() && NoColumns.modules().len() == 0);
-    assert!(rt; NoColumns.height() == 3 && NoColumns.row(2).len() == 0);
+    let none = Column { is_there: false };
+    assert!(rt; none.is_empty() && none.modules().len() == 0);
+    assert!(rt; none.height() == 1 && none.row(0).len() == 0);
+    let one = Column { is_there: true };
+    assert!(rt; !one.is_empty() && one.get(0, 0) == Color::Light);
 }
 
 #[test]
