@@ -106,15 +106,15 @@ pub text_length : (stream : Stream) (number : ℕ) (text : List ℕ) → stream.
     (bits : List Bool) → SaysUtf8 text (normal number) bits → length bits ≡ length stream.bits
 text_length stream number text is said bits same = grind arith
 
-class_small : (n a b c : ℕ) → 1 ≤ n → n ≤ 9 → by_class n a b c ≡ a
+class_small : (n a b c : ℕ) → 1 ≤ n → n ≤ 9 → by_class (pos n) a b c ≡ a
 class_small n a b c first early = grind arith
 
-class_large : (n a b : ℕ) → 9 < n → by_class n a b b ≡ b
+class_large : (n a b : ℕ) → 9 < n → by_class (pos n) a b b ≡ b
 class_large n a b later = grind arith
 
 -- How many bits say a text.
 said_length : (text : List ℕ) (n : ℕ) → All (λ c. c < 256) text →
-    length (eci_spelling 26 ++ spelling (normal n) (piece_of Byte text)) ≡ 16 + by_class n 8 16 16 + 8 * length text
+    length (eci_spelling 26 ++ spelling (normal n) (piece_of Byte text)) ≡ 16 + by_class (pos n) 8 16 16 + 8 * length text
 said_length text n are =
     let sizes = length-append (eci_spelling 26) (spelling (normal n) (piece_of Byte text)) in
     let designator : length (eci_spelling 26) ≡ 12 =
@@ -130,8 +130,8 @@ module _ (text : List ℕ) (level : EcLevel) (most : ℕ) (are : (i : ℕ) → g
       let held = capacity-held level n limit limit_is in
       let grows = capacity-grows level n 40 limit (8 * most + 32) (omega (arith, below)) limit_is full in
       elim (cases_lt 9 n) [
-        | inl later ↦ (let wide : by_class n 8 16 16 ≡ 16 = class_large n 8 16 later in omega (arith, many, size, wide, grows))
-        | inr early ↦ (let small : by_class n 1856 10960 23648 ≡ 1856 = class_small n 1856 10960 23648 first early in
+        | inl later ↦ (let wide : by_class (pos n) 8 16 16 ≡ 16 = class_large n 8 16 later in omega (arith, many, size, wide, grows))
+        | inr early ↦ (let small : by_class (pos n) 1856 10960 23648 ≡ 1856 = class_small n 1856 10960 23648 first early in
             omega (arith, many, size, held.1, small, least))
       ]
 
