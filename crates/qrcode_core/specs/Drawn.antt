@@ -3,13 +3,13 @@ use Rattle.std.specs.Prelude.{◌≡◌, List, ℕ, ◌<◌, ◌≤◌, Bool, �
 use Rattle.qrcode_base.specs.declared.types.Color.{Color}
 use Rattle.qrcode_base.specs.declared.types.EcLevel.{EcLevel}
 use Rattle.qrcode_base.specs.declared.types.Version.{Version}
-use Rattle.qrcode_base.specs.Symbols.{width_of, capacity, block_sizes}
+use Rattle.qrcode_base.specs.Symbols.{width_of, capacity}
 use Rattle.qrcode_grid.specs.declared.canvas.MaskPattern.{MaskPattern}
-use Rattle.qrcode_grid.specs.Blocks.{AreBlocksApart}
 use Rattle.qrcode_core.specs.Grids.{Grid, grid_of}
-use Rattle.qrcode_core.specs.Headline.{Reading, Reads, Carries}
+use Rattle.qrcode_core.specs.Headline.{Reading, Reads, Carries, HasBlocksApart}
 use Rattle.qrcode_base.specs.declared.types.errors.QrError.{QrError}
-use Rattle.qrcode_base.specs.declared.types.errors.QrError.TheVariants.{DataTooLong, InvalidVersion, OutOfMemory}
+use Rattle.qrcode_base.specs.declared.types.errors.QrError.TheVariants.{DataTooLong, InvalidVersion}
+use Rattle.qrcode_base.specs.declared.types.errors.QrError.TheVariants.{OutOfMemory}
 use Rattle.qrcode_bits.specs.Frame.{tail}
 use Rattle.qrcode_bits.specs.Stream.{Stream}
 use Rattle.qrcode_grid.specs.Penalty.{IsFirstLeastMask}
@@ -41,7 +41,8 @@ drawn_level symbol = symbol.level
 abbrev pub TellsReading : DrawnSymbol → Type 0
 TellsReading symbol =
     (reading : Reading) → Reads symbol.modules reading →
-    (symbol.version ≡ reading.version) × (symbol.level ≡ reading.level) × (symbol.mask ≡ reading.mask)
+    (symbol.version ≡ reading.version) × (symbol.level ≡ reading.level)
+    × (symbol.mask ≡ reading.mask)
 
 -- ---- The symbol of bits that a caller pushed.
 
@@ -54,11 +55,11 @@ pub record IsSymbolOfBits (bits : List Bool) (version : Version) (level : EcLeve
   pub version_is : symbol.version ≡ version
   pub level_is : symbol.level ≡ level
   pub carries : Carries symbol.modules version level symbol.mask bits
-  pub only : (v : Version) (l : EcLevel) (m : MaskPattern) (other : List Bool) → Carries symbol.modules v l m other →
+  pub only : (v : Version) (l : EcLevel) (m : MaskPattern) (other : List Bool) →
+      Carries symbol.modules v l m other →
       (v ≡ version) × (l ≡ level) × (m ≡ symbol.mask) × (other ≡ bits)
   pub best_mask : IsFirstLeastMask version level symbol.mask symbol.modules
-  pub apart : AreBlocksApart carries.blocks.correction (block_sizes carries.blocks) carries.interleaved
-      carries.correction
+  pub apart : HasBlocksApart carries
 
 -- The symbol of the bits of a stream, in the version of the stream: the bits fit the capacity of
 -- the level, and terminator and padding follow them.
@@ -66,7 +67,8 @@ pub record HoldsStream (stream : Stream) (level : EcLevel) (symbol : DrawnSymbol
   pub limit : ℕ
   pub limit_is : capacity stream.version level ≡ Some limit
   pub fits : length stream.bits ≤ limit
-  pub holds : IsSymbolOfBits (stream.bits ++ tail stream.version limit (length stream.bits)) stream.version level symbol
+  pub holds : IsSymbolOfBits (stream.bits ++ tail stream.version limit (length stream.bits))
+      stream.version level symbol
 
 -- The errors of `Symbol::with_bits`, and when each is returned. `OutOfMemory` says only that no
 -- other error was due.

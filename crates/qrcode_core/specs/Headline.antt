@@ -2,9 +2,11 @@
 -- way (ISO/IEC 18004:2006, encode procedure). The promise is `IsBest`, near the end of the file,
 -- since each definition comes after those that it uses: first what a reader finds in a grid, then
 -- distance, then better symbols.
-use Rattle.std.specs.Prelude.{◌≡◌, ℕ, ◌+◌, ◌*◌, Bool, List, ◌++◌, length, map, Option, Some, ◌≢◌, pos, ◌<◌, ◌≤◌, None, ◌==◌}
+use Rattle.std.specs.Prelude.{◌≡◌, ℕ, ◌+◌, ◌*◌, Bool, List, ◌++◌, length, map, Option, Some, ◌≢◌}
+use Rattle.std.specs.Prelude.{pos, ◌<◌, ◌≤◌, None, ◌==◌}
 use Rattle.std.specs.Prelude.{if◌then◌else◌, codes}
 use Rattle.qrcode_base.specs.declared.symbols.BlockLayout.{BlockLayout}
+use Rattle.qrcode_base.specs.declared.symbols.TheConstants.{LONGEST_DATA}
 use Rattle.qrcode_base.specs.declared.types.Color.{Color}
 use Rattle.qrcode_base.specs.declared.types.EcLevel.{EcLevel}
 use Rattle.qrcode_base.specs.declared.types.Version.{Version}
@@ -75,11 +77,14 @@ pub record Carries (grid : List Color) (version : Version) (level : EcLevel) (ma
 pub record Reads (grid : List Color) (reading : Reading) : Type 0 where
   pub frame : List Bool
   pub carries : Carries grid reading.version reading.level reading.mask frame
-  pub framed : IsFrame reading.version reading.level reading.header reading.bytes reading.payload frame
+  pub framed : IsFrame reading.version reading.level reading.header reading.bytes reading.payload
+      frame
 
 -- No grid can be read in two ways.
 abbrev pub HaveOneReading : Type 0
-HaveOneReading = (grid : List Color) (first second : Reading) → Reads grid first → Reads grid second → first ≡ second
+HaveOneReading =
+    (grid : List Color) (first second : Reading) →
+    Reads grid first → Reads grid second → first ≡ second
 
 -- No grid carries two lists of bits, or bits in two versions, at two levels or under two masks.
 abbrev pub HaveOneContent : Type 0
@@ -89,12 +94,20 @@ HaveOneContent =
 
 -- ---- Distance
 
+-- Each block of codewords that a grid carries differs from every other sound block of its length
+-- in more codewords than it has correction codewords.
+abbrev pub HasBlocksApart : {grid : List Color} {version : Version} {level : EcLevel}
+    {mask : MaskPattern} {bits : List Bool} → Carries grid version level mask bits → Type 0
+HasBlocksApart carried =
+    AreBlocksApart carried.blocks.correction (block_sizes carried.blocks) carried.interleaved
+    carried.correction
+
 -- Every other grid that is read as other bytes, at the same version and level, differs from this
 -- grid: in some block they differ in more codewords than the block has correction codewords.
 abbrev pub IsFarFromOthers : (grid : List Color) (reading : Reading) → Reads grid reading → Type 0
 IsFarFromOthers grid r f =
-    (other : List Color) (s : Reading) (g : Reads other s) → s.version ≡ r.version → s.level ≡ r.level →
-    s.bytes ≢ r.bytes →
+    (other : List Color) (s : Reading) (g : Reads other s) →
+    s.version ≡ r.version → s.level ≡ r.level → s.bytes ≢ r.bytes →
     let n = f.carries.blocks.correction in
     let sizes = block_sizes f.carries.blocks in
     (block : ℕ) × (block < length sizes) ×
@@ -108,7 +121,8 @@ HaveDistance = (grid : List Color) (r : Reading) (f : Reads grid r) → IsFarFro
 -- ---- No better symbol
 
 -- The reading with these parts.
-abbrev pub reading_of : Version → EcLevel → MaskPattern → Option Header → List ℕ → ℕ → Reading
+abbrev pub reading_of :
+    Version → EcLevel → MaskPattern → Option Header → List ℕ → ℕ → Reading
 reading_of version level mask header bytes payload = record {
   bytes = bytes;
   version = version;
@@ -123,7 +137,8 @@ reading_of version level mask header bytes payload = record {
 -- the level, after the same header, has the same or a greater version number of this kind, and
 -- in the same version at least as many payload bits. The bytes of that grid may be cut into
 -- segments anywhere.
-abbrev pub NoneIsBetter : (ℕ → Version) → Option Header → List ℕ → EcLevel → ℕ → ℕ → Type 0
+abbrev pub NoneIsBetter :
+    (ℕ → Version) → Option Header → List ℕ → EcLevel → ℕ → ℕ → Type 0
 NoneIsBetter kind header bytes level number payload =
     HasNoPair bytes → (grid : List Color) (other bits : ℕ) (mask : MaskPattern) →
     Reads grid (reading_of (kind other) level mask header bytes bits) →
@@ -170,12 +185,12 @@ pub record IsBest (kind : ℕ → Version) (header : Option Header) (bytes : Lis
   pub only : (other : Reading) → Reads grid other → other ≡ reading
   pub functional : HasFunctionalColors (kind number) level mask grid
   pub fits : Fits (length (header_bits header)) bytes (kind number) level plan
-  pub smallest : (smaller : ℕ) → smaller < number → FitsNot (length (header_bits header)) bytes (kind smaller) level
+  pub smallest : (smaller : ℕ) → smaller < number →
+      FitsNot (length (header_bits header)) bytes (kind smaller) level
   pub fewest : IsLeastBits (length (header_bits header)) bytes (kind number) payload
   pub none_better : NoneIsBetter kind header bytes level number payload
   pub best_mask : IsFirstLeastMask (kind number) level mask grid
-  pub apart : let found = reads.carries in
-      AreBlocksApart found.blocks.correction (block_sizes found.blocks) found.interleaved found.correction
+  pub apart : HasBlocksApart reads.carries
   pub far : IsFarFromOthers grid reading reads
 
 -- The best Normal symbol, without a header.
@@ -199,7 +214,7 @@ IsTooLongForMicro bytes level = FitsNone micro 0 bytes level 4
 -- The errors of `symbol`, and when each is returned. For more than 7089 bytes it needs no memory.
 abbrev pub IsRefusal : List ℕ → EcLevel → QrError → Type 0
 IsRefusal bytes level DataTooLong = IsTooLong bytes level
-IsRefusal bytes level OutOfMemory = length bytes ≤ 7089
+IsRefusal bytes level OutOfMemory = length bytes ≤ LONGEST_DATA
 IsRefusal bytes level other = ⊥
 
 -- ---- A printed symbol: the digits 12345 in M1 at level L, under the mask Diamonds

@@ -15,14 +15,15 @@ use Rattle.qrcode_core.specs.Drawn.{DrawnSymbol}
 
 -- The data codewords hold a frame of the bytes; zeros follow it where the last codeword has only
 -- four bits.
-pub record IsEncoded (version : Version) (level : EcLevel) (header : Option Header) (bytes : List ℕ) (payload : ℕ)
-    (codewords : List ℕ) : Type 0 where
+pub record IsEncoded (version : Version) (level : EcLevel) (header : Option Header)
+    (bytes : List ℕ) (payload : ℕ) (codewords : List ℕ) : Type 0 where
   pub frame : List Bool
   pub framed : IsFrame version level header bytes payload frame
   pub frame_is : byte_bits codewords ≡ frame ++ zero_bits (missing_bits version)
 
 -- The interleaved data and correction codewords are those of the data codewords, in sound blocks.
-pub record AreStreams (version : Version) (level : EcLevel) (codewords interleaved correction : List ℕ) : Type 0 where
+pub record AreStreams (version : Version) (level : EcLevel)
+    (codewords interleaved correction : List ℕ) : Type 0 where
   pub blocks : BlockLayout
   pub has_level : blocks_of version level ≡ Some blocks
   pub bytes_interleaved : AreBytes interleaved
@@ -31,10 +32,12 @@ pub record AreStreams (version : Version) (level : EcLevel) (codewords interleav
 
 -- A symbol of the version and level has this number of data codewords.
 abbrev pub AreAllCodewords : Version → EcLevel → ℕ → Type 0
-AreAllCodewords version level count = IsSomeAnd (blocks_of version level) (λ b. count ≡ data_bytes b)
+AreAllCodewords version level count =
+    IsSomeAnd (blocks_of version level) (λ b. count ≡ data_bytes b)
 
 -- The symbol carries the interleaved codewords, under the first mask of least penalty.
-pub record IsDrawn (version : Version) (level : EcLevel) (codewords : List ℕ) (symbol : DrawnSymbol) : Type 0 where
+pub record IsDrawn (version : Version) (level : EcLevel) (codewords : List ℕ)
+    (symbol : DrawnSymbol) : Type 0 where
   pub version_is : symbol.version ≡ version
   pub level_is : symbol.level ≡ level
   pub interleaved : List ℕ
@@ -50,7 +53,8 @@ AreBytesOf codewords bits = byte_bits codewords ≡ bits ++ zero_bits ((8 - leng
 -- The stream has as many bytes as the symbol of its version has data codewords at the level.
 abbrev pub FillsSymbol : Stream → EcLevel → Type 0
 FillsSymbol stream level =
-    (codewords : List ℕ) → AreBytesOf codewords stream.bits → AreAllCodewords stream.version level (length codewords)
+    (codewords : List ℕ) → AreBytesOf codewords stream.bits →
+    AreAllCodewords stream.version level (length codewords)
 
 -- The symbol is the one of the stream's bytes, in the stream's version and at the level.
 pub record IsDrawnStream (stream : Stream) (level : EcLevel) (symbol : DrawnSymbol) : Type 0 where

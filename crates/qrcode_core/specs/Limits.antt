@@ -1,5 +1,6 @@
 -- The limits that an encoding can keep to, the default limits, and the best symbol within limits.
 use Rattle.std.specs.Prelude.{◌≢◌, Some, None, pos, ℕ, nat_abs, ◌<◌, ◌≤◌, ◌⊎◌, List, length}
+use Rattle.qrcode_base.specs.declared.symbols.TheConstants.{LONGEST_DATA}
 use Rattle.qrcode_base.specs.Symbols.{IsNormalNumber}
 use Rattle.qrcode_base.specs.declared.types.Version.{Version}
 use Rattle.qrcode_base.specs.declared.types.Version.TheVariants.{Normal, Micro}
@@ -7,7 +8,9 @@ use Rattle.qrcode_core.specs.declared.limits.ResourceLimits.{ResourceLimits}
 use Rattle.qrcode_base.specs.declared.types.Color.{Color}
 use Rattle.qrcode_base.specs.declared.types.EcLevel.{EcLevel}
 use Rattle.qrcode_base.specs.declared.types.errors.QrError.{QrError}
-use Rattle.qrcode_base.specs.declared.types.errors.QrError.TheVariants.{DataTooLong, InvalidResourceLimits, OutOfMemory}
+use Rattle.qrcode_base.specs.declared.types.errors.QrError.TheVariants.{DataTooLong}
+use Rattle.qrcode_base.specs.declared.types.errors.QrError.TheVariants.{InvalidResourceLimits}
+use Rattle.qrcode_base.specs.declared.types.errors.QrError.TheVariants.{OutOfMemory}
 use Rattle.qrcode_bits.specs.Plans.{normal, FitsNone}
 use Rattle.qrcode_core.specs.Headline.{IsBestSymbol}
 
@@ -29,7 +32,7 @@ IsBudget l =
 -- every Normal version, a size of 4096 by 4096, and any time.
 abbrev pub default_budget : ResourceLimits
 default_budget = record {
-  max_data_length = 7089;
+  max_data_length = LONGEST_DATA;
   max_version = Normal (pos 40);
   max_render_size = (4096, 4096);
   encoding_timeout = None;
@@ -58,7 +61,8 @@ IsTooLongWithin limits bytes level =
 -- first. `OutOfMemory` comes only where the number of bytes is within the limit.
 abbrev pub IsLimitedRefusal : ResourceLimits → List ℕ → EcLevel → QrError → Type 0
 IsLimitedRefusal limits bytes level InvalidResourceLimits = IsBudget limits → ⊥
-IsLimitedRefusal limits bytes level DataTooLong = IsBudget limits × IsTooLongWithin limits bytes level
+IsLimitedRefusal limits bytes level DataTooLong =
+    IsBudget limits × IsTooLongWithin limits bytes level
 IsLimitedRefusal limits bytes level OutOfMemory =
-    IsBudget limits × (length bytes ≤ limits.max_data_length) × (length bytes ≤ 7089)
+    IsBudget limits × (length bytes ≤ limits.max_data_length) × (length bytes ≤ LONGEST_DATA)
 IsLimitedRefusal limits bytes level other = ⊥

@@ -10,10 +10,14 @@ use Rattle.std.specs.String.{string_bytes}
 use Rattle.std.specs.declared.alloc.Global.{Global}
 use Rattle.qrcode_core.specs.declared.plugin.names.Names.{Names}
 use Rattle.qrcode_core.specs.declared.plugin.error.PluginError.{PluginError}
-use Rattle.qrcode_core.specs.declared.plugin.error.PluginError.TheVariants.{RendererNotFound, EncoderNotFound}
-use Rattle.qrcode_core.specs.declared.plugin.error.PluginError.TheVariants.{InvalidConfig, InvalidModuleGrid}
-use Rattle.qrcode_core.specs.declared.plugin.error.PluginError.TheVariants.{RenderFailed, EncodeFailed}
-use Rattle.qrcode_core.specs.declared.plugin.error.PluginError.TheVariants.{PostProcessFailed, OutOfMemory}
+use Rattle.qrcode_core.specs.declared.plugin.error.PluginError.TheVariants.{RendererNotFound}
+use Rattle.qrcode_core.specs.declared.plugin.error.PluginError.TheVariants.{EncoderNotFound}
+use Rattle.qrcode_core.specs.declared.plugin.error.PluginError.TheVariants.{InvalidConfig}
+use Rattle.qrcode_core.specs.declared.plugin.error.PluginError.TheVariants.{InvalidModuleGrid}
+use Rattle.qrcode_core.specs.declared.plugin.error.PluginError.TheVariants.{RenderFailed}
+use Rattle.qrcode_core.specs.declared.plugin.error.PluginError.TheVariants.{EncodeFailed}
+use Rattle.qrcode_core.specs.declared.plugin.error.PluginError.TheVariants.{PostProcessFailed}
+use Rattle.qrcode_core.specs.declared.plugin.error.PluginError.TheVariants.{OutOfMemory}
 use Rattle.qrcode_core.specs.declared.plugin.config.EncodeConfig.{EncodeConfig}
 use Rattle.qrcode_core.specs.declared.plugin.config.RenderConfig.{RenderConfig}
 use Rattle.qrcode_core.specs.declared.plugin.grid.ModuleGrid.{ModuleGrid}

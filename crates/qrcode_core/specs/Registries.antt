@@ -1,5 +1,6 @@
 -- The contents of a registry, registrations, runs of postprocessors, and the objects in boxes.
-use Rattle.std.specs.Prelude.{◌≡◌, ℕ, ◌<◌, List, [], ◌∷◌, ◌++◌, Result, take, length, MatchResult, ◌⊎◌, Ok, Err, map}
+use Rattle.std.specs.Prelude.{◌≡◌, ℕ, ◌<◌, List, [], ◌∷◌, ◌++◌, Result, take, length, MatchResult}
+use Rattle.std.specs.Prelude.{◌⊎◌, Ok, Err, map}
 use Rattle.std.specs.Prelude.{String, Option, option_map}
 use Rattle.qrcode_core.specs.Plugins.{TextMap, with_entry, at_key, text_map, text_values}
 use Rattle.qrcode_core.specs.declared.plugin.error.PluginError.{PluginError}
@@ -34,11 +35,16 @@ pub data Registration (R E P : Type 0) : Type 0 where
 
 -- The contents after a registration: the new object replaces one of the same name, and a
 -- postprocessor comes last.
-abbrev pub with_registration : {R E P : Type 0} → Registered R E P → Registration R E P → Registered R E P
-with_registration s (version_of name version) = record s { plugins = with_entry s.plugins name version }
-with_registration s (renderer_of name object) = record s { renderers = with_entry s.renderers name object }
-with_registration s (encoder_of name object) = record s { encoders = with_entry s.encoders name object }
-with_registration s (postprocessor_of object) = record s { postprocessors = s.postprocessors ++ object ∷ [] }
+abbrev pub with_registration : {R E P : Type 0}
+    → Registered R E P → Registration R E P → Registered R E P
+with_registration s (version_of name version) =
+    record s { plugins = with_entry s.plugins name version }
+with_registration s (renderer_of name object) =
+    record s { renderers = with_entry s.renderers name object }
+with_registration s (encoder_of name object) =
+    record s { encoders = with_entry s.encoders name object }
+with_registration s (postprocessor_of object) =
+    record s { postprocessors = s.postprocessors ++ object ∷ [] }
 
 -- The contents after all these registrations, in order.
 abbrev pub with_registrations : {R E P : Type 0}
@@ -49,13 +55,16 @@ with_registrations s (x ∷ xs) = with_registrations (with_registration s x) xs
 -- The contents are those after the first k of these registrations, for some k below their number.
 abbrev pub RegistersBeginning : {R E P : Type 0}
     → Registered R E P → List (Registration R E P) → Registered R E P → Type 0
-RegistersBeginning s all t = (k : ℕ) × (k < length all) × (t ≡ with_registrations s (take k all))
+RegistersBeginning s all t =
+    (k : ℕ) × (k < length all) × (t ≡ with_registrations s (take k all))
 
 -- Everything is registered; or memory ran out after the first k registrations, which stay.
 abbrev pub Registers : {R E P : Type 0}
-    → Registered R E P → List (Registration R E P) → Result Unit PluginError → Registered R E P → Type 0
+    → Registered R E P → List (Registration R E P) → Result Unit PluginError → Registered R E P
+    → Type 0
 Registers s all r t =
-    MatchResult r (λ _. t ≡ with_registrations s all) (λ e. (e ≡ OutOfMemory) × RegistersBeginning s all t)
+    MatchResult r (λ _. t ≡ with_registrations s all)
+    (λ e. (e ≡ OutOfMemory) × RegistersBeginning s all t)
 
 -- ---- Postprocessing
 
@@ -80,7 +89,8 @@ object_at m key = option_map object_in (at_key m key)
 
 -- The contents of a `PluginRegistry`.
 abbrev pub registered : {A B C : Type 0} {F : A → Type 0} {G : B → Type 0} {H : C → Type 0}
-    → PluginRegistry A B C F G H → Registered (DynBox A Global F) (DynBox B Global G) (DynBox C Global H)
+    → PluginRegistry A B C F G H
+    → Registered (DynBox A Global F) (DynBox B Global G) (DynBox C Global H)
 registered r = record {
   plugins = text_values (text_map r.plugins);
   renderers = text_map r.renderers;

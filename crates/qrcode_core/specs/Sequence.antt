@@ -1,12 +1,15 @@
 -- A message that is spread over several symbols (ISO/IEC 18004:2006, "Structured Append").
-use Rattle.std.specs.Prelude.{◌≡◌, ℕ, ℤ, nat_abs, ◌+◌, ◌<◌, ◌≤◌, min, List, [], ◌∷◌, length, drop, slice_index_or}
+use Rattle.std.specs.Prelude.{◌≡◌, ℕ, ℤ, nat_abs, ◌+◌, ◌<◌, ◌≤◌, min, List, [], ◌∷◌, length, drop}
+use Rattle.std.specs.Prelude.{slice_index_or}
 use Rattle.std.specs.Prelude.{slice_range, fold, bit_xor, Some, IsPermutation}
 use Rattle.std.specs.List.{concat}
 use Rattle.qrcode_base.specs.declared.types.Color.{Color}
 use Rattle.qrcode_base.specs.declared.types.EcLevel.{EcLevel}
 use Rattle.qrcode_base.specs.declared.types.errors.QrError.{QrError}
-use Rattle.qrcode_base.specs.declared.types.errors.QrError.TheVariants.{DataTooLong, InvalidResourceLimits}
-use Rattle.qrcode_base.specs.declared.types.errors.QrError.TheVariants.{InvalidStructuredAppend, OutOfMemory}
+use Rattle.qrcode_base.specs.declared.types.errors.QrError.TheVariants.{DataTooLong}
+use Rattle.qrcode_base.specs.declared.types.errors.QrError.TheVariants.{InvalidResourceLimits}
+use Rattle.qrcode_base.specs.declared.types.errors.QrError.TheVariants.{InvalidStructuredAppend}
+use Rattle.qrcode_base.specs.declared.types.errors.QrError.TheVariants.{OutOfMemory}
 use Rattle.qrcode_bits.specs.Plans.{normal, FitsNone}
 use Rattle.qrcode_base.specs.Symbols.{IsNormalNumber}
 use Rattle.qrcode_bits.specs.Frame.{Header, header_of, IsTotal}
@@ -46,7 +49,8 @@ pub record ReadsMessage (grids : List (List Color)) (message : List ℕ) : Type 
 -- No grids can be read as two messages, in whatever order they are given.
 abbrev pub HaveOneMessage : Type 0
 HaveOneMessage =
-    (grids shuffled : List (List Color)) (first second : List ℕ) → IsPermutation grids shuffled →
+    (grids shuffled : List (List Color)) (first second : List ℕ) →
+    IsPermutation grids shuffled →
     ReadsMessage grids first → ReadsMessage shuffled second → first ≡ second
 
 -- ---- What `symbol_sequence` returns
@@ -55,7 +59,8 @@ HaveOneMessage =
 -- last cut to the end.
 abbrev pub parts_from : ℕ → List ℕ → List ℕ → List (List ℕ)
 parts_from start [] message = drop start message ∷ []
-parts_from start (cut ∷ cuts) message = slice_range message start cut ∷ parts_from cut cuts message
+parts_from start (cut ∷ cuts) message =
+    slice_range message start cut ∷ parts_from cut cuts message
 
 -- The parts of a whole message.
 abbrev pub parts_at : List ℕ → List ℕ → List (List ℕ)
@@ -73,9 +78,10 @@ pub record AreBestSymbols (message cuts : List ℕ) (level : EcLevel) (limit : �
     (grids : List (List Color)) : Type 0 where
   pub a_grid_each : length grids ≡ length cuts + 1
   pub each_best : (i : ℕ) → i < length grids →
-      IsPartSymbol (header_at (i + 1) (length grids) message) (slice_index_or (parts_at cuts message) i [])
-      level limit (slice_index_or grids i [])
-  pub reads : (shuffled : List (List Color)) → IsPermutation grids shuffled → ReadsMessage shuffled message
+      IsPartSymbol (header_at (i + 1) (length grids) message)
+      (slice_index_or (parts_at cuts message) i []) level limit (slice_index_or grids i [])
+  pub reads : (shuffled : List (List Color)) → IsPermutation grids shuffled →
+      ReadsMessage shuffled message
   pub only : (shuffled : List (List Color)) (other : List ℕ) → IsPermutation grids shuffled →
       ReadsMessage shuffled other → other ≡ message
 
@@ -84,7 +90,8 @@ pub record AreBestSymbols (message cuts : List ℕ) (level : EcLevel) (limit : �
 -- No plan of some part fits any version up to a limit, after the 20 bits of the header.
 abbrev pub IsSomePartTooLong : List ℕ → List ℕ → EcLevel → ℕ → Type 0
 IsSomePartTooLong message cuts level limit =
-    (i : ℕ) × (i < length cuts + 1) × FitsNone normal 20 (slice_index_or (parts_at cuts message) i []) level limit
+    (i : ℕ) × (i < length cuts + 1)
+    × FitsNone normal 20 (slice_index_or (parts_at cuts message) i []) level limit
 
 -- The errors of `symbol_sequence`, and when each is returned. The greatest version is checked
 -- first, then the number of symbols. `OutOfMemory` says only that both were valid.
@@ -93,6 +100,8 @@ IsSequenceRefusal message cuts level limit InvalidResourceLimits = IsNormalNumbe
 IsSequenceRefusal message cuts level limit (InvalidStructuredAppend value) =
     IsNormalNumber limit × (IsTotal (length cuts + 1) → ⊥) × (value ≡ min (length cuts + 1) 255)
 IsSequenceRefusal message cuts level limit DataTooLong =
-    IsNormalNumber limit × IsTotal (length cuts + 1) × IsSomePartTooLong message cuts level (nat_abs limit)
-IsSequenceRefusal message cuts level limit OutOfMemory = IsNormalNumber limit × IsTotal (length cuts + 1)
+    IsNormalNumber limit × IsTotal (length cuts + 1)
+    × IsSomePartTooLong message cuts level (nat_abs limit)
+IsSequenceRefusal message cuts level limit OutOfMemory =
+    IsNormalNumber limit × IsTotal (length cuts + 1)
 IsSequenceRefusal message cuts level limit other = ⊥

@@ -7,7 +7,8 @@ ghost use Rattle.qrcode_base.specs.declared.types.EcLevel.{EcLevel};
 ghost use Rattle.qrcode_base.specs.declared.types.Version.{Version};
 ghost use Rattle.qrcode_bits.specs.Frame.{Header, HasNoPair};
 ghost use Rattle.qrcode_bits.specs.Plans.{normal, micro};
-ghost use Rattle.qrcode_core.specs.Headline.{printed, printed_reading, HaveDistance, HaveOneContent, HaveOneReading};
+ghost use Rattle.qrcode_core.specs.Headline.{printed, printed_reading, HaveDistance};
+ghost use Rattle.qrcode_core.specs.Headline.{HaveOneContent, HaveOneReading};
 ghost use Rattle.qrcode_core.specs.Headline.{Reads, IsBest, IsTooLong, IsTooLongForMicro};
 ghost use Rattle.qrcode_core.specs.Headline.{NoneIsBetter, NoneIsBetterWithHeader, NoneIsRead};
 ghost use Rattle.qrcode_core.specs.Sequence.{HaveOneMessage};
@@ -49,8 +50,8 @@ pub fn have_one_message()
 /// a sequence before the bytes takes at least 20 bits more. Where the bytes are too long, no symbol
 /// holds them.
 pub fn none_is_better()
-    ensures better { (kind : ℕ → Version) (header : Option Header) (bytes : List ℕ) (level : EcLevel)
-        (grid : List Color) (best : IsBest kind header bytes level grid) →
+    ensures better { (kind : ℕ → Version) (header : Option Header) (bytes : List ℕ)
+        (level : EcLevel) (grid : List Color) (best : IsBest kind header bytes level grid) →
         NoneIsBetter kind header bytes level best.number best.payload }
     ensures better_with_header { (kind : ℕ → Version) (bytes : List ℕ) (level : EcLevel)
         (grid : List Color) (best : IsBest kind None bytes level grid) →

@@ -6,13 +6,15 @@
 //! ```
 ghost use Rattle.std.specs.Prelude.{◌≡◌, Some, None, pos, IsOk, ◌↔◌, IsOkUnless};
 ghost use Rattle.qrcode_base.specs.declared.types.Version.TheVariants.{Normal};
+ghost use Rattle.qrcode_base.specs.declared.types.errors.QrError.TheVariants.{};
 ghost use Rattle.qrcode_base.specs.declared.types.errors.QrError.TheVariants.{InvalidResourceLimits};
 ghost use Rattle.qrcode_core.specs.Limits.{IsBudget};
 
+use qrcode_base::symbols::LONGEST_DATA;
 use qrcode_base::types::{QrError, QrResult, Version};
 
 /// The default limit of the input, in bytes: version 40 holds this many digits at level L.
-pub const DEFAULT_MAX_DATA_LENGTH: usize = 7089;
+pub const DEFAULT_MAX_DATA_LENGTH: usize = LONGEST_DATA;
 
 /// The default limit of the width and the height of a drawn symbol.
 pub const DEFAULT_MAX_RENDER_SIZE: (u32, u32) = (4096, 4096);

@@ -11,6 +11,7 @@
 //! and `Symbol::with_bits` draws bits of the caller's own. `symbol`, `symbol_micro` and
 //! `symbol_sequence` return the modules alone.
 ghost use Rattle.std.specs.Prelude.{◌≡◌, ℕ, ◌*◌, ◌≤◌, length, OnOk, IfOk, IfErr};
+ghost use Rattle.qrcode_base.specs.declared.symbols.TheConstants.{LONGEST_DATA};
 ghost use Rattle.qrcode_core.specs.Headline.{IsBestSymbol, IsBestMicroSymbol, IsTooLong};
 ghost use Rattle.qrcode_core.specs.Headline.{IsTooLongForMicro, IsRefusal};
 ghost use Rattle.qrcode_bits.specs.Push.{IsMicroRefused};
@@ -41,7 +42,7 @@ pub fn symbol(alloc: Global, bytes: &[u8], level: EcLevel) -> QrResult<Vec<Color
     ensures best { IfOk result (λ grid. IsBestSymbol bytes.now level grid.items) }
     ensures square { IfOk result (λ grid. (width : ℕ) × (length grid.items ≡ width * width)) }
     ensures fitting { OnOk result (IsTooLong bytes.now level → ⊥) }
-    ensures limit { OnOk result (length bytes.now ≤ 7089) }
+    ensures limit { OnOk result (length bytes.now ≤ LONGEST_DATA) }
     ensures refused { IfErr result (IsRefusal bytes.now level) }
 {
     Ok(Symbol::new(alloc, bytes, level)?.into_colors())
@@ -60,7 +61,7 @@ pub fn symbol_micro(alloc: Global, bytes: &[u8], level: EcLevel) -> QrResult<Vec
     ensures best { IfOk result (λ grid. IsBestMicroSymbol bytes.now level grid.items) }
     ensures square { IfOk result (λ grid. (width : ℕ) × (length grid.items ≡ width * width)) }
     ensures fitting { OnOk result (IsTooLongForMicro bytes.now level → ⊥) }
-    ensures limit { OnOk result (length bytes.now ≤ 7089) }
+    ensures limit { OnOk result (length bytes.now ≤ LONGEST_DATA) }
     ensures refused { IfErr result (IsMicroRefused bytes.now level) }
 {
     Ok(Symbol::micro(alloc, bytes, level)?.into_colors())

@@ -11,11 +11,13 @@
 //!     }
 //! }
 //! ```
-ghost use Rattle.std.specs.Prelude.{◌≡◌, ℕ, ◌*◌, ◌<◌, ◌≤◌, ◌↔◌, ◌⊎◌, IsTrue, Some, length, List, Result};
+ghost use Rattle.std.specs.Prelude.{◌≡◌, ℕ, ◌*◌, ◌<◌, ◌≤◌, ◌↔◌, ◌⊎◌, IsTrue, Some, length, List};
+ghost use Rattle.std.specs.Prelude.{Result};
 ghost use Rattle.std.specs.Prelude.{IfSome, IsSome};
 ghost use Rattle.qrcode_base.specs.declared.types.EcLevel.{EcLevel};
 ghost use Rattle.qrcode_base.specs.declared.types.Version.{Version};
-ghost use Rattle.qrcode_core.specs.Grids.{Grid, IsFull, HasAllRows, color_at, row_of, with_color, grid_of};
+ghost use Rattle.qrcode_core.specs.Grids.{Grid, IsFull, HasAllRows, color_at, row_of, with_color};
+ghost use Rattle.qrcode_core.specs.Grids.{grid_of};
 ghost use Rattle.qrcode_core.specs.Grids.{quiet_zone_of, rows_between};
 
 use qrcode_base::types::{Color, EcLevel, Version};
@@ -47,7 +49,8 @@ impl<'a> ModuleView<'a> {
     /// Returns the view with these sides, or `None` if one is 0 or their product is not the length
     /// of the list.
     pub fn new_rect(modules: &'a [Color], width: usize, height: usize) -> Option<Self>
-        ensures exact { IsSome result ↔ (0 < width × 0 < height × length modules.now ≡ height * width) }
+        ensures exact { IsSome result ↔
+            (0 < width × 0 < height × length modules.now ≡ height * width) }
         ensures made { IfSome result (λ v. view_grid v ≡ grid_of modules.now width height) }
     {
         if width == 0 || height == 0 {
@@ -68,7 +71,8 @@ impl<'a> ModuleView<'a> {
     #[tactic(auto, using(crate::proofs::RowCounts::rows_length))]
     pub fn row_range(&self, start: usize, end: usize) -> Option<Self>
         ensures exact { IsSome result ↔ (start < end × end ≤ (view_grid self.now).rows) }
-        ensures made { IfSome result (λ v. view_grid v ≡ rows_between (view_grid self.now) start end) }
+        ensures made { IfSome result (λ v.
+            view_grid v ≡ rows_between (view_grid self.now) start end) }
     {
         if start >= end || end > self.height {
             return None;

@@ -29,7 +29,8 @@ pub fn picture_width(symbol: &Symbol, scale: usize) -> usize
 
 /// Returns the symbol as `label` does, within limits.
 pub fn small_label(alloc: Global, bytes: &[u8], limits: &ResourceLimits) -> QrResult<Symbol>
-    ensures best { IfOk result (λ symbol. IsBestWithin limits.now bytes.now EcLevel.M symbol.modules) }
+    ensures best { IfOk result (λ symbol.
+        IsBestWithin limits.now bytes.now EcLevel.M symbol.modules) }
     ensures refused { IfErr result (IsLimitedRefusal limits.now bytes.now EcLevel.M) }
 {
     Symbol::with_limits(alloc, bytes, EcLevel::M, limits)

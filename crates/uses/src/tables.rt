@@ -28,7 +28,8 @@ pub fn bits_of_digits(bytes: &[u8]) -> Option<usize>
 /// Returns the number of data codewords of a symbol, or `InvalidVersion` if the version lacks
 /// the level.
 pub fn data_codewords(version: Version, ec_level: EcLevel) -> QrResult<usize>
-    ensures codewords { IfOk result (λ n. option_map data_bytes (blocks_of version ec_level) ≡ Some n) }
+    ensures codewords { IfOk result (λ n.
+        option_map data_bytes (blocks_of version ec_level) ≡ Some n) }
     ensures refused { IfErr result (λ e. e ≡ InvalidVersion version ec_level) }
 {
     match block_layout(version, ec_level) {

@@ -1,7 +1,8 @@
 //! Configurations of renderers and encoders.
 ghost use Rattle.std.specs.Prelude.{◌≡◌, [], Some, None, IfOk, IfErr, IsOkUnless};
 ghost use Rattle.std.specs.Option.{option_copied};
-ghost use Rattle.qrcode_core.specs.Plugins.{render_format, render_options, encode_options, with_entry, at_key};
+ghost use Rattle.qrcode_core.specs.Plugins.{render_format, render_options, encode_options};
+ghost use Rattle.qrcode_core.specs.Plugins.{with_entry, at_key};
 ghost use Rattle.qrcode_core.specs.declared.plugin.error.PluginError.TheVariants.{OutOfMemory};
 
 use crate::plugin::error::PluginError;

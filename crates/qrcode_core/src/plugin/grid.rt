@@ -1,7 +1,9 @@
 //! A grid that owns its modules.
 ghost use Rattle.std.specs.Prelude.{◌≡◌, ◌*◌, ◌<◌, ◌↔◌, IfOk, IfErr, IsOk, IsOkUnless, vec_len};
 ghost use Rattle.qrcode_core.specs.Grids.{IsFull, grid_of};
-ghost use Rattle.qrcode_core.specs.declared.plugin.error.PluginError.TheVariants.{InvalidModuleGrid, OutOfMemory};
+ghost use Rattle.qrcode_core.specs.declared.plugin.error.PluginError.TheVariants.{};
+ghost use Rattle.qrcode_core.specs.declared.plugin.error.PluginError.TheVariants.{InvalidModuleGrid};
+ghost use Rattle.qrcode_core.specs.declared.plugin.error.PluginError.TheVariants.{OutOfMemory};
 
 use crate::plugin::error::PluginError;
 use crate::traits::ModuleStorage;

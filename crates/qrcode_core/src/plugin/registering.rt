@@ -1,8 +1,10 @@
 //! The registration of plugins and of single objects.
 ghost use Rattle.std.specs.Prelude.{◌≡◌, [], ◌∷◌, map, IfOk, OnOk, OnErr, IsOkUnless};
 ghost use Rattle.std.specs.String.{string_bytes};
-ghost use Rattle.qrcode_core.specs.Registries.{Registers, with_registration, version_of, renderer_of, encoder_of};
-ghost use Rattle.qrcode_core.specs.Registries.{postprocessor_of, registered, registrations, named_renderer};
+ghost use Rattle.qrcode_core.specs.Registries.{Registers, with_registration, version_of};
+ghost use Rattle.qrcode_core.specs.Registries.{renderer_of, encoder_of};
+ghost use Rattle.qrcode_core.specs.Registries.{postprocessor_of, registered, registrations};
+ghost use Rattle.qrcode_core.specs.Registries.{named_renderer};
 ghost use Rattle.qrcode_core.specs.Registries.{named_encoder};
 ghost use Rattle.qrcode_core.specs.Plugins.{at_key};
 ghost use Rattle.qrcode_core.specs.declared.plugin.error.PluginError.TheVariants.{OutOfMemory};
@@ -42,9 +44,10 @@ impl PluginRegistry {
         name: &str,
         renderer: Box<dyn DynRenderer>,
     ) -> Result<Option<Box<dyn DynRenderer>>, PluginError>
-        ensures ok { OnOk result
-            (registered self.new ≡ with_registration (registered self.old) (renderer_of name.now renderer)) }
-        ensures replaced { IfOk result (λ old. old ≡ at_key (registered self.old).renderers name.now) }
+        ensures ok { OnOk result (registered self.new ≡
+            with_registration (registered self.old) (renderer_of name.now renderer)) }
+        ensures replaced { IfOk result (λ old.
+            old ≡ at_key (registered self.old).renderers name.now) }
         ensures refused { OnErr result (registered self.new ≡ registered self.old) }
         ensures memory { IsOkUnless result OutOfMemory }
     {
@@ -60,9 +63,10 @@ impl PluginRegistry {
         name: &str,
         encoder: Box<dyn DynEncoder>,
     ) -> Result<Option<Box<dyn DynEncoder>>, PluginError>
-        ensures ok { OnOk result
-            (registered self.new ≡ with_registration (registered self.old) (encoder_of name.now encoder)) }
-        ensures replaced { IfOk result (λ old. old ≡ at_key (registered self.old).encoders name.now) }
+        ensures ok { OnOk result (registered self.new ≡
+            with_registration (registered self.old) (encoder_of name.now encoder)) }
+        ensures replaced { IfOk result (λ old.
+            old ≡ at_key (registered self.old).encoders name.now) }
         ensures refused { OnErr result (registered self.new ≡ registered self.old) }
         ensures memory { IsOkUnless result OutOfMemory }
     {
@@ -77,8 +81,8 @@ impl PluginRegistry {
         &mut self,
         postprocessor: Box<dyn PostProcessor>,
     ) -> Result<(), PluginError>
-        ensures ok { OnOk result
-            (registered self.new ≡ with_registration (registered self.old) (postprocessor_of postprocessor)) }
+        ensures ok { OnOk result (registered self.new ≡
+            with_registration (registered self.old) (postprocessor_of postprocessor)) }
         ensures refused { OnErr result (registered self.new ≡ registered self.old) }
         ensures memory { IsOkUnless result OutOfMemory }
     {
@@ -106,8 +110,8 @@ impl PluginRegistry {
         name: String,
         renderer: Box<dyn DynRenderer>,
     ) -> Result<Option<Box<dyn DynRenderer>>, PluginError>
-        ensures ok { OnOk result
-            (registered self.new ≡ with_registration (registered self.old) (renderer_of (string_bytes name) renderer)) }
+        ensures ok { OnOk result (registered self.new ≡
+            with_registration (registered self.old) (renderer_of (string_bytes name) renderer)) }
         ensures replaced { IfOk result (λ old.
             old ≡ at_key (registered self.old).renderers (string_bytes name)) }
         ensures refused { OnErr result (registered self.new ≡ registered self.old) }
@@ -149,8 +153,8 @@ impl PluginRegistry {
         name: String,
         encoder: Box<dyn DynEncoder>,
     ) -> Result<Option<Box<dyn DynEncoder>>, PluginError>
-        ensures ok { OnOk result
-            (registered self.new ≡ with_registration (registered self.old) (encoder_of (string_bytes name) encoder)) }
+        ensures ok { OnOk result (registered self.new ≡
+            with_registration (registered self.old) (encoder_of (string_bytes name) encoder)) }
         ensures replaced { IfOk result (λ old.
             old ≡ at_key (registered self.old).encoders (string_bytes name)) }
         ensures refused { OnErr result (registered self.new ≡ registered self.old) }

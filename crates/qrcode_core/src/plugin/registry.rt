@@ -1,10 +1,13 @@
 //! The registry: what a caller registered, how it is looked up, and how postprocessors are run.
-ghost use Rattle.std.specs.Prelude.{◌≡◌, Ok, Err, IfSome, IfNone, MatchOption, MatchResult, IsErrAnd, IsOkAnd};
+ghost use Rattle.std.specs.Prelude.{◌≡◌, Ok, Err, IfSome, IfNone, MatchOption, MatchResult};
+ghost use Rattle.std.specs.Prelude.{IsErrAnd, IsOkAnd};
 ghost use Rattle.std.specs.List.Sorted.{IsStrictlySortedBy};
 ghost use Rattle.std.specs.Option.{option_copied};
-ghost use Rattle.qrcode_core.specs.Plugins.{names_left, at_key, key_texts, text_cmp, IsRendererMissing};
+ghost use Rattle.qrcode_core.specs.Plugins.{names_left, at_key, key_texts, text_cmp};
+ghost use Rattle.qrcode_core.specs.Plugins.{IsRendererMissing};
 ghost use Rattle.qrcode_core.specs.Plugins.{IsEncoderMissing};
-ghost use Rattle.qrcode_core.specs.Registries.{nothing_registered, StepsInOrder, registered, object_at};
+ghost use Rattle.qrcode_core.specs.Registries.{nothing_registered, StepsInOrder, registered};
+ghost use Rattle.qrcode_core.specs.Registries.{object_at};
 
 use crate::plugin::config::{EncodeConfig, RenderConfig};
 use crate::plugin::error::PluginError;

@@ -1,10 +1,13 @@
 //! `Symbol`: a symbol that owns its modules.
 ghost use Rattle.std.specs.Prelude.{◌≡◌, ◌≤◌, length, OnOk, IfOk, IfErr};
+ghost use Rattle.qrcode_base.specs.declared.symbols.TheConstants.{LONGEST_DATA};
 ghost use Rattle.qrcode_base.specs.Symbols.{IsVersion, width_of};
-ghost use Rattle.qrcode_core.specs.Limits.{IsBudget, IsBestWithin, IsTooLongWithin, IsLimitedRefusal};
+ghost use Rattle.qrcode_core.specs.Limits.{IsBudget, IsBestWithin, IsTooLongWithin};
+ghost use Rattle.qrcode_core.specs.Limits.{IsLimitedRefusal};
 ghost use Rattle.qrcode_core.specs.Drawn.{TellsReading, drawn_grid, HoldsStream, IsStreamRefusal};
 ghost use Rattle.qrcode_core.specs.Layers.{FillsSymbol, IsDrawnStream};
-ghost use Rattle.qrcode_core.specs.Headline.{IsBestSymbol, IsBestMicroSymbol, IsTooLong, IsTooLongForMicro, IsRefusal};
+ghost use Rattle.qrcode_core.specs.Headline.{IsBestSymbol, IsBestMicroSymbol, IsTooLong};
+ghost use Rattle.qrcode_core.specs.Headline.{IsTooLongForMicro, IsRefusal};
 ghost use Rattle.qrcode_bits.specs.Push.{IsMicroRefused};
 ghost use Rattle.qrcode_core.specs.Views.{view_grid};
 
@@ -62,7 +65,7 @@ impl Symbol {
         ensures best { IfOk result (λ symbol. IsBestSymbol bytes.now level symbol.modules) }
         ensures reading { IfOk result TellsReading }
         ensures fitting { OnOk result (IsTooLong bytes.now level → ⊥) }
-        ensures limit { OnOk result (length bytes.now ≤ 7089) }
+        ensures limit { OnOk result (length bytes.now ≤ LONGEST_DATA) }
         ensures refused { IfErr result (IsRefusal bytes.now level) }
     {
         let bits = encode_auto(alloc, bytes, level)?;
@@ -83,7 +86,7 @@ impl Symbol {
         ensures best { IfOk result (λ symbol. IsBestMicroSymbol bytes.now level symbol.modules) }
         ensures reading { IfOk result TellsReading }
         ensures fitting { OnOk result (IsTooLongForMicro bytes.now level → ⊥) }
-        ensures limit { OnOk result (length bytes.now ≤ 7089) }
+        ensures limit { OnOk result (length bytes.now ≤ LONGEST_DATA) }
         ensures refused { IfErr result (IsMicroRefused bytes.now level) }
     {
         let bits = encode_auto_micro(alloc, bytes, level)?;
@@ -105,11 +108,12 @@ impl Symbol {
         level: EcLevel,
         limits: &ResourceLimits,
     ) -> QrResult<Symbol>
-        ensures best { IfOk result (λ symbol. IsBestWithin limits.now bytes.now level symbol.modules) }
+        ensures best { IfOk result (λ symbol.
+            IsBestWithin limits.now bytes.now level symbol.modules) }
         ensures reading { IfOk result TellsReading }
         ensures fitting { OnOk result (IsTooLongWithin limits.now bytes.now level → ⊥) }
         ensures budget { OnOk result (IsBudget limits.now) }
-        ensures limit { OnOk result (length bytes.now ≤ 7089) }
+        ensures limit { OnOk result (length bytes.now ≤ LONGEST_DATA) }
         ensures refused { IfErr result (IsLimitedRefusal limits.now bytes.now level) }
     {
         if limits.validate().is_err() {

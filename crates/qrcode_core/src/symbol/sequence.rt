@@ -2,14 +2,16 @@
 //!
 //! 1. Cut the message into parts (`part_at`).
 //! 2. Make the best symbol of each part, with its header (`part_symbol`).
-ghost use Rattle.std.specs.Prelude.{◌≡◌, ◌+◌, ◌≤◌, [], length, map, nat_abs, slice_index_or, All, OnOk, IfOk, IfErr};
+ghost use Rattle.std.specs.Prelude.{◌≡◌, ◌+◌, ◌≤◌, [], length, map, nat_abs, slice_index_or, All};
+ghost use Rattle.std.specs.Prelude.{OnOk, IfOk, IfErr};
 ghost use Rattle.std.specs.Prelude.{IsTrue, vec_items};
 ghost use Rattle.std.specs.List.Sorted.{IsNonDecreasing};
 ghost use Rattle.qrcode_bits.specs.Push.{IsPartRefused};
 ghost use Rattle.qrcode_base.specs.Symbols.{IsNormalNumber};
 ghost use Rattle.qrcode_bits.specs.Frame.{header_of};
 ghost use Rattle.qrcode_core.specs.Drawn.{TellsReading, modules_of};
-ghost use Rattle.qrcode_core.specs.Sequence.{parity_of, parts_at, IsPartSymbol, AreBestSymbols, IsSomePartTooLong};
+ghost use Rattle.qrcode_core.specs.Sequence.{parity_of, parts_at, IsPartSymbol, AreBestSymbols};
+ghost use Rattle.qrcode_core.specs.Sequence.{IsSomePartTooLong};
 ghost use Rattle.qrcode_core.specs.Sequence.{IsSequenceRefusal};
 
 use crate::symbol::owned::{Symbol, symbol_of};
@@ -24,7 +26,8 @@ use std::alloc::Global;
 pub fn are_cuts(cuts: &[usize], length: usize) -> bool
     ensures ordered { IsTrue result → IsNonDecreasing cuts.now }
     ensures within { IsTrue result → All (λ cut. cut ≤ length) cuts.now }
-    ensures refused { IsNonDecreasing cuts.now → All (λ cut. cut ≤ length) cuts.now → IsTrue result }
+    ensures refused { IsNonDecreasing cuts.now → All (λ cut. cut ≤ length) cuts.now →
+        IsTrue result }
 {
     cuts.is_sorted() && cuts.iter().all(|cut| *cut <= length)
 }
@@ -43,8 +46,8 @@ impl Symbol {
     ) -> QrResult<Vec<Symbol>>
         requires ordered { IsNonDecreasing cuts.now }
         requires within { All (λ cut. cut ≤ length bytes.now) cuts.now }
-        ensures best { IfOk result (λ symbols.
-            AreBestSymbols bytes.now cuts.now level (nat_abs max_version) (map modules_of symbols.items)) }
+        ensures best { IfOk result (λ symbols. AreBestSymbols bytes.now cuts.now level
+            (nat_abs max_version) (map modules_of symbols.items)) }
         ensures reading { IfOk result (λ symbols. All TellsReading symbols.items) }
         ensures fitting { OnOk result (IsSomePartTooLong bytes.now cuts.now level
             (nat_abs max_version) → ⊥) }
@@ -94,8 +97,8 @@ pub fn symbol_sequence(
 ) -> QrResult<Vec<Vec<Color>>>
     requires ordered { IsNonDecreasing cuts.now }
     requires within { All (λ cut. cut ≤ length bytes.now) cuts.now }
-    ensures best { IfOk result (λ grids.
-        AreBestSymbols bytes.now cuts.now level (nat_abs max_version) (map vec_items grids.items)) }
+    ensures best { IfOk result (λ grids. AreBestSymbols bytes.now cuts.now level
+        (nat_abs max_version) (map vec_items grids.items)) }
     ensures fitting { OnOk result (IsSomePartTooLong bytes.now cuts.now level
         (nat_abs max_version) → ⊥) }
     ensures limit { OnOk result (IsNormalNumber max_version) }
@@ -151,8 +154,8 @@ fn part_symbol(
     level: EcLevel,
     max_version: i16,
 ) -> QrResult<Symbol>
-    ensures best { IfOk result (λ symbol.
-        IsPartSymbol (header_of position total parity) part.now level (nat_abs max_version) symbol.modules) }
+    ensures best { IfOk result (λ symbol. IsPartSymbol (header_of position total parity) part.now
+        level (nat_abs max_version) symbol.modules) }
     ensures reading { IfOk result TellsReading }
     ensures refused { IfErr result
         (IsPartRefused (header_of position total parity) part.now level max_version) }
