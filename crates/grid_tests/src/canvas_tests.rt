@@ -141,8 +141,8 @@ fn grid(
     requires { IsSymbol version level }
     ensures mask { IfOk result (λ r. IsFirstLeastMask version level r.1 r.0.items) }
 {
-    let (codewords, correction) = construct_codewords(alloc, bytes, version, level)?;
-    let symbol = draw_symbol(alloc, version, level, &codewords, &correction)?;
+    let (interleaved, correction) = construct_codewords(alloc, bytes, version, level)?;
+    let symbol = draw_symbol(alloc, version, level, &interleaved, &correction)?;
     Ok(symbol)
 }
 

@@ -122,7 +122,7 @@ has_its_alignments version h = grind (arith, has_every_alignment)
 pub consistent_regions : (version : Version) → IsVersion version → AreConsistentRegions version
 consistent_regions version h = grind (arith, is_some-functional_color, regions_say)
 
-pub walk_of : (version : Version) → IsVersion version → IsWalkOf version
+pub walk_of : (version : Version) → IsVersion version → IsWalkOf (width_of version) (timing_column version)
 walk_of version h =
     let w = width_of version in
     let t = timing_column version in

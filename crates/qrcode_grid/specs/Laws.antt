@@ -1,16 +1,16 @@
 -- Properties of the definitions of a symbol's grid that follow from them.
-use Rattle.std.specs.Prelude.{Some, IfSome, All, ◌≡◌, ◌≢◌, ℕ, pos, negsuc, ◌+◌, ◌-◌, ◌*◌, ◌%◌, ◌<◌, ◌≤◌}
+use Rattle.std.specs.Prelude.{Some, IfSome, All, ◌≡◌, ◌≢◌, ℕ, pos, ◌+◌, ◌-◌, ◌*◌, ◌%◌, ◌<◌, ◌≤◌}
 use Rattle.std.specs.Prelude.{false, is_some, ◌==◌, ◌&&◌, ◌||◌}
 use Rattle.qrcode_base.specs.declared.types.EcLevel.{EcLevel}
 use Rattle.qrcode_base.specs.declared.types.Version.{Version}
-use Rattle.qrcode_base.specs.declared.types.Version.TheVariants.{Normal, Micro}
+use Rattle.qrcode_base.specs.declared.types.Version.TheVariants.{Normal}
 use Rattle.qrcode_base.specs.Symbols.{width_of}
 use Rattle.qrcode_grid.specs.declared.canvas.MaskPattern.{MaskPattern}
 use Rattle.qrcode_grid.specs.Regions.{format_code, version_word, differing_digits, regions}
 use Rattle.qrcode_grid.specs.Regions.{functional_color, is_functional_cell, alignment, alignments, alignment_count}
 use Rattle.qrcode_grid.specs.Regions.{alignment_coordinate, alignment_coordinates, ring}
 use Rattle.qrcode_grid.specs.Masks.{format_word}
-use Rattle.qrcode_grid.specs.Walk.{timing_column, cell_number, numbered_cell}
+use Rattle.qrcode_grid.specs.Walk.{cell_number, numbered_cell}
 
 -- The format word is the one of five data bits, and differs in at least 7 of its 15 bits from that
 -- of every other five bits, so from that of every other level, version or mask.
@@ -25,8 +25,7 @@ unfoldable pub IsFarVersionWord : Version → Type 0
 IsFarVersionWord (Normal (pos n)) =
     7 ≤ n → (other : ℕ) → 7 ≤ other → other ≤ 40 → other ≢ n →
     8 ≤ differing_digits 18 (version_word n) (version_word other)
-IsFarVersionWord (Normal (negsuc n)) = Unit {0}
-IsFarVersionWord (Micro z) = Unit {0}
+IsFarVersionWord _ = Unit {0}
 
 -- Regions that overlap agree (`agree`): the colour that any region gives a cell is the functional
 -- colour of the cell. The cells that have one are those of the whole areas (`areas`).
@@ -61,24 +60,17 @@ pub record HasEveryAlignment (n : ℕ) : Type 0 where
 -- A Normal version has every alignment pattern; a Micro version has none.
 unfoldable pub HasItsAlignments : Version → Type 0
 HasItsAlignments (Normal (pos n)) = HasEveryAlignment n
-HasItsAlignments (Normal (negsuc n)) = Unit {0}
-HasItsAlignments (Micro z) = Unit {0}
+HasItsAlignments _ = Unit {0}
 
--- The walk visits every cell outside the timing column exactly once: each number has one cell, and
--- each cell one number.
-pub record IsWalkOf (version : Version) : Type 0 where
+-- The walk in a symbol of width w visits every cell outside the timing column t exactly once: the
+-- cell of each number is one of these (`inside`), each of them is the cell of its number (`every`),
+-- and each number is that of its cell (`once`).
+pub record IsWalkOf (w t : ℕ) : Type 0 where
   pub inside :
-      (k : ℕ) → k < width_of version * (width_of version - 1) →
-      ((numbered_cell (width_of version) (timing_column version) k).0 < width_of version) ×
-      ((numbered_cell (width_of version) (timing_column version) k).1 < width_of version) ×
-      ((numbered_cell (width_of version) (timing_column version) k).0 ≢ timing_column version)
+      (k : ℕ) → k < w * (w - 1) →
+      (let cell = numbered_cell w t k in (cell.0 < w) × (cell.1 < w) × (cell.0 ≢ t))
   pub every :
-      (x y : ℕ) → x < width_of version → y < width_of version → x ≢ timing_column version →
-      (cell_number (width_of version) (timing_column version) x y < width_of version * (width_of version - 1)) ×
-      (numbered_cell (width_of version) (timing_column version)
-      (cell_number (width_of version) (timing_column version) x y) ≡ (x, y))
+      (x y : ℕ) → x < w → y < w → x ≢ t →
+      (let k = cell_number w t x y in (k < w * (w - 1)) × (numbered_cell w t k ≡ (x, y)))
   pub once :
-      (k : ℕ) → k < width_of version * (width_of version - 1) →
-      cell_number (width_of version) (timing_column version)
-      (numbered_cell (width_of version) (timing_column version) k).0
-      (numbered_cell (width_of version) (timing_column version) k).1 ≡ k
+      (k : ℕ) → k < w * (w - 1) → (let cell = numbered_cell w t k in cell_number w t cell.0 cell.1 ≡ k)

@@ -11,16 +11,16 @@ use Rattle.qrcode_base.specs.Numbers.{number_bits}
 
 -- The bits of a symbol with these codewords.
 abbrev pub stream_bits : Streams → List Bool
-stream_bits s = symbol_bits s.left_out s.codewords.now s.correction.now
+stream_bits s = symbol_bits s.left_out s.interleaved.now s.correction.now
 
 -- The bits of the data and correction codewords from number n on.
-abbrev pub bits_behind : ℕ → List ℕ → List ℕ → ℕ → List Bool
-bits_behind left_out codewords correction n =
-    symbol_bits left_out (drop n codewords) (drop (n - length codewords) correction)
+abbrev pub bits_after : ℕ → List ℕ → List ℕ → ℕ → List Bool
+bits_after left_out interleaved correction n =
+    symbol_bits left_out (drop n interleaved) (drop (n - length interleaved) correction)
 
 -- The bits of a symbol's codewords from a number on.
 abbrev pub codewords_from : Streams → ℕ → List Bool
-codewords_from s = bits_behind s.left_out s.codewords.now s.correction.now
+codewords_from s = bits_after s.left_out s.interleaved.now s.correction.now
 
 -- The bits that are still to be placed: the low bits of a codeword, and the bits of the codewords
 -- after it.

@@ -7,6 +7,7 @@ ghost use Rattle.qrcode_base.specs.declared.types.EcLevel.{EcLevel};
 ghost use Rattle.qrcode_base.specs.declared.types.Version.{Version};
 ghost use Rattle.qrcode_base.specs.Symbols.{IsVersion, width_of};
 ghost use Rattle.qrcode_grid.specs.declared.canvas.MaskPattern.{MaskPattern};
+ghost use Rattle.qrcode_grid.specs.Blocks.{ArePlaces};
 ghost use Rattle.qrcode_grid.specs.Regions.{HasOneFormatWord, HasOneVersionWord};
 ghost use Rattle.qrcode_grid.specs.Canvas.{HasItsSiblings};
 ghost use Rattle.qrcode_grid.specs.Masks.{HasFunctionalColors};
@@ -19,6 +20,11 @@ pub fn siblings_have_the_same_data()
         IsVersion version → length colors ≡ width_of version * width_of version →
         HasFunctionalColors version level pattern colors →
         HasItsSiblings version level pattern colors }
+{}
+
+/// Rows and blocks of any sizes reach each index of an interleaved stream exactly once.
+pub fn blocks_fill_a_stream()
+    ensures { (sizes : List ℕ) → ArePlaces sizes }
 {}
 
 /// Exactly one multiple of the generator begins with given data bits: their code word. So each

@@ -6,8 +6,9 @@ ghost use Rattle.qrcode_grid.specs.Canvas.{CarriesCodewords};
 ghost use Rattle.qrcode_grid.specs.Masks.{family, IsOfFamily};
 ghost use Rattle.qrcode_grid.specs.Penalty.{score, IsFirstLeast, IsFirstLeastMask};
 
+use crate::canvas::filling::repeated;
 use crate::canvas::masks::{format_words, mask_number};
-use crate::canvas::scoring::{penalties_of, repeated, write_colors};
+use crate::canvas::scoring::{penalties_of, write_colors};
 use crate::canvas::{Canvas, MaskPattern};
 use qrcode_base::symbols::symbol_width;
 use qrcode_base::types::{Color, EcLevel, QrError, QrResult, Version};
@@ -18,11 +19,11 @@ use std::alloc::Global;
 fn score_of(version: Version, penalty: usize) -> u16
     ensures { result ≡ score version penalty }
 {
-    let told = match version {
+    let score = match version {
         Version::Normal(_) => penalty.saturating_sub(720),
         Version::Micro(_) => penalty,
     };
-    if told < 65535 { told as u16 } else { 65535 }
+    if score < 65535 { score as u16 } else { 65535 }
 }
 
 /// The masks of Normal symbols, in the order of their numbers.
@@ -173,27 +174,28 @@ impl Canvas {
 }
 
 /// Returns the colours of the symbol that carries these codewords under the first mask of least
-/// penalty, row by row, and that mask.
+/// penalty, row by row, and that mask. The data codewords are interleaved, and so are those of
+/// the error correction.
 ///
 /// It fails with `OutOfMemory`.
 pub fn draw_symbol(
     alloc: Global,
     version: Version,
     level: EcLevel,
-    codewords: &[u8],
+    interleaved: &[u8],
     correction: &[u8],
 ) -> QrResult<(Vec<Color>, MaskPattern)>
     requires symbol { IsSymbol version level }
-    requires some { missing_bits version ≤ 8 * length codewords.now }
-    requires whole { length codewords.now + length correction.now ≡ codeword_count version level }
+    requires some { missing_bits version ≤ 8 * length interleaved.now }
+    requires whole { length interleaved.now + length correction.now ≡ codeword_count version level }
     ensures carries { IfOk result (λ r.
-        CarriesCodewords version level r.1 codewords.now correction.now r.0.items) }
+        CarriesCodewords version level r.1 interleaved.now correction.now r.0.items) }
     ensures mask { IfOk result (λ r. IsFirstLeastMask version level r.1 r.0.items) }
     ensures refusal { IfErr result (λ e. e ≡ QrError.OutOfMemory) }
 {
     let mut canvas = Canvas::new(alloc, version, level)?;
     canvas.draw_all_functional_patterns();
-    canvas.draw_data(codewords, correction);
+    canvas.draw_data(interleaved, correction);
     let (pattern, _, scratch) = canvas.best(alloc)?;
     let width = symbol_width(version);
     let mut colors = repeated(alloc, Color::Light, width * width, 0)?;

@@ -5,7 +5,7 @@
 //! 2. For each direction, mark the edges between modules of one colour (`lists`).
 //! 3. Count runs, finder-like patterns, squares and dark modules in all candidates (`counting`),
 //!    and add up their penalties.
-ghost use Rattle.std.specs.Prelude.{◌≡◌, ℕ, ◌+◌, ◌*◌, ◌<◌, ◌≤◌, length, map, replicate, slice_index, take, IfOk};
+ghost use Rattle.std.specs.Prelude.{◌≡◌, ℕ, ◌+◌, ◌*◌, ◌<◌, ◌≤◌, length, map, slice_index, take};
 ghost use Rattle.std.specs.Prelude.{◌==◌, count_by, drop, if◌then◌else◌};
 ghost use Rattle.qrcode_base.specs.Symbols.{IsVersion, width_of};
 ghost use Rattle.qrcode_grid.specs.Canvas.{color_of_module};
@@ -25,7 +25,6 @@ use crate::canvas::masks::write_candidates;
 use crate::canvas::scoring::counting::{count, count_runs};
 use crate::canvas::scoring::lists::{Feature, write_edges, write_padded};
 use qrcode_base::types::{Color, Version};
-use std::alloc::{AllocError, Global};
 
 /// Returns the penalty of the rows or of the columns in each candidate, from their edges. A run of
 /// n modules, where n is at least 5, begins five equal modules at n - 4 places and six at n - 5, so
@@ -157,25 +156,4 @@ pub fn write_colors(grid: &[u8], m: usize, colors: &mut [Color])
             Color::Light
         };
     }
-}
-
-/// The number of elements that are written at once. The C library fills more than 2 KB with
-/// `rep stos`, which is slow to start.
-const PART: usize = 1000;
-
-/// Returns a list of `length` copies of a value, with a capacity of at least `room` elements.
-pub fn repeated<T: Copy>(
-    alloc: Global,
-    value: T,
-    length: usize,
-    room: usize,
-) -> Result<Vec<T>, AllocError>
-    ensures { IfOk result (λ list. list.items ≡ replicate length value) }
-{
-    let mut list = Vec::with_capacity(alloc, length.max(room))?;
-    for part in 0..length / PART {
-        list.resize(PART * (part + 1), value)?;
-    }
-    list.resize(length, value)?;
-    Ok(list)
 }

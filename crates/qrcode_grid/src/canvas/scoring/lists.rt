@@ -51,7 +51,7 @@ pub fn write_edges(
     let stride = width + 4;
     let count = rows * stride;
     for part in 0..(count + 15) / 16 {
-        let lanes = same(padded, step, 4 * stride + 16 * part, 0);
+        let lanes = equal_to_next(padded, step, 4 * stride + 16 * part, 0);
         lanes.copy_to_slice(&mut edges[16 * part..16 * part + 16]);
     }
     u8x16::splat(0).copy_to_slice(&mut edges[count..count + 16]);
@@ -97,7 +97,7 @@ fn light(list: &[u8], step: usize, at: usize, i: usize) -> u8x16
 /// Marks which modules, i steps after sixteen places, have the same colour as the module one
 /// step further.
 #[inline(always)]
-pub fn same(list: &[u8], step: usize, at: usize, i: usize) -> u8x16
+pub fn equal_to_next(list: &[u8], step: usize, at: usize, i: usize) -> u8x16
     requires step { step ≤ 181 }
     requires few { i ≤ 14 }
     requires within { at + (i + 1) * step + 16 ≤ length list.now }
@@ -148,7 +148,9 @@ pub fn places_of(
         }
         // Both rows have an edge here, and the modules one below the other have the same colour.
         Feature::Square => {
-            dark(edges, stride, at, 0) & dark(edges, stride, at, 1) & same(padded, stride, at, 4)
+            dark(edges, stride, at, 0)
+                & dark(edges, stride, at, 1)
+                & equal_to_next(padded, stride, at, 4)
         }
         Feature::Dark => dark(padded, stride, at, 4),
     }

@@ -8,7 +8,7 @@ pub symbol_width-width-requires : goal.symbol_width-width-requires
 symbol_width-width-requires c = version_of_symbol _ _ c.requires.symbol
 
 took : (c : goal.After-drop-canvas-inside-2) →
-    TakesCodewords c.args.codewords.now c.args.correction.now (with_functional 0 (blank c.args.version c.args.level)) c.draw_data.new.self
+    TakesCodewords c.args.interleaved.now c.args.correction.now (with_functional 0 (blank c.args.version c.args.level)) c.draw_data.new.self
 took c = grind arith
 
 -- the colours are those of the canvas under the mask
@@ -30,12 +30,12 @@ colored c =
 pub returns-clause-carries : goal.returns-clause-carries
 returns-clause-carries c =
     let a = c.args in let pattern = c.in_ok-pattern.pattern in
-    subst (λ (colors : List Color). CarriesCodewords a.version a.level pattern a.codewords.now a.correction.now colors) (sym (colored c))
-    (carries a.version a.level c.requires.symbol a.codewords.now a.correction.now pattern c.draw_data.new.self (took c) c.requires.some c.requires.whole)
+    subst (λ (colors : List Color). CarriesCodewords a.version a.level pattern a.interleaved.now a.correction.now colors) (sym (colored c))
+    (carries a.version a.level c.requires.symbol a.interleaved.now a.correction.now pattern c.draw_data.new.self (took c) c.requires.some c.requires.whole)
 
 pub returns-clause-mask : goal.returns-clause-mask
 returns-clause-mask c =
     let a = c.args in let pattern = c.in_ok-pattern.pattern in
     subst (λ (colors : List Color). IsFirstLeastMask a.version a.level pattern colors) (sym (colored c))
-    (best_is_first a.version a.level c.requires.symbol a.codewords.now a.correction.now pattern c.draw_data.new.self (took c)
+    (best_is_first a.version a.level c.requires.symbol a.interleaved.now a.correction.now pattern c.draw_data.new.self (took c)
     c.requires.some c.requires.whole c.in_ok-pattern.ensures.best)

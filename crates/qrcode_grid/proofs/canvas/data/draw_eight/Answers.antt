@@ -31,16 +31,16 @@ loop-i-preserved c = λ after t pair is bits xs f.
     (subst (λ (k : ℕ). FilledBelow w t bits xs c.loop-i.modules (n + 2 * c.args.first + 2 * i) (number_bits k c.args.eight ++ after)) left
     (c.loop-i.invariant after t pair is bits xs f)) in
     let ms = c.loop-i.modules in
-    let here_at = c.place_of-here.result in
+    let here_at = c.left_place-here.result in
     let q = c.args.eight / 2 ^ (6 - 2 * i) % 4 in
     let zs = set (set ms (here_at + 1) (get_or (get_or ROWS q []) 1 Empty)) here_at (get_or (get_or ROWS q []) 0 Empty) in
     let new : zs ≡ set (set ms (here_at + 1) (data_bit c.args.eight (6 - 2 * i + 1))) here_at (data_bit c.args.eight (6 - 2 * i)) =
     ap (λ (m : Module). set (set ms (here_at + 1) m) here_at (get_or (get_or ROWS q []) 0 Empty)) (right_bit c.args.eight (6 - 2 * i))
     ∙ ap (λ (m : Module). set (set ms (here_at + 1) (data_bit c.args.eight (6 - 2 * i + 1))) here_at m) (left_bit c.args.eight (6 - 2 * i)) in
     let both = row_placed t pair c.args.first (c.args.first + i) c.args.columns bits xs c.args.modules.now c.loop-i.modules zs
-    c.place_of-here.result (6 - 2 * i) c.args.eight
+    c.left_place-here.result (6 - 2 * i) c.args.eight
     (number_bits 8 c.args.eight ++ after) after is (c.loop-i.auto.modules ∙ c.requires.square) (omega arith)
-    (omega (arith, four, c.requires.rows)) c.place_of-here.ensures.is (c.requires.empty i four) new f before in
+    (omega (arith, four, c.requires.rows)) c.left_place-here.ensures.is (c.requires.empty i four) new f before in
     subst (λ (k : ℕ). FilledBelow w t bits xs zs k (number_bits (8 - 2 * (i + 1)) c.args.eight ++ after)) end
     (subst (λ (k : ℕ). FilledBelow w t bits xs zs (n + 2 * (c.args.first + i) + 2) (number_bits k c.args.eight ++ after)) less both)
 

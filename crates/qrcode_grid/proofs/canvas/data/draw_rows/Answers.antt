@@ -17,19 +17,19 @@ loop-row-preserved c = record {
       let inside : rows < w = omega (arith, c.loop-row-test.true, c.requires.rows) in
       let second_in : n + 1 < w * (w - 1) = number_below w (w / 2) pair rows odd is.below inside in
       let first_in : n < w * (w - 1) = omega (arith, second_in) in
-      let right = ap (λ p. p + 1) c.place_of-place.ensures.is ∙ row_place-right t pair rows c.args.columns is inside in
-      let left = c.place_of-place.ensures.is ∙ row_place-left t pair rows c.args.columns is inside in
+      let right = ap (λ p. p + 1) c.left_place-place.ensures.is ∙ row_place-right t pair rows c.args.columns is inside in
+      let left = c.left_place-place.ensures.is ∙ row_place-left t pair rows c.args.columns is inside in
       let first =
-      offered_step w (w / 2) t bits xs c.loop-row.modules c.offer-ahead.new.modules n (c.place_of-place.result + 1) (rest c.loop-row.ahead)
-      (rest c.offer-ahead.result)
-      odd is.timing square first_in right c.offer-ahead.ensures.modules c.offer-ahead.ensures.rest before in
+      offered_step w (w / 2) t bits xs c.loop-row.modules c.put_bit-ahead.new.modules n (c.left_place-place.result + 1) (rest c.loop-row.ahead)
+      (rest c.put_bit-ahead.result)
+      odd is.timing square first_in right c.put_bit-ahead.ensures.modules c.put_bit-ahead.ensures.rest before in
       let both =
-      offered_step w (w / 2) t bits xs c.offer-ahead.new.modules c.offer-ahead-in-loop-row.new.modules (n + 1) c.place_of-place.result
-      (rest c.offer-ahead.result) (rest c.offer-ahead-in-loop-row.result)
-      odd is.timing square second_in left c.offer-ahead-in-loop-row.ensures.modules c.offer-ahead-in-loop-row.ensures.rest first in
+      offered_step w (w / 2) t bits xs c.put_bit-ahead.new.modules c.put_bit-ahead-in-loop-row.new.modules (n + 1) c.left_place-place.result
+      (rest c.put_bit-ahead.result) (rest c.put_bit-ahead-in-loop-row.result)
+      odd is.timing square second_in left c.put_bit-ahead-in-loop-row.ensures.modules c.put_bit-ahead-in-loop-row.ensures.rest first in
       let next : n + 1 + 1 ≡ pair * (2 * w) + 2 * c.args.first + 2 * (c.loop-row.row + 1) = omega arith in
-      subst (λ (k : ℕ). FilledBelow w t bits xs c.offer-ahead-in-loop-row.new.modules k (rest c.offer-ahead-in-loop-row.result)) next both;
-  small = c.offer-ahead-in-loop-row.ensures.small;
+      subst (λ (k : ℕ). FilledBelow w t bits xs c.put_bit-ahead-in-loop-row.new.modules k (rest c.put_bit-ahead-in-loop-row.result)) next both;
+  small = c.put_bit-ahead-in-loop-row.ensures.small;
 }
 
 pub returns-clause-fills : goal.returns-clause-fills

@@ -7,7 +7,7 @@ use Rattle.qrcode_grid.proofs.canvas.scoring.lists.write_edges.Goals as goal
 
 pub loop-part-preserved : goal.loop-part-preserved
 loop-part-preserved c =
-    let from = 16 * c.loop-part.part in let old = c.loop-part.edges in let lanes = c.same-lanes.result in
+    let from = 16 * c.loop-part.part in let old = c.loop-part.edges in let lanes = c.equal_to_next-lanes.result in
     let new = with_lanes from old lanes in
     let more : c.args.width ≤ c.args.width + 14 = omega arith in
     let last : from + 16 ≤ length old = omega (
@@ -25,8 +25,8 @@ loop-part-preserved c =
             let here : k ≡ from + j = omega (arith, late) in
             let there : 4 * (c.args.width + 4) + from + j ≡ 4 * (c.args.width + 4) + k = omega (arith, late) in
             ap (λ k. bit_at (get_or new k 0) m) here
-            ∙ ap (λ b. bit_at b m) (lanes_here from old lanes j c.same-lanes.ensures.whole last (omega (arith, h, late)))
-            ∙ c.same-lanes.ensures.bits m j hm (omega (arith, h, late))
+            ∙ ap (λ b. bit_at b m) (lanes_here from old lanes j c.equal_to_next-lanes.ensures.whole last (omega (arith, h, late)))
+            ∙ c.equal_to_next-lanes.ensures.bits m j hm (omega (arith, h, late))
             ∙ ap (λ k. cond (is_same c.args.step (plane m c.args.padded.now) k 0) 1 0) there
       ];
       after = λ k h. lanes_behind from old lanes k last (omega (arith, h)) ∙ c.loop-part.invariant.after k (omega (arith, h));

@@ -1,6 +1,6 @@
 use Rattle.qrcode_grid.proofs.Prelude.{◌≡◌, ◌+◌, ◌*◌, ◌==◌, get_or, ap, ◌∙◌, arith, add-mul, is_same, plane}
 use Rattle.qrcode_grid.proofs.MarkedLanes.{marks_same, marks_as}
-use Rattle.qrcode_grid.proofs.canvas.scoring.lists.same.Goals as goal
+use Rattle.qrcode_grid.proofs.canvas.scoring.lists.equal_to_next.Goals as goal
 
 pub returns : goal.returns
 returns c =

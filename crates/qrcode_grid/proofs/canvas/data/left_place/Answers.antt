@@ -1,5 +1,5 @@
 use Rattle.qrcode_grid.proofs.Prelude.{◌+◌, arith, mul-add-lt}
-use Rattle.qrcode_grid.proofs.canvas.data.place_of.Goals as goal
+use Rattle.qrcode_grid.proofs.canvas.data.left_place.Goals as goal
 
 pub returns-else-columns-clause-within : goal.returns-else-columns-clause-within
 returns-else-columns-clause-within c =

@@ -1,7 +1,7 @@
 use Rattle.qrcode_grid.proofs.Prelude.{◌≡◌, arith, common_steps, bits_from}
 use Rattle.qrcode_grid.proofs.StreamPlaces.{no_bits, first_bit}
-use Rattle.qrcode_grid.proofs.canvas.data.offer.Goals.{then-bits-gt0, else-bits-gt0+in-Some, else-bits-gt0+in-None}
-use Rattle.qrcode_grid.proofs.canvas.data.offer.Goals as goal
+use Rattle.qrcode_grid.proofs.canvas.data.put_bit.Goals.{then-bits-gt0, else-bits-gt0+in-Some, else-bits-gt0+in-None}
+use Rattle.qrcode_grid.proofs.canvas.data.put_bit.Goals as goal
 
 pub returns-else-ahead-eq0 : goal.returns-else-ahead-eq0
 returns-else-ahead-eq0 c =
