@@ -1,5 +1,5 @@
 -- A chosen plan decides for its version, and that of the last version of a class for the class.
-use Rattle.qrcode_bits.proofs.Prelude.{◌≡◌, ℕ, zero, suc, ℤ, false, pos, ◌+◌, ◌-◌, ◌*◌, ◌^◌, ◌<◌, ◌≤◌, List, [], ◌∷◌, length, ap, subst, arith, inl, inr}
+use Rattle.qrcode_bits.proofs.Prelude.{◌≡◌, ℕ, zero, suc, ℤ, ◌+◌, ◌-◌, ◌*◌, ◌^◌, ◌<◌, ◌≤◌, List, [], ◌∷◌, length, ap, subst, arith, inl, inr}
 use Rattle.qrcode_bits.proofs.Prelude.{Result, Ok, Err, All, Option, nat_abs, MatchOption, cases_lt, Version, EcLevel, Mode, QrError, DataTooLong, OutOfMemory}
 use Rattle.qrcode_bits.proofs.Prelude.{normal_blocks, capacity, HasMode, indicator, indicator_width, count_width, ◌%◌, one_shl, AreTexts, HasLinearCosts}
 use Rattle.qrcode_bits.proofs.Prelude.{IsChosenPlan, total_bits, IsMergePlan, Fits, FitsNot, FitsNone, normal, IsLeastHolding, IsMinVersion, IsClass, Header}
@@ -10,7 +10,7 @@ use mir.Val.{to_z}
 use mir.Syntax.{w16}
 use Rattle.std.{proofs.lemmas.List.get_or_default, specs.Prelude.Some, specs.Prelude.option_map}
 use Rattle.qrcode_base.{specs.Symbols.data_bytes, specs.declared.symbols.BlockLayout.BlockLayout, proofs.Fields.capacity-held, proofs.Fields.SameClass}
-use lib.Signed.{lt_z}
+use Rattle.std.specs.Prelude.{Bool, true, IsTrue, ◌↔◌}
 use Rattle.qrcode_bits.proofs.{Adjoining.parsed-linear, Growth.total_bits-rise, Growth.total_bits-same, Upward.All-map, Texts.texts-reach, Texts.texts-plan}
 use Rattle.qrcode_bits.proofs.{Texts.plan_lies}
 use Rattle.qrcode_bits.specs.Plans.{AreCandidates}
@@ -196,5 +196,5 @@ refused_part header message l z n front DataTooLong h p same size r =
 refused_part header message l z n front OutOfMemory h p same size r = (h, p, r)
 refused_part header message l z n front other h p same size r = absurd r
 
-pub limit_of : (z y : ℤ) → y ≡ z → lt_z y (pos 1) ≡ false → lt_z (pos 40) y ≡ false → IsNormalNumber z
-limit_of z y e low high = grind arith
+pub limit_of : (z y : ℤ) (is : Bool) → y ≡ z → IsTrue is ↔ IsNormalNumber y → is ≡ true → IsNormalNumber z
+limit_of z y is e test found = subst IsNormalNumber e (test.0 found)

@@ -13,6 +13,7 @@ ghost use Rattle.qrcode_c.specs.Refusals.{IsSymbolRefusal, IsMicroRefusal, IsPar
 
 use crate::refusal::Refusal;
 use crate::shape::{Shape, shape_of};
+use qrcode_base::symbols::is_normal_number;
 use qrcode_core::symbol::{Symbol, are_cuts};
 use qrcode_core::traits::ModuleSource;
 use qrcode_core::types::{Color, EcLevel, QrError};
@@ -112,10 +113,12 @@ fn limit_of(number: i32) -> Option<i16>
     ensures limit { IfSome result (λ limit. (limit ≡ number) × IsNormalNumber limit) }
     ensures none { IfNone result (IsNormalNumber number → ⊥) }
 {
-    if number < 1 || number > 40 {
-        return None;
+    let limit = i16::try_from(number).ok()?;
+    if is_normal_number(limit) {
+        Some(limit)
+    } else {
+        None
     }
-    Some(number as i16)
 }
 
 /// Writes the modules of a symbol to the start of a buffer, and returns the shape of the symbol.

@@ -43,14 +43,7 @@ fn mask_number(version: Version, mask: MaskPattern) -> i32
     ensures { result ≡ mask_number version mask }
 {
     match (version, mask) {
-        (Version::Normal(_), MaskPattern::Checkerboard) => 0,
-        (Version::Normal(_), MaskPattern::HorizontalLines) => 1,
-        (Version::Normal(_), MaskPattern::VerticalLines) => 2,
-        (Version::Normal(_), MaskPattern::DiagonalLines) => 3,
-        (Version::Normal(_), MaskPattern::LargeCheckerboard) => 4,
-        (Version::Normal(_), MaskPattern::Fields) => 5,
-        (Version::Normal(_), MaskPattern::Diamonds) => 6,
-        (Version::Normal(_), MaskPattern::Meadow) => 7,
+        (Version::Normal(_), _) => mask as i32,
         (Version::Micro(_), MaskPattern::LargeCheckerboard) => 1,
         (Version::Micro(_), MaskPattern::Diamonds) => 2,
         (Version::Micro(_), MaskPattern::Meadow) => 3,

@@ -10,7 +10,7 @@ ghost use Rattle.qrcode_base.specs.declared.types.errors.QrError.TheVariants.{};
 ghost use Rattle.qrcode_base.specs.declared.types.errors.QrError.TheVariants.{InvalidResourceLimits};
 ghost use Rattle.qrcode_core.specs.Limits.{IsBudget};
 
-use qrcode_base::symbols::LONGEST_DATA;
+use qrcode_base::symbols::{LONGEST_DATA, is_normal_number};
 use qrcode_base::types::{QrError, QrResult, Version};
 
 /// The default limit of the input, in bytes: version 40 holds this many digits at level L.
@@ -67,7 +67,7 @@ impl ResourceLimits {
         ensures refused { IsOkUnless result InvalidResourceLimits }
     {
         let is_normal = match self.max_version {
-            Version::Normal(n) => 1 <= n && n <= 40,
+            Version::Normal(n) => is_normal_number(n),
             Version::Micro(_) => false,
         };
         let (width, height) = self.max_render_size;

@@ -32,7 +32,7 @@ use super::headers::{check_place, indicator_number};
 use super::{Bits, data_capacity_bits};
 use crate::optimize::{Segment, optimize_uncounted, segments_from};
 use arrayvec::ArrayVec;
-use qrcode_base::symbols::LONGEST_DATA;
+use qrcode_base::symbols::{LONGEST_DATA, is_normal_number};
 use qrcode_base::types::{EcLevel, QrError, QrResult, Version};
 use std::alloc::Global;
 use std::marker::{Brand, Model};
@@ -85,7 +85,7 @@ pub fn encode_auto_with_max_version(
     ensures limit { OnOk result (IsNormalNumber max_version) }
     ensures err { IfErr result (λ e. IsEncodingRefused bytes.now level max_version e) }
 {
-    if max_version < 1 || max_version > 40 {
+    if !is_normal_number(max_version) {
         return Err(QrError::InvalidResourceLimits);
     }
     encode_up_to(alloc, &None, bytes, level, max_version as usize)
@@ -118,7 +118,7 @@ pub fn encode_part(
     ensures err { IfErr result (λ e. IsPartRefused (header_of position total parity) bytes.now level
         max_version e) }
 {
-    if max_version < 1 || max_version > 40 {
+    if !is_normal_number(max_version) {
         return Err(QrError::InvalidResourceLimits);
     }
     check_place(position, total)?;

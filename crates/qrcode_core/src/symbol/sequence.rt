@@ -15,6 +15,7 @@ ghost use Rattle.qrcode_core.specs.Sequence.{IsSomePartTooLong};
 ghost use Rattle.qrcode_core.specs.Sequence.{IsSequenceRefusal};
 
 use crate::symbol::owned::{Symbol, symbol_of};
+use qrcode_base::symbols::is_normal_number;
 use qrcode_base::types::{Color, EcLevel, QrError, QrResult};
 use qrcode_bits::bits::encode_part;
 use std::alloc::Global;
@@ -54,7 +55,7 @@ impl Symbol {
         ensures limit { OnOk result (IsNormalNumber max_version) }
         ensures refused { IfErr result (IsSequenceRefusal bytes.now cuts.now level max_version) }
     {
-        if max_version < 1 || max_version > 40 {
+        if !is_normal_number(max_version) {
             return Err(QrError::InvalidResourceLimits);
         }
         let total = cuts.len().min(254) as u8 + 1;

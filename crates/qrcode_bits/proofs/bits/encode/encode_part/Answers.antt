@@ -8,7 +8,7 @@ use Rattle.qrcode_bits.proofs.bits.encode.encode_part.Goals as goal
 pub returns-clause-err : goal.returns-clause-err
 returns-clause-err c =
     let same : to_z w16 (of_z w16 c.args.max_version) ≡ c.args.max_version = search (arith, ints, to_z-of_z) in
-    let limit = limit_of c.args.max_version _ same c.if-max_version-lt1.false c.if-max_version-gt40.false in
+    let limit = limit_of c.args.max_version _ _ same c.is_normal_number.ensures c.if-not-is_normal_number.false in
     let numbers = header_of c.args.position c.args.total c.args.parity in
     let place = c.in_ok-check_place.ensures.ok in
     IfErr-weaker c.encode_up_to.result _ _ (λ e. refused_part numbers _ _ _ _ _ e limit (place.0, place.1, place.2, omega arith)

@@ -9,7 +9,7 @@ use Rattle.qrcode_core.proofs.symbol.owned.Symbol.sequence.Goals as goal
 pub returns-in_err-symbol-clause-refused : goal.returns-in_err-symbol-clause-refused
 returns-in_err-symbol-clause-refused c =
     let same = to_z-of_z w16 c.args.max_version c.ranges.max_version in
-    let limit = limit_of c.args.max_version _ same c.if-max_version-lt1.false c.if-max_version-gt40.false in
+    let limit = limit_of c.args.max_version _ _ same c.is_normal_number.ensures c.if-not-is_normal_number.false in
     let part = rw c.from.ensures at c.part_at-part.ensures in
     let refused = refused_part c.args.bytes.now c.args.cuts.now c.args.level c.args.max_version (c.min.result + 1) c.loop-index.index
     _ c.in_err-symbol.field-0.0 limit
@@ -19,7 +19,7 @@ returns-in_err-symbol-clause-refused c =
 pub returns-in_err-push-clause-refused : goal.returns-in_err-push-clause-refused
 returns-in_err-push-clause-refused c =
     let same = to_z-of_z w16 c.args.max_version c.ranges.max_version in
-    let limit = limit_of c.args.max_version _ same c.if-max_version-lt1.false c.if-max_version-gt40.false in
+    let limit = limit_of c.args.max_version _ _ same c.is_normal_number.ensures c.if-not-is_normal_number.false in
     let few : IsTotal (length c.args.cuts.now + 1) = (omega (arith, c.min.ensures), omega (arith, c.min.ensures)) in
     grind (arith, limit, few, c.in_err-push.ensures)
 
