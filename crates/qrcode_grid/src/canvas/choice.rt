@@ -7,7 +7,7 @@ ghost use Rattle.qrcode_grid.specs.Masks.{family, IsOfFamily};
 ghost use Rattle.qrcode_grid.specs.Penalty.{score, IsFirstLeast, IsFirstLeastMask};
 
 use crate::canvas::filling::repeated;
-use crate::canvas::masks::{format_words, mask_number};
+use crate::canvas::masks::{family_of, format_words, normal_number};
 use crate::canvas::scoring::{penalties_of, write_colors};
 use crate::canvas::{Canvas, MaskPattern};
 use qrcode_base::symbols::symbol_width;
@@ -24,36 +24,6 @@ fn score_of(version: Version, penalty: usize) -> u16
         Version::Micro(_) => penalty,
     };
     if score < 65535 { score as u16 } else { 65535 }
-}
-
-/// The masks of Normal symbols, in the order of their numbers.
-static NORMAL_FAMILY: [MaskPattern; 8] = [
-    MaskPattern::Checkerboard,
-    MaskPattern::HorizontalLines,
-    MaskPattern::VerticalLines,
-    MaskPattern::DiagonalLines,
-    MaskPattern::LargeCheckerboard,
-    MaskPattern::Fields,
-    MaskPattern::Diamonds,
-    MaskPattern::Meadow,
-];
-
-/// The masks of Micro symbols, in the order of their numbers.
-static MICRO_FAMILY: [MaskPattern; 4] = [
-    MaskPattern::HorizontalLines,
-    MaskPattern::LargeCheckerboard,
-    MaskPattern::Diamonds,
-    MaskPattern::Meadow,
-];
-
-/// Returns the masks that a version has, in the order of their numbers.
-fn family_of(version: Version) -> &'static [MaskPattern]
-    ensures { result.now ≡ family version }
-{
-    match version {
-        Version::Normal(_) => &NORMAL_FAMILY,
-        Version::Micro(_) => &MICRO_FAMILY,
-    }
 }
 
 impl Canvas {
@@ -94,7 +64,7 @@ impl Canvas {
         let numbered = penalties_of(&self.modules, self.version, width, &words, &mut scratch);
         let mut values = Vec::with_capacity(alloc, 8)?;
         for pattern in family_of(self.version) {
-            values.push(numbered[mask_number(*pattern)])?;
+            values.push(numbered[normal_number(*pattern)])?;
         }
         Ok((scratch, values))
     }
@@ -199,6 +169,10 @@ pub fn draw_symbol(
     let (pattern, _, scratch) = canvas.best(alloc)?;
     let width = symbol_width(version);
     let mut colors = repeated(alloc, Color::Light, width * width, 0)?;
-    write_colors(&scratch[..width * width], mask_number(pattern), &mut colors);
+    write_colors(
+        &scratch[..width * width],
+        normal_number(pattern),
+        &mut colors,
+    );
     Ok((colors, pattern))
 }

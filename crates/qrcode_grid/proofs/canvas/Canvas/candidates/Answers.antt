@@ -33,8 +33,8 @@ loop-pattern-preserved c =
     ∙ ap (λ ms. penalty s.version (map color_of_module ms)) (masked_by_number s.version s.level p s.width _ c.deref.result.now s.modules.items
     c.self.invariant.1 (c.format_words-words.ensures p f) c.deref.ensures.value)) pattern known in
     c.in_ok-push.ensures.items ∙ next_penalty d c.loop-pattern.values.items i pattern
-    (get_or c.penalties_of-numbered.result c.mask_number.result 0) c.loop-pattern.invariant here
-    (ap (λ n. get_or c.penalties_of-numbered.result n 0) c.mask_number.ensures.is ∙ value)
+    (get_or c.penalties_of-numbered.result c.normal_number.result 0) c.loop-pattern.invariant here
+    (ap (λ n. get_or c.penalties_of-numbered.result n 0) c.normal_number.ensures.is ∙ value)
 
 pub returns-clause-candidates : goal.returns-clause-candidates
 returns-clause-candidates c =

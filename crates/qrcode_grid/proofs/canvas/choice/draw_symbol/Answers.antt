@@ -22,7 +22,7 @@ colored c =
     written_whole new c.in_ok-colors.colors.items c.in_ok-colors.colors.len (c.write_colors.auto.colors ∙ c.deref_mut.ensures.len)
     ∙ same_colors new (colors_of (with_mask pattern d)) (
     c.write_colors.ensures
-    ∙ ap (λ m. plane m (take size c.deref.result.now)) c.mask_number.ensures.is
+    ∙ ap (λ m. plane m (take size c.deref.result.now)) c.normal_number.ensures.is
     ∙ ap (λ t. plane n (take size t)) c.deref.ensures.value
     ∙ ap (λ k. plane n (take k c.in_ok-pattern.scratch.items)) square
     ∙ c.in_ok-pattern.ensures.candidate)

@@ -7,8 +7,8 @@ use Rattle.qrcode_grid.proofs.WrittenWords.{CellsChanged, row_between, cell_chan
 use Rattle.qrcode_grid.proofs.GridLaws.{near_center}
 use Rattle.qrcode_grid.proofs.canvas.drawing.draw_alignments.Goals as goal
 
-pub returns-then-n-lt2 : goal.returns-then-n-lt2
-returns-then-n-lt2 c = grind (arith, no_alignments)
+pub returns-then-has_none : goal.returns-then-has_none
+returns-then-has_none c = grind (arith, no_alignments)
 
 pub loop-y-init : goal.loop-y-init
 loop-y-init c =

@@ -7,8 +7,8 @@ pub loop-x-init : goal.loop-x-init
 loop-x-init c =
     let n = c.args.n in let w = c.args.width in
     row_begins (λ x y m. drawn_over (version_copies n x y) m) w c.loop-y.y (w - 11) c.args.modules.now c.loop-y.modules (omega arith)
-    (λ x h m. ap (λ o. drawn_over o m) (no_version_before n x c.loop-y.y c.if-n-lt7.false c.loop-y-test.true
-    (omega (arith, h, c.requires.wide, c.if-n-lt7.false)))) c.loop-y.invariant
+    (λ x h m. ap (λ o. drawn_over o m) (no_version_before n x c.loop-y.y c.if-has_none.false c.loop-y-test.true
+    (omega (arith, h, c.requires.wide, c.if-has_none.false)))) c.loop-y.invariant
 
 pub loop-x-preserved : goal.loop-x-preserved
 loop-x-preserved c =
@@ -21,14 +21,14 @@ pub loop-y-preserved : goal.loop-y-preserved
 loop-y-preserved c =
     let n = c.args.n in let w = c.args.width in
     row_ends (λ x y m. drawn_over (version_copies n x y) m) w c.loop-y.y c.loop-x.x c.args.modules.now c.loop-x.modules (omega (arith, c.loop-x.auto.x-end))
-    (λ x low l m. ap (λ o. drawn_over o m) (no_version_behind n x c.loop-y.y c.if-n-lt7.false c.loop-y-test.true
+    (λ x low l m. ap (λ o. drawn_over o m) (no_version_behind n x c.loop-y.y c.if-has_none.false c.loop-y-test.true
     (omega (arith, low, c.loop-x-test.false, c.requires.wide)))) c.loop-x.invariant
 
 pub loop-row-init : goal.loop-row-init
 loop-row-init c =
     let n = c.args.n in let w = c.args.width in
     rows_between (λ x y m. drawn_over (version_copies n x y) m) w c.loop-y.y (w - 11) c.args.modules.now c.loop-y.modules (omega (arith, c.requires.wide))
-    (omega (arith, c.loop-y.auto.y-end, c.requires.wide, c.if-n-lt7.false))
+    (omega (arith, c.loop-y.auto.y-end, c.requires.wide, c.if-has_none.false))
     (λ x y l low high m. ap (λ o. drawn_over o m) (no_version_between n x y (omega (arith, low, c.loop-y-test.false))
     (omega (arith, high, c.requires.wide)))) c.loop-y.invariant
 
@@ -45,7 +45,7 @@ loop-row-preserved c =
     let n = c.args.n in let w = c.args.width in
     row_ends (λ x y m. drawn_over (version_copies n x y) m) w c.loop-row.row c.loop-column.column c.args.modules.now c.loop-column.modules
     (omega (arith, c.loop-column.auto.column-end, c.requires.wide))
-    (λ x low l m. ap (λ o. drawn_over o m) (no_version_beside n x c.loop-row.row c.if-n-lt7.false (omega (arith, c.loop-row.auto.row, c.requires.wide))
+    (λ x low l m. ap (λ o. drawn_over o m) (no_version_beside n x c.loop-row.row c.if-has_none.false (omega (arith, c.loop-row.auto.row, c.requires.wide))
     (omega (arith, low, c.loop-column-test.false)))) c.loop-column.invariant
 
 pub returns : goal.returns
@@ -54,8 +54,8 @@ returns c =
     rows_end (λ x y m. drawn_over (version_copies n x y) m) w w c.args.modules.now c.loop-row.modules Empty (omega arith) c.requires.square
     (rows_between (λ x y m. drawn_over (version_copies n x y) m) w c.loop-row.row w c.args.modules.now c.loop-row.modules (omega (arith, c.requires.wide))
     (omega (arith, c.loop-row.auto.row-end))
-    (λ x y l low h m. ap (λ o. drawn_over o m) (no_version_below n x y c.if-n-lt7.false
+    (λ x y l low h m. ap (λ o. drawn_over o m) (no_version_below n x y c.if-has_none.false
     (omega (arith, low, c.loop-row-test.false, c.requires.wide)))) c.loop-row.invariant)
 
-pub returns-then-n-lt7 : goal.returns-then-n-lt7
-returns-then-n-lt7 c = grind (arith, no_version)
+pub returns-then-has_none : goal.returns-then-has_none
+returns-then-has_none c = grind (arith, no_version)

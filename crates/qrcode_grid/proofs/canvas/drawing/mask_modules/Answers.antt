@@ -10,10 +10,10 @@ loop-x-preserved c =
     let i = y * w + x in
     let old = get_or c.loop-x.modules i Empty in
     let inside : i < length c.args.modules.now = omega (arith, c.requires.square, cell_within w x y c.loop-x-test.true c.loop-y-test.true) in
-    let m = c.mask_number-m.result in
-    let number : pattern_of m ≡ c.args.pattern = ap pattern_of c.mask_number-m.ensures.is ∙ pattern_of-number c.args.pattern in
+    let m = c.normal_number-m.result in
+    let number : pattern_of m ≡ c.args.pattern = ap pattern_of c.normal_number-m.ensures.is ∙ pattern_of-number c.args.pattern in
     let inverted =
-    set_again _ _ (c.write_stripes.ensures m x (y % 12) c.mask_number-m.ensures.small c.loop-x-test.true (omega arith))
+    set_again _ _ (c.write_stripes.ensures m x (y % 12) c.normal_number-m.ensures.small c.loop-x-test.true (omega arith))
     ∙ ap (λ p. is_inverted p x (y % 12)) number ∙ sym (is_inverted-repeats_rows c.args.pattern x y) in
     let at = at_place (λ x y. masked (is_inverted c.args.pattern x y) old) w x y i c.loop-x-test.true (omega arith) in
     let next : i + 1 ≡ y * w + (x + 1) = omega arith in
