@@ -1,5 +1,5 @@
 -- What pushes, failed or not, and the end of a stream say of the bits of a text.
-use Rattle.qrcode_bits.proofs.Prelude.{◌≡◌, ◌∙◌, ℕ, ◌+◌, ◌-◌, ◌^◌, ◌*◌, ◌<◌, ◌≤◌, Bool, true, List, [], ◌∷◌, ◌++◌, length, get_or, ap, sym, refl, subst, arith, inl, inr}
+use Rattle.qrcode_bits.proofs.Prelude.{pos, ◌≡◌, ◌∙◌, ℕ, ◌+◌, ◌-◌, ◌^◌, ◌*◌, ◌<◌, ◌≤◌, Bool, true, List, [], ◌∷◌, ◌++◌, length, get_or, ap, sym, refl, subst, arith, inl, inr}
 use Rattle.qrcode_bits.proofs.Prelude.{length-append, Err, Ok, Some, None, All, slice_get, is_some, cases_lt, common_steps, All-head, All-tail, All-nil}
 use Rattle.qrcode_bits.proofs.Prelude.{All-cons, EcLevel, L, M, Q, H, Byte, Version, QrError, DataTooLong, OutOfMemory, IsValid, characters, count_width, indicator_width}
 use Rattle.qrcode_bits.proofs.Prelude.{number_bits, capacity, normal_blocks, normal, spellings, IsPushRefused, Spells, AreTexts, parsed, segment_piece}
