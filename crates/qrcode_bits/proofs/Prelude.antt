@@ -29,24 +29,22 @@ pub use Rattle.qrcode_base.specs.declared.types.Version.{Version}
 pub use Rattle.qrcode_base.specs.declared.types.Version.TheVariants.{Micro, Normal}
 pub use Rattle.qrcode_base.specs.declared.types.errors.QrError.{QrError}
 pub use Rattle.qrcode_base.specs.declared.types.errors.QrError.TheVariants.{DataTooLong, InvalidVersion, OutOfMemory}
-pub use Rattle.qrcode_bits.specs.Buckets.{AreGroups, AreShortSteps, Enters, HasBucket, InBucket, IsAhead, IsBestStart, IsBetterOf, IsGroup, at, best_start}
-pub use Rattle.qrcode_bits.specs.Buckets.{bits_before, bucket_first, bucket_mode, bucket_rest, bucket_start, first_mode, group_of, key_of, next_plan, no_modes}
-pub use Rattle.qrcode_bits.specs.Buckets.{part_mode, parts_before, period, period_bits, plans_below, short_at, slot, start_told, step_told, told, word_at}
-unfoldable pub use Rattle.qrcode_bits.specs.Buckets.{chosen_plan}
+pub use Rattle.qrcode_bits.specs.Optimizer.{AddsTo, Adds, AreGroups, AreSteps, Groups, HasBucket, InBucket, IsAhead, IsAsGoodAs, IsBelow, IsBestStart, IsBetterOf}
+pub use Rattle.qrcode_bits.specs.Optimizer.{IsStep, KeepsBetter, Merges, Moves, StandsFor, at, best_start, bits_before, bucket_first, bucket_mode, bucket_rest}
+pub use Rattle.qrcode_bits.specs.Optimizer.{first_mode, found, groups_of, key_of, next_plan, part_mode, parts_before, period, period_bits, plans_below, slot_of}
+unfoldable pub use Rattle.qrcode_bits.specs.Optimizer.{chosen_plan}
 pub use Rattle.qrcode_bits.specs.Frame.{HasHeader, Header, IsFrame, IsTotal, ended, half_byte, half_byte_width, header_of, header_bits, message}
 pub use Rattle.qrcode_bits.specs.Frame.{padding, spellings, tail, terminator_width}
 unfoldable pub use Rattle.qrcode_bits.specs.Frame.{bytes_in_turn}
 pub use Rattle.qrcode_bits.specs.Parsing.{AreTexts, Class, Digit, LoneLead, Other, Pair, Run, Sign, add_unit, class_mode, class_number, class_of, class_size}
 pub use Rattle.qrcode_bits.specs.Parsing.{joins, parsed, run_segment, runs, units}
-pub use Rattle.qrcode_bits.specs.Plans.{AreSteps, Fits, FitsNone, FitsNot, HasLinearCosts, IsAsGood, IsChoice, IsChosen, IsChosenPlan, IsClass}
-pub use Rattle.qrcode_bits.specs.Plans.{IsLeastBits, IsLeastHolding, IsMergePlan, IsMinVersion, IsNoWorse, IsPlan, IsStep, StartsNoEarlier}
-pub use Rattle.qrcode_bits.specs.Plans.{merged, merged_all, micro, normal, part, part_bits, parts, plan_bits, segment_at, segment_bits, step_at, total_bits}
+pub use Rattle.qrcode_bits.specs.Plans.{Fits, FitsNone, FitsNot, HasLinearCosts, IsAsGood, IsChoice, IsChosen, IsChosenPlan, IsClass}
+pub use Rattle.qrcode_bits.specs.Plans.{IsLeastBits, IsLeastHolding, IsMergePlan, IsMinVersion, IsNoWorse, IsPlan, StartsNoEarlier}
+pub use Rattle.qrcode_bits.specs.Plans.{merged, merged_all, micro, normal, part, part_bits, parts, plan_bits, segment_at, segment_bits, total_bits}
 pub use Rattle.qrcode_bits.specs.Push.{Ends, EndsAtLevel, IsEncoding, IsEncodingRefused, IsEndRefused, IsLevelRefused, IsPartRefused}
 pub use Rattle.qrcode_bits.specs.Push.{IsPlanStream, IsPushRefused, IsUnencodable, PushesDrawn, PushesPieces, Spells, SpellsAll, StopsAt, with_modes}
 pub use Rattle.qrcode_bits.specs.Spelling.{IsSpellable, IsSpelling, LiesIn, Piece, character_bits, segment_piece, segment_pieces, spelling}
-pub use Rattle.qrcode_bits.specs.Stream.{Appends, IsKept, Reserves, Stream, eci_spelling, kept_bits, room_in}
+pub use Rattle.qrcode_bits.specs.Stream.{Appends, IsKept, Reserves, Stream, eci_spelling, kept_bits, no_modes, room_in}
 pub use Rattle.qrcode_bits.specs.declared.optimize.Segment.{Segment}
-pub use Rattle.qrcode_bits.specs.declared.optimize.general.Groups.{Groups}
-pub use Rattle.qrcode_bits.specs.declared.optimize.short.TheConstants.{PERIOD_BITS, RESTS}
+pub use Rattle.qrcode_bits.specs.declared.optimize.linear.TheConstants.{RESTS}
 pub use Rattle.qrcode_bits.specs.declared.optimize.candidate.Candidate.{Candidate}
-pub use Rattle.qrcode_bits.specs.declared.optimize.general.Step.{Step}

@@ -1,12 +1,25 @@
 //! Starts of the last part of a plan of short data, and the one function that compares two of them.
 
-ghost use Rattle.std.specs.Prelude.{◌≡◌, ◌+◌, ◌*◌, ◌-◌, ◌/◌, ◌%◌, ◌^◌, ◌<◌, ◌≤◌, min};
-ghost use Rattle.std.specs.Bool.{OnTrue, OnFalse};
-ghost use Rattle.qrcode_bits.specs.Buckets.{word_of};
+ghost use Rattle.std.proofs.Common.{rules};
+ghost use Rattle.std.specs.Prelude.{◌≡◌, ◌+◌, ◌*◌, ◌-◌, ◌/◌, ◌%◌, ◌^◌, ◌<◌, ◌≤◌};
+ghost use Rattle.qrcode_bits.specs.Optimizer.{start_of};
 
 use super::Comparisons;
+use super::any_start::AnyStart;
 use std::marker::Model;
 use std::sync::ledger::Ledger;
+
+/// How many low bits of a word hold the index of the segment, or how far it is from the last one.
+const INDEX_WIDTH: u32 = 13;
+
+/// The place of the number of bits in a word, after the index and the number of parts.
+const BITS_SHIFT: u32 = 26;
+
+/// The greatest index.
+const LAST_INDEX: u64 = 8191;
+
+/// No start has a word of this size.
+const NO_START: u64 = 1 << 63;
 
 /// A possible start of the last part, or none, in a word of 64 bits: the number of bits of the plan
 /// in the high bits, then 13 bits for its number of parts, then 13 bits that decrease as the index
@@ -28,88 +41,48 @@ impl Model for Start {
     ghost inverse = { λ word. record { word = word } };
 }
 
-impl Start {
-    /// Returns the start at the segment of an index, for a plan of `bits` bits in `parts` parts.
-    pub fn new(bits: u64, parts: usize, index: usize) -> Self
-        requires bits { bits < 2 ^ 20 }
-        requires parts { parts < 8192 }
-        requires index { index < 8192 }
-        ensures word { result ≡ word_of bits parts index }
-        ensures small { result < 2 ^ 46 }
-    {
-        Start {
-            word: (bits << 26) + ((parts as u64) << 13) + (8191 - index as u64),
-        }
+impl AnyStart for Start {
+    ghost FAR = { 8192 };
+
+    ghost read = { start_of };
+
+    const FAR: u128 = 8192;
+
+    ghost wide = { Prim.search rules };
+
+    ghost narrow = { Prim.search rules };
+
+    fn first() -> Self {
+        Start { word: LAST_INDEX }
     }
 
-    /// Returns the word for no start.
-    pub fn none() -> Self
-        ensures { result ≡ 18446744073709551615 }
-    {
+    fn none() -> Self {
         Start { word: u64::MAX }
     }
 
-    /// Returns whether this is a start. The words of starts are far below that of none.
-    pub fn is_some(&self) -> bool
-        ensures some { OnTrue result (self.now < 2 ^ 50) }
-        ensures none { OnFalse result (2 ^ 50 ≤ self.now) }
-    {
-        self.word < 1 << 50
+    fn is_some(&self) -> bool {
+        self.word < NO_START
     }
 
-    /// Returns the same start with `more` bits added and `less` bits subtracted.
-    pub fn moved(&self, more: u64, less: u64) -> Self
-        requires some { self.now < 2 ^ 50 }
-        requires more { more < 2 ^ 18 }
-        requires less { less ≤ self.now / 2 ^ 26 + more }
-        ensures { result ≡ self.now + more * 2 ^ 26 - less * 2 ^ 26 }
-    {
+    fn index(&self) -> usize {
+        (LAST_INDEX - self.word % (1 << INDEX_WIDTH)) as usize
+    }
+
+    fn next(&self, index: usize) -> Self {
+        let plan = self.word >> INDEX_WIDTH;
         Start {
-            word: self.word + (more << 26) - (less << 26),
+            word: ((plan + 1) << INDEX_WIDTH) + (LAST_INDEX - index as u64),
         }
     }
 
-    /// Returns the number of bits of the plan.
-    pub fn bits(&self) -> u64
-        ensures { result ≡ self.now / 2 ^ 26 }
-    {
-        self.word >> 26
+    fn moved(&self, more: u128, less: u128) -> Self {
+        Start {
+            word: self.word + ((more as u64) << BITS_SHIFT) - ((less as u64) << BITS_SHIFT),
+        }
     }
 
-    /// Returns the number of parts of the plan, including the last one.
-    pub fn parts(&self) -> usize
-        ensures { result ≡ self.now % 2 ^ 26 / 2 ^ 13 }
-    {
-        (self.word % (1 << 26) >> 13) as usize
-    }
-
-    /// Returns the index of the segment at which the last part starts.
-    pub fn index(&self) -> usize
-        ensures { result ≡ 8191 - self.now % 2 ^ 26 % 2 ^ 13 }
-    {
-        8191 - (self.word % (1 << 26) % (1 << 13)) as usize
-    }
-
-    /// Returns whether this start is better than another one. Nothing else compares two starts, and
-    /// each call is counted.
-    pub fn is_better<L: Ledger>(&self, other: &Start, comparisons: &mut Comparisons<L>) -> bool
-        ensures wins { OnTrue result (self.now < other.now) }
-        ensures loses { OnFalse result (other.now ≤ self.now) }
-        ensures ticked { comparisons.new ≡ comparisons.old + 1 }
-    {
+    fn is_better<L: Ledger>(&self, other: &Self, comparisons: &mut Comparisons<L>) -> bool {
         comparisons.tick();
         self.word < other.word
-    }
-
-    /// Returns the better of two starts.
-    pub fn better<L: Ledger>(&self, other: &Start, comparisons: &mut Comparisons<L>) -> Start
-        ensures better { result ≡ min self.now other.now }
-        ensures ticked { comparisons.new ≡ comparisons.old + 1 }
-    {
-        if other.is_better(self, comparisons) {
-            *other
-        } else {
-            *self
-        }
     }
 }

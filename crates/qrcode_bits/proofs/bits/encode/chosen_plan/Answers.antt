@@ -1,6 +1,6 @@
 -- The chosen plan decides whether some plan fits.
 use Rattle.qrcode_bits.proofs.Prelude.{List, sym, subst, arith, Segment, capacity, IsChosenPlan, cases_lt, common_steps, parsed}
-use Rattle.qrcode_bits.specs.Buckets.{IsShort}
+use Rattle.qrcode_bits.specs.Optimizer.{IsShort}
 use Rattle.qrcode_bits.proofs.{Adjoining.parsed-short, Pairs.bytes_valid, Choices.chosen_is_plan, Lengths.dense_message, ReadBack.short-chosen}
 use Rattle.qrcode_bits.proofs.Classes.{known_limit, short-linear, plan_ordered, plan_small, counted_all, counted_more, chosen_fits_here, lacks_mode}
 use Rattle.qrcode_bits.proofs.Classes.{lacks_number, too_many, modes_all, modes_lack}
