@@ -1,8 +1,8 @@
 -- A text names one level at most.
 use Rattle.std.proofs.Common.{◌≡◌, ℕ, sym, ◌∙◌, List, arith}
 use Rattle.std.specs.Prelude.{◌==◌, ◌||◌, if◌then◌else◌, slice_index}
-use Rattle.qrcode_core.specs.declared.types.EcLevel.TheVariants.{L, M, Q, H}
-use Rattle.qrcode_core.specs.{declared.types.EcLevel.EcLevel, Names.NamesLevel}
+use Rattle.qrcode_base.specs.declared.types.EcLevel.TheVariants.{L, M, Q, H}
+use Rattle.qrcode_base.specs.{declared.types.EcLevel.EcLevel, Names.NamesLevel}
 
 -- the level that a letter names
 letter : ℕ → EcLevel

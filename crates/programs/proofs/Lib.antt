@@ -1,2 +1,3 @@
 pub mod DeviceLemmas
 pub mod Levels
+pub mod Ranges

@@ -1,112 +1,107 @@
--- The outcome of a program that draws its input.
---
--- `Shows` says what is drawn of which bytes, and `Refuses` which error comes for which bytes.
--- `unread` and `left` are the bytes of the reader before and after, `written` and `now` those of
--- the writer, and `before` and `after` those of the error output. `deaf`, `dumb` and `mute` say
--- whether the reader, the writer and the error output failed.
-use Rattle.std.specs.Prelude.{◌≢◌, ◌⊎◌, ℕ, Bool, List, ◌++◌, [], ◌∷◌, Option, codes, Result, Ok, Err, ◌≡◌, ◌↔◌, IsTrue}
-use Rattle.std.specs.Prelude.{IsErrOf, true, false}
+-- The outcome of a program that draws its input: `shows` says what is drawn of which bytes, and
+-- `refuses` which error comes for which bytes.
+use Rattle.std.specs.Prelude.{◌≡◌, ◌≢◌, ◌+◌, ◌↔◌, ℕ, List, [], ◌∷◌, ◌++◌, codes}
+use Rattle.std.specs.Prelude.{Result, Ok, Err, IsTrue, IsErrOf}
 use Rattle.std.specs.Io.KnownBytes.{Keeps, Appends}
-use Rattle.qrcode_core.specs.Names.{error_text}
-use Rattle.qrcode_core.specs.declared.types.errors.QrError.TheVariants.{OutOfMemory}
+use Rattle.qrcode_base.specs.Names.{error_text}
+use Rattle.qrcode_base.specs.declared.symbols.TheConstants.{LONGEST_DATA}
+use Rattle.qrcode_base.specs.declared.types.errors.QrError.{QrError}
+use Rattle.qrcode_base.specs.declared.types.errors.QrError.TheVariants.{OutOfMemory}
 use Rattle.programs.specs.declared.Fault.{Fault}
 use Rattle.programs.specs.declared.Fault.TheVariants.{Symbol, Read, Write}
-use Rattle.programs.specs.Devices.{Writes, ReadsAll, ReadsEnough, AppendsBeginning}
-use Rattle.qrcode_core.specs.declared.types.errors.QrError.{QrError}
-use Rattle.qrcode_core.specs.declared.types.Color.{Color}
-use Rattle.qrcode_core.specs.declared.types.EcLevel.{EcLevel}
-use Rattle.qrcode_core.specs.Headline.{IsBestSymbol, IsBestMicroSymbol, IsRefusal}
-use Rattle.qrcode_core.specs.Push.{IsMicroRefused}
+use Rattle.programs.specs.Devices.{Input, Output, Writes, WritesBeginning}
+use Rattle.programs.specs.Devices.{ReadsAll, ReadsEnough, ReadsWithin}
 
 -- ---- The text of an error, and the exit status
 
 -- The text of an error.
-abbrev pub words_of : Fault → List ℕ
-words_of (Symbol error) = error_text error
-words_of Read = codes "read failed"
-words_of Write = codes "write failed"
+abbrev pub fault_text : Fault → List ℕ
+fault_text (Symbol error) = error_text error
+fault_text Read = codes "read failed"
+fault_text Write = codes "write failed"
 
--- The line that a program writes about an outcome: none after success, else its name, the text of
--- the error, and a newline.
-abbrev pub told : List ℕ → Result (Unit {0}) Fault → List ℕ
-told program (Ok done) = []
-told program (Err error) = program ++ codes ": " ++ words_of error ++ 10 ∷ []
+-- The line of an error: the name of the program, the text of the error, and a newline.
+abbrev pub error_line : List ℕ → Fault → List ℕ
+error_line program fault = program ++ (codes ": " ++ (fault_text fault ++ 10 ∷ []))
+
+-- What a program writes about an outcome: nothing after success, else the line of the error.
+abbrev pub report : List ℕ → Result (Unit {0}) Fault → List ℕ
+report program (Ok done) = []
+report program (Err fault) = error_line program fault
 
 -- The exit status: 0 after success, 1 after an error.
-abbrev pub status_of : Result (Unit {0}) Fault → ℕ
-status_of (Ok done) = 0
-status_of (Err error) = 1
+abbrev pub exit_status : Result (Unit {0}) Fault → ℕ
+exit_status (Ok done) = 0
+exit_status (Err fault) = 1
 
--- The line was written. A line about anything but `OutOfMemory` needs memory, and is left out if
--- there is none.
-abbrev pub Says : List ℕ → Option (List ℕ) → Option (List ℕ) → Bool → Result (Unit {0}) Fault → Type 0
-Says program before after mute outcome =
-    Writes before after mute (told program outcome) ⊎ ((outcome ≢ Err (Symbol OutOfMemory)) × Keeps before after)
+-- ---- What is written
 
 -- The drawing shows all bytes that were there to be read, and nothing is left.
-pub record IsDrawing (Shows : List ℕ → List ℕ → Type 0) (unread left : Option (List ℕ))
+pub record IsDrawing (shows : List ℕ → List ℕ → Type 0) (input : Input)
     (drawing : List ℕ) : Type 0 where
   pub bytes : List ℕ
-  pub read : ReadsAll unread left bytes
-  pub shows : Shows bytes drawing
+  pub read : ReadsAll input bytes
+  pub shown : shows bytes drawing
 
 -- The drawing was written, and everything that was written was flushed.
-pub record Draws (Shows : List ℕ → List ℕ → Type 0) (unread left written now handed_on : Option (List ℕ)) : Type 0 where
+pub record WritesDrawing (shows : List ℕ → List ℕ → Type 0)
+    (input : Input) (output : Output) : Type 0 where
   pub drawing : List ℕ
-  pub is_drawing : IsDrawing Shows unread left drawing
-  pub appends : Appends written now drawing
-  pub flushed : handed_on ≡ now
+  pub is_drawing : IsDrawing shows input drawing
+  pub appends : Appends output.before output.after drawing
+  pub flushed : output.flushed ≡ output.after
 
 -- A beginning of the drawing was written.
-pub record Begins (Shows : List ℕ → List ℕ → Type 0) (unread left written now : Option (List ℕ)) : Type 0 where
+pub record BeginsDrawing (shows : List ℕ → List ℕ → Type 0)
+    (input : Input) (output : Output) : Type 0 where
   pub drawing : List ℕ
-  pub is_drawing : IsDrawing Shows unread left drawing
-  pub beginning : AppendsBeginning written now drawing
+  pub is_drawing : IsDrawing shows input drawing
+  pub beginning : WritesBeginning output drawing
 
 -- The error is that of the bytes that were read.
-pub record IsRefused (Refuses : List ℕ → QrError → Type 0) (error : QrError)
-    (unread left : Option (List ℕ)) : Type 0 where
+pub record IsRefused (refuses : List ℕ → QrError → Type 0)
+    (error : QrError) (input : Input) : Type 0 where
   pub bytes : List ℕ
-  pub read : ReadsEnough unread left bytes
-  pub refusal : Refuses bytes error
+  pub read : ReadsEnough input bytes
+  pub refusal : refuses bytes error
 
--- The fact is true if the error is one of the symbol's call, other than `OutOfMemory`.
-abbrev pub IfRefused : (QrError → Type 0) → Fault → Type 0
-IfRefused P (Symbol error) = error ≢ OutOfMemory → P error
-IfRefused P Read = Unit {0}
-IfRefused P Write = Unit {0}
-
--- The outcome of a drawing. On success everything was drawn and flushed, and nothing else was
+-- What is written for an outcome. On success everything was drawn and flushed, and nothing else was
 -- written. After an error of the symbol's call, or of the reader, nothing was written. After an
 -- error of the writer a beginning of the drawing was written.
-abbrev pub Gives : (List ℕ → List ℕ → Type 0) → (List ℕ → QrError → Type 0) →
-    (unread left written now handed_on : Option (List ℕ)) → Result (Unit {0}) Fault → Type 0
-Gives Shows Refuses unread left written now handed_on (Ok done) = Draws Shows unread left written now handed_on
-Gives Shows Refuses unread left written now handed_on (Err (Symbol error)) =
-    (error ≢ OutOfMemory → IsRefused Refuses error unread left) × Keeps written now
-Gives Shows Refuses unread left written now handed_on (Err Read) = Keeps written now
-Gives Shows Refuses unread left written now handed_on (Err Write) = Begins Shows unread left written now
+abbrev pub WritesOutcome : (List ℕ → List ℕ → Type 0) → (List ℕ → QrError → Type 0) →
+    Input → Output → Result (Unit {0}) Fault → Type 0
+WritesOutcome shows refuses input output (Ok done) = WritesDrawing shows input output
+WritesOutcome shows refuses input output (Err (Symbol error)) =
+    (error ≢ OutOfMemory → IsRefused refuses error input) × Keeps output.before output.after
+WritesOutcome shows refuses input output (Err Read) = Keeps output.before output.after
+WritesOutcome shows refuses input output (Err Write) = BeginsDrawing shows input output
 
--- The drawing was made, and the status and the line are those of its outcome. The error is `Read`
--- exactly if the reader failed, and `Write` exactly if the writer failed.
-pub record Serves (Shows : List ℕ → List ℕ → Type 0) (Refuses : List ℕ → QrError → Type 0) (program : List ℕ)
-    (unread left written now handed_on before after : Option (List ℕ)) (deaf dumb mute : Bool)
-    (status : ℕ) : Type 0 where
+-- The outcome of a drawing: what was written, and the error is `Read` exactly if reading failed,
+-- and `Write` exactly if writing failed.
+pub record IsOutcome (shows : List ℕ → List ℕ → Type 0) (refuses : List ℕ → QrError → Type 0)
+    (input : Input) (output : Output) (outcome : Result (Unit {0}) Fault) : Type 0 where
+  pub writes : WritesOutcome shows refuses input output outcome
+  pub read : IsErrOf outcome Read ↔ IsTrue input.failed
+  pub write : IsErrOf outcome Write ↔ IsTrue output.failed
+
+-- ---- What a program does for its arguments
+
+-- The arguments ask for nothing.
+abbrev pub AskForNone : {R : Type 0} → (List (List ℕ) → R → Type 0) → List (List ℕ) → Type 0
+AskForNone {R} asks words = (request : R) → asks words request → ⊥
+
+-- The arguments ask for this request, and for no other.
+pub record AskForOne {R : Type 0} (asks : List (List ℕ) → R → Type 0)
+    (words : List (List ℕ)) (request : R) : Type 0 where
+  pub asked : asks words request
+  pub only : (other : R) → asks words other → other ≡ request
+
+-- The input was drawn, and the status and the line on the error output are those of the outcome. At
+-- most one byte more was read than the longest data has.
+pub record Serves (shows : List ℕ → List ℕ → Type 0) (refuses : List ℕ → QrError → Type 0)
+    (program : List ℕ) (input : Input) (output errors : Output) (status : ℕ) : Type 0 where
   pub outcome : Result (Unit {0}) Fault
-  pub gives : Gives Shows Refuses unread left written now handed_on outcome
-  pub read : IsErrOf outcome Read ↔ IsTrue deaf
-  pub write : IsErrOf outcome Write ↔ IsTrue dumb
-  pub status_is : status ≡ status_of outcome
-  pub says : Says program before after mute outcome
-
--- ---- The symbol that a program draws, and the error if there is none
-
--- The modules are the best symbol, or with `true` the best Micro symbol, of the bytes.
-abbrev pub IsSymbolOf : Bool → EcLevel → List ℕ → List Color → Type 0
-IsSymbolOf false level bytes = IsBestSymbol bytes level
-IsSymbolOf true level bytes = IsBestMicroSymbol bytes level
-
--- The call for that symbol fails with this error.
-abbrev pub IsRefusalOf : Bool → EcLevel → List ℕ → QrError → Type 0
-IsRefusalOf false level bytes = IsRefusal bytes level
-IsRefusalOf true level bytes = IsMicroRefused bytes level
+  pub is_outcome : IsOutcome shows refuses input output outcome
+  pub within : ReadsWithin (LONGEST_DATA + 1) input
+  pub status_is : status ≡ exit_status outcome
+  pub reported : Writes errors (report program outcome)

@@ -4,12 +4,13 @@ use Rattle.std.proofs.Common.{append-nil}
 use Rattle.std.specs.Prelude.{if◌then◌else◌}
 use Rattle.std.{specs.List.range_with_len, proofs.Math.Pow.pow_mono, proofs.lemmas.Grind.pow_more, proofs.lemmas.List.FromFn.map-range_with_len_more}
 use Rattle.std.{proofs.lemmas.Nat.div-mul-add, proofs.lemmas.List.Sums.fold-append}
-use Rattle.qrlabel.specs.Bitmaps.{number_of, byte_of, row_of, first_rows}
-use Rattle.qrlabel.{specs.Pictures.Picture, specs.Pictures.width_of, specs.Pictures.is_dark_module, proofs.Ranges.flat_map_range}
+use Rattle.qrlabel.specs.Bitmaps.{bits_number, pixel_byte, bitmap_row, first_rows}
+use Rattle.qrlabel.{specs.Pictures.Picture, specs.Pictures.pixel_width, specs.Pictures.is_dark_module}
+use Rattle.programs.proofs.Ranges.{flat_map_range}
 
 -- the number that the tests of n places from x on spell
 abbrev pub spelled : (ℕ → Bool) → ℕ → ℕ → ℕ
-spelled f x n = number_of (map f (range_with_len x n))
+spelled f x n = bits_number (map f (range_with_len x n))
 
 -- one bit more
 pub spelled_more : (f : ℕ → Bool) (x n : ℕ) → spelled f x (n + 1) ≡ spelled f x n * 2 + (if f (x + n) then 1 else 0)
@@ -28,22 +29,22 @@ pub rows_none : (p : Picture) → first_rows p 0 ≡ []
 unfolding first_rows
 rows_none p = refl
 
-rows_more : (p : Picture) (n : ℕ) → first_rows p (n + 1) ≡ first_rows p n ++ row_of p n
+rows_more : (p : Picture) (n : ℕ) → first_rows p (n + 1) ≡ first_rows p n ++ bitmap_row p n
 unfolding first_rows
-rows_more p n = flat_map_range (row_of p) n
+rows_more p n = flat_map_range (bitmap_row p) n
 
 -- rows of pixels in one row of modules are the same
-row_same : (p : Picture) (y z : ℕ) → y / p.scale ≡ z / p.scale → row_of p y ≡ row_of p z
-unfolding row_of byte_of
-row_same p y z e = grind (arith, is_dark_module, range_with_len, width_of)
+row_same : (p : Picture) (y z : ℕ) → y / p.scale ≡ z / p.scale → bitmap_row p y ≡ bitmap_row p z
+unfolding bitmap_row pixel_byte
+row_same p y z e = grind (arith, is_dark_module, range_with_len, pixel_width)
 
 -- one byte more of a row
-pub bytes_more : (p : Picture) (y n : ℕ) → map (byte_of p y) (range_with_len 0 (n + 1)) ≡ map (byte_of p y) (range_with_len 0 n) ++ byte_of p y n ∷ []
-bytes_more p y n = map-range_with_len_more (byte_of p y) 0 n n (omega arith)
+pub bytes_more : (p : Picture) (y n : ℕ) → map (pixel_byte p y) (range_with_len 0 (n + 1)) ≡ map (pixel_byte p y) (range_with_len 0 n) ++ pixel_byte p y n ∷ []
+bytes_more p y n = map-range_with_len_more (pixel_byte p y) 0 n n (omega arith)
 
 -- one copy more of the upper row of pixels of a row of modules
 pub rows_copy : (p : Picture) (scale row copy : ℕ) → p.scale ≡ scale → copy < scale →
-    first_rows p (row * scale + (copy + 1)) ≡ first_rows p (row * scale + copy) ++ row_of p (row * scale)
+    first_rows p (row * scale + (copy + 1)) ≡ first_rows p (row * scale + copy) ++ bitmap_row p (row * scale)
 rows_copy p scale row copy e below =
     let next : row * scale + (copy + 1) ≡ (row * scale + copy) + 1 = omega arith in
     let start : row * scale + 0 ≡ row * scale = omega arith in

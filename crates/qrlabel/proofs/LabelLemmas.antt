@@ -5,18 +5,18 @@ use Rattle.qrcode_core.specs.declared.plugin.error.PluginError.TheVariants.{Inva
 use Rattle.qrcode_core.specs.{declared.plugin.config.RenderConfig.RenderConfig, declared.plugin.error.PluginError.PluginError}
 use Rattle.qrcode_core.specs.{declared.plugin.output.RenderOutput.RenderOutput, Plugins.render_options, Grids.Grid}
 use Rattle.qrlabel.specs.declared.wanted.Format.TheVariants.{Svg, Pbm, Terminal}
-use Rattle.qrlabel.specs.Rendered.{Renders, Draws, IsDrawable, IsOutput, ShowsBitmap, ShowsSvg, ShowsTerminal}
+use Rattle.qrlabel.specs.Rendered.{Renders, DrawsGrid, IsDrawable, IsOutput, ShowsBitmap, ShowsSvg, ShowsTerminal}
 use Rattle.qrlabel.{specs.declared.wanted.Format.Format, specs.Labels.picture_as, specs.Named.RendersByName, specs.Options.Asks, specs.Pictures.Picture}
-use Rattle.qrlabel.{specs.Pictures.picture, specs.Words.format_word, proofs.AskLemmas.one_number, proofs.AskLemmas.one_flag}
+use Rattle.qrlabel.{specs.Pictures.picture, specs.Words.format_argument, proofs.AskLemmas.one_number, proofs.AskLemmas.one_flag}
 
 module _ (grid : Grid) (config : RenderConfig) (scale quiet : ℕ) (inverted : Bool) (asks : (usual : ℕ) →
     Asks usual (render_options config) scale quiet inverted) where
   -- The drawing is the one that is asked for.
-  one_drawing : (usual : ℕ) (Shows : Bool → Picture → RenderOutput → Type 0) (output : RenderOutput) → Draws usual Shows grid config output →
+  one_drawing : (usual : ℕ) (Shows : Bool → Picture → RenderOutput → Type 0) (output : RenderOutput) → DrawsGrid usual Shows grid config output →
       Shows inverted (picture grid scale quiet) output
   one_drawing usual Shows output d = grind (arith, one_number, one_flag)
 
-  written : (format : Format) (output : RenderOutput) → RendersByName (format_word format) grid config (Ok output) →
+  written : (format : Format) (output : RenderOutput) → RendersByName (format_argument format) grid config (Ok output) →
       IsOutput output (picture_as format inverted (picture grid scale quiet))
   written format output h = grind (arith, one_drawing)
 
@@ -28,16 +28,16 @@ module _ (grid : Grid) (config : RenderConfig) (scale quiet : ℕ) (inverted : B
   wants_memory usual Shows OutOfMemory small h = refl
   wants_memory usual Shows other small h = absurd h
 
-  refused : (format : Format) (error : PluginError) → IsDrawable grid → RendersByName (format_word format) grid config (Err error) → error ≡ OutOfMemory
+  refused : (format : Format) (error : PluginError) → IsDrawable grid → RendersByName (format_argument format) grid config (Err error) → error ≡ OutOfMemory
   refused Svg error small h = wants_memory 8 ShowsSvg error small (h.svg refl)
   refused Pbm error small h = wants_memory 8 ShowsBitmap error small (h.pbm refl)
   refused Terminal error small h = wants_memory 1 ShowsTerminal error small (h.terminal refl)
 
-  pub answer_drawn : (format : Format) (answer : Result RenderOutput PluginError) → RendersByName (format_word format) grid config answer →
+  pub answer_drawn : (format : Format) (answer : Result RenderOutput PluginError) → RendersByName (format_argument format) grid config answer →
       IfOk answer (λ output. IsOutput output (picture_as format inverted (picture grid scale quiet)))
   answer_drawn format answer h = grind (arith, written)
 
-  pub answer_refused : (format : Format) (answer : Result RenderOutput PluginError) → IsDrawable grid → RendersByName (format_word format) grid config answer →
+  pub answer_refused : (format : Format) (answer : Result RenderOutput PluginError) → IsDrawable grid → RendersByName (format_argument format) grid config answer →
       IfErr answer (λ e. e ≡ OutOfMemory)
   answer_refused format answer h k = grind (arith, refused)
 

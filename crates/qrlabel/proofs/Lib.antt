@@ -1,4 +1,3 @@
-pub mod Ranges
 pub mod BitmapLemmas
 pub mod TerminalLemmas
 pub mod PathLemmas

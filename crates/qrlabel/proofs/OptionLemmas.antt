@@ -3,10 +3,10 @@ use Rattle.std.proofs.Common.{◌≡◌, ℕ, ◌^◌, ◌<◌, ◌≤◌, Bool,
 use Rattle.std.{specs.Prelude.codes, specs.Prelude.decimal, specs.Str.Parse.digits_value, proofs.lemmas.Fmt.decimal_is_IsNumeral}
 use Rattle.std.{proofs.lemmas.Str.Parse.digit_at, proofs.lemmas.Str.Parse.without_leading_plus_none}
 use Rattle.qrcode_core.specs.Plugins.{TextMap, with_entry}
-use Rattle.qrlabel.specs.Options.{IsNumber, AsksFlag, Asks}
+use Rattle.qrlabel.specs.Options.{IsDecimalText, AsksFlag, Asks}
 
 -- a number's decimal digits are that number
-written : (n : ℕ) → n < 2 ^ 64 → IsNumber (decimal n) n
+written : (n : ℕ) → n < 2 ^ 64 → IsDecimalText (decimal n) n
 written n small = grind (arith, decimal_is_IsNumeral, digit_at, without_leading_plus_none, digits_value)
 
 abbrev three : (s q i : List ℕ) → TextMap (List ℕ)

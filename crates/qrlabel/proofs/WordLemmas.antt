@@ -4,7 +4,7 @@ use Rattle.std.proofs.Common.{ap, arith, append_assoc, append-nil}
 use Rattle.std.proofs.lemmas.Grind.{flat_map-append, common_steps}
 use Rattle.std.proofs.lemmas.List.{take_all, drop_all, drop-drop, drop-map, length-map, length-drop}
 use Rattle.std.{specs.Prelude.codes, specs.Str.bytes_eq, proofs.lemmas.Slice.Eq.bytes_eq-Decides, proofs.lemmas.List.Sums.fold-append}
-use Rattle.qrlabel.specs.Words.{Setting, format_word, kind_words, setting_words, spelled}
+use Rattle.qrlabel.specs.Words.{Setting, format_argument, kind_words, setting_words, spelled}
 use Rattle.qrlabel.specs.declared.wanted.{Format.Format, Kind.Kind}
 use Rattle.qrlabel.specs.declared.wanted.{Kind.TheVariants.Micro, Kind.TheVariants.Utf8}
 
@@ -106,7 +106,7 @@ counts f a new old done s is was = grind (arith, fold-append)
 apart : (u v : List ℕ) → bytes_eq u v ≡ false → u ≡ v → ⊥
 apart u v test same = grind (arith, bytes_eq, bytes_eq-Decides)
 
-pub one_format : (f g : Format) → format_word f ≡ format_word g → f ≡ g
+pub one_format : (f g : Format) → format_argument f ≡ format_argument g → f ≡ g
 one_format f g h = grind (arith, apart)
 
 -- no options begin with the word of a kind

@@ -1,28 +1,28 @@
 -- A picture as a portable bitmap, in its binary form (`P4` of Netpbm).
 use Rattle.std.specs.Prelude.{ℕ, ◌+◌, ◌*◌, ◌/◌, Bool, List, ◌++◌, map, flat_map, fold, codes, decimal, if◌then◌else◌}
 use Rattle.std.specs.List.{range_with_len}
-use Rattle.qrlabel.specs.Pictures.{Picture, width_of, height_of, is_dark_pixel}
+use Rattle.qrlabel.specs.Pictures.{Picture, pixel_width, pixel_height, is_dark_pixel}
 
 -- The header: "P4", and the width and the height in decimal digits.
 unfoldable pub header : (width height : ℕ) → List ℕ
 header width height = codes "P4\n" ++ (decimal width ++ (codes " " ++ (decimal height ++ codes "\n")))
 
 -- The number of some bits, the highest first.
-abbrev pub number_of : List Bool → ℕ
-number_of bits = fold (λ n bit. n * 2 + (if bit then 1 else 0)) 0 bits
+abbrev pub bits_number : List Bool → ℕ
+bits_number bits = fold (λ n bit. n * 2 + (if bit then 1 else 0)) 0 bits
 
 -- A byte of row y: one bit for each of the eight pixels from column 8 * place on; dark is 1.
-unfoldable pub byte_of : Picture → ℕ → ℕ → ℕ
-byte_of p y place = number_of (map (λ x. is_dark_pixel p x y) (range_with_len (8 * place) 8))
+unfoldable pub pixel_byte : Picture → ℕ → ℕ → ℕ
+pixel_byte p y place = bits_number (map (λ x. is_dark_pixel p x y) (range_with_len (8 * place) 8))
 
 -- The bytes of row y; light pixels fill up the last byte.
-unfoldable pub row_of : Picture → ℕ → List ℕ
-row_of p y = map (byte_of p y) (range_with_len 0 ((width_of p + 7) / 8))
+unfoldable pub bitmap_row : Picture → ℕ → List ℕ
+bitmap_row p y = map (pixel_byte p y) (range_with_len 0 ((pixel_width p + 7) / 8))
 
 -- The bytes of the first rows, from the top.
 unfoldable pub first_rows : Picture → ℕ → List ℕ
-first_rows p rows = flat_map (row_of p) (range_with_len 0 rows)
+first_rows p rows = flat_map (bitmap_row p) (range_with_len 0 rows)
 
 -- The bitmap: the header and all rows.
 abbrev pub bitmap_of : Picture → List ℕ
-bitmap_of p = header (width_of p) (height_of p) ++ first_rows p (height_of p)
+bitmap_of p = header (pixel_width p) (pixel_height p) ++ first_rows p (pixel_height p)

@@ -1,9 +1,9 @@
 -- A label: the picture of the symbol of some bytes.
-use Rattle.std.specs.Prelude.{◌≡◌, ℕ, Bool, true, false, List, ◌++◌, [], ◌∷◌, Option, codes}
+use Rattle.std.specs.Prelude.{◌≡◌, ℕ, Bool, true, false, List, ◌++◌, [], ◌∷◌, codes}
 use Rattle.qrcode_core.specs.declared.types.EcLevel.{EcLevel}
 use Rattle.qrcode_core.specs.declared.types.errors.QrError.{QrError}
 use Rattle.qrcode_core.specs.Drawn.{DrawnSymbol, drawn_grid}
-use Rattle.programs.specs.Outcome.{Serves, IsSymbolOf, IsRefusalOf}
+use Rattle.programs.specs.Calls.{IsSymbolOf, IsRefusalOf}
 use Rattle.qrlabel.specs.declared.wanted.Format.{Format}
 use Rattle.qrlabel.specs.declared.wanted.Format.TheVariants.{Svg, Pbm, Terminal}
 use Rattle.qrlabel.specs.declared.wanted.Kind.{Kind}
@@ -16,12 +16,14 @@ use Rattle.qrlabel.specs.Texts.{IsTextSymbol, IsTextRefusal}
 use Rattle.qrlabel.specs.Words.{Label}
 
 -- The name of the program.
-abbrev pub program : List ℕ
-program = codes "qrlabel"
+abbrev pub qrlabel_name : List ℕ
+qrlabel_name = codes "qrlabel"
 
 -- The usage line.
-abbrev pub usage : List ℕ
-usage = codes "usage: qrlabel svg|pbm|terminal L|M|Q|H [micro|utf8] [--scale N] [--quiet N] [--inverted]" ++ 10 ∷ []
+abbrev pub qrlabel_usage : List ℕ
+qrlabel_usage =
+    codes "usage: qrlabel svg|pbm|terminal L|M|Q|H [micro|utf8] [--scale N] [--quiet N] [--inverted]"
+    ++ 10 ∷ []
 
 -- The symbol is that of the bytes, of this kind.
 abbrev pub IsSymbolAs : Kind → EcLevel → List ℕ → DrawnSymbol → Type 0
@@ -43,20 +45,15 @@ picture_as Terminal inverted p = terminal_text inverted p
 
 -- The picture of a symbol as the label describes it.
 abbrev pub picture_for : Label → DrawnSymbol → List ℕ
-picture_for asked symbol = picture_as asked.format asked.inverted (picture (drawn_grid symbol) asked.scale asked.quiet)
+picture_for asked symbol =
+    picture_as asked.format asked.inverted (picture (drawn_grid symbol) asked.scale asked.quiet)
 
 -- The label shows the symbol of the bytes.
-pub record Shows (asked : Label) (bytes label : List ℕ) : Type 0 where
+pub record ShowsLabel (asked : Label) (bytes label : List ℕ) : Type 0 where
   pub symbol : DrawnSymbol
   pub is_symbol : IsSymbolAs asked.kind asked.level bytes symbol
   pub label_is : label ≡ picture_for asked symbol
 
 -- The call for the label's symbol fails with this error.
-abbrev pub Refuses : Label → List ℕ → QrError → Type 0
-Refuses asked = IsRefusalAs asked.kind asked.level
-
--- The program drew the label, or reported an error. `deaf`, `dumb` and `mute` say whether the
--- reader, the writer and the error output failed.
-abbrev pub ServesLabel : Label → (unread left written now handed_on before after : Option (List ℕ)) →
-    (deaf dumb mute : Bool) → ℕ → Type 0
-ServesLabel asked = Serves (Shows asked) (Refuses asked) program
+abbrev pub RefusesLabel : Label → List ℕ → QrError → Type 0
+RefusesLabel asked = IsRefusalAs asked.kind asked.level

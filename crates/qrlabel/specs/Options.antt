@@ -4,7 +4,7 @@ use Rattle.std.specs.Str.Parse.{IsNumeral, digits_value, without_leading_plus}
 use Rattle.qrcode_core.specs.Plugins.{TextMap, at_key}
 
 -- The text is a number in decimal digits, with or without a plus sign before it.
-pub record IsNumber (text : List ℕ) (n : ℕ) : Type 0 where
+pub record IsDecimalText (text : List ℕ) (n : ℕ) : Type 0 where
   pub numeral : IsNumeral 10 (without_leading_plus text)
   pub value : digits_value 10 (without_leading_plus text) ≡ n
 
@@ -12,7 +12,7 @@ pub record IsNumber (text : List ℕ) (n : ℕ) : Type 0 where
 -- not given.
 abbrev pub AsksNumber : Option (List ℕ) → (usual least most n : ℕ) → Type 0
 AsksNumber None usual least most n = n ≡ usual
-AsksNumber (Some text) usual least most n = IsNumber text n × (least ≤ n) × (n ≤ most)
+AsksNumber (Some text) usual least most n = IsDecimalText text n × (least ≤ n) × (n ≤ most)
 
 -- The value of a flag: its text is `true` or `false`; if it is not given it is false.
 abbrev pub AsksFlag : Option (List ℕ) → Bool → Type 0

@@ -3,19 +3,19 @@
 use Rattle.std.specs.Prelude.{ℕ, ◌-◌, Bool, if◌then◌else◌, ◌==◌, ◌&&◌, ◌||◌, not}
 use Rattle.std.specs.Prelude.{List, [], ◌++◌, map, drop, flat_map, codes, decimal}
 use Rattle.std.specs.List.{range_with_len, prefix_len}
-use Rattle.qrlabel.specs.Pictures.{Picture, columns_of, rows_of, width_of, height_of, is_dark_module}
+use Rattle.qrlabel.specs.Pictures.{Picture, columns_of, rows_of, pixel_width, pixel_height, is_dark_module}
 
 -- Whether a run begins in column x of row y: the module is dark, and the one to its left is not.
 abbrev pub begins_run : Picture → ℕ → ℕ → Bool
 begins_run p x y = is_dark_module p x y && ((x == 0) || not (is_dark_module p (x - 1) y))
 
 -- Whether each module of row y is dark.
-abbrev pub row_of : Picture → ℕ → List Bool
-row_of p y = map (λ x. is_dark_module p x y) (range_with_len 0 (columns_of p))
+abbrev pub dark_row : Picture → ℕ → List Bool
+dark_row p y = map (λ x. is_dark_module p x y) (range_with_len 0 (columns_of p))
 
 -- The number of dark modules from column x up to the first light one.
-unfoldable pub run_length : Picture → ℕ → ℕ → ℕ
-run_length p x y = prefix_len (λ is_dark. is_dark) (drop x (row_of p y))
+unfoldable pub dark_run_length : Picture → ℕ → ℕ → ℕ
+dark_run_length p x y = prefix_len (λ is_dark. is_dark) (drop x (dark_row p y))
 
 -- The rectangle that covers `length` modules from column x of row y on.
 unfoldable pub rectangle : ℕ → ℕ → ℕ → List ℕ
@@ -25,7 +25,7 @@ rectangle x y length =
 
 -- The rectangle of the run that begins in column x of row y, if one does.
 unfoldable pub run_at : Picture → ℕ → ℕ → List ℕ
-run_at p y x = if begins_run p x y then rectangle x y (run_length p x y) else []
+run_at p y x = if begins_run p x y then rectangle x y (dark_run_length p x y) else []
 
 -- The rectangles of the runs in a row, from the left.
 unfoldable pub row_path : Picture → ℕ → ℕ → List ℕ
@@ -51,4 +51,4 @@ closing = codes "\"/>\n</svg>\n"
 
 -- The document of a picture.
 abbrev pub svg_text : Picture → List ℕ
-svg_text p = opening (width_of p) (height_of p) (columns_of p) (rows_of p) ++ (path p (rows_of p) ++ closing)
+svg_text p = opening (pixel_width p) (pixel_height p) (columns_of p) (rows_of p) ++ (path p (rows_of p) ++ closing)

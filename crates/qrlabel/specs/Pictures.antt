@@ -24,21 +24,21 @@ abbrev pub rows_of : Picture → ℕ
 rows_of p = p.grid.rows + 2 * p.quiet
 
 -- The width in pixels.
-abbrev pub width_of : Picture → ℕ
-width_of p = columns_of p * p.scale
+abbrev pub pixel_width : Picture → ℕ
+pixel_width p = columns_of p * p.scale
 
 -- The height in pixels.
-abbrev pub height_of : Picture → ℕ
-height_of p = rows_of p * p.scale
+abbrev pub pixel_height : Picture → ℕ
+pixel_height p = rows_of p * p.scale
 
 -- Whether there is a dark module.
-abbrev pub is_dark : Option Color → Bool
-is_dark (Some Dark) = true
-is_dark _ = false
+abbrev pub is_dark_color : Option Color → Bool
+is_dark_color (Some Dark) = true
+is_dark_color _ = false
 
 -- Whether the grid has column x of row y, and is dark there.
 abbrev pub is_dark_in : Grid → ℕ → ℕ → Bool
-is_dark_in g x y = nat_lt x g.columns && nat_lt y g.rows && is_dark (color_at g x y)
+is_dark_in g x y = nat_lt x g.columns && nat_lt y g.rows && is_dark_color (color_at g x y)
 
 -- Whether a module is dark, by its column and row from the corner of the quiet zone. Outside the
 -- grid all modules are light.

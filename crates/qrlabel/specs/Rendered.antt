@@ -41,7 +41,7 @@ IsOutput (Bytes list) bytes = list.items ≡ bytes
 IsOutput _ bytes = ⊥
 
 -- The output shows the grid as the options say.
-pub record Draws (usual : ℕ) (Shows : Bool → Picture → RenderOutput → Type 0) (grid : Grid) (config : RenderConfig)
+pub record DrawsGrid (usual : ℕ) (Shows : Bool → Picture → RenderOutput → Type 0) (grid : Grid) (config : RenderConfig)
     (output : RenderOutput) : Type 0 where
   pub scale : ℕ
   pub quiet : ℕ
@@ -52,22 +52,22 @@ pub record Draws (usual : ℕ) (Shows : Bool → Picture → RenderOutput → Ty
 
 -- The errors of a renderer, and when each is returned: the configuration is invalid (`unclear`),
 -- the grid cannot be drawn (`impossible`), or memory ran out.
-abbrev pub IsRefusal : (unclear impossible : Type 0) → PluginError → Type 0
-IsRefusal unclear impossible (InvalidConfig what) = unclear
-IsRefusal unclear impossible (RenderFailed what) = impossible
-IsRefusal unclear impossible OutOfMemory = Unit {0}
-IsRefusal unclear impossible _ = ⊥
+abbrev pub IsRendererRefusal : (unclear impossible : Type 0) → PluginError → Type 0
+IsRendererRefusal unclear impossible (InvalidConfig what) = unclear
+IsRendererRefusal unclear impossible (RenderFailed what) = impossible
+IsRendererRefusal unclear impossible OutOfMemory = Unit {0}
+IsRendererRefusal unclear impossible _ = ⊥
 
 -- The results of a renderer: the output, or the error that the options are invalid or that the grid
 -- is too large.
 abbrev pub Renders : ℕ → (Bool → Picture → RenderOutput → Type 0) → Grid → RenderConfig →
     Result RenderOutput PluginError → Type 0
-Renders usual Shows grid config (Ok output) = Draws usual Shows grid config output
+Renders usual Shows grid config (Ok output) = DrawsGrid usual Shows grid config output
 Renders usual Shows grid config (Err error) =
-    IsRefusal (AsksForNone usual (render_options config)) (IsDrawable grid → ⊥) error
+    IsRendererRefusal (AsksForNone usual (render_options config)) (IsDrawable grid → ⊥) error
 
 -- The results of a renderer's `validate_config`.
 abbrev pub Validates : ℕ → RenderConfig → Result (Unit {0}) PluginError → Type 0
 Validates usual config (Ok done) =
     (scale quiet : ℕ) × (inverted : Bool) × Asks usual (render_options config) scale quiet inverted
-Validates usual config (Err error) = IsRefusal (AsksForNone usual (render_options config)) ⊥ error
+Validates usual config (Err error) = IsRendererRefusal (AsksForNone usual (render_options config)) ⊥ error

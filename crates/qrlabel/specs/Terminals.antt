@@ -3,7 +3,7 @@
 use Rattle.std.specs.Prelude.{ℕ, ◌+◌, ◌*◌, ◌/◌, Bool, true, false, if◌then◌else◌, not}
 use Rattle.std.specs.Prelude.{List, [], ◌∷◌, ◌++◌, flat_map, encode_utf8}
 use Rattle.std.specs.List.{range_with_len}
-use Rattle.qrlabel.specs.Pictures.{Picture, width_of, height_of, is_dark_pixel}
+use Rattle.qrlabel.specs.Pictures.{Picture, pixel_width, pixel_height, is_dark_pixel}
 
 -- The character that fills its upper half, its lower half, both or none: U+2588 for both, U+2580,
 -- U+2584, or a space.
@@ -18,18 +18,18 @@ abbrev pub is_filled : Bool → Picture → ℕ → ℕ → Bool
 is_filled inverted p x y = if inverted then not (is_dark_pixel p x y) else is_dark_pixel p x y
 
 -- The character in column x of a line: the pixels of the rows 2 * line and 2 * line + 1.
-unfoldable pub character : Bool → Picture → ℕ → ℕ → List ℕ
-character inverted p line x =
+unfoldable pub terminal_character : Bool → Picture → ℕ → ℕ → List ℕ
+terminal_character inverted p line x =
     encode_utf8 (half_blocks (is_filled inverted p x (2 * line)) (is_filled inverted p x (2 * line + 1)))
 
 -- A line: one character for each column, and a newline.
-abbrev pub line_of : Bool → Picture → ℕ → List ℕ
-line_of inverted p line = flat_map (character inverted p line) (range_with_len 0 (width_of p)) ++ 10 ∷ []
+abbrev pub terminal_line : Bool → Picture → ℕ → List ℕ
+terminal_line inverted p line = flat_map (terminal_character inverted p line) (range_with_len 0 (pixel_width p)) ++ 10 ∷ []
 
 -- The first lines, from the top.
 unfoldable pub lines_of : Bool → Picture → ℕ → List ℕ
-lines_of inverted p count = flat_map (line_of inverted p) (range_with_len 0 count)
+lines_of inverted p count = flat_map (terminal_line inverted p) (range_with_len 0 count)
 
 -- The text has one line for every two rows. A light row is below an odd last row.
 abbrev pub terminal_text : Bool → Picture → List ℕ
-terminal_text inverted p = lines_of inverted p ((height_of p + 1) / 2)
+terminal_text inverted p = lines_of inverted p ((pixel_height p + 1) / 2)

@@ -1,6 +1,7 @@
 -- Bytes that are drawn as a text in UTF-8, after the ECI designator of UTF-8.
 use Rattle.std.specs.Prelude.{◌≡◌, ℕ, ◌≤◌, List, length, Some, slice_get}
 use Rattle.std.specs.Str.{IsUtf8, IsValidUpTo}
+use Rattle.qrcode_base.specs.declared.symbols.TheConstants.{LONGEST_DATA}
 use Rattle.qrcode_core.specs.declared.types.EcLevel.{EcLevel}
 use Rattle.qrcode_core.specs.declared.types.errors.QrError.{QrError}
 use Rattle.qrcode_core.specs.declared.types.errors.QrError.TheVariants.{DataTooLong, InvalidCharacter, OutOfMemory}
@@ -18,8 +19,8 @@ pub record IsTextSymbol (level : EcLevel) (bytes : List ℕ) (symbol : DrawnSymb
 -- and the byte there; then a text that no version holds.
 abbrev pub IsTextRefusal : EcLevel → List ℕ → QrError → Type 0
 IsTextRefusal level bytes DataTooLong =
-    (length bytes ≤ 7089 → IsUtf8 bytes) × IsRefusedByAll (SaysUtf8 bytes) level DataTooLong
+    (length bytes ≤ LONGEST_DATA → IsUtf8 bytes) × IsRefusedByAll (SaysUtf8 bytes) level DataTooLong
 IsTextRefusal level bytes (InvalidCharacter position byte) =
-    (length bytes ≤ 7089) × IsValidUpTo bytes position × (slice_get bytes position ≡ Some byte)
-IsTextRefusal level bytes OutOfMemory = (length bytes ≤ 7089) × IsUtf8 bytes
+    (length bytes ≤ LONGEST_DATA) × IsValidUpTo bytes position × (slice_get bytes position ≡ Some byte)
+IsTextRefusal level bytes OutOfMemory = (length bytes ≤ LONGEST_DATA) × IsUtf8 bytes
 IsTextRefusal level bytes other = ⊥

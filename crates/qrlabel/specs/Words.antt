@@ -38,10 +38,10 @@ pub data Setting : Type 0 where
   Inverted : Setting
 
 -- The argument of a format.
-abbrev pub format_word : Format → List ℕ
-format_word Svg = codes "svg"
-format_word Pbm = codes "pbm"
-format_word Terminal = codes "terminal"
+abbrev pub format_argument : Format → List ℕ
+format_argument Svg = codes "svg"
+format_argument Pbm = codes "pbm"
+format_argument Terminal = codes "terminal"
 
 -- The arguments of a kind of symbol.
 abbrev pub kind_words : Kind → List (List ℕ)
@@ -92,16 +92,12 @@ is_text _ = false
 -- The arguments describe a label: a format, a level with or without white space around it, a kind
 -- if one is given, and then options in any order. Of repeated options the last one counts.
 -- `--inverted` is valid only for text.
-pub record Ask (words : List (List ℕ)) (asked : Label) : Type 0 where
+pub record AskForLabel (words : List (List ℕ)) (asked : Label) : Type 0 where
   pub level_word : List ℕ
   pub settings : List Setting
-  pub words_are : words ≡ format_word asked.format ∷ level_word ∷ kind_words asked.kind ++ spelled settings
+  pub words_are : words ≡ format_argument asked.format ∷ level_word ∷ kind_words asked.kind ++ spelled settings
   pub level_is : NamesLevel (trim level_word) asked.level
   pub scale_is : AsksNumber (fold with_scale None settings) (usual_scale asked.format) 1 64 asked.scale
   pub quiet_is : AsksNumber (fold with_quiet None settings) (usual_quiet asked.kind) 0 16 asked.quiet
   pub inverted_is : asked.inverted ≡ fold with_inverted false settings
   pub inverts_text : IsTrue asked.inverted → IsTrue (is_text asked.format)
-
--- The arguments describe no label.
-abbrev pub AskForNone : List (List ℕ) → Type 0
-AskForNone words = (asked : Label) → Ask words asked → ⊥

@@ -1,8 +1,8 @@
 //! Pictures as portable bitmaps: the header, then the rows of pixels.
 ghost use Rattle.std.specs.Prelude.{◌≡◌, ◌+◌, ◌*◌, ◌/◌, ◌≤◌, ◌<◌, ◌++◌, map, IfOk, OnOk};
 ghost use Rattle.std.specs.String.{string_bytes};
-ghost use Rattle.qrlabel.specs.Bitmaps.{bitmap_of, byte_of, first_rows, header, row_of};
-ghost use Rattle.qrlabel.specs.Pictures.{height_of};
+ghost use Rattle.qrlabel.specs.Bitmaps.{bitmap_of, pixel_byte, first_rows, header, bitmap_row};
+ghost use Rattle.qrlabel.specs.Pictures.{pixel_height};
 ghost use Rattle.qrlabel.specs.Shown.{shown};
 
 use crate::picture::Picture;
@@ -33,7 +33,7 @@ fn header(alloc: Global, width: usize, height: usize) -> Result<String, AllocErr
 #[tactic(auto, using(crate::proofs::BitmapLemmas::rows))]
 fn push_rows(alloc: Global, bytes: &mut Vec<u8>, picture: &Picture) -> Result<(), AllocError>
     ensures { OnOk result
-        (bytes.new.items ≡ bytes.old.items ++ first_rows (shown picture.now) (height_of (shown picture.now))) }
+        (bytes.new.items ≡ bytes.old.items ++ first_rows (shown picture.now) (pixel_height (shown picture.now))) }
 {
     let scale = picture.scale();
     for row in 0..picture.rows() {
@@ -46,9 +46,9 @@ fn push_rows(alloc: Global, bytes: &mut Vec<u8>, picture: &Picture) -> Result<()
 }
 
 /// Appends the bytes of a row of pixels.
-#[tactic(auto, using(crate::proofs::BitmapLemmas::bytes_more), unfolding(crate::specs::Bitmaps::row_of))]
+#[tactic(auto, using(crate::proofs::BitmapLemmas::bytes_more), unfolding(crate::specs::Bitmaps::bitmap_row))]
 fn row_bytes(alloc: Global, picture: &Picture, y: usize) -> Result<Vec<u8>, AllocError>
-    ensures { IfOk result (λ line. line.items ≡ row_of (shown picture.now) y) }
+    ensures { IfOk result (λ line. line.items ≡ bitmap_row (shown picture.now) y) }
 {
     let length = picture.width().div_ceil(8);
     let mut line = Vec::with_capacity(alloc, length)?;
@@ -59,10 +59,10 @@ fn row_bytes(alloc: Global, picture: &Picture, y: usize) -> Result<Vec<u8>, Allo
 }
 
 /// Returns the byte of eight pixels of a row, the first in the highest bit.
-#[tactic(auto, using(crate::proofs::BitmapLemmas::bits), unfolding(crate::specs::Bitmaps::byte_of))]
+#[tactic(auto, using(crate::proofs::BitmapLemmas::bits), unfolding(crate::specs::Bitmaps::pixel_byte))]
 fn pixel_byte(picture: &Picture, place: usize, y: usize) -> u8
     requires { place < 1672 }
-    ensures { result ≡ byte_of (shown picture.now) y place }
+    ensures { result ≡ pixel_byte (shown picture.now) y place }
 {
     let mut byte = 0;
     for bit in 0..8 {

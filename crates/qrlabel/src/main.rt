@@ -2,9 +2,10 @@
 //! a terminal.
 //!
 //! 1. Read the command line (`wanted`, `given`).
-//! 2. Read the input and make the symbol (`draw`, `text`).
+//! 2. Make the symbol of the input (`draw`, `text`).
 //! 3. Render it (`options`, `bundle`, `renderers`, `picture`, and `svg`, `bitmap` or `terminal`).
-//! 4. Write the picture, and return the exit status (`run`).
+//!
+//! `run` of the crate `programs` reads the input, writes the picture and returns the exit status.
 #![tactic(auto)]
 
 mod bitmap;
@@ -15,7 +16,6 @@ pub mod laws;
 mod options;
 mod picture;
 mod renderers;
-mod run;
 mod svg;
 mod terminal;
 #[cfg(test)]
@@ -23,8 +23,8 @@ mod tests;
 mod text;
 mod wanted;
 
-use crate::run::{give_up, run};
-use programs::{Fault, FromReader, FromWriter, arguments, lent_words};
+use crate::wanted::Wanted;
+use programs::{Fault, FromReader, FromWriter, Program, arguments, lent_words, report, run};
 use std::process::ExitCode;
 
 /// Runs with the arguments, the input and the outputs of the process.
@@ -34,10 +34,16 @@ fn main(rt: HostRuntime) -> ExitCode {
     let mut errors = FromWriter::new(rt.stderr());
     let status = match arguments(&rt) {
         Ok(args) => match lent_words(rt.alloc(), &args) {
-            Ok(words) => run(rt.alloc(), &words, &mut reader, &mut writer, &mut errors),
-            Err(error) => give_up(rt.alloc(), &mut errors, Fault::from(error)),
+            Ok(words) => run::<Wanted, _, _, _>(
+                rt.alloc(),
+                &words,
+                &mut reader,
+                &mut writer,
+                &mut errors,
+            ),
+            Err(error) => report(&mut errors, Wanted::name(), Fault::from(error)),
         },
-        Err(fault) => give_up(rt.alloc(), &mut errors, fault),
+        Err(fault) => report(&mut errors, Wanted::name(), fault),
     };
     ExitCode::from(status)
 }

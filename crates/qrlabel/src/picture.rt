@@ -1,6 +1,6 @@
 //! A picture: a grid with its scale and its quiet zone.
 ghost use Rattle.std.specs.Prelude.{◌≡◌, ◌*◌, ◌≤◌, length};
-ghost use Rattle.qrlabel.specs.Pictures.{columns_of, rows_of, width_of, height_of, is_dark_module, is_dark_pixel};
+ghost use Rattle.qrlabel.specs.Pictures.{columns_of, rows_of, pixel_width, pixel_height, is_dark_module, is_dark_pixel};
 
 use qrcode_core::types::Color;
 
@@ -81,7 +81,7 @@ impl<'a> Picture<'a> {
 
     /// Returns the width of the picture in pixels.
     pub fn width(&self) -> usize
-        ensures exact { result ≡ width_of (shown self.now) }
+        ensures exact { result ≡ pixel_width (shown self.now) }
         ensures bound { result ≤ 13376 }
     {
         self.columns() * self.scale
@@ -89,7 +89,7 @@ impl<'a> Picture<'a> {
 
     /// Returns the height of the picture in pixels.
     pub fn height(&self) -> usize
-        ensures exact { result ≡ height_of (shown self.now) }
+        ensures exact { result ≡ pixel_height (shown self.now) }
         ensures bound { result ≤ 13376 }
     {
         self.rows() * self.scale

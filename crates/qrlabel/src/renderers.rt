@@ -3,7 +3,7 @@ ghost use Rattle.std.specs.Prelude.{◌≡◌, ℕ, ◌≤◌, Bool, IfOk, IfErr
 ghost use Rattle.qrcode_core.specs.Plugins.{render_options};
 ghost use Rattle.qrlabel.specs.Options.{Asks, AsksForNone};
 ghost use Rattle.qrlabel.specs.Pictures.{picture};
-ghost use Rattle.qrlabel.specs.Rendered.{IsDrawable, IsRefusal, Renders, Validates, ShowsBitmap, ShowsSvg};
+ghost use Rattle.qrlabel.specs.Rendered.{IsDrawable, IsRendererRefusal, Renders, Validates, ShowsBitmap, ShowsSvg};
 ghost use Rattle.qrlabel.specs.Rendered.{ShowsTerminal};
 ghost use Rattle.qrlabel.specs.Shown.{shown};
 
@@ -115,7 +115,7 @@ fn drawable(
         (λ r. Asks usual_scale (render_options config.now) r.scale r.quiet r.inverted) }
     ensures drawable { OnOk result (IsDrawable (grid code.now)) }
     ensures refused { IfErr result
-        (IsRefusal (AsksForNone usual_scale (render_options config.now)) (IsDrawable (grid code.now) → ⊥)) }
+        (IsRendererRefusal (AsksForNone usual_scale (render_options config.now)) (IsDrawable (grid code.now) → ⊥)) }
 {
     let request = asked(alloc, config, usual_scale)?;
     if code.width() > MOST_MODULES || code.height() > MOST_MODULES {
@@ -130,7 +130,7 @@ fn asked(alloc: Global, config: &RenderConfig, usual_scale: usize) -> Result<Req
     requires most { usual_scale ≤ 64 }
     ensures asked { IfOk result
         (λ r. Asks usual_scale (render_options config.now) r.scale r.quiet r.inverted) }
-    ensures refused { IfErr result (IsRefusal (AsksForNone usual_scale (render_options config.now)) ⊥) }
+    ensures refused { IfErr result (IsRendererRefusal (AsksForNone usual_scale (render_options config.now)) ⊥) }
 {
     match request_of(config, usual_scale) {
         Some(request) => Ok(request),
@@ -140,7 +140,7 @@ fn asked(alloc: Global, config: &RenderConfig, usual_scale: usize) -> Result<Req
 
 /// Returns the error for invalid options, or `OutOfMemory` if there is no memory for its text.
 fn unclear(alloc: Global) -> PluginError
-    ensures { IsRefusal (Unit {0}) ⊥ result }
+    ensures { IsRendererRefusal (Unit {0}) ⊥ result }
 {
     match String::from_str(
         alloc,
@@ -154,7 +154,7 @@ fn unclear(alloc: Global) -> PluginError
 /// Returns the error for a grid that is too large, or `OutOfMemory` if there is no memory for
 /// its text.
 fn too_large(alloc: Global) -> PluginError
-    ensures { IsRefusal ⊥ (Unit {0}) result }
+    ensures { IsRendererRefusal ⊥ (Unit {0}) result }
 {
     match String::from_str(alloc, "more than 177 columns or rows") {
         Ok(what) => PluginError::RenderFailed(what),

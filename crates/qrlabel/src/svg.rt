@@ -1,7 +1,7 @@
 //! Pictures as SVG: a light background, and one path with a rectangle for each run of dark modules.
 ghost use Rattle.std.specs.Prelude.{◌≡◌, ◌<◌, ◌≤◌, ◌++◌, IfOk, OnOk};
 ghost use Rattle.std.specs.String.{string_bytes};
-ghost use Rattle.qrlabel.specs.Paths.{begins_run, opening, rectangle, row_path, run_length, svg_text};
+ghost use Rattle.qrlabel.specs.Paths.{begins_run, opening, rectangle, row_path, dark_run_length, svg_text};
 ghost use Rattle.qrlabel.specs.Pictures.{columns_of};
 ghost use Rattle.qrlabel.specs.Shown.{shown};
 
@@ -50,7 +50,7 @@ fn push_row(alloc: Global, text: &mut String, picture: &Picture, y: usize) -> Re
 {
     for x in 0..picture.columns() {
         if begins_run(picture, x, y) {
-            let length = run_length(picture, x, y);
+            let length = dark_run_length(picture, x, y);
             let rectangle = rectangle(alloc, x, y, length)?;
             text.push_str(rectangle.as_str())?;
         }
@@ -67,9 +67,9 @@ fn begins_run(picture: &Picture, x: usize, y: usize) -> bool
 
 /// Returns the number of dark modules from here up to the first light one.
 #[tactic(auto, using(crate::proofs::PathLemmas::runs))]
-fn run_length(picture: &Picture, x: usize, y: usize) -> usize
+fn dark_run_length(picture: &Picture, x: usize, y: usize) -> usize
     requires { x ≤ columns_of (shown picture.now) }
-    ensures { result ≡ run_length (shown picture.now) x y }
+    ensures { result ≡ dark_run_length (shown picture.now) x y }
 {
     let mut length = 0;
     for column in x..picture.columns() {

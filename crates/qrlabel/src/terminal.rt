@@ -2,7 +2,7 @@
 ghost use Rattle.std.specs.Prelude.{◌≡◌, ◌≤◌, ◌++◌, IfOk, OnOk};
 ghost use Rattle.std.specs.String.{string_bytes};
 ghost use Rattle.qrlabel.specs.Shown.{shown};
-ghost use Rattle.qrlabel.specs.Terminals.{half_blocks, is_filled, line_of, terminal_text};
+ghost use Rattle.qrlabel.specs.Terminals.{half_blocks, is_filled, terminal_line, terminal_text};
 
 use crate::picture::Picture;
 use std::alloc::{AllocError, Global};
@@ -30,7 +30,7 @@ fn push_line(
 ) -> Result<(), AllocError>
     requires { line ≤ 6688 }
     ensures { OnOk result
-        (string_bytes text.new ≡ string_bytes text.old ++ line_of inverted (shown picture.now) line) }
+        (string_bytes text.new ≡ string_bytes text.old ++ terminal_line inverted (shown picture.now) line) }
 {
     for x in 0..picture.width() {
         let upper = is_filled(picture, inverted, x, 2 * line);

@@ -1,8 +1,9 @@
 //! Bytes as a text in UTF-8.
 ghost use Rattle.std.specs.Prelude.{◌≤◌, length, IfOk, IfErr, OnOk};
+ghost use Rattle.qrcode_base.specs.declared.symbols.TheConstants.{LONGEST_DATA};
 ghost use Rattle.qrlabel.specs.Texts.{IsTextSymbol, IsTextRefusal};
 
-use qrcode_core::limits::DEFAULT_MAX_DATA_LENGTH;
+use qrcode_base::symbols::LONGEST_DATA;
 use qrcode_core::symbol::Symbol;
 use qrcode_core::types::{EcLevel, QrError, QrResult};
 use std::alloc::Global;
@@ -13,10 +14,10 @@ use texts::utf8_symbol;
 /// not UTF-8, and then as `utf8_symbol` does.
 pub fn text_symbol(alloc: Global, bytes: &[u8], level: EcLevel) -> QrResult<Symbol>
     ensures symbol { IfOk result (IsTextSymbol level bytes.now) }
-    ensures limit { OnOk result (length bytes.now ≤ 7089) }
+    ensures limit { OnOk result (length bytes.now ≤ LONGEST_DATA) }
     ensures refused { IfErr result (IsTextRefusal level bytes.now) }
 {
-    if bytes.len() > DEFAULT_MAX_DATA_LENGTH {
+    if bytes.len() > LONGEST_DATA {
         return Err(QrError::DataTooLong);
     }
     match str::from_utf8(bytes) {

@@ -1,13 +1,17 @@
 //! The label that the arguments describe: a format, a level, a kind of symbol, and options.
 ghost use Rattle.std.specs.Prelude.{◌≡◌, ◌++◌, List, map, MatchOption};
+ghost use Rattle.programs.specs.Outcome.{AskForNone};
 ghost use Rattle.qrlabel.specs.declared.wanted.Format.{Format};
 ghost use Rattle.qrlabel.specs.declared.wanted.Kind.{Kind};
-ghost use Rattle.qrlabel.specs.Words.{Setting, label_of, Ask, AskForNone, format_word, kind_words, spelled};
+ghost use Rattle.qrlabel.specs.Words.{Setting, label_of, AskForLabel, format_argument, kind_words, spelled};
 ghost use Rattle.qrlabel.specs.Words.{usual_scale, usual_quiet, is_text};
 
+use crate::draw::label;
 use crate::given::given_by;
 use crate::options::{Request, number};
-use qrcode_core::types::EcLevel;
+use programs::Program;
+use qrcode_core::types::{EcLevel, QrResult};
+use std::alloc::Global;
 
 /// The format of a picture.
 #[derive(Clone, Copy, Debug, PartialEq, Eq)]
@@ -38,7 +42,7 @@ pub struct Wanted {
 impl Format {
     /// Returns the name of the format, which is the name of its renderer.
     pub fn word(self) -> &'static str
-        ensures { result.now ≡ format_word self }
+        ensures { result.now ≡ format_argument self }
     {
         match self {
             Format::Svg => "svg",
@@ -80,11 +84,46 @@ impl Kind {
     }
 }
 
+impl Program for Wanted {
+    ghost use Rattle.qrlabel.specs.Labels.{ShowsLabel, RefusesLabel, qrlabel_name, qrlabel_usage};
+    ghost use Rattle.qrlabel.specs.Words.{Label, label_of, AskForLabel};
+
+    ghost Request = { Label };
+
+    ghost request = { label_of };
+
+    ghost asks = { AskForLabel };
+
+    ghost shows = { ShowsLabel };
+
+    ghost refuses = { RefusesLabel };
+
+    ghost name = { qrlabel_name };
+
+    ghost usage = { qrlabel_usage };
+
+    fn name() -> &'static str {
+        "qrlabel"
+    }
+
+    fn usage() -> &'static str {
+        "usage: qrlabel svg|pbm|terminal L|M|Q|H [micro|utf8] [--scale N] [--quiet N] [--inverted]\n"
+    }
+
+    fn request_of(words: &[&str]) -> Option<Wanted> {
+        wanted_of(words)
+    }
+
+    fn drawing(&self, alloc: Global, bytes: &[u8]) -> QrResult<Vec<u8>> {
+        label(alloc, *self, bytes)
+    }
+}
+
 /// Returns the label that the arguments describe, or `None` if they are invalid.
-pub fn wanted_of(words: &[&str]) -> Option<Wanted>
+fn wanted_of(words: &[&str]) -> Option<Wanted>
     ensures { MatchOption result
-        (AskForNone (map (λ word. word.now) words.now))
-        (λ wanted. Ask (map (λ word. word.now) words.now) (label_of wanted)) }
+        (AskForNone AskForLabel (map (λ word. word.now) words.now))
+        (λ wanted. AskForLabel (map (λ word. word.now) words.now) (label_of wanted)) }
 {
     let [format, level, rest @ ..] = words else {
         return None;
@@ -114,8 +153,8 @@ pub fn wanted_of(words: &[&str]) -> Option<Wanted>
 /// Returns the format of a name.
 fn format_of(word: &str) -> Option<Format>
     ensures { MatchOption result
-        ((format : Format) → word.now ≡ format_word format → ⊥)
-        (λ format. word.now ≡ format_word format) }
+        ((format : Format) → word.now ≡ format_argument format → ⊥)
+        (λ format. word.now ≡ format_argument format) }
 {
     if word == "svg" {
         Some(Format::Svg)

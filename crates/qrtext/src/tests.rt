@@ -1,5 +1,6 @@
 //! Tests of devices that fail, and of the arguments.
-use crate::{FromReader, FromWriter, Sink, Source, TextError, draw, give_up, run};
+use crate::{FromReader, FromWriter, Sink, Source, TextError, draw, run};
+use programs::report;
 use qrcode_core::types::{EcLevel, QrError};
 use std::alloc::AllocError;
 use std::io;
@@ -299,7 +300,7 @@ fn tells_want_of_memory(rt: HostRuntime) -> Result<(), Fail> {
     let mut said: Vec<u8> = Vec::new(rt.alloc());
     let mut errors = FromWriter::new(&mut said);
     let wanting = TextError::from(AllocError);
-    let status = give_up(rt.alloc(), &mut errors, wanting);
+    let status = report(&mut errors, "qrtext", wanting);
     assert_eq!(rt; status, 1);
     assert_eq!(rt; said.as_slice(), "qrtext: out of memory\n".as_bytes());
     Ok(())

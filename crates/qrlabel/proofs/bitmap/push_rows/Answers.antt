@@ -1,6 +1,7 @@
 -- One row of pixels more.
 use Rattle.std.proofs.Common.{◌+◌, ◌*◌, ◌++◌, ◌∙◌, ap, sym}
-use Rattle.qrlabel.{specs.Shown.shown, specs.Bitmaps.first_rows, specs.Bitmaps.row_of, proofs.Ranges.joined, proofs.BitmapLemmas.rows_copy}
+use Rattle.qrlabel.{specs.Shown.shown, specs.Bitmaps.first_rows, specs.Bitmaps.bitmap_row, proofs.BitmapLemmas.rows_copy}
+use Rattle.programs.proofs.Ranges.{joined}
 use Rattle.qrlabel.proofs.bitmap.push_rows.Goals as goal
 
 pub loop-copy-preserved : goal.loop-copy-preserved
@@ -8,7 +9,7 @@ loop-copy-preserved c =
     let p = shown c.args.picture.now in
     let row = c.loop-row.row in
     let scale = c.scale-scale.result in
-    joined c.args.bytes.now.items (first_rows p (row * scale + c.loop-copy.copy)) _ (row_of p (row * scale)) _ _
+    joined c.args.bytes.now.items (first_rows p (row * scale + c.loop-copy.copy)) _ (bitmap_row p (row * scale)) _ _
     (rows_copy p scale row c.loop-copy.copy (sym c.scale-scale.ensures.exact) c.loop-copy-test.true)
     c.loop-copy.invariant
     (c.in_ok-extend_from_slice.ensures.items ∙ ap (λ l. c.loop-copy.bytes.items ++ l) (c.deref.ensures.value ∙ c.in_ok-line.ensures))

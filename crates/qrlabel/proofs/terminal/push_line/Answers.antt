@@ -1,8 +1,9 @@
 -- One character more.
 use Rattle.std.proofs.Common.{◌≡◌, ℕ, Bool, ◌+◌, ◌*◌, ◌++◌, ◌∙◌, ap}
 use Rattle.std.specs.{Prelude.flat_map, Prelude.encode_utf8, List.range_with_len, String.string_bytes}
-use Rattle.qrlabel.specs.Terminals.{character, half_blocks, is_filled}
-use Rattle.qrlabel.{specs.Shown.shown, proofs.Ranges.joined, proofs.TerminalLemmas.characters_more}
+use Rattle.qrlabel.specs.Terminals.{terminal_character, half_blocks, is_filled}
+use Rattle.qrlabel.{specs.Shown.shown, proofs.TerminalLemmas.characters_more}
+use Rattle.programs.proofs.Ranges.{joined}
 use Rattle.qrlabel.proofs.terminal.push_line.Goals as goal
 
 pub loop-x-preserved : goal.loop-x-preserved
@@ -12,7 +13,7 @@ loop-x-preserved c =
     (is_filled c.args.inverted p c.loop-x.x (2 * c.args.line + 1)) =
     c.half_block.ensures ∙ (ap (λ (b : Bool). half_blocks b c.is_filled-lower.result) c.is_filled-upper.ensures
     ∙ ap (λ (b : Bool). half_blocks (is_filled c.args.inverted p c.loop-x.x (2 * c.args.line)) b) c.is_filled-lower.ensures) in
-    joined (string_bytes c.args.text.now) (flat_map (character c.args.inverted p c.args.line) (range_with_len 0 c.loop-x.x)) _ _ _ _
+    joined (string_bytes c.args.text.now) (flat_map (terminal_character c.args.inverted p c.args.line) (range_with_len 0 c.loop-x.x)) _ _ _ _
     (characters_more c.args.inverted p c.args.line c.loop-x.x)
     c.loop-x.invariant
     (c.in_ok-push.ensures.bytes ∙ ap (λ (ch : ℕ). string_bytes c.loop-x.text ++ encode_utf8 ch) filled)

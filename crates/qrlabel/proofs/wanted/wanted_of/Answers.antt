@@ -1,12 +1,13 @@
 -- The numbers that are given are out of their bounds, or the picture is not text and can't be inverted.
 use Rattle.std.proofs.Common.{map, rules}
-use Rattle.qrlabel.{specs.Words.AskForNone, proofs.WordLemmas.two_words, proofs.AskLemmas.no_scale, proofs.AskLemmas.no_quiet}
-use Rattle.qrlabel.{proofs.AskLemmas.no_inverted}
+use Rattle.qrlabel.{specs.Words.AskForLabel, proofs.WordLemmas.two_words, proofs.AskLemmas.no_scale, proofs.AskLemmas.no_quiet}
+use Rattle.programs.specs.Outcome.{AskForNone}
+use Rattle.qrlabel.proofs.AskLemmas.{no_inverted}
 use Rattle.qrlabel.proofs.wanted.wanted_of.Goals as goal
 
 pub returns-in_err-scale : goal.returns-in_err-scale
 returns-in_err-scale c =
-    let none : AskForNone (map (λ word. word.now) c.args.words.now) =
+    let none : AskForNone AskForLabel (map (λ word. word.now) c.args.words.now) =
     no_scale (map (λ word. word.now) c.args.words.now) _ _ _ (two_words c.args.words.now c.in-len2-up.len_at_least) c.kind_of-kind.result.0
     (map (λ word. word.now) c.kind_of-kind.result.1.now)
     c.kind_of-kind.ensures.words c.kind_of-kind.ensures.only c.in_ok-given.ensures.0 c.in_ok-given.ensures.1 _ c.usual_scale.result
@@ -15,7 +16,7 @@ returns-in_err-scale c =
 
 pub returns-in_err-quiet : goal.returns-in_err-quiet
 returns-in_err-quiet c =
-    let none : AskForNone (map (λ word. word.now) c.args.words.now) =
+    let none : AskForNone AskForLabel (map (λ word. word.now) c.args.words.now) =
     no_quiet (map (λ word. word.now) c.args.words.now) _ _ _ (two_words c.args.words.now c.in-len2-up.len_at_least) c.kind_of-kind.result.0
     (map (λ word. word.now) c.kind_of-kind.result.1.now)
     c.kind_of-kind.ensures.words c.kind_of-kind.ensures.only c.in_ok-given.ensures.0 c.in_ok-given.ensures.1 _ c.usual_quiet.result
@@ -24,7 +25,7 @@ returns-in_err-quiet c =
 
 pub returns-then-not-is_text : goal.returns-then-not-is_text
 returns-then-not-is_text c =
-    let none : AskForNone (map (λ word. word.now) c.args.words.now) =
+    let none : AskForNone AskForLabel (map (λ word. word.now) c.args.words.now) =
     no_inverted (map (λ word. word.now) c.args.words.now) _ _ _ (two_words c.args.words.now c.in-len2-up.len_at_least) c.kind_of-kind.result.0
     (map (λ word. word.now) c.kind_of-kind.result.1.now)
     c.kind_of-kind.ensures.words c.kind_of-kind.ensures.only c.in_ok-given.ensures.0 c.in_ok-given.ensures.1
