@@ -10,7 +10,8 @@ use Rattle.qrcode_base.specs.declared.types.Mode.TheVariants.{Numeric, Alphanume
 use Rattle.qrcode_base.specs.Modes.{mode_order}
 
 -- Comparing in the other direction gives the opposite result.
-pub mode_order-antisymm : (x y : Mode) → mode_order x y ≡ option_map ordering_reverse (mode_order y x)
+pub mode_order-antisymm : (x y : Mode) →
+    mode_order x y ≡ option_map ordering_reverse (mode_order y x)
 mode_order-antisymm Numeric Numeric = refl
 mode_order-antisymm Numeric Alphanumeric = refl
 mode_order-antisymm Numeric Byte = refl

@@ -16,7 +16,8 @@ use Rattle.qrcode_grid.specs.Walk.{cell_number, numbered_cell}
 -- of every other five bits, so from that of every other level, version or mask.
 unfoldable pub IsFarFormatWord : Version → EcLevel → MaskPattern → Type 0
 IsFarFormatWord version level pattern =
-    (data_bits : ℕ) × (data_bits < 32) × (format_word version level pattern ≡ format_code version data_bits) ×
+    (data_bits : ℕ) × (data_bits < 32) ×
+    (format_word version level pattern ≡ format_code version data_bits) ×
     ((other : ℕ) → other < 32 → other ≢ data_bits →
     7 ≤ differing_digits 15 (format_word version level pattern) (format_code version other))
 
@@ -35,7 +36,8 @@ pub record AreConsistentRegions (version : Version) : Type 0 where
       is_some (functional_color version format x y) ≡ is_functional_cell version x y
   pub agree :
       (format x y : ℕ) → x < width_of version → y < width_of version →
-      All (λ says. IfSome says (λ c. functional_color version format x y ≡ Some c)) (regions version format x y)
+      All (λ says. IfSome says (λ c. functional_color version format x y ≡ Some c))
+      (regions version format x y)
 
 -- Every pair of centre coordinates has its alignment pattern, except the first with the first, the
 -- first with the last, and the last with the first, where the finder patterns are (`drawn`). The
@@ -73,4 +75,5 @@ pub record IsWalkOf (w t : ℕ) : Type 0 where
       (x y : ℕ) → x < w → y < w → x ≢ t →
       (let k = cell_number w t x y in (k < w * (w - 1)) × (numbered_cell w t k ≡ (x, y)))
   pub once :
-      (k : ℕ) → k < w * (w - 1) → (let cell = numbered_cell w t k in cell_number w t cell.0 cell.1 ≡ k)
+      (k : ℕ) → k < w * (w - 1) →
+      (let cell = numbered_cell w t k in cell_number w t cell.0 cell.1 ≡ k)

@@ -42,15 +42,18 @@ bits_taken (Unmasked c) = 0
 
 -- The list ys is xs with the first n cells of the walk filled, and `ahead` has the bits that
 -- are left.
-pub record FilledBelow (w t : ℕ) (bits : List Bool) (xs ys : List Module) (n : ℕ) (ahead : List Bool) : Type 0 where
+pub record FilledBelow (w t : ℕ) (bits : List Bool) (xs ys : List Module) (n : ℕ)
+    (ahead : List Bool) : Type 0 where
   pub size : length ys ≡ length xs
   pub done :
       (k : ℕ) → k < n → k < w * (w - 1) →
-      slice_index_or ys (place_in_walk w t k) Empty ≡ slice_index_or (fill_empty (along_walk w t xs) bits) k Empty
+      slice_index_or ys (place_in_walk w t k) Empty ≡
+      slice_index_or (fill_empty (along_walk w t xs) bits) k Empty
   pub rest :
       (k : ℕ) → n ≤ k → k < w * (w - 1) →
       slice_index_or ys (place_in_walk w t k) Empty ≡ slice_index_or xs (place_in_walk w t k) Empty
-  pub left : drop n (fill_empty (along_walk w t xs) bits) ≡ fill_empty (drop n (along_walk w t xs)) ahead
+  pub left : drop n (fill_empty (along_walk w t xs) bits) ≡
+      fill_empty (drop n (along_walk w t xs)) ahead
   pub timing : (y : ℕ) → y < w → slice_get ys (y * w + t) ≡ slice_get xs (y * w + t)
 
 -- If the first n cells of the walk are filled in `old`, the next `count` cells are filled too
@@ -72,7 +75,8 @@ row_place c rows = (if c.up then c.width - 1 - rows else rows) * c.width + c.lef
 -- The modules at an index and the next are empty.
 abbrev pub IsEmptyRow : List Module → ℕ → Type 0
 IsEmptyRow modules place =
-    (slice_index_or modules place Empty ≡ Empty) × (slice_index_or modules (place + 1) Empty ≡ Empty)
+    (slice_index_or modules place Empty ≡ Empty) ×
+    (slice_index_or modules (place + 1) Empty ≡ Empty)
 
 -- The columns are the pair of this number, in a symbol with this timing column.
 pub record IsPair (t pair : ℕ) (c : Columns) : Type 0 where

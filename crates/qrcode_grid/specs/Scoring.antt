@@ -11,7 +11,7 @@ use Rattle.qrcode_grid.specs.declared.canvas.MaskPattern.TheVariants.{Checkerboa
 use Rattle.qrcode_grid.specs.Masks.{family}
 use Rattle.qrcode_grid.specs.declared.canvas.scoring.lists.Feature.{Feature}
 use Rattle.qrcode_grid.specs.declared.canvas.scoring.lists.Feature.TheVariants.{Finder, Square, Dark}
-use Rattle.qrcode_grid.specs.Regions.{sum_below, digit_color}
+use Rattle.qrcode_grid.specs.Regions.{sum_below, count_below}
 use Rattle.qrcode_grid.specs.Penalty.{byte_of, is_byte_square_at}
 use Rattle.qrcode_grid.specs.declared.canvas.Module.{Module}
 use Rattle.qrcode_grid.specs.declared.canvas.Module.TheVariants.{Empty, Masked, Unmasked}
@@ -41,12 +41,14 @@ bit_count m lanes = sum_below (λ j. bit_at (slice_index lanes j) m) 16
 -- Bit m of lane j is set exactly if the test of m and j is true.
 pub record Marks (lanes : List ℕ) (test : ℕ → ℕ → Bool) : Type 0 where
   pub whole : length lanes ≡ 16
-  pub bits : (m j : ℕ) → m < 8 → j < 16 → bit_at (slice_index lanes j) m ≡ (if test m j then 1 else 0)
+  pub bits : (m j : ℕ) → m < 8 → j < 16 →
+      bit_at (slice_index lanes j) m ≡ (if test m j then 1 else 0)
 
 -- The count of bit m in rows of lanes of the weights 1, 2, 4 and 8.
 abbrev pub held : ℕ → Planes → ℕ
 held m planes =
-    bit_count m planes.ones + 2 * bit_count m planes.twos + 4 * bit_count m planes.fours + 8 * bit_count m planes.eights
+    bit_count m planes.ones + 2 * bit_count m planes.twos + 4 * bit_count m planes.fours +
+    8 * bit_count m planes.eights
 
 -- How often bit m was set.
 abbrev pub tallied : ℕ → Tally → ℕ
@@ -67,7 +69,8 @@ places w = 256 * ((w * stride w + 255) / 256)
 -- The padded list has four light rows, then the rows of a grid of width w with four light modules
 -- after each, then light modules to the end.
 pub record IsPadded (w : ℕ) (cells padded : List ℕ) : Type 0 where
-  pub grid : (x y : ℕ) → x < w → y < w → slice_index padded ((4 + y) * stride w + x) ≡ slice_index cells (y * w + x)
+  pub grid : (x y : ℕ) → x < w → y < w →
+      slice_index padded ((4 + y) * stride w + x) ≡ slice_index cells (y * w + x)
   pub beside : (x y : ℕ) → w ≤ x → x < stride w → slice_index padded (y * stride w + x) ≡ 0
   pub above : (k : ℕ) → k < 4 * stride w → slice_index padded k ≡ 0
   pub below : (k : ℕ) → (4 + w) * stride w ≤ k → slice_index padded k ≡ 0
@@ -85,13 +88,15 @@ is_same step cells k i = cell step cells k i == cell step cells k (i + 1)
 pub record AreEdges (w step columns rows : ℕ) (padded edges : List ℕ) : Type 0 where
   pub same : (x y : ℕ) → x < columns → y < rows → slice_index edges (y * stride w + x) ≡
       (if is_same step padded (4 * stride w + (y * stride w + x)) 0 then 1 else 0)
-  pub beside : (x y : ℕ) → columns ≤ x → x < stride w → y < rows → slice_index edges (y * stride w + x) ≡ 0
+  pub beside : (x y : ℕ) → columns ≤ x → x < stride w → y < rows →
+      slice_index edges (y * stride w + x) ≡ 0
   pub below : (k : ℕ) → rows * stride w ≤ k → slice_index edges k ≡ 0
 
 -- Whether five modules of one colour begin at index k, by their edges.
 abbrev pub has_five : ℕ → List ℕ → ℕ → Bool
 has_five step edges k =
-    cell step edges k 0 == 1 && cell step edges k 1 == 1 && cell step edges k 2 == 1 && cell step edges k 3 == 1
+    cell step edges k 0 == 1 && cell step edges k 1 == 1 && cell step edges k 2 == 1 &&
+    cell step edges k 3 == 1
 
 -- Whether six modules of one colour begin at index k.
 abbrev pub has_six : ℕ → List ℕ → ℕ → Bool
@@ -107,8 +112,9 @@ is_quiet step cells k i =
 -- light modules before or after them.
 abbrev pub has_finder : ℕ → List ℕ → ℕ → Bool
 has_finder step cells k =
-    (cell step cells k 4 == 1 && cell step cells k 5 == 0 && cell step cells k 6 == 1 && cell step cells k 7 == 1 &&
-    cell step cells k 8 == 1 && cell step cells k 9 == 0 && cell step cells k 10 == 1) &&
+    (cell step cells k 4 == 1 && cell step cells k 5 == 0 && cell step cells k 6 == 1 &&
+    cell step cells k 7 == 1 && cell step cells k 8 == 1 && cell step cells k 9 == 0 &&
+    cell step cells k 10 == 1) &&
     (is_quiet step cells k 0 || is_quiet step cells k 11)
 
 -- Whether a square of one colour begins at index k, by the edges along its two rows.
@@ -121,10 +127,14 @@ has Finder w step padded edges k = has_finder step padded (k + 4 * (stride w - s
 has Square w step padded edges k = has_square (stride w) padded edges k
 has Dark w step padded edges k = cell (stride w) padded k 4 == 1
 
--- Bit m of byte k is bit k of a format word.
-abbrev pub AreDigits : List ℕ → ℕ → ℕ → Type 0
-AreDigits digits m word =
-    (k : ℕ) → k < 15 → bit_at (slice_index digits k) m ≡ byte_of (digit_color (bit_at word k))
+-- The penalty of all lines of one direction, by the edges in it. A run of n modules, where n is at
+-- least 5, begins five equal modules at n - 4 places and six at n - 5, so that 3 for each five, and
+-- 2 less for each six, is its penalty n - 2. A finder-like pattern counts 40.
+abbrev pub lines_penalty : ℕ → ℕ → List ℕ → List ℕ → ℕ
+lines_penalty w step padded edges =
+    let count : (ℕ → Bool) → ℕ = λ test. count_below test (places w) in
+    3 * count (has_five step edges) - 2 * count (has_six step edges) +
+    40 * count (has Finder w step padded edges)
 
 -- The code of a module: 1 if it is dark, and 2 more if a mask may invert it.
 abbrev pub code_of : Module → ℕ

@@ -11,10 +11,8 @@ ghost use Rattle.qrcode_base.specs.Symbols.{IsVersion, width_of};
 ghost use Rattle.qrcode_grid.specs.Canvas.{color_of_module};
 ghost use Rattle.qrcode_grid.specs.Penalty.{byte_of, penalty, micro_penalty};
 ghost use Rattle.qrcode_grid.specs.Penalty.{normal_penalty, column};
-ghost use Rattle.qrcode_grid.specs.Regions.{count_below};
-ghost use Rattle.qrcode_grid.specs.declared.canvas.scoring.lists.Feature.{Feature};
 ghost use Rattle.qrcode_grid.specs.Masks.{masked_cells};
-ghost use Rattle.qrcode_grid.specs.Scoring.{has, has_five, has_six, list_length, pattern_of, places, plane};
+ghost use Rattle.qrcode_grid.specs.Scoring.{lines_penalty, list_length, pattern_of, plane};
 
 pub mod counting;
 mod lists;
@@ -26,10 +24,10 @@ use crate::canvas::scoring::counting::{count, count_runs};
 use crate::canvas::scoring::lists::{Feature, write_edges, write_padded};
 use qrcode_base::types::{Color, Version};
 
-/// Returns the penalty of the rows or of the columns in each candidate, from their edges. A run of
-/// n modules, where n is at least 5, begins five equal modules at n - 4 places and six at n - 5, so
-/// that 3 for each five and -2 for each six add up to its penalty n - 2. The function is
-/// instantiated once per direction so that the compiler knows that the step of rows is 1.
+/// Returns the penalty of the rows or of the columns in each candidate, from their edges. A run
+/// begins one place more with five equal modules than with six, and one five less at each end. The
+/// function is instantiated once per direction so that the compiler knows that the step of rows
+/// is 1.
 #[inline(never)]
 fn penalties_of_lines<const ROWS: bool>(
     width: usize,
@@ -42,10 +40,7 @@ fn penalties_of_lines<const ROWS: bool>(
     requires padded { length padded.now ≡ list_length width }
     requires edges { length edges.now ≡ list_length width }
     ensures is { (m : ℕ) → m < 8 →
-        slice_index result m + 2 * count_below (has_six step (plane m edges.now)) (places width) ≡
-        3 * count_below (has_five step (plane m edges.now)) (places width)
-        + 40 * count_below (has Feature.Finder width step (plane m padded.now) (plane m edges.now))
-        (places width) }
+        slice_index result m ≡ lines_penalty width step (plane m padded.now) (plane m edges.now) }
     ensures small { (m : ℕ) → m < 8 → slice_index result m ≤ 2000000 }
 {
     let (fives, sixes) = count_runs(width, step, edges);

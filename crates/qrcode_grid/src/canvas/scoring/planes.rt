@@ -11,7 +11,8 @@ pub struct Planes {
     pub twos: u8x16,
     pub fours: u8x16,
     pub eights: u8x16,
-    pub ghost lanes: { (length ones ≡ 16) × (length twos ≡ 16) × (length fours ≡ 16) × (length eights ≡ 16) },
+    pub ghost lanes: { (length ones ≡ 16) × (length twos ≡ 16) × (length fours ≡ 16)
+        × (length eights ≡ 16) },
 }
 
 /// How often each bit was set: rows of lanes of the weights 1, 2, 4 and 8, and the number of

@@ -1,8 +1,14 @@
 use Rattle.qrcode_grid.proofs.Prelude.{◌≡◌, ℕ, ◌+◌, ◌*◌, ◌/◌, length, get_or, count_by, not, ◌==◌, ap, ◌∙◌, sym, arith, abs_diff, bit_at, bit_at-zero, row}
 use Rattle.qrcode_grid.proofs.Prelude.{column, line_penalty, IsPadded, is_dark_byte, plane}
 use Rattle.qrcode_grid.proofs.PaddedCounts.{columns_are, rows_are, squares_are, darks_are}
+use Rattle.qrcode_grid.proofs.Prelude.{◌≤◌, List, count_below, has_five, has_six, places, cell}
+use Rattle.qrcode_grid.proofs.MarkedLanes.{count_both_le}
 use Rattle.qrcode_grid.proofs.{MarkedLanes.length-plane, MarkedLanes.plane_at, MarkedLanes.plane_small, Totals.total-plus}
 use Rattle.qrcode_grid.proofs.canvas.scoring.penalties_of_normal.Goals as goal
+
+-- where six equal modules begin, five do
+fewer_sixes : (w step : ℕ) (edges : List ℕ) → count_below (has_six step edges) (places w) ≤ count_below (has_five step edges) (places w)
+fewer_sixes w step edges = count_both_le (has_five step edges) (λ k. cell step edges k 4 == 1) (places w)
 
 pub returns : goal.returns
 returns c = λ m h.
@@ -26,8 +32,10 @@ returns c = λ m h.
       arith,
       c.loop-m.invariant.found m (omega (arith, h, c.loop-m-test.false)),
       c.penalties_of_lines-columns.ensures.is m h,
+      fewer_sixes w (w + 4) first,
       columns_are w cells padded stands square first (c.write_edges.ensures.edges m h),
       c.penalties_of_lines-rows.ensures.is m h,
+      fewer_sixes w 1 second,
       rows_are w cells padded stands square second edges,
       c.count-squares.ensures.is m h,
       squares_are w cells padded stands square second edges (omega (arith, c.requires.wide.0)),

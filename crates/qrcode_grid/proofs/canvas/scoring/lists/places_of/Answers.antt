@@ -16,6 +16,7 @@ returns c = elim c.match-feature.branch [
       rw (w.result-is, w.in-Finder.is)
       (marks_as _ _ _ (λ m j. let e : a.at + on + j ≡ a.at + j + on = omega arith in ap (has_finder a.step (plane m a.padded.now)) e)
       (marks_and _ _ _ _ pattern sides))
-  | in-Square w ↦ rw (w.result-is, w.in-Square.is) (marks_and _ _ _ _ (marks_and _ _ _ _ w.dark-in-Square.ensures w.dark-in-Square-2.ensures) w.equal_to_next.ensures)
+  | in-Square w ↦ rw (w.result-is, w.in-Square.is)
+      (marks_and _ _ _ _ (marks_and _ _ _ _ w.dark-in-Square.ensures w.dark-in-Square-2.ensures) w.equal_to_next.ensures)
   | in-Dark w ↦ grind (arith, common_steps)
 ]
