@@ -6,6 +6,8 @@ use std::alloc::Global;
 #[derive(Drop)]
 pub struct Text {
     pub header: Option<(u8, u8, u8)>,
+    pub designator: Option<u8>,
+    pub has_elements: bool,
     pub payload: usize,
     pub bytes: Vec<u8>,
 }
@@ -146,8 +148,33 @@ fn read_pairs(cursor: &mut Cursor, count: usize, bytes: &mut Vec<u8>) -> Option<
     Some(())
 }
 
+/// Appends the data of Alphanumeric characters in GS1 elements: `%%` is the character `%`, and `%`
+/// alone is FNC1, which is reported as 1D (hex).
+fn unescape(signs: &[u8], bytes: &mut Vec<u8>) -> Option<()> {
+    let mut is_second = false;
+    for (place, sign) in signs.iter().enumerate() {
+        if is_second {
+            is_second = false;
+        } else if *sign != b'%' {
+            bytes.push(*sign).ok()?;
+        } else if signs.get(place.wrapping_add(1)) == Some(&b'%') {
+            is_second = true;
+            bytes.push(b'%').ok()?;
+        } else {
+            bytes.push(0x1d).ok()?;
+        }
+    }
+    Some(())
+}
+
 /// Reads a segment, and appends its bytes.
-fn read_segment(cursor: &mut Cursor, shape: Shape, bytes: &mut Vec<u8>) -> Option<()> {
+fn read_segment(
+    alloc: Global,
+    cursor: &mut Cursor,
+    shape: Shape,
+    has_elements: bool,
+    bytes: &mut Vec<u8>,
+) -> Option<()> {
     let width = if shape.micro {
         shape.number.wrapping_sub(1)
     } else {
@@ -157,6 +184,11 @@ fn read_segment(cursor: &mut Cursor, shape: Shape, bytes: &mut Vec<u8>) -> Optio
     let count = cursor.take(count_width(shape, kind))?;
     match kind {
         Kind::Digits => read_digits(cursor, count, bytes),
+        Kind::Signs if has_elements => {
+            let mut signs = Vec::new(alloc);
+            read_signs(cursor, count, &mut signs)?;
+            unescape(&signs, bytes)
+        }
         Kind::Signs => read_signs(cursor, count, bytes),
         Kind::Bytes => {
             for _ in 0..count {
@@ -200,8 +232,8 @@ fn is_ended(cursor: &Cursor, shape: Shape) -> bool {
     true
 }
 
-/// Reads the header, if there is one, and the segments, and checks that terminator and
-/// padding follow.
+/// Reads what precedes the data (a header, a designator of one byte, FNC1) and the segments, and
+/// checks that terminator and padding follow.
 pub fn read(alloc: Global, codewords: &[u8], shape: Shape) -> Option<Text> {
     let missing = if shape.micro && shape.number % 2 == 1 {
         4
@@ -224,19 +256,34 @@ pub fn read(alloc: Global, codewords: &[u8], shape: Shape) -> Option<Text> {
             (parity & 255) as u8,
         ));
     }
+    let mut designator = None;
+    if !shape.micro && cursor.look(4) == Some(7) {
+        cursor.take(4)?;
+        let number = cursor.take(8)?;
+        if number > 127 {
+            return None;
+        }
+        designator = Some((number & 127) as u8);
+    }
+    let has_elements = !shape.micro && cursor.look(4) == Some(5);
+    if has_elements {
+        cursor.take(4)?;
+    }
     let mut bytes = Vec::new(alloc);
     for _ in 0..end {
         let width = terminator(shape);
         if cursor.left() < width || cursor.look(width) == Some(0) {
             break;
         }
-        read_segment(&mut cursor, shape, &mut bytes)?;
+        read_segment(alloc, &mut cursor, shape, has_elements, &mut bytes)?;
     }
     if !is_ended(&cursor, shape) {
         return None;
     }
     Some(Text {
         header,
+        designator,
+        has_elements,
         payload: cursor.at,
         bytes,
     })

@@ -50,6 +50,12 @@ pub struct Seen {
     /// The position, the total and the parity of a sequence, if the data begin with such a header.
     pub header: Option<(u8, u8, u8)>,
 
+    /// The ECI designator, if there is one before the data.
+    pub designator: Option<u8>,
+
+    /// Whether the data are GS1 elements: FNC1 in the first position precedes them.
+    pub has_elements: bool,
+
     /// The number of bits before the terminator.
     pub payload: usize,
     pub bytes: Vec<u8>,
@@ -73,6 +79,8 @@ pub fn read(alloc: Global, grid: &[bool]) -> Option<Seen> {
         mask,
         codewords,
         header: text.header,
+        designator: text.designator,
+        has_elements: text.has_elements,
         payload: text.payload,
         bytes: text.bytes,
     })

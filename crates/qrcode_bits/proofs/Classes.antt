@@ -3,7 +3,9 @@ use Rattle.qrcode_bits.proofs.Prelude.{◌≡◌, ℕ, zero, suc, ℤ, ◌+◌, 
 use Rattle.qrcode_bits.proofs.Prelude.{Result, Ok, Err, All, Option, nat_abs, MatchOption, cases_lt, Version, EcLevel, Mode, QrError, DataTooLong, OutOfMemory}
 use Rattle.qrcode_bits.proofs.Prelude.{normal_blocks, capacity, HasMode, indicator, indicator_width, count_width, ◌%◌, one_shl, AreTexts, HasLinearCosts}
 use Rattle.qrcode_bits.proofs.Prelude.{IsChosenPlan, total_bits, IsMergePlan, Fits, FitsNot, FitsNone, normal, IsLeastHolding, IsMinVersion, IsClass, Header}
-use Rattle.qrcode_bits.proofs.Prelude.{header_bits, Stream, IsPlanStream, IsEncoding, IsUnencodable, IsEncodingRefused, HasHeader, IsPartRefused}
+use Rattle.qrcode_bits.proofs.Prelude.{Front, front_bits, parsed_bytes, IsChoice}
+use Rattle.qrcode_bits.specs.Push.{IsFrontRefused}
+use Rattle.qrcode_bits.proofs.Prelude.{Stream, IsPlanStream, IsEncoding, IsUnencodable, IsEncodingRefused, HasHeader, IsPartRefused}
 use Rattle.qrcode_bits.proofs.Prelude.{IsNormalNumber, LiesIn, common_steps, slice_get-get_or, Segment, parsed, Numeric, Normal, Micro, micro, segment_at, ints}
 use Rattle.qrcode_bits.proofs.Prelude.{get_or, rules, drop, drop_all, drop-cons, segment_bits}
 use mir.Val.{to_z}
@@ -149,35 +151,36 @@ IsSearched front message l limit left = (before : ℕ) × AreCandidates before l
 pub ruleset small_plans = (counted_more, counted_all, part_ordered)
 
 -- a plan of some class, found by its last version, after a number of bits in front
-module _ (header : Option Header) (message : List ℕ) (l : EcLevel) (last front size : ℕ) (plan : List Segment) (v version : Version)
-    (ahead : front ≡ length (header_bits header)) (is : v ≡ normal last) (chosen : IsChosenPlan (parsed message) v plan)
+module _ (f : Front) (bytes message : List ℕ) (same : message ≡ parsed_bytes f.content bytes) (l : EcLevel) (last front size : ℕ) (plan : List Segment)
+    (v version : Version) (ahead : front ≡ length (front_bits f)) (is : v ≡ normal last) (chosen : IsChosenPlan (parsed message) v plan)
     (found : Fits front message v l plan) (counted : size ≡ front + total_bits v plan) (least : IsMinVersion size l version) where
-  pub header_fits : Fits (length (header_bits header)) message (normal last) l plan
-  header_fits = grind arith
+  pub front_fits : Fits (length (front_bits f)) message (normal last) l plan
+  front_fits = grind arith
 
   abbrev Least : Type 0
-  Least = (number : ℕ) × (version ≡ normal number) × IsLeastHolding (length (header_bits header) + total_bits (normal last) plan) l number
+  Least = (number : ℕ) × (version ≡ normal number) × IsLeastHolding (length (front_bits f) + total_bits (normal last) plan) l number
 
   least_version : Least
-  least_version = grind (arith, header_fits)
+  least_version = grind (arith, front_fits)
 
   -- The chosen plan of the last version of a class fits the least version that holds its bits and
-  -- those of the header,
-  pub class_fits : Fits (length (header_bits header)) message version l plan
-  class_fits = search (arith, rules, capacity-held, fits_normal, header_fits, least_version, total_bits-rise)
+  -- those of the front,
+  pub class_fits : Fits (length (front_bits f)) message version l plan
+  class_fits = search (arith, rules, capacity-held, fits_normal, front_fits, least_version, total_bits-rise)
 
   -- and is the choice there, if no plan fits a version before the class.
-  pub class_encoding : (before limit : ℕ) → IsClass before last → last ≤ limit → FitsNone normal (length (header_bits header)) message l before →
-      (stream : Stream) → IsPlanStream header message version l plan stream → IsEncoding normal header message l limit stream
+  pub class_encoding : (before limit : ℕ) → IsClass before last → last ≤ limit → FitsNone normal (length (front_bits f)) message l before →
+      (stream : Stream) → IsPlanStream f bytes version l plan stream → IsEncoding normal f bytes l limit stream
   class_encoding before limit class within none stream s =
-      let fits = header_fits in
+      let fits = front_fits in
       let m = least_version in
       record {
         number = m.0;
         plan = plan;
-        choice = class_choice (length (header_bits header)) message l before last plan fits.limit class none
-            (subst (λ (u : Version). IsChosenPlan (parsed message) u plan) is chosen) fits.has_level limit m.0 within fits.within m.2;
-        stream_is = subst (λ (v : Version). IsPlanStream header message v l plan stream) m.1 s;
+        choice = subst (λ (z : List ℕ). IsChoice normal (length (front_bits f)) z l limit m.0 plan) same
+            (class_choice (length (front_bits f)) message l before last plan fits.limit class none
+            (subst (λ (u : Version). IsChosenPlan (parsed message) u plan) is chosen) fits.has_level limit m.0 within fits.within m.2);
+        stream_is = subst (λ (w : Version). IsPlanStream f bytes w l plan stream) m.1 s;
       }
 
 -- ---- Errors
@@ -187,6 +190,13 @@ pub refused_limit : (message : List ℕ) (l : EcLevel) (z : ℤ) (n : ℕ) (e : 
 refused_limit message l z n DataTooLong h same r = (h, subst (λ (k : ℕ). FitsNone normal 0 message l k) same r)
 refused_limit message l z n OutOfMemory h same r = (h, r)
 refused_limit message l z n other h same r = absurd r
+
+pub refused_front : (f : Front) (bytes : List ℕ) (l : EcLevel) (z : ℤ) (n : ℕ) (e : QrError) → IsNormalNumber z → n ≡ nat_abs z →
+    IsUnencodable normal (length (front_bits f)) (parsed_bytes f.content bytes) l n e → IsFrontRefused f bytes l z e
+refused_front f bytes l z n DataTooLong h same r =
+    (h, subst (λ (k : ℕ). FitsNone normal (length (front_bits f)) (parsed_bytes f.content bytes) l k) same r)
+refused_front f bytes l z n OutOfMemory h same r = (h, r)
+refused_front f bytes l z n other h same r = absurd r
 
 pub refused_part : (header : Header) (message : List ℕ) (l : EcLevel) (z : ℤ) (n front : ℕ) (e : QrError) → IsNormalNumber z →
     HasHeader (normal (nat_abs z)) (Some header) → n ≡ nat_abs z → front ≡ 20 →

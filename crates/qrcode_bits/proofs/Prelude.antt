@@ -36,6 +36,10 @@ unfoldable pub use Rattle.qrcode_bits.specs.Optimizer.{chosen_plan}
 pub use Rattle.qrcode_bits.specs.Frame.{HasHeader, Header, IsFrame, IsTotal, ended, half_byte, half_byte_width, header_of, header_bits, message}
 pub use Rattle.qrcode_bits.specs.Frame.{padding, spellings, tail, terminator_width}
 unfoldable pub use Rattle.qrcode_bits.specs.Frame.{bytes_in_turn}
+pub use Rattle.qrcode_bits.specs.Frame.{Front, HasFront, front_bits, front_of, no_front}
+pub use Rattle.qrcode_bits.specs.Contents.{AreAllowed, AreDataOf, HasContent, content_bits, data_of, parsed_byte, parsed_bytes, piece_data, pieces_of, written}
+pub use Rattle.qrcode_bits.specs.declared.bits.front.Content.{Content}
+pub use Rattle.qrcode_bits.specs.declared.bits.front.Content.TheVariants.{Bytes, Elements, Text}
 pub use Rattle.qrcode_bits.specs.Parsing.{AreTexts, Class, Digit, LoneLead, Other, Pair, Run, Sign, add_unit, class_mode, class_number, class_of, class_size}
 pub use Rattle.qrcode_bits.specs.Parsing.{joins, parsed, run_segment, runs, units}
 pub use Rattle.qrcode_bits.specs.Plans.{Fits, FitsNone, FitsNot, HasLinearCosts, IsAsGood, IsChoice, IsChosen, IsChosenPlan, IsClass}

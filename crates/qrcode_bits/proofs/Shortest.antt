@@ -27,12 +27,14 @@ alphabet_low : each_below 45 is_low_at ≡ true
 unfolding each_below
 alphabet_low = refl
 
-low-no_lead : (a : ℕ) → a < 128 → is_lead a ≡ false
+pub low-no_lead : (a : ℕ) → a < 128 → is_lead a ≡ false
 low-no_lead a h = grind arith
 
+pub sign-low : (a : ℕ) → Contains alphabet a → a < 128
+sign-low a h = subst (λ z. z < 128) (character_at_value a h) (ltb-true _ _ (from_each_below 45 is_low_at alphabet_low _ (value_below a h)))
+
 sign-no_lead : (a : ℕ) → Contains alphabet a → is_lead a ≡ false
-sign-no_lead a h =
-    low-no_lead a (subst (λ z. z < 128) (character_at_value a h) (ltb-true _ _ (from_each_below 45 is_low_at alphabet_low _ (value_below a h))))
+sign-no_lead a h = low-no_lead a (sign-low a h)
 
 sign-up_to : (a : ℕ) → is_lead a ≡ false → is_alphanumeric a ≡ true → UpTo (class_mode (class_of a)) Alphanumeric
 sign-up_to a h d = grind arith

@@ -6,6 +6,7 @@ use Rattle.qrcode_base.specs.declared.types.{Color.Color, EcLevel.EcLevel}
 use Rattle.qrcode_core.specs.{Drawn.DrawnSymbol, Drawn.TellsReading, Drawn.modules_of, Sequence.AreBestSymbols}
 use Rattle.qrcode_c.specs.{declared.refusal.Refusal.Refusal, declared.refusal.Refusal.TheVariants.ShortBuffer, declared.shape.Shape.Shape, Holding.Holds}
 use Rattle.qrcode_c.specs.{Holding.HoldsBest, Holding.HoldsPart, Levels.number_of, Refusals.IsPartAbove}
+use Rattle.qrcode_bits.specs.declared.bits.front.Content.TheVariants.{Bytes}
 
 pub best_held : (best : EcLevel → List Color → Type 0) (level : EcLevel) (number : ℤ) (symbol : DrawnSymbol) (before after : List ℕ)
     (result : Result Shape Refusal) →
@@ -29,14 +30,14 @@ short_refused comes longer (Err refusal) short room why = subst comes (sym short
 
 -- There is a symbol at the index of a part.
 within : (message cuts : List ℕ) (level : EcLevel) (limit : ℤ) (index : ℕ) (symbols : List DrawnSymbol) →
-    AreBestSymbols message cuts level (nat_abs limit) (map modules_of symbols) → index ≤ length cuts → index < length symbols
+    AreBestSymbols Bytes message cuts level (nat_abs limit) (map modules_of symbols) → index ≤ length cuts → index < length symbols
 within message cuts level limit index symbols best part =
     let count : length symbols ≡ length cuts + 1 = sym (length-map symbols modules_of) ∙ best.a_grid_each in omega arith
 
 pub part_held : (message cuts : List ℕ) (level : EcLevel) (number limit : ℤ) (index : ℕ) (symbols : List DrawnSymbol)
     (symbol : DrawnSymbol) (before after : List ℕ)
     (result : Result Shape Refusal) → number ≡ number_of level → index ≤ length cuts →
-    AreBestSymbols message cuts level (nat_abs limit) (map modules_of symbols) → All TellsReading symbols → symbol ≡ get_or symbols index symbol →
+    AreBestSymbols Bytes message cuts level (nat_abs limit) (map modules_of symbols) → All TellsReading symbols → symbol ≡ get_or symbols index symbol →
     IfOk result (Holds symbol before after) → IfOk result (HoldsPart message cuts number limit index before after)
 part_held message cuts level number limit index symbols symbol before after result level_is part best reading is held =
     let less = within message cuts level limit index symbols best part in
@@ -52,7 +53,7 @@ part_held message cuts level number limit index symbols symbol before after resu
     }) held
 
 pub part_above : (room : ℕ) (message cuts : List ℕ) (level : EcLevel) (limit : ℤ) (index : ℕ) (symbols : List DrawnSymbol) (symbol : DrawnSymbol) →
-    index ≤ length cuts → AreBestSymbols message cuts level (nat_abs limit) (map modules_of symbols) → symbol ≡ get_or symbols index symbol →
+    index ≤ length cuts → AreBestSymbols Bytes message cuts level (nat_abs limit) (map modules_of symbols) → symbol ≡ get_or symbols index symbol →
     room < length symbol.modules → IsPartAbove room message cuts level limit index
 part_above room message cuts level limit index symbols symbol part best is above =
     record {

@@ -9,6 +9,7 @@ use Rattle.qrcode_core.specs.Sequence.{AreBestSymbols}
 use Rattle.qrcode_c.specs.declared.shape.Shape.{Shape}
 use Rattle.qrcode_c.specs.Levels.{number_of}
 use Rattle.qrcode_c.specs.Shapes.{shape_of}
+use Rattle.qrcode_bits.specs.declared.bits.front.Content.TheVariants.{Bytes}
 
 -- The first bytes of the buffer are the modules of the symbol, as many as the square of its width;
 -- the other bytes are unchanged. The shape is that of the symbol.
@@ -34,7 +35,7 @@ pub record HoldsPart (message cuts : List ℕ) (number limit : ℤ) (index : ℕ
   pub level : EcLevel
   pub level_is : number ≡ number_of level
   pub symbols : List DrawnSymbol
-  pub are_best : AreBestSymbols message cuts level (nat_abs limit) (map modules_of symbols)
+  pub are_best : AreBestSymbols Bytes message cuts level (nat_abs limit) (map modules_of symbols)
   pub symbol : DrawnSymbol
   pub at_index : slice_get symbols index ≡ Some symbol
   pub reading : TellsReading symbol

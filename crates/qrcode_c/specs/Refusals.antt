@@ -15,6 +15,7 @@ use Rattle.qrcode_c.specs.declared.refusal.Refusal.TheVariants.{InvalidMaxVersio
 use Rattle.qrcode_c.specs.declared.refusal.Refusal.TheVariants.{InvalidIndex, ShortBuffer}
 use Rattle.qrcode_c.specs.Levels.{AtLevel, IsNoLevel}
 use Rattle.qrcode_c.specs.Statuses.{status_of}
+use Rattle.qrcode_bits.specs.declared.bits.front.Content.TheVariants.{Bytes}
 
 -- The status is the number of an error for which the fact is true.
 abbrev pub IsStatusOf : (Refusal → Type 0) → ℤ → Type 0
@@ -59,7 +60,7 @@ pub record IsAsked (message cuts : List ℕ) (limit : ℤ) (index : ℕ) : Type 
 -- has bytes.
 pub record IsPartAbove (room : ℕ) (message cuts : List ℕ) (level : EcLevel) (limit : ℤ) (index : ℕ) : Type 0 where
   pub symbols : List DrawnSymbol
-  pub are_best : AreBestSymbols message cuts level (nat_abs limit) (map modules_of symbols)
+  pub are_best : AreBestSymbols Bytes message cuts level (nat_abs limit) (map modules_of symbols)
   pub symbol : DrawnSymbol
   pub at_index : slice_get symbols index ≡ Some symbol
   pub above : room < length symbol.modules
@@ -78,7 +79,7 @@ IsPartRefusal message cuts number limit index room InvalidPartCount =
     AtLevel number (λ level. IsAsked message cuts limit index × (IsTotal (length cuts + 1) → ⊥))
 IsPartRefusal message cuts number limit index room DataTooLong =
     AtLevel number (λ level. IsAsked message cuts limit index × IsTotal (length cuts + 1)
-    × IsSomePartTooLong message cuts level (nat_abs limit))
+    × IsSomePartTooLong Bytes message cuts level (nat_abs limit))
 IsPartRefusal message cuts number limit index room OutOfMemory =
     AtLevel number (λ level. IsAsked message cuts limit index × IsTotal (length cuts + 1))
 IsPartRefusal message cuts number limit index room ShortBuffer =

@@ -2,9 +2,10 @@
 -- grid is far from others.
 use Rattle.qrcode_core.proofs.Prelude.{◌<◌, ◌≤◌, sym, arith, Bool, List, length, length-append, Color, EcLevel, Version, MaskPattern, AreBytes, AreBlocksApart}
 use Rattle.qrcode_core.proofs.Prelude.{codeword_block, block_sizes, Reading, Carries, Reads, ◌≡◌, append_cancel_right, missing_bits, zero_bits, AreApart}
-use Rattle.qrcode_core.proofs.Prelude.{HaveDistance, ℕ, ◌+◌, refl, Option, IsChoice, total_bits, Header, header_bits, DrawnSymbol, TellsReading, IsEncoded}
+use Rattle.qrcode_core.proofs.Prelude.{AreDataOf, Elements, Front, InvalidResourceLimits, Text, front_bits, front_of, no_front, parsed_bytes, pieces_of, pos, subst}
+use Rattle.qrcode_core.proofs.Prelude.{HaveDistance, ℕ, ◌+◌, refl, IsChoice, total_bits, DrawnSymbol, TellsReading, IsEncoded}
 use Rattle.qrcode_core.proofs.Prelude.{IsDrawn, IsBest, ◌++◌, take, Some, None, All, none-some, BlockLayout, QrError, DataTooLong, OutOfMemory, blocks_of}
-use Rattle.qrcode_core.proofs.Prelude.{capacity, normal, micro, spellings, Stream, IsTooLong, IsRefusal, AreBytesOf, FillsSymbol, IsDrawnStream, common_steps}
+use Rattle.qrcode_core.proofs.Prelude.{capacity, normal, micro, spellings, Stream, IsRefusal, AreBytesOf, FillsSymbol, IsDrawnStream, common_steps}
 use Rattle.qrcode_core.proofs.Prelude.{byte_bits, tail, HoldsStream}
 use Rattle.qrcode_core.proofs.Codewords.{drawn_carries, bytes_of_tailed, take_ended, length-encoded, length-tailed, length-filled}
 use Rattle.qrcode_core.proofs.OneReading.{one_reading, one_carried}
@@ -12,9 +13,10 @@ use Rattle.std.{proofs.lemmas.List.get_or-replicate, proofs.lemmas.List.Elements
 use Rattle.qrcode_grid.proofs.Distance.{AreBytes-block_in, length-block_in, distance-sound, AreApart-from_blocks}
 use Rattle.qrcode_grid.proofs.WholeSymbols.{IsUsable-of_symbol}
 use Rattle.qrcode_core.proofs.NoneBetter.{none_better}
-use Rattle.qrcode_bits.specs.Push.{IsEncoding, IsUnencodable, EndsAtLevel}
-use Rattle.qrcode_bits.{proofs.Reading.frame_one_reading, specs.declared.optimize.Segment.Segment, specs.Spelling.segment_pieces, proofs.Choices.fits_last}
-use Rattle.qrcode_bits.{proofs.Lengths.long_message, proofs.Lengths.long_for_micro, proofs.PlanFrames.spelled_plan}
+use Rattle.qrcode_bits.specs.Push.{IsEncoding, IsUnencodable, IsFrontRefused, EndsAtLevel}
+use Rattle.qrcode_core.specs.Headline.{IsTooLongAfter, IsTextRefusal, IsElementsRefusal}
+use Rattle.qrcode_bits.{proofs.Reading.frame_one_reading, specs.declared.optimize.Segment.Segment, proofs.Choices.fits_last}
+use Rattle.qrcode_bits.{proofs.Lengths.long_message, proofs.Lengths.long_for_micro, proofs.PlanFrames.spelled_plan, proofs.Contents.length-parsed, proofs.Contents.parsed-bytes}
 
 -- ---- The blocks of a grid that is read are sound, so other sound lists are far from them
 
@@ -41,7 +43,7 @@ bytes_of_codewords : (grid other : List Color) (r s : Reading) (f : Reads grid r
     g.carries.codewords ≡ f.carries.codewords → s.bytes ≡ r.bytes
 bytes_of_codewords grid other r s f g same_version same_level same =
     let frames = append_cancel_right g.frame f.frame (zero_bits (missing_bits r.version)) in
-    let one = frame_one_reading r.version r.level s.header r.header s.bytes r.bytes s.payload r.payload f.frame in
+    let one = frame_one_reading r.version r.level s.front r.front s.bytes r.bytes s.payload r.payload f.frame in
     grind (arith, frames, f.carries.bits_are, g.carries.bits_are, one, f.framed, g.framed)
 
 pub grids_apart : HaveDistance
@@ -58,20 +60,21 @@ grids_apart grid r f other s g same_version same_level differ =
 -- symbol
 
 -- Its version is the frame's, up to the limit of the choice, and it returns its reading.
-pub best_symbol : (kind : ℕ → Version) (header : Option Header) (bytes : List ℕ) (level : EcLevel) (limit number : ℕ) (plan : List Segment)
-    (codewords : List ℕ) (symbol : DrawnSymbol) → IsChoice kind (length (header_bits header)) bytes level limit number plan →
-    IsEncoded (kind number) level header bytes (length (header_bits header) + total_bits (kind number) plan) codewords →
+pub best_symbol : (kind : ℕ → Version) (front : Front) (bytes : List ℕ) (level : EcLevel) (limit number : ℕ) (plan : List Segment)
+    (codewords : List ℕ) (symbol : DrawnSymbol) →
+    IsChoice kind (length (front_bits front)) (parsed_bytes front.content bytes) level limit number plan →
+    IsEncoded (kind number) level front bytes (length (front_bits front) + total_bits (kind number) plan) codewords →
     IsDrawn (kind number) level codewords symbol →
-    (best : IsBest kind header bytes level symbol.modules) × (best.number ≤ limit) × TellsReading symbol
-best_symbol kind header bytes level limit number plan codewords symbol choice code drawn =
+    (best : IsBest kind front bytes level symbol.modules) × (best.number ≤ limit) × TellsReading symbol
+best_symbol kind front bytes level limit number plan codewords symbol choice code drawn =
     let grid = symbol.modules in
-    let payload = length (header_bits header) + total_bits (kind number) plan in
+    let payload = length (front_bits front) + total_bits (kind number) plan in
     let known : Reading = record {
       bytes = bytes;
       version = kind number;
       level = level;
       mask = symbol.mask;
-      header = header;
+      front = front;
       payload = payload;
     } in
     let reads : Reads grid known = record {
@@ -92,7 +95,7 @@ best_symbol kind header bytes level limit number plan codewords symbol choice co
         fits = choice.fits;
         smallest = choice.smallest;
         fewest = choice.fewest;
-        none_better = none_better kind header bytes level number payload choice.smallest choice.fewest;
+        none_better = none_better kind front bytes level number payload choice.smallest choice.fewest;
         best_mask = drawn.best;
         apart = blocks_apart grid known reads;
         far = grids_apart grid known reads;
@@ -108,22 +111,22 @@ best_symbol kind header bytes level limit number plan codewords symbol choice co
 pub has_blocks : (v : Version) (l : EcLevel) (limit : ℕ) → capacity v l ≡ Some limit → (b : BlockLayout) × (blocks_of v l ≡ Some b)
 has_blocks v l limit e = grind (arith, common_steps, none-some)
 
-module _ {kind : ℕ → Version} {header : Option Header} {bytes : List ℕ} {level : EcLevel} {limit : ℕ} {stream : Stream}
-    (are : All (λ c. c < 256) bytes) (encoding : IsEncoding kind header bytes level limit stream) where
+module _ {kind : ℕ → Version} {front : Front} {bytes : List ℕ} {level : EcLevel} {limit : ℕ} {stream : Stream}
+    (are : All (λ c. c < 256) bytes) (suited : AreDataOf front.content bytes) (encoding : IsEncoding kind front bytes level limit stream) where
   abbrev version : Version
   version = kind encoding.number
 
-  abbrev front : ℕ
-  front = length (header_bits header)
+  abbrev ahead : ℕ
+  ahead = length (front_bits front)
 
   abbrev payload : List Bool
-  payload = header_bits header ++ spellings version (segment_pieces bytes encoding.plan)
+  payload = front_bits front ++ spellings version (pieces_of front.content bytes encoding.plan)
 
-  encoded : (words : List ℕ) → AreBytesOf words stream.bits → IsEncoded version level header bytes (front + total_bits version encoding.plan) words
+  encoded : (words : List ℕ) → AreBytesOf words stream.bits → IsEncoded version level front bytes (ahead + total_bits version encoding.plan) words
   encoded words turned =
       let held = encoding.stream_is in
       let blocks = has_blocks version level held.limit held.limit_is in
-      let spelled = spelled_plan front version level bytes encoding.plan are encoding.choice.fits in
+      let spelled = spelled_plan ahead version level front.content bytes encoding.plan are suited encoding.choice.fits in
       let within : length payload ≤ held.limit = grind (arith, common_steps, spelled.bits, held.frame.fits, held.frame.limit_is, held.limit_is) in
       let ends = bytes_of_tailed version level blocks.0 held.limit payload words blocks.1 held.limit_is within in
       let first = take_ended version held.limit payload within in
@@ -132,30 +135,35 @@ module _ {kind : ℕ → Version} {header : Option Header} {bytes : List ℕ} {l
   -- What an encoding is turned into fills its symbol.
   pub fills_symbol : FillsSymbol stream level
   fills_symbol words turned =
-      let long = length-encoded version level header bytes (front + total_bits version encoding.plan) words in
+      let long = length-encoded version level front bytes (ahead + total_bits version encoding.plan) words in
       grind (arith, common_steps, encoding.stream_is, has_blocks version level, long, encoded words turned)
 
   -- The symbol that is drawn of it is the best one, in a version up to the limit, and it returns
   -- its reading.
   pub best_of_stream : {symbol : DrawnSymbol} → IsDrawnStream stream level symbol →
-      (best : IsBest kind header bytes level symbol.modules) × (best.number ≤ limit) × TellsReading symbol
+      (best : IsBest kind front bytes level symbol.modules) × (best.number ≤ limit) × TellsReading symbol
   best_of_stream {symbol = symbol} held =
-      best_symbol kind header bytes level limit encoding.number encoding.plan held.codewords symbol encoding.choice
+      best_symbol kind front bytes level limit encoding.number encoding.plan held.codewords symbol encoding.choice
       (encoded held.codewords held.turned) (rw encoding.stream_is.version_is at held.drawn)
 
 -- What is encoded fits version 40.
-pub encoded_fits : {bytes : List ℕ} {level : EcLevel} {stream : Stream} → IsEncoding normal None bytes level 40 stream → IsTooLong bytes level → ⊥
-encoded_fits {bytes = bytes} {level = level} encoding long =
-    long encoding.plan (fits_last 0 encoding.number bytes level encoding.plan (omega (arith, encoding.choice.up_to)) encoding.choice.fits)
+pub encoded_fits : {front : Front} {bytes : List ℕ} {level : EcLevel} {stream : Stream} → IsEncoding normal front bytes level 40 stream →
+    IsTooLongAfter front bytes level → ⊥
+encoded_fits {front = front} {bytes = bytes} {level = level} encoding long =
+    long encoding.plan (fits_last (length (front_bits front)) encoding.number (parsed_bytes front.content bytes) level encoding.plan
+    (omega (arith, encoding.choice.up_to)) encoding.choice.fits)
 
 -- It has at most 7089 bytes.
-pub encoded_short : {header : Option Header} {bytes : List ℕ} {level : EcLevel} {stream : Stream} (limit : ℕ) →
-    limit ≤ 40 → All (λ c. c < 256) bytes → IsEncoding normal header bytes level limit stream → length bytes ≤ 7089
-encoded_short {header = header} {bytes = bytes} {level = level} limit h are encoding =
-    let none = λ (long : 7089 < length bytes). long_message _ bytes level limit h are long _ encoding.choice.up_to _ encoding.choice.fits in
-    omega arith
+pub encoded_short : {front : Front} {bytes : List ℕ} {level : EcLevel} {stream : Stream} (limit : ℕ) →
+    limit ≤ 40 → All (λ c. c < 256) bytes → IsEncoding normal front bytes level limit stream → length bytes ≤ 7089
+encoded_short {front = front} {bytes = bytes} {level = level} limit h are encoding =
+    let message = parsed_bytes front.content bytes in
+    let size = length-parsed front.content bytes in
+    let none = λ (long : 7089 < length message).
+    long_message _ message level limit h (parsed-bytes front.content bytes are) long _ encoding.choice.up_to _ encoding.choice.fits in
+    omega (arith, none, size)
 
-pub encoded_micro_short : {bytes : List ℕ} {level : EcLevel} {stream : Stream} → All (λ c. c < 256) bytes → IsEncoding micro None bytes level 4 stream →
+pub encoded_micro_short : {bytes : List ℕ} {level : EcLevel} {stream : Stream} → All (λ c. c < 256) bytes → IsEncoding micro no_front bytes level 4 stream →
     length bytes ≤ 7089
 encoded_micro_short {bytes = bytes} {level = level} are encoding =
     let none = λ (long : 7089 < length bytes). long_for_micro bytes level are long _ encoding.choice.up_to _ encoding.choice.fits in
@@ -169,6 +177,19 @@ pub normal_refused : (bytes : List ℕ) (level : EcLevel) (e : QrError) → IsUn
 normal_refused bytes level DataTooLong none = none 40 (omega arith)
 normal_refused bytes level OutOfMemory few = few
 normal_refused bytes level other none = none
+
+pub text_refused : (bytes : List ℕ) (level : EcLevel) (e : QrError) → IsFrontRefused (front_of None Text) bytes level (pos 40) e → IsTextRefusal bytes level e
+text_refused bytes level InvalidResourceLimits bad = absurd (bad (omega arith, omega arith))
+text_refused bytes level DataTooLong none = none.1 40 (omega arith)
+text_refused bytes level OutOfMemory few = subst (λ (n : ℕ). n ≤ 7089) (length-parsed Text bytes) few.1
+text_refused bytes level other none = absurd none.1
+
+pub elements_refused : (bytes : List ℕ) (level : EcLevel) (e : QrError) → AreDataOf Elements bytes → IsFrontRefused (front_of None Elements) bytes level (pos 40) e →
+    IsElementsRefusal bytes level e
+elements_refused bytes level InvalidResourceLimits are bad = absurd (bad (omega arith, omega arith))
+elements_refused bytes level DataTooLong are none = (are, none.1 40 (omega arith))
+elements_refused bytes level OutOfMemory are few = (are, subst (λ (n : ℕ). n ≤ 7089) (length-parsed Elements bytes) few.1)
+elements_refused bytes level other are none = absurd none.1
 
 -- ---- The bits that a caller pushed, ended and drawn, are what the symbol carries
 

@@ -2,8 +2,8 @@
 -- grid carries.
 use Rattle.qrcode_core.proofs.Prelude.{◌≡◌, ℕ, ◌+◌, ◌*◌, ◌<◌, refl, ap, arith, List, [], ◌∷◌, ◌++◌, length, Bool, length-append, length-replicate, byte_bits}
 use Rattle.qrcode_core.proofs.Prelude.{zero_bits, AreBytes, ◌-◌, ◌%◌, ◌≤◌, ◌⊎◌, take, append_assoc, Some, take_at, none-some, same_Some, EcLevel, Version}
-use Rattle.qrcode_core.proofs.Prelude.{BlockLayout, block_sizes, blocks_of, data_bytes, missing_bits, capacity, tail, ended, common_steps, Option, IsVersion}
-use Rattle.qrcode_core.proofs.Prelude.{Header, IsEncoded, AreAllCodewords, map, concat, same_lists, get_or_default, place_in_stream, block_in, blocks_in}
+use Rattle.qrcode_core.proofs.Prelude.{BlockLayout, block_sizes, blocks_of, data_bytes, missing_bits, capacity, tail, ended, common_steps, IsVersion}
+use Rattle.qrcode_core.proofs.Prelude.{Front, IsEncoded, AreAllCodewords, map, concat, same_lists, get_or_default, place_in_stream, block_in, blocks_in}
 use Rattle.qrcode_core.proofs.Prelude.{AreCodewords, zero, suc, ◌∙◌, replicate, false, Light, is_dark, DrawnSymbol, IsDrawn, Carries}
 use Rattle.std.proofs.{lemmas.List.Elements.All-head, lemmas.List.Elements.All-tail, lemmas.List.replicate-append-replicate, Common.min, Common.append-nil}
 use Rattle.std.proofs.{lemmas.List.FromFn.get_or-map-range_with_len, lemmas.List.FromFn.length-map-range_with_len}
@@ -69,7 +69,7 @@ length-filled v l words b limit bits known limit_is size held =
     grind (arith, common_steps, length-drawn words bits (missing_bits v) held, lacks v l b known, same_Some)
 
 -- The codewords of a frame are as many as the data codewords of the symbol.
-pub length-encoded : (v : Version) (l : EcLevel) (h : Option Header) (bytes : List ℕ) (n : ℕ) (words : List ℕ) (b : BlockLayout) →
+pub length-encoded : (v : Version) (l : EcLevel) (h : Front) (bytes : List ℕ) (n : ℕ) (words : List ℕ) (b : BlockLayout) →
     IsEncoded v l h bytes n words → blocks_of v l ≡ Some b → length words ≡ data_bytes b
 length-encoded v l h bytes n words b code known =
     length-filled v l words b code.framed.limit code.frame known code.framed.limit_is (length-frame v l h bytes n code.frame code.framed) code.frame_is

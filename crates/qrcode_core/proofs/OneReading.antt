@@ -150,5 +150,5 @@ pub one_reading : HaveOneReading
 one_reading grid r s f g =
     let same = one_carried grid r.version s.version r.level s.level r.mask s.mask f.frame g.frame f.carries g.carries in
     let framed = rw (same.0, same.1, same.3) at f.framed in
-    let rest = frame_one_reading s.version s.level r.header s.header r.bytes s.bytes r.payload s.payload g.frame framed g.framed in
+    let rest = frame_one_reading s.version s.level r.front s.front r.bytes s.bytes r.payload s.payload g.frame framed g.framed in
     grind (arith, same, rest)

@@ -23,7 +23,10 @@ pub use Rattle.qrcode_base.specs.declared.types.Version.{Version}
 pub use Rattle.qrcode_base.specs.declared.types.Version.TheVariants.{Micro, Normal}
 pub use Rattle.qrcode_base.specs.declared.types.errors.QrError.{QrError}
 pub use Rattle.qrcode_base.specs.declared.types.errors.QrError.TheVariants.{DataTooLong, InvalidResourceLimits, OutOfMemory}
-pub use Rattle.qrcode_bits.specs.Frame.{Header, IsTotal, ended, half_byte, header_bits, spellings, tail}
+pub use Rattle.qrcode_bits.specs.Contents.{AreDataOf, content_bits, parsed_bytes, pieces_of}
+pub use Rattle.qrcode_bits.specs.Frame.{Front, Header, IsTotal, ended, front_bits, front_of, half_byte, no_front, spellings, tail}
+pub use Rattle.qrcode_bits.specs.declared.bits.front.Content.{Content}
+pub use Rattle.qrcode_bits.specs.declared.bits.front.Content.TheVariants.{Bytes, Elements, Text}
 pub use Rattle.qrcode_bits.specs.Plans.{IsChoice, micro, normal, total_bits}
 pub use Rattle.qrcode_bits.specs.Stream.{Stream}
 pub use Rattle.qrcode_core.specs.Drawn.{DrawnSymbol, HoldsStream, TellsReading, modules_of}

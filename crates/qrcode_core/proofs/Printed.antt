@@ -6,7 +6,7 @@ use Rattle.qrcode_core.specs.Headline.{printed, printed_reading}
 use Rattle.std.specs.Prelude.{◌≢◌}
 use Rattle.std.proofs.lemmas.List.Elements.{All-cons, All-nil}
 use Rattle.qrcode_base.specs.{declared.types.EcLevel.TheVariants.L, declared.types.Mode.TheVariants.Numeric, Numbers.number_bits}
-use Rattle.qrcode_bits.specs.{Frame.IsFrame, Frame.bytes_in_turn, Spelling.Piece, Spelling.IsSpellable}
+use Rattle.qrcode_bits.specs.{Frame.IsFrame, Frame.no_front, Frame.bytes_in_turn, Spelling.Piece, Spelling.IsSpellable}
 use Rattle.qrcode_grid.specs.Codes.{value_at, IsSound, double, shift_and_add, product, power}
 use Rattle.qrcode_grid.{specs.declared.canvas.MaskPattern.TheVariants.Diamonds, proofs.Tests.all_pass, proofs.Tests.passes}
 
@@ -54,13 +54,14 @@ printed_codewords = record { stream_length = refl; correction_length = refl; in_
 abbrev digits : Piece
 digits = record { mode = Numeric; text = codes "12345" }
 
-printed_frame : IsFrame (Micro (pos 1)) L None (codes "12345") 20 (take 20 (byte_bits words))
+printed_frame : IsFrame (Micro (pos 1)) L no_front (codes "12345") 20 (take 20 (byte_bits words))
 unfolding number_bits bytes_in_turn
 printed_frame = record {
   limit = 20;
   pieces = digits ∷ [];
   limit_is = refl;
-  header_fits = tt;
+  front_fits = (tt, tt);
+  allowed = tt;
   spellable = All-cons (IsSpellable (Micro (pos 1))) digits [] (record { mode = omega arith; valid = search rules; counted = omega arith })
       (All-nil (IsSpellable (Micro (pos 1))));
   nonempty = All-cons (λ (piece : Piece). piece.text ≢ []) digits [] (λ e. cc) (All-nil (λ (piece : Piece). piece.text ≢ []));

@@ -2,13 +2,20 @@
 -- each.
 use Rattle.qrcode_core.proofs.Prelude.{common_steps, ◌≡◌, ℕ, zero, suc, ◌+◌, ◌-◌, ◌<◌, ◌≤◌, refl, sym, ◌∙◌, arith, List, [], ◌∷◌, ◌++◌, length, get_or, drop}
 use Rattle.qrcode_core.proofs.Prelude.{IsPermutation, slice_range, concat, IsNonDecreasing, same_lists, get_or_default, IsPermutation-sym, IsPermutation-trans}
-use Rattle.qrcode_core.proofs.Prelude.{Contains-permutation, length_permutation, same_Some, Color, Header, ReadsPiece, ReadsMessage, HaveOneMessage, parts_from}
+use Rattle.qrcode_core.proofs.Prelude.{Contains-permutation, length_permutation, same_Some, Color, Header, Reading, ReadsPiece, ReadsMessage, HaveOneMessage, parts_from}
 use Rattle.qrcode_core.proofs.Prelude.{parts_at, ap, subst, inl, inr, length-append, cases_eq, get_or_append_left, get_or_push, IsPermutation-refl, EcLevel}
 use Rattle.qrcode_core.proofs.Prelude.{QrError, DataTooLong, InvalidResourceLimits, IsTotal, IsNormalNumber, ℤ}
 use Rattle.qrcode_core.proofs.OneReading.{one_reading}
-use Rattle.qrcode_core.specs.Sequence.{header_at, IsPartSymbol, AreBestSymbols, IsSomePartTooLong, IsSequenceRefusal}
+use Rattle.qrcode_core.specs.Sequence.{header_at, AreBestSymbols, IsSomePartTooLong, IsSequenceRefusal}
 use Rattle.std.proofs.lemmas.List.{take-append-drop, drop-drop, append-nil, take_all, length-drop, Elements.Contains-get_or}
-use Rattle.qrcode_bits.{specs.Push.IsPartRefused, proofs.Reading.length-header}
+use Rattle.std.proofs.Common.{Some}
+use Rattle.qrcode_bits.specs.Frame.{Front, front_of}
+use Rattle.qrcode_bits.specs.declared.bits.front.Content.{Content}
+use Rattle.std.proofs.Common.{nat_abs}
+use Rattle.qrcode_core.proofs.NoneBetter.{front-long}
+use Rattle.qrcode_core.specs.Headline.{IsBestUpTo}
+use Rattle.qrcode_core.proofs.Prelude.{normal, parsed_bytes}
+use Rattle.qrcode_bits.{specs.Push.IsFrontRefused, specs.Plans.FitsNone}
 
 -- ---- Some grids are read as one message at most, in whatever order; and the parts of a message
 -- are the message
@@ -16,13 +23,20 @@ use Rattle.qrcode_bits.{specs.Push.IsPartRefused, proofs.Reading.length-header}
 -- ---- One message
 
 -- a grid is read as one piece with one header
-one_piece : (grid : List Color) (g h : Header) (a b : List ℕ) → ReadsPiece grid g a → ReadsPiece grid h b → (g ≡ h) × (a ≡ b)
-one_piece grid g h a b p q = grind (arith, common_steps, one_reading grid p.reading q.reading p.reads q.reads, same_Some)
+one_piece : (grid : List Color) (g h : Header) (c d : Content) (a b : List ℕ) → ReadsPiece grid g c a → ReadsPiece grid h d b →
+    (g ≡ h) × (c ≡ d) × (a ≡ b)
+one_piece grid g h c d a b p q =
+    let same = one_reading grid p.reading q.reading p.reads q.reads in
+    let fronts : front_of (Some g) c ≡ front_of (Some h) d = sym p.front_is ∙ (ap (λ (r : Reading). r.front) same ∙ q.front_is) in (
+      same_Some g h (ap (λ (f : Front). f.header) fronts),
+      ap (λ (f : Front). f.content) fronts,
+      sym p.piece_is ∙ (ap (λ (r : Reading). r.bytes) same ∙ q.piece_is),
+    )
 
 -- the piece at a place is the same in two readings
-same_piece : (grids : List (List Color)) (m n : List ℕ) (f : ReadsMessage grids m) (g : ReadsMessage grids n) (i : ℕ) → i < length grids →
-    get_or f.pieces i [] ≡ get_or g.pieces i []
-same_piece grids m n f g i inside =
+same_piece : (grids : List (List Color)) (c d : Content) (m n : List ℕ) (f : ReadsMessage grids c m) (g : ReadsMessage grids d n) (i : ℕ) → i < length grids →
+    (c ≡ d) × (get_or f.pieces i [] ≡ get_or g.pieces i [])
+same_piece grids c d m n f g i inside =
     let sorted = length_permutation grids f.in_order f.same_grids in
     let others = length_permutation grids g.in_order g.same_grids in
     let grid = get_or f.in_order i [] in
@@ -32,24 +46,27 @@ same_piece grids m n f g i inside =
     grind (arith, one_piece grid, f.each_read i inside, there, get_or_default g.in_order found.0 [] grid found.1 ∙ found.2)
 
 -- Grids that are read as a message are so in every order.
-pub in_any_order : (grids shuffled : List (List Color)) (message : List ℕ) → IsPermutation grids shuffled → ReadsMessage grids message →
-    ReadsMessage shuffled message
-in_any_order grids shuffled message mixed seen =
-    grind (
-      arith,
-      length_permutation grids shuffled mixed,
-      IsPermutation-trans shuffled grids seen.in_order (IsPermutation-sym grids shuffled mixed) seen.same_grids,
-      IsPermutation-sym grids shuffled mixed,
-      common_steps,
-    )
+pub in_any_order : (grids shuffled : List (List Color)) (c : Content) (message : List ℕ) → IsPermutation grids shuffled → ReadsMessage grids c message →
+    ReadsMessage shuffled c message
+in_any_order grids shuffled c message mixed seen =
+    let long : length grids ≡ length shuffled = sym (length_permutation grids shuffled mixed) in
+    record {
+      in_order = seen.in_order;
+      pieces = seen.pieces;
+      enough = subst IsTotal long seen.enough;
+      same_grids = IsPermutation-trans shuffled grids seen.in_order (IsPermutation-sym grids shuffled mixed) seen.same_grids;
+      a_piece_each = seen.a_piece_each ∙ long;
+      each_read = λ i inside. rw long at seen.each_read i (omega (arith, inside, long));
+      message_is = seen.message_is;
+    }
 
 pub one_message : HaveOneMessage
-one_message grids shuffled m n mixed f h =
-    let g = in_any_order shuffled grids n (IsPermutation-sym grids shuffled mixed) h in
-    let pieces : f.pieces ≡ g.pieces = same_lists f.pieces g.pieces (omega (arith, f.a_piece_each, g.a_piece_each)) (λ k d below.
-    let same = same_piece grids m n f g k (omega (arith, below, f.a_piece_each)) in
+one_message grids shuffled c d m n mixed f h =
+    let g = in_any_order shuffled grids d n (IsPermutation-sym grids shuffled mixed) h in
+    let pieces : f.pieces ≡ g.pieces = same_lists f.pieces g.pieces (omega (arith, f.a_piece_each, g.a_piece_each)) (λ k x below.
+    let same = (same_piece grids c d m n f g k (omega (arith, below, f.a_piece_each))).1 in
     grind (arith, common_steps, same, get_or_default, f.a_piece_each, g.a_piece_each)) in
-    cc (f.message_is, g.message_is)
+    ((same_piece grids c d m n f g 0 (omega (arith, f.enough))).0, cc (f.message_is, g.message_is))
 
 -- ---- Parts
 
@@ -80,15 +97,15 @@ parts_whole cuts message rise = sym (concat-parts 0 cuts message (grind (arith, 
 -- ---- The symbols of a sequence, as they are made one after the other
 
 -- The first symbols of a sequence, for as many first parts.
-pub record AreFirstSymbols (message cuts : List ℕ) (level : EcLevel) (limit total done : ℕ) (grids : List (List Color)) : Type 0 where
+pub record AreFirstSymbols (content : Content) (message cuts : List ℕ) (level : EcLevel) (limit total done : ℕ) (grids : List (List Color)) : Type 0 where
   pub a_grid_each : length grids ≡ done
-  pub each_best : (i : ℕ) → i < done → IsPartSymbol (header_at (i + 1) total message) (get_or (parts_at cuts message) i []) level limit (get_or grids i [])
+  pub each_best : (i : ℕ) → i < done → IsBestUpTo (front_of (Some (header_at (i + 1) total message)) content) (get_or (parts_at cuts message) i []) level limit (get_or grids i [])
 
-pub one_more : (message cuts : List ℕ) (level : EcLevel) (limit total done : ℕ) (grids : List (List Color)) (grid : List Color) →
-    AreFirstSymbols message cuts level limit total done grids →
-    IsPartSymbol (header_at (done + 1) total message) (get_or (parts_at cuts message) done []) level limit grid →
-    AreFirstSymbols message cuts level limit total (done + 1) (grids ++ grid ∷ [])
-one_more message cuts level limit total done grids grid first next = record {
+pub one_more : (content : Content) (message cuts : List ℕ) (level : EcLevel) (limit total done : ℕ) (grids : List (List Color)) (grid : List Color) →
+    AreFirstSymbols content message cuts level limit total done grids →
+    IsBestUpTo (front_of (Some (header_at (done + 1) total message)) content) (get_or (parts_at cuts message) done []) level limit grid →
+    AreFirstSymbols content message cuts level limit total (done + 1) (grids ++ grid ∷ [])
+one_more content message cuts level limit total done grids grid first next = record {
   a_grid_each = omega (arith, length-append grids (grid ∷ []), first.a_grid_each);
   each_best = λ i below. elim (cases_eq i done) [
     | inl last ↦ rw (last, get_or_push grids grid [] done first.a_grid_each) next
@@ -97,13 +114,13 @@ one_more message cuts level limit total done grids grid first next = record {
 }
 
 -- All of them are the result.
-pub best_symbols : (message cuts : List ℕ) (level : EcLevel) (limit total done : ℕ) (grids : List (List Color)) →
+pub best_symbols : (content : Content) (message cuts : List ℕ) (level : EcLevel) (limit total done : ℕ) (grids : List (List Color)) →
     IsNonDecreasing cuts → IsTotal total → total ≡ length cuts + 1 → done ≡ total →
-    AreFirstSymbols message cuts level limit total done grids → AreBestSymbols message cuts level limit grids
-best_symbols message cuts level limit total done grids rise few count all first =
+    AreFirstSymbols content message cuts level limit total done grids → AreBestSymbols content message cuts level limit grids
+best_symbols content message cuts level limit total done grids rise few count all first =
     let size : total ≡ length grids = sym (first.a_grid_each ∙ all) in
     let best = λ (i : ℕ) (inside : i < length grids). rw size at first.each_best i (omega arith) in
-    let read : ReadsMessage grids message = record {
+    let read : ReadsMessage grids content message = record {
       in_order = grids;
       pieces = parts_at cuts message;
       enough = rw size at few;
@@ -114,7 +131,7 @@ best_symbols message cuts level limit total done grids rise few count all first 
           record {
             reading = _;
             reads = symbol.best.reads;
-            header_is = ap (λ r. r.header) symbol.best.says;
+            front_is = ap (λ r. r.front) symbol.best.says;
             piece_is = ap (λ r. r.bytes) symbol.best.says;
           };
       message_is = parts_whole cuts message rise;
@@ -122,23 +139,31 @@ best_symbols message cuts level limit total done grids rise few count all first 
     record {
       a_grid_each = sym size ∙ count;
       each_best = best;
-      reads = λ shuffled mixed. in_any_order grids shuffled message mixed read;
-      only = λ shuffled other mixed seen. sym (one_message grids shuffled message other mixed read seen);
+      reads = λ shuffled mixed. in_any_order grids shuffled content message mixed read;
+      only = λ shuffled c other mixed seen.
+          let same = one_message grids shuffled content c message other mixed read seen in (sym same.0, sym same.1);
     }
 
--- A part that fails for its length or for memory makes the sequence fail likewise; the limit and
--- the header are no reason.
-pub refused_part : (message cuts : List ℕ) (level : EcLevel) (limit : ℤ) (total i : ℕ) (header : Header) (e : QrError) → IsNormalNumber limit →
-    IsTotal total → total ≡ length cuts + 1 → i < total → header.place ≡ i + 1 → header.total ≡ total →
-    IsPartRefused header (get_or (parts_at cuts message) i []) level limit e → IsSequenceRefusal message cuts level limit e
-refused_part message cuts level limit total i header InvalidResourceLimits in_range few count inside at of why = absurd (why in_range)
-refused_part message cuts level limit total i header DataTooLong in_range few count inside at of why =
-    (in_range, subst IsTotal count few, (i, omega arith, why.2))
-refused_part message cuts level limit total i header e in_range few count inside at of why = grind (arith, common_steps)
+-- A part that fails for its length or for memory makes the sequence fail likewise; the limit is no
+-- reason.
+pub refused_part : (content : Content) (message cuts : List ℕ) (level : EcLevel) (limit : ℤ) (total i : ℕ) (header : Header) (e : QrError) →
+    IsNormalNumber limit → IsTotal total → total ≡ length cuts + 1 → i < total →
+    IsFrontRefused (front_of (Some header) content) (get_or (parts_at cuts message) i []) level limit e → IsSequenceRefusal content message cuts level limit e
+refused_part content message cuts level limit total i header InvalidResourceLimits in_range few count inside why = absurd (why in_range)
+refused_part content message cuts level limit total i header DataTooLong in_range few count inside why = (
+  in_range,
+  subst IsTotal count few,
+  (
+    i,
+    omega arith,
+    subst (λ (n : ℕ). FitsNone normal n (parsed_bytes content (get_or (parts_at cuts message) i [])) level (nat_abs limit)) (front-long header content) why.1,
+  ),
+)
+refused_part content message cuts level limit total i header e in_range few count inside why = grind (arith, common_steps)
 
 -- Where each part has its symbol, none is too long.
-pub none_too_long : (message cuts : List ℕ) (level : EcLevel) (limit : ℕ) (grids : List (List Color)) →
-    AreBestSymbols message cuts level limit grids → IsSomePartTooLong message cuts level limit → ⊥
-none_too_long message cuts level limit grids all (i, inside, none) =
+pub none_too_long : (content : Content) (message cuts : List ℕ) (level : EcLevel) (limit : ℕ) (grids : List (List Color)) →
+    AreBestSymbols content message cuts level limit grids → IsSomePartTooLong content message cuts level limit → ⊥
+none_too_long content message cuts level limit grids all (i, inside, none) =
     let part = all.each_best i (omega (arith, all.a_grid_each)) in
-    none part.best.number part.up_to part.best.plan (rw length-header at part.best.fits)
+    none part.best.number part.up_to part.best.plan (rw (front-long (header_at (i + 1) (length grids) message) content) at part.best.fits)

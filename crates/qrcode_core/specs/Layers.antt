@@ -1,11 +1,11 @@
 -- What the crates below promise of a symbol's codewords and modules, in the terms of a `Symbol`.
-use Rattle.std.specs.Prelude.{◌≡◌, ℕ, ◌-◌, ◌%◌, List, ◌++◌, length, Bool, Option, Some, IsSomeAnd}
+use Rattle.std.specs.Prelude.{◌≡◌, ℕ, ◌-◌, ◌%◌, List, ◌++◌, length, Bool, Some, IsSomeAnd}
 use Rattle.qrcode_base.specs.declared.symbols.BlockLayout.{BlockLayout}
 use Rattle.qrcode_base.specs.declared.types.EcLevel.{EcLevel}
 use Rattle.qrcode_base.specs.declared.types.Version.{Version}
 use Rattle.qrcode_base.specs.Numbers.{byte_bits, zero_bits}
 use Rattle.qrcode_base.specs.Symbols.{blocks_of, block_sizes, data_bytes, missing_bits}
-use Rattle.qrcode_bits.specs.Frame.{Header, IsFrame}
+use Rattle.qrcode_bits.specs.Frame.{Front, IsFrame}
 use Rattle.qrcode_bits.specs.Stream.{Stream}
 use Rattle.qrcode_grid.specs.Blocks.{AreCodewords}
 use Rattle.qrcode_grid.specs.Codes.{AreBytes}
@@ -15,10 +15,10 @@ use Rattle.qrcode_core.specs.Drawn.{DrawnSymbol}
 
 -- The data codewords hold a frame of the bytes; zeros follow it where the last codeword has only
 -- four bits.
-pub record IsEncoded (version : Version) (level : EcLevel) (header : Option Header)
+pub record IsEncoded (version : Version) (level : EcLevel) (front : Front)
     (bytes : List ℕ) (payload : ℕ) (codewords : List ℕ) : Type 0 where
   pub frame : List Bool
-  pub framed : IsFrame version level header bytes payload frame
+  pub framed : IsFrame version level front bytes payload frame
   pub frame_is : byte_bits codewords ≡ frame ++ zero_bits (missing_bits version)
 
 -- The interleaved data and correction codewords are those of the data codewords, in sound blocks.

@@ -1,5 +1,5 @@
 -- A message that is spread over several symbols (ISO/IEC 18004:2006, "Structured Append").
-use Rattle.std.specs.Prelude.{◌≡◌, ℕ, ℤ, nat_abs, ◌+◌, ◌<◌, ◌≤◌, min, List, [], ◌∷◌, length, drop}
+use Rattle.std.specs.Prelude.{◌≡◌, ℕ, ℤ, nat_abs, ◌+◌, ◌<◌, min, List, [], ◌∷◌, length, drop}
 use Rattle.std.specs.Prelude.{slice_index_or}
 use Rattle.std.specs.Prelude.{slice_range, fold, bit_xor, Some, IsPermutation}
 use Rattle.std.specs.List.{concat}
@@ -12,8 +12,10 @@ use Rattle.qrcode_base.specs.declared.types.errors.QrError.TheVariants.{InvalidS
 use Rattle.qrcode_base.specs.declared.types.errors.QrError.TheVariants.{OutOfMemory}
 use Rattle.qrcode_bits.specs.Plans.{normal, FitsNone}
 use Rattle.qrcode_base.specs.Symbols.{IsNormalNumber}
-use Rattle.qrcode_bits.specs.Frame.{Header, header_of, IsTotal}
-use Rattle.qrcode_core.specs.Headline.{IsBest, Reading, Reads}
+use Rattle.qrcode_bits.specs.Frame.{Header, header_of, IsTotal, front_of}
+use Rattle.qrcode_bits.specs.Contents.{parsed_bytes, content_bits}
+use Rattle.qrcode_bits.specs.declared.bits.front.Content.{Content}
+use Rattle.qrcode_core.specs.Headline.{IsBestUpTo, Reading, Reads}
 
 -- ---- What a reader finds
 
@@ -25,33 +27,35 @@ parity_of message = fold bit_xor 0 message
 abbrev pub header_at : ℕ → ℕ → List ℕ → Header
 header_at place total message = header_of place total (parity_of message)
 
--- A reader finds a piece of a message in the grid, with a header.
-pub record ReadsPiece (grid : List Color) (header : Header) (piece : List ℕ) : Type 0 where
+-- A reader finds a piece of a message in the grid, with a header before its content.
+pub record ReadsPiece (grid : List Color) (header : Header) (content : Content) (piece : List ℕ) :
+    Type 0 where
   pub reading : Reading
   pub reads : Reads grid reading
-  pub header_is : reading.header ≡ Some header
+  pub front_is : reading.front ≡ front_of (Some header) content
   pub piece_is : reading.bytes ≡ piece
 
--- A reader finds a message in 2 to 16 grids, in whatever order they are given. Each grid has a
--- header with its position, the number of grids, and the parity of the whole message. The positions
--- are 1, 2 and so on, each once, and the pieces in this order are the message.
-pub record ReadsMessage (grids : List (List Color)) (message : List ℕ) : Type 0 where
+-- A reader finds a message of one content in 2 to 16 grids, in whatever order they are given. Each
+-- grid has a header with its position, the number of grids, and the parity of the whole message.
+-- The positions are 1, 2 and so on, each once, and the pieces in this order are the message.
+pub record ReadsMessage (grids : List (List Color)) (content : Content) (message : List ℕ) :
+    Type 0 where
   pub in_order : List (List Color)
   pub pieces : List (List ℕ)
   pub enough : IsTotal (length grids)
   pub same_grids : IsPermutation grids in_order
   pub a_piece_each : length pieces ≡ length grids
   pub each_read : (i : ℕ) → i < length grids →
-      ReadsPiece (slice_index_or in_order i []) (header_at (i + 1) (length grids) message)
+      ReadsPiece (slice_index_or in_order i []) (header_at (i + 1) (length grids) message) content
       (slice_index_or pieces i [])
   pub message_is : message ≡ concat pieces
 
 -- No grids can be read as two messages, in whatever order they are given.
 abbrev pub HaveOneMessage : Type 0
 HaveOneMessage =
-    (grids shuffled : List (List Color)) (first second : List ℕ) →
+    (grids shuffled : List (List Color)) (c d : Content) (first second : List ℕ) →
     IsPermutation grids shuffled →
-    ReadsMessage grids first → ReadsMessage shuffled second → first ≡ second
+    ReadsMessage grids c first → ReadsMessage shuffled d second → (c ≡ d) × (first ≡ second)
 
 -- ---- What `symbol_sequence` returns
 
@@ -66,42 +70,39 @@ parts_from start (cut ∷ cuts) message =
 abbrev pub parts_at : List ℕ → List ℕ → List (List ℕ)
 parts_at cuts message = parts_from 0 cuts message
 
--- The best symbol of a part with a header, in a version up to a limit.
-pub record IsPartSymbol (header : Header) (part : List ℕ) (level : EcLevel) (limit : ℕ)
-    (grid : List Color) : Type 0 where
-  pub best : IsBest normal (Some header) part level grid
-  pub up_to : best.number ≤ limit
-
 -- There is a symbol for each part of the message, and it is the best one of its part (`each_best`).
 -- In any order, a reader finds the message in the symbols (`reads`), and no other message (`only`).
-pub record AreBestSymbols (message cuts : List ℕ) (level : EcLevel) (limit : ℕ)
+pub record AreBestSymbols (content : Content) (message cuts : List ℕ) (level : EcLevel) (limit : ℕ)
     (grids : List (List Color)) : Type 0 where
   pub a_grid_each : length grids ≡ length cuts + 1
   pub each_best : (i : ℕ) → i < length grids →
-      IsPartSymbol (header_at (i + 1) (length grids) message)
+      IsBestUpTo (front_of (Some (header_at (i + 1) (length grids) message)) content)
       (slice_index_or (parts_at cuts message) i []) level limit (slice_index_or grids i [])
   pub reads : (shuffled : List (List Color)) → IsPermutation grids shuffled →
-      ReadsMessage shuffled message
-  pub only : (shuffled : List (List Color)) (other : List ℕ) → IsPermutation grids shuffled →
-      ReadsMessage shuffled other → other ≡ message
+      ReadsMessage shuffled content message
+  pub only : (shuffled : List (List Color)) (c : Content) (other : List ℕ) →
+      IsPermutation grids shuffled → ReadsMessage shuffled c other →
+      (c ≡ content) × (other ≡ message)
 
 -- ---- Errors
 
--- No plan of some part fits any version up to a limit, after the 20 bits of the header.
-abbrev pub IsSomePartTooLong : List ℕ → List ℕ → EcLevel → ℕ → Type 0
-IsSomePartTooLong message cuts level limit =
+-- No plan of some part fits any version up to a limit, after the 20 bits of the header and those of
+-- the content.
+abbrev pub IsSomePartTooLong : Content → List ℕ → List ℕ → EcLevel → ℕ → Type 0
+IsSomePartTooLong content message cuts level limit =
     (i : ℕ) × (i < length cuts + 1)
-    × FitsNone normal 20 (slice_index_or (parts_at cuts message) i []) level limit
+    × FitsNone normal (20 + length (content_bits content))
+    (parsed_bytes content (slice_index_or (parts_at cuts message) i [])) level limit
 
 -- The errors of `symbol_sequence`, and when each is returned. The greatest version is checked
 -- first, then the number of symbols. `OutOfMemory` says only that both were valid.
-abbrev pub IsSequenceRefusal : List ℕ → List ℕ → EcLevel → ℤ → QrError → Type 0
-IsSequenceRefusal message cuts level limit InvalidResourceLimits = IsNormalNumber limit → ⊥
-IsSequenceRefusal message cuts level limit (InvalidStructuredAppend value) =
+abbrev pub IsSequenceRefusal : Content → List ℕ → List ℕ → EcLevel → ℤ → QrError → Type 0
+IsSequenceRefusal content message cuts level limit InvalidResourceLimits = IsNormalNumber limit → ⊥
+IsSequenceRefusal content message cuts level limit (InvalidStructuredAppend value) =
     IsNormalNumber limit × (IsTotal (length cuts + 1) → ⊥) × (value ≡ min (length cuts + 1) 255)
-IsSequenceRefusal message cuts level limit DataTooLong =
+IsSequenceRefusal content message cuts level limit DataTooLong =
     IsNormalNumber limit × IsTotal (length cuts + 1)
-    × IsSomePartTooLong message cuts level (nat_abs limit)
-IsSequenceRefusal message cuts level limit OutOfMemory =
+    × IsSomePartTooLong content message cuts level (nat_abs limit)
+IsSequenceRefusal content message cuts level limit OutOfMemory =
     IsNormalNumber limit × IsTotal (length cuts + 1)
-IsSequenceRefusal message cuts level limit other = ⊥
+IsSequenceRefusal content message cuts level limit other = ⊥

@@ -1,20 +1,22 @@
 //! Laws: facts about grids and about what a reader finds in them. Each function has no body; its
 //! contract is the fact.
 
-ghost use Rattle.std.specs.Prelude.{ℕ, List, Option, None};
+ghost use Rattle.std.specs.Prelude.{ℕ, List, None};
 ghost use Rattle.qrcode_base.specs.declared.types.Color.{Color};
 ghost use Rattle.qrcode_base.specs.declared.types.EcLevel.{EcLevel};
 ghost use Rattle.qrcode_base.specs.declared.types.Version.{Version};
-ghost use Rattle.qrcode_bits.specs.Frame.{Header, HasNoPair};
+ghost use Rattle.qrcode_bits.specs.Frame.{Front, front_of, HasSingleUnits};
+ghost use Rattle.qrcode_bits.specs.declared.bits.front.Content.{Content};
+ghost use Rattle.qrcode_bits.specs.declared.bits.front.Content.TheVariants.{Bytes};
 ghost use Rattle.qrcode_bits.specs.Plans.{normal, micro};
 ghost use Rattle.qrcode_core.specs.Headline.{printed, printed_reading, HaveDistance};
 ghost use Rattle.qrcode_core.specs.Headline.{HaveOneContent, HaveOneReading};
-ghost use Rattle.qrcode_core.specs.Headline.{Reads, IsBest, IsTooLong, IsTooLongForMicro};
+ghost use Rattle.qrcode_core.specs.Headline.{Reads, IsBest, IsTooLongAfter, IsTooLongForMicro};
 ghost use Rattle.qrcode_core.specs.Headline.{NoneIsBetter, NoneIsBetterWithHeader, NoneIsRead};
 ghost use Rattle.qrcode_core.specs.Sequence.{HaveOneMessage};
 
 /// No grid can be read in two ways: a reader finds one list of bytes, one version, one level, one
-/// mask, one header and one number of payload bits.
+/// mask, one front and one number of payload bits.
 pub fn have_one_reading()
     ensures { HaveOneReading }
 {}
@@ -44,20 +46,23 @@ pub fn have_one_message()
     ensures { HaveOneMessage }
 {}
 
-/// Where no two neighbouring bytes are a pair of the Kanji mode, no symbol of the bytes is better
-/// than the best one, however its bytes are cut into segments: no other symbol has a smaller
-/// version of the same kind, or fewer payload bits in the same version. A symbol with the header of
-/// a sequence before the bytes takes at least 20 bits more. Where the bytes are too long, no symbol
-/// holds them.
+/// Where the data have single units, no symbol of them is better than the best one, however they are
+/// cut into segments: no other symbol of the same content has a smaller version of the same kind, or
+/// fewer payload bits in the same version. Bytes have single units where no two neighbours are a
+/// pair of the Kanji mode, every text has, and elements have where there is no `%`. A symbol with
+/// the header of a sequence before the content takes at least 20 bits more. Where the data are too
+/// long, no symbol holds them.
 pub fn none_is_better()
-    ensures better { (kind : ℕ → Version) (header : Option Header) (bytes : List ℕ)
-        (level : EcLevel) (grid : List Color) (best : IsBest kind header bytes level grid) →
-        NoneIsBetter kind header bytes level best.number best.payload }
-    ensures better_with_header { (kind : ℕ → Version) (bytes : List ℕ) (level : EcLevel)
-        (grid : List Color) (best : IsBest kind None bytes level grid) →
-        NoneIsBetterWithHeader kind bytes level best.number best.payload }
-    ensures too_long { (bytes : List ℕ) (level : EcLevel) →
-        HasNoPair bytes → IsTooLong bytes level → NoneIsRead normal bytes level }
+    ensures better { (kind : ℕ → Version) (front : Front) (bytes : List ℕ)
+        (level : EcLevel) (grid : List Color) (best : IsBest kind front bytes level grid) →
+        NoneIsBetter kind front bytes level best.number best.payload }
+    ensures better_with_header { (kind : ℕ → Version) (content : Content) (bytes : List ℕ)
+        (level : EcLevel) (grid : List Color)
+        (best : IsBest kind (front_of None content) bytes level grid) →
+        NoneIsBetterWithHeader kind content bytes level best.number best.payload }
+    ensures too_long { (content : Content) (bytes : List ℕ) (level : EcLevel) →
+        HasSingleUnits content bytes → IsTooLongAfter (front_of None content) bytes level →
+        NoneIsRead normal content bytes level }
     ensures too_long_for_micro { (bytes : List ℕ) (level : EcLevel) →
-        HasNoPair bytes → IsTooLongForMicro bytes level → NoneIsRead micro bytes level }
+        HasSingleUnits Bytes bytes → IsTooLongForMicro bytes level → NoneIsRead micro Bytes bytes level }
 {}

@@ -5,6 +5,8 @@
 #[cfg(test)]
 mod configuration_tests;
 #[cfg(test)]
+mod content_tests;
+#[cfg(test)]
 mod grids;
 #[cfg(test)]
 mod refused_growth;

@@ -1,5 +1,6 @@
 //! A message in several symbols, by `qrcode_core`.
 ghost use Rattle.std.specs.Prelude.{◌/◌, ◌∷◌, [], length, map, vec_items, IfOk, IfSome};
+ghost use Rattle.qrcode_bits.specs.declared.bits.front.Content.TheVariants.{Bytes};
 ghost use Rattle.qrcode_core.specs.Sequence.{AreBestSymbols};
 
 use qrcode_core::symbol::{are_cuts, symbol_sequence};
@@ -8,7 +9,7 @@ use std::alloc::Global;
 
 /// Returns the modules of two symbols at level M, each with one half of the bytes.
 pub fn halves(alloc: Global, bytes: &[u8]) -> QrResult<Vec<Vec<Color>>>
-    ensures best { IfOk result (λ grids. AreBestSymbols bytes.now ((length bytes.now / 2) ∷ [])
+    ensures best { IfOk result (λ grids. AreBestSymbols Bytes bytes.now ((length bytes.now / 2) ∷ [])
         EcLevel.M 40 (map vec_items grids.items)) }
 {
     let cuts = [bytes.len() / 2];
@@ -19,7 +20,7 @@ pub fn halves(alloc: Global, bytes: &[u8]) -> QrResult<Vec<Vec<Color>>>
 /// be cut there.
 pub fn parts(alloc: Global, bytes: &[u8], cuts: &[usize]) -> Option<QrResult<Vec<Vec<Color>>>>
     ensures best { IfSome result (λ answer. IfOk answer (λ grids.
-        AreBestSymbols bytes.now cuts.now EcLevel.M 40 (map vec_items grids.items))) }
+        AreBestSymbols Bytes bytes.now cuts.now EcLevel.M 40 (map vec_items grids.items))) }
 {
     if are_cuts(cuts, bytes.len()) {
         Some(symbol_sequence(alloc, bytes, cuts, EcLevel::M, 40))

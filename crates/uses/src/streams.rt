@@ -1,7 +1,8 @@
 //! Streams of bits, by `qrcode_bits`.
-ghost use Rattle.std.specs.Prelude.{◌≡◌, pos, None, IfOk, IfErr};
+ghost use Rattle.std.specs.Prelude.{◌≡◌, pos, IfOk, IfErr};
 ghost use Rattle.qrcode_base.specs.declared.types.EcLevel.TheVariants.{M};
 ghost use Rattle.qrcode_base.specs.declared.types.Version.TheVariants.{Normal};
+ghost use Rattle.qrcode_bits.specs.Frame.{no_front};
 ghost use Rattle.qrcode_bits.specs.Plans.{normal};
 ghost use Rattle.qrcode_bits.specs.Push.{IsEncoding, IsUnencodable};
 
@@ -22,7 +23,7 @@ pub fn label(alloc: Global, text: &[u8]) -> QrResult<Bits>
 
 /// Returns the bits of the smallest symbol for a text at level M.
 pub fn ticket(alloc: Global, text: &[u8]) -> QrResult<Bits>
-    ensures ok { IfOk result (λ bits. IsEncoding normal None text.now M 40 bits) }
+    ensures ok { IfOk result (λ bits. IsEncoding normal no_front text.now M 40 bits) }
     ensures err { IfErr result (λ e. IsUnencodable normal 0 text.now M 40 e) }
 {
     encode_auto(alloc, text, EcLevel::M)

@@ -25,35 +25,22 @@ ghost use Rattle.qrcode_bits.specs.Plans.{total_bits, AreCandidates};
 ghost use Rattle.qrcode_bits.specs.Stream.{no_modes};
 ghost use Rattle.qrcode_bits.specs.Push.{IsPlanStream, IsEncoding, IsUnencodable, IsEncodingRefused};
 ghost use Rattle.qrcode_base.specs.Symbols.{IsNormalNumber};
-ghost use Rattle.qrcode_bits.specs.Push.{IsMicroRefused, IsPartRefused};
-ghost use Rattle.qrcode_bits.specs.Frame.{HasHeader, header_bits, header_of};
+ghost use Rattle.qrcode_bits.specs.Push.{IsMicroRefused, IsPartRefused, IsFrontRefused};
+ghost use Rattle.qrcode_bits.specs.Frame.{HasFront, front_bits, front_of, no_front, header_of};
+ghost use Rattle.qrcode_bits.specs.Contents.{AreDataOf, parsed_bytes, written};
+ghost use Rattle.qrcode_bits.specs.declared.bits.front.Content.TheVariants.{Bytes};
+ghost use Rattle.qrcode_base.specs.declared.symbols.TheConstants.{LONGEST_DATA};
 
+use super::front::{Content, Front, SequenceHeader, parsed_bytes};
 use super::headers::{check_place, indicator_number};
 use super::{Bits, data_capacity_bits};
 use crate::optimize::{Segment, optimize_uncounted, segments_from};
 use arrayvec::ArrayVec;
 use qrcode_base::symbols::{LONGEST_DATA, is_normal_number};
-use qrcode_base::types::{EcLevel, QrError, QrResult, Version};
+use qrcode_base::types::{EcLevel, Mode, QrError, QrResult, Version};
 use std::alloc::Global;
-use std::marker::{Brand, Model};
+use std::marker::Brand;
 use std::sync::ledger::Blank;
-
-/// The Structured Append header of a symbol of a sequence.
-#[derive(Drop)]
-struct SequenceHeader {
-    position: u8,
-    total: u8,
-    parity: u8,
-}
-
-// Clauses see the header.
-impl Model for SequenceHeader {
-    ghost use Rattle.qrcode_bits.specs.Frame.{Header};
-
-    ghost Value = { Header };
-
-    ghost view = { λ h. record { place = h.position; total = h.total; parity = h.parity } };
-}
 
 /// Returns the bits of some data in the smallest Normal version in which some plan fits, by the
 /// plan that takes the fewest bits there, with terminator and padding. If no two neighbouring bytes
@@ -63,10 +50,10 @@ impl Model for SequenceHeader {
 /// Fails with `DataTooLong` if no plan fits version 40 at this level, which includes all data of
 /// more than 7089 bytes, before any allocation; and with `OutOfMemory` if an allocation fails.
 pub fn encode_auto(alloc: Global, bytes: &[u8], level: EcLevel) -> QrResult<Bits>
-    ensures ok { IfOk result (λ bits. IsEncoding normal None bytes.now level 40 bits) }
+    ensures ok { IfOk result (λ bits. IsEncoding normal no_front bytes.now level 40 bits) }
     ensures err { IfErr result (λ e. IsUnencodable normal 0 bytes.now level 40 e) }
 {
-    encode_up_to(alloc, &None, bytes, level, 40)
+    encode_message(alloc, &Front::new(Content::Bytes), bytes, level, 40)
 }
 
 /// Returns the bits of some data as `encode_auto` does, but in a version of at most `max_version`.
@@ -81,14 +68,20 @@ pub fn encode_auto_with_max_version(
     max_version: i16,
 ) -> QrResult<Bits>
     ensures ok { IfOk result (λ bits.
-        IsEncoding normal None bytes.now level (nat_abs max_version) bits) }
+        IsEncoding normal no_front bytes.now level (nat_abs max_version) bits) }
     ensures limit { OnOk result (IsNormalNumber max_version) }
     ensures err { IfErr result (λ e. IsEncodingRefused bytes.now level max_version e) }
 {
     if !is_normal_number(max_version) {
         return Err(QrError::InvalidResourceLimits);
     }
-    encode_up_to(alloc, &None, bytes, level, max_version as usize)
+    encode_message(
+        alloc,
+        &Front::new(Content::Bytes),
+        bytes,
+        level,
+        max_version as usize,
+    )
 }
 
 /// Returns the bits of one symbol of a sequence (ISO/IEC 18004:2006, "Structured Append"): the
@@ -112,7 +105,7 @@ pub fn encode_part(
     max_version: i16,
 ) -> QrResult<Bits>
     ensures ok { IfOk result (λ bits.
-        IsEncoding normal (Some (header_of position total parity)) bytes.now level
+        IsEncoding normal (front_of (Some (header_of position total parity)) Bytes) bytes.now level
         (nat_abs max_version) bits) }
     ensures limit { OnOk result (IsNormalNumber max_version) }
     ensures err { IfErr result (λ e. IsPartRefused (header_of position total parity) bytes.now level
@@ -122,12 +115,9 @@ pub fn encode_part(
         return Err(QrError::InvalidResourceLimits);
     }
     check_place(position, total)?;
-    let header = SequenceHeader {
-        position,
-        total,
-        parity,
-    };
-    encode_up_to(alloc, &Some(header), bytes, level, max_version as usize)
+    let header = SequenceHeader::new(position, total, parity);
+    let front = Front::with_header(header, Content::Bytes);
+    encode_message(alloc, &front, bytes, level, max_version as usize)
 }
 
 /// Returns the bits of some data in the smallest of M1 to M4 that has the level and the modes and
@@ -137,7 +127,7 @@ pub fn encode_part(
 /// then with `DataTooLong` if no plan fits any of the four, and with `OutOfMemory` if an
 /// allocation fails.
 pub fn encode_auto_micro(alloc: Global, bytes: &[u8], level: EcLevel) -> QrResult<Bits>
-    ensures ok { IfOk result (λ bits. IsEncoding micro None bytes.now level 4 bits) }
+    ensures ok { IfOk result (λ bits. IsEncoding micro no_front bytes.now level 4 bits) }
     ensures err { IfErr result (λ e. IsMicroRefused bytes.now level e) }
 {
     if level == EcLevel::H {
@@ -149,11 +139,12 @@ pub fn encode_auto_micro(alloc: Global, bytes: &[u8], level: EcLevel) -> QrResul
     if bytes.len() > LONGEST_DATA {
         return Err(QrError::DataTooLong);
     }
+    let front = Front::new(Content::Bytes);
     let segments = segments_from(alloc, bytes, 0)?;
     for smaller in 0..4_usize {
         let version = Version::Micro((smaller + 1) as i16);
         if let Some((plan, _size)) = chosen_plan(alloc, 0, bytes, &segments, version, level)? {
-            let bits = encode_plan(alloc, &None, bytes, version, level, &plan)?;
+            let bits = encode_plan(alloc, &front, bytes, bytes, version, level, &plan)?;
             return Ok(bits);
         }
     }
@@ -192,33 +183,86 @@ fn candidates(limit: usize) -> ArrayVec<usize, 3>
     candidates
 }
 
-/// Returns the bits of the data, after a header if there is one, in the smallest Normal version
-/// whose number is at most `limit`.
-fn encode_up_to(
+/// Returns the bits of data of any content in a version of at most `max_version`, as `encode_auto`
+/// does of bytes: first those of the front, then those of the plan that takes the fewest bits.
+///
+/// Fails with `InvalidResourceLimits` if `max_version` is outside 1 to 40, which is checked first;
+/// then with `DataTooLong` if no plan fits any of the versions, and with `OutOfMemory` if an
+/// allocation fails.
+pub fn encode_front(
     alloc: Global,
-    header: &Option<SequenceHeader>,
+    front: &Front,
+    bytes: &[u8],
+    level: EcLevel,
+    max_version: i16,
+) -> QrResult<Bits>
+    requires front { HasFront (normal 1) front.now }
+    requires suited { AreDataOf front.now.content bytes.now }
+    ensures ok { IfOk result (λ bits.
+        IsEncoding normal front.now bytes.now level (nat_abs max_version) bits) }
+    ensures limit { OnOk result (IsNormalNumber max_version) }
+    ensures err { IfErr result (λ e. IsFrontRefused front.now bytes.now level max_version e) }
+{
+    if !is_normal_number(max_version) {
+        return Err(QrError::InvalidResourceLimits);
+    }
+    encode_message(alloc, front, bytes, level, max_version as usize)
+}
+
+/// Returns the bits of the front and the data in the smallest Normal version whose number is at
+/// most `limit`.
+fn encode_message(
+    alloc: Global,
+    front: &Front,
     bytes: &[u8],
     level: EcLevel,
     limit: usize,
 ) -> QrResult<Bits>
-    requires header { HasHeader (normal limit) header.now }
+    requires front { HasFront (normal limit) front.now }
+    requires suited { AreDataOf front.now.content bytes.now }
     requires from_one { 1 ≤ limit }
     requires to_forty { limit ≤ 40 }
-    ensures ok { IfOk result (λ bits. IsEncoding normal header.now bytes.now level limit bits) }
-    ensures err { IfErr result (λ e.
-        IsUnencodable normal (length (header_bits header.now)) bytes.now level limit e) }
+    ensures ok { IfOk result (λ bits. IsEncoding normal front.now bytes.now level limit bits) }
+    ensures err { IfErr result (λ e. IsUnencodable normal (length (front_bits front.now))
+        (parsed_bytes front.now.content bytes.now) level limit e) }
 {
     if bytes.len() > LONGEST_DATA {
         return Err(QrError::DataTooLong);
     }
-    let segments = segments_from(alloc, bytes, 0)?;
-    let front = 20 * usize::from(header.is_some());
+    if front.content() == Content::Bytes {
+        return encode_up_to(alloc, front, bytes, bytes, level, limit);
+    }
+    let parsed = parsed_bytes(alloc, front.content(), bytes)?;
+    encode_up_to(alloc, front, bytes, parsed.as_slice(), level, limit)
+}
+
+/// Returns what `encode_message` does, for data that are parsed as `parsed`.
+fn encode_up_to(
+    alloc: Global,
+    front: &Front,
+    bytes: &[u8],
+    parsed: &[u8],
+    level: EcLevel,
+    limit: usize,
+) -> QrResult<Bits>
+    requires front { HasFront (normal limit) front.now }
+    requires suited { AreDataOf front.now.content bytes.now }
+    requires parsed { parsed.now ≡ parsed_bytes front.now.content bytes.now }
+    requires short { length parsed.now ≤ LONGEST_DATA }
+    requires from_one { 1 ≤ limit }
+    requires to_forty { limit ≤ 40 }
+    ensures ok { IfOk result (λ bits. IsEncoding normal front.now bytes.now level limit bits) }
+    ensures err { IfErr result (λ e.
+        IsUnencodable normal (length (front_bits front.now)) parsed.now level limit e) }
+{
+    let segments = segments_from(alloc, parsed, 0)?;
+    let ahead = front.size();
     let candidates = candidates(limit);
     for last in candidates.as_slice() {
         let version = Version::Normal(*last as i16);
-        if let Some((plan, size)) = chosen_plan(alloc, front, bytes, &segments, version, level)? {
+        if let Some((plan, size)) = chosen_plan(alloc, ahead, parsed, &segments, version, level)? {
             let smallest = find_min_version(size, level);
-            return encode_plan(alloc, header, bytes, smallest, level, &plan);
+            return encode_plan(alloc, front, bytes, parsed, smallest, level, &plan);
         }
     }
     Err(QrError::DataTooLong)
@@ -235,11 +279,11 @@ fn chosen_plan(
     version: Version,
     level: EcLevel,
 ) -> QrResult<Option<(Vec<Segment>, usize)>>
-    requires front { front ≤ 20 }
+    requires front { front ≤ 32 }
     requires number { HasMicroNumber version }
     requires small { (mode : Mode) → indicator_width version + count_width version mode ≤ 20 }
     requires segments { segments.now ≡ parsed bytes.now }
-    requires short { length bytes.now ≤ 7089 }
+    requires short { length bytes.now ≤ LONGEST_DATA }
     ensures chosen { IfOk result (λ found.
         IfSome found (λ plan. IsChosenPlan (parsed bytes.now) version plan.0.items)) }
     ensures fits { IfOk result (λ found.
@@ -274,28 +318,42 @@ fn chosen_plan(
     Ok(Some((plan, size)))
 }
 
-/// Returns the bits of a plan that fits a version: the header if there is one, the segments of the
-/// plan, terminator and padding.
+/// Returns what the pieces of a mode are cut from: in elements an Alphanumeric piece has the parsed
+/// bytes, in which a separator is `%`.
+fn written<'a>(content: Content, mode: Mode, bytes: &'a [u8], parsed: &'a [u8]) -> &'a [u8]
+    requires { parsed.now ≡ parsed_bytes content bytes.now }
+    ensures { result.now ≡ written content mode bytes.now }
+{
+    match (content, mode) {
+        (Content::Elements, Mode::Alphanumeric) => parsed,
+        _ => bytes,
+    }
+}
+
+/// Returns the bits of a plan that fits a version: the front, the segments of the plan, terminator
+/// and padding.
 fn encode_plan(
     alloc: Global,
-    header: &Option<SequenceHeader>,
+    front: &Front,
     bytes: &[u8],
+    parsed: &[u8],
     version: Version,
     level: EcLevel,
     plan: &[Segment],
 ) -> QrResult<Bits>
     requires number { HasMicroNumber version }
-    requires header { HasHeader version header.now }
-    requires fits { Fits (length (header_bits header.now)) bytes.now version level plan.now }
-    ensures ok { IfOk result (λ bits. IsPlanStream header.now bytes.now version level plan.now bits) }
+    requires front { HasFront version front.now }
+    requires suited { AreDataOf front.now.content bytes.now }
+    requires parsed { parsed.now ≡ parsed_bytes front.now.content bytes.now }
+    requires fits { Fits (length (front_bits front.now)) parsed.now version level plan.now }
+    ensures ok { IfOk result (λ bits. IsPlanStream front.now bytes.now version level plan.now bits) }
     ensures memory { IfErr result (λ e. e ≡ QrError.OutOfMemory) }
 {
     let mut bits = Bits::new(alloc, version);
-    if let Some(header) = header {
-        bits.push_structured_append_header(header.position, header.total, header.parity)?;
-    }
+    bits.push_front(front)?;
     for part in plan {
-        bits.push_text(part.mode, &bytes[part.begin..part.end])?;
+        let text = written(front.content(), part.mode, bytes, parsed);
+        bits.push_text(part.mode, &text[part.begin..part.end])?;
     }
     bits.push_terminator(level)?;
     Ok(bits)

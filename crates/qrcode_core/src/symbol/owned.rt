@@ -1,5 +1,5 @@
 //! `Symbol`: a symbol that owns its modules.
-ghost use Rattle.std.specs.Prelude.{◌≡◌, ◌≤◌, length, OnOk, IfOk, IfErr};
+ghost use Rattle.std.specs.Prelude.{◌≡◌, ◌≤◌, length, None, OnOk, IfOk, IfErr};
 ghost use Rattle.qrcode_base.specs.declared.symbols.TheConstants.{LONGEST_DATA};
 ghost use Rattle.qrcode_base.specs.Symbols.{IsVersion, width_of};
 ghost use Rattle.qrcode_core.specs.Limits.{IsBudget, IsBestWithin, IsTooLongWithin};
@@ -8,14 +8,22 @@ ghost use Rattle.qrcode_core.specs.Drawn.{TellsReading, drawn_grid, HoldsStream,
 ghost use Rattle.qrcode_core.specs.Layers.{FillsSymbol, IsDrawnStream};
 ghost use Rattle.qrcode_core.specs.Headline.{IsBestSymbol, IsBestMicroSymbol, IsTooLong};
 ghost use Rattle.qrcode_core.specs.Headline.{IsTooLongForMicro, IsRefusal};
+ghost use Rattle.qrcode_core.specs.Headline.{IsBestText, IsBestElements, IsTooLongAfter};
+ghost use Rattle.qrcode_core.specs.Headline.{IsTextRefusal, IsElementsRefusal};
+ghost use Rattle.qrcode_bits.specs.Contents.{AreElements};
+ghost use Rattle.qrcode_bits.specs.Frame.{front_of};
 ghost use Rattle.qrcode_bits.specs.Push.{IsMicroRefused};
+ghost use Rattle.qrcode_bits.specs.declared.bits.front.Content.TheVariants.{Elements, Text};
 ghost use Rattle.qrcode_core.specs.Views.{view_grid};
 
 use crate::limits::ResourceLimits;
 use crate::traits::{ModuleSource, ModuleView, QrSymbol};
 use qrcode_base::symbols::symbol_width;
 use qrcode_base::types::{Color, EcLevel, QrError, QrResult, Version};
-use qrcode_bits::bits::{Bits, encode_auto, encode_auto_micro, encode_auto_with_max_version};
+use qrcode_bits::bits::{
+    Bits, Content, Front, encode_auto, encode_auto_micro, encode_auto_with_max_version,
+    encode_front, first_no_element,
+};
 use qrcode_grid::canvas::{MaskPattern, draw_symbol};
 use qrcode_grid::ec::construct_codewords;
 use std::alloc::Global;
@@ -69,6 +77,58 @@ impl Symbol {
         ensures refused { IfErr result (IsRefusal bytes.now level) }
     {
         let bits = encode_auto(alloc, bytes, level)?;
+        symbol_of(alloc, bits, level)
+    }
+
+    /// Returns the best symbol of a text at a level, after the ECI designator of UTF-8, so that every
+    /// reader reads it in its own script (ISO/IEC 18004:2006, "Extended Channel Interpretation (ECI)
+    /// mode"). It is as `new` says, of all ways to cut the text into segments but those of the Kanji
+    /// mode. No other symbol of the text in UTF-8 is smaller, whatever the text
+    /// (`laws::none_is_better`).
+    ///
+    /// # Errors
+    ///
+    /// It fails with `DataTooLong` exactly where nothing fits version 40 at the level; more
+    /// than 7089 bytes fail without an allocation. It fails with `OutOfMemory` where an
+    /// allocation failed.
+    pub fn text(alloc: Global, text: &str, level: EcLevel) -> QrResult<Symbol>
+        ensures best { IfOk result (λ symbol. IsBestText text.now level symbol.modules) }
+        ensures reading { IfOk result TellsReading }
+        ensures fitting { OnOk result (IsTooLongAfter (front_of None Text) text.now level → ⊥) }
+        ensures limit { OnOk result (length text.now ≤ LONGEST_DATA) }
+        ensures refused { IfErr result (IsTextRefusal text.now level) }
+    {
+        let front = Front::new(Content::Text);
+        let bits = encode_front(alloc, &front, text.as_bytes(), level, 40)?;
+        symbol_of(alloc, bits, level)
+    }
+
+    /// Returns the best symbol of GS1 elements at a level, after FNC1 in the first position
+    /// (ISO/IEC 18004:2006, "FNC1 mode"). Elements are identifiers with their values, one after the
+    /// other, with the separator 1D (hex) after each whose length is not fixed, but the last; a
+    /// reader finds these bytes. The symbol is as `new` says, of all ways to cut the elements into
+    /// segments but those of the Kanji mode. Where they have no `%`, no other symbol of the elements
+    /// is smaller (`laws::none_is_better`).
+    ///
+    /// # Errors
+    ///
+    /// It fails with `InvalidCharacter` for the first byte that is none of the 82 characters of
+    /// GS1, and no separator between two elements. Then it fails with `DataTooLong` exactly where
+    /// nothing fits version 40 at the level, and with `OutOfMemory` where an allocation failed.
+    pub fn elements(alloc: Global, elements: &[u8], level: EcLevel) -> QrResult<Symbol>
+        ensures best { IfOk result (λ symbol. IsBestElements elements.now level symbol.modules) }
+        ensures reading { IfOk result TellsReading }
+        ensures valid { OnOk result (AreElements elements.now) }
+        ensures fitting { OnOk result
+            (IsTooLongAfter (front_of None Elements) elements.now level → ⊥) }
+        ensures limit { OnOk result (length elements.now ≤ LONGEST_DATA) }
+        ensures refused { IfErr result (IsElementsRefusal elements.now level) }
+    {
+        if let Some((position, byte)) = first_no_element(elements) {
+            return Err(QrError::InvalidCharacter { position, byte });
+        }
+        let front = Front::new(Content::Elements);
+        let bits = encode_front(alloc, &front, elements, level, 40)?;
         symbol_of(alloc, bits, level)
     }
 

@@ -4,20 +4,24 @@
 //! 2. Make the best symbol of each part, with its header (`part_symbol`).
 ghost use Rattle.std.specs.Prelude.{◌≡◌, ◌+◌, ◌≤◌, [], length, map, nat_abs, slice_index_or, All};
 ghost use Rattle.std.specs.Prelude.{OnOk, IfOk, IfErr};
-ghost use Rattle.std.specs.Prelude.{IsTrue, vec_items};
+ghost use Rattle.std.specs.Prelude.{ℕ, IsTrue, List, Some, vec_items};
 ghost use Rattle.std.specs.List.Sorted.{IsNonDecreasing};
-ghost use Rattle.qrcode_bits.specs.Push.{IsPartRefused};
+ghost use Rattle.qrcode_bits.specs.Contents.{AreDataOf};
+ghost use Rattle.qrcode_bits.specs.Plans.{normal};
+ghost use Rattle.qrcode_bits.specs.Push.{IsFrontRefused};
+ghost use Rattle.qrcode_bits.specs.declared.bits.front.Content.TheVariants.{Bytes, Text};
 ghost use Rattle.qrcode_base.specs.Symbols.{IsNormalNumber};
-ghost use Rattle.qrcode_bits.specs.Frame.{header_of};
+ghost use Rattle.qrcode_bits.specs.Frame.{HasFront};
+ghost use Rattle.qrcode_core.specs.Headline.{IsBestUpTo};
 ghost use Rattle.qrcode_core.specs.Drawn.{TellsReading, modules_of};
-ghost use Rattle.qrcode_core.specs.Sequence.{parity_of, parts_at, IsPartSymbol, AreBestSymbols};
+ghost use Rattle.qrcode_core.specs.Sequence.{parity_of, parts_at, AreBestSymbols};
 ghost use Rattle.qrcode_core.specs.Sequence.{IsSomePartTooLong};
 ghost use Rattle.qrcode_core.specs.Sequence.{IsSequenceRefusal};
 
 use crate::symbol::owned::{Symbol, symbol_of};
 use qrcode_base::symbols::is_normal_number;
 use qrcode_base::types::{Color, EcLevel, QrError, QrResult};
-use qrcode_bits::bits::encode_part;
+use qrcode_bits::bits::{Content, Front, SequenceHeader, encode_front};
 use std::alloc::Global;
 
 /// Whether a message of this length can be cut at these places: no cut is less than the one before
@@ -47,30 +51,86 @@ impl Symbol {
     ) -> QrResult<Vec<Symbol>>
         requires ordered { IsNonDecreasing cuts.now }
         requires within { All (λ cut. cut ≤ length bytes.now) cuts.now }
-        ensures best { IfOk result (λ symbols. AreBestSymbols bytes.now cuts.now level
+        ensures best { IfOk result (λ symbols. AreBestSymbols Bytes bytes.now cuts.now level
             (nat_abs max_version) (map modules_of symbols.items)) }
         ensures reading { IfOk result (λ symbols. All TellsReading symbols.items) }
-        ensures fitting { OnOk result (IsSomePartTooLong bytes.now cuts.now level
+        ensures fitting { OnOk result (IsSomePartTooLong Bytes bytes.now cuts.now level
             (nat_abs max_version) → ⊥) }
         ensures limit { OnOk result (IsNormalNumber max_version) }
-        ensures refused { IfErr result (IsSequenceRefusal bytes.now cuts.now level max_version) }
+        ensures refused { IfErr result (IsSequenceRefusal Bytes bytes.now cuts.now level max_version) }
     {
-        if !is_normal_number(max_version) {
-            return Err(QrError::InvalidResourceLimits);
-        }
-        let total = cuts.len().min(254) as u8 + 1;
-        if total < 2 || total > 16 {
-            return Err(QrError::InvalidStructuredAppend { value: total });
-        }
-        let parity = parity_of(bytes);
-        let mut symbols = Vec::new(alloc);
-        for index in 0..total {
-            let part = part_at(bytes, cuts, usize::from(index));
-            let symbol = part_symbol(alloc, part, index + 1, total, parity, level, max_version);
-            symbols.push(symbol?)?;
-        }
-        Ok(symbols)
+        symbols_of(alloc, Content::Bytes, bytes, cuts, level, max_version)
     }
+
+    /// Returns the 2 to 16 symbols that carry a text together, as `sequence` does, each with the ECI
+    /// designator of UTF-8 after its header. A cut is at the end of a character (as
+    /// `str::is_char_boundary` says), so that each symbol has whole characters.
+    pub fn text_sequence(
+        alloc: Global,
+        text: &str,
+        cuts: &[usize],
+        level: EcLevel,
+        max_version: i16,
+    ) -> QrResult<Vec<Symbol>>
+        requires ordered { IsNonDecreasing cuts.now }
+        requires within { All (λ cut. cut ≤ length text.now) cuts.now }
+        ensures best { IfOk result (λ symbols. AreBestSymbols Text text.now cuts.now level
+            (nat_abs max_version) (map modules_of symbols.items)) }
+        ensures reading { IfOk result (λ symbols. All TellsReading symbols.items) }
+        ensures fitting { OnOk result (IsSomePartTooLong Text text.now cuts.now level
+            (nat_abs max_version) → ⊥) }
+        ensures limit { OnOk result (IsNormalNumber max_version) }
+        ensures refused { IfErr result (IsSequenceRefusal Text text.now cuts.now level max_version) }
+    {
+        symbols_of(
+            alloc,
+            Content::Text,
+            text.as_bytes(),
+            cuts,
+            level,
+            max_version,
+        )
+    }
+}
+
+/// Returns the symbols that carry data of a content together, in the order of their parts. Any part
+/// of the data may be data of the content.
+fn symbols_of(
+    alloc: Global,
+    content: Content,
+    bytes: &[u8],
+    cuts: &[usize],
+    level: EcLevel,
+    max_version: i16,
+) -> QrResult<Vec<Symbol>>
+    requires ordered { IsNonDecreasing cuts.now }
+    requires within { All (λ cut. cut ≤ length bytes.now) cuts.now }
+    requires suited { (part : List ℕ) → AreDataOf content part }
+    ensures best { IfOk result (λ symbols. AreBestSymbols content bytes.now cuts.now level
+        (nat_abs max_version) (map modules_of symbols.items)) }
+    ensures reading { IfOk result (λ symbols. All TellsReading symbols.items) }
+    ensures fitting { OnOk result (IsSomePartTooLong content bytes.now cuts.now level
+        (nat_abs max_version) → ⊥) }
+    ensures limit { OnOk result (IsNormalNumber max_version) }
+    ensures refused { IfErr result (IsSequenceRefusal content bytes.now cuts.now level max_version) }
+{
+    if !is_normal_number(max_version) {
+        return Err(QrError::InvalidResourceLimits);
+    }
+    let total = cuts.len().min(254) as u8 + 1;
+    if total < 2 || total > 16 {
+        return Err(QrError::InvalidStructuredAppend { value: total });
+    }
+    let parity = parity_of(bytes);
+    let mut symbols = Vec::new(alloc);
+    for index in 0..total {
+        let part = part_at(bytes, cuts, usize::from(index));
+        let header = SequenceHeader::new(index + 1, total, parity);
+        let front = Front::with_header(header, content);
+        let symbol = part_symbol(alloc, &front, part, level, max_version);
+        symbols.push(symbol?)?;
+    }
+    Ok(symbols)
 }
 
 /// Returns the modules of 2 to 16 symbols that carry a message together, in the order of its parts
@@ -98,12 +158,12 @@ pub fn symbol_sequence(
 ) -> QrResult<Vec<Vec<Color>>>
     requires ordered { IsNonDecreasing cuts.now }
     requires within { All (λ cut. cut ≤ length bytes.now) cuts.now }
-    ensures best { IfOk result (λ grids. AreBestSymbols bytes.now cuts.now level
+    ensures best { IfOk result (λ grids. AreBestSymbols Bytes bytes.now cuts.now level
         (nat_abs max_version) (map vec_items grids.items)) }
-    ensures fitting { OnOk result (IsSomePartTooLong bytes.now cuts.now level
+    ensures fitting { OnOk result (IsSomePartTooLong Bytes bytes.now cuts.now level
         (nat_abs max_version) → ⊥) }
     ensures limit { OnOk result (IsNormalNumber max_version) }
-    ensures refused { IfErr result (IsSequenceRefusal bytes.now cuts.now level max_version) }
+    ensures refused { IfErr result (IsSequenceRefusal Bytes bytes.now cuts.now level max_version) }
 {
     let symbols = Symbol::sequence(alloc, bytes, cuts, level, max_version)?;
     colors_of_all(alloc, symbols)
@@ -145,22 +205,21 @@ fn part_at<'a>(bytes: &'a [u8], cuts: &[usize], index: usize) -> &'a [u8]
     &bytes[start..end]
 }
 
-/// Returns the best symbol of a part, with its header.
+/// Returns the best symbol of a part after its front.
 fn part_symbol(
     alloc: Global,
+    front: &Front,
     part: &[u8],
-    position: u8,
-    total: u8,
-    parity: u8,
     level: EcLevel,
     max_version: i16,
 ) -> QrResult<Symbol>
-    ensures best { IfOk result (λ symbol. IsPartSymbol (header_of position total parity) part.now
-        level (nat_abs max_version) symbol.modules) }
+    requires front { HasFront (normal 1) front.now }
+    requires suited { AreDataOf front.now.content part.now }
+    ensures best { IfOk result (λ symbol.
+        IsBestUpTo front.now part.now level (nat_abs max_version) symbol.modules) }
     ensures reading { IfOk result TellsReading }
-    ensures refused { IfErr result
-        (IsPartRefused (header_of position total parity) part.now level max_version) }
+    ensures refused { IfErr result (IsFrontRefused front.now part.now level max_version) }
 {
-    let bits = encode_part(alloc, part, position, total, parity, level, max_version)?;
+    let bits = encode_front(alloc, front, part, level, max_version)?;
     symbol_of(alloc, bits, level)
 }

@@ -5,9 +5,9 @@ pub returns-clause-kept : goal.returns-clause-kept
 returns-clause-kept c = frame-plan
 
 pub returns-clause-smallest : goal.returns-clause-smallest
-returns-clause-smallest c = λ kind level header bytes limit number smaller payload plan bits apart choice frame.
-    frame-smallest kind level header bytes limit number plan apart choice smaller payload bits frame
+returns-clause-smallest c = λ kind level front bytes limit number smaller payload plan bits apart choice frame.
+    frame-smallest kind level front bytes limit number plan apart choice smaller payload bits frame
 
 pub returns-clause-shortest : goal.returns-clause-shortest
-returns-clause-shortest c = λ kind level header bytes limit number payload plan bits apart choice frame.
-    frame-shortest kind level header bytes limit number plan apart choice payload bits frame
+returns-clause-shortest c = λ kind level front bytes limit number payload plan bits apart choice frame.
+    frame-shortest kind level front bytes limit number plan apart choice payload bits frame

@@ -5,6 +5,7 @@ use Rattle.qrcode_base.specs.{declared.types.errors.QrError.QrError, Symbols.IsN
 use Rattle.qrcode_core.specs.{Drawn.modules_of, Sequence.AreBestSymbols, Sequence.IsSequenceRefusal}
 use Rattle.qrcode_c.{specs.Levels.number_of, specs.Refusals.IsAsked, proofs.Answering.part_held, proofs.Answering.part_above, proofs.Answering.short_refused}
 use Rattle.qrcode_c.proofs.drawing.part_symbol.Goals as goal
+use Rattle.qrcode_bits.specs.declared.bits.front.Content.TheVariants.{Bytes}
 
 -- a limit is the same number in 16 bits as in 32
 same_limit : (number limit : ℤ) → limit ≡ to_z w32 (of_z w32 number) → to_z w32 (of_z w32 number) ≡ number → IsNormalNumber limit →
@@ -19,7 +20,7 @@ returns-in-Ok-clause-held c =
     let same = same_limit c.args.max_version c.in-Some-limit_of.limit limited.0 (to_z-of_z w32 c.args.max_version c.ranges.max_version) limited.1 in
     part_held c.args.message.now c.args.cuts.now c.in-Some.level c.args.level c.args.max_version c.args.index c.in-Ok.symbols.items c.index.result.now
     c.args.modules.now _ c.write.result named c.if-index-cuts.false
-    (subst (λ (z : ℤ). AreBestSymbols c.args.message.now c.args.cuts.now c.in-Some.level (nat_abs z)
+    (subst (λ (z : ℤ). AreBestSymbols Bytes c.args.message.now c.args.cuts.now c.in-Some.level (nat_abs z)
     (map modules_of c.in-Ok.symbols.items)) same c.in-Ok.ensures.best)
     c.in-Ok.ensures.reading c.index.ensures c.write.ensures.held
 
@@ -28,7 +29,7 @@ returns-in-Ok-clause-refused c =
     let named : c.args.level ≡ number_of c.in-Some.level = sym (to_z-of_z w32 c.args.level c.ranges.level) ∙ c.in-Some.ensures.level in
     let limited = c.in-Some-limit_of.ensures.limit in
     let same = same_limit c.args.max_version c.in-Some-limit_of.limit limited.0 (to_z-of_z w32 c.args.max_version c.ranges.max_version) limited.1 in
-    let best = subst (λ (z : ℤ). AreBestSymbols c.args.message.now c.args.cuts.now c.in-Some.level (nat_abs z) (map modules_of c.in-Ok.symbols.items))
+    let best = subst (λ (z : ℤ). AreBestSymbols Bytes c.args.message.now c.args.cuts.now c.in-Some.level (nat_abs z) (map modules_of c.in-Ok.symbols.items))
     same c.in-Ok.ensures.best in
     short_refused _ _ c.write.result c.write.ensures.short c.write.ensures.room
     (λ less. (
@@ -43,9 +44,9 @@ returns-in-Err-DataTooLong-clause-refused c =
     let named : c.args.level ≡ number_of c.in-Some.level = sym (to_z-of_z w32 c.args.level c.ranges.level) ∙ c.in-Some.ensures.level in
     let limited = c.in-Some-limit_of.ensures.limit in
     let same = same_limit c.args.max_version c.in-Some-limit_of.limit limited.0 (to_z-of_z w32 c.args.max_version c.ranges.max_version) limited.1 in
-    let refused = subst (λ (z : ℤ). IsSequenceRefusal c.args.message.now c.args.cuts.now c.in-Some.level z c.in-Err-DataTooLong.field-0) same
+    let refused = subst (λ (z : ℤ). IsSequenceRefusal Bytes c.args.message.now c.args.cuts.now c.in-Some.level z c.in-Err-DataTooLong.field-0) same
     c.in-Err-DataTooLong.ensures.refused in
-    let long = subst (λ (e : QrError). IsSequenceRefusal c.args.message.now c.args.cuts.now c.in-Some.level c.args.max_version e)
+    let long = subst (λ (e : QrError). IsSequenceRefusal Bytes c.args.message.now c.args.cuts.now c.in-Some.level c.args.max_version e)
     c.in-Err-DataTooLong.field-0-is refused in
     let asked : IsAsked c.args.message.now c.args.cuts.now c.args.max_version c.args.index = search rules in
     (c.in-Some.level, named, (asked, long.1, long.2))

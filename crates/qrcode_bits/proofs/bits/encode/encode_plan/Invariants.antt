@@ -4,6 +4,6 @@ use Rattle.qrcode_bits.proofs.bits.encode.encode_plan.Given as goal
 
 abbrev pub invariant-loop-part : goal.invariant-loop-part
 invariant-loop-part l = record {
-  within : All (LiesIn (length l.bytes)) l.plan;
-  pushed : IsPushedTo l.header l.bytes l.fn.version l.plan l.part-index l.bits;
+  within : All (LiesIn (length l.parsed)) l.plan;
+  pushed : IsPushedTo l.front l.bytes l.fn.version l.plan l.part-index l.bits;
 }

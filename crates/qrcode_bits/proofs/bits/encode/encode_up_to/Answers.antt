@@ -1,14 +1,8 @@
 -- The first candidate that holds the chosen plan decides.
-use Rattle.qrcode_bits.proofs.{Prelude.ℕ, Prelude.length, Prelude.get_or, Prelude.arith, Prelude.header_bits, Pairs.bytes_valid, Reading.front-is}
-use Rattle.qrcode_bits.proofs.{Lengths.long_message}
+use Rattle.qrcode_bits.proofs.{Prelude.ℕ, Prelude.get_or, Prelude.arith}
 use Rattle.std.proofs.lemmas.Result.{IfOk-weaker}
 use Rattle.qrcode_bits.proofs.Classes.{class_fits_not, class_fits, class_encoding, normal_is, front_not, candidates_here, candidates_end}
 use Rattle.qrcode_bits.proofs.bits.encode.encode_up_to.Goals as goal
-
-pub returns-then-bytes-gt-LONGEST_DATA-clause-err : goal.returns-then-bytes-gt-LONGEST_DATA-clause-err
-returns-then-bytes-gt-LONGEST_DATA-clause-err c =
-    long_message (length (header_bits c.args.header.now)) c.args.bytes.now c.args.level c.args.limit c.requires.to_forty
-    (bytes_valid c.args.bytes.now (λ i. omega (arith, c.type_inv.bytes i))) c.if-bytes-gt-LONGEST_DATA.true
 
 pub encode_plan-requires-clause-fits : goal.encode_plan-requires-clause-fits
 encode_plan-requires-clause-fits c =
@@ -16,8 +10,7 @@ encode_plan-requires-clause-fits c =
     let here = candidates_here i.0 c.args.limit c.as_slice-last-items.result.now c.loop-last.last-index c.loop-last-test.true i.1 in
     let last : ℕ = get_or c.as_slice-last-items.result.now c.loop-last.last-index 0 in
     let plan = rw c.in-Some.is at c.in_ok-plan.ensures in
-    rw c.deref-in-Some.ensures.value (class_fits _ _ _ last _ _ _ _ _
-    (front-is _ c.is_some.result c.from-front.result c.is_some.ensures c.from-front.ensures)
+    rw c.deref-in-Some.ensures.value (class_fits _ _ _ c.requires.parsed _ last _ _ _ _ _ c.size-ahead.ensures.size
     (normal_is last (omega (arith, here.2, c.requires.to_forty))) plan.chosen plan.fits plan.bits c.find_min_version-smallest.ensures)
 
 pub returns-in-Some-clause-ok : goal.returns-in-Some-clause-ok
@@ -26,8 +19,7 @@ returns-in-Some-clause-ok c =
     let here = candidates_here i.0 c.args.limit c.as_slice-last-items.result.now c.loop-last.last-index c.loop-last-test.true i.1 in
     let last : ℕ = get_or c.as_slice-last-items.result.now c.loop-last.last-index 0 in
     let plan = rw c.in-Some.is at c.in_ok-plan.ensures in
-    IfOk-weaker c.encode_plan.result _ _ (class_encoding _ _ _ last _ _ _ _ _
-    (front-is _ c.is_some.result c.from-front.result c.is_some.ensures c.from-front.ensures)
+    IfOk-weaker c.encode_plan.result _ _ (class_encoding _ _ _ c.requires.parsed _ last _ _ _ _ _ c.size-ahead.ensures.size
     (normal_is last (omega (arith, here.2, c.requires.to_forty))) plan.chosen plan.fits plan.bits c.find_min_version-smallest.ensures
     i.0 c.args.limit here.0 here.2 i.2)
     (rw c.deref-in-Some.ensures.value at c.encode_plan.ensures.ok)
@@ -40,7 +32,7 @@ loop-last-preserved c =
       last,
       here.3,
       class_fits_not _ _ _ i.0 last (omega (arith, here.2, c.requires.to_forty)) here.0 i.2
-          (front_not _ _ last _ _ _ (front-is _ c.is_some.result c.from-front.result c.is_some.ensures c.from-front.ensures)
+          (front_not _ _ last _ _ _ c.size-ahead.ensures.size
           (normal_is last (omega (arith, here.2, c.requires.to_forty))) (rw c.in_default.is at c.in_ok-plan.ensures.none)),
     )
 

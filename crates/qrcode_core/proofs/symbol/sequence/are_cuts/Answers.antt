@@ -1,5 +1,5 @@
 -- Sorted cuts don't fall; where they aren't sorted, one of them falls.
-use Rattle.qrcode_core.proofs.Prelude.{true, false, ◌+◌, arith}
+use Rattle.qrcode_core.proofs.Prelude.{true, false, arith}
 use Rattle.std.proofs.lemmas.List.Sorted.{non_decreasing_from_is_sorted}
 use Rattle.qrcode_core.proofs.symbol.sequence.are_cuts.Goals as goal
 

@@ -1,12 +1,12 @@
--- The symbol of the best encoding of a part after its header is the best symbol of the part.
-use Rattle.qrcode_core.proofs.Prelude.{ap, arith, nat_abs, IfOk-weaker, to_z-of_z}
+-- The symbol of the best encoding of a part after its front is the best symbol of the part.
+use Rattle.qrcode_core.proofs.Prelude.{ap, arith, nat_abs, subst, sym, ◌≤◌, ℕ, IfOk-weaker, to_z-of_z}
 use Rattle.qrcode_core.proofs.{Limited.few_versions, Best.best_of_stream, Best.fills_symbol, Best.encoded_short, Best.only_memory}
-use Rattle.qrcode_bits.proofs.Pairs.{bytes_valid}
+use Rattle.qrcode_bits.proofs.{Pairs.bytes_valid, Contents.length-parsed}
 use mir.Syntax.{w16}
 use Rattle.qrcode_core.proofs.symbol.sequence.part_symbol.Goals as goal
 
 pub symbol_of-requires : goal.symbol_of-requires
-symbol_of-requires c = fills_symbol (bytes_valid c.args.part.now (λ i. omega (arith, c.type_inv.part i))) c.in_ok-bits.ensures.ok
+symbol_of-requires c = fills_symbol (bytes_valid c.args.part.now (λ i. omega (arith, c.type_inv.part i))) c.requires.suited c.in_ok-bits.ensures.ok
 
 pub returns : goal.returns
 returns c =
@@ -18,8 +18,11 @@ returns c =
     let drawn = c.symbol_of.ensures.drawn in
     record {
       best = IfOk-weaker result _ _ (λ symbol made.
-          let found = best_of_stream are code made in
+          let found = best_of_stream are c.requires.suited code made in
           record { best = found.0; up_to = omega (arith, found.1, ap nat_abs same) }) drawn;
-      reading = IfOk-weaker result _ _ (λ _ made. (best_of_stream are code made).2) drawn;
-      refused = only_memory result _ (rw same at c.in_ok-bits.ensures.limit, code.stream_is.frame.header_fits, short) c.symbol_of.ensures.memory;
+      reading = IfOk-weaker result _ _ (λ _ made. (best_of_stream are c.requires.suited code made).2) drawn;
+      refused = only_memory result _ (
+        rw same at c.in_ok-bits.ensures.limit,
+        subst (λ (n : ℕ). n ≤ 7089) (sym (length-parsed c.args.front.now.content c.args.part.now)) short,
+      ) c.symbol_of.ensures.memory;
     }

@@ -7,7 +7,7 @@ use Rattle.qrcode_core.proofs.Best.{best_of_stream, fills_symbol, encoded_micro_
 use Rattle.qrcode_core.proofs.symbol.owned.Symbol.micro.Goals as goal
 
 pub symbol_of-requires : goal.symbol_of-requires
-symbol_of-requires c = fills_symbol (bytes_valid c.args.bytes.now (λ i. omega (arith, c.type_inv.bytes i))) c.in_ok-bits.ensures.ok
+symbol_of-requires c = fills_symbol (bytes_valid c.args.bytes.now (λ i. omega (arith, c.type_inv.bytes i))) tt c.in_ok-bits.ensures.ok
 
 pub returns : goal.returns
 returns c =
@@ -18,8 +18,8 @@ returns c =
     let result = c.symbol_of.result in
     let drawn = c.symbol_of.ensures.drawn in
     record {
-      best = IfOk-weaker result _ _ (λ _ made. (best_of_stream are code made).0) drawn;
-      reading = IfOk-weaker result _ _ (λ _ made. (best_of_stream are code made).2) drawn;
+      best = IfOk-weaker result _ _ (λ _ made. (best_of_stream are tt code made).0) drawn;
+      reading = IfOk-weaker result _ _ (λ _ made. (best_of_stream are tt code made).2) drawn;
       fitting = IfOk-weaker result _ _ (λ _ _ none. none code.number code.choice.up_to code.plan code.choice.fits) drawn;
       limit = IfOk-weaker result _ _ (λ _ _. short) drawn;
       refused = only_memory result _ (some, short) c.symbol_of.ensures.memory;

@@ -1,51 +1,10 @@
--- Each part's symbol is one more of the result; where a part fails, the whole call fails.
-use Rattle.qrcode_core.proofs.Prelude.{common_steps, refl, ◌+◌, arith, length, [], ◌∷◌, map, nat_abs, to_z-of_z, map-append, TellsReading, modules_of, IsTotal}
-use Rattle.std.proofs.lemmas.List.Elements.{All-push}
+-- The limit of the versions is passed on as it is.
+use Rattle.qrcode_core.proofs.Prelude.{to_z-of_z}
 use mir.Syntax.{w16}
-use Rattle.qrcode_bits.proofs.Classes.{limit_of}
-use Rattle.qrcode_core.proofs.Sequences.{one_more, best_symbols, none_too_long, refused_part}
 use Rattle.qrcode_core.proofs.symbol.owned.Symbol.sequence.Goals as goal
 
-pub returns-in_err-symbol-clause-refused : goal.returns-in_err-symbol-clause-refused
-returns-in_err-symbol-clause-refused c =
-    let same = to_z-of_z w16 c.args.max_version c.ranges.max_version in
-    let limit = limit_of c.args.max_version _ _ same c.is_normal_number.ensures c.if-not-is_normal_number.false in
-    let part = rw c.from.ensures at c.part_at-part.ensures in
-    let refused = refused_part c.args.bytes.now c.args.cuts.now c.args.level c.args.max_version (c.min.result + 1) c.loop-index.index
-    _ c.in_err-symbol.field-0.0 limit
-    (omega arith, omega arith) (omega (arith, c.min.ensures)) (omega arith) refl refl (rw (part, same) at c.in_err-symbol.ensures.refused) in
-    grind (arith, common_steps, refused)
-
-pub returns-in_err-push-clause-refused : goal.returns-in_err-push-clause-refused
-returns-in_err-push-clause-refused c =
-    let same = to_z-of_z w16 c.args.max_version c.ranges.max_version in
-    let limit = limit_of c.args.max_version _ _ same c.is_normal_number.ensures c.if-not-is_normal_number.false in
-    let few : IsTotal (length c.args.cuts.now + 1) = (omega (arith, c.min.ensures), omega (arith, c.min.ensures)) in
-    grind (arith, limit, few, c.in_err-push.ensures)
-
-pub loop-index-preserved : goal.loop-index-preserved
-loop-index-preserved c =
-    let bytes = c.args.bytes.now in
-    let cuts = c.args.cuts.now in
-    let done = c.loop-index.index in
-    let before = c.loop-index.symbols.items in
-    let part = rw c.from.ensures at c.part_at-part.ensures in
-    let symbol = rw (part, c.parity_of-parity.ensures) at c.in_ok-symbol.ensures.best in
-    let grids = map-append modules_of before (c.in_ok-symbol.field-0 ∷ []) in
-    record {
-      first = rw (c.in_ok-push.ensures.items, grids)
-          (one_more bytes cuts c.args.level _ (c.min.result + 1) done (map modules_of before) c.in_ok-symbol.field-0.modules
-          c.loop-index.invariant.first symbol);
-      reading = rw c.in_ok-push.ensures.items
-          (All-push TellsReading before c.in_ok-symbol.field-0 c.loop-index.invariant.reading c.in_ok-symbol.ensures.reading);
-    }
-
-pub returns-clause-best : goal.returns-clause-best
-returns-clause-best c =
-    rw (← to_z-of_z w16 c.args.max_version c.ranges.max_version)
-    (best_symbols c.args.bytes.now c.args.cuts.now c.args.level _ (c.min.result + 1) c.loop-index.index (map modules_of c.loop-index.symbols.items)
-    c.requires.ordered (omega arith, omega arith) (omega (arith, c.min.ensures)) (omega arith) c.loop-index.invariant.first)
-
 pub returns-clause-fitting : goal.returns-clause-fitting
-returns-clause-fitting c =
-    none_too_long c.args.bytes.now c.args.cuts.now c.args.level (nat_abs c.args.max_version) (map modules_of c.loop-index.symbols.items) (returns-clause-best c)
+returns-clause-fitting c = rw (to_z-of_z w16 c.args.max_version c.ranges.max_version) at c.symbols_of.ensures.fitting
+
+pub returns-clause-refused : goal.returns-clause-refused
+returns-clause-refused c = rw (to_z-of_z w16 c.args.max_version c.ranges.max_version) at c.symbols_of.ensures.refused

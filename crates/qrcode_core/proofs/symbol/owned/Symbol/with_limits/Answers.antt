@@ -8,7 +8,7 @@ use Rattle.qrcode_core.proofs.Best.{best_of_stream, fills_symbol, encoded_short,
 use Rattle.qrcode_core.proofs.symbol.owned.Symbol.with_limits.Goals as goal
 
 pub symbol_of-requires : goal.symbol_of-requires
-symbol_of-requires c = fills_symbol (bytes_valid c.args.bytes.now (λ i. omega (arith, c.type_inv.bytes i))) c.in_ok-bits.ensures.ok
+symbol_of-requires c = fills_symbol (bytes_valid c.args.bytes.now (λ i. omega (arith, c.type_inv.bytes i))) tt c.in_ok-bits.ensures.ok
 
 pub returns : goal.returns
 returns c =
@@ -20,13 +20,13 @@ returns c =
     let code = c.in_ok-bits.ensures.ok in
     let few = encoded_short _ (few_versions _ c.in_ok-bits.ensures.limit) are code in
     let within = λ (symbol : DrawnSymbol) (made : IsDrawnStream c.in_ok-bits.bits c.args.level symbol).
-    let best = best_of_stream are code made in
+    let best = best_of_stream are tt code made in
     best_within limits c.args.bytes.now c.args.level _ most symbol.modules best.0 best.1 in
     let result = c.symbol_of.result in
     let drawn = c.symbol_of.ensures.drawn in
     record {
       best = IfOk-weaker result _ _ within drawn;
-      reading = IfOk-weaker result _ _ (λ _ made. (best_of_stream are code made).2) drawn;
+      reading = IfOk-weaker result _ _ (λ _ made. (best_of_stream are tt code made).2) drawn;
       fitting = IfOk-weaker result _ _ (λ symbol made. fits_within limits c.args.bytes.now c.args.level symbol.modules short (within symbol made)) drawn;
       budget = IfOk-weaker result _ _ (λ _ _. budget) drawn;
       limit = IfOk-weaker result _ _ (λ _ _. few) drawn;

@@ -1,0 +1,30 @@
+-- The best encoding, drawn, is the best symbol.
+use Rattle.qrcode_core.proofs.Prelude.{arith, common_steps, IfOk-weaker}
+use Rattle.qrcode_bits.proofs.Pairs.{bytes_valid}
+use Rattle.qrcode_core.proofs.Best.{best_of_stream, fills_symbol, encoded_fits, encoded_short, text_refused, only_memory}
+use Rattle.qrcode_core.proofs.symbol.owned.Symbol.text.Goals as goal
+
+pub symbol_of-requires : goal.symbol_of-requires
+symbol_of-requires c =
+    fills_symbol (bytes_valid c.args.text.now (λ i. omega (arith, c.type_inv.text i))) tt
+    (rw (c.new-front.ensures, c.as_bytes.ensures.value) at c.in_ok-bits.ensures.ok)
+
+pub returns : goal.returns
+returns c =
+    let are = bytes_valid c.args.text.now (λ i. omega (arith, c.type_inv.text i)) in
+    let code = rw (c.new-front.ensures, c.as_bytes.ensures.value) at c.in_ok-bits.ensures.ok in
+    let short = encoded_short 40 (omega arith) are code in
+    let result = c.symbol_of.result in
+    let drawn = c.symbol_of.ensures.drawn in
+    record {
+      best = IfOk-weaker result _ _ (λ _ made. (best_of_stream are tt code made).0) drawn;
+      reading = IfOk-weaker result _ _ (λ _ made. (best_of_stream are tt code made).2) drawn;
+      fitting = IfOk-weaker result _ _ (λ _ _. encoded_fits code) drawn;
+      limit = IfOk-weaker result _ _ (λ _ _. short) drawn;
+      refused = only_memory result _ short c.symbol_of.ensures.memory;
+    }
+
+pub returns-in_err-bits-clause-refused : goal.returns-in_err-bits-clause-refused
+returns-in_err-bits-clause-refused c =
+    let why = text_refused c.args.text.now c.args.level c.in_err-bits.field-0.0 (rw (c.new-front.ensures, c.as_bytes.ensures.value) at c.in_err-bits.ensures.err) in
+    grind (arith, common_steps, why)
