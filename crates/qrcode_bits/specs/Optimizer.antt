@@ -4,8 +4,9 @@
 -- keeps the best start per group and bucket. The *group* of a start is the joined mode of the
 -- segments from it to the end. Its *bucket* is the mode in which the part may finally end, with the
 -- offset of its first byte modulo the period of that mode.
-use Rattle.std.specs.Prelude.{List, [], ◌∷◌, ◌≡◌, ℕ, zero, suc, ◌+◌, ◌-◌, ◌*◌, ◌/◌, ◌%◌, ◌^◌, ◌<◌, ◌≤◌, ◌≢◌, ◌⊎◌, length}
-use Rattle.std.specs.Prelude.{Option, Some, None, ◌++◌, cond, ltb, get_or, map, nat_lt, ◌==◌, if◌then◌else◌}
+use Rattle.std.specs.Prelude.{List, [], ◌∷◌, ◌≡◌, ℕ, zero, suc, ◌+◌, ◌-◌, ◌*◌, ◌/◌, ◌%◌, ◌^◌, ◌<◌, ◌≤◌}
+use Rattle.std.specs.Prelude.{◌≢◌, ◌⊎◌, length, Option, Some, None, ◌++◌, cond, ltb, get_or, map, nat_lt}
+use Rattle.std.specs.Prelude.{◌==◌, if◌then◌else◌}
 use Rattle.qrcode_base.specs.declared.types.Mode.{Mode}
 use Rattle.qrcode_base.specs.declared.types.Mode.TheVariants.{Numeric, Alphanumeric, Byte, Kanji}
 use Rattle.qrcode_base.specs.declared.types.Version.{Version}
@@ -132,8 +133,8 @@ IsAhead segments version mode s t =
 -- ---- Candidates. All ends, and the number of segments, are below a number `far`.
 
 -- Whether a candidate is a start; one of too many bits is none.
-abbrev pub IsFound : ℕ → Candidate → Type 0
-IsFound far c = c.bits < 2 ^ 24 * far
+abbrev pub IsStart : ℕ → Candidate → Type 0
+IsStart far c = c.bits < 2 ^ 24 * far
 
 -- The candidate, if it is a start.
 abbrev pub found : ℕ → Candidate → Option Candidate

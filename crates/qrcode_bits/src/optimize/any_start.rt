@@ -3,7 +3,7 @@
 ghost use Rattle.std.specs.Prelude.{◌≡◌, ℕ, ◌+◌, ◌*◌, ◌-◌, ◌^◌, ◌<◌, ◌≤◌};
 ghost use Rattle.std.specs.Bool.{OnTrue, OnFalse};
 ghost use Rattle.qrcode_bits.specs.declared.optimize.candidate.Candidate.{Candidate};
-ghost use Rattle.qrcode_bits.specs.Optimizer.{IsFound, IsAsGoodAs};
+ghost use Rattle.qrcode_bits.specs.Optimizer.{IsStart, IsAsGoodAs};
 
 use super::Comparisons;
 use std::sync::ledger::Ledger;
@@ -28,7 +28,7 @@ pub trait AnyStart: Copy {
 
     /// Returns whether this is a start.
     fn is_some(&self) -> bool
-        ensures some { OnTrue result (IsFound FAR (read self.now)) }
+        ensures some { OnTrue result (IsStart FAR (read self.now)) }
         ensures none { OnFalse result (2 ^ 24 * FAR ≤ (read self.now).bits) };
 
     /// Returns the index of the segment at which the last part starts.

@@ -4,7 +4,8 @@
 //! joined mode (`advance`), adds the segment's own start (`add_start`), and takes the best start of
 //! all buckets (`last_step`). At the end `read_back` returns the parts of the plan.
 
-ghost use Rattle.std.specs.Prelude.{◌≡◌, ℕ, ◌+◌, ◌*◌, ◌-◌, ◌^◌, ◌<◌, ◌≤◌, ◌≢◌, [], ◌∷◌, length, map, get_or, IfOk, IfErr};
+ghost use Rattle.std.specs.Prelude.{◌≡◌, ℕ, ◌+◌, ◌*◌, ◌-◌, ◌^◌, ◌<◌, ◌≤◌, ◌≢◌, [], ◌∷◌, length};
+ghost use Rattle.std.specs.Prelude.{map, get_or, IfOk, IfErr};
 ghost use Rattle.std.specs.Mem.{type_size};
 ghost use Rattle.qrcode_base.specs.Symbols.{HasMicroNumber};
 ghost use Rattle.qrcode_base.specs.Modes.{data_bits, characters, join};
