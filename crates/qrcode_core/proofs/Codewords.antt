@@ -3,9 +3,10 @@
 use Rattle.qrcode_core.proofs.Prelude.{◌≡◌, ℕ, ◌+◌, ◌*◌, ◌<◌, refl, ap, arith, List, [], ◌∷◌, ◌++◌, length, Bool, length-append, length-replicate, byte_bits}
 use Rattle.qrcode_core.proofs.Prelude.{zero_bits, AreBytes, ◌-◌, ◌%◌, ◌≤◌, ◌⊎◌, take, append_assoc, Some, take_at, none-some, same_Some, EcLevel, Version}
 use Rattle.qrcode_core.proofs.Prelude.{BlockLayout, block_sizes, blocks_of, data_bytes, missing_bits, capacity, tail, ended, common_steps, IsVersion}
-use Rattle.qrcode_core.proofs.Prelude.{Front, IsEncoded, AreAllCodewords, map, concat, same_lists, get_or_default, place_in_stream, block_in, blocks_in}
+use Rattle.qrcode_core.proofs.Prelude.{Front, IsEncoded, AreAllCodewords, map, concat, same_lists, get_or_default, place_in_stream, block_in}
 use Rattle.qrcode_core.proofs.Prelude.{AreCodewords, zero, suc, ◌∙◌, replicate, false, Light, is_dark, DrawnSymbol, IsDrawn, Carries}
 use Rattle.std.proofs.{lemmas.List.Elements.All-head, lemmas.List.Elements.All-tail, lemmas.List.replicate-append-replicate, Common.min, Common.append-nil}
+use Rattle.std.specs.List.{range_with_len}
 use Rattle.std.proofs.{lemmas.List.FromFn.get_or-map-range_with_len, lemmas.List.FromFn.length-map-range_with_len}
 use Rattle.qrcode_bits.proofs.{Numbers.number_front, Numbers.front_is, Numbers.length-byte_bits, Streams.length-tail, Streams.length-ended, Frames.length-frame}
 use Rattle.qrcode_grid.{proofs.WholeSymbols.version_of_symbol, specs.Walk.left_over, specs.Walk.bit_color, specs.Walk.symbol_bits}
@@ -82,8 +83,9 @@ version_of_all version level count all = grind (arith, common_steps, version_of_
 -- block, as of the data
 
 -- a stream of one block is the block
-pub one_block : (size : ℕ) (stream : List ℕ) → length stream ≡ size → concat (blocks_in (size ∷ []) stream) ≡ stream
-unfolding blocks_in block_in place_in_stream
+pub one_block : (size : ℕ) (stream : List ℕ) → length stream ≡ size →
+    concat (map (block_in (size ∷ []) stream) (range_with_len 0 1)) ≡ stream
+unfolding block_in place_in_stream
 one_block size stream long = grind (arith, common_steps, min, append-nil, map, same_lists, length-map-range_with_len, get_or_default, get_or-map-range_with_len)
 
 -- Only symbols of one block lack bits, so the stream ends with the zeros with which the data end.

@@ -37,7 +37,7 @@ pub use Rattle.qrcode_core.specs.Registries.{StepsInOrder, named_encoder, named_
 pub use Rattle.qrcode_core.specs.Sequence.{HaveOneMessage, ReadsMessage, ReadsPiece, parts_at, parts_from}
 pub use Rattle.qrcode_core.specs.declared.plugin.error.PluginError.{PluginError}
 pub use Rattle.qrcode_grid.specs.Blocks.{AreBlocksApart, AreCodewords, codeword_block}
-unfoldable pub use Rattle.qrcode_grid.specs.Blocks.{AreApart, block_in, blocks_in, place_in_stream}
+unfoldable pub use Rattle.qrcode_grid.specs.Blocks.{AreApart, block_in, place_in_stream}
 pub use Rattle.qrcode_grid.specs.Codes.{AreBytes}
 pub use Rattle.qrcode_grid.specs.Masks.{HasFunctionalColors, IsOfFamily, format_word, level_number, micro_number, normal_number, symbol_number}
 pub use Rattle.qrcode_grid.specs.Regions.{functional_color, is_dark}

@@ -1,6 +1,6 @@
 -- The printed symbol of the digits 12345 in M1 is read as these digits: its parts are computed.
 use Rattle.qrcode_core.proofs.Prelude.{◌≡◌, ℕ, zero, suc, pos, ◌+◌, ◌*◌, ◌<◌, refl, arith, List, [], ◌∷◌, Bool, true, false, take, rules, Option, Some, None}
-use Rattle.qrcode_core.proofs.Prelude.{slice_get, codes, Color, Light, Dark, Version, Micro, byte_bits, blocks, place_in_stream, block_in, blocks_in}
+use Rattle.qrcode_core.proofs.Prelude.{slice_get, codes, Color, Light, Dark, Version, Micro, byte_bits, blocks, place_in_stream, block_in}
 use Rattle.qrcode_core.proofs.Prelude.{codeword_block, AreCodewords, format_word, HasFunctionalColors, functional_color, Reads}
 use Rattle.qrcode_core.specs.Headline.{printed, printed_reading}
 use Rattle.std.specs.Prelude.{◌≢◌}
@@ -48,7 +48,7 @@ printed_sound zero h (suc (suc i)) below = absurd (omega arith)
 printed_sound (suc block) h i below = absurd (omega arith)
 
 printed_codewords : AreCodewords 2 (3 ∷ []) words words checks
-unfolding blocks_in block_in place_in_stream
+unfolding block_in place_in_stream
 printed_codewords = record { stream_length = refl; correction_length = refl; in_order = refl; sound = printed_sound }
 
 abbrev digits : Piece

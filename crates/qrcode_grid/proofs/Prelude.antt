@@ -38,7 +38,7 @@ pub use Rattle.qrcode_base.specs.declared.types.EcLevel.TheVariants.{H, L, M, Q}
 pub use Rattle.qrcode_base.specs.declared.types.Version.{Version}
 pub use Rattle.qrcode_base.specs.declared.types.Version.TheVariants.{Micro, Normal}
 pub use Rattle.qrcode_grid.specs.Blocks.{AreBlocksApart, AreCodewords, ArePlaces, HasOneOrigin, codeword_block}
-unfoldable pub use Rattle.qrcode_grid.specs.Blocks.{AreApart, IsWrittenTo, block_in, blocks_in, given_block, place_in_stream}
+unfoldable pub use Rattle.qrcode_grid.specs.Blocks.{AreApart, IsWrittenTo, block_in, given_block, place_in_stream}
 pub use Rattle.qrcode_grid.specs.Canvas.{CarriesCodewords, Drawing, TakesCodewords, color_of_module, colors_of, mask_penalties, with_functional, with_mask}
 pub use Rattle.qrcode_grid.specs.Codes.{AddsCode, AreBytes, AreRows, AreTerms, IsApart, IsDivisor, IsRemainder, IsTurn, distance}
 unfoldable pub use Rattle.qrcode_grid.specs.Codes.{IsSound, double, power, product, shift_and_add, value_at}
