@@ -40,7 +40,7 @@ pub use Rattle.qrcode_base.specs.declared.types.Version.TheVariants.{Micro, Norm
 pub use Rattle.qrcode_grid.specs.Blocks.{AreBlocksApart, AreCodewords, ArePlaces, HasOneOrigin, codeword_block}
 unfoldable pub use Rattle.qrcode_grid.specs.Blocks.{AreApart, IsWrittenTo, block_in, given_block, place_in_stream}
 pub use Rattle.qrcode_grid.specs.Canvas.{CarriesCodewords, Drawing, TakesCodewords, color_of_module, colors_of, mask_penalties, with_functional, with_mask}
-pub use Rattle.qrcode_grid.specs.Codes.{AddsCode, AreBytes, AreRows, AreTerms, IsApart, IsDivisor, IsRemainder, IsTurn, distance}
+pub use Rattle.qrcode_grid.specs.Codes.{AddsCode, AreBytes, AreRows, AreTerms, IsApart, IsDivisor, IsRemainder, IsDivisionStep, distance}
 unfoldable pub use Rattle.qrcode_grid.specs.Codes.{IsSound, double, power, product, shift_and_add, value_at}
 pub use Rattle.qrcode_grid.specs.Counts.{IsFunctionalCount, area_count, codeword_count, data_cell_count, functional_cells}
 pub use Rattle.qrcode_grid.specs.Masks.{HasFunctionalColors, IsOfFamily, drawn_over, family, format_color, format_value, format_word, inverted_if, is_inverted}
@@ -51,7 +51,7 @@ pub use Rattle.qrcode_grid.specs.Regions.{alignment_at, alignment_coordinate, al
 pub use Rattle.qrcode_grid.specs.Regions.{differing_digits, digit_at, digit_color, finder, format_code, format_first, format_micro, format_second}
 pub use Rattle.qrcode_grid.specs.Regions.{functional_color, is_functional_cell, map_cells, near, regions, ring, sum_below}
 pub use Rattle.qrcode_grid.specs.Regions.{timing, version_copies, version_digit, version_word, written}
-pub use Rattle.qrcode_grid.specs.Scoring.{AreEdges, IsPadded, Marks, cell, code_of, has, has_finder, has_five, has_six, has_square, held, is_dark_byte}
+pub use Rattle.qrcode_grid.specs.Scoring.{AreEdges, IsPadded, Marks, cell, code_of, has, has_finder, has_five, has_six, has_square, count_in_planes, is_dark_byte}
 pub use Rattle.qrcode_grid.specs.Scoring.{is_quiet, is_same, masked_code, pattern_of, places, plane, stride, tallied}
 unfoldable pub use Rattle.qrcode_grid.specs.Scoring.{bit_count}
 pub use Rattle.qrcode_grid.specs.Walk.{TakesBits, along_walk, bit_color, cell_number, columns_before, data_cells, fill_empty, left_over, numbered_cell}

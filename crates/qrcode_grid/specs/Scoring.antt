@@ -45,14 +45,14 @@ pub record Marks (lanes : List ℕ) (test : ℕ → ℕ → Bool) : Type 0 where
       bit_at (slice_index lanes j) m ≡ (if test m j then 1 else 0)
 
 -- The count of bit m in rows of lanes of the weights 1, 2, 4 and 8.
-abbrev pub held : ℕ → Planes → ℕ
-held m planes =
+abbrev pub count_in_planes : ℕ → Planes → ℕ
+count_in_planes m planes =
     bit_count m planes.ones + 2 * bit_count m planes.twos + 4 * bit_count m planes.fours +
     8 * bit_count m planes.eights
 
 -- How often bit m was set.
 abbrev pub tallied : ℕ → Tally → ℕ
-tallied m tally = 16 * slice_index tally.sums m + held m tally.planes
+tallied m tally = 16 * slice_index tally.sums m + count_in_planes m tally.planes
 
 -- The distance of a row from the next one in the lists in which the penalties are counted.
 abbrev pub stride : ℕ → ℕ

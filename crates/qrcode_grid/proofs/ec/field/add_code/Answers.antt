@@ -12,14 +12,14 @@ loop-byte-init c = record {
 
 pub loop-byte-preserved : goal.loop-byte-preserved
 loop-byte-preserved c = record {
-  size = c.turned-lanes.ensures.lanes;
+  size = c.division_step-lanes.ensures.lanes;
   is = λ n divisor terms d rows.
       let i = c.loop-byte.byte-index in
       let body = c.args.body.now in
-      let result = c.turned-lanes.result in
+      let result = c.division_step-lanes.result in
       subst (λ (seen : List ℕ). IsRemainder n divisor seen result) (sym (take_more body i 0 (omega arith)))
       (next_remainder n (get_or body i 0) divisor terms (take i body) c.loop-byte.lanes result d rows.padded (omega (arith, c.type_inv.body i))
-      (c.loop-byte.invariant.is n divisor terms d rows) (c.turned-lanes.ensures.turn terms rows.by_low rows.by_high) c.turned-lanes.ensures.lanes);
+      (c.loop-byte.invariant.is n divisor terms d rows) (c.division_step-lanes.ensures.step terms rows.by_low rows.by_high) c.division_step-lanes.ensures.lanes);
 }
 
 pub returns : goal.returns

@@ -3,7 +3,7 @@ use Rattle.qrcode_grid.proofs.Prelude.{range_with_len, get_or_default, bit_xor, 
 use lib.ListN.{replicate}
 use lib.Lanes.{zip2}
 use Rattle.qrcode_grid.proofs.RowDivision.{fits_at, lane_moved, lane_xor, length_xor, product-halves, times_one}
-use Rattle.qrcode_grid.proofs.ec.field.turned.Goals as goal
+use Rattle.qrcode_grid.proofs.ec.field.division_step.Goals as goal
 
 first_lane : (lanes : List ℕ) (first : ℕ) → 0 < length lanes → first ≡ get_or lanes 0 first → first ≡ get_or lanes 0 0
 first_lane lanes first some is = is ∙ get_or_default lanes 0 first 0 some
@@ -17,8 +17,8 @@ returns-clause-lanes c =
     length_xor moved _ 32 refl
     (length_xor _ _ 32 (c.requires.low c.from.result [] (omega arith)) (c.requires.high c.from-2.result [] (omega arith)))
 
-pub returns-clause-turn : goal.returns-clause-turn
-returns-clause-turn c = λ terms low high j h.
+pub returns-clause-step : goal.returns-clause-step
+returns-clause-step c = λ terms low high j h.
     let t = get_or terms j 0 in
     let moved = map (λ k. get_or (c.args.lanes ++ replicate 32 0) k 0) (range_with_len 1 32) in
     let first : c.index.result.now ≡ get_or c.args.lanes 0 0 = first_lane c.args.lanes c.index.result.now (omega arith) c.index.ensures in
