@@ -1,4 +1,5 @@
--- The table of the masks' conditions, modules as bytes, masked and formatted, masks by their numbers, and lists of penalties.
+-- The table of the masks' conditions, modules as bytes, masked and formatted, masks by their
+-- numbers, and lists of penalties.
 use Rattle.qrcode_grid.proofs.Prelude.{◌≡◌, ℕ, ◌+◌, ◌/◌, ◌%◌, ◌<◌, ◌==◌, eqb, Bool, cond, min, [], get_or, refl, ap, arith, List, map, length, Option, ◌∙◌, sym}
 use Rattle.qrcode_grid.proofs.Prelude.{zero, suc, ◌∷◌, ◌++◌, take, drop, slice_get, Some, option_map, unwrap_or, bit_at-lt, bit_at_xor, bit_at_and, bit_at_ones}
 use Rattle.qrcode_grid.proofs.Prelude.{bit_at-zero, true, false, nat_tests, bit_at, Light, Dark, Module, Empty, code_of, masked_code, pattern_of, is_inverted}

@@ -136,7 +136,8 @@ module _ (line edges padded : List ℕ) (n step : ℕ) (at from : ℕ → ℕ) (
       ∙ ap (λ t. is_pattern (quiet line) p && (are_light (quiet line) j || t)) (light_here j 11 (j + 11) h (omega arith) refl)
       ∙ sym (window_is (quiet line) j)
 
-  -- a pattern that would reach past the end of the line is none: a module that has to be dark is light
+  -- a pattern that would reach past the end of the line is none: a module that has to be dark
+  -- is light
   finder_past : (j : ℕ) → j < n → n ≤ j + 6 → has_finder step padded (from j) ≡ is_finder_like (quiet line) j
   finder_past j h past =
       let none : (k : ℕ) → n + 4 ≤ k → get_or (quiet line) k 0 ≡ 0 = λ k l. get_or_past (quiet line) k 0 (omega (arith, l, long)) in

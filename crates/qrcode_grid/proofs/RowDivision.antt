@@ -14,7 +14,8 @@ use lib.Lanes.{Each1, zip2, put_chunk, sel_l, top}
 use lib.ListN.{replicate}
 use borrow.Rule.Slice.PartMut.{put_mid}
 
--- The remainder by a monic polynomial that vanishes at a point has the value of what was divided there.
+-- The remainder by a monic polynomial that vanishes at a point has the value of what was
+-- divided there.
 
 pub value_at-cons : (x : ℕ) (xs : List ℕ) (a : ℕ) → value_at (x ∷ xs) a ≡ bit_xor (product x (power a (length xs))) (value_at xs a)
 unfolding value_at

@@ -1,4 +1,5 @@
--- Windows of a line, each module by its place: four light modules, and the row through the middle of a finder pattern.
+-- Windows of a line, each module by its place: four light modules, and the row through the middle
+-- of a finder pattern.
 use Rattle.qrcode_grid.proofs.Prelude.{◌≡◌, ℕ, ◌+◌, ◌==◌, ◌&&◌, ◌||◌, Bool, true, false, List, [], ◌∷◌, get_or, refl, ap, ◌∙◌, arith, nat_tests, common_steps}
 use Rattle.qrcode_grid.specs.Penalty.{has_at, is_finder_like}
 

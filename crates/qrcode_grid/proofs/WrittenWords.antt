@@ -1,4 +1,5 @@
--- Words and rows that loops write into a grid: over bytes and over modules alike. Then the distance of drawn words.
+-- Words and rows that loops write into a grid: over bytes and over modules alike. Then the distance
+-- of drawn words.
 use Rattle.qrcode_grid.proofs.Prelude.{All, rules, ◌≡◌, ◌≢◌, ℕ, ◌<◌, ◌≤◌, ◌+◌, ◌-◌, ◌*◌, ◌==◌, ◌&&◌, Bool, true, false, List, [], ◌∷◌, length, get_or, set}
 use Rattle.qrcode_grid.proofs.Prelude.{drop, Option, Some, None, option_map, cond, ap, ◌∙◌, sym, subst, arith, inl, inr, refl, suc, get_or-set_same}
 use Rattle.qrcode_grid.proofs.Prelude.{get_or-set_other, pos, negsuc, unwrap_or, ◌/◌, ◌%◌, zero, length-set, ℤ, slice_get, fold, option_or, cases_eq, cases_lt}
@@ -71,7 +72,8 @@ cells_are f w old now d same square is =
     ∙ ap (f x y) (get_or_default old k d e inside)
     ∙ sym (get_or-enumerated (λ p. f (p.0 % w) (p.0 / w) p.1) 0 old k e inside ∙ ap (λ j. f (j % w) (j / w) (get_or old k e)) from))
 
--- Rows of a grid that are changed from one column to another, where the other cells stay as they are.
+-- Rows of a grid that are changed from one column to another, where the other cells stay as
+-- they are.
 abbrev pub CellsChanged : {X : Type 0} → (ℕ → ℕ → X → X) → ℕ → List X → List X → ℕ → Type 0
 CellsChanged f w xs ys n = ChangedBelow (λ i m. f (i % w) (i / w) m) xs ys n
 
@@ -155,7 +157,8 @@ digit_here p rest x y e f = grind (arith, common_steps, equal)
 digit_off_column : (p : ℕ × ℕ) (rest : List (ℕ × ℕ)) (x y : ℕ) → x ≢ p.0 → digit_at (p ∷ rest) x y ≡ digit_at rest x y
 digit_off_column p rest x y e = ap (λ b. cond (b && y == p.1) (Some (length rest)) (digit_at rest x y)) (differs x p.0 e)
 
--- The cells of a grid are those of an older one with a word over them, which is written into a list of places.
+-- The cells of a grid are those of an older one with a word over them, which is written into a list
+-- of places.
 abbrev pub IsWritten : {X : Type 0} → (ℕ → X) → ℕ → List (ℕ × ℕ) → X → List X → List X → Type 0
 IsWritten digits w places d old now =
     (x y : ℕ) → x < w → y < w → get_or now (y * w + x) d ≡ unwrap_or (option_map digits (digit_at places x y)) (get_or old (y * w + x) d)
@@ -234,7 +237,8 @@ digit_at-below : (places : List (ℕ × ℕ)) (x y k : ℕ) → digit_at places 
 digit_at-below [] x y k e = cc
 digit_at-below (p ∷ places) x y k e = grind (arith, common_steps, digit_at-below places x y k)
 
--- What is shown of values is what a word shows: here by the digits of the values, dark ones by the digits of the word.
+-- What is shown of values is what a word shows: here by the digits of the values, dark ones by the
+-- digits of the word.
 module _ {X Y : Type 0} (show : X → Y) (over : Option Color → Y → Y) (digits : ℕ → X) (dark : X) (word : ℕ)
     (digit_shown : (k : ℕ) (b : Y) → k < 15 → show (digits k) ≡ over (Some (digit_color (bit_at word k))) b)
     (dark_shown : (b : Y) → show dark ≡ over (Some Dark) b) (none_shown : (b : Y) → over None b ≡ b) where

@@ -1,4 +1,5 @@
--- The candidates by the numbers of the masks are those of the masks, and their penalties come in order.
+-- The candidates by the numbers of the masks are those of the masks, and their penalties come
+-- in order.
 use Rattle.qrcode_grid.proofs.Prelude.{◌≡◌, ◌<◌, ◌*◌, ap, ◌∙◌, sym, subst, arith, map, take, get_or, length, List, MaskPattern, IsOfFamily, width_of, byte_of}
 use Rattle.qrcode_grid.proofs.Prelude.{penalty, color_of_module, colors_of, with_mask, Drawing, drop, ◌++◌, family, slice_get, Some, normal_number, plane}
 use Rattle.qrcode_grid.proofs.Prelude.{common_steps, slice_get-get_or}

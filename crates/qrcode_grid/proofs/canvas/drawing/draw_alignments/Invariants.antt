@@ -1,4 +1,5 @@
--- The modules before the cell are drawn; between two centres, those before the cells of the next one.
+-- The modules before the cell are drawn; between two centres, those before the cells of the
+-- next one.
 use Rattle.qrcode_grid.proofs.Prelude.{◌+◌, ◌*◌, drawn_over, alignments, alignment_coordinates}
 use Rattle.qrcode_grid.proofs.{RegionRows.behind, WrittenWords.CellsChanged}
 use Rattle.qrcode_grid.proofs.canvas.drawing.draw_alignments.Given as goal

@@ -1,4 +1,5 @@
--- The digits before this one are found, and of this one those of the words before this one, and no others.
+-- The digits before this one are found, and of this one those of the words before this one, and
+-- no others.
 use Rattle.qrcode_grid.proofs.Prelude.{◌≡◌, ◌<◌, ◌≤◌, ℕ, get_or, length, bit_at, byte_of, digit_color}
 use Rattle.qrcode_grid.proofs.canvas.masks.write_candidates.Given as goal
 

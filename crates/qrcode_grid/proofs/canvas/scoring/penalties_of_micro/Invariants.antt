@@ -1,4 +1,5 @@
--- The penalties of the candidates before this one are found, and the light modules before this place are counted.
+-- The penalties of the candidates before this one are found, and the light modules before this
+-- place are counted.
 use Rattle.qrcode_grid.proofs.Prelude.{◌≡◌, ◌<◌, ◌≤◌, ◌-◌, ◌==◌, ℕ, length, get_or, count_by, drop, take, row, column, plane}
 use Rattle.qrcode_grid.specs.Penalty.{micro_penalty}
 use Rattle.qrcode_grid.proofs.canvas.scoring.penalties_of_micro.Given as goal
