@@ -1,5 +1,4 @@
-//! Lists of many copies of one value: the modules of a new canvas, and the scratch lists of the
-//! penalties.
+//! Lists of many copies of one value, for the modules of a canvas and for the scratch list.
 ghost use Rattle.std.specs.Prelude.{◌≡◌, replicate, IfOk};
 
 use std::alloc::{AllocError, Global};
