@@ -1,5 +1,4 @@
--- The laws of the regions, of the alignment patterns, of the walk, and of the code words of the two
--- generators.
+-- The laws of the regions, the alignment patterns, the walk, and the code words of both generators.
 use Rattle.qrcode_grid.proofs.Prelude.{◌≡◌, ℕ, zero, suc, ◌<◌, ◌≤◌, ◌+◌, ◌*◌, ◌/◌, refl, arith, Bool, not, map, filter, range_with_len, Version, IsVersion}
 use Rattle.qrcode_grid.proofs.Prelude.{width_of, timing_column, walk, data_cells, is_functional_cell, common_steps, ◌≢◌, ◌-◌, ◌%◌, ◌==◌, ◌&&◌, ◌||◌, nat_le}
 use Rattle.qrcode_grid.proofs.Prelude.{nat_lt, true, false, Option, Some, unwrap_or, subst, ◌^◌, List, abs_diff, eqb-true, leb-true, ltb-true, near, alignments}
@@ -25,8 +24,7 @@ pub data_cells-by_areas : (version : Version) → IsVersion version →
     data_cells version ≡ filter (λ c. not (is_functional_cell version c.0 c.1)) (walk version)
 data_cells-by_areas version h = grind (arith, filter-alike, numbered_cell_inside, odd_width, timing_inside, is_some-functional_color)
 
--- The laws of the regions, of the alignment patterns, of the walk, and of the code words of the two
--- generators.
+-- ---- Alignment patterns
 
 -- each centre coordinate is the one near the five coordinates around it, computed
 abbrev is_near_its_own : ℕ → ℕ → ℕ → Bool

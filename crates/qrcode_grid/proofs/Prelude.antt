@@ -1,5 +1,4 @@
--- Names that many proofs of this crate import: lemmas and types of the toolchain, and types of the
--- crates.
+-- Names that many proofs of this crate import: lemmas and types of the toolchain and of the crates.
 pub use Rattle.std.proofs.Common.{All, Bool, Fits, IfSome, IsTrue, List, None, Option, Some, [], ap, arith, cond, count_by, drop, eqb, false, fold, get_or}
 pub use Rattle.std.proofs.Common.{get_or-set_other, get_or-set_same, inl, inr, is_some, leb, length, length-append, length-set, ltb, map, max, min, nat_abs}
 pub use Rattle.std.proofs.Common.{nat_le, nat_lt, negsuc, not, option_map, pos, refl, replicate, rules, set, slice_get, subst, suc, sym, take, true, unwrap_or}
