@@ -149,8 +149,7 @@ abbrev pub IsBetterOf : Option Candidate → Option Candidate → Option Candida
 IsBetterOf None b c = c ≡ b
 IsBetterOf (Some a) None c = c ≡ Some a
 IsBetterOf (Some a) (Some b) c =
-    ((c ≡ Some a) × IsNoWorse a.bits a.parts a.start b.bits b.parts b.start)
-    ⊎ ((c ≡ Some b) × IsNoWorse b.bits b.parts b.start a.bits a.parts a.start)
+    ((c ≡ Some a) × IsAsGoodAs a b) ⊎ ((c ≡ Some b) × IsAsGoodAs b a)
 
 -- A candidate represents its start: its bits are the bits before the start, less those of the whole
 -- periods before its first byte, plus `far` periods.

@@ -31,7 +31,7 @@ const RESTS: [usize; 8] = [0, 1, 2, 0, 1, 0, 0, 1];
 fn slot_of(group: Mode, bucket: usize) -> usize
     requires { bucket < 8 }
     ensures slot { result ≡ slot_of group bucket }
-    ensures inside { result < 32 }
+    ensures inside { result < SLOTS }
 {
     8 * group as usize + bucket
 }
@@ -79,11 +79,11 @@ fn keep_better<S: AnyStart, L: Ledger>(
     start: S,
     comparisons: &mut Comparisons<L>,
 )
-    requires long { length groups.old ≡ 32 }
+    requires long { length groups.old ≡ SLOTS }
     requires inside { bucket < 8 }
     ensures better { KeepsBetter group bucket (found S.FAR (S.read start))
         (groups_of S.read S.FAR groups.old) (groups_of S.read S.FAR groups.new) }
-    ensures long { length groups.new ≡ 32 }
+    ensures long { length groups.new ≡ SLOTS }
     ensures ticked { comparisons.new ≡ comparisons.old + 1 }
 {
     let slot = slot_of(group, bucket);
@@ -100,11 +100,11 @@ fn merge_bucket<S: AnyStart, L: Ledger>(
     bucket: usize,
     comparisons: &mut Comparisons<L>,
 )
-    requires long { length groups.old ≡ 32 }
+    requires long { length groups.old ≡ SLOTS }
     requires inside { bucket < 8 }
     ensures better { KeepsBetter into bucket (groups_of S.read S.FAR groups.old from bucket)
         (groups_of S.read S.FAR groups.old) (groups_of S.read S.FAR groups.new) }
-    ensures long { length groups.new ≡ 32 }
+    ensures long { length groups.new ≡ SLOTS }
     ensures ticked { comparisons.new ≡ comparisons.old + 1 }
 {
     let start = groups[slot_of(from, bucket)];
@@ -119,7 +119,7 @@ fn merge_better<S: AnyStart, L: Ledger>(
     from: Mode,
     comparisons: &mut Comparisons<L>,
 )
-    requires long { length groups.old ≡ 32 }
+    requires long { length groups.old ≡ SLOTS }
     requires apart { into ≢ from }
     requires into { join from into ≡ into }
     ensures better { (j : ℕ) → HasBucket into j →
@@ -127,7 +127,7 @@ fn merge_better<S: AnyStart, L: Ledger>(
         (groups_of S.read S.FAR groups.old from j) (groups_of S.read S.FAR groups.new into j) }
     ensures others { (mode : Mode) → (j : ℕ) → j < 8 → mode ≢ into →
         groups_of S.read S.FAR groups.new mode j ≡ groups_of S.read S.FAR groups.old mode j }
-    ensures long { length groups.new ≡ 32 }
+    ensures long { length groups.new ≡ SLOTS }
     ensures ticked { comparisons.new ≤ comparisons.old + 3 }
 {
     if into == Mode::Alphanumeric {
@@ -145,10 +145,10 @@ fn move_group<S: AnyStart, L: Ledger>(
     incoming: Mode,
     comparisons: &mut Comparisons<L>,
 )
-    requires long { length groups.old ≡ 32 }
+    requires long { length groups.old ≡ SLOTS }
     ensures moved { Moves from incoming
         (groups_of S.read S.FAR groups.old) (groups_of S.read S.FAR groups.new) }
-    ensures long { length groups.new ≡ 32 }
+    ensures long { length groups.new ≡ SLOTS }
     ensures ticked { comparisons.new ≤ comparisons.old + 3 }
 {
     let into = from.max(incoming);
@@ -166,10 +166,10 @@ fn advance<S: AnyStart, L: Ledger>(
     incoming: Mode,
     comparisons: &mut Comparisons<L>,
 )
-    requires long { length groups.old ≡ 32 }
+    requires long { length groups.old ≡ SLOTS }
     ensures advances { Advances incoming
         (groups_of S.read S.FAR groups.old) (groups_of S.read S.FAR groups.new) }
-    ensures long { length groups.new ≡ 32 }
+    ensures long { length groups.new ≡ SLOTS }
     ensures ticked { comparisons.new ≤ comparisons.old + 9 }
 {
     move_group(groups, Mode::Numeric, incoming, comparisons);
@@ -186,12 +186,12 @@ fn add_to_bucket<S: AnyStart, L: Ledger>(
     start: &S,
     comparisons: &mut Comparisons<L>,
 )
-    requires long { length groups.old ≡ 32 }
+    requires long { length groups.old ≡ SLOTS }
     requires begin { begin < S.FAR }
     requires bits { (S.read start.now).bits < 32 * S.FAR }
     ensures added { AddsTo S.FAR group last begin (S.read start.now)
         (groups_of S.read S.FAR groups.old) (groups_of S.read S.FAR groups.new) }
-    ensures long { length groups.new ≡ 32 }
+    ensures long { length groups.new ≡ SLOTS }
     ensures ticked { comparisons.new ≤ comparisons.old + 1 }
 {
     if group.max(last) == last {
@@ -215,12 +215,12 @@ fn add_start<S: AnyStart, L: Ledger>(
     start: &S,
     comparisons: &mut Comparisons<L>,
 )
-    requires long { length groups.old ≡ 32 }
+    requires long { length groups.old ≡ SLOTS }
     requires begin { begin < S.FAR }
     requires bits { (S.read start.now).bits < 32 * S.FAR }
     ensures added { Adds S.FAR group begin (S.read start.now)
         (groups_of S.read S.FAR groups.old) (groups_of S.read S.FAR groups.new) }
-    ensures long { length groups.new ≡ 32 }
+    ensures long { length groups.new ≡ SLOTS }
     ensures ticked { comparisons.new ≤ comparisons.old + 4 }
 {
     add_to_bucket(groups, group, Mode::Numeric, begin, start, comparisons);
@@ -267,7 +267,7 @@ fn last_step<S: AnyStart, L: Ledger>(
     requires some { 0 < end }
     requires within { end ≤ length segments.now }
     requires linear { HasLinearCosts segments.now version }
-    requires long { length groups.now ≡ 32 }
+    requires long { length groups.now ≡ SLOTS }
     requires groups { AreGroups S.FAR segments.now version end end
         (groups_of S.read S.FAR groups.now) }
     ensures step { IsStep segments.now version end (S.read result) }

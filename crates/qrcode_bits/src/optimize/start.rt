@@ -9,16 +9,17 @@ use super::any_start::AnyStart;
 use std::marker::Model;
 use std::sync::ledger::Ledger;
 
-/// How many low bits of a word hold the index of the segment, or how far it is from the last one.
-const INDEX_WIDTH: u32 = 13;
+/// How many low bits of a word hold by how much the index is less than `LAST_INDEX`, and how many
+/// bits after them hold the number of parts.
+const FIELD_WIDTH: u32 = 13;
 
-/// The place of the number of bits in a word, after the index and the number of parts.
+/// The number of bits of the plan stands above this many low bits of a word.
 const BITS_SHIFT: u32 = 26;
 
-/// The greatest index.
+/// The greatest index of a segment.
 const LAST_INDEX: u64 = 8191;
 
-/// No start has a word of this size.
+/// The word of a start is less than this.
 const NO_START: u64 = 1 << 63;
 
 /// A possible start of the last part, or none, in a word of 64 bits: the number of bits of the plan
@@ -65,13 +66,13 @@ impl AnyStart for Start {
     }
 
     fn index(&self) -> usize {
-        (LAST_INDEX - self.word % (1 << INDEX_WIDTH)) as usize
+        (LAST_INDEX - self.word % (1 << FIELD_WIDTH)) as usize
     }
 
     fn next(&self, index: usize) -> Self {
-        let plan = self.word >> INDEX_WIDTH;
+        let plan = self.word >> FIELD_WIDTH;
         Start {
-            word: ((plan + 1) << INDEX_WIDTH) + (LAST_INDEX - index as u64),
+            word: ((plan + 1) << FIELD_WIDTH) + (LAST_INDEX - index as u64),
         }
     }
 
