@@ -1,17 +1,22 @@
 -- The errors of a call, and when each is returned.
-use Rattle.std.specs.Prelude.{◌≡◌, ◌≢◌, ◌⊎◌, ◌+◌, ◌<◌, ◌≤◌, ℕ, ℤ, nat_abs, List, length, map, slice_get, All, Some}
+use Rattle.std.specs.Prelude.{◌≡◌, ◌≢◌, ◌⊎◌, ◌+◌, ◌<◌, ◌≤◌, ℕ, ℤ, nat_abs, List, length, map}
+use Rattle.std.specs.Prelude.{slice_get, All, Some}
 use Rattle.std.specs.List.Sorted.{IsNonDecreasing}
+use Rattle.qrcode_base.specs.declared.symbols.TheConstants.{LONGEST_DATA}
 use Rattle.qrcode_base.specs.declared.types.Color.{Color}
 use Rattle.qrcode_base.specs.declared.types.EcLevel.{EcLevel}
 use Rattle.qrcode_base.specs.declared.types.EcLevel.TheVariants.{H}
 use Rattle.qrcode_base.specs.Symbols.{IsNormalNumber}
 use Rattle.qrcode_core.specs.Drawn.{DrawnSymbol, modules_of}
-use Rattle.qrcode_core.specs.Headline.{IsBestSymbol, IsBestMicroSymbol, IsTooLong, IsTooLongForMicro}
+use Rattle.qrcode_core.specs.Headline.{IsBestSymbol, IsBestMicroSymbol, IsTooLong}
+use Rattle.qrcode_core.specs.Headline.{IsTooLongForMicro}
 use Rattle.qrcode_core.specs.Sequence.{AreBestSymbols, IsSomePartTooLong}
 use Rattle.qrcode_bits.specs.Frame.{IsTotal}
 use Rattle.qrcode_c.specs.declared.refusal.Refusal.{Refusal}
-use Rattle.qrcode_c.specs.declared.refusal.Refusal.TheVariants.{DataTooLong, OutOfMemory, InvalidLevel}
-use Rattle.qrcode_c.specs.declared.refusal.Refusal.TheVariants.{InvalidMaxVersion, InvalidPartCount, InvalidCuts}
+use Rattle.qrcode_c.specs.declared.refusal.Refusal.TheVariants.{DataTooLong, OutOfMemory}
+use Rattle.qrcode_c.specs.declared.refusal.Refusal.TheVariants.{InvalidLevel}
+use Rattle.qrcode_c.specs.declared.refusal.Refusal.TheVariants.{InvalidMaxVersion, InvalidPartCount}
+use Rattle.qrcode_c.specs.declared.refusal.Refusal.TheVariants.{InvalidCuts}
 use Rattle.qrcode_c.specs.declared.refusal.Refusal.TheVariants.{InvalidIndex, ShortBuffer}
 use Rattle.qrcode_c.specs.Levels.{AtLevel, IsNoLevel}
 use Rattle.qrcode_c.specs.Statuses.{status_of}
@@ -30,17 +35,21 @@ IsAbove room best = (modules : List Color) × best modules × (room < length mod
 abbrev pub IsSymbolRefusal : List ℕ → ℤ → ℕ → Refusal → Type 0
 IsSymbolRefusal bytes number room InvalidLevel = IsNoLevel number
 IsSymbolRefusal bytes number room DataTooLong = AtLevel number (IsTooLong bytes)
-IsSymbolRefusal bytes number room OutOfMemory = AtLevel number (λ level. length bytes ≤ 7089)
-IsSymbolRefusal bytes number room ShortBuffer = AtLevel number (λ level. IsAbove room (IsBestSymbol bytes level))
+IsSymbolRefusal bytes number room OutOfMemory =
+    AtLevel number (λ level. length bytes ≤ LONGEST_DATA)
+IsSymbolRefusal bytes number room ShortBuffer =
+    AtLevel number (λ level. IsAbove room (IsBestSymbol bytes level))
 IsSymbolRefusal bytes number room _ = ⊥
 
 -- The errors of the call for a Micro symbol, and when each is returned. No Micro version has
 -- level H.
 abbrev pub IsMicroRefusal : List ℕ → ℤ → ℕ → Refusal → Type 0
-IsMicroRefusal bytes number room InvalidLevel = AtLevel number (λ level. level ≡ H) ⊎ IsNoLevel number
+IsMicroRefusal bytes number room InvalidLevel =
+    AtLevel number (λ level. level ≡ H) ⊎ IsNoLevel number
 IsMicroRefusal bytes number room DataTooLong =
     AtLevel number (λ level. (level ≢ H) × IsTooLongForMicro bytes level)
-IsMicroRefusal bytes number room OutOfMemory = AtLevel number (λ level. (level ≢ H) × (length bytes ≤ 7089))
+IsMicroRefusal bytes number room OutOfMemory =
+    AtLevel number (λ level. (level ≢ H) × (length bytes ≤ LONGEST_DATA))
 IsMicroRefusal bytes number room ShortBuffer =
     AtLevel number (λ level. IsAbove room (IsBestMicroSymbol bytes level))
 IsMicroRefusal bytes number room _ = ⊥
@@ -58,7 +67,8 @@ pub record IsAsked (message cuts : List ℕ) (limit : ℤ) (index : ℕ) : Type 
 
 -- Among the best symbols of the message, the one at the index has more modules than the buffer
 -- has bytes.
-pub record IsPartAbove (room : ℕ) (message cuts : List ℕ) (level : EcLevel) (limit : ℤ) (index : ℕ) : Type 0 where
+pub record IsPartAbove (room : ℕ) (message cuts : List ℕ) (level : EcLevel) (limit : ℤ)
+    (index : ℕ) : Type 0 where
   pub symbols : List DrawnSymbol
   pub are_best : AreBestSymbols Bytes message cuts level (nat_abs limit) (map modules_of symbols)
   pub symbol : DrawnSymbol
@@ -74,7 +84,8 @@ IsPartRefusal message cuts number limit index room InvalidCuts =
 IsPartRefusal message cuts number limit index room InvalidIndex =
     AtLevel number (λ level. AreCuts cuts (length message) × (length cuts < index))
 IsPartRefusal message cuts number limit index room InvalidMaxVersion =
-    AtLevel number (λ level. AreCuts cuts (length message) × (index ≤ length cuts) × (IsNormalNumber limit → ⊥))
+    AtLevel number (λ level. AreCuts cuts (length message) × (index ≤ length cuts)
+    × (IsNormalNumber limit → ⊥))
 IsPartRefusal message cuts number limit index room InvalidPartCount =
     AtLevel number (λ level. IsAsked message cuts limit index × (IsTotal (length cuts + 1) → ⊥))
 IsPartRefusal message cuts number limit index room DataTooLong =

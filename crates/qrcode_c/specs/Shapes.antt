@@ -13,21 +13,23 @@ abbrev pub version_number : Version → ℤ
 version_number (Normal number) = number
 version_number (Micro number) = number
 
--- The number of a mask pattern in a version's format information (ISO/IEC 18004:2006).
-abbrev pub mask_number : Version → MaskPattern → ℤ
-mask_number (Normal _) mask = pos (normal_number mask)
-mask_number (Micro _) mask = pos (unwrap_or (micro_number mask) 0)
+-- The data mask pattern reference of a mask: its number in the format information of a version
+-- (ISO/IEC 18004:2006, "Format information").
+abbrev pub mask_reference : Version → MaskPattern → ℤ
+mask_reference (Normal _) mask = pos (normal_number mask)
+mask_reference (Micro _) mask = pos (unwrap_or (micro_number mask) 0)
 
 -- The shape of a symbol.
 abbrev pub shape_of : DrawnSymbol → Shape
 shape_of symbol = record {
   width = pos (width_of symbol.version);
   version = version_number symbol.version;
-  mask = mask_number symbol.version symbol.mask;
+  mask = mask_reference symbol.version symbol.mask;
   micro = is_micro symbol.version;
 }
 
 -- The number is that of a version whose symbols have this width.
 abbrev pub IsNumberAtWidth : ℤ → ℕ → Type 0
 IsNumberAtWidth number width =
-    (version : Version) × IsVersion version × (width_of version ≡ width) × (number ≡ version_number version)
+    (version : Version) × IsVersion version × (width_of version ≡ width)
+    × (number ≡ version_number version)

@@ -1,9 +1,11 @@
 -- The numbers of the errors.
 use Rattle.std.specs.Prelude.{ℤ, pos}
 use Rattle.qrcode_c.specs.declared.refusal.Refusal.{Refusal}
-use Rattle.qrcode_c.specs.declared.refusal.Refusal.TheVariants.{DataTooLong, OutOfMemory, InvalidLevel}
+use Rattle.qrcode_c.specs.declared.refusal.Refusal.TheVariants.{DataTooLong, OutOfMemory}
+use Rattle.qrcode_c.specs.declared.refusal.Refusal.TheVariants.{InvalidLevel}
 use Rattle.qrcode_c.specs.declared.refusal.Refusal.TheVariants.{InvalidMaxVersion, InvalidPartCount}
-use Rattle.qrcode_c.specs.declared.refusal.Refusal.TheVariants.{InvalidCuts, InvalidIndex, ShortBuffer}
+use Rattle.qrcode_c.specs.declared.refusal.Refusal.TheVariants.{InvalidCuts, InvalidIndex}
+use Rattle.qrcode_c.specs.declared.refusal.Refusal.TheVariants.{ShortBuffer}
 
 -- The number of an error, which is the status of the call.
 abbrev pub status_of : Refusal → ℤ

@@ -8,7 +8,7 @@ ghost use Rattle.qrcode_core.specs.Headline.{IsBestSymbol, IsBestMicroSymbol};
 ghost use Rattle.qrcode_base.specs.Symbols.{IsNormalNumber};
 ghost use Rattle.qrcode_grid.specs.Penalty.{byte_of};
 ghost use Rattle.qrcode_c.specs.Holding.{Holds, HoldsBest, HoldsPart};
-ghost use Rattle.qrcode_c.specs.Levels.{number_of, IsNoLevel};
+ghost use Rattle.qrcode_c.specs.Levels.{level_number, IsNoLevel};
 ghost use Rattle.qrcode_c.specs.Refusals.{IsSymbolRefusal, IsMicroRefusal, IsPartRefusal};
 
 use crate::refusal::Refusal;
@@ -96,7 +96,7 @@ pub fn part_symbol(
 
 /// Returns the level of a number, 0 to 3.
 fn level_of(number: i32) -> Option<EcLevel>
-    ensures level { IfSome result (λ level. number ≡ number_of level) }
+    ensures level { IfSome result (λ level. number ≡ level_number level) }
     ensures none { IfNone result (IsNoLevel number) }
 {
     match number {
@@ -132,26 +132,16 @@ fn write(symbol: &Symbol, modules: &mut [u8]) -> Result<Shape, Refusal>
     if modules.len() < colors.len() {
         return Err(Refusal::ShortBuffer);
     }
-    write_colors(colors, modules);
+    write_modules(colors, modules);
     Ok(shape_of(symbol))
 }
 
-/// Writes a byte for each colour to the start of a buffer.
-fn write_colors(colors: &[Color], modules: &mut [u8])
+/// Writes a byte for each colour to the start of a buffer: 1 for dark, 0 for light.
+fn write_modules(colors: &[Color], modules: &mut [u8])
     requires { length colors.now ≤ length modules.old }
     ensures { modules.new ≡ map byte_of colors.now ++ drop (length colors.now) modules.old }
 {
     for (i, color) in colors.iter().enumerate() {
-        modules[i] = byte_of(*color);
-    }
-}
-
-/// Returns the byte of a colour: 1 for dark, 0 for light.
-fn byte_of(color: Color) -> u8
-    ensures { result ≡ byte_of color }
-{
-    match color {
-        Color::Dark => 1,
-        Color::Light => 0,
+        modules[i] = color.select(1, 0);
     }
 }

@@ -1,6 +1,6 @@
 //! The properties of a symbol besides its modules.
 ghost use Rattle.std.specs.Prelude.{◌≡◌};
-ghost use Rattle.qrcode_c.specs.Shapes.{shape_of, mask_number};
+ghost use Rattle.qrcode_c.specs.Shapes.{shape_of, mask_reference};
 
 use qrcode_core::canvas::MaskPattern;
 use qrcode_core::symbol::Symbol;
@@ -33,14 +33,14 @@ pub fn shape_of(symbol: &Symbol) -> Shape
     Shape {
         width: symbol.width() as i32,
         version: i32::from(number),
-        mask: mask_number(version, symbol.mask()),
+        mask: mask_reference(version, symbol.mask()),
         micro: version.is_micro(),
     }
 }
 
-/// Returns the number of a mask pattern in the symbols of a version.
-fn mask_number(version: Version, mask: MaskPattern) -> i32
-    ensures { result ≡ mask_number version mask }
+/// Returns the number of a mask pattern in the format information of a version.
+fn mask_reference(version: Version, mask: MaskPattern) -> i32
+    ensures { result ≡ mask_reference version mask }
 {
     match (version, mask) {
         (Version::Normal(_), _) => mask as i32,
