@@ -75,7 +75,8 @@ module _ (words : Words) (f l : List ℕ) (rest : Words) (words_are : words ≡ 
     no_scale format is given_is usual_is none asked asks =
         none asked.scale (rw (usual_is, given_is) (scale_said words f l rest words_are asked asks kind options rest_is only settings options_are format is))
 
-    pub no_quiet : given ≡ fold with_quiet None settings → usual ≡ usual_quiet kind → ((n : ℕ) → AsksNumber given usual 0 16 n → ⊥) → AskForNone AskForLabel words
+    pub no_quiet : given ≡ fold with_quiet None settings → usual ≡ usual_quiet kind →
+        ((n : ℕ) → AsksNumber given usual 0 16 n → ⊥) → AskForNone AskForLabel words
     no_quiet given_is usual_is none asked asks =
         none asked.quiet (rw (usual_is, given_is) (quiet_said words f l rest words_are asked asks kind options rest_is only settings options_are))
 

@@ -37,7 +37,8 @@ module _ (grid : Grid) (config : RenderConfig) (scale quiet : ℕ) (inverted : B
       IfOk answer (λ output. IsOutput output (picture_as format inverted (picture grid scale quiet)))
   answer_drawn format answer h = grind (arith, written)
 
-  pub answer_refused : (format : Format) (answer : Result RenderOutput PluginError) → IsDrawable grid → RendersByName (format_argument format) grid config answer →
+  pub answer_refused : (format : Format) (answer : Result RenderOutput PluginError) → IsDrawable grid →
+      RendersByName (format_argument format) grid config answer →
       IfErr answer (λ e. e ≡ OutOfMemory)
   answer_refused format answer h k = grind (arith, refused)
 

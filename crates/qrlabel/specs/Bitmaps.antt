@@ -1,11 +1,13 @@
 -- A picture as a portable bitmap, in its binary form (`P4` of Netpbm).
-use Rattle.std.specs.Prelude.{ℕ, ◌+◌, ◌*◌, ◌/◌, Bool, List, ◌++◌, map, flat_map, fold, codes, decimal, if◌then◌else◌}
+use Rattle.std.specs.Prelude.{ℕ, ◌+◌, ◌*◌, ◌/◌, Bool, List, ◌++◌, map, flat_map, fold, codes}
+use Rattle.std.specs.Prelude.{decimal, if◌then◌else◌}
 use Rattle.std.specs.List.{range_with_len}
 use Rattle.qrlabel.specs.Pictures.{Picture, pixel_width, pixel_height, is_dark_pixel}
 
 -- The header: "P4", and the width and the height in decimal digits.
 unfoldable pub header : (width height : ℕ) → List ℕ
-header width height = codes "P4\n" ++ (decimal width ++ (codes " " ++ (decimal height ++ codes "\n")))
+header width height =
+    codes "P4\n" ++ (decimal width ++ (codes " " ++ (decimal height ++ codes "\n")))
 
 -- The number of some bits, the highest first.
 abbrev pub bits_number : List Bool → ℕ

@@ -1,7 +1,8 @@
 -- The options of the command line as settings. They are not in `Words`, since the contracts
 -- of the file that declares `Choice` use `Words`: that would be an import cycle.
 use Rattle.qrlabel.specs.declared.given.Choice.{Choice}
-use Rattle.qrlabel.specs.declared.given.Choice.TheVariants.{Scale as ChoosesScale, Quiet as ChoosesQuiet}
+use Rattle.qrlabel.specs.declared.given.Choice.TheVariants.{Scale as ChoosesScale}
+use Rattle.qrlabel.specs.declared.given.Choice.TheVariants.{Quiet as ChoosesQuiet}
 use Rattle.qrlabel.specs.declared.given.Choice.TheVariants.{Inverted as ChoosesInverted}
 use Rattle.qrlabel.specs.Words.{Setting, Scale, Quiet, Inverted}
 

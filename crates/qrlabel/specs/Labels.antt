@@ -22,8 +22,8 @@ qrlabel_name = codes "qrlabel"
 -- The usage line.
 abbrev pub qrlabel_usage : List ℕ
 qrlabel_usage =
-    codes "usage: qrlabel svg|pbm|terminal L|M|Q|H [micro|utf8] [--scale N] [--quiet N] [--inverted]"
-    ++ 10 ∷ []
+    codes "usage: qrlabel svg|pbm|terminal L|M|Q|H [micro|utf8]"
+    ++ (codes " [--scale N] [--quiet N] [--inverted]" ++ 10 ∷ [])
 
 -- The symbol is that of the bytes, of this kind.
 abbrev pub IsSymbolAs : Kind → EcLevel → List ℕ → DrawnSymbol → Type 0

@@ -23,11 +23,13 @@ AsksFlag (Some text) false = text ≡ codes "false"
 -- The options have these values: `scale`, the width of a module in pixels, is 1 to 64, with the
 -- renderer's default; `quiet`, the width of the quiet zone in modules, is 0 to 16, with the default
 -- 4; `inverted` is for dark terminals.
-pub record Asks (usual : ℕ) (options : TextMap (List ℕ)) (scale quiet : ℕ) (inverted : Bool) : Type 0 where
+pub record Asks (usual : ℕ) (options : TextMap (List ℕ))
+    (scale quiet : ℕ) (inverted : Bool) : Type 0 where
   pub scale_is : AsksNumber (at_key options (codes "scale")) usual 1 64 scale
   pub quiet_is : AsksNumber (at_key options (codes "quiet")) 4 0 16 quiet
   pub inverted_is : AsksFlag (at_key options (codes "inverted")) inverted
 
 -- Some option is invalid.
 abbrev pub AsksForNone : ℕ → TextMap (List ℕ) → Type 0
-AsksForNone usual options = (scale quiet : ℕ) (inverted : Bool) → Asks usual options scale quiet inverted → ⊥
+AsksForNone usual options =
+    (scale quiet : ℕ) (inverted : Bool) → Asks usual options scale quiet inverted → ⊥

@@ -3,7 +3,8 @@
 use Rattle.std.specs.Prelude.{ℕ, ◌-◌, Bool, if◌then◌else◌, ◌==◌, ◌&&◌, ◌||◌, not}
 use Rattle.std.specs.Prelude.{List, [], ◌++◌, map, drop, flat_map, codes, decimal}
 use Rattle.std.specs.List.{range_with_len, prefix_len}
-use Rattle.qrlabel.specs.Pictures.{Picture, columns_of, rows_of, pixel_width, pixel_height, is_dark_module}
+use Rattle.qrlabel.specs.Pictures.{Picture, columns_of, rows_of, pixel_width, pixel_height}
+use Rattle.qrlabel.specs.Pictures.{is_dark_module}
 
 -- Whether a run begins in column x of row y: the module is dark, and the one to its left is not.
 abbrev pub begins_run : Picture → ℕ → ℕ → Bool
@@ -51,4 +52,6 @@ closing = codes "\"/>\n</svg>\n"
 
 -- The document of a picture.
 abbrev pub svg_text : Picture → List ℕ
-svg_text p = opening (pixel_width p) (pixel_height p) (columns_of p) (rows_of p) ++ (path p (rows_of p) ++ closing)
+svg_text p =
+    opening (pixel_width p) (pixel_height p) (columns_of p) (rows_of p)
+    ++ (path p (rows_of p) ++ closing)

@@ -1,6 +1,7 @@
 -- The picture of a grid: each module is a square of pixels, and a light quiet zone surrounds the
 -- grid (ISO/IEC 18004:2006, "Quiet zone").
-use Rattle.std.specs.Prelude.{ℕ, ◌+◌, ◌-◌, ◌*◌, ◌/◌, Bool, true, false, ◌&&◌, nat_le, nat_lt, Option, Some}
+use Rattle.std.specs.Prelude.{ℕ, ◌+◌, ◌-◌, ◌*◌, ◌/◌, Bool, true, false, ◌&&◌, nat_le, nat_lt}
+use Rattle.std.specs.Prelude.{Option, Some}
 use Rattle.qrcode_core.specs.Grids.{Grid, color_at}
 use Rattle.qrcode_core.specs.declared.types.Color.{Color}
 use Rattle.qrcode_core.specs.declared.types.Color.TheVariants.{Dark}
@@ -43,7 +44,8 @@ is_dark_in g x y = nat_lt x g.columns && nat_lt y g.rows && is_dark_color (color
 -- Whether a module is dark, by its column and row from the corner of the quiet zone. Outside the
 -- grid all modules are light.
 unfoldable pub is_dark_module : Picture → ℕ → ℕ → Bool
-is_dark_module p x y = nat_le p.quiet x && nat_le p.quiet y && is_dark_in p.grid (x - p.quiet) (y - p.quiet)
+is_dark_module p x y =
+    nat_le p.quiet x && nat_le p.quiet y && is_dark_in p.grid (x - p.quiet) (y - p.quiet)
 
 -- Whether a pixel is dark, by its column and row.
 abbrev pub is_dark_pixel : Picture → ℕ → ℕ → Bool

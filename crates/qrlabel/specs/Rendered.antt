@@ -3,7 +3,9 @@ use Rattle.std.specs.Prelude.{◌≡◌, ℕ, ◌≤◌, Bool, List, Result, Ok,
 use Rattle.std.specs.String.{string_bytes}
 use Rattle.qrcode_core.specs.declared.plugin.config.RenderConfig.{RenderConfig}
 use Rattle.qrcode_core.specs.declared.plugin.error.PluginError.{PluginError}
-use Rattle.qrcode_core.specs.declared.plugin.error.PluginError.TheVariants.{InvalidConfig, RenderFailed, OutOfMemory}
+use Rattle.qrcode_core.specs.declared.plugin.error.PluginError.TheVariants.{InvalidConfig}
+use Rattle.qrcode_core.specs.declared.plugin.error.PluginError.TheVariants.{RenderFailed}
+use Rattle.qrcode_core.specs.declared.plugin.error.PluginError.TheVariants.{OutOfMemory}
 use Rattle.qrcode_core.specs.declared.plugin.output.RenderOutput.{RenderOutput}
 use Rattle.qrcode_core.specs.declared.plugin.output.RenderOutput.TheVariants.{Text, Bytes}
 use Rattle.qrcode_core.specs.Plugins.{render_options}
@@ -41,8 +43,8 @@ IsOutput (Bytes list) bytes = list.items ≡ bytes
 IsOutput _ bytes = ⊥
 
 -- The output shows the grid as the options say.
-pub record DrawsGrid (usual : ℕ) (Shows : Bool → Picture → RenderOutput → Type 0) (grid : Grid) (config : RenderConfig)
-    (output : RenderOutput) : Type 0 where
+pub record DrawsGrid (usual : ℕ) (Shows : Bool → Picture → RenderOutput → Type 0)
+    (grid : Grid) (config : RenderConfig) (output : RenderOutput) : Type 0 where
   pub scale : ℕ
   pub quiet : ℕ
   pub inverted : Bool
@@ -70,4 +72,5 @@ Renders usual Shows grid config (Err error) =
 abbrev pub Validates : ℕ → RenderConfig → Result (Unit {0}) PluginError → Type 0
 Validates usual config (Ok done) =
     (scale quiet : ℕ) × (inverted : Bool) × Asks usual (render_options config) scale quiet inverted
-Validates usual config (Err error) = IsRendererRefusal (AsksForNone usual (render_options config)) ⊥ error
+Validates usual config (Err error) =
+    IsRendererRefusal (AsksForNone usual (render_options config)) ⊥ error

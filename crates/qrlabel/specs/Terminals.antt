@@ -20,11 +20,13 @@ is_filled inverted p x y = if inverted then not (is_dark_pixel p x y) else is_da
 -- The character in column x of a line: the pixels of the rows 2 * line and 2 * line + 1.
 unfoldable pub terminal_character : Bool → Picture → ℕ → ℕ → List ℕ
 terminal_character inverted p line x =
-    encode_utf8 (half_blocks (is_filled inverted p x (2 * line)) (is_filled inverted p x (2 * line + 1)))
+    encode_utf8
+    (half_blocks (is_filled inverted p x (2 * line)) (is_filled inverted p x (2 * line + 1)))
 
 -- A line: one character for each column, and a newline.
 abbrev pub terminal_line : Bool → Picture → ℕ → List ℕ
-terminal_line inverted p line = flat_map (terminal_character inverted p line) (range_with_len 0 (pixel_width p)) ++ 10 ∷ []
+terminal_line inverted p line =
+    flat_map (terminal_character inverted p line) (range_with_len 0 (pixel_width p)) ++ 10 ∷ []
 
 -- The first lines, from the top.
 unfoldable pub lines_of : Bool → Picture → ℕ → List ℕ

@@ -4,7 +4,9 @@ use Rattle.std.specs.Str.{IsUtf8, IsValidUpTo}
 use Rattle.qrcode_base.specs.declared.symbols.TheConstants.{LONGEST_DATA}
 use Rattle.qrcode_core.specs.declared.types.EcLevel.{EcLevel}
 use Rattle.qrcode_core.specs.declared.types.errors.QrError.{QrError}
-use Rattle.qrcode_core.specs.declared.types.errors.QrError.TheVariants.{DataTooLong, InvalidCharacter, OutOfMemory}
+use Rattle.qrcode_core.specs.declared.types.errors.QrError.TheVariants.{DataTooLong}
+use Rattle.qrcode_core.specs.declared.types.errors.QrError.TheVariants.{InvalidCharacter}
+use Rattle.qrcode_core.specs.declared.types.errors.QrError.TheVariants.{OutOfMemory}
 use Rattle.qrcode_core.specs.Drawn.{DrawnSymbol}
 use Rattle.texts.specs.Smallest.{SaysUtf8, IsSmallest, IsRefusedByAll}
 
@@ -21,6 +23,7 @@ abbrev pub IsTextRefusal : EcLevel → List ℕ → QrError → Type 0
 IsTextRefusal level bytes DataTooLong =
     (length bytes ≤ LONGEST_DATA → IsUtf8 bytes) × IsRefusedByAll (SaysUtf8 bytes) level DataTooLong
 IsTextRefusal level bytes (InvalidCharacter position byte) =
-    (length bytes ≤ LONGEST_DATA) × IsValidUpTo bytes position × (slice_get bytes position ≡ Some byte)
+    (length bytes ≤ LONGEST_DATA) × IsValidUpTo bytes position
+    × (slice_get bytes position ≡ Some byte)
 IsTextRefusal level bytes OutOfMemory = (length bytes ≤ LONGEST_DATA) × IsUtf8 bytes
 IsTextRefusal level bytes other = ⊥

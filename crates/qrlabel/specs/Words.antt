@@ -1,5 +1,6 @@
 -- The arguments of the program, and the label that they describe.
-use Rattle.std.specs.Prelude.{◌≡◌, ℕ, Bool, true, false, List, [], ◌∷◌, ◌++◌, codes, flat_map, fold, Option, None, Some, IsTrue}
+use Rattle.std.specs.Prelude.{◌≡◌, ℕ, Bool, true, false, List, [], ◌∷◌, ◌++◌, codes, flat_map, fold}
+use Rattle.std.specs.Prelude.{Option, None, Some, IsTrue}
 use Rattle.std.specs.Str.{trim}
 use Rattle.qrcode_core.specs.declared.types.EcLevel.{EcLevel}
 use Rattle.qrcode_core.specs.Names.{NamesLevel}
@@ -95,9 +96,12 @@ is_text _ = false
 pub record AskForLabel (words : List (List ℕ)) (asked : Label) : Type 0 where
   pub level_word : List ℕ
   pub settings : List Setting
-  pub words_are : words ≡ format_argument asked.format ∷ level_word ∷ kind_words asked.kind ++ spelled settings
+  pub words_are : words ≡
+      format_argument asked.format ∷ level_word ∷ kind_words asked.kind ++ spelled settings
   pub level_is : NamesLevel (trim level_word) asked.level
-  pub scale_is : AsksNumber (fold with_scale None settings) (usual_scale asked.format) 1 64 asked.scale
-  pub quiet_is : AsksNumber (fold with_quiet None settings) (usual_quiet asked.kind) 0 16 asked.quiet
+  pub scale_is :
+      AsksNumber (fold with_scale None settings) (usual_scale asked.format) 1 64 asked.scale
+  pub quiet_is :
+      AsksNumber (fold with_quiet None settings) (usual_quiet asked.kind) 0 16 asked.quiet
   pub inverted_is : asked.inverted ≡ fold with_inverted false settings
   pub inverts_text : IsTrue asked.inverted → IsTrue (is_text asked.format)

@@ -33,7 +33,8 @@ fn header(alloc: Global, width: usize, height: usize) -> Result<String, AllocErr
 #[tactic(auto, using(crate::proofs::BitmapLemmas::rows))]
 fn push_rows(alloc: Global, bytes: &mut Vec<u8>, picture: &Picture) -> Result<(), AllocError>
     ensures { OnOk result
-        (bytes.new.items ≡ bytes.old.items ++ first_rows (shown picture.now) (pixel_height (shown picture.now))) }
+        (bytes.new.items ≡ bytes.old.items
+        ++ first_rows (shown picture.now) (pixel_height (shown picture.now))) }
 {
     let scale = picture.scale();
     for row in 0..picture.rows() {

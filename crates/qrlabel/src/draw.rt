@@ -6,7 +6,8 @@ ghost use Rattle.std.specs.Prelude.{◌≡◌, ◌≢◌, ℕ, ◌≤◌, length
 ghost use Rattle.qrcode_base.specs.declared.symbols.TheConstants.{LONGEST_DATA};
 ghost use Rattle.qrcode_core.specs.declared.types.errors.QrError.TheVariants.{OutOfMemory};
 ghost use Rattle.qrcode_core.specs.Plugins.{render_options};
-ghost use Rattle.qrlabel.specs.Labels.{IsSymbolAs, IsRefusalAs, ShowsLabel, RefusesLabel, picture_for};
+ghost use Rattle.qrlabel.specs.Labels.{IsSymbolAs, IsRefusalAs, ShowsLabel, RefusesLabel};
+ghost use Rattle.qrlabel.specs.Labels.{picture_for};
 ghost use Rattle.qrlabel.specs.Options.{Asks};
 ghost use Rattle.qrlabel.specs.Rendered.{IsOutput};
 ghost use Rattle.qrlabel.specs.Words.{label_of};
@@ -79,7 +80,8 @@ fn rendered(
 ) -> Result<RenderOutput, PluginError>
     requires { (usual : ℕ) → Asks usual (render_options config.now)
         wanted.request.scale wanted.request.quiet wanted.request.inverted }
-    ensures drawn { IfOk result (λ output. IsOutput output (picture_for (label_of wanted) symbol.now)) }
+    ensures drawn { IfOk result (λ output.
+        IsOutput output (picture_for (label_of wanted) symbol.now)) }
     ensures refused { IfErr result (λ e. e ≡ PluginError.OutOfMemory) }
 {
     let _sides = (symbol.width(), symbol.height());

@@ -1,8 +1,10 @@
 //! The options on the command line.
-ghost use Rattle.std.specs.Prelude.{◌≡◌, ◌++◌, ◌<◌, ◌≤◌, ℕ, List, map, fold, length, false, None, MatchOption};
+ghost use Rattle.std.specs.Prelude.{◌≡◌, ◌++◌, ◌<◌, ◌≤◌, ℕ, List, map, fold, length, false, None};
+ghost use Rattle.std.specs.Prelude.{MatchOption};
 ghost use Rattle.std.specs.Option.{option_copied};
 ghost use Rattle.qrlabel.specs.Choices.{setting_of};
-ghost use Rattle.qrlabel.specs.Words.{Setting, setting_words, spelled, with_scale, with_quiet, with_inverted};
+ghost use Rattle.qrlabel.specs.Words.{Setting, setting_words, spelled, with_scale, with_quiet};
+ghost use Rattle.qrlabel.specs.Words.{with_inverted};
 
 /// The options that were given; of repeated ones the last.
 #[derive(Clone, Copy)]
@@ -89,7 +91,8 @@ fn with<'a>(mut given: Given<'a>, choice: Choice<'a>) -> Given<'a>
         with_scale (option_copied given.entry.scale) (setting_of choice.entry) }
     ensures quiet { option_copied result.quiet ≡
         with_quiet (option_copied given.entry.quiet) (setting_of choice.entry) }
-    ensures inverted { result.inverted ≡ with_inverted given.entry.inverted (setting_of choice.entry) }
+    ensures inverted { result.inverted ≡
+        with_inverted given.entry.inverted (setting_of choice.entry) }
 {
     match choice {
         Choice::Scale(text) => given.scale = Some(text),

@@ -1,5 +1,6 @@
 //! The options of a renderer's configuration.
-ghost use Rattle.std.specs.Prelude.{◌≡◌, ℕ, ◌≤◌, Bool, codes, decimal, MatchOption, IfOk, IfErr, IfSome, Some};
+ghost use Rattle.std.specs.Prelude.{◌≡◌, ℕ, ◌≤◌, Bool, codes, decimal, MatchOption, IfOk, IfErr};
+ghost use Rattle.std.specs.Prelude.{IfSome, Some};
 ghost use Rattle.std.specs.Option.{option_copied};
 ghost use Rattle.std.specs.String.{string_bytes};
 ghost use Rattle.qrcode_core.specs.Plugins.{render_options, at_key};

@@ -1,6 +1,7 @@
 //! A picture: a grid with its scale and its quiet zone.
 ghost use Rattle.std.specs.Prelude.{◌≡◌, ◌*◌, ◌≤◌, length};
-ghost use Rattle.qrlabel.specs.Pictures.{columns_of, rows_of, pixel_width, pixel_height, is_dark_module, is_dark_pixel};
+ghost use Rattle.qrlabel.specs.Pictures.{columns_of, rows_of, pixel_width, pixel_height};
+ghost use Rattle.qrlabel.specs.Pictures.{is_dark_module, is_dark_pixel};
 
 use qrcode_core::types::Color;
 

@@ -3,7 +3,8 @@ ghost use Rattle.std.specs.Prelude.{◌≡◌, ℕ, ◌≤◌, Bool, IfOk, IfErr
 ghost use Rattle.qrcode_core.specs.Plugins.{render_options};
 ghost use Rattle.qrlabel.specs.Options.{Asks, AsksForNone};
 ghost use Rattle.qrlabel.specs.Pictures.{picture};
-ghost use Rattle.qrlabel.specs.Rendered.{IsDrawable, IsRendererRefusal, Renders, Validates, ShowsBitmap, ShowsSvg};
+ghost use Rattle.qrlabel.specs.Rendered.{IsDrawable, IsRendererRefusal, Renders, Validates};
+ghost use Rattle.qrlabel.specs.Rendered.{ShowsBitmap, ShowsSvg};
 ghost use Rattle.qrlabel.specs.Rendered.{ShowsTerminal};
 ghost use Rattle.qrlabel.specs.Shown.{shown};
 
@@ -115,7 +116,8 @@ fn drawable(
         (λ r. Asks usual_scale (render_options config.now) r.scale r.quiet r.inverted) }
     ensures drawable { OnOk result (IsDrawable (grid code.now)) }
     ensures refused { IfErr result
-        (IsRendererRefusal (AsksForNone usual_scale (render_options config.now)) (IsDrawable (grid code.now) → ⊥)) }
+        (IsRendererRefusal (AsksForNone usual_scale (render_options config.now))
+        (IsDrawable (grid code.now) → ⊥)) }
 {
     let request = asked(alloc, config, usual_scale)?;
     if code.width() > MOST_MODULES || code.height() > MOST_MODULES {
@@ -130,7 +132,8 @@ fn asked(alloc: Global, config: &RenderConfig, usual_scale: usize) -> Result<Req
     requires most { usual_scale ≤ 64 }
     ensures asked { IfOk result
         (λ r. Asks usual_scale (render_options config.now) r.scale r.quiet r.inverted) }
-    ensures refused { IfErr result (IsRendererRefusal (AsksForNone usual_scale (render_options config.now)) ⊥) }
+    ensures refused { IfErr result
+        (IsRendererRefusal (AsksForNone usual_scale (render_options config.now)) ⊥) }
 {
     match request_of(config, usual_scale) {
         Some(request) => Ok(request),

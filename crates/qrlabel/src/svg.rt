@@ -1,7 +1,8 @@
 //! Pictures as SVG: a light background, and one path with a rectangle for each run of dark modules.
 ghost use Rattle.std.specs.Prelude.{◌≡◌, ◌<◌, ◌≤◌, ◌++◌, IfOk, OnOk};
 ghost use Rattle.std.specs.String.{string_bytes};
-ghost use Rattle.qrlabel.specs.Paths.{begins_run, opening, rectangle, row_path, dark_run_length, svg_text};
+ghost use Rattle.qrlabel.specs.Paths.{begins_run, opening, rectangle, row_path, dark_run_length};
+ghost use Rattle.qrlabel.specs.Paths.{svg_text};
 ghost use Rattle.qrlabel.specs.Pictures.{columns_of};
 ghost use Rattle.qrlabel.specs.Shown.{shown};
 

@@ -30,7 +30,8 @@ fn push_line(
 ) -> Result<(), AllocError>
     requires { line ≤ 6688 }
     ensures { OnOk result
-        (string_bytes text.new ≡ string_bytes text.old ++ terminal_line inverted (shown picture.now) line) }
+        (string_bytes text.new ≡ string_bytes text.old
+        ++ terminal_line inverted (shown picture.now) line) }
 {
     for x in 0..picture.width() {
         let upper = is_filled(picture, inverted, x, 2 * line);

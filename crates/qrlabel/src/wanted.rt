@@ -3,7 +3,8 @@ ghost use Rattle.std.specs.Prelude.{◌≡◌, ◌++◌, List, map, MatchOption}
 ghost use Rattle.programs.specs.Outcome.{AskForNone};
 ghost use Rattle.qrlabel.specs.declared.wanted.Format.{Format};
 ghost use Rattle.qrlabel.specs.declared.wanted.Kind.{Kind};
-ghost use Rattle.qrlabel.specs.Words.{Setting, label_of, AskForLabel, format_argument, kind_words, spelled};
+ghost use Rattle.qrlabel.specs.Words.{Setting, label_of, AskForLabel, format_argument, kind_words};
+ghost use Rattle.qrlabel.specs.Words.{spelled};
 ghost use Rattle.qrlabel.specs.Words.{usual_scale, usual_quiet, is_text};
 
 use crate::draw::label;
@@ -169,7 +170,8 @@ fn format_of(word: &str) -> Option<Format>
 
 /// Returns the kind of symbol with which the arguments begin, and the arguments after it.
 fn kind_of<'a, 'w>(words: &'w [&'a str]) -> (Kind, &'w [&'a str])
-    ensures words { map (λ word. word.now) words.now ≡ kind_words result.0 ++ map (λ word. word.now) result.1.now }
+    ensures words { map (λ word. word.now) words.now ≡
+        kind_words result.0 ++ map (λ word. word.now) result.1.now }
     ensures only { (kind : Kind) (settings : List Setting) →
         map (λ word. word.now) words.now ≡ kind_words kind ++ spelled settings → kind ≡ result.0 }
 {

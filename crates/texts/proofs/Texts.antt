@@ -1,7 +1,9 @@
 -- What pushes, failed or not, and the end of a stream say of the bits of a text.
-use Rattle.qrcode_bits.proofs.Prelude.{pos, ◌≡◌, ◌∙◌, ℕ, ◌+◌, ◌-◌, ◌^◌, ◌*◌, ◌<◌, ◌≤◌, Bool, true, List, [], ◌∷◌, ◌++◌, length, get_or, ap, sym, refl, subst, arith, inl, inr}
+use Rattle.qrcode_bits.proofs.Prelude.{pos, ◌≡◌, ◌∙◌, ℕ, ◌+◌, ◌-◌, ◌^◌, ◌*◌, ◌<◌, ◌≤◌, Bool, true, List, [], ◌∷◌, ◌++◌, length, get_or, ap, sym, refl, subst}
+use Rattle.qrcode_bits.proofs.Prelude.{arith, inl, inr}
 use Rattle.qrcode_bits.proofs.Prelude.{length-append, Err, Ok, Some, None, All, slice_get, is_some, cases_lt, common_steps, All-head, All-tail, All-nil}
-use Rattle.qrcode_bits.proofs.Prelude.{All-cons, EcLevel, L, M, Q, H, Byte, Version, QrError, DataTooLong, OutOfMemory, IsValid, characters, count_width, indicator_width}
+use Rattle.qrcode_bits.proofs.Prelude.{All-cons, EcLevel, L, M, Q, H, Byte, Version, QrError, DataTooLong, OutOfMemory, IsValid, characters, count_width}
+use Rattle.qrcode_bits.proofs.Prelude.{indicator_width}
 use Rattle.qrcode_bits.proofs.Prelude.{number_bits, capacity, normal_blocks, normal, spellings, IsPushRefused, Spells, AreTexts, parsed, segment_piece}
 use Rattle.qrcode_bits.proofs.Prelude.{segment_pieces, Piece, spelling, Stream, Appends, eci_spelling}
 use Rattle.qrcode_bits.proofs.Choices.{capacity-grows, chosen_is_plan, fits_normal}
@@ -11,7 +13,8 @@ use Rattle.qrcode_bits.{proofs.Reading.length-spelling, proofs.Segments.length-c
 use Rattle.std.proofs.lemmas.Option.{none-some}
 use Rattle.qrcode_base.{specs.declared.types.errors.QrError.TheVariants.InvalidCharacter}
 use Rattle.qrcode_base.{specs.declared.types.errors.QrError.TheVariants.UnsupportedCharacterSet, proofs.Alphabet.each_below, proofs.Alphabet.from_each_below}
-use Rattle.qrcode_base.{proofs.Fields.count-fits, proofs.Fields.capacity-held, specs.Modes.by_class, proofs.Validity.none_where_valid, proofs.Validity.first_invalid-is}
+use Rattle.qrcode_base.{proofs.Fields.count-fits, proofs.Fields.capacity-held, specs.Modes.by_class, proofs.Validity.none_where_valid}
+use Rattle.qrcode_base.{proofs.Validity.first_invalid-is}
 use Rattle.qrcode_core.specs.Drawn.{DrawnSymbol, HoldsStream, IsStreamRefusal}
 use Rattle.texts.specs.Smallest.{SaysUtf8, SaysElements, FitsIn, HoldsIn, HoldsNoneBelow, IsTooLongIn, IsRefusedIn}
 

@@ -12,6 +12,7 @@ first_percent elements = position (λ c. c == 0x25) elements
 -- The errors of `gs1_symbol`, and when each is returned. A `%` comes first, with the position of
 -- the first one; then elements that no version holds, or no memory.
 abbrev pub AreElementsRefused : List ℕ → EcLevel → QrError → Type 0
-AreElementsRefused elements level (InvalidCharacter at byte) = (first_percent elements ≡ Some at) × (byte ≡ 0x25)
+AreElementsRefused elements level (InvalidCharacter at byte) =
+    (first_percent elements ≡ Some at) × (byte ≡ 0x25)
 AreElementsRefused elements level error =
     (first_percent elements ≡ None) × IsRefusedByAll (SaysElements elements) level error

@@ -29,7 +29,8 @@ SaysElements text version bits = (plan : List Segment) × IsChosenPlan (parsed t
     × (bits ≡ number_bits 4 5 ++ spellings version (segment_pieces text plan))
 
 -- In this version the bits are at most as many as the capacity.
-pub record FitsIn (says : Version → List Bool → Type 0) (version : Version) (level : EcLevel) : Type 0 where
+pub record FitsIn (says : Version → List Bool → Type 0) (version : Version)
+    (level : EcLevel) : Type 0 where
   pub bits : List Bool
   pub limit : ℕ
   pub said : says version bits
@@ -49,14 +50,16 @@ pub record HoldsIn (says : Version → List Bool → Type 0) (version : Version)
 -- In this version there are more bits than the capacity.
 abbrev pub IsTooLongIn : (Version → List Bool → Type 0) → Version → EcLevel → Type 0
 IsTooLongIn says version level =
-    (bits : List Bool) (limit : ℕ) → says version bits → capacity version level ≡ Some limit → limit < length bits
+    (bits : List Bool) (limit : ℕ) → says version bits → capacity version level ≡ Some limit →
+    limit < length bits
 
 -- No Normal version below this number holds the bits.
 abbrev pub HoldsNoneBelow : ℕ → (Version → List Bool → Type 0) → EcLevel → Type 0
 HoldsNoneBelow number says level = (n : ℕ) → 1 ≤ n → n < number → IsTooLongIn says (normal n) level
 
 -- The symbol is that of the smallest Normal version that holds the bits.
-pub record IsSmallest (says : Version → List Bool → Type 0) (level : EcLevel) (symbol : DrawnSymbol) : Type 0 where
+pub record IsSmallest (says : Version → List Bool → Type 0) (level : EcLevel)
+    (symbol : DrawnSymbol) : Type 0 where
   pub number : ℕ
   pub holds : HoldsIn says (normal number) level symbol
   pub smallest : HoldsNoneBelow number says level

@@ -7,15 +7,18 @@
 //! ```
 #![tactic(auto)]
 
-ghost use Rattle.std.specs.Prelude.{◌≡◌, ◌+◌, ◌*◌, ◌≤◌, length, None, Some, IfOk, IfErr, OnOk, IsErrOf};
+ghost use Rattle.std.specs.Prelude.{◌≡◌, ◌+◌, ◌*◌, ◌≤◌, length, None, Some, IfOk, IfErr, OnOk};
+ghost use Rattle.std.specs.Prelude.{IsErrOf};
+ghost use Rattle.qrcode_base.specs.declared.symbols.TheConstants.{LONGEST_DATA};
 ghost use Rattle.qrcode_base.specs.Symbols.{capacity};
 ghost use Rattle.qrcode_core.specs.Drawn.{TellsReading};
 ghost use Rattle.qrcode_bits.specs.Plans.{normal};
-ghost use Rattle.texts.specs.Smallest.{SaysUtf8, SaysElements, FitsIn, HoldsIn, IsRefusedIn, IsSmallest, IsRefusedByAll};
+ghost use Rattle.texts.specs.Smallest.{SaysUtf8, SaysElements, FitsIn, HoldsIn, IsRefusedIn};
+ghost use Rattle.texts.specs.Smallest.{IsSmallest, IsRefusedByAll};
 ghost use Rattle.texts.specs.Elements.{first_percent, AreElementsRefused};
 
+use qrcode_base::symbols::LONGEST_DATA;
 use qrcode_core::bits::Bits;
-use qrcode_core::limits::DEFAULT_MAX_DATA_LENGTH;
 use qrcode_core::symbol::Symbol;
 use qrcode_core::types::{EcLevel, QrError, QrResult, Version};
 use std::alloc::Global;
@@ -29,7 +32,8 @@ pub fn utf8_symbol(alloc: Global, text: &str, level: EcLevel) -> QrResult<Symbol
     ensures smallest { IfOk result (IsSmallest (SaysUtf8 text.now) level) }
     ensures reading { IfOk result TellsReading }
     ensures refused { IfErr result (IsRefusedByAll (SaysUtf8 text.now) level) }
-    ensures memory { IsErrOf result QrError.OutOfMemory → FitsIn (SaysUtf8 text.now) (normal 40) level }
+    ensures memory { IsErrOf result QrError.OutOfMemory →
+        FitsIn (SaysUtf8 text.now) (normal 40) level }
 {
     if text.len() > longest_text(level) {
         return Err(QrError::DataTooLong);
@@ -86,13 +90,13 @@ pub fn gs1_symbol(alloc: Global, elements: &[u8], level: EcLevel) -> QrResult<Sy
     ensures reading { IfOk result TellsReading }
     ensures plain { OnOk result (first_percent elements.now ≡ None) }
     ensures refused { IfErr result (AreElementsRefused elements.now level) }
-    ensures memory { IsErrOf result QrError.OutOfMemory → length elements.now ≤ 7089 }
+    ensures memory { IsErrOf result QrError.OutOfMemory → length elements.now ≤ LONGEST_DATA }
 {
     if let Some(position) = first_percent(elements) {
         let byte = b'%';
         return Err(QrError::InvalidCharacter { position, byte });
     }
-    if elements.len() > DEFAULT_MAX_DATA_LENGTH {
+    if elements.len() > LONGEST_DATA {
         return Err(QrError::DataTooLong);
     }
     for number in 1..41 {

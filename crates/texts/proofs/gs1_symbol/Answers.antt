@@ -15,11 +15,11 @@ pub returns-clause-refused : goal.returns-clause-refused
 returns-clause-refused c =
     (search rules, λ n first below. c.loop-number.invariant n first (omega (arith, below, c.loop-number-test.false)))
 
-pub returns-then-elements-gt-DEFAULT_MAX_DATA_LENGTH-clause-refused :
-    goal.returns-then-elements-gt-DEFAULT_MAX_DATA_LENGTH-clause-refused
-returns-then-elements-gt-DEFAULT_MAX_DATA_LENGTH-clause-refused c = (
+pub returns-then-elements-gt-LONGEST_DATA-clause-refused :
+    goal.returns-then-elements-gt-LONGEST_DATA-clause-refused
+returns-then-elements-gt-LONGEST_DATA-clause-refused c = (
   search rules,
   elements_too_long c.args.elements.now c.args.level
       (bytes_valid c.args.elements.now (λ i. omega (arith, c.type_inv.elements i)))
-      (omega (arith, c.if-elements-gt-DEFAULT_MAX_DATA_LENGTH.true)),
+      (omega (arith, c.if-elements-gt-LONGEST_DATA.true)),
 )

@@ -15,7 +15,8 @@ loop-number-preserved c =
 pub returns-then-text-longest_text-clause-refused :
     goal.returns-then-text-longest_text-clause-refused
 returns-then-text-longest_text-clause-refused c =
-    text_past c.args.text.now c.args.level c.longest_text.result (λ i. omega (arith, c.type_inv.text i)) c.longest_text.ensures (omega (arith, c.if-text-longest_text.true))
+    text_past c.args.text.now c.args.level c.longest_text.result (λ i. omega (arith, c.type_inv.text i)) c.longest_text.ensures
+    (omega (arith, c.if-text-longest_text.true))
 
 pub returns-in-Err-clause-memory : goal.returns-in-Err-clause-memory
 returns-in-Err-clause-memory c = λ wants.
