@@ -5,12 +5,12 @@ use Rattle.std.proofs.lemmas.{List.length-map, Option.slice_get_read, Result.IfO
 use Rattle.qrcode_base.specs.declared.types.{Color.Color, EcLevel.EcLevel}
 use Rattle.qrcode_core.specs.{Drawn.DrawnSymbol, Drawn.TellsReading, Drawn.modules_of, Sequence.AreBestSymbols}
 use Rattle.qrcode_c.specs.{declared.refusal.Refusal.Refusal, declared.refusal.Refusal.TheVariants.ShortBuffer, declared.shape.Shape.Shape, Holding.Holds}
-use Rattle.qrcode_c.specs.{Holding.HoldsBest, Holding.HoldsPart, Levels.level_number, Refusals.IsPartAbove}
+use Rattle.qrcode_c.specs.{Holding.HoldsBest, Holding.HoldsPart, Levels.level_argument, Refusals.IsPartAbove}
 use Rattle.qrcode_bits.specs.declared.bits.front.Content.TheVariants.{Bytes}
 
 pub best_held : (best : EcLevel → List Color → Type 0) (level : EcLevel) (number : ℤ) (symbol : DrawnSymbol) (before after : List ℕ)
     (result : Result Shape Refusal) →
-    number ≡ level_number level → best level symbol.modules → TellsReading symbol →
+    number ≡ level_argument level → best level symbol.modules → TellsReading symbol →
     IfOk result (Holds symbol before after) → IfOk result (HoldsBest best number before after)
 best_held best level number symbol before after result level_is is_best reading held =
     IfOk-weaker result _ _ (λ shape holds. record {
@@ -36,7 +36,7 @@ within message cuts level limit index symbols best part =
 
 pub part_held : (message cuts : List ℕ) (level : EcLevel) (number limit : ℤ) (index : ℕ) (symbols : List DrawnSymbol)
     (symbol : DrawnSymbol) (before after : List ℕ)
-    (result : Result Shape Refusal) → number ≡ level_number level → index ≤ length cuts →
+    (result : Result Shape Refusal) → number ≡ level_argument level → index ≤ length cuts →
     AreBestSymbols Bytes message cuts level (nat_abs limit) (map modules_of symbols) → All TellsReading symbols → symbol ≡ get_or symbols index symbol →
     IfOk result (Holds symbol before after) → IfOk result (HoldsPart message cuts number limit index before after)
 part_held message cuts level number limit index symbols symbol before after result level_is part best reading is held =

@@ -8,7 +8,7 @@ use Rattle.qrcode_base.specs.Symbols.{width_of}
 use Rattle.qrcode_core.specs.Drawn.{DrawnSymbol, TellsReading, modules_of}
 use Rattle.qrcode_core.specs.Sequence.{AreBestSymbols}
 use Rattle.qrcode_c.specs.declared.shape.Shape.{Shape}
-use Rattle.qrcode_c.specs.Levels.{level_number}
+use Rattle.qrcode_c.specs.Levels.{level_argument}
 use Rattle.qrcode_c.specs.Shapes.{shape_of}
 use Rattle.qrcode_bits.specs.declared.bits.front.Content.TheVariants.{Bytes}
 
@@ -24,7 +24,7 @@ pub record Holds (symbol : DrawnSymbol) (before after : List ℕ) (shape : Shape
 pub record HoldsBest (best : EcLevel → List Color → Type 0) (number : ℤ)
     (before after : List ℕ) (shape : Shape) : Type 0 where
   pub level : EcLevel
-  pub level_is : number ≡ level_number level
+  pub level_is : number ≡ level_argument level
   pub symbol : DrawnSymbol
   pub is_best : best level symbol.modules
   pub reading : TellsReading symbol
@@ -34,7 +34,7 @@ pub record HoldsBest (best : EcLevel → List Color → Type 0) (number : ℤ)
 pub record HoldsPart (message cuts : List ℕ) (number limit : ℤ) (index : ℕ)
     (before after : List ℕ) (shape : Shape) : Type 0 where
   pub level : EcLevel
-  pub level_is : number ≡ level_number level
+  pub level_is : number ≡ level_argument level
   pub symbols : List DrawnSymbol
   pub are_best : AreBestSymbols Bytes message cuts level (nat_abs limit) (map modules_of symbols)
   pub symbol : DrawnSymbol

@@ -8,7 +8,7 @@ ghost use Rattle.qrcode_core.specs.Headline.{IsBestSymbol, IsBestMicroSymbol};
 ghost use Rattle.qrcode_base.specs.Symbols.{IsNormalNumber};
 ghost use Rattle.qrcode_grid.specs.Penalty.{byte_of};
 ghost use Rattle.qrcode_c.specs.Holding.{Holds, HoldsBest, HoldsPart};
-ghost use Rattle.qrcode_c.specs.Levels.{level_number, IsNoLevel};
+ghost use Rattle.qrcode_c.specs.Levels.{level_argument, IsNoLevel};
 ghost use Rattle.qrcode_c.specs.Refusals.{IsSymbolRefusal, IsMicroRefusal, IsPartRefusal};
 
 use crate::refusal::Refusal;
@@ -96,7 +96,7 @@ pub fn part_symbol(
 
 /// Returns the level of a number, 0 to 3.
 fn level_of(number: i32) -> Option<EcLevel>
-    ensures level { IfSome result (λ level. number ≡ level_number level) }
+    ensures level { IfSome result (λ level. number ≡ level_argument level) }
     ensures none { IfNone result (IsNoLevel number) }
 {
     match number {

@@ -3,15 +3,15 @@ use Rattle.std.proofs.Common.{◌≡◌, ℕ, ◌<◌, Bool, false, Option, None
 use Rattle.std.specs.{Str.trim, Prelude.IsTrue}
 use Rattle.qrcode_core.specs.{Names.NamesLevel}
 use Rattle.programs.{specs.Outcome.AskForNone, proofs.Levels.one_level}
-use Rattle.qrlabel.specs.Words.{Label, Setting, AskForLabel, format_argument, kind_words, spelled, with_scale, with_quiet, with_inverted, usual_scale}
-use Rattle.qrlabel.specs.Words.{usual_quiet, is_text}
+use Rattle.qrlabel.specs.Words.{Label, Setting, AskForLabel, format_argument, kind_words, spelled, with_scale, with_quiet, with_inverted, default_scale}
+use Rattle.qrlabel.specs.Words.{default_quiet, is_text}
 use Rattle.qrlabel.proofs.WordLemmas.{one_spelling, one_format, one_kind, after_kind}
-use Rattle.qrlabel.specs.{declared.wanted.Format.Format, declared.wanted.Kind.Kind, Options.AsksNumber, Options.AsksFlag}
+use Rattle.qrlabel.specs.{declared.args.Format.Format, declared.args.Kind.Kind, Options.AsksNumber, Options.AsksFlag}
 
 -- ---- Numbers and flags
 
-pub one_number : (o : Option (List ℕ)) (usual least most m n : ℕ) → AsksNumber o usual least most m → AsksNumber o usual least most n → m ≡ n
-one_number o usual least most m n h k = grind arith
+pub one_number : (o : Option (List ℕ)) (default least most m n : ℕ) → AsksNumber o default least most m → AsksNumber o default least most n → m ≡ n
+one_number o default least most m n h k = grind arith
 
 pub one_flag : (o : Option (List ℕ)) (a b : Bool) → AsksFlag o a → AsksFlag o b → a ≡ b
 one_flag o a b h k = grind arith
@@ -50,10 +50,10 @@ module _ (words : Words) (f l : List ℕ) (rest : Words) (words_are : words ≡ 
       pub settings_said : asks.settings ≡ settings
       settings_said = one_spelling asks.settings settings (sym options_said ∙ options_are)
 
-      pub scale_said : (format : Format) → f ≡ format_argument format → AsksNumber (fold with_scale None settings) (usual_scale format) 1 64 a.scale
+      pub scale_said : (format : Format) → f ≡ format_argument format → AsksNumber (fold with_scale None settings) (default_scale format) 1 64 a.scale
       scale_said format is = rw (one_format a.format format (sym format_said ∙ is), settings_said) at asks.scale_is
 
-      pub quiet_said : AsksNumber (fold with_quiet None settings) (usual_quiet kind) 0 16 a.quiet
+      pub quiet_said : AsksNumber (fold with_quiet None settings) (default_quiet kind) 0 16 a.quiet
       quiet_said = rw (kind_said, settings_said) at asks.quiet_is
 
 -- Where the given texts ask for no number, or what is to be inverted is not text, the words ask for nothing.
@@ -69,14 +69,14 @@ module _ (words : Words) (f l : List ℕ) (rest : Words) (words_are : words ≡ 
       let same : asked.inverted ≡ inverted = rw said at asks.inverted_is ∙ sym given_is in
       none (subst (λ (g : Format). IsTrue (is_text g)) one (asks.inverts_text (subst IsTrue (sym same) turned)))
 
-  module _ (given : Option (List ℕ)) (usual : ℕ) where
-    pub no_scale : (format : Format) → f ≡ format_argument format → given ≡ fold with_scale None settings → usual ≡ usual_scale format →
-        ((n : ℕ) → AsksNumber given usual 1 64 n → ⊥) → AskForNone AskForLabel words
+  module _ (given : Option (List ℕ)) (default : ℕ) where
+    pub no_scale : (format : Format) → f ≡ format_argument format → given ≡ fold with_scale None settings → default ≡ default_scale format →
+        ((n : ℕ) → AsksNumber given default 1 64 n → ⊥) → AskForNone AskForLabel words
     no_scale format is given_is usual_is none asked asks =
         none asked.scale (rw (usual_is, given_is) (scale_said words f l rest words_are asked asks kind options rest_is only settings options_are format is))
 
-    pub no_quiet : given ≡ fold with_quiet None settings → usual ≡ usual_quiet kind →
-        ((n : ℕ) → AsksNumber given usual 0 16 n → ⊥) → AskForNone AskForLabel words
+    pub no_quiet : given ≡ fold with_quiet None settings → default ≡ default_quiet kind →
+        ((n : ℕ) → AsksNumber given default 0 16 n → ⊥) → AskForNone AskForLabel words
     no_quiet given_is usual_is none asked asks =
         none asked.quiet (rw (usual_is, given_is) (quiet_said words f l rest words_are asked asks kind options rest_is only settings options_are))
 

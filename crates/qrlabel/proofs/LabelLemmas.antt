@@ -4,29 +4,29 @@ use Rattle.std.specs.Prelude.{IfOk, IfErr}
 use Rattle.qrcode_core.specs.declared.plugin.error.PluginError.TheVariants.{InvalidConfig, RenderFailed, OutOfMemory}
 use Rattle.qrcode_core.specs.{declared.plugin.config.RenderConfig.RenderConfig, declared.plugin.error.PluginError.PluginError}
 use Rattle.qrcode_core.specs.{declared.plugin.output.RenderOutput.RenderOutput, Plugins.render_options, Grids.Grid}
-use Rattle.qrlabel.specs.declared.wanted.Format.TheVariants.{Svg, Pbm, Terminal}
+use Rattle.qrlabel.specs.declared.args.Format.TheVariants.{Svg, Pbm, Terminal}
 use Rattle.qrlabel.specs.Rendered.{Renders, DrawsGrid, IsDrawable, IsOutput, ShowsBitmap, ShowsSvg, ShowsTerminal}
-use Rattle.qrlabel.{specs.declared.wanted.Format.Format, specs.Labels.picture_as, specs.Named.RendersByName, specs.Options.Asks, specs.Pictures.Picture}
+use Rattle.qrlabel.{specs.declared.args.Format.Format, specs.Labels.picture_as, specs.Named.RendersByName, specs.Options.Asks, specs.Pictures.Picture}
 use Rattle.qrlabel.{specs.Pictures.picture, specs.Words.format_argument, proofs.AskLemmas.one_number, proofs.AskLemmas.one_flag}
 
-module _ (grid : Grid) (config : RenderConfig) (scale quiet : ℕ) (inverted : Bool) (asks : (usual : ℕ) →
-    Asks usual (render_options config) scale quiet inverted) where
+module _ (grid : Grid) (config : RenderConfig) (scale quiet : ℕ) (inverted : Bool) (asks : (default : ℕ) →
+    Asks default (render_options config) scale quiet inverted) where
   -- The drawing is the one that is asked for.
-  one_drawing : (usual : ℕ) (Shows : Bool → Picture → RenderOutput → Type 0) (output : RenderOutput) → DrawsGrid usual Shows grid config output →
+  one_drawing : (default : ℕ) (Shows : Bool → Picture → RenderOutput → Type 0) (output : RenderOutput) → DrawsGrid default Shows grid config output →
       Shows inverted (picture grid scale quiet) output
-  one_drawing usual Shows output d = grind (arith, one_number, one_flag)
+  one_drawing default Shows output d = grind (arith, one_number, one_flag)
 
   written : (format : Format) (output : RenderOutput) → RendersByName (format_argument format) grid config (Ok output) →
       IsOutput output (picture_as format inverted (picture grid scale quiet))
   written format output h = grind (arith, one_drawing)
 
   -- Only memory can run out: the configuration is valid, and the grid can be drawn.
-  wants_memory : (usual : ℕ) (Shows : Bool → Picture → RenderOutput → Type 0) (error : PluginError) → IsDrawable grid →
-      Renders usual Shows grid config (Err error) → error ≡ OutOfMemory
-  wants_memory usual Shows (InvalidConfig s) small h = absurd (h scale quiet inverted (asks usual))
-  wants_memory usual Shows (RenderFailed s) small h = absurd (h small)
-  wants_memory usual Shows OutOfMemory small h = refl
-  wants_memory usual Shows other small h = absurd h
+  wants_memory : (default : ℕ) (Shows : Bool → Picture → RenderOutput → Type 0) (error : PluginError) → IsDrawable grid →
+      Renders default Shows grid config (Err error) → error ≡ OutOfMemory
+  wants_memory default Shows (InvalidConfig s) small h = absurd (h scale quiet inverted (asks default))
+  wants_memory default Shows (RenderFailed s) small h = absurd (h small)
+  wants_memory default Shows OutOfMemory small h = refl
+  wants_memory default Shows other small h = absurd h
 
   refused : (format : Format) (error : PluginError) → IsDrawable grid → RendersByName (format_argument format) grid config (Err error) → error ≡ OutOfMemory
   refused Svg error small h = wants_memory 8 ShowsSvg error small (h.svg refl)

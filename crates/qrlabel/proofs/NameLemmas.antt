@@ -51,16 +51,16 @@ pub nothing_there : {A : Type 0} {F : A → Type 0} (m n : TextMap (DynBox A Glo
 nothing_there m n name Q same none h = rw (same, none) at h
 
 -- a configuration that `validate_config` rejects is rejected by the renderer
-pub refused_alike : (usual : ℕ) (Shows : Bool → Picture → RenderOutput → Type 0) (grid : Grid) (config : RenderConfig) (error : PluginError)
-    → Validates usual config (Err error) → Renders usual Shows grid config (Err error)
-refused_alike usual Shows grid config (InvalidConfig s) h = h
-refused_alike usual Shows grid config OutOfMemory h = tt
-refused_alike usual Shows grid config other h = absurd h
+pub refused_alike : (default : ℕ) (Shows : Bool → Picture → RenderOutput → Type 0) (grid : Grid) (config : RenderConfig) (error : PluginError)
+    → Validates default config (Err error) → Renders default Shows grid config (Err error)
+refused_alike default Shows grid config (InvalidConfig s) h = h
+refused_alike default Shows grid config OutOfMemory h = tt
+refused_alike default Shows grid config other h = absurd h
 
 -- the result for a name, where the renderer draws or its `validate_config` fails
-pub drawn_by_name : (usual : ℕ) (Shows : Bool → Picture → RenderOutput → Type 0) (grid : Grid) (config : RenderConfig)
+pub drawn_by_name : (default : ℕ) (Shows : Bool → Picture → RenderOutput → Type 0) (grid : Grid) (config : RenderConfig)
     (answer : Result RenderOutput PluginError)
-    → Renders usual Shows grid config answer ⊎ ((error : PluginError) × (answer ≡ Err error) × Validates usual config (Err error))
-    → Renders usual Shows grid config answer
-drawn_by_name usual Shows grid config answer (inl drawn) = drawn
-drawn_by_name usual Shows grid config answer (inr (error, is, refused)) = rw is (refused_alike usual Shows grid config error refused)
+    → Renders default Shows grid config answer ⊎ ((error : PluginError) × (answer ≡ Err error) × Validates default config (Err error))
+    → Renders default Shows grid config answer
+drawn_by_name default Shows grid config answer (inl drawn) = drawn
+drawn_by_name default Shows grid config answer (inr (error, is, refused)) = rw is (refused_alike default Shows grid config error refused)

@@ -18,5 +18,5 @@ three_options a b c d s q i e f g h = rw (h, g, f, e) refl
 
 pub asked_by : (options : TextMap (List ℕ)) (scale quiet : ℕ) (inverted : Bool) (s q i : List ℕ) → options ≡ three s q i →
     s ≡ decimal scale → q ≡ decimal quiet →
-    1 ≤ scale → scale ≤ 64 → quiet ≤ 16 → AsksFlag (Some i) inverted → (usual : ℕ) → Asks usual options scale quiet inverted
-asked_by options scale quiet inverted s q i are s_is q_is least most small flag usual = grind (arith, written)
+    1 ≤ scale → scale ≤ 64 → quiet ≤ 16 → AsksFlag (Some i) inverted → (default : ℕ) → Asks default options scale quiet inverted
+asked_by options scale quiet inverted s q i are s_is q_is least most small flag default = grind (arith, written)

@@ -5,8 +5,8 @@ use Rattle.std.proofs.lemmas.Grind.{flat_map-append, common_steps}
 use Rattle.std.proofs.lemmas.List.{take_all, drop_all, drop-drop, drop-map, length-map, length-drop}
 use Rattle.std.{specs.Prelude.codes, specs.Str.bytes_eq, proofs.lemmas.Slice.Eq.bytes_eq-Decides, proofs.lemmas.List.Sums.fold-append}
 use Rattle.qrlabel.specs.Words.{Setting, format_argument, kind_words, setting_words, spelled}
-use Rattle.qrlabel.specs.declared.wanted.{Format.Format, Kind.Kind}
-use Rattle.qrlabel.specs.declared.wanted.{Kind.TheVariants.Micro, Kind.TheVariants.Utf8}
+use Rattle.qrlabel.specs.declared.args.{Format.Format, Kind.Kind}
+use Rattle.qrlabel.specs.declared.args.{Kind.TheVariants.Micro, Kind.TheVariants.Utf8}
 
 abbrev Words : Type 0
 Words = List (List ℕ)

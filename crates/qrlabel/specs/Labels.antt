@@ -4,15 +4,15 @@ use Rattle.qrcode_core.specs.declared.types.EcLevel.{EcLevel}
 use Rattle.qrcode_core.specs.declared.types.errors.QrError.{QrError}
 use Rattle.qrcode_core.specs.Drawn.{DrawnSymbol, drawn_grid}
 use Rattle.programs.specs.Calls.{IsSymbolOf, IsRefusalOf}
-use Rattle.qrlabel.specs.declared.wanted.Format.{Format}
-use Rattle.qrlabel.specs.declared.wanted.Format.TheVariants.{Svg, Pbm, Terminal}
-use Rattle.qrlabel.specs.declared.wanted.Kind.{Kind}
-use Rattle.qrlabel.specs.declared.wanted.Kind.TheVariants.{Usual, Micro, Utf8}
+use Rattle.qrlabel.specs.declared.args.Format.{Format}
+use Rattle.qrlabel.specs.declared.args.Format.TheVariants.{Svg, Pbm, Terminal}
+use Rattle.qrlabel.specs.declared.args.Kind.{Kind}
+use Rattle.qrlabel.specs.declared.args.Kind.TheVariants.{Qr, Micro, Utf8}
 use Rattle.qrlabel.specs.Bitmaps.{bitmap_of}
 use Rattle.qrlabel.specs.Paths.{svg_text}
 use Rattle.qrlabel.specs.Pictures.{Picture, picture}
 use Rattle.qrlabel.specs.Terminals.{terminal_text}
-use Rattle.qrlabel.specs.Texts.{IsTextSymbol, IsTextRefusal}
+use Rattle.qrlabel.specs.Texts.{IsUtf8Symbol, IsUtf8Refusal}
 use Rattle.qrlabel.specs.Words.{Label}
 
 -- The name of the program.
@@ -27,15 +27,15 @@ qrlabel_usage =
 
 -- The symbol is that of the bytes, of this kind.
 abbrev pub IsSymbolAs : Kind → EcLevel → List ℕ → DrawnSymbol → Type 0
-IsSymbolAs Usual level bytes symbol = IsSymbolOf false level bytes symbol.modules
+IsSymbolAs Qr level bytes symbol = IsSymbolOf false level bytes symbol.modules
 IsSymbolAs Micro level bytes symbol = IsSymbolOf true level bytes symbol.modules
-IsSymbolAs Utf8 level bytes symbol = IsTextSymbol level bytes symbol
+IsSymbolAs Utf8 level bytes symbol = IsUtf8Symbol level bytes symbol
 
 -- The call for the symbol of this kind fails with this error.
 abbrev pub IsRefusalAs : Kind → EcLevel → List ℕ → QrError → Type 0
-IsRefusalAs Usual = IsRefusalOf false
+IsRefusalAs Qr = IsRefusalOf false
 IsRefusalAs Micro = IsRefusalOf true
-IsRefusalAs Utf8 = IsTextRefusal
+IsRefusalAs Utf8 = IsUtf8Refusal
 
 -- A picture in its format.
 abbrev pub picture_as : Format → Bool → Picture → List ℕ

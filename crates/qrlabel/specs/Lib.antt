@@ -8,6 +8,6 @@ pub mod Rendered
 pub mod Named
 pub mod Covered
 pub mod Words
-pub mod Choices
+pub mod OptionArgs
 pub mod Texts
 pub mod Labels

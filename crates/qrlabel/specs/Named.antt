@@ -5,14 +5,15 @@ use Rattle.qrcode_core.specs.declared.plugin.error.PluginError.{PluginError}
 use Rattle.qrcode_core.specs.declared.plugin.output.RenderOutput.{RenderOutput}
 use Rattle.qrcode_core.specs.Grids.{Grid}
 use Rattle.qrcode_core.specs.Plugins.{IsRendererMissing}
+use Rattle.qrlabel.specs.declared.bounds.TheConstants.{IMAGE_SCALE, TEXT_SCALE}
 use Rattle.qrlabel.specs.Rendered.{Renders, ShowsBitmap, ShowsSvg, ShowsTerminal}
 
 -- The result is that of the renderer of this name; for any other name it is the error for a
 -- missing renderer.
 pub record RendersByName (name : List ℕ) (grid : Grid) (config : RenderConfig)
     (answer : Result RenderOutput PluginError) : Type 0 where
-  pub svg : name ≡ codes "svg" → Renders 8 ShowsSvg grid config answer
-  pub pbm : name ≡ codes "pbm" → Renders 8 ShowsBitmap grid config answer
-  pub terminal : name ≡ codes "terminal" → Renders 1 ShowsTerminal grid config answer
+  pub svg : name ≡ codes "svg" → Renders IMAGE_SCALE ShowsSvg grid config answer
+  pub pbm : name ≡ codes "pbm" → Renders IMAGE_SCALE ShowsBitmap grid config answer
+  pub terminal : name ≡ codes "terminal" → Renders TEXT_SCALE ShowsTerminal grid config answer
   pub missing : name ≢ codes "svg" → name ≢ codes "pbm" → name ≢ codes "terminal" →
       IsErrAnd answer (IsRendererMissing name)

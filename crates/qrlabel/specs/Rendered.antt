@@ -10,6 +10,7 @@ use Rattle.qrcode_core.specs.declared.plugin.output.RenderOutput.{RenderOutput}
 use Rattle.qrcode_core.specs.declared.plugin.output.RenderOutput.TheVariants.{Text, Bytes}
 use Rattle.qrcode_core.specs.Plugins.{render_options}
 use Rattle.qrcode_core.specs.Grids.{Grid}
+use Rattle.qrlabel.specs.declared.bounds.TheConstants.{MAX_MODULES}
 use Rattle.qrlabel.specs.Pictures.{Picture, picture}
 use Rattle.qrlabel.specs.Bitmaps.{bitmap_of}
 use Rattle.qrlabel.specs.Terminals.{terminal_text}
@@ -18,8 +19,8 @@ use Rattle.qrlabel.specs.Options.{Asks, AsksForNone}
 
 -- The grid is not larger than a symbol: it has at most 177 columns and rows.
 pub record IsDrawable (grid : Grid) : Type 0 where
-  pub columns : grid.columns ≤ 177
-  pub rows : grid.rows ≤ 177
+  pub columns : grid.columns ≤ MAX_MODULES
+  pub rows : grid.rows ≤ MAX_MODULES
 
 -- The output is the picture as a bitmap.
 abbrev pub ShowsBitmap : Bool → Picture → RenderOutput → Type 0
@@ -43,12 +44,12 @@ IsOutput (Bytes list) bytes = list.items ≡ bytes
 IsOutput _ bytes = ⊥
 
 -- The output shows the grid as the options say.
-pub record DrawsGrid (usual : ℕ) (Shows : Bool → Picture → RenderOutput → Type 0)
+pub record DrawsGrid (default : ℕ) (Shows : Bool → Picture → RenderOutput → Type 0)
     (grid : Grid) (config : RenderConfig) (output : RenderOutput) : Type 0 where
   pub scale : ℕ
   pub quiet : ℕ
   pub inverted : Bool
-  pub asked : Asks usual (render_options config) scale quiet inverted
+  pub asked : Asks default (render_options config) scale quiet inverted
   pub drawable : IsDrawable grid
   pub shows : Shows inverted (picture grid scale quiet) output
 
@@ -64,13 +65,14 @@ IsRendererRefusal unclear impossible _ = ⊥
 -- is too large.
 abbrev pub Renders : ℕ → (Bool → Picture → RenderOutput → Type 0) → Grid → RenderConfig →
     Result RenderOutput PluginError → Type 0
-Renders usual Shows grid config (Ok output) = DrawsGrid usual Shows grid config output
-Renders usual Shows grid config (Err error) =
-    IsRendererRefusal (AsksForNone usual (render_options config)) (IsDrawable grid → ⊥) error
+Renders default Shows grid config (Ok output) = DrawsGrid default Shows grid config output
+Renders default Shows grid config (Err error) =
+    IsRendererRefusal (AsksForNone default (render_options config)) (IsDrawable grid → ⊥) error
 
 -- The results of a renderer's `validate_config`.
 abbrev pub Validates : ℕ → RenderConfig → Result (Unit {0}) PluginError → Type 0
-Validates usual config (Ok done) =
-    (scale quiet : ℕ) × (inverted : Bool) × Asks usual (render_options config) scale quiet inverted
-Validates usual config (Err error) =
-    IsRendererRefusal (AsksForNone usual (render_options config)) ⊥ error
+Validates default config (Ok done) =
+    (scale quiet : ℕ) × (inverted : Bool)
+    × Asks default (render_options config) scale quiet inverted
+Validates default config (Err error) =
+    IsRendererRefusal (AsksForNone default (render_options config)) ⊥ error

@@ -12,18 +12,18 @@ use Rattle.texts.specs.Smallest.{SaysUtf8, IsSmallest, IsRefusedByAll}
 
 -- The bytes are a text in UTF-8, and the symbol is the smallest that holds the designator and
 -- the text.
-pub record IsTextSymbol (level : EcLevel) (bytes : List ℕ) (symbol : DrawnSymbol) : Type 0 where
+pub record IsUtf8Symbol (level : EcLevel) (bytes : List ℕ) (symbol : DrawnSymbol) : Type 0 where
   pub text : IsUtf8 bytes
   pub smallest : IsSmallest (SaysUtf8 bytes) level symbol
 
 -- The errors of the call, and when each is returned. First come more than 7089 bytes, which no
 -- version holds; then bytes that are not UTF-8, with the position after the longest prefix that is,
 -- and the byte there; then a text that no version holds.
-abbrev pub IsTextRefusal : EcLevel → List ℕ → QrError → Type 0
-IsTextRefusal level bytes DataTooLong =
+abbrev pub IsUtf8Refusal : EcLevel → List ℕ → QrError → Type 0
+IsUtf8Refusal level bytes DataTooLong =
     (length bytes ≤ LONGEST_DATA → IsUtf8 bytes) × IsRefusedByAll (SaysUtf8 bytes) level DataTooLong
-IsTextRefusal level bytes (InvalidCharacter position byte) =
+IsUtf8Refusal level bytes (InvalidCharacter position byte) =
     (length bytes ≤ LONGEST_DATA) × IsValidUpTo bytes position
     × (slice_get bytes position ≡ Some byte)
-IsTextRefusal level bytes OutOfMemory = (length bytes ≤ LONGEST_DATA) × IsUtf8 bytes
-IsTextRefusal level bytes other = ⊥
+IsUtf8Refusal level bytes OutOfMemory = (length bytes ≤ LONGEST_DATA) × IsUtf8 bytes
+IsUtf8Refusal level bytes other = ⊥

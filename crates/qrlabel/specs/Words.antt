@@ -4,11 +4,13 @@ use Rattle.std.specs.Prelude.{Option, None, Some, IsTrue}
 use Rattle.std.specs.Str.{trim}
 use Rattle.qrcode_core.specs.declared.types.EcLevel.{EcLevel}
 use Rattle.qrcode_core.specs.Names.{NamesLevel}
-use Rattle.qrlabel.specs.declared.wanted.Format.{Format}
-use Rattle.qrlabel.specs.declared.wanted.Format.TheVariants.{Svg, Pbm, Terminal}
-use Rattle.qrlabel.specs.declared.wanted.Kind.{Kind}
-use Rattle.qrlabel.specs.declared.wanted.Kind.TheVariants.{Usual, Micro, Utf8}
-use Rattle.qrlabel.specs.declared.wanted.Wanted.{Wanted}
+use Rattle.qrlabel.specs.declared.bounds.TheConstants.{IMAGE_SCALE, TEXT_SCALE, QUIET, MICRO_QUIET}
+use Rattle.qrlabel.specs.declared.bounds.TheConstants.{MIN_SCALE, MAX_SCALE, MAX_QUIET}
+use Rattle.qrlabel.specs.declared.args.Format.{Format}
+use Rattle.qrlabel.specs.declared.args.Format.TheVariants.{Svg, Pbm, Terminal}
+use Rattle.qrlabel.specs.declared.args.Kind.{Kind}
+use Rattle.qrlabel.specs.declared.args.Kind.TheVariants.{Qr, Micro, Utf8}
+use Rattle.qrlabel.specs.declared.args.LabelArgs.{LabelArgs}
 use Rattle.qrlabel.specs.Options.{AsksNumber}
 
 -- A label: the format of the picture, the level and the kind of the symbol, the width of a module
@@ -22,14 +24,14 @@ pub record Label : Type 0 where
   pub inverted : Bool
 
 -- The label that the program's value stands for.
-abbrev pub label_of : Wanted → Label
+abbrev pub label_of : LabelArgs → Label
 label_of w = record {
   format = w.format;
   level = w.level;
   kind = w.kind;
-  scale = w.request.scale;
-  quiet = w.request.quiet;
-  inverted = w.request.inverted;
+  scale = w.options.scale;
+  quiet = w.options.quiet;
+  inverted = w.options.inverted;
 }
 
 -- An option, with the text of its number.
@@ -46,7 +48,7 @@ format_argument Terminal = codes "terminal"
 
 -- The arguments of a kind of symbol.
 abbrev pub kind_words : Kind → List (List ℕ)
-kind_words Usual = []
+kind_words Qr = []
 kind_words Micro = codes "micro" ∷ []
 kind_words Utf8 = codes "utf8" ∷ []
 
@@ -76,14 +78,14 @@ with_inverted before Inverted = true
 with_inverted before _ = before
 
 -- The default scale of a format: the width of a module in pixels.
-abbrev pub usual_scale : Format → ℕ
-usual_scale Terminal = 1
-usual_scale _ = 8
+abbrev pub default_scale : Format → ℕ
+default_scale Terminal = TEXT_SCALE
+default_scale _ = IMAGE_SCALE
 
 -- The default width of the quiet zone in modules.
-abbrev pub usual_quiet : Kind → ℕ
-usual_quiet Micro = 2
-usual_quiet _ = 4
+abbrev pub default_quiet : Kind → ℕ
+default_quiet Micro = MICRO_QUIET
+default_quiet _ = QUIET
 
 -- Whether the picture is text, which alone can be inverted for a dark screen.
 abbrev pub is_text : Format → Bool
@@ -100,8 +102,9 @@ pub record AskForLabel (words : List (List ℕ)) (asked : Label) : Type 0 where
       format_argument asked.format ∷ level_word ∷ kind_words asked.kind ++ spelled settings
   pub level_is : NamesLevel (trim level_word) asked.level
   pub scale_is :
-      AsksNumber (fold with_scale None settings) (usual_scale asked.format) 1 64 asked.scale
+      AsksNumber (fold with_scale None settings) (default_scale asked.format)
+      MIN_SCALE MAX_SCALE asked.scale
   pub quiet_is :
-      AsksNumber (fold with_quiet None settings) (usual_quiet asked.kind) 0 16 asked.quiet
+      AsksNumber (fold with_quiet None settings) (default_quiet asked.kind) 0 MAX_QUIET asked.quiet
   pub inverted_is : asked.inverted ≡ fold with_inverted false settings
   pub inverts_text : IsTrue asked.inverted → IsTrue (is_text asked.format)

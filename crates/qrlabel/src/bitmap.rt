@@ -1,6 +1,7 @@
 //! Pictures as portable bitmaps: the header, then the rows of pixels.
 ghost use Rattle.std.specs.Prelude.{◌≡◌, ◌+◌, ◌*◌, ◌/◌, ◌≤◌, ◌<◌, ◌++◌, map, IfOk, OnOk};
 ghost use Rattle.std.specs.String.{string_bytes};
+ghost use Rattle.qrlabel.specs.declared.bounds.TheConstants.{MAX_PIXELS};
 ghost use Rattle.qrlabel.specs.Bitmaps.{bitmap_of, pixel_byte, first_rows, header, bitmap_row};
 ghost use Rattle.qrlabel.specs.Pictures.{pixel_height};
 ghost use Rattle.qrlabel.specs.Shown.{shown};
@@ -62,7 +63,7 @@ fn row_bytes(alloc: Global, picture: &Picture, y: usize) -> Result<Vec<u8>, Allo
 /// Returns the byte of eight pixels of a row, the first in the highest bit.
 #[tactic(auto, using(crate::proofs::BitmapLemmas::bits), unfolding(crate::specs::Bitmaps::pixel_byte))]
 fn pixel_byte(picture: &Picture, place: usize, y: usize) -> u8
-    requires { place < 1672 }
+    requires { place < MAX_PIXELS / 8 }
     ensures { result ≡ pixel_byte (shown picture.now) y place }
 {
     let mut byte = 0;

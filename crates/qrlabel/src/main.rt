@@ -1,29 +1,30 @@
 //! `qrlabel` draws the symbol of its input as a picture: SVG, a portable bitmap, or text for
 //! a terminal.
 //!
-//! 1. Read the command line (`wanted`, `given`).
+//! 1. Read the command line (`args`, `option_args`).
 //! 2. Make the symbol of the input (`draw`, `text`).
-//! 3. Render it (`options`, `bundle`, `renderers`, `picture`, and `svg`, `bitmap` or `terminal`).
+//! 3. Render it (`options`, `registry`, `renderers`, `picture`, and `svg`, `bitmap` or `terminal`).
 //!
 //! `run` of the crate `programs` reads the input, writes the picture and returns the exit status.
 #![tactic(auto)]
 
+mod args;
 mod bitmap;
-mod bundle;
+mod bounds;
 mod draw;
-mod given;
 pub mod laws;
+mod option_args;
 mod options;
 mod picture;
+mod registry;
 mod renderers;
 mod svg;
 mod terminal;
 #[cfg(test)]
 mod tests;
 mod text;
-mod wanted;
 
-use crate::wanted::Wanted;
+use crate::args::LabelArgs;
 use programs::{Fault, FromReader, FromWriter, Program, arguments, lent_words, report, run};
 use std::process::ExitCode;
 
@@ -34,16 +35,16 @@ fn main(rt: HostRuntime) -> ExitCode {
     let mut errors = FromWriter::new(rt.stderr());
     let status = match arguments(&rt) {
         Ok(args) => match lent_words(rt.alloc(), &args) {
-            Ok(words) => run::<Wanted, _, _, _>(
+            Ok(words) => run::<LabelArgs, _, _, _>(
                 rt.alloc(),
                 &words,
                 &mut reader,
                 &mut writer,
                 &mut errors,
             ),
-            Err(error) => report(&mut errors, Wanted::name(), Fault::from(error)),
+            Err(error) => report(&mut errors, LabelArgs::name(), Fault::from(error)),
         },
-        Err(fault) => report(&mut errors, Wanted::name(), fault),
+        Err(fault) => report(&mut errors, LabelArgs::name(), fault),
     };
     ExitCode::from(status)
 }

@@ -4,37 +4,39 @@ ghost use Rattle.std.specs.Prelude.{IfSome, Some};
 ghost use Rattle.std.specs.Option.{option_copied};
 ghost use Rattle.std.specs.String.{string_bytes};
 ghost use Rattle.qrcode_core.specs.Plugins.{render_options, at_key};
+ghost use Rattle.qrlabel.specs.declared.bounds.TheConstants.{MIN_SCALE, MAX_SCALE, MAX_QUIET};
 ghost use Rattle.qrlabel.specs.Options.{Asks, AsksForNone, AsksFlag, AsksNumber};
 
+use crate::bounds::{MAX_QUIET, MAX_SCALE, MIN_SCALE, QUIET};
 use qrcode_core::plugin::{PluginError, RenderConfig};
 use std::alloc::{AllocError, Global};
 
 /// The way in which a grid is drawn.
 #[derive(Clone, Copy, Debug, PartialEq, Eq)]
-pub struct Request {
+pub struct RenderOptions {
     /// The width of a module in pixels.
     pub scale: usize,
     /// The width of the quiet zone in modules.
     pub quiet: usize,
     /// Whether text is for a dark screen.
     pub inverted: bool,
-    ghost scaled: { 1 ≤ scale },
-    ghost small_scale: { scale ≤ 64 },
-    ghost small_zone: { quiet ≤ 16 },
+    ghost scaled: { MIN_SCALE ≤ scale },
+    ghost small_scale: { scale ≤ MAX_SCALE },
+    ghost small_zone: { quiet ≤ MAX_QUIET },
 }
 
 /// Returns the options of a configuration, or `None` if one of them is invalid.
-pub fn request_of(config: &RenderConfig, usual_scale: usize) -> Option<Request>
-    requires least { 1 ≤ usual_scale }
-    requires most { usual_scale ≤ 64 }
+pub fn options_of(config: &RenderConfig, default_scale: usize) -> Option<RenderOptions>
+    requires least { MIN_SCALE ≤ default_scale }
+    requires most { default_scale ≤ MAX_SCALE }
     ensures { MatchOption result
-        (AsksForNone usual_scale (render_options config.now))
-        (λ r. Asks usual_scale (render_options config.now) r.scale r.quiet r.inverted) }
+        (AsksForNone default_scale (render_options config.now))
+        (λ r. Asks default_scale (render_options config.now) r.scale r.quiet r.inverted) }
 {
-    let scale = number(config.option("scale"), usual_scale, 1, 64)?;
-    let quiet = number(config.option("quiet"), 4, 0, 16)?;
+    let scale = number(config.option("scale"), default_scale, MIN_SCALE, MAX_SCALE)?;
+    let quiet = number(config.option("quiet"), QUIET, 0, MAX_QUIET)?;
     let inverted = flag(config, "inverted")?;
-    Some(Request {
+    Some(RenderOptions {
         scale,
         quiet,
         inverted,
@@ -43,16 +45,16 @@ pub fn request_of(config: &RenderConfig, usual_scale: usize) -> Option<Request>
 
 /// Returns the number of an option's text, or the default without a text. Returns `None` if the
 /// text is not a number from `least` to `most`.
-pub fn number(text: Option<&str>, usual: usize, least: usize, most: usize) -> Option<usize>
-    requires at_least { least ≤ usual }
-    requires at_most { usual ≤ most }
+pub fn number(text: Option<&str>, default: usize, least: usize, most: usize) -> Option<usize>
+    requires at_least { least ≤ default }
+    requires at_most { default ≤ most }
     ensures within { IfSome result (λ n. (least ≤ n) × (n ≤ most)) }
     ensures asked { MatchOption result
-        ((n : ℕ) → AsksNumber (option_copied text.entry) usual least most n → ⊥)
-        (AsksNumber (option_copied text.entry) usual least most) }
+        ((n : ℕ) → AsksNumber (option_copied text.entry) default least most n → ⊥)
+        (AsksNumber (option_copied text.entry) default least most) }
 {
     let Some(text) = text else {
-        return Some(usual);
+        return Some(default);
     };
     let n = text.parse::<usize>().ok()?;
     if least <= n && n <= most {
@@ -81,14 +83,14 @@ fn flag(config: &RenderConfig, key: &str) -> Option<bool>
 }
 
 /// Returns the configuration with exactly these options.
-pub fn configured(alloc: Global, request: Request) -> Result<RenderConfig, PluginError>
-    ensures asked { IfOk result (λ config. (usual : ℕ) →
-        Asks usual (render_options config) request.scale request.quiet request.inverted) }
+pub fn config_of(alloc: Global, options: RenderOptions) -> Result<RenderConfig, PluginError>
+    ensures asked { IfOk result (λ config. (default : ℕ) →
+        Asks default (render_options config) options.scale options.quiet options.inverted) }
     ensures memory { IfErr result (λ e. e ≡ PluginError.OutOfMemory) }
 {
-    let scale = decimal(alloc, request.scale)?;
-    let quiet = decimal(alloc, request.quiet)?;
-    let inverted = flag_word(request.inverted);
+    let scale = decimal(alloc, options.scale)?;
+    let quiet = decimal(alloc, options.quiet)?;
+    let inverted = flag_word(options.inverted);
     RenderConfig::new(alloc)
         .with_option("scale", scale.as_str())?
         .with_option("quiet", quiet.as_str())?

@@ -1,12 +1,11 @@
 //! A picture: a grid with its scale and its quiet zone.
 ghost use Rattle.std.specs.Prelude.{◌≡◌, ◌*◌, ◌≤◌, length};
+ghost use Rattle.qrlabel.specs.declared.bounds.TheConstants.{MIN_SCALE, MAX_SCALE, MAX_QUIET};
+ghost use Rattle.qrlabel.specs.declared.bounds.TheConstants.{MAX_MODULES, MAX_COLUMNS, MAX_PIXELS};
 ghost use Rattle.qrlabel.specs.Pictures.{columns_of, rows_of, pixel_width, pixel_height};
 ghost use Rattle.qrlabel.specs.Pictures.{is_dark_module, is_dark_pixel};
 
 use qrcode_core::types::Color;
-
-/// The greatest number of columns and of rows of a grid that is drawn: those of version 40.
-pub const MOST_MODULES: usize = 177;
 
 /// A borrowed grid, with the width of a module in pixels and the width of the light quiet zone
 /// around the grid in modules. Nothing is copied.
@@ -18,11 +17,11 @@ pub struct Picture<'a> {
     scale: usize,
     quiet: usize,
     ghost all_rows: { rows * columns ≤ length modules.now },
-    ghost few_columns: { columns ≤ 177 },
-    ghost few_rows: { rows ≤ 177 },
-    ghost scaled: { 1 ≤ scale },
-    ghost small_scale: { scale ≤ 64 },
-    ghost small_zone: { quiet ≤ 16 },
+    ghost few_columns: { columns ≤ MAX_MODULES },
+    ghost few_rows: { rows ≤ MAX_MODULES },
+    ghost scaled: { MIN_SCALE ≤ scale },
+    ghost small_scale: { scale ≤ MAX_SCALE },
+    ghost small_zone: { quiet ≤ MAX_QUIET },
 }
 
 impl<'a> Picture<'a> {
@@ -39,11 +38,11 @@ impl<'a> Picture<'a> {
         quiet: usize,
     ) -> Picture<'a>
         requires all_rows { rows * columns ≤ length modules.now }
-        requires few_columns { columns ≤ 177 }
-        requires few_rows { rows ≤ 177 }
-        requires scaled { 1 ≤ scale }
-        requires small_scale { scale ≤ 64 }
-        requires small_zone { quiet ≤ 16 }
+        requires few_columns { columns ≤ MAX_MODULES }
+        requires few_rows { rows ≤ MAX_MODULES }
+        requires scaled { MIN_SCALE ≤ scale }
+        requires small_scale { scale ≤ MAX_SCALE }
+        requires small_zone { quiet ≤ MAX_QUIET }
         ensures { shown result ≡ picture (grid_of modules.now columns rows) scale quiet }
     {
         Picture {
@@ -58,8 +57,8 @@ impl<'a> Picture<'a> {
     /// Returns the width of a module in pixels.
     pub fn scale(&self) -> usize
         ensures exact { result ≡ (shown self.now).scale }
-        ensures at_least_one { 1 ≤ result }
-        ensures bound { result ≤ 64 }
+        ensures at_least_one { MIN_SCALE ≤ result }
+        ensures bound { result ≤ MAX_SCALE }
     {
         self.scale
     }
@@ -67,7 +66,7 @@ impl<'a> Picture<'a> {
     /// Returns the number of columns of modules, with the quiet zone.
     pub fn columns(&self) -> usize
         ensures exact { result ≡ columns_of (shown self.now) }
-        ensures bound { result ≤ 209 }
+        ensures bound { result ≤ MAX_COLUMNS }
     {
         self.columns + 2 * self.quiet
     }
@@ -75,7 +74,7 @@ impl<'a> Picture<'a> {
     /// Returns the number of rows of modules, with the quiet zone.
     pub fn rows(&self) -> usize
         ensures exact { result ≡ rows_of (shown self.now) }
-        ensures bound { result ≤ 209 }
+        ensures bound { result ≤ MAX_COLUMNS }
     {
         self.rows + 2 * self.quiet
     }
@@ -83,7 +82,7 @@ impl<'a> Picture<'a> {
     /// Returns the width of the picture in pixels.
     pub fn width(&self) -> usize
         ensures exact { result ≡ pixel_width (shown self.now) }
-        ensures bound { result ≤ 13376 }
+        ensures bound { result ≤ MAX_PIXELS }
     {
         self.columns() * self.scale
     }
@@ -91,7 +90,7 @@ impl<'a> Picture<'a> {
     /// Returns the height of the picture in pixels.
     pub fn height(&self) -> usize
         ensures exact { result ≡ pixel_height (shown self.now) }
-        ensures bound { result ≤ 13376 }
+        ensures bound { result ≤ MAX_PIXELS }
     {
         self.rows() * self.scale
     }

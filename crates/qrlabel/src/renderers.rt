@@ -1,6 +1,8 @@
 //! The renderers `svg`, `pbm` and `terminal`.
 ghost use Rattle.std.specs.Prelude.{◌≡◌, ℕ, ◌≤◌, Bool, IfOk, IfErr, OnOk};
 ghost use Rattle.qrcode_core.specs.Plugins.{render_options};
+ghost use Rattle.qrlabel.specs.declared.bounds.TheConstants.{IMAGE_SCALE, TEXT_SCALE, MIN_SCALE};
+ghost use Rattle.qrlabel.specs.declared.bounds.TheConstants.{MAX_SCALE};
 ghost use Rattle.qrlabel.specs.Options.{Asks, AsksForNone};
 ghost use Rattle.qrlabel.specs.Pictures.{picture};
 ghost use Rattle.qrlabel.specs.Rendered.{IsDrawable, IsRendererRefusal, Renders, Validates};
@@ -9,19 +11,14 @@ ghost use Rattle.qrlabel.specs.Rendered.{ShowsTerminal};
 ghost use Rattle.qrlabel.specs.Shown.{shown};
 
 use crate::bitmap::bitmap;
-use crate::options::{Request, request_of};
-use crate::picture::{MOST_MODULES, Picture};
+use crate::bounds::{IMAGE_SCALE, MAX_MODULES, MAX_QUIET, MAX_SCALE, MIN_SCALE, TEXT_SCALE};
+use crate::options::{RenderOptions, options_of};
+use crate::picture::Picture;
 use crate::svg::svg;
 use crate::terminal::terminal;
 use qrcode_core::plugin::{DynRenderer, PluginError, RenderConfig, RenderOutput};
 use qrcode_core::traits::ModuleSource;
 use std::alloc::Global;
-
-/// The default scale of an image.
-const IMAGE_SCALE: usize = 8;
-
-/// The default scale of text.
-const TEXT_SCALE: usize = 1;
 
 /// A renderer of SVG, as text. A module is 8 pixels wide, unless the option `scale` is given.
 #[derive(Debug, Drop)]
@@ -38,9 +35,9 @@ pub struct Pbm;
 pub struct Terminal;
 
 impl DynRenderer for Svg {
-    ghost renders = { λ _. Renders 8 ShowsSvg };
+    ghost renders = { λ _. Renders IMAGE_SCALE ShowsSvg };
 
-    ghost validates = { λ _. Validates 8 };
+    ghost validates = { λ _. Validates IMAGE_SCALE };
 
     fn render(
         &self,
@@ -48,21 +45,21 @@ impl DynRenderer for Svg {
         code: &dyn ModuleSource,
         config: &RenderConfig,
     ) -> Result<RenderOutput, PluginError> {
-        let request = drawable(alloc, code, config, IMAGE_SCALE)?;
-        let picture = picture_of(code, request);
+        let options = drawable_options(alloc, code, config, IMAGE_SCALE)?;
+        let picture = picture_of(code, options);
         Ok(RenderOutput::Text(svg(alloc, &picture)?))
     }
 
     fn validate_config(&self, alloc: Global, config: &RenderConfig) -> Result<(), PluginError> {
-        asked(alloc, config, IMAGE_SCALE)?;
+        checked_options(alloc, config, IMAGE_SCALE)?;
         Ok(())
     }
 }
 
 impl DynRenderer for Pbm {
-    ghost renders = { λ _. Renders 8 ShowsBitmap };
+    ghost renders = { λ _. Renders IMAGE_SCALE ShowsBitmap };
 
-    ghost validates = { λ _. Validates 8 };
+    ghost validates = { λ _. Validates IMAGE_SCALE };
 
     fn render(
         &self,
@@ -70,21 +67,21 @@ impl DynRenderer for Pbm {
         code: &dyn ModuleSource,
         config: &RenderConfig,
     ) -> Result<RenderOutput, PluginError> {
-        let request = drawable(alloc, code, config, IMAGE_SCALE)?;
-        let picture = picture_of(code, request);
+        let options = drawable_options(alloc, code, config, IMAGE_SCALE)?;
+        let picture = picture_of(code, options);
         Ok(RenderOutput::Bytes(bitmap(alloc, &picture)?))
     }
 
     fn validate_config(&self, alloc: Global, config: &RenderConfig) -> Result<(), PluginError> {
-        asked(alloc, config, IMAGE_SCALE)?;
+        checked_options(alloc, config, IMAGE_SCALE)?;
         Ok(())
     }
 }
 
 impl DynRenderer for Terminal {
-    ghost renders = { λ _. Renders 1 ShowsTerminal };
+    ghost renders = { λ _. Renders TEXT_SCALE ShowsTerminal };
 
-    ghost validates = { λ _. Validates 1 };
+    ghost validates = { λ _. Validates TEXT_SCALE };
 
     fn render(
         &self,
@@ -92,63 +89,65 @@ impl DynRenderer for Terminal {
         code: &dyn ModuleSource,
         config: &RenderConfig,
     ) -> Result<RenderOutput, PluginError> {
-        let request = drawable(alloc, code, config, TEXT_SCALE)?;
-        let picture = picture_of(code, request);
-        Ok(RenderOutput::Text(terminal(alloc, &picture, request.inverted)?))
+        let options = drawable_options(alloc, code, config, TEXT_SCALE)?;
+        let picture = picture_of(code, options);
+        Ok(RenderOutput::Text(terminal(alloc, &picture, options.inverted)?))
     }
 
     fn validate_config(&self, alloc: Global, config: &RenderConfig) -> Result<(), PluginError> {
-        asked(alloc, config, TEXT_SCALE)?;
+        checked_options(alloc, config, TEXT_SCALE)?;
         Ok(())
     }
 }
 
 /// Returns the options of a configuration, if they are valid and the grid is not too large.
-fn drawable(
+fn drawable_options(
     alloc: Global,
     code: &dyn ModuleSource,
     config: &RenderConfig,
-    usual_scale: usize,
-) -> Result<Request, PluginError>
-    requires least { 1 ≤ usual_scale }
-    requires most { usual_scale ≤ 64 }
+    default_scale: usize,
+) -> Result<RenderOptions, PluginError>
+    requires least { MIN_SCALE ≤ default_scale }
+    requires most { default_scale ≤ MAX_SCALE }
     ensures asked { IfOk result
-        (λ r. Asks usual_scale (render_options config.now) r.scale r.quiet r.inverted) }
+        (λ r. Asks default_scale (render_options config.now) r.scale r.quiet r.inverted) }
     ensures drawable { OnOk result (IsDrawable (grid code.now)) }
     ensures refused { IfErr result
-        (IsRendererRefusal (AsksForNone usual_scale (render_options config.now))
+        (IsRendererRefusal (AsksForNone default_scale (render_options config.now))
         (IsDrawable (grid code.now) → ⊥)) }
 {
-    let request = asked(alloc, config, usual_scale)?;
-    if code.width() > MOST_MODULES || code.height() > MOST_MODULES {
+    let options = checked_options(alloc, config, default_scale)?;
+    if code.width() > MAX_MODULES || code.height() > MAX_MODULES {
         return Err(too_large(alloc));
     }
-    Ok(request)
+    Ok(options)
 }
 
 /// Returns the options of a configuration, if they are valid.
-fn asked(alloc: Global, config: &RenderConfig, usual_scale: usize) -> Result<Request, PluginError>
-    requires least { 1 ≤ usual_scale }
-    requires most { usual_scale ≤ 64 }
+fn checked_options(
+    alloc: Global,
+    config: &RenderConfig,
+    default_scale: usize,
+) -> Result<RenderOptions, PluginError>
+    requires least { MIN_SCALE ≤ default_scale }
+    requires most { default_scale ≤ MAX_SCALE }
     ensures asked { IfOk result
-        (λ r. Asks usual_scale (render_options config.now) r.scale r.quiet r.inverted) }
+        (λ r. Asks default_scale (render_options config.now) r.scale r.quiet r.inverted) }
     ensures refused { IfErr result
-        (IsRendererRefusal (AsksForNone usual_scale (render_options config.now)) ⊥) }
+        (IsRendererRefusal (AsksForNone default_scale (render_options config.now)) ⊥) }
 {
-    match request_of(config, usual_scale) {
-        Some(request) => Ok(request),
-        None => Err(unclear(alloc)),
+    match options_of(config, default_scale) {
+        Some(options) => Ok(options),
+        None => Err(invalid_options(alloc)),
     }
 }
 
 /// Returns the error for invalid options, or `OutOfMemory` if there is no memory for its text.
-fn unclear(alloc: Global) -> PluginError
+fn invalid_options(alloc: Global) -> PluginError
     ensures { IsRendererRefusal (Unit {0}) ⊥ result }
 {
-    match String::from_str(
-        alloc,
-        "scale 1 to 64, quiet 0 to 16, inverted true or false",
-    ) {
+    let (least, most, quiet) = (MIN_SCALE, MAX_SCALE, MAX_QUIET);
+    match format!(in alloc; "scale {least} to {most}, quiet 0 to {quiet}, inverted true or false") {
         Ok(what) => PluginError::InvalidConfig(what),
         Err(_) => PluginError::OutOfMemory,
     }
@@ -159,22 +158,23 @@ fn unclear(alloc: Global) -> PluginError
 fn too_large(alloc: Global) -> PluginError
     ensures { IsRendererRefusal ⊥ (Unit {0}) result }
 {
-    match String::from_str(alloc, "more than 177 columns or rows") {
+    let most = MAX_MODULES;
+    match format!(in alloc; "more than {most} columns or rows") {
         Ok(what) => PluginError::RenderFailed(what),
         Err(_) => PluginError::OutOfMemory,
     }
 }
 
 /// Returns the picture of the grid of `code`.
-fn picture_of<'a>(code: &'a dyn ModuleSource, request: Request) -> Picture<'a>
+fn picture_of<'a>(code: &'a dyn ModuleSource, options: RenderOptions) -> Picture<'a>
     requires { IsDrawable (grid code.now) }
-    ensures { shown result ≡ picture (grid code.now) request.scale request.quiet }
+    ensures { shown result ≡ picture (grid code.now) options.scale options.quiet }
 {
     Picture::new(
         code.modules(),
         code.width(),
         code.height(),
-        request.scale,
-        request.quiet,
+        options.scale,
+        options.quiet,
     )
 }

@@ -1,6 +1,7 @@
 //! Pictures as text for a terminal.
-ghost use Rattle.std.specs.Prelude.{◌≡◌, ◌≤◌, ◌++◌, IfOk, OnOk};
+ghost use Rattle.std.specs.Prelude.{◌≡◌, ◌/◌, ◌≤◌, ◌++◌, IfOk, OnOk};
 ghost use Rattle.std.specs.String.{string_bytes};
+ghost use Rattle.qrlabel.specs.declared.bounds.TheConstants.{MAX_PIXELS};
 ghost use Rattle.qrlabel.specs.Shown.{shown};
 ghost use Rattle.qrlabel.specs.Terminals.{half_blocks, is_filled, terminal_line, terminal_text};
 
@@ -28,7 +29,7 @@ fn push_line(
     inverted: bool,
     line: usize,
 ) -> Result<(), AllocError>
-    requires { line ≤ 6688 }
+    requires { line ≤ MAX_PIXELS / 2 }
     ensures { OnOk result
         (string_bytes text.new ≡ string_bytes text.old
         ++ terminal_line inverted (shown picture.now) line) }

@@ -1,8 +1,8 @@
 //! Tests of pictures of small grids, written by hand from the file formats, of errors, and
 //! of arguments.
-use crate::bundle::render_by_name;
+use crate::args::LabelArgs;
+use crate::registry::render_by_name;
 use crate::renderers::{Pbm, Svg, Terminal};
-use crate::wanted::Wanted;
 use programs::{FromReader, FromWriter, run};
 use qrcode_core::plugin::{DynRenderer, PluginError, RenderConfig, RenderOutput};
 use qrcode_core::traits::ModuleView;
@@ -208,7 +208,7 @@ fn ran(alloc: Global, words: &[&str], input: &[u8]) -> Served {
     let mut reader = FromReader::new(&mut bytes);
     let mut writer = FromWriter::new(&mut label);
     let mut errors = FromWriter::new(&mut said);
-    let status = run::<Wanted, _, _, _>(alloc, words, &mut reader, &mut writer, &mut errors);
+    let status = run::<LabelArgs, _, _, _>(alloc, words, &mut reader, &mut writer, &mut errors);
     Served {
         status,
         unread: bytes.len(),

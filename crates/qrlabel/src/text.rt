@@ -1,7 +1,7 @@
 //! Bytes as a text in UTF-8.
 ghost use Rattle.std.specs.Prelude.{◌≤◌, length, IfOk, IfErr, OnOk};
 ghost use Rattle.qrcode_base.specs.declared.symbols.TheConstants.{LONGEST_DATA};
-ghost use Rattle.qrlabel.specs.Texts.{IsTextSymbol, IsTextRefusal};
+ghost use Rattle.qrlabel.specs.Texts.{IsUtf8Symbol, IsUtf8Refusal};
 
 use qrcode_base::symbols::LONGEST_DATA;
 use qrcode_core::symbol::Symbol;
@@ -13,9 +13,9 @@ use texts::utf8_symbol;
 /// `DataTooLong` for more than 7089 bytes, then with `InvalidCharacter` at the first byte that is
 /// not UTF-8, and then as `utf8_symbol` does.
 pub fn text_symbol(alloc: Global, bytes: &[u8], level: EcLevel) -> QrResult<Symbol>
-    ensures symbol { IfOk result (IsTextSymbol level bytes.now) }
+    ensures symbol { IfOk result (IsUtf8Symbol level bytes.now) }
     ensures limit { OnOk result (length bytes.now ≤ LONGEST_DATA) }
-    ensures refused { IfErr result (IsTextRefusal level bytes.now) }
+    ensures refused { IfErr result (IsUtf8Refusal level bytes.now) }
 {
     if bytes.len() > LONGEST_DATA {
         return Err(QrError::DataTooLong);

@@ -3,7 +3,7 @@ use Rattle.std.proofs.Common.{◌≡◌, ◌∙◌, subst, sym, w16, w32, to_z, 
 use Rattle.std.{specs.Prelude.map, specs.Prelude.nat_abs, specs.Prelude.ℤ, proofs.lemmas.Int.to_z-of_z, proofs.lemmas.Int.ints}
 use Rattle.qrcode_base.specs.{declared.types.errors.QrError.QrError, Symbols.IsNormalNumber}
 use Rattle.qrcode_core.specs.{Drawn.modules_of, Sequence.AreBestSymbols, Sequence.IsSequenceRefusal}
-use Rattle.qrcode_c.{specs.Levels.level_number, specs.Refusals.IsAsked, proofs.Answering.part_held, proofs.Answering.part_above, proofs.Answering.short_refused}
+use Rattle.qrcode_c.{specs.Levels.level_argument, specs.Refusals.IsAsked, proofs.Answering.part_held, proofs.Answering.part_above, proofs.Answering.short_refused}
 use Rattle.qrcode_c.proofs.drawing.part_symbol.Goals as goal
 use Rattle.qrcode_bits.specs.declared.bits.front.Content.TheVariants.{Bytes}
 
@@ -15,7 +15,7 @@ same_limit number limit is wide low =
 
 pub returns-in-Ok-clause-held : goal.returns-in-Ok-clause-held
 returns-in-Ok-clause-held c =
-    let named : c.args.level ≡ level_number c.in-Some.level = sym (to_z-of_z w32 c.args.level c.ranges.level) ∙ c.in-Some.ensures.level in
+    let named : c.args.level ≡ level_argument c.in-Some.level = sym (to_z-of_z w32 c.args.level c.ranges.level) ∙ c.in-Some.ensures.level in
     let limited = c.in-Some-limit_of.ensures.limit in
     let same = same_limit c.args.max_version c.in-Some-limit_of.limit limited.0 (to_z-of_z w32 c.args.max_version c.ranges.max_version) limited.1 in
     part_held c.args.message.now c.args.cuts.now c.in-Some.level c.args.level c.args.max_version c.args.index c.in-Ok.symbols.items c.index.result.now
@@ -26,7 +26,7 @@ returns-in-Ok-clause-held c =
 
 pub returns-in-Ok-clause-refused : goal.returns-in-Ok-clause-refused
 returns-in-Ok-clause-refused c =
-    let named : c.args.level ≡ level_number c.in-Some.level = sym (to_z-of_z w32 c.args.level c.ranges.level) ∙ c.in-Some.ensures.level in
+    let named : c.args.level ≡ level_argument c.in-Some.level = sym (to_z-of_z w32 c.args.level c.ranges.level) ∙ c.in-Some.ensures.level in
     let limited = c.in-Some-limit_of.ensures.limit in
     let same = same_limit c.args.max_version c.in-Some-limit_of.limit limited.0 (to_z-of_z w32 c.args.max_version c.ranges.max_version) limited.1 in
     let best = subst (λ (z : ℤ). AreBestSymbols Bytes c.args.message.now c.args.cuts.now c.in-Some.level (nat_abs z) (map modules_of c.in-Ok.symbols.items))
@@ -41,7 +41,7 @@ returns-in-Ok-clause-refused c =
 
 pub returns-in-Err-DataTooLong-clause-refused : goal.returns-in-Err-DataTooLong-clause-refused
 returns-in-Err-DataTooLong-clause-refused c =
-    let named : c.args.level ≡ level_number c.in-Some.level = sym (to_z-of_z w32 c.args.level c.ranges.level) ∙ c.in-Some.ensures.level in
+    let named : c.args.level ≡ level_argument c.in-Some.level = sym (to_z-of_z w32 c.args.level c.ranges.level) ∙ c.in-Some.ensures.level in
     let limited = c.in-Some-limit_of.ensures.limit in
     let same = same_limit c.args.max_version c.in-Some-limit_of.limit limited.0 (to_z-of_z w32 c.args.max_version c.ranges.max_version) limited.1 in
     let refused = subst (λ (z : ℤ). IsSequenceRefusal Bytes c.args.message.now c.args.cuts.now c.in-Some.level z c.in-Err-DataTooLong.field-0) same

@@ -2,17 +2,17 @@
 use Rattle.std.proofs.Common.{◌≡◌, ◌∙◌, sym, w32}
 use Rattle.std.proofs.lemmas.Int.{to_z-of_z}
 use Rattle.qrcode_core.specs.Headline.{IsBestSymbol}
-use Rattle.qrcode_c.{specs.Levels.level_number, proofs.Answering.best_held, proofs.Answering.short_refused}
+use Rattle.qrcode_c.{specs.Levels.level_argument, proofs.Answering.best_held, proofs.Answering.short_refused}
 use Rattle.qrcode_c.proofs.drawing.symbol.Goals as goal
 
 pub returns-in-Ok-clause-held : goal.returns-in-Ok-clause-held
 returns-in-Ok-clause-held c =
-    let named : c.args.level ≡ level_number c.in-Some.level = sym (to_z-of_z w32 c.args.level c.ranges.level) ∙ c.in-Some.ensures.level in
+    let named : c.args.level ≡ level_argument c.in-Some.level = sym (to_z-of_z w32 c.args.level c.ranges.level) ∙ c.in-Some.ensures.level in
     best_held (IsBestSymbol c.args.bytes.now) c.in-Some.level c.args.level c.in-Ok.symbol c.args.modules.now _ c.write.result
     named c.in-Ok.ensures.best c.in-Ok.ensures.reading c.write.ensures.held
 
 pub returns-in-Ok-clause-refused : goal.returns-in-Ok-clause-refused
 returns-in-Ok-clause-refused c =
-    let named : c.args.level ≡ level_number c.in-Some.level = sym (to_z-of_z w32 c.args.level c.ranges.level) ∙ c.in-Some.ensures.level in
+    let named : c.args.level ≡ level_argument c.in-Some.level = sym (to_z-of_z w32 c.args.level c.ranges.level) ∙ c.in-Some.ensures.level in
     short_refused _ _ c.write.result c.write.ensures.short c.write.ensures.room
     (λ less. (c.in-Some.level, named, (c.in-Ok.symbol.modules, c.in-Ok.ensures.best, less)))

@@ -1,18 +1,23 @@
 //! The label that the arguments describe: a format, a level, a kind of symbol, and options.
 ghost use Rattle.std.specs.Prelude.{◌≡◌, ◌++◌, List, map, MatchOption};
 ghost use Rattle.programs.specs.Outcome.{AskForNone};
-ghost use Rattle.qrlabel.specs.declared.wanted.Format.{Format};
-ghost use Rattle.qrlabel.specs.declared.wanted.Kind.{Kind};
+ghost use Rattle.qrlabel.specs.declared.args.Format.{Format};
+ghost use Rattle.qrlabel.specs.declared.args.Kind.{Kind};
 ghost use Rattle.qrlabel.specs.Words.{Setting, label_of, AskForLabel, format_argument, kind_words};
 ghost use Rattle.qrlabel.specs.Words.{spelled};
-ghost use Rattle.qrlabel.specs.Words.{usual_scale, usual_quiet, is_text};
+ghost use Rattle.qrlabel.specs.Words.{default_scale, default_quiet, is_text};
 
-use crate::draw::label;
-use crate::given::given_by;
-use crate::options::{Request, number};
+use crate::bounds::{IMAGE_SCALE, MAX_QUIET, MAX_SCALE, MICRO_QUIET, MIN_SCALE, QUIET, TEXT_SCALE};
+use crate::draw::label_bytes;
+use crate::option_args::option_texts;
+use crate::options::{RenderOptions, number};
 use programs::Program;
 use qrcode_core::types::{EcLevel, QrResult};
 use std::alloc::Global;
+
+/// The usage line.
+const USAGE: &str =
+    "usage: qrlabel svg|pbm|terminal L|M|Q|H [micro|utf8] [--scale N] [--quiet N] [--inverted]\n";
 
 /// The format of a picture.
 #[derive(Clone, Copy, Debug, PartialEq, Eq)]
@@ -25,7 +30,7 @@ pub enum Format {
 /// The kind of symbol that is drawn.
 #[derive(Clone, Copy, Debug, PartialEq, Eq)]
 pub enum Kind {
-    Usual,
+    Qr,
     Micro,
     /// A text in UTF-8, with the ECI designator of UTF-8.
     Utf8,
@@ -33,11 +38,11 @@ pub enum Kind {
 
 /// The label to be drawn.
 #[derive(Clone, Copy, Debug, PartialEq, Eq)]
-pub struct Wanted {
+pub struct LabelArgs {
     pub format: Format,
     pub level: EcLevel,
     pub kind: Kind,
-    pub request: Request,
+    pub options: RenderOptions,
 }
 
 impl Format {
@@ -53,12 +58,12 @@ impl Format {
     }
 
     /// Returns the default scale: the width of a module in pixels.
-    fn usual_scale(self) -> usize
-        ensures { result ≡ usual_scale self }
+    fn default_scale(self) -> usize
+        ensures { result ≡ default_scale self }
     {
         match self {
-            Format::Svg | Format::Pbm => 8,
-            Format::Terminal => 1,
+            Format::Svg | Format::Pbm => IMAGE_SCALE,
+            Format::Terminal => TEXT_SCALE,
         }
     }
 
@@ -75,17 +80,17 @@ impl Format {
 
 impl Kind {
     /// Returns the default width of the quiet zone in modules.
-    fn usual_quiet(self) -> usize
-        ensures { result ≡ usual_quiet self }
+    fn default_quiet(self) -> usize
+        ensures { result ≡ default_quiet self }
     {
         match self {
-            Kind::Usual | Kind::Utf8 => 4,
-            Kind::Micro => 2,
+            Kind::Qr | Kind::Utf8 => QUIET,
+            Kind::Micro => MICRO_QUIET,
         }
     }
 }
 
-impl Program for Wanted {
+impl Program for LabelArgs {
     ghost use Rattle.qrlabel.specs.Labels.{ShowsLabel, RefusesLabel, qrlabel_name, qrlabel_usage};
     ghost use Rattle.qrlabel.specs.Words.{Label, label_of, AskForLabel};
 
@@ -108,46 +113,46 @@ impl Program for Wanted {
     }
 
     fn usage() -> &'static str {
-        "usage: qrlabel svg|pbm|terminal L|M|Q|H [micro|utf8] [--scale N] [--quiet N] [--inverted]\n"
+        USAGE
     }
 
-    fn request_of(words: &[&str]) -> Option<Wanted> {
-        wanted_of(words)
+    fn request_of(words: &[&str]) -> Option<LabelArgs> {
+        label_args(words)
     }
 
     fn drawing(&self, alloc: Global, bytes: &[u8]) -> QrResult<Vec<u8>> {
-        label(alloc, *self, bytes)
+        label_bytes(alloc, *self, bytes)
     }
 }
 
 /// Returns the label that the arguments describe, or `None` if they are invalid.
-fn wanted_of(words: &[&str]) -> Option<Wanted>
+fn label_args(words: &[&str]) -> Option<LabelArgs>
     ensures { MatchOption result
         (AskForNone AskForLabel (map (λ word. word.now) words.now))
-        (λ wanted. AskForLabel (map (λ word. word.now) words.now) (label_of wanted)) }
+        (λ label. AskForLabel (map (λ word. word.now) words.now) (label_of label)) }
 {
     let [format, level, rest @ ..] = words else {
         return None;
     };
     let format = format_of(format)?;
     let level = level.parse().ok()?;
-    let (kind, options) = kind_of(rest);
-    let given = given_by(options)?;
-    if given.inverted && !format.is_text() {
+    let (kind, rest) = kind_of(rest);
+    let texts = option_texts(rest)?;
+    if texts.inverted && !format.is_text() {
         return None;
     }
-    let scale = number(given.scale, format.usual_scale(), 1, 64)?;
-    let quiet = number(given.quiet, kind.usual_quiet(), 0, 16)?;
-    let request = Request {
+    let scale = number(texts.scale, format.default_scale(), MIN_SCALE, MAX_SCALE)?;
+    let quiet = number(texts.quiet, kind.default_quiet(), 0, MAX_QUIET)?;
+    let options = RenderOptions {
         scale,
         quiet,
-        inverted: given.inverted,
+        inverted: texts.inverted,
     };
-    Some(Wanted {
+    Some(LabelArgs {
         format,
         level,
         kind,
-        request,
+        options,
     })
 }
 
@@ -176,13 +181,13 @@ fn kind_of<'a, 'w>(words: &'w [&'a str]) -> (Kind, &'w [&'a str])
         map (λ word. word.now) words.now ≡ kind_words kind ++ spelled settings → kind ≡ result.0 }
 {
     let [word, options @ ..] = words else {
-        return (Kind::Usual, words);
+        return (Kind::Qr, words);
     };
     if *word == "micro" {
         (Kind::Micro, options)
     } else if *word == "utf8" {
         (Kind::Utf8, options)
     } else {
-        (Kind::Usual, words)
+        (Kind::Qr, words)
     }
 }

@@ -2,7 +2,7 @@
 use Rattle.std.proofs.Common.{◌≡◌, slice_index_or, map, rules}
 use Rattle.std.specs.Prelude.{codes}
 use Rattle.qrlabel.proofs.WordLemmas.{no_word, first_word, is_micro, is_utf8}
-use Rattle.qrlabel.proofs.wanted.kind_of.Goals as goal
+use Rattle.qrlabel.proofs.args.kind_of.Goals as goal
 
 pub returns-then-eq-clause-words : goal.returns-then-eq-clause-words
 returns-then-eq-clause-words c =

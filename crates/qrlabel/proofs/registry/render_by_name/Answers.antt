@@ -5,8 +5,8 @@ use Rattle.qrcode_core.specs.{declared.plugin.error.PluginError.PluginError, Reg
 use Rattle.qrlabel.specs.Rendered.{ShowsSvg, ShowsBitmap, ShowsTerminal}
 use Rattle.qrlabel.proofs.NameLemmas.{three, holds_three, at_svg, at_pbm, at_terminal, at_others, object_there, nothing_there, drawn_by_name}
 use denote.Param.Object.{read_made}
-use Rattle.qrlabel.proofs.bundle.render_by_name.OwnLists as own
-use Rattle.qrlabel.proofs.bundle.render_by_name.Goals as goal
+use Rattle.qrlabel.proofs.registry.render_by_name.OwnLists as own
+use Rattle.qrlabel.proofs.registry.render_by_name.Goals as goal
 
 pub returns : goal.returns
 returns g c =

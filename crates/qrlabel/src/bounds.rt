@@ -1,0 +1,31 @@
+//! The bounds and the defaults of pictures and their options.
+
+/// The least width of a module in pixels.
+pub const MIN_SCALE: usize = 1;
+
+/// The greatest width of a module in pixels.
+pub const MAX_SCALE: usize = 64;
+
+/// The greatest width of the quiet zone in modules.
+pub const MAX_QUIET: usize = 16;
+
+/// The greatest number of columns and of rows of a grid that is drawn: those of version 40.
+pub const MAX_MODULES: usize = 177;
+
+/// The greatest number of columns and of rows with the quiet zone.
+pub const MAX_COLUMNS: usize = MAX_MODULES + 2 * MAX_QUIET;
+
+/// The greatest width and height of a picture in pixels.
+pub const MAX_PIXELS: usize = MAX_COLUMNS * MAX_SCALE;
+
+/// The default scale of an image.
+pub const IMAGE_SCALE: usize = 8;
+
+/// The default scale of text.
+pub const TEXT_SCALE: usize = 1;
+
+/// The default width of the quiet zone in modules (ISO/IEC 18004:2006, "Quiet zone").
+pub const QUIET: usize = 4;
+
+/// The default width of the quiet zone of a Micro symbol.
+pub const MICRO_QUIET: usize = 2;
