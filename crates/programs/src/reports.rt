@@ -5,6 +5,7 @@ ghost use Rattle.std.specs.Prelude.{IsFalse, is_err, false};
 ghost use Rattle.std.specs.Fmt.{digit_glyph, signed_decimal};
 ghost use Rattle.qrcode_base.specs.Names.{error_text, level_text};
 ghost use Rattle.qrcode_base.specs.declared.types.errors.QrError.TheVariants.{InvalidCharacter};
+ghost use Rattle.qrcode_base.specs.declared.types.errors.QrError.TheVariants.{InvalidVersion};
 ghost use Rattle.qrcode_base.specs.declared.types.errors.QrError.TheVariants.{InvalidDataLength};
 ghost use Rattle.qrcode_base.specs.declared.types.errors.QrError.TheVariants.{RenderSizeExceeded};
 ghost use Rattle.programs.specs.Devices.{output, Writes};
@@ -39,14 +40,7 @@ fn write_error<E: Sink>(errors: &mut E, program: &str, error: QrError) -> Result
 {
     let text = match error {
         QrError::InvalidVersion { version, ec_level } => {
-            return match version {
-                Version::Normal(number) => {
-                    write_version(errors, program, "invalid version Normal(", number, ec_level)
-                }
-                Version::Micro(number) => {
-                    write_version(errors, program, "invalid version Micro(", number, ec_level)
-                }
-            };
+            return write_version(errors, program, version, ec_level);
         }
         QrError::InvalidEciDesignator { value } => {
             let (before, after) = ("invalid ECI designator ", " (must be 0..=999999)");
@@ -78,9 +72,30 @@ fn write_error<E: Sink>(errors: &mut E, program: &str, error: QrError) -> Result
     write_line(errors, program, &[text])
 }
 
-/// Writes that a version does not have a level, or is no version. `head` ends in the kind of the
-/// version, which its number follows.
+/// Writes that a version does not have a level, or is no version.
 fn write_version<E: Sink>(
+    errors: &mut E,
+    program: &str,
+    version: Version,
+    level: EcLevel,
+) -> Result<(), Fault>
+    requires { IsFalse (E.state errors.old).failed }
+    ensures { Writes (output (E.state errors.old) (E.state errors.new))
+        (error_line program.now (Symbol (InvalidVersion version level))) }
+{
+    match version {
+        Version::Normal(number) => {
+            write_version_number(errors, program, "invalid version Normal(", number, level)
+        }
+        Version::Micro(number) => {
+            write_version_number(errors, program, "invalid version Micro(", number, level)
+        }
+    }
+}
+
+/// Writes the number of a version after `head`, which ends in the kind of the version, and the
+/// level that it does not have.
+fn write_version_number<E: Sink>(
     errors: &mut E,
     program: &str,
     head: &'static str,
