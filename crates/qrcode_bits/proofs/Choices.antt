@@ -3,10 +3,11 @@
 use Rattle.qrcode_bits.proofs.Prelude.{◌≡◌, ℕ, zero, suc, ◌+◌, ◌^◌, ◌<◌, ◌≤◌, List, [], ◌∷◌, ◌++◌, Some, length, refl, sym, subst, ◌∙◌, arith, inl, inr, rules}
 use Rattle.qrcode_bits.proofs.Prelude.{All, Option, flat_map, cases_lt, cases_eq, All-head, All-tail, All-nil, All-cons, All-append, Version, EcLevel, L, M, Q}
 use Rattle.qrcode_bits.proofs.Prelude.{H, Mode, IsWithin, HasMode, slice_get_past, capacity, Segment, parsed, merged, total_bits, IsChosenPlan, merged_all}
-use Rattle.qrcode_bits.proofs.Prelude.{IsMergePlan, Fits, FitsNot, IsLeastBits, normal, micro, FitsNone, IsChoice, IsLeastHolding, IsClass, common_steps}
+use Rattle.qrcode_bits.proofs.Prelude.{IsMergePlan, Fits, FitsNot, IsLeastBits, normal, micro, FitsNone, IsChoice, IsClass, common_steps, ◌-◌}
+use Rattle.qrcode_bits.specs.Plans.{normal_from}
 use Rattle.qrcode_bits.proofs.Growth.{total_bits-rise, total_bits-same, total_bits-double, chosen-same}
 use Rattle.qrcode_bits.proofs.CuttingPlans.{AreNonEmpty, joined, first-some, rest-some, chosen-planned, chosen-least}
-use Rattle.qrcode_base.proofs.{Joins.join-upper, Joins.join-upper_second, Fields.SameClass, Fields.capacity-rises, Fields.capacity-held}
+use Rattle.qrcode_base.proofs.{Joins.join-upper, Joins.join-upper_second, Fields.SameClass, Fields.capacity-rises}
 
 -- ---- Modes of a version
 
@@ -114,39 +115,39 @@ pub fits_normal : (front n c : ℕ) (message : List ℕ) (l : EcLevel) (plan : L
     front + total_bits (normal n) plan ≤ c → Fits front message (normal n) l plan
 fits_normal front n c message l plan h known few = grind arith
 
-module _ (front : ℕ) (message : List ℕ) (l : EcLevel) (before last : ℕ) (plan : List Segment) (c : ℕ)
-    (class : IsClass before last) (too_long : FitsNone normal front message l before)
-    (chosen : IsChosenPlan (parsed message) (normal last) plan) (known : capacity (normal last) l ≡ Some c) where
+-- No plan fits a version from a least one up to another.
+abbrev pub FitsNoneFrom : ℕ → ℕ → List ℕ → EcLevel → ℕ → Type 0
+FitsNoneFrom least front message l before = (n : ℕ) → least ≤ n → n ≤ before → FitsNot front message (normal n) l
+
+module _ (front : ℕ) (message : List ℕ) (l : EcLevel) (least before last : ℕ) (plan : List Segment) (first : least ≤ before + 1)
+    (class : IsClass before last) (too_long : FitsNoneFrom least front message l before) (chosen : IsChosenPlan (parsed message) (normal last) plan) where
   -- a plan that fits a version of the class has at least the bits of the chosen plan of the
   -- last one
   least_in : (n : ℕ) → before < n → n ≤ last → (other : List Segment) → (w : Fits front message (normal n) l other) →
       front + total_bits (normal last) plan ≤ w.limit
   least_in n h k other w = grind (arith, chosen_bits message (normal last) plan other chosen w.planned, total_bits-same)
 
-  -- If it fits, the least version that holds its bits is the choice.
-  pub class_choice : (limit number : ℕ) → last ≤ limit → front + total_bits (normal last) plan ≤ c →
-      IsLeastHolding (front + total_bits (normal last) plan) l number →
-      IsChoice normal front message l limit number plan
-  class_choice limit number h fits w =
-      let some : 1 ≤ number = (capacity-held l number w.limit w.limit_is).0 in
-      let early : number ≤ last = w.least last c known fits in
+  -- The first version of the class that holds its bits is the choice.
+  pub class_choice : (limit number d : ℕ) → last ≤ limit → before < number → number ≤ last → 1 ≤ number → capacity (normal number) l ≡ Some d →
+      front + total_bits (normal last) plan ≤ d →
+      ((n e : ℕ) → before < n → n < number → capacity (normal n) l ≡ Some e → e < front + total_bits (normal last) plan) →
+      IsChoice (normal_from least) front message l (limit - least) (number - least) plan
+  class_choice limit number d h late early some known held others =
       let planned = chosen_is_plan message (normal last) plan chosen in
       let rise = total_bits-rise number last some early plan in
-      let late : before < number = elim (cases_lt before number) [
-        | inl k ↦ k
-        | inr k ↦ absurd (too_long number k plan (fits_normal front number w.limit message l plan planned w.limit_is (omega arith)))
-      ] in
       let here = chosen_same (parsed message) plan last number (omega arith) some (same_class number last (class number late early)) chosen in
+      let same : least + (number - least) ≡ number = omega arith in
       record {
-        from_one = some;
         up_to = omega arith;
-        chosen = here;
-        fits = fits_normal front number w.limit message l plan planned w.limit_is (omega arith);
-        smallest = λ n k other q. elim (cases_lt before n) [
-          | inl o ↦ (let few = least_in n o (omega arith) other q in let least = w.least n q.limit q.has_level few in absurd (omega arith))
-          | inr o ↦ too_long n o other q
+        chosen = subst (λ (n : ℕ). IsChosenPlan (parsed message) (normal n) plan) (sym same) here;
+        fits = subst (λ (n : ℕ). Fits front message (normal n) l plan) (sym same) (fits_normal front number d message l plan planned known (omega arith));
+        smallest = λ n k other q. elim (cases_lt before (least + n)) [
+          | inl o ↦ (let few = least_in (least + n) o (omega arith) other q in
+              let none = others (least + n) q.limit o (omega arith) q.has_level in absurd (omega arith))
+          | inr o ↦ too_long (least + n) (omega arith) o other q
         ];
-        fewest = chosen_least front message (normal number) plan here;
+        fewest = subst (λ (n : ℕ). IsLeastBits front message (normal n) (front + total_bits (normal n) plan)) (sym same)
+            (chosen_least front message (normal number) plan here);
       }
 
 -- ---- Version 40
@@ -192,7 +193,6 @@ micro_next message l number w unfit n h = elim (cases_eq n (number + 1)) [ inl e
 pub micro_choice : (message : List ℕ) (l : EcLevel) (number : ℕ) (plan : List Segment) → number < 4 → FitsNone micro 0 message l number →
     IsChosenPlan (parsed message) (micro (number + 1)) plan → Fits 0 message (micro (number + 1)) l plan → IsChoice micro 0 message l 4 (number + 1) plan
 micro_choice message l number plan h none chosen fits = record {
-  from_one = omega arith;
   up_to = omega arith;
   chosen = chosen;
   fits = fits;

@@ -2,9 +2,10 @@
 use Rattle.qrcode_bits.proofs.Prelude.{◌≡◌, ℕ, zero, suc, ℤ, ◌+◌, ◌-◌, ◌*◌, ◌^◌, ◌<◌, ◌≤◌, List, [], ◌∷◌, length, ap, subst, arith, inl, inr}
 use Rattle.qrcode_bits.proofs.Prelude.{Result, Ok, Err, All, Option, nat_abs, MatchOption, cases_lt, Version, EcLevel, Mode, QrError, DataTooLong, OutOfMemory}
 use Rattle.qrcode_bits.proofs.Prelude.{normal_blocks, capacity, HasMode, indicator, indicator_width, count_width, ◌%◌, one_shl, AreTexts, HasLinearCosts}
-use Rattle.qrcode_bits.proofs.Prelude.{IsChosenPlan, total_bits, IsMergePlan, Fits, FitsNot, FitsNone, normal, IsLeastHolding, IsMinVersion, IsClass, Header}
-use Rattle.qrcode_bits.proofs.Prelude.{Front, front_bits, parsed_bytes, IsChoice}
-use Rattle.qrcode_bits.specs.Push.{IsFrontRefused}
+use Rattle.qrcode_bits.proofs.Prelude.{IsChosenPlan, total_bits, IsMergePlan, Fits, FitsNot, FitsNone, normal, IsLeastHolding, IsClass, Header}
+use Rattle.qrcode_bits.proofs.Prelude.{Front, front_bits, parsed_bytes, IsChoice, max, sym, ◌∙◌, ◌⊎◌}
+use Rattle.qrcode_bits.specs.Plans.{normal_from, IsMinVersionFrom}
+use Rattle.qrcode_bits.specs.Push.{IsFrontRefused, IsRangeRefused, IsVersionRange}
 use Rattle.qrcode_bits.proofs.Prelude.{Stream, IsPlanStream, IsEncoding, IsUnencodable, IsEncodingRefused, HasHeader, IsPartRefused}
 use Rattle.qrcode_bits.proofs.Prelude.{IsNormalNumber, LiesIn, common_steps, slice_get-get_or, Segment, parsed, Numeric, Normal, Micro, micro, segment_at, ints}
 use Rattle.qrcode_bits.proofs.Prelude.{get_or, rules, drop, drop_all, drop-cons, segment_bits}
@@ -16,7 +17,7 @@ use Rattle.std.specs.Prelude.{Bool, true, IsTrue, ◌↔◌}
 use Rattle.qrcode_bits.proofs.{Adjoining.parsed-linear, Growth.total_bits-rise, Growth.total_bits-same, Upward.All-map, Texts.texts-reach, Texts.texts-plan}
 use Rattle.qrcode_bits.proofs.{Texts.plan_lies}
 use Rattle.qrcode_bits.specs.Plans.{AreCandidates}
-use Rattle.qrcode_bits.proofs.Choices.{chosen_is_plan, chosen_decides, fits_normal, capacity-grows, class_choice}
+use Rattle.qrcode_bits.proofs.Choices.{FitsNoneFrom, chosen_is_plan, chosen_decides, fits_normal, capacity-grows, class_choice}
 
 -- ---- Costs are small
 
@@ -118,11 +119,11 @@ fits_later front n m message l plan h most class w =
     grind (arith, common_steps, total_bits-same, fits_normal)
 
 -- If no plan fits the last version of a class, none fits any version of the class.
-pub class_fits_not : (front : ℕ) (message : List ℕ) (l : EcLevel) (before last : ℕ) → last ≤ 40 → IsClass before last → FitsNone normal front message l before →
-    FitsNot front message (normal last) l → FitsNone normal front message l last
-class_fits_not front message l before last most class none unfit n h plan w = elim (cases_lt before n) [
+pub class_fits_not : (least front : ℕ) (message : List ℕ) (l : EcLevel) (before last : ℕ) → last ≤ 40 → IsClass before last →
+    FitsNoneFrom least front message l before → FitsNot front message (normal last) l → FitsNoneFrom least front message l last
+class_fits_not least front message l before last most class none unfit n from h plan w = elim (cases_lt before n) [
   | inl late ↦ unfit plan (fits_later front n last message l plan h most (class n late h) w)
-  | inr early ↦ none n early plan w
+  | inr early ↦ none n from early plan w
 ]
 
 pub front_not : (message : List ℕ) (l : EcLevel) (last front bits : ℕ) (v : Version) → front ≡ bits → v ≡ normal last → FitsNot front message v l →
@@ -141,47 +142,142 @@ candidates_here before limit xs i h w = grind (arith, drop-cons)
 pub candidates_end : (before limit : ℕ) (xs : List ℕ) (i : ℕ) → length xs ≤ i → AreCandidates before (drop i xs) limit → limit ≤ before
 candidates_end before limit xs i h w = subst (λ (z : List ℕ). AreCandidates before z limit) (drop_all i xs h) w
 
--- What is known before a candidate: none up to the one before it holds a plan.
-abbrev pub IsSearched : ℕ → List ℕ → EcLevel → ℕ → List ℕ → Type 0
-IsSearched front message l limit left = (before : ℕ) × AreCandidates before left limit × FitsNone normal front message l before
+-- What is known before a candidate: none from the least up to the one before it holds a plan.
+pub record IsSearched (least front : ℕ) (message : List ℕ) (l : EcLevel) (limit : ℕ) (left : List ℕ) : Type 0 where
+  pub before : ℕ
+  pub first : least ≤ before + 1
+  pub candidates : AreCandidates before left limit
+  pub none : FitsNoneFrom least front message l before
 
 -- ---- Plans
 
 -- the bits of a plan that were counted
 pub ruleset small_plans = (counted_more, counted_all, part_ordered)
 
+-- the greater of two numbers
+greater : (a b : ℕ) → (a ≤ max a b) × (b ≤ max a b) × ((max a b ≡ a) ⊎ (max a b ≡ b))
+greater a b = grind arith
+
 -- a plan of some class, found by its last version, after a number of bits in front
-module _ (f : Front) (bytes message : List ℕ) (same : message ≡ parsed_bytes f.content bytes) (l : EcLevel) (last front size : ℕ) (plan : List Segment)
+module _ (f : Front) (bytes message : List ℕ) (same : message ≡ parsed_bytes f.content bytes) (l : EcLevel) (least last front size : ℕ) (plan : List Segment)
     (v version : Version) (ahead : front ≡ length (front_bits f)) (is : v ≡ normal last) (chosen : IsChosenPlan (parsed message) v plan)
-    (found : Fits front message v l plan) (counted : size ≡ front + total_bits v plan) (least : IsMinVersion size l version) where
+    (found : Fits front message v l plan) (counted : size ≡ front + total_bits v plan) (smallest : IsMinVersionFrom least size l version) where
   pub front_fits : Fits (length (front_bits f)) message (normal last) l plan
   front_fits = grind arith
 
+  abbrev all_bits : ℕ
+  all_bits = length (front_bits f) + total_bits (normal last) plan
+
   abbrev Least : Type 0
-  Least = (number : ℕ) × (version ≡ normal number) × IsLeastHolding (length (front_bits f) + total_bits (normal last) plan) l number
+  Least = (number : ℕ) × (version ≡ normal (max least number)) × IsLeastHolding all_bits l number
 
   least_version : Least
   least_version = grind (arith, front_fits)
 
-  -- The chosen plan of the last version of a class fits the least version that holds its bits and
-  -- those of the front,
-  pub class_fits : Fits (length (front_bits f)) message version l plan
-  class_fits = search (arith, rules, capacity-held, fits_normal, front_fits, least_version, total_bits-rise)
+  module _ (from : 1 ≤ least) (most : last ≤ 40) (before : ℕ) (first : least ≤ before + 1) (after : before < last) (class : IsClass before last)
+      (none : FitsNoneFrom least (length (front_bits f)) message l before) where
+    abbrev held : ℕ
+    held = least_version.0
 
-  -- and is the choice there, if no plan fits a version before the class.
-  pub class_encoding : (before limit : ℕ) → IsClass before last → last ≤ limit → FitsNone normal (length (front_bits f)) message l before →
-      (stream : Stream) → IsPlanStream f bytes version l plan stream → IsEncoding normal f bytes l limit stream
-  class_encoding before limit class within none stream s =
-      let fits = front_fits in
-      let m = least_version in
-      record {
-        number = m.0;
-        plan = plan;
-        choice = subst (λ (z : List ℕ). IsChoice normal (length (front_bits f)) z l limit m.0 plan) same
-            (class_choice (length (front_bits f)) message l before last plan fits.limit class none
-            (subst (λ (u : Version). IsChosenPlan (parsed message) u plan) is chosen) fits.has_level limit m.0 within fits.within m.2);
-        stream_is = subst (λ (w : Version). IsPlanStream f bytes w l plan stream) m.1 s;
-      }
+    abbrev number : ℕ
+    number = max least held
+
+    planned : IsMergePlan (parsed message) plan
+    planned = chosen_is_plan message v plan chosen
+
+    early : number ≤ last
+    early = let h = least_version.2.least last front_fits.limit front_fits.has_level front_fits.within in
+        let g = greater least held in omega (arith, h, g.2, first, after)
+
+    -- no version before the class holds the bits
+    late : before < number
+    late = let g = greater least held in elim (cases_lt before held) [
+      | inl k ↦ omega (arith, k, g.1)
+      | inr k ↦ elim (cases_lt before least) [
+        | inl b ↦ omega (arith, b, g.0)
+        | inr b ↦ (let d = last_capacity l before (omega (arith, from, b)) (omega (arith, after, most)) in
+            let grows = capacity-grows l held before least_version.2.limit d.0 k least_version.2.limit_is d.1 in
+            let rise = total_bits-rise before last (omega (arith, from, b)) (omega (arith, after)) plan in
+            absurd (none before b (omega arith) plan
+            (fits_normal (length (front_bits f)) before d.0 message l plan planned d.1 (omega (arith, grows, rise, least_version.2.holds)))))
+      ]
+    ]
+
+    -- its first version that holds them,
+    holding : (d : ℕ) × (capacity (normal number) l ≡ Some d) × (all_bits ≤ d)
+    holding = let g = greater least held in
+        let d = last_capacity l number (omega (arith, from, g.0)) (omega (arith, early, most)) in
+        (d.0, d.1, omega (arith, least_version.2.holds, capacity-grows l held number least_version.2.limit d.0 g.1 least_version.2.limit_is d.1))
+
+    others : (n e : ℕ) → before < n → n < number → capacity (normal n) l ≡ Some e → e < all_bits
+    others n e o k known = elim (cases_lt e all_bits) [
+      | inl few ↦ few
+      | inr enough ↦ (let h = least_version.2.least n e known enough in let g = greater least held in absurd (omega (arith, h, g.2, o, k, first)))
+    ]
+
+    -- The chosen plan of the last version of a class fits the least version that holds its bits and
+    -- those of the front,
+    pub class_fits : Fits (length (front_bits f)) message version l plan
+    class_fits =
+        let rise = total_bits-rise number last (omega (arith, from, (greater least held).0)) early plan in
+        subst (λ (u : Version). Fits (length (front_bits f)) message u l plan) (sym least_version.1)
+        (fits_normal (length (front_bits f)) number holding.0 message l plan planned holding.1 (omega (arith, rise, holding.2)))
+
+    -- and is the choice there, if no plan fits a version before the class.
+    pub class_encoding : (limit : ℕ) → last ≤ limit → (stream : Stream) → IsPlanStream f bytes version l plan stream →
+        IsEncoding (normal_from least) f bytes l (limit - least) stream
+    class_encoding limit within stream s =
+        let up : least + (number - least) ≡ number = omega (arith, (greater least held).0) in
+        record {
+          number = number - least;
+          plan = plan;
+          choice = subst (λ (z : List ℕ). IsChoice (normal_from least) (length (front_bits f)) z l (limit - least) (number - least) plan) same
+              (class_choice (length (front_bits f)) message l least before last plan first class none
+              (subst (λ (u : Version). IsChosenPlan (parsed message) u plan) is chosen) limit number holding.0 within late early
+              (omega (arith, from, (greater least held).0)) holding.1 holding.2 others);
+          stream_is = subst (λ (w : Version). IsPlanStream f bytes w l plan stream)
+              (least_version.1 ∙ ap (λ (n : ℕ). normal n) (sym up)) s;
+        }
+
+-- ---- The versions from 1 on
+
+-- version 0 does not exist
+no_first : (front : ℕ) (message : List ℕ) (l : EcLevel) → FitsNot front message (normal 0) l
+no_first front message l plan w = let held = (capacity-held l 0 w.limit w.has_level).0 in absurd (omega (arith, held))
+
+next_first : (front : ℕ) (message : List ℕ) (l : EcLevel) (n : ℕ) → FitsNot front message (normal_from 1 n) l → FitsNot front message (normal (suc n)) l
+next_first front message l n none = let e : 1 + n ≡ suc n = omega arith in subst (λ (k : ℕ). FitsNot front message (normal k) l) e none
+
+-- What fits none of the versions from 1 on fits none.
+pub none_from_one : (front : ℕ) (message : List ℕ) (l : EcLevel) (limit : ℕ) → 1 ≤ limit → FitsNone (normal_from 1) front message l (limit - 1) →
+    FitsNone normal front message l limit
+none_from_one front message l limit some none zero h = no_first front message l
+none_from_one front message l limit some none (suc n) h = next_first front message l n (none n (omega arith))
+
+pub encoding_from_one : (f : Front) (bytes : List ℕ) (l : EcLevel) (limit : ℕ) (stream : Stream) → 1 ≤ limit →
+    IsEncoding (normal_from 1) f bytes l (limit - 1) stream → IsEncoding normal f bytes l limit stream
+encoding_from_one f bytes l limit stream some e = record {
+  number = 1 + e.number;
+  plan = e.plan;
+  choice = record {
+    up_to = omega (arith, e.choice.up_to, some);
+    chosen = e.choice.chosen;
+    fits = e.choice.fits;
+    smallest = before e.choice.smallest;
+    fewest = e.choice.fewest;
+  };
+  stream_is = e.stream_is;
+} where
+  before : ((n : ℕ) → n < e.number → FitsNot (length (front_bits f)) (parsed_bytes f.content bytes) (normal_from 1 n) l) →
+      (n : ℕ) → n < 1 + e.number → FitsNot (length (front_bits f)) (parsed_bytes f.content bytes) (normal n) l
+  before none zero h = no_first (length (front_bits f)) (parsed_bytes f.content bytes) l
+  before none (suc n) h = next_first (length (front_bits f)) (parsed_bytes f.content bytes) l n (none n (omega arith))
+
+pub refused_from_one : (front : ℕ) (message : List ℕ) (l : EcLevel) (limit : ℕ) (e : QrError) → 1 ≤ limit →
+    IsUnencodable (normal_from 1) front message l (limit - 1) e → IsUnencodable normal front message l limit e
+refused_from_one front message l limit DataTooLong some none = none_from_one front message l limit some none
+refused_from_one front message l limit OutOfMemory some few = few
+refused_from_one front message l limit other some none = none
 
 -- ---- Errors
 
@@ -197,6 +293,16 @@ refused_front f bytes l z n DataTooLong h same r =
     (h, subst (λ (k : ℕ). FitsNone normal (length (front_bits f)) (parsed_bytes f.content bytes) l k) same r)
 refused_front f bytes l z n OutOfMemory h same r = (h, r)
 refused_front f bytes l z n other h same r = absurd r
+
+pub refused_range : (f : Front) (bytes : List ℕ) (l : EcLevel) (y z : ℤ) (n m : ℕ) (e : QrError) → IsVersionRange y z → n ≡ nat_abs y → m ≡ nat_abs z →
+    IsUnencodable (normal_from n) (length (front_bits f)) (parsed_bytes f.content bytes) l (m - n) e → IsRangeRefused f bytes l y z e
+refused_range f bytes l y z n m DataTooLong h from to r = (
+  h,
+  subst (λ (k : ℕ). FitsNone (normal_from (nat_abs y)) (length (front_bits f)) (parsed_bytes f.content bytes) l (k - nat_abs y)) to
+      (subst (λ (k : ℕ). FitsNone (normal_from k) (length (front_bits f)) (parsed_bytes f.content bytes) l (m - k)) from r),
+)
+refused_range f bytes l y z n m OutOfMemory h from to r = (h, r)
+refused_range f bytes l y z n m other h from to r = absurd r
 
 pub refused_part : (header : Header) (message : List ℕ) (l : EcLevel) (z : ℤ) (n front : ℕ) (e : QrError) → IsNormalNumber z →
     HasHeader (normal (nat_abs z)) (Some header) → n ≡ nat_abs z → front ≡ 20 →

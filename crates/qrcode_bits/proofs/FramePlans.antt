@@ -209,7 +209,7 @@ no_row l i c past h =
     let e = rw none at h in cc
 
 -- there are 40 versions
-up_to_last : (l : EcLevel) (n c : ℕ) → capacity (normal n) l ≡ Some c → n ≤ 40
+pub up_to_last : (l : EcLevel) (n c : ℕ) → capacity (normal n) l ≡ Some c → n ≤ 40
 up_to_last l zero c h = omega arith
 up_to_last l (suc i) c h = elim (cases_lt i 40) [
   | inl below ↦ omega arith

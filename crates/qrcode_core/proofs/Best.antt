@@ -1,6 +1,6 @@
 -- What is encoded and drawn is the best symbol, or holds the bits that a caller pushed; and its
 -- grid is far from others.
-use Rattle.qrcode_core.proofs.Prelude.{◌<◌, ◌≤◌, sym, arith, Bool, List, length, length-append, Color, EcLevel, Version, MaskPattern, AreBytes, AreBlocksApart}
+use Rattle.qrcode_core.proofs.Prelude.{◌-◌, ◌<◌, ◌≤◌, sym, arith, Bool, List, length, length-append, Color, EcLevel, Version, MaskPattern, AreBytes, AreBlocksApart}
 use Rattle.qrcode_core.proofs.Prelude.{codeword_block, block_sizes, Reading, Carries, Reads, ◌≡◌, append_cancel_right, missing_bits, zero_bits, AreApart}
 use Rattle.qrcode_core.proofs.Prelude.{AreDataOf, Elements, Front, InvalidResourceLimits, Text, front_bits, front_of, no_front, parsed_bytes, pieces_of, pos, subst}
 use Rattle.qrcode_core.proofs.Prelude.{HaveDistance, ℕ, ◌+◌, refl, IsChoice, total_bits, DrawnSymbol, TellsReading, IsEncoded}
@@ -13,6 +13,7 @@ use Rattle.std.{proofs.lemmas.List.get_or-replicate, proofs.lemmas.List.Elements
 use Rattle.qrcode_grid.proofs.Distance.{AreBytes-block_in, length-block_in, distance-sound, AreApart-from_blocks}
 use Rattle.qrcode_grid.proofs.WholeSymbols.{IsUsable-of_symbol}
 use Rattle.qrcode_core.proofs.NoneBetter.{none_better}
+use Rattle.qrcode_bits.specs.Plans.{normal_from}
 use Rattle.qrcode_bits.specs.Push.{IsEncoding, IsUnencodable, IsFrontRefused, EndsAtLevel}
 use Rattle.qrcode_core.specs.Headline.{IsTooLongAfter, IsTextRefusal, IsElementsRefusal}
 use Rattle.qrcode_bits.{proofs.Reading.frame_one_reading, specs.declared.optimize.Segment.Segment, proofs.Choices.fits_last}
@@ -161,6 +162,16 @@ encoded_short {front = front} {bytes = bytes} {level = level} limit h are encodi
     let size = length-parsed front.content bytes in
     let none = λ (long : 7089 < length message).
     long_message _ message level limit h (parsed-bytes front.content bytes are) long _ encoding.choice.up_to _ encoding.choice.fits in
+    omega (arith, none, size)
+
+pub range_short : {front : Front} {bytes : List ℕ} {level : EcLevel} {stream : Stream} (least limit : ℕ) →
+    least ≤ limit → limit ≤ 40 → All (λ c. c < 256) bytes → IsEncoding (normal_from least) front bytes level (limit - least) stream → length bytes ≤ 7089
+range_short {front = front} {bytes = bytes} {level = level} least limit order h are encoding =
+    let message = parsed_bytes front.content bytes in
+    let size = length-parsed front.content bytes in
+    let none = λ (long : 7089 < length message).
+    long_message _ message level limit h (parsed-bytes front.content bytes are) long (least + encoding.number)
+    (omega (arith, encoding.choice.up_to, order)) _ encoding.choice.fits in
     omega (arith, none, size)
 
 pub encoded_micro_short : {bytes : List ℕ} {level : EcLevel} {stream : Stream} → All (λ c. c < 256) bytes → IsEncoding micro no_front bytes level 4 stream →

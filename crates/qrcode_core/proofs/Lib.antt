@@ -3,6 +3,7 @@ pub mod Codewords
 pub mod OneReading
 pub mod Printed
 pub mod Best
+pub mod Strongest
 pub mod Sequences
 mod Limited
 mod RowCounts

@@ -7,6 +7,7 @@ pub use Rattle.qrcode_bits.specs.Push
 pub mod Grids
 pub mod Views
 pub mod Limits
+pub mod Options
 pub mod Plugins
 pub mod LentModules
 pub mod Registries

@@ -19,11 +19,13 @@ pub use qrcode_grid::{canvas, ec};
 
 pub mod laws;
 pub mod limits;
+pub mod options;
 pub mod plugin;
 pub mod symbol;
 pub mod traits;
 
 pub use limits::{DEFAULT_MAX_DATA_LENGTH, DEFAULT_MAX_RENDER_SIZE, ResourceLimits};
+pub use options::SymbolOptions;
 pub use plugin::{
     DynEncoder, DynRenderer, EncodeConfig, EncodedOutput, ModuleGrid, Names, PluginError,
     PluginRegistry, PostProcessor, QrPlugin, RenderConfig, RenderOutput,

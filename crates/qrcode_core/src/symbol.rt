@@ -16,6 +16,7 @@ ghost use Rattle.qrcode_core.specs.Headline.{IsBestSymbol, IsBestMicroSymbol, Is
 ghost use Rattle.qrcode_core.specs.Headline.{IsTooLongForMicro, IsRefusal};
 ghost use Rattle.qrcode_bits.specs.Push.{IsMicroRefused};
 
+mod asked;
 mod owned;
 mod sequence;
 

@@ -1,6 +1,7 @@
 //! Symbols of texts and of GS1 elements, read back.
 use crate::grids::read;
-use plain_reader::Seen;
+use plain_reader::{Level, Seen};
+use qrcode_core::options::SymbolOptions;
 use qrcode_core::symbol::Symbol;
 use qrcode_core::types::{EcLevel, QrError, QrResult};
 use std::alloc::Global;
@@ -104,4 +105,53 @@ fn reads_a_text_in_three_symbols_back(rt: HostRuntime) {
         assert!(rt; bytes.extend_from_slice(&seen.bytes).is_ok());
     }
     assert_eq!(rt; bytes.as_slice(), text.as_bytes());
+}
+
+/// `hello` takes 52 bits in version 1, and `HELLO WORLD` 74, of which the levels L to H hold 152, 128,
+/// 104 and 72 (ISO/IEC 18004:2006, table of data capacities). In version 5 at level H are 368.
+static OPTIONS: [(&[u8], i16, bool, usize, Level); 4] = [
+    (b"hello", 1, false, 1, Level::L),
+    (b"hello", 1, true, 1, Level::H),
+    (b"HELLO WORLD", 1, true, 1, Level::Q),
+    (b"HELLO WORLD", 5, true, 5, Level::H),
+];
+
+#[test]
+fn options_choose_version_and_level(rt: HostRuntime) {
+    for (bytes, least, strongest, number, level) in OPTIONS {
+        let mut options = SymbolOptions::new(EcLevel::L).with_min_version(least);
+        if strongest {
+            options = options.with_strongest();
+        }
+        let symbol = Symbol::bytes_with(rt.alloc(), bytes, &options);
+        let seen = seen(&rt, rt.alloc(), symbol);
+        assert!(rt; seen.shape.number == number && seen.level == level);
+        assert_eq!(rt; seen.bytes.as_slice(), bytes);
+    }
+}
+
+#[test]
+fn options_for_texts_and_elements(rt: HostRuntime) {
+    let options = SymbolOptions::new(EcLevel::M).with_min_version(3);
+    let text = Symbol::text_with(rt.alloc(), "Привет", &options);
+    let seen_text = seen(&rt, rt.alloc(), text);
+    assert!(rt; seen_text.shape.number == 3 && seen_text.designator == Some(26));
+    let elements = Symbol::elements_with(rt.alloc(), b"10ABC\x1d2112", &options);
+    let seen_elements = seen(&rt, rt.alloc(), elements);
+    assert!(rt; seen_elements.shape.number == 3 && seen_elements.has_elements);
+}
+
+/// Versions that are no range are rejected before the bytes are looked at.
+#[test]
+fn options_are_checked_first(rt: HostRuntime) {
+    for (least, greatest) in [(0, 40), (1, 41), (3, 2)] {
+        let options = SymbolOptions::new(EcLevel::M).with_min_version(least);
+        let options = options.with_max_version(greatest);
+        assert!(rt; options.validate().is_err());
+        let refused = Symbol::elements_with(rt.alloc(), b" ", &options).err();
+        assert!(rt; refused == Some(QrError::InvalidResourceLimits));
+    }
+    let options = SymbolOptions::new(EcLevel::H).with_max_version(1);
+    let refused = Symbol::text_with(rt.alloc(), "12345678901234567890", &options).err();
+    assert!(rt; refused == Some(QrError::DataTooLong));
 }

@@ -14,18 +14,20 @@
 //! tries them, `chosen_plan` decides whether the plan fits, and `encode_plan` pushes header, plan
 //! and terminator.
 
-ghost use Rattle.std.specs.Prelude.{◌≡◌, ℕ, ◌+◌, ◌≤◌, length, nat_abs, Some, None, OnOk, IfOk, IfErr, IfSome, IfNone};
+ghost use Rattle.std.specs.Prelude.{◌≡◌, ℕ, ◌+◌, ◌-◌, ◌≤◌, length, nat_abs, Some, None, OnOk, IfOk, IfErr, IfSome, IfNone};
 ghost use Rattle.std.specs.Prelude.{All, IsTrue, ◌↔◌};
 ghost use Rattle.qrcode_base.specs.declared.types.Mode.{Mode};
 ghost use Rattle.qrcode_base.specs.Modes.{HasMode, indicator_width, count_width};
 ghost use Rattle.qrcode_base.specs.Symbols.{HasMicroNumber};
 ghost use Rattle.qrcode_bits.specs.Parsing.{parsed};
-ghost use Rattle.qrcode_bits.specs.Plans.{IsChosenPlan, Fits, FitsNot, FitsNone, normal, micro, IsMinVersion};
+ghost use Rattle.qrcode_bits.specs.Plans.{IsChosenPlan, Fits, FitsNot, FitsNone, normal, normal_from, micro};
+ghost use Rattle.qrcode_bits.specs.Plans.{IsMinVersion, IsMinVersionFrom};
 ghost use Rattle.qrcode_bits.specs.Plans.{total_bits, AreCandidates};
 ghost use Rattle.qrcode_bits.specs.Stream.{no_modes};
 ghost use Rattle.qrcode_bits.specs.Push.{IsPlanStream, IsEncoding, IsUnencodable, IsEncodingRefused};
 ghost use Rattle.qrcode_base.specs.Symbols.{IsNormalNumber};
 ghost use Rattle.qrcode_bits.specs.Push.{IsMicroRefused, IsPartRefused, IsFrontRefused};
+ghost use Rattle.qrcode_bits.specs.Push.{IsRangeRefused, IsVersionRange};
 ghost use Rattle.qrcode_bits.specs.Frame.{HasFront, front_bits, front_of, no_front, header_of};
 ghost use Rattle.qrcode_bits.specs.Contents.{AreDataOf, parsed_bytes, written};
 ghost use Rattle.qrcode_bits.specs.declared.bits.front.Content.TheVariants.{Bytes};
@@ -167,16 +169,29 @@ pub fn find_min_version(length: usize, level: EcLevel) -> Version
     Version::Normal(40)
 }
 
-/// Returns the numbers of the candidate versions up to a limit: the last version of each class.
-fn candidates(limit: usize) -> ArrayVec<usize, 3>
-    requires { 1 ≤ limit }
-    ensures { AreCandidates 0 result.items limit }
+/// Returns the version that `find_min_version` returns, or the least one if that is less.
+fn find_version_from(least: usize, length: usize, level: EcLevel) -> Version
+    requires { least ≤ 40 }
+    ensures { IsMinVersionFrom least length level result }
+{
+    match find_min_version(length, level) {
+        Version::Normal(number) if number < least as i16 => Version::Normal(least as i16),
+        version => version,
+    }
+}
+
+/// Returns the numbers of the candidate versions from a least one up to a limit: the last version of
+/// each class.
+fn candidates(least: usize, limit: usize) -> ArrayVec<usize, 3>
+    requires first { 1 ≤ least }
+    requires last { least ≤ limit }
+    ensures { AreCandidates (least - 1) result.items limit }
 {
     let mut candidates = ArrayVec::new();
-    if limit > 9 {
+    if least <= 9 && limit > 9 {
         candidates.push(9);
     }
-    if limit > 26 {
+    if least <= 26 && limit > 26 {
         candidates.push(26);
     }
     candidates.push(limit);
@@ -209,6 +224,44 @@ pub fn encode_front(
     encode_message(alloc, front, bytes, level, max_version as usize)
 }
 
+/// Returns the bits of data of any content, as `encode_front` does, in the smallest version from
+/// `min_version` to `max_version` in which some plan fits.
+///
+/// Fails with `InvalidResourceLimits` if one of them is outside 1 to 40 or the least is greater
+/// than the greatest, which is checked first; then with `DataTooLong` if no plan fits any of the
+/// versions, and with `OutOfMemory` if an allocation fails.
+pub fn encode_within(
+    alloc: Global,
+    front: &Front,
+    bytes: &[u8],
+    level: EcLevel,
+    min_version: i16,
+    max_version: i16,
+) -> QrResult<Bits>
+    requires front { HasFront (normal 1) front.now }
+    requires suited { AreDataOf front.now.content bytes.now }
+    ensures ok { IfOk result (λ bits. IsEncoding (normal_from (nat_abs min_version)) front.now
+        bytes.now level (nat_abs max_version - nat_abs min_version) bits) }
+    ensures limit { OnOk result (IsVersionRange min_version max_version) }
+    ensures err { IfErr result
+        (IsRangeRefused front.now bytes.now level min_version max_version) }
+{
+    if !is_normal_number(min_version)
+        || !is_normal_number(max_version)
+        || min_version > max_version
+    {
+        return Err(QrError::InvalidResourceLimits);
+    }
+    encode_from(
+        alloc,
+        front,
+        bytes,
+        level,
+        min_version as usize,
+        max_version as usize,
+    )
+}
+
 /// Returns the bits of the front and the data in the smallest Normal version whose number is at
 /// most `limit`.
 fn encode_message(
@@ -226,42 +279,68 @@ fn encode_message(
     ensures err { IfErr result (λ e. IsUnencodable normal (length (front_bits front.now))
         (parsed_bytes front.now.content bytes.now) level limit e) }
 {
+    encode_from(alloc, front, bytes, level, 1, limit)
+}
+
+/// Returns the bits of the front and the data in the smallest Normal version whose number is at
+/// least `least` and at most `limit`.
+fn encode_from(
+    alloc: Global,
+    front: &Front,
+    bytes: &[u8],
+    level: EcLevel,
+    least: usize,
+    limit: usize,
+) -> QrResult<Bits>
+    requires front { HasFront (normal limit) front.now }
+    requires suited { AreDataOf front.now.content bytes.now }
+    requires from_one { 1 ≤ least }
+    requires in_order { least ≤ limit }
+    requires to_forty { limit ≤ 40 }
+    ensures ok { IfOk result (λ bits.
+        IsEncoding (normal_from least) front.now bytes.now level (limit - least) bits) }
+    ensures err { IfErr result (λ e. IsUnencodable (normal_from least) (length (front_bits front.now))
+        (parsed_bytes front.now.content bytes.now) level (limit - least) e) }
+{
     if bytes.len() > LONGEST_DATA {
         return Err(QrError::DataTooLong);
     }
     if front.content() == Content::Bytes {
-        return encode_up_to(alloc, front, bytes, bytes, level, limit);
+        return encode_up_to(alloc, front, bytes, bytes, level, least, limit);
     }
     let parsed = parsed_bytes(alloc, front.content(), bytes)?;
-    encode_up_to(alloc, front, bytes, parsed.as_slice(), level, limit)
+    encode_up_to(alloc, front, bytes, parsed.as_slice(), level, least, limit)
 }
 
-/// Returns what `encode_message` does, for data that are parsed as `parsed`.
+/// Returns what `encode_from` does, for data that are parsed as `parsed`.
 fn encode_up_to(
     alloc: Global,
     front: &Front,
     bytes: &[u8],
     parsed: &[u8],
     level: EcLevel,
+    least: usize,
     limit: usize,
 ) -> QrResult<Bits>
     requires front { HasFront (normal limit) front.now }
     requires suited { AreDataOf front.now.content bytes.now }
     requires parsed { parsed.now ≡ parsed_bytes front.now.content bytes.now }
     requires short { length parsed.now ≤ LONGEST_DATA }
-    requires from_one { 1 ≤ limit }
+    requires from_one { 1 ≤ least }
+    requires in_order { least ≤ limit }
     requires to_forty { limit ≤ 40 }
-    ensures ok { IfOk result (λ bits. IsEncoding normal front.now bytes.now level limit bits) }
-    ensures err { IfErr result (λ e.
-        IsUnencodable normal (length (front_bits front.now)) parsed.now level limit e) }
+    ensures ok { IfOk result (λ bits.
+        IsEncoding (normal_from least) front.now bytes.now level (limit - least) bits) }
+    ensures err { IfErr result (λ e. IsUnencodable (normal_from least)
+        (length (front_bits front.now)) parsed.now level (limit - least) e) }
 {
     let segments = segments_from(alloc, parsed, 0)?;
     let ahead = front.size();
-    let candidates = candidates(limit);
+    let candidates = candidates(least, limit);
     for last in candidates.as_slice() {
         let version = Version::Normal(*last as i16);
         if let Some((plan, size)) = chosen_plan(alloc, ahead, parsed, &segments, version, level)? {
-            let smallest = find_min_version(size, level);
+            let smallest = find_version_from(least, size, level);
             return encode_plan(alloc, front, bytes, parsed, smallest, level, &plan);
         }
     }

@@ -1,21 +1,13 @@
--- Data are parsed as their content wants it; more than 7089 bytes fit no version.
-use Rattle.qrcode_bits.proofs.Prelude.{List, ℕ, subst, length, arith, front_bits, parsed_bytes, normal, IsUnencodable, IfErr-weaker, common_steps}
-use Rattle.qrcode_bits.proofs.{Pairs.bytes_valid, Lengths.long_message, Contents.length-parsed, Contents.parsed-bytes, Contents.map-parsed, Contents.parsed-alone}
+-- The versions from 1 on are all there are.
+use Rattle.qrcode_bits.proofs.Prelude.{IfErr-weaker}
+use Rattle.std.proofs.lemmas.Result.{IfOk-weaker}
+use Rattle.qrcode_bits.proofs.Classes.{encoding_from_one, refused_from_one}
 use Rattle.qrcode_bits.proofs.bits.encode.encode_message.Goals as goal
 
-pub returns-then-bytes-gt-LONGEST_DATA-clause-err : goal.returns-then-bytes-gt-LONGEST_DATA-clause-err
-returns-then-bytes-gt-LONGEST_DATA-clause-err c =
-    let content = c.args.front.now.content in
-    let are = bytes_valid c.args.bytes.now (λ i. omega (arith, c.type_inv.bytes i)) in
-    long_message (length (front_bits c.args.front.now)) (parsed_bytes content c.args.bytes.now) c.args.level c.args.limit c.requires.to_forty
-    (parsed-bytes content c.args.bytes.now are) (omega (arith, length-parsed content c.args.bytes.now, c.if-bytes-gt-LONGEST_DATA.true))
-
-pub returns-then-eq-clause-err : goal.returns-then-eq-clause-err
-returns-then-eq-clause-err c =
-    IfErr-weaker c.encode_up_to.result _ _ (λ e. subst (λ (z : List ℕ). IsUnencodable normal (length (front_bits c.args.front.now)) z c.args.level c.args.limit e)
-    (parsed-alone c.args.front.now.content c.args.bytes.now (grind (arith, common_steps)))) c.encode_up_to.ensures.err
+pub returns-clause-ok : goal.returns-clause-ok
+returns-clause-ok c =
+    IfOk-weaker c.encode_from.result _ _ (λ bits e. encoding_from_one c.args.front.now c.args.bytes.now c.args.level c.args.limit bits c.requires.from_one e)
+    c.encode_from.ensures.ok
 
 pub returns-clause-err : goal.returns-clause-err
-returns-clause-err c =
-    IfErr-weaker c.encode_up_to-2.result _ _ (λ e. subst (λ (z : List ℕ). IsUnencodable normal (length (front_bits c.args.front.now)) z c.args.level c.args.limit e)
-    (grind (arith, common_steps, map-parsed))) c.encode_up_to-2.ensures.err
+returns-clause-err c = IfErr-weaker c.encode_from.result _ _ (λ e r. refused_from_one _ _ c.args.level c.args.limit e c.requires.from_one r) c.encode_from.ensures.err
