@@ -8,7 +8,6 @@ use qrcode_core::traits::{ModuleSource, QrSymbol};
 use qrcode_core::types::{Color, EcLevel, QrError, QrResult, Version};
 use std::alloc::Global;
 use std::process::Abort;
-use texts::gs1_symbol;
 
 /// The rows of the symbol of `12345` in M1, dark as one. ISO/IEC 18004:2006 has no such example;
 /// the original crate draws this symbol.
@@ -223,18 +222,4 @@ fn refuses(rt: HostRuntime) {
         ec_level: EcLevel::H,
     };
     assert!(rt; answer.err() == Some(lacking));
-}
-
-/// In these symbols readers take a `%` for the byte 1D (hex). The first `%` is rejected before the
-/// number of bytes is checked.
-#[test]
-fn gs1_symbols_with_a_percent_sign(rt: HostRuntime) {
-    let mut many = [b'7'; 7090];
-    many[7089] = b'%';
-    let rows: [(&[u8], usize); 3] = [(b"10AB%12%", 4), (b"%", 0), (&many, 7089)];
-    for (elements, position) in rows {
-        let refused = gs1_symbol(rt.alloc(), elements, EcLevel::M).err();
-        let byte = b'%';
-        assert!(rt; refused == Some(QrError::InvalidCharacter { position, byte }));
-    }
 }

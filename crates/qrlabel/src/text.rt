@@ -7,11 +7,10 @@ use qrcode_base::symbols::LONGEST_DATA;
 use qrcode_core::symbol::Symbol;
 use qrcode_core::types::{EcLevel, QrError, QrResult};
 use std::alloc::Global;
-use texts::utf8_symbol;
 
 /// Returns the symbol of a text in UTF-8, with the ECI designator of UTF-8. It fails with
 /// `DataTooLong` for more than 7089 bytes, then with `InvalidCharacter` at the first byte that is
-/// not UTF-8, and then as `utf8_symbol` does.
+/// not UTF-8, and then as `Symbol::text` does.
 pub fn text_symbol(alloc: Global, bytes: &[u8], level: EcLevel) -> QrResult<Symbol>
     ensures symbol { IfOk result (IsUtf8Symbol level bytes.now) }
     ensures limit { OnOk result (length bytes.now ≤ LONGEST_DATA) }
@@ -21,7 +20,7 @@ pub fn text_symbol(alloc: Global, bytes: &[u8], level: EcLevel) -> QrResult<Symb
         return Err(QrError::DataTooLong);
     }
     match str::from_utf8(bytes) {
-        Ok(text) => utf8_symbol(alloc, text, level),
+        Ok(text) => Symbol::text(alloc, text, level),
         Err(error) => {
             let position = error.valid_up_to();
             let byte = bytes[position];

@@ -2,6 +2,7 @@
 //! the pages.
 #![tactic(auto)]
 
+pub mod contents;
 pub mod grids;
 pub mod labels;
 pub mod lines;
