@@ -232,8 +232,49 @@ fn is_ended(cursor: &Cursor, shape: Shape) -> bool {
     true
 }
 
-/// Reads what precedes the data (a header, a designator of one byte, FNC1) and the segments, and
-/// checks that terminator and padding follow.
+/// What precedes the data: a header, a designator of one byte, FNC1.
+#[derive(Drop)]
+struct Front {
+    header: Option<(u8, u8, u8)>,
+    designator: Option<u8>,
+    has_elements: bool,
+}
+
+/// Reads what precedes the data, which in Micro symbols is nothing.
+fn read_front(cursor: &mut Cursor, shape: Shape) -> Option<Front> {
+    let mut front = Front {
+        header: None,
+        designator: None,
+        has_elements: false,
+    };
+    if shape.micro {
+        return Some(front);
+    }
+    if cursor.look(4) == Some(3) {
+        cursor.take(4)?;
+        let (position, total, parity) = (cursor.take(4)?, cursor.take(4)?, cursor.take(8)?);
+        front.header = Some((
+            (position & 15) as u8 + 1,
+            (total & 15) as u8 + 1,
+            (parity & 255) as u8,
+        ));
+    }
+    if cursor.look(4) == Some(7) {
+        cursor.take(4)?;
+        let number = cursor.take(8)?;
+        if number > 127 {
+            return None;
+        }
+        front.designator = Some((number & 127) as u8);
+    }
+    if cursor.look(4) == Some(5) {
+        cursor.take(4)?;
+        front.has_elements = true;
+    }
+    Some(front)
+}
+
+/// Reads what precedes the data and the segments, and checks that terminator and padding follow.
 pub fn read(alloc: Global, codewords: &[u8], shape: Shape) -> Option<Text> {
     let missing = if shape.micro && shape.number % 2 == 1 {
         4
@@ -246,44 +287,22 @@ pub fn read(alloc: Global, codewords: &[u8], shape: Shape) -> Option<Text> {
         end,
         at: 0,
     };
-    let mut header = None;
-    if !shape.micro && cursor.look(4) == Some(3) {
-        cursor.take(4)?;
-        let (position, total, parity) = (cursor.take(4)?, cursor.take(4)?, cursor.take(8)?);
-        header = Some((
-            (position & 15) as u8 + 1,
-            (total & 15) as u8 + 1,
-            (parity & 255) as u8,
-        ));
-    }
-    let mut designator = None;
-    if !shape.micro && cursor.look(4) == Some(7) {
-        cursor.take(4)?;
-        let number = cursor.take(8)?;
-        if number > 127 {
-            return None;
-        }
-        designator = Some((number & 127) as u8);
-    }
-    let has_elements = !shape.micro && cursor.look(4) == Some(5);
-    if has_elements {
-        cursor.take(4)?;
-    }
+    let front = read_front(&mut cursor, shape)?;
     let mut bytes = Vec::new(alloc);
     for _ in 0..end {
         let width = terminator(shape);
         if cursor.left() < width || cursor.look(width) == Some(0) {
             break;
         }
-        read_segment(alloc, &mut cursor, shape, has_elements, &mut bytes)?;
+        read_segment(alloc, &mut cursor, shape, front.has_elements, &mut bytes)?;
     }
     if !is_ended(&cursor, shape) {
         return None;
     }
     Some(Text {
-        header,
-        designator,
-        has_elements,
+        header: front.header,
+        designator: front.designator,
+        has_elements: front.has_elements,
         payload: cursor.at,
         bytes,
     })

@@ -2,7 +2,7 @@
 use Rattle.qrcode_bits.proofs.Prelude.{◌≡◌, ◌≢◌, ℕ, suc, ◌+◌, ◌-◌, ◌<◌, ◌⊎◌, inl, inr, true, false, List, [], ◌∷◌, length, get_or}
 use Rattle.qrcode_bits.proofs.Prelude.{refl, sym, ap, ◌∙◌, subst, arith, map, slice_range, cases_eq, cases_lt}
 use Rattle.qrcode_bits.proofs.Prelude.{All, All-head, All-tail, Contains, alphabet, is_alphanumeric, IsDigit, IsKanjiText, IsValid, is_kanji_pair}
-use Rattle.qrcode_bits.proofs.Prelude.{Mode, Numeric, Alphanumeric, Byte, Kanji, Content, Bytes, Text, Elements, parsed_byte, parsed_bytes, written, AreDataOf, piece_data, common_steps, Piece, map-id}
+use Rattle.qrcode_bits.proofs.Prelude.{Mode, Numeric, Alphanumeric, Byte, Kanji, Content, Bytes, Text, Elements, parsed_byte, parsed_bytes, piece_text, AreDataOf, piece_data, common_steps, Piece, map-id}
 use Rattle.qrcode_bits.specs.Spelling.{piece_of}
 use Rattle.std.proofs.lemmas.List.{length-map, take-map, drop-map}
 use Rattle.std.proofs.lemmas.List.Elements.{All-map}
@@ -112,7 +112,7 @@ plain-no_pairs Text plain s h = no_pairs (parsed_byte Text) text-low s h
 plain-no_pairs Elements plain s h = no_pairs (parsed_byte Elements) elements-low s h
 
 -- The text of a piece is valid in its mode if the parsed bytes are.
-pub written-valid : (c : Content) (m : Mode) (s : List ℕ) → All (λ b. b < 256) s → IsValid m (parsed_bytes c s) → IsValid m (written c m s)
+pub written-valid : (c : Content) (m : Mode) (s : List ℕ) → All (λ b. b < 256) s → IsValid m (parsed_bytes c s) → IsValid m (piece_text c m s)
 written-valid Bytes m s are h = h
 written-valid Text Numeric s are h = subst (All IsDigit) (same-map (parsed_byte Text) IsDigit text-digit s h) h
 written-valid Text Alphanumeric s are h =
@@ -124,7 +124,7 @@ written-valid Elements Alphanumeric s are h = h
 written-valid Elements Byte s are h = are
 written-valid Elements Kanji s are h = subst IsKanjiText (sym (no_pairs (parsed_byte Elements) elements-low s h)) tt
 
-pub length-written : (c : Content) (m : Mode) (s : List ℕ) → length (written c m s) ≡ length s
+pub length-written : (c : Content) (m : Mode) (s : List ℕ) → length (piece_text c m s) ≡ length s
 length-written Bytes m s = refl
 length-written Text m s = refl
 length-written Elements Numeric s = refl
@@ -178,7 +178,7 @@ single-escaped (a ∷ b ∷ rest) valid single =
 
 -- The data of a piece are the bytes of which it was written.
 pub written-read : (c : Content) (m : Mode) (s : List ℕ) (a b : ℕ) → AreDataOf c s → IsValid m (parsed_bytes c (slice_range s a b)) →
-    piece_data c (piece_of m (written c m (slice_range s a b))) ≡ slice_range s a b
+    piece_data c (piece_of m (piece_text c m (slice_range s a b))) ≡ slice_range s a b
 written-read Bytes m s a b suited valid = refl
 written-read Text m s a b suited valid = refl
 written-read Elements Numeric s a b suited valid = refl

@@ -3,7 +3,7 @@
 use Rattle.qrcode_bits.proofs.Prelude.{◌≡◌, ℕ, ◌+◌, ◌<◌, ◌≤◌, List, ◌∷◌, ◌++◌, length, ap, sym, ◌∙◌, subst, arith, length-append, EcLevel, QrError, OutOfMemory}
 use Rattle.qrcode_bits.proofs.Prelude.{Segment, total_bits, Fits, no_modes, Front, HasFront, front_bits, spellings, Stream, Spells, EndsAtLevel, IsLevelRefused}
 use Rattle.qrcode_bits.proofs.Prelude.{with_modes, IsPlanStream, drop, drop-cons, Piece, IsSpellable, All, All-head, All-tail, drop_all, append-nil, segment_at}
-use Rattle.qrcode_bits.proofs.Prelude.{Version, Mode, Content, Bytes, Text, Elements, Numeric, Alphanumeric, Byte, Kanji, AreDataOf, parsed_bytes, pieces_of, written}
+use Rattle.qrcode_bits.proofs.Prelude.{Version, Mode, Content, Bytes, Text, Elements, Numeric, Alphanumeric, Byte, Kanji, AreDataOf, parsed_bytes, pieces_of, piece_text}
 use Rattle.qrcode_bits.proofs.Prelude.{slice_range, refl, ended, Some, capacity}
 use Rattle.qrcode_bits.specs.Spelling.{piece_of}
 use Rattle.qrcode_bits.proofs.{Choices.some_same, PlanFrames.spelled_plan, PlanFrames.plan_frame, Contents.slice-parsed}
@@ -12,10 +12,10 @@ use Rattle.std.proofs.lemmas.Grind.{common_steps}
 -- ---- The piece of a segment
 
 abbrev pub own_piece : Content → List ℕ → Segment → Piece
-own_piece c bytes s = piece_of s.mode (written c s.mode (slice_range bytes s.begin s.end))
+own_piece c bytes s = piece_of s.mode (piece_text c s.mode (slice_range bytes s.begin s.end))
 
 -- it is cut from what is written of all the bytes
-pub slice-written : (c : Content) (m : Mode) (bytes : List ℕ) (a b : ℕ) → slice_range (written c m bytes) a b ≡ written c m (slice_range bytes a b)
+pub slice-written : (c : Content) (m : Mode) (bytes : List ℕ) (a b : ℕ) → slice_range (piece_text c m bytes) a b ≡ piece_text c m (slice_range bytes a b)
 slice-written Bytes m bytes a b = refl
 slice-written Text m bytes a b = refl
 slice-written Elements Numeric bytes a b = refl
@@ -24,10 +24,10 @@ slice-written Elements Byte bytes a b = refl
 slice-written Elements Kanji bytes a b = refl
 
 -- the piece whose text is cut from what is written
-pub own_is : (c d : Content) (bytes text : List ℕ) (s : Segment) → d ≡ c → text ≡ written d s.mode bytes →
+pub own_is : (c d : Content) (bytes text : List ℕ) (s : Segment) → d ≡ c → text ≡ piece_text d s.mode bytes →
     piece_of s.mode (slice_range text s.begin s.end) ≡ own_piece c bytes s
 own_is c d bytes text s e h =
-    let is : text ≡ written c s.mode bytes = h ∙ ap (λ (z : Content). written z s.mode bytes) e in
+    let is : text ≡ piece_text c s.mode bytes = h ∙ ap (λ (z : Content). piece_text z s.mode bytes) e in
     ap (λ (z : List ℕ). piece_of s.mode z) (ap (λ (z : List ℕ). slice_range z s.begin s.end) is ∙ slice-written c s.mode bytes s.begin s.end)
 
 -- the parts of a plan from an index on

@@ -4,7 +4,7 @@ use Rattle.qrcode_bits.proofs.Prelude.{◌≡◌, ◌≢◌, ℕ, ◌+◌, ◌-�
 use Rattle.qrcode_bits.proofs.Prelude.{All, slice_range, All-head, All-tail, All-nil, All-cons, All-take, All-drop, take-length, length-drop, Version, EcLevel}
 use Rattle.qrcode_bits.proofs.Prelude.{HasMode, Kanji, IsValid, indicator_width, count_width, Segment, AreTexts, segment_bits, total_bits, Fits, spelling}
 use Rattle.qrcode_bits.proofs.Prelude.{segment_piece, segment_pieces, Front, HasFront, front_bits, Piece, spellings, ended, IsFrame, IsSpellable, Content, Bytes, Text}
-use Rattle.qrcode_bits.proofs.Prelude.{Elements, AreAllowed, AreDataOf, data_of, parsed_bytes, pieces_of, written, common_steps}
+use Rattle.qrcode_bits.proofs.Prelude.{Elements, AreAllowed, AreDataOf, data_of, parsed_bytes, pieces_of, piece_text, common_steps}
 use Rattle.qrcode_bits.specs.Spelling.{piece_of}
 use Rattle.std.proofs.lemmas.List.{length-take-le}
 use Rattle.qrcode_bits.proofs.{Growth.CountsFit, Growth.fits-counts, Reading.length-spelling, Segments.length-character_bits, Frames.ended_frame}
@@ -71,7 +71,7 @@ module _ (v : Version) (c : Content) (s : List ℕ) (are : All (λ b. b < 256) s
   own_bytes x = slice_range s x.begin x.end
 
   abbrev own_piece : Segment → Piece
-  own_piece x = piece_of x.mode (written c x.mode (own_bytes x))
+  own_piece x = piece_of x.mode (piece_text c x.mode (own_bytes x))
 
   -- what is known of a segment
   abbrev Own : Segment → Type 0

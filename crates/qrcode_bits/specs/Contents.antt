@@ -85,14 +85,14 @@ parsed_bytes content bytes = map (parsed_byte content) bytes
 
 -- The text of a piece in a mode that has these data: in Alphanumeric pieces of elements a separator
 -- is written `%`.
-abbrev pub written : Content → Mode → List ℕ → List ℕ
-written Elements Alphanumeric bytes = map (parsed_byte Elements) bytes
-written content mode bytes = bytes
+abbrev pub piece_text : Content → Mode → List ℕ → List ℕ
+piece_text Elements Alphanumeric bytes = map (parsed_byte Elements) bytes
+piece_text content mode bytes = bytes
 
 -- The pieces of segments of some data.
 abbrev pub pieces_of : Content → List ℕ → List Segment → List Piece
 pieces_of content bytes segments =
-    map (λ s. piece_of s.mode (written content s.mode (slice_range bytes s.begin s.end))) segments
+    map (λ s. piece_of s.mode (piece_text content s.mode (slice_range bytes s.begin s.end))) segments
 
 -- ---- Elements
 

@@ -136,11 +136,11 @@ reading_of version level mask front bytes payload = record {
   payload = payload;
 }
 
--- Where the data have single units (in bytes, no two neighbours are a pair of the Kanji mode; a text
--- may be any; elements have no `%`), no grid is better than one that holds them in version `number`
--- with this payload. Every grid that is read as the same data at the level, after the same front,
--- has the same or a greater version number of this kind, and in the same version at least as many
--- payload bits. The data of that grid may be cut into segments anywhere.
+-- Where the data have single units (in bytes, no two neighbours are a pair of the Kanji mode; a
+-- text may be any; elements have no `%`), no grid is better than one that holds them in version
+-- `number` with this payload. Every grid that is read as the same data at the level, after the same
+-- front, has the same or a greater version number of this kind, and in the same version at least as
+-- many payload bits. The data of that grid may be cut into segments anywhere.
 abbrev pub NoneIsBetter : (ℕ → Version) → Front → List ℕ → EcLevel → ℕ → ℕ → Type 0
 NoneIsBetter kind front bytes level number payload =
     HasSingleUnits front.content bytes → (grid : List Color) (other bits : ℕ) (mask : MaskPattern) →

@@ -43,8 +43,8 @@ NoneStronger front bytes asked most least number =
     FitsNone (normal_from least) (length (front_bits front)) (parsed_bytes front.content bytes) beyond
     (number - least)
 
--- The best symbol at the greatest level above one, up to another, at which the data fit the versions
--- up to a number.
+-- The best symbol at the greatest level above one, up to another, at which the data fit the
+-- versions up to a number.
 pub record IsStronger (front : Front) (bytes : List ℕ) (asked most : EcLevel) (least number : ℕ)
     (symbol : DrawnSymbol) : Type 0 where
   pub level : EcLevel

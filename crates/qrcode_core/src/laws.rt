@@ -46,12 +46,12 @@ pub fn have_one_message()
     ensures { HaveOneMessage }
 {}
 
-/// Where the data have single units, no symbol of them is better than the best one, however they are
-/// cut into segments: no other symbol of the same content has a smaller version of the same kind, or
-/// fewer payload bits in the same version. Bytes have single units where no two neighbours are a
-/// pair of the Kanji mode, every text has, and elements have where there is no `%`. A symbol with
-/// the header of a sequence before the content takes at least 20 bits more. Where the data are too
-/// long, no symbol holds them.
+/// Where the data have single units, no symbol of them is better than the best one, however they
+/// are cut into segments: no other symbol of the same content has a smaller version of the same
+/// kind, or fewer payload bits in the same version. Bytes have single units where no two neighbours
+/// are a pair of the Kanji mode, every text has, and elements have where there is no `%`. A symbol
+/// with the header of a sequence before the content takes at least 20 bits more. Where the data are
+/// too long, no symbol holds them.
 pub fn none_is_better()
     ensures better { (kind : ℕ → Version) (front : Front) (bytes : List ℕ)
         (level : EcLevel) (grid : List Color) (best : IsBest kind front bytes level grid) →
@@ -64,5 +64,6 @@ pub fn none_is_better()
         HasSingleUnits content bytes → IsTooLongAfter (front_of None content) bytes level →
         NoneIsRead normal content bytes level }
     ensures too_long_for_micro { (bytes : List ℕ) (level : EcLevel) →
-        HasSingleUnits Bytes bytes → IsTooLongForMicro bytes level → NoneIsRead micro Bytes bytes level }
+        HasSingleUnits Bytes bytes → IsTooLongForMicro bytes level →
+        NoneIsRead micro Bytes bytes level }
 {}

@@ -67,8 +67,8 @@ impl SymbolOptions {
         self
     }
 
-    /// Returns `Ok` where both versions are 1 to 40, and the least is at most the greatest. Otherwise
-    /// it fails with `InvalidResourceLimits`.
+    /// Returns `Ok` where both versions are 1 to 40, and the least is at most the greatest.
+    /// Otherwise it fails with `InvalidResourceLimits`.
     pub fn validate(self) -> QrResult<()>
         ensures valid { IsOk result ↔ HasVersions self }
         ensures refused { IsOkUnless result InvalidResourceLimits }

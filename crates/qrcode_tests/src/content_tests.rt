@@ -107,8 +107,8 @@ fn reads_a_text_in_three_symbols_back(rt: HostRuntime) {
     assert_eq!(rt; bytes.as_slice(), text.as_bytes());
 }
 
-/// `hello` takes 52 bits in version 1, and `HELLO WORLD` 74, of which the levels L to H hold 152, 128,
-/// 104 and 72 (ISO/IEC 18004:2006, table of data capacities). In version 5 at level H are 368.
+/// `hello` takes 52 bits in version 1, and `HELLO WORLD` 74, of which the levels L to H hold 152,
+/// 128, 104 and 72 (ISO/IEC 18004:2006, table of data capacities). In version 5 at level H are 368.
 static OPTIONS: [(&[u8], i16, bool, usize, Level); 4] = [
     (b"hello", 1, false, 1, Level::L),
     (b"hello", 1, true, 1, Level::H),

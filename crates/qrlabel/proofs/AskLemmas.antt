@@ -56,7 +56,8 @@ module _ (words : Words) (f l : List ℕ) (rest : Words) (words_are : words ≡ 
       pub quiet_said : AsksNumber (fold with_quiet None settings) (default_quiet kind) 0 16 a.quiet
       quiet_said = rw (kind_said, settings_said) at asks.quiet_is
 
--- Where the given texts ask for no number, or what is to be inverted is not text, the words ask for nothing.
+-- Where the given texts ask for no number, or what is to be inverted is not text, the words ask
+-- for nothing.
 module _ (words : Words) (f l : List ℕ) (rest : Words) (words_are : words ≡ f ∷ l ∷ rest) (kind : Kind) (options : Words)
     (rest_is : rest ≡ kind_words kind ++ options)
     (only : (other : Kind) (settings : List Setting) → rest ≡ kind_words other ++ spelled settings → other ≡ kind)

@@ -27,8 +27,8 @@ pub fn carton(alloc: Global, elements: &[u8]) -> QrResult<Symbol>
     Symbol::elements(alloc, elements, EcLevel::Q)
 }
 
-/// Returns the symbol of a text in version 4 or, if it does not fit, a greater one, at level M or the
-/// greatest level that makes it no larger.
+/// Returns the symbol of a text in version 4 or, if it does not fit, a greater one, at level M or
+/// the greatest level that makes it no larger.
 pub fn badge(alloc: Global, text: &str) -> QrResult<Symbol>
     ensures strongest { IfOk result (λ symbol.
         IsStrongest (front_of None Text) text.now EcLevel.M 4 40 symbol.modules) }

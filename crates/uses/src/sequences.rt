@@ -9,8 +9,9 @@ use std::alloc::Global;
 
 /// Returns the modules of two symbols at level M, each with one half of the bytes.
 pub fn halves(alloc: Global, bytes: &[u8]) -> QrResult<Vec<Vec<Color>>>
-    ensures best { IfOk result (λ grids. AreBestSymbols Bytes bytes.now ((length bytes.now / 2) ∷ [])
-        EcLevel.M 40 (map vec_items grids.items)) }
+    ensures best { IfOk result (λ grids.
+        AreBestSymbols Bytes bytes.now ((length bytes.now / 2) ∷ []) EcLevel.M 40
+        (map vec_items grids.items)) }
 {
     let cuts = [bytes.len() / 2];
     symbol_sequence(alloc, bytes, &cuts, EcLevel::M, 40)

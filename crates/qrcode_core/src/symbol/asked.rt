@@ -60,8 +60,8 @@ fn level_below(level: EcLevel) -> Option<EcLevel>
 }
 
 /// Returns the best symbol at the greatest level above that of the options, and at most `level`, at
-/// which the data fit a version of at most `number`; `None` if there is no such level. It fails with
-/// `OutOfMemory`.
+/// which the data fit a version of at most `number`; `None` if there is no such level. It fails
+/// with `OutOfMemory`.
 fn stronger(
     alloc: Global,
     front: &Front,
@@ -125,9 +125,9 @@ fn symbol_as_asked(
 }
 
 impl Symbol {
-    /// Returns the symbol of the bytes that the options ask for: the best one at their level in their
-    /// versions, as `new` says, or with `strongest` the best one at the greatest level at which it
-    /// is no larger.
+    /// Returns the symbol of the bytes that the options ask for: the best one at their level in
+    /// their versions, as `new` says, or with `strongest` the best one at the greatest level at
+    /// which it is no larger.
     ///
     /// # Errors
     ///

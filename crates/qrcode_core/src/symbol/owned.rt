@@ -80,11 +80,11 @@ impl Symbol {
         symbol_of(alloc, bits, level)
     }
 
-    /// Returns the best symbol of a text at a level, after the ECI designator of UTF-8, so that every
-    /// reader reads it in its own script (ISO/IEC 18004:2006, "Extended Channel Interpretation (ECI)
-    /// mode"). It is as `new` says, of all ways to cut the text into segments but those of the Kanji
-    /// mode. No other symbol of the text in UTF-8 is smaller, whatever the text
-    /// (`laws::none_is_better`).
+    /// Returns the best symbol of a text at a level, after the ECI designator of UTF-8, so that
+    /// every reader reads it in its own script (ISO/IEC 18004:2006, "Extended Channel
+    /// Interpretation (ECI) mode"). It is as `new` says, of all ways to cut the text into segments
+    /// but those of the Kanji mode. No other symbol of the text in UTF-8 is smaller, whatever the
+    /// text (`laws::none_is_better`).
     ///
     /// # Errors
     ///
@@ -107,8 +107,8 @@ impl Symbol {
     /// (ISO/IEC 18004:2006, "FNC1 mode"). Elements are identifiers with their values, one after the
     /// other, with the separator 1D (hex) after each whose length is not fixed, but the last; a
     /// reader finds these bytes. The symbol is as `new` says, of all ways to cut the elements into
-    /// segments but those of the Kanji mode. Where they have no `%`, no other symbol of the elements
-    /// is smaller (`laws::none_is_better`).
+    /// segments but those of the Kanji mode. Where they have no `%`, no other symbol of the
+    /// elements is smaller (`laws::none_is_better`).
     ///
     /// # Errors
     ///

@@ -57,13 +57,14 @@ impl Symbol {
         ensures fitting { OnOk result (IsSomePartTooLong Bytes bytes.now cuts.now level
             (nat_abs max_version) → ⊥) }
         ensures limit { OnOk result (IsNormalNumber max_version) }
-        ensures refused { IfErr result (IsSequenceRefusal Bytes bytes.now cuts.now level max_version) }
+        ensures refused { IfErr result
+            (IsSequenceRefusal Bytes bytes.now cuts.now level max_version) }
     {
         symbols_of(alloc, Content::Bytes, bytes, cuts, level, max_version)
     }
 
-    /// Returns the 2 to 16 symbols that carry a text together, as `sequence` does, each with the ECI
-    /// designator of UTF-8 after its header. A cut is at the end of a character (as
+    /// Returns the 2 to 16 symbols that carry a text together, as `sequence` does, each with the
+    /// ECI designator of UTF-8 after its header. A cut is at the end of a character (as
     /// `str::is_char_boundary` says), so that each symbol has whole characters.
     pub fn text_sequence(
         alloc: Global,
@@ -80,7 +81,8 @@ impl Symbol {
         ensures fitting { OnOk result (IsSomePartTooLong Text text.now cuts.now level
             (nat_abs max_version) → ⊥) }
         ensures limit { OnOk result (IsNormalNumber max_version) }
-        ensures refused { IfErr result (IsSequenceRefusal Text text.now cuts.now level max_version) }
+        ensures refused { IfErr result
+            (IsSequenceRefusal Text text.now cuts.now level max_version) }
     {
         symbols_of(
             alloc,
@@ -112,7 +114,8 @@ fn symbols_of(
     ensures fitting { OnOk result (IsSomePartTooLong content bytes.now cuts.now level
         (nat_abs max_version) → ⊥) }
     ensures limit { OnOk result (IsNormalNumber max_version) }
-    ensures refused { IfErr result (IsSequenceRefusal content bytes.now cuts.now level max_version) }
+    ensures refused { IfErr result
+        (IsSequenceRefusal content bytes.now cuts.now level max_version) }
 {
     if !is_normal_number(max_version) {
         return Err(QrError::InvalidResourceLimits);
@@ -163,7 +166,8 @@ pub fn symbol_sequence(
     ensures fitting { OnOk result (IsSomePartTooLong Bytes bytes.now cuts.now level
         (nat_abs max_version) → ⊥) }
     ensures limit { OnOk result (IsNormalNumber max_version) }
-    ensures refused { IfErr result (IsSequenceRefusal Bytes bytes.now cuts.now level max_version) }
+    ensures refused { IfErr result
+        (IsSequenceRefusal Bytes bytes.now cuts.now level max_version) }
 {
     let symbols = Symbol::sequence(alloc, bytes, cuts, level, max_version)?;
     colors_of_all(alloc, symbols)

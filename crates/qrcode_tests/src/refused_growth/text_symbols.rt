@@ -1,5 +1,5 @@
-//! Symbols of texts and of elements. The hash is that of the symbol that the original crate draws for
-//! the same pushes in the smallest version: the designator and one Byte segment.
+//! Symbols of texts and of elements. The hash is that of the symbol that the original crate draws
+//! for the same pushes in the smallest version: the designator and one Byte segment.
 use crate::grids::hash;
 use qrcode_core::symbol::Symbol;
 use qrcode_core::types::{EcLevel, QrError, QrResult};

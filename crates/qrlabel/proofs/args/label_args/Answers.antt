@@ -1,4 +1,5 @@
--- The numbers that are given are out of their bounds, or the picture is not text and can't be inverted.
+-- The numbers that are given are out of their bounds, or the picture is not text and can't
+-- be inverted.
 use Rattle.std.proofs.Common.{map, rules}
 use Rattle.qrlabel.{specs.Words.AskForLabel, proofs.WordLemmas.two_words, proofs.AskLemmas.no_scale, proofs.AskLemmas.no_quiet}
 use Rattle.programs.specs.Outcome.{AskForNone}

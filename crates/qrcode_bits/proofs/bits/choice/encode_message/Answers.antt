@@ -2,7 +2,7 @@
 use Rattle.qrcode_bits.proofs.Prelude.{IfErr-weaker}
 use Rattle.std.proofs.lemmas.Result.{IfOk-weaker}
 use Rattle.qrcode_bits.proofs.Classes.{encoding_from_one, refused_from_one}
-use Rattle.qrcode_bits.proofs.bits.encode.encode_message.Goals as goal
+use Rattle.qrcode_bits.proofs.bits.choice.encode_message.Goals as goal
 
 pub returns-clause-ok : goal.returns-clause-ok
 returns-clause-ok c =

@@ -1,6 +1,6 @@
 -- What was pushed and the parts from here on are the whole plan; each part lies within the data.
 use Rattle.qrcode_bits.proofs.{Prelude.All, Prelude.length, Prelude.LiesIn, Encodings.IsPushedTo}
-use Rattle.qrcode_bits.proofs.bits.encode.encode_plan.Given as goal
+use Rattle.qrcode_bits.proofs.bits.choice.encode_plan.Given as goal
 
 abbrev pub invariant-loop-part : goal.invariant-loop-part
 invariant-loop-part l = record {

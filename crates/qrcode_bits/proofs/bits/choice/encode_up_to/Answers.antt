@@ -2,7 +2,7 @@
 use Rattle.qrcode_bits.proofs.Prelude.{ℕ, ◌+◌, ◌-◌, ◌≤◌, get_or, arith}
 use Rattle.std.proofs.lemmas.Result.{IfOk-weaker}
 use Rattle.qrcode_bits.proofs.Classes.{class_fits_not, class_fits, class_encoding, normal_is, front_not, candidates_here, candidates_end}
-use Rattle.qrcode_bits.proofs.bits.encode.encode_up_to.Goals as goal
+use Rattle.qrcode_bits.proofs.bits.choice.encode_up_to.Goals as goal
 
 pub loop-last-init : goal.loop-last-init
 loop-last-init c = record {

@@ -3,7 +3,7 @@ use Rattle.qrcode_bits.proofs.Prelude.{◌<◌, arith, err_from_is_err_and, comm
 use Rattle.qrcode_bits.proofs.Prelude.{segment_at}
 use Rattle.qrcode_bits.proofs.{Pairs.bytes_valid, Texts.plan_lies, Pushes.spellable_refused, Contents.parsed-bytes}
 use Rattle.qrcode_bits.proofs.Encodings.{part_spellable, pushed_none, pushed_more, plan_end_refused, plan_stream, own_is}
-use Rattle.qrcode_bits.proofs.bits.encode.encode_plan.Goals as goal
+use Rattle.qrcode_bits.proofs.bits.choice.encode_plan.Goals as goal
 
 pub loop-part-init : goal.loop-part-init
 loop-part-init c =
@@ -17,13 +17,13 @@ loop-part-init c =
 pub push_text-requires-clause-valid : goal.push_text-requires-clause-valid
 push_text-requires-clause-valid c =
     let part = segment_at c.args.plan.now c.loop-part.part-index in
-    let own = own_is c.args.front.now.content c.content.result c.args.bytes.now c.written-text.result.now part c.content.ensures c.written-text.ensures in
+    let own = own_is c.args.front.now.content c.content.result c.args.bytes.now c.piece_text-text.result.now part c.content.ensures c.piece_text-text.ensures in
     (subst (λ (p : Piece). IsSpellable c.loop-part.bits.version p) (sym own) (part_spellable _ _ _ _ _ _ c.loop-part.invariant.pushed c.loop-part-test.true)).valid
 
 pub returns-in_err-push_text-clause-memory : goal.returns-in_err-push_text-clause-memory
 returns-in_err-push_text-clause-memory c =
     let part = segment_at c.args.plan.now c.loop-part.part-index in
-    let own = own_is c.args.front.now.content c.content.result c.args.bytes.now c.written-text.result.now part c.content.ensures c.written-text.ensures in
+    let own = own_is c.args.front.now.content c.content.result c.args.bytes.now c.piece_text-text.result.now part c.content.ensures c.piece_text-text.ensures in
     let spellable = subst (λ (p : Piece). IsSpellable c.loop-part.bits.version p) (sym own) (part_spellable _ _ _ _ _ _ c.loop-part.invariant.pushed c.loop-part-test.true) in
     let p = err_from_is_err_and c.from_residual-in_err-push_text.result c.from_residual-in_err-push_text.ensures.1 in
     rw (p.1, p.2) (spellable_refused c.loop-part.bits _ _ spellable c.in_err-push_text.ensures.refused)
@@ -31,7 +31,7 @@ returns-in_err-push_text-clause-memory c =
 pub loop-part-preserved : goal.loop-part-preserved
 loop-part-preserved c =
     let part = segment_at c.args.plan.now c.loop-part.part-index in
-    let own = own_is c.args.front.now.content c.content.result c.args.bytes.now c.written-text.result.now part c.content.ensures c.written-text.ensures in
+    let own = own_is c.args.front.now.content c.content.result c.args.bytes.now c.piece_text-text.result.now part c.content.ensures c.piece_text-text.ensures in
     record {
       within = c.loop-part.invariant.within;
       pushed = pushed_more _ _ _ _ _ _ c.loop-part.invariant.pushed _ c.loop-part-test.true

@@ -4,7 +4,7 @@ use Rattle.qrcode_bits.specs.Optimizer.{IsShort}
 use Rattle.qrcode_bits.proofs.{Adjoining.parsed-short, Pairs.bytes_valid, Choices.chosen_is_plan, Lengths.dense_message, ReadBack.short-chosen}
 use Rattle.qrcode_bits.proofs.Classes.{known_limit, short-linear, plan_ordered, plan_small, counted_all, counted_more, chosen_fits_here, lacks_mode}
 use Rattle.qrcode_bits.proofs.Classes.{lacks_number, too_many, modes_all, modes_lack}
-use Rattle.qrcode_bits.proofs.bits.encode.chosen_plan.Goals as goal
+use Rattle.qrcode_bits.proofs.bits.choice.chosen_plan.Goals as goal
 
 pub optimize_uncounted-requires-clause-linear : goal.optimize_uncounted-requires-clause-linear
 optimize_uncounted-requires-clause-linear c = grind (arith, short-linear c.args.bytes.now c.args.version c.requires.small c.requires.short)

@@ -1,6 +1,6 @@
 -- The version has the modes of the parts before this one, and their bits are counted.
 use Rattle.qrcode_bits.proofs.Prelude.{◌≡◌, ℕ, ◌+◌, ◌<◌, ◌≤◌, ◌^◌, All, drop, HasMode, segment_at, total_bits, parsed, IsChosenPlan}
-use Rattle.qrcode_bits.proofs.bits.encode.chosen_plan.Given as goal
+use Rattle.qrcode_bits.proofs.bits.choice.chosen_plan.Given as goal
 
 abbrev pub invariant-loop-part : goal.invariant-loop-part
 invariant-loop-part l = record {
