@@ -6,15 +6,13 @@ use Rattle.programs.{specs.Outcome.AskForNone, proofs.Levels.one_level}
 use Rattle.qrlabel.specs.Words.{Label, Setting, AskForLabel, format_argument, kind_words, spelled, with_scale, with_quiet, with_inverted, default_scale}
 use Rattle.qrlabel.specs.Words.{default_quiet, is_text}
 use Rattle.qrlabel.proofs.WordLemmas.{one_spelling, one_format, one_kind, after_kind}
-use Rattle.qrlabel.specs.{declared.args.Format.Format, declared.args.Kind.Kind, Options.AsksNumber, Options.AsksFlag}
+use Rattle.qrcode_render.specs.Options.{AsksNumber}
+use Rattle.qrlabel.specs.{declared.args.Format.Format, declared.args.Kind.Kind}
 
--- ---- Numbers and flags
+-- ---- Numbers
 
 pub one_number : (o : Option (List ℕ)) (default least most m n : ℕ) → AsksNumber o default least most m → AsksNumber o default least most n → m ≡ n
 one_number o default least most m n h k = grind arith
-
-pub one_flag : (o : Option (List ℕ)) (a b : Bool) → AsksFlag o a → AsksFlag o b → a ≡ b
-one_flag o a b h k = grind arith
 
 -- ---- What words say of a label that they ask for
 

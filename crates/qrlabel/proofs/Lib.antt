@@ -1,9 +1,2 @@
-pub mod BitmapLemmas
-pub mod TerminalLemmas
-pub mod PathLemmas
-pub mod NameLemmas
-pub mod CoverLemmas
 pub mod WordLemmas
 pub mod AskLemmas
-pub mod OptionLemmas
-pub mod LabelLemmas

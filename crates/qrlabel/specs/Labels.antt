@@ -8,10 +8,10 @@ use Rattle.qrlabel.specs.declared.args.Format.{Format}
 use Rattle.qrlabel.specs.declared.args.Format.TheVariants.{Svg, Pbm, Terminal}
 use Rattle.qrlabel.specs.declared.args.Kind.{Kind}
 use Rattle.qrlabel.specs.declared.args.Kind.TheVariants.{Qr, Micro, Utf8}
-use Rattle.qrlabel.specs.Bitmaps.{bitmap_of}
-use Rattle.qrlabel.specs.Paths.{svg_text}
-use Rattle.qrlabel.specs.Pictures.{Picture, picture}
-use Rattle.qrlabel.specs.Terminals.{terminal_text}
+use Rattle.qrcode_render.specs.Bitmaps.{bitmap_of}
+use Rattle.qrcode_render.specs.Paths.{svg_text}
+use Rattle.qrcode_render.specs.Pictures.{Picture, picture}
+use Rattle.qrcode_render.specs.Terminals.{terminal_text}
 use Rattle.qrlabel.specs.Texts.{IsUtf8Symbol, IsUtf8Refusal}
 use Rattle.qrlabel.specs.Words.{Label}
 

@@ -1,12 +1,3 @@
-pub mod Pictures
-pub mod Shown
-pub mod Bitmaps
-pub mod Terminals
-pub mod Paths
-pub mod Options
-pub mod Rendered
-pub mod Named
-pub mod Covered
 pub mod Words
 pub mod OptionArgs
 pub mod Texts

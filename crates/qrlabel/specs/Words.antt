@@ -4,14 +4,14 @@ use Rattle.std.specs.Prelude.{Option, None, Some, IsTrue}
 use Rattle.std.specs.Str.{trim}
 use Rattle.qrcode_core.specs.declared.types.EcLevel.{EcLevel}
 use Rattle.qrcode_core.specs.Names.{NamesLevel}
-use Rattle.qrlabel.specs.declared.bounds.TheConstants.{IMAGE_SCALE, TEXT_SCALE, QUIET, MICRO_QUIET}
-use Rattle.qrlabel.specs.declared.bounds.TheConstants.{MIN_SCALE, MAX_SCALE, MAX_QUIET}
+use Rattle.qrcode_render.specs.declared.bounds.TheConstants.{IMAGE_SCALE, TEXT_SCALE, QUIET, MICRO_QUIET}
+use Rattle.qrcode_render.specs.declared.bounds.TheConstants.{MIN_SCALE, MAX_SCALE, MAX_QUIET}
 use Rattle.qrlabel.specs.declared.args.Format.{Format}
 use Rattle.qrlabel.specs.declared.args.Format.TheVariants.{Svg, Pbm, Terminal}
 use Rattle.qrlabel.specs.declared.args.Kind.{Kind}
 use Rattle.qrlabel.specs.declared.args.Kind.TheVariants.{Qr, Micro, Utf8}
 use Rattle.qrlabel.specs.declared.args.LabelArgs.{LabelArgs}
-use Rattle.qrlabel.specs.Options.{AsksNumber}
+use Rattle.qrcode_render.specs.Options.{AsksNumber}
 
 -- A label: the format of the picture, the level and the kind of the symbol, the width of a module
 -- in pixels, the width of the quiet zone in modules, and whether text is for a dark screen.
@@ -31,7 +31,7 @@ label_of w = record {
   kind = w.kind;
   scale = w.options.scale;
   quiet = w.options.quiet;
-  inverted = w.options.inverted;
+  inverted = w.inverted;
 }
 
 -- An option, with the text of its number.

@@ -7,12 +7,14 @@ ghost use Rattle.qrlabel.specs.Words.{Setting, label_of, AskForLabel, format_arg
 ghost use Rattle.qrlabel.specs.Words.{spelled};
 ghost use Rattle.qrlabel.specs.Words.{default_scale, default_quiet, is_text};
 
-use crate::bounds::{IMAGE_SCALE, MAX_QUIET, MAX_SCALE, MICRO_QUIET, MIN_SCALE, QUIET, TEXT_SCALE};
 use crate::draw::label_bytes;
 use crate::option_args::option_texts;
-use crate::options::{RenderOptions, number};
 use programs::Program;
 use qrcode_core::types::{EcLevel, QrResult};
+use qrcode_render::bounds::{
+    IMAGE_SCALE, MAX_QUIET, MAX_SCALE, MICRO_QUIET, MIN_SCALE, QUIET, TEXT_SCALE,
+};
+use qrcode_render::options::{RenderOptions, number};
 use std::alloc::Global;
 
 /// The usage line.
@@ -43,20 +45,11 @@ pub struct LabelArgs {
     pub level: EcLevel,
     pub kind: Kind,
     pub options: RenderOptions,
+    /// Whether text is for a dark screen.
+    pub inverted: bool,
 }
 
 impl Format {
-    /// Returns the name of the format, which is the name of its renderer.
-    pub fn word(self) -> &'static str
-        ensures { result.now ≡ format_argument self }
-    {
-        match self {
-            Format::Svg => "svg",
-            Format::Pbm => "pbm",
-            Format::Terminal => "terminal",
-        }
-    }
-
     /// Returns the default scale: the width of a module in pixels.
     fn default_scale(self) -> usize
         ensures { result ≡ default_scale self }
@@ -143,16 +136,12 @@ fn label_args(words: &[&str]) -> Option<LabelArgs>
     }
     let scale = number(texts.scale, format.default_scale(), MIN_SCALE, MAX_SCALE)?;
     let quiet = number(texts.quiet, kind.default_quiet(), 0, MAX_QUIET)?;
-    let options = RenderOptions {
-        scale,
-        quiet,
-        inverted: texts.inverted,
-    };
     Some(LabelArgs {
         format,
         level,
         kind,
-        options,
+        options: RenderOptions { scale, quiet },
+        inverted: texts.inverted,
     })
 }
 

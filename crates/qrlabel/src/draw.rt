@@ -1,26 +1,23 @@
 //! From bytes to the label of their symbol.
 //!
 //! 1. Make the symbol (`encode`).
-//! 2. Render its picture (`render`, `picture_bytes`).
-ghost use Rattle.std.specs.Prelude.{◌≡◌, ◌≢◌, ℕ, ◌≤◌, length, IfOk, IfErr, OnOk};
+//! 2. Write its picture (`picture_bytes`).
+ghost use Rattle.std.specs.Prelude.{◌≡◌, ◌≢◌, ◌≤◌, length, IfOk, IfErr, OnOk};
 ghost use Rattle.qrcode_base.specs.declared.symbols.TheConstants.{LONGEST_DATA};
 ghost use Rattle.qrcode_core.specs.declared.types.errors.QrError.TheVariants.{OutOfMemory};
-ghost use Rattle.qrcode_core.specs.Plugins.{render_options};
 ghost use Rattle.qrlabel.specs.Labels.{IsSymbolAs, IsRefusalAs, ShowsLabel, RefusesLabel};
 ghost use Rattle.qrlabel.specs.Labels.{picture_for};
-ghost use Rattle.qrlabel.specs.Options.{Asks};
-ghost use Rattle.qrlabel.specs.Rendered.{IsOutput};
 ghost use Rattle.qrlabel.specs.Words.{label_of};
 
-use crate::args::{Kind, LabelArgs};
-use crate::options::config_of;
-use crate::registry::render_by_name;
+use crate::args::{Format, Kind, LabelArgs};
 use crate::text::text_symbol;
-use qrcode_core::plugin::{PluginError, RenderConfig, RenderOutput};
 use qrcode_core::symbol::Symbol;
-use qrcode_core::traits::ModuleSource;
 use qrcode_core::types::{EcLevel, QrError, QrResult};
-use std::alloc::Global;
+use qrcode_render::pbm::pbm;
+use qrcode_render::picture::Picture;
+use qrcode_render::svg::svg;
+use qrcode_render::terminal::terminal;
+use std::alloc::{AllocError, Global};
 
 /// Returns the label of the bytes: the picture of their symbol.
 pub fn label_bytes(alloc: Global, label: LabelArgs, bytes: &[u8]) -> QrResult<Vec<u8>>
@@ -29,11 +26,8 @@ pub fn label_bytes(alloc: Global, label: LabelArgs, bytes: &[u8]) -> QrResult<Ve
     ensures refused { IfErr result (λ error.
         error ≢ OutOfMemory → RefusesLabel (label_of label) bytes.now error) }
 {
-    let Ok(config) = config_of(alloc, label.options) else {
-        return Err(QrError::OutOfMemory);
-    };
     let symbol = encode(alloc, bytes, label.level, label.kind)?;
-    picture_bytes(alloc, label, &symbol, &config)
+    Ok(picture_bytes(alloc, label, &symbol)?)
 }
 
 /// Returns the symbol of the bytes, of this kind.
@@ -50,42 +44,14 @@ fn encode(alloc: Global, bytes: &[u8], level: EcLevel, kind: Kind) -> Result<Sym
 }
 
 /// Returns the bytes of a symbol's picture. It fails only for lack of memory.
-fn picture_bytes(
-    alloc: Global,
-    label: LabelArgs,
-    symbol: &Symbol,
-    config: &RenderConfig,
-) -> QrResult<Vec<u8>>
-    requires { (default : ℕ) → Asks default (render_options config.now)
-        label.options.scale label.options.quiet label.options.inverted }
-    ensures drawn { IfOk result (λ drawing.
+fn picture_bytes(alloc: Global, label: LabelArgs, symbol: &Symbol) -> Result<Vec<u8>, AllocError>
+    ensures { IfOk result (λ drawing.
         drawing.items ≡ picture_for (label_of label) symbol.now) }
-    ensures refused { IfErr result (λ e. e ≡ OutOfMemory) }
 {
-    match render(alloc, label, symbol, config) {
-        Ok(RenderOutput::Text(text)) => Ok(Vec::from_slice(alloc, text.as_bytes())?),
-        Ok(RenderOutput::Bytes(bytes)) => Ok(bytes),
-        Ok(RenderOutput::Modules(_)) => unreachable!(),
-        Err(PluginError::OutOfMemory) => Err(QrError::OutOfMemory),
-        Err(_) => unreachable!(),
+    let picture = Picture::of_symbol(symbol, label.options);
+    match label.format {
+        Format::Svg => Ok(svg(alloc, &picture)?.into_bytes()),
+        Format::Pbm => pbm(alloc, &picture),
+        Format::Terminal => Ok(terminal(alloc, &picture, label.inverted)?.into_bytes()),
     }
-}
-
-/// Renders a symbol. No symbol is too large for the renderers, and the configuration is valid, so
-/// that it fails only with `OutOfMemory`.
-fn render(
-    alloc: Global,
-    label: LabelArgs,
-    symbol: &Symbol,
-    config: &RenderConfig,
-) -> Result<RenderOutput, PluginError>
-    requires { (default : ℕ) → Asks default (render_options config.now)
-        label.options.scale label.options.quiet label.options.inverted }
-    ensures drawn { IfOk result (λ output.
-        IsOutput output (picture_for (label_of label) symbol.now)) }
-    ensures refused { IfErr result (λ e. e ≡ PluginError.OutOfMemory) }
-{
-    let _sides = (symbol.width(), symbol.height());
-    let view = symbol.module_view();
-    render_by_name(alloc, label.format.word(), &view, config)
 }

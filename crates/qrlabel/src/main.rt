@@ -3,23 +3,14 @@
 //!
 //! 1. Read the command line (`args`, `option_args`).
 //! 2. Make the symbol of the input (`draw`, `text`).
-//! 3. Render it (`options`, `registry`, `renderers`, `picture`, and `svg`, `bitmap` or `terminal`).
+//! 3. Write its picture (`draw`), by the crate `qrcode_render`.
 //!
 //! `run` of the crate `programs` reads the input, writes the picture and returns the exit status.
 #![tactic(auto)]
 
 mod args;
-mod bitmap;
-mod bounds;
 mod draw;
-pub mod laws;
 mod option_args;
-mod options;
-mod picture;
-mod registry;
-mod renderers;
-mod svg;
-mod terminal;
 #[cfg(test)]
 mod tests;
 mod text;

@@ -6,10 +6,14 @@ pub mod contents;
 pub mod grids;
 pub mod labels;
 pub mod lines;
+pub mod pictures;
 pub mod plans;
 pub mod registries;
+pub mod rendering;
 pub mod sequences;
 pub mod streams;
 pub mod symbols;
 pub mod tables;
+#[cfg(test)]
+mod tests;
 pub mod views;

@@ -1,0 +1,5 @@
+pub mod Ranges
+pub mod BitmapLemmas
+pub mod TerminalLemmas
+pub mod PathLemmas
+pub mod CoverLemmas

@@ -1,0 +1,66 @@
+-- The runs of a row, one after the other, and the modules of a run.
+use Rattle.std.proofs.Common.{◌≡◌, ℕ, ◌+◌, ◌<◌, ◌≤◌, ◌++◌, Bool, true, false, List, length, sym, ◌∙◌, arith, append-nil}
+use Rattle.std.proofs.lemmas.List.Sums.{prefix_len-drop_yes, prefix_len-drop_no, prefix_len-drop_all}
+use Rattle.std.proofs.lemmas.{List.FromFn.length-map-range_with_len, List.FromFn.get_or-map-range_with_len, Grind.common_steps}
+use Rattle.qrcode_render.specs.Paths.{begins_run, dark_row, dark_run_length, rectangle, run_at, row_path, path}
+use Rattle.qrcode_render.{specs.Pictures.Picture, specs.Pictures.columns_of, specs.Pictures.is_dark_module}
+use Rattle.qrcode_render.proofs.Ranges.{flat_map_range}
+
+-- the path begins with no row
+pub path_start : (p : Picture) (text : List ℕ) → text ≡ text ++ path p 0
+unfolding path
+path_start p text = sym (append-nil text)
+
+-- one row more
+pub path_row : (p : Picture) (n : ℕ) (start old new : List ℕ) → old ≡ start ++ path p n →
+    new ≡ old ++ row_path p n (columns_of p) → new ≡ start ++ path p (n + 1)
+unfolding path
+path_row p n start old new was adds = grind (arith, common_steps, row_path, columns_of, flat_map_range)
+
+-- a row's path begins with no run
+pub row_start : (p : Picture) (y : ℕ) (text : List ℕ) → text ≡ text ++ row_path p y 0
+unfolding row_path
+row_start p y text = sym (append-nil text)
+
+row_path_more : (p : Picture) (y n : ℕ) → row_path p y (n + 1) ≡ row_path p y n ++ run_at p y n
+unfolding row_path
+row_path_more p y n = flat_map_range (run_at p y) n
+
+-- one run more
+pub row_run : (p : Picture) (y n : ℕ) (start old new : List ℕ) → begins_run p n y ≡ true → old ≡ start ++ row_path p y n →
+    new ≡ old ++ rectangle n y (dark_run_length p n y) → new ≡ start ++ row_path p y (n + 1)
+unfolding run_at
+row_run p y n start old new begins was adds = grind (arith, common_steps, run_at, dark_run_length, row_path, row_path_more)
+
+-- a column where none begins
+pub row_no_run : (p : Picture) (y n : ℕ) (start old : List ℕ) → begins_run p n y ≡ false → old ≡ start ++ row_path p y n → old ≡ start ++ row_path p y (n + 1)
+unfolding run_at
+row_no_run p y n start old none was = grind (arith, run_at, row_path, row_path_more, append-nil)
+
+length_of_row : (p : Picture) (y : ℕ) → length (dark_row p y) ≡ columns_of p
+length_of_row p y = length-map-range_with_len (λ x. is_dark_module p x y) 0 (columns_of p)
+
+-- a dark module is one more of the run
+pub run_dark : (p : Picture) (x y : ℕ) → x < columns_of p → is_dark_module p x y ≡ true → dark_run_length p x y ≡ 1 + dark_run_length p (x + 1) y
+unfolding dark_run_length
+run_dark p x y inside dark =
+    prefix_len-drop_yes (λ (b : Bool). b) (dark_row p y) x false (omega (arith, length_of_row p y))
+    (get_or-map-range_with_len (λ x. is_dark_module p x y) 0 (columns_of p) x x false inside (omega arith) ∙ dark)
+
+-- a light one ends it
+pub run_light : (p : Picture) (x y : ℕ) → x < columns_of p → is_dark_module p x y ≡ false → dark_run_length p x y ≡ 0
+unfolding dark_run_length
+run_light p x y inside light =
+    prefix_len-drop_no (λ (b : Bool). b) (dark_row p y) x false (omega (arith, length_of_row p y))
+    (get_or-map-range_with_len (λ x. is_dark_module p x y) 0 (columns_of p) x x false inside (omega arith) ∙ light)
+
+-- and so does the end of the row
+pub run_end : (p : Picture) (x y : ℕ) → columns_of p ≤ x → dark_run_length p x y ≡ 0
+unfolding dark_run_length
+run_end p x y outside = prefix_len-drop_all (λ (b : Bool). b) (dark_row p y) x (omega (arith, length_of_row p y))
+
+pub ruleset paths = (path_start, path_row)
+
+pub ruleset rows = (row_start, row_run, row_no_run)
+
+pub ruleset runs = (run_dark, run_light, run_end)

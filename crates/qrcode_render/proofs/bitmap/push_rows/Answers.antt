@@ -1,0 +1,15 @@
+-- One row of pixels more.
+use Rattle.std.proofs.Common.{◌+◌, ◌*◌, ◌++◌, ◌∙◌, ap, sym}
+use Rattle.qrcode_render.{specs.Shown.shown, specs.Bitmaps.first_rows, specs.Bitmaps.bitmap_row, proofs.BitmapLemmas.rows_copy}
+use Rattle.qrcode_render.proofs.Ranges.{joined}
+use Rattle.qrcode_render.proofs.bitmap.push_rows.Goals as goal
+
+pub loop-copy-preserved : goal.loop-copy-preserved
+loop-copy-preserved c =
+    let p = shown c.args.picture.now in
+    let row = c.loop-row.row in
+    let scale = c.scale-scale.result in
+    joined c.args.bytes.now.items (first_rows p (row * scale + c.loop-copy.copy)) _ (bitmap_row p (row * scale)) _ _
+    (rows_copy p scale row c.loop-copy.copy (sym c.scale-scale.ensures.exact) c.loop-copy-test.true)
+    c.loop-copy.invariant
+    (c.in_ok-extend_from_slice.ensures.items ∙ ap (λ l. c.loop-copy.bytes.items ++ l) (c.deref.ensures.value ∙ c.in_ok-line.ensures))

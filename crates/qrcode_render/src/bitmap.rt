@@ -1,0 +1,57 @@
+//! The rows of pixels of a picture, as bits: dark is 1.
+ghost use Rattle.std.specs.Prelude.{◌≡◌, ◌/◌, ◌<◌, ◌++◌, IfOk, OnOk};
+ghost use Rattle.qrcode_render.specs.declared.bounds.TheConstants.{MAX_PIXELS};
+ghost use Rattle.qrcode_render.specs.Bitmaps.{pixel_byte, first_rows, bitmap_row};
+ghost use Rattle.qrcode_render.specs.Pictures.{pixel_height};
+ghost use Rattle.qrcode_render.specs.Shown.{shown};
+
+use crate::picture::Picture;
+use std::alloc::{AllocError, Global};
+
+/// Appends all rows of pixels. Those of one row of modules are equal.
+#[tactic(auto, using(crate::proofs::BitmapLemmas::rows))]
+pub(crate) fn push_rows(
+    alloc: Global,
+    bytes: &mut Vec<u8>,
+    picture: &Picture,
+) -> Result<(), AllocError>
+    ensures { OnOk result
+        (bytes.new.items ≡ bytes.old.items
+        ++ first_rows (shown picture.now) (pixel_height (shown picture.now))) }
+{
+    let scale = picture.scale();
+    for row in 0..picture.rows() {
+        let line = row_bytes(alloc, picture, row * scale)?;
+        for copy in 0..scale {
+            bytes.extend_from_slice(&line)?;
+        }
+    }
+    Ok(())
+}
+
+/// Appends the bytes of a row of pixels.
+#[tactic(auto, using(crate::proofs::BitmapLemmas::bytes_more), unfolding(crate::specs::Bitmaps::bitmap_row))]
+fn row_bytes(alloc: Global, picture: &Picture, y: usize) -> Result<Vec<u8>, AllocError>
+    ensures { IfOk result (λ line. line.items ≡ bitmap_row (shown picture.now) y) }
+{
+    let length = picture.width().div_ceil(8);
+    let mut line = Vec::with_capacity(alloc, length)?;
+    for place in 0..length {
+        line.push(pixel_byte(picture, place, y))?;
+    }
+    Ok(line)
+}
+
+/// Returns the byte of eight pixels of a row, the first in the highest bit.
+#[tactic(auto, using(crate::proofs::BitmapLemmas::bits), unfolding(crate::specs::Bitmaps::pixel_byte))]
+fn pixel_byte(picture: &Picture, place: usize, y: usize) -> u8
+    requires { place < MAX_PIXELS / 8 }
+    ensures { result ≡ pixel_byte (shown picture.now) y place }
+{
+    let mut byte = 0;
+    for bit in 0..8 {
+        let is_dark = picture.is_dark_pixel(8 * place + bit, y);
+        byte = byte * 2 + u8::from(is_dark);
+    }
+    byte
+}

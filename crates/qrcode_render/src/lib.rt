@@ -1,0 +1,30 @@
+//! Pictures of QR codes: SVG, portable bitmaps, and text for a terminal.
+//!
+//! 1. Choose the size of a module and of the quiet zone (`options`).
+//! 2. Lay them around a grid (`picture`).
+//! 3. Write the picture in a format (`svg`, `pbm`, `terminal`).
+//!
+//! ```text
+//! let options = RenderOptions::new(alloc, 8, 4)?;
+//! let picture = Picture::of_symbol(&symbol, options);
+//! let text = svg::svg(alloc, &picture)?;
+//! ```
+//!
+//! `renderers` has the same for a registry of `qrcode_core`, by the options of a `RenderConfig`.
+#![tactic(auto)]
+
+mod bitmap;
+pub mod bounds;
+pub mod laws;
+pub mod options;
+pub mod pbm;
+pub mod picture;
+pub mod renderers;
+pub mod svg;
+pub mod terminal;
+#[cfg(test)]
+mod tests;
+
+pub use options::RenderOptions;
+pub use picture::Picture;
+pub use renderers::{Pbm, Svg, Terminal};

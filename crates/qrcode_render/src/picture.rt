@@ -1,0 +1,131 @@
+//! A picture: a grid with its scale and its quiet zone.
+ghost use Rattle.std.specs.Prelude.{◌≡◌, ◌*◌, ◌≤◌, ◌↔◌, length, IfSome, IsSome};
+ghost use Rattle.qrcode_render.specs.declared.bounds.TheConstants.{MIN_SCALE, MAX_SCALE, MAX_QUIET};
+ghost use Rattle.qrcode_render.specs.declared.bounds.TheConstants.{MAX_MODULES, MAX_COLUMNS, MAX_PIXELS};
+ghost use Rattle.qrcode_render.specs.Pictures.{columns_of, rows_of, pixel_width, pixel_height};
+ghost use Rattle.qrcode_render.specs.Pictures.{is_dark_module, is_dark_pixel};
+
+use crate::bounds::MAX_MODULES;
+use crate::options::RenderOptions;
+use qrcode_core::symbol::Symbol;
+use qrcode_core::traits::ModuleSource;
+use qrcode_core::types::Color;
+
+/// A borrowed grid, with the width of a module in pixels and the width of the light quiet zone
+/// around the grid in modules. Nothing is copied.
+#[derive(Clone, Copy, Debug, PartialEq, Eq)]
+pub struct Picture<'a> {
+    modules: &'a [Color],
+    columns: usize,
+    rows: usize,
+    scale: usize,
+    quiet: usize,
+    ghost all_rows: { rows * columns ≤ length modules.now },
+    ghost few_columns: { columns ≤ MAX_MODULES },
+    ghost few_rows: { rows ≤ MAX_MODULES },
+    ghost scaled: { MIN_SCALE ≤ scale },
+    ghost small_scale: { scale ≤ MAX_SCALE },
+    ghost small_zone: { quiet ≤ MAX_QUIET },
+}
+
+impl<'a> Picture<'a> {
+    ghost use Rattle.qrcode_core.specs.Drawn.{drawn_grid};
+    ghost use Rattle.qrcode_render.specs.Pictures.{picture, IsDrawable};
+    ghost use Rattle.qrcode_render.specs.Shown.{shown};
+
+    /// Returns the picture of a symbol.
+    pub fn of_symbol(symbol: &'a Symbol, options: RenderOptions) -> Picture<'a>
+        ensures { shown result ≡ picture (drawn_grid symbol.now) options.scale options.quiet }
+    {
+        Picture {
+            columns: symbol.width(),
+            rows: symbol.height(),
+            modules: symbol.modules(),
+            scale: options.scale,
+            quiet: options.quiet,
+        }
+    }
+
+    /// Returns the picture of a grid, or `None` if it has more than `MAX_MODULES` columns or rows.
+    pub fn of_grid(code: &'a dyn ModuleSource, options: RenderOptions) -> Option<Picture<'a>>
+        ensures shown { IfSome result (λ drawn.
+            shown drawn ≡ picture (grid code.now) options.scale options.quiet) }
+        ensures small { IsSome result ↔ IsDrawable (grid code.now) }
+    {
+        let (columns, rows) = (code.width(), code.height());
+        if columns > MAX_MODULES || rows > MAX_MODULES {
+            return None;
+        }
+        Some(Picture {
+            modules: code.modules(),
+            columns,
+            rows,
+            scale: options.scale,
+            quiet: options.quiet,
+        })
+    }
+
+    /// Returns the width of a module in pixels.
+    pub fn scale(&self) -> usize
+        ensures exact { result ≡ (shown self.now).scale }
+        ensures at_least_one { MIN_SCALE ≤ result }
+        ensures bound { result ≤ MAX_SCALE }
+    {
+        self.scale
+    }
+
+    /// Returns the number of columns of modules, with the quiet zone.
+    pub fn columns(&self) -> usize
+        ensures exact { result ≡ columns_of (shown self.now) }
+        ensures bound { result ≤ MAX_COLUMNS }
+    {
+        self.columns + 2 * self.quiet
+    }
+
+    /// Returns the number of rows of modules, with the quiet zone.
+    pub fn rows(&self) -> usize
+        ensures exact { result ≡ rows_of (shown self.now) }
+        ensures bound { result ≤ MAX_COLUMNS }
+    {
+        self.rows + 2 * self.quiet
+    }
+
+    /// Returns the width of the picture in pixels.
+    pub fn width(&self) -> usize
+        ensures exact { result ≡ pixel_width (shown self.now) }
+        ensures bound { result ≤ MAX_PIXELS }
+    {
+        self.columns() * self.scale
+    }
+
+    /// Returns the height of the picture in pixels.
+    pub fn height(&self) -> usize
+        ensures exact { result ≡ pixel_height (shown self.now) }
+        ensures bound { result ≤ MAX_PIXELS }
+    {
+        self.rows() * self.scale
+    }
+
+    /// Whether the module in this column and row, counted from the corner of the quiet zone,
+    /// is dark.
+    #[tactic(auto, unfolding(crate::specs::Pictures::is_dark_module))]
+    pub fn is_dark(&self, column: usize, row: usize) -> bool
+        ensures { result ≡ is_dark_module (shown self.now) column row }
+    {
+        if column < self.quiet || row < self.quiet {
+            return false;
+        }
+        let (x, y) = (column - self.quiet, row - self.quiet);
+        if x >= self.columns || y >= self.rows {
+            return false;
+        }
+        matches!(self.modules[y * self.columns + x], Color::Dark)
+    }
+
+    /// Whether the pixel in this column and row is dark.
+    pub fn is_dark_pixel(&self, column: usize, row: usize) -> bool
+        ensures { result ≡ is_dark_pixel (shown self.now) column row }
+    {
+        self.is_dark(column / self.scale, row / self.scale)
+    }
+}

@@ -1,0 +1,22 @@
+//! The picture of a symbol, by `qrcode_render`.
+ghost use Rattle.std.specs.Prelude.{◌≡◌, IfOk};
+ghost use Rattle.std.specs.String.{string_bytes};
+ghost use Rattle.qrcode_core.specs.Drawn.{drawn_grid};
+ghost use Rattle.qrcode_render.specs.Paths.{svg_text};
+ghost use Rattle.qrcode_render.specs.Pictures.{picture};
+
+use qrcode_core::plugin::PluginError;
+use qrcode_core::symbol::Symbol;
+use qrcode_render::svg::svg;
+use qrcode_render::{Picture, RenderOptions};
+use std::alloc::Global;
+
+/// Returns the SVG of a symbol, with a quiet zone of 4 modules.
+pub fn svg_of(alloc: Global, symbol: &Symbol, scale: usize) -> Result<String, PluginError>
+    ensures { IfOk result (λ text.
+        string_bytes text ≡ svg_text (picture (drawn_grid symbol.now) scale 4)) }
+{
+    let options = RenderOptions::new(alloc, scale, 4)?;
+    let picture = Picture::of_symbol(symbol, options);
+    Ok(svg(alloc, &picture)?)
+}
