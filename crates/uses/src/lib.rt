@@ -3,6 +3,7 @@
 #![tactic(auto)]
 
 pub mod contents;
+pub mod elements;
 pub mod grids;
 pub mod labels;
 pub mod lines;

@@ -1,0 +1,9 @@
+pub mod Places
+pub mod Digits
+pub mod Parts
+pub mod Reading
+pub mod Faults
+pub mod Data
+pub mod Bracketed
+pub mod Memory
+pub mod Whole

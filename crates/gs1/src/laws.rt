@@ -1,0 +1,13 @@
+//! Laws: facts about element strings. Each function has no body; its contract is the fact.
+ghost use Rattle.gs1.specs.Reader.{HaveOneList, HaveStringsApart};
+
+/// No bytes are read as two lists of elements.
+
+pub fn have_one_list()
+    ensures { HaveOneList }
+{}
+
+/// No two lists of elements without faults have the same element string.
+pub fn have_strings_apart()
+    ensures { HaveStringsApart }
+{}

@@ -1,0 +1,54 @@
+//! GS1 element strings from the form in which people write elements, each identifier in brackets:
+//!
+//! ```text
+//! let bytes = element_string(alloc, "(01)09506000134352(10)ABC123(21)7")?;
+//! // `bytes` are those of "010950600013435210ABC123", the separator 1D (hex) and "217".
+//! ```
+#![tactic(auto)]
+
+ghost use Rattle.std.specs.Prelude.{◌≡◌, None, IfOk, OnOk, IfErr};
+ghost use Rattle.gs1.specs.Elements.{written_elements, bracketed, text_fault, IsRefusedText};
+ghost use Rattle.gs1.specs.Reader.{FindsOnly, AreSymbolData};
+
+mod check;
+mod error;
+mod identifiers;
+pub mod laws;
+#[cfg(test)]
+mod tests;
+mod write;
+
+pub use error::Gs1Error;
+use std::alloc::Global;
+
+/// Returns the element string of a text such as `(01)09506000134352(10)ABC123`: the elements one
+/// after the other, each identifier and its value, with the separator 1D (hex) behind each whose
+/// length is not predefined and that is not the last. A reader finds in it the elements that the
+/// text writes, and no others.
+///
+/// An opening bracket begins an element wherever it stands, so no value has one; the identifier
+/// goes up to the first closing bracket, and further closing brackets are characters of the value.
+///
+/// # Errors
+///
+/// `NoElements` if the text does not begin with an opening bracket, else the fault of the first
+/// element that has one. An element is checked in this order: `InvalidIdentifier` (not two to four
+/// digits), `UnknownIdentifier` (none with these first two digits is assigned, or they have another
+/// number of digits), `EmptyValue`, `ValueTooLong` (over 90 characters), `InvalidCharacter` (none
+/// of GS1's 82 characters, or no digit where the length is predefined), `WrongLength` (the
+/// predefined length is another) and `WrongCheckDigit` (of 00, 01, 02 and 410 to 417).
+/// `OutOfMemory` if the text has no fault and an allocation failed.
+pub fn element_string(alloc: Global, text: &str) -> Result<Vec<u8>, Gs1Error>
+    // The text writes the elements, and a reader finds them.
+    ensures written { OnOk result (bracketed (written_elements text.now) ≡ text.now) }
+    ensures found { IfOk result (λ bytes. FindsOnly bytes.items (written_elements text.now)) }
+    ensures data { IfOk result (λ bytes. AreSymbolData bytes.items) }
+
+    ensures faultless { OnOk result (text_fault text.now ≡ None) }
+    ensures refused { IfErr result (IsRefusedText text.now) }
+{
+    let text = text.as_bytes();
+    check::check_text(text)?;
+    let bytes = write::string_of(alloc, check::behind(text, 0))?;
+    Ok(bytes)
+}
