@@ -4,8 +4,10 @@
 -- which also takes the first part if it has the piece's mode, and the first segment of it if its
 -- mode is above.
 use Rattle.qrcode_bits.proofs.Prelude.{◌≡◌, ℕ, ◌+◌, ◌-◌, ◌≤◌, List, [], ◌∷◌, ◌++◌, refl, sym, ap, ◌∙◌, subst, arith, ◌⊎◌, inl, inr, Version, Mode}
-use Rattle.qrcode_bits.proofs.Prelude.{Segment, join, Bool, true, false, map, if◌then◌else◌, Class, Run, class_mode, class_size, joins, add_unit, runs, run_segment}
-use Rattle.qrcode_bits.proofs.{Runs.joins-same, Runs.class_size-some, Adjoining.Adjoin, Adjoining.Adjoin-runs, Adjoining.total_size}
+use Rattle.qrcode_bits.proofs.Prelude.{Segment, join, Bool, true, false, map, if◌then◌else◌, Class, Run, class_mode, class_size, joins, add_unit, runs}
+use Rattle.qrcode_bits.proofs.Prelude.{run_segment}
+use Rattle.qrcode_bits.proofs.{Runs.joins-same, Runs.class_size-some, Adjoining.Adjoin, Adjoining.Adjoin-runs}
+use Rattle.qrcode_bits.specs.Places.{total_size}
 use Rattle.qrcode_bits.proofs.Cuts.{Below, UpTo, order, join-up_to, join-above_second, not_above, bits_of, piece_bits, merge_bits, move_bits, lower_bits, Cut}
 use Rattle.qrcode_bits.proofs.Cuts.{Parted, alone, together, some, Cut-some, Cut-first, Cut-longer}
 
@@ -155,7 +157,7 @@ closed v m cost n ss (inr o) = (o.bits, o.parted, omega (arith, o.few 0 n (omega
 abbrev pub segments_of : ℕ → List Class → List Segment
 segments_of b cs = map run_segment (runs b cs)
 
-add_unit-added : (c : Class) (b to : ℕ) (rs : List Run) → Adjoin (b + class_size c) (map run_segment rs) to →
+pub add_unit-added : (c : Class) (b to : ℕ) (rs : List Run) → Adjoin (b + class_size c) (map run_segment rs) to →
     Added (class_mode c) (class_size c) (map run_segment rs) (map run_segment (add_unit c b rs))
 add_unit-added c b to [] h = inl (run_segment (record { class = c; begin = b; end = b + class_size c }), record { mode = refl; size = omega arith }, refl)
 add_unit-added c b to (r ∷ rs) h = go (joins c r.class) refl where

@@ -2,7 +2,8 @@
 use Rattle.qrcode_bits.proofs.Prelude.{◌≡◌, ◌≢◌, ℕ, suc, ◌+◌, ◌-◌, ◌<◌, ◌⊎◌, inl, inr, true, false, List, [], ◌∷◌, length, get_or}
 use Rattle.qrcode_bits.proofs.Prelude.{refl, sym, ap, ◌∙◌, subst, arith, map, slice_range, cases_eq, cases_lt}
 use Rattle.qrcode_bits.proofs.Prelude.{All, All-head, All-tail, Contains, alphabet, is_alphanumeric, IsDigit, IsKanjiText, IsValid, is_kanji_pair}
-use Rattle.qrcode_bits.proofs.Prelude.{Mode, Numeric, Alphanumeric, Byte, Kanji, Content, Bytes, Text, Elements, parsed_byte, parsed_bytes, piece_text, AreDataOf, piece_data, common_steps, Piece, map-id}
+use Rattle.qrcode_bits.proofs.Prelude.{Mode, Numeric, Alphanumeric, Byte, Kanji, Content, Bytes, Text, Elements, parsed_byte, parsed_bytes, piece_text}
+use Rattle.qrcode_bits.proofs.Prelude.{AreDataOf, piece_data, common_steps, Piece, map-id}
 use Rattle.qrcode_bits.specs.Spelling.{piece_of}
 use Rattle.std.proofs.lemmas.List.{length-map, take-map, drop-map}
 use Rattle.std.proofs.lemmas.List.Elements.{All-map}

@@ -1,11 +1,14 @@
 -- Each frame whose pieces keep the parsed units has a plan that fits.
 use Rattle.qrcode_bits.proofs.Prelude.{ℕ, ◌+◌, ◌≤◌, Bool, true, false, List, [], ◌∷◌, ◌++◌, length, sym, subst, arith, inl, inr, cases_lt}
 use Rattle.qrcode_bits.proofs.Prelude.{All, All-head, All-tail, All-nil, All-cons, Option, map, if◌then◌else◌, length-append, Version, EcLevel, Mode, HasMode}
-use Rattle.qrcode_bits.proofs.Prelude.{IsWithin, same, digits, bytes, Segment, Class, Run, class_mode, class_size, joins, add_unit, runs, run_segment, units, parsed}
-use Rattle.qrcode_bits.proofs.Prelude.{Piece, IsSpellable, spellings, message, Header, Front, front_of, front_bits, IsFrame, IsMergePlan, total_bits, Fits, FitsNot, FitsNone, IsChoice}
+use Rattle.qrcode_bits.proofs.Prelude.{IsWithin, same, digits, bytes, Segment, Class, Run, class_mode, class_size, joins, add_unit, runs, run_segment, units}
+use Rattle.qrcode_bits.proofs.Prelude.{parsed}
+use Rattle.qrcode_bits.proofs.Prelude.{Piece, IsSpellable, spellings, message, Header, Front, front_of, front_bits, IsFrame, IsMergePlan, total_bits, Fits}
+use Rattle.qrcode_bits.proofs.Prelude.{FitsNot, FitsNone, IsChoice}
 use Rattle.qrcode_bits.proofs.Prelude.{capacity, normal, micro, Some, ◌≡◌, zero, suc, slice_get_past, normal_blocks}
 use Rattle.qrcode_bits.proofs.{Choices.fits_last, Classes.all_blocks}
-use Rattle.qrcode_bits.proofs.Prelude.{◌≢◌, ◌<◌, refl, ap, ◌∙◌, map-append, spelling, Kanji, IsValid, Content, Bytes, Text, Elements, AreAllowed, data_of, piece_data, character_bits, data_bits, characters}
+use Rattle.qrcode_bits.proofs.Prelude.{◌≢◌, ◌<◌, refl, ap, ◌∙◌, map-append, spelling, Kanji, IsValid, Content, Bytes, Text, Elements, AreAllowed, data_of}
+use Rattle.qrcode_bits.proofs.Prelude.{piece_data, character_bits, data_bits, characters}
 use Rattle.qrcode_bits.proofs.Prelude.{parsed_byte, parsed_bytes}
 use Rattle.qrcode_bits.specs.Spelling.{piece_of}
 use Rattle.qrcode_bits.specs.Contents.{percent}
@@ -13,7 +16,8 @@ use Rattle.qrcode_bits.proofs.{Reading.length-spelling, Segments.length-characte
 use Rattle.qrcode_bits.proofs.Contents.{parsed_piece, text-piece, elements-piece, parsed-low}
 use Rattle.qrcode_bits.proofs.Shortest.{low-no_lead, no_lead-no_pair}
 use Rattle.qrcode_bits.specs.Frame.{KeepUnits, HasNoPair, HasSingleUnits}
-use Rattle.qrcode_bits.proofs.{Cuts.UpTo, Carrying.AreUpTo, Carrying.segments_of, Choices.has_within, Choices.pieces-had, Shortest.units_of, Shortest.units-up_to}
+use Rattle.qrcode_bits.proofs.{Cuts.UpTo, Carrying.AreUpTo, Carrying.segments_of, Choices.has_within, Choices.pieces-had, Shortest.units_of}
+use Rattle.qrcode_bits.proofs.{Shortest.units-up_to}
 use Rattle.qrcode_bits.proofs.{Shortest.shortest, Shortest.no_pair-kept, CuttingPlans.chosen-least}
 
 within_up_to : (j m : Mode) → UpTo j m → IsWithin j m

@@ -1,9 +1,11 @@
 -- The parts of a plan that fits, spelled one after the other, are the front of a frame of
 -- the bytes.
-use Rattle.qrcode_bits.proofs.Prelude.{◌≡◌, ◌≢◌, ℕ, ◌+◌, ◌-◌, ◌<◌, ◌≤◌, List, [], ◌∷◌, ◌++◌, length, take, drop, refl, sym, ap, ◌∙◌, subst, arith, length-append}
+use Rattle.qrcode_bits.proofs.Prelude.{◌≡◌, ◌≢◌, ℕ, ◌+◌, ◌-◌, ◌<◌, ◌≤◌, List, [], ◌∷◌, ◌++◌, length, take, drop, refl, sym, ap, ◌∙◌, subst, arith}
+use Rattle.qrcode_bits.proofs.Prelude.{length-append}
 use Rattle.qrcode_bits.proofs.Prelude.{All, slice_range, All-head, All-tail, All-nil, All-cons, All-take, All-drop, take-length, length-drop, Version, EcLevel}
 use Rattle.qrcode_bits.proofs.Prelude.{HasMode, Kanji, IsValid, indicator_width, count_width, Segment, AreTexts, segment_bits, total_bits, Fits, spelling}
-use Rattle.qrcode_bits.proofs.Prelude.{segment_piece, segment_pieces, Front, HasFront, front_bits, Piece, spellings, ended, IsFrame, IsSpellable, Content, Bytes, Text}
+use Rattle.qrcode_bits.proofs.Prelude.{segment_piece, segment_pieces, Front, HasFront, front_bits, Piece, spellings, ended, IsFrame, IsSpellable, Content}
+use Rattle.qrcode_bits.proofs.Prelude.{Bytes, Text}
 use Rattle.qrcode_bits.proofs.Prelude.{Elements, AreAllowed, AreDataOf, data_of, parsed_bytes, pieces_of, piece_text, common_steps}
 use Rattle.qrcode_bits.specs.Spelling.{piece_of}
 use Rattle.std.proofs.lemmas.List.{length-take-le}

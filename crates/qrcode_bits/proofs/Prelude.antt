@@ -29,7 +29,8 @@ pub use Rattle.qrcode_base.specs.declared.types.Version.{Version}
 pub use Rattle.qrcode_base.specs.declared.types.Version.TheVariants.{Micro, Normal}
 pub use Rattle.qrcode_base.specs.declared.types.errors.QrError.{QrError}
 pub use Rattle.qrcode_base.specs.declared.types.errors.QrError.TheVariants.{DataTooLong, InvalidVersion, OutOfMemory}
-pub use Rattle.qrcode_bits.specs.Optimizer.{AddsTo, Adds, AreGroups, AreSteps, Groups, HasBucket, InBucket, IsAhead, IsAsGoodAs, IsBelow, IsBestStart, IsBetterOf}
+pub use Rattle.qrcode_bits.specs.Optimizer.{AddsTo, Adds, AreGroups, AreSteps, Groups, HasBucket, InBucket, IsAhead, IsAsGoodAs, IsBelow, IsBestStart}
+pub use Rattle.qrcode_bits.specs.Optimizer.{IsBetterOf}
 pub use Rattle.qrcode_bits.specs.Optimizer.{IsStep, KeepsBetter, Merges, Moves, StandsFor, at, best_start, bits_before, bucket_first, bucket_mode, bucket_rest}
 pub use Rattle.qrcode_bits.specs.Optimizer.{first_mode, found, groups_of, key_of, next_plan, part_mode, parts_before, period, period_bits, plans_below, slot_of}
 unfoldable pub use Rattle.qrcode_bits.specs.Optimizer.{chosen_plan}
@@ -37,7 +38,8 @@ pub use Rattle.qrcode_bits.specs.Frame.{HasHeader, Header, IsFrame, IsTotal, end
 pub use Rattle.qrcode_bits.specs.Frame.{padding, spellings, tail, terminator_width}
 unfoldable pub use Rattle.qrcode_bits.specs.Frame.{bytes_in_turn}
 pub use Rattle.qrcode_bits.specs.Frame.{Front, HasFront, front_bits, front_of, no_front}
-pub use Rattle.qrcode_bits.specs.Contents.{AreAllowed, AreDataOf, HasContent, content_bits, data_of, parsed_byte, parsed_bytes, piece_data, pieces_of, piece_text}
+pub use Rattle.qrcode_bits.specs.Contents.{AreAllowed, AreDataOf, HasContent, content_bits, data_of, parsed_byte, parsed_bytes, piece_data, pieces_of}
+pub use Rattle.qrcode_bits.specs.Contents.{piece_text}
 pub use Rattle.qrcode_bits.specs.declared.bits.front.Content.{Content}
 pub use Rattle.qrcode_bits.specs.declared.bits.front.Content.TheVariants.{Bytes, Elements, Text}
 pub use Rattle.qrcode_bits.specs.Parsing.{AreTexts, Class, Digit, LoneLead, Other, Pair, Run, Sign, add_unit, class_mode, class_number, class_of, class_size}

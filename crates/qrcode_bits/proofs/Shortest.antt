@@ -2,18 +2,20 @@
 use Rattle.qrcode_bits.proofs.Prelude.{◌≡◌, ℕ, ◌+◌, ◌<◌, ◌≤◌, Bool, true, false, List, [], ◌∷◌, ◌++◌, length, refl, sym, ap, ◌∙◌, subst, arith, inl}
 use Rattle.qrcode_bits.proofs.Prelude.{All, All-head, All-tail, flat_map, Contains, alphabet, length-append, Version, Mode, Segment}
 use Rattle.qrcode_bits.proofs.Prelude.{Numeric, Alphanumeric, Byte, Kanji, is_alphanumeric, is_kanji_pair, IsDigit, IsKanjiText, IsValid, data_bits, characters}
-use Rattle.qrcode_bits.proofs.Prelude.{Class, Pair, class_of, class_mode, units, parsed, Piece, IsSpellable, spelling, spellings, message, IsMergePlan, total_bits}
+use Rattle.qrcode_bits.proofs.Prelude.{Class, Pair, class_of, class_mode, units, parsed, Piece, IsSpellable, spelling, spellings, message, IsMergePlan}
+use Rattle.qrcode_bits.proofs.Prelude.{total_bits}
 use Rattle.qrcode_bits.proofs.Prelude.{get_or, nat_lt, ltb-true}
 use Rattle.qrcode_base.specs.Characters.{is_lead}
 use Rattle.qrcode_bits.proofs.Characters.{value_below, character_at_value}
 use Rattle.qrcode_base.proofs.Alphabet.{each_below, from_each_below, is_alphanumeric-from_inside}
 use Rattle.qrcode_bits.specs.Frame.{KeepUnits, HasNoPair}
-use Rattle.qrcode_bits.proofs.{Cuts.UpTo, Cuts.bits_of, Cuts.piece_bits, Cuts.Parted, Cuts.none, Carrying.segments_of, Carrying.AreUpTo, Carrying.one_piece, CutPlans.parted-merges}
+use Rattle.qrcode_bits.proofs.{Cuts.UpTo, Cuts.bits_of, Cuts.piece_bits, Cuts.Parted, Cuts.none, Carrying.segments_of, Carrying.AreUpTo, Carrying.one_piece}
+use Rattle.qrcode_bits.proofs.{CutPlans.parted-merges}
 use Rattle.qrcode_bits.proofs.{Adjoining.parsed-adjoin, Adjoining.units-size, Reading.length-spelling, Segments.length-character_bits}
 
 -- ---- The units of a text are of classes that its mode can encode
 
-units-alone : (a : ℕ) (w : List ℕ) → is_lead a ≡ false → units (a ∷ w) ≡ class_of a ∷ units w
+pub units-alone : (a : ℕ) (w : List ℕ) → is_lead a ≡ false → units (a ∷ w) ≡ class_of a ∷ units w
 units-alone a [] h = refl
 units-alone a (b ∷ w) h = grind arith
 
@@ -49,7 +51,7 @@ all-up_to (c ∷ cs) = (byte-up_to c, all-up_to cs)
 one-up_to : (m : Mode) (a : ℕ) (u : List ℕ) → is_lead a ≡ false → UpTo (class_mode (class_of a)) m → AreUpTo m (units u) → AreUpTo m (units (a ∷ u))
 one-up_to m a u h g w = subst (AreUpTo m) (sym (units-alone a u h)) (g, w)
 
-units-pair : (a b : ℕ) (u : List ℕ) → is_kanji_pair a b ≡ true → units (a ∷ b ∷ u) ≡ Pair ∷ units u
+pub units-pair : (a b : ℕ) (u : List ℕ) → is_kanji_pair a b ≡ true → units (a ∷ b ∷ u) ≡ Pair ∷ units u
 units-pair a b u h = grind arith
 
 digits-up_to : (u : List ℕ) → All IsDigit u → AreUpTo Numeric (units u)
@@ -116,7 +118,7 @@ shortest v pieces spellable kept =
 
 -- ---- If no two neighbouring bytes are a pair
 
-units-apart : (a b : ℕ) (w : List ℕ) → is_kanji_pair a b ≡ false → units (a ∷ b ∷ w) ≡ class_of a ∷ units (b ∷ w)
+pub units-apart : (a b : ℕ) (w : List ℕ) → is_kanji_pair a b ≡ false → units (a ∷ b ∷ w) ≡ class_of a ∷ units (b ∷ w)
 units-apart a b w h = grind arith
 
 units-append : (u w : List ℕ) → HasNoPair (u ++ w) → units (u ++ w) ≡ units u ++ units w

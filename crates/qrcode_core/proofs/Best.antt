@@ -1,8 +1,10 @@
 -- What is encoded and drawn is the best symbol, or holds the bits that a caller pushed; and its
 -- grid is far from others.
-use Rattle.qrcode_core.proofs.Prelude.{◌-◌, ◌<◌, ◌≤◌, sym, arith, Bool, List, length, length-append, Color, EcLevel, Version, MaskPattern, AreBytes, AreBlocksApart}
+use Rattle.qrcode_core.proofs.Prelude.{◌-◌, ◌<◌, ◌≤◌, sym, arith, Bool, List, length, length-append, Color, EcLevel, Version, MaskPattern, AreBytes}
+use Rattle.qrcode_core.proofs.Prelude.{AreBlocksApart}
 use Rattle.qrcode_core.proofs.Prelude.{codeword_block, block_sizes, Reading, Carries, Reads, ◌≡◌, append_cancel_right, missing_bits, zero_bits, AreApart}
-use Rattle.qrcode_core.proofs.Prelude.{AreDataOf, Elements, Front, InvalidResourceLimits, Text, front_bits, front_of, no_front, parsed_bytes, pieces_of, pos, subst}
+use Rattle.qrcode_core.proofs.Prelude.{AreDataOf, Elements, Front, InvalidResourceLimits, Text, front_bits, front_of, no_front, parsed_bytes, pieces_of, pos}
+use Rattle.qrcode_core.proofs.Prelude.{subst}
 use Rattle.qrcode_core.proofs.Prelude.{HaveDistance, ℕ, ◌+◌, refl, IsChoice, total_bits, DrawnSymbol, TellsReading, IsEncoded}
 use Rattle.qrcode_core.proofs.Prelude.{IsDrawn, IsBest, ◌++◌, take, Some, None, All, none-some, BlockLayout, QrError, DataTooLong, OutOfMemory, blocks_of}
 use Rattle.qrcode_core.proofs.Prelude.{capacity, normal, micro, spellings, Stream, IsRefusal, AreBytesOf, FillsSymbol, IsDrawnStream, common_steps}
@@ -17,7 +19,8 @@ use Rattle.qrcode_bits.specs.Plans.{normal_from}
 use Rattle.qrcode_bits.specs.Push.{IsEncoding, IsUnencodable, IsFrontRefused, EndsAtLevel}
 use Rattle.qrcode_core.specs.Headline.{IsTooLongAfter, IsTextRefusal, IsElementsRefusal}
 use Rattle.qrcode_bits.{proofs.Reading.frame_one_reading, specs.declared.optimize.Segment.Segment, proofs.Choices.fits_last}
-use Rattle.qrcode_bits.{proofs.Lengths.long_message, proofs.Lengths.long_for_micro, proofs.PlanFrames.spelled_plan, proofs.Contents.length-parsed, proofs.Contents.parsed-bytes}
+use Rattle.qrcode_bits.{proofs.Lengths.long_message, proofs.Lengths.long_for_micro, proofs.PlanFrames.spelled_plan, proofs.Contents.length-parsed}
+use Rattle.qrcode_bits.{proofs.Contents.parsed-bytes}
 
 -- ---- The blocks of a grid that is read are sound, so other sound lists are far from them
 

@@ -5,6 +5,7 @@ pub mod Printed
 pub mod Best
 pub mod Strongest
 pub mod Sequences
+pub mod BestCuts
 mod Limited
 mod RowCounts
 mod Plugins

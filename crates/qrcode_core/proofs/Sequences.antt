@@ -2,7 +2,8 @@
 -- each.
 use Rattle.qrcode_core.proofs.Prelude.{common_steps, ◌≡◌, ℕ, zero, suc, ◌+◌, ◌-◌, ◌<◌, ◌≤◌, refl, sym, ◌∙◌, arith, List, [], ◌∷◌, ◌++◌, length, get_or, drop}
 use Rattle.qrcode_core.proofs.Prelude.{IsPermutation, slice_range, concat, IsNonDecreasing, same_lists, get_or_default, IsPermutation-sym, IsPermutation-trans}
-use Rattle.qrcode_core.proofs.Prelude.{Contains-permutation, length_permutation, same_Some, Color, Header, Reading, ReadsPiece, ReadsMessage, HaveOneMessage, parts_from}
+use Rattle.qrcode_core.proofs.Prelude.{Contains-permutation, length_permutation, same_Some, Color, Header, Reading, ReadsPiece, ReadsMessage, HaveOneMessage}
+use Rattle.qrcode_core.proofs.Prelude.{parts_from}
 use Rattle.qrcode_core.proofs.Prelude.{parts_at, ap, subst, inl, inr, length-append, cases_eq, get_or_append_left, get_or_push, IsPermutation-refl, EcLevel}
 use Rattle.qrcode_core.proofs.Prelude.{QrError, DataTooLong, InvalidResourceLimits, IsTotal, IsNormalNumber, ℤ}
 use Rattle.qrcode_core.proofs.OneReading.{one_reading}

@@ -1,6 +1,7 @@
 -- The greatest level at which the data fit the version of the best symbol at the level asked for.
 use Rattle.qrcode_core.proofs.Prelude.{◌≡◌, ℕ, ℤ, zero, suc, pos, ◌+◌, ◌-◌, ◌*◌, ◌<◌, ◌≤◌, refl, sym, ap, ◌∙◌, subst, arith, inl, inr, Bool, true, List, length}
-use Rattle.qrcode_core.proofs.Prelude.{get_or, nat_abs, Option, Some, EcLevel, Version, Normal, Color, BlockLayout, data_bytes, capacity, normal, width_of, Front}
+use Rattle.qrcode_core.proofs.Prelude.{get_or, nat_abs, Option, Some, EcLevel, Version, Normal, Color, BlockLayout, data_bytes, capacity, normal, width_of}
+use Rattle.qrcode_core.proofs.Prelude.{Front}
 use Rattle.qrcode_core.proofs.Prelude.{front_bits, parsed_bytes, same_Some, IsBest, Reading, DrawnSymbol, TellsReading}
 use Rattle.std.proofs.Common.{leb, false, not}
 use Rattle.std.proofs.lemmas.Bool.{cases_lt, leb-true}

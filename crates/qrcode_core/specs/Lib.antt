@@ -2,6 +2,7 @@ pub mod Headline
 pub mod Drawn
 pub mod Layers
 pub mod Sequence
+pub mod BestCuts
 pub use Rattle.qrcode_base.specs.Names
 pub use Rattle.qrcode_bits.specs.Push
 pub mod Grids

@@ -17,12 +17,14 @@ ghost use Rattle.qrcode_core.specs.Headline.{IsTooLongForMicro, IsRefusal};
 ghost use Rattle.qrcode_bits.specs.Push.{IsMicroRefused};
 
 mod asked;
+mod cuts;
 mod owned;
 mod sequence;
 
+pub use cuts::{best_cuts, best_text_cuts};
 pub use owned::Symbol;
 use qrcode_base::types::{Color, EcLevel, QrResult};
-pub use sequence::{are_cuts, symbol_sequence};
+pub use sequence::{are_cuts, are_text_cuts, symbol_sequence};
 use std::alloc::Global;
 
 /// Returns the modules of the best symbol of the bytes at a level, row by row from the upper left

@@ -7,6 +7,8 @@ mod configuration_tests;
 #[cfg(test)]
 mod content_tests;
 #[cfg(test)]
+mod cut_tests;
+#[cfg(test)]
 mod grids;
 #[cfg(test)]
 mod refused_growth;

@@ -1,9 +1,11 @@
 //! A message in several symbols, by `qrcode_core`.
-ghost use Rattle.std.specs.Prelude.{◌/◌, ◌∷◌, [], length, map, vec_items, IfOk, IfSome};
-ghost use Rattle.qrcode_bits.specs.declared.bits.front.Content.TheVariants.{Bytes};
+ghost use Rattle.std.specs.Prelude.{ℕ, ◌/◌, ◌∷◌, [], List, length, map, vec_items, All, IfOk, IfSome};
+ghost use Rattle.qrcode_bits.specs.declared.bits.front.Content.TheVariants.{Bytes, Text};
+ghost use Rattle.qrcode_core.specs.BestCuts.{AreBestCuts};
+ghost use Rattle.qrcode_core.specs.Drawn.{TellsReading, modules_of};
 ghost use Rattle.qrcode_core.specs.Sequence.{AreBestSymbols};
 
-use qrcode_core::symbol::{are_cuts, symbol_sequence};
+use qrcode_core::symbol::{Symbol, are_cuts, best_text_cuts, symbol_sequence};
 use qrcode_core::types::{Color, EcLevel, QrResult};
 use std::alloc::Global;
 
@@ -28,4 +30,15 @@ pub fn parts(alloc: Global, bytes: &[u8], cuts: &[usize]) -> Option<QrResult<Vec
     } else {
         None
     }
+}
+
+/// Returns the symbols of a text that is too long for one, at level M, as few as can be.
+pub fn sheets(alloc: Global, text: &str) -> QrResult<Vec<Symbol>>
+    ensures fewest { IfOk result (λ symbols. (cuts : List ℕ)
+        × AreBestCuts Text text.now EcLevel.M 40 cuts
+        × AreBestSymbols Text text.now cuts EcLevel.M 40 (map modules_of symbols.items)) }
+    ensures reading { IfOk result (λ symbols. All TellsReading symbols.items) }
+{
+    let cuts = best_text_cuts(alloc, text, EcLevel::M, 40)?;
+    Symbol::text_sequence(alloc, text, &cuts, EcLevel::M, 40)
 }

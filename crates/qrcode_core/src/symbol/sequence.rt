@@ -7,6 +7,7 @@ ghost use Rattle.std.specs.Prelude.{OnOk, IfOk, IfErr};
 ghost use Rattle.std.specs.Prelude.{ℕ, IsTrue, List, Some, vec_items};
 ghost use Rattle.std.specs.List.Sorted.{IsNonDecreasing};
 ghost use Rattle.qrcode_bits.specs.Contents.{AreDataOf};
+ghost use Rattle.qrcode_bits.specs.Places.{IsCutPlace};
 ghost use Rattle.qrcode_bits.specs.Plans.{normal};
 ghost use Rattle.qrcode_bits.specs.Push.{IsFrontRefused};
 ghost use Rattle.qrcode_bits.specs.declared.bits.front.Content.TheVariants.{Bytes, Text};
@@ -37,6 +38,23 @@ pub fn are_cuts(cuts: &[usize], length: usize) -> bool
     cuts.is_sorted() && cuts.iter().all(|cut| *cut <= length)
 }
 
+/// Whether a text can be cut at these places, as `are_cuts` says: each is also the start of a
+/// character, or the start or the end of the text.
+///
+/// `Symbol::text_sequence` requires this of its cuts.
+pub fn are_text_cuts(cuts: &[usize], text: &str) -> bool
+    ensures ordered { IsTrue result → IsNonDecreasing cuts.now }
+    ensures within { IsTrue result → All (λ cut. cut ≤ length text.now) cuts.now }
+    ensures whole { IsTrue result → All (λ cut. IsCutPlace Text text.now cut) cuts.now }
+    ensures refused { IsNonDecreasing cuts.now →
+        All (λ cut. IsCutPlace Text text.now cut) cuts.now → IsTrue result }
+{
+    are_cuts(cuts, text.len())
+        && cuts
+            .iter()
+            .all(|cut| *cut == 0 || text.is_char_boundary(*cut))
+}
+
 impl Symbol {
     /// Returns the 2 to 16 symbols that carry a message together, in the order of its parts
     /// (ISO/IEC 18004:2006, "Structured Append"). `symbol_sequence` says what the parts and the
@@ -64,8 +82,8 @@ impl Symbol {
     }
 
     /// Returns the 2 to 16 symbols that carry a text together, as `sequence` does, each with the
-    /// ECI designator of UTF-8 after its header. A cut is at the end of a character (as
-    /// `str::is_char_boundary` says), so that each symbol has whole characters.
+    /// ECI designator of UTF-8 after its header. Each cut is between two characters, so that each
+    /// symbol has whole ones. `are_text_cuts` tests cuts, and `best_text_cuts` finds them.
     pub fn text_sequence(
         alloc: Global,
         text: &str,
@@ -75,6 +93,7 @@ impl Symbol {
     ) -> QrResult<Vec<Symbol>>
         requires ordered { IsNonDecreasing cuts.now }
         requires within { All (λ cut. cut ≤ length text.now) cuts.now }
+        requires whole { All (λ cut. IsCutPlace Text text.now cut) cuts.now }
         ensures best { IfOk result (λ symbols. AreBestSymbols Text text.now cuts.now level
             (nat_abs max_version) (map modules_of symbols.items)) }
         ensures reading { IfOk result (λ symbols. All TellsReading symbols.items) }

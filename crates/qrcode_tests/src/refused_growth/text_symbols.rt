@@ -1,7 +1,7 @@
 //! Symbols of texts and of elements. The hash is that of the symbol that the original crate draws
 //! for the same pushes in the smallest version: the designator and one Byte segment.
 use crate::grids::hash;
-use qrcode_core::symbol::Symbol;
+use qrcode_core::symbol::{Symbol, best_cuts};
 use qrcode_core::types::{EcLevel, QrError, QrResult};
 use std::str;
 
@@ -33,4 +33,12 @@ fn contents_of_too_many_bytes(rt: HostRuntime) {
     let text = str::from_utf8(&digits);
     let refused = text.map(|text| Symbol::text(rt.alloc(), text, EcLevel::L));
     assert!(rt; matches!(refused, Ok(Err(QrError::DataTooLong))));
+}
+
+/// In version 1 at level L a part has 152 bits, of which 32 are no data, so 15 bytes.
+#[test]
+fn cuts_of_a_message(rt: HostRuntime) -> QrResult<()> {
+    let cuts = best_cuts(rt.alloc(), &[b'a'; 16], EcLevel::L, 1)?;
+    assert_eq!(rt; cuts.as_slice(), [15].as_slice());
+    Ok(())
 }

@@ -1,7 +1,8 @@
 -- Data are parsed as their content wants it; more than 7089 bytes fit no version.
 use Rattle.qrcode_bits.proofs.Prelude.{◌+◌, ◌-◌, List, ℕ, subst, length, arith, front_bits, parsed_bytes, IsUnencodable, IfErr-weaker, common_steps}
 use Rattle.qrcode_bits.specs.Plans.{normal_from}
-use Rattle.qrcode_bits.proofs.{Pairs.bytes_valid, Lengths.long_message, Contents.length-parsed, Contents.parsed-bytes, Contents.map-parsed, Contents.parsed-alone}
+use Rattle.qrcode_bits.proofs.{Pairs.bytes_valid, Lengths.long_message, Contents.length-parsed, Contents.parsed-bytes, Contents.map-parsed}
+use Rattle.qrcode_bits.proofs.{Contents.parsed-alone}
 use Rattle.qrcode_bits.proofs.bits.choice.encode_from.Goals as goal
 
 pub returns-then-bytes-gt-LONGEST_DATA-clause-err : goal.returns-then-bytes-gt-LONGEST_DATA-clause-err

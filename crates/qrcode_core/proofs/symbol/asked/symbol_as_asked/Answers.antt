@@ -5,7 +5,8 @@ use mir.Val.{to_z, of_z}
 use mir.Syntax.{w16}
 use Rattle.qrcode_bits.proofs.{Contents.length-parsed}
 use Rattle.qrcode_core.specs.Options.{IsOptionsRefusal}
-use Rattle.qrcode_core.proofs.Strongest.{usual_version, number_is, not_micro, small_number, in_range, within_limit, strongest_asked, best_asked, usual_is_strongest, found_is_strongest}
+use Rattle.qrcode_core.proofs.Strongest.{usual_version, number_is, not_micro, small_number, in_range, within_limit, strongest_asked, best_asked}
+use Rattle.qrcode_core.proofs.Strongest.{usual_is_strongest, found_is_strongest}
 use Rattle.qrcode_core.proofs.symbol.asked.symbol_as_asked.Goals as goal
 
 pub unreachable-requires : goal.unreachable-requires

@@ -1,0 +1,193 @@
+-- Data that lie within data that fit, fit too.
+use Rattle.qrcode_bits.proofs.Prelude.{◌≡◌, ℕ, zero, suc, ◌+◌, ◌-◌, ◌<◌, ◌≤◌, Bool, true, false, List, [], ◌∷◌, ◌++◌, length, take, drop, refl, sym, ap, ◌∙◌}
+use Rattle.qrcode_bits.proofs.Prelude.{subst, arith, inl, inr, cases_lt}
+use Rattle.qrcode_bits.proofs.Prelude.{one-add, take-add, drop-drop, slice_range, is_kanji_pair, EcLevel, Segment, Class, Pair, class_of, units, parsed}
+use Rattle.qrcode_bits.proofs.Prelude.{parsed_bytes, normal, Fits, FitsNot, FitsNone}
+use Rattle.qrcode_bits.proofs.Prelude.{length-append, length-drop, total_bits, Content, Bytes, Text, Elements, All, All-head, All-tail, All-nil, map}
+use Rattle.qrcode_bits.proofs.Prelude.{take-length, content_bits, IsMergePlan, ◌≢◌, L, M, Q, H, capacity, Some}
+use Rattle.qrcode_bits.proofs.{Cuts.Parted, Carrying.segments_of}
+use Rattle.qrcode_bits.specs.Places.{total_size, IsUnitEnd, IsCutPlace}
+use Rattle.qrcode_bits.proofs.{Adjoining.class_of-one, Adjoining.parsed-adjoin, Adjoining.units-size, Runs.class_size-some, Shortest.units-pair}
+use Rattle.qrcode_bits.proofs.{Shortest.units-apart, Shortest.units-alone, Shortest.low-no_lead, CutPlans.parted-merges}
+use Rattle.qrcode_bits.proofs.{Numbers.length-number_bits, Contents.parsed-low, Contents.length-parsed, Contents.slice-parsed}
+use Rattle.std.proofs.lemmas.List.{length-map}
+use Rattle.qrcode_bits.proofs.{Choices.fits_normal, Within.plan-parted, Within.without_first, Within.without_last, Within.from_start}
+
+-- ---- The units of first bytes, and of those after them
+
+size-append : (cs ds : List Class) → total_size (cs ++ ds) ≡ total_size cs + total_size ds
+size-append [] ds = omega arith
+size-append (c ∷ cs) ds = let e = size-append cs ds in omega (arith, e)
+
+abbrev size_at : List ℕ → ℕ → ℕ
+size_at bytes n = total_size (take n (units bytes))
+
+unit_after : (a : ℕ) (w : List ℕ) (b : ℕ) (rest : List ℕ) (k : ℕ) → w ≡ take k (b ∷ rest) → is_kanji_pair a b ≡ false → units (a ∷ w) ≡ class_of a ∷ units w
+unit_after a w b rest zero e h = rw e refl
+unit_after a w b rest (suc k) e h = rw e (units-apart a b (take k rest) h)
+
+two_add : (n : ℕ) → 2 + n ≡ suc (suc n)
+two_add n = omega arith
+
+abbrev IsDropped : List ℕ → ℕ → Type 0
+IsDropped bytes n = units (drop (size_at bytes n) bytes) ≡ drop n (units bytes)
+
+abbrev IsTaken : List ℕ → ℕ → Type 0
+IsTaken bytes n = units (take (size_at bytes n) bytes) ≡ take n (units bytes)
+
+one_dropped : (a b : ℕ) (rest : List ℕ) (n : ℕ) (p : Bool) → is_kanji_pair a b ≡ p → IsDropped rest n → IsDropped (b ∷ rest) n →
+    IsDropped (a ∷ b ∷ rest) (suc n)
+one_dropped a b rest n true h w x = let e = units-pair a b rest h in rw (e, two_add (size_at rest n)) w
+one_dropped a b rest n false h w x = let e = units-apart a b rest h in let one = class_of-one a in rw (e, one, one-add (size_at (b ∷ rest) n)) x
+
+one_taken : (a b : ℕ) (rest : List ℕ) (n : ℕ) (p : Bool) → is_kanji_pair a b ≡ p → IsTaken rest n → IsTaken (b ∷ rest) n → IsTaken (a ∷ b ∷ rest) (suc n)
+one_taken a b rest n true h w x = let e = units-pair a b rest h in
+    rw (e, two_add (size_at rest n)) (units-pair a b (take (size_at rest n) rest) h ∙ ap (λ cs. Pair ∷ cs) w)
+one_taken a b rest n false h w x = let e = units-apart a b rest h in let one = class_of-one a in
+    rw (e, one, one-add (size_at (b ∷ rest) n)) (unit_after a (take (size_at (b ∷ rest) n)
+    (b ∷ rest)) b rest (size_at (b ∷ rest) n) refl h ∙ ap (λ cs. class_of a ∷ cs) x)
+
+pub units-drop : (bytes : List ℕ) (n : ℕ) → IsDropped bytes n
+units-drop bytes zero = refl
+units-drop [] (suc n) = refl
+units-drop (a ∷ []) (suc zero) = let one = class_of-one a in rw one refl
+units-drop (a ∷ []) (suc (suc n)) = let one = class_of-one a in rw one refl
+units-drop (a ∷ b ∷ rest) (suc n) = one_dropped a b rest n (is_kanji_pair a b) refl (units-drop rest n) (units-drop (b ∷ rest) n)
+
+pub units-take : (bytes : List ℕ) (n : ℕ) → IsTaken bytes n
+units-take bytes zero = refl
+units-take [] (suc n) = refl
+units-take (a ∷ []) (suc zero) = let one = class_of-one a in rw one refl
+units-take (a ∷ []) (suc (suc n)) = let one = class_of-one a in rw one refl
+units-take (a ∷ b ∷ rest) (suc n) = one_taken a b rest n (is_kanji_pair a b) refl (units-take rest n) (units-take (b ∷ rest) n)
+
+-- ---- Places
+
+pub size-cut : (cs : List Class) (n m : ℕ) → n ≤ m → total_size (take m cs) ≡ total_size (take n cs) + total_size (slice_range cs n m)
+size-cut cs n m h =
+    let at : n + (m - n) ≡ m = omega arith in
+    ap (λ k. total_size (take k cs)) (sym at) ∙ (ap total_size (take-add n (m - n) cs) ∙ size-append (take n cs) (slice_range cs n m))
+
+some-size : (cs : List Class) (n : ℕ) → 1 ≤ n → 1 ≤ length cs → 1 ≤ total_size (take n cs)
+some-size [] n h full = absurd (omega (arith, full))
+some-size (c ∷ cs) zero h full = absurd (omega (arith, h))
+some-size (c ∷ cs) (suc n) h full = let e = class_size-some c in omega (arith, e)
+
+-- places in the order of their units
+unit-order : (bytes : List ℕ) (p q : ℕ) (a : IsUnitEnd bytes p) (b : IsUnitEnd bytes q) → p ≤ q → a.0 ≤ b.0
+unit-order bytes p q a b h = elim (cases_lt b.0 a.0) [
+  | inl less ↦ (let long = length-drop b.0 (units bytes) in
+      let more = some-size (drop b.0 (units bytes)) (a.0 - b.0) (omega arith) (omega (arith, long, a.1)) in
+      let cut = size-cut (units bytes) b.0 a.0 (omega arith) in absurd (omega (arith, h, a.2, b.2, cut, more)))
+  | inr past ↦ past
+]
+
+-- the units between two places
+units-between : (bytes : List ℕ) (p q : ℕ) (a : IsUnitEnd bytes p) (b : IsUnitEnd bytes q) → p ≤ q →
+    units (slice_range bytes p q) ≡ slice_range (units bytes) a.0 b.0
+units-between bytes p q a b h =
+    let order = unit-order bytes p q a b h in
+    let after = ap (λ k. units (drop k bytes)) a.2 ∙ units-drop bytes a.0 in
+    let size : q - p ≡ total_size (take (b.0 - a.0) (units (drop p bytes))) =
+    rw after (let cut = size-cut (units bytes) a.0 b.0 order in omega (arith, a.2, b.2, cut)) in
+    ap (λ k. units (take k (drop p bytes))) size ∙ (units-take (drop p bytes) (b.0 - a.0) ∙ ap (λ cs. take (b.0 - a.0) cs) after)
+
+-- ---- What lies within data that fit
+
+slice-classes : (cs : List Class) (a b c : ℕ) → a ≤ b → b ≤ c → slice_range cs a b ++ slice_range cs b c ≡ slice_range cs a c
+slice-classes cs a b c h k = grind (arith, take-add (b - a) (c - b) (drop a cs), drop-drop)
+
+within_units : (front n : ℕ) (l : EcLevel) (outer inner : List ℕ) (cs ds es : List Class) (plan : List Segment) → units outer ≡ cs ++ (ds ++ es) →
+    units inner ≡ ds →
+    Fits front outer (normal n) l plan → FitsNot front inner (normal n) l → ⊥
+within_units front n l outer inner cs ds es plan whole part fits none =
+    let all = subst (λ xs. Parted (normal n) (segments_of 0 xs)
+    (total_bits (normal n) plan)) whole (plan-parted (normal n) 0 (units outer) plan fits.planned) in
+    let behind = without_first (normal n) cs (ds ++ es) 0 (total_bits (normal n) plan) all in
+    let alone = without_last (normal n) ds es (0 + total_size cs) behind.0 behind.1 in
+    let here = subst (λ xs. Parted (normal n) (segments_of 0 xs) alone.0) (sym part) (from_start (normal n) (0 + total_size cs) ds alone.0 alone.1) in
+    let w = parted-merges (normal n) (parsed inner) alone.0 0 (length inner) here (parsed-adjoin inner) in
+    none w.0 (fits_normal front n fits.limit inner l w.0 w.1 fits.has_level (omega (arith, fits.within, behind.2, alone.2, w.2)))
+
+within_bytes : (front limit : ℕ) (l : EcLevel) (bytes : List ℕ) (p q r s : ℕ) → p ≤ q → q ≤ r → r ≤ s → IsUnitEnd bytes p → IsUnitEnd bytes q →
+    IsUnitEnd bytes r → IsUnitEnd bytes s →
+    FitsNone normal front (slice_range bytes q r) l limit → FitsNone normal front (slice_range bytes p s) l limit
+within_bytes front limit l bytes p q r s h k i a b c d none n few plan fits =
+    let us = units bytes in
+    let ab = unit-order bytes p q a b h in let bc = unit-order bytes q r b c k in let cd = unit-order bytes r s c d i in
+    let whole = units-between bytes p s a d (omega (arith, h, k, i)) ∙ (sym (slice-classes us a.0 b.0 d.0 ab (omega (arith, bc, cd)))
+    ∙ ap (λ xs. slice_range us a.0 b.0 ++ xs) (sym (slice-classes us b.0 c.0 d.0 bc cd))) in
+    within_units front n l (slice_range bytes p s) (slice_range bytes q r) (slice_range us a.0 b.0) (slice_range us b.0 c.0) (slice_range us c.0 d.0) plan whole
+    (units-between bytes q r b c k) fits (none n few)
+
+-- ---- In a text each place is the end of a unit
+
+low-units : (bytes : List ℕ) → All (λ b. b < 128) bytes → units bytes ≡ map class_of bytes
+low-units [] h = refl
+low-units (a ∷ bytes) h =
+    units-alone a bytes (low-no_lead a (All-head (λ b. b < 128) a bytes h)) ∙ ap (λ cs. class_of a ∷ cs) (low-units bytes (All-tail (λ b. b < 128) a bytes h))
+
+single-size : (bytes : List ℕ) (p : ℕ) → p ≤ length bytes → total_size (take p (map class_of bytes)) ≡ p
+single-size bytes zero h = refl
+single-size [] (suc p) h = absurd (omega (arith, h))
+single-size (a ∷ bytes) (suc p) h = let one = class_of-one a in let e = single-size bytes p (omega (arith, h)) in omega (arith, one, e)
+
+text-end : (bytes : List ℕ) (p : ℕ) → p ≤ length bytes → IsUnitEnd (parsed_bytes Text bytes) p
+text-end bytes p h =
+    let parsed = parsed_bytes Text bytes in
+    let e = low-units parsed (parsed-low Text tt bytes) in
+    let long = length-parsed Text bytes in
+    rw e (p, omega (arith, length-map parsed class_of, long, h), sym (single-size parsed p (omega (arith, long, h))))
+
+pub within_content : (c : Content) (front limit : ℕ) (l : EcLevel) (bytes : List ℕ) (p q r s : ℕ) → p ≤ q → q ≤ r → r ≤ s →
+    IsCutPlace c bytes p → IsCutPlace c bytes q → IsCutPlace c bytes r → IsCutPlace c bytes s →
+    FitsNone normal front (parsed_bytes c (slice_range bytes q r)) l limit → FitsNone normal front (parsed_bytes c (slice_range bytes p s)) l limit
+within_content Bytes front limit l bytes p q r s h k i a b c d none = within_bytes front limit l bytes p q r s h k i a b c d none
+within_content Text front limit l bytes p q r s h k i a b c d none =
+    subst (λ z. FitsNone normal front z l limit) (slice-parsed Text bytes p s)
+    (within_bytes front limit l (parsed_bytes Text bytes) p q r s h k i (text-end bytes p a.0) (text-end bytes q b.0) (text-end bytes r c.0)
+    (text-end bytes s d.0)
+    (subst (λ z. FitsNone normal front z l limit) (sym (slice-parsed Text bytes q r)) none))
+within_content Elements front limit l bytes p q r s h k i a b c d none = absurd a
+
+-- ---- The start and the end, and no data
+
+pub start_place : (c : Content) (bytes : List ℕ) → c ≢ Elements → IsCutPlace c bytes 0
+start_place Bytes bytes h = (0, omega arith, refl)
+start_place Text bytes h = (omega arith, λ k. absurd (omega (arith, k)))
+start_place Elements bytes h = absurd (h refl)
+
+pub end_place : (c : Content) (bytes : List ℕ) → c ≢ Elements → IsCutPlace c bytes (length bytes)
+end_place Bytes bytes h =
+    (length (units bytes), omega arith, sym (ap total_size (take-length (units bytes)) ∙ units-size bytes))
+end_place Text bytes h = (omega arith, λ k l. absurd (omega (arith, l)))
+end_place Elements bytes h = absurd (h refl)
+
+empty_plan : IsMergePlan (parsed []) []
+empty_plan = record { pieces = []; whole = refl; nonempty = All-nil (λ (piece : List Segment). 0 < length piece); merges = refl }
+
+-- version 1 has 72 bits at least, and no front more than 32
+least_room : (l : EcLevel) → (d : ℕ) × (capacity (normal 1) l ≡ Some d) × (72 ≤ d)
+least_room L = (152, refl, omega arith)
+least_room M = (128, refl, omega arith)
+least_room Q = (104, refl, omega arith)
+least_room H = (72, refl, omega arith)
+
+content-short : (c : Content) → length (content_bits c) ≤ 12
+content-short Bytes = omega arith
+content-short Text = grind (arith, length-append, length-number_bits)
+content-short Elements = omega (arith, length-number_bits 4 5)
+
+pub empty_fits : (c : Content) (l : EcLevel) → FitsNone normal (20 + length (content_bits c)) [] l 1 → ⊥
+empty_fits c l none =
+    let w = least_room l in let few = content-short c in
+    none 1 (omega arith) [] (fits_normal (20 + length (content_bits c)) 1 w.0 [] l [] empty_plan w.1 (omega (arith, w.2, few)))
+
+-- No place is past the end.
+pub place_within : (c : Content) (bytes : List ℕ) (p : ℕ) → IsCutPlace c bytes p → p ≤ length bytes
+place_within Bytes bytes p h =
+    let us = units bytes in
+    let cut = size-cut us h.0 (length us) h.1 in
+    let all = ap total_size (take-length us) ∙ units-size bytes in omega (arith, cut, all, h.2)
+place_within Text bytes p h = h.0
+place_within Elements bytes p h = absurd h

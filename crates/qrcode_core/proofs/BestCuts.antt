@@ -1,0 +1,278 @@
+-- The longest parts that fit are the fewest.
+use Rattle.qrcode_core.proofs.Prelude.{◌≡◌, ℕ, zero, suc, ◌+◌, ◌-◌, ◌<◌, ◌≤◌, List, [], ◌∷◌, ◌++◌, length, refl, sym, ap, ◌∙◌, subst, arith, inl, inr}
+use Rattle.qrcode_core.proofs.Prelude.{append_assoc}
+use Rattle.qrcode_core.proofs.Prelude.{get_or, length-append, All, EcLevel, normal, parsed_bytes, slice_range, IsNonDecreasing}
+use Rattle.std.proofs.lemmas.List.{append-nil, take_all, length-drop}
+use Rattle.std.proofs.lemmas.List.Elements.{All-cons, All-nil}
+use Rattle.qrcode_core.proofs.Prelude.{drop, parts_from}
+use Rattle.qrcode_core.specs.Sequence.{IsSomePartTooLong}
+use Rattle.std.proofs.lemmas.Bool.{cases_lt}
+use Rattle.std.specs.Prelude.{◌≢◌, slice_index_or}
+use Rattle.qrcode_bits.specs.Contents.{content_bits, AreDataOf}
+use Rattle.qrcode_bits.specs.Places.{IsCutPlace, AreCutPlaces}
+use Rattle.qrcode_bits.specs.Plans.{Fits, FitsNone}
+use Rattle.qrcode_bits.specs.declared.bits.front.Content.{Content}
+use Rattle.qrcode_bits.specs.declared.bits.front.Content.TheVariants.{Bytes, Text, Elements}
+use Rattle.qrcode_bits.proofs.Cutting.{within_content, start_place, end_place, empty_fits, place_within}
+use Rattle.qrcode_core.proofs.Prelude.{ℤ, Header, DataTooLong}
+use Rattle.qrcode_core.proofs.Prelude.{common_steps}
+use Rattle.std.proofs.Common.{Some, nat_abs}
+use Rattle.qrcode_bits.specs.Frame.{Front, front_of, front_bits}
+use Rattle.qrcode_bits.specs.Push.{IsEncoding, IsFrontRefused}
+use Rattle.qrcode_bits.specs.Stream.{Stream}
+use Rattle.qrcode_core.proofs.NoneBetter.{front-long}
+use Rattle.qrcode_core.specs.BestCuts.{IsPartTooLong, AreFittingCuts, AreBestCuts}
+
+pub any_data : (c : Content) (bytes : List ℕ) → c ≢ Elements → AreDataOf c bytes
+any_data Bytes bytes h = tt
+any_data Text bytes h = tt
+any_data Elements bytes h = absurd (h refl)
+
+empty_part : (c : Content) (message : List ℕ) (p : ℕ) → parsed_bytes c (slice_range message p p) ≡ []
+empty_part Bytes message p = grind arith
+empty_part Text message p = grind arith
+empty_part Elements message p = grind arith
+
+-- ---- Places by their index
+
+module _ (c : Content) (message places : List ℕ) (are : AreCutPlaces c message places) where
+  abbrev place : ℕ → ℕ
+  place i = slice_index_or places i 0
+
+  pub places_order : (i j : ℕ) → i ≤ j → j < length places → place i ≤ place j
+  places_order i j h k = elim (cases_lt i j) [
+    | inl less ↦ (let w = are.increasing i j less k in omega (arith, w))
+    | inr past ↦ (let e : i ≡ j = omega (arith, h, past) in subst (λ n. place i ≤ place n) e (omega arith))
+  ]
+
+  pub is_place : (i : ℕ) → i < length places → IsCutPlace c message (place i)
+  is_place i h = (are.each i h).0
+
+  pub place_inside : (i : ℕ) → i < length places → place i ≤ length message
+  place_inside i h = let w = are.each i h in omega (arith, w.1)
+
+  module _ (other : c ≢ Elements) where
+    start : (i : ℕ) × (i < length places) × (place i ≡ 0)
+    start = are.all 0 (start_place c message other) (omega arith)
+
+    end : (i : ℕ) × (i < length places) × (place i ≡ length message)
+    end = are.all (length message) (end_place c message other) (omega arith)
+
+    pub some_place : 0 < length places
+    some_place = let w = start in omega (arith, w.1)
+
+    pub first_place : place 0 ≡ 0
+    first_place = let w = start in let o = places_order 0 w.0 (omega arith) w.1 in omega (arith, o, w.2)
+
+    pub last_place : (i : ℕ) → i + 1 ≡ length places → place i ≡ length message
+    last_place i h =
+        let w = end in let o = places_order w.0 i (omega (arith, w.1, h)) (omega (arith, h)) in
+        let most = place_inside i (omega (arith, h)) in omega (arith, o, w.2, most)
+
+-- ---- Parts
+
+-- What is known before the part that begins at the place of index `first`, after `n` cuts.
+pub record IsCutUpTo (c : Content) (message : List ℕ) (level : EcLevel) (limit : ℕ) (places : List ℕ) (first n : ℕ) (cuts : List ℕ) : Type 0 where
+  pub count : length cuts ≡ n
+  pub inside : first < length places
+  pub before : (ending : List ℕ) → AreFittingCuts c message level limit (slice_index_or places first 0) ending →
+      AreFittingCuts c message level limit 0 (cuts ++ ending)
+  pub others : (more : List ℕ) → AreFittingCuts c message level limit 0 more →
+      (rest : List ℕ) × AreFittingCuts c message level limit (slice_index_or places first 0) rest × (length rest + n ≤ length more)
+
+module _ (c : Content) (message : List ℕ) (level : EcLevel) (limit : ℕ) (other : c ≢ Elements) where
+  abbrev TooLong : ℕ → ℕ → Type 0
+  TooLong = IsPartTooLong c message level limit
+
+  abbrev Fitting : ℕ → List ℕ → Type 0
+  Fitting = AreFittingCuts c message level limit
+
+  part_within : (p q r s : ℕ) → p ≤ q → q ≤ r → r ≤ s → IsCutPlace c message p → IsCutPlace c message q → IsCutPlace c message r → IsCutPlace c message s →
+      TooLong q r → TooLong p s
+  part_within p q r s = within_content c (20 + length (content_bits c)) limit level message p q r s
+
+  pub later_too_long : (p r s : ℕ) → p ≤ r → r ≤ s → IsCutPlace c message p → IsCutPlace c message r → IsCutPlace c message s → TooLong p r → TooLong p s
+  later_too_long p r s h k a b d = part_within p p r s (omega arith) h k a a b d
+
+  pub none_fits : 1 ≤ limit → (p : ℕ) → TooLong p p → ⊥
+  none_fits some p h =
+      let empty : parsed_bytes c (slice_range message p p) ≡ [] = empty_part c message p in
+      let none = subst (λ z. FitsNone normal (20 + length (content_bits c)) z level limit) empty h in
+      empty_fits c level (λ n few. none n (omega (arith, few, some)))
+
+  -- cuts from a place on, from a later place on
+  later_cuts : (d e : ℕ) → d ≤ e → IsCutPlace c message d → IsCutPlace c message e → (cuts : List ℕ) → Fitting d cuts →
+      (rest : List ℕ) × Fitting e rest × (length rest ≤ length cuts)
+  later_cuts d e h a b [] fit =
+      let most = place_within c message e b in let end = end_place c message other in
+      ([], (λ long. fit (part_within d e (length message) (length message) h most (omega arith) a b end end long)), omega arith)
+  later_cuts d e h a b (x ∷ xs) fit = elim (cases_lt e x) [
+    | inl less ↦ (
+      x ∷ xs,
+      (
+        omega (arith, less),
+        fit.1,
+        (λ long. fit.2 (part_within d e x x h (omega (arith, less))
+            (omega arith) a b fit.1 fit.1 long)),
+        fit.3,
+      ),
+      omega arith,
+    )
+    | inr past ↦ (let w = later_cuts x e past fit.1 b xs fit.3 in (w.0, w.1, omega (arith, w.2)))
+  ]
+
+  module _ (places : List ℕ) (are : AreCutPlaces c message places) where
+    pub nothing_cut : IsCutUpTo c message level limit places 0 0 []
+    nothing_cut =
+        let zero_is = first_place c message places are other in
+        record {
+          count = refl;
+          inside = some_place c message places are other;
+          before = λ ending h. subst (λ p. Fitting p ending) zero_is h;
+          others = λ more h. (more, subst (λ p. Fitting p more) (sym zero_is) h, omega arith);
+        }
+
+    module _ (first last n : ℕ) (cuts : List ℕ) (known : IsCutUpTo c message level limit places first n cuts) (from : first ≤ last)
+        (inside : last < length places)
+        (fits : TooLong (slice_index_or places first 0) (slice_index_or places last 0) → ⊥)
+        (longest : (later : ℕ) → last < later → later < length places → TooLong (slice_index_or places first 0) (slice_index_or places later 0)) where
+      -- other cuts have one more cut up to the end of the longest part
+      one_less : last + 1 < length places → (more : List ℕ) → Fitting (slice_index_or places first 0) more →
+          (rest : List ℕ) × Fitting (slice_index_or places last 0) rest × (length rest + 1 ≤ length more)
+      one_less before_end [] fit =
+          let end : (length places - 1) + 1 ≡ length places = omega (arith, inside) in
+          let is = last_place c message places are other (length places - 1) end in
+          absurd (fit (subst (λ p. TooLong (slice_index_or places first 0) p) is (longest (length places - 1) (omega (arith, before_end))
+          (omega (arith, inside)))))
+      one_less before_end (x ∷ xs) fit =
+          let at = are.all x fit.1 (let w = place_within c message x fit.1 in omega (arith, w)) in
+          elim (cases_lt last at.0) [
+            | inl later ↦ absurd (fit.2 (subst (λ p. TooLong (slice_index_or places first 0) p) at.2 (longest at.0 later at.1)))
+            | inr up_to ↦ (let o = places_order c message places are at.0 last up_to inside in
+                let w = later_cuts x (slice_index_or places last 0) (subst (λ p. p ≤ slice_index_or places last 0) at.2 o) fit.1
+                (is_place c message places are last inside) xs fit.3 in (w.0, w.1, omega (arith, w.2)))
+          ]
+
+      pub one_cut : last + 1 < length places → IsCutUpTo c message level limit places last (n + 1) (cuts ++ slice_index_or places last 0 ∷ [])
+      one_cut before_end = record {
+        count = length-append cuts (slice_index_or places last 0 ∷ []) ∙ ap (λ k. k + 1) known.count;
+        inside = inside;
+        before = λ ending h. subst (Fitting 0) (sym (append_assoc cuts (slice_index_or places last 0 ∷ []) ending))
+            (known.before (slice_index_or places last 0 ∷ ending)
+            (places_order c message places are first last from inside, is_place c message places are last inside, fits, h));
+        others = λ more h. (let w = known.others more h in let r = one_less before_end w.0 w.1 in (r.0, r.1, omega (arith, w.2, r.2)));
+      }
+
+      pub all_cut : n < 16 → last + 1 ≡ length places → AreBestCuts c message level limit cuts
+      all_cut few end =
+          let is = last_place c message places are other last end in
+          record {
+            fitting = subst (Fitting 0) (append-nil cuts) (known.before [] (subst (λ p. TooLong (slice_index_or places first 0) p → ⊥) is fits));
+            few = omega (arith, known.count, few);
+            fewest = λ more h. (let w = known.others more h in omega (arith, w.2, known.count));
+          }
+
+    pub none_left : (first n : ℕ) (cuts : List ℕ) → IsCutUpTo c message level limit places first n cuts → 16 ≤ n → (more : List ℕ) → Fitting 0 more →
+        16 ≤ length more
+    none_left first n cuts known many more h = let w = known.others more h in omega (arith, w.2, many)
+
+-- ---- The search for the longest part
+
+-- The part up to the place at `fitting` fits, those up to the place at `past` and later ones do not.
+pub record IsSought (c : Content) (message : List ℕ) (level : EcLevel) (limit : ℕ) (places : List ℕ) (first fitting past : ℕ) : Type 0 where
+  pub from : first ≤ fitting
+  pub less : fitting < past
+  pub inside : past ≤ length places
+  pub fits : IsPartTooLong c message level limit (slice_index_or places first 0) (slice_index_or places fitting 0) → ⊥
+  pub too_long : (later : ℕ) → past ≤ later → later < length places →
+      IsPartTooLong c message level limit (slice_index_or places first 0) (slice_index_or places later 0)
+
+module _ (c : Content) (message : List ℕ) (level : EcLevel) (limit : ℕ) (other : c ≢ Elements) (places : List ℕ) (are : AreCutPlaces c message places)
+    (first : ℕ)
+    (exists : first < length places) where
+  pub sought_first : 1 ≤ limit → IsSought c message level limit places first first (length places)
+  sought_first some = record {
+    from = omega arith;
+    less = exists;
+    inside = omega arith;
+    fits = none_fits c message level limit other some (slice_index_or places first 0);
+    too_long = λ later h k. absurd (omega (arith, h, k));
+  }
+
+  module _ (fitting past middle : ℕ) (known : IsSought c message level limit places first fitting past) (more : fitting < middle) (less : middle < past) where
+    pub sought_fits : (IsPartTooLong c message level limit (slice_index_or places first 0) (slice_index_or places middle 0) → ⊥) →
+        IsSought c message level limit places first middle past
+    sought_fits h = record { from = omega (arith, known.from, more); less = less; inside = known.inside; fits = h; too_long = known.too_long }
+
+    pub sought_too_long : IsPartTooLong c message level limit (slice_index_or places first 0) (slice_index_or places middle 0) →
+        IsSought c message level limit places first fitting middle
+    sought_too_long h = record {
+      from = known.from;
+      less = more;
+      inside = omega (arith, less, known.inside);
+      fits = known.fits;
+      too_long = λ later k l. later_too_long c message level limit other (slice_index_or places first 0) (slice_index_or places middle 0)
+          (slice_index_or places later 0)
+          (places_order c message places are first middle (omega (arith, known.from, more)) (omega (arith, less, known.inside)))
+          (places_order c message places are middle later k l) (is_place c message places are first exists)
+          (is_place c message places are middle (omega (arith, less, known.inside))) (is_place c message places are later l) h;
+    }
+
+-- ---- Whether a part fits
+
+module _ (f : Front) (h : Header) (c : Content) (part : List ℕ) (level : EcLevel) (is : f ≡ front_of (Some h) c) where
+  long : length (front_bits f) ≡ 20 + length (content_bits c)
+  long = ap (λ (g : Front). length (front_bits g)) is ∙ front-long h c
+
+  same : f.content ≡ c
+  same = ap (λ (g : Front). g.content) is
+
+  pub encoded_fits : (limit : ℕ) (stream : Stream) → IsEncoding normal f part level limit stream →
+      FitsNone normal (20 + length (content_bits c)) (parsed_bytes c part) level limit → ⊥
+  encoded_fits limit stream e none =
+      subst (λ (d : Content). FitsNone normal (20 + length (content_bits c)) (parsed_bytes d part) level limit) (sym same) none e.number e.choice.up_to e.plan
+      (subst (λ (n : ℕ). Fits n (parsed_bytes f.content part) (normal e.number) level e.plan) long e.choice.fits)
+
+  pub refused_fits_not : (limit : ℤ) → IsFrontRefused f part level limit DataTooLong →
+      FitsNone normal (20 + length (content_bits c)) (parsed_bytes c part) level (nat_abs limit)
+  refused_fits_not limit r =
+      subst (λ (d : Content). FitsNone normal (20 + length (content_bits c)) (parsed_bytes d part) level (nat_abs limit)) same
+      (subst (λ (n : ℕ). FitsNone normal n (parsed_bytes f.content part) level (nat_abs limit)) long r.1)
+
+-- ---- Best cuts are cuts that a sequence takes
+
+rest_whole : (from : ℕ) (message : List ℕ) → slice_range message from (length message) ≡ drop from message
+rest_whole from message = grind (arith, common_steps, take_all, length-drop)
+
+module _ (c : Content) (message : List ℕ) (level : EcLevel) (limit : ℕ) where
+  pub cuts_within : (from : ℕ) (cuts : List ℕ) → AreFittingCuts c message level limit from cuts → All (λ cut. IsCutPlace c message cut) cuts
+  cuts_within from [] h = All-nil (λ cut. IsCutPlace c message cut)
+  cuts_within from (x ∷ xs) h = All-cons (λ cut. IsCutPlace c message cut) x xs h.1 (cuts_within x xs h.3)
+
+  pub cuts_short : (from : ℕ) (cuts : List ℕ) → AreFittingCuts c message level limit from cuts → All (λ cut. cut ≤ length message) cuts
+  cuts_short from [] h = All-nil (λ cut. cut ≤ length message)
+  cuts_short from (x ∷ xs) h = All-cons (λ cut. cut ≤ length message) x xs (place_within c message x h.1) (cuts_short x xs h.3)
+
+  at_least : (from : ℕ) (cuts : List ℕ) → AreFittingCuts c message level limit from cuts → (i d : ℕ) → i < length cuts → from ≤ get_or cuts i d
+  at_least from [] h i d k = absurd (omega (arith, k))
+  at_least from (x ∷ xs) h zero d k = h.0
+  at_least from (x ∷ xs) h (suc i) d k = let w = at_least x xs h.3 i d (omega (arith, k)) in omega (arith, w, h.0)
+
+  pub cuts_ordered : (from : ℕ) (cuts : List ℕ) → AreFittingCuts c message level limit from cuts → (i j d : ℕ) → i ≤ j → j < length cuts →
+      get_or cuts i d ≤ get_or cuts j d
+  cuts_ordered from [] h i j d k l = absurd (omega (arith, l))
+  cuts_ordered from (x ∷ xs) h zero zero d k l = omega arith
+  cuts_ordered from (x ∷ xs) h zero (suc j) d k l = at_least x xs h.3 j d (omega (arith, l))
+  cuts_ordered from (x ∷ xs) h (suc i) zero d k l = absurd (omega (arith, k))
+  cuts_ordered from (x ∷ xs) h (suc i) (suc j) d k l = cuts_ordered x xs h.3 i j d (omega (arith, k)) (omega (arith, l))
+
+  parts_fit : (from : ℕ) (cuts : List ℕ) → AreFittingCuts c message level limit from cuts → (i : ℕ) → i < length cuts + 1 →
+      FitsNone normal (20 + length (content_bits c)) (parsed_bytes c (slice_index_or (parts_from from cuts message) i [])) level limit → ⊥
+  parts_fit from [] h zero k none = h (subst (λ z. FitsNone normal (20 + length (content_bits c)) (parsed_bytes c z) level limit)
+      (sym (rest_whole from message)) none)
+  parts_fit from [] h (suc i) k none = omega (arith, k)
+  parts_fit from (x ∷ xs) h zero k none = h.2 none
+  parts_fit from (x ∷ xs) h (suc i) k none = parts_fit x xs h.3 i (omega (arith, k)) none
+
+  pub none_past : (cuts : List ℕ) → AreFittingCuts c message level limit 0 cuts → IsSomePartTooLong c message cuts level limit → ⊥
+  none_past cuts h long = parts_fit 0 cuts h long.0 long.1 long.2

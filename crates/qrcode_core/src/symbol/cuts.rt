@@ -1,0 +1,168 @@
+//! Cuts of a message into as few parts as can be, for `Symbol::sequence` and
+//! `Symbol::text_sequence`.
+//!
+//! 1. List the places at which the message may be cut (`cut_places`).
+//! 2. Make each part the longest one that fits (`last_fitting`). A part that lies within one that
+//!    fits, fits too, so that no other cuts make fewer parts.
+ghost use Rattle.std.specs.Prelude.{◌≡◌, ◌≢◌, ◌+◌, ◌<◌, ◌≤◌, ℕ, length, nat_abs, slice_index_or, All};
+ghost use Rattle.std.specs.Prelude.{true, false, IfOk, IfErr, OnOk};
+ghost use Rattle.std.specs.List.Sorted.{IsNonDecreasing};
+ghost use Rattle.qrcode_base.specs.Symbols.{IsNormalNumber};
+ghost use Rattle.qrcode_bits.specs.Contents.{AreDataOf, content_bits, parsed_bytes};
+ghost use Rattle.qrcode_bits.specs.Places.{AreCutPlaces, IsCutPlace};
+ghost use Rattle.qrcode_bits.specs.Plans.{normal, FitsNone};
+ghost use Rattle.qrcode_bits.specs.declared.bits.front.Content.TheVariants.{Bytes, Text, Elements};
+ghost use Rattle.qrcode_core.specs.BestCuts.{AreBestCuts, IsCutsRefusal, IsPartTooLong};
+ghost use Rattle.qrcode_core.specs.Sequence.{IsSomePartTooLong};
+
+use qrcode_base::symbols::is_normal_number;
+use qrcode_base::types::{EcLevel, QrError, QrResult};
+use qrcode_bits::bits::{Content, Front, SequenceHeader, cut_places, encode_front};
+use std::alloc::Global;
+
+/// The most symbols of a sequence.
+const MOST_PARTS: usize = 16;
+
+/// Returns the places at which to cut a message so that `Symbol::sequence` takes it: each part fits
+/// a version of at most `max_version` after a header, and no other cuts make fewer parts that do.
+/// No pair of the Kanji mode is cut. A message that fits one symbol after a header has no cuts, and
+/// needs no sequence.
+///
+/// # Errors
+///
+/// It fails with `InvalidResourceLimits` if `max_version` is outside 1 to 40. Then it fails with
+/// `DataTooLong` exactly where no cuts make at most 16 parts that fit, and with `OutOfMemory` where
+/// an allocation failed.
+pub fn best_cuts(
+    alloc: Global,
+    bytes: &[u8],
+    level: EcLevel,
+    max_version: i16,
+) -> QrResult<Vec<usize>>
+    ensures best { IfOk result (λ cuts.
+        AreBestCuts Bytes bytes.now level (nat_abs max_version) cuts.items) }
+    ensures ordered { IfOk result (λ cuts. IsNonDecreasing cuts.items) }
+    ensures within { IfOk result (λ cuts. All (λ cut. cut ≤ length bytes.now) cuts.items) }
+    ensures fitting { IfOk result (λ cuts.
+        IsSomePartTooLong Bytes bytes.now cuts.items level (nat_abs max_version) → ⊥) }
+    ensures limit { OnOk result (IsNormalNumber max_version) }
+    ensures refused { IfErr result (IsCutsRefusal Bytes bytes.now level max_version) }
+{
+    longest_parts(alloc, Content::Bytes, bytes, level, max_version)
+}
+
+/// Returns the places at which to cut a text so that `Symbol::text_sequence` takes it, as
+/// `best_cuts` does of bytes: each is between two characters. It fails as `best_cuts` does.
+pub fn best_text_cuts(
+    alloc: Global,
+    text: &str,
+    level: EcLevel,
+    max_version: i16,
+) -> QrResult<Vec<usize>>
+    ensures best { IfOk result (λ cuts.
+        AreBestCuts Text text.now level (nat_abs max_version) cuts.items) }
+    ensures ordered { IfOk result (λ cuts. IsNonDecreasing cuts.items) }
+    ensures within { IfOk result (λ cuts. All (λ cut. cut ≤ length text.now) cuts.items) }
+    ensures places { IfOk result (λ cuts. All (λ cut. IsCutPlace Text text.now cut) cuts.items) }
+    ensures fitting { IfOk result (λ cuts.
+        IsSomePartTooLong Text text.now cuts.items level (nat_abs max_version) → ⊥) }
+    ensures limit { OnOk result (IsNormalNumber max_version) }
+    ensures refused { IfErr result (IsCutsRefusal Text text.now level max_version) }
+{
+    longest_parts(alloc, Content::Text, text.as_bytes(), level, max_version)
+}
+
+/// Returns the cuts by which each part is the longest one that fits.
+fn longest_parts(
+    alloc: Global,
+    content: Content,
+    bytes: &[u8],
+    level: EcLevel,
+    max_version: i16,
+) -> QrResult<Vec<usize>>
+    requires cut { content ≢ Elements }
+    ensures best { IfOk result (λ cuts.
+        AreBestCuts content bytes.now level (nat_abs max_version) cuts.items) }
+    ensures limit { OnOk result (IsNormalNumber max_version) }
+    ensures refused { IfErr result (IsCutsRefusal content bytes.now level max_version) }
+{
+    if !is_normal_number(max_version) {
+        return Err(QrError::InvalidResourceLimits);
+    }
+    let places = cut_places(alloc, content, bytes)?;
+    let mut cuts = Vec::new(alloc);
+    let mut first = 0;
+    for count in 0..MOST_PARTS {
+        let last = last_fitting(alloc, content, bytes, &places, first, level, max_version)?;
+        if last + 1 == places.len() {
+            return Ok(cuts);
+        }
+        cuts.push(places[last])?;
+        first = last;
+    }
+    Err(QrError::DataTooLong)
+}
+
+/// Returns the index of the last place up to which the part from the place at index `first` fits.
+fn last_fitting(
+    alloc: Global,
+    content: Content,
+    bytes: &[u8],
+    places: &[usize],
+    first: usize,
+    level: EcLevel,
+    max_version: i16,
+) -> QrResult<usize>
+    requires cut { content ≢ Elements }
+    requires places { AreCutPlaces content bytes.now places.now }
+    requires exists { first < length places.now }
+    requires limit { IsNormalNumber max_version }
+    ensures from { IfOk result (λ last. first ≤ last) }
+    ensures exists { IfOk result (λ last. last < length places.now) }
+    ensures fits { IfOk result (λ last. IsPartTooLong content bytes.now level (nat_abs max_version)
+        (slice_index_or places.now first 0) (slice_index_or places.now last 0) → ⊥) }
+    ensures last { IfOk result (λ last. (later : ℕ) → last < later → later < length places.now →
+        IsPartTooLong content bytes.now level (nat_abs max_version)
+        (slice_index_or places.now first 0) (slice_index_or places.now later 0)) }
+    ensures memory { IfErr result (λ e. e ≡ QrError.OutOfMemory) }
+{
+    let mut fitting = first;
+    let mut past = places.len();
+    while past - fitting > 1 {
+        let middle = fitting + (past - fitting) / 2;
+        let part = &bytes[places[first]..places[middle]];
+        if part_fits(alloc, content, part, level, max_version)? {
+            fitting = middle;
+        } else {
+            past = middle;
+        }
+    }
+    Ok(fitting)
+}
+
+/// Returns whether a part fits some version, after a header.
+fn part_fits(
+    alloc: Global,
+    content: Content,
+    part: &[u8],
+    level: EcLevel,
+    max_version: i16,
+) -> QrResult<bool>
+    requires suited { AreDataOf content part.now }
+    requires limit { IsNormalNumber max_version }
+    ensures fits { IfOk result (λ fits. fits ≡ true →
+        FitsNone normal (20 + length (content_bits content)) (parsed_bytes content part.now) level
+        (nat_abs max_version) → ⊥) }
+    ensures too_long { IfOk result (λ fits. fits ≡ false →
+        FitsNone normal (20 + length (content_bits content)) (parsed_bytes content part.now) level
+        (nat_abs max_version)) }
+    ensures memory { IfErr result (λ e. e ≡ QrError.OutOfMemory) }
+{
+    // Which symbol it is of how many changes no bits' number.
+    let front = Front::with_header(SequenceHeader::new(1, 2, 0), content);
+    match encode_front(alloc, &front, part, level, max_version) {
+        Ok(_) => Ok(true),
+        Err(QrError::DataTooLong) => Ok(false),
+        Err(error) => Err(error),
+    }
+}
