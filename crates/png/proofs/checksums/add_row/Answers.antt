@@ -1,4 +1,4 @@
-use Rattle.std.proofs.Common.{◌≡◌, ◌∷◌, ◌+◌, ◌*◌, ◌%◌, length, ◌∙◌, ℕ, suc, refl, sym, ap, arith}
+use Rattle.std.proofs.Common.{◌≡◌, ◌∷◌, ◌+◌, ◌*◌, ◌%◌, length, ◌∙◌, ℕ, suc, sym, ap, arith}
 use Rattle.png.specs.Checksums.{Sums, sums_from}
 use Rattle.png.specs.Pictures.{times}
 use Rattle.png.proofs.SumLemmas.{lines_added}
