@@ -6,3 +6,7 @@ pub mod Paths
 pub mod Options
 pub mod Rendered
 pub mod Covered
+pub mod Formats
+pub mod Xml
+pub mod Settings
+pub mod Made

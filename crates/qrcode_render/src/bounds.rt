@@ -29,3 +29,19 @@ pub const QUIET: usize = 4;
 
 /// The default width of the quiet zone of a Micro symbol.
 pub const MICRO_QUIET: usize = 2;
+
+/// The least width of a module in hundredths of a millimetre.
+pub const MIN_MODULE_MM: usize = 5;
+
+/// The greatest width of a module in hundredths of a millimetre.
+pub const MAX_MODULE_MM: usize = 1_000;
+
+/// The least number of pixels in an inch.
+pub const MIN_DPI: usize = 50;
+
+/// The greatest number of pixels in an inch.
+pub const MAX_DPI: usize = 2_400;
+
+/// The greatest position of a picture on a label, in dots. The lowest row of the largest picture is
+/// then within the 32,000 dots of `^FO`.
+pub const MAX_AT: usize = 18_000;

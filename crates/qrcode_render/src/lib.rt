@@ -15,16 +15,23 @@
 
 mod bitmap;
 pub mod bounds;
+pub mod draw_options;
+pub mod format;
 pub mod laws;
 pub mod options;
 pub mod pbm;
 pub mod picture;
 pub mod renderers;
+pub mod settings;
 pub mod svg;
 pub mod terminal;
 #[cfg(test)]
 mod tests;
+mod xml;
 
+pub use draw_options::DrawOptions;
+pub use format::Format;
 pub use options::RenderOptions;
 pub use picture::Picture;
 pub use renderers::{Pbm, Svg, Terminal};
+pub use settings::Settings;

@@ -1,0 +1,37 @@
+-- The formats of pictures, and what each of them can be asked for.
+use Rattle.std.specs.Prelude.{ℕ, Bool, true, false}
+use Rattle.qrcode_render.specs.declared.format.Format.{Format}
+use Rattle.qrcode_render.specs.declared.format.Format.TheVariants.{Terminal, Svg, Png, Eps, Zpl}
+use Rattle.qrcode_render.specs.declared.bounds.TheConstants.{IMAGE_SCALE, TEXT_SCALE}
+
+-- The default width of a module in pixels.
+abbrev pub default_scale : Format → ℕ
+default_scale Terminal = TEXT_SCALE
+default_scale _ = IMAGE_SCALE
+
+-- The light pixels can be filled, for a dark screen.
+abbrev pub can_be_inverted : Format → Bool
+can_be_inverted Terminal = true
+can_be_inverted _ = false
+
+-- A module has a size in millimetres.
+abbrev pub has_millimetres : Format → Bool
+has_millimetres Svg = true
+has_millimetres Png = true
+has_millimetres Eps = true
+has_millimetres _ = false
+
+-- A pixel has a size, as a number of dots per inch.
+abbrev pub has_dots : Format → Bool
+has_dots Png = true
+has_dots _ = false
+
+-- The picture has a title.
+abbrev pub has_title : Format → Bool
+has_title Svg = true
+has_title _ = false
+
+-- The picture has a position on what is printed.
+abbrev pub has_position : Format → Bool
+has_position Zpl = true
+has_position _ = false

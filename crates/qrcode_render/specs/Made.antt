@@ -1,0 +1,19 @@
+-- The options that are made of settings.
+use Rattle.std.specs.Prelude.{◌≡◌, unwrap_or}
+use Rattle.std.specs.Option.{option_copied}
+use Rattle.qrcode_render.specs.declared.bounds.TheConstants.{QUIET}
+use Rattle.qrcode_render.specs.declared.draw_options.DrawOptions.{DrawOptions}
+use Rattle.qrcode_render.specs.declared.format.Format.{Format}
+use Rattle.qrcode_render.specs.declared.settings.Settings.{Settings}
+use Rattle.qrcode_render.specs.Formats.{default_scale}
+
+-- The options of a format have what the settings give, and defaults for the rest.
+pub record IsMadeOf (format : Format) (s : Settings) (options : DrawOptions) : Type 0 where
+  pub format_is : options.format ≡ format
+  pub scale_is : options.scale ≡ unwrap_or s.scale (default_scale format)
+  pub quiet_is : options.quiet ≡ unwrap_or s.quiet QUIET
+  pub module_mm_is : options.module_mm ≡ s.module_mm
+  pub dpi_is : options.dpi ≡ s.dpi
+  pub inverted_is : options.inverted ≡ s.inverted
+  pub title_is : option_copied options.title ≡ option_copied s.title
+  pub at_is : options.at ≡ unwrap_or s.at (0, 0)

@@ -1,0 +1,50 @@
+-- The settings of a picture that a caller gives, and which of them are valid in a format.
+use Rattle.std.specs.Prelude.{ℕ, Bool, true, false, ◌&&◌, ◌||◌, not, nat_le, is_none}
+use Rattle.std.specs.Prelude.{List, [], ◌∷◌, codes, Option, None, Some}
+use Rattle.std.specs.Option.{option_copied}
+use Rattle.qrcode_render.specs.declared.bounds.TheConstants.{MIN_SCALE, MAX_SCALE, MAX_QUIET}
+use Rattle.qrcode_render.specs.declared.bounds.TheConstants.{MIN_MODULE_MM, MAX_MODULE_MM}
+use Rattle.qrcode_render.specs.declared.bounds.TheConstants.{MIN_DPI, MAX_DPI, MAX_AT}
+use Rattle.qrcode_render.specs.declared.format.Format.{Format}
+use Rattle.qrcode_render.specs.declared.settings.Settings.{Settings}
+use Rattle.qrcode_render.specs.Formats.{can_be_inverted, has_dots, has_millimetres, has_position}
+use Rattle.qrcode_render.specs.Formats.{has_title}
+use Rattle.qrcode_render.specs.Xml.{is_xml_text}
+
+-- A number that may be given: it is within its bounds, and the format has it.
+abbrev pub allows : (has : Bool) → (least most : ℕ) → Option ℕ → Bool
+allows has least most None = true
+allows has least most (Some n) = has && (nat_le least n && nat_le n most)
+
+-- A title that may be given: XML allows its characters, and the format has one.
+abbrev pub allows_title : (has : Bool) → Option (List ℕ) → Bool
+allows_title has None = true
+allows_title has (Some title) = has && is_xml_text title
+
+-- A position that may be given: it is within its bounds, and the format has one.
+abbrev pub allows_position : (has : Bool) → Option (ℕ × ℕ) → Bool
+allows_position has None = true
+allows_position has (Some at) = has && (nat_le at.0 MAX_AT && nat_le at.1 MAX_AT)
+
+-- Whether each setting is valid in a format, by its name. A resolution in dots per inch is not
+-- given beside a size in millimetres.
+abbrev pub setting_tests : Format → Settings → List (List ℕ × Bool)
+setting_tests format s =
+    (codes "scale", allows true MIN_SCALE MAX_SCALE s.scale)
+    ∷ (codes "quiet", allows true 0 MAX_QUIET s.quiet)
+    ∷ (codes "module_mm", allows (has_millimetres format) MIN_MODULE_MM MAX_MODULE_MM s.module_mm)
+    ∷ (codes "dpi", allows (has_dots format && is_none s.module_mm) MIN_DPI MAX_DPI s.dpi)
+    ∷ (codes "inverted", not s.inverted || can_be_inverted format)
+    ∷ (codes "title", allows_title (has_title format) (option_copied s.title))
+    ∷ (codes "at", allows_position (has_position format) s.at)
+    ∷ []
+
+-- The first name whose test fails.
+abbrev pub first_failed : List (List ℕ × Bool) → Option (List ℕ)
+first_failed [] = None
+first_failed ((name, true) ∷ more) = first_failed more
+first_failed ((name, false) ∷ more) = Some name
+
+-- The name of the first setting that is not valid in a format.
+abbrev pub invalid_setting : Format → Settings → Option (List ℕ)
+invalid_setting format s = first_failed (setting_tests format s)

@@ -1,0 +1,149 @@
+//! The options of a picture in a format, made of settings and tested once.
+ghost use Rattle.std.specs.Prelude.{◌≡◌, ◌≤◌};
+ghost use Rattle.std.specs.Prelude.{true, false, OnOk, OnErr, IfErr};
+ghost use Rattle.std.specs.Option.{ForSome, option_copied};
+ghost use Rattle.qrcode_render.specs.Options.{NamesOption};
+ghost use Rattle.qrcode_render.specs.Settings.{allows, allows_title, allows_position};
+ghost use Rattle.qrcode_render.specs.declared.bounds.TheConstants.{MIN_SCALE, MAX_SCALE, MAX_QUIET};
+ghost use Rattle.qrcode_render.specs.declared.bounds.TheConstants.{MIN_MODULE_MM, MAX_MODULE_MM};
+ghost use Rattle.qrcode_render.specs.declared.bounds.TheConstants.{MIN_DPI, MAX_DPI};
+
+use crate::bounds::{
+    MAX_AT, MAX_DPI, MAX_MODULE_MM, MAX_QUIET, MAX_SCALE, MIN_DPI, MIN_MODULE_MM, MIN_SCALE, QUIET,
+};
+use crate::format::Format;
+use crate::options::invalid_option;
+use crate::settings::Settings;
+use crate::xml::is_xml_text;
+use qrcode_core::plugin::PluginError;
+use std::alloc::Global;
+
+/// A format, with all options of a picture in it. Those that the format does not have are at their
+/// defaults.
+#[derive(Clone, Copy, Debug, PartialEq, Eq)]
+pub struct DrawOptions<'a> {
+    pub format: Format,
+    /// The width of a module in pixels.
+    pub scale: usize,
+    /// The width of the quiet zone in modules.
+    pub quiet: usize,
+    /// The width of a module in hundredths of a millimetre.
+    pub module_mm: Option<usize>,
+    /// The number of pixels in an inch.
+    pub dpi: Option<usize>,
+    /// Whether the light pixels are filled.
+    pub inverted: bool,
+    /// The title.
+    pub title: Option<&'a str>,
+    /// The position of the upper left corner in dots.
+    pub at: (usize, usize),
+    ghost scaled: { MIN_SCALE ≤ scale },
+    ghost small_scale: { scale ≤ MAX_SCALE },
+    ghost small_zone: { quiet ≤ MAX_QUIET },
+    ghost some_module: { ForSome module_mm (λ n. MIN_MODULE_MM ≤ n) },
+    ghost small_module: { ForSome module_mm (λ n. n ≤ MAX_MODULE_MM) },
+    ghost some_dots: { ForSome dpi (λ n. MIN_DPI ≤ n) },
+    ghost few_dots: { ForSome dpi (λ n. n ≤ MAX_DPI) },
+}
+
+impl<'a> DrawOptions<'a> {
+    ghost use Rattle.std.specs.Prelude.{Some, None, IfOk, IfErr, OnOk};
+    ghost use Rattle.qrcode_render.specs.Options.{IsOptionRefusal};
+    ghost use Rattle.qrcode_render.specs.Made.{IsMadeOf};
+    ghost use Rattle.qrcode_render.specs.Settings.{invalid_setting};
+
+    /// Returns the options of a format that these settings ask for.
+    ///
+    /// # Errors
+    ///
+    /// It fails with `InvalidConfig` and the name of the first setting, in the order of
+    /// `Settings`, that is out of its bounds, or that the format does not have; or with
+    /// `OutOfMemory` if there is no memory for the name.
+    pub fn new(
+        alloc: Global,
+        format: Format,
+        settings: &Settings<'a>,
+    ) -> Result<DrawOptions<'a>, PluginError>
+        ensures made { IfOk result (λ options. IsMadeOf format settings.now options) }
+        ensures valid { OnOk result (invalid_setting format settings.now ≡ None) }
+        ensures refused { IfErr result
+            (IsOptionRefusal (λ name. invalid_setting format settings.now ≡ Some name)) }
+    {
+        let Settings {
+            scale,
+            quiet,
+            module_mm,
+            dpi,
+            inverted,
+            title,
+            at,
+        } = *settings;
+        let lone_dpi = format.has_dots() && module_mm.is_none();
+        require(alloc, allows(true, MIN_SCALE, MAX_SCALE, scale), "scale")?;
+        require(alloc, allows(true, 0, MAX_QUIET, quiet), "quiet")?;
+        let millimetres = format.has_millimetres();
+        require(
+            alloc,
+            allows(millimetres, MIN_MODULE_MM, MAX_MODULE_MM, module_mm),
+            "module_mm",
+        )?;
+        require(alloc, allows(lone_dpi, MIN_DPI, MAX_DPI, dpi), "dpi")?;
+        require(alloc, !inverted || format.can_be_inverted(), "inverted")?;
+        require(alloc, allows_title(format.has_title(), title), "title")?;
+        require(alloc, allows_position(format.has_position(), at), "at")?;
+        Ok(DrawOptions {
+            format,
+            scale: scale.unwrap_or(format.default_scale()),
+            quiet: quiet.unwrap_or(QUIET),
+            module_mm,
+            dpi,
+            inverted,
+            title,
+            at: at.unwrap_or((0, 0)),
+        })
+    }
+}
+
+/// Returns `InvalidConfig` with the name of an option that is not valid, or `OutOfMemory` if there
+/// is no memory for the name.
+fn require(alloc: Global, valid: bool, name: &str) -> Result<(), PluginError>
+    ensures valid { OnOk result (valid ≡ true) }
+    ensures failed { OnErr result (valid ≡ false) }
+    ensures named { IfErr result (NamesOption name.now) }
+{
+    if valid {
+        Ok(())
+    } else {
+        Err(invalid_option(alloc, name))
+    }
+}
+
+/// Whether a number may be given: it is within its bounds, and the format has it.
+fn allows(has: bool, least: usize, most: usize, number: Option<usize>) -> bool
+    ensures { result ≡ allows has least most number }
+{
+    match number {
+        Some(n) => has && least <= n && n <= most,
+        None => true,
+    }
+}
+
+/// Whether a title may be given: XML allows its characters, and the format has one.
+fn allows_title(has: bool, title: Option<&str>) -> bool
+    ensures { result ≡ allows_title has (option_copied title.entry) }
+{
+    match title {
+        Some(title) => has && is_xml_text(title),
+        None => true,
+    }
+}
+
+/// Whether a position may be given: it is within its bounds, and the format has one.
+fn allows_position(has: bool, at: Option<(usize, usize)>) -> bool
+    ensures { result ≡ allows_position has at }
+{
+    match at {
+        Some(at) => has && at.0 <= MAX_AT && at.1 <= MAX_AT,
+        None => true,
+    }
+}

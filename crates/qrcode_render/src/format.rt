@@ -1,0 +1,72 @@
+//! The formats of pictures, and what each of them can be asked for.
+ghost use Rattle.std.specs.Prelude.{◌≡◌};
+ghost use Rattle.qrcode_render.specs.Formats.{can_be_inverted, default_scale, has_millimetres};
+ghost use Rattle.qrcode_render.specs.Formats.{has_dots, has_position, has_title};
+
+use crate::bounds::{IMAGE_SCALE, TEXT_SCALE};
+
+/// A format of pictures.
+#[derive(Clone, Copy, Debug, PartialEq, Eq)]
+pub enum Format {
+    /// Text for a terminal, in half blocks of Unicode.
+    Terminal,
+    /// Scalable Vector Graphics.
+    Svg,
+    /// Portable Network Graphics (ISO/IEC 15948), one bit a pixel.
+    Png,
+    /// A portable bitmap, in its binary form (`P4` of Netpbm).
+    Pbm,
+    /// Encapsulated PostScript.
+    Eps,
+    /// Raster images of ESC/POS (`GS v 0`), for ticket printers.
+    EscPos,
+    /// A label of ZPL II (`^GF`), for label printers.
+    Zpl,
+}
+
+impl Format {
+    /// Returns the default scale: the width of a module in pixels.
+    pub fn default_scale(self) -> usize
+        ensures { result ≡ default_scale self }
+    {
+        match self {
+            Format::Terminal => TEXT_SCALE,
+            _ => IMAGE_SCALE,
+        }
+    }
+
+    /// Whether the picture can be inverted, for a dark screen.
+    pub fn can_be_inverted(self) -> bool
+        ensures { result ≡ can_be_inverted self }
+    {
+        matches!(self, Format::Terminal)
+    }
+
+    /// Whether the size of a module can be given in millimetres.
+    pub fn has_millimetres(self) -> bool
+        ensures { result ≡ has_millimetres self }
+    {
+        matches!(self, Format::Svg | Format::Png | Format::Eps)
+    }
+
+    /// Whether the size of a pixel can be given in dots per inch.
+    pub fn has_dots(self) -> bool
+        ensures { result ≡ has_dots self }
+    {
+        matches!(self, Format::Png)
+    }
+
+    /// Whether the picture can have a title.
+    pub fn has_title(self) -> bool
+        ensures { result ≡ has_title self }
+    {
+        matches!(self, Format::Svg)
+    }
+
+    /// Whether the picture has a position on what is printed.
+    pub fn has_position(self) -> bool
+        ensures { result ≡ has_position self }
+    {
+        matches!(self, Format::Zpl)
+    }
+}
