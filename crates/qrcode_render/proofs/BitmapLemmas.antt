@@ -3,10 +3,12 @@ use Rattle.std.proofs.Common.{◌≡◌, ℕ, zero, suc, ◌+◌, ◌*◌, ◌/�
 use Rattle.std.proofs.Common.{append-nil}
 use Rattle.std.specs.Prelude.{if◌then◌else◌}
 use Rattle.std.{specs.List.range_with_len, proofs.Math.Pow.pow_mono, proofs.lemmas.Grind.pow_more, proofs.lemmas.List.FromFn.map-range_with_len_more}
+use Rattle.std.proofs.Common.{◌-◌, ◌%◌, ◌≢◌, ap, inl, inr}
+use Rattle.std.{proofs.lemmas.Nat.div-add-mod', proofs.Math.Nat.mod-eq-sub-div-mul, proofs.lemmas.Bool.cases_lt}
 use Rattle.std.{proofs.lemmas.Nat.div-mul-add, proofs.lemmas.List.Sums.fold-append}
-use Rattle.qrcode_render.specs.Bitmaps.{bits_number, pixel_byte, bitmap_row, first_rows}
+use Rattle.qrcode_render.specs.Bitmaps.{bits_number, pixel_byte, bitmap_row, first_rows, rows_from}
 use Rattle.qrcode_render.{specs.Pictures.Picture, specs.Pictures.pixel_width, specs.Pictures.is_dark_module}
-use Rattle.qrcode_render.proofs.Ranges.{flat_map_range}
+use Rattle.qrcode_render.proofs.Ranges.{flat_map_from, joined}
 
 -- the number that the tests of n places from x on spell
 abbrev pub spelled : (ℕ → Bool) → ℕ → ℕ → ℕ
@@ -25,13 +27,13 @@ spelled_below f x (suc n) = grind (arith, add-one, spelled_more f x n, pow_more 
 pub spelled_small : (f : ℕ → Bool) (x n : ℕ) → n < 8 → spelled f x n * 2 + 1 < 256
 spelled_small f x n below = grind (arith, pow_mono, spelled_below)
 
-pub rows_none : (p : Picture) → first_rows p 0 ≡ []
-unfolding first_rows
-rows_none p = refl
+pub rows_none : (p : Picture) (first : ℕ) → rows_from p first 0 ≡ []
+unfolding rows_from
+rows_none p first = refl
 
-rows_more : (p : Picture) (n : ℕ) → first_rows p (n + 1) ≡ first_rows p n ++ bitmap_row p n
-unfolding first_rows
-rows_more p n = flat_map_range (bitmap_row p) n
+pub rows_more : (p : Picture) (first n : ℕ) → rows_from p first (n + 1) ≡ rows_from p first n ++ bitmap_row p (first + n)
+unfolding rows_from
+rows_more p first n = flat_map_from (bitmap_row p) first n
 
 -- rows of pixels in one row of modules are the same
 row_same : (p : Picture) (y z : ℕ) → y / p.scale ≡ z / p.scale → bitmap_row p y ≡ bitmap_row p z
@@ -42,20 +44,57 @@ row_same p y z e = grind (arith, is_dark_module, range_with_len, pixel_width)
 pub bytes_more : (p : Picture) (y n : ℕ) → map (pixel_byte p y) (range_with_len 0 (n + 1)) ≡ map (pixel_byte p y) (range_with_len 0 n) ++ pixel_byte p y n ∷ []
 bytes_more p y n = map-range_with_len_more (pixel_byte p y) 0 n n (omega arith)
 
+-- a row of pixels in a row of modules is the upper one of these
+pub row_again : (p : Picture) (row copy : ℕ) → copy < p.scale → bitmap_row p (row * p.scale + copy) ≡ bitmap_row p (row * p.scale)
+row_again p row copy below =
+    let start : row * p.scale + 0 ≡ row * p.scale = omega arith in
+    let upper : (row * p.scale) / p.scale ≡ row = ap (λ n. n / p.scale) (sym start) ∙ div-mul-add row p.scale 0 (omega arith) in
+    let lower : (row * p.scale + copy) / p.scale ≡ row = div-mul-add row p.scale copy below in
+    row_same p (row * p.scale + copy) (row * p.scale) (lower ∙ sym upper)
+
 -- one copy more of the upper row of pixels of a row of modules
 pub rows_copy : (p : Picture) (scale row copy : ℕ) → p.scale ≡ scale → copy < scale →
     first_rows p (row * scale + (copy + 1)) ≡ first_rows p (row * scale + copy) ++ bitmap_row p (row * scale)
 rows_copy p scale row copy e below =
     let next : row * scale + (copy + 1) ≡ (row * scale + copy) + 1 = omega arith in
-    let start : row * scale + 0 ≡ row * scale = omega arith in
-    let upper : (row * scale) / p.scale ≡ row = rw (e, ← start) (div-mul-add row scale 0 (omega arith)) in
-    let lower : (row * scale + copy) / p.scale ≡ row = rw e (div-mul-add row scale copy below) in
-    grind (arith, next, rows_more p (row * scale + copy), row_same p (row * scale + copy) (row * scale) (lower ∙ sym upper))
+    let same : bitmap_row p (row * scale + copy) ≡ bitmap_row p (row * scale) =
+    ap (λ s. bitmap_row p (row * s + copy)) (sym e) ∙ (row_again p row copy (omega (arith, e)) ∙ ap (λ s. bitmap_row p (row * s)) e) in
+    grind (arith, next, rows_more p 0 (row * scale + copy), same)
 
 -- the first row begins with none
 pub rows_start : (p : Picture) (scale : ℕ) (bytes : List ℕ) → bytes ≡ bytes ++ first_rows p (0 * scale)
-rows_start p scale bytes = let none : 0 * scale ≡ 0 = omega arith in rw (none, rows_none p) (sym (append-nil bytes))
+rows_start p scale bytes = let none : 0 * scale ≡ 0 = omega arith in rw (none, rows_none p 0) (sym (append-nil bytes))
+
+-- the next number has the same quotient, if it is no multiple
+same_quotient : (y scale : ℕ) → 0 < scale → (y + 1) % scale ≢ 0 → (y + 1) / scale ≡ y / scale
+same_quotient y scale some within =
+    let here : y / scale * scale + y % scale ≡ y = div-add-mod' y scale in
+    elim (cases_lt (y % scale + 1) scale) [
+      | inl less ↦ (let next : y + 1 ≡ y / scale * scale + (y % scale + 1) = omega arith in rw next (div-mul-add (y / scale) scale (y % scale + 1) less))
+      | inr full ↦ (
+          let below : y % scale < scale = omega arith in
+          let next : y + 1 ≡ (y / scale + 1) * scale + 0 = grind arith in
+          let quotient : (y + 1) / scale ≡ y / scale + 1 = rw next (div-mul-add (y / scale + 1) scale 0 some) in
+          absurd (within (omega (arith, mod-eq-sub-div-mul (y + 1) scale, ap (λ (n : ℕ). n * scale) quotient, next))))
+    ]
+
+-- rows from one on begin with none
+pub rows_after_none : (p : Picture) (first : ℕ) (bytes : List ℕ) → bytes ≡ bytes ++ rows_from p first (first - first)
+rows_after_none p first bytes = let none : first - first ≡ 0 = omega arith in rw (none, rows_none p first) (sym (append-nil bytes))
+
+-- one row more, counted from the first
+pub rows_one : (p : Picture) (first y : ℕ) → first ≤ y → rows_from p first (y + 1 - first) ≡ rows_from p first (y - first) ++ bitmap_row p y
+rows_one p first y after =
+    let more : y + 1 - first ≡ (y - first) + 1 = omega arith in
+    let here : first + (y - first) ≡ y = omega arith in
+    rw more (rows_more p first (y - first) ∙ ap (λ (n : ℕ). rows_from p first (y - first) ++ bitmap_row p n) here)
+
+-- the next row of pixels, where it is not in the next row of modules
+pub row_next : (p : Picture) (y : ℕ) → 0 < p.scale → (y + 1) % p.scale ≢ 0 → bitmap_row p (y + 1) ≡ bitmap_row p y
+row_next p y some within = row_same p (y + 1) y (same_quotient y p.scale some within)
 
 pub ruleset bits = (spelled_more, spelled_small)
+
+pub ruleset rows_after = (rows_after_none)
 
 pub ruleset rows = (rows_start, rows_copy)

@@ -1,41 +1,46 @@
 -- The runs of a row, one after the other, and the modules of a run.
-use Rattle.std.proofs.Common.{◌≡◌, ℕ, ◌+◌, ◌<◌, ◌≤◌, ◌++◌, Bool, true, false, List, length, sym, ◌∙◌, arith, append-nil}
+use Rattle.std.proofs.Common.{◌≡◌, ℕ, ◌+◌, ◌<◌, ◌≤◌, ◌++◌, Bool, true, false, List, [], length, refl, sym, ap, ◌∙◌, arith, append-nil}
 use Rattle.std.proofs.lemmas.List.Sums.{prefix_len-drop_yes, prefix_len-drop_no, prefix_len-drop_all}
 use Rattle.std.proofs.lemmas.{List.FromFn.length-map-range_with_len, List.FromFn.get_or-map-range_with_len, Grind.common_steps}
-use Rattle.qrcode_render.specs.Paths.{begins_run, dark_row, dark_run_length, rectangle, run_at, row_path, path}
+use Rattle.qrcode_render.specs.Paths.{begins_run, dark_row, dark_run_length, run_at, row_path, path}
 use Rattle.qrcode_render.{specs.Pictures.Picture, specs.Pictures.columns_of, specs.Pictures.is_dark_module}
-use Rattle.qrcode_render.proofs.Ranges.{flat_map_range}
+use Rattle.qrcode_render.proofs.Ranges.{flat_map_range, joined}
 
--- the path begins with no row
-pub path_start : (p : Picture) (text : List ℕ) → text ≡ text ++ path p 0
-unfolding path
-path_start p text = sym (append-nil text)
+module _ (write : ℕ → ℕ → ℕ → List ℕ) where
+  -- the path begins with no row
+  pub path_start : (p : Picture) (text : List ℕ) → text ≡ text ++ path write p 0
+  unfolding path
+  path_start p text = sym (append-nil text)
 
--- one row more
-pub path_row : (p : Picture) (n : ℕ) (start old new : List ℕ) → old ≡ start ++ path p n →
-    new ≡ old ++ row_path p n (columns_of p) → new ≡ start ++ path p (n + 1)
-unfolding path
-path_row p n start old new was adds = grind (arith, common_steps, row_path, columns_of, flat_map_range)
+  -- one row more
+  pub path_row : (p : Picture) (n : ℕ) (start old new : List ℕ) → old ≡ start ++ path write p n →
+      new ≡ old ++ row_path write p n (columns_of p) → new ≡ start ++ path write p (n + 1)
+  unfolding path
+  path_row p n start old new was adds = joined start (path write p n) old (row_path write p n (columns_of p)) new _ (flat_map_range (λ y. row_path write p y (columns_of p)) n) was adds
 
--- a row's path begins with no run
-pub row_start : (p : Picture) (y : ℕ) (text : List ℕ) → text ≡ text ++ row_path p y 0
-unfolding row_path
-row_start p y text = sym (append-nil text)
+  -- a row's path begins with no run
+  pub row_start : (p : Picture) (y : ℕ) (text : List ℕ) → text ≡ text ++ row_path write p y 0
+  unfolding row_path
+  row_start p y text = sym (append-nil text)
 
-row_path_more : (p : Picture) (y n : ℕ) → row_path p y (n + 1) ≡ row_path p y n ++ run_at p y n
-unfolding row_path
-row_path_more p y n = flat_map_range (run_at p y) n
+  row_path_more : (p : Picture) (y n : ℕ) → row_path write p y (n + 1) ≡ row_path write p y n ++ run_at write p y n
+  unfolding row_path
+  row_path_more p y n = flat_map_range (run_at write p y) n
 
--- one run more
-pub row_run : (p : Picture) (y n : ℕ) (start old new : List ℕ) → begins_run p n y ≡ true → old ≡ start ++ row_path p y n →
-    new ≡ old ++ rectangle n y (dark_run_length p n y) → new ≡ start ++ row_path p y (n + 1)
-unfolding run_at
-row_run p y n start old new begins was adds = grind (arith, common_steps, run_at, dark_run_length, row_path, row_path_more)
+  -- one run more
+  pub row_run : (p : Picture) (y n : ℕ) (start old new : List ℕ) → begins_run p n y ≡ true → old ≡ start ++ row_path write p y n →
+      new ≡ old ++ write n y (dark_run_length p n y) → new ≡ start ++ row_path write p y (n + 1)
+  unfolding run_at
+  row_run p y n start old new begins was adds =
+      let run : run_at write p y n ≡ write n y (dark_run_length p n y) = rw begins refl in
+      joined start (row_path write p y n) old (run_at write p y n) new _ (row_path_more p y n) was (adds ∙ ap (λ l. old ++ l) (sym run))
 
--- a column where none begins
-pub row_no_run : (p : Picture) (y n : ℕ) (start old : List ℕ) → begins_run p n y ≡ false → old ≡ start ++ row_path p y n → old ≡ start ++ row_path p y (n + 1)
-unfolding run_at
-row_no_run p y n start old none was = grind (arith, run_at, row_path, row_path_more, append-nil)
+  -- a column where none begins
+  pub row_no_run : (p : Picture) (y n : ℕ) (start old : List ℕ) → begins_run p n y ≡ false → old ≡ start ++ row_path write p y n → old ≡ start ++ row_path write p y (n + 1)
+  unfolding run_at
+  row_no_run p y n start old none was =
+      let run : run_at write p y n ≡ [] = rw none refl in
+      joined start (row_path write p y n) old (run_at write p y n) old _ (row_path_more p y n) was (sym (append-nil old) ∙ ap (λ l. old ++ l) (sym run))
 
 length_of_row : (p : Picture) (y : ℕ) → length (dark_row p y) ≡ columns_of p
 length_of_row p y = length-map-range_with_len (λ x. is_dark_module p x y) 0 (columns_of p)

@@ -17,13 +17,21 @@ bits_number bits = fold (λ n bit. n * 2 + (if bit then 1 else 0)) 0 bits
 unfoldable pub pixel_byte : Picture → ℕ → ℕ → ℕ
 pixel_byte p y place = bits_number (map (λ x. is_dark_pixel p x y) (range_with_len (8 * place) 8))
 
+-- The number of bytes of a row.
+abbrev pub row_length : Picture → ℕ
+row_length p = (pixel_width p + 7) / 8
+
 -- The bytes of row y; light pixels fill up the last byte.
 unfoldable pub bitmap_row : Picture → ℕ → List ℕ
-bitmap_row p y = map (pixel_byte p y) (range_with_len 0 ((pixel_width p + 7) / 8))
+bitmap_row p y = map (pixel_byte p y) (range_with_len 0 (row_length p))
+
+-- The bytes of `count` rows, from row `first` on.
+unfoldable pub rows_from : Picture → (first count : ℕ) → List ℕ
+rows_from p first count = flat_map (bitmap_row p) (range_with_len first count)
 
 -- The bytes of the first rows, from the top.
-unfoldable pub first_rows : Picture → ℕ → List ℕ
-first_rows p rows = flat_map (bitmap_row p) (range_with_len 0 rows)
+abbrev pub first_rows : Picture → ℕ → List ℕ
+first_rows p rows = rows_from p 0 rows
 
 -- The bitmap: the header and all rows.
 abbrev pub bitmap_of : Picture → List ℕ

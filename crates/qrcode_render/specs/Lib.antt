@@ -2,11 +2,16 @@ pub mod Pictures
 pub mod Shown
 pub mod Bitmaps
 pub mod Terminals
+pub mod Xml
 pub mod Paths
+pub mod Eps
+pub mod Pens
 pub mod Options
 pub mod Rendered
 pub mod Covered
 pub mod Formats
-pub mod Xml
 pub mod Settings
 pub mod Made
+pub mod EscPos
+pub mod Zpl
+pub mod PngPixels

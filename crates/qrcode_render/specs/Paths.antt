@@ -1,10 +1,11 @@
--- A picture as SVG: a light background, and on it one path with a rectangle for each run of dark
--- modules in a row.
-use Rattle.std.specs.Prelude.{ℕ, ◌-◌, Bool, if◌then◌else◌, ◌==◌, ◌&&◌, ◌||◌, not}
+-- A picture as one path: a rectangle for each run of dark modules in a row. And a picture as SVG
+-- (Scalable Vector Graphics 1.1): a light background, and on it this path.
+use Rattle.std.specs.Prelude.{ℕ, ◌-◌, ◌*◌, ◌/◌, ◌%◌, Option, None, Some, Bool, if◌then◌else◌, ◌==◌, ◌&&◌, ◌||◌, not}
 use Rattle.std.specs.Prelude.{List, [], ◌++◌, map, drop, flat_map, codes, decimal}
 use Rattle.std.specs.List.{range_with_len, prefix_len}
 use Rattle.qrcode_render.specs.Pictures.{Picture, columns_of, rows_of, pixel_width, pixel_height}
 use Rattle.qrcode_render.specs.Pictures.{is_dark_module}
+use Rattle.qrcode_render.specs.Xml.{xml_text}
 
 -- Whether a run begins in column x of row y: the module is dark, and the one to its left is not.
 abbrev pub begins_run : Picture → ℕ → ℕ → Bool
@@ -18,40 +19,69 @@ dark_row p y = map (λ x. is_dark_module p x y) (range_with_len 0 (columns_of p)
 unfoldable pub dark_run_length : Picture → ℕ → ℕ → ℕ
 dark_run_length p x y = prefix_len (λ is_dark. is_dark) (drop x (dark_row p y))
 
--- The rectangle that covers `length` modules from column x of row y on.
+-- The rectangle of the run that begins in column x of row y, if one does. `write x y length`
+-- is the one that covers `length` modules from there on.
+unfoldable pub run_at : (write : ℕ → ℕ → ℕ → List ℕ) → Picture → ℕ → ℕ → List ℕ
+run_at write p y x =
+    if begins_run p x y then write x y (dark_run_length p x y) else []
+
+-- The rectangles of the runs in a row, from the left.
+unfoldable pub row_path : (write : ℕ → ℕ → ℕ → List ℕ) → Picture → ℕ → ℕ → List ℕ
+row_path write p y columns = flat_map (run_at write p y) (range_with_len 0 columns)
+
+-- The rectangles of all runs in the first rows, from the top.
+unfoldable pub path : (write : ℕ → ℕ → ℕ → List ℕ) → Picture → ℕ → List ℕ
+path write p rows =
+    flat_map (λ y. row_path write p y (columns_of p)) (range_with_len 0 rows)
+
+-- The rectangle of SVG that covers `length` modules from column x of row y on.
 unfoldable pub rectangle : ℕ → ℕ → ℕ → List ℕ
 rectangle x y length =
     codes "M" ++ (decimal x ++ (codes " " ++ (decimal y ++
     (codes "h" ++ (decimal length ++ (codes "v1h-" ++ (decimal length ++ codes "z")))))))
 
--- The rectangle of the run that begins in column x of row y, if one does.
-unfoldable pub run_at : Picture → ℕ → ℕ → List ℕ
-run_at p y x = if begins_run p x y then rectangle x y (dark_run_length p x y) else []
+-- Hundredths of a millimetre, as a decimal number of millimetres.
+unfoldable pub millimetres : ℕ → List ℕ
+millimetres n =
+    decimal (n / 100) ++ (codes "." ++ (decimal (n / 10 % 10) ++ (decimal (n % 10) ++ codes "mm")))
 
--- The rectangles of the runs in a row, from the left.
-unfoldable pub row_path : Picture → ℕ → ℕ → List ℕ
-row_path p y columns = flat_map (run_at p y) (range_with_len 0 columns)
+-- A side of the picture: in pixels, or in millimetres where the size of a module is given.
+abbrev pub svg_side : Option ℕ → (modules pixels : ℕ) → List ℕ
+svg_side None modules pixels = decimal pixels
+svg_side (Some module_mm) modules pixels = millimetres (modules * module_mm)
 
--- The rectangles of all runs in the first rows, from the top.
-unfoldable pub path : Picture → ℕ → List ℕ
-path p rows = flat_map (λ y. row_path p y (columns_of p)) (range_with_len 0 rows)
-
--- The head of the document, with its sides in pixels and in modules: the view box, and the
--- light background.
-unfoldable pub opening : (width height columns rows : ℕ) → List ℕ
-opening width height columns rows =
-    codes "<svg xmlns=\"http://www.w3.org/2000/svg\" width=\"" ++ (decimal width ++
-    (codes "\" height=\"" ++ (decimal height ++
+-- The first tag, with the sides of the picture, and with the view box in modules.
+unfoldable pub svg_tag : (width height : List ℕ) → (columns rows : ℕ) → List ℕ
+svg_tag width height columns rows =
+    codes "<svg xmlns=\"http://www.w3.org/2000/svg\" width=\"" ++ (width ++
+    (codes "\" height=\"" ++ (height ++
     (codes "\" viewBox=\"0 0 " ++ (decimal columns ++ (codes " " ++ (decimal rows ++
-    (codes "\">\n<rect width=\"" ++ (decimal columns ++ (codes "\" height=\"" ++ (decimal rows ++
-    codes "\" fill=\"#fff\"/>\n<path d=\"")))))))))))
+    codes "\" shape-rendering=\"crispEdges\">\n")))))))
+
+-- The title, if there is one.
+abbrev pub title_element : Option (List ℕ) → List ℕ
+title_element None = []
+title_element (Some title) = codes "<title>" ++ (xml_text title ++ codes "</title>\n")
+
+-- The light background, and the path up to its data.
+unfoldable pub background : (columns rows : ℕ) → List ℕ
+background columns rows =
+    codes "<rect width=\"" ++ (decimal columns ++ (codes "\" height=\"" ++ (decimal rows ++
+    codes "\" fill=\"#fff\"/>\n<path d=\"")))
 
 -- The end of the document.
 abbrev pub closing : List ℕ
 closing = codes "\"/>\n</svg>\n"
 
--- The document of a picture.
+-- The document of a picture, with the size of a module in hundredths of a millimetre and with a
+-- title, if they are given.
+abbrev pub svg_document : (module_mm : Option ℕ) → (title : Option (List ℕ)) → Picture → List ℕ
+svg_document module_mm title p =
+    svg_tag (svg_side module_mm (columns_of p) (pixel_width p))
+    (svg_side module_mm (rows_of p) (pixel_height p)) (columns_of p) (rows_of p)
+    ++ (title_element title ++ (background (columns_of p) (rows_of p)
+    ++ (path rectangle p (rows_of p) ++ closing)))
+
+-- The document of a picture, with neither.
 abbrev pub svg_text : Picture → List ℕ
-svg_text p =
-    opening (pixel_width p) (pixel_height p) (columns_of p) (rows_of p)
-    ++ (path p (rows_of p) ++ closing)
+svg_text = svg_document None None

@@ -1,16 +1,18 @@
 -- The picture of a grid: each module is a square of pixels, and a light quiet zone surrounds the
 -- grid (ISO/IEC 18004:2006, "Quiet zone").
-use Rattle.std.specs.Prelude.{ℕ, ◌+◌, ◌-◌, ◌*◌, ◌/◌, ◌≤◌, Bool, true, false, ◌&&◌, nat_le, nat_lt}
+use Rattle.std.specs.Prelude.{ℕ, ◌+◌, ◌-◌, ◌*◌, ◌/◌, ◌<◌, ◌≤◌, Bool, true, false, ◌&&◌, nat_le, nat_lt}
 use Rattle.std.specs.Prelude.{Option, Some}
 use Rattle.qrcode_core.specs.Grids.{Grid, color_at}
 use Rattle.qrcode_core.specs.declared.types.Color.{Color}
 use Rattle.qrcode_core.specs.declared.types.Color.TheVariants.{Dark}
 use Rattle.qrcode_render.specs.declared.bounds.TheConstants.{MAX_MODULES}
 
--- The grid is not larger than a symbol: it has at most 177 columns and rows.
+-- The grid has a module, and is not larger than a symbol: it has 1 to 177 columns and rows.
 pub record IsDrawable (grid : Grid) : Type 0 where
-  pub columns : grid.columns ≤ MAX_MODULES
-  pub rows : grid.rows ≤ MAX_MODULES
+  pub some_columns : 0 < grid.columns
+  pub few_columns : grid.columns ≤ MAX_MODULES
+  pub some_rows : 0 < grid.rows
+  pub few_rows : grid.rows ≤ MAX_MODULES
 
 -- A picture: a grid, the width of a module in pixels, and the width of the quiet zone in modules.
 pub record Picture : Type 0 where

@@ -1,7 +1,7 @@
 //! The rows of pixels of a picture, as bits: dark is 1.
-ghost use Rattle.std.specs.Prelude.{◌≡◌, ◌/◌, ◌<◌, ◌++◌, IfOk, OnOk};
+ghost use Rattle.std.specs.Prelude.{◌≡◌, ◌+◌, ◌/◌, ◌<◌, ◌≤◌, ◌++◌, IfOk, OnOk};
 ghost use Rattle.qrcode_render.specs.declared.bounds.TheConstants.{MAX_PIXELS};
-ghost use Rattle.qrcode_render.specs.Bitmaps.{pixel_byte, first_rows, bitmap_row};
+ghost use Rattle.qrcode_render.specs.Bitmaps.{pixel_byte, first_rows, bitmap_row, rows_from};
 ghost use Rattle.qrcode_render.specs.Pictures.{pixel_height};
 ghost use Rattle.qrcode_render.specs.Shown.{shown};
 
@@ -29,9 +29,33 @@ pub(crate) fn push_rows(
     Ok(())
 }
 
+/// Appends some rows of pixels, from one on.
+#[tactic(auto, using(crate::proofs::BitmapLemmas::rows_after))]
+pub(crate) fn push_rows_from(
+    alloc: Global,
+    bytes: &mut Vec<u8>,
+    picture: &Picture,
+    first: usize,
+    count: usize,
+) -> Result<(), AllocError>
+    requires { first + count ≤ MAX_PIXELS }
+    ensures { OnOk result
+        (bytes.new.items ≡ bytes.old.items ++ rows_from (shown picture.now) first count) }
+{
+    let scale = picture.scale();
+    let mut line = row_bytes(alloc, picture, first)?;
+    for y in first..first + count {
+        if y % scale == 0 {
+            line = row_bytes(alloc, picture, y)?;
+        }
+        bytes.extend_from_slice(&line)?;
+    }
+    Ok(())
+}
+
 /// Appends the bytes of a row of pixels.
 #[tactic(auto, using(crate::proofs::BitmapLemmas::bytes_more), unfolding(crate::specs::Bitmaps::bitmap_row))]
-fn row_bytes(alloc: Global, picture: &Picture, y: usize) -> Result<Vec<u8>, AllocError>
+pub(crate) fn row_bytes(alloc: Global, picture: &Picture, y: usize) -> Result<Vec<u8>, AllocError>
     ensures { IfOk result (λ line. line.items ≡ bitmap_row (shown picture.now) y) }
 {
     let length = picture.width().div_ceil(8);

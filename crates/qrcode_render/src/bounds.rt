@@ -18,6 +18,15 @@ pub const MAX_COLUMNS: usize = MAX_MODULES + 2 * MAX_QUIET;
 /// The greatest width and height of a picture in pixels.
 pub const MAX_PIXELS: usize = MAX_COLUMNS * MAX_SCALE;
 
+/// The greatest number of bytes of a row of pixels.
+pub const MAX_ROW: usize = MAX_PIXELS / 8;
+
+/// The greatest number of rows in a raster image of ESC/POS.
+pub const BAND_ROWS: usize = 255;
+
+/// The greatest number of bytes in a graphic field of ZPL II.
+pub const FIELD_BYTES: usize = 99_999;
+
 /// The default scale of an image.
 pub const IMAGE_SCALE: usize = 8;
 

@@ -1,8 +1,14 @@
 //! Laws: facts about pictures. The function has no body; its contract is the fact.
 ghost use Rattle.qrcode_render.specs.Covered.{CoversDarkModules};
+ghost use Rattle.qrcode_render.specs.Xml.{TextsAreRead};
 
 /// The rectangles of a picture's SVG cover exactly its dark modules, and each of these is
 /// covered once.
 pub fn rectangles_cover_dark_modules()
     ensures { CoversDarkModules }
+{}
+
+/// A reader of XML finds exactly the characters of a title, whatever the title, if XML allows them.
+pub fn texts_are_read()
+    ensures { TextsAreRead }
 {}

@@ -16,11 +16,18 @@
 mod bitmap;
 pub mod bounds;
 pub mod draw_options;
+pub mod eps;
+pub mod escpos;
 pub mod format;
+#[cfg(test)]
+mod format_tests;
 pub mod laws;
 pub mod options;
+mod path;
 pub mod pbm;
+mod pen;
 pub mod picture;
+pub mod png_file;
 pub mod renderers;
 pub mod settings;
 pub mod svg;
@@ -28,6 +35,7 @@ pub mod terminal;
 #[cfg(test)]
 mod tests;
 mod xml;
+pub mod zpl;
 
 pub use draw_options::DrawOptions;
 pub use format::Format;

@@ -1,7 +1,8 @@
 //! A picture: a grid with its scale and its quiet zone.
-ghost use Rattle.std.specs.Prelude.{◌≡◌, ◌*◌, ◌≤◌, ◌↔◌, length, IfSome, IsSome};
+ghost use Rattle.std.specs.Prelude.{◌≡◌, ◌*◌, ◌<◌, ◌≤◌, ◌↔◌, length, IfSome, IsSome};
 ghost use Rattle.qrcode_render.specs.declared.bounds.TheConstants.{MIN_SCALE, MAX_SCALE, MAX_QUIET};
 ghost use Rattle.qrcode_render.specs.declared.bounds.TheConstants.{MAX_MODULES, MAX_COLUMNS, MAX_PIXELS};
+ghost use Rattle.qrcode_render.specs.declared.bounds.TheConstants.{MAX_ROW};
 ghost use Rattle.qrcode_render.specs.Pictures.{columns_of, rows_of, pixel_width, pixel_height};
 ghost use Rattle.qrcode_render.specs.Pictures.{is_dark_module, is_dark_pixel};
 
@@ -21,7 +22,9 @@ pub struct Picture<'a> {
     scale: usize,
     quiet: usize,
     ghost all_rows: { rows * columns ≤ length modules.now },
+    ghost some_columns: { 0 < columns },
     ghost few_columns: { columns ≤ MAX_MODULES },
+    ghost some_rows: { 0 < rows },
     ghost few_rows: { rows ≤ MAX_MODULES },
     ghost scaled: { MIN_SCALE ≤ scale },
     ghost small_scale: { scale ≤ MAX_SCALE },
@@ -31,6 +34,7 @@ pub struct Picture<'a> {
 impl<'a> Picture<'a> {
     ghost use Rattle.qrcode_core.specs.Drawn.{drawn_grid};
     ghost use Rattle.qrcode_render.specs.Pictures.{picture, IsDrawable};
+    ghost use Rattle.qrcode_render.specs.Bitmaps.{row_length};
     ghost use Rattle.qrcode_render.specs.Shown.{shown};
 
     /// Returns the picture of a symbol.
@@ -46,14 +50,15 @@ impl<'a> Picture<'a> {
         }
     }
 
-    /// Returns the picture of a grid, or `None` if it has more than `MAX_MODULES` columns or rows.
+    /// Returns the picture of a grid, or `None` if it has no modules, or more than `MAX_MODULES`
+    /// columns or rows.
     pub fn of_grid(code: &'a dyn ModuleSource, options: RenderOptions) -> Option<Picture<'a>>
         ensures shown { IfSome result (λ drawn.
             shown drawn ≡ picture (grid code.now) options.scale options.quiet) }
         ensures small { IsSome result ↔ IsDrawable (grid code.now) }
     {
         let (columns, rows) = (code.width(), code.height());
-        if columns > MAX_MODULES || rows > MAX_MODULES {
+        if columns == 0 || rows == 0 || columns > MAX_MODULES || rows > MAX_MODULES {
             return None;
         }
         Some(Picture {
@@ -77,6 +82,7 @@ impl<'a> Picture<'a> {
     /// Returns the number of columns of modules, with the quiet zone.
     pub fn columns(&self) -> usize
         ensures exact { result ≡ columns_of (shown self.now) }
+        ensures some { 0 < result }
         ensures bound { result ≤ MAX_COLUMNS }
     {
         self.columns + 2 * self.quiet
@@ -85,6 +91,7 @@ impl<'a> Picture<'a> {
     /// Returns the number of rows of modules, with the quiet zone.
     pub fn rows(&self) -> usize
         ensures exact { result ≡ rows_of (shown self.now) }
+        ensures some { 0 < result }
         ensures bound { result ≤ MAX_COLUMNS }
     {
         self.rows + 2 * self.quiet
@@ -93,6 +100,7 @@ impl<'a> Picture<'a> {
     /// Returns the width of the picture in pixels.
     pub fn width(&self) -> usize
         ensures exact { result ≡ pixel_width (shown self.now) }
+        ensures some { 0 < result }
         ensures bound { result ≤ MAX_PIXELS }
     {
         self.columns() * self.scale
@@ -101,9 +109,19 @@ impl<'a> Picture<'a> {
     /// Returns the height of the picture in pixels.
     pub fn height(&self) -> usize
         ensures exact { result ≡ pixel_height (shown self.now) }
+        ensures some { 0 < result }
         ensures bound { result ≤ MAX_PIXELS }
     {
         self.rows() * self.scale
+    }
+
+    /// Returns the number of bytes of a row of pixels, eight of them in a byte.
+    pub fn row_length(&self) -> usize
+        ensures exact { result ≡ row_length (shown self.now) }
+        ensures some { 0 < result }
+        ensures bound { result ≤ MAX_ROW }
+    {
+        self.width().div_ceil(8)
     }
 
     /// Whether the module in this column and row, counted from the corner of the quiet zone,

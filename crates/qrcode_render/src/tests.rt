@@ -87,7 +87,7 @@ fn draws_text(rt: HostRuntime) -> Result<(), PluginError> {
 
 /// The document of two runs in the first row and one in the second.
 const RUNS: &str =
-    r##"<svg xmlns="http://www.w3.org/2000/svg" width="10" height="8" viewBox="0 0 5 4">
+    r##"<svg xmlns="http://www.w3.org/2000/svg" width="10" height="8" viewBox="0 0 5 4" shape-rendering="crispEdges">
 <rect width="5" height="4" fill="#fff"/>
 <path d="M1 1h1v1h-1zM3 1h1v1h-1zM1 2h2v1h-2z"/>
 </svg>
@@ -95,7 +95,7 @@ const RUNS: &str =
 
 /// The document of a run from the left edge to the right one.
 const WHOLE_RUN: &str =
-    r##"<svg xmlns="http://www.w3.org/2000/svg" width="128" height="64" viewBox="0 0 2 1">
+    r##"<svg xmlns="http://www.w3.org/2000/svg" width="128" height="64" viewBox="0 0 2 1" shape-rendering="crispEdges">
 <rect width="2" height="1" fill="#fff"/>
 <path d="M0 0h2v1h-2z"/>
 </svg>

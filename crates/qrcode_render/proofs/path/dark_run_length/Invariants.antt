@@ -1,7 +1,7 @@
 -- What is counted, and the run from here on, make the run.
 use Rattle.std.proofs.Common.{◌≡◌, ◌+◌, ◌≤◌}
 use Rattle.qrcode_render.specs.{Paths.dark_run_length, Shown.shown}
-use Rattle.qrcode_render.proofs.svg.dark_run_length.Given as goal
+use Rattle.qrcode_render.proofs.path.dark_run_length.Given as goal
 
 abbrev pub invariant-loop-column : goal.invariant-loop-column
 invariant-loop-column l = record {

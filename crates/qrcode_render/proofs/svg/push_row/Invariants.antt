@@ -1,8 +1,0 @@
--- The rectangles of the columns so far were added.
-use Rattle.std.proofs.Common.{◌≡◌, ◌++◌}
-use Rattle.std.specs.String.{string_bytes}
-use Rattle.qrcode_render.specs.{Paths.row_path, Shown.shown}
-use Rattle.qrcode_render.proofs.svg.push_row.Given as goal
-
-abbrev pub invariant-loop-x : goal.invariant-loop-x
-invariant-loop-x l = string_bytes l.text ≡ string_bytes l.initial.text ++ row_path (shown l.picture) l.y l.x

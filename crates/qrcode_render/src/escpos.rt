@@ -1,0 +1,55 @@
+//! Pictures as raster images of ESC/POS, for ticket printers.
+ghost use Rattle.std.specs.Prelude.{◌≡◌, ◌*◌, ◌<◌, ◌≤◌, ◌++◌, IfOk, OnOk};
+ghost use Rattle.qrcode_render.specs.declared.bounds.TheConstants.{BAND_ROWS};
+ghost use Rattle.qrcode_render.specs.EscPos.{band, escpos_text, two_bytes};
+ghost use Rattle.qrcode_render.specs.Pictures.{pixel_height};
+ghost use Rattle.qrcode_render.specs.Shown.{shown};
+
+use crate::bitmap::push_rows_from;
+use crate::bounds::BAND_ROWS;
+use crate::picture::Picture;
+use std::alloc::{AllocError, Global};
+
+/// Returns the picture as raster images of ESC/POS (`GS v 0`), for a ticket printer: bands of at
+/// most `BAND_ROWS` rows of pixels, one below the other. It fails only for lack of memory.
+#[tactic(auto, using(crate::proofs::BandLemmas::bands))]
+pub fn escpos(alloc: Global, picture: &Picture) -> Result<Vec<u8>, AllocError>
+    ensures { IfOk result (λ bytes. bytes.items ≡ escpos_text (shown picture.now)) }
+{
+    let height = picture.height();
+    let bands = height.div_ceil(BAND_ROWS);
+    let mut bytes = Vec::with_capacity(alloc, 8 * bands + picture.row_length() * height)?;
+    for n in 0..bands {
+        push_band(alloc, &mut bytes, picture, n)?;
+    }
+    Ok(bytes)
+}
+
+/// Appends band n.
+#[tactic(auto, unfolding(crate::specs::EscPos::raster))]
+fn push_band(
+    alloc: Global,
+    bytes: &mut Vec<u8>,
+    picture: &Picture,
+    n: usize,
+) -> Result<(), AllocError>
+    requires { n * BAND_ROWS < pixel_height (shown picture.now) }
+    ensures { OnOk result (bytes.new.items ≡ bytes.old.items ++ band (shown picture.now) n) }
+{
+    let first = n * BAND_ROWS;
+    let count = (picture.height() - first).min(BAND_ROWS);
+    bytes.extend_from_slice(b"\x1Dv0\0")?;
+    push_two_bytes(bytes, picture.row_length())?;
+    push_two_bytes(bytes, count)?;
+    push_rows_from(alloc, bytes, picture, first, count)
+}
+
+/// Appends a number in two bytes, the lower first.
+fn push_two_bytes(bytes: &mut Vec<u8>, n: usize) -> Result<(), AllocError>
+    requires { n < 65536 }
+    ensures { OnOk result (bytes.new.items ≡ bytes.old.items ++ two_bytes n) }
+{
+    bytes.push((n % 256) as u8)?;
+    bytes.push((n / 256) as u8)?;
+    Ok(())
+}

@@ -1,0 +1,218 @@
+//! Tests of formats on small grids, written by hand from the documents of the formats.
+use crate::draw_options::DrawOptions;
+use crate::eps::eps;
+use crate::escpos::escpos;
+use crate::format::Format;
+use crate::options::RenderOptions;
+use crate::picture::Picture;
+use crate::settings::Settings;
+use crate::svg::svg_document;
+use crate::zpl::zpl;
+use qrcode_core::plugin::PluginError;
+use qrcode_core::traits::ModuleView;
+use qrcode_core::types::Color;
+use std::alloc::Global;
+
+/// Three columns and two rows: dark, light, dark; dark, dark, light.
+const CELLS: [Color; 6] = [
+    Color::Dark,
+    Color::Light,
+    Color::Dark,
+    Color::Dark,
+    Color::Dark,
+    Color::Light,
+];
+
+/// Returns the bytes of the small grid in a printer's format, with a scale and a quiet zone.
+fn printed(
+    alloc: Global,
+    is_zpl: bool,
+    scale: usize,
+    quiet: usize,
+) -> Result<Vec<u8>, PluginError> {
+    let options = RenderOptions::new(alloc, scale, quiet)?;
+    let Some(view) = ModuleView::new_rect(&CELLS, 3, 2) else {
+        return Err(PluginError::InvalidModuleGrid);
+    };
+    let Some(picture) = Picture::of_grid(&view, options) else {
+        return Err(PluginError::InvalidModuleGrid);
+    };
+    if is_zpl {
+        Ok(zpl(alloc, &picture, (20, 30))?)
+    } else {
+        Ok(escpos(alloc, &picture)?)
+    }
+}
+
+/// By the page of `GS v 0`: 1D 76 30, the mode 0, the bytes of a row and the rows, each as two
+/// bytes with the lower first, and the rows. Rows are 00000, 01010, 01100, 00000, then light pixels.
+#[test]
+fn prints_raster_images(rt: HostRuntime) -> Result<(), PluginError> {
+    let alloc = rt.alloc();
+    let expected = b"\x1D\x76\x30\x00\x01\x00\x04\x00\x00\x50\x60\x00";
+    assert_eq!(rt;
+        printed(alloc, false, 1, 1)?.as_slice(),
+        expected.as_slice()
+    );
+
+    // 64 pixels a module: 24 bytes a row, and 128 rows, the last of which is 128 dark pixels.
+    let bytes = printed(alloc, false, 64, 0)?;
+    assert_eq!(rt; bytes.len(), 8 + 24 * 128);
+    assert!(rt; bytes.starts_with(b"\x1D\x76\x30\x00\x18\x00\x80\x00\xFF"));
+
+    // 6 rows of 64 pixels: a band of 255 rows, and one of 129.
+    let bytes = printed(alloc, false, 64, 2)?;
+    assert_eq!(rt; bytes.len(), 8 + 56 * 255 + 8 + 56 * 129);
+    let second = bytes.as_slice().get(8 + 56 * 255..).unwrap_or(&[]);
+    assert!(rt; second.starts_with(b"\x1D\x76\x30\x00\x38\x00\x81\x00\x00"));
+    Ok(())
+}
+
+/// The same rows in hexadecimal, 4 bytes of them, at column 20 and row 30.
+#[test]
+fn prints_small_labels(rt: HostRuntime) -> Result<(), PluginError> {
+    let alloc = rt.alloc();
+    let expected = b"^XA\n^FO20,30^GFA,4,4,1,00506000^FS\n^XZ\n";
+    assert_eq!(rt; printed(alloc, true, 1, 1)?.as_slice(), expected.as_slice());
+    Ok(())
+}
+
+/// The graphic in the description of `~DG` of the ZPL II guide, whose rows `^GF` has too: 80 columns
+/// and 8 rows, in 80 bytes, 10 of them in a row.
+const SAMPLE: &[u8] = b"^XA
+^FO0,0^GFA,80,80,10,FFFFFFFFFFFFFFFFFFFF\
+8000FFFF0000FFFF00018000FFFF0000FFFF00018000FFFF0000FFFF0001\
+FFFF0000FFFF0000FFFFFFFF0000FFFF0000FFFFFFFF0000FFFF0000FFFF\
+FFFFFFFFFFFFFFFFFFFF^FS
+^XZ
+";
+
+/// Whether the sample has a dark pixel here: a frame, and in it two rows of squares.
+fn is_dark_sample(x: usize, y: usize) -> bool {
+    let square = (x / 16) % 2;
+    match y {
+        0 | 7 => true,
+        1..=3 => x == 0 || x == 79 || square == 1,
+        _ => square == 0,
+    }
+}
+
+#[test]
+fn prints_the_sample_label(rt: HostRuntime) -> Result<(), PluginError> {
+    let alloc = rt.alloc();
+    let mut cells = Vec::new(alloc);
+    for y in 0..8 {
+        for x in 0..80 {
+            let dark = is_dark_sample(x, y);
+            cells.push(if dark { Color::Dark } else { Color::Light })?;
+        }
+    }
+    let options = RenderOptions::new(alloc, 1, 0)?;
+    let label = match ModuleView::new_rect(&cells, 80, 8) {
+        Some(view) => match Picture::of_grid(&view, options) {
+            Some(picture) => zpl(alloc, &picture, (0, 0))?,
+            None => Vec::new(alloc),
+        },
+        None => Vec::new(alloc),
+    };
+    assert_eq!(rt; label.as_slice(), SAMPLE);
+    Ok(())
+}
+
+/// The document of 29 columns, which are 9.57 mm wide if a module has 0.33 mm, with a title.
+const TITLED: &str =
+    r##"<svg xmlns="http://www.w3.org/2000/svg" width="9.57mm" height="9.24mm" viewBox="0 0 29 28" shape-rendering="crispEdges">
+<title>&lt;5 &amp; &quot;6&quot;&gt; 'é'&#13;</title>
+<rect width="29" height="28" fill="#fff"/>
+<path d="M13 13h1v1h-1zM15 13h1v1h-1zM13 14h2v1h-2z"/>
+</svg>
+"##;
+
+/// The same in points: a module of 0.33 mm has 33 * 18 / 635 points, and the sides have 27.2 and
+/// 26.2 points.
+const POSTSCRIPT: &str = "%!PS-Adobe-3.0 EPSF-3.0
+%%BoundingBox: 0 0 28 27
+%%LanguageLevel: 2
+%%EndComments
+/r{moveto dup 0 rlineto 0 1 rlineto neg 0 rlineto closepath}bind def
+33 18 mul 635 div dup scale 0 28 translate 1 -1 scale
+1 setgray 0 0 29 28 rectfill 0 setgray
+1 13 13 r
+1 15 13 r
+2 13 14 r
+fill
+showpage
+%%EOF
+";
+
+/// Sizes are exact decimals, and a title is escaped.
+#[test]
+fn draws_sizes(rt: HostRuntime) -> Result<(), PluginError> {
+    let alloc = rt.alloc();
+    let options = RenderOptions::new(alloc, 8, 13)?;
+    let Some(view) = ModuleView::new_rect(&CELLS, 3, 2) else {
+        return Err(PluginError::InvalidModuleGrid);
+    };
+    let Some(picture) = Picture::of_grid(&view, options) else {
+        return Err(PluginError::InvalidModuleGrid);
+    };
+    let title = "<5 & \"6\"> 'é'\r";
+    let text = svg_document(alloc, &picture, Some(33), Some(title))?;
+    assert_eq!(rt; text.as_str(), TITLED);
+    let text = eps(alloc, &picture, Some(33))?;
+    assert_eq!(rt; text.as_str(), POSTSCRIPT);
+    Ok(())
+}
+
+/// Whether the settings are rejected in this format, by the name of one of them.
+fn rejects(alloc: Global, format: Format, settings: &Settings, name: &str) -> bool {
+    match DrawOptions::new(alloc, format, settings) {
+        Err(PluginError::InvalidConfig(what)) => what.as_str() == name,
+        _ => false,
+    }
+}
+
+/// The settings of a format are within their bounds, and no other format has them.
+#[test]
+fn tests_settings(rt: HostRuntime) -> Result<(), PluginError> {
+    let alloc = rt.alloc();
+    let none = Settings::default();
+    let options = DrawOptions::new(alloc, Format::Terminal, &none)?;
+    assert_eq!(rt; (options.scale, options.quiet), (1, 4));
+    let options = DrawOptions::new(alloc, Format::Zpl, &none)?;
+    assert_eq!(rt; (options.scale, options.quiet, options.at), (8, 4, (0, 0)));
+
+    let dpi = Settings {
+        dpi: Some(2400),
+        ..none
+    };
+    assert!(rt; DrawOptions::new(alloc, Format::Png, &dpi).is_ok());
+    assert!(rt; rejects(alloc, Format::Svg, &dpi, "dpi"));
+    let both = Settings {
+        module_mm: Some(33),
+        ..dpi
+    };
+    assert!(rt; rejects(alloc, Format::Png, &both, "dpi"));
+    let thin = Settings {
+        module_mm: Some(4),
+        ..none
+    };
+    assert!(rt; rejects(alloc, Format::Eps, &thin, "module_mm"));
+    let title = Settings {
+        title: Some("a\u{FFFE}"),
+        ..none
+    };
+    assert!(rt; rejects(alloc, Format::Svg, &title, "title"));
+    let far = Settings {
+        at: Some((0, 18_001)),
+        ..none
+    };
+    assert!(rt; rejects(alloc, Format::Zpl, &far, "at"));
+    let inverted = Settings {
+        inverted: true,
+        ..none
+    };
+    assert!(rt; rejects(alloc, Format::Pbm, &inverted, "inverted"));
+    assert!(rt; DrawOptions::new(alloc, Format::Terminal, &inverted).is_ok());
+    Ok(())
+}

@@ -1,0 +1,101 @@
+//! Pictures as labels of ZPL II, for label printers.
+ghost use Rattle.std.specs.Prelude.{◌≡◌, ◌+◌, ◌*◌, ◌<◌, ◌≤◌, ◌++◌, IfOk, OnOk, flat_map};
+ghost use Rattle.std.specs.String.{string_bytes};
+ghost use Rattle.qrcode_render.specs.declared.bounds.TheConstants.{FIELD_BYTES, MAX_AT, MAX_PIXELS};
+ghost use Rattle.qrcode_render.specs.Pictures.{pixel_height};
+ghost use Rattle.qrcode_render.specs.Shown.{shown};
+ghost use Rattle.qrcode_render.specs.Zpl.{field, field_head, hex_byte, hex_digit, zpl_text};
+
+use crate::bitmap::push_rows_from;
+use crate::bounds::FIELD_BYTES;
+use crate::picture::Picture;
+use std::alloc::{AllocError, Global};
+
+/// Returns the picture as a label of ZPL II (`^GF`), for a label printer, with its upper left
+/// corner at this position in dots. Its rows are in fields of at most `FIELD_BYTES` bytes, one below
+/// the other. It fails only for lack of memory.
+#[tactic(auto, using(crate::proofs::BandLemmas::fields))]
+pub fn zpl(alloc: Global, picture: &Picture, at: (usize, usize)) -> Result<Vec<u8>, AllocError>
+    requires { at.1 ≤ MAX_AT }
+    ensures { IfOk result (λ bytes. bytes.items ≡ zpl_text at (shown picture.now)) }
+{
+    let height = picture.height();
+    let rows = FIELD_BYTES / picture.row_length();
+    let mut bytes = Vec::with_capacity(alloc, 2 * picture.row_length() * height)?;
+    bytes.extend_from_slice(b"^XA\n")?;
+    for n in 0..height.div_ceil(rows) {
+        let first = n * rows;
+        push_field(
+            alloc,
+            &mut bytes,
+            picture,
+            at,
+            first,
+            (height - first).min(rows),
+        )?;
+    }
+    bytes.extend_from_slice(b"^XZ\n")?;
+    Ok(bytes)
+}
+
+/// Appends the field of some rows of pixels, from one on.
+#[tactic(auto, unfolding(crate::specs::Zpl::field))]
+fn push_field(
+    alloc: Global,
+    bytes: &mut Vec<u8>,
+    picture: &Picture,
+    at: (usize, usize),
+    first: usize,
+    count: usize,
+) -> Result<(), AllocError>
+    requires place { at.1 ≤ MAX_AT }
+    requires rows { first + count ≤ MAX_PIXELS }
+    ensures { OnOk result
+        (bytes.new.items ≡ bytes.old.items ++ field (shown picture.now) at first count) }
+{
+    let length = picture.row_length();
+    let head = field_head(alloc, at.0, at.1 + first, length * count, length)?;
+    bytes.extend_from_slice(head.as_bytes())?;
+    let mut rows = Vec::with_capacity(alloc, length * count)?;
+    push_rows_from(alloc, &mut rows, picture, first, count)?;
+    push_hex(bytes, &rows)?;
+    bytes.extend_from_slice(b"^FS\n")
+}
+
+/// Returns the head of a field, up to its data.
+#[tactic(auto, unfolding(crate::specs::Zpl::field_head))]
+fn field_head(
+    alloc: Global,
+    x: usize,
+    y: usize,
+    bytes: usize,
+    row: usize,
+) -> Result<String, AllocError>
+    ensures { IfOk result (λ text. string_bytes text ≡ field_head x y bytes row) }
+{
+    format!(in alloc; "^FO{x},{y}^GFA,{bytes},{bytes},{row},")
+}
+
+/// Appends the hexadecimal digits of some bytes.
+#[tactic(auto, using(crate::proofs::BandLemmas::digits))]
+fn push_hex(bytes: &mut Vec<u8>, content: &[u8]) -> Result<(), AllocError>
+    ensures { OnOk result (bytes.new.items ≡ bytes.old.items ++ flat_map hex_byte content.now) }
+{
+    for byte in content {
+        bytes.push(hex_digit(*byte / 16))?;
+        bytes.push(hex_digit(*byte % 16))?;
+    }
+    Ok(())
+}
+
+/// Returns a hexadecimal digit.
+fn hex_digit(digit: u8) -> u8
+    requires { digit < 16 }
+    ensures { result ≡ hex_digit digit }
+{
+    if digit < 10 {
+        b'0' + digit
+    } else {
+        b'A' + (digit - 10)
+    }
+}
