@@ -2,6 +2,7 @@ pub mod Ranges
 pub mod BitmapLemmas
 pub mod BandLemmas
 pub mod PixelLemmas
+pub mod SettingLemmas
 pub mod TerminalLemmas
 pub mod PathLemmas
 pub mod CoverLemmas

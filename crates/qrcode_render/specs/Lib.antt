@@ -15,3 +15,5 @@ pub mod Made
 pub mod EscPos
 pub mod Zpl
 pub mod PngPixels
+pub mod Resolutions
+pub mod Drawings

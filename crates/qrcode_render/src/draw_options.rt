@@ -6,7 +6,7 @@ ghost use Rattle.qrcode_render.specs.Options.{NamesOption};
 ghost use Rattle.qrcode_render.specs.Settings.{allows, allows_title, allows_position};
 ghost use Rattle.qrcode_render.specs.declared.bounds.TheConstants.{MIN_SCALE, MAX_SCALE, MAX_QUIET};
 ghost use Rattle.qrcode_render.specs.declared.bounds.TheConstants.{MIN_MODULE_MM, MAX_MODULE_MM};
-ghost use Rattle.qrcode_render.specs.declared.bounds.TheConstants.{MIN_DPI, MAX_DPI};
+ghost use Rattle.qrcode_render.specs.declared.bounds.TheConstants.{MIN_DPI, MAX_DPI, MAX_AT};
 
 use crate::bounds::{
     MAX_AT, MAX_DPI, MAX_MODULE_MM, MAX_QUIET, MAX_SCALE, MIN_DPI, MIN_MODULE_MM, MIN_SCALE, QUIET,
@@ -44,6 +44,8 @@ pub struct DrawOptions<'a> {
     ghost small_module: { ForSome module_mm (λ n. n ≤ MAX_MODULE_MM) },
     ghost some_dots: { ForSome dpi (λ n. MIN_DPI ≤ n) },
     ghost few_dots: { ForSome dpi (λ n. n ≤ MAX_DPI) },
+    ghost far_right: { at.0 ≤ MAX_AT },
+    ghost far_down: { at.1 ≤ MAX_AT },
 }
 
 impl<'a> DrawOptions<'a> {

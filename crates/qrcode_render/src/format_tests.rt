@@ -1,5 +1,6 @@
 //! Tests of formats on small grids, written by hand from the documents of the formats.
 use crate::draw_options::DrawOptions;
+use crate::drawing::draw;
 use crate::eps::eps;
 use crate::escpos::escpos;
 use crate::format::Format;
@@ -9,8 +10,9 @@ use crate::settings::Settings;
 use crate::svg::svg_document;
 use crate::zpl::zpl;
 use qrcode_core::plugin::PluginError;
+use qrcode_core::symbol::Symbol;
 use qrcode_core::traits::ModuleView;
-use qrcode_core::types::Color;
+use qrcode_core::types::{Color, EcLevel};
 use std::alloc::Global;
 
 /// Three columns and two rows: dark, light, dark; dark, dark, light.
@@ -214,5 +216,47 @@ fn tests_settings(rt: HostRuntime) -> Result<(), PluginError> {
     };
     assert!(rt; rejects(alloc, Format::Pbm, &inverted, "inverted"));
     assert!(rt; DrawOptions::new(alloc, Format::Terminal, &inverted).is_ok());
+    Ok(())
+}
+
+/// The first bytes of each format, and of what the options add.
+const BEGINNINGS: [(Format, &[u8]); 7] = [
+    (Format::Terminal, b"     "),
+    (Format::Svg, b"<svg xmlns="),
+    (Format::Png, b"\x89PNG\r\n\x1A\n"),
+    (Format::Pbm, b"P4\n232 232\n"),
+    (
+        Format::Eps,
+        b"%!PS-Adobe-3.0 EPSF-3.0\n%%BoundingBox: 0 0 232 232\n",
+    ),
+    (Format::EscPos, b"\x1D\x76\x30\x00\x1D\x00\xE8\x00"),
+    (Format::Zpl, b"^XA\n^FO0,0^GFA,6728,6728,29,"),
+];
+
+/// A symbol of 21 modules is drawn in each format, with 8 pixels a module and 4 modules around it.
+#[test]
+fn draws_symbols(rt: HostRuntime) -> Result<(), PluginError> {
+    let alloc = rt.alloc();
+    let symbol = Symbol::new(alloc, b"hello", EcLevel::M).expect(&rt, "a symbol");
+    for (format, beginning) in BEGINNINGS {
+        let options = DrawOptions::new(alloc, format, &Settings::default())?;
+        let bytes = draw(alloc, &symbol, &options)?;
+        assert!(rt; bytes.starts_with(beginning));
+    }
+    // 300 dots in an inch are 11,811 in a metre, and 8 pixels in 0.5 mm are 16,000.
+    let dpi = Settings {
+        dpi: Some(300),
+        ..Settings::default()
+    };
+    let module_mm = Settings {
+        module_mm: Some(50),
+        ..Settings::default()
+    };
+    for (settings, number) in [(dpi, b"\x00\x00\x2E\x23"), (module_mm, b"\x00\x00\x3E\x80")] {
+        let options = DrawOptions::new(alloc, Format::Png, &settings)?;
+        let bytes = draw(alloc, &symbol, &options)?;
+        assert_eq!(rt; bytes.get(37..41), Some(b"pHYs".as_slice()));
+        assert_eq!(rt; bytes.get(41..45), Some(number.as_slice()));
+    }
     Ok(())
 }

@@ -16,6 +16,7 @@
 mod bitmap;
 pub mod bounds;
 pub mod draw_options;
+mod drawing;
 pub mod eps;
 pub mod escpos;
 pub mod format;
@@ -38,6 +39,7 @@ mod xml;
 pub mod zpl;
 
 pub use draw_options::DrawOptions;
+pub use drawing::draw;
 pub use format::Format;
 pub use options::RenderOptions;
 pub use picture::Picture;

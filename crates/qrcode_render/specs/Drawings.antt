@@ -1,0 +1,34 @@
+-- The bytes of a picture in the format of its options.
+use Rattle.std.specs.Prelude.{◌≡◌, ℕ, ◌+◌, ◌*◌, ◌/◌, List, Option, Some, None}
+use Rattle.std.specs.Option.{option_copied}
+use Rattle.png.specs.Png.{read_png}
+use Rattle.qrcode_core.specs.Grids.{Grid}
+use Rattle.qrcode_render.specs.declared.draw_options.DrawOptions.{DrawOptions}
+use Rattle.qrcode_render.specs.declared.format.Format.{Format}
+use Rattle.qrcode_render.specs.declared.format.Format.TheVariants.{Terminal, Svg, Png, Pbm, Eps}
+use Rattle.qrcode_render.specs.declared.format.Format.TheVariants.{EscPos, Zpl}
+use Rattle.qrcode_render.specs.Bitmaps.{bitmap_of}
+use Rattle.qrcode_render.specs.Eps.{eps_text}
+use Rattle.qrcode_render.specs.EscPos.{escpos_text}
+use Rattle.qrcode_render.specs.Paths.{svg_document}
+use Rattle.qrcode_render.specs.Pictures.{Picture, picture}
+use Rattle.qrcode_render.specs.PngPixels.{png_pixels}
+use Rattle.qrcode_render.specs.Terminals.{terminal_text}
+use Rattle.qrcode_render.specs.Resolutions.{per_metre}
+use Rattle.qrcode_render.specs.Zpl.{zpl_text}
+
+-- The bytes are those of the picture in a format, with what the options say beside the format, the
+-- scale and the quiet zone. Of PNG they are any bytes in which a reader finds the pixels.
+abbrev pub IsDrawnAs : Format → DrawOptions → Picture → List ℕ → Type 0
+IsDrawnAs Terminal o p bytes = bytes ≡ terminal_text o.inverted p
+IsDrawnAs Svg o p bytes = bytes ≡ svg_document o.module_mm (option_copied o.title) p
+IsDrawnAs Png o p bytes =
+    read_png bytes ≡ Some (png_pixels (per_metre o.scale o.module_mm o.dpi) p)
+IsDrawnAs Pbm o p bytes = bytes ≡ bitmap_of p
+IsDrawnAs Eps o p bytes = bytes ≡ eps_text o.module_mm p
+IsDrawnAs EscPos o p bytes = bytes ≡ escpos_text p
+IsDrawnAs Zpl o p bytes = bytes ≡ zpl_text o.at p
+
+-- The bytes show the grid as the options say.
+abbrev pub IsDrawn : DrawOptions → Grid → List ℕ → Type 0
+IsDrawn o grid bytes = IsDrawnAs o.format o (picture grid o.scale o.quiet) bytes

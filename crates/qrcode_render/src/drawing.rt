@@ -1,0 +1,84 @@
+//! Symbols and grids in the format of their options, in one call.
+ghost use Rattle.std.specs.Prelude.{◌≡◌, ◌<◌, ◌≤◌, ◌^◌, ◌↔◌, IfOk, IfSome, IsSome, OnOk};
+ghost use Rattle.qrcode_core.specs.Drawn.{drawn_grid};
+ghost use Rattle.qrcode_render.specs.Drawings.{IsDrawn, IsDrawnAs};
+ghost use Rattle.qrcode_render.specs.Resolutions.{nearest, per_metre};
+ghost use Rattle.qrcode_render.specs.Shown.{shown};
+
+use crate::draw_options::DrawOptions;
+use crate::eps::eps;
+use crate::escpos::escpos;
+use crate::format::Format;
+use crate::options::RenderOptions;
+use crate::pbm::pbm;
+use crate::picture::Picture;
+use crate::png_file::png;
+use crate::svg::svg_document;
+use crate::terminal::terminal;
+use crate::zpl::zpl;
+use qrcode_core::symbol::Symbol;
+use std::alloc::{AllocError, Global};
+
+/// Returns the picture of a symbol, in the format of the options. It fails only for lack of memory.
+pub fn draw(alloc: Global, symbol: &Symbol, options: &DrawOptions) -> Result<Vec<u8>, AllocError>
+    ensures { IfOk result (λ bytes. IsDrawn options.now (drawn_grid symbol.now) bytes.items) }
+{
+    let picture = Picture::of_symbol(symbol, shape(options));
+    draw_picture(alloc, &picture, options)
+}
+
+/// Returns the picture in the format of the options.
+pub(crate) fn draw_picture(
+    alloc: Global,
+    picture: &Picture,
+    options: &DrawOptions,
+) -> Result<Vec<u8>, AllocError>
+    ensures { IfOk result (λ bytes.
+        IsDrawnAs options.now.format options.now (shown picture.now) bytes.items) }
+{
+    match options.format {
+        Format::Terminal => Ok(terminal(alloc, picture, options.inverted)?.into_bytes()),
+        Format::Svg => {
+            Ok(svg_document(alloc, picture, options.module_mm, options.title)?.into_bytes())
+        }
+        Format::Png => png(alloc, picture, pixels_per_metre(options)),
+        Format::Pbm => pbm(alloc, picture),
+        Format::Eps => Ok(eps(alloc, picture, options.module_mm)?.into_bytes()),
+        Format::EscPos => escpos(alloc, picture),
+        Format::Zpl => zpl(alloc, picture, options.at),
+    }
+}
+
+/// Returns the scale and the quiet zone of the options.
+pub(crate) fn shape(options: &DrawOptions) -> RenderOptions
+    ensures scale { result.scale ≡ options.now.scale }
+    ensures quiet { result.quiet ≡ options.now.quiet }
+{
+    RenderOptions {
+        scale: options.scale,
+        quiet: options.quiet,
+    }
+}
+
+/// Returns the number of pixels in a metre, if the options say it.
+fn pixels_per_metre(options: &DrawOptions) -> Option<u32>
+    ensures exact { result ≡ per_metre options.now.scale options.now.module_mm options.now.dpi }
+    ensures small { IfSome result (λ n. n < 2 ^ 31) }
+{
+    match (options.module_mm, options.dpi) {
+        (Some(module_mm), _) => Some(nearest(options.scale * 100_000, module_mm)),
+        (None, Some(dpi)) => Some(nearest(dpi * 10_000, 254)),
+        (None, None) => None,
+    }
+}
+
+/// Returns the whole number that is nearest to a quotient; the greater one, if two are.
+fn nearest(dividend: usize, divisor: usize) -> u32
+    requires some { 0 < divisor }
+    requires small { divisor < 2 ^ 20 }
+    requires few { dividend < 2 ^ 25 }
+    ensures exact { result ≡ nearest dividend divisor }
+    ensures small { result < 2 ^ 31 }
+{
+    ((2 * dividend + divisor) / (2 * divisor)) as u32
+}
