@@ -6,7 +6,7 @@ use Rattle.std.proofs.lemmas.{Nat.div-mul-add, Nat.div-add-mod', Bool.cases_lt}
 use Rattle.std.proofs.Math.Nat.{div-mul-le_self}
 use Rattle.std.proofs.lemmas.{Nat.le-div, Grind.common_steps, Grind.flat_map-append}
 use Rattle.qrcode_render.specs.EscPos.{band, first_bands}
-use Rattle.qrcode_render.specs.Zpl.{hex_byte, hex_digit, nth_field, first_fields}
+use Rattle.qrcode_render.specs.Zpl.{hex_pair, hex_digit, nth_field, first_fields}
 use Rattle.qrcode_render.specs.Pictures.{Picture}
 use Rattle.qrcode_render.proofs.Ranges.{flat_map_range}
 
@@ -28,8 +28,8 @@ fields_more p at n = flat_map_range (nth_field p at) n
 
 -- the digits of one byte more
 pub digits_more : (bytes : List ℕ) (n : ℕ) → n < length bytes →
-    flat_map hex_byte (take (n + 1) bytes) ≡ flat_map hex_byte (take n bytes) ++ hex_byte (get_or bytes n 0)
-digits_more bytes n inside = grind (arith, common_steps, flat_map-append hex_byte (take n bytes) (get_or bytes n 0 ∷ []), append-nil)
+    flat_map hex_pair (take (n + 1) bytes) ≡ flat_map hex_pair (take n bytes) ++ hex_pair (get_or bytes n 0)
+digits_more bytes n inside = grind (arith, common_steps, flat_map-append hex_pair (take n bytes) (get_or bytes n 0 ∷ []), append-nil)
 
 -- a part begins within the whole
 pub part_begins : (n whole part : ℕ) → 0 < part → n < (whole + (part - 1)) / part → n * part < whole

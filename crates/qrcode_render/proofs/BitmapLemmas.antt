@@ -1,14 +1,14 @@
 -- The bytes and rows of a bitmap, one after the other.
-use Rattle.std.proofs.Common.{◌≡◌, ℕ, zero, suc, ◌+◌, ◌*◌, ◌/◌, ◌<◌, ◌≤◌, ◌^◌, ◌++◌, Bool, List, [], ◌∷◌, map, refl, sym, ◌∙◌, arith, add-one}
+use Rattle.std.proofs.Common.{◌≡◌, ℕ, zero, suc, ◌+◌, ◌*◌, ◌/◌, ◌<◌, ◌≤◌, ◌^◌, ◌++◌, Bool, true, false, replicate, List, [], ◌∷◌, map, refl, sym, ◌∙◌, arith, add-one}
 use Rattle.std.proofs.Common.{append-nil}
 use Rattle.std.specs.Prelude.{if◌then◌else◌}
 use Rattle.std.{specs.List.range_with_len, proofs.Math.Pow.pow_mono, proofs.lemmas.Grind.pow_more, proofs.lemmas.List.FromFn.map-range_with_len_more}
 use Rattle.std.proofs.Common.{◌-◌, ◌%◌, ◌≢◌, ap, inl, inr}
 use Rattle.std.{proofs.lemmas.Nat.div-add-mod', proofs.Math.Nat.mod-eq-sub-div-mul, proofs.lemmas.Bool.cases_lt}
 use Rattle.std.{proofs.lemmas.Nat.div-mul-add, proofs.lemmas.List.Sums.fold-append}
-use Rattle.qrcode_render.specs.Bitmaps.{bits_number, pixel_byte, bitmap_row, first_rows, rows_from}
-use Rattle.qrcode_render.{specs.Pictures.Picture, specs.Pictures.pixel_width, specs.Pictures.is_dark_module}
-use Rattle.qrcode_render.proofs.Ranges.{flat_map_from, joined}
+use Rattle.qrcode_render.specs.Bitmaps.{bits_number, pixel_byte, bitmap_row, row_length, first_rows, rows_from}
+use Rattle.qrcode_render.{specs.Pictures.Picture, specs.Pictures.pixel_width, specs.Pictures.columns_of, specs.Pictures.is_dark_module}
+use Rattle.qrcode_render.proofs.Ranges.{flat_map_from, joined, equal_values}
 
 -- the number that the tests of n places from x on spell
 abbrev pub spelled : (ℕ → Bool) → ℕ → ℕ → ℕ
@@ -92,6 +92,51 @@ rows_one p first y after =
 -- the next row of pixels, where it is not in the next row of modules
 pub row_next : (p : Picture) (y : ℕ) → 0 < p.scale → (y + 1) % p.scale ≢ 0 → bitmap_row p (y + 1) ≡ bitmap_row p y
 row_next p y some within = row_same p (y + 1) y (same_quotient y p.scale some within)
+
+-- ---- Rows of whole bytes
+
+-- a byte of eight equal pixels
+equal_bits : (dark : Bool) → bits_number (replicate 8 dark) ≡ (if dark then 255 else 0)
+equal_bits true = refl
+equal_bits false = refl
+
+-- a byte within a module
+pub module_byte : (p : Picture) (y column copy per : ℕ) → p.scale ≡ 8 * per → copy < per →
+    pixel_byte p y (column * per + copy) ≡ (if is_dark_module p column (y / p.scale) then 255 else 0)
+unfolding pixel_byte
+module_byte p y column copy per whole below =
+    let place = column * per + copy in
+    let dark = is_dark_module p column (y / p.scale) in
+    let at : (k : ℕ) → k < 8 → (8 * place + k) / p.scale ≡ column = λ k few.
+    (let here : 8 * place + k ≡ column * (8 * per) + (8 * copy + k) = grind arith in
+    let within : 8 * copy + k < 8 * per = omega arith in
+    ap (λ s. (8 * place + k) / s) whole ∙ (ap (λ x. x / (8 * per)) here ∙ div-mul-add column (8 * per) (8 * copy + k) within)) in
+    let first : (8 * place) / p.scale ≡ column = (let start : 8 * place ≡ 8 * place + 0 = omega arith in ap (λ x. x / p.scale) start ∙ at 0 (omega arith)) in
+    let same : (k : ℕ) → k < 8 → is_dark_module p ((8 * place + k) / p.scale) (y / p.scale) ≡ is_dark_module p ((8 * place) / p.scale) (y / p.scale) =
+    λ k few. ap (λ x. is_dark_module p x (y / p.scale)) (at k few ∙ sym first) in
+    ap bits_number (equal_values (λ x. is_dark_module p (x / p.scale) (y / p.scale)) (8 * place) 8 same)
+    ∙ (equal_bits (is_dark_module p ((8 * place) / p.scale) (y / p.scale))
+    ∙ ap (λ x. if is_dark_module p x (y / p.scale) then 255 else 0) first)
+
+-- one byte more
+pub byte_more : (p : Picture) (y column copy per byte : ℕ) (line : List ℕ) → p.scale ≡ 8 * per → copy < per →
+    byte ≡ (if is_dark_module p column (y / p.scale) then 255 else 0) →
+    line ≡ map (pixel_byte p y) (range_with_len 0 (column * per + copy)) →
+    line ++ byte ∷ [] ≡ map (pixel_byte p y) (range_with_len 0 (column * per + (copy + 1)))
+byte_more p y column copy per byte line whole below is was =
+    let more : column * per + (copy + 1) ≡ (column * per + copy) + 1 = omega arith in
+    ap (λ l. l ++ byte ∷ []) was
+    ∙ (ap (λ b. map (pixel_byte p y) (range_with_len 0 (column * per + copy)) ++ b ∷ []) (is ∙ sym (module_byte p y column copy per whole below))
+    ∙ (sym (bytes_more p y (column * per + copy)) ∙ ap (λ n. map (pixel_byte p y) (range_with_len 0 n)) (sym more)))
+
+eight_times : (columns per : ℕ) → columns * (8 * per) ≡ 8 * (columns * per)
+eight_times columns per = grind arith
+
+-- all bytes of a row
+pub whole_row : (p : Picture) (per : ℕ) → p.scale ≡ 8 * per → row_length p ≡ columns_of p * per
+whole_row p per whole =
+    let pixels : pixel_width p ≡ 8 * (columns_of p * per) = ap (λ s. columns_of p * s) whole ∙ eight_times (columns_of p) per in
+    omega (arith, pixels)
 
 pub ruleset bits = (spelled_more, spelled_small)
 

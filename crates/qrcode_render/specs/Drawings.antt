@@ -19,16 +19,16 @@ use Rattle.qrcode_render.specs.Zpl.{zpl_text}
 
 -- The bytes are those of the picture in a format, with what the options say beside the format, the
 -- scale and the quiet zone. Of PNG they are any bytes in which a reader finds the pixels.
-abbrev pub IsDrawnAs : Format → DrawOptions → Picture → List ℕ → Type 0
-IsDrawnAs Terminal o p bytes = bytes ≡ terminal_text o.inverted p
-IsDrawnAs Svg o p bytes = bytes ≡ svg_document o.module_mm (option_copied o.title) p
-IsDrawnAs Png o p bytes =
+abbrev pub IsPictureAs : Format → DrawOptions → Picture → List ℕ → Type 0
+IsPictureAs Terminal o p bytes = bytes ≡ terminal_text o.inverted p
+IsPictureAs Svg o p bytes = bytes ≡ svg_document o.module_mm (option_copied o.title) p
+IsPictureAs Png o p bytes =
     read_png bytes ≡ Some (png_pixels (per_metre o.scale o.module_mm o.dpi) p)
-IsDrawnAs Pbm o p bytes = bytes ≡ bitmap_of p
-IsDrawnAs Eps o p bytes = bytes ≡ eps_text o.module_mm p
-IsDrawnAs EscPos o p bytes = bytes ≡ escpos_text p
-IsDrawnAs Zpl o p bytes = bytes ≡ zpl_text o.at p
+IsPictureAs Pbm o p bytes = bytes ≡ bitmap_of p
+IsPictureAs Eps o p bytes = bytes ≡ eps_text o.module_mm p
+IsPictureAs EscPos o p bytes = bytes ≡ escpos_text p
+IsPictureAs Zpl o p bytes = bytes ≡ zpl_text o.at p
 
 -- The bytes show the grid as the options say.
-abbrev pub IsDrawn : DrawOptions → Grid → List ℕ → Type 0
-IsDrawn o grid bytes = IsDrawnAs o.format o (picture grid o.scale o.quiet) bytes
+abbrev pub IsPictureOf : DrawOptions → Grid → List ℕ → Type 0
+IsPictureOf o grid bytes = IsPictureAs o.format o (picture grid o.scale o.quiet) bytes

@@ -34,11 +34,11 @@ unfoldable pub path : (write : ℕ → ℕ → ℕ → List ℕ) → Picture →
 path write p rows =
     flat_map (λ y. row_path write p y (columns_of p)) (range_with_len 0 rows)
 
--- The rectangle of SVG that covers `length` modules from column x of row y on.
+-- The rectangle of SVG that covers `length` modules from column x of row y on: a line, which is as
+-- wide as a module. The path is moved down by half a module, so that it is the middle of the row.
 unfoldable pub rectangle : ℕ → ℕ → ℕ → List ℕ
 rectangle x y length =
-    codes "M" ++ (decimal x ++ (codes " " ++ (decimal y ++
-    (codes "h" ++ (decimal length ++ (codes "v1h-" ++ (decimal length ++ codes "z")))))))
+    codes "M" ++ (decimal x ++ (codes " " ++ (decimal y ++ (codes "h" ++ decimal length))))
 
 -- Hundredths of a millimetre, as a decimal number of millimetres.
 unfoldable pub millimetres : ℕ → List ℕ
@@ -56,7 +56,7 @@ svg_tag width height columns rows =
     codes "<svg xmlns=\"http://www.w3.org/2000/svg\" width=\"" ++ (width ++
     (codes "\" height=\"" ++ (height ++
     (codes "\" viewBox=\"0 0 " ++ (decimal columns ++ (codes " " ++ (decimal rows ++
-    codes "\" shape-rendering=\"crispEdges\">\n")))))))
+    codes "\">\n")))))))
 
 -- The title, if there is one.
 abbrev pub title_element : Option (List ℕ) → List ℕ
@@ -67,7 +67,8 @@ title_element (Some title) = codes "<title>" ++ (xml_text title ++ codes "</titl
 unfoldable pub background : (columns rows : ℕ) → List ℕ
 background columns rows =
     codes "<rect width=\"" ++ (decimal columns ++ (codes "\" height=\"" ++ (decimal rows ++
-    codes "\" fill=\"#fff\"/>\n<path d=\"")))
+    (codes "\" fill=\"#fff\"/>\n<path stroke=\"#000\" transform=\"translate(0,.5)\""
+    ++ codes " shape-rendering=\"crispEdges\" d=\""))))
 
 -- The end of the document.
 abbrev pub closing : List ℕ

@@ -1,5 +1,5 @@
 -- The results of the renderers.
-use Rattle.std.specs.Prelude.{◌≡◌, ◌≢◌, ◌⊎◌, ℕ, Bool, List, None, Result, Ok, Err, codes}
+use Rattle.std.specs.Prelude.{◌≡◌, ◌≢◌, ◌⊎◌, ℕ, Bool, List, Some, None, Result, Ok, Err, codes}
 use Rattle.std.specs.String.{string_bytes}
 use Rattle.qrcode_core.specs.declared.plugin.config.RenderConfig.{RenderConfig}
 use Rattle.qrcode_core.specs.declared.plugin.error.PluginError.{PluginError}
@@ -12,7 +12,12 @@ use Rattle.qrcode_core.specs.Plugins.{TextMap, at_key, render_options}
 use Rattle.qrcode_core.specs.Grids.{Grid}
 use Rattle.qrcode_render.specs.declared.bounds.TheConstants.{IMAGE_SCALE, TEXT_SCALE}
 use Rattle.qrcode_render.specs.Pictures.{Picture, picture, IsDrawable}
+use Rattle.png.specs.Png.{read_png}
 use Rattle.qrcode_render.specs.Bitmaps.{bitmap_of}
+use Rattle.qrcode_render.specs.Eps.{eps_text}
+use Rattle.qrcode_render.specs.EscPos.{escpos_text}
+use Rattle.qrcode_render.specs.PngPixels.{png_pixels}
+use Rattle.qrcode_render.specs.Zpl.{zpl_text}
 use Rattle.qrcode_render.specs.Terminals.{terminal_text}
 use Rattle.qrcode_render.specs.Paths.{svg_text}
 use Rattle.qrcode_render.specs.Options.{Asks, AsksFlag, IsUnclear}
@@ -60,6 +65,27 @@ ShowsTerminal options p _ = ⊥
 abbrev pub ShowsSvg : TextMap (List ℕ) → Picture → RenderOutput → Type 0
 ShowsSvg options p (Text text) = AsksForImage options × (string_bytes text ≡ svg_text p)
 ShowsSvg options p _ = ⊥
+
+-- The output is the picture as a PNG file, in which a reader finds its pixels.
+abbrev pub ShowsPng : TextMap (List ℕ) → Picture → RenderOutput → Type 0
+ShowsPng options p (Bytes bytes) =
+    AsksForImage options × (read_png bytes.items ≡ Some (png_pixels None p))
+ShowsPng options p _ = ⊥
+
+-- The output is the picture as Encapsulated PostScript.
+abbrev pub ShowsEps : TextMap (List ℕ) → Picture → RenderOutput → Type 0
+ShowsEps options p (Text text) = AsksForImage options × (string_bytes text ≡ eps_text None p)
+ShowsEps options p _ = ⊥
+
+-- The output is the picture as raster images of ESC/POS.
+abbrev pub ShowsEscPos : TextMap (List ℕ) → Picture → RenderOutput → Type 0
+ShowsEscPos options p (Bytes bytes) = AsksForImage options × (bytes.items ≡ escpos_text p)
+ShowsEscPos options p _ = ⊥
+
+-- The output is the picture as a label of ZPL II, at its upper left corner.
+abbrev pub ShowsZpl : TextMap (List ℕ) → Picture → RenderOutput → Type 0
+ShowsZpl options p (Bytes bytes) = AsksForImage options × (bytes.items ≡ zpl_text (0, 0) p)
+ShowsZpl options p _ = ⊥
 
 -- The output shows the grid as the options say.
 pub record DrawsGrid (default : ℕ) (Shows : TextMap (List ℕ) → Picture → RenderOutput → Type 0)

@@ -12,8 +12,8 @@ abbrev pub hex_digit : ℕ → ℕ
 hex_digit d = if nat_lt d 10 then 48 + d else 55 + d
 
 -- The two digits of a byte.
-abbrev pub hex_byte : ℕ → List ℕ
-hex_byte b = hex_digit (b / 16) ∷ hex_digit (b % 16) ∷ []
+abbrev pub hex_pair : ℕ → List ℕ
+hex_pair b = hex_digit (b / 16) ∷ hex_digit (b % 16) ∷ []
 
 -- The head of a graphic field, up to its data: the position of its upper left corner in dots, the
 -- number of its bytes, twice, and the number of bytes in a row.
@@ -26,7 +26,7 @@ field_head x y bytes row =
 unfoldable pub field : Picture → (at : ℕ × ℕ) → (first count : ℕ) → List ℕ
 field p at first count =
     field_head at.0 (at.1 + first) (row_length p * count) (row_length p)
-    ++ (flat_map hex_byte (rows_from p first count) ++ codes "^FS\n")
+    ++ (flat_map hex_pair (rows_from p first count) ++ codes "^FS\n")
 
 -- The number of rows in a field: as many as the printer takes in one.
 abbrev pub field_rows : Picture → ℕ

@@ -1,8 +1,8 @@
 //! The rows of pixels of a picture, as bits: dark is 1.
-ghost use Rattle.std.specs.Prelude.{◌≡◌, ◌+◌, ◌/◌, ◌<◌, ◌≤◌, ◌++◌, IfOk, OnOk};
+ghost use Rattle.std.specs.Prelude.{◌≡◌, ◌+◌, ◌/◌, ◌%◌, ◌<◌, ◌≤◌, ◌++◌, IfOk, OnOk, if◌then◌else◌};
 ghost use Rattle.qrcode_render.specs.declared.bounds.TheConstants.{MAX_PIXELS};
 ghost use Rattle.qrcode_render.specs.Bitmaps.{pixel_byte, first_rows, bitmap_row, rows_from};
-ghost use Rattle.qrcode_render.specs.Pictures.{pixel_height};
+ghost use Rattle.qrcode_render.specs.Pictures.{is_dark_module, pixel_height};
 ghost use Rattle.qrcode_render.specs.Shown.{shown};
 
 use crate::picture::Picture;
@@ -53,12 +53,48 @@ pub(crate) fn push_rows_from(
     Ok(())
 }
 
-/// Appends the bytes of a row of pixels.
-#[tactic(auto, using(crate::proofs::BitmapLemmas::bytes_more), unfolding(crate::specs::Bitmaps::bitmap_row))]
+/// Returns the bytes of a row of pixels.
 pub(crate) fn row_bytes(alloc: Global, picture: &Picture, y: usize) -> Result<Vec<u8>, AllocError>
     ensures { IfOk result (λ line. line.items ≡ bitmap_row (shown picture.now) y) }
 {
-    let length = picture.width().div_ceil(8);
+    if picture.scale() % 8 == 0 {
+        whole_bytes(alloc, picture, y)
+    } else {
+        packed_bytes(alloc, picture, y)
+    }
+}
+
+/// Returns the bytes of a row of pixels, if each module is whole bytes wide.
+#[tactic(auto, unfolding(crate::specs::Bitmaps::bitmap_row))]
+fn whole_bytes(alloc: Global, picture: &Picture, y: usize) -> Result<Vec<u8>, AllocError>
+    requires { (shown picture.now).scale % 8 ≡ 0 }
+    ensures { IfOk result (λ line. line.items ≡ bitmap_row (shown picture.now) y) }
+{
+    let scale = picture.scale();
+    let (row, per) = (y / scale, scale / 8);
+    let mut line = Vec::with_capacity(alloc, picture.row_length())?;
+    for column in 0..picture.columns() {
+        let byte = module_byte(picture, column, row);
+        for copy in 0..per {
+            line.push(byte)?;
+        }
+    }
+    Ok(line)
+}
+
+/// Returns a byte of pixels of this module.
+fn module_byte(picture: &Picture, column: usize, row: usize) -> u8
+    ensures { result ≡ (if is_dark_module (shown picture.now) column row then 255 else 0) }
+{
+    if picture.is_dark(column, row) { 255 } else { 0 }
+}
+
+/// Returns the bytes of a row of pixels, pixel by pixel.
+#[tactic(auto, using(crate::proofs::BitmapLemmas::bytes_more), unfolding(crate::specs::Bitmaps::bitmap_row))]
+fn packed_bytes(alloc: Global, picture: &Picture, y: usize) -> Result<Vec<u8>, AllocError>
+    ensures { IfOk result (λ line. line.items ≡ bitmap_row (shown picture.now) y) }
+{
+    let length = picture.row_length();
     let mut line = Vec::with_capacity(alloc, length)?;
     for place in 0..length {
         line.push(pixel_byte(picture, place, y))?;

@@ -1,7 +1,7 @@
 //! Symbols and grids in the format of their options, in one call.
 ghost use Rattle.std.specs.Prelude.{◌≡◌, ◌<◌, ◌≤◌, ◌^◌, ◌↔◌, IfOk, IfSome, IsSome, OnOk};
 ghost use Rattle.qrcode_core.specs.Drawn.{drawn_grid};
-ghost use Rattle.qrcode_render.specs.Drawings.{IsDrawn, IsDrawnAs};
+ghost use Rattle.qrcode_render.specs.Drawings.{IsPictureOf, IsPictureAs};
 ghost use Rattle.qrcode_render.specs.Resolutions.{nearest, per_metre};
 ghost use Rattle.qrcode_render.specs.Shown.{shown};
 
@@ -21,7 +21,7 @@ use std::alloc::{AllocError, Global};
 
 /// Returns the picture of a symbol, in the format of the options. It fails only for lack of memory.
 pub fn draw(alloc: Global, symbol: &Symbol, options: &DrawOptions) -> Result<Vec<u8>, AllocError>
-    ensures { IfOk result (λ bytes. IsDrawn options.now (drawn_grid symbol.now) bytes.items) }
+    ensures { IfOk result (λ bytes. IsPictureOf options.now (drawn_grid symbol.now) bytes.items) }
 {
     let picture = Picture::of_symbol(symbol, shape(options));
     draw_picture(alloc, &picture, options)
@@ -34,7 +34,7 @@ pub(crate) fn draw_picture(
     options: &DrawOptions,
 ) -> Result<Vec<u8>, AllocError>
     ensures { IfOk result (λ bytes.
-        IsDrawnAs options.now.format options.now (shown picture.now) bytes.items) }
+        IsPictureAs options.now.format options.now (shown picture.now) bytes.items) }
 {
     match options.format {
         Format::Terminal => Ok(terminal(alloc, picture, options.inverted)?.into_bytes()),

@@ -66,7 +66,11 @@ fn head(alloc: Global, width: usize, height: usize) -> Result<String, AllocError
     ensures { IfOk result (λ text. string_bytes text ≡ eps_head width height) }
 {
     format!(in alloc;
-        "%!PS-Adobe-3.0 EPSF-3.0\n%%BoundingBox: 0 0 {width} {height}\n%%LanguageLevel: 2\n%%EndComments\n"
+        "%!PS-Adobe-3.0 EPSF-3.0
+%%BoundingBox: 0 0 {width} {height}
+%%LanguageLevel: 2
+%%EndComments
+"
     )
 }
 
@@ -76,6 +80,9 @@ fn setup(alloc: Global, points: &str, columns: usize, rows: usize) -> Result<Str
     ensures { IfOk result (λ text. string_bytes text ≡ eps_setup points.now columns rows) }
 {
     format!(in alloc;
-        "/r{{moveto dup 0 rlineto 0 1 rlineto neg 0 rlineto closepath}}bind def\n{points} dup scale 0 {rows} translate 1 -1 scale\n1 setgray 0 0 {columns} {rows} rectfill 0 setgray\n"
+        "/r{{moveto dup 0 rlineto 0 1 rlineto neg 0 rlineto closepath}}bind def
+{points} dup scale 0 {rows} translate 1 -1 scale
+1 setgray 0 0 {columns} {rows} rectfill 0 setgray
+"
     )
 }

@@ -76,6 +76,13 @@ fn prints_small_labels(rt: HostRuntime) -> Result<(), PluginError> {
     let alloc = rt.alloc();
     let expected = b"^XA\n^FO20,30^GFA,4,4,1,00506000^FS\n^XZ\n";
     assert_eq!(rt; printed(alloc, true, 1, 1)?.as_slice(), expected.as_slice());
+
+    // 280 bytes a row: 357 rows are 99,960 bytes, and the next field begins at row 30 + 357.
+    let label = printed(alloc, true, 64, 16)?;
+    let first = b"^XA\n^FO20,30^GFA,99960,99960,280,".as_slice();
+    assert!(rt; label.starts_with(first));
+    let second = label.get(first.len() + 2 * 99960..).unwrap_or(&[]);
+    assert!(rt; second.starts_with(b"^FS\n^FO20,387^GFA,99960,99960,280,"));
     Ok(())
 }
 
@@ -123,10 +130,10 @@ fn prints_the_sample_label(rt: HostRuntime) -> Result<(), PluginError> {
 
 /// The document of 29 columns, which are 9.57 mm wide if a module has 0.33 mm, with a title.
 const TITLED: &str =
-    r##"<svg xmlns="http://www.w3.org/2000/svg" width="9.57mm" height="9.24mm" viewBox="0 0 29 28" shape-rendering="crispEdges">
+    r##"<svg xmlns="http://www.w3.org/2000/svg" width="9.57mm" height="9.24mm" viewBox="0 0 29 28">
 <title>&lt;5 &amp; &quot;6&quot;&gt; 'é'&#13;</title>
 <rect width="29" height="28" fill="#fff"/>
-<path d="M13 13h1v1h-1zM15 13h1v1h-1zM13 14h2v1h-2z"/>
+<path stroke="#000" transform="translate(0,.5)" shape-rendering="crispEdges" d="M13 13h1M15 13h1M13 14h2"/>
 </svg>
 "##;
 

@@ -1,16 +1,18 @@
-//! Pictures of QR codes: SVG, portable bitmaps, and text for a terminal.
+//! Pictures of QR codes: SVG, PNG, EPS, portable bitmaps and text for a terminal, and ESC/POS and
+//! ZPL for ticket and label printers.
 //!
-//! 1. Choose the size of a module and of the quiet zone (`options`).
-//! 2. Lay them around a grid (`picture`).
-//! 3. Write the picture in a format (`svg`, `pbm`, `terminal`).
+//! 1. Fill in what the picture is to be like (`settings`).
+//! 2. Make the options of a format from it, which are tested once (`draw_options`).
+//! 3. Draw the symbol.
 //!
 //! ```text
-//! let options = RenderOptions::new(alloc, 8, 4)?;
-//! let picture = Picture::of_symbol(&symbol, options);
-//! let text = svg::svg(alloc, &picture)?;
+//! let settings = Settings { scale: Some(4), ..Settings::default() };
+//! let options = DrawOptions::new(alloc, Format::Png, &settings)?;
+//! let bytes = draw(alloc, &symbol, &options)?;
 //! ```
 //!
-//! `renderers` has the same for a registry of `qrcode_core`, by the options of a `RenderConfig`.
+//! Each format has a function of its own, over a `Picture`. `renderers` has the same for a registry
+//! of `qrcode_core`, by the options of a `RenderConfig`.
 #![tactic(auto)]
 
 mod bitmap;
@@ -43,5 +45,5 @@ pub use drawing::draw;
 pub use format::Format;
 pub use options::RenderOptions;
 pub use picture::Picture;
-pub use renderers::{Pbm, Svg, Terminal};
+pub use renderers::{Eps, EscPos, Pbm, Png, Svg, Terminal, Zpl};
 pub use settings::Settings;

@@ -84,7 +84,7 @@ fn rectangle(
     ensures { IfOk result (λ text. string_bytes text ≡ rectangle_by pen x y length) }
 {
     match pen {
-        Pen::Svg => format!(in alloc; "M{x} {y}h{length}v1h-{length}z"),
+        Pen::Svg => format!(in alloc; "M{x} {y}h{length}"),
         Pen::Eps => format!(in alloc; "{length} {x} {y} r\n"),
     }
 }

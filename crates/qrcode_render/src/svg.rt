@@ -1,4 +1,4 @@
-//! Pictures as SVG: a light background, and one path with a rectangle for each run of dark modules.
+//! Pictures as SVG: a light background, and one path with a line for each run of dark modules.
 ghost use Rattle.std.specs.Prelude.{◌≡◌, ◌≤◌, ◌++◌, None, IfOk, OnOk};
 ghost use Rattle.std.specs.Option.{ForSome, option_copied};
 ghost use Rattle.std.specs.String.{string_bytes};
@@ -14,7 +14,8 @@ use crate::xml::push_escaped;
 use std::alloc::{AllocError, Global};
 
 /// Returns the picture as SVG, with its size in pixels and no title: a light background, and one
-/// path with a rectangle for each run of dark modules in a row. It fails only for lack of memory.
+/// path with a line, as wide as a module, for each run of dark modules in a row. It fails only for
+/// lack of memory.
 pub fn svg(alloc: Global, picture: &Picture) -> Result<String, AllocError>
     ensures { IfOk result (λ text. string_bytes text ≡ svg_text (shown picture.now)) }
 {
@@ -79,7 +80,7 @@ fn tag(
         string_bytes text ≡ svg_tag width.now height.now columns rows) }
 {
     format!(in alloc;
-        r##"<svg xmlns="http://www.w3.org/2000/svg" width="{width}" height="{height}" viewBox="0 0 {columns} {rows}" shape-rendering="crispEdges">
+        r##"<svg xmlns="http://www.w3.org/2000/svg" width="{width}" height="{height}" viewBox="0 0 {columns} {rows}">
 "##
     )
 }
@@ -104,6 +105,6 @@ fn background(alloc: Global, columns: usize, rows: usize) -> Result<String, Allo
 {
     format!(in alloc;
         r##"<rect width="{columns}" height="{rows}" fill="#fff"/>
-<path d=""##
+<path stroke="#000" transform="translate(0,.5)" shape-rendering="crispEdges" d=""##
     )
 }

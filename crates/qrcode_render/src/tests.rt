@@ -1,6 +1,6 @@
 //! Tests of pictures of small grids, written by hand from the file formats, and of errors.
 use crate::options::RenderOptions;
-use crate::renderers::{Pbm, Svg, Terminal};
+use crate::renderers::{Eps, EscPos, Pbm, Png, Svg, Terminal, Zpl};
 use qrcode_core::plugin::{DynRenderer, PluginError, RenderConfig, RenderOutput};
 use qrcode_core::traits::ModuleView;
 use qrcode_core::types::Color;
@@ -87,17 +87,17 @@ fn draws_text(rt: HostRuntime) -> Result<(), PluginError> {
 
 /// The document of two runs in the first row and one in the second.
 const RUNS: &str =
-    r##"<svg xmlns="http://www.w3.org/2000/svg" width="10" height="8" viewBox="0 0 5 4" shape-rendering="crispEdges">
+    r##"<svg xmlns="http://www.w3.org/2000/svg" width="10" height="8" viewBox="0 0 5 4">
 <rect width="5" height="4" fill="#fff"/>
-<path d="M1 1h1v1h-1zM3 1h1v1h-1zM1 2h2v1h-2z"/>
+<path stroke="#000" transform="translate(0,.5)" shape-rendering="crispEdges" d="M1 1h1M3 1h1M1 2h2"/>
 </svg>
 "##;
 
 /// The document of a run from the left edge to the right one.
 const WHOLE_RUN: &str =
-    r##"<svg xmlns="http://www.w3.org/2000/svg" width="128" height="64" viewBox="0 0 2 1" shape-rendering="crispEdges">
+    r##"<svg xmlns="http://www.w3.org/2000/svg" width="128" height="64" viewBox="0 0 2 1">
 <rect width="2" height="1" fill="#fff"/>
-<path d="M0 0h2v1h-2z"/>
+<path stroke="#000" transform="translate(0,.5)" shape-rendering="crispEdges" d="M0 0h2"/>
 </svg>
 "##;
 
@@ -151,6 +151,30 @@ fn refuses_options(rt: HostRuntime) -> Result<(), PluginError> {
     }
     let config = RenderConfig::new(alloc).with_option("quiet", "16")?;
     assert!(rt; Svg.validate_config(alloc, &config).is_ok());
+    Ok(())
+}
+
+/// The first bytes of the other renderers: 5 columns and 4 rows, each of 2 pixels.
+#[test]
+fn draws_for_printers(rt: HostRuntime) -> Result<(), PluginError> {
+    let alloc = rt.alloc();
+    let options = [("scale", "2"), ("quiet", "1")];
+    let output = drawn(alloc, &Png, &CELLS, (3, 2), &options)?;
+    assert!(rt; bytes_of(&output).starts_with(b"\x89PNG\r\n\x1A\n\x00\x00\x00\x0DIHDR"));
+    assert_eq!(rt;
+        bytes_of(&output).get(16..24),
+        Some(b"\x00\x00\x00\x0A\x00\x00\x00\x08".as_slice())
+    );
+    let output = drawn(alloc, &Eps, &CELLS, (3, 2), &options)?;
+    assert!(rt;
+        bytes_of(&output).starts_with(b"%!PS-Adobe-3.0 EPSF-3.0\n%%BoundingBox: 0 0 10 8\n")
+    );
+    let output = drawn(alloc, &EscPos, &CELLS, (3, 2), &options)?;
+    assert!(rt;
+        bytes_of(&output).starts_with(b"\x1Dv0\x00\x02\x00\x08\x00\x00\x00\x00\x00\x33\x00")
+    );
+    let output = drawn(alloc, &Zpl, &CELLS, (3, 2), &options)?;
+    assert!(rt; bytes_of(&output).starts_with(b"^XA\n^FO0,0^GFA,16,16,2,000000003300"));
     Ok(())
 }
 

@@ -4,7 +4,7 @@ ghost use Rattle.std.specs.String.{string_bytes};
 ghost use Rattle.qrcode_render.specs.declared.bounds.TheConstants.{FIELD_BYTES, MAX_AT, MAX_PIXELS};
 ghost use Rattle.qrcode_render.specs.Pictures.{pixel_height};
 ghost use Rattle.qrcode_render.specs.Shown.{shown};
-ghost use Rattle.qrcode_render.specs.Zpl.{field, field_head, hex_byte, hex_digit, zpl_text};
+ghost use Rattle.qrcode_render.specs.Zpl.{field, field_head, hex_pair, hex_digit, zpl_text};
 
 use crate::bitmap::push_rows_from;
 use crate::bounds::FIELD_BYTES;
@@ -79,7 +79,7 @@ fn field_head(
 /// Appends the hexadecimal digits of some bytes.
 #[tactic(auto, using(crate::proofs::BandLemmas::digits))]
 fn push_hex(bytes: &mut Vec<u8>, content: &[u8]) -> Result<(), AllocError>
-    ensures { OnOk result (bytes.new.items ≡ bytes.old.items ++ flat_map hex_byte content.now) }
+    ensures { OnOk result (bytes.new.items ≡ bytes.old.items ++ flat_map hex_pair content.now) }
 {
     for byte in content {
         bytes.push(hex_digit(*byte / 16))?;

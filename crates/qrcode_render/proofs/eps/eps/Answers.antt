@@ -16,5 +16,14 @@ returns c =
     let runs = path eps_rectangle p (rows_of p) in
     let end = codes "fill\nshowpage\n%%EOF\n" in
     let pieces : string_bytes c.push_str-2.new.self ≡ ((head ++ setup) ++ runs) ++ end =
-    cc (c.in_ok-text.ensures, c.in_ok-points.ensures, c.in_ok-setup.ensures, c.in_ok-push_str.ensures.bytes, c.in_ok-push_path.ensures, c.in_ok-push_str-2.ensures.bytes, c.as_str.ensures.value, c.deref.ensures) in
+    cc (
+      c.in_ok-text.ensures,
+      c.in_ok-points.ensures,
+      c.in_ok-setup.ensures,
+      c.in_ok-push_str.ensures.bytes,
+      c.in_ok-push_path.ensures,
+      c.in_ok-push_str-2.ensures.bytes,
+      c.as_str.ensures.value,
+      c.deref.ensures,
+    ) in
     pieces ∙ four_pieces head setup runs end

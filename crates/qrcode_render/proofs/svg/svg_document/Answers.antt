@@ -16,5 +16,17 @@ returns c =
     let ground = background (columns_of p) (rows_of p) in
     let runs = path rectangle p (rows_of p) in
     let pieces : string_bytes c.push_str-2.new.self ≡ (((tag ++ title) ++ ground) ++ runs) ++ closing =
-    cc (c.in_ok-width.ensures, c.in_ok-height.ensures, c.in_ok-text.ensures, c.in_ok-push_title.ensures, c.in_ok-background.ensures, c.in_ok-push_str.ensures.bytes, c.in_ok-push_path.ensures, c.in_ok-push_str-2.ensures.bytes, c.as_str.ensures.value, c.deref.ensures, c.deref-2.ensures) in
+    cc (
+      c.in_ok-width.ensures,
+      c.in_ok-height.ensures,
+      c.in_ok-text.ensures,
+      c.in_ok-push_title.ensures,
+      c.in_ok-background.ensures,
+      c.in_ok-push_str.ensures.bytes,
+      c.in_ok-push_path.ensures,
+      c.in_ok-push_str-2.ensures.bytes,
+      c.as_str.ensures.value,
+      c.deref.ensures,
+      c.deref-2.ensures,
+    ) in
     pieces ∙ five_pieces tag title ground runs closing

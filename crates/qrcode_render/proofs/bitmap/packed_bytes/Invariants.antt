@@ -2,7 +2,7 @@
 use Rattle.std.proofs.Common.{◌≡◌, map}
 use Rattle.std.specs.List.{range_with_len}
 use Rattle.qrcode_render.specs.{Bitmaps.pixel_byte, Shown.shown}
-use Rattle.qrcode_render.proofs.bitmap.row_bytes.Given as goal
+use Rattle.qrcode_render.proofs.bitmap.packed_bytes.Given as goal
 
 abbrev pub invariant-loop-place : goal.invariant-loop-place
 invariant-loop-place l = l.line.items ≡ map (pixel_byte (shown l.picture) l.y) (range_with_len 0 l.place)
