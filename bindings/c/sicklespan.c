@@ -9,6 +9,14 @@ int32_t qrcode_c_symbol(const uint8_t *bytes, size_t length, int32_t level, uint
                         size_t room, sicklespan_shape *shape);
 int32_t qrcode_c_micro_symbol(const uint8_t *bytes, size_t length, int32_t level, uint8_t *modules,
                               size_t room, sicklespan_shape *shape);
+int32_t qrcode_c_bytes(const uint8_t *bytes, size_t length, const sicklespan_options *options,
+                       uint8_t *modules, size_t room, sicklespan_shape *shape);
+int32_t qrcode_c_text(const uint8_t *text, size_t length, const sicklespan_options *options,
+                      uint8_t *modules, size_t room, sicklespan_shape *shape);
+int32_t qrcode_c_elements(const uint8_t *elements, size_t length, const sicklespan_options *options,
+                          uint8_t *modules, size_t room, sicklespan_shape *shape);
+int32_t qrcode_c_gs1(const uint8_t *text, size_t length, const sicklespan_options *options,
+                     uint8_t *modules, size_t room, sicklespan_shape *shape);
 int32_t qrcode_c_part_symbol(const uint8_t *message, size_t length, const size_t *cuts,
                              size_t cut_count, int32_t level, int32_t max_version, size_t index,
                              uint8_t *modules, size_t room, sicklespan_shape *shape);
@@ -34,10 +42,10 @@ static bool overlap(struct span a, struct span b) {
 }
 
 /* Whether the pointers are good, and what is written, modules and shape, overlaps with nothing. */
-static bool are_good(struct span bytes, struct span cuts, struct span modules, struct span shape) {
-    return is_span(bytes) && is_span(cuts) && is_span(modules) && shape.at != NULL &&
-           !overlap(modules, bytes) && !overlap(modules, cuts) && !overlap(modules, shape) &&
-           !overlap(shape, bytes) && !overlap(shape, cuts);
+static bool are_good(struct span bytes, struct span rest, struct span modules, struct span shape) {
+    return is_span(bytes) && is_span(rest) && is_span(modules) && shape.at != NULL &&
+           !overlap(modules, bytes) && !overlap(modules, rest) && !overlap(modules, shape) &&
+           !overlap(shape, bytes) && !overlap(shape, rest);
 }
 
 static size_t least(size_t a, size_t b) { return a < b ? a : b; }
@@ -46,7 +54,7 @@ typedef int32_t draw(const uint8_t *, size_t, int32_t, uint8_t *, size_t, sickle
 
 static int32_t drawn(draw *by, const uint8_t *bytes, size_t length, int32_t level, uint8_t *modules,
                      size_t room, sicklespan_shape *shape) {
-    room = least(room, SICKLESPAN_GREATEST_SIZE);
+    room = least(room, SICKLESPAN_MAX_SIZE);
     struct span none = {NULL, 0}, input = {bytes, length};
     struct span output = {modules, room}, about = {shape, sizeof *shape};
     if (!are_good(input, none, output, about)) return SICKLESPAN_INVALID_POINTER;
@@ -60,15 +68,58 @@ int32_t sicklespan_symbol(const uint8_t *bytes, size_t length, int32_t level, ui
     return drawn(qrcode_c_symbol, bytes, length, level, modules, room, shape);
 }
 
+int32_t sicklespan_micro(const void *bytes, size_t length, int32_t level, uint8_t *modules,
+                         size_t room, sicklespan_shape *shape) {
+    return drawn(qrcode_c_micro_symbol, bytes, length, level, modules, room, shape);
+}
+
 int32_t sicklespan_micro_symbol(const uint8_t *bytes, size_t length, int32_t level,
                                 uint8_t *modules, size_t room, sicklespan_shape *shape) {
-    return drawn(qrcode_c_micro_symbol, bytes, length, level, modules, room, shape);
+    return sicklespan_micro(bytes, length, level, modules, room, shape);
+}
+
+static const sicklespan_options usual = SICKLESPAN_OPTIONS_INIT;
+
+typedef int32_t draw_asked(const uint8_t *, size_t, const sicklespan_options *, uint8_t *, size_t,
+                           sicklespan_shape *);
+
+static int32_t asked(draw_asked *by, const void *data, size_t length,
+                     const sicklespan_options *options, uint8_t *modules, size_t room,
+                     sicklespan_shape *shape) {
+    room = least(room, SICKLESPAN_MAX_SIZE);
+    if (options == NULL) options = &usual;
+    struct span input = {data, length}, asks = {options, sizeof *options};
+    struct span output = {modules, room}, about = {shape, sizeof *shape};
+    if (!are_good(input, asks, output, about)) return SICKLESPAN_INVALID_POINTER;
+    if (data == NULL) data = &nowhere;
+    if (modules == NULL) modules = (uint8_t *)&nowhere;
+    return by(data, length, options, modules, room, shape);
+}
+
+int32_t sicklespan_bytes(const void *bytes, size_t length, const sicklespan_options *options,
+                         uint8_t *modules, size_t room, sicklespan_shape *shape) {
+    return asked(qrcode_c_bytes, bytes, length, options, modules, room, shape);
+}
+
+int32_t sicklespan_text(const char *text, size_t length, const sicklespan_options *options,
+                        uint8_t *modules, size_t room, sicklespan_shape *shape) {
+    return asked(qrcode_c_text, text, length, options, modules, room, shape);
+}
+
+int32_t sicklespan_elements(const void *elements, size_t length, const sicklespan_options *options,
+                            uint8_t *modules, size_t room, sicklespan_shape *shape) {
+    return asked(qrcode_c_elements, elements, length, options, modules, room, shape);
+}
+
+int32_t sicklespan_gs1(const char *text, size_t length, const sicklespan_options *options,
+                       uint8_t *modules, size_t room, sicklespan_shape *shape) {
+    return asked(qrcode_c_gs1, text, length, options, modules, room, shape);
 }
 
 int32_t sicklespan_part_symbol(const uint8_t *message, size_t length, const size_t *cuts,
                                size_t cut_count, int32_t level, int32_t max_version, size_t index,
                                uint8_t *modules, size_t room, sicklespan_shape *shape) {
-    room = least(room, SICKLESPAN_GREATEST_SIZE);
+    room = least(room, SICKLESPAN_MAX_SIZE);
     if (cut_count > PTRDIFF_MAX / sizeof *cuts) return SICKLESPAN_INVALID_POINTER;
     struct span input = {message, length}, at = {cuts, cut_count * sizeof *cuts};
     struct span output = {modules, room}, about = {shape, sizeof *shape};
@@ -86,7 +137,7 @@ int32_t sicklespan_version_of_width(size_t width) { return qrcode_c_version_of_w
 
 const char *sicklespan_status_text(int32_t status) {
     switch (status) {
-    case SICKLESPAN_DONE: return "done";
+    case SICKLESPAN_OK: return "done";
     case SICKLESPAN_DATA_TOO_LONG: return "the data are too long";
     case SICKLESPAN_OUT_OF_MEMORY: return "out of memory";
     case SICKLESPAN_INVALID_LEVEL: return "there is no such level";
@@ -96,6 +147,18 @@ const char *sicklespan_status_text(int32_t status) {
     case SICKLESPAN_INVALID_INDEX: return "there is no part at the index";
     case SICKLESPAN_SHORT_BUFFER: return "the buffer is too short for the symbol";
     case SICKLESPAN_INVALID_POINTER: return "a pointer is null, or buffers overlap";
+    case SICKLESPAN_INVALID_TEXT: return "the text is not UTF-8";
+    case SICKLESPAN_INVALID_VERSIONS: return "the versions are not 1 to 40, in order";
+    case SICKLESPAN_INVALID_CHARACTER: return "a character is none of a GS1 element";
+    case SICKLESPAN_NO_ELEMENTS: return "the text does not begin with a bracketed identifier";
+    case SICKLESPAN_INVALID_IDENTIFIER: return "an identifier is not two to four digits";
+    case SICKLESPAN_UNKNOWN_IDENTIFIER: return "an identifier is unknown";
+    case SICKLESPAN_EMPTY_VALUE: return "a value is empty";
+    case SICKLESPAN_VALUE_TOO_LONG: return "a value has more than 90 characters";
+    case SICKLESPAN_WRONG_LENGTH: return "the length of a value is wrong";
+    case SICKLESPAN_WRONG_CHECK_DIGIT: return "a check digit is wrong";
     default: return "unknown status";
     }
 }
+
+const char *sicklespan_version(void) { return SICKLESPAN_VERSION; }

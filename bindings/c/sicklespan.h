@@ -31,7 +31,7 @@ enum sicklespan_level {
 
 /* What a call returns. */
 enum sicklespan_status {
-    SICKLESPAN_DONE = 0,
+    SICKLESPAN_OK = 0,
     SICKLESPAN_DATA_TOO_LONG = 1, /* the bytes fit no symbol that was asked for */
     SICKLESPAN_OUT_OF_MEMORY = 2, /* malloc found no memory */
     SICKLESPAN_INVALID_LEVEL = 3, /* the level is not 0 to 3, or it is 3 and the symbol is Micro */
@@ -40,8 +40,33 @@ enum sicklespan_status {
     SICKLESPAN_INVALID_CUTS = 6,        /* a cut is below the one before it, or above the length */
     SICKLESPAN_INVALID_INDEX = 7,       /* there are no more parts than the index */
     SICKLESPAN_SHORT_BUFFER = 8,        /* the symbol has more modules than there is room for */
-    SICKLESPAN_INVALID_POINTER = 9      /* see below */
+    SICKLESPAN_INVALID_POINTER = 9,     /* see below */
+    SICKLESPAN_INVALID_TEXT = 10,       /* the text is not UTF-8 */
+    SICKLESPAN_INVALID_VERSIONS = 11,   /* the versions are not 1 to 40, or not in order */
+    SICKLESPAN_INVALID_CHARACTER = 12,  /* a byte is no character of a GS1 element */
+    SICKLESPAN_NO_ELEMENTS = 13,        /* the text does not begin with a bracketed identifier */
+    SICKLESPAN_INVALID_IDENTIFIER = 14, /* an identifier is not two to four digits */
+    SICKLESPAN_UNKNOWN_IDENTIFIER = 15, /* an identifier is none that GS1 assigns */
+    SICKLESPAN_EMPTY_VALUE = 16,        /* an element has no value */
+    SICKLESPAN_VALUE_TOO_LONG = 17,     /* a value has more than 90 characters */
+    SICKLESPAN_WRONG_LENGTH = 18,       /* an element has another length than GS1 defines */
+    SICKLESPAN_WRONG_CHECK_DIGIT = 19   /* a value does not end with its check digit */
 };
+
+/* What is asked of a symbol beside its data: its level, the versions that it may have, and whether
+ * it is to have the greatest level that costs no module. Where a call has options, a null pointer
+ * stands for those of SICKLESPAN_OPTIONS_INIT. */
+typedef struct sicklespan_options {
+    int32_t level;       /* a sicklespan_level; with `strongest` the least one */
+    int32_t min_version; /* the least version, 1 to 40 */
+    int32_t max_version; /* the greatest version, 1 to 40 */
+    int32_t strongest;   /* if it is not 0: the greatest level at which the symbol is no larger */
+} sicklespan_options;
+
+/* Level M, the versions 1 to 40, not the strongest:
+ *     sicklespan_options options = SICKLESPAN_OPTIONS_INIT; */
+#define SICKLESPAN_OPTIONS_INIT                                                                    \
+    { SICKLESPAN_LEVEL_M, 1, 40, 0 }
 
 /* What a symbol is, beside its modules. */
 typedef struct sicklespan_shape {
@@ -49,37 +74,76 @@ typedef struct sicklespan_shape {
     int32_t version; /* 1 to 40, and 1 to 4 of a Micro symbol */
     int32_t mask;    /* the number of the mask pattern: 0 to 7, and 0 to 3 of a Micro symbol */
     bool micro;
+    int8_t level; /* a sicklespan_level: that of the options, or with `strongest` a greater one */
 } sicklespan_shape;
 
-/* The greatest symbol has this many modules: a buffer of as many bytes is never too short. */
-#define SICKLESPAN_GREATEST_SIZE (177 * 177)
+/* The largest symbol has this many modules: a buffer of as many bytes is never too short. */
+#define SICKLESPAN_MAX_SIZE (177 * 177)
 
 /*
  * The functions below write the modules of a symbol to `modules`, which has `room` bytes: a byte
  * for each of width * width modules, row by row from the upper left corner, 1 for a dark module and
  * 0 for a light one, without the quiet zone (4 modules wide, 2 around a Micro symbol). They write
- * the shape, and return SICKLESPAN_DONE. Where they return anything else they write nothing. The
- * bytes of `modules` behind the symbol keep their values in either case.
+ * the shape, and return SICKLESPAN_OK. On an error they write nothing. The bytes of `modules`
+ * after the symbol keep their values in either case.
  *
- * A pointer may be null where its length is 0. They return SICKLESPAN_INVALID_POINTER, before any
- * other status, where another pointer or `shape` is null, where a length is above PTRDIFF_MAX, and
- * where `shape` or the first SICKLESPAN_GREATEST_SIZE bytes of `modules` overlap with something
- * else that is passed. The other statuses are tested in the order in which they are listed.
+ * A pointer may be null where its length is 0, and so may `options`. They return
+ * SICKLESPAN_INVALID_POINTER, before any other status, where another pointer or `shape` is null,
+ * where a length is above PTRDIFF_MAX, and where `shape` or the first SICKLESPAN_MAX_SIZE bytes of
+ * `modules` overlap with something else that is passed. The other statuses are tested in the order
+ * in which they are listed.
  */
 
 /*
- * The best symbol of some bytes at a level: in the smallest of the versions 1 to 40 into which they
- * fit, in the fewest bits, under the best mask. The bytes may be any, also none.
+ * The best symbol of some bytes at the level of the options: in the smallest of their versions into
+ * which the bytes fit, in the fewest bits, under the best mask. With `strongest` it is the best one
+ * at the greatest level at which it is no larger. The bytes may be any, also none.
  *
- * SICKLESPAN_INVALID_LEVEL, SICKLESPAN_DATA_TOO_LONG (exactly where they fit no version at the
- * level), SICKLESPAN_OUT_OF_MEMORY, SICKLESPAN_SHORT_BUFFER.
+ * SICKLESPAN_INVALID_LEVEL, SICKLESPAN_INVALID_VERSIONS, SICKLESPAN_DATA_TOO_LONG (exactly where
+ * they fit no version up to the greatest at the level), SICKLESPAN_OUT_OF_MEMORY,
+ * SICKLESPAN_SHORT_BUFFER.
  */
-int32_t sicklespan_symbol(const uint8_t *bytes, size_t length, int32_t level, uint8_t *modules,
-                          size_t room, sicklespan_shape *shape);
+int32_t sicklespan_bytes(const void *bytes, size_t length, const sicklespan_options *options,
+                         uint8_t *modules, size_t room, sicklespan_shape *shape);
 
-/* The same in M1 to M4. None of them has level H, which is SICKLESPAN_INVALID_LEVEL. */
-int32_t sicklespan_micro_symbol(const uint8_t *bytes, size_t length, int32_t level,
-                                uint8_t *modules, size_t room, sicklespan_shape *shape);
+/*
+ * The same of a text in UTF-8, which the symbol says (ECI 26), so that every reader reads it in its
+ * own script. `length` counts bytes.
+ *
+ * After SICKLESPAN_INVALID_VERSIONS: SICKLESPAN_INVALID_TEXT.
+ */
+int32_t sicklespan_text(const char *text, size_t length, const sicklespan_options *options,
+                        uint8_t *modules, size_t room, sicklespan_shape *shape);
+
+/*
+ * The same of GS1 elements (FNC1 in the first position): identifiers with their values, one after
+ * the other, with the byte 1D (hex) after each whose length is not fixed, but the last.
+ *
+ * After SICKLESPAN_INVALID_VERSIONS: SICKLESPAN_INVALID_CHARACTER.
+ */
+int32_t sicklespan_elements(const void *elements, size_t length, const sicklespan_options *options,
+                            uint8_t *modules, size_t room, sicklespan_shape *shape);
+
+/*
+ * The same of elements as people write them: "(01)09506000134352(10)ABC123".
+ *
+ * After SICKLESPAN_INVALID_VERSIONS: SICKLESPAN_INVALID_TEXT, SICKLESPAN_NO_ELEMENTS, and of the
+ * first element that has a fault SICKLESPAN_INVALID_IDENTIFIER, SICKLESPAN_UNKNOWN_IDENTIFIER,
+ * SICKLESPAN_EMPTY_VALUE, SICKLESPAN_VALUE_TOO_LONG, SICKLESPAN_INVALID_CHARACTER,
+ * SICKLESPAN_WRONG_LENGTH, SICKLESPAN_WRONG_CHECK_DIGIT.
+ */
+int32_t sicklespan_gs1(const char *text, size_t length, const sicklespan_options *options,
+                       uint8_t *modules, size_t room, sicklespan_shape *shape);
+
+/*
+ * The best Micro symbol of some bytes at a level, in M1 to M4. None of them has level H, which is
+ * SICKLESPAN_INVALID_LEVEL.
+ *
+ * SICKLESPAN_INVALID_LEVEL, SICKLESPAN_DATA_TOO_LONG, SICKLESPAN_OUT_OF_MEMORY,
+ * SICKLESPAN_SHORT_BUFFER.
+ */
+int32_t sicklespan_micro(const void *bytes, size_t length, int32_t level, uint8_t *modules,
+                         size_t room, sicklespan_shape *shape);
 
 /*
  * One of the 2 to 16 symbols that carry a message together (Structured Append), the one at `index`,
@@ -95,7 +159,7 @@ int32_t sicklespan_part_symbol(const uint8_t *message, size_t length, const size
                                size_t cut_count, int32_t level, int32_t max_version, size_t index,
                                uint8_t *modules, size_t room, sicklespan_shape *shape);
 
-/* SICKLESPAN_GREATEST_SIZE, for callers that do not read this file. */
+/* SICKLESPAN_MAX_SIZE, for callers that do not read this file. */
 size_t sicklespan_greatest_size(void);
 
 /* The number of the version with this many modules a side: 1 to 40, or 1 to 4 for the widths 11 to
@@ -105,6 +169,21 @@ int32_t sicklespan_version_of_width(size_t width);
 /* What a status says, in a few words. The text is static, and never null: other numbers are
  * "unknown status". */
 const char *sicklespan_status_text(int32_t status);
+
+/* SICKLESPAN_VERSION of the library, which may be another than that of this file. */
+const char *sicklespan_version(void);
+
+/*
+ * The names of version 0.3, which the next version has no more. sicklespan_symbol is
+ * sicklespan_bytes with a level, in the versions 1 to 40; sicklespan_micro_symbol is
+ * sicklespan_micro.
+ */
+#define SICKLESPAN_DONE          SICKLESPAN_OK
+#define SICKLESPAN_GREATEST_SIZE SICKLESPAN_MAX_SIZE
+int32_t sicklespan_symbol(const uint8_t *bytes, size_t length, int32_t level, uint8_t *modules,
+                          size_t room, sicklespan_shape *shape);
+int32_t sicklespan_micro_symbol(const uint8_t *bytes, size_t length, int32_t level,
+                                uint8_t *modules, size_t room, sicklespan_shape *shape);
 
 #ifdef __cplusplus
 }

@@ -61,6 +61,23 @@ int32_t __real_qrcode_c_symbol(const uint8_t *, size_t, int32_t, uint8_t *, size
                                sicklespan_shape *);
 int32_t __real_qrcode_c_micro_symbol(const uint8_t *, size_t, int32_t, uint8_t *, size_t,
                                      sicklespan_shape *);
+/* The same of the calls with options. */
+#define SEES_ASKED(name)                                                                           \
+    int32_t __real_##name(const uint8_t *, size_t, const sicklespan_options *, uint8_t *, size_t,  \
+                          sicklespan_shape *);                                                     \
+    int32_t __wrap_##name(const uint8_t *data, size_t length, const sicklespan_options *options,   \
+                          uint8_t *out, size_t room, sicklespan_shape *to) {                       \
+        EXPECT_SLICE(data, length);                                                                \
+        EXPECT_SLICE(options, 1);                                                                  \
+        EXPECT_SLICE(out, room);                                                                   \
+        return __real_##name(data, length, options, out, room, to);                                \
+    }
+
+SEES_ASKED(qrcode_c_bytes)
+SEES_ASKED(qrcode_c_text)
+SEES_ASKED(qrcode_c_elements)
+SEES_ASKED(qrcode_c_gs1)
+
 int32_t __real_qrcode_c_part_symbol(const uint8_t *, size_t, const size_t *, size_t, int32_t,
                                     int32_t, size_t, uint8_t *, size_t, sicklespan_shape *);
 
@@ -94,15 +111,15 @@ int32_t __wrap_qrcode_c_part_symbol(const uint8_t *message, size_t length, const
 enum { BEFORE = 64, BEHIND = 64 };
 static union {
     max_align_t aligned;
-    uint8_t bytes[BEFORE + SICKLESPAN_GREATEST_SIZE + BEHIND];
+    uint8_t bytes[BEFORE + SICKLESPAN_MAX_SIZE + BEHIND];
 } block;
 static uint8_t *const modules = block.bytes + BEFORE;
 static _Alignas(max_align_t) sicklespan_shape shape;
 
 static const uint8_t word[] = "hello";
-static const sicklespan_shape untouched = {-1, -1, -1, false};
+static const sicklespan_shape untouched = {-1, -1, -1, false, -1};
 
-enum { GREATEST = SICKLESPAN_GREATEST_SIZE };
+enum { GREATEST = SICKLESPAN_MAX_SIZE };
 
 static void clear(void) {
     memset(block.bytes, 0xab, sizeof block.bytes);
@@ -115,8 +132,8 @@ static int is_kept_from(size_t place) {
     for (size_t i = 0; i < sizeof block.bytes; i++) {
         if ((i < BEFORE || i >= BEFORE + place) && block.bytes[i] != 0xab) return 0;
     }
-    return place > 0 ||
-           (shape.width == -1 && shape.version == -1 && shape.mask == -1 && !shape.micro);
+    return place > 0 || (shape.width == -1 && shape.version == -1 && shape.mask == -1 &&
+                         !shape.micro && shape.level == -1);
 }
 
 static int32_t symbol(const void *bytes, size_t length, int32_t level, size_t room) {
@@ -152,7 +169,7 @@ static int is_refused(int32_t status) {
 
 static void test_pointers(void) {
     const size_t empty = 0;
-    EXPECT(symbol(NULL, 0, SICKLESPAN_LEVEL_L, GREATEST) == SICKLESPAN_DONE && shape.width == 21);
+    EXPECT(symbol(NULL, 0, SICKLESPAN_LEVEL_L, GREATEST) == SICKLESPAN_OK && shape.width == 21);
     EXPECT(symbol(NULL, 1, SICKLESPAN_LEVEL_L, GREATEST) == SICKLESPAN_INVALID_POINTER &&
            is_kept_from(0));
     EXPECT(symbol(word, SIZE_MAX, SICKLESPAN_LEVEL_L, GREATEST) == SICKLESPAN_INVALID_POINTER &&
@@ -172,7 +189,7 @@ static void test_pointers(void) {
            is_kept_from(0));
     clear();
     EXPECT(sicklespan_part_symbol(NULL, 0, &empty, 1, 0, 40, 0, modules, 441, &shape) ==
-           SICKLESPAN_DONE);
+           SICKLESPAN_OK);
     EXPECT(part_beside(&empty, 1, NULL, 0, &shape) == SICKLESPAN_SHORT_BUFFER && is_kept_from(0));
     EXPECT(is_refused(part_beside(&empty, 1, NULL, 441, &shape)));
     EXPECT(is_refused(part_beside(&empty, 1, modules, 441, NULL)));
@@ -222,21 +239,21 @@ static void test_overlaps(void) {
 static void test_neighbours(void) {
     uint8_t *const end = modules + 444;
     const size_t of_shape = sizeof shape;
-    EXPECT(beside(end, 5, modules, 444, &shape) == SICKLESPAN_DONE && is_kept_from(441));
-    EXPECT(beside(modules - 5, 5, modules, 444, &shape) == SICKLESPAN_DONE && is_kept_from(441));
-    EXPECT(beside(word, 5, modules, 444, end) == SICKLESPAN_DONE &&
+    EXPECT(beside(end, 5, modules, 444, &shape) == SICKLESPAN_OK && is_kept_from(441));
+    EXPECT(beside(modules - 5, 5, modules, 444, &shape) == SICKLESPAN_OK && is_kept_from(441));
+    EXPECT(beside(word, 5, modules, 444, end) == SICKLESPAN_OK &&
            memcmp(end, &(int32_t){21}, 4) == 0);
-    EXPECT(beside(word, 5, modules, 444, modules - of_shape) == SICKLESPAN_DONE &&
+    EXPECT(beside(word, 5, modules, 444, modules - of_shape) == SICKLESPAN_OK &&
            modules[440] != 0xab);
-    EXPECT(beside(end + of_shape, 5, modules, 444, end) == SICKLESPAN_DONE);
-    EXPECT(beside(end + 3, 1, modules, 444, end + 4) == SICKLESPAN_DONE);
-    EXPECT(beside(modules + 3, 0, modules, 444, &shape) == SICKLESPAN_DONE && is_kept_from(441));
-    EXPECT(beside(&shape.mask, 0, modules, 444, &shape) == SICKLESPAN_DONE && is_kept_from(441));
+    EXPECT(beside(end + of_shape, 5, modules, 444, end) == SICKLESPAN_OK);
+    EXPECT(beside(end + 3, 1, modules, 444, end + 4) == SICKLESPAN_OK);
+    EXPECT(beside(modules + 3, 0, modules, 444, &shape) == SICKLESPAN_OK && is_kept_from(441));
+    EXPECT(beside(&shape.mask, 0, modules, 444, &shape) == SICKLESPAN_OK && is_kept_from(441));
     EXPECT(beside(modules, 5, modules + 2, 0, &shape) == SICKLESPAN_SHORT_BUFFER &&
            is_kept_from(0));
     EXPECT(beside(word, 5, (uint8_t *)&shape + 2, 0, &shape) == SICKLESPAN_SHORT_BUFFER &&
            is_kept_from(0));
-    EXPECT(beside(modules + GREATEST, 5, modules, SIZE_MAX, &shape) == SICKLESPAN_DONE &&
+    EXPECT(beside(modules + GREATEST, 5, modules, SIZE_MAX, &shape) == SICKLESPAN_OK &&
            is_kept_from(441));
     EXPECT(is_refused(beside(modules + GREATEST - 1, 5, modules, SIZE_MAX, &shape)));
     /* The cuts are what clear() writes, and fall behind the end. */
@@ -250,7 +267,7 @@ static void test_neighbours(void) {
            is_kept_from(0));
     EXPECT(part_beside(&shape, 0, modules, 448, &shape) == SICKLESPAN_INVALID_PART_COUNT &&
            is_kept_from(0));
-    EXPECT(part_beside((size_t[]){2}, 1, modules, SIZE_MAX, &shape) == SICKLESPAN_DONE &&
+    EXPECT(part_beside((size_t[]){2}, 1, modules, SIZE_MAX, &shape) == SICKLESPAN_OK &&
            is_kept_from(441));
     EXPECT(part_beside(modules + 448, 1, modules, 448, modules + 456) == SICKLESPAN_INVALID_CUTS &&
            is_kept_from(0));
@@ -309,29 +326,29 @@ static void test_asks(void) {
                    SICKLESPAN_INVALID_MAX_VERSION &&
                is_kept_from(0));
     }
-    EXPECT(part(good, 1, SICKLESPAN_LEVEL_L, 1, 1) == SICKLESPAN_DONE && shape.version == 1 &&
+    EXPECT(part(good, 1, SICKLESPAN_LEVEL_L, 1, 1) == SICKLESPAN_OK && shape.version == 1 &&
            is_kept_from(441));
 }
 
 static void test_room(void) {
     EXPECT(symbol(word, 5, SICKLESPAN_LEVEL_L, 440) == SICKLESPAN_SHORT_BUFFER && is_kept_from(0));
-    EXPECT(symbol(word, 5, SICKLESPAN_LEVEL_L, 441) == SICKLESPAN_DONE && is_kept_from(441) &&
+    EXPECT(symbol(word, 5, SICKLESPAN_LEVEL_L, 441) == SICKLESPAN_OK && is_kept_from(441) &&
            modules[440] != 0xab);
-    EXPECT(symbol(word, 5, SICKLESPAN_LEVEL_L, SIZE_MAX) == SICKLESPAN_DONE && is_kept_from(441));
+    EXPECT(symbol(word, 5, SICKLESPAN_LEVEL_L, SIZE_MAX) == SICKLESPAN_OK && is_kept_from(441));
     clear();
     EXPECT(sicklespan_micro_symbol((const uint8_t *)"12345", 5, 0, modules, 120, &shape) ==
            SICKLESPAN_SHORT_BUFFER);
     EXPECT(is_kept_from(0));
     EXPECT(sicklespan_micro_symbol((const uint8_t *)"12345", 5, 0, modules, 121, &shape) ==
-           SICKLESPAN_DONE);
+           SICKLESPAN_OK);
     EXPECT(shape.width == 11 && shape.version == 1 && shape.mask == 2 && shape.micro &&
            is_kept_from(121));
-    EXPECT(sicklespan_greatest_size() == SICKLESPAN_GREATEST_SIZE);
+    EXPECT(sicklespan_greatest_size() == SICKLESPAN_MAX_SIZE);
 }
 
 static void test_words(void) {
     static const char *const texts[] = {
-        [SICKLESPAN_DONE] = "done",
+        [SICKLESPAN_OK] = "done",
         [SICKLESPAN_DATA_TOO_LONG] = "the data are too long",
         [SICKLESPAN_OUT_OF_MEMORY] = "out of memory",
         [SICKLESPAN_INVALID_LEVEL] = "there is no such level",
@@ -341,12 +358,23 @@ static void test_words(void) {
         [SICKLESPAN_INVALID_INDEX] = "there is no part at the index",
         [SICKLESPAN_SHORT_BUFFER] = "the buffer is too short for the symbol",
         [SICKLESPAN_INVALID_POINTER] = "a pointer is null, or buffers overlap",
+        [SICKLESPAN_INVALID_TEXT] = "the text is not UTF-8",
+        [SICKLESPAN_INVALID_VERSIONS] = "the versions are not 1 to 40, in order",
+        [SICKLESPAN_INVALID_CHARACTER] = "a character is none of a GS1 element",
+        [SICKLESPAN_NO_ELEMENTS] = "the text does not begin with a bracketed identifier",
+        [SICKLESPAN_INVALID_IDENTIFIER] = "an identifier is not two to four digits",
+        [SICKLESPAN_UNKNOWN_IDENTIFIER] = "an identifier is unknown",
+        [SICKLESPAN_EMPTY_VALUE] = "a value is empty",
+        [SICKLESPAN_VALUE_TOO_LONG] = "a value has more than 90 characters",
+        [SICKLESPAN_WRONG_LENGTH] = "the length of a value is wrong",
+        [SICKLESPAN_WRONG_CHECK_DIGIT] = "a check digit is wrong",
         "unknown status",
     };
     for (int32_t status = 0; status < (int32_t)(sizeof texts / sizeof *texts); status++) {
         EXPECT(strcmp(sicklespan_status_text(status), texts[status]) == 0);
     }
     EXPECT(strcmp(sicklespan_status_text(-1), "unknown status") == 0);
+    EXPECT(strcmp(sicklespan_version(), SICKLESPAN_VERSION) == 0);
     for (size_t width = 0; width < 200; width++) {
         int32_t version = sicklespan_version_of_width(width);
         bool is_normal = width >= 21 && width <= 177 && width % 4 == 1,
@@ -365,7 +393,7 @@ static void fail_allocations(int32_t (*call)(void)) {
         int32_t status = call();
         EXPECT(alive == 0);
         if (allocations < failing) {
-            EXPECT(status == SICKLESPAN_DONE);
+            EXPECT(status == SICKLESPAN_OK);
             break;
         }
         EXPECT(status == SICKLESPAN_OUT_OF_MEMORY && is_kept_from(0));
@@ -396,9 +424,13 @@ static void test_allocations(void) {
     fail_allocations(draw_part);
 }
 
+#include "test_asked.h"
+
 int main(void) {
-    void (*const tests[])(void) = {test_pointers, test_overlaps, test_neighbours, test_lengths,
-                                   test_asks,     test_room,     test_words,      test_allocations};
+    void (*const tests[])(void) = {
+        test_pointers, test_overlaps, test_neighbours,  test_lengths,          test_asks,
+        test_room,     test_words,    test_allocations, test_asked_pointers,   test_asked_overlaps,
+        test_options,  test_contents, test_micro,       test_asked_allocations};
     int passed = 0, failed = 0;
     /* What a row prints is not lost where the next call ends the program. */
     setbuf(stdout, NULL);

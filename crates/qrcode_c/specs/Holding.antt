@@ -7,7 +7,12 @@ use Rattle.qrcode_grid.specs.Penalty.{byte_of}
 use Rattle.qrcode_base.specs.Symbols.{width_of}
 use Rattle.qrcode_core.specs.Drawn.{DrawnSymbol, TellsReading, modules_of}
 use Rattle.qrcode_core.specs.Sequence.{AreBestSymbols}
+use Rattle.qrcode_bits.specs.Frame.{Front}
+use Rattle.qrcode_core.specs.Options.{IsAsAsked}
+use Rattle.qrcode_core.specs.declared.options.SymbolOptions.{SymbolOptions}
+use Rattle.qrcode_c.specs.declared.options.Options.{Options}
 use Rattle.qrcode_c.specs.declared.shape.Shape.{Shape}
+use Rattle.qrcode_c.specs.Asking.{Asks}
 use Rattle.qrcode_c.specs.Levels.{level_argument}
 use Rattle.qrcode_c.specs.Shapes.{shape_of}
 use Rattle.qrcode_bits.specs.declared.bits.front.Content.TheVariants.{Bytes}
@@ -29,6 +34,20 @@ pub record HoldsBest (best : EcLevel → List Color → Type 0) (number : ℤ)
   pub is_best : best level symbol.modules
   pub reading : TellsReading symbol
   pub holds : Holds symbol before after shape
+
+-- The symbol is the one that the options ask for of some data after a front, the shape is what a
+-- reader finds in it, and the buffer and the shape hold it.
+pub record IsDrawnAs (front : Front) (bytes before after : List ℕ) (shape : Shape)
+    (options : SymbolOptions) : Type 0 where
+  pub symbol : DrawnSymbol
+  pub is_asked : IsAsAsked options front bytes symbol.modules
+  pub reading : TellsReading symbol
+  pub holds : Holds symbol before after shape
+
+-- The buffer and the shape hold the symbol that the options of the caller ask for.
+abbrev pub HoldsAsked : Front → List ℕ → Options → List ℕ → List ℕ → Shape → Type 0
+HoldsAsked front bytes asked before after shape =
+    Asks asked (IsDrawnAs front bytes before after shape)
 
 -- The buffer and the shape hold the symbol at an index of those that carry a message together.
 pub record HoldsPart (message cuts : List ℕ) (number limit : ℤ) (index : ℕ)

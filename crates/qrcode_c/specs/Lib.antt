@@ -1,5 +1,6 @@
 pub mod Levels
 pub mod Shapes
 pub mod Statuses
+pub mod Asking
 pub mod Holding
 pub mod Refusals

@@ -95,3 +95,4 @@ IsPartRefusal message cuts number limit index room OutOfMemory =
     AtLevel number (λ level. IsAsked message cuts limit index × IsTotal (length cuts + 1))
 IsPartRefusal message cuts number limit index room ShortBuffer =
     AtLevel number (λ level. IsPartAbove room message cuts level limit index)
+IsPartRefusal message cuts number limit index room _ = ⊥

@@ -7,6 +7,7 @@ use Rattle.qrcode_grid.specs.declared.canvas.MaskPattern.{MaskPattern}
 use Rattle.qrcode_grid.specs.Masks.{normal_number, micro_number}
 use Rattle.qrcode_core.specs.Drawn.{DrawnSymbol}
 use Rattle.qrcode_c.specs.declared.shape.Shape.{Shape}
+use Rattle.qrcode_c.specs.Levels.{level_argument}
 
 -- The number of a version: 1 to 40, or 1 to 4 for a Micro version.
 abbrev pub version_number : Version → ℤ
@@ -26,6 +27,7 @@ shape_of symbol = record {
   version = version_number symbol.version;
   mask = mask_reference symbol.version symbol.mask;
   micro = is_micro symbol.version;
+  level = level_argument symbol.level;
 }
 
 -- The number is that of a version whose symbols have this width.

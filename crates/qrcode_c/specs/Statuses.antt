@@ -5,7 +5,12 @@ use Rattle.qrcode_c.specs.declared.refusal.Refusal.TheVariants.{DataTooLong, Out
 use Rattle.qrcode_c.specs.declared.refusal.Refusal.TheVariants.{InvalidLevel}
 use Rattle.qrcode_c.specs.declared.refusal.Refusal.TheVariants.{InvalidMaxVersion, InvalidPartCount}
 use Rattle.qrcode_c.specs.declared.refusal.Refusal.TheVariants.{InvalidCuts, InvalidIndex}
-use Rattle.qrcode_c.specs.declared.refusal.Refusal.TheVariants.{ShortBuffer}
+use Rattle.qrcode_c.specs.declared.refusal.Refusal.TheVariants.{ShortBuffer, InvalidText}
+use Rattle.qrcode_c.specs.declared.refusal.Refusal.TheVariants.{InvalidVersions, InvalidCharacter}
+use Rattle.qrcode_c.specs.declared.refusal.Refusal.TheVariants.{NoElements, InvalidIdentifier}
+use Rattle.qrcode_c.specs.declared.refusal.Refusal.TheVariants.{UnknownIdentifier, EmptyValue}
+use Rattle.qrcode_c.specs.declared.refusal.Refusal.TheVariants.{ValueTooLong, WrongLength}
+use Rattle.qrcode_c.specs.declared.refusal.Refusal.TheVariants.{WrongCheckDigit}
 
 -- The number of an error, which is the status of the call.
 abbrev pub status_of : Refusal → ℤ
@@ -17,3 +22,13 @@ status_of InvalidPartCount = pos 5
 status_of InvalidCuts = pos 6
 status_of InvalidIndex = pos 7
 status_of ShortBuffer = pos 8
+status_of InvalidText = pos 10
+status_of InvalidVersions = pos 11
+status_of InvalidCharacter = pos 12
+status_of NoElements = pos 13
+status_of InvalidIdentifier = pos 14
+status_of UnknownIdentifier = pos 15
+status_of EmptyValue = pos 16
+status_of ValueTooLong = pos 17
+status_of WrongLength = pos 18
+status_of WrongCheckDigit = pos 19

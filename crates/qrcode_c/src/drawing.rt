@@ -3,20 +3,18 @@
 //! 1. Check the arguments, and make the symbol.
 //! 2. Write its modules to the buffer, and return its shape.
 ghost use Rattle.std.specs.Prelude.{◌≡◌, ◌<◌, ◌≤◌, ◌++◌, length, map, drop};
-ghost use Rattle.std.specs.Prelude.{OnErr, IfOk, IfErr, IfSome, IfNone};
+ghost use Rattle.std.specs.Prelude.{OnErr, IfOk, IfErr};
 ghost use Rattle.qrcode_core.specs.Headline.{IsBestSymbol, IsBestMicroSymbol};
-ghost use Rattle.qrcode_base.specs.Symbols.{IsNormalNumber};
 ghost use Rattle.qrcode_grid.specs.Penalty.{byte_of};
 ghost use Rattle.qrcode_c.specs.Holding.{Holds, HoldsBest, HoldsPart};
-ghost use Rattle.qrcode_c.specs.Levels.{level_argument, IsNoLevel};
 ghost use Rattle.qrcode_c.specs.Refusals.{IsSymbolRefusal, IsMicroRefusal, IsPartRefusal};
 
+use crate::options::{level_of, limit_of};
 use crate::refusal::Refusal;
 use crate::shape::{Shape, shape_of};
-use qrcode_base::symbols::is_normal_number;
 use qrcode_core::symbol::{Symbol, are_cuts};
 use qrcode_core::traits::ModuleSource;
-use qrcode_core::types::{Color, EcLevel, QrError};
+use qrcode_core::types::{Color, QrError};
 use std::alloc::Global;
 
 /// Writes the best symbol of the bytes, and returns its shape.
@@ -94,35 +92,8 @@ pub fn part_symbol(
     }
 }
 
-/// Returns the level of a number, 0 to 3.
-fn level_of(number: i32) -> Option<EcLevel>
-    ensures level { IfSome result (λ level. number ≡ level_argument level) }
-    ensures none { IfNone result (IsNoLevel number) }
-{
-    match number {
-        0 => Some(EcLevel::L),
-        1 => Some(EcLevel::M),
-        2 => Some(EcLevel::Q),
-        3 => Some(EcLevel::H),
-        _ => None,
-    }
-}
-
-/// Returns the greatest version of a number, 1 to 40.
-fn limit_of(number: i32) -> Option<i16>
-    ensures limit { IfSome result (λ limit. (limit ≡ number) × IsNormalNumber limit) }
-    ensures none { IfNone result (IsNormalNumber number → ⊥) }
-{
-    let limit = i16::try_from(number).ok()?;
-    if is_normal_number(limit) {
-        Some(limit)
-    } else {
-        None
-    }
-}
-
 /// Writes the modules of a symbol to the start of a buffer, and returns the shape of the symbol.
-fn write(symbol: &Symbol, modules: &mut [u8]) -> Result<Shape, Refusal>
+pub fn write(symbol: &Symbol, modules: &mut [u8]) -> Result<Shape, Refusal>
     ensures held { IfOk result (Holds symbol.now modules.old modules.new) }
     ensures short { IfErr result (λ refusal. refusal ≡ Refusal.ShortBuffer) }
     ensures room { OnErr result (length modules.old < length symbol.now.modules) }

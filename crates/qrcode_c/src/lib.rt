@@ -6,21 +6,30 @@
 //! has a status. Calls share no state, and each frees all memory that it allocates.
 #![tactic(auto)]
 
-ghost use Rattle.std.specs.Prelude.{◌≡◌, ◌≢◌, ◌*◌, pos, length};
+ghost use Rattle.std.specs.Prelude.{◌≡◌, ◌≢◌, ◌*◌, pos, length, None};
+ghost use Rattle.std.specs.Str.{IsUtf8};
+ghost use Rattle.qrcode_bits.specs.Contents.{AreElements};
+ghost use Rattle.qrcode_bits.specs.Frame.{front_of, no_front};
+ghost use Rattle.qrcode_bits.specs.declared.bits.front.Content.TheVariants.{Elements, Text};
 ghost use Rattle.qrcode_core.specs.Headline.{IsBestSymbol, IsBestMicroSymbol};
 ghost use Rattle.qrcode_base.specs.declared.types.Version.{Version};
 ghost use Rattle.qrcode_base.specs.Symbols.{IsVersion, width_of};
-ghost use Rattle.qrcode_c.specs.Holding.{HoldsBest, HoldsPart};
+ghost use Rattle.qrcode_c.specs.Asking.{IsDataRefusal, IsTextRefusal, IsElementsRefusal};
+ghost use Rattle.qrcode_c.specs.Asking.{IsWrittenRefusal, Writes};
+ghost use Rattle.qrcode_c.specs.Holding.{HoldsAsked, HoldsBest, HoldsPart};
 ghost use Rattle.qrcode_c.specs.Refusals.{IsStatusOf};
 ghost use Rattle.qrcode_c.specs.Refusals.{IsSymbolRefusal, IsMicroRefusal, IsPartRefusal};
 ghost use Rattle.qrcode_c.specs.Shapes.{IsNumberAtWidth};
 
+pub use options::Options;
 use qrcode_core::types::Version;
 pub use refusal::Refusal;
 pub use shape::Shape;
 use std::alloc::Global;
 
+mod asking;
 mod drawing;
+mod options;
 mod refusal;
 mod shape;
 #[cfg(test)]
@@ -53,6 +62,126 @@ pub extern "C" fn qrcode_c_symbol(
     ensures kept { result ≢ DONE → (modules.new ≡ modules.old) × (shape.new ≡ shape.old) }
 {
     match drawing::symbol(alloc, bytes, level, modules) {
+        Ok(drawn) => {
+            *shape = drawn;
+            DONE
+        }
+        Err(refusal) => refusal.status(),
+    }
+}
+
+/// Writes the symbol of the bytes that the options ask for, one byte per module, row by row from
+/// the upper left corner: 1 for a dark module, 0 for a light one. It is the best one at their level
+/// in their versions, or with `strongest` the best one at the greatest level at which it is no
+/// larger. The bytes of `modules` after these keep their values. Returns `DONE`.
+///
+/// # Errors
+///
+/// On an error nothing is written. The status is, in this order: `InvalidLevel`; `InvalidVersions`;
+/// `DataTooLong` exactly where the bytes fit no version up to the greatest at the level;
+/// `OutOfMemory` where an allocation failed; `ShortBuffer`.
+#[unsafe(no_mangle)]
+pub extern "C" fn qrcode_c_bytes(
+    alloc: Global,
+    bytes: &[u8],
+    options: &Options,
+    modules: &mut [u8],
+    shape: &mut Shape,
+) -> i32
+    ensures done { result ≡ DONE →
+        HoldsAsked no_front bytes.now options.now modules.old modules.new shape.new }
+    ensures refused { result ≢ DONE → IsStatusOf
+        (IsDataRefusal no_front bytes.now options.now (length modules.old)) result }
+    ensures kept { result ≢ DONE → (modules.new ≡ modules.old) × (shape.new ≡ shape.old) }
+{
+    match asking::bytes_symbol(alloc, bytes, options, modules) {
+        Ok(drawn) => {
+            *shape = drawn;
+            DONE
+        }
+        Err(refusal) => refusal.status(),
+    }
+}
+
+/// Writes the symbol of the text in UTF-8 that the options ask for, as `qrcode_c_bytes` does, after
+/// the ECI designator of UTF-8. After the versions the text is tested, and is `InvalidText` where
+/// it is not UTF-8.
+#[unsafe(no_mangle)]
+pub extern "C" fn qrcode_c_text(
+    alloc: Global,
+    text: &[u8],
+    options: &Options,
+    modules: &mut [u8],
+    shape: &mut Shape,
+) -> i32
+    ensures done { result ≡ DONE →
+        HoldsAsked (front_of None Text) text.now options.now modules.old modules.new shape.new }
+    ensures valid { result ≡ DONE → IsUtf8 text.now }
+    ensures refused { result ≢ DONE →
+        IsStatusOf (IsTextRefusal text.now options.now (length modules.old)) result }
+    ensures kept { result ≢ DONE → (modules.new ≡ modules.old) × (shape.new ≡ shape.old) }
+{
+    match asking::text_symbol(alloc, text, options, modules) {
+        Ok(drawn) => {
+            *shape = drawn;
+            DONE
+        }
+        Err(refusal) => refusal.status(),
+    }
+}
+
+/// Writes the symbol of the GS1 elements that the options ask for, as `qrcode_c_bytes` does, after
+/// FNC1 in the first position. After the versions the bytes are tested, and are `InvalidCharacter`
+/// where one is none of GS1's 82 characters, and no separator 1D (hex) between two elements.
+#[unsafe(no_mangle)]
+pub extern "C" fn qrcode_c_elements(
+    alloc: Global,
+    elements: &[u8],
+    options: &Options,
+    modules: &mut [u8],
+    shape: &mut Shape,
+) -> i32
+    ensures done { result ≡ DONE → HoldsAsked (front_of None Elements) elements.now options.now
+        modules.old modules.new shape.new }
+    ensures valid { result ≡ DONE → AreElements elements.now }
+    ensures refused { result ≢ DONE →
+        IsStatusOf (IsElementsRefusal elements.now options.now (length modules.old)) result }
+    ensures kept { result ≢ DONE → (modules.new ≡ modules.old) × (shape.new ≡ shape.old) }
+{
+    match asking::elements_symbol(alloc, elements, options, modules) {
+        Ok(drawn) => {
+            *shape = drawn;
+            DONE
+        }
+        Err(refusal) => refusal.status(),
+    }
+}
+
+/// Writes the symbol of GS1 elements that are written as people write them, such as
+/// `(01)09506000134352(10)ABC123`, as `qrcode_c_elements` does.
+///
+/// # Errors
+///
+/// As `qrcode_c_bytes` has them; but after the versions the text is tested, and the status is, in
+/// this order: `InvalidText`; `NoElements`; and of the first element that has a fault
+/// `InvalidIdentifier`, `UnknownIdentifier`, `EmptyValue`, `ValueTooLong`, `InvalidCharacter`,
+/// `WrongLength`, `WrongCheckDigit`.
+#[unsafe(no_mangle)]
+pub extern "C" fn qrcode_c_gs1(
+    alloc: Global,
+    text: &[u8],
+    options: &Options,
+    modules: &mut [u8],
+    shape: &mut Shape,
+) -> i32
+    ensures done { result ≡ DONE → Writes text.now (λ elements.
+        HoldsAsked (front_of None Elements) elements options.now modules.old modules.new
+        shape.new) }
+    ensures refused { result ≢ DONE →
+        IsStatusOf (IsWrittenRefusal text.now options.now (length modules.old)) result }
+    ensures kept { result ≢ DONE → (modules.new ≡ modules.old) × (shape.new ≡ shape.old) }
+{
+    match asking::written_symbol(alloc, text, options, modules) {
         Ok(drawn) => {
             *shape = drawn;
             DONE

@@ -19,8 +19,29 @@ pub enum Refusal {
     InvalidCuts = 6,
     /// The index is not less than the number of parts.
     InvalidIndex = 7,
-    /// The buffer is too short for the modules of the symbol.
+    /// A buffer is too short for what is to be written.
     ShortBuffer = 8,
+    // 9 is that of a pointer, in `sicklespan.c`.
+    /// The text is not UTF-8.
+    InvalidText = 10,
+    /// The least and the greatest version are not 1 to 40, or not in this order.
+    InvalidVersions = 11,
+    /// A character is none of GS1's, or a separator does not stand between two elements.
+    InvalidCharacter = 12,
+    /// The text does not begin with a bracketed identifier.
+    NoElements = 13,
+    /// An identifier is not two to four digits.
+    InvalidIdentifier = 14,
+    /// An identifier is none that GS1 assigns.
+    UnknownIdentifier = 15,
+    /// An element has no value.
+    EmptyValue = 16,
+    /// A value has more than 90 characters.
+    ValueTooLong = 17,
+    /// An element has another length than its identifier wants.
+    WrongLength = 18,
+    /// A value ends with another digit than its check digit.
+    WrongCheckDigit = 19,
 }
 
 impl Refusal {

@@ -1,11 +1,12 @@
 //! The properties of a symbol besides its modules.
 ghost use Rattle.std.specs.Prelude.{◌≡◌};
+ghost use Rattle.qrcode_c.specs.Levels.{level_argument};
 ghost use Rattle.qrcode_c.specs.Shapes.{shape_of, mask_reference};
 
 use qrcode_core::canvas::MaskPattern;
 use qrcode_core::symbol::Symbol;
 use qrcode_core::traits::{ModuleSource, QrSymbol};
-use qrcode_core::types::Version;
+use qrcode_core::types::{EcLevel, Version};
 
 /// The properties of a symbol that a call returns besides the modules.
 #[repr(C)]
@@ -20,6 +21,8 @@ pub struct Shape {
     pub mask: i32,
     /// Whether the symbol is a Micro symbol.
     pub micro: bool,
+    /// The number of the level: 0 to 3.
+    pub level: i8,
 }
 
 /// Returns the shape of a symbol.
@@ -35,6 +38,19 @@ pub fn shape_of(symbol: &Symbol) -> Shape
         version: i32::from(number),
         mask: mask_reference(version, symbol.mask()),
         micro: version.is_micro(),
+        level: level_number(symbol.error_correction_level()),
+    }
+}
+
+/// Returns the number of a level.
+fn level_number(level: EcLevel) -> i8
+    ensures { result ≡ level_argument level }
+{
+    match level {
+        EcLevel::L => 0,
+        EcLevel::M => 1,
+        EcLevel::Q => 2,
+        EcLevel::H => 3,
     }
 }
 

@@ -1,7 +1,8 @@
 //! Tests of each exported function, where memory is ample.
 use crate::{
-    DONE, Shape, qrcode_c_greatest_size, qrcode_c_micro_symbol, qrcode_c_part_symbol,
-    qrcode_c_symbol, qrcode_c_version_of_width,
+    DONE, Options, Shape, qrcode_c_bytes, qrcode_c_elements, qrcode_c_greatest_size, qrcode_c_gs1,
+    qrcode_c_micro_symbol, qrcode_c_part_symbol, qrcode_c_symbol, qrcode_c_text,
+    qrcode_c_version_of_width,
 };
 use std::alloc::Global;
 
@@ -15,6 +16,7 @@ const BLANK: Shape = Shape {
     version: 0,
     mask: 0,
     micro: false,
+    level: 0,
 };
 
 #[test]
@@ -44,7 +46,8 @@ fn draws_a_micro_symbol(rt: HostRuntime) {
             width: 11,
             version: 1,
             mask: 2,
-            micro: true
+            micro: true,
+            level: 0
         }
     );
     assert_eq!(rt; (modules[0], modules[121]), (1, 7));
@@ -76,6 +79,97 @@ fn draws_a_part(rt: HostRuntime) {
         &mut shape,
     );
     assert_eq!(rt; status, 7);
+}
+
+const USUAL: Options = Options {
+    level: 0,
+    min_version: 1,
+    max_version: 40,
+    strongest: 0,
+};
+
+#[test]
+fn draws_as_asked(rt: HostRuntime) {
+    let (mut modules, mut shape) = ([7; 626], BLANK);
+    // Version 1 holds the 5 bytes at level H too (ISO/IEC 18004:2006, "Data capacity for all
+    // versions": 7 bytes).
+    let strongest = Options {
+        strongest: 1,
+        ..USUAL
+    };
+    let status = qrcode_c_bytes(rt.alloc(), b"hello", &strongest, &mut modules, &mut shape);
+    assert_eq!(rt; (status, shape.width, shape.level), (DONE, 21, 3));
+    let second = Options {
+        min_version: 2,
+        ..USUAL
+    };
+    let status = qrcode_c_text(rt.alloc(), b"hello", &second, &mut modules, &mut shape);
+    assert_eq!(rt; (status, shape.version, shape.level), (DONE, 2, 0));
+    assert_eq!(rt; (modules[0], modules[625]), (1, 7));
+}
+
+#[test]
+fn draws_elements(rt: HostRuntime) {
+    let (mut modules, mut shape) = ([7; 625], BLANK);
+    // 4 bits of FNC1, 74 of 18 digits and 46 of 6 characters fit the 152 bits of version 1.
+    let bytes = b"010950600013435210ABC123";
+    let status = qrcode_c_elements(rt.alloc(), bytes, &USUAL, &mut modules, &mut shape);
+    assert_eq!(rt; (status, shape.version), (DONE, 1));
+    let mut written = [7; 625];
+    let text = b"(01)09506000134352(10)ABC123";
+    let status = qrcode_c_gs1(rt.alloc(), text, &USUAL, &mut written, &mut shape);
+    assert_eq!(rt; status, DONE);
+    assert!(rt; written == modules);
+}
+
+/// Returns the status of `qrcode_c_gs1` if it writes nothing.
+fn refused_gs1(alloc: Global, text: &[u8]) -> Option<i32> {
+    let (mut modules, mut shape) = ([7; 122], BLANK);
+    let status = qrcode_c_gs1(alloc, text, &USUAL, &mut modules, &mut shape);
+    if modules == [7; 122] && shape == BLANK {
+        Some(status)
+    } else {
+        None
+    }
+}
+
+#[test]
+fn refuses_elements(rt: HostRuntime) {
+    assert_eq!(rt; refused_gs1(rt.alloc(), b"(10)\xff"), Some(10));
+    assert_eq!(rt; refused_gs1(rt.alloc(), b"10"), Some(13));
+    assert_eq!(rt; refused_gs1(rt.alloc(), b"(1)2"), Some(14));
+    assert_eq!(rt; refused_gs1(rt.alloc(), b"(05)2"), Some(15));
+    assert_eq!(rt; refused_gs1(rt.alloc(), b"(10)"), Some(16));
+    assert_eq!(rt; refused_gs1(rt.alloc(), b"(10)a b"), Some(12));
+    assert_eq!(rt; refused_gs1(rt.alloc(), b"(01)1"), Some(18));
+    assert_eq!(rt; refused_gs1(rt.alloc(), b"(01)09506000134353"), Some(19));
+}
+
+#[test]
+fn refuses_options(rt: HostRuntime) {
+    let (mut modules, mut shape) = ([7; 122], BLANK);
+    let rows = [
+        (4, 1, 40, 3),
+        (0, 0, 40, 11),
+        (0, 1, 41, 11),
+        (0, 3, 2, 11),
+        (0, 1, 40, 8),
+    ];
+    for (level, min_version, max_version, wanted) in rows {
+        let options = Options {
+            level,
+            min_version,
+            max_version,
+            strongest: 0,
+        };
+        let status = qrcode_c_bytes(rt.alloc(), b"hello", &options, &mut modules, &mut shape);
+        assert_eq!(rt; status, wanted);
+    }
+    let status = qrcode_c_text(rt.alloc(), b"\xff", &USUAL, &mut modules, &mut shape);
+    assert_eq!(rt; status, 10);
+    let status = qrcode_c_elements(rt.alloc(), b"1 2", &USUAL, &mut modules, &mut shape);
+    assert_eq!(rt; status, 12);
+    assert_eq!(rt; modules, [7; 122]);
 }
 
 /// Returns the status of `qrcode_c_symbol` or `qrcode_c_micro_symbol` if it writes nothing.

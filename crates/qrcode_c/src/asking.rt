@@ -1,0 +1,136 @@
+//! Symbols that options ask for, in a caller's buffer.
+//!
+//! 1. Check the options, and then what is said of the data: UTF-8, elements.
+//! 2. Make the symbol, write its modules to the buffer, and return its shape.
+ghost use Rattle.std.specs.Prelude.{◌≡◌, None, length, OnErr, OnOk, IfOk, IfErr};
+ghost use Rattle.std.specs.Str.{IsUtf8};
+ghost use Rattle.qrcode_bits.specs.Contents.{AreElements};
+ghost use Rattle.qrcode_bits.specs.Frame.{front_of, no_front};
+ghost use Rattle.qrcode_bits.specs.declared.bits.front.Content.TheVariants.{Elements, Text};
+ghost use Rattle.qrcode_c.specs.Asking.{IsDataRefusal, IsTextRefusal, IsElementsRefusal};
+ghost use Rattle.qrcode_c.specs.Asking.{IsWrittenRefusal, Writes, told};
+ghost use Rattle.qrcode_c.specs.Holding.{HoldsAsked};
+
+use crate::drawing::write;
+use crate::options::{Options, options_of};
+use crate::refusal::Refusal;
+use crate::shape::Shape;
+use gs1::{Gs1Error, element_string};
+use qrcode_core::symbol::Symbol;
+use qrcode_core::types::QrError;
+use std::alloc::Global;
+
+/// Writes the symbol of the bytes that the options ask for, and returns its shape.
+pub fn bytes_symbol(
+    alloc: Global,
+    bytes: &[u8],
+    options: &Options,
+    modules: &mut [u8],
+) -> Result<Shape, Refusal>
+    ensures held { IfOk result
+        (HoldsAsked no_front bytes.now options.now modules.old modules.new) }
+    ensures refused { IfErr result
+        (IsDataRefusal no_front bytes.now options.now (length modules.old)) }
+    ensures kept { OnErr result (modules.new ≡ modules.old) }
+{
+    let checked = options_of(options)?;
+    match Symbol::bytes_with(alloc, bytes, &checked) {
+        Ok(symbol) => write(&symbol, modules),
+        Err(QrError::DataTooLong) => Err(Refusal::DataTooLong),
+        Err(_) => Err(Refusal::OutOfMemory),
+    }
+}
+
+/// Writes the symbol of the text in UTF-8 that the options ask for, and returns its shape.
+pub fn text_symbol(
+    alloc: Global,
+    text: &[u8],
+    options: &Options,
+    modules: &mut [u8],
+) -> Result<Shape, Refusal>
+    ensures held { IfOk result
+        (HoldsAsked (front_of None Text) text.now options.now modules.old modules.new) }
+    ensures valid { OnOk result (IsUtf8 text.now) }
+    ensures refused { IfErr result
+        (IsTextRefusal text.now options.now (length modules.old)) }
+    ensures kept { OnErr result (modules.new ≡ modules.old) }
+{
+    let checked = options_of(options)?;
+    let Ok(text) = str::from_utf8(text) else {
+        return Err(Refusal::InvalidText);
+    };
+    match Symbol::text_with(alloc, text, &checked) {
+        Ok(symbol) => write(&symbol, modules),
+        Err(QrError::DataTooLong) => Err(Refusal::DataTooLong),
+        Err(_) => Err(Refusal::OutOfMemory),
+    }
+}
+
+/// Writes the symbol of the GS1 elements that the options ask for, and returns its shape.
+pub fn elements_symbol(
+    alloc: Global,
+    elements: &[u8],
+    options: &Options,
+    modules: &mut [u8],
+) -> Result<Shape, Refusal>
+    ensures held { IfOk result
+        (HoldsAsked (front_of None Elements) elements.now options.now modules.old modules.new) }
+    ensures valid { OnOk result (AreElements elements.now) }
+    ensures refused { IfErr result
+        (IsElementsRefusal elements.now options.now (length modules.old)) }
+    ensures kept { OnErr result (modules.new ≡ modules.old) }
+{
+    let checked = options_of(options)?;
+    match Symbol::elements_with(alloc, elements, &checked) {
+        Ok(symbol) => write(&symbol, modules),
+        Err(QrError::InvalidCharacter { .. }) => Err(Refusal::InvalidCharacter),
+        Err(QrError::DataTooLong) => Err(Refusal::DataTooLong),
+        Err(_) => Err(Refusal::OutOfMemory),
+    }
+}
+
+/// Writes the symbol of GS1 elements, written as people write them, that the options ask for, and
+/// returns its shape.
+pub fn written_symbol(
+    alloc: Global,
+    text: &[u8],
+    options: &Options,
+    modules: &mut [u8],
+) -> Result<Shape, Refusal>
+    ensures held { IfOk result (λ shape. Writes text.now (λ elements.
+        HoldsAsked (front_of None Elements) elements options.now modules.old modules.new shape)) }
+    ensures refused { IfErr result
+        (IsWrittenRefusal text.now options.now (length modules.old)) }
+    ensures kept { OnErr result (modules.new ≡ modules.old) }
+{
+    let checked = options_of(options)?;
+    let Ok(text) = str::from_utf8(text) else {
+        return Err(Refusal::InvalidText);
+    };
+    let elements = match element_string(alloc, text) {
+        Ok(elements) => elements,
+        Err(error) => return Err(refusal_of(error)),
+    };
+    match Symbol::elements_with(alloc, &elements, &checked) {
+        Ok(symbol) => write(&symbol, modules),
+        Err(QrError::DataTooLong) => Err(Refusal::DataTooLong),
+        Err(_) => Err(Refusal::OutOfMemory),
+    }
+}
+
+/// Returns the error that tells a fault of a text of elements.
+fn refusal_of(error: Gs1Error) -> Refusal
+    ensures { result ≡ told error }
+{
+    match error {
+        Gs1Error::NoElements => Refusal::NoElements,
+        Gs1Error::InvalidIdentifier { .. } => Refusal::InvalidIdentifier,
+        Gs1Error::UnknownIdentifier { .. } => Refusal::UnknownIdentifier,
+        Gs1Error::EmptyValue { .. } => Refusal::EmptyValue,
+        Gs1Error::ValueTooLong { .. } => Refusal::ValueTooLong,
+        Gs1Error::InvalidCharacter { .. } => Refusal::InvalidCharacter,
+        Gs1Error::WrongLength { .. } => Refusal::WrongLength,
+        Gs1Error::WrongCheckDigit { .. } => Refusal::WrongCheckDigit,
+        Gs1Error::OutOfMemory => Refusal::OutOfMemory,
+    }
+}
