@@ -11,19 +11,62 @@ pub struct Shape {
     pub version: i32,
     pub mask: i32,
     pub micro: bool,
+    pub level: i8,
+}
+
+/// `sicklespan_options`.
+#[repr(C)]
+pub struct Options {
+    pub level: i32,
+    pub min_version: i32,
+    pub max_version: i32,
+    pub strongest: i32,
+}
+
+/// What data are drawn with options.
+#[derive(Clone, Copy)]
+pub enum Content {
+    Bytes,
+    Text,
+    Elements,
+    Gs1,
 }
 
 #[link(name = "sicklespan", kind = "static")]
 extern "C" {
-    fn sicklespan_symbol(
-        bytes: *const u8,
+    fn sicklespan_bytes(
+        data: *const u8,
         length: usize,
-        level: i32,
+        options: *const Options,
         modules: *mut u8,
         room: usize,
         shape: *mut Shape,
     ) -> i32;
-    fn sicklespan_micro_symbol(
+    fn sicklespan_text(
+        data: *const u8,
+        length: usize,
+        options: *const Options,
+        modules: *mut u8,
+        room: usize,
+        shape: *mut Shape,
+    ) -> i32;
+    fn sicklespan_elements(
+        data: *const u8,
+        length: usize,
+        options: *const Options,
+        modules: *mut u8,
+        room: usize,
+        shape: *mut Shape,
+    ) -> i32;
+    fn sicklespan_gs1(
+        data: *const u8,
+        length: usize,
+        options: *const Options,
+        modules: *mut u8,
+        room: usize,
+        shape: *mut Shape,
+    ) -> i32;
+    fn sicklespan_micro(
         bytes: *const u8,
         length: usize,
         level: i32,
@@ -46,27 +89,31 @@ extern "C" {
     fn sicklespan_greatest_size() -> usize;
     fn sicklespan_version_of_width(width: usize) -> i32;
     fn sicklespan_status_text(status: i32) -> *const c_char;
+    fn sicklespan_version() -> *const c_char;
 }
 
 // In each call the pointers and lengths are those of slices, which are valid, apart, and no longer
 // than they say.
 
-pub fn symbol(bytes: &[u8], level: i32, modules: &mut [u8], shape: &mut Shape) -> i32 {
-    unsafe {
-        sicklespan_symbol(
-            bytes.as_ptr(),
-            bytes.len(),
-            level,
-            modules.as_mut_ptr(),
-            modules.len(),
-            shape,
-        )
-    }
+pub fn symbol(
+    content: Content,
+    data: &[u8],
+    options: &Options,
+    modules: &mut [u8],
+    shape: &mut Shape,
+) -> i32 {
+    let call = match content {
+        Content::Bytes => sicklespan_bytes,
+        Content::Text => sicklespan_text,
+        Content::Elements => sicklespan_elements,
+        Content::Gs1 => sicklespan_gs1,
+    };
+    unsafe { call(data.as_ptr(), data.len(), options, modules.as_mut_ptr(), modules.len(), shape) }
 }
 
-pub fn micro_symbol(bytes: &[u8], level: i32, modules: &mut [u8], shape: &mut Shape) -> i32 {
+pub fn micro(bytes: &[u8], level: i32, modules: &mut [u8], shape: &mut Shape) -> i32 {
     unsafe {
-        sicklespan_micro_symbol(
+        sicklespan_micro(
             bytes.as_ptr(),
             bytes.len(),
             level,
@@ -113,5 +160,11 @@ pub fn version_of_width(width: usize) -> i32 {
 /// The text of a status; it is static and ASCII.
 pub fn status_text(status: i32) -> &'static str {
     let text = unsafe { CStr::from_ptr(sicklespan_status_text(status)) };
+    text.to_str().unwrap_or("")
+}
+
+/// The version of the library; it is static and ASCII.
+pub fn version() -> &'static str {
+    let text = unsafe { CStr::from_ptr(sicklespan_version()) };
     text.to_str().unwrap_or("")
 }

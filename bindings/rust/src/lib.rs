@@ -5,10 +5,8 @@
 //! use sicklespan::{Level, Symbol, Version};
 //!
 //! let symbol = Symbol::new(b"hello", Level::L)?;
-//! assert_eq!((symbol.width, symbol.version), (21, Version::Normal(1)));
-//! for row in symbol.rows() {
-//!     println!("{}", row.iter().map(|dark| if *dark { '#' } else { '.' }).collect::<String>());
-//! }
+//! assert_eq!((symbol.width(), symbol.version()), (21, Version::Normal(1)));
+//! println!("{symbol}");
 //! # Ok::<(), sicklespan::Error>(())
 //! ```
 #![deny(unsafe_code)]
@@ -16,7 +14,21 @@
 
 use std::fmt;
 
+mod error;
 mod ffi;
+mod options;
+
+pub use error::Error;
+pub use options::Options;
+
+/// The version of the library that is linked.
+///
+/// ```
+/// assert_eq!(sicklespan::version(), env!("CARGO_PKG_VERSION"));
+/// ```
+pub fn version() -> &'static str {
+    ffi::version()
+}
 
 /// How much damage can be corrected: about 7, 15, 25 and 30 percent of a symbol.
 #[derive(Clone, Copy, Debug, PartialEq, Eq, PartialOrd, Ord, Hash)]
@@ -29,6 +41,10 @@ pub enum Level {
     Q = 2,
     /// High; no Micro symbol has it.
     H = 3,
+}
+
+impl Level {
+    const ALL: [Level; 4] = [Level::L, Level::M, Level::Q, Level::H];
 }
 
 /// Which symbol it is by its size.
@@ -58,93 +74,130 @@ impl Version {
     }
 }
 
-/// Why there is no symbol.
-#[derive(Clone, Copy, Debug, PartialEq, Eq, Hash)]
-#[non_exhaustive]
-pub enum Error {
-    /// The bytes fit no symbol that was asked for.
-    DataTooLong,
-    /// The C library found no memory.
-    OutOfMemory,
-    /// A Micro symbol was asked for at level H.
-    InvalidLevel,
-    /// The greatest version of a sequence is not 1 to 40.
-    InvalidMaxVersion,
-    /// The parts of a sequence are not 2 to 16.
-    InvalidPartCount,
-    /// A cut is below the one before it, or above the length of the message.
-    InvalidCuts,
-}
-
-impl Error {
-    const ALL: [Error; 6] = [
-        Error::DataTooLong,
-        Error::OutOfMemory,
-        Error::InvalidLevel,
-        Error::InvalidMaxVersion,
-        Error::InvalidPartCount,
-        Error::InvalidCuts,
-    ];
-
-    /// Its number in the header.
-    fn status(self) -> i32 {
-        match self {
-            Error::DataTooLong => 1,
-            Error::OutOfMemory => 2,
-            Error::InvalidLevel => 3,
-            Error::InvalidMaxVersion => 4,
-            Error::InvalidPartCount => 5,
-            Error::InvalidCuts => 6,
-        }
-    }
-}
-
-impl fmt::Display for Error {
-    fn fmt(&self, f: &mut fmt::Formatter<'_>) -> fmt::Result {
-        f.write_str(ffi::status_text(self.status()))
-    }
-}
-
-impl std::error::Error for Error {}
-
-/// A symbol.
+/// A symbol, which does not change. It is written in half blocks, with its quiet zone.
 #[derive(Clone, Debug, PartialEq, Eq, Hash)]
 pub struct Symbol {
-    /// How many modules a side has.
-    pub width: usize,
-    /// Its version.
-    pub version: Version,
-    /// The number of its mask pattern: 0 to 7, and 0 to 3 of a Micro symbol.
-    pub mask: u8,
-    /// Its modules, row by row from the upper left corner, `true` for a dark one, with no quiet
-    /// zone.
-    pub modules: Vec<bool>,
+    width: usize,
+    version: Version,
+    level: Level,
+    mask: u8,
+    modules: Vec<bool>,
 }
 
 impl Symbol {
-    /// The best symbol of some bytes at a level, in the smallest of the versions 1 to 40 into which
-    /// they fit.
+    /// Returns the best symbol of some bytes at a level, in the smallest of the versions 1 to 40
+    /// into which they fit.
     ///
-    /// `DataTooLong` comes exactly where they fit no version at the level.
+    /// # Errors
+    ///
+    /// `DataTooLong` exactly where they fit no version at the level; `OutOfMemory`.
     pub fn new(bytes: &[u8], level: Level) -> Result<Symbol, Error> {
-        Symbol::drawn(|modules, shape| ffi::symbol(bytes, level as i32, modules, shape))
+        Symbol::bytes_with(bytes, &Options::new(level))
     }
 
-    /// The best Micro symbol of some bytes, in the smallest of M1 to M4 into which they fit.
+    /// Returns the best symbol of a text at a level, which says that it is in UTF-8 (ECI 26), so
+    /// that every reader reads it in its own script.
+    ///
+    /// ```
+    /// # use sicklespan::{Level, Symbol};
+    /// assert_eq!(Symbol::text("Gr\u{fc}\u{df}e", Level::M)?.width(), 21);
+    /// # Ok::<(), sicklespan::Error>(())
+    /// ```
+    ///
+    /// # Errors
+    ///
+    /// As `new`.
+    pub fn text(text: &str, level: Level) -> Result<Symbol, Error> {
+        Symbol::text_with(text, &Options::new(level))
+    }
+
+    /// Returns the best symbol of GS1 elements at a level: identifiers with their values, with the
+    /// byte 1D (hex) after each whose length is not fixed, but the last.
+    ///
+    /// # Errors
+    ///
+    /// `InvalidCharacter` if a byte is no character of an element, nor 1D between two; then as
+    /// `new`.
+    pub fn elements(elements: &[u8], level: Level) -> Result<Symbol, Error> {
+        Symbol::elements_with(elements, &Options::new(level))
+    }
+
+    /// Returns the best symbol of GS1 elements as people write them.
+    ///
+    /// ```
+    /// # use sicklespan::{Error, Level, Symbol};
+    /// let written = Symbol::gs1("(01)09506000134352(10)ABC123", Level::M)?;
+    /// assert_eq!(written, Symbol::elements(b"010950600013435210ABC123", Level::M)?);
+    /// assert_eq!(Symbol::gs1("(01)09506000134353", Level::M), Err(Error::WrongCheckDigit));
+    /// # Ok::<(), Error>(())
+    /// ```
+    ///
+    /// # Errors
+    ///
+    /// `NoElements`, else of the first element that has a fault `InvalidIdentifier`,
+    /// `UnknownIdentifier`, `EmptyValue`, `ValueTooLong`, `InvalidCharacter`, `WrongLength` or
+    /// `WrongCheckDigit`; then as `new`.
+    pub fn gs1(text: &str, level: Level) -> Result<Symbol, Error> {
+        Symbol::gs1_with(text, &Options::new(level))
+    }
+
+    /// Returns the symbol of some bytes that the options ask for.
+    ///
+    /// # Errors
+    ///
+    /// `InvalidVersions`; then as `new`, for the versions of the options.
+    pub fn bytes_with(bytes: &[u8], options: &Options) -> Result<Symbol, Error> {
+        Symbol::asked(ffi::Content::Bytes, bytes, options)
+    }
+
+    /// Returns the symbol of a text that the options ask for, as `text` says.
+    ///
+    /// # Errors
+    ///
+    /// `InvalidVersions`; then as `text`.
+    pub fn text_with(text: &str, options: &Options) -> Result<Symbol, Error> {
+        Symbol::asked(ffi::Content::Text, text.as_bytes(), options)
+    }
+
+    /// Returns the symbol of GS1 elements that the options ask for, as `elements` says.
+    ///
+    /// # Errors
+    ///
+    /// `InvalidVersions`; then as `elements`.
+    pub fn elements_with(elements: &[u8], options: &Options) -> Result<Symbol, Error> {
+        Symbol::asked(ffi::Content::Elements, elements, options)
+    }
+
+    /// Returns the symbol of GS1 elements as people write them that the options ask for.
+    ///
+    /// # Errors
+    ///
+    /// `InvalidVersions`; then as `gs1`.
+    pub fn gs1_with(text: &str, options: &Options) -> Result<Symbol, Error> {
+        Symbol::asked(ffi::Content::Gs1, text.as_bytes(), options)
+    }
+
+    /// Returns the best Micro symbol of some bytes, in the smallest of M1 to M4 into which they
+    /// fit.
     ///
     /// ```
     /// # use sicklespan::{Error, Level, Symbol, Version};
-    /// assert_eq!(Symbol::micro(b"12345", Level::L)?.version, Version::Micro(1));
+    /// assert_eq!(Symbol::micro(b"12345", Level::L)?.version(), Version::Micro(1));
     /// assert_eq!(Symbol::micro(b"12345", Level::H), Err(Error::InvalidLevel));
     /// # Ok::<(), Error>(())
     /// ```
+    ///
+    /// # Errors
+    ///
+    /// `InvalidLevel` for level H; then `DataTooLong` exactly where they fit none of them, and
+    /// `OutOfMemory`.
     pub fn micro(bytes: &[u8], level: Level) -> Result<Symbol, Error> {
-        Symbol::drawn(|modules, shape| ffi::micro_symbol(bytes, level as i32, modules, shape))
+        Symbol::drawn(|modules, shape| ffi::micro(bytes, level as i32, modules, shape))
     }
 
-    /// The 2 to 16 symbols that carry a message together (Structured Append), each in a version up
-    /// to the greatest. The parts lie between the start of the message, the cuts in order, and its
-    /// end.
+    /// Returns the 2 to 16 symbols that carry a message together (Structured Append), each in a
+    /// version up to the greatest. The parts lie between the start of the message, the cuts in
+    /// order, and its end.
     ///
     /// ```
     /// # use sicklespan::{Error, Level, Symbol};
@@ -153,6 +206,11 @@ impl Symbol {
     /// assert_eq!(Symbol::sequence(b"alone", &[], Level::M, 40), Err(Error::InvalidPartCount));
     /// # Ok::<(), Error>(())
     /// ```
+    ///
+    /// # Errors
+    ///
+    /// `InvalidCuts`, `InvalidMaxVersion`, `InvalidPartCount`, `DataTooLong` exactly where some
+    /// part fits none of the versions, and `OutOfMemory`.
     pub fn sequence(
         message: &[u8],
         cuts: &[usize],
@@ -176,9 +234,53 @@ impl Symbol {
             .collect()
     }
 
-    /// The rows of the modules from the top.
+    /// Returns the number of modules on a side.
+    pub fn width(&self) -> usize {
+        self.width
+    }
+
+    /// Returns the version.
+    pub fn version(&self) -> Version {
+        self.version
+    }
+
+    /// Returns the level: the one that was asked for, or a greater one of the strongest symbol.
+    pub fn level(&self) -> Level {
+        self.level
+    }
+
+    /// Returns the number of the mask pattern: 0 to 7, or 0 to 3 of a Micro symbol.
+    pub fn mask(&self) -> u8 {
+        self.mask
+    }
+
+    /// Returns the modules, row by row from the upper left corner, `true` for a dark one, without
+    /// a quiet zone.
+    pub fn modules(&self) -> &[bool] {
+        &self.modules
+    }
+
+    /// Returns the rows of the modules from the top.
     pub fn rows(&self) -> std::slice::ChunksExact<'_, bool> {
         self.modules.chunks_exact(self.width)
+    }
+
+    /// Whether the module in column `x` of row `y` is dark; one outside the symbol is light.
+    ///
+    /// ```
+    /// # use sicklespan::{Level, Symbol};
+    /// let symbol = Symbol::new(b"hello", Level::L)?;
+    /// assert!(symbol.is_dark(20, 0) && !symbol.is_dark(21, 0));
+    /// # Ok::<(), sicklespan::Error>(())
+    /// ```
+    pub fn is_dark(&self, x: usize, y: usize) -> bool {
+        x < self.width && y < self.width && self.modules[y * self.width + x]
+    }
+
+    /// The symbol that a call with options draws.
+    fn asked(content: ffi::Content, data: &[u8], options: &Options) -> Result<Symbol, Error> {
+        let options = options.numbers();
+        Symbol::drawn(|modules, shape| ffi::symbol(content, data, &options, modules, shape))
     }
 
     /// What a call draws.
@@ -187,15 +289,37 @@ impl Symbol {
         let mut shape = ffi::Shape::default();
         let status = call(&mut bytes, &mut shape);
         if status != 0 {
-            let error = Error::ALL.into_iter().find(|error| error.status() == status);
-            return Err(error.expect("a refusal that a slice of full size can have"));
+            return Err(Error::of(status));
         }
         let (width, number) = (shape.width as usize, shape.version as u8);
         Ok(Symbol {
             width,
             version: if shape.micro { Version::Micro(number) } else { Version::Normal(number) },
+            level: Level::ALL[shape.level as usize],
             mask: shape.mask as u8,
             modules: bytes[..width * width].iter().map(|byte| *byte == 1).collect(),
         })
+    }
+}
+
+impl fmt::Display for Symbol {
+    /// Two rows a line, dark modules in the colour of the text.
+    fn fmt(&self, f: &mut fmt::Formatter<'_>) -> fmt::Result {
+        let zone = if matches!(self.version, Version::Micro(_)) { 2 } else { 4 };
+        let side = self.width + 2 * zone;
+        // A place in the quiet zone above or to the left is far outside the symbol.
+        let is_dark = |x: usize, y: usize| self.is_dark(x.wrapping_sub(zone), y.wrapping_sub(zone));
+        for y in (0..side).step_by(2) {
+            for x in 0..side {
+                f.write_str(match (is_dark(x, y), is_dark(x, y + 1)) {
+                    (false, false) => " ",
+                    (true, false) => "\u{2580}",
+                    (false, true) => "\u{2584}",
+                    (true, true) => "\u{2588}",
+                })?;
+            }
+            f.write_str("\n")?;
+        }
+        Ok(())
     }
 }

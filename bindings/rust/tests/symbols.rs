@@ -1,7 +1,7 @@
 //! Symbols through the library: sizes by the standard's table of capacities, grids by those of the
 //! original crate.
 use answers::Answer;
-use sicklespan::{Error, Level, Symbol, Version};
+use sicklespan::{Error, Level, Options, Symbol, Version};
 
 mod answers;
 
@@ -52,11 +52,11 @@ fn draws_all_versions_and_levels() {
             for count in [least, most] {
                 let symbol = Symbol::new(&vec![b'a'; count], level).unwrap();
                 let width = 17 + 4 * usize::from(number);
-                assert_eq!(symbol.version, Version::Normal(number), "{count} bytes at {level:?}");
-                assert_eq!((symbol.width, symbol.modules.len()), (width, width * width));
+                assert_eq!(symbol.version(), Version::Normal(number), "{count} bytes at {level:?}");
+                assert_eq!((symbol.width(), symbol.modules().len()), (width, width * width));
                 assert_eq!(symbol.rows().count(), width);
-                assert_eq!(Version::of_width(width), Some(symbol.version));
-                assert!(symbol.mask < 8);
+                assert_eq!(Version::of_width(width), Some(symbol.version()));
+                assert!(symbol.mask() < 8);
             }
             least = most + 1;
         }
@@ -69,20 +69,20 @@ fn draws_all_micro_versions_and_levels() {
     for (number, level, most) in DIGITS {
         let symbol = Symbol::micro(&vec![b'7'; most], level).unwrap();
         assert_eq!(
-            (symbol.version, symbol.width),
+            (symbol.version(), symbol.width()),
             (Version::Micro(number), 9 + 2 * usize::from(number))
         );
-        assert_eq!(Version::of_width(symbol.width), Some(symbol.version));
-        assert!(symbol.mask < 4);
+        assert_eq!(Version::of_width(symbol.width()), Some(symbol.version()));
+        assert!(symbol.mask() < 4);
         let next = DIGITS.iter().find(|(other, at, _)| *other > number && *at == level);
-        let answer = Symbol::micro(&vec![b'7'; most + 1], level).map(|symbol| symbol.version);
+        let answer = Symbol::micro(&vec![b'7'; most + 1], level).map(|symbol| symbol.version());
         assert_eq!(
             answer,
             next.map(|(other, ..)| Version::Micro(*other)).ok_or(Error::DataTooLong)
         );
     }
     // Worked by hand from the standard's steps.
-    assert_eq!(Symbol::micro(b"12345", Level::L).unwrap().mask, 2);
+    assert_eq!(Symbol::micro(b"12345", Level::L).unwrap().mask(), 2);
 }
 
 /// The inputs of the rows in `answers`, by kind and length.
@@ -122,7 +122,7 @@ fn answers_as_the_original() {
         let drawn =
             if answer.micro { Symbol::micro(&bytes, level) } else { Symbol::new(&bytes, level) };
         let got = match drawn {
-            Ok(symbol) => (symbol.modules.len(), hash(&symbol.modules)),
+            Ok(symbol) => (symbol.modules().len(), hash(symbol.modules())),
             Err(Error::DataTooLong) => (1, 0),
             Err(Error::InvalidLevel) => (2, 0),
             Err(error) => panic!("{error}"),
@@ -141,7 +141,7 @@ fn draws_sequences() {
     let message = b"0123456789abcdefghijklmnopqrstuvwxyz";
     let symbols = Symbol::sequence(message, &[10, 10, 36], Level::Q, 5).unwrap();
     assert_eq!(symbols.len(), 4);
-    assert!(symbols.iter().all(|symbol| symbol.version <= Version::Normal(5)));
+    assert!(symbols.iter().all(|symbol| symbol.version() <= Version::Normal(5)));
     assert!(symbols.windows(2).all(|pair| pair[0] != pair[1]));
     assert_eq!(Symbol::sequence(message, &[5, 4], Level::L, 40), Err(Error::InvalidCuts));
     assert_eq!(Symbol::sequence(message, &[37], Level::L, 40), Err(Error::InvalidCuts));
@@ -150,6 +150,75 @@ fn draws_sequences() {
     assert_eq!(Symbol::sequence(message, &[], Level::L, 40), Err(Error::InvalidPartCount));
     assert_eq!(Symbol::sequence(message, &[0; 16], Level::L, 40), Err(Error::InvalidPartCount));
     assert_eq!(Symbol::sequence(message, &[0], Level::L, 1), Err(Error::DataTooLong));
+}
+
+#[test]
+fn draws_as_asked() {
+    // Version 1 holds 17, 14, 11 and 7 bytes at L, M, Q and H, and one less after the 12 bits of
+    // the ECI designator.
+    for (level, count) in LEVELS.into_iter().zip([17, 14, 11, 7]) {
+        let bytes = vec![b'a'; count];
+        let strongest = Symbol::bytes_with(&bytes, &Options::new(Level::L).strongest()).unwrap();
+        assert_eq!((strongest.width(), strongest.level()), (21, level));
+        assert_eq!(Symbol::new(&bytes, level), Ok(strongest));
+        let text = "a".repeat(count);
+        assert_eq!(Symbol::text(&text, level).unwrap().version(), Version::Normal(2));
+        assert_eq!(Symbol::text(&text[1..], level).unwrap().version(), Version::Normal(1));
+        let options = Options::new(level).max_version(1);
+        assert_eq!(Symbol::text_with(&text, &options), Err(Error::DataTooLong));
+        let options = Options::new(level).min_version(3);
+        assert_eq!(Symbol::text_with(&text, &options).unwrap().version(), Version::Normal(3));
+    }
+    assert_eq!(Options::default(), Options::new(Level::M));
+    for (least, most) in [(0, 40), (1, 41), (3, 2)] {
+        let options = Options::new(Level::L).min_version(least).max_version(most);
+        assert_eq!(Symbol::bytes_with(b"a", &options), Err(Error::InvalidVersions));
+        assert_eq!(Symbol::gs1_with("(10)a", &options), Err(Error::InvalidVersions));
+    }
+}
+
+#[test]
+fn draws_elements() {
+    let symbol = Symbol::gs1("(10)ABC(01)09506000134352(21)7", Level::Q).unwrap();
+    let bytes = b"10ABC\x1d0109506000134352217";
+    assert_eq!(Symbol::elements(bytes, Level::Q), Ok(symbol.clone()));
+    assert_ne!(Symbol::new(bytes, Level::Q), Ok(symbol));
+    let options = Options::new(Level::Q).min_version(4);
+    assert_eq!(Symbol::elements_with(bytes, &options).unwrap().version(), Version::Normal(4));
+    assert_eq!(Symbol::elements(b"10A B", Level::Q), Err(Error::InvalidCharacter));
+    let too_long = format!("(10){}", "A".repeat(91));
+    for (text, error) in [
+        ("10ABC", Error::NoElements),
+        ("(1)2", Error::InvalidIdentifier),
+        ("(05)2", Error::UnknownIdentifier),
+        ("(10)", Error::EmptyValue),
+        (&too_long, Error::ValueTooLong),
+        ("(10)a b", Error::InvalidCharacter),
+        ("(01)1", Error::WrongLength),
+        ("(01)09506000134353", Error::WrongCheckDigit),
+    ] {
+        assert_eq!(Symbol::gs1(text, Level::Q), Err(error));
+    }
+}
+
+#[test]
+fn prints_half_blocks() {
+    let text = Symbol::micro(b"1", Level::L).unwrap().to_string();
+    let lines: Vec<&str> = text.lines().collect();
+    assert_eq!(lines.len(), 8);
+    assert!(lines.iter().all(|line| line.chars().count() == 15));
+    // The upper left finder pattern, a ring of seven modules and a square of three, behind a quiet
+    // zone of two modules.
+    let finder = [
+        "  \u{2588}\u{2580}\u{2580}\u{2580}\u{2580}\u{2580}\u{2588}",
+        "  \u{2588} \u{2588}\u{2588}\u{2588} \u{2588}",
+        "  \u{2588} \u{2580}\u{2580}\u{2580} \u{2588}",
+        "  \u{2580}\u{2580}\u{2580}\u{2580}\u{2580}\u{2580}\u{2580}",
+    ];
+    for (line, start) in lines[1..].iter().zip(finder) {
+        assert!(line.starts_with(start), "{line}");
+    }
+    assert_eq!((lines[0].trim(), lines[7].trim()), ("", ""));
 }
 
 #[test]

@@ -1,0 +1,27 @@
+"""QR and Micro QR symbols by a library that is proved.
+
+    >>> import sicklespan
+    >>> symbol = sicklespan.make("hello")
+    >>> symbol.version, symbol.level, symbol.mask
+    (1, 'H', 6)
+    >>> symbol.save("hello.svg")
+
+The functions return a `Symbol` or raise an error below `SicklespanError`. docs/PYTHON.md describes
+them.
+"""
+
+from ._errors import (
+    DataTooLongError, EmptyValueError, InvalidCharacterError, InvalidCutsError,
+    InvalidIdentifierError, InvalidLevelError, InvalidPartCountError, InvalidTextError,
+    InvalidVersionsError, NoElementsError, OutOfMemoryError, SicklespanError,
+    UnknownIdentifierError, ValueTooLongError, WrongCheckDigitError, WrongLengthError)
+from ._library import __version__
+from ._make import elements, gs1, make, micro, sequence
+from ._symbol import Symbol
+
+__all__ = [
+    "DataTooLongError", "EmptyValueError", "InvalidCharacterError", "InvalidCutsError",
+    "InvalidIdentifierError", "InvalidLevelError", "InvalidPartCountError", "InvalidTextError",
+    "InvalidVersionsError", "NoElementsError", "OutOfMemoryError", "SicklespanError", "Symbol",
+    "UnknownIdentifierError", "ValueTooLongError", "WrongCheckDigitError", "WrongLengthError",
+    "__version__", "elements", "gs1", "make", "micro", "sequence"]

@@ -1,0 +1,88 @@
+"""Why there is no symbol: an exception for each status of the library."""
+
+from typing import Dict, Type
+
+
+class SicklespanError(ValueError):
+    """The base of all errors here. Its text is that of the library."""
+
+
+class DataTooLongError(SicklespanError):
+    """The data fit no symbol that was asked for."""
+
+
+class OutOfMemoryError(SicklespanError, MemoryError):
+    """The library found no memory."""
+
+
+class InvalidLevelError(SicklespanError):
+    """There is no such level, or it is H and the symbol is a Micro symbol."""
+
+
+class InvalidVersionsError(SicklespanError):
+    """The versions are not 1 to 40, or the least is above the greatest."""
+
+
+class InvalidPartCountError(SicklespanError):
+    """The parts of a sequence are not 2 to 16."""
+
+
+class InvalidCutsError(SicklespanError):
+    """A cut is below the one before it, or above the length of the message."""
+
+
+class InvalidTextError(SicklespanError):
+    """The text is not UTF-8."""
+
+
+class InvalidCharacterError(SicklespanError):
+    """A character is none of a GS1 element."""
+
+
+class NoElementsError(SicklespanError):
+    """The text does not begin with a bracketed identifier."""
+
+
+class InvalidIdentifierError(SicklespanError):
+    """An identifier is not two to four digits."""
+
+
+class UnknownIdentifierError(SicklespanError):
+    """An identifier is none that GS1 assigns."""
+
+
+class EmptyValueError(SicklespanError):
+    """An element has no value."""
+
+
+class ValueTooLongError(SicklespanError):
+    """A value has more than 90 characters."""
+
+
+class WrongLengthError(SicklespanError):
+    """An element has another length than GS1 defines for its identifier."""
+
+
+class WrongCheckDigitError(SicklespanError):
+    """A value does not end with its check digit."""
+
+
+# By the numbers of sicklespan.h. The others are no fault of a caller of this package.
+ERRORS: Dict[int, Type[SicklespanError]] = {
+    1: DataTooLongError,
+    2: OutOfMemoryError,
+    3: InvalidLevelError,
+    4: InvalidVersionsError,
+    5: InvalidPartCountError,
+    6: InvalidCutsError,
+    10: InvalidTextError,
+    11: InvalidVersionsError,
+    12: InvalidCharacterError,
+    13: NoElementsError,
+    14: InvalidIdentifierError,
+    15: UnknownIdentifierError,
+    16: EmptyValueError,
+    17: ValueTooLongError,
+    18: WrongLengthError,
+    19: WrongCheckDigitError,
+}

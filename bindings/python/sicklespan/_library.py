@@ -1,0 +1,47 @@
+"""`libsicklespan.so`, by ctypes: the functions of sicklespan.h, with their types.
+
+The library is the file that the environment variable SICKLESPAN_LIBRARY names, else the one beside
+this file, which a wheel has, else the one that the system finds.
+"""
+
+import ctypes
+import os
+from ctypes import POINTER, c_bool, c_char_p, c_int8, c_int32, c_size_t
+
+
+class Shape(ctypes.Structure):
+    """`sicklespan_shape`."""
+
+    _fields_ = [("width", c_int32), ("version", c_int32), ("mask", c_int32), ("micro", c_bool),
+                ("level", c_int8)]
+
+
+class Options(ctypes.Structure):
+    """`sicklespan_options`."""
+
+    _fields_ = [("level", c_int32), ("min_version", c_int32), ("max_version", c_int32),
+                ("strongest", c_int32)]
+
+
+def _opened() -> ctypes.CDLL:
+    named = os.environ.get("SICKLESPAN_LIBRARY")
+    beside = os.path.join(os.path.dirname(os.path.abspath(__file__)), "libsicklespan.so.0")
+    return ctypes.CDLL(named or (beside if os.path.exists(beside) else "libsicklespan.so.0"))
+
+
+def _declare(name: str, result: object, *arguments: object) -> None:
+    function = getattr(library, name)
+    function.restype, function.argtypes = result, arguments
+
+
+library = _opened()
+_AT_THE_END = (c_char_p, c_size_t, POINTER(Shape))
+for _name in ("sicklespan_bytes", "sicklespan_text", "sicklespan_elements", "sicklespan_gs1"):
+    _declare(_name, c_int32, c_char_p, c_size_t, POINTER(Options), *_AT_THE_END)
+_declare("sicklespan_micro", c_int32, c_char_p, c_size_t, c_int32, *_AT_THE_END)
+_declare("sicklespan_part_symbol", c_int32, c_char_p, c_size_t, POINTER(c_size_t), c_size_t,
+         c_int32, c_int32, c_size_t, *_AT_THE_END)
+_declare("sicklespan_status_text", c_char_p, c_int32)
+_declare("sicklespan_version", c_char_p)
+
+__version__: str = library.sicklespan_version().decode()

@@ -1,0 +1,172 @@
+"""The package through the library: sizes by the tables of ISO/IEC 18004, errors by the header.
+
+    python3 tests/test_sicklespan.py
+
+The last line is 'N passed, M failed'. The environment variable SICKLESPAN_LIBRARY names the
+library, where the package does not contain it.
+"""
+
+import io
+import os
+import sys
+import tempfile
+import threading
+import unittest
+
+HERE = os.path.dirname(os.path.abspath(__file__))
+if "SICKLESPAN_LIBRARY" in os.environ:
+    sys.path.insert(0, os.path.dirname(HERE))
+import sicklespan  # noqa: E402
+
+TOP = os.path.dirname(os.path.dirname(os.path.dirname(HERE)))
+
+
+def read(path):
+    with open(os.path.join(TOP, path), encoding="utf-8") as it:
+        return it.read()
+
+
+class Symbols(unittest.TestCase):
+    def test_hello(self):
+        # The proved program draws the same.
+        symbol = sicklespan.make("hello", "L", boost_error=False)
+        rows = "".join("".join(".#"[it] for it in row) + "\n" for row in symbol.matrix)
+        self.assertEqual(rows, read("crates/qrtext/stdout"))
+        self.assertEqual((symbol.version, symbol.level, symbol.error), (1, "L", "L"))
+        self.assertEqual((symbol.width, symbol.designator, symbol.is_micro), (21, "1-L", False))
+        self.assertIn(symbol.mask, range(8))
+        self.assertEqual(symbol, sicklespan.make(b"hello", "l", boost_error=False))
+        self.assertNotEqual(symbol, sicklespan.make("hellp", "L", boost_error=False))
+        self.assertEqual(sicklespan.__version__, read("VERSION").strip())
+
+    def test_levels(self):
+        # Version 1 holds 17, 14, 11 and 7 bytes at L, M, Q and H.
+        for count, level in ((17, "L"), (14, "M"), (11, "Q"), (7, "H")):
+            strongest = sicklespan.make(b"a" * count, "L")
+            self.assertEqual(strongest.designator, f"1-{level}")
+            self.assertEqual(sicklespan.make(b"a" * count, level, boost_error=False), strongest)
+        self.assertEqual(sicklespan.make(b"a" * 8, "H").designator, "2-H")
+
+    def test_versions(self):
+        self.assertEqual(sicklespan.make("a", version=7).version, 7)
+        self.assertEqual(sicklespan.make("a", min_version=3).version, 3)
+        self.assertEqual(sicklespan.make(b"a" * 2953, "L").version, 40)
+        with self.assertRaises(sicklespan.DataTooLongError):
+            sicklespan.make(b"a" * 2954, "L")
+        with self.assertRaises(sicklespan.DataTooLongError):
+            sicklespan.make(b"a" * 18, "L", max_version=1)
+        for least, most in ((0, 40), (1, 41), (3, 2), (2 ** 32 + 1, 40)):
+            with self.assertRaises(sicklespan.InvalidVersionsError):
+                sicklespan.make("a", min_version=least, max_version=most)
+        for level in ("", "X", "LM", "\u0130"):
+            with self.assertRaises(sicklespan.InvalidLevelError):
+                sicklespan.make("a", level)
+
+    def test_texts(self):
+        # Version 1 holds 17 bytes at L, and one less after the 12 bits of the ECI designator.
+        self.assertEqual(sicklespan.make("\u00fc" * 7 + "abc", "L").version, 2)
+        self.assertEqual(sicklespan.make("\u00fc" * 7 + "ab", "L").version, 1)
+        self.assertEqual(sicklespan.make(("\u00fc" * 7 + "abc").encode(), "L").version, 1)
+        self.assertEqual(sicklespan.make("", "L").version, 1)
+        with self.assertRaises(UnicodeEncodeError):
+            sicklespan.make("\ud800")
+
+    def test_elements(self):
+        written = sicklespan.gs1("(10)ABC(01)09506000134352(21)7")
+        self.assertEqual(written, sicklespan.elements(b"10ABC\x1d0109506000134352217"))
+        self.assertNotEqual(written, sicklespan.make(b"10ABC\x1d0109506000134352217"))
+        with self.assertRaises(sicklespan.InvalidCharacterError):
+            sicklespan.elements(b"10A B")
+        faults = {"10ABC": sicklespan.NoElementsError, "(1)2": sicklespan.InvalidIdentifierError,
+                  "(05)2": sicklespan.UnknownIdentifierError, "(10)": sicklespan.EmptyValueError,
+                  "(10)" + "A" * 91: sicklespan.ValueTooLongError,
+                  "(10)a b": sicklespan.InvalidCharacterError,
+                  "(01)1": sicklespan.WrongLengthError,
+                  "(01)09506000134353": sicklespan.WrongCheckDigitError}
+        for text, error in faults.items():
+            with self.assertRaises(error):
+                sicklespan.gs1(text)
+
+    def test_micro(self):
+        # Worked by hand from the steps of the standard.
+        symbol = sicklespan.micro("12345")
+        self.assertEqual((symbol.version, symbol.level, symbol.mask), ("M1", "L", 2))
+        self.assertEqual((symbol.width, symbol.is_micro), (11, True))
+        self.assertEqual(symbol.default_border_size, 2)
+        with self.assertRaises(sicklespan.InvalidLevelError) as raised:
+            sicklespan.micro("12345", "H")
+        self.assertEqual(str(raised.exception), "there is no such level")
+        with self.assertRaises(sicklespan.DataTooLongError):
+            sicklespan.micro("1" * 36)
+
+    def test_sequences(self):
+        symbols = sicklespan.sequence("one and two", [4, 8])
+        self.assertEqual(len(symbols), 3)
+        self.assertEqual(len(set(symbols)), 3)
+        for cuts, error in (([3, 2], sicklespan.InvalidCutsError),
+                            ([12], sicklespan.InvalidCutsError),
+                            ([], sicklespan.InvalidPartCountError),
+                            ([0] * 16, sicklespan.InvalidPartCountError)):
+            with self.assertRaises(error):
+                sicklespan.sequence("one and two", cuts)
+        with self.assertRaises(sicklespan.DataTooLongError):
+            sicklespan.sequence(b"a" * 40, [1], "H", max_version=1)
+        with self.assertRaises(sicklespan.InvalidVersionsError):
+            sicklespan.sequence("one and two", [4], max_version=0)
+
+    def test_threads(self):
+        wanted, drawn = sicklespan.make("threads"), []
+        threads = [threading.Thread(target=lambda: drawn.append(sicklespan.make("threads")))
+                   for _ in range(8)]
+        for it in threads:
+            it.start()
+        for it in threads:
+            it.join()
+        self.assertEqual(drawn, [wanted] * 8)
+
+
+class Pictures(unittest.TestCase):
+    def test_matrix_iter(self):
+        symbol = sicklespan.micro("1")
+        rows = list(symbol.matrix_iter(scale=3, border=1))
+        self.assertEqual(symbol.symbol_size(3, 1), (39, 39))
+        self.assertEqual([len(row) for row in rows], [39] * 39)
+        self.assertEqual([row[3:36:3] for row in rows[3:36:3]], list(symbol.matrix))
+        self.assertEqual(rows[0], bytes(39))
+        with self.assertRaises(ValueError):
+            symbol.symbol_size(1, -1)
+
+    def test_terminal(self):
+        lines = sicklespan.micro("1").terminal(border=0).split("\n")
+        self.assertEqual([len(line) for line in lines], [11] * 6)
+        # The upper left finder pattern: a ring of seven modules, and a square of three.
+        self.assertEqual([line[:7] for line in lines[:4]],
+                         ["\u2588\u2580\u2580\u2580\u2580\u2580\u2588",
+                          "\u2588 \u2588\u2588\u2588 \u2588",
+                          "\u2588 \u2580\u2580\u2580 \u2588",
+                          "\u2580" * 7])
+
+    def test_save(self):
+        symbol = sicklespan.make("hello", "L", boost_error=False)
+        with tempfile.TemporaryDirectory() as folder:
+            path = os.path.join(folder, "hello.txt")
+            symbol.save(path, border=0)
+            with open(path, encoding="ascii") as it:
+                self.assertEqual(it.read(), read("crates/qrtext/stdout"))
+        out = io.BytesIO()
+        symbol.save(out, "svg", scale=2)
+        text = out.getvalue().decode()
+        self.assertIn('width="58" height="58" viewBox="0 0 29 29"', text)
+        self.assertEqual(text.count("h1v1h-1z"), sum(map(sum, symbol.matrix)))
+        out = io.BytesIO()
+        symbol.save(out, "pbm")
+        self.assertEqual(out.getvalue().decode().split()[:4], ["P1", "29", "29", "0" * 29])
+        with self.assertRaises(ValueError):
+            symbol.save(out)
+
+
+if __name__ == "__main__":
+    ran = unittest.main(exit=False).result
+    bad = len(ran.failures) + len(ran.errors)
+    print(f"{ran.testsRun - bad} passed, {bad} failed")
+    sys.exit(bad > 0 or ran.testsRun == 0)
