@@ -20,6 +20,8 @@ int32_t qrcode_c_gs1(const uint8_t *text, size_t length, const sicklespan_option
 int32_t qrcode_c_part_symbol(const uint8_t *message, size_t length, const size_t *cuts,
                              size_t cut_count, int32_t level, int32_t max_version, size_t index,
                              uint8_t *modules, size_t room, sicklespan_shape *shape);
+int32_t qrcode_c_cuts(const uint8_t *message, size_t length, int32_t level, int32_t max_version,
+                      size_t *cuts, size_t room, size_t *count);
 size_t qrcode_c_greatest_size(void);
 int32_t qrcode_c_version_of_width(size_t width);
 
@@ -129,6 +131,17 @@ int32_t sicklespan_part_symbol(const uint8_t *message, size_t length, const size
     if (modules == NULL) modules = (uint8_t *)&nowhere;
     return qrcode_c_part_symbol(message, length, cuts, cut_count, level, max_version, index,
                                 modules, room, shape);
+}
+
+int32_t sicklespan_cuts(const void *message, size_t length, int32_t level, int32_t max_version,
+                        size_t *cuts, size_t room, size_t *count) {
+    room = least(room, SICKLESPAN_MAX_CUTS);
+    struct span input = {message, length}, nothing = {NULL, 0};
+    struct span found = {cuts, room * sizeof *cuts}, number = {count, sizeof *count};
+    if (!are_good(input, nothing, found, number)) return SICKLESPAN_INVALID_POINTER;
+    size_t *const to = cuts == NULL ? &nowhere : cuts;
+    const void *const from = message == NULL ? &nowhere : message;
+    return qrcode_c_cuts(from, length, level, max_version, to, room, count);
 }
 
 size_t sicklespan_greatest_size(void) { return qrcode_c_greatest_size(); }

@@ -159,6 +159,23 @@ int32_t sicklespan_part_symbol(const uint8_t *message, size_t length, const size
                                size_t cut_count, int32_t level, int32_t max_version, size_t index,
                                uint8_t *modules, size_t room, sicklespan_shape *shape);
 
+/* The symbols of a sequence are at most 16, so that a buffer for 15 cuts is never too short. */
+#define SICKLESPAN_MAX_CUTS 15
+
+/*
+ * The cuts by which sicklespan_part_symbol needs the fewest symbols of versions up to
+ * `max_version`. They are written to `cuts`, which has `room` places, and their number to `count`;
+ * the places after them keep their values. A message that fits one symbol after a header has no
+ * cuts, and needs no sequence. No pair of the Kanji mode is cut.
+ *
+ * SICKLESPAN_INVALID_POINTER as above, of the first SICKLESPAN_MAX_CUTS places of `cuts` and of
+ * `count`; SICKLESPAN_INVALID_LEVEL, SICKLESPAN_INVALID_MAX_VERSION, SICKLESPAN_DATA_TOO_LONG
+ * (exactly where no cuts make at most 16 parts that fit), SICKLESPAN_OUT_OF_MEMORY,
+ * SICKLESPAN_SHORT_BUFFER.
+ */
+int32_t sicklespan_cuts(const void *message, size_t length, int32_t level, int32_t max_version,
+                        size_t *cuts, size_t room, size_t *count);
+
 /* SICKLESPAN_MAX_SIZE, for callers that do not read this file. */
 size_t sicklespan_greatest_size(void);
 

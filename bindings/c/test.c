@@ -73,6 +73,16 @@ int32_t __real_qrcode_c_micro_symbol(const uint8_t *, size_t, int32_t, uint8_t *
         return __real_##name(data, length, options, out, room, to);                                \
     }
 
+int32_t __real_qrcode_c_cuts(const uint8_t *, size_t, int32_t, int32_t, size_t *, size_t, size_t *);
+
+int32_t __wrap_qrcode_c_cuts(const uint8_t *message, size_t length, int32_t level,
+                             int32_t max_version, size_t *cuts, size_t room, size_t *count) {
+    EXPECT_SLICE(message, length);
+    EXPECT_SLICE(cuts, room);
+    EXPECT_SLICE(count, 1);
+    return __real_qrcode_c_cuts(message, length, level, max_version, cuts, room, count);
+}
+
 SEES_ASKED(qrcode_c_bytes)
 SEES_ASKED(qrcode_c_text)
 SEES_ASKED(qrcode_c_elements)
@@ -428,9 +438,9 @@ static void test_allocations(void) {
 
 int main(void) {
     void (*const tests[])(void) = {
-        test_pointers, test_overlaps, test_neighbours,  test_lengths,          test_asks,
-        test_room,     test_words,    test_allocations, test_asked_pointers,   test_asked_overlaps,
-        test_options,  test_contents, test_micro,       test_asked_allocations};
+        test_pointers, test_overlaps, test_neighbours,  test_lengths,           test_asks,
+        test_room,     test_words,    test_allocations, test_asked_pointers,    test_asked_overlaps,
+        test_options,  test_contents, test_micro,       test_asked_allocations, test_cuts};
     int passed = 0, failed = 0;
     /* What a row prints is not lost where the next call ends the program. */
     setbuf(stdout, NULL);

@@ -205,3 +205,64 @@ static void test_asked_allocations(void) {
     fail_allocations(draw_elements);
     fail_allocations(draw_gs1);
 }
+
+/* Cuts, in a block with places before and behind them. */
+enum { CUTS_BEFORE = 4 };
+static size_t places[CUTS_BEFORE + SICKLESPAN_MAX_CUTS + 4], *const cuts = places + CUTS_BEFORE;
+static size_t cut_count;
+static uint8_t long_message[4000];
+
+/* A call, after all places are set to a value. */
+static int32_t cuts_of(const void *message, size_t length, int32_t level, int32_t max_version,
+                       size_t *to, size_t room, size_t *count) {
+    for (size_t i = 0; i < sizeof places / sizeof *places; i++) places[i] = 77;
+    cut_count = 88;
+    return sicklespan_cuts(message, length, level, max_version, to, room, count);
+}
+
+/* Nothing was written but the first places. */
+static int are_kept_from(size_t place) {
+    for (size_t i = 0; i < sizeof places / sizeof *places; i++) {
+        if ((i < CUTS_BEFORE || i >= CUTS_BEFORE + place) && places[i] != 77) return 0;
+    }
+    return place > 0 || cut_count == 88;
+}
+
+static int32_t find_cuts(void) {
+    clear();
+    return cuts_of(long_message, 6, SICKLESPAN_LEVEL_H, 1, cuts, SICKLESPAN_MAX_CUTS, &cut_count);
+}
+
+static void test_cuts(void) {
+    enum { MOST = SICKLESPAN_MAX_CUTS };
+    memset(long_message, 'a', sizeof long_message);
+    /* After 20 bits of a header, version 1 holds 5 bytes at H, and version 40 2951 at L. */
+    EXPECT(find_cuts() == SICKLESPAN_OK && cut_count == 1 && cuts[0] == 5 && are_kept_from(1));
+    EXPECT(cuts_of(long_message, 80, 3, 1, cuts, MOST, &cut_count) == SICKLESPAN_OK);
+    EXPECT(cut_count == 15 && cuts[14] == 75 && are_kept_from(15));
+    EXPECT(cuts_of(long_message, 80, 3, 1, cuts, SIZE_MAX, &cut_count) == SICKLESPAN_OK);
+    EXPECT(cuts_of(long_message, 80, 3, 1, cuts, 14, &cut_count) == SICKLESPAN_SHORT_BUFFER &&
+           are_kept_from(0));
+    EXPECT(cuts_of(long_message, 81, 3, 1, cuts, MOST, &cut_count) == SICKLESPAN_DATA_TOO_LONG &&
+           are_kept_from(0));
+    EXPECT(cuts_of(long_message, 2951, 0, 40, NULL, 0, &cut_count) == SICKLESPAN_OK &&
+           cut_count == 0);
+    EXPECT(cuts_of(long_message, 2952, 0, 40, cuts, 1, &cut_count) == SICKLESPAN_OK &&
+           cut_count == 1 && are_kept_from(1));
+    EXPECT(cuts_of(word, 4, 4, 0, cuts, MOST, &cut_count) == SICKLESPAN_INVALID_LEVEL);
+    EXPECT(cuts_of(word, 4, 0, 0, cuts, MOST, &cut_count) == SICKLESPAN_INVALID_MAX_VERSION);
+    EXPECT(cuts_of(word, 4, 0, 41, cuts, MOST, &cut_count) == SICKLESPAN_INVALID_MAX_VERSION);
+    EXPECT(cuts_of(NULL, 0, 0, 1, cuts, MOST, &cut_count) == SICKLESPAN_OK && cut_count == 0);
+
+    const int32_t refused = SICKLESPAN_INVALID_POINTER;
+    EXPECT(cuts_of(NULL, 1, 0, 1, cuts, MOST, &cut_count) == refused && are_kept_from(0));
+    EXPECT(cuts_of(word, (size_t)PTRDIFF_MAX + 1, 0, 1, cuts, MOST, &cut_count) == refused);
+    EXPECT(cuts_of(word, 5, 0, 1, NULL, 1, &cut_count) == refused && are_kept_from(0));
+    EXPECT(cuts_of(word, 5, 0, 1, cuts, MOST, NULL) == refused && are_kept_from(0));
+    EXPECT(cuts_of(word, 5, 0, 1, cuts, SIZE_MAX, cuts + MOST - 1) == refused && are_kept_from(0));
+    EXPECT(cuts_of(word, 5, 0, 1, cuts, SIZE_MAX, cuts + MOST) == SICKLESPAN_OK && cuts[MOST] == 0);
+    EXPECT(cuts_of((uint8_t *)(cuts + 2) - 1, 1, 0, 1, cuts, 2, &cut_count) == refused);
+    EXPECT(cuts_of(cuts + 2, 8, 0, 1, cuts, 2, &cut_count) == SICKLESPAN_OK && cut_count == 0);
+    EXPECT(cuts_of((uint8_t *)(&cut_count + 1) - 1, 1, 0, 1, cuts, 2, &cut_count) == refused);
+    fail_allocations(find_cuts);
+}

@@ -24,13 +24,16 @@ def _version(number: int) -> int:
     return number
 
 
-def _drawn(call: Callable[..., int], *arguments: object) -> Symbol:
-    """What a call of the library draws."""
-    modules, shape = ctypes.create_string_buffer(_SIZE), Shape()
-    status = call(*arguments, modules, _SIZE, ctypes.byref(shape))
+def _check(status: int) -> None:
     if status != 0:
         text = library.sicklespan_status_text(status).decode()
         raise ERRORS.get(status, SicklespanError)(text)
+
+
+def _drawn(call: Callable[..., int], *arguments: object) -> Symbol:
+    """What a call of the library draws."""
+    modules, shape = ctypes.create_string_buffer(_SIZE), Shape()
+    _check(call(*arguments, modules, _SIZE, ctypes.byref(shape)))
     return Symbol(ctypes.string_at(modules, shape.width ** 2), shape)
 
 
@@ -83,15 +86,26 @@ def micro(content: Union[str, bytes], error: str = "L") -> Symbol:
     return _drawn(library.sicklespan_micro, data, len(data), _number(error))
 
 
-def sequence(content: Union[str, bytes], cuts: Sequence[int], error: str = "M", *,
-             max_version: int = 40) -> List[Symbol]:
-    """The 2 to 16 symbols that carry a message together (Structured Append).
+def _best_cuts(data: bytes, level: int, limit: int) -> List[int]:
+    found, count = (ctypes.c_size_t * 15)(), ctypes.c_size_t()
+    _check(library.sicklespan_cuts(data, len(data), level, limit, found, 15, ctypes.byref(count)))
+    return found[:count.value]
 
-    Part i ends before byte `cuts[i]`, and the last one at the end of the message.
+
+def sequence(content: Union[str, bytes], cuts: Optional[Sequence[int]] = None, error: str = "M", *,
+             max_version: int = 40) -> List[Symbol]:
+    """The symbols that carry a message together (Structured Append), in versions up to a greatest.
+
+    Part i ends before byte `cuts[i]`, and the last one at the end of the message. Where no cuts are
+    given, the symbols are as few as can be; if one is enough, it is no part of a sequence.
     """
     data = content.encode() if isinstance(content, str) else content
-    places = (ctypes.c_size_t * len(cuts))(*cuts)
     level, limit = _number(error), _version(max_version)
+    if cuts is None:
+        cuts = _best_cuts(data, level, limit)
+        if not cuts:
+            return [make(data, error, max_version=limit, boost_error=False)]
+    places = (ctypes.c_size_t * len(cuts))(*cuts)
     return [_drawn(library.sicklespan_part_symbol, data, len(data), places, len(cuts), level, limit,
                    index)
             for index in range(len(cuts) + 1)]

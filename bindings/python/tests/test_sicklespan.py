@@ -103,6 +103,13 @@ class Symbols(unittest.TestCase):
         symbols = sicklespan.sequence("one and two", [4, 8])
         self.assertEqual(len(symbols), 3)
         self.assertEqual(len(set(symbols)), 3)
+        # After the 20 bits of a header, version 1 holds 5 bytes at level H, and 7 without one.
+        self.assertEqual(sicklespan.sequence("one and two", error="H", max_version=1),
+                         sicklespan.sequence("one and two", [5, 10], "H", max_version=1))
+        self.assertEqual(sicklespan.sequence("four", error="H", max_version=1),
+                         [sicklespan.make("four", "H")])
+        with self.assertRaises(sicklespan.DataTooLongError):
+            sicklespan.sequence("a" * 81, error="H", max_version=1)
         for cuts, error in (([3, 2], sicklespan.InvalidCutsError),
                             ([12], sicklespan.InvalidCutsError),
                             ([], sicklespan.InvalidPartCountError),

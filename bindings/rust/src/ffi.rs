@@ -86,6 +86,15 @@ extern "C" {
         room: usize,
         shape: *mut Shape,
     ) -> i32;
+    fn sicklespan_cuts(
+        message: *const u8,
+        length: usize,
+        level: i32,
+        max_version: i32,
+        cuts: *mut usize,
+        room: usize,
+        count: *mut usize,
+    ) -> i32;
     fn sicklespan_greatest_size() -> usize;
     fn sicklespan_version_of_width(width: usize) -> i32;
     fn sicklespan_status_text(status: i32) -> *const c_char;
@@ -145,6 +154,26 @@ pub fn part_symbol(
             modules.as_mut_ptr(),
             modules.len(),
             shape,
+        )
+    }
+}
+
+pub fn cuts(
+    message: &[u8],
+    level: i32,
+    max_version: i32,
+    cuts: &mut [usize],
+    count: &mut usize,
+) -> i32 {
+    unsafe {
+        sicklespan_cuts(
+            message.as_ptr(),
+            message.len(),
+            level,
+            max_version,
+            cuts.as_mut_ptr(),
+            cuts.len(),
+            count,
         )
     }
 }

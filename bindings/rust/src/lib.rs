@@ -30,6 +30,32 @@ pub fn version() -> &'static str {
     ffi::version()
 }
 
+/// Returns the places at which to cut a message so that `Symbol::sequence` needs the fewest symbols
+/// of versions up to the greatest: at most 15, and none where the message fits one symbol after a
+/// header, and needs no sequence. No pair of the Kanji mode is cut.
+///
+/// ```
+/// use sicklespan::{best_cuts, Level, Symbol};
+///
+/// // After the 20 bits of a header, version 1 holds 5 bytes at level H.
+/// let cuts = best_cuts(b"one and two", Level::H, 1)?;
+/// assert_eq!(cuts, [5, 10]);
+/// assert_eq!(Symbol::sequence(b"one and two", &cuts, Level::H, 1)?.len(), 3);
+/// # Ok::<(), sicklespan::Error>(())
+/// ```
+///
+/// # Errors
+///
+/// `InvalidMaxVersion`; then `DataTooLong` exactly where no cuts make at most 16 parts that fit, and
+/// `OutOfMemory`.
+pub fn best_cuts(message: &[u8], level: Level, max_version: u8) -> Result<Vec<usize>, Error> {
+    let (mut cuts, mut count) = ([0; 15], 0);
+    match ffi::cuts(message, level as i32, max_version.into(), &mut cuts, &mut count) {
+        0 => Ok(cuts[..count].to_vec()),
+        status => Err(Error::of(status)),
+    }
+}
+
 /// How much damage can be corrected: about 7, 15, 25 and 30 percent of a symbol.
 #[derive(Clone, Copy, Debug, PartialEq, Eq, PartialOrd, Ord, Hash)]
 pub enum Level {

@@ -1,7 +1,7 @@
 //! Symbols through the library: sizes by the standard's table of capacities, grids by those of the
 //! original crate.
 use answers::Answer;
-use sicklespan::{Error, Level, Options, Symbol, Version};
+use sicklespan::{best_cuts, Error, Level, Options, Symbol, Version};
 
 mod answers;
 
@@ -150,6 +150,21 @@ fn draws_sequences() {
     assert_eq!(Symbol::sequence(message, &[], Level::L, 40), Err(Error::InvalidPartCount));
     assert_eq!(Symbol::sequence(message, &[0; 16], Level::L, 40), Err(Error::InvalidPartCount));
     assert_eq!(Symbol::sequence(message, &[0], Level::L, 1), Err(Error::DataTooLong));
+}
+
+#[test]
+fn finds_cuts() {
+    // After the 20 bits of a header, version 40 holds 2951 bytes at level L, and version 1 holds 5
+    // at level H.
+    let message = vec![b'a'; 16 * 2951];
+    for (count, cuts) in [(2951, 0), (2952, 1), (2 * 2951 + 1, 2), (16 * 2951, 15)] {
+        let found = best_cuts(&message[..count], Level::L, 40).unwrap();
+        assert_eq!(found, (1..=cuts).map(|i| i * 2951).collect::<Vec<_>>());
+    }
+    assert_eq!(best_cuts(&message[..80], Level::H, 1).unwrap().len(), 15);
+    assert_eq!(best_cuts(&message[..81], Level::H, 1), Err(Error::DataTooLong));
+    assert_eq!(best_cuts(b"a", Level::H, 0), Err(Error::InvalidMaxVersion));
+    assert_eq!(best_cuts(b"a", Level::H, 41), Err(Error::InvalidMaxVersion));
 }
 
 #[test]

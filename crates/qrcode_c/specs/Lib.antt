@@ -4,3 +4,4 @@ pub mod Statuses
 pub mod Asking
 pub mod Holding
 pub mod Refusals
+pub mod Cuts

@@ -10,12 +10,13 @@ ghost use Rattle.std.specs.Prelude.{◌≡◌, ◌≢◌, ◌*◌, pos, length, 
 ghost use Rattle.std.specs.Str.{IsUtf8};
 ghost use Rattle.qrcode_bits.specs.Contents.{AreElements};
 ghost use Rattle.qrcode_bits.specs.Frame.{front_of, no_front};
-ghost use Rattle.qrcode_bits.specs.declared.bits.front.Content.TheVariants.{Elements, Text};
+ghost use Rattle.qrcode_bits.specs.declared.bits.front.Content.TheVariants.{Bytes, Elements, Text};
 ghost use Rattle.qrcode_core.specs.Headline.{IsBestSymbol, IsBestMicroSymbol};
 ghost use Rattle.qrcode_base.specs.declared.types.Version.{Version};
 ghost use Rattle.qrcode_base.specs.Symbols.{IsVersion, width_of};
 ghost use Rattle.qrcode_c.specs.Asking.{IsDataRefusal, IsTextRefusal, IsElementsRefusal};
 ghost use Rattle.qrcode_c.specs.Asking.{IsWrittenRefusal, Writes};
+ghost use Rattle.qrcode_c.specs.Cuts.{HoldsCuts, IsCutsStatus};
 ghost use Rattle.qrcode_c.specs.Holding.{HoldsAsked, HoldsBest, HoldsPart};
 ghost use Rattle.qrcode_c.specs.Refusals.{IsStatusOf};
 ghost use Rattle.qrcode_c.specs.Refusals.{IsSymbolRefusal, IsMicroRefusal, IsPartRefusal};
@@ -28,6 +29,7 @@ pub use shape::Shape;
 use std::alloc::Global;
 
 mod asking;
+mod cuts;
 mod drawing;
 mod options;
 mod refusal;
@@ -248,6 +250,40 @@ pub extern "C" fn qrcode_c_part_symbol(
     match drawing::part_symbol(alloc, message, cuts, level, max_version, index, modules) {
         Ok(drawn) => {
             *shape = drawn;
+            DONE
+        }
+        Err(refusal) => refusal.status(),
+    }
+}
+
+/// Writes the places at which to cut a message so that `qrcode_c_part_symbol` draws it in the fewest
+/// symbols of versions up to the greatest, and their number. The numbers of `cuts` after these keep
+/// their values. A message that fits one symbol after a header has no cuts, and there are at most
+/// 15. Returns `DONE`.
+///
+/// # Errors
+///
+/// On an error nothing is written. The status is, in this order: `InvalidLevel`;
+/// `InvalidMaxVersion`; `DataTooLong` exactly where no cuts make at most 16 parts that fit;
+/// `OutOfMemory` where an allocation failed; `ShortBuffer`.
+#[unsafe(no_mangle)]
+pub extern "C" fn qrcode_c_cuts(
+    alloc: Global,
+    message: &[u8],
+    level: i32,
+    max_version: i32,
+    cuts: &mut [usize],
+    count: &mut usize,
+) -> i32
+    ensures done { result ≡ DONE →
+        HoldsCuts Bytes message.now level max_version cuts.old cuts.new count.new }
+    ensures refused { result ≢ DONE → IsStatusOf
+        (IsCutsStatus Bytes message.now level max_version (length cuts.old)) result }
+    ensures kept { result ≢ DONE → (cuts.new ≡ cuts.old) × (count.new ≡ count.old) }
+{
+    match cuts::cuts_of(alloc, message, level, max_version, cuts) {
+        Ok(found) => {
+            *count = found;
             DONE
         }
         Err(refusal) => refusal.status(),

@@ -1,7 +1,7 @@
 //! Tests of each exported function, where memory is ample.
 use crate::{
-    DONE, Options, Shape, qrcode_c_bytes, qrcode_c_elements, qrcode_c_greatest_size, qrcode_c_gs1,
-    qrcode_c_micro_symbol, qrcode_c_part_symbol, qrcode_c_symbol, qrcode_c_text,
+    DONE, Options, Shape, qrcode_c_bytes, qrcode_c_cuts, qrcode_c_elements, qrcode_c_greatest_size,
+    qrcode_c_gs1, qrcode_c_micro_symbol, qrcode_c_part_symbol, qrcode_c_symbol, qrcode_c_text,
     qrcode_c_version_of_width,
 };
 use std::alloc::Global;
@@ -131,6 +131,19 @@ fn refused_gs1(alloc: Global, text: &[u8]) -> Option<i32> {
     } else {
         None
     }
+}
+
+#[test]
+fn finds_cuts(rt: HostRuntime) {
+    let (mut cuts, mut count) = ([7; 3], 9);
+    // After the 20 bits of a header, version 1 holds 5 bytes at level H.
+    let status = qrcode_c_cuts(rt.alloc(), b"one and two", 3, 1, &mut cuts, &mut count);
+    assert_eq!(rt; (status, count), (DONE, 2));
+    assert_eq!(rt; cuts, [5, 10, 7]);
+    let status = qrcode_c_cuts(rt.alloc(), &MANY[..81], 3, 1, &mut cuts, &mut count);
+    assert_eq!(rt; (status, count), (1, 2));
+    let status = qrcode_c_cuts(rt.alloc(), &MANY[..80], 3, 1, &mut cuts, &mut count);
+    assert_eq!(rt; (status, count), (8, 2));
 }
 
 #[test]
