@@ -17,3 +17,4 @@ pub mod Zpl
 pub mod PngPixels
 pub mod Resolutions
 pub mod Drawings
+pub mod Asked
