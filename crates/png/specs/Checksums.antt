@@ -1,5 +1,6 @@
 -- CRC-32 (ISO/IEC 15948, annex D) and Adler-32 (RFC 1950, 8.2), as functions on lists of bytes.
-use Rattle.std.specs.Prelude.{ℕ, zero, suc, ◌+◌, ◌*◌, ◌/◌, ◌%◌, ◌==◌, List, fold, bit_xor, if◌then◌else◌}
+use Rattle.std.specs.Prelude.{ℕ, zero, suc, ◌+◌, ◌*◌, ◌/◌, ◌%◌, ◌==◌, List, fold, bit_xor}
+use Rattle.std.specs.Prelude.{if◌then◌else◌}
 
 -- the register after one more bit
 abbrev pub crc_bit : ℕ → ℕ
@@ -23,7 +24,10 @@ pub record Sums : Type 0 where
   pub high : ℕ
 
 abbrev pub sums_step : Sums → ℕ → Sums
-sums_step s byte = record { low = (s.low + byte) % 65521; high = (s.high + (s.low + byte) % 65521) % 65521 }
+sums_step s byte = record {
+  low = (s.low + byte) % 65521;
+  high = (s.high + (s.low + byte) % 65521) % 65521;
+}
 
 abbrev pub sums_of : List ℕ → Sums
 sums_of bytes = fold sums_step (record { low = 1; high = 0 }) bytes
