@@ -34,7 +34,7 @@ pub record Means (asked : Options) (options : SymbolOptions) : Type 0 where
   pub strongest_is : (options.strongest ≡ true) ↔ (asked.strongest ≢ pos 0)
 
 -- The numbers mean options whose versions are a range, and of which the fact is true.
-pub record Asks (asked : Options) (fact : SymbolOptions → Type 0) : Type 0 where
+pub record AsksFor (asked : Options) (fact : SymbolOptions → Type 0) : Type 0 where
   pub options : SymbolOptions
   pub means : Means asked options
   pub versions : HasVersions options
@@ -50,31 +50,31 @@ IsAskRefusal asked other = ⊥
 -- The errors of a call for data of one content, and when each is returned: first those of the
 -- options; then no plan of the data fits the greatest version; the number of bytes is one for which
 -- memory is needed; the symbol that is asked for has more modules than the buffer has bytes.
-abbrev pub IsDataRefusal : Front → List ℕ → Options → ℕ → Refusal → Type 0
-IsDataRefusal front bytes asked room DataTooLong =
-    Asks asked (λ options. IsOptionsRefusal options front bytes TooLong)
-IsDataRefusal front bytes asked room OutOfMemory =
-    Asks asked (λ options. IsOptionsRefusal options front bytes NoMemory)
-IsDataRefusal front bytes asked room ShortBuffer =
-    Asks asked (λ options. IsAbove room (IsAsAsked options front bytes))
-IsDataRefusal front bytes asked room refusal = IsAskRefusal asked refusal
+abbrev pub IsAskedRefusal : Front → List ℕ → Options → ℕ → Refusal → Type 0
+IsAskedRefusal front bytes asked room DataTooLong =
+    AsksFor asked (λ options. IsOptionsRefusal options front bytes TooLong)
+IsAskedRefusal front bytes asked room OutOfMemory =
+    AsksFor asked (λ options. IsOptionsRefusal options front bytes NoMemory)
+IsAskedRefusal front bytes asked room ShortBuffer =
+    AsksFor asked (λ options. IsAbove room (IsAsAsked options front bytes))
+IsAskedRefusal front bytes asked room refusal = IsAskRefusal asked refusal
 
 -- The same for a text: after the options, the bytes are tested to be UTF-8.
-abbrev pub IsTextRefusal : List ℕ → Options → ℕ → Refusal → Type 0
-IsTextRefusal text asked room InvalidLevel = IsAskRefusal asked InvalidLevel
-IsTextRefusal text asked room InvalidVersions = IsAskRefusal asked InvalidVersions
-IsTextRefusal text asked room InvalidText = Asks asked (λ options. IsUtf8 text → ⊥)
-IsTextRefusal text asked room refusal =
-    IsUtf8 text × IsDataRefusal (front_of None Text) text asked room refusal
+abbrev pub IsAskedTextRefusal : List ℕ → Options → ℕ → Refusal → Type 0
+IsAskedTextRefusal text asked room InvalidLevel = IsAskRefusal asked InvalidLevel
+IsAskedTextRefusal text asked room InvalidVersions = IsAskRefusal asked InvalidVersions
+IsAskedTextRefusal text asked room InvalidText = AsksFor asked (λ options. IsUtf8 text → ⊥)
+IsAskedTextRefusal text asked room refusal =
+    IsUtf8 text × IsAskedRefusal (front_of None Text) text asked room refusal
 
 -- The same for GS1 elements: after the options, the bytes are tested to be elements.
-abbrev pub IsElementsRefusal : List ℕ → Options → ℕ → Refusal → Type 0
-IsElementsRefusal elements asked room InvalidLevel = IsAskRefusal asked InvalidLevel
-IsElementsRefusal elements asked room InvalidVersions = IsAskRefusal asked InvalidVersions
-IsElementsRefusal elements asked room InvalidCharacter =
-    Asks asked (λ options. AreElements elements → ⊥)
-IsElementsRefusal elements asked room refusal =
-    AreElements elements × IsDataRefusal (front_of None Elements) elements asked room refusal
+abbrev pub IsAskedElementsRefusal : List ℕ → Options → ℕ → Refusal → Type 0
+IsAskedElementsRefusal elements asked room InvalidLevel = IsAskRefusal asked InvalidLevel
+IsAskedElementsRefusal elements asked room InvalidVersions = IsAskRefusal asked InvalidVersions
+IsAskedElementsRefusal elements asked room InvalidCharacter =
+    AsksFor asked (λ options. AreElements elements → ⊥)
+IsAskedElementsRefusal elements asked room refusal =
+    AreElements elements × IsAskedRefusal (front_of None Elements) elements asked room refusal
 
 -- ---- GS1 elements as people write them
 
@@ -97,7 +97,7 @@ TellsFault text refusal =
 
 -- The text writes elements, in whose bytes a reader finds them and no others, and of which the fact
 -- is true.
-pub record Writes (text : List ℕ) (fact : List ℕ → Type 0) : Type 0 where
+pub record WritesElements (text : List ℕ) (fact : List ℕ → Type 0) : Type 0 where
   pub elements : List ℕ
   pub found : FindsOnly elements (written_elements text)
   pub true_of : fact elements
@@ -107,10 +107,12 @@ pub record Writes (text : List ℕ) (fact : List ℕ → Type 0) : Type 0 where
 abbrev pub IsWrittenRefusal : List ℕ → Options → ℕ → Refusal → Type 0
 IsWrittenRefusal text asked room InvalidLevel = IsAskRefusal asked InvalidLevel
 IsWrittenRefusal text asked room InvalidVersions = IsAskRefusal asked InvalidVersions
-IsWrittenRefusal text asked room InvalidText = Asks asked (λ options. IsUtf8 text → ⊥)
+IsWrittenRefusal text asked room InvalidText = AsksFor asked (λ options. IsUtf8 text → ⊥)
 IsWrittenRefusal text asked room DataTooLong =
-    Writes text (λ elements. IsDataRefusal (front_of None Elements) elements asked room DataTooLong)
+    WritesElements text (λ elements.
+    IsAskedRefusal (front_of None Elements) elements asked room DataTooLong)
 IsWrittenRefusal text asked room ShortBuffer =
-    Writes text (λ elements. IsDataRefusal (front_of None Elements) elements asked room ShortBuffer)
-IsWrittenRefusal text asked room OutOfMemory = Asks asked (λ options. text_fault text ≡ None)
-IsWrittenRefusal text asked room refusal = Asks asked (λ options. TellsFault text refusal)
+    WritesElements text (λ elements.
+    IsAskedRefusal (front_of None Elements) elements asked room ShortBuffer)
+IsWrittenRefusal text asked room OutOfMemory = AsksFor asked (λ options. text_fault text ≡ None)
+IsWrittenRefusal text asked room refusal = AsksFor asked (λ options. TellsFault text refusal)

@@ -12,7 +12,7 @@ use Rattle.qrcode_core.specs.Options.{IsAsAsked}
 use Rattle.qrcode_core.specs.declared.options.SymbolOptions.{SymbolOptions}
 use Rattle.qrcode_c.specs.declared.options.Options.{Options}
 use Rattle.qrcode_c.specs.declared.shape.Shape.{Shape}
-use Rattle.qrcode_c.specs.Asking.{Asks}
+use Rattle.qrcode_c.specs.Asking.{AsksFor}
 use Rattle.qrcode_c.specs.Levels.{level_argument}
 use Rattle.qrcode_c.specs.Shapes.{shape_of}
 use Rattle.qrcode_bits.specs.declared.bits.front.Content.TheVariants.{Bytes}
@@ -47,7 +47,7 @@ pub record IsDrawnAs (front : Front) (bytes before after : List ℕ) (shape : Sh
 -- The buffer and the shape hold the symbol that the options of the caller ask for.
 abbrev pub HoldsAsked : Front → List ℕ → Options → List ℕ → List ℕ → Shape → Type 0
 HoldsAsked front bytes asked before after shape =
-    Asks asked (IsDrawnAs front bytes before after shape)
+    AsksFor asked (IsDrawnAs front bytes before after shape)
 
 -- The buffer and the shape hold the symbol at an index of those that carry a message together.
 pub record HoldsPart (message cuts : List ℕ) (number limit : ℤ) (index : ℕ)

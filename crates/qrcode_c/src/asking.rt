@@ -7,8 +7,8 @@ ghost use Rattle.std.specs.Str.{IsUtf8};
 ghost use Rattle.qrcode_bits.specs.Contents.{AreElements};
 ghost use Rattle.qrcode_bits.specs.Frame.{front_of, no_front};
 ghost use Rattle.qrcode_bits.specs.declared.bits.front.Content.TheVariants.{Elements, Text};
-ghost use Rattle.qrcode_c.specs.Asking.{IsDataRefusal, IsTextRefusal, IsElementsRefusal};
-ghost use Rattle.qrcode_c.specs.Asking.{IsWrittenRefusal, Writes, told};
+ghost use Rattle.qrcode_c.specs.Asking.{IsAskedRefusal, IsAskedTextRefusal, IsAskedElementsRefusal};
+ghost use Rattle.qrcode_c.specs.Asking.{IsWrittenRefusal, WritesElements, told};
 ghost use Rattle.qrcode_c.specs.Holding.{HoldsAsked};
 
 use crate::drawing::write;
@@ -30,7 +30,7 @@ pub fn bytes_symbol(
     ensures held { IfOk result
         (HoldsAsked no_front bytes.now options.now modules.old modules.new) }
     ensures refused { IfErr result
-        (IsDataRefusal no_front bytes.now options.now (length modules.old)) }
+        (IsAskedRefusal no_front bytes.now options.now (length modules.old)) }
     ensures kept { OnErr result (modules.new ≡ modules.old) }
 {
     let checked = options_of(options)?;
@@ -52,7 +52,7 @@ pub fn text_symbol(
         (HoldsAsked (front_of None Text) text.now options.now modules.old modules.new) }
     ensures valid { OnOk result (IsUtf8 text.now) }
     ensures refused { IfErr result
-        (IsTextRefusal text.now options.now (length modules.old)) }
+        (IsAskedTextRefusal text.now options.now (length modules.old)) }
     ensures kept { OnErr result (modules.new ≡ modules.old) }
 {
     let checked = options_of(options)?;
@@ -77,7 +77,7 @@ pub fn elements_symbol(
         (HoldsAsked (front_of None Elements) elements.now options.now modules.old modules.new) }
     ensures valid { OnOk result (AreElements elements.now) }
     ensures refused { IfErr result
-        (IsElementsRefusal elements.now options.now (length modules.old)) }
+        (IsAskedElementsRefusal elements.now options.now (length modules.old)) }
     ensures kept { OnErr result (modules.new ≡ modules.old) }
 {
     let checked = options_of(options)?;
@@ -97,7 +97,7 @@ pub fn written_symbol(
     options: &Options,
     modules: &mut [u8],
 ) -> Result<Shape, Refusal>
-    ensures held { IfOk result (λ shape. Writes text.now (λ elements.
+    ensures held { IfOk result (λ shape. WritesElements text.now (λ elements.
         HoldsAsked (front_of None Elements) elements options.now modules.old modules.new shape)) }
     ensures refused { IfErr result
         (IsWrittenRefusal text.now options.now (length modules.old)) }

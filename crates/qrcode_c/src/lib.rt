@@ -14,8 +14,8 @@ ghost use Rattle.qrcode_bits.specs.declared.bits.front.Content.TheVariants.{Byte
 ghost use Rattle.qrcode_core.specs.Headline.{IsBestSymbol, IsBestMicroSymbol};
 ghost use Rattle.qrcode_base.specs.declared.types.Version.{Version};
 ghost use Rattle.qrcode_base.specs.Symbols.{IsVersion, width_of};
-ghost use Rattle.qrcode_c.specs.Asking.{IsDataRefusal, IsTextRefusal, IsElementsRefusal};
-ghost use Rattle.qrcode_c.specs.Asking.{IsWrittenRefusal, Writes};
+ghost use Rattle.qrcode_c.specs.Asking.{IsAskedRefusal, IsAskedTextRefusal, IsAskedElementsRefusal};
+ghost use Rattle.qrcode_c.specs.Asking.{IsWrittenRefusal, WritesElements};
 ghost use Rattle.qrcode_c.specs.Cuts.{HoldsCuts, IsCutsStatus};
 ghost use Rattle.qrcode_c.specs.Holding.{HoldsAsked, HoldsBest, HoldsPart};
 ghost use Rattle.qrcode_c.specs.Refusals.{IsStatusOf};
@@ -93,7 +93,7 @@ pub extern "C" fn qrcode_c_bytes(
     ensures done { result ≡ DONE →
         HoldsAsked no_front bytes.now options.now modules.old modules.new shape.new }
     ensures refused { result ≢ DONE → IsStatusOf
-        (IsDataRefusal no_front bytes.now options.now (length modules.old)) result }
+        (IsAskedRefusal no_front bytes.now options.now (length modules.old)) result }
     ensures kept { result ≢ DONE → (modules.new ≡ modules.old) × (shape.new ≡ shape.old) }
 {
     match asking::bytes_symbol(alloc, bytes, options, modules) {
@@ -120,7 +120,7 @@ pub extern "C" fn qrcode_c_text(
         HoldsAsked (front_of None Text) text.now options.now modules.old modules.new shape.new }
     ensures valid { result ≡ DONE → IsUtf8 text.now }
     ensures refused { result ≢ DONE →
-        IsStatusOf (IsTextRefusal text.now options.now (length modules.old)) result }
+        IsStatusOf (IsAskedTextRefusal text.now options.now (length modules.old)) result }
     ensures kept { result ≢ DONE → (modules.new ≡ modules.old) × (shape.new ≡ shape.old) }
 {
     match asking::text_symbol(alloc, text, options, modules) {
@@ -147,7 +147,7 @@ pub extern "C" fn qrcode_c_elements(
         modules.old modules.new shape.new }
     ensures valid { result ≡ DONE → AreElements elements.now }
     ensures refused { result ≢ DONE →
-        IsStatusOf (IsElementsRefusal elements.now options.now (length modules.old)) result }
+        IsStatusOf (IsAskedElementsRefusal elements.now options.now (length modules.old)) result }
     ensures kept { result ≢ DONE → (modules.new ≡ modules.old) × (shape.new ≡ shape.old) }
 {
     match asking::elements_symbol(alloc, elements, options, modules) {
@@ -176,7 +176,7 @@ pub extern "C" fn qrcode_c_gs1(
     modules: &mut [u8],
     shape: &mut Shape,
 ) -> i32
-    ensures done { result ≡ DONE → Writes text.now (λ elements.
+    ensures done { result ≡ DONE → WritesElements text.now (λ elements.
         HoldsAsked (front_of None Elements) elements options.now modules.old modules.new
         shape.new) }
     ensures refused { result ≢ DONE →
@@ -256,10 +256,10 @@ pub extern "C" fn qrcode_c_part_symbol(
     }
 }
 
-/// Writes the places at which to cut a message so that `qrcode_c_part_symbol` draws it in the fewest
-/// symbols of versions up to the greatest, and their number. The numbers of `cuts` after these keep
-/// their values. A message that fits one symbol after a header has no cuts, and there are at most
-/// 15. Returns `DONE`.
+/// Writes the places at which to cut a message so that `qrcode_c_part_symbol` draws it in the
+/// fewest symbols of versions up to the greatest, and their number. The numbers of `cuts` after
+/// these keep their values. A message that fits one symbol after a header has no cuts, and there
+/// are at most 15. Returns `DONE`.
 ///
 /// # Errors
 ///
