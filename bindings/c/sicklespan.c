@@ -22,6 +22,9 @@ int32_t qrcode_c_part_symbol(const uint8_t *message, size_t length, const size_t
                              uint8_t *modules, size_t room, sicklespan_shape *shape);
 int32_t qrcode_c_cuts(const uint8_t *message, size_t length, int32_t level, int32_t max_version,
                       size_t *cuts, size_t room, size_t *count);
+int32_t qrcode_c_sequence(const uint8_t *message, size_t length, const size_t *cuts,
+                          size_t cut_count, int32_t level, int32_t max_version, uint8_t *modules,
+                          size_t room, sicklespan_shape *shapes, size_t places);
 size_t qrcode_c_greatest_size(void);
 int32_t qrcode_c_version_of_width(size_t width);
 
@@ -131,6 +134,24 @@ int32_t sicklespan_part_symbol(const uint8_t *message, size_t length, const size
     if (modules == NULL) modules = (uint8_t *)&nowhere;
     return qrcode_c_part_symbol(message, length, cuts, cut_count, level, max_version, index,
                                 modules, room, shape);
+}
+
+int32_t sicklespan_sequence(const void *message, size_t length, const size_t *cuts,
+                            size_t cut_count, int32_t level, int32_t max_version, uint8_t *modules,
+                            size_t room, sicklespan_shape *shapes) {
+    const size_t most = PTRDIFF_MAX / sizeof *cuts;
+    if (cut_count > most) return SICKLESPAN_INVALID_POINTER;
+    /* With more parts than 16 nothing is written. */
+    const size_t places = least(cut_count, SICKLESPAN_MAX_CUTS) + 1;
+    room = least(room, 16 * SICKLESPAN_MAX_SIZE);
+    struct span input = {message, length}, ends = {cuts, sizeof *cuts * cut_count};
+    struct span all = {modules, room}, about_all = {shapes, places * sizeof *shapes};
+    if (!are_good(input, ends, all, about_all)) return SICKLESPAN_INVALID_POINTER;
+    if (modules == NULL) modules = (uint8_t *)&nowhere;
+    if (message == NULL) message = &nowhere;
+    const size_t *const at = cuts != NULL ? cuts : &nowhere;
+    return qrcode_c_sequence(message, length, at, cut_count, level, max_version, modules, room,
+                             shapes, places);
 }
 
 int32_t sicklespan_cuts(const void *message, size_t length, int32_t level, int32_t max_version,

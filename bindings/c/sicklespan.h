@@ -159,6 +159,19 @@ int32_t sicklespan_part_symbol(const uint8_t *message, size_t length, const size
                                size_t cut_count, int32_t level, int32_t max_version, size_t index,
                                uint8_t *modules, size_t room, sicklespan_shape *shape);
 
+/*
+ * All symbols of a sequence, each drawn once: the modules of the first, then those of the second,
+ * and so on, and a shape for each of the cut_count + 1 parts. `modules` needs at most
+ * (17 + 4 * max_version)^2 bytes a part.
+ *
+ * The statuses of sicklespan_part_symbol but for SICKLESPAN_INVALID_INDEX, and
+ * SICKLESPAN_INVALID_POINTER as above, of all `shapes` and of the first 16 * SICKLESPAN_MAX_SIZE
+ * bytes of `modules`.
+ */
+int32_t sicklespan_sequence(const void *message, size_t length, const size_t *cuts,
+                            size_t cut_count, int32_t level, int32_t max_version, uint8_t *modules,
+                            size_t room, sicklespan_shape *shapes);
+
 /* The symbols of a sequence are at most 16, so that a buffer for 15 cuts is never too short. */
 #define SICKLESPAN_MAX_CUTS 15
 

@@ -83,6 +83,21 @@ int32_t __wrap_qrcode_c_cuts(const uint8_t *message, size_t length, int32_t leve
     return __real_qrcode_c_cuts(message, length, level, max_version, cuts, room, count);
 }
 
+int32_t __real_qrcode_c_sequence(const uint8_t *, size_t, const size_t *, size_t, int32_t, int32_t,
+                                 uint8_t *, size_t, sicklespan_shape *, size_t);
+
+int32_t __wrap_qrcode_c_sequence(const uint8_t *message, size_t length, const size_t *cuts,
+                                 size_t cut_count, int32_t level, int32_t max_version, uint8_t *out,
+                                 size_t room, sicklespan_shape *to, size_t places) {
+    EXPECT_SLICE(message, length);
+    EXPECT_SLICE(cuts, cut_count);
+    EXPECT_SLICE(out, room);
+    EXPECT_SLICE(to, places);
+    expect(places == (cut_count < 15 ? cut_count : 15) + 1, "shapes of other parts", __LINE__);
+    return __real_qrcode_c_sequence(message, length, cuts, cut_count, level, max_version, out, room,
+                                    to, places);
+}
+
 SEES_ASKED(qrcode_c_bytes)
 SEES_ASKED(qrcode_c_text)
 SEES_ASKED(qrcode_c_elements)
@@ -440,7 +455,8 @@ int main(void) {
     void (*const tests[])(void) = {
         test_pointers, test_overlaps, test_neighbours,  test_lengths,           test_asks,
         test_room,     test_words,    test_allocations, test_asked_pointers,    test_asked_overlaps,
-        test_options,  test_contents, test_micro,       test_asked_allocations, test_cuts};
+        test_options,  test_contents, test_micro,       test_asked_allocations, test_cuts,
+        test_sequence};
     int passed = 0, failed = 0;
     /* What a row prints is not lost where the next call ends the program. */
     setbuf(stdout, NULL);

@@ -266,3 +266,76 @@ static void test_cuts(void) {
     EXPECT(cuts_of((uint8_t *)(&cut_count + 1) - 1, 1, 0, 1, cuts, 2, &cut_count) == refused);
     fail_allocations(find_cuts);
 }
+
+/* Sequences: the shapes lie in the block of the modules, or apart. */
+static sicklespan_shape shapes[16];
+
+static int32_t all_parts(const void *message, size_t length, const void *at, size_t count,
+                         uint8_t *out, size_t room, void *to) {
+    clear();
+    for (size_t i = 0; i < 16; i++) shapes[i] = untouched;
+    return sicklespan_sequence(message, length, at, count, SICKLESPAN_LEVEL_L, 1, out, room, to);
+}
+
+static const size_t in_two[] = {2};
+
+static int32_t draw_sequence(void) {
+    return all_parts(word, 5, in_two, 1, modules, GREATEST, shapes);
+}
+
+static int no_shape_is_written(void) {
+    for (size_t i = 0; i < 16; i++) {
+        if (shapes[i].width != -1 || shapes[i].level != -1) return 0;
+    }
+    return 1;
+}
+
+static void test_sequence(void) {
+    static uint8_t drawn[882];
+    EXPECT(draw_sequence() == SICKLESPAN_OK && is_kept_from(882));
+    EXPECT(shapes[0].width == 21 && shapes[1].width == 21 && shapes[2].width == -1);
+    memcpy(drawn, modules, sizeof drawn);
+    for (size_t i = 0; i < 2; i++) {
+        clear();
+        EXPECT(sicklespan_part_symbol(word, 5, in_two, 1, SICKLESPAN_LEVEL_L, 1, i, modules, 441,
+                                      &shape) == SICKLESPAN_OK);
+        EXPECT(memcmp(drawn + 441 * i, modules, 441) == 0 && shape.mask == shapes[i].mask);
+    }
+    EXPECT(all_parts(word, 5, in_two, 1, modules, 881, shapes) == SICKLESPAN_SHORT_BUFFER);
+    EXPECT(is_kept_from(0) && no_shape_is_written());
+    EXPECT(all_parts(word, 5, in_two, 1, modules, 882, shapes) == SICKLESPAN_OK);
+    EXPECT(all_parts(word, 5, in_two, 1, NULL, 0, shapes) == SICKLESPAN_SHORT_BUFFER);
+    EXPECT(all_parts(NULL, 0, (size_t[]){0}, 1, modules, 882, shapes) == SICKLESPAN_OK);
+    EXPECT(all_parts(word, 5, NULL, 0, modules, 882, shapes) == SICKLESPAN_INVALID_PART_COUNT);
+    const size_t many[40] = {0}, falling[] = {3, 2};
+    EXPECT(all_parts(word, 5, many, 16, modules, 882, shapes) == SICKLESPAN_INVALID_PART_COUNT);
+    EXPECT(all_parts(word, 5, many, 15, modules, 16 * 441, shapes) == SICKLESPAN_OK &&
+           shapes[15].width == 21 && is_kept_from(16 * 441));
+    EXPECT(all_parts(word, 5, falling, 2, modules, 882, shapes) == SICKLESPAN_INVALID_CUTS);
+    EXPECT(sicklespan_sequence(word, 5, in_two, 1, 4, 0, modules, 882, shapes) ==
+           SICKLESPAN_INVALID_LEVEL);
+    EXPECT(sicklespan_sequence(word, 5, in_two, 1, 0, 41, modules, 882, shapes) ==
+           SICKLESPAN_INVALID_MAX_VERSION);
+    EXPECT(all_parts(long_message, 19, in_two, 1, modules, 882, shapes) ==
+               SICKLESPAN_DATA_TOO_LONG &&
+           is_kept_from(0) && no_shape_is_written());
+
+    EXPECT(is_refused(all_parts(NULL, 1, in_two, 1, modules, 882, shapes)));
+    EXPECT(is_refused(all_parts(word, 5, NULL, 1, modules, 882, shapes)));
+    EXPECT(is_refused(all_parts(word, 5, in_two, 1, NULL, 882, shapes)));
+    EXPECT(is_refused(all_parts(word, 5, in_two, 1, modules, 882, NULL)));
+    EXPECT(is_refused(
+        all_parts(word, 5, in_two, SIZE_MAX / sizeof(size_t) + 2, modules, 882, shapes)));
+    EXPECT(is_refused(all_parts(modules + 3, 5, in_two, 1, modules, 882, shapes)));
+    EXPECT(is_refused(all_parts(word, 5, modules + 880, 1, modules, 882, shapes)));
+    EXPECT(is_refused(all_parts(word, 5, modules - 8, 2, modules, 882, shapes)));
+    EXPECT(is_refused(all_parts(word, 5, (size_t *)shapes + 3, 1, modules, 882, shapes)));
+    EXPECT(is_refused(all_parts(word, 5, in_two, 1, modules, 888, modules + 884)));
+    EXPECT(is_refused(all_parts(word, 5, in_two, 1, modules, 888, modules - 20)));
+    EXPECT(is_refused(all_parts((uint8_t *)(shapes + 2) - 1, 1, in_two, 1, modules, 882, shapes)));
+    EXPECT(all_parts((uint8_t *)(shapes + 2), 1, (size_t[]){0}, 1, modules, 882, shapes) ==
+           SICKLESPAN_OK);
+    EXPECT(all_parts(word, 5, in_two, 1, modules, 888, modules + 888) == SICKLESPAN_OK);
+    EXPECT(all_parts(word, 5, many, 40, modules, 882, shapes) == SICKLESPAN_INVALID_PART_COUNT);
+    fail_allocations(draw_sequence);
+}

@@ -105,7 +105,14 @@ def sequence(content: Union[str, bytes], cuts: Optional[Sequence[int]] = None, e
         cuts = _best_cuts(data, level, limit)
         if not cuts:
             return [make(data, error, max_version=limit, boost_error=False)]
-    places = (ctypes.c_size_t * len(cuts))(*cuts)
-    return [_drawn(library.sicklespan_part_symbol, data, len(data), places, len(cuts), level, limit,
-                   index)
-            for index in range(len(cuts) + 1)]
+    places, shapes = (ctypes.c_size_t * len(cuts))(*cuts), (Shape * (len(cuts) + 1))()
+    room = min(len(shapes), 16) * (17 + 4 * limit) ** 2
+    modules = ctypes.create_string_buffer(room)
+    _check(library.sicklespan_sequence(data, len(data), places, len(cuts), level, limit, modules,
+                                       room, shapes))
+    symbols, start = [], 0
+    for shape in shapes:
+        size = shape.width ** 2
+        symbols.append(Symbol(modules.raw[start:start + size], shape))
+        start += size
+    return symbols

@@ -74,17 +74,16 @@ extern "C" {
         room: usize,
         shape: *mut Shape,
     ) -> i32;
-    fn sicklespan_part_symbol(
+    fn sicklespan_sequence(
         message: *const u8,
         length: usize,
         cuts: *const usize,
         cut_count: usize,
         level: i32,
         max_version: i32,
-        index: usize,
         modules: *mut u8,
         room: usize,
-        shape: *mut Shape,
+        shapes: *mut Shape,
     ) -> i32;
     fn sicklespan_cuts(
         message: *const u8,
@@ -133,27 +132,27 @@ pub fn micro(bytes: &[u8], level: i32, modules: &mut [u8], shape: &mut Shape) ->
     }
 }
 
-pub fn part_symbol(
+/// There is a shape for each part.
+pub fn sequence(
     message: &[u8],
     cuts: &[usize],
     level: i32,
     max_version: i32,
-    index: usize,
     modules: &mut [u8],
-    shape: &mut Shape,
+    shapes: &mut [Shape],
 ) -> i32 {
+    assert_eq!(shapes.len(), cuts.len() + 1);
     unsafe {
-        sicklespan_part_symbol(
+        sicklespan_sequence(
             message.as_ptr(),
             message.len(),
             cuts.as_ptr(),
             cuts.len(),
             level,
             max_version,
-            index,
             modules.as_mut_ptr(),
             modules.len(),
-            shape,
+            shapes.as_mut_ptr(),
         )
     }
 }

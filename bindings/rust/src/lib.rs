@@ -243,21 +243,21 @@ impl Symbol {
         level: Level,
         max_version: u8,
     ) -> Result<Vec<Symbol>, Error> {
-        (0..=cuts.len())
-            .map(|index| {
-                Symbol::drawn(|modules, shape| {
-                    ffi::part_symbol(
-                        message,
-                        cuts,
-                        level as i32,
-                        max_version.into(),
-                        index,
-                        modules,
-                        shape,
-                    )
-                })
-            })
-            .collect()
+        let mut shapes = vec![ffi::Shape::default(); cuts.len() + 1];
+        let width = 17 + 4 * usize::from(max_version.min(40));
+        let mut bytes = vec![0; shapes.len().min(16) * width * width];
+        let (level, limit) = (level as i32, max_version.into());
+        let status = ffi::sequence(message, cuts, level, limit, &mut bytes, &mut shapes);
+        if status != 0 {
+            return Err(Error::of(status));
+        }
+        let mut rest = &bytes[..];
+        let symbols = shapes.iter().map(|shape| {
+            let (modules, behind) = rest.split_at((shape.width * shape.width) as usize);
+            rest = behind;
+            Symbol::of(modules, shape)
+        });
+        Ok(symbols.collect())
     }
 
     /// Returns the number of modules on a side.
@@ -317,14 +317,19 @@ impl Symbol {
         if status != 0 {
             return Err(Error::of(status));
         }
-        let (width, number) = (shape.width as usize, shape.version as u8);
-        Ok(Symbol {
-            width,
+        Ok(Symbol::of(&bytes[..(shape.width * shape.width) as usize], &shape))
+    }
+
+    /// The symbol of some modules and their shape.
+    fn of(modules: &[u8], shape: &ffi::Shape) -> Symbol {
+        let number = shape.version as u8;
+        Symbol {
+            width: shape.width as usize,
             version: if shape.micro { Version::Micro(number) } else { Version::Normal(number) },
             level: Level::ALL[shape.level as usize],
             mask: shape.mask as u8,
-            modules: bytes[..width * width].iter().map(|byte| *byte == 1).collect(),
-        })
+            modules: modules.iter().map(|byte| *byte == 1).collect(),
+        }
     }
 }
 

@@ -1,6 +1,8 @@
 -- The result of a call, from what was written of the symbol.
 use Rattle.std.specs.Prelude.{◌≡◌, ◌+◌, ◌<◌, ◌≤◌, ℕ, ℤ, List, length, map, nat_abs, All, Result, Ok, Err, IfOk, IfErr, OnErr}
-use Rattle.std.proofs.Common.{get_or, subst, sym, refl, ◌∙◌, arith}
+use Rattle.std.proofs.Common.{get_or, subst, sym, refl, ◌∙◌, arith, w16, w32, to_z, of_z}
+use Rattle.std.proofs.lemmas.{Int.to_z-of_z, Int.ints}
+use Rattle.qrcode_base.specs.Symbols.{IsNormalNumber}
 use Rattle.std.proofs.lemmas.{List.length-map, Option.slice_get_read, Result.IfOk-weaker}
 use Rattle.qrcode_base.specs.declared.types.{Color.Color, EcLevel.EcLevel}
 use Rattle.qrcode_core.specs.{Drawn.DrawnSymbol, Drawn.TellsReading, Drawn.modules_of, Sequence.AreBestSymbols}
@@ -63,3 +65,9 @@ part_above room message cuts level limit index symbols symbol part best is above
       above = above;
       at_index = slice_get_read symbols (length symbols) index symbol refl (within message cuts level limit index symbols best part) is;
     }
+
+-- a limit is the same number in 16 bits as in 32
+pub same_limit : (number limit : ℤ) → limit ≡ to_z w32 (of_z w32 number) → to_z w32 (of_z w32 number) ≡ number → IsNormalNumber limit →
+    to_z w16 (of_z w16 limit) ≡ number
+same_limit number limit is wide low =
+    let narrow : to_z w16 (of_z w16 limit) ≡ limit = search (arith, ints, to_z-of_z, low) in narrow ∙ is ∙ wide

@@ -5,3 +5,4 @@ pub mod Asking
 pub mod Holding
 pub mod Refusals
 pub mod Cuts
+pub mod Spread

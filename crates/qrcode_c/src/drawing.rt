@@ -108,7 +108,7 @@ pub fn write(symbol: &Symbol, modules: &mut [u8]) -> Result<Shape, Refusal>
 }
 
 /// Writes a byte for each colour to the start of a buffer: 1 for dark, 0 for light.
-fn write_modules(colors: &[Color], modules: &mut [u8])
+pub fn write_modules(colors: &[Color], modules: &mut [u8])
     requires { length colors.now ≤ length modules.old }
     ensures { modules.new ≡ map byte_of colors.now ++ drop (length colors.now) modules.old }
 {

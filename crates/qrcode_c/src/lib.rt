@@ -6,7 +6,7 @@
 //! has a status. Calls share no state, and each frees all memory that it allocates.
 #![tactic(auto)]
 
-ghost use Rattle.std.specs.Prelude.{◌≡◌, ◌≢◌, ◌*◌, pos, length, None};
+ghost use Rattle.std.specs.Prelude.{◌≡◌, ◌≢◌, ◌*◌, pos, length, List, None};
 ghost use Rattle.std.specs.Str.{IsUtf8};
 ghost use Rattle.qrcode_bits.specs.Contents.{AreElements};
 ghost use Rattle.qrcode_bits.specs.Frame.{front_of, no_front};
@@ -18,6 +18,8 @@ ghost use Rattle.qrcode_c.specs.Asking.{IsAskedRefusal, IsAskedTextRefusal, IsAs
 ghost use Rattle.qrcode_c.specs.Asking.{IsWrittenRefusal, WritesElements};
 ghost use Rattle.qrcode_c.specs.Cuts.{HoldsCuts, IsCutsStatus};
 ghost use Rattle.qrcode_c.specs.Holding.{HoldsAsked, HoldsBest, HoldsPart};
+ghost use Rattle.qrcode_core.specs.Drawn.{DrawnSymbol};
+ghost use Rattle.qrcode_c.specs.Spread.{AreSpread, HoldsAll, IsSpreadStatus};
 ghost use Rattle.qrcode_c.specs.Refusals.{IsStatusOf};
 ghost use Rattle.qrcode_c.specs.Refusals.{IsSymbolRefusal, IsMicroRefusal, IsPartRefusal};
 ghost use Rattle.qrcode_c.specs.Shapes.{IsNumberAtWidth};
@@ -34,6 +36,7 @@ mod drawing;
 mod options;
 mod refusal;
 mod shape;
+mod spread;
 #[cfg(test)]
 mod tests;
 
@@ -252,6 +255,39 @@ pub extern "C" fn qrcode_c_part_symbol(
             *shape = drawn;
             DONE
         }
+        Err(refusal) => refusal.status(),
+    }
+}
+
+/// Writes all symbols that carry a message together, as `qrcode_c_part_symbol` has them: their
+/// modules one symbol after the other, and their shapes. Each is drawn once. What comes after these
+/// in `modules` and `shapes` keeps its values. Returns `DONE`.
+///
+/// # Errors
+///
+/// On an error nothing is written. The status is, in this order: `InvalidLevel`; `InvalidCuts`;
+/// `InvalidMaxVersion`; `InvalidPartCount`; `DataTooLong` exactly where some part and its header
+/// fit no version up to the greatest; `OutOfMemory` where an allocation failed; `ShortBuffer` if
+/// there are fewer shapes than parts, or fewer bytes than modules.
+#[unsafe(no_mangle)]
+pub extern "C" fn qrcode_c_sequence(
+    alloc: Global,
+    message: &[u8],
+    cuts: &[usize],
+    level: i32,
+    max_version: i32,
+    modules: &mut [u8],
+    shapes: &mut [Shape],
+) -> i32
+    ensures done { result ≡ DONE → (symbols : List DrawnSymbol)
+        × AreSpread Bytes message.now cuts.now level max_version symbols
+        × HoldsAll symbols modules.old modules.new shapes.old shapes.new }
+    ensures refused { result ≢ DONE → IsStatusOf (IsSpreadStatus Bytes message.now cuts.now level
+        max_version (length modules.old) (length shapes.old)) result }
+    ensures kept { result ≢ DONE → (modules.new ≡ modules.old) × (shapes.new ≡ shapes.old) }
+{
+    match spread::spread(alloc, message, cuts, level, max_version, modules, shapes) {
+        Ok(()) => DONE,
         Err(refusal) => refusal.status(),
     }
 }

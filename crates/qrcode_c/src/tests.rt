@@ -1,8 +1,8 @@
 //! Tests of each exported function, where memory is ample.
 use crate::{
     DONE, Options, Shape, qrcode_c_bytes, qrcode_c_cuts, qrcode_c_elements, qrcode_c_greatest_size,
-    qrcode_c_gs1, qrcode_c_micro_symbol, qrcode_c_part_symbol, qrcode_c_symbol, qrcode_c_text,
-    qrcode_c_version_of_width,
+    qrcode_c_gs1, qrcode_c_micro_symbol, qrcode_c_part_symbol, qrcode_c_sequence, qrcode_c_symbol,
+    qrcode_c_text, qrcode_c_version_of_width,
 };
 use std::alloc::Global;
 
@@ -131,6 +131,33 @@ fn refused_gs1(alloc: Global, text: &[u8]) -> Option<i32> {
     } else {
         None
     }
+}
+
+#[test]
+fn draws_all_parts(rt: HostRuntime) {
+    let (mut modules, mut shapes) = ([7; 883], [BLANK; 3]);
+    let (message, cuts) = (b"hello", [3]);
+    let status = qrcode_c_sequence(rt.alloc(), message, &cuts, 0, 1, &mut modules, &mut shapes);
+    assert_eq!(rt; (status, modules[882]), (DONE, 7));
+    assert_eq!(rt;
+        (shapes[0].width, shapes[1].width, shapes[2].width),
+        (21, 21, 0)
+    );
+    // The second symbol is the one that the call for one part draws.
+    let (mut part, mut shape) = ([7; 441], BLANK);
+    let status = qrcode_c_part_symbol(rt.alloc(), message, &cuts, 0, 1, 1, &mut part, &mut shape);
+    assert_eq!(rt; status, DONE);
+    assert!(rt; modules[441..882] == part[..]);
+    let status = qrcode_c_sequence(
+        rt.alloc(),
+        message,
+        &cuts,
+        0,
+        1,
+        &mut modules[..881],
+        &mut shapes,
+    );
+    assert_eq!(rt; status, 8);
 }
 
 #[test]

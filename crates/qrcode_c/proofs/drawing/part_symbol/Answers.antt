@@ -1,17 +1,11 @@
 -- The symbol at the index, written or too large for the buffer.
-use Rattle.std.proofs.Common.{◌≡◌, ◌∙◌, subst, sym, w16, w32, to_z, of_z, rules, arith}
-use Rattle.std.{specs.Prelude.map, specs.Prelude.nat_abs, specs.Prelude.ℤ, proofs.lemmas.Int.to_z-of_z, proofs.lemmas.Int.ints}
-use Rattle.qrcode_base.specs.{declared.types.errors.QrError.QrError, Symbols.IsNormalNumber}
+use Rattle.std.proofs.Common.{◌≡◌, ◌∙◌, subst, sym, w32, rules}
+use Rattle.std.{specs.Prelude.map, specs.Prelude.nat_abs, specs.Prelude.ℤ, proofs.lemmas.Int.to_z-of_z}
+use Rattle.qrcode_base.specs.{declared.types.errors.QrError.QrError}
 use Rattle.qrcode_core.specs.{Drawn.modules_of, Sequence.AreBestSymbols, Sequence.IsSequenceRefusal}
-use Rattle.qrcode_c.{specs.Levels.level_argument, specs.Refusals.IsAsked, proofs.Answering.part_held, proofs.Answering.part_above, proofs.Answering.short_refused}
+use Rattle.qrcode_c.{specs.Levels.level_argument, specs.Refusals.IsAsked, proofs.Answering.part_held, proofs.Answering.part_above, proofs.Answering.short_refused, proofs.Answering.same_limit}
 use Rattle.qrcode_c.proofs.drawing.part_symbol.Goals as goal
 use Rattle.qrcode_bits.specs.declared.bits.front.Content.TheVariants.{Bytes}
-
--- a limit is the same number in 16 bits as in 32
-same_limit : (number limit : ℤ) → limit ≡ to_z w32 (of_z w32 number) → to_z w32 (of_z w32 number) ≡ number → IsNormalNumber limit →
-    to_z w16 (of_z w16 limit) ≡ number
-same_limit number limit is wide low =
-    let narrow : to_z w16 (of_z w16 limit) ≡ limit = search (arith, ints, to_z-of_z, low) in narrow ∙ is ∙ wide
 
 pub returns-in-Ok-clause-held : goal.returns-in-Ok-clause-held
 returns-in-Ok-clause-held c =

@@ -10,4 +10,4 @@ loop-i-preserved c =
     let is : c.select.result ≡ byte_of (get_or c.args.colors.now c.loop-i.i Light) = search rules in
     rw add-one (ap (λ t. set t c.loop-i.i c.select.result) c.loop-i.invariant
     ∙ ap (λ t. set (map byte_of (take c.loop-i.i c.args.colors.now) ++ drop c.loop-i.i c.args.modules.now) c.loop-i.i t) is
-    ∙ written_step c.args.colors.now c.args.modules.now c.loop-i.i _ (omega arith) (omega (arith, c.requires)))
+    ∙ written_step byte_of c.args.colors.now c.args.modules.now c.loop-i.i _ (omega arith) (omega (arith, c.requires)))

@@ -1,0 +1,104 @@
+//! All symbols that carry a message together, in a caller's buffers.
+//!
+//! 1. Check the arguments, and make the symbols.
+//! 2. See whether the buffers have room for all of them (`has_room`), and write them, one after the
+//!    other (`write_all`).
+ghost use Rattle.std.specs.Prelude.{◌≡◌, ◌+◌, ◌<◌, ◌≤◌, ◌++◌, List, true, false, length, map};
+ghost use Rattle.std.specs.Prelude.{drop, take, OnErr, IfOk, IfErr};
+ghost use Rattle.qrcode_bits.specs.declared.bits.front.Content.TheVariants.{Bytes};
+ghost use Rattle.qrcode_core.specs.Drawn.{DrawnSymbol};
+ghost use Rattle.qrcode_grid.specs.Penalty.{byte_of};
+ghost use Rattle.qrcode_c.specs.Shapes.{shape_of};
+ghost use Rattle.qrcode_c.specs.Spread.{bytes_of_all, HoldsAll, AreSpread, IsSpreadStatus};
+
+use crate::drawing::write_modules;
+use crate::options::{level_of, limit_of};
+use crate::refusal::Refusal;
+use crate::shape::{Shape, shape_of};
+use qrcode_core::symbol::{Symbol, are_cuts};
+use qrcode_core::traits::ModuleSource;
+use qrcode_core::types::{Color, QrError};
+use std::alloc::Global;
+
+/// Writes all symbols that carry a message together, and their shapes.
+pub fn spread(
+    alloc: Global,
+    message: &[u8],
+    cuts: &[usize],
+    level: i32,
+    max_version: i32,
+    modules: &mut [u8],
+    shapes: &mut [Shape],
+) -> Result<(), Refusal>
+    ensures held { IfOk result (λ _. (symbols : List DrawnSymbol)
+        × AreSpread Bytes message.now cuts.now level max_version symbols
+        × HoldsAll symbols modules.old modules.new shapes.old shapes.new) }
+    ensures refused { IfErr result (IsSpreadStatus Bytes message.now cuts.now level max_version
+        (length modules.old) (length shapes.old)) }
+    ensures kept { OnErr result ((modules.new ≡ modules.old) × (shapes.new ≡ shapes.old)) }
+{
+    let Some(level) = level_of(level) else {
+        return Err(Refusal::InvalidLevel);
+    };
+    if !are_cuts(cuts, message.len()) {
+        return Err(Refusal::InvalidCuts);
+    }
+    let Some(limit) = limit_of(max_version) else {
+        return Err(Refusal::InvalidMaxVersion);
+    };
+    let symbols = match Symbol::sequence(alloc, message, cuts, level, limit) {
+        Ok(symbols) => symbols,
+        Err(QrError::InvalidStructuredAppend { .. }) => return Err(Refusal::InvalidPartCount),
+        Err(QrError::DataTooLong) => return Err(Refusal::DataTooLong),
+        Err(_) => return Err(Refusal::OutOfMemory),
+    };
+    if shapes.len() < symbols.len() {
+        return Err(Refusal::ShortBuffer);
+    }
+    if !has_room(&symbols, modules.len()) {
+        return Err(Refusal::ShortBuffer);
+    }
+    write_all(&symbols, modules, shapes);
+    Ok(())
+}
+
+/// Whether the modules of all symbols are at most `room`.
+#[tactic(auto, using(crate::proofs::Writing::piece_length, crate::proofs::Writing::piece_within))]
+fn has_room(symbols: &[Symbol], room: usize) -> bool
+    ensures yes { result ≡ true → length (bytes_of_all symbols.now) ≤ room }
+    ensures no { result ≡ false → room < length (bytes_of_all symbols.now) }
+{
+    let mut left = room;
+    for symbol in symbols {
+        let size = symbol.modules().len();
+        if left < size {
+            return false;
+        }
+        left -= size;
+    }
+    true
+}
+
+/// Writes the modules of all symbols, one symbol after the other, and their shapes.
+fn write_all(symbols: &[Symbol], modules: &mut [u8], shapes: &mut [Shape])
+    requires room { length (bytes_of_all symbols.now) ≤ length modules.old }
+    requires places { length symbols.now ≤ length shapes.old }
+    ensures { HoldsAll symbols.now modules.old modules.new shapes.old shapes.new }
+{
+    let mut start = 0;
+    for (i, symbol) in symbols.iter().enumerate() {
+        let colors = symbol.modules();
+        write_at(colors, modules, start);
+        shapes[i] = shape_of(symbol);
+        start += colors.len();
+    }
+}
+
+/// Writes a byte for each colour from a place on.
+fn write_at(colors: &[Color], modules: &mut [u8], start: usize)
+    requires { start + length colors.now ≤ length modules.old }
+    ensures { modules.new ≡ take start modules.old
+        ++ (map byte_of colors.now ++ drop (length colors.now) (drop start modules.old)) }
+{
+    write_modules(colors, &mut modules[start..]);
+}
