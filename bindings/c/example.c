@@ -10,11 +10,13 @@ int main(int count, char **words) {
         fputs("usage: example WORD\n", stderr);
         return 2;
     }
-    static uint8_t modules[SICKLESPAN_GREATEST_SIZE];
+    static uint8_t modules[SICKLESPAN_MAX_SIZE];
+    sicklespan_options options = SICKLESPAN_OPTIONS_INIT;
+    options.level = SICKLESPAN_LEVEL_L;
     sicklespan_shape shape;
-    int32_t status = sicklespan_symbol((const uint8_t *)words[1], strlen(words[1]),
-                                       SICKLESPAN_LEVEL_L, modules, sizeof modules, &shape);
-    if (status != SICKLESPAN_DONE) {
+    int32_t status =
+        sicklespan_bytes(words[1], strlen(words[1]), &options, modules, sizeof modules, &shape);
+    if (status != SICKLESPAN_OK) {
         fprintf(stderr, "example: %s\n", sicklespan_status_text(status));
         return 1;
     }

@@ -12,16 +12,23 @@ class Shape(ctypes.Structure):
     """`sicklespan_shape` of bindings/c/sicklespan.h."""
 
     _fields_ = [("width", ctypes.c_int32), ("version", ctypes.c_int32), ("mask", ctypes.c_int32),
-                ("micro", ctypes.c_bool)]
+                ("micro", ctypes.c_bool), ("level", ctypes.c_int8)]
+
+
+class Options(ctypes.Structure):
+    """`sicklespan_options`."""
+
+    _fields_ = [("level", ctypes.c_int32), ("min_version", ctypes.c_int32),
+                ("max_version", ctypes.c_int32), ("strongest", ctypes.c_int32)]
 
 
 def library(path):
     """The library, with the types of the functions that are called here."""
     it = ctypes.CDLL(path)
-    it.sicklespan_symbol.argtypes = [
-        ctypes.c_char_p, ctypes.c_size_t, ctypes.c_int32, ctypes.c_char_p, ctypes.c_size_t,
+    it.sicklespan_bytes.argtypes = [
+        ctypes.c_char_p, ctypes.c_size_t, ctypes.POINTER(Options), ctypes.c_char_p, ctypes.c_size_t,
         ctypes.POINTER(Shape)]
-    it.sicklespan_symbol.restype = ctypes.c_int32
+    it.sicklespan_bytes.restype = ctypes.c_int32
     it.sicklespan_greatest_size.restype = ctypes.c_size_t
     it.sicklespan_status_text.argtypes = [ctypes.c_int32]
     it.sicklespan_status_text.restype = ctypes.c_char_p
@@ -31,8 +38,9 @@ def library(path):
 def symbol(it, data, level):
     """The rows of the best symbol of some bytes, each a list of 1 (dark) and 0."""
     room = it.sicklespan_greatest_size()
-    modules, shape = ctypes.create_string_buffer(room), Shape()
-    status = it.sicklespan_symbol(data, len(data), level, modules, room, ctypes.byref(shape))
+    modules, shape, options = ctypes.create_string_buffer(room), Shape(), Options(level, 1, 40, 0)
+    status = it.sicklespan_bytes(data, len(data), ctypes.byref(options), modules, room,
+                                 ctypes.byref(shape))
     if status != 0:
         raise ValueError(it.sicklespan_status_text(status).decode())
     width = shape.width
