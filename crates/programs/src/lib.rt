@@ -29,22 +29,31 @@ mod reports;
 mod runs;
 
 pub use devices::{FromReader, FromWriter, Sink, Source};
-pub use reports::report;
+pub use reports::{report, write_line};
 pub use runs::{Program, draw, run};
 
 /// Returns the arguments of the process without the program's name. There are none if one of them
 /// is not valid UTF-8. It fails only for lack of memory.
 pub fn arguments(rt: &HostRuntime) -> Result<Vec<String>, Fault> {
+    match valid_arguments(rt)? {
+        Some(words) => Ok(words),
+        None => Ok(Vec::new(rt.alloc())),
+    }
+}
+
+/// Returns the arguments of the process without the program's name, or `None` if one of them is not
+/// valid UTF-8. It fails only for lack of memory.
+pub fn valid_arguments(rt: &HostRuntime) -> Result<Option<Vec<String>>, Fault> {
     let args = match env::args(rt) {
         Ok(args) => args,
         Err(error) if error.kind() == ErrorKind::OutOfMemory => return Err(Fault::from(AllocError)),
-        Err(_) => return Ok(Vec::new(rt.alloc())),
+        Err(_) => return Ok(None),
     };
     let mut words = Vec::with_capacity(rt.alloc(), args.len())?;
     for arg in args.skip(1) {
         words.push(arg).map_err(AllocError::from)?;
     }
-    Ok(words)
+    Ok(Some(words))
 }
 
 /// Returns the strings as borrowed texts.

@@ -248,8 +248,9 @@ fn hex_digit(n: u8) -> &'static str
     }
 }
 
-/// Writes the name of the program, the pieces of a text and a newline, and flushes.
-fn write_line<E: Sink>(errors: &mut E, program: &str, pieces: &[&str]) -> Result<(), Fault>
+/// Writes the name of the program, the pieces of a text and a newline, and flushes. It fails with
+/// `Write` if the sink failed.
+pub fn write_line<E: Sink>(errors: &mut E, program: &str, pieces: &[&str]) -> Result<(), Fault>
     requires { IsFalse (E.state errors.old).failed }
     ensures { Writes (output (E.state errors.old) (E.state errors.new))
         (program.now ++ (codes ": " ++ (flat_map (λ piece. piece.now) pieces.now ++ 10 ∷ []))) }

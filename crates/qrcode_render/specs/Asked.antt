@@ -8,8 +8,8 @@ use Rattle.qrcode_render.specs.Drawings.{IsPictureOf}
 use Rattle.qrcode_render.specs.Made.{IsMadeOf}
 use Rattle.qrcode_render.specs.Settings.{invalid_setting}
 
--- The bytes show the grid as the settings ask: all of these are valid, and the bytes are those of the
--- options that are made of them.
+-- The bytes show the grid as the settings ask: all of these are valid, and the bytes are those of
+-- the options that are made of them.
 pub record ShowsAsAsked (format : Format) (settings : Settings) (grid : Grid) (bytes : List ℕ)
     : Type 0 where
   pub options : DrawOptions

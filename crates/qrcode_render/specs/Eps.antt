@@ -1,6 +1,6 @@
 -- A picture as Encapsulated PostScript (Adobe, "Encapsulated PostScript File Format Specification",
--- version 3.0): a light background, and on it one path with a rectangle for each run of dark modules
--- in a row.
+-- version 3.0): a light background, and on it one path with a rectangle for each run of dark
+-- modules in a row.
 use Rattle.std.specs.Prelude.{ℕ, ◌+◌, ◌*◌, ◌/◌, Option, None, Some, List, ◌++◌, codes, decimal}
 use Rattle.qrcode_render.specs.Pictures.{Picture, columns_of, rows_of}
 use Rattle.qrcode_render.specs.Paths.{path}

@@ -18,8 +18,8 @@ use crate::xml::is_xml_text;
 use qrcode_core::plugin::PluginError;
 use std::alloc::Global;
 
-/// A format, with all options of a picture in it. Those that the format does not have are at their
-/// defaults.
+/// A format, with all options of a picture in it. Those that the format does not have are at
+/// their defaults.
 #[derive(Clone, Copy, Debug, PartialEq, Eq)]
 pub struct DrawOptions<'a> {
     pub format: Format,

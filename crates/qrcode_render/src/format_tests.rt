@@ -46,8 +46,9 @@ fn printed(
     }
 }
 
-/// By the page of `GS v 0`: 1D 76 30, the mode 0, the bytes of a row and the rows, each as two
-/// bytes with the lower first, and the rows. Rows are 00000, 01010, 01100, 00000, then light pixels.
+/// By the page of `GS v 0`: 1D 76 30, the mode 0, the bytes of a row and the rows, each as
+/// two bytes with the lower first, and the rows. Rows are 00000, 01010, 01100, 00000, then
+/// light pixels.
 #[test]
 fn prints_raster_images(rt: HostRuntime) -> Result<(), PluginError> {
     let alloc = rt.alloc();
@@ -86,8 +87,8 @@ fn prints_small_labels(rt: HostRuntime) -> Result<(), PluginError> {
     Ok(())
 }
 
-/// The graphic in the description of `~DG` of the ZPL II guide, whose rows `^GF` has too: 80 columns
-/// and 8 rows, in 80 bytes, 10 of them in a row.
+/// The graphic in the description of `~DG` of the ZPL II guide, whose rows `^GF` has too: 80
+/// columns and 8 rows, in 80 bytes, 10 of them in a row.
 const SAMPLE: &[u8] = b"^XA
 ^FO0,0^GFA,80,80,10,FFFFFFFFFFFFFFFFFFFF\
 8000FFFF0000FFFF00018000FFFF0000FFFF00018000FFFF0000FFFF0001\

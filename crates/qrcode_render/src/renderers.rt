@@ -38,7 +38,8 @@ pub struct Svg;
 #[derive(Debug, Drop)]
 pub struct Pbm;
 
-/// A renderer of PNG files, as bytes. A module is 8 pixels wide, unless the option `scale` is given.
+/// A renderer of PNG files, as bytes. A module is 8 pixels wide, unless the option `scale`
+/// is given.
 #[derive(Debug, Drop)]
 pub struct Png;
 
@@ -261,8 +262,8 @@ fn text_options(alloc: Global, config: &RenderConfig) -> Result<(RenderOptions, 
     }
 }
 
-/// Returns the error for a grid that has no modules or is too large, or `OutOfMemory` if there is no
-/// memory for its text.
+/// Returns the error for a grid that has no modules or is too large, or `OutOfMemory` if there is
+/// no memory for its text.
 fn too_large(alloc: Global) -> PluginError
     ensures { IsRendererRefusal (λ _. ⊥) (Unit {0}) result }
 {

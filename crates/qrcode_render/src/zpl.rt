@@ -12,8 +12,8 @@ use crate::picture::Picture;
 use std::alloc::{AllocError, Global};
 
 /// Returns the picture as a label of ZPL II (`^GF`), for a label printer, with its upper left
-/// corner at this position in dots. Its rows are in fields of at most `FIELD_BYTES` bytes, one below
-/// the other. It fails only for lack of memory.
+/// corner at this position in dots. Its rows are in fields of at most `FIELD_BYTES` bytes, one
+/// below the other. It fails only for lack of memory.
 #[tactic(auto, using(crate::proofs::BandLemmas::fields))]
 pub fn zpl(alloc: Global, picture: &Picture, at: (usize, usize)) -> Result<Vec<u8>, AllocError>
     requires { at.1 ≤ MAX_AT }

@@ -1,4 +1,12 @@
-pub mod Words
-pub mod OptionArgs
-pub mod Texts
+pub mod Asked
+pub mod Commands
+pub mod Contents
+pub mod Help
 pub mod Labels
+pub mod Misuses
+pub mod Numbers
+pub mod Runs
+pub mod Said
+pub mod Settings
+pub mod Stops
+pub mod Words

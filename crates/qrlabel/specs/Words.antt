@@ -1,110 +1,149 @@
--- The arguments of the program, and the label that they describe.
-use Rattle.std.specs.Prelude.{◌≡◌, ℕ, Bool, true, false, List, [], ◌∷◌, ◌++◌, codes, flat_map, fold}
-use Rattle.std.specs.Prelude.{Option, None, Some, IsTrue}
-use Rattle.std.specs.Str.{trim}
-use Rattle.qrcode_core.specs.declared.types.EcLevel.{EcLevel}
-use Rattle.qrcode_core.specs.Names.{NamesLevel}
-use Rattle.qrcode_render.specs.declared.bounds.TheConstants.{IMAGE_SCALE, TEXT_SCALE, QUIET, MICRO_QUIET}
-use Rattle.qrcode_render.specs.declared.bounds.TheConstants.{MIN_SCALE, MAX_SCALE, MAX_QUIET}
-use Rattle.qrlabel.specs.declared.args.Format.{Format}
-use Rattle.qrlabel.specs.declared.args.Format.TheVariants.{Svg, Pbm, Terminal}
-use Rattle.qrlabel.specs.declared.args.Kind.{Kind}
-use Rattle.qrlabel.specs.declared.args.Kind.TheVariants.{Qr, Micro, Utf8}
-use Rattle.qrlabel.specs.declared.args.LabelArgs.{LabelArgs}
-use Rattle.qrcode_render.specs.Options.{AsksNumber}
+-- The words of the command line, and what they say.
+use Rattle.std.specs.Prelude.{ℕ, ◌==◌, nat_lt, Bool, true, false, ◌&&◌, if◌then◌else◌, codes}
+use Rattle.std.specs.Prelude.{List, [], ◌∷◌, length, slice_index, get_or, set, replicate}
+use Rattle.std.specs.Prelude.{Option, None, Some, is_some, Result, Ok, Err}
+use Rattle.std.specs.Str.{bytes_eq}
+use Rattle.qrlabel.specs.declared.words.Name.{Name}
+use Rattle.qrlabel.specs.declared.words.Name.TheVariants.{Text, Format, Content, Level, Strongest}
+use Rattle.qrlabel.specs.declared.words.Name.TheVariants.{MinVersion, MaxVersion, Scale, Quiet}
+use Rattle.qrlabel.specs.declared.words.Name.TheVariants.{ModuleMm, Dpi, Inverted, Title, At, Read}
+use Rattle.qrlabel.specs.declared.words.Name.TheVariants.{Output, AllowEmpty, Help, Version}
 
--- A label: the format of the picture, the level and the kind of the symbol, the width of a module
--- in pixels, the width of the quiet zone in modules, and whether text is for a dark screen.
-pub record Label : Type 0 where
-  pub format : Format
-  pub level : EcLevel
-  pub kind : Kind
-  pub scale : ℕ
-  pub quiet : ℕ
-  pub inverted : Bool
+-- What a table has for a word.
+abbrev pub among : {A : Type 0} → List (List ℕ × A) → List ℕ → Option A
+among [] word = None
+among (entry ∷ entries) word =
+    elim (bytes_eq word entry.0) [ true ↦ Some entry.1 | false ↦ among entries word ]
 
--- The label that the program's value stands for.
-abbrev pub label_of : LabelArgs → Label
-label_of w = record {
-  format = w.format;
-  level = w.level;
-  kind = w.kind;
-  scale = w.options.scale;
-  quiet = w.options.quiet;
-  inverted = w.inverted;
-}
+-- The words of the options. After `--` comes the text.
+abbrev pub names : List (List ℕ × Name)
+names =
+    (codes "-f", Format) ∷ (codes "--format", Format)
+    ∷ (codes "-c", Content) ∷ (codes "--content", Content)
+    ∷ (codes "-l", Level) ∷ (codes "--level", Level)
+    ∷ (codes "--strongest", Strongest)
+    ∷ (codes "--min-version", MinVersion)
+    ∷ (codes "--max-version", MaxVersion)
+    ∷ (codes "-s", Scale) ∷ (codes "--scale", Scale)
+    ∷ (codes "-q", Quiet) ∷ (codes "--quiet", Quiet)
+    ∷ (codes "--module-mm", ModuleMm)
+    ∷ (codes "--dpi", Dpi)
+    ∷ (codes "--inverted", Inverted)
+    ∷ (codes "--title", Title)
+    ∷ (codes "--at", At)
+    ∷ (codes "-r", Read) ∷ (codes "--read", Read)
+    ∷ (codes "-o", Output) ∷ (codes "--output", Output)
+    ∷ (codes "--allow-empty", AllowEmpty)
+    ∷ (codes "-h", Help) ∷ (codes "--help", Help)
+    ∷ (codes "-V", Version) ∷ (codes "--version", Version)
+    ∷ (codes "--", Text)
+    ∷ []
 
--- An option, with the text of its number.
-pub data Setting : Type 0 where
-  Scale : List ℕ → Setting
-  Quiet : List ℕ → Setting
-  Inverted : Setting
+-- The option that a word names.
+unfoldable pub named : List ℕ → Option Name
+named word = among names word
 
--- The argument of a format.
-abbrev pub format_argument : Format → List ℕ
-format_argument Svg = codes "svg"
-format_argument Pbm = codes "pbm"
-format_argument Terminal = codes "terminal"
+-- The number of an option: its place among the values.
+abbrev pub option_number : Name → ℕ
+option_number Text = 0
+option_number Format = 1
+option_number Content = 2
+option_number Level = 3
+option_number Strongest = 4
+option_number MinVersion = 5
+option_number MaxVersion = 6
+option_number Scale = 7
+option_number Quiet = 8
+option_number ModuleMm = 9
+option_number Dpi = 10
+option_number Inverted = 11
+option_number Title = 12
+option_number At = 13
+option_number Read = 14
+option_number Output = 15
+option_number AllowEmpty = 16
+option_number Help = 17
+option_number Version = 18
 
--- The arguments of a kind of symbol.
-abbrev pub kind_words : Kind → List (List ℕ)
-kind_words Qr = []
-kind_words Micro = codes "micro" ∷ []
-kind_words Utf8 = codes "utf8" ∷ []
+-- Whether the next word is the value of the option.
+abbrev pub takes_value : Name → Bool
+takes_value Strongest = false
+takes_value Inverted = false
+takes_value AllowEmpty = false
+takes_value Help = false
+takes_value Version = false
+takes_value _ = true
 
--- The arguments of an option.
-abbrev pub setting_words : Setting → List (List ℕ)
-setting_words (Scale text) = codes "--scale" ∷ text ∷ []
-setting_words (Quiet text) = codes "--quiet" ∷ text ∷ []
-setting_words Inverted = codes "--inverted" ∷ []
+-- Whether a word is written like an option: a hyphen, and more.
+abbrev pub looks_like_option : List ℕ → Bool
+looks_like_option word = nat_lt 1 (length word) && (slice_index word 0 == 45)
 
--- The arguments of some options, in order.
-abbrev pub spelled : List Setting → List (List ℕ)
-spelled settings = flat_map setting_words settings
+-- What is wrong with words: a word that names no option; an option with no value after it; a
+-- text where there is one; an option that has a value that it can't have, or does not go with
+-- the others.
+pub data Wrong : Type 0 where
+  unknown : List ℕ → Wrong
+  no_value : Name → Wrong
+  second_text : List ℕ → Wrong
+  invalid : Name → Wrong
 
--- The text of the last `--scale`, after one more option.
-abbrev pub with_scale : Option (List ℕ) → Setting → Option (List ℕ)
-with_scale before (Scale text) = Some text
-with_scale before _ = before
+-- The last value of each option, by its number. The value of a flag is empty.
+abbrev pub Values : Type 0
+Values = List (Option (List ℕ))
 
--- The text of the last `--quiet`, after one more option.
-abbrev pub with_quiet : Option (List ℕ) → Setting → Option (List ℕ)
-with_quiet before (Quiet text) = Some text
-with_quiet before _ = before
+-- The values so far, and the option whose value is the next word.
+pub record Scan : Type 0 where
+  pub pending : Option Name
+  pub values : Values
 
--- Whether there is an `--inverted`, after one more option.
-abbrev pub with_inverted : Bool → Setting → Bool
-with_inverted before Inverted = true
-with_inverted before _ = before
+-- No value is awaited.
+abbrev pub ready : Values → Scan
+ready values = record { pending = None; values = values }
 
--- The default scale of a format: the width of a module in pixels.
-abbrev pub default_scale : Format → ℕ
-default_scale Terminal = TEXT_SCALE
-default_scale _ = IMAGE_SCALE
+-- One value more, which replaces an earlier one of the same option.
+abbrev pub with : Values → Name → List ℕ → Scan
+with values name word = ready (set values (option_number name) (Some word))
 
--- The default width of the quiet zone in modules.
-abbrev pub default_quiet : Kind → ℕ
-default_quiet Micro = MICRO_QUIET
-default_quiet _ = QUIET
+-- The value of an option, if it is given.
+abbrev pub value_of : Values → Name → Option (List ℕ)
+value_of values name = get_or values (option_number name) None
 
--- Whether the picture is text, which alone can be inverted for a dark screen.
-abbrev pub is_text : Format → Bool
-is_text Terminal = true
-is_text _ = false
+-- Whether an option is given.
+abbrev pub is_given : Values → Name → Bool
+is_given values name = is_some (value_of values name)
 
--- The arguments describe a label: a format, a level with or without white space around it, a kind
--- if one is given, and then options in any order. Of repeated options the last one counts.
--- `--inverted` is valid only for text.
-pub record AskForLabel (words : List (List ℕ)) (asked : Label) : Type 0 where
-  pub level_word : List ℕ
-  pub settings : List Setting
-  pub words_are : words ≡
-      format_argument asked.format ∷ level_word ∷ kind_words asked.kind ++ spelled settings
-  pub level_is : NamesLevel (trim level_word) asked.level
-  pub scale_is :
-      AsksNumber (fold with_scale None settings) (default_scale asked.format)
-      MIN_SCALE MAX_SCALE asked.scale
-  pub quiet_is :
-      AsksNumber (fold with_quiet None settings) (default_quiet asked.kind) 0 MAX_QUIET asked.quiet
-  pub inverted_is : asked.inverted ≡ fold with_inverted false settings
-  pub inverts_text : IsTrue asked.inverted → IsTrue (is_text asked.format)
+-- A word that names no option is the text, if it is not written like one, and there is no text yet.
+abbrev pub read_plain : Values → List ℕ → Result Scan Wrong
+read_plain values word =
+    if looks_like_option word then Err (unknown word)
+    else (if is_some (value_of values Text) then Err (second_text word)
+    else Ok (with values Text word))
+
+-- A word that may name an option.
+abbrev pub read_name : Values → Option Name → List ℕ → Result Scan Wrong
+read_name values (Some name) word =
+    if takes_value name then Ok (record { pending = Some name; values = values }) else Ok (with values name [])
+read_name values None word = read_plain values word
+
+-- A word is the value that is awaited, or an option, or the text.
+unfoldable pub read_word : Scan → List ℕ → Result Scan Wrong
+read_word reading word =
+    elim reading.pending [
+      | Some name ↦ Ok (with reading.values name word)
+      | None ↦ read_name reading.values (named word) word
+    ]
+
+-- Words one after the other.
+abbrev pub read_words : Scan → List (List ℕ) → Result Scan Wrong
+read_words reading [] = Ok reading
+read_words reading (word ∷ words) =
+    elim (read_word reading word) [ Ok next ↦ read_words next words | Err wrong ↦ Err wrong ]
+
+-- At the end no value is awaited.
+abbrev pub words_ended : Result Scan Wrong → Result Values Wrong
+words_ended (Ok reading) = elim reading.pending [ Some name ↦ Err (no_value name) | None ↦ Ok reading.values ]
+words_ended (Err wrong) = Err wrong
+
+-- What words say.
+unfoldable pub values_in : List (List ℕ) → Result Values Wrong
+values_in words = words_ended (read_words (ready (replicate 19 None)) words)

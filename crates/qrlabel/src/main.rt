@@ -1,41 +1,49 @@
-//! `qrlabel` draws the symbol of its input as a picture: SVG, a portable bitmap, or text for
-//! a terminal.
+//! `qrlabel` draws the symbol of a text, a file or its input as a picture.
 //!
-//! 1. Read the command line (`args`, `option_args`).
-//! 2. Make the symbol of the input (`draw`, `text`).
-//! 3. Write its picture (`draw`), by the crate `qrcode_render`.
-//!
-//! `run` of the crate `programs` reads the input, writes the picture and returns the exit status.
+//! 1. Read the words (`words`), and find out what they ask for (`command`, `numbers`).
+//! 2. Open the devices that they name (`devices`).
+//! 3. Make the symbol of the input (`content`), and write its picture (`label`, `run`), by the
+//!    crate `qrcode_render`.
+//! 4. Say what went wrong, if something did (`misuse`, `report`).
 #![tactic(auto)]
 
-mod args;
-mod draw;
-mod option_args;
+mod command;
+mod content;
+mod devices;
+mod help;
+mod label;
+mod misuse;
+mod numbers;
+mod report;
+mod run;
+mod stop;
 #[cfg(test)]
 mod tests;
-mod text;
+mod words;
 
-use crate::args::LabelArgs;
-use programs::{Fault, FromReader, FromWriter, Program, arguments, lent_words, report, run};
+use crate::devices::run_on_devices;
+use crate::run::misused;
+use crate::words::read_words;
+use programs::{FromWriter, lent_words, report, valid_arguments, write_line};
 use std::process::ExitCode;
 
 /// Runs with the arguments, the input and the outputs of the process.
 fn main(rt: HostRuntime) -> ExitCode {
-    let mut reader = FromReader::new(rt.stdin());
-    let mut writer = FromWriter::new(rt.stdout());
     let mut errors = FromWriter::new(rt.stderr());
-    let status = match arguments(&rt) {
-        Ok(args) => match lent_words(rt.alloc(), &args) {
-            Ok(words) => run::<LabelArgs, _, _, _>(
-                rt.alloc(),
-                &words,
-                &mut reader,
-                &mut writer,
-                &mut errors,
-            ),
-            Err(error) => report(&mut errors, LabelArgs::name(), Fault::from(error)),
-        },
-        Err(fault) => report(&mut errors, LabelArgs::name(), fault),
+    let args = match valid_arguments(&rt) {
+        Ok(Some(args)) => args,
+        Ok(None) => {
+            let _ = write_line(&mut errors, "qrlabel", &["a word is not UTF-8, see --read"]);
+            return ExitCode::from(2);
+        }
+        Err(fault) => return ExitCode::from(report(&mut errors, "qrlabel", fault)),
     };
-    ExitCode::from(status)
+    let words = match lent_words(rt.alloc(), &args) {
+        Ok(words) => words,
+        Err(error) => return ExitCode::from(report(&mut errors, "qrlabel", error.into())),
+    };
+    ExitCode::from(match read_words(&words) {
+        Ok(values) => run_on_devices(&rt, &values, &mut errors),
+        Err(misuse) => misused(&mut errors, misuse),
+    })
 }

@@ -1,6 +1,7 @@
-//! Tests of arguments, labels and errors.
-use crate::args::LabelArgs;
-use programs::{FromReader, FromWriter, run};
+//! Tests of words, labels and errors.
+use crate::run::{misused, run};
+use crate::words::read_words;
+use programs::{FromReader, FromWriter};
 use qrcode_core::types::QrError;
 use std::alloc::Global;
 
@@ -14,7 +15,7 @@ struct Served {
     said: Vec<u8>,
 }
 
-/// Runs the program with arguments and an input.
+/// Runs the program with words and an input. Its output is no terminal.
 fn ran(alloc: Global, words: &[&str], input: &[u8]) -> Served {
     let mut bytes = input;
     let mut label: Vec<u8> = Vec::new(alloc);
@@ -22,7 +23,10 @@ fn ran(alloc: Global, words: &[&str], input: &[u8]) -> Served {
     let mut reader = FromReader::new(&mut bytes);
     let mut writer = FromWriter::new(&mut label);
     let mut errors = FromWriter::new(&mut said);
-    let status = run::<LabelArgs, _, _, _>(alloc, words, &mut reader, &mut writer, &mut errors);
+    let status = match read_words(words) {
+        Ok(values) => run(alloc, &values, false, &mut reader, &mut writer, &mut errors),
+        Err(misuse) => misused(&mut errors, misuse),
+    };
     Served {
         status,
         unread: bytes.len(),
@@ -31,52 +35,129 @@ fn ran(alloc: Global, words: &[&str], input: &[u8]) -> Served {
     }
 }
 
-/// Each row has the arguments, the status and the number of bytes written: those of a bitmap of
-/// that many columns and rows.
+/// Each row has the words after `-f pbm`, the status and the number of bytes written: those of a
+/// bitmap of that many columns and rows.
 #[test]
-fn runs(rt: HostRuntime) -> Result<(), QrError> {
-    let rows: [(&[&str], u8, usize); 20] = [
-        (&["pbm", "L"], 0, 11 + 29 * 232),
-        (&["pbm", "L", "--scale", "1"], 0, 9 + 4 * 29),
+fn draws_bitmaps(rt: HostRuntime) -> Result<(), QrError> {
+    let rows: [(&[&str], usize); 8] = [
+        (&["-f", "pbm", "-l", "L"], 11 + 29 * 232),
         (
-            &[
-                "pbm", " l ", "--scale", "x", "--quiet", "0", "--scale", "+1",
-            ],
-            0,
+            &["--format", "pbm", "--level", "L", "--scale", "1"],
+            9 + 4 * 29,
+        ),
+        (&["-f", "pbm", "-s", "x", "-q", "0", "-s", "+1"], 9 + 3 * 21),
+        (
+            &["-f", "pbm", "-l", "q", "-c", "micro", "-s", "1"],
             9 + 3 * 21,
         ),
-        (&["pbm", "q", "micro", "--scale", "1"], 0, 9 + 3 * 21),
-        (&["pbm", "q", "micro", "--inverted", "--scale", "1"], 2, 0),
-        (&["svg", "L", "--quiet", "1", "--inverted"], 2, 0),
-        (&["pbm", "H", "micro"], 1, 0),
         (
-            &["pbm", "l", "utf8", "--scale", "1", "--quiet", "1"],
-            0,
+            &["-f", "pbm", "-c", "text", "-s", "1", "-q", "1"],
             9 + 3 * 23,
         ),
-        (&[], 2, 0),
-        (&["pbm"], 2, 0),
-        (&["png", "L"], 2, 0),
-        (&["pbm", "X"], 2, 0),
-        (&["pbm", "L", "mikro"], 2, 0),
-        (&["pbm", "L", "UTF8"], 2, 0),
-        (&["pbm", "L", "utf8", "micro"], 2, 0),
-        (&["pbm", "L", "--scale", "0"], 2, 0),
-        (&["pbm", "L", "--scale", "65"], 2, 0),
-        (&["pbm", "L", "--quiet", "17"], 2, 0),
-        (&["pbm", "L", "--scale"], 2, 0),
-        (&["pbm", "L", "--inverted", "micro"], 2, 0),
+        (&["-o", "a.pbm", "-s", "1"], 9 + 4 * 29),
+        (&["-f", "pbm", "-s", "1", "--min-version", "5"], 9 + 6 * 45),
+        (&["-f", "pbm", "-s", "1", "--max-version", "1"], 9 + 4 * 29),
     ];
-    let usage =
-        "usage: qrlabel svg|pbm|terminal L|M|Q|H [micro|utf8] [--scale N] [--quiet N] [--inverted]\n";
-    for (words, status, length) in rows {
+    for (words, length) in rows {
         let answer = ran(rt.alloc(), words, b"hello");
-        assert_eq!(rt; answer.status, status, "{words:?}");
+        assert_eq!(rt; answer.status, 0, "{words:?}");
         assert_eq!(rt; answer.label.len(), length, "{words:?}");
-        if status == 2 {
-            assert_eq!(rt; answer.said.as_slice(), usage.as_bytes());
-            assert_eq!(rt; answer.unread, 5, "{words:?}");
-        }
+        assert_eq!(rt; answer.said.len(), 0, "{words:?}");
+    }
+    Ok(())
+}
+
+/// Each row has words that are wrong, and what is written about them. Nothing is read or drawn.
+#[test]
+fn names_what_is_wrong(rt: HostRuntime) -> Result<(), QrError> {
+    let rows: [(&[&str], &str); 22] = [
+        (&["--foo"], "no option --foo"),
+        (&["-x"], "no option -x"),
+        (&["-s"], "no value after --scale"),
+        (&["a", "b"], "more than one text: b"),
+        (&["-s", "0"], "invalid --scale: 1 to 64"),
+        (&["-s", "65"], "invalid --scale: 1 to 64"),
+        (&["-s", "x"], "invalid --scale: 1 to 64"),
+        (&["-q", "17"], "invalid --quiet: 0 to 16"),
+        (&["-l", "X"], "invalid --level: L, M, Q or H"),
+        (
+            &["-c", "mikro"],
+            "invalid --content: auto, text, bytes, gs1 or micro",
+        ),
+        (
+            &["-f", "gif"],
+            "invalid --format: terminal, svg, png, pbm, eps, escpos or zpl",
+        ),
+        (
+            &["-o", "a.gif"],
+            "invalid --output: a name that ends with .txt, .svg, .png, .pbm, .eps, .escpos or .zpl",
+        ),
+        (&["--inverted"], "invalid --inverted: for terminal"),
+        (
+            &["--dpi", "300"],
+            "invalid --dpi: 50 to 2400, for png, and not with --module-mm",
+        ),
+        (
+            &["--module-mm", "0.04"],
+            "invalid --module-mm: 0.05 to 10, for svg, png and eps",
+        ),
+        (
+            &["--module-mm", "0.333"],
+            "invalid --module-mm: 0.05 to 10, for svg, png and eps",
+        ),
+        (
+            &["--at", "1"],
+            "invalid --at: X,Y, each 0 to 18000, for zpl",
+        ),
+        (
+            &["-f", "pbm", "--title", "x"],
+            "invalid --title: a text without control characters, for svg",
+        ),
+        (
+            &["-c", "micro", "--strongest"],
+            "invalid --strongest: not for a Micro symbol",
+        ),
+        (
+            &["-c", "micro", "--min-version", "1"],
+            "invalid --min-version: 1 to 40, not for a Micro symbol",
+        ),
+        (
+            &["--min-version", "5", "--max-version", "4"],
+            "invalid --max-version: 1 to 40, at least --min-version, not for a Micro symbol",
+        ),
+        (&["-r", "a", "b"], "invalid --read: not with a text"),
+    ];
+    for (words, line) in rows {
+        let answer = ran(rt.alloc(), words, b"hello");
+        let whole = format!(in rt.alloc(); "qrlabel: {line}\ntry qrlabel --help\n")?;
+        assert_eq!(rt; answer.status, 2, "{words:?}");
+        assert_eq!(rt; answer.said.as_slice(), whole.as_bytes(), "{words:?}");
+        assert_eq!(rt; answer.label.len(), 0, "{words:?}");
+        assert_eq!(rt; answer.unread, 5, "{words:?}");
+    }
+    Ok(())
+}
+
+/// Each row has a format, an ending of a name that asks for it, and the bytes with which its files
+/// begin: the signature of PNG (ISO/IEC 15948, 5.2), the magic number of Netpbm's `P4`, the first
+/// comment of EPS, `GS v 0` of ESC/POS and `^XA` of ZPL.
+#[test]
+fn takes_formats(rt: HostRuntime) -> Result<(), QrError> {
+    let rows: [(&str, &str, &[u8]); 7] = [
+        ("svg", "a.svg", b"<svg "),
+        ("png", "a.b.png", b"\x89PNG\r\n\x1A\n"),
+        ("pbm", ".pbm", b"P4\n"),
+        ("eps", "a.eps", b"%!PS-Adobe-3.0 EPSF-3.0\n"),
+        ("escpos", "a.escpos", b"\x1Dv0\0"),
+        ("zpl", "a.zpl", b"^XA\n"),
+        ("terminal", "a.txt", b"      "),
+    ];
+    for (format, name, beginning) in rows {
+        let named = ran(rt.alloc(), &["-f", format], b"hello");
+        let ended = ran(rt.alloc(), &["-o", name], b"hello");
+        assert_eq!(rt; named.status, 0, "{format}");
+        assert!(rt; named.label.starts_with(beginning), "{format}");
+        assert_eq!(rt; named.label.as_slice(), ended.label.as_slice(), "{format}");
     }
     Ok(())
 }
@@ -97,14 +178,66 @@ const THANKS: &str = "\
 ▀▀▀▀▀▀▀ ▀ ▀    ▀ ▀ ▀ 
 ";
 
-/// A text in UTF-8 has the ECI designator, and is in one Byte segment.
+/// Text that is not ASCII has the ECI designator of UTF-8, and is in one Byte segment.
 #[test]
 fn draws_utf8(rt: HostRuntime) -> Result<(), QrError> {
-    let words = ["terminal", "L", "utf8", "--quiet", "0"];
-    let answer = ran(rt.alloc(), &words, "ありがとう".as_bytes());
-    assert_eq!(rt; answer.status, 0);
-    assert_eq!(rt; answer.label.as_slice(), THANKS.as_bytes());
-    assert_eq!(rt; answer.said.len(), 0);
+    let asked: [&[&str]; 2] = [
+        &["-f", "terminal", "-l", "L", "-q", "0"],
+        &["-f", "terminal", "-l", "L", "-q", "0", "-c", "text"],
+    ];
+    for words in asked {
+        let answer = ran(rt.alloc(), words, "ありがとう".as_bytes());
+        assert_eq!(rt; answer.status, 0);
+        assert_eq!(rt; answer.label.as_slice(), THANKS.as_bytes());
+        assert_eq!(rt; answer.said.len(), 0);
+    }
+    Ok(())
+}
+
+/// Returns the bitmap that words and an input ask for.
+fn bitmap(alloc: Global, words: &[&str], input: &[u8]) -> Result<Vec<u8>, QrError> {
+    let mut all: Vec<&str> = Vec::new(alloc);
+    all.extend_from_slice(&["-f", "pbm", "-s", "1"])?;
+    all.extend_from_slice(words)?;
+    Ok(ran(alloc, &all, input).label)
+}
+
+/// Two ways to ask for one symbol: bytes that are ASCII, or no UTF-8, are drawn as they are; text
+/// that is neither as text; bracketed elements as their element string, which the separator 1D
+/// (hex) ends where the length is not predefined (GS1 General Specifications, 7.8); and with
+/// `--strongest` the 5 bytes at level H, at which version 1 holds 7.
+#[test]
+fn draws_the_same(rt: HostRuntime) -> Result<(), QrError> {
+    let alloc = rt.alloc();
+    let written = b"(01)09506000134352(10)ABC123(21)7";
+    let elements = b"010950600013435210ABC123\x1D217";
+    let rows: [(&[&str], &[u8], &[&str], &[u8]); 5] = [
+        (&[], b"hello", &["-c", "bytes"], b"hello"),
+        (&[], b"caf\xE9", &["-c", "bytes"], b"caf\xE9"),
+        (
+            &[],
+            "Gr\u{fc}\u{df}e".as_bytes(),
+            &["-c", "text"],
+            "Gr\u{fc}\u{df}e".as_bytes(),
+        ),
+        (&["-c", "gs1"], written, &["-c", "gs1"], elements),
+        (
+            &["-l", "L", "--strongest"],
+            b"hello",
+            &["-l", "H"],
+            b"hello",
+        ),
+    ];
+    for (words, input, others, other) in rows {
+        let (first, second) = (bitmap(alloc, words, input)?, bitmap(alloc, others, other)?);
+        assert!(rt; first.starts_with(b"P4\n"), "{words:?}");
+        assert_eq!(rt; first.as_slice(), second.as_slice(), "{words:?}");
+    }
+    let (text, bytes) = (
+        bitmap(alloc, &["-c", "text"], b"hello")?,
+        bitmap(alloc, &[], b"hello")?,
+    );
+    assert!(rt; text.as_slice() != bytes.as_slice());
     Ok(())
 }
 
@@ -119,10 +252,11 @@ fn inverted(character: char) -> char {
     }
 }
 
-/// Only text can be inverted: the other formats reject the option (`runs`).
+/// Only text for a terminal can be inverted: the other formats reject the option
+/// (`names_what_is_wrong`).
 #[test]
 fn inverts_text(rt: HostRuntime) -> Result<(), QrError> {
-    let words = ["terminal", "L", "utf8", "--inverted", "--quiet", "0"];
+    let words = ["-f", "terminal", "-l", "L", "--inverted", "-q", "0"];
     let answer = ran(rt.alloc(), &words, "ありがとう".as_bytes());
     let Ok(text) = str::from_utf8(&answer.label) else {
         return Err(QrError::OutOfMemory);
@@ -132,32 +266,70 @@ fn inverts_text(rt: HostRuntime) -> Result<(), QrError> {
     Ok(())
 }
 
-/// With `utf8`, bytes that are not UTF-8 are rejected, and so are too many: version 40 holds 2952
-/// bytes after the designator.
+/// Inputs of which there is no label, and the line that says why. At level L version 40 holds 2952
+/// bytes after the designator of UTF-8, and the check digit of 9506000134352 is 2.
 #[test]
-fn refuses_with_utf8(rt: HostRuntime) -> Result<(), QrError> {
+fn reports_errors(rt: HostRuntime) -> Result<(), QrError> {
     let many = [0xFF; 7090];
-    let rows: [(&[u8], &str); 5] = [
+    let rows: [(&str, &[u8], &str); 11] = [
         (
+            "text",
             b"caf\xE9",
-            "qrlabel: invalid character byte 0xe9 at position 3\n",
+            "invalid character byte 0xe9 at position 3",
         ),
         (
+            "text",
             b"a\xE3\x81",
-            "qrlabel: invalid character byte 0xe3 at position 1\n",
+            "invalid character byte 0xe3 at position 1",
         ),
-        (&[b'a'; 2953], "qrlabel: data too long to encode\n"),
+        ("text", &[b'a'; 2953], "data too long to encode"),
         (
+            "text",
             &many[1..],
-            "qrlabel: invalid character byte 0xff at position 0\n",
+            "invalid character byte 0xff at position 0",
         ),
-        (&many, "qrlabel: data too long to encode\n"),
+        ("auto", &many, "data too long to encode"),
+        ("micro", &[b'a'; 16], "data too long to encode"),
+        ("bytes", b"", "empty input, see --allow-empty"),
+        (
+            "gs1",
+            b"10AB|C",
+            "invalid character byte 0x7c at position 4",
+        ),
+        ("gs1", b"(01)09506000134351", "element 0: wrong check digit"),
+        (
+            "gs1",
+            b"(10)A(01)1",
+            "element 1: the length of the value is wrong",
+        ),
+        ("gs1", b"(10)", "element 0: the value is empty"),
     ];
-    for (bytes, line) in rows {
-        let answer = ran(rt.alloc(), &["svg", "L", "utf8"], bytes);
+    for (content, bytes, line) in rows {
+        let answer = ran(rt.alloc(), &["-l", "L", "-c", content], bytes);
+        let whole = format!(in rt.alloc(); "qrlabel: {line}\n")?;
         assert_eq!(rt; answer.status, 1, "{line}");
-        assert_eq!(rt; answer.said.as_slice(), line.as_bytes());
+        assert_eq!(rt; answer.said.as_slice(), whole.as_bytes(), "{line}");
         assert_eq!(rt; answer.label.len(), 0, "{line}");
+    }
+    let empty = ran(rt.alloc(), &["--allow-empty"], b"");
+    assert_eq!(rt; empty.status, 0);
+    assert!(rt; empty.label.starts_with(b"<svg "));
+    Ok(())
+}
+
+/// Help and the version come first, whatever else is asked for.
+#[test]
+fn shows_help(rt: HostRuntime) -> Result<(), QrError> {
+    let rows: [(&[&str], &str); 3] = [
+        (&["--help"], "usage: qrlabel [OPTIONS] [TEXT]\n"),
+        (&["-s", "99", "-h"], "usage: qrlabel [OPTIONS] [TEXT]\n"),
+        (&["-V", "-l", "X"], "qrlabel 0.3.0\n"),
+    ];
+    for (words, beginning) in rows {
+        let answer = ran(rt.alloc(), words, b"hello");
+        assert_eq!(rt; answer.status, 0, "{words:?}");
+        assert!(rt; answer.label.starts_with(beginning.as_bytes()), "{words:?}");
+        assert_eq!(rt; answer.unread, 5, "{words:?}");
     }
     Ok(())
 }
@@ -167,9 +339,13 @@ fn refuses_with_utf8(rt: HostRuntime) -> Result<(), QrError> {
 #[test]
 fn draws_a_hundred_labels(rt: HostRuntime) -> Result<(), QrError> {
     let text = [b'a'; 100];
-    let asked: [&[&str]; 3] = [&["svg", "M"], &["pbm", "Q", "utf8"], &["terminal", "H"]];
+    let asked: [&[&str]; 3] = [
+        &["-f", "svg"],
+        &["-f", "png", "-l", "Q", "-c", "text"],
+        &["-f", "terminal", "-l", "H"],
+    ];
     for length in 0..100 {
-        let answer = ran(rt.alloc(), asked[length % 3], &text[..length]);
+        let answer = ran(rt.alloc(), asked[length % 3], &text[..length + 1]);
         assert_eq!(rt; answer.status, 0, "{length}");
     }
     Ok(())

@@ -1,5 +1,5 @@
--- The rows so far were added, and the line is that of the next row, if that is in the same row of
--- modules.
+-- The rows so far were added, and the line is that of the next row, if that is in the same row
+-- of modules.
 use Rattle.std.proofs.Common.{◌≡◌, ◌≢◌, ◌-◌, ◌%◌, ◌++◌}
 use Rattle.qrcode_render.specs.{Bitmaps.bitmap_row, Bitmaps.rows_from, Shown.shown}
 use Rattle.qrcode_render.proofs.bitmap.push_rows_from.Given as goal

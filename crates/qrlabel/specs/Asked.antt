@@ -1,0 +1,53 @@
+-- What the program's labels and commands stand for.
+use Rattle.std.specs.Prelude.{Result, Ok, Err}
+use Rattle.std.specs.Option.{option_copied}
+use Rattle.qrcode_render.specs.declared.settings.Settings.{Settings}
+use Rattle.qrlabel.specs.declared.command.Command.{Command as Given}
+use Rattle.qrlabel.specs.declared.command.Command.TheVariants.{Help, Version, Label as LabelGiven}
+use Rattle.qrlabel.specs.declared.command.Label.{Label as Drawn}
+use Rattle.qrlabel.specs.declared.words.Misuse.{Misuse}
+use Rattle.qrlabel.specs.Commands.{Wishes, Label, Command, asks_help, asks_version, asks_label}
+use Rattle.qrlabel.specs.Said.{wrong_of}
+use Rattle.qrlabel.specs.Words.{Wrong}
+
+abbrev pub outcome : {A : Type 0} → Result A Misuse → Result A Wrong
+outcome (Ok thing) = Ok thing
+outcome (Err misuse) = Err (wrong_of misuse)
+
+-- The settings of a picture.
+abbrev pub wishes_of : Settings → Wishes
+wishes_of s = record {
+  scale = s.scale;
+  quiet = s.quiet;
+  module_mm = s.module_mm;
+  dpi = s.dpi;
+  inverted = s.inverted;
+  title = option_copied s.title;
+  at = s.at;
+}
+
+abbrev pub settings_outcome : Result Settings Misuse → Result Wishes Wrong
+settings_outcome (Ok settings) = Ok (wishes_of settings)
+settings_outcome (Err misuse) = Err (wrong_of misuse)
+
+abbrev pub label_of : Drawn → Label
+label_of drawn = record {
+  content = drawn.content;
+  symbol = drawn.symbol;
+  format = drawn.format;
+  wishes = wishes_of drawn.settings;
+  allow_empty = drawn.allow_empty;
+}
+
+abbrev pub label_outcome : Result Drawn Misuse → Result Label Wrong
+label_outcome (Ok drawn) = Ok (label_of drawn)
+label_outcome (Err misuse) = Err (wrong_of misuse)
+
+abbrev pub command_of : Given → Command
+command_of Help = asks_help
+command_of Version = asks_version
+command_of (LabelGiven drawn) = asks_label (label_of drawn)
+
+abbrev pub command_outcome : Result Given Misuse → Result Command Wrong
+command_outcome (Ok given) = Ok (command_of given)
+command_outcome (Err misuse) = Err (wrong_of misuse)

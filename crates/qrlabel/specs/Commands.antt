@@ -1,0 +1,205 @@
+-- What the values of the options ask for: help, the version, or a label.
+use Rattle.std.specs.Prelude.{ℕ, ◌-◌, ◌==◌, nat_le, ℤ, pos, nat_abs, Bool, true, false, ◌&&◌, if◌then◌else◌, codes}
+use Rattle.std.specs.Prelude.{List, [], ◌∷◌, length, Option, None, Some, unwrap_or, Result, Ok, Err}
+use Rattle.std.specs.List.{ends_with}
+use Rattle.qrcode_core.specs.declared.options.SymbolOptions.{SymbolOptions}
+use Rattle.qrcode_core.specs.declared.types.EcLevel.{EcLevel}
+use Rattle.qrcode_core.specs.declared.types.EcLevel.TheVariants.{L, M, Q, H}
+use Rattle.qrcode_render.specs.declared.bounds.TheConstants.{MICRO_QUIET}
+use Rattle.qrcode_render.specs.declared.format.Format.{Format as FormatOf}
+use Rattle.qrcode_render.specs.declared.format.Format.TheVariants.{Terminal, Svg, Png, Pbm, Eps, EscPos, Zpl}
+use Rattle.qrlabel.specs.declared.command.Content.{Content as ContentOf}
+use Rattle.qrlabel.specs.declared.command.Content.TheVariants.{Auto, Text as TextOf, Bytes, Gs1, Micro}
+use Rattle.qrlabel.specs.declared.words.Name.{Name}
+use Rattle.qrlabel.specs.declared.words.Name.TheVariants.{Text, Format, Content, Level, Strongest}
+use Rattle.qrlabel.specs.declared.words.Name.TheVariants.{MinVersion, MaxVersion, Scale, Quiet}
+use Rattle.qrlabel.specs.declared.words.Name.TheVariants.{ModuleMm, Dpi, Inverted, Title, At, Read}
+use Rattle.qrlabel.specs.declared.words.Name.TheVariants.{Output, AllowEmpty, Help, Version}
+use Rattle.qrlabel.specs.Numbers.{number_in, hundredths_in, place_in}
+use Rattle.qrlabel.specs.Words.{among, Values, value_of, is_given, Wrong, invalid}
+
+infixl 20 ◌>>=◌
+-- One thing after another, up to the first that is wrong.
+abbrev pub ◌>>=◌ : {A B : Type 0} → Result A Wrong → (A → Result B Wrong) → Result B Wrong
+(Ok a) >>= more = more a
+(Err wrong) >>= more = Err wrong
+
+-- ---- The words of levels, contents and formats
+
+abbrev pub level_named : List ℕ → Option EcLevel
+level_named =
+    among ((codes "L", L) ∷ (codes "l", L) ∷ (codes "M", M) ∷ (codes "m", M) ∷ (codes "Q", Q) ∷ (codes "q", Q)
+    ∷ (codes "H", H) ∷ (codes "h", H) ∷ [])
+
+abbrev pub content_named : List ℕ → Option ContentOf
+content_named =
+    among ((codes "auto", Auto) ∷ (codes "text", TextOf) ∷ (codes "bytes", Bytes) ∷ (codes "gs1", Gs1)
+    ∷ (codes "micro", Micro) ∷ [])
+
+abbrev pub format_named : List ℕ → Option FormatOf
+format_named =
+    among ((codes "terminal", Terminal) ∷ (codes "svg", Svg) ∷ (codes "png", Png) ∷ (codes "pbm", Pbm)
+    ∷ (codes "eps", Eps) ∷ (codes "escpos", EscPos) ∷ (codes "zpl", Zpl) ∷ [])
+
+-- Whether a name has this ending.
+abbrev pub has_ending : List ℕ → List ℕ → Bool
+has_ending name ending = ends_with (λ a b. a == b) name ending
+
+-- What a table has for the ending of a name.
+abbrev pub by_ending : {A : Type 0} → List (List ℕ × A) → List ℕ → Option A
+by_ending [] name = None
+by_ending (entry ∷ entries) name =
+    elim (has_ending name entry.0) [ true ↦ Some entry.1 | false ↦ by_ending entries name ]
+
+abbrev pub format_of_ending : List ℕ → Option FormatOf
+format_of_ending =
+    by_ending ((codes ".txt", Terminal) ∷ (codes ".svg", Svg) ∷ (codes ".png", Png) ∷ (codes ".pbm", Pbm)
+    ∷ (codes ".eps", Eps) ∷ (codes ".escpos", EscPos) ∷ (codes ".zpl", Zpl) ∷ [])
+
+-- ---- What each option asks for
+
+-- What was found for an option.
+abbrev pub found_or : {A : Type 0} → Option A → Name → Result A Wrong
+found_or (Some thing) name = Ok thing
+found_or None name = Err (invalid name)
+
+-- What was found for an option that is given.
+abbrev pub some_found : {A : Type 0} → Option A → Name → Result (Option A) Wrong
+some_found (Some thing) name = Ok (Some thing)
+some_found None name = Err (invalid name)
+
+-- The thing that an option's value stands for, or the default.
+abbrev pub asked_or : {A : Type 0} → (List ℕ → Option A) → A → Name → Values → Result A Wrong
+asked_or meaning default name values =
+    elim (value_of values name) [ Some word ↦ found_or (meaning word) name | None ↦ Ok default ]
+
+-- The thing that an option's value stands for, if it is given.
+abbrev pub asked : {A : Type 0} → (List ℕ → Option A) → Name → Values → Result (Option A) Wrong
+asked meaning name values =
+    elim (value_of values name) [ Some word ↦ some_found (meaning word) name | None ↦ Ok None ]
+
+abbrev pub level_asked : Values → Result EcLevel Wrong
+level_asked = asked_or level_named M Level
+
+abbrev pub content_asked : Values → Result ContentOf Wrong
+content_asked = asked_or content_named Auto Content
+
+-- The format: that of its name, or of the ending of the output's name; else text for a terminal if
+-- the output is one, and SVG if not.
+abbrev pub format_asked : Bool → Values → Result FormatOf Wrong
+format_asked on_terminal values =
+    elim (value_of values Format) [
+      | Some word ↦ found_or (format_named word) Format
+      | None ↦ asked_or format_of_ending (if on_terminal then Terminal else Svg) Output values
+    ]
+
+-- The number of a Normal version.
+abbrev pub version_in : List ℕ → Option ℤ
+version_in word =
+    elim (number_in word) [ Some n ↦ (if nat_le 1 n && nat_le n 40 then Some (pos n) else None) | None ↦ None ]
+
+abbrev pub version_asked : Name → ℤ → Values → Result ℤ Wrong
+version_asked name default = asked_or version_in default name
+
+abbrev pub number_asked : Name → Values → Result (Option ℕ) Wrong
+number_asked = asked number_in
+
+-- The size of a module in hundredths of a millimetre.
+abbrev pub module_asked : Values → Result (Option ℕ) Wrong
+module_asked = asked hundredths_in ModuleMm
+
+abbrev pub place_asked : Values → Result (Option (ℕ × ℕ)) Wrong
+place_asked = asked place_in At
+
+-- ---- The picture, the symbol and the label
+
+-- What is asked of a picture.
+pub record Wishes : Type 0 where
+  pub scale : Option ℕ
+  pub quiet : Option ℕ
+  pub module_mm : Option ℕ
+  pub dpi : Option ℕ
+  pub inverted : Bool
+  pub title : Option (List ℕ)
+  pub at : Option (ℕ × ℕ)
+
+abbrev pub settings_asked : Values → Result Wishes Wrong
+settings_asked values = do
+  scale ← number_asked Scale values
+  quiet ← number_asked Quiet values
+  module_mm ← module_asked values
+  dpi ← number_asked Dpi values
+  at ← place_asked values
+  Ok (record {
+    scale = scale;
+    quiet = quiet;
+    module_mm = module_mm;
+    dpi = dpi;
+    inverted = is_given values Inverted;
+    title = value_of values Title;
+    at = at;
+  })
+
+-- The least version is at most the greatest.
+abbrev pub ranged : SymbolOptions → Result SymbolOptions Wrong
+ranged options =
+    if nat_le (nat_abs options.min_version) (nat_abs options.max_version) then Ok options else Err (invalid MaxVersion)
+
+-- The quiet zone of a Micro symbol is narrower, if no width is given.
+abbrev pub zoned : ContentOf → Wishes → Wishes
+zoned Micro wishes = record wishes { quiet = Some (unwrap_or wishes.quiet MICRO_QUIET) }
+zoned _ wishes = wishes
+
+-- The level, the versions, and whether the level is raised.
+abbrev pub symbol_asked : Values → Result SymbolOptions Wrong
+symbol_asked values = do
+  level ← level_asked values
+  least ← version_asked MinVersion (pos 1) values
+  most ← version_asked MaxVersion (pos 40) values
+  ranged (record { level = level; min_version = least; max_version = most; strongest = is_given values Strongest })
+
+-- No option is given that a Micro symbol does not have.
+abbrev pub micro_asked : ContentOf → Values → Result (Unit {0}) Wrong
+micro_asked Micro values =
+    if is_given values Strongest then Err (invalid Strongest)
+    else (if is_given values MinVersion then Err (invalid MinVersion)
+    else (if is_given values MaxVersion then Err (invalid MaxVersion) else Ok tt))
+micro_asked _ values = Ok tt
+
+-- A label: what its symbol says, how the symbol is chosen, its picture, and whether an input with
+-- no bytes is drawn.
+pub record Label : Type 0 where
+  pub content : ContentOf
+  pub symbol : SymbolOptions
+  pub format : FormatOf
+  pub wishes : Wishes
+  pub allow_empty : Bool
+
+abbrev pub label_asked : Bool → Values → Result Label Wrong
+label_asked on_terminal values = do
+  content ← content_asked values
+  symbol ← symbol_asked values
+  micro ← micro_asked content values
+  format ← format_asked on_terminal values
+  wishes ← settings_asked values
+  Ok (record {
+    content = content;
+    symbol = symbol;
+    format = format;
+    wishes = zoned content wishes;
+    allow_empty = is_given values AllowEmpty;
+  })
+
+-- What the words ask for.
+pub data Command : Type 0 where
+  asks_help : Command
+  asks_version : Command
+  asks_label : Label → Command
+
+-- A text and a file to read are not given together.
+abbrev pub command_asked : Bool → Values → Result Command Wrong
+command_asked on_terminal values =
+    if is_given values Help then Ok asks_help
+    else (if is_given values Version then Ok asks_version
+    else (if is_given values Text && is_given values Read then Err (invalid Read)
+    else (label_asked on_terminal values >>= (λ asked. Ok (asks_label asked)))))

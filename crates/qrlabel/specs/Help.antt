@@ -1,0 +1,56 @@
+-- The texts of `--help` and `--version`.
+use Rattle.std.specs.Prelude.{ℕ, List, [], ◌∷◌, ◌++◌, codes, flat_map}
+
+-- The lines of the help.
+abbrev pub help_lines : List (List ℕ)
+help_lines =
+    codes "usage: qrlabel [OPTIONS] [TEXT]"
+    ∷ codes ""
+    ∷ codes "Draws the QR code of TEXT, of a file, or of standard input."
+    ∷ codes ""
+    ∷ codes "Input and output:"
+    ∷ codes "  -r, --read FILE       read FILE; default: standard input, if there is no TEXT"
+    ∷ codes "  -o, --output FILE     write FILE, once it is whole; default: standard output"
+    ∷ codes "      --allow-empty     draw an input without any bytes, too"
+    ∷ codes "      -- TEXT           take the next word as TEXT, even if it begins with '-'"
+    ∷ codes ""
+    ∷ codes "Content:"
+    ∷ codes "  -c, --content KIND    auto, text, bytes, gs1 or micro; default: auto, which is"
+    ∷ codes "                        text for UTF-8 that is not ASCII, else bytes"
+    ∷ codes "  -l, --level LEVEL     L, M, Q or H: about 7, 15, 25 or 30 percent can be"
+    ∷ codes "                        damaged; default: M"
+    ∷ codes "      --strongest       raise the level as far as the symbol stays as small"
+    ∷ codes "      --min-version N   1 to 40; default: 1"
+    ∷ codes "      --max-version N   1 to 40; default: 40"
+    ∷ codes ""
+    ∷ codes "Picture:"
+    ∷ codes "  -f, --format FORMAT   terminal, svg, png, pbm, eps, escpos or zpl; default: by"
+    ∷ codes "                        the ending of the output's name (.txt for terminal),"
+    ∷ codes "                        else terminal on a terminal, and svg elsewhere"
+    ∷ codes "  -s, --scale N         pixels a module, 1 to 64; default: 8, of terminal 1"
+    ∷ codes "  -q, --quiet N         light margin in modules, 0 to 16; default: 4, of micro 2"
+    ∷ codes "      --module-mm MM    size of a module, 0.05 to 10 (svg, png, eps)"
+    ∷ codes "      --dpi N           pixels an inch, 50 to 2400 (png)"
+    ∷ codes "      --inverted        for light text on a dark screen (terminal)"
+    ∷ codes "      --title TITLE     title of the picture (svg)"
+    ∷ codes "      --at X,Y          position on the label in dots, 0 to 18000 (zpl)"
+    ∷ codes ""
+    ∷ codes "  -h, --help            show this text"
+    ∷ codes "  -V, --version         show the version"
+    ∷ codes ""
+    ∷ codes "Examples:"
+    ∷ codes "  qrlabel https://example.org"
+    ∷ codes "  qrlabel -o hello.png hello"
+    ∷ codes "  qrlabel -c gs1 --module-mm 0.5 -o pallet.svg '(01)09506000134352(10)ABC'"
+    ∷ codes "  qrlabel --strongest -f zpl --at 40,40 -r address.txt > label.zpl"
+    ∷ codes ""
+    ∷ codes "The exit status is 0 if all was written, 1 after an error, and 2 for wrong words."
+    ∷ []
+
+-- The text of `--help`: each line, and a newline.
+unfoldable pub help_text : List ℕ
+help_text = flat_map (λ line. line ++ 10 ∷ []) help_lines
+
+-- The text of `--version`.
+abbrev pub version_line : List ℕ
+version_line = codes "qrlabel 0.3.0\n"

@@ -1,0 +1,115 @@
+-- What the program reads and writes, and its exit status.
+use Rattle.std.specs.Prelude.{◌≡◌, ◌≢◌, ◌⊎◌, ◌+◌, ◌↔◌, ℕ, Bool, List, [], Result, Ok, Err, Option, None, Some}
+use Rattle.std.specs.Prelude.{IsTrue, IsErrOf, is_err, codes}
+use Rattle.std.specs.Io.KnownBytes.{Keeps}
+use Rattle.programs.specs.Devices.{Input, Output, Writes, ReadsEnough, ReadsWithin}
+use Rattle.programs.specs.Outcome.{WritesDrawing, BeginsDrawing, error_line, exit_status, report}
+use Rattle.programs.specs.declared.Fault.{Fault as FaultOf}
+use Rattle.programs.specs.declared.Fault.TheVariants.{Symbol, Read, Write}
+use Rattle.qrcode_base.specs.declared.symbols.TheConstants.{LONGEST_DATA}
+use Rattle.qrcode_core.specs.declared.types.errors.QrError.TheVariants.{OutOfMemory}
+use Rattle.qrcode_render.specs.Made.{IsMadeOf}
+use Rattle.qrcode_render.specs.Settings.{invalid_setting}
+use Rattle.qrcode_render.specs.declared.draw_options.DrawOptions.{DrawOptions}
+use Rattle.qrlabel.specs.Asked.{label_of}
+use Rattle.qrlabel.specs.Commands.{Command, asks_help, asks_version, asks_label}
+use Rattle.qrlabel.specs.Help.{help_text, version_line}
+use Rattle.qrlabel.specs.Labels.{ShowsLabel, IsLabelStop}
+use Rattle.qrlabel.specs.Misuses.{wrong_line}
+use Rattle.qrlabel.specs.Settings.{setting_name}
+use Rattle.qrlabel.specs.Stops.{stop_line}
+use Rattle.qrlabel.specs.Words.{Wrong, invalid}
+use Rattle.qrlabel.specs.declared.command.Label.{Label}
+use Rattle.qrlabel.specs.declared.stop.Stop.{Stop}
+use Rattle.qrlabel.specs.declared.stop.Stop.TheVariants.{Fault}
+
+-- There is no label of the bytes that were read, for this reason.
+pub record IsStopped (label : Label) (stop : Stop) (input : Input) : Type 0 where
+  pub bytes : List ℕ
+  pub read : ReadsEnough input bytes
+  pub stopped : IsLabelStop label bytes stop
+
+-- What is written for an outcome. On success the label of all that was there to be read, and it was
+-- flushed. Where reading failed, or there is no label, nothing. Where writing failed, a beginning
+-- of the label.
+abbrev pub WritesLabelOutcome : Label → DrawOptions → Input → Output → Result (Unit {0}) Stop → Type 0
+WritesLabelOutcome label options input output (Ok done) = WritesDrawing (ShowsLabel label options) input output
+WritesLabelOutcome label options input output (Err (Fault Read)) = Keeps output.before output.after
+WritesLabelOutcome label options input output (Err (Fault Write)) =
+    BeginsDrawing (ShowsLabel label options) input output
+WritesLabelOutcome label options input output (Err stop) =
+    (stop ≢ Fault (Symbol OutOfMemory) → IsStopped label stop input)
+    × Keeps output.before output.after
+
+-- The outcome of a label: what was written, and that the error is `Read` exactly if reading failed,
+-- and `Write` exactly if writing failed.
+pub record IsLabelOutcome (label : Label) (options : DrawOptions) (input : Input) (output : Output)
+    (outcome : Result (Unit {0}) Stop) : Type 0 where
+  pub writes : WritesLabelOutcome label options input output outcome
+  pub read : IsErrOf outcome (Fault Read) ↔ IsTrue input.failed
+  pub write : IsErrOf outcome (Fault Write) ↔ IsTrue output.failed
+
+-- The exit status, and what is written on standard error.
+abbrev pub label_status : Result (Unit {0}) Stop → ℕ
+label_status (Ok done) = 0
+label_status (Err stop) = 1
+
+abbrev pub reported : Result (Unit {0}) Stop → List ℕ
+reported (Ok done) = []
+reported (Err stop) = stop_line stop
+
+-- The label was drawn, and the status and the line on standard error are those of the outcome. At
+-- most one byte more was read than the longest data has.
+pub record ServesLabel (label : Label) (options : DrawOptions) (input : Input) (output errors : Output)
+    (status : ℕ) : Type 0 where
+  pub outcome : Result (Unit {0}) Stop
+  pub is_outcome : IsLabelOutcome label options input output outcome
+  pub within : ReadsWithin (LONGEST_DATA + 1) input
+  pub status_is : status ≡ label_status outcome
+  pub reports : Writes errors (reported outcome)
+
+-- ---- The whole program
+
+-- The words are wrong: the status is 2, and nothing is read or drawn.
+pub record Misused (wrong : Wrong) (kept : Type 0) (errors : Output) (status : ℕ) : Type 0 where
+  pub status_is : status ≡ 2
+  pub untouched : kept
+  pub reports : Writes errors (wrong_line wrong)
+
+-- A text was written and flushed, or writing failed.
+pub record Shows (text : List ℕ) (output errors : Output) (status : ℕ) : Type 0 where
+  pub outcome : Result (Unit {0}) FaultOf
+  pub writes : Writes output text
+  pub flushed : status ≡ 0 → output.flushed ≡ output.after
+  pub failure : output.failed ≡ is_err outcome
+  pub status_is : status ≡ exit_status outcome
+  pub reports : Writes errors (report (codes "qrlabel") outcome)
+
+-- The label was drawn with the options that its settings ask for.
+pub record DrawsAsAsked (label : Label) (input : Input) (output errors : Output) (status : ℕ) : Type 0 where
+  pub options : DrawOptions
+  pub valid : invalid_setting label.format label.settings ≡ None
+  pub made : IsMadeOf label.format label.settings options
+  pub serves : ServesLabel label options input output errors status
+
+-- There was no memory for the name of a setting that is wrong.
+pub record LacksMemory (kept : Type 0) (errors : Output) (status : ℕ) : Type 0 where
+  pub status_is : status ≡ 1
+  pub untouched : kept
+  pub reports : Writes errors (error_line (codes "qrlabel") (Symbol OutOfMemory))
+
+-- The first setting that is not valid is wrong; if all are valid, the label is drawn.
+abbrev pub RunsLabel : Label → (kept : Type 0) → Input → Output → Output → ℕ → Type 0
+RunsLabel label kept input output errors status =
+    DrawsAsAsked label input output errors status
+    ⊎ (LacksMemory kept errors status
+    ⊎ ((name : List ℕ) × (invalid_setting label.format label.settings ≡ Some name)
+    × Misused (invalid (setting_name name)) kept errors status))
+
+-- What the program does for what the words ask for.
+abbrev pub Runs : Result Command Wrong → (kept : Type 0) → Input → Output → Output → ℕ → Type 0
+Runs (Err wrong) kept input output errors status = Misused wrong kept errors status
+Runs (Ok asks_help) kept input output errors status = Shows help_text output errors status
+Runs (Ok asks_version) kept input output errors status = Shows version_line output errors status
+Runs (Ok (asks_label asked)) kept input output errors status =
+    (given : Label) × (label_of given ≡ asked) × RunsLabel given kept input output errors status

@@ -1,0 +1,30 @@
+-- What the values of the program's types stand for. It is not in `Words`, since the contracts of
+-- the file that declares the types use `Words`: that would be an import cycle.
+use Rattle.std.specs.Prelude.{map, Result, Ok, Err}
+use Rattle.std.specs.Option.{option_copied}
+use Rattle.qrlabel.specs.declared.words.Misuse.{Misuse}
+use Rattle.qrlabel.specs.declared.words.Misuse.TheVariants.{Unknown, NoValue, SecondText, Invalid}
+use Rattle.qrlabel.specs.declared.words.Reading.{Reading}
+use Rattle.qrlabel.specs.declared.words.Values.{Values as Kept}
+use Rattle.qrlabel.specs.Words.{Scan, Values, Wrong, unknown, no_value, second_text, invalid}
+
+abbrev pub wrong_of : Misuse → Wrong
+wrong_of (Unknown word) = unknown word.now
+wrong_of (NoValue name) = no_value name
+wrong_of (SecondText word) = second_text word.now
+wrong_of (Invalid name) = invalid name
+
+abbrev pub scan_of : Reading → Scan
+scan_of reading = record { pending = reading.pending; values = map option_copied reading.values }
+
+abbrev pub scan_outcome : Result Reading Misuse → Result Scan Wrong
+scan_outcome (Ok reading) = Ok (scan_of reading)
+scan_outcome (Err misuse) = Err (wrong_of misuse)
+
+-- The values of the program.
+abbrev pub said : Kept → Values
+said values = map option_copied values.values
+
+abbrev pub values_outcome : Result Kept Misuse → Result Values Wrong
+values_outcome (Ok values) = Ok (said values)
+values_outcome (Err misuse) = Err (wrong_of misuse)

@@ -1,0 +1,51 @@
+-- What is written where there is no label.
+use Rattle.std.specs.Prelude.{ℕ, List, [], ◌∷◌, ◌++◌, codes, decimal, flat_map, Option, None, Some}
+use Rattle.gs1.specs.declared.error.Gs1Error.{Gs1Error}
+use Rattle.gs1.specs.declared.error.Gs1Error.TheVariants.{NoElements, InvalidIdentifier, UnknownIdentifier}
+use Rattle.gs1.specs.declared.error.Gs1Error.TheVariants.{EmptyValue, ValueTooLong, InvalidCharacter}
+use Rattle.gs1.specs.declared.error.Gs1Error.TheVariants.{WrongLength, WrongCheckDigit, OutOfMemory}
+use Rattle.programs.specs.Outcome.{error_line}
+use Rattle.qrlabel.specs.declared.stop.Stop.{Stop}
+use Rattle.qrlabel.specs.declared.stop.Stop.TheVariants.{Fault, Elements, Empty}
+
+-- The number of the element at fault, counted from 0, if it is one element's.
+abbrev pub element_number : Gs1Error → Option ℕ
+element_number (InvalidIdentifier element) = Some element
+element_number (UnknownIdentifier element) = Some element
+element_number (EmptyValue element) = Some element
+element_number (ValueTooLong element) = Some element
+element_number (InvalidCharacter element position byte) = Some element
+element_number (WrongLength element) = Some element
+element_number (WrongCheckDigit element) = Some element
+element_number _ = None
+
+-- What is wrong with an element.
+abbrev pub element_text : Gs1Error → List ℕ
+element_text NoElements = codes "the text does not begin with a bracketed identifier"
+element_text (InvalidIdentifier element) = codes "the identifier is not two to four digits"
+element_text (UnknownIdentifier element) = codes "unknown identifier"
+element_text (EmptyValue element) = codes "the value is empty"
+element_text (ValueTooLong element) = codes "the value has more than 90 characters"
+element_text (InvalidCharacter element position byte) =
+    codes "a character of the value is not allowed there"
+element_text (WrongLength element) = codes "the length of the value is wrong"
+element_text (WrongCheckDigit element) = codes "wrong check digit"
+element_text OutOfMemory = codes "out of memory"
+
+-- A line of the program.
+abbrev pub line_of : List (List ℕ) → List ℕ
+line_of pieces = codes "qrlabel" ++ (codes ": " ++ (flat_map (λ piece. piece) pieces ++ 10 ∷ []))
+
+-- The line of a text that gives no elements.
+unfoldable pub element_line : Gs1Error → List ℕ
+element_line error =
+    elim (element_number error) [
+      | Some n ↦ line_of (codes "element " ∷ decimal n ∷ codes ": " ∷ element_text error ∷ [])
+      | None ↦ line_of (element_text error ∷ [])
+    ]
+
+-- The line that says why there is no label.
+unfoldable pub stop_line : Stop → List ℕ
+stop_line (Fault fault) = error_line (codes "qrlabel") fault
+stop_line (Elements error) = element_line error
+stop_line Empty = line_of (codes "empty input, see --allow-empty" ∷ [])

@@ -1,0 +1,112 @@
+//! The devices that the words name: files, and the input and output of the process.
+//!
+//! Which file has a name no contract can say: `run` has the contract, for the devices that it
+//! is given.
+ghost use Rattle.std.specs.Prelude.{◌≡◌, IsFalse};
+
+use crate::command::{Command, command_of};
+use crate::run::{misused, run};
+use crate::words::{Name, Values};
+use programs::{Fault, FromReader, FromWriter, Sink, report, write_line};
+use std::alloc::AllocError;
+use std::fs;
+use std::fs::File;
+use std::io::IsTerminal;
+
+/// Does what the words ask for with the devices that they name, and returns the exit status.
+pub fn run_on_devices<E: Sink>(rt: &HostRuntime, values: &Values, errors: &mut E) -> u8
+    requires sound { IsFalse (E.state errors.old).failed }
+{
+    let mut stdout = rt.stdout();
+    let on_terminal = stdout.is_terminal();
+    let mut writer = FromWriter::new(stdout);
+    match (command_of(values, on_terminal), values.get(Name::Output)) {
+        (Err(misuse), _) => misused(errors, misuse),
+        (Ok(Command::Label(_)), Some(path)) => into_file(rt, values, path, errors),
+        (Ok(_), _) => from_input(rt, values, on_terminal, &mut writer, errors),
+    }
+}
+
+/// Draws from the text of the words, from the file that they name, or from standard input.
+fn from_input<W: Sink, E: Sink>(
+    rt: &HostRuntime,
+    values: &Values,
+    on_terminal: bool,
+    writer: &mut W,
+    errors: &mut E,
+) -> u8
+    requires writer_sound { IsFalse (W.state writer.old).failed }
+    requires errors_sound { IsFalse (E.state errors.old).failed }
+{
+    let alloc = rt.alloc();
+    if let Some(text) = values.get(Name::Text) {
+        let mut bytes = text.as_bytes();
+        let mut reader = FromReader::new(&mut bytes);
+        return run(alloc, values, on_terminal, &mut reader, writer, errors);
+    }
+    let Some(path) = values.get(Name::Read) else {
+        let mut reader = FromReader::new(rt.stdin());
+        return run(alloc, values, on_terminal, &mut reader, writer, errors);
+    };
+    match File::open(rt, path) {
+        Ok(file) => {
+            let mut reader = FromReader::new(file);
+            run(alloc, values, on_terminal, &mut reader, writer, errors)
+        }
+        Err(_) => failed(errors, "cannot read ", path),
+    }
+}
+
+/// Writes a line with the name of a file, and returns the status 1.
+fn failed<E: Sink>(errors: &mut E, what: &str, path: &str) -> u8
+    requires { IsFalse (E.state errors.old).failed }
+    ensures { result ≡ 1 }
+{
+    let _ = write_line(errors, "qrlabel", &[what, path]);
+    1
+}
+
+/// Draws into a file. What is not a regular file is written as it is; else the label is written to
+/// a file beside it, which gets the name when it is whole.
+fn into_file<E: Sink>(rt: &HostRuntime, values: &Values, path: &str, errors: &mut E) -> u8
+    requires { IsFalse (E.state errors.old).failed }
+{
+    let is_device = match fs::metadata(rt, path) {
+        Ok(metadata) => !metadata.is_file(),
+        Err(_) => false,
+    };
+    if is_device {
+        return into_device(rt, values, path, errors);
+    }
+    let Ok(part) = format!(in rt.alloc(); "{path}.qrlabel-part") else {
+        return report(errors, "qrlabel", Fault::from(AllocError));
+    };
+    let Ok(file) = File::create(rt, part.as_str()) else {
+        return failed(errors, "cannot write ", path);
+    };
+    let status = {
+        let mut writer = FromWriter::new(file);
+        from_input(rt, values, false, &mut writer, errors)
+    };
+    if status == 0 && fs::rename(rt, part.as_str(), path).is_ok() {
+        return 0;
+    }
+    let _ = fs::remove_file(rt, part.as_str());
+    if status == 0 && !errors.failed() {
+        return failed(errors, "cannot write ", path);
+    }
+    status.max(1)
+}
+
+/// Draws into what is not a regular file: a device, a pipe.
+fn into_device<E: Sink>(rt: &HostRuntime, values: &Values, path: &str, errors: &mut E) -> u8
+    requires { IsFalse (E.state errors.old).failed }
+{
+    match File::options().write(true).open(rt, path) {
+        Ok(file) => {
+            let mut writer = FromWriter::new(file);
+            from_input(rt, values, false, &mut writer, errors)
+        }
+        Err(_) => failed(errors, "cannot write ", path),
+    }
+}

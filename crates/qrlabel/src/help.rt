@@ -1,0 +1,63 @@
+//! The texts of `--help` and `--version`.
+ghost use Rattle.std.specs.Prelude.{◌≡◌};
+ghost use Rattle.qrlabel.specs.Help.{help_text, version_line};
+
+/// The text of `--help`.
+const HELP: &str = "\
+usage: qrlabel [OPTIONS] [TEXT]
+
+Draws the QR code of TEXT, of a file, or of standard input.
+
+Input and output:
+  -r, --read FILE       read FILE; default: standard input, if there is no TEXT
+  -o, --output FILE     write FILE, once it is whole; default: standard output
+      --allow-empty     draw an input without any bytes, too
+      -- TEXT           take the next word as TEXT, even if it begins with '-'
+
+Content:
+  -c, --content KIND    auto, text, bytes, gs1 or micro; default: auto, which is
+                        text for UTF-8 that is not ASCII, else bytes
+  -l, --level LEVEL     L, M, Q or H: about 7, 15, 25 or 30 percent can be
+                        damaged; default: M
+      --strongest       raise the level as far as the symbol stays as small
+      --min-version N   1 to 40; default: 1
+      --max-version N   1 to 40; default: 40
+
+Picture:
+  -f, --format FORMAT   terminal, svg, png, pbm, eps, escpos or zpl; default: by
+                        the ending of the output's name (.txt for terminal),
+                        else terminal on a terminal, and svg elsewhere
+  -s, --scale N         pixels a module, 1 to 64; default: 8, of terminal 1
+  -q, --quiet N         light margin in modules, 0 to 16; default: 4, of micro 2
+      --module-mm MM    size of a module, 0.05 to 10 (svg, png, eps)
+      --dpi N           pixels an inch, 50 to 2400 (png)
+      --inverted        for light text on a dark screen (terminal)
+      --title TITLE     title of the picture (svg)
+      --at X,Y          position on the label in dots, 0 to 18000 (zpl)
+
+  -h, --help            show this text
+  -V, --version         show the version
+
+Examples:
+  qrlabel https://example.org
+  qrlabel -o hello.png hello
+  qrlabel -c gs1 --module-mm 0.5 -o pallet.svg '(01)09506000134352(10)ABC'
+  qrlabel --strongest -f zpl --at 40,40 -r address.txt > label.zpl
+
+The exit status is 0 if all was written, 1 after an error, and 2 for wrong words.
+";
+
+/// Returns the text of `--help`.
+#[tactic(auto, unfolding(crate::specs::Help::help_text))]
+pub fn help_text() -> &'static str
+    ensures { result.now ≡ help_text }
+{
+    HELP
+}
+
+/// Returns the text of `--version`.
+pub fn version_text() -> &'static str
+    ensures { result.now ≡ version_line }
+{
+    "qrlabel 0.3.0\n"
+}

@@ -1,0 +1,74 @@
+//! Why there is no label, as a line on standard error.
+ghost use Rattle.std.specs.Prelude.{◌≡◌, IsFalse};
+ghost use Rattle.programs.specs.Devices.{output, Writes};
+ghost use Rattle.qrlabel.specs.Stops.{element_number, element_text, stop_line, element_line};
+
+use crate::stop::Stop;
+use gs1::Gs1Error;
+use itoa::Buffer;
+use programs::{Fault, Sink, report, write_line};
+
+/// Writes why there is no label, as one line, and returns the status 1.
+#[tactic(auto, unfolding(crate::specs::Stops::stop_line))]
+pub fn report_stop<E: Sink>(errors: &mut E, stop: Stop) -> u8
+    requires sound { IsFalse (E.state errors.old).failed }
+    ensures status { result ≡ 1 }
+    ensures reported { Writes (output (E.state errors.old) (E.state errors.new)) (stop_line stop) }
+{
+    let _ = match stop {
+        Stop::Fault(fault) => return report(errors, "qrlabel", fault),
+        Stop::Elements(error) => write_element(errors, error),
+        Stop::Empty => write_line(errors, "qrlabel", &["empty input, see --allow-empty"]),
+    };
+    1
+}
+
+/// Writes the line of a text that gives no elements. Elements are counted from 0.
+#[tactic(auto, unfolding(crate::specs::Stops::element_line))]
+fn write_element<E: Sink>(errors: &mut E, error: Gs1Error) -> Result<(), Fault>
+    requires { IsFalse (E.state errors.old).failed }
+    ensures { Writes (output (E.state errors.old) (E.state errors.new)) (element_line error) }
+{
+    let text = element_text(error);
+    match element_number(error) {
+        Some(number) => {
+            let mut buffer = Buffer::new();
+            let number = buffer.format(number);
+            write_line(errors, "qrlabel", &["element ", number, ": ", text])
+        }
+        None => write_line(errors, "qrlabel", &[text]),
+    }
+}
+
+/// Returns the number of the element at fault, counted from 0, if it is one element's.
+fn element_number(error: Gs1Error) -> Option<usize>
+    ensures { result ≡ element_number error }
+{
+    match error {
+        Gs1Error::InvalidIdentifier { element } => Some(element),
+        Gs1Error::UnknownIdentifier { element } => Some(element),
+        Gs1Error::EmptyValue { element } => Some(element),
+        Gs1Error::ValueTooLong { element } => Some(element),
+        Gs1Error::InvalidCharacter { element, .. } => Some(element),
+        Gs1Error::WrongLength { element } => Some(element),
+        Gs1Error::WrongCheckDigit { element } => Some(element),
+        Gs1Error::NoElements | Gs1Error::OutOfMemory => None,
+    }
+}
+
+/// Returns what is wrong with an element.
+fn element_text(error: Gs1Error) -> &'static str
+    ensures { result.now ≡ element_text error }
+{
+    match error {
+        Gs1Error::NoElements => "the text does not begin with a bracketed identifier",
+        Gs1Error::InvalidIdentifier { .. } => "the identifier is not two to four digits",
+        Gs1Error::UnknownIdentifier { .. } => "unknown identifier",
+        Gs1Error::EmptyValue { .. } => "the value is empty",
+        Gs1Error::ValueTooLong { .. } => "the value has more than 90 characters",
+        Gs1Error::InvalidCharacter { .. } => "a character of the value is not allowed there",
+        Gs1Error::WrongLength { .. } => "the length of the value is wrong",
+        Gs1Error::WrongCheckDigit { .. } => "wrong check digit",
+        Gs1Error::OutOfMemory => "out of memory",
+    }
+}

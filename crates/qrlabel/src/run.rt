@@ -1,0 +1,172 @@
+//! From what the words say to the exit status.
+//!
+//! 1. Find out what is asked for (`command_of`).
+//! 2. Write the help or the version (`show`), or draw the label (`run_label`).
+ghost use Rattle.std.specs.Prelude.{◌≡◌, ◌+◌, IsFalse};
+ghost use Rattle.qrcode_base.specs.declared.symbols.TheConstants.{LONGEST_DATA};
+ghost use Rattle.programs.specs.Devices.{input, output, ReadsWithin, Writes};
+ghost use Rattle.qrlabel.specs.Commands.{command_asked};
+ghost use Rattle.qrlabel.specs.Misuses.{wrong_line};
+ghost use Rattle.qrlabel.specs.Runs.{IsLabelOutcome, ServesLabel, Shows, RunsLabel, Runs};
+ghost use Rattle.qrlabel.specs.Said.{said, wrong_of};
+ghost use Rattle.qrlabel.specs.Settings.{setting_name};
+ghost use Rattle.qrlabel.specs.Words.{invalid};
+
+use crate::command::{Command, Label, command_of};
+use crate::help::{help_text, version_text};
+use crate::label::label_bytes;
+use crate::misuse::write_misuse;
+use crate::report::report_stop;
+use crate::stop::Stop;
+use crate::words::{Misuse, Name, Values};
+use programs::{Fault, Sink, Source, read_all, report, write_all};
+use qrcode_core::plugin::PluginError;
+use qrcode_render::DrawOptions;
+use std::alloc::{AllocError, Global};
+
+/// Reads to the end, writes the label of all bytes that were read, and flushes. Of more than 7089
+/// bytes, which no symbol holds, it reads 7090.
+fn draw_label<R: Source, W: Sink>(
+    alloc: Global,
+    label: &Label,
+    options: &DrawOptions,
+    reader: &mut R,
+    writer: &mut W,
+) -> Result<(), Stop>
+    requires reader_sound { IsFalse (R.state reader.old).failed }
+    requires writer_sound { IsFalse (W.state writer.old).failed }
+    ensures outcome { IsLabelOutcome label.now options.now
+        (input (R.state reader.old) (R.state reader.new))
+        (output (W.state writer.old) (W.state writer.new)) result }
+    ensures within { ReadsWithin (LONGEST_DATA + 1)
+        (input (R.state reader.old) (R.state reader.new)) }
+{
+    let bytes = read_all(alloc, reader)?;
+    let drawing = label_bytes(alloc, label, options, &bytes)?;
+    write_all(writer, &drawing)?;
+    Ok(())
+}
+
+/// Draws the label, and returns the exit status: 0 if the label was written, 1 if it was not, which
+/// one line on `errors` explains.
+fn serve<R: Source, W: Sink, E: Sink>(
+    alloc: Global,
+    label: &Label,
+    options: &DrawOptions,
+    reader: &mut R,
+    writer: &mut W,
+    errors: &mut E,
+) -> u8
+    requires reader_sound { IsFalse (R.state reader.old).failed }
+    requires writer_sound { IsFalse (W.state writer.old).failed }
+    requires errors_sound { IsFalse (E.state errors.old).failed }
+    ensures served { ServesLabel label.now options.now
+        (input (R.state reader.old) (R.state reader.new))
+        (output (W.state writer.old) (W.state writer.new))
+        (output (E.state errors.old) (E.state errors.new)) result }
+{
+    match draw_label(alloc, label, options, reader, writer) {
+        Ok(()) => 0,
+        Err(stop) => report_stop(errors, stop),
+    }
+}
+
+/// Writes what is wrong with the words, and returns the status 2.
+pub fn misused<E: Sink>(errors: &mut E, misuse: Misuse) -> u8
+    requires sound { IsFalse (E.state errors.old).failed }
+    ensures status { result ≡ 2 }
+    ensures reported { Writes (output (E.state errors.old) (E.state errors.new))
+        (wrong_line (wrong_of misuse.entry)) }
+{
+    let _ = write_misuse(errors, misuse);
+    2
+}
+
+/// Writes a text, and returns the exit status.
+fn show<W: Sink, E: Sink>(text: &str, writer: &mut W, errors: &mut E) -> u8
+    requires writer_sound { IsFalse (W.state writer.old).failed }
+    requires errors_sound { IsFalse (E.state errors.old).failed }
+    ensures { Shows text.now (output (W.state writer.old) (W.state writer.new))
+        (output (E.state errors.old) (E.state errors.new)) result }
+{
+    match write_all(writer, text.as_bytes()) {
+        Ok(()) => 0,
+        Err(fault) => report(errors, "qrlabel", fault),
+    }
+}
+
+/// Returns the option of a setting of this name.
+fn setting_name(name: &str) -> Name
+    ensures { result ≡ setting_name name.now }
+{
+    match name {
+        "scale" => Name::Scale,
+        "quiet" => Name::Quiet,
+        "module_mm" => Name::ModuleMm,
+        "dpi" => Name::Dpi,
+        "inverted" => Name::Inverted,
+        "title" => Name::Title,
+        _ => Name::At,
+    }
+}
+
+/// Writes that a setting is not valid, by its name, and returns the status 2.
+fn wrong_setting<E: Sink>(errors: &mut E, name: &str) -> u8
+    requires sound { IsFalse (E.state errors.old).failed }
+    ensures status { result ≡ 2 }
+    ensures reported { Writes (output (E.state errors.old) (E.state errors.new))
+        (wrong_line (invalid (setting_name name.now))) }
+{
+    misused(errors, Misuse::Invalid(setting_name(name)))
+}
+
+/// Draws the label, and returns the exit status: that of `serve`, or 2 if a setting of the picture
+/// is not valid.
+fn run_label<R: Source, W: Sink, E: Sink>(
+    alloc: Global,
+    label: &Label,
+    reader: &mut R,
+    writer: &mut W,
+    errors: &mut E,
+) -> u8
+    requires reader_sound { IsFalse (R.state reader.old).failed }
+    requires writer_sound { IsFalse (W.state writer.old).failed }
+    requires errors_sound { IsFalse (E.state errors.old).failed }
+    ensures { RunsLabel label.now ((reader.new ≡ reader.old) × (writer.new ≡ writer.old))
+        (input (R.state reader.old) (R.state reader.new))
+        (output (W.state writer.old) (W.state writer.new))
+        (output (E.state errors.old) (E.state errors.new)) result }
+{
+    match DrawOptions::new(alloc, label.format, &label.settings) {
+        Ok(options) => serve(alloc, label, &options, reader, writer, errors),
+        Err(PluginError::InvalidConfig(name)) => { wrong_setting(errors, name.as_str()) }
+        Err(_) => report(errors, "qrlabel", Fault::from(AllocError)),
+    }
+}
+
+/// Does what the words ask for, and returns the exit status: 0 if all was written, 1 after an
+/// error, 2 if the words are wrong. An error of `errors` itself is ignored.
+pub fn run<R: Source, W: Sink, E: Sink>(
+    alloc: Global,
+    values: &Values,
+    on_terminal: bool,
+    reader: &mut R,
+    writer: &mut W,
+    errors: &mut E,
+) -> u8
+    requires reader_sound { IsFalse (R.state reader.old).failed }
+    requires writer_sound { IsFalse (W.state writer.old).failed }
+    requires errors_sound { IsFalse (E.state errors.old).failed }
+    ensures { Runs (command_asked on_terminal (said values.now))
+        ((reader.new ≡ reader.old) × (writer.new ≡ writer.old))
+        (input (R.state reader.old) (R.state reader.new))
+        (output (W.state writer.old) (W.state writer.new))
+        (output (E.state errors.old) (E.state errors.new)) result }
+{
+    match command_of(values, on_terminal) {
+        Ok(Command::Help) => show(help_text(), writer, errors),
+        Ok(Command::Version) => show(version_text(), writer, errors),
+        Ok(Command::Label(label)) => run_label(alloc, &label, reader, writer, errors),
+        Err(misuse) => misused(errors, misuse),
+    }
+}
