@@ -148,16 +148,14 @@ fn draws_all_parts(rt: HostRuntime) {
     let status = qrcode_c_part_symbol(rt.alloc(), message, &cuts, 0, 1, 1, &mut part, &mut shape);
     assert_eq!(rt; status, DONE);
     assert!(rt; modules[441..882] == part[..]);
-    let status = qrcode_c_sequence(
-        rt.alloc(),
-        message,
-        &cuts,
-        0,
-        1,
-        &mut modules[..881],
-        &mut shapes,
-    );
+}
+
+#[test]
+fn refuses_too_little_room_for_all_parts(rt: HostRuntime) {
+    let (mut modules, mut shapes) = ([7; 881], [BLANK; 2]);
+    let status = qrcode_c_sequence(rt.alloc(), b"hello", &[3], 0, 1, &mut modules, &mut shapes);
     assert_eq!(rt; status, 8);
+    assert!(rt; modules == [7; 881]);
 }
 
 #[test]
