@@ -194,51 +194,41 @@ fn draws_utf8(rt: HostRuntime) -> Result<(), QrError> {
     Ok(())
 }
 
-/// Returns the bitmap that words and an input ask for.
-fn bitmap(alloc: Global, words: &[&str], input: &[u8]) -> Result<Vec<u8>, QrError> {
-    let mut all: Vec<&str> = Vec::new(alloc);
-    all.extend_from_slice(&["-f", "pbm", "-s", "1"])?;
-    all.extend_from_slice(words)?;
-    Ok(ran(alloc, &all, input).label)
+/// Whether two ways to ask draw the same bitmap.
+fn draw_the_same(
+    alloc: Global,
+    words: &[&str],
+    input: &[u8],
+    other_words: &[&str],
+    other_input: &[u8],
+) -> bool {
+    let first = ran(alloc, words, input).label;
+    let second = ran(alloc, other_words, other_input).label;
+    first.starts_with(b"P4\n") && first.as_slice() == second.as_slice()
 }
 
-/// Two ways to ask for one symbol: bytes that are ASCII, or no UTF-8, are drawn as they are; text
-/// that is neither as text; bracketed elements as their element string, which the separator 1D
-/// (hex) ends where the length is not predefined (GS1 General Specifications, 7.8); and with
-/// `--strongest` the 5 bytes at level H, at which version 1 holds 7.
+/// Bytes that are ASCII, or no UTF-8, are drawn as they are, and text that is neither as text, which
+/// ASCII is not. With `--strongest` 5 bytes have level H, at which version 1 holds 7.
 #[test]
-fn draws_the_same(rt: HostRuntime) -> Result<(), QrError> {
-    let alloc = rt.alloc();
+fn chooses_content_and_level(rt: HostRuntime) {
+    let (alloc, usual) = (rt.alloc(), ["-f", "pbm"]);
+    let (bytes, text) = (["-f", "pbm", "-c", "bytes"], ["-f", "pbm", "-c", "text"]);
+    assert!(rt; draw_the_same(alloc, &usual, b"hello", &bytes, b"hello"));
+    assert!(rt; !draw_the_same(alloc, &usual, b"hello", &text, b"hello"));
+    assert!(rt; draw_the_same(alloc, &usual, b"caf\xE9", &bytes, b"caf\xE9"));
+    assert!(rt; draw_the_same(alloc, &usual, b"Gr\xC3\xBC", &text, b"Gr\xC3\xBC"));
+    let (strongest, high) = (["-f", "pbm", "--strongest"], ["-f", "pbm", "-l", "H"]);
+    assert!(rt; draw_the_same(alloc, &strongest, b"hello", &high, b"hello"));
+}
+
+/// Bracketed elements are drawn as their element string, in which the separator 1D (hex) ends those
+/// whose length is not predefined (GS1 General Specifications, 7.8).
+#[test]
+fn draws_elements(rt: HostRuntime) {
+    let words = ["-f", "pbm", "-c", "gs1"];
     let written = b"(01)09506000134352(10)ABC123(21)7";
     let elements = b"010950600013435210ABC123\x1D217";
-    let rows: [(&[&str], &[u8], &[&str], &[u8]); 5] = [
-        (&[], b"hello", &["-c", "bytes"], b"hello"),
-        (&[], b"caf\xE9", &["-c", "bytes"], b"caf\xE9"),
-        (
-            &[],
-            "Gr\u{fc}\u{df}e".as_bytes(),
-            &["-c", "text"],
-            "Gr\u{fc}\u{df}e".as_bytes(),
-        ),
-        (&["-c", "gs1"], written, &["-c", "gs1"], elements),
-        (
-            &["-l", "L", "--strongest"],
-            b"hello",
-            &["-l", "H"],
-            b"hello",
-        ),
-    ];
-    for (words, input, others, other) in rows {
-        let (first, second) = (bitmap(alloc, words, input)?, bitmap(alloc, others, other)?);
-        assert!(rt; first.starts_with(b"P4\n"), "{words:?}");
-        assert_eq!(rt; first.as_slice(), second.as_slice(), "{words:?}");
-    }
-    let (text, bytes) = (
-        bitmap(alloc, &["-c", "text"], b"hello")?,
-        bitmap(alloc, &[], b"hello")?,
-    );
-    assert!(rt; text.as_slice() != bytes.as_slice());
-    Ok(())
+    assert!(rt; draw_the_same(rt.alloc(), &words, written, &words, elements));
 }
 
 /// Returns the character in which light and dark modules are exchanged.
