@@ -25,6 +25,9 @@ int32_t qrcode_c_cuts(const uint8_t *message, size_t length, int32_t level, int3
 int32_t qrcode_c_sequence(const uint8_t *message, size_t length, const size_t *cuts,
                           size_t cut_count, int32_t level, int32_t max_version, uint8_t *modules,
                           size_t room, sicklespan_shape *shapes, size_t places);
+int32_t qrcode_c_picture(const uint8_t *modules, size_t size, size_t width, int32_t format,
+                         const sicklespan_settings *settings, uint8_t *picture, size_t room,
+                         size_t *length);
 size_t qrcode_c_greatest_size(void);
 int32_t qrcode_c_version_of_width(size_t width);
 
@@ -165,6 +168,22 @@ int32_t sicklespan_cuts(const void *message, size_t length, int32_t level, int32
     return qrcode_c_cuts(from, length, level, max_version, to, room, count);
 }
 
+static const sicklespan_settings plain = SICKLESPAN_SETTINGS_INIT;
+
+int32_t sicklespan_picture(const uint8_t *modules, size_t width, int32_t format,
+                           const sicklespan_settings *settings, void *picture, size_t room,
+                           size_t *length) {
+    /* No symbol is wider, and of another width nothing is read. */
+    const size_t size = sicklespan_version_of_width(width) != 0 ? width * width : 0;
+    if (settings == NULL) settings = &plain;
+    struct span grid = {modules, size}, look = {settings, sizeof *settings};
+    struct span shown = {picture, room}, needed = {length, sizeof *length};
+    if (!are_good(grid, look, shown, needed)) return SICKLESPAN_INVALID_POINTER;
+    const uint8_t *const from = modules == NULL ? (const uint8_t *)&nowhere : modules;
+    uint8_t *const to = picture == NULL ? (uint8_t *)&nowhere : picture;
+    return qrcode_c_picture(from, size, width, format, settings, to, room, length);
+}
+
 size_t sicklespan_greatest_size(void) { return qrcode_c_greatest_size(); }
 
 int32_t sicklespan_version_of_width(size_t width) { return qrcode_c_version_of_width(width); }
@@ -179,7 +198,7 @@ const char *sicklespan_status_text(int32_t status) {
     case SICKLESPAN_INVALID_PART_COUNT: return "the parts are not 2 to 16";
     case SICKLESPAN_INVALID_CUTS: return "the cuts fall, or lie behind the end";
     case SICKLESPAN_INVALID_INDEX: return "there is no part at the index";
-    case SICKLESPAN_SHORT_BUFFER: return "the buffer is too short for the symbol";
+    case SICKLESPAN_SHORT_BUFFER: return "the buffer is too short";
     case SICKLESPAN_INVALID_POINTER: return "a pointer is null, or buffers overlap";
     case SICKLESPAN_INVALID_TEXT: return "the text is not UTF-8";
     case SICKLESPAN_INVALID_VERSIONS: return "the versions are not 1 to 40, in order";
@@ -191,6 +210,9 @@ const char *sicklespan_status_text(int32_t status) {
     case SICKLESPAN_VALUE_TOO_LONG: return "a value has more than 90 characters";
     case SICKLESPAN_WRONG_LENGTH: return "the length of a value is wrong";
     case SICKLESPAN_WRONG_CHECK_DIGIT: return "a check digit is wrong";
+    case SICKLESPAN_INVALID_WIDTH: return "no symbol has the width";
+    case SICKLESPAN_INVALID_FORMAT: return "there is no such format";
+    case SICKLESPAN_INVALID_SETTING: return "a setting is out of bounds, or not of the format";
     default: return "unknown status";
     }
 }

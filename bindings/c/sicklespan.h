@@ -39,7 +39,7 @@ enum sicklespan_status {
     SICKLESPAN_INVALID_PART_COUNT = 5,  /* the parts are not 2 to 16 */
     SICKLESPAN_INVALID_CUTS = 6,        /* a cut is below the one before it, or above the length */
     SICKLESPAN_INVALID_INDEX = 7,       /* there are no more parts than the index */
-    SICKLESPAN_SHORT_BUFFER = 8,        /* the symbol has more modules than there is room for */
+    SICKLESPAN_SHORT_BUFFER = 8,        /* there is not room enough for what is to be written */
     SICKLESPAN_INVALID_POINTER = 9,     /* see below */
     SICKLESPAN_INVALID_TEXT = 10,       /* the text is not UTF-8 */
     SICKLESPAN_INVALID_VERSIONS = 11,   /* the versions are not 1 to 40, or not in order */
@@ -50,7 +50,10 @@ enum sicklespan_status {
     SICKLESPAN_EMPTY_VALUE = 16,        /* an element has no value */
     SICKLESPAN_VALUE_TOO_LONG = 17,     /* a value has more than 90 characters */
     SICKLESPAN_WRONG_LENGTH = 18,       /* an element has another length than GS1 defines */
-    SICKLESPAN_WRONG_CHECK_DIGIT = 19   /* a value does not end with its check digit */
+    SICKLESPAN_WRONG_CHECK_DIGIT = 19,  /* a value does not end with its check digit */
+    SICKLESPAN_INVALID_WIDTH = 20,      /* no symbol has the width */
+    SICKLESPAN_INVALID_FORMAT = 21,     /* the format is not 0 to 6 */
+    SICKLESPAN_INVALID_SETTING = 22     /* a setting is out of its bounds, or not of the format */
 };
 
 /* What is asked of a symbol beside its data: its level, the versions that it may have, and whether
@@ -188,6 +191,53 @@ int32_t sicklespan_sequence(const void *message, size_t length, const size_t *cu
  */
 int32_t sicklespan_cuts(const void *message, size_t length, int32_t level, int32_t max_version,
                         size_t *cuts, size_t room, size_t *count);
+
+/* The formats of pictures. */
+enum sicklespan_format {
+    SICKLESPAN_FORMAT_TERMINAL = 0, /* text in half blocks of Unicode, in UTF-8 */
+    SICKLESPAN_FORMAT_SVG = 1,
+    SICKLESPAN_FORMAT_PNG = 2,    /* one bit a pixel */
+    SICKLESPAN_FORMAT_PBM = 3,    /* a portable bitmap, in its binary form (P4 of Netpbm) */
+    SICKLESPAN_FORMAT_EPS = 4,    /* Encapsulated PostScript */
+    SICKLESPAN_FORMAT_ESCPOS = 5, /* raster images of ESC/POS (GS v 0), for ticket printers */
+    SICKLESPAN_FORMAT_ZPL = 6     /* a label of ZPL II (^GF), for label printers */
+};
+
+/* What is asked of a picture. A number below 0 stands for the default, but for `inverted`. */
+typedef struct sicklespan_settings {
+    int32_t scale;     /* the width of a module in pixels, 1 to 64: 8 by default, and 1 of text */
+    int32_t quiet;     /* the width of the quiet zone in modules, 0 to 16: 4 by default */
+    int32_t module_mm; /* of SVG, PNG and EPS: a module in hundredths of a millimetre, 5 to 1000 */
+    int32_t dpi;       /* of PNG, not beside module_mm: the pixels in an inch, 50 to 2400 */
+    int32_t inverted;  /* of text: if it is not 0, the light pixels are filled, for a dark screen */
+    int32_t at_x;      /* of ZPL: the column of the upper left corner in dots, 0 to 18000 */
+    int32_t at_y;      /* of ZPL: its row; with one of both the other is 0 */
+} sicklespan_settings;
+
+/* All by default:
+ *     sicklespan_settings settings = SICKLESPAN_SETTINGS_INIT; */
+#define SICKLESPAN_SETTINGS_INIT                                                                   \
+    { -1, -1, -1, -1, 0, -1, -1 }
+
+/*
+ * The picture of a symbol in a format, with its quiet zone, as the settings ask for it.
+ *
+ * `modules` are those of a symbol with this width, as the calls above write them: width * width
+ * bytes, 0 for a light module and any other for a dark one. The picture is written to `picture`,
+ * which has `room` bytes, and the number of its bytes to `length`; the bytes after it keep their
+ * values. It ends with no 0. On an error nothing is written, except that a
+ * SICKLESPAN_SHORT_BUFFER writes `length`: a call with the room 0 asks how much a second one needs.
+ *
+ * SICKLESPAN_INVALID_POINTER, before any other status, where `modules` is null and a symbol has the
+ * width, where `picture` is null and `room` is not 0, where `length` is null, where `room` is above
+ * PTRDIFF_MAX, and where `length` or the `room` bytes of `picture` overlap with something else that
+ * is passed. `settings` may be null, which stands for those of SICKLESPAN_SETTINGS_INIT. Then
+ * SICKLESPAN_INVALID_WIDTH, SICKLESPAN_INVALID_FORMAT, SICKLESPAN_INVALID_SETTING (also for a
+ * setting that the format does not have), SICKLESPAN_OUT_OF_MEMORY, SICKLESPAN_SHORT_BUFFER.
+ */
+int32_t sicklespan_picture(const uint8_t *modules, size_t width, int32_t format,
+                           const sicklespan_settings *settings, void *picture, size_t room,
+                           size_t *length);
 
 /* SICKLESPAN_MAX_SIZE, for callers that do not read this file. */
 size_t sicklespan_greatest_size(void);

@@ -98,6 +98,21 @@ int32_t __wrap_qrcode_c_sequence(const uint8_t *message, size_t length, const si
                                     to, places);
 }
 
+int32_t __real_qrcode_c_picture(const uint8_t *, size_t, size_t, int32_t,
+                                const sicklespan_settings *, uint8_t *, size_t, size_t *);
+
+int32_t __wrap_qrcode_c_picture(const uint8_t *grid, size_t size, size_t width, int32_t format,
+                                const sicklespan_settings *settings, uint8_t *out, size_t room,
+                                size_t *length) {
+    EXPECT_SLICE(grid, size);
+    EXPECT_SLICE(settings, 1);
+    EXPECT_SLICE(out, room);
+    EXPECT_SLICE(length, 1);
+    expect(size == (sicklespan_version_of_width(width) > 0 ? width * width : 0),
+           "modules of another width", __LINE__);
+    return __real_qrcode_c_picture(grid, size, width, format, settings, out, room, length);
+}
+
 SEES_ASKED(qrcode_c_bytes)
 SEES_ASKED(qrcode_c_text)
 SEES_ASKED(qrcode_c_elements)
@@ -381,7 +396,7 @@ static void test_words(void) {
         [SICKLESPAN_INVALID_PART_COUNT] = "the parts are not 2 to 16",
         [SICKLESPAN_INVALID_CUTS] = "the cuts fall, or lie behind the end",
         [SICKLESPAN_INVALID_INDEX] = "there is no part at the index",
-        [SICKLESPAN_SHORT_BUFFER] = "the buffer is too short for the symbol",
+        [SICKLESPAN_SHORT_BUFFER] = "the buffer is too short",
         [SICKLESPAN_INVALID_POINTER] = "a pointer is null, or buffers overlap",
         [SICKLESPAN_INVALID_TEXT] = "the text is not UTF-8",
         [SICKLESPAN_INVALID_VERSIONS] = "the versions are not 1 to 40, in order",
@@ -393,6 +408,9 @@ static void test_words(void) {
         [SICKLESPAN_VALUE_TOO_LONG] = "a value has more than 90 characters",
         [SICKLESPAN_WRONG_LENGTH] = "the length of a value is wrong",
         [SICKLESPAN_WRONG_CHECK_DIGIT] = "a check digit is wrong",
+        [SICKLESPAN_INVALID_WIDTH] = "no symbol has the width",
+        [SICKLESPAN_INVALID_FORMAT] = "there is no such format",
+        [SICKLESPAN_INVALID_SETTING] = "a setting is out of bounds, or not of the format",
         "unknown status",
     };
     for (int32_t status = 0; status < (int32_t)(sizeof texts / sizeof *texts); status++) {
@@ -450,13 +468,19 @@ static void test_allocations(void) {
 }
 
 #include "test_asked.h"
+#include "test_picture.h"
 
 int main(void) {
-    void (*const tests[])(void) = {
-        test_pointers, test_overlaps, test_neighbours,  test_lengths,           test_asks,
-        test_room,     test_words,    test_allocations, test_asked_pointers,    test_asked_overlaps,
-        test_options,  test_contents, test_micro,       test_asked_allocations, test_cuts,
-        test_sequence};
+    void (*const tests[])(void) = {test_pointers,       test_overlaps,
+                                   test_neighbours,     test_lengths,
+                                   test_asks,           test_room,
+                                   test_words,          test_allocations,
+                                   test_asked_pointers, test_asked_overlaps,
+                                   test_options,        test_contents,
+                                   test_micro,          test_asked_allocations,
+                                   test_cuts,           test_sequence,
+                                   test_picture_room,   test_picture_pointers,
+                                   test_settings,       test_picture_allocations};
     int passed = 0, failed = 0;
     /* What a row prints is not lost where the next call ends the program. */
     setbuf(stdout, NULL);

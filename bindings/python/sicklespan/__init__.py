@@ -12,8 +12,8 @@ them.
 
 from ._errors import (
     DataTooLongError, EmptyValueError, InvalidCharacterError, InvalidCutsError,
-    InvalidIdentifierError, InvalidLevelError, InvalidPartCountError, InvalidTextError,
-    InvalidVersionsError, NoElementsError, OutOfMemoryError, SicklespanError,
+    InvalidIdentifierError, InvalidLevelError, InvalidPartCountError, InvalidSettingError,
+    InvalidTextError, InvalidVersionsError, NoElementsError, OutOfMemoryError, SicklespanError,
     UnknownIdentifierError, ValueTooLongError, WrongCheckDigitError, WrongLengthError)
 from ._library import __version__
 from ._make import elements, gs1, make, micro, sequence
@@ -21,7 +21,8 @@ from ._symbol import Symbol
 
 __all__ = [
     "DataTooLongError", "EmptyValueError", "InvalidCharacterError", "InvalidCutsError",
-    "InvalidIdentifierError", "InvalidLevelError", "InvalidPartCountError", "InvalidTextError",
-    "InvalidVersionsError", "NoElementsError", "OutOfMemoryError", "SicklespanError", "Symbol",
-    "UnknownIdentifierError", "ValueTooLongError", "WrongCheckDigitError", "WrongLengthError",
-    "__version__", "elements", "gs1", "make", "micro", "sequence"]
+    "InvalidIdentifierError", "InvalidLevelError", "InvalidPartCountError", "InvalidSettingError",
+    "InvalidTextError", "InvalidVersionsError", "NoElementsError", "OutOfMemoryError",
+    "SicklespanError", "Symbol", "UnknownIdentifierError", "ValueTooLongError",
+    "WrongCheckDigitError", "WrongLengthError", "__version__", "elements", "gs1", "make", "micro",
+    "sequence"]

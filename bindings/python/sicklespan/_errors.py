@@ -1,6 +1,8 @@
-"""Why there is no symbol: an exception for each status of the library."""
+"""Why there is no symbol, or no picture: an exception for each status of the library."""
 
 from typing import Dict, Type
+
+from ._library import library
 
 
 class SicklespanError(ValueError):
@@ -67,6 +69,10 @@ class WrongCheckDigitError(SicklespanError):
     """A value does not end with its check digit."""
 
 
+class InvalidSettingError(SicklespanError):
+    """A setting of a picture is out of its bounds, or the format does not have it."""
+
+
 # By the numbers of sicklespan.h. The others are no fault of a caller of this package.
 ERRORS: Dict[int, Type[SicklespanError]] = {
     1: DataTooLongError,
@@ -85,4 +91,12 @@ ERRORS: Dict[int, Type[SicklespanError]] = {
     17: ValueTooLongError,
     18: WrongLengthError,
     19: WrongCheckDigitError,
+    22: InvalidSettingError,
 }
+
+
+def check(status: int) -> None:
+    """Raises the error of a status."""
+    if status != 0:
+        text = library.sicklespan_status_text(status).decode()
+        raise ERRORS.get(status, SicklespanError)(text)

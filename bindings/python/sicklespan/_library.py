@@ -23,6 +23,13 @@ class Options(ctypes.Structure):
                 ("strongest", c_int32)]
 
 
+class Settings(ctypes.Structure):
+    """`sicklespan_settings`: a number below 0 stands for the default."""
+
+    _fields_ = [(name, c_int32) for name in (
+        "scale", "quiet", "module_mm", "dpi", "inverted", "at_x", "at_y")]
+
+
 def _opened() -> ctypes.CDLL:
     named = os.environ.get("SICKLESPAN_LIBRARY")
     beside = os.path.join(os.path.dirname(os.path.abspath(__file__)), "libsicklespan.so.0")
@@ -42,6 +49,8 @@ _declare("sicklespan_micro", c_int32, c_char_p, c_size_t, c_int32, *_AT_THE_END)
 _declare("sicklespan_sequence", c_int32, c_char_p, c_size_t, POINTER(c_size_t), c_size_t, c_int32,
          c_int32, *_AT_THE_END)
 _declare("sicklespan_cuts", c_int32, c_char_p, c_size_t, c_int32, c_int32, POINTER(c_size_t),
+         c_size_t, POINTER(c_size_t))
+_declare("sicklespan_picture", c_int32, c_char_p, c_size_t, c_int32, POINTER(Settings), c_char_p,
          c_size_t, POINTER(c_size_t))
 _declare("sicklespan_status_text", c_char_p, c_int32)
 _declare("sicklespan_version", c_char_p)

@@ -3,7 +3,7 @@
 import ctypes
 from typing import Callable, List, Optional, Sequence, Union
 
-from ._errors import ERRORS, InvalidLevelError, InvalidVersionsError, SicklespanError
+from ._errors import InvalidLevelError, InvalidVersionsError, check
 from ._library import Options, Shape, library
 from ._symbol import LEVELS, Symbol
 
@@ -24,16 +24,10 @@ def _version(number: int) -> int:
     return number
 
 
-def _check(status: int) -> None:
-    if status != 0:
-        text = library.sicklespan_status_text(status).decode()
-        raise ERRORS.get(status, SicklespanError)(text)
-
-
 def _drawn(call: Callable[..., int], *arguments: object) -> Symbol:
     """What a call of the library draws."""
     modules, shape = ctypes.create_string_buffer(_SIZE), Shape()
-    _check(call(*arguments, modules, _SIZE, ctypes.byref(shape)))
+    check(call(*arguments, modules, _SIZE, ctypes.byref(shape)))
     return Symbol(ctypes.string_at(modules, shape.width ** 2), shape)
 
 
@@ -88,7 +82,7 @@ def micro(content: Union[str, bytes], error: str = "L") -> Symbol:
 
 def _best_cuts(data: bytes, level: int, limit: int) -> List[int]:
     found, count = (ctypes.c_size_t * 15)(), ctypes.c_size_t()
-    _check(library.sicklespan_cuts(data, len(data), level, limit, found, 15, ctypes.byref(count)))
+    check(library.sicklespan_cuts(data, len(data), level, limit, found, 15, ctypes.byref(count)))
     return found[:count.value]
 
 
@@ -108,7 +102,7 @@ def sequence(content: Union[str, bytes], cuts: Optional[Sequence[int]] = None, e
     places, shapes = (ctypes.c_size_t * len(cuts))(*cuts), (Shape * (len(cuts) + 1))()
     room = min(len(shapes), 16) * (17 + 4 * limit) ** 2
     modules = ctypes.create_string_buffer(room)
-    _check(library.sicklespan_sequence(data, len(data), places, len(cuts), level, limit, modules,
+    check(library.sicklespan_sequence(data, len(data), places, len(cuts), level, limit, modules,
                                        room, shapes))
     symbols, start = [], 0
     for shape in shapes:

@@ -1,12 +1,22 @@
 """A symbol, and the forms in which it is written."""
 
+import ctypes
 import os
 from typing import BinaryIO, Iterator, Optional, Tuple, Union
 
-from ._library import Shape
+from ._errors import InvalidSettingError, check
+from ._library import Settings, Shape, library
 
 LEVELS = "LMQH"
-_HALVES = {(0, 0): " ", (0, 1): "\u2584", (1, 0): "\u2580", (1, 1): "\u2588"}
+_FORMATS = {"terminal": 0, "svg": 1, "png": 2, "pbm": 3, "eps": 4, "escpos": 5, "zpl": 6}
+_SHORT_BUFFER = 8
+
+
+def _setting(name: str, number: Optional[int]) -> int:
+    """The number of a setting, which ctypes would else cut to 32 bits, and -1 for none."""
+    if number is not None and not 0 <= number < 2 ** 31:
+        raise InvalidSettingError(f"{name} is not {number}")
+    return -1 if number is None else number
 
 
 class Symbol:
@@ -83,10 +93,7 @@ class Symbol:
 
     def terminal(self, border: Optional[int] = None) -> str:
         """Two rows a line, in half blocks. Dark modules are printed in the colour of the text."""
-        rows = list(self.matrix_iter(border=border))
-        rows += [bytes(len(rows[0]))] * (len(rows) % 2)
-        return "\n".join("".join(_HALVES[pair] for pair in zip(*rows[y:y + 2]))
-                         for y in range(0, len(rows), 2))
+        return self.picture("terminal", border=border).decode()[:-1]
 
     def _zone(self, border: Optional[int]) -> int:
         zone = self.default_border_size if border is None else border
@@ -94,31 +101,63 @@ class Symbol:
             raise ValueError(f"a border is not {zone} modules wide")
         return zone
 
-    def _svg(self, scale: int, border: Optional[int]) -> str:
-        zone, (side, _) = self._zone(border), self.symbol_size(1, border)
-        runs = "".join(f"M{x + zone} {y + zone}h1v1h-1z"
-                       for y, row in enumerate(self.matrix) for x, dark in enumerate(row) if dark)
-        return (f'<svg xmlns="http://www.w3.org/2000/svg" width="{side * scale}" '
-                f'height="{side * scale}" viewBox="0 0 {side} {side}">'
-                f'<path d="M0 0h{side}v{side}h-{side}z" fill="#fff"/><path d="{runs}"/></svg>\n')
+    def picture(self, kind: str, *, scale: int = 1, border: Optional[int] = None,
+                module_mm: Optional[float] = None, dpi: Optional[int] = None,
+                inverted: bool = False, at: Optional[Tuple[int, int]] = None) -> bytes:
+        """A picture, which is svg, png, pbm, eps, escpos, zpl or terminal.
+
+        A module has `scale` pixels, and the quiet zone `border` modules. A module of svg, png and
+        eps is `module_mm` millimetres wide, to the nearest hundredth; or a png has `dpi` pixels in
+        an inch. With `inverted` the light modules of text are filled, for a dark screen. The upper
+        left corner of a zpl label is `at` these dots.
+        """
+        if kind not in _FORMATS:
+            raise ValueError(f"a picture is {', '.join(_FORMATS)}, and not {kind!r}")
+        x, y = at if at is not None else (None, None)
+        hundredths = None if module_mm is None else round(100 * module_mm)
+        asked = Settings(
+            _setting("the scale", scale), _setting("the border", self._zone(border)),
+            _setting("module_mm", hundredths), _setting("dpi", dpi), bool(inverted),
+            _setting("at", x), _setting("at", y))
+        room, length, status = 1 << 14, ctypes.c_size_t(), _SHORT_BUFFER
+        while status == _SHORT_BUFFER:
+            room = max(room, length.value)
+            out = ctypes.create_string_buffer(room)
+            status = library.sicklespan_picture(
+                self._modules, self._width, _FORMATS[kind], ctypes.byref(asked), out, room,
+                ctypes.byref(length))
+        check(status)
+        return ctypes.string_at(out, length.value)
+
+    def svg(self, *, scale: int = 1, border: Optional[int] = None,
+            module_mm: Optional[float] = None) -> str:
+        """The picture as SVG."""
+        return self.picture("svg", scale=scale, border=border, module_mm=module_mm).decode()
+
+    def png(self, *, scale: int = 1, border: Optional[int] = None,
+            module_mm: Optional[float] = None, dpi: Optional[int] = None) -> bytes:
+        """The picture as a PNG file."""
+        return self.picture("png", scale=scale, border=border, module_mm=module_mm, dpi=dpi)
+
+    def _text(self, scale: int, border: Optional[int]) -> bytes:
+        rows = self.matrix_iter(scale, border)
+        return "".join("".join(".#"[pixel] for pixel in row) + "\n" for row in rows).encode()
 
     def save(self, out: Union[str, "os.PathLike[str]", BinaryIO], kind: Optional[str] = None, *,
-             scale: int = 1, border: Optional[int] = None) -> None:
-        """Writes a picture to a file, as its ending or `kind` says: svg, pbm or txt."""
+             scale: int = 1, border: Optional[int] = None, module_mm: Optional[float] = None,
+             dpi: Optional[int] = None, at: Optional[Tuple[int, int]] = None) -> None:
+        """Writes a picture to a file, as its ending or `kind` says.
+
+        It is a picture of `picture`, or txt: a line of # and . for each row of modules.
+        """
         named = isinstance(out, (str, os.PathLike))
         ending = os.path.splitext(os.fspath(out))[1] if named else ""  # type: ignore[arg-type]
         kind = (kind or ending.lstrip(".")).lower()
-        if kind == "svg":
-            data = self._svg(scale, border).encode()
-        elif kind == "pbm":
-            rows = list(self.matrix_iter(scale, border))
-            text = "\n".join("".join("01"[pixel] for pixel in row) for row in rows)
-            data = f"P1\n{len(rows)} {len(rows)}\n{text}\n".encode()
-        elif kind == "txt":
-            rows = self.matrix_iter(scale, border)
-            data = "".join("".join(".#"[pixel] for pixel in row) + "\n" for row in rows).encode()
+        if kind == "txt":
+            data = self._text(scale, border)
         else:
-            raise ValueError(f"a picture is svg, pbm or txt, and not {kind!r}")
+            data = self.picture(kind, scale=scale, border=border, module_mm=module_mm, dpi=dpi,
+                                at=at)
         if isinstance(out, (str, os.PathLike)):
             with open(out, "wb") as it:
                 it.write(data)

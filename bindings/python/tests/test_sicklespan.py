@@ -8,10 +8,13 @@ library, where the package does not contain it.
 
 import io
 import os
+import re
+import struct
 import sys
 import tempfile
 import threading
 import unittest
+import zlib
 
 HERE = os.path.dirname(os.path.abspath(__file__))
 if "SICKLESPAN_LIBRARY" in os.environ:
@@ -162,14 +165,67 @@ class Pictures(unittest.TestCase):
                 self.assertEqual(it.read(), read("crates/qrtext/stdout"))
         out = io.BytesIO()
         symbol.save(out, "svg", scale=2)
-        text = out.getvalue().decode()
-        self.assertIn('width="58" height="58" viewBox="0 0 29 29"', text)
-        self.assertEqual(text.count("h1v1h-1z"), sum(map(sum, symbol.matrix)))
-        out = io.BytesIO()
-        symbol.save(out, "pbm")
-        self.assertEqual(out.getvalue().decode().split()[:4], ["P1", "29", "29", "0" * 29])
+        self.assertEqual(out.getvalue().decode(), symbol.svg(scale=2))
         with self.assertRaises(ValueError):
             symbol.save(out)
+
+    def test_svg(self):
+        symbol = sicklespan.make("hello", "L", boost_error=False)
+        text = symbol.svg(scale=2)
+        self.assertIn('width="58" height="58" viewBox="0 0 29 29"', text)
+        # The lines cover the dark modules.
+        runs = re.findall(r"M(\d+) (\d+)h(\d+)", text)
+        dark = {(x + 4, y + 4) for y, row in enumerate(symbol.matrix)
+                for x, module in enumerate(row) if module}
+        drawn = [(int(x) + i, int(y)) for x, y, n in runs for i in range(int(n))]
+        self.assertEqual((len(drawn), set(drawn)), (len(dark), dark))
+        self.assertIn('width="9.57mm"', symbol.svg(module_mm=0.33))
+
+    def test_png(self):
+        symbol = sicklespan.micro("1")
+        for scale, border in ((1, None), (3, 0), (2, 5)):
+            rows = list(symbol.matrix_iter(scale, border))
+            file = symbol.png(scale=scale, border=border, dpi=300)
+            self.assertEqual(file[:8], b"\x89PNG\r\n\x1a\n")
+            chunks, data = {}, file[8:]
+            while data:
+                length, name = struct.unpack(">I4s", data[:8])
+                body, data = data[8:8 + length], data[8 + length:]
+                self.assertEqual(struct.unpack(">I", data[:4])[0], zlib.crc32(name + body))
+                chunks[name], data = chunks.get(name, b"") + body, data[4:]
+            side = len(rows)
+            self.assertEqual(chunks[b"IHDR"], struct.pack(">IIBBBBB", side, side, 1, 0, 0, 0, 0))
+            # 300 dots in 25.4 mm are 11811 in a metre.
+            self.assertEqual(chunks[b"pHYs"], struct.pack(">IIB", 11811, 11811, 1))
+            # No filter before each row, in which 1 is white.
+            lines, width = zlib.decompress(chunks[b"IDAT"]), (side + 7) // 8 + 1
+            self.assertEqual(len(lines), side * width)
+            for y, row in enumerate(rows):
+                line = lines[y * width:(y + 1) * width]
+                bits = "".join(f"{byte:08b}" for byte in line[1:])[:side]
+                self.assertEqual((line[0], bits), (0, "".join("10"[pixel] for pixel in row)))
+
+    def test_formats(self):
+        symbol = sicklespan.make("hello", "L", boost_error=False)
+        bitmap = symbol.picture("pbm")
+        self.assertEqual(bitmap[:9], b"P4\n29 29\n")
+        bits = "".join(f"{byte:08b}" for byte in bitmap[9:])
+        rows = ["".join("01"[pixel] for pixel in row) + "000" for row in symbol.matrix_iter()]
+        self.assertEqual(bits, "".join(rows))
+        self.assertEqual(symbol.picture("eps")[:24], b"%!PS-Adobe-3.0 EPSF-3.0\n")
+        self.assertEqual(symbol.picture("escpos")[:8], b"\x1dv0\0\x04\0\x1d\0")
+        self.assertEqual(symbol.picture("zpl", at=(20, 30))[:27], b"^XA\n^FO20,30^GFA,116,116,4,")
+        self.assertEqual(symbol.picture("terminal", inverted=True).decode()[:29], "\u2588" * 29)
+        self.assertEqual(len(symbol.picture("pbm", scale=64)), 13 + 232 * 8 * 232)
+        for kind, settings in (
+                ("svg", {"scale": 0}), ("svg", {"scale": 65}), ("svg", {"border": 17}),
+                ("svg", {"scale": 2 ** 32 + 1}), ("svg", {"scale": -1}), ("svg", {"dpi": 300}),
+                ("svg", {"module_mm": 0.04}), ("png", {"dpi": 300, "module_mm": 0.33}),
+                ("png", {"inverted": True}), ("png", {"at": (0, 0)}), ("zpl", {"at": (0, 18001)})):
+            with self.assertRaises(sicklespan.InvalidSettingError):
+                symbol.picture(kind, **settings)
+        with self.assertRaises(ValueError):
+            symbol.picture("gif")
 
 
 if __name__ == "__main__":

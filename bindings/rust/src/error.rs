@@ -1,8 +1,8 @@
-//! Why there is no symbol.
+//! Why there is no symbol, or no picture.
 use crate::ffi;
 use std::fmt;
 
-/// Why there is no symbol. Its text is that of the library.
+/// Why there is no symbol, or no picture. Its text is that of the library.
 #[derive(Clone, Copy, Debug, PartialEq, Eq, Hash)]
 #[non_exhaustive]
 pub enum Error {
@@ -36,10 +36,12 @@ pub enum Error {
     WrongLength = 18,
     /// A value does not end with its check digit.
     WrongCheckDigit = 19,
+    /// A setting of a picture is out of its bounds, or the format does not have it.
+    InvalidSetting = 22,
 }
 
 impl Error {
-    const ALL: [Error; 15] = [
+    const ALL: [Error; 16] = [
         Error::DataTooLong,
         Error::OutOfMemory,
         Error::InvalidLevel,
@@ -55,10 +57,11 @@ impl Error {
         Error::ValueTooLong,
         Error::WrongLength,
         Error::WrongCheckDigit,
+        Error::InvalidSetting,
     ];
 
     /// The error of a status of the header. The others come only of pointers, of texts that are not
-    /// UTF-8 and of buffers that are too short, none of which the crate passes.
+    /// UTF-8, of unknown widths and formats, none of which the crate passes, and of short buffers.
     pub(crate) fn of(status: i32) -> Error {
         let error = Error::ALL.into_iter().find(|error| *error as i32 == status);
         error.expect("a status that a slice of full size can have")

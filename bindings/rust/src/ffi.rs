@@ -23,6 +23,21 @@ pub struct Options {
     pub strongest: i32,
 }
 
+/// `sicklespan_settings`: a number below 0 stands for the default.
+#[repr(C)]
+pub struct Settings {
+    pub scale: i32,
+    pub quiet: i32,
+    pub module_mm: i32,
+    pub dpi: i32,
+    pub inverted: i32,
+    pub at_x: i32,
+    pub at_y: i32,
+}
+
+/// `SICKLESPAN_SHORT_BUFFER`.
+pub const SHORT_BUFFER: i32 = 8;
+
 /// What data are drawn with options.
 #[derive(Clone, Copy)]
 pub enum Content {
@@ -93,6 +108,15 @@ extern "C" {
         cuts: *mut usize,
         room: usize,
         count: *mut usize,
+    ) -> i32;
+    fn sicklespan_picture(
+        modules: *const u8,
+        width: usize,
+        format: i32,
+        settings: *const Settings,
+        picture: *mut u8,
+        room: usize,
+        length: *mut usize,
     ) -> i32;
     fn sicklespan_greatest_size() -> usize;
     fn sicklespan_version_of_width(width: usize) -> i32;
@@ -173,6 +197,29 @@ pub fn cuts(
             cuts.as_mut_ptr(),
             cuts.len(),
             count,
+        )
+    }
+}
+
+/// There are width * width modules.
+pub fn picture(
+    modules: &[u8],
+    width: usize,
+    format: i32,
+    settings: &Settings,
+    picture: &mut [u8],
+    length: &mut usize,
+) -> i32 {
+    assert_eq!(modules.len(), width * width);
+    unsafe {
+        sicklespan_picture(
+            modules.as_ptr(),
+            width,
+            format,
+            settings,
+            picture.as_mut_ptr(),
+            picture.len(),
+            length,
         )
     }
 }

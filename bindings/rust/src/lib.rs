@@ -17,9 +17,11 @@ use std::fmt;
 mod error;
 mod ffi;
 mod options;
+mod picture;
 
 pub use error::Error;
 pub use options::Options;
+pub use picture::{Format, Settings};
 
 /// The version of the library that is linked.
 ///

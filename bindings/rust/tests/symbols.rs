@@ -1,7 +1,7 @@
 //! Symbols through the library: sizes by the standard's table of capacities, grids by those of the
 //! original crate.
 use answers::Answer;
-use sicklespan::{best_cuts, Error, Level, Options, Symbol, Version};
+use sicklespan::{best_cuts, Error, Format, Level, Options, Settings, Symbol, Version};
 
 mod answers;
 
@@ -234,6 +234,68 @@ fn prints_half_blocks() {
         assert!(line.starts_with(start), "{line}");
     }
     assert_eq!((lines[0].trim(), lines[7].trim()), ("", ""));
+}
+
+/// The bits of a bitmap are the modules in a quiet zone, in rows of whole bytes (Netpbm, "pbm").
+#[test]
+fn draws_bitmaps() {
+    for (symbol, zone) in [
+        (Symbol::new(b"hello", Level::M).unwrap(), 4),
+        (Symbol::micro(b"12345", Level::L).unwrap(), 2),
+        (Symbol::new(&[7; 2953], Level::L).unwrap(), 4),
+    ] {
+        let side = symbol.width() + 2 * zone;
+        let bytes = symbol.picture(Format::Pbm, &Settings::new().scale(1)).unwrap();
+        let head = format!("P4\n{side} {side}\n");
+        assert!(bytes.starts_with(head.as_bytes()));
+        let row = (side + 7) / 8;
+        assert_eq!(bytes.len(), head.len() + side * row);
+        for (y, line) in bytes[head.len()..].chunks_exact(row).enumerate() {
+            for x in 0..8 * row {
+                let is_dark = symbol.is_dark(x.wrapping_sub(zone), y.wrapping_sub(zone));
+                assert_eq!(line[x / 8] >> (7 - x % 8) & 1 == 1, is_dark);
+            }
+        }
+    }
+}
+
+#[test]
+fn draws_in_each_format() {
+    let symbol = Symbol::new(b"hello", Level::M).unwrap();
+    let text = symbol.picture(Format::Terminal, &Settings::new()).unwrap();
+    assert_eq!(text, symbol.to_string().as_bytes());
+    let inverted = symbol.picture(Format::Terminal, &Settings::new().inverted()).unwrap();
+    assert!(inverted.starts_with("\u{2588}".as_bytes()));
+    // 29 modules of 8 pixels, and of 0.33 mm.
+    assert!(symbol.to_svg().unwrap().contains("width=\"232\" height=\"232\""));
+    let sized = symbol.picture(Format::Svg, &Settings::new().module_mm(33)).unwrap();
+    assert!(String::from_utf8(sized).unwrap().contains("width=\"9.57mm\""));
+    // The signature, and a head with the sides.
+    let png = symbol.to_png().unwrap();
+    assert!(png.starts_with(b"\x89PNG\r\n\x1a\n\0\0\0\x0dIHDR\0\0\0\xe8\0\0\0\xe8\x01\0"));
+    // 300 dots in 25.4 mm are 11811 in a metre.
+    let dots = symbol.picture(Format::Png, &Settings::new().dpi(300)).unwrap();
+    let mark = b"pHYs\0\0\x2e\x23\0\0\x2e\x23\x01";
+    assert!(dots.windows(mark.len()).any(|bytes| bytes == mark));
+    let eps = symbol.picture(Format::Eps, &Settings::new()).unwrap();
+    assert!(eps.starts_with(b"%!PS-Adobe-3.0 EPSF-3.0\n"));
+    let ticket = symbol.picture(Format::EscPos, &Settings::new().scale(1)).unwrap();
+    assert_eq!(ticket[..8], *b"\x1dv0\0\x04\0\x1d\0");
+    let label = symbol.picture(Format::Zpl, &Settings::new().scale(1).at(20, 30)).unwrap();
+    assert!(label.starts_with(b"^XA\n^FO20,30^GFA,116,116,4,"));
+    for (format, settings) in [
+        (Format::Svg, Settings::new().scale(0)),
+        (Format::Svg, Settings::new().scale(65)),
+        (Format::Svg, Settings::new().quiet(17)),
+        (Format::Svg, Settings::new().module_mm(4)),
+        (Format::Svg, Settings::new().dpi(300)),
+        (Format::Svg, Settings::new().inverted()),
+        (Format::Svg, Settings::new().at(0, 0)),
+        (Format::Zpl, Settings::new().at(0, 18001)),
+        (Format::Png, Settings::new().dpi(300).module_mm(33)),
+    ] {
+        assert_eq!(symbol.picture(format, &settings), Err(Error::InvalidSetting));
+    }
 }
 
 #[test]

@@ -6,3 +6,5 @@ pub mod Holding
 pub mod Refusals
 pub mod Cuts
 pub mod Spread
+pub mod Formats
+pub mod Pictures

@@ -10,7 +10,8 @@ use Rattle.qrcode_c.specs.declared.refusal.Refusal.TheVariants.{InvalidVersions,
 use Rattle.qrcode_c.specs.declared.refusal.Refusal.TheVariants.{NoElements, InvalidIdentifier}
 use Rattle.qrcode_c.specs.declared.refusal.Refusal.TheVariants.{UnknownIdentifier, EmptyValue}
 use Rattle.qrcode_c.specs.declared.refusal.Refusal.TheVariants.{ValueTooLong, WrongLength}
-use Rattle.qrcode_c.specs.declared.refusal.Refusal.TheVariants.{WrongCheckDigit}
+use Rattle.qrcode_c.specs.declared.refusal.Refusal.TheVariants.{WrongCheckDigit, InvalidWidth}
+use Rattle.qrcode_c.specs.declared.refusal.Refusal.TheVariants.{InvalidFormat, InvalidSetting}
 
 -- The number of an error, which is the status of the call.
 abbrev pub status_of : Refusal → ℤ
@@ -32,3 +33,6 @@ status_of EmptyValue = pos 16
 status_of ValueTooLong = pos 17
 status_of WrongLength = pos 18
 status_of WrongCheckDigit = pos 19
+status_of InvalidWidth = pos 20
+status_of InvalidFormat = pos 21
+status_of InvalidSetting = pos 22

@@ -19,6 +19,8 @@ ghost use Rattle.qrcode_c.specs.Asking.{IsWrittenRefusal, WritesElements};
 ghost use Rattle.qrcode_c.specs.Cuts.{HoldsCuts, IsCutsStatus};
 ghost use Rattle.qrcode_c.specs.Holding.{HoldsAsked, HoldsBest, HoldsPart};
 ghost use Rattle.qrcode_core.specs.Drawn.{DrawnSymbol};
+ghost use Rattle.qrcode_c.specs.Pictures.{HoldsPicture, IsPictureRefusal};
+ghost use Rattle.qrcode_c.specs.Statuses.{status_of};
 ghost use Rattle.qrcode_c.specs.Spread.{AreSpread, HoldsAll, IsSpreadStatus};
 ghost use Rattle.qrcode_c.specs.Refusals.{IsStatusOf};
 ghost use Rattle.qrcode_c.specs.Refusals.{IsSymbolRefusal, IsMicroRefusal, IsPartRefusal};
@@ -27,6 +29,7 @@ ghost use Rattle.qrcode_c.specs.Shapes.{IsNumberAtWidth};
 pub use options::Options;
 use qrcode_core::types::Version;
 pub use refusal::Refusal;
+pub use settings::PictureSettings;
 pub use shape::Shape;
 use std::alloc::Global;
 
@@ -34,7 +37,9 @@ mod asking;
 mod cuts;
 mod drawing;
 mod options;
+mod picture;
 mod refusal;
+mod settings;
 mod shape;
 mod spread;
 #[cfg(test)]
@@ -322,6 +327,41 @@ pub extern "C" fn qrcode_c_cuts(
             *count = found;
             DONE
         }
+        Err(refusal) => refusal.status(),
+    }
+}
+
+/// Writes the picture of a symbol in a format, and the number of its bytes. The modules are those
+/// of the symbol, row by row: 0 for a light one, and any other number for a dark one. The formats
+/// have the numbers 0 to 6 in the order of `Format`. The bytes of `buffer` after the picture keep
+/// their values. Returns `DONE`.
+///
+/// # Errors
+///
+/// On an error nothing is written, except that a `ShortBuffer` writes the number of bytes that the
+/// picture has. The status is, in this order: `InvalidWidth` if no symbol has the width, or another
+/// number of modules; `InvalidFormat`; `InvalidSetting` if a setting is out of its bounds, or the
+/// format does not have it; `OutOfMemory` where an allocation failed; `ShortBuffer`.
+#[unsafe(no_mangle)]
+pub extern "C" fn qrcode_c_picture(
+    alloc: Global,
+    modules: &[u8],
+    width: usize,
+    format: i32,
+    settings: &PictureSettings,
+    buffer: &mut [u8],
+    size: &mut usize,
+) -> i32
+    ensures done { result ≡ DONE → HoldsPicture modules.now width format settings.now
+        buffer.old buffer.new size.new }
+    ensures refused { result ≢ DONE → IsStatusOf (IsPictureRefusal modules.now width format
+        settings.now (length buffer.old) size.new) result }
+    ensures kept { result ≢ DONE → buffer.new ≡ buffer.old }
+    ensures sized { result ≢ DONE → result ≢ status_of Refusal.ShortBuffer →
+        size.new ≡ size.old }
+{
+    match picture::write_picture(alloc, modules, width, format, settings, buffer, size) {
+        Ok(()) => DONE,
         Err(refusal) => refusal.status(),
     }
 }

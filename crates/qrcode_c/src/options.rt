@@ -55,7 +55,7 @@ pub fn options_of(options: &Options) -> Result<SymbolOptions, Refusal>
 }
 
 /// Returns whether a number is not 0.
-fn is_set(number: i32) -> bool
+pub fn is_set(number: i32) -> bool
     ensures { (result ≡ true) ↔ (number ≢ pos 0) }
 {
     match number {

@@ -42,6 +42,12 @@ pub enum Refusal {
     WrongLength = 18,
     /// A value ends with another digit than its check digit.
     WrongCheckDigit = 19,
+    /// No symbol has the width, or its modules are another number.
+    InvalidWidth = 20,
+    /// No format of pictures has the number.
+    InvalidFormat = 21,
+    /// A setting is out of its bounds, or the format does not have it.
+    InvalidSetting = 22,
 }
 
 impl Refusal {

@@ -1,8 +1,8 @@
 //! Tests of each exported function, where memory is ample.
 use crate::{
-    DONE, Options, Shape, qrcode_c_bytes, qrcode_c_cuts, qrcode_c_elements, qrcode_c_greatest_size,
-    qrcode_c_gs1, qrcode_c_micro_symbol, qrcode_c_part_symbol, qrcode_c_sequence, qrcode_c_symbol,
-    qrcode_c_text, qrcode_c_version_of_width,
+    DONE, Options, PictureSettings, Shape, qrcode_c_bytes, qrcode_c_cuts, qrcode_c_elements,
+    qrcode_c_greatest_size, qrcode_c_gs1, qrcode_c_micro_symbol, qrcode_c_part_symbol,
+    qrcode_c_picture, qrcode_c_sequence, qrcode_c_symbol, qrcode_c_text, qrcode_c_version_of_width,
 };
 use std::alloc::Global;
 
@@ -169,6 +169,62 @@ fn finds_cuts(rt: HostRuntime) {
     assert_eq!(rt; (status, count), (1, 2));
     let status = qrcode_c_cuts(rt.alloc(), &MANY[..80], 3, 1, &mut cuts, &mut count);
     assert_eq!(rt; (status, count), (8, 2));
+}
+
+const SMALL: PictureSettings = PictureSettings {
+    scale: 1,
+    quiet: 0,
+    module_mm: -1,
+    dpi: -1,
+    inverted: 0,
+    at_x: -1,
+    at_y: -1,
+};
+
+/// A bitmap has a bit for each pixel, in rows of whole bytes (Netpbm, "pbm").
+#[test]
+fn draws_a_picture(rt: HostRuntime) {
+    let (mut modules, mut shape) = ([7; 121], BLANK);
+    let status = qrcode_c_micro_symbol(rt.alloc(), b"12345", 0, &mut modules, &mut shape);
+    assert_eq!(rt; (status, shape.width), (DONE, 11));
+    let (mut file, mut size) = ([7; 32], 9);
+    let status = qrcode_c_picture(rt.alloc(), &modules, 11, 3, &SMALL, &mut file, &mut size);
+    assert_eq!(rt; (status, size, file[31]), (DONE, 31, 7));
+    // The first row is that of a finder pattern and of a timing pattern.
+    assert!(rt; file.starts_with(b"P4\n11 11\n\xfe\xa0"));
+    let mut short = [7; 30];
+    let status = qrcode_c_picture(rt.alloc(), &modules, 11, 3, &SMALL, &mut short, &mut size);
+    assert_eq!(rt; (status, size, short[0]), (8, 31, 7));
+}
+
+/// Returns the status of `qrcode_c_picture` for dark modules if it writes nothing.
+fn refused_picture(
+    alloc: Global,
+    width: usize,
+    format: i32,
+    settings: &PictureSettings,
+) -> Option<i32> {
+    let (mut file, mut size) = ([7; 122], 9);
+    let status = qrcode_c_picture(
+        alloc, &[1; 121], width, format, settings, &mut file, &mut size,
+    );
+    if file == [7; 122] && size == 9 {
+        Some(status)
+    } else {
+        None
+    }
+}
+
+#[test]
+fn refuses_pictures(rt: HostRuntime) {
+    assert_eq!(rt; refused_picture(rt.alloc(), 12, 3, &SMALL), Some(20));
+    assert_eq!(rt; refused_picture(rt.alloc(), 13, 3, &SMALL), Some(20));
+    assert_eq!(rt; refused_picture(rt.alloc(), 11, 7, &SMALL), Some(21));
+    assert_eq!(rt; refused_picture(rt.alloc(), 11, -1, &SMALL), Some(21));
+    let sized = PictureSettings { dpi: 300, ..SMALL };
+    assert_eq!(rt; refused_picture(rt.alloc(), 11, 3, &sized), Some(22));
+    let large = PictureSettings { scale: 65, ..SMALL };
+    assert_eq!(rt; refused_picture(rt.alloc(), 11, 3, &large), Some(22));
 }
 
 #[test]

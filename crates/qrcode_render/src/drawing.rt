@@ -2,6 +2,7 @@
 ghost use Rattle.std.specs.Prelude.{◌≡◌, ◌<◌, ◌≤◌, ◌^◌, ◌↔◌, IfOk, IfSome, IsSome, OnOk};
 ghost use Rattle.qrcode_core.specs.Drawn.{drawn_grid};
 ghost use Rattle.qrcode_render.specs.Drawings.{IsPictureOf, IsPictureAs};
+ghost use Rattle.qrcode_render.specs.Pictures.{IsDrawable};
 ghost use Rattle.qrcode_render.specs.Resolutions.{nearest, per_metre};
 ghost use Rattle.qrcode_render.specs.Shown.{shown};
 
@@ -17,6 +18,7 @@ use crate::svg::svg_document;
 use crate::terminal::terminal;
 use crate::zpl::zpl;
 use qrcode_core::symbol::Symbol;
+use qrcode_core::traits::ModuleSource;
 use std::alloc::{AllocError, Global};
 
 /// Returns the picture of a symbol, in the format of the options. It fails only for lack of memory.
@@ -25,6 +27,23 @@ pub fn draw(alloc: Global, symbol: &Symbol, options: &DrawOptions) -> Result<Vec
 {
     let picture = Picture::of_symbol(symbol, shape(options));
     draw_picture(alloc, &picture, options)
+}
+
+/// Returns the picture of a grid, in the format of the options, or `None` unless the grid has 1 to
+/// `MAX_MODULES` columns and rows. It fails only for lack of memory.
+pub fn draw_grid<S: ModuleSource>(
+    alloc: Global,
+    source: &S,
+    options: &DrawOptions,
+) -> Result<Option<Vec<u8>>, AllocError>
+    ensures shown { IfOk result (λ drawn. IfSome drawn (λ bytes.
+        IsPictureOf options.now (S.grid source.now) bytes.items)) }
+    ensures small { IfOk result (λ drawn. IsSome drawn ↔ IsDrawable (S.grid source.now)) }
+{
+    let Some(picture) = Picture::of_source(source, shape(options)) else {
+        return Ok(None);
+    };
+    Ok(Some(draw_picture(alloc, &picture, options)?))
 }
 
 /// Returns the picture in the format of the options.

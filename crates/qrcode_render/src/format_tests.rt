@@ -1,6 +1,6 @@
 //! Tests of formats on small grids, written by hand from the documents of the formats.
 use crate::draw_options::DrawOptions;
-use crate::drawing::draw;
+use crate::drawing::{draw, draw_grid};
 use crate::eps::eps;
 use crate::escpos::escpos;
 use crate::format::Format;
@@ -24,6 +24,9 @@ const CELLS: [Color; 6] = [
     Color::Dark,
     Color::Light,
 ];
+
+/// A row that is one module too long.
+static WIDE: [Color; 178] = [Color::Light; 178];
 
 /// Returns the bytes of the small grid in a printer's format, with a scale and a quiet zone.
 fn printed(
@@ -171,6 +174,30 @@ fn draws_sizes(rt: HostRuntime) -> Result<(), PluginError> {
     assert_eq!(rt; text.as_str(), TITLED);
     let text = eps(alloc, &picture, Some(33))?;
     assert_eq!(rt; text.as_str(), POSTSCRIPT);
+    Ok(())
+}
+
+/// A grid of another size than a symbol's has no picture.
+#[test]
+fn draws_grids(rt: HostRuntime) -> Result<(), PluginError> {
+    let alloc = rt.alloc();
+    let settings = Settings {
+        scale: Some(1),
+        quiet: Some(1),
+        ..Settings::default()
+    };
+    let options = DrawOptions::new(alloc, Format::Pbm, &settings)?;
+    let Some(view) = ModuleView::new_rect(&CELLS, 3, 2) else {
+        return Err(PluginError::InvalidModuleGrid);
+    };
+    match draw_grid(alloc, &view, &options)? {
+        Some(bytes) => assert_eq!(rt; bytes.as_slice(), b"P4\n5 4\n\x00\x50\x60\x00".as_slice()),
+        None => return Err(PluginError::InvalidModuleGrid),
+    }
+    let Some(wide) = ModuleView::new_rect(&WIDE, 178, 1) else {
+        return Err(PluginError::InvalidModuleGrid);
+    };
+    assert!(rt; draw_grid(alloc, &wide, &options)?.is_none());
     Ok(())
 }
 

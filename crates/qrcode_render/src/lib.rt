@@ -41,7 +41,7 @@ mod xml;
 pub mod zpl;
 
 pub use draw_options::DrawOptions;
-pub use drawing::draw;
+pub use drawing::{draw, draw_grid};
 pub use format::Format;
 pub use options::RenderOptions;
 pub use picture::Picture;

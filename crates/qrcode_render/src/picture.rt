@@ -33,6 +33,7 @@ pub struct Picture<'a> {
 
 impl<'a> Picture<'a> {
     ghost use Rattle.qrcode_core.specs.Drawn.{drawn_grid};
+    ghost use Rattle.qrcode_core.specs.Grids.{grid_of, HasAllRows};
     ghost use Rattle.qrcode_render.specs.Pictures.{picture, IsDrawable};
     ghost use Rattle.qrcode_render.specs.Bitmaps.{row_length};
     ghost use Rattle.qrcode_render.specs.Shown.{shown};
@@ -57,12 +58,39 @@ impl<'a> Picture<'a> {
             shown drawn ≡ picture (grid code.now) options.scale options.quiet) }
         ensures small { IsSome result ↔ IsDrawable (grid code.now) }
     {
-        let (columns, rows) = (code.width(), code.height());
+        Picture::of_modules(code.modules(), code.width(), code.height(), options)
+    }
+
+    /// Returns the picture of a grid of a type that the caller knows, as `of_grid` does.
+    pub(crate) fn of_source<S: ModuleSource>(
+        code: &'a S,
+        options: RenderOptions,
+    ) -> Option<Picture<'a>>
+        ensures shown { IfSome result (λ drawn.
+            shown drawn ≡ picture (S.grid code.now) options.scale options.quiet) }
+        ensures small { IsSome result ↔ IsDrawable (S.grid code.now) }
+    {
+        Picture::of_modules(code.modules(), code.width(), code.height(), options)
+    }
+
+    /// Returns the picture of modules, row after row, or `None` if there are no columns or rows, or
+    /// more than `MAX_MODULES`.
+    fn of_modules(
+        modules: &'a [Color],
+        columns: usize,
+        rows: usize,
+        options: RenderOptions,
+    ) -> Option<Picture<'a>>
+        requires { HasAllRows (grid_of modules.now columns rows) }
+        ensures shown { IfSome result (λ drawn. shown drawn
+            ≡ picture (grid_of modules.now columns rows) options.scale options.quiet) }
+        ensures small { IsSome result ↔ IsDrawable (grid_of modules.now columns rows) }
+    {
         if columns == 0 || rows == 0 || columns > MAX_MODULES || rows > MAX_MODULES {
             return None;
         }
         Some(Picture {
-            modules: code.modules(),
+            modules,
             columns,
             rows,
             scale: options.scale,

@@ -1,0 +1,146 @@
+//! Pictures of symbols.
+use crate::{ffi, Error, Symbol, Version};
+
+/// A format of pictures.
+#[derive(Clone, Copy, Debug, PartialEq, Eq, Hash)]
+#[non_exhaustive]
+pub enum Format {
+    /// Text for a terminal, in half blocks of Unicode.
+    Terminal = 0,
+    /// Scalable Vector Graphics.
+    Svg = 1,
+    /// Portable Network Graphics, one bit a pixel.
+    Png = 2,
+    /// A portable bitmap, in its binary form (`P4` of Netpbm).
+    Pbm = 3,
+    /// Encapsulated PostScript.
+    Eps = 4,
+    /// Raster images of ESC/POS (`GS v 0`), for ticket printers.
+    EscPos = 5,
+    /// A label of ZPL II (`^GF`), for label printers.
+    Zpl = 6,
+}
+
+/// What is asked of a picture. By default a module has 8 pixels, and one in text; the quiet zone
+/// has 4 modules, and 2 around a Micro symbol.
+///
+/// ```
+/// use sicklespan::{Error, Format, Level, Settings, Symbol};
+///
+/// let symbol = Symbol::new(b"hello", Level::M)?;
+/// let label = symbol.picture(Format::Zpl, &Settings::new().scale(4).at(20, 30))?;
+/// assert!(label.starts_with(b"^XA\n^FO20,30^GFA,"));
+/// assert_eq!(symbol.picture(Format::Pbm, &Settings::new().dpi(300)), Err(Error::InvalidSetting));
+/// # Ok::<(), sicklespan::Error>(())
+/// ```
+#[derive(Clone, Copy, Debug, Default, PartialEq, Eq, Hash)]
+pub struct Settings {
+    scale: Option<u16>,
+    quiet: Option<u16>,
+    module_mm: Option<u16>,
+    dpi: Option<u16>,
+    inverted: bool,
+    at: Option<(u16, u16)>,
+}
+
+impl Settings {
+    /// Returns the default.
+    pub fn new() -> Settings {
+        Settings::default()
+    }
+
+    /// Returns the same settings with another width of a module in pixels, 1 to 64.
+    pub fn scale(self, pixels: u16) -> Settings {
+        Settings { scale: Some(pixels), ..self }
+    }
+
+    /// Returns the same settings with another width of the quiet zone in modules, 0 to 16.
+    pub fn quiet(self, modules: u16) -> Settings {
+        Settings { quiet: Some(modules), ..self }
+    }
+
+    /// Returns the same settings with the width of a module in hundredths of a millimetre, 5 to
+    /// 1000: of SVG, PNG and EPS.
+    pub fn module_mm(self, hundredths: u16) -> Settings {
+        Settings { module_mm: Some(hundredths), ..self }
+    }
+
+    /// Returns the same settings with the number of pixels in an inch, 50 to 2400: of PNG, and not
+    /// beside `module_mm`.
+    pub fn dpi(self, pixels: u16) -> Settings {
+        Settings { dpi: Some(pixels), ..self }
+    }
+
+    /// Returns the same settings, with the light pixels filled, for a dark screen: of text.
+    pub fn inverted(self) -> Settings {
+        Settings { inverted: true, ..self }
+    }
+
+    /// Returns the same settings with the position of the upper left corner on the label in dots,
+    /// each 0 to 18000: of ZPL.
+    pub fn at(self, x: u16, y: u16) -> Settings {
+        Settings { at: Some((x, y)), ..self }
+    }
+
+    fn numbers(self, version: Version) -> ffi::Settings {
+        let number = |given: Option<u16>| given.map_or(-1, i32::from);
+        let zone = if matches!(version, Version::Micro(_)) { 2 } else { 4 };
+        ffi::Settings {
+            scale: number(self.scale),
+            quiet: self.quiet.unwrap_or(zone).into(),
+            module_mm: number(self.module_mm),
+            dpi: number(self.dpi),
+            inverted: self.inverted.into(),
+            at_x: number(self.at.map(|at| at.0)),
+            at_y: number(self.at.map(|at| at.1)),
+        }
+    }
+}
+
+impl Symbol {
+    /// Returns the picture in a format, as the settings ask for it.
+    ///
+    /// # Errors
+    ///
+    /// `InvalidSetting` if a setting is out of its bounds, or the format does not have it;
+    /// `OutOfMemory`.
+    pub fn picture(&self, format: Format, settings: &Settings) -> Result<Vec<u8>, Error> {
+        let modules: Vec<u8> = self.modules().iter().map(|dark| u8::from(*dark)).collect();
+        let (format, asked) = (format as i32, settings.numbers(self.version()));
+        let (mut bytes, mut length) = (vec![0; 1 << 14], 0);
+        loop {
+            match ffi::picture(&modules, self.width(), format, &asked, &mut bytes, &mut length) {
+                0 => break,
+                ffi::SHORT_BUFFER => bytes.resize(length, 0),
+                status => return Err(Error::of(status)),
+            }
+        }
+        bytes.truncate(length);
+        Ok(bytes)
+    }
+
+    /// Returns the picture as SVG, with the default settings.
+    ///
+    /// ```
+    /// # use sicklespan::{Level, Symbol};
+    /// assert!(Symbol::new(b"hello", Level::M)?.to_svg()?.starts_with("<svg "));
+    /// # Ok::<(), sicklespan::Error>(())
+    /// ```
+    ///
+    /// # Errors
+    ///
+    /// `OutOfMemory`.
+    pub fn to_svg(&self) -> Result<String, Error> {
+        let bytes = self.picture(Format::Svg, &Settings::new())?;
+        Ok(String::from_utf8(bytes).expect("SVG is text"))
+    }
+
+    /// Returns the picture as a PNG file, with the default settings.
+    ///
+    /// # Errors
+    ///
+    /// `OutOfMemory`.
+    pub fn to_png(&self) -> Result<Vec<u8>, Error> {
+        self.picture(Format::Png, &Settings::new())
+    }
+}

@@ -1,0 +1,42 @@
+-- The format and the settings of a picture, as a caller in C gives them.
+use Rattle.std.specs.Prelude.{◌≡◌, ◌≢◌, ◌↔◌, ℕ, ℤ, pos, negsuc, true, Option, Some, None, unwrap_or}
+use Rattle.qrcode_render.specs.declared.format.Format.{Format}
+use Rattle.qrcode_render.specs.declared.format.Format.TheVariants.{Terminal, Svg, Png, Pbm, Eps}
+use Rattle.qrcode_render.specs.declared.format.Format.TheVariants.{EscPos, Zpl}
+use Rattle.qrcode_render.specs.declared.settings.Settings.{Settings}
+use Rattle.qrcode_c.specs.declared.settings.PictureSettings.{PictureSettings}
+
+-- The number of a format.
+abbrev pub format_argument : Format → ℤ
+format_argument Terminal = pos 0
+format_argument Svg = pos 1
+format_argument Png = pos 2
+format_argument Pbm = pos 3
+format_argument Eps = pos 4
+format_argument EscPos = pos 5
+format_argument Zpl = pos 6
+
+-- The number is not that of a format.
+abbrev pub IsNoFormat : ℤ → Type 0
+IsNoFormat number = (format : Format) → number ≢ format_argument format
+
+-- The number of a setting; one below 0 says nothing.
+abbrev pub given : ℤ → Option ℕ
+given (pos n) = Some n
+given (negsuc n) = None
+
+-- The position whose parts are given. A part that is not given beside the other is 0.
+abbrev pub corner : (x y : Option ℕ) → Option (ℕ × ℕ)
+corner None None = None
+corner (Some x) y = Some (x, unwrap_or y 0)
+corner None (Some y) = Some (0, y)
+
+-- The numbers of the caller mean these settings, which have no title.
+pub record MeansSettings (asked : PictureSettings) (settings : Settings) : Type 0 where
+  pub scale_is : settings.scale ≡ given asked.scale
+  pub quiet_is : settings.quiet ≡ given asked.quiet
+  pub module_mm_is : settings.module_mm ≡ given asked.module_mm
+  pub dpi_is : settings.dpi ≡ given asked.dpi
+  pub inverted_is : (settings.inverted ≡ true) ↔ (asked.inverted ≢ pos 0)
+  pub title_is : settings.title ≡ None
+  pub at_is : settings.at ≡ corner (given asked.at_x) (given asked.at_y)
