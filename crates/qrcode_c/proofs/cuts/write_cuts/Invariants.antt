@@ -1,4 +1,4 @@
--- So many cuts are written, and the others are as before.
+-- The first cuts are written, and the others are as before.
 use Rattle.std.proofs.Common.{◌≡◌, ◌++◌, take, drop}
 use Rattle.qrcode_c.proofs.cuts.write_cuts.Given as goal
 
