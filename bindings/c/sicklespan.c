@@ -25,6 +25,12 @@ int32_t qrcode_c_cuts(const uint8_t *message, size_t length, int32_t level, int3
 int32_t qrcode_c_sequence(const uint8_t *message, size_t length, const size_t *cuts,
                           size_t cut_count, int32_t level, int32_t max_version, uint8_t *modules,
                           size_t room, sicklespan_shape *shapes, size_t places);
+int32_t qrcode_c_text_cuts(const uint8_t *text, size_t length, int32_t level, int32_t max_version,
+                           size_t *cuts, size_t room, size_t *count);
+int32_t qrcode_c_text_sequence(const uint8_t *text, size_t length, const size_t *cuts,
+                               size_t cut_count, int32_t level, int32_t max_version,
+                               uint8_t *modules, size_t room, sicklespan_shape *shapes,
+                               size_t places);
 int32_t qrcode_c_picture(const uint8_t *modules, size_t size, size_t width, int32_t format,
                          const sicklespan_settings *settings, uint8_t *picture, size_t room,
                          size_t *length);
@@ -139,9 +145,12 @@ int32_t sicklespan_part_symbol(const uint8_t *message, size_t length, const size
                                 modules, room, shape);
 }
 
-int32_t sicklespan_sequence(const void *message, size_t length, const size_t *cuts,
-                            size_t cut_count, int32_t level, int32_t max_version, uint8_t *modules,
-                            size_t room, sicklespan_shape *shapes) {
+typedef int32_t draw_all(const uint8_t *, size_t, const size_t *, size_t, int32_t, int32_t,
+                         uint8_t *, size_t, sicklespan_shape *, size_t);
+
+static int32_t spread(draw_all *by, const void *message, size_t length, const size_t *cuts,
+                      size_t cut_count, int32_t level, int32_t max_version, uint8_t *modules,
+                      size_t room, sicklespan_shape *shapes) {
     const size_t most = PTRDIFF_MAX / sizeof *cuts;
     if (cut_count > most) return SICKLESPAN_INVALID_POINTER;
     /* With more parts than 16 nothing is written. */
@@ -153,19 +162,44 @@ int32_t sicklespan_sequence(const void *message, size_t length, const size_t *cu
     if (modules == NULL) modules = (uint8_t *)&nowhere;
     if (message == NULL) message = &nowhere;
     const size_t *const at = cuts != NULL ? cuts : &nowhere;
-    return qrcode_c_sequence(message, length, at, cut_count, level, max_version, modules, room,
-                             shapes, places);
+    return by(message, length, at, cut_count, level, max_version, modules, room, shapes, places);
 }
 
-int32_t sicklespan_cuts(const void *message, size_t length, int32_t level, int32_t max_version,
-                        size_t *cuts, size_t room, size_t *count) {
+int32_t sicklespan_sequence(const void *message, size_t length, const size_t *cuts,
+                            size_t cut_count, int32_t level, int32_t max_version, uint8_t *modules,
+                            size_t room, sicklespan_shape *shapes) {
+    return spread(qrcode_c_sequence, message, length, cuts, cut_count, level, max_version, modules,
+                  room, shapes);
+}
+
+int32_t sicklespan_text_sequence(const char *text, size_t length, const size_t *cuts,
+                                 size_t cut_count, int32_t level, int32_t max_version,
+                                 uint8_t *modules, size_t room, sicklespan_shape *shapes) {
+    return spread(qrcode_c_text_sequence, text, length, cuts, cut_count, level, max_version,
+                  modules, room, shapes);
+}
+
+typedef int32_t find_cuts(const uint8_t *, size_t, int32_t, int32_t, size_t *, size_t, size_t *);
+
+static int32_t found_cuts(find_cuts *by, const void *message, size_t length, int32_t level,
+                          int32_t max_version, size_t *cuts, size_t room, size_t *count) {
     room = least(room, SICKLESPAN_MAX_CUTS);
     struct span input = {message, length}, nothing = {NULL, 0};
     struct span found = {cuts, room * sizeof *cuts}, number = {count, sizeof *count};
     if (!are_good(input, nothing, found, number)) return SICKLESPAN_INVALID_POINTER;
     size_t *const to = cuts == NULL ? &nowhere : cuts;
     const void *const from = message == NULL ? &nowhere : message;
-    return qrcode_c_cuts(from, length, level, max_version, to, room, count);
+    return by(from, length, level, max_version, to, room, count);
+}
+
+int32_t sicklespan_cuts(const void *message, size_t length, int32_t level, int32_t max_version,
+                        size_t *cuts, size_t room, size_t *count) {
+    return found_cuts(qrcode_c_cuts, message, length, level, max_version, cuts, room, count);
+}
+
+int32_t sicklespan_text_cuts(const char *text, size_t length, int32_t level, int32_t max_version,
+                             size_t *cuts, size_t room, size_t *count) {
+    return found_cuts(qrcode_c_text_cuts, text, length, level, max_version, cuts, room, count);
 }
 
 static const sicklespan_settings plain = SICKLESPAN_SETTINGS_INIT;
@@ -196,7 +230,7 @@ const char *sicklespan_status_text(int32_t status) {
     case SICKLESPAN_INVALID_LEVEL: return "there is no such level";
     case SICKLESPAN_INVALID_MAX_VERSION: return "the greatest version is not 1 to 40";
     case SICKLESPAN_INVALID_PART_COUNT: return "the parts are not 2 to 16";
-    case SICKLESPAN_INVALID_CUTS: return "the cuts fall, or lie behind the end";
+    case SICKLESPAN_INVALID_CUTS: return "a cut is none of the message, or out of order";
     case SICKLESPAN_INVALID_INDEX: return "there is no part at the index";
     case SICKLESPAN_SHORT_BUFFER: return "the buffer is too short";
     case SICKLESPAN_INVALID_POINTER: return "a pointer is null, or buffers overlap";

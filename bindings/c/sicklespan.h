@@ -37,7 +37,8 @@ enum sicklespan_status {
     SICKLESPAN_INVALID_LEVEL = 3, /* the level is not 0 to 3, or it is 3 and the symbol is Micro */
     SICKLESPAN_INVALID_MAX_VERSION = 4, /* the greatest version is not 1 to 40 */
     SICKLESPAN_INVALID_PART_COUNT = 5,  /* the parts are not 2 to 16 */
-    SICKLESPAN_INVALID_CUTS = 6,        /* a cut is below the one before it, or above the length */
+    SICKLESPAN_INVALID_CUTS = 6, /* a cut is below the one before it, above the length, or in the
+                                  * middle of a character of a text */
     SICKLESPAN_INVALID_INDEX = 7,       /* there are no more parts than the index */
     SICKLESPAN_SHORT_BUFFER = 8,        /* there is not room enough for what is to be written */
     SICKLESPAN_INVALID_POINTER = 9,     /* see below */
@@ -175,14 +176,24 @@ int32_t sicklespan_sequence(const void *message, size_t length, const size_t *cu
                             size_t cut_count, int32_t level, int32_t max_version, uint8_t *modules,
                             size_t room, sicklespan_shape *shapes);
 
+/*
+ * The same of a text in UTF-8, which each symbol says (ECI 26). Each cut is between two characters,
+ * so that each symbol has whole ones; another one is SICKLESPAN_INVALID_CUTS too.
+ *
+ * After SICKLESPAN_INVALID_LEVEL: SICKLESPAN_INVALID_TEXT.
+ */
+int32_t sicklespan_text_sequence(const char *text, size_t length, const size_t *cuts,
+                                 size_t cut_count, int32_t level, int32_t max_version,
+                                 uint8_t *modules, size_t room, sicklespan_shape *shapes);
+
 /* The symbols of a sequence are at most 16, so that a buffer for 15 cuts is never too short. */
 #define SICKLESPAN_MAX_CUTS 15
 
 /*
- * The cuts by which sicklespan_part_symbol needs the fewest symbols of versions up to
- * `max_version`. They are written to `cuts`, which has `room` places, and their number to `count`;
- * the places after them keep their values. A message that fits one symbol after a header has no
- * cuts, and needs no sequence. No pair of the Kanji mode is cut.
+ * The cuts by which sicklespan_sequence needs the fewest symbols of versions up to `max_version`.
+ * They are written to `cuts`, which has `room` places, and their number to `count`; the places
+ * after them keep their values. A message that fits one symbol after a header has no cuts, and
+ * needs no sequence. No pair of the Kanji mode is cut.
  *
  * SICKLESPAN_INVALID_POINTER as above, of the first SICKLESPAN_MAX_CUTS places of `cuts` and of
  * `count`; SICKLESPAN_INVALID_LEVEL, SICKLESPAN_INVALID_MAX_VERSION, SICKLESPAN_DATA_TOO_LONG
@@ -191,6 +202,14 @@ int32_t sicklespan_sequence(const void *message, size_t length, const size_t *cu
  */
 int32_t sicklespan_cuts(const void *message, size_t length, int32_t level, int32_t max_version,
                         size_t *cuts, size_t room, size_t *count);
+
+/*
+ * The same of a text in UTF-8, for sicklespan_text_sequence: each cut is between two characters.
+ *
+ * After SICKLESPAN_INVALID_LEVEL: SICKLESPAN_INVALID_TEXT.
+ */
+int32_t sicklespan_text_cuts(const char *text, size_t length, int32_t level, int32_t max_version,
+                             size_t *cuts, size_t room, size_t *count);
 
 /* The formats of pictures. */
 enum sicklespan_format {

@@ -73,30 +73,38 @@ int32_t __real_qrcode_c_micro_symbol(const uint8_t *, size_t, int32_t, uint8_t *
         return __real_##name(data, length, options, out, room, to);                                \
     }
 
-int32_t __real_qrcode_c_cuts(const uint8_t *, size_t, int32_t, int32_t, size_t *, size_t, size_t *);
+/* The same of the calls for cuts. */
+#define SEES_CUTS(name)                                                                            \
+    int32_t __real_##name(const uint8_t *, size_t, int32_t, int32_t, size_t *, size_t, size_t *);  \
+    int32_t __wrap_##name(const uint8_t *message, size_t length, int32_t level,                    \
+                          int32_t max_version, size_t *cuts, size_t room, size_t *count) {         \
+        EXPECT_SLICE(message, length);                                                             \
+        EXPECT_SLICE(cuts, room);                                                                  \
+        EXPECT_SLICE(count, 1);                                                                    \
+        return __real_##name(message, length, level, max_version, cuts, room, count);              \
+    }
 
-int32_t __wrap_qrcode_c_cuts(const uint8_t *message, size_t length, int32_t level,
-                             int32_t max_version, size_t *cuts, size_t room, size_t *count) {
-    EXPECT_SLICE(message, length);
-    EXPECT_SLICE(cuts, room);
-    EXPECT_SLICE(count, 1);
-    return __real_qrcode_c_cuts(message, length, level, max_version, cuts, room, count);
-}
+/* The same of the calls for all symbols of a message. */
+#define SEES_PARTS(name)                                                                           \
+    int32_t __real_##name(const uint8_t *, size_t, const size_t *, size_t, int32_t, int32_t,       \
+                          uint8_t *, size_t, sicklespan_shape *, size_t);                          \
+    int32_t __wrap_##name(const uint8_t *message, size_t length, const size_t *cuts,               \
+                          size_t cut_count, int32_t level, int32_t max_version, uint8_t *out,      \
+                          size_t room, sicklespan_shape *to, size_t places) {                      \
+        EXPECT_SLICE(message, length);                                                             \
+        EXPECT_SLICE(cuts, cut_count);                                                             \
+        EXPECT_SLICE(out, room);                                                                   \
+        EXPECT_SLICE(to, places);                                                                  \
+        expect(places == (cut_count < 15 ? cut_count : 15) + 1, "shapes of other parts",           \
+               __LINE__);                                                                          \
+        return __real_##name(message, length, cuts, cut_count, level, max_version, out, room, to,  \
+                             places);                                                              \
+    }
 
-int32_t __real_qrcode_c_sequence(const uint8_t *, size_t, const size_t *, size_t, int32_t, int32_t,
-                                 uint8_t *, size_t, sicklespan_shape *, size_t);
-
-int32_t __wrap_qrcode_c_sequence(const uint8_t *message, size_t length, const size_t *cuts,
-                                 size_t cut_count, int32_t level, int32_t max_version, uint8_t *out,
-                                 size_t room, sicklespan_shape *to, size_t places) {
-    EXPECT_SLICE(message, length);
-    EXPECT_SLICE(cuts, cut_count);
-    EXPECT_SLICE(out, room);
-    EXPECT_SLICE(to, places);
-    expect(places == (cut_count < 15 ? cut_count : 15) + 1, "shapes of other parts", __LINE__);
-    return __real_qrcode_c_sequence(message, length, cuts, cut_count, level, max_version, out, room,
-                                    to, places);
-}
+SEES_CUTS(qrcode_c_cuts)
+SEES_CUTS(qrcode_c_text_cuts)
+SEES_PARTS(qrcode_c_sequence)
+SEES_PARTS(qrcode_c_text_sequence)
 
 int32_t __real_qrcode_c_picture(const uint8_t *, size_t, size_t, int32_t,
                                 const sicklespan_settings *, uint8_t *, size_t, size_t *);
@@ -394,7 +402,7 @@ static void test_words(void) {
         [SICKLESPAN_INVALID_LEVEL] = "there is no such level",
         [SICKLESPAN_INVALID_MAX_VERSION] = "the greatest version is not 1 to 40",
         [SICKLESPAN_INVALID_PART_COUNT] = "the parts are not 2 to 16",
-        [SICKLESPAN_INVALID_CUTS] = "the cuts fall, or lie behind the end",
+        [SICKLESPAN_INVALID_CUTS] = "a cut is none of the message, or out of order",
         [SICKLESPAN_INVALID_INDEX] = "there is no part at the index",
         [SICKLESPAN_SHORT_BUFFER] = "the buffer is too short",
         [SICKLESPAN_INVALID_POINTER] = "a pointer is null, or buffers overlap",
@@ -479,6 +487,7 @@ int main(void) {
                                    test_options,        test_contents,
                                    test_micro,          test_asked_allocations,
                                    test_cuts,           test_sequence,
+                                   test_text_cuts,      test_text_sequence,
                                    test_picture_room,   test_picture_pointers,
                                    test_settings,       test_picture_allocations};
     int passed = 0, failed = 0;

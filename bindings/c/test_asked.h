@@ -339,3 +339,64 @@ static void test_sequence(void) {
     EXPECT(all_parts(word, 5, many, 40, modules, 882, shapes) == SICKLESPAN_INVALID_PART_COUNT);
     fail_allocations(draw_sequence);
 }
+
+/* Two characters of two bytes each, and a byte that begins one. */
+static const char eacute[] = "\xC3\xA9\xC3\xA9\xC3";
+
+static int32_t text_parts(const char *text, size_t length, const size_t *at, size_t count) {
+    clear();
+    for (size_t i = 0; i < 16; i++) shapes[i] = untouched;
+    return sicklespan_text_sequence(text, length, at, count, SICKLESPAN_LEVEL_L, 1, modules,
+                                    GREATEST, shapes);
+}
+
+static int32_t draw_text_sequence(void) { return text_parts(eacute, 4, in_two, 1); }
+
+static void test_text_sequence(void) {
+    static uint8_t drawn[882];
+    EXPECT(draw_text_sequence() == SICKLESPAN_OK && is_kept_from(882));
+    EXPECT(shapes[0].width == 21 && shapes[1].width == 21 && shapes[2].width == -1);
+    memcpy(drawn, modules, sizeof drawn);
+    /* The symbols of bytes do not say that they are UTF-8. */
+    EXPECT(all_parts(eacute, 4, in_two, 1, modules, 882, shapes) == SICKLESPAN_OK &&
+           memcmp(drawn, modules, 882) != 0);
+    EXPECT(text_parts(eacute, 4, (size_t[]){1}, 1) == SICKLESPAN_INVALID_CUTS && is_kept_from(0) &&
+           no_shape_is_written());
+    EXPECT(text_parts(eacute, 4, (size_t[]){5}, 1) == SICKLESPAN_INVALID_CUTS);
+    EXPECT(text_parts(eacute, 4, (size_t[]){2, 0}, 2) == SICKLESPAN_INVALID_CUTS);
+    EXPECT(text_parts(eacute, 4, (size_t[]){0, 4, 4}, 3) == SICKLESPAN_OK &&
+           shapes[3].width == 21 && is_kept_from(4 * 441));
+    EXPECT(text_parts(eacute, 5, (size_t[]){1}, 1) == SICKLESPAN_INVALID_TEXT && is_kept_from(0) &&
+           no_shape_is_written());
+    EXPECT(text_parts(eacute, 4, NULL, 0) == SICKLESPAN_INVALID_PART_COUNT);
+    EXPECT(sicklespan_text_sequence(eacute, 5, in_two, 1, 4, 0, modules, 882, shapes) ==
+           SICKLESPAN_INVALID_LEVEL);
+    EXPECT(sicklespan_text_sequence(eacute, 4, in_two, 1, 0, 0, modules, 882, shapes) ==
+           SICKLESPAN_INVALID_MAX_VERSION);
+    EXPECT(sicklespan_text_sequence(eacute, 4, in_two, 1, 0, 1, modules, 881, shapes) ==
+           SICKLESPAN_SHORT_BUFFER);
+    EXPECT(is_refused(text_parts(NULL, 1, in_two, 1)));
+    fail_allocations(draw_text_sequence);
+}
+
+static int32_t text_cuts_of(const char *text, size_t length, int32_t max_version) {
+    clear();
+    for (size_t i = 0; i < sizeof places / sizeof *places; i++) places[i] = 77;
+    cut_count = 88;
+    return sicklespan_text_cuts(text, length, SICKLESPAN_LEVEL_H, max_version, cuts,
+                                SICKLESPAN_MAX_CUTS, &cut_count);
+}
+
+static int32_t find_text_cuts(void) { return text_cuts_of(eacute, 4, 1); }
+
+static void test_text_cuts(void) {
+    /* Version 1 holds 72 bits at H: 20 of the header, 12 that say UTF-8, 12 before the bytes. */
+    EXPECT(find_text_cuts() == SICKLESPAN_OK && cut_count == 1 && cuts[0] == 2 && are_kept_from(1));
+    EXPECT(text_cuts_of(eacute, 2, 1) == SICKLESPAN_OK && cut_count == 0);
+    EXPECT(text_cuts_of(eacute, 5, 1) == SICKLESPAN_INVALID_TEXT && are_kept_from(0));
+    EXPECT(text_cuts_of(eacute, 5, 0) == SICKLESPAN_INVALID_TEXT && are_kept_from(0));
+    EXPECT(text_cuts_of(eacute, 4, 0) == SICKLESPAN_INVALID_MAX_VERSION && are_kept_from(0));
+    EXPECT(text_cuts_of(NULL, 0, 1) == SICKLESPAN_OK && cut_count == 0);
+    EXPECT(text_cuts_of(NULL, 1, 1) == SICKLESPAN_INVALID_POINTER && are_kept_from(0));
+    fail_allocations(find_text_cuts);
+}

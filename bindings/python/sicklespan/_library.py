@@ -46,10 +46,12 @@ _AT_THE_END = (c_char_p, c_size_t, POINTER(Shape))
 for _name in ("sicklespan_bytes", "sicklespan_text", "sicklespan_elements", "sicklespan_gs1"):
     _declare(_name, c_int32, c_char_p, c_size_t, POINTER(Options), *_AT_THE_END)
 _declare("sicklespan_micro", c_int32, c_char_p, c_size_t, c_int32, *_AT_THE_END)
-_declare("sicklespan_sequence", c_int32, c_char_p, c_size_t, POINTER(c_size_t), c_size_t, c_int32,
-         c_int32, *_AT_THE_END)
-_declare("sicklespan_cuts", c_int32, c_char_p, c_size_t, c_int32, c_int32, POINTER(c_size_t),
-         c_size_t, POINTER(c_size_t))
+for _name in ("sicklespan_sequence", "sicklespan_text_sequence"):
+    _declare(_name, c_int32, c_char_p, c_size_t, POINTER(c_size_t), c_size_t, c_int32, c_int32,
+             *_AT_THE_END)
+for _name in ("sicklespan_cuts", "sicklespan_text_cuts"):
+    _declare(_name, c_int32, c_char_p, c_size_t, c_int32, c_int32, POINTER(c_size_t), c_size_t,
+             POINTER(c_size_t))
 _declare("sicklespan_picture", c_int32, c_char_p, c_size_t, c_int32, POINTER(Settings), c_char_p,
          c_size_t, POINTER(c_size_t))
 _declare("sicklespan_status_text", c_char_p, c_int32)

@@ -80,9 +80,9 @@ def micro(content: Union[str, bytes], error: str = "L") -> Symbol:
     return _drawn(library.sicklespan_micro, data, len(data), _number(error))
 
 
-def _best_cuts(data: bytes, level: int, limit: int) -> List[int]:
+def _best_cuts(call: Callable[..., int], data: bytes, level: int, limit: int) -> List[int]:
     found, count = (ctypes.c_size_t * 15)(), ctypes.c_size_t()
-    check(library.sicklespan_cuts(data, len(data), level, limit, found, 15, ctypes.byref(count)))
+    check(call(data, len(data), level, limit, found, 15, ctypes.byref(count)))
     return found[:count.value]
 
 
@@ -92,18 +92,23 @@ def sequence(content: Union[str, bytes], cuts: Optional[Sequence[int]] = None, e
 
     Part i ends before byte `cuts[i]`, and the last one at the end of the message. Where no cuts are
     given, the symbols are as few as can be; if one is enough, it is no part of a sequence.
+
+    Text is encoded as `make` does it. The cuts of text that is not ASCII count the bytes of its
+    UTF-8, and each is between two characters.
     """
+    is_text = isinstance(content, str) and not content.isascii()
     data = content.encode() if isinstance(content, str) else content
     level, limit = _number(error), _version(max_version)
     if cuts is None:
-        cuts = _best_cuts(data, level, limit)
+        find = library.sicklespan_text_cuts if is_text else library.sicklespan_cuts
+        cuts = _best_cuts(find, data, level, limit)
         if not cuts:
-            return [make(data, error, max_version=limit, boost_error=False)]
+            return [make(content, error, max_version=limit, boost_error=False)]
     places, shapes = (ctypes.c_size_t * len(cuts))(*cuts), (Shape * (len(cuts) + 1))()
     room = min(len(shapes), 16) * (17 + 4 * limit) ** 2
     modules = ctypes.create_string_buffer(room)
-    check(library.sicklespan_sequence(data, len(data), places, len(cuts), level, limit, modules,
-                                       room, shapes))
+    draw = library.sicklespan_text_sequence if is_text else library.sicklespan_sequence
+    check(draw(data, len(data), places, len(cuts), level, limit, modules, room, shapes))
     symbols, start = [], 0
     for shape in shapes:
         size = shape.width ** 2

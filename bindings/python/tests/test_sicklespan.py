@@ -124,6 +124,19 @@ class Symbols(unittest.TestCase):
         with self.assertRaises(sicklespan.InvalidVersionsError):
             sicklespan.sequence("one and two", [4], max_version=0)
 
+    def test_sequences_of_text(self):
+        # After the header and the 12 bits that say UTF-8, version 1 holds 3 bytes at level H.
+        self.assertEqual(sicklespan.sequence("éé", error="H", max_version=1),
+                         sicklespan.sequence("éé", [2], "H", max_version=1))
+        self.assertEqual(sicklespan.sequence("é", error="H", max_version=1),
+                         [sicklespan.make("é", "H")])
+        self.assertNotEqual(sicklespan.sequence("éé", [2]),
+                            sicklespan.sequence("éé".encode(), [2]))
+        with self.assertRaises(sicklespan.InvalidCutsError):
+            sicklespan.sequence("éé", [1])
+        with self.assertRaises(sicklespan.DataTooLongError):
+            sicklespan.sequence("é" * 17, error="H", max_version=1)
+
     def test_threads(self):
         wanted, drawn = sicklespan.make("threads"), []
         threads = [threading.Thread(target=lambda: drawn.append(sicklespan.make("threads")))

@@ -100,8 +100,28 @@ extern "C" {
         room: usize,
         shapes: *mut Shape,
     ) -> i32;
+    fn sicklespan_text_sequence(
+        text: *const u8,
+        length: usize,
+        cuts: *const usize,
+        cut_count: usize,
+        level: i32,
+        max_version: i32,
+        modules: *mut u8,
+        room: usize,
+        shapes: *mut Shape,
+    ) -> i32;
     fn sicklespan_cuts(
         message: *const u8,
+        length: usize,
+        level: i32,
+        max_version: i32,
+        cuts: *mut usize,
+        room: usize,
+        count: *mut usize,
+    ) -> i32;
+    fn sicklespan_text_cuts(
+        text: *const u8,
         length: usize,
         level: i32,
         max_version: i32,
@@ -156,8 +176,9 @@ pub fn micro(bytes: &[u8], level: i32, modules: &mut [u8], shape: &mut Shape) ->
     }
 }
 
-/// There is a shape for each part.
+/// There is a shape for each part, and the content is bytes or a text.
 pub fn sequence(
+    content: Content,
     message: &[u8],
     cuts: &[usize],
     level: i32,
@@ -166,8 +187,12 @@ pub fn sequence(
     shapes: &mut [Shape],
 ) -> i32 {
     assert_eq!(shapes.len(), cuts.len() + 1);
+    let call = match content {
+        Content::Text => sicklespan_text_sequence,
+        _ => sicklespan_sequence,
+    };
     unsafe {
-        sicklespan_sequence(
+        call(
             message.as_ptr(),
             message.len(),
             cuts.as_ptr(),
@@ -181,15 +206,21 @@ pub fn sequence(
     }
 }
 
+/// The content is bytes or a text.
 pub fn cuts(
+    content: Content,
     message: &[u8],
     level: i32,
     max_version: i32,
     cuts: &mut [usize],
     count: &mut usize,
 ) -> i32 {
+    let call = match content {
+        Content::Text => sicklespan_text_cuts,
+        _ => sicklespan_cuts,
+    };
     unsafe {
-        sicklespan_cuts(
+        call(
             message.as_ptr(),
             message.len(),
             level,

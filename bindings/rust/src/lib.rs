@@ -51,8 +51,34 @@ pub fn version() -> &'static str {
 /// `InvalidMaxVersion`; then `DataTooLong` exactly where no cuts make at most 16 parts that fit, and
 /// `OutOfMemory`.
 pub fn best_cuts(message: &[u8], level: Level, max_version: u8) -> Result<Vec<usize>, Error> {
+    cuts_of(ffi::Content::Bytes, message, level, max_version)
+}
+
+/// Returns the places at which to cut a text so that `Symbol::text_sequence` needs the fewest
+/// symbols, as `best_cuts` does: each is between two characters.
+///
+/// ```
+/// use sicklespan::{best_text_cuts, Level};
+///
+/// // After the header and the 12 bits that say UTF-8, version 1 holds 3 bytes at level H.
+/// assert_eq!(best_text_cuts("éé", Level::H, 1), Ok(vec![2]));
+/// ```
+///
+/// # Errors
+///
+/// As `best_cuts`.
+pub fn best_text_cuts(text: &str, level: Level, max_version: u8) -> Result<Vec<usize>, Error> {
+    cuts_of(ffi::Content::Text, text.as_bytes(), level, max_version)
+}
+
+fn cuts_of(
+    content: ffi::Content,
+    message: &[u8],
+    level: Level,
+    max_version: u8,
+) -> Result<Vec<usize>, Error> {
     let (mut cuts, mut count) = ([0; 15], 0);
-    match ffi::cuts(message, level as i32, max_version.into(), &mut cuts, &mut count) {
+    match ffi::cuts(content, message, level as i32, max_version.into(), &mut cuts, &mut count) {
         0 => Ok(cuts[..count].to_vec()),
         status => Err(Error::of(status)),
     }
@@ -245,11 +271,43 @@ impl Symbol {
         level: Level,
         max_version: u8,
     ) -> Result<Vec<Symbol>, Error> {
+        Symbol::parts(ffi::Content::Bytes, message, cuts, level, max_version)
+    }
+
+    /// Returns the 2 to 16 symbols that carry a text together, as `sequence` does. Each says that
+    /// it is UTF-8, and each cut is between two characters.
+    ///
+    /// ```
+    /// # use sicklespan::{Error, Level, Symbol};
+    /// assert_eq!(Symbol::text_sequence("éé", &[2], Level::M, 40)?.len(), 2);
+    /// assert_eq!(Symbol::text_sequence("éé", &[1], Level::M, 40), Err(Error::InvalidCuts));
+    /// # Ok::<(), Error>(())
+    /// ```
+    ///
+    /// # Errors
+    ///
+    /// As `sequence`.
+    pub fn text_sequence(
+        text: &str,
+        cuts: &[usize],
+        level: Level,
+        max_version: u8,
+    ) -> Result<Vec<Symbol>, Error> {
+        Symbol::parts(ffi::Content::Text, text.as_bytes(), cuts, level, max_version)
+    }
+
+    fn parts(
+        content: ffi::Content,
+        message: &[u8],
+        cuts: &[usize],
+        level: Level,
+        max_version: u8,
+    ) -> Result<Vec<Symbol>, Error> {
         let mut shapes = vec![ffi::Shape::default(); cuts.len() + 1];
         let width = 17 + 4 * usize::from(max_version.min(40));
         let mut bytes = vec![0; shapes.len().min(16) * width * width];
         let (level, limit) = (level as i32, max_version.into());
-        let status = ffi::sequence(message, cuts, level, limit, &mut bytes, &mut shapes);
+        let status = ffi::sequence(content, message, cuts, level, limit, &mut bytes, &mut shapes);
         if status != 0 {
             return Err(Error::of(status));
         }

@@ -1,7 +1,7 @@
 //! Symbols through the library: sizes by the standard's table of capacities, grids by those of the
 //! original crate.
 use answers::Answer;
-use sicklespan::{best_cuts, Error, Format, Level, Options, Settings, Symbol, Version};
+use sicklespan::{best_cuts, best_text_cuts, Error, Format, Level, Options, Settings, Symbol, Version};
 
 mod answers;
 
@@ -150,6 +150,20 @@ fn draws_sequences() {
     assert_eq!(Symbol::sequence(message, &[], Level::L, 40), Err(Error::InvalidPartCount));
     assert_eq!(Symbol::sequence(message, &[0; 16], Level::L, 40), Err(Error::InvalidPartCount));
     assert_eq!(Symbol::sequence(message, &[0], Level::L, 1), Err(Error::DataTooLong));
+}
+
+#[test]
+fn draws_sequences_of_text() {
+    let symbols = Symbol::text_sequence("éé", &[2], Level::H, 1).unwrap();
+    assert_eq!(symbols.len(), 2);
+    assert_ne!(symbols, Symbol::sequence("éé".as_bytes(), &[2], Level::H, 1).unwrap());
+    assert_eq!(Symbol::text_sequence("éé", &[1], Level::H, 1), Err(Error::InvalidCuts));
+    assert_eq!(Symbol::text_sequence("éé", &[], Level::H, 1), Err(Error::InvalidPartCount));
+    // Version 1 holds 72 bits at H: 20 of the header, 12 that say UTF-8, 12 before the bytes.
+    assert_eq!(best_text_cuts("éé", Level::H, 1), Ok(vec![2]));
+    assert_eq!(best_text_cuts("é", Level::H, 1), Ok(vec![]));
+    assert_eq!(best_text_cuts(&"é".repeat(17), Level::H, 1), Err(Error::DataTooLong));
+    assert_eq!(best_text_cuts("é", Level::H, 0), Err(Error::InvalidMaxVersion));
 }
 
 #[test]
@@ -302,7 +316,7 @@ fn draws_in_each_format() {
 fn errors_have_texts() {
     let error: Box<dyn std::error::Error> = Box::new(Error::DataTooLong);
     assert_eq!(error.to_string(), "the data are too long");
-    assert_eq!(Error::InvalidCuts.to_string(), "the cuts fall, or lie behind the end");
+    assert_eq!(Error::InvalidCuts.to_string(), "a cut is none of the message, or out of order");
 }
 
 #[test]

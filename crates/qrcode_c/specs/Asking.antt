@@ -79,21 +79,21 @@ IsAskedElementsRefusal elements asked room refusal =
 -- ---- GS1 elements as people write them
 
 -- The error that tells a fault of a text of elements.
-abbrev pub told : Gs1Error → Refusal
-told (fault.NoElements) = NoElements
-told (fault.InvalidIdentifier element) = InvalidIdentifier
-told (fault.UnknownIdentifier element) = UnknownIdentifier
-told (fault.EmptyValue element) = EmptyValue
-told (fault.ValueTooLong element) = ValueTooLong
-told (fault.InvalidCharacter element position byte) = InvalidCharacter
-told (fault.WrongLength element) = WrongLength
-told (fault.WrongCheckDigit element) = WrongCheckDigit
-told (fault.OutOfMemory) = OutOfMemory
+abbrev pub refusal_for : Gs1Error → Refusal
+refusal_for (fault.NoElements) = NoElements
+refusal_for (fault.InvalidIdentifier element) = InvalidIdentifier
+refusal_for (fault.UnknownIdentifier element) = UnknownIdentifier
+refusal_for (fault.EmptyValue element) = EmptyValue
+refusal_for (fault.ValueTooLong element) = ValueTooLong
+refusal_for (fault.InvalidCharacter element position byte) = InvalidCharacter
+refusal_for (fault.WrongLength element) = WrongLength
+refusal_for (fault.WrongCheckDigit element) = WrongCheckDigit
+refusal_for (fault.OutOfMemory) = OutOfMemory
 
 -- The error tells the first fault of the text.
 abbrev pub TellsFault : List ℕ → Refusal → Type 0
 TellsFault text refusal =
-    (found : Gs1Error) × (text_fault text ≡ Some found) × (refusal ≡ told found)
+    (found : Gs1Error) × (text_fault text ≡ Some found) × (refusal ≡ refusal_for found)
 
 -- The text writes elements, in whose bytes a reader finds them and no others, and of which the fact
 -- is true.

@@ -2,6 +2,7 @@
 use Rattle.std.specs.Prelude.{◌≡◌, ◌≢◌, ◌⊎◌, ◌+◌, ◌<◌, ◌≤◌, ℕ, ℤ, nat_abs, List, length, map}
 use Rattle.std.specs.Prelude.{slice_get, All, Some}
 use Rattle.std.specs.List.Sorted.{IsNonDecreasing}
+use Rattle.std.specs.Str.{IsUtf8}
 use Rattle.qrcode_base.specs.declared.symbols.TheConstants.{LONGEST_DATA}
 use Rattle.qrcode_base.specs.declared.types.Color.{Color}
 use Rattle.qrcode_base.specs.declared.types.EcLevel.{EcLevel}
@@ -14,7 +15,7 @@ use Rattle.qrcode_core.specs.Sequence.{AreBestSymbols, IsSomePartTooLong}
 use Rattle.qrcode_bits.specs.Frame.{IsTotal}
 use Rattle.qrcode_c.specs.declared.refusal.Refusal.{Refusal}
 use Rattle.qrcode_c.specs.declared.refusal.Refusal.TheVariants.{DataTooLong, OutOfMemory}
-use Rattle.qrcode_c.specs.declared.refusal.Refusal.TheVariants.{InvalidLevel}
+use Rattle.qrcode_c.specs.declared.refusal.Refusal.TheVariants.{InvalidLevel, InvalidText}
 use Rattle.qrcode_c.specs.declared.refusal.Refusal.TheVariants.{InvalidMaxVersion, InvalidPartCount}
 use Rattle.qrcode_c.specs.declared.refusal.Refusal.TheVariants.{InvalidCuts}
 use Rattle.qrcode_c.specs.declared.refusal.Refusal.TheVariants.{InvalidIndex, ShortBuffer}
@@ -25,6 +26,13 @@ use Rattle.qrcode_bits.specs.declared.bits.front.Content.TheVariants.{Bytes}
 -- The status is the number of an error for which the fact is true.
 abbrev pub IsStatusOf : (Refusal → Type 0) → ℤ → Type 0
 IsStatusOf comes status = (refusal : Refusal) × (status ≡ status_of refusal) × comes refusal
+
+-- The error of a call for a text: after the level the bytes are tested to be UTF-8, and then comes
+-- one of the other errors.
+abbrev pub IsTextStatus : List ℕ → ℤ → (Refusal → Type 0) → Refusal → Type 0
+IsTextStatus text number others refusal =
+    ((refusal ≡ InvalidText) × AtLevel number (λ level. IsUtf8 text → ⊥))
+    ⊎ ((refusal ≢ InvalidLevel → IsUtf8 text) × others refusal)
 
 -- The best symbol has more modules than the buffer has bytes.
 abbrev pub IsAbove : ℕ → (List Color → Type 0) → Type 0

@@ -8,7 +8,7 @@ ghost use Rattle.qrcode_bits.specs.Contents.{AreElements};
 ghost use Rattle.qrcode_bits.specs.Frame.{front_of, no_front};
 ghost use Rattle.qrcode_bits.specs.declared.bits.front.Content.TheVariants.{Elements, Text};
 ghost use Rattle.qrcode_c.specs.Asking.{IsAskedRefusal, IsAskedTextRefusal, IsAskedElementsRefusal};
-ghost use Rattle.qrcode_c.specs.Asking.{IsWrittenRefusal, WritesElements, told};
+ghost use Rattle.qrcode_c.specs.Asking.{IsWrittenRefusal, WritesElements, refusal_for};
 ghost use Rattle.qrcode_c.specs.Holding.{HoldsAsked};
 
 use crate::drawing::write;
@@ -120,7 +120,7 @@ pub fn written_symbol(
 
 /// Returns the error that tells a fault of a text of elements.
 fn refusal_of(error: Gs1Error) -> Refusal
-    ensures { result ≡ told error }
+    ensures { result ≡ refusal_for error }
 {
     match error {
         Gs1Error::NoElements => Refusal::NoElements,

@@ -6,29 +6,30 @@
 //! has a status. Calls share no state, and each frees all memory that it allocates.
 #![tactic(auto)]
 
-ghost use Rattle.std.specs.Prelude.{◌≡◌, ◌≢◌, ◌*◌, pos, length, List, None};
+ghost use Rattle.std.specs.Prelude.{◌≡◌, ◌≢◌, ◌*◌, pos, length, None};
 ghost use Rattle.std.specs.Str.{IsUtf8};
 ghost use Rattle.qrcode_bits.specs.Contents.{AreElements};
 ghost use Rattle.qrcode_bits.specs.Frame.{front_of, no_front};
-ghost use Rattle.qrcode_bits.specs.declared.bits.front.Content.TheVariants.{Bytes, Elements, Text};
+ghost use Rattle.qrcode_bits.specs.declared.bits.front.Content.TheVariants.{Elements, Text};
 ghost use Rattle.qrcode_core.specs.Headline.{IsBestSymbol, IsBestMicroSymbol};
 ghost use Rattle.qrcode_base.specs.declared.types.Version.{Version};
 ghost use Rattle.qrcode_base.specs.Symbols.{IsVersion, width_of};
 ghost use Rattle.qrcode_c.specs.Asking.{IsAskedRefusal, IsAskedTextRefusal, IsAskedElementsRefusal};
 ghost use Rattle.qrcode_c.specs.Asking.{IsWrittenRefusal, WritesElements};
-ghost use Rattle.qrcode_c.specs.Cuts.{HoldsCuts, IsCutsStatus};
-ghost use Rattle.qrcode_c.specs.Holding.{HoldsAsked, HoldsBest, HoldsPart};
-ghost use Rattle.qrcode_core.specs.Drawn.{DrawnSymbol};
+ghost use Rattle.qrcode_c.specs.Holding.{HoldsAsked, HoldsBest};
 ghost use Rattle.qrcode_c.specs.Pictures.{HoldsPicture, IsPictureRefusal};
 ghost use Rattle.qrcode_c.specs.Statuses.{status_of};
-ghost use Rattle.qrcode_c.specs.Spread.{AreSpread, HoldsAll, IsSpreadStatus};
 ghost use Rattle.qrcode_c.specs.Refusals.{IsStatusOf};
-ghost use Rattle.qrcode_c.specs.Refusals.{IsSymbolRefusal, IsMicroRefusal, IsPartRefusal};
+ghost use Rattle.qrcode_c.specs.Refusals.{IsSymbolRefusal, IsMicroRefusal};
 ghost use Rattle.qrcode_c.specs.Shapes.{IsNumberAtWidth};
 
 pub use options::Options;
 use qrcode_core::types::Version;
 pub use refusal::Refusal;
+pub use sequences::{
+    qrcode_c_cuts, qrcode_c_part_symbol, qrcode_c_sequence, qrcode_c_text_cuts,
+    qrcode_c_text_sequence,
+};
 pub use settings::PictureSettings;
 pub use shape::Shape;
 use std::alloc::Global;
@@ -39,6 +40,7 @@ mod drawing;
 mod options;
 mod picture;
 mod refusal;
+mod sequences;
 mod settings;
 mod shape;
 mod spread;
@@ -219,112 +221,6 @@ pub extern "C" fn qrcode_c_micro_symbol(
     match drawing::micro_symbol(alloc, bytes, level, modules) {
         Ok(drawn) => {
             *shape = drawn;
-            DONE
-        }
-        Err(refusal) => refusal.status(),
-    }
-}
-
-/// Writes one of the 2 to 16 symbols that carry a message together (ISO/IEC 18004:2006, "Structured
-/// Append"): the one at an index, counted from 0. The parts of the message lie between its start,
-/// the cuts in order, and its end. Returns `DONE`.
-///
-/// # Errors
-///
-/// On an error nothing is written. The status is, in this order: `InvalidLevel`; `InvalidCuts` if
-/// a cut is less than the one before it, or greater than the length; `InvalidIndex` if the index
-/// is not less than the number of parts; `InvalidMaxVersion` if the greatest version is not 1 to
-/// 40; `InvalidPartCount` if the number of parts is not 2 to 16; `DataTooLong` exactly where some
-/// part and its header fit no version up to the greatest; `OutOfMemory` where an allocation
-/// failed; `ShortBuffer`.
-#[unsafe(no_mangle)]
-pub extern "C" fn qrcode_c_part_symbol(
-    alloc: Global,
-    message: &[u8],
-    cuts: &[usize],
-    level: i32,
-    max_version: i32,
-    index: usize,
-    modules: &mut [u8],
-    shape: &mut Shape,
-) -> i32
-    ensures done { result ≡ DONE →
-        HoldsPart message.now cuts.now level max_version index modules.old modules.new shape.new }
-    ensures refused { result ≢ DONE →
-        IsStatusOf
-        (IsPartRefusal message.now cuts.now level max_version index (length modules.old)) result }
-    ensures kept { result ≢ DONE → (modules.new ≡ modules.old) × (shape.new ≡ shape.old) }
-{
-    match drawing::part_symbol(alloc, message, cuts, level, max_version, index, modules) {
-        Ok(drawn) => {
-            *shape = drawn;
-            DONE
-        }
-        Err(refusal) => refusal.status(),
-    }
-}
-
-/// Writes all symbols that carry a message together, as `qrcode_c_part_symbol` has them: their
-/// modules one symbol after the other, and their shapes. Each is drawn once. What comes after these
-/// in `modules` and `shapes` keeps its values. Returns `DONE`.
-///
-/// # Errors
-///
-/// On an error nothing is written. The status is, in this order: `InvalidLevel`; `InvalidCuts`;
-/// `InvalidMaxVersion`; `InvalidPartCount`; `DataTooLong` exactly where some part and its header
-/// fit no version up to the greatest; `OutOfMemory` where an allocation failed; `ShortBuffer` if
-/// there are fewer shapes than parts, or fewer bytes than modules.
-#[unsafe(no_mangle)]
-pub extern "C" fn qrcode_c_sequence(
-    alloc: Global,
-    message: &[u8],
-    cuts: &[usize],
-    level: i32,
-    max_version: i32,
-    modules: &mut [u8],
-    shapes: &mut [Shape],
-) -> i32
-    ensures done { result ≡ DONE → (symbols : List DrawnSymbol)
-        × AreSpread Bytes message.now cuts.now level max_version symbols
-        × HoldsAll symbols modules.old modules.new shapes.old shapes.new }
-    ensures refused { result ≢ DONE → IsStatusOf (IsSpreadStatus Bytes message.now cuts.now level
-        max_version (length modules.old) (length shapes.old)) result }
-    ensures kept { result ≢ DONE → (modules.new ≡ modules.old) × (shapes.new ≡ shapes.old) }
-{
-    match spread::spread(alloc, message, cuts, level, max_version, modules, shapes) {
-        Ok(()) => DONE,
-        Err(refusal) => refusal.status(),
-    }
-}
-
-/// Writes the places at which to cut a message so that `qrcode_c_part_symbol` draws it in the
-/// fewest symbols of versions up to the greatest, and their number. The numbers of `cuts` after
-/// these keep their values. A message that fits one symbol after a header has no cuts, and there
-/// are at most 15. Returns `DONE`.
-///
-/// # Errors
-///
-/// On an error nothing is written. The status is, in this order: `InvalidLevel`;
-/// `InvalidMaxVersion`; `DataTooLong` exactly where no cuts make at most 16 parts that fit;
-/// `OutOfMemory` where an allocation failed; `ShortBuffer`.
-#[unsafe(no_mangle)]
-pub extern "C" fn qrcode_c_cuts(
-    alloc: Global,
-    message: &[u8],
-    level: i32,
-    max_version: i32,
-    cuts: &mut [usize],
-    count: &mut usize,
-) -> i32
-    ensures done { result ≡ DONE →
-        HoldsCuts Bytes message.now level max_version cuts.old cuts.new count.new }
-    ensures refused { result ≢ DONE → IsStatusOf
-        (IsCutsStatus Bytes message.now level max_version (length cuts.old)) result }
-    ensures kept { result ≢ DONE → (cuts.new ≡ cuts.old) × (count.new ≡ count.old) }
-{
-    match cuts::cuts_of(alloc, message, level, max_version, cuts) {
-        Ok(found) => {
-            *count = found;
             DONE
         }
         Err(refusal) => refusal.status(),

@@ -1,21 +1,23 @@
 //! All symbols that carry a message together, in a caller's buffers.
 //!
 //! 1. Check the arguments, and make the symbols.
-//! 2. See whether the buffers have room for all of them (`has_room`), and write them, one after the
-//!    other (`write_all`).
+//! 2. Write them, one after the other, if the buffers have room for all of them (`write_symbols`).
 ghost use Rattle.std.specs.Prelude.{◌≡◌, ◌+◌, ◌<◌, ◌≤◌, ◌++◌, List, true, false, length, map};
-ghost use Rattle.std.specs.Prelude.{drop, take, OnErr, IfOk, IfErr};
-ghost use Rattle.qrcode_bits.specs.declared.bits.front.Content.TheVariants.{Bytes};
+ghost use Rattle.std.specs.Prelude.{drop, take, OnErr, OnOk, IfOk, IfErr};
+ghost use Rattle.std.specs.Str.{IsUtf8};
+ghost use Rattle.qrcode_bits.specs.declared.bits.front.Content.TheVariants.{Bytes, Text};
 ghost use Rattle.qrcode_core.specs.Drawn.{DrawnSymbol};
 ghost use Rattle.qrcode_grid.specs.Penalty.{byte_of};
 ghost use Rattle.qrcode_c.specs.Shapes.{shape_of};
-ghost use Rattle.qrcode_c.specs.Spread.{bytes_of_all, HoldsAll, AreSpread, IsSpreadStatus};
+ghost use Rattle.qrcode_c.specs.Spread.{bytes_of_all, HoldsAll, AreSpread, IsNoRoom};
+ghost use Rattle.qrcode_c.specs.Refusals.{IsTextStatus};
+ghost use Rattle.qrcode_c.specs.Spread.{IsSpreadStatus};
 
 use crate::drawing::write_modules;
 use crate::options::{level_of, limit_of};
 use crate::refusal::Refusal;
 use crate::shape::{Shape, shape_of};
-use qrcode_core::symbol::{Symbol, are_cuts};
+use qrcode_core::symbol::{Symbol, are_cuts, are_text_cuts};
 use qrcode_core::traits::ModuleSource;
 use qrcode_core::types::{Color, QrError};
 use std::alloc::Global;
@@ -52,14 +54,94 @@ pub fn spread(
         Err(QrError::DataTooLong) => return Err(Refusal::DataTooLong),
         Err(_) => return Err(Refusal::OutOfMemory),
     };
-    if shapes.len() < symbols.len() {
+    if !write_symbols(&symbols, modules, shapes) {
         return Err(Refusal::ShortBuffer);
     }
-    if !has_room(&symbols, modules.len()) {
-        return Err(Refusal::ShortBuffer);
-    }
-    write_all(&symbols, modules, shapes);
     Ok(())
+}
+
+/// Writes all symbols that carry a text in UTF-8 together, and their shapes.
+pub fn text_spread(
+    alloc: Global,
+    text: &[u8],
+    cuts: &[usize],
+    level: i32,
+    max_version: i32,
+    modules: &mut [u8],
+    shapes: &mut [Shape],
+) -> Result<(), Refusal>
+    ensures held { IfOk result (λ _. (symbols : List DrawnSymbol)
+        × AreSpread Text text.now cuts.now level max_version symbols
+        × HoldsAll symbols modules.old modules.new shapes.old shapes.new) }
+    ensures valid { OnOk result (IsUtf8 text.now) }
+    ensures refused { IfErr result (IsTextStatus text.now level (IsSpreadStatus Text text.now
+        cuts.now level max_version (length modules.old) (length shapes.old))) }
+    ensures kept { OnErr result ((modules.new ≡ modules.old) × (shapes.new ≡ shapes.old)) }
+{
+    let Some(_) = level_of(level) else {
+        return Err(Refusal::InvalidLevel);
+    };
+    let Ok(text) = str::from_utf8(text) else {
+        return Err(Refusal::InvalidText);
+    };
+    spread_text(alloc, text, cuts, level, max_version, modules, shapes)
+}
+
+/// Writes all symbols that carry a text together, and their shapes.
+fn spread_text(
+    alloc: Global,
+    text: &str,
+    cuts: &[usize],
+    level: i32,
+    max_version: i32,
+    modules: &mut [u8],
+    shapes: &mut [Shape],
+) -> Result<(), Refusal>
+    ensures held { IfOk result (λ _. (symbols : List DrawnSymbol)
+        × AreSpread Text text.now cuts.now level max_version symbols
+        × HoldsAll symbols modules.old modules.new shapes.old shapes.new) }
+    ensures refused { IfErr result (IsSpreadStatus Text text.now cuts.now level max_version
+        (length modules.old) (length shapes.old)) }
+    ensures kept { OnErr result ((modules.new ≡ modules.old) × (shapes.new ≡ shapes.old)) }
+{
+    let Some(level) = level_of(level) else {
+        return Err(Refusal::InvalidLevel);
+    };
+    if !are_text_cuts(cuts, text) {
+        return Err(Refusal::InvalidCuts);
+    }
+    let Some(limit) = limit_of(max_version) else {
+        return Err(Refusal::InvalidMaxVersion);
+    };
+    let symbols = match Symbol::text_sequence(alloc, text, cuts, level, limit) {
+        Ok(symbols) => symbols,
+        Err(QrError::InvalidStructuredAppend { .. }) => return Err(Refusal::InvalidPartCount),
+        Err(QrError::DataTooLong) => return Err(Refusal::DataTooLong),
+        Err(_) => return Err(Refusal::OutOfMemory),
+    };
+    if !write_symbols(&symbols, modules, shapes) {
+        return Err(Refusal::ShortBuffer);
+    }
+    Ok(())
+}
+
+/// Writes the modules of all symbols, one symbol after the other, and their shapes, and returns
+/// whether there was room for them.
+fn write_symbols(symbols: &[Symbol], modules: &mut [u8], shapes: &mut [Shape]) -> bool
+    ensures held { result ≡ true →
+        HoldsAll symbols.now modules.old modules.new shapes.old shapes.new }
+    ensures room { result ≡ false →
+        IsNoRoom (length modules.old) (length shapes.old) symbols.now }
+    ensures kept { result ≡ false → (modules.new ≡ modules.old) × (shapes.new ≡ shapes.old) }
+{
+    if shapes.len() < symbols.len() {
+        return false;
+    }
+    if !has_room(symbols, modules.len()) {
+        return false;
+    }
+    write_all(symbols, modules, shapes);
+    true
 }
 
 /// Whether the modules of all symbols are at most `room`.

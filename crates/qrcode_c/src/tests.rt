@@ -2,7 +2,8 @@
 use crate::{
     DONE, Options, PictureSettings, Shape, qrcode_c_bytes, qrcode_c_cuts, qrcode_c_elements,
     qrcode_c_greatest_size, qrcode_c_gs1, qrcode_c_micro_symbol, qrcode_c_part_symbol,
-    qrcode_c_picture, qrcode_c_sequence, qrcode_c_symbol, qrcode_c_text, qrcode_c_version_of_width,
+    qrcode_c_picture, qrcode_c_sequence, qrcode_c_symbol, qrcode_c_text, qrcode_c_text_cuts,
+    qrcode_c_text_sequence, qrcode_c_version_of_width,
 };
 use std::alloc::Global;
 
@@ -156,6 +157,41 @@ fn refuses_too_little_room_for_all_parts(rt: HostRuntime) {
     let status = qrcode_c_sequence(rt.alloc(), b"hello", &[3], 0, 1, &mut modules, &mut shapes);
     assert_eq!(rt; status, 8);
     assert!(rt; modules == [7; 881]);
+}
+
+#[test]
+fn draws_all_parts_of_a_text(rt: HostRuntime) {
+    let (mut modules, mut shapes) = ([7; 883], [BLANK; 3]);
+    let text = "éé".as_bytes();
+    let status = qrcode_c_text_sequence(rt.alloc(), text, &[2], 0, 1, &mut modules, &mut shapes);
+    assert_eq!(rt; (status, modules[882]), (DONE, 7));
+    assert_eq!(rt;
+        (shapes[0].width, shapes[1].width, shapes[2].width),
+        (21, 21, 0)
+    );
+    // The symbols of the bytes do not say that they are a text.
+    let (mut plain, mut others) = ([7; 883], [BLANK; 3]);
+    let status = qrcode_c_sequence(rt.alloc(), text, &[2], 0, 1, &mut plain, &mut others);
+    assert_eq!(rt; status, DONE);
+    assert!(rt; plain != modules);
+    // A cut in the middle of a character, and bytes that are no text.
+    let status = qrcode_c_text_sequence(rt.alloc(), text, &[1], 0, 1, &mut plain, &mut others);
+    assert_eq!(rt; status, 6);
+    let cut = &text[..3];
+    let status = qrcode_c_text_sequence(rt.alloc(), cut, &[1], 0, 1, &mut plain, &mut others);
+    assert_eq!(rt; status, 10);
+}
+
+#[test]
+fn finds_cuts_of_a_text(rt: HostRuntime) {
+    let (mut cuts, mut count) = ([7; 3], 9);
+    // Version 1 holds 72 bits at level H: 20 of the header, 12 that say UTF-8, 12 before the bytes.
+    let text = "ééé".as_bytes();
+    let status = qrcode_c_text_cuts(rt.alloc(), text, 3, 1, &mut cuts, &mut count);
+    assert_eq!(rt; (status, count), (DONE, 2));
+    assert_eq!(rt; cuts, [2, 4, 7]);
+    let status = qrcode_c_text_cuts(rt.alloc(), &text[..5], 3, 1, &mut cuts, &mut count);
+    assert_eq!(rt; (status, count), (10, 2));
 }
 
 #[test]

@@ -17,5 +17,5 @@ returns-in-Err-DataTooLong-clause-refused c =
     c.in-Err-DataTooLong.ensures.refused in
     let long = subst (λ (e : QrError). IsSequenceRefusal Bytes c.args.message.now c.args.cuts.now c.in-Some.level c.args.max_version e)
     c.in-Err-DataTooLong.field-0-is refused in
-    let valid : AreValid c.args.message.now c.args.cuts.now c.args.max_version = search rules in
+    let valid : AreValid Bytes c.args.message.now c.args.cuts.now c.args.max_version = search rules in
     (c.in-Some.level, named, (valid, long.1, long.2))

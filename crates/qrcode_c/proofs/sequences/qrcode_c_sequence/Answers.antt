@@ -3,7 +3,7 @@ use Rattle.std.proofs.Common.{◌≡◌, w32, to_z, of_z, length, subst, rules}
 use Rattle.std.{specs.Prelude.ℤ, proofs.lemmas.Int.to_z-of_z}
 use Rattle.qrcode_bits.specs.declared.bits.front.Content.TheVariants.{Bytes}
 use Rattle.qrcode_c.specs.{Spread.IsSpreadStatus, Statuses.status_of}
-use Rattle.qrcode_c.proofs.qrcode_c_sequence.Goals as goal
+use Rattle.qrcode_c.proofs.sequences.qrcode_c_sequence.Goals as goal
 
 pub returns-in-Err-clause-refused : goal.returns-in-Err-clause-refused
 returns-in-Err-clause-refused c = λ some.
