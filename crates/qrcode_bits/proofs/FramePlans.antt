@@ -51,16 +51,19 @@ module _ (v : Version) where
   add-had c b (r ∷ rs) has h = go (joins c r.class) where
     go : (t : Bool) → All Had (map run_segment
         (if t then record { class = c; begin = b; end = r.end } ∷ rs else record { class = c; begin = b; end = b + class_size c } ∷ r ∷ rs))
-    go true = All-cons Had (run_segment (record { class = c; begin = b; end = r.end })) (map run_segment rs) has (All-tail Had (run_segment r) (map run_segment rs) h)
+    go true = All-cons Had (run_segment (record { class = c; begin = b; end = r.end })) (map run_segment rs) has
+        (All-tail Had (run_segment r) (map run_segment rs) h)
     go false = All-cons Had (run_segment (record { class = c; begin = b; end = b + class_size c })) (map run_segment (r ∷ rs)) has h
 
   segments-had : (b : ℕ) (cs : List Class) → HasUnits cs → All Had (segments_of b cs)
   segments-had b [] h = All-nil Had
   segments-had b (c ∷ cs) h = add-had c b (runs (b + class_size c) cs) h.0 (segments-had (b + class_size c) cs h.1)
 
-  plan-had : (pieces : List Piece) (plan : List Segment) → All (IsSpellable v) pieces → KeepUnits pieces → IsMergePlan (parsed (message pieces)) plan → All Had plan
+  plan-had : (pieces : List Piece) (plan : List Segment) → All (IsSpellable v) pieces → KeepUnits pieces →
+      IsMergePlan (parsed (message pieces)) plan → All Had plan
   plan-had pieces plan spellable kept p =
-      let all : All Had (parsed (message pieces)) = subst (λ cs. All Had (segments_of 0 cs)) (sym kept) (segments-had 0 (units_of pieces) (pieces-units pieces spellable)) in
+      let all : All Had (parsed (message pieces)) = subst (λ cs. All Had (segments_of 0 cs)) (sym kept)
+          (segments-had 0 (units_of pieces) (pieces-units pieces spellable)) in
       let apart = subst (λ ss. All Had ss) (sym p.whole) all in
       subst (λ ss. All Had ss) (sym p.merges) (pieces-had v p.pieces p.nonempty apart)
 
@@ -121,7 +124,8 @@ parsed-spelled v m s t h valid long =
       omega (arith, length-spelling v (piece_of m t), length-spelling v (piece_of m s), same),
     )
 
-module _ (v : Version) (c : Content) (each : (p : Piece) → IsSpellable v p → p.mode ≢ Kanji → HasSingleUnits c (piece_data c p) → IsParsed v p (parsed_piece c p))
+module _ (v : Version) (c : Content) (each : (p : Piece) → IsSpellable v p → p.mode ≢ Kanji → HasSingleUnits c (piece_data c p) →
+    IsParsed v p (parsed_piece c p))
     (first : (x y : List ℕ) → HasSingleUnits c (x ++ y) → HasSingleUnits c x) (rest : (x y : List ℕ) → HasSingleUnits c (x ++ y) → HasSingleUnits c y) where
   abbrev IsOther : Piece → Type 0
   IsOther p = p.mode ≢ Kanji
@@ -136,7 +140,8 @@ module _ (v : Version) (c : Content) (each : (p : Piece) → IsSpellable v p →
       let here = each p (All-head (IsSpellable v) p ps spellable) (All-head IsOther p ps others) (first (piece_data c p) (data_of c ps) apart) in
       let more = parsed-all ps (All-tail (IsSpellable v) p ps spellable) (All-tail IsOther p ps others) (rest (piece_data c p) (data_of c ps) apart) in (
         All-cons (IsSpellable v) (parsed_piece c p) (all_parsed ps) here.0 more.0,
-        omega (arith, here.1, more.1, length-append (spelling v p) (spellings v ps), length-append (spelling v (parsed_piece c p)) (spellings v (all_parsed ps))),
+        omega (arith, here.1, more.1, length-append (spelling v p) (spellings v ps), length-append (spelling v (parsed_piece c p))
+            (spellings v (all_parsed ps))),
       )
 
 text-parsed : (v : Version) (p : Piece) → IsSpellable v p → p.mode ≢ Kanji → IsParsed v p (parsed_piece Text p)
@@ -177,7 +182,8 @@ content-plan v l Text front limit payload pieces known spellable allowed apart l
     let w = parsed-all v Text (λ p h other unit. text-parsed v p h other) (λ x y h. tt) (λ x y h. tt) pieces spellable allowed tt in
     let e = text-message pieces in
     subst (λ z. Fitting v l front z payload) e
-    (pieces-plan v l front limit payload (map (parsed_piece Text) pieces) known w.0 (low-kept (map (parsed_piece Text) pieces) _ e (parsed-low Text tt (data_of Text pieces)))
+    (pieces-plan v l front limit payload (map (parsed_piece Text) pieces) known w.0
+        (low-kept (map (parsed_piece Text) pieces) _ e (parsed-low Text tt (data_of Text pieces)))
     (omega (arith, w.1, long)) fits)
 content-plan v l Elements front limit payload pieces known spellable allowed apart long fits =
     let w = parsed-all v Elements (elements-parsed v) (all-left (λ b. b ≢ percent)) (all-right (λ b. b ≢ percent)) pieces spellable allowed apart in
@@ -237,7 +243,8 @@ pub too_long-no_frame : (l : EcLevel) (f : Front) (fewer : ℕ) (s : List ℕ) (
 too_long-no_frame l f fewer s n payload bits apart few none frame =
     let w = apart-plan (normal n) l f s payload bits apart frame in
     let parsed_s = parsed_bytes f.content s in
-    none w.0 (fits_last fewer n parsed_s l w.0 (up_to_last l n w.1.limit w.1.has_level) (fits_fewer (length (front_bits f)) fewer parsed_s (normal n) l w.0 few w.1))
+    none w.0 (fits_last fewer n parsed_s l w.0 (up_to_last l n w.1.limit w.1.has_level)
+        (fits_fewer (length (front_bits f)) fewer parsed_s (normal n) l w.0 few w.1))
 
 up_to_m4 : (l : EcLevel) (n c : ℕ) → capacity (micro n) l ≡ Some c → n ≤ 4
 up_to_m4 l n c h = grind arith

@@ -48,8 +48,8 @@ pub record IsAskedPicture (modules : List ℕ) (width : ℕ) (number : ℤ) (ask
   pub asks : AsksFormat number asked
       (λ format settings. ShowsAsAsked format settings (grid_of_bytes modules width) bytes)
 
--- The first bytes of the buffer are the picture that is asked for, as many as are counted; the other
--- bytes are unchanged.
+-- The first bytes of the buffer are the picture that is asked for, as many as are counted; the
+-- other bytes are unchanged.
 pub record HoldsPicture (modules : List ℕ) (width : ℕ) (number : ℤ) (asked : PictureSettings)
     (before after : List ℕ) (count : ℕ) : Type 0 where
   pub bytes : List ℕ

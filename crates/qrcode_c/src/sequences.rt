@@ -89,8 +89,8 @@ pub extern "C" fn qrcode_c_sequence(
 
 /// Writes all symbols that carry a text in UTF-8 together, as `qrcode_c_sequence` does, each with
 /// the ECI designator of UTF-8 after its header. After the level the text is tested, and is
-/// `InvalidText` where it is not UTF-8. A cut that is not between two characters is `InvalidCuts`
-/// too.
+/// `InvalidText` where it is not UTF-8. A cut that is not between two characters is also
+/// `InvalidCuts`.
 #[unsafe(no_mangle)]
 pub extern "C" fn qrcode_c_text_sequence(
     alloc: Global,

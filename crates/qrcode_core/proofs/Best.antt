@@ -60,8 +60,8 @@ grids_apart grid r f other s g same_version same_level differ =
     theirs.codewords theirs.interleaved theirs.correction theirs.bytes_interleaved theirs.bytes_correction (rw blocks at theirs.sound)
     (λ same. differ (bytes_of_codewords grid other r s f g same_version same_level same))
 
--- ---- The grid that is drawn of the best frame, under the first mask of least penalty, is the best
--- symbol
+-- ---- The grid that is drawn of the best frame, under the first mask of least penalty, is the
+-- best symbol
 
 -- Its version is the frame's, up to the limit of the choice, and it returns its reading.
 pub best_symbol : (kind : ℕ → Version) (front : Front) (bytes : List ℕ) (level : EcLevel) (limit number : ℕ) (plan : List Segment)
@@ -198,7 +198,8 @@ text_refused bytes level DataTooLong none = none.1 40 (omega arith)
 text_refused bytes level OutOfMemory few = subst (λ (n : ℕ). n ≤ 7089) (length-parsed Text bytes) few.1
 text_refused bytes level other none = absurd none.1
 
-pub elements_refused : (bytes : List ℕ) (level : EcLevel) (e : QrError) → AreDataOf Elements bytes → IsFrontRefused (front_of None Elements) bytes level (pos 40) e →
+pub elements_refused : (bytes : List ℕ) (level : EcLevel) (e : QrError) → AreDataOf Elements bytes →
+    IsFrontRefused (front_of None Elements) bytes level (pos 40) e →
     IsElementsRefusal bytes level e
 elements_refused bytes level InvalidResourceLimits are bad = absurd (bad (omega arith, omega arith))
 elements_refused bytes level DataTooLong are none = (are, none.1 40 (omega arith))

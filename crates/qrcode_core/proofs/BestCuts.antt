@@ -178,7 +178,8 @@ module _ (c : Content) (message : List ℕ) (level : EcLevel) (limit : ℕ) (oth
 
 -- ---- The search for the longest part
 
--- The part up to the place at `fitting` fits, those up to the place at `past` and later ones do not.
+-- The part up to the place at `fitting` fits; those up to the place at `past` and later ones do
+-- not fit.
 pub record IsSought (c : Content) (message : List ℕ) (level : EcLevel) (limit : ℕ) (places : List ℕ) (first fitting past : ℕ) : Type 0 where
   pub from : first ≤ fitting
   pub less : fitting < past

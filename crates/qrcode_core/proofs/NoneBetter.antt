@@ -55,6 +55,7 @@ none_too_long content bytes level apart long grid number payload mask header rea
     too_long-no_frame level (front_of header content) (length (content_bits content)) bytes number payload reads.frame apart (content-fewer header content) long
     reads.framed
 
-pub none_too_long_for_micro : (bytes : List ℕ) (level : EcLevel) → HasSingleUnits Bytes bytes → IsTooLongForMicro bytes level → NoneIsRead micro Bytes bytes level
+pub none_too_long_for_micro : (bytes : List ℕ) (level : EcLevel) → HasSingleUnits Bytes bytes → IsTooLongForMicro bytes level →
+    NoneIsRead micro Bytes bytes level
 none_too_long_for_micro bytes level apart long grid number payload mask header reads =
     too_long-no_micro_frame level (front_of header Bytes) bytes number payload reads.frame apart long reads.framed

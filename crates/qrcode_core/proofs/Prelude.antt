@@ -1,5 +1,5 @@
--- Names that many proofs of this crate import: lemmas and types of the toolchain, and types of the
--- crates.
+-- Names that many proofs of this crate import: lemmas and types of the toolchain, and types of
+-- the crates below.
 pub use Rattle.std.proofs.Common.{Bool, Err, List, Ok, Result, [], ap, append_assoc, arith, drop, false, get_or, inl, inr, length, length-append, map, nat_abs}
 pub use Rattle.std.proofs.Common.{pos, refl, replicate, rules, subst, suc, sym, take, true, zero, ℕ, ℤ, ◌%◌, ◌*◌, ◌++◌, ◌+◌, ◌-◌, ◌<◌, ◌∙◌, ◌∷◌, ◌≡◌, ◌≤◌, ◌⊎◌}
 pub use Rattle.std.proofs.lemmas.Bool.{cases_eq, eq-eqb, eqb-true, leb-true, ne_eqb}

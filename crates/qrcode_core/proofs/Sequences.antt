@@ -1,5 +1,5 @@
--- The symbols of a sequence: parts that are one message, in whatever order, and the best symbol of
--- each.
+-- The symbols of a sequence: parts that are one message, in whatever order, and the best symbol
+-- of each part.
 use Rattle.qrcode_core.proofs.Prelude.{common_steps, ◌≡◌, ℕ, zero, suc, ◌+◌, ◌-◌, ◌<◌, ◌≤◌, refl, sym, ◌∙◌, arith, List, [], ◌∷◌, ◌++◌, length, get_or, drop}
 use Rattle.qrcode_core.proofs.Prelude.{IsPermutation, slice_range, concat, IsNonDecreasing, same_lists, get_or_default, IsPermutation-sym, IsPermutation-trans}
 use Rattle.qrcode_core.proofs.Prelude.{Contains-permutation, length_permutation, same_Some, Color, Header, Reading, ReadsPiece, ReadsMessage, HaveOneMessage}
@@ -100,7 +100,8 @@ parts_whole cuts message rise = sym (concat-parts 0 cuts message (grind (arith, 
 -- The first symbols of a sequence, for as many first parts.
 pub record AreFirstSymbols (content : Content) (message cuts : List ℕ) (level : EcLevel) (limit total done : ℕ) (grids : List (List Color)) : Type 0 where
   pub a_grid_each : length grids ≡ done
-  pub each_best : (i : ℕ) → i < done → IsBestUpTo (front_of (Some (header_at (i + 1) total message)) content) (get_or (parts_at cuts message) i []) level limit (get_or grids i [])
+  pub each_best : (i : ℕ) → i < done →
+      IsBestUpTo (front_of (Some (header_at (i + 1) total message)) content) (get_or (parts_at cuts message) i []) level limit (get_or grids i [])
 
 pub one_more : (content : Content) (message cuts : List ℕ) (level : EcLevel) (limit total done : ℕ) (grids : List (List Color)) (grid : List Color) →
     AreFirstSymbols content message cuts level limit total done grids →
@@ -145,8 +146,8 @@ best_symbols content message cuts level limit total done grids rise few count al
           let same = one_message grids shuffled content c message other mixed read seen in (sym same.0, sym same.1);
     }
 
--- A part that fails for its length or for memory makes the sequence fail likewise; the limit is no
--- reason.
+-- A part that fails for its length or for memory makes the sequence fail likewise; the limit is
+-- not the reason.
 pub refused_part : (content : Content) (message cuts : List ℕ) (level : EcLevel) (limit : ℤ) (total i : ℕ) (header : Header) (e : QrError) →
     IsNormalNumber limit → IsTotal total → total ≡ length cuts + 1 → i < total →
     IsFrontRefused (front_of (Some header) content) (get_or (parts_at cuts message) i []) level limit e → IsSequenceRefusal content message cuts level limit e

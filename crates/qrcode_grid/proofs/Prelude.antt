@@ -50,7 +50,8 @@ pub use Rattle.qrcode_grid.specs.Regions.{alignment_at, alignment_coordinate, al
 pub use Rattle.qrcode_grid.specs.Regions.{differing_digits, digit_at, digit_color, finder, format_code, format_first, format_micro, format_second}
 pub use Rattle.qrcode_grid.specs.Regions.{functional_color, is_functional_cell, map_cells, near, regions, ring, sum_below}
 pub use Rattle.qrcode_grid.specs.Regions.{timing, version_copies, version_digit, version_word, written}
-pub use Rattle.qrcode_grid.specs.Scoring.{AreEdges, IsPadded, Marks, cell, code_of, has, has_finder, has_five, has_six, has_square, count_in_planes, is_dark_byte}
+pub use Rattle.qrcode_grid.specs.Scoring.{AreEdges, IsPadded, Marks, cell, code_of, has, has_finder, has_five, has_six, has_square, count_in_planes}
+pub use Rattle.qrcode_grid.specs.Scoring.{is_dark_byte}
 pub use Rattle.qrcode_grid.specs.Scoring.{is_quiet, is_same, masked_code, pattern_of, places, plane, stride, tallied}
 unfoldable pub use Rattle.qrcode_grid.specs.Scoring.{bit_count}
 pub use Rattle.qrcode_grid.specs.Walk.{TakesBits, along_walk, bit_color, cell_number, columns_before, data_cells, fill_empty, left_over, numbered_cell}

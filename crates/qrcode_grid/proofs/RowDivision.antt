@@ -4,7 +4,8 @@ use Rattle.qrcode_grid.proofs.Prelude.{replicate, ◌/◌, ◌%◌, cond, eqb, l
 use Rattle.qrcode_grid.proofs.Prelude.{xor_self, xor_comm, xor_of_8, append-nil, length-take, length-drop, length-replicate, get_or-take, get_or-drop}
 use Rattle.qrcode_grid.proofs.Prelude.{same_lists, get_or_default, drop_more, length-map, take-append-drop, get_or-map, take_at, drop_at}
 use Rattle.qrcode_grid.proofs.Prelude.{get_or-map-range_with_len, length-map-range_with_len, map-range_with_len_more, product, power, double, shift_and_add}
-use Rattle.qrcode_grid.proofs.Prelude.{value_at, AreBytes, AreTerms, AreRows, IsDivisor, IsDivisionStep, IsRemainder, common_steps, eqb-true, get_or-zip2, length-zip2}
+use Rattle.qrcode_grid.proofs.Prelude.{value_at, AreBytes, AreTerms, AreRows, IsDivisor, IsDivisionStep, IsRemainder, common_steps, eqb-true}
+use Rattle.qrcode_grid.proofs.Prelude.{get_or-zip2, length-zip2}
 use Rattle.qrcode_grid.proofs.Prelude.{get_or-replicate, get_or_past, All-same, All-drop, All-take, All-from_get_or, All-get_or, All-append}
 use Rattle.qrcode_grid.proofs.FieldLaws.{product-adds_left, product-one_left, product-zero_right, product_assoc, product_comm, product-double}
 use Rattle.qrcode_grid.proofs.FieldLaws.{product-zero_left, passes_below-at, xor-zero, product-bounded, power-bounded}

@@ -2,7 +2,8 @@
 use Rattle.std.proofs.Common.{◌≡◌, ℕ, zero, suc, ◌+◌, ◌-◌, ◌<◌, ◌≤◌, true, false, refl, arith, inl, inr}
 use Rattle.std.proofs.lemmas.Bool.{true_from_ne_false, cases_lt, cases_Bool, Decides.nat_tests}
 use Rattle.qrcode_render.{specs.Pictures.Picture, specs.Pictures.columns_of, specs.Pictures.is_dark_module, specs.Paths.begins_run, specs.Paths.dark_run_length}
-use Rattle.qrcode_render.{specs.Covered.Covers, specs.Covered.CoversDarkModules, proofs.PathLemmas.run_dark, proofs.PathLemmas.run_light, proofs.PathLemmas.run_end}
+use Rattle.qrcode_render.{specs.Covered.Covers, specs.Covered.CoversDarkModules, proofs.PathLemmas.run_dark, proofs.PathLemmas.run_light}
+use Rattle.qrcode_render.{proofs.PathLemmas.run_end}
 
 -- a run of some modules begins within the row, and with a dark module
 run_inside : (p : Picture) (a y : ℕ) → 0 < dark_run_length p a y → a < columns_of p

@@ -16,7 +16,8 @@ module _ (write : ℕ → ℕ → ℕ → List ℕ) where
   pub path_row : (p : Picture) (n : ℕ) (start old new : List ℕ) → old ≡ start ++ path write p n →
       new ≡ old ++ row_path write p n (columns_of p) → new ≡ start ++ path write p (n + 1)
   unfolding path
-  path_row p n start old new was adds = joined start (path write p n) old (row_path write p n (columns_of p)) new _ (flat_map_range (λ y. row_path write p y (columns_of p)) n) was adds
+  path_row p n start old new was adds = joined start (path write p n) old (row_path write p n (columns_of p)) new _
+      (flat_map_range (λ y. row_path write p y (columns_of p)) n) was adds
 
   -- a row's path begins with no run
   pub row_start : (p : Picture) (y : ℕ) (text : List ℕ) → text ≡ text ++ row_path write p y 0
@@ -36,7 +37,8 @@ module _ (write : ℕ → ℕ → ℕ → List ℕ) where
       joined start (row_path write p y n) old (run_at write p y n) new _ (row_path_more p y n) was (adds ∙ ap (λ l. old ++ l) (sym run))
 
   -- a column where none begins
-  pub row_no_run : (p : Picture) (y n : ℕ) (start old : List ℕ) → begins_run p n y ≡ false → old ≡ start ++ row_path write p y n → old ≡ start ++ row_path write p y (n + 1)
+  pub row_no_run : (p : Picture) (y n : ℕ) (start old : List ℕ) → begins_run p n y ≡ false → old ≡ start ++ row_path write p y n →
+      old ≡ start ++ row_path write p y (n + 1)
   unfolding run_at
   row_no_run p y n start old none was =
       let run : run_at write p y n ≡ [] = rw none refl in

@@ -1,5 +1,6 @@
 -- The characters of a text in XML, and what a reader finds.
-use Rattle.std.proofs.Common.{◌≡◌, ℕ, zero, suc, ◌+◌, ◌<◌, ◌≤◌, Bool, true, false, List, [], ◌∷◌, ◌++◌, length, length-append, refl, sym, ◌∙◌, ap, arith, inl, inr, append-nil, append_assoc}
+use Rattle.std.proofs.Common.{◌≡◌, ℕ, zero, suc, ◌+◌, ◌<◌, ◌≤◌, Bool, true, false, List, [], ◌∷◌, ◌++◌, length, length-append, refl, sym, ◌∙◌, ap}
+use Rattle.std.proofs.Common.{arith, inl, inr, append-nil, append_assoc}
 use Rattle.std.specs.Prelude.{Some, option_map, ◌==◌, ◌&&◌, chars, encode_utf8_all, IsTrue, flat_map}
 use Rattle.std.specs.List.{list_all}
 use Rattle.std.proofs.lemmas.{Bool.cases_eq, Bool.ne_eqb, Grind.common_steps, Grind.flat_map-append, Str.encodes-append}
@@ -68,7 +69,8 @@ some_written c =
                             elim (cases_eq c 13) [
                               | inl is ↦ rw is (omega arith)
                               | inr f ↦
-                                  (let kept : escape c ≡ c ∷ [] = rw (ne_eqb c 38 a, ne_eqb c 60 b, ne_eqb c 62 d, ne_eqb c 34 e, ne_eqb c 13 f) refl in rw kept (omega arith))
+                                  (let kept : escape c ≡ c ∷ [] = rw
+                                      (ne_eqb c 38 a, ne_eqb c 60 b, ne_eqb c 62 d, ne_eqb c 34 e, ne_eqb c 13 f) refl in rw kept (omega arith))
                             ]
                       ]
                 ]

@@ -1,7 +1,7 @@
-//! Cuts into the fewest parts. The lengths follow from the capacities of ISO/IEC 18004:2006: version
-//! 1 has 152 bits at level L and version 40 has 23648, of which the header of a part takes 20, the
-//! designator of a text 12, and the indicator and the count of a Byte segment 12 in version 1 and 20
-//! in version 40.
+//! Cuts into the fewest parts. The lengths follow from the capacities of ISO/IEC 18004:2006:
+//! version 1 has 152 bits at level L and version 40 has 23648, of which the header of a part takes
+//! 20, the designator of a text 12, and the indicator and the count of a Byte segment 12 in version
+//! 1 and 20 in version 40.
 use crate::grids::read;
 use qrcode_core::symbol::{Symbol, are_cuts, are_text_cuts, best_cuts, best_text_cuts};
 use qrcode_core::types::{EcLevel, QrError};

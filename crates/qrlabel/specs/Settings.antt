@@ -7,5 +7,5 @@ use Rattle.qrlabel.specs.declared.words.Name.TheVariants.{Scale, Quiet, ModuleMm
 -- The option of a setting of this name.
 abbrev pub setting_name : List ℕ → Name
 setting_name word =
-    unwrap_or (among ((codes "scale", Scale) ∷ (codes "quiet", Quiet) ∷ (codes "module_mm", ModuleMm) ∷ (codes "dpi", Dpi)
-    ∷ (codes "inverted", Inverted) ∷ (codes "title", Title) ∷ []) word) At
+    unwrap_or (among ((codes "scale", Scale) ∷ (codes "quiet", Quiet) ∷ (codes "module_mm", ModuleMm)
+    ∷ (codes "dpi", Dpi) ∷ (codes "inverted", Inverted) ∷ (codes "title", Title) ∷ []) word) At

@@ -207,8 +207,8 @@ fn draw_the_same(
     first.starts_with(b"P4\n") && first.as_slice() == second.as_slice()
 }
 
-/// Bytes that are ASCII, or no UTF-8, are drawn as they are, and text that is neither as text, which
-/// ASCII is not. With `--strongest` 5 bytes have level H, at which version 1 holds 7.
+/// Bytes that are ASCII, or no UTF-8, are drawn as they are, and text that is neither as text,
+/// which ASCII is not. With `--strongest` 5 bytes have level H, at which version 1 holds 7.
 #[test]
 fn chooses_content_and_level(rt: HostRuntime) {
     let (alloc, usual) = (rt.alloc(), ["-f", "pbm"]);

@@ -209,8 +209,8 @@ fn is_element_character(byte: u8) -> bool
     matches!(byte, 0x21..=0x22 | 0x25..=0x3f | b'A'..=b'Z' | b'_' | b'a'..=b'z')
 }
 
-/// Returns whether the byte at a place is one of the 82 characters, or a separator between two
-/// elements.
+/// Returns whether the byte at a place is one of the 82 characters, or a separator with an element
+/// on either side.
 fn is_element_byte(bytes: &[u8], place: usize) -> bool
     requires { place < length bytes.now }
     ensures { IsTrue result ↔ IsElementByte bytes.now place }

@@ -1,8 +1,8 @@
 //! Symbols that options ask for.
 //!
 //! 1. Make the best symbol at the level of the options (`symbol_in`).
-//! 2. If it is to be the strongest, look for a greater level, from H down, at which the data fit the
-//!    same version (`stronger`).
+//! 2. If it is to be the strongest, look for a greater level, from H down, at which the data fit
+//!    the same version (`stronger`).
 ghost use Rattle.std.specs.Prelude.{◌≡◌, ◌+◌, ◌≤◌, length, nat_abs, None, OnOk, IfOk, IfErr, IfSome, IfNone};
 ghost use Rattle.qrcode_base.specs.Symbols.{column_of_level};
 ghost use Rattle.qrcode_base.specs.declared.symbols.TheConstants.{LONGEST_DATA};

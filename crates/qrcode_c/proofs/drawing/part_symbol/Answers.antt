@@ -3,7 +3,8 @@ use Rattle.std.proofs.Common.{◌≡◌, ◌∙◌, subst, sym, w32, rules}
 use Rattle.std.{specs.Prelude.map, specs.Prelude.nat_abs, specs.Prelude.ℤ, proofs.lemmas.Int.to_z-of_z}
 use Rattle.qrcode_base.specs.{declared.types.errors.QrError.QrError}
 use Rattle.qrcode_core.specs.{Drawn.modules_of, Sequence.AreBestSymbols, Sequence.IsSequenceRefusal}
-use Rattle.qrcode_c.{specs.Levels.level_argument, specs.Refusals.IsAsked, proofs.Answering.part_held, proofs.Answering.part_above, proofs.Answering.short_refused, proofs.Answering.same_limit}
+use Rattle.qrcode_c.{specs.Levels.level_argument, specs.Refusals.IsAsked, proofs.Answering.part_held, proofs.Answering.part_above}
+use Rattle.qrcode_c.{proofs.Answering.short_refused, proofs.Answering.same_limit}
 use Rattle.qrcode_c.proofs.drawing.part_symbol.Goals as goal
 use Rattle.qrcode_bits.specs.declared.bits.front.Content.TheVariants.{Bytes}
 

@@ -20,5 +20,6 @@ loop-y-preserved c =
           (rows_one p first y c.loop-y.auto.y)
           c.loop-y.invariant.added
           (c.in_ok-extend_from_slice.ensures.items ∙ ap (λ l. c.loop-y.bytes.items ++ l) (c.deref.ensures.value ∙ row));
-      line = λ within. row ∙ sym (row_next p y (omega (arith, c.scale-scale.ensures.exact, c.scale-scale.ensures.at_least_one)) (rw (← c.scale-scale.ensures.exact) within));
+      line = λ within. row ∙ sym (row_next p y (omega (arith, c.scale-scale.ensures.exact, c.scale-scale.ensures.at_least_one))
+          (rw (← c.scale-scale.ensures.exact) within));
     }

@@ -2,7 +2,8 @@
 use Rattle.std.proofs.Common.{◌≡◌, ℕ, ◌*◌, ◌/◌, ◌∙◌, ap, sym, map, arith}
 use Rattle.std.specs.Prelude.{if◌then◌else◌}
 use Rattle.std.specs.List.{range_with_len}
-use Rattle.qrcode_render.{specs.Bitmaps.bitmap_row, specs.Bitmaps.pixel_byte, specs.Bitmaps.row_length, specs.Pictures.columns_of, specs.Pictures.is_dark_module, specs.Shown.shown}
+use Rattle.qrcode_render.{specs.Bitmaps.bitmap_row, specs.Bitmaps.pixel_byte, specs.Bitmaps.row_length, specs.Pictures.columns_of}
+use Rattle.qrcode_render.{specs.Pictures.is_dark_module, specs.Shown.shown}
 use Rattle.qrcode_render.proofs.BitmapLemmas.{byte_more, whole_row}
 use Rattle.qrcode_render.proofs.bitmap.whole_bytes.Goals as goal
 

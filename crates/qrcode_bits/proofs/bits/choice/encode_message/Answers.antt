@@ -10,4 +10,5 @@ returns-clause-ok c =
     c.encode_from.ensures.ok
 
 pub returns-clause-err : goal.returns-clause-err
-returns-clause-err c = IfErr-weaker c.encode_from.result _ _ (λ e r. refused_from_one _ _ c.args.level c.args.limit e c.requires.from_one r) c.encode_from.ensures.err
+returns-clause-err c = IfErr-weaker c.encode_from.result _ _
+    (λ e r. refused_from_one _ _ c.args.level c.args.limit e c.requires.from_one r) c.encode_from.ensures.err

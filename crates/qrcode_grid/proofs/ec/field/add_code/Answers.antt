@@ -19,7 +19,8 @@ loop-byte-preserved c = record {
       let result = c.division_step-lanes.result in
       subst (λ (seen : List ℕ). IsRemainder n divisor seen result) (sym (take_more body i 0 (omega arith)))
       (next_remainder n (get_or body i 0) divisor terms (take i body) c.loop-byte.lanes result d rows.padded (omega (arith, c.type_inv.body i))
-      (c.loop-byte.invariant.is n divisor terms d rows) (c.division_step-lanes.ensures.step terms rows.by_low rows.by_high) c.division_step-lanes.ensures.lanes);
+      (c.loop-byte.invariant.is n divisor terms d rows)
+      (c.division_step-lanes.ensures.step terms rows.by_low rows.by_high) c.division_step-lanes.ensures.lanes);
 }
 
 pub returns : goal.returns
