@@ -46,3 +46,6 @@ pub wrong_word : (r : Scan) (wrong : Wrong) (words : List (Bor (List ℕ))) (k :
     read_word r (slice_index_or words k no_word).now ≡ Err wrong →
     read_words r (drop k (map (λ word. word.now) words)) ≡ Err wrong
 wrong_word r wrong words k within is = rw (words_at words k within) (stops r wrong _ _ is)
+
+-- a word of the scan, right or wrong
+pub ruleset scanned = (next_word, wrong_word)

@@ -186,7 +186,7 @@ fn looks_like_option(word: &str) -> bool
 
 /// Returns what the words say. A word after an option that takes a value is this value; a word that
 /// is written like an option must be one; another word is the text.
-#[tactic(auto, using(crate::proofs::WordLemmas::next_word, crate::proofs::WordLemmas::wrong_word), unfolding(crate::specs::Words::values_in))]
+#[tactic(auto, using(crate::proofs::WordLemmas::scanned), unfolding(crate::specs::Words::values_in))]
 pub fn read_words<'a>(words: &[&'a str]) -> Result<Values<'a>, Misuse<'a>>
     ensures { values_outcome result ≡ values_in (map (λ word. word.now) words.now) }
 {
