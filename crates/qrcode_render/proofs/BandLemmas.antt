@@ -1,12 +1,12 @@
 -- The bands and the fields of a picture for a printer, one after the other.
-use Rattle.std.proofs.Common.{◌≡◌, ℕ, ◌+◌, ◌-◌, ◌*◌, ◌/◌, ◌<◌, ◌≤◌, ◌++◌, List, [], ◌∷◌, take, length, get_or, refl, sym, ◌∙◌, ap, arith, append-nil}
+use Rattle.std.proofs.Common.{◌≡◌, ℕ, ◌+◌, ◌-◌, ◌*◌, ◌/◌, ◌<◌, ◌≤◌, ◌++◌, List, [], ◌∷◌, take, length, get_or, refl, arith, append-nil}
 use Rattle.std.proofs.Common.{◌%◌, inl, inr}
 use Rattle.std.specs.Prelude.{flat_map, min}
 use Rattle.std.proofs.lemmas.{Nat.div-mul-add, Nat.div-add-mod', Bool.cases_lt}
 use Rattle.std.proofs.Math.Nat.{div-mul-le_self}
 use Rattle.std.proofs.lemmas.{Nat.le-div, Grind.common_steps, Grind.flat_map-append}
 use Rattle.qrcode_render.specs.EscPos.{band, first_bands}
-use Rattle.qrcode_render.specs.Zpl.{hex_pair, hex_digit, nth_field, first_fields}
+use Rattle.qrcode_render.specs.Zpl.{hex_pair, nth_field, first_fields}
 use Rattle.qrcode_render.specs.Pictures.{Picture}
 use Rattle.qrcode_render.proofs.Ranges.{flat_map_range}
 

@@ -9,7 +9,7 @@ use Rattle.std.{proofs.lemmas.Nat.div-add-mod', proofs.Math.Nat.mod-eq-sub-div-m
 use Rattle.std.{proofs.lemmas.Nat.div-mul-add, proofs.lemmas.List.Sums.fold-append}
 use Rattle.qrcode_render.specs.Bitmaps.{bits_number, pixel_byte, bitmap_row, row_length, first_rows, rows_from}
 use Rattle.qrcode_render.{specs.Pictures.Picture, specs.Pictures.pixel_width, specs.Pictures.columns_of, specs.Pictures.is_dark_module}
-use Rattle.qrcode_render.proofs.Ranges.{flat_map_from, joined, equal_values}
+use Rattle.qrcode_render.proofs.Ranges.{flat_map_from, equal_values}
 
 -- the number that the tests of n places from x on spell
 abbrev pub spelled : (ℕ → Bool) → ℕ → ℕ → ℕ
@@ -20,13 +20,35 @@ pub spelled_more : (f : ℕ → Bool) (x n : ℕ) → spelled f x (n + 1) ≡ sp
 spelled_more f x n = grind (arith, map-range_with_len_more f x n (x + n) refl, fold-append)
 
 -- n bits spell less than 2 to the n
-spelled_below : (f : ℕ → Bool) (x n : ℕ) → spelled f x n + 1 ≤ 2 ^ n
+pub spelled_below : (f : ℕ → Bool) (x n : ℕ) → spelled f x n + 1 ≤ 2 ^ n
 spelled_below f x zero = omega arith
 spelled_below f x (suc n) = grind (arith, add-one, spelled_more f x n, pow_more 2 n, spelled_below f x n)
 
 -- less than eight bits leave room for one more in a byte
 pub spelled_small : (f : ℕ → Bool) (x n : ℕ) → n < 8 → spelled f x n * 2 + 1 < 256
 spelled_small f x n below = grind (arith, pow_mono, spelled_below)
+
+twice_power : (a k : ℕ) → a * 2 ^ suc k ≡ (a * 2 ^ k) * 2
+twice_power a k =
+    let next : suc k ≡ k + 1 = omega arith in
+    ap (λ n. a * 2 ^ n) next ∙ grind (arith, pow_more 2 k)
+
+-- several bits more, all the same
+pub spelled_run : (f : ℕ → Bool) (x n k : ℕ) (d : Bool) → ((i : ℕ) → i < k → f (x + (n + i)) ≡ d) →
+    spelled f x (n + k) + (if d then 1 else 0) ≡ (spelled f x n + (if d then 1 else 0)) * 2 ^ k
+spelled_run f x n zero d same =
+    let none : n + 0 ≡ n = omega arith in
+    let once : (spelled f x n + (if d then 1 else 0)) * 2 ^ 0 ≡ spelled f x n + (if d then 1 else 0) = grind arith in
+    ap (λ m. spelled f x m + (if d then 1 else 0)) none ∙ sym once
+spelled_run f x n (suc k) d same =
+    let last : n + suc k ≡ (n + k) + 1 = omega arith in
+    let before = spelled_run f x n k d (λ i below. same i (omega (arith, below))) in
+    let bit : (if f (x + (n + k)) then 1 else 0) ≡ (if d then 1 else 0) = ap (λ (b : Bool). if b then 1 else 0) (same k (omega arith)) in
+    let twice : (spelled f x n + (if d then 1 else 0)) * 2 ^ suc k ≡ ((spelled f x n + (if d then 1 else 0)) * 2 ^ k) * 2 =
+    twice_power (spelled f x n + (if d then 1 else 0)) k in
+    ap (λ m. spelled f x m + (if d then 1 else 0)) last
+    ∙ (ap (λ m. m + (if d then 1 else 0)) (spelled_more f x (n + k) ∙ ap (λ b. spelled f x (n + k) * 2 + b) bit)
+    ∙ (omega (arith, before) ∙ sym twice))
 
 pub rows_none : (p : Picture) (first : ℕ) → rows_from p first 0 ≡ []
 unfolding rows_from

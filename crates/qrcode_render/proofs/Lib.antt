@@ -1,5 +1,7 @@
 pub mod Ranges
+pub mod RowLemmas
 pub mod BitmapLemmas
+pub mod RunLemmas
 pub mod BandLemmas
 pub mod PixelLemmas
 pub mod SettingLemmas

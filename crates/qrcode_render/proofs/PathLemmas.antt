@@ -1,7 +1,7 @@
 -- The runs of a row, one after the other, and the modules of a run.
 use Rattle.std.proofs.Common.{◌≡◌, ℕ, ◌+◌, ◌<◌, ◌≤◌, ◌++◌, Bool, true, false, List, [], length, refl, sym, ap, ◌∙◌, arith, append-nil}
 use Rattle.std.proofs.lemmas.List.Sums.{prefix_len-drop_yes, prefix_len-drop_no, prefix_len-drop_all}
-use Rattle.std.proofs.lemmas.{List.FromFn.length-map-range_with_len, List.FromFn.get_or-map-range_with_len, Grind.common_steps}
+use Rattle.std.proofs.lemmas.{List.FromFn.length-map-range_with_len, List.FromFn.get_or-map-range_with_len}
 use Rattle.qrcode_render.specs.Paths.{begins_run, dark_row, dark_run_length, run_at, row_path, path}
 use Rattle.qrcode_render.{specs.Pictures.Picture, specs.Pictures.columns_of, specs.Pictures.is_dark_module}
 use Rattle.qrcode_render.proofs.Ranges.{flat_map_range, joined}

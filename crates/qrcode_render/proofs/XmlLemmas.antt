@@ -1,10 +1,10 @@
 -- The characters of a text in XML, and what a reader finds.
-use Rattle.std.proofs.Common.{◌≡◌, ℕ, zero, suc, ◌+◌, ◌<◌, ◌≤◌, Bool, true, false, List, [], ◌∷◌, ◌++◌, length, length-append, refl, sym, ◌∙◌, ap}
-use Rattle.std.proofs.Common.{arith, inl, inr, append-nil, append_assoc}
-use Rattle.std.specs.Prelude.{Some, option_map, ◌==◌, ◌&&◌, chars, encode_utf8_all, IsTrue, flat_map}
+use Rattle.std.proofs.Common.{◌≡◌, ℕ, zero, suc, ◌<◌, ◌≤◌, Bool, true, false, List, [], ◌∷◌, ◌++◌, length, length-append, refl, ◌∙◌, ap}
+use Rattle.std.proofs.Common.{arith, inl, inr, append-nil}
+use Rattle.std.specs.Prelude.{Some, option_map, ◌==◌, ◌&&◌, chars, encode_utf8_all, flat_map}
 use Rattle.std.specs.List.{list_all}
-use Rattle.std.proofs.lemmas.{Bool.cases_eq, Bool.ne_eqb, Grind.common_steps, Grind.flat_map-append, Str.encodes-append}
-use Rattle.qrcode_render.specs.Xml.{is_xml_character, is_xml_text, escape, escaped, read_character, read_characters, TextsAreRead}
+use Rattle.std.proofs.lemmas.{Bool.cases_eq, Bool.ne_eqb, Grind.flat_map-append, Str.encodes-append}
+use Rattle.qrcode_render.specs.Xml.{is_xml_character, escape, escaped, read_character, read_characters, TextsAreRead}
 
 pub escaped_none : encode_utf8_all (escaped []) ≡ []
 unfolding escaped
@@ -70,7 +70,7 @@ some_written c =
                               | inl is ↦ rw is (omega arith)
                               | inr f ↦
                                   (let kept : escape c ≡ c ∷ [] = rw
-                                      (ne_eqb c 38 a, ne_eqb c 60 b, ne_eqb c 62 d, ne_eqb c 34 e, ne_eqb c 13 f) refl in rw kept (omega arith))
+                                  (ne_eqb c 38 a, ne_eqb c 60 b, ne_eqb c 62 d, ne_eqb c 34 e, ne_eqb c 13 f) refl in rw kept (omega arith))
                             ]
                       ]
                 ]

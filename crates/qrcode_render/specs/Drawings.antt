@@ -1,5 +1,5 @@
 -- The bytes of a picture in the format of its options.
-use Rattle.std.specs.Prelude.{◌≡◌, ℕ, ◌+◌, ◌*◌, ◌/◌, List, Option, Some, None}
+use Rattle.std.specs.Prelude.{◌≡◌, ℕ, List, Some}
 use Rattle.std.specs.Option.{option_copied}
 use Rattle.png.specs.Png.{read_png}
 use Rattle.qrcode_core.specs.Grids.{Grid}

@@ -1,5 +1,6 @@
 pub mod Pictures
 pub mod Shown
+pub mod Rows
 pub mod Bitmaps
 pub mod Terminals
 pub mod Xml

@@ -1,11 +1,14 @@
 //! The rows of pixels of a picture, as bits: dark is 1.
 ghost use Rattle.std.specs.Prelude.{◌≡◌, ◌+◌, ◌/◌, ◌%◌, ◌<◌, ◌≤◌, ◌++◌, IfOk, OnOk, if◌then◌else◌};
-ghost use Rattle.qrcode_render.specs.declared.bounds.TheConstants.{MAX_PIXELS};
-ghost use Rattle.qrcode_render.specs.Bitmaps.{pixel_byte, first_rows, bitmap_row, rows_from};
-ghost use Rattle.qrcode_render.specs.Pictures.{is_dark_module, pixel_height};
+ghost use Rattle.std.specs.Prelude.{◌*◌, map};
+ghost use Rattle.std.specs.List.{range_with_len};
+ghost use Rattle.qrcode_render.specs.declared.bounds.TheConstants.{MAX_PIXELS, MAX_SCALE};
+ghost use Rattle.qrcode_render.specs.Bitmaps.{bits_number, first_rows, bitmap_row, rows_from};
+ghost use Rattle.qrcode_render.specs.Pictures.{pixel_height};
+ghost use Rattle.qrcode_render.specs.Rows.{is_dark_at};
 ghost use Rattle.qrcode_render.specs.Shown.{shown};
 
-use crate::picture::Picture;
+use crate::picture::{Picture, Row};
 use std::alloc::{AllocError, Global};
 
 /// Appends all rows of pixels. Those of one row of modules are equal.
@@ -71,10 +74,10 @@ fn whole_bytes(alloc: Global, picture: &Picture, y: usize) -> Result<Vec<u8>, Al
     ensures { IfOk result (λ line. line.items ≡ bitmap_row (shown picture.now) y) }
 {
     let scale = picture.scale();
-    let (row, per) = (y / scale, scale / 8);
+    let (row, per) = (picture.row(y / scale), scale / 8);
     let mut line = Vec::with_capacity(alloc, picture.row_length())?;
     for column in 0..picture.columns() {
-        let byte = module_byte(picture, column, row);
+        let byte = module_byte(row, column);
         for copy in 0..per {
             line.push(byte)?;
         }
@@ -82,36 +85,46 @@ fn whole_bytes(alloc: Global, picture: &Picture, y: usize) -> Result<Vec<u8>, Al
     Ok(line)
 }
 
-/// Returns a byte of pixels of this module.
-fn module_byte(picture: &Picture, column: usize, row: usize) -> u8
-    ensures { result ≡ (if is_dark_module (shown picture.now) column row then 255 else 0) }
+/// Returns a byte of pixels of the module in this column.
+fn module_byte(row: Row, column: usize) -> u8
+    ensures { result ≡ (if is_dark_at row.entry column then 255 else 0) }
 {
-    if picture.is_dark(column, row) { 255 } else { 0 }
+    if row.is_dark(column) { 255 } else { 0 }
 }
 
-/// Returns the bytes of a row of pixels, pixel by pixel.
-#[tactic(auto, using(crate::proofs::BitmapLemmas::bytes_more), unfolding(crate::specs::Bitmaps::bitmap_row))]
+/// Returns the bytes of a row of pixels, module by module.
+#[tactic(auto, unfolding(crate::specs::Bitmaps::bitmap_row))]
 fn packed_bytes(alloc: Global, picture: &Picture, y: usize) -> Result<Vec<u8>, AllocError>
     ensures { IfOk result (λ line. line.items ≡ bitmap_row (shown picture.now) y) }
 {
-    let length = picture.row_length();
+    let (length, scale) = (picture.row_length(), picture.scale());
+    let row = picture.row(y / scale);
     let mut line = Vec::with_capacity(alloc, length)?;
     for place in 0..length {
-        line.push(pixel_byte(picture, place, y))?;
+        line.push(pixel_byte(row, scale, place))?;
     }
     Ok(line)
 }
 
 /// Returns the byte of eight pixels of a row, the first in the highest bit.
-#[tactic(auto, using(crate::proofs::BitmapLemmas::bits), unfolding(crate::specs::Bitmaps::pixel_byte))]
-fn pixel_byte(picture: &Picture, place: usize, y: usize) -> u8
-    requires { place < MAX_PIXELS / 8 }
-    ensures { result ≡ pixel_byte (shown picture.now) y place }
+fn pixel_byte(row: Row, scale: usize, place: usize) -> u8
+    requires place { place < MAX_PIXELS / 8 }
+    requires some { 0 < scale }
+    requires scaled { scale ≤ MAX_SCALE }
+    ensures { result
+        ≡ bits_number (map (λ x. is_dark_at row.entry (x / scale)) (range_with_len (8 * place) 8)) }
 {
     let mut byte = 0;
-    for bit in 0..8 {
-        let is_dark = picture.is_dark_pixel(8 * place + bit, y);
-        byte = byte * 2 + u8::from(is_dark);
+    let mut filled = 0;
+    let mut column = 8 * place / scale;
+    let mut left = (column + 1) * scale - 8 * place;
+    while filled < 8 {
+        let count = left.min(8 - filled);
+        let dark = u32::from(row.is_dark(column));
+        byte = ((byte + dark) << count) - dark;
+        filled += count;
+        column += 1;
+        left = scale;
     }
-    byte
+    byte as u8
 }

@@ -1,5 +1,5 @@
 //! A picture: a grid with its scale and its quiet zone.
-ghost use Rattle.std.specs.Prelude.{◌≡◌, ◌*◌, ◌<◌, ◌≤◌, ◌↔◌, length, IfSome, IsSome};
+ghost use Rattle.std.specs.Prelude.{ℕ, ◌≡◌, ◌*◌, ◌<◌, ◌≤◌, ◌↔◌, length, IfSome, IsSome};
 ghost use Rattle.qrcode_render.specs.declared.bounds.TheConstants.{MIN_SCALE, MAX_SCALE, MAX_QUIET};
 ghost use Rattle.qrcode_render.specs.declared.bounds.TheConstants.{MAX_MODULES, MAX_COLUMNS, MAX_PIXELS};
 ghost use Rattle.qrcode_render.specs.declared.bounds.TheConstants.{MAX_ROW};
@@ -31,11 +31,37 @@ pub struct Picture<'a> {
     ghost small_zone: { quiet ≤ MAX_QUIET },
 }
 
+/// The modules of one row of a picture, without the quiet zone; none in a row of the zone.
+#[derive(Clone, Copy)]
+pub(crate) struct Row<'a> {
+    modules: &'a [Color],
+    quiet: usize,
+}
+
+impl<'a> Row<'a> {
+    ghost use Rattle.qrcode_render.specs.Rows.{is_dark_at};
+
+    /// Whether the module in this column, counted from the edge of the quiet zone, is dark.
+    #[inline]
+    pub(crate) fn is_dark(&self, column: usize) -> bool
+        ensures { result ≡ is_dark_at self.now column }
+    {
+        if column < self.quiet {
+            return false;
+        }
+        match self.modules.get(column - self.quiet) {
+            Some(Color::Dark) => true,
+            _ => false,
+        }
+    }
+}
+
 impl<'a> Picture<'a> {
     ghost use Rattle.qrcode_core.specs.Drawn.{drawn_grid};
     ghost use Rattle.qrcode_core.specs.Grids.{grid_of, HasAllRows};
     ghost use Rattle.qrcode_render.specs.Pictures.{picture, IsDrawable};
     ghost use Rattle.qrcode_render.specs.Bitmaps.{row_length};
+    ghost use Rattle.qrcode_render.specs.Rows.{is_dark_at};
     ghost use Rattle.qrcode_render.specs.Shown.{shown};
 
     /// Returns the picture of a symbol.
@@ -150,6 +176,25 @@ impl<'a> Picture<'a> {
         ensures bound { result ≤ MAX_ROW }
     {
         self.width().div_ceil(8)
+    }
+
+    /// Returns the modules of a row, counted from the edge of the quiet zone.
+    pub(crate) fn row(&self, row: usize) -> Row<'a>
+        ensures { (column : ℕ)
+            → is_dark_at result column ≡ is_dark_module (shown self.now) column row }
+    {
+        let quiet = self.quiet;
+        if row < quiet || row - quiet >= self.rows {
+            return Row {
+                modules: &self.modules[..0],
+                quiet,
+            };
+        }
+        let start = (row - quiet) * self.columns;
+        Row {
+            modules: &self.modules[start..start + self.columns],
+            quiet,
+        }
     }
 
     /// Whether the module in this column and row, counted from the corner of the quiet zone,

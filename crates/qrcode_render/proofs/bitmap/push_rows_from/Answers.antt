@@ -1,5 +1,5 @@
 -- One row more.
-use Rattle.std.proofs.Common.{◌≡◌, ◌+◌, ◌-◌, ◌++◌, ◌∙◌, ap, sym, arith}
+use Rattle.std.proofs.Common.{◌≡◌, ◌-◌, ◌++◌, ◌∙◌, ap, sym, arith}
 use Rattle.qrcode_render.{specs.Shown.shown, specs.Bitmaps.rows_from, specs.Bitmaps.bitmap_row}
 use Rattle.qrcode_render.proofs.{BitmapLemmas.row_next, BitmapLemmas.rows_one, Ranges.joined}
 use Rattle.qrcode_render.proofs.bitmap.push_rows_from.Goals as goal

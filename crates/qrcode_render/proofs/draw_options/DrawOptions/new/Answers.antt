@@ -1,5 +1,5 @@
 -- The position is near.
-use Rattle.std.proofs.Common.{◌≡◌, ◌∙◌, sym}
+use Rattle.std.proofs.Common.{◌∙◌, sym}
 use Rattle.qrcode_render.proofs.SettingLemmas.{near}
 use Rattle.qrcode_render.proofs.draw_options.DrawOptions.new.Goals as goal
 

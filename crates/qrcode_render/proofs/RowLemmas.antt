@@ -1,0 +1,78 @@
+-- The modules of a row, in the grid and in the quiet zone.
+use Rattle.std.proofs.Common.{◌≡◌, ℕ, zero, suc, ◌+◌, ◌-◌, ◌*◌, ◌<◌, ◌≤◌, Bool, true, false, List, [], ◌∷◌, take, drop, refl, ap, ◌∙◌, arith}
+use Rattle.std.specs.Prelude.{◌&&◌, nat_le, slice_get, None}
+use Rattle.std.proofs.lemmas.Bool.{lt-ltb, le-ltb, lt-leb, le-leb, cases_lt}
+use Rattle.std.proofs.Common.{inl, inr}
+use Rattle.qrcode_render.specs.Pictures.{Picture, is_dark_color, is_dark_module}
+
+and_false : (a : Bool) → (a && false) ≡ false
+and_false true = refl
+and_false false = refl
+
+none_after : (a b : Bool) → ((a && false) && b) ≡ false
+none_after true b = refl
+none_after false b = refl
+
+all_after : (a b : Bool) → (a && b) ≡ ((a && true) && ((true && true) && b))
+all_after true b = refl
+all_after false b = refl
+
+past_after : (a b : Bool) → (a && false) ≡ ((a && true) && ((false && true) && b))
+past_after true b = refl
+past_after false b = refl
+
+-- no module is dark where there are none
+pub none_dark : (q x : ℕ) → (nat_le q x && is_dark_color (slice_get [] (x - q))) ≡ false
+none_dark q x = and_false (nat_le q x)
+
+from_place : {A : Type 0} (xs : List A) (s x : ℕ) → slice_get (drop s xs) x ≡ slice_get xs (s + x)
+from_place xs zero x = let e : x ≡ 0 + x = omega arith in ap (slice_get xs) e
+from_place [] (suc s) x = refl
+from_place (y ∷ xs) (suc s) x = let e : suc (s + x) ≡ suc s + x = omega arith in from_place xs s x ∙ ap (slice_get (y ∷ xs)) e
+
+first_ones : {A : Type 0} (xs : List A) (n x : ℕ) → x < n → slice_get (take n xs) x ≡ slice_get xs x
+first_ones xs zero x h = absurd (omega (arith, h))
+first_ones [] (suc n) x h = refl
+first_ones (y ∷ xs) (suc n) zero h = refl
+first_ones (y ∷ xs) (suc n) (suc x) h = first_ones xs n x (omega (arith, h))
+
+no_more : {A : Type 0} (xs : List A) (n x : ℕ) → n ≤ x → slice_get (take n xs) x ≡ None
+no_more xs zero x h = refl
+no_more [] (suc n) x h = refl
+no_more (y ∷ xs) (suc n) zero h = absurd (omega (arith, h))
+no_more (y ∷ xs) (suc n) (suc x) h = no_more xs n x (omega (arith, h))
+
+-- a module of a row of the grid
+pub row_dark : (p : Picture) (column row : ℕ) → p.quiet ≤ row → row - p.quiet < p.grid.rows →
+    (nat_le p.quiet column && is_dark_color (slice_get (take ((row - p.quiet) * p.grid.columns + p.grid.columns - (row - p.quiet) * p.grid.columns)
+    (drop ((row - p.quiet) * p.grid.columns) p.grid.cells)) (column - p.quiet))) ≡ is_dark_module p column row
+unfolding is_dark_module
+row_dark p column row inside below =
+    let start = (row - p.quiet) * p.grid.columns in
+    let wide : start + p.grid.columns - start ≡ p.grid.columns = omega arith in
+    elim (cases_lt (column - p.quiet) p.grid.columns) [
+      | inl within ↦ rw (
+        wide,
+        le-leb p.quiet row inside,
+        lt-ltb _ _ below,
+        lt-ltb _ _ within,
+        first_ones (drop start p.grid.cells) p.grid.columns (column - p.quiet) within,
+        from_place p.grid.cells start (column - p.quiet),
+      ) (all_after (nat_le p.quiet column) _)
+      | inr past ↦ rw (
+        wide,
+        le-leb p.quiet row inside,
+        lt-ltb _ _ below,
+        le-ltb (column - p.quiet) p.grid.columns past,
+        no_more (drop start p.grid.cells) p.grid.columns (column - p.quiet) past,
+      ) (past_after (nat_le p.quiet column) (is_dark_color (slice_get p.grid.cells (start + (column - p.quiet)))))
+    ]
+
+-- a module of a row of the zone
+pub zone_before : (p : Picture) (column row : ℕ) → row < p.quiet → is_dark_module p column row ≡ false
+unfolding is_dark_module
+zone_before p column row before = rw (lt-leb p.quiet row before) (none_after (nat_le p.quiet column) _)
+
+pub zone_after : (p : Picture) (column row : ℕ) → p.grid.rows ≤ row - p.quiet → is_dark_module p column row ≡ false
+unfolding is_dark_module
+zone_after p column row after = grind (arith, and_false, le-ltb (row - p.quiet) p.grid.rows after)

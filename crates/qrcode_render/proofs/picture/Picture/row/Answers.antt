@@ -1,0 +1,15 @@
+use Rattle.std.proofs.Common.{◌∙◌, sym, arith}
+use Rattle.qrcode_render.specs.{Shown.shown}
+use Rattle.qrcode_render.proofs.RowLemmas.{none_dark, row_dark, zone_before, zone_after}
+use Rattle.qrcode_render.proofs.picture.Picture.row.Goals as goal
+use Rattle.qrcode_render.proofs.picture.Picture.row.Goals.{then-row-quiet-via-then-row-quiet, then-row-quiet-via-else-row-quiet+then-row-quiet-2}
+
+pub returns-then-row-quiet : goal.returns-then-row-quiet
+returns-then-row-quiet c = λ column.
+    none_dark c.args.self.now.quiet column ∙ sym (elim c.then-row-quiet.branch [
+      | then-row-quiet-via-then-row-quiet w ↦ zone_before (shown c.args.self.now) column c.args.row (omega (arith, w.if-row-quiet))
+      | then-row-quiet-via-else-row-quiet+then-row-quiet-2 w ↦ zone_after (shown c.args.self.now) column c.args.row (omega (arith, w.if-row-quiet-2))
+    ])
+
+pub returns : goal.returns
+returns c = λ column. row_dark (shown c.args.self.now) column c.args.row (omega (arith, c.if-row-quiet.false)) (omega (arith, c.if-row-quiet-2.false))
