@@ -87,7 +87,7 @@ module _ (f : Front) (bytes : List ℕ) (are : All (λ c. c < 256) bytes) (suite
     pub plan_stream : (last : Stream) → HasFront v f → EndsAtLevel middle last level → IsPlanStream f bytes v level plan last
     plan_stream last has e =
         let limit : e.limit ≡ fits_parsed.limit = some_same _ _ (capacity v level)
-            (sym (ap (λ (z : Version). capacity z level) w.version) ∙ e.limit_is) fits_parsed.has_level in
+        (sym (ap (λ (z : Version). capacity z level) w.version) ∙ e.limit_is) fits_parsed.has_level in
         let bits : last.bits ≡ ended v fits_parsed.limit (front_bits f ++ spellings v (pieces_of f.content bytes plan)) =
         e.ends.bits_are ∙ rw (w.version, limit, pushed_bits) refl in
         record {

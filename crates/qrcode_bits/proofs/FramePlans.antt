@@ -63,7 +63,7 @@ module _ (v : Version) where
       IsMergePlan (parsed (message pieces)) plan → All Had plan
   plan-had pieces plan spellable kept p =
       let all : All Had (parsed (message pieces)) = subst (λ cs. All Had (segments_of 0 cs)) (sym kept)
-          (segments-had 0 (units_of pieces) (pieces-units pieces spellable)) in
+      (segments-had 0 (units_of pieces) (pieces-units pieces spellable)) in
       let apart = subst (λ ss. All Had ss) (sym p.whole) all in
       subst (λ ss. All Had ss) (sym p.merges) (pieces-had v p.pieces p.nonempty apart)
 
@@ -140,8 +140,14 @@ module _ (v : Version) (c : Content) (each : (p : Piece) → IsSpellable v p →
       let here = each p (All-head (IsSpellable v) p ps spellable) (All-head IsOther p ps others) (first (piece_data c p) (data_of c ps) apart) in
       let more = parsed-all ps (All-tail (IsSpellable v) p ps spellable) (All-tail IsOther p ps others) (rest (piece_data c p) (data_of c ps) apart) in (
         All-cons (IsSpellable v) (parsed_piece c p) (all_parsed ps) here.0 more.0,
-        omega (arith, here.1, more.1, length-append (spelling v p) (spellings v ps), length-append (spelling v (parsed_piece c p))
-            (spellings v (all_parsed ps))),
+        omega (
+          arith,
+          here.1,
+          more.1,
+          length-append (spelling v p) (spellings v ps),
+          length-append (spelling v (parsed_piece c p))
+              (spellings v (all_parsed ps)),
+        ),
       )
 
 text-parsed : (v : Version) (p : Piece) → IsSpellable v p → p.mode ≢ Kanji → IsParsed v p (parsed_piece Text p)
@@ -183,7 +189,7 @@ content-plan v l Text front limit payload pieces known spellable allowed apart l
     let e = text-message pieces in
     subst (λ z. Fitting v l front z payload) e
     (pieces-plan v l front limit payload (map (parsed_piece Text) pieces) known w.0
-        (low-kept (map (parsed_piece Text) pieces) _ e (parsed-low Text tt (data_of Text pieces)))
+    (low-kept (map (parsed_piece Text) pieces) _ e (parsed-low Text tt (data_of Text pieces)))
     (omega (arith, w.1, long)) fits)
 content-plan v l Elements front limit payload pieces known spellable allowed apart long fits =
     let w = parsed-all v Elements (elements-parsed v) (all-left (λ b. b ≢ percent)) (all-right (λ b. b ≢ percent)) pieces spellable allowed apart in
@@ -244,7 +250,7 @@ too_long-no_frame l f fewer s n payload bits apart few none frame =
     let w = apart-plan (normal n) l f s payload bits apart frame in
     let parsed_s = parsed_bytes f.content s in
     none w.0 (fits_last fewer n parsed_s l w.0 (up_to_last l n w.1.limit w.1.has_level)
-        (fits_fewer (length (front_bits f)) fewer parsed_s (normal n) l w.0 few w.1))
+    (fits_fewer (length (front_bits f)) fewer parsed_s (normal n) l w.0 few w.1))
 
 up_to_m4 : (l : EcLevel) (n c : ℕ) → capacity (micro n) l ≡ Some c → n ≤ 4
 up_to_m4 l n c h = grind arith

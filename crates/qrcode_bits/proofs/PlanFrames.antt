@@ -196,5 +196,5 @@ plan_frame v l f bytes plan are has suited fits =
     length-append (front_bits f) (spellings v pieces) ∙ ap (λ (n : ℕ). length (front_bits f) + n) w.bits in
     subst (λ (n : ℕ). IsFrame v l f bytes n (take fits.limit (ended v fits.limit (front_bits f ++ spellings v pieces)))) long
     (subst (λ (z : List ℕ). IsFrame v l f z (length (front_bits f ++ spellings v pieces))
-        (take fits.limit (ended v fits.limit (front_bits f ++ spellings v pieces))))
+    (take fits.limit (ended v fits.limit (front_bits f ++ spellings v pieces))))
     w.whole (ended_frame v l fits.limit f pieces fits.has_level has w.allowed w.spellable w.nonempty (omega (arith, long, fits.within))))

@@ -16,13 +16,13 @@ returns-then-bytes-gt-LONGEST_DATA-clause-err c =
 pub returns-then-eq-clause-err : goal.returns-then-eq-clause-err
 returns-then-eq-clause-err c =
     IfErr-weaker c.encode_up_to.result _ _
-        (λ e. subst (λ (z : List ℕ). IsUnencodable (normal_from c.args.least) (length (front_bits c.args.front.now)) z c.args.level
-            (c.args.limit - c.args.least) e)
-        (parsed-alone c.args.front.now.content c.args.bytes.now (grind (arith, common_steps)))) c.encode_up_to.ensures.err
+    (λ e. subst (λ (z : List ℕ). IsUnencodable (normal_from c.args.least) (length (front_bits c.args.front.now)) z c.args.level
+    (c.args.limit - c.args.least) e)
+    (parsed-alone c.args.front.now.content c.args.bytes.now (grind (arith, common_steps)))) c.encode_up_to.ensures.err
 
 pub returns-clause-err : goal.returns-clause-err
 returns-clause-err c =
     IfErr-weaker c.encode_up_to-2.result _ _
-        (λ e. subst (λ (z : List ℕ). IsUnencodable (normal_from c.args.least) (length (front_bits c.args.front.now)) z c.args.level
-            (c.args.limit - c.args.least) e)
-        (grind (arith, common_steps, map-parsed))) c.encode_up_to-2.ensures.err
+    (λ e. subst (λ (z : List ℕ). IsUnencodable (normal_from c.args.least) (length (front_bits c.args.front.now)) z c.args.level
+    (c.args.limit - c.args.least) e)
+    (grind (arith, common_steps, map-parsed))) c.encode_up_to-2.ensures.err

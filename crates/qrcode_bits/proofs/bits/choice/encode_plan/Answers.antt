@@ -20,14 +20,14 @@ push_text-requires-clause-valid c =
     let part = segment_at c.args.plan.now c.loop-part.part-index in
     let own = own_is c.args.front.now.content c.content.result c.args.bytes.now c.piece_text-text.result.now part c.content.ensures c.piece_text-text.ensures in
     (subst (λ (p : Piece). IsSpellable c.loop-part.bits.version p) (sym own)
-        (part_spellable _ _ _ _ _ _ c.loop-part.invariant.pushed c.loop-part-test.true)).valid
+    (part_spellable _ _ _ _ _ _ c.loop-part.invariant.pushed c.loop-part-test.true)).valid
 
 pub returns-in_err-push_text-clause-memory : goal.returns-in_err-push_text-clause-memory
 returns-in_err-push_text-clause-memory c =
     let part = segment_at c.args.plan.now c.loop-part.part-index in
     let own = own_is c.args.front.now.content c.content.result c.args.bytes.now c.piece_text-text.result.now part c.content.ensures c.piece_text-text.ensures in
     let spellable = subst (λ (p : Piece). IsSpellable c.loop-part.bits.version p) (sym own)
-        (part_spellable _ _ _ _ _ _ c.loop-part.invariant.pushed c.loop-part-test.true) in
+    (part_spellable _ _ _ _ _ _ c.loop-part.invariant.pushed c.loop-part-test.true) in
     let p = err_from_is_err_and c.from_residual-in_err-push_text.result c.from_residual-in_err-push_text.ensures.1 in
     rw (p.1, p.2) (spellable_refused c.loop-part.bits _ _ spellable c.in_err-push_text.ensures.refused)
 

@@ -52,5 +52,5 @@ pub returns-clause-err : goal.returns-clause-err
 returns-clause-err c =
     let i = c.loop-last.invariant in
     let end = candidates_end i.before c.args.limit c.as_slice-last-items.result.now c.loop-last.last-index
-        (omega (arith, c.loop-last-test.false)) i.candidates in
+    (omega (arith, c.loop-last-test.false)) i.candidates in
     λ n few. i.none (c.args.least + n) (omega arith) (omega (arith, few, end, c.requires.in_order))

@@ -6,9 +6,11 @@ use Rattle.qrcode_bits.proofs.bits.places.unit_ends.Goals as goal
 use Rattle.qrcode_bits.proofs.bits.places.unit_ends.Goals.{then-is_pair_at, else-is_pair_at}
 
 pub loop-at-init : goal.loop-at-init
-loop-at-init c =
-    (subst (ArePlacesBefore 0 Bytes c.args.bytes.now) (sym c.new-places.ensures.items) (none_before Bytes c.args.bytes.now),
-        start_end c.args.bytes.now, omega arith)
+loop-at-init c = (
+  subst (ArePlacesBefore 0 Bytes c.args.bytes.now) (sym c.new-places.ensures.items) (none_before Bytes c.args.bytes.now),
+  start_end c.args.bytes.now,
+  omega arith,
+)
 
 pub loop-at-preserved : goal.loop-at-preserved
 loop-at-preserved c =
@@ -22,14 +24,14 @@ loop-at-preserved c =
           let here : units (drop at bytes) ≡ Pair ∷ units (drop (at + 2) bytes) = grind (arith, c.is_pair_at.ensures.pair, w.if-is_pair_at) in
           let few : at + 2 ≤ Rattle.qrcode_bits.proofs.Prelude.length bytes = grind (arith, c.is_pair_at.ensures.inside, w.if-is_pair_at) in
           let s = step_end bytes c.loop-at.places.items at next Pair (units (drop (at + 2) bytes)) old.0 old.1 here (omega (arith, w.at-is))
-              (omega (arith, w.at-is)) in
+          (omega (arith, w.at-is)) in
           (subst (ArePlacesBefore next Bytes bytes) (sym items) s.0, s.1, omega (arith, w.at-is, few))
       | else-is_pair_at w ↦
           let lone = class_of (slice_index_or bytes at 0) in
           let here : units (drop at bytes) ≡ lone ∷ units (drop (at + 1) bytes) = grind (arith, c.is_pair_at.ensures.alone, w.if-is_pair_at, c.loop-at-test) in
           let one = class_of-one (slice_index_or bytes at 0) in
           let s = step_end bytes c.loop-at.places.items at next lone (units (drop (at + 1) bytes)) old.0 old.1 here (omega (arith, w.at-is, one))
-              (omega (arith, w.at-is)) in
+          (omega (arith, w.at-is)) in
           (subst (ArePlacesBefore next Bytes bytes) (sym items) s.0, s.1, omega (arith, w.at-is, c.loop-at-test.true))
     ]
 

@@ -51,10 +51,10 @@ pub returns-clause-best : goal.returns-clause-best
 returns-clause-best c =
     rw (← to_z-of_z w16 c.args.max_version c.ranges.max_version)
     (best_symbols c.args.content c.args.bytes.now c.args.cuts.now c.args.level _ (c.min.result + 1) c.loop-index.index
-        (map modules_of c.loop-index.symbols.items)
+    (map modules_of c.loop-index.symbols.items)
     c.requires.ordered (omega arith, omega arith) (omega (arith, c.min.ensures)) (omega arith) c.loop-index.invariant.first)
 
 pub returns-clause-fitting : goal.returns-clause-fitting
 returns-clause-fitting c =
     none_too_long c.args.content c.args.bytes.now c.args.cuts.now c.args.level (nat_abs c.args.max_version)
-        (map modules_of c.loop-index.symbols.items) (returns-clause-best c)
+    (map modules_of c.loop-index.symbols.items) (returns-clause-best c)

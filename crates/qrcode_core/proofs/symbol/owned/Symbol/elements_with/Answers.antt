@@ -7,5 +7,5 @@ use Rattle.qrcode_core.proofs.symbol.owned.Symbol.elements_with.Goals as goal
 pub returns-clause-refused : goal.returns-clause-refused
 returns-clause-refused c =
     IfErr-weaker c.symbol_as_asked.result _ _
-        (λ e r. elements_options c.args.options.now (front_of None Elements) c.args.elements.now e (rw c.in_default.is at c.first_no_element.ensures) r)
+    (λ e r. elements_options c.args.options.now (front_of None Elements) c.args.elements.now e (rw c.in_default.is at c.first_no_element.ensures) r)
     (rw c.new.ensures at c.symbol_as_asked.ensures.refused)

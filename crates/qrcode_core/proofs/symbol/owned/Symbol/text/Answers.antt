@@ -27,5 +27,5 @@ returns c =
 pub returns-in_err-bits-clause-refused : goal.returns-in_err-bits-clause-refused
 returns-in_err-bits-clause-refused c =
     let why = text_refused c.args.text.now c.args.level c.in_err-bits.field-0.0
-        (rw (c.new-front.ensures, c.as_bytes.ensures.value) at c.in_err-bits.ensures.err) in
+    (rw (c.new-front.ensures, c.as_bytes.ensures.value) at c.in_err-bits.ensures.err) in
     grind (arith, common_steps, why)
