@@ -5,7 +5,7 @@
 -- mode is above.
 use Rattle.qrcode_bits.proofs.Prelude.{◌≡◌, ℕ, ◌+◌, ◌-◌, ◌≤◌, List, [], ◌∷◌, ◌++◌, refl, sym, ap, ◌∙◌, subst, arith, ◌⊎◌, inl, inr, Version, Mode}
 use Rattle.qrcode_bits.proofs.Prelude.{Segment, join, Bool, true, false, map, if◌then◌else◌, Class, Run, class_mode, class_size, joins, add_unit, runs}
-use Rattle.qrcode_bits.proofs.Prelude.{run_segment}
+use Rattle.qrcode_bits.proofs.Prelude.{run_segment, All, All-head, All-tail}
 use Rattle.qrcode_bits.proofs.{Runs.joins-same, Runs.class_size-some, Adjoining.Adjoin, Adjoining.Adjoin-runs}
 use Rattle.qrcode_bits.specs.Places.{total_size}
 use Rattle.qrcode_bits.proofs.Cuts.{Below, UpTo, order, join-up_to, join-above_second, not_above, bits_of, piece_bits, merge_bits, move_bits, lower_bits, Cut}
@@ -157,7 +157,7 @@ closed v m cost n ss (inr o) = (o.bits, o.parted, omega (arith, o.few 0 n (omega
 abbrev pub segments_of : ℕ → List Class → List Segment
 segments_of b cs = map run_segment (runs b cs)
 
-pub add_unit-added : (c : Class) (b to : ℕ) (rs : List Run) → Adjoin (b + class_size c) (map run_segment rs) to →
+add_unit-added : (c : Class) (b to : ℕ) (rs : List Run) → Adjoin (b + class_size c) (map run_segment rs) to →
     Added (class_mode c) (class_size c) (map run_segment rs) (map run_segment (add_unit c b rs))
 add_unit-added c b to [] h = inl (run_segment (record { class = c; begin = b; end = b + class_size c }), record { mode = refl; size = omega arith }, refl)
 add_unit-added c b to (r ∷ rs) h = go (joins c r.class) refl where
@@ -173,10 +173,14 @@ add_unit-added c b to (r ∷ rs) h = go (joins c r.class) refl where
   )
   go false e = inl (run_segment (record { class = c; begin = b; end = b + class_size c }), record { mode = refl; size = omega arith }, refl)
 
+-- the segments of some units, and those of one more in front
+pub units-added : (b : ℕ) (c : Class) (cs : List Class) →
+    Added (class_mode c) (class_size c) (segments_of (b + class_size c) cs) (segments_of b (c ∷ cs))
+units-added b c cs = add_unit-added c b (b + class_size c + total_size cs) (runs (b + class_size c) cs) (Adjoin-runs (b + class_size c) cs)
+
 -- units that a mode can encode
 abbrev pub AreUpTo : Mode → List Class → Type 0
-AreUpTo m [] = Unit {0}
-AreUpTo m (c ∷ cs) = UpTo (class_mode c) m × AreUpTo m cs
+AreUpTo m cs = All (λ c. UpTo (class_mode c) m) cs
 
 carried : (v : Version) (m : Mode) (cost : ℕ) (ds cs : List Class) (b e : ℕ) → e ≡ b + total_size cs → AreUpTo m cs → Parted v (segments_of e ds) cost →
     State v m cost (total_size cs) (segments_of b (cs ++ ds))
@@ -186,10 +190,9 @@ carried v m cost ds [] b e at within h = inr (record {
   few = λ k y f. let same : k ≡ y = omega arith in subst (λ i. bits_of m k + cost ≤ bits_of m i + cost) same (omega arith);
 })
 carried v m cost ds (c ∷ cs) b e at within h =
-    add-state v m cost (total_size cs) (class_mode c) within.0 (class_size c) (class_size-some c)
-    (segments_of (b + class_size c) (cs ++ ds)) (segments_of b (c ∷ (cs ++ ds)))
-    (add_unit-added c b (b + class_size c + total_size (cs ++ ds)) (runs (b + class_size c) (cs ++ ds)) (Adjoin-runs (b + class_size c) (cs ++ ds)))
-    (carried v m cost ds cs (b + class_size c) e (omega arith) within.1 h)
+    add-state v m cost (total_size cs) (class_mode c) (All-head (λ d. UpTo (class_mode d) m) c cs within) (class_size c) (class_size-some c)
+    (segments_of (b + class_size c) (cs ++ ds)) (segments_of b (c ∷ (cs ++ ds))) (units-added b c (cs ++ ds))
+    (carried v m cost ds cs (b + class_size c) e (omega arith) (All-tail (λ d. UpTo (class_mode d) m) c cs within) h)
 
 -- A piece of units in front of a plan: some plan of both takes no more bits.
 pub one_piece : (v : Version) (m : Mode) (cost : ℕ) (cs ds : List Class) (b : ℕ) → AreUpTo m cs → Parted v (segments_of (b + total_size cs) ds) cost →

@@ -4,7 +4,7 @@ use Rattle.qrcode_bits.proofs.Prelude.{cases_lt}
 use Rattle.qrcode_bits.proofs.Prelude.{length-drop, length_push, get_or_push, get_or_append_left, slice_index_or, slice_range, Content, Bytes, Class}
 use Rattle.qrcode_bits.proofs.Prelude.{class_size, units}
 use Rattle.qrcode_bits.specs.Places.{total_size, IsUnitEnd, IsCutPlace, ArePlacesBefore}
-use Rattle.qrcode_bits.proofs.{Cutting.units-drop, Cutting.size-cut}
+use Rattle.qrcode_bits.proofs.{Cutting.units-drop, Adjoining.size-cut}
 
 module _ (c : Content) (bytes : List ℕ) where
   pub none_before : ArePlacesBefore 0 c bytes []

@@ -11,13 +11,11 @@ use Rattle.qrcode_bits.proofs.{Adjoining.class_of-one, Adjoining.parsed-adjoin, 
 use Rattle.qrcode_bits.proofs.{Shortest.units-apart, Shortest.units-alone, Shortest.low-no_lead, CutPlans.parted-merges}
 use Rattle.qrcode_bits.proofs.{Numbers.length-number_bits, Contents.parsed-low, Contents.length-parsed, Contents.slice-parsed}
 use Rattle.std.proofs.lemmas.List.{length-map}
-use Rattle.qrcode_bits.proofs.{Choices.fits_normal, Within.plan-parted, Within.without_first, Within.without_last, Within.from_start}
+use Rattle.qrcode_bits.proofs.{Choices.fits_normal, Within.within-plan, CuttingPlans.slice-seam, Texts.slice-join, Adjoining.size-cut, Shortest.units-single}
+use Rattle.std.proofs.lemmas.List.Elements.{All-weaker}
+use Rattle.qrcode_base.specs.Characters.{is_lead}
 
 -- ---- The units of first bytes, and of those after them
-
-size-append : (cs ds : List Class) → total_size (cs ++ ds) ≡ total_size cs + total_size ds
-size-append [] ds = omega arith
-size-append (c ∷ cs) ds = let e = size-append cs ds in omega (arith, e)
 
 abbrev size_at : List ℕ → ℕ → ℕ
 size_at bytes n = total_size (take n (units bytes))
@@ -63,11 +61,6 @@ units-take (a ∷ b ∷ rest) (suc n) = one_taken a b rest n (is_kanji_pair a b)
 
 -- ---- Places
 
-pub size-cut : (cs : List Class) (n m : ℕ) → n ≤ m → total_size (take m cs) ≡ total_size (take n cs) + total_size (slice_range cs n m)
-size-cut cs n m h =
-    let at : n + (m - n) ≡ m = omega arith in
-    ap (λ k. total_size (take k cs)) (sym at) ∙ (ap total_size (take-add n (m - n) cs) ∙ size-append (take n cs) (slice_range cs n m))
-
 some-size : (cs : List Class) (n : ℕ) → 1 ≤ n → 1 ≤ length cs → 1 ≤ total_size (take n cs)
 some-size [] n h full = absurd (omega (arith, full))
 some-size (c ∷ cs) zero h full = absurd (omega (arith, h))
@@ -94,38 +87,21 @@ units-between bytes p q a b h =
 
 -- ---- What lies within data that fit
 
-slice-classes : (cs : List Class) (a b c : ℕ) → a ≤ b → b ≤ c → slice_range cs a b ++ slice_range cs b c ≡ slice_range cs a c
-slice-classes cs a b c h k = grind (arith, take-add (b - a) (c - b) (drop a cs), drop-drop)
-
-within_units : (front n : ℕ) (l : EcLevel) (outer inner : List ℕ) (cs ds es : List Class) (plan : List Segment) → units outer ≡ cs ++ (ds ++ es) →
-    units inner ≡ ds →
-    Fits front outer (normal n) l plan → FitsNot front inner (normal n) l → ⊥
-within_units front n l outer inner cs ds es plan whole part fits none =
-    let all = subst (λ xs. Parted (normal n) (segments_of 0 xs)
-    (total_bits (normal n) plan)) whole (plan-parted (normal n) 0 (units outer) plan fits.planned) in
-    let behind = without_first (normal n) cs (ds ++ es) 0 (total_bits (normal n) plan) all in
-    let alone = without_last (normal n) ds es (0 + total_size cs) behind.0 behind.1 in
-    let here = subst (λ xs. Parted (normal n) (segments_of 0 xs) alone.0) (sym part) (from_start (normal n) (0 + total_size cs) ds alone.0 alone.1) in
-    let w = parted-merges (normal n) (parsed inner) alone.0 0 (length inner) here (parsed-adjoin inner) in
-    none w.0 (fits_normal front n fits.limit inner l w.0 w.1 fits.has_level (omega (arith, fits.within, behind.2, alone.2, w.2)))
-
 within_bytes : (front limit : ℕ) (l : EcLevel) (bytes : List ℕ) (p q r s : ℕ) → p ≤ q → q ≤ r → r ≤ s → IsUnitEnd bytes p → IsUnitEnd bytes q →
     IsUnitEnd bytes r → IsUnitEnd bytes s →
     FitsNone normal front (slice_range bytes q r) l limit → FitsNone normal front (slice_range bytes p s) l limit
 within_bytes front limit l bytes p q r s h k i a b c d none n few plan fits =
     let us = units bytes in
     let ab = unit-order bytes p q a b h in let bc = unit-order bytes q r b c k in let cd = unit-order bytes r s c d i in
-    let whole = units-between bytes p s a d (omega (arith, h, k, i)) ∙ (sym (slice-classes us a.0 b.0 d.0 ab (omega (arith, bc, cd)))
-    ∙ ap (λ xs. slice_range us a.0 b.0 ++ xs) (sym (slice-classes us b.0 c.0 d.0 bc cd))) in
-    within_units front n l (slice_range bytes p s) (slice_range bytes q r) (slice_range us a.0 b.0) (slice_range us b.0 c.0) (slice_range us c.0 d.0) plan whole
-    (units-between bytes q r b c k) fits (none n few)
+    let first = slice_range us a.0 b.0 in let middle = slice_range us b.0 c.0 in
+    let whole = units-between bytes p s a d (omega (arith, h, k, i)) ∙ (sym (slice-join us a.0 b.0 d.0 ab (omega (arith, bc, cd)))
+    ∙ ap (λ xs. first ++ xs) (sym (slice-join us b.0 c.0 d.0 bc cd))) in
+    let w = within-plan (normal n) (slice_range bytes p s) (slice_range bytes q r) (length first) (length (first ++ middle)) plan
+    (omega (arith, length-append first middle)) (units-between bytes q r b c k
+    ∙ sym (ap (λ xs. slice_range xs (length first) (length (first ++ middle))) whole ∙ slice-seam first middle (slice_range us c.0 d.0))) fits.planned in
+    none n few w.0 (fits_normal front n fits.limit (slice_range bytes q r) l w.0 w.1 fits.has_level (omega (arith, fits.within, w.2)))
 
 -- ---- In a text each place is the end of a unit
-
-low-units : (bytes : List ℕ) → All (λ b. b < 128) bytes → units bytes ≡ map class_of bytes
-low-units [] h = refl
-low-units (a ∷ bytes) h =
-    units-alone a bytes (low-no_lead a (All-head (λ b. b < 128) a bytes h)) ∙ ap (λ cs. class_of a ∷ cs) (low-units bytes (All-tail (λ b. b < 128) a bytes h))
 
 single-size : (bytes : List ℕ) (p : ℕ) → p ≤ length bytes → total_size (take p (map class_of bytes)) ≡ p
 single-size bytes zero h = refl
@@ -135,7 +111,7 @@ single-size (a ∷ bytes) (suc p) h = let one = class_of-one a in let e = single
 text-end : (bytes : List ℕ) (p : ℕ) → p ≤ length bytes → IsUnitEnd (parsed_bytes Text bytes) p
 text-end bytes p h =
     let parsed = parsed_bytes Text bytes in
-    let e = low-units parsed (parsed-low Text tt bytes) in
+    let e = units-single parsed (All-weaker (λ b. b < 128) (λ b. is_lead b ≡ false) low-no_lead parsed (parsed-low Text tt bytes)) in
     let long = length-parsed Text bytes in
     rw e (p, omega (arith, length-map parsed class_of, long, h), sym (single-size parsed p (omega (arith, long, h))))
 

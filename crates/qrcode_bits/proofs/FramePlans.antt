@@ -2,7 +2,8 @@
 use Rattle.qrcode_bits.proofs.Prelude.{ℕ, ◌+◌, ◌≤◌, Bool, true, false, List, [], ◌∷◌, ◌++◌, length, sym, subst, arith, inl, inr, cases_lt}
 use Rattle.qrcode_bits.proofs.Prelude.{All, All-head, All-tail, All-nil, All-cons, Option, map, if◌then◌else◌, length-append, Version, EcLevel, Mode, HasMode}
 use Rattle.qrcode_bits.proofs.Prelude.{IsWithin, same, digits, bytes, Segment, Class, Run, class_mode, class_size, joins, add_unit, runs, run_segment, units}
-use Rattle.qrcode_bits.proofs.Prelude.{parsed}
+use Rattle.qrcode_bits.proofs.Prelude.{parsed, All-append}
+use Rattle.std.proofs.lemmas.List.Elements.{All-weaker}
 use Rattle.qrcode_bits.proofs.Prelude.{Piece, IsSpellable, spellings, message, Header, Front, front_of, front_bits, IsFrame, IsMergePlan, total_bits, Fits}
 use Rattle.qrcode_bits.proofs.Prelude.{FitsNot, FitsNone, IsChoice}
 use Rattle.qrcode_bits.proofs.Prelude.{capacity, normal, micro, Some, ◌≡◌, zero, suc, slice_get_past, normal_blocks}
@@ -16,7 +17,7 @@ use Rattle.qrcode_bits.proofs.{Reading.length-spelling, Segments.length-characte
 use Rattle.qrcode_bits.proofs.Contents.{parsed_piece, text-piece, elements-piece, parsed-low}
 use Rattle.qrcode_bits.proofs.Shortest.{low-no_lead, no_lead-no_pair}
 use Rattle.qrcode_bits.specs.Frame.{KeepUnits, HasNoPair, HasSingleUnits}
-use Rattle.qrcode_bits.proofs.{Cuts.UpTo, Carrying.AreUpTo, Carrying.segments_of, Choices.has_within, Choices.pieces-had, Shortest.units_of}
+use Rattle.qrcode_bits.proofs.{Cuts.UpTo, Carrying.Added, Carrying.units-added, Carrying.segments_of, Choices.has_within, Choices.pieces-had, Shortest.units_of}
 use Rattle.qrcode_bits.proofs.{Shortest.units-up_to}
 use Rattle.qrcode_bits.proofs.{Shortest.shortest, Shortest.no_pair-kept, CuttingPlans.chosen-least}
 
@@ -24,40 +25,29 @@ within_up_to : (j m : Mode) → UpTo j m → IsWithin j m
 within_up_to j m h = grind (arith, same, digits, bytes)
 
 module _ (v : Version) where
-  abbrev HasUnits : List Class → Type 0
-  HasUnits [] = Unit {0}
-  HasUnits (c ∷ cs) = HasMode v (class_mode c) × HasUnits cs
-
   abbrev Had : Segment → Type 0
   Had s = HasMode v s.mode
 
-  units-had : (m : Mode) (cs : List Class) → HasMode v m → AreUpTo m cs → HasUnits cs
-  units-had m [] has h = tt
-  units-had m (c ∷ cs) has h = (has_within v (within_up_to (class_mode c) m h.0) has, units-had m cs has h.1)
+  abbrev HasUnit : Class → Type 0
+  HasUnit c = HasMode v (class_mode c)
 
-  had-append : (cs ds : List Class) → HasUnits cs → HasUnits ds → HasUnits (cs ++ ds)
-  had-append [] ds g h = h
-  had-append (c ∷ cs) ds g h = (g.0, had-append cs ds g.1 h)
-
-  pieces-units : (pieces : List Piece) → All (IsSpellable v) pieces → HasUnits (units_of pieces)
-  pieces-units [] h = tt
+  pieces-units : (pieces : List Piece) → All (IsSpellable v) pieces → All HasUnit (units_of pieces)
+  pieces-units [] h = All-nil HasUnit
   pieces-units (p ∷ ps) h =
       let first = All-head (IsSpellable v) p ps h in
-      had-append (units p.text) (units_of ps) (units-had p.mode (units p.text) first.mode (units-up_to p.mode p.text first.valid))
+      All-append HasUnit (units p.text) (units_of ps) (All-weaker (λ c. UpTo (class_mode c) p.mode) HasUnit
+      (λ c w. has_within v (within_up_to (class_mode c) p.mode w) first.mode) (units p.text) (units-up_to p.mode p.text first.valid))
       (pieces-units ps (All-tail (IsSpellable v) p ps h))
 
-  add-had : (c : Class) (b : ℕ) (rs : List Run) → HasMode v (class_mode c) → All Had (map run_segment rs) → All Had (map run_segment (add_unit c b rs))
-  add-had c b [] has h = All-cons Had (run_segment (record { class = c; begin = b; end = b + class_size c })) [] has (All-nil Had)
-  add-had c b (r ∷ rs) has h = go (joins c r.class) where
-    go : (t : Bool) → All Had (map run_segment
-        (if t then record { class = c; begin = b; end = r.end } ∷ rs else record { class = c; begin = b; end = b + class_size c } ∷ r ∷ rs))
-    go true = All-cons Had (run_segment (record { class = c; begin = b; end = r.end })) (map run_segment rs) has
-        (All-tail Had (run_segment r) (map run_segment rs) h)
-    go false = All-cons Had (run_segment (record { class = c; begin = b; end = b + class_size c })) (map run_segment (r ∷ rs)) has h
+  added-had : (a : Mode) (z : ℕ) (ss qs : List Segment) → Added a z ss qs → HasMode v a → All Had ss → All Had qs
+  added-had a z ss qs (inl w) has h = subst (All Had) (sym w.2) (All-cons Had w.0 ss (subst (HasMode v) (sym w.1.mode) has) h)
+  added-had a z ss qs (inr w) has h = subst (All Had) (sym w.5)
+      (All-cons Had w.1 w.2 (subst (HasMode v) (sym w.3.mode) has) (All-tail Had w.0 w.2 (subst (All Had) w.4 h)))
 
-  segments-had : (b : ℕ) (cs : List Class) → HasUnits cs → All Had (segments_of b cs)
+  segments-had : (b : ℕ) (cs : List Class) → All HasUnit cs → All Had (segments_of b cs)
   segments-had b [] h = All-nil Had
-  segments-had b (c ∷ cs) h = add-had c b (runs (b + class_size c) cs) h.0 (segments-had (b + class_size c) cs h.1)
+  segments-had b (c ∷ cs) h = added-had (class_mode c) (class_size c) (segments_of (b + class_size c) cs) (segments_of b (c ∷ cs)) (units-added b c cs)
+      (All-head HasUnit c cs h) (segments-had (b + class_size c) cs (All-tail HasUnit c cs h))
 
   plan-had : (pieces : List Piece) (plan : List Segment) → All (IsSpellable v) pieces → KeepUnits pieces →
       IsMergePlan (parsed (message pieces)) plan → All Had plan

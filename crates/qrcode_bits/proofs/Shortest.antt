@@ -4,7 +4,9 @@ use Rattle.qrcode_bits.proofs.Prelude.{All, All-head, All-tail, flat_map, Contai
 use Rattle.qrcode_bits.proofs.Prelude.{Numeric, Alphanumeric, Byte, Kanji, is_alphanumeric, is_kanji_pair, IsDigit, IsKanjiText, IsValid, data_bits, characters}
 use Rattle.qrcode_bits.proofs.Prelude.{Class, Pair, class_of, class_mode, units, parsed, Piece, IsSpellable, spelling, spellings, message, IsMergePlan}
 use Rattle.qrcode_bits.proofs.Prelude.{total_bits}
-use Rattle.qrcode_bits.proofs.Prelude.{get_or, nat_lt, ltb-true}
+use Rattle.qrcode_bits.proofs.Prelude.{get_or, nat_lt, ltb-true, map, All-nil, All-cons}
+use Rattle.std.proofs.lemmas.List.Elements.{All-map, All-weaker}
+use Rattle.qrcode_bits.specs.Places.{total_size}
 use Rattle.qrcode_base.specs.Characters.{is_lead}
 use Rattle.qrcode_bits.proofs.Characters.{value_below, character_at_value}
 use Rattle.qrcode_base.proofs.Alphabet.{each_below, from_each_below, is_alphanumeric-from_inside}
@@ -19,7 +21,20 @@ pub units-alone : (a : ℕ) (w : List ℕ) → is_lead a ≡ false → units (a 
 units-alone a [] h = refl
 units-alone a (b ∷ w) h = grind arith
 
-digit-up_to : (a : ℕ) → IsDigit a → (is_lead a ≡ false) × UpTo (class_mode (class_of a)) Numeric
+-- bytes with which no pair begins are units one by one
+pub units-single : (u : List ℕ) → All (λ a. is_lead a ≡ false) u → units u ≡ map class_of u
+units-single [] h = refl
+units-single (a ∷ u) h =
+    units-alone a u (All-head (λ a. is_lead a ≡ false) a u h) ∙ ap (λ cs. class_of a ∷ cs) (units-single u (All-tail (λ a. is_lead a ≡ false) a u h))
+
+abbrev IsUpTo : Mode → ℕ → Type 0
+IsUpTo m a = (is_lead a ≡ false) × UpTo (class_mode (class_of a)) m
+
+each-up_to : (m : Mode) (P : ℕ → Type 0) → ((a : ℕ) → P a → IsUpTo m a) → (u : List ℕ) → All P u → AreUpTo m (units u)
+each-up_to m P each u h = subst (AreUpTo m) (sym (units-single u (All-weaker P (λ a. is_lead a ≡ false) (λ a p. (each a p).0) u h)))
+    (All-map (λ c. UpTo (class_mode c) m) class_of u (All-weaker P (λ a. UpTo (class_mode (class_of a)) m) (λ a p. (each a p).1) u h))
+
+digit-up_to : (a : ℕ) → IsDigit a → IsUpTo Numeric a
 digit-up_to a d = grind arith
 
 abbrev is_low_at : ℕ → Bool
@@ -35,45 +50,25 @@ low-no_lead a h = grind arith
 pub sign-low : (a : ℕ) → Contains alphabet a → a < 128
 sign-low a h = subst (λ z. z < 128) (character_at_value a h) (ltb-true _ _ (from_each_below 45 is_low_at alphabet_low _ (value_below a h)))
 
-sign-no_lead : (a : ℕ) → Contains alphabet a → is_lead a ≡ false
-sign-no_lead a h = low-no_lead a (sign-low a h)
-
-sign-up_to : (a : ℕ) → is_lead a ≡ false → is_alphanumeric a ≡ true → UpTo (class_mode (class_of a)) Alphanumeric
-sign-up_to a h d = grind arith
+sign-up_to : (a : ℕ) → Contains alphabet a → IsUpTo Alphanumeric a
+sign-up_to a h = let low = low-no_lead a (sign-low a h) in let sign = is_alphanumeric-from_inside a h in (low, grind arith)
 
 byte-up_to : (c : Class) → UpTo (class_mode c) Byte
 byte-up_to c = grind arith
 
-all-up_to : (cs : List Class) → AreUpTo Byte cs
-all-up_to [] = tt
-all-up_to (c ∷ cs) = (byte-up_to c, all-up_to cs)
-
-one-up_to : (m : Mode) (a : ℕ) (u : List ℕ) → is_lead a ≡ false → UpTo (class_mode (class_of a)) m → AreUpTo m (units u) → AreUpTo m (units (a ∷ u))
-one-up_to m a u h g w = subst (AreUpTo m) (sym (units-alone a u h)) (g, w)
-
 pub units-pair : (a b : ℕ) (u : List ℕ) → is_kanji_pair a b ≡ true → units (a ∷ b ∷ u) ≡ Pair ∷ units u
 units-pair a b u h = grind arith
 
-digits-up_to : (u : List ℕ) → All IsDigit u → AreUpTo Numeric (units u)
-digits-up_to [] h = tt
-digits-up_to (a ∷ u) h = let w = digit-up_to a (All-head IsDigit a u h) in one-up_to Numeric a u w.0 w.1 (digits-up_to u (All-tail IsDigit a u h))
-
-signs-up_to : (u : List ℕ) → All (λ c. Contains alphabet c) u → AreUpTo Alphanumeric (units u)
-signs-up_to [] h = tt
-signs-up_to (a ∷ u) h =
-    let inside = All-head (λ c. Contains alphabet c) a u h in
-    let low = sign-no_lead a inside in
-    one-up_to Alphanumeric a u low (sign-up_to a low (is_alphanumeric-from_inside a inside)) (signs-up_to u (All-tail (λ c. Contains alphabet c) a u h))
-
 pairs-up_to : (u : List ℕ) → IsKanjiText u → AreUpTo Kanji (units u)
-pairs-up_to [] h = tt
+pairs-up_to [] h = All-nil (λ c. UpTo (class_mode c) Kanji)
 pairs-up_to (a ∷ []) h = absurd h
-pairs-up_to (a ∷ b ∷ u) h = subst (AreUpTo Kanji) (sym (units-pair a b u h.0)) (inl refl, pairs-up_to u h.1)
+pairs-up_to (a ∷ b ∷ u) h = subst (AreUpTo Kanji) (sym (units-pair a b u h.0))
+    (All-cons (λ c. UpTo (class_mode c) Kanji) Pair (units u) (inl refl) (pairs-up_to u h.1))
 
 pub units-up_to : (m : Mode) (u : List ℕ) → IsValid m u → AreUpTo m (units u)
-units-up_to Numeric u h = digits-up_to u h
-units-up_to Alphanumeric u h = signs-up_to u h
-units-up_to Byte u h = all-up_to (units u)
+units-up_to Numeric u h = each-up_to Numeric IsDigit digit-up_to u h
+units-up_to Alphanumeric u h = each-up_to Alphanumeric (λ c. Contains alphabet c) sign-up_to u h
+units-up_to Byte u h = λ k d within. byte-up_to (get_or (units u) k d)
 units-up_to Kanji u h = pairs-up_to u h
 
 -- ---- Pieces
@@ -95,26 +90,62 @@ piece_bits-length v p h = omega (arith, length-spelling v p, length-character_bi
 abbrev pub units_of : List Piece → List Class
 units_of pieces = flat_map (λ (piece : Piece). units piece.text) pieces
 
--- Some plan of the units takes no more bits than the pieces.
-pub no_longer : (v : Version) (pieces : List Piece) (b : ℕ) → All (IsSpellable v) pieces →
-    (bits : ℕ) × Parted v (segments_of b (units_of pieces)) bits × (bits ≤ length (spellings v pieces))
+-- ---- Bundles
+
+-- Units, and a mode in which they are one piece.
+pub record Bundle : Type 0 where
+  pub mode : Mode
+  pub classes : List Class
+
+-- each mode can encode its units
+abbrev pub AreCoded : List Bundle → Type 0
+AreCoded [] = Unit {0}
+AreCoded (p ∷ ps) = AreUpTo p.mode p.classes × AreCoded ps
+
+abbrev pub all_classes : List Bundle → List Class
+all_classes bundles = flat_map (λ (p : Bundle). p.classes) bundles
+
+abbrev pub bundle_bits : Version → List Bundle → ℕ
+bundle_bits v [] = 0
+bundle_bits v (p ∷ ps) = piece_bits v p.mode (total_size p.classes) + bundle_bits v ps
+
+-- Some plan of the units takes no more bits than the bundles,
+no_longer : (v : Version) (bundles : List Bundle) (b : ℕ) → AreCoded bundles →
+    (bits : ℕ) × Parted v (segments_of b (all_classes bundles)) bits × (bits ≤ bundle_bits v bundles)
 no_longer v [] b h = (0, none refl, omega arith)
 no_longer v (p ∷ ps) b h =
+    let rest = no_longer v ps (b + total_size p.classes) h.1 in
+    let here = one_piece v p.mode rest.0 p.classes (all_classes ps) b h.0 rest.1 in (here.0, here.1, omega (arith, here.2, rest.2))
+
+-- and so does some merge plan of bytes that have the units.
+pub bundles-plan : (v : Version) (s : List ℕ) (bundles : List Bundle) → AreCoded bundles → all_classes bundles ≡ units s →
+    (plan : List Segment) × IsMergePlan (parsed s) plan × (total_bits v plan ≤ bundle_bits v bundles)
+bundles-plan v s bundles h same =
+    let few = no_longer v bundles 0 h in
+    let cut = subst (λ cs. Parted v (segments_of 0 cs) few.0) same few.1 in
+    let plan = parted-merges v (parsed s) few.0 0 (length s) cut (parsed-adjoin s) in (plan.0, plan.1, omega (arith, plan.2, few.2))
+
+abbrev bundles_of : List Piece → List Bundle
+bundles_of pieces = map (λ (p : Piece). record { mode = p.mode; classes = units p.text }) pieces
+
+pieces-bundled : (v : Version) (pieces : List Piece) → All (IsSpellable v) pieces → AreCoded (bundles_of pieces) ×
+    (all_classes (bundles_of pieces) ≡ units_of pieces) × (bundle_bits v (bundles_of pieces) ≡ length (spellings v pieces))
+pieces-bundled v [] h = (tt, refl, refl)
+pieces-bundled v (p ∷ ps) h =
     let first = All-head (IsSpellable v) p ps h in
-    let rest = no_longer v ps (b + length p.text) (All-tail (IsSpellable v) p ps h) in
-    let after = subst (λ n. Parted v (segments_of (b + n) (units_of ps)) rest.0) (sym (units-size p.text)) rest.1 in
-    let here = one_piece v p.mode rest.0 (units p.text) (units_of ps) b (units-up_to p.mode p.text first.valid) after in
-    let few = subst (λ n. here.0 ≤ piece_bits v p.mode n + rest.0) (units-size p.text) here.2 in
-    (here.0, here.1, omega (arith, few, rest.2, piece_bits-length v p first.valid, length-append (spelling v p) (spellings v ps)))
+    let rest = pieces-bundled v ps (All-tail (IsSpellable v) p ps h) in
+    let size = ap (piece_bits v p.mode) (units-size p.text) in (
+      (units-up_to p.mode p.text first.valid, rest.0),
+      ap (λ cs. units p.text ++ cs) rest.1,
+      omega (arith, size, rest.2, piece_bits-length v p first.valid, length-append (spelling v p) (spellings v ps)),
+    )
 
 -- Some merge plan takes no more bits than the pieces.
 pub shortest : (v : Version) (pieces : List Piece) → All (IsSpellable v) pieces → KeepUnits pieces →
     (plan : List Segment) × IsMergePlan (parsed (message pieces)) plan × (total_bits v plan ≤ length (spellings v pieces))
 shortest v pieces spellable kept =
-    let few = no_longer v pieces 0 spellable in
-    let cut = subst (λ cs. Parted v (segments_of 0 cs) few.0) (sym kept) few.1 in
-    let plan = parted-merges v (parsed (message pieces)) few.0 0 (length (message pieces)) cut (parsed-adjoin (message pieces)) in
-    (plan.0, plan.1, omega (arith, plan.2, few.2))
+    let w = pieces-bundled v pieces spellable in
+    let plan = bundles-plan v (message pieces) (bundles_of pieces) w.0 (w.1 ∙ sym kept) in (plan.0, plan.1, omega (arith, plan.2, w.2))
 
 -- ---- If no two neighbouring bytes are a pair
 

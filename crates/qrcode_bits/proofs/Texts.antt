@@ -10,7 +10,7 @@ use Rattle.qrcode_bits.proofs.{Runs.joins-same, Adjoining.class_of-one, Upward.v
 -- ---- Slices
 
 -- two neighbouring slices are one
-pub slice-join : (xs : List ℕ) (a b c : ℕ) → a ≤ b → b ≤ c → slice_range xs a b ++ slice_range xs b c ≡ slice_range xs a c
+pub slice-join : {X : Type 0} (xs : List X) (a b c : ℕ) → a ≤ b → b ≤ c → slice_range xs a b ++ slice_range xs b c ≡ slice_range xs a c
 slice-join xs a b c h k = grind (arith, drop-drop (b - a) a xs, take-add (b - a) (c - b) (drop a xs))
 
 -- the bytes from an index on
