@@ -9,12 +9,13 @@ use Rattle.qrcode_bits.specs.Push.{IsFrontRefused, IsRangeRefused, IsVersionRang
 use Rattle.qrcode_bits.proofs.Prelude.{Stream, IsPlanStream, IsEncoding, IsUnencodable, IsEncodingRefused, HasHeader, IsPartRefused}
 use Rattle.qrcode_bits.proofs.Prelude.{IsNormalNumber, LiesIn, common_steps, slice_get-get_or, Segment, parsed, Numeric, Normal, Micro, micro, segment_at, ints}
 use Rattle.qrcode_bits.proofs.Prelude.{get_or, rules, drop, drop_all, drop-cons, segment_bits}
+use Rattle.std.proofs.lemmas.List.Elements.{All-weaker}
 use mir.Val.{to_z}
 use mir.Syntax.{w16}
 use Rattle.std.{proofs.lemmas.List.get_or_default, specs.Prelude.Some, specs.Prelude.option_map}
 use Rattle.qrcode_base.{specs.Symbols.data_bytes, specs.declared.symbols.BlockLayout.BlockLayout, proofs.Fields.capacity-held, proofs.Fields.SameClass}
 use Rattle.std.specs.Prelude.{Bool, true, IsTrue, ◌↔◌}
-use Rattle.qrcode_bits.proofs.{Adjoining.parsed-linear, Growth.total_bits-rise, Growth.total_bits-same, Upward.All-map, Texts.texts-reach, Texts.texts-plan}
+use Rattle.qrcode_bits.proofs.{Adjoining.parsed-linear, Growth.total_bits-rise, Growth.total_bits-same, Texts.texts-reach, Texts.texts-plan}
 use Rattle.qrcode_bits.proofs.{Texts.plan_lies}
 use Rattle.qrcode_bits.specs.Plans.{AreCandidates}
 use Rattle.qrcode_bits.proofs.Choices.{FitsNoneFrom, chosen_is_plan, chosen_decides, fits_normal, capacity-grows, class_choice}
@@ -43,7 +44,7 @@ module _ (message : List ℕ) (v : Version) (small : HasSmallHeaders v) (short :
   plan_small plan are w = let few = texts-small 0 (length message) plan (texts-plan message are plan w) in omega arith
 
 pub plan_ordered : (message : List ℕ) (plan : List Segment) → All (λ c. c < 256) message → IsMergePlan (parsed message) plan → All (λ s. s.begin ≤ s.end) plan
-plan_ordered message plan are w = All-map (LiesIn (length message)) (λ s. s.begin ≤ s.end) (λ s h. h.0) plan (plan_lies message are plan w)
+plan_ordered message plan are w = All-weaker (LiesIn (length message)) (λ s. s.begin ≤ s.end) (λ s h. h.0) plan (plan_lies message are plan w)
 
 -- the bits of the parts that were counted and those of the parts that are left
 module _ (v : Version) (items : List Segment) (i size front : ℕ) (so_far : size + total_bits v (drop i items) ≡ front + total_bits v items) where

@@ -7,13 +7,10 @@ use Rattle.qrcode_bits.proofs.Prelude.{Version, Mode, Content, Bytes, Text, Elem
 use Rattle.qrcode_bits.proofs.Prelude.{piece_text}
 use Rattle.qrcode_bits.proofs.Prelude.{slice_range, refl, ended, Some, capacity}
 use Rattle.qrcode_bits.specs.Spelling.{piece_of}
-use Rattle.qrcode_bits.proofs.{Choices.some_same, PlanFrames.spelled_plan, PlanFrames.plan_frame, Contents.slice-parsed}
+use Rattle.qrcode_bits.proofs.{Choices.some_same, PlanFrames.own_piece, PlanFrames.spelled_plan, PlanFrames.plan_frame, Contents.slice-parsed}
 use Rattle.std.proofs.lemmas.Grind.{common_steps}
 
 -- ---- The piece of a segment
-
-abbrev pub own_piece : Content → List ℕ → Segment → Piece
-own_piece c bytes s = piece_of s.mode (piece_text c s.mode (slice_range bytes s.begin s.end))
 
 -- it is cut from what is written of all the bytes
 pub slice-written : (c : Content) (m : Mode) (bytes : List ℕ) (a b : ℕ) → slice_range (piece_text c m bytes) a b ≡ piece_text c m (slice_range bytes a b)

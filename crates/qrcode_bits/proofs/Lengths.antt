@@ -2,7 +2,7 @@
 use Rattle.qrcode_bits.proofs.Prelude.{◌≡◌, ℕ, ◌+◌, ◌-◌, ◌*◌, ◌/◌, ◌<◌, ◌≤◌, List, [], ◌∷◌, Some, length, arith, inl, inr, All, cases_lt, Version, EcLevel}
 use Rattle.qrcode_bits.proofs.Prelude.{capacity, Mode, count_width, indicator_width, Segment, total_bits, normal, micro, FitsNot, FitsNone, AreTexts}
 use Rattle.qrcode_bits.proofs.Prelude.{common_steps}
-use Rattle.qrcode_bits.proofs.{Choices.capacity-middle, Choices.capacity-most, PlanFrames.length-slice, Texts.texts-reach, Texts.texts-plan}
+use Rattle.qrcode_bits.proofs.{Choices.capacity-middle, Choices.capacity-most, Texts.length-slice, Texts.texts-reach, Texts.texts-plan}
 
 -- no mode has fewer than ten bits for three bytes
 module _ (whole : List ℕ) (v : Version) where

@@ -3,6 +3,9 @@ use Rattle.qrcode_bits.proofs.Prelude.{◌≡◌, ℕ, ◌+◌, ◌-◌, ◌<◌
 use Rattle.qrcode_bits.proofs.Prelude.{arith, All, slice_range, flat_map, drop-drop, take-add, take-length, All-head, All-nil, All-drop, Kanji, join}
 use Rattle.qrcode_bits.proofs.Prelude.{is_kanji_pair, IsKanjiText, IsValid, Segment, Class, Pair, Run, class_of, class_mode, class_size, add_unit, runs}
 use Rattle.qrcode_bits.proofs.Prelude.{units, run_segment, parsed, AreTexts, merged, merged_all, IsMergePlan, segment_pieces, LiesIn, message, common_steps}
+use Rattle.std.proofs.lemmas.List.{length-take-le}
+use Rattle.std.proofs.lemmas.List.Elements.{All-weaker}
+use Rattle.qrcode_bits.proofs.Prelude.{All-cons, length-drop}
 use Rattle.qrcode_base.{proofs.Joins.join-upper, proofs.Joins.join-upper_second, proofs.Alphabet.is_alphanumeric-inside}
 use Rattle.qrcode_bits.proofs.{CuttingPlans.AreNonEmpty, CuttingPlans.joined, CuttingPlans.first-some, CuttingPlans.rest-some, Runs.class_size-some}
 use Rattle.qrcode_bits.proofs.{Runs.joins-same, Adjoining.class_of-one, Upward.valid-append, Upward.valid-upward}
@@ -12,6 +15,9 @@ use Rattle.qrcode_bits.proofs.{Runs.joins-same, Adjoining.class_of-one, Upward.v
 -- two neighbouring slices are one
 pub slice-join : {X : Type 0} (xs : List X) (a b c : ℕ) → a ≤ b → b ≤ c → slice_range xs a b ++ slice_range xs b c ≡ slice_range xs a c
 slice-join xs a b c h k = grind (arith, drop-drop (b - a) a xs, take-add (b - a) (c - b) (drop a xs))
+
+pub length-slice : (xs : List ℕ) (a b : ℕ) → a ≤ b → b ≤ length xs → length (slice_range xs a b) ≡ b - a
+length-slice xs a b h k = length-take-le (b - a) (drop a xs) (omega (arith, length-drop a xs))
 
 -- the bytes from an index on
 slice-front : (xs rest : List ℕ) (a n : ℕ) → drop a xs ≡ rest → slice_range xs a (a + n) ≡ take n rest
@@ -92,22 +98,16 @@ module _ (whole : List ℕ) where
   pub texts-plan : All (λ c. c < 256) whole → (plan : List Segment) → IsMergePlan (parsed whole) plan → AreTexts whole 0 plan (length whole)
   texts-plan are plan h = grind (arith, texts-pieces, texts-parsed)
 
-  -- ---- The message
+  -- ---- Each of some texts
 
-  texts-message : (from to : ℕ) (ss : List Segment) → AreTexts whole from ss to → message (segment_pieces whole ss) ≡ slice_range whole from to
-  texts-message from to [] h = grind arith
-  texts-message from to (s ∷ ss) h = grind (arith, slice-join, texts-reach, texts-message s.end to ss h.3)
+  abbrev pub IsText : Segment → Type 0
+  IsText s = (s.begin < s.end) × (s.end ≤ length whole) × IsValid s.mode (slice_range whole s.begin s.end)
 
-  -- The pieces of a plan are a message of all the bytes.
-  pub plan_message : (plan : List Segment) → AreTexts whole 0 plan (length whole) → message (segment_pieces whole plan) ≡ whole
-  plan_message plan h = grind (arith, common_steps, texts-message, take-length)
-
-  -- ---- Positions
-
-  texts-lie : (from to : ℕ) (ss : List Segment) → AreTexts whole from ss to → to ≤ length whole → All (LiesIn (length whole)) ss
-  texts-lie from to [] h k = All-nil (LiesIn (length whole))
-  texts-lie from to (s ∷ ss) h k = grind (arith, texts-reach, texts-lie s.end to ss h.3 k)
+  pub texts-each : (from to : ℕ) (ss : List Segment) → AreTexts whole from ss to → to ≤ length whole → All IsText ss
+  texts-each from to [] h k = All-nil IsText
+  texts-each from to (s ∷ ss) h k = grind (arith, All-cons, texts-reach, texts-each s.end to ss h.3 k)
 
   -- The parts of a plan lie within the bytes.
   pub plan_lies : All (λ c. c < 256) whole → (plan : List Segment) → IsMergePlan (parsed whole) plan → All (LiesIn (length whole)) plan
-  plan_lies are plan h = texts-lie 0 (length whole) plan (texts-plan are plan h) (omega arith)
+  plan_lies are plan h =
+      All-weaker IsText (LiesIn (length whole)) (λ s w. (omega (arith, w.0), w.1)) plan (texts-each 0 (length whole) plan (texts-plan are plan h) (omega arith))

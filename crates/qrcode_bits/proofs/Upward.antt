@@ -2,6 +2,7 @@
 use Rattle.qrcode_bits.proofs.Prelude.{◌≡◌, ℕ, ◌+◌, ◌-◌, ◌<◌, Bool, true, List, [], ◌∷◌, ◌++◌, refl, ◌∙◌, subst, arith, get_or, All, Contains, nat_lt, ◌==◌}
 use Rattle.qrcode_bits.proofs.Prelude.{get_or_default_zero, ltb-true, eqb-true, All-nil, All-append, Mode, Numeric, Alphanumeric, Byte, Kanji, IsWithin, same}
 use Rattle.qrcode_bits.proofs.Prelude.{digits, bytes, IsDigit, alphabet, IsKanjiText, IsValid}
+use Rattle.std.proofs.lemmas.List.Elements.{All-weaker}
 use Rattle.qrcode_base.proofs.Alphabet.{each_below, from_each_below}
 use Rattle.qrcode_bits.proofs.Characters.{value_below, character_at_value, kanji_trail}
 
@@ -15,10 +16,6 @@ valid-append Kanji s t h k = kanji-append s t h k where
   kanji-append [] t h k = k
   kanji-append (a ∷ []) t h k = absurd h
   kanji-append (a ∷ b ∷ s) t h k = (h.0, kanji-append s t h.1 k)
-
--- a property of each element, weakened
-pub All-map : {X : Type 0} (P Q : X → Type 0) → ((x : X) → P x → Q x) → (xs : List X) → All P xs → All Q xs
-All-map P Q f xs h = grind arith
 
 -- ---- Digits are in the alphabet
 
@@ -53,13 +50,13 @@ kanji_bytes (a ∷ []) h = absurd h
 kanji_bytes (a ∷ b ∷ s) h = grind (arith, kanji_trail, kanji_bytes s h.1)
 
 pub valid_bytes : (m : Mode) (s : List ℕ) → IsValid m s → All (λ c. c < 256) s
-valid_bytes Numeric s h = All-map IsDigit (λ c. c < 256) (λ c d. omega arith) s h
-valid_bytes Alphanumeric s h = All-map (λ c. Contains alphabet c) (λ c. c < 256) sign_byte s h
+valid_bytes Numeric s h = All-weaker IsDigit (λ c. c < 256) (λ c d. omega arith) s h
+valid_bytes Alphanumeric s h = All-weaker (λ c. Contains alphabet c) (λ c. c < 256) sign_byte s h
 valid_bytes Byte s h = h
 valid_bytes Kanji s h = kanji_bytes s h
 
 -- What a mode can encode, each greater mode can encode.
 pub valid-upward : {m k : Mode} (s : List ℕ) → IsWithin m k → IsValid m s → IsValid k s
 valid-upward s same h = h
-valid-upward s digits h = All-map IsDigit (λ c. Contains alphabet c) digit_sign s h
+valid-upward s digits h = All-weaker IsDigit (λ c. Contains alphabet c) digit_sign s h
 valid-upward {m} s bytes h = valid_bytes m s h
