@@ -20,6 +20,12 @@ wide_enough (suc p) h = omega arith
 pub has_within : {m k : Mode} (v : Version) → IsWithin m k → HasMode v k → HasMode v m
 has_within v w h = grind (arith, wide_enough)
 
+pub All-front : {X : Type 0} (P : X → Type 0) (xs ys : List X) → All P (xs ++ ys) → All P xs
+All-front P xs ys h = λ k d b. grind (arith, common_steps, h k d)
+
+pub All-back : {X : Type 0} (P : X → Type 0) (xs ys : List X) → All P (xs ++ ys) → All P ys
+All-back P xs ys h = λ k d b. grind (arith, common_steps, h (length xs + k) d)
+
 module _ (v : Version) where
   abbrev Had : Segment → Type 0
   Had part = HasMode v part.mode
@@ -33,19 +39,13 @@ module _ (v : Version) where
   had-merged s (t ∷ ts) h =
       grind (arith, All-cons, join-upper, join-upper_second, wide_enough, had-merged t ts (has_within v (join-upper_second s.mode (merged t ts).mode) h))
 
-  had-front : (xs ys : List Segment) → All Had (xs ++ ys) → All Had xs
-  had-front xs ys h = λ k d b. grind (arith, common_steps, h k d)
-
-  had-back : (xs ys : List Segment) → All Had (xs ++ ys) → All Had ys
-  had-back xs ys h = λ k d b. grind (arith, common_steps, h (length xs + k) d)
-
   -- A version has the modes of a plan if and only if it has those of the segments.
   pub pieces-had : (pieces : List (List Segment)) → AreNonEmpty pieces → All Had (joined pieces) → All Had (flat_map merged_all pieces)
   pieces-had [] some h = h
   pieces-had ([] ∷ ps) some h = absurd (omega (arith, first-some [] ps some))
   pieces-had ((s ∷ ss) ∷ ps) some h =
-      let back = pieces-had ps (rest-some (s ∷ ss) ps some) (had-back (s ∷ ss) (joined ps) h) in
-      search (arith, rules, All-append, All-cons, had-front, merged-had)
+      let back = pieces-had ps (rest-some (s ∷ ss) ps some) (All-back Had (s ∷ ss) (joined ps) h) in
+      search (arith, rules, All-append, All-cons, All-front, merged-had)
 
   pub had-pieces : (pieces : List (List Segment)) → AreNonEmpty pieces → All Had (flat_map merged_all pieces) → All Had (joined pieces)
   had-pieces [] some h = h

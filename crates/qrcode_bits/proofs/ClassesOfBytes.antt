@@ -35,9 +35,6 @@ joins-apart c d apart = grind arith
 lone_apart : (d : Class) → joins LoneLead d ≡ false
 lone_apart d = grind arith
 
-joins-self : (c : Class) → (c ≡ LoneLead → ⊥) → joins c c ≡ true
-joins-self c other = grind arith
-
 -- ---- The unit at an index
 
 drop-two : (bytes : List ℕ) (at : ℕ) → at + 2 ≤ length bytes → drop at bytes ≡ get_or bytes at 0 ∷ get_or bytes (at + 1) 0 ∷ drop (at + 2) bytes

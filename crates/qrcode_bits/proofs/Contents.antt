@@ -5,59 +5,52 @@ use Rattle.qrcode_bits.proofs.Prelude.{All, All-head, All-tail, Contains, alphab
 use Rattle.qrcode_bits.proofs.Prelude.{Mode, Numeric, Alphanumeric, Byte, Kanji, Content, Bytes, Text, Elements, parsed_byte, parsed_bytes, piece_text}
 use Rattle.qrcode_bits.proofs.Prelude.{AreDataOf, piece_data, common_steps, Piece, map-id}
 use Rattle.qrcode_bits.specs.Spelling.{piece_of}
-use Rattle.std.proofs.lemmas.List.{length-map, take-map, drop-map}
-use Rattle.std.proofs.lemmas.List.Elements.{All-map}
+use Rattle.std.proofs.lemmas.List.{length-map, take-map, drop-map, get_or-map}
+use Rattle.qrcode_bits.specs.Frame.{HasSingleUnits}
+use Rattle.std.proofs.lemmas.List.Elements.{All-map, All-weaker}
 use Rattle.qrcode_base.proofs.Alphabet.{is_alphanumeric-from_inside}
 use Rattle.qrcode_bits.proofs.Shortest.{sign-low}
 use Rattle.qrcode_bits.specs.Contents.{separator, percent, unescaped, is_element_character, AreElements}
 
 -- ---- Parsed bytes
 
+pub map-parsed : (c : Content) (s : List ℕ) → map (parsed_byte c) s ≡ parsed_bytes c s
+map-parsed Bytes s = map-id s
+map-parsed Text s = refl
+map-parsed Elements s = refl
+
 pub length-parsed : (c : Content) (s : List ℕ) → length (parsed_bytes c s) ≡ length s
-length-parsed Bytes s = refl
-length-parsed Text s = length-map s (parsed_byte Text)
-length-parsed Elements s = length-map s (parsed_byte Elements)
+length-parsed c s = grind (arith, length-map)
 
 -- parsed bytes of a slice
 pub slice-parsed : (c : Content) (s : List ℕ) (a b : ℕ) → slice_range (parsed_bytes c s) a b ≡ parsed_bytes c (slice_range s a b)
-slice-parsed Bytes s a b = refl
-slice-parsed Text s a b = grind (arith, take-map, drop-map)
-slice-parsed Elements s a b = grind (arith, take-map, drop-map)
-
--- but for bytes as they are, each parsed byte is below 80 (hex)
-text-low : (b : ℕ) → parsed_byte Text b < 128
-text-low b = grind arith
-
-elements-low : (b : ℕ) → parsed_byte Elements b < 128
-elements-low b = grind arith
-
-all-low : (f : ℕ → ℕ) → ((b : ℕ) → f b < 128) → (s : List ℕ) → All (λ b. b < 128) (map f s)
-all-low f each s = All-map (λ b. b < 128) f s (λ k d within. each _)
+slice-parsed c s a b = grind (arith, take-map, drop-map)
 
 abbrev pub IsPlain : Content → Type 0
 IsPlain Bytes = ⊥
 IsPlain content = Unit {0}
 
-pub parsed-low : (c : Content) → IsPlain c → (s : List ℕ) → All (λ b. b < 128) (parsed_bytes c s)
-parsed-low Bytes plain s = absurd plain
-parsed-low Text plain s = all-low (parsed_byte Text) text-low s
-parsed-low Elements plain s = all-low (parsed_byte Elements) elements-low s
+-- but for bytes as they are, each parsed byte is below 80 (hex)
+byte-low : (c : Content) → IsPlain c → (b : ℕ) → parsed_byte c b < 128
+byte-low Bytes plain b = absurd plain
+byte-low Text plain b = grind arith
+byte-low Elements plain b = grind arith
 
-pub below-bytes : (s : List ℕ) → All (λ b. b < 128) s → All (λ b. b < 256) s
-below-bytes s h = λ k d within. omega (arith, h k d within)
+pub parsed-low : (c : Content) → IsPlain c → (s : List ℕ) → All (λ b. b < 128) (parsed_bytes c s)
+parsed-low c plain s =
+    subst (All (λ b. b < 128)) (map-parsed c s) (All-map (λ b. b < 128) (parsed_byte c) s (λ k d within. byte-low c plain (get_or s k d)))
 
 pub parsed-bytes : (c : Content) (s : List ℕ) → All (λ b. b < 256) s → All (λ b. b < 256) (parsed_bytes c s)
 parsed-bytes Bytes s h = h
-parsed-bytes Text s h = below-bytes _ (parsed-low Text tt s)
-parsed-bytes Elements s h = below-bytes _ (parsed-low Elements tt s)
+parsed-bytes Text s h = λ k d within. omega (arith, parsed-low Text tt s k d within)
+parsed-bytes Elements s h = λ k d within. omega (arith, parsed-low Elements tt s k d within)
 
 -- ---- What is written is valid
 
-text-digit : (b : ℕ) → IsDigit (parsed_byte Text b) → parsed_byte Text b ≡ b
-text-digit b h = grind arith
-
-elements-digit : (b : ℕ) → IsDigit (parsed_byte Elements b) → parsed_byte Elements b ≡ b
-elements-digit b h = grind arith
+digit-back : (c : Content) (b : ℕ) → IsDigit (parsed_byte c b) → parsed_byte c b ≡ b
+digit-back Bytes b h = refl
+digit-back Text b h = grind arith
+digit-back Elements b h = grind arith
 
 zero_no_sign : Contains alphabet 0 → ⊥
 unfolding is_alphanumeric
@@ -86,17 +79,14 @@ elements-sign b h = elim (cases_eq b separator) [
   ]
 ]
 
--- bytes of which each is itself after a step
-pub same-each : (f : ℕ → ℕ) (P : ℕ → Type 0) → ((b : ℕ) → P b → f b ≡ b) → (s : List ℕ) → All P s → map f s ≡ s
-same-each f P each [] h = refl
-same-each f P each (a ∷ s) h =
-    ap (λ (z : ℕ). z ∷ map f s) (each a (All-head P a s h)) ∙ ap (λ (zs : List ℕ). a ∷ zs) (same-each f P each s (All-tail P a s h))
-
 -- bytes of which each is parsed as itself
+same-each : (f : ℕ → ℕ) (s : List ℕ) → All (λ b. f b ≡ b) s → map f s ≡ s
+same-each f [] h = refl
+same-each f (a ∷ s) h = ap (λ (z : ℕ). z ∷ map f s) (h 0 a (omega arith)) ∙ ap (λ (zs : List ℕ). a ∷ zs) (same-each f s (All-tail (λ b. f b ≡ b) a s h))
+
 same-map : (f : ℕ → ℕ) (P : ℕ → Type 0) → ((b : ℕ) → P (f b) → f b ≡ b) → (s : List ℕ) → All P (map f s) → map f s ≡ s
-same-map f P each [] h = refl
-same-map f P each (a ∷ s) h =
-    ap (λ (z : ℕ). z ∷ map f s) (each a (All-head P (f a) (map f s) h)) ∙ ap (λ (zs : List ℕ). a ∷ zs) (same-map f P each s (All-tail P (f a) (map f s) h))
+same-map f P each s h = same-each f s (λ k d within. each (get_or s k d)
+    (subst P (get_or-map f s k d (f d) within) (h k (f d) (rw length-map within))))
 
 low-pair : (a b : ℕ) → a < 128 → is_kanji_pair a b ≡ true → ⊥
 low-pair a b low h = grind arith
@@ -108,30 +98,22 @@ no_pairs f low (a ∷ []) h = absurd h
 no_pairs f low (a ∷ b ∷ s) h = absurd (low-pair (f a) (f b) (low a) h.0)
 
 pub plain-no_pairs : (c : Content) → IsPlain c → (s : List ℕ) → IsKanjiText (parsed_bytes c s) → s ≡ []
-plain-no_pairs Bytes plain s h = absurd plain
-plain-no_pairs Text plain s h = no_pairs (parsed_byte Text) text-low s h
-plain-no_pairs Elements plain s h = no_pairs (parsed_byte Elements) elements-low s h
+plain-no_pairs c plain s h = no_pairs (parsed_byte c) (byte-low c plain) s (subst IsKanjiText (sym (map-parsed c s)) h)
 
 -- The text of a piece is valid in its mode if the parsed bytes are.
 pub written-valid : (c : Content) (m : Mode) (s : List ℕ) → All (λ b. b < 256) s → IsValid m (parsed_bytes c s) → IsValid m (piece_text c m s)
 written-valid Bytes m s are h = h
-written-valid Text Numeric s are h = subst (All IsDigit) (same-map (parsed_byte Text) IsDigit text-digit s h) h
+written-valid Text Numeric s are h = subst (All IsDigit) (same-map (parsed_byte Text) IsDigit (digit-back Text) s h) h
 written-valid Text Alphanumeric s are h =
     subst (All (λ c. Contains alphabet c)) (same-map (parsed_byte Text) (λ c. Contains alphabet c) text-sign s h) h
-written-valid Text Byte s are h = are
-written-valid Text Kanji s are h = subst IsKanjiText (sym (no_pairs (parsed_byte Text) text-low s h)) tt
-written-valid Elements Numeric s are h = subst (All IsDigit) (same-map (parsed_byte Elements) IsDigit elements-digit s h) h
+written-valid Text Kanji s are h = subst IsKanjiText (sym (plain-no_pairs Text tt s h)) tt
+written-valid Elements Numeric s are h = subst (All IsDigit) (same-map (parsed_byte Elements) IsDigit (digit-back Elements) s h) h
 written-valid Elements Alphanumeric s are h = h
-written-valid Elements Byte s are h = are
-written-valid Elements Kanji s are h = subst IsKanjiText (sym (no_pairs (parsed_byte Elements) elements-low s h)) tt
+written-valid Elements Kanji s are h = subst IsKanjiText (sym (plain-no_pairs Elements tt s h)) tt
+written-valid c Byte s are h = grind arith
 
 pub length-written : (c : Content) (m : Mode) (s : List ℕ) → length (piece_text c m s) ≡ length s
-length-written Bytes m s = refl
-length-written Text m s = refl
-length-written Elements Numeric s = refl
-length-written Elements Alphanumeric s = length-map s (parsed_byte Elements)
-length-written Elements Byte s = refl
-length-written Elements Kanji s = refl
+length-written c m s = grind (arith, length-map)
 
 -- ---- What is written is read back
 
@@ -180,13 +162,9 @@ single-escaped (a ∷ b ∷ rest) valid single =
 -- The data of a piece are the bytes of which it was written.
 pub written-read : (c : Content) (m : Mode) (s : List ℕ) (a b : ℕ) → AreDataOf c s → IsValid m (parsed_bytes c (slice_range s a b)) →
     piece_data c (piece_of m (piece_text c m (slice_range s a b))) ≡ slice_range s a b
-written-read Bytes m s a b suited valid = refl
-written-read Text m s a b suited valid = refl
-written-read Elements Numeric s a b suited valid = refl
 written-read Elements Alphanumeric s a b suited valid =
     single-escaped (slice_range s a b) valid (single-each (slice_range s a b) (slice-single s a b (elements-single s suited)))
-written-read Elements Byte s a b suited valid = refl
-written-read Elements Kanji s a b suited valid = refl
+written-read c m s a b suited valid = grind arith
 
 -- ---- What is read is parsed as it was written
 
@@ -204,77 +182,55 @@ low-parsed b low = grind arith
 other-parsed : (a : ℕ) → Contains alphabet a → a ≢ percent → parsed_byte Elements a ≡ a
 other-parsed a h plain = sign-parsed a (sign-low a h) plain (λ e. separator_no_sign (subst (Contains alphabet) e h))
 
-escaped-double : (a b : ℕ) (rest : List ℕ) → a ≡ percent → b ≡ percent → unescaped (a ∷ b ∷ rest) ≡ percent ∷ unescaped rest
-escaped-double a b rest e f = grind arith
-
-escaped-single : (a b : ℕ) (rest : List ℕ) → a ≡ percent → b ≢ percent → unescaped (a ∷ b ∷ rest) ≡ separator ∷ unescaped (b ∷ rest)
-escaped-single a b rest e f = grind arith
-
-escaped-plain : (a b : ℕ) (rest : List ℕ) → a ≢ percent → unescaped (a ∷ b ∷ rest) ≡ a ∷ unescaped (b ∷ rest)
-escaped-plain a b rest e = grind arith
-
 abbrev IsSign : ℕ → Type 0
 IsSign c = Contains alphabet c
 
 abbrev IsPlainByte : ℕ → Type 0
 IsPlainByte b = b ≢ percent
 
-last-parsed : (a : ℕ) → IsSign a → map (parsed_byte Elements) (unescaped (a ∷ [])) ≡ a ∷ []
-last-parsed a sign = elim (cases_eq a percent) [
-  | inl is ↦ grind arith
-  | inr plain ↦ (let same = other-parsed a sign plain in grind arith)
-]
-
 unescaped-parsed : (t : List ℕ) → All IsSign t → All IsPlainByte (unescaped t) → map (parsed_byte Elements) (unescaped t) ≡ t
 unescaped-parsed [] valid apart = refl
-unescaped-parsed (a ∷ []) valid apart = last-parsed a (All-head IsSign a [] valid)
-unescaped-parsed (a ∷ b ∷ rest) valid apart = elim (cases_eq a percent) [
-  | inl is ↦ elim (cases_eq b percent) [
-    | inl also ↦ absurd (All-head IsPlainByte percent (unescaped rest) (subst (All IsPlainByte) (escaped-double a b rest is also) apart) refl)
-    | inr single ↦ (let e = escaped-single a b rest is single in
-        let more = unescaped-parsed (b ∷ rest) (All-tail IsSign a (b ∷ rest) valid)
-        (All-tail IsPlainByte separator (unescaped (b ∷ rest)) (subst (All IsPlainByte) e apart)) in
-        ap (λ (z : List ℕ). map (parsed_byte Elements) z) e
-        ∙ (ap (λ (zs : List ℕ). percent ∷ zs) more ∙ ap (λ (z : ℕ). z ∷ b ∷ rest) (sym is)))
-  ]
-  | inr plain ↦ (let e = escaped-plain a b rest plain in
-      let more = unescaped-parsed (b ∷ rest) (All-tail IsSign a (b ∷ rest) valid)
-      (All-tail IsPlainByte a (unescaped (b ∷ rest)) (subst (All IsPlainByte) e apart)) in
-      ap (λ (z : List ℕ). map (parsed_byte Elements) z) e
-      ∙ (ap (λ (zs : List ℕ). parsed_byte Elements a ∷ zs) more
-      ∙ ap (λ (z : ℕ). z ∷ b ∷ rest) (other-parsed a (All-head IsSign a (b ∷ rest) valid) plain)))
-]
+unescaped-parsed (a ∷ []) valid apart = grind (arith, cases_eq a percent, other-parsed a (All-head IsSign a [] valid))
+unescaped-parsed (a ∷ b ∷ rest) valid apart =
+    let sign = All-head IsSign a (b ∷ rest) valid in
+    let later = unescaped-parsed (b ∷ rest) (All-tail IsSign a (b ∷ rest) valid) in elim (cases_eq a percent) [
+      | inl is ↦ elim (cases_eq b percent) [
+        | inl also ↦ (let e : unescaped (a ∷ b ∷ rest) ≡ percent ∷ unescaped rest = grind arith in
+            absurd (All-head IsPlainByte percent (unescaped rest) (subst (All IsPlainByte) e apart) refl))
+        | inr single ↦ (let e : unescaped (a ∷ b ∷ rest) ≡ separator ∷ unescaped (b ∷ rest) = grind arith in
+            let more = later (All-tail IsPlainByte separator (unescaped (b ∷ rest)) (subst (All IsPlainByte) e apart)) in
+            rw (e, more) (ap (λ z. z ∷ b ∷ rest) (sym is)))
+      ]
+      | inr plain ↦ (let e : unescaped (a ∷ b ∷ rest) ≡ a ∷ unescaped (b ∷ rest) = grind arith in
+          let more = later (All-tail IsPlainByte a (unescaped (b ∷ rest)) (subst (All IsPlainByte) e apart)) in
+          rw (e, more, other-parsed a sign plain) refl)
+    ]
 
 -- The piece of the parsed bytes of the data of a piece.
 abbrev pub parsed_piece : Content → Piece → Piece
 parsed_piece c p = piece_of p.mode (parsed_bytes c (piece_data c p))
 
-abbrev SameSize : Mode → List ℕ → List ℕ → Type 0
+-- It is valid in its mode, and has as many bytes.
+abbrev pub SameSize : Mode → List ℕ → List ℕ → Type 0
 SameSize m s t = IsValid m t × (length t ≡ length s)
 
 same-size : (m : Mode) (s t : List ℕ) → IsValid m s → t ≡ s → SameSize m s t
 same-size m s t valid e = (subst (IsValid m) (sym e) valid, ap (λ (z : List ℕ). length z) e)
 
-pub text-piece : (m : Mode) (t : List ℕ) → IsValid m t → m ≢ Kanji → SameSize m t (parsed_bytes Text (piece_data Text (piece_of m t)))
-text-piece Numeric t valid other = same-size Numeric t _ valid (same-each (parsed_byte Text) IsDigit (digit-parsed Text) t valid)
-text-piece Alphanumeric t valid other = same-size Alphanumeric t _ valid (same-each (parsed_byte Text) IsSign (λ b h. low-parsed b (sign-low b h)) t valid)
-text-piece Byte t valid other = (parsed-bytes Text t valid, length-parsed Text t)
-text-piece Kanji t valid other = absurd (other refl)
+digits-parsed : (c : Content) (t : List ℕ) → All IsDigit t → SameSize Numeric t (map (parsed_byte c) t)
+digits-parsed c t valid = same-size Numeric t _ valid (same-each (parsed_byte c) t (All-weaker IsDigit (λ b. parsed_byte c b ≡ b) (digit-parsed c) t valid))
 
-pub elements-piece : (m : Mode) (t : List ℕ) → IsValid m t → m ≢ Kanji → All IsPlainByte (piece_data Elements (piece_of m t)) →
-    SameSize m t (parsed_bytes Elements (piece_data Elements (piece_of m t)))
-elements-piece Numeric t valid other apart = same-size Numeric t _ valid (same-each (parsed_byte Elements) IsDigit (digit-parsed Elements) t valid)
-elements-piece Alphanumeric t valid other apart = same-size Alphanumeric t _ valid (unescaped-parsed t valid apart)
-elements-piece Byte t valid other apart = (parsed-bytes Elements t valid, length-parsed Elements t)
-elements-piece Kanji t valid other apart = absurd (other refl)
-
--- ---- What the code parses
-
--- data are parsed byte by byte, bytes to themselves
-pub map-parsed : (c : Content) (s : List ℕ) → map (parsed_byte c) s ≡ parsed_bytes c s
-map-parsed Bytes s = map-id s
-map-parsed Text s = refl
-map-parsed Elements s = refl
+pub parsed-size : (c : Content) (m : Mode) (t : List ℕ) → IsPlain c → IsValid m t → m ≢ Kanji → HasSingleUnits c (piece_data c (piece_of m t)) →
+    SameSize m t (parsed_bytes c (piece_data c (piece_of m t)))
+parsed-size Bytes m t plain valid other apart = absurd plain
+parsed-size c Kanji t plain valid other apart = absurd (other refl)
+parsed-size Text Numeric t plain valid other apart = digits-parsed Text t valid
+parsed-size Text Alphanumeric t plain valid other apart = same-size Alphanumeric t _ valid
+    (same-each (parsed_byte Text) t (All-weaker IsSign (λ b. parsed_byte Text b ≡ b) (λ b h. low-parsed b (sign-low b h)) t valid))
+parsed-size Elements Numeric t plain valid other apart = digits-parsed Elements t valid
+parsed-size Elements Alphanumeric t plain valid other apart = same-size Alphanumeric t _ valid (unescaped-parsed t valid apart)
+parsed-size Text Byte t plain valid other apart = (parsed-bytes Text t valid, length-parsed Text t)
+parsed-size Elements Byte t plain valid other apart = (parsed-bytes Elements t valid, length-parsed Elements t)
 
 pub parsed-alone : (c : Content) (s : List ℕ) → c ≡ Bytes → s ≡ parsed_bytes c s
 parsed-alone c s e = sym (ap (λ (z : Content). parsed_bytes z s) e)

@@ -4,7 +4,7 @@ use Rattle.qrcode_bits.proofs.Prelude.{cases_lt}
 use Rattle.qrcode_bits.proofs.Prelude.{length-drop, length_push, get_or_push, get_or_append_left, slice_index_or, slice_range, Content, Bytes, Class}
 use Rattle.qrcode_bits.proofs.Prelude.{class_size, units}
 use Rattle.qrcode_bits.specs.Places.{total_size, IsUnitEnd, IsCutPlace, ArePlacesBefore}
-use Rattle.qrcode_bits.proofs.{Cutting.units-drop, Adjoining.size-cut}
+use Rattle.qrcode_bits.proofs.{Cutting.units-split, Adjoining.size-cut}
 
 module _ (c : Content) (bytes : List ℕ) where
   pub none_before : ArePlacesBefore 0 c bytes []
@@ -60,7 +60,7 @@ module _ (c : Content) (bytes : List ℕ) where
 module _ (bytes : List ℕ) (at next : ℕ) (a : IsUnitEnd bytes at) (c : Class) (rest : List Class) (here : units (drop at bytes) ≡ c ∷ rest)
     (is : next ≡ at + class_size c) where
   after : drop a.0 (units bytes) ≡ c ∷ rest
-  after = sym (units-drop bytes a.0) ∙ (ap (λ k. units (drop k bytes)) (sym a.2) ∙ here)
+  after = sym ((units-split bytes a.0).1) ∙ (ap (λ k. units (drop k bytes)) (sym a.2) ∙ here)
 
   inside : a.0 + 1 ≤ length (units bytes)
   inside = let e = length-drop a.0 (units bytes) in let k : length (drop a.0 (units bytes)) ≡ length (c ∷ rest) = ap length after in omega (arith, e, k)

@@ -27,37 +27,24 @@ unit_after a w b rest (suc k) e h = rw e (units-apart a b (take k rest) h)
 two_add : (n : ℕ) → 2 + n ≡ suc (suc n)
 two_add n = omega arith
 
-abbrev IsDropped : List ℕ → ℕ → Type 0
-IsDropped bytes n = units (drop (size_at bytes n) bytes) ≡ drop n (units bytes)
+-- the units of the bytes up to a unit, and of those from it on
+abbrev IsSplit : List ℕ → ℕ → Type 0
+IsSplit bytes n = (units (take (size_at bytes n) bytes) ≡ take n (units bytes)) × (units (drop (size_at bytes n) bytes) ≡ drop n (units bytes))
 
-abbrev IsTaken : List ℕ → ℕ → Type 0
-IsTaken bytes n = units (take (size_at bytes n) bytes) ≡ take n (units bytes)
+one_split : (a b : ℕ) (rest : List ℕ) (n : ℕ) (p : Bool) → is_kanji_pair a b ≡ p → IsSplit rest n → IsSplit (b ∷ rest) n → IsSplit (a ∷ b ∷ rest) (suc n)
+one_split a b rest n true h w x = rw (units-pair a b rest h, two_add (size_at rest n))
+    (units-pair a b (take (size_at rest n) rest) h ∙ ap (λ cs. Pair ∷ cs) w.0, w.1)
+one_split a b rest n false h w x = rw (units-apart a b rest h, class_of-one a, one-add (size_at (b ∷ rest) n)) (
+  unit_after a (take (size_at (b ∷ rest) n) (b ∷ rest)) b rest (size_at (b ∷ rest) n) refl h ∙ ap (λ cs. class_of a ∷ cs) x.0,
+  x.1,
+)
 
-one_dropped : (a b : ℕ) (rest : List ℕ) (n : ℕ) (p : Bool) → is_kanji_pair a b ≡ p → IsDropped rest n → IsDropped (b ∷ rest) n →
-    IsDropped (a ∷ b ∷ rest) (suc n)
-one_dropped a b rest n true h w x = let e = units-pair a b rest h in rw (e, two_add (size_at rest n)) w
-one_dropped a b rest n false h w x = let e = units-apart a b rest h in let one = class_of-one a in rw (e, one, one-add (size_at (b ∷ rest) n)) x
-
-one_taken : (a b : ℕ) (rest : List ℕ) (n : ℕ) (p : Bool) → is_kanji_pair a b ≡ p → IsTaken rest n → IsTaken (b ∷ rest) n → IsTaken (a ∷ b ∷ rest) (suc n)
-one_taken a b rest n true h w x = let e = units-pair a b rest h in
-    rw (e, two_add (size_at rest n)) (units-pair a b (take (size_at rest n) rest) h ∙ ap (λ cs. Pair ∷ cs) w)
-one_taken a b rest n false h w x = let e = units-apart a b rest h in let one = class_of-one a in
-    rw (e, one, one-add (size_at (b ∷ rest) n)) (unit_after a (take (size_at (b ∷ rest) n)
-    (b ∷ rest)) b rest (size_at (b ∷ rest) n) refl h ∙ ap (λ cs. class_of a ∷ cs) x)
-
-pub units-drop : (bytes : List ℕ) (n : ℕ) → IsDropped bytes n
-units-drop bytes zero = refl
-units-drop [] (suc n) = refl
-units-drop (a ∷ []) (suc zero) = let one = class_of-one a in rw one refl
-units-drop (a ∷ []) (suc (suc n)) = let one = class_of-one a in rw one refl
-units-drop (a ∷ b ∷ rest) (suc n) = one_dropped a b rest n (is_kanji_pair a b) refl (units-drop rest n) (units-drop (b ∷ rest) n)
-
-pub units-take : (bytes : List ℕ) (n : ℕ) → IsTaken bytes n
-units-take bytes zero = refl
-units-take [] (suc n) = refl
-units-take (a ∷ []) (suc zero) = let one = class_of-one a in rw one refl
-units-take (a ∷ []) (suc (suc n)) = let one = class_of-one a in rw one refl
-units-take (a ∷ b ∷ rest) (suc n) = one_taken a b rest n (is_kanji_pair a b) refl (units-take rest n) (units-take (b ∷ rest) n)
+pub units-split : (bytes : List ℕ) (n : ℕ) → IsSplit bytes n
+units-split bytes zero = (refl, refl)
+units-split [] (suc n) = (refl, refl)
+units-split (a ∷ []) (suc zero) = rw (class_of-one a) (refl, refl)
+units-split (a ∷ []) (suc (suc n)) = rw (class_of-one a) (refl, refl)
+units-split (a ∷ b ∷ rest) (suc n) = one_split a b rest n (is_kanji_pair a b) refl (units-split rest n) (units-split (b ∷ rest) n)
 
 -- ---- Places
 
@@ -80,10 +67,10 @@ units-between : (bytes : List ℕ) (p q : ℕ) (a : IsUnitEnd bytes p) (b : IsUn
     units (slice_range bytes p q) ≡ slice_range (units bytes) a.0 b.0
 units-between bytes p q a b h =
     let order = unit-order bytes p q a b h in
-    let after = ap (λ k. units (drop k bytes)) a.2 ∙ units-drop bytes a.0 in
+    let after = ap (λ k. units (drop k bytes)) a.2 ∙ (units-split bytes a.0).1 in
     let size : q - p ≡ total_size (take (b.0 - a.0) (units (drop p bytes))) =
     rw after (let cut = size-cut (units bytes) a.0 b.0 order in omega (arith, a.2, b.2, cut)) in
-    ap (λ k. units (take k (drop p bytes))) size ∙ (units-take (drop p bytes) (b.0 - a.0) ∙ ap (λ cs. take (b.0 - a.0) cs) after)
+    ap (λ k. units (take k (drop p bytes))) size ∙ ((units-split (drop p bytes) (b.0 - a.0)).0 ∙ ap (λ cs. take (b.0 - a.0) cs) after)
 
 -- ---- What lies within data that fit
 

@@ -14,12 +14,7 @@ use Rattle.std.proofs.lemmas.Grind.{common_steps}
 
 -- it is cut from what is written of all the bytes
 pub slice-written : (c : Content) (m : Mode) (bytes : List ℕ) (a b : ℕ) → slice_range (piece_text c m bytes) a b ≡ piece_text c m (slice_range bytes a b)
-slice-written Bytes m bytes a b = refl
-slice-written Text m bytes a b = refl
-slice-written Elements Numeric bytes a b = refl
-slice-written Elements Alphanumeric bytes a b = slice-parsed Elements bytes a b
-slice-written Elements Byte bytes a b = refl
-slice-written Elements Kanji bytes a b = refl
+slice-written c m bytes a b = grind (arith, slice-parsed Elements bytes a b)
 
 -- the piece whose text is cut from what is written
 pub own_is : (c d : Content) (bytes text : List ℕ) (s : Segment) → d ≡ c → text ≡ piece_text d s.mode bytes →

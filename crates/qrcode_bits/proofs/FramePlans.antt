@@ -2,8 +2,8 @@
 use Rattle.qrcode_bits.proofs.Prelude.{ℕ, ◌+◌, ◌≤◌, Bool, true, false, List, [], ◌∷◌, ◌++◌, length, sym, subst, arith, inl, inr, cases_lt}
 use Rattle.qrcode_bits.proofs.Prelude.{All, All-head, All-tail, All-nil, All-cons, Option, map, if◌then◌else◌, length-append, Version, EcLevel, Mode, HasMode}
 use Rattle.qrcode_bits.proofs.Prelude.{IsWithin, same, digits, bytes, Segment, Class, Run, class_mode, class_size, joins, add_unit, runs, run_segment, units}
-use Rattle.qrcode_bits.proofs.Prelude.{parsed, All-append}
-use Rattle.std.proofs.lemmas.List.Elements.{All-weaker}
+use Rattle.qrcode_bits.proofs.Prelude.{parsed, All-append, flat_map}
+use Rattle.std.proofs.lemmas.List.Elements.{All-map, All-weaker}
 use Rattle.qrcode_bits.proofs.Prelude.{Piece, IsSpellable, spellings, message, Header, Front, front_of, front_bits, IsFrame, IsMergePlan, total_bits, Fits}
 use Rattle.qrcode_bits.proofs.Prelude.{FitsNot, FitsNone, IsChoice}
 use Rattle.qrcode_bits.proofs.Prelude.{capacity, normal, micro, Some, ◌≡◌, zero, suc, slice_get_past, normal_blocks}
@@ -14,10 +14,10 @@ use Rattle.qrcode_bits.proofs.Prelude.{parsed_byte, parsed_bytes}
 use Rattle.qrcode_bits.specs.Spelling.{piece_of}
 use Rattle.qrcode_bits.specs.Contents.{percent}
 use Rattle.qrcode_bits.proofs.{Reading.length-spelling, Segments.length-character_bits}
-use Rattle.qrcode_bits.proofs.Contents.{parsed_piece, text-piece, elements-piece, parsed-low}
+use Rattle.qrcode_bits.proofs.Contents.{IsPlain, map-parsed, parsed_piece, parsed-size, parsed-low}
 use Rattle.qrcode_bits.proofs.Shortest.{low-no_lead, no_lead-no_pair}
 use Rattle.qrcode_bits.specs.Frame.{KeepUnits, HasNoPair, HasSingleUnits}
-use Rattle.qrcode_bits.proofs.{Cuts.UpTo, Carrying.Added, Carrying.units-added, Carrying.segments_of, Choices.has_within, Choices.pieces-had, Shortest.units_of}
+use Rattle.qrcode_bits.proofs.{Cuts.UpTo, Carrying.Added, Carrying.units-added, Carrying.segments_of, Choices.has_within, Choices.All-front, Choices.All-back, Choices.pieces-had, Shortest.units_of}
 use Rattle.qrcode_bits.proofs.{Shortest.units-up_to}
 use Rattle.qrcode_bits.proofs.{Shortest.shortest, Shortest.no_pair-kept, CuttingPlans.chosen-least}
 
@@ -93,107 +93,71 @@ frame-plan v l header s payload bits frame kept =
 
 -- ---- Frames of a text or of elements: the pieces as they would be of the parsed bytes
 
-all-left : {X : Type 0} (P : X → Type 0) (xs ys : List X) → All P (xs ++ ys) → All P xs
-all-left P [] ys h = All-nil P
-all-left P (x ∷ xs) ys h = All-cons P x xs (All-head P x (xs ++ ys) h) (all-left P xs ys (All-tail P x (xs ++ ys) h))
+-- what is known of the parsed piece
+abbrev IsParsed : Version → Content → Piece → Type 0
+IsParsed v c p = IsSpellable v (parsed_piece c p) × (length (spelling v (parsed_piece c p)) ≡ length (spelling v p))
 
-all-right : {X : Type 0} (P : X → Type 0) (xs ys : List X) → All P (xs ++ ys) → All P ys
-all-right P [] ys h = h
-all-right P (x ∷ xs) ys h = all-right P xs ys (All-tail P x (xs ++ ys) h)
-
--- what is known of a piece and of its parsed one
-abbrev IsParsed : Version → Piece → Piece → Type 0
-IsParsed v p q = IsSpellable v q × (length (spelling v q) ≡ length (spelling v p))
-
-parsed-spelled : (v : Version) (m : Mode) (s t : List ℕ) → IsSpellable v (piece_of m s) → IsValid m t → length t ≡ length s →
-    IsParsed v (piece_of m s) (piece_of m t)
-parsed-spelled v m s t h valid long =
-    let same : length (character_bits m t) ≡ length (character_bits m s) =
-    length-character_bits m t valid ∙ (ap (λ (n : ℕ). data_bits m (characters m n)) long ∙ sym (length-character_bits m s h.valid)) in (
-      record { mode = h.mode; valid = valid; counted = rw long h.counted },
-      omega (arith, length-spelling v (piece_of m t), length-spelling v (piece_of m s), same),
+piece-parsed : (v : Version) (c : Content) (p : Piece) → IsPlain c → IsSpellable v p → p.mode ≢ Kanji → HasSingleUnits c (piece_data c p) → IsParsed v c p
+piece-parsed v c p plain h other apart =
+    let w = parsed-size c p.mode p.text plain h.valid other apart in
+    let t = parsed_bytes c (piece_data c p) in
+    let same : length (character_bits p.mode t) ≡ length (character_bits p.mode p.text) =
+    length-character_bits p.mode t w.0 ∙ (ap (λ (n : ℕ). data_bits p.mode (characters p.mode n)) w.1 ∙ sym (length-character_bits p.mode p.text h.valid)) in (
+      record { mode = h.mode; valid = w.0; counted = rw w.1 h.counted },
+      omega (arith, length-spelling v (parsed_piece c p), length-spelling v p, same),
     )
 
-module _ (v : Version) (c : Content) (each : (p : Piece) → IsSpellable v p → p.mode ≢ Kanji → HasSingleUnits c (piece_data c p) →
-    IsParsed v p (parsed_piece c p))
-    (first : (x y : List ℕ) → HasSingleUnits c (x ++ y) → HasSingleUnits c x) (rest : (x y : List ℕ) → HasSingleUnits c (x ++ y) → HasSingleUnits c y) where
-  abbrev IsOther : Piece → Type 0
-  IsOther p = p.mode ≢ Kanji
-
-  abbrev all_parsed : List Piece → List Piece
-  all_parsed pieces = map (parsed_piece c) pieces
-
-  parsed-all : (pieces : List Piece) → All (IsSpellable v) pieces → All IsOther pieces → HasSingleUnits c (data_of c pieces) →
-      All (IsSpellable v) (all_parsed pieces) × (length (spellings v (all_parsed pieces)) ≡ length (spellings v pieces))
-  parsed-all [] spellable others apart = (All-nil (IsSpellable v), refl)
-  parsed-all (p ∷ ps) spellable others apart =
-      let here = each p (All-head (IsSpellable v) p ps spellable) (All-head IsOther p ps others) (first (piece_data c p) (data_of c ps) apart) in
-      let more = parsed-all ps (All-tail (IsSpellable v) p ps spellable) (All-tail IsOther p ps others) (rest (piece_data c p) (data_of c ps) apart) in (
-        All-cons (IsSpellable v) (parsed_piece c p) (all_parsed ps) here.0 more.0,
-        omega (
-          arith,
-          here.1,
-          more.1,
-          length-append (spelling v p) (spellings v ps),
-          length-append (spelling v (parsed_piece c p))
-              (spellings v (all_parsed ps)),
-        ),
-      )
-
-text-parsed : (v : Version) (p : Piece) → IsSpellable v p → p.mode ≢ Kanji → IsParsed v p (parsed_piece Text p)
-text-parsed v p h other =
-    let w = text-piece p.mode p.text h.valid other in parsed-spelled v p.mode p.text (parsed_bytes Text p.text) h w.0 w.1
-
-elements-parsed : (v : Version) (p : Piece) → IsSpellable v p → p.mode ≢ Kanji → All (λ b. b ≢ percent) (piece_data Elements p) →
-    IsParsed v p (parsed_piece Elements p)
-elements-parsed v p h other apart =
-    let w = elements-piece p.mode p.text h.valid other apart in
-    parsed-spelled v p.mode p.text (parsed_bytes Elements (piece_data Elements p)) h w.0 w.1
+spellings-parsed : (v : Version) (c : Content) (ps : List Piece) → All (IsParsed v c) ps →
+    length (spellings v (map (parsed_piece c) ps)) ≡ length (spellings v ps)
+spellings-parsed v c [] h = refl
+spellings-parsed v c (p ∷ ps) h = omega (
+  arith,
+  (All-head (IsParsed v c) p ps h).1,
+  spellings-parsed v c ps (All-tail (IsParsed v c) p ps h),
+  length-append (spelling v p) (spellings v ps),
+  length-append (spelling v (parsed_piece c p)) (spellings v (map (parsed_piece c) ps)),
+)
 
 -- the parsed pieces are a message of the parsed data
-text-message : (pieces : List Piece) → message (map (parsed_piece Text) pieces) ≡ parsed_bytes Text (data_of Text pieces)
-text-message [] = refl
-text-message (p ∷ ps) =
-    ap (λ (z : List ℕ). parsed_bytes Text (piece_data Text p) ++ z) (text-message ps)
-    ∙ sym (map-append (parsed_byte Text) (piece_data Text p) (data_of Text ps))
+parsed-message : (c : Content) (ps : List Piece) → message (map (parsed_piece c) ps) ≡ parsed_bytes c (data_of c ps)
+parsed-message c [] = map-parsed c []
+parsed-message c (p ∷ ps) = rw (parsed-message c ps) (parsed-append c (piece_data c p) (data_of c ps)) where
+  parsed-append : (c : Content) (s t : List ℕ) → parsed_bytes c s ++ parsed_bytes c t ≡ parsed_bytes c (s ++ t)
+  parsed-append c s t = grind (arith, map-append)
 
-elements-message : (pieces : List Piece) → message (map (parsed_piece Elements) pieces) ≡ parsed_bytes Elements (data_of Elements pieces)
-elements-message [] = refl
-elements-message (p ∷ ps) =
-    ap (λ (z : List ℕ). parsed_bytes Elements (piece_data Elements p) ++ z) (elements-message ps)
-    ∙ sym (map-append (parsed_byte Elements) (piece_data Elements p) (data_of Elements ps))
-
-low-kept : (pieces : List Piece) (s : List ℕ) → message pieces ≡ s → All (λ b. b < 128) s → KeepUnits pieces
-low-kept pieces s e low = no_pair-kept pieces (subst HasNoPair (sym e) (no_lead-no_pair s (λ k d within. low-no_lead _ (low k d within))))
-
-abbrev FitsApart : Version → EcLevel → Content → ℕ → ℕ → ℕ → List Piece → Type 0
-FitsApart v l c front limit payload pieces =
-    capacity v l ≡ Some limit → All (IsSpellable v) pieces → AreAllowed c pieces → HasSingleUnits c (data_of c pieces) →
-    front + length (spellings v pieces) ≤ payload → payload ≤ limit → Fitting v l front (parsed_bytes c (data_of c pieces)) payload
-
-content-plan : (v : Version) (l : EcLevel) (c : Content) (front limit payload : ℕ) (pieces : List Piece) → FitsApart v l c front limit payload pieces
-content-plan v l Bytes front limit payload pieces known spellable allowed apart long fits =
-    pieces-plan v l front limit payload pieces known spellable (no_pair-kept pieces apart) long fits
-content-plan v l Text front limit payload pieces known spellable allowed apart long fits =
-    let w = parsed-all v Text (λ p h other unit. text-parsed v p h other) (λ x y h. tt) (λ x y h. tt) pieces spellable allowed tt in
-    let e = text-message pieces in
+plain-plan : (v : Version) (l : EcLevel) (header : Option Header) (c : Content) (s : List ℕ) (payload : ℕ) (bits : List Bool) →
+    (frame : IsFrame v l (front_of header c) s payload bits) → IsPlain c → All (λ p. p.mode ≢ Kanji) frame.pieces →
+    All (λ p. HasSingleUnits c (piece_data c p)) frame.pieces →
+    Fitting v l (length (front_bits (front_of header c))) (parsed_bytes c (data_of c frame.pieces)) payload
+plain-plan v l header c s payload bits frame plain others apart =
+    let front = length (front_bits (front_of header c)) in
+    let pieces = map (parsed_piece c) frame.pieces in
+    let each : All (IsParsed v c) frame.pieces = λ k d w. piece-parsed v c _ plain (frame.spellable k d w) (others k d w) (apart k d w) in
+    let e = parsed-message c frame.pieces in
     subst (λ z. Fitting v l front z payload) e
-    (pieces-plan v l front limit payload (map (parsed_piece Text) pieces) known w.0
-    (low-kept (map (parsed_piece Text) pieces) _ e (parsed-low Text tt (data_of Text pieces)))
-    (omega (arith, w.1, long)) fits)
-content-plan v l Elements front limit payload pieces known spellable allowed apart long fits =
-    let w = parsed-all v Elements (elements-parsed v) (all-left (λ b. b ≢ percent)) (all-right (λ b. b ≢ percent)) pieces spellable allowed apart in
-    let e = elements-message pieces in
-    subst (λ z. Fitting v l front z payload) e
-    (pieces-plan v l front limit payload (map (parsed_piece Elements) pieces) known w.0
-    (low-kept (map (parsed_piece Elements) pieces) _ e (parsed-low Elements tt (data_of Elements pieces))) (omega (arith, w.1, long)) fits)
+    (pieces-plan v l front frame.limit payload pieces frame.limit_is (All-map (IsSpellable v) (parsed_piece c) frame.pieces (λ k d w. (each k d w).0))
+    (no_pair-kept pieces (subst HasNoPair (sym e) (no_lead-no_pair _ (λ k d w. low-no_lead _ (parsed-low c plain (data_of c frame.pieces) k d w)))))
+    (omega (arith, frame-long v l (front_of header c) s payload bits frame, spellings-parsed v c frame.pieces each)) frame.fits)
+
+all-pieces : (P : ℕ → Type 0) (f : Piece → List ℕ) (ps : List Piece) → All P (flat_map f ps) → All (λ p. All P (f p)) ps
+all-pieces P f [] h = All-nil (λ p. All P (f p))
+all-pieces P f (p ∷ ps) h =
+    All-cons (λ p. All P (f p)) p ps (All-front P (f p) (flat_map f ps) h) (all-pieces P f ps (All-back P (f p) (flat_map f ps) h))
+
+content-plan : (v : Version) (l : EcLevel) (header : Option Header) (c : Content) (s : List ℕ) (payload : ℕ) (bits : List Bool) →
+    (frame : IsFrame v l (front_of header c) s payload bits) → HasSingleUnits c (data_of c frame.pieces) →
+    Fitting v l (length (front_bits (front_of header c))) (parsed_bytes c (data_of c frame.pieces)) payload
+content-plan v l header Bytes s payload bits frame apart =
+    subst (λ z. Fitting v l (length (front_bits (front_of header Bytes))) z payload) frame.bytes_are (frame-plan v l header s payload bits frame (no_pair-kept frame.pieces apart))
+content-plan v l header Text s payload bits frame apart = plain-plan v l header Text s payload bits frame tt frame.allowed (λ k d w. tt)
+content-plan v l header Elements s payload bits frame apart =
+    plain-plan v l header Elements s payload bits frame tt frame.allowed (all-pieces (λ b. b ≢ percent) (piece_data Elements) frame.pieces apart)
 
 pub apart-plan : (v : Version) (l : EcLevel) (f : Front) (s : List ℕ) (payload : ℕ) (bits : List Bool) → HasSingleUnits f.content s →
     IsFrame v l f s payload bits → Fitting v l (length (front_bits f)) (parsed_bytes f.content s) payload
 apart-plan v l f s payload bits apart frame =
     subst (λ z. Fitting v l (length (front_bits f)) (parsed_bytes f.content z) payload) (sym frame.bytes_are)
-    (content-plan v l f.content (length (front_bits f)) frame.limit payload frame.pieces frame.limit_is frame.spellable frame.allowed
-    (subst (HasSingleUnits f.content) frame.bytes_are apart) (frame-long v l f s payload bits frame) frame.fits)
+    (content-plan v l f.header f.content s payload bits frame (subst (HasSingleUnits f.content) frame.bytes_are apart))
 
 module _ (kind : ℕ → Version) (l : EcLevel) (f : Front) (s : List ℕ) (limit number : ℕ) (plan : List Segment) (apart : HasSingleUnits f.content s)
     (choice : IsChoice kind (length (front_bits f)) (parsed_bytes f.content s) l limit number plan) where

@@ -59,8 +59,3 @@ none_invalid piece position byte valid h = grind (arith, got_within piece.text p
 -- the push of a piece that can be spelled fails only with `OutOfMemory`
 pub spellable_refused : (old : Stream) (piece : Piece) (e : QrError) → IsSpellable old.version piece → IsPushRefused old piece e → e ≡ OutOfMemory
 spellable_refused old piece e h r = grind (arith, none_invalid)
-
--- the parts of a plan from an index on
-pub pieces_at : (bytes : List ℕ) (plan : List Segment) (i : ℕ) → i < length plan →
-    segment_pieces bytes (drop i plan) ≡ segment_piece bytes (segment_at plan i) ∷ segment_pieces bytes (drop (i + 1) plan)
-pieces_at bytes plan i within = grind (arith, drop-cons)
