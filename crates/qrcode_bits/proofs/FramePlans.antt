@@ -8,7 +8,7 @@ use Rattle.qrcode_bits.proofs.Prelude.{Piece, IsSpellable, spellings, message, H
 use Rattle.qrcode_bits.proofs.Prelude.{FitsNot, FitsNone, IsChoice}
 use Rattle.qrcode_bits.proofs.Prelude.{capacity, normal, micro, Some, ◌≡◌, zero, suc, slice_get_past, normal_blocks}
 use Rattle.qrcode_bits.proofs.{Choices.fits_last, Classes.all_blocks}
-use Rattle.qrcode_bits.proofs.Prelude.{◌≢◌, ◌<◌, refl, ap, ◌∙◌, map-append, spelling, Kanji, IsValid, Content, Bytes, Text, Elements, AreAllowed, data_of}
+use Rattle.qrcode_bits.proofs.Prelude.{◌≢◌, ◌<◌, refl, ap, ◌∙◌, map-append, spelling, Kanji, IsValid, Content, Bytes, Text, Elements, AreAllowed, piece_data}
 use Rattle.qrcode_bits.proofs.Prelude.{piece_data, character_bits, data_bits, characters}
 use Rattle.qrcode_bits.proofs.Prelude.{parsed_byte, parsed_bytes}
 use Rattle.qrcode_bits.specs.Spelling.{piece_of}
@@ -119,16 +119,16 @@ spellings-parsed v c (p ∷ ps) h = omega (
 )
 
 -- the parsed pieces are a message of the parsed data
-parsed-message : (c : Content) (ps : List Piece) → message (map (parsed_piece c) ps) ≡ parsed_bytes c (data_of c ps)
+parsed-message : (c : Content) (ps : List Piece) → message (map (parsed_piece c) ps) ≡ parsed_bytes c (flat_map (piece_data c) ps)
 parsed-message c [] = map-parsed c []
-parsed-message c (p ∷ ps) = rw (parsed-message c ps) (parsed-append c (piece_data c p) (data_of c ps)) where
+parsed-message c (p ∷ ps) = rw (parsed-message c ps) (parsed-append c (piece_data c p) (flat_map (piece_data c) ps)) where
   parsed-append : (c : Content) (s t : List ℕ) → parsed_bytes c s ++ parsed_bytes c t ≡ parsed_bytes c (s ++ t)
   parsed-append c s t = grind (arith, map-append)
 
 plain-plan : (v : Version) (l : EcLevel) (header : Option Header) (c : Content) (s : List ℕ) (payload : ℕ) (bits : List Bool) →
     (frame : IsFrame v l (front_of header c) s payload bits) → IsPlain c → All (λ p. p.mode ≢ Kanji) frame.pieces →
     All (λ p. HasSingleUnits c (piece_data c p)) frame.pieces →
-    Fitting v l (length (front_bits (front_of header c))) (parsed_bytes c (data_of c frame.pieces)) payload
+    Fitting v l (length (front_bits (front_of header c))) (parsed_bytes c (flat_map (piece_data c) frame.pieces)) payload
 plain-plan v l header c s payload bits frame plain others apart =
     let front = length (front_bits (front_of header c)) in
     let pieces = map (parsed_piece c) frame.pieces in
@@ -136,7 +136,7 @@ plain-plan v l header c s payload bits frame plain others apart =
     let e = parsed-message c frame.pieces in
     subst (λ z. Fitting v l front z payload) e
     (pieces-plan v l front frame.limit payload pieces frame.limit_is (All-map (IsSpellable v) (parsed_piece c) frame.pieces (λ k d w. (each k d w).0))
-    (no_pair-kept pieces (subst HasNoPair (sym e) (no_lead-no_pair _ (λ k d w. low-no_lead _ (parsed-low c plain (data_of c frame.pieces) k d w)))))
+    (no_pair-kept pieces (subst HasNoPair (sym e) (no_lead-no_pair _ (λ k d w. low-no_lead _ (parsed-low c plain (flat_map (piece_data c) frame.pieces) k d w)))))
     (omega (arith, frame-long v l (front_of header c) s payload bits frame, spellings-parsed v c frame.pieces each)) frame.fits)
 
 all-pieces : (P : ℕ → Type 0) (f : Piece → List ℕ) (ps : List Piece) → All P (flat_map f ps) → All (λ p. All P (f p)) ps
@@ -145,8 +145,8 @@ all-pieces P f (p ∷ ps) h =
     All-cons (λ p. All P (f p)) p ps (All-front P (f p) (flat_map f ps) h) (all-pieces P f ps (All-back P (f p) (flat_map f ps) h))
 
 content-plan : (v : Version) (l : EcLevel) (header : Option Header) (c : Content) (s : List ℕ) (payload : ℕ) (bits : List Bool) →
-    (frame : IsFrame v l (front_of header c) s payload bits) → HasSingleUnits c (data_of c frame.pieces) →
-    Fitting v l (length (front_bits (front_of header c))) (parsed_bytes c (data_of c frame.pieces)) payload
+    (frame : IsFrame v l (front_of header c) s payload bits) → HasSingleUnits c (flat_map (piece_data c) frame.pieces) →
+    Fitting v l (length (front_bits (front_of header c))) (parsed_bytes c (flat_map (piece_data c) frame.pieces)) payload
 content-plan v l header Bytes s payload bits frame apart =
     subst (λ z. Fitting v l (length (front_bits (front_of header Bytes))) z payload) frame.bytes_are (frame-plan v l header s payload bits frame (no_pair-kept frame.pieces apart))
 content-plan v l header Text s payload bits frame apart = plain-plan v l header Text s payload bits frame tt frame.allowed (λ k d w. tt)

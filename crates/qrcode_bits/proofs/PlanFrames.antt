@@ -4,7 +4,7 @@ use Rattle.qrcode_bits.proofs.Prelude.{◌≡◌, ◌≢◌, ℕ, ◌+◌, ◌-�
 use Rattle.qrcode_bits.proofs.Prelude.{length-append, All, slice_range, All-head, All-tail, All-take, All-drop, take-length, length-drop, Version, EcLevel}
 use Rattle.qrcode_bits.proofs.Prelude.{Kanji, IsValid, Segment, AreTexts, segment_bits, total_bits, Fits, spelling, segment_pieces}
 use Rattle.qrcode_bits.proofs.Prelude.{Front, HasFront, front_bits, Piece, spellings, ended, IsFrame, IsSpellable, Content, Bytes, Text}
-use Rattle.qrcode_bits.proofs.Prelude.{Elements, AreAllowed, AreDataOf, data_of, parsed_bytes, pieces_of, piece_text, common_steps}
+use Rattle.qrcode_bits.proofs.Prelude.{flat_map, Elements, AreAllowed, AreDataOf, piece_data, parsed_bytes, pieces_of, piece_text, common_steps}
 use Rattle.qrcode_bits.specs.Spelling.{piece_of}
 use Rattle.std.proofs.lemmas.List.Elements.{All-map}
 use Rattle.qrcode_bits.proofs.{Growth.fits-counts, Reading.length-spelling, Segments.length-character_bits, Frames.ended_frame}
@@ -75,7 +75,7 @@ module _ (c : Content) (s : List ℕ) (are : All (λ b. b < 256) s) where
       let empty : length (own_bytes x) ≡ 0 = ap (λ (z : List ℕ). length z) none in
       omega (arith, empty, length-slice s x.begin x.end (omega (arith, h.0)) (omega (arith, h.1, length-parsed c s)), h.0)
 
-  data-own : AreDataOf c s → (from to : ℕ) (ss : List Segment) → AreTexts Whole from ss to → data_of c (pieces_of c s ss) ≡ slice_range s from to
+  data-own : AreDataOf c s → (from to : ℕ) (ss : List Segment) → AreTexts Whole from ss to → flat_map (piece_data c) (pieces_of c s ss) ≡ slice_range s from to
   data-own suited from to [] h = grind arith
   data-own suited from to (x ∷ ss) h =
       let reach = texts-reach Whole x.end to ss h.3 in
@@ -96,7 +96,7 @@ pub record IsSpelledPlan (v : Version) (c : Content) (bytes : List ℕ) (plan : 
   pub spellable : All (IsSpellable v) (pieces_of c bytes plan)
   pub nonempty : All (λ p. p.text ≢ []) (pieces_of c bytes plan)
   pub allowed : AreAllowed c (pieces_of c bytes plan)
-  pub whole : data_of c (pieces_of c bytes plan) ≡ bytes
+  pub whole : flat_map (piece_data c) (pieces_of c bytes plan) ≡ bytes
   pub bits : length (spellings v (pieces_of c bytes plan)) ≡ total_bits v plan
 
 pub spelled_plan : (front : ℕ) (v : Version) (l : EcLevel) (c : Content) (bytes : List ℕ) (plan : List Segment) → All (λ b. b < 256) bytes →

@@ -38,7 +38,7 @@ pub use Rattle.qrcode_bits.specs.Frame.{HasHeader, Header, IsFrame, IsTotal, end
 pub use Rattle.qrcode_bits.specs.Frame.{padding, spellings, tail, terminator_width}
 unfoldable pub use Rattle.qrcode_bits.specs.Frame.{bytes_in_turn}
 pub use Rattle.qrcode_bits.specs.Frame.{Front, HasFront, front_bits, front_of, no_front}
-pub use Rattle.qrcode_bits.specs.Contents.{AreAllowed, AreDataOf, HasContent, content_bits, data_of, parsed_byte, parsed_bytes, piece_data, pieces_of}
+pub use Rattle.qrcode_bits.specs.Contents.{AreAllowed, AreDataOf, HasContent, content_bits, parsed_byte, parsed_bytes, piece_data, pieces_of}
 pub use Rattle.qrcode_bits.specs.Contents.{piece_text}
 pub use Rattle.qrcode_bits.specs.declared.bits.front.Content.{Content}
 pub use Rattle.qrcode_bits.specs.declared.bits.front.Content.TheVariants.{Bytes, Elements, Text}

@@ -2,7 +2,7 @@
 -- "Extended Channel Interpretation (ECI) mode" and "FNC1 mode"). A reader tells them apart by the
 -- bits before the data.
 use Rattle.std.specs.Prelude.{◌≡◌, ◌≢◌, ◌⊎◌, ℕ, ◌+◌, ◌-◌, ◌<◌, Bool, true, ◌==◌, ◌||◌, nat_lt, if◌then◌else◌}
-use Rattle.std.specs.Prelude.{List, [], ◌∷◌, length, map, flat_map, All, Some, slice_get, slice_index_or}
+use Rattle.std.specs.Prelude.{List, [], ◌∷◌, ◌++◌, length, map, All, Some, slice_get, slice_index_or}
 use Rattle.std.specs.Prelude.{slice_range}
 use Rattle.qrcode_base.specs.Characters.{is_between}
 use Rattle.qrcode_base.specs.Numbers.{number_bits}
@@ -14,7 +14,6 @@ use Rattle.qrcode_bits.specs.declared.bits.front.Content.{Content}
 use Rattle.qrcode_bits.specs.declared.bits.front.Content.TheVariants.{Bytes, Text, Elements}
 use Rattle.qrcode_bits.specs.declared.optimize.Segment.{Segment}
 use Rattle.qrcode_bits.specs.Spelling.{Piece, piece_of}
-use Rattle.qrcode_bits.specs.Stream.{eci_spelling}
 
 -- ---- What a reader finds
 
@@ -24,11 +23,12 @@ HasContent version Bytes = Unit {0}
 HasContent (Normal n) content = Unit {0}
 HasContent (Micro n) content = ⊥
 
--- The bits that name the content: the ECI designator 26, which is UTF-8, before a text; the
--- indicator of FNC1 in the first position, which is 5, before elements; none before bytes.
+-- The bits that name the content: before a text the ECI indicator 7 in four bits, and the
+-- designator 26, which is UTF-8, in eight; before elements the indicator of FNC1 in the first
+-- position, which is 5; none before bytes.
 abbrev pub content_bits : Content → List Bool
 content_bits Bytes = []
-content_bits Text = eci_spelling 26
+content_bits Text = number_bits 4 7 ++ number_bits 8 26
 content_bits Elements = number_bits 4 5
 
 -- Where the data are a text or elements, no piece is in the Kanji mode, whose pairs are Shift JIS.
@@ -52,19 +52,10 @@ unescaped (a ∷ b ∷ rest) =
     if a == percent then (if b == percent then percent ∷ unescaped rest else separator ∷ unescaped (b ∷ rest))
     else a ∷ unescaped (b ∷ rest)
 
--- The data of a piece of elements.
-abbrev pub piece_elements : Piece → List ℕ
-piece_elements piece = elim piece.mode [ Alphanumeric ↦ unescaped piece.text | _ ↦ piece.text ]
-
--- The data of a piece.
+-- The data of a piece: its text, unescaped in an Alphanumeric piece of elements.
 abbrev pub piece_data : Content → Piece → List ℕ
-piece_data Bytes piece = piece.text
-piece_data Text piece = piece.text
-piece_data Elements piece = piece_elements piece
-
--- The data of pieces, one after the other.
-abbrev pub data_of : Content → List Piece → List ℕ
-data_of content pieces = flat_map (λ piece. piece_data content piece) pieces
+piece_data Elements piece = elim piece.mode [ Alphanumeric ↦ unescaped piece.text | _ ↦ piece.text ]
+piece_data content piece = piece.text
 
 -- ---- How data are parsed into segments
 
