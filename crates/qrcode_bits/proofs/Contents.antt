@@ -61,23 +61,11 @@ unfolding is_alphanumeric
 separator_no_sign h = let e : false ≡ true = is_alphanumeric-from_inside separator h in cc
 
 text-sign : (b : ℕ) → Contains alphabet (parsed_byte Text b) → parsed_byte Text b ≡ b
-text-sign b h = elim (cases_lt b 128) [
-  | inl low ↦ grind arith
-  | inr high ↦ absurd (zero_no_sign (subst (Contains alphabet) (grind arith) h))
-]
+text-sign b h = grind (arith, zero_no_sign)
 
 elements-sign : (b : ℕ) → Contains alphabet (parsed_byte Elements b) →
     ((b ≡ separator) × (parsed_byte Elements b ≡ percent)) ⊎ ((b ≢ percent) × (parsed_byte Elements b ≡ b))
-elements-sign b h = elim (cases_eq b separator) [
-  | inl is ↦ inl (is, grind arith)
-  | inr other ↦ elim (cases_eq b percent) [
-    | inl is ↦ absurd (zero_no_sign (subst (Contains alphabet) (grind arith) h))
-    | inr plain ↦ elim (cases_lt b 128) [
-      | inl low ↦ inr (plain, grind arith)
-      | inr high ↦ absurd (zero_no_sign (subst (Contains alphabet) (grind arith) h))
-    ]
-  ]
-]
+elements-sign b h = grind (arith, zero_no_sign, cases_eq b separator, cases_eq b percent)
 
 -- bytes of which each is parsed as itself
 same-each : (f : ℕ → ℕ) (s : List ℕ) → All (λ b. f b ≡ b) s → map f s ≡ s

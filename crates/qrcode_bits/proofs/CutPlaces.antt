@@ -8,41 +8,22 @@ use Rattle.qrcode_bits.proofs.{Cutting.units-split, Adjoining.size-cut}
 
 module _ (c : Content) (bytes : List ℕ) where
   pub none_before : ArePlacesBefore 0 c bytes []
-  none_before = record { each = λ i h. absurd (omega (arith, h)); all = λ p w h. absurd (omega (arith, h)); increasing = λ i j h k. absurd (omega (arith, k)) }
+  none_before = grind arith
 
   module _ (at next : ℕ) (places : List ℕ) (old : ArePlacesBefore at c bytes places) (here : IsCutPlace c bytes at) (later : at < next)
       (none : (p : ℕ) → IsCutPlace c bytes p → at < p → p < next → ⊥) where
     abbrev more : List ℕ
     more = places ++ at ∷ []
 
-    first_same : (i : ℕ) → i < length places → slice_index_or more i 0 ≡ slice_index_or places i 0
-    first_same i h = get_or_append_left places (at ∷ []) 0 i h
-
-    last_is : (i : ℕ) → i ≡ length places → slice_index_or more i 0 ≡ at
-    last_is i h = get_or_push places at 0 i (sym h)
-
-    long : length more ≡ length places + 1
-    long = length_push places at
-
     -- one more place
-    pub one_place : ArePlacesBefore next c bytes (places ++ at ∷ [])
+    pub one_place : ArePlacesBefore next c bytes more
     one_place = record {
-      each = λ i h. elim (cases_lt i (length places)) [
-        | inl k ↦ (let w = old.each i k in rw (first_same i k) (w.0, omega (arith, w.1, later)))
-        | inr k ↦ rw (last_is i (omega (arith, k, h, long))) (here, later)
-      ];
+      each = λ i h. grind (arith, cases_lt i (length places), old.each i, get_or_append_left, get_or_push, length_push);
       all = λ p w h. elim (cases_lt p at) [
-        | inl k ↦ (let i = old.all p w k in (i.0, omega (arith, i.1, long), first_same i.0 i.1 ∙ i.2))
-        | inr k ↦ elim (cases_lt at p) [
-          | inl m ↦ absurd (none p w m h)
-          | inr m ↦ (length places, omega (arith, long), last_is (length places) refl ∙ omega (arith, k, m))
-        ]
+        | inl k ↦ (let i = old.all p w k in (i.0, omega (arith, i.1, length_push places at), get_or_append_left places (at ∷ []) 0 i.0 i.1 ∙ i.2))
+        | inr k ↦ (length places, omega (arith, length_push places at), grind (arith, cases_lt at p, none p w, get_or_push))
       ];
-      increasing = λ i j h k. elim (cases_lt j (length places)) [
-        | inl m ↦ (let w = old.increasing i j h m in rw (first_same i (omega (arith, h, m)), first_same j m) w)
-        | inr m ↦ (let w = old.each i (omega (arith, h, k, long)) in
-            rw (first_same i (omega (arith, h, k, long)), last_is j (omega (arith, m, k, long))) w.1)
-      ];
+      increasing = λ i j h k. grind (arith, cases_lt j (length places), old.increasing i j h, old.each i, get_or_append_left, get_or_push, length_push);
     }
 
   pub no_place : (at : ℕ) (places : List ℕ) → ArePlacesBefore at c bytes places → (IsCutPlace c bytes at → ⊥) → ArePlacesBefore (at + 1) c bytes places
