@@ -1,5 +1,5 @@
 use Rattle.qrcode_bits.proofs.Prelude.{◌≡◌, ◌-◌, sym, ap, ◌∙◌, arith, join, segment_at}
-use Rattle.qrcode_bits.proofs.Suffix.{part-known, part_mode-more}
+use Rattle.qrcode_bits.proofs.Scan.{part-known, part_mode-more}
 use Rattle.qrcode_bits.proofs.optimize.linear.joined.Goals as goal
 
 pub loop-i-preserved : goal.loop-i-preserved
