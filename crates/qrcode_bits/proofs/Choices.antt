@@ -4,6 +4,9 @@ use Rattle.qrcode_bits.proofs.Prelude.{◌≡◌, ℕ, zero, suc, ◌+◌, ◌^�
 use Rattle.qrcode_bits.proofs.Prelude.{All, Option, flat_map, cases_lt, cases_eq, All-head, All-tail, All-nil, All-cons, All-append, Version, EcLevel, L, M, Q}
 use Rattle.qrcode_bits.proofs.Prelude.{H, Mode, IsWithin, HasMode, slice_get_past, capacity, Segment, parsed, merged, total_bits, IsChosenPlan, merged_all}
 use Rattle.qrcode_bits.proofs.Prelude.{IsMergePlan, Fits, FitsNot, IsLeastBits, normal, micro, FitsNone, IsChoice, IsClass, common_steps, ◌-◌}
+use Rattle.qrcode_bits.proofs.Prelude.{ap, ◌*◌, normal_blocks, slice_get-get_or}
+use Rattle.std.specs.Prelude.{option_map}
+use Rattle.qrcode_base.{specs.Symbols.data_bytes, specs.declared.symbols.BlockLayout.BlockLayout}
 use Rattle.qrcode_bits.specs.Plans.{normal_from}
 use Rattle.qrcode_bits.proofs.Growth.{total_bits-rise, total_bits-same, total_bits-double, chosen-same}
 use Rattle.qrcode_bits.proofs.CuttingPlans.{AreNonEmpty, joined, first-some, rest-some, chosen-planned, chosen-least}
@@ -152,31 +155,37 @@ module _ (front : ℕ) (message : List ℕ) (l : EcLevel) (least before last : �
 
 -- ---- Version 40
 
-last_capacity : (l : EcLevel) → (d : ℕ) × (capacity (normal 40) l ≡ Some d) × (d ≤ 23648)
-last_capacity L = (23648, refl, omega arith)
-last_capacity M = (18672, refl, omega arith)
-last_capacity Q = (13328, refl, omega arith)
-last_capacity H = (10208, refl, omega arith)
+no_blocks : BlockLayout
+no_blocks = record { correction = 0; first_size = 0; first_count = 0; second_size = 0; second_count = 0 }
 
-middle_capacity : (l : EcLevel) → (c : ℕ) × (capacity (normal 26) l ≡ Some c) × (c ≤ 10960)
-middle_capacity L = (10960, refl, omega arith)
-middle_capacity M = (8496, refl, omega arith)
-middle_capacity Q = (6032, refl, omega arith)
-middle_capacity H = (4768, refl, omega arith)
+pub all_blocks : (l : EcLevel) → length (normal_blocks l) ≡ 40
+all_blocks l = grind arith
+
+pub capacity-at : (l : EcLevel) (n : ℕ) → 1 ≤ n → n ≤ 40 → (c : ℕ) × (capacity (normal n) l ≡ Some c)
+capacity-at l zero some h = absurd (omega arith)
+capacity-at l (suc n) some h =
+    let row = slice_get-get_or (normal_blocks l) n no_blocks (omega (arith, all_blocks l)) in
+    (_, ap (λ (o : Option BlockLayout). option_map (λ b. 8 * data_bytes b - 0) o) row)
 
 -- the capacities of the versions up to 40, and of those up to 26
 pub capacity-most : (l : EcLevel) (n c : ℕ) → n ≤ 40 → capacity (normal n) l ≡ Some c → c ≤ 23648
-capacity-most l n c h known = let d = last_capacity l in let grows = capacity-grows l n 40 c d.0 h known d.1 in omega (arith, d.2)
+capacity-most L n c h known = capacity-grows L n 40 c 23648 h known refl
+capacity-most M n c h known = omega (arith, capacity-grows M n 40 c 18672 h known refl)
+capacity-most Q n c h known = omega (arith, capacity-grows Q n 40 c 13328 h known refl)
+capacity-most H n c h known = omega (arith, capacity-grows H n 40 c 10208 h known refl)
 
 pub capacity-middle : (l : EcLevel) (n c : ℕ) → n ≤ 26 → capacity (normal n) l ≡ Some c → c ≤ 10960
-capacity-middle l n c h known = let d = middle_capacity l in let grows = capacity-grows l n 26 c d.0 h known d.1 in omega (arith, d.2)
+capacity-middle L n c h known = capacity-grows L n 26 c 10960 h known refl
+capacity-middle M n c h known = omega (arith, capacity-grows M n 26 c 8496 h known refl)
+capacity-middle Q n c h known = omega (arith, capacity-grows Q n 26 c 6032 h known refl)
+capacity-middle H n c h known = omega (arith, capacity-grows H n 26 c 4768 h known refl)
 
 -- What fits some version fits version 40: from version 27 on the number of bits stays the same; up
 -- to 26 it at most doubles, together with the bits in front.
 pub fits_last : (front n : ℕ) (message : List ℕ) (l : EcLevel) (plan : List Segment) → n ≤ 40 → Fits front message (normal n) l plan →
     Fits front message (normal 40) l plan
 fits_last front n message l plan h w =
-    grind (arith, last_capacity l, total_bits-double n 40, capacity-grows l n 26 w.limit, capacity-grows l n 40 w.limit, total_bits-same n 40)
+    grind (arith, capacity-at l 40, total_bits-double n 40, capacity-grows l n 26 w.limit, capacity-grows l n 40 w.limit, total_bits-same n 40)
 
 -- ---- The least version that holds a number of bits
 

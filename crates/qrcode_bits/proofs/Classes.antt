@@ -3,7 +3,7 @@ use Rattle.qrcode_bits.proofs.Prelude.{◌≡◌, ℕ, zero, suc, ℤ, ◌+◌, 
 use Rattle.qrcode_bits.proofs.Prelude.{Result, Ok, Err, All, Option, nat_abs, MatchOption, cases_lt, Version, EcLevel, Mode, QrError, DataTooLong, OutOfMemory}
 use Rattle.qrcode_bits.proofs.Prelude.{normal_blocks, capacity, HasMode, indicator, indicator_width, count_width, ◌%◌, one_shl, AreTexts, HasLinearCosts}
 use Rattle.qrcode_bits.proofs.Prelude.{IsChosenPlan, total_bits, IsMergePlan, Fits, FitsNot, FitsNone, normal, IsLeastHolding, IsClass, Header}
-use Rattle.qrcode_bits.proofs.Prelude.{Front, front_bits, parsed_bytes, IsChoice, max, sym, ◌∙◌, ◌⊎◌}
+use Rattle.qrcode_bits.proofs.Prelude.{no_front, Front, front_bits, parsed_bytes, IsChoice, max, sym, ◌∙◌, ◌⊎◌}
 use Rattle.qrcode_bits.specs.Plans.{normal_from, IsMinVersionFrom}
 use Rattle.qrcode_bits.specs.Push.{IsFrontRefused, IsRangeRefused, IsVersionRange}
 use Rattle.qrcode_bits.proofs.Prelude.{Stream, IsPlanStream, IsEncoding, IsUnencodable, IsEncodingRefused, HasHeader, IsPartRefused}
@@ -18,7 +18,8 @@ use Rattle.std.specs.Prelude.{Bool, true, IsTrue, ◌↔◌}
 use Rattle.qrcode_bits.proofs.{Adjoining.parsed-linear, Growth.total_bits-rise, Growth.total_bits-same, Texts.texts-reach, Texts.texts-plan}
 use Rattle.qrcode_bits.proofs.{Texts.plan_lies}
 use Rattle.qrcode_bits.specs.Plans.{AreCandidates}
-use Rattle.qrcode_bits.proofs.Choices.{FitsNoneFrom, chosen_is_plan, chosen_decides, fits_normal, capacity-grows, class_choice}
+pub use Rattle.qrcode_bits.proofs.Choices.{all_blocks}
+use Rattle.qrcode_bits.proofs.Choices.{capacity-at, FitsNoneFrom, chosen_is_plan, chosen_decides, fits_normal, capacity-grows, class_choice}
 
 -- ---- Costs are small
 
@@ -98,24 +99,12 @@ modes_lack v items i inside lacks has = grind arith
 
 -- ---- A class of versions
 
-no_blocks : BlockLayout
-no_blocks = record { correction = 0; first_size = 0; first_count = 0; second_size = 0; second_count = 0 }
-
-pub all_blocks : (l : EcLevel) → length (normal_blocks l) ≡ 40
-all_blocks l = grind arith
-
-last_capacity : (l : EcLevel) (n : ℕ) → 1 ≤ n → n ≤ 40 → (c : ℕ) × (capacity (normal n) l ≡ Some c)
-last_capacity l zero some h = absurd (omega arith)
-last_capacity l (suc n) some h =
-    let row = slice_get-get_or (normal_blocks l) n no_blocks (omega (arith, all_blocks l)) in
-    (_, ap (λ (o : Option BlockLayout). option_map (λ b. 8 * data_bytes b - 0) o) row)
-
 -- what fits a version fits a later one of its class
 fits_later : (front n m : ℕ) (message : List ℕ) (l : EcLevel) (plan : List Segment) → n ≤ m → m ≤ 40 → SameClass n m →
     Fits front message (normal n) l plan → Fits front message (normal m) l plan
 fits_later front n m message l plan h most class w =
     let some : 1 ≤ n = (capacity-held l n w.limit w.has_level).0 in
-    let c = last_capacity l m (omega arith) most in
+    let c = capacity-at l m (omega arith) most in
     let grows = capacity-grows l n m w.limit c.0 h w.has_level c.1 in
     grind (arith, common_steps, total_bits-same, fits_normal)
 
@@ -196,7 +185,7 @@ module _ (f : Front) (bytes message : List ℕ) (same : message ≡ parsed_bytes
       | inl k ↦ omega (arith, k, g.1)
       | inr k ↦ elim (cases_lt before least) [
         | inl b ↦ omega (arith, b, g.0)
-        | inr b ↦ (let d = last_capacity l before (omega (arith, from, b)) (omega (arith, after, most)) in
+        | inr b ↦ (let d = capacity-at l before (omega (arith, from, b)) (omega (arith, after, most)) in
             let grows = capacity-grows l held before least_version.2.limit d.0 k least_version.2.limit_is d.1 in
             let rise = total_bits-rise before last (omega (arith, from, b)) (omega (arith, after)) plan in
             absurd (none before b (omega arith) plan
@@ -207,7 +196,7 @@ module _ (f : Front) (bytes message : List ℕ) (same : message ≡ parsed_bytes
     -- its first version that holds them,
     holding : (d : ℕ) × (capacity (normal number) l ≡ Some d) × (all_bits ≤ d)
     holding = let g = greater least held in
-        let d = last_capacity l number (omega (arith, from, g.0)) (omega (arith, early, most)) in
+        let d = capacity-at l number (omega (arith, from, g.0)) (omega (arith, early, most)) in
         (d.0, d.1, omega (arith, least_version.2.holds, capacity-grows l held number least_version.2.limit d.0 g.1 least_version.2.limit_is d.1))
 
     others : (n e : ℕ) → before < n → n < number → capacity (normal n) l ≡ Some e → e < all_bits
@@ -282,36 +271,28 @@ refused_from_one front message l limit other some none = none
 
 -- ---- Errors
 
-pub refused_limit : (message : List ℕ) (l : EcLevel) (z : ℤ) (n : ℕ) (e : QrError) → IsNormalNumber z → n ≡ nat_abs z → IsUnencodable normal 0 message l n e →
-    IsEncodingRefused message l z e
-refused_limit message l z n DataTooLong h same r = (h, subst (λ (k : ℕ). FitsNone normal 0 message l k) same r)
-refused_limit message l z n OutOfMemory h same r = (h, r)
-refused_limit message l z n other h same r = absurd r
-
 pub refused_front : (f : Front) (bytes : List ℕ) (l : EcLevel) (z : ℤ) (n : ℕ) (e : QrError) → IsNormalNumber z → n ≡ nat_abs z →
     IsUnencodable normal (length (front_bits f)) (parsed_bytes f.content bytes) l n e → IsFrontRefused f bytes l z e
-refused_front f bytes l z n DataTooLong h same r =
-    (h, subst (λ (k : ℕ). FitsNone normal (length (front_bits f)) (parsed_bytes f.content bytes) l k) same r)
-refused_front f bytes l z n OutOfMemory h same r = (h, r)
-refused_front f bytes l z n other h same r = absurd r
+refused_front f bytes l z n e h same r =
+    let s = subst (λ (k : ℕ). IsUnencodable normal (length (front_bits f)) (parsed_bytes f.content bytes) l k e) same r in grind (arith, s)
+
+pub refused_limit : (message : List ℕ) (l : EcLevel) (z : ℤ) (n : ℕ) (e : QrError) → IsNormalNumber z → n ≡ nat_abs z → IsUnencodable normal 0 message l n e →
+    IsEncodingRefused message l z e
+refused_limit message l z n e h same r = refused_front no_front message l z n e h same r
 
 pub refused_range : (f : Front) (bytes : List ℕ) (l : EcLevel) (y z : ℤ) (n m : ℕ) (e : QrError) → IsVersionRange y z → n ≡ nat_abs y → m ≡ nat_abs z →
     IsUnencodable (normal_from n) (length (front_bits f)) (parsed_bytes f.content bytes) l (m - n) e → IsRangeRefused f bytes l y z e
-refused_range f bytes l y z n m DataTooLong h from to r = (
-  h,
-  subst (λ (k : ℕ). FitsNone (normal_from (nat_abs y)) (length (front_bits f)) (parsed_bytes f.content bytes) l (k - nat_abs y)) to
-      (subst (λ (k : ℕ). FitsNone (normal_from k) (length (front_bits f)) (parsed_bytes f.content bytes) l (m - k)) from r),
-)
-refused_range f bytes l y z n m OutOfMemory h from to r = (h, r)
-refused_range f bytes l y z n m other h from to r = absurd r
+refused_range f bytes l y z n m e h from to r =
+    let first = subst (λ (k : ℕ). IsUnencodable (normal_from k) (length (front_bits f)) (parsed_bytes f.content bytes) l (m - k) e) from r in
+    let s = subst (λ (k : ℕ). IsUnencodable (normal_from (nat_abs y)) (length (front_bits f)) (parsed_bytes f.content bytes) l (k - nat_abs y) e) to first in
+    grind (arith, s)
 
 pub refused_part : (header : Header) (message : List ℕ) (l : EcLevel) (z : ℤ) (n front : ℕ) (e : QrError) → IsNormalNumber z →
     HasHeader (normal (nat_abs z)) (Some header) → n ≡ nat_abs z → front ≡ 20 →
     IsUnencodable normal front message l n e → IsPartRefused header message l z e
-refused_part header message l z n front DataTooLong h p same size r =
-    (h, p, subst (λ (f : ℕ). FitsNone normal f message l (nat_abs z)) size (subst (λ (k : ℕ). FitsNone normal front message l k) same r))
-refused_part header message l z n front OutOfMemory h p same size r = (h, p, r)
-refused_part header message l z n front other h p same size r = absurd r
+refused_part header message l z n front e h p same size r =
+    let s = subst (λ (f : ℕ). IsUnencodable normal f message l (nat_abs z) e) size (subst (λ (k : ℕ). IsUnencodable normal front message l k e) same r) in
+    grind (arith, s)
 
 pub limit_of : (z y : ℤ) (is : Bool) → y ≡ z → IsTrue is ↔ IsNormalNumber y → is ≡ true → IsNormalNumber z
 limit_of z y is e test found = subst IsNormalNumber e (test.0 found)

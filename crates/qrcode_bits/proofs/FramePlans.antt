@@ -7,7 +7,7 @@ use Rattle.std.proofs.lemmas.List.Elements.{All-map, All-weaker}
 use Rattle.qrcode_bits.proofs.Prelude.{Piece, IsSpellable, spellings, message, Header, Front, front_of, front_bits, IsFrame, IsMergePlan, total_bits, Fits}
 use Rattle.qrcode_bits.proofs.Prelude.{FitsNot, FitsNone, IsChoice}
 use Rattle.qrcode_bits.proofs.Prelude.{capacity, normal, micro, Some, ◌≡◌, zero, suc, slice_get_past, normal_blocks}
-use Rattle.qrcode_bits.proofs.{Choices.fits_last, Classes.all_blocks}
+use Rattle.qrcode_bits.proofs.{Choices.fits_last, Choices.all_blocks}
 use Rattle.qrcode_bits.proofs.Prelude.{◌≢◌, ◌<◌, refl, ap, ◌∙◌, map-append, spelling, Kanji, IsValid, Content, Bytes, Text, Elements, AreAllowed, piece_data}
 use Rattle.qrcode_bits.proofs.Prelude.{piece_data, character_bits, data_bits, characters}
 use Rattle.qrcode_bits.proofs.Prelude.{parsed_byte, parsed_bytes}

@@ -55,7 +55,7 @@ impl Bits {
     }
 
     /// Appends characters of the Alphanumeric mode in pairs, and then the one that is left.
-    #[tactic(auto, using(crate::proofs::Segments::bit_lengths, crate::proofs::Pairs::pairs_end))]
+    #[tactic(auto, using(crate::proofs::Segments::bit_lengths, crate::proofs::Pairs::last_letters))]
     pub(super) fn push_letters(&mut self, text: &[u8])
         requires characters { All (λ c. Contains alphabet c) text.now }
         requires room { length (character_bits Alphanumeric text.now) ≤ self.old.room }
@@ -95,7 +95,7 @@ impl Bits {
     }
 
     /// Appends double-byte Shift JIS characters, for which there is room.
-    #[tactic(auto, using(crate::proofs::Segments::bit_lengths, crate::proofs::KanjiText::kanji_end))]
+    #[tactic(auto, using(crate::proofs::Segments::bit_lengths, crate::proofs::Pairs::last_kanji))]
     pub(super) fn push_kanji(&mut self, text: &[u8])
         requires characters { IsKanjiText text.now }
         requires room { length (character_bits Kanji text.now) ≤ self.old.room }
