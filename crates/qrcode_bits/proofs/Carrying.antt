@@ -41,10 +41,9 @@ pub record IsLonger (a : Mode) (z : ℕ) (r q : Segment) : Type 0 where
   pub size : q.end - q.begin ≡ z + (r.end - r.begin)
 
 -- the segments with a unit of a mode in front
-abbrev pub Added : Mode → ℕ → List Segment → List Segment → Type 0
-Added a z ss qs =
-    ((q : Segment) × IsNew a z q × (qs ≡ q ∷ ss))
-    ⊎ ((r : Segment) × (q : Segment) × (rs : List Segment) × IsLonger a z r q × (ss ≡ r ∷ rs) × (qs ≡ q ∷ rs))
+pub data Added (a : Mode) (z : ℕ) : List Segment → List Segment → Type 0 where
+  one_before : {q : Segment} {ss : List Segment} → IsNew a z q → Added a z ss (q ∷ ss)
+  one_longer : {r q : Segment} {rs : List Segment} → IsLonger a z r q → Added a z (r ∷ rs) (q ∷ rs)
 
 module _ (v : Version) (m : Mode) (cost n : ℕ) (a : Mode) (within : UpTo a m) (z : ℕ) (full : 1 ≤ z) where
   open-new : (q : Segment) (ss : List Segment) → IsNew a z q → IsOpen v m cost n ss → IsOpen v m cost (z + n) (q ∷ ss)
@@ -135,12 +134,10 @@ module _ (v : Version) (m : Mode) (cost n : ℕ) (a : Mode) (within : UpTo a m) 
 
   -- one more unit in front
   add-state : (ss qs : List Segment) → Added a z ss qs → State v m cost n ss → State v m cost (z + n) qs
-  add-state ss qs (inl w) (inl o) = inl (subst (λ i. IsOpen v m cost (z + n) i) (sym w.2) (open-new w.0 ss w.1 o))
-  add-state ss qs (inl w) (inr o) = inl (subst (λ i. IsOpen v m cost (z + n) i) (sym w.2) (shut-new w.0 ss w.1 o))
-  add-state ss qs (inr w) (inl o) =
-      inl (subst (λ i. IsOpen v m cost (z + n) i) (sym w.5) (open-longer w.0 w.1 w.2 w.3 (subst (λ i. IsOpen v m cost n i) w.4 o)))
-  add-state ss qs (inr w) (inr o) =
-      subst (λ i. State v m cost (z + n) i) (sym w.5) (shut-longer w.0 w.1 w.2 w.3 (subst (λ i. IsShut v m cost n i) w.4 o))
+  add-state ss _ (one_before {q = q} new) (inl o) = inl (open-new q ss new o)
+  add-state ss _ (one_before {q = q} new) (inr o) = inl (shut-new q ss new o)
+  add-state _ _ (one_longer {r = r} {q = q} {rs = rs} longer) (inl o) = inl (open-longer r q rs longer o)
+  add-state _ _ (one_longer {r = r} {q = q} {rs = rs} longer) (inr o) = shut-longer r q rs longer o
 
 -- at the end of the piece
 closed : (v : Version) (m : Mode) (cost n : ℕ) (ss : List Segment) → State v m cost n ss →
@@ -159,19 +156,12 @@ segments_of b cs = map run_segment (runs b cs)
 
 add_unit-added : (c : Class) (b to : ℕ) (rs : List Run) → Adjoin (b + class_size c) (map run_segment rs) to →
     Added (class_mode c) (class_size c) (map run_segment rs) (map run_segment (add_unit c b rs))
-add_unit-added c b to [] h = inl (run_segment (record { class = c; begin = b; end = b + class_size c }), record { mode = refl; size = omega arith }, refl)
+add_unit-added c b to [] h = one_before (record { mode = refl; size = omega arith })
 add_unit-added c b to (r ∷ rs) h = go (joins c r.class) refl where
   go : (t : Bool) → joins c r.class ≡ t → Added (class_mode c) (class_size c) (map run_segment (r ∷ rs)) (map run_segment
       (if t then record { class = c; begin = b; end = r.end } ∷ rs else record { class = c; begin = b; end = b + class_size c } ∷ r ∷ rs))
-  go true e = inr (
-    run_segment r,
-    run_segment (record { class = c; begin = b; end = r.end }),
-    map run_segment rs,
-    record { mode = refl; old = ap class_mode (sym (joins-same c r.class e)); size = omega arith },
-    refl,
-    refl,
-  )
-  go false e = inl (run_segment (record { class = c; begin = b; end = b + class_size c }), record { mode = refl; size = omega arith }, refl)
+  go true e = one_longer (record { mode = refl; old = ap class_mode (sym (joins-same c r.class e)); size = omega arith })
+  go false e = one_before (record { mode = refl; size = omega arith })
 
 -- the segments of some units, and those of one more in front
 pub units-added : (b : ℕ) (c : Class) (cs : List Class) →

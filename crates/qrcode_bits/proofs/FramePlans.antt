@@ -17,7 +17,7 @@ use Rattle.qrcode_bits.proofs.{Reading.length-spelling, Segments.length-characte
 use Rattle.qrcode_bits.proofs.Contents.{IsPlain, map-parsed, parsed_piece, parsed-size, parsed-low}
 use Rattle.qrcode_bits.proofs.Shortest.{low-no_lead, no_lead-no_pair}
 use Rattle.qrcode_bits.specs.Frame.{KeepUnits, HasNoPair, HasSingleUnits}
-use Rattle.qrcode_bits.proofs.{Cuts.UpTo, Carrying.Added, Carrying.units-added, Carrying.segments_of, Choices.has_within, Choices.All-front, Choices.All-back, Choices.pieces-had, Shortest.units_of}
+use Rattle.qrcode_bits.proofs.{Cuts.UpTo, Carrying.Added, Carrying.one_before, Carrying.one_longer, Carrying.units-added, Carrying.segments_of, Choices.has_within, Choices.All-front, Choices.All-back, Choices.pieces-had, Shortest.units_of}
 use Rattle.qrcode_bits.proofs.{Shortest.units-up_to}
 use Rattle.qrcode_bits.proofs.{Shortest.shortest, Shortest.no_pair-kept, CuttingPlans.chosen-least}
 
@@ -40,9 +40,8 @@ module _ (v : Version) where
       (pieces-units ps (All-tail (IsSpellable v) p ps h))
 
   added-had : (a : Mode) (z : ℕ) (ss qs : List Segment) → Added a z ss qs → HasMode v a → All Had ss → All Had qs
-  added-had a z ss qs (inl w) has h = subst (All Had) (sym w.2) (All-cons Had w.0 ss (subst (HasMode v) (sym w.1.mode) has) h)
-  added-had a z ss qs (inr w) has h = subst (All Had) (sym w.5)
-      (All-cons Had w.1 w.2 (subst (HasMode v) (sym w.3.mode) has) (All-tail Had w.0 w.2 (subst (All Had) w.4 h)))
+  added-had a z ss _ (one_before {q = q} w) has h = All-cons Had q ss (subst (HasMode v) (sym w.mode) has) h
+  added-had a z _ _ (one_longer {r = r} {q = q} {rs = rs} w) has h = All-cons Had q rs (subst (HasMode v) (sym w.mode) has) (All-tail Had r rs h)
 
   segments-had : (b : ℕ) (cs : List Class) → All HasUnit cs → All Had (segments_of b cs)
   segments-had b [] h = All-nil Had

@@ -8,7 +8,7 @@ use Rattle.std.proofs.lemmas.List.Elements.{All-weaker}
 use Rattle.std.proofs.Math.Seq.{drop-append-add, take-append-add}
 use Rattle.qrcode_bits.specs.Places.{total_size}
 use Rattle.qrcode_bits.proofs.{Adjoining.Adjoin, Adjoining.parsed-adjoin, CuttingPlans.AreNonEmpty, CuttingPlans.joined, CuttingPlans.first-some}
-use Rattle.qrcode_bits.proofs.{CuttingPlans.rest-some, Carrying.Added, Carrying.AreUpTo, Carrying.segments_of, Carrying.units-added}
+use Rattle.qrcode_bits.proofs.{CuttingPlans.rest-some, Carrying.Added, Carrying.one_before, Carrying.one_longer, Carrying.AreUpTo, Carrying.segments_of, Carrying.units-added}
 use Rattle.qrcode_bits.proofs.{Cuts.UpTo, Cuts.bits_of, Cuts.piece_bits, Cuts.join-above, Cuts.join-above_second, Adjoining.size-append, Adjoining.size-cut}
 use Rattle.qrcode_bits.proofs.Shortest.{Bundle, AreCoded, all_classes, bundle_bits, bundles-plan}
 
@@ -27,24 +27,22 @@ Covers (s ∷ ss) cs =
     (own : List Class) × (rest : List Class) × (cs ≡ own ++ rest) × AreUpTo s.mode own × (s.end - s.begin ≡ total_size own) × Covers ss rest
 
 covers-added : (c : Class) (cs : List Class) (ss qs : List Segment) → Added (class_mode c) (class_size c) ss qs → Covers ss cs → Covers qs (c ∷ cs)
-covers-added c cs ss qs (inl w) h = subst (λ z. Covers z (c ∷ cs)) (sym w.2) (
+covers-added c cs ss _ (one_before {q = q} w) h = (
   c ∷ [],
   cs,
   refl,
-  All-cons (λ d. UpTo (class_mode d) w.0.mode) c [] (inl (sym w.1.mode)) (All-nil (λ d. UpTo (class_mode d) w.0.mode)),
-  omega (arith, w.1.size),
+  All-cons (λ d. UpTo (class_mode d) q.mode) c [] (inl (sym w.mode)) (All-nil (λ d. UpTo (class_mode d) q.mode)),
+  omega (arith, w.size),
   h,
 )
-covers-added c cs ss qs (inr w) h =
-    let old = subst (λ z. Covers z cs) w.4 h in
-    subst (λ z. Covers z (c ∷ cs)) (sym w.5) (
-      c ∷ old.0,
-      old.1,
-      ap (λ z. c ∷ z) old.2,
-      All-cons (λ d. UpTo (class_mode d) w.1.mode) c old.0 (inl (sym w.3.mode)) (subst (λ m. AreUpTo m old.0) (w.3.old ∙ sym w.3.mode) old.3),
-      omega (arith, w.3.size, old.4),
-      old.5,
-    )
+covers-added c cs _ _ (one_longer {q = q} w) h = (
+  c ∷ h.0,
+  h.1,
+  ap (λ z. c ∷ z) h.2,
+  All-cons (λ d. UpTo (class_mode d) q.mode) c h.0 (inl (sym w.mode)) (subst (λ m. AreUpTo m h.0) (w.old ∙ sym w.mode) h.3),
+  omega (arith, w.size, h.4),
+  h.5,
+)
 
 covers-units : (b : ℕ) (cs : List Class) → Covers (segments_of b cs) cs
 covers-units b [] = refl
