@@ -3,13 +3,12 @@
 -- long as the mode of that part is below the piece's. From then on they are added to the piece,
 -- which also takes the first part if it has the piece's mode, and the first segment of it if its
 -- mode is above.
-use Rattle.qrcode_bits.proofs.Prelude.{◌≡◌, ℕ, ◌+◌, ◌-◌, ◌≤◌, List, [], ◌∷◌, ◌++◌, refl, sym, ap, ◌∙◌, subst, arith, ◌⊎◌, inl, inr, Version, Mode}
-use Rattle.qrcode_bits.proofs.Prelude.{Segment, join, Bool, true, false, map, if◌then◌else◌, Class, Run, class_mode, class_size, joins, add_unit, runs}
-use Rattle.qrcode_bits.proofs.Prelude.{run_segment, All, All-head, All-tail}
-use Rattle.qrcode_bits.proofs.{Runs.joins-same, Runs.class_size-some, Adjoining.Adjoin, Adjoining.Adjoin-runs}
-use Rattle.qrcode_bits.specs.Places.{total_size}
-use Rattle.qrcode_bits.proofs.Cuts.{Below, UpTo, order, join-up_to, join-above_second, not_above, bits_of, piece_bits, merge_bits, move_bits, lower_bits, Cut}
-use Rattle.qrcode_bits.proofs.Cuts.{Parted, alone, together, some, Cut-some, Cut-first, Cut-longer}
+use Rattle.qrcode_bits.proofs.Prelude.{◌≡◌, ℕ, ◌+◌, ◌-◌, ◌≤◌, List, [], ◌∷◌, ◌++◌, refl, sym, ap, ◌∙◌, subst, arith, ◌⊎◌, inl, inr, Version, Mode, Segment}
+use Rattle.qrcode_bits.proofs.Prelude.{join, Bool, true, false, map, if◌then◌else◌, Class, Run, class_mode, class_size, joins, add_unit, runs, run_segment, All}
+use Rattle.qrcode_bits.proofs.Prelude.{All-head, All-tail, total_size}
+use Rattle.qrcode_bits.proofs.{Runs.joins-same, Runs.class_size-some, Adjoining.Adjoin, Adjoining.Adjoin-runs, Cuts.Below, Cuts.UpTo, Cuts.order}
+use Rattle.qrcode_bits.proofs.Cuts.{join-up_to, join-above_second, not_above, bits_of, piece_bits, merge_bits, move_bits}
+use Rattle.qrcode_bits.proofs.Cuts.{lower_bits, Cut, Parted, alone, together, some, Cut-some, Cut-first, Cut-longer}
 
 -- A piece of mode `m` has `n` bytes so far, and a plan of `cost` bits comes after it. Either the
 -- first part of a cut represents the piece, however many bytes are added in front,

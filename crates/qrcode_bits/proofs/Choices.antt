@@ -9,7 +9,7 @@ use Rattle.std.specs.Prelude.{option_map}
 use Rattle.qrcode_base.{specs.Symbols.data_bytes, specs.declared.symbols.BlockLayout.BlockLayout}
 use Rattle.qrcode_bits.specs.Plans.{normal_from}
 use Rattle.qrcode_bits.proofs.Growth.{total_bits-rise, total_bits-same, total_bits-double, chosen-same}
-use Rattle.qrcode_bits.proofs.CuttingPlans.{AreNonEmpty, joined, first-some, rest-some, chosen-planned, chosen-least}
+use Rattle.qrcode_bits.proofs.CuttingPlans.{AreNonEmpty, joined, IsSome, chosen-planned, chosen-least}
 use Rattle.qrcode_base.proofs.{Joins.join-upper, Joins.join-upper_second, Fields.SameClass, Fields.capacity-rises}
 
 -- ---- Modes of a version
@@ -45,16 +45,16 @@ module _ (v : Version) where
   -- A version has the modes of a plan if and only if it has those of the segments.
   pub pieces-had : (pieces : List (List Segment)) → AreNonEmpty pieces → All Had (joined pieces) → All Had (flat_map merged_all pieces)
   pieces-had [] some h = h
-  pieces-had ([] ∷ ps) some h = absurd (omega (arith, first-some [] ps some))
+  pieces-had ([] ∷ ps) some h = absurd (omega (arith, All-head IsSome [] ps some))
   pieces-had ((s ∷ ss) ∷ ps) some h =
-      let back = pieces-had ps (rest-some (s ∷ ss) ps some) (All-back Had (s ∷ ss) (joined ps) h) in
+      let back = pieces-had ps (All-tail IsSome (s ∷ ss) ps some) (All-back Had (s ∷ ss) (joined ps) h) in
       search (arith, rules, All-append, All-cons, All-front, merged-had)
 
   pub had-pieces : (pieces : List (List Segment)) → AreNonEmpty pieces → All Had (flat_map merged_all pieces) → All Had (joined pieces)
   had-pieces [] some h = h
-  had-pieces ([] ∷ ps) some h = absurd (omega (arith, first-some [] ps some))
+  had-pieces ([] ∷ ps) some h = absurd (omega (arith, All-head IsSome [] ps some))
   had-pieces ((s ∷ ss) ∷ ps) some h =
-      let back = had-pieces ps (rest-some (s ∷ ss) ps some) (All-tail Had (merged s ss) (flat_map merged_all ps) h) in
+      let back = had-pieces ps (All-tail IsSome (s ∷ ss) ps some) (All-tail Had (merged s ss) (flat_map merged_all ps) h) in
       search (arith, rules, All-append, had-merged, All-head)
 
   -- All plans of some segments have their modes in a version, or none has.

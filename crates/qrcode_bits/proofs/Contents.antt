@@ -1,16 +1,13 @@
 -- How data of each content are parsed, and how their pieces are written and read.
-use Rattle.qrcode_bits.proofs.Prelude.{◌≡◌, ◌≢◌, ℕ, suc, ◌+◌, ◌-◌, ◌<◌, ◌⊎◌, inl, inr, true, false, List, [], ◌∷◌, length, get_or}
-use Rattle.qrcode_bits.proofs.Prelude.{refl, sym, ap, ◌∙◌, subst, arith, map, slice_range, cases_eq, cases_lt}
-use Rattle.qrcode_bits.proofs.Prelude.{All, All-head, All-tail, Contains, alphabet, is_alphanumeric, IsDigit, IsKanjiText, IsValid, is_kanji_pair}
-use Rattle.qrcode_bits.proofs.Prelude.{Mode, Numeric, Alphanumeric, Byte, Kanji, Content, Bytes, Text, Elements, parsed_byte, parsed_bytes, piece_text}
-use Rattle.qrcode_bits.proofs.Prelude.{AreDataOf, piece_data, common_steps, Piece, map-id}
-use Rattle.qrcode_bits.specs.Spelling.{piece_of}
-use Rattle.std.proofs.lemmas.List.{length-map, take-map, drop-map, get_or-map}
-use Rattle.qrcode_bits.specs.Frame.{HasSingleUnits}
-use Rattle.std.proofs.lemmas.List.Elements.{All-map, All-weaker}
+use Rattle.qrcode_bits.proofs.Prelude.{◌≡◌, ◌≢◌, ℕ, suc, ◌+◌, ◌-◌, ◌<◌, ◌⊎◌, inl, inr, true, false, List, [], ◌∷◌, length, get_or, refl, sym, ap, ◌∙◌, subst}
+use Rattle.qrcode_bits.proofs.Prelude.{arith, map, slice_range, cases_eq, All, All-head, All-tail, Contains, alphabet, is_alphanumeric, IsDigit, IsKanjiText}
+use Rattle.qrcode_bits.proofs.Prelude.{IsValid, is_kanji_pair, Mode, Numeric, Alphanumeric, Byte, Kanji, Content, Bytes, Text, Elements, parsed_byte}
+use Rattle.qrcode_bits.proofs.Prelude.{parsed_bytes, piece_text, AreDataOf, piece_data, common_steps, Piece, map-id, piece_of, length-map, get_or-map}
+use Rattle.qrcode_bits.proofs.Prelude.{HasSingleUnits, All-map, All-weaker, percent}
+use Rattle.std.proofs.lemmas.List.{take-map, drop-map}
 use Rattle.qrcode_base.proofs.Alphabet.{is_alphanumeric-from_inside}
+use Rattle.qrcode_bits.specs.Contents.{separator, unescaped, is_element_character, AreElements}
 use Rattle.qrcode_bits.proofs.Shortest.{sign-low}
-use Rattle.qrcode_bits.specs.Contents.{separator, percent, unescaped, is_element_character, AreElements}
 
 -- ---- Parsed bytes
 

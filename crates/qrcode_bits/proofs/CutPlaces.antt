@@ -1,9 +1,7 @@
 -- The places at which data may be cut, found one after the other.
 use Rattle.qrcode_bits.proofs.Prelude.{◌≡◌, ℕ, ◌+◌, ◌-◌, ◌<◌, ◌≤◌, List, [], ◌∷◌, ◌++◌, length, take, drop, refl, sym, ap, ◌∙◌, subst, arith, inl, inr}
-use Rattle.qrcode_bits.proofs.Prelude.{cases_lt}
-use Rattle.qrcode_bits.proofs.Prelude.{length-drop, length_push, get_or_push, get_or_append_left, slice_index_or, slice_range, Content, Bytes, Class}
-use Rattle.qrcode_bits.proofs.Prelude.{class_size, units}
-use Rattle.qrcode_bits.specs.Places.{total_size, IsUnitEnd, IsCutPlace, ArePlacesBefore}
+use Rattle.qrcode_bits.proofs.Prelude.{cases_lt, length-drop, length_push, get_or_push, get_or_append_left, slice_range, Content, Bytes, Class, class_size}
+use Rattle.qrcode_bits.proofs.Prelude.{units, total_size, IsUnitEnd, IsCutPlace, ArePlacesBefore}
 use Rattle.qrcode_bits.proofs.{Cutting.units-split, Adjoining.size-cut}
 
 module _ (c : Content) (bytes : List ℕ) where

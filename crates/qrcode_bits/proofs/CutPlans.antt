@@ -1,8 +1,8 @@
 -- Each cut of adjoining segments is a merge plan.
-use Rattle.qrcode_bits.proofs.Prelude.{◌≡◌, ℕ, ◌+◌, ◌-◌, ◌<◌, ◌≤◌, List, [], ◌∷◌, ◌++◌, length, refl, sym, ap, ◌∙◌, subst, arith, All-nil, All-cons, flat_map}
-use Rattle.qrcode_bits.proofs.Prelude.{Version, Mode, join, Segment, merged, merged_all, total_bits, segment_bits, IsMergePlan}
-use Rattle.qrcode_bits.proofs.{Adjoining.Adjoin, CuttingPlans.AreNonEmpty, CuttingPlans.joined}
-use Rattle.qrcode_bits.proofs.Cuts.{piece_bits, data_bits-below, Cut, Parted, alone, together, none, some}
+use Rattle.qrcode_bits.proofs.Prelude.{◌≡◌, ℕ, ◌+◌, ◌-◌, ◌≤◌, List, [], ◌∷◌, ◌++◌, refl, sym, ap, ◌∙◌, subst, arith, All-nil, All-cons, flat_map, Version, Mode}
+use Rattle.qrcode_bits.proofs.Prelude.{join, Segment, merged, merged_all, total_bits, segment_bits, IsMergePlan}
+use Rattle.qrcode_bits.proofs.{Adjoining.Adjoin, CuttingPlans.IsSome, CuttingPlans.AreNonEmpty, CuttingPlans.joined, Cuts.piece_bits, Cuts.data_bits-below}
+use Rattle.qrcode_bits.proofs.Cuts.{Cut, Parted, alone, together, none, some}
 
 pub record IsCutPlan (v : Version) (from : ℕ) (ss : List Segment) (j : Mode) (s t : ℕ) : Type 0 where
   pub first : Segment
@@ -27,9 +27,6 @@ segment_bits-below v m j s from e b f =
     let size : m.end - m.begin ≡ s = omega arith in
     subst (λ k. segment_bits v m ≤ piece_bits v k s) e
     (subst (λ n. segment_bits v m ≤ piece_bits v m.mode n) size (omega (arith, data_bits-below m.mode (m.end - m.begin))))
-
-abbrev IsSome : List Segment → Type 0
-IsSome piece = 0 < length piece
 
 mutual
   cut-plan : (v : Version) {ss : List Segment} {j : Mode} {s t : ℕ} → Cut v ss j s t → (from to : ℕ) → Adjoin from ss to → IsCutPlan v from ss j s t

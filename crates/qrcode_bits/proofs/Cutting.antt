@@ -1,19 +1,13 @@
 -- Data that lie within data that fit, fit too.
 use Rattle.qrcode_bits.proofs.Prelude.{◌≡◌, ℕ, zero, suc, ◌+◌, ◌-◌, ◌<◌, ◌≤◌, Bool, true, false, List, [], ◌∷◌, ◌++◌, length, take, drop, refl, sym, ap, ◌∙◌}
-use Rattle.qrcode_bits.proofs.Prelude.{subst, arith, inl, inr, cases_lt}
-use Rattle.qrcode_bits.proofs.Prelude.{one-add, take-add, drop-drop, slice_range, is_kanji_pair, EcLevel, Segment, Class, Pair, class_of, units, parsed}
-use Rattle.qrcode_bits.proofs.Prelude.{parsed_bytes, normal, Fits, FitsNot, FitsNone}
-use Rattle.qrcode_bits.proofs.Prelude.{length-append, length-drop, total_bits, Content, Bytes, Text, Elements, All, All-head, All-tail, All-nil, map}
-use Rattle.qrcode_bits.proofs.Prelude.{take-length, content_bits, IsMergePlan, ◌≢◌, L, M, Q, H, capacity, Some}
-use Rattle.qrcode_bits.proofs.{Cuts.Parted, Carrying.segments_of}
-use Rattle.qrcode_bits.specs.Places.{total_size, IsUnitEnd, IsCutPlace}
-use Rattle.qrcode_bits.proofs.{Adjoining.class_of-one, Adjoining.parsed-adjoin, Adjoining.units-size, Runs.class_size-some, Shortest.units-pair}
-use Rattle.qrcode_bits.proofs.{Shortest.units-apart, Shortest.units-alone, Shortest.low-no_lead, CutPlans.parted-merges}
-use Rattle.qrcode_bits.proofs.{Numbers.length-number_bits, Contents.parsed-low, Contents.length-parsed, Contents.slice-parsed}
-use Rattle.std.proofs.lemmas.List.{length-map}
-use Rattle.qrcode_bits.proofs.{Choices.fits_normal, Within.within-plan, CuttingPlans.slice-seam, Texts.slice-join, Adjoining.size-cut, Shortest.units-single}
-use Rattle.std.proofs.lemmas.List.Elements.{All-weaker}
-use Rattle.qrcode_base.specs.Characters.{is_lead}
+use Rattle.qrcode_bits.proofs.Prelude.{subst, arith, inl, inr, cases_lt, one-add, slice_range, is_kanji_pair, EcLevel, Segment, Class, Pair, class_of, units}
+use Rattle.qrcode_bits.proofs.Prelude.{parsed, parsed_bytes, normal, FitsNone, length-append, length-drop, Content, Bytes, Text, Elements, All-nil, map}
+use Rattle.qrcode_bits.proofs.Prelude.{take-length, content_bits, IsMergePlan, ◌≢◌, L, M, Q, H, capacity, Some, total_size, IsUnitEnd, IsCutPlace, length-map}
+use Rattle.qrcode_bits.proofs.Prelude.{All-weaker, is_lead}
+use Rattle.qrcode_bits.proofs.{Adjoining.class_of-one, Adjoining.units-size, Adjoining.size-cut, Runs.class_size-some, Shortest.units-pair}
+use Rattle.qrcode_bits.proofs.{Shortest.units-apart, Shortest.low-no_lead, Shortest.units-single, Numbers.length-number_bits, Contents.parsed-low}
+use Rattle.qrcode_bits.proofs.{Contents.length-parsed, Contents.slice-parsed, Choices.fits_normal, Within.within-plan, CuttingPlans.slice-seam}
+use Rattle.qrcode_bits.proofs.Texts.{slice-join}
 
 -- ---- The units of first bytes, and of those after them
 

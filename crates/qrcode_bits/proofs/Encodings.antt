@@ -2,13 +2,10 @@
 -- stream is a frame.
 use Rattle.qrcode_bits.proofs.Prelude.{◌≡◌, ℕ, ◌+◌, ◌<◌, ◌≤◌, List, ◌∷◌, ◌++◌, length, ap, sym, ◌∙◌, subst, arith, length-append, EcLevel, QrError, OutOfMemory}
 use Rattle.qrcode_bits.proofs.Prelude.{Segment, total_bits, Fits, no_modes, Front, HasFront, front_bits, spellings, Stream, Spells, EndsAtLevel, IsLevelRefused}
-use Rattle.qrcode_bits.proofs.Prelude.{with_modes, IsPlanStream, drop, drop-cons, Piece, IsSpellable, All, All-head, All-tail, drop_all, append-nil, segment_at}
-use Rattle.qrcode_bits.proofs.Prelude.{Version, Mode, Content, Bytes, Text, Elements, Numeric, Alphanumeric, Byte, Kanji, AreDataOf, parsed_bytes, pieces_of}
-use Rattle.qrcode_bits.proofs.Prelude.{piece_text}
-use Rattle.qrcode_bits.proofs.Prelude.{slice_range, refl, ended, Some, capacity}
-use Rattle.qrcode_bits.specs.Spelling.{piece_of}
+use Rattle.qrcode_bits.proofs.Prelude.{with_modes, IsPlanStream, drop, drop-cons, IsSpellable, All, All-head, All-tail, drop_all, append-nil, segment_at}
+use Rattle.qrcode_bits.proofs.Prelude.{Version, Mode, Content, Elements, AreDataOf, parsed_bytes, pieces_of, piece_text, slice_range, refl, ended, Some}
+use Rattle.qrcode_bits.proofs.Prelude.{capacity, common_steps, piece_of}
 use Rattle.qrcode_bits.proofs.{Choices.some_same, PlanFrames.own_piece, PlanFrames.spelled_plan, PlanFrames.plan_frame, Contents.slice-parsed}
-use Rattle.std.proofs.lemmas.Grind.{common_steps}
 
 -- ---- The piece of a segment
 

@@ -1,25 +1,16 @@
 -- Each frame whose pieces keep the parsed units has a plan that fits.
-use Rattle.qrcode_bits.proofs.Prelude.{ℕ, ◌+◌, ◌≤◌, Bool, true, false, List, [], ◌∷◌, ◌++◌, length, sym, subst, arith, inl, inr, cases_lt}
-use Rattle.qrcode_bits.proofs.Prelude.{All, All-head, All-tail, All-nil, All-cons, Option, map, if◌then◌else◌, length-append, Version, EcLevel, Mode, HasMode}
-use Rattle.qrcode_bits.proofs.Prelude.{IsWithin, same, digits, bytes, Segment, Class, Run, class_mode, class_size, joins, add_unit, runs, run_segment, units}
-use Rattle.qrcode_bits.proofs.Prelude.{parsed, All-append, flat_map}
-use Rattle.std.proofs.lemmas.List.Elements.{All-map, All-weaker}
-use Rattle.qrcode_bits.proofs.Prelude.{Piece, IsSpellable, spellings, message, Header, Front, front_of, front_bits, IsFrame, IsMergePlan, total_bits, Fits}
-use Rattle.qrcode_bits.proofs.Prelude.{FitsNot, FitsNone, IsChoice}
-use Rattle.qrcode_bits.proofs.Prelude.{capacity, normal, micro, Some, ◌≡◌, zero, suc, slice_get_past, normal_blocks}
-use Rattle.qrcode_bits.proofs.{Choices.fits_last, Choices.all_blocks}
-use Rattle.qrcode_bits.proofs.Prelude.{◌≢◌, ◌<◌, refl, ap, ◌∙◌, map-append, spelling, Kanji, IsValid, Content, Bytes, Text, Elements, AreAllowed, piece_data}
-use Rattle.qrcode_bits.proofs.Prelude.{piece_data, character_bits, data_bits, characters}
-use Rattle.qrcode_bits.proofs.Prelude.{parsed_byte, parsed_bytes}
-use Rattle.qrcode_bits.specs.Spelling.{piece_of}
-use Rattle.qrcode_bits.specs.Contents.{percent}
-use Rattle.qrcode_bits.proofs.{Reading.length-spelling, Segments.length-character_bits}
-use Rattle.qrcode_bits.proofs.Contents.{IsPlain, map-parsed, parsed_piece, parsed-size, parsed-low}
-use Rattle.qrcode_bits.proofs.Shortest.{low-no_lead, no_lead-no_pair}
-use Rattle.qrcode_bits.specs.Frame.{KeepUnits, HasNoPair, HasSingleUnits}
-use Rattle.qrcode_bits.proofs.{Cuts.UpTo, Carrying.Added, Carrying.one_before, Carrying.one_longer, Carrying.units-added, Carrying.segments_of, Choices.has_within, Choices.All-front, Choices.All-back, Choices.pieces-had, Shortest.units_of}
-use Rattle.qrcode_bits.proofs.{Shortest.units-up_to}
-use Rattle.qrcode_bits.proofs.{Shortest.shortest, Shortest.no_pair-kept, CuttingPlans.chosen-least}
+use Rattle.qrcode_bits.proofs.Prelude.{ℕ, ◌+◌, ◌≤◌, Bool, List, [], ◌∷◌, ◌++◌, length, sym, subst, arith, inl, inr, cases_lt, All, All-head, All-tail, All-nil}
+use Rattle.qrcode_bits.proofs.Prelude.{All-cons, Option, map, length-append, Version, EcLevel, Mode, HasMode, IsWithin, same, digits, bytes, Segment, Class}
+use Rattle.qrcode_bits.proofs.Prelude.{class_mode, class_size, units, parsed, All-append, flat_map, Piece, IsSpellable, spellings, message, Header, Front}
+use Rattle.qrcode_bits.proofs.Prelude.{front_of, front_bits, IsFrame, IsMergePlan, total_bits, Fits, FitsNot, FitsNone, IsChoice, capacity, normal, micro, Some}
+use Rattle.qrcode_bits.proofs.Prelude.{◌≡◌, zero, suc, slice_get_past, normal_blocks, ◌≢◌, refl, ap, ◌∙◌, map-append, spelling, Kanji, Content, Bytes, Text}
+use Rattle.qrcode_bits.proofs.Prelude.{Elements, piece_data, character_bits, data_bits, characters, parsed_bytes, All-map, All-weaker, percent, KeepUnits}
+use Rattle.qrcode_bits.proofs.Prelude.{HasNoPair, HasSingleUnits}
+use Rattle.qrcode_bits.proofs.Choices.{fits_last, all_blocks, has_within, All-front, All-back, pieces-had}
+use Rattle.qrcode_bits.proofs.{Reading.length-spelling, Segments.length-character_bits, Contents.IsPlain, Contents.map-parsed, Contents.parsed_piece}
+use Rattle.qrcode_bits.proofs.{Contents.parsed-size, Contents.parsed-low, Shortest.low-no_lead, Shortest.no_lead-no_pair, Shortest.units_of}
+use Rattle.qrcode_bits.proofs.{Shortest.units-up_to, Shortest.shortest, Shortest.no_pair-kept, Cuts.UpTo, Carrying.Added, Carrying.one_before}
+use Rattle.qrcode_bits.proofs.{Carrying.one_longer, Carrying.units-added, Carrying.segments_of, CuttingPlans.chosen-least}
 
 within_up_to : (j m : Mode) → UpTo j m → IsWithin j m
 within_up_to j m h = grind (arith, same, digits, bytes)
@@ -135,7 +126,8 @@ plain-plan v l header c s payload bits frame plain others apart =
     let e = parsed-message c frame.pieces in
     subst (λ z. Fitting v l front z payload) e
     (pieces-plan v l front frame.limit payload pieces frame.limit_is (All-map (IsSpellable v) (parsed_piece c) frame.pieces (λ k d w. (each k d w).0))
-    (no_pair-kept pieces (subst HasNoPair (sym e) (no_lead-no_pair _ (λ k d w. low-no_lead _ (parsed-low c plain (flat_map (piece_data c) frame.pieces) k d w)))))
+    (no_pair-kept pieces (subst HasNoPair (sym e) (no_lead-no_pair _ (λ k d w. low-no_lead _
+    (parsed-low c plain (flat_map (piece_data c) frame.pieces) k d w)))))
     (omega (arith, frame-long v l (front_of header c) s payload bits frame, spellings-parsed v c frame.pieces each)) frame.fits)
 
 all-pieces : (P : ℕ → Type 0) (f : Piece → List ℕ) (ps : List Piece) → All P (flat_map f ps) → All (λ p. All P (f p)) ps
@@ -147,7 +139,8 @@ content-plan : (v : Version) (l : EcLevel) (header : Option Header) (c : Content
     (frame : IsFrame v l (front_of header c) s payload bits) → HasSingleUnits c (flat_map (piece_data c) frame.pieces) →
     Fitting v l (length (front_bits (front_of header c))) (parsed_bytes c (flat_map (piece_data c) frame.pieces)) payload
 content-plan v l header Bytes s payload bits frame apart =
-    subst (λ z. Fitting v l (length (front_bits (front_of header Bytes))) z payload) frame.bytes_are (frame-plan v l header s payload bits frame (no_pair-kept frame.pieces apart))
+    subst (λ z. Fitting v l (length (front_bits (front_of header Bytes))) z payload) frame.bytes_are
+    (frame-plan v l header s payload bits frame (no_pair-kept frame.pieces apart))
 content-plan v l header Text s payload bits frame apart = plain-plan v l header Text s payload bits frame tt frame.allowed (λ k d w. tt)
 content-plan v l header Elements s payload bits frame apart =
     plain-plan v l header Elements s payload bits frame tt frame.allowed (all-pieces (λ b. b ≢ percent) (piece_data Elements) frame.pieces apart)

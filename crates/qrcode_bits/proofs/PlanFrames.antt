@@ -1,15 +1,13 @@
 -- The parts of a plan that fits, spelled one after the other, are the front of a frame of
 -- the bytes.
-use Rattle.qrcode_bits.proofs.Prelude.{◌≡◌, ◌≢◌, ℕ, ◌+◌, ◌-◌, ◌<◌, ◌≤◌, List, [], ◌∷◌, ◌++◌, length, take, drop, refl, sym, ap, ◌∙◌, subst, arith}
-use Rattle.qrcode_bits.proofs.Prelude.{length-append, All, slice_range, All-head, All-tail, All-take, All-drop, take-length, length-drop, Version, EcLevel}
-use Rattle.qrcode_bits.proofs.Prelude.{Kanji, IsValid, Segment, AreTexts, segment_bits, total_bits, Fits, spelling, segment_pieces}
-use Rattle.qrcode_bits.proofs.Prelude.{Front, HasFront, front_bits, Piece, spellings, ended, IsFrame, IsSpellable, Content, Bytes, Text}
-use Rattle.qrcode_bits.proofs.Prelude.{flat_map, Elements, AreAllowed, AreDataOf, piece_data, parsed_bytes, pieces_of, piece_text, common_steps}
-use Rattle.qrcode_bits.specs.Spelling.{piece_of}
-use Rattle.std.proofs.lemmas.List.Elements.{All-map}
-use Rattle.qrcode_bits.proofs.{Growth.fits-counts, Reading.length-spelling, Segments.length-character_bits, Frames.ended_frame}
+use Rattle.qrcode_bits.proofs.Prelude.{◌≡◌, ◌≢◌, ℕ, ◌+◌, ◌-◌, ◌<◌, List, [], ◌∷◌, ◌++◌, length, take, drop, refl, sym, ap, ◌∙◌, subst, arith, length-append}
+use Rattle.qrcode_bits.proofs.Prelude.{All, slice_range, All-head, All-tail, All-take, All-drop, take-length, Version, EcLevel, Kanji, IsValid, Segment}
+use Rattle.qrcode_bits.proofs.Prelude.{AreTexts, segment_bits, total_bits, Fits, spelling, segment_pieces, Front, HasFront, front_bits, Piece, spellings, ended}
+use Rattle.qrcode_bits.proofs.Prelude.{IsFrame, IsSpellable, Content, Bytes, Text, flat_map, Elements, AreAllowed, AreDataOf, piece_data, parsed_bytes}
+use Rattle.qrcode_bits.proofs.Prelude.{pieces_of, piece_text, common_steps, piece_of, All-map}
 use Rattle.qrcode_bits.proofs.Contents.{length-parsed, slice-parsed, parsed-bytes, IsPlain, plain-no_pairs, written-valid, length-written, written-read}
 use Rattle.qrcode_bits.proofs.Texts.{IsText, texts-each, texts-reach, texts-plan, slice-join, length-slice}
+use Rattle.qrcode_bits.proofs.{Growth.fits-counts, Reading.length-spelling, Segments.length-character_bits, Frames.ended_frame}
 
 whole_slice : (xs : List ℕ) → slice_range xs 0 (length xs) ≡ xs
 whole_slice xs = grind (arith, common_steps, take-length)

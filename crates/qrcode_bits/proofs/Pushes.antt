@@ -1,8 +1,8 @@
 -- Several pushes, one after the other.
-use Rattle.qrcode_bits.proofs.Prelude.{◌≡◌, ℕ, ◌+◌, ◌<◌, List, [], ◌∷◌, ◌++◌, length, drop, drop-cons, append_assoc, append-nil}
-use Rattle.qrcode_bits.proofs.Prelude.{arith, length-append, Some, Result, Ok, Err, inl, inr, ◌⊎◌, All, slice_get, slice_get_past, take-length}
-use Rattle.qrcode_bits.proofs.Prelude.{All-head, All-tail, QrError, OutOfMemory, IsValid, IsFirstInvalid, Segment, Piece, IsSpellable, segment_piece}
-use Rattle.qrcode_bits.proofs.Prelude.{segment_pieces, segment_at, Stream, Spells, SpellsAll, StopsAt, PushesDrawn, IsPushRefused, common_steps}
+use Rattle.qrcode_bits.proofs.Prelude.{◌≡◌, ℕ, ◌<◌, List, [], ◌∷◌, ◌++◌, length, append_assoc, append-nil, arith, length-append, Some, Result, Ok, Err, inl}
+use Rattle.qrcode_bits.proofs.Prelude.{inr, ◌⊎◌, All, slice_get, slice_get_past, take-length, All-head, All-tail, QrError, OutOfMemory, IsValid, IsFirstInvalid}
+use Rattle.qrcode_bits.proofs.Prelude.{Segment, Piece, IsSpellable, segment_piece, segment_pieces, Stream, Spells, SpellsAll, StopsAt, PushesDrawn}
+use Rattle.qrcode_bits.proofs.Prelude.{IsPushRefused, common_steps}
 
 pub spells_none : (s : Stream) → SpellsAll s s []
 spells_none s = grind (arith, append-nil)

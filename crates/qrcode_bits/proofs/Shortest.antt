@@ -1,19 +1,13 @@
 -- No segmentation that keeps the parsed units is shorter than the chosen plan.
-use Rattle.qrcode_bits.proofs.Prelude.{◌≡◌, ℕ, ◌+◌, ◌<◌, ◌≤◌, Bool, true, false, List, [], ◌∷◌, ◌++◌, length, refl, sym, ap, ◌∙◌, subst, arith, inl}
-use Rattle.qrcode_bits.proofs.Prelude.{All, All-head, All-tail, flat_map, Contains, alphabet, length-append, Version, Mode, Segment}
-use Rattle.qrcode_bits.proofs.Prelude.{Numeric, Alphanumeric, Byte, Kanji, is_alphanumeric, is_kanji_pair, IsDigit, IsKanjiText, IsValid, data_bits, characters}
-use Rattle.qrcode_bits.proofs.Prelude.{Class, Pair, class_of, class_mode, units, parsed, Piece, IsSpellable, spelling, spellings, message, IsMergePlan}
-use Rattle.qrcode_bits.proofs.Prelude.{total_bits}
-use Rattle.qrcode_bits.proofs.Prelude.{get_or, nat_lt, ltb-true, map, All-nil, All-cons}
-use Rattle.std.proofs.lemmas.List.Elements.{All-map, All-weaker}
-use Rattle.qrcode_bits.specs.Places.{total_size}
-use Rattle.qrcode_base.specs.Characters.{is_lead}
-use Rattle.qrcode_bits.proofs.Characters.{value_below, character_at_value}
+use Rattle.qrcode_bits.proofs.Prelude.{◌≡◌, ℕ, ◌+◌, ◌<◌, ◌≤◌, Bool, true, false, List, [], ◌∷◌, ◌++◌, length, refl, sym, ap, ◌∙◌, subst, arith, inl, All}
+use Rattle.qrcode_bits.proofs.Prelude.{All-head, All-tail, flat_map, Contains, alphabet, length-append, Version, Mode, Segment, Numeric, Alphanumeric, Byte}
+use Rattle.qrcode_bits.proofs.Prelude.{Kanji, is_kanji_pair, IsDigit, IsKanjiText, IsValid, data_bits, characters, Class, Pair, class_of, class_mode, units}
+use Rattle.qrcode_bits.proofs.Prelude.{parsed, Piece, IsSpellable, spelling, spellings, message, IsMergePlan, total_bits, get_or, nat_lt, ltb-true, map}
+use Rattle.qrcode_bits.proofs.Prelude.{All-nil, All-cons, All-map, All-weaker, total_size, is_lead, KeepUnits, HasNoPair}
 use Rattle.qrcode_base.proofs.Alphabet.{each_below, from_each_below, is_alphanumeric-from_inside}
-use Rattle.qrcode_bits.specs.Frame.{KeepUnits, HasNoPair}
-use Rattle.qrcode_bits.proofs.{Cuts.UpTo, Cuts.bits_of, Cuts.piece_bits, Cuts.Parted, Cuts.none, Carrying.segments_of, Carrying.AreUpTo, Carrying.one_piece}
-use Rattle.qrcode_bits.proofs.{CutPlans.parted-merges}
-use Rattle.qrcode_bits.proofs.{Adjoining.parsed-adjoin, Adjoining.units-size, Reading.length-spelling, Segments.length-character_bits}
+use Rattle.qrcode_bits.proofs.{Characters.value_below, Characters.character_at_value, Cuts.UpTo, Cuts.bits_of, Cuts.piece_bits, Cuts.Parted, Cuts.none}
+use Rattle.qrcode_bits.proofs.{Carrying.segments_of, Carrying.AreUpTo, Carrying.one_piece, CutPlans.parted-merges, Adjoining.parsed-adjoin}
+use Rattle.qrcode_bits.proofs.{Adjoining.units-size, Reading.length-spelling, Segments.length-character_bits}
 
 -- ---- The units of a text are of classes that its mode can encode
 

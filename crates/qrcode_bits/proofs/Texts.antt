@@ -1,14 +1,13 @@
 -- Parsed segments, and those merged from them, are texts of their modes.
 use Rattle.qrcode_bits.proofs.Prelude.{◌≡◌, ℕ, ◌+◌, ◌-◌, ◌<◌, ◌≤◌, Bool, true, false, List, [], ◌∷◌, ◌++◌, length, map, take, drop, refl, sym, ap, ◌∙◌, subst}
-use Rattle.qrcode_bits.proofs.Prelude.{arith, All, slice_range, flat_map, drop-drop, take-add, take-length, All-head, All-nil, All-drop, Kanji, join}
-use Rattle.qrcode_bits.proofs.Prelude.{is_kanji_pair, IsKanjiText, IsValid, Segment, Class, Pair, Run, class_of, class_mode, class_size, add_unit, runs}
-use Rattle.qrcode_bits.proofs.Prelude.{units, run_segment, parsed, AreTexts, merged, merged_all, IsMergePlan, segment_pieces, LiesIn, message, common_steps}
+use Rattle.qrcode_bits.proofs.Prelude.{arith, All, All-tail, slice_range, flat_map, drop-drop, take-add, All-head, All-nil, All-drop, Kanji, join}
+use Rattle.qrcode_bits.proofs.Prelude.{is_kanji_pair, IsKanjiText, IsValid, Segment, Class, Pair, Run, class_of, class_mode, class_size, add_unit, runs, units}
+use Rattle.qrcode_bits.proofs.Prelude.{run_segment, parsed, AreTexts, merged, merged_all, IsMergePlan, LiesIn, common_steps, All-cons, length-drop, All-weaker}
 use Rattle.std.proofs.lemmas.List.{length-take-le}
-use Rattle.std.proofs.lemmas.List.Elements.{All-weaker}
-use Rattle.qrcode_bits.proofs.Prelude.{All-cons, length-drop}
-use Rattle.qrcode_base.{proofs.Joins.join-upper, proofs.Joins.join-upper_second, proofs.Alphabet.is_alphanumeric-inside}
-use Rattle.qrcode_bits.proofs.{CuttingPlans.AreNonEmpty, CuttingPlans.joined, CuttingPlans.first-some, CuttingPlans.rest-some, Runs.class_size-some}
-use Rattle.qrcode_bits.proofs.{Runs.joins-same, Adjoining.class_of-one, Upward.valid-append, Upward.valid-upward}
+use Rattle.qrcode_base.proofs.Joins.{join-upper, join-upper_second}
+use Rattle.qrcode_base.proofs.Alphabet.{is_alphanumeric-inside}
+use Rattle.qrcode_bits.proofs.{CuttingPlans.AreNonEmpty, CuttingPlans.joined, CuttingPlans.IsSome, Runs.class_size-some, Runs.joins-same}
+use Rattle.qrcode_bits.proofs.{Adjoining.class_of-one, Upward.valid-append, Upward.valid-upward}
 
 -- ---- Slices
 
@@ -87,11 +86,11 @@ module _ (whole : List ℕ) where
   pub texts-pieces : (from to : ℕ) (pieces : List (List Segment)) → AreNonEmpty pieces → AreTexts whole from (joined pieces) to →
       AreTexts whole from (flat_map merged_all pieces) to
   texts-pieces from to [] some h = h
-  texts-pieces from to ([] ∷ ps) some h = absurd (omega (arith, first-some [] ps some))
+  texts-pieces from to ([] ∷ ps) some h = absurd (omega (arith, All-head IsSome [] ps some))
   texts-pieces from to ((s ∷ ss) ∷ ps) some h =
       let w = texts-split from to (s ∷ ss) (joined ps) h in
       texts-append from w.0 to (merged s ss ∷ []) (flat_map merged_all ps) (texts-merged s ss from w.0 w.1)
-      (texts-pieces w.0 to ps (rest-some (s ∷ ss) ps some) w.2)
+      (texts-pieces w.0 to ps (All-tail IsSome (s ∷ ss) ps some) w.2)
 
   -- Each part of a plan of the parsed segments is a text of its mode, and the parts together are
   -- all the bytes.

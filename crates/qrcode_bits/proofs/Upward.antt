@@ -1,8 +1,7 @@
 -- What a mode can encode, each greater mode can encode too.
 use Rattle.qrcode_bits.proofs.Prelude.{◌≡◌, ℕ, ◌+◌, ◌-◌, ◌<◌, Bool, true, List, [], ◌∷◌, ◌++◌, refl, ◌∙◌, subst, arith, get_or, All, Contains, nat_lt, ◌==◌}
 use Rattle.qrcode_bits.proofs.Prelude.{get_or_default_zero, ltb-true, eqb-true, All-nil, All-append, Mode, Numeric, Alphanumeric, Byte, Kanji, IsWithin, same}
-use Rattle.qrcode_bits.proofs.Prelude.{digits, bytes, IsDigit, alphabet, IsKanjiText, IsValid}
-use Rattle.std.proofs.lemmas.List.Elements.{All-weaker}
+use Rattle.qrcode_bits.proofs.Prelude.{digits, bytes, IsDigit, alphabet, IsKanjiText, IsValid, All-weaker}
 use Rattle.qrcode_base.proofs.Alphabet.{each_below, from_each_below}
 use Rattle.qrcode_bits.proofs.Characters.{value_below, character_at_value, kanji_trail}
 

@@ -1,15 +1,14 @@
 -- Units that lie within units that some plan fits have a plan that takes no more bits.
-use Rattle.qrcode_bits.proofs.Prelude.{◌≡◌, ℕ, ◌+◌, ◌-◌, ◌<◌, ◌≤◌, List, [], ◌∷◌, ◌++◌, length, take, drop, refl, sym, ap, ◌∙◌, subst, arith, ◌⊎◌, inl, inr}
-use Rattle.qrcode_bits.proofs.Prelude.{cases_lt, drop_all, length-drop, slice_range, take-append-drop, All-nil, All-cons, All-head, All-tail, All-append, All-take, All-drop}
-use Rattle.qrcode_bits.proofs.Prelude.{flat_map, append_assoc, append-nil, common_steps, Version, Mode, Kanji, join, Segment, merged, merged_all, segment_bits, total_bits}
-use Rattle.qrcode_bits.proofs.Prelude.{data_bits, characters, IsMergePlan, Class, class_mode, class_size, parsed, units}
+use Rattle.qrcode_bits.proofs.Prelude.{◌≡◌, ℕ, ◌+◌, ◌-◌, ◌≤◌, List, [], ◌∷◌, ◌++◌, length, take, drop, refl, sym, ap, ◌∙◌, subst, arith, inl, cases_lt}
+use Rattle.qrcode_bits.proofs.Prelude.{drop_all, length-drop, slice_range, take-append-drop, All-nil, All-cons, All-head, All-tail, All-append, All-take}
+use Rattle.qrcode_bits.proofs.Prelude.{All-drop, flat_map, append_assoc, append-nil, common_steps, Version, Mode, Kanji, join, Segment, merged, merged_all}
+use Rattle.qrcode_bits.proofs.Prelude.{segment_bits, total_bits, data_bits, characters, IsMergePlan, Class, class_mode, class_size, parsed, units, All-weaker}
+use Rattle.qrcode_bits.proofs.Prelude.{total_size}
 use Rattle.std.proofs.lemmas.List.{drop-append-le, take-append-le, take_all}
-use Rattle.std.proofs.lemmas.List.Elements.{All-weaker}
 use Rattle.std.proofs.Math.Seq.{drop-append-add, take-append-add}
-use Rattle.qrcode_bits.specs.Places.{total_size}
-use Rattle.qrcode_bits.proofs.{Adjoining.Adjoin, Adjoining.parsed-adjoin, CuttingPlans.AreNonEmpty, CuttingPlans.joined, CuttingPlans.first-some}
-use Rattle.qrcode_bits.proofs.{CuttingPlans.rest-some, Carrying.Added, Carrying.one_before, Carrying.one_longer, Carrying.AreUpTo, Carrying.segments_of, Carrying.units-added}
-use Rattle.qrcode_bits.proofs.{Cuts.UpTo, Cuts.bits_of, Cuts.piece_bits, Cuts.join-above, Cuts.join-above_second, Adjoining.size-append, Adjoining.size-cut}
+use Rattle.qrcode_bits.proofs.{Adjoining.Adjoin, Adjoining.parsed-adjoin, Adjoining.size-append, Adjoining.size-cut, CuttingPlans.AreNonEmpty}
+use Rattle.qrcode_bits.proofs.{CuttingPlans.joined, CuttingPlans.IsSome, Carrying.Added, Carrying.one_before, Carrying.one_longer, Carrying.AreUpTo}
+use Rattle.qrcode_bits.proofs.{Carrying.segments_of, Carrying.units-added, Cuts.UpTo, Cuts.bits_of, Cuts.piece_bits, Cuts.join-above, Cuts.join-above_second}
 use Rattle.qrcode_bits.proofs.Shortest.{Bundle, AreCoded, all_classes, bundle_bits, bundles-plan}
 
 -- ---- A merge plan as bundles of units
@@ -102,10 +101,10 @@ plan_bundles : (v : Version) (pieces : List (List Segment)) (from to : ℕ) (cs 
     Covers (joined pieces) cs →
     (bs : List Bundle) × AreCoded bs × (all_classes bs ≡ cs) × (bundle_bits v bs ≡ total_bits v (flat_map merged_all pieces))
 plan_bundles v [] from to cs full h c = ([], tt, sym c, refl)
-plan_bundles v ([] ∷ pieces) from to cs full h c = absurd (omega (arith, first-some [] pieces full))
+plan_bundles v ([] ∷ pieces) from to cs full h c = absurd (omega (arith, All-head IsSome [] pieces full))
 plan_bundles v ((first ∷ more) ∷ pieces) from to cs full h c =
     let p = bundled first more (joined pieces) from to cs h c in
-    let rest = plan_bundles v pieces (merged first more).end to p.others (rest-some (first ∷ more) pieces full) p.after p.later in (
+    let rest = plan_bundles v pieces (merged first more).end to p.others (All-tail IsSome (first ∷ more) pieces full) p.after p.later in (
       record { mode = (merged first more).mode; classes = p.own } ∷ rest.0,
       (p.coded, rest.1),
       ap (λ z. p.own ++ z) rest.2 ∙ sym p.whole,

@@ -1,8 +1,7 @@
 -- The parts of a plan that fits are spelled and ended; only an allocation can fail.
-use Rattle.qrcode_bits.proofs.Prelude.{◌<◌, arith, err_from_is_err_and, common_steps, sym, subst, All, IsSpellable, Spells, Piece}
-use Rattle.qrcode_bits.proofs.Prelude.{segment_at}
-use Rattle.qrcode_bits.proofs.{Pairs.bytes_valid, Texts.plan_lies, Pushes.spellable_refused, Contents.parsed-bytes}
-use Rattle.qrcode_bits.proofs.Encodings.{part_spellable, pushed_none, pushed_more, plan_end_refused, plan_stream, own_is}
+use Rattle.qrcode_bits.proofs.Prelude.{◌<◌, arith, err_from_is_err_and, common_steps, sym, subst, All, IsSpellable, Spells, Piece, segment_at}
+use Rattle.qrcode_bits.proofs.{Pairs.bytes_valid, Texts.plan_lies, Pushes.spellable_refused, Contents.parsed-bytes, Encodings.part_spellable}
+use Rattle.qrcode_bits.proofs.Encodings.{pushed_none, pushed_more, plan_end_refused, plan_stream, own_is}
 use Rattle.qrcode_bits.proofs.bits.choice.encode_plan.Goals as goal
 
 pub loop-part-init : goal.loop-part-init

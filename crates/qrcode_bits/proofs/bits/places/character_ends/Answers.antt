@@ -1,8 +1,7 @@
-use Rattle.qrcode_bits.proofs.Prelude.{◌≡◌, ◌+◌, length, refl, sym, subst, arith, Text}
-use Rattle.qrcode_bits.specs.Places.{ArePlacesBefore}
+use Rattle.qrcode_bits.proofs.Prelude.{◌≡◌, ◌+◌, length, refl, sym, subst, arith, Text, ArePlacesBefore}
+use Rattle.qrcode_bits.proofs.bits.places.character_ends.Goals.{then-is_character_start+in_ok-push, else-is_character_start}
 use Rattle.qrcode_bits.proofs.CutPlaces.{none_before, one_place, no_place, last_end}
 use Rattle.qrcode_bits.proofs.bits.places.character_ends.Goals as goal
-use Rattle.qrcode_bits.proofs.bits.places.character_ends.Goals.{then-is_character_start+in_ok-push, else-is_character_start}
 
 pub loop-at-init : goal.loop-at-init
 loop-at-init c = subst (ArePlacesBefore 0 Text c.args.text.now) (sym c.new-places.ensures.items) (none_before Text c.args.text.now)

@@ -1,6 +1,5 @@
 -- The places before this one were found.
-use Rattle.qrcode_bits.proofs.Prelude.{Text}
-use Rattle.qrcode_bits.specs.Places.{ArePlacesBefore}
+use Rattle.qrcode_bits.proofs.Prelude.{Text, ArePlacesBefore}
 use Rattle.qrcode_bits.proofs.bits.places.character_ends.Given as goal
 
 abbrev pub invariant-loop-at : goal.invariant-loop-at

@@ -1,9 +1,7 @@
-use Rattle.qrcode_bits.proofs.Prelude.{◌≡◌, ℕ, ◌+◌, ◌≤◌, ◌∷◌, refl, sym, subst, arith, drop, Bytes, Pair, class_of, units, slice_index_or}
-use Rattle.qrcode_bits.specs.Places.{ArePlacesBefore}
-use Rattle.qrcode_bits.proofs.CutPlaces.{none_before, start_end, step_end, last_end}
-use Rattle.qrcode_bits.proofs.Adjoining.{class_of-one}
-use Rattle.qrcode_bits.proofs.bits.places.unit_ends.Goals as goal
+use Rattle.qrcode_bits.proofs.Prelude.{◌≡◌, ◌+◌, ◌≤◌, ◌∷◌, sym, subst, arith, drop, Bytes, Pair, class_of, units, slice_index_or, ArePlacesBefore}
 use Rattle.qrcode_bits.proofs.bits.places.unit_ends.Goals.{then-is_pair_at, else-is_pair_at}
+use Rattle.qrcode_bits.proofs.{CutPlaces.none_before, CutPlaces.start_end, CutPlaces.step_end, CutPlaces.last_end, Adjoining.class_of-one}
+use Rattle.qrcode_bits.proofs.bits.places.unit_ends.Goals as goal
 
 pub loop-at-init : goal.loop-at-init
 loop-at-init c = (

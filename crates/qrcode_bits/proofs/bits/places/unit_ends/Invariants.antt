@@ -1,6 +1,5 @@
 -- The places before this one were found, and it is one.
-use Rattle.qrcode_bits.proofs.Prelude.{◌-◌, ◌≤◌, length, Bytes}
-use Rattle.qrcode_bits.specs.Places.{ArePlacesBefore, IsUnitEnd}
+use Rattle.qrcode_bits.proofs.Prelude.{◌-◌, ◌≤◌, length, Bytes, ArePlacesBefore, IsUnitEnd}
 use Rattle.qrcode_bits.proofs.bits.places.unit_ends.Given as goal
 
 abbrev pub invariant-loop-at : goal.invariant-loop-at

@@ -1,10 +1,8 @@
 -- One segment after the other.
 use Rattle.qrcode_bits.proofs.Prelude.{◌+◌, ◌<◌, ◌*◌, arith, refl, AreGroups, groups_of}
-use Rattle.qrcode_bits.proofs.ReadBack.{AreSteps-start, AreSteps-push}
-use Rattle.qrcode_bits.proofs.Grouping.{AreGroups-next, AreGroups-none}
-use Rattle.qrcode_bits.proofs.Ending.{step-small}
 use Rattle.qrcode_bits.proofs.optimize.linear.optimize_linear.Given.{Over}
 use Rattle.qrcode_bits.proofs.optimize.linear.optimize_linear.Goals.{After-advance, After-add_start}
+use Rattle.qrcode_bits.proofs.{ReadBack.AreSteps-start, ReadBack.AreSteps-push, Grouping.AreGroups-next, Grouping.AreGroups-none, Ending.step-small}
 use Rattle.qrcode_bits.proofs.optimize.linear.optimize_linear.Goals as goal
 
 pub loop-start-init : goal.loop-start-init
