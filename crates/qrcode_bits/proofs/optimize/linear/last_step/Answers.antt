@@ -1,6 +1,6 @@
 -- The best start of each bucket is tried.
 use Rattle.qrcode_bits.proofs.Prelude.{◌≡◌, ◌*◌, ◌^◌, ◌<◌, Some, refl, arith, IsBestStart, InBucket, bucket_mode}
-use Rattle.qrcode_bits.proofs.Grouping.{some-in, none-in}
+use Rattle.qrcode_bits.proofs.Grouping.{best-in, some-found, none-found}
 use Rattle.qrcode_bits.proofs.Ending.{IsGiven, rest-at, rest-within, enough, fits, sought-keeps, sought-takes, sought-nothing, sought-last}
 use Rattle.qrcode_bits.proofs.optimize.linear.last_step.Given.{Over}
 use Rattle.qrcode_bits.proofs.optimize.linear.last_step.Goals.{At-loop-bucket, After-is_some, then-is_some+then-is_better}
@@ -14,9 +14,9 @@ here : (g : Over) (c : After-is_some g) → (g.S.AnyStart.read c.index-groups-sl
     IsBestStart g.S.AnyStart.FAR c.args.segments.now c.args.version (bucket_mode c.loop-bucket.bucket)
     (InBucket c.args.segments.now c.args.end c.args.end (bucket_mode c.loop-bucket.bucket) c.loop-bucket.bucket)
     (Some (g.S.AnyStart.read c.index-groups-slot_of.result))
-here g c = some-in g.S.AnyStart.read g.S.AnyStart.FAR c.args.segments.now c.args.version c.args.end c.args.groups.now c.requires.long c.requires.groups
+here g c few = best-in g.S.AnyStart.read g.S.AnyStart.FAR c.args.segments.now c.args.version c.args.end c.args.groups.now c.requires.long c.requires.groups
     c.loop-bucket.bucket c.slot_of.result c.bucket_mode-mode.result c.index-groups-slot_of.result c.loop-bucket-test.true c.bucket_mode-mode.ensures
-    c.slot_of.ensures.slot c.index-groups-slot_of.is
+    c.slot_of.ensures.slot c.index-groups-slot_of.is _ (some-found _ _ few)
 
 pub overflow_sub-last_end-then-is_some : goal.overflow_sub-last_end-then-is_some
 overflow_sub-last_end-then-is_some g c =
@@ -52,9 +52,9 @@ loop-bucket-preserved g c =
             (here g at.After-is_some w.if-is_some.ensures.some) _ _ _ _ c.bucket_mode-mode.ensures (rest-at _ c.loop-bucket-test.true)
             w.part_len-bits.ensures (rw (w.FAR.ensures, w.period_bits.ensures) refl) best before (rw w.moved-start.ensures at w.if-is_better.ensures.loses))
         | else-is_some w ↦ rw w.best-is (sought-nothing data-is c.args.end c.requires.within c.loop-bucket.bucket best before
-            (none-in g.S.AnyStart.read g.S.AnyStart.FAR c.args.segments.now c.args.version c.args.end c.args.groups.now c.requires.long c.requires.groups
+            (best-in g.S.AnyStart.read g.S.AnyStart.FAR c.args.segments.now c.args.version c.args.end c.args.groups.now c.requires.long c.requires.groups
             c.loop-bucket.bucket c.slot_of.result c.bucket_mode-mode.result c.index-groups-slot_of.result c.loop-bucket-test.true
-            c.bucket_mode-mode.ensures c.slot_of.ensures.slot c.index-groups-slot_of.is w.if-is_some.ensures.none))
+            c.bucket_mode-mode.ensures c.slot_of.ensures.slot c.index-groups-slot_of.is _ (none-found _ _ w.if-is_some.ensures.none)))
       ];
       ticked = grind arith;
     }
