@@ -167,19 +167,6 @@ capacity-at l (suc n) some h =
     let row = slice_get-get_or (normal_blocks l) n no_blocks (omega (arith, all_blocks l)) in
     (_, ap (λ (o : Option BlockLayout). option_map (λ b. 8 * data_bytes b - 0) o) row)
 
--- the capacities of the versions up to 40, and of those up to 26
-pub capacity-most : (l : EcLevel) (n c : ℕ) → n ≤ 40 → capacity (normal n) l ≡ Some c → c ≤ 23648
-capacity-most L n c h known = capacity-grows L n 40 c 23648 h known refl
-capacity-most M n c h known = omega (arith, capacity-grows M n 40 c 18672 h known refl)
-capacity-most Q n c h known = omega (arith, capacity-grows Q n 40 c 13328 h known refl)
-capacity-most H n c h known = omega (arith, capacity-grows H n 40 c 10208 h known refl)
-
-pub capacity-middle : (l : EcLevel) (n c : ℕ) → n ≤ 26 → capacity (normal n) l ≡ Some c → c ≤ 10960
-capacity-middle L n c h known = capacity-grows L n 26 c 10960 h known refl
-capacity-middle M n c h known = omega (arith, capacity-grows M n 26 c 8496 h known refl)
-capacity-middle Q n c h known = omega (arith, capacity-grows Q n 26 c 6032 h known refl)
-capacity-middle H n c h known = omega (arith, capacity-grows H n 26 c 4768 h known refl)
-
 -- What fits some version fits version 40: from version 27 on the number of bits stays the same; up
 -- to 26 it at most doubles, together with the bits in front.
 pub fits_last : (front n : ℕ) (message : List ℕ) (l : EcLevel) (plan : List Segment) → n ≤ 40 → Fits front message (normal n) l plan →

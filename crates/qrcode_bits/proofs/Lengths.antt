@@ -2,7 +2,8 @@
 use Rattle.qrcode_bits.proofs.Prelude.{◌≡◌, ℕ, ◌+◌, ◌-◌, ◌*◌, ◌/◌, ◌<◌, ◌≤◌, List, [], ◌∷◌, Some, length, arith, inl, inr, All, cases_lt, Version, EcLevel}
 use Rattle.qrcode_bits.proofs.Prelude.{capacity, Mode, count_width, indicator_width, Segment, total_bits, normal, micro, FitsNot, FitsNone, AreTexts}
 use Rattle.qrcode_bits.proofs.Prelude.{common_steps}
-use Rattle.qrcode_bits.proofs.{Choices.capacity-middle, Choices.capacity-most, Texts.length-slice, Texts.texts-reach, Texts.texts-plan}
+use Rattle.qrcode_base.proofs.Fields.{capacity-held}
+use Rattle.qrcode_bits.proofs.{Texts.length-slice, Texts.texts-reach, Texts.texts-plan}
 
 -- no mode has fewer than ten bits for three bytes
 module _ (whole : List ℕ) (v : Version) where
@@ -20,6 +21,9 @@ module _ (whole : List ℕ) (v : Version) where
 long_header : (n : ℕ) → 27 ≤ n → (m : Mode) → 16 ≤ indicator_width (normal n) + count_width (normal n) m
 long_header n h m = grind arith
 
+most : (l : EcLevel) (n c : ℕ) → capacity (normal n) l ≡ Some c → (c ≤ 23648) × (n < 27 → c ≤ 10960)
+most l n c known = grind (arith, capacity-held l n c known)
+
 -- No plan of more than 7089 bytes fits any version.
 pub long_message : (front : ℕ) (message : List ℕ) (l : EcLevel) (limit : ℕ) → limit ≤ 40 → All (λ c. c < 256) message → 7089 < length message →
     FitsNone normal front message l limit
@@ -27,9 +31,9 @@ long_message front message l limit last are long n k plan w =
     let texts = texts-plan message are plan w.planned in
     let bare = texts-dense message (normal n) 0 (length message) plan texts (omega arith) in
     elim (cases_lt n 27) [
-      | inl early ↦ (let held = capacity-middle l n w.limit (omega arith) w.has_level in omega arith)
-      | inr late ↦ (let held = capacity-most l n w.limit (omega arith) w.has_level in
-          let headed = texts-headed message (normal n) 16 0 (length message) plan (long_header n late) (omega arith) texts (omega arith) in omega arith)
+      | inl early ↦ (let held = most l n w.limit w.has_level in omega (arith, held.1 early))
+      | inr late ↦ (let held = most l n w.limit w.has_level in
+          let headed = texts-headed message (normal n) 16 0 (length message) plan (long_header n late) (omega arith) texts (omega arith) in omega (arith, held.0))
     ]
 
 -- No plan of more bytes than three for ten bits of the capacity fits a version.
