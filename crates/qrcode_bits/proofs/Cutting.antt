@@ -89,23 +89,22 @@ single-size bytes zero h = refl
 single-size [] (suc p) h = absurd (omega (arith, h))
 single-size (a ∷ bytes) (suc p) h = let one = class_of-one a in let e = single-size bytes p (omega (arith, h)) in omega (arith, one, e)
 
-text-end : (bytes : List ℕ) (p : ℕ) → p ≤ length bytes → IsUnitEnd (parsed_bytes Text bytes) p
-text-end bytes p h =
+unit_end : (c : Content) (bytes : List ℕ) (p : ℕ) → IsCutPlace c bytes p → IsUnitEnd (parsed_bytes c bytes) p
+unit_end Bytes bytes p h = h
+unit_end Text bytes p h =
     let parsed = parsed_bytes Text bytes in
     let e = units-single parsed (All-weaker (λ b. b < 128) (λ b. is_lead b ≡ false) low-no_lead parsed (parsed-low Text tt bytes)) in
     let long = length-parsed Text bytes in
-    rw e (p, omega (arith, length-map parsed class_of, long, h), sym (single-size parsed p (omega (arith, long, h))))
+    rw e (p, omega (arith, length-map parsed class_of, long, h.0), sym (single-size parsed p (omega (arith, long, h.0))))
+unit_end Elements bytes p h = absurd h
 
 pub within_content : (c : Content) (front limit : ℕ) (l : EcLevel) (bytes : List ℕ) (p q r s : ℕ) → p ≤ q → q ≤ r → r ≤ s →
     IsCutPlace c bytes p → IsCutPlace c bytes q → IsCutPlace c bytes r → IsCutPlace c bytes s →
     FitsNone normal front (parsed_bytes c (slice_range bytes q r)) l limit → FitsNone normal front (parsed_bytes c (slice_range bytes p s)) l limit
-within_content Bytes front limit l bytes p q r s h k i a b c d none = within_bytes front limit l bytes p q r s h k i a b c d none
-within_content Text front limit l bytes p q r s h k i a b c d none =
-    subst (λ z. FitsNone normal front z l limit) (slice-parsed Text bytes p s)
-    (within_bytes front limit l (parsed_bytes Text bytes) p q r s h k i (text-end bytes p a.0) (text-end bytes q b.0) (text-end bytes r c.0)
-    (text-end bytes s d.0)
-    (subst (λ z. FitsNone normal front z l limit) (sym (slice-parsed Text bytes q r)) none))
-within_content Elements front limit l bytes p q r s h k i a b c d none = absurd a
+within_content c front limit l bytes p q r s h k i a b d e none =
+    subst (λ z. FitsNone normal front z l limit) (slice-parsed c bytes p s)
+    (within_bytes front limit l (parsed_bytes c bytes) p q r s h k i (unit_end c bytes p a) (unit_end c bytes q b) (unit_end c bytes r d) (unit_end c bytes s e)
+    (subst (λ z. FitsNone normal front z l limit) (sym (slice-parsed c bytes q r)) none))
 
 -- ---- The start and the end, and no data
 
@@ -131,9 +130,7 @@ least_room Q = (104, refl, omega arith)
 least_room H = (72, refl, omega arith)
 
 content-short : (c : Content) → length (content_bits c) ≤ 12
-content-short Bytes = omega arith
-content-short Text = grind (arith, length-append, length-number_bits)
-content-short Elements = omega (arith, length-number_bits 4 5)
+content-short c = grind (arith, length-append, length-number_bits)
 
 pub empty_fits : (c : Content) (l : EcLevel) → FitsNone normal (20 + length (content_bits c)) [] l 1 → ⊥
 empty_fits c l none =
@@ -142,9 +139,7 @@ empty_fits c l none =
 
 -- No place is past the end.
 pub place_within : (c : Content) (bytes : List ℕ) (p : ℕ) → IsCutPlace c bytes p → p ≤ length bytes
-place_within Bytes bytes p h =
-    let us = units bytes in
-    let cut = size-cut us h.0 (length us) h.1 in
-    let all = ap total_size (take-length us) ∙ units-size bytes in omega (arith, cut, all, h.2)
-place_within Text bytes p h = h.0
-place_within Elements bytes p h = absurd h
+place_within c bytes p h =
+    let us = units (parsed_bytes c bytes) in
+    let w = unit_end c bytes p h in
+    let all = ap total_size (take-length us) ∙ units-size (parsed_bytes c bytes) in omega (arith, size-cut us w.0 (length us) w.1, all, w.2, length-parsed c bytes)
