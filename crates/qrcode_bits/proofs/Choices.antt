@@ -1,16 +1,15 @@
 -- The choice of the version: a chosen plan fits if some plan does, and the first class of versions
 -- whose chosen plan fits decides.
-use Rattle.qrcode_bits.proofs.Prelude.{◌≡◌, ℕ, zero, suc, ◌+◌, ◌^◌, ◌<◌, ◌≤◌, List, [], ◌∷◌, ◌++◌, Some, length, refl, sym, subst, ◌∙◌, arith, inl, inr, rules}
-use Rattle.qrcode_bits.proofs.Prelude.{All, Option, flat_map, cases_lt, cases_eq, All-head, All-tail, All-nil, All-cons, All-append, Version, EcLevel, L, M, Q}
-use Rattle.qrcode_bits.proofs.Prelude.{H, Mode, IsWithin, HasMode, slice_get_past, capacity, Segment, parsed, merged, total_bits, IsChosenPlan, merged_all}
-use Rattle.qrcode_bits.proofs.Prelude.{IsMergePlan, Fits, FitsNot, IsLeastBits, normal, micro, FitsNone, IsChoice, IsClass, common_steps, ◌-◌}
-use Rattle.qrcode_bits.proofs.Prelude.{ap, ◌*◌, normal_blocks, slice_get-get_or}
+use Rattle.qrcode_bits.proofs.Prelude.{◌≡◌, ℕ, zero, suc, ◌+◌, ◌^◌, ◌<◌, ◌≤◌, List, [], ◌∷◌, ◌++◌, Some, length, sym, subst, ◌∙◌, arith, inl, inr, rules, All}
+use Rattle.qrcode_bits.proofs.Prelude.{Option, flat_map, cases_lt, cases_eq, All-head, All-tail, All-nil, All-cons, All-append, Version, EcLevel, Mode}
+use Rattle.qrcode_bits.proofs.Prelude.{IsWithin, HasMode, slice_get_past, capacity, Segment, parsed, merged, total_bits, IsChosenPlan, merged_all, IsMergePlan}
+use Rattle.qrcode_bits.proofs.Prelude.{Fits, FitsNot, IsLeastBits, normal, micro, FitsNone, IsChoice, IsClass, common_steps, ◌-◌, ap, ◌*◌, normal_blocks}
+use Rattle.qrcode_bits.proofs.Prelude.{slice_get-get_or, normal_from}
+use Rattle.qrcode_base.{specs.Symbols.data_bytes, specs.declared.symbols.BlockLayout.BlockLayout, proofs.Joins.join-upper, proofs.Joins.join-upper_second}
+use Rattle.qrcode_base.{proofs.Fields.SameClass, proofs.Fields.capacity-rises}
 use Rattle.std.specs.Prelude.{option_map}
-use Rattle.qrcode_base.{specs.Symbols.data_bytes, specs.declared.symbols.BlockLayout.BlockLayout}
-use Rattle.qrcode_bits.specs.Plans.{normal_from}
 use Rattle.qrcode_bits.proofs.Growth.{total_bits-rise, total_bits-same, total_bits-double, chosen-same}
 use Rattle.qrcode_bits.proofs.CuttingPlans.{AreNonEmpty, joined, IsSome, chosen-planned, chosen-least}
-use Rattle.qrcode_base.proofs.{Joins.join-upper, Joins.join-upper_second, Fields.SameClass, Fields.capacity-rises}
 
 -- ---- Modes of a version
 

@@ -1,25 +1,19 @@
 -- A chosen plan decides for its version, and that of the last version of a class for the class.
-use Rattle.qrcode_bits.proofs.Prelude.{◌≡◌, ℕ, zero, suc, ℤ, ◌+◌, ◌-◌, ◌*◌, ◌^◌, ◌<◌, ◌≤◌, List, [], ◌∷◌, length, ap, subst, arith, inl, inr}
-use Rattle.qrcode_bits.proofs.Prelude.{Result, Ok, Err, All, Option, nat_abs, MatchOption, cases_lt, Version, EcLevel, Mode, QrError, DataTooLong, OutOfMemory}
-use Rattle.qrcode_bits.proofs.Prelude.{normal_blocks, capacity, HasMode, indicator, indicator_width, count_width, ◌%◌, one_shl, AreTexts, HasLinearCosts}
-use Rattle.qrcode_bits.proofs.Prelude.{IsChosenPlan, total_bits, IsMergePlan, Fits, FitsNot, FitsNone, normal, IsLeastHolding, IsClass, Header}
-use Rattle.qrcode_bits.proofs.Prelude.{no_front, Front, front_bits, parsed_bytes, IsChoice, max, sym, ◌∙◌, ◌⊎◌}
-use Rattle.qrcode_bits.specs.Plans.{normal_from, IsMinVersionFrom}
-use Rattle.qrcode_bits.specs.Push.{IsFrontRefused, IsRangeRefused, IsVersionRange}
-use Rattle.qrcode_bits.proofs.Prelude.{Stream, IsPlanStream, IsEncoding, IsUnencodable, IsEncodingRefused, HasHeader, IsPartRefused}
-use Rattle.qrcode_bits.proofs.Prelude.{IsNormalNumber, LiesIn, common_steps, slice_get-get_or, Segment, parsed, Numeric, Normal, Micro, micro, segment_at, ints}
-use Rattle.qrcode_bits.proofs.Prelude.{get_or, rules, drop, drop_all, drop-cons, segment_bits}
-use Rattle.std.proofs.lemmas.List.Elements.{All-weaker}
+use Rattle.qrcode_bits.proofs.Prelude.{◌≡◌, ℕ, zero, suc, ℤ, ◌+◌, ◌-◌, ◌*◌, ◌^◌, ◌<◌, ◌≤◌, List, [], ◌∷◌, length, ap, subst, arith, inl, inr, Result, Ok, Err}
+use Rattle.qrcode_bits.proofs.Prelude.{All, Option, nat_abs, MatchOption, cases_lt, Version, EcLevel, Mode, QrError, DataTooLong, OutOfMemory, capacity}
+use Rattle.qrcode_bits.proofs.Prelude.{HasMode, indicator, indicator_width, count_width, ◌%◌, one_shl, AreTexts, HasLinearCosts, IsChosenPlan, total_bits}
+use Rattle.qrcode_bits.proofs.Prelude.{IsMergePlan, Fits, FitsNot, FitsNone, normal, IsLeastHolding, IsClass, Header, no_front, Front, front_bits, parsed_bytes}
+use Rattle.qrcode_bits.proofs.Prelude.{IsChoice, max, sym, ◌∙◌, ◌⊎◌, normal_from, Stream, IsPlanStream, IsEncoding, IsUnencodable, IsEncodingRefused, HasHeader}
+use Rattle.qrcode_bits.proofs.Prelude.{IsPartRefused, IsNormalNumber, LiesIn, common_steps, Segment, parsed, Numeric, Normal, Micro, micro, segment_at, ints}
+use Rattle.qrcode_bits.proofs.Prelude.{get_or, rules, drop, drop_all, drop-cons, segment_bits, All-weaker, get_or_default}
+use Rattle.qrcode_bits.specs.{Plans.IsMinVersionFrom, Plans.AreCandidates, Push.IsFrontRefused, Push.IsRangeRefused, Push.IsVersionRange}
 use mir.Val.{to_z}
 use mir.Syntax.{w16}
-use Rattle.std.{proofs.lemmas.List.get_or_default, specs.Prelude.Some, specs.Prelude.option_map}
-use Rattle.qrcode_base.{specs.Symbols.data_bytes, specs.declared.symbols.BlockLayout.BlockLayout, proofs.Fields.capacity-held, proofs.Fields.SameClass}
-use Rattle.std.specs.Prelude.{Bool, true, IsTrue, ◌↔◌}
-use Rattle.qrcode_bits.proofs.{Adjoining.parsed-linear, Growth.total_bits-rise, Growth.total_bits-same, Texts.texts-reach, Texts.texts-plan}
-use Rattle.qrcode_bits.proofs.{Texts.plan_lies}
-use Rattle.qrcode_bits.specs.Plans.{AreCandidates}
-pub use Rattle.qrcode_bits.proofs.Choices.{all_blocks}
+use Rattle.std.specs.Prelude.{Some, Bool, true, IsTrue, ◌↔◌}
+use Rattle.qrcode_base.proofs.Fields.{capacity-held, SameClass}
 use Rattle.qrcode_bits.proofs.Choices.{capacity-at, FitsNoneFrom, chosen_is_plan, chosen_decides, fits_normal, capacity-grows, class_choice}
+use Rattle.qrcode_bits.proofs.{Adjoining.parsed-linear, Growth.total_bits-rise, Growth.total_bits-same, Texts.texts-reach, Texts.texts-plan, Texts.plan_lies}
+pub use Rattle.qrcode_bits.proofs.Choices.{all_blocks}
 
 -- ---- Costs are small
 

@@ -2,10 +2,8 @@
 use Rattle.qrcode_bits.proofs.Prelude.{zero, suc, ◌≡◌, ℕ, ◌+◌, ◌-◌, ◌<◌, ◌≤◌, Bool, false, List, ◌∷◌, length, drop, get_or, refl, ap, sym, ◌∙◌, arith, inl, inr}
 use Rattle.qrcode_bits.proofs.Prelude.{◌⊎◌, cases_lt, drop_all, get_or-map-range_with_len, Mode, Byte, is_alphanumeric, is_kanji_pair, Class, Digit, Sign}
 use Rattle.qrcode_bits.proofs.Prelude.{Other, Pair, LoneLead, class_number, class_of, class_size, units, joins, class_mode, common_steps, map}
+use Rattle.std.{proofs.Common.Fits, proofs.Common.w8, specs.List.range_with_len, proofs.Math.Seq.drop-cons}
 use Rattle.qrcode_bits.specs.declared.optimize.parser.TheConstants.{CLASSES}
-use Rattle.std.proofs.Common.{Fits, w8}
-use Rattle.std.specs.List.{range_with_len}
-use Rattle.std.proofs.Math.Seq.{drop-cons}
 use Rattle.qrcode_bits.proofs.{Runs.parsed_from, Runs.IsRun, Runs.Run-first, Runs.Run-more, Runs.Run-apart, Adjoining.class_of-one}
 
 -- ---- The table

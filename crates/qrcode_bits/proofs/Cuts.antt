@@ -1,6 +1,8 @@
 -- Cuts of segments into parts, described by the first part and the bits of the later ones.
-use Rattle.qrcode_bits.proofs.Prelude.{◌≡◌, ℕ, ◌+◌, ◌-◌, ◌*◌, ◌/◌, ◌≤◌, List, [], ◌∷◌, sym, ap, subst, ◌∙◌, arith, ◌⊎◌, inl, Version}
-use Rattle.qrcode_bits.proofs.Prelude.{Mode, Numeric, Alphanumeric, Byte, Kanji, join, count_width, indicator_width, data_bits, characters, Segment}
+use Rattle.qrcode_bits.proofs.Prelude.{◌≡◌, ℕ, ◌+◌, ◌-◌, ◌*◌, ◌/◌, ◌≤◌, List, [], ◌∷◌, sym, ap, subst, ◌∙◌, arith, ◌⊎◌, inl, Version, ◌++◌, refl, All-nil}
+use Rattle.qrcode_bits.proofs.Prelude.{All-cons, flat_map, merged, merged_all, total_bits, segment_bits, IsMergePlan, Mode, Numeric, Alphanumeric, Byte, Kanji}
+use Rattle.qrcode_bits.proofs.Prelude.{join, count_width, indicator_width, data_bits, characters, Segment}
+use Rattle.qrcode_bits.proofs.{Adjoining.Adjoin, CuttingPlans.IsSome, CuttingPlans.AreNonEmpty, CuttingPlans.joined}
 
 -- ---- Modes in the order of how many bits a byte takes in them
 
@@ -89,3 +91,76 @@ module _ (v : Version) where
       Cut v (r ∷ rs) j s t → Cut v (q ∷ rs) j (z + s) t
   Cut-longer r q rs j s t z same size (alone e f full rest) = alone (e ∙ sym same) (omega arith) (omega arith) rest
   Cut-longer r q rs j s t z same size (together {i = i} c e f) = together c (e ∙ ap (λ m. join m i) (sym same)) (omega arith)
+
+-- ---- Each cut of adjoining segments is a merge plan
+
+record IsCutPlan (v : Version) (from : ℕ) (ss : List Segment) (j : Mode) (s t : ℕ) : Type 0 where
+  first : Segment
+  more : List Segment
+  later : List (List Segment)
+  whole : (first ∷ more) ++ joined later ≡ ss
+  nonempty : AreNonEmpty later
+  mode : (merged first more).mode ≡ j
+  begin : (merged first more).begin ≡ from
+  end : (merged first more).end ≡ from + s
+  bits : total_bits v (flat_map merged_all later) ≤ t
+
+record IsPartedPlan (v : Version) (ss : List Segment) (t : ℕ) : Type 0 where
+  pieces : List (List Segment)
+  whole : joined pieces ≡ ss
+  nonempty : AreNonEmpty pieces
+  bits : total_bits v (flat_map merged_all pieces) ≤ t
+
+segment_bits-below : (v : Version) (m : Segment) (j : Mode) (s from : ℕ) → m.mode ≡ j → m.begin ≡ from → m.end ≡ from + s →
+    segment_bits v m ≤ piece_bits v j s
+segment_bits-below v m j s from e b f =
+    let size : m.end - m.begin ≡ s = omega arith in
+    subst (λ k. segment_bits v m ≤ piece_bits v k s) e
+    (subst (λ n. segment_bits v m ≤ piece_bits v m.mode n) size (omega (arith, data_bits-below m.mode (m.end - m.begin))))
+
+mutual
+  cut-plan : (v : Version) {ss : List Segment} {j : Mode} {s t : ℕ} → Cut v ss j s t → (from to : ℕ) → Adjoin from ss to → IsCutPlan v from ss j s t
+  cut-plan v (alone {r = r} e f full rest) from to h =
+      let p = parted-plan v rest r.end to h.2 in
+      record {
+        first = r;
+        more = [];
+        later = p.pieces;
+        whole = ap (λ z. r ∷ z) p.whole;
+        nonempty = p.nonempty;
+        mode = sym e;
+        begin = h.0;
+        end = omega arith;
+        bits = p.bits;
+      }
+  cut-plan v (together {r = r} {i = i} c e f) from to h =
+      let p = cut-plan v c r.end to h.2 in
+      record {
+        first = r;
+        more = p.first ∷ p.more;
+        later = p.later;
+        whole = ap (λ z. r ∷ z) p.whole;
+        nonempty = p.nonempty;
+        mode = ap (join r.mode) p.mode ∙ sym e;
+        begin = h.0;
+        end = omega (arith, p.end);
+        bits = p.bits;
+      }
+
+  parted-plan : (v : Version) {ss : List Segment} {t : ℕ} → Parted v ss t → (from to : ℕ) → Adjoin from ss to → IsPartedPlan v ss t
+  parted-plan v (none e) from to h = record { pieces = []; whole = refl; nonempty = All-nil IsSome; bits = omega arith }
+  parted-plan v (some {j = j} {s = s} c e) from to h =
+      let p = cut-plan v c from to h in
+      record {
+        pieces = (p.first ∷ p.more) ∷ p.later;
+        whole = p.whole;
+        nonempty = All-cons IsSome (p.first ∷ p.more) p.later (omega arith) p.nonempty;
+        bits = omega (arith, segment_bits-below v (merged p.first p.more) j s from p.mode p.begin p.end, p.bits);
+      }
+
+-- A merge plan takes no more bits than the cut.
+pub parted-merges : (v : Version) (ss : List Segment) (t from to : ℕ) → Parted v ss t → Adjoin from ss to →
+    (plan : List Segment) × IsMergePlan ss plan × (total_bits v plan ≤ t)
+parted-merges v ss t from to h w =
+    let p = parted-plan v h from to w in
+    (flat_map merged_all p.pieces, record { pieces = p.pieces; whole = p.whole; nonempty = p.nonempty; merges = refl }, p.bits)

@@ -142,4 +142,5 @@ pub place_within : (c : Content) (bytes : List ℕ) (p : ℕ) → IsCutPlace c b
 place_within c bytes p h =
     let us = units (parsed_bytes c bytes) in
     let w = unit_end c bytes p h in
-    let all = ap total_size (take-length us) ∙ units-size (parsed_bytes c bytes) in omega (arith, size-cut us w.0 (length us) w.1, all, w.2, length-parsed c bytes)
+    let all = ap total_size (take-length us) ∙ units-size (parsed_bytes c bytes) in
+    omega (arith, size-cut us w.0 (length us) w.1, all, w.2, length-parsed c bytes)

@@ -33,7 +33,8 @@ long_message front message l limit last are long n k plan w =
     elim (cases_lt n 27) [
       | inl early ↦ (let held = most l n w.limit w.has_level in omega (arith, held.1 early))
       | inr late ↦ (let held = most l n w.limit w.has_level in
-          let headed = texts-headed message (normal n) 16 0 (length message) plan (long_header n late) (omega arith) texts (omega arith) in omega (arith, held.0))
+          let headed = texts-headed message (normal n) 16 0 (length message) plan (long_header n late) (omega arith) texts (omega arith) in
+          omega (arith, held.0))
     ]
 
 -- No plan of more bytes than three for ten bits of the capacity fits a version.

@@ -6,7 +6,7 @@ use Rattle.qrcode_bits.proofs.Prelude.{parsed, Piece, IsSpellable, spelling, spe
 use Rattle.qrcode_bits.proofs.Prelude.{All-nil, All-cons, All-map, All-weaker, total_size, is_lead, KeepUnits, HasNoPair}
 use Rattle.qrcode_base.proofs.Alphabet.{each_below, from_each_below, is_alphanumeric-from_inside}
 use Rattle.qrcode_bits.proofs.{Characters.value_below, Characters.character_at_value, Cuts.UpTo, Cuts.bits_of, Cuts.piece_bits, Cuts.Parted, Cuts.none}
-use Rattle.qrcode_bits.proofs.{Carrying.segments_of, Carrying.AreUpTo, Carrying.one_piece, CutPlans.parted-merges, Adjoining.parsed-adjoin}
+use Rattle.qrcode_bits.proofs.{Carrying.segments_of, Carrying.AreUpTo, Carrying.one_piece, Cuts.parted-merges, Adjoining.parsed-adjoin}
 use Rattle.qrcode_bits.proofs.{Adjoining.units-size, Reading.length-spelling, Segments.length-character_bits}
 
 -- ---- The units of a text are of classes that its mode can encode

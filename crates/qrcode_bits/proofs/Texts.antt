@@ -3,9 +3,8 @@ use Rattle.qrcode_bits.proofs.Prelude.{◌≡◌, ℕ, ◌+◌, ◌-◌, ◌<◌
 use Rattle.qrcode_bits.proofs.Prelude.{arith, All, All-tail, slice_range, flat_map, drop-drop, take-add, All-head, All-nil, All-drop, Kanji, join}
 use Rattle.qrcode_bits.proofs.Prelude.{is_kanji_pair, IsKanjiText, IsValid, Segment, Class, Pair, Run, class_of, class_mode, class_size, add_unit, runs, units}
 use Rattle.qrcode_bits.proofs.Prelude.{run_segment, parsed, AreTexts, merged, merged_all, IsMergePlan, LiesIn, common_steps, All-cons, length-drop, All-weaker}
+use Rattle.qrcode_base.{proofs.Joins.join-upper, proofs.Joins.join-upper_second, proofs.Alphabet.is_alphanumeric-inside}
 use Rattle.std.proofs.lemmas.List.{length-take-le}
-use Rattle.qrcode_base.proofs.Joins.{join-upper, join-upper_second}
-use Rattle.qrcode_base.proofs.Alphabet.{is_alphanumeric-inside}
 use Rattle.qrcode_bits.proofs.{CuttingPlans.AreNonEmpty, CuttingPlans.joined, CuttingPlans.IsSome, Runs.class_size-some, Runs.joins-same}
 use Rattle.qrcode_bits.proofs.{Adjoining.class_of-one, Upward.valid-append, Upward.valid-upward}
 
