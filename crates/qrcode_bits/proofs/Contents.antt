@@ -135,8 +135,7 @@ slice-single s a b h i within first second = grind (arith, common_steps, h (a + 
 single-escaped : (s : List ℕ) → All (λ c. Contains alphabet c) (map (parsed_byte Elements) s) → AreSingle s →
     unescaped (map (parsed_byte Elements) s) ≡ s
 single-escaped [] valid single = refl
-single-escaped (a ∷ []) valid single =
-    let first = elements-sign a (All-head (λ c. Contains alphabet c) (parsed_byte Elements a) [] valid) in grind arith
+single-escaped (a ∷ []) valid single = grind (arith, elements-sign, All-head)
 single-escaped (a ∷ b ∷ rest) valid single =
     let first = elements-sign a (All-head (λ c. Contains alphabet c) (parsed_byte Elements a) (map (parsed_byte Elements) (b ∷ rest)) valid) in
     let later = All-tail (λ c. Contains alphabet c) (parsed_byte Elements a) (map (parsed_byte Elements) (b ∷ rest)) valid in
