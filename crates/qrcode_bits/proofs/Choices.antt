@@ -66,17 +66,9 @@ module _ (v : Version) where
 
 -- ---- Chosen plans
 
-pub chosen_is_plan : (message : List ℕ) (v : Version) (plan : List Segment) → IsChosenPlan (parsed message) v plan → IsMergePlan (parsed message) plan
-chosen_is_plan message v plan h = chosen-planned (parsed message) v plan h
-
--- no plan takes fewer bits than the chosen one
-pub chosen_bits : (message : List ℕ) (v : Version) (plan other : List Segment) → IsChosenPlan (parsed message) v plan → IsMergePlan (parsed message) other →
-    total_bits v plan ≤ total_bits v other
-chosen_bits message v plan other h q = chosen-least (parsed message) v plan other h q
-
 pub chosen_least : (front : ℕ) (message : List ℕ) (v : Version) (plan : List Segment) → IsChosenPlan (parsed message) v plan →
     IsLeastBits front message v (front + total_bits v plan)
-chosen_least front message v plan h = grind (arith, chosen_is_plan message v plan h, chosen_bits message v plan)
+chosen_least front message v plan h = grind (arith, chosen-planned (parsed message) v plan h, chosen-least (parsed message) v plan)
 
 -- If some plan fits, the chosen plan fits.
 pub chosen_fits : (front : ℕ) (v : Version) (l : EcLevel) (message : List ℕ) (plan other : List Segment) → IsChosenPlan (parsed message) v plan →
@@ -84,9 +76,9 @@ pub chosen_fits : (front : ℕ) (v : Version) (l : EcLevel) (message : List ℕ)
 chosen_fits front v l message plan other h fits =
     grind (
       arith,
-      chosen_bits message v plan other h fits.planned,
-      chosen_is_plan message v plan h,
-      plans-had v (parsed message) plan other (chosen_is_plan message v plan h) fits.planned fits.has_modes,
+      chosen-least (parsed message) v plan other h fits.planned,
+      chosen-planned (parsed message) v plan h,
+      plans-had v (parsed message) plan other (chosen-planned (parsed message) v plan h) fits.planned fits.has_modes,
     )
 
 -- If the chosen plan does not fit, no plan fits.
@@ -127,7 +119,7 @@ module _ (front : ℕ) (message : List ℕ) (l : EcLevel) (least before last : �
   -- last one
   least_in : (n : ℕ) → before < n → n ≤ last → (other : List Segment) → (w : Fits front message (normal n) l other) →
       front + total_bits (normal last) plan ≤ w.limit
-  least_in n h k other w = grind (arith, chosen_bits message (normal last) plan other chosen w.planned, total_bits-same)
+  least_in n h k other w = grind (arith, chosen-least (parsed message) (normal last) plan other chosen w.planned, total_bits-same)
 
   -- The first version of the class that holds its bits is the choice.
   pub class_choice : (limit number d : ℕ) → last ≤ limit → before < number → number ≤ last → 1 ≤ number → capacity (normal number) l ≡ Some d →
@@ -135,7 +127,7 @@ module _ (front : ℕ) (message : List ℕ) (l : EcLevel) (least before last : �
       ((n e : ℕ) → before < n → n < number → capacity (normal n) l ≡ Some e → e < front + total_bits (normal last) plan) →
       IsChoice (normal_from least) front message l (limit - least) (number - least) plan
   class_choice limit number d h late early some known held others =
-      let planned = chosen_is_plan message (normal last) plan chosen in
+      let planned = chosen-planned (parsed message) (normal last) plan chosen in
       let rise = total_bits-rise number last some early plan in
       let here = chosen_same (parsed message) plan last number (omega arith) some (same_class number last (class number late early)) chosen in
       let same : least + (number - least) ≡ number = omega arith in

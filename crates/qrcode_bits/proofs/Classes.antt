@@ -11,8 +11,8 @@ use mir.Val.{to_z}
 use mir.Syntax.{w16}
 use Rattle.std.specs.Prelude.{Some, Bool, true, IsTrue, ◌↔◌}
 use Rattle.qrcode_base.proofs.Fields.{capacity-held, SameClass}
-use Rattle.qrcode_bits.proofs.Choices.{capacity-at, FitsNoneFrom, chosen_is_plan, chosen_decides, fits_normal, capacity-grows, class_choice}
-use Rattle.qrcode_bits.proofs.{Adjoining.parsed-linear, Growth.total_bits-rise, Growth.total_bits-same, Texts.texts-reach, Texts.texts-plan, Texts.plan_lies}
+use Rattle.qrcode_bits.proofs.Choices.{capacity-at, FitsNoneFrom, chosen_decides, fits_normal, capacity-grows, class_choice}
+use Rattle.qrcode_bits.proofs.{CuttingPlans.chosen-planned, Adjoining.parsed-linear, Growth.total_bits-rise, Growth.total_bits-same, Texts.texts-reach, Texts.texts-plan, Texts.plan_lies}
 pub use Rattle.qrcode_bits.proofs.Choices.{all_blocks}
 
 -- ---- Costs are small
@@ -64,7 +64,7 @@ module _ (front : ℕ) (message : List ℕ) (v : Version) (l : EcLevel) (plan : 
     (chosen : IsChosenPlan (parsed message) v plan) (known : capacity v l ≡ Some limit) where
   -- the chosen plan fits,
   pub chosen_fits_here : All (λ part. HasMode v part.mode) plan → front + total_bits v plan ≤ limit → Fits front message v l plan
-  chosen_fits_here has few = record { planned = chosen_is_plan message v plan chosen; limit = limit; has_level = known; has_modes = has; within = few }
+  chosen_fits_here has few = record { planned = chosen-planned (parsed message) v plan chosen; limit = limit; has_level = known; has_modes = has; within = few }
 
   -- or the version lacks a mode of it,
   pub lacks_mode : (All (λ part. HasMode v part.mode) plan → ⊥) → FitsNot front message v l
@@ -167,7 +167,7 @@ module _ (f : Front) (bytes message : List ℕ) (same : message ≡ parsed_bytes
     number = max least held
 
     planned : IsMergePlan (parsed message) plan
-    planned = chosen_is_plan message v plan chosen
+    planned = chosen-planned (parsed message) v plan chosen
 
     early : number ≤ last
     early = let h = least_version.2.least last front_fits.limit front_fits.has_level front_fits.within in

@@ -73,10 +73,7 @@ kanji-bits (a ∷ []) h = absurd h
 kanji-bits (a ∷ b ∷ u) h = omega (arith, kanji-bits u h.1)
 
 valid-bits : (m : Mode) (u : List ℕ) → IsValid m u → bits_of m (length u) ≡ data_bits m (characters m (length u))
-valid-bits Numeric u h = refl
-valid-bits Alphanumeric u h = refl
-valid-bits Byte u h = refl
-valid-bits Kanji u h = kanji-bits u h
+valid-bits m u h = grind (arith, kanji-bits)
 
 piece_bits-length : (v : Version) (p : Piece) → IsValid p.mode p.text → piece_bits v p.mode (length p.text) ≡ length (spelling v p)
 piece_bits-length v p h = omega (arith, length-spelling v p, length-character_bits p.mode p.text h, valid-bits p.mode p.text h)

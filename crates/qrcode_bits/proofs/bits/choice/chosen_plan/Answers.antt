@@ -1,7 +1,7 @@
 -- The chosen plan decides whether some plan fits.
 use Rattle.qrcode_bits.proofs.Prelude.{List, sym, subst, arith, Segment, capacity, IsChosenPlan, cases_lt, common_steps, parsed}
 use Rattle.qrcode_bits.specs.Optimizer.{IsShort}
-use Rattle.qrcode_bits.proofs.{Adjoining.parsed-short, Pairs.bytes_valid, Choices.chosen_is_plan, Lengths.dense_message, ReadBack.short-chosen}
+use Rattle.qrcode_bits.proofs.{Adjoining.parsed-short, Pairs.bytes_valid, CuttingPlans.chosen-planned, Lengths.dense_message, ReadBack.short-chosen}
 use Rattle.qrcode_bits.proofs.Classes.{known_limit, short-linear, plan_ordered, plan_small, counted_all, counted_more, chosen_fits_here, lacks_mode}
 use Rattle.qrcode_bits.proofs.Classes.{lacks_number, too_many, modes_all, modes_lack}
 use Rattle.qrcode_bits.proofs.bits.choice.chosen_plan.Goals as goal
@@ -23,7 +23,7 @@ pub loop-part-init : goal.loop-part-init
 loop-part-init c =
     let chosen : IsChosenPlan (parsed c.args.bytes.now) c.args.version c.if-segments-lt2.plan.items = grind (arith, common_steps, short-chosen) in
     let are = bytes_valid c.args.bytes.now (λ i. omega (arith, c.type_inv.bytes i)) in
-    let planned = chosen_is_plan c.args.bytes.now c.args.version c.if-segments-lt2.plan.items chosen in
+    let planned = chosen-planned (parsed c.args.bytes.now) c.args.version c.if-segments-lt2.plan.items chosen in
     rw c.deref-part-items.ensures.value record {
       chosen = chosen;
       ordered = plan_ordered c.args.bytes.now c.if-segments-lt2.plan.items are planned;
