@@ -153,7 +153,8 @@ int32_t sicklespan_micro(const void *bytes, size_t length, int32_t level, uint8_
  * One of the 2 to 16 symbols that carry a message together (Structured Append), the one at `index`,
  * counted from 0. Part i of the message ends at cuts[i] and the last one at its end, so there is
  * one cut less than there are parts; they may be empty. Each symbol is the best for its part in the
- * versions 1 to `max_version`, where its header takes 20 bits. Each call draws all symbols.
+ * versions 1 to `max_version`, where its header takes 20 bits. The other parts are tested, and not
+ * drawn.
  *
  * SICKLESPAN_INVALID_LEVEL, SICKLESPAN_INVALID_CUTS, SICKLESPAN_INVALID_INDEX,
  * SICKLESPAN_INVALID_MAX_VERSION, SICKLESPAN_INVALID_PART_COUNT, SICKLESPAN_DATA_TOO_LONG (exactly

@@ -1,14 +1,14 @@
 -- The result of a call, from what was written of the symbol.
-use Rattle.std.specs.Prelude.{◌≡◌, ◌+◌, ◌<◌, ◌≤◌, ℕ, ℤ, List, length, map, nat_abs, All, Result, Ok, Err, IfOk, IfErr, OnErr}
-use Rattle.std.proofs.Common.{get_or, subst, sym, refl, ◌∙◌, arith, w16, w32, to_z, of_z}
+use Rattle.std.specs.Prelude.{◌≡◌, ◌+◌, ◌≤◌, ℕ, ℤ, List, length, nat_abs, Result, Ok, Err, IfOk, IfErr, OnErr}
+use Rattle.std.proofs.Common.{subst, sym, ◌∙◌, arith, w16, w32, to_z, of_z}
 use Rattle.std.proofs.lemmas.{Int.to_z-of_z, Int.ints}
 use Rattle.qrcode_base.specs.Symbols.{IsNormalNumber}
-use Rattle.std.proofs.lemmas.{List.length-map, Option.slice_get_read, Result.IfOk-weaker}
+use Rattle.std.proofs.lemmas.Result.{IfOk-weaker}
 use Rattle.qrcode_base.specs.declared.types.{Color.Color, EcLevel.EcLevel}
-use Rattle.qrcode_core.specs.{Drawn.DrawnSymbol, Drawn.TellsReading, Drawn.modules_of, Sequence.AreBestSymbols}
+use Rattle.qrcode_core.specs.{Drawn.DrawnSymbol, Drawn.TellsReading, Sequence.IsBestPart, Sequence.IsSomePartTooLong}
+use Rattle.qrcode_bits.specs.{Frame.IsTotal, declared.bits.front.Content.TheVariants.Bytes}
 use Rattle.qrcode_c.specs.{declared.refusal.Refusal.Refusal, declared.refusal.Refusal.TheVariants.ShortBuffer, declared.shape.Shape.Shape, Holding.Holds}
-use Rattle.qrcode_c.specs.{Holding.HoldsBest, Holding.HoldsPart, Levels.level_argument, Refusals.IsPartAbove}
-use Rattle.qrcode_bits.specs.declared.bits.front.Content.TheVariants.{Bytes}
+use Rattle.qrcode_c.specs.{Holding.HoldsBest, Holding.HoldsPart, Holding.IsPartSymbol, Levels.level_argument}
 
 pub best_held : (best : EcLevel → List Color → Type 0) (level : EcLevel) (number : ℤ) (symbol : DrawnSymbol) (before after : List ℕ)
     (result : Result Shape Refusal) →
@@ -30,41 +30,29 @@ pub short_refused : (comes : Refusal → Type 0) (longer : Type 0) (result : Res
 short_refused comes longer (Ok shape) short room why = tt
 short_refused comes longer (Err refusal) short room why = subst comes (sym short) (why room)
 
--- There is a symbol at the index of a part.
-within : (message cuts : List ℕ) (level : EcLevel) (limit : ℤ) (index : ℕ) (symbols : List DrawnSymbol) →
-    AreBestSymbols Bytes message cuts level (nat_abs limit) (map modules_of symbols) → index ≤ length cuts → index < length symbols
-within message cuts level limit index symbols best part =
-    let count : length symbols ≡ length cuts + 1 = sym (length-map symbols modules_of) ∙ best.a_grid_each in omega arith
+-- A limit that is the same number in another type asks for the same symbol.
+pub part_of : (message cuts : List ℕ) (level : EcLevel) (limit given : ℤ) (index : ℕ) (symbol : DrawnSymbol) → given ≡ limit →
+    IsTotal (length cuts + 1) → index ≤ length cuts → IsBestPart Bytes message cuts level (nat_abs given) index symbol.modules →
+    (IsSomePartTooLong Bytes message cuts level (nat_abs given) → ⊥) → IsPartSymbol message cuts level limit index symbol
+part_of message cuts level limit given index symbol same total part best fit = record {
+  is_total = total;
+  is_part = part;
+  is_best = subst (λ (z : ℤ). IsBestPart Bytes message cuts level (nat_abs z) index symbol.modules) same best;
+  all_fit = subst (λ (z : ℤ). IsSomePartTooLong Bytes message cuts level (nat_abs z) → ⊥) same fit;
+}
 
-pub part_held : (message cuts : List ℕ) (level : EcLevel) (number limit : ℤ) (index : ℕ) (symbols : List DrawnSymbol)
-    (symbol : DrawnSymbol) (before after : List ℕ)
-    (result : Result Shape Refusal) → number ≡ level_argument level → index ≤ length cuts →
-    AreBestSymbols Bytes message cuts level (nat_abs limit) (map modules_of symbols) → All TellsReading symbols → symbol ≡ get_or symbols index symbol →
+pub part_held : (message cuts : List ℕ) (level : EcLevel) (number limit : ℤ) (index : ℕ) (symbol : DrawnSymbol) (before after : List ℕ)
+    (result : Result Shape Refusal) → number ≡ level_argument level → IsPartSymbol message cuts level limit index symbol → TellsReading symbol →
     IfOk result (Holds symbol before after) → IfOk result (HoldsPart message cuts number limit index before after)
-part_held message cuts level number limit index symbols symbol before after result level_is part best reading is held =
-    let less = within message cuts level limit index symbols best part in
+part_held message cuts level number limit index symbol before after result level_is is_symbol reading held =
     IfOk-weaker result _ _ (λ shape holds. record {
       level = level;
       level_is = level_is;
-      symbols = symbols;
-      are_best = best;
       symbol = symbol;
-      at_index = slice_get_read symbols (length symbols) index symbol refl less is;
-      reading = subst TellsReading (sym is) (reading index symbol less);
+      is_symbol = is_symbol;
+      reading = reading;
       holds = holds;
     }) held
-
-pub part_above : (room : ℕ) (message cuts : List ℕ) (level : EcLevel) (limit : ℤ) (index : ℕ) (symbols : List DrawnSymbol) (symbol : DrawnSymbol) →
-    index ≤ length cuts → AreBestSymbols Bytes message cuts level (nat_abs limit) (map modules_of symbols) → symbol ≡ get_or symbols index symbol →
-    room < length symbol.modules → IsPartAbove room message cuts level limit index
-part_above room message cuts level limit index symbols symbol part best is above =
-    record {
-      symbols = symbols;
-      are_best = best;
-      symbol = symbol;
-      above = above;
-      at_index = slice_get_read symbols (length symbols) index symbol refl (within message cuts level limit index symbols best part) is;
-    }
 
 -- a limit is the same number in 16 bits as in 32
 pub same_limit : (number limit : ℤ) → limit ≡ to_z w32 (of_z w32 number) → to_z w32 (of_z w32 number) ≡ number → IsNormalNumber limit →

@@ -1,13 +1,12 @@
 -- A symbol in a buffer, and its shape.
-use Rattle.std.specs.Prelude.{◌≡◌, ◌*◌, ◌++◌, ℕ, ℤ, nat_abs, List, length, map, drop, slice_get}
-use Rattle.std.specs.Prelude.{Some}
+use Rattle.std.specs.Prelude.{◌≡◌, ◌+◌, ◌*◌, ◌≤◌, ◌++◌, ℕ, ℤ, nat_abs, List, length, map, drop}
 use Rattle.qrcode_base.specs.declared.types.Color.{Color}
 use Rattle.qrcode_base.specs.declared.types.EcLevel.{EcLevel}
 use Rattle.qrcode_grid.specs.Penalty.{byte_of}
 use Rattle.qrcode_base.specs.Symbols.{width_of}
-use Rattle.qrcode_core.specs.Drawn.{DrawnSymbol, TellsReading, modules_of}
-use Rattle.qrcode_core.specs.Sequence.{AreBestSymbols}
-use Rattle.qrcode_bits.specs.Frame.{Front}
+use Rattle.qrcode_core.specs.Drawn.{DrawnSymbol, TellsReading}
+use Rattle.qrcode_core.specs.Sequence.{IsBestPart, IsSomePartTooLong}
+use Rattle.qrcode_bits.specs.Frame.{Front, IsTotal}
 use Rattle.qrcode_core.specs.Options.{IsAsAsked}
 use Rattle.qrcode_core.specs.declared.options.SymbolOptions.{SymbolOptions}
 use Rattle.qrcode_c.specs.declared.options.Options.{Options}
@@ -49,14 +48,21 @@ abbrev pub HoldsAsked : Front → List ℕ → Options → List ℕ → List ℕ
 HoldsAsked front bytes asked before after shape =
     AsksFor asked (IsDrawnAs front bytes before after shape)
 
+-- The symbol is the best one of the part at an index of a message that is cut into 2 to 16 parts,
+-- each of which fits a symbol.
+pub record IsPartSymbol (message cuts : List ℕ) (level : EcLevel) (limit : ℤ) (index : ℕ)
+    (symbol : DrawnSymbol) : Type 0 where
+  pub is_total : IsTotal (length cuts + 1)
+  pub is_part : index ≤ length cuts
+  pub is_best : IsBestPart Bytes message cuts level (nat_abs limit) index symbol.modules
+  pub all_fit : IsSomePartTooLong Bytes message cuts level (nat_abs limit) → ⊥
+
 -- The buffer and the shape hold the symbol at an index of those that carry a message together.
 pub record HoldsPart (message cuts : List ℕ) (number limit : ℤ) (index : ℕ)
     (before after : List ℕ) (shape : Shape) : Type 0 where
   pub level : EcLevel
   pub level_is : number ≡ level_argument level
-  pub symbols : List DrawnSymbol
-  pub are_best : AreBestSymbols Bytes message cuts level (nat_abs limit) (map modules_of symbols)
   pub symbol : DrawnSymbol
-  pub at_index : slice_get symbols index ≡ Some symbol
+  pub is_symbol : IsPartSymbol message cuts level limit index symbol
   pub reading : TellsReading symbol
   pub holds : Holds symbol before after shape

@@ -1,6 +1,6 @@
 -- The errors of a call, and when each is returned.
-use Rattle.std.specs.Prelude.{◌≡◌, ◌≢◌, ◌⊎◌, ◌+◌, ◌<◌, ◌≤◌, ℕ, ℤ, nat_abs, List, length, map}
-use Rattle.std.specs.Prelude.{slice_get, All, Some}
+use Rattle.std.specs.Prelude.{◌≡◌, ◌≢◌, ◌⊎◌, ◌+◌, ◌<◌, ◌≤◌, ℕ, ℤ, nat_abs, List, length}
+use Rattle.std.specs.Prelude.{All}
 use Rattle.std.specs.List.Sorted.{IsNonDecreasing}
 use Rattle.std.specs.Str.{IsUtf8}
 use Rattle.qrcode_base.specs.declared.symbols.TheConstants.{LONGEST_DATA}
@@ -8,10 +8,10 @@ use Rattle.qrcode_base.specs.declared.types.Color.{Color}
 use Rattle.qrcode_base.specs.declared.types.EcLevel.{EcLevel}
 use Rattle.qrcode_base.specs.declared.types.EcLevel.TheVariants.{H}
 use Rattle.qrcode_base.specs.Symbols.{IsNormalNumber}
-use Rattle.qrcode_core.specs.Drawn.{DrawnSymbol, modules_of}
+use Rattle.qrcode_core.specs.Drawn.{DrawnSymbol}
 use Rattle.qrcode_core.specs.Headline.{IsBestSymbol, IsBestMicroSymbol, IsTooLong}
 use Rattle.qrcode_core.specs.Headline.{IsTooLongForMicro}
-use Rattle.qrcode_core.specs.Sequence.{AreBestSymbols, IsSomePartTooLong}
+use Rattle.qrcode_core.specs.Sequence.{IsSomePartTooLong}
 use Rattle.qrcode_bits.specs.Frame.{IsTotal}
 use Rattle.qrcode_c.specs.declared.refusal.Refusal.{Refusal}
 use Rattle.qrcode_c.specs.declared.refusal.Refusal.TheVariants.{DataTooLong, OutOfMemory}
@@ -19,6 +19,7 @@ use Rattle.qrcode_c.specs.declared.refusal.Refusal.TheVariants.{InvalidLevel, In
 use Rattle.qrcode_c.specs.declared.refusal.Refusal.TheVariants.{InvalidMaxVersion, InvalidPartCount}
 use Rattle.qrcode_c.specs.declared.refusal.Refusal.TheVariants.{InvalidCuts}
 use Rattle.qrcode_c.specs.declared.refusal.Refusal.TheVariants.{InvalidIndex, ShortBuffer}
+use Rattle.qrcode_c.specs.Holding.{IsPartSymbol}
 use Rattle.qrcode_c.specs.Levels.{AtLevel, IsNoLevel}
 use Rattle.qrcode_c.specs.Statuses.{status_of}
 use Rattle.qrcode_bits.specs.declared.bits.front.Content.TheVariants.{Bytes}
@@ -73,14 +74,11 @@ pub record IsAsked (message cuts : List ℕ) (limit : ℤ) (index : ℕ) : Type 
   pub is_part : index ≤ length cuts
   pub is_limit : IsNormalNumber limit
 
--- Among the best symbols of the message, the one at the index has more modules than the buffer
--- has bytes.
+-- The symbol of the part at the index has more modules than the buffer has bytes.
 pub record IsPartAbove (room : ℕ) (message cuts : List ℕ) (level : EcLevel) (limit : ℤ)
     (index : ℕ) : Type 0 where
-  pub symbols : List DrawnSymbol
-  pub are_best : AreBestSymbols Bytes message cuts level (nat_abs limit) (map modules_of symbols)
   pub symbol : DrawnSymbol
-  pub at_index : slice_get symbols index ≡ Some symbol
+  pub is_symbol : IsPartSymbol message cuts level limit index symbol
   pub above : room < length symbol.modules
 
 -- The errors of the call for a part of a message, and when each is returned. The errors are checked

@@ -56,7 +56,8 @@ pub fn micro_symbol(
     }
 }
 
-/// Writes the symbol at an index of those that carry a message together, and returns its shape.
+/// Writes the symbol at an index of those that carry a message together, and returns its shape. The
+/// other parts are tested, and not drawn.
 pub fn part_symbol(
     alloc: Global,
     message: &[u8],
@@ -84,8 +85,8 @@ pub fn part_symbol(
     let Some(limit) = limit_of(max_version) else {
         return Err(Refusal::InvalidMaxVersion);
     };
-    match Symbol::sequence(alloc, message, cuts, level, limit) {
-        Ok(symbols) => write(&symbols[index], modules),
+    match Symbol::sequence_part(alloc, message, cuts, level, limit, index) {
+        Ok(symbol) => write(&symbol, modules),
         Err(QrError::InvalidStructuredAppend { .. }) => Err(Refusal::InvalidPartCount),
         Err(QrError::DataTooLong) => Err(Refusal::DataTooLong),
         Err(_) => Err(Refusal::OutOfMemory),

@@ -17,7 +17,7 @@ use std::alloc::Global;
 
 /// Writes one of the 2 to 16 symbols that carry a message together (ISO/IEC 18004:2006, "Structured
 /// Append"): the one at an index, counted from 0. The parts of the message lie between its start,
-/// the cuts in order, and its end. Returns `DONE`.
+/// the cuts in order, and its end. The other parts are tested, and not drawn. Returns `DONE`.
 ///
 /// # Errors
 ///

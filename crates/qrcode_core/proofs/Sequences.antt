@@ -7,12 +7,12 @@ use Rattle.qrcode_core.proofs.Prelude.{parts_from}
 use Rattle.qrcode_core.proofs.Prelude.{parts_at, ap, subst, inl, inr, length-append, cases_eq, get_or_append_left, get_or_push, IsPermutation-refl, EcLevel}
 use Rattle.qrcode_core.proofs.Prelude.{QrError, DataTooLong, InvalidResourceLimits, IsTotal, IsNormalNumber, ℤ}
 use Rattle.qrcode_core.proofs.OneReading.{one_reading}
-use Rattle.qrcode_core.specs.Sequence.{header_at, AreBestSymbols, IsSomePartTooLong, IsSequenceRefusal}
+use Rattle.qrcode_core.specs.Sequence.{header_at, AreBestSymbols, IsBestPart, IsPartTooLongAt, IsSomePartTooLong, IsSequenceRefusal}
 use Rattle.std.proofs.lemmas.List.{take-append-drop, drop-drop, append-nil, take_all, length-drop, Elements.Contains-get_or}
 use Rattle.std.proofs.Common.{Some}
 use Rattle.qrcode_bits.specs.Frame.{Front, front_of}
 use Rattle.qrcode_bits.specs.declared.bits.front.Content.{Content}
-use Rattle.std.proofs.Common.{nat_abs}
+use Rattle.std.proofs.Common.{nat_abs, ◌≢◌, Result, Ok, Err, IfOk, OnOk}
 use Rattle.qrcode_core.proofs.NoneBetter.{front-long}
 use Rattle.qrcode_core.specs.Headline.{IsBestUpTo}
 use Rattle.qrcode_core.proofs.Prelude.{normal, parsed_bytes}
@@ -121,7 +121,7 @@ pub best_symbols : (content : Content) (message cuts : List ℕ) (level : EcLeve
     AreFirstSymbols content message cuts level limit total done grids → AreBestSymbols content message cuts level limit grids
 best_symbols content message cuts level limit total done grids rise few count all first =
     let size : total ≡ length grids = sym (first.a_grid_each ∙ all) in
-    let best = λ (i : ℕ) (inside : i < length grids). rw size at first.each_best i (omega arith) in
+    let best = λ (i : ℕ) (inside : i < length grids). first.each_best i (omega arith) in
     let read : ReadsMessage grids content message = record {
       in_order = grids;
       pieces = parts_at cuts message;
@@ -129,9 +129,9 @@ best_symbols content message cuts level limit total done grids rise few count al
       same_grids = IsPermutation-refl grids;
       a_piece_each = length-parts 0 cuts message ∙ sym count ∙ size;
       each_read = λ i inside.
-          let symbol = best i inside in
+          let symbol = rw size at best i inside in
           record {
-            reading = _;
+            reading = symbol.best.reading;
             reads = symbol.best.reads;
             front_is = ap (λ r. r.front) symbol.best.says;
             piece_is = ap (λ r. r.bytes) symbol.best.says;
@@ -140,7 +140,7 @@ best_symbols content message cuts level limit total done grids rise few count al
     } in
     record {
       a_grid_each = sym size ∙ count;
-      each_best = best;
+      each_best = λ i inside. rw count at best i inside;
       reads = λ shuffled mixed. in_any_order grids shuffled content message mixed read;
       only = λ shuffled c other mixed seen.
           let same = one_message grids shuffled content c message other mixed read seen in (sym same.0, sym same.1);
@@ -163,9 +163,29 @@ refused_part content message cuts level limit total i header DataTooLong in_rang
 )
 refused_part content message cuts level limit total i header e in_range few count inside why = grind (arith, common_steps)
 
+-- What follows from a result, if there is one.
+pub on_ok : {X E Q : Type 0} {P : X → Type 0} (r : Result X E) → ((x : X) → P x → Q) → IfOk r P → OnOk r Q
+on_ok (Ok x) follows holds = follows x holds
+on_ok (Err e) follows holds = tt
+
+-- A part that has its symbol is not too long.
+pub not_too_long : (content : Content) (message cuts : List ℕ) (level : EcLevel) (limit i : ℕ) (grid : List Color) →
+    IsBestPart content message cuts level limit i grid → IsPartTooLongAt content message cuts level limit i → ⊥
+not_too_long content message cuts level limit i grid part none =
+    none part.best.number part.up_to part.best.plan (rw (front-long (header_at (i + 1) (length cuts + 1) message) content) at part.best.fits)
+
+-- Where one part has its symbol and no other is too long, none is.
+pub none_of_all : (content : Content) (message cuts : List ℕ) (level : EcLevel) (limit i : ℕ) (grid : List Color) →
+    IsBestPart content message cuts level limit i grid →
+    ((k : ℕ) → k < length cuts + 1 → k ≢ i → IsPartTooLongAt content message cuts level limit k → ⊥) →
+    IsSomePartTooLong content message cuts level limit → ⊥
+none_of_all content message cuts level limit i grid part others (k, inside, none) = elim (cases_eq k i) [
+  | inl here ↦ not_too_long content message cuts level limit i grid part (subst (IsPartTooLongAt content message cuts level limit) here none)
+  | inr other ↦ others k inside other none
+]
+
 -- Where each part has its symbol, none is too long.
 pub none_too_long : (content : Content) (message cuts : List ℕ) (level : EcLevel) (limit : ℕ) (grids : List (List Color)) →
     AreBestSymbols content message cuts level limit grids → IsSomePartTooLong content message cuts level limit → ⊥
 none_too_long content message cuts level limit grids all (i, inside, none) =
-    let part = all.each_best i (omega (arith, all.a_grid_each)) in
-    none part.best.number part.up_to part.best.plan (rw (front-long (header_at (i + 1) (length grids) message) content) at part.best.fits)
+    not_too_long content message cuts level limit i _ (all.each_best i (omega (arith, all.a_grid_each))) none

@@ -70,14 +70,20 @@ parts_from start (cut ∷ cuts) message =
 abbrev pub parts_at : List ℕ → List ℕ → List (List ℕ)
 parts_at cuts message = parts_from 0 cuts message
 
+-- The grid is the best symbol, in a version up to a limit, of the part of a message at an index,
+-- after its header.
+abbrev pub IsBestPart : Content → List ℕ → List ℕ → EcLevel → ℕ → ℕ → List Color → Type 0
+IsBestPart content message cuts level limit index grid =
+    IsBestUpTo (front_of (Some (header_at (index + 1) (length cuts + 1) message)) content)
+    (slice_index_or (parts_at cuts message) index []) level limit grid
+
 -- There is a symbol for each part of the message, and it is the best one of its part (`each_best`).
 -- In any order, a reader finds the message in the symbols (`reads`), and no other message (`only`).
 pub record AreBestSymbols (content : Content) (message cuts : List ℕ) (level : EcLevel) (limit : ℕ)
     (grids : List (List Color)) : Type 0 where
   pub a_grid_each : length grids ≡ length cuts + 1
   pub each_best : (i : ℕ) → i < length grids →
-      IsBestUpTo (front_of (Some (header_at (i + 1) (length grids) message)) content)
-      (slice_index_or (parts_at cuts message) i []) level limit (slice_index_or grids i [])
+      IsBestPart content message cuts level limit i (slice_index_or grids i [])
   pub reads : (shuffled : List (List Color)) → IsPermutation grids shuffled →
       ReadsMessage shuffled content message
   pub only : (shuffled : List (List Color)) (c : Content) (other : List ℕ) →
@@ -86,23 +92,33 @@ pub record AreBestSymbols (content : Content) (message cuts : List ℕ) (level :
 
 -- ---- Errors
 
--- No plan of some part fits any version up to a limit, after the 20 bits of the header and those of
--- the content.
+-- No plan of the part at an index fits any version up to a limit, after the 20 bits of the header
+-- and those of the content.
+abbrev pub IsPartTooLongAt : Content → List ℕ → List ℕ → EcLevel → ℕ → ℕ → Type 0
+IsPartTooLongAt content message cuts level limit index =
+    FitsNone normal (20 + length (content_bits content))
+    (parsed_bytes content (slice_index_or (parts_at cuts message) index [])) level limit
+
+-- Some part is too long.
 abbrev pub IsSomePartTooLong : Content → List ℕ → List ℕ → EcLevel → ℕ → Type 0
 IsSomePartTooLong content message cuts level limit =
-    (i : ℕ) × (i < length cuts + 1)
-    × FitsNone normal (20 + length (content_bits content))
-    (parsed_bytes content (slice_index_or (parts_at cuts message) i [])) level limit
+    (i : ℕ) × (i < length cuts + 1) × IsPartTooLongAt content message cuts level limit i
 
--- The errors of `symbol_sequence`, and when each is returned. The greatest version is checked
--- first, then the number of symbols. `OutOfMemory` says only that both were valid.
+-- There is no sequence of this many symbols up to a version: the version is checked first, then the
+-- number of symbols.
+abbrev pub IsTotalRefusal : ℕ → ℤ → QrError → Type 0
+IsTotalRefusal total limit InvalidResourceLimits = IsNormalNumber limit → ⊥
+IsTotalRefusal total limit (InvalidStructuredAppend value) =
+    IsNormalNumber limit × (IsTotal total → ⊥) × (value ≡ min total 255)
+IsTotalRefusal total limit other = ⊥
+
+-- The errors of `symbol_sequence`, and when each is returned. The greatest version and the number
+-- of symbols are checked first. `OutOfMemory` says only that both were valid.
 abbrev pub IsSequenceRefusal : Content → List ℕ → List ℕ → EcLevel → ℤ → QrError → Type 0
-IsSequenceRefusal content message cuts level limit InvalidResourceLimits = IsNormalNumber limit → ⊥
-IsSequenceRefusal content message cuts level limit (InvalidStructuredAppend value) =
-    IsNormalNumber limit × (IsTotal (length cuts + 1) → ⊥) × (value ≡ min (length cuts + 1) 255)
 IsSequenceRefusal content message cuts level limit DataTooLong =
     IsNormalNumber limit × IsTotal (length cuts + 1)
     × IsSomePartTooLong content message cuts level (nat_abs limit)
 IsSequenceRefusal content message cuts level limit OutOfMemory =
     IsNormalNumber limit × IsTotal (length cuts + 1)
-IsSequenceRefusal content message cuts level limit other = ⊥
+IsSequenceRefusal content message cuts level limit other =
+    IsTotalRefusal (length cuts + 1) limit other

@@ -1,11 +1,12 @@
 //! Laws: facts about grids and about what a reader finds in them. Each function has no body; its
 //! contract is the fact.
 
-ghost use Rattle.std.specs.Prelude.{ℕ, List, None};
+ghost use Rattle.std.specs.Prelude.{ℕ, ◌≡◌, ◌+◌, ◌<◌, List, [], None, length, slice_index_or};
+ghost use Rattle.std.specs.List.Sorted.{IsNonDecreasing};
 ghost use Rattle.qrcode_base.specs.declared.types.Color.{Color};
 ghost use Rattle.qrcode_base.specs.declared.types.EcLevel.{EcLevel};
 ghost use Rattle.qrcode_base.specs.declared.types.Version.{Version};
-ghost use Rattle.qrcode_bits.specs.Frame.{Front, front_of, HasSingleUnits};
+ghost use Rattle.qrcode_bits.specs.Frame.{Front, front_of, HasSingleUnits, IsTotal};
 ghost use Rattle.qrcode_bits.specs.declared.bits.front.Content.{Content};
 ghost use Rattle.qrcode_bits.specs.declared.bits.front.Content.TheVariants.{Bytes};
 ghost use Rattle.qrcode_bits.specs.Plans.{normal, micro};
@@ -13,7 +14,7 @@ ghost use Rattle.qrcode_core.specs.Headline.{printed, printed_reading, HaveDista
 ghost use Rattle.qrcode_core.specs.Headline.{HaveOneContent, HaveOneReading};
 ghost use Rattle.qrcode_core.specs.Headline.{Reads, IsBest, IsTooLongAfter, IsTooLongForMicro};
 ghost use Rattle.qrcode_core.specs.Headline.{NoneIsBetter, NoneIsBetterWithHeader, NoneIsRead};
-ghost use Rattle.qrcode_core.specs.Sequence.{HaveOneMessage};
+ghost use Rattle.qrcode_core.specs.Sequence.{AreBestSymbols, HaveOneMessage, IsBestPart};
 
 /// No grid can be read in two ways: a reader finds one list of bytes, one version, one level, one
 /// mask, one front and one number of payload bits.
@@ -44,6 +45,17 @@ pub fn have_distance()
 /// (ISO/IEC 18004:2006, "Structured Append").
 pub fn have_one_message()
     ensures { HaveOneMessage }
+{}
+
+/// The best symbols of all parts of a message are the best symbols of the message: in any order, a
+/// reader finds the message in them, and no other.
+pub fn parts_are_one_message()
+    ensures { (content : Content) (message cuts : List ℕ) (level : EcLevel) (limit : ℕ)
+        (grids : List (List Color)) → IsNonDecreasing cuts → IsTotal (length cuts + 1) →
+        length grids ≡ length cuts + 1 →
+        ((i : ℕ) → i < length grids →
+        IsBestPart content message cuts level limit i (slice_index_or grids i [])) →
+        AreBestSymbols content message cuts level limit grids }
 {}
 
 /// Where the data have single units, no symbol of them is better than the best one, however they

@@ -19,6 +19,7 @@ ghost use Rattle.qrcode_bits.specs.Push.{IsMicroRefused};
 mod asked;
 mod cuts;
 mod owned;
+mod part;
 mod sequence;
 
 pub use cuts::{best_cuts, best_text_cuts};

@@ -89,6 +89,41 @@ fn tells_sequence(rt: HostRuntime) {
     }
 }
 
+/// Each part of a sequence by itself is the symbol at its place in the sequence.
+#[test]
+fn draws_each_part_alone(rt: HostRuntime) {
+    let cuts = [2, 4];
+    assert!(rt; are_cuts(&cuts, 6));
+    let symbols = Symbol::sequence(rt.alloc(), b"AB12cd", &cuts, EcLevel::L, 40);
+    let symbols = symbols.expect(&rt, "no symbols");
+    for (i, symbol) in symbols.iter().enumerate() {
+        let part = Symbol::sequence_part(rt.alloc(), b"AB12cd", &cuts, EcLevel::L, 40, i.min(2));
+        let part = part.expect(&rt, "no symbol");
+        assert!(rt; part.modules() == symbol.modules());
+        assert!(rt; part.version() == symbol.version() && part.mask() == symbol.mask());
+    }
+}
+
+/// Seventeen letters and a header do not fit version 1 at level L, so that no part is drawn.
+#[test]
+fn refuses_a_part_beside_a_long_one(rt: HostRuntime) {
+    let cuts = [17];
+    assert!(rt; are_cuts(&cuts, 18));
+    for index in 0..2 {
+        let letters = b"abcdefghijklmnopqr";
+        let part = Symbol::sequence_part(rt.alloc(), letters, &cuts, EcLevel::L, 1, index);
+        assert!(rt; part.err() == Some(QrError::DataTooLong));
+    }
+}
+
+#[test]
+fn refuses_a_part_without_sequence(rt: HostRuntime) {
+    let one = Symbol::sequence_part(rt.alloc(), b"a", &[], EcLevel::L, 40, 0);
+    assert!(rt; one.err() == Some(QrError::InvalidStructuredAppend { value: 1 }));
+    let limits = Symbol::sequence_part(rt.alloc(), b"a", &[], EcLevel::L, 41, 0);
+    assert!(rt; limits.err() == Some(QrError::InvalidResourceLimits));
+}
+
 #[test]
 fn holds_bits(rt: HostRuntime) {
     let mut bits = Bits::new(rt.alloc(), Version::Micro(1));

@@ -141,7 +141,7 @@ fn last_fitting(
 }
 
 /// Returns whether a part fits some version, after a header.
-fn part_fits(
+pub(crate) fn part_fits(
     alloc: Global,
     content: Content,
     part: &[u8],

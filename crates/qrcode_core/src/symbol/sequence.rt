@@ -12,12 +12,12 @@ ghost use Rattle.qrcode_bits.specs.Plans.{normal};
 ghost use Rattle.qrcode_bits.specs.Push.{IsFrontRefused};
 ghost use Rattle.qrcode_bits.specs.declared.bits.front.Content.TheVariants.{Bytes, Text};
 ghost use Rattle.qrcode_base.specs.Symbols.{IsNormalNumber};
-ghost use Rattle.qrcode_bits.specs.Frame.{HasFront};
+ghost use Rattle.qrcode_bits.specs.Frame.{HasFront, IsTotal};
 ghost use Rattle.qrcode_core.specs.Headline.{IsBestUpTo};
 ghost use Rattle.qrcode_core.specs.Drawn.{TellsReading, modules_of};
 ghost use Rattle.qrcode_core.specs.Sequence.{parity_of, parts_at, AreBestSymbols};
 ghost use Rattle.qrcode_core.specs.Sequence.{IsSomePartTooLong};
-ghost use Rattle.qrcode_core.specs.Sequence.{IsSequenceRefusal};
+ghost use Rattle.qrcode_core.specs.Sequence.{IsSequenceRefusal, IsTotalRefusal};
 
 use crate::symbol::owned::{Symbol, symbol_of};
 use qrcode_base::symbols::is_normal_number;
@@ -136,13 +136,7 @@ fn symbols_of(
     ensures refused { IfErr result
         (IsSequenceRefusal content bytes.now cuts.now level max_version) }
 {
-    if !is_normal_number(max_version) {
-        return Err(QrError::InvalidResourceLimits);
-    }
-    let total = cuts.len().min(254) as u8 + 1;
-    if total < 2 || total > 16 {
-        return Err(QrError::InvalidStructuredAppend { value: total });
-    }
+    let total = total_of(cuts, max_version)?;
     let parity = parity_of(bytes);
     let mut symbols = Vec::new(alloc);
     for index in 0..total {
@@ -153,6 +147,24 @@ fn symbols_of(
         symbols.push(symbol?)?;
     }
     Ok(symbols)
+}
+
+/// Returns the number of parts. It fails with `InvalidResourceLimits` if the greatest version is
+/// not 1 to 40, and then with `InvalidStructuredAppend` if the number is not 2 to 16.
+pub(crate) fn total_of(cuts: &[usize], max_version: i16) -> QrResult<u8>
+    ensures total { IfOk result (λ total. total ≡ length cuts.now + 1) }
+    ensures few { OnOk result (IsTotal (length cuts.now + 1)) }
+    ensures limit { OnOk result (IsNormalNumber max_version) }
+    ensures refused { IfErr result (IsTotalRefusal (length cuts.now + 1) max_version) }
+{
+    if !is_normal_number(max_version) {
+        return Err(QrError::InvalidResourceLimits);
+    }
+    let total = cuts.len().min(254) as u8 + 1;
+    if total < 2 || total > 16 {
+        return Err(QrError::InvalidStructuredAppend { value: total });
+    }
+    Ok(total)
 }
 
 /// Returns the modules of 2 to 16 symbols that carry a message together, in the order of its parts
@@ -205,7 +217,7 @@ fn colors_of_all(alloc: Global, symbols: Vec<Symbol>) -> QrResult<Vec<Vec<Color>
 }
 
 /// Returns the exclusive or of the bytes.
-fn parity_of(bytes: &[u8]) -> u8
+pub(crate) fn parity_of(bytes: &[u8]) -> u8
     ensures { result ≡ parity_of bytes.now }
 {
     bytes.iter().fold(0, |sum, byte| sum ^ *byte)
@@ -213,7 +225,7 @@ fn parity_of(bytes: &[u8]) -> u8
 
 /// Returns part `index` of the message, which begins at the start or a cut, and ends before the
 /// next cut or at the end.
-fn part_at<'a>(bytes: &'a [u8], cuts: &[usize], index: usize) -> &'a [u8]
+pub(crate) fn part_at<'a>(bytes: &'a [u8], cuts: &[usize], index: usize) -> &'a [u8]
     requires ordered { IsNonDecreasing cuts.now }
     requires within { All (λ cut. cut ≤ length bytes.now) cuts.now }
     requires exists { index ≤ length cuts.now }
@@ -229,7 +241,7 @@ fn part_at<'a>(bytes: &'a [u8], cuts: &[usize], index: usize) -> &'a [u8]
 }
 
 /// Returns the best symbol of a part after its front.
-fn part_symbol(
+pub(crate) fn part_symbol(
     alloc: Global,
     front: &Front,
     part: &[u8],

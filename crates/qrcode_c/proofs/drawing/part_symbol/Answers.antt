@@ -1,9 +1,9 @@
 -- The symbol at the index, written or too large for the buffer.
 use Rattle.std.proofs.Common.{◌≡◌, ◌∙◌, subst, sym, w32, rules}
-use Rattle.std.{specs.Prelude.map, specs.Prelude.nat_abs, specs.Prelude.ℤ, proofs.lemmas.Int.to_z-of_z}
+use Rattle.std.{specs.Prelude.ℤ, proofs.lemmas.Int.to_z-of_z}
 use Rattle.qrcode_base.specs.{declared.types.errors.QrError.QrError}
-use Rattle.qrcode_core.specs.{Drawn.modules_of, Sequence.AreBestSymbols, Sequence.IsSequenceRefusal}
-use Rattle.qrcode_c.{specs.Levels.level_argument, specs.Refusals.IsAsked, proofs.Answering.part_held, proofs.Answering.part_above}
+use Rattle.qrcode_core.specs.{Sequence.IsSequenceRefusal}
+use Rattle.qrcode_c.{specs.Levels.level_argument, specs.Refusals.IsAsked, proofs.Answering.part_held, proofs.Answering.part_of}
 use Rattle.qrcode_c.{proofs.Answering.short_refused, proofs.Answering.same_limit}
 use Rattle.qrcode_c.proofs.drawing.part_symbol.Goals as goal
 use Rattle.qrcode_bits.specs.declared.bits.front.Content.TheVariants.{Bytes}
@@ -13,26 +13,20 @@ returns-in-Ok-clause-held c =
     let named : c.args.level ≡ level_argument c.in-Some.level = sym (to_z-of_z w32 c.args.level c.ranges.level) ∙ c.in-Some.ensures.level in
     let limited = c.in-Some-limit_of.ensures.limit in
     let same = same_limit c.args.max_version c.in-Some-limit_of.limit limited.0 (to_z-of_z w32 c.args.max_version c.ranges.max_version) limited.1 in
-    part_held c.args.message.now c.args.cuts.now c.in-Some.level c.args.level c.args.max_version c.args.index c.in-Ok.symbols.items c.index.result.now
-    c.args.modules.now _ c.write.result named c.if-index-cuts.false
-    (subst (λ (z : ℤ). AreBestSymbols Bytes c.args.message.now c.args.cuts.now c.in-Some.level (nat_abs z)
-    (map modules_of c.in-Ok.symbols.items)) same c.in-Ok.ensures.best)
-    c.in-Ok.ensures.reading c.index.ensures c.write.ensures.held
+    let part = part_of c.args.message.now c.args.cuts.now c.in-Some.level c.args.max_version _ c.args.index c.in-Ok.symbol same c.in-Ok.ensures.total
+    c.if-index-cuts.false c.in-Ok.ensures.best c.in-Ok.ensures.fitting in
+    part_held c.args.message.now c.args.cuts.now c.in-Some.level c.args.level c.args.max_version c.args.index c.in-Ok.symbol c.args.modules.now _
+    c.write.result named part c.in-Ok.ensures.reading c.write.ensures.held
 
 pub returns-in-Ok-clause-refused : goal.returns-in-Ok-clause-refused
 returns-in-Ok-clause-refused c =
     let named : c.args.level ≡ level_argument c.in-Some.level = sym (to_z-of_z w32 c.args.level c.ranges.level) ∙ c.in-Some.ensures.level in
     let limited = c.in-Some-limit_of.ensures.limit in
     let same = same_limit c.args.max_version c.in-Some-limit_of.limit limited.0 (to_z-of_z w32 c.args.max_version c.ranges.max_version) limited.1 in
-    let best = subst (λ (z : ℤ). AreBestSymbols Bytes c.args.message.now c.args.cuts.now c.in-Some.level (nat_abs z) (map modules_of c.in-Ok.symbols.items))
-    same c.in-Ok.ensures.best in
+    let part = part_of c.args.message.now c.args.cuts.now c.in-Some.level c.args.max_version _ c.args.index c.in-Ok.symbol same c.in-Ok.ensures.total
+    c.if-index-cuts.false c.in-Ok.ensures.best c.in-Ok.ensures.fitting in
     short_refused _ _ c.write.result c.write.ensures.short c.write.ensures.room
-    (λ less. (
-      c.in-Some.level,
-      named,
-      part_above _ c.args.message.now c.args.cuts.now c.in-Some.level c.args.max_version c.args.index c.in-Ok.symbols.items c.index.result.now
-          c.if-index-cuts.false best c.index.ensures less,
-    ))
+    (λ less. (c.in-Some.level, named, record { symbol = c.in-Ok.symbol; is_symbol = part; above = less }))
 
 pub returns-in-Err-DataTooLong-clause-refused : goal.returns-in-Err-DataTooLong-clause-refused
 returns-in-Err-DataTooLong-clause-refused c =

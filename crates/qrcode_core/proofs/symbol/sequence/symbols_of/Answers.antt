@@ -12,20 +12,20 @@ use Rattle.qrcode_core.proofs.symbol.sequence.symbols_of.Goals as goal
 pub returns-in_err-symbol-clause-refused : goal.returns-in_err-symbol-clause-refused
 returns-in_err-symbol-clause-refused c =
     let same = to_z-of_z w16 c.args.max_version c.ranges.max_version in
-    let limit = limit_of c.args.max_version _ _ same c.is_normal_number.ensures c.if-not-is_normal_number.false in
+    let limit = rw same at c.in_ok-total.ensures.limit in
     let part = rw c.from.ensures at c.part_at-part.ensures in
     let front = c.with_header-front.ensures ∙ ap (λ (h : Header). front_of (Some h) c.args.content)
-    (c.new-header.ensures ∙ ap (λ (p : ℕ). header_of (c.loop-index.index + 1) (c.min.result + 1) p) c.parity_of-parity.ensures) in
-    let refused = refused_part c.args.content c.args.bytes.now c.args.cuts.now c.args.level c.args.max_version (c.min.result + 1) c.loop-index.index
+    (c.new-header.ensures ∙ ap (λ (p : ℕ). header_of (c.loop-index.index + 1) c.in_ok-total.total p) c.parity_of-parity.ensures) in
+    let refused = refused_part c.args.content c.args.bytes.now c.args.cuts.now c.args.level c.args.max_version c.in_ok-total.total c.loop-index.index
     _ c.in_err-symbol.field-0.0 limit
-    (omega arith, omega arith) (omega (arith, c.min.ensures)) (omega arith) (rw (part, same, front) at c.in_err-symbol.ensures.refused) in
+    (rw (← c.in_ok-total.ensures.total) at c.in_ok-total.ensures.few) c.in_ok-total.ensures.total (omega arith) (rw (part, same, front) at c.in_err-symbol.ensures.refused) in
     grind (arith, common_steps, refused)
 
 pub returns-in_err-push-clause-refused : goal.returns-in_err-push-clause-refused
 returns-in_err-push-clause-refused c =
     let same = to_z-of_z w16 c.args.max_version c.ranges.max_version in
-    let limit = limit_of c.args.max_version _ _ same c.is_normal_number.ensures c.if-not-is_normal_number.false in
-    let few : IsTotal (length c.args.cuts.now + 1) = (omega (arith, c.min.ensures), omega (arith, c.min.ensures)) in
+    let limit = rw same at c.in_ok-total.ensures.limit in
+    let few = c.in_ok-total.ensures.few in
     grind (arith, limit, few, c.in_err-push.ensures)
 
 pub loop-index-preserved : goal.loop-index-preserved
@@ -36,12 +36,12 @@ loop-index-preserved c =
     let before = c.loop-index.symbols.items in
     let part = rw c.from.ensures at c.part_at-part.ensures in
     let front = c.with_header-front.ensures ∙ ap (λ (h : Header). front_of (Some h) c.args.content)
-    (c.new-header.ensures ∙ ap (λ (p : ℕ). header_of (done + 1) (c.min.result + 1) p) c.parity_of-parity.ensures) in
+    (c.new-header.ensures ∙ ap (λ (p : ℕ). header_of (done + 1) c.in_ok-total.total p) c.parity_of-parity.ensures) in
     let symbol = rw (part, front) at c.in_ok-symbol.ensures.best in
     let grids = map-append modules_of before (c.in_ok-symbol.field-0 ∷ []) in
     record {
       first = rw (c.in_ok-push.ensures.items, grids)
-          (one_more c.args.content bytes cuts c.args.level _ (c.min.result + 1) done (map modules_of before) c.in_ok-symbol.field-0.modules
+          (one_more c.args.content bytes cuts c.args.level _ c.in_ok-total.total done (map modules_of before) c.in_ok-symbol.field-0.modules
           c.loop-index.invariant.first symbol);
       reading = rw c.in_ok-push.ensures.items
           (All-push TellsReading before c.in_ok-symbol.field-0 c.loop-index.invariant.reading c.in_ok-symbol.ensures.reading);
@@ -50,9 +50,9 @@ loop-index-preserved c =
 pub returns-clause-best : goal.returns-clause-best
 returns-clause-best c =
     rw (← to_z-of_z w16 c.args.max_version c.ranges.max_version)
-    (best_symbols c.args.content c.args.bytes.now c.args.cuts.now c.args.level _ (c.min.result + 1) c.loop-index.index
+    (best_symbols c.args.content c.args.bytes.now c.args.cuts.now c.args.level _ c.in_ok-total.total c.loop-index.index
     (map modules_of c.loop-index.symbols.items)
-    c.requires.ordered (omega arith, omega arith) (omega (arith, c.min.ensures)) (omega arith) c.loop-index.invariant.first)
+    c.requires.ordered (rw (← c.in_ok-total.ensures.total) at c.in_ok-total.ensures.few) c.in_ok-total.ensures.total (omega arith) c.loop-index.invariant.first)
 
 pub returns-clause-fitting : goal.returns-clause-fitting
 returns-clause-fitting c =
