@@ -1,20 +1,19 @@
 -- A symbol in a buffer, and its shape.
-use Rattle.std.specs.Prelude.{◌≡◌, ◌+◌, ◌*◌, ◌≤◌, ◌++◌, ℕ, ℤ, nat_abs, List, length, map, drop}
+use Rattle.std.specs.Prelude.{◌≡◌, ◌*◌, ◌++◌, ℕ, ℤ, List, length, map, drop}
 use Rattle.qrcode_base.specs.declared.types.Color.{Color}
 use Rattle.qrcode_base.specs.declared.types.EcLevel.{EcLevel}
 use Rattle.qrcode_grid.specs.Penalty.{byte_of}
 use Rattle.qrcode_base.specs.Symbols.{width_of}
 use Rattle.qrcode_core.specs.Drawn.{DrawnSymbol, TellsReading}
-use Rattle.qrcode_core.specs.Sequence.{IsBestPart, IsSomePartTooLong}
-use Rattle.qrcode_bits.specs.Frame.{Front, IsTotal}
+use Rattle.qrcode_bits.specs.Frame.{Front}
 use Rattle.qrcode_core.specs.Options.{IsAsAsked}
 use Rattle.qrcode_core.specs.declared.options.SymbolOptions.{SymbolOptions}
 use Rattle.qrcode_c.specs.declared.options.Options.{Options}
 use Rattle.qrcode_c.specs.declared.shape.Shape.{Shape}
 use Rattle.qrcode_c.specs.Asking.{AsksFor}
 use Rattle.qrcode_c.specs.Levels.{level_argument}
+use Rattle.qrcode_c.specs.Refusals.{IsPartSymbol}
 use Rattle.qrcode_c.specs.Shapes.{shape_of}
-use Rattle.qrcode_bits.specs.declared.bits.front.Content.TheVariants.{Bytes}
 
 -- The first bytes of the buffer are the modules of the symbol, as many as the square of its width;
 -- the other bytes are unchanged. The shape is that of the symbol.
@@ -47,15 +46,6 @@ pub record IsDrawnAs (front : Front) (bytes before after : List ℕ) (shape : Sh
 abbrev pub HoldsAsked : Front → List ℕ → Options → List ℕ → List ℕ → Shape → Type 0
 HoldsAsked front bytes asked before after shape =
     AsksFor asked (IsDrawnAs front bytes before after shape)
-
--- The symbol is the best one of the part at an index of a message that is cut into 2 to 16 parts,
--- each of which fits a symbol.
-pub record IsPartSymbol (message cuts : List ℕ) (level : EcLevel) (limit : ℤ) (index : ℕ)
-    (symbol : DrawnSymbol) : Type 0 where
-  pub is_total : IsTotal (length cuts + 1)
-  pub is_part : index ≤ length cuts
-  pub is_best : IsBestPart Bytes message cuts level (nat_abs limit) index symbol.modules
-  pub all_fit : IsSomePartTooLong Bytes message cuts level (nat_abs limit) → ⊥
 
 -- The buffer and the shape hold the symbol at an index of those that carry a message together.
 pub record HoldsPart (message cuts : List ℕ) (number limit : ℤ) (index : ℕ)

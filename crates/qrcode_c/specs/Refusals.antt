@@ -11,7 +11,7 @@ use Rattle.qrcode_base.specs.Symbols.{IsNormalNumber}
 use Rattle.qrcode_core.specs.Drawn.{DrawnSymbol}
 use Rattle.qrcode_core.specs.Headline.{IsBestSymbol, IsBestMicroSymbol, IsTooLong}
 use Rattle.qrcode_core.specs.Headline.{IsTooLongForMicro}
-use Rattle.qrcode_core.specs.Sequence.{IsSomePartTooLong}
+use Rattle.qrcode_core.specs.Sequence.{IsBestPart, IsSomePartTooLong}
 use Rattle.qrcode_bits.specs.Frame.{IsTotal}
 use Rattle.qrcode_c.specs.declared.refusal.Refusal.{Refusal}
 use Rattle.qrcode_c.specs.declared.refusal.Refusal.TheVariants.{DataTooLong, OutOfMemory}
@@ -19,7 +19,6 @@ use Rattle.qrcode_c.specs.declared.refusal.Refusal.TheVariants.{InvalidLevel, In
 use Rattle.qrcode_c.specs.declared.refusal.Refusal.TheVariants.{InvalidMaxVersion, InvalidPartCount}
 use Rattle.qrcode_c.specs.declared.refusal.Refusal.TheVariants.{InvalidCuts}
 use Rattle.qrcode_c.specs.declared.refusal.Refusal.TheVariants.{InvalidIndex, ShortBuffer}
-use Rattle.qrcode_c.specs.Holding.{IsPartSymbol}
 use Rattle.qrcode_c.specs.Levels.{AtLevel, IsNoLevel}
 use Rattle.qrcode_c.specs.Statuses.{status_of}
 use Rattle.qrcode_bits.specs.declared.bits.front.Content.TheVariants.{Bytes}
@@ -73,6 +72,15 @@ pub record IsAsked (message cuts : List ℕ) (limit : ℤ) (index : ℕ) : Type 
   pub cuts_good : AreCuts cuts (length message)
   pub is_part : index ≤ length cuts
   pub is_limit : IsNormalNumber limit
+
+-- The symbol is the best one of the part at an index of a message that is cut into 2 to 16 parts,
+-- each of which fits a symbol.
+pub record IsPartSymbol (message cuts : List ℕ) (level : EcLevel) (limit : ℤ) (index : ℕ)
+    (symbol : DrawnSymbol) : Type 0 where
+  pub is_total : IsTotal (length cuts + 1)
+  pub is_part : index ≤ length cuts
+  pub is_best : IsBestPart Bytes message cuts level (nat_abs limit) index symbol.modules
+  pub all_fit : IsSomePartTooLong Bytes message cuts level (nat_abs limit) → ⊥
 
 -- The symbol of the part at the index has more modules than the buffer has bytes.
 pub record IsPartAbove (room : ℕ) (message cuts : List ℕ) (level : EcLevel) (limit : ℤ)
