@@ -162,9 +162,6 @@ pub row_marked : (test : ℕ → ℕ → ℕ → Bool) (rows : List (List ℕ)) 
     ((i : ℕ) → i < n → Marks (get_or rows i []) (test i)) → Marks row (test n) → (i : ℕ) → i < n + 1 → Marks (get_or (set rows n row) i []) (test i)
 row_marked test rows n row inside before now i h = grind (arith, cases_eq, get_or-set_same, get_or-set_other)
 
-none_is : (b : ℕ) → b < 2 → 1 - b ≡ cond (b == 0) 1 0
-none_is b h = grind (arith)
-
 same_is : (a b : ℕ) → a < 2 → b < 2 → (a + (1 - b)) % 2 ≡ cond (a == b) 1 0
 same_is a b h l = grind (arith)
 

@@ -38,12 +38,6 @@ count_places : (p : ℕ → Bool) (n : ℕ) → count_by p (range_with_len 0 n) 
 count_places p zero = refl
 count_places p (suc n) = grind (arith, count_one_more p n (p n) refl, count_places p n)
 
--- The squares that the penalty counts of two rows are those that `count_squares` counts of them.
-pub squares_by_length : (w : ℕ) (cells : List ℕ) (y : ℕ) (next : List ℕ) → length cells ≡ w * w → y < w →
-    count_below (is_byte_square_at (row w cells y) next) (w - 1)
-    ≡ count_by (is_byte_square_at (row w cells y) next) (range_with_len 0 (length (row w cells y) - 1))
-squares_by_length w cells y next square inside = grind (arith, length-row, count_places)
-
 -- a line with the four modules of the quiet zone before it
 abbrev quiet : List ℕ → List ℕ
 quiet line = 0 ∷ 0 ∷ 0 ∷ 0 ∷ line
