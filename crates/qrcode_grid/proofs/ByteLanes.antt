@@ -18,15 +18,7 @@ bit_of_mark false m h = bit_at-zero m
 -- what is selected by tests marks the places that pass
 select_marks : (ts : List Bool) (test : ℕ → Bool) → length ts ≡ 16 → ((j : ℕ) → j < 16 → get_or ts j false ≡ test j) →
     Marks (sel_l ts (replicate 16 255) (replicate 16 0)) (λ m j. test j)
-select_marks ts test l e = record {
-  whole = length-sel_l ts (replicate 16 255) (replicate 16 0) l l ∙ l;
-  bits = λ m j hm hj.
-      ap (λ b. bit_at b m) (get_or-sel_l ts (replicate 16 255) (replicate 16 0) j 0 (omega (arith, l, hj)) hj hj
-      ∙ ap (λ x. cond (get_or ts j false) x (get_or (replicate 16 0) j 0)) (get_or-replicate 16 j 255 0 hj)
-      ∙ ap (λ x. cond (get_or ts j false) 255 x) (get_or-replicate 16 j 0 0 hj)
-      ∙ ap (λ t. cond t 255 0) (e j hj))
-      ∙ bit_of_mark (test j) m hm;
-}
+select_marks ts test l e = grind (arith, length-sel_l, get_or-sel_l, get_or-replicate, bit_of_mark)
 
 pub dark_marked : (bytes : List ℕ) (at : ℕ) → at + 16 ≤ length bytes →
     Marks (sel_l (map (top 7) (zip2 (λ a b. cond (not (a == b)) 255 0) (chunk at 16 bytes) (replicate 16 0))) (replicate 16 255) (replicate 16 0))

@@ -49,13 +49,5 @@ pub next_word : (version : Version) (level : EcLevel) (words : List ℕ) (k word
     ((i : ℕ) (p : MaskPattern) → i < k → slice_get (family version) i ≡ Some p → get_or words (normal_number p) 0 ≡ format_word version level p) →
     (i : ℕ) (p : MaskPattern) → i < k + 1 → slice_get (family version) i ≡ Some p →
     get_or (set words (normal_number q) word) (normal_number p) 0 ≡ format_word version level p
-next_word version level words k word q size here is before i p within e = elim (cases_lt i k) [
-  | inl early ↦
-      let other = later_number version i k p q early e here in
-      get_or-set_other words (normal_number q) (normal_number p) word 0 (λ same. omega (arith, other, same)) ∙ before i p early e
-  | inr late ↦
-      let at : i ≡ k = omega (arith, within, late) in
-      let same : q ≡ p = the_mask (sym here ∙ ap (slice_get (family version)) (sym at) ∙ e) in
-      ap (λ r. get_or (set words (normal_number q) word) (normal_number r) 0) (sym same)
-      ∙ get_or-set_same words (normal_number q) word 0 (omega (arith, size, number_below q)) ∙ is ∙ ap (format_word version level) same
-]
+next_word version level words k word q size here is before i p within e =
+    grind (arith, later_number, get_or-set_other, the_mask, get_or-set_same, number_below, cases_lt)
