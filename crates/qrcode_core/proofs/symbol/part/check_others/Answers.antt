@@ -2,7 +2,8 @@
 use Rattle.qrcode_core.proofs.Prelude.{◌≡◌, arith, common_steps, to_z-of_z, cases_eq, inl, inr, ◌∙◌}
 use mir.Syntax.{w16}
 use Rattle.qrcode_core.proofs.symbol.part.check_others.Goals as goal
-use Rattle.qrcode_core.proofs.symbol.part.check_others.Goals.{else-other-index-via-then-other-index+in_ok-part_fits+else-not-branch, else-other-index-via-else-other-index}
+use Rattle.qrcode_core.proofs.symbol.part.check_others.Goals.{else-other-index-via-then-other-index+in_ok-part_fits+else-not-branch}
+use Rattle.qrcode_core.proofs.symbol.part.check_others.Goals.{else-other-index-via-else-other-index}
 
 pub returns-then-not-branch-clause-refused : goal.returns-then-not-branch-clause-refused
 returns-then-not-branch-clause-refused c =
@@ -15,7 +16,8 @@ loop-other-preserved c = record {
   fitting = λ k below apart. elim (cases_eq k c.loop-other.other) [
     | inr earlier ↦ c.loop-other.invariant.fitting k (omega arith) apart
     | inl last ↦ elim c.else-other-index.branch [
-      | else-other-index-via-then-other-index+in_ok-part_fits+else-not-branch w ↦ rw last (rw c.part_at-part.ensures at w.in_ok-part_fits.ensures.fits w.if-not-branch.false)
+      | else-other-index-via-then-other-index+in_ok-part_fits+else-not-branch w ↦
+          rw last (rw c.part_at-part.ensures at w.in_ok-part_fits.ensures.fits w.if-not-branch.false)
       | else-other-index-via-else-other-index w ↦ absurd (apart (last ∙ w.if-other-index.false))
     ]
   ];

@@ -16,9 +16,9 @@ returns-in_err-symbol-clause-refused c =
     let part = rw c.from.ensures at c.part_at-part.ensures in
     let front = c.with_header-front.ensures ∙ ap (λ (h : Header). front_of (Some h) c.args.content)
     (c.new-header.ensures ∙ ap (λ (p : ℕ). header_of (c.loop-index.index + 1) c.in_ok-total.total p) c.parity_of-parity.ensures) in
+    let few = rw (← c.in_ok-total.ensures.total) at c.in_ok-total.ensures.few in
     let refused = refused_part c.args.content c.args.bytes.now c.args.cuts.now c.args.level c.args.max_version c.in_ok-total.total c.loop-index.index
-    _ c.in_err-symbol.field-0.0 limit
-    (rw (← c.in_ok-total.ensures.total) at c.in_ok-total.ensures.few) c.in_ok-total.ensures.total (omega arith) (rw (part, same, front) at c.in_err-symbol.ensures.refused) in
+    _ c.in_err-symbol.field-0.0 limit few c.in_ok-total.ensures.total (omega arith) (rw (part, same, front) at c.in_err-symbol.ensures.refused) in
     grind (arith, common_steps, refused)
 
 pub returns-in_err-push-clause-refused : goal.returns-in_err-push-clause-refused
