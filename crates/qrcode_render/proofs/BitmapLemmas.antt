@@ -9,7 +9,12 @@ use Rattle.std.{proofs.lemmas.Nat.div-add-mod', proofs.Math.Nat.mod-eq-sub-div-m
 use Rattle.std.{proofs.lemmas.Nat.div-mul-add, proofs.lemmas.List.Sums.fold-append}
 use Rattle.qrcode_render.specs.Bitmaps.{bits_number, pixel_byte, bitmap_row, row_length, first_rows, rows_from}
 use Rattle.qrcode_render.{specs.Pictures.Picture, specs.Pictures.pixel_width, specs.Pictures.columns_of, specs.Pictures.is_dark_module}
+use Rattle.qrcode_render.specs.Rows.{dark_byte, is_dark_at}
+use Rattle.qrcode_render.specs.declared.picture.Row.{Row}
 use Rattle.qrcode_render.proofs.Ranges.{flat_map_from, equal_values}
+use Rattle.qrcode_render.proofs.RunLemmas.{map_same}
+use Rattle.std.proofs.Common.{get_or}
+use Rattle.std.proofs.lemmas.List.FromFn.{get_or-map-range_with_len}
 
 -- the number that the tests of n places from x on spell
 abbrev pub spelled : (ℕ → Bool) → ℕ → ℕ → ℕ
@@ -160,6 +165,26 @@ pub whole_row : (p : Picture) (per : ℕ) → p.scale ≡ 8 * per → row_length
 whole_row p per whole =
     let pixels : pixel_width p ≡ 8 * (columns_of p * per) = ap (λ s. columns_of p * s) whole ∙ eight_times (columns_of p) per in
     omega (arith, pixels)
+
+-- the byte of a column
+pub column_byte : (row : Row) (bytes : List ℕ) (columns column d : ℕ) → bytes ≡ map (dark_byte row) (range_with_len 0 columns) → column < columns →
+    get_or bytes column d ≡ dark_byte row column
+column_byte row bytes columns column d are below =
+    ap (λ l. get_or l column d) are ∙ get_or-map-range_with_len (dark_byte row) 0 columns column column d below (omega arith)
+
+-- where a module is one byte wide, the bytes of the columns are all of a row
+pub columns_row : (p : Picture) (row : Row) (y columns : ℕ) → p.scale ≡ 8 → columns ≡ columns_of p →
+    ((x : ℕ) → is_dark_at row x ≡ is_dark_module p x (y / p.scale)) → map (dark_byte row) (range_with_len 0 columns) ≡ bitmap_row p y
+unfolding bitmap_row
+columns_row p row y columns eight wide dark =
+    let whole : p.scale ≡ 8 * 1 = omega (arith, eight) in
+    let same : (x : ℕ) → dark_byte row x ≡ pixel_byte p y x = λ x.
+    (let here : x * 1 + 0 ≡ x = omega arith in
+    ap (λ (d : Bool). if d then 255 else 0) (dark x)
+    ∙ sym (module_byte p y x 0 1 whole (omega arith)) ∙ ap (pixel_byte p y) here) in
+    let long : columns ≡ row_length p = omega (arith, wide, whole_row p 1 whole) in
+    map_same (dark_byte row) (pixel_byte p y) (range_with_len 0 columns) same
+    ∙ ap (λ n. map (pixel_byte p y) (range_with_len 0 n)) long
 
 pub ruleset bits = (spelled_more, spelled_small)
 

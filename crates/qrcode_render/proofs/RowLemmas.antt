@@ -1,9 +1,13 @@
 -- The modules of a row, in the grid and in the quiet zone.
-use Rattle.std.proofs.Common.{◌≡◌, ℕ, zero, suc, ◌+◌, ◌-◌, ◌*◌, ◌<◌, ◌≤◌, Bool, true, false, List, [], ◌∷◌, take, drop, refl, ap, ◌∙◌, arith}
+use Rattle.std.proofs.Common.{◌≡◌, ℕ, zero, suc, ◌+◌, ◌-◌, ◌*◌, ◌<◌, ◌≤◌, Bool, true, false, List, [], ◌∷◌, take, drop, length, get_or, map, refl, sym, ap, ◌∙◌, arith}
 use Rattle.std.specs.Prelude.{◌&&◌, nat_le, slice_get, None}
+use Rattle.std.specs.List.{range_with_len}
+use Rattle.std.proofs.lemmas.List.FromFn.{fill_by_all}
 use Rattle.std.proofs.lemmas.Bool.{lt-ltb, le-ltb, lt-leb, le-leb, cases_lt}
 use Rattle.std.proofs.Common.{inl, inr}
 use Rattle.qrcode_render.specs.Pictures.{Picture, is_dark_color, is_dark_module}
+use Rattle.qrcode_render.specs.Rows.{dark_byte}
+use Rattle.qrcode_render.specs.declared.picture.Row.{Row}
 
 and_false : (a : Bool) → (a && false) ≡ false
 and_false true = refl
@@ -41,6 +45,25 @@ no_more xs zero x h = refl
 no_more [] (suc n) x h = refl
 no_more (y ∷ xs) (suc n) zero h = absurd (omega (arith, h))
 no_more (y ∷ xs) (suc n) (suc x) h = no_more xs n x (omega (arith, h))
+
+past_end : {A : Type 0} (xs : List A) (x : ℕ) → length xs ≤ x → slice_get xs x ≡ None
+past_end [] x h = refl
+past_end (y ∷ xs) zero h = absurd (omega (arith, h))
+past_end (y ∷ xs) (suc x) h = past_end xs x (omega (arith, h))
+
+-- a column behind the modules
+past_byte : (row : Row) (k : ℕ) → row.quiet + length row.modules.now ≤ k → dark_byte row k ≡ 0
+past_byte row k h = rw (past_end row.modules.now (k - row.quiet) (omega (arith, h)), and_false (nat_le row.quiet k)) refl
+
+-- all bytes of a row
+pub all_columns : (row : Row) (bytes : List ℕ) (n end : ℕ) → length bytes ≡ n → end ≡ row.quiet + length row.modules.now →
+    ((k : ℕ) → k < end → get_or bytes k 0 ≡ dark_byte row k) → ((k : ℕ) → end ≤ k → get_or bytes k 0 ≡ 0) →
+    bytes ≡ map (dark_byte row) (range_with_len 0 n)
+all_columns row bytes n end long is written left =
+    fill_by_all (dark_byte row) bytes n 0 long (λ k below. elim (cases_lt k end) [
+      | inl within ↦ written k within
+      | inr past ↦ left k past ∙ sym (past_byte row k (omega (arith, is, past)))
+    ])
 
 -- a module of a row of the grid
 pub row_dark : (p : Picture) (column row : ℕ) → p.quiet ≤ row → row - p.quiet < p.grid.rows →

@@ -1,5 +1,5 @@
 //! The rows of pixels of a picture, as bits: dark is 1.
-ghost use Rattle.std.specs.Prelude.{◌≡◌, ◌+◌, ◌/◌, ◌%◌, ◌<◌, ◌≤◌, ◌++◌, IfOk, OnOk, if◌then◌else◌};
+ghost use Rattle.std.specs.Prelude.{◌≡◌, ◌+◌, ◌/◌, ◌%◌, ◌<◌, ◌≤◌, ◌++◌, IfOk, OnOk};
 ghost use Rattle.std.specs.Prelude.{◌*◌, map};
 ghost use Rattle.std.specs.List.{range_with_len};
 ghost use Rattle.qrcode_render.specs.declared.bounds.TheConstants.{MAX_PIXELS, MAX_SCALE};
@@ -74,22 +74,20 @@ fn whole_bytes(alloc: Global, picture: &Picture, y: usize) -> Result<Vec<u8>, Al
     ensures { IfOk result (λ line. line.items ≡ bitmap_row (shown picture.now) y) }
 {
     let scale = picture.scale();
-    let (row, per) = (picture.row(y / scale), scale / 8);
+    let row = picture.row(y / scale);
+    let modules = row.bytes(alloc, picture.columns())?;
+    if scale == 8 {
+        return Ok(modules);
+    }
+    let per = scale / 8;
     let mut line = Vec::with_capacity(alloc, picture.row_length())?;
-    for column in 0..picture.columns() {
-        let byte = module_byte(row, column);
+    for column in 0..modules.len() {
+        let byte = modules[column];
         for copy in 0..per {
             line.push(byte)?;
         }
     }
     Ok(line)
-}
-
-/// Returns a byte of pixels of the module in this column.
-fn module_byte(row: Row, column: usize) -> u8
-    ensures { result ≡ (if is_dark_at row.entry column then 255 else 0) }
-{
-    if row.is_dark(column) { 255 } else { 0 }
 }
 
 /// Returns the bytes of a row of pixels, module by module.

@@ -1,5 +1,5 @@
 //! A picture: a grid with its scale and its quiet zone.
-ghost use Rattle.std.specs.Prelude.{ℕ, ◌≡◌, ◌*◌, ◌<◌, ◌≤◌, ◌↔◌, length, IfSome, IsSome};
+ghost use Rattle.std.specs.Prelude.{ℕ, ◌≡◌, ◌+◌, ◌*◌, ◌<◌, ◌≤◌, ◌↔◌, length, IfSome, IsSome};
 ghost use Rattle.qrcode_render.specs.declared.bounds.TheConstants.{MIN_SCALE, MAX_SCALE, MAX_QUIET};
 ghost use Rattle.qrcode_render.specs.declared.bounds.TheConstants.{MAX_MODULES, MAX_COLUMNS, MAX_PIXELS};
 ghost use Rattle.qrcode_render.specs.declared.bounds.TheConstants.{MAX_ROW};
@@ -11,6 +11,7 @@ use crate::options::RenderOptions;
 use qrcode_core::symbol::Symbol;
 use qrcode_core::traits::ModuleSource;
 use qrcode_core::types::Color;
+use std::alloc::{AllocError, Global};
 
 /// A borrowed grid, with the width of a module in pixels and the width of the light quiet zone
 /// around the grid in modules. Nothing is copied.
@@ -39,7 +40,26 @@ pub(crate) struct Row<'a> {
 }
 
 impl<'a> Row<'a> {
-    ghost use Rattle.qrcode_render.specs.Rows.{is_dark_at};
+    ghost use Rattle.std.specs.Prelude.{map, IfOk};
+    ghost use Rattle.std.specs.List.{range_with_len};
+    ghost use Rattle.qrcode_render.specs.Rows.{dark_byte, is_dark_at};
+
+    /// Returns a byte for each column, counted from the edge of the quiet zone: 255 where the
+    /// module is dark, else 0.
+    pub(crate) fn bytes(&self, alloc: Global, columns: usize) -> Result<Vec<u8>, AllocError>
+        requires { self.now.quiet + length self.now.modules.now ≤ columns }
+        ensures { IfOk result
+            (λ line. line.items ≡ map (dark_byte self.now) (range_with_len 0 columns)) }
+    {
+        let mut line = Vec::new(alloc);
+        line.resize(columns, 0)?;
+        let modules = self.modules;
+        let quiet = self.quiet;
+        for i in 0..modules.len() {
+            line[quiet + i] = modules[i].select(255, 0);
+        }
+        Ok(line)
+    }
 
     /// Whether the module in this column, counted from the edge of the quiet zone, is dark.
     #[inline]
@@ -180,8 +200,9 @@ impl<'a> Picture<'a> {
 
     /// Returns the modules of a row, counted from the edge of the quiet zone.
     pub(crate) fn row(&self, row: usize) -> Row<'a>
-        ensures { (column : ℕ)
+        ensures dark { (column : ℕ)
             → is_dark_at result column ≡ is_dark_module (shown self.now) column row }
+        ensures inside { result.quiet + length result.modules.now ≤ columns_of (shown self.now) }
     {
         let quiet = self.quiet;
         if row < quiet || row - quiet >= self.rows {
