@@ -33,7 +33,7 @@ spelled_below f x (suc n) = grind (arith, add-one, spelled_more f x n, pow_more 
 pub spelled_small : (f : ℕ → Bool) (x n : ℕ) → n < 8 → spelled f x n * 2 + 1 < 256
 spelled_small f x n below = grind (arith, pow_mono, spelled_below)
 
-twice_power : (a k : ℕ) → a * 2 ^ suc k ≡ (a * 2 ^ k) * 2
+pub twice_power : (a k : ℕ) → a * 2 ^ suc k ≡ (a * 2 ^ k) * 2
 twice_power a k =
     let next : suc k ≡ k + 1 = omega arith in
     ap (λ n. a * 2 ^ n) next ∙ grind (arith, pow_more 2 k)

@@ -1,6 +1,7 @@
 pub mod Ranges
 pub mod RowLemmas
 pub mod BitmapLemmas
+pub mod PackedLemmas
 pub mod RunLemmas
 pub mod BandLemmas
 pub mod PixelLemmas

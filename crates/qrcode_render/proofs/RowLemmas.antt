@@ -9,7 +9,7 @@ use Rattle.qrcode_render.specs.Pictures.{Picture, is_dark_color, is_dark_module}
 use Rattle.qrcode_render.specs.Rows.{dark_byte}
 use Rattle.qrcode_render.specs.declared.picture.Row.{Row}
 
-and_false : (a : Bool) → (a && false) ≡ false
+pub and_false : (a : Bool) → (a && false) ≡ false
 and_false true = refl
 and_false false = refl
 

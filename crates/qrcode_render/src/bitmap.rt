@@ -1,5 +1,6 @@
 //! The rows of pixels of a picture, as bits: dark is 1.
-ghost use Rattle.std.specs.Prelude.{◌≡◌, ◌+◌, ◌/◌, ◌%◌, ◌<◌, ◌≤◌, ◌++◌, IfOk, OnOk};
+ghost use Rattle.std.specs.Prelude.{◌≡◌, ◌+◌, ◌/◌, ◌%◌, ◌^◌, ◌<◌, ◌≤◌, ◌++◌, IfOk, OnOk};
+ghost use Rattle.std.specs.Prelude.{if◌then◌else◌};
 ghost use Rattle.std.specs.Prelude.{◌*◌, map};
 ghost use Rattle.std.specs.List.{range_with_len};
 ghost use Rattle.qrcode_render.specs.declared.bounds.TheConstants.{MAX_PIXELS, MAX_SCALE};
@@ -60,10 +61,13 @@ pub(crate) fn push_rows_from(
 pub(crate) fn row_bytes(alloc: Global, picture: &Picture, y: usize) -> Result<Vec<u8>, AllocError>
     ensures { IfOk result (λ line. line.items ≡ bitmap_row (shown picture.now) y) }
 {
-    if picture.scale() % 8 == 0 {
+    let scale = picture.scale();
+    if scale % 8 == 0 {
         whole_bytes(alloc, picture, y)
-    } else {
+    } else if scale <= 56 {
         packed_bytes(alloc, picture, y)
+    } else {
+        wide_bytes(alloc, picture, y)
     }
 }
 
@@ -91,8 +95,46 @@ fn whole_bytes(alloc: Global, picture: &Picture, y: usize) -> Result<Vec<u8>, Al
 }
 
 /// Returns the bytes of a row of pixels, module by module.
-#[tactic(auto, unfolding(crate::specs::Bitmaps::bitmap_row))]
 fn packed_bytes(alloc: Global, picture: &Picture, y: usize) -> Result<Vec<u8>, AllocError>
+    requires { (shown picture.now).scale ≤ 56 }
+    ensures { IfOk result (λ line. line.items ≡ bitmap_row (shown picture.now) y) }
+{
+    let scale = picture.scale();
+    let row = picture.row(y / scale);
+    let modules = row.bytes(alloc, picture.columns())?;
+    let mut line = Vec::with_capacity(alloc, picture.row_length())?;
+    let mut bits = 0;
+    let mut filled = 0;
+    for column in 0..modules.len() {
+        bits = with_module(bits, filled, scale, modules[column] > 0);
+        filled += scale;
+        while filled >= 8 {
+            filled -= 8;
+            line.push((bits >> filled) as u8)?;
+            bits %= 1 << filled;
+        }
+    }
+    if filled > 0 {
+        line.push((bits << (8 - filled)) as u8)?;
+    }
+    Ok(line)
+}
+
+/// Returns bits with those of a module after them.
+#[inline]
+fn with_module(bits: u64, filled: usize, scale: usize, dark: bool) -> u64
+    requires few { filled < 8 }
+    requires scaled { scale ≤ 56 }
+    requires small { bits < 2 ^ filled }
+    ensures { result + (if dark then 1 else 0) ≡ (bits + (if dark then 1 else 0)) * 2 ^ scale }
+{
+    let one = u64::from(dark);
+    ((bits + one) << scale) - one
+}
+
+/// Returns the bytes of a row of pixels, byte by byte.
+#[tactic(auto, unfolding(crate::specs::Bitmaps::bitmap_row))]
+fn wide_bytes(alloc: Global, picture: &Picture, y: usize) -> Result<Vec<u8>, AllocError>
     ensures { IfOk result (λ line. line.items ≡ bitmap_row (shown picture.now) y) }
 {
     let (length, scale) = (picture.row_length(), picture.scale());

@@ -1,8 +1,19 @@
--- The bytes so far are the first of the row.
-use Rattle.std.proofs.Common.{◌≡◌, map}
-use Rattle.std.specs.List.{range_with_len}
-use Rattle.qrcode_render.specs.{Bitmaps.pixel_byte, Shown.shown}
+-- The bytes so far are those of the row, and the bits after them are held.
+use Rattle.std.proofs.Common.{◌+◌, ◌*◌, ◌<◌}
+use Rattle.qrcode_render.{specs.Shown.shown, proofs.PackedLemmas.Packed}
 use Rattle.qrcode_render.proofs.bitmap.packed_bytes.Given as goal
 
-abbrev pub invariant-loop-place : goal.invariant-loop-place
-invariant-loop-place l = l.line.items ≡ map (pixel_byte (shown l.picture) l.y) (range_with_len 0 l.place)
+abbrev pub invariant-loop-column : goal.invariant-loop-column
+invariant-loop-column l = record {
+  few : l.filled < 8;
+  packed : Packed (shown l.picture) l.y l.line.items l.bits l.filled (l.column * l.scale);
+}
+
+abbrev pub invariant-loop-filled : goal.invariant-loop-filled
+invariant-loop-filled l = record {
+  few : l.filled < 64;
+  packed : Packed (shown l.picture) l.y l.line.items l.bits l.filled ((l.column + 1) * l.scale);
+}
+
+abbrev pub decreases-loop-filled : goal.decreases-loop-filled
+decreases-loop-filled l = l.filled
