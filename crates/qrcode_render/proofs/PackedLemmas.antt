@@ -8,11 +8,13 @@ use Rattle.std.proofs.Math.Nat.{le-div_iff_mul-le, le-mul_of_pos_right, mod-eq-s
 use Rattle.std.proofs.lemmas.Bool.{le-ltb}
 use Rattle.std.proofs.lemmas.List.{length-append}
 use Rattle.std.proofs.lemmas.Nat.{div-mul-add, pow-add, pow_pos}
-use Rattle.qrcode_render.specs.Bitmaps.{bitmap_row, pixel_byte, row_length}
+use Rattle.qrcode_render.specs.Bitmaps.{bits_number, bitmap_row, pixel_byte, row_length}
 use Rattle.qrcode_render.specs.Pictures.{Picture, columns_of, pixel_width, is_dark_module, is_dark_pixel}
 use Rattle.qrcode_render.proofs.BitmapLemmas.{spelled, spelled_more, spelled_below, spelled_run, bytes_more, twice_power}
 use Rattle.qrcode_render.proofs.RowLemmas.{and_false}
-use Rattle.qrcode_render.proofs.RunLemmas.{fitting}
+use Rattle.qrcode_render.proofs.RunLemmas.{fitting, map_same}
+use Rattle.qrcode_render.proofs.Ranges.{equal_values}
+use Rattle.std.proofs.Common.{replicate}
 
 abbrev pub dark_at : Picture → ℕ → ℕ → Bool
 dark_at p y x = is_dark_pixel p x y
@@ -186,3 +188,19 @@ power_whole k few =
 pub lit : (dark : Bool) → nat_lt 0 (if dark then 255 else 0) ≡ dark
 lit true = refl
 lit false = refl
+
+-- the byte of a row without dark modules
+light_byte : (p : Picture) (y place : ℕ) → ((column : ℕ) → is_dark_module p column (y / p.scale) ≡ false) → pixel_byte p y place ≡ 0
+unfolding pixel_byte
+light_byte p y place light =
+    ap bits_number (map_same (dark_at p y) (λ _. false) (range_with_len (8 * place) 8) (λ (x : ℕ). light (x / p.scale)))
+
+-- a row without dark modules
+pub light_pixels : (p : Picture) (y n : ℕ) → n ≡ row_length p → ((column : ℕ) → is_dark_module p column (y / p.scale) ≡ false) →
+    replicate n 0 ≡ bitmap_row p y
+unfolding bitmap_row
+light_pixels p y n long light =
+    let same : (k : ℕ) → k < row_length p → pixel_byte p y (0 + k) ≡ pixel_byte p y 0 = λ k below.
+    light_byte p y (0 + k) light ∙ sym (light_byte p y 0 light) in
+    ap (λ m. replicate m 0) long
+    ∙ (ap (replicate (row_length p)) (sym (light_byte p y 0 light)) ∙ sym (equal_values (pixel_byte p y) 0 (row_length p) same))

@@ -6,7 +6,7 @@ use Rattle.std.proofs.lemmas.List.FromFn.{fill_by_all}
 use Rattle.std.proofs.lemmas.Bool.{lt-ltb, le-ltb, lt-leb, le-leb, cases_lt}
 use Rattle.std.proofs.Common.{inl, inr}
 use Rattle.qrcode_render.specs.Pictures.{Picture, is_dark_color, is_dark_module}
-use Rattle.qrcode_render.specs.Rows.{dark_byte}
+use Rattle.qrcode_render.specs.Rows.{dark_byte, is_dark_at}
 use Rattle.qrcode_render.specs.declared.picture.Row.{Row}
 
 pub and_false : (a : Bool) → (a && false) ≡ false
@@ -54,6 +54,10 @@ past_end (y ∷ xs) (suc x) h = past_end xs x (omega (arith, h))
 -- a column behind the modules
 past_byte : (row : Row) (k : ℕ) → row.quiet + length row.modules.now ≤ k → dark_byte row k ≡ 0
 past_byte row k h = rw (past_end row.modules.now (k - row.quiet) (omega (arith, h)), and_false (nat_le row.quiet k)) refl
+
+-- no module is dark in a row without modules
+pub light_row : (row : Row) (column : ℕ) → length row.modules.now ≡ 0 → is_dark_at row column ≡ false
+light_row row column none = rw (past_end row.modules.now (column - row.quiet) (omega (arith, none))) (and_false (nat_le row.quiet column))
 
 -- all bytes of a row
 pub all_columns : (row : Row) (bytes : List ℕ) (n end : ℕ) → length bytes ≡ n → end ≡ row.quiet + length row.modules.now →

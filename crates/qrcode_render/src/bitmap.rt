@@ -1,7 +1,7 @@
 //! The rows of pixels of a picture, as bits: dark is 1.
 ghost use Rattle.std.specs.Prelude.{◌≡◌, ◌+◌, ◌/◌, ◌%◌, ◌^◌, ◌<◌, ◌≤◌, ◌++◌, IfOk, OnOk};
 ghost use Rattle.std.specs.Prelude.{if◌then◌else◌};
-ghost use Rattle.std.specs.Prelude.{◌*◌, map};
+ghost use Rattle.std.specs.Prelude.{◌*◌, map, replicate};
 ghost use Rattle.std.specs.List.{range_with_len};
 ghost use Rattle.qrcode_render.specs.declared.bounds.TheConstants.{MAX_PIXELS, MAX_SCALE};
 ghost use Rattle.qrcode_render.specs.Bitmaps.{bits_number, first_rows, bitmap_row, rows_from};
@@ -62,13 +62,24 @@ pub(crate) fn row_bytes(alloc: Global, picture: &Picture, y: usize) -> Result<Ve
     ensures { IfOk result (λ line. line.items ≡ bitmap_row (shown picture.now) y) }
 {
     let scale = picture.scale();
-    if scale % 8 == 0 {
+    if picture.row(y / scale).is_light() {
+        light_bytes(alloc, picture.row_length())
+    } else if scale % 8 == 0 {
         whole_bytes(alloc, picture, y)
     } else if scale <= 56 {
         packed_bytes(alloc, picture, y)
     } else {
         wide_bytes(alloc, picture, y)
     }
+}
+
+/// Returns this many bytes of light pixels.
+fn light_bytes(alloc: Global, length: usize) -> Result<Vec<u8>, AllocError>
+    ensures { IfOk result (λ line. line.items ≡ replicate length 0) }
+{
+    let mut line = Vec::new(alloc);
+    line.resize(length, 0)?;
+    Ok(line)
 }
 
 /// Returns the bytes of a row of pixels, if each module is whole bytes wide.

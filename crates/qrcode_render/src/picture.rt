@@ -40,9 +40,17 @@ pub(crate) struct Row<'a> {
 }
 
 impl<'a> Row<'a> {
-    ghost use Rattle.std.specs.Prelude.{map, IfOk};
+    ghost use Rattle.std.specs.Prelude.{map, false, true, IfOk};
     ghost use Rattle.std.specs.List.{range_with_len};
     ghost use Rattle.qrcode_render.specs.Rows.{dark_byte, is_dark_at};
+
+    /// Whether there are no modules: the row is in the quiet zone, and is light.
+    #[tactic(auto, using(crate::proofs::RowLemmas::light_row))]
+    pub(crate) fn is_light(&self) -> bool
+        ensures { result ≡ true → (column : ℕ) → is_dark_at self.now column ≡ false }
+    {
+        self.modules.is_empty()
+    }
 
     /// Returns a byte for each column, counted from the edge of the quiet zone: 255 where the
     /// module is dark, else 0.
