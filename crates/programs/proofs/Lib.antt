@@ -1,3 +1,4 @@
 pub mod DeviceLemmas
 pub mod Levels
+pub mod LineLemmas
 pub mod Ranges

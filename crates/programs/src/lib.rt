@@ -25,10 +25,12 @@ use std::io::ErrorKind;
 use std::{env, fmt};
 
 mod devices;
+mod lines;
 mod reports;
 mod runs;
 
 pub use devices::{FromReader, FromWriter, Sink, Source};
+pub use lines::read_line;
 pub use reports::{report, write_line};
 pub use runs::{Program, draw, run};
 

@@ -1,0 +1,12 @@
+use Rattle.std.proofs.Common.{◌≡◌, ◌-◌, length, false}
+use Rattle.programs.specs.Lines.{ReadsPart}
+use Rattle.programs.proofs.lines.read_line.Given as goal
+
+abbrev pub invariant-reading : goal.invariant-reading
+invariant-reading g l = record {
+  part : ReadsPart (g.R.Source.state l.initial.reader).left (g.R.Source.state l.reader).left l.line.items;
+  sound : (g.R.Source.state l.reader).failed ≡ false;
+}
+
+abbrev pub decreases-reading : goal.decreases-reading
+decreases-reading g l = 7091 - length l.line.items

@@ -1,0 +1,37 @@
+-- What is read of an input line by line, in terms of the bytes that are known before and after.
+use Rattle.std.specs.Prelude.{◌≡◌, ◌≢◌, ◌⊎◌, ◌<◌, ℕ, ⊤, Option, None, Some, List, [], ◌∷◌, length, All}
+use Rattle.std.specs.Io.BufRead.{first_line, drop_through}
+use Rattle.std.specs.Io.KnownBytes.{Consumes}
+use Rattle.qrcode_base.specs.declared.symbols.TheConstants.{LONGEST_DATA}
+
+-- The bytes begin with these lines, and `rest` comes after them. A line ends with its newline, of
+-- which a carriage return before it is a part, or where the bytes end.
+abbrev pub FirstLines : List ℕ → List (List ℕ) → List ℕ → Type 0
+FirstLines bytes [] rest = bytes ≡ rest
+FirstLines bytes (line ∷ lines) rest =
+    (bytes ≢ []) × (line ≡ first_line bytes) × FirstLines (drop_through 10 bytes) lines rest
+
+-- These lines were read.
+abbrev pub ReadsLines : Option (List ℕ) → Option (List ℕ) → List (List ℕ) → Type 0
+ReadsLines None after lines = ⊤
+ReadsLines (Some bytes) None lines = ⊥
+ReadsLines (Some bytes) (Some rest) lines = FirstLines bytes lines rest
+
+-- Of one line these bytes were read.
+pub record ReadsPart (before after : Option (List ℕ)) (part : List ℕ) : Type 0 where
+  pub read : Consumes before after part
+  pub in_line : All (λ byte. byte ≢ 10) part
+
+-- More was read of one line than a symbol holds, whatever follows.
+pub record ReadsTooMuch (before after : Option (List ℕ)) (part : List ℕ) : Type 0 where
+  pub begins : ReadsPart before after part
+  pub long : LONGEST_DATA < length part
+
+-- This line was read, or so much of it.
+abbrev pub ReadsLine : Option (List ℕ) → Option (List ℕ) → List ℕ → Type 0
+ReadsLine before after line = ReadsLines before after (line ∷ []) ⊎ ReadsTooMuch before after line
+
+-- A part of one line was read, or nothing.
+pub record BeginsLine (before after : Option (List ℕ)) : Type 0 where
+  pub part : List ℕ
+  pub begins : ReadsPart before after part

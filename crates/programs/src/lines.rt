@@ -1,0 +1,57 @@
+//! Lines of an input, one after the other.
+ghost use Rattle.std.specs.Prelude.{◌≡◌, ◌↔◌, ◌⊎◌, [], Ok, true, false};
+ghost use Rattle.std.specs.Prelude.{IsTrue, IsFalse, IfErr, OnErr, IsErrOf};
+ghost use Rattle.std.specs.Io.BufRead.{strip_last};
+ghost use Rattle.std.specs.Io.KnownBytes.{IsAtEnd};
+ghost use Rattle.programs.specs.Lines.{ReadsLine, ReadsLines, BeginsLine};
+
+use crate::{Fault, Source};
+use qrcode_base::symbols::LONGEST_DATA;
+use qrcode_base::types::QrError;
+use std::alloc::AllocError;
+
+/// A number of bytes of a line that no symbol holds, a carriage return at the end included.
+const TOO_LONG: usize = LONGEST_DATA + 2;
+
+/// Reads the next line into `line`, in place of what is there, without its newline and a carriage
+/// return before this, and returns `true`. At the end of the input it returns `false`. Of a line of
+/// more than 7090 bytes it reads 7091. It fails with `Read` if the reader failed, and with
+/// `OutOfMemory`.
+pub fn read_line<R: Source>(reader: &mut R, line: &mut Vec<u8>) -> Result<bool, Fault>
+    requires { IsFalse (R.state reader.old).failed }
+    ensures line { result ≡ Ok true →
+        ReadsLine (R.state reader.old).left (R.state reader.new).left line.new.items }
+    ensures none { result ≡ Ok false →
+        ReadsLines (R.state reader.old).left (R.state reader.new).left []
+        × IsAtEnd (R.state reader.new).left }
+    ensures part { OnErr result
+        (BeginsLine (R.state reader.old).left (R.state reader.new).left) }
+    ensures failure { IsErrOf result Fault.Read ↔ IsTrue (R.state reader.new).failed }
+    ensures fault { IfErr result (λ e. (e ≡ Fault.Read) ⊎ (e ≡ Fault.Symbol QrError.OutOfMemory)) }
+{
+    line.clear();
+    let mut byte = [0u8; 1];
+    'reading: while line.len() < TOO_LONG {
+        match reader.pull(&mut byte) {
+            None => return Err(Fault::Read),
+            Some(0) => return Ok(!line.is_empty()),
+            Some(_) => {}
+        }
+        if byte[0] == b'\n' {
+            strip_return(line);
+            return Ok(true);
+        }
+        line.push(byte[0]).map_err(AllocError::from)?;
+    }
+    Ok(true)
+}
+
+/// Takes off a carriage return at the end.
+fn strip_return(line: &mut Vec<u8>)
+    ensures { line.new.items ≡ strip_last 13 line.old.items }
+{
+    let length = line.len();
+    if length > 0 && line[length - 1] == b'\r' {
+        line.truncate(length - 1);
+    }
+}
