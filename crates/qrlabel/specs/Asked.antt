@@ -6,7 +6,11 @@ use Rattle.qrlabel.specs.declared.command.Command.{Command as Given}
 use Rattle.qrlabel.specs.declared.command.Command.TheVariants.{Help, Version, Label as LabelGiven}
 use Rattle.qrlabel.specs.declared.command.Label.{Label as Drawn}
 use Rattle.qrlabel.specs.declared.words.Misuse.{Misuse}
-use Rattle.qrlabel.specs.Commands.{Wishes, Label, Command, asks_help, asks_version, asks_label}
+use Rattle.qrlabel.specs.declared.command.Portion.{Portion as Shown}
+use Rattle.qrlabel.specs.declared.command.Portion.TheVariants.{Whole, Lines, Files}
+use Rattle.qrlabel.specs.Commands.{Wishes, Portion, whole, lines, files, Label, Command}
+use Rattle.qrlabel.specs.Commands.{asks_help, asks_version, asks_label}
+use Rattle.qrlabel.specs.Placed.{numbering_of}
 use Rattle.qrlabel.specs.Said.{wrong_of}
 use Rattle.qrlabel.specs.Words.{Wrong}
 
@@ -30,6 +34,15 @@ abbrev pub settings_outcome : Result Settings Misuse → Result Wishes Wrong
 settings_outcome (Ok settings) = Ok (wishes_of settings)
 settings_outcome (Err misuse) = Err (wrong_of misuse)
 
+abbrev pub portion_of : Shown → Portion
+portion_of Whole = whole
+portion_of Lines = lines
+portion_of (Files name) = files (numbering_of name)
+
+abbrev pub portion_outcome : Result Shown Misuse → Result Portion Wrong
+portion_outcome (Ok shown) = Ok (portion_of shown)
+portion_outcome (Err misuse) = Err (wrong_of misuse)
+
 abbrev pub label_of : Drawn → Label
 label_of drawn = record {
   content = drawn.content;
@@ -37,6 +50,7 @@ label_of drawn = record {
   format = drawn.format;
   wishes = wishes_of drawn.settings;
   allow_empty = drawn.allow_empty;
+  portion = portion_of drawn.portion;
 }
 
 abbrev pub label_outcome : Result Drawn Misuse → Result Label Wrong

@@ -1,6 +1,6 @@
 -- What the values of the options ask for: help, the version, or a label.
-use Rattle.std.specs.Prelude.{ℕ, ◌-◌, ◌==◌, nat_le, ℤ, pos, nat_abs, Bool, true, false, ◌&&◌, if◌then◌else◌, codes}
-use Rattle.std.specs.Prelude.{List, [], ◌∷◌, length, Option, None, Some, unwrap_or, Result, Ok, Err}
+use Rattle.std.specs.Prelude.{ℕ, ◌-◌, ◌==◌, nat_le, ℤ, pos, nat_abs, Bool, true, false, ◌&&◌, not, if◌then◌else◌, codes}
+use Rattle.std.specs.Prelude.{List, [], ◌∷◌, length, Option, None, Some, option_and_then, unwrap_or, Result, Ok, Err}
 use Rattle.std.specs.List.{ends_with}
 use Rattle.qrcode_core.specs.declared.options.SymbolOptions.{SymbolOptions}
 use Rattle.qrcode_core.specs.declared.types.EcLevel.{EcLevel}
@@ -14,7 +14,8 @@ use Rattle.qrlabel.specs.declared.words.Name.{Name}
 use Rattle.qrlabel.specs.declared.words.Name.TheVariants.{Text, Format, Content, Level, Strongest}
 use Rattle.qrlabel.specs.declared.words.Name.TheVariants.{MinVersion, MaxVersion, Scale, Quiet}
 use Rattle.qrlabel.specs.declared.words.Name.TheVariants.{ModuleMm, Dpi, Inverted, Title, At, Read}
-use Rattle.qrlabel.specs.declared.words.Name.TheVariants.{Output, AllowEmpty, Help, Version}
+use Rattle.qrlabel.specs.declared.words.Name.TheVariants.{Output, AllowEmpty, Help, Version, Lines}
+use Rattle.qrlabel.specs.Names.{Numbering, numbering_in}
 use Rattle.qrlabel.specs.Numbers.{number_in, hundredths_in, place_in}
 use Rattle.qrlabel.specs.Words.{among, Values, value_of, is_given, Wrong, invalid}
 
@@ -166,14 +167,45 @@ micro_asked Micro values =
     else (if is_given values MaxVersion then Err (invalid MaxVersion) else Ok tt))
 micro_asked _ values = Ok tt
 
--- A label: what its symbol says, how the symbol is chosen, its picture, and whether an input with
--- no bytes is drawn.
+-- Whether pictures of a format can follow each other in one output.
+abbrev pub is_stream : FormatOf → Bool
+is_stream Terminal = true
+is_stream Pbm = true
+is_stream EscPos = true
+is_stream Zpl = true
+is_stream _ = false
+
+-- What of the input a label shows: one shows all of it, or each shows a line, in one output for all
+-- or in a file of its own.
+pub data Portion : Type 0 where
+  whole : Portion
+  lines : Portion
+  files : Numbering → Portion
+
+-- The name of the output, if it has a number in it.
+abbrev pub numbered_output : Values → Option Numbering
+numbered_output values = option_and_then numbering_in (value_of values Output)
+
+-- Lines are those of an input, and not of a text. Each has a file if the output's name has a
+-- number, else their pictures follow each other.
+abbrev pub portion_asked : FormatOf → Values → Result Portion Wrong
+portion_asked format values =
+    if not (is_given values Lines) then Ok whole
+    else (if is_given values Text then Err (invalid Lines)
+    else elim (numbered_output values) [
+      | Some name ↦ Ok (files name)
+      | None ↦ (if is_stream format then Ok lines else Err (invalid Lines))
+    ])
+
+-- A label: what its symbol says, how the symbol is chosen, its picture, whether an input with no
+-- bytes is drawn, and what of the input it shows.
 pub record Label : Type 0 where
   pub content : ContentOf
   pub symbol : SymbolOptions
   pub format : FormatOf
   pub wishes : Wishes
   pub allow_empty : Bool
+  pub portion : Portion
 
 abbrev pub label_asked : Bool → Values → Result Label Wrong
 label_asked on_terminal values = do
@@ -181,6 +213,7 @@ label_asked on_terminal values = do
   symbol ← symbol_asked values
   micro ← micro_asked content values
   format ← format_asked on_terminal values
+  portion ← portion_asked format values
   wishes ← settings_asked values
   Ok (record {
     content = content;
@@ -188,6 +221,7 @@ label_asked on_terminal values = do
     format = format;
     wishes = zoned content wishes;
     allow_empty = is_given values AllowEmpty;
+    portion = portion;
   })
 
 -- What the words ask for.

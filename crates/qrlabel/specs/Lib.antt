@@ -1,10 +1,15 @@
 pub mod Asked
 pub mod Commands
 pub mod Contents
+pub mod FileStates
+pub mod Folders
 pub mod Help
 pub mod Labels
+pub mod Lines
 pub mod Misuses
+pub mod Names
 pub mod Numbers
+pub mod Placed
 pub mod Runs
 pub mod Said
 pub mod Settings

@@ -4,7 +4,7 @@ use Rattle.qrlabel.specs.declared.words.Name.{Name}
 use Rattle.qrlabel.specs.declared.words.Name.TheVariants.{Text, Format, Content, Level, Strongest}
 use Rattle.qrlabel.specs.declared.words.Name.TheVariants.{MinVersion, MaxVersion, Scale, Quiet}
 use Rattle.qrlabel.specs.declared.words.Name.TheVariants.{ModuleMm, Dpi, Inverted, Title, At, Read}
-use Rattle.qrlabel.specs.declared.words.Name.TheVariants.{Output, AllowEmpty, Help, Version}
+use Rattle.qrlabel.specs.declared.words.Name.TheVariants.{Output, AllowEmpty, Help, Version, Lines}
 use Rattle.qrlabel.specs.Words.{Wrong, unknown, no_value, second_text, invalid}
 
 -- The word of an option.
@@ -28,6 +28,7 @@ option_word Output = codes "--output"
 option_word AllowEmpty = codes "--allow-empty"
 option_word Help = codes "--help"
 option_word Version = codes "--version"
+option_word Lines = codes "--lines"
 
 -- What the value of an option can be, and where the option can't be given.
 abbrev pub values_text : Name → List ℕ
@@ -46,6 +47,8 @@ values_text Title = codes "a text without control characters, for svg"
 values_text At = codes "X,Y, each 0 to 18000, for zpl"
 values_text Read = codes "not with a text"
 values_text Output = codes "a name that ends with .txt, .svg, .png, .pbm, .eps, .escpos or .zpl"
+values_text Lines =
+    codes "not with a text; for terminal, pbm, escpos and zpl, or files named as in label-%05d.png"
 values_text _ = []
 
 -- Where help is, on a line of its own.

@@ -15,11 +15,17 @@ use Rattle.qrlabel.specs.Asked.{label_of}
 use Rattle.qrlabel.specs.Commands.{Command, asks_help, asks_version, asks_label}
 use Rattle.qrlabel.specs.Help.{help_text, version_line}
 use Rattle.qrlabel.specs.Labels.{ShowsLabel, IsLabelStop}
+use Rattle.qrlabel.specs.Lines.{IsLinesOutcome, Place, stream}
 use Rattle.qrlabel.specs.Misuses.{wrong_line}
+use Rattle.qrlabel.specs.Names.{Numbering}
+use Rattle.qrlabel.specs.Placed.{numbering_of}
 use Rattle.qrlabel.specs.Settings.{setting_name}
-use Rattle.qrlabel.specs.Stops.{stop_line}
+use Rattle.qrlabel.specs.Stops.{stop_line, numbered_line}
 use Rattle.qrlabel.specs.Words.{Wrong, invalid}
 use Rattle.qrlabel.specs.declared.command.Label.{Label}
+use Rattle.qrlabel.specs.declared.command.Portion.{Portion}
+use Rattle.qrlabel.specs.declared.command.Portion.TheVariants.{Whole, Lines, Files}
+use Rattle.qrlabel.specs.declared.stop.LineStop.{LineStop}
 use Rattle.qrlabel.specs.declared.stop.Stop.{Stop}
 use Rattle.qrlabel.specs.declared.stop.Stop.TheVariants.{Fault}
 
@@ -56,7 +62,7 @@ label_status (Err stop) = 1
 
 abbrev pub reported : Result (Unit {0}) Stop → List ℕ
 reported (Ok done) = []
-reported (Err stop) = stop_line stop
+reported (Err stop) = stop_line (codes "qrlabel") stop
 
 -- The label was drawn, and the status and the line on standard error are those of the outcome. At
 -- most one byte more was read than the longest data has.
@@ -67,6 +73,26 @@ pub record ServesLabel (label : Label) (options : DrawOptions) (input : Input) (
   pub within : ReadsWithin (LONGEST_DATA + 1) input
   pub status_is : status ≡ label_status outcome
   pub reports : Writes errors (reported outcome)
+
+-- ---- Lines
+
+-- The exit status, and what is written on standard error.
+abbrev pub lines_status : Result (Unit {0}) LineStop → ℕ
+lines_status (Ok done) = 0
+lines_status (Err at) = 1
+
+abbrev pub lines_reported : Result (Unit {0}) LineStop → List ℕ
+lines_reported (Ok done) = []
+lines_reported (Err at) = numbered_line at
+
+-- The labels of the lines were drawn, and the status and the line on standard error are those of
+-- the outcome.
+pub record ServesLines (label : Label) (options : DrawOptions) (input : Input) (place : Place)
+    (errors : Output) (status : ℕ) : Type 0 where
+  pub outcome : Result (Unit {0}) LineStop
+  pub is_outcome : IsLinesOutcome label options input place outcome
+  pub status_is : status ≡ lines_status outcome
+  pub reports : Writes errors (lines_reported outcome)
 
 -- ---- The whole program
 
@@ -85,12 +111,22 @@ pub record Shows (text : List ℕ) (output errors : Output) (status : ℕ) : Typ
   pub status_is : status ≡ exit_status outcome
   pub reports : Writes errors (report (codes "qrlabel") outcome)
 
+-- The label of the whole input was drawn, or those of its lines: in one output, or each in a file.
+abbrev pub ServesPortion : Portion → Label → DrawOptions → Input → Output → (Numbering → Place) → Output → ℕ → Type 0
+ServesPortion Whole label options input output files errors status =
+    ServesLabel label options input output errors status
+ServesPortion Lines label options input output files errors status =
+    ServesLines label options input (stream output) errors status
+ServesPortion (Files name) label options input output files errors status =
+    ServesLines label options input (files (numbering_of name)) errors status
+
 -- The label was drawn with the options that its settings ask for.
-pub record DrawsAsAsked (label : Label) (input : Input) (output errors : Output) (status : ℕ) : Type 0 where
+pub record DrawsAsAsked (label : Label) (input : Input) (output : Output) (files : Numbering → Place)
+    (errors : Output) (status : ℕ) : Type 0 where
   pub options : DrawOptions
   pub valid : invalid_setting label.format label.settings ≡ None
   pub made : IsMadeOf label.format label.settings options
-  pub serves : ServesLabel label options input output errors status
+  pub serves : ServesPortion label.portion label options input output files errors status
 
 -- There was no memory for the name of a setting that is wrong.
 pub record LacksMemory (kept : Type 0) (errors : Output) (status : ℕ) : Type 0 where
@@ -99,17 +135,17 @@ pub record LacksMemory (kept : Type 0) (errors : Output) (status : ℕ) : Type 0
   pub reports : Writes errors (error_line (codes "qrlabel") (Symbol OutOfMemory))
 
 -- The first setting that is not valid is wrong; if all are valid, the label is drawn.
-abbrev pub RunsLabel : Label → (kept : Type 0) → Input → Output → Output → ℕ → Type 0
-RunsLabel label kept input output errors status =
-    DrawsAsAsked label input output errors status
+abbrev pub RunsLabel : Label → (kept : Type 0) → Input → Output → (Numbering → Place) → Output → ℕ → Type 0
+RunsLabel label kept input output files errors status =
+    DrawsAsAsked label input output files errors status
     ⊎ (LacksMemory kept errors status
     ⊎ ((name : List ℕ) × (invalid_setting label.format label.settings ≡ Some name)
     × Misused (invalid (setting_name name)) kept errors status))
 
 -- What the program does for what the words ask for.
-abbrev pub Runs : Result Command Wrong → (kept : Type 0) → Input → Output → Output → ℕ → Type 0
-Runs (Err wrong) kept input output errors status = Misused wrong kept errors status
-Runs (Ok asks_help) kept input output errors status = Shows help_text output errors status
-Runs (Ok asks_version) kept input output errors status = Shows version_line output errors status
-Runs (Ok (asks_label asked)) kept input output errors status =
-    (given : Label) × (label_of given ≡ asked) × RunsLabel given kept input output errors status
+abbrev pub Runs : Result Command Wrong → (kept : Type 0) → Input → Output → (Numbering → Place) → Output → ℕ → Type 0
+Runs (Err wrong) kept input output files errors status = Misused wrong kept errors status
+Runs (Ok asks_help) kept input output files errors status = Shows help_text output errors status
+Runs (Ok asks_version) kept input output files errors status = Shows version_line output errors status
+Runs (Ok (asks_label asked)) kept input output files errors status =
+    (given : Label) × (label_of given ≡ asked) × RunsLabel given kept input output files errors status

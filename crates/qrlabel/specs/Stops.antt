@@ -5,6 +5,7 @@ use Rattle.gs1.specs.declared.error.Gs1Error.TheVariants.{NoElements, InvalidIde
 use Rattle.gs1.specs.declared.error.Gs1Error.TheVariants.{EmptyValue, ValueTooLong, InvalidCharacter}
 use Rattle.gs1.specs.declared.error.Gs1Error.TheVariants.{WrongLength, WrongCheckDigit, OutOfMemory}
 use Rattle.programs.specs.Outcome.{error_line}
+use Rattle.qrlabel.specs.declared.stop.LineStop.{LineStop}
 use Rattle.qrlabel.specs.declared.stop.Stop.{Stop}
 use Rattle.qrlabel.specs.declared.stop.Stop.TheVariants.{Fault, Elements, Empty}
 
@@ -32,20 +33,24 @@ element_text (WrongLength element) = codes "the length of the value is wrong"
 element_text (WrongCheckDigit element) = codes "wrong check digit"
 element_text OutOfMemory = codes "out of memory"
 
--- A line of the program.
-abbrev pub line_of : List (List ℕ) → List ℕ
-line_of pieces = codes "qrlabel" ++ (codes ": " ++ (flat_map (λ piece. piece) pieces ++ 10 ∷ []))
+-- A line after a name: that of the program, or one that tells of what the line is.
+abbrev pub line_of : List ℕ → List (List ℕ) → List ℕ
+line_of name pieces = name ++ (codes ": " ++ (flat_map (λ piece. piece) pieces ++ 10 ∷ []))
 
 -- The line of a text that gives no elements.
-unfoldable pub element_line : Gs1Error → List ℕ
-element_line error =
+unfoldable pub element_line : List ℕ → Gs1Error → List ℕ
+element_line name error =
     elim (element_number error) [
-      | Some n ↦ line_of (codes "element " ∷ decimal n ∷ codes ": " ∷ element_text error ∷ [])
-      | None ↦ line_of (element_text error ∷ [])
+      | Some n ↦ line_of name (codes "element " ∷ decimal n ∷ codes ": " ∷ element_text error ∷ [])
+      | None ↦ line_of name (element_text error ∷ [])
     ]
 
 -- The line that says why there is no label.
-unfoldable pub stop_line : Stop → List ℕ
-stop_line (Fault fault) = error_line (codes "qrlabel") fault
-stop_line (Elements error) = element_line error
-stop_line Empty = line_of (codes "empty input, see --allow-empty" ∷ [])
+unfoldable pub stop_line : List ℕ → Stop → List ℕ
+stop_line name (Fault fault) = error_line name fault
+stop_line name (Elements error) = element_line name error
+stop_line name Empty = line_of name (codes "empty input, see --allow-empty" ∷ [])
+
+-- The same of a line of the input, with its number, counted from 1.
+abbrev pub numbered_line : LineStop → List ℕ
+numbered_line at = codes "qrlabel: line " ++ stop_line (decimal at.number) at.stop

@@ -7,7 +7,7 @@ use Rattle.qrlabel.specs.declared.words.Name.{Name}
 use Rattle.qrlabel.specs.declared.words.Name.TheVariants.{Text, Format, Content, Level, Strongest}
 use Rattle.qrlabel.specs.declared.words.Name.TheVariants.{MinVersion, MaxVersion, Scale, Quiet}
 use Rattle.qrlabel.specs.declared.words.Name.TheVariants.{ModuleMm, Dpi, Inverted, Title, At, Read}
-use Rattle.qrlabel.specs.declared.words.Name.TheVariants.{Output, AllowEmpty, Help, Version}
+use Rattle.qrlabel.specs.declared.words.Name.TheVariants.{Output, AllowEmpty, Help, Version, Lines}
 
 -- What a table has for a word.
 abbrev pub among : {A : Type 0} → List (List ℕ × A) → List ℕ → Option A
@@ -33,6 +33,7 @@ names =
     ∷ (codes "--at", At)
     ∷ (codes "-r", Read) ∷ (codes "--read", Read)
     ∷ (codes "-o", Output) ∷ (codes "--output", Output)
+    ∷ (codes "--lines", Lines)
     ∷ (codes "--allow-empty", AllowEmpty)
     ∷ (codes "-h", Help) ∷ (codes "--help", Help)
     ∷ (codes "-V", Version) ∷ (codes "--version", Version)
@@ -64,11 +65,13 @@ option_number Output = 15
 option_number AllowEmpty = 16
 option_number Help = 17
 option_number Version = 18
+option_number Lines = 19
 
 -- Whether the next word is the value of the option.
 abbrev pub takes_value : Name → Bool
 takes_value Strongest = false
 takes_value Inverted = false
+takes_value Lines = false
 takes_value AllowEmpty = false
 takes_value Help = false
 takes_value Version = false
@@ -146,4 +149,4 @@ words_ended (Err wrong) = Err wrong
 
 -- What words say.
 unfoldable pub values_in : List (List ℕ) → Result Values Wrong
-values_in words = words_ended (read_words (ready (replicate 19 None)) words)
+values_in words = words_ended (read_words (ready (replicate 20 None)) words)

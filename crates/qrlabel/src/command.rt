@@ -2,16 +2,20 @@
 //!
 //! 1. Read each option by its value (`level_of`, `content_of`, `format_of`, ..).
 //! 2. Put them together (`label_of`, `command_of`).
-ghost use Rattle.std.specs.Prelude.{◌≡◌};
+ghost use Rattle.std.specs.Prelude.{◌≡◌, option_map};
 ghost use Rattle.qrlabel.specs.Said.{said};
 ghost use Rattle.qrlabel.specs.Commands.{level_named, content_named, format_named, has_ending};
 ghost use Rattle.qrlabel.specs.Commands.{format_of_ending, found_or, some_found};
 ghost use Rattle.qrlabel.specs.Commands.{level_asked, content_asked, format_asked, version_asked};
 ghost use Rattle.qrlabel.specs.Commands.{number_asked, module_asked, place_asked, settings_asked};
-ghost use Rattle.qrlabel.specs.Commands.{symbol_asked, micro_asked, zoned, label_asked, command_asked};
-ghost use Rattle.qrlabel.specs.Asked.{outcome, settings_outcome, label_outcome};
+ghost use Rattle.qrlabel.specs.Commands.{symbol_asked, micro_asked, zoned};
+ghost use Rattle.qrlabel.specs.Commands.{is_stream, numbered_output, portion_asked};
+ghost use Rattle.qrlabel.specs.Commands.{label_asked, command_asked};
+ghost use Rattle.qrlabel.specs.Asked.{outcome, settings_outcome, portion_outcome, label_outcome};
 ghost use Rattle.qrlabel.specs.Asked.{command_outcome, wishes_of};
+ghost use Rattle.qrlabel.specs.Placed.{numbering_of};
 
+use crate::names::{Numbering, numbering_in};
 use crate::numbers::{hundredths_in, number_in, place_in};
 use crate::words::{Misuse, Name, Values};
 use qrcode_core::options::SymbolOptions;
@@ -34,6 +38,17 @@ pub enum Content {
     Micro,
 }
 
+/// What of the input a label shows.
+#[derive(Clone, Copy, Debug, PartialEq, Eq)]
+pub enum Portion<'a> {
+    /// One label shows all of it.
+    Whole,
+    /// A label shows each line, and they have one output.
+    Lines,
+    /// A label shows each line, and each has a file of its own.
+    Files(Numbering<'a>),
+}
+
 /// A label: what its symbol says, how the symbol is chosen, and its picture.
 #[derive(Clone, Copy, Debug, PartialEq, Eq)]
 pub struct Label<'a> {
@@ -43,6 +58,7 @@ pub struct Label<'a> {
     pub settings: Settings<'a>,
     /// Whether an input with no bytes is drawn.
     pub allow_empty: bool,
+    pub portion: Portion<'a>,
 }
 
 /// What the words ask for.
@@ -283,6 +299,41 @@ fn check_micro<'a>(values: &Values<'a>, content: Content) -> Result<(), Misuse<'
     }
 }
 
+/// Whether pictures of the format can follow each other in one output.
+fn is_stream(format: Format) -> bool
+    ensures { result ≡ is_stream format }
+{
+    match format {
+        Format::Terminal | Format::Pbm | Format::EscPos | Format::Zpl => true,
+        Format::Svg | Format::Png | Format::Eps => false,
+    }
+}
+
+/// Returns the name of the output as one with a number in it, if it is one.
+fn numbered_output<'a>(values: &Values<'a>) -> Option<Numbering<'a>>
+    ensures { option_map numbering_of result ≡ numbered_output (said values.now) }
+{
+    numbering_in(values.get(Name::Output)?)
+}
+
+/// Returns what of the input a label shows. Lines are those of an input, and not of a text. Each
+/// has a file if the output's name has a number, else their pictures follow each other.
+fn portion_of<'a>(values: &Values<'a>, format: Format) -> Result<Portion<'a>, Misuse<'a>>
+    ensures { portion_outcome result ≡ portion_asked format (said values.now) }
+{
+    if !values.has(Name::Lines) {
+        return Ok(Portion::Whole);
+    }
+    if values.has(Name::Text) {
+        return Err(Misuse::Invalid(Name::Lines));
+    }
+    match numbered_output(values) {
+        Some(name) => Ok(Portion::Files(name)),
+        None if is_stream(format) => Ok(Portion::Lines),
+        None => Err(Misuse::Invalid(Name::Lines)),
+    }
+}
+
 /// Returns the label.
 fn label_of<'a>(values: &Values<'a>, on_terminal: bool) -> Result<Label<'a>, Misuse<'a>>
     ensures { label_outcome result ≡ label_asked on_terminal (said values.now) }
@@ -291,6 +342,7 @@ fn label_of<'a>(values: &Values<'a>, on_terminal: bool) -> Result<Label<'a>, Mis
     let symbol = symbol_of(values)?;
     check_micro(values, content)?;
     let format = format_of(values, on_terminal)?;
+    let portion = portion_of(values, format)?;
     let settings = settings_of(values)?;
     Ok(Label {
         content,
@@ -298,6 +350,7 @@ fn label_of<'a>(values: &Values<'a>, on_terminal: bool) -> Result<Label<'a>, Mis
         format,
         settings: zoned(content, settings),
         allow_empty: values.has(Name::AllowEmpty),
+        portion,
     })
 }
 

@@ -4,14 +4,15 @@
 //! is given.
 ghost use Rattle.std.specs.Prelude.{◌≡◌, IsFalse};
 
-use crate::command::{Command, command_of};
+use crate::command::{Command, Portion, command_of};
+use crate::folder::Folder;
 use crate::run::{misused, run};
 use crate::words::{Name, Values};
-use programs::{Fault, FromReader, FromWriter, Sink, report, write_line};
+use programs::{Fault, FromReader, FromWriter, Sink, Source, report, write_line};
 use std::alloc::AllocError;
 use std::fs;
 use std::fs::File;
-use std::io::IsTerminal;
+use std::io::{BufReader, IsTerminal, Read};
 
 /// Does what the words ask for with the devices that they name, and returns the exit status.
 pub fn run_on_devices<E: Sink>(rt: &HostRuntime, values: &Values, errors: &mut E) -> u8
@@ -22,7 +23,9 @@ pub fn run_on_devices<E: Sink>(rt: &HostRuntime, values: &Values, errors: &mut E
     let mut writer = FromWriter::new(stdout);
     match (command_of(values, on_terminal), values.get(Name::Output)) {
         (Err(misuse), _) => misused(errors, misuse),
-        (Ok(Command::Label(_)), Some(path)) => into_file(rt, values, path, errors),
+        (Ok(Command::Label(label)), Some(path)) if !matches!(label.portion, Portion::Files(_)) => {
+            into_file(rt, values, path, errors)
+        }
         (Ok(_), _) => from_input(rt, values, on_terminal, &mut writer, errors),
     }
 }
@@ -38,23 +41,68 @@ fn from_input<W: Sink, E: Sink>(
     requires writer_sound { IsFalse (W.state writer.old).failed }
     requires errors_sound { IsFalse (E.state errors.old).failed }
 {
-    let alloc = rt.alloc();
     if let Some(text) = values.get(Name::Text) {
         let mut bytes = text.as_bytes();
         let mut reader = FromReader::new(&mut bytes);
-        return run(alloc, values, on_terminal, &mut reader, writer, errors);
+        return run_from(rt, values, on_terminal, &mut reader, writer, errors);
     }
     let Some(path) = values.get(Name::Read) else {
-        let mut reader = FromReader::new(rt.stdin());
-        return run(alloc, values, on_terminal, &mut reader, writer, errors);
+        return from_device(rt, values, on_terminal, rt.stdin(), writer, errors);
     };
     match File::open(rt, path) {
-        Ok(file) => {
-            let mut reader = FromReader::new(file);
-            run(alloc, values, on_terminal, &mut reader, writer, errors)
-        }
+        Ok(file) => from_device(rt, values, on_terminal, file, writer, errors),
         Err(_) => failed(errors, "cannot read ", path),
     }
+}
+
+/// Draws from a device. Lines are read through a buffer, since each byte of them is asked for.
+fn from_device<R: Read + Drop, W: Sink, E: Sink>(
+    rt: &HostRuntime,
+    values: &Values,
+    on_terminal: bool,
+    device: R,
+    writer: &mut W,
+    errors: &mut E,
+) -> u8
+    requires writer_sound { IsFalse (W.state writer.old).failed }
+    requires errors_sound { IsFalse (E.state errors.old).failed }
+{
+    if !values.has(Name::Lines) {
+        let mut reader = FromReader::new(device);
+        return run_from(rt, values, on_terminal, &mut reader, writer, errors);
+    }
+    match BufReader::new(rt.alloc(), device) {
+        Ok(buffered) => {
+            let mut reader = FromReader::new(buffered);
+            run_from(rt, values, on_terminal, &mut reader, writer, errors)
+        }
+        Err(_) => report(errors, "qrlabel", Fault::from(AllocError)),
+    }
+}
+
+/// Draws from a source, and writes the files that have numbers to where their names say.
+fn run_from<R: Source, W: Sink, E: Sink>(
+    rt: &HostRuntime,
+    values: &Values,
+    on_terminal: bool,
+    reader: &mut R,
+    writer: &mut W,
+    errors: &mut E,
+) -> u8
+    requires reader_sound { IsFalse (R.state reader.old).failed }
+    requires writer_sound { IsFalse (W.state writer.old).failed }
+    requires errors_sound { IsFalse (E.state errors.old).failed }
+{
+    let mut files = Folder::new(rt);
+    run(
+        rt.alloc(),
+        values,
+        on_terminal,
+        reader,
+        writer,
+        &mut files,
+        errors,
+    )
 }
 
 /// Writes a line with the name of a file, and returns the status 1.

@@ -11,7 +11,9 @@ Draws the QR code of TEXT, of a file, or of standard input.
 Input and output:
   -r, --read FILE       read FILE; default: standard input, if there is no TEXT
   -o, --output FILE     write FILE, once it is whole; default: standard output
-      --allow-empty     draw an input without any bytes, too
+      --lines           draw a label of each line, for terminal, pbm, escpos and zpl,
+                        or each into a file that is named as in label-%05d.png
+      --allow-empty     draw an input or a line without any bytes, too
       -- TEXT           take the next word as TEXT, even if it begins with '-'
 
 Content:
@@ -43,6 +45,8 @@ Examples:
   qrlabel -o hello.png hello
   qrlabel -c gs1 --module-mm 0.5 -o pallet.svg '(01)09506000134352(10)ABC'
   qrlabel --strongest -f zpl --at 40,40 -r address.txt > label.zpl
+  qrlabel --lines -f zpl -r addresses.txt > /dev/usb/lp0
+  qrlabel --lines -o label-%05d.png -r addresses.txt
 
 The exit status is 0 if all was written, 1 after an error, and 2 for wrong words.
 ";

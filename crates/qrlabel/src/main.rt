@@ -2,21 +2,29 @@
 //!
 //! 1. Read the words (`words`), and find out what they ask for (`command`, `numbers`).
 //! 2. Open the devices that they name (`devices`).
-//! 3. Make the symbol of the input (`content`), and write its picture (`label`, `run`), by the
-//!    crate `qrcode_render`.
+//! 3. Make the symbol of the input (`content`) or of each of its lines (`lines`), and write its
+//!    picture (`label`, `run`), by the crate `qrcode_render`.
 //! 4. Say what went wrong, if something did (`misuse`, `report`).
 #![tactic(auto)]
 
 mod command;
 mod content;
 mod devices;
+mod files;
+mod folder;
 mod help;
 mod label;
+#[cfg(test)]
+mod line_tests;
+mod lines;
 mod misuse;
+mod names;
 mod numbers;
 mod report;
 mod run;
 mod stop;
+#[cfg(test)]
+mod test_files;
 #[cfg(test)]
 mod tests;
 mod words;

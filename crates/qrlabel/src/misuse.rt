@@ -61,6 +61,7 @@ fn option_word(name: Name) -> &'static str
         Name::AllowEmpty => "--allow-empty",
         Name::Help => "--help",
         Name::Version => "--version",
+        Name::Lines => "--lines",
     }
 }
 
@@ -84,6 +85,9 @@ fn values_text(name: Name) -> &'static str
         Name::At => "X,Y, each 0 to 18000, for zpl",
         Name::Read => "not with a text",
         Name::Output => "a name that ends with .txt, .svg, .png, .pbm, .eps, .escpos or .zpl",
+        Name::Lines => {
+            "not with a text; for terminal, pbm, escpos and zpl, or files named as in label-%05d.png"
+        }
         Name::Text | Name::AllowEmpty | Name::Help | Name::Version => "",
     }
 }

@@ -2,41 +2,59 @@
 ghost use Rattle.std.specs.Prelude.{◌≡◌, IsFalse};
 ghost use Rattle.programs.specs.Devices.{output, Writes};
 ghost use Rattle.qrlabel.specs.Stops.{element_number, element_text, stop_line, element_line};
+ghost use Rattle.qrlabel.specs.Stops.{numbered_line};
 
-use crate::stop::Stop;
+use crate::stop::{LineStop, Stop};
 use gs1::Gs1Error;
 use itoa::Buffer;
-use programs::{Fault, Sink, report, write_line};
+use programs::{Fault, Sink, report, write_all, write_line};
 
-/// Writes why there is no label, as one line, and returns the status 1.
+/// Writes why there is no label, as one line after a name, and returns the status 1.
 #[tactic(auto, unfolding(crate::specs::Stops::stop_line))]
-pub fn report_stop<E: Sink>(errors: &mut E, stop: Stop) -> u8
+pub fn report_stop<E: Sink>(errors: &mut E, name: &str, stop: Stop) -> u8
     requires sound { IsFalse (E.state errors.old).failed }
     ensures status { result ≡ 1 }
-    ensures reported { Writes (output (E.state errors.old) (E.state errors.new)) (stop_line stop) }
+    ensures reported { Writes (output (E.state errors.old) (E.state errors.new))
+        (stop_line name.now stop) }
 {
     let _ = match stop {
-        Stop::Fault(fault) => return report(errors, "qrlabel", fault),
-        Stop::Elements(error) => write_element(errors, error),
-        Stop::Empty => write_line(errors, "qrlabel", &["empty input, see --allow-empty"]),
+        Stop::Fault(fault) => return report(errors, name, fault),
+        Stop::Elements(error) => write_element(errors, name, error),
+        Stop::Empty => write_line(errors, name, &["empty input, see --allow-empty"]),
     };
     1
 }
 
+/// Writes why there is no label of a line of the input, as one line with the number, and returns
+/// the status 1.
+pub fn report_line<E: Sink>(errors: &mut E, at: LineStop) -> u8
+    requires sound { IsFalse (E.state errors.old).failed }
+    ensures status { result ≡ 1 }
+    ensures reported { Writes (output (E.state errors.old) (E.state errors.new))
+        (numbered_line at) }
+{
+    if write_all(errors, b"qrlabel: line ").is_err() {
+        return 1;
+    }
+    let mut buffer = Buffer::new();
+    report_stop(errors, buffer.format(at.number), at.stop)
+}
+
 /// Writes the line of a text that gives no elements. Elements are counted from 0.
 #[tactic(auto, unfolding(crate::specs::Stops::element_line))]
-fn write_element<E: Sink>(errors: &mut E, error: Gs1Error) -> Result<(), Fault>
+fn write_element<E: Sink>(errors: &mut E, name: &str, error: Gs1Error) -> Result<(), Fault>
     requires { IsFalse (E.state errors.old).failed }
-    ensures { Writes (output (E.state errors.old) (E.state errors.new)) (element_line error) }
+    ensures { Writes (output (E.state errors.old) (E.state errors.new))
+        (element_line name.now error) }
 {
     let text = element_text(error);
     match element_number(error) {
         Some(number) => {
             let mut buffer = Buffer::new();
             let number = buffer.format(number);
-            write_line(errors, "qrlabel", &["element ", number, ": ", text])
+            write_line(errors, name, &["element ", number, ": ", text])
         }
-        None => write_line(errors, "qrlabel", &[text]),
+        None => write_line(errors, name, &[text]),
     }
 }
 

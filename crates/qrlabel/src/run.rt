@@ -1,23 +1,28 @@
 //! From what the words say to the exit status.
 //!
 //! 1. Find out what is asked for (`command_of`).
-//! 2. Write the help or the version (`show`), or draw the label (`run_label`).
+//! 2. Write the help or the version (`show`), or draw labels (`run_label`).
 ghost use Rattle.std.specs.Prelude.{◌≡◌, ◌+◌, IsFalse};
 ghost use Rattle.qrcode_base.specs.declared.symbols.TheConstants.{LONGEST_DATA};
 ghost use Rattle.programs.specs.Devices.{input, output, ReadsWithin, Writes};
 ghost use Rattle.qrlabel.specs.Commands.{command_asked};
 ghost use Rattle.qrlabel.specs.Misuses.{wrong_line};
-ghost use Rattle.qrlabel.specs.Runs.{IsLabelOutcome, ServesLabel, Shows, RunsLabel, Runs};
+ghost use Rattle.qrlabel.specs.Folders.{folder};
+ghost use Rattle.qrlabel.specs.Runs.{IsLabelOutcome, ServesLabel, ServesPortion};
+ghost use Rattle.qrlabel.specs.Runs.{lines_status, lines_reported};
+ghost use Rattle.qrlabel.specs.Runs.{Shows, RunsLabel, Runs};
 ghost use Rattle.qrlabel.specs.Said.{said, wrong_of};
 ghost use Rattle.qrlabel.specs.Settings.{setting_name};
 ghost use Rattle.qrlabel.specs.Words.{invalid};
 
-use crate::command::{Command, Label, command_of};
+use crate::command::{Command, Label, Portion, command_of};
+use crate::files::{Files, draw_files};
 use crate::help::{help_text, version_text};
 use crate::label::label_bytes;
+use crate::lines::draw_lines;
 use crate::misuse::write_misuse;
-use crate::report::report_stop;
-use crate::stop::Stop;
+use crate::report::{report_line, report_stop};
+use crate::stop::{LineStop, Stop};
 use crate::words::{Misuse, Name, Values};
 use programs::{Fault, Sink, Source, read_all, report, write_all};
 use qrcode_core::plugin::PluginError;
@@ -47,9 +52,9 @@ fn draw_label<R: Source, W: Sink>(
     Ok(())
 }
 
-/// Draws the label, and returns the exit status: 0 if the label was written, 1 if it was not, which
-/// one line on `errors` explains.
-fn serve<R: Source, W: Sink, E: Sink>(
+/// Draws the label of the whole input, and returns the exit status: 0 if it was written, 1 if it
+/// was not, which one line on `errors` explains.
+fn serve_label<R: Source, W: Sink, E: Sink>(
     alloc: Global,
     label: &Label,
     options: &DrawOptions,
@@ -67,7 +72,54 @@ fn serve<R: Source, W: Sink, E: Sink>(
 {
     match draw_label(alloc, label, options, reader, writer) {
         Ok(()) => 0,
-        Err(stop) => report_stop(errors, stop),
+        Err(stop) => report_stop(errors, "qrlabel", stop),
+    }
+}
+
+/// Writes why there are not all labels of lines, if so, and returns the exit status.
+fn told<E: Sink>(errors: &mut E, outcome: Result<(), LineStop>) -> u8
+    requires sound { IsFalse (E.state errors.old).failed }
+    ensures status { result ≡ lines_status outcome }
+    ensures reported { Writes (output (E.state errors.old) (E.state errors.new))
+        (lines_reported outcome) }
+{
+    match outcome {
+        Ok(()) => 0,
+        Err(at) => report_line(errors, at),
+    }
+}
+
+/// Draws the label of the whole input or those of its lines, and returns the exit status: 0 if all
+/// labels were written, 1 if they were not, which one line on `errors` explains.
+fn serve<R: Source, W: Sink, F: Files, E: Sink>(
+    alloc: Global,
+    label: &Label,
+    options: &DrawOptions,
+    reader: &mut R,
+    writer: &mut W,
+    files: &mut F,
+    errors: &mut E,
+) -> u8
+    requires reader_sound { IsFalse (R.state reader.old).failed }
+    requires writer_sound { IsFalse (W.state writer.old).failed }
+    requires files_sound { IsFalse (F.state files.old).failed }
+    requires errors_sound { IsFalse (E.state errors.old).failed }
+    ensures served { ServesPortion label.now.portion label.now options.now
+        (input (R.state reader.old) (R.state reader.new))
+        (output (W.state writer.old) (W.state writer.new))
+        (folder (F.state files.old) (F.state files.new))
+        (output (E.state errors.old) (E.state errors.new)) result }
+{
+    match label.portion {
+        Portion::Whole => serve_label(alloc, label, options, reader, writer, errors),
+        Portion::Lines => {
+            let outcome = draw_lines(alloc, label, options, reader, writer);
+            told(errors, outcome)
+        }
+        Portion::Files(name) => {
+            let outcome = draw_files(alloc, label, options, &name, reader, files);
+            told(errors, outcome)
+        }
     }
 }
 
@@ -122,23 +174,27 @@ fn wrong_setting<E: Sink>(errors: &mut E, name: &str) -> u8
 
 /// Draws the label, and returns the exit status: that of `serve`, or 2 if a setting of the picture
 /// is not valid.
-fn run_label<R: Source, W: Sink, E: Sink>(
+fn run_label<R: Source, W: Sink, F: Files, E: Sink>(
     alloc: Global,
     label: &Label,
     reader: &mut R,
     writer: &mut W,
+    files: &mut F,
     errors: &mut E,
 ) -> u8
     requires reader_sound { IsFalse (R.state reader.old).failed }
     requires writer_sound { IsFalse (W.state writer.old).failed }
+    requires files_sound { IsFalse (F.state files.old).failed }
     requires errors_sound { IsFalse (E.state errors.old).failed }
-    ensures { RunsLabel label.now ((reader.new ≡ reader.old) × (writer.new ≡ writer.old))
+    ensures { RunsLabel label.now
+        ((reader.new ≡ reader.old) × (writer.new ≡ writer.old) × (files.new ≡ files.old))
         (input (R.state reader.old) (R.state reader.new))
         (output (W.state writer.old) (W.state writer.new))
+        (folder (F.state files.old) (F.state files.new))
         (output (E.state errors.old) (E.state errors.new)) result }
 {
     match DrawOptions::new(alloc, label.format, &label.settings) {
-        Ok(options) => serve(alloc, label, &options, reader, writer, errors),
+        Ok(options) => serve(alloc, label, &options, reader, writer, files, errors),
         Err(PluginError::InvalidConfig(name)) => { wrong_setting(errors, name.as_str()) }
         Err(_) => report(errors, "qrlabel", Fault::from(AllocError)),
     }
@@ -146,27 +202,30 @@ fn run_label<R: Source, W: Sink, E: Sink>(
 
 /// Does what the words ask for, and returns the exit status: 0 if all was written, 1 after an
 /// error, 2 if the words are wrong. An error of `errors` itself is ignored.
-pub fn run<R: Source, W: Sink, E: Sink>(
+pub fn run<R: Source, W: Sink, F: Files, E: Sink>(
     alloc: Global,
     values: &Values,
     on_terminal: bool,
     reader: &mut R,
     writer: &mut W,
+    files: &mut F,
     errors: &mut E,
 ) -> u8
     requires reader_sound { IsFalse (R.state reader.old).failed }
     requires writer_sound { IsFalse (W.state writer.old).failed }
+    requires files_sound { IsFalse (F.state files.old).failed }
     requires errors_sound { IsFalse (E.state errors.old).failed }
     ensures { Runs (command_asked on_terminal (said values.now))
-        ((reader.new ≡ reader.old) × (writer.new ≡ writer.old))
+        ((reader.new ≡ reader.old) × (writer.new ≡ writer.old) × (files.new ≡ files.old))
         (input (R.state reader.old) (R.state reader.new))
         (output (W.state writer.old) (W.state writer.new))
+        (folder (F.state files.old) (F.state files.new))
         (output (E.state errors.old) (E.state errors.new)) result }
 {
     match command_of(values, on_terminal) {
         Ok(Command::Help) => show(help_text(), writer, errors),
         Ok(Command::Version) => show(version_text(), writer, errors),
-        Ok(Command::Label(label)) => run_label(alloc, &label, reader, writer, errors),
+        Ok(Command::Label(label)) => run_label(alloc, &label, reader, writer, files, errors),
         Err(misuse) => misused(errors, misuse),
     }
 }

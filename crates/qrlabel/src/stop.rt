@@ -43,3 +43,10 @@ impl From<AllocError> for Stop {
         Stop::Fault(Fault::Symbol(QrError::OutOfMemory))
     }
 }
+
+/// Why there is no label of a line, and the number of the line, counted from 1.
+#[derive(Clone, Copy, Debug, PartialEq, Eq)]
+pub struct LineStop {
+    pub number: usize,
+    pub stop: Stop,
+}

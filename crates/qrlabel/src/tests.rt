@@ -1,5 +1,6 @@
 //! Tests of words, labels and errors.
 use crate::run::{misused, run};
+use crate::test_files::Kept;
 use crate::words::read_words;
 use programs::{FromReader, FromWriter};
 use qrcode_core::types::QrError;
@@ -8,23 +9,33 @@ use std::alloc::Global;
 /// The result of a run: the status, the number of bytes left unread, and what was written to
 /// both outputs.
 #[derive(Drop)]
-struct Served {
-    status: u8,
-    unread: usize,
-    label: Vec<u8>,
-    said: Vec<u8>,
+pub struct Served {
+    pub status: u8,
+    pub unread: usize,
+    pub label: Vec<u8>,
+    pub said: Vec<u8>,
+    pub files: Kept,
 }
 
 /// Runs the program with words and an input. Its output is no terminal.
-fn ran(alloc: Global, words: &[&str], input: &[u8]) -> Served {
+pub fn ran(alloc: Global, words: &[&str], input: &[u8]) -> Served {
     let mut bytes = input;
     let mut label: Vec<u8> = Vec::new(alloc);
     let mut said: Vec<u8> = Vec::new(alloc);
     let mut reader = FromReader::new(&mut bytes);
     let mut writer = FromWriter::new(&mut label);
     let mut errors = FromWriter::new(&mut said);
+    let mut files = Kept::new(alloc);
     let status = match read_words(words) {
-        Ok(values) => run(alloc, &values, false, &mut reader, &mut writer, &mut errors),
+        Ok(values) => run(
+            alloc,
+            &values,
+            false,
+            &mut reader,
+            &mut writer,
+            &mut files,
+            &mut errors,
+        ),
         Err(misuse) => misused(&mut errors, misuse),
     };
     Served {
@@ -32,6 +43,7 @@ fn ran(alloc: Global, words: &[&str], input: &[u8]) -> Served {
         unread: bytes.len(),
         label,
         said,
+        files,
     }
 }
 
@@ -70,7 +82,7 @@ fn draws_bitmaps(rt: HostRuntime) -> Result<(), QrError> {
 /// Each row has words that are wrong, and what is written about them. Nothing is read or drawn.
 #[test]
 fn names_what_is_wrong(rt: HostRuntime) -> Result<(), QrError> {
-    let rows: [(&[&str], &str); 22] = [
+    let rows: [(&[&str], &str); 24] = [
         (&["--foo"], "no option --foo"),
         (&["-x"], "no option -x"),
         (&["-s"], "no value after --scale"),
@@ -126,6 +138,14 @@ fn names_what_is_wrong(rt: HostRuntime) -> Result<(), QrError> {
             "invalid --max-version: 1 to 40, at least --min-version, not for a Micro symbol",
         ),
         (&["-r", "a", "b"], "invalid --read: not with a text"),
+        (
+            &["--lines"],
+            "invalid --lines: not with a text; for terminal, pbm, escpos and zpl, or files named as in label-%05d.png",
+        ),
+        (
+            &["--lines", "-f", "zpl", "b"],
+            "invalid --lines: not with a text; for terminal, pbm, escpos and zpl, or files named as in label-%05d.png",
+        ),
     ];
     for (words, line) in rows {
         let answer = ran(rt.alloc(), words, b"hello");

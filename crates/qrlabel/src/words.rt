@@ -27,6 +27,7 @@ pub enum Name {
     AllowEmpty,
     Help,
     Version,
+    Lines,
 }
 
 /// Returns the option that a word names. After `--` comes the text.
@@ -50,6 +51,7 @@ fn named(word: &str) -> Option<Name>
         "--at" => Some(Name::At),
         "-r" | "--read" => Some(Name::Read),
         "-o" | "--output" => Some(Name::Output),
+        "--lines" => Some(Name::Lines),
         "--allow-empty" => Some(Name::AllowEmpty),
         "-h" | "--help" => Some(Name::Help),
         "-V" | "--version" => Some(Name::Version),
@@ -63,14 +65,14 @@ fn takes_value(name: Name) -> bool
     ensures { result ≡ takes_value name }
 {
     match name {
-        Name::Strongest | Name::Inverted | Name::AllowEmpty => false,
+        Name::Strongest | Name::Inverted | Name::Lines | Name::AllowEmpty => false,
         Name::Help | Name::Version => false,
         _ => true,
     }
 }
 
 /// The number of options.
-pub const COUNT: usize = 19;
+pub const COUNT: usize = 20;
 
 /// What is wrong with the words.
 #[derive(Clone, Copy, Debug, PartialEq, Eq)]

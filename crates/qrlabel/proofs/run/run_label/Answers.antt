@@ -22,7 +22,7 @@ returns-in-Err-InvalidConfig g c =
       named,
       record {
         status_is = c.wrong_setting.ensures.status;
-        untouched = (refl, refl);
+        untouched = (refl, refl, refl);
         reports = search rules;
       },
     ))
@@ -31,6 +31,6 @@ pub returns : goal.returns
 returns g c =
     inr (inl (record {
       status_is = c.report.ensures.status;
-      untouched = (refl, refl);
+      untouched = (refl, refl, refl);
       reports = rw (c.from.ensures) at c.report.ensures.reported;
     }))

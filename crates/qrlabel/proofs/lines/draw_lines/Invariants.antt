@@ -1,0 +1,13 @@
+-- The labels of the lines so far are written.
+use Rattle.std.proofs.Common.{◌≡◌, false}
+use Rattle.programs.specs.Devices.{output}
+use Rattle.qrlabel.specs.Lines.{DrawsBefore, stream}
+use Rattle.qrlabel.proofs.lines.draw_lines.Given as goal
+
+abbrev pub invariant-lines : goal.invariant-lines
+invariant-lines g l = record {
+  drawn : DrawsBefore l.label l.options l.number (g.R.Source.state l.initial.reader).left (g.R.Source.state l.reader).left
+      (stream (output (g.W.Sink.state l.initial.writer) (g.W.Sink.state l.writer)));
+  reader_sound : (g.R.Source.state l.reader).failed ≡ false;
+  writer_sound : (g.W.Sink.state l.writer).failed ≡ false;
+}

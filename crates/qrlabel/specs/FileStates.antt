@@ -1,0 +1,15 @@
+-- Files by their names.
+use Rattle.std.specs.Prelude.{◌≡◌, ℕ, ⊤, Bool, Option, None, Some, List, ◌++◌}
+
+-- A place for files: the names and the contents of those that were written, in their order, where
+-- they are known, and whether writing failed.
+pub record FilesState : Type 0 where
+  pub files : Option (List (List ℕ × List ℕ))
+  pub failed : Bool
+
+-- These files were written.
+abbrev pub AddsFiles : Option (List (List ℕ × List ℕ)) → Option (List (List ℕ × List ℕ)) →
+    List (List ℕ × List ℕ) → Type 0
+AddsFiles None new files = ⊤
+AddsFiles (Some old) None files = ⊥
+AddsFiles (Some old) (Some new) files = new ≡ old ++ files
