@@ -6,13 +6,14 @@ ghost use Rattle.std.specs.Prelude.{◌≡◌, IsFalse};
 
 use crate::command::{Command, Portion, command_of};
 use crate::folder::Folder;
+use crate::progress::Counting;
 use crate::run::{misused, run};
 use crate::words::{Name, Values};
 use programs::{Fault, FromReader, FromWriter, Sink, Source, report, write_line};
 use std::alloc::AllocError;
 use std::fs;
 use std::fs::File;
-use std::io::{BufReader, IsTerminal, Read};
+use std::io::{BufReader, IsTerminal, Read, Stderr};
 
 /// Does what the words ask for with the devices that they name, and returns the exit status.
 pub fn run_on_devices<E: Sink>(rt: &HostRuntime, values: &Values, errors: &mut E) -> u8
@@ -20,7 +21,7 @@ pub fn run_on_devices<E: Sink>(rt: &HostRuntime, values: &Values, errors: &mut E
 {
     let mut stdout = rt.stdout();
     let on_terminal = stdout.is_terminal();
-    let mut writer = FromWriter::new(stdout);
+    let mut writer = counting(rt, FromWriter::new(stdout), on_terminal);
     match (command_of(values, on_terminal), values.get(Name::Output)) {
         (Err(misuse), _) => misused(errors, misuse),
         (Ok(Command::Label(label)), Some(path)) if !matches!(label.portion, Portion::Files(_)) => {
@@ -28,6 +29,16 @@ pub fn run_on_devices<E: Sink>(rt: &HostRuntime, values: &Values, errors: &mut E
         }
         (Ok(_), _) => from_input(rt, values, on_terminal, &mut writer, errors),
     }
+}
+
+/// Returns the place for labels as one that tells on standard error how many there are, if this is a
+/// terminal, and the labels themselves are not written on one.
+fn counting<T>(rt: &HostRuntime, labels: T, on_terminal: bool) -> Counting<T, FromWriter<Stderr>>
+    ensures { result.labels ≡ labels }
+{
+    let mut stderr = rt.stderr();
+    let tells = stderr.is_terminal() && !on_terminal;
+    Counting::new(labels, FromWriter::new(stderr), tells)
 }
 
 /// Draws from the text of the words, from the file that they name, or from standard input.
@@ -93,7 +104,7 @@ fn run_from<R: Source, W: Sink, E: Sink>(
     requires writer_sound { IsFalse (W.state writer.old).failed }
     requires errors_sound { IsFalse (E.state errors.old).failed }
 {
-    let mut files = Folder::new(rt);
+    let mut files = counting(rt, Folder::new(rt), false);
     run(
         rt.alloc(),
         values,
@@ -133,7 +144,7 @@ fn into_file<E: Sink>(rt: &HostRuntime, values: &Values, path: &str, errors: &mu
         return failed(errors, "cannot write ", path);
     };
     let status = {
-        let mut writer = FromWriter::new(file);
+        let mut writer = counting(rt, FromWriter::new(file), false);
         from_input(rt, values, false, &mut writer, errors)
     };
     if status == 0 && fs::rename(rt, part.as_str(), path).is_ok() {
@@ -152,7 +163,7 @@ fn into_device<E: Sink>(rt: &HostRuntime, values: &Values, path: &str, errors: &
 {
     match File::options().write(true).open(rt, path) {
         Ok(file) => {
-            let mut writer = FromWriter::new(file);
+            let mut writer = counting(rt, FromWriter::new(file), false);
             from_input(rt, values, false, &mut writer, errors)
         }
         Err(_) => failed(errors, "cannot write ", path),

@@ -20,6 +20,7 @@ mod lines;
 mod misuse;
 mod names;
 mod numbers;
+mod progress;
 mod report;
 mod run;
 mod stop;
