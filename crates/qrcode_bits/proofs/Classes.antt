@@ -12,7 +12,8 @@ use mir.Syntax.{w16}
 use Rattle.std.specs.Prelude.{Some, Bool, true, IsTrue, ◌↔◌}
 use Rattle.qrcode_base.proofs.Fields.{capacity-held, SameClass}
 use Rattle.qrcode_bits.proofs.Choices.{capacity-at, FitsNoneFrom, chosen_decides, fits_normal, capacity-grows, class_choice}
-use Rattle.qrcode_bits.proofs.{CuttingPlans.chosen-planned, Adjoining.parsed-linear, Growth.total_bits-rise, Growth.total_bits-same, Texts.texts-reach, Texts.texts-plan, Texts.plan_lies}
+use Rattle.qrcode_bits.proofs.{CuttingPlans.chosen-planned, Adjoining.parsed-linear, Growth.total_bits-rise, Growth.total_bits-same}
+use Rattle.qrcode_bits.proofs.Texts.{texts-reach, texts-plan, plan_lies}
 pub use Rattle.qrcode_bits.proofs.Choices.{all_blocks}
 
 -- ---- Costs are small
