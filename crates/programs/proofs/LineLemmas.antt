@@ -1,5 +1,6 @@
 -- Lines of the bytes that are known.
-use Rattle.std.proofs.Common.{◌≡◌, ◌≢◌, ◌<◌, ◌≤◌, ℕ, Option, None, Some, List, [], ◌∷◌, ◌++◌, All, take, length, append_assoc, append-nil, length-append, arith, refl, sym, ap, ◌∙◌, true, false}
+use Rattle.std.proofs.Common.{◌≡◌, ◌≢◌, ◌<◌, ◌≤◌, ℕ, Option, None, Some, List, [], ◌∷◌, ◌++◌, All, take, length, append_assoc, append-nil, length-append}
+use Rattle.std.proofs.Common.{arith, refl, sym, ap, ◌∙◌, true, false}
 use Rattle.std.specs.Prelude.{Result, Ok, Err, OnErr}
 use Rattle.std.proofs.BufReadLemmas.{take_through-append, drop_through-append}
 use Rattle.std.proofs.lemmas.List.Elements.{All-append}

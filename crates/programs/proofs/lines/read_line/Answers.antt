@@ -6,7 +6,8 @@ use Rattle.programs.proofs.lines.read_line.Goals as goal
 
 pub returns-in-Some-eq0-clause-line : goal.returns-in-Some-eq0-clause-line
 returns-in-Some-eq0-clause-line g c some =
-    inl (last_read _ _ _ c.reading.line.items c.reading.invariant.part (grind (arith, common_steps)) (grind (arith, common_steps)) (grind (arith, common_steps)))
+    inl (last_read _ _ _ c.reading.line.items c.reading.invariant.part
+    (grind (arith, common_steps)) (grind (arith, common_steps)) (grind (arith, common_steps)))
 
 pub returns-then-byte-eq10-clause-line : goal.returns-then-byte-eq10-clause-line
 returns-then-byte-eq10-clause-line g c done =

@@ -12,4 +12,5 @@ returns-then-row-quiet-clause-dark c = λ column.
     ])
 
 pub returns-clause-dark : goal.returns-clause-dark
-returns-clause-dark c = λ column. row_dark (shown c.args.self.now) column c.args.row (omega (arith, c.if-row-quiet.false)) (omega (arith, c.if-row-quiet-2.false))
+returns-clause-dark c = λ column.
+    row_dark (shown c.args.self.now) column c.args.row (omega (arith, c.if-row-quiet.false)) (omega (arith, c.if-row-quiet-2.false))
