@@ -11,8 +11,8 @@ Draws the QR code of TEXT, of a file, or of standard input.
 Input and output:
   -r, --read FILE       read FILE; default: standard input, if there is no TEXT
   -o, --output FILE     write FILE, once it is whole; default: standard output
-      --lines           draw a label of each line, for terminal, pbm, escpos and zpl,
-                        or each into a file that is named as in label-%05d.png
+      --lines           a label of each line, for terminal, pbm, escpos and zpl,
+                        or each in a file that is named as in label-%05d.png
       --allow-empty     draw an input or a line without any bytes, too
       -- TEXT           take the next word as TEXT, even if it begins with '-'
 
