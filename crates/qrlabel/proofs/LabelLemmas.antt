@@ -1,5 +1,6 @@
 -- One label after the other.
-use Rattle.std.proofs.Common.{◌≡◌, ◌≢◌, ◌+◌, ℕ, Option, Some, None, List, [], ◌∷◌, ◌++◌, length, take, flat_map, append-nil, append_assoc, length-append, true, false, refl, sym, ap, ◌∙◌, arith, subst}
+use Rattle.std.proofs.Common.{◌≡◌, ◌≢◌, ◌+◌, ℕ, Option, Some, None, List, [], ◌∷◌, ◌++◌, length, take, flat_map, append-nil, append_assoc, length-append}
+use Rattle.std.proofs.Common.{true, false, refl, sym, ap, ◌∙◌, arith, subst}
 use Rattle.std.proofs.lemmas.Grind.{common_steps, flat_map-append}
 use Rattle.std.specs.Io.KnownBytes.{Appends, Keeps, IsAtEnd}
 use Rattle.std.specs.Io.BufRead.{drop_through}
@@ -27,13 +28,15 @@ ReadsLines-none : (a : Option (List ℕ)) → ReadsLines a a []
 ReadsLines-none None = tt
 ReadsLines-none (Some xs) = refl
 
-ShowEach-append : (shows : List ℕ → List ℕ → Type 0) (ls ms ds es : List (List ℕ)) → ShowEach shows ls ds → ShowEach shows ms es → ShowEach shows (ls ++ ms) (ds ++ es)
+ShowEach-append : (shows : List ℕ → List ℕ → Type 0) (ls ms ds es : List (List ℕ)) →
+    ShowEach shows ls ds → ShowEach shows ms es → ShowEach shows (ls ++ ms) (ds ++ es)
 ShowEach-append shows [] ms [] es h k = k
 ShowEach-append shows (l ∷ ls) ms (d ∷ ds) es h k = (h.0, ShowEach-append shows ls ms ds es h.1 k)
 ShowEach-append shows [] ms (d ∷ ds) es h k = absurd h
 ShowEach-append shows (l ∷ ls) ms [] es h k = absurd h
 
-pub AreLabels-append : (label : Label) (options : DrawOptions) (a b c : Option (List ℕ)) (ds es : List (List ℕ)) → AreLabels label options a b ds → AreLabels label options b c es →
+pub AreLabels-append : (label : Label) (options : DrawOptions) (a b c : Option (List ℕ)) (ds es : List (List ℕ)) →
+    AreLabels label options a b ds → AreLabels label options b c es →
     AreLabels label options a c (ds ++ es)
 AreLabels-append label options a b c ds es h k = record {
   lines = h.lines ++ k.lines;
@@ -46,11 +49,13 @@ joined-append ds e = flat_map-append (λ text. text) ds (e ∷ []) ∙ ap (λ re
 
 -- no line was drawn yet
 pub DrawsBefore-none : (label : Label) (options : DrawOptions) (a : Option (List ℕ)) (place : Place) → place.whole [] → DrawsBefore label options 1 a a place
-DrawsBefore-none label options a place none = record { drawings = []; labels = record { lines = []; read = ReadsLines-none a; shown = tt }; counted = refl; written = none }
+DrawsBefore-none label options a place none =
+    record { drawings = []; labels = record { lines = []; read = ReadsLines-none a; shown = tt }; counted = refl; written = none }
 
 -- and one line more
-pub DrawsBefore-more : (label : Label) (options : DrawOptions) (n : ℕ) (a b c : Option (List ℕ)) (old new : Place) (d : List ℕ) → DrawsBefore label options n a b old →
-    AreLabels label options b c (d ∷ []) → ((ds : List (List ℕ)) → n ≡ length ds + 1 → old.whole ds → new.whole (ds ++ d ∷ [])) → DrawsBefore label options (n + 1) a c new
+pub DrawsBefore-more : (label : Label) (options : DrawOptions) (n : ℕ) (a b c : Option (List ℕ)) (old new : Place) (d : List ℕ) →
+    DrawsBefore label options n a b old → AreLabels label options b c (d ∷ []) →
+    ((ds : List (List ℕ)) → n ≡ length ds + 1 → old.whole ds → new.whole (ds ++ d ∷ [])) → DrawsBefore label options (n + 1) a c new
 DrawsBefore-more label options n a b c old new d h k more = record {
   drawings = h.drawings ++ d ∷ [];
   labels = AreLabels-append label options a b c h.drawings (d ∷ []) h.labels k;
@@ -69,7 +74,8 @@ DrawsBefore-ended label options n a b c place h k = record {
 }
 
 -- writing stopped at a label
-pub BreaksAt-next : (label : Label) (options : DrawOptions) (n : ℕ) (r s t : SourceState) (old new : Place) (d : List ℕ) → DrawsBefore label options n r.left s.left old →
+pub BreaksAt-next : (label : Label) (options : DrawOptions) (n : ℕ) (r s t : SourceState) (old new : Place) (d : List ℕ) →
+    DrawsBefore label options n r.left s.left old →
     AreLabels label options s.left t.left (d ∷ []) → ((ds : List (List ℕ)) → old.whole ds → new.broken ds d) → BreaksAt label options n (input r t) new
 BreaksAt-next label options n r s t old new d h k breaks = record {
   drawings = h.drawings;
@@ -111,7 +117,8 @@ stream_breaks u v w d writes ds h = record {
 
 -- ---- A file for each
 
-files_more : (name : Numbering) (n : ℕ) (ds : List (List ℕ)) (d : List ℕ) → files_of name n (ds ++ d ∷ []) ≡ files_of name n ds ++ (numbered name (n + length ds), d) ∷ []
+files_more : (name : Numbering) (n : ℕ) (ds : List (List ℕ)) (d : List ℕ) →
+    files_of name n (ds ++ d ∷ []) ≡ files_of name n ds ++ (numbered name (n + length ds), d) ∷ []
 files_more name n [] d = ap (λ m. (numbered name m, d) ∷ []) (omega arith)
 files_more name n (e ∷ ds) d = rw (files_more name (n + 1) ds d) (grind arith)
 
@@ -123,9 +130,12 @@ adds_append a b c fs gs h k = grind (arith, append_assoc)
 
 pub folder_more : (name : Numbering) (n : ℕ) (e f g : FilesState) (d : List ℕ) → AddsFiles f.files g.files ((numbered name n, d) ∷ []) →
     (ds : List (List ℕ)) → n ≡ length ds + 1 → AddsFiles e.files f.files (files_of name 1 ds) → AddsFiles e.files g.files (files_of name 1 (ds ++ d ∷ []))
-folder_more name n e f g d adds ds is h = rw (files_more name 1 ds d) (adds_append e.files f.files g.files (files_of name 1 ds) _ h (subst (λ m. AddsFiles f.files g.files ((numbered name m, d) ∷ [])) (is ∙ omega arith) adds))
+folder_more name n e f g d adds ds is h =
+    let last = subst (λ m. AddsFiles f.files g.files ((numbered name m, d) ∷ [])) (is ∙ omega arith) adds in
+    rw (files_more name 1 ds d) (adds_append e.files f.files g.files (files_of name 1 ds) _ h last)
 
-pub folder_breaks : (name : Numbering) (e f g : FilesState) → AddsFiles f.files g.files [] → (ds : List (List ℕ)) → AddsFiles e.files f.files (files_of name 1 ds) →
+pub folder_breaks : (name : Numbering) (e f g : FilesState) → AddsFiles f.files g.files [] → (ds : List (List ℕ)) →
+    AddsFiles e.files f.files (files_of name 1 ds) →
     AddsFiles e.files g.files (files_of name 1 ds)
 folder_breaks name e f g adds ds h = rw (append-nil (files_of name 1 ds)) at (adds_append e.files f.files g.files (files_of name 1 ds) [] h adds)
 

@@ -80,8 +80,8 @@ pub record StopsAtLine (label : Label) (options : DrawOptions) (number : ℕ)
   pub drawn : DrawsBefore label options number input.before left place
   pub stopped : reads left input.after
 
--- The labels of the lines before the line of this number were written, and its label was not, or not
--- whole.
+-- The labels of the lines before the line of this number were written, and its own was not, or not
+-- as a whole.
 pub record BreaksAt (label : Label) (options : DrawOptions) (number : ℕ) (input : Input)
     (place : Place) : Type 0 where
   pub drawings : List (List ℕ)
@@ -110,9 +110,9 @@ WritesUntil label options number (Fault Write) input place =
 WritesUntil label options number stop input place =
     StopsAtLine label options number (StopsOrLacks label stop) input place
 
--- What is written for an outcome. On success the labels of all lines. Where reading failed, or a line
--- has no label, the labels of the lines before this one. Where writing failed, these, and of the next
--- no more than a beginning.
+-- What is written for an outcome. On success the labels of all lines. Where reading failed, or a
+-- line has no label, the labels of the lines before this one. Where writing failed, these, and of
+-- the next no more than a beginning.
 abbrev pub WritesLinesOutcome : Label → DrawOptions → Input → Place → Result (Unit {0}) LineStop → Type 0
 WritesLinesOutcome label options input place (Ok done) = DrawsLines label options input place
 WritesLinesOutcome label options input place (Err at) =
@@ -123,8 +123,8 @@ abbrev pub unnumbered : Result (Unit {0}) LineStop → Result (Unit {0}) Stop
 unnumbered (Ok done) = Ok done
 unnumbered (Err at) = Err at.stop
 
--- The outcome of lines: what was written, and that the error is `Read` exactly if reading failed, and
--- `Write` exactly if writing failed.
+-- The outcome of lines: what was written, and that the error is `Read` exactly if reading failed,
+-- and `Write` exactly if writing failed.
 pub record IsLinesOutcome (label : Label) (options : DrawOptions) (input : Input) (place : Place)
     (outcome : Result (Unit {0}) LineStop) : Type 0 where
   pub writes : WritesLinesOutcome label options input place outcome

@@ -3,8 +3,8 @@ use Rattle.std.specs.Prelude.{ℕ, ◌-◌, ◌+◌, nat_le, ◌==◌, ◌&&◌,
 use Rattle.std.specs.Prelude.{List, [], ◌∷◌, ◌++◌, length, Option, None, Some, is_some, option_map, option_and_then}
 use Rattle.qrlabel.specs.Numbers.{halves}
 
--- A name with the place of a number: what is before the number, how many digits it has at least, and
--- what is after it.
+-- A name with the place of a number: what is before the number, how many digits it has at least,
+-- and what is after it.
 pub record Numbering : Type 0 where
   pub before : List ℕ
   pub width : ℕ

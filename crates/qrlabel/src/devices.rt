@@ -31,14 +31,14 @@ pub fn run_on_devices<E: Sink>(rt: &HostRuntime, values: &Values, errors: &mut E
     }
 }
 
-/// Returns the place for labels as one that tells on standard error how many there are, if this is a
-/// terminal, and the labels themselves are not written on one.
+/// Returns the place for labels as one that writes on standard error how many there are, if this is
+/// a terminal, and the labels themselves are not written on one.
 fn counting<T>(rt: &HostRuntime, labels: T, on_terminal: bool) -> Counting<T, FromWriter<Stderr>>
     ensures { result.labels ≡ labels }
 {
     let mut stderr = rt.stderr();
-    let tells = stderr.is_terminal() && !on_terminal;
-    Counting::new(labels, FromWriter::new(stderr), tells)
+    let is_shown = stderr.is_terminal() && !on_terminal;
+    Counting::new(labels, FromWriter::new(stderr), is_shown)
 }
 
 /// Draws from the text of the words, from the file that they name, or from standard input.

@@ -36,8 +36,8 @@ impl<'a> Files for Folder<'a> {
     }
 }
 
-/// Writes a file beside the one of this name, which it replaces when it is whole. It returns whether
-/// this succeeded.
+/// Writes a file beside the one of this name, which it replaces when it is whole. It returns
+/// whether this succeeded.
 fn put_file(rt: &HostRuntime, name: &str, content: &[u8]) -> bool {
     let Ok(part) = format!(in rt.alloc(); "{name}.qrlabel-part") else {
         return false;

@@ -130,8 +130,7 @@ fn draws_into_files(rt: HostRuntime) {
     );
 }
 
-/// Each row has a name with a number, and what is written of two lines, of which the second has no
-/// label.
+/// Each row has a name with a number, and what is written of two lines; the second has no label.
 #[test]
 fn names_files(rt: HostRuntime) -> Result<(), QrError> {
     let rows: [(&str, &str); 6] = [

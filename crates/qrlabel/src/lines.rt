@@ -37,8 +37,8 @@ pub fn next_label<R: Source>(
     Ok(Some(label_bytes(alloc, label, options, line)?))
 }
 
-/// Writes the labels of all lines in their order, and flushes after each. It fails at the first line
-/// that has no label, with its number and the reason; `OutOfMemory` is also the reason at line
+/// Writes the labels of all lines in their order, and flushes after each. It fails at the first
+/// line that has no label, with its number and the reason; `OutOfMemory` is also the reason at line
 /// 2^64 - 1, which has the greatest number.
 #[tactic(auto, using(crate::proofs::LabelLemmas::drawn))]
 pub fn draw_lines<R: Source, W: Sink>(

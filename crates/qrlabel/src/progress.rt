@@ -1,47 +1,47 @@
-//! How many labels there are, told while they are drawn.
+//! The number of labels, written while they are drawn.
 ghost use Rattle.std.specs.Prelude.{◌≡◌};
 
 use crate::files::Files;
 use itoa::Buffer;
 use programs::{Sink, write_all};
 
-/// After so many labels their number is told.
+/// The number is written after each hundredth label.
 const STEP: u64 = 100;
 
-/// A place for labels, which tells on a sink how many there are.
+/// A place for labels, which writes on a sink how many there are.
 #[derive(Drop)]
 pub struct Counting<W, E> {
     pub labels: W,
-    told: E,
-    tells: bool,
+    numbers: E,
+    is_shown: bool,
     count: u64,
 }
 
 impl<W, E: Sink> Counting<W, E> {
-    /// Returns the place that has labels in the first and numbers in the second, if it tells them.
-    pub fn new(labels: W, told: E, tells: bool) -> Counting<W, E>
+    /// Returns a place for labels that, if numbers are shown, writes them on the second.
+    pub fn new(labels: W, numbers: E, is_shown: bool) -> Counting<W, E>
         ensures { result.labels ≡ labels }
     {
         Counting {
             labels,
-            told,
-            tells,
+            numbers,
+            is_shown,
             count: 0,
         }
     }
 
-    /// Counts one label more, and tells each hundredth number. The next one, or an error, is written
-    /// over it.
+    /// Counts one label more, and writes each hundredth number. The next one, or an error, is
+    /// written over it.
     fn count_one(&mut self)
         ensures { self.new.labels ≡ self.old.labels }
     {
         self.count = self.count.wrapping_add(1);
-        if !self.tells || self.count % STEP != 0 || self.told.failed() {
+        if !self.is_shown || self.count % STEP != 0 || self.numbers.failed() {
             return;
         }
         let mut buffer = Buffer::new();
-        if write_all(&mut self.told, buffer.format(self.count).as_bytes()).is_ok() {
-            let _ = write_all(&mut self.told, b" labels\r");
+        if write_all(&mut self.numbers, buffer.format(self.count).as_bytes()).is_ok() {
+            let _ = write_all(&mut self.numbers, b" labels\r");
         }
     }
 }

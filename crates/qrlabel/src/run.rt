@@ -76,8 +76,8 @@ fn serve_label<R: Source, W: Sink, E: Sink>(
     }
 }
 
-/// Writes why there are not all labels of lines, if so, and returns the exit status.
-fn told<E: Sink>(errors: &mut E, outcome: Result<(), LineStop>) -> u8
+/// Returns the exit status for the labels of lines. If one is missing, a line on `errors` says why.
+fn lines_status<E: Sink>(errors: &mut E, outcome: Result<(), LineStop>) -> u8
     requires sound { IsFalse (E.state errors.old).failed }
     ensures status { result ≡ lines_status outcome }
     ensures reported { Writes (output (E.state errors.old) (E.state errors.new))
@@ -114,11 +114,11 @@ fn serve<R: Source, W: Sink, F: Files, E: Sink>(
         Portion::Whole => serve_label(alloc, label, options, reader, writer, errors),
         Portion::Lines => {
             let outcome = draw_lines(alloc, label, options, reader, writer);
-            told(errors, outcome)
+            lines_status(errors, outcome)
         }
         Portion::Files(name) => {
             let outcome = draw_files(alloc, label, options, &name, reader, files);
-            told(errors, outcome)
+            lines_status(errors, outcome)
         }
     }
 }

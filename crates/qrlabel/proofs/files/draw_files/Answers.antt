@@ -17,7 +17,8 @@ returns-in-Ok-None g c = record {
 
 pub returns-in-Err : goal.returns-in-Err
 returns-in-Err g c = record {
-  writes = writes_until _ _ c.lines.number (g.R.Source.state c.args.reader.now) (g.R.Source.state c.lines.reader) (g.R.Source.state c.next_label.new.reader) _ c.in-Err.stop
+  writes = writes_until _ _ c.lines.number (g.R.Source.state c.args.reader.now) (g.R.Source.state c.lines.reader) (g.R.Source.state c.next_label.new.reader)
+      _ c.in-Err.stop
       c.lines.invariant.drawn c.in-Err.ensures.refused;
   read = grind (arith, c.in-Err.ensures.failure);
   write = grind (arith, c.lines.invariant.files_sound, never_write _ _ _ c.in-Err.stop c.in-Err.ensures.refused);
@@ -30,7 +31,8 @@ returns-then-not-put g c =
     let f = g.F.Files.state c.lines.files in
     let h = g.F.Files.state c.put.new.self in
     record {
-      writes = BreaksAt-next _ _ c.lines.number (g.R.Source.state c.args.reader.now) (g.R.Source.state c.lines.reader) (g.R.Source.state c.next_label.new.reader)
+      writes = BreaksAt-next _ _ c.lines.number (g.R.Source.state c.args.reader.now) (g.R.Source.state c.lines.reader)
+          (g.R.Source.state c.next_label.new.reader)
           (folder e f name) (folder e h name) c.in-Ok-Some.drawing.items
           c.lines.invariant.drawn (rw (c.in-Ok-Some.field-0-is) at c.in-Ok-Some.ensures.drawn) (folder_breaks name e f h (search rules));
       read = grind (arith, c.in-Ok-Some.ensures.failure);

@@ -18,7 +18,8 @@ returns-in-Ok-None g c = record {
 
 pub returns-in-Err : goal.returns-in-Err
 returns-in-Err g c = record {
-  writes = writes_until _ _ c.lines.number (g.R.Source.state c.args.reader.now) (g.R.Source.state c.lines.reader) (g.R.Source.state c.next_label.new.reader) _ c.in-Err.stop
+  writes = writes_until _ _ c.lines.number (g.R.Source.state c.args.reader.now) (g.R.Source.state c.lines.reader) (g.R.Source.state c.next_label.new.reader)
+      _ c.in-Err.stop
       c.lines.invariant.drawn c.in-Err.ensures.refused;
   read = grind (arith, c.in-Err.ensures.failure);
   write = grind (arith, c.lines.invariant.writer_sound, never_write _ _ _ c.in-Err.stop c.in-Err.ensures.refused);
@@ -31,7 +32,8 @@ returns-then-is_err g c =
     let w = g.W.Sink.state c.write_all.new.writer in
     let writes : Writes (output v w) c.in-Ok-Some.drawing.items = rw (c.deref.ensures.value) at c.write_all.ensures.writes in
     record {
-      writes = BreaksAt-next _ _ c.lines.number (g.R.Source.state c.args.reader.now) (g.R.Source.state c.lines.reader) (g.R.Source.state c.next_label.new.reader)
+      writes = BreaksAt-next _ _ c.lines.number (g.R.Source.state c.args.reader.now) (g.R.Source.state c.lines.reader)
+          (g.R.Source.state c.next_label.new.reader)
           (stream (output u v)) (stream (output u w)) c.in-Ok-Some.drawing.items
           c.lines.invariant.drawn (rw (c.in-Ok-Some.field-0-is) at c.in-Ok-Some.ensures.drawn) (stream_breaks u v w _ writes);
       read = grind (arith, c.in-Ok-Some.ensures.failure);

@@ -13,4 +13,5 @@ returns-then-is_err-clause-reported g c =
 pub returns-clause-reported : goal.returns-clause-reported
 returns-clause-reported g c =
     Writes-next (g.E.Sink.state c.args.errors.now) (g.E.Sink.state c.write_all.new.writer) (g.E.Sink.state c.report_stop.new.errors) (codes "qrlabel: line ")
-    (stop_line (decimal c.args.at.number) c.args.at.stop) (search rules) c.write_all.ensures.writes (rw (c.format.ensures.text) at c.report_stop.ensures.reported)
+    (stop_line (decimal c.args.at.number) c.args.at.stop) (search rules) c.write_all.ensures.writes
+    (rw (c.format.ensures.text) at c.report_stop.ensures.reported)
