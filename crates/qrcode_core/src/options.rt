@@ -4,12 +4,15 @@
 //! let options = SymbolOptions::new(EcLevel::M).with_max_version(10).with_strongest();
 //! let symbol = Symbol::text_with(alloc, "Gr\u{fc}\u{df}e", &options)?;
 //! ```
-ghost use Rattle.std.specs.Prelude.{◌≡◌, true, false, pos, IsOk, ◌↔◌, IsOkUnless};
+ghost use Rattle.std.specs.Prelude.{◌≡◌, true, false, pos, IsOk, ◌↔◌, IfOk, IsOkUnless};
 ghost use Rattle.qrcode_base.specs.declared.types.errors.QrError.TheVariants.{InvalidResourceLimits};
+ghost use Rattle.qrcode_base.specs.declared.types.Version.TheVariants.{Normal};
+ghost use Rattle.qrcode_core.specs.Limits.{IsBudget};
 ghost use Rattle.qrcode_core.specs.Options.{HasVersions};
 
+use crate::limits::ResourceLimits;
 use qrcode_base::symbols::is_normal_number;
-use qrcode_base::types::{EcLevel, QrError, QrResult};
+use qrcode_base::types::{EcLevel, QrError, QrResult, Version};
 
 /// What a caller asks of a symbol: its level, the versions that it may have, and whether it is to
 /// have the greatest level that costs no module. Each field may have any value; `validate` says
@@ -40,6 +43,25 @@ impl SymbolOptions {
             min_version: 1,
             max_version: 40,
             strongest: false,
+        }
+    }
+
+    /// Returns the options of a level, with the versions 1 to the greatest of the limits. It fails
+    /// with `InvalidResourceLimits` for limits that `ResourceLimits::validate` rejects. The limits
+    /// of the data and of the picture are for the caller to keep.
+    pub fn within(level: EcLevel, limits: &ResourceLimits) -> QrResult<Self>
+        ensures valid { IsOk result ↔ IsBudget limits.now }
+        ensures level { IfOk result (λ options. options.level ≡ level) }
+        ensures least { IfOk result (λ options. options.min_version ≡ pos 1) }
+        ensures greatest { IfOk result (λ options.
+            limits.now.max_version ≡ Normal options.max_version) }
+        ensures strongest { IfOk result (λ options. options.strongest ≡ false) }
+        ensures refused { IsOkUnless result InvalidResourceLimits }
+    {
+        limits.validate()?;
+        match limits.max_version {
+            Version::Normal(number) => Ok(SymbolOptions::new(level).with_max_version(number)),
+            Version::Micro(_) => Err(QrError::InvalidResourceLimits),
         }
     }
 

@@ -1,9 +1,10 @@
 //! Symbols of texts and of GS1 elements, read back.
 use crate::grids::read;
 use plain_reader::{Level, Seen};
+use qrcode_core::limits::ResourceLimits;
 use qrcode_core::options::SymbolOptions;
 use qrcode_core::symbol::Symbol;
-use qrcode_core::types::{EcLevel, QrError, QrResult};
+use qrcode_core::types::{EcLevel, QrError, QrResult, Version};
 use std::alloc::Global;
 use std::process::Abort;
 
@@ -154,4 +155,19 @@ fn options_are_checked_first(rt: HostRuntime) {
     let options = SymbolOptions::new(EcLevel::H).with_max_version(1);
     let refused = Symbol::text_with(rt.alloc(), "12345678901234567890", &options).err();
     assert!(rt; refused == Some(QrError::DataTooLong));
+}
+
+/// Limits give the greatest version, and those that no encoding can keep to give no options.
+#[test]
+fn options_within_limits(rt: HostRuntime) {
+    let limits = ResourceLimits::new(100, Version::Normal(2), (400, 400));
+    let options = SymbolOptions::within(EcLevel::Q, &limits).expect(&rt, "no options");
+    assert!(rt; options.level == EcLevel::Q && !options.strongest);
+    assert!(rt; options.min_version == 1 && options.max_version == 2);
+    let micro = ResourceLimits::new(100, Version::Micro(2), (400, 400));
+    let refused = SymbolOptions::within(EcLevel::Q, &micro).err();
+    assert!(rt; refused == Some(QrError::InvalidResourceLimits));
+    let flat = ResourceLimits::new(100, Version::Normal(2), (0, 400));
+    let refused = SymbolOptions::within(EcLevel::Q, &flat).err();
+    assert!(rt; refused == Some(QrError::InvalidResourceLimits));
 }
