@@ -1,7 +1,7 @@
 -- The longest parts that fit are the fewest.
 use Rattle.qrcode_core.proofs.Prelude.{◌≡◌, ℕ, zero, suc, ◌+◌, ◌-◌, ◌<◌, ◌≤◌, List, [], ◌∷◌, ◌++◌, length, refl, sym, ap, ◌∙◌, subst, arith, inl, inr}
 use Rattle.qrcode_core.proofs.Prelude.{append_assoc}
-use Rattle.qrcode_core.proofs.Prelude.{get_or, length-append, All, EcLevel, normal, parsed_bytes, slice_range, IsNonDecreasing}
+use Rattle.qrcode_core.proofs.Prelude.{get_or, length-append, All, EcLevel, normal, parsed_bytes, slice_range}
 use Rattle.std.proofs.lemmas.List.{append-nil, take_all, length-drop}
 use Rattle.std.proofs.lemmas.List.Elements.{All-cons, All-nil}
 use Rattle.qrcode_core.proofs.Prelude.{drop, parts_from}

@@ -3,7 +3,7 @@ use mir.Syntax.{w16}
 use Rattle.qrcode_core.proofs.Prelude.{ℕ, nat_abs, to_z-of_z, QrError}
 use Rattle.qrcode_bits.specs.declared.bits.front.Content.TheVariants.{Bytes}
 use Rattle.std.proofs.lemmas.Result.{IfOk-weaker}
-use Rattle.qrcode_core.proofs.BestCuts.{cuts_ordered, cuts_short, cuts_within, none_past}
+use Rattle.qrcode_core.proofs.BestCuts.{cuts_ordered, cuts_short, none_past}
 use Rattle.qrcode_core.proofs.symbol.cuts.best_cuts.Goals as goal
 
 pub returns-clause-ordered : goal.returns-clause-ordered

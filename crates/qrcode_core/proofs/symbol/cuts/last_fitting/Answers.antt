@@ -1,6 +1,6 @@
 use mir.Syntax.{w16}
-use Rattle.qrcode_core.proofs.Prelude.{arith, nat_abs, to_z-of_z, ◌≤◌, ◌+◌, ◌-◌, ◌<◌, length}
-use Rattle.qrcode_core.proofs.BestCuts.{places_order, place_inside, sought_first, sought_fits, sought_too_long, any_data}
+use Rattle.qrcode_core.proofs.Prelude.{arith, nat_abs, to_z-of_z, ◌≤◌}
+use Rattle.qrcode_core.proofs.BestCuts.{places_order, sought_first, sought_too_long}
 use Rattle.qrcode_core.proofs.symbol.cuts.last_fitting.Goals as goal
 
 pub loop-past-init : goal.loop-past-init

@@ -1,5 +1,5 @@
 -- The part up to the place at `fitting` fits; those up to `past` and later ones do not.
-use Rattle.qrcode_core.proofs.Prelude.{ℕ, ◌-◌, ◌<◌, ◌≤◌, length, nat_abs}
+use Rattle.qrcode_core.proofs.Prelude.{◌-◌, nat_abs}
 use Rattle.qrcode_core.proofs.BestCuts.{IsSought}
 use Rattle.qrcode_core.proofs.symbol.cuts.last_fitting.Given as goal
 

@@ -1,7 +1,7 @@
 use mir.Syntax.{w16}
 use Rattle.qrcode_core.proofs.Prelude.{arith, nat_abs, to_z-of_z, sym, subst, ◌+◌, ◌<◌, ◌≡◌, ◌∙◌, ◌++◌, ◌∷◌, [], length, get_or_default}
 use Rattle.std.specs.Prelude.{slice_index_or}
-use Rattle.qrcode_core.proofs.BestCuts.{IsCutUpTo, nothing_cut, one_cut, all_cut, none_left}
+use Rattle.qrcode_core.proofs.BestCuts.{IsCutUpTo, nothing_cut, one_cut, all_cut}
 use Rattle.qrcode_core.proofs.symbol.cuts.longest_parts.Goals as goal
 
 pub loop-count-init : goal.loop-count-init

@@ -1,6 +1,6 @@
 -- The front has 20 bits and those of the content.
 use mir.Syntax.{w16}
-use Rattle.qrcode_core.proofs.Prelude.{ap, to_z-of_z, ◌∙◌, Header, Stream, front_of}
+use Rattle.qrcode_core.proofs.Prelude.{ap, to_z-of_z, ◌∙◌, Header, front_of}
 use Rattle.std.proofs.Common.{Some}
 use Rattle.qrcode_bits.specs.Frame.{header_of}
 use Rattle.qrcode_core.proofs.BestCuts.{encoded_fits, refused_fits_not}

@@ -1,5 +1,5 @@
 -- Each part is the index's own, or fits.
-use Rattle.qrcode_core.proofs.Prelude.{◌≡◌, arith, common_steps, to_z-of_z, cases_eq, inl, inr, ◌∙◌}
+use Rattle.qrcode_core.proofs.Prelude.{arith, to_z-of_z, cases_eq, inl, inr, ◌∙◌}
 use mir.Syntax.{w16}
 use Rattle.qrcode_core.proofs.symbol.part.check_others.Goals as goal
 use Rattle.qrcode_core.proofs.symbol.part.check_others.Goals.{else-other-index-via-then-other-index+in_ok-part_fits+else-not-branch}

@@ -1,11 +1,10 @@
 -- Each part's symbol is one more of the result; where a part fails, the whole call fails.
-use Rattle.qrcode_core.proofs.Prelude.{common_steps, ◌+◌, arith, length, [], ◌∷◌, map, nat_abs, to_z-of_z, map-append, TellsReading, modules_of, IsTotal}
+use Rattle.qrcode_core.proofs.Prelude.{common_steps, ◌+◌, arith, [], ◌∷◌, map, nat_abs, to_z-of_z, map-append, TellsReading, modules_of}
 use Rattle.qrcode_core.proofs.Prelude.{ℕ, ◌∙◌, ap, Header, front_of}
 use Rattle.std.proofs.Common.{Some}
 use Rattle.qrcode_bits.specs.Frame.{header_of}
 use Rattle.std.proofs.lemmas.List.Elements.{All-push}
 use mir.Syntax.{w16}
-use Rattle.qrcode_bits.proofs.Classes.{limit_of}
 use Rattle.qrcode_core.proofs.Sequences.{one_more, best_symbols, none_too_long, refused_part}
 use Rattle.qrcode_core.proofs.symbol.sequence.symbols_of.Goals as goal
 

@@ -1,5 +1,5 @@
 -- The part's symbol is the best one; the others fit, as was tested.
-use Rattle.qrcode_core.proofs.Prelude.{◌≡◌, arith, common_steps, nat_abs, to_z-of_z, length, ◌+◌, front_of, IfOk-weaker}
+use Rattle.qrcode_core.proofs.Prelude.{◌≡◌, arith, common_steps, nat_abs, to_z-of_z, length, ◌+◌, front_of}
 use Rattle.std.proofs.Common.{Some}
 use Rattle.std.proofs.lemmas.Result.{IfErr-weaker}
 use Rattle.qrcode_bits.specs.declared.bits.front.Content.TheVariants.{Bytes}
