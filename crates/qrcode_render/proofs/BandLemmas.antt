@@ -1,13 +1,15 @@
 -- The bands and the fields of a picture for a printer, one after the other.
-use Rattle.std.proofs.Common.{◌≡◌, ℕ, ◌+◌, ◌-◌, ◌*◌, ◌/◌, ◌<◌, ◌≤◌, ◌++◌, List, [], ◌∷◌, take, length, get_or, refl, arith, append-nil}
-use Rattle.std.proofs.Common.{◌%◌, inl, inr}
+use Rattle.std.proofs.Common.{◌≡◌, ℕ, ◌+◌, ◌-◌, ◌*◌, ◌/◌, ◌<◌, ◌≤◌, ◌++◌, List, [], ◌∷◌, take, length, get_or, refl, sym, ap, arith, append-nil}
+use Rattle.std.proofs.Common.{◌%◌, ◌∙◌, inl, inr}
 use Rattle.std.specs.Prelude.{flat_map, min}
 use Rattle.std.proofs.lemmas.{Nat.div-mul-add, Nat.div-add-mod', Bool.cases_lt}
 use Rattle.std.proofs.Math.Nat.{div-mul-le_self}
 use Rattle.std.proofs.lemmas.{Nat.le-div, Grind.common_steps, Grind.flat_map-append}
+use Rattle.qrcode_render.specs.Bitmaps.{bitmap_row, rows_from}
 use Rattle.qrcode_render.specs.EscPos.{band, first_bands}
 use Rattle.qrcode_render.specs.Zpl.{hex_pair, nth_field, first_fields}
 use Rattle.qrcode_render.specs.Pictures.{Picture}
+use Rattle.qrcode_render.proofs.BitmapLemmas.{rows_none, rows_one}
 use Rattle.qrcode_render.proofs.Ranges.{flat_map_range}
 
 pub bands_none : (p : Picture) → first_bands p 0 ≡ []
@@ -30,6 +32,18 @@ fields_more p at n = flat_map_range (nth_field p at) n
 pub digits_more : (bytes : List ℕ) (n : ℕ) → n < length bytes →
     flat_map hex_pair (take (n + 1) bytes) ≡ flat_map hex_pair (take n bytes) ++ hex_pair (get_or bytes n 0)
 digits_more bytes n inside = grind (arith, common_steps, flat_map-append hex_pair (take n bytes) (get_or bytes n 0 ∷ []), append-nil)
+
+-- the digits of no row
+pub digits_none : (p : Picture) (first : ℕ) (bytes : List ℕ) → bytes ≡ bytes ++ flat_map hex_pair (rows_from p first (first - first))
+digits_none p first bytes =
+    let none : first - first ≡ 0 = omega arith in
+    rw (none, rows_none p first) (sym (append-nil bytes))
+
+-- the digits of one row more
+pub digits_row : (p : Picture) (first y : ℕ) → first ≤ y →
+    flat_map hex_pair (rows_from p first (y + 1 - first)) ≡ flat_map hex_pair (rows_from p first (y - first)) ++ flat_map hex_pair (bitmap_row p y)
+digits_row p first y after =
+    ap (flat_map hex_pair) (rows_one p first y after) ∙ flat_map-append hex_pair (rows_from p first (y - first)) (bitmap_row p y)
 
 -- a part begins within the whole
 pub part_begins : (n whole part : ℕ) → 0 < part → n < (whole + (part - 1)) / part → n * part < whole
@@ -58,3 +72,5 @@ pub ruleset bands = (bands_none, bands_more)
 pub ruleset fields = (fields_none, fields_more, part_begins, some_rows)
 
 pub ruleset digits = (digits_more)
+
+pub ruleset digits_after = (digits_none)

@@ -1,20 +1,18 @@
 -- The bytes and rows of a bitmap, one after the other.
-use Rattle.std.proofs.Common.{◌≡◌, ℕ, zero, suc, ◌+◌, ◌*◌, ◌/◌, ◌<◌, ◌≤◌, ◌^◌, ◌++◌, Bool, true, false, replicate, List, [], ◌∷◌, map, refl, sym}
+use Rattle.std.proofs.Common.{◌≡◌, ℕ, zero, suc, ◌+◌, ◌*◌, ◌/◌, ◌<◌, ◌≤◌, ◌^◌, ◌++◌, Bool, true, false, replicate, List, [], ◌∷◌, length, map, refl, sym}
 use Rattle.std.proofs.Common.{◌∙◌, arith, add-one}
 use Rattle.std.proofs.Common.{append-nil}
 use Rattle.std.specs.Prelude.{if◌then◌else◌}
-use Rattle.std.{specs.List.range_with_len, proofs.Math.Pow.pow_mono, proofs.lemmas.Grind.pow_more, proofs.lemmas.List.FromFn.map-range_with_len_more}
+use Rattle.std.{specs.List.range_with_len, proofs.Math.Pow.pow_mono, proofs.lemmas.Grind.pow_more, proofs.lemmas.List.FromFn.map-range_with_len_more, proofs.lemmas.List.FromFn.length-map-range_with_len}
 use Rattle.std.proofs.Common.{◌-◌, ◌%◌, ◌≢◌, ap, inl, inr}
 use Rattle.std.{proofs.lemmas.Nat.div-add-mod', proofs.Math.Nat.mod-eq-sub-div-mul, proofs.lemmas.Bool.cases_lt}
-use Rattle.std.{proofs.lemmas.Nat.div-mul-add, proofs.lemmas.List.Sums.fold-append}
+use Rattle.std.{proofs.lemmas.Nat.div-mul-add, proofs.lemmas.Nat.mul-add-lt, proofs.Math.Nat.mul_comm, proofs.lemmas.List.Sums.fold-append}
 use Rattle.qrcode_render.specs.Bitmaps.{bits_number, pixel_byte, bitmap_row, row_length, first_rows, rows_from}
 use Rattle.qrcode_render.{specs.Pictures.Picture, specs.Pictures.pixel_width, specs.Pictures.columns_of, specs.Pictures.is_dark_module}
 use Rattle.qrcode_render.specs.Rows.{dark_byte, is_dark_at}
 use Rattle.qrcode_render.specs.declared.picture.Row.{Row}
 use Rattle.qrcode_render.proofs.Ranges.{flat_map_from, equal_values}
 use Rattle.qrcode_render.proofs.RunLemmas.{map_same}
-use Rattle.std.proofs.Common.{get_or}
-use Rattle.std.proofs.lemmas.List.FromFn.{get_or-map-range_with_len}
 
 -- the number that the tests of n places from x on spell
 abbrev pub spelled : (ℕ → Bool) → ℕ → ℕ → ℕ
@@ -106,6 +104,11 @@ same_quotient y scale some within =
           absurd (within (omega (arith, mod-eq-sub-div-mul (y + 1) scale, ap (λ (n : ℕ). n * scale) quotient, next))))
     ]
 
+-- the bytes of a row
+pub row_long : (p : Picture) (y : ℕ) → length (bitmap_row p y) ≡ row_length p
+unfolding bitmap_row
+row_long p y = length-map-range_with_len (pixel_byte p y) 0 (row_length p)
+
 -- rows from one on begin with none
 pub rows_after_none : (p : Picture) (first : ℕ) (bytes : List ℕ) → bytes ≡ bytes ++ rows_from p first (first - first)
 rows_after_none p first bytes = let none : first - first ≡ 0 = omega arith in rw (none, rows_none p first) (sym (append-nil bytes))
@@ -166,11 +169,10 @@ whole_row p per whole =
     let pixels : pixel_width p ≡ 8 * (columns_of p * per) = ap (λ s. columns_of p * s) whole ∙ eight_times (columns_of p) per in
     omega (arith, pixels)
 
--- the byte of a column
-pub column_byte : (row : Row) (bytes : List ℕ) (columns column d : ℕ) → bytes ≡ map (dark_byte row) (range_with_len 0 columns) → column < columns →
-    get_or bytes column d ≡ dark_byte row column
-column_byte row bytes columns column d are below =
-    ap (λ l. get_or l column d) are ∙ get_or-map-range_with_len (dark_byte row) 0 columns column column d below (omega arith)
+-- the place of a byte of a module
+pub whole_place : (p : Picture) (per column copy : ℕ) → p.scale ≡ 8 * per → column < columns_of p → copy < per → column * per + copy < row_length p
+whole_place p per column copy whole inside below =
+    omega (arith, whole_row p per whole, mul-add-lt column per copy (columns_of p) inside below, mul_comm per (columns_of p))
 
 -- where a module is one byte wide, the bytes of the columns are all of a row
 pub columns_row : (p : Picture) (row : Row) (y columns : ℕ) → p.scale ≡ 8 → columns ≡ columns_of p →

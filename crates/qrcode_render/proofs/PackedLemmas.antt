@@ -1,12 +1,13 @@
 -- Rows of pixels in which modules are not whole bytes: bytes, and the bits after them.
-use Rattle.std.proofs.Common.{◌≡◌, ℕ, zero, suc, ◌+◌, ◌-◌, ◌*◌, ◌/◌, ◌%◌, ◌^◌, ◌<◌, ◌≤◌, ◌++◌, Bool, true, false, List, [], ◌∷◌, length, map, refl, sym}
+use Rattle.std.proofs.Common.{◌≡◌, ℕ, zero, suc, ◌+◌, ◌-◌, ◌*◌, ◌/◌, ◌%◌, ◌^◌, ◌<◌, ◌≤◌, ◌++◌, Bool, true, false, List, [], ◌∷◌, length, take, map, refl, sym}
 use Rattle.std.proofs.Common.{◌∙◌, ap, arith}
 use Rattle.std.specs.Prelude.{if◌then◌else◌, ◌&&◌, nat_le, nat_lt}
 use Rattle.std.specs.List.{range_with_len}
 use Rattle.std.proofs.Math.Pow.{pow_mono}
-use Rattle.std.proofs.Math.Nat.{le-div_iff_mul-le, le-mul_of_pos_right, mod-eq-sub-div-mul}
+use Rattle.std.proofs.Math.Nat.{le-div_iff_mul-le, le-mul_of_pos_right, mod-eq-sub-div-mul, mul-le-mul_right}
 use Rattle.std.proofs.lemmas.Bool.{le-ltb}
-use Rattle.std.proofs.lemmas.List.{length-append}
+use Rattle.std.proofs.lemmas.List.{length-append, length-set, length-take-le, take_all, take_more_set}
+use Rattle.std.proofs.Math.ListN.{set}
 use Rattle.std.proofs.lemmas.Nat.{div-mul-add, pow-add, pow_pos}
 use Rattle.qrcode_render.specs.Bitmaps.{bits_number, bitmap_row, pixel_byte, row_length}
 use Rattle.qrcode_render.specs.Pictures.{Picture, columns_of, pixel_width, is_dark_module, is_dark_pixel}
@@ -184,11 +185,6 @@ power_whole k few =
     let once : 1 * 2 ^ k ≡ 2 ^ k = omega arith in
     fits.whole ∙ once
 
--- a byte of a module is not 0 where it is dark
-pub lit : (dark : Bool) → nat_lt 0 (if dark then 255 else 0) ≡ dark
-lit true = refl
-lit false = refl
-
 -- the byte of a row without dark modules
 light_byte : (p : Picture) (y place : ℕ) → ((column : ℕ) → is_dark_module p column (y / p.scale) ≡ false) → pixel_byte p y place ≡ 0
 unfolding pixel_byte
@@ -204,3 +200,42 @@ light_pixels p y n long light =
     light_byte p y (0 + k) light ∙ sym (light_byte p y 0 light) in
     ap (λ m. replicate m 0) long
     ∙ (ap (replicate (row_length p)) (sym (light_byte p y 0 light)) ∙ sym (equal_values (pixel_byte p y) 0 (row_length p) same))
+
+-- ---- The bytes before a place of the row that is written
+
+-- there is a place for the next byte
+pub packed_room : (p : Picture) (y scale column place bits filled : ℕ) (line : List ℕ) → scale ≡ p.scale → column < columns_of p →
+    place ≤ length line → length line ≡ row_length p → 8 ≤ filled → Packed p y (take place line) bits filled ((column + 1) * scale) → place < length line
+packed_room p y scale column place bits filled line scaled inside here long more w =
+    let wide : (column + 1) * scale ≤ columns_of p * scale = mul-le-mul_right scale (omega (arith, inside)) in
+    let all : columns_of p * scale ≡ pixel_width p = ap (λ s. columns_of p * s) scaled in
+    omega (arith, w.edge, length-take-le place line here, wide, all, long, more)
+
+-- the last byte is the last place
+pub packed_end : (p : Picture) (y place bits filled end : ℕ) (line : List ℕ) → place ≤ length line → length line ≡ row_length p →
+    end ≡ pixel_width p → 0 < filled → filled < 8 → Packed p y (take place line) bits filled end → place + 1 ≡ length line
+packed_end p y place bits filled end line here long wide begun few w = omega (arith, w.edge, length-take-le place line here, long, wide, begun, few)
+
+-- one byte more is written
+pub packed_set : (p : Picture) (y bits filled left end byte rest place : ℕ) (line : List ℕ) → place < length line → filled ≡ 8 + left →
+    byte ≡ bits / 2 ^ left → rest ≡ bits % 2 ^ left → Packed p y (take place line) bits filled end →
+    Packed p y (take (place + 1) (set line place byte)) rest left end
+packed_set p y bits filled left end byte rest place line inside parts is after w =
+    packed_byte p y bits filled left end byte rest (take place line) _ parts is after (take_more_set line place byte inside) w
+
+-- the last one is
+pub packed_set_last : (p : Picture) (y bits filled end byte place : ℕ) (line : List ℕ) → place ≤ length line → length line ≡ row_length p →
+    end ≡ pixel_width p → 0 < p.scale → 0 < filled → filled < 8 → byte ≡ bits * 2 ^ (8 - filled) →
+    Packed p y (take place line) bits filled end → set line place byte ≡ bitmap_row p y
+packed_set_last p y bits filled end byte place line here long wide some begun few is w =
+    let last = packed_end p y place bits filled end line here long wide begun few w in
+    let whole : length (set line place byte) ≤ place + 1 = omega (arith, length-set line place byte, last) in
+    sym (take_all (place + 1) (set line place byte) whole) ∙ (take_more_set line place byte (omega (arith, last))
+    ∙ packed_last p y bits filled end byte (take place line) wide some begun few is w)
+
+-- and there is none
+pub packed_whole : (p : Picture) (y bits filled end place : ℕ) (line : List ℕ) → place ≤ length line → length line ≡ row_length p →
+    end ≡ pixel_width p → filled ≡ 0 → Packed p y (take place line) bits filled end → line ≡ bitmap_row p y
+packed_whole p y bits filled end place line here long wide none w =
+    let whole : length line ≤ place = omega (arith, w.edge, length-take-le place line here, long, wide, none) in
+    sym (take_all place line whole) ∙ packed_all p y bits filled end (take place line) wide none w

@@ -1,10 +1,11 @@
 //! The rows of pixels of a picture, as bits: dark is 1.
 ghost use Rattle.std.specs.Prelude.{◌≡◌, ◌+◌, ◌/◌, ◌%◌, ◌^◌, ◌<◌, ◌≤◌, ◌++◌, IfOk, OnOk};
 ghost use Rattle.std.specs.Prelude.{if◌then◌else◌};
-ghost use Rattle.std.specs.Prelude.{◌*◌, map, replicate};
+ghost use Rattle.std.specs.Prelude.{◌*◌, map, replicate, length};
 ghost use Rattle.std.specs.List.{range_with_len};
 ghost use Rattle.qrcode_render.specs.declared.bounds.TheConstants.{MAX_PIXELS, MAX_SCALE};
-ghost use Rattle.qrcode_render.specs.Bitmaps.{bits_number, first_rows, bitmap_row, rows_from};
+ghost use Rattle.qrcode_render.specs.Bitmaps.{bits_number, first_rows, bitmap_row, row_length};
+ghost use Rattle.qrcode_render.specs.Bitmaps.{rows_from};
 ghost use Rattle.qrcode_render.specs.Pictures.{pixel_height};
 ghost use Rattle.qrcode_render.specs.Rows.{is_dark_at};
 ghost use Rattle.qrcode_render.specs.Shown.{shown};
@@ -24,8 +25,9 @@ pub(crate) fn push_rows(
         ++ first_rows (shown picture.now) (pixel_height (shown picture.now))) }
 {
     let scale = picture.scale();
+    let mut line = zeros(alloc, picture.row_length())?;
     for row in 0..picture.rows() {
-        let line = row_bytes(alloc, picture, row * scale)?;
+        write_row(picture, row * scale, line.as_mut_slice());
         for copy in 0..scale {
             bytes.extend_from_slice(&line)?;
         }
@@ -47,88 +49,88 @@ pub(crate) fn push_rows_from(
         (bytes.new.items ≡ bytes.old.items ++ rows_from (shown picture.now) first count) }
 {
     let scale = picture.scale();
-    let mut line = row_bytes(alloc, picture, first)?;
+    let mut line = zeros(alloc, picture.row_length())?;
     for y in first..first + count {
-        if y % scale == 0 {
-            line = row_bytes(alloc, picture, y)?;
+        if y == first || y % scale == 0 {
+            write_row(picture, y, line.as_mut_slice());
         }
         bytes.extend_from_slice(&line)?;
     }
     Ok(())
 }
 
-/// Returns the bytes of a row of pixels.
-pub(crate) fn row_bytes(alloc: Global, picture: &Picture, y: usize) -> Result<Vec<u8>, AllocError>
-    ensures { IfOk result (λ line. line.items ≡ bitmap_row (shown picture.now) y) }
+/// Returns this many zeros, which are light pixels.
+pub(crate) fn zeros(alloc: Global, count: usize) -> Result<Vec<u8>, AllocError>
+    ensures light { IfOk result (λ bytes. bytes.items ≡ replicate count 0) }
+    ensures long { IfOk result (λ bytes. length bytes.items ≡ count) }
+{
+    let mut bytes = Vec::new(alloc);
+    bytes.resize(count, 0)?;
+    Ok(bytes)
+}
+
+/// Writes the bytes of a row of pixels.
+pub(crate) fn write_row(picture: &Picture, y: usize, line: &mut [u8])
+    requires { length line.old ≡ row_length (shown picture.now) }
+    ensures { line.new ≡ bitmap_row (shown picture.now) y }
 {
     let scale = picture.scale();
     if picture.row(y / scale).is_light() {
-        light_bytes(alloc, picture.row_length())
+        line.fill(0);
     } else if scale % 8 == 0 {
-        whole_bytes(alloc, picture, y)
+        write_whole(picture, y, line);
     } else if scale <= 56 {
-        packed_bytes(alloc, picture, y)
+        write_packed(picture, y, line);
     } else {
-        wide_bytes(alloc, picture, y)
+        write_wide(picture, y, line);
     }
 }
 
-/// Returns this many bytes of light pixels.
-fn light_bytes(alloc: Global, length: usize) -> Result<Vec<u8>, AllocError>
-    ensures { IfOk result (λ line. line.items ≡ replicate length 0) }
-{
-    let mut line = Vec::new(alloc);
-    line.resize(length, 0)?;
-    Ok(line)
-}
-
-/// Returns the bytes of a row of pixels, if each module is whole bytes wide.
+/// Writes the bytes of a row of pixels, if each module is whole bytes wide.
 #[tactic(auto, unfolding(crate::specs::Bitmaps::bitmap_row))]
-fn whole_bytes(alloc: Global, picture: &Picture, y: usize) -> Result<Vec<u8>, AllocError>
-    requires { (shown picture.now).scale % 8 ≡ 0 }
-    ensures { IfOk result (λ line. line.items ≡ bitmap_row (shown picture.now) y) }
+fn write_whole(picture: &Picture, y: usize, line: &mut [u8])
+    requires whole { (shown picture.now).scale % 8 ≡ 0 }
+    requires long { length line.old ≡ row_length (shown picture.now) }
+    ensures { line.new ≡ bitmap_row (shown picture.now) y }
 {
-    let scale = picture.scale();
-    let row = picture.row(y / scale);
-    let modules = row.bytes(alloc, picture.columns())?;
-    if scale == 8 {
-        return Ok(modules);
+    let per = picture.scale() / 8;
+    let row = picture.row(y / picture.scale());
+    if per == 1 {
+        row.write_bytes(line);
+        return;
     }
-    let per = scale / 8;
-    let mut line = Vec::with_capacity(alloc, picture.row_length())?;
-    for column in 0..modules.len() {
-        let byte = modules[column];
+    for column in 0..picture.columns() {
+        let byte = if row.is_dark(column) { 255 } else { 0 };
         for copy in 0..per {
-            line.push(byte)?;
+            line[column * per + copy] = byte;
         }
     }
-    Ok(line)
 }
 
-/// Returns the bytes of a row of pixels, module by module.
-fn packed_bytes(alloc: Global, picture: &Picture, y: usize) -> Result<Vec<u8>, AllocError>
-    requires { (shown picture.now).scale ≤ 56 }
-    ensures { IfOk result (λ line. line.items ≡ bitmap_row (shown picture.now) y) }
+/// Writes the bytes of a row of pixels, module by module.
+fn write_packed(picture: &Picture, y: usize, line: &mut [u8])
+    requires scaled { (shown picture.now).scale ≤ 56 }
+    requires long { length line.old ≡ row_length (shown picture.now) }
+    ensures { line.new ≡ bitmap_row (shown picture.now) y }
 {
     let scale = picture.scale();
     let row = picture.row(y / scale);
-    let modules = row.bytes(alloc, picture.columns())?;
-    let mut line = Vec::with_capacity(alloc, picture.row_length())?;
+    let mut place = 0;
     let mut bits = 0;
     let mut filled = 0;
-    for column in 0..modules.len() {
-        bits = with_module(bits, filled, scale, modules[column] > 0);
+    for column in 0..picture.columns() {
+        bits = with_module(bits, filled, scale, row.is_dark(column));
         filled += scale;
         while filled >= 8 {
             filled -= 8;
-            line.push((bits >> filled) as u8)?;
+            line[place] = (bits >> filled) as u8;
+            place += 1;
             bits %= 1 << filled;
         }
     }
     if filled > 0 {
-        line.push((bits << (8 - filled)) as u8)?;
+        line[place] = (bits << (8 - filled)) as u8;
     }
-    Ok(line)
 }
 
 /// Returns bits with those of a module after them.
@@ -143,18 +145,17 @@ fn with_module(bits: u64, filled: usize, scale: usize, dark: bool) -> u64
     ((bits + one) << scale) - one
 }
 
-/// Returns the bytes of a row of pixels, byte by byte.
+/// Writes the bytes of a row of pixels, byte by byte.
 #[tactic(auto, unfolding(crate::specs::Bitmaps::bitmap_row))]
-fn wide_bytes(alloc: Global, picture: &Picture, y: usize) -> Result<Vec<u8>, AllocError>
-    ensures { IfOk result (λ line. line.items ≡ bitmap_row (shown picture.now) y) }
+fn write_wide(picture: &Picture, y: usize, line: &mut [u8])
+    requires { length line.old ≡ row_length (shown picture.now) }
+    ensures { line.new ≡ bitmap_row (shown picture.now) y }
 {
     let (length, scale) = (picture.row_length(), picture.scale());
     let row = picture.row(y / scale);
-    let mut line = Vec::with_capacity(alloc, length)?;
     for place in 0..length {
-        line.push(pixel_byte(row, scale, place))?;
+        line[place] = pixel_byte(row, scale, place);
     }
-    Ok(line)
 }
 
 /// Returns the byte of eight pixels of a row, the first in the highest bit.

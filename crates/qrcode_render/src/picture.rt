@@ -11,7 +11,6 @@ use crate::options::RenderOptions;
 use qrcode_core::symbol::Symbol;
 use qrcode_core::traits::ModuleSource;
 use qrcode_core::types::Color;
-use std::alloc::{AllocError, Global};
 
 /// A borrowed grid, with the width of a module in pixels and the width of the light quiet zone
 /// around the grid in modules. Nothing is copied.
@@ -40,7 +39,7 @@ pub(crate) struct Row<'a> {
 }
 
 impl<'a> Row<'a> {
-    ghost use Rattle.std.specs.Prelude.{map, false, true, IfOk};
+    ghost use Rattle.std.specs.Prelude.{map, false, true};
     ghost use Rattle.std.specs.List.{range_with_len};
     ghost use Rattle.qrcode_render.specs.Rows.{dark_byte, is_dark_at};
 
@@ -52,21 +51,18 @@ impl<'a> Row<'a> {
         self.modules.is_empty()
     }
 
-    /// Returns a byte for each column, counted from the edge of the quiet zone: 255 where the
+    /// Writes a byte for each column, counted from the edge of the quiet zone: 255 where the
     /// module is dark, else 0.
-    pub(crate) fn bytes(&self, alloc: Global, columns: usize) -> Result<Vec<u8>, AllocError>
-        requires { self.now.quiet + length self.now.modules.now ≤ columns }
-        ensures { IfOk result
-            (λ line. line.items ≡ map (dark_byte self.now) (range_with_len 0 columns)) }
+    pub(crate) fn write_bytes(&self, line: &mut [u8])
+        requires { self.now.quiet + length self.now.modules.now ≤ length line.old }
+        ensures { line.new ≡ map (dark_byte self.now) (range_with_len 0 (length line.old)) }
     {
-        let mut line = Vec::new(alloc);
-        line.resize(columns, 0)?;
+        line.fill(0);
         let modules = self.modules;
         let quiet = self.quiet;
         for i in 0..modules.len() {
             line[quiet + i] = modules[i].select(255, 0);
         }
-        Ok(line)
     }
 
     /// Whether the module in this column, counted from the edge of the quiet zone, is dark.

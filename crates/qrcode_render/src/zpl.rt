@@ -1,15 +1,19 @@
 //! Pictures as labels of ZPL II, for label printers.
-ghost use Rattle.std.specs.Prelude.{◌≡◌, ◌+◌, ◌*◌, ◌<◌, ◌≤◌, ◌++◌, IfOk, OnOk, flat_map};
+ghost use Rattle.std.specs.Prelude.{◌≡◌, ◌+◌, ◌*◌, ◌<◌, ◌≤◌, ◌++◌, IfOk, OnOk, flat_map, length};
+ghost use Rattle.qrcode_render.specs.Bitmaps.{rows_from};
 ghost use Rattle.std.specs.String.{string_bytes};
 ghost use Rattle.qrcode_render.specs.declared.bounds.TheConstants.{FIELD_BYTES, MAX_AT, MAX_PIXELS};
 ghost use Rattle.qrcode_render.specs.Pictures.{pixel_height};
 ghost use Rattle.qrcode_render.specs.Shown.{shown};
 ghost use Rattle.qrcode_render.specs.Zpl.{field, field_head, hex_pair, hex_digit, zpl_text};
 
-use crate::bitmap::push_rows_from;
+use crate::bitmap::{write_row, zeros};
 use crate::bounds::FIELD_BYTES;
 use crate::picture::Picture;
 use std::alloc::{AllocError, Global};
+
+/// The most bytes around the data of a field.
+const MOST_AROUND: usize = 64;
 
 /// Returns the picture as a label of ZPL II (`^GF`), for a label printer, with its upper left
 /// corner at this position in dots. Its rows are in fields of at most `FIELD_BYTES` bytes, one
@@ -21,9 +25,11 @@ pub fn zpl(alloc: Global, picture: &Picture, at: (usize, usize)) -> Result<Vec<u
 {
     let height = picture.height();
     let rows = FIELD_BYTES / picture.row_length();
-    let mut bytes = Vec::with_capacity(alloc, 2 * picture.row_length() * height)?;
+    let fields = height.div_ceil(rows);
+    let room = 2 * picture.row_length() * height + MOST_AROUND * fields + 8;
+    let mut bytes = Vec::with_capacity(alloc, room)?;
     bytes.extend_from_slice(b"^XA\n")?;
-    for n in 0..height.div_ceil(rows) {
+    for n in 0..fields {
         let first = n * rows;
         push_field(
             alloc,
@@ -56,9 +62,7 @@ fn push_field(
     let length = picture.row_length();
     let head = field_head(alloc, at.0, at.1 + first, length * count, length)?;
     bytes.extend_from_slice(head.as_bytes())?;
-    let mut rows = Vec::with_capacity(alloc, length * count)?;
-    push_rows_from(alloc, &mut rows, picture, first, count)?;
-    push_hex(bytes, &rows)?;
+    push_digits(alloc, bytes, picture, first, count)?;
     bytes.extend_from_slice(b"^FS\n")
 }
 
@@ -76,16 +80,44 @@ fn field_head(
     format!(in alloc; "^FO{x},{y}^GFA,{bytes},{bytes},{row},")
 }
 
-/// Appends the hexadecimal digits of some bytes.
-#[tactic(auto, using(crate::proofs::BandLemmas::digits))]
-fn push_hex(bytes: &mut Vec<u8>, content: &[u8]) -> Result<(), AllocError>
-    ensures { OnOk result (bytes.new.items ≡ bytes.old.items ++ flat_map hex_pair content.now) }
+/// Appends the hexadecimal digits of some rows of pixels, from one on. Those of one row of modules
+/// are equal.
+#[tactic(auto, using(crate::proofs::BandLemmas::digits_after))]
+fn push_digits(
+    alloc: Global,
+    bytes: &mut Vec<u8>,
+    picture: &Picture,
+    first: usize,
+    count: usize,
+) -> Result<(), AllocError>
+    requires { first + count ≤ MAX_PIXELS }
+    ensures { OnOk result (bytes.new.items ≡ bytes.old.items
+        ++ flat_map hex_pair (rows_from (shown picture.now) first count)) }
 {
-    for byte in content {
-        bytes.push(hex_digit(*byte / 16))?;
-        bytes.push(hex_digit(*byte % 16))?;
+    let scale = picture.scale();
+    let mut line = zeros(alloc, picture.row_length())?;
+    let mut digits = zeros(alloc, 2 * picture.row_length())?;
+    for y in first..first + count {
+        if y == first || y % scale == 0 {
+            write_row(picture, y, line.as_mut_slice());
+            write_hex(&line, digits.as_mut_slice());
+        }
+        bytes.extend_from_slice(&digits)?;
     }
     Ok(())
+}
+
+/// Writes the hexadecimal digits of some bytes.
+#[tactic(auto, using(crate::proofs::BandLemmas::digits))]
+fn write_hex(content: &[u8], digits: &mut [u8])
+    requires { length digits.old ≡ 2 * length content.now }
+    ensures { digits.new ≡ flat_map hex_pair content.now }
+{
+    for i in 0..content.len() {
+        let byte = content[i];
+        digits[2 * i] = hex_digit(byte / 16);
+        digits[2 * i + 1] = hex_digit(byte % 16);
+    }
 }
 
 /// Returns a hexadecimal digit.

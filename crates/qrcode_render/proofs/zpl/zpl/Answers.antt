@@ -10,9 +10,9 @@ returns c =
     let p = shown c.args.picture.now in
     let some = some_rows c.row_length-rows.result c.row_length-rows.ensures.some (omega arith) in
     let rows : 99999 / c.row_length-rows.result ≡ field_rows p = ap (λ n. 99999 / n) c.row_length-rows.ensures.exact in
-    let last : c.loop-n.n ≡ c.div_ceil-n-end.result = omega arith in
+    let last : c.loop-n.n ≡ c.div_ceil-fields.result = omega arith in
     let ends : c.loop-n.n ≡ (c.height-height.result + (99999 / c.row_length-rows.result - 1)) / (99999 / c.row_length-rows.result) =
-    last ∙ (c.div_ceil-n-end.ensures ∙ rounded_up c.height-height.result (99999 / c.row_length-rows.result) some) in
+    last ∙ (c.div_ceil-fields.ensures ∙ rounded_up c.height-height.result (99999 / c.row_length-rows.result) some) in
     let end : c.loop-n.n ≡ (pixel_height p + (field_rows p - 1)) / field_rows p =
     ends ∙ (ap (λ h. (h + (99999 / c.row_length-rows.result - 1)) / (99999 / c.row_length-rows.result)) c.height-height.ensures.exact
     ∙ ap (λ r. (pixel_height p + (r - 1)) / r) rows) in

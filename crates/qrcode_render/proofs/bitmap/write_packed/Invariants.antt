@@ -1,18 +1,20 @@
 -- The bytes so far are those of the row, and the bits after them are held.
-use Rattle.std.proofs.Common.{◌+◌, ◌*◌, ◌<◌}
+use Rattle.std.proofs.Common.{◌≡◌, ◌+◌, ◌*◌, ◌<◌, ◌≤◌, length, take}
 use Rattle.qrcode_render.{specs.Shown.shown, proofs.PackedLemmas.Packed}
-use Rattle.qrcode_render.proofs.bitmap.packed_bytes.Given as goal
+use Rattle.qrcode_render.proofs.bitmap.write_packed.Given as goal
 
 abbrev pub invariant-loop-column : goal.invariant-loop-column
 invariant-loop-column l = record {
   few : l.filled < 8;
-  packed : Packed (shown l.picture) l.y l.line.items l.bits l.filled (l.column * l.scale);
+  here : l.place ≤ length l.line;
+  packed : Packed (shown l.picture) l.y (take l.place l.line) l.bits l.filled (l.column * l.scale);
 }
 
 abbrev pub invariant-loop-filled : goal.invariant-loop-filled
 invariant-loop-filled l = record {
   few : l.filled < 64;
-  packed : Packed (shown l.picture) l.y l.line.items l.bits l.filled ((l.column + 1) * l.scale);
+  here : l.place ≤ length l.line;
+  packed : Packed (shown l.picture) l.y (take l.place l.line) l.bits l.filled ((l.column + 1) * l.scale);
 }
 
 abbrev pub decreases-loop-filled : goal.decreases-loop-filled
