@@ -1,5 +1,7 @@
 -- The runs of a row, one after the other, and the modules of a run.
-use Rattle.std.proofs.Common.{◌≡◌, ℕ, ◌+◌, ◌<◌, ◌≤◌, ◌++◌, Bool, true, false, List, [], length, refl, sym, ap, ◌∙◌, arith, append-nil}
+use Rattle.std.proofs.Common.{◌≡◌, ℕ, ◌+◌, ◌-◌, ◌<◌, ◌≤◌, ◌++◌, ◌/◌, ◌%◌, Bool, true, false, List, [], ◌∷◌, length, refl, sym, ap, ◌∙◌, arith, append-nil, append_assoc}
+use Rattle.std.specs.Prelude.{◌==◌, ◌&&◌, ◌||◌, not, decimal}
+use Rattle.std.proofs.lemmas.Fmt.{decimal_digit, decimal_step}
 use Rattle.std.proofs.lemmas.List.Sums.{prefix_len-drop_yes, prefix_len-drop_no, prefix_len-drop_all}
 use Rattle.std.proofs.lemmas.{List.FromFn.length-map-range_with_len, List.FromFn.get_or-map-range_with_len}
 use Rattle.qrcode_render.specs.Paths.{begins_run, dark_row, dark_run_length, run_at, row_path, path}
@@ -44,6 +46,11 @@ module _ (write : ℕ → ℕ → ℕ → List ℕ) where
       let run : run_at write p y n ≡ [] = rw none refl in
       joined start (row_path write p y n) old (run_at write p y n) old _ (row_path_more p y n) was (sym (append-nil old) ∙ ap (λ l. old ++ l) (sym run))
 
+begins_after : (a none b : Bool) → (a && (none || not b)) ≡ (a && not (not none && b))
+begins_after true true b = refl
+begins_after true false b = refl
+begins_after false none b = refl
+
 length_of_row : (p : Picture) (y : ℕ) → length (dark_row p y) ≡ columns_of p
 length_of_row p y = length-map-range_with_len (λ x. is_dark_module p x y) 0 (columns_of p)
 
@@ -66,8 +73,28 @@ pub run_end : (p : Picture) (x y : ℕ) → columns_of p ≤ x → dark_run_leng
 unfolding dark_run_length
 run_end p x y outside = prefix_len-drop_all (λ (b : Bool). b) (dark_row p y) x (omega (arith, length_of_row p y))
 
+-- a run begins where a module is dark and the one before it is not
+pub run_begins : (p : Picture) (x y : ℕ) (dark before : Bool) → dark ≡ is_dark_module p x y →
+    before ≡ (not (x == 0) && is_dark_module p (x - 1) y) → begins_run p x y ≡ (dark && not before)
+run_begins p x y dark before is was = rw (is, was) (begins_after (is_dark_module p x y) (x == 0) (is_dark_module p (x - 1) y))
+
+-- the digits of a number, the last one at the end
+pub last_digit : (n : ℕ) (text before after : List ℕ) → n < 1000 → 10 ≤ n → before ≡ text ++ decimal (n / 10) →
+    after ≡ before ++ (48 + n % 10) ∷ [] → after ≡ text ++ decimal n
+last_digit n text before after small more was adds =
+    adds ∙ (ap (λ t. t ++ (48 + n % 10) ∷ []) was ∙ (append_assoc text (decimal (n / 10)) ((48 + n % 10) ∷ [])
+    ∙ ap (λ d. text ++ d) (sym (decimal_step n more (omega (arith, small))))))
+
+-- one digit is a number
+pub one_digit : (n : ℕ) (text after : List ℕ) → n < 10 → after ≡ text ++ (48 + n % 10) ∷ [] → after ≡ text ++ decimal n
+one_digit n text after small adds =
+    let same : n % 10 ≡ n = omega (arith, small) in
+    adds ∙ (ap (λ d. text ++ (48 + d) ∷ []) same ∙ ap (λ d. text ++ d) (sym (decimal_digit n small)))
+
 pub ruleset paths = (path_start, path_row)
 
 pub ruleset rows = (row_start, row_run, row_no_run)
 
 pub ruleset runs = (run_dark, run_light, run_end)
+
+pub ruleset digits = (last_digit, one_digit, decimal_digit)

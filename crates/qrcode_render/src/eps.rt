@@ -28,7 +28,7 @@ pub fn eps(alloc: Global, picture: &Picture, module_mm: Option<usize>) -> Result
     let mut text = head(alloc, width, height)?;
     let setup = setup(alloc, &points, columns, rows)?;
     text.push_str(setup.as_str())?;
-    push_path(alloc, &mut text, picture, Pen::Eps)?;
+    push_path(&mut text, picture, Pen::Eps)?;
     text.push_str("fill\nshowpage\n%%EOF\n")?;
     Ok(text)
 }

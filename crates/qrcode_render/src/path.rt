@@ -1,70 +1,58 @@
 //! A picture as one path: a rectangle for each run of dark modules in a row.
-ghost use Rattle.std.specs.Prelude.{◌≡◌, ◌≤◌, ◌++◌, IfOk, OnOk};
+ghost use Rattle.std.specs.Prelude.{◌≡◌, ◌+◌, ◌≤◌, ◌<◌, ◌++◌, OnOk, decimal};
 ghost use Rattle.std.specs.String.{string_bytes};
-ghost use Rattle.qrcode_render.specs.Paths.{begins_run, dark_run_length, path, row_path};
+ghost use Rattle.qrcode_render.specs.Paths.{dark_run_length, path, row_path};
 ghost use Rattle.qrcode_render.specs.Pens.{rectangle_by};
 ghost use Rattle.qrcode_render.specs.Pictures.{columns_of, rows_of};
 ghost use Rattle.qrcode_render.specs.Shown.{shown};
 
 use crate::pen::Pen;
 use crate::picture::Picture;
-use std::alloc::{AllocError, Global};
+use std::alloc::AllocError;
 
 /// Appends the rectangles of all rows.
 #[tactic(auto, using(crate::proofs::PathLemmas::paths))]
-pub(crate) fn push_path(
-    alloc: Global,
-    text: &mut String,
-    picture: &Picture,
-    pen: Pen,
-) -> Result<(), AllocError>
+pub(crate) fn push_path(text: &mut String, picture: &Picture, pen: Pen) -> Result<(), AllocError>
     ensures { OnOk result (string_bytes text.new ≡ string_bytes text.old
         ++ path (rectangle_by pen) (shown picture.now) (rows_of (shown picture.now))) }
 {
+    text.reserve(3 * picture.columns() * picture.rows())?;
     for y in 0..picture.rows() {
-        push_row(alloc, text, picture, pen, y)?;
+        push_row(text, picture, pen, y)?;
     }
     Ok(())
 }
 
 /// Appends the rectangles of a row.
 #[tactic(auto, using(crate::proofs::PathLemmas::rows))]
-fn push_row(
-    alloc: Global,
-    text: &mut String,
-    picture: &Picture,
-    pen: Pen,
-    y: usize,
-) -> Result<(), AllocError>
+fn push_row(text: &mut String, picture: &Picture, pen: Pen, y: usize) -> Result<(), AllocError>
+    requires { y < 1000 }
     ensures { OnOk result (string_bytes text.new ≡ string_bytes text.old
         ++ row_path (rectangle_by pen) (shown picture.now) y (columns_of (shown picture.now))) }
 {
+    let row = picture.row(y);
+    let mut dark = false;
     for x in 0..picture.columns() {
-        if begins_run(picture, x, y) {
-            let length = dark_run_length(picture, x, y);
-            let rectangle = rectangle(alloc, pen, x, y, length)?;
-            text.push_str(rectangle.as_str())?;
+        let before = dark;
+        dark = row.is_dark(x);
+        if dark && !before {
+            push_rectangle(text, pen, (x, y), dark_run_length(picture, x, y))?;
         }
     }
     Ok(())
-}
-
-/// Whether a run of dark modules begins here.
-fn begins_run(picture: &Picture, x: usize, y: usize) -> bool
-    ensures { result ≡ begins_run (shown picture.now) x y }
-{
-    picture.is_dark(x, y) && (x == 0 || !picture.is_dark(x - 1, y))
 }
 
 /// Returns the number of dark modules from here up to the first light one.
 #[tactic(auto, using(crate::proofs::PathLemmas::runs))]
 fn dark_run_length(picture: &Picture, x: usize, y: usize) -> usize
     requires { x ≤ columns_of (shown picture.now) }
-    ensures { result ≡ dark_run_length (shown picture.now) x y }
+    ensures exact { result ≡ dark_run_length (shown picture.now) x y }
+    ensures few { result < 1000 }
 {
+    let row = picture.row(y);
     let mut length = 0;
     for column in x..picture.columns() {
-        if !picture.is_dark(column, y) {
+        if !row.is_dark(column) {
             break;
         }
         length += 1;
@@ -72,19 +60,68 @@ fn dark_run_length(picture: &Picture, x: usize, y: usize) -> usize
     length
 }
 
-/// Returns the rectangle of some modules of a row.
+/// Appends the rectangle of some modules of a row.
 #[tactic(auto, unfolding(crate::specs::Paths::rectangle, crate::specs::Eps::eps_rectangle))]
-fn rectangle(
-    alloc: Global,
+fn push_rectangle(
+    text: &mut String,
     pen: Pen,
-    x: usize,
-    y: usize,
+    at: (usize, usize),
     length: usize,
-) -> Result<String, AllocError>
-    ensures { IfOk result (λ text. string_bytes text ≡ rectangle_by pen x y length) }
+) -> Result<(), AllocError>
+    requires column { at.0 < 1000 }
+    requires row { at.1 < 1000 }
+    requires few { length < 1000 }
+    ensures { OnOk result
+        (string_bytes text.new ≡ string_bytes text.old ++ rectangle_by pen at.0 at.1 length) }
 {
     match pen {
-        Pen::Svg => format!(in alloc; "M{x} {y}h{length}"),
-        Pen::Eps => format!(in alloc; "{length} {x} {y} r\n"),
+        Pen::Svg => {
+            text.push('M')?;
+            push_number(text, at.0)?;
+            text.push(' ')?;
+            push_number(text, at.1)?;
+            text.push('h')?;
+            push_number(text, length)
+        }
+        Pen::Eps => {
+            push_number(text, length)?;
+            text.push(' ')?;
+            push_number(text, at.0)?;
+            text.push(' ')?;
+            push_number(text, at.1)?;
+            text.push_str(" r\n")
+        }
     }
+}
+
+/// Appends a number of at most three digits.
+#[tactic(auto, using(crate::proofs::PathLemmas::digits))]
+fn push_number(text: &mut String, n: usize) -> Result<(), AllocError>
+    requires { n < 1000 }
+    ensures { OnOk result (string_bytes text.new ≡ string_bytes text.old ++ decimal n) }
+{
+    if n >= 10 {
+        push_tens(text, n / 10)?;
+    }
+    text.push(digit(n % 10))
+}
+
+/// Appends a number of at most two digits.
+#[tactic(auto, using(crate::proofs::PathLemmas::digits))]
+fn push_tens(text: &mut String, n: usize) -> Result<(), AllocError>
+    requires { n < 100 }
+    ensures { OnOk result (string_bytes text.new ≡ string_bytes text.old ++ decimal n) }
+{
+    if n >= 10 {
+        text.push(digit(n / 10))?;
+    }
+    text.push(digit(n % 10))
+}
+
+/// Returns a digit.
+fn digit(n: usize) -> char
+    requires { n < 10 }
+    ensures { result ≡ 48 + n }
+{
+    char::from(b'0' + n as u8)
 }

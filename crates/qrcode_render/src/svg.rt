@@ -42,7 +42,7 @@ pub fn svg_document(
     push_title(&mut text, title)?;
     let background = background(alloc, columns, rows)?;
     text.push_str(background.as_str())?;
-    push_path(alloc, &mut text, picture, Pen::Svg)?;
+    push_path(&mut text, picture, Pen::Svg)?;
     text.push_str("\"/>\n</svg>\n")?;
     Ok(text)
 }
