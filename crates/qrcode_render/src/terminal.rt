@@ -1,9 +1,10 @@
 //! Pictures as text for a terminal.
-ghost use Rattle.std.specs.Prelude.{◌≡◌, ◌/◌, ◌≤◌, ◌++◌, IfOk, OnOk};
+ghost use Rattle.std.specs.Prelude.{◌≡◌, ◌/◌, ◌≤◌, ◌++◌, IfOk, OnOk, encode_utf8, not};
+ghost use Rattle.std.specs.Prelude.{if◌then◌else◌};
 ghost use Rattle.std.specs.String.{string_bytes};
 ghost use Rattle.qrcode_render.specs.declared.bounds.TheConstants.{MAX_PIXELS};
 ghost use Rattle.qrcode_render.specs.Shown.{shown};
-ghost use Rattle.qrcode_render.specs.Terminals.{half_blocks, is_filled, terminal_line, terminal_text};
+ghost use Rattle.qrcode_render.specs.Terminals.{half_blocks, terminal_line, terminal_text};
 
 use crate::picture::Picture;
 use std::alloc::{AllocError, Global};
@@ -14,15 +15,15 @@ use std::alloc::{AllocError, Global};
 pub fn terminal(alloc: Global, picture: &Picture, inverted: bool) -> Result<String, AllocError>
     ensures { IfOk result (λ text. string_bytes text ≡ terminal_text inverted (shown picture.now)) }
 {
-    let mut text = String::new(alloc);
-    for line in 0..picture.height().div_ceil(2) {
+    let lines = picture.height().div_ceil(2);
+    let mut text = String::with_capacity(alloc, 2 * lines * (picture.width() + 1))?;
+    for line in 0..lines {
         push_line(&mut text, picture, inverted, line)?;
     }
     Ok(text)
 }
 
 /// Appends a line.
-#[tactic(auto, using(crate::proofs::TerminalLemmas::characters_more))]
 fn push_line(
     text: &mut String,
     picture: &Picture,
@@ -34,30 +35,36 @@ fn push_line(
         (string_bytes text.new ≡ string_bytes text.old
         ++ terminal_line inverted (shown picture.now) line) }
 {
-    for x in 0..picture.width() {
-        let upper = is_filled(picture, inverted, x, 2 * line);
-        let lower = is_filled(picture, inverted, x, 2 * line + 1);
-        text.push(half_block(upper, lower))?;
+    let scale = picture.scale();
+    let upper_row = picture.row(2 * line / scale);
+    let lower_row = picture.row((2 * line + 1) / scale);
+    for column in 0..picture.columns() {
+        let upper = is_filled(upper_row.is_dark(column), inverted);
+        let lower = is_filled(lower_row.is_dark(column), inverted);
+        for copy in 0..scale {
+            push_block(text, upper, lower)?;
+        }
     }
     text.push('\n')?;
     Ok(())
 }
 
-/// Whether a pixel is filled.
-fn is_filled(picture: &Picture, inverted: bool, x: usize, y: usize) -> bool
-    ensures { result ≡ is_filled inverted (shown picture.now) x y }
+/// Whether a module is filled.
+fn is_filled(dark: bool, inverted: bool) -> bool
+    ensures { result ≡ (if inverted then not dark else dark) }
 {
-    picture.is_dark_pixel(x, y) != inverted
+    dark != inverted
 }
 
-/// Returns the character that fills its upper half, its lower half, both or none.
-fn half_block(upper: bool, lower: bool) -> char
-    ensures { result ≡ half_blocks upper lower }
+/// Appends the character that fills its upper half, its lower half, both or none.
+fn push_block(text: &mut String, upper: bool, lower: bool) -> Result<(), AllocError>
+    ensures { OnOk result
+        (string_bytes text.new ≡ string_bytes text.old ++ encode_utf8 (half_blocks upper lower)) }
 {
     match (upper, lower) {
-        (true, true) => '█',
-        (true, false) => '▀',
-        (false, true) => '▄',
-        (false, false) => ' ',
+        (true, true) => text.push_str("█"),
+        (true, false) => text.push_str("▀"),
+        (false, true) => text.push_str("▄"),
+        (false, false) => text.push_str(" "),
     }
 }

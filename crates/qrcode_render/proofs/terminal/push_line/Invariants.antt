@@ -1,9 +1,13 @@
 -- The characters so far were added.
-use Rattle.std.proofs.Common.{◌≡◌, ◌++◌}
+use Rattle.std.proofs.Common.{◌≡◌, ◌+◌, ◌*◌, ◌++◌}
 use Rattle.std.specs.{Prelude.flat_map, List.range_with_len, String.string_bytes}
 use Rattle.qrcode_render.specs.{Shown.shown, Terminals.terminal_character}
 use Rattle.qrcode_render.proofs.terminal.push_line.Given as goal
 
-abbrev pub invariant-loop-x : goal.invariant-loop-x
-invariant-loop-x l = string_bytes l.text ≡ string_bytes l.initial.text
-    ++ flat_map (terminal_character l.inverted (shown l.picture) l.line) (range_with_len 0 l.x)
+abbrev pub invariant-loop-column : goal.invariant-loop-column
+invariant-loop-column l = string_bytes l.text ≡ string_bytes l.initial.text
+    ++ flat_map (terminal_character l.inverted (shown l.picture) l.line) (range_with_len 0 (l.column * l.scale))
+
+abbrev pub invariant-loop-copy : goal.invariant-loop-copy
+invariant-loop-copy l = string_bytes l.text ≡ string_bytes l.fn.text
+    ++ flat_map (terminal_character l.inverted (shown l.picture) l.line) (range_with_len 0 (l.column * l.scale + l.copy))
