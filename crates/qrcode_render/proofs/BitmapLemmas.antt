@@ -3,10 +3,10 @@ use Rattle.std.proofs.Common.{◌≡◌, ℕ, zero, suc, ◌+◌, ◌*◌, ◌/�
 use Rattle.std.proofs.Common.{◌∙◌, arith, add-one}
 use Rattle.std.proofs.Common.{append-nil}
 use Rattle.std.specs.Prelude.{if◌then◌else◌}
-use Rattle.std.{specs.List.range_with_len, proofs.Math.Pow.pow_mono, proofs.lemmas.Grind.pow_more, proofs.lemmas.List.FromFn.map-range_with_len_more, proofs.lemmas.List.FromFn.length-map-range_with_len}
+use Rattle.std.{specs.List.range_with_len, proofs.lemmas.Grind.pow_more, proofs.lemmas.List.FromFn.map-range_with_len_more, proofs.lemmas.List.FromFn.length-map-range_with_len}
 use Rattle.std.proofs.Common.{◌-◌, ◌%◌, ◌≢◌, ap, inl, inr}
 use Rattle.std.{proofs.lemmas.Nat.div-add-mod', proofs.Math.Nat.mod-eq-sub-div-mul, proofs.lemmas.Bool.cases_lt}
-use Rattle.std.{proofs.lemmas.Nat.div-mul-add, proofs.lemmas.Nat.mul-add-lt, proofs.Math.Nat.mul_comm, proofs.lemmas.List.Sums.fold-append}
+use Rattle.std.{proofs.lemmas.Nat.div-mul-add, proofs.lemmas.List.Sums.fold-append}
 use Rattle.qrcode_render.specs.Bitmaps.{bits_number, pixel_byte, bitmap_row, row_length, first_rows, rows_from}
 use Rattle.qrcode_render.{specs.Pictures.Picture, specs.Pictures.pixel_width, specs.Pictures.columns_of, specs.Pictures.is_dark_module}
 use Rattle.qrcode_render.specs.Rows.{dark_byte, is_dark_at}
@@ -26,10 +26,6 @@ spelled_more f x n = grind (arith, map-range_with_len_more f x n (x + n) refl, f
 pub spelled_below : (f : ℕ → Bool) (x n : ℕ) → spelled f x n + 1 ≤ 2 ^ n
 spelled_below f x zero = omega arith
 spelled_below f x (suc n) = grind (arith, add-one, spelled_more f x n, pow_more 2 n, spelled_below f x n)
-
--- less than eight bits leave room for one more in a byte
-pub spelled_small : (f : ℕ → Bool) (x n : ℕ) → n < 8 → spelled f x n * 2 + 1 < 256
-spelled_small f x n below = grind (arith, pow_mono, spelled_below)
 
 pub twice_power : (a k : ℕ) → a * 2 ^ suc k ≡ (a * 2 ^ k) * 2
 twice_power a k =
@@ -132,7 +128,7 @@ equal_bits true = refl
 equal_bits false = refl
 
 -- a byte within a module
-pub module_byte : (p : Picture) (y column copy per : ℕ) → p.scale ≡ 8 * per → copy < per →
+module_byte : (p : Picture) (y column copy per : ℕ) → p.scale ≡ 8 * per → copy < per →
     pixel_byte p y (column * per + copy) ≡ (if is_dark_module p column (y / p.scale) then 255 else 0)
 unfolding pixel_byte
 module_byte p y column copy per whole below =
@@ -149,17 +145,6 @@ module_byte p y column copy per whole below =
     ∙ (equal_bits (is_dark_module p ((8 * place) / p.scale) (y / p.scale))
     ∙ ap (λ x. if is_dark_module p x (y / p.scale) then 255 else 0) first)
 
--- one byte more
-pub byte_more : (p : Picture) (y column copy per byte : ℕ) (line : List ℕ) → p.scale ≡ 8 * per → copy < per →
-    byte ≡ (if is_dark_module p column (y / p.scale) then 255 else 0) →
-    line ≡ map (pixel_byte p y) (range_with_len 0 (column * per + copy)) →
-    line ++ byte ∷ [] ≡ map (pixel_byte p y) (range_with_len 0 (column * per + (copy + 1)))
-byte_more p y column copy per byte line whole below is was =
-    let more : column * per + (copy + 1) ≡ (column * per + copy) + 1 = omega arith in
-    ap (λ l. l ++ byte ∷ []) was
-    ∙ (ap (λ b. map (pixel_byte p y) (range_with_len 0 (column * per + copy)) ++ b ∷ []) (is ∙ sym (module_byte p y column copy per whole below))
-    ∙ (sym (bytes_more p y (column * per + copy)) ∙ ap (λ n. map (pixel_byte p y) (range_with_len 0 n)) (sym more)))
-
 eight_times : (columns per : ℕ) → columns * (8 * per) ≡ 8 * (columns * per)
 eight_times columns per = grind arith
 
@@ -168,11 +153,6 @@ pub whole_row : (p : Picture) (per : ℕ) → p.scale ≡ 8 * per → row_length
 whole_row p per whole =
     let pixels : pixel_width p ≡ 8 * (columns_of p * per) = ap (λ s. columns_of p * s) whole ∙ eight_times (columns_of p) per in
     omega (arith, pixels)
-
--- the place of a byte of a module
-pub whole_place : (p : Picture) (per column copy : ℕ) → p.scale ≡ 8 * per → column < columns_of p → copy < per → column * per + copy < row_length p
-whole_place p per column copy whole inside below =
-    omega (arith, whole_row p per whole, mul-add-lt column per copy (columns_of p) inside below, mul_comm per (columns_of p))
 
 -- where a module is one byte wide, the bytes of the columns are all of a row
 pub columns_row : (p : Picture) (row : Row) (y columns : ℕ) → p.scale ≡ 8 → columns ≡ columns_of p →
@@ -187,8 +167,6 @@ columns_row p row y columns eight wide dark =
     let long : columns ≡ row_length p = omega (arith, wide, whole_row p 1 whole) in
     map_same (dark_byte row) (pixel_byte p y) (range_with_len 0 columns) same
     ∙ ap (λ n. map (pixel_byte p y) (range_with_len 0 n)) long
-
-pub ruleset bits = (spelled_more, spelled_small)
 
 pub ruleset rows_after = (rows_after_none)
 

@@ -1,157 +1,138 @@
--- Rows of pixels in which modules are not whole bytes: bytes, and the bits after them.
-use Rattle.std.proofs.Common.{◌≡◌, ℕ, zero, suc, ◌+◌, ◌-◌, ◌*◌, ◌/◌, ◌%◌, ◌^◌, ◌<◌, ◌≤◌, ◌++◌, Bool, true, false, List, [], ◌∷◌, length, take, map, refl, sym}
-use Rattle.std.proofs.Common.{◌∙◌, ap, arith}
-use Rattle.std.specs.Prelude.{if◌then◌else◌, ◌&&◌, nat_le, nat_lt}
+-- The bytes of a row of pixels, from those of its modules.
+use Rattle.std.proofs.Common.{◌≡◌, ℕ, zero, suc, ◌+◌, ◌-◌, ◌*◌, ◌/◌, ◌%◌, ◌^◌, ◌<◌, ◌≤◌, ◌++◌, Bool, true, false, List, [], ◌∷◌, length, take, get_or, replicate, map, refl, sym}
+use Rattle.std.proofs.Common.{◌∙◌, ap, arith, inl, inr}
+use Rattle.std.specs.Prelude.{if◌then◌else◌}
 use Rattle.std.specs.List.{range_with_len}
 use Rattle.std.proofs.Math.Pow.{pow_mono}
-use Rattle.std.proofs.Math.Nat.{le-div_iff_mul-le, le-mul_of_pos_right, mod-eq-sub-div-mul, mul-le-mul_right}
-use Rattle.std.proofs.lemmas.Bool.{le-ltb}
-use Rattle.std.proofs.lemmas.List.{length-append, length-set, length-take-le, take_all, take_more_set}
+use Rattle.std.proofs.Math.Nat.{div-le_self, le-mul_of_pos_right, mul-le-mul_right, zero-div}
 use Rattle.std.proofs.Math.ListN.{set}
+use Rattle.std.proofs.lemmas.List.{take_all, take_more_set}
+use Rattle.std.proofs.lemmas.List.FromFn.{get_or-map-range_with_len}
+use Rattle.std.proofs.lemmas.Bool.{cases_lt}
 use Rattle.std.proofs.lemmas.Nat.{div-mul-add, pow-add, pow_pos}
 use Rattle.qrcode_render.specs.Bitmaps.{bits_number, bitmap_row, pixel_byte, row_length}
 use Rattle.qrcode_render.specs.Pictures.{Picture, columns_of, pixel_width, is_dark_module, is_dark_pixel}
+use Rattle.qrcode_render.specs.Rows.{dark_byte, is_dark_at}
+use Rattle.qrcode_render.specs.declared.picture.Row.{Row}
 use Rattle.qrcode_render.proofs.BitmapLemmas.{spelled, spelled_more, spelled_below, spelled_run, bytes_more, twice_power}
-use Rattle.qrcode_render.proofs.RowLemmas.{and_false}
-use Rattle.qrcode_render.proofs.RunLemmas.{fitting, map_same}
+use Rattle.qrcode_render.proofs.RunLemmas.{map_same}
 use Rattle.qrcode_render.proofs.Ranges.{equal_values}
-use Rattle.std.proofs.Common.{replicate}
 
-abbrev pub dark_at : Picture → ℕ → ℕ → Bool
-dark_at p y x = is_dark_pixel p x y
-
-abbrev bit : Bool → ℕ
+abbrev pub bit : Bool → ℕ
 bit dark = if dark then 1 else 0
 
--- whole bytes of a row, and the bits up to a pixel that follow them
-pub record Packed (p : Picture) (y : ℕ) (line : List ℕ) (bits filled end : ℕ) : Type 0 where
-  pub whole : line ≡ map (pixel_byte p y) (range_with_len 0 (length line))
-  pub is : bits ≡ spelled (dark_at p y) (8 * length line) filled
-  pub edge : 8 * length line + filled ≡ end
+abbrev pub byte_of : Bool → ℕ
+byte_of dark = if dark then 255 else 0
 
-pub packed_none : (p : Picture) (y scale : ℕ) (line : List ℕ) → line ≡ [] → Packed p y line 0 0 (0 * scale)
-packed_none p y scale line none = rw none (record { whole = refl; is = refl; edge = omega arith })
+-- whether the module of a pixel is dark
+abbrev pub pixel_of : Row → ℕ → ℕ → Bool
+pixel_of row scale x = is_dark_at row (x / scale)
 
-pub packed_small : (p : Picture) (y bits filled end : ℕ) (line : List ℕ) → Packed p y line bits filled end → bits < 2 ^ filled
-packed_small p y bits filled end line w = omega (arith, w.is, spelled_below (dark_at p y) (8 * length line) filled)
-
--- the pixels of one module more
-pub packed_module : (p : Picture) (y scale column bits more filled : ℕ) (dark : Bool) (line : List ℕ) → scale ≡ p.scale →
-    dark ≡ is_dark_module p column (y / scale) → more + (if dark then 1 else 0) ≡ (bits + (if dark then 1 else 0)) * 2 ^ scale →
-    Packed p y line bits filled (column * scale) → Packed p y line more (filled + scale) ((column + 1) * scale)
-packed_module p y scale column bits more filled dark line scaled is spells w =
-    let start = 8 * length line in
-    let f = dark_at p y in
-    let same : (i : ℕ) → i < scale → f (start + (filled + i)) ≡ dark = λ i below.
-    (let here : start + (filled + i) ≡ column * scale + i = omega (arith, w.edge) in
-    ap (λ x. is_dark_module p (x / p.scale) (y / p.scale)) here
-    ∙ (ap (λ s. is_dark_module p ((column * scale + i) / s) (y / s)) (sym scaled)
-    ∙ (ap (λ x. is_dark_module p x (y / scale)) (div-mul-add column scale i below) ∙ sym is))) in
-    let run = spelled_run f start filled scale dark same in
-    let before : (bits + bit dark) * 2 ^ scale ≡ (spelled f start filled + bit dark) * 2 ^ scale =
-    ap (λ b. (b + bit dark) * 2 ^ scale) w.is in
-    record {
-      whole = w.whole;
-      is = omega (arith, run, before, spells);
-      edge = grind (arith, w.edge);
-    }
-
--- eight bits, and those after them
-spelled_split : (f : ℕ → Bool) (x r : ℕ) → spelled f x (8 + r) ≡ spelled f x 8 * 2 ^ r + spelled f (x + 8) r
-spelled_split f x zero =
-    let whole : 8 + 0 ≡ 8 = omega arith in
-    let once : spelled f x 8 * 2 ^ 0 ≡ spelled f x 8 = grind arith in
-    let none : spelled f (x + 8) 0 ≡ 0 = refl in
+-- some bits, and those after them
+spelled_split : (f : ℕ → Bool) (x m r : ℕ) → spelled f x (m + r) ≡ spelled f x m * 2 ^ r + spelled f (x + m) r
+spelled_split f x m zero =
+    let whole : m + 0 ≡ m = omega arith in
+    let once : spelled f x m * 2 ^ 0 ≡ spelled f x m = grind arith in
+    let none : spelled f (x + m) 0 ≡ 0 = refl in
     ap (spelled f x) whole ∙ omega (arith, once, none)
-spelled_split f x (suc r) =
-    let last : 8 + suc r ≡ (8 + r) + 1 = omega arith in
+spelled_split f x m (suc r) =
+    let last : m + suc r ≡ (m + r) + 1 = omega arith in
     let more : suc r ≡ r + 1 = omega arith in
-    let here : x + (8 + r) ≡ (x + 8) + r = omega arith in
-    let twice : spelled f x 8 * 2 ^ suc r ≡ (spelled f x 8 * 2 ^ r) * 2 = twice_power (spelled f x 8) r in
-    let next : spelled f (x + 8) (suc r) ≡ spelled f (x + 8) r * 2 + bit (f ((x + 8) + r)) =
-    ap (spelled f (x + 8)) more ∙ spelled_more f (x + 8) r in
+    let here : x + (m + r) ≡ (x + m) + r = omega arith in
+    let twice : spelled f x m * 2 ^ suc r ≡ (spelled f x m * 2 ^ r) * 2 = twice_power (spelled f x m) r in
+    let next : spelled f (x + m) (suc r) ≡ spelled f (x + m) r * 2 + bit (f ((x + m) + r)) =
+    ap (spelled f (x + m)) more ∙ spelled_more f (x + m) r in
     ap (spelled f x) last
-    ∙ (spelled_more f x (8 + r)
-    ∙ (ap (λ k. spelled f x (8 + r) * 2 + bit (f k)) here
-    ∙ (ap (λ s. s * 2 + bit (f ((x + 8) + r))) (spelled_split f x r)
+    ∙ (spelled_more f x (m + r)
+    ∙ (ap (λ k. spelled f x (m + r) * 2 + bit (f k)) here
+    ∙ (ap (λ s. s * 2 + bit (f ((x + m) + r))) (spelled_split f x m r)
     ∙ omega (arith, twice, next))))
 
-pub record FirstByte (p : Picture) (y : ℕ) (line : List ℕ) (bits left : ℕ) : Type 0 where
-  pub byte : bits / 2 ^ left ≡ pixel_byte p y (length line)
-  pub small : bits / 2 ^ left < 256
-  pub rest : bits % 2 ^ left ≡ spelled (dark_at p y) (8 * (length line + 1)) left
+-- a byte of the bits of eight modules
+pub byte_within : (f : ℕ → Bool) (x scale i bits : ℕ) → bits ≡ spelled f x (8 * scale) → i < scale →
+    bits / 2 ^ (8 * (scale - 1 - i)) % 256 ≡ spelled f (x + 8 * i) 8
+byte_within f x scale i bits is below =
+    let r = 8 * (scale - 1 - i) in
+    let front = 8 * i + 8 in
+    let parts : 8 * scale ≡ front + r = omega (arith, below) in
+    let rest : spelled f (x + front) r < 2 ^ r = omega (arith, spelled_below f (x + front) r) in
+    let quotient : bits / 2 ^ r ≡ spelled f x front =
+    ap (λ b. b / 2 ^ r) (is ∙ ap (spelled f x) parts ∙ spelled_split f x front r)
+    ∙ div-mul-add (spelled f x front) (2 ^ r) (spelled f (x + front) r) rest in
+    omega (arith, quotient, spelled_split f x (8 * i) 8, spelled_below f (x + 8 * i) 8)
 
-pub first_byte : (p : Picture) (y bits filled left end : ℕ) (line : List ℕ) → filled ≡ 8 + left → Packed p y line bits filled end →
-    FirstByte p y line bits left
-unfolding pixel_byte
-first_byte p y bits filled left end line parts w =
-    let start = 8 * length line in
-    let f = dark_at p y in
-    let next : start + 8 ≡ 8 * (length line + 1) = omega arith in
-    let is : bits ≡ spelled f start 8 * 2 ^ left + spelled f (start + 8) left =
-    w.is ∙ ap (spelled f start) parts ∙ spelled_split f start left in
-    let below : spelled f (start + 8) left < 2 ^ left = omega (arith, spelled_below f (start + 8) left) in
-    let quotient : bits / 2 ^ left ≡ spelled f start 8 =
-    ap (λ b. b / 2 ^ left) is ∙ div-mul-add (spelled f start 8) (2 ^ left) (spelled f (start + 8) left) below in
-    record {
-      byte = quotient;
-      small = omega (arith, quotient, spelled_below f start 8);
-      rest = omega (arith, mod-eq-sub-div-mul bits (2 ^ left), ap (λ q. q * 2 ^ left) quotient, is)
-          ∙ ap (λ x. spelled f x left) next;
-    }
+-- the high bits of a byte of ones
+ones : (k : ℕ) → k ≤ 8 → 255 / 2 ^ k + 1 ≡ 2 ^ (8 - k)
+ones k few =
+    let eight : (8 - k) + k ≡ 8 = omega (arith, few) in
+    let all : 2 ^ (8 - k) * 2 ^ k ≡ 256 = sym (pow-add 2 (8 - k) k) ∙ ap (λ n. 2 ^ n) eight in
+    let some : 0 < 2 ^ k = grind (arith, pow_pos) in
+    let some' : 0 < 2 ^ (8 - k) = grind (arith, pow_pos) in
+    let up : 2 ^ (8 - k) ≡ (2 ^ (8 - k) - 1) + 1 = omega (arith, some') in
+    let spread : ((2 ^ (8 - k) - 1) + 1) * 2 ^ k ≡ (2 ^ (8 - k) - 1) * 2 ^ k + 2 ^ k = grind arith in
+    let parts : 255 ≡ (2 ^ (8 - k) - 1) * 2 ^ k + (2 ^ k - 1) = omega (arith, all, ap (λ n. n * 2 ^ k) up, spread, some) in
+    let quotient : 255 / 2 ^ k ≡ 2 ^ (8 - k) - 1 =
+    ap (λ n. n / 2 ^ k) parts ∙ div-mul-add (2 ^ (8 - k) - 1) (2 ^ k) (2 ^ k - 1) (omega (arith, some)) in
+    omega (arith, quotient, some')
 
--- one byte more
-pub packed_byte : (p : Picture) (y bits filled left end byte rest : ℕ) (line next : List ℕ) → filled ≡ 8 + left →
-    byte ≡ bits / 2 ^ left → rest ≡ bits % 2 ^ left → next ≡ line ++ byte ∷ [] → Packed p y line bits filled end → Packed p y next rest left end
-packed_byte p y bits filled left end byte rest line next parts is after grown w =
-    let first = first_byte p y bits filled left end line parts w in
-    let long : length next ≡ length line + 1 = ap (λ l. length l) grown ∙ length-append line (byte ∷ []) in
-    record {
-      whole = grown ∙ ap (λ l. l ++ byte ∷ []) w.whole
-          ∙ (ap (λ b. map (pixel_byte p y) (range_with_len 0 (length line)) ++ b ∷ []) (is ∙ first.byte)
-          ∙ (sym (bytes_more p y (length line)) ∙ ap (λ n. map (pixel_byte p y) (range_with_len 0 n)) (sym long)));
-      is = after ∙ (first.rest ∙ ap (λ n. spelled (dark_at p y) (8 * n) left) (sym long));
-      edge = omega (arith, long, w.edge, parts);
-    }
+back_again : (k : ℕ) → k ≤ 8 → 8 - (8 - k) ≡ k
+back_again k few = omega (arith, few)
 
--- all bytes, where none is begun
-pub packed_all : (p : Picture) (y bits filled end : ℕ) (line : List ℕ) → end ≡ pixel_width p → filled ≡ 0 →
-    Packed p y line bits filled end → line ≡ bitmap_row p y
-unfolding bitmap_row
-packed_all p y bits filled end line wide none w =
-    let long : length line ≡ row_length p = omega (arith, w.edge, wide, none) in
-    w.whole ∙ ap (λ n. map (pixel_byte p y) (range_with_len 0 n)) long
+-- the bits of a module from its byte
+module_bits : (dark : Bool) (scale : ℕ) → scale ≤ 8 → byte_of dark / 2 ^ (8 - scale) + bit dark ≡ bit dark * 2 ^ scale
+module_bits true scale few =
+    omega (arith, ones (8 - scale) (omega arith), ap (λ n. 2 ^ n) (back_again scale few))
+module_bits false scale few =
+    let none : 0 * 2 ^ scale ≡ 0 = grind arith in
+    omega (arith, none, zero-div (2 ^ (8 - scale)))
 
--- no module is dark behind the last column
-light_behind : (p : Picture) (column row : ℕ) → columns_of p ≤ column → is_dark_module p column row ≡ false
-unfolding is_dark_module
-light_behind p column row past =
-    let behind : nat_lt (column - p.quiet) p.grid.columns ≡ false = le-ltb (column - p.quiet) p.grid.columns (omega (arith, past)) in
-    rw behind (and_false (nat_le p.quiet column && nat_le p.quiet row))
+bit_power : (dark : Bool) (scale : ℕ) → scale ≤ 8 → bit dark * 2 ^ scale ≤ bit dark + 255
+bit_power true scale few = omega (arith, ones (8 - scale) (omega arith), ap (λ n. 2 ^ n) (back_again scale few), div-le_self 255 (2 ^ (8 - scale)))
+bit_power false scale few = let none : 0 * 2 ^ scale ≡ 0 = grind arith in omega (arith, none)
 
-last_bits : (a b k : ℕ) → b + 0 ≡ (a + 0) * 2 ^ k → a * 2 ^ k ≡ b
-last_bits a b k h =
-    let none : a + 0 ≡ a = omega arith in
-    sym (ap (λ n. n * 2 ^ k) none) ∙ (sym h ∙ omega arith)
+-- eight equal bits
+eight_bits : (dark : Bool) (number : ℕ) → number + bit dark ≡ (0 + bit dark) * 2 ^ 8 → byte_of dark ≡ number
+eight_bits true number is = omega (arith, is)
+eight_bits false number is = omega (arith, is)
 
--- the last byte is filled up with light pixels
-pub packed_last : (p : Picture) (y bits filled end byte : ℕ) (line : List ℕ) → end ≡ pixel_width p → 0 < p.scale → 0 < filled → filled < 8 →
-    byte ≡ bits * 2 ^ (8 - filled) → Packed p y line bits filled end → line ++ byte ∷ [] ≡ bitmap_row p y
-unfolding bitmap_row pixel_byte
-packed_last p y bits filled end byte line wide some begun few is w =
-    let start = 8 * length line in
-    let left = 8 - filled in
-    let f = dark_at p y in
-    let eight : filled + left ≡ 8 = omega (arith, few) in
-    let same : (i : ℕ) → i < left → f (start + (filled + i)) ≡ false = λ i below.
-    (let past : columns_of p * p.scale ≤ start + (filled + i) = omega (arith, w.edge, wide) in
-    light_behind p ((start + (filled + i)) / p.scale) (y / p.scale) ((le-div_iff_mul-le some).1 past)) in
-    let run = spelled_run f start filled left false same in
-    let number : byte ≡ spelled f start (filled + left) = is ∙ (ap (λ b. b * 2 ^ left) w.is ∙ last_bits (spelled f start filled) _ left run) in
-    let long : length line + 1 ≡ row_length p = omega (arith, w.edge, wide, begun, few) in
-    ap (λ l. l ++ byte ∷ []) w.whole
-    ∙ (ap (λ b. map (pixel_byte p y) (range_with_len 0 (length line)) ++ b ∷ []) (number ∙ ap (spelled f start) eight)
-    ∙ (sym (bytes_more p y (length line)) ∙ ap (λ n. map (pixel_byte p y) (range_with_len 0 n)) long))
+power_parts : (k : ℕ) → k ≤ 8 → 2 ^ k * 2 ^ (8 - k) ≡ 256
+power_parts k few =
+    let eight : k + (8 - k) ≡ 8 = omega (arith, few) in
+    sym (pow-add 2 k (8 - k)) ∙ ap (λ n. 2 ^ n) eight
+
+first_ones : (left front : ℕ) → left ≤ 8 → front + 1 ≡ (0 + 1) * 2 ^ left → (front + 1) * 2 ^ (8 - left) ≡ 256
+first_ones left front few is =
+    let once : (0 + 1) * 2 ^ left ≡ 2 ^ left = grind arith in
+    ap (λ n. n * 2 ^ (8 - left)) (is ∙ once) ∙ power_parts left few
+
+no_ones : (left front n : ℕ) → front + 0 ≡ (0 + 0) * 2 ^ left → (front + n) * 2 ^ (8 - left) ≡ n * 2 ^ (8 - left)
+no_ones left front n is =
+    let none : (0 + 0) * 2 ^ left ≡ 0 = grind arith in
+    let zeros : front + n ≡ n = omega (arith, is, none) in
+    ap (λ m. m * 2 ^ (8 - left)) zeros
+
+-- the byte of two modules, by the first bits and all
+edge_byte : (d e : Bool) (left front all : ℕ) → left ≤ 8 → front + bit d ≡ (0 + bit d) * 2 ^ left → all + bit e ≡ (front + bit e) * 2 ^ (8 - left) →
+    byte_of d - byte_of d / 2 ^ left + byte_of e / 2 ^ left ≡ all
+edge_byte true true left front all few first both =
+    let full : (front + 1) * 2 ^ (8 - left) ≡ 256 = first_ones left front few first in
+    omega (arith, ones left few, full, both)
+edge_byte true false left front all few first both =
+    let full : (front + 1) * 2 ^ (8 - left) ≡ 256 = first_ones left front few first in
+    let parts : (front + 1) * 2 ^ (8 - left) ≡ (front + 0) * 2 ^ (8 - left) + 2 ^ (8 - left) = grind arith in
+    omega (arith, ones left few, full, parts, both)
+edge_byte false true left front all few first both =
+    let none : (front + 1) * 2 ^ (8 - left) ≡ 2 ^ (8 - left) = no_ones left front 1 first ∙ omega arith in
+    omega (arith, ones left few, none, both, zero-div (2 ^ left))
+edge_byte false false left front all few first both =
+    let none : (front + 0) * 2 ^ (8 - left) ≡ 0 = no_ones left front 0 first ∙ omega arith in
+    omega (arith, none, both, zero-div (2 ^ left))
+
+-- the byte of a module
+pub module_at : (row : Row) (modules : List ℕ) (column : ℕ) → modules ≡ map (dark_byte row) (range_with_len 0 (length modules)) →
+    column < length modules → get_or modules column 0 ≡ byte_of (is_dark_at row column)
+module_at row modules column are inside =
+    ap (λ l. get_or l column 0) are ∙ get_or-map-range_with_len (dark_byte row) 0 (length modules) column column 0 inside (omega arith)
 
 -- the bits before and those of a module after them fit in a word
 pub record Wide (a k : ℕ) : Type 0 where
@@ -162,7 +143,7 @@ pub record Wide (a k : ℕ) : Type 0 where
 wide_room : (a n k : ℕ) → a ≤ 2 ^ n → n + k ≤ 63 → a * 2 ^ k ≤ 9223372036854775808
 wide_room a n k below few = grind (arith, pow-add 2 n k, pow_mono)
 
-pub wide_fits : (a n k : ℕ) → a ≤ 2 ^ n → n + k ≤ 63 → Wide a k
+wide_fits : (a n k : ℕ) → a ≤ 2 ^ n → n + k ≤ 63 → Wide a k
 wide_fits a n k below few =
     let after = wide_room a n k below few in
     record {
@@ -171,25 +152,141 @@ wide_fits a n k below few =
       whole = omega (arith, after);
     }
 
--- the last bits fit in a byte
-pub last_small : (bits filled : ℕ) → bits < 2 ^ filled → filled < 8 → bits * 2 ^ (8 - filled) < 256
-last_small bits filled below few =
-    let fits = fitting (bits + 1) filled (8 - filled) (omega (arith, below)) (omega (arith, few)) in
-    let parts : (bits + 1) * 2 ^ (8 - filled) ≡ bits * 2 ^ (8 - filled) + 2 ^ (8 - filled) = grind arith in
-    let some : 0 < 2 ^ (8 - filled) = grind (arith, pow_pos) in
-    omega (arith, fits.after, parts, some)
+-- the bits of some modules of a row, with one module more
+pub record MoreBits (row : Row) (column scale i bits byte : ℕ) : Type 0 where
+  pub whole : bits * 2 ^ scale % 18446744073709551616 ≡ bits * 2 ^ scale
+  pub fits : bits * 2 ^ scale + byte / 2 ^ (8 - scale) < 18446744073709551616
+  pub are : bits * 2 ^ scale + byte / 2 ^ (8 - scale) ≡ spelled (pixel_of row scale) (column * scale) ((i + 1) * scale)
 
-pub power_whole : (k : ℕ) → k < 64 → 1 * 2 ^ k % 18446744073709551616 ≡ 2 ^ k
-power_whole k few =
-    let fits = wide_fits 1 0 k (omega arith) (omega (arith, few)) in
-    let once : 1 * 2 ^ k ≡ 2 ^ k = omega arith in
-    fits.whole ∙ once
+pub more_bits : (row : Row) (column scale i bits byte : ℕ) → 0 < scale → scale < 8 → i < 8 →
+    bits ≡ spelled (pixel_of row scale) (column * scale) (i * scale) → byte ≡ byte_of (is_dark_at row (column + i)) →
+    MoreBits row column scale i bits byte
+more_bits row column scale i bits byte some narrow few was is =
+    let f = pixel_of row scale in
+    let x = column * scale in
+    let dark = is_dark_at row (column + i) in
+    let same : (j : ℕ) → j < scale → f (x + (i * scale + j)) ≡ dark = λ j below.
+    (let here : x + (i * scale + j) ≡ (column + i) * scale + j = grind arith in
+    ap (λ n. is_dark_at row (n / scale)) here ∙ ap (is_dark_at row) (div-mul-add (column + i) scale j below)) in
+    let run = spelled_run f x (i * scale) scale dark same in
+    let added : byte / 2 ^ (8 - scale) + bit dark ≡ bit dark * 2 ^ scale =
+    ap (λ b. b / 2 ^ (8 - scale) + bit dark) is ∙ module_bits dark scale (omega (arith, narrow)) in
+    let next : i * scale + scale ≡ (i + 1) * scale = grind arith in
+    let parts : (spelled f x (i * scale) + bit dark) * 2 ^ scale ≡ bits * 2 ^ scale + bit dark * 2 ^ scale = grind (arith, was) in
+    let most : i * scale ≤ 7 * scale = mul-le-mul_right scale (omega (arith, few)) in
+    let fit = wide_fits bits (i * scale) scale (omega (arith, was, spelled_below f x (i * scale))) (omega (arith, most, narrow)) in
+    let short : byte / 2 ^ (8 - scale) ≤ 255 = omega (arith, added, bit_power dark scale (omega (arith, narrow))) in
+    record {
+      whole = fit.whole;
+      fits = omega (arith, fit.after, short);
+      are = omega (arith, run, added, parts) ∙ ap (spelled f x) next;
+    }
+
+-- the byte of two modules, the first of which has some pixels left
+pub record TwoModules (row : Row) (scale place left first second : ℕ) : Type 0 where
+  pub less : first / 2 ^ left ≤ first
+  pub fits : first - first / 2 ^ left + second / 2 ^ left < 256
+  pub is : first - first / 2 ^ left + second / 2 ^ left ≡ spelled (pixel_of row scale) (8 * place) 8
+
+-- the pixels of the module at a column
+same_module : (row : Row) (scale column place filled left : ℕ) → (column + 1) * scale ≡ 8 * place + filled + left → left ≤ scale →
+    (i : ℕ) → i < left → pixel_of row scale (8 * place + (filled + i)) ≡ is_dark_at row column
+same_module row scale column place filled left edge within i below =
+    let here : 8 * place + (filled + i) ≡ column * scale + (scale - left + i) = grind (arith, edge) in
+    let inside : scale - left + i < scale = omega (arith, within, below) in
+    ap (λ t. is_dark_at row (t / scale)) here ∙ ap (is_dark_at row) (div-mul-add column scale (scale - left + i) inside)
+
+-- a byte within a module
+pub one_module : (row : Row) (scale column place left byte : ℕ) → (column + 1) * scale ≡ 8 * place + left → left ≤ scale → 8 ≤ left →
+    byte ≡ byte_of (is_dark_at row column) → byte ≡ spelled (pixel_of row scale) (8 * place) 8
+one_module row scale column place left byte edge within full is =
+    let f = pixel_of row scale in
+    let dark = is_dark_at row column in
+    let start : (column + 1) * scale ≡ 8 * place + 0 + left = omega (arith, edge) in
+    let run = spelled_run f (8 * place) 0 8 dark (λ i below. same_module row scale column place 0 left start within i (omega (arith, full, below))) in
+    let none : spelled f (8 * place) 0 ≡ 0 = refl in
+    is ∙ eight_bits dark (spelled f (8 * place) 8) (omega (arith, run, none))
+
+pub two_modules : (row : Row) (scale column place left first second : ℕ) → (column + 1) * scale ≡ 8 * place + left → left ≤ scale → 8 ≤ scale →
+    left < 8 → first ≡ byte_of (is_dark_at row column) → second ≡ byte_of (is_dark_at row (column + 1)) →
+    TwoModules row scale place left first second
+two_modules row scale column place left first second edge within wide few is next =
+    let f = pixel_of row scale in
+    let d = is_dark_at row column in
+    let e = is_dark_at row (column + 1) in
+    let start : (column + 1) * scale ≡ 8 * place + 0 + left = omega (arith, edge) in
+    let front = spelled_run f (8 * place) 0 left d (same_module row scale column place 0 left start within) in
+    let after : (column + 1 + 1) * scale ≡ 8 * place + left + scale = grind (arith, edge) in
+    let back = spelled_run f (8 * place) left (8 - left) e
+    (λ i below. same_module row scale (column + 1) place left scale after (omega arith) i (omega (arith, wide, below))) in
+    let eight : left + (8 - left) ≡ 8 = omega (arith, few) in
+    let whole : left ≡ 0 + left = omega arith in
+    let sum = edge_byte d e left (spelled f (8 * place) left) (spelled f (8 * place) 8) (omega (arith, few))
+    (ap (λ n. spelled f (8 * place) n + bit d) whole ∙ front)
+    (ap (λ n. spelled f (8 * place) n + bit e) (sym eight) ∙ back) in
+    let same : first - first / 2 ^ left + second / 2 ^ left ≡ spelled f (8 * place) 8 =
+    ap (λ a. a - a / 2 ^ left + second / 2 ^ left) is ∙ (ap (λ b. byte_of d - byte_of d / 2 ^ left + b / 2 ^ left) next ∙ sum) in
+    record {
+      less = div-le_self first (2 ^ left);
+      fits = omega (arith, same, spelled_below f (8 * place) 8);
+      is = same;
+    }
+
+-- ---- The places of a row
+
+-- a group of eight columns begins within the row
+pub group_begins : (p : Picture) (group scale columns : ℕ) → scale ≡ p.scale → columns ≡ columns_of p → 8 * group ≤ columns →
+    group * scale ≤ row_length p
+group_begins p group scale columns is wide inside =
+    let fits : (8 * group) * scale ≤ columns * scale = mul-le-mul_right scale inside in
+    let eight : (8 * group) * scale ≡ 8 * (group * scale) = grind arith in
+    let all : columns * scale ≡ pixel_width p = ap (λ n. n * scale) wide ∙ ap (λ s. columns_of p * s) is in
+    omega (arith, fits, eight, all)
+
+-- all groups reach its end
+pub groups_end : (p : Picture) (groups scale columns : ℕ) → scale ≡ p.scale → columns ≡ columns_of p → columns ≤ 8 * groups →
+    row_length p ≤ groups * scale
+groups_end p groups scale columns is wide all =
+    let fits : columns * scale ≤ (8 * groups) * scale = mul-le-mul_right scale all in
+    let eight : (8 * groups) * scale ≡ 8 * (groups * scale) = grind arith in
+    let width : columns * scale ≡ pixel_width p = ap (λ n. n * scale) wide ∙ ap (λ s. columns_of p * s) is in
+    omega (arith, fits, eight, width)
+
+-- the module of a place is one of the picture
+pub column_inside : (p : Picture) (scale column place left : ℕ) → scale ≡ p.scale → (column + 1) * scale ≡ 8 * place + left → left ≤ scale →
+    place < row_length p → column < columns_of p
+column_inside p scale column place left is edge within inside = elim (cases_lt column (columns_of p)) [
+  | inl below ↦ below
+  | inr past ↦ (
+      let fits : columns_of p * scale ≤ column * scale = mul-le-mul_right scale past in
+      let next : (column + 1) * scale ≡ column * scale + scale = grind arith in
+      let width : columns_of p * scale ≡ pixel_width p = ap (λ s. columns_of p * s) is in
+      absurd (omega (arith, fits, next, width, edge, within, inside)))
+]
+
+-- one byte more is written
+pub one_byte : (p : Picture) (y place n byte : ℕ) (line : List ℕ) → n ≡ place + 1 → place < length line →
+    take place line ≡ map (pixel_byte p y) (range_with_len 0 place) → byte ≡ pixel_byte p y place →
+    take n (set line place byte) ≡ map (pixel_byte p y) (range_with_len 0 n)
+one_byte p y place n byte line next inside was is =
+    ap (λ m. take m (set line place byte)) next
+    ∙ (take_more_set line place byte inside
+    ∙ (ap (λ l. l ++ byte ∷ []) was
+    ∙ (ap (λ b. map (pixel_byte p y) (range_with_len 0 place) ++ b ∷ []) is
+    ∙ (sym (bytes_more p y place) ∙ ap (λ m. map (pixel_byte p y) (range_with_len 0 m)) (sym next)))))
+
+-- all bytes are
+pub whole_line : (p : Picture) (y n : ℕ) (line : List ℕ) → n ≡ row_length p → length line ≡ row_length p →
+    take n line ≡ map (pixel_byte p y) (range_with_len 0 n) → line ≡ bitmap_row p y
+unfolding bitmap_row
+whole_line p y n line all long was =
+    sym (take_all n line (omega (arith, all, long))) ∙ (was ∙ ap (λ m. map (pixel_byte p y) (range_with_len 0 m)) all)
 
 -- the byte of a row without dark modules
 light_byte : (p : Picture) (y place : ℕ) → ((column : ℕ) → is_dark_module p column (y / p.scale) ≡ false) → pixel_byte p y place ≡ 0
 unfolding pixel_byte
 light_byte p y place light =
-    ap bits_number (map_same (dark_at p y) (λ _. false) (range_with_len (8 * place) 8) (λ (x : ℕ). light (x / p.scale)))
+    ap bits_number (map_same (λ x. is_dark_pixel p x y) (λ _. false) (range_with_len (8 * place) 8) (λ (x : ℕ). light (x / p.scale)))
 
 -- a row without dark modules
 pub light_pixels : (p : Picture) (y n : ℕ) → n ≡ row_length p → ((column : ℕ) → is_dark_module p column (y / p.scale) ≡ false) →
@@ -200,42 +297,3 @@ light_pixels p y n long light =
     light_byte p y (0 + k) light ∙ sym (light_byte p y 0 light) in
     ap (λ m. replicate m 0) long
     ∙ (ap (replicate (row_length p)) (sym (light_byte p y 0 light)) ∙ sym (equal_values (pixel_byte p y) 0 (row_length p) same))
-
--- ---- The bytes before a place of the row that is written
-
--- there is a place for the next byte
-pub packed_room : (p : Picture) (y scale column place bits filled : ℕ) (line : List ℕ) → scale ≡ p.scale → column < columns_of p →
-    place ≤ length line → length line ≡ row_length p → 8 ≤ filled → Packed p y (take place line) bits filled ((column + 1) * scale) → place < length line
-packed_room p y scale column place bits filled line scaled inside here long more w =
-    let wide : (column + 1) * scale ≤ columns_of p * scale = mul-le-mul_right scale (omega (arith, inside)) in
-    let all : columns_of p * scale ≡ pixel_width p = ap (λ s. columns_of p * s) scaled in
-    omega (arith, w.edge, length-take-le place line here, wide, all, long, more)
-
--- the last byte is the last place
-pub packed_end : (p : Picture) (y place bits filled end : ℕ) (line : List ℕ) → place ≤ length line → length line ≡ row_length p →
-    end ≡ pixel_width p → 0 < filled → filled < 8 → Packed p y (take place line) bits filled end → place + 1 ≡ length line
-packed_end p y place bits filled end line here long wide begun few w = omega (arith, w.edge, length-take-le place line here, long, wide, begun, few)
-
--- one byte more is written
-pub packed_set : (p : Picture) (y bits filled left end byte rest place : ℕ) (line : List ℕ) → place < length line → filled ≡ 8 + left →
-    byte ≡ bits / 2 ^ left → rest ≡ bits % 2 ^ left → Packed p y (take place line) bits filled end →
-    Packed p y (take (place + 1) (set line place byte)) rest left end
-packed_set p y bits filled left end byte rest place line inside parts is after w =
-    packed_byte p y bits filled left end byte rest (take place line) _ parts is after (take_more_set line place byte inside) w
-
--- the last one is
-pub packed_set_last : (p : Picture) (y bits filled end byte place : ℕ) (line : List ℕ) → place ≤ length line → length line ≡ row_length p →
-    end ≡ pixel_width p → 0 < p.scale → 0 < filled → filled < 8 → byte ≡ bits * 2 ^ (8 - filled) →
-    Packed p y (take place line) bits filled end → set line place byte ≡ bitmap_row p y
-packed_set_last p y bits filled end byte place line here long wide some begun few is w =
-    let last = packed_end p y place bits filled end line here long wide begun few w in
-    let whole : length (set line place byte) ≤ place + 1 = omega (arith, length-set line place byte, last) in
-    sym (take_all (place + 1) (set line place byte) whole) ∙ (take_more_set line place byte (omega (arith, last))
-    ∙ packed_last p y bits filled end byte (take place line) wide some begun few is w)
-
--- and there is none
-pub packed_whole : (p : Picture) (y bits filled end place : ℕ) (line : List ℕ) → place ≤ length line → length line ≡ row_length p →
-    end ≡ pixel_width p → filled ≡ 0 → Packed p y (take place line) bits filled end → line ≡ bitmap_row p y
-packed_whole p y bits filled end place line here long wide none w =
-    let whole : length line ≤ place = omega (arith, w.edge, length-take-le place line here, long, wide, none) in
-    sym (take_all place line whole) ∙ packed_all p y bits filled end (take place line) wide none w

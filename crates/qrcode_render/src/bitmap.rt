@@ -1,17 +1,19 @@
 //! The rows of pixels of a picture, as bits: dark is 1.
-ghost use Rattle.std.specs.Prelude.{◌≡◌, ◌+◌, ◌/◌, ◌%◌, ◌^◌, ◌<◌, ◌≤◌, ◌++◌, IfOk, OnOk};
-ghost use Rattle.std.specs.Prelude.{if◌then◌else◌};
-ghost use Rattle.std.specs.Prelude.{◌*◌, map, replicate, length};
+ghost use Rattle.std.specs.Prelude.{◌≡◌, ◌+◌, ◌*◌, ◌/◌, ◌<◌, ◌≤◌, ◌++◌, IfOk, OnOk};
+ghost use Rattle.std.specs.Prelude.{map, replicate, length};
 ghost use Rattle.std.specs.List.{range_with_len};
-ghost use Rattle.qrcode_render.specs.declared.bounds.TheConstants.{MAX_PIXELS, MAX_SCALE};
-ghost use Rattle.qrcode_render.specs.Bitmaps.{bits_number, first_rows, bitmap_row, row_length};
+ghost use Rattle.qrcode_render.specs.declared.bounds.TheConstants.{MAX_PIXELS};
+ghost use Rattle.qrcode_render.specs.Bitmaps.{bitmap_row, bits_number, first_rows, row_length};
 ghost use Rattle.qrcode_render.specs.Bitmaps.{rows_from};
 ghost use Rattle.qrcode_render.specs.Pictures.{pixel_height};
-ghost use Rattle.qrcode_render.specs.Rows.{is_dark_at};
+ghost use Rattle.qrcode_render.specs.Rows.{dark_byte, is_dark_at};
 ghost use Rattle.qrcode_render.specs.Shown.{shown};
 
 use crate::picture::{Picture, Row};
 use std::alloc::{AllocError, Global};
+
+/// Room for a byte of each column, and for those up to a multiple of eight.
+const ROOM: usize = 216;
 
 /// Appends all rows of pixels. Those of one row of modules are equal.
 #[tactic(auto, using(crate::proofs::BitmapLemmas::rows))]
@@ -75,108 +77,78 @@ pub(crate) fn write_row(picture: &Picture, y: usize, line: &mut [u8])
     ensures { line.new ≡ bitmap_row (shown picture.now) y }
 {
     let scale = picture.scale();
-    if picture.row(y / scale).is_light() {
+    let row = picture.row(y / scale);
+    if row.is_light() {
         line.fill(0);
-    } else if scale % 8 == 0 {
-        write_whole(picture, y, line);
-    } else if scale <= 56 {
-        write_packed(picture, y, line);
+    } else if scale < 8 {
+        write_narrow(picture, y, line);
+    } else if scale == 8 {
+        row.write_bytes(line);
     } else {
         write_wide(picture, y, line);
     }
 }
 
-/// Writes the bytes of a row of pixels, if each module is whole bytes wide.
-#[tactic(auto, unfolding(crate::specs::Bitmaps::bitmap_row))]
-fn write_whole(picture: &Picture, y: usize, line: &mut [u8])
-    requires whole { (shown picture.now).scale % 8 ≡ 0 }
-    requires long { length line.old ≡ row_length (shown picture.now) }
-    ensures { line.new ≡ bitmap_row (shown picture.now) y }
-{
-    let per = picture.scale() / 8;
-    let row = picture.row(y / picture.scale());
-    if per == 1 {
-        row.write_bytes(line);
-        return;
-    }
-    for column in 0..picture.columns() {
-        let byte = if row.is_dark(column) { 255 } else { 0 };
-        for copy in 0..per {
-            line[column * per + copy] = byte;
-        }
-    }
-}
-
-/// Writes the bytes of a row of pixels, module by module.
-fn write_packed(picture: &Picture, y: usize, line: &mut [u8])
-    requires scaled { (shown picture.now).scale ≤ 56 }
+/// Writes the bytes of a row of pixels, if a module is less than a byte wide. Eight modules are as
+/// many whole bytes as a module has pixels.
+fn write_narrow(picture: &Picture, y: usize, line: &mut [u8])
+    requires narrow { (shown picture.now).scale < 8 }
     requires long { length line.old ≡ row_length (shown picture.now) }
     ensures { line.new ≡ bitmap_row (shown picture.now) y }
 {
     let scale = picture.scale();
     let row = picture.row(y / scale);
-    let mut place = 0;
-    let mut bits = 0;
-    let mut filled = 0;
-    for column in 0..picture.columns() {
-        bits = with_module(bits, filled, scale, row.is_dark(column));
-        filled += scale;
-        while filled >= 8 {
-            filled -= 8;
-            line[place] = (bits >> filled) as u8;
-            place += 1;
-            bits %= 1 << filled;
+    let mut modules = [0u8; ROOM];
+    row.write_bytes(&mut modules);
+    for group in 0..picture.columns().div_ceil(8) {
+        let bits = eight_modules(row, &modules, 8 * group, scale);
+        let first = group * scale;
+        for i in 0..scale.min(line.len() - first) {
+            line[first + i] = ((bits >> (8 * (scale - 1 - i))) % 256) as u8;
         }
     }
-    if filled > 0 {
-        line[place] = (bits << (8 - filled)) as u8;
-    }
 }
 
-/// Returns bits with those of a module after them.
-#[inline]
-fn with_module(bits: u64, filled: usize, scale: usize, dark: bool) -> u64
-    requires few { filled < 8 }
-    requires scaled { scale ≤ 56 }
-    requires small { bits < 2 ^ filled }
-    ensures { result + (if dark then 1 else 0) ≡ (bits + (if dark then 1 else 0)) * 2 ^ scale }
+/// Returns the bits of eight modules, from their bytes.
+fn eight_modules(row: Row, modules: &[u8], column: usize, scale: usize) -> u64
+    requires some { 0 < scale }
+    requires narrow { scale < 8 }
+    requires inside { column + 8 ≤ length modules.now }
+    requires bytes { modules.now ≡ map (dark_byte row) (range_with_len 0 (length modules.now)) }
+    ensures { result ≡ bits_number
+        (map (λ x. is_dark_at row.entry (x / scale)) (range_with_len (column * scale) (8 * scale))) }
 {
-    let one = u64::from(dark);
-    ((bits + one) << scale) - one
+    let mut bits = 0;
+    for i in 0..8 {
+        bits = (bits << scale) + u64::from(modules[column + i] >> (8 - scale));
+    }
+    bits
 }
 
-/// Writes the bytes of a row of pixels, byte by byte.
-#[tactic(auto, unfolding(crate::specs::Bitmaps::bitmap_row))]
+/// Writes the bytes of a row of pixels, if a module is more than a byte wide, so that a byte has
+/// pixels of one module or of two.
 fn write_wide(picture: &Picture, y: usize, line: &mut [u8])
-    requires { length line.old ≡ row_length (shown picture.now) }
+    requires wide { 8 ≤ (shown picture.now).scale }
+    requires long { length line.old ≡ row_length (shown picture.now) }
     ensures { line.new ≡ bitmap_row (shown picture.now) y }
 {
-    let (length, scale) = (picture.row_length(), picture.scale());
+    let scale = picture.scale();
     let row = picture.row(y / scale);
-    for place in 0..length {
-        line[place] = pixel_byte(row, scale, place);
+    let columns = picture.columns();
+    prove!(columns < ROOM);
+    let mut modules = [0u8; ROOM];
+    row.write_bytes(&mut modules);
+    let mut column = 0;
+    let mut left = scale;
+    for place in 0..line.len() {
+        let byte = modules[column];
+        if left >= 8 {
+            line[place] = byte;
+            left -= 8;
+        } else {
+            line[place] = byte - (byte >> left) + (modules[column + 1] >> left);
+            column += 1;
+            left += scale - 8;
+        }
     }
-}
-
-/// Returns the byte of eight pixels of a row, the first in the highest bit.
-fn pixel_byte(row: Row, scale: usize, place: usize) -> u8
-    requires place { place < MAX_PIXELS / 8 }
-    requires some { 0 < scale }
-    requires scaled { scale ≤ MAX_SCALE }
-    ensures { result
-        ≡ bits_number (map (λ x. is_dark_at row.entry (x / scale)) (range_with_len (8 * place) 8)) }
-{
-    let mut byte = 0;
-    let mut filled = 0;
-    let mut column = 8 * place / scale;
-    let mut left = (column + 1) * scale - 8 * place;
-    while filled < 8 {
-        let count = left.min(8 - filled);
-        let dark = u32::from(row.is_dark(column));
-        byte = ((byte + dark) << count) - dark;
-        filled += count;
-        column += 1;
-        left = scale;
-    }
-    byte as u8
 }

@@ -1,0 +1,14 @@
+-- The bytes so far are the first of the row.
+use Rattle.std.proofs.Common.{◌≡◌, ◌+◌, ◌*◌, length, take, map}
+use Rattle.std.specs.Prelude.{min}
+use Rattle.std.specs.List.{range_with_len}
+use Rattle.qrcode_render.specs.{Bitmaps.pixel_byte, Shown.shown}
+use Rattle.qrcode_render.proofs.bitmap.write_narrow.Given as goal
+
+abbrev pub invariant-loop-group : goal.invariant-loop-group
+invariant-loop-group l =
+    take (min (l.group * l.scale) (length l.line)) l.line
+    ≡ map (pixel_byte (shown l.picture) l.y) (range_with_len 0 (min (l.group * l.scale) (length l.line)))
+
+abbrev pub invariant-loop-i : goal.invariant-loop-i
+invariant-loop-i l = take (l.first + l.i) l.line ≡ map (pixel_byte (shown l.picture) l.y) (range_with_len 0 (l.first + l.i))
