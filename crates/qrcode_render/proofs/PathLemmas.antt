@@ -1,11 +1,16 @@
 -- The runs of a row, one after the other, and the modules of a run.
-use Rattle.std.proofs.Common.{◌≡◌, ℕ, ◌+◌, ◌-◌, ◌<◌, ◌≤◌, ◌++◌, ◌/◌, ◌%◌, Bool, true, false, List, [], ◌∷◌, length, refl, sym, ap, ◌∙◌, arith, append-nil, append_assoc}
-use Rattle.std.specs.Prelude.{◌==◌, ◌&&◌, ◌||◌, not, decimal}
+use Rattle.std.proofs.Common.{◌≡◌, ℕ, ◌+◌, ◌-◌, ◌<◌, ◌≤◌, ◌++◌, ◌/◌, ◌%◌, Bool, true, false, List, [], ◌∷◌, length, get_or, map, refl, sym, ap, ◌∙◌, arith, append-nil, append_assoc}
+use Rattle.std.specs.Prelude.{◌==◌, ◌&&◌, ◌||◌, not, decimal, nat_lt}
+use Rattle.std.specs.List.{range_with_len}
+use Rattle.std.proofs.lemmas.Grind.{common_steps}
 use Rattle.std.proofs.lemmas.Fmt.{decimal_digit, decimal_step}
 use Rattle.std.proofs.lemmas.List.Sums.{prefix_len-drop_yes, prefix_len-drop_no, prefix_len-drop_all}
 use Rattle.std.proofs.lemmas.{List.FromFn.length-map-range_with_len, List.FromFn.get_or-map-range_with_len}
 use Rattle.qrcode_render.specs.Paths.{begins_run, dark_row, dark_run_length, run_at, row_path, path}
 use Rattle.qrcode_render.{specs.Pictures.Picture, specs.Pictures.columns_of, specs.Pictures.is_dark_module}
+use Rattle.qrcode_render.specs.Rows.{dark_byte, is_dark_at}
+use Rattle.qrcode_render.specs.declared.picture.Row.{Row}
+use Rattle.qrcode_render.proofs.PackedLemmas.{byte_of, module_at}
 use Rattle.qrcode_render.proofs.Ranges.{flat_map_range, joined}
 
 module _ (write : ℕ → ℕ → ℕ → List ℕ) where
@@ -77,6 +82,21 @@ run_end p x y outside = prefix_len-drop_all (λ (b : Bool). b) (dark_row p y) x 
 pub run_begins : (p : Picture) (x y : ℕ) (dark before : Bool) → dark ≡ is_dark_module p x y →
     before ≡ (not (x == 0) && is_dark_module p (x - 1) y) → begins_run p x y ≡ (dark && not before)
 run_begins p x y dark before is was = rw (is, was) (begins_after (is_dark_module p x y) (x == 0) (is_dark_module p (x - 1) y))
+
+-- the module before the next one
+pub before_next : (p : Picture) (x y : ℕ) (dark : Bool) → dark ≡ is_dark_module p x y → dark ≡ (not (x + 1 == 0) && is_dark_module p (x + 1 - 1) y)
+before_next p x y dark is = grind (arith, common_steps)
+
+lit : (dark : Bool) → nat_lt 0 (byte_of dark) ≡ dark
+lit true = refl
+lit false = refl
+
+-- the modules of a row by their bytes
+pub dark_places : (p : Picture) (row : Row) (y : ℕ) (modules : List ℕ) → modules ≡ map (dark_byte row) (range_with_len 0 (length modules)) →
+    columns_of p ≤ length modules → ((column : ℕ) → is_dark_at row column ≡ is_dark_module p column y) →
+    (k : ℕ) → k < columns_of p → nat_lt 0 (get_or modules k 0) ≡ is_dark_module p k y
+dark_places p row y modules are room dark k inside =
+    ap (nat_lt 0) (module_at row modules k are (omega (arith, inside, room))) ∙ (lit (is_dark_at row k) ∙ dark k)
 
 -- the digits of a number, the last one at the end
 pub last_digit : (n : ℕ) (text before after : List ℕ) → n < 1000 → 10 ≤ n → before ≡ text ++ decimal (n / 10) →

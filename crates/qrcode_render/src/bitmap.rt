@@ -9,11 +9,8 @@ ghost use Rattle.qrcode_render.specs.Pictures.{pixel_height};
 ghost use Rattle.qrcode_render.specs.Rows.{dark_byte, is_dark_at};
 ghost use Rattle.qrcode_render.specs.Shown.{shown};
 
-use crate::picture::{Picture, Row};
+use crate::picture::{Picture, ROOM, Row};
 use std::alloc::{AllocError, Global};
-
-/// Room for a byte of each column, and for those up to a multiple of eight.
-const ROOM: usize = 216;
 
 /// Appends all rows of pixels. Those of one row of modules are equal.
 #[tactic(auto, using(crate::proofs::BitmapLemmas::rows))]

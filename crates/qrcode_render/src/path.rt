@@ -1,13 +1,14 @@
 //! A picture as one path: a rectangle for each run of dark modules in a row.
-ghost use Rattle.std.specs.Prelude.{◌≡◌, ◌+◌, ◌≤◌, ◌<◌, ◌++◌, OnOk, decimal};
+ghost use Rattle.std.specs.Prelude.{◌≡◌, ◌+◌, ◌≤◌, ◌<◌, ◌++◌, OnOk, decimal, length};
+ghost use Rattle.std.specs.Prelude.{ℕ, nat_lt, slice_index};
 ghost use Rattle.std.specs.String.{string_bytes};
 ghost use Rattle.qrcode_render.specs.Paths.{dark_run_length, path, row_path};
 ghost use Rattle.qrcode_render.specs.Pens.{rectangle_by};
-ghost use Rattle.qrcode_render.specs.Pictures.{columns_of, rows_of};
+ghost use Rattle.qrcode_render.specs.Pictures.{columns_of, is_dark_module, rows_of};
 ghost use Rattle.qrcode_render.specs.Shown.{shown};
 
 use crate::pen::Pen;
-use crate::picture::Picture;
+use crate::picture::{Picture, ROOM};
 use std::alloc::AllocError;
 
 /// Appends the rectangles of all rows.
@@ -31,28 +32,33 @@ fn push_row(text: &mut String, picture: &Picture, pen: Pen, y: usize) -> Result<
         ++ row_path (rectangle_by pen) (shown picture.now) y (columns_of (shown picture.now))) }
 {
     let row = picture.row(y);
+    let mut modules = [0u8; ROOM];
+    row.write_bytes(&mut modules);
     let mut dark = false;
     for x in 0..picture.columns() {
         let before = dark;
-        dark = row.is_dark(x);
+        dark = modules[x] > 0;
         if dark && !before {
-            push_rectangle(text, pen, (x, y), dark_run_length(picture, x, y))?;
+            push_rectangle(text, pen, (x, y), dark_run_length(picture, &modules, x, y))?;
         }
     }
     Ok(())
 }
 
-/// Returns the number of dark modules from here up to the first light one.
+/// Returns the number of dark modules from here up to the first light one, by the bytes of a row.
 #[tactic(auto, using(crate::proofs::PathLemmas::runs))]
-fn dark_run_length(picture: &Picture, x: usize, y: usize) -> usize
-    requires { x ≤ columns_of (shown picture.now) }
+fn dark_run_length(picture: &Picture, modules: &[u8], x: usize, y: usize) -> usize
+    requires inside { x ≤ columns_of (shown picture.now) }
+    requires room { columns_of (shown picture.now) ≤ length modules.now }
+    requires bytes { (k : ℕ) → k < columns_of (shown picture.now)
+        → nat_lt 0 (slice_index modules.now k) ≡ is_dark_module (shown picture.now) k y }
     ensures exact { result ≡ dark_run_length (shown picture.now) x y }
     ensures few { result < 1000 }
 {
-    let row = picture.row(y);
     let mut length = 0;
     for column in x..picture.columns() {
-        if !row.is_dark(column) {
+        let dark = modules[column] > 0;
+        if !dark {
             break;
         }
         length += 1;

@@ -12,6 +12,9 @@ use qrcode_core::symbol::Symbol;
 use qrcode_core::traits::ModuleSource;
 use qrcode_core::types::Color;
 
+/// Room for a byte of each column, and for those up to a multiple of eight.
+pub(crate) const ROOM: usize = 216;
+
 /// A borrowed grid, with the width of a module in pixels and the width of the light quiet zone
 /// around the grid in modules. Nothing is copied.
 #[derive(Clone, Copy, Debug, PartialEq, Eq)]
