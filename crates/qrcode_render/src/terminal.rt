@@ -6,7 +6,7 @@ ghost use Rattle.qrcode_render.specs.declared.bounds.TheConstants.{MAX_PIXELS};
 ghost use Rattle.qrcode_render.specs.Shown.{shown};
 ghost use Rattle.qrcode_render.specs.Terminals.{half_blocks, terminal_line, terminal_text};
 
-use crate::picture::Picture;
+use crate::picture::{Picture, ROOM};
 use std::alloc::{AllocError, Global};
 
 /// Returns the picture as text: one line for every two rows of pixels, in half blocks. `inverted`
@@ -36,11 +36,15 @@ fn push_line(
         ++ terminal_line inverted (shown picture.now) line) }
 {
     let scale = picture.scale();
-    let upper_row = picture.row(2 * line / scale);
-    let lower_row = picture.row((2 * line + 1) / scale);
+    let mut upper_row = [0u8; ROOM];
+    let mut lower_row = [0u8; ROOM];
+    let row = picture.row(2 * line / scale);
+    row.write_bytes(&mut upper_row);
+    let next = picture.row((2 * line + 1) / scale);
+    next.write_bytes(&mut lower_row);
     for column in 0..picture.columns() {
-        let upper = is_filled(upper_row.is_dark(column), inverted);
-        let lower = is_filled(lower_row.is_dark(column), inverted);
+        let upper = is_filled(upper_row[column] > 0, inverted);
+        let lower = is_filled(lower_row[column] > 0, inverted);
         for copy in 0..scale {
             push_block(text, upper, lower)?;
         }
