@@ -1,7 +1,7 @@
 //! Tests of single symbols of a sequence, with rows of expected values.
 
 use qrcode_base::types::{EcLevel, QrError, QrResult, Version};
-use qrcode_bits::bits::{Bits, encode_part};
+use qrcode_bits::bits::{Bits, Content, Front, SequenceHeader, encode_part, fits_front};
 use std::alloc::Global;
 
 const L: EcLevel = EcLevel::L;
@@ -108,6 +108,19 @@ fn smallest_versions_of_parts(rt: HostRuntime) -> QrResult<()> {
     for (count, limit, wanted) in &LETTERS {
         let letters = vec![in rt.alloc(); b'a'; *count]?;
         assert!(rt; taken(rt.alloc(), &letters, *limit) == *wanted);
+    }
+    Ok(())
+}
+
+#[test]
+fn parts_fit_where_they_have_bits(rt: HostRuntime) -> QrResult<()> {
+    let front = Front::with_header(SequenceHeader::new(1, 2, 0x61), Content::Bytes);
+    for (count, _, _) in &LETTERS {
+        let letters = vec![in rt.alloc(); b'a'; *count]?;
+        for limit in 1..41_i16 {
+            let fits = fits_front(rt.alloc(), &front, &letters, L, limit)?;
+            assert!(rt; fits == taken(rt.alloc(), &letters, limit).is_ok());
+        }
     }
     Ok(())
 }

@@ -61,7 +61,7 @@ fn find_version_from(least: usize, length: usize, level: EcLevel) -> Version
 
 /// Returns the numbers of the candidate versions from a least one up to a limit: the last version
 /// of each class.
-fn candidates(least: usize, limit: usize) -> ArrayVec<usize, 3>
+pub(super) fn candidates(least: usize, limit: usize) -> ArrayVec<usize, 3>
     requires first { 1 ≤ least }
     requires last { least ≤ limit }
     ensures { AreCandidates (least - 1) result.items limit }
