@@ -3,23 +3,22 @@ use Rattle.qrcode_core.proofs.Prelude.{◌≡◌, ℕ, zero, suc, ◌+◌, ◌-�
 use Rattle.qrcode_core.proofs.Prelude.{append_assoc}
 use Rattle.qrcode_core.proofs.Prelude.{get_or, length-append, All, EcLevel, normal, parsed_bytes, slice_range}
 use Rattle.std.proofs.lemmas.List.{append-nil, take_all, length-drop}
-use Rattle.std.proofs.lemmas.List.Elements.{All-cons, All-nil}
+use Rattle.std.proofs.lemmas.List.Elements.{All-cons, All-drop, All-nil, All-take}
 use Rattle.qrcode_core.proofs.Prelude.{drop, parts_from}
 use Rattle.qrcode_core.specs.Sequence.{IsSomePartTooLong}
 use Rattle.std.proofs.lemmas.Bool.{cases_lt}
 use Rattle.std.specs.Prelude.{◌≢◌, slice_index_or}
 use Rattle.qrcode_bits.specs.Contents.{content_bits, AreDataOf}
 use Rattle.qrcode_bits.specs.Places.{IsCutPlace, AreCutPlaces}
-use Rattle.qrcode_bits.specs.Plans.{Fits, FitsNone}
+use Rattle.qrcode_bits.specs.Plans.{FitsNone}
 use Rattle.qrcode_bits.specs.declared.bits.front.Content.{Content}
 use Rattle.qrcode_bits.specs.declared.bits.front.Content.TheVariants.{Bytes, Text, Elements}
 use Rattle.qrcode_bits.proofs.Cutting.{within_content, start_place, end_place, empty_fits, place_within}
-use Rattle.qrcode_core.proofs.Prelude.{ℤ, Header, DataTooLong}
+use Rattle.qrcode_core.proofs.Prelude.{◌*◌, Header}
 use Rattle.qrcode_core.proofs.Prelude.{common_steps}
-use Rattle.std.proofs.Common.{Some, nat_abs}
+use Rattle.std.proofs.Common.{Some}
 use Rattle.qrcode_bits.specs.Frame.{Front, front_of, front_bits}
-use Rattle.qrcode_bits.specs.Push.{IsEncoding, IsFrontRefused}
-use Rattle.qrcode_bits.specs.Stream.{Stream}
+use Rattle.qrcode_bits.proofs.{Lengths.long_message, Texts.length-slice, Contents.length-parsed, Contents.parsed-bytes}
 use Rattle.qrcode_core.proofs.NoneBetter.{front-long}
 use Rattle.qrcode_core.specs.BestCuts.{IsPartTooLong, AreFittingCuts, AreBestCuts}
 
@@ -228,17 +227,39 @@ module _ (f : Front) (h : Header) (c : Content) (part : List ℕ) (level : EcLev
   same : f.content ≡ c
   same = ap (λ (g : Front). g.content) is
 
-  pub encoded_fits : (limit : ℕ) (stream : Stream) → IsEncoding normal f part level limit stream →
-      FitsNone normal (20 + length (content_bits c)) (parsed_bytes c part) level limit → ⊥
-  encoded_fits limit stream e none =
-      subst (λ (d : Content). FitsNone normal (20 + length (content_bits c)) (parsed_bytes d part) level limit) (sym same) none e.number e.choice.up_to e.plan
-      (subst (λ (n : ℕ). Fits n (parsed_bytes f.content part) (normal e.number) level e.plan) long e.choice.fits)
+  pub none_of_front : (limit : ℕ) → FitsNone normal (20 + length (content_bits c)) (parsed_bytes c part) level limit →
+      FitsNone normal (length (front_bits f)) (parsed_bytes f.content part) level limit
+  none_of_front limit none =
+      subst (λ (n : ℕ). FitsNone normal n (parsed_bytes f.content part) level limit) (sym long)
+      (subst (λ (d : Content). FitsNone normal (20 + length (content_bits c)) (parsed_bytes d part) level limit) (sym same) none)
 
-  pub refused_fits_not : (limit : ℤ) → IsFrontRefused f part level limit DataTooLong →
-      FitsNone normal (20 + length (content_bits c)) (parsed_bytes c part) level (nat_abs limit)
-  refused_fits_not limit r =
-      subst (λ (d : Content). FitsNone normal (20 + length (content_bits c)) (parsed_bytes d part) level (nat_abs limit)) same
-      (subst (λ (n : ℕ). FitsNone normal n (parsed_bytes f.content part) level (nat_abs limit)) long r.1)
+  pub none_of_part : (limit : ℕ) → FitsNone normal (length (front_bits f)) (parsed_bytes f.content part) level limit →
+      FitsNone normal (20 + length (content_bits c)) (parsed_bytes c part) level limit
+  none_of_part limit none =
+      subst (λ (d : Content). FitsNone normal (20 + length (content_bits c)) (parsed_bytes d part) level limit) same
+      (subst (λ (n : ℕ). FitsNone normal n (parsed_bytes f.content part) level limit) long none)
+
+-- ---- A message that is too long for any cuts
+
+module _ (c : Content) (message : List ℕ) (level : EcLevel) (limit : ℕ) (last : limit ≤ 40) (are : All (λ b. b < 256) message) where
+  short_part : (p q : ℕ) → p ≤ q → q ≤ length message → (IsPartTooLong c message level limit p q → ⊥) → q ≤ p + 7089
+  short_part p q h k fit = elim (cases_lt (p + 7089) q) [
+    | inl more ↦ absurd (fit (long_message (20 + length (content_bits c)) (parsed_bytes c (slice_range message p q)) level limit last
+        (parsed-bytes c (slice_range message p q) (All-take (λ b. b < 256) (q - p) (drop p message) (All-drop (λ b. b < 256) p message are)))
+        (let size = length-slice message p q h k in omega (arith, length-parsed c (slice_range message p q), size, more))))
+    | inr few ↦ few
+  ]
+
+  few_bytes : (from : ℕ) (cuts : List ℕ) → from ≤ length message → AreFittingCuts c message level limit from cuts →
+      length message ≤ from + 7089 * (length cuts + 1)
+  few_bytes from [] h fit = let most = short_part from (length message) h (omega arith) fit in omega (arith, most)
+  few_bytes from (x ∷ xs) h fit =
+      let inside = place_within c message x fit.1 in
+      let most = short_part from x fit.0 inside fit.2 in
+      let rest = few_bytes x xs inside fit.3 in omega (arith, most, rest)
+
+  pub many_cuts : 16 * 7089 < length message → (cuts : List ℕ) → AreFittingCuts c message level limit 0 cuts → 16 ≤ length cuts
+  many_cuts more cuts fit = let few = few_bytes 0 cuts (omega arith) fit in omega (arith, few, more)
 
 -- ---- Best cuts are cuts that a sequence takes
 

@@ -1,23 +1,24 @@
 //! Cuts of a message into as few parts as can be, for `Symbol::sequence` and
 //! `Symbol::text_sequence`.
 //!
-//! 1. List the places at which the message may be cut (`cut_places`).
-//! 2. Make each part the longest one that fits (`last_fitting`). A part that lies within one that
+//! 1. Refuse what is longer than 16 parts of the most bytes that fit any version.
+//! 2. List the places at which the message may be cut (`cut_places`).
+//! 3. Make each part the longest one that fits (`last_fitting`). A part that lies within one that
 //!    fits, fits too, so that no other cuts make fewer parts.
 ghost use Rattle.std.specs.Prelude.{◌≡◌, ◌≢◌, ◌+◌, ◌<◌, ◌≤◌, ℕ, length, nat_abs, slice_index_or, All};
 ghost use Rattle.std.specs.Prelude.{true, false, IfOk, IfErr, OnOk};
 ghost use Rattle.std.specs.List.Sorted.{IsNonDecreasing};
 ghost use Rattle.qrcode_base.specs.Symbols.{IsNormalNumber};
-ghost use Rattle.qrcode_bits.specs.Contents.{AreDataOf, content_bits, parsed_bytes};
+ghost use Rattle.qrcode_bits.specs.Contents.{content_bits, parsed_bytes};
 ghost use Rattle.qrcode_bits.specs.Places.{AreCutPlaces, IsCutPlace};
 ghost use Rattle.qrcode_bits.specs.Plans.{normal, FitsNone};
 ghost use Rattle.qrcode_bits.specs.declared.bits.front.Content.TheVariants.{Bytes, Text, Elements};
 ghost use Rattle.qrcode_core.specs.BestCuts.{AreBestCuts, IsCutsRefusal, IsPartTooLong};
 ghost use Rattle.qrcode_core.specs.Sequence.{IsSomePartTooLong};
 
-use qrcode_base::symbols::is_normal_number;
+use qrcode_base::symbols::{LONGEST_DATA, is_normal_number};
 use qrcode_base::types::{EcLevel, QrError, QrResult};
-use qrcode_bits::bits::{Content, Front, SequenceHeader, cut_places, encode_front};
+use qrcode_bits::bits::{Content, Front, SequenceHeader, cut_places, fits_front};
 use std::alloc::Global;
 
 /// The most symbols of a sequence.
@@ -89,6 +90,10 @@ fn longest_parts(
     if !is_normal_number(max_version) {
         return Err(QrError::InvalidResourceLimits);
     }
+    // No part of more bytes fits any version.
+    if bytes.len() > MOST_PARTS * LONGEST_DATA {
+        return Err(QrError::DataTooLong);
+    }
     let places = cut_places(alloc, content, bytes)?;
     let mut cuts = Vec::new(alloc);
     let mut first = 0;
@@ -148,7 +153,6 @@ pub(crate) fn part_fits(
     level: EcLevel,
     max_version: i16,
 ) -> QrResult<bool>
-    requires suited { AreDataOf content part.now }
     requires limit { IsNormalNumber max_version }
     ensures fits { IfOk result (λ fits. fits ≡ true →
         FitsNone normal (20 + length (content_bits content)) (parsed_bytes content part.now) level
@@ -160,9 +164,5 @@ pub(crate) fn part_fits(
 {
     // Which symbol it is of how many changes no bits' number.
     let front = Front::with_header(SequenceHeader::new(1, 2, 0), content);
-    match encode_front(alloc, &front, part, level, max_version) {
-        Ok(_) => Ok(true),
-        Err(QrError::DataTooLong) => Ok(false),
-        Err(error) => Err(error),
-    }
+    fits_front(alloc, &front, part, level, max_version)
 }

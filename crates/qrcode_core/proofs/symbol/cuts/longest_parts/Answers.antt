@@ -1,13 +1,22 @@
 use mir.Syntax.{w16}
-use Rattle.qrcode_core.proofs.Prelude.{arith, nat_abs, to_z-of_z, sym, subst, ◌+◌, ◌<◌, ◌≡◌, ◌∙◌, ◌++◌, ◌∷◌, [], length, get_or_default}
+use Rattle.qrcode_core.proofs.Prelude.{arith, nat_abs, to_z-of_z, sym, subst, ◌+◌, ◌<◌, ◌≤◌, ◌≡◌, ◌∙◌, ◌++◌, ◌∷◌, [], length, get_or_default}
 use Rattle.std.specs.Prelude.{slice_index_or}
-use Rattle.qrcode_core.proofs.BestCuts.{IsCutUpTo, nothing_cut, one_cut, all_cut}
+use Rattle.qrcode_bits.proofs.{Pairs.bytes_valid, Classes.limit_of}
+use Rattle.qrcode_core.proofs.BestCuts.{IsCutUpTo, nothing_cut, one_cut, all_cut, many_cuts}
 use Rattle.qrcode_core.proofs.symbol.cuts.longest_parts.Goals as goal
 
 pub loop-count-init : goal.loop-count-init
 loop-count-init c =
     rw (to_z-of_z w16 c.args.max_version c.ranges.max_version, c.new-cuts.ensures.items)
     (nothing_cut c.args.content c.args.bytes.now c.args.level (nat_abs c.args.max_version) c.requires.cut c.in_ok-places.places.items c.in_ok-places.ensures)
+
+pub returns-then-bytes-clause-refused : goal.returns-then-bytes-clause-refused
+returns-then-bytes-clause-refused c =
+    let same = to_z-of_z w16 c.args.max_version c.ranges.max_version in
+    let normal = limit_of c.args.max_version _ _ same c.is_normal_number.ensures c.if-not-is_normal_number.false in
+    let last : nat_abs c.args.max_version ≤ 40 = grind (arith, normal) in
+    let are = bytes_valid c.args.bytes.now (λ i. omega (arith, c.type_inv.bytes i)) in
+    (normal, many_cuts c.args.content c.args.bytes.now c.args.level (nat_abs c.args.max_version) last are (omega (arith, c.if-bytes.true)))
 
 pub returns-then-last-len-clause-best : goal.returns-then-last-len-clause-best
 returns-then-last-len-clause-best c =
