@@ -8,6 +8,7 @@ use Rattle.qrcode_bits.proofs.{Adjoining.class_of-one, Adjoining.units-size, Adj
 use Rattle.qrcode_bits.proofs.{Shortest.units-apart, Shortest.low-no_lead, Shortest.units-single, Numbers.length-number_bits, Contents.parsed-low}
 use Rattle.qrcode_bits.proofs.{Contents.length-parsed, Contents.slice-parsed, Choices.fits_normal, Within.within-plan, CuttingPlans.slice-seam}
 use Rattle.qrcode_bits.proofs.Texts.{slice-join}
+use Rattle.std.proofs.lemmas.List.{length-take-le, take-take}
 
 -- ---- The units of first bytes, and of those after them
 
@@ -48,7 +49,7 @@ some-size (c ∷ cs) zero h full = absurd (omega (arith, h))
 some-size (c ∷ cs) (suc n) h full = let e = class_size-some c in omega (arith, e)
 
 -- places in the order of their units
-unit-order : (bytes : List ℕ) (p q : ℕ) (a : IsUnitEnd bytes p) (b : IsUnitEnd bytes q) → p ≤ q → a.0 ≤ b.0
+pub unit-order : (bytes : List ℕ) (p q : ℕ) (a : IsUnitEnd bytes p) (b : IsUnitEnd bytes q) → p ≤ q → a.0 ≤ b.0
 unit-order bytes p q a b h = elim (cases_lt b.0 a.0) [
   | inl less ↦ (let long = length-drop b.0 (units bytes) in
       let more = some-size (drop b.0 (units bytes)) (a.0 - b.0) (omega arith) (omega (arith, long, a.1)) in
@@ -123,7 +124,7 @@ empty_plan : IsMergePlan (parsed []) []
 empty_plan = record { pieces = []; whole = refl; nonempty = All-nil (λ (piece : List Segment). 0 < length piece); merges = refl }
 
 -- version 1 has 72 bits at least, and no front more than 32
-least_room : (l : EcLevel) → (d : ℕ) × (capacity (normal 1) l ≡ Some d) × (72 ≤ d)
+pub least_room : (l : EcLevel) → (d : ℕ) × (capacity (normal 1) l ≡ Some d) × (72 ≤ d)
 least_room L = (152, refl, omega arith)
 least_room M = (128, refl, omega arith)
 least_room Q = (104, refl, omega arith)
@@ -144,3 +145,30 @@ place_within c bytes p h =
     let w = unit_end c bytes p h in
     let all = ap total_size (take-length us) ∙ units-size (parsed_bytes c bytes) in
     omega (arith, size-cut us w.0 (length us) w.1, all, w.2, length-parsed c bytes)
+
+-- ---- Places between two others
+
+between : {X : Type 0} (xs : List X) (p q e : ℕ) → q ≤ e → take (q - p) (slice_range xs p e) ≡ slice_range xs p q
+between xs p q e h = take-take (q - p) (e - p) (drop p xs) (omega (arith, h))
+
+unit_between : (bytes : List ℕ) (p q e : ℕ) → p ≤ q → q ≤ e → IsUnitEnd bytes p → IsUnitEnd bytes q → IsUnitEnd bytes e →
+    IsUnitEnd (slice_range bytes p e) (q - p)
+unit_between bytes p q e h k a b d =
+    let us = units bytes in
+    let ab = unit-order bytes p q a b h in let bd = unit-order bytes q e b d k in
+    let size = ap total_size (between us a.0 b.0 d.0 bd) in
+    rw (units-between bytes p e a d (omega (arith, h, k))) (
+      b.0 - a.0,
+      (let rest = length-drop a.0 us in let long = length-take-le (d.0 - a.0) (drop a.0 us) (omega (arith, rest, d.1)) in omega (arith, long, bd)),
+      (let cut = size-cut us a.0 b.0 ab in omega (arith, size, cut, a.2, b.2)),
+    )
+
+-- A place between two others is one of the data between them, whose units up to it are the same.
+pub place_between : (c : Content) (message : List ℕ) (p q e : ℕ) → p ≤ q → q ≤ e → IsCutPlace c message p → IsCutPlace c message q → IsCutPlace c message e →
+    IsUnitEnd (parsed_bytes c (slice_range message p e)) (q - p)
+    × (take (q - p) (parsed_bytes c (slice_range message p e)) ≡ parsed_bytes c (slice_range message p q))
+place_between c message p q e h k a b d = (
+  subst (λ z. IsUnitEnd z (q - p)) (slice-parsed c message p e)
+      (unit_between (parsed_bytes c message) p q e h k (unit_end c message p a) (unit_end c message q b) (unit_end c message e d)),
+  ap (take (q - p)) (sym (slice-parsed c message p e)) ∙ (between (parsed_bytes c message) p q e k ∙ slice-parsed c message p q),
+)

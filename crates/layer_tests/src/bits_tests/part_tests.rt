@@ -1,7 +1,9 @@
 //! Tests of single symbols of a sequence, with rows of expected values.
 
 use qrcode_base::types::{EcLevel, QrError, QrResult, Version};
-use qrcode_bits::bits::{Bits, Content, Front, SequenceHeader, encode_part, fits_front};
+use qrcode_bits::bits::{
+    Bits, Content, Front, SequenceHeader, encode_part, fits_front, fitting_range,
+};
 use std::alloc::Global;
 
 const L: EcLevel = EcLevel::L;
@@ -120,6 +122,25 @@ fn parts_fit_where_they_have_bits(rt: HostRuntime) -> QrResult<()> {
         for limit in 1..41_i16 {
             let fits = fits_front(rt.alloc(), &front, &letters, L, limit)?;
             assert!(rt; fits == taken(rt.alloc(), &letters, limit).is_ok());
+        }
+    }
+    Ok(())
+}
+
+/// A text with short and long segments.
+static SENTENCE: &[u8] =
+    b"Version 1 has 21 by 21 modules, VERSION 40 has 177 by 177: 12345678901234567.";
+
+#[test]
+fn first_bytes_that_fit(rt: HostRuntime) -> QrResult<()> {
+    let front = Front::with_header(SequenceHeader::new(1, 2, 0x61), Content::Bytes);
+    for limit in 1..13_i16 {
+        let (sure, past) = fitting_range(rt.alloc(), &front, SENTENCE, L, limit)?;
+        assert!(rt; past > SENTENCE.len() || past - sure <= 17);
+        for count in 0..SENTENCE.len() + 1 {
+            let fits = taken(rt.alloc(), &SENTENCE[..count], limit).is_ok();
+            assert!(rt; fits || count > sure);
+            assert!(rt; !fits || count < past);
         }
     }
     Ok(())

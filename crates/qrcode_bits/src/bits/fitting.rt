@@ -3,22 +3,26 @@
 //! The greatest version is tried first, since what fits a smaller one nearly always fits it too.
 //! Where it holds twice the bits of the last version of a smaller class, that is certain.
 
-ghost use Rattle.std.specs.Prelude.{◌≡◌, ℕ, List, ◌+◌, ◌-◌, ◌≤◌, length, nat_abs, true, false, IfOk, IfErr};
+ghost use Rattle.std.specs.Prelude.{◌≡◌, ℕ, List, ◌<◌, ◌≤◌, length, take, nat_abs, true, false};
+ghost use Rattle.std.specs.Prelude.{IfOk, IfErr};
 ghost use Rattle.std.specs.Bool.{OnTrue};
 ghost use Rattle.qrcode_base.specs.Symbols.{IsNormalNumber};
 ghost use Rattle.qrcode_base.specs.declared.symbols.TheConstants.{LONGEST_DATA};
 ghost use Rattle.qrcode_bits.specs.Contents.{parsed_bytes};
 ghost use Rattle.qrcode_bits.specs.Frame.{front_bits};
 ghost use Rattle.qrcode_bits.specs.Parsing.{parsed};
+ghost use Rattle.qrcode_bits.specs.Places.{IsUnitEnd};
 ghost use Rattle.qrcode_bits.specs.Plans.{FitsNot, FitsNone, normal};
 
 use super::choice::{candidates, chosen_plan};
 use super::data_capacity_bits;
 use super::front::{Content, Front, parsed_bytes};
-use crate::optimize::{Segment, segments_from};
+use crate::optimize::{Segment, first_uncounted, segments_from};
 use qrcode_base::symbols::LONGEST_DATA;
 use qrcode_base::types::{EcLevel, QrError, QrResult, Version};
 use std::alloc::Global;
+use std::marker::Brand;
+use std::sync::ledger::Blank;
 
 /// Returns whether data of any content fit some version of at most `max_version`, after a front:
 /// whether `encode_front` finds a plan for them. It makes no bits.
@@ -107,6 +111,102 @@ fn fits_version(
     let version = Version::Normal(number as i16);
     let found = chosen_plan(alloc, ahead, bytes, segments, version, level)?;
     Ok(found.is_some())
+}
+
+/// Returns two numbers of bytes: up to the first, whole units fit the version of a number, and from
+/// the second on they do not. One segment lies between them, unless all fit.
+fn fitting_between(
+    ahead: usize,
+    bytes: &[u8],
+    segments: &[Segment],
+    level: EcLevel,
+    number: usize,
+) -> (usize, usize)
+    requires ahead { ahead ≤ 32 }
+    requires segments { segments.now ≡ parsed bytes.now }
+    requires short { length bytes.now ≤ LONGEST_DATA }
+    requires from_one { 1 ≤ number }
+    requires to_forty { number ≤ 40 }
+    ensures less { result.0 < result.1 }
+    ensures fits { (place : ℕ) → IsUnitEnd bytes.now place → place ≤ result.0 →
+        FitsNot ahead (take place bytes.now) (normal number) level → ⊥ }
+    ensures unfit { (place : ℕ) → IsUnitEnd bytes.now place → result.1 ≤ place →
+        FitsNot ahead (take place bytes.now) (normal number) level }
+{
+    let version = Version::Normal(number as i16);
+    let Ok(limit) = data_capacity_bits(version, level) else {
+        unreachable!();
+    };
+    let count = first_uncounted::<Brand>(segments, version, limit - ahead, Blank::new(1));
+    if count == segments.len() {
+        return (bytes.len(), bytes.len() + 1);
+    }
+    (segments[count].begin, segments[count].end)
+}
+
+/// Returns two numbers of bytes, the first less than the second: up to the first, whole units of
+/// the data fit some version of at most `max_version` after the front, and from the second on they
+/// do not. Data are parsed as their content wants it, and their units with them.
+///
+/// Fails with `OutOfMemory` if an allocation fails.
+pub fn fitting_range(
+    alloc: Global,
+    front: &Front,
+    bytes: &[u8],
+    level: EcLevel,
+    max_version: i16,
+) -> QrResult<(usize, usize)>
+    requires limit { IsNormalNumber max_version }
+    requires short { length bytes.now ≤ LONGEST_DATA }
+    ensures less { IfOk result (λ range. range.0 < range.1) }
+    ensures fits { IfOk result (λ range. (place : ℕ) →
+        IsUnitEnd (parsed_bytes front.now.content bytes.now) place → place ≤ range.0 →
+        FitsNone normal (length (front_bits front.now))
+        (take place (parsed_bytes front.now.content bytes.now)) level (nat_abs max_version) → ⊥) }
+    ensures too_long { IfOk result (λ range. (place : ℕ) →
+        IsUnitEnd (parsed_bytes front.now.content bytes.now) place → range.1 ≤ place →
+        FitsNone normal (length (front_bits front.now))
+        (take place (parsed_bytes front.now.content bytes.now)) level (nat_abs max_version)) }
+    ensures memory { IfErr result (λ e. e ≡ QrError.OutOfMemory) }
+{
+    let limit = max_version as usize;
+    if front.content() == Content::Bytes {
+        return range_up_to(alloc, front.size(), bytes, level, limit);
+    }
+    let parsed = parsed_bytes(alloc, front.content(), bytes)?;
+    range_up_to(alloc, front.size(), parsed.as_slice(), level, limit)
+}
+
+/// Returns what `fitting_range` does, of some bytes after `ahead` bits.
+fn range_up_to(
+    alloc: Global,
+    ahead: usize,
+    bytes: &[u8],
+    level: EcLevel,
+    limit: usize,
+) -> QrResult<(usize, usize)>
+    requires ahead { ahead ≤ 32 }
+    requires short { length bytes.now ≤ LONGEST_DATA }
+    requires from_one { 1 ≤ limit }
+    requires to_forty { limit ≤ 40 }
+    ensures less { IfOk result (λ range. range.0 < range.1) }
+    ensures fits { IfOk result (λ range. (place : ℕ) → IsUnitEnd bytes.now place →
+        place ≤ range.0 → FitsNone normal ahead (take place bytes.now) level limit → ⊥) }
+    ensures too_long { IfOk result (λ range. (place : ℕ) → IsUnitEnd bytes.now place →
+        range.1 ≤ place → FitsNone normal ahead (take place bytes.now) level limit) }
+    ensures memory { IfErr result (λ e. e ≡ QrError.OutOfMemory) }
+{
+    let segments = segments_from(alloc, bytes, 0)?;
+    let (mut sure, mut past) = fitting_between(ahead, bytes, &segments, level, limit);
+    let candidates = candidates(1, limit);
+    for last in candidates.as_slice() {
+        if !holds_double(*last, level, limit) {
+            let (fits, unfit) = fitting_between(ahead, bytes, &segments, level, *last);
+            sure = sure.max(fits);
+            past = past.max(unfit);
+        }
+    }
+    Ok((sure, past))
 }
 
 /// Returns whether a version is the greatest one, or that one holds at least twice its bits: then

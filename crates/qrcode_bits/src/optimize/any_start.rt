@@ -35,6 +35,10 @@ pub trait AnyStart: Copy {
     fn index(&self) -> usize
         ensures { result ≡ (read self.now).start };
 
+    /// Returns the number of bits.
+    fn bits(&self) -> u128
+        ensures { result ≡ (read self.now).bits };
+
     /// Returns the start at the segment of an index for a plan of the same bits and one more part.
     fn next(&self, index: usize) -> Self
         requires bits { (read self.now).bits < 32 * FAR }

@@ -22,7 +22,7 @@ use std::alloc::Global;
 use std::sync::ledger::Ledger;
 
 /// The number of buckets of all groups.
-const SLOTS: usize = 32;
+pub(super) const SLOTS: usize = 32;
 
 /// The offset of the first byte modulo the period, for each bucket.
 const RESTS: [usize; 8] = [0, 1, 2, 0, 1, 0, 0, 1];
@@ -161,7 +161,7 @@ fn move_group<S: AnyStart, L: Ledger>(
 }
 
 /// Moves the starts of all groups. Those of Byte stay.
-fn advance<S: AnyStart, L: Ledger>(
+pub(super) fn advance<S: AnyStart, L: Ledger>(
     groups: &mut [S],
     incoming: Mode,
     comparisons: &mut Comparisons<L>,
@@ -208,7 +208,7 @@ fn add_to_bucket<S: AnyStart, L: Ledger>(
 }
 
 /// Adds a start to the buckets of its segment's group, one per final mode.
-fn add_start<S: AnyStart, L: Ledger>(
+pub(super) fn add_start<S: AnyStart, L: Ledger>(
     groups: &mut [S],
     group: Mode,
     begin: usize,
@@ -230,7 +230,7 @@ fn add_start<S: AnyStart, L: Ledger>(
 }
 
 /// Returns how many bits precede the characters of a segment in each mode.
-fn header_widths(version: Version) -> [usize; 4]
+pub(super) fn header_widths(version: Version) -> [usize; 4]
     requires { HasMicroNumber version }
     ensures { AreHeaders version result }
 {
@@ -254,7 +254,7 @@ fn part_len(headers: &[usize], mode: Mode, size: usize) -> u128
 
 /// Returns the best start of the last part of the first `end` segments, by comparing the best
 /// starts of all buckets.
-fn last_step<S: AnyStart, L: Ledger>(
+pub(super) fn last_step<S: AnyStart, L: Ledger>(
     segments: &[Segment],
     headers: &[usize],
     version: Version,

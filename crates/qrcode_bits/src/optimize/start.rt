@@ -69,6 +69,10 @@ impl AnyStart for Start {
         (LAST_INDEX - self.word % (1 << FIELD_WIDTH)) as usize
     }
 
+    fn bits(&self) -> u128 {
+        u128::from(self.word >> BITS_SHIFT)
+    }
+
     fn next(&self, index: usize) -> Self {
         let plan = self.word >> FIELD_WIDTH;
         Start {
