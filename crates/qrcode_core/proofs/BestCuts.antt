@@ -4,16 +4,16 @@ use Rattle.qrcode_core.proofs.Prelude.{append_assoc}
 use Rattle.qrcode_core.proofs.Prelude.{get_or, length-append, All, EcLevel, normal, parsed_bytes, slice_range}
 use Rattle.std.proofs.lemmas.List.{append-nil, take_all, length-drop}
 use Rattle.std.proofs.lemmas.List.Elements.{All-cons, All-drop, All-nil, All-take}
-use Rattle.qrcode_core.proofs.Prelude.{drop, parts_from}
+use Rattle.qrcode_core.proofs.Prelude.{drop, take, parts_from}
 use Rattle.qrcode_core.specs.Sequence.{IsSomePartTooLong}
 use Rattle.std.proofs.lemmas.Bool.{cases_lt}
 use Rattle.std.specs.Prelude.{◌≢◌, slice_index_or}
 use Rattle.qrcode_bits.specs.Contents.{content_bits, AreDataOf}
-use Rattle.qrcode_bits.specs.Places.{IsCutPlace, AreCutPlaces}
+use Rattle.qrcode_bits.specs.Places.{IsCutPlace, AreCutPlaces, IsUnitEnd}
 use Rattle.qrcode_bits.specs.Plans.{FitsNone}
 use Rattle.qrcode_bits.specs.declared.bits.front.Content.{Content}
 use Rattle.qrcode_bits.specs.declared.bits.front.Content.TheVariants.{Bytes, Text, Elements}
-use Rattle.qrcode_bits.proofs.Cutting.{within_content, start_place, end_place, empty_fits, place_within}
+use Rattle.qrcode_bits.proofs.Cutting.{within_content, start_place, end_place, place_within, place_between}
 use Rattle.qrcode_core.proofs.Prelude.{◌*◌, Header}
 use Rattle.qrcode_core.proofs.Prelude.{common_steps}
 use Rattle.std.proofs.Common.{Some}
@@ -26,11 +26,6 @@ pub any_data : (c : Content) (bytes : List ℕ) → c ≢ Elements → AreDataOf
 any_data Bytes bytes h = tt
 any_data Text bytes h = tt
 any_data Elements bytes h = absurd (h refl)
-
-empty_part : (c : Content) (message : List ℕ) (p : ℕ) → parsed_bytes c (slice_range message p p) ≡ []
-empty_part Bytes message p = grind arith
-empty_part Text message p = grind arith
-empty_part Elements message p = grind arith
 
 -- ---- Places by their index
 
@@ -92,12 +87,6 @@ module _ (c : Content) (message : List ℕ) (level : EcLevel) (limit : ℕ) (oth
 
   pub later_too_long : (p r s : ℕ) → p ≤ r → r ≤ s → IsCutPlace c message p → IsCutPlace c message r → IsCutPlace c message s → TooLong p r → TooLong p s
   later_too_long p r s h k a b d = part_within p p r s (omega arith) h k a a b d
-
-  pub none_fits : 1 ≤ limit → (p : ℕ) → TooLong p p → ⊥
-  none_fits some p h =
-      let empty : parsed_bytes c (slice_range message p p) ≡ [] = empty_part c message p in
-      let none = subst (λ z. FitsNone normal (20 + length (content_bits c)) z level limit) empty h in
-      empty_fits c level (λ n few. none n (omega (arith, few, some)))
 
   -- cuts from a place on, from a later place on
   later_cuts : (d e : ℕ) → d ≤ e → IsCutPlace c message d → IsCutPlace c message e → (cuts : List ℕ) → Fitting d cuts →
@@ -190,15 +179,6 @@ pub record IsSought (c : Content) (message : List ℕ) (level : EcLevel) (limit 
 module _ (c : Content) (message : List ℕ) (level : EcLevel) (limit : ℕ) (other : c ≢ Elements) (places : List ℕ) (are : AreCutPlaces c message places)
     (first : ℕ)
     (exists : first < length places) where
-  pub sought_first : 1 ≤ limit → IsSought c message level limit places first first (length places)
-  sought_first some = record {
-    from = omega arith;
-    less = exists;
-    inside = omega arith;
-    fits = none_fits c message level limit other some (slice_index_or places first 0);
-    too_long = λ later h k. absurd (omega (arith, h, k));
-  }
-
   module _ (fitting past middle : ℕ) (known : IsSought c message level limit places first fitting past) (more : fitting < middle) (less : middle < past) where
     pub sought_fits : (IsPartTooLong c message level limit (slice_index_or places first 0) (slice_index_or places middle 0) → ⊥) →
         IsSought c message level limit places first middle past
@@ -242,11 +222,15 @@ module _ (f : Front) (h : Header) (c : Content) (part : List ℕ) (level : EcLev
 -- ---- A message that is too long for any cuts
 
 module _ (c : Content) (message : List ℕ) (level : EcLevel) (limit : ℕ) (last : limit ≤ 40) (are : All (λ b. b < 256) message) where
+  pub long_part : (p q : ℕ) → p ≤ q → q ≤ length message → p + 7089 < q → IsPartTooLong c message level limit p q
+  long_part p q h k more =
+      long_message (20 + length (content_bits c)) (parsed_bytes c (slice_range message p q)) level limit last
+      (parsed-bytes c (slice_range message p q) (All-take (λ b. b < 256) (q - p) (drop p message) (All-drop (λ b. b < 256) p message are)))
+      (let size = length-slice message p q h k in omega (arith, length-parsed c (slice_range message p q), size, more))
+
   short_part : (p q : ℕ) → p ≤ q → q ≤ length message → (IsPartTooLong c message level limit p q → ⊥) → q ≤ p + 7089
   short_part p q h k fit = elim (cases_lt (p + 7089) q) [
-    | inl more ↦ absurd (fit (long_message (20 + length (content_bits c)) (parsed_bytes c (slice_range message p q)) level limit last
-        (parsed-bytes c (slice_range message p q) (All-take (λ b. b < 256) (q - p) (drop p message) (All-drop (λ b. b < 256) p message are)))
-        (let size = length-slice message p q h k in omega (arith, length-parsed c (slice_range message p q), size, more))))
+    | inl more ↦ absurd (fit (long_part p q h k more))
     | inr few ↦ few
   ]
 
@@ -260,6 +244,61 @@ module _ (c : Content) (message : List ℕ) (level : EcLevel) (limit : ℕ) (las
 
   pub many_cuts : 16 * 7089 < length message → (cuts : List ℕ) → AreFittingCuts c message level limit 0 cuts → 16 ≤ length cuts
   many_cuts more cuts fit = let few = few_bytes 0 cuts (omega arith) fit in omega (arith, few, more)
+
+-- ---- Where the search begins
+
+-- what is some bytes after a place comes after it
+pub past_first : (first index p size : ℕ) → 1 ≤ size → (index ≤ first → p + size ≤ p) → first < index
+past_first first index p size some far = elim (cases_lt first index) [ inl less ↦ less | inr past ↦ (let w = far past in omega (arith, w, some)) ]
+
+-- What is known of the parts within a window: up to `sure` bytes they fit, and from `unsure` bytes
+-- on they do not.
+pub record IsWindow (c : Content) (window : List ℕ) (level : EcLevel) (limit sure unsure : ℕ) : Type 0 where
+  pub less : sure < unsure
+  pub fits : (q : ℕ) → IsUnitEnd (parsed_bytes c window) q → q ≤ sure →
+      FitsNone normal (20 + length (content_bits c)) (take q (parsed_bytes c window)) level limit → ⊥
+  pub too_long : (q : ℕ) → IsUnitEnd (parsed_bytes c window) q → unsure ≤ q →
+      FitsNone normal (20 + length (content_bits c)) (take q (parsed_bytes c window)) level limit
+
+module _ (c : Content) (message : List ℕ) (level : EcLevel) (limit : ℕ) (last : limit ≤ 40) (valid : All (λ b. b < 256) message) (places : List ℕ)
+    (are : AreCutPlaces c message places) (first end sure unsure : ℕ) (inside : end < length places)
+    (known : IsWindow c (slice_range message (slice_index_or places first 0) (slice_index_or places end 0)) level limit sure unsure)
+    (longer : (i : ℕ) → end < i → i < length places → slice_index_or places first 0 + 7089 < slice_index_or places i 0) where
+  abbrev at : ℕ → ℕ
+  at i = slice_index_or places i 0
+
+  abbrev window : List ℕ
+  window = slice_range message (at first) (at end)
+
+  abbrev TooLongAt : ℕ → Type 0
+  TooLongAt i = IsPartTooLong c message level limit (at first) (at i)
+
+  -- the part up to a place in the window
+  in_window : (i : ℕ) → first ≤ i → i ≤ end →
+      IsUnitEnd (parsed_bytes c window) (at i - at first) × (take (at i - at first) (parsed_bytes c window) ≡ parsed_bytes c (slice_range message (at first) (at i)))
+  in_window i h k =
+      place_between c message (at first) (at i) (at end) (places_order c message places are first i h (omega (arith, k, inside)))
+      (places_order c message places are i end k inside) (is_place c message places are first (omega (arith, h, k, inside)))
+      (is_place c message places are i (omega (arith, k, inside))) (is_place c message places are end inside)
+
+  pub window_sought : (fitting past : ℕ) → first ≤ fitting → fitting ≤ end → fitting < past → past ≤ end + 1 → at fitting ≤ at first + sure →
+      ((i : ℕ) → past ≤ i → i ≤ end → at first + unsure ≤ at i) → IsSought c message level limit places first fitting past
+  window_sought fitting past from up_to less most sure_is unsure_is = record {
+    from = from;
+    less = less;
+    inside = omega (arith, most, inside);
+    fits = λ long.
+        (let w = in_window fitting from up_to in
+        known.fits (at fitting - at first) w.0 (omega (arith, sure_is))
+        (subst (λ z. FitsNone normal (20 + length (content_bits c)) z level limit) (sym w.1) long));
+    too_long = λ i h k. elim (cases_lt end i) [
+      | inl beyond ↦ long_part c message level limit last valid (at first) (at i)
+          (places_order c message places are first i (omega (arith, from, less, h)) k) (place_inside c message places are i k) (longer i beyond k)
+      | inr within ↦ (let w = in_window i (omega (arith, from, less, h)) within in
+          let far = unsure_is i h within in
+          subst (λ z. FitsNone normal (20 + length (content_bits c)) z level limit) w.1 (known.too_long (at i - at first) w.0 (omega (arith, far))))
+    ];
+  }
 
 -- ---- Best cuts are cuts that a sequence takes
 

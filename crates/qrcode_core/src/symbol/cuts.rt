@@ -5,20 +5,21 @@
 //! 2. List the places at which the message may be cut (`cut_places`).
 //! 3. Make each part the longest one that fits (`last_fitting`). A part that lies within one that
 //!    fits, fits too, so that no other cuts make fewer parts.
-ghost use Rattle.std.specs.Prelude.{◌≡◌, ◌≢◌, ◌+◌, ◌<◌, ◌≤◌, ℕ, length, nat_abs, slice_index_or, All};
+ghost use Rattle.std.specs.Prelude.{◌≡◌, ◌≢◌, ◌+◌, ◌<◌, ◌≤◌, ℕ, length, nat_abs, slice_index_or, take, All};
 ghost use Rattle.std.specs.Prelude.{true, false, IfOk, IfErr, OnOk};
 ghost use Rattle.std.specs.List.Sorted.{IsNonDecreasing};
 ghost use Rattle.qrcode_base.specs.Symbols.{IsNormalNumber};
 ghost use Rattle.qrcode_bits.specs.Contents.{content_bits, parsed_bytes};
-ghost use Rattle.qrcode_bits.specs.Places.{AreCutPlaces, IsCutPlace};
+ghost use Rattle.qrcode_bits.specs.Places.{AreCutPlaces, IsCutPlace, IsUnitEnd};
 ghost use Rattle.qrcode_bits.specs.Plans.{normal, FitsNone};
 ghost use Rattle.qrcode_bits.specs.declared.bits.front.Content.TheVariants.{Bytes, Text, Elements};
 ghost use Rattle.qrcode_core.specs.BestCuts.{AreBestCuts, IsCutsRefusal, IsPartTooLong};
 ghost use Rattle.qrcode_core.specs.Sequence.{IsSomePartTooLong};
+ghost use Rattle.qrcode_base.specs.declared.symbols.TheConstants.{LONGEST_DATA};
 
 use qrcode_base::symbols::{LONGEST_DATA, is_normal_number};
 use qrcode_base::types::{EcLevel, QrError, QrResult};
-use qrcode_bits::bits::{Content, Front, SequenceHeader, cut_places, fits_front};
+use qrcode_bits::bits::{Content, Front, SequenceHeader, cut_places, fits_front, fitting_range};
 use std::alloc::Global;
 
 /// The most symbols of a sequence.
@@ -131,8 +132,11 @@ fn last_fitting(
         (slice_index_or places.now first 0) (slice_index_or places.now later 0)) }
     ensures memory { IfErr result (λ e. e ≡ QrError.OutOfMemory) }
 {
-    let mut fitting = first;
-    let mut past = places.len();
+    let end = first_from(places, first, LONGEST_DATA + 1) - 1;
+    let window = &bytes[places[first]..places[end]];
+    let (sure, unsure) = part_range(alloc, content, window, level, max_version)?;
+    let mut fitting = (first_from(places, first, sure + 1) - 1).min(end);
+    let mut past = first_from(places, first, unsure).min(end + 1);
     while past - fitting > 1 {
         let middle = fitting + (past - fitting) / 2;
         let part = &bytes[places[first]..places[middle]];
@@ -143,6 +147,59 @@ fn last_fitting(
         }
     }
     Ok(fitting)
+}
+
+/// Returns the index of the first place, from the one at index `first` on, that is at least `size`
+/// bytes after it, or the number of places.
+fn first_from(places: &[usize], first: usize, size: usize) -> usize
+    requires exists { first < length places.now }
+    requires order { (i j : ℕ) → i ≤ j → j < length places.now →
+        slice_index_or places.now i 0 ≤ slice_index_or places.now j 0 }
+    ensures from { first ≤ result }
+    ensures within { result ≤ length places.now }
+    ensures before { (i : ℕ) → first ≤ i → i < result →
+        slice_index_or places.now i 0 < slice_index_or places.now first 0 + size }
+    ensures after { (i : ℕ) → result ≤ i → i < length places.now →
+        slice_index_or places.now first 0 + size ≤ slice_index_or places.now i 0 }
+{
+    let mut low = first;
+    let mut high = places.len();
+    while low < high {
+        let middle = low + (high - low) / 2;
+        if places[middle] - places[first] < size {
+            low = middle + 1;
+        } else {
+            high = middle;
+        }
+    }
+    low
+}
+
+/// Returns two numbers of bytes, of the first part of a message: up to the first it fits some
+/// version, after a header, and from the second on it does not.
+fn part_range(
+    alloc: Global,
+    content: Content,
+    window: &[u8],
+    level: EcLevel,
+    max_version: i16,
+) -> QrResult<(usize, usize)>
+    requires limit { IsNormalNumber max_version }
+    requires short { length window.now ≤ LONGEST_DATA }
+    ensures less { IfOk result (λ range. range.0 < range.1) }
+    ensures fits { IfOk result (λ range. (place : ℕ) →
+        IsUnitEnd (parsed_bytes content window.now) place → place ≤ range.0 →
+        FitsNone normal (20 + length (content_bits content))
+        (take place (parsed_bytes content window.now)) level (nat_abs max_version) → ⊥) }
+    ensures too_long { IfOk result (λ range. (place : ℕ) →
+        IsUnitEnd (parsed_bytes content window.now) place → range.1 ≤ place →
+        FitsNone normal (20 + length (content_bits content))
+        (take place (parsed_bytes content window.now)) level (nat_abs max_version)) }
+    ensures memory { IfErr result (λ e. e ≡ QrError.OutOfMemory) }
+{
+    // Which symbol it is of how many changes no bits' number.
+    let front = Front::with_header(SequenceHeader::new(1, 2, 0), content);
+    fitting_range(alloc, &front, window, level, max_version)
 }
 
 /// Returns whether a part fits some version, after a header.
