@@ -7,10 +7,13 @@
 //! tries them, `chosen_plan` decides whether the plan fits, and `encode_plan` pushes the front, the
 //! plan and the terminator.
 
-ghost use Rattle.std.specs.Prelude.{◌≡◌, ◌+◌, ◌-◌, ◌≤◌, length, Some, None, IfOk, IfErr, IfSome, IfNone};
+ghost use Rattle.std.specs.Prelude.{◌≡◌, ℕ, ◌+◌, ◌-◌, ◌^◌, ◌<◌, ◌≤◌, length, Some, None};
+ghost use Rattle.std.specs.Prelude.{IfOk, IfErr, IfSome, IfNone};
+ghost use Rattle.std.specs.Bool.{OnTrue};
 ghost use Rattle.qrcode_base.specs.declared.types.Mode.{Mode};
+ghost use Rattle.qrcode_base.specs.declared.types.Mode.TheVariants.{Numeric, Alphanumeric, Byte, Kanji};
 ghost use Rattle.qrcode_base.specs.Modes.{indicator_width, count_width};
-ghost use Rattle.qrcode_base.specs.Symbols.{HasMicroNumber};
+ghost use Rattle.qrcode_base.specs.Symbols.{HasMicroNumber, capacity};
 ghost use Rattle.qrcode_bits.specs.Parsing.{parsed};
 ghost use Rattle.qrcode_bits.specs.Plans.{IsChosenPlan, Fits, FitsNot, normal, normal_from};
 ghost use Rattle.qrcode_bits.specs.Plans.{IsMinVersion, IsMinVersionFrom};
@@ -163,6 +166,44 @@ fn encode_up_to(
     Err(QrError::DataTooLong)
 }
 
+/// Returns six times the bits of a byte in a mode, rounded down; pairs do not count.
+fn sixths(mode: Mode) -> usize
+    ensures { result ≡ elim mode [ Numeric ↦ 20 | Alphanumeric ↦ 33 | Byte ↦ 48 | Kanji ↦ 0 ] }
+{
+    match mode {
+        Mode::Numeric => 20,
+        Mode::Alphanumeric => 33,
+        Mode::Byte => 48,
+        Mode::Kanji => 0,
+    }
+}
+
+/// Returns whether some bytes are plainly too many for the capacity of a version, so that no plan
+/// need be sought: no mode takes fewer than ten bits for three bytes, and no plan takes fewer bits
+/// for a byte than the mode of its segment does.
+fn is_too_heavy(
+    bytes: &[u8],
+    segments: &[Segment],
+    version: Version,
+    level: EcLevel,
+    limit: usize,
+) -> bool
+    requires segments { segments.now ≡ parsed bytes.now }
+    requires short { length bytes.now ≤ LONGEST_DATA }
+    requires limit { capacity version level ≡ Some limit }
+    requires small { limit < 2 ^ 32 }
+    ensures { OnTrue result ((front : ℕ) → FitsNot front bytes.now version level) }
+{
+    if bytes.len() / 3 * 10 > limit {
+        return true;
+    }
+    let mut sum = 0;
+    for s in segments {
+        sum += sixths(s.mode) * (s.end - s.begin);
+    }
+    sum > 6 * limit
+}
+
 /// Returns the chosen plan of some bytes in a version, with its number of bits including the
 /// `front` bits before it, or `None` if no plan fits the version at the level.
 #[tactic(auto, using(crate::proofs::Classes::small_plans))]
@@ -191,8 +232,7 @@ pub(super) fn chosen_plan(
     let Ok(limit) = data_capacity_bits(version, level) else {
         return Ok(None);
     };
-    // No mode takes fewer than ten bits for three bytes.
-    if bytes.len() / 3 * 10 > limit {
+    if is_too_heavy(bytes, segments, version, level, limit) {
         return Ok(None);
     }
     let plan = if segments.len() < 2 {

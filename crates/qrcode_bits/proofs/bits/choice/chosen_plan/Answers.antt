@@ -1,7 +1,7 @@
 -- The chosen plan decides whether some plan fits.
 use Rattle.qrcode_bits.proofs.Prelude.{List, sym, subst, arith, Segment, capacity, IsChosenPlan, cases_lt, common_steps, parsed}
 use Rattle.qrcode_bits.specs.Optimizer.{IsShort}
-use Rattle.qrcode_bits.proofs.{Adjoining.parsed-short, Pairs.bytes_valid, CuttingPlans.chosen-planned, Lengths.dense_message, ReadBack.short-chosen}
+use Rattle.qrcode_bits.proofs.{Adjoining.parsed-short, Pairs.bytes_valid, CuttingPlans.chosen-planned, ReadBack.short-chosen}
 use Rattle.qrcode_bits.proofs.Classes.{known_limit, short-linear, plan_ordered, plan_small, counted_all, counted_more, chosen_fits_here, lacks_mode}
 use Rattle.qrcode_bits.proofs.Classes.{lacks_number, too_many, modes_all, modes_lack}
 use Rattle.qrcode_bits.proofs.bits.choice.chosen_plan.Goals as goal
@@ -13,11 +13,11 @@ pub optimize_uncounted-requires-clause-short : goal.optimize_uncounted-requires-
 optimize_uncounted-requires-clause-short c =
     subst (λ (s : List Segment). IsShort s) (sym c.requires.segments) (parsed-short c.args.bytes.now c.requires.short)
 
-pub returns-then-bytes-limit-clause-none : goal.returns-then-bytes-limit-clause-none
-returns-then-bytes-limit-clause-none c =
-    let are = bytes_valid c.args.bytes.now (λ i. omega (arith, c.type_inv.bytes i)) in
-    let known = known_limit (capacity c.args.version c.args.level) c.in-Ok.limit _ c.in-Ok.ensures.is in
-    dense_message _ _ _ _ _ are known c.if-bytes-limit.true
+pub is_too_heavy-requires-clause-limit : goal.is_too_heavy-requires-clause-limit
+is_too_heavy-requires-clause-limit c = known_limit (capacity c.args.version c.args.level) c.in-Ok.limit _ c.in-Ok.ensures.is
+
+pub returns-then-is_too_heavy-clause-none : goal.returns-then-is_too_heavy-clause-none
+returns-then-is_too_heavy-clause-none c = c.if-is_too_heavy.ensures c.args.front
 
 pub loop-part-init : goal.loop-part-init
 loop-part-init c =
