@@ -1,5 +1,6 @@
 //! Tests of single symbols of a sequence, with rows of expected values.
 
+use qrcode_base::symbols::is_normal_number;
 use qrcode_base::types::{EcLevel, QrError, QrResult, Version};
 use qrcode_bits::bits::{
     Bits, Content, Front, SequenceHeader, encode_part, fits_front, fitting_range,
@@ -120,6 +121,7 @@ fn parts_fit_where_they_have_bits(rt: HostRuntime) -> QrResult<()> {
     for (count, _, _) in &LETTERS {
         let letters = vec![in rt.alloc(); b'a'; *count]?;
         for limit in 1..41_i16 {
+            assert!(rt; is_normal_number(limit));
             let fits = fits_front(rt.alloc(), &front, &letters, L, limit)?;
             assert!(rt; fits == taken(rt.alloc(), &letters, limit).is_ok());
         }
@@ -135,6 +137,7 @@ static SENTENCE: &[u8] =
 fn first_bytes_that_fit(rt: HostRuntime) -> QrResult<()> {
     let front = Front::with_header(SequenceHeader::new(1, 2, 0x61), Content::Bytes);
     for limit in 1..13_i16 {
+        assert!(rt; is_normal_number(limit));
         let (sure, past) = fitting_range(rt.alloc(), &front, SENTENCE, L, limit)?;
         assert!(rt; past > SENTENCE.len() || past - sure <= 17);
         for count in 0..SENTENCE.len() + 1 {

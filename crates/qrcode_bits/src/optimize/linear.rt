@@ -161,6 +161,7 @@ fn move_group<S: AnyStart, L: Ledger>(
 }
 
 /// Moves the starts of all groups. Those of Byte stay.
+#[inline(always)]
 pub(super) fn advance<S: AnyStart, L: Ledger>(
     groups: &mut [S],
     incoming: Mode,
@@ -208,6 +209,7 @@ fn add_to_bucket<S: AnyStart, L: Ledger>(
 }
 
 /// Adds a start to the buckets of its segment's group, one per final mode.
+#[inline(always)]
 pub(super) fn add_start<S: AnyStart, L: Ledger>(
     groups: &mut [S],
     group: Mode,
@@ -254,6 +256,7 @@ fn part_len(headers: &[usize], mode: Mode, size: usize) -> u128
 
 /// Returns the best start of the last part of the first `end` segments, by comparing the best
 /// starts of all buckets.
+#[inline(always)]
 pub(super) fn last_step<S: AnyStart, L: Ledger>(
     segments: &[Segment],
     headers: &[usize],
