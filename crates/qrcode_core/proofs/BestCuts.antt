@@ -14,11 +14,13 @@ use Rattle.qrcode_bits.specs.Plans.{FitsNone}
 use Rattle.qrcode_bits.specs.declared.bits.front.Content.{Content}
 use Rattle.qrcode_bits.specs.declared.bits.front.Content.TheVariants.{Bytes, Text, Elements}
 use Rattle.qrcode_bits.proofs.Cutting.{within_content, start_place, end_place, place_within, place_between}
-use Rattle.qrcode_core.proofs.Prelude.{◌*◌, Header}
+use Rattle.qrcode_core.proofs.Prelude.{◌*◌, Header, ℤ, nat_abs, capacity, Version, Normal}
+use Rattle.qrcode_base.specs.Symbols.{IsNormalNumber}
+use Rattle.std.specs.Prelude.{◌/◌, min}
 use Rattle.qrcode_core.proofs.Prelude.{common_steps}
 use Rattle.std.proofs.Common.{Some}
 use Rattle.qrcode_bits.specs.Frame.{Front, front_of, front_bits}
-use Rattle.qrcode_bits.proofs.{Lengths.long_message, Texts.length-slice, Contents.length-parsed, Contents.parsed-bytes}
+use Rattle.qrcode_bits.proofs.{Lengths.dense_message, Lengths.long_message, Choices.capacity-grows, Texts.length-slice, Contents.length-parsed, Contents.parsed-bytes}
 use Rattle.qrcode_core.proofs.NoneBetter.{front-long}
 use Rattle.qrcode_core.specs.BestCuts.{IsPartTooLong, AreFittingCuts, AreBestCuts}
 
@@ -222,7 +224,7 @@ module _ (f : Front) (h : Header) (c : Content) (part : List ℕ) (level : EcLev
 -- ---- A message that is too long for any cuts
 
 module _ (c : Content) (message : List ℕ) (level : EcLevel) (limit : ℕ) (last : limit ≤ 40) (are : All (λ b. b < 256) message) where
-  pub long_part : (p q : ℕ) → p ≤ q → q ≤ length message → p + 7089 < q → IsPartTooLong c message level limit p q
+  long_part : (p q : ℕ) → p ≤ q → q ≤ length message → p + 7089 < q → IsPartTooLong c message level limit p q
   long_part p q h k more =
       long_message (20 + length (content_bits c)) (parsed_bytes c (slice_range message p q)) level limit last
       (parsed-bytes c (slice_range message p q) (All-take (λ b. b < 256) (q - p) (drop p message) (All-drop (λ b. b < 256) p message are)))
@@ -247,6 +249,24 @@ module _ (c : Content) (message : List ℕ) (level : EcLevel) (limit : ℕ) (las
 
 -- ---- Where the search begins
 
+pub is_normal : (z : ℤ) → IsNormalNumber z → ◌≡◌ {A = Version} (Normal z) (normal (nat_abs z))
+is_normal z h = grind arith
+
+-- No mode takes fewer than ten bits for three bytes.
+pub dense_none : (level : EcLevel) (limit d : ℕ) → limit ≤ 40 → capacity (normal limit) level ≡ Some d → (front : ℕ) (bytes : List ℕ) → All (λ b. b < 256) bytes →
+    (d / 10 + 1) * 3 ≤ length bytes → FitsNone normal front bytes level limit
+dense_none level limit d last known front bytes are long n few plan w =
+    let grows = capacity-grows level n limit w.limit d few w.has_level known in
+    dense_message front bytes (normal n) level w.limit are w.has_level (omega (arith, grows, long)) plan w
+
+pub far_none : (level : EcLevel) (limit size : ℕ) → limit ≤ 40 → ((front : ℕ) (bytes : List ℕ) → All (λ b. b < 256) bytes → size ≤ length bytes →
+    FitsNone normal front bytes level limit) → (front : ℕ) (bytes : List ℕ) → All (λ b. b < 256) bytes → min size 7090 ≤ length bytes →
+    FitsNone normal front bytes level limit
+far_none level limit size last far front bytes are long = elim (cases_lt 7089 (length bytes)) [
+  | inl more ↦ long_message front bytes level limit last are more
+  | inr few ↦ far front bytes are (omega (arith, long, few))
+]
+
 -- what is some bytes after a place comes after it
 pub past_first : (first index p size : ℕ) → 1 ≤ size → (index ≤ first → p + size ≤ p) → first < index
 past_first first index p size some far = elim (cases_lt first index) [ inl less ↦ less | inr past ↦ (let w = far past in omega (arith, w, some)) ]
@@ -260,10 +280,11 @@ pub record IsWindow (c : Content) (window : List ℕ) (level : EcLevel) (limit s
   pub too_long : (q : ℕ) → IsUnitEnd (parsed_bytes c window) q → unsure ≤ q →
       FitsNone normal (20 + length (content_bits c)) (take q (parsed_bytes c window)) level limit
 
-module _ (c : Content) (message : List ℕ) (level : EcLevel) (limit : ℕ) (last : limit ≤ 40) (valid : All (λ b. b < 256) message) (places : List ℕ)
+module _ (c : Content) (message : List ℕ) (level : EcLevel) (limit : ℕ) (valid : All (λ b. b < 256) message) (places : List ℕ)
     (are : AreCutPlaces c message places) (first end sure unsure : ℕ) (inside : end < length places)
     (known : IsWindow c (slice_range message (slice_index_or places first 0) (slice_index_or places end 0)) level limit sure unsure)
-    (longer : (i : ℕ) → end < i → i < length places → slice_index_or places first 0 + 7089 < slice_index_or places i 0) where
+    (size : ℕ) (longer : (i : ℕ) → end < i → i < length places → slice_index_or places first 0 + size ≤ slice_index_or places i 0)
+    (far : (front : ℕ) (bytes : List ℕ) → All (λ b. b < 256) bytes → size ≤ length bytes → FitsNone normal front bytes level limit) where
   abbrev at : ℕ → ℕ
   at i = slice_index_or places i 0
 
@@ -292,8 +313,13 @@ module _ (c : Content) (message : List ℕ) (level : EcLevel) (limit : ℕ) (las
         known.fits (at fitting - at first) w.0 (omega (arith, sure_is))
         (subst (λ z. FitsNone normal (20 + length (content_bits c)) z level limit) (sym w.1) long));
     too_long = λ i h k. elim (cases_lt end i) [
-      | inl beyond ↦ long_part c message level limit last valid (at first) (at i)
-          (places_order c message places are first i (omega (arith, from, less, h)) k) (place_inside c message places are i k) (longer i beyond k)
+      | inl beyond ↦ (let p = places_order c message places are first i (omega (arith, from, less, h)) k in
+          let q = place_inside c message places are i k in
+          let long = length-slice message (at first) (at i) p q in
+          far (20 + length (content_bits c)) (parsed_bytes c (slice_range message (at first) (at i)))
+          (parsed-bytes c (slice_range message (at first) (at i)) (All-take (λ b. b < 256) (at i - at first) (drop (at first) message)
+          (All-drop (λ b. b < 256) (at first) message valid)))
+          (omega (arith, length-parsed c (slice_range message (at first) (at i)), long, longer i beyond k)))
       | inr within ↦ (let w = in_window i (omega (arith, from, less, h)) within in
           let far = unsure_is i h within in
           subst (λ z. FitsNone normal (20 + length (content_bits c)) z level limit) w.1 (known.too_long (at i - at first) w.0 (omega (arith, far))))

@@ -5,7 +5,8 @@
 //! 2. List the places at which the message may be cut (`cut_places`).
 //! 3. Make each part the longest one that fits (`last_fitting`). A part that lies within one that
 //!    fits, fits too, so that no other cuts make fewer parts.
-ghost use Rattle.std.specs.Prelude.{◌≡◌, ◌≢◌, ◌+◌, ◌<◌, ◌≤◌, ℕ, length, nat_abs, slice_index_or, take, All};
+ghost use Rattle.std.specs.Prelude.{◌≡◌, ◌≢◌, ◌+◌, ◌<◌, ◌≤◌, ℕ, length, nat_abs};
+ghost use Rattle.std.specs.Prelude.{slice_index_or, take, All, List};
 ghost use Rattle.std.specs.Prelude.{true, false, IfOk, IfErr, OnOk};
 ghost use Rattle.std.specs.List.Sorted.{IsNonDecreasing};
 ghost use Rattle.qrcode_base.specs.Symbols.{IsNormalNumber};
@@ -18,8 +19,10 @@ ghost use Rattle.qrcode_core.specs.Sequence.{IsSomePartTooLong};
 ghost use Rattle.qrcode_base.specs.declared.symbols.TheConstants.{LONGEST_DATA};
 
 use qrcode_base::symbols::{LONGEST_DATA, is_normal_number};
-use qrcode_base::types::{EcLevel, QrError, QrResult};
-use qrcode_bits::bits::{Content, Front, SequenceHeader, cut_places, fits_front, fitting_range};
+use qrcode_base::types::{EcLevel, QrError, QrResult, Version};
+use qrcode_bits::bits::{
+    Content, Front, SequenceHeader, cut_places, data_capacity_bits, fits_front, fitting_range,
+};
 use std::alloc::Global;
 
 /// The most symbols of a sequence.
@@ -132,7 +135,7 @@ fn last_fitting(
         (slice_index_or places.now first 0) (slice_index_or places.now later 0)) }
     ensures memory { IfErr result (λ e. e ≡ QrError.OutOfMemory) }
 {
-    let end = first_from(places, first, LONGEST_DATA + 1) - 1;
+    let end = first_from(places, first, first_too_long(level, max_version)) - 1;
     let window = &bytes[places[first]..places[end]];
     let (sure, unsure) = part_range(alloc, content, window, level, max_version)?;
     let mut fitting = (first_from(places, first, sure + 1) - 1).min(end);
@@ -147,6 +150,21 @@ fn last_fitting(
         }
     }
     Ok(fitting)
+}
+
+/// Returns a number of bytes from which on data fit no version up to a greatest one, since no mode
+/// takes fewer than ten bits for three bytes.
+fn first_too_long(level: EcLevel, max_version: i16) -> usize
+    requires limit { IsNormalNumber max_version }
+    ensures some { 1 ≤ result }
+    ensures most { result ≤ LONGEST_DATA + 1 }
+    ensures too_long { (front : ℕ) → (message : List ℕ) → All (λ byte. byte < 256) message →
+        result ≤ length message → FitsNone normal front message level (nat_abs max_version) }
+{
+    match data_capacity_bits(Version::Normal(max_version), level) {
+        Ok(limit) => ((limit / 10 + 1) * 3).min(LONGEST_DATA + 1),
+        Err(_) => LONGEST_DATA + 1,
+    }
 }
 
 /// Returns the index of the first place, from the one at index `first` on, that is at least `size`

@@ -10,7 +10,7 @@ first_from-end-requires-clause-order c = places_order c.args.content c.args.byte
 
 pub slice_bounds-window-count : goal.slice_bounds-window-count
 slice_bounds-window-count c =
-    let some = past_first _ _ _ _ (omega arith) (λ h. c.first_from-end.ensures.after c.args.first h c.requires.exists) in
+    let some = past_first _ _ _ _ c.first_too_long.ensures.some (λ h. c.first_from-end.ensures.after c.args.first h c.requires.exists) in
     places_order c.args.content c.args.bytes.now c.args.places.now c.requires.places c.args.first (c.first_from-end.result - 1) (omega (arith, some))
     (omega (arith, some, c.first_from-end.ensures.within))
 
@@ -26,11 +26,10 @@ first_from-requires-2-clause-order c = places_order c.args.content c.args.bytes.
 pub loop-past-init : goal.loop-past-init
 loop-past-init c =
     let same = to_z-of_z w16 c.args.max_version c.ranges.max_version in
-    let last : nat_abs c.args.max_version ≤ 40 = grind (arith, c.requires.limit) in
     let valid = bytes_valid c.args.bytes.now (λ i. omega (arith, c.type_inv.bytes i)) in
     let range = rw same at c.in_ok-sure.ensures in
     let end : ℕ = c.first_from-end.result - 1 in
-    let some = past_first _ _ _ _ (omega arith) (λ h. c.first_from-end.ensures.after c.args.first h c.requires.exists) in
+    let some = past_first _ _ _ _ c.first_too_long.ensures.some (λ h. c.first_from-end.ensures.after c.args.first h c.requires.exists) in
     let one = past_first _ _ _ _ (omega arith) (λ h. c.first_from.ensures.after c.args.first h c.requires.exists) in
     let from : c.args.first ≤ c.min-fitting.result = omega (arith, c.min-fitting.ensures, some, one) in
     let up_to : c.min-fitting.result ≤ end = omega (arith, c.min-fitting.ensures) in
@@ -42,9 +41,9 @@ loop-past-init c =
           omega (arith, near, far, range.less))
     ] in
     rw same
-    (window_sought c.args.content c.args.bytes.now c.args.level (nat_abs c.args.max_version) last valid c.args.places.now c.requires.places c.args.first end
+    (window_sought c.args.content c.args.bytes.now c.args.level (nat_abs c.args.max_version) valid c.args.places.now c.requires.places c.args.first end
     c.in_ok-sure.sure c.in_ok-sure.unsure inside (record { less = range.less; fits = range.fits; too_long = range.too_long })
-    (λ i more k. (let far = c.first_from-end.ensures.after i (omega (arith, more)) k in omega (arith, far)))
+    c.first_too_long.result (λ i more k. c.first_from-end.ensures.after i (omega (arith, more)) k) (rw same at c.first_too_long.ensures.too_long)
     c.min-fitting.result c.min-past.result from up_to less (omega (arith, c.min-past.ensures)) (omega (arith, near))
     (λ i h k. c.first_from-2.ensures.after i (omega (arith, c.min-past.ensures, h, k)) (omega (arith, k, inside))))
 
