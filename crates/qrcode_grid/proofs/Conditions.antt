@@ -6,7 +6,7 @@ use Rattle.qrcode_grid.proofs.Prelude.{bit_at-zero, true, false, nat_tests, bit_
 use Rattle.qrcode_grid.proofs.Prelude.{drawn_over, format_color, masked, masked_cell, masked_cells, format_word, normal_number, family, add-mul, mul-add}
 use Rattle.qrcode_grid.proofs.Prelude.{mul_assoc, mul_comm, MaskPattern, common_steps, same_number_lists, get_or-map, length-map, take_at, take_more, Color}
 use Rattle.qrcode_grid.proofs.Prelude.{Version, color_of_module, Drawing, with_mask, mask_penalties, colors_of, byte_of, penalty, EcLevel, width_of}
-use Rattle.qrcode_grid.proofs.Prelude.{slice_get-map, slice_get_within, get_or_from_slice_get, bit_and, bit_xor, IsOfFamily}
+use Rattle.qrcode_grid.proofs.Prelude.{slice_get-map, slice_get_within, get_or_from_slice_get, bit_and, bit_xor, IsOfFamily, set}
 use Rattle.qrcode_grid.{specs.declared.canvas.MaskPattern.TheVariants.Checkerboard, specs.declared.canvas.masks.TheConstants.CONDITIONS}
 use Rattle.qrcode_grid.{proofs.FieldLaws.passes_below, proofs.FieldLaws.passes_below-at, proofs.MarkedLanes.eqb_true, proofs.WrittenWords.length-enumerated}
 use Rattle.qrcode_grid.{proofs.WrittenWords.get_or-enumerated}
@@ -36,6 +36,13 @@ bit_masked dark free conditions code m h d e = grind (arith, common_steps, bit_a
 pub spread_bit : (bit : Bool) (byte m : ℕ) → m < 8 → byte ≡ cond bit 255 0 → bit_at byte m ≡ cond bit 1 0
 spread_bit true byte m h is = ap (λ b. bit_at b m) is ∙ bit_at_ones 8 m h
 spread_bit false byte m h is = ap (λ b. bit_at b m) is ∙ bit_at-zero m
+
+-- the byte of a module under eight masks
+pub cell_masked : (cell : Module) (dark free conditions m : ℕ) → m < 8 → dark ≡ cond (code_of cell % 2 == 1) 255 0 →
+    free ≡ cond (code_of cell / 2 == 1) 255 0 → bit_at (bit_xor dark (bit_and free conditions)) m ≡ masked_code (code_of cell) (bit_at conditions m == 1)
+cell_masked cell dark free conditions m h d f =
+    let small : code_of cell < 4 = grind (arith) in
+    bit_masked dark free conditions (code_of cell) m small (spread_bit (code_of cell % 2 == 1) dark m h d) (spread_bit (code_of cell / 2 == 1) free m h f)
 
 -- Each row of a mask pattern repeats after six cells.
 
@@ -116,6 +123,12 @@ same_colors xs ys e = sym (colors_again xs) ∙ ap (map color_of_byte) e ∙ col
 -- a list that was written whole
 pub written_whole : {X : Type 0} (new old : List X) (n : ℕ) → length new ≡ n → take n (new ++ drop (length new) old) ≡ new
 written_whole new old n e = take_at new (drop (length new) old) n e
+
+-- the modules of a canvas after the one that was lent is written into its place
+pub settled_modules : (read cells now items : List Module) (long lent : ℕ) (slot : Module) → read ≡ take long (cells ++ drop (length cells) items) →
+    length cells ≡ long → cells ≡ set now lent slot → now ≡ items → read ≡ set items lent slot
+settled_modules read cells now items long lent slot is whole written same =
+    is ∙ written_whole cells items long whole ∙ written ∙ ap (λ (l : List Module). set l lent slot) same
 
 -- The masks of a family: one at each of its places, with a penalty of its own.
 

@@ -1,7 +1,7 @@
 -- The masks of a version: which number each has, and that the numbers in Normal symbols rise.
-use Rattle.qrcode_grid.proofs.Prelude.{◌≡◌, ℕ, ℤ, ◌+◌, ◌<◌, ap, ◌∙◌, sym, refl, arith, List, length, map, get_or, slice_get, Some, option_map}
+use Rattle.qrcode_grid.proofs.Prelude.{◌≡◌, ℕ, ℤ, ◌+◌, ◌<◌, ap, ◌∙◌, refl, arith, List, length, map, get_or, slice_get, Some, option_map}
 use Rattle.qrcode_grid.proofs.Prelude.{Version, Normal, Micro, EcLevel, MaskPattern, family, IsOfFamily, normal_number, micro_number}
-use Rattle.qrcode_grid.proofs.Prelude.{format_word, slice_get-map, inl, inr, cases_lt}
+use Rattle.qrcode_grid.proofs.Prelude.{format_word, slice_get-map, cases_lt}
 use Rattle.qrcode_grid.specs.declared.canvas.MaskPattern.TheVariants.{HorizontalLines, LargeCheckerboard}
 use Rattle.qrcode_grid.specs.declared.canvas.MaskPattern.TheVariants.{Diamonds, Meadow}
 use Rattle.qrcode_base.proofs.Fields.{rises-at}

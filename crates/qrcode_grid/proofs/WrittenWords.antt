@@ -8,7 +8,7 @@ use Rattle.qrcode_grid.proofs.Prelude.{differing_digits, map_cells, map, common_
 use Rattle.qrcode_grid.proofs.Prelude.{format_color, level_number, normal_number, micro_number, symbol_number, same_lists, get_or_default, mod-mul-add}
 use Rattle.qrcode_grid.proofs.Prelude.{div-mul-add, mul-le-mul_right, to_z-of_z, slice_get-get_or, Drawing}
 use Rattle.qrcode_grid.{specs.Laws.IsFarFormatWord, specs.Laws.IsFarVersionWord, proofs.Distance.format_codes_differ, proofs.Distance.version_words_differ}
-use Rattle.qrcode_grid.{specs.Canvas.place}
+use Rattle.qrcode_grid.{specs.Canvas.place, specs.Canvas.with_module, proofs.Prelude.Module}
 use Rattle.std.{proofs.Common.length-drop, proofs.Common.drop-cons, proofs.Common.w16, specs.List.enumerate_from}
 use mir.Val.{SFits, of_z, to_z}
 
@@ -133,6 +133,27 @@ place_passed d x y i fits_x fits_y e = e ∙ ap (λ u. place d u (to_z w16 (of_z
 -- an element that was read at a place
 pub slice_get_at : {X : Type 0} (xs : List X) (i k : ℕ) (x : X) → i ≡ k → i < length xs → x ≡ get_or xs i x → slice_get xs k ≡ Some x
 slice_get_at xs i k x e h r = ap (slice_get xs) (sym e) ∙ slice_get-get_or xs i x h ∙ ap Some (sym r)
+
+-- a module that is lent, and one that is not
+pub lent_here : {X : Type 0} (xs cells : List X) (i k lent : ℕ) (slot : X) → xs ≡ set cells lent slot → i ≡ k → i < length xs → i ≡ lent →
+    slice_get xs k ≡ Some slot
+lent_here {X = X} xs cells i k lent slot is at within same =
+    slice_get_at xs i k slot at within (sym (ap (λ (l : List X). get_or l i slot) is ∙ ap (λ j. get_or (set cells lent slot) j slot) same
+    ∙ get_or-set_same cells lent slot slot (omega (arith, within, ap length is, length-set cells lent slot, same))))
+
+pub lent_elsewhere : {X : Type 0} (xs cells : List X) (i k lent : ℕ) (slot x : X) → xs ≡ set cells lent slot → i ≡ k → i < length xs → i ≢ lent →
+    x ≡ get_or cells i x → slice_get xs k ≡ Some x
+lent_elsewhere {X = X} xs cells i k lent slot x is at within other read =
+    slice_get_at xs i k x at within (read ∙ sym (ap (λ (l : List X). get_or l i x) is ∙ get_or-set_other cells lent i slot x other))
+
+-- a drawing whose module at k is lent
+pub with_slot : (d : Drawing) (version : Version) (level : EcLevel) (old now : List Module) (i k : ℕ) (slot : Module) →
+    (record { version = version; level = level; modules = old }) ≡ d → now ≡ old → i ≡ k →
+    (record { version = version; level = level; modules = set now i slot }) ≡ with_module d k slot
+with_slot d version level old now i k slot is same at =
+    ap (λ (l : List Module). record { version = version; level = level; modules = set l i slot }) same
+    ∙ ap (λ j. record { version = version; level = level; modules = set old j slot }) at
+    ∙ ap (λ (e : Drawing). with_module e k slot) is
 
 -- the places of the second copy of the format word lie within the grid
 pub second_within : (w : ℕ) → 9 ≤ w → All (λ (place : ℕ × ℕ). (place.0 < w) × (place.1 < w)) (format_second w)

@@ -6,6 +6,7 @@ ghost use Rattle.qrcode_grid.specs.Canvas.{CarriesCodewords};
 ghost use Rattle.qrcode_grid.specs.Masks.{family, IsOfFamily};
 ghost use Rattle.qrcode_grid.specs.Penalty.{score, IsFirstLeast, IsFirstLeastMask};
 
+use crate::canvas::cells::settle;
 use crate::canvas::filling::repeated;
 use crate::canvas::masks::{family_of, format_words, normal_number};
 use crate::canvas::scoring::{penalties_of, write_colors};
@@ -47,15 +48,17 @@ impl Canvas {
     /// of which only the used part is touched. Otherwise glibc would give memory back to the system
     /// after each symbol: it does so where more than 128 KB are free at the end of the heap, and
     /// keeps twice the size of the largest block so far.
-    fn candidates(&self, alloc: Global) -> QrResult<(Vec<u8>, Vec<usize>)>
-        ensures candidates { IfOk result (λ r. (p : MaskPattern) → IsOfFamily self.now.version p →
+    fn candidates(&mut self, alloc: Global) -> QrResult<(Vec<u8>, Vec<usize>)>
+        ensures candidates { IfOk result (λ r. (p : MaskPattern) → IsOfFamily self.old.version p →
             plane (normal_number p)
-            (take (width_of self.now.version * width_of self.now.version) r.0.items) ≡
-            map byte_of (colors_of (with_mask p self.now))) }
-        ensures penalties { IfOk result (λ r. r.1.items ≡ mask_penalties self.now) }
-        ensures long { IfOk result (λ r. length self.now.modules ≤ length r.0.items) }
+            (take (width_of self.old.version * width_of self.old.version) r.0.items) ≡
+            map byte_of (colors_of (with_mask p self.old))) }
+        ensures penalties { IfOk result (λ r. r.1.items ≡ mask_penalties self.old) }
+        ensures long { IfOk result (λ r. length self.old.modules ≤ length r.0.items) }
         ensures refusal { IfErr result (λ e. e ≡ QrError.OutOfMemory) }
+        ensures same { self.new ≡ self.old }
     {
+        self.lent = settle(&mut self.modules, self.lent, self.slot);
         let width = self.width;
         let length = width * width + 12 * width + 6 + 2 * ((width + 14) * (width + 4) + 256);
         let room = if length > 56_000 { 400_000 } else { 0 };
@@ -77,22 +80,24 @@ impl Canvas {
         ensures is { IfOk result (λ values. values.items ≡ mask_penalties self.now) }
         ensures refusal { IfErr result (λ e. e ≡ QrError.OutOfMemory) }
     {
-        let (_, values) = self.candidates(alloc)?;
+        let mut canvas = self.clone(alloc)?;
+        let (_, values) = canvas.candidates(alloc)?;
         Ok(values)
     }
 
     /// Returns the first mask of least penalty, that penalty, and a scratch list that begins with
     /// the masked candidates.
-    fn best(&self, alloc: Global) -> QrResult<(MaskPattern, usize, Vec<u8>)>
-        ensures best { IfOk result (λ r. IsBestMask self.now r.0) }
+    fn best(&mut self, alloc: Global) -> QrResult<(MaskPattern, usize, Vec<u8>)>
+        ensures best { IfOk result (λ r. IsBestMask self.old r.0) }
         ensures least { IfOk result (λ r.
-            r.1 ≡ penalty self.now.version (colors_of (with_mask r.0 self.now))) }
-        ensures family { IfOk result (λ r. IsOfFamily self.now.version r.0) }
+            r.1 ≡ penalty self.old.version (colors_of (with_mask r.0 self.old))) }
+        ensures family { IfOk result (λ r. IsOfFamily self.old.version r.0) }
         ensures candidate { IfOk result (λ r. plane (normal_number r.0)
-            (take (width_of self.now.version * width_of self.now.version) r.2.items) ≡
-            map byte_of (colors_of (with_mask r.0 self.now))) }
-        ensures long { IfOk result (λ r. length self.now.modules ≤ length r.2.items) }
+            (take (width_of self.old.version * width_of self.old.version) r.2.items) ≡
+            map byte_of (colors_of (with_mask r.0 self.old))) }
+        ensures long { IfOk result (λ r. length self.old.modules ≤ length r.2.items) }
         ensures refusal { IfErr result (λ e. e ≡ QrError.OutOfMemory) }
+        ensures same { self.new ≡ self.old }
     {
         let (scratch, values) = self.candidates(alloc)?;
         let mut best = 0;
@@ -116,8 +121,8 @@ impl Canvas {
             r.2 ≡ score self.now.version (penalty self.now.version (colors_of r.0))) }
         ensures refusal { IfErr result (λ e. e ≡ QrError.OutOfMemory) }
     {
-        let (pattern, penalty, _) = self.best(alloc)?;
         let mut canvas = self.clone(alloc)?;
+        let (pattern, penalty, _) = canvas.best(alloc)?;
         canvas.apply_mask(pattern);
         Ok((canvas, pattern, score_of(self.version, penalty)))
     }

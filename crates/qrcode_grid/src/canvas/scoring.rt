@@ -18,7 +18,7 @@ pub mod counting;
 mod lists;
 mod planes;
 
-use crate::canvas::Module;
+use crate::canvas::cells::Cell;
 use crate::canvas::masks::write_candidates;
 use crate::canvas::scoring::counting::{count, count_runs};
 use crate::canvas::scoring::lists::{Feature, write_edges, write_padded};
@@ -109,7 +109,7 @@ fn penalties_of_micro(width: usize, grid: &[u8]) -> [usize; 8]
 /// Returns the penalties of the modules under eight masks, each with its format word, by the
 /// numbers of the masks. The scratch list must be zeros. Afterwards it begins with the candidates.
 pub fn penalties_of(
-    modules: &[Module],
+    modules: &[Cell],
     version: Version,
     width: usize,
     words: &[u32; 8],

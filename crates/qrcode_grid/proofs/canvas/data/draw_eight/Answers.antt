@@ -1,21 +1,13 @@
-use Rattle.qrcode_grid.proofs.Prelude.{ℕ, ◌≡◌, ◌<◌, ◌+◌, ◌-◌, ◌*◌, ◌++◌, List, Bool, ap, ◌∙◌, subst, arith, number_bits, FilledBelow, ◌/◌, ◌%◌, ◌^◌, ◌==◌, zero}
-use Rattle.qrcode_grid.proofs.Prelude.{suc, [], get_or, set, refl, div-div-eq-div-mul, pow-add, Module, Empty, Unmasked, data_bit, bit_color}
-use Rattle.qrcode_grid.{specs.declared.canvas.data.TheConstants.ROWS, proofs.StreamPlaces.no_bits, proofs.FillSteps.row_placed}
+use Rattle.qrcode_grid.proofs.Prelude.{ℕ, ◌≡◌, ◌<◌, ◌+◌, ◌-◌, ◌*◌, ◌++◌, List, Bool, ap, ◌∙◌, subst, arith, number_bits, FilledBelow, ◌/◌, ◌%◌, ◌^◌, ◌==◌}
+use Rattle.qrcode_grid.proofs.Prelude.{set, div-div-eq-div-mul, pow-add, Module, Unmasked, data_bit, bit_color}
+use Rattle.qrcode_grid.{proofs.StreamPlaces.no_bits, proofs.FillSteps.row_placed}
 use Rattle.qrcode_grid.proofs.canvas.data.draw_eight.Goals as goal
 
-row_of : (q : ℕ) → q < 4 →
-    (get_or (get_or ROWS q []) 1 Empty ≡ Unmasked (bit_color (q / 2 == 1))) × (get_or (get_or ROWS q []) 0 Empty ≡ Unmasked (bit_color (q % 2 == 1)))
-row_of zero h = (refl, refl)
-row_of (suc zero) h = (refl, refl)
-row_of (suc (suc zero)) h = (refl, refl)
-row_of (suc (suc (suc zero))) h = (refl, refl)
-row_of (suc (suc (suc (suc q)))) h = absurd (omega (arith, h))
+right_bit : (word k : ℕ) → Unmasked (bit_color (word / 2 ^ k % 4 / 2 == 1)) ≡ data_bit word (k + 1)
+right_bit word k = grind (arith, word / 2 ^ k, div-div-eq-div-mul word (2 ^ k) 2, pow-add 2 k 1)
 
-right_bit : (word k : ℕ) → get_or (get_or ROWS (word / 2 ^ k % 4) []) 1 Empty ≡ data_bit word (k + 1)
-right_bit word k = grind (arith, word / 2 ^ k, div-div-eq-div-mul word (2 ^ k) 2, pow-add 2 k 1, (row_of ((word / 2 ^ k) % 4) (omega arith)).0)
-
-left_bit : (word k : ℕ) → get_or (get_or ROWS (word / 2 ^ k % 4) []) 0 Empty ≡ data_bit word k
-left_bit word k = grind (arith, word / 2 ^ k, (row_of ((word / 2 ^ k) % 4) (omega arith)).1)
+left_bit : (word k : ℕ) → Unmasked (bit_color (word / 2 ^ k % 4 % 2 == 1)) ≡ data_bit word k
+left_bit word k = grind (arith, word / 2 ^ k)
 
 pub loop-i-preserved : goal.loop-i-preserved
 loop-i-preserved c = λ after t pair is bits xs f.
@@ -32,11 +24,12 @@ loop-i-preserved c = λ after t pair is bits xs f.
     (c.loop-i.invariant after t pair is bits xs f)) in
     let ms = c.loop-i.modules in
     let here_at = c.left_place-here.result in
-    let q = c.args.eight / 2 ^ (6 - 2 * i) % 4 in
-    let zs = set (set ms (here_at + 1) (get_or (get_or ROWS q []) 1 Empty)) here_at (get_or (get_or ROWS q []) 0 Empty) in
+    let row = c.row-left.result in
+    let zs = set (set ms (here_at + 1) row.1) here_at row.0 in
     let new : zs ≡ set (set ms (here_at + 1) (data_bit c.args.eight (6 - 2 * i + 1))) here_at (data_bit c.args.eight (6 - 2 * i)) =
-    ap (λ (m : Module). set (set ms (here_at + 1) m) here_at (get_or (get_or ROWS q []) 0 Empty)) (right_bit c.args.eight (6 - 2 * i))
-    ∙ ap (λ (m : Module). set (set ms (here_at + 1) (data_bit c.args.eight (6 - 2 * i + 1))) here_at m) (left_bit c.args.eight (6 - 2 * i)) in
+    ap (λ (m : Module). set (set ms (here_at + 1) m) here_at row.0) (c.row-left.ensures.right ∙ right_bit c.args.eight (6 - 2 * i))
+    ∙ ap (λ (m : Module). set (set ms (here_at + 1) (data_bit c.args.eight (6 - 2 * i + 1))) here_at m)
+    (c.row-left.ensures.left ∙ left_bit c.args.eight (6 - 2 * i)) in
     let both = row_placed t pair c.args.first (c.args.first + i) c.args.columns bits xs c.args.modules.now c.loop-i.modules zs
     c.left_place-here.result (6 - 2 * i) c.args.eight
     (number_bits 8 c.args.eight ++ after) after is (c.loop-i.auto.modules ∙ c.requires.square) (omega arith)

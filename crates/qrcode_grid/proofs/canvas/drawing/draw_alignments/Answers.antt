@@ -48,8 +48,8 @@ in_pattern : (n w k at : ℕ) (xs centers : List ℕ) → w ≡ 4 * n + 17 → x
 in_pattern n w k at xs centers wide same inside h near =
     omega (arith, wide, near, ap (λ (ys : List ℕ). get_or ys k 0) same, (inside k 0 h).1)
 
-pub slice_copy_out-drawn : goal.slice_copy_out-drawn
-slice_copy_out-drawn c =
+pub bounds-modules-i-in-loop-x : goal.bounds-modules-i-in-loop-x
+bounds-modules-i-in-loop-x c =
     let n = c.args.n in let w = c.args.width in let centers = c.alignment_centers-centers in
     let column : c.loop-k.k < length centers.result.items = omega (arith, c.len-k-end.ensures.value, c.loop-k-test.true) in
     let row : c.loop-j.j < length centers.result.items = omega (arith, c.len-j-end.ensures.value, c.loop-j-test.true) in
@@ -83,12 +83,13 @@ loop-x-preserved c =
     let is_y = center_is n c.loop-j.j c.deref.result.now centers.result.items c.deref.ensures.0 centers.ensures.is counted_y in
     let near_x = near_center n c.loop-k.k x c.requires.number counted_x (omega (arith, is_x, c.loop-x-test.true, c.loop-x.auto.x)) in
     let near_y = near_center n c.loop-j.j y c.requires.number counted_y (omega (arith, is_y, c.loop-y-test.true, c.loop-y.auto.y)) in
-    cell_changed (λ x y m. drawn_over (alignments w (alignment_coordinates n) x y) m) w y x c.args.modules.now c.loop-x.modules _ Empty
+    cell_changed (λ x y m. drawn_over (alignments w (alignment_coordinates n) x y) m) w y x c.args.modules.now c.loop-x.modules _ c.index-modules-i.result
     (in_pattern n w c.loop-k.k x c.deref-in-loop-k.result.now centers.result.items c.requires.wide c.deref-in-loop-k.ensures.0
     centers.ensures.inside column c.loop-x-test.true)
     (in_pattern n w c.loop-j.j y c.deref.result.now centers.result.items c.requires.wide c.deref.ensures.0
     centers.ensures.inside row c.loop-y-test.true) c.requires.square
-    (c.drawn.ensures ∙ ap (λ o. drawn_over o (get_or c.loop-x.modules (y * w + x) Empty)) (c.alignments_color-color.ensures
+    (c.drawn.ensures ∙ ap (drawn_over c.alignments_color-color.result) c.index-modules-i.is
+    ∙ ap (λ o. drawn_over o (get_or c.loop-x.modules (y * w + x) c.index-modules-i.result)) (c.alignments_color-color.ensures
     ∙ ap (λ o. alignment_at w o (Some (get_or c.deref.result.now c.loop-j.j 0)) x y) (ap Some is_x ∙ sym near_x)
     ∙ ap (λ o. alignment_at w (near cs x) o x y) (ap Some is_y ∙ sym near_y))) c.loop-x.invariant
 

@@ -1,4 +1,4 @@
-use Rattle.qrcode_grid.proofs.Prelude.{◌≡◌, ℕ, ◌-◌, max, Bool, true, false, Option, Some, None, [], ◌∷◌, refl, ◌∙◌, false≢true, abs_diff, Color, Light, Dark}
+use Rattle.qrcode_grid.proofs.Prelude.{◌≡◌, ℕ, max, Some, refl, ◌∙◌, abs_diff, Light}
 use Rattle.qrcode_grid.proofs.Prelude.{slice_get, zero, suc, get_or, ◌≤◌, ◌<◌, ◌+◌, ◌*◌, ap, sym, arith, drawn_over, finder, Empty}
 use Rattle.qrcode_grid.proofs.RegionRows.{far_before, far_behind, no_finder_column, no_finder_row}
 use Rattle.qrcode_grid.proofs.WrittenWords.{row_begins, cell_changed, row_ends, rows_between, rows_end}
@@ -34,7 +34,7 @@ loop-x-preserved c =
     let row : c.loop-y.y < c.args.width = omega (arith, c.loop-y-test.true, c.min-bottom.ensures) in
     cell_changed (λ x y m. drawn_over (finder c.args.center_x c.args.center_y x y) m) c.args.width c.loop-y.y c.loop-x.x
     c.args.modules.now c.loop-x.modules _ Empty
-    column row c.requires.square (sym (ap (λ o. drawn_over o (get_or c.loop-x.modules (c.loop-y.y * c.args.width + c.loop-x.x) Empty))
+    column row c.requires.square (c.masked.ensures ∙ sym (ap (λ o. drawn_over o (get_or c.loop-x.modules (c.loop-y.y * c.args.width + c.loop-x.x) Empty))
     (finder_at c.args.center_x c.args.center_y c.loop-x.x c.loop-y.y c.max-ring.result (omega arith) (omega arith)))) c.loop-x.invariant
 
 pub loop-y-preserved : goal.loop-y-preserved

@@ -1,4 +1,4 @@
-use Rattle.qrcode_grid.proofs.Prelude.{◌≡◌, ◌≢◌, ◌<◌, ◌+◌, ◌*◌, get_or, ap, arith, sym, Some, common_steps, drawn_over, timing, Empty}
+use Rattle.qrcode_grid.proofs.Prelude.{◌≡◌, ◌≢◌, ◌∙◌, ◌<◌, ◌+◌, ◌*◌, get_or, ap, arith, sym, Some, common_steps, drawn_over, timing, Empty}
 use Rattle.qrcode_grid.proofs.WrittenWords.{row_begins, cell_changed, row_ends, rows_begin, rows_between, rows_end}
 use Rattle.qrcode_grid.proofs.RegionRows.{no_timing_above, no_timing_below, no_timing_beside, no_timing_before, no_timing_behind}
 use Rattle.qrcode_grid.proofs.canvas.drawing.draw_timing.Goals as goal
@@ -20,7 +20,7 @@ loop-x-preserved c =
     let on : timing line from to c.loop-x.x line ≡ Some c.if-x-line-eq0.color = grind (arith, common_steps) in
     cell_changed (λ x y m. drawn_over (timing line from to x y) m) w line c.loop-x.x c.args.modules.now c.loop-x.modules _ Empty
     (omega (arith, c.loop-x-test.true, c.requires.lines)) (omega (arith, c.requires.lines)) c.requires.square
-    (ap (λ o. drawn_over o (get_or c.loop-x.modules (line * w + c.loop-x.x) Empty)) (sym on)) c.loop-x.invariant
+    (c.masked.ensures ∙ ap (λ o. drawn_over o (get_or c.loop-x.modules (line * w + c.loop-x.x) Empty)) (sym on)) c.loop-x.invariant
 
 pub loop-y-init : goal.loop-y-init
 loop-y-init c =
@@ -43,7 +43,7 @@ loop-y-preserved c =
     row_ends (λ x y m. drawn_over (timing line from to x y) m) w y (line + 1) c.args.modules.now _ (omega (arith, column))
     (λ x low l m. let beside : x ≢ line = omega (arith, low) in ap (λ o. drawn_over o m) (no_timing_beside line from to x y other beside))
     (cell_changed (λ x y m. drawn_over (timing line from to x y) m) w y line c.args.modules.now c.loop-y.modules _ Empty column row c.requires.square
-    (ap (λ o. drawn_over o (get_or c.loop-y.modules (y * w + line) Empty)) (sym on))
+    (c.masked-in-loop-y.ensures ∙ ap (λ o. drawn_over o (get_or c.loop-y.modules (y * w + line) Empty)) (sym on))
     (row_begins (λ x y m. drawn_over (timing line from to x y) m) w y line c.args.modules.now c.loop-y.modules (omega (arith, column))
     (λ x h m. let beside : x ≢ line = omega (arith, h) in ap (λ o. drawn_over o m) (no_timing_beside line from to x y other beside)) c.loop-y.invariant))
 

@@ -13,9 +13,10 @@ loop-x-init c =
 pub loop-x-preserved : goal.loop-x-preserved
 loop-x-preserved c =
     let n = c.args.n in let w = c.args.width in
-    cell_changed (λ x y m. drawn_over (version_copies n x y) m) w c.loop-y.y c.loop-x.x c.args.modules.now c.loop-x.modules _ Empty
+    cell_changed (λ x y m. drawn_over (version_copies n x y) m) w c.loop-y.y c.loop-x.x c.args.modules.now c.loop-x.modules _ c.index-modules-i.result
     (omega (arith, c.loop-x-test.true)) (omega (arith, c.loop-y-test.true, c.requires.wide)) c.requires.square
-    (c.drawn.ensures ∙ ap (λ o. drawn_over o (get_or c.loop-x.modules (c.loop-y.y * w + c.loop-x.x) Empty)) c.version_color.ensures) c.loop-x.invariant
+    (c.drawn.ensures ∙ ap (drawn_over c.version_color.result) c.index-modules-i.is
+    ∙ ap (λ o. drawn_over o (get_or c.loop-x.modules (c.loop-y.y * w + c.loop-x.x) c.index-modules-i.result)) c.version_color.ensures) c.loop-x.invariant
 
 pub loop-y-preserved : goal.loop-y-preserved
 loop-y-preserved c =
@@ -35,9 +36,11 @@ loop-row-init c =
 pub loop-column-preserved : goal.loop-column-preserved
 loop-column-preserved c =
     let n = c.args.n in let w = c.args.width in
-    cell_changed (λ x y m. drawn_over (version_copies n x y) m) w c.loop-row.row c.loop-column.column c.args.modules.now c.loop-column.modules _ Empty
+    cell_changed (λ x y m. drawn_over (version_copies n x y) m) w c.loop-row.row c.loop-column.column c.args.modules.now c.loop-column.modules _
+    c.index-modules-i-in-loop-column.result
     (omega (arith, c.loop-column-test.true, c.requires.wide)) (omega (arith, c.loop-row-test.true)) c.requires.square
-    (c.drawn-in-loop-column.ensures ∙ ap (λ o. drawn_over o (get_or c.loop-column.modules (c.loop-row.row * w + c.loop-column.column) Empty))
+    (c.drawn-in-loop-column.ensures ∙ ap (drawn_over c.version_color-in-loop-column.result) c.index-modules-i-in-loop-column.is
+    ∙ ap (λ o. drawn_over o (get_or c.loop-column.modules (c.loop-row.row * w + c.loop-column.column) c.index-modules-i-in-loop-column.result))
     c.version_color-in-loop-column.ensures) c.loop-column.invariant
 
 pub loop-row-preserved : goal.loop-row-preserved

@@ -8,7 +8,7 @@ pub loop-x-preserved : goal.loop-x-preserved
 loop-x-preserved c =
     let w = c.args.width in let x = c.loop-x.x in let y = c.loop-y.y in
     let i = y * w + x in
-    let old = get_or c.loop-x.modules i Empty in
+    let old = c.index-modules-i.result in
     let inside : i < length c.args.modules.now = omega (arith, c.requires.square, cell_within w x y c.loop-x-test.true c.loop-y-test.true) in
     let m = c.normal_number-m.result in
     let number : pattern_of m ≡ c.args.pattern = ap pattern_of c.normal_number-m.ensures.is ∙ pattern_of-number c.args.pattern in
@@ -17,7 +17,8 @@ loop-x-preserved c =
     ∙ ap (λ p. is_inverted p x (y % 12)) number ∙ sym (is_inverted-repeats_rows c.args.pattern x y) in
     let at = at_place (λ x y. masked (is_inverted c.args.pattern x y) old) w x y i c.loop-x-test.true (omega arith) in
     let next : i + 1 ≡ y * w + (x + 1) = omega arith in
-    let step = changed_set _ _ _ _ _ Empty inside (c.mask.ensures ∙ ap (λ b. masked b old) inverted ∙ at) c.loop-x.invariant in
+    let step = changed_set _ _ _ _ _ old inside (c.mask.ensures ∙ ap (λ b. masked b old) inverted ∙ at
+    ∙ ap (masked (is_inverted c.args.pattern (i % w) (i / w))) c.index-modules-i.is) c.loop-x.invariant in
     subst (λ (n : ℕ). ChangedBelow (λ i m. masked (is_inverted c.args.pattern (i % w) (i / w)) m) c.args.modules.now
     (set c.loop-x.modules i c.mask.result) n) next step
 
