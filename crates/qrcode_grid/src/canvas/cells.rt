@@ -1,6 +1,8 @@
 //! A module of a canvas in one byte. `Module` takes two bytes, and lanes cannot read every second
 //! byte of a list at once. Contracts see a cell as its module.
 ghost use Rattle.std.specs.Prelude.{◌≡◌, ◌==◌, ◌%◌, ◌/◌, ◌<◌, if◌then◌else◌, true, length, slice_set};
+ghost use Rattle.std.specs.Prelude.{map};
+ghost use Rattle.qrcode_grid.specs.Canvas.{color_of_module};
 ghost use Rattle.qrcode_grid.specs.Masks.{masked};
 ghost use Rattle.qrcode_grid.specs.Scoring.{code_of};
 ghost use Rattle.qrcode_grid.specs.Walk.{bit_color};
@@ -59,6 +61,7 @@ static ROWS: [[Kind; 2]; 4] = [
 
 impl Cell {
     ghost use Rattle.std.specs.Prelude.{◌≡◌, ◌==◌, ◌%◌, ◌/◌, ◌<◌, if◌then◌else◌, true};
+    ghost use Rattle.qrcode_grid.specs.Canvas.{color_of_module};
     ghost use Rattle.qrcode_grid.specs.Masks.{masked};
     ghost use Rattle.qrcode_grid.specs.Scoring.{code_of};
     ghost use Rattle.qrcode_grid.specs.Walk.{bit_color};
@@ -121,12 +124,32 @@ impl Cell {
         matches!(self.kind, Kind::Blank)
     }
 
-    /// Returns the cell after masking, as `Module::mask`.
+    /// Returns the colour of the module, as `Color::from`: a comparison in place of a choice for
+    /// each kind, so that lists are read in lanes.
+    #[inline(always)]
+    pub fn color(self) -> Color
+        ensures { result ≡ color_of_module self }
+    {
+        if self.kind == Kind::Black || self.kind == Kind::One {
+            Color::Dark
+        } else {
+            Color::Light
+        }
+    }
+
+    /// Returns the cell after masking, as `Module::mask`, by comparisons too.
     #[inline(always)]
     pub fn mask(self, inverted: bool) -> Cell
         ensures { result ≡ masked inverted self }
     {
-        Cell::of(self.shown().mask(inverted))
+        let data = self.kind != Kind::White && self.kind != Kind::Black;
+        let dark = self.kind == Kind::Black || self.kind == Kind::One;
+        let kind = if dark != (data & inverted) {
+            Kind::Black
+        } else {
+            Kind::White
+        };
+        Cell { kind }
     }
 
     /// Returns 255 if the module is dark, and else 0.
@@ -175,4 +198,14 @@ pub fn settle(cells: &mut [Cell], lent: usize, slot: Module) -> usize
         cells[lent] = Cell::of(slot);
     }
     cells.len()
+}
+
+/// Writes the colours of all modules.
+pub fn write_shown(cells: &[Cell], colors: &mut [Color])
+    requires long { length colors.old ≡ length cells.now }
+    ensures { colors.new ≡ map color_of_module cells.now }
+{
+    for k in 0..cells.len() {
+        colors[k] = cells[k].color();
+    }
 }
