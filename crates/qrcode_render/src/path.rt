@@ -17,7 +17,6 @@ pub(crate) fn push_path(text: &mut String, picture: &Picture, pen: Pen) -> Resul
     ensures { OnOk result (string_bytes text.new ≡ string_bytes text.old
         ++ path (rectangle_by pen) (shown picture.now) (rows_of (shown picture.now))) }
 {
-    text.reserve(3 * picture.columns() * picture.rows())?;
     for y in 0..picture.rows() {
         push_row(text, picture, pen, y)?;
     }

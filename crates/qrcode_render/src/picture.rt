@@ -67,20 +67,6 @@ impl<'a> Row<'a> {
             line[quiet + i] = modules[i].select(255, 0);
         }
     }
-
-    /// Whether the module in this column, counted from the edge of the quiet zone, is dark.
-    #[inline]
-    pub(crate) fn is_dark(&self, column: usize) -> bool
-        ensures { result ≡ is_dark_at self.now column }
-    {
-        if column < self.quiet {
-            return false;
-        }
-        match self.modules.get(column - self.quiet) {
-            Some(Color::Dark) => true,
-            _ => false,
-        }
-    }
 }
 
 impl<'a> Picture<'a> {

@@ -3,9 +3,9 @@
 //!
 //! 1. Refuse what is longer than 16 parts of the most bytes that fit any version.
 //! 2. List the places at which the message may be cut (`cut_places`).
-//! 3. Make each part the longest one that fits (`last_fitting`): one pass tells the segment in which
-//!    it ends (`part_range`), and tests of the places in it the end. A part that lies within one
-//!    that fits, fits too, so that no other cuts make fewer parts.
+//! 3. Make each part the longest one that fits (`last_fitting`): one pass tells the segment in
+//!    which it ends (`part_range`), and tests of the places in it find the end. A part that lies
+//!    within one that fits, fits too, so that no other cuts make fewer parts.
 ghost use Rattle.std.specs.Prelude.{◌≡◌, ◌≢◌, ◌+◌, ◌<◌, ◌≤◌, ℕ, length, nat_abs};
 ghost use Rattle.std.specs.Prelude.{slice_index_or, take, All, List};
 ghost use Rattle.std.specs.Prelude.{true, false, IfOk, IfErr, OnOk};

@@ -1,10 +1,10 @@
 -- The modules of the row by their bytes.
-use Rattle.std.proofs.Common.{◌≡◌, ℕ, ◌≤◌, ◌∙◌, ◌++◌, Bool, false, length, get_or, ap, sym, map, arith}
+use Rattle.std.proofs.Common.{◌≡◌, ℕ, ◌∙◌, ◌++◌, Bool, false, get_or, ap, sym, map, arith}
 use Rattle.std.specs.Prelude.{nat_lt, not, ◌&&◌}
 use Rattle.std.specs.String.{string_bytes}
 use Rattle.std.specs.List.{range_with_len}
 use Rattle.std.proofs.lemmas.Bool.{le-ltb, lt-ltb}
-use Rattle.qrcode_render.specs.{Paths.begins_run, Pens.rectangle_by, Pictures.columns_of, Pictures.is_dark_module, Rows.dark_byte, Shown.shown}
+use Rattle.qrcode_render.specs.{Paths.begins_run, Pens.rectangle_by, Pictures.is_dark_module, Rows.dark_byte, Shown.shown}
 use Rattle.qrcode_render.proofs.PathLemmas.{before_next, dark_places, row_no_run, row_run, run_begins}
 use Rattle.qrcode_render.proofs.path.push_row.Goals as goal
 use Rattle.qrcode_render.proofs.path.push_row.Goals.{then-dark+then-not-before+in_ok-push_rectangle, else-dark, else-dark-via-then-dark+else-not-before, else-dark-via-else-dark}

@@ -1,4 +1,4 @@
--- Ten bits for three bytes are more than the capacity, or there are more bytes than fit any version.
+-- Ten bits for three bytes exceed the capacity, or there are more bytes than fit any version.
 use mir.Syntax.{w16}
 use Rattle.qrcode_core.proofs.Prelude.{arith, nat_abs, to_z-of_z, ◌≡◌, ◌+◌, ◌*◌, ◌≤◌, ℕ, length, capacity, normal, Some, subst, Version}
 use Rattle.std.specs.Prelude.{◌/◌}
