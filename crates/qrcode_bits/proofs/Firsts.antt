@@ -1,10 +1,13 @@
 -- Plans of first segments, which are those of first bytes.
-use Rattle.qrcode_bits.proofs.Prelude.{◌≡◌, ℕ, zero, suc, ◌+◌, ◌-◌, ◌<◌, ◌≤◌, List, [], ◌∷◌, Bool, true, false, length, take, drop, refl, sym, ap, ◌∙◌, subst, arith}
-use Rattle.qrcode_bits.proofs.Prelude.{inl, inr, cases_lt, Version, Segment, Candidate, Class, Run, EcLevel, Some, capacity, IsPlan, IsChosen, IsChosenPlan, IsStep}
+use Rattle.qrcode_bits.proofs.Prelude.{◌≡◌, ℕ, zero, suc, ◌+◌, ◌-◌, ◌<◌, ◌≤◌, List, [], ◌∷◌, Bool, true, false, length, take, drop, refl, sym, ap, ◌∙◌, subst}
+use Rattle.qrcode_bits.proofs.Prelude.{arith}
+use Rattle.qrcode_bits.proofs.Prelude.{inl, inr, cases_lt, Version, Segment, Candidate, Class, Run, EcLevel, Some, capacity, IsPlan, IsChosen, IsChosenPlan}
+use Rattle.qrcode_bits.proofs.Prelude.{IsStep}
 use Rattle.qrcode_bits.proofs.Prelude.{plan_bits, part_bits, parts, merged_all, slice_range, segment_at, total_bits, bits_before, joins, add_unit, runs, units}
 use Rattle.qrcode_bits.proofs.Prelude.{run_segment, parsed, class_size, map, length-map, total_size, IsUnitEnd, FitsNot, normal, take-length}
 use Rattle.std.proofs.lemmas.List.{take-take, drop-take, length-take-le, take-map}
-use Rattle.qrcode_bits.proofs.{Optimal.IsChosen-unique, Optimal.IsChosen-chosen_plan, Optimal.chosen_plan, Adjoining.Adjoin, Adjoining.Adjoin-runs, Adjoining.parsed-adjoin}
+use Rattle.qrcode_bits.proofs.{Optimal.IsChosen-unique, Optimal.IsChosen-chosen_plan, Optimal.chosen_plan, Adjoining.Adjoin, Adjoining.Adjoin-runs}
+use Rattle.qrcode_bits.proofs.{Adjoining.parsed-adjoin}
 use Rattle.qrcode_bits.proofs.{Cutting.units-split, Cutting.unit-order, Within.within-plan, Choices.fits_normal}
 use Rattle.qrcode_bits.proofs.{Growth.plan_bits-parts, CuttingPlans.chosen-planned, Classes.too_many}
 
@@ -45,7 +48,8 @@ module _ (b : ℕ) (c : Class) (cs : List Class) where
     ap (add_unit c b) w.2 ∙ (add-joined c b r (take n rest) e ∙ sym (ap (take (suc n)) (add-joined c b r rest e))),
   )
 
-  more-apart : (n : ℕ) (r : Run) (rest : List Run) → joins c r.class ≡ false → ((m : ℕ) → m ≤ length (r ∷ rest) → HasRuns (b + class_size c) cs (take m (r ∷ rest))) →
+  more-apart : (n : ℕ) (r : Run) (rest : List Run) → joins c r.class ≡ false →
+      ((m : ℕ) → m ≤ length (r ∷ rest) → HasRuns (b + class_size c) cs (take m (r ∷ rest))) →
       suc n ≤ length (add_unit c b (r ∷ rest)) → HasRuns b (c ∷ cs) (take (suc n) (add_unit c b (r ∷ rest)))
   more-apart zero r rest e ih h = (1, omega arith, sym (ap (take 1) (add-apart c b r rest e)))
   more-apart (suc n) r rest e ih h =

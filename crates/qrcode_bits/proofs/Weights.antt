@@ -1,5 +1,6 @@
 -- No plan takes fewer bits than the bytes of each segment in the mode of the segment.
-use Rattle.qrcode_bits.proofs.Prelude.{◌≡◌, ℕ, ◌+◌, ◌-◌, ◌*◌, ◌<◌, ◌≤◌, List, [], ◌∷◌, ◌++◌, Some, length, drop, drop-cons, drop_all, refl, suc, sym, ap, subst, arith}
+use Rattle.qrcode_bits.proofs.Prelude.{◌≡◌, ℕ, ◌+◌, ◌-◌, ◌*◌, ◌<◌, ◌≤◌, List, [], ◌∷◌, ◌++◌, Some, length, drop, drop-cons, drop_all, refl, suc, sym, ap}
+use Rattle.qrcode_bits.proofs.Prelude.{subst, arith}
 use Rattle.qrcode_bits.proofs.Prelude.{flat_map, All-head, All-tail, Version, EcLevel, Mode, Numeric, Alphanumeric, Byte, Kanji, capacity, Segment, parsed}
 use Rattle.qrcode_bits.proofs.Prelude.{join, data_bits, characters, total_bits, merged, merged_all, segment_at, FitsNot}
 use Rattle.qrcode_bits.proofs.{Adjoining.Adjoin, Adjoining.parsed-adjoin, CuttingPlans.AreNonEmpty, CuttingPlans.joined, CuttingPlans.IsSome}

@@ -20,14 +20,10 @@ use Rattle.std.specs.Prelude.{◌/◌, min}
 use Rattle.qrcode_core.proofs.Prelude.{common_steps}
 use Rattle.std.proofs.Common.{Some}
 use Rattle.qrcode_bits.specs.Frame.{Front, front_of, front_bits}
-use Rattle.qrcode_bits.proofs.{Lengths.dense_message, Lengths.long_message, Choices.capacity-grows, Texts.length-slice, Contents.length-parsed, Contents.parsed-bytes}
+use Rattle.qrcode_bits.proofs.{Lengths.dense_message, Lengths.long_message, Choices.capacity-grows, Texts.length-slice, Contents.length-parsed}
+use Rattle.qrcode_bits.proofs.{Contents.parsed-bytes}
 use Rattle.qrcode_core.proofs.NoneBetter.{front-long}
 use Rattle.qrcode_core.specs.BestCuts.{IsPartTooLong, AreFittingCuts, AreBestCuts}
-
-pub any_data : (c : Content) (bytes : List ℕ) → c ≢ Elements → AreDataOf c bytes
-any_data Bytes bytes h = tt
-any_data Text bytes h = tt
-any_data Elements bytes h = absurd (h refl)
 
 -- ---- Places by their index
 
@@ -253,7 +249,8 @@ pub is_normal : (z : ℤ) → IsNormalNumber z → ◌≡◌ {A = Version} (Norm
 is_normal z h = grind arith
 
 -- No mode takes fewer than ten bits for three bytes.
-pub dense_none : (level : EcLevel) (limit d : ℕ) → limit ≤ 40 → capacity (normal limit) level ≡ Some d → (front : ℕ) (bytes : List ℕ) → All (λ b. b < 256) bytes →
+pub dense_none : (level : EcLevel) (limit d : ℕ) → limit ≤ 40 → capacity (normal limit) level ≡ Some d →
+    (front : ℕ) (bytes : List ℕ) → All (λ b. b < 256) bytes →
     (d / 10 + 1) * 3 ≤ length bytes → FitsNone normal front bytes level limit
 dense_none level limit d last known front bytes are long n few plan w =
     let grows = capacity-grows level n limit w.limit d few w.has_level known in
@@ -296,7 +293,8 @@ module _ (c : Content) (message : List ℕ) (level : EcLevel) (limit : ℕ) (val
 
   -- the part up to a place in the window
   in_window : (i : ℕ) → first ≤ i → i ≤ end →
-      IsUnitEnd (parsed_bytes c window) (at i - at first) × (take (at i - at first) (parsed_bytes c window) ≡ parsed_bytes c (slice_range message (at first) (at i)))
+      IsUnitEnd (parsed_bytes c window) (at i - at first) ×
+      (take (at i - at first) (parsed_bytes c window) ≡ parsed_bytes c (slice_range message (at first) (at i)))
   in_window i h k =
       place_between c message (at first) (at i) (at end) (places_order c message places are first i h (omega (arith, k, inside)))
       (places_order c message places are i end k inside) (is_place c message places are first (omega (arith, h, k, inside)))

@@ -224,3 +224,13 @@ fn best_mask_with_score_of_five_digits(rt: HostRuntime) -> QrResult<()> {
     assert_eq!(rt; hash(&best.into_colors(rt.alloc())?), 0x31f2a162);
     Ok(())
 }
+
+/// The least of the penalties is the score of the best mask.
+#[test]
+fn penalties_of_five_digits(rt: HostRuntime) -> QrResult<()> {
+    let canvas = five_digits(rt.alloc())?;
+    let penalties = canvas.penalties(rt.alloc())?;
+    assert_eq!(rt; penalties.len(), 4);
+    assert_eq!(rt; penalties.iter().copied().min(), Some(85));
+    Ok(())
+}

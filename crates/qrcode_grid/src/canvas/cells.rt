@@ -11,7 +11,7 @@ use crate::canvas::Module;
 use qrcode_base::types::Color;
 use std::marker::Model;
 
-/// The modules.
+/// The kinds of modules.
 #[derive(Clone, Copy, PartialEq, Eq)]
 pub enum Kind {
     /// An empty module.

@@ -80,6 +80,7 @@ impl Canvas {
         ensures is { IfOk result (λ values. values.items ≡ mask_penalties self.now) }
         ensures refusal { IfErr result (λ e. e ≡ QrError.OutOfMemory) }
     {
+        // The module that was lent is put into its place in a copy.
         let mut canvas = self.clone(alloc)?;
         let (_, values) = canvas.candidates(alloc)?;
         Ok(values)

@@ -67,7 +67,7 @@ static GENERATOR_30: [u8; 31] = [
     46, 228, 74, 216, 195, 11, 106, 130, 150,
 ];
 
-/// Returns the generator polynomial of n correction bytes, if blocks of symbols have so many.
+/// Returns the generator polynomial of n correction bytes, if blocks of symbols have as many.
 pub fn known_generator(n: usize) -> Option<&'static [u8]>
     ensures len { IfSome result (λ g. length g.now ≡ n + 1) }
     ensures first { IfSome result (λ g. slice_index g.now 0 ≡ 1) }

@@ -1,5 +1,6 @@
 -- The weight is counted.
-use Rattle.qrcode_bits.proofs.Prelude.{◌≡◌, ℕ, ◌+◌, ◌*◌, ◌-◌, ◌<◌, ◌≤◌, length, sym, subst, arith, ltb-true, drop, nat_lt, true, parsed, segment_at, FitsNot, ap, ◌∙◌}
+use Rattle.qrcode_bits.proofs.Prelude.{◌≡◌, ℕ, ◌+◌, ◌*◌, ◌-◌, ◌<◌, ◌≤◌, length, sym, subst, arith, ltb-true, drop, nat_lt, true, parsed, segment_at, FitsNot}
+use Rattle.qrcode_bits.proofs.Prelude.{ap, ◌∙◌}
 use Rattle.std.proofs.lemmas.Bool.{OnTrue_from}
 use Rattle.qrcode_bits.proofs.{Pairs.bytes_valid, Lengths.dense_message, Adjoining.Adjoin-at, Adjoining.parsed-adjoin, Weights.weight}
 use Rattle.qrcode_bits.proofs.Weights.{same_sixths, heavy_unfit, light, weighed_more, weighed_all}

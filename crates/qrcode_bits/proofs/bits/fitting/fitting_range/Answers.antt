@@ -1,6 +1,7 @@
 -- Data are parsed as their content wants it.
 use mir.Syntax.{w16}
-use Rattle.qrcode_bits.proofs.Prelude.{◌≡◌, ◌≤◌, ℕ, List, arith, common_steps, length, nat_abs, normal, subst, take, to_z-of_z, front_bits, FitsNone, IsUnitEnd, parsed_bytes}
+use Rattle.qrcode_bits.proofs.Prelude.{◌≡◌, ◌≤◌, ℕ, List, arith, common_steps, length, nat_abs, normal, subst, take, to_z-of_z, front_bits, FitsNone}
+use Rattle.qrcode_bits.proofs.Prelude.{IsUnitEnd, parsed_bytes}
 use Rattle.std.specs.Prelude.{IfOk}
 use Rattle.qrcode_bits.proofs.{Contents.parsed-alone, Contents.map-parsed}
 use Rattle.qrcode_bits.proofs.bits.fitting.fitting_range.Goals as goal

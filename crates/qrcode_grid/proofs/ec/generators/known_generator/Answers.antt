@@ -1,8 +1,10 @@
 -- Each generator of the table vanishes at its roots: found by computing.
 use Rattle.qrcode_grid.proofs.Prelude.{◌≡◌, ℕ, ◌<◌, true, refl, subst, List, eqb, eqb-true, value_at, power, product, double, shift_and_add, IsSound}
 use Rattle.qrcode_grid.proofs.FieldLaws.{passes_below, passes_below-at}
-use Rattle.qrcode_grid.specs.declared.ec.generators.TheConstants.{GENERATOR_2, GENERATOR_5, GENERATOR_6, GENERATOR_7, GENERATOR_8, GENERATOR_10, GENERATOR_13, GENERATOR_14, GENERATOR_15}
-use Rattle.qrcode_grid.specs.declared.ec.generators.TheConstants.{GENERATOR_16, GENERATOR_17, GENERATOR_18, GENERATOR_20, GENERATOR_22, GENERATOR_24, GENERATOR_26, GENERATOR_28, GENERATOR_30}
+use Rattle.qrcode_grid.specs.declared.ec.generators.TheConstants.{GENERATOR_2, GENERATOR_5, GENERATOR_6, GENERATOR_7, GENERATOR_8, GENERATOR_10, GENERATOR_13}
+use Rattle.qrcode_grid.specs.declared.ec.generators.TheConstants.{GENERATOR_14, GENERATOR_15}
+use Rattle.qrcode_grid.specs.declared.ec.generators.TheConstants.{GENERATOR_16, GENERATOR_17, GENERATOR_18, GENERATOR_20, GENERATOR_22, GENERATOR_24}
+use Rattle.qrcode_grid.specs.declared.ec.generators.TheConstants.{GENERATOR_26, GENERATOR_28, GENERATOR_30}
 use Rattle.qrcode_grid.proofs.ec.generators.known_generator.Goals as goal
 
 sound : (n m : ℕ) (g : List ℕ) → n ≡ m → passes_below m (λ i. eqb (value_at g (power 2 i)) 0) ≡ true → IsSound n g
