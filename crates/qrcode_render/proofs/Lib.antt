@@ -8,5 +8,6 @@ pub mod PixelLemmas
 pub mod SettingLemmas
 pub mod TerminalLemmas
 pub mod PathLemmas
+pub mod TextLemmas
 pub mod CoverLemmas
 pub mod XmlLemmas

@@ -7,6 +7,7 @@ pub mod Xml
 pub mod Paths
 pub mod Eps
 pub mod Pens
+pub mod Numbers
 pub mod Options
 pub mod Rendered
 pub mod Covered

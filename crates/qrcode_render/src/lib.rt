@@ -25,6 +25,7 @@ pub mod format;
 #[cfg(test)]
 mod format_tests;
 pub mod laws;
+mod numbers;
 pub mod options;
 mod path;
 pub mod pbm;

@@ -1,15 +1,22 @@
 //! A picture as one path: a rectangle for each run of dark modules in a row.
-ghost use Rattle.std.specs.Prelude.{◌≡◌, ◌+◌, ◌≤◌, ◌<◌, ◌++◌, OnOk, decimal, length};
-ghost use Rattle.std.specs.Prelude.{ℕ, nat_lt, slice_index};
+ghost use Rattle.std.specs.Prelude.{◌≡◌, ◌+◌, ◌*◌, ◌/◌, ◌≤◌, ◌<◌, ◌++◌, [], ◌∷◌, OnOk};
+ghost use Rattle.std.specs.Prelude.{ℕ, decimal, length, nat_lt, slice_index, take};
+ghost use Rattle.std.specs.Str.{IsUtf8};
 ghost use Rattle.std.specs.String.{string_bytes};
+ghost use Rattle.qrcode_render.specs.declared.bounds.TheConstants.{MAX_COLUMNS};
+ghost use Rattle.qrcode_render.specs.Numbers.{word_text};
 ghost use Rattle.qrcode_render.specs.Paths.{dark_run_length, path, row_path};
 ghost use Rattle.qrcode_render.specs.Pens.{rectangle_by};
 ghost use Rattle.qrcode_render.specs.Pictures.{columns_of, is_dark_module, rows_of};
 ghost use Rattle.qrcode_render.specs.Shown.{shown};
 
+use crate::numbers::NUMBERS;
 use crate::pen::Pen;
 use crate::picture::{Picture, ROOM};
 use std::alloc::AllocError;
+
+/// Room for the rectangles of a row: none has more than 16 bytes.
+const LINE: usize = 16 * ROOM;
 
 /// Appends the rectangles of all rows.
 #[tactic(auto, using(crate::proofs::PathLemmas::paths))]
@@ -17,31 +24,57 @@ pub(crate) fn push_path(text: &mut String, picture: &Picture, pen: Pen) -> Resul
     ensures { OnOk result (string_bytes text.new ≡ string_bytes text.old
         ++ path (rectangle_by pen) (shown picture.now) (rows_of (shown picture.now))) }
 {
+    let mut line = [0u8; LINE];
     for y in 0..picture.rows() {
-        push_row(text, picture, pen, y)?;
+        push_row(text, picture, pen, y, &mut line)?;
     }
     Ok(())
 }
 
-/// Appends the rectangles of a row.
-#[tactic(auto, using(crate::proofs::PathLemmas::rows))]
-fn push_row(text: &mut String, picture: &Picture, pen: Pen, y: usize) -> Result<(), AllocError>
-    requires { y < 1000 }
+/// Appends the rectangles of a row. The line is written over.
+fn push_row(
+    text: &mut String,
+    picture: &Picture,
+    pen: Pen,
+    y: usize,
+    line: &mut [u8],
+) -> Result<(), AllocError>
+    requires low { y ≤ MAX_COLUMNS }
+    requires room { 16 * columns_of (shown picture.now) ≤ length line.old }
     ensures { OnOk result (string_bytes text.new ≡ string_bytes text.old
         ++ row_path (rectangle_by pen) (shown picture.now) y (columns_of (shown picture.now))) }
+{
+    let end = write_row(line, picture, pen, y);
+    match str::from_utf8(&line[..end]) {
+        Ok(rectangles) => text.push_str(rectangles),
+        Err(_) => unreachable!(),
+    }
+}
+
+/// Writes the rectangles of a row, and returns where they end.
+fn write_row(line: &mut [u8], picture: &Picture, pen: Pen, y: usize) -> usize
+    requires low { y ≤ MAX_COLUMNS }
+    requires room { 16 * columns_of (shown picture.now) ≤ length line.old }
+    ensures text { take result line.new
+        ≡ row_path (rectangle_by pen) (shown picture.now) y (columns_of (shown picture.now)) }
+    ensures utf8 { IsUtf8 (take result line.new) }
+    ensures within { result ≤ length line.old }
 {
     let row = picture.row(y);
     let mut modules = [0u8; ROOM];
     row.write_bytes(&mut modules);
-    let mut dark = false;
-    for x in 0..picture.columns() {
-        let before = dark;
-        dark = modules[x] > 0;
-        if dark && !before {
-            push_rectangle(text, pen, (x, y), dark_run_length(picture, &modules, x, y))?;
+    let columns = picture.columns();
+    let (mut x, mut end) = (0, 0);
+    'runs: while x < columns {
+        if modules[x] > 0 {
+            let length = dark_run_length(picture, &modules, x, y);
+            end = write_rectangle(line, end, pen, (x, y), length);
+            x += length;
+        } else {
+            x += 1;
         }
     }
-    Ok(())
+    end
 }
 
 /// Returns the number of dark modules from here up to the first light one, by the bytes of a row.
@@ -52,7 +85,7 @@ fn dark_run_length(picture: &Picture, modules: &[u8], x: usize, y: usize) -> usi
     requires bytes { (k : ℕ) → k < columns_of (shown picture.now)
         → nat_lt 0 (slice_index modules.now k) ≡ is_dark_module (shown picture.now) k y }
     ensures exact { result ≡ dark_run_length (shown picture.now) x y }
-    ensures few { result < 1000 }
+    ensures within { x + result ≤ columns_of (shown picture.now) }
 {
     let mut length = 0;
     for column in x..picture.columns() {
@@ -65,68 +98,76 @@ fn dark_run_length(picture: &Picture, modules: &[u8], x: usize, y: usize) -> usi
     length
 }
 
-/// Appends the rectangle of some modules of a row.
+/// Writes the rectangle of some modules of a row, and returns where it ends.
 #[tactic(auto, unfolding(crate::specs::Paths::rectangle, crate::specs::Eps::eps_rectangle))]
-fn push_rectangle(
-    text: &mut String,
+fn write_rectangle(
+    line: &mut [u8],
+    start: usize,
     pen: Pen,
     at: (usize, usize),
-    length: usize,
-) -> Result<(), AllocError>
-    requires column { at.0 < 1000 }
-    requires row { at.1 < 1000 }
-    requires few { length < 1000 }
-    ensures { OnOk result
-        (string_bytes text.new ≡ string_bytes text.old ++ rectangle_by pen at.0 at.1 length) }
+    count: usize,
+) -> usize
+    requires room { start + 16 ≤ length line.old }
+    requires column { at.0 ≤ MAX_COLUMNS }
+    requires row { at.1 ≤ MAX_COLUMNS }
+    requires few { count ≤ MAX_COLUMNS }
+    ensures text { take result line.new
+        ≡ take start line.old ++ rectangle_by pen at.0 at.1 count }
+    ensures within { result ≤ start + 16 }
 {
     match pen {
         Pen::Svg => {
-            text.push('M')?;
-            push_number(text, at.0)?;
-            text.push(' ')?;
-            push_number(text, at.1)?;
-            text.push('h')?;
-            push_number(text, length)
+            let end = write_byte(line, start, b'M');
+            let end = write_number(line, end, at.0);
+            let end = write_byte(line, end, b' ');
+            let end = write_number(line, end, at.1);
+            let end = write_byte(line, end, b'h');
+            write_number(line, end, count)
         }
         Pen::Eps => {
-            push_number(text, length)?;
-            text.push(' ')?;
-            push_number(text, at.0)?;
-            text.push(' ')?;
-            push_number(text, at.1)?;
-            text.push_str(" r\n")
+            let end = write_number(line, start, count);
+            let end = write_byte(line, end, b' ');
+            let end = write_number(line, end, at.0);
+            let end = write_byte(line, end, b' ');
+            let end = write_number(line, end, at.1);
+            let end = write_byte(line, end, b' ');
+            let end = write_byte(line, end, b'r');
+            write_byte(line, end, b'\n')
         }
     }
 }
 
-/// Appends a number of at most three digits.
-#[tactic(auto, using(crate::proofs::PathLemmas::digits))]
-fn push_number(text: &mut String, n: usize) -> Result<(), AllocError>
-    requires { n < 1000 }
-    ensures { OnOk result (string_bytes text.new ≡ string_bytes text.old ++ decimal n) }
+/// Writes a byte, and returns where it ends.
+fn write_byte(line: &mut [u8], start: usize, byte: u8) -> usize
+    requires { start < length line.old }
+    ensures text { take result line.new ≡ take start line.old ++ byte ∷ [] }
+    ensures next { result ≡ start + 1 }
 {
-    if n >= 10 {
-        push_tens(text, n / 10)?;
-    }
-    text.push(digit(n % 10))
+    line[start] = byte;
+    start + 1
 }
 
-/// Appends a number of at most two digits.
-#[tactic(auto, using(crate::proofs::PathLemmas::digits))]
-fn push_tens(text: &mut String, n: usize) -> Result<(), AllocError>
-    requires { n < 100 }
-    ensures { OnOk result (string_bytes text.new ≡ string_bytes text.old ++ decimal n) }
+/// Writes a number, and returns where it ends. Four bytes are written, which are one store.
+fn write_number(line: &mut [u8], start: usize, n: usize) -> usize
+    requires few { n ≤ MAX_COLUMNS }
+    requires room { start + 4 ≤ length line.old }
+    ensures text { take result line.new ≡ take start line.old ++ decimal n }
+    ensures within { result ≤ start + 3 }
 {
-    if n >= 10 {
-        text.push(digit(n / 10))?;
-    }
-    text.push(digit(n % 10))
+    let word = number_word(n);
+    line[start] = (word % 256) as u8;
+    line[start + 1] = (word / 256 % 256) as u8;
+    line[start + 2] = (word / 65_536 % 256) as u8;
+    line[start + 3] = (word / 16_777_216) as u8;
+    start + (word / 16_777_216) as usize
 }
 
-/// Returns a digit.
-fn digit(n: usize) -> char
-    requires { n < 10 }
-    ensures { result ≡ 48 + n }
+/// Returns the word that holds the digits of a number.
+#[tactic(auto, using(crate::proofs::TextLemmas::numbers))]
+fn number_word(n: usize) -> u32
+    requires { n ≤ MAX_COLUMNS }
+    ensures text { word_text result ≡ decimal n }
+    ensures few { result / 16_777_216 ≤ 3 }
 {
-    char::from(b'0' + n as u8)
+    NUMBERS[n]
 }

@@ -6,14 +6,14 @@ ghost use Rattle.qrcode_render.specs.declared.bounds.TheConstants.{MAX_ROW};
 ghost use Rattle.qrcode_render.specs.Pictures.{columns_of, rows_of, pixel_width, pixel_height};
 ghost use Rattle.qrcode_render.specs.Pictures.{is_dark_module, is_dark_pixel};
 
-use crate::bounds::MAX_MODULES;
+use crate::bounds::{MAX_COLUMNS, MAX_MODULES};
 use crate::options::RenderOptions;
 use qrcode_core::symbol::Symbol;
 use qrcode_core::traits::ModuleSource;
 use qrcode_core::types::Color;
 
 /// Room for a byte of each column, and for those up to a multiple of eight.
-pub(crate) const ROOM: usize = 216;
+pub(crate) const ROOM: usize = MAX_COLUMNS + 7;
 
 /// A borrowed grid, with the width of a module in pixels and the width of the light quiet zone
 /// around the grid in modules. Nothing is copied.

@@ -6,5 +6,5 @@ use Rattle.qrcode_render.proofs.path.dark_run_length.Given as goal
 abbrev pub invariant-loop-column : goal.invariant-loop-column
 invariant-loop-column l = record {
   counted : dark_run_length (shown l.picture) l.x l.y ≡ l.length + dark_run_length (shown l.picture) l.column l.y;
-  small : l.length ≤ l.column;
+  within : l.x + l.length ≤ l.column;
 }

@@ -1,8 +1,8 @@
 -- One character more.
-use Rattle.std.proofs.Common.{Bool, ◌+◌, ◌*◌, ◌/◌, ◌∙◌, map, ap, sym, arith}
+use Rattle.std.proofs.Common.{Bool, ◌+◌, ◌*◌, ◌/◌, ◌∙◌, ap, arith}
 use Rattle.std.specs.Prelude.{if◌then◌else◌, not}
 use Rattle.std.specs.{Prelude.flat_map, List.range_with_len, String.string_bytes}
-use Rattle.qrcode_render.specs.{Rows.dark_byte, Shown.shown, Terminals.terminal_character}
+use Rattle.qrcode_render.specs.{Shown.shown, Terminals.terminal_character}
 use Rattle.qrcode_render.proofs.{PathLemmas.dark_places, Ranges.joined, TerminalLemmas.characters_copy}
 use Rattle.qrcode_render.proofs.terminal.push_line.Goals as goal
 
@@ -11,13 +11,11 @@ loop-copy-preserved c =
     let p = shown c.args.picture.now in
     let column = c.loop-column.column in
     let scale = c.scale-scale.result in
-    let upper_dark = dark_places p c.row-row.result (2 * c.args.line / scale) c.write_bytes.new.line
-    (c.write_bytes.ensures ∙ ap (λ n. map (dark_byte c.row-row.result) (range_with_len 0 n)) (sym c.write_bytes.auto.line))
-    (omega (arith, c.columns-column-end.ensures.exact, c.columns-column-end.ensures.bound, c.write_bytes.auto.line)) c.row-row.ensures.dark
+    let upper_dark = dark_places p c.row-row.result (2 * c.args.line / scale) 216 c.write_bytes.new.line c.write_bytes.ensures c.write_bytes.auto.line
+    (omega (arith, c.columns-column-end.ensures.exact, c.columns-column-end.ensures.bound)) c.row-row.ensures.dark
     column (omega (arith, c.loop-column-test.true, c.columns-column-end.ensures.exact)) in
-    let lower_dark = dark_places p c.row-next.result ((2 * c.args.line + 1) / scale) c.write_bytes-2.new.line
-    (c.write_bytes-2.ensures ∙ ap (λ n. map (dark_byte c.row-next.result) (range_with_len 0 n)) (sym c.write_bytes-2.auto.line))
-    (omega (arith, c.columns-column-end.ensures.exact, c.columns-column-end.ensures.bound, c.write_bytes-2.auto.line)) c.row-next.ensures.dark
+    let lower_dark = dark_places p c.row-next.result ((2 * c.args.line + 1) / scale) 216 c.write_bytes-2.new.line c.write_bytes-2.ensures c.write_bytes-2.auto.line
+    (omega (arith, c.columns-column-end.ensures.exact, c.columns-column-end.ensures.bound)) c.row-next.ensures.dark
     column (omega (arith, c.loop-column-test.true, c.columns-column-end.ensures.exact)) in
     joined (string_bytes c.args.text.now)
     (flat_map (terminal_character c.args.inverted p c.args.line) (range_with_len 0 (column * scale + c.loop-copy.copy))) _ _ _ _
