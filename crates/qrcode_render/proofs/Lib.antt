@@ -2,6 +2,7 @@ pub mod Ranges
 pub mod RowLemmas
 pub mod BitmapLemmas
 pub mod PackedLemmas
+pub mod WordLemmas
 pub mod RunLemmas
 pub mod BandLemmas
 pub mod PixelLemmas

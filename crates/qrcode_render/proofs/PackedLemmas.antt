@@ -3,11 +3,10 @@ use Rattle.std.proofs.Common.{◌≡◌, ℕ, zero, suc, ◌+◌, ◌-◌, ◌*�
 use Rattle.std.proofs.Common.{◌∙◌, ap, arith, inl, inr}
 use Rattle.std.specs.Prelude.{if◌then◌else◌}
 use Rattle.std.specs.List.{range_with_len}
-use Rattle.std.proofs.Math.Pow.{pow_mono}
-use Rattle.std.proofs.Math.Nat.{div-le_self, le-mul_of_pos_right, mul-le-mul_right, zero-div}
+use Rattle.std.proofs.Math.Nat.{div-le_self, mul-le-mul_right, zero-div}
 use Rattle.std.proofs.Math.ListN.{set}
-use Rattle.std.proofs.lemmas.List.{take_all, take_more_set}
-use Rattle.std.proofs.lemmas.List.FromFn.{get_or-map-range_with_len}
+use Rattle.std.proofs.lemmas.List.{take_all, take_more_set, take-set-le, take-take}
+use Rattle.std.proofs.lemmas.List.FromFn.{get_or-map-range_with_len, take-map-range_with_len}
 use Rattle.std.proofs.lemmas.Bool.{cases_lt}
 use Rattle.std.proofs.lemmas.Nat.{div-mul-add, pow-add, pow_pos}
 use Rattle.qrcode_render.specs.Bitmaps.{bits_number, bitmap_row, pixel_byte, row_length}
@@ -48,17 +47,38 @@ spelled_split f x m (suc r) =
     ∙ (ap (λ s. s * 2 + bit (f ((x + m) + r))) (spelled_split f x m r)
     ∙ omega (arith, twice, next))))
 
--- a byte of the bits of eight modules
-pub byte_within : (f : ℕ → Bool) (x scale i bits : ℕ) → bits ≡ spelled f x (8 * scale) → i < scale →
-    bits / 2 ^ (8 * (scale - 1 - i)) % 256 ≡ spelled f (x + 8 * i) 8
-byte_within f x scale i bits is below =
+shifted : (n a b c d e : ℕ) → n ≡ a * b + c → b * d ≡ e → n * d ≡ a * e + c * d
+shifted n a b c d e is unit =
+    let apart : (a * b + c) * d ≡ a * (b * d) + c * d = grind arith in
+    ap (λ m. m * d) is ∙ apart ∙ ap (λ m. a * m + c * d) unit
+
+below_unit : (c b d e : ℕ) → c + 1 ≤ b → 0 < d → b * d ≡ e → c * d < e
+below_unit c b d e less some unit =
+    let next : (c + 1) * d ≡ c * d + d = grind arith in
+    omega (arith, mul-le-mul_right d less, next, some, unit)
+
+-- a byte of the bits of eight modules, which are the highest of a word
+pub byte_within : (f : ℕ → Bool) (x scale i bits : ℕ) → bits ≡ spelled f x (8 * scale) → i < scale → scale ≤ 8 →
+    bits * 2 ^ (64 - 8 * scale) % 18446744073709551616 / 2 ^ (56 - 8 * i) % 256 ≡ spelled f (x + 8 * i) 8
+byte_within f x scale i bits is below narrow =
     let r = 8 * (scale - 1 - i) in
     let front = 8 * i + 8 in
+    let up = 64 - 8 * scale in
+    let first = spelled f x front in
     let parts : 8 * scale ≡ front + r = omega (arith, below) in
-    let rest : spelled f (x + front) r < 2 ^ r = omega (arith, spelled_below f (x + front) r) in
-    let quotient : bits / 2 ^ r ≡ spelled f x front =
-    ap (λ b. b / 2 ^ r) (is ∙ ap (spelled f x) parts ∙ spelled_split f x front r)
-    ∙ div-mul-add (spelled f x front) (2 ^ r) (spelled f (x + front) r) rest in
+    let rest : spelled f (x + front) r + 1 ≤ 2 ^ r = spelled_below f (x + front) r in
+    let halves : bits ≡ first * 2 ^ r + spelled f (x + front) r = is ∙ ap (spelled f x) parts ∙ spelled_split f x front r in
+    let unit : 2 ^ r * 2 ^ up ≡ 2 ^ (56 - 8 * i) =
+    sym (pow-add 2 r up) ∙ (let e : r + up ≡ 56 - 8 * i = omega (arith, below, narrow) in ap (λ n. 2 ^ n) e) in
+    let whole : bits * 2 ^ up ≡ first * 2 ^ (56 - 8 * i) + spelled f (x + front) r * 2 ^ up = shifted bits first (2 ^ r) (spelled f (x + front) r) (2 ^ up) _ halves unit in
+    let short : spelled f (x + front) r * 2 ^ up < 2 ^ (56 - 8 * i) = below_unit (spelled f (x + front) r) (2 ^ r) (2 ^ up) _ rest (grind (arith, pow_pos)) unit in
+    let all : 2 ^ (8 * scale) * 2 ^ up ≡ 18446744073709551616 =
+    sym (pow-add 2 (8 * scale) up) ∙ (let e : 8 * scale + up ≡ 64 = omega (arith, narrow) in ap (λ n. 2 ^ n) e) in
+    let fits : bits * 2 ^ up < 18446744073709551616 =
+    below_unit bits (2 ^ (8 * scale)) (2 ^ up) _ (omega (arith, is, spelled_below f x (8 * scale))) (grind (arith, pow_pos)) all in
+    let same : bits * 2 ^ up % 18446744073709551616 ≡ bits * 2 ^ up = omega (arith, fits) in
+    let quotient : bits * 2 ^ up % 18446744073709551616 / 2 ^ (56 - 8 * i) ≡ first =
+    ap (λ n. n / 2 ^ (56 - 8 * i)) (same ∙ whole) ∙ div-mul-add first (2 ^ (56 - 8 * i)) (spelled f (x + front) r * 2 ^ up) short in
     omega (arith, quotient, spelled_split f x (8 * i) 8, spelled_below f (x + 8 * i) 8)
 
 -- the high bits of a byte of ones
@@ -85,10 +105,6 @@ module_bits true scale few =
 module_bits false scale few =
     let none : 0 * 2 ^ scale ≡ 0 = grind arith in
     omega (arith, none, zero-div (2 ^ (8 - scale)))
-
-bit_power : (dark : Bool) (scale : ℕ) → scale ≤ 8 → bit dark * 2 ^ scale ≤ bit dark + 255
-bit_power true scale few = omega (arith, ones (8 - scale) (omega arith), ap (λ n. 2 ^ n) (back_again scale few), div-le_self 255 (2 ^ (8 - scale)))
-bit_power false scale few = let none : 0 * 2 ^ scale ≡ 0 = grind arith in omega (arith, none)
 
 -- eight equal bits
 eight_bits : (dark : Bool) (number : ℕ) → number + bit dark ≡ (0 + bit dark) * 2 ^ 8 → byte_of dark ≡ number
@@ -134,34 +150,11 @@ pub module_at : (row : Row) (modules : List ℕ) (column : ℕ) → modules ≡ 
 module_at row modules column are inside =
     ap (λ l. get_or l column 0) are ∙ get_or-map-range_with_len (dark_byte row) 0 (length modules) column column 0 inside (omega arith)
 
--- the bits before and those of a module after them fit in a word
-pub record Wide (a k : ℕ) : Type 0 where
-  pub after : a * 2 ^ k ≤ 9223372036854775808
-  pub more : a ≤ a * 2 ^ k
-  pub whole : a * 2 ^ k % 18446744073709551616 ≡ a * 2 ^ k
-
-wide_room : (a n k : ℕ) → a ≤ 2 ^ n → n + k ≤ 63 → a * 2 ^ k ≤ 9223372036854775808
-wide_room a n k below few = grind (arith, pow-add 2 n k, pow_mono)
-
-wide_fits : (a n k : ℕ) → a ≤ 2 ^ n → n + k ≤ 63 → Wide a k
-wide_fits a n k below few =
-    let after = wide_room a n k below few in
-    record {
-      after = after;
-      more = le-mul_of_pos_right a (grind (arith, pow_pos));
-      whole = omega (arith, after);
-    }
-
 -- the bits of some modules of a row, with one module more
-pub record MoreBits (row : Row) (column scale i bits byte : ℕ) : Type 0 where
-  pub whole : bits * 2 ^ scale % 18446744073709551616 ≡ bits * 2 ^ scale
-  pub fits : bits * 2 ^ scale + byte / 2 ^ (8 - scale) < 18446744073709551616
-  pub are : bits * 2 ^ scale + byte / 2 ^ (8 - scale) ≡ spelled (pixel_of row scale) (column * scale) ((i + 1) * scale)
-
-pub more_bits : (row : Row) (column scale i bits byte : ℕ) → 0 < scale → scale < 8 → i < 8 →
+pub more_bits : (row : Row) (column scale i bits byte : ℕ) → 0 < scale → scale < 8 →
     bits ≡ spelled (pixel_of row scale) (column * scale) (i * scale) → byte ≡ byte_of (is_dark_at row (column + i)) →
-    MoreBits row column scale i bits byte
-more_bits row column scale i bits byte some narrow few was is =
+    bits * 2 ^ scale + byte / 2 ^ (8 - scale) ≡ spelled (pixel_of row scale) (column * scale) ((i + 1) * scale)
+more_bits row column scale i bits byte some narrow was is =
     let f = pixel_of row scale in
     let x = column * scale in
     let dark = is_dark_at row (column + i) in
@@ -173,14 +166,7 @@ more_bits row column scale i bits byte some narrow few was is =
     ap (λ b. b / 2 ^ (8 - scale) + bit dark) is ∙ module_bits dark scale (omega (arith, narrow)) in
     let next : i * scale + scale ≡ (i + 1) * scale = grind arith in
     let parts : (spelled f x (i * scale) + bit dark) * 2 ^ scale ≡ bits * 2 ^ scale + bit dark * 2 ^ scale = grind (arith, was) in
-    let most : i * scale ≤ 7 * scale = mul-le-mul_right scale (omega (arith, few)) in
-    let fit = wide_fits bits (i * scale) scale (omega (arith, was, spelled_below f x (i * scale))) (omega (arith, most, narrow)) in
-    let short : byte / 2 ^ (8 - scale) ≤ 255 = omega (arith, added, bit_power dark scale (omega (arith, narrow))) in
-    record {
-      whole = fit.whole;
-      fits = omega (arith, fit.after, short);
-      are = omega (arith, run, added, parts) ∙ ap (spelled f x) next;
-    }
+    omega (arith, run, added, parts) ∙ ap (spelled f x) next
 
 -- the byte of two modules, the first of which has some pixels left
 pub record TwoModules (row : Row) (scale place left first second : ℕ) : Type 0 where
@@ -274,6 +260,22 @@ one_byte p y place n byte line next inside was is =
     ∙ (ap (λ l. l ++ byte ∷ []) was
     ∙ (ap (λ b. map (pixel_byte p y) (range_with_len 0 place) ++ b ∷ []) is
     ∙ (sym (bytes_more p y place) ∙ ap (λ m. map (pixel_byte p y) (range_with_len 0 m)) (sym next)))))
+
+-- one that is written behind them is none of them
+pub kept_bytes : (p : Picture) (y place n next byte : ℕ) (line : List ℕ) → next ≡ n → n ≤ place →
+    take n line ≡ map (pixel_byte p y) (range_with_len 0 n) → take next (set line place byte) ≡ map (pixel_byte p y) (range_with_len 0 next)
+kept_bytes p y place n next byte line same past was =
+    ap (λ m. take m (set line place byte)) same
+    ∙ (take-set-le n line place byte past ∙ (was ∙ ap (λ m. map (pixel_byte p y) (range_with_len 0 m)) (sym same)))
+
+-- the first bytes are all of a row
+pub front_row : (p : Picture) (y n m : ℕ) (line : List ℕ) → m ≡ row_length p → row_length p ≤ n →
+    take n line ≡ map (pixel_byte p y) (range_with_len 0 n) → take m line ≡ bitmap_row p y
+unfolding bitmap_row
+front_row p y n m line long within was =
+    let few : m ≤ n = omega (arith, long, within) in
+    sym (take-take m n line few)
+    ∙ (ap (take m) was ∙ (take-map-range_with_len (pixel_byte p y) 0 n m few ∙ ap (λ k. map (pixel_byte p y) (range_with_len 0 k)) long))
 
 -- all bytes are
 pub whole_line : (p : Picture) (y n : ℕ) (line : List ℕ) → n ≡ row_length p → length line ≡ row_length p →

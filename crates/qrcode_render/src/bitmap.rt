@@ -87,7 +87,8 @@ pub(crate) fn write_row(picture: &Picture, y: usize, line: &mut [u8])
 }
 
 /// Writes the bytes of a row of pixels, if a module is less than a byte wide. Eight modules are as
-/// many whole bytes as a module has pixels.
+/// many whole bytes as a module has pixels. A word is written for them, and those after them are
+/// written over its other bytes.
 fn write_narrow(picture: &Picture, y: usize, line: &mut [u8])
     requires narrow { (shown picture.now).scale < 8 }
     requires long { length line.old ≡ row_length (shown picture.now) }
@@ -97,29 +98,35 @@ fn write_narrow(picture: &Picture, y: usize, line: &mut [u8])
     let row = picture.row(y / scale);
     let mut modules = [0u8; ROOM];
     row.write_bytes(&mut modules);
+    let mut bytes = [0u8; ROOM];
     for group in 0..picture.columns().div_ceil(8) {
-        let bits = eight_modules(row, &modules, 8 * group, scale);
+        let word = eight_modules(row, &modules, 8 * group, scale) << (64 - 8 * scale);
         let first = group * scale;
-        for i in 0..scale.min(line.len() - first) {
-            line[first + i] = ((bits >> (8 * (scale - 1 - i))) % 256) as u8;
+        for i in 0..8 {
+            bytes[first + i] = ((word >> (56 - 8 * i)) % 256) as u8;
         }
     }
+    line.copy_from_slice(&bytes[..line.len()]);
 }
 
-/// Returns the bits of eight modules, from their bytes.
+/// Returns the bits of eight modules, from their bytes, which are moved together: those of two
+/// modules, of four, and of all.
 fn eight_modules(row: Row, modules: &[u8], column: usize, scale: usize) -> u64
     requires some { 0 < scale }
     requires narrow { scale < 8 }
     requires inside { column + 8 ≤ length modules.now }
     requires bytes { modules.now ≡ map (dark_byte row) (range_with_len 0 (length modules.now)) }
-    ensures { result ≡ bits_number
-        (map (λ x. is_dark_at row.entry (x / scale)) (range_with_len (column * scale) (8 * scale))) }
+    ensures { let pixels = range_with_len (column * scale) (8 * scale) in
+        result ≡ bits_number (map (λ x. is_dark_at row.entry (x / scale)) pixels) }
 {
-    let mut bits = 0;
-    for i in 0..8 {
-        bits = (bits << scale) + u64::from(modules[column + i] >> (8 - scale));
-    }
-    bits
+    let bytes = &modules[column..column + 8];
+    let word = u64::from_be_bytes([
+        bytes[0], bytes[1], bytes[2], bytes[3], bytes[4], bytes[5], bytes[6], bytes[7],
+    ]);
+    let ones = word & (0x0101_0101_0101_0101 * (255 >> (8 - scale)));
+    let two = (ones & 0x00FF_00FF_00FF_00FF) | ((ones & 0xFF00_FF00_FF00_FF00) >> (8 - scale));
+    let four = (two & 0x0000_FFFF_0000_FFFF) | ((two & 0xFFFF_0000_FFFF_0000) >> (16 - 2 * scale));
+    (four & 0x0000_0000_FFFF_FFFF) | ((four & 0xFFFF_FFFF_0000_0000) >> (32 - 4 * scale))
 }
 
 /// Writes the bytes of a row of pixels, if a module is more than a byte wide, so that a byte has

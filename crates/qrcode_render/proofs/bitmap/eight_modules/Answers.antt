@@ -1,18 +1,10 @@
--- The bits of one module more.
-use Rattle.std.proofs.Common.{◌+◌, get_or, arith}
-use Rattle.qrcode_render.proofs.PackedLemmas.{module_at, more_bits}
+-- The bits, from the bytes of the modules.
+use Rattle.std.proofs.Common.{◌+◌, ◌-◌, ◌∙◌, ap, take, drop, get_or}
+use Rattle.qrcode_render.proofs.WordLemmas.{module_within, packed, packed_is}
 use Rattle.qrcode_render.proofs.bitmap.eight_modules.Goals as goal
 
-pub overflow_add-bits : goal.overflow_add-bits
-overflow_add-bits c =
-    let byte = module_at c.args.row c.args.modules.now (c.args.column + c.loop-i.i) c.requires.bytes (omega (arith, c.loop-i-test.true, c.requires.inside)) in
-    let more = more_bits c.args.row c.args.column c.args.scale c.loop-i.i c.loop-i.bits (get_or c.args.modules.now (c.args.column + c.loop-i.i) 0)
-    c.requires.some c.requires.narrow c.loop-i-test.true c.loop-i.invariant byte in
-    omega (arith, more.whole, more.fits, c.from.ensures)
-
-pub loop-i-preserved : goal.loop-i-preserved
-loop-i-preserved c =
-    let byte = module_at c.args.row c.args.modules.now (c.args.column + c.loop-i.i) c.requires.bytes (omega (arith, c.loop-i-test.true, c.requires.inside)) in
-    let more = more_bits c.args.row c.args.column c.args.scale c.loop-i.i c.loop-i.bits (get_or c.args.modules.now (c.args.column + c.loop-i.i) 0)
-    c.requires.some c.requires.narrow c.loop-i-test.true c.loop-i.invariant byte in
-    omega (arith, more.whole, more.are, c.from.ensures)
+pub returns : goal.returns
+returns c =
+    ap (packed c.args.scale) c.from_be_bytes-word.ensures
+    ∙ packed_is c.args.row c.args.column c.args.scale (λ i. get_or (take (c.args.column + 8 - c.args.column) (drop c.args.column c.args.modules.now)) i 0)
+    c.requires.some c.requires.narrow (λ i few. module_within c.args.row c.args.modules.now c.args.column i c.requires.bytes c.requires.inside few)

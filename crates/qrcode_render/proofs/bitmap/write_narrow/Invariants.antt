@@ -6,9 +6,14 @@ use Rattle.qrcode_render.specs.{Bitmaps.pixel_byte, Shown.shown}
 use Rattle.qrcode_render.proofs.bitmap.write_narrow.Given as goal
 
 abbrev pub invariant-loop-group : goal.invariant-loop-group
-invariant-loop-group l =
-    take (min (l.group * l.scale) (length l.line)) l.line
-    ≡ map (pixel_byte (shown l.picture) l.y) (range_with_len 0 (min (l.group * l.scale) (length l.line)))
+invariant-loop-group l = record {
+  long : length l.bytes ≡ 216;
+  written : take (l.group * l.scale) l.bytes ≡ map (pixel_byte (shown l.picture) l.y) (range_with_len 0 (l.group * l.scale));
+}
 
 abbrev pub invariant-loop-i : goal.invariant-loop-i
-invariant-loop-i l = take (l.first + l.i) l.line ≡ map (pixel_byte (shown l.picture) l.y) (range_with_len 0 (l.first + l.i))
+invariant-loop-i l = record {
+  long : length l.bytes ≡ 216;
+  written : take (l.first + min l.i l.scale) l.bytes
+      ≡ map (pixel_byte (shown l.picture) l.y) (range_with_len 0 (l.first + min l.i l.scale));
+}
