@@ -9,6 +9,8 @@ pub mod PixelLemmas
 pub mod SettingLemmas
 pub mod TerminalLemmas
 pub mod PathLemmas
+pub mod RunEnds
+pub mod RowRuns
 pub mod TextLemmas
 pub mod CoverLemmas
 pub mod XmlLemmas

@@ -33,13 +33,6 @@ dark_within p x y k inside =
     sym (module_in_row p x k y (omega (arith, inside, run_room p x y)))
     ∙ prefix_len_passes (λ (b : Bool). b) (drop x (dark_row p y)) k false inside
 
--- the one behind it is light
-light_behind : (p : Picture) (x y : ℕ) → x + dark_run_length p x y < columns_of p → is_dark_module p (x + dark_run_length p x y) y ≡ false
-unfolding dark_run_length
-light_behind p x y inside =
-    sym (module_in_row p x (dark_run_length p x y) y inside)
-    ∙ prefix_len_stops (λ (b : Bool). b) (drop x (dark_row p y)) false (omega (arith, inside, length-drop x (dark_row p y), length_of_row p y))
-
 -- none begins behind a dark module
 no_run_after : (p : Picture) (x y : ℕ) → is_dark_module p x y ≡ true → begins_run p (x + 1) y ≡ false
 no_run_after p x y dark = grind (arith, common_steps)
@@ -50,12 +43,6 @@ first_begins p y = grind (arith, common_steps)
 
 pub begins_behind : (p : Picture) (x y : ℕ) → is_dark_module p x y ≡ false → begins_run p (x + 1) y ≡ is_dark_module p (x + 1) y
 begins_behind p x y light = grind (arith, common_steps)
-
-pub begins_behind_run : (p : Picture) (x y n : ℕ) → n ≡ dark_run_length p x y → x + n < columns_of p →
-    begins_run p (x + n) y ≡ is_dark_module p (x + n) y
-begins_behind_run p x y n is inside =
-    let light : is_dark_module p (x + n) y ≡ false = rw is (light_behind p x y (omega (arith, is, inside))) in
-    rw light refl
 
 module _ (write : ℕ → ℕ → ℕ → List ℕ) where
   -- the path begins with no row
@@ -148,5 +135,3 @@ dark_places p row y n modules are long room dark k inside =
     ap (nat_lt 0) (module_at row modules k same (omega (arith, inside, long, room))) ∙ (lit (is_dark_at row k) ∙ dark k)
 
 pub ruleset paths = (path_start, path_row)
-
-pub ruleset runs = (run_dark, run_light, run_end)

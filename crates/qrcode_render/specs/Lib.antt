@@ -8,6 +8,7 @@ pub mod Paths
 pub mod Eps
 pub mod Pens
 pub mod Numbers
+pub mod Runs
 pub mod Options
 pub mod Rendered
 pub mod Covered

@@ -1,13 +1,14 @@
 //! A picture as one path: a rectangle for each run of dark modules in a row.
 ghost use Rattle.std.specs.Prelude.{◌≡◌, ◌+◌, ◌*◌, ◌/◌, ◌≤◌, ◌<◌, ◌++◌, [], ◌∷◌, OnOk};
-ghost use Rattle.std.specs.Prelude.{ℕ, decimal, length, nat_lt, slice_index, take};
+ghost use Rattle.std.specs.Prelude.{ℕ, decimal, length, slice_index, take};
 ghost use Rattle.std.specs.Str.{IsUtf8};
 ghost use Rattle.std.specs.String.{string_bytes};
 ghost use Rattle.qrcode_render.specs.declared.bounds.TheConstants.{MAX_COLUMNS};
 ghost use Rattle.qrcode_render.specs.Numbers.{word_text};
-ghost use Rattle.qrcode_render.specs.Paths.{dark_run_length, path, row_path};
+ghost use Rattle.qrcode_render.specs.Paths.{path, row_path};
+ghost use Rattle.qrcode_render.specs.Runs.{EndsRun};
 ghost use Rattle.qrcode_render.specs.Pens.{rectangle_by};
-ghost use Rattle.qrcode_render.specs.Pictures.{columns_of, is_dark_module, rows_of};
+ghost use Rattle.qrcode_render.specs.Pictures.{columns_of, rows_of};
 ghost use Rattle.qrcode_render.specs.Shown.{shown};
 
 use crate::numbers::NUMBERS;
@@ -64,38 +65,42 @@ fn write_row(line: &mut [u8], picture: &Picture, pen: Pen, y: usize) -> usize
     let mut modules = [0u8; ROOM];
     row.write_bytes(&mut modules);
     let columns = picture.columns();
-    let (mut x, mut end) = (0, 0);
+    let mut ends = [0u8; ROOM];
+    write_ends(&modules, columns, &mut ends);
+    let mut x = if modules[0] > 0 {
+        0
+    } else {
+        usize::from(ends[0])
+    };
+    let mut end = 0;
     'runs: while x < columns {
-        if modules[x] > 0 {
-            let length = dark_run_length(picture, &modules, x, y);
-            end = write_rectangle(line, end, pen, (x, y), length);
-            x += length;
-        } else {
-            x += 1;
-        }
+        let stop = usize::from(ends[x]);
+        end = write_rectangle(line, end, pen, (x, y), stop - x);
+        x = usize::from(ends[stop]);
     }
     end
 }
 
-/// Returns the number of dark modules from here up to the first light one, by the bytes of a row.
-#[tactic(auto, using(crate::proofs::PathLemmas::runs))]
-fn dark_run_length(picture: &Picture, modules: &[u8], x: usize, y: usize) -> usize
-    requires inside { x ≤ columns_of (shown picture.now) }
-    requires room { columns_of (shown picture.now) ≤ length modules.now }
-    requires bytes { (k : ℕ) → k < columns_of (shown picture.now)
-        → nat_lt 0 (slice_index modules.now k) ≡ is_dark_module (shown picture.now) k y }
-    ensures exact { result ≡ dark_run_length (shown picture.now) x y }
-    ensures within { x + result ≤ columns_of (shown picture.now) }
+/// Writes for each module of a row where its run ends, of modules of its colour, and for the end of
+/// the row itself. It goes from the last module to the first, so that nothing branches at the ends
+/// of runs, which cannot be foreseen.
+fn write_ends(modules: &[u8], columns: usize, ends: &mut [u8])
+    requires few { columns ≤ MAX_COLUMNS }
+    requires modules { columns < length modules.now }
+    requires room { columns < length ends.old }
+    ensures runs { (k : ℕ) → k < columns →
+        EndsRun modules.now columns k (slice_index ends.new k) }
+    ensures last { slice_index ends.new columns ≡ columns }
 {
-    let mut length = 0;
-    for column in x..picture.columns() {
-        let dark = modules[column] > 0;
-        if !dark {
-            break;
+    let mut end = columns as u8;
+    ends[columns] = end;
+    for i in 0..columns {
+        let x = columns - 1 - i;
+        if (modules[x] > 0) != (modules[x + 1] > 0) {
+            end = (x + 1) as u8;
         }
-        length += 1;
+        ends[x] = end;
     }
-    length
 }
 
 /// Writes the rectangle of some modules of a row, and returns where it ends.
