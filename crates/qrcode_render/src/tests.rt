@@ -1,5 +1,6 @@
 //! Tests of pictures of small grids, written by hand from the file formats, and of errors.
 use crate::options::RenderOptions;
+use crate::picture::Picture;
 use crate::renderers::{Eps, EscPos, Pbm, Png, Svg, Terminal, Zpl};
 use qrcode_core::plugin::{DynRenderer, PluginError, RenderConfig, RenderOutput};
 use qrcode_core::traits::ModuleView;
@@ -211,5 +212,34 @@ fn refuses_large_grids(rt: HostRuntime) -> Result<(), PluginError> {
         assert!(rt; matches!(answer, Err(PluginError::RenderFailed(_))));
     }
     assert!(rt; drawn(alloc, &Pbm, &cells[1..], (177, 1), &[]).is_ok());
+    Ok(())
+}
+
+/// The zone around the grid is light, and a pixel has the colour of its module.
+#[test]
+fn modules_and_pixels_of_a_picture(rt: HostRuntime) -> Result<(), PluginError> {
+    let options = RenderOptions::new(rt.alloc(), 2, 1)?;
+    let Some(view) = ModuleView::new_rect(&CELLS, 3, 2) else {
+        return Err(PluginError::InvalidModuleGrid);
+    };
+    let Some(picture) = Picture::of_grid(&view, options) else {
+        return Err(PluginError::InvalidModuleGrid);
+    };
+    let modules = [
+        (0, 0),
+        (1, 1),
+        (2, 1),
+        (3, 1),
+        (4, 1),
+        (1, 2),
+        (3, 2),
+        (1, 3),
+    ];
+    let dark = [false, true, false, true, false, true, false, false];
+    for i in 0..8 {
+        let (column, row) = modules[i];
+        assert_eq!(rt; picture.is_dark(column, row), dark[i]);
+        assert_eq!(rt; picture.is_dark_pixel(2 * column, 2 * row + 1), dark[i]);
+    }
     Ok(())
 }
