@@ -8,11 +8,11 @@ use Rattle.qrcode_core.proofs.Prelude.{drop, take, parts_from}
 use Rattle.qrcode_core.specs.Sequence.{IsSomePartTooLong}
 use Rattle.std.proofs.lemmas.Bool.{cases_lt}
 use Rattle.std.specs.Prelude.{◌≢◌, slice_index_or}
-use Rattle.qrcode_bits.specs.Contents.{content_bits, AreDataOf}
+use Rattle.qrcode_bits.specs.Contents.{content_bits}
 use Rattle.qrcode_bits.specs.Places.{IsCutPlace, AreCutPlaces, IsUnitEnd}
 use Rattle.qrcode_bits.specs.Plans.{FitsNone}
 use Rattle.qrcode_bits.specs.declared.bits.front.Content.{Content}
-use Rattle.qrcode_bits.specs.declared.bits.front.Content.TheVariants.{Bytes, Text, Elements}
+use Rattle.qrcode_bits.specs.declared.bits.front.Content.TheVariants.{Elements}
 use Rattle.qrcode_bits.proofs.Cutting.{within_content, start_place, end_place, place_within, place_between}
 use Rattle.qrcode_core.proofs.Prelude.{◌*◌, Header, ℤ, nat_abs, capacity, Version, Normal}
 use Rattle.qrcode_base.specs.Symbols.{IsNormalNumber}

@@ -3,7 +3,8 @@ use Rattle.std.proofs.Common.{◌≡◌, ℕ, zero, suc, ◌+◌, ◌*◌, ◌/�
 use Rattle.std.proofs.Common.{◌∙◌, arith, add-one}
 use Rattle.std.proofs.Common.{append-nil}
 use Rattle.std.specs.Prelude.{if◌then◌else◌}
-use Rattle.std.{specs.List.range_with_len, proofs.lemmas.Grind.pow_more, proofs.lemmas.List.FromFn.map-range_with_len_more, proofs.lemmas.List.FromFn.length-map-range_with_len}
+use Rattle.std.{specs.List.range_with_len, proofs.lemmas.Grind.pow_more, proofs.lemmas.List.FromFn.map-range_with_len_more}
+use Rattle.std.{proofs.lemmas.List.FromFn.length-map-range_with_len}
 use Rattle.std.proofs.Common.{◌-◌, ◌%◌, ◌≢◌, ap, inl, inr}
 use Rattle.std.{proofs.lemmas.Nat.div-add-mod', proofs.Math.Nat.mod-eq-sub-div-mul, proofs.lemmas.Bool.cases_lt}
 use Rattle.std.{proofs.lemmas.Nat.div-mul-add, proofs.lemmas.List.Sums.fold-append}

@@ -1,5 +1,6 @@
 -- The bytes of a row of pixels, from those of its modules.
-use Rattle.std.proofs.Common.{◌≡◌, ℕ, zero, suc, ◌+◌, ◌-◌, ◌*◌, ◌/◌, ◌%◌, ◌^◌, ◌<◌, ◌≤◌, ◌++◌, Bool, true, false, List, [], ◌∷◌, length, take, get_or, replicate, map, refl, sym}
+use Rattle.std.proofs.Common.{◌≡◌, ℕ, zero, suc, ◌+◌, ◌-◌, ◌*◌, ◌/◌, ◌%◌, ◌^◌, ◌<◌, ◌≤◌, ◌++◌, Bool, true, false, List, [], ◌∷◌, length, take, get_or}
+use Rattle.std.proofs.Common.{replicate, map, refl, sym}
 use Rattle.std.proofs.Common.{◌∙◌, ap, arith, inl, inr}
 use Rattle.std.specs.Prelude.{if◌then◌else◌}
 use Rattle.std.specs.List.{range_with_len}
@@ -70,8 +71,10 @@ byte_within f x scale i bits is below narrow =
     let halves : bits ≡ first * 2 ^ r + spelled f (x + front) r = is ∙ ap (spelled f x) parts ∙ spelled_split f x front r in
     let unit : 2 ^ r * 2 ^ up ≡ 2 ^ (56 - 8 * i) =
     sym (pow-add 2 r up) ∙ (let e : r + up ≡ 56 - 8 * i = omega (arith, below, narrow) in ap (λ n. 2 ^ n) e) in
-    let whole : bits * 2 ^ up ≡ first * 2 ^ (56 - 8 * i) + spelled f (x + front) r * 2 ^ up = shifted bits first (2 ^ r) (spelled f (x + front) r) (2 ^ up) _ halves unit in
-    let short : spelled f (x + front) r * 2 ^ up < 2 ^ (56 - 8 * i) = below_unit (spelled f (x + front) r) (2 ^ r) (2 ^ up) _ rest (grind (arith, pow_pos)) unit in
+    let whole : bits * 2 ^ up ≡ first * 2 ^ (56 - 8 * i) + spelled f (x + front) r * 2 ^ up =
+    shifted bits first (2 ^ r) (spelled f (x + front) r) (2 ^ up) _ halves unit in
+    let short : spelled f (x + front) r * 2 ^ up < 2 ^ (56 - 8 * i) =
+    below_unit (spelled f (x + front) r) (2 ^ r) (2 ^ up) _ rest (grind (arith, pow_pos)) unit in
     let all : 2 ^ (8 * scale) * 2 ^ up ≡ 18446744073709551616 =
     sym (pow-add 2 (8 * scale) up) ∙ (let e : 8 * scale + up ≡ 64 = omega (arith, narrow) in ap (λ n. 2 ^ n) e) in
     let fits : bits * 2 ^ up < 18446744073709551616 =

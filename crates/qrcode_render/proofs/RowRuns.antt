@@ -2,7 +2,8 @@
 use Rattle.std.proofs.Common.{◌≡◌, ℕ, zero, suc, ◌+◌, ◌-◌, ◌<◌, ◌≤◌, true, false, List, [], inl, inr, refl, sym, subst, ap, ◌∙◌, arith}
 use Rattle.std.specs.Prelude.{not, nat_lt, slice_index}
 use Rattle.std.proofs.lemmas.Bool.{cases_lt}
-use Rattle.qrcode_render.specs.{Paths.begins_run, Paths.dark_run_length, Paths.row_path, Pictures.Picture, Pictures.columns_of, Pictures.is_dark_module, Runs.EndsRun}
+use Rattle.qrcode_render.specs.{Paths.begins_run, Paths.dark_run_length, Paths.row_path, Pictures.Picture, Pictures.columns_of, Pictures.is_dark_module}
+use Rattle.qrcode_render.specs.{Runs.EndsRun}
 use Rattle.qrcode_render.proofs.PathLemmas.{begins_behind, first_begins, row_no_run, row_none, run_dark, run_end, run_light}
 
 -- dark modules up to a light one are a run

@@ -46,4 +46,5 @@ returns c =
     let ends = groups_end p c.loop-group.group c.scale-scale.result c.columns.result c.scale-scale.ensures.exact c.columns.ensures.exact
     (omega (arith, c.loop-group-test.false, c.div_ceil-group-end.ensures)) in
     c.copy_from_slice.ensures.after
-    ∙ front_row p c.args.y (c.loop-group.group * c.scale-scale.result) (length c.args.line.now) c.loop-group.bytes c.requires.long ends c.loop-group.invariant.written
+    ∙ front_row p c.args.y (c.loop-group.group * c.scale-scale.result) (length c.args.line.now) c.loop-group.bytes c.requires.long ends
+    c.loop-group.invariant.written

@@ -1,6 +1,5 @@
 -- The module before is of the colour of the last one, or begins a run.
-use Rattle.std.proofs.Common.{◌≡◌, ◌+◌, ◌-◌, ◌≤◌, ◌<◌, ℕ, arith, inl, inr, length, slice_index, slice_set, subst, sym, ◌∙◌}
-use Rattle.std.proofs.lemmas.Bool.{cases_lt}
+use Rattle.std.proofs.Common.{◌≡◌, ◌+◌, ◌-◌, arith, subst, sym}
 use Rattle.std.proofs.lemmas.Grind.{common_steps}
 use Rattle.qrcode_render.specs.Runs.{EndsRun}
 use Rattle.qrcode_render.proofs.RunEnds.{run_same, run_other, runs_more}

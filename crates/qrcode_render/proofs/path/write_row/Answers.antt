@@ -1,11 +1,12 @@
 -- The runs of the row, by the bytes of its modules and by where the runs end.
-use Rattle.std.proofs.Common.{◌≡◌, ℕ, ◌+◌, ◌-◌, ◌<◌, ◌≤◌, ◌∙◌, ◌++◌, List, true, false, ap, sym, subst, arith, length}
-use Rattle.std.specs.Prelude.{nat_lt, slice_index}
+use Rattle.std.proofs.Common.{◌≡◌, ℕ, ◌+◌, ◌-◌, ◌<◌, ◌∙◌, ◌++◌, List, ap, sym, subst, arith}
+use Rattle.std.specs.Prelude.{slice_index}
 use Rattle.std.specs.Str.{IsUtf8}
 use Rattle.std.proofs.lemmas.Bool.{le-ltb, lt-ltb}
-use Rattle.qrcode_render.specs.{Paths.begins_run, Paths.row_path, Pens.rectangle_by, Pictures.Picture, Pictures.columns_of, Pictures.is_dark_module, Runs.EndsRun, Shown.shown}
+use Rattle.qrcode_render.specs.{Paths.begins_run, Paths.row_path, Pens.rectangle_by, Pictures.Picture, Pictures.columns_of, Pictures.is_dark_module}
+use Rattle.qrcode_render.specs.{Runs.EndsRun, Shown.shown}
 use Rattle.qrcode_render.proofs.PathLemmas.{dark_places, row_over_run}
-use Rattle.qrcode_render.proofs.RowRuns.{Begins, Reaches, begins_at_once, begins_later, dark_run, first_run, next_run}
+use Rattle.qrcode_render.proofs.RowRuns.{Begins, begins_at_once, begins_later, dark_run, first_run, next_run}
 use Rattle.qrcode_render.proofs.TextLemmas.{row_utf8}
 use Rattle.qrcode_render.proofs.path.write_row.Goals.{then-modules-gt0, else-modules-gt0}
 use Rattle.qrcode_render.proofs.path.write_row.Goals as goal
@@ -15,7 +16,8 @@ ends_of : (p : Picture) (m ends : List ℕ) (columns : ℕ) → columns ≡ colu
     ((k : ℕ) → k < columns → EndsRun m columns k (slice_index ends k)) → (k : ℕ) → k < columns_of p → EndsRun m (columns_of p) k (slice_index ends k)
 ends_of p m ends columns is runs = subst (λ n. (k : ℕ) → k < n → EndsRun m n k (slice_index ends k)) is runs
 
-last_of : (p : Picture) (ends : List ℕ) (columns : ℕ) → columns ≡ columns_of p → slice_index ends columns ≡ columns → slice_index ends (columns_of p) ≡ columns_of p
+last_of : (p : Picture) (ends : List ℕ) (columns : ℕ) → columns ≡ columns_of p → slice_index ends columns ≡ columns →
+    slice_index ends (columns_of p) ≡ columns_of p
 last_of p ends columns is last = subst (λ n. slice_index ends n ≡ n) is last
 
 pub runs-init : goal.runs-init
@@ -32,7 +34,8 @@ runs-init c =
     let first : Begins write p y c.if-modules-gt0.x = elim c.if-modules-gt0.branch [
       | then-modules-gt0 w ↦ begins_at_once write p y c.if-modules-gt0.x w.x-is (sym (places 0 some) ∙ lt-ltb 0 _ w.if-modules-gt0.true)
       | else-modules-gt0 w ↦ begins_later write p y c.if-modules-gt0.x (slice_index ends 0) (omega (arith, w.x-is, w.from-x.ensures))
-          (first_run p y m places write ends (ends_of p m ends _ exact c.write_ends.ensures.runs) (last_of p ends _ exact c.write_ends.ensures.last) 0 (omega arith)
+          (first_run p y m places write ends (ends_of p m ends _ exact c.write_ends.ensures.runs)
+          (last_of p ends _ exact c.write_ends.ensures.last) 0 (omega arith)
           (λ _. sym (places 0 some) ∙ le-ltb 0 _ w.if-modules-gt0.false))
     ] in
     record {
@@ -53,7 +56,8 @@ runs-smaller c =
     (omega (arith, exact, c.columns-columns.ensures.bound)) c.row-row.ensures.dark in
     let runs = ends_of p m ends _ exact c.write_ends.ensures.runs in
     let inside : c.runs.x < columns_of p = omega (arith, c.runs-test.true, exact) in
-    let next = next_run p c.args.y m places (rectangle_by c.args.pen) ends runs (last_of p ends _ exact c.write_ends.ensures.last) c.runs.x inside (c.runs.invariant.dark inside) in
+    let last = last_of p ends _ exact c.write_ends.ensures.last in
+    let next = next_run p c.args.y m places (rectangle_by c.args.pen) ends runs last c.runs.x inside (c.runs.invariant.dark inside) in
     let to : c.from-x-in-runs.result ≡ slice_index ends (slice_index ends c.runs.x) = c.from-x-in-runs.ensures ∙ ap (slice_index ends) c.from-stop.ensures in
     omega (arith, inside, (runs c.runs.x inside).after, next.onward, to)
 
@@ -84,7 +88,8 @@ runs-preserved c =
       text = c.write_rectangle-end.ensures.text
           ∙ ap (λ l. l ++ write x y (c.from-stop.result - x)) c.runs.invariant.text
           ∙ ap (λ k. row_path write p y x ++ write x y (k - x)) c.from-stop.ensures
-          ∙ sym (row_over_run write p y x (stop - x) (sym (dark_run p y m places x stop (runs x inside) dark)) (omega (arith, some)) (c.runs.invariant.begins inside))
+          ∙ sym (row_over_run write p y x (stop - x) (sym (dark_run p y m places x stop (runs x inside) dark))
+          (omega (arith, some)) (c.runs.invariant.begins inside))
           ∙ ap (row_path write p y) end
           ∙ sym next.text
           ∙ ap (row_path write p y) (sym to);

@@ -14,7 +14,8 @@ loop-copy-preserved c =
     let upper_dark = dark_places p c.row-row.result (2 * c.args.line / scale) 216 c.write_bytes.new.line c.write_bytes.ensures c.write_bytes.auto.line
     (omega (arith, c.columns-column-end.ensures.exact, c.columns-column-end.ensures.bound)) c.row-row.ensures.dark
     column (omega (arith, c.loop-column-test.true, c.columns-column-end.ensures.exact)) in
-    let lower_dark = dark_places p c.row-next.result ((2 * c.args.line + 1) / scale) 216 c.write_bytes-2.new.line c.write_bytes-2.ensures c.write_bytes-2.auto.line
+    let lower_dark = dark_places p c.row-next.result ((2 * c.args.line + 1) / scale) 216 c.write_bytes-2.new.line
+    c.write_bytes-2.ensures c.write_bytes-2.auto.line
     (omega (arith, c.columns-column-end.ensures.exact, c.columns-column-end.ensures.bound)) c.row-next.ensures.dark
     column (omega (arith, c.loop-column-test.true, c.columns-column-end.ensures.exact)) in
     joined (string_bytes c.args.text.now)
