@@ -1,4 +1,5 @@
-use Rattle.qrcode_grid.proofs.Prelude.{arith, common_steps, ◌≡◌, ◌∙◌, ℕ, ap, refl, set, List, Module, Drawing, drawn_over, functional_color, map_cells, width_of}
+use Rattle.qrcode_grid.proofs.Prelude.{arith, common_steps, ◌≡◌, ◌∙◌, ℕ, ap, refl, set, List, Module, Drawing, drawn_over, map_cells, width_of}
+use Rattle.qrcode_grid.proofs.Prelude.{functional_color}
 use Rattle.qrcode_grid.proofs.{WholeSymbols.version_of_symbol, GridLaws.consistent_regions, GridLaws.has_its_alignments, WrittenWords.far_version_word}
 use Rattle.qrcode_grid.{proofs.Conditions.drawn_modules, proofs.Conditions.settled_modules, specs.Canvas.with_functional}
 use Rattle.qrcode_grid.proofs.canvas.Canvas.draw_all_functional_patterns.Goals as goal
