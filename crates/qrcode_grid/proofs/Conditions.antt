@@ -10,6 +10,7 @@ use Rattle.qrcode_grid.proofs.Prelude.{slice_get-map, slice_get_within, get_or_f
 use Rattle.qrcode_grid.{specs.declared.canvas.MaskPattern.TheVariants.Checkerboard, specs.declared.canvas.masks.TheConstants.CONDITIONS}
 use Rattle.qrcode_grid.{proofs.FieldLaws.passes_below, proofs.FieldLaws.passes_below-at, proofs.MarkedLanes.eqb_true, proofs.WrittenWords.length-enumerated}
 use Rattle.qrcode_grid.{proofs.WrittenWords.get_or-enumerated}
+use Rattle.std.proofs.lemmas.List.{set-get_or, set-set}
 
 abbrev is_right : ℕ → ℕ → ℕ → Bool
 is_right y k m = eqb (bit_at (get_or (get_or CONDITIONS y []) k 0) m) (cond (is_inverted (pattern_of m) k y) 1 0)
@@ -129,6 +130,20 @@ pub settled_modules : (read cells now items : List Module) (long lent : ℕ) (sl
     length cells ≡ long → cells ≡ set now lent slot → now ≡ items → read ≡ set items lent slot
 settled_modules read cells now items long lent slot is whole written same =
     is ∙ written_whole cells items long whole ∙ written ∙ ap (λ (l : List Module). set l lent slot) same
+
+-- a canvas whose lent module is also written into its place
+pub still_lent : (d : Drawing) (version : Version) (level : EcLevel) (cells now items : List Module) (long lent : ℕ) (slot : Module) →
+    (record { version = version; level = level; modules = set items lent slot }) ≡ d → length cells ≡ long → cells ≡ set now lent slot → now ≡ items →
+    (record { version = version; level = level; modules = set (take long (cells ++ drop (length cells) items)) lent slot }) ≡ d
+still_lent d version level cells now items long lent slot is whole written same =
+    ap (λ (l : List Module). record { version = version; level = level; modules = l })
+    (ap (λ (l : List Module). set l lent slot) (settled_modules _ cells now items long lent slot refl whole written same) ∙ set-set items lent slot slot) ∙ is
+
+-- the modules of a canvas after they were drawn, and the one that was lent read again
+pub drawn_modules : (read new items : List Module) (long lent : ℕ) (slot cell : Module) → read ≡ take long (new ++ drop (length new) items) →
+    length new ≡ long → slot ≡ cell → cell ≡ get_or read lent cell → set read lent slot ≡ new
+drawn_modules read new items long lent slot cell is whole same at =
+    ap (set read lent) (same ∙ at) ∙ set-get_or read lent cell ∙ is ∙ written_whole new items long whole
 
 -- The masks of a family: one at each of its places, with a penalty of its own.
 

@@ -1,7 +1,7 @@
 -- Words and rows that loops write into a grid: over bytes and over modules alike. Then the distance
 -- of drawn words.
 use Rattle.qrcode_grid.proofs.Prelude.{All, rules, ◌≡◌, ◌≢◌, ℕ, ◌<◌, ◌≤◌, ◌+◌, ◌-◌, ◌*◌, ◌==◌, ◌&&◌, Bool, true, false, List, [], ◌∷◌, length, get_or, set}
-use Rattle.qrcode_grid.proofs.Prelude.{drop, Option, Some, None, option_map, cond, ap, ◌∙◌, sym, subst, arith, inl, inr, refl, suc, get_or-set_same}
+use Rattle.qrcode_grid.proofs.Prelude.{drop, Option, Some, None, option_map, cond, ap, ◌∙◌, sym, subst, arith, inl, inr, refl, suc, get_or-set_same, replicate}
 use Rattle.qrcode_grid.proofs.Prelude.{get_or-set_other, pos, negsuc, unwrap_or, ◌/◌, ◌%◌, zero, length-set, ℤ, slice_get, fold, option_or, cases_eq, cases_lt}
 use Rattle.qrcode_grid.proofs.Prelude.{nat_tests, Color, Dark, format_first, format_second, format_micro, digit_at, bit_at, digit_color, version_word}
 use Rattle.qrcode_grid.proofs.Prelude.{differing_digits, map_cells, map, common_steps, EcLevel, Version, Normal, Micro, IsVersion, MaskPattern, format_value}
@@ -145,6 +145,11 @@ pub lent_elsewhere : {X : Type 0} (xs cells : List X) (i k lent : ℕ) (slot x :
     x ≡ get_or cells i x → slice_get xs k ≡ Some x
 lent_elsewhere {X = X} xs cells i k lent slot x is at within other read =
     slice_get_at xs i k x at within (read ∙ sym (ap (λ (l : List X). get_or l i x) is ∙ get_or-set_other cells lent i slot x other))
+
+-- the first module of an empty list is lent as it is
+pub first_lent : {X : Type 0} (n : ℕ) (x : X) → set (replicate n x) 0 x ≡ replicate n x
+first_lent zero x = refl
+first_lent (suc n) x = refl
 
 -- a drawing whose module at k is lent
 pub with_slot : (d : Drawing) (version : Version) (level : EcLevel) (old now : List Module) (i k : ℕ) (slot : Module) →

@@ -1,11 +1,7 @@
 //! A module of a canvas in one byte. `Module` takes two bytes, and lanes cannot read every second
 //! byte of a list at once. Contracts see a cell as its module.
-ghost use Rattle.std.specs.Prelude.{◌≡◌, ◌==◌, ◌%◌, ◌/◌, ◌<◌, if◌then◌else◌, true, length, slice_set};
-ghost use Rattle.std.specs.Prelude.{map};
+ghost use Rattle.std.specs.Prelude.{◌≡◌, ◌<◌, length, map, slice_set};
 ghost use Rattle.qrcode_grid.specs.Canvas.{color_of_module};
-ghost use Rattle.qrcode_grid.specs.Masks.{masked};
-ghost use Rattle.qrcode_grid.specs.Scoring.{code_of};
-ghost use Rattle.qrcode_grid.specs.Walk.{bit_color};
 
 use crate::canvas::Module;
 use qrcode_base::types::Color;
@@ -60,7 +56,7 @@ static ROWS: [[Kind; 2]; 4] = [
 ];
 
 impl Cell {
-    ghost use Rattle.std.specs.Prelude.{◌≡◌, ◌==◌, ◌%◌, ◌/◌, ◌<◌, if◌then◌else◌, true};
+    ghost use Rattle.std.specs.Prelude.{◌≡◌, ◌==◌, ◌%◌, ◌/◌, ◌<◌, ◌↔◌, if◌then◌else◌, IsTrue};
     ghost use Rattle.qrcode_grid.specs.Canvas.{color_of_module};
     ghost use Rattle.qrcode_grid.specs.Masks.{masked};
     ghost use Rattle.qrcode_grid.specs.Scoring.{code_of};
@@ -119,7 +115,7 @@ impl Cell {
     /// Whether the module is empty.
     #[inline(always)]
     pub fn is_empty(self) -> bool
-        ensures { result ≡ true → self ≡ Module.Empty }
+        ensures { IsTrue result ↔ (self ≡ Module.Empty) }
     {
         matches!(self.kind, Kind::Blank)
     }
@@ -143,7 +139,7 @@ impl Cell {
         ensures { result ≡ masked inverted self }
     {
         let data = self.kind != Kind::White && self.kind != Kind::Black;
-        let dark = self.kind == Kind::Black || self.kind == Kind::One;
+        let dark = self.color() == Color::Dark;
         let kind = if dark != (data & inverted) {
             Kind::Black
         } else {
@@ -157,11 +153,7 @@ impl Cell {
     pub fn dark(self) -> u8
         ensures { result ≡ (if code_of self % 2 == 1 then 255 else 0) }
     {
-        if self.kind == Kind::Black || self.kind == Kind::One {
-            255
-        } else {
-            0
-        }
+        if self.color() == Color::Dark { 255 } else { 0 }
     }
 
     /// Returns 255 if a mask may invert the module, and else 0.
@@ -188,16 +180,13 @@ impl Cell {
     }
 }
 
-/// Writes a module that was lent into its place, if it has one. Returns the index of no module.
+/// Writes a module that was lent into its place. Whoever then draws over the cells reads it again.
 #[inline(always)]
-pub fn settle(cells: &mut [Cell], lent: usize, slot: Module) -> usize
+pub fn settle(cells: &mut [Cell], lent: usize, slot: Module)
+    requires within { lent < length cells.old }
     ensures written { cells.new ≡ slice_set cells.old lent slot }
-    ensures none { result ≡ length cells.new }
 {
-    if lent < cells.len() {
-        cells[lent] = Cell::of(slot);
-    }
-    cells.len()
+    cells[lent] = Cell::of(slot);
 }
 
 /// Writes the colours of all modules.

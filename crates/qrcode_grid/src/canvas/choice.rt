@@ -40,7 +40,8 @@ impl Canvas {
 
     /// Returns a scratch list that begins with the masked candidates, and the penalties of the
     /// masks that the version has, in order. Bit m of a byte of the candidates is the colour under
-    /// the mask with number m in Normal symbols.
+    /// the mask with number m in Normal symbols. The module that was lent is first written into its
+    /// place, because the penalties are counted over the list of modules.
     ///
     /// The scratch list has four parts: the candidates, twelve rows of mask conditions, the
     /// candidates within light modules, and the edges. The last two have 14 more rows than the grid
@@ -58,7 +59,7 @@ impl Canvas {
         ensures refusal { IfErr result (λ e. e ≡ QrError.OutOfMemory) }
         ensures same { self.new ≡ self.old }
     {
-        self.lent = settle(&mut self.modules, self.lent, self.slot);
+        settle(&mut self.modules, self.lent, self.slot);
         let width = self.width;
         let length = width * width + 12 * width + 6 + 2 * ((width + 14) * (width + 4) + 256);
         let room = if length > 56_000 { 400_000 } else { 0 };

@@ -1,8 +1,9 @@
 //! The generator polynomials of the numbers of error correction bytes that blocks of symbols have
 //! (ISO/IEC 18004:2006, generator polynomials for Reed-Solomon error correction codewords), high
 //! coefficients first.
-ghost use Rattle.std.specs.Prelude.{◌≡◌, ◌+◌, IfSome, length, slice_index};
+ghost use Rattle.std.specs.Prelude.{◌≡◌, ◌+◌, ◌↔◌, IfSome, IsSome, IsTrue, length, slice_index};
 ghost use Rattle.qrcode_grid.specs.Codes.{IsSound};
+ghost use Rattle.qrcode_grid.specs.Generators.{has_generator};
 
 static GENERATOR_2: [u8; 3] = [1, 3, 2];
 
@@ -72,6 +73,7 @@ pub fn known_generator(n: usize) -> Option<&'static [u8]>
     ensures len { IfSome result (λ g. length g.now ≡ n + 1) }
     ensures first { IfSome result (λ g. slice_index g.now 0 ≡ 1) }
     ensures sound { IfSome result (λ g. IsSound n g.now) }
+    ensures known { IsSome result ↔ IsTrue (has_generator n) }
 {
     match n {
         2 => Some(&GENERATOR_2),

@@ -3,7 +3,7 @@
 use Rattle.qrcode_grid.proofs.Prelude.{◌≡◌, ◌<◌, ◌*◌, ap, ◌∙◌, sym, subst, arith, map, take, get_or, length, List, MaskPattern, IsOfFamily, width_of, byte_of}
 use Rattle.qrcode_grid.proofs.Prelude.{penalty, color_of_module, colors_of, with_mask, Drawing, drop, ◌++◌, family, slice_get, Some, normal_number, plane}
 use Rattle.qrcode_grid.proofs.Prelude.{common_steps, slice_get-get_or}
-use Rattle.qrcode_grid.proofs.Conditions.{masked_by_number, number_small, written_whole, settled_modules, next_penalty, of_family}
+use Rattle.qrcode_grid.proofs.Conditions.{masked_by_number, number_small, written_whole, settled_modules, next_penalty, of_family, still_lent}
 use Rattle.qrcode_grid.{specs.declared.canvas.MaskPattern.TheVariants.Checkerboard, proofs.WholeSymbols.version_of_symbol}
 use Rattle.qrcode_grid.proofs.canvas.Canvas.candidates.Goals as goal
 
@@ -19,8 +19,8 @@ overflow_add-length-6 c = grind (arith, common_steps, version_of_symbol)
 pub loop-pattern-preserved : goal.loop-pattern-preserved
 loop-pattern-preserved c =
     let d = c.args.self.now in let s = c.self.inside in let v = d.version in
-    let settled = settled_modules _ c.settle-self-inside.new.cells _ _ _ _ _ c.deref.ensures.value
-    (omega (arith, c.settle-self-inside.auto.cells, c.deref_mut.ensures.len)) c.settle-self-inside.ensures.written c.deref_mut.ensures.value in
+    let settled = settled_modules _ c.settle.new.cells _ _ _ _ _ c.deref.ensures.value
+    (omega (arith, c.settle.auto.cells, c.deref_mut.ensures.len)) c.settle.ensures.written c.deref_mut.ensures.value in
     let i = c.loop-pattern.pattern-index in
     let read = c.family_of-pattern-items.result.now in
     let pattern = get_or read i Checkerboard in
@@ -42,8 +42,8 @@ loop-pattern-preserved c =
 pub returns-clause-candidates : goal.returns-clause-candidates
 returns-clause-candidates c =
     let s = c.self.inside in let v = s.version in let new = c.penalties_of-numbered.new.scratch in
-    let settled = settled_modules _ c.settle-self-inside.new.cells _ _ _ _ _ c.deref.ensures.value
-    (omega (arith, c.settle-self-inside.auto.cells, c.deref_mut.ensures.len)) c.settle-self-inside.ensures.written c.deref_mut.ensures.value in
+    let settled = settled_modules _ c.settle.new.cells _ _ _ _ _ c.deref.ensures.value
+    (omega (arith, c.settle.auto.cells, c.deref_mut.ensures.len)) c.settle.ensures.written c.deref_mut.ensures.value in
     let items = c.in_ok-scratch.scratch.items in let long = c.in_ok-scratch.scratch.len in
     let whole = written_whole new items long (omega (arith, c.penalties_of-numbered.auto.scratch, c.deref_mut.ensures.len)) in
     subst (λ (d : Drawing). (p : MaskPattern) → IsOfFamily d.version p →
@@ -55,3 +55,23 @@ returns-clause-candidates c =
     ∙ c.penalties_of-numbered.ensures.candidates (normal_number p) (number_small p)
     ∙ ap (λ ms. map byte_of (map color_of_module ms)) (masked_by_number v s.level p s.width _ c.deref.result.now _ c.self.invariant.1
     (c.format_words-words.ensures p f) settled))
+
+pub returns-in_err-scratch-clause-same : goal.returns-in_err-scratch-clause-same
+returns-in_err-scratch-clause-same c =
+    still_lent _ _ _ c.settle.new.cells _ _ _ _ _ c.self.view_is (omega (arith, c.settle.auto.cells, c.deref_mut.ensures.len)) c.settle.ensures.written
+    c.deref_mut.ensures.value
+
+pub returns-in_err-values-clause-same : goal.returns-in_err-values-clause-same
+returns-in_err-values-clause-same c =
+    still_lent _ _ _ c.settle.new.cells _ _ _ _ _ c.self.view_is (omega (arith, c.settle.auto.cells, c.deref_mut.ensures.len)) c.settle.ensures.written
+    c.deref_mut.ensures.value
+
+pub returns-in_err-push-clause-same : goal.returns-in_err-push-clause-same
+returns-in_err-push-clause-same c =
+    still_lent _ _ _ c.settle.new.cells _ _ _ _ _ c.self.view_is (omega (arith, c.settle.auto.cells, c.deref_mut.ensures.len)) c.settle.ensures.written
+    c.deref_mut.ensures.value
+
+pub returns-clause-same : goal.returns-clause-same
+returns-clause-same c =
+    still_lent _ _ _ c.settle.new.cells _ _ _ _ _ c.self.view_is (omega (arith, c.settle.auto.cells, c.deref_mut.ensures.len)) c.settle.ensures.written
+    c.deref_mut.ensures.value
