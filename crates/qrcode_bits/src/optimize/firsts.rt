@@ -39,7 +39,7 @@ pub(super) fn first_segments<S: AnyStart, L: Ledger>(
         let next = before.next(start);
         add_start(&mut groups, segment.mode, segment.begin, &next, comparisons);
         before = last_step(segments, &headers, version, start + 1, &groups, comparisons);
-        if before.bits() > limit as u128 {
+        if before.exceeds(limit as u128) {
             return start;
         }
     }

@@ -38,18 +38,18 @@ next g c =
 pub last_step-before-requires-clause-groups : goal.last_step-before-requires-clause-groups
 last_step-before-requires-clause-groups g c = next g (goal.at.last_step-before-requires-clause-groups g c).After-add_start
 
-pub returns-then-bits-limit-clause-fits : goal.returns-then-bits-limit-clause-fits
-returns-then-bits-limit-clause-fits g c =
+pub returns-then-exceeds-clause-fits : goal.returns-then-exceeds-clause-fits
+returns-then-exceeds-clause-fits g c =
     subst (λ (n : ℕ). n ≤ c.args.limit) (step-bits _ _ _ _ c.loop-start.invariant.last) c.loop-start.invariant.few
 
-pub returns-then-bits-limit-clause-over : goal.returns-then-bits-limit-clause-over
-returns-then-bits-limit-clause-over g c _ =
-    subst (λ (n : ℕ). c.args.limit < n) (c.bits.ensures ∙ step-bits _ _ _ _ c.last_step-before.ensures.step) (omega (arith, c.if-bits-limit.true))
+pub returns-then-exceeds-clause-over : goal.returns-then-exceeds-clause-over
+returns-then-exceeds-clause-over g c _ =
+    subst (λ (n : ℕ). c.args.limit < n) (step-bits _ _ _ _ c.last_step-before.ensures.step) (c.exceeds.ensures.0 c.if-exceeds.true)
 
 pub loop-start-preserved : goal.loop-start-preserved
 loop-start-preserved g c = record {
   last = c.last_step-before.ensures.step;
-  few = subst (λ (n : ℕ). n ≤ c.args.limit) c.bits.ensures (omega (arith, c.if-bits-limit.false));
+  few = grind (arith, c.exceeds.ensures, c.if-exceeds.false);
   slots = c.add_start.ensures.long;
   groups = next g (goal.at.loop-start-preserved g c).After-add_start;
   ticked = omega (arith, c.loop-start.invariant.ticked, c.advance.ensures.ticked, c.add_start.ensures.ticked, c.last_step-before.ensures.ticked);
