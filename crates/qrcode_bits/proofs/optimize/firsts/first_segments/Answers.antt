@@ -1,16 +1,16 @@
 -- One segment after the other, up to the first that takes the plan past the limit.
-use Rattle.qrcode_bits.proofs.Prelude.{ℕ, ◌+◌, ◌<◌, ◌≤◌, ◌*◌, ◌≡◌, ◌∙◌, arith, refl, subst, length, AreGroups, groups_of, bits_before}
+use Rattle.qrcode_bits.proofs.Prelude.{ℕ, ◌+◌, ◌<◌, ◌≤◌, ◌*◌, ◌≡◌, arith, subst, length, AreGroups, groups_of, bits_before}
 use Rattle.qrcode_bits.proofs.optimize.firsts.first_segments.Given.{Over}
 use Rattle.qrcode_bits.proofs.optimize.firsts.first_segments.Goals.{After-advance, After-add_start}
-use Rattle.qrcode_bits.proofs.{Grouping.AreGroups-next, Grouping.AreGroups-none, Ending.step-small, Firsts.first-step, Firsts.step-bits}
+use Rattle.qrcode_bits.proofs.{Grouping.AreGroups-next, Ending.step-small, Firsts.first-step, Firsts.step-bits}
 use Rattle.qrcode_bits.proofs.optimize.firsts.first_segments.Goals as goal
 
 pub loop-start-init : goal.loop-start-init
 loop-start-init g c = record {
   last = first-step _ _ _ c.first-before.ensures;
   few = rw c.first-before.ensures (omega arith);
-  slots = refl;
-  groups = AreGroups-none g.S.AnyStart.read g.S.AnyStart.FAR c.args.segments.now c.args.version c.none-groups.result c.none-groups.ensures;
+  slots = c.requires.long;
+  groups = c.requires.none;
   ticked = omega arith;
 }
 
@@ -60,3 +60,9 @@ returns-clause-fits g c =
     let end : c.loop-start.start ≡ length c.args.segments.now = omega (arith, c.loop-start-test.false, c.loop-start.auto.start-end) in
     subst (λ (n : ℕ). bits_before c.args.segments.now c.args.version n ≤ c.args.limit) end
     (subst (λ (n : ℕ). n ≤ c.args.limit) (step-bits _ _ _ _ c.loop-start.invariant.last) c.loop-start.invariant.few)
+
+pub returns-then-exceeds-clause-groups : goal.returns-then-exceeds-clause-groups
+returns-then-exceeds-clause-groups g c _ = next g (goal.at.returns-then-exceeds-clause-groups g c).After-add_start
+
+pub returns-clause-groups : goal.returns-clause-groups
+returns-clause-groups g c less = absurd (omega (arith, c.loop-start-test.false, c.loop-start.auto.start-end, less))
