@@ -43,7 +43,7 @@ units-split (a ∷ b ∷ rest) (suc n) = one_split a b rest n (is_kanji_pair a b
 
 -- ---- Places
 
-some-size : (cs : List Class) (n : ℕ) → 1 ≤ n → 1 ≤ length cs → 1 ≤ total_size (take n cs)
+pub some-size : (cs : List Class) (n : ℕ) → 1 ≤ n → 1 ≤ length cs → 1 ≤ total_size (take n cs)
 some-size [] n h full = absurd (omega (arith, full))
 some-size (c ∷ cs) zero h full = absurd (omega (arith, h))
 some-size (c ∷ cs) (suc n) h full = let e = class_size-some c in omega (arith, e)

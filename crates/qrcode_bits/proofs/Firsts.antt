@@ -27,11 +27,11 @@ take-none : {X : Type 0} (n : ℕ) → ◌≡◌ {A = List X} (take n []) []
 take-none zero = refl
 take-none (suc n) = refl
 
-add-joined : (c : Class) (b : ℕ) (r : Run) (rest : List Run) → joins c r.class ≡ true →
+pub add-joined : (c : Class) (b : ℕ) (r : Run) (rest : List Run) → joins c r.class ≡ true →
     add_unit c b (r ∷ rest) ≡ record { class = c; begin = b; end = r.end } ∷ rest
 add-joined c b r rest e = rw e refl
 
-add-apart : (c : Class) (b : ℕ) (r : Run) (rest : List Run) → joins c r.class ≡ false →
+pub add-apart : (c : Class) (b : ℕ) (r : Run) (rest : List Run) → joins c r.class ≡ false →
     add_unit c b (r ∷ rest) ≡ record { class = c; begin = b; end = b + class_size c } ∷ r ∷ rest
 add-apart c b r rest e = rw e refl
 
@@ -78,13 +78,13 @@ first_runs b (c ∷ cs) zero h = (0, omega arith, refl)
 first_runs b (c ∷ cs) (suc n) h = more-runs b c cs n (runs (b + class_size c) cs) (λ m k. first_runs (b + class_size c) cs m k) h
 
 -- Some first units are parsed as these first segments alone.
-record AreFirst (bytes : List ℕ) (n : ℕ) : Type 0 where
-  k : ℕ
-  within : k ≤ length (units bytes)
-  alone : parsed (take (total_size (take k (units bytes))) bytes) ≡ take n (parsed bytes)
-  adjoin : Adjoin 0 (take n (parsed bytes)) (total_size (take k (units bytes)))
+pub record AreFirst (bytes : List ℕ) (n : ℕ) : Type 0 where
+  pub k : ℕ
+  pub within : k ≤ length (units bytes)
+  pub alone : parsed (take (total_size (take k (units bytes))) bytes) ≡ take n (parsed bytes)
+  pub adjoin : Adjoin 0 (take n (parsed bytes)) (total_size (take k (units bytes)))
 
-first_units : (bytes : List ℕ) (n : ℕ) → n ≤ length (parsed bytes) → AreFirst bytes n
+pub first_units : (bytes : List ℕ) (n : ℕ) → n ≤ length (parsed bytes) → AreFirst bytes n
 first_units bytes n h =
     let us = units bytes in
     let w = first_runs 0 us n (let e = length-map (runs 0 us) run_segment in omega (arith, h, e)) in
@@ -100,7 +100,7 @@ first_units bytes n h =
 
 -- ---- Where they end
 
-adjoin-same : (from x y : ℕ) (ss : List Segment) → Adjoin from ss x → Adjoin from ss y → x ≡ y
+pub adjoin-same : (from x y : ℕ) (ss : List Segment) → Adjoin from ss x → Adjoin from ss y → x ≡ y
 adjoin-same from x y [] g h = sym g ∙ h
 adjoin-same from x y (s ∷ ss) g h = adjoin-same s.end x y ss g.2 h.2
 
@@ -116,7 +116,7 @@ adjoin-end from to (s ∷ ss) (suc n) h l = (h.0, h.1, adjoin-end s.end to ss n 
 
 -- ---- Their chosen plan
 
-slice-first : {X : Type 0} (n s e : ℕ) (xs : List X) → e ≤ n → slice_range (take n xs) s e ≡ slice_range xs s e
+pub slice-first : {X : Type 0} (n s e : ℕ) (xs : List X) → e ≤ n → slice_range (take n xs) s e ≡ slice_range xs s e
 slice-first n s e xs h = elim (cases_lt s e) [
   | inl less ↦ (let at : s + (n - s) ≡ n = omega (arith, less, h) in
       ap (λ k. take (e - s) (drop s (take k xs))) (sym at)
@@ -124,13 +124,13 @@ slice-first n s e xs h = elim (cases_lt s e) [
   | inr past ↦ (let none : e - s ≡ 0 = omega (arith, past) in rw none refl)
 ]
 
-agree : (c d : ℕ → ℕ → ℕ) (n : ℕ) → ((s e : ℕ) → e ≤ n → c s e ≡ d s e) → (end : ℕ) (plan : List ℕ) → end ≤ n → IsPlan end plan →
+pub agree : (c d : ℕ → ℕ → ℕ) (n : ℕ) → ((s e : ℕ) → e ≤ n → c s e ≡ d s e) → (end : ℕ) (plan : List ℕ) → end ≤ n → IsPlan end plan →
     plan_bits c end plan ≡ plan_bits d end plan
 agree c d n same end [] h p = refl
 agree c d n same end (s ∷ plan) h p =
     let rest = agree c d n same s plan (omega (arith, p.0, h)) p.1 in let last = same s end h in omega (arith, rest, last)
 
-chosen-agree : (c d : ℕ → ℕ → ℕ) (n : ℕ) → ((s e : ℕ) → e ≤ n → c s e ≡ d s e) → (p : List ℕ) → IsChosen c n p → IsChosen d n p
+pub chosen-agree : (c d : ℕ → ℕ → ℕ) (n : ℕ) → ((s e : ℕ) → e ≤ n → c s e ≡ d s e) → (p : List ℕ) → IsChosen c n p → IsChosen d n p
 chosen-agree c d n same p g = record {
   planned = g.planned;
   least = λ q k. (let w = g.least q k in
@@ -169,7 +169,7 @@ module _ (bytes : List ℕ) (l : EcLevel) (number limit front : ℕ) (known : ca
   Unfit place = FitsNot front (take place bytes) (normal number) l
 
   -- what begins with units that do not fit, does not fit
-  longer_unfit : (q r : ℕ) → q ≤ r → IsUnitEnd bytes q → IsUnitEnd bytes r → Unfit q → Unfit r
+  pub longer_unfit : (q r : ℕ) → q ≤ r → IsUnitEnd bytes q → IsUnitEnd bytes r → Unfit q → Unfit r
   longer_unfit q r h a b none plan fits =
       let us = units bytes in
       let order = unit-order bytes q r a b h in

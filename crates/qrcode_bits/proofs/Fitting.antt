@@ -99,3 +99,12 @@ module _ (front : ℕ) (bytes : List ℕ) (l : EcLevel) (limit : ℕ) where
   range_end sure past i xs some over known q a h =
       let end = candidates_end known.before limit xs i over known.candidates in
       none_from_one front (take q bytes) l limit some (λ n few. known.none q a h (1 + n) (omega arith) (omega (arith, few, end, some)))
+
+-- No units end between the greater ones of two pairs of places, between which none end.
+pub close_more : (bytes : List ℕ) (sure past sure_here past_here : ℕ) → ((q : ℕ) → IsUnitEnd bytes q → sure < q → q < past → ⊥) →
+    ((q : ℕ) → IsUnitEnd bytes q → sure_here < q → q < past_here → ⊥) →
+    (q : ℕ) → IsUnitEnd bytes q → max sure sure_here < q → q < max past past_here → ⊥
+close_more bytes sure past sure_here past_here f g q a h k = elim (cases_lt q past) [
+  | inl less ↦ f q a (omega (arith, h)) less
+  | inr more ↦ g q a (omega (arith, h)) (omega (arith, k, more))
+]

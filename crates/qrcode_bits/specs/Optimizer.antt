@@ -6,14 +6,14 @@
 -- offset of its first byte modulo the period of that mode.
 use Rattle.std.specs.Prelude.{List, [], ◌∷◌, ◌≡◌, ℕ, zero, suc, ◌+◌, ◌-◌, ◌*◌, ◌/◌, ◌%◌, ◌^◌, ◌<◌, ◌≤◌}
 use Rattle.std.specs.Prelude.{◌≢◌, ◌⊎◌, length, Option, Some, None, ◌++◌, cond, ltb, get_or, map, nat_lt}
-use Rattle.std.specs.Prelude.{◌==◌, if◌then◌else◌}
+use Rattle.std.specs.Prelude.{◌==◌, if◌then◌else◌, take}
 use Rattle.qrcode_base.specs.declared.types.Mode.{Mode}
 use Rattle.qrcode_base.specs.declared.types.Mode.TheVariants.{Numeric, Alphanumeric, Byte, Kanji}
 use Rattle.qrcode_base.specs.declared.types.Version.{Version}
 use Rattle.qrcode_base.specs.Modes.{join, indicator_width, count_width}
 use Rattle.qrcode_bits.specs.declared.optimize.Segment.{Segment}
 use Rattle.qrcode_bits.specs.declared.optimize.candidate.Candidate.{Candidate}
-use Rattle.qrcode_bits.specs.Plans.{plan_bits, IsChosen, IsNoWorse, part, part_bits, segment_at}
+use Rattle.qrcode_bits.specs.Plans.{plan_bits, HasLinearCosts, IsChosen, IsNoWorse, part, part_bits, segment_at}
 
 -- ---- A table of the chosen plans of fewer segments, which computes the chosen plan
 
@@ -253,6 +253,46 @@ pub record IsBelow (far : ℕ) (segments : List Segment) : Type 0 where
 -- Short data: fewer than 8192 segments, and all ends are below 8192.
 abbrev pub IsShort : List Segment → Type 0
 IsShort segments = IsBelow 8192 segments
+
+-- The first segments up to the one at an index, which ends at a place.
+abbrev pub cut_at : List Segment → ℕ → ℕ → List Segment
+cut_at segments index place =
+    take index segments ++ record (segment_at segments index) { end = place } ∷ []
+
+-- The bytes of a unit of a mode: a pair in the Kanji mode, else one byte.
+abbrev pub unit_size : Mode → ℕ
+unit_size Numeric = 1
+unit_size Alphanumeric = 1
+unit_size Byte = 1
+unit_size Kanji = 2
+
+-- A place is some units after the first byte of the segment at an index.
+pub record IsUnitsIn (segments : List Segment) (index count place : ℕ) : Type 0 where
+  pub is : let s = segment_at segments index in place ≡ s.begin + unit_size s.mode * count
+  pub within : place ≤ (segment_at segments index).end
+
+-- Segments may be cut: each is of whole units, and cut within one they are short and have linear
+-- costs.
+pub record AreCuttable (far : ℕ) (segments : List Segment) (version : Version) : Type 0 where
+  pub units : (i : ℕ) → i < length segments →
+      (count : ℕ) × (0 < count) × IsUnitsIn segments i count (segment_at segments i).end
+  pub below : (i place : ℕ) → i < length segments → (segment_at segments i).begin < place →
+      place ≤ (segment_at segments i).end → IsBelow far (cut_at segments i place)
+  pub linear : (i place : ℕ) → i < length segments → (segment_at segments i).begin < place →
+      place ≤ (segment_at segments i).end → HasLinearCosts (cut_at segments i place) version
+
+-- Two places a unit apart in one segment: cut at the first, the chosen plan takes at most so many
+-- bits, and cut at the second it takes more.
+pub record AreLastUnits (segments : List Segment) (version : Version)
+    (limit sure past : ℕ) : Type 0 where
+  pub index : ℕ
+  pub inside : index < length segments
+  pub count : ℕ
+  pub sure_is : IsUnitsIn segments index count sure
+  pub past_is : IsUnitsIn segments index (count + 1) past
+  pub before : bits_before segments version index ≤ limit
+  pub fits : 0 < count → bits_before (cut_at segments index sure) version (index + 1) ≤ limit
+  pub over : limit < bits_before (cut_at segments index past) version (index + 1)
 
 -- The place of a mode in a list of all.
 abbrev pub mode_number : Mode → ℕ

@@ -10,10 +10,10 @@ use Rattle.std.proofs.lemmas.Bool.{cases_lt}
 use Rattle.std.specs.Prelude.{◌≢◌, slice_index_or}
 use Rattle.qrcode_bits.specs.Contents.{content_bits}
 use Rattle.qrcode_bits.specs.Places.{IsCutPlace, AreCutPlaces, IsUnitEnd}
-use Rattle.qrcode_bits.specs.Plans.{FitsNone}
+use Rattle.qrcode_bits.specs.Plans.{FitsNone, FitsNot}
 use Rattle.qrcode_bits.specs.declared.bits.front.Content.{Content}
-use Rattle.qrcode_bits.specs.declared.bits.front.Content.TheVariants.{Elements}
-use Rattle.qrcode_bits.proofs.Cutting.{within_content, start_place, end_place, place_within, place_between}
+use Rattle.qrcode_bits.specs.declared.bits.front.Content.TheVariants.{Bytes, Text, Elements}
+use Rattle.qrcode_bits.proofs.Cutting.{within_content, start_place, end_place, place_within, place_between, empty_fits}
 use Rattle.qrcode_core.proofs.Prelude.{◌*◌, Header, ℤ, nat_abs, capacity, Version, Normal}
 use Rattle.qrcode_base.specs.Symbols.{IsNormalNumber}
 use Rattle.std.specs.Prelude.{◌/◌, min}
@@ -158,43 +158,29 @@ module _ (c : Content) (message : List ℕ) (level : EcLevel) (limit : ℕ) (oth
             fewest = λ more h. (let w = known.others more h in omega (arith, w.2, known.count));
           }
 
+    -- A part that takes nothing, where places are left, has no cuts after it.
+    module _ (first last n : ℕ) (cuts : List ℕ) (known : IsCutUpTo c message level limit places first n cuts) (same : last ≡ first)
+        (longest : (later : ℕ) → last < later → later < length places → TooLong (slice_index_or places first 0) (slice_index_or places later 0))
+        (before_end : last + 1 < length places) where
+      nothing_fits : (more : List ℕ) → Fitting (slice_index_or places first 0) more → ⊥
+      nothing_fits [] fit =
+          let is = last_place c message places are other (length places - 1) (omega (arith, before_end)) in
+          fit (subst (λ p. TooLong (slice_index_or places first 0) p) is (longest (length places - 1) (omega (arith, before_end)) (omega (arith, before_end))))
+      nothing_fits (x ∷ xs) fit =
+          let at = are.all x fit.1 (let w = place_within c message x fit.1 in omega (arith, w)) in
+          elim (cases_lt last at.0) [
+            | inl later ↦ fit.2 (subst (λ p. TooLong (slice_index_or places first 0) p) at.2 (longest at.0 later at.1))
+            | inr up_to ↦ (let o = places_order c message places are at.0 first (omega (arith, up_to, same)) known.inside in
+                let e : x ≡ slice_index_or places first 0 = omega (arith, o, at.2, fit.0) in
+                nothing_fits xs (subst (λ p. Fitting p xs) e fit.3))
+          ]
+
+      pub none_at_all : (more : List ℕ) → Fitting 0 more → 16 ≤ length more
+      none_at_all more h = let w = known.others more h in absurd (nothing_fits w.0 w.1)
+
     pub none_left : (first n : ℕ) (cuts : List ℕ) → IsCutUpTo c message level limit places first n cuts → 16 ≤ n → (more : List ℕ) → Fitting 0 more →
         16 ≤ length more
     none_left first n cuts known many more h = let w = known.others more h in omega (arith, w.2, many)
-
--- ---- The search for the longest part
-
--- The part up to the place at `fitting` fits; those up to the place at `past` and later ones do
--- not fit.
-pub record IsSought (c : Content) (message : List ℕ) (level : EcLevel) (limit : ℕ) (places : List ℕ) (first fitting past : ℕ) : Type 0 where
-  pub from : first ≤ fitting
-  pub less : fitting < past
-  pub inside : past ≤ length places
-  pub fits : IsPartTooLong c message level limit (slice_index_or places first 0) (slice_index_or places fitting 0) → ⊥
-  pub too_long : (later : ℕ) → past ≤ later → later < length places →
-      IsPartTooLong c message level limit (slice_index_or places first 0) (slice_index_or places later 0)
-
-module _ (c : Content) (message : List ℕ) (level : EcLevel) (limit : ℕ) (other : c ≢ Elements) (places : List ℕ) (are : AreCutPlaces c message places)
-    (first : ℕ)
-    (exists : first < length places) where
-  module _ (fitting past middle : ℕ) (known : IsSought c message level limit places first fitting past) (more : fitting < middle) (less : middle < past) where
-    pub sought_fits : (IsPartTooLong c message level limit (slice_index_or places first 0) (slice_index_or places middle 0) → ⊥) →
-        IsSought c message level limit places first middle past
-    sought_fits h = record { from = omega (arith, known.from, more); less = less; inside = known.inside; fits = h; too_long = known.too_long }
-
-    pub sought_too_long : IsPartTooLong c message level limit (slice_index_or places first 0) (slice_index_or places middle 0) →
-        IsSought c message level limit places first fitting middle
-    sought_too_long h = record {
-      from = known.from;
-      less = more;
-      inside = omega (arith, less, known.inside);
-      fits = known.fits;
-      too_long = λ later k l. later_too_long c message level limit other (slice_index_or places first 0) (slice_index_or places middle 0)
-          (slice_index_or places later 0)
-          (places_order c message places are first middle (omega (arith, known.from, more)) (omega (arith, less, known.inside)))
-          (places_order c message places are middle later k l) (is_place c message places are first exists)
-          (is_place c message places are middle (omega (arith, less, known.inside))) (is_place c message places are later l) h;
-    }
 
 -- ---- Whether a part fits
 
@@ -268,18 +254,29 @@ far_none level limit size last far front bytes are long = elim (cases_lt 7089 (l
 pub past_first : (first index p size : ℕ) → 1 ≤ size → (index ≤ first → p + size ≤ p) → first < index
 past_first first index p size some far = elim (cases_lt first index) [ inl less ↦ less | inr past ↦ (let w = far past in omega (arith, w, some)) ]
 
--- What is known of the parts within a window: up to `sure` bytes they fit, and from `unsure` bytes
--- on they do not.
+-- What is known of the parts within a window: up to `sure` bytes they fit, from `unsure` bytes on
+-- they do not, and none ends between.
 pub record IsWindow (c : Content) (window : List ℕ) (level : EcLevel) (limit sure unsure : ℕ) : Type 0 where
-  pub less : sure < unsure
   pub fits : (q : ℕ) → IsUnitEnd (parsed_bytes c window) q → q ≤ sure →
       FitsNone normal (20 + length (content_bits c)) (take q (parsed_bytes c window)) level limit → ⊥
   pub too_long : (q : ℕ) → IsUnitEnd (parsed_bytes c window) q → unsure ≤ q →
       FitsNone normal (20 + length (content_bits c)) (take q (parsed_bytes c window)) level limit
+  pub close : (q : ℕ) → IsUnitEnd (parsed_bytes c window) q → sure < q → q < unsure → ⊥
+
+no_bytes : (c : Content) (message : List ℕ) (p : ℕ) → parsed_bytes c (slice_range message p p) ≡ []
+no_bytes c message p = let none : p - p ≡ 0 = omega arith in rw none (no_more c) where
+  no_more : (c : Content) → parsed_bytes c (take 0 (drop p message)) ≡ []
+  no_more Bytes = refl
+  no_more Text = refl
+  no_more Elements = refl
+
+-- A part of no bytes fits.
+pub nothing_is_short : (c : Content) (message : List ℕ) (level : EcLevel) (limit p : ℕ) → 1 ≤ limit → IsPartTooLong c message level limit p p → ⊥
+nothing_is_short c message level limit p some long =
+    empty_fits c level (λ n few. subst (λ z. FitsNot (20 + length (content_bits c)) z (normal n) level) (no_bytes c message p) (long n (omega (arith, few, some))))
 
 module _ (c : Content) (message : List ℕ) (level : EcLevel) (limit : ℕ) (valid : All (λ b. b < 256) message) (places : List ℕ)
-    (are : AreCutPlaces c message places) (first end sure unsure : ℕ) (inside : end < length places)
-    (known : IsWindow c (slice_range message (slice_index_or places first 0) (slice_index_or places end 0)) level limit sure unsure)
+    (are : AreCutPlaces c message places) (first end : ℕ) (from : first ≤ end) (inside : end < length places)
     (size : ℕ) (longer : (i : ℕ) → end < i → i < length places → slice_index_or places first 0 + size ≤ slice_index_or places i 0)
     (far : (front : ℕ) (bytes : List ℕ) → All (λ b. b < 256) bytes → size ≤ length bytes → FitsNone normal front bytes level limit) where
   abbrev at : ℕ → ℕ
@@ -291,6 +288,17 @@ module _ (c : Content) (message : List ℕ) (level : EcLevel) (limit : ℕ) (val
   abbrev TooLongAt : ℕ → Type 0
   TooLongAt i = IsPartTooLong c message level limit (at first) (at i)
 
+  -- parts that end past the window
+  pub past_window : (i : ℕ) → end < i → i < length places → TooLongAt i
+  past_window i beyond k =
+      let p = places_order c message places are first i (omega (arith, from, beyond)) k in
+      let q = place_inside c message places are i k in
+      let long = length-slice message (at first) (at i) p q in
+      far (20 + length (content_bits c)) (parsed_bytes c (slice_range message (at first) (at i)))
+      (parsed-bytes c (slice_range message (at first) (at i)) (All-take (λ b. b < 256) (at i - at first) (drop (at first) message)
+      (All-drop (λ b. b < 256) (at first) message valid)))
+      (omega (arith, length-parsed c (slice_range message (at first) (at i)), long, longer i beyond k))
+
   -- the part up to a place in the window
   in_window : (i : ℕ) → first ≤ i → i ≤ end →
       IsUnitEnd (parsed_bytes c window) (at i - at first) ×
@@ -300,29 +308,23 @@ module _ (c : Content) (message : List ℕ) (level : EcLevel) (limit : ℕ) (val
       (places_order c message places are i end k inside) (is_place c message places are first (omega (arith, h, k, inside)))
       (is_place c message places are i (omega (arith, k, inside))) (is_place c message places are end inside)
 
-  pub window_sought : (fitting past : ℕ) → first ≤ fitting → fitting ≤ end → fitting < past → past ≤ end + 1 → at fitting ≤ at first + sure →
-      ((i : ℕ) → past ≤ i → i ≤ end → at first + unsure ≤ at i) → IsSought c message level limit places first fitting past
-  window_sought fitting past from up_to less most sure_is unsure_is = record {
-    from = from;
-    less = less;
-    inside = omega (arith, most, inside);
-    fits = λ long.
-        (let w = in_window fitting from up_to in
-        known.fits (at fitting - at first) w.0 (omega (arith, sure_is))
-        (subst (λ z. FitsNone normal (20 + length (content_bits c)) z level limit) (sym w.1) long));
-    too_long = λ i h k. elim (cases_lt end i) [
-      | inl beyond ↦ (let p = places_order c message places are first i (omega (arith, from, less, h)) k in
-          let q = place_inside c message places are i k in
-          let long = length-slice message (at first) (at i) p q in
-          far (20 + length (content_bits c)) (parsed_bytes c (slice_range message (at first) (at i)))
-          (parsed-bytes c (slice_range message (at first) (at i)) (All-take (λ b. b < 256) (at i - at first) (drop (at first) message)
-          (All-drop (λ b. b < 256) (at first) message valid)))
-          (omega (arith, length-parsed c (slice_range message (at first) (at i)), long, longer i beyond k)))
-      | inr within ↦ (let w = in_window i (omega (arith, from, less, h)) within in
-          let far = unsure_is i h within in
-          subst (λ z. FitsNone normal (20 + length (content_bits c)) z level limit) w.1 (known.too_long (at i - at first) w.0 (omega (arith, far))))
-    ];
-  }
+  module _ (sure unsure : ℕ) (known : IsWindow c window level limit sure unsure) (last : ℕ) (some : first ≤ last) (up_to : last ≤ end) where
+    pub window_fits : at last ≤ at first + sure → TooLongAt last → ⊥
+    window_fits near long =
+        let w = in_window last some up_to in
+        known.fits (at last - at first) w.0 (omega (arith, near))
+        (subst (λ z. FitsNone normal (20 + length (content_bits c)) z level limit) (sym w.1) long)
+
+    pub window_last : ((i : ℕ) → last < i → i ≤ end → at first + sure < at i) → (i : ℕ) → last < i → i < length places → TooLongAt i
+    window_last past i h k = elim (cases_lt end i) [
+      | inl beyond ↦ past_window i beyond k
+      | inr within ↦ (let w = in_window i (omega (arith, some, h)) within in
+          let far = past i h within in
+          subst (λ z. FitsNone normal (20 + length (content_bits c)) z level limit) w.1 (elim (cases_lt (at i - at first) unsure) [
+            | inl less ↦ absurd (known.close (at i - at first) w.0 (omega (arith, far)) less)
+            | inr more ↦ known.too_long (at i - at first) w.0 more
+          ]))
+    ]
 
 -- ---- Best cuts are cuts that a sequence takes
 

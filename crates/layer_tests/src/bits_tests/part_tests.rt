@@ -9,6 +9,8 @@ use std::alloc::Global;
 
 const L: EcLevel = EcLevel::L;
 
+static LEVELS: [EcLevel; 4] = [EcLevel::L, EcLevel::M, EcLevel::Q, EcLevel::H];
+
 /// A part, with its expected payload and first bytes. The rest is EC and 11 (hex) in turn.
 #[derive(Clone, Copy, Drop)]
 struct Row {
@@ -133,19 +135,95 @@ fn parts_fit_where_they_have_bits(rt: HostRuntime) -> QrResult<()> {
 static SENTENCE: &[u8] =
     b"Version 1 has 21 by 21 modules, VERSION 40 has 177 by 177: 12345678901234567.";
 
+/// Returns the number of first bytes of the sentence that have bits, if all shorter ones have.
+fn first_bytes(alloc: Global, level: EcLevel, limit: i16) -> Option<usize> {
+    let mut count = 0;
+    while count < SENTENCE.len() && has_bits(alloc, count + 1, level, limit) {
+        count += 1;
+    }
+    for longer in count + 1..SENTENCE.len() + 1 {
+        if has_bits(alloc, longer, level, limit) {
+            return None;
+        }
+    }
+    Some(count)
+}
+
+/// Returns whether first bytes of the sentence have bits as the first of two parts.
+fn has_bits(alloc: Global, count: usize, level: EcLevel, limit: i16) -> bool {
+    match SENTENCE.get(..count) {
+        Some(first) => encode_part(alloc, first, 1, 2, 0x61, level, limit).is_ok(),
+        None => false,
+    }
+}
+
 #[test]
 fn first_bytes_that_fit(rt: HostRuntime) -> QrResult<()> {
     let front = Front::with_header(SequenceHeader::new(1, 2, 0x61), Content::Bytes);
-    for limit in 1..13_i16 {
-        assert!(rt; is_normal_number(limit));
-        let (sure, past) = fitting_range(rt.alloc(), &front, SENTENCE, L, limit)?;
-        assert!(rt; past > SENTENCE.len() || past - sure <= 17);
-        for count in 0..SENTENCE.len() + 1 {
-            let fits = taken(rt.alloc(), &SENTENCE[..count], limit).is_ok();
-            assert!(rt; fits || count > sure);
-            assert!(rt; !fits || count < past);
+    for level in LEVELS {
+        for limit in 1..13_i16 {
+            assert!(rt; is_normal_number(limit));
+            let (sure, past) = fitting_range(rt.alloc(), &front, SENTENCE, level, limit)?;
+            assert!(rt; first_bytes(rt.alloc(), level, limit) == Some(sure));
+            assert_eq!(rt; past, sure + 1);
         }
     }
+    Ok(())
+}
+
+/// Of many sentences a byte more than the first ones does not fit, in each class of versions.
+#[test]
+fn first_bytes_of_many_sentences(rt: HostRuntime) -> QrResult<()> {
+    let mut data = Vec::new(rt.alloc());
+    for _ in 0..60 {
+        data.extend_from_slice(SENTENCE)?;
+    }
+    let front = Front::with_header(SequenceHeader::new(1, 2, 0x61), Content::Bytes);
+    for level in LEVELS {
+        for limit in [9, 10, 13, 20, 26, 27, 33, 40] {
+            assert!(rt; is_normal_number(limit) && data.len() <= 7089);
+            let (sure, past) = fitting_range(rt.alloc(), &front, &data, level, limit)?;
+            assert!(rt; sure < data.len() && past == sure + 1);
+            assert!(rt; fits_front(rt.alloc(), &front, &data[..sure], level, limit)?);
+            assert!(rt; !fits_front(rt.alloc(), &front, &data[..past], level, limit)?);
+        }
+    }
+    Ok(())
+}
+
+/// Version 1 has 152 bits at level L: the header takes 20, the indicator and the count of the Kanji
+/// mode 12, and each pair 13, so that nine pairs fit.
+#[test]
+fn first_pairs_that_fit(rt: HostRuntime) -> QrResult<()> {
+    let front = Front::with_header(SequenceHeader::new(1, 2, 0x61), Content::Bytes);
+    let pairs = [0x93; 20];
+    let (sure, past) = fitting_range(rt.alloc(), &front, &pairs, L, 1)?;
+    assert!(rt; sure == 18 && past == 20);
+    let (sure, past) = fitting_range(rt.alloc(), &front, &pairs[..18], L, 1)?;
+    assert!(rt; sure == 18 && past == 19);
+    Ok(())
+}
+
+/// 70 times a pair of the Kanji mode and seven digits, then a pair and four digits, take 4767 of
+/// the 4768 bits of version 26 at level H after a header, and 5051 of the 5024 of version 27, whose
+/// counts of characters are wider.
+#[test]
+fn part_that_a_greater_version_does_not_hold(rt: HostRuntime) -> QrResult<()> {
+    let mut data = Vec::new(rt.alloc());
+    for _ in 0..70 {
+        data.extend_from_slice(b"\x93\xfa1234567")?;
+    }
+    data.extend_from_slice(b"\x93\xfa1234")?;
+    let front = Front::with_header(SequenceHeader::new(1, 2, 0x61), Content::Bytes);
+    for (limit, wanted) in [(25, false), (26, true), (27, true)] {
+        assert!(rt; is_normal_number(limit) && data.len() <= 7089);
+        let fits = fits_front(rt.alloc(), &front, &data, EcLevel::H, limit)?;
+        assert!(rt; fits == wanted);
+        let (sure, past) = fitting_range(rt.alloc(), &front, &data, EcLevel::H, limit)?;
+        assert!(rt; (sure == data.len()) == wanted && (past > data.len()) == wanted);
+    }
+    let bits = encode_part(rt.alloc(), &data, 1, 2, 0x61, EcLevel::H, 27)?;
+    assert!(rt; bits.version() == Version::Normal(26) && bits.payload_bits_len() == 4767);
     Ok(())
 }
 

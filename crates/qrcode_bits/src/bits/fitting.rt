@@ -17,7 +17,7 @@ ghost use Rattle.qrcode_bits.specs.Plans.{FitsNot, FitsNone, normal};
 use super::choice::{candidates, chosen_plan};
 use super::data_capacity_bits;
 use super::front::{Content, Front, parsed_bytes};
-use crate::optimize::{Segment, first_uncounted, segments_from};
+use crate::optimize::{Segment, last_uncounted, segments_from};
 use qrcode_base::symbols::LONGEST_DATA;
 use qrcode_base::types::{EcLevel, QrError, QrResult, Version};
 use std::alloc::Global;
@@ -114,16 +114,16 @@ fn fits_version(
 }
 
 /// Returns two numbers of bytes: up to the first, whole units fit the version of a number, and from
-/// the second on they do not. One segment lies between them, unless all fit.
+/// the second on they do not. No units end between them.
 fn fitting_between(
     ahead: usize,
     bytes: &[u8],
-    segments: &[Segment],
+    segments: &mut [Segment],
     level: EcLevel,
     number: usize,
 ) -> (usize, usize)
     requires ahead { ahead ≤ 32 }
-    requires segments { segments.now ≡ parsed bytes.now }
+    requires segments { segments.old ≡ parsed bytes.now }
     requires short { length bytes.now ≤ LONGEST_DATA }
     requires from_one { 1 ≤ number }
     requires to_forty { number ≤ 40 }
@@ -132,21 +132,24 @@ fn fitting_between(
         FitsNot ahead (take place bytes.now) (normal number) level → ⊥ }
     ensures unfit { (place : ℕ) → IsUnitEnd bytes.now place → result.1 ≤ place →
         FitsNot ahead (take place bytes.now) (normal number) level }
+    ensures close { (place : ℕ) → IsUnitEnd bytes.now place → result.0 < place →
+        place < result.1 → ⊥ }
+    ensures same { segments.new ≡ segments.old }
 {
     let version = Version::Normal(number as i16);
     let Ok(limit) = data_capacity_bits(version, level) else {
         unreachable!();
     };
-    let count = first_uncounted::<Brand>(segments, version, limit - ahead, Blank::new(1));
-    if count == segments.len() {
-        return (bytes.len(), bytes.len() + 1);
+    match last_uncounted::<Brand>(segments, version, limit - ahead, Blank::new(1)) {
+        Some(places) => places,
+        None => (bytes.len(), bytes.len() + 1),
     }
-    (segments[count].begin, segments[count].end)
 }
 
 /// Returns two numbers of bytes, the first less than the second: up to the first, whole units of
 /// the data fit some version of at most `max_version` after the front, and from the second on they
-/// do not. Data are parsed as their content wants it, and their units with them.
+/// do not. No units end between the two. Data are parsed as their content wants it, and their units
+/// with them.
 ///
 /// Fails with `OutOfMemory` if an allocation fails.
 pub fn fitting_range(
@@ -167,6 +170,9 @@ pub fn fitting_range(
         IsUnitEnd (parsed_bytes front.now.content bytes.now) place → range.1 ≤ place →
         FitsNone normal (length (front_bits front.now))
         (take place (parsed_bytes front.now.content bytes.now)) level (nat_abs max_version)) }
+    ensures close { IfOk result (λ range. (place : ℕ) →
+        IsUnitEnd (parsed_bytes front.now.content bytes.now) place → range.0 < place →
+        place < range.1 → ⊥) }
     ensures memory { IfErr result (λ e. e ≡ QrError.OutOfMemory) }
 {
     let limit = max_version as usize;
@@ -194,14 +200,17 @@ fn range_up_to(
         place ≤ range.0 → FitsNone normal ahead (take place bytes.now) level limit → ⊥) }
     ensures too_long { IfOk result (λ range. (place : ℕ) → IsUnitEnd bytes.now place →
         range.1 ≤ place → FitsNone normal ahead (take place bytes.now) level limit) }
+    ensures close { IfOk result (λ range. (place : ℕ) → IsUnitEnd bytes.now place →
+        range.0 < place → place < range.1 → ⊥) }
     ensures memory { IfErr result (λ e. e ≡ QrError.OutOfMemory) }
 {
-    let segments = segments_from(alloc, bytes, 0)?;
-    let (mut sure, mut past) = fitting_between(ahead, bytes, &segments, level, limit);
+    let mut all = segments_from(alloc, bytes, 0)?;
+    let segments = all.as_mut_slice();
+    let (mut sure, mut past) = fitting_between(ahead, bytes, segments, level, limit);
     let candidates = candidates(1, limit);
     for last in candidates.as_slice() {
         if !holds_double(*last, level, limit) {
-            let (fits, unfit) = fitting_between(ahead, bytes, &segments, level, *last);
+            let (fits, unfit) = fitting_between(ahead, bytes, segments, level, *last);
             sure = sure.max(fits);
             past = past.max(unfit);
         }

@@ -1,6 +1,6 @@
 //! What the optimiser needs of a start. `Start` and `Candidate` are the two types of starts.
 
-ghost use Rattle.std.specs.Prelude.{◌≡◌, ℕ, ◌+◌, ◌*◌, ◌-◌, ◌^◌, ◌<◌, ◌≤◌};
+ghost use Rattle.std.specs.Prelude.{◌≡◌, ℕ, ◌+◌, ◌*◌, ◌-◌, ◌^◌, ◌<◌, ◌≤◌, ◌↔◌, IsTrue};
 ghost use Rattle.std.specs.Bool.{OnTrue, OnFalse};
 ghost use Rattle.qrcode_bits.specs.declared.optimize.candidate.Candidate.{Candidate};
 ghost use Rattle.qrcode_bits.specs.Optimizer.{IsStart, IsAsGoodAs};
@@ -35,9 +35,9 @@ pub trait AnyStart: Copy {
     fn index(&self) -> usize
         ensures { result ≡ (read self.now).start };
 
-    /// Returns the number of bits.
-    fn bits(&self) -> u128
-        ensures { result ≡ (read self.now).bits };
+    /// Returns whether the plan has more bits than a limit. It says nothing of two starts.
+    fn exceeds(&self, limit: u128) -> bool
+        ensures { IsTrue result ↔ limit < (read self.now).bits };
 
     /// Returns the start at the segment of an index for a plan of the same bits and one more part.
     fn next(&self, index: usize) -> Self

@@ -69,8 +69,8 @@ impl AnyStart for Start {
         (LAST_INDEX - self.word % (1 << FIELD_WIDTH)) as usize
     }
 
-    fn bits(&self) -> u128 {
-        u128::from(self.word >> BITS_SHIFT)
+    fn exceeds(&self, limit: u128) -> bool {
+        u128::from(self.word >> BITS_SHIFT) > limit
     }
 
     fn next(&self, index: usize) -> Self {

@@ -3,15 +3,15 @@
 //!
 //! 1. Refuse what is longer than 16 parts of the most bytes that fit any version.
 //! 2. List the places at which the message may be cut (`cut_places`).
-//! 3. Make each part the longest one that fits (`last_fitting`): one pass tells the segment in
-//!    which it ends (`part_range`), and tests of the places in it find the end. A part that lies
-//!    within one that fits, fits too, so that no other cuts make fewer parts.
+//! 3. Make each part the longest one that fits (`last_fitting`), whose end `part_range` tells. A
+//!    part that lies within one that fits, fits too, so that no other cuts make fewer parts.
 ghost use Rattle.std.specs.Prelude.{◌≡◌, ◌≢◌, ◌+◌, ◌<◌, ◌≤◌, ℕ, length, nat_abs};
 ghost use Rattle.std.specs.Prelude.{slice_index_or, take, All, List};
 ghost use Rattle.std.specs.Prelude.{true, false, IfOk, IfErr, OnOk};
 ghost use Rattle.std.specs.List.Sorted.{IsNonDecreasing};
 ghost use Rattle.qrcode_base.specs.Symbols.{IsNormalNumber};
 ghost use Rattle.qrcode_bits.specs.Contents.{content_bits, parsed_bytes};
+ghost use Rattle.qrcode_bits.specs.Frame.{front_of, header_of};
 ghost use Rattle.qrcode_bits.specs.Places.{AreCutPlaces, IsCutPlace, IsUnitEnd};
 ghost use Rattle.qrcode_bits.specs.Plans.{normal, FitsNone};
 ghost use Rattle.qrcode_bits.specs.declared.bits.front.Content.TheVariants.{Bytes, Text, Elements};
@@ -95,7 +95,7 @@ fn longest_parts(
     if !is_normal_number(max_version) {
         return Err(QrError::InvalidResourceLimits);
     }
-    // No part of more bytes fits any version.
+    // A part has at most LONGEST_DATA bytes in any version.
     if bytes.len() > MOST_PARTS * LONGEST_DATA {
         return Err(QrError::DataTooLong);
     }
@@ -106,6 +106,9 @@ fn longest_parts(
         let last = last_fitting(alloc, content, bytes, &places, first, level, max_version)?;
         if last + 1 == places.len() {
             return Ok(cuts);
+        }
+        if last == first {
+            return Err(QrError::DataTooLong);
         }
         cuts.push(places[last])?;
         first = last;
@@ -137,20 +140,13 @@ fn last_fitting(
     ensures memory { IfErr result (λ e. e ≡ QrError.OutOfMemory) }
 {
     let end = first_from(places, first, first_too_long(level, max_version)) - 1;
-    let window = &bytes[places[first]..places[end]];
-    let (sure, unsure) = part_range(alloc, content, window, level, max_version)?;
-    let mut fitting = (first_from(places, first, sure + 1) - 1).min(end);
-    let mut past = first_from(places, first, unsure).min(end + 1);
-    while past - fitting > 1 {
-        let middle = fitting + (past - fitting) / 2;
-        let part = &bytes[places[first]..places[middle]];
-        if part_fits(alloc, content, part, level, max_version)? {
-            fitting = middle;
-        } else {
-            past = middle;
-        }
+    if end == first {
+        return Ok(first);
     }
-    Ok(fitting)
+    let window = &bytes[places[first]..places[end]];
+    let (sure, _past) = part_range(alloc, content, window, level, max_version)?;
+    let past = first_from(places, first, sure + 1);
+    Ok((past - 1).min(end))
 }
 
 /// Returns a number of bytes from which on data fit no version up to a greatest one, since no mode
@@ -194,8 +190,8 @@ fn first_from(places: &[usize], first: usize, size: usize) -> usize
     low
 }
 
-/// Returns two numbers of bytes, of the first part of a message: up to the first it fits some
-/// version, after a header, and from the second on it does not.
+/// Returns two numbers of bytes: up to the first, the part that begins a window fits some version,
+/// after a header, and from the second on it does not. No units end between them.
 fn part_range(
     alloc: Global,
     content: Content,
@@ -214,11 +210,20 @@ fn part_range(
         IsUnitEnd (parsed_bytes content window.now) place → range.1 ≤ place →
         FitsNone normal (20 + length (content_bits content))
         (take place (parsed_bytes content window.now)) level (nat_abs max_version)) }
+    ensures close { IfOk result (λ range. (place : ℕ) →
+        IsUnitEnd (parsed_bytes content window.now) place → range.0 < place →
+        place < range.1 → ⊥) }
     ensures memory { IfErr result (λ e. e ≡ QrError.OutOfMemory) }
 {
-    // Which symbol it is of how many changes no bits' number.
-    let front = Front::with_header(SequenceHeader::new(1, 2, 0), content);
+    let front = part_front(content);
     fitting_range(alloc, &front, window, level, max_version)
+}
+
+/// Returns the front of a part. Which header it has changes no number of bits.
+fn part_front(content: Content) -> Front
+    ensures { result ≡ front_of (Some (header_of 1 2 0)) content }
+{
+    Front::with_header(SequenceHeader::new(1, 2, 0), content)
 }
 
 /// Returns whether a part fits some version, after a header.
@@ -238,7 +243,6 @@ pub(crate) fn part_fits(
         (nat_abs max_version)) }
     ensures memory { IfErr result (λ e. e ≡ QrError.OutOfMemory) }
 {
-    // Which symbol it is of how many changes no bits' number.
-    let front = Front::with_header(SequenceHeader::new(1, 2, 0), content);
+    let front = part_front(content);
     fits_front(alloc, &front, part, level, max_version)
 }

@@ -1,7 +1,7 @@
 //! Symbols of texts and of elements. The hash is that of the symbol that the original crate draws
 //! for the same pushes in the smallest version: the designator and one Byte segment.
 use crate::grids::hash;
-use qrcode_core::symbol::{Symbol, best_cuts};
+use qrcode_core::symbol::{Symbol, best_cuts, best_text_cuts};
 use qrcode_core::types::{EcLevel, QrError, QrResult};
 use std::str;
 
@@ -32,6 +32,19 @@ fn contents_of_too_many_bytes(rt: HostRuntime) {
     assert!(rt; matches!(refused, Err(QrError::DataTooLong)));
     let text = str::from_utf8(&digits);
     let refused = text.map(|text| Symbol::text(rt.alloc(), text, EcLevel::L));
+    assert!(rt; matches!(refused, Ok(Err(QrError::DataTooLong))));
+}
+
+/// 16 times 7089 digits, and one more.
+static DIGITS: [u8; 113_425] = [b'7'; 113_425];
+
+/// More bytes than 16 symbols hold are rejected without an allocation.
+#[test]
+fn cuts_of_too_many_digits(rt: HostRuntime) {
+    let refused = best_cuts(rt.alloc(), &DIGITS, EcLevel::L, 40);
+    assert!(rt; matches!(refused, Err(QrError::DataTooLong)));
+    let text = str::from_utf8(&DIGITS);
+    let refused = text.map(|text| best_text_cuts(rt.alloc(), text, EcLevel::L, 40));
     assert!(rt; matches!(refused, Ok(Err(QrError::DataTooLong))));
 }
 

@@ -1,4 +1,4 @@
 use Rattle.qrcode_bits.proofs.bits.fitting.fitting_between.Given as goal
 
-abbrev pub ghosts-first_uncounted : goal.ghosts-first_uncounted
-ghosts-first_uncounted a = record { name = a.blank.name; parts = a.blank.parts }
+abbrev pub ghosts-last_uncounted : goal.ghosts-last_uncounted
+ghosts-last_uncounted a = record { name = a.blank.name; parts = a.blank.parts }

@@ -1,16 +1,16 @@
 -- One segment after the other, up to the first that takes the plan past the limit.
-use Rattle.qrcode_bits.proofs.Prelude.{ℕ, ◌+◌, ◌<◌, ◌≤◌, ◌*◌, ◌≡◌, ◌∙◌, arith, refl, subst, length, AreGroups, groups_of, bits_before}
+use Rattle.qrcode_bits.proofs.Prelude.{ℕ, ◌+◌, ◌<◌, ◌≤◌, ◌*◌, ◌≡◌, arith, subst, length, AreGroups, groups_of, bits_before}
 use Rattle.qrcode_bits.proofs.optimize.firsts.first_segments.Given.{Over}
 use Rattle.qrcode_bits.proofs.optimize.firsts.first_segments.Goals.{After-advance, After-add_start}
-use Rattle.qrcode_bits.proofs.{Grouping.AreGroups-next, Grouping.AreGroups-none, Ending.step-small, Firsts.first-step, Firsts.step-bits}
+use Rattle.qrcode_bits.proofs.{Grouping.AreGroups-next, Ending.step-small, Firsts.first-step, Firsts.step-bits}
 use Rattle.qrcode_bits.proofs.optimize.firsts.first_segments.Goals as goal
 
 pub loop-start-init : goal.loop-start-init
 loop-start-init g c = record {
   last = first-step _ _ _ c.first-before.ensures;
   few = rw c.first-before.ensures (omega arith);
-  slots = refl;
-  groups = AreGroups-none g.S.AnyStart.read g.S.AnyStart.FAR c.args.segments.now c.args.version c.none-groups.result c.none-groups.ensures;
+  slots = c.requires.long;
+  groups = c.requires.none;
   ticked = omega arith;
 }
 
@@ -38,18 +38,18 @@ next g c =
 pub last_step-before-requires-clause-groups : goal.last_step-before-requires-clause-groups
 last_step-before-requires-clause-groups g c = next g (goal.at.last_step-before-requires-clause-groups g c).After-add_start
 
-pub returns-then-bits-limit-clause-fits : goal.returns-then-bits-limit-clause-fits
-returns-then-bits-limit-clause-fits g c =
+pub returns-then-exceeds-clause-fits : goal.returns-then-exceeds-clause-fits
+returns-then-exceeds-clause-fits g c =
     subst (λ (n : ℕ). n ≤ c.args.limit) (step-bits _ _ _ _ c.loop-start.invariant.last) c.loop-start.invariant.few
 
-pub returns-then-bits-limit-clause-over : goal.returns-then-bits-limit-clause-over
-returns-then-bits-limit-clause-over g c _ =
-    subst (λ (n : ℕ). c.args.limit < n) (c.bits.ensures ∙ step-bits _ _ _ _ c.last_step-before.ensures.step) (omega (arith, c.if-bits-limit.true))
+pub returns-then-exceeds-clause-over : goal.returns-then-exceeds-clause-over
+returns-then-exceeds-clause-over g c _ =
+    subst (λ (n : ℕ). c.args.limit < n) (step-bits _ _ _ _ c.last_step-before.ensures.step) (c.exceeds.ensures.0 c.if-exceeds.true)
 
 pub loop-start-preserved : goal.loop-start-preserved
 loop-start-preserved g c = record {
   last = c.last_step-before.ensures.step;
-  few = subst (λ (n : ℕ). n ≤ c.args.limit) c.bits.ensures (omega (arith, c.if-bits-limit.false));
+  few = grind (arith, c.exceeds.ensures, c.if-exceeds.false);
   slots = c.add_start.ensures.long;
   groups = next g (goal.at.loop-start-preserved g c).After-add_start;
   ticked = omega (arith, c.loop-start.invariant.ticked, c.advance.ensures.ticked, c.add_start.ensures.ticked, c.last_step-before.ensures.ticked);
@@ -60,3 +60,9 @@ returns-clause-fits g c =
     let end : c.loop-start.start ≡ length c.args.segments.now = omega (arith, c.loop-start-test.false, c.loop-start.auto.start-end) in
     subst (λ (n : ℕ). bits_before c.args.segments.now c.args.version n ≤ c.args.limit) end
     (subst (λ (n : ℕ). n ≤ c.args.limit) (step-bits _ _ _ _ c.loop-start.invariant.last) c.loop-start.invariant.few)
+
+pub returns-then-exceeds-clause-groups : goal.returns-then-exceeds-clause-groups
+returns-then-exceeds-clause-groups g c _ = next g (goal.at.returns-then-exceeds-clause-groups g c).After-add_start
+
+pub returns-clause-groups : goal.returns-clause-groups
+returns-clause-groups g c less = absurd (omega (arith, c.loop-start-test.false, c.loop-start.auto.start-end, less))

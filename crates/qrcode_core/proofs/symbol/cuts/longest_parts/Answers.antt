@@ -2,7 +2,7 @@ use mir.Syntax.{w16}
 use Rattle.qrcode_core.proofs.Prelude.{arith, nat_abs, to_z-of_z, sym, subst, ◌+◌, ◌<◌, ◌≤◌, ◌≡◌, ◌∙◌, ◌++◌, ◌∷◌, [], length, get_or_default}
 use Rattle.std.specs.Prelude.{slice_index_or}
 use Rattle.qrcode_bits.proofs.{Pairs.bytes_valid, Classes.limit_of}
-use Rattle.qrcode_core.proofs.BestCuts.{IsCutUpTo, nothing_cut, one_cut, all_cut, many_cuts}
+use Rattle.qrcode_core.proofs.BestCuts.{IsCutUpTo, nothing_cut, one_cut, all_cut, many_cuts, none_at_all}
 use Rattle.qrcode_core.proofs.symbol.cuts.longest_parts.Goals as goal
 
 pub loop-count-init : goal.loop-count-init
@@ -29,6 +29,20 @@ returns-then-last-len-clause-best c =
     c.in_ok-last.last
     c.loop-count.count c.loop-count.cuts.items known found.from (rw c.deref.ensures.value at found.exists)
     (rw (same, c.deref.ensures.value) at found.fits) (rw (same, c.deref.ensures.value) at found.last) (omega (arith, c.loop-count-test.true)) end
+
+pub returns-then-last-first-clause-refused : goal.returns-then-last-first-clause-refused
+returns-then-last-first-clause-refused c =
+    let same = to_z-of_z w16 c.args.max_version c.ranges.max_version in
+    let normal = limit_of c.args.max_version _ _ same c.is_normal_number.ensures c.if-not-is_normal_number.false in
+    let known = rw same at c.loop-count.invariant in
+    let places = c.in_ok-places.places.items in
+    let found = c.in_ok-last.ensures in
+    let before_end : c.in_ok-last.last + 1 < length places = grind (arith, c.if-last-len, c.len.ensures, found.exists, c.deref.ensures) in (
+      normal,
+      none_at_all c.args.content c.args.bytes.now c.args.level (nat_abs c.args.max_version) c.requires.cut places c.in_ok-places.ensures
+          c.loop-count.first c.in_ok-last.last c.loop-count.count c.loop-count.cuts.items known c.if-last-first.true
+          (rw (same, c.deref.ensures.value) at found.last) before_end,
+    )
 
 pub loop-count-preserved : goal.loop-count-preserved
 loop-count-preserved c =
