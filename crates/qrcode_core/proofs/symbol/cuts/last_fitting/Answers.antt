@@ -1,9 +1,8 @@
 -- The last place of the window up to which the part fits.
 use mir.Syntax.{w16}
-use Rattle.qrcode_core.proofs.Prelude.{arith, nat_abs, to_z-of_z, ℕ, ◌-◌, ◌+◌, ◌<◌, ◌≤◌, ◌≡◌, length, sym, subst}
+use Rattle.qrcode_core.proofs.Prelude.{arith, nat_abs, to_z-of_z, ℕ, ◌-◌, ◌<◌, ◌≤◌, ◌≡◌, length}
 use Rattle.std.specs.Prelude.{slice_index_or}
 use Rattle.qrcode_bits.proofs.{Pairs.bytes_valid, Texts.length-slice}
-use Rattle.qrcode_core.specs.BestCuts.{IsPartTooLong}
 use Rattle.qrcode_core.proofs.BestCuts.{places_order, place_inside, past_first, past_window, window_fits, window_last, nothing_is_short}
 use Rattle.qrcode_core.proofs.symbol.cuts.last_fitting.Goals as goal
 
