@@ -223,15 +223,6 @@ two_modules row scale column place left first second edge within wide few is nex
 
 -- ---- The places of a row
 
--- a group of eight columns begins within the row
-pub group_begins : (p : Picture) (group scale columns : ℕ) → scale ≡ p.scale → columns ≡ columns_of p → 8 * group ≤ columns →
-    group * scale ≤ row_length p
-group_begins p group scale columns is wide inside =
-    let fits : (8 * group) * scale ≤ columns * scale = mul-le-mul_right scale inside in
-    let eight : (8 * group) * scale ≡ 8 * (group * scale) = grind arith in
-    let all : columns * scale ≡ pixel_width p = ap (λ n. n * scale) wide ∙ ap (λ s. columns_of p * s) is in
-    omega (arith, fits, eight, all)
-
 -- all groups reach its end
 pub groups_end : (p : Picture) (groups scale columns : ℕ) → scale ≡ p.scale → columns ≡ columns_of p → columns ≤ 8 * groups →
     row_length p ≤ groups * scale

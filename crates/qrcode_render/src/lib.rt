@@ -32,6 +32,8 @@ pub mod pbm;
 mod pen;
 pub mod picture;
 pub mod png_file;
+#[cfg(test)]
+mod png_tests;
 pub mod renderers;
 pub mod settings;
 pub mod svg;
