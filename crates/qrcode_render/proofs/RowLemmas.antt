@@ -1,13 +1,14 @@
 -- The modules of a row, in the grid and in the quiet zone.
 use Rattle.std.proofs.Common.{◌≡◌, ℕ, zero, suc, ◌+◌, ◌-◌, ◌*◌, ◌<◌, ◌≤◌, Bool, true, false, List, [], ◌∷◌, take, drop, length, get_or, map, refl, sym, ap}
 use Rattle.std.proofs.Common.{◌∙◌, arith}
-use Rattle.std.specs.Prelude.{◌&&◌, nat_le, slice_get, None}
+use Rattle.std.specs.Prelude.{◌&&◌, nat_le, slice_get, Option, None, Some}
+use Rattle.std.specs.Option.{is_some}
 use Rattle.std.specs.List.{range_with_len}
 use Rattle.std.proofs.lemmas.List.FromFn.{fill_by_all}
-use Rattle.std.proofs.lemmas.Bool.{lt-ltb, le-ltb, lt-leb, le-leb, cases_lt}
+use Rattle.std.proofs.lemmas.Bool.{lt-ltb, le-ltb, lt-leb, le-leb, cases_lt, true≢false}
 use Rattle.std.proofs.Common.{inl, inr}
 use Rattle.qrcode_render.specs.Pictures.{Picture, is_dark_color, is_dark_module}
-use Rattle.qrcode_render.specs.Rows.{dark_byte, is_dark_at}
+use Rattle.qrcode_render.specs.Rows.{IsFirstDark, dark_byte, is_dark_at}
 use Rattle.qrcode_render.specs.declared.picture.Row.{Row}
 
 pub and_false : (a : Bool) → (a && false) ≡ false
@@ -59,6 +60,11 @@ past_byte row k h = rw (past_end row.modules.now (k - row.quiet) (omega (arith, 
 -- no module is dark in a row without modules
 pub light_row : (row : Row) (column : ℕ) → length row.modules.now ≡ 0 → is_dark_at row column ≡ false
 light_row row column none = rw (past_end row.modules.now (column - row.quiet) (omega (arith, none))) (and_false (nat_le row.quiet column))
+
+-- no module is dark where no first one is
+pub none_first : (row : Row) (first : Option ℕ) → is_some first ≡ false → IsFirstDark row first → (column : ℕ) → is_dark_at row column ≡ false
+none_first row None none light = light
+none_first row (Some column) none dark = absurd (true≢false none)
 
 -- all bytes of a row
 pub all_columns : (row : Row) (bytes : List ℕ) (n end : ℕ) → length bytes ≡ n → end ≡ row.quiet + length row.modules.now →

@@ -65,6 +65,12 @@ begins_later write p y x to is w = subst (Begins write p y) (sym is) (record {
   begins = w.begins;
 })
 
+-- nothing stands in a row without a dark module
+pub nothing_dark : (write : ℕ → ℕ → ℕ → List ℕ) (p : Picture) (y n : ℕ) → ((k : ℕ) → is_dark_module p k y ≡ false) → row_path write p y n ≡ []
+nothing_dark write p y n light =
+    let e : 0 + n ≡ n = omega arith in
+    sym (ap (row_path write p y) e) ∙ over_light write p y 0 n (λ k _ _. light k) ∙ row_none write p y
+
 module _ (p : Picture) (y : ℕ) (m : List ℕ) (places : (k : ℕ) → k < columns_of p → nat_lt 0 (slice_index m k) ≡ is_dark_module p k y) where
   -- the modules of a run are alike
   alike : (x end : ℕ) → EndsRun m (columns_of p) x end → (k : ℕ) → x ≤ k → k < end → is_dark_module p k y ≡ is_dark_module p x y

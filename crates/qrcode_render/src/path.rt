@@ -46,6 +46,9 @@ fn push_row(
         ++ row_path (rectangle_by pen) (shown picture.now) y (columns_of (shown picture.now))) }
 {
     let end = write_row(line, picture, pen, y);
+    if end == 0 {
+        return Ok(());
+    }
     match str::from_utf8(&line[..end]) {
         Ok(rectangles) => text.push_str(rectangles),
         Err(_) => unreachable!(),
@@ -62,6 +65,9 @@ fn write_row(line: &mut [u8], picture: &Picture, pen: Pen, y: usize) -> usize
     ensures within { result ≤ length line.old }
 {
     let row = picture.row(y);
+    if row.first_dark().is_none() {
+        return 0;
+    }
     let mut modules = [0u8; ROOM];
     row.write_bytes(&mut modules);
     let columns = picture.columns();

@@ -44,14 +44,30 @@ pub(crate) struct Row<'a> {
 impl<'a> Row<'a> {
     ghost use Rattle.std.specs.Prelude.{map, false, true};
     ghost use Rattle.std.specs.List.{range_with_len};
-    ghost use Rattle.qrcode_render.specs.Rows.{dark_byte, is_dark_at};
+    ghost use Rattle.qrcode_render.specs.Rows.{IsFirstDark, dark_byte, is_dark_at};
 
     /// Whether there are no modules: the row is in the quiet zone, and is light.
     #[tactic(auto, using(crate::proofs::RowLemmas::light_row))]
     pub(crate) fn is_light(&self) -> bool
-        ensures { result ≡ true → (column : ℕ) → is_dark_at self.now column ≡ false }
+        ensures exact { result ≡ true ↔ length self.now.modules.now ≡ 0 }
+        ensures light { result ≡ true → (column : ℕ) → is_dark_at self.now column ≡ false }
     {
         self.modules.is_empty()
+    }
+
+    /// Returns the first dark column, counted from the edge of the quiet zone.
+    pub(crate) fn first_dark(&self) -> Option<usize>
+        requires { self.now.quiet + length self.now.modules.now ≤ MAX_COLUMNS }
+        ensures { IsFirstDark self.now result }
+    {
+        let modules = self.modules;
+        let quiet = self.quiet;
+        for i in 0..modules.len() {
+            if matches!(modules[i], Color::Dark) {
+                return Some(quiet + i);
+            }
+        }
+        None
     }
 
     /// Writes a byte for each column, counted from the edge of the quiet zone: 255 where the

@@ -11,7 +11,7 @@ returns-then-is_light c =
     ∙ light_pixels p c.args.y _ c.requires
     (λ column.
     ap (λ s. is_dark_module p column (c.args.y / s)) (sym c.scale-scale.ensures.exact)
-    ∙ (sym (c.row-row.ensures.dark column) ∙ c.is_light.ensures c.if-is_light.true column))
+    ∙ (sym (c.row-row.ensures.dark column) ∙ c.is_light.ensures.light c.if-is_light.true column))
 
 pub returns-then-scale-eq8 : goal.returns-then-scale-eq8
 returns-then-scale-eq8 c =

@@ -1,12 +1,13 @@
 -- The runs of the row, by the bytes of its modules and by where the runs end.
 use Rattle.std.proofs.Common.{◌≡◌, ℕ, ◌+◌, ◌-◌, ◌<◌, ◌∙◌, ◌++◌, List, ap, sym, subst, arith}
-use Rattle.std.specs.Prelude.{slice_index}
+use Rattle.std.specs.Prelude.{not, slice_index}
 use Rattle.std.specs.Str.{IsUtf8}
 use Rattle.std.proofs.lemmas.Bool.{le-ltb, lt-ltb}
 use Rattle.qrcode_render.specs.{Paths.begins_run, Paths.row_path, Pens.rectangle_by, Pictures.Picture, Pictures.columns_of, Pictures.is_dark_module}
 use Rattle.qrcode_render.specs.{Runs.EndsRun, Shown.shown}
 use Rattle.qrcode_render.proofs.PathLemmas.{dark_places, row_over_run}
-use Rattle.qrcode_render.proofs.RowRuns.{Begins, begins_at_once, begins_later, dark_run, first_run, next_run}
+use Rattle.qrcode_render.proofs.RowRuns.{Begins, begins_at_once, begins_later, dark_run, first_run, next_run, nothing_dark}
+use Rattle.qrcode_render.proofs.RowLemmas.{none_first}
 use Rattle.qrcode_render.proofs.TextLemmas.{row_utf8}
 use Rattle.qrcode_render.proofs.path.write_row.Goals.{then-modules-gt0, else-modules-gt0}
 use Rattle.qrcode_render.proofs.path.write_row.Goals as goal
@@ -94,6 +95,12 @@ runs-preserved c =
           ∙ sym next.text
           ∙ ap (row_path write p y) (sym to);
     }
+
+pub returns-then-is_none-clause-text : goal.returns-then-is_none-clause-text
+returns-then-is_none-clause-text c =
+    let p = shown c.args.picture.now in
+    sym (nothing_dark (rectangle_by c.args.pen) p c.args.y (columns_of p)
+    (λ k. sym (c.row-row.ensures.dark k) ∙ none_first c.row-row.result c.first_dark.result (c.is_none.ensures ∙ ap not c.if-is_none.true) c.first_dark.ensures k))
 
 pub returns-clause-utf8 : goal.returns-clause-utf8
 returns-clause-utf8 c =
