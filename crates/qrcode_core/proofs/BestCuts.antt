@@ -289,7 +289,7 @@ module _ (c : Content) (message : List ℕ) (level : EcLevel) (limit : ℕ) (val
   TooLongAt i = IsPartTooLong c message level limit (at first) (at i)
 
   -- parts that end past the window
-  pub past_window : (i : ℕ) → end < i → i < length places → TooLongAt i
+  past_window : (i : ℕ) → end < i → i < length places → TooLongAt i
   past_window i beyond k =
       let p = places_order c message places are first i (omega (arith, from, beyond)) k in
       let q = place_inside c message places are i k in

@@ -1,10 +1,10 @@
 //! How many first segments, and how many units of the one after them, some plan of few bits has,
 //! found in one pass that keeps no plan.
 
-ghost use Rattle.std.specs.Prelude.{◌≡◌, ◌+◌, ◌*◌, ◌^◌, ◌<◌, ◌≤◌, length, MatchOption};
+ghost use Rattle.std.specs.Prelude.{◌≡◌, ◌+◌, ◌*◌, ◌-◌, ◌^◌, ◌<◌, ◌≤◌, length, MatchOption};
 ghost use Rattle.std.specs.Mem.{type_size};
 ghost use Rattle.qrcode_base.specs.Symbols.{HasMicroNumber};
-ghost use Rattle.qrcode_bits.specs.Plans.{HasLinearCosts};
+ghost use Rattle.qrcode_bits.specs.Plans.{HasLinearCosts, segment_at};
 ghost use Rattle.qrcode_bits.specs.Optimizer.{AreCuttable, AreGroups, AreLastUnits, IsBelow};
 ghost use Rattle.qrcode_bits.specs.Optimizer.{bits_before, groups_of, unit_size};
 
@@ -16,6 +16,7 @@ use std::sync::ledger::Ledger;
 
 /// Returns the greatest number of first segments whose chosen plan takes at most `limit` bits, by
 /// the steps of `optimize_linear`, up to the first that takes more. The groups are those with it.
+#[inline(always)]
 pub(super) fn first_segments<S: AnyStart, L: Ledger>(
     segments: &[Segment],
     version: Version,
@@ -62,9 +63,55 @@ fn unit_size(mode: Mode) -> usize
     }
 }
 
+/// Returns two places a unit apart in the segment at an index, which takes the chosen plan past
+/// `limit` bits: cut at the first it does not, and cut at the second it does. The end of the segment
+/// is moved to try a place, and moved back. The groups are those with the segment.
+#[inline(never)]
+fn last_of_segment<S: AnyStart, L: Ledger>(
+    segments: &mut [Segment],
+    index: usize,
+    version: Version,
+    limit: usize,
+    groups: &[S],
+    comparisons: &mut Comparisons<L>,
+) -> (usize, usize)
+    requires micro { HasMicroNumber version }
+    requires cuts { AreCuttable S.FAR segments.old version }
+    requires inside { index < length segments.old }
+    requires before { bits_before segments.old version index ≤ limit }
+    requires over { limit < bits_before segments.old version (index + 1) }
+    requires long { length groups.now ≡ SLOTS }
+    requires groups { AreGroups S.FAR segments.old version (index + 1) (index + 1)
+        (groups_of S.read S.FAR groups.now) }
+    ensures units { AreLastUnits segments.old version limit result.0 result.1 }
+    ensures same { segments.new ≡ segments.old }
+    ensures ticked { comparisons.new ≤ comparisons.old
+        + 8 * ((segment_at segments.old index).end - (segment_at segments.old index).begin) }
+{
+    let headers = header_widths(version);
+    let whole = segments[index];
+    let unit = unit_size(whole.mode);
+    let mut low = 0;
+    let mut high = (whole.end - whole.begin) / unit;
+    while high - low > 1 {
+        let middle = low + (high - low) / 2;
+        segments[index].end = whole.begin + unit * middle;
+        let first = &segments[..index + 1];
+        let last = last_step(first, &headers, version, index + 1, groups, comparisons);
+        if last.exceeds(limit as u128) {
+            high = middle;
+        } else {
+            low = middle;
+        }
+    }
+    segments[index].end = whole.end;
+    let sure = whole.begin + unit * low;
+    (sure, sure + unit)
+}
+
 /// Returns two places a unit apart in one segment: cut at the first, the chosen plan takes at most
 /// `limit` bits, and cut at the second it takes more. Returns `None` where the plan of all segments
-/// takes at most `limit` bits. The end of that segment is moved to try a place, and moved back.
+/// takes at most `limit` bits. The segments are as they were in the end.
 pub(super) fn last_units<S: AnyStart, L: Ledger>(
     segments: &mut [Segment],
     version: Version,
@@ -87,23 +134,6 @@ pub(super) fn last_units<S: AnyStart, L: Ledger>(
     if count == segments.len() {
         return None;
     }
-    let headers = header_widths(version);
-    let whole = segments[count];
-    let unit = unit_size(whole.mode);
-    let mut low = 0;
-    let mut high = (whole.end - whole.begin) / unit;
-    while high - low > 1 {
-        let middle = low + (high - low) / 2;
-        segments[count].end = whole.begin + unit * middle;
-        let first = &segments[..count + 1];
-        let last = last_step(first, &headers, version, count + 1, &groups, comparisons);
-        if last.exceeds(limit as u128) {
-            high = middle;
-        } else {
-            low = middle;
-        }
-    }
-    segments[count].end = whole.end;
-    let sure = whole.begin + unit * low;
-    Some((sure, sure + unit))
+    let places = last_of_segment(segments, count, version, limit, &groups, comparisons);
+    Some(places)
 }

@@ -139,10 +139,10 @@ fn last_fitting(
         (slice_index_or places.now first 0) (slice_index_or places.now later 0)) }
     ensures memory { IfErr result (λ e. e ≡ QrError.OutOfMemory) }
 {
-    let end = first_from(places, first, first_too_long(level, max_version)) - 1;
-    if end == first {
+    if first + 1 == places.len() {
         return Ok(first);
     }
+    let end = first_from(places, first, first_too_long(level, max_version)) - 1;
     let window = &bytes[places[first]..places[end]];
     let (sure, _past) = part_range(alloc, content, window, level, max_version)?;
     let past = first_from(places, first, sure + 1);

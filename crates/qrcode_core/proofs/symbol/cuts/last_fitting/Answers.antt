@@ -3,7 +3,7 @@ use mir.Syntax.{w16}
 use Rattle.qrcode_core.proofs.Prelude.{arith, nat_abs, to_z-of_z, ℕ, ◌-◌, ◌<◌, ◌≤◌, ◌≡◌, length}
 use Rattle.std.specs.Prelude.{slice_index_or}
 use Rattle.qrcode_bits.proofs.{Pairs.bytes_valid, Texts.length-slice}
-use Rattle.qrcode_core.proofs.BestCuts.{places_order, place_inside, past_first, past_window, window_fits, window_last, nothing_is_short}
+use Rattle.qrcode_core.proofs.BestCuts.{places_order, place_inside, past_first, window_fits, window_last, nothing_is_short}
 use Rattle.qrcode_core.proofs.symbol.cuts.last_fitting.Goals as goal
 
 pub first_from-end-requires-clause-order : goal.first_from-end-requires-clause-order
@@ -32,22 +32,16 @@ part_range-requires-clause-short c =
 pub first_from-past-requires-clause-order : goal.first_from-past-requires-clause-order
 first_from-past-requires-clause-order c = places_order c.args.content c.args.bytes.now c.args.places.now c.requires.places
 
-pub returns-then-end-first-clause-fits : goal.returns-then-end-first-clause-fits
-returns-then-end-first-clause-fits c =
-    let same = to_z-of_z w16 c.args.max_version c.ranges.max_version in
+pub returns-then-first-places-clause-fits : goal.returns-then-first-places-clause-fits
+returns-then-first-places-clause-fits c =
     let one : 1 ≤ nat_abs c.args.max_version = grind (arith, c.requires.limit) in
     nothing_is_short c.args.content c.args.bytes.now c.args.level (nat_abs c.args.max_version) (slice_index_or c.args.places.now c.args.first 0) one
 
-pub returns-then-end-first-clause-last : goal.returns-then-end-first-clause-last
-returns-then-end-first-clause-last c =
-    let same = to_z-of_z w16 c.args.max_version c.ranges.max_version in
-    let valid = bytes_valid c.args.bytes.now (λ i. omega (arith, c.type_inv.bytes i)) in
+pub returns-clause-from : goal.returns-clause-from
+returns-clause-from c =
     let some = past_first _ _ _ _ c.first_too_long.ensures.some (λ h. c.first_from-end.ensures.after c.args.first h c.requires.exists) in
-    let end : c.first_from-end.result - 1 ≡ c.args.first = c.if-end-first.true in
-    λ i h k.
-    past_window c.args.content c.args.bytes.now c.args.level (nat_abs c.args.max_version) valid c.args.places.now c.requires.places c.args.first
-    c.args.first (omega arith) c.requires.exists c.first_too_long.result
-    (λ i more k. c.first_from-end.ensures.after i (omega (arith, more, end, some)) k) (rw same at c.first_too_long.ensures.too_long) i h k
+    let one = past_first _ _ _ _ (omega arith) (λ h. c.first_from-past.ensures.after c.args.first h c.requires.exists) in
+    omega (arith, c.min.ensures, some, one)
 
 pub returns-clause-fits : goal.returns-clause-fits
 returns-clause-fits c =
