@@ -75,9 +75,7 @@ fn sixteen_parts_of_digits(rt: HostRuntime) {
     let cuts = best_cuts(rt.alloc(), &DIGITS[..113_328], EcLevel::L, 40);
     let cuts = cuts.ok().expect(&rt, "no cuts");
     assert_eq!(rt; cuts.len(), 15);
-    for (n, cut) in cuts.iter().enumerate() {
-        assert_eq!(rt; *cut, (n + 1) * 7083);
-    }
+    assert!(rt; are_multiples(&cuts, 7083));
     let too_long = best_cuts(rt.alloc(), &DIGITS, EcLevel::L, 40).err();
     assert!(rt; too_long == Some(QrError::DataTooLong));
 }
@@ -119,15 +117,29 @@ static RUNS: [(&str, EcLevel, i16, usize); 16] = [
 #[test]
 fn cuts_of_one_long_run(rt: HostRuntime) -> Result<(), AllocError> {
     for (character, level, limit, size) in RUNS {
+        assert!(rt; size < 3000 && character.len() <= 4);
         let mut text = String::new(rt.alloc());
-        while text.len() <= 2 * size {
+        for _ in 0..2 * size + 1 {
             text.push_str(character)?;
         }
         let cuts = best_text_cuts(rt.alloc(), &text, level, limit);
         let cuts = cuts.ok().expect(&rt, "no cuts");
-        assert_eq!(rt; cuts.as_slice(), [size, 2 * size].as_slice());
+        assert_eq!(rt; cuts.len(), 2 * character.len());
+        assert!(rt; are_multiples(&cuts, size));
     }
     Ok(())
+}
+
+/// Whether the places are the first multiples of a size.
+fn are_multiples(places: &[usize], size: usize) -> bool {
+    let mut wanted = size;
+    for place in places {
+        if *place != wanted {
+            return false;
+        }
+        wanted = wanted.saturating_add(size);
+    }
+    true
 }
 
 /// Many short segments, and a long one in which the first part ends: 1999 bytes and 2279 digits

@@ -137,16 +137,16 @@ static SENTENCE: &[u8] =
 
 /// Returns the number of first bytes of the sentence that have bits, if all shorter ones have.
 fn first_bytes(alloc: Global, level: EcLevel, limit: i16) -> Option<usize> {
-    let mut count = 0;
-    while count < SENTENCE.len() && has_bits(alloc, count + 1, level, limit) {
-        count += 1;
-    }
-    for longer in count + 1..SENTENCE.len() + 1 {
-        if has_bits(alloc, longer, level, limit) {
-            return None;
+    let mut most = 0;
+    for count in 1..SENTENCE.len() + 1 {
+        if has_bits(alloc, count, level, limit) {
+            if count - 1 != most {
+                return None;
+            }
+            most = count;
         }
     }
-    Some(count)
+    Some(most)
 }
 
 /// Returns whether first bytes of the sentence have bits as the first of two parts.
