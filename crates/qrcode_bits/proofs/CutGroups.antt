@@ -1,7 +1,8 @@
 -- Segments that differ in the end of the last one alone have the same groups of starts.
 use Rattle.qrcode_bits.proofs.Prelude.{◌≡◌, ℕ, suc, ◌+◌, ◌-◌, ◌*◌, ◌/◌, ◌%◌, ◌<◌, ◌≤◌, List, [], ◌∷◌, length, take, sym, ap, ◌∙◌, arith}
 use Rattle.qrcode_bits.proofs.Prelude.{inl, inr, cases_lt, length-append, Version, Mode, Segment, Candidate, Option, Some, None, segment_at, slice_range}
-use Rattle.qrcode_bits.proofs.Prelude.{merged_all, total_bits, part_bits, part_mode, first_mode, bits_before, parts_before, plan_bits, period, period_bits, join}
+use Rattle.qrcode_bits.proofs.Prelude.{merged_all, total_bits, part_bits, part_mode, first_mode, bits_before, parts_before, plan_bits, period, period_bits}
+use Rattle.qrcode_bits.proofs.Prelude.{join}
 use Rattle.qrcode_bits.proofs.Prelude.{InBucket, IsBestStart, StandsFor, IsAhead, AreGroups, Groups, IsNoWorse, bucket_mode, chosen_plan, ◌⊎◌}
 use Rattle.std.specs.Prelude.{set}
 use Rattle.qrcode_bits.specs.Optimizer.{cut_at, unit_size, IsUnitsIn}

@@ -1,6 +1,7 @@
 -- The segments of first bytes that end within a segment.
 use Rattle.qrcode_bits.proofs.Prelude.{◌≡◌, ℕ, zero, suc, ◌+◌, ◌-◌, ◌*◌, ◌<◌, ◌≤◌, List, [], ◌∷◌, ◌++◌, Bool, true, false, length, take, refl, sym, ap}
-use Rattle.qrcode_bits.proofs.Prelude.{◌∙◌, subst, arith, inl, inr, ◌⊎◌, cases_lt, get_or, get_or-map, length-map, map-append, map, Segment, Class, Run, Other, Digit}
+use Rattle.qrcode_bits.proofs.Prelude.{◌∙◌, subst, arith, inl, inr, ◌⊎◌, cases_lt, get_or, get_or-map, length-map, map-append, map}
+use Rattle.qrcode_bits.proofs.Prelude.{Segment, Class, Run, Other, Digit}
 use Rattle.qrcode_bits.proofs.Prelude.{class_size, class_mode, joins, add_unit, runs, units, run_segment, parsed, segment_at, total_size, IsUnitEnd, EcLevel}
 use Rattle.qrcode_bits.proofs.Prelude.{capacity, normal, Some, bits_before, FitsNot, take-length, Version}
 use Rattle.std.proofs.lemmas.List.{take-map}
@@ -78,10 +79,10 @@ module _ (c : Class) (b : ℕ) (r : Run) (rest : List Run) (e : ℕ) (last : Cla
 module _ (c : Class) (b : ℕ) where
   one-tested : (r : Run) (rest : List Run) (t : Bool) → joins c r.class ≡ t → b + class_size c ≤ r.end →
       IsCutOf (add_unit c b (r ∷ rest)) (record { class = c; begin = b; end = b + class_size c } ∷ []) (b + class_size c) c
-  one-tested r rest true t h = subst (λ z. IsCutOf z (record { class = c; begin = b; end = b + class_size c } ∷ []) (b + class_size c) c) (sym (add-joined c b r rest t))
-      (record { index = 0; inside = omega arith; cut = refl; within = h; class = refl })
-  one-tested r rest false t h = subst (λ z. IsCutOf z (record { class = c; begin = b; end = b + class_size c } ∷ []) (b + class_size c) c) (sym (add-apart c b r rest t))
-      (record { index = 0; inside = omega arith; cut = refl; within = omega arith; class = refl })
+  one-tested r rest true t h = subst (λ z. IsCutOf z (record { class = c; begin = b; end = b + class_size c } ∷ []) (b + class_size c) c)
+      (sym (add-joined c b r rest t)) (record { index = 0; inside = omega arith; cut = refl; within = h; class = refl })
+  one-tested r rest false t h = subst (λ z. IsCutOf z (record { class = c; begin = b; end = b + class_size c } ∷ []) (b + class_size c) c)
+      (sym (add-apart c b r rest t)) (record { index = 0; inside = omega arith; cut = refl; within = omega arith; class = refl })
 
   one : (rs : List Run) (to : ℕ) → Adjoin (b + class_size c) (map run_segment rs) to →
       IsCutOf (add_unit c b rs) (record { class = c; begin = b; end = b + class_size c } ∷ []) (b + class_size c) c
@@ -104,7 +105,8 @@ cut_runs b (c ∷ cs) (suc m) h =
     let w = cut_runs (b + class_size c) cs m (omega (arith, h)) in
     let e : b + class_size c + total_size (take (suc m) cs) ≡ b + (class_size c + total_size (take (suc m) cs)) = omega arith in
     subst (λ z. IsCutOf (runs b (c ∷ cs)) (runs b (c ∷ take (suc m) cs)) z (get_or cs m Other)) e
-    (longer c b (runs (b + class_size c) cs) (runs (b + class_size c) (take (suc m) cs)) (b + class_size c + total_size (take (suc m) cs)) (get_or cs m Other) w)
+    (longer c b (runs (b + class_size c) cs) (runs (b + class_size c) (take (suc m) cs)) (b + class_size c + total_size (take (suc m) cs))
+    (get_or cs m Other) w)
 
 -- ---- Segments
 
@@ -196,7 +198,8 @@ module _ (bytes : List ℕ) (i : ℕ) (inside : i < length (parsed bytes)) where
   is-index m q w h k = elim (cases_lt w.index i) [
     | inl less ↦ (let o = adjoin-before 0 (length bytes) (parsed bytes) w.index i (parsed-adjoin bytes) less inside in absurd (omega (arith, o, w.within, h)))
     | inr past ↦ elim (cases_lt i w.index) [
-      | inl more ↦ (let o = adjoin-before 0 (length bytes) (parsed bytes) i w.index (parsed-adjoin bytes) more w.inside in absurd (omega (arith, o, w.begin, k)))
+      | inl more ↦ (let o = adjoin-before 0 (length bytes) (parsed bytes) i w.index (parsed-adjoin bytes) more w.inside in
+          absurd (omega (arith, o, w.begin, k)))
       | inr equal ↦ omega (arith, past, equal)
     ]
   ]
@@ -361,7 +364,8 @@ module _ (bytes : List ℕ) (l : EcLevel) (number limit ahead : ℕ) (known : ca
 
   pub last_unfit : (q : ℕ) → IsUnitEnd bytes q → past ≤ q → Unfit q
   last_unfit q a h =
-      let size = some_units (unit_size (segment_at (parsed bytes) w.index).mode) (w.count + 1) (one_or_two (segment_at (parsed bytes) w.index).mode) (omega arith) in
+      let mode = (segment_at (parsed bytes) w.index).mode in
+      let size = some_units (unit_size mode) (w.count + 1) (one_or_two mode) (omega arith) in
       let end = units_end bytes w.index w.inside (w.count + 1) past w.past_is in
       let bits = cut-bits past end (omega (arith, w.past_is.is, size)) w.past_is.within in
       longer_unfit bytes l number limit ahead known past q h end a
@@ -371,5 +375,5 @@ module _ (bytes : List ℕ) (l : EcLevel) (number limit ahead : ℕ) (known : ca
   last_close q a h k = none_between bytes w.index w.inside w.count sure past q w.sure_is w.past_is a h k
 
   pub last_less : sure < past
-  last_less = one_more (unit_size (segment_at (parsed bytes) w.index).mode) w.count sure past _ (one_or_two (segment_at (parsed bytes) w.index).mode) w.sure_is.is
-      w.past_is.is
+  last_less = one_more (unit_size (segment_at (parsed bytes) w.index).mode) w.count sure past _
+      (one_or_two (segment_at (parsed bytes) w.index).mode) w.sure_is.is w.past_is.is

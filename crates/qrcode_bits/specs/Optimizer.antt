@@ -271,8 +271,8 @@ pub record IsUnitsIn (segments : List Segment) (index count place : ℕ) : Type 
   pub is : let s = segment_at segments index in place ≡ s.begin + unit_size s.mode * count
   pub within : place ≤ (segment_at segments index).end
 
--- Segments may be cut: each is of whole units, and cut within one they are short and have linear
--- costs.
+-- Segments may be cut: each is of whole units, and cut within one they are short and have
+-- linear costs.
 pub record AreCuttable (far : ℕ) (segments : List Segment) (version : Version) : Type 0 where
   pub units : (i : ℕ) → i < length segments →
       (count : ℕ) × (0 < count) × IsUnitsIn segments i count (segment_at segments i).end

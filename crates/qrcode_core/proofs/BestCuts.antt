@@ -273,7 +273,8 @@ no_bytes c message p = let none : p - p ≡ 0 = omega arith in rw none (no_more 
 -- A part of no bytes fits.
 pub nothing_is_short : (c : Content) (message : List ℕ) (level : EcLevel) (limit p : ℕ) → 1 ≤ limit → IsPartTooLong c message level limit p p → ⊥
 nothing_is_short c message level limit p some long =
-    empty_fits c level (λ n few. subst (λ z. FitsNot (20 + length (content_bits c)) z (normal n) level) (no_bytes c message p) (long n (omega (arith, few, some))))
+    empty_fits c level
+    (λ n few. subst (λ z. FitsNot (20 + length (content_bits c)) z (normal n) level) (no_bytes c message p) (long n (omega (arith, few, some))))
 
 module _ (c : Content) (message : List ℕ) (level : EcLevel) (limit : ℕ) (valid : All (λ b. b < 256) message) (places : List ℕ)
     (are : AreCutPlaces c message places) (first end : ℕ) (from : first ≤ end) (inside : end < length places)

@@ -64,8 +64,8 @@ fn unit_size(mode: Mode) -> usize
 }
 
 /// Returns two places a unit apart in the segment at an index, which takes the chosen plan past
-/// `limit` bits: cut at the first it does not, and cut at the second it does. The end of the segment
-/// is moved to try a place, and moved back. The groups are those with the segment.
+/// `limit` bits: cut at the first it does not, and cut at the second it does. The end of the
+/// segment is moved to try a place, and moved back. The groups are those with the segment.
 #[inline(never)]
 fn last_of_segment<S: AnyStart, L: Ledger>(
     segments: &mut [Segment],

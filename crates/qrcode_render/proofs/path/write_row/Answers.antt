@@ -100,7 +100,8 @@ pub returns-then-is_none-clause-text : goal.returns-then-is_none-clause-text
 returns-then-is_none-clause-text c =
     let p = shown c.args.picture.now in
     sym (nothing_dark (rectangle_by c.args.pen) p c.args.y (columns_of p)
-    (λ k. sym (c.row-row.ensures.dark k) ∙ none_first c.row-row.result c.first_dark.result (c.is_none.ensures ∙ ap not c.if-is_none.true) c.first_dark.ensures k))
+    (λ k. sym (c.row-row.ensures.dark k)
+    ∙ none_first c.row-row.result c.first_dark.result (c.is_none.ensures ∙ ap not c.if-is_none.true) c.first_dark.ensures k))
 
 pub returns-clause-utf8 : goal.returns-clause-utf8
 returns-clause-utf8 c =

@@ -20,7 +20,8 @@ loop-high-init g c =
     record {
       less = n.0;
       within = omega (arith, n.1);
-      fits = λ h. absurd {A = bits_before (cut_at segments i ((segment_at segments i).begin + c.unit_size-unit.result * 0)) c.args.version (i + 1) ≤ c.args.limit}
+      fits = λ h.
+          absurd {A = bits_before (cut_at segments i ((segment_at segments i).begin + c.unit_size-unit.result * 0)) c.args.version (i + 1) ≤ c.args.limit}
           (omega (arith, h));
       over = rw n.1 (rw (bits-whole c.args.version segments i inside) c.requires.over);
       moved = ((segment_at segments i).end, sym (set-get_or segments i _));

@@ -40,7 +40,8 @@ returns-then-last-first-clause-refused c =
     let before_end : c.in_ok-last.last + 1 < length places = grind (arith, c.if-last-len, c.len.ensures, found.exists, c.deref.ensures) in (
       normal,
       none_at_all c.args.content c.args.bytes.now c.args.level (nat_abs c.args.max_version) c.requires.cut places c.in_ok-places.ensures
-          c.loop-count.first c.in_ok-last.last c.loop-count.count c.loop-count.cuts.items known c.if-last-first.true
+          c.loop-count.first c.in_ok-last.last c.loop-count.count c.loop-count.cuts.items known
+          (omega (arith, c.if-last-first.true, found.from))
           (rw (same, c.deref.ensures.value) at found.last) before_end,
     )
 
