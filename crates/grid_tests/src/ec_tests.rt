@@ -129,6 +129,33 @@ fn divides(rt: HostRuntime) -> QrResult<()> {
     Ok(())
 }
 
+/// Returns twice an element of the field, whose polynomial is x^8 + x^4 + x^3 + x^2 + 1.
+fn double(element: u8) -> u8 {
+    let over = if element >= 0x80 { 0x1D } else { 0 };
+    element << 1 ^ over
+}
+
+/// Powers of two in the field, by their exponents: the remainder a·x + b of x^m has the value of
+/// x^m at each root of the generator, which are 1 and 2 at degree 2, and 1 alone at degree 1.
+#[test]
+fn raises_two(rt: HostRuntime) -> QrResult<()> {
+    let mut data = [0; 254];
+    data[0] = 1;
+    let code = create_error_correction_code(rt.alloc(), &data[..1], 1)?;
+    assert_eq!(rt; code.as_slice(), &[1][..], "exponent 0");
+    for (exponent, power, want) in [
+        (2, 4, [0x03, 0x02]),
+        (8, 0x1D, [0xFF, 0xFE]),
+        (255, 1, [0x00, 0x01]),
+    ] {
+        let code = create_error_correction_code(rt.alloc(), &data[..exponent - 1], 2)?;
+        assert_eq!(rt; code.as_slice(), &want[..], "exponent {exponent}");
+        assert_eq!(rt; double(want[0]) ^ want[1], power, "exponent {exponent}");
+        assert_eq!(rt; want[0] ^ want[1], 1, "exponent {exponent}");
+    }
+    Ok(())
+}
+
 #[test]
 fn refuses(rt: HostRuntime) {
     let none = construct_codewords(rt.alloc(), &[], Version::Micro(2), EcLevel::Q);

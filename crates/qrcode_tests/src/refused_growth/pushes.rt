@@ -119,10 +119,16 @@ static LONG: [(Push, usize); 4] = [
     (Push::Reserve(5000), 0),
 ];
 
-/// Returns a stream of the letter a, ended.
-fn ended(alloc: Global) -> QrResult<Bits> {
+/// Returns a stream of the letter a, not ended.
+fn letter(alloc: Global) -> QrResult<Bits> {
     let mut bits = Bits::new(alloc, Version::Normal(1));
     bits.push_byte_data(b"a")?;
+    Ok(bits)
+}
+
+/// Returns a stream of the letter a, ended. It has no room left.
+fn ended(alloc: Global) -> QrResult<Bits> {
+    let mut bits = letter(alloc)?;
     bits.push_terminator(EcLevel::L)?;
     Ok(bits)
 }
@@ -144,11 +150,53 @@ fn pushes_behind_an_end(rt: HostRuntime) -> QrResult<()> {
     Ok(())
 }
 
+/// Every other push that fails leaves an ended stream as it was too. The stream is full, so each
+/// push but the terminator, which has nothing to append, allocates.
+#[test]
+fn pushes_on_a_full_stream(rt: HostRuntime) -> QrResult<()> {
+    for (push, added, bytes) in &ROWS {
+        if let Push::Terminator(_) = push {
+            continue;
+        }
+        let mut bits = ended(rt.alloc())?;
+        let answer = push.apply(&mut bits);
+        if answer == Err(QrError::OutOfMemory) {
+            is_ended(&rt, bits);
+            return answer;
+        }
+        assert_eq!(rt; answer, Ok(()));
+        assert_eq!(rt; bits.len(), 152 + *added);
+        assert!(rt; bits.into_bytes().as_slice().strip_prefix(&ENDED) == Some(*bytes));
+    }
+    Ok(())
+}
+
+/// A terminator that fails leaves the letter a.
+#[test]
+fn terminator_of_a_letter(rt: HostRuntime) -> QrResult<()> {
+    let mut bits = letter(rt.alloc())?;
+    let answer = Push::Terminator(EcLevel::L).apply(&mut bits);
+    if answer == Err(QrError::OutOfMemory) {
+        is_letter(&rt, bits, 20, &[0x40, 0x16, 0x10]);
+        return answer;
+    }
+    assert_eq!(rt; answer, Ok(()));
+    is_ended(&rt, bits);
+    Ok(())
+}
+
 /// Checks that the stream is as it was when it was ended.
 fn is_ended(rt: &impl Abort, bits: Bits) {
-    assert_eq!(rt; (bits.len(), bits.payload_bits_len()), (152, 20));
+    is_letter(rt, bits, 152, &ENDED);
+}
+
+/// Checks that a stream of version 1 has the letter a as its payload, a number of bits, and these
+/// bytes.
+fn is_letter(rt: &impl Abort, bits: Bits, len: usize, bytes: &[u8]) {
+    assert_eq!(rt; (bits.len(), bits.payload_bits_len()), (len, 20));
+    assert!(rt; bits.version() == Version::Normal(1));
     assert!(rt; bits.encoding_modes() == EncodingModes::from_mode(Mode::Byte));
-    assert!(rt; bits.into_bytes().as_slice() == ENDED.as_slice());
+    assert!(rt; bits.into_bytes().as_slice() == bytes);
 }
 
 /// After `reserve` pushes of as many bits do not allocate, so that the only allocation is that
@@ -192,8 +240,8 @@ fn has_first_segments(bits: &Bits) -> bool {
         && (kept < 2 || modes.contains(Mode::Byte))
 }
 
-#[test]
-fn push_segments_of_three(rt: HostRuntime) -> QrResult<()> {
+/// Pushes the three segments.
+fn push_three(bits: &mut Bits) -> QrResult<()> {
     let segments = [
         Segment {
             mode: Mode::Numeric,
@@ -211,8 +259,13 @@ fn push_segments_of_three(rt: HostRuntime) -> QrResult<()> {
             end: 120,
         },
     ];
+    bits.push_segments(&forty_of_each(), segments.iter().copied())
+}
+
+#[test]
+fn push_segments_of_three(rt: HostRuntime) -> QrResult<()> {
     let mut bits = Bits::new(rt.alloc(), Version::Normal(1));
-    let answer = bits.push_segments(&forty_of_each(), segments.iter().copied());
+    let answer = push_three(&mut bits);
     assert!(rt; answer == Ok(()) || has_first_segments(&bits));
     assert!(rt; answer.is_err() || bits.len() == LENGTHS[3]);
     answer
@@ -225,4 +278,34 @@ fn push_optimal_data_of_three(rt: HostRuntime) -> QrResult<()> {
     assert!(rt; answer == Ok(()) || has_first_segments(&bits));
     assert!(rt; answer.is_err() || bits.len() == LENGTHS[3]);
     answer
+}
+
+/// Segments that fail leave an ended stream as it was, if none of them was kept.
+#[test]
+fn push_segments_on_a_full_stream(rt: HostRuntime) -> QrResult<()> {
+    let mut bits = ended(rt.alloc())?;
+    let answer = push_three(&mut bits);
+    follows_an_end(&rt, bits, &answer);
+    answer
+}
+
+/// Data that fail leave an ended stream as it was, if no segment of them was kept.
+#[test]
+fn push_optimal_data_on_a_full_stream(rt: HostRuntime) -> QrResult<()> {
+    let mut bits = ended(rt.alloc())?;
+    let answer = bits.push_optimal_data(&forty_of_each());
+    follows_an_end(&rt, bits, &answer);
+    answer
+}
+
+/// Checks that a stream is as it was when it was ended, if no segment was kept, and that it
+/// otherwise begins so. It has all three segments if their push returned `Ok`.
+fn follows_an_end(rt: &impl Abort, bits: Bits, answer: &QrResult<()>) {
+    if bits.encoding_modes().len() == 1 {
+        assert!(rt; answer.is_err());
+        return is_ended(rt, bits);
+    }
+    assert!(rt; answer.is_err() || bits.len() == 152 + LENGTHS[3]);
+    assert!(rt; bits.payload_bits_len() == bits.len());
+    assert!(rt; bits.into_bytes().as_slice().starts_with(&ENDED));
 }
