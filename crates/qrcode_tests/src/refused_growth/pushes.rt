@@ -190,8 +190,7 @@ fn is_ended(rt: &impl Abort, bits: Bits) {
     is_letter(rt, bits, 152, &ENDED);
 }
 
-/// Checks that a stream of version 1 has the letter a as its payload, a number of bits, and these
-/// bytes.
+/// Checks that a stream of version 1 has the letter a as its payload, this length, and these bytes.
 fn is_letter(rt: &impl Abort, bits: Bits, len: usize, bytes: &[u8]) {
     assert_eq!(rt; (bits.len(), bits.payload_bits_len()), (len, 20));
     assert!(rt; bits.version() == Version::Normal(1));
