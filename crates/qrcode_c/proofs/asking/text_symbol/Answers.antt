@@ -1,10 +1,15 @@
 -- An error of the library is that of the call.
+use Rattle.std.specs.Prelude.{None}
+use Rattle.qrcode_bits.specs.Frame.{front_of}
+use Rattle.qrcode_bits.specs.declared.bits.front.Content.TheVariants.{Text}
 use Rattle.qrcode_c.proofs.Telling.{options_known, text_told}
 use Rattle.qrcode_c.proofs.asking.text_symbol.Goals as goal
 
 pub core_refusal-requires : goal.core_refusal-requires
 core_refusal-requires c =
-    options_known c.in_ok-checked.checked _ _ c.in-Err.error c.in_ok-checked.ensures.range c.in-Err.ensures.refused
+    let text = c.in-Ok.ensures.cases in
+    options_known c.in_ok-checked.checked (front_of None Text) c.args.text.now c.in-Err.error c.in_ok-checked.ensures.range
+    (rw text.0 at c.in-Err.ensures.refused)
 
 pub returns-in-Err-clause-refused : goal.returns-in-Err-clause-refused
 returns-in-Err-clause-refused c =

@@ -6,8 +6,8 @@ pub core_refusal-requires : goal.core_refusal-requires
 core_refusal-requires c =
     elements_known c.in_ok-checked.checked _ c.in-Err-elements_with.error c.in_ok-checked.ensures.range c.in-Err-elements_with.ensures.refused
 
-pub returns-in-Err-elements_with-clause-refused : goal.returns-in-Err-elements_with-clause-refused
-returns-in-Err-elements_with-clause-refused c =
+pub returns-clause-refused : goal.returns-clause-refused
+returns-clause-refused c =
     let elements = c.in-Ok-element_string.elements.items in
     let same = c.in-Ok.ensures.cases.0 in
     written_told c.args.text.now elements c.args.options.now c.in_ok-checked.checked _ c.in-Err-elements_with.error c.core_refusal.result
