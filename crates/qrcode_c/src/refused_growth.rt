@@ -16,9 +16,7 @@ const DEFAULT: PictureSettings = PictureSettings {
 /// Returns the status of a picture of 11 columns and rows of dark modules.
 fn picture_status(alloc: Global, format: i32, settings: &PictureSettings) -> i32 {
     let (mut file, mut size) = ([7; 8], 9);
-    qrcode_c_picture(
-        alloc, &[1; 121], 11, format, settings, &mut file, &mut size,
-    )
+    qrcode_c_picture(alloc, &[1; 121], 11, format, settings, &mut file, &mut size)
 }
 
 /// Whatever memory there is, the status is that of a wrong setting: one out of its bounds, or one
@@ -46,10 +44,7 @@ fn pictures_with_wrong_settings(rt: HostRuntime) {
             inverted: 1,
             ..DEFAULT
         },
-        PictureSettings {
-            at_x: 8,
-            ..DEFAULT
-        },
+        PictureSettings { at_x: 8, ..DEFAULT },
     ];
     for settings in &wrong {
         assert_eq!(rt; picture_status(rt.alloc(), 3, settings), 22);
