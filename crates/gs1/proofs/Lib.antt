@@ -7,3 +7,4 @@ pub mod Data
 pub mod Bracketed
 pub mod Memory
 pub mod Whole
+pub mod SymbolData

@@ -9,6 +9,7 @@
 ghost use Rattle.std.specs.Prelude.{◌≡◌, None, IfOk, OnOk, IfErr};
 ghost use Rattle.gs1.specs.Elements.{written_elements, bracketed, text_fault, IsRefusedText};
 ghost use Rattle.gs1.specs.Reader.{FindsOnly, AreSymbolData};
+ghost use Rattle.qrcode_bits.specs.Contents.{AreElements};
 
 mod check;
 mod error;
@@ -43,6 +44,8 @@ pub fn element_string(alloc: Global, text: &str) -> Result<Vec<u8>, Gs1Error>
     ensures written { OnOk result (bracketed (written_elements text.now) ≡ text.now) }
     ensures found { IfOk result (λ bytes. FindsOnly bytes.items (written_elements text.now)) }
     ensures data { IfOk result (λ bytes. AreSymbolData bytes.items) }
+    // The encoder takes all of its bytes.
+    ensures elements { IfOk result (λ bytes. AreElements bytes.items) }
 
     ensures faultless { OnOk result (text_fault text.now ≡ None) }
     ensures refused { IfErr result (IsRefusedText text.now) }

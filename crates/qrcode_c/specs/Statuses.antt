@@ -1,5 +1,7 @@
--- The numbers of the errors.
-use Rattle.std.specs.Prelude.{ℤ, pos}
+-- The numbers of the errors, and which of them stand for those of the library.
+use Rattle.std.specs.Prelude.{ℤ, pos, Option, Some, None}
+use Rattle.qrcode_base.specs.declared.types.errors.QrError.{QrError}
+use Rattle.qrcode_base.specs.declared.types.errors.QrError.TheVariants as core
 use Rattle.qrcode_c.specs.declared.refusal.Refusal.{Refusal}
 use Rattle.qrcode_c.specs.declared.refusal.Refusal.TheVariants.{DataTooLong, OutOfMemory}
 use Rattle.qrcode_c.specs.declared.refusal.Refusal.TheVariants.{InvalidLevel}
@@ -36,3 +38,13 @@ status_of WrongCheckDigit = pos 19
 status_of InvalidWidth = pos 20
 status_of InvalidFormat = pos 21
 status_of InvalidSetting = pos 22
+
+-- The error that stands for one of the library. Of the library's calls behind those of C, none has
+-- another error, since what these would speak of is tested before.
+abbrev pub status_error : QrError → Option Refusal
+status_error (core.DataTooLong) = Some DataTooLong
+status_error (core.InvalidVersion version level) = Some InvalidLevel
+status_error (core.InvalidCharacter position byte) = Some InvalidCharacter
+status_error (core.InvalidStructuredAppend value) = Some InvalidPartCount
+status_error (core.OutOfMemory) = Some OutOfMemory
+status_error other = None

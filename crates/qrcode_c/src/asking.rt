@@ -13,11 +13,10 @@ ghost use Rattle.qrcode_c.specs.Holding.{HoldsAsked};
 
 use crate::drawing::write;
 use crate::options::{Options, options_of};
-use crate::refusal::Refusal;
+use crate::refusal::{Refusal, core_refusal};
 use crate::shape::Shape;
 use gs1::{Gs1Error, element_string};
 use qrcode_core::symbol::Symbol;
-use qrcode_core::types::QrError;
 use std::alloc::Global;
 
 /// Writes the symbol of the bytes that the options ask for, and returns its shape.
@@ -36,8 +35,7 @@ pub fn bytes_symbol(
     let checked = options_of(options)?;
     match Symbol::bytes_with(alloc, bytes, &checked) {
         Ok(symbol) => write(&symbol, modules),
-        Err(QrError::DataTooLong) => Err(Refusal::DataTooLong),
-        Err(_) => Err(Refusal::OutOfMemory),
+        Err(error) => Err(core_refusal(error)),
     }
 }
 
@@ -61,8 +59,7 @@ pub fn text_symbol(
     };
     match Symbol::text_with(alloc, text, &checked) {
         Ok(symbol) => write(&symbol, modules),
-        Err(QrError::DataTooLong) => Err(Refusal::DataTooLong),
-        Err(_) => Err(Refusal::OutOfMemory),
+        Err(error) => Err(core_refusal(error)),
     }
 }
 
@@ -83,9 +80,7 @@ pub fn elements_symbol(
     let checked = options_of(options)?;
     match Symbol::elements_with(alloc, elements, &checked) {
         Ok(symbol) => write(&symbol, modules),
-        Err(QrError::InvalidCharacter { .. }) => Err(Refusal::InvalidCharacter),
-        Err(QrError::DataTooLong) => Err(Refusal::DataTooLong),
-        Err(_) => Err(Refusal::OutOfMemory),
+        Err(error) => Err(core_refusal(error)),
     }
 }
 
@@ -113,8 +108,7 @@ pub fn written_symbol(
     };
     match Symbol::elements_with(alloc, &elements, &checked) {
         Ok(symbol) => write(&symbol, modules),
-        Err(QrError::DataTooLong) => Err(Refusal::DataTooLong),
-        Err(_) => Err(Refusal::OutOfMemory),
+        Err(error) => Err(core_refusal(error)),
     }
 }
 

@@ -7,9 +7,8 @@ ghost use Rattle.qrcode_c.specs.Cuts.{HoldsCuts, IsCutsStatus};
 ghost use Rattle.qrcode_c.specs.Refusals.{IsTextStatus};
 
 use crate::options::{level_of, limit_of};
-use crate::refusal::Refusal;
+use crate::refusal::{Refusal, core_refusal};
 use qrcode_core::symbol::{best_cuts, best_text_cuts};
-use qrcode_core::types::QrError;
 use std::alloc::Global;
 
 /// Writes the cuts of the message into the fewest parts, and returns their number.
@@ -34,8 +33,7 @@ pub fn cuts_of(
     };
     let found = match best_cuts(alloc, message, level, limit) {
         Ok(found) => found,
-        Err(QrError::DataTooLong) => return Err(Refusal::DataTooLong),
-        Err(_) => return Err(Refusal::OutOfMemory),
+        Err(error) => return Err(core_refusal(error)),
     };
     if !write_cuts(&found, cuts) {
         return Err(Refusal::ShortBuffer);
@@ -89,8 +87,7 @@ fn cuts_of_text(
     };
     let found = match best_text_cuts(alloc, text, level, limit) {
         Ok(found) => found,
-        Err(QrError::DataTooLong) => return Err(Refusal::DataTooLong),
-        Err(_) => return Err(Refusal::OutOfMemory),
+        Err(error) => return Err(core_refusal(error)),
     };
     if !write_cuts(&found, cuts) {
         return Err(Refusal::ShortBuffer);

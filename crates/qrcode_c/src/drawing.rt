@@ -10,11 +10,11 @@ ghost use Rattle.qrcode_c.specs.Holding.{Holds, HoldsBest, HoldsPart};
 ghost use Rattle.qrcode_c.specs.Refusals.{IsSymbolRefusal, IsMicroRefusal, IsPartRefusal};
 
 use crate::options::{level_of, limit_of};
-use crate::refusal::Refusal;
+use crate::refusal::{Refusal, core_refusal};
 use crate::shape::{Shape, shape_of};
 use qrcode_core::symbol::{Symbol, are_cuts};
 use qrcode_core::traits::ModuleSource;
-use qrcode_core::types::{Color, QrError};
+use qrcode_core::types::Color;
 use std::alloc::Global;
 
 /// Writes the best symbol of the bytes, and returns its shape.
@@ -28,8 +28,7 @@ pub fn symbol(alloc: Global, bytes: &[u8], level: i32, modules: &mut [u8]) -> Re
     };
     match Symbol::new(alloc, bytes, level) {
         Ok(symbol) => write(&symbol, modules),
-        Err(QrError::DataTooLong) => Err(Refusal::DataTooLong),
-        Err(_) => Err(Refusal::OutOfMemory),
+        Err(error) => Err(core_refusal(error)),
     }
 }
 
@@ -50,9 +49,7 @@ pub fn micro_symbol(
     };
     match Symbol::micro(alloc, bytes, level) {
         Ok(symbol) => write(&symbol, modules),
-        Err(QrError::InvalidVersion { .. }) => Err(Refusal::InvalidLevel),
-        Err(QrError::DataTooLong) => Err(Refusal::DataTooLong),
-        Err(_) => Err(Refusal::OutOfMemory),
+        Err(error) => Err(core_refusal(error)),
     }
 }
 
@@ -87,9 +84,7 @@ pub fn part_symbol(
     };
     match Symbol::sequence_part(alloc, message, cuts, level, limit, index) {
         Ok(symbol) => write(&symbol, modules),
-        Err(QrError::InvalidStructuredAppend { .. }) => Err(Refusal::InvalidPartCount),
-        Err(QrError::DataTooLong) => Err(Refusal::DataTooLong),
-        Err(_) => Err(Refusal::OutOfMemory),
+        Err(error) => Err(core_refusal(error)),
     }
 }
 

@@ -40,6 +40,8 @@ mod drawing;
 mod options;
 mod picture;
 mod refusal;
+#[cfg(test)]
+mod refused_growth;
 mod sequences;
 mod settings;
 mod shape;

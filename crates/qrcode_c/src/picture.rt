@@ -12,10 +12,9 @@ ghost use Rattle.qrcode_render.specs.declared.bounds.TheConstants.{MAX_MODULES};
 
 use crate::refusal::Refusal;
 use crate::settings::{PictureSettings, format_of, settings_of};
-use qrcode_core::plugin::PluginError;
 use qrcode_core::traits::ModuleView;
 use qrcode_core::types::{Color, Version};
-use qrcode_render::{DrawOptions, draw_grid};
+use qrcode_render::{DrawOptions, Setting, draw_grid};
 use std::alloc::{AllocError, Global};
 
 /// Writes the picture of some modules to the start of a buffer, and its length to `size`. If the
@@ -63,12 +62,26 @@ fn drawn(
     let settings = settings_of(asked);
     let options = match DrawOptions::new(alloc, format, &settings) {
         Ok(options) => options,
-        Err(PluginError::InvalidConfig(_)) => return Err(Refusal::InvalidSetting),
-        Err(_) => return Err(Refusal::OutOfMemory),
+        Err(setting) => return Err(setting_refusal(setting)),
     };
     match draw_square(alloc, modules, width, &options) {
         Ok(bytes) => Ok(bytes),
-        Err(_) => Err(Refusal::OutOfMemory),
+        Err(AllocError) => Err(Refusal::OutOfMemory),
+    }
+}
+
+/// Returns the error that stands for every wrong setting.
+fn setting_refusal(setting: Setting) -> Refusal
+    ensures { result ≡ Refusal.InvalidSetting }
+{
+    match setting {
+        Setting::Scale
+        | Setting::Quiet
+        | Setting::ModuleMm
+        | Setting::Dpi
+        | Setting::Inverted
+        | Setting::Title
+        | Setting::At => Refusal::InvalidSetting,
     }
 }
 

@@ -1,6 +1,8 @@
 //! The errors of a call.
-ghost use Rattle.std.specs.Prelude.{◌≡◌};
-ghost use Rattle.qrcode_c.specs.Statuses.{status_of};
+ghost use Rattle.std.specs.Prelude.{◌≡◌, Some, IsSome};
+ghost use Rattle.qrcode_c.specs.Statuses.{status_error, status_of};
+
+use qrcode_core::types::QrError;
 
 /// The errors of a call, with the numbers that the header has.
 #[derive(Clone, Copy, Debug, PartialEq, Eq)]
@@ -56,5 +58,25 @@ impl Refusal {
         ensures { result ≡ status_of self }
     {
         self as i32
+    }
+}
+
+/// Returns the error of a call for an error of `qrcode_core`.
+pub fn core_refusal(error: QrError) -> Refusal
+    requires { IsSome (status_error error) }
+    ensures { status_error error ≡ Some result }
+{
+    match error {
+        QrError::DataTooLong => Refusal::DataTooLong,
+        QrError::InvalidVersion { .. } => Refusal::InvalidLevel,
+        QrError::InvalidCharacter { .. } => Refusal::InvalidCharacter,
+        QrError::InvalidStructuredAppend { .. } => Refusal::InvalidPartCount,
+        QrError::OutOfMemory => Refusal::OutOfMemory,
+        QrError::UnsupportedCharacterSet
+        | QrError::InvalidEciDesignator { .. }
+        | QrError::InvalidResourceLimits
+        | QrError::RenderSizeExceeded { .. }
+        | QrError::EncodingTimeout
+        | QrError::InvalidDataLength { .. } => unreachable!(),
     }
 }

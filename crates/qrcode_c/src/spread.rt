@@ -15,11 +15,11 @@ ghost use Rattle.qrcode_c.specs.Spread.{IsSpreadStatus};
 
 use crate::drawing::write_modules;
 use crate::options::{level_of, limit_of};
-use crate::refusal::Refusal;
+use crate::refusal::{Refusal, core_refusal};
 use crate::shape::{Shape, shape_of};
 use qrcode_core::symbol::{Symbol, are_cuts, are_text_cuts};
 use qrcode_core::traits::ModuleSource;
-use qrcode_core::types::{Color, QrError};
+use qrcode_core::types::Color;
 use std::alloc::Global;
 
 /// Writes all symbols that carry a message together, and their shapes.
@@ -50,9 +50,7 @@ pub fn spread(
     };
     let symbols = match Symbol::sequence(alloc, message, cuts, level, limit) {
         Ok(symbols) => symbols,
-        Err(QrError::InvalidStructuredAppend { .. }) => return Err(Refusal::InvalidPartCount),
-        Err(QrError::DataTooLong) => return Err(Refusal::DataTooLong),
-        Err(_) => return Err(Refusal::OutOfMemory),
+        Err(error) => return Err(core_refusal(error)),
     };
     if !write_symbols(&symbols, modules, shapes) {
         return Err(Refusal::ShortBuffer);
@@ -115,9 +113,7 @@ fn spread_text(
     };
     let symbols = match Symbol::text_sequence(alloc, text, cuts, level, limit) {
         Ok(symbols) => symbols,
-        Err(QrError::InvalidStructuredAppend { .. }) => return Err(Refusal::InvalidPartCount),
-        Err(QrError::DataTooLong) => return Err(Refusal::DataTooLong),
-        Err(_) => return Err(Refusal::OutOfMemory),
+        Err(error) => return Err(core_refusal(error)),
     };
     if !write_symbols(&symbols, modules, shapes) {
         return Err(Refusal::ShortBuffer);

@@ -6,6 +6,9 @@ use Rattle.qrcode_render.specs.declared.bounds.TheConstants.{MIN_SCALE, MAX_SCAL
 use Rattle.qrcode_render.specs.declared.bounds.TheConstants.{MIN_MODULE_MM, MAX_MODULE_MM}
 use Rattle.qrcode_render.specs.declared.bounds.TheConstants.{MIN_DPI, MAX_DPI, MAX_AT}
 use Rattle.qrcode_render.specs.declared.format.Format.{Format}
+use Rattle.qrcode_render.specs.declared.settings.Setting.{Setting}
+use Rattle.qrcode_render.specs.declared.settings.Setting.TheVariants.{Scale, Quiet, ModuleMm, Dpi}
+use Rattle.qrcode_render.specs.declared.settings.Setting.TheVariants.{Inverted, Title, At}
 use Rattle.qrcode_render.specs.declared.settings.Settings.{Settings}
 use Rattle.qrcode_render.specs.Formats.{can_be_inverted, has_dots, has_millimetres, has_position}
 use Rattle.qrcode_render.specs.Formats.{has_title}
@@ -26,25 +29,35 @@ abbrev pub allows_position : (has : Bool) → Option (ℕ × ℕ) → Bool
 allows_position has None = true
 allows_position has (Some at) = has && (nat_le at.0 MAX_AT && nat_le at.1 MAX_AT)
 
--- Whether each setting is valid in a format, by its name. A resolution in dots per inch is not
--- given beside a size in millimetres.
-abbrev pub setting_tests : Format → Settings → List (List ℕ × Bool)
+-- The name of a setting.
+abbrev pub setting_word : Setting → List ℕ
+setting_word Scale = codes "scale"
+setting_word Quiet = codes "quiet"
+setting_word ModuleMm = codes "module_mm"
+setting_word Dpi = codes "dpi"
+setting_word Inverted = codes "inverted"
+setting_word Title = codes "title"
+setting_word At = codes "at"
+
+-- Whether each setting is valid in a format. A resolution in dots per inch is not given beside a
+-- size in millimetres.
+abbrev pub setting_tests : Format → Settings → List (Setting × Bool)
 setting_tests format s =
-    (codes "scale", allows true MIN_SCALE MAX_SCALE s.scale)
-    ∷ (codes "quiet", allows true 0 MAX_QUIET s.quiet)
-    ∷ (codes "module_mm", allows (has_millimetres format) MIN_MODULE_MM MAX_MODULE_MM s.module_mm)
-    ∷ (codes "dpi", allows (has_dots format && is_none s.module_mm) MIN_DPI MAX_DPI s.dpi)
-    ∷ (codes "inverted", not s.inverted || can_be_inverted format)
-    ∷ (codes "title", allows_title (has_title format) (option_copied s.title))
-    ∷ (codes "at", allows_position (has_position format) s.at)
+    (Scale, allows true MIN_SCALE MAX_SCALE s.scale)
+    ∷ (Quiet, allows true 0 MAX_QUIET s.quiet)
+    ∷ (ModuleMm, allows (has_millimetres format) MIN_MODULE_MM MAX_MODULE_MM s.module_mm)
+    ∷ (Dpi, allows (has_dots format && is_none s.module_mm) MIN_DPI MAX_DPI s.dpi)
+    ∷ (Inverted, not s.inverted || can_be_inverted format)
+    ∷ (Title, allows_title (has_title format) (option_copied s.title))
+    ∷ (At, allows_position (has_position format) s.at)
     ∷ []
 
--- The first name whose test fails.
-abbrev pub first_failed : List (List ℕ × Bool) → Option (List ℕ)
+-- The first setting whose test fails.
+abbrev pub first_failed : List (Setting × Bool) → Option Setting
 first_failed [] = None
-first_failed ((name, true) ∷ more) = first_failed more
-first_failed ((name, false) ∷ more) = Some name
+first_failed ((setting, true) ∷ more) = first_failed more
+first_failed ((setting, false) ∷ more) = Some setting
 
--- The name of the first setting that is not valid in a format.
-abbrev pub invalid_setting : Format → Settings → Option (List ℕ)
+-- The first setting that is not valid in a format.
+abbrev pub invalid_setting : Format → Settings → Option Setting
 invalid_setting format s = first_failed (setting_tests format s)

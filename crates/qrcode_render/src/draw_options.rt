@@ -2,7 +2,6 @@
 ghost use Rattle.std.specs.Prelude.{◌≡◌, ◌≤◌};
 ghost use Rattle.std.specs.Prelude.{true, false, OnOk, OnErr, IfErr};
 ghost use Rattle.std.specs.Option.{ForSome, option_copied};
-ghost use Rattle.qrcode_render.specs.Options.{NamesOption};
 ghost use Rattle.qrcode_render.specs.Settings.{allows, allows_title, allows_position};
 ghost use Rattle.qrcode_render.specs.declared.bounds.TheConstants.{MIN_SCALE, MAX_SCALE, MAX_QUIET};
 ghost use Rattle.qrcode_render.specs.declared.bounds.TheConstants.{MIN_MODULE_MM, MAX_MODULE_MM};
@@ -12,10 +11,8 @@ use crate::bounds::{
     MAX_AT, MAX_DPI, MAX_MODULE_MM, MAX_QUIET, MAX_SCALE, MIN_DPI, MIN_MODULE_MM, MIN_SCALE, QUIET,
 };
 use crate::format::Format;
-use crate::options::invalid_option;
-use crate::settings::Settings;
+use crate::settings::{Setting, Settings};
 use crate::xml::is_xml_text;
-use qrcode_core::plugin::PluginError;
 use std::alloc::Global;
 
 /// A format, with all options of a picture in it. Those that the format does not have are at
@@ -50,26 +47,24 @@ pub struct DrawOptions<'a> {
 
 impl<'a> DrawOptions<'a> {
     ghost use Rattle.std.specs.Prelude.{Some, None, IfOk, IfErr, OnOk};
-    ghost use Rattle.qrcode_render.specs.Options.{IsOptionRefusal};
     ghost use Rattle.qrcode_render.specs.Made.{IsMadeOf};
     ghost use Rattle.qrcode_render.specs.Settings.{invalid_setting};
 
-    /// Returns the options of a format that these settings ask for.
+    /// Returns the options of a format that these settings ask for. Nothing is allocated.
     ///
     /// # Errors
     ///
-    /// It fails with `InvalidConfig` and the name of the first setting, in the order of
-    /// `Settings`, that is out of its bounds, or that the format does not have; or with
-    /// `OutOfMemory` if there is no memory for the name.
+    /// It fails with the first setting, in the order of `Settings`, that is out of its bounds, or
+    /// that the format does not have.
     pub fn new(
-        alloc: Global,
+        _alloc: Global,
         format: Format,
         settings: &Settings<'a>,
-    ) -> Result<DrawOptions<'a>, PluginError>
+    ) -> Result<DrawOptions<'a>, Setting>
         ensures made { IfOk result (λ options. IsMadeOf format settings.now options) }
         ensures valid { OnOk result (invalid_setting format settings.now ≡ None) }
         ensures refused { IfErr result
-            (IsOptionRefusal (λ name. invalid_setting format settings.now ≡ Some name)) }
+            (λ setting. invalid_setting format settings.now ≡ Some setting) }
     {
         let Settings {
             scale,
@@ -81,18 +76,17 @@ impl<'a> DrawOptions<'a> {
             at,
         } = *settings;
         let lone_dpi = format.has_dots() && module_mm.is_none();
-        require(alloc, allows(true, MIN_SCALE, MAX_SCALE, scale), "scale")?;
-        require(alloc, allows(true, 0, MAX_QUIET, quiet), "quiet")?;
+        require(allows(true, MIN_SCALE, MAX_SCALE, scale), Setting::Scale)?;
+        require(allows(true, 0, MAX_QUIET, quiet), Setting::Quiet)?;
         let millimetres = format.has_millimetres();
         require(
-            alloc,
             allows(millimetres, MIN_MODULE_MM, MAX_MODULE_MM, module_mm),
-            "module_mm",
+            Setting::ModuleMm,
         )?;
-        require(alloc, allows(lone_dpi, MIN_DPI, MAX_DPI, dpi), "dpi")?;
-        require(alloc, !inverted || format.can_be_inverted(), "inverted")?;
-        require(alloc, allows_title(format.has_title(), title), "title")?;
-        require(alloc, allows_position(format.has_position(), at), "at")?;
+        require(allows(lone_dpi, MIN_DPI, MAX_DPI, dpi), Setting::Dpi)?;
+        require(!inverted || format.can_be_inverted(), Setting::Inverted)?;
+        require(allows_title(format.has_title(), title), Setting::Title)?;
+        require(allows_position(format.has_position(), at), Setting::At)?;
         Ok(DrawOptions {
             format,
             scale: scale.unwrap_or(format.default_scale()),
@@ -106,18 +100,13 @@ impl<'a> DrawOptions<'a> {
     }
 }
 
-/// Returns `InvalidConfig` with the name of an option that is not valid, or `OutOfMemory` if there
-/// is no memory for the name.
-fn require(alloc: Global, valid: bool, name: &str) -> Result<(), PluginError>
+/// Fails with a setting that is not valid.
+fn require(valid: bool, setting: Setting) -> Result<(), Setting>
     ensures valid { OnOk result (valid ≡ true) }
     ensures failed { OnErr result (valid ≡ false) }
-    ensures named { IfErr result (NamesOption name.now) }
+    ensures same { IfErr result (λ failed. failed ≡ setting) }
 {
-    if valid {
-        Ok(())
-    } else {
-        Err(invalid_option(alloc, name))
-    }
+    if valid { Ok(()) } else { Err(setting) }
 }
 
 /// Whether a number may be given: it is within its bounds, and the format has it.

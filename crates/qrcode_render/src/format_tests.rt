@@ -6,7 +6,7 @@ use crate::escpos::escpos;
 use crate::format::Format;
 use crate::options::RenderOptions;
 use crate::picture::Picture;
-use crate::settings::Settings;
+use crate::settings::{Setting, Settings};
 use crate::svg::svg_document;
 use crate::zpl::zpl;
 use qrcode_core::plugin::PluginError;
@@ -186,7 +186,7 @@ fn draws_grids(rt: HostRuntime) -> Result<(), PluginError> {
         quiet: Some(1),
         ..Settings::default()
     };
-    let options = DrawOptions::new(alloc, Format::Pbm, &settings)?;
+    let options = DrawOptions::new(alloc, Format::Pbm, &settings).expect(&rt, "options");
     let Some(view) = ModuleView::new_rect(&CELLS, 3, 2) else {
         return Err(PluginError::InvalidModuleGrid);
     };
@@ -201,11 +201,11 @@ fn draws_grids(rt: HostRuntime) -> Result<(), PluginError> {
     Ok(())
 }
 
-/// Whether the settings are rejected in this format, by the name of one of them.
-fn rejects(alloc: Global, format: Format, settings: &Settings, name: &str) -> bool {
+/// Whether the settings are rejected in this format, since one of them is wrong.
+fn rejects(alloc: Global, format: Format, settings: &Settings, wrong: Setting) -> bool {
     match DrawOptions::new(alloc, format, settings) {
-        Err(PluginError::InvalidConfig(what)) => what.as_str() == name,
-        _ => false,
+        Ok(_) => false,
+        Err(setting) => setting == wrong,
     }
 }
 
@@ -214,9 +214,9 @@ fn rejects(alloc: Global, format: Format, settings: &Settings, name: &str) -> bo
 fn tests_settings(rt: HostRuntime) -> Result<(), PluginError> {
     let alloc = rt.alloc();
     let none = Settings::default();
-    let options = DrawOptions::new(alloc, Format::Terminal, &none)?;
+    let options = DrawOptions::new(alloc, Format::Terminal, &none).expect(&rt, "options");
     assert_eq!(rt; (options.scale, options.quiet), (1, 4));
-    let options = DrawOptions::new(alloc, Format::Zpl, &none)?;
+    let options = DrawOptions::new(alloc, Format::Zpl, &none).expect(&rt, "options");
     assert_eq!(rt; (options.scale, options.quiet, options.at), (8, 4, (0, 0)));
 
     let dpi = Settings {
@@ -224,33 +224,85 @@ fn tests_settings(rt: HostRuntime) -> Result<(), PluginError> {
         ..none
     };
     assert!(rt; DrawOptions::new(alloc, Format::Png, &dpi).is_ok());
-    assert!(rt; rejects(alloc, Format::Svg, &dpi, "dpi"));
+    assert!(rt; rejects(alloc, Format::Svg, &dpi, Setting::Dpi));
     let both = Settings {
         module_mm: Some(33),
         ..dpi
     };
-    assert!(rt; rejects(alloc, Format::Png, &both, "dpi"));
+    assert!(rt; rejects(alloc, Format::Png, &both, Setting::Dpi));
     let thin = Settings {
         module_mm: Some(4),
         ..none
     };
-    assert!(rt; rejects(alloc, Format::Eps, &thin, "module_mm"));
+    assert!(rt; rejects(alloc, Format::Eps, &thin, Setting::ModuleMm));
     let title = Settings {
         title: Some("a\u{FFFE}"),
         ..none
     };
-    assert!(rt; rejects(alloc, Format::Svg, &title, "title"));
+    assert!(rt; rejects(alloc, Format::Svg, &title, Setting::Title));
     let far = Settings {
         at: Some((0, 18_001)),
         ..none
     };
-    assert!(rt; rejects(alloc, Format::Zpl, &far, "at"));
+    assert!(rt; rejects(alloc, Format::Zpl, &far, Setting::At));
     let inverted = Settings {
         inverted: true,
         ..none
     };
-    assert!(rt; rejects(alloc, Format::Pbm, &inverted, "inverted"));
+    assert!(rt; rejects(alloc, Format::Pbm, &inverted, Setting::Inverted));
     assert!(rt; DrawOptions::new(alloc, Format::Terminal, &inverted).is_ok());
+    Ok(())
+}
+
+/// Of two wrong settings the one that comes first in `Settings` is named.
+#[test]
+fn names_the_first_setting(rt: HostRuntime) -> Result<(), PluginError> {
+    let alloc = rt.alloc();
+    let many = Settings {
+        scale: Some(0),
+        quiet: Some(17),
+        module_mm: Some(4),
+        dpi: Some(49),
+        inverted: true,
+        title: Some("a"),
+        at: Some((0, 0)),
+    };
+    assert!(rt; rejects(alloc, Format::Pbm, &many, Setting::Scale));
+    let many = Settings {
+        scale: None,
+        ..many
+    };
+    assert!(rt; rejects(alloc, Format::Pbm, &many, Setting::Quiet));
+    let many = Settings {
+        quiet: None,
+        module_mm: None,
+        ..many
+    };
+    assert!(rt; rejects(alloc, Format::Pbm, &many, Setting::Dpi));
+    let many = Settings {
+        dpi: None,
+        inverted: false,
+        ..many
+    };
+    assert!(rt; rejects(alloc, Format::Pbm, &many, Setting::Title));
+    Ok(())
+}
+
+/// A setting has the name of its field.
+#[test]
+fn names_settings(rt: HostRuntime) -> Result<(), PluginError> {
+    let names = [
+        (Setting::Scale, "scale"),
+        (Setting::Quiet, "quiet"),
+        (Setting::ModuleMm, "module_mm"),
+        (Setting::Dpi, "dpi"),
+        (Setting::Inverted, "inverted"),
+        (Setting::Title, "title"),
+        (Setting::At, "at"),
+    ];
+    for (setting, name) in names {
+        assert_eq!(rt; setting.name(), name);
+    }
     Ok(())
 }
 
@@ -261,7 +313,9 @@ fn drawn_as(
     format: Format,
     settings: &Settings,
 ) -> Result<Vec<u8>, PluginError> {
-    let options = DrawOptions::new(alloc, format, settings)?;
+    let Ok(options) = DrawOptions::new(alloc, format, settings) else {
+        return Err(PluginError::InvalidModuleGrid);
+    };
     Ok(draw(alloc, symbol, &options)?)
 }
 

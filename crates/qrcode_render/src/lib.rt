@@ -2,7 +2,8 @@
 //! ZPL for ticket and label printers.
 //!
 //! 1. Fill in what the picture is to be like (`settings`).
-//! 2. Make the options of a format from it, which are tested once (`draw_options`).
+//! 2. Make the options of a format from it, which are tested once (`draw_options`). The error is the
+//!    `Setting` that is wrong.
 //! 3. Draw the symbol.
 //!
 //! ```text
@@ -49,4 +50,4 @@ pub use format::Format;
 pub use options::RenderOptions;
 pub use picture::Picture;
 pub use renderers::{Eps, EscPos, Pbm, Png, Svg, Terminal, Zpl};
-pub use settings::Settings;
+pub use settings::{Setting, Settings};

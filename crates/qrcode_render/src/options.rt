@@ -5,10 +5,12 @@ ghost use Rattle.qrcode_core.specs.Plugins.{render_options, at_key};
 ghost use Rattle.qrcode_render.specs.declared.bounds.TheConstants.{MIN_SCALE, MAX_SCALE, MAX_QUIET};
 ghost use Rattle.qrcode_render.specs.Options.{Asks, AsksFlag, AsksNumber, IsOutside, IsUnclear};
 ghost use Rattle.qrcode_render.specs.Options.{IsOptionRefusal, NamesOption};
+ghost use Rattle.qrcode_render.specs.Settings.{setting_word};
 
 use crate::bounds::{MAX_QUIET, MAX_SCALE, MIN_SCALE, QUIET};
+use crate::settings::Setting;
 use qrcode_core::plugin::{PluginError, RenderConfig};
-use std::alloc::Global;
+use std::alloc::{AllocError, Global};
 
 /// The way in which a grid is drawn.
 #[derive(Clone, Copy, Debug, PartialEq, Eq)]
@@ -36,10 +38,10 @@ impl RenderOptions {
         ensures refused { IfErr result (IsOptionRefusal (IsOutside scale quiet)) }
     {
         if scale < MIN_SCALE || scale > MAX_SCALE {
-            return Err(invalid_option(alloc, "scale"));
+            return Err(invalid_option(alloc, Setting::Scale));
         }
         if quiet > MAX_QUIET {
-            return Err(invalid_option(alloc, "quiet"));
+            return Err(invalid_option(alloc, Setting::Quiet));
         }
         Ok(RenderOptions { scale, quiet })
     }
@@ -65,10 +67,10 @@ impl RenderOptions {
     {
         let scale = config.option("scale");
         let Some(scale) = number(scale, default_scale, MIN_SCALE, MAX_SCALE) else {
-            return Err(invalid_option(alloc, "scale"));
+            return Err(invalid_option(alloc, Setting::Scale));
         };
         let Some(quiet) = number(config.option("quiet"), QUIET, 0, MAX_QUIET) else {
-            return Err(invalid_option(alloc, "quiet"));
+            return Err(invalid_option(alloc, Setting::Quiet));
         };
         Ok(RenderOptions { scale, quiet })
     }
@@ -114,13 +116,13 @@ pub fn flag(config: &RenderConfig, key: &str) -> Option<bool>
     }
 }
 
-/// Returns `InvalidConfig` with the name of an option, or `OutOfMemory` if there is no memory for
+/// Returns `InvalidConfig` with the name of a setting, or `OutOfMemory` if there is no memory for
 /// the name.
-pub(crate) fn invalid_option(alloc: Global, name: &str) -> PluginError
-    ensures { NamesOption name.now result }
+pub(crate) fn invalid_option(alloc: Global, setting: Setting) -> PluginError
+    ensures { NamesOption (setting_word setting) result }
 {
-    match String::from_str(alloc, name) {
+    match String::from_str(alloc, setting.name()) {
         Ok(name) => PluginError::InvalidConfig(name),
-        Err(_) => PluginError::OutOfMemory,
+        Err(AllocError) => PluginError::OutOfMemory,
     }
 }

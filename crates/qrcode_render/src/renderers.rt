@@ -22,6 +22,7 @@ use crate::options::{RenderOptions, flag, invalid_option};
 use crate::pbm::pbm;
 use crate::picture::Picture;
 use crate::png_file::png;
+use crate::settings::Setting;
 use crate::svg::svg;
 use crate::terminal::terminal;
 use crate::zpl::zpl;
@@ -241,7 +242,7 @@ fn image_options(alloc: Global, config: &RenderConfig) -> Result<RenderOptions, 
 {
     let options = RenderOptions::of_config(alloc, config, IMAGE_SCALE)?;
     if config.option("inverted").is_some() {
-        return Err(invalid_option(alloc, "inverted"));
+        return Err(invalid_option(alloc, Setting::Inverted));
     }
     Ok(options)
 }
@@ -258,7 +259,7 @@ fn text_options(alloc: Global, config: &RenderConfig) -> Result<(RenderOptions, 
     let options = RenderOptions::of_config(alloc, config, TEXT_SCALE)?;
     match flag(config, "inverted") {
         Some(inverted) => Ok((options, inverted)),
-        None => Err(invalid_option(alloc, "inverted")),
+        None => Err(invalid_option(alloc, Setting::Inverted)),
     }
 }
 

@@ -1,4 +1,6 @@
 //! The settings of a picture, as a caller gives them.
+ghost use Rattle.std.specs.Prelude.{◌≡◌};
+ghost use Rattle.qrcode_render.specs.Settings.{setting_word};
 
 /// The settings of a picture, of which `DrawOptions::new` makes the options of a format. `None` is
 /// the default, and the default of all is `Settings::default()`.
@@ -18,4 +20,40 @@ pub struct Settings<'a> {
     pub title: Option<&'a str>,
     /// The position of the upper left corner on the label in dots, each 0 to 18,000: of ZPL.
     pub at: Option<(usize, usize)>,
+}
+
+/// A field of `Settings`.
+#[derive(Clone, Copy, Debug, PartialEq, Eq)]
+pub enum Setting {
+    /// The field `scale`.
+    Scale,
+    /// The field `quiet`.
+    Quiet,
+    /// The field `module_mm`.
+    ModuleMm,
+    /// The field `dpi`.
+    Dpi,
+    /// The field `inverted`.
+    Inverted,
+    /// The field `title`.
+    Title,
+    /// The field `at`.
+    At,
+}
+
+impl Setting {
+    /// Returns the name of the field, such as `module_mm`.
+    pub fn name(self) -> &'static str
+        ensures { result.now ≡ setting_word self }
+    {
+        match self {
+            Setting::Scale => "scale",
+            Setting::Quiet => "quiet",
+            Setting::ModuleMm => "module_mm",
+            Setting::Dpi => "dpi",
+            Setting::Inverted => "inverted",
+            Setting::Title => "title",
+            Setting::At => "at",
+        }
+    }
 }

@@ -1,22 +1,18 @@
--- A text of which no plan fits.
-use Rattle.std.proofs.Common.{subst}
+-- An error of the library is that of the call.
 use Rattle.std.specs.Prelude.{None}
-use Rattle.qrcode_base.specs.declared.types.errors.QrError.{QrError}
 use Rattle.qrcode_bits.specs.Frame.{front_of}
 use Rattle.qrcode_bits.specs.declared.bits.front.Content.TheVariants.{Text}
-use Rattle.qrcode_core.specs.Options.{IsOptionsRefusal}
+use Rattle.qrcode_c.proofs.Telling.{options_known, text_told}
 use Rattle.qrcode_c.proofs.asking.text_symbol.Goals as goal
 
-pub returns-in-Err-DataTooLong-clause-refused : goal.returns-in-Err-DataTooLong-clause-refused
-returns-in-Err-DataTooLong-clause-refused c =
+pub core_refusal-requires : goal.core_refusal-requires
+core_refusal-requires c =
     let text = c.in-Ok.ensures.cases in
-    let refused = rw text.0 at c.in-Err-DataTooLong.ensures.refused in (
-      text.1,
-      record {
-        options = c.in_ok-checked.checked;
-        means = c.in_ok-checked.ensures.means;
-        versions = c.in_ok-checked.ensures.range;
-        true_of = subst (λ (e : QrError). IsOptionsRefusal c.in_ok-checked.checked (front_of None Text) c.args.text.now e)
-            c.in-Err-DataTooLong.field-0-is refused;
-      },
-    )
+    options_known c.in_ok-checked.checked (front_of None Text) c.args.text.now c.in-Err.error c.in_ok-checked.ensures.range
+    (rw text.0 at c.in-Err.ensures.refused)
+
+pub returns-in-Err-clause-refused : goal.returns-in-Err-clause-refused
+returns-in-Err-clause-refused c =
+    let text = c.in-Ok.ensures.cases in
+    text_told c.args.text.now c.args.options.now c.in_ok-checked.checked _ c.in-Err.error c.core_refusal.result
+    c.in_ok-checked.ensures.means c.in_ok-checked.ensures.range text.1 (rw text.0 at c.in-Err.ensures.refused) c.core_refusal.ensures

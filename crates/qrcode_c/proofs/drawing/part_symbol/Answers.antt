@@ -1,10 +1,10 @@
 -- The symbol at the index, written or too large for the buffer.
 use Rattle.std.proofs.Common.{◌≡◌, ◌∙◌, subst, sym, w32, rules}
 use Rattle.std.{specs.Prelude.ℤ, proofs.lemmas.Int.to_z-of_z}
-use Rattle.qrcode_base.specs.{declared.types.errors.QrError.QrError}
+use Rattle.qrcode_base.specs.Symbols.{IsNormalNumber}
 use Rattle.qrcode_core.specs.{Sequence.IsSequenceRefusal}
 use Rattle.qrcode_c.{specs.Levels.level_argument, specs.Refusals.IsAsked, proofs.Answering.part_held, proofs.Answering.part_of}
-use Rattle.qrcode_c.{proofs.Answering.short_refused, proofs.Answering.same_limit}
+use Rattle.qrcode_c.{proofs.Answering.short_refused, proofs.Answering.same_limit, proofs.Telling.sequence_known, proofs.Telling.part_told}
 use Rattle.qrcode_c.proofs.drawing.part_symbol.Goals as goal
 use Rattle.qrcode_bits.specs.declared.bits.front.Content.TheVariants.{Bytes}
 
@@ -28,14 +28,22 @@ returns-in-Ok-clause-refused c =
     short_refused _ _ c.write.result c.write.ensures.short c.write.ensures.room
     (λ less. (c.in-Some.level, named, record { symbol = c.in-Ok.symbol; is_symbol = part; above = less }))
 
-pub returns-in-Err-DataTooLong-clause-refused : goal.returns-in-Err-DataTooLong-clause-refused
-returns-in-Err-DataTooLong-clause-refused c =
+pub core_refusal-requires : goal.core_refusal-requires
+core_refusal-requires c =
+    let limited = c.in-Some-limit_of.ensures.limit in
+    let same = same_limit c.args.max_version c.in-Some-limit_of.limit limited.0 (to_z-of_z w32 c.args.max_version c.ranges.max_version) limited.1 in
+    let normal : IsNormalNumber c.args.max_version = search rules in
+    let refused = subst (λ (z : ℤ). IsSequenceRefusal Bytes c.args.message.now c.args.cuts.now c.in-Some.level z c.in-Err.error) same
+    c.in-Err.ensures.refused in
+    sequence_known Bytes c.args.message.now c.args.cuts.now c.in-Some.level c.args.max_version c.in-Err.error normal refused
+
+pub returns-in-Err-clause-refused : goal.returns-in-Err-clause-refused
+returns-in-Err-clause-refused c =
     let named : c.args.level ≡ level_argument c.in-Some.level = sym (to_z-of_z w32 c.args.level c.ranges.level) ∙ c.in-Some.ensures.level in
     let limited = c.in-Some-limit_of.ensures.limit in
     let same = same_limit c.args.max_version c.in-Some-limit_of.limit limited.0 (to_z-of_z w32 c.args.max_version c.ranges.max_version) limited.1 in
-    let refused = subst (λ (z : ℤ). IsSequenceRefusal Bytes c.args.message.now c.args.cuts.now c.in-Some.level z c.in-Err-DataTooLong.field-0) same
-    c.in-Err-DataTooLong.ensures.refused in
-    let long = subst (λ (e : QrError). IsSequenceRefusal Bytes c.args.message.now c.args.cuts.now c.in-Some.level c.args.max_version e)
-    c.in-Err-DataTooLong.field-0-is refused in
+    let refused = subst (λ (z : ℤ). IsSequenceRefusal Bytes c.args.message.now c.args.cuts.now c.in-Some.level z c.in-Err.error) same
+    c.in-Err.ensures.refused in
     let asked : IsAsked c.args.message.now c.args.cuts.now c.args.max_version c.args.index = search rules in
-    (c.in-Some.level, named, (asked, long.1, long.2))
+    part_told c.args.message.now c.args.cuts.now c.in-Some.level c.args.level c.args.max_version c.args.index _ c.in-Err.error c.core_refusal.result
+    named asked refused c.core_refusal.ensures

@@ -1,10 +1,10 @@
 -- The options are those that were made.
 use Rattle.uses.proofs.pictures.picture_of.Goals as goal
 
-pub returns : goal.returns
-returns c = record {
-  options = c.in_ok-options.options;
-  valid = c.in_ok-options.ensures.valid;
-  made = c.in_ok-options.ensures.made;
-  shows = c.in_ok-draw.ensures;
+pub returns-in-Ok-draw-clause-shown : goal.returns-in-Ok-draw-clause-shown
+returns-in-Ok-draw-clause-shown c = record {
+  options = c.in-Ok.options;
+  valid = c.in-Ok.ensures.valid;
+  made = c.in-Ok.ensures.made;
+  shows = c.in-Ok-draw.ensures;
 }

@@ -1,14 +1,13 @@
--- Data of a symbol, as `gs1` writes them, are elements, as the encoder takes them.
+-- Data of a symbol are elements, as the encoder takes them.
 use Rattle.std.proofs.Common.{◌≡◌, ◌≢◌, ◌⊎◌, inl, inr, ℕ, zero, suc, ◌+◌, ◌-◌, ◌<◌, true, false, cond}
 use Rattle.std.proofs.Common.{List, [], ◌∷◌, length, get_or, refl, arith}
-use Rattle.std.specs.Prelude.{All, Some, slice_get}
+use Rattle.std.specs.Prelude.{All}
 use Rattle.std.specs.List.{slice_split, onto_first, AllPass}
 use Rattle.std.proofs.lemmas.Grind.{common_steps}
-use Rattle.std.proofs.lemmas.Option.{gets}
 use Rattle.std.proofs.lemmas.List.Elements.{All-head, All-tail}
 use Rattle.gs1.specs.Identifiers.{is_encodable}
 use Rattle.gs1.specs.Reader.{is_group_separator, AreSymbolData}
-use Rattle.qrcode_bits.specs.Contents.{is_element_character, AreElements, IsFirstNoElement}
+use Rattle.qrcode_bits.specs.Contents.{is_element_character, AreElements}
 
 abbrev IsPart : List ℕ → Type 0
 IsPart part = (part ≢ []) × AllPass is_encodable part
@@ -143,11 +142,3 @@ are_elements bytes good place within =
       | inr found ↦ (let behind : 0 < place = not_at_front bytes place good found.0 in
           inr (found.0, behind, found.1, found.2 behind))
     ]
-
--- So none of their bytes is refused.
-pub none_refused : (bytes : List ℕ) (place byte : ℕ) → AreSymbolData bytes → IsFirstNoElement bytes place byte → ⊥
-none_refused bytes place byte good first =
-    first.here (are_elements bytes good place (within bytes place byte first.byte_is))
-  where
-    within : (bytes : List ℕ) (place byte : ℕ) → slice_get bytes place ≡ Some byte → place < length bytes
-    within bytes place byte e = grind (arith, gets)
