@@ -3,7 +3,7 @@ use Rattle.std.specs.Prelude.{◌≡◌, ◌≢◌, ◌⊎◌, ◌+◌, ◌↔�
 use Rattle.std.specs.Prelude.{IsTrue, IsErrOf, is_err, codes}
 use Rattle.std.specs.Io.KnownBytes.{Keeps}
 use Rattle.programs.specs.Devices.{Input, Output, Writes, ReadsEnough, ReadsWithin}
-use Rattle.programs.specs.Outcome.{WritesDrawing, BeginsDrawing, error_line, exit_status, report}
+use Rattle.programs.specs.Outcome.{WritesDrawing, BeginsDrawing, exit_status, report}
 use Rattle.programs.specs.declared.Fault.{Fault as FaultOf}
 use Rattle.programs.specs.declared.Fault.TheVariants.{Symbol, Read, Write}
 use Rattle.qrcode_base.specs.declared.symbols.TheConstants.{LONGEST_DATA}
@@ -11,6 +11,7 @@ use Rattle.qrcode_core.specs.declared.types.errors.QrError.TheVariants.{OutOfMem
 use Rattle.qrcode_render.specs.Made.{IsMadeOf}
 use Rattle.qrcode_render.specs.Settings.{invalid_setting}
 use Rattle.qrcode_render.specs.declared.draw_options.DrawOptions.{DrawOptions}
+use Rattle.qrcode_render.specs.declared.settings.Setting.{Setting}
 use Rattle.qrlabel.specs.Asked.{label_of}
 use Rattle.qrlabel.specs.Commands.{Command, asks_help, asks_version, asks_label}
 use Rattle.qrlabel.specs.Help.{help_text, version_line}
@@ -19,7 +20,7 @@ use Rattle.qrlabel.specs.Lines.{IsLinesOutcome, Place, stream}
 use Rattle.qrlabel.specs.Misuses.{wrong_line}
 use Rattle.qrlabel.specs.Names.{Numbering}
 use Rattle.qrlabel.specs.Placed.{numbering_of}
-use Rattle.qrlabel.specs.Settings.{setting_name}
+use Rattle.qrlabel.specs.Settings.{setting_option}
 use Rattle.qrlabel.specs.Stops.{stop_line, numbered_line}
 use Rattle.qrlabel.specs.Words.{Wrong, invalid}
 use Rattle.qrlabel.specs.declared.command.Label.{Label}
@@ -128,19 +129,13 @@ pub record DrawsAsAsked (label : Label) (input : Input) (output : Output) (files
   pub made : IsMadeOf label.format label.settings options
   pub serves : ServesPortion label.portion label options input output files errors status
 
--- There was no memory for the name of a setting that is wrong.
-pub record LacksMemory (kept : Type 0) (errors : Output) (status : ℕ) : Type 0 where
-  pub status_is : status ≡ 1
-  pub untouched : kept
-  pub reports : Writes errors (error_line (codes "qrlabel") (Symbol OutOfMemory))
-
--- The first setting that is not valid is wrong; if all are valid, the label is drawn.
+-- The first setting that is not valid is wrong, and this needs no memory; if all are valid, the
+-- label is drawn.
 abbrev pub RunsLabel : Label → (kept : Type 0) → Input → Output → (Numbering → Place) → Output → ℕ → Type 0
 RunsLabel label kept input output files errors status =
     DrawsAsAsked label input output files errors status
-    ⊎ (LacksMemory kept errors status
-    ⊎ ((name : List ℕ) × (invalid_setting label.format label.settings ≡ Some name)
-    × Misused (invalid (setting_name name)) kept errors status))
+    ⊎ ((setting : Setting) × (invalid_setting label.format label.settings ≡ Some setting)
+    × Misused (invalid (setting_option setting)) kept errors status)
 
 -- What the program does for what the words ask for.
 abbrev pub Runs : Result Command Wrong → (kept : Type 0) → Input → Output → (Numbering → Place) → Output → ℕ → Type 0

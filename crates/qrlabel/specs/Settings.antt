@@ -1,11 +1,21 @@
--- The options of the command line that settings of a picture are.
-use Rattle.std.specs.Prelude.{ℕ, List, codes, ◌∷◌, [], unwrap_or}
-use Rattle.qrlabel.specs.Words.{among}
+-- The options of the command line that give the settings of a picture.
+use Rattle.qrcode_render.specs.declared.settings.Setting.{Setting}
+use Rattle.qrcode_render.specs.declared.settings.Setting.TheVariants.{Scale as ScaleOf}
+use Rattle.qrcode_render.specs.declared.settings.Setting.TheVariants.{Quiet as QuietOf}
+use Rattle.qrcode_render.specs.declared.settings.Setting.TheVariants.{ModuleMm as ModuleOf}
+use Rattle.qrcode_render.specs.declared.settings.Setting.TheVariants.{Dpi as DpiOf}
+use Rattle.qrcode_render.specs.declared.settings.Setting.TheVariants.{Inverted as InvertedOf}
+use Rattle.qrcode_render.specs.declared.settings.Setting.TheVariants.{Title as TitleOf, At as AtOf}
 use Rattle.qrlabel.specs.declared.words.Name.{Name}
-use Rattle.qrlabel.specs.declared.words.Name.TheVariants.{Scale, Quiet, ModuleMm, Dpi, Inverted, Title, At}
+use Rattle.qrlabel.specs.declared.words.Name.TheVariants.{Scale, Quiet, ModuleMm, Dpi, Inverted}
+use Rattle.qrlabel.specs.declared.words.Name.TheVariants.{Title, At}
 
--- The option of a setting of this name.
-abbrev pub setting_name : List ℕ → Name
-setting_name word =
-    unwrap_or (among ((codes "scale", Scale) ∷ (codes "quiet", Quiet) ∷ (codes "module_mm", ModuleMm)
-    ∷ (codes "dpi", Dpi) ∷ (codes "inverted", Inverted) ∷ (codes "title", Title) ∷ []) word) At
+-- The option that gives a setting.
+abbrev pub setting_option : Setting → Name
+setting_option ScaleOf = Scale
+setting_option QuietOf = Quiet
+setting_option ModuleOf = ModuleMm
+setting_option DpiOf = Dpi
+setting_option InvertedOf = Inverted
+setting_option TitleOf = Title
+setting_option AtOf = At

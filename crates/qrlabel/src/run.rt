@@ -12,7 +12,7 @@ ghost use Rattle.qrlabel.specs.Runs.{IsLabelOutcome, ServesLabel, ServesPortion}
 ghost use Rattle.qrlabel.specs.Runs.{lines_status, lines_reported};
 ghost use Rattle.qrlabel.specs.Runs.{Shows, RunsLabel, Runs};
 ghost use Rattle.qrlabel.specs.Said.{said, wrong_of};
-ghost use Rattle.qrlabel.specs.Settings.{setting_name};
+ghost use Rattle.qrlabel.specs.Settings.{setting_option};
 ghost use Rattle.qrlabel.specs.Words.{invalid};
 
 use crate::command::{Command, Label, Portion, command_of};
@@ -24,10 +24,9 @@ use crate::misuse::write_misuse;
 use crate::report::{report_line, report_stop};
 use crate::stop::{LineStop, Stop};
 use crate::words::{Misuse, Name, Values};
-use programs::{Fault, Sink, Source, read_all, report, write_all};
-use qrcode_core::plugin::PluginError;
-use qrcode_render::DrawOptions;
-use std::alloc::{AllocError, Global};
+use programs::{Sink, Source, read_all, report, write_all};
+use qrcode_render::{DrawOptions, Setting};
+use std::alloc::Global;
 
 /// Reads to the end, writes the label of all bytes that were read, and flushes. Of more than 7089
 /// bytes, which no symbol holds, it reads 7090.
@@ -147,29 +146,29 @@ fn show<W: Sink, E: Sink>(text: &str, writer: &mut W, errors: &mut E) -> u8
     }
 }
 
-/// Returns the option of a setting of this name.
-fn setting_name(name: &str) -> Name
-    ensures { result ≡ setting_name name.now }
+/// Returns the option that gives a setting of the picture.
+fn setting_option(setting: Setting) -> Name
+    ensures { result ≡ setting_option setting }
 {
-    match name {
-        "scale" => Name::Scale,
-        "quiet" => Name::Quiet,
-        "module_mm" => Name::ModuleMm,
-        "dpi" => Name::Dpi,
-        "inverted" => Name::Inverted,
-        "title" => Name::Title,
-        _ => Name::At,
+    match setting {
+        Setting::Scale => Name::Scale,
+        Setting::Quiet => Name::Quiet,
+        Setting::ModuleMm => Name::ModuleMm,
+        Setting::Dpi => Name::Dpi,
+        Setting::Inverted => Name::Inverted,
+        Setting::Title => Name::Title,
+        Setting::At => Name::At,
     }
 }
 
-/// Writes that a setting is not valid, by its name, and returns the status 2.
-fn wrong_setting<E: Sink>(errors: &mut E, name: &str) -> u8
+/// Writes that a setting is not valid, by its option, and returns the status 2.
+fn wrong_setting<E: Sink>(errors: &mut E, setting: Setting) -> u8
     requires sound { IsFalse (E.state errors.old).failed }
     ensures status { result ≡ 2 }
     ensures reported { Writes (output (E.state errors.old) (E.state errors.new))
-        (wrong_line (invalid (setting_name name.now))) }
+        (wrong_line (invalid (setting_option setting))) }
 {
-    misused(errors, Misuse::Invalid(setting_name(name)))
+    misused(errors, Misuse::Invalid(setting_option(setting)))
 }
 
 /// Draws the label, and returns the exit status: that of `serve`, or 2 if a setting of the picture
@@ -195,8 +194,7 @@ fn run_label<R: Source, W: Sink, F: Files, E: Sink>(
 {
     match DrawOptions::new(alloc, label.format, &label.settings) {
         Ok(options) => serve(alloc, label, &options, reader, writer, files, errors),
-        Err(PluginError::InvalidConfig(name)) => { wrong_setting(errors, name.as_str()) }
-        Err(_) => report(errors, "qrlabel", Fault::from(AllocError)),
+        Err(setting) => wrong_setting(errors, setting),
     }
 }
 

@@ -82,7 +82,7 @@ fn draws_bitmaps(rt: HostRuntime) -> Result<(), QrError> {
 /// Each row has words that are wrong, and what is written about them. Nothing is read or drawn.
 #[test]
 fn names_what_is_wrong(rt: HostRuntime) -> Result<(), QrError> {
-    let rows: [(&[&str], &str); 24] = [
+    let rows: [(&[&str], &str); 25] = [
         (&["--foo"], "no option --foo"),
         (&["-x"], "no option -x"),
         (&["-s"], "no value after --scale"),
@@ -119,6 +119,10 @@ fn names_what_is_wrong(rt: HostRuntime) -> Result<(), QrError> {
         ),
         (
             &["--at", "1"],
+            "invalid --at: X,Y, each 0 to 18000, for zpl",
+        ),
+        (
+            &["-f", "zpl", "--at", "18001,0"],
             "invalid --at: X,Y, each 0 to 18000, for zpl",
         ),
         (
