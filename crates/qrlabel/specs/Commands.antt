@@ -1,7 +1,9 @@
 -- What the values of the options ask for: help, the version, or a label.
 use Rattle.std.specs.Prelude.{ℕ, ◌-◌, ◌==◌, nat_le, ℤ, pos, nat_abs, Bool, true, false, ◌&&◌, not, if◌then◌else◌, codes}
-use Rattle.std.specs.Prelude.{List, [], ◌∷◌, length, Option, None, Some, option_and_then, unwrap_or, Result, Ok, Err}
-use Rattle.std.specs.List.{ends_with}
+use Rattle.std.specs.Prelude.{List, [], ◌∷◌, length, drop, map, Option, None, Some, option_and_then, unwrap_or}
+use Rattle.std.specs.Prelude.{Result, Ok, Err}
+use Rattle.std.specs.Char.{to_ascii_lowercase}
+use Rattle.std.specs.Str.{bytes_eq}
 use Rattle.qrcode_core.specs.declared.options.SymbolOptions.{SymbolOptions}
 use Rattle.qrcode_core.specs.declared.types.EcLevel.{EcLevel}
 use Rattle.qrcode_core.specs.declared.types.EcLevel.TheVariants.{L, M, Q, H}
@@ -17,7 +19,7 @@ use Rattle.qrlabel.specs.declared.words.Name.TheVariants.{ModuleMm, Dpi, Inverte
 use Rattle.qrlabel.specs.declared.words.Name.TheVariants.{Output, AllowEmpty, Help, Version, Lines}
 use Rattle.qrlabel.specs.Names.{Numbering, numbering_in}
 use Rattle.qrlabel.specs.Numbers.{number_in, hundredths_in, place_in}
-use Rattle.qrlabel.specs.Words.{among, Values, value_of, is_given, Wrong, invalid}
+use Rattle.qrlabel.specs.Words.{among, Values, value_of, file_of, is_given, Wrong, invalid}
 
 infixl 20 ◌>>=◌
 -- One thing after another, up to the first that is wrong.
@@ -42,9 +44,10 @@ format_named =
     among ((codes "terminal", Terminal) ∷ (codes "svg", Svg) ∷ (codes "png", Png) ∷ (codes "pbm", Pbm)
     ∷ (codes "eps", Eps) ∷ (codes "escpos", EscPos) ∷ (codes "zpl", Zpl) ∷ [])
 
--- Whether a name has this ending.
-abbrev pub has_ending : List ℕ → List ℕ → Bool
-has_ending name ending = ends_with (λ a b. a == b) name ending
+-- Whether a name has this ending, in capital or small letters.
+unfoldable pub has_ending : List ℕ → List ℕ → Bool
+has_ending name ending =
+    bytes_eq (map to_ascii_lowercase (drop (length name - length ending) name)) (map to_ascii_lowercase ending)
 
 -- What a table has for the ending of a name.
 abbrev pub by_ending : {A : Type 0} → List (List ℕ × A) → List ℕ → Option A
@@ -91,7 +94,10 @@ abbrev pub format_asked : Bool → Values → Result FormatOf Wrong
 format_asked on_terminal values =
     elim (value_of values Format) [
       | Some word ↦ found_or (format_named word) Format
-      | None ↦ asked_or format_of_ending (if on_terminal then Terminal else Svg) Output values
+      | None ↦ elim (file_of values Output) [
+        | Some name ↦ found_or (format_of_ending name) Output
+        | None ↦ Ok (if on_terminal then Terminal else Svg)
+      ]
     ]
 
 -- The number of a Normal version.

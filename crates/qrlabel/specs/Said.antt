@@ -1,9 +1,11 @@
 -- What the values of the program's types stand for. It is not in `Words`, since the contracts of
 -- the file that declares the types use `Words`: that would be an import cycle.
-use Rattle.std.specs.Prelude.{map, Result, Ok, Err}
+use Rattle.std.specs.Prelude.{ℕ, List, map, Result, Ok, Err}
+use denote.Ref.{Bor}
 use Rattle.std.specs.Option.{option_copied}
 use Rattle.qrlabel.specs.declared.words.Misuse.{Misuse}
 use Rattle.qrlabel.specs.declared.words.Misuse.TheVariants.{Unknown, NoValue, SecondText, Invalid}
+use Rattle.qrlabel.specs.declared.words.Name.{Name}
 use Rattle.qrlabel.specs.declared.words.Reading.{Reading}
 use Rattle.qrlabel.specs.declared.words.Values.{Values as Kept}
 use Rattle.qrlabel.specs.Words.{Scan, Values, Wrong, unknown, no_value, second_text, invalid}
@@ -13,6 +15,10 @@ wrong_of (Unknown word) = unknown word.now
 wrong_of (NoValue name) = no_value name
 wrong_of (SecondText word) = second_text word.now
 wrong_of (Invalid name) = invalid name
+
+-- An option and its value.
+abbrev pub joined_of : Name × Bor (List ℕ) → Name × List ℕ
+joined_of (name, value) = (name, value.now)
 
 abbrev pub scan_of : Reading → Scan
 scan_of reading = record { pending = reading.pending; values = map option_copied reading.values }

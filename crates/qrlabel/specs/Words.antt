@@ -1,8 +1,9 @@
 -- The words of the command line, and what they say.
-use Rattle.std.specs.Prelude.{ℕ, ◌==◌, nat_lt, Bool, true, false, ◌&&◌, if◌then◌else◌, codes}
-use Rattle.std.specs.Prelude.{List, [], ◌∷◌, length, slice_index, get_or, set, replicate}
-use Rattle.std.specs.Prelude.{Option, None, Some, is_some, Result, Ok, Err}
+use Rattle.std.specs.Prelude.{ℕ, ◌==◌, nat_lt, Bool, true, false, ◌&&◌, not, if◌then◌else◌, codes}
+use Rattle.std.specs.Prelude.{List, [], ◌∷◌, length, take, drop, slice_index, get_or, set, replicate}
+use Rattle.std.specs.Prelude.{Option, None, Some, is_some, option_and_then, Result, Ok, Err}
 use Rattle.std.specs.Str.{bytes_eq}
+use Rattle.qrlabel.specs.Numbers.{halves}
 use Rattle.qrlabel.specs.declared.words.Name.{Name}
 use Rattle.qrlabel.specs.declared.words.Name.TheVariants.{Text, Format, Content, Level, Strongest}
 use Rattle.qrlabel.specs.declared.words.Name.TheVariants.{MinVersion, MaxVersion, Scale, Quiet}
@@ -15,7 +16,7 @@ among [] word = None
 among (entry ∷ entries) word =
     elim (bytes_eq word entry.0) [ true ↦ Some entry.1 | false ↦ among entries word ]
 
--- The words of the options. After `--` comes the text.
+-- The words of the options. After `--` come texts.
 abbrev pub names : List (List ℕ × Name)
 names =
     (codes "-f", Format) ∷ (codes "--format", Format)
@@ -81,6 +82,40 @@ takes_value _ = true
 abbrev pub looks_like_option : List ℕ → Bool
 looks_like_option word = nat_lt 1 (length word) && (slice_index word 0 == 45)
 
+-- Whether it is the text.
+abbrev pub is_text : Name → Bool
+is_text Text = true
+is_text _ = false
+
+-- `--scale=4`: an option and its value, which comes after the first `=`.
+abbrev pub assigned_to : Option Name → List ℕ → Option (Name × List ℕ)
+assigned_to (Some name) value = if takes_value name && not (is_text name) then Some (name, value) else None
+assigned_to None value = None
+
+abbrev pub assigned : List ℕ → Option (Name × List ℕ)
+assigned word = option_and_then (λ parts. assigned_to (named parts.0) parts.1) (halves 61 word)
+
+-- What comes after the start of a word, if it starts so.
+unfoldable pub rest_after : List ℕ → List ℕ → Option (List ℕ)
+rest_after start word =
+    if bytes_eq (take (length start) word) start then Some (drop (length start) word) else None
+
+-- The options of one letter that have a value.
+abbrev pub letters : List (List ℕ × Name)
+letters =
+    (codes "-f", Format) ∷ (codes "-c", Content) ∷ (codes "-l", Level) ∷ (codes "-s", Scale)
+    ∷ (codes "-q", Quiet) ∷ (codes "-r", Read) ∷ (codes "-o", Output) ∷ []
+
+-- The option with which a word starts, and the rest of the word.
+abbrev pub started_by : List (List ℕ × Name) → List ℕ → Option (Name × List ℕ)
+started_by [] word = None
+started_by (entry ∷ entries) word =
+    elim (rest_after entry.0 word) [ Some value ↦ Some (entry.1, value) | None ↦ started_by entries word ]
+
+-- `-s4`: an option of one letter and its value.
+abbrev pub joined_value : List ℕ → Option (Name × List ℕ)
+joined_value = started_by letters
+
 -- What is wrong with words: a word that names no option; an option with no value after it; a
 -- text where there is one; an option that has a value that it can't have, or does not go with
 -- the others.
@@ -94,7 +129,8 @@ pub data Wrong : Type 0 where
 abbrev pub Values : Type 0
 Values = List (Option (List ℕ))
 
--- The values so far, and the option whose value is the next word.
+-- The values so far, and the option whose value is the next word. If this is the text, all words
+-- that follow are texts.
 pub record Scan : Type 0 where
   pub pending : Option Name
   pub values : Values
@@ -111,16 +147,34 @@ with values name word = ready (set values (option_number name) (Some word))
 abbrev pub value_of : Values → Name → Option (List ℕ)
 value_of values name = get_or values (option_number name) None
 
+-- The name of the file that an option gives: `-` is standard input or output, and no file.
+abbrev pub file_of : Values → Name → Option (List ℕ)
+file_of values name =
+    option_and_then (λ word. if bytes_eq word (codes "-") then None else Some word) (value_of values name)
+
 -- Whether an option is given.
 abbrev pub is_given : Values → Name → Bool
 is_given values name = is_some (value_of values name)
 
--- A word that names no option is the text, if it is not written like one, and there is no text yet.
+-- A word is the text, if there is no text yet.
+abbrev pub read_text : Option Name → Values → List ℕ → Result Scan Wrong
+read_text pending values word =
+    if is_some (value_of values Text) then Err (second_text word)
+    else Ok (record { pending = pending; values = set values (option_number Text) (Some word) })
+
+-- A word that is written like an option has an option and its value in it.
+abbrev pub read_joined : Values → Option (Name × List ℕ) → List ℕ → Result Scan Wrong
+read_joined values (Some (name, value)) word = Ok (with values name value)
+read_joined values None word = Err (unknown word)
+
+-- The option and the value that a word has in it.
+abbrev pub joined : List ℕ → Option (Name × List ℕ)
+joined word = elim (assigned word) [ Some found ↦ Some found | None ↦ joined_value word ]
+
+-- A word that names no option has one in it, if it is written like one, and else is the text.
 abbrev pub read_plain : Values → List ℕ → Result Scan Wrong
 read_plain values word =
-    if looks_like_option word then Err (unknown word)
-    else (if is_some (value_of values Text) then Err (second_text word)
-    else Ok (with values Text word))
+    if looks_like_option word then read_joined values (joined word) word else read_text None values word
 
 -- A word that may name an option.
 abbrev pub read_name : Values → Option Name → List ℕ → Result Scan Wrong
@@ -128,11 +182,16 @@ read_name values (Some name) word =
     if takes_value name then Ok (record { pending = Some name; values = values }) else Ok (with values name [])
 read_name values None word = read_plain values word
 
--- A word is the value that is awaited, or an option, or the text.
+-- A word that is awaited: a value, or a text after `--`.
+abbrev pub read_awaited : Values → Name → List ℕ → Result Scan Wrong
+read_awaited values name word =
+    if is_text name then read_text (Some name) values word else Ok (with values name word)
+
+-- A word is one that is awaited, or an option, or the text.
 unfoldable pub read_word : Scan → List ℕ → Result Scan Wrong
 read_word reading word =
     elim reading.pending [
-      | Some name ↦ Ok (with reading.values name word)
+      | Some name ↦ read_awaited reading.values name word
       | None ↦ read_name reading.values (named word) word
     ]
 
@@ -142,9 +201,12 @@ read_words reading [] = Ok reading
 read_words reading (word ∷ words) =
     elim (read_word reading word) [ Ok next ↦ read_words next words | Err wrong ↦ Err wrong ]
 
--- At the end no value is awaited.
+-- At the end no value is awaited, but perhaps a text.
+abbrev pub ended : Values → Name → Result Values Wrong
+ended values name = if is_text name then Ok values else Err (no_value name)
+
 abbrev pub words_ended : Result Scan Wrong → Result Values Wrong
-words_ended (Ok reading) = elim reading.pending [ Some name ↦ Err (no_value name) | None ↦ Ok reading.values ]
+words_ended (Ok reading) = elim reading.pending [ Some name ↦ ended reading.values name | None ↦ Ok reading.values ]
 words_ended (Err wrong) = Err wrong
 
 -- What words say.

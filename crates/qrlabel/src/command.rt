@@ -112,11 +112,12 @@ fn format_named(word: &str) -> Option<Format>
     }
 }
 
-/// Whether a name has this ending.
+/// Whether a name has this ending, in capital or small letters.
 fn has_ending(name: &str, ending: &str) -> bool
     ensures { result ≡ has_ending name.now ending.now }
 {
-    name.as_bytes().ends_with(ending.as_bytes())
+    let (name, ending) = (name.as_bytes(), ending.as_bytes());
+    name[name.len().saturating_sub(ending.len())..].eq_ignore_ascii_case(ending)
 }
 
 /// Returns the format of a file's name, by its ending.
@@ -187,7 +188,7 @@ fn content_of<'a>(values: &Values<'a>) -> Result<Content, Misuse<'a>>
 fn format_of<'a>(values: &Values<'a>, on_terminal: bool) -> Result<Format, Misuse<'a>>
     ensures { outcome result ≡ format_asked on_terminal (said values.now) }
 {
-    match (values.get(Name::Format), values.get(Name::Output)) {
+    match (values.get(Name::Format), values.file(Name::Output)) {
         (Some(word), _) => found(format_named(word), Name::Format),
         (None, Some(name)) => found(format_of_ending(name), Name::Output),
         (None, None) if on_terminal => Ok(Format::Terminal),

@@ -22,7 +22,7 @@ pub fn run_on_devices<E: Sink>(rt: &HostRuntime, values: &Values, errors: &mut E
     let mut stdout = rt.stdout();
     let on_terminal = stdout.is_terminal();
     let mut writer = counting(rt, FromWriter::new(stdout), on_terminal);
-    match (command_of(values, on_terminal), values.get(Name::Output)) {
+    match (command_of(values, on_terminal), values.file(Name::Output)) {
         (Err(misuse), _) => misused(errors, misuse),
         (Ok(Command::Label(label)), Some(path)) if !matches!(label.portion, Portion::Files(_)) => {
             into_file(rt, values, path, errors)
@@ -57,7 +57,7 @@ fn from_input<W: Sink, E: Sink>(
         let mut reader = FromReader::new(&mut bytes);
         return run_from(rt, values, on_terminal, &mut reader, writer, errors);
     }
-    let Some(path) = values.get(Name::Read) else {
+    let Some(path) = values.file(Name::Read) else {
         return from_device(rt, values, on_terminal, rt.stdin(), writer, errors);
     };
     match File::open(rt, path) {

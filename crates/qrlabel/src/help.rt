@@ -7,14 +7,17 @@ const HELP: &str = "\
 usage: qrlabel [OPTIONS] [TEXT]
 
 Draws the QR code of TEXT, of a file, or of standard input.
+The value of an option is the next word, or in its own word: -s 4, -s4, --scale=4.
 
 Input and output:
-  -r, --read FILE       read FILE; default: standard input, if there is no TEXT
-  -o, --output FILE     write FILE, once it is whole; default: standard output
+  -r, --read FILE       read FILE, or standard input if it is -; default: standard
+                        input, if there is no TEXT
+  -o, --output FILE     write FILE, once it is whole, or standard output if it is -;
+                        default: standard output
       --lines           a label of each line, for terminal, pbm, escpos and zpl,
                         or each in a file that is named as in label-%05d.png
       --allow-empty     draw an input or a line without any bytes, too
-      -- TEXT           take the next word as TEXT, even if it begins with '-'
+      --                words after it are no options: TEXT may begin with '-'
 
 Content:
   -c, --content KIND    auto, text, bytes, gs1 or micro; default: auto, which is

@@ -51,7 +51,7 @@ pub fn ran(alloc: Global, words: &[&str], input: &[u8]) -> Served {
 /// bitmap of that many columns and rows.
 #[test]
 fn draws_bitmaps(rt: HostRuntime) -> Result<(), QrError> {
-    let rows: [(&[&str], usize); 8] = [
+    let rows: [(&[&str], usize); 11] = [
         (&["-f", "pbm", "-l", "L"], 11 + 29 * 232),
         (
             &["--format", "pbm", "--level", "L", "--scale", "1"],
@@ -69,6 +69,9 @@ fn draws_bitmaps(rt: HostRuntime) -> Result<(), QrError> {
         (&["-o", "a.pbm", "-s", "1"], 9 + 4 * 29),
         (&["-f", "pbm", "-s", "1", "--min-version", "5"], 9 + 6 * 45),
         (&["-f", "pbm", "-s", "1", "--max-version", "1"], 9 + 4 * 29),
+        (&["--format=pbm", "-s1", "--quiet=3"], 9 + 4 * 27),
+        (&["-fpbm", "-s=1", "-q0", "-"], 9 + 3 * 21),
+        (&["-o", "A.B.Pbm", "-s1", "--", "-f"], 9 + 4 * 29),
     ];
     for (words, length) in rows {
         let answer = ran(rt.alloc(), words, b"hello");
@@ -82,11 +85,17 @@ fn draws_bitmaps(rt: HostRuntime) -> Result<(), QrError> {
 /// Each row has words that are wrong, and what is written about them. Nothing is read or drawn.
 #[test]
 fn names_what_is_wrong(rt: HostRuntime) -> Result<(), QrError> {
-    let rows: [(&[&str], &str); 25] = [
+    let rows: [(&[&str], &str); 31] = [
         (&["--foo"], "no option --foo"),
         (&["-x"], "no option -x"),
         (&["-s"], "no value after --scale"),
         (&["a", "b"], "more than one text: b"),
+        (&["--", "-a", "-b"], "more than one text: -b"),
+        (&["a", "--", "--help"], "more than one text: --help"),
+        (&["-x4"], "no option -x4"),
+        (&["--lines=1"], "no option --lines=1"),
+        (&["--=a"], "no option --=a"),
+        (&["--scale="], "invalid --scale: 1 to 64"),
         (&["-s", "0"], "invalid --scale: 1 to 64"),
         (&["-s", "65"], "invalid --scale: 1 to 64"),
         (&["-s", "x"], "invalid --scale: 1 to 64"),
@@ -167,7 +176,7 @@ fn names_what_is_wrong(rt: HostRuntime) -> Result<(), QrError> {
 /// comment of EPS, `GS v 0` of ESC/POS and `^XA` of ZPL.
 #[test]
 fn takes_formats(rt: HostRuntime) -> Result<(), QrError> {
-    let rows: [(&str, &str, &[u8]); 7] = [
+    let rows: [(&str, &str, &[u8]); 9] = [
         ("svg", "a.svg", b"<svg "),
         ("png", "a.b.png", b"\x89PNG\r\n\x1A\n"),
         ("pbm", ".pbm", b"P4\n"),
@@ -175,6 +184,8 @@ fn takes_formats(rt: HostRuntime) -> Result<(), QrError> {
         ("escpos", "a.escpos", b"\x1Dv0\0"),
         ("zpl", "a.zpl", b"^XA\n"),
         ("terminal", "a.txt", b"      "),
+        ("png", "a.pbm.PNG", b"\x89PNG\r\n\x1A\n"),
+        ("svg", "-", b"<svg "),
     ];
     for (format, name, beginning) in rows {
         let named = ran(rt.alloc(), &["-f", format], b"hello");

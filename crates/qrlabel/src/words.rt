@@ -1,9 +1,11 @@
 //! The words of the command line: options with their values, and the text.
-ghost use Rattle.std.specs.Prelude.{◌≡◌, ◌<◌, map};
+ghost use Rattle.std.specs.Prelude.{◌≡◌, ◌<◌, map, option_map};
 ghost use Rattle.std.specs.Option.{option_copied};
-ghost use Rattle.qrlabel.specs.Words.{named, takes_value, looks_like_option, option_number, value_of};
-ghost use Rattle.qrlabel.specs.Words.{with, is_given, read_plain, read_word, values_in};
-ghost use Rattle.qrlabel.specs.Said.{said, scan_of, scan_outcome, values_outcome};
+ghost use Rattle.qrlabel.specs.Words.{named, takes_value, is_text, looks_like_option};
+ghost use Rattle.qrlabel.specs.Words.{option_number, value_of, file_of};
+ghost use Rattle.qrlabel.specs.Words.{with, is_given, assigned, rest_after, joined_value, joined};
+ghost use Rattle.qrlabel.specs.Words.{read_text, read_plain, read_name, read_word, values_in};
+ghost use Rattle.qrlabel.specs.Said.{said, scan_of, scan_outcome, values_outcome, joined_of};
 
 /// An option, or the text.
 #[derive(Clone, Copy, Debug, PartialEq, Eq)]
@@ -30,7 +32,7 @@ pub enum Name {
     Lines,
 }
 
-/// Returns the option that a word names. After `--` comes the text.
+/// Returns the option that a word names. After `--` come texts.
 #[tactic(auto, unfolding(crate::specs::Words::named))]
 fn named(word: &str) -> Option<Name>
     ensures { result ≡ named word.now }
@@ -71,6 +73,16 @@ fn takes_value(name: Name) -> bool
     }
 }
 
+/// Whether it is the text.
+fn is_text(name: Name) -> bool
+    ensures { result ≡ is_text name }
+{
+    match name {
+        Name::Text => true,
+        _ => false,
+    }
+}
+
 /// The number of options.
 pub const COUNT: usize = 20;
 
@@ -101,6 +113,17 @@ impl<'a> Values<'a> {
         value(&self.values, name)
     }
 
+    /// Returns the name of the file that an option gives, or `None` if it is not given, or is `-`,
+    /// which stands for standard input or output.
+    pub fn file(&self, name: Name) -> Option<&'a str>
+        ensures { option_copied result ≡ file_of (said self.now) name }
+    {
+        match self.get(name) {
+            Some("-") => None,
+            file => file,
+        }
+    }
+
     /// Whether a flag is given.
     pub fn has(&self, name: Name) -> bool
         ensures { result ≡ is_given (said self.now) name }
@@ -109,7 +132,8 @@ impl<'a> Values<'a> {
     }
 }
 
-/// The values so far, and the option whose value is the next word.
+/// The values so far, and the option whose value is the next word. If this is the text, all words
+/// that follow are texts.
 #[derive(Clone, Copy)]
 pub struct Reading<'a> {
     pending: Option<Name>,
@@ -150,9 +174,18 @@ fn read_word<'a>(reading: Reading<'a>, word: &'a str) -> Result<Reading<'a>, Mis
     ensures { scan_outcome result ≡ read_word (scan_of reading.entry) word.entry.now }
 {
     let Reading { pending, values } = reading;
-    if let Some(name) = pending {
-        return Ok(with(values, name, word));
+    match pending {
+        Some(name) if is_text(name) => read_text(Some(name), values, word),
+        Some(name) => Ok(with(values, name, word)),
+        None => read_name(values, word),
     }
+}
+
+/// Reads a word that may name an option.
+fn read_name<'a>(values: [Option<&'a str>; COUNT], word: &'a str) -> Result<Reading<'a>, Misuse<'a>>
+    ensures { scan_outcome result
+        ≡ read_name (map option_copied values.entry) (named word.entry.now) word.entry.now }
+{
     match named(word) {
         Some(name) if takes_value(name) => Ok(Reading {
             pending: Some(name),
@@ -170,13 +203,81 @@ fn read_plain<'a>(
 ) -> Result<Reading<'a>, Misuse<'a>>
     ensures { scan_outcome result ≡ read_plain (map option_copied values.entry) word.entry.now }
 {
-    if looks_like_option(word) {
-        return Err(Misuse::Unknown(word));
+    if !looks_like_option(word) {
+        return read_text(None, values, word);
     }
+    match joined(word) {
+        Some((name, value)) => Ok(with(values, name, value)),
+        None => Err(Misuse::Unknown(word)),
+    }
+}
+
+/// Reads a text, after which `pending` is awaited.
+fn read_text<'a>(
+    pending: Option<Name>,
+    values: [Option<&'a str>; COUNT],
+    word: &'a str,
+) -> Result<Reading<'a>, Misuse<'a>>
+    ensures { scan_outcome result
+        ≡ read_text pending (map option_copied values.entry) word.entry.now }
+{
     if value(&values, Name::Text).is_some() {
         return Err(Misuse::SecondText(word));
     }
-    Ok(with(values, Name::Text, word))
+    let Reading { values, .. } = with(values, Name::Text, word);
+    Ok(Reading { pending, values })
+}
+
+/// Returns the option and the value that a word has in it.
+fn joined<'a>(word: &'a str) -> Option<(Name, &'a str)>
+    ensures { option_map joined_of result ≡ joined word.now }
+{
+    match assigned(word) {
+        Some(found) => Some(found),
+        None => joined_value(word),
+    }
+}
+
+/// Returns the option and the value of a word like `--scale=4`: the value comes after the
+/// first `=`.
+fn assigned<'a>(word: &'a str) -> Option<(Name, &'a str)>
+    ensures { option_map joined_of result ≡ assigned word.now }
+{
+    let (before, value) = word.split_once('=')?;
+    match named(before) {
+        Some(name) if takes_value(name) && !is_text(name) => Some((name, value)),
+        _ => None,
+    }
+}
+
+/// Returns what comes after the start of a word, if it starts so.
+fn rest_after<'a>(start: &str, word: &'a str) -> Option<&'a str>
+    ensures { option_copied result ≡ rest_after start.now word.now }
+{
+    word.strip_prefix(start)
+}
+
+/// Returns the option and the value of a word like `-s4`.
+fn joined_value<'a>(word: &'a str) -> Option<(Name, &'a str)>
+    ensures { option_map joined_of result ≡ joined_value word.now }
+{
+    if let Some(value) = rest_after("-f", word) {
+        Some((Name::Format, value))
+    } else if let Some(value) = rest_after("-c", word) {
+        Some((Name::Content, value))
+    } else if let Some(value) = rest_after("-l", word) {
+        Some((Name::Level, value))
+    } else if let Some(value) = rest_after("-s", word) {
+        Some((Name::Scale, value))
+    } else if let Some(value) = rest_after("-q", word) {
+        Some((Name::Quiet, value))
+    } else if let Some(value) = rest_after("-r", word) {
+        Some((Name::Read, value))
+    } else if let Some(value) = rest_after("-o", word) {
+        Some((Name::Output, value))
+    } else {
+        None
+    }
 }
 
 /// Whether a word is written like an option: `-` and more.
@@ -187,7 +288,8 @@ fn looks_like_option(word: &str) -> bool
 }
 
 /// Returns what the words say. A word after an option that takes a value is this value; a word that
-/// is written like an option must be one; another word is the text.
+/// is written like an option must be one, with or without its value; another word is the text, and
+/// so is one after `--`.
 #[tactic(auto, using(crate::proofs::WordLemmas::scanned), unfolding(crate::specs::Words::values_in))]
 pub fn read_words<'a>(words: &[&'a str]) -> Result<Values<'a>, Misuse<'a>>
     ensures { values_outcome result ≡ values_in (map (λ word. word.now) words.now) }
@@ -200,8 +302,8 @@ pub fn read_words<'a>(words: &[&'a str]) -> Result<Values<'a>, Misuse<'a>>
         reading = read_word(reading, *word)?;
     }
     match reading.pending {
-        Some(name) => Err(Misuse::NoValue(name)),
-        None => Ok(Values {
+        Some(name) if !is_text(name) => Err(Misuse::NoValue(name)),
+        _ => Ok(Values {
             values: reading.values,
         }),
     }
