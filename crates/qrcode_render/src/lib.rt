@@ -2,8 +2,8 @@
 //! ZPL for ticket and label printers.
 //!
 //! 1. Fill in what the picture is to be like (`settings`).
-//! 2. Make the options of a format from it, which are tested once (`draw_options`). The error is the
-//!    `Setting` that is wrong.
+//! 2. Make the options of a format from it, which are tested once (`draw_options`). The error is
+//!    the `Setting` that is wrong.
 //! 3. Draw the symbol.
 //!
 //! ```text

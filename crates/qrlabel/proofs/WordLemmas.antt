@@ -1,5 +1,6 @@
 -- Values by their numbers.
-use Rattle.std.proofs.Common.{◌≡◌, ◌↔◌, ℕ, Bool, true, ◌<◌, List, length, map, slice_set, slice_index_or, arith, Bor, refl, ap, zero, suc, [], ◌∷◌, take, drop, ◌+◌, ◌-◌, sym, subst, ◌∙◌, bytes_eq}
+use Rattle.std.proofs.Common.{◌≡◌, ◌↔◌, ℕ, Bool, true, ◌<◌, List, length, map, slice_set, slice_index_or, arith, Bor, refl, ap, zero, suc}
+use Rattle.std.proofs.Common.{[], ◌∷◌, take, drop, ◌+◌, ◌-◌, sym, subst, ◌∙◌, bytes_eq}
 use Rattle.std.specs.Prelude.{Option, Some, None, MatchOption, set, get_or}
 use Rattle.std.specs.Option.{option_copied}
 use Rattle.std.specs.Prelude.{Result, Ok, Err}

@@ -17,8 +17,8 @@ wrong_of (SecondText word) = second_text word.now
 wrong_of (Invalid name) = invalid name
 
 -- An option and its value.
-abbrev pub joined_of : Name × Bor (List ℕ) → Name × List ℕ
-joined_of (name, value) = (name, value.now)
+abbrev pub parted_of : Name × Bor (List ℕ) → Name × List ℕ
+parted_of (name, value) = (name, value.now)
 
 abbrev pub scan_of : Reading → Scan
 scan_of reading = record { pending = reading.pending; values = map option_copied reading.values }

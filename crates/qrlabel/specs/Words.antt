@@ -157,24 +157,24 @@ abbrev pub is_given : Values → Name → Bool
 is_given values name = is_some (value_of values name)
 
 -- A word is the text, if there is no text yet.
-abbrev pub read_text : Option Name → Values → List ℕ → Result Scan Wrong
-read_text pending values word =
+abbrev pub read_as_text : Option Name → Values → List ℕ → Result Scan Wrong
+read_as_text pending values word =
     if is_some (value_of values Text) then Err (second_text word)
     else Ok (record { pending = pending; values = set values (option_number Text) (Some word) })
 
 -- A word that is written like an option has an option and its value in it.
-abbrev pub read_joined : Values → Option (Name × List ℕ) → List ℕ → Result Scan Wrong
-read_joined values (Some (name, value)) word = Ok (with values name value)
-read_joined values None word = Err (unknown word)
+abbrev pub read_parted : Values → Option (Name × List ℕ) → List ℕ → Result Scan Wrong
+read_parted values (Some (name, value)) word = Ok (with values name value)
+read_parted values None word = Err (unknown word)
 
 -- The option and the value that a word has in it.
-abbrev pub joined : List ℕ → Option (Name × List ℕ)
-joined word = elim (assigned word) [ Some found ↦ Some found | None ↦ joined_value word ]
+abbrev pub parted : List ℕ → Option (Name × List ℕ)
+parted word = elim (assigned word) [ Some found ↦ Some found | None ↦ joined_value word ]
 
 -- A word that names no option has one in it, if it is written like one, and else is the text.
 abbrev pub read_plain : Values → List ℕ → Result Scan Wrong
 read_plain values word =
-    if looks_like_option word then read_joined values (joined word) word else read_text None values word
+    if looks_like_option word then read_parted values (parted word) word else read_as_text None values word
 
 -- A word that may name an option.
 abbrev pub read_name : Values → Option Name → List ℕ → Result Scan Wrong
@@ -185,7 +185,7 @@ read_name values None word = read_plain values word
 -- A word that is awaited: a value, or a text after `--`.
 abbrev pub read_awaited : Values → Name → List ℕ → Result Scan Wrong
 read_awaited values name word =
-    if is_text name then read_text (Some name) values word else Ok (with values name word)
+    if is_text name then read_as_text (Some name) values word else Ok (with values name word)
 
 -- A word is one that is awaited, or an option, or the text.
 unfoldable pub read_word : Scan → List ℕ → Result Scan Wrong
@@ -202,11 +202,12 @@ read_words reading (word ∷ words) =
     elim (read_word reading word) [ Ok next ↦ read_words next words | Err wrong ↦ Err wrong ]
 
 -- At the end no value is awaited, but perhaps a text.
-abbrev pub ended : Values → Name → Result Values Wrong
-ended values name = if is_text name then Ok values else Err (no_value name)
+abbrev pub last_awaited : Values → Name → Result Values Wrong
+last_awaited values name = if is_text name then Ok values else Err (no_value name)
 
 abbrev pub words_ended : Result Scan Wrong → Result Values Wrong
-words_ended (Ok reading) = elim reading.pending [ Some name ↦ ended reading.values name | None ↦ Ok reading.values ]
+words_ended (Ok reading) =
+    elim reading.pending [ Some name ↦ last_awaited reading.values name | None ↦ Ok reading.values ]
 words_ended (Err wrong) = Err wrong
 
 -- What words say.

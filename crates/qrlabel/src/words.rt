@@ -3,9 +3,9 @@ ghost use Rattle.std.specs.Prelude.{◌≡◌, ◌<◌, map, option_map};
 ghost use Rattle.std.specs.Option.{option_copied};
 ghost use Rattle.qrlabel.specs.Words.{named, takes_value, is_text, looks_like_option};
 ghost use Rattle.qrlabel.specs.Words.{option_number, value_of, file_of};
-ghost use Rattle.qrlabel.specs.Words.{with, is_given, assigned, rest_after, joined_value, joined};
-ghost use Rattle.qrlabel.specs.Words.{read_text, read_plain, read_name, read_word, values_in};
-ghost use Rattle.qrlabel.specs.Said.{said, scan_of, scan_outcome, values_outcome, joined_of};
+ghost use Rattle.qrlabel.specs.Words.{with, is_given, assigned, rest_after, joined_value, parted};
+ghost use Rattle.qrlabel.specs.Words.{read_as_text, read_plain, read_name, read_word, values_in};
+ghost use Rattle.qrlabel.specs.Said.{said, scan_of, scan_outcome, values_outcome, parted_of};
 
 /// An option, or the text.
 #[derive(Clone, Copy, Debug, PartialEq, Eq)]
@@ -175,7 +175,7 @@ fn read_word<'a>(reading: Reading<'a>, word: &'a str) -> Result<Reading<'a>, Mis
 {
     let Reading { pending, values } = reading;
     match pending {
-        Some(name) if is_text(name) => read_text(Some(name), values, word),
+        Some(name) if is_text(name) => read_as_text(Some(name), values, word),
         Some(name) => Ok(with(values, name, word)),
         None => read_name(values, word),
     }
@@ -204,22 +204,22 @@ fn read_plain<'a>(
     ensures { scan_outcome result ≡ read_plain (map option_copied values.entry) word.entry.now }
 {
     if !looks_like_option(word) {
-        return read_text(None, values, word);
+        return read_as_text(None, values, word);
     }
-    match joined(word) {
+    match parted(word) {
         Some((name, value)) => Ok(with(values, name, value)),
         None => Err(Misuse::Unknown(word)),
     }
 }
 
 /// Reads a text, after which `pending` is awaited.
-fn read_text<'a>(
+fn read_as_text<'a>(
     pending: Option<Name>,
     values: [Option<&'a str>; COUNT],
     word: &'a str,
 ) -> Result<Reading<'a>, Misuse<'a>>
     ensures { scan_outcome result
-        ≡ read_text pending (map option_copied values.entry) word.entry.now }
+        ≡ read_as_text pending (map option_copied values.entry) word.entry.now }
 {
     if value(&values, Name::Text).is_some() {
         return Err(Misuse::SecondText(word));
@@ -229,8 +229,8 @@ fn read_text<'a>(
 }
 
 /// Returns the option and the value that a word has in it.
-fn joined<'a>(word: &'a str) -> Option<(Name, &'a str)>
-    ensures { option_map joined_of result ≡ joined word.now }
+fn parted<'a>(word: &'a str) -> Option<(Name, &'a str)>
+    ensures { option_map parted_of result ≡ parted word.now }
 {
     match assigned(word) {
         Some(found) => Some(found),
@@ -241,7 +241,7 @@ fn joined<'a>(word: &'a str) -> Option<(Name, &'a str)>
 /// Returns the option and the value of a word like `--scale=4`: the value comes after the
 /// first `=`.
 fn assigned<'a>(word: &'a str) -> Option<(Name, &'a str)>
-    ensures { option_map joined_of result ≡ assigned word.now }
+    ensures { option_map parted_of result ≡ assigned word.now }
 {
     let (before, value) = word.split_once('=')?;
     match named(before) {
@@ -259,7 +259,7 @@ fn rest_after<'a>(start: &str, word: &'a str) -> Option<&'a str>
 
 /// Returns the option and the value of a word like `-s4`.
 fn joined_value<'a>(word: &'a str) -> Option<(Name, &'a str)>
-    ensures { option_map joined_of result ≡ joined_value word.now }
+    ensures { option_map parted_of result ≡ joined_value word.now }
 {
     if let Some(value) = rest_after("-f", word) {
         Some((Name::Format, value))
