@@ -11,7 +11,7 @@ them.
 """
 
 from ._errors import (
-    DataTooLongError, EmptyValueError, InvalidCharacterError, InvalidCutsError,
+    DataTooLongError, EmptyValueError, InvalidCharacterError, InvalidCutsError, InvalidFormatError,
     InvalidIdentifierError, InvalidLevelError, InvalidPartCountError, InvalidSettingError,
     InvalidTextError, InvalidVersionsError, NoElementsError, OutOfMemoryError, SicklespanError,
     UnknownIdentifierError, ValueTooLongError, WrongCheckDigitError, WrongLengthError)
@@ -21,8 +21,8 @@ from ._symbol import Symbol
 
 __all__ = [
     "DataTooLongError", "EmptyValueError", "InvalidCharacterError", "InvalidCutsError",
-    "InvalidIdentifierError", "InvalidLevelError", "InvalidPartCountError", "InvalidSettingError",
-    "InvalidTextError", "InvalidVersionsError", "NoElementsError", "OutOfMemoryError",
-    "SicklespanError", "Symbol", "UnknownIdentifierError", "ValueTooLongError",
+    "InvalidFormatError", "InvalidIdentifierError", "InvalidLevelError", "InvalidPartCountError",
+    "InvalidSettingError", "InvalidTextError", "InvalidVersionsError", "NoElementsError",
+    "OutOfMemoryError", "SicklespanError", "Symbol", "UnknownIdentifierError", "ValueTooLongError",
     "WrongCheckDigitError", "WrongLengthError", "__version__", "elements", "gs1", "make", "micro",
     "sequence"]

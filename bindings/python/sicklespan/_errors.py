@@ -1,4 +1,7 @@
-"""Why there is no symbol, or no picture: an exception for each status of the library."""
+"""Why there is no symbol, or no picture: an exception for each thing that can be wrong.
+
+An argument of a type that a call does not take is a TypeError that names the parameter.
+"""
 
 from typing import Dict, Type
 
@@ -34,7 +37,7 @@ class InvalidCutsError(SicklespanError):
 
 
 class InvalidTextError(SicklespanError):
-    """The text is not UTF-8."""
+    """The text has a lone surrogate, which UTF-8 does not have."""
 
 
 class InvalidCharacterError(SicklespanError):
@@ -50,7 +53,7 @@ class InvalidIdentifierError(SicklespanError):
 
 
 class UnknownIdentifierError(SicklespanError):
-    """An identifier is none that GS1 assigns."""
+    """No identifier begins so, or those that do have another number of digits."""
 
 
 class EmptyValueError(SicklespanError):
@@ -62,11 +65,15 @@ class ValueTooLongError(SicklespanError):
 
 
 class WrongLengthError(SicklespanError):
-    """An element has another length than GS1 defines for its identifier."""
+    """A value has another length than the predefined one of its identifier."""
 
 
 class WrongCheckDigitError(SicklespanError):
     """A value does not end with its check digit."""
+
+
+class InvalidFormatError(SicklespanError):
+    """There is no such format of pictures, or a stream is given and no format."""
 
 
 class InvalidSettingError(SicklespanError):
@@ -91,6 +98,7 @@ ERRORS: Dict[int, Type[SicklespanError]] = {
     17: ValueTooLongError,
     18: WrongLengthError,
     19: WrongCheckDigitError,
+    21: InvalidFormatError,
     22: InvalidSettingError,
 }
 

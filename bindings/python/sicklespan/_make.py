@@ -1,27 +1,67 @@
 """The functions that make symbols."""
 
 import ctypes
+import operator
 from typing import Callable, List, Optional, Sequence, Union
 
-from ._errors import InvalidLevelError, InvalidVersionsError, check
+from ._errors import (
+    InvalidCutsError, InvalidLevelError, InvalidTextError, InvalidVersionsError, check)
 from ._library import Options, Shape, library
 from ._symbol import LEVELS, Symbol
 
 _SIZE = 177 * 177
 
+# What a symbol is made of.
+Content = Union[str, bytes, bytearray, memoryview]
+
+
+def _type_error(name: str, wanted: str, it: object) -> TypeError:
+    return TypeError(f"{name} is {wanted}, and not {type(it).__name__}")
+
+
+def _text(name: str, content: str) -> bytes:
+    """A text in UTF-8."""
+    if not isinstance(content, str):
+        raise _type_error(name, "a str", content)
+    try:
+        return content.encode()
+    except UnicodeEncodeError as error:
+        raise InvalidTextError(f"{name} has a lone surrogate at {error.start}") from error
+
+
+def _bytes(name: str, content: Union[bytes, bytearray, memoryview]) -> bytes:
+    if not isinstance(content, (bytes, bytearray, memoryview)):
+        raise _type_error(name, "bytes", content)
+    return bytes(content)
+
+
+def _data(content: Content) -> bytes:
+    """The bytes of a text or of bytes."""
+    if isinstance(content, str):
+        return _text("content", content)
+    if not isinstance(content, (bytes, bytearray, memoryview)):
+        raise _type_error("content", "a str or bytes", content)
+    return bytes(content)
+
 
 def _number(level: str) -> int:
+    if not isinstance(level, str):
+        raise _type_error("error", "one of L, M, Q and H", level)
     number = LEVELS.find(level.upper()) if len(level) == 1 else -1
     if number < 0:
         raise InvalidLevelError(f"the level is one of L, M, Q and H, and not {level!r}")
     return number
 
 
-def _version(number: int) -> int:
+def _version(name: str, number: int) -> int:
     """The number, which ctypes would else cut to 32 bits."""
-    if not 1 <= number <= 40:
-        raise InvalidVersionsError(f"a version is 1 to 40, and not {number}")
-    return number
+    try:
+        whole = operator.index(number)
+    except TypeError:
+        raise _type_error(name, "a number from 1 to 40", number) from None
+    if not 1 <= whole <= 40:
+        raise InvalidVersionsError(f"{name} is 1 to 40, and not {whole}")
+    return whole
 
 
 def _drawn(call: Callable[..., int], *arguments: object) -> Symbol:
@@ -33,11 +73,16 @@ def _drawn(call: Callable[..., int], *arguments: object) -> Symbol:
 
 def _options(error: str, version: Optional[int], min_version: int, max_version: int,
              boost_error: bool) -> Options:
-    least, most = (min_version, max_version) if version is None else (version, version)
-    return Options(_number(error), _version(least), _version(most), bool(boost_error))
+    least, most = _version("min_version", min_version), _version("max_version", max_version)
+    if version is not None:
+        wanted = _version("version", version)
+        if not least <= wanted <= most:
+            raise InvalidVersionsError(f"version {wanted} is not from {least} to {most}")
+        least = most = wanted
+    return Options(_number(error), least, most, bool(boost_error))
 
 
-def make(content: Union[str, bytes], error: str = "M", version: Optional[int] = None, *,
+def make(content: Content, error: str = "M", version: Optional[int] = None, *,
          min_version: int = 1, max_version: int = 40, boost_error: bool = True) -> Symbol:
     """The best symbol of a text or of bytes.
 
@@ -47,12 +92,9 @@ def make(content: Union[str, bytes], error: str = "M", version: Optional[int] = 
 
     ASCII is encoded as it is. Any other text is encoded in UTF-8, and the symbol says so.
     """
-    options = _options(error, version, min_version, max_version, boost_error)
-    call, data = library.sicklespan_bytes, content
-    if isinstance(content, str):
-        data = content.encode()
-        if not content.isascii():
-            call = library.sicklespan_text
+    options, data = _options(error, version, min_version, max_version, boost_error), _data(content)
+    is_text = isinstance(content, str) and not content.isascii()
+    call = library.sicklespan_text if is_text else library.sicklespan_bytes
     return _drawn(call, data, len(data), ctypes.byref(options))
 
 
@@ -60,23 +102,31 @@ def gs1(content: str, error: str = "M", version: Optional[int] = None, *, min_ve
         max_version: int = 40, boost_error: bool = True) -> Symbol:
     """The best symbol of GS1 elements as people write them: `(01)09506000134352(10)ABC123`.
 
-    The identifiers, lengths and check digits are tested.
+    Tested are the number of an identifier's digits by its first two, the characters, the predefined
+    lengths, and the check digits of 00, 01, 02 and 410 to 417. What else GS1 says of a value, its
+    greatest length, say, or a date, is not.
     """
     options = _options(error, version, min_version, max_version, boost_error)
-    data = content.encode()
+    data = _text("content", content)
     return _drawn(library.sicklespan_gs1, data, len(data), ctypes.byref(options))
 
 
-def elements(content: bytes, error: str = "M", version: Optional[int] = None, *,
-             min_version: int = 1, max_version: int = 40, boost_error: bool = True) -> Symbol:
+def elements(content: Union[bytes, bytearray, memoryview], error: str = "M",
+             version: Optional[int] = None, *, min_version: int = 1, max_version: int = 40,
+             boost_error: bool = True) -> Symbol:
     """The best symbol of GS1 elements as readers find them, with the byte 1D (hex) between two."""
     options = _options(error, version, min_version, max_version, boost_error)
-    return _drawn(library.sicklespan_elements, content, len(content), ctypes.byref(options))
+    data = _bytes("content", content)
+    return _drawn(library.sicklespan_elements, data, len(data), ctypes.byref(options))
 
 
-def micro(content: Union[str, bytes], error: str = "L") -> Symbol:
-    """The best Micro symbol of a text or of bytes, in M1 to M4, at level L, M or Q."""
-    data = content.encode() if isinstance(content, str) else content
+def micro(content: Content, error: str = "L") -> Symbol:
+    """The best Micro symbol of a text or of bytes, in M1 to M4, at level L, M or Q.
+
+    A text is encoded in UTF-8, which no Micro symbol says: readers may show other characters than
+    those that are not ASCII.
+    """
+    data = _data(content)
     return _drawn(library.sicklespan_micro, data, len(data), _number(error))
 
 
@@ -86,7 +136,19 @@ def _best_cuts(call: Callable[..., int], data: bytes, level: int, limit: int) ->
     return found[:count.value]
 
 
-def sequence(content: Union[str, bytes], cuts: Optional[Sequence[int]] = None, error: str = "M", *,
+def _places(cuts: Sequence[int], length: int) -> List[int]:
+    """The cuts, which ctypes would else cut to 64 bits."""
+    try:
+        places = [operator.index(cut) for cut in cuts]
+    except TypeError:
+        raise _type_error("cuts", "a sequence of numbers", cuts) from None
+    for cut in places:
+        if not 0 <= cut <= length:
+            raise InvalidCutsError(f"a cut is 0 to {length}, and not {cut}")
+    return places
+
+
+def sequence(content: Content, cuts: Optional[Sequence[int]] = None, error: str = "M", *,
              max_version: int = 40) -> List[Symbol]:
     """The symbols that carry a message together (Structured Append), in versions up to a greatest.
 
@@ -96,19 +158,19 @@ def sequence(content: Union[str, bytes], cuts: Optional[Sequence[int]] = None, e
     Text is encoded as `make` does it. The cuts of text that is not ASCII count the bytes of its
     UTF-8, and each is between two characters.
     """
-    is_text = isinstance(content, str) and not content.isascii()
-    data = content.encode() if isinstance(content, str) else content
-    level, limit = _number(error), _version(max_version)
+    is_text, data = isinstance(content, str) and not content.isascii(), _data(content)
+    level, limit = _number(error), _version("max_version", max_version)
     if cuts is None:
         find = library.sicklespan_text_cuts if is_text else library.sicklespan_cuts
         cuts = _best_cuts(find, data, level, limit)
         if not cuts:
             return [make(content, error, max_version=limit, boost_error=False)]
-    places, shapes = (ctypes.c_size_t * len(cuts))(*cuts), (Shape * (len(cuts) + 1))()
+    ends = _places(cuts, len(data))
+    places, shapes = (ctypes.c_size_t * len(ends))(*ends), (Shape * (len(ends) + 1))()
     room = min(len(shapes), 16) * (17 + 4 * limit) ** 2
     modules = ctypes.create_string_buffer(room)
     draw = library.sicklespan_text_sequence if is_text else library.sicklespan_sequence
-    check(draw(data, len(data), places, len(cuts), level, limit, modules, room, shapes))
+    check(draw(data, len(data), places, len(ends), level, limit, modules, room, shapes))
     symbols, start = [], 0
     for shape in shapes:
         size = shape.width ** 2

@@ -1,10 +1,14 @@
 """A symbol, and the forms in which it is written."""
 
+import base64
 import ctypes
+import math
+import operator
 import os
 from typing import BinaryIO, Iterator, Optional, Tuple, Union
+from urllib.parse import quote
 
-from ._errors import InvalidSettingError, check
+from ._errors import InvalidFormatError, InvalidSettingError, check
 from ._library import Settings, Shape, library
 
 LEVELS = "LMQH"
@@ -14,9 +18,26 @@ _SHORT_BUFFER = 8
 
 def _setting(name: str, number: Optional[int]) -> int:
     """The number of a setting, which ctypes would else cut to 32 bits, and -1 for none."""
-    if number is not None and not 0 <= number < 2 ** 31:
-        raise InvalidSettingError(f"{name} is not {number}")
-    return -1 if number is None else number
+    if number is None:
+        return -1
+    try:
+        whole = operator.index(number)
+    except TypeError:
+        raise TypeError(f"{name} is a number, and not {type(number).__name__}") from None
+    if not 0 <= whole < 2 ** 31:
+        raise InvalidSettingError(f"{name} is not {whole}")
+    return whole
+
+
+def _hundredths(module_mm: Optional[float]) -> Optional[int]:
+    """A width in millimetres as hundredths of one."""
+    if module_mm is None:
+        return None
+    if not isinstance(module_mm, (int, float)):
+        raise TypeError(f"module_mm is a number, and not {type(module_mm).__name__}")
+    if not math.isfinite(module_mm):
+        raise InvalidSettingError(f"module_mm is not {module_mm}")
+    return round(100 * module_mm)
 
 
 class Symbol:
@@ -96,10 +117,7 @@ class Symbol:
         return self.picture("terminal", border=border).decode()[:-1]
 
     def _zone(self, border: Optional[int]) -> int:
-        zone = self.default_border_size if border is None else border
-        if zone < 0:
-            raise ValueError(f"a border is not {zone} modules wide")
-        return zone
+        return self.default_border_size if border is None else _setting("border", border)
 
     def picture(self, kind: str, *, scale: int = 1, border: Optional[int] = None,
                 module_mm: Optional[float] = None, dpi: Optional[int] = None,
@@ -112,12 +130,11 @@ class Symbol:
         left corner of a zpl label is `at` these dots.
         """
         if kind not in _FORMATS:
-            raise ValueError(f"a picture is {', '.join(_FORMATS)}, and not {kind!r}")
+            raise InvalidFormatError(f"a picture is {', '.join(_FORMATS)}, and not {kind!r}")
         x, y = at if at is not None else (None, None)
-        hundredths = None if module_mm is None else round(100 * module_mm)
         asked = Settings(
-            _setting("the scale", scale), _setting("the border", self._zone(border)),
-            _setting("module_mm", hundredths), _setting("dpi", dpi), bool(inverted),
+            _setting("scale", scale), self._zone(border),
+            _setting("module_mm", _hundredths(module_mm)), _setting("dpi", dpi), bool(inverted),
             _setting("at", x), _setting("at", y))
         room, length, status = 1 << 14, ctypes.c_size_t(), _SHORT_BUFFER
         while status == _SHORT_BUFFER:
@@ -139,6 +156,15 @@ class Symbol:
         """The picture as a PNG file."""
         return self.picture("png", scale=scale, border=border, module_mm=module_mm, dpi=dpi)
 
+    def svg_data_uri(self, *, scale: int = 1, border: Optional[int] = None) -> str:
+        """The picture as SVG, in an address for the `src` of an image."""
+        return "data:image/svg+xml;charset=utf-8," + quote(self.svg(scale=scale, border=border))
+
+    def png_data_uri(self, *, scale: int = 1, border: Optional[int] = None) -> str:
+        """The picture as a PNG file, in an address for the `src` of an image."""
+        data = base64.b64encode(self.png(scale=scale, border=border))
+        return "data:image/png;base64," + data.decode()
+
     def _text(self, scale: int, border: Optional[int]) -> bytes:
         rows = self.matrix_iter(scale, border)
         return "".join("".join(".#"[pixel] for pixel in row) + "\n" for row in rows).encode()
@@ -146,13 +172,17 @@ class Symbol:
     def save(self, out: Union[str, "os.PathLike[str]", BinaryIO], kind: Optional[str] = None, *,
              scale: int = 1, border: Optional[int] = None, module_mm: Optional[float] = None,
              dpi: Optional[int] = None, at: Optional[Tuple[int, int]] = None) -> None:
-        """Writes a picture to a file, as its ending or `kind` says.
+        """Writes a picture to a file, as its ending or `kind` says, or to a stream, as `kind` says.
 
         It is a picture of `picture`, or txt: a line of # and . for each row of modules.
         """
         named = isinstance(out, (str, os.PathLike))
         ending = os.path.splitext(os.fspath(out))[1] if named else ""  # type: ignore[arg-type]
         kind = (kind or ending.lstrip(".")).lower()
+        if kind != "txt" and kind not in _FORMATS:
+            kinds = ", ".join(("txt", *_FORMATS))
+            given = f"{kind!r} is none" if kind else "none is given"
+            raise InvalidFormatError(f"the kind of a picture is {kinds}; {given}")
         if kind == "txt":
             data = self._text(scale, border)
         else:

@@ -6,6 +6,7 @@ The last line is 'N passed, M failed'. The environment variable SICKLESPAN_LIBRA
 library, where the package does not contain it.
 """
 
+import base64
 import io
 import os
 import re
@@ -14,6 +15,7 @@ import sys
 import tempfile
 import threading
 import unittest
+import urllib.parse
 import zlib
 
 HERE = os.path.dirname(os.path.abspath(__file__))
@@ -61,6 +63,10 @@ class Symbols(unittest.TestCase):
         for least, most in ((0, 40), (1, 41), (3, 2), (2 ** 32 + 1, 40)):
             with self.assertRaises(sicklespan.InvalidVersionsError):
                 sicklespan.make("a", min_version=least, max_version=most)
+        self.assertEqual(sicklespan.make("a", version=3, min_version=3, max_version=3).version, 3)
+        for limits in ({"max_version": 2}, {"min_version": 4}):
+            with self.assertRaises(sicklespan.InvalidVersionsError):
+                sicklespan.make("a", version=3, **limits)
         for level in ("", "X", "LM", "\u0130"):
             with self.assertRaises(sicklespan.InvalidLevelError):
                 sicklespan.make("a", level)
@@ -71,8 +77,30 @@ class Symbols(unittest.TestCase):
         self.assertEqual(sicklespan.make("\u00fc" * 7 + "ab", "L").version, 1)
         self.assertEqual(sicklespan.make(("\u00fc" * 7 + "abc").encode(), "L").version, 1)
         self.assertEqual(sicklespan.make("", "L").version, 1)
-        with self.assertRaises(UnicodeEncodeError):
-            sicklespan.make("\ud800")
+        for make in (sicklespan.make, sicklespan.gs1, sicklespan.micro, sicklespan.sequence):
+            with self.assertRaises(sicklespan.InvalidTextError) as raised:
+                make("(10)a\ud800")
+            self.assertIn("5", str(raised.exception))
+
+    def test_types(self):
+        self.assertEqual(sicklespan.make(bytearray(b"hello")), sicklespan.make(b"hello"))
+        self.assertEqual(sicklespan.make(memoryview(b"hello")), sicklespan.make(b"hello"))
+        self.assertEqual(sicklespan.micro(bytearray(b"1")), sicklespan.micro("1"))
+        self.assertEqual(sicklespan.elements(bytearray(b"10A")), sicklespan.elements(b"10A"))
+        wrong = (("content", lambda: sicklespan.make(123)),
+                 ("content", lambda: sicklespan.gs1(b"(10)A")),
+                 ("content", lambda: sicklespan.elements("10A")),
+                 ("error", lambda: sicklespan.make("a", None)),
+                 ("version", lambda: sicklespan.make("a", version="M1")),
+                 ("max_version", lambda: sicklespan.sequence("a", [0], max_version=2.5)),
+                 ("cuts", lambda: sicklespan.sequence("a", ["0"])),
+                 ("cuts", lambda: sicklespan.sequence("a", 1)),
+                 ("scale", lambda: sicklespan.make("a").svg(scale=1.5)),
+                 ("module_mm", lambda: sicklespan.make("a").svg(module_mm="1")))
+        for name, call in wrong:
+            with self.assertRaises(TypeError) as raised:
+                call()
+            self.assertTrue(str(raised.exception).startswith(name), raised.exception)
 
     def test_elements(self):
         written = sicklespan.gs1("(10)ABC(01)09506000134352(21)7")
@@ -115,6 +143,9 @@ class Symbols(unittest.TestCase):
             sicklespan.sequence("a" * 81, error="H", max_version=1)
         for cuts, error in (([3, 2], sicklespan.InvalidCutsError),
                             ([12], sicklespan.InvalidCutsError),
+                            ([-1], sicklespan.InvalidCutsError),
+                            ([2 ** 64 + 1], sicklespan.InvalidCutsError),
+                            ([1 - 2 ** 64], sicklespan.InvalidCutsError),
                             ([], sicklespan.InvalidPartCountError),
                             ([0] * 16, sicklespan.InvalidPartCountError)):
             with self.assertRaises(error):
@@ -156,7 +187,7 @@ class Pictures(unittest.TestCase):
         self.assertEqual([len(row) for row in rows], [39] * 39)
         self.assertEqual([row[3:36:3] for row in rows[3:36:3]], list(symbol.matrix))
         self.assertEqual(rows[0], bytes(39))
-        with self.assertRaises(ValueError):
+        with self.assertRaises(sicklespan.InvalidSettingError):
             symbol.symbol_size(1, -1)
 
     def test_terminal(self):
@@ -179,8 +210,10 @@ class Pictures(unittest.TestCase):
         out = io.BytesIO()
         symbol.save(out, "svg", scale=2)
         self.assertEqual(out.getvalue().decode(), symbol.svg(scale=2))
-        with self.assertRaises(ValueError):
-            symbol.save(out)
+        for kind in (None, "gif"):
+            with self.assertRaises(sicklespan.InvalidFormatError) as raised:
+                symbol.save(out, kind)
+            self.assertIn("txt, terminal, svg, png", str(raised.exception))
 
     def test_svg(self):
         symbol = sicklespan.make("hello", "L", boost_error=False)
@@ -233,12 +266,23 @@ class Pictures(unittest.TestCase):
         for kind, settings in (
                 ("svg", {"scale": 0}), ("svg", {"scale": 65}), ("svg", {"border": 17}),
                 ("svg", {"scale": 2 ** 32 + 1}), ("svg", {"scale": -1}), ("svg", {"dpi": 300}),
-                ("svg", {"module_mm": 0.04}), ("png", {"dpi": 300, "module_mm": 0.33}),
+                ("svg", {"module_mm": 0.04}), ("svg", {"module_mm": float("nan")}),
+                ("svg", {"module_mm": float("inf")}), ("svg", {"border": -1}),
+                ("png", {"dpi": 300, "module_mm": 0.33}),
                 ("png", {"inverted": True}), ("png", {"at": (0, 0)}), ("zpl", {"at": (0, 18001)})):
             with self.assertRaises(sicklespan.InvalidSettingError):
                 symbol.picture(kind, **settings)
-        with self.assertRaises(ValueError):
+        with self.assertRaises(sicklespan.InvalidFormatError):
             symbol.picture("gif")
+
+    def test_data_uris(self):
+        symbol = sicklespan.micro("1")
+        uri = symbol.svg_data_uri(scale=2, border=1)
+        self.assertTrue(uri.startswith("data:image/svg+xml;charset=utf-8,%3C"))
+        self.assertEqual(urllib.parse.unquote(uri.split(",", 1)[1]), symbol.svg(scale=2, border=1))
+        uri = symbol.png_data_uri(scale=3)
+        self.assertTrue(uri.startswith("data:image/png;base64,"))
+        self.assertEqual(base64.b64decode(uri.split(",", 1)[1]), symbol.png(scale=3))
 
 
 if __name__ == "__main__":
