@@ -1,8 +1,8 @@
 /* SPDX-License-Identifier: MIT OR Apache-2.0 */
 /*
- * Sicklespan: QR and Micro QR symbols by a library that is proved (docs/BINDINGS.md).
+ * Sicklespan: QR and Micro QR symbols by a library that is proved. Where it is installed:
  *
- *     cc program.c -I bindings/c -L bindings/out -l:libsicklespan.a -o program
+ *     cc program.c $(pkg-config --cflags --libs sicklespan) -o program
  *
  * Each function may be called from several threads at once, on buffers of their own. It keeps
  * nothing: all memory that it takes by malloc is freed when it returns, and the caller owns every
@@ -47,10 +47,10 @@ enum sicklespan_status {
     SICKLESPAN_INVALID_CHARACTER = 12,  /* a byte is no character of a GS1 element */
     SICKLESPAN_NO_ELEMENTS = 13,        /* the text does not begin with a bracketed identifier */
     SICKLESPAN_INVALID_IDENTIFIER = 14, /* an identifier is not two to four digits */
-    SICKLESPAN_UNKNOWN_IDENTIFIER = 15, /* an identifier is none that GS1 assigns */
+    SICKLESPAN_UNKNOWN_IDENTIFIER = 15, /* no identifier begins so, or it has another length */
     SICKLESPAN_EMPTY_VALUE = 16,        /* an element has no value */
     SICKLESPAN_VALUE_TOO_LONG = 17,     /* a value has more than 90 characters */
-    SICKLESPAN_WRONG_LENGTH = 18,       /* an element has another length than GS1 defines */
+    SICKLESPAN_WRONG_LENGTH = 18,       /* a value has another length than the predefined one */
     SICKLESPAN_WRONG_CHECK_DIGIT = 19,  /* a value does not end with its check digit */
     SICKLESPAN_INVALID_WIDTH = 20,      /* no symbol has the width */
     SICKLESPAN_INVALID_FORMAT = 21,     /* the format is not 0 to 6 */
@@ -111,8 +111,9 @@ int32_t sicklespan_bytes(const void *bytes, size_t length, const sicklespan_opti
                          uint8_t *modules, size_t room, sicklespan_shape *shape);
 
 /*
- * The same of a text in UTF-8, which the symbol says (ECI 26), so that every reader reads it in its
- * own script. `length` counts bytes.
+ * The same of a text in UTF-8, which the symbol says (ECI 26), so that readers need not guess its
+ * script. This takes 12 bits: ASCII is read alike without it, by sicklespan_bytes. `length` counts
+ * bytes.
  *
  * After SICKLESPAN_INVALID_VERSIONS: SICKLESPAN_INVALID_TEXT.
  */
@@ -129,7 +130,10 @@ int32_t sicklespan_elements(const void *elements, size_t length, const sicklespa
                             uint8_t *modules, size_t room, sicklespan_shape *shape);
 
 /*
- * The same of elements as people write them: "(01)09506000134352(10)ABC123".
+ * The same of elements as people write them: "(01)09506000134352(10)ABC123". Tested are the number
+ * of an identifier's digits by its first two, the characters, the predefined lengths (identifiers
+ * that begin with 00 to 04, 11 to 20, 31 to 36 or 41), and the check digits of 00, 01, 02 and 410
+ * to 417. What else GS1 says of a value, its greatest length, say, or a date, is not.
  *
  * After SICKLESPAN_INVALID_VERSIONS: SICKLESPAN_INVALID_TEXT, SICKLESPAN_NO_ELEMENTS, and of the
  * first element that has a fault SICKLESPAN_INVALID_IDENTIFIER, SICKLESPAN_UNKNOWN_IDENTIFIER,
@@ -141,7 +145,8 @@ int32_t sicklespan_gs1(const char *text, size_t length, const sicklespan_options
 
 /*
  * The best Micro symbol of some bytes at a level, in M1 to M4. None of them has level H, which is
- * SICKLESPAN_INVALID_LEVEL.
+ * SICKLESPAN_INVALID_LEVEL. None says in which character set bytes that are not ASCII are, so that
+ * readers may show other characters.
  *
  * SICKLESPAN_INVALID_LEVEL, SICKLESPAN_DATA_TOO_LONG, SICKLESPAN_OUT_OF_MEMORY,
  * SICKLESPAN_SHORT_BUFFER.

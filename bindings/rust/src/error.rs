@@ -26,13 +26,13 @@ pub enum Error {
     NoElements = 13,
     /// An identifier is not two to four digits.
     InvalidIdentifier = 14,
-    /// An identifier is none that GS1 assigns.
+    /// No identifier begins so, or those that do have another number of digits.
     UnknownIdentifier = 15,
     /// An element has no value.
     EmptyValue = 16,
     /// A value has more than 90 characters.
     ValueTooLong = 17,
-    /// An element has another length than GS1 defines for its identifier.
+    /// A value has another length than the predefined one of its identifier.
     WrongLength = 18,
     /// A value does not end with its check digit.
     WrongCheckDigit = 19,

@@ -150,7 +150,8 @@ impl Symbol {
     }
 
     /// Returns the best symbol of a text at a level, which says that it is in UTF-8 (ECI 26), so
-    /// that every reader reads it in its own script.
+    /// that readers need not guess its script. This takes 12 bits: ASCII is read alike without it,
+    /// by `new`.
     ///
     /// ```
     /// # use sicklespan::{Level, Symbol};
