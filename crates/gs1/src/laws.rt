@@ -2,7 +2,6 @@
 ghost use Rattle.gs1.specs.Reader.{HaveOneList, HaveStringsApart};
 
 /// No bytes are read as two lists of elements.
-
 pub fn have_one_list()
     ensures { HaveOneList }
 {}

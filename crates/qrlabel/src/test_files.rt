@@ -16,6 +16,7 @@ pub struct Kept {
 }
 
 impl Kept {
+    /// Returns no files yet, and room for three.
     pub fn new(alloc: Global) -> Kept
         ensures { IsFalse result.has_failed }
     {
