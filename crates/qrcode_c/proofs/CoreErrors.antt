@@ -30,26 +30,26 @@ use Rattle.qrcode_c.specs.declared.refusal.Refusal.TheVariants as call
 
 pub options_known : (options : SymbolOptions) (front : Front) (bytes : List ℕ) (error : QrError) →
     HasVersions options → IsOptionsRefusal options front bytes error → IsSome (status_error error)
-options_known options front bytes (core.DataTooLong) versions came = refl
-options_known options front bytes (core.OutOfMemory) versions came = refl
-options_known options front bytes (core.InvalidResourceLimits) versions came = absurd (came versions)
-options_known options front bytes other versions came = absurd came.1
+options_known options front bytes (core.DataTooLong) versions refused = refl
+options_known options front bytes (core.OutOfMemory) versions refused = refl
+options_known options front bytes (core.InvalidResourceLimits) versions refused = absurd (refused versions)
+options_known options front bytes other versions refused = absurd refused.1
 
 pub elements_known : (options : SymbolOptions) (elements : List ℕ) (error : QrError) →
     HasVersions options → IsElementsOptionsRefusal options (front_of None Elements) elements error → IsSome (status_error error)
-elements_known options elements (core.DataTooLong) versions came = refl
-elements_known options elements (core.OutOfMemory) versions came = refl
-elements_known options elements (core.InvalidCharacter place byte) versions came = refl
-elements_known options elements (core.InvalidResourceLimits) versions came = absurd (came versions)
-elements_known options elements other versions came = absurd came.1.1
+elements_known options elements (core.DataTooLong) versions refused = refl
+elements_known options elements (core.OutOfMemory) versions refused = refl
+elements_known options elements (core.InvalidCharacter place byte) versions refused = refl
+elements_known options elements (core.InvalidResourceLimits) versions refused = absurd (refused versions)
+elements_known options elements other versions refused = absurd refused.1.1
 
 pub sequence_known : (content : Content) (message cuts : List ℕ) (level : EcLevel) (limit : ℤ) (error : QrError) →
     IsNormalNumber limit → IsSequenceRefusal content message cuts level limit error → IsSome (status_error error)
-sequence_known content message cuts level limit (core.DataTooLong) normal came = refl
-sequence_known content message cuts level limit (core.OutOfMemory) normal came = refl
-sequence_known content message cuts level limit (core.InvalidStructuredAppend value) normal came = refl
-sequence_known content message cuts level limit (core.InvalidResourceLimits) normal came = absurd (came normal)
-sequence_known content message cuts level limit other normal came = absurd came
+sequence_known content message cuts level limit (core.DataTooLong) normal refused = refl
+sequence_known content message cuts level limit (core.OutOfMemory) normal refused = refl
+sequence_known content message cuts level limit (core.InvalidStructuredAppend value) normal refused = refl
+sequence_known content message cuts level limit (core.InvalidResourceLimits) normal refused = absurd (refused normal)
+sequence_known content message cuts level limit other normal refused = absurd refused
 
 -- ---- What the error of the call says
 
@@ -58,78 +58,78 @@ abbrev asked_for : (asked : Options) (options : SymbolOptions) (fact : SymbolOpt
     fact options → AsksFor asked fact
 asked_for asked options fact means versions holds = record { options = options; means = means; versions = versions; true_of = holds }
 
-pub text_told : (text : List ℕ) (asked : Options) (options : SymbolOptions) (room : ℕ) (error : QrError) (refusal : Refusal) →
+pub text_refused : (text : List ℕ) (asked : Options) (options : SymbolOptions) (room : ℕ) (error : QrError) (refusal : Refusal) →
     Means asked options → HasVersions options → IsUtf8 text → IsOptionsRefusal options (front_of None Text) text error →
     status_error error ≡ Some refusal → IsAskedTextRefusal text asked room refusal
-text_told text asked options room (core.DataTooLong) refusal means versions valid came told =
+text_refused text asked options room (core.DataTooLong) refusal means versions valid refused stands =
     let same : call.DataTooLong ≡ refusal = cc in
-    subst (IsAskedTextRefusal text asked room) same (valid, asked_for asked options _ means versions came)
-text_told text asked options room (core.OutOfMemory) refusal means versions valid came told =
+    subst (IsAskedTextRefusal text asked room) same (valid, asked_for asked options _ means versions refused)
+text_refused text asked options room (core.OutOfMemory) refusal means versions valid refused stands =
     let same : call.OutOfMemory ≡ refusal = cc in
-    subst (IsAskedTextRefusal text asked room) same (valid, asked_for asked options _ means versions came)
-text_told text asked options room (core.InvalidResourceLimits) refusal means versions valid came told = absurd (came versions)
-text_told text asked options room other refusal means versions valid came told = absurd came.1
+    subst (IsAskedTextRefusal text asked room) same (valid, asked_for asked options _ means versions refused)
+text_refused text asked options room (core.InvalidResourceLimits) refusal means versions valid refused stands = absurd (refused versions)
+text_refused text asked options room other refusal means versions valid refused stands = absurd refused.1
 
-pub elements_told : (elements : List ℕ) (asked : Options) (options : SymbolOptions) (room : ℕ) (error : QrError) (refusal : Refusal) →
+pub elements_refused : (elements : List ℕ) (asked : Options) (options : SymbolOptions) (room : ℕ) (error : QrError) (refusal : Refusal) →
     Means asked options → HasVersions options → IsElementsOptionsRefusal options (front_of None Elements) elements error →
     status_error error ≡ Some refusal → IsAskedElementsRefusal elements asked room refusal
-elements_told elements asked options room (core.InvalidCharacter place byte) refusal means versions came told =
+elements_refused elements asked options room (core.InvalidCharacter place byte) refusal means versions refused stands =
     let same : call.InvalidCharacter ≡ refusal = cc in
     subst (IsAskedElementsRefusal elements asked room) same
-    (asked_for asked options _ means versions (λ are. came.1.here (are place (slice_get_within elements _ _ came.1.byte_is))))
-elements_told elements asked options room (core.DataTooLong) refusal means versions came told =
+    (asked_for asked options _ means versions (λ are. refused.1.here (are place (slice_get_within elements _ _ refused.1.byte_is))))
+elements_refused elements asked options room (core.DataTooLong) refusal means versions refused stands =
     let same : call.DataTooLong ≡ refusal = cc in
-    subst (IsAskedElementsRefusal elements asked room) same (came.0, asked_for asked options _ means versions came.1)
-elements_told elements asked options room (core.OutOfMemory) refusal means versions came told =
+    subst (IsAskedElementsRefusal elements asked room) same (refused.0, asked_for asked options _ means versions refused.1)
+elements_refused elements asked options room (core.OutOfMemory) refusal means versions refused stands =
     let same : call.OutOfMemory ≡ refusal = cc in
-    subst (IsAskedElementsRefusal elements asked room) same (came.0, asked_for asked options _ means versions came.1)
-elements_told elements asked options room (core.InvalidResourceLimits) refusal means versions came told = absurd (came versions)
-elements_told elements asked options room other refusal means versions came told = absurd came.1.1
+    subst (IsAskedElementsRefusal elements asked room) same (refused.0, asked_for asked options _ means versions refused.1)
+elements_refused elements asked options room (core.InvalidResourceLimits) refusal means versions refused stands = absurd (refused versions)
+elements_refused elements asked options room other refusal means versions refused stands = absurd refused.1.1
 
-pub written_told : (text elements : List ℕ) (asked : Options) (options : SymbolOptions) (room : ℕ) (error : QrError) (refusal : Refusal) →
+pub written_refused : (text elements : List ℕ) (asked : Options) (options : SymbolOptions) (room : ℕ) (error : QrError) (refusal : Refusal) →
     Means asked options → HasVersions options → text_fault text ≡ None → FindsOnly elements (written_elements text) → AreElements elements →
     IsElementsOptionsRefusal options (front_of None Elements) elements error → status_error error ≡ Some refusal →
     IsWrittenRefusal text asked room refusal
-written_told text elements asked options room (core.InvalidCharacter place byte) refusal means versions faultless found are came told =
-    absurd (came.1.here (are place (slice_get_within elements _ _ came.1.byte_is)))
-written_told text elements asked options room (core.DataTooLong) refusal means versions faultless found are came told =
+written_refused text elements asked options room (core.InvalidCharacter place byte) refusal means versions faultless found are refused stands =
+    absurd (refused.1.here (are place (slice_get_within elements _ _ refused.1.byte_is)))
+written_refused text elements asked options room (core.DataTooLong) refusal means versions faultless found are refused stands =
     let same : call.DataTooLong ≡ refusal = cc in
     subst (IsWrittenRefusal text asked room) same
-    record { elements = elements; found = found; true_of = asked_for asked options _ means versions came.1 }
-written_told text elements asked options room (core.OutOfMemory) refusal means versions faultless found are came told =
+    record { elements = elements; found = found; true_of = asked_for asked options _ means versions refused.1 }
+written_refused text elements asked options room (core.OutOfMemory) refusal means versions faultless found are refused stands =
     let same : call.OutOfMemory ≡ refusal = cc in
     subst (IsWrittenRefusal text asked room) same (asked_for asked options _ means versions faultless)
-written_told text elements asked options room (core.InvalidResourceLimits) refusal means versions faultless found are came told =
-    absurd (came versions)
-written_told text elements asked options room other refusal means versions faultless found are came told = absurd came.1.1
+written_refused text elements asked options room (core.InvalidResourceLimits) refusal means versions faultless found are refused stands =
+    absurd (refused versions)
+written_refused text elements asked options room other refusal means versions faultless found are refused stands = absurd refused.1.1
 
-pub part_told : (message cuts : List ℕ) (level : EcLevel) (number limit : ℤ) (index room : ℕ) (error : QrError) (refusal : Refusal) →
+pub part_refused : (message cuts : List ℕ) (level : EcLevel) (number limit : ℤ) (index room : ℕ) (error : QrError) (refusal : Refusal) →
     number ≡ level_argument level → IsAsked message cuts limit index → IsSequenceRefusal Bytes message cuts level limit error →
     status_error error ≡ Some refusal → IsPartRefusal message cuts number limit index room refusal
-part_told message cuts level number limit index room (core.InvalidStructuredAppend value) refusal named asked came told =
+part_refused message cuts level number limit index room (core.InvalidStructuredAppend value) refusal named asked refused stands =
     let same : call.InvalidPartCount ≡ refusal = cc in
-    subst (IsPartRefusal message cuts number limit index room) same (level, named, (asked, came.1))
-part_told message cuts level number limit index room (core.DataTooLong) refusal named asked came told =
+    subst (IsPartRefusal message cuts number limit index room) same (level, named, (asked, refused.1))
+part_refused message cuts level number limit index room (core.DataTooLong) refusal named asked refused stands =
     let same : call.DataTooLong ≡ refusal = cc in
-    subst (IsPartRefusal message cuts number limit index room) same (level, named, (asked, came.1, came.2))
-part_told message cuts level number limit index room (core.OutOfMemory) refusal named asked came told =
+    subst (IsPartRefusal message cuts number limit index room) same (level, named, (asked, refused.1, refused.2))
+part_refused message cuts level number limit index room (core.OutOfMemory) refusal named asked refused stands =
     let same : call.OutOfMemory ≡ refusal = cc in
-    subst (IsPartRefusal message cuts number limit index room) same (level, named, (asked, came.1))
-part_told message cuts level number limit index room (core.InvalidResourceLimits) refusal named asked came told = absurd (came asked.is_limit)
-part_told message cuts level number limit index room other refusal named asked came told = absurd came
+    subst (IsPartRefusal message cuts number limit index room) same (level, named, (asked, refused.1))
+part_refused message cuts level number limit index room (core.InvalidResourceLimits) refusal named asked refused stands = absurd (refused asked.is_limit)
+part_refused message cuts level number limit index room other refusal named asked refused stands = absurd refused
 
-pub spread_told : (content : Content) (message cuts : List ℕ) (level : EcLevel) (number limit : ℤ) (room places : ℕ) (error : QrError)
+pub spread_refused : (content : Content) (message cuts : List ℕ) (level : EcLevel) (number limit : ℤ) (room places : ℕ) (error : QrError)
     (refusal : Refusal) → number ≡ level_argument level → AreValid content message cuts limit →
     IsSequenceRefusal content message cuts level limit error → status_error error ≡ Some refusal →
     IsSpreadStatus content message cuts number limit room places refusal
-spread_told content message cuts level number limit room places (core.InvalidStructuredAppend value) refusal named valid came told =
+spread_refused content message cuts level number limit room places (core.InvalidStructuredAppend value) refusal named valid refused stands =
     let same : call.InvalidPartCount ≡ refusal = cc in
-    subst (IsSpreadStatus content message cuts number limit room places) same (level, named, (valid, came.1))
-spread_told content message cuts level number limit room places (core.DataTooLong) refusal named valid came told =
+    subst (IsSpreadStatus content message cuts number limit room places) same (level, named, (valid, refused.1))
+spread_refused content message cuts level number limit room places (core.DataTooLong) refusal named valid refused stands =
     let same : call.DataTooLong ≡ refusal = cc in
-    subst (IsSpreadStatus content message cuts number limit room places) same (level, named, (valid, came.1, came.2))
-spread_told content message cuts level number limit room places (core.OutOfMemory) refusal named valid came told =
+    subst (IsSpreadStatus content message cuts number limit room places) same (level, named, (valid, refused.1, refused.2))
+spread_refused content message cuts level number limit room places (core.OutOfMemory) refusal named valid refused stands =
     let same : call.OutOfMemory ≡ refusal = cc in
-    subst (IsSpreadStatus content message cuts number limit room places) same (level, named, (valid, came.1))
-spread_told content message cuts level number limit room places (core.InvalidResourceLimits) refusal named valid came told = absurd (came valid.1)
-spread_told content message cuts level number limit room places other refusal named valid came told = absurd came
+    subst (IsSpreadStatus content message cuts number limit room places) same (level, named, (valid, refused.1))
+spread_refused content message cuts level number limit room places (core.InvalidResourceLimits) refusal named valid refused stands = absurd (refused valid.1)
+spread_refused content message cuts level number limit room places other refusal named valid refused stands = absurd refused

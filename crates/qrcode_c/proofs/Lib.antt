@@ -1,4 +1,4 @@
 mod Writing
 mod Answering
-mod Telling
+mod CoreErrors
 mod Widths

@@ -1,5 +1,5 @@
 -- An error of the library is that of the call.
-use Rattle.qrcode_c.proofs.Telling.{elements_known, elements_told}
+use Rattle.qrcode_c.proofs.CoreErrors.{elements_known, elements_refused}
 use Rattle.qrcode_c.proofs.asking.elements_symbol.Goals as goal
 
 pub core_refusal-requires : goal.core_refusal-requires
@@ -8,5 +8,5 @@ core_refusal-requires c =
 
 pub returns-in-Err-clause-refused : goal.returns-in-Err-clause-refused
 returns-in-Err-clause-refused c =
-    elements_told c.args.elements.now c.args.options.now c.in_ok-checked.checked _ c.in-Err.error c.core_refusal.result
+    elements_refused c.args.elements.now c.args.options.now c.in_ok-checked.checked _ c.in-Err.error c.core_refusal.result
     c.in_ok-checked.ensures.means c.in_ok-checked.ensures.range c.in-Err.ensures.refused c.core_refusal.ensures

@@ -2,7 +2,7 @@
 use Rattle.std.specs.Prelude.{None}
 use Rattle.qrcode_bits.specs.Frame.{front_of}
 use Rattle.qrcode_bits.specs.declared.bits.front.Content.TheVariants.{Text}
-use Rattle.qrcode_c.proofs.Telling.{options_known, text_told}
+use Rattle.qrcode_c.proofs.CoreErrors.{options_known, text_refused}
 use Rattle.qrcode_c.proofs.asking.text_symbol.Goals as goal
 
 pub core_refusal-requires : goal.core_refusal-requires
@@ -14,5 +14,5 @@ core_refusal-requires c =
 pub returns-in-Err-clause-refused : goal.returns-in-Err-clause-refused
 returns-in-Err-clause-refused c =
     let text = c.in-Ok.ensures.cases in
-    text_told c.args.text.now c.args.options.now c.in_ok-checked.checked _ c.in-Err.error c.core_refusal.result
+    text_refused c.args.text.now c.args.options.now c.in_ok-checked.checked _ c.in-Err.error c.core_refusal.result
     c.in_ok-checked.ensures.means c.in_ok-checked.ensures.range text.1 (rw text.0 at c.in-Err.ensures.refused) c.core_refusal.ensures

@@ -4,7 +4,7 @@ use Rattle.std.{specs.Prelude.ℤ, proofs.lemmas.Int.to_z-of_z}
 use Rattle.qrcode_base.specs.Symbols.{IsNormalNumber}
 use Rattle.qrcode_core.specs.{Sequence.IsSequenceRefusal}
 use Rattle.qrcode_c.{specs.Levels.level_argument, specs.Refusals.IsAsked, proofs.Answering.part_held, proofs.Answering.part_of}
-use Rattle.qrcode_c.{proofs.Answering.short_refused, proofs.Answering.same_limit, proofs.Telling.sequence_known, proofs.Telling.part_told}
+use Rattle.qrcode_c.{proofs.Answering.short_refused, proofs.Answering.same_limit, proofs.CoreErrors.sequence_known, proofs.CoreErrors.part_refused}
 use Rattle.qrcode_c.proofs.drawing.part_symbol.Goals as goal
 use Rattle.qrcode_bits.specs.declared.bits.front.Content.TheVariants.{Bytes}
 
@@ -45,5 +45,5 @@ returns-in-Err-clause-refused c =
     let refused = subst (λ (z : ℤ). IsSequenceRefusal Bytes c.args.message.now c.args.cuts.now c.in-Some.level z c.in-Err.error) same
     c.in-Err.ensures.refused in
     let asked : IsAsked c.args.message.now c.args.cuts.now c.args.max_version c.args.index = search rules in
-    part_told c.args.message.now c.args.cuts.now c.in-Some.level c.args.level c.args.max_version c.args.index _ c.in-Err.error c.core_refusal.result
+    part_refused c.args.message.now c.args.cuts.now c.in-Some.level c.args.level c.args.max_version c.args.index _ c.in-Err.error c.core_refusal.result
     named asked refused c.core_refusal.ensures

@@ -6,7 +6,7 @@ use Rattle.qrcode_bits.specs.declared.bits.front.Content.TheVariants.{Bytes}
 use Rattle.qrcode_core.specs.Sequence.{IsSequenceRefusal}
 use Rattle.qrcode_c.specs.{Levels.level_argument, Spread.AreValid}
 use Rattle.qrcode_c.proofs.Answering.{same_limit}
-use Rattle.qrcode_c.proofs.Telling.{sequence_known, spread_told}
+use Rattle.qrcode_c.proofs.CoreErrors.{sequence_known, spread_refused}
 use Rattle.qrcode_c.proofs.spread.spread.Goals as goal
 
 pub core_refusal-requires : goal.core_refusal-requires
@@ -26,5 +26,5 @@ returns-in-Err-clause-refused c =
     let refused = subst (λ (z : ℤ). IsSequenceRefusal Bytes c.args.message.now c.args.cuts.now c.in-Some.level z c.in-Err.error) same
     c.in-Err.ensures.refused in
     let valid : AreValid Bytes c.args.message.now c.args.cuts.now c.args.max_version = search rules in
-    spread_told Bytes c.args.message.now c.args.cuts.now c.in-Some.level c.args.level c.args.max_version _ _ c.in-Err.error c.core_refusal.result
+    spread_refused Bytes c.args.message.now c.args.cuts.now c.in-Some.level c.args.level c.args.max_version _ _ c.in-Err.error c.core_refusal.result
     named valid refused c.core_refusal.ensures
