@@ -67,7 +67,7 @@ pub record IsPictureAbove (room : ℕ) (modules : List ℕ) (width : ℕ) (numbe
 
 -- The errors of a picture, and when each is returned: no symbol has the width, or another number of
 -- modules; no format has the number; a setting is out of its bounds, or one that the format does
--- not have; memory ran out.
+-- not have; all of these are as they should be, and memory ran out.
 abbrev pub IsDrawRefusal : List ℕ → ℕ → ℤ → PictureSettings → Refusal → Type 0
 IsDrawRefusal modules width number asked InvalidWidth = IsSymbolSquare (length modules) width → ⊥
 IsDrawRefusal modules width number asked InvalidFormat =
@@ -76,7 +76,8 @@ IsDrawRefusal modules width number asked InvalidSetting =
     IsSymbolSquare (length modules) width
     × AsksFormat number asked (λ format settings. invalid_setting format settings ≢ None)
 IsDrawRefusal modules width number asked OutOfMemory =
-    IsSymbolSquare (length modules) width × AsksFormat number asked (λ format settings. Unit {0})
+    IsSymbolSquare (length modules) width
+    × AsksFormat number asked (λ format settings. invalid_setting format settings ≡ None)
 IsDrawRefusal modules width number asked other = ⊥
 
 -- The same of the call that writes the picture to a buffer, which may be too short.

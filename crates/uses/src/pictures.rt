@@ -1,5 +1,5 @@
 //! The picture of a symbol, by `qrcode_render`.
-ghost use Rattle.std.specs.Prelude.{◌≡◌, Err, Some, IfOk};
+ghost use Rattle.std.specs.Prelude.{◌≡◌, Err, Some, None, IfOk};
 ghost use Rattle.std.specs.String.{string_bytes};
 ghost use Rattle.qrcode_core.specs.Drawn.{drawn_grid};
 ghost use Rattle.qrcode_render.specs.Asked.{ShowsAsAsked};
@@ -43,6 +43,8 @@ pub fn picture_of(
         ShowsAsAsked format settings.now (drawn_grid symbol.now) bytes.items) }
     ensures wrong { (setting : Setting) → result ≡ Err (PictureError.Setting setting) →
         invalid_setting format settings.now ≡ Some setting }
+    ensures memory { result ≡ Err PictureError.OutOfMemory →
+        invalid_setting format settings.now ≡ None }
 {
     let options = match DrawOptions::new(alloc, format, settings) {
         Ok(options) => options,
