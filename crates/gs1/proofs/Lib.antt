@@ -8,3 +8,7 @@ pub mod Bracketed
 pub mod Memory
 pub mod Whole
 pub mod SymbolData
+pub mod Cuts
+pub mod Refusals
+pub mod Written
+pub mod Outcomes

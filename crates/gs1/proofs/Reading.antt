@@ -164,7 +164,7 @@ same_first bytes x y first second =
     element_same i j v w a b = cc
 
 -- No bytes begin with no element.
-none_first : (e : Element) → BeginsWith [] e → ⊥
+pub none_first : (e : Element) → BeginsWith [] e → ⊥
 unfolding prefix
 none_first e begins = let none : None ≡ Some (length e.identifier) = begins.identifier_is in cc
 

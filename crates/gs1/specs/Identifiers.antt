@@ -1,8 +1,10 @@
 -- GS1 Application Identifiers: how many digits they have, which elements have a predefined length,
 -- which characters and which check digit (GS1 General Specifications). Bytes are numbers.
-use Rattle.std.specs.Prelude.{ℕ, ◌+◌, ◌-◌, ◌*◌, ◌%◌, Bool, ◌==◌, ◌&&◌, ◌||◌, nat_le}
-use Rattle.std.specs.Prelude.{if◌then◌else◌, List, [], ◌∷◌, length, slice_index, Option, None, Some}
+use Rattle.std.specs.Prelude.{◌≡◌, ℕ, ◌+◌, ◌-◌, ◌*◌, ◌%◌, ◌<◌, ◌^◌, Bool, true, ◌==◌, ◌&&◌, ◌||◌, nat_le}
+use Rattle.std.specs.Prelude.{if◌then◌else◌, List, [], ◌∷◌, ◌++◌, length, take, slice_index}
+use Rattle.std.specs.Prelude.{Option, None, Some}
 use Rattle.std.specs.Option.{option_and_then}
+use Rattle.std.specs.List.{list_all}
 
 abbrev pub is_within : ℕ → ℕ → ℕ → Bool
 is_within low high n = nat_le low n && nat_le n high
@@ -73,3 +75,20 @@ weighted_sum (c ∷ digits) =
 -- The check digit makes the sum a multiple of ten.
 abbrev pub has_right_check_digit : List ℕ → Bool
 has_right_check_digit digits = weighted_sum digits % 10 == 0
+
+-- A value with this digit in its last place.
+abbrev pub with_last : List ℕ → ℕ → List ℕ
+with_last value digit = take (length value - 1) value ++ digit ∷ []
+
+-- Of the digits in the last place of a value, this one alone makes the check digit right.
+pub record IsRightDigit (value : List ℕ) (digit : ℕ) : Type 0 where
+  pub decimal : is_decimal_digit digit ≡ true
+  pub right : has_right_check_digit (with_last value digit) ≡ true
+  pub only : (other : ℕ) → is_decimal_digit other ≡ true →
+      has_right_check_digit (with_last value other) ≡ true → other ≡ digit
+
+-- A value that may end with a check digit: digits, at least one, and fewer than 65536.
+pub record AreFewDigits (value : List ℕ) : Type 0 where
+  pub some : 0 < length value
+  pub few : length value < 2 ^ 16
+  pub digits : list_all is_decimal_digit value ≡ true

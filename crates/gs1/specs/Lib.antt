@@ -1,3 +1,4 @@
 pub mod Identifiers
 pub mod Elements
 pub mod Reader
+pub mod Strings

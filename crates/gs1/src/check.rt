@@ -9,7 +9,8 @@ ghost use Rattle.gs1.specs.Elements.{elements_behind, first_fault, text_fault};
 
 use crate::error::Gs1Error;
 use crate::identifiers::{
-    has_check_digit, has_right_check_digit, identifier_length, is_encodable, predefined_length,
+    are_digits, has_check_digit, has_right_check_digit, identifier_length, is_encodable,
+    predefined_length,
 };
 
 /// The greatest length of a value.
@@ -61,13 +62,6 @@ fn is_identifier(identifier: &[u8]) -> bool
     ensures { result ≡ is_identifier identifier.now }
 {
     2 <= identifier.len() && identifier.len() <= 4 && are_digits(identifier)
-}
-
-/// Returns whether all bytes are digits.
-fn are_digits(bytes: &[u8]) -> bool
-    ensures { result ≡ list_all is_decimal_digit bytes.now }
-{
-    bytes.iter().all(|digit| matches!(digit, b'0'..=b'9'))
 }
 
 /// Checks the length of a value.
@@ -140,13 +134,19 @@ fn check_digits(element: usize, identifier: &[u8], value: &[u8]) -> Result<(), G
 }
 
 /// Checks the element that is written between two opening brackets.
-#[tactic(auto, using(crate::proofs::Parts::within_longest), unfolding(crate::specs::Elements::fault_of))]
 fn check_element(element: usize, part: &[u8]) -> Result<(), Gs1Error>
     ensures { result_err result ≡ fault_of element (element_of part.now) }
 {
     let close = first_of(part, b')');
-    let identifier = &part[..close];
-    let value = behind(part, close);
+    check_parts(element, &part[..close], behind(part, close))
+}
+
+/// Checks an element of this identifier and value.
+#[tactic(auto, using(crate::proofs::Parts::within_longest), unfolding(crate::specs::Elements::fault_of))]
+pub(crate) fn check_parts(element: usize, identifier: &[u8], value: &[u8]) -> Result<(), Gs1Error>
+    ensures { result_err result
+        ≡ fault_of element (record { identifier = identifier.now; value = value.now }) }
+{
     check_identifier(element, identifier)?;
     check_length(element, value)?;
     check_characters(element, identifier, value)?;

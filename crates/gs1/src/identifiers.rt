@@ -1,12 +1,17 @@
 //! GS1 Application Identifiers: lengths, characters and check digits.
-ghost use Rattle.std.specs.Prelude.{◌≡◌, ◌<◌, ◌^◌, length};
+ghost use Rattle.std.specs.Prelude.{◌≡◌, ◌↔◌, ◌+◌, ◌-◌, ◌%◌, ◌<◌, ◌^◌, length, IfSome, IsSome};
+ghost use Rattle.std.specs.List.{list_all};
 ghost use Rattle.gs1.specs.Identifiers.{prefix, identifier_length_of, predefined_length_of};
 ghost use Rattle.gs1.specs.Identifiers.{identifier_length, predefined_length, is_encodable};
-ghost use Rattle.gs1.specs.Identifiers.{has_check_digit, has_right_check_digit};
+ghost use Rattle.gs1.specs.Identifiers.{has_check_digit, has_right_check_digit, weighted_sum};
+ghost use Rattle.gs1.specs.Identifiers.{is_decimal_digit, IsRightDigit, AreFewDigits};
+
+/// The least number of digits that is too great for a check digit.
+const FEW_DIGITS: usize = 0x1_0000;
 
 /// Returns the number that the first two bytes write, if they are digits.
 #[tactic(auto, unfolding(crate::specs::Identifiers::prefix))]
-fn prefix(bytes: &[u8]) -> Option<u8>
+pub(crate) fn prefix(bytes: &[u8]) -> Option<u8>
     ensures { result ≡ prefix bytes.now }
 {
     match bytes {
@@ -82,11 +87,18 @@ pub(crate) fn has_check_digit(identifier: &[u8]) -> bool
     )
 }
 
-/// Returns whether digits end with their check digit.
+/// Returns whether all bytes are digits.
+pub(crate) fn are_digits(bytes: &[u8]) -> bool
+    ensures { result ≡ list_all is_decimal_digit bytes.now }
+{
+    bytes.iter().all(|digit| matches!(digit, b'0'..=b'9'))
+}
+
+/// Returns the sum of digits with the weights 1 and 3 in turn from the right.
 #[tactic(auto, using(crate::proofs::Digits::weighted_sum_more))]
-pub(crate) fn has_right_check_digit(digits: &[u8]) -> bool
+fn weighted_sum(digits: &[u8]) -> usize
     requires { length digits.now < 2 ^ 16 }
-    ensures { result ≡ has_right_check_digit digits.now }
+    ensures { result ≡ weighted_sum digits.now }
 {
     let mut sum = 0;
     for (place, digit) in digits.iter().enumerate() {
@@ -97,5 +109,36 @@ pub(crate) fn has_right_check_digit(digits: &[u8]) -> bool
         };
         sum += weight * usize::from(digit.saturating_sub(b'0'));
     }
-    sum % 10 == 0
+    sum
+}
+
+/// Returns whether digits end with their check digit.
+pub(crate) fn has_right_check_digit(digits: &[u8]) -> bool
+    requires { length digits.now < 2 ^ 16 }
+    ensures { result ≡ has_right_check_digit digits.now }
+{
+    weighted_sum(digits) % 10 == 0
+}
+
+/// Returns the check digit of a value, in ASCII: the one digit with which in its last place the
+/// value ends with its right check digit (GS1 General Specifications, "Standard check digit
+/// calculations"). It is `b'2'` of `9506000134351`, whose last digit is wrong, and of
+/// `9506000134352`. Returns `None` if the value is empty, has a character that is no digit, also in
+/// the last place, or has 65536 characters or more.
+pub fn right_check_digit(value: &[u8]) -> Option<u8>
+    ensures right { IfSome result (λ digit. IsRightDigit value.now digit) }
+    ensures digits { IsSome result ↔ AreFewDigits value.now }
+{
+    if FEW_DIGITS <= value.len() || !are_digits(value) {
+        return None;
+    }
+    let last = usize::from(value.last()? - b'0');
+    Some(completing_digit(weighted_sum(value) - last))
+}
+
+/// Returns the digit that makes a sum a multiple of ten.
+fn completing_digit(sum: usize) -> u8
+    ensures { result ≡ 0x30 + (10 - sum % 10) % 10 }
+{
+    b'0' + ((10 - sum % 10) % 10) as u8
 }

@@ -1,5 +1,6 @@
 //! Laws: facts about element strings. Each function has no body; its contract is the fact.
 ghost use Rattle.gs1.specs.Reader.{HaveOneList, HaveStringsApart};
+ghost use Rattle.gs1.specs.Strings.{HaveOneOutcome};
 
 /// No bytes are read as two lists of elements.
 pub fn have_one_list()
@@ -9,4 +10,9 @@ pub fn have_one_list()
 /// No two lists of elements without faults have the same element string.
 pub fn have_strings_apart()
     ensures { HaveStringsApart }
+{}
+
+/// No element string is both taken and refused, and none is refused by two errors.
+pub fn have_one_outcome()
+    ensures { HaveOneOutcome }
 {}

@@ -4,6 +4,8 @@
 //! let bytes = element_string(alloc, "(01)09506000134352(10)ABC123(21)7")?;
 //! // `bytes` are those of "010950600013435210ABC123", the separator 1D (hex) and "217".
 //! ```
+//!
+//! `check_element_string` checks element strings that come without brackets.
 #![tactic(auto)]
 
 ghost use Rattle.std.specs.Prelude.{◌≡◌, None, IfOk, OnOk, IfErr};
@@ -15,12 +17,15 @@ mod check;
 mod error;
 mod identifiers;
 pub mod laws;
+mod strings;
 #[cfg(test)]
 mod tests;
 mod write;
 
 pub use error::Gs1Error;
+pub use identifiers::right_check_digit;
 use std::alloc::Global;
+pub use strings::{Element, check_element_string, read_element, written_element};
 
 /// Returns the element string of a text such as `(01)09506000134352(10)ABC123`: the elements one
 /// after the other, each identifier and its value, with the separator 1D (hex) behind each whose

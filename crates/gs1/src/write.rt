@@ -8,7 +8,7 @@ use crate::identifiers::predefined_length;
 use std::alloc::{AllocError, Global};
 
 /// The byte as which readers give FNC1 between two elements.
-const GROUP_SEPARATOR: u8 = 0x1d;
+pub(crate) const GROUP_SEPARATOR: u8 = 0x1d;
 
 /// Returns the element string of the elements that are written behind a first opening bracket.
 pub(crate) fn string_of(alloc: Global, text: &[u8]) -> Result<Vec<u8>, AllocError>

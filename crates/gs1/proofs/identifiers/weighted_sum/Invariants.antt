@@ -1,6 +1,6 @@
 use Rattle.std.proofs.Common.{◌≡◌, ◌≤◌, ◌+◌, ◌*◌, drop}
 use Rattle.gs1.specs.Identifiers.{weighted_sum}
-use Rattle.gs1.proofs.identifiers.has_right_check_digit.Given as goal
+use Rattle.gs1.proofs.identifiers.weighted_sum.Given as goal
 
 abbrev pub invariant-loop-place : goal.invariant-loop-place
 invariant-loop-place l =
