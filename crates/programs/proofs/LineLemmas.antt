@@ -1,14 +1,14 @@
 -- Lines of the bytes that are known.
-use Rattle.std.proofs.Common.{◌≡◌, ◌≢◌, ◌<◌, ◌≤◌, ℕ, Option, None, Some, List, [], ◌∷◌, ◌++◌, All, take, length, append_assoc, append-nil, length-append}
+use Rattle.std.proofs.Common.{◌≡◌, ◌≢◌, ◌<◌, ℕ, Option, None, Some, List, [], ◌∷◌, ◌++◌, All, length, append-nil, length-append}
 use Rattle.std.proofs.Common.{arith, refl, sym, ap, ◌∙◌, true, false}
 use Rattle.std.specs.Prelude.{Result, Ok, Err, OnErr}
 use Rattle.std.proofs.BufReadLemmas.{take_through-append, drop_through-append}
 use Rattle.std.proofs.lemmas.List.Elements.{All-append}
 use Rattle.std.proofs.lemmas.Grind.{common_steps}
-use Rattle.std.specs.Io.BufRead.{first_line, first_piece, take_through, drop_through, strip_last, ends_with_byte}
+use Rattle.std.specs.Io.BufRead.{first_line, take_through, drop_through, strip_last, ends_with_byte}
 use Rattle.std.specs.Io.KnownBytes.{Consumes, IsAtEnd}
-use Rattle.programs.specs.Lines.{FirstLines, ReadsLines, ReadsPart}
-use Rattle.programs.proofs.DeviceLemmas.{Consumes-append, Consumes-none}
+use Rattle.programs.specs.Lines.{ReadsLines, ReadsPart}
+use Rattle.programs.proofs.DeviceLemmas.{Consumes-append}
 
 abbrev InLine : List ℕ → Type 0
 InLine part = All (λ byte. byte ≢ 10) part

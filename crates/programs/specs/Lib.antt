@@ -2,3 +2,4 @@ pub mod Devices
 pub mod Lines
 pub mod Outcome
 pub mod Calls
+pub mod Parts

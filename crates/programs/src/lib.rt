@@ -25,11 +25,15 @@ use std::io::ErrorKind;
 use std::{env, fmt};
 
 mod devices;
+#[cfg(test)]
+mod file_tests;
+mod files;
 mod lines;
 mod reports;
 mod runs;
 
 pub use devices::{FromReader, FromWriter, Sink, Source};
+pub use files::{WholeFile, put_file};
 pub use lines::read_line;
 pub use reports::{report, write_line};
 pub use runs::{Program, draw, run};
