@@ -29,12 +29,16 @@ mod devices;
 mod file_tests;
 mod files;
 mod lines;
+mod reasons;
 mod reports;
 mod runs;
+#[cfg(test)]
+mod tests;
 
 pub use devices::{FromReader, FromWriter, Sink, Source};
 pub use files::{WholeFile, put_file};
 pub use lines::read_line;
+pub use reasons::{reason_text, report_device};
 pub use reports::{report, write_line};
 pub use runs::{Program, draw, run};
 
