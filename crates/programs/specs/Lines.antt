@@ -1,5 +1,5 @@
 -- What is read of an input line by line, in terms of the bytes that are known before and after.
-use Rattle.std.specs.Prelude.{◌≡◌, ◌≢◌, ◌⊎◌, ◌<◌, ℕ, ⊤, Option, None, Some, List, [], ◌∷◌, length, All}
+use Rattle.std.specs.Prelude.{◌≡◌, ◌≢◌, ◌⊎◌, ◌+◌, ◌≤◌, ℕ, ⊤, Option, None, Some, List, [], ◌∷◌, length, All}
 use Rattle.std.specs.Io.BufRead.{first_line, drop_through}
 use Rattle.std.specs.Io.KnownBytes.{Consumes}
 use Rattle.qrcode_base.specs.declared.symbols.TheConstants.{LONGEST_DATA}
@@ -25,11 +25,16 @@ pub record ReadsPart (before after : Option (List ℕ)) (part : List ℕ) : Type
 -- More was read of one line than a symbol holds, whatever follows.
 pub record ReadsTooMuch (before after : Option (List ℕ)) (part : List ℕ) : Type 0 where
   pub begins : ReadsPart before after part
-  pub long : LONGEST_DATA < length part
+  pub long : length part ≡ LONGEST_DATA + 2
+
+-- This line was read, which is shorter.
+pub record ReadsShortLine (before after : Option (List ℕ)) (line : List ℕ) : Type 0 where
+  pub read : ReadsLines before after (line ∷ [])
+  pub short : length line ≤ LONGEST_DATA + 1
 
 -- This line was read, or so much of it.
 abbrev pub ReadsLine : Option (List ℕ) → Option (List ℕ) → List ℕ → Type 0
-ReadsLine before after line = ReadsLines before after (line ∷ []) ⊎ ReadsTooMuch before after line
+ReadsLine before after line = ReadsShortLine before after line ⊎ ReadsTooMuch before after line
 
 -- A part of one line was read, or nothing.
 pub record BeginsLine (before after : Option (List ℕ)) : Type 0 where

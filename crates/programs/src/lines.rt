@@ -1,7 +1,7 @@
 //! Lines of an input, one after the other.
 ghost use Rattle.std.specs.Prelude.{◌≡◌, ◌↔◌, ◌⊎◌, [], Ok, true, false};
-ghost use Rattle.std.specs.Prelude.{IsTrue, IsFalse, IfErr, OnErr, IsErrOf};
-ghost use Rattle.std.specs.Io.BufRead.{strip_last};
+ghost use Rattle.std.specs.Prelude.{IsTrue, IsFalse, IfErr, OnOk, OnErr, IsErrOf};
+ghost use Rattle.std.specs.Io.BufRead.{strip_last, DropsThrough};
 ghost use Rattle.std.specs.Io.KnownBytes.{IsAtEnd};
 ghost use Rattle.programs.specs.Lines.{ReadsLine, ReadsLines, BeginsLine};
 
@@ -44,6 +44,31 @@ pub fn read_line<R: Source>(reader: &mut R, line: &mut Vec<u8>) -> Result<bool, 
         line.push(byte[0]).map_err(AllocError::from)?;
     }
     Ok(true)
+}
+
+/// Reads up to the end of the line, and its newline. It fails with `Read` if the reader failed, and
+/// with `OutOfMemory` after 2^64 - 1 bytes.
+pub fn skip_line<R: Source>(reader: &mut R) -> Result<(), Fault>
+    requires { IsFalse (R.state reader.old).failed }
+    ensures rest { OnOk result
+        (DropsThrough (R.state reader.old).left (R.state reader.new).left 10) }
+    ensures part { OnErr result
+        (BeginsLine (R.state reader.old).left (R.state reader.new).left) }
+    ensures failure { IsErrOf result Fault.Read ↔ IsTrue (R.state reader.new).failed }
+    ensures fault { IfErr result (λ e. (e ≡ Fault.Read) ⊎ (e ≡ Fault.Symbol QrError.OutOfMemory)) }
+{
+    let mut byte = [0u8; 1];
+    'skipping: for _ in 0..u64::MAX {
+        match reader.pull(&mut byte) {
+            None => return Err(Fault::Read),
+            Some(0) => return Ok(()),
+            Some(_) => {}
+        }
+        if byte[0] == b'\n' {
+            return Ok(());
+        }
+    }
+    Err(Fault::from(AllocError))
 }
 
 /// Takes off a carriage return at the end.

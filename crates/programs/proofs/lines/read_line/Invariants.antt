@@ -1,4 +1,4 @@
-use Rattle.std.proofs.Common.{◌≡◌, ◌-◌, length, false}
+use Rattle.std.proofs.Common.{◌≡◌, ◌-◌, ◌≤◌, length, false}
 use Rattle.programs.specs.Lines.{ReadsPart}
 use Rattle.programs.proofs.lines.read_line.Given as goal
 
@@ -6,6 +6,7 @@ abbrev pub invariant-reading : goal.invariant-reading
 invariant-reading g l = record {
   part : ReadsPart (g.R.Source.state l.initial.reader).left (g.R.Source.state l.reader).left l.line.items;
   sound : (g.R.Source.state l.reader).failed ≡ false;
+  few : length l.line.items ≤ 7091;
 }
 
 abbrev pub decreases-reading : goal.decreases-reading
