@@ -1,17 +1,29 @@
 -- One label after the other.
-use Rattle.std.proofs.Common.{◌≡◌, ◌≢◌, ◌+◌, ℕ, Option, Some, None, List, [], ◌∷◌, ◌++◌, length, take, flat_map, append-nil, append_assoc, length-append}
-use Rattle.std.proofs.Common.{true, false, refl, sym, ap, ◌∙◌, arith, subst}
-use Rattle.std.proofs.lemmas.Grind.{common_steps, flat_map-append}
-use Rattle.std.specs.Io.KnownBytes.{Appends, Keeps, IsAtEnd}
-use Rattle.std.specs.Io.BufRead.{drop_through}
-use Rattle.programs.specs.Devices.{SourceState, SinkState, Output, Writes, input, output}
-use Rattle.programs.specs.Lines.{FirstLines, ReadsLines}
-use Rattle.programs.proofs.DeviceLemmas.{Appends-append, Appends-none}
+use Rattle.std.proofs.Common.{◌≡◌, ◌≢◌, ◌+◌, ◌≤◌, ℕ, Bool, ◌&&◌, Option, Some, None, List, [], ◌∷◌, ◌++◌, length, take, append-nil, append_assoc, length-append}
+use Rattle.std.proofs.Common.{◌<◌, ◌⊎◌, inl, inr, true, false, refl, sym, ap, ◌∙◌, arith, subst}
+use Rattle.std.specs.Prelude.{Result, Ok, Err, is_ok}
+use Rattle.std.proofs.lemmas.Grind.{flat_map-append}
+use Rattle.std.specs.Io.KnownBytes.{Keeps}
+use Rattle.std.specs.Io.BufRead.{drop_through, DropsThrough}
+use Rattle.programs.specs.Devices.{SourceState, SinkState, Writes, ReadsEnough, input, output}
+use Rattle.programs.specs.Lines.{FirstLines, ReadsLines, ReadsLine, BeginsLine}
+use Rattle.programs.proofs.LineLemmas.{long_line, begins_more}
+use Rattle.programs.specs.declared.Fault.{Fault as FaultOf}
+use Rattle.qrcode_base.specs.declared.symbols.TheConstants.{LONGEST_DATA}
+use Rattle.qrcode_core.specs.declared.types.errors.QrError.TheVariants.{OutOfMemory}
+use Rattle.programs.proofs.DeviceLemmas.{Appends-append, Appends-none, Writes-stopped, Writes-next}
 use Rattle.qrcode_render.specs.declared.draw_options.DrawOptions.{DrawOptions}
 use Rattle.qrlabel.specs.declared.command.Label.{Label}
 use Rattle.programs.specs.declared.Fault.TheVariants.{Symbol, Read, Write}
-use Rattle.qrlabel.specs.declared.stop.{Stop.Stop, Stop.TheVariants.Fault, Stop.TheVariants.Elements, Stop.TheVariants.Empty}
-use Rattle.qrlabel.specs.Lines.{Place, ShowEach, AreLabels, WritesEach, WritesSome, DrawsBefore, BreaksAt, IsEnded, StopsNext, WritesUntil, joined}
+use Rattle.qrlabel.specs.declared.stop.{Stop.Stop, Stop.TheVariants.Fault, Stop.TheVariants.Elements, Stop.TheVariants.Empty, Stop.TheVariants.NotAscii}
+use Rattle.qrlabel.specs.Lines.{Made, Place, GiveEach, AreLabels, WritesEach, WritesSome, DrawsBefore, BreaksAt, IsEnded, StopsNext, WritesUntil, joined, drawing_in, all_drawn, left_out}
+use Rattle.qrlabel.specs.{Stops.numbered_line, Labels.IsLabelStop, Lines.IsLeftOut, Reports.Reports, MadeOf.made_of}
+use Rattle.std.specs.Prelude.{Vec, IfOk, IfErr, OnOk, IsOk}
+use Rattle.std.specs.declared.alloc.Global.{Global}
+use Rattle.qrlabel.specs.{Lines.stream, Folders.folder, Contents.IsStopAs, Runs.IsLabelOutcome}
+use Rattle.qrlabel.specs.declared.command.Content.{Content}
+use Rattle.qrlabel.specs.declared.command.Content.TheVariants.{Auto, Text, Bytes, Gs1, Micro, MicroBytes}
+use Rattle.qrcode_core.specs.declared.options.SymbolOptions.{SymbolOptions}
 use Rattle.qrlabel.specs.{Names.Numbering, Names.numbered, FileStates.FilesState, FileStates.AddsFiles, Folders.files_of}
 
 FirstLines-append : (xs ys zs : List ℕ) (ls ms : List (List ℕ)) → FirstLines xs ls ys → FirstLines ys ms zs → FirstLines xs (ls ++ ms) zs
@@ -28,115 +40,313 @@ ReadsLines-none : (a : Option (List ℕ)) → ReadsLines a a []
 ReadsLines-none None = tt
 ReadsLines-none (Some xs) = refl
 
-ShowEach-append : (shows : List ℕ → List ℕ → Type 0) (ls ms ds es : List (List ℕ)) →
-    ShowEach shows ls ds → ShowEach shows ms es → ShowEach shows (ls ++ ms) (ds ++ es)
-ShowEach-append shows [] ms [] es h k = k
-ShowEach-append shows (l ∷ ls) ms (d ∷ ds) es h k = (h.0, ShowEach-append shows ls ms ds es h.1 k)
-ShowEach-append shows [] ms (d ∷ ds) es h k = absurd h
-ShowEach-append shows (l ∷ ls) ms [] es h k = absurd h
+GiveEach-append : (gives : List ℕ → Made → Type 0) (ls ms : List (List ℕ)) (ds es : List Made) →
+    GiveEach gives ls ds → GiveEach gives ms es → GiveEach gives (ls ++ ms) (ds ++ es)
+GiveEach-append gives [] ms [] es h k = k
+GiveEach-append gives (l ∷ ls) ms (d ∷ ds) es h k = (h.0, GiveEach-append gives ls ms ds es h.1 k)
+GiveEach-append gives [] ms (d ∷ ds) es h k = absurd h
+GiveEach-append gives (l ∷ ls) ms [] es h k = absurd h
 
-pub AreLabels-append : (label : Label) (options : DrawOptions) (a b c : Option (List ℕ)) (ds es : List (List ℕ)) →
+pub AreLabels-append : (label : Label) (options : DrawOptions) (a b c : Option (List ℕ)) (ds es : List Made) →
     AreLabels label options a b ds → AreLabels label options b c es →
     AreLabels label options a c (ds ++ es)
 AreLabels-append label options a b c ds es h k = record {
   lines = h.lines ++ k.lines;
   read = ReadsLines-append a b c h.lines k.lines h.read k.read;
-  shown = ShowEach-append _ h.lines k.lines ds es h.shown k.shown;
+  shown = GiveEach-append _ h.lines k.lines ds es h.shown k.shown;
 }
 
-joined-append : (ds : List (List ℕ)) (e : List ℕ) → joined (ds ++ e ∷ []) ≡ joined ds ++ e
-joined-append ds e = flat_map-append (λ text. text) ds (e ∷ []) ∙ ap (λ rest. joined ds ++ rest) (append-nil e)
+joined-append : (ds : List Made) (e : Made) → joined (ds ++ e ∷ []) ≡ joined ds ++ drawing_in e
+joined-append ds e = flat_map-append drawing_in ds (e ∷ []) ∙ ap (λ rest. joined ds ++ rest) (append-nil (drawing_in e))
+
+all_drawn-append : (ds : List Made) (e : Made) → all_drawn (ds ++ e ∷ []) ≡ (all_drawn ds && is_ok e)
+all_drawn-append [] (Ok d) = refl
+all_drawn-append [] (Err s) = refl
+all_drawn-append (Ok d ∷ ds) e = all_drawn-append ds e
+all_drawn-append (Err s ∷ ds) e = refl
 
 -- no line was drawn yet
-pub DrawsBefore-none : (label : Label) (options : DrawOptions) (a : Option (List ℕ)) (place : Place) → place.whole [] → DrawsBefore label options 1 a a place
+pub DrawsBefore-none : (label : Label) (options : DrawOptions) (a : Option (List ℕ)) (place : Place) → place.whole [] →
+    DrawsBefore label options true label.first a a place
 DrawsBefore-none label options a place none =
-    record { drawings = []; labels = record { lines = []; read = ReadsLines-none a; shown = tt }; counted = refl; written = none }
+    record { mades = []; labels = record { lines = []; read = ReadsLines-none a; shown = tt }; counted = omega arith; every_is = refl; written = none }
 
 -- and one line more
-pub DrawsBefore-more : (label : Label) (options : DrawOptions) (n : ℕ) (a b c : Option (List ℕ)) (old new : Place) (d : List ℕ) →
-    DrawsBefore label options n a b old → AreLabels label options b c (d ∷ []) →
-    ((ds : List (List ℕ)) → n ≡ length ds + 1 → old.whole ds → new.whole (ds ++ d ∷ [])) → DrawsBefore label options (n + 1) a c new
-DrawsBefore-more label options n a b c old new d h k more = record {
-  drawings = h.drawings ++ d ∷ [];
-  labels = AreLabels-append label options a b c h.drawings (d ∷ []) h.labels k;
-  counted = ap (λ m. m + 1) (h.counted ∙ sym (length-append h.drawings (d ∷ [])));
-  written = more h.drawings h.counted h.written;
+pub DrawsBefore-more : (label : Label) (options : DrawOptions) (every all : Bool) (n : ℕ) (a b c : Option (List ℕ)) (old new : Place) (d : Made) →
+    DrawsBefore label options every n a b old → AreLabels label options b c (d ∷ []) → all ≡ (every && is_ok d) →
+    ((ds : List Made) → n ≡ length ds + label.first → old.whole ds → new.whole (ds ++ d ∷ [])) → DrawsBefore label options all (n + 1) a c new
+DrawsBefore-more label options every all n a b c old new d h k is more = record {
+  mades = h.mades ++ d ∷ [];
+  labels = AreLabels-append label options a b c h.mades (d ∷ []) h.labels k;
+  counted = omega (arith, h.counted, length-append h.mades (d ∷ []));
+  every_is = is ∙ ap (λ e. e && is_ok d) h.every_is ∙ sym (all_drawn-append h.mades d);
+  written = more h.mades h.counted h.written;
 }
 
 -- there was no line more
-pub DrawsBefore-ended : (label : Label) (options : DrawOptions) (n : ℕ) (a b c : Option (List ℕ)) (place : Place) → DrawsBefore label options n a b place →
-    IsEnded b c → DrawsBefore label options n a c place
-DrawsBefore-ended label options n a b c place h k = record {
-  drawings = h.drawings;
-  labels = rw (append-nil h.drawings) at (AreLabels-append label options a b c h.drawings [] h.labels (record { lines = []; read = k.read; shown = tt }));
+pub DrawsBefore-ended : (label : Label) (options : DrawOptions) (every : Bool) (n : ℕ) (a b c : Option (List ℕ)) (place : Place) →
+    DrawsBefore label options every n a b place → IsEnded b c → DrawsBefore label options every n a c place
+DrawsBefore-ended label options every n a b c place h k = record {
+  mades = h.mades;
+  labels = rw (append-nil h.mades) at (AreLabels-append label options a b c h.mades [] h.labels (record { lines = []; read = k.read; shown = tt }));
   counted = h.counted;
+  every_is = h.every_is;
   written = h.written;
 }
 
 -- writing stopped at a label
-pub BreaksAt-next : (label : Label) (options : DrawOptions) (n : ℕ) (r s t : SourceState) (old new : Place) (d : List ℕ) →
-    DrawsBefore label options n r.left s.left old →
-    AreLabels label options s.left t.left (d ∷ []) → ((ds : List (List ℕ)) → old.whole ds → new.broken ds d) → BreaksAt label options n (input r t) new
-BreaksAt-next label options n r s t old new d h k breaks = record {
-  drawings = h.drawings;
+pub BreaksAt-next : (label : Label) (options : DrawOptions) (every : Bool) (n : ℕ) (r s t : SourceState) (old new : Place) (d : List ℕ) →
+    DrawsBefore label options every n r.left s.left old →
+    AreLabels label options s.left t.left (Ok d ∷ []) → ((ds : List Made) → old.whole ds → new.broken ds d) → BreaksAt label options n (input r t) new
+BreaksAt-next label options every n r s t old new d h k breaks = record {
+  mades = h.mades;
   next = d;
-  labels = AreLabels-append label options r.left s.left t.left h.drawings (d ∷ []) h.labels k;
+  labels = AreLabels-append label options r.left s.left t.left h.mades (Ok d ∷ []) h.labels k;
   counted = h.counted;
-  broken = breaks h.drawings h.written;
+  broken = breaks h.mades h.written;
 }
 
 -- there is no label of the next line
-pub writes_until : (label : Label) (options : DrawOptions) (n : ℕ) (q r s : SourceState) (place : Place) (stop : Stop) →
-    DrawsBefore label options n q.left r.left place → StopsNext label r.left s.left stop → WritesUntil label options n stop (input q s) place
-writes_until label options n q r s place (Fault Read) h k = record { left = r.left; drawn = h; stopped = k }
-writes_until label options n q r s place (Fault Write) h k = absurd k
-writes_until label options n q r s place (Fault (Symbol e)) h k = record { left = r.left; drawn = h; stopped = k }
-writes_until label options n q r s place (Elements e) h k = record { left = r.left; drawn = h; stopped = k }
-writes_until label options n q r s place Empty h k = record { left = r.left; drawn = h; stopped = k }
+pub writes_until : (label : Label) (options : DrawOptions) (every : Bool) (n : ℕ) (q r s : SourceState) (place : Place) (stop : Stop) →
+    DrawsBefore label options every n q.left r.left place → StopsNext label r.left s.left stop → WritesUntil label options n stop (input q s) place
+writes_until label options every n q r s place (Fault Read) h k = record { left = r.left; every = every; drawn = h; stopped = k }
+writes_until label options every n q r s place (Fault Write) h k = absurd k
+writes_until label options every n q r s place (Fault (Symbol e)) h k = record { left = r.left; every = every; drawn = h; stopped = k }
+writes_until label options every n q r s place (Elements e) h k = record { left = r.left; every = every; drawn = h; stopped = k }
+writes_until label options every n q r s place Empty h k = record { left = r.left; every = every; drawn = h; stopped = k }
+writes_until label options every n q r s place NotAscii h k = record { left = r.left; every = every; drawn = h; stopped = k }
 
 pub never_write : (label : Label) (a b : Option (List ℕ)) (stop : Stop) → StopsNext label a b stop → stop ≢ Fault Write
 never_write label a b stop k e = rw e at k
 
+-- ---- What is said of lines that are left out
+
+left_out-append : (n : ℕ) (ds : List Made) (e : Made) → left_out n (ds ++ e ∷ []) ≡ left_out n ds ++ left_out (n + length ds) (e ∷ [])
+left_out-append n [] e = ap (λ m. left_out m (e ∷ [])) (omega arith)
+left_out-append n (Ok d ∷ ds) e =
+    left_out-append (n + 1) ds e ∙ ap (λ m. left_out (n + 1) ds ++ left_out m (e ∷ [])) (omega arith)
+left_out-append n (Err s ∷ ds) e =
+    let line = numbered_line (record { number = n; stop = s }) in
+    ap (λ rest. line ++ rest) (left_out-append (n + 1) ds e ∙ ap (λ m. left_out (n + 1) ds ++ left_out m (e ∷ [])) (omega arith))
+    ∙ sym (append_assoc line (left_out (n + 1) ds) (left_out (n + length (Err s ∷ ds)) (e ∷ [])))
+
+left_out-drawn : (n : ℕ) (ds : List Made) (d : List ℕ) → left_out n (ds ++ Ok d ∷ []) ≡ left_out n ds
+left_out-drawn n ds d = left_out-append n ds (Ok d) ∙ append-nil (left_out n ds)
+
+left_out-more : (m n : ℕ) (ds : List Made) (s : Stop) → m ≡ length ds + n →
+    left_out n (ds ++ Err s ∷ []) ≡ left_out n ds ++ numbered_line (record { number = m; stop = s })
+left_out-more m n ds s is =
+    left_out-append n ds (Err s) ∙ ap (λ line. left_out n ds ++ line) (append-nil (numbered_line (record { number = n + length ds; stop = s }))
+    ∙ ap (λ k. numbered_line (record { number = k; stop = s })) (omega (arith, is)))
+
+-- a line more, if the sink has not failed
+says : (f : Bool) (a b c : SinkState) (xs ys : List ℕ) → b.failed ≡ f → Writes (output a b) xs →
+    (b.failed ≡ true → c ≡ b) → (b.failed ≡ false → Writes (output b c) ys) → Writes (output a c) (xs ++ ys)
+says true a b c xs ys is h silent line = rw (silent is) (Writes-stopped (output a b) xs ys is h)
+says false a b c xs ys is h silent line = Writes-next a b c xs ys is h (line is)
+
+pub said_none : (e : SinkState) (n : ℕ) → Writes (output e e) (left_out n [])
+said_none e n = record { beginning = record { count = 0; appends = Appends-none e.written }; whole = λ sound. Appends-none e.written }
+
+said_drawn : (a b : SinkState) (n : ℕ) (ds : List Made) (d : List ℕ) → Writes (output a b) (left_out n ds) → Writes (output a b) (left_out n (ds ++ Ok d ∷ []))
+said_drawn a b n ds d h = rw (left_out-drawn n ds d) h
+
+said_more : (a b c : SinkState) (m n : ℕ) (ds : List Made) (s : Stop) → m ≡ length ds + n → Writes (output a b) (left_out n ds) →
+    (b.failed ≡ true → c ≡ b) → (b.failed ≡ false → Writes (output b c) (numbered_line (record { number = m; stop = s }))) →
+    Writes (output a c) (left_out n (ds ++ Err s ∷ []))
+said_more a b c m n ds s is h silent line = rw (left_out-more m n ds s is) (says b.failed a b c _ _ refl h silent line)
+
 -- ---- One output
 
-pub stream_none : (w : SinkState) → WritesEach (output w w) []
-stream_none w = record { appends = Appends-none w.written; flushed = λ none. absurd (none refl) }
+pub stream_none : (w e : SinkState) (n : ℕ) → WritesEach (output w w) [] × Writes (output e e) (left_out n [])
+stream_none w e n = (record { appends = Appends-none w.written; flushed = λ none. absurd (none refl) }, said_none e n)
 
-pub stream_more : (u v w : SinkState) (d : List ℕ) → Writes (output v w) d → w.failed ≡ false → w.flushed ≡ w.written →
-    (ds : List (List ℕ)) → WritesEach (output u v) ds → WritesEach (output u w) (ds ++ d ∷ [])
-stream_more u v w d writes sound flushed ds h = record {
-  appends = rw (joined-append ds d) (Appends-append u.written v.written w.written (joined ds) d h.appends (writes.whole sound));
-  flushed = λ some. flushed;
-}
+pub stream_step : (u v w a b c : SinkState) (m n : ℕ) (made : Result (Vec ℕ Global) Stop) →
+    IfOk made (λ d. (c ≡ b) × Writes (output v w) d.items) → OnOk made (w.flushed ≡ w.written) → w.failed ≡ false →
+    IfErr made (λ s. (w ≡ v) × Reports b c (numbered_line (record { number = m; stop = s }))) →
+    (ds : List Made) → m ≡ length ds + n → WritesEach (output u v) ds × Writes (output a b) (left_out n ds) →
+    WritesEach (output u w) (ds ++ made_of made ∷ []) × Writes (output a c) (left_out n (ds ++ made_of made ∷ []))
+stream_step u v w a b c m n (Ok d) written flushed sound out ds is h = (
+  record {
+    appends = rw (joined-append ds (Ok d.items)) (Appends-append u.written v.written w.written (joined ds) d.items h.0.appends (written.1.whole sound));
+    flushed = λ some. flushed;
+  },
+  rw (written.0) (said_drawn a b n ds d.items h.1),
+)
+stream_step u v w a b c m n (Err s) written flushed sound out ds is h =
+    let same : joined (ds ++ Err s ∷ []) ≡ joined ds = joined-append ds (Err s) ∙ append-nil (joined ds) in (
+      rw (out.0) (record { appends = rw same h.0.appends; flushed = λ some. h.0.flushed (rw same at some) }),
+      said_more a b c m n ds s is h.1 out.1.silent out.1.said,
+    )
 
-pub stream_breaks : (u v w : SinkState) (d : List ℕ) → Writes (output v w) d → (ds : List (List ℕ)) → WritesEach (output u v) ds → WritesSome (output u w) ds d
-stream_breaks u v w d writes ds h = record {
-  count = writes.beginning.count;
-  appends = Appends-append u.written v.written w.written (joined ds) (take writes.beginning.count d) h.appends writes.beginning.appends;
-}
+pub stream_breaks : (u v w a b : SinkState) (n : ℕ) (d : List ℕ) → Writes (output v w) d →
+    (ds : List Made) → WritesEach (output u v) ds × Writes (output a b) (left_out n ds) → WritesSome (output u w) ds d × Writes (output a b) (left_out n ds)
+stream_breaks u v w a b n d writes ds h = (
+  record {
+    count = writes.beginning.count;
+    appends = Appends-append u.written v.written w.written (joined ds) (take writes.beginning.count d) h.0.appends writes.beginning.appends;
+  },
+  h.1,
+)
 
 -- ---- A file for each
 
-files_more : (name : Numbering) (n : ℕ) (ds : List (List ℕ)) (d : List ℕ) →
-    files_of name n (ds ++ d ∷ []) ≡ files_of name n ds ++ (numbered name (n + length ds), d) ∷ []
-files_more name n [] d = ap (λ m. (numbered name m, d) ∷ []) (omega arith)
-files_more name n (e ∷ ds) d = rw (files_more name (n + 1) ds d) (grind arith)
-
-pub folder_none : (name : Numbering) (f : FilesState) → AddsFiles f.files f.files (files_of name 1 [])
-folder_none name f = grind (arith, append-nil)
+files_more : (name : Numbering) (n : ℕ) (ds : List Made) (e : Made) →
+    files_of name n (ds ++ e ∷ []) ≡ files_of name n ds ++ files_of name (n + length ds) (e ∷ [])
+files_more name n [] e = ap (λ m. files_of name m (e ∷ [])) (omega arith)
+files_more name n (Ok d ∷ ds) e =
+    ap (λ rest. (numbered name n, d) ∷ rest)
+    (files_more name (n + 1) ds e ∙ ap (λ m. files_of name (n + 1) ds ++ files_of name m (e ∷ [])) (omega arith))
+files_more name n (Err s ∷ ds) e =
+    files_more name (n + 1) ds e ∙ ap (λ m. files_of name (n + 1) ds ++ files_of name m (e ∷ [])) (omega arith)
 
 adds_append : (a b c : Option (List (List ℕ × List ℕ))) (fs gs : List (List ℕ × List ℕ)) → AddsFiles a b fs → AddsFiles b c gs → AddsFiles a c (fs ++ gs)
 adds_append a b c fs gs h k = grind (arith, append_assoc)
 
-pub folder_more : (name : Numbering) (n : ℕ) (e f g : FilesState) (d : List ℕ) → AddsFiles f.files g.files ((numbered name n, d) ∷ []) →
-    (ds : List (List ℕ)) → n ≡ length ds + 1 → AddsFiles e.files f.files (files_of name 1 ds) → AddsFiles e.files g.files (files_of name 1 (ds ++ d ∷ []))
-folder_more name n e f g d adds ds is h =
-    let last = subst (λ m. AddsFiles f.files g.files ((numbered name m, d) ∷ [])) (is ∙ omega arith) adds in
-    rw (files_more name 1 ds d) (adds_append e.files f.files g.files (files_of name 1 ds) _ h last)
+pub folder_none : (name : Numbering) (f : FilesState) (e : SinkState) (n : ℕ) →
+    AddsFiles f.files f.files (files_of name n []) × Writes (output e e) (left_out n [])
+folder_none name f e n = (grind (arith, append-nil), said_none e n)
 
-pub folder_breaks : (name : Numbering) (e f g : FilesState) → AddsFiles f.files g.files [] → (ds : List (List ℕ)) →
-    AddsFiles e.files f.files (files_of name 1 ds) →
-    AddsFiles e.files g.files (files_of name 1 ds)
-folder_breaks name e f g adds ds h = rw (append-nil (files_of name 1 ds)) at (adds_append e.files f.files g.files (files_of name 1 ds) [] h adds)
+pub folder_step : (name : Numbering) (m n : ℕ) (e f g : FilesState) (a b c : SinkState) (made : Result (Vec ℕ Global) Stop) →
+    IfOk made (λ d. (c ≡ b) × AddsFiles f.files g.files ((numbered name m, d.items) ∷ [])) →
+    IfErr made (λ s. (g ≡ f) × Reports b c (numbered_line (record { number = m; stop = s }))) →
+    (ds : List Made) → m ≡ length ds + n → AddsFiles e.files f.files (files_of name n ds) × Writes (output a b) (left_out n ds) →
+    AddsFiles e.files g.files (files_of name n (ds ++ made_of made ∷ [])) × Writes (output a c) (left_out n (ds ++ made_of made ∷ []))
+folder_step name m n e f g a b c (Ok d) put out ds is h =
+    let last = subst (λ k. AddsFiles f.files g.files ((numbered name k, d.items) ∷ [])) (is ∙ omega arith) put.1 in (
+      rw (files_more name n ds (Ok d.items)) (adds_append e.files f.files g.files (files_of name n ds) _ h.0 last),
+      rw (put.0) (said_drawn a b n ds d.items h.1),
+    )
+folder_step name m n e f g a b c (Err s) put out ds is h =
+    let same : files_of name n (ds ++ Err s ∷ []) ≡ files_of name n ds = files_more name n ds (Err s) ∙ append-nil (files_of name n ds) in
+    (rw (out.0) (rw same h.0), said_more a b c m n ds s is h.1 out.1.silent out.1.said)
+
+pub folder_breaks : (name : Numbering) (n : ℕ) (e f g : FilesState) (a b : SinkState) → AddsFiles f.files g.files [] →
+    (ds : List Made) → AddsFiles e.files f.files (files_of name n ds) × Writes (output a b) (left_out n ds) →
+    AddsFiles e.files g.files (files_of name n ds) × Writes (output a b) (left_out n ds)
+folder_breaks name n e f g a b adds ds h =
+    (rw (append-nil (files_of name n ds)) at (adds_append e.files f.files g.files (files_of name n ds) [] h.0 adds), h.1)
+
+-- ---- One line
+
+-- it was read whole, or more of it than a symbol holds, and its rest
+pub left_out_short : (label : Label) (options : DrawOptions) (a b : Option (List ℕ)) (line : List ℕ) (stop : Stop) →
+    ReadsLine a b line → length line ≤ LONGEST_DATA + 1 → IsLeftOut label line stop → AreLabels label options a b (Err stop ∷ [])
+left_out_short label options a b line stop (inl h) short is = record { lines = line ∷ []; read = h.read; shown = (is, tt) }
+left_out_short label options a b line stop (inr h) short is = absurd (omega (arith, h.long, short))
+
+long_stop : (label : Label) (part line : List ℕ) (stop : Stop) → LONGEST_DATA < length part → LONGEST_DATA < length line →
+    IsLabelStop label part stop → IsLabelStop label line stop
+long_stop label part line stop long longer (inl h) = inl (longer, h.1)
+long_stop label part line stop long longer (inr h) = absurd (omega (arith, long, h.short))
+
+pub left_out_long : (label : Label) (options : DrawOptions) (a b c : Option (List ℕ)) (part : List ℕ) (stop : Stop) →
+    ReadsLine a b part → LONGEST_DATA + 1 < length part → DropsThrough b c 10 → IsLeftOut label part stop → AreLabels label options a c (Err stop ∷ [])
+left_out_long label options a b c part stop (inl h) long rest is = absurd (omega (arith, long, h.short))
+left_out_long label options a b c part stop (inr h) long rest is =
+    let whole = long_line a b c part h rest in record {
+      lines = whole.0 ∷ [];
+      read = whole.1;
+      shown = (
+        record {
+          asked = is.asked;
+          stopped = long_stop label part whole.0 stop (omega (arith, long)) whole.2 is.stopped;
+          of_line = is.of_line;
+        },
+        tt,
+      );
+    }
+
+-- reading failed in the rest of a line
+begins_long : (a b c : Option (List ℕ)) (part : List ℕ) → ReadsLine a b part → LONGEST_DATA + 1 < length part → BeginsLine b c → BeginsLine a c
+begins_long a b c part (inl h) long more = absurd (omega (arith, long, h.short))
+begins_long a b c part (inr h) long more = begins_more a b c part h.begins more
+
+pub stops_long : (label : Label) (a b c : Option (List ℕ)) (part : List ℕ) (fault : FaultOf) → ReadsLine a b part → LONGEST_DATA + 1 < length part →
+    BeginsLine b c → (fault ≡ Read) ⊎ (fault ≡ Symbol OutOfMemory) → StopsNext label a c (Fault fault)
+stops_long label a b c part fault h long more (inl is) = rw is (begins_long a b c part h long more)
+stops_long label a b c part fault h long more (inr is) = rw is (λ other. absurd (other refl))
+
+pub drawn_is : (made : Result (Vec ℕ Global) Stop) → is_ok (made_of made) ≡ is_ok made
+drawn_is (Ok d) = refl
+drawn_is (Err s) = refl
+
+-- writing stopped at what came of a line, which is a label
+pub stream_stops : (label : Label) (options : DrawOptions) (every : Bool) (m : ℕ) (r s t : SourceState) (u v w a b c : SinkState) (n : ℕ)
+    (made : Result (Vec ℕ Global) Stop) → DrawsBefore label options every m r.left s.left (stream (output u v) n (output a b)) →
+    AreLabels label options s.left t.left (made_of made ∷ []) → IsOk made →
+    IfOk made (λ d. (c ≡ b) × Writes (output v w) d.items) → BreaksAt label options m (input r t) (stream (output u w) n (output a c))
+stream_stops label options every m r s t u v w a b c n (Ok d) h k ok written =
+    rw (written.0) (BreaksAt-next label options every m r s t (stream (output u v) n (output a b)) (stream (output u w) n (output a b)) d.items h k
+    (stream_breaks u v w a b n d.items written.1))
+stream_stops label options every m r s t u v w a b c n (Err e) h k ok written = absurd (grind (arith, ok))
+
+pub folder_stops : (label : Label) (options : DrawOptions) (every : Bool) (m : ℕ) (r s t : SourceState) (name : Numbering) (e f g : FilesState)
+    (a b c : SinkState) (n : ℕ) (made : Result (Vec ℕ Global) Stop) →
+    DrawsBefore label options every m r.left s.left (folder e f n name (output a b)) → AreLabels label options s.left t.left (made_of made ∷ []) →
+    IsOk made → c ≡ b → AddsFiles f.files g.files [] → BreaksAt label options m (input r t) (folder e g n name (output a c))
+folder_stops label options every m r s t name e f g a b c n (Ok d) h k ok same adds =
+    rw same (BreaksAt-next label options every m r s t (folder e f n name (output a b)) (folder e g n name (output a b)) d.items h k
+    (folder_breaks name n e f g a b adds))
+folder_stops label options every m r s t name e f g a b c n (Err x) h k ok same adds = absurd (grind (arith, ok))
+
+-- a file could not be written, or its name could not be made
+pub folder_fails : (label : Label) (options : DrawOptions) (every : Bool) (m : ℕ) (r s t : SourceState) (name : Numbering) (e f g : FilesState)
+    (a b c : SinkState) (n : ℕ) (made : Result (Vec ℕ Global) Stop) (stop : Stop) →
+    DrawsBefore label options every m r.left s.left (folder e f n name (output a b)) → AreLabels label options s.left t.left (made_of made ∷ []) →
+    IsOk made → c ≡ b → AddsFiles f.files g.files [] →
+    ((stop ≡ Fault Write) × (g.failed ≡ true)) ⊎ ((stop ≡ Fault (Symbol OutOfMemory)) × (g ≡ f)) →
+    WritesUntil label options m stop (input r t) (folder e g n name (output a c))
+folder_fails label options every m r s t name e f g a b c n made stop h k ok same adds (inl is) =
+    rw (is.0) (folder_stops label options every m r s t name e f g a b c n made h k ok same adds)
+folder_fails label options every m r s t name e f g a b c n made stop h k ok same adds (inr is) =
+    rw (is.0, is.1, same) (record { left = s.left; every = every; drawn = h; stopped = λ other. absurd (other refl) })
+
+-- ---- What is written
+
+pub said_at_end : (f : Bool) (b c : SinkState) (line : List ℕ) → b.failed ≡ f → (b.failed ≡ true → c ≡ b) →
+    (b.failed ≡ false → Writes (output b c) line) → Writes (output b c) line
+said_at_end true b c line is silent told = rw (silent is) (record {
+  beginning = record { count = 0; appends = Appends-none b.written };
+  whole = λ sound. absurd (cc);
+})
+said_at_end false b c line is silent told = told is
+
+pub nothing_said : (e : SinkState) → Writes (output e e) []
+nothing_said e = record { beginning = record { count = 0; appends = Appends-none e.written }; whole = λ sound. Appends-none e.written }
+
+-- ---- Why there is no label
+
+keeps : (a : Option (List ℕ)) → Keeps a a
+keeps None = tt
+keeps (Some xs) = refl
+
+neither : (content : Content) (options : SymbolOptions) (bytes : List ℕ) (fault : FaultOf) → (fault ≡ Read) ⊎ (fault ≡ Write) →
+    IsStopAs content options bytes (Fault fault) → ⊥
+neither Auto options bytes fault is h = grind (arith, is, h)
+neither Text options bytes fault is h = grind (arith, is, h)
+neither Bytes options bytes fault is h = grind (arith, is, h)
+neither Gs1 options bytes fault is h = grind (arith, is, h)
+neither Micro options bytes fault is h = grind (arith, is, h)
+neither MicroBytes options bytes fault is h = grind (arith, is, h)
+
+no_device : (label : Label) (bytes : List ℕ) (fault : FaultOf) → (fault ≡ Read) ⊎ (fault ≡ Write) → IsLabelStop label bytes (Fault fault) → ⊥
+no_device label bytes fault is (inl h) = grind (arith, is, h.1)
+no_device label bytes fault is (inr h) = grind (arith, is, h.stopped, neither label.content label.symbol h.content fault is)
+
+-- nothing was written where there is no label
+pub writes_none : (label : Label) (options : DrawOptions) (r s : SourceState) (w : SinkState) (bytes : List ℕ) (stop : Stop) →
+    ReadsEnough (input r s) bytes → IsLabelStop label bytes stop → s.failed ≡ false → w.failed ≡ false →
+    IsLabelOutcome label options (input r s) (output w w) (Err stop)
+writes_none label options r s w bytes (Fault Read) read is sound whole = absurd (no_device label bytes Read (inl refl) is)
+writes_none label options r s w bytes (Fault Write) read is sound whole = absurd (no_device label bytes Write (inr refl) is)
+writes_none label options r s w bytes (Fault (Symbol e)) read is sound whole =
+    record { writes = ((λ other. record { bytes = bytes; read = read; stopped = is }), keeps w.written); read = grind (arith, sound); write = grind (arith, whole) }
+writes_none label options r s w bytes (Elements e) read is sound whole =
+    record { writes = ((λ other. record { bytes = bytes; read = read; stopped = is }), keeps w.written); read = grind (arith, sound); write = grind (arith, whole) }
+writes_none label options r s w bytes Empty read is sound whole =
+    record { writes = ((λ other. record { bytes = bytes; read = read; stopped = is }), keeps w.written); read = grind (arith, sound); write = grind (arith, whole) }
+writes_none label options r s w bytes NotAscii read is sound whole =
+    record { writes = ((λ other. record { bytes = bytes; read = read; stopped = is }), keeps w.written); read = grind (arith, sound); write = grind (arith, whole) }
 
 pub ruleset drawn = (DrawsBefore-none, DrawsBefore-ended, stream_none, folder_none)

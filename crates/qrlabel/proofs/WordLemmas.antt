@@ -1,9 +1,9 @@
 -- Values by their numbers.
 use Rattle.std.proofs.Common.{◌≡◌, ◌↔◌, ℕ, Bool, true, ◌<◌, List, length, map, slice_set, slice_index_or, arith, Bor, refl, ap, zero, suc}
-use Rattle.std.proofs.Common.{[], ◌∷◌, take, drop, ◌+◌, ◌-◌, sym, subst, ◌∙◌, bytes_eq}
+use Rattle.std.proofs.Common.{[], ◌∷◌, take, drop, ◌+◌, ◌-◌, sym, subst, bytes_eq}
 use Rattle.std.specs.Prelude.{Option, Some, None, MatchOption, set, get_or}
 use Rattle.std.specs.Option.{option_copied}
-use Rattle.std.specs.Prelude.{Result, Ok, Err}
+use Rattle.std.specs.Prelude.{Ok, Err}
 use Rattle.std.specs.Char.{to_ascii_lowercase}
 use Rattle.qrlabel.specs.Commands.{has_ending}
 use Rattle.std.specs.Str.Pattern.{StripsPrefix, FindsTextPrefix, LacksTextAt}

@@ -50,7 +50,10 @@ label_of drawn = record {
   format = drawn.format;
   wishes = wishes_of drawn.settings;
   allow_empty = drawn.allow_empty;
+  trims = drawn.trims;
   portion = portion_of drawn.portion;
+  first = drawn.first;
+  keeps_going = drawn.keeps_going;
 }
 
 abbrev pub label_outcome : Result Drawn Misuse → Result Label Wrong

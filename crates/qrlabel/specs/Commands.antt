@@ -1,25 +1,28 @@
 -- What the values of the options ask for: help, the version, or a label.
-use Rattle.std.specs.Prelude.{ℕ, ◌-◌, ◌==◌, nat_le, ℤ, pos, nat_abs, Bool, true, false, ◌&&◌, not, if◌then◌else◌, codes}
-use Rattle.std.specs.Prelude.{List, [], ◌∷◌, length, drop, map, Option, None, Some, option_and_then, unwrap_or}
+use Rattle.std.specs.Prelude.{ℕ, ◌-◌, ◌*◌, ◌/◌, nat_le, ℤ, pos, nat_abs, Bool, true, false, ◌&&◌, not, if◌then◌else◌, codes}
+use Rattle.std.specs.Prelude.{List, [], ◌∷◌, length, drop, map, Option, None, Some, option_and_then, unwrap_or, is_some}
 use Rattle.std.specs.Prelude.{Result, Ok, Err}
 use Rattle.std.specs.Char.{to_ascii_lowercase}
 use Rattle.std.specs.Str.{bytes_eq}
 use Rattle.qrcode_core.specs.declared.options.SymbolOptions.{SymbolOptions}
 use Rattle.qrcode_core.specs.declared.types.EcLevel.{EcLevel}
 use Rattle.qrcode_core.specs.declared.types.EcLevel.TheVariants.{L, M, Q, H}
-use Rattle.qrcode_render.specs.declared.bounds.TheConstants.{MICRO_QUIET}
+use Rattle.qrcode_render.specs.declared.bounds.TheConstants.{MICRO_QUIET, MIN_SCALE, MAX_SCALE}
+use Rattle.qrcode_render.specs.declared.bounds.TheConstants.{MIN_DPI, MAX_DPI, MIN_MODULE_MM, MAX_MODULE_MM}
 use Rattle.qrcode_render.specs.declared.format.Format.{Format as FormatOf}
 use Rattle.qrcode_render.specs.declared.format.Format.TheVariants.{Terminal, Svg, Png, Pbm, Eps, EscPos, Zpl}
 use Rattle.qrlabel.specs.declared.command.Content.{Content as ContentOf}
-use Rattle.qrlabel.specs.declared.command.Content.TheVariants.{Auto, Text as TextOf, Bytes, Gs1, Micro}
+use Rattle.qrlabel.specs.declared.command.Content.TheVariants.{Auto, Text as TextOf, Bytes, Gs1, Micro, MicroBytes}
 use Rattle.qrlabel.specs.declared.words.Name.{Name}
 use Rattle.qrlabel.specs.declared.words.Name.TheVariants.{Text, Format, Content, Level, Strongest}
 use Rattle.qrlabel.specs.declared.words.Name.TheVariants.{MinVersion, MaxVersion, Scale, Quiet}
 use Rattle.qrlabel.specs.declared.words.Name.TheVariants.{ModuleMm, Dpi, Inverted, Title, At, Read}
 use Rattle.qrlabel.specs.declared.words.Name.TheVariants.{Output, AllowEmpty, Help, Version, Lines}
+use Rattle.qrlabel.specs.declared.words.Name.TheVariants.{First, KeepGoing, KeepNewline}
 use Rattle.qrlabel.specs.Names.{Numbering, numbering_in}
-use Rattle.qrlabel.specs.Numbers.{number_in, hundredths_in, place_in}
+use Rattle.qrlabel.specs.Numbers.{number_in, hundredths_in, place_in, halves}
 use Rattle.qrlabel.specs.Words.{among, Values, value_of, file_of, is_given, Wrong, invalid}
+use Rattle.qrlabel.specs.Words.{needs_stream, needs_file}
 
 infixl 20 ◌>>=◌
 -- One thing after another, up to the first that is wrong.
@@ -37,7 +40,7 @@ level_named =
 abbrev pub content_named : List ℕ → Option ContentOf
 content_named =
     among ((codes "auto", Auto) ∷ (codes "text", TextOf) ∷ (codes "bytes", Bytes) ∷ (codes "gs1", Gs1)
-    ∷ (codes "micro", Micro) ∷ [])
+    ∷ (codes "micro", Micro) ∷ (codes "micro-bytes", MicroBytes) ∷ [])
 
 abbrev pub format_named : List ℕ → Option FormatOf
 format_named =
@@ -152,10 +155,56 @@ abbrev pub ranged : SymbolOptions → Result SymbolOptions Wrong
 ranged options =
     if nat_le (nat_abs options.min_version) (nat_abs options.max_version) then Ok options else Err (invalid MaxVersion)
 
+-- Whether the symbol is a Micro QR symbol.
+abbrev pub is_micro : ContentOf → Bool
+is_micro Micro = true
+is_micro MicroBytes = true
+is_micro _ = false
+
 -- The quiet zone of a Micro symbol is narrower, if no width is given.
 abbrev pub zoned : ContentOf → Wishes → Wishes
-zoned Micro wishes = record wishes { quiet = Some (unwrap_or wishes.quiet MICRO_QUIET) }
-zoned _ wishes = wishes
+zoned content wishes =
+    if is_micro content then record wishes { quiet = Some (unwrap_or wishes.quiet MICRO_QUIET) } else wishes
+
+-- Whether a printer or a screen draws a format in dots.
+abbrev pub has_dots : FormatOf → Bool
+has_dots Png = true
+has_dots EscPos = true
+has_dots Zpl = true
+has_dots _ = false
+
+abbrev pub is_png : FormatOf → Bool
+is_png Png = true
+is_png _ = false
+
+-- The whole dots of a module of a size, in hundredths of a millimetre, at a resolution in dots of an
+-- inch, which is 25.4 mm.
+abbrev pub scale_of : ℕ → Result ℕ Wrong
+scale_of dots = if nat_le MIN_SCALE dots && nat_le dots MAX_SCALE then Ok dots else Err (invalid ModuleMm)
+
+abbrev pub dots_asked : ℕ → ℕ → Result ℕ Wrong
+dots_asked module_mm dpi =
+    if not (nat_le MIN_DPI dpi && nat_le dpi MAX_DPI) then Err (invalid Dpi)
+    else (if not (nat_le MIN_MODULE_MM module_mm && nat_le module_mm MAX_MODULE_MM) then Err (invalid ModuleMm)
+    else scale_of (module_mm * dpi / 2540))
+
+-- The scale that a size and a resolution give, where they are given for a format of dots.
+abbrev pub printed : FormatOf → ℕ → ℕ → Wishes → Result Wishes Wrong
+printed format module_mm dpi wishes =
+    if not (has_dots format) then Ok wishes
+    else (if is_some wishes.scale then Err (invalid Scale)
+    else (dots_asked module_mm dpi >>= (λ dots. Ok (record wishes {
+      scale = Some dots;
+      module_mm = None;
+      dpi = if is_png format then Some dpi else None;
+    }))))
+
+abbrev pub in_dots : FormatOf → Wishes → Result Wishes Wrong
+in_dots format wishes =
+    elim wishes.module_mm [
+      | Some module_mm ↦ elim wishes.dpi [ Some dpi ↦ printed format module_mm dpi wishes | None ↦ Ok wishes ]
+      | None ↦ Ok wishes
+    ]
 
 -- The level, the versions, and whether the level is raised.
 abbrev pub symbol_asked : Values → Result SymbolOptions Wrong
@@ -165,13 +214,19 @@ symbol_asked values = do
   most ← version_asked MaxVersion (pos 40) values
   ranged (record { level = level; min_version = least; max_version = most; strongest = is_given values Strongest })
 
--- No option is given that a Micro symbol does not have.
-abbrev pub micro_asked : ContentOf → Values → Result (Unit {0}) Wrong
-micro_asked Micro values =
-    if is_given values Strongest then Err (invalid Strongest)
+-- A Micro symbol has no level H (ISO/IEC 18004:2006, "Error correction").
+abbrev pub is_h : EcLevel → Bool
+is_h H = true
+is_h _ = false
+
+-- No level or option is given that a Micro symbol does not have.
+abbrev pub micro_asked : ContentOf → EcLevel → Values → Result (Unit {0}) Wrong
+micro_asked content level values =
+    if not (is_micro content) then Ok tt
+    else (if is_h level then Err (invalid Level)
+    else (if is_given values Strongest then Err (invalid Strongest)
     else (if is_given values MinVersion then Err (invalid MinVersion)
-    else (if is_given values MaxVersion then Err (invalid MaxVersion) else Ok tt))
-micro_asked _ values = Ok tt
+    else (if is_given values MaxVersion then Err (invalid MaxVersion) else Ok tt))))
 
 -- Whether pictures of a format can follow each other in one output.
 abbrev pub is_stream : FormatOf → Bool
@@ -192,42 +247,102 @@ pub data Portion : Type 0 where
 abbrev pub numbered_output : Values → Option Numbering
 numbered_output values = option_and_then numbering_in (value_of values Output)
 
+-- Whether the name of the output has a percent sign.
+abbrev pub has_percent : Values → Bool
+has_percent values = is_some (option_and_then (halves 37) (value_of values Output))
+
+-- The pictures follow each other, if they can. A percent sign is that of a number only.
+abbrev pub stream_asked : FormatOf → Values → Result Portion Wrong
+stream_asked format values =
+    if has_percent values then Err (invalid Output)
+    else (if is_stream format then Ok lines else Err needs_stream)
+
 -- Lines are those of an input, and not of a text. Each has a file if the output's name has a
--- number, else their pictures follow each other.
+-- number, which it has for lines only; else their pictures follow each other.
 abbrev pub portion_asked : FormatOf → Values → Result Portion Wrong
 portion_asked format values =
-    if not (is_given values Lines) then Ok whole
+    if not (is_given values Lines) then
+    (if is_some (numbered_output values) then Err (invalid Output) else Ok whole)
     else (if is_given values Text then Err (invalid Lines)
-    else elim (numbered_output values) [
-      | Some name ↦ Ok (files name)
-      | None ↦ (if is_stream format then Ok lines else Err (invalid Lines))
-    ])
+    else elim (numbered_output values) [ Some name ↦ Ok (files name) | None ↦ stream_asked format values ])
+
+-- Whether pictures of a format are a text.
+abbrev pub is_text : FormatOf → Bool
+is_text Png = false
+is_text Pbm = false
+is_text EscPos = false
+is_text _ = true
+
+-- No bytes but a text are written on a terminal, unless the words name the output.
+abbrev pub terminal_asked : Bool → FormatOf → Values → Result (Unit {0}) Wrong
+terminal_asked on_terminal format values =
+    if on_terminal && (not (is_text format) && not (is_given values Output)) then Err needs_file else Ok tt
+
+-- The number of the first line.
+abbrev pub first_in : Values → List ℕ → Option ℕ
+first_in values word =
+    elim (number_in word) [
+      | Some n ↦ (if nat_le n 1000000000 && is_given values Lines then Some n else None)
+      | None ↦ None
+    ]
+
+abbrev pub first_asked : Values → Result ℕ Wrong
+first_asked values = asked_or (first_in values) 1 First values
+
+-- Whether a line that has no label is left out.
+abbrev pub keeps_going_asked : Values → Result Bool Wrong
+keeps_going_asked values =
+    if is_given values KeepGoing && not (is_given values Lines) then Err (invalid KeepGoing)
+    else Ok (is_given values KeepGoing)
+
+-- Whether a text of a content has no byte order mark and no newline at its end. Bytes are drawn as
+-- they are.
+abbrev pub is_trimmed : ContentOf → Bool
+is_trimmed Bytes = false
+is_trimmed MicroBytes = false
+is_trimmed _ = true
+
+-- A text that is read is trimmed, unless its newline is to be kept.
+abbrev pub trims_asked : ContentOf → Values → Bool
+trims_asked content values =
+    is_trimmed content && (not (is_given values Text) && not (is_given values KeepNewline))
 
 -- A label: what its symbol says, how the symbol is chosen, its picture, whether an input with no
--- bytes is drawn, and what of the input it shows.
+-- bytes is drawn, whether a text is trimmed, what of the input the label shows, the number of the
+-- first line, and whether a line that has no label is left out.
 pub record Label : Type 0 where
   pub content : ContentOf
   pub symbol : SymbolOptions
   pub format : FormatOf
   pub wishes : Wishes
   pub allow_empty : Bool
+  pub trims : Bool
   pub portion : Portion
+  pub first : ℕ
+  pub keeps_going : Bool
 
 abbrev pub label_asked : Bool → Values → Result Label Wrong
 label_asked on_terminal values = do
   content ← content_asked values
   symbol ← symbol_asked values
-  micro ← micro_asked content values
+  micro ← micro_asked content symbol.level values
   format ← format_asked on_terminal values
+  text ← terminal_asked on_terminal format values
   portion ← portion_asked format values
-  wishes ← settings_asked values
+  first ← first_asked values
+  keeps_going ← keeps_going_asked values
+  given ← settings_asked values
+  wishes ← in_dots format given
   Ok (record {
     content = content;
     symbol = symbol;
     format = format;
     wishes = zoned content wishes;
     allow_empty = is_given values AllowEmpty;
+    trims = trims_asked content values;
     portion = portion;
+    first = first;
+    keeps_going = keeps_going;
   })
 
 -- What the words ask for.

@@ -1,10 +1,12 @@
 -- The symbol of a label, by what its bytes are.
 use Rattle.std.specs.Prelude.{◌≡◌, ◌⊎◌, ℕ, ◌<◌, ◌≤◌, nat_lt, ◌==◌, Bool, true, false, ◌&&◌, List, length}
-use Rattle.std.specs.Prelude.{slice_index, slice_get, None, Some}
+use Rattle.std.specs.Prelude.{slice_index, slice_get, drop, None, Some, if◌then◌else◌}
 use Rattle.std.specs.List.{list_all}
+use Rattle.std.specs.Io.BufRead.{ends_with_byte, strip_last}
 use Rattle.std.specs.Str.{IsUtf8, IsValidUpTo}
 use Rattle.gs1.specs.Elements.{written_elements, IsRefusedText}
 use Rattle.gs1.specs.Reader.{FindsOnly}
+use Rattle.gs1.specs.Strings.{AreFaultless, IsRefusedString}
 use Rattle.programs.specs.declared.Fault.TheVariants.{Symbol}
 use Rattle.qrcode_base.specs.declared.symbols.TheConstants.{LONGEST_DATA}
 use Rattle.qrcode_bits.specs.Frame.{front_of, no_front}
@@ -14,12 +16,13 @@ use Rattle.qrcode_core.specs.Headline.{IsBestMicroSymbol}
 use Rattle.qrcode_core.specs.Options.{IsAsAsked, IsOptionsRefusal, IsElementsOptionsRefusal}
 use Rattle.qrcode_core.specs.declared.options.SymbolOptions.{SymbolOptions}
 use Rattle.qrcode_core.specs.declared.types.Color.{Color}
+use Rattle.qrcode_core.specs.declared.types.EcLevel.{EcLevel}
 use Rattle.qrcode_core.specs.declared.types.errors.QrError.{QrError}
 use Rattle.qrcode_core.specs.declared.types.errors.QrError.TheVariants.{DataTooLong, InvalidCharacter}
 use Rattle.qrlabel.specs.declared.command.Content.{Content}
-use Rattle.qrlabel.specs.declared.command.Content.TheVariants.{Auto, Text, Bytes, Gs1, Micro}
+use Rattle.qrlabel.specs.declared.command.Content.TheVariants.{Auto, Text, Bytes, Gs1, Micro, MicroBytes}
 use Rattle.qrlabel.specs.declared.stop.Stop.{Stop}
-use Rattle.qrlabel.specs.declared.stop.Stop.TheVariants.{Fault, Elements}
+use Rattle.qrlabel.specs.declared.stop.Stop.TheVariants.{Fault, Elements, NotAscii}
 
 -- Whether all bytes are ASCII.
 abbrev pub is_ascii : List ℕ → Bool
@@ -28,6 +31,27 @@ is_ascii bytes = list_all (λ byte. nat_lt byte 128) bytes
 -- Whether the bytes begin with an opening bracket.
 abbrev pub is_bracketed : List ℕ → Bool
 is_bracketed bytes = nat_lt 0 (length bytes) && (slice_index bytes 0 == 40)
+
+-- ---- What of the bytes is content
+
+-- The byte order mark of UTF-8.
+abbrev pub begins_with_mark : List ℕ → Bool
+begins_with_mark bytes =
+    (slice_index bytes 0 == 0xEF) && (slice_index bytes 1 == 0xBB) && (slice_index bytes 2 == 0xBF)
+
+abbrev pub without_mark : List ℕ → List ℕ
+without_mark bytes = if begins_with_mark bytes then drop 3 bytes else bytes
+
+-- One newline at the end, with a carriage return before it.
+abbrev pub without_newline : List ℕ → List ℕ
+without_newline bytes =
+    if ends_with_byte 10 bytes then strip_last 13 (strip_last 10 bytes) else bytes
+
+-- What of the bytes is content: of a text that is trimmed, not its byte order mark and its newline.
+abbrev pub IsContent : Bool → List ℕ → List ℕ → Type 0
+IsContent trims bytes content =
+    ((trims ≡ true) × IsUtf8 bytes × (content ≡ without_newline (without_mark bytes)))
+    ⊎ (((trims ≡ false) ⊎ (IsUtf8 bytes → ⊥)) × (content ≡ bytes))
 
 -- ---- Text
 
@@ -84,20 +108,40 @@ IsBracketedStop options bytes (Fault (Symbol error)) =
     × IsElementsOptionsRefusal options (front_of None ElementsFront) elements error)
 IsBracketedStop options bytes _ = ⊥
 
+-- A reader of element strings finds elements in the bytes, no others, and none of them has a fault.
+pub record IsStringSymbol (options : SymbolOptions) (bytes : List ℕ) (grid : List Color) : Type 0 where
+  pub faultless : AreFaultless bytes
+  pub asked : IsAsAsked options (front_of None ElementsFront) bytes grid
+
+abbrev pub IsStringStop : SymbolOptions → List ℕ → Stop → Type 0
+IsStringStop options bytes (Elements error) = IsRefusedString bytes error
+IsStringStop options bytes (Fault (Symbol error)) =
+    AreFaultless bytes × IsElementsOptionsRefusal options (front_of None ElementsFront) bytes error
+IsStringStop options bytes _ = ⊥
+
 abbrev pub IsGs1Symbol : SymbolOptions → List ℕ → List Color → Type 0
 IsGs1Symbol options bytes grid =
     ((is_bracketed bytes ≡ true) × IsBracketedSymbol options bytes grid)
-    ⊎ ((is_bracketed bytes ≡ false) × IsAsAsked options (front_of None ElementsFront) bytes grid)
-
-abbrev pub IsElementsStop : SymbolOptions → List ℕ → Stop → Type 0
-IsElementsStop options bytes (Fault (Symbol error)) =
-    IsElementsOptionsRefusal options (front_of None ElementsFront) bytes error
-IsElementsStop options bytes _ = ⊥
+    ⊎ ((is_bracketed bytes ≡ false) × IsStringSymbol options bytes grid)
 
 abbrev pub IsGs1Stop : SymbolOptions → List ℕ → Stop → Type 0
 IsGs1Stop options bytes stop =
     ((is_bracketed bytes ≡ true) × IsBracketedStop options bytes stop)
-    ⊎ ((is_bracketed bytes ≡ false) × IsElementsStop options bytes stop)
+    ⊎ ((is_bracketed bytes ≡ false) × IsStringStop options bytes stop)
+
+-- ---- Micro QR symbols
+
+-- A Micro symbol has no ECI designator (ISO/IEC 18004:2006, table 2): its text is ASCII.
+pub record IsMicroText (level : EcLevel) (bytes : List ℕ) (grid : List Color) : Type 0 where
+  pub ascii : is_ascii bytes ≡ true
+  pub best : IsBestMicroSymbol bytes level grid
+
+-- Why there is no Micro symbol of a text.
+abbrev pub IsMicroTextStop : EcLevel → List ℕ → Stop → Type 0
+IsMicroTextStop level bytes NotAscii = is_ascii bytes ≡ false
+IsMicroTextStop level bytes (Fault (Symbol error)) =
+    (is_ascii bytes ≡ true) × IsMicroRefused bytes level error
+IsMicroTextStop level bytes _ = ⊥
 
 -- ---- Any content
 
@@ -107,7 +151,8 @@ IsSymbolAs Auto options bytes grid = IsAutoSymbol options bytes grid
 IsSymbolAs Text options bytes grid = IsText options bytes grid
 IsSymbolAs Bytes options bytes grid = IsAsAsked options no_front bytes grid
 IsSymbolAs Gs1 options bytes grid = IsGs1Symbol options bytes grid
-IsSymbolAs Micro options bytes grid = IsBestMicroSymbol bytes options.level grid
+IsSymbolAs Micro options bytes grid = IsMicroText options.level bytes grid
+IsSymbolAs MicroBytes options bytes grid = IsBestMicroSymbol bytes options.level grid
 
 -- An error of a symbol's call.
 abbrev pub IsErrorIn : (QrError → Type 0) → Stop → Type 0
@@ -119,7 +164,8 @@ IsShortStop Auto options bytes = IsErrorIn (IsAutoRefusal options bytes)
 IsShortStop Text options bytes = IsErrorIn (IsUtf8Refusal options bytes)
 IsShortStop Bytes options bytes = IsErrorIn (IsOptionsRefusal options no_front bytes)
 IsShortStop Gs1 options bytes = IsGs1Stop options bytes
-IsShortStop Micro options bytes = IsErrorIn (IsMicroRefused bytes options.level)
+IsShortStop Micro options bytes = IsMicroTextStop options.level bytes
+IsShortStop MicroBytes options bytes = IsErrorIn (IsMicroRefused bytes options.level)
 
 -- Why there is no symbol: there are more than 7089 bytes, or the call for the symbol fails.
 abbrev pub IsStopAs : Content → SymbolOptions → List ℕ → Stop → Type 0

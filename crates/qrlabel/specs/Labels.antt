@@ -1,11 +1,12 @@
 -- A label: the picture of the symbol of some bytes.
-use Rattle.std.specs.Prelude.{◌≡◌, ◌≢◌, ◌⊎◌, ℕ, false, List, []}
+use Rattle.std.specs.Prelude.{◌≡◌, ◌≢◌, ◌⊎◌, ◌<◌, ◌≤◌, ℕ, false, List, [], length}
 use Rattle.programs.specs.declared.Fault.TheVariants.{Symbol}
 use Rattle.qrcode_core.specs.Drawn.{DrawnSymbol, drawn_grid}
-use Rattle.qrcode_core.specs.declared.types.errors.QrError.TheVariants.{OutOfMemory}
+use Rattle.qrcode_base.specs.declared.symbols.TheConstants.{LONGEST_DATA}
+use Rattle.qrcode_core.specs.declared.types.errors.QrError.TheVariants.{OutOfMemory, DataTooLong}
 use Rattle.qrcode_render.specs.Drawings.{IsPictureOf}
 use Rattle.qrcode_render.specs.declared.draw_options.DrawOptions.{DrawOptions}
-use Rattle.qrlabel.specs.Contents.{IsSymbolAs, IsStopAs}
+use Rattle.qrlabel.specs.Contents.{IsContent, IsSymbolAs, IsStopAs}
 use Rattle.qrlabel.specs.declared.command.Label.{Label}
 use Rattle.qrlabel.specs.declared.stop.Stop.{Stop}
 use Rattle.qrlabel.specs.declared.stop.Stop.TheVariants.{Fault, Empty}
@@ -14,16 +15,30 @@ use Rattle.qrlabel.specs.declared.stop.Stop.TheVariants.{Fault, Empty}
 abbrev pub IsLabelData : Label → List ℕ → Type 0
 IsLabelData label bytes = bytes ≡ [] → label.allow_empty ≢ false
 
--- The drawing shows the symbol of the bytes.
+-- The drawing shows the symbol of the bytes, or of what of them is content.
 pub record ShowsLabel (label : Label) (options : DrawOptions) (bytes drawing : List ℕ) : Type 0 where
-  pub data_is : IsLabelData label bytes
+  pub content : List ℕ
+  pub content_is : IsContent label.trims bytes content
+  pub data_is : IsLabelData label content
   pub symbol : DrawnSymbol
-  pub is_symbol : IsSymbolAs label.content label.symbol bytes symbol.modules
+  pub is_symbol : IsSymbolAs label.content label.symbol content symbol.modules
   pub drawn : IsPictureOf options (drawn_grid symbol) drawing
 
--- Why there is no label of the bytes: there are none, there is no symbol, or memory ran out.
+-- Why there is no label of a content: it is empty, there is no symbol, or memory ran out.
+abbrev pub IsContentStop : Label → List ℕ → Stop → Type 0
+IsContentStop label content Empty = (content ≡ []) × (label.allow_empty ≡ false)
+IsContentStop label content stop =
+    IsLabelData label content
+    × ((stop ≡ Fault (Symbol OutOfMemory)) ⊎ IsStopAs label.content label.symbol content stop)
+
+-- There is no label of some content of the bytes, for this reason.
+pub record IsRefusedContent (label : Label) (bytes : List ℕ) (stop : Stop) : Type 0 where
+  pub short : length bytes ≤ LONGEST_DATA
+  pub content : List ℕ
+  pub content_is : IsContent label.trims bytes content
+  pub stopped : IsContentStop label content stop
+
+-- Why there is no label of the bytes: they are more than 7089, or there is none of their content.
 abbrev pub IsLabelStop : Label → List ℕ → Stop → Type 0
-IsLabelStop label bytes Empty = (bytes ≡ []) × (label.allow_empty ≡ false)
 IsLabelStop label bytes stop =
-    IsLabelData label bytes
-    × ((stop ≡ Fault (Symbol OutOfMemory)) ⊎ IsStopAs label.content label.symbol bytes stop)
+    ((LONGEST_DATA < length bytes) × (stop ≡ Fault (Symbol DataTooLong))) ⊎ IsRefusedContent label bytes stop

@@ -6,10 +6,12 @@ pub mod Folders
 pub mod Help
 pub mod Labels
 pub mod Lines
+pub mod MadeOf
 pub mod Misuses
 pub mod Names
 pub mod Numbers
 pub mod Placed
+pub mod Reports
 pub mod Runs
 pub mod Said
 pub mod Settings

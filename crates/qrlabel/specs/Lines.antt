@@ -1,75 +1,130 @@
 -- The labels of the lines of an input, and what is written of them.
-use Rattle.std.specs.Prelude.{◌≡◌, ◌≢◌, ◌↔◌, ◌+◌, ℕ, ⊤, Bool, Option, Result, Ok, Err}
+use Rattle.std.specs.Prelude.{◌≡◌, ◌≢◌, ◌↔◌, ◌+◌, ℕ, ⊤, Bool, true, false, Option, Result, Ok, Err, is_ok}
 use Rattle.std.specs.Prelude.{List, [], ◌∷◌, ◌++◌, length, take, flat_map, IsTrue, IsErrOf}
+use Rattle.std.specs.List.{list_all}
+use Rattle.gs1.specs.declared.error.Gs1Error.{Gs1Error}
+use Rattle.gs1.specs.declared.error.Gs1Error.TheVariants.{OutOfMemory as NoMemory}
 use Rattle.std.specs.Io.KnownBytes.{Appends, IsAtEnd}
-use Rattle.programs.specs.Devices.{Input, Output}
+use Rattle.programs.specs.Devices.{Input, Output, Writes}
 use Rattle.programs.specs.Lines.{ReadsLine, ReadsLines, BeginsLine}
 use Rattle.programs.specs.declared.Fault.TheVariants.{Symbol, Read, Write}
+use Rattle.qrcode_core.specs.declared.types.errors.QrError.{QrError}
 use Rattle.qrcode_core.specs.declared.types.errors.QrError.TheVariants.{OutOfMemory}
 use Rattle.qrcode_render.specs.declared.draw_options.DrawOptions.{DrawOptions}
 use Rattle.qrlabel.specs.Labels.{ShowsLabel, IsLabelStop}
 use Rattle.qrlabel.specs.declared.command.Label.{Label}
 use Rattle.qrlabel.specs.declared.stop.LineStop.{LineStop}
 use Rattle.qrlabel.specs.declared.stop.Stop.{Stop}
-use Rattle.qrlabel.specs.declared.stop.Stop.TheVariants.{Fault}
+use Rattle.qrlabel.specs.declared.stop.Stop.TheVariants.{Fault, Elements}
+use Rattle.qrlabel.specs.Stops.{numbered_line}
 
 -- ---- Labels in their order
 
--- A drawing of each line, and no other.
-abbrev pub ShowEach : (List ℕ → List ℕ → Type 0) → List (List ℕ) → List (List ℕ) → Type 0
-ShowEach shows [] [] = ⊤
-ShowEach shows (line ∷ lines) (drawing ∷ drawings) = shows line drawing × ShowEach shows lines drawings
-ShowEach shows _ _ = ⊥
+-- What comes of a line: its label, or the reason why it has none.
+abbrev pub Made : Type 0
+Made = Result (List ℕ) Stop
 
--- The drawings are the labels of the lines that were read, one each, in their order.
+-- Whether the line is the reason, and not a device or a lack of memory.
+abbrev pub is_of_symbol : QrError → Bool
+is_of_symbol OutOfMemory = false
+is_of_symbol _ = true
+
+abbrev pub is_of_elements : Gs1Error → Bool
+is_of_elements NoMemory = false
+is_of_elements _ = true
+
+abbrev pub is_of_line : Stop → Bool
+is_of_line (Fault (Symbol error)) = is_of_symbol error
+is_of_line (Fault fault) = false
+is_of_line (Elements error) = is_of_elements error
+is_of_line _ = true
+
+-- A line that has no label is left out, if this is asked for.
+pub record IsLeftOut (label : Label) (line : List ℕ) (stop : Stop) : Type 0 where
+  pub asked : label.keeps_going ≡ true
+  pub stopped : IsLabelStop label line stop
+  pub of_line : is_of_line stop ≡ true
+
+abbrev pub GivesLine : Label → DrawOptions → List ℕ → Made → Type 0
+GivesLine label options line (Ok drawing) = ShowsLabel label options line drawing
+GivesLine label options line (Err stop) = IsLeftOut label line stop
+
+-- One thing comes of each line, and nothing else.
+abbrev pub GiveEach : (List ℕ → Made → Type 0) → List (List ℕ) → List Made → Type 0
+GiveEach gives [] [] = ⊤
+GiveEach gives (line ∷ lines) (made ∷ mades) = gives line made × GiveEach gives lines mades
+GiveEach gives _ _ = ⊥
+
+-- These come of the lines that were read, one of each, in their order.
 pub record AreLabels (label : Label) (options : DrawOptions) (before after : Option (List ℕ))
-    (drawings : List (List ℕ)) : Type 0 where
+    (mades : List Made) : Type 0 where
   pub lines : List (List ℕ)
   pub read : ReadsLines before after lines
-  pub shown : ShowEach (ShowsLabel label options) lines drawings
+  pub shown : GiveEach (GivesLine label options) lines mades
 
 -- ---- Where labels go
 
--- What is known of a place for labels: that these drawings, and no others, were written there; that
--- these were, and the next was not, or not whole; and whether writing there failed.
+-- What is known of a place for labels: that these, and no others, were written there, and the lines
+-- that were left out reported; that this was so, and the next label was not written, or not whole;
+-- and whether writing there failed.
 pub record Place : Type 1 where
-  pub whole : List (List ℕ) → Type 0
-  pub broken : List (List ℕ) → List ℕ → Type 0
+  pub whole : List Made → Type 0
+  pub broken : List Made → List ℕ → Type 0
   pub failed : Bool
 
 -- One drawing after the other.
-abbrev pub joined : List (List ℕ) → List ℕ
-joined drawings = flat_map (λ drawing. drawing) drawings
+abbrev pub drawing_in : Made → List ℕ
+drawing_in (Ok drawing) = drawing
+drawing_in (Err stop) = []
 
--- The drawings were written one after the other, and flushed. If there are none, nothing was.
-pub record WritesEach (output : Output) (drawings : List (List ℕ)) : Type 0 where
-  pub appends : Appends output.before output.after (joined drawings)
-  pub flushed : drawings ≢ [] → output.flushed ≡ output.after
+abbrev pub joined : List Made → List ℕ
+joined mades = flat_map drawing_in mades
 
--- The drawings were written, and a beginning of the next.
-pub record WritesSome (output : Output) (drawings : List (List ℕ)) (next : List ℕ) : Type 0 where
+-- A line for each that is left out, with its number; the first line of the input has number n.
+abbrev pub left_out : ℕ → List Made → List ℕ
+left_out n [] = []
+left_out n (Ok drawing ∷ mades) = left_out (n + 1) mades
+left_out n (Err stop ∷ mades) = numbered_line (record { number = n; stop = stop }) ++ left_out (n + 1) mades
+
+-- The labels were written one after the other, and flushed. If there are none, nothing was.
+pub record WritesEach (output : Output) (mades : List Made) : Type 0 where
+  pub appends : Appends output.before output.after (joined mades)
+  pub flushed : joined mades ≢ [] → output.flushed ≡ output.after
+
+-- The labels were written, and a beginning of the next.
+pub record WritesSome (output : Output) (mades : List Made) (next : List ℕ) : Type 0 where
   pub count : ℕ
-  pub appends : Appends output.before output.after (joined drawings ++ take count next)
+  pub appends : Appends output.before output.after (joined mades ++ take count next)
 
 -- One output for all labels.
-abbrev pub stream : Output → Place
-stream output = record { whole = WritesEach output; broken = WritesSome output; failed = output.failed }
+abbrev pub stream : Output → ℕ → Output → Place
+stream output first errors = record {
+  whole = λ mades. WritesEach output mades × Writes errors (left_out first mades);
+  broken = λ mades next. WritesSome output mades next × Writes errors (left_out first mades);
+  failed = output.failed;
+}
 
 -- ---- What is drawn of an input
 
--- The labels of the lines before the line of this number were written. `left` is what was left to
--- read after these lines.
-pub record DrawsBefore (label : Label) (options : DrawOptions) (number : ℕ)
+-- Whether there is a label of each line.
+abbrev pub all_drawn : List Made → Bool
+all_drawn mades = list_all is_ok mades
+
+-- The labels of the lines before the line of this number were written, of each if `every` is true.
+-- `left` is what was left to read after these lines.
+pub record DrawsBefore (label : Label) (options : DrawOptions) (every : Bool) (number : ℕ)
     (before left : Option (List ℕ)) (place : Place) : Type 0 where
-  pub drawings : List (List ℕ)
-  pub labels : AreLabels label options before left drawings
-  pub counted : number ≡ length drawings + 1
-  pub written : place.whole drawings
+  pub mades : List Made
+  pub labels : AreLabels label options before left mades
+  pub counted : number ≡ length mades + label.first
+  pub every_is : every ≡ all_drawn mades
+  pub written : place.whole mades
 
 -- The labels of all lines were written.
-pub record DrawsLines (label : Label) (options : DrawOptions) (input : Input) (place : Place) : Type 0 where
+pub record DrawsLines (label : Label) (options : DrawOptions) (every : Bool) (input : Input)
+    (place : Place) : Type 0 where
   pub number : ℕ
-  pub drawn : DrawsBefore label options number input.before input.after place
+  pub drawn : DrawsBefore label options every number input.before input.after place
   pub ended : IsAtEnd input.after
 
 -- The labels of the lines before the line of this number were written, and no more. `reads` says
@@ -77,24 +132,26 @@ pub record DrawsLines (label : Label) (options : DrawOptions) (input : Input) (p
 pub record StopsAtLine (label : Label) (options : DrawOptions) (number : ℕ)
     (reads : Option (List ℕ) → Option (List ℕ) → Type 0) (input : Input) (place : Place) : Type 0 where
   pub left : Option (List ℕ)
-  pub drawn : DrawsBefore label options number input.before left place
+  pub every : Bool
+  pub drawn : DrawsBefore label options every number input.before left place
   pub stopped : reads left input.after
 
 -- The labels of the lines before the line of this number were written, and its own was not, or not
 -- as a whole.
 pub record BreaksAt (label : Label) (options : DrawOptions) (number : ℕ) (input : Input)
     (place : Place) : Type 0 where
-  pub drawings : List (List ℕ)
+  pub mades : List Made
   pub next : List ℕ
-  pub labels : AreLabels label options input.before input.after (drawings ++ next ∷ [])
-  pub counted : number ≡ length drawings + 1
-  pub broken : place.broken drawings next
+  pub labels : AreLabels label options input.before input.after (mades ++ Ok next ∷ [])
+  pub counted : number ≡ length mades + label.first
+  pub broken : place.broken mades next
 
 -- The line that was read has no label, for this reason.
 pub record StopsLine (label : Label) (stop : Stop) (before after : Option (List ℕ)) : Type 0 where
   pub line : List ℕ
   pub read : ReadsLine before after line
   pub stopped : IsLabelStop label line stop
+  pub not_left_out : label.keeps_going ≡ true → is_of_line stop ≡ false
 
 -- The same, but that memory can run out at any byte of the line.
 abbrev pub StopsOrLacks : Label → Stop → Option (List ℕ) → Option (List ℕ) → Type 0
@@ -110,23 +167,23 @@ WritesUntil label options number (Fault Write) input place =
 WritesUntil label options number stop input place =
     StopsAtLine label options number (StopsOrLacks label stop) input place
 
--- What is written for an outcome. On success the labels of all lines. Where reading failed, or a
--- line has no label, the labels of the lines before this one. Where writing failed, these, and of
--- the next no more than a beginning.
-abbrev pub WritesLinesOutcome : Label → DrawOptions → Input → Place → Result (Unit {0}) LineStop → Type 0
-WritesLinesOutcome label options input place (Ok done) = DrawsLines label options input place
+-- What is written for an outcome. On success the labels of all lines, and the outcome says whether
+-- none was left out. Where reading failed, or a line has no label and is not left out, the labels of
+-- the lines before this one. Where writing failed, these, and of the next no more than a beginning.
+abbrev pub WritesLinesOutcome : Label → DrawOptions → Input → Place → Result Bool LineStop → Type 0
+WritesLinesOutcome label options input place (Ok every) = DrawsLines label options every input place
 WritesLinesOutcome label options input place (Err at) =
     WritesUntil label options at.number at.stop input place
 
 -- An outcome without the number of the line.
-abbrev pub unnumbered : Result (Unit {0}) LineStop → Result (Unit {0}) Stop
-unnumbered (Ok done) = Ok done
+abbrev pub unnumbered : Result Bool LineStop → Result Bool Stop
+unnumbered (Ok every) = Ok every
 unnumbered (Err at) = Err at.stop
 
 -- The outcome of lines: what was written, and that the error is `Read` exactly if reading failed,
 -- and `Write` exactly if writing failed.
 pub record IsLinesOutcome (label : Label) (options : DrawOptions) (input : Input) (place : Place)
-    (outcome : Result (Unit {0}) LineStop) : Type 0 where
+    (outcome : Result Bool LineStop) : Type 0 where
   pub writes : WritesLinesOutcome label options input place outcome
   pub read : IsErrOf (unnumbered outcome) (Fault Read) ↔ IsTrue input.failed
   pub write : IsErrOf (unnumbered outcome) (Fault Write) ↔ IsTrue place.failed

@@ -5,7 +5,9 @@ use Rattle.qrlabel.specs.declared.words.Name.TheVariants.{Text, Format, Content,
 use Rattle.qrlabel.specs.declared.words.Name.TheVariants.{MinVersion, MaxVersion, Scale, Quiet}
 use Rattle.qrlabel.specs.declared.words.Name.TheVariants.{ModuleMm, Dpi, Inverted, Title, At, Read}
 use Rattle.qrlabel.specs.declared.words.Name.TheVariants.{Output, AllowEmpty, Help, Version, Lines}
+use Rattle.qrlabel.specs.declared.words.Name.TheVariants.{First, KeepGoing, KeepNewline}
 use Rattle.qrlabel.specs.Words.{Wrong, unknown, no_value, second_text, invalid}
+use Rattle.qrlabel.specs.Words.{needs_stream, needs_file}
 
 -- The word of an option.
 abbrev pub option_word : Name → List ℕ
@@ -29,31 +31,55 @@ option_word AllowEmpty = codes "--allow-empty"
 option_word Help = codes "--help"
 option_word Version = codes "--version"
 option_word Lines = codes "--lines"
+option_word First = codes "--first"
+option_word KeepGoing = codes "--keep-going"
+option_word KeepNewline = codes "--keep-newline"
+
+-- What the size of a module can be.
+abbrev pub module_text : List ℕ
+module_text =
+    codes "0.05 to 10, at most two decimals, for svg, png and eps; "
+    ++ codes "with --dpi for png, zpl and escpos, 1 to 64 whole dots"
+
+-- What the name of the output can be.
+abbrev pub output_text : List ℕ
+output_text =
+    codes "with -f any name, else one that ends with .txt, .svg, .png, .pbm, .eps, .escpos or .zpl; "
+    ++ codes "for --lines alone with a number, %d or %0Nd, N from 1 to 9"
 
 -- What the value of an option can be, and where the option can't be given.
 abbrev pub values_text : Name → List ℕ
 values_text Format = codes "terminal, svg, png, pbm, eps, escpos or zpl"
-values_text Content = codes "auto, text, bytes, gs1 or micro"
-values_text Level = codes "L, M, Q or H"
+values_text Content = codes "auto, text, bytes, gs1, micro or micro-bytes"
+values_text Level = codes "L, M, Q or H; for a Micro symbol L, M or Q"
 values_text Strongest = codes "not for a Micro symbol"
 values_text MinVersion = codes "1 to 40, not for a Micro symbol"
 values_text MaxVersion = codes "1 to 40, at least --min-version, not for a Micro symbol"
-values_text Scale = codes "1 to 64"
+values_text Scale = codes "1 to 64, and not with both --module-mm and --dpi"
 values_text Quiet = codes "0 to 16"
-values_text ModuleMm = codes "0.05 to 10, for svg, png and eps"
-values_text Dpi = codes "50 to 2400, for png, and not with --module-mm"
+values_text ModuleMm = module_text
+values_text Dpi = codes "50 to 2400, for png; with --module-mm for zpl and escpos, too"
 values_text Inverted = codes "for terminal"
 values_text Title = codes "a text without control characters, for svg"
 values_text At = codes "X,Y, each 0 to 18000, for zpl"
 values_text Read = codes "not with a text"
-values_text Output = codes "a name that ends with .txt, .svg, .png, .pbm, .eps, .escpos or .zpl"
-values_text Lines =
-    codes "not with a text; for terminal, pbm, escpos and zpl, or files named as in label-%05d.png"
+values_text Output = output_text
+values_text Lines = codes "not with a text"
+values_text First = codes "0 to 1000000000, with --lines"
+values_text KeepGoing = codes "with --lines"
 values_text _ = []
 
 -- Where help is, on a line of its own.
 abbrev pub advice : List ℕ
 advice = codes "\ntry qrlabel --help"
+
+-- What the labels of lines need, and what bytes that are no text need on a terminal.
+abbrev pub needs_stream_text : List ℕ
+needs_stream_text =
+    codes "--lines needs -f terminal, pbm, escpos or zpl, or files as in -o label-%05d.png"
+
+abbrev pub needs_file_text : List ℕ
+needs_file_text = codes "png, pbm and escpos are not for a terminal: give -o FILE, or -o -"
 
 -- What is wrong with the words, in pieces.
 abbrev pub wrong_pieces : Wrong → List (List ℕ)
@@ -62,6 +88,8 @@ wrong_pieces (no_value name) = codes "no value after " ∷ option_word name ∷ 
 wrong_pieces (second_text word) = codes "more than one text: " ∷ word ∷ advice ∷ []
 wrong_pieces (invalid name) =
     codes "invalid " ∷ option_word name ∷ codes ": " ∷ values_text name ∷ advice ∷ []
+wrong_pieces needs_stream = needs_stream_text ∷ advice ∷ []
+wrong_pieces needs_file = needs_file_text ∷ advice ∷ []
 
 -- What is written about it: the name of the program, what is wrong, and where help is.
 unfoldable pub wrong_line : Wrong → List ℕ

@@ -1,5 +1,5 @@
 -- Names of files with a number in them.
-use Rattle.std.specs.Prelude.{ℕ, ◌-◌, ◌+◌, nat_le, ◌==◌, ◌&&◌, if◌then◌else◌, codes, decimal, replicate}
+use Rattle.std.specs.Prelude.{ℕ, ◌-◌, nat_le, ◌==◌, ◌&&◌, if◌then◌else◌, decimal, replicate}
 use Rattle.std.specs.Prelude.{List, [], ◌∷◌, ◌++◌, length, Option, None, Some, is_some, option_map, option_and_then}
 use Rattle.qrlabel.specs.Numbers.{halves}
 

@@ -1,6 +1,6 @@
 -- What the program reads and writes, and its exit status.
-use Rattle.std.specs.Prelude.{◌≡◌, ◌≢◌, ◌⊎◌, ◌+◌, ◌↔◌, ℕ, Bool, List, [], Result, Ok, Err, Option, None, Some}
-use Rattle.std.specs.Prelude.{IsTrue, IsErrOf, is_err, codes}
+use Rattle.std.specs.Prelude.{◌≡◌, ◌≢◌, ◌⊎◌, ◌+◌, ◌↔◌, ℕ, Bool, List, [], Result, Ok, Err, None, Some}
+use Rattle.std.specs.Prelude.{IsTrue, IsErrOf, is_err, codes, if◌then◌else◌}
 use Rattle.std.specs.Io.KnownBytes.{Keeps}
 use Rattle.programs.specs.Devices.{Input, Output, Writes, ReadsEnough, ReadsWithin}
 use Rattle.programs.specs.Outcome.{WritesDrawing, BeginsDrawing, exit_status, report}
@@ -24,6 +24,7 @@ use Rattle.qrlabel.specs.Settings.{setting_option}
 use Rattle.qrlabel.specs.Stops.{stop_line, numbered_line}
 use Rattle.qrlabel.specs.Words.{Wrong, invalid}
 use Rattle.qrlabel.specs.declared.command.Label.{Label}
+use Rattle.qrlabel.specs.declared.run.TheConstants.{LEFT_OUT}
 use Rattle.qrlabel.specs.declared.command.Portion.{Portion}
 use Rattle.qrlabel.specs.declared.command.Portion.TheVariants.{Whole, Lines, Files}
 use Rattle.qrlabel.specs.declared.stop.LineStop.{LineStop}
@@ -78,22 +79,34 @@ pub record ServesLabel (label : Label) (options : DrawOptions) (input : Input) (
 -- ---- Lines
 
 -- The exit status, and what is written on standard error.
-abbrev pub lines_status : Result (Unit {0}) LineStop → ℕ
-lines_status (Ok done) = 0
+abbrev pub lines_status : Result Bool LineStop → ℕ
+lines_status (Ok every) = if every then 0 else LEFT_OUT
 lines_status (Err at) = 1
 
-abbrev pub lines_reported : Result (Unit {0}) LineStop → List ℕ
-lines_reported (Ok done) = []
+abbrev pub lines_reported : Result Bool LineStop → List ℕ
+lines_reported (Ok every) = []
 lines_reported (Err at) = numbered_line at
 
--- The labels of the lines were drawn, and the status and the line on standard error are those of
--- the outcome.
-pub record ServesLines (label : Label) (options : DrawOptions) (input : Input) (place : Place)
+-- What was written after this.
+abbrev pub later : Output → Output → Output
+later first all = record {
+  before = first.after;
+  after = all.after;
+  flushed = all.flushed;
+  failed = all.failed;
+  reason = all.reason;
+}
+
+-- The labels of the lines were drawn, and the status and the last line on standard error are those
+-- of the outcome. Before this line come those of the lines that were left out.
+pub record ServesLines (label : Label) (options : DrawOptions) (input : Input) (place : Output → Place)
     (errors : Output) (status : ℕ) : Type 0 where
-  pub outcome : Result (Unit {0}) LineStop
-  pub is_outcome : IsLinesOutcome label options input place outcome
+  pub outcome : Result Bool LineStop
+  pub said : Output
+  pub begins : said.before ≡ errors.before
+  pub is_outcome : IsLinesOutcome label options input (place said) outcome
   pub status_is : status ≡ lines_status outcome
-  pub reports : Writes errors (lines_reported outcome)
+  pub reports : Writes (later said errors) (lines_reported outcome)
 
 -- ---- The whole program
 
@@ -112,17 +125,22 @@ pub record Shows (text : List ℕ) (output errors : Output) (status : ℕ) : Typ
   pub status_is : status ≡ exit_status outcome
   pub reports : Writes errors (report (codes "qrlabel") outcome)
 
+-- The files of labels, by the number of the first line, the name, and what is said of lines that
+-- are left out.
+abbrev pub Places : Type 1
+Places = ℕ → Numbering → Output → Place
+
 -- The label of the whole input was drawn, or those of its lines: in one output, or each in a file.
-abbrev pub ServesPortion : Portion → Label → DrawOptions → Input → Output → (Numbering → Place) → Output → ℕ → Type 0
+abbrev pub ServesPortion : Portion → Label → DrawOptions → Input → Output → Places → Output → ℕ → Type 0
 ServesPortion Whole label options input output files errors status =
     ServesLabel label options input output errors status
 ServesPortion Lines label options input output files errors status =
-    ServesLines label options input (stream output) errors status
+    ServesLines label options input (stream output label.first) errors status
 ServesPortion (Files name) label options input output files errors status =
-    ServesLines label options input (files (numbering_of name)) errors status
+    ServesLines label options input (files label.first (numbering_of name)) errors status
 
 -- The label was drawn with the options that its settings ask for.
-pub record DrawsAsAsked (label : Label) (input : Input) (output : Output) (files : Numbering → Place)
+pub record DrawsAsAsked (label : Label) (input : Input) (output : Output) (files : Places)
     (errors : Output) (status : ℕ) : Type 0 where
   pub options : DrawOptions
   pub valid : invalid_setting label.format label.settings ≡ None
@@ -131,14 +149,14 @@ pub record DrawsAsAsked (label : Label) (input : Input) (output : Output) (files
 
 -- The first setting that is not valid is wrong, and this needs no memory; if all are valid, the
 -- label is drawn.
-abbrev pub RunsLabel : Label → (kept : Type 0) → Input → Output → (Numbering → Place) → Output → ℕ → Type 0
+abbrev pub RunsLabel : Label → (kept : Type 0) → Input → Output → Places → Output → ℕ → Type 0
 RunsLabel label kept input output files errors status =
     DrawsAsAsked label input output files errors status
     ⊎ ((setting : Setting) × (invalid_setting label.format label.settings ≡ Some setting)
     × Misused (invalid (setting_option setting)) kept errors status)
 
 -- What the program does for what the words ask for.
-abbrev pub Runs : Result Command Wrong → (kept : Type 0) → Input → Output → (Numbering → Place) → Output → ℕ → Type 0
+abbrev pub Runs : Result Command Wrong → (kept : Type 0) → Input → Output → Places → Output → ℕ → Type 0
 Runs (Err wrong) kept input output files errors status = Misused wrong kept errors status
 Runs (Ok asks_help) kept input output files errors status = Shows help_text output errors status
 Runs (Ok asks_version) kept input output files errors status = Shows version_line output errors status

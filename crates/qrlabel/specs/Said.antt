@@ -5,16 +5,20 @@ use denote.Ref.{Bor}
 use Rattle.std.specs.Option.{option_copied}
 use Rattle.qrlabel.specs.declared.words.Misuse.{Misuse}
 use Rattle.qrlabel.specs.declared.words.Misuse.TheVariants.{Unknown, NoValue, SecondText, Invalid}
+use Rattle.qrlabel.specs.declared.words.Misuse.TheVariants.{NeedsStream, NeedsFile}
 use Rattle.qrlabel.specs.declared.words.Name.{Name}
 use Rattle.qrlabel.specs.declared.words.Reading.{Reading}
 use Rattle.qrlabel.specs.declared.words.Values.{Values as Kept}
 use Rattle.qrlabel.specs.Words.{Scan, Values, Wrong, unknown, no_value, second_text, invalid}
+use Rattle.qrlabel.specs.Words.{needs_stream, needs_file}
 
 abbrev pub wrong_of : Misuse → Wrong
 wrong_of (Unknown word) = unknown word.now
 wrong_of (NoValue name) = no_value name
 wrong_of (SecondText word) = second_text word.now
 wrong_of (Invalid name) = invalid name
+wrong_of NeedsStream = needs_stream
+wrong_of NeedsFile = needs_file
 
 -- An option and its value.
 abbrev pub parted_of : Name × Bor (List ℕ) → Name × List ℕ

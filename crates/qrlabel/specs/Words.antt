@@ -9,6 +9,7 @@ use Rattle.qrlabel.specs.declared.words.Name.TheVariants.{Text, Format, Content,
 use Rattle.qrlabel.specs.declared.words.Name.TheVariants.{MinVersion, MaxVersion, Scale, Quiet}
 use Rattle.qrlabel.specs.declared.words.Name.TheVariants.{ModuleMm, Dpi, Inverted, Title, At, Read}
 use Rattle.qrlabel.specs.declared.words.Name.TheVariants.{Output, AllowEmpty, Help, Version, Lines}
+use Rattle.qrlabel.specs.declared.words.Name.TheVariants.{First, KeepGoing, KeepNewline}
 
 -- What a table has for a word.
 abbrev pub among : {A : Type 0} → List (List ℕ × A) → List ℕ → Option A
@@ -35,6 +36,9 @@ names =
     ∷ (codes "-r", Read) ∷ (codes "--read", Read)
     ∷ (codes "-o", Output) ∷ (codes "--output", Output)
     ∷ (codes "--lines", Lines)
+    ∷ (codes "--first", First)
+    ∷ (codes "-k", KeepGoing) ∷ (codes "--keep-going", KeepGoing)
+    ∷ (codes "--keep-newline", KeepNewline)
     ∷ (codes "--allow-empty", AllowEmpty)
     ∷ (codes "-h", Help) ∷ (codes "--help", Help)
     ∷ (codes "-V", Version) ∷ (codes "--version", Version)
@@ -67,6 +71,9 @@ option_number AllowEmpty = 16
 option_number Help = 17
 option_number Version = 18
 option_number Lines = 19
+option_number First = 20
+option_number KeepGoing = 21
+option_number KeepNewline = 22
 
 -- Whether the next word is the value of the option.
 abbrev pub takes_value : Name → Bool
@@ -74,6 +81,8 @@ takes_value Strongest = false
 takes_value Inverted = false
 takes_value Lines = false
 takes_value AllowEmpty = false
+takes_value KeepGoing = false
+takes_value KeepNewline = false
 takes_value Help = false
 takes_value Version = false
 takes_value _ = true
@@ -118,12 +127,15 @@ joined_value = started_by letters
 
 -- What is wrong with words: a word that names no option; an option with no value after it; a
 -- text where there is one; an option that has a value that it can't have, or does not go with
--- the others.
+-- the others; a format in which the labels of lines can't follow each other; bytes that are no
+-- text, on a terminal.
 pub data Wrong : Type 0 where
   unknown : List ℕ → Wrong
   no_value : Name → Wrong
   second_text : List ℕ → Wrong
   invalid : Name → Wrong
+  needs_stream : Wrong
+  needs_file : Wrong
 
 -- The last value of each option, by its number. The value of a flag is empty.
 abbrev pub Values : Type 0
@@ -212,4 +224,4 @@ words_ended (Err wrong) = Err wrong
 
 -- What words say.
 unfoldable pub values_in : List (List ℕ) → Result Values Wrong
-values_in words = words_ended (read_words (ready (replicate 20 None)) words)
+values_in words = words_ended (read_words (ready (replicate 23 None)) words)

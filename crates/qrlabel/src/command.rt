@@ -4,23 +4,23 @@
 //! 2. Put them together (`label_of`, `command_of`).
 ghost use Rattle.std.specs.Prelude.{◌≡◌, option_map};
 ghost use Rattle.qrlabel.specs.Said.{said};
-ghost use Rattle.qrlabel.specs.Commands.{level_named, content_named, format_named, has_ending};
-ghost use Rattle.qrlabel.specs.Commands.{format_of_ending, found_or, some_found};
+ghost use Rattle.qrlabel.specs.Commands.{found_or};
 ghost use Rattle.qrlabel.specs.Commands.{level_asked, content_asked, format_asked, version_asked};
-ghost use Rattle.qrlabel.specs.Commands.{number_asked, module_asked, place_asked, settings_asked};
-ghost use Rattle.qrlabel.specs.Commands.{symbol_asked, micro_asked, zoned};
+ghost use Rattle.qrlabel.specs.Commands.{symbol_asked, micro_asked, is_micro, is_trimmed};
+ghost use Rattle.qrlabel.specs.Commands.{first_asked, keeps_going_asked, trims_asked};
+ghost use Rattle.qrlabel.specs.Commands.{has_percent, is_text, terminal_asked};
 ghost use Rattle.qrlabel.specs.Commands.{is_stream, numbered_output, portion_asked};
 ghost use Rattle.qrlabel.specs.Commands.{label_asked, command_asked};
-ghost use Rattle.qrlabel.specs.Asked.{outcome, settings_outcome, portion_outcome, label_outcome};
-ghost use Rattle.qrlabel.specs.Asked.{command_outcome, wishes_of};
+ghost use Rattle.qrlabel.specs.Asked.{outcome, portion_outcome, label_outcome, command_outcome};
 ghost use Rattle.qrlabel.specs.Placed.{numbering_of};
 
+use crate::choices::{content_named, format_named, format_of_ending, level_named};
 use crate::names::{Numbering, numbering_in};
-use crate::numbers::{hundredths_in, number_in, place_in};
+use crate::numbers::number_in;
+use crate::settings::{in_dots, settings_of, zoned};
 use crate::words::{Misuse, Name, Values};
 use qrcode_core::options::SymbolOptions;
 use qrcode_core::types::EcLevel;
-use qrcode_render::bounds::MICRO_QUIET;
 use qrcode_render::{Format, Settings};
 
 /// What a symbol says.
@@ -34,8 +34,10 @@ pub enum Content {
     Bytes,
     /// GS1 elements, bracketed or as an element string.
     Gs1,
-    /// Bytes in a Micro QR symbol.
+    /// ASCII text in a Micro QR symbol, which has no designator for other text.
     Micro,
+    /// Bytes as they are in a Micro QR symbol.
+    MicroBytes,
 }
 
 /// What of the input a label shows.
@@ -58,8 +60,17 @@ pub struct Label<'a> {
     pub settings: Settings<'a>,
     /// Whether an input with no bytes is drawn.
     pub allow_empty: bool,
+    /// Whether a byte order mark at the start and a newline at the end are no part of a text.
+    pub trims: bool,
     pub portion: Portion<'a>,
+    /// The number of the first line.
+    pub first: usize,
+    /// Whether a line that has no label is left out.
+    pub keeps_going: bool,
 }
+
+/// The greatest number of a first line.
+const MAX_FIRST: usize = 1_000_000_000;
 
 /// What the words ask for.
 #[derive(Clone, Copy, Debug, PartialEq, Eq)]
@@ -69,96 +80,12 @@ pub enum Command<'a> {
     Label(Label<'a>),
 }
 
-/// Returns the level of a name.
-fn level_named(word: &str) -> Option<EcLevel>
-    ensures { result ≡ level_named word.now }
-{
-    match word {
-        "L" | "l" => Some(EcLevel::L),
-        "M" | "m" => Some(EcLevel::M),
-        "Q" | "q" => Some(EcLevel::Q),
-        "H" | "h" => Some(EcLevel::H),
-        _ => None,
-    }
-}
-
-/// Returns the content of a name.
-fn content_named(word: &str) -> Option<Content>
-    ensures { result ≡ content_named word.now }
-{
-    match word {
-        "auto" => Some(Content::Auto),
-        "text" => Some(Content::Text),
-        "bytes" => Some(Content::Bytes),
-        "gs1" => Some(Content::Gs1),
-        "micro" => Some(Content::Micro),
-        _ => None,
-    }
-}
-
-/// Returns the format of a name.
-fn format_named(word: &str) -> Option<Format>
-    ensures { result ≡ format_named word.now }
-{
-    match word {
-        "terminal" => Some(Format::Terminal),
-        "svg" => Some(Format::Svg),
-        "png" => Some(Format::Png),
-        "pbm" => Some(Format::Pbm),
-        "eps" => Some(Format::Eps),
-        "escpos" => Some(Format::EscPos),
-        "zpl" => Some(Format::Zpl),
-        _ => None,
-    }
-}
-
-/// Whether a name has this ending, in capital or small letters.
-fn has_ending(name: &str, ending: &str) -> bool
-    ensures { result ≡ has_ending name.now ending.now }
-{
-    let (name, ending) = (name.as_bytes(), ending.as_bytes());
-    name[name.len().saturating_sub(ending.len())..].eq_ignore_ascii_case(ending)
-}
-
-/// Returns the format of a file's name, by its ending.
-fn format_of_ending(name: &str) -> Option<Format>
-    ensures { result ≡ format_of_ending name.now }
-{
-    if has_ending(name, ".txt") {
-        Some(Format::Terminal)
-    } else if has_ending(name, ".svg") {
-        Some(Format::Svg)
-    } else if has_ending(name, ".png") {
-        Some(Format::Png)
-    } else if has_ending(name, ".pbm") {
-        Some(Format::Pbm)
-    } else if has_ending(name, ".eps") {
-        Some(Format::Eps)
-    } else if has_ending(name, ".escpos") {
-        Some(Format::EscPos)
-    } else if has_ending(name, ".zpl") {
-        Some(Format::Zpl)
-    } else {
-        None
-    }
-}
-
 /// Returns what was found for an option, or `Invalid` with its name.
 fn found<'a, T>(thing: Option<T>, name: Name) -> Result<T, Misuse<'a>>
     ensures { outcome result ≡ found_or thing name }
 {
     match thing {
         Some(thing) => Ok(thing),
-        None => Err(Misuse::Invalid(name)),
-    }
-}
-
-/// Returns what was found for an option that is given, or `Invalid` with its name.
-fn some_found<'a, T>(thing: Option<T>, name: Name) -> Result<Option<T>, Misuse<'a>>
-    ensures { outcome result ≡ some_found thing name }
-{
-    match thing {
-        Some(_) => Ok(thing),
         None => Err(Misuse::Invalid(name)),
     }
 }
@@ -209,62 +136,6 @@ fn version<'a>(values: &Values<'a>, name: Name, default: i16) -> Result<i16, Mis
     }
 }
 
-/// Returns the number of an option, if it is given.
-fn number<'a>(values: &Values<'a>, name: Name) -> Result<Option<usize>, Misuse<'a>>
-    ensures { outcome result ≡ number_asked name (said values.now) }
-{
-    match values.get(name) {
-        Some(word) => some_found(number_in(word), name),
-        None => Ok(None),
-    }
-}
-
-/// Returns the size of a module in hundredths of a millimetre, if it is given.
-fn module_mm<'a>(values: &Values<'a>) -> Result<Option<usize>, Misuse<'a>>
-    ensures { outcome result ≡ module_asked (said values.now) }
-{
-    match values.get(Name::ModuleMm) {
-        Some(word) => some_found(hundredths_in(word), Name::ModuleMm),
-        None => Ok(None),
-    }
-}
-
-/// Returns the position on the label, if it is given.
-fn place<'a>(values: &Values<'a>) -> Result<Option<(usize, usize)>, Misuse<'a>>
-    ensures { outcome result ≡ place_asked (said values.now) }
-{
-    match values.get(Name::At) {
-        Some(word) => some_found(place_in(word), Name::At),
-        None => Ok(None),
-    }
-}
-
-/// Returns the settings of the picture.
-fn settings_of<'a>(values: &Values<'a>) -> Result<Settings<'a>, Misuse<'a>>
-    ensures { settings_outcome result ≡ settings_asked (said values.now) }
-{
-    Ok(Settings {
-        scale: number(values, Name::Scale)?,
-        quiet: number(values, Name::Quiet)?,
-        module_mm: module_mm(values)?,
-        dpi: number(values, Name::Dpi)?,
-        inverted: values.has(Name::Inverted),
-        title: values.get(Name::Title),
-        at: place(values)?,
-    })
-}
-
-/// Returns the settings with the quiet zone of a Micro symbol, if there is one and no width
-/// is given.
-fn zoned<'a>(content: Content, mut settings: Settings<'a>) -> Settings<'a>
-    ensures { wishes_of result ≡ zoned content (wishes_of settings.entry) }
-{
-    if content == Content::Micro && settings.quiet.is_none() {
-        settings.quiet = Some(MICRO_QUIET);
-    }
-    settings
-}
-
 /// Returns the options of the symbol.
 fn symbol_of<'a>(values: &Values<'a>) -> Result<SymbolOptions, Misuse<'a>>
     ensures { outcome result ≡ symbol_asked (said values.now) }
@@ -283,12 +154,25 @@ fn symbol_of<'a>(values: &Values<'a>) -> Result<SymbolOptions, Misuse<'a>>
     })
 }
 
-/// Checks that no option is given that a Micro symbol does not have, if the content asks for one.
-fn check_micro<'a>(values: &Values<'a>, content: Content) -> Result<(), Misuse<'a>>
-    ensures { outcome result ≡ micro_asked content (said values.now) }
+/// Whether the symbol is a Micro QR symbol.
+pub fn is_micro(content: Content) -> bool
+    ensures { result ≡ is_micro content }
 {
-    if content != Content::Micro {
+    match content {
+        Content::Micro | Content::MicroBytes => true,
+        Content::Auto | Content::Text | Content::Bytes | Content::Gs1 => false,
+    }
+}
+
+/// Checks that no level or option is given that a Micro symbol does not have, if the content asks
+/// for one.
+fn check_micro<'a>(values: &Values<'a>, content: Content, level: EcLevel) -> Result<(), Misuse<'a>>
+    ensures { outcome result ≡ micro_asked content level (said values.now) }
+{
+    if !is_micro(content) {
         Ok(())
+    } else if level == EcLevel::H {
+        Err(Misuse::Invalid(Name::Level))
     } else if values.has(Name::Strongest) {
         Err(Misuse::Invalid(Name::Strongest))
     } else if values.has(Name::MinVersion) {
@@ -317,22 +201,103 @@ fn numbered_output<'a>(values: &Values<'a>) -> Option<Numbering<'a>>
     numbering_in(values.get(Name::Output)?)
 }
 
+/// Whether the name of the output has a percent sign.
+fn has_percent<'a>(values: &Values<'a>) -> bool
+    ensures { result ≡ has_percent (said values.now) }
+{
+    match values.get(Name::Output) {
+        Some(name) => name.split_once('%').is_some(),
+        None => false,
+    }
+}
+
 /// Returns what of the input a label shows. Lines are those of an input, and not of a text. Each
 /// has a file if the output's name has a number, else their pictures follow each other.
 fn portion_of<'a>(values: &Values<'a>, format: Format) -> Result<Portion<'a>, Misuse<'a>>
     ensures { portion_outcome result ≡ portion_asked format (said values.now) }
 {
+    let numbered = numbered_output(values);
     if !values.has(Name::Lines) {
-        return Ok(Portion::Whole);
+        return match numbered {
+            Some(_) => Err(Misuse::Invalid(Name::Output)),
+            None => Ok(Portion::Whole),
+        };
     }
     if values.has(Name::Text) {
         return Err(Misuse::Invalid(Name::Lines));
     }
-    match numbered_output(values) {
+    match numbered {
         Some(name) => Ok(Portion::Files(name)),
+        None if has_percent(values) => Err(Misuse::Invalid(Name::Output)),
         None if is_stream(format) => Ok(Portion::Lines),
-        None => Err(Misuse::Invalid(Name::Lines)),
+        None => Err(Misuse::NeedsStream),
     }
+}
+
+/// Whether pictures of the format are a text.
+fn is_text(format: Format) -> bool
+    ensures { result ≡ is_text format }
+{
+    match format {
+        Format::Terminal | Format::Svg | Format::Eps | Format::Zpl => true,
+        Format::Png | Format::Pbm | Format::EscPos => false,
+    }
+}
+
+/// Checks that no bytes but a text are written on a terminal, unless the words name the output.
+fn check_terminal<'a>(
+    values: &Values<'a>,
+    on_terminal: bool,
+    format: Format,
+) -> Result<(), Misuse<'a>>
+    ensures { outcome result ≡ terminal_asked on_terminal format (said values.now) }
+{
+    if on_terminal && !is_text(format) && !values.has(Name::Output) {
+        Err(Misuse::NeedsFile)
+    } else {
+        Ok(())
+    }
+}
+
+/// Whether a text of this content has no byte order mark and no newline at its end. Bytes are
+/// drawn as they are.
+fn is_trimmed(content: Content) -> bool
+    ensures { result ≡ is_trimmed content }
+{
+    match content {
+        Content::Auto | Content::Text | Content::Gs1 | Content::Micro => true,
+        Content::Bytes | Content::MicroBytes => false,
+    }
+}
+
+/// Returns the number of the first line, or 1.
+fn first_of<'a>(values: &Values<'a>) -> Result<usize, Misuse<'a>>
+    ensures { outcome result ≡ first_asked (said values.now) }
+{
+    match values.get(Name::First) {
+        Some(word) => match number_in(word) {
+            Some(n) if n <= MAX_FIRST && values.has(Name::Lines) => Ok(n),
+            _ => Err(Misuse::Invalid(Name::First)),
+        },
+        None => Ok(1),
+    }
+}
+
+/// Returns whether a line that has no label is left out.
+fn keeps_going_of<'a>(values: &Values<'a>) -> Result<bool, Misuse<'a>>
+    ensures { outcome result ≡ keeps_going_asked (said values.now) }
+{
+    if values.has(Name::KeepGoing) && !values.has(Name::Lines) {
+        return Err(Misuse::Invalid(Name::KeepGoing));
+    }
+    Ok(values.has(Name::KeepGoing))
+}
+
+/// Returns whether a text is trimmed: one that is read, unless its newline is to be kept.
+fn trims_of<'a>(values: &Values<'a>, content: Content) -> bool
+    ensures { result ≡ trims_asked content (said values.now) }
+{
+    is_trimmed(content) && !values.has(Name::Text) && !values.has(Name::KeepNewline)
 }
 
 /// Returns the label.
@@ -341,17 +306,23 @@ fn label_of<'a>(values: &Values<'a>, on_terminal: bool) -> Result<Label<'a>, Mis
 {
     let content = content_of(values)?;
     let symbol = symbol_of(values)?;
-    check_micro(values, content)?;
+    check_micro(values, content, symbol.level)?;
     let format = format_of(values, on_terminal)?;
+    check_terminal(values, on_terminal, format)?;
     let portion = portion_of(values, format)?;
+    let first = first_of(values)?;
+    let keeps_going = keeps_going_of(values)?;
     let settings = settings_of(values)?;
     Ok(Label {
         content,
         symbol,
         format,
-        settings: zoned(content, settings),
+        settings: zoned(content, in_dots(format, settings)?),
         allow_empty: values.has(Name::AllowEmpty),
+        trims: trims_of(values, content),
         portion,
+        first,
+        keeps_going,
     })
 }
 

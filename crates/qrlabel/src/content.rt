@@ -5,14 +5,17 @@ ghost use Rattle.qrcode_base.specs.declared.symbols.TheConstants.{LONGEST_DATA};
 ghost use Rattle.qrlabel.specs.Contents.{is_ascii, is_bracketed, IsText, IsAutoSymbol, IsGs1Symbol};
 ghost use Rattle.qrlabel.specs.Contents.{IsNoUtf8, IsUtf8Refusal, IsAutoRefusal, IsGs1Stop};
 ghost use Rattle.qrlabel.specs.Contents.{IsBracketedSymbol, IsBracketedStop, IsSymbolAs, IsStopAs};
+ghost use Rattle.qrlabel.specs.Contents.{without_mark, without_newline, IsContent};
+ghost use Rattle.qrlabel.specs.Contents.{IsMicroText, IsMicroTextStop, IsStringSymbol, IsStringStop};
+ghost use Rattle.std.specs.Io.BufRead.{strip_last};
 
 use crate::command::Content;
 use crate::stop::Stop;
-use gs1::element_string;
+use gs1::{check_element_string, element_string};
 use qrcode_base::symbols::LONGEST_DATA;
 use qrcode_core::options::SymbolOptions;
 use qrcode_core::symbol::Symbol;
-use qrcode_core::types::{QrError, QrResult};
+use qrcode_core::types::{EcLevel, QrError, QrResult};
 use std::alloc::Global;
 
 /// Returns the symbol of the bytes, at the level and in the versions of the options. There is none
@@ -36,7 +39,8 @@ pub fn content_symbol(
         Content::Text => Ok(text_symbol(alloc, options, bytes)?),
         Content::Bytes => Ok(Symbol::bytes_with(alloc, bytes, options)?),
         Content::Gs1 => gs1_symbol(alloc, options, bytes),
-        Content::Micro => Ok(Symbol::micro(alloc, bytes, options.level)?),
+        Content::Micro => micro_symbol(alloc, options.level, bytes),
+        Content::MicroBytes => Ok(Symbol::micro(alloc, bytes, options.level)?),
     }
 }
 
@@ -88,6 +92,61 @@ fn text_symbol(alloc: Global, options: &SymbolOptions, bytes: &[u8]) -> QrResult
     Symbol::text_with(alloc, text, options)
 }
 
+/// Returns the bytes without the byte order mark of UTF-8 with which they begin, if they do.
+fn without_mark(bytes: &[u8]) -> &[u8]
+    ensures { result.now ≡ without_mark bytes.now }
+{
+    match bytes {
+        [0xEF, 0xBB, 0xBF, rest @ ..] => rest,
+        _ => bytes,
+    }
+}
+
+/// Returns the bytes without the last, if this is it.
+fn without_last(bytes: &[u8], last: u8) -> &[u8]
+    ensures { result.now ≡ strip_last last bytes.now }
+{
+    if bytes.is_empty() || bytes[bytes.len() - 1] != last {
+        return bytes;
+    }
+    &bytes[..bytes.len() - 1]
+}
+
+/// Returns the bytes without one newline at the end, and a carriage return before this.
+fn without_newline(bytes: &[u8]) -> &[u8]
+    ensures { result.now ≡ without_newline bytes.now }
+{
+    let line = without_last(bytes, b'\n');
+    if line.len() == bytes.len() {
+        return bytes;
+    }
+    without_last(line, b'\r')
+}
+
+/// Returns what of the bytes is content: of a text that is trimmed, not its byte order mark and its
+/// newline.
+pub fn content_of(trims: bool, bytes: &[u8]) -> &[u8]
+    ensures content { IsContent trims bytes.now result.now }
+    ensures shorter { length result.now ≤ length bytes.now }
+{
+    if trims && utf8_of(bytes).is_ok() {
+        return without_newline(without_mark(bytes));
+    }
+    bytes
+}
+
+/// Returns the Micro QR symbol of an ASCII text. It fails with `NotAscii` for another, and else as
+/// `Symbol::micro` does.
+fn micro_symbol(alloc: Global, level: EcLevel, bytes: &[u8]) -> Result<Symbol, Stop>
+    ensures symbol { IfOk result (λ symbol. IsMicroText level bytes.now symbol.modules) }
+    ensures refused { IfErr result (IsMicroTextStop level bytes.now) }
+{
+    if !is_ascii(bytes) {
+        return Err(Stop::NotAscii);
+    }
+    Ok(Symbol::micro(alloc, bytes, level)?)
+}
+
 /// Whether the bytes begin with an opening bracket.
 fn is_bracketed(bytes: &[u8]) -> bool
     ensures { result ≡ is_bracketed bytes.now }
@@ -95,7 +154,7 @@ fn is_bracketed(bytes: &[u8]) -> bool
     !bytes.is_empty() && bytes[0] == b'('
 }
 
-/// Returns the symbol of GS1 elements: bracketed, or an element string.
+/// Returns the symbol of GS1 elements: bracketed, or an element string, which is checked alike.
 fn gs1_symbol(alloc: Global, options: &SymbolOptions, bytes: &[u8]) -> Result<Symbol, Stop>
     ensures symbol { IfOk result (λ symbol. IsGs1Symbol options.now bytes.now symbol.modules) }
     ensures refused { IfErr result (IsGs1Stop options.now bytes.now) }
@@ -103,7 +162,19 @@ fn gs1_symbol(alloc: Global, options: &SymbolOptions, bytes: &[u8]) -> Result<Sy
     if is_bracketed(bytes) {
         bracketed_symbol(alloc, options, bytes)
     } else {
-        Ok(Symbol::elements_with(alloc, bytes, options)?)
+        string_symbol(alloc, options, bytes)
+    }
+}
+
+/// Returns the symbol of an element string. It fails as `check_element_string` does, and then as
+/// `Symbol::elements_with`.
+fn string_symbol(alloc: Global, options: &SymbolOptions, bytes: &[u8]) -> Result<Symbol, Stop>
+    ensures symbol { IfOk result (λ symbol. IsStringSymbol options.now bytes.now symbol.modules) }
+    ensures refused { IfErr result (IsStringStop options.now bytes.now) }
+{
+    match check_element_string(bytes) {
+        Ok(()) => Ok(Symbol::elements_with(alloc, bytes, options)?),
+        Err(error) => Err(Stop::Elements(error)),
     }
 }
 

@@ -7,16 +7,26 @@ ghost use Rattle.std.specs.Prelude.{◌≡◌, IsFalse};
 use crate::command::{Command, Portion, command_of};
 use crate::folder::Folder;
 use crate::progress::Counting;
-use crate::run::{misused, run};
+use crate::run::{LEFT_OUT, misused, run};
 use crate::words::{Name, Values};
-use programs::{Fault, FromReader, FromWriter, Sink, Source, report, write_line};
+use programs::{Fault, FromReader, FromWriter, Sink, Source, WholeFile, report, report_device};
 use std::alloc::AllocError;
-use std::fs;
 use std::fs::File;
-use std::io::{BufReader, IsTerminal, Read, Stderr};
+use std::io::{BufReader, ErrorKind, IsTerminal, Read, Stderr};
 
-/// Does what the words ask for with the devices that they name, and returns the exit status.
+/// Does what the words ask for with the devices that they name, and returns the exit status, which
+/// is 1 if lines were left out.
 pub fn run_on_devices<E: Sink>(rt: &HostRuntime, values: &Values, errors: &mut E) -> u8
+    requires sound { IsFalse (E.state errors.old).failed }
+{
+    match run_command(rt, values, errors) {
+        LEFT_OUT => 1,
+        status => status,
+    }
+}
+
+/// Does what the words ask for with the devices that they name, and returns the status of `run`.
+fn run_command<E: Sink>(rt: &HostRuntime, values: &Values, errors: &mut E) -> u8
     requires sound { IsFalse (E.state errors.old).failed }
 {
     let mut stdout = rt.stdout();
@@ -60,9 +70,18 @@ fn from_input<W: Sink, E: Sink>(
     let Some(path) = values.file(Name::Read) else {
         return from_device(rt, values, on_terminal, rt.stdin(), writer, errors);
     };
-    match File::open(rt, path) {
+    match open(rt, path) {
         Ok(file) => from_device(rt, values, on_terminal, file, writer, errors),
-        Err(_) => failed(errors, "cannot read ", path),
+        Err(reason) => report_device(errors, "qrlabel", "read", path, Some(reason)),
+    }
+}
+
+/// Opens a file to be read, or returns the reason why it can't be.
+fn open(rt: &HostRuntime, path: &str) -> Result<File, ErrorKind> {
+    let file = File::open(rt, path).map_err(|error| error.kind())?;
+    match file.metadata() {
+        Ok(metadata) if metadata.is_dir() => Err(ErrorKind::IsADirectory),
+        _ => Ok(file),
     }
 }
 
@@ -116,56 +135,26 @@ fn run_from<R: Source, W: Sink, E: Sink>(
     )
 }
 
-/// Writes a line with the name of a file, and returns the status 1.
-fn failed<E: Sink>(errors: &mut E, what: &str, path: &str) -> u8
-    requires { IsFalse (E.state errors.old).failed }
-    ensures { result ≡ 1 }
-{
-    let _ = write_line(errors, "qrlabel", &[what, path]);
-    1
-}
-
-/// Draws into a file. What is not a regular file is written as it is; else the label is written to
-/// a file beside it, which gets the name when it is whole.
+/// Draws into a file, which has the label when it is whole. What is not a regular file is written as
+/// it is.
 fn into_file<E: Sink>(rt: &HostRuntime, values: &Values, path: &str, errors: &mut E) -> u8
     requires { IsFalse (E.state errors.old).failed }
 {
-    let is_device = match fs::metadata(rt, path) {
-        Ok(metadata) => !metadata.is_file(),
-        Err(_) => false,
-    };
-    if is_device {
-        return into_device(rt, values, path, errors);
-    }
-    let Ok(part) = format!(in rt.alloc(); "{path}.qrlabel-part") else {
-        return report(errors, "qrlabel", Fault::from(AllocError));
-    };
-    let Ok(file) = File::create(rt, part.as_str()) else {
-        return failed(errors, "cannot write ", path);
+    let whole = match WholeFile::create(rt, path, "qrlabel") {
+        Ok(whole) => whole,
+        Err(reason) => return report_device(errors, "qrlabel", "write", path, Some(reason)),
     };
     let status = {
-        let mut writer = counting(rt, FromWriter::new(file), false);
+        let mut writer = counting(rt, FromWriter::new(whole.file()), false);
         from_input(rt, values, false, &mut writer, errors)
     };
-    if status == 0 && fs::rename(rt, part.as_str(), path).is_ok() {
-        return 0;
+    if status != 0 && status != LEFT_OUT {
+        whole.discard();
+        return status;
     }
-    let _ = fs::remove_file(rt, part.as_str());
-    if status == 0 && !errors.failed() {
-        return failed(errors, "cannot write ", path);
-    }
-    status.max(1)
-}
-
-/// Draws into what is not a regular file: a device, a pipe.
-fn into_device<E: Sink>(rt: &HostRuntime, values: &Values, path: &str, errors: &mut E) -> u8
-    requires { IsFalse (E.state errors.old).failed }
-{
-    match File::options().write(true).open(rt, path) {
-        Ok(file) => {
-            let mut writer = counting(rt, FromWriter::new(file), false);
-            from_input(rt, values, false, &mut writer, errors)
-        }
-        Err(_) => failed(errors, "cannot write ", path),
+    match whole.finish() {
+        Ok(()) => status,
+        Err(_) if errors.failed() => 1,
+        Err(reason) => report_device(errors, "qrlabel", "write", path, Some(reason)),
     }
 }

@@ -1,16 +1,24 @@
 //! Places for files, and labels of lines in files of their own.
-ghost use Rattle.std.specs.Prelude.{◌≡◌, [], ◌∷◌, not, if◌then◌else◌, IsFalse};
-ghost use Rattle.programs.specs.Devices.{input};
+ghost use Rattle.std.specs.Prelude.{◌≡◌, ◌⊎◌, [], ◌∷◌, not, if◌then◌else◌, IsTrue, IsFalse};
+ghost use Rattle.std.specs.Prelude.{IfOk, IfErr, OnOk, IsOk, is_ok};
+ghost use Rattle.programs.specs.Devices.{input, output};
 ghost use Rattle.qrlabel.specs.FileStates.{FilesState, AddsFiles};
 ghost use Rattle.qrlabel.specs.Folders.{folder};
 ghost use Rattle.qrlabel.specs.Lines.{IsLinesOutcome};
+ghost use Rattle.programs.specs.declared.Fault.TheVariants.{Symbol, Write};
+ghost use Rattle.qrcode_core.specs.declared.types.errors.QrError.TheVariants.{OutOfMemory};
+ghost use Rattle.qrlabel.specs.Names.{numbered};
 ghost use Rattle.qrlabel.specs.Placed.{numbering_of};
+ghost use Rattle.qrlabel.specs.Reports.{Reports};
+ghost use Rattle.qrlabel.specs.Stops.{numbered_line};
+ghost use Rattle.qrlabel.specs.declared.stop.Stop.TheVariants.{Fault as FaultStop};
 
 use crate::command::Label;
-use crate::lines::next_label;
+use crate::lines::{Made, next_made};
 use crate::names::{Numbering, numbered};
+use crate::report::report_left_out;
 use crate::stop::{LineStop, Stop};
-use programs::{Fault, Source};
+use programs::{Fault, Sink, Source};
 use qrcode_core::types::QrError;
 use qrcode_render::DrawOptions;
 use std::alloc::Global;
@@ -27,40 +35,80 @@ pub trait Files {
         ensures failure { (state self.new).failed ≡ not result };
 }
 
+/// Writes the label of the line of this number into a file, whose name has the number, or reports
+/// why the line is left out. It returns whether there is a label. It fails if the file could not be
+/// written, and for lack of memory.
+fn put_made<F: Files, E: Sink>(
+    alloc: Global,
+    made: Made,
+    name: &Numbering,
+    number: usize,
+    files: &mut F,
+    errors: &mut E,
+) -> Result<bool, LineStop>
+    requires { IsFalse (F.state files.old).failed }
+    ensures drawn { IfOk result (λ is_drawn. is_drawn ≡ is_ok made) }
+    ensures sound { OnOk result (IsFalse (F.state files.new).failed) }
+    ensures put { OnOk result (IfOk made (λ drawing. (E.state errors.new ≡ E.state errors.old)
+        × AddsFiles (F.state files.old).files (F.state files.new).files
+        ((numbered (numbering_of name.now) number, drawing.items) ∷ []))) }
+    ensures left_out { IfErr made (λ stop. (F.state files.new ≡ F.state files.old)
+        × Reports (E.state errors.old) (E.state errors.new)
+        (numbered_line (record { number = number; stop = stop }))) }
+    ensures broken { IfErr result (λ at. (at.number ≡ number) × IsOk made
+        × (E.state errors.new ≡ E.state errors.old)
+        × AddsFiles (F.state files.old).files (F.state files.new).files []
+        × (((at.stop ≡ FaultStop Write) × IsTrue (F.state files.new).failed)
+        ⊎ ((at.stop ≡ FaultStop (Symbol OutOfMemory)) × (F.state files.new ≡ F.state files.old)))) }
+{
+    match made {
+        Ok(drawing) => {
+            let Ok(name) = numbered(alloc, name, number) else {
+                let stop = Stop::Fault(Fault::Symbol(QrError::OutOfMemory));
+                return Err(LineStop { number, stop });
+            };
+            if !files.put(&name, &drawing) {
+                let stop = Stop::Fault(Fault::Write);
+                return Err(LineStop { number, stop });
+            }
+            Ok(true)
+        }
+        Err(stop) => {
+            report_left_out(errors, LineStop { number, stop });
+            Ok(false)
+        }
+    }
+}
+
 /// Writes the label of each line into a file of its own, whose name has the number of the line. It
-/// fails as `draw_lines` does.
+/// returns and fails as `draw_lines` does.
 #[tactic(auto, using(crate::proofs::LabelLemmas::drawn))]
-pub fn draw_files<R: Source, F: Files>(
+pub fn draw_files<R: Source, F: Files, E: Sink>(
     alloc: Global,
     label: &Label,
     options: &DrawOptions,
     name: &Numbering,
     reader: &mut R,
     files: &mut F,
-) -> Result<(), LineStop>
+    errors: &mut E,
+) -> Result<bool, LineStop>
     requires reader_sound { IsFalse (R.state reader.old).failed }
     requires files_sound { IsFalse (F.state files.old).failed }
     ensures { IsLinesOutcome label.now options.now
         (input (R.state reader.old) (R.state reader.new))
-        (folder (F.state files.old) (F.state files.new) (numbering_of name.now)) result }
+        (folder (F.state files.old) (F.state files.new) label.now.first (numbering_of name.now)
+        (output (E.state errors.old) (E.state errors.new))) result }
 {
     let mut line = Vec::new(alloc);
-    'lines: for number in 1..usize::MAX {
-        match next_label(alloc, label, options, &mut line, reader) {
-            Ok(None) => return Ok(()),
+    let mut every = true;
+    'lines: for number in label.first..usize::MAX {
+        match next_made(alloc, label, options, &mut line, reader) {
+            Ok(None) => return Ok(every),
             Err(stop) => return Err(LineStop { number, stop }),
-            Ok(Some(drawing)) => {
-                let Ok(name) = numbered(alloc, name, number) else {
-                    return Err(LineStop {
-                        number,
-                        stop: Stop::Fault(Fault::Symbol(QrError::OutOfMemory)),
-                    });
-                };
-                if !files.put(&name, &drawing) {
-                    let stop = Stop::Fault(Fault::Write);
-                    return Err(LineStop { number, stop });
-                }
-            }
+            Ok(Some(made)) => match put_made(alloc, made, name, number, files, errors) {
+                Ok(is_drawn) => every &= is_drawn,
+                Err(at) => return Err(at),
+            },
         }
     }
     Err(LineStop {

@@ -16,14 +16,18 @@ Input and output:
                         default: standard output
       --lines           a label of each line, for terminal, pbm, escpos and zpl,
                         or each in a file that is named as in label-%05d.png
+      --first N         number of the first line, 0 to 1000000000; default: 1
+  -k, --keep-going      leave out lines that can't be labels, and report each
+      --keep-newline    keep the newline at the end of a text that is read
       --allow-empty     draw an input or a line without any bytes, too
       --                words after it are no options: TEXT may begin with '-'
 
 Content:
-  -c, --content KIND    auto, text, bytes, gs1 or micro; default: auto, which is
-                        text for UTF-8 that is not ASCII, else bytes
+  -c, --content KIND    auto, text, bytes, gs1, micro or micro-bytes; default:
+                        auto, which is text for UTF-8 that is not ASCII, else
+                        bytes; micro is for ASCII text
   -l, --level LEVEL     L, M, Q or H: about 7, 15, 25 or 30 percent can be
-                        damaged; default: M
+                        damaged; default: M; of micro not H
       --strongest       raise the level as far as the symbol stays as small
       --min-version N   1 to 40; default: 1
       --max-version N   1 to 40; default: 40
@@ -51,7 +55,8 @@ Examples:
   qrlabel --lines -f zpl -r addresses.txt > /dev/usb/lp0
   qrlabel --lines -o label-%05d.png -r addresses.txt
 
-The exit status is 0 if all was written, 1 after an error, and 2 for wrong words.
+The exit status is 0 if all was written, 1 after an error or if a line was left out,
+and 2 for wrong words.
 ";
 
 /// Returns the text of `--help`.

@@ -1,5 +1,5 @@
 //! Tests of labels of lines.
-use crate::run::run;
+use crate::run::{LEFT_OUT, run};
 use crate::test_files::Kept;
 use crate::tests::ran;
 use crate::words::read_words;
@@ -153,6 +153,54 @@ fn names_files(rt: HostRuntime) -> Result<(), QrError> {
 #[test]
 fn stops_at_a_file(rt: HostRuntime) {
     let answer = ran(rt.alloc(), &["--lines", "-o", "%d.png"], b"a\nb\nc\nd\n");
+    assert_eq!(rt; answer.status, 1);
+    assert!(rt; answer.said.as_slice() == b"qrlabel: line 4: write failed\n".as_slice());
+    assert!(rt; answer.files.names.as_str() == "1.png\n2.png\n3.png\n");
+}
+
+/// With `-k` a line that has no label is left out, to its end if it is long, and reported with its
+/// number; the labels of the others are drawn, and the status says so.
+#[test]
+fn leaves_lines_out(rt: HostRuntime) -> Result<(), QrError> {
+    let mut input = Vec::new(rt.alloc());
+    input.extend_from_slice(b"a\n\nb\n")?;
+    input.resize(5 + 9000, b'x')?;
+    input.extend_from_slice(b"\r\nhello\n")?;
+    let words = ["--lines", "-k", "--first", "7", "-f", "pbm", "-s", "1"];
+    let answer = ran(rt.alloc(), &words, &input);
+    let drawn = ran(rt.alloc(), &EACH, b"a\nb\nhello\n");
+    let said =
+        "qrlabel: line 8: empty input, see --allow-empty\nqrlabel: line 10: data too long to encode\n";
+    assert_eq!(rt; answer.status, LEFT_OUT);
+    assert_eq!(rt; answer.unread, 0);
+    assert_eq!(rt; answer.said.as_slice(), said.as_bytes());
+    assert_eq!(rt; drawn.status, 0);
+    assert!(rt; answer.label.as_slice() == drawn.label.as_slice());
+    Ok(())
+}
+
+/// The first line has the number that is asked for, in the names of files and in errors, and a line
+/// that is left out has no file.
+#[test]
+fn numbers_from_the_first(rt: HostRuntime) {
+    let words = ["--lines", "--first", "98", "-k", "-o", "a-%03d.svg"];
+    let answer = ran(rt.alloc(), &words, b"a\n\nb\n");
+    assert_eq!(rt; answer.status, LEFT_OUT);
+    assert!(rt; answer.files.names.as_str() == "a-098.svg\na-100.svg\n");
+    assert!(rt;
+        answer.said.as_slice() == b"qrlabel: line 99: empty input, see --allow-empty\n".as_slice()
+    );
+    let stopped = ran(rt.alloc(), &["--lines", "--first", "0", "-f", "zpl"], b"\n");
+    assert!(rt;
+        stopped.said.as_slice() == b"qrlabel: line 0: empty input, see --allow-empty\n".as_slice()
+    );
+}
+
+/// Lines that follow a write error are not drawn, also where lines are left out.
+#[test]
+fn stops_at_a_file_that_fails(rt: HostRuntime) {
+    let words = ["--lines", "-k", "-o", "%d.png"];
+    let answer = ran(rt.alloc(), &words, b"a\nb\nc\nd\ne\n");
     assert_eq!(rt; answer.status, 1);
     assert!(rt; answer.said.as_slice() == b"qrlabel: line 4: write failed\n".as_slice());
     assert!(rt; answer.files.names.as_str() == "1.png\n2.png\n3.png\n");

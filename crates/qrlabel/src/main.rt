@@ -1,12 +1,14 @@
 //! `qrlabel` draws the symbol of a text, a file or its input as a picture.
 //!
-//! 1. Read the words (`words`), and find out what they ask for (`command`, `numbers`).
+//! 1. Read the words (`words`), and find out what they ask for (`command`, `choices`, `settings`,
+//!    `numbers`).
 //! 2. Open the devices that they name (`devices`).
 //! 3. Make the symbol of the input (`content`) or of each of its lines (`lines`), and write its
 //!    picture (`label`, `run`), by the crate `qrcode_render`.
 //! 4. Say what went wrong, if something did (`misuse`, `report`).
 #![tactic(auto)]
 
+mod choices;
 mod command;
 mod content;
 mod devices;
@@ -23,11 +25,14 @@ mod numbers;
 mod progress;
 mod report;
 mod run;
+mod settings;
 mod stop;
 #[cfg(test)]
 mod test_files;
 #[cfg(test)]
 mod tests;
+#[cfg(test)]
+mod word_tests;
 mod words;
 
 use crate::devices::run_on_devices;

@@ -10,6 +10,23 @@ use programs::{Fault, Sink, write_line};
 /// The second line.
 const ADVICE: &str = "\ntry qrlabel --help";
 
+/// What the size of a module can be.
+const MODULE: &str = "\
+0.05 to 10, at most two decimals, for svg, png and eps; \
+with --dpi for png, zpl and escpos, 1 to 64 whole dots";
+
+/// What the name of the output can be.
+const OUTPUT: &str = "\
+with -f any name, else one that ends with .txt, .svg, .png, .pbm, .eps, .escpos or .zpl; \
+for --lines alone with a number, %d or %0Nd, N from 1 to 9";
+
+/// What the labels of lines need.
+const NEEDS_STREAM: &str = "\
+--lines needs -f terminal, pbm, escpos or zpl, or files as in -o label-%05d.png";
+
+/// What bytes that are no text need on a terminal.
+const NEEDS_FILE: &str = "png, pbm and escpos are not for a terminal: give -o FILE, or -o -";
+
 /// Writes what is wrong with the words, and where help is. It fails with `Write` if the
 /// sink failed.
 pub fn write_misuse<E: Sink>(errors: &mut E, misuse: Misuse) -> Result<(), Fault>
@@ -34,6 +51,8 @@ pub fn write_misuse<E: Sink>(errors: &mut E, misuse: Misuse) -> Result<(), Fault
                 &["invalid ", option, ": ", values, ADVICE],
             )
         }
+        Misuse::NeedsStream => write_line(errors, "qrlabel", &[NEEDS_STREAM, ADVICE]),
+        Misuse::NeedsFile => write_line(errors, "qrlabel", &[NEEDS_FILE, ADVICE]),
     }
 }
 
@@ -62,6 +81,9 @@ fn option_word(name: Name) -> &'static str
         Name::Help => "--help",
         Name::Version => "--version",
         Name::Lines => "--lines",
+        Name::First => "--first",
+        Name::KeepGoing => "--keep-going",
+        Name::KeepNewline => "--keep-newline",
     }
 }
 
@@ -71,23 +93,24 @@ fn values_text(name: Name) -> &'static str
 {
     match name {
         Name::Format => "terminal, svg, png, pbm, eps, escpos or zpl",
-        Name::Content => "auto, text, bytes, gs1 or micro",
-        Name::Level => "L, M, Q or H",
+        Name::Content => "auto, text, bytes, gs1, micro or micro-bytes",
+        Name::Level => "L, M, Q or H; for a Micro symbol L, M or Q",
         Name::Strongest => "not for a Micro symbol",
         Name::MinVersion => "1 to 40, not for a Micro symbol",
         Name::MaxVersion => "1 to 40, at least --min-version, not for a Micro symbol",
-        Name::Scale => "1 to 64",
+        Name::Scale => "1 to 64, and not with both --module-mm and --dpi",
         Name::Quiet => "0 to 16",
-        Name::ModuleMm => "0.05 to 10, for svg, png and eps",
-        Name::Dpi => "50 to 2400, for png, and not with --module-mm",
+        Name::ModuleMm => MODULE,
+        Name::Dpi => "50 to 2400, for png; with --module-mm for zpl and escpos, too",
         Name::Inverted => "for terminal",
         Name::Title => "a text without control characters, for svg",
         Name::At => "X,Y, each 0 to 18000, for zpl",
         Name::Read => "not with a text",
-        Name::Output => "a name that ends with .txt, .svg, .png, .pbm, .eps, .escpos or .zpl",
-        Name::Lines => {
-            "not with a text; for terminal, pbm, escpos and zpl, or files named as in label-%05d.png"
-        }
-        Name::Text | Name::AllowEmpty | Name::Help | Name::Version => "",
+        Name::Output => OUTPUT,
+        Name::Lines => "not with a text",
+        Name::First => "0 to 1000000000, with --lines",
+        Name::KeepGoing => "with --lines",
+        Name::Text | Name::AllowEmpty | Name::KeepNewline => "",
+        Name::Help | Name::Version => "",
     }
 }

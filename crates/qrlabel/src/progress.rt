@@ -4,6 +4,7 @@ ghost use Rattle.std.specs.Prelude.{◌≡◌};
 use crate::files::Files;
 use itoa::Buffer;
 use programs::{Sink, write_all};
+use std::io::ErrorKind;
 
 /// The number is written after each hundredth label.
 const STEP: u64 = 100;
@@ -49,6 +50,8 @@ impl<W, E: Sink> Counting<W, E> {
 impl<W: Sink, E: Sink> Sink for Counting<W, E> {
     ghost state = { λ s. W.state s.labels };
 
+    ghost reason_of_failure = { λ s. W.reason_of_failure s.labels };
+
     fn push(&mut self, buf: &[u8]) -> Option<usize> {
         self.labels.push(buf)
     }
@@ -61,6 +64,10 @@ impl<W: Sink, E: Sink> Sink for Counting<W, E> {
 
     fn failed(&self) -> bool {
         self.labels.failed()
+    }
+
+    fn reason(&self) -> Option<ErrorKind> {
+        self.labels.reason()
     }
 }
 

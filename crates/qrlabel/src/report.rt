@@ -1,5 +1,5 @@
 //! Why there is no label, as a line on standard error.
-ghost use Rattle.std.specs.Prelude.{◌≡◌, IsFalse};
+ghost use Rattle.std.specs.Prelude.{◌≡◌, IsTrue, IsFalse};
 ghost use Rattle.programs.specs.Devices.{output, Writes};
 ghost use Rattle.qrlabel.specs.Stops.{element_number, element_text, stop_line, element_line};
 ghost use Rattle.qrlabel.specs.Stops.{numbered_line};
@@ -8,6 +8,9 @@ use crate::stop::{LineStop, Stop};
 use gs1::Gs1Error;
 use itoa::Buffer;
 use programs::{Fault, Sink, report, write_all, write_line};
+
+/// Text in a Micro symbol.
+const NOT_ASCII: &str = "a Micro symbol has no text beyond ASCII, see -c micro-bytes";
 
 /// Writes why there is no label, as one line after a name, and returns the status 1.
 #[tactic(auto, unfolding(crate::specs::Stops::stop_line))]
@@ -21,6 +24,7 @@ pub fn report_stop<E: Sink>(errors: &mut E, name: &str, stop: Stop) -> u8
         Stop::Fault(fault) => return report(errors, name, fault),
         Stop::Elements(error) => write_element(errors, name, error),
         Stop::Empty => write_line(errors, name, &["empty input, see --allow-empty"]),
+        Stop::NotAscii => write_line(errors, name, &[NOT_ASCII]),
     };
     1
 }
@@ -40,7 +44,18 @@ pub fn report_line<E: Sink>(errors: &mut E, at: LineStop) -> u8
     report_stop(errors, buffer.format(at.number), at.stop)
 }
 
-/// Writes the line of a text that gives no elements. Elements are counted from 0.
+/// Writes why a line of the input is left out, if the sink has not failed.
+pub fn report_left_out<E: Sink>(errors: &mut E, at: LineStop)
+    ensures silent { IsTrue (E.state errors.old).failed → errors.new ≡ errors.old }
+    ensures reported { IsFalse (E.state errors.old).failed →
+        Writes (output (E.state errors.old) (E.state errors.new)) (numbered_line at) }
+{
+    if !errors.failed() {
+        let _ = report_line(errors, at);
+    }
+}
+
+/// Writes the line of a text that gives no elements. Elements are counted from 1.
 #[tactic(auto, unfolding(crate::specs::Stops::element_line))]
 fn write_element<E: Sink>(errors: &mut E, name: &str, error: Gs1Error) -> Result<(), Fault>
     requires { IsFalse (E.state errors.old).failed }
@@ -51,7 +66,7 @@ fn write_element<E: Sink>(errors: &mut E, name: &str, error: Gs1Error) -> Result
     match element_number(error) {
         Some(number) => {
             let mut buffer = Buffer::new();
-            let number = buffer.format(number);
+            let number = buffer.format(number.saturating_add(1));
             write_line(errors, name, &["element ", number, ": ", text])
         }
         None => write_line(errors, name, &[text]),

@@ -21,7 +21,7 @@ use crate::help::{help_text, version_text};
 use crate::label::label_bytes;
 use crate::lines::draw_lines;
 use crate::misuse::write_misuse;
-use crate::report::{report_line, report_stop};
+use crate::report::{report_left_out, report_stop};
 use crate::stop::{LineStop, Stop};
 use crate::words::{Misuse, Name, Values};
 use programs::{Sink, Source, read_all, report, write_all};
@@ -46,7 +46,10 @@ fn draw_label<R: Source, W: Sink>(
         (input (R.state reader.old) (R.state reader.new)) }
 {
     let bytes = read_all(alloc, reader)?;
-    let drawing = label_bytes(alloc, label, options, &bytes)?;
+    let drawing = match label_bytes(alloc, label, options, &bytes) {
+        Ok(drawing) => drawing,
+        Err(stop) => return Err(stop),
+    };
     write_all(writer, &drawing)?;
     Ok(())
 }
@@ -75,16 +78,23 @@ fn serve_label<R: Source, W: Sink, E: Sink>(
     }
 }
 
-/// Returns the exit status for the labels of lines. If one is missing, a line on `errors` says why.
-fn lines_status<E: Sink>(errors: &mut E, outcome: Result<(), LineStop>) -> u8
-    requires sound { IsFalse (E.state errors.old).failed }
+/// The status where lines were left out, and the labels of all others were written.
+pub const LEFT_OUT: u8 = 3;
+
+/// Returns the exit status for the labels of lines: 0 if there is one of each, `LEFT_OUT` if there
+/// is one of each line that is not left out. If they end at a line, a line on `errors` says why.
+fn lines_status<E: Sink>(errors: &mut E, outcome: Result<bool, LineStop>) -> u8
     ensures status { result ≡ lines_status outcome }
     ensures reported { Writes (output (E.state errors.old) (E.state errors.new))
         (lines_reported outcome) }
 {
     match outcome {
-        Ok(()) => 0,
-        Err(at) => report_line(errors, at),
+        Ok(true) => 0,
+        Ok(false) => LEFT_OUT,
+        Err(at) => {
+            report_left_out(errors, at);
+            1
+        }
     }
 }
 
@@ -112,11 +122,11 @@ fn serve<R: Source, W: Sink, F: Files, E: Sink>(
     match label.portion {
         Portion::Whole => serve_label(alloc, label, options, reader, writer, errors),
         Portion::Lines => {
-            let outcome = draw_lines(alloc, label, options, reader, writer);
+            let outcome = draw_lines(alloc, label, options, reader, writer, errors);
             lines_status(errors, outcome)
         }
         Portion::Files(name) => {
-            let outcome = draw_files(alloc, label, options, &name, reader, files);
+            let outcome = draw_files(alloc, label, options, &name, reader, files, errors);
             lines_status(errors, outcome)
         }
     }
@@ -199,7 +209,7 @@ fn run_label<R: Source, W: Sink, F: Files, E: Sink>(
 }
 
 /// Does what the words ask for, and returns the exit status: 0 if all was written, 1 after an
-/// error, 2 if the words are wrong. An error of `errors` itself is ignored.
+/// error, 2 if the words are wrong, and `LEFT_OUT`. An error of `errors` itself is ignored.
 pub fn run<R: Source, W: Sink, F: Files, E: Sink>(
     alloc: Global,
     values: &Values,

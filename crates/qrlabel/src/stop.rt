@@ -18,6 +18,8 @@ pub enum Stop {
     Elements(Gs1Error),
     /// The input has no bytes.
     Empty,
+    /// The text is not ASCII, and a Micro QR symbol has no designator for it.
+    NotAscii,
 }
 
 impl From<Fault> for Stop {

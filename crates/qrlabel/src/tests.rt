@@ -1,4 +1,4 @@
-//! Tests of words, labels and errors.
+//! Tests of labels and errors.
 use crate::run::{misused, run};
 use crate::test_files::Kept;
 use crate::words::read_words;
@@ -78,95 +78,6 @@ fn draws_bitmaps(rt: HostRuntime) -> Result<(), QrError> {
         assert_eq!(rt; answer.status, 0, "{words:?}");
         assert_eq!(rt; answer.label.len(), length, "{words:?}");
         assert_eq!(rt; answer.said.len(), 0, "{words:?}");
-    }
-    Ok(())
-}
-
-/// Each row has words that are wrong, and what is written about them. Nothing is read or drawn.
-#[test]
-fn names_what_is_wrong(rt: HostRuntime) -> Result<(), QrError> {
-    let rows: [(&[&str], &str); 31] = [
-        (&["--foo"], "no option --foo"),
-        (&["-x"], "no option -x"),
-        (&["-s"], "no value after --scale"),
-        (&["a", "b"], "more than one text: b"),
-        (&["--", "-a", "-b"], "more than one text: -b"),
-        (&["a", "--", "--help"], "more than one text: --help"),
-        (&["-x4"], "no option -x4"),
-        (&["--lines=1"], "no option --lines=1"),
-        (&["--=a"], "no option --=a"),
-        (&["--scale="], "invalid --scale: 1 to 64"),
-        (&["-s", "0"], "invalid --scale: 1 to 64"),
-        (&["-s", "65"], "invalid --scale: 1 to 64"),
-        (&["-s", "x"], "invalid --scale: 1 to 64"),
-        (&["-q", "17"], "invalid --quiet: 0 to 16"),
-        (&["-l", "X"], "invalid --level: L, M, Q or H"),
-        (
-            &["-c", "mikro"],
-            "invalid --content: auto, text, bytes, gs1 or micro",
-        ),
-        (
-            &["-f", "gif"],
-            "invalid --format: terminal, svg, png, pbm, eps, escpos or zpl",
-        ),
-        (
-            &["-o", "a.gif"],
-            "invalid --output: a name that ends with .txt, .svg, .png, .pbm, .eps, .escpos or .zpl",
-        ),
-        (&["--inverted"], "invalid --inverted: for terminal"),
-        (
-            &["--dpi", "300"],
-            "invalid --dpi: 50 to 2400, for png, and not with --module-mm",
-        ),
-        (
-            &["--module-mm", "0.04"],
-            "invalid --module-mm: 0.05 to 10, for svg, png and eps",
-        ),
-        (
-            &["--module-mm", "0.333"],
-            "invalid --module-mm: 0.05 to 10, for svg, png and eps",
-        ),
-        (
-            &["--at", "1"],
-            "invalid --at: X,Y, each 0 to 18000, for zpl",
-        ),
-        (
-            &["-f", "zpl", "--at", "18001,0"],
-            "invalid --at: X,Y, each 0 to 18000, for zpl",
-        ),
-        (
-            &["-f", "pbm", "--title", "x"],
-            "invalid --title: a text without control characters, for svg",
-        ),
-        (
-            &["-c", "micro", "--strongest"],
-            "invalid --strongest: not for a Micro symbol",
-        ),
-        (
-            &["-c", "micro", "--min-version", "1"],
-            "invalid --min-version: 1 to 40, not for a Micro symbol",
-        ),
-        (
-            &["--min-version", "5", "--max-version", "4"],
-            "invalid --max-version: 1 to 40, at least --min-version, not for a Micro symbol",
-        ),
-        (&["-r", "a", "b"], "invalid --read: not with a text"),
-        (
-            &["--lines"],
-            "invalid --lines: not with a text; for terminal, pbm, escpos and zpl, or files named as in label-%05d.png",
-        ),
-        (
-            &["--lines", "-f", "zpl", "b"],
-            "invalid --lines: not with a text; for terminal, pbm, escpos and zpl, or files named as in label-%05d.png",
-        ),
-    ];
-    for (words, line) in rows {
-        let answer = ran(rt.alloc(), words, b"hello");
-        let whole = format!(in rt.alloc(); "qrlabel: {line}\ntry qrlabel --help\n")?;
-        assert_eq!(rt; answer.status, 2, "{words:?}");
-        assert_eq!(rt; answer.said.as_slice(), whole.as_bytes(), "{words:?}");
-        assert_eq!(rt; answer.label.len(), 0, "{words:?}");
-        assert_eq!(rt; answer.unread, 5, "{words:?}");
     }
     Ok(())
 }
@@ -256,6 +167,91 @@ fn chooses_content_and_level(rt: HostRuntime) {
     assert!(rt; draw_the_same(alloc, &strongest, b"hello", &high, b"hello"));
 }
 
+/// One newline at the end of a text that is read, a carriage return before it and a byte order mark
+/// at the start are no part of it. Of bytes and of a text among the words they are, and they are
+/// kept on request.
+#[test]
+fn trims_a_text(rt: HostRuntime) {
+    let (alloc, usual) = (rt.alloc(), ["-f", "pbm"]);
+    let gs1 = ["-f", "pbm", "-c", "gs1"];
+    let (bytes, kept) = (
+        ["-f", "pbm", "-c", "bytes"],
+        ["-f", "pbm", "--keep-newline"],
+    );
+    for text in [
+        b"hello\n".as_slice(),
+        b"hello\r\n",
+        b"\xEF\xBB\xBFhello",
+        b"\xEF\xBB\xBFhello\n",
+    ] {
+        assert!(rt; draw_the_same(alloc, &usual, text, &usual, b"hello"));
+        assert!(rt; !draw_the_same(alloc, &bytes, text, &bytes, b"hello"));
+        assert!(rt; draw_the_same(alloc, &kept, text, &kept, text));
+        assert!(rt; !draw_the_same(alloc, &kept, text, &usual, b"hello"));
+    }
+    assert!(rt; draw_the_same(alloc, &usual, b"hello\n\n", &bytes, b"hello\n"));
+    assert!(rt; draw_the_same(alloc, &usual, b"hello\r", &bytes, b"hello\r"));
+    assert!(rt; draw_the_same(alloc, &usual, b"caf\xE9\n", &bytes, b"caf\xE9\n"));
+    assert!(rt;
+        draw_the_same(
+            alloc,
+            &["-f", "pbm", "hello\n"],
+            b"hello\n",
+            &bytes,
+            b"hello\n"
+        )
+    );
+    let element = b"(10)A\n".as_slice();
+    assert!(rt; draw_the_same(alloc, &gs1, element, &gs1, b"(10)A"));
+}
+
+/// A size in millimetres and a resolution give the scale, in whole dots: of 0.5 mm 5 at 300 dots an
+/// inch (0.5 * 300 / 25.4 = 5.9), and 3 at 203 (4.0 - 0.004). PNG has the resolution, too.
+#[test]
+fn draws_in_dots(rt: HostRuntime) {
+    let rows: [(&[&str], &[&str]); 3] = [
+        (
+            &["-f", "zpl", "--module-mm", "0.5", "--dpi", "300"],
+            &["-f", "zpl", "-s", "5"],
+        ),
+        (
+            &["-f", "escpos", "--module-mm", "0.5", "--dpi", "203"],
+            &["-f", "escpos", "-s", "3"],
+        ),
+        (
+            &["-f", "png", "--module-mm", "0.5", "--dpi", "300"],
+            &["-f", "png", "-s", "5", "--dpi", "300"],
+        ),
+    ];
+    for (words, others) in rows {
+        let (asked, wanted) = (
+            ran(rt.alloc(), words, b"hello"),
+            ran(rt.alloc(), others, b"hello"),
+        );
+        assert_eq!(rt; asked.status, 0, "{words:?}");
+        assert_eq!(rt;
+            asked.label.as_slice(),
+            wanted.label.as_slice(),
+            "{words:?}"
+        );
+    }
+}
+
+/// Micro QR symbols of text that is not ASCII are those of its bytes, if these are asked for.
+#[test]
+fn draws_micro_bytes(rt: HostRuntime) {
+    let words = ["-f", "pbm", "-l", "L", "-s", "1", "-c", "micro-bytes"];
+    let answer = ran(rt.alloc(), &words, "倉庫".as_bytes());
+    // Version M3 at level L has 15 modules a side, and room for the 6 bytes.
+    assert_eq!(rt; answer.status, 0);
+    assert_eq!(rt; answer.label.len(), 9 + 3 * 19);
+    let (ascii, text) = (
+        ["-f", "pbm", "-c", "micro-bytes"],
+        ["-f", "pbm", "-c", "micro"],
+    );
+    assert!(rt; draw_the_same(rt.alloc(), &ascii, b"A1-4711", &text, b"A1-4711"));
+}
+
 /// Bracketed elements are drawn as their element string, in which the separator 1D (hex) ends those
 /// whose length is not predefined (GS1 General Specifications, 7.8).
 #[test]
@@ -296,7 +292,7 @@ fn inverts_text(rt: HostRuntime) -> Result<(), QrError> {
 #[test]
 fn reports_errors(rt: HostRuntime) -> Result<(), QrError> {
     let many = [0xFF; 7090];
-    let rows: [(&str, &[u8], &str); 11] = [
+    let rows: [(&str, &[u8], &str); 17] = [
         (
             "text",
             b"caf\xE9",
@@ -315,19 +311,41 @@ fn reports_errors(rt: HostRuntime) -> Result<(), QrError> {
         ),
         ("auto", &many, "data too long to encode"),
         ("micro", &[b'a'; 16], "data too long to encode"),
+        (
+            "micro",
+            "倉庫".as_bytes(),
+            "a Micro symbol has no text beyond ASCII, see -c micro-bytes",
+        ),
+        ("auto", b"\n", "empty input, see --allow-empty"),
         ("bytes", b"", "empty input, see --allow-empty"),
         (
             "gs1",
             b"10AB|C",
-            "invalid character byte 0x7c at position 4",
+            "element 1: a character of the value is not allowed there",
         ),
-        ("gs1", b"(01)09506000134351", "element 0: wrong check digit"),
+        ("gs1", b"0109506000134353", "element 1: wrong check digit"),
+        (
+            "gs1",
+            b"0109506000134352(10)AB",
+            "element 2: the identifier is not two to four digits",
+        ),
+        (
+            "gs1",
+            b"hello",
+            "element 1: the identifier is not two to four digits",
+        ),
+        (
+            "gs1",
+            b"010950600013435205A",
+            "element 2: unknown identifier",
+        ),
+        ("gs1", b"(01)09506000134351", "element 1: wrong check digit"),
         (
             "gs1",
             b"(10)A(01)1",
-            "element 1: the length of the value is wrong",
+            "element 2: the length of the value is wrong",
         ),
-        ("gs1", b"(10)", "element 0: the value is empty"),
+        ("gs1", b"(10)", "element 1: the value is empty"),
     ];
     for (content, bytes, line) in rows {
         let answer = ran(rt.alloc(), &["-l", "L", "-c", content], bytes);
@@ -339,23 +357,6 @@ fn reports_errors(rt: HostRuntime) -> Result<(), QrError> {
     let empty = ran(rt.alloc(), &["--allow-empty"], b"");
     assert_eq!(rt; empty.status, 0);
     assert!(rt; empty.label.starts_with(b"<svg "));
-    Ok(())
-}
-
-/// Help and the version come first, whatever else is asked for.
-#[test]
-fn shows_help(rt: HostRuntime) -> Result<(), QrError> {
-    let rows: [(&[&str], &str); 3] = [
-        (&["--help"], "usage: qrlabel [OPTIONS] [TEXT]\n"),
-        (&["-s", "99", "-h"], "usage: qrlabel [OPTIONS] [TEXT]\n"),
-        (&["-V", "-l", "X"], "qrlabel 0.3.0\n"),
-    ];
-    for (words, beginning) in rows {
-        let answer = ran(rt.alloc(), words, b"hello");
-        assert_eq!(rt; answer.status, 0, "{words:?}");
-        assert!(rt; answer.label.starts_with(beginning.as_bytes()), "{words:?}");
-        assert_eq!(rt; answer.unread, 5, "{words:?}");
-    }
     Ok(())
 }
 

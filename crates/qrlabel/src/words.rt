@@ -30,6 +30,9 @@ pub enum Name {
     Help,
     Version,
     Lines,
+    First,
+    KeepGoing,
+    KeepNewline,
 }
 
 /// Returns the option that a word names. After `--` come texts.
@@ -54,6 +57,9 @@ fn named(word: &str) -> Option<Name>
         "-r" | "--read" => Some(Name::Read),
         "-o" | "--output" => Some(Name::Output),
         "--lines" => Some(Name::Lines),
+        "--first" => Some(Name::First),
+        "-k" | "--keep-going" => Some(Name::KeepGoing),
+        "--keep-newline" => Some(Name::KeepNewline),
         "--allow-empty" => Some(Name::AllowEmpty),
         "-h" | "--help" => Some(Name::Help),
         "-V" | "--version" => Some(Name::Version),
@@ -68,7 +74,7 @@ fn takes_value(name: Name) -> bool
 {
     match name {
         Name::Strongest | Name::Inverted | Name::Lines | Name::AllowEmpty => false,
-        Name::Help | Name::Version => false,
+        Name::KeepGoing | Name::KeepNewline | Name::Help | Name::Version => false,
         _ => true,
     }
 }
@@ -84,7 +90,7 @@ fn is_text(name: Name) -> bool
 }
 
 /// The number of options.
-pub const COUNT: usize = 20;
+pub const COUNT: usize = 23;
 
 /// What is wrong with the words.
 #[derive(Clone, Copy, Debug, PartialEq, Eq)]
@@ -97,6 +103,10 @@ pub enum Misuse<'a> {
     SecondText(&'a str),
     /// The option has a value that it can't have, or does not go with the others.
     Invalid(Name),
+    /// The labels of lines can't follow each other in this format.
+    NeedsStream,
+    /// Bytes that are no text would be written on a terminal.
+    NeedsFile,
 }
 
 /// The last value of each option, and the text, by their numbers. The value of a flag is empty.

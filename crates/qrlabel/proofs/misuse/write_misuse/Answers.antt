@@ -20,3 +20,11 @@ unfolding wrong_line
 returns-in-Invalid g c =
     rw (c.in-Invalid.is)
     (rw (c.option_word-option-in-Invalid.ensures, c.values_text-values.ensures) at c.write_line-in-Invalid.ensures)
+
+pub returns-in-NeedsStream : goal.returns-in-NeedsStream
+unfolding wrong_line
+returns-in-NeedsStream g c = rw (c.in-NeedsStream.is) c.write_line-in-NeedsStream.ensures
+
+pub returns-in-NeedsFile : goal.returns-in-NeedsFile
+unfolding wrong_line
+returns-in-NeedsFile g c = rw (c.in-NeedsFile.is) c.write_line-in-NeedsFile.ensures

@@ -1,7 +1,7 @@
 -- The end of a name is the ending, but for capital letters.
 use Rattle.std.proofs.Common.{rules}
 use Rattle.qrlabel.proofs.WordLemmas.{ends}
-use Rattle.qrlabel.proofs.command.has_ending.Goals as goal
+use Rattle.qrlabel.proofs.choices.has_ending.Goals as goal
 
 pub returns : goal.returns
 returns c =

@@ -1,0 +1,161 @@
+//! Tests of words that are wrong, of help and of the version.
+use crate::tests::ran;
+use qrcode_core::types::QrError;
+
+/// What is said of the name of an output that is wrong.
+const OUTPUT: &str = "\
+invalid --output: with -f any name, else one that ends with \
+.txt, .svg, .png, .pbm, .eps, .escpos or .zpl; \
+for --lines alone with a number, %d or %0Nd, N from 1 to 9";
+
+/// What is said of a scale and of a size that are wrong.
+const SCALE: &str = "invalid --scale: 1 to 64, and not with both --module-mm and --dpi";
+
+const MODULE: &str = "\
+invalid --module-mm: 0.05 to 10, at most two decimals, for svg, png and eps; \
+with --dpi for png, zpl and escpos, 1 to 64 whole dots";
+
+/// Each row has words that are wrong, and what is written about them. Nothing is read or drawn.
+#[test]
+fn names_what_is_wrong(rt: HostRuntime) -> Result<(), QrError> {
+    let rows: [(&[&str], &str); 46] = [
+        (&["--foo"], "no option --foo"),
+        (&["-x"], "no option -x"),
+        (&["-s"], "no value after --scale"),
+        (&["a", "b"], "more than one text: b"),
+        (&["--", "-a", "-b"], "more than one text: -b"),
+        (&["a", "--", "--help"], "more than one text: --help"),
+        (&["-x4"], "no option -x4"),
+        (&["--lines=1"], "no option --lines=1"),
+        (&["--=a"], "no option --=a"),
+        (&["--scale="], SCALE),
+        (&["-s", "0"], SCALE),
+        (&["-s", "65"], SCALE),
+        (&["-s", "x"], SCALE),
+        (&["-q", "17"], "invalid --quiet: 0 to 16"),
+        (
+            &["-l", "X"],
+            "invalid --level: L, M, Q or H; for a Micro symbol L, M or Q",
+        ),
+        (
+            &["-c", "micro", "-l", "H"],
+            "invalid --level: L, M, Q or H; for a Micro symbol L, M or Q",
+        ),
+        (
+            &["--first", "5"],
+            "invalid --first: 0 to 1000000000, with --lines",
+        ),
+        (
+            &["--lines", "-f", "zpl", "--first", "1000000001"],
+            "invalid --first: 0 to 1000000000, with --lines",
+        ),
+        (
+            &["--lines", "-f", "zpl", "--first", "-1"],
+            "invalid --first: 0 to 1000000000, with --lines",
+        ),
+        (&["-k"], "invalid --keep-going: with --lines"),
+        (
+            &["-c", "mikro"],
+            "invalid --content: auto, text, bytes, gs1, micro or micro-bytes",
+        ),
+        (
+            &["-f", "gif"],
+            "invalid --format: terminal, svg, png, pbm, eps, escpos or zpl",
+        ),
+        (&["-o", "a.gif"], OUTPUT),
+        (&["-o", "a%d.png"], OUTPUT),
+        (&["-o", "a%05d.png", "b"], OUTPUT),
+        (&["--lines", "-o", "a%5d.png"], OUTPUT),
+        (&["--lines", "-o", "a%020d.zpl"], OUTPUT),
+        (&["--inverted"], "invalid --inverted: for terminal"),
+        (
+            &["--dpi", "300"],
+            "invalid --dpi: 50 to 2400, for png; with --module-mm for zpl and escpos, too",
+        ),
+        (&["--module-mm", "0.04"], MODULE),
+        (&["--module-mm", "0.333"], MODULE),
+        (
+            &["-f", "zpl", "--module-mm", "0.05", "--dpi", "300"],
+            MODULE,
+        ),
+        (
+            &["-f", "escpos", "--module-mm", "10", "--dpi", "203"],
+            MODULE,
+        ),
+        (
+            &["-f", "png", "--module-mm", "1", "--dpi", "2401"],
+            "invalid --dpi: 50 to 2400, for png; with --module-mm for zpl and escpos, too",
+        ),
+        (
+            &["-f", "png", "--module-mm", "1", "--dpi", "203", "-s", "4"],
+            SCALE,
+        ),
+        (
+            &["-f", "svg", "--module-mm", "1", "--dpi", "203"],
+            "invalid --dpi: 50 to 2400, for png; with --module-mm for zpl and escpos, too",
+        ),
+        (
+            &["--at", "1"],
+            "invalid --at: X,Y, each 0 to 18000, for zpl",
+        ),
+        (
+            &["-f", "zpl", "--at", "18001,0"],
+            "invalid --at: X,Y, each 0 to 18000, for zpl",
+        ),
+        (
+            &["-f", "pbm", "--title", "x"],
+            "invalid --title: a text without control characters, for svg",
+        ),
+        (
+            &["-c", "micro", "--strongest"],
+            "invalid --strongest: not for a Micro symbol",
+        ),
+        (
+            &["-c", "micro", "--min-version", "1"],
+            "invalid --min-version: 1 to 40, not for a Micro symbol",
+        ),
+        (
+            &["--min-version", "5", "--max-version", "4"],
+            "invalid --max-version: 1 to 40, at least --min-version, not for a Micro symbol",
+        ),
+        (&["-r", "a", "b"], "invalid --read: not with a text"),
+        (
+            &["--lines"],
+            "--lines needs -f terminal, pbm, escpos or zpl, or files as in -o label-%05d.png",
+        ),
+        (
+            &["--lines", "-f", "zpl", "b"],
+            "invalid --lines: not with a text",
+        ),
+        (
+            &["-c", "micro-bytes", "--strongest"],
+            "invalid --strongest: not for a Micro symbol",
+        ),
+    ];
+    for (words, line) in rows {
+        let answer = ran(rt.alloc(), words, b"hello");
+        let whole = format!(in rt.alloc(); "qrlabel: {line}\ntry qrlabel --help\n")?;
+        assert_eq!(rt; answer.status, 2, "{words:?}");
+        assert_eq!(rt; answer.said.as_slice(), whole.as_bytes(), "{words:?}");
+        assert_eq!(rt; answer.label.len(), 0, "{words:?}");
+        assert_eq!(rt; answer.unread, 5, "{words:?}");
+    }
+    Ok(())
+}
+
+/// Help and the version come first, whatever else is asked for.
+#[test]
+fn shows_help(rt: HostRuntime) -> Result<(), QrError> {
+    let rows: [(&[&str], &str); 3] = [
+        (&["--help"], "usage: qrlabel [OPTIONS] [TEXT]\n"),
+        (&["-s", "99", "-h"], "usage: qrlabel [OPTIONS] [TEXT]\n"),
+        (&["-V", "-l", "X"], "qrlabel 0.3.0\n"),
+    ];
+    for (words, beginning) in rows {
+        let answer = ran(rt.alloc(), words, b"hello");
+        assert_eq!(rt; answer.status, 0, "{words:?}");
+        assert!(rt; answer.label.starts_with(beginning.as_bytes()), "{words:?}");
+        assert_eq!(rt; answer.unread, 5, "{words:?}");
+    }
+    Ok(())
+}
