@@ -143,9 +143,15 @@ fn begin_replacing(
     }
 }
 
-/// Whether a fault of a part says nothing of the folder.
+/// Whether a fault of a part says nothing of the folder, or that a file can't grow, either.
 fn is_final(kind: ErrorKind) -> bool {
-    matches!(kind, ErrorKind::AlreadyExists | ErrorKind::OutOfMemory)
+    matches!(
+        kind,
+        ErrorKind::AlreadyExists
+            | ErrorKind::OutOfMemory
+            | ErrorKind::StorageFull
+            | ErrorKind::QuotaExceeded
+    )
 }
 
 /// Opens what is there for writing, and keeps what it has.

@@ -104,6 +104,7 @@ pub record ServesLines (label : Label) (options : DrawOptions) (input : Input) (
   pub outcome : Result Bool LineStop
   pub said : Output
   pub begins : said.before ≡ errors.before
+  pub sound : IsTrue said.failed → IsTrue errors.failed
   pub is_outcome : IsLinesOutcome label options input (place said) outcome
   pub status_is : status ≡ lines_status outcome
   pub reports : Writes (later said errors) (lines_reported outcome)

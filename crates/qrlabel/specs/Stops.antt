@@ -22,8 +22,8 @@ element_number _ = None
 
 -- What is wrong with an element.
 abbrev pub element_text : Gs1Error → List ℕ
-element_text NoElements = codes "the text does not begin with a bracketed identifier"
-element_text (InvalidIdentifier element) = codes "the identifier is not two to four digits"
+element_text NoElements = codes "there is no element"
+element_text (InvalidIdentifier element) = codes "the identifier is cut short, or not two to four digits"
 element_text (UnknownIdentifier element) = codes "unknown identifier"
 element_text (EmptyValue element) = codes "the value is empty"
 element_text (ValueTooLong element) = codes "the value has more than 90 characters"
@@ -60,6 +60,6 @@ stop_line name (Elements error) = element_line name error
 stop_line name Empty = line_of name (codes "empty input, see --allow-empty" ∷ [])
 stop_line name NotAscii = line_of name (not_ascii_text ∷ [])
 
--- The same of a line of the input, with its number, counted from 1.
+-- The same of a line of the input, with its number.
 abbrev pub numbered_line : LineStop → List ℕ
 numbered_line at = codes "qrlabel: line " ++ stop_line (decimal at.number) at.stop

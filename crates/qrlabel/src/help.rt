@@ -27,7 +27,7 @@ Content:
                         auto, which is text for UTF-8 that is not ASCII, else
                         bytes; micro is for ASCII text
   -l, --level LEVEL     L, M, Q or H: about 7, 15, 25 or 30 percent can be
-                        damaged; default: M; of micro not H
+                        damaged; default: M; micro has no H
       --strongest       raise the level as far as the symbol stays as small
       --min-version N   1 to 40; default: 1
       --max-version N   1 to 40; default: 40
@@ -38,8 +38,10 @@ Picture:
                         else terminal on a terminal, and svg elsewhere
   -s, --scale N         pixels a module, 1 to 64; default: 8, of terminal 1
   -q, --quiet N         light margin in modules, 0 to 16; default: 4, of micro 2
-      --module-mm MM    size of a module, 0.05 to 10 (svg, png, eps)
-      --dpi N           pixels an inch, 50 to 2400 (png)
+      --module-mm MM    size of a module, 0.05 to 10 (svg, png, eps; with --dpi
+                        png, zpl, escpos: as many whole dots as fit)
+      --dpi N           dots an inch, 50 to 2400 (png; with --module-mm also zpl,
+                        escpos)
       --inverted        for light text on a dark screen (terminal)
       --title TITLE     title of the picture (svg)
       --at X,Y          position on the label in dots, 0 to 18000 (zpl)

@@ -94,8 +94,9 @@ fn element_text(error: Gs1Error) -> &'static str
     ensures { result.now ≡ element_text error }
 {
     match error {
-        Gs1Error::NoElements => "the text does not begin with a bracketed identifier",
-        Gs1Error::InvalidIdentifier { .. } => "the identifier is not two to four digits",
+        Gs1Error::NoElements => "there is no element",
+        Gs1Error::InvalidIdentifier { .. } =>
+            "the identifier is cut short, or not two to four digits",
         Gs1Error::UnknownIdentifier { .. } => "unknown identifier",
         Gs1Error::EmptyValue { .. } => "the value is empty",
         Gs1Error::ValueTooLong { .. } => "the value has more than 90 characters",

@@ -2,7 +2,7 @@
 //!
 //! 1. Find out what is asked for (`command_of`).
 //! 2. Write the help or the version (`show`), or draw labels (`run_label`).
-ghost use Rattle.std.specs.Prelude.{◌≡◌, ◌+◌, IsFalse};
+ghost use Rattle.std.specs.Prelude.{◌≡◌, ◌+◌, IsTrue, IsFalse};
 ghost use Rattle.qrcode_base.specs.declared.symbols.TheConstants.{LONGEST_DATA};
 ghost use Rattle.programs.specs.Devices.{input, output, ReadsWithin, Writes};
 ghost use Rattle.qrlabel.specs.Commands.{command_asked};
@@ -87,6 +87,7 @@ fn lines_status<E: Sink>(errors: &mut E, outcome: Result<bool, LineStop>) -> u8
     ensures status { result ≡ lines_status outcome }
     ensures reported { Writes (output (E.state errors.old) (E.state errors.new))
         (lines_reported outcome) }
+    ensures failed { IsTrue (E.state errors.old).failed → IsTrue (E.state errors.new).failed }
 {
     match outcome {
         Ok(true) => 0,

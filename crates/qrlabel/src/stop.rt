@@ -46,7 +46,7 @@ impl From<AllocError> for Stop {
     }
 }
 
-/// Why there is no label of a line, and the number of the line, counted from 1.
+/// Why there is no label of a line, and the number of the line, by that of the first.
 #[derive(Clone, Copy, Debug, PartialEq, Eq)]
 pub struct LineStop {
     pub number: usize,

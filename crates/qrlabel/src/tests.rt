@@ -327,12 +327,12 @@ fn reports_errors(rt: HostRuntime) -> Result<(), QrError> {
         (
             "gs1",
             b"0109506000134352(10)AB",
-            "element 2: the identifier is not two to four digits",
+            "element 2: the identifier is cut short, or not two to four digits",
         ),
         (
             "gs1",
             b"hello",
-            "element 1: the identifier is not two to four digits",
+            "element 1: the identifier is cut short, or not two to four digits",
         ),
         (
             "gs1",
