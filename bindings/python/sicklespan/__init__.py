@@ -6,8 +6,7 @@
     (1, 'H', 6)
     >>> symbol.save("hello.svg")
 
-The functions return a `Symbol` or raise an error below `SicklespanError`. docs/PYTHON.md describes
-them.
+The functions return a `Symbol` or raise an error below `SicklespanError`.
 """
 
 from ._errors import (

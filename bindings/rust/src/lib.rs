@@ -1,5 +1,5 @@
 //! QR and Micro QR symbols by a library that is proved: the smallest symbol that holds the bytes,
-//! in the fewest bits, under the best mask (docs/BINDINGS.md says what of the proof holds here).
+//! in the fewest bits, under the best mask.
 //!
 //! ```
 //! use sicklespan::{Level, Symbol, Version};
