@@ -130,7 +130,7 @@ int32_t sicklespan_gs1(const char *text, size_t length, const sicklespan_options
     return asked(qrcode_c_gs1, text, length, options, modules, room, shape);
 }
 
-int32_t sicklespan_part_symbol(const uint8_t *message, size_t length, const size_t *cuts,
+int32_t sicklespan_part_symbol(const void *message, size_t length, const size_t *cuts,
                                size_t cut_count, int32_t level, int32_t max_version, size_t index,
                                uint8_t *modules, size_t room, sicklespan_shape *shape) {
     room = least(room, SICKLESPAN_MAX_SIZE);
@@ -138,7 +138,7 @@ int32_t sicklespan_part_symbol(const uint8_t *message, size_t length, const size
     struct span input = {message, length}, at = {cuts, cut_count * sizeof *cuts};
     struct span output = {modules, room}, about = {shape, sizeof *shape};
     if (!are_good(input, at, output, about)) return SICKLESPAN_INVALID_POINTER;
-    if (message == NULL) message = (const uint8_t *)&nowhere;
+    if (message == NULL) message = &nowhere;
     if (cuts == NULL) cuts = &nowhere;
     if (modules == NULL) modules = (uint8_t *)&nowhere;
     return qrcode_c_part_symbol(message, length, cuts, cut_count, level, max_version, index,
@@ -183,13 +183,19 @@ typedef int32_t find_cuts(const uint8_t *, size_t, int32_t, int32_t, size_t *, s
 
 static int32_t found_cuts(find_cuts *by, const void *message, size_t length, int32_t level,
                           int32_t max_version, size_t *cuts, size_t room, size_t *count) {
-    room = least(room, SICKLESPAN_MAX_CUTS);
+    const size_t most = least(room, SICKLESPAN_MAX_CUTS);
     struct span input = {message, length}, nothing = {NULL, 0};
-    struct span found = {cuts, room * sizeof *cuts}, number = {count, sizeof *count};
+    struct span found = {cuts, most * sizeof *cuts}, number = {count, sizeof *count};
     if (!are_good(input, nothing, found, number)) return SICKLESPAN_INVALID_POINTER;
-    size_t *const to = cuts == NULL ? &nowhere : cuts;
     const void *const from = message == NULL ? &nowhere : message;
-    return by(from, length, level, max_version, to, room, count);
+    size_t places[SICKLESPAN_MAX_CUTS], needed = 0;
+    const int32_t status =
+        by(from, length, level, max_version, places, SICKLESPAN_MAX_CUTS, &needed);
+    if (status != SICKLESPAN_OK) return status;
+    *count = needed;
+    if (needed > room) return SICKLESPAN_SHORT_BUFFER;
+    for (size_t i = 0; i < needed; i++) cuts[i] = places[i];
+    return SICKLESPAN_OK;
 }
 
 int32_t sicklespan_cuts(const void *message, size_t length, int32_t level, int32_t max_version,
@@ -204,23 +210,27 @@ int32_t sicklespan_text_cuts(const char *text, size_t length, int32_t level, int
 
 static const sicklespan_settings plain = SICKLESPAN_SETTINGS_INIT;
 
-int32_t sicklespan_picture(const uint8_t *modules, size_t width, int32_t format,
+int32_t sicklespan_picture(const uint8_t *modules, int32_t width, int32_t format,
                            const sicklespan_settings *settings, void *picture, size_t room,
                            size_t *length) {
     /* No symbol is wider, and of another width nothing is read. */
-    const size_t size = sicklespan_version_of_width(width) != 0 ? width * width : 0;
+    const size_t side = sicklespan_version_of_width(width) != 0 ? (size_t)width : 0;
+    const size_t size = side * side;
     if (settings == NULL) settings = &plain;
     struct span grid = {modules, size}, look = {settings, sizeof *settings};
     struct span shown = {picture, room}, needed = {length, sizeof *length};
     if (!are_good(grid, look, shown, needed)) return SICKLESPAN_INVALID_POINTER;
     const uint8_t *const from = modules == NULL ? (const uint8_t *)&nowhere : modules;
     uint8_t *const to = picture == NULL ? (uint8_t *)&nowhere : picture;
-    return qrcode_c_picture(from, size, width, format, settings, to, room, length);
+    return qrcode_c_picture(from, size, side, format, settings, to, room, length);
 }
 
 size_t sicklespan_greatest_size(void) { return qrcode_c_greatest_size(); }
 
-int32_t sicklespan_version_of_width(size_t width) { return qrcode_c_version_of_width(width); }
+int32_t sicklespan_version_of_width(int32_t width) {
+    /* A number below 0 becomes one that is greater than every width. */
+    return qrcode_c_version_of_width((size_t)width);
+}
 
 const char *sicklespan_status_text(int32_t status) {
     switch (status) {

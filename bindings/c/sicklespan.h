@@ -37,12 +37,12 @@ enum sicklespan_status {
     SICKLESPAN_INVALID_LEVEL = 3, /* the level is not 0 to 3, or it is 3 and the symbol is Micro */
     SICKLESPAN_INVALID_MAX_VERSION = 4, /* the greatest version is not 1 to 40 */
     SICKLESPAN_INVALID_PART_COUNT = 5,  /* the parts are not 2 to 16 */
-    SICKLESPAN_INVALID_CUTS = 6, /* a cut is below the one before it, above the length, or in the
-                                  * middle of a character of a text */
-    SICKLESPAN_INVALID_INDEX = 7,       /* there are no more parts than the index */
-    SICKLESPAN_SHORT_BUFFER = 8,        /* there is not room enough for what is to be written */
-    SICKLESPAN_INVALID_POINTER = 9,     /* see below */
-    SICKLESPAN_INVALID_TEXT = 10,       /* the text is not UTF-8 */
+    SICKLESPAN_INVALID_CUTS = 6,    /* a cut is below the one before it, above the length, or in the
+                                     * middle of a character of a text */
+    SICKLESPAN_INVALID_INDEX = 7,   /* there are no more parts than the index */
+    SICKLESPAN_SHORT_BUFFER = 8,    /* there is not room enough for what is to be written */
+    SICKLESPAN_INVALID_POINTER = 9, /* see below */
+    SICKLESPAN_INVALID_TEXT = 10,   /* the text is not UTF-8 */
     SICKLESPAN_INVALID_VERSIONS = 11,   /* the versions are not 1 to 40, or not in order */
     SICKLESPAN_INVALID_CHARACTER = 12,  /* a byte is no character of a GS1 element */
     SICKLESPAN_NO_ELEMENTS = 13,        /* the text does not begin with a bracketed identifier */
@@ -165,7 +165,7 @@ int32_t sicklespan_micro(const void *bytes, size_t length, int32_t level, uint8_
  * SICKLESPAN_INVALID_MAX_VERSION, SICKLESPAN_INVALID_PART_COUNT, SICKLESPAN_DATA_TOO_LONG (exactly
  * where some part fits none of the versions), SICKLESPAN_OUT_OF_MEMORY, SICKLESPAN_SHORT_BUFFER.
  */
-int32_t sicklespan_part_symbol(const uint8_t *message, size_t length, const size_t *cuts,
+int32_t sicklespan_part_symbol(const void *message, size_t length, const size_t *cuts,
                                size_t cut_count, int32_t level, int32_t max_version, size_t index,
                                uint8_t *modules, size_t room, sicklespan_shape *shape);
 
@@ -198,8 +198,10 @@ int32_t sicklespan_text_sequence(const char *text, size_t length, const size_t *
 /*
  * The cuts by which sicklespan_sequence needs the fewest symbols of versions up to `max_version`.
  * They are written to `cuts`, which has `room` places, and their number to `count`; the places
- * after them keep their values. A message that fits one symbol after a header has no cuts, and
- * needs no sequence. No pair of the Kanji mode is cut.
+ * after them keep their values. On an error nothing is written, except that a
+ * SICKLESPAN_SHORT_BUFFER writes `count`: a call with the room 0 asks how many there are. A message
+ * that fits one symbol after a header has no cuts, and needs no sequence. No pair of the Kanji mode
+ * is cut.
  *
  * SICKLESPAN_INVALID_POINTER as above, of the first SICKLESPAN_MAX_CUTS places of `cuts` and of
  * `count`; SICKLESPAN_INVALID_LEVEL, SICKLESPAN_INVALID_MAX_VERSION, SICKLESPAN_DATA_TOO_LONG
@@ -260,7 +262,7 @@ typedef struct sicklespan_settings {
  * SICKLESPAN_INVALID_WIDTH, SICKLESPAN_INVALID_FORMAT, SICKLESPAN_INVALID_SETTING (also for a
  * setting that the format does not have), SICKLESPAN_OUT_OF_MEMORY, SICKLESPAN_SHORT_BUFFER.
  */
-int32_t sicklespan_picture(const uint8_t *modules, size_t width, int32_t format,
+int32_t sicklespan_picture(const uint8_t *modules, int32_t width, int32_t format,
                            const sicklespan_settings *settings, void *picture, size_t room,
                            size_t *length);
 
@@ -269,7 +271,7 @@ size_t sicklespan_greatest_size(void);
 
 /* The number of the version with this many modules a side: 1 to 40, or 1 to 4 for the widths 11 to
  * 17; else 0. */
-int32_t sicklespan_version_of_width(size_t width);
+int32_t sicklespan_version_of_width(int32_t width);
 
 /* What a status says, in a few words. The text is static, and never null: other numbers are
  * "unknown status". */

@@ -116,7 +116,7 @@ int32_t __wrap_qrcode_c_picture(const uint8_t *grid, size_t size, size_t width, 
     EXPECT_SLICE(settings, 1);
     EXPECT_SLICE(out, room);
     EXPECT_SLICE(length, 1);
-    expect(size == (sicklespan_version_of_width(width) > 0 ? width * width : 0),
+    expect(size == width * width && (width == 0 || sicklespan_version_of_width((int32_t)width) > 0),
            "modules of another width", __LINE__);
     return __real_qrcode_c_picture(grid, size, width, format, settings, out, room, length);
 }
@@ -426,14 +426,14 @@ static void test_words(void) {
     }
     EXPECT(strcmp(sicklespan_status_text(-1), "unknown status") == 0);
     EXPECT(strcmp(sicklespan_version(), SICKLESPAN_VERSION) == 0);
-    for (size_t width = 0; width < 200; width++) {
+    for (int32_t width = -200; width < 200; width++) {
         int32_t version = sicklespan_version_of_width(width);
         bool is_normal = width >= 21 && width <= 177 && width % 4 == 1,
              is_micro = width >= 11 && width <= 17 && width % 2;
-        EXPECT(version == (is_normal  ? (int32_t)(width - 17) / 4
-                           : is_micro ? (int32_t)(width - 9) / 2
-                                      : 0));
+        EXPECT(version == (is_normal ? (width - 17) / 4 : is_micro ? (width - 9) / 2 : 0));
     }
+    EXPECT(sicklespan_version_of_width(INT32_MIN) == 0 &&
+           sicklespan_version_of_width(INT32_MAX) == 0);
 }
 
 /* Lets each allocation of a call fail in turn: it says so, writes nothing, and leaves no block. */

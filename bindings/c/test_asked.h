@@ -220,12 +220,16 @@ static int32_t cuts_of(const void *message, size_t length, int32_t level, int32_
     return sicklespan_cuts(message, length, level, max_version, to, room, count);
 }
 
-/* Nothing was written but the first places. */
-static int are_kept_from(size_t place) {
-    for (size_t i = 0; i < sizeof places / sizeof *places; i++) {
-        if ((i < CUTS_BEFORE || i >= CUTS_BEFORE + place) && places[i] != 77) return 0;
+/* No place is written, and the number of cuts may be. */
+enum { NO_CUT = -1 };
+
+/* Nothing was written but the first places, and where there are none no number either. */
+static int are_kept_from(int place) {
+    for (int i = 0; i < (int)(sizeof places / sizeof *places); i++) {
+        const bool is_cut = i >= CUTS_BEFORE && i < CUTS_BEFORE + place;
+        if (!is_cut && places[i] != 77) return 0;
     }
-    return place > 0 || cut_count == 88;
+    return place != 0 || cut_count == 88;
 }
 
 static int32_t find_cuts(void) {
@@ -242,7 +246,11 @@ static void test_cuts(void) {
     EXPECT(cut_count == 15 && cuts[14] == 75 && are_kept_from(15));
     EXPECT(cuts_of(long_message, 80, 3, 1, cuts, SIZE_MAX, &cut_count) == SICKLESPAN_OK);
     EXPECT(cuts_of(long_message, 80, 3, 1, cuts, 14, &cut_count) == SICKLESPAN_SHORT_BUFFER &&
-           are_kept_from(0));
+           cut_count == 15 && are_kept_from(NO_CUT));
+    EXPECT(cuts_of(long_message, 80, 3, 1, NULL, 0, &cut_count) == SICKLESPAN_SHORT_BUFFER &&
+           cut_count == 15 && are_kept_from(NO_CUT));
+    EXPECT(cuts_of(long_message, 80, 3, 1, cuts, 15, &cut_count) == SICKLESPAN_OK &&
+           cut_count == 15 && cuts[0] == 5 && cuts[13] == 70 && are_kept_from(15));
     EXPECT(cuts_of(long_message, 81, 3, 1, cuts, MOST, &cut_count) == SICKLESPAN_DATA_TOO_LONG &&
            are_kept_from(0));
     EXPECT(cuts_of(long_message, 2951, 0, 40, NULL, 0, &cut_count) == SICKLESPAN_OK &&

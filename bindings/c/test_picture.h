@@ -9,7 +9,7 @@ static _Alignas(max_align_t) size_t picture_length;
 static const sicklespan_settings small = {1, 4, -1, -1, 0, -1, -1};
 
 /* A call, after clear(). */
-static int32_t picture(const void *grid, size_t width, int32_t format, const void *settings,
+static int32_t picture(const void *grid, int32_t width, int32_t format, const void *settings,
                        void *to, size_t room, void *length) {
     clear();
     picture_length = 99;
@@ -65,7 +65,7 @@ static void test_picture_room(void) {
     EXPECT(hello_as(PBM, NULL) == SICKLESPAN_OK && picture_length == 11 + 232 * 29 &&
            is_kept_from(11 + 232 * 29) && memcmp(modules, "P4\n232 232\n", 11) == 0);
     /* Any byte but 0 is dark. */
-    for (size_t i = 0; i < sizeof hello; i++) hello[i] *= 2 + i % 254;
+    for (size_t i = 0; i < sizeof hello; i++) hello[i] = hello[i] ? (uint8_t)(2 + i % 254) : 0;
     EXPECT(hello_as(PBM, &small) == SICKLESPAN_OK && is_bitmap());
 }
 
@@ -79,7 +79,8 @@ static void test_picture_pointers(void) {
     EXPECT(is_refused(picture(hello, 21, PBM, &small, modules, (size_t)PTRDIFF_MAX + 1, length)) &&
            is_blank());
     /* Of other widths nothing is read. */
-    const size_t no_widths[] = {0, 1, 10, 12, 19, 22, 178, 181, (size_t)1 << 32, SIZE_MAX};
+    const int32_t no_widths[] = {0,   1,  10,  12,         19,        22,       178,
+                                 181, -1, -21, 65536 + 21, INT32_MIN, INT32_MAX};
     for (size_t i = 0; i < sizeof no_widths / sizeof *no_widths; i++) {
         EXPECT(picture(NULL, no_widths[i], -1, &small, modules, 125, length) ==
                    SICKLESPAN_INVALID_WIDTH &&

@@ -52,7 +52,7 @@ for _name in ("sicklespan_sequence", "sicklespan_text_sequence"):
 for _name in ("sicklespan_cuts", "sicklespan_text_cuts"):
     _declare(_name, c_int32, c_char_p, c_size_t, c_int32, c_int32, POINTER(c_size_t), c_size_t,
              POINTER(c_size_t))
-_declare("sicklespan_picture", c_int32, c_char_p, c_size_t, c_int32, POINTER(Settings), c_char_p,
+_declare("sicklespan_picture", c_int32, c_char_p, c_int32, c_int32, POINTER(Settings), c_char_p,
          c_size_t, POINTER(c_size_t))
 _declare("sicklespan_status_text", c_char_p, c_int32)
 _declare("sicklespan_version", c_char_p)

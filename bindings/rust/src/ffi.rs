@@ -131,7 +131,7 @@ extern "C" {
     ) -> i32;
     fn sicklespan_picture(
         modules: *const u8,
-        width: usize,
+        width: i32,
         format: i32,
         settings: *const Settings,
         picture: *mut u8,
@@ -139,7 +139,7 @@ extern "C" {
         length: *mut usize,
     ) -> i32;
     fn sicklespan_greatest_size() -> usize;
-    fn sicklespan_version_of_width(width: usize) -> i32;
+    fn sicklespan_version_of_width(width: i32) -> i32;
     fn sicklespan_status_text(status: i32) -> *const c_char;
     fn sicklespan_version() -> *const c_char;
 }
@@ -245,7 +245,7 @@ pub fn picture(
     unsafe {
         sicklespan_picture(
             modules.as_ptr(),
-            width,
+            width as i32,
             format,
             settings,
             picture.as_mut_ptr(),
@@ -260,7 +260,7 @@ pub fn greatest_size() -> usize {
 }
 
 pub fn version_of_width(width: usize) -> i32 {
-    unsafe { sicklespan_version_of_width(width) }
+    i32::try_from(width).map_or(0, |width| unsafe { sicklespan_version_of_width(width) })
 }
 
 /// The text of a status; it is static and ASCII.
