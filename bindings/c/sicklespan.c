@@ -130,6 +130,83 @@ int32_t sicklespan_gs1(const char *text, size_t length, const sicklespan_options
     return asked(qrcode_c_gs1, text, length, options, modules, room, shape);
 }
 
+/* What a call returns; SICKLESPAN_SHORT_BUFFER stands for success, as there is no room. */
+static int32_t tried(int32_t content, const void *data, size_t length,
+                     const sicklespan_options *options) {
+    sicklespan_shape shape;
+    switch (content) {
+    case SICKLESPAN_CONTENT_BYTES: return sicklespan_bytes(data, length, options, NULL, 0, &shape);
+    case SICKLESPAN_CONTENT_TEXT: return sicklespan_text(data, length, options, NULL, 0, &shape);
+    case SICKLESPAN_CONTENT_ELEMENTS:
+        return sicklespan_elements(data, length, options, NULL, 0, &shape);
+    case SICKLESPAN_CONTENT_GS1: return sicklespan_gs1(data, length, options, NULL, 0, &shape);
+    case SICKLESPAN_CONTENT_MICRO:
+        return sicklespan_micro(data, length, options->level, NULL, 0, &shape);
+    default: return SICKLESPAN_INVALID_CONTENT;
+    }
+}
+
+/* The end of the whole characters of UTF-8 before a place. */
+static size_t end_of_characters(const uint8_t *text, size_t place) {
+    for (size_t back = 1; back <= 3 && back <= place; back++) {
+        const uint8_t byte = text[place - back];
+        if (byte >= 0xc0) {
+            const size_t size = byte >= 0xf0 ? 4 : byte >= 0xe0 ? 3 : 2;
+            return size > back ? place - back : place;
+        }
+    }
+    return place;
+}
+
+/* The last place at which data may be cut, up to one that is before their end. */
+static size_t cut_up_to(int32_t content, const uint8_t *data, size_t place) {
+    if (content == SICKLESPAN_CONTENT_TEXT) return end_of_characters(data, place);
+    if (content == SICKLESPAN_CONTENT_ELEMENTS) {
+        while (place > 0 && data[place - 1] == 0x1d) place--;
+    }
+    if (content == SICKLESPAN_CONTENT_GS1) {
+        while (place > 0 && data[place] != '(') place--;
+    }
+    return place;
+}
+
+/* Whether a status finds a fault in the data, which their first bytes need not have. */
+static bool is_of_data(int32_t status) {
+    return status == SICKLESPAN_DATA_TOO_LONG || status == SICKLESPAN_INVALID_TEXT ||
+           (status >= SICKLESPAN_INVALID_CHARACTER && status <= SICKLESPAN_WRONG_CHECK_DIGIT);
+}
+
+int32_t sicklespan_check(int32_t content, const void *data, size_t length,
+                         const sicklespan_options *options, size_t *good) {
+    if (options == NULL) options = &usual;
+    struct span input = {data, length}, asks = {options, sizeof *options};
+    struct span none = {NULL, 0}, number = {good, sizeof *good};
+    if (!are_good(input, asks, none, number)) return SICKLESPAN_INVALID_POINTER;
+    const int32_t status = tried(content, data, length, options);
+    if (status == SICKLESPAN_SHORT_BUFFER) {
+        *good = length;
+        return SICKLESPAN_OK;
+    }
+    if (!is_of_data(status)) return status;
+    /* The first `low` bytes are good, and the first `high` ones are not. No symbol holds the
+     * elements of 16384 bytes, nor that many bytes. */
+    const bool is_long = status == SICKLESPAN_DATA_TOO_LONG;
+    size_t low = 0, high = is_long ? least(length, 16384) : length;
+    while (high - low > 1) {
+        const size_t middle = low + (high - low) / 2, end = cut_up_to(content, data, middle);
+        const int32_t found =
+            end > 0 ? tried(content, data, end, options) : SICKLESPAN_SHORT_BUFFER;
+        if (found == SICKLESPAN_OUT_OF_MEMORY) return found;
+        if (found == SICKLESPAN_SHORT_BUFFER || (found == SICKLESPAN_DATA_TOO_LONG && !is_long)) {
+            low = middle;
+        } else {
+            high = middle;
+        }
+    }
+    *good = low > 0 ? cut_up_to(content, data, low) : 0;
+    return status;
+}
+
 int32_t sicklespan_part_symbol(const void *message, size_t length, const size_t *cuts,
                                size_t cut_count, int32_t level, int32_t max_version, size_t index,
                                uint8_t *modules, size_t room, sicklespan_shape *shape) {
@@ -225,6 +302,29 @@ int32_t sicklespan_picture(const uint8_t *modules, int32_t width, int32_t format
     return qrcode_c_picture(from, size, side, format, settings, to, room, length);
 }
 
+const char *sicklespan_wrong_setting(int32_t format, const sicklespan_settings *settings) {
+    static const char *const names[] = {"scale",    "quiet", "module_mm", "dpi",
+                                        "inverted", "at_x",  "at_y"};
+    /* Of a symbol of the version M1. */
+    static const uint8_t modules[11 * 11];
+    if (settings == NULL) return NULL;
+    sicklespan_settings some = plain;
+    int32_t *const members[] = {&some.scale,    &some.quiet, &some.module_mm, &some.dpi,
+                                &some.inverted, &some.at_x,  &some.at_y};
+    const int32_t given[] = {settings->scale, settings->quiet,    settings->module_mm,
+                             settings->dpi,   settings->inverted, settings->at_x,
+                             settings->at_y};
+    for (size_t i = 0; i < sizeof names / sizeof *names; i++) {
+        size_t length;
+        *members[i] = given[i];
+        if (sicklespan_picture(modules, 11, format, &some, NULL, 0, &length) ==
+            SICKLESPAN_INVALID_SETTING) {
+            return names[i];
+        }
+    }
+    return NULL;
+}
+
 size_t sicklespan_greatest_size(void) { return qrcode_c_greatest_size(); }
 
 int32_t sicklespan_version_of_width(int32_t width) {
@@ -237,7 +337,8 @@ const char *sicklespan_status_text(int32_t status) {
     case SICKLESPAN_OK: return "done";
     case SICKLESPAN_DATA_TOO_LONG: return "the data are too long";
     case SICKLESPAN_OUT_OF_MEMORY: return "out of memory";
-    case SICKLESPAN_INVALID_LEVEL: return "there is no such level";
+    case SICKLESPAN_INVALID_LEVEL:
+        return "there is no such level, of which Micro symbols have L, M and Q";
     case SICKLESPAN_INVALID_MAX_VERSION: return "the greatest version is not 1 to 40";
     case SICKLESPAN_INVALID_PART_COUNT: return "the parts are not 2 to 16";
     case SICKLESPAN_INVALID_CUTS: return "a cut is none of the message, or out of order";
@@ -248,15 +349,17 @@ const char *sicklespan_status_text(int32_t status) {
     case SICKLESPAN_INVALID_VERSIONS: return "the versions are not 1 to 40, in order";
     case SICKLESPAN_INVALID_CHARACTER: return "a character is none of a GS1 element";
     case SICKLESPAN_NO_ELEMENTS: return "the text does not begin with a bracketed identifier";
-    case SICKLESPAN_INVALID_IDENTIFIER: return "an identifier is not two to four digits";
+    case SICKLESPAN_INVALID_IDENTIFIER:
+        return "an identifier is not two to four digits in brackets";
     case SICKLESPAN_UNKNOWN_IDENTIFIER: return "an identifier is unknown";
-    case SICKLESPAN_EMPTY_VALUE: return "a value is empty";
+    case SICKLESPAN_EMPTY_VALUE: return "a value is empty, or a bracket is not closed";
     case SICKLESPAN_VALUE_TOO_LONG: return "a value has more than 90 characters";
     case SICKLESPAN_WRONG_LENGTH: return "the length of a value is wrong";
     case SICKLESPAN_WRONG_CHECK_DIGIT: return "a check digit is wrong";
     case SICKLESPAN_INVALID_WIDTH: return "no symbol has the width";
     case SICKLESPAN_INVALID_FORMAT: return "there is no such format";
     case SICKLESPAN_INVALID_SETTING: return "a setting is out of bounds, or not of the format";
+    case SICKLESPAN_INVALID_CONTENT: return "there is no such content";
     default: return "unknown status";
     }
 }

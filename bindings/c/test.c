@@ -399,7 +399,8 @@ static void test_words(void) {
         [SICKLESPAN_OK] = "done",
         [SICKLESPAN_DATA_TOO_LONG] = "the data are too long",
         [SICKLESPAN_OUT_OF_MEMORY] = "out of memory",
-        [SICKLESPAN_INVALID_LEVEL] = "there is no such level",
+        [SICKLESPAN_INVALID_LEVEL] =
+            "there is no such level, of which Micro symbols have L, M and Q",
         [SICKLESPAN_INVALID_MAX_VERSION] = "the greatest version is not 1 to 40",
         [SICKLESPAN_INVALID_PART_COUNT] = "the parts are not 2 to 16",
         [SICKLESPAN_INVALID_CUTS] = "a cut is none of the message, or out of order",
@@ -410,15 +411,16 @@ static void test_words(void) {
         [SICKLESPAN_INVALID_VERSIONS] = "the versions are not 1 to 40, in order",
         [SICKLESPAN_INVALID_CHARACTER] = "a character is none of a GS1 element",
         [SICKLESPAN_NO_ELEMENTS] = "the text does not begin with a bracketed identifier",
-        [SICKLESPAN_INVALID_IDENTIFIER] = "an identifier is not two to four digits",
+        [SICKLESPAN_INVALID_IDENTIFIER] = "an identifier is not two to four digits in brackets",
         [SICKLESPAN_UNKNOWN_IDENTIFIER] = "an identifier is unknown",
-        [SICKLESPAN_EMPTY_VALUE] = "a value is empty",
+        [SICKLESPAN_EMPTY_VALUE] = "a value is empty, or a bracket is not closed",
         [SICKLESPAN_VALUE_TOO_LONG] = "a value has more than 90 characters",
         [SICKLESPAN_WRONG_LENGTH] = "the length of a value is wrong",
         [SICKLESPAN_WRONG_CHECK_DIGIT] = "a check digit is wrong",
         [SICKLESPAN_INVALID_WIDTH] = "no symbol has the width",
         [SICKLESPAN_INVALID_FORMAT] = "there is no such format",
         [SICKLESPAN_INVALID_SETTING] = "a setting is out of bounds, or not of the format",
+        [SICKLESPAN_INVALID_CONTENT] = "there is no such content",
         "unknown status",
     };
     for (int32_t status = 0; status < (int32_t)(sizeof texts / sizeof *texts); status++) {
@@ -476,6 +478,7 @@ static void test_allocations(void) {
 }
 
 #include "test_asked.h"
+#include "test_check.h"
 #include "test_picture.h"
 
 int main(void) {
@@ -489,7 +492,9 @@ int main(void) {
                                    test_cuts,           test_sequence,
                                    test_text_cuts,      test_text_sequence,
                                    test_picture_room,   test_picture_pointers,
-                                   test_settings,       test_picture_allocations};
+                                   test_settings,       test_picture_allocations,
+                                   test_check,          test_check_pointers,
+                                   test_check_memory,   test_wrong_setting};
     int passed = 0, failed = 0;
     /* What a row prints is not lost where the next call ends the program. */
     setbuf(stdout, NULL);

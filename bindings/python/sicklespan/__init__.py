@@ -10,18 +10,19 @@ The functions return a `Symbol` or raise an error below `SicklespanError`.
 """
 
 from ._errors import (
-    DataTooLongError, EmptyValueError, InvalidCharacterError, InvalidCutsError, InvalidFormatError,
-    InvalidIdentifierError, InvalidLevelError, InvalidPartCountError, InvalidSettingError,
-    InvalidTextError, InvalidVersionsError, NoElementsError, OutOfMemoryError, SicklespanError,
-    UnknownIdentifierError, ValueTooLongError, WrongCheckDigitError, WrongLengthError)
+    DataTooLongError, ElementError, EmptyValueError, InvalidCharacterError, InvalidCutsError,
+    InvalidFormatError, InvalidIdentifierError, InvalidLevelError, InvalidPartCountError,
+    InvalidSettingError, InvalidTextError, InvalidVersionsError, NoElementsError, OutOfMemoryError,
+    SicklespanError, UnknownIdentifierError, ValueTooLongError, WrongCheckDigitError,
+    WrongLengthError)
 from ._library import __version__
 from ._make import elements, gs1, make, micro, sequence
 from ._symbol import Symbol
 
 __all__ = [
-    "DataTooLongError", "EmptyValueError", "InvalidCharacterError", "InvalidCutsError",
-    "InvalidFormatError", "InvalidIdentifierError", "InvalidLevelError", "InvalidPartCountError",
-    "InvalidSettingError", "InvalidTextError", "InvalidVersionsError", "NoElementsError",
-    "OutOfMemoryError", "SicklespanError", "Symbol", "UnknownIdentifierError", "ValueTooLongError",
-    "WrongCheckDigitError", "WrongLengthError", "__version__", "elements", "gs1", "make", "micro",
-    "sequence"]
+    "DataTooLongError", "ElementError", "EmptyValueError", "InvalidCharacterError",
+    "InvalidCutsError", "InvalidFormatError", "InvalidIdentifierError", "InvalidLevelError",
+    "InvalidPartCountError", "InvalidSettingError", "InvalidTextError", "InvalidVersionsError",
+    "NoElementsError", "OutOfMemoryError", "SicklespanError", "Symbol", "UnknownIdentifierError",
+    "ValueTooLongError", "WrongCheckDigitError", "WrongLengthError", "__version__", "elements",
+    "gs1", "make", "micro", "sequence"]

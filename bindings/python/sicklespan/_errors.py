@@ -3,9 +3,10 @@
 An argument of a type that a call does not take is a TypeError that names the parameter.
 """
 
-from typing import Dict, Type
+import ctypes
+from typing import Dict, Optional, Type
 
-from ._library import library
+from ._library import Options, Settings, library
 
 
 class SicklespanError(ValueError):
@@ -13,7 +14,13 @@ class SicklespanError(ValueError):
 
 
 class DataTooLongError(SicklespanError):
-    """The data fit no symbol that was asked for."""
+    """The data fit no symbol that was asked for.
+
+    `too_many` is the number of bytes that are too many: without the last ones, up to the next place
+    where they may be cut, the data fit. It is None of the parts of a sequence.
+    """
+
+    too_many: Optional[int] = None
 
 
 class OutOfMemoryError(SicklespanError, MemoryError):
@@ -40,35 +47,47 @@ class InvalidTextError(SicklespanError):
     """The text has a lone surrogate, which UTF-8 does not have."""
 
 
-class InvalidCharacterError(SicklespanError):
-    """A character is none of a GS1 element."""
+class ElementError(SicklespanError):
+    """An element of a GS1 text has a fault. `element` is its number, from 1."""
+
+    element: Optional[int] = None
+
+
+class InvalidCharacterError(ElementError):
+    """A character is none of a GS1 element.
+
+    Of bytes as readers find them, `place` is that of the byte, from 0; of a text in brackets
+    `element` is the number of the element. The other one is None.
+    """
+
+    place: Optional[int] = None
 
 
 class NoElementsError(SicklespanError):
     """The text does not begin with a bracketed identifier."""
 
 
-class InvalidIdentifierError(SicklespanError):
-    """An identifier is not two to four digits."""
+class InvalidIdentifierError(ElementError):
+    """An identifier is not two to four digits in brackets."""
 
 
-class UnknownIdentifierError(SicklespanError):
+class UnknownIdentifierError(ElementError):
     """No identifier begins so, or those that do have another number of digits."""
 
 
-class EmptyValueError(SicklespanError):
-    """An element has no value."""
+class EmptyValueError(ElementError):
+    """An element has no value, or no bracket before it."""
 
 
-class ValueTooLongError(SicklespanError):
+class ValueTooLongError(ElementError):
     """A value has more than 90 characters."""
 
 
-class WrongLengthError(SicklespanError):
+class WrongLengthError(ElementError):
     """A value has another length than the predefined one of its identifier."""
 
 
-class WrongCheckDigitError(SicklespanError):
+class WrongCheckDigitError(ElementError):
     """A value does not end with its check digit."""
 
 
@@ -77,7 +96,16 @@ class InvalidFormatError(SicklespanError):
 
 
 class InvalidSettingError(SicklespanError):
-    """A setting of a picture is out of its bounds, or the format does not have it."""
+    """A setting of a picture is out of its bounds, or the format does not have it.
+
+    `setting` is its name.
+    """
+
+    setting: Optional[str] = None
+
+    def __init__(self, text: str, setting: Optional[str] = None) -> None:
+        super().__init__(text)
+        self.setting = setting
 
 
 # By the numbers of sicklespan.h. The others are no fault of a caller of this package.
@@ -103,8 +131,53 @@ ERRORS: Dict[int, Type[SicklespanError]] = {
 }
 
 
+# The numbers of `sicklespan_content`.
+BYTES, TEXT, ELEMENTS, GS1, MICRO = range(5)
+# The names of settings that have another one in the library.
+_NAMES = {"quiet": "border", "at_x": "at", "at_y": "at"}
+
+
+def _text(status: int) -> str:
+    return str(library.sicklespan_status_text(status).decode())
+
+
 def check(status: int) -> None:
     """Raises the error of a status."""
     if status != 0:
-        text = library.sicklespan_status_text(status).decode()
-        raise ERRORS.get(status, SicklespanError)(text)
+        raise ERRORS.get(status, SicklespanError)(_text(status))
+
+
+def check_data(status: int, content: int, data: bytes, options: Options) -> None:
+    """Raises the error of a status of a call with data, and says of how many of them it is."""
+    if status != 1 and not 12 <= status <= 19:
+        return check(status)
+    good, text = ctypes.c_size_t(), _text(status)
+    check_again = library.sicklespan_check(content, data, len(data), ctypes.byref(options),
+                                           ctypes.byref(good))
+    if check_again != status:
+        # The status of the data is the same, unless there is no memory now.
+        return check(check_again)
+    error = ERRORS[status](text)
+    if isinstance(error, DataTooLongError):
+        count = len(data) - good.value
+        error = DataTooLongError(f"{text}, by {count} byte{'s' * (count > 1)}")
+        error.too_many = count
+    elif isinstance(error, InvalidCharacterError) and content == ELEMENTS:
+        error = InvalidCharacterError(f"{text}, at byte {good.value}")
+        error.place = good.value
+    elif isinstance(error, ElementError):
+        number = data.count(b"(", 0, good.value) + 1
+        error = type(error)(f"element {number}: {text}")
+        error.element = number
+    raise error
+
+
+def check_picture(status: int, kind: int, settings: Settings) -> None:
+    """Raises the error of a status of a picture, and names the setting that is wrong."""
+    name = None
+    if ERRORS.get(status) is InvalidSettingError:
+        name = library.sicklespan_wrong_setting(kind, ctypes.byref(settings))
+    if name is None:
+        return check(status)
+    setting = _NAMES.get(name.decode(), name.decode())
+    raise InvalidSettingError(f"{_text(status)}: {setting}", setting)

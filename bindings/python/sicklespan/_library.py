@@ -54,6 +54,9 @@ for _name in ("sicklespan_cuts", "sicklespan_text_cuts"):
              POINTER(c_size_t))
 _declare("sicklespan_picture", c_int32, c_char_p, c_int32, c_int32, POINTER(Settings), c_char_p,
          c_size_t, POINTER(c_size_t))
+_declare("sicklespan_check", c_int32, c_int32, c_char_p, c_size_t, POINTER(Options),
+         POINTER(c_size_t))
+_declare("sicklespan_wrong_setting", c_char_p, c_int32, POINTER(Settings))
 _declare("sicklespan_status_text", c_char_p, c_int32)
 _declare("sicklespan_version", c_char_p)
 

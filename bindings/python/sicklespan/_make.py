@@ -5,7 +5,8 @@ import operator
 from typing import Callable, List, Optional, Sequence, Union
 
 from ._errors import (
-    InvalidCutsError, InvalidLevelError, InvalidTextError, InvalidVersionsError, check)
+    BYTES, ELEMENTS, GS1, MICRO, TEXT, InvalidCutsError, InvalidLevelError, InvalidTextError,
+    InvalidVersionsError, check, check_data)
 from ._library import Options, Shape, library
 from ._symbol import LEVELS, Symbol
 
@@ -64,10 +65,19 @@ def _version(name: str, number: int) -> int:
     return whole
 
 
-def _drawn(call: Callable[..., int], *arguments: object) -> Symbol:
+_CALLS = {BYTES: library.sicklespan_bytes, TEXT: library.sicklespan_text,
+          ELEMENTS: library.sicklespan_elements, GS1: library.sicklespan_gs1}
+
+
+def _drawn(content: int, data: bytes, options: Options) -> Symbol:
     """What a call of the library draws."""
     modules, shape = ctypes.create_string_buffer(_SIZE), Shape()
-    check(call(*arguments, modules, _SIZE, ctypes.byref(shape)))
+    rest = (modules, _SIZE, ctypes.byref(shape))
+    if content == MICRO:
+        status = library.sicklespan_micro(data, len(data), options.level, *rest)
+    else:
+        status = _CALLS[content](data, len(data), ctypes.byref(options), *rest)
+    check_data(status, content, data, options)
     return Symbol(ctypes.string_at(modules, shape.width ** 2), shape)
 
 
@@ -94,8 +104,7 @@ def make(content: Content, error: str = "M", version: Optional[int] = None, *,
     """
     options, data = _options(error, version, min_version, max_version, boost_error), _data(content)
     is_text = isinstance(content, str) and not content.isascii()
-    call = library.sicklespan_text if is_text else library.sicklespan_bytes
-    return _drawn(call, data, len(data), ctypes.byref(options))
+    return _drawn(TEXT if is_text else BYTES, data, options)
 
 
 def gs1(content: str, error: str = "M", version: Optional[int] = None, *, min_version: int = 1,
@@ -107,8 +116,7 @@ def gs1(content: str, error: str = "M", version: Optional[int] = None, *, min_ve
     greatest length, say, or a date, is not.
     """
     options = _options(error, version, min_version, max_version, boost_error)
-    data = _text("content", content)
-    return _drawn(library.sicklespan_gs1, data, len(data), ctypes.byref(options))
+    return _drawn(GS1, _text("content", content), options)
 
 
 def elements(content: Union[bytes, bytearray, memoryview], error: str = "M",
@@ -116,8 +124,7 @@ def elements(content: Union[bytes, bytearray, memoryview], error: str = "M",
              boost_error: bool = True) -> Symbol:
     """The best symbol of GS1 elements as readers find them, with the byte 1D (hex) between two."""
     options = _options(error, version, min_version, max_version, boost_error)
-    data = _bytes("content", content)
-    return _drawn(library.sicklespan_elements, data, len(data), ctypes.byref(options))
+    return _drawn(ELEMENTS, _bytes("content", content), options)
 
 
 def micro(content: Content, error: str = "L") -> Symbol:
@@ -126,8 +133,7 @@ def micro(content: Content, error: str = "L") -> Symbol:
     A text is encoded in UTF-8, which no Micro symbol says: readers may show other characters than
     those that are not ASCII.
     """
-    data = _data(content)
-    return _drawn(library.sicklespan_micro, data, len(data), _number(error))
+    return _drawn(MICRO, _data(content), Options(_number(error), 1, 40, False))
 
 
 def _best_cuts(call: Callable[..., int], data: bytes, level: int, limit: int) -> List[int]:

@@ -8,7 +8,7 @@ import os
 from typing import BinaryIO, Iterator, Optional, Tuple, Union
 from urllib.parse import quote
 
-from ._errors import InvalidFormatError, InvalidSettingError, check
+from ._errors import InvalidFormatError, InvalidSettingError, check_picture
 from ._library import Settings, Shape, library
 
 LEVELS = "LMQH"
@@ -25,7 +25,7 @@ def _setting(name: str, number: Optional[int]) -> int:
     except TypeError:
         raise TypeError(f"{name} is a number, and not {type(number).__name__}") from None
     if not 0 <= whole < 2 ** 31:
-        raise InvalidSettingError(f"{name} is not {whole}")
+        raise InvalidSettingError(f"{name} is not {whole}", name)
     return whole
 
 
@@ -36,7 +36,7 @@ def _hundredths(module_mm: Optional[float]) -> Optional[int]:
     if not isinstance(module_mm, (int, float)):
         raise TypeError(f"module_mm is a number, and not {type(module_mm).__name__}")
     if not math.isfinite(module_mm):
-        raise InvalidSettingError(f"module_mm is not {module_mm}")
+        raise InvalidSettingError(f"module_mm is not {module_mm}", "module_mm")
     return round(100 * module_mm)
 
 
@@ -143,7 +143,7 @@ class Symbol:
             status = library.sicklespan_picture(
                 self._modules, self._width, _FORMATS[kind], ctypes.byref(asked), out, room,
                 ctypes.byref(length))
-        check(status)
+        check_picture(status, _FORMATS[kind], asked)
         return ctypes.string_at(out, length.value)
 
     def svg(self, *, scale: int = 1, border: Optional[int] = None,

@@ -58,8 +58,12 @@ class Symbols(unittest.TestCase):
         self.assertEqual(sicklespan.make(b"a" * 2953, "L").version, 40)
         with self.assertRaises(sicklespan.DataTooLongError):
             sicklespan.make(b"a" * 2954, "L")
-        with self.assertRaises(sicklespan.DataTooLongError):
-            sicklespan.make(b"a" * 18, "L", max_version=1)
+        for content, most, text in ((b"a" * 18, 1, "by 1 byte"), (b"a" * 30, 13, "by 13 bytes"),
+                                    ("\u00e9" * 10, 4, "by 4 bytes")):
+            with self.assertRaises(sicklespan.DataTooLongError) as raised:
+                sicklespan.make(content, "L", max_version=1)
+            self.assertEqual(raised.exception.too_many, most)
+            self.assertEqual(str(raised.exception), f"the data are too long, {text}")
         for least, most in ((0, 40), (1, 41), (3, 2), (2 ** 32 + 1, 40)):
             with self.assertRaises(sicklespan.InvalidVersionsError):
                 sicklespan.make("a", min_version=least, max_version=most)
@@ -106,8 +110,10 @@ class Symbols(unittest.TestCase):
         written = sicklespan.gs1("(10)ABC(01)09506000134352(21)7")
         self.assertEqual(written, sicklespan.elements(b"10ABC\x1d0109506000134352217"))
         self.assertNotEqual(written, sicklespan.make(b"10ABC\x1d0109506000134352217"))
-        with self.assertRaises(sicklespan.InvalidCharacterError):
+        with self.assertRaises(sicklespan.InvalidCharacterError) as raised:
             sicklespan.elements(b"10A B")
+        self.assertEqual((raised.exception.place, raised.exception.element), (3, None))
+        self.assertEqual(str(raised.exception), "a character is none of a GS1 element, at byte 3")
         faults = {"10ABC": sicklespan.NoElementsError, "(1)2": sicklespan.InvalidIdentifierError,
                   "(05)2": sicklespan.UnknownIdentifierError, "(10)": sicklespan.EmptyValueError,
                   "(10)" + "A" * 91: sicklespan.ValueTooLongError,
@@ -115,8 +121,24 @@ class Symbols(unittest.TestCase):
                   "(01)1": sicklespan.WrongLengthError,
                   "(01)09506000134353": sicklespan.WrongCheckDigitError}
         for text, error in faults.items():
-            with self.assertRaises(error):
+            with self.assertRaises(error) as raised:
                 sicklespan.gs1(text)
+            if error is not sicklespan.NoElementsError:
+                self.assertIsInstance(raised.exception, sicklespan.ElementError)
+                self.assertEqual(raised.exception.element, 1)
+                with self.assertRaises(error) as raised:
+                    sicklespan.gs1(f"(21)A(17)261231{text}")
+                self.assertEqual(raised.exception.element, 3)
+                self.assertTrue(str(raised.exception).startswith("element 3: "))
+        with self.assertRaises(sicklespan.EmptyValueError) as raised:
+            sicklespan.gs1("(10")
+        self.assertEqual(str(raised.exception),
+                         "element 1: a value is empty, or a bracket is not closed")
+        # The value ends where a bracket is.
+        with self.assertRaises(sicklespan.InvalidIdentifierError) as raised:
+            sicklespan.gs1("(10)a(b")
+        self.assertEqual(str(raised.exception),
+                         "element 2: an identifier is not two to four digits in brackets")
 
     def test_micro(self):
         # Worked by hand from the steps of the standard.
@@ -126,9 +148,11 @@ class Symbols(unittest.TestCase):
         self.assertEqual(symbol.default_border_size, 2)
         with self.assertRaises(sicklespan.InvalidLevelError) as raised:
             sicklespan.micro("12345", "H")
-        self.assertEqual(str(raised.exception), "there is no such level")
-        with self.assertRaises(sicklespan.DataTooLongError):
+        self.assertEqual(str(raised.exception),
+                         "there is no such level, of which Micro symbols have L, M and Q")
+        with self.assertRaises(sicklespan.DataTooLongError) as raised:
             sicklespan.micro("1" * 36)
+        self.assertEqual(raised.exception.too_many, 1)
 
     def test_sequences(self):
         symbols = sicklespan.sequence("one and two", [4, 8])
@@ -150,8 +174,9 @@ class Symbols(unittest.TestCase):
                             ([0] * 16, sicklespan.InvalidPartCountError)):
             with self.assertRaises(error):
                 sicklespan.sequence("one and two", cuts)
-        with self.assertRaises(sicklespan.DataTooLongError):
+        with self.assertRaises(sicklespan.DataTooLongError) as raised:
             sicklespan.sequence(b"a" * 40, [1], "H", max_version=1)
+        self.assertIsNone(raised.exception.too_many)
         with self.assertRaises(sicklespan.InvalidVersionsError):
             sicklespan.sequence("one and two", [4], max_version=0)
 
@@ -270,8 +295,10 @@ class Pictures(unittest.TestCase):
                 ("svg", {"module_mm": float("inf")}), ("svg", {"border": -1}),
                 ("png", {"dpi": 300, "module_mm": 0.33}),
                 ("png", {"inverted": True}), ("png", {"at": (0, 0)}), ("zpl", {"at": (0, 18001)})):
-            with self.assertRaises(sicklespan.InvalidSettingError):
+            with self.assertRaises(sicklespan.InvalidSettingError) as raised:
                 symbol.picture(kind, **settings)
+            self.assertEqual(raised.exception.setting, next(iter(settings)))
+            self.assertIn(raised.exception.setting, str(raised.exception))
         with self.assertRaises(sicklespan.InvalidFormatError):
             symbol.picture("gif")
 

@@ -38,13 +38,14 @@ pub struct Settings {
 /// `SICKLESPAN_SHORT_BUFFER`.
 pub const SHORT_BUFFER: i32 = 8;
 
-/// What data are drawn with options.
-#[derive(Clone, Copy)]
+/// What data are, with the numbers of `sicklespan_content`.
+#[derive(Clone, Copy, PartialEq)]
 pub enum Content {
-    Bytes,
-    Text,
-    Elements,
-    Gs1,
+    Bytes = 0,
+    Text = 1,
+    Elements = 2,
+    Gs1 = 3,
+    Micro = 4,
 }
 
 #[link(name = "sicklespan", kind = "static")]
@@ -138,6 +139,14 @@ extern "C" {
         room: usize,
         length: *mut usize,
     ) -> i32;
+    fn sicklespan_check(
+        content: i32,
+        data: *const u8,
+        length: usize,
+        options: *const Options,
+        good: *mut usize,
+    ) -> i32;
+    fn sicklespan_wrong_setting(format: i32, settings: *const Settings) -> *const c_char;
     fn sicklespan_greatest_size() -> usize;
     fn sicklespan_version_of_width(width: i32) -> i32;
     fn sicklespan_status_text(status: i32) -> *const c_char;
@@ -147,6 +156,7 @@ extern "C" {
 // In each call the pointers and lengths are those of slices, which are valid, apart, and no longer
 // than they say.
 
+/// The content is none of a Micro symbol.
 pub fn symbol(
     content: Content,
     data: &[u8],
@@ -155,7 +165,7 @@ pub fn symbol(
     shape: &mut Shape,
 ) -> i32 {
     let call = match content {
-        Content::Bytes => sicklespan_bytes,
+        Content::Bytes | Content::Micro => sicklespan_bytes,
         Content::Text => sicklespan_text,
         Content::Elements => sicklespan_elements,
         Content::Gs1 => sicklespan_gs1,
@@ -253,6 +263,23 @@ pub fn picture(
             length,
         )
     }
+}
+
+/// The status of some data, and how many of the first bytes are good.
+pub fn check(content: Content, data: &[u8], options: &Options) -> (i32, usize) {
+    let mut good = 0;
+    let status =
+        unsafe { sicklespan_check(content as i32, data.as_ptr(), data.len(), options, &mut good) };
+    (status, good)
+}
+
+/// The name of the setting that is wrong; it is static and ASCII.
+pub fn wrong_setting(format: i32, settings: &Settings) -> &'static str {
+    let name = unsafe { sicklespan_wrong_setting(format, settings) };
+    if name.is_null() {
+        return "";
+    }
+    unsafe { CStr::from_ptr(name) }.to_str().unwrap_or("")
 }
 
 pub fn greatest_size() -> usize {

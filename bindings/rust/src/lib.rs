@@ -183,7 +183,8 @@ impl Symbol {
     /// # use sicklespan::{Error, Level, Symbol};
     /// let written = Symbol::gs1("(01)09506000134352(10)ABC123", Level::M)?;
     /// assert_eq!(written, Symbol::elements(b"010950600013435210ABC123", Level::M)?);
-    /// assert_eq!(Symbol::gs1("(01)09506000134353", Level::M), Err(Error::WrongCheckDigit));
+    /// let error = Symbol::gs1("(01)09506000134353", Level::M).unwrap_err();
+    /// assert_eq!(error, Error::WrongCheckDigit { element: 1 });
     /// # Ok::<(), Error>(())
     /// ```
     ///
@@ -247,7 +248,10 @@ impl Symbol {
     /// `InvalidLevel` for level H; then `DataTooLong` exactly where they fit none of them, and
     /// `OutOfMemory`.
     pub fn micro(bytes: &[u8], level: Level) -> Result<Symbol, Error> {
-        Symbol::drawn(|modules, shape| ffi::micro(bytes, level as i32, modules, shape))
+        let options = Options::new(level).numbers();
+        Symbol::drawn(ffi::Content::Micro, bytes, &options, |modules, shape| {
+            ffi::micro(bytes, level as i32, modules, shape)
+        })
     }
 
     /// Returns the 2 to 16 symbols that carry a message together (Structured Append), each in a
@@ -367,16 +371,23 @@ impl Symbol {
     /// The symbol that a call with options draws.
     fn asked(content: ffi::Content, data: &[u8], options: &Options) -> Result<Symbol, Error> {
         let options = options.numbers();
-        Symbol::drawn(|modules, shape| ffi::symbol(content, data, &options, modules, shape))
+        Symbol::drawn(content, data, &options, |modules, shape| {
+            ffi::symbol(content, data, &options, modules, shape)
+        })
     }
 
-    /// What a call draws.
-    fn drawn(call: impl FnOnce(&mut [u8], &mut ffi::Shape) -> i32) -> Result<Symbol, Error> {
+    /// What a call draws of some data.
+    fn drawn(
+        content: ffi::Content,
+        data: &[u8],
+        options: &ffi::Options,
+        call: impl FnOnce(&mut [u8], &mut ffi::Shape) -> i32,
+    ) -> Result<Symbol, Error> {
         let mut bytes = vec![0; ffi::greatest_size()];
         let mut shape = ffi::Shape::default();
         let status = call(&mut bytes, &mut shape);
         if status != 0 {
-            return Err(Error::of(status));
+            return Err(Error::of_data(status, content, data, options));
         }
         Ok(Symbol::of(&bytes[..(shape.width * shape.width) as usize], &shape))
     }

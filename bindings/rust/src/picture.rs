@@ -1,6 +1,9 @@
 //! Pictures of symbols.
 use crate::{ffi, Error, Symbol, Version};
 
+/// `SICKLESPAN_INVALID_SETTING`.
+const INVALID_SETTING: i32 = 22;
+
 /// A format of pictures.
 #[derive(Clone, Copy, Debug, PartialEq, Eq, Hash)]
 #[non_exhaustive]
@@ -30,7 +33,8 @@ pub enum Format {
 /// let symbol = Symbol::new(b"hello", Level::M)?;
 /// let label = symbol.picture(Format::Zpl, &Settings::new().scale(4).at(20, 30))?;
 /// assert!(label.starts_with(b"^XA\n^FO20,30^GFA,"));
-/// assert_eq!(symbol.picture(Format::Pbm, &Settings::new().dpi(300)), Err(Error::InvalidSetting));
+/// let error = symbol.picture(Format::Pbm, &Settings::new().dpi(300)).unwrap_err();
+/// assert_eq!(error, Error::InvalidSetting { name: "dpi" });
 /// # Ok::<(), sicklespan::Error>(())
 /// ```
 #[derive(Clone, Copy, Debug, Default, PartialEq, Eq, Hash)]
@@ -112,6 +116,12 @@ impl Symbol {
             match ffi::picture(&modules, self.width(), format, &asked, &mut bytes, &mut length) {
                 0 => break,
                 ffi::SHORT_BUFFER => bytes.resize(length, 0),
+                INVALID_SETTING => {
+                    let name = ffi::wrong_setting(format, &asked);
+                    // The library has a name for each part of the position.
+                    let name = if name.starts_with("at_") { "at" } else { name };
+                    return Err(Error::InvalidSetting { name });
+                }
                 status => return Err(Error::of(status)),
             }
         }

@@ -1,7 +1,9 @@
 //! Symbols through the library: sizes by the standard's table of capacities, grids by those of the
 //! original crate.
 use answers::Answer;
-use sicklespan::{best_cuts, best_text_cuts, Error, Format, Level, Options, Settings, Symbol, Version};
+use sicklespan::{
+    best_cuts, best_text_cuts, Error, Format, Level, Options, Settings, Symbol, Version,
+};
 
 mod answers;
 
@@ -60,7 +62,7 @@ fn draws_all_versions_and_levels() {
             }
             least = most + 1;
         }
-        assert_eq!(Symbol::new(&vec![b'a'; least], level), Err(Error::DataTooLong));
+        assert_eq!(Symbol::new(&vec![b'a'; least], level), Err(too_long(1)));
     }
 }
 
@@ -76,13 +78,35 @@ fn draws_all_micro_versions_and_levels() {
         assert!(symbol.mask() < 4);
         let next = DIGITS.iter().find(|(other, at, _)| *other > number && *at == level);
         let answer = Symbol::micro(&vec![b'7'; most + 1], level).map(|symbol| symbol.version());
-        assert_eq!(
-            answer,
-            next.map(|(other, ..)| Version::Micro(*other)).ok_or(Error::DataTooLong)
-        );
+        assert_eq!(answer, next.map(|(other, ..)| Version::Micro(*other)).ok_or(too_long(1)));
     }
     // Worked by hand from the standard's steps.
     assert_eq!(Symbol::micro(b"12345", Level::L).unwrap().mask(), 2);
+}
+
+/// That of data of which some bytes are too many.
+fn too_long(count: usize) -> Error {
+    Error::DataTooLong { too_many: Some(count) }
+}
+
+const PART_TOO_LONG: Error = Error::DataTooLong { too_many: None };
+
+#[test]
+fn tells_how_many_are_too_many() {
+    // Version 1 holds 17 bytes at level L, and 16 after the 12 bits of the ECI designator.
+    let first = Options::new(Level::L).max_version(1);
+    let error = Symbol::bytes_with(&[b'a'; 20], &first).unwrap_err();
+    assert_eq!((error, error.to_string()), (too_long(3), said("by 3 bytes")));
+    let error = Symbol::bytes_with(&[b'a'; 18], &first).unwrap_err();
+    assert_eq!((error, error.to_string()), (too_long(1), said("by 1 byte")));
+    // A character is not cut.
+    assert_eq!(Symbol::text_with(&format!("a{}", "é".repeat(8)), &first), Err(too_long(2)));
+    assert_eq!(Symbol::micro(&[b'a'; 20], Level::L), Err(too_long(5)));
+    assert_eq!(PART_TOO_LONG.to_string(), "the data are too long");
+}
+
+fn said(what: &str) -> String {
+    format!("the data are too long, {what}")
 }
 
 /// The inputs of the rows in `answers`, by kind and length.
@@ -123,7 +147,7 @@ fn answers_as_the_original() {
             if answer.micro { Symbol::micro(&bytes, level) } else { Symbol::new(&bytes, level) };
         let got = match drawn {
             Ok(symbol) => (symbol.modules().len(), hash(symbol.modules())),
-            Err(Error::DataTooLong) => (1, 0),
+            Err(Error::DataTooLong { too_many: Some(_) }) => (1, 0),
             Err(Error::InvalidLevel) => (2, 0),
             Err(error) => panic!("{error}"),
         };
@@ -149,7 +173,7 @@ fn draws_sequences() {
     assert_eq!(Symbol::sequence(message, &[5], Level::L, 41), Err(Error::InvalidMaxVersion));
     assert_eq!(Symbol::sequence(message, &[], Level::L, 40), Err(Error::InvalidPartCount));
     assert_eq!(Symbol::sequence(message, &[0; 16], Level::L, 40), Err(Error::InvalidPartCount));
-    assert_eq!(Symbol::sequence(message, &[0], Level::L, 1), Err(Error::DataTooLong));
+    assert_eq!(Symbol::sequence(message, &[0], Level::L, 1), Err(PART_TOO_LONG));
 }
 
 #[test]
@@ -162,7 +186,7 @@ fn draws_sequences_of_text() {
     // Version 1 holds 72 bits at H: 20 of the header, 12 that say UTF-8, 12 before the bytes.
     assert_eq!(best_text_cuts("éé", Level::H, 1), Ok(vec![2]));
     assert_eq!(best_text_cuts("é", Level::H, 1), Ok(vec![]));
-    assert_eq!(best_text_cuts(&"é".repeat(17), Level::H, 1), Err(Error::DataTooLong));
+    assert_eq!(best_text_cuts(&"é".repeat(17), Level::H, 1), Err(PART_TOO_LONG));
     assert_eq!(best_text_cuts("é", Level::H, 0), Err(Error::InvalidMaxVersion));
 }
 
@@ -176,7 +200,7 @@ fn finds_cuts() {
         assert_eq!(found, (1..=cuts).map(|i| i * 2951).collect::<Vec<_>>());
     }
     assert_eq!(best_cuts(&message[..80], Level::H, 1).unwrap().len(), 15);
-    assert_eq!(best_cuts(&message[..81], Level::H, 1), Err(Error::DataTooLong));
+    assert_eq!(best_cuts(&message[..81], Level::H, 1), Err(PART_TOO_LONG));
     assert_eq!(best_cuts(b"a", Level::H, 0), Err(Error::InvalidMaxVersion));
     assert_eq!(best_cuts(b"a", Level::H, 41), Err(Error::InvalidMaxVersion));
 }
@@ -194,7 +218,7 @@ fn draws_as_asked() {
         assert_eq!(Symbol::text(&text, level).unwrap().version(), Version::Normal(2));
         assert_eq!(Symbol::text(&text[1..], level).unwrap().version(), Version::Normal(1));
         let options = Options::new(level).max_version(1);
-        assert_eq!(Symbol::text_with(&text, &options), Err(Error::DataTooLong));
+        assert_eq!(Symbol::text_with(&text, &options), Err(too_long(1)));
         let options = Options::new(level).min_version(3);
         assert_eq!(Symbol::text_with(&text, &options).unwrap().version(), Version::Normal(3));
     }
@@ -214,18 +238,47 @@ fn draws_elements() {
     assert_ne!(Symbol::new(bytes, Level::Q), Ok(symbol));
     let options = Options::new(Level::Q).min_version(4);
     assert_eq!(Symbol::elements_with(bytes, &options).unwrap().version(), Version::Normal(4));
-    assert_eq!(Symbol::elements(b"10A B", Level::Q), Err(Error::InvalidCharacter));
+    assert_eq!(Symbol::elements(b"10A B", Level::Q), Err(Error::InvalidCharacter { place: 3 }));
     let too_long = format!("(10){}", "A".repeat(91));
-    for (text, error) in [
-        ("10ABC", Error::NoElements),
-        ("(1)2", Error::InvalidIdentifier),
-        ("(05)2", Error::UnknownIdentifier),
-        ("(10)", Error::EmptyValue),
-        (&too_long, Error::ValueTooLong),
-        ("(10)a b", Error::InvalidCharacter),
-        ("(01)1", Error::WrongLength),
-        ("(01)09506000134353", Error::WrongCheckDigit),
+    for (text, error, said) in [
+        ("10ABC", Error::NoElements, "the text does not begin with a bracketed identifier"),
+        (
+            "(1)2",
+            Error::InvalidIdentifier { element: 1 },
+            "element 1: an identifier is not two to four digits in brackets",
+        ),
+        (
+            "(21)A(05)2",
+            Error::UnknownIdentifier { element: 2 },
+            "element 2: an identifier is unknown",
+        ),
+        (
+            "(10",
+            Error::EmptyValue { element: 1 },
+            "element 1: a value is empty, or a bracket is not closed",
+        ),
+        (
+            &too_long,
+            Error::ValueTooLong { element: 1 },
+            "element 1: a value has more than 90 characters",
+        ),
+        (
+            "(21)A(10)a b",
+            Error::InvalidCharacter { place: 5 },
+            "a character is none of a GS1 element, at byte 5",
+        ),
+        (
+            "(21)A(10)B(01)1",
+            Error::WrongLength { element: 3 },
+            "element 3: the length of a value is wrong",
+        ),
+        (
+            "(01)09506000134353(10)A",
+            Error::WrongCheckDigit { element: 1 },
+            "element 1: a check digit is wrong",
+        ),
     ] {
+        assert_eq!(error.to_string(), said);
         assert_eq!(Symbol::gs1(text, Level::Q), Err(error));
     }
 }
@@ -297,25 +350,29 @@ fn draws_in_each_format() {
     assert_eq!(ticket[..8], *b"\x1dv0\0\x04\0\x1d\0");
     let label = symbol.picture(Format::Zpl, &Settings::new().scale(1).at(20, 30)).unwrap();
     assert!(label.starts_with(b"^XA\n^FO20,30^GFA,116,116,4,"));
-    for (format, settings) in [
-        (Format::Svg, Settings::new().scale(0)),
-        (Format::Svg, Settings::new().scale(65)),
-        (Format::Svg, Settings::new().quiet(17)),
-        (Format::Svg, Settings::new().module_mm(4)),
-        (Format::Svg, Settings::new().dpi(300)),
-        (Format::Svg, Settings::new().inverted()),
-        (Format::Svg, Settings::new().at(0, 0)),
-        (Format::Zpl, Settings::new().at(0, 18001)),
-        (Format::Png, Settings::new().dpi(300).module_mm(33)),
+    for (format, settings, name) in [
+        (Format::Svg, Settings::new().scale(0), "scale"),
+        (Format::Svg, Settings::new().scale(65), "scale"),
+        (Format::Svg, Settings::new().quiet(17), "quiet"),
+        (Format::Svg, Settings::new().module_mm(4), "module_mm"),
+        (Format::Svg, Settings::new().dpi(300), "dpi"),
+        (Format::Svg, Settings::new().inverted(), "inverted"),
+        (Format::Svg, Settings::new().at(0, 0), "at"),
+        (Format::Zpl, Settings::new().at(0, 18001), "at"),
+        (Format::Png, Settings::new().dpi(300).module_mm(33), "dpi"),
     ] {
-        assert_eq!(symbol.picture(format, &settings), Err(Error::InvalidSetting));
+        assert_eq!(symbol.picture(format, &settings), Err(Error::InvalidSetting { name }));
     }
 }
 
 #[test]
 fn errors_have_texts() {
-    let error: Box<dyn std::error::Error> = Box::new(Error::DataTooLong);
+    let error: Box<dyn std::error::Error> = Box::new(PART_TOO_LONG);
     assert_eq!(error.to_string(), "the data are too long");
+    assert_eq!(
+        Error::InvalidSetting { name: "dpi" }.to_string(),
+        "a setting is out of bounds, or not of the format: dpi"
+    );
     assert_eq!(Error::InvalidCuts.to_string(), "a cut is none of the message, or out of order");
 }
 
