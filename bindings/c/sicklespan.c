@@ -299,7 +299,9 @@ int32_t sicklespan_picture(const uint8_t *modules, int32_t width, int32_t format
     if (!are_good(grid, look, shown, needed)) return SICKLESPAN_INVALID_POINTER;
     const uint8_t *const from = modules == NULL ? (const uint8_t *)&nowhere : modules;
     uint8_t *const to = picture == NULL ? (uint8_t *)&nowhere : picture;
-    return qrcode_c_picture(from, size, side, format, settings, to, room, length);
+    sicklespan_settings asked = *settings;
+    if (asked.quiet < 0 && side < 21) asked.quiet = 2;
+    return qrcode_c_picture(from, size, side, format, &asked, to, room, length);
 }
 
 const char *sicklespan_wrong_setting(int32_t format, const sicklespan_settings *settings) {

@@ -262,7 +262,8 @@ enum sicklespan_format {
 /* What is asked of a picture. A number below 0 stands for the default, but for `inverted`. */
 typedef struct sicklespan_settings {
     int32_t scale;     /* the width of a module in pixels, 1 to 64: 8 by default, and 1 of text */
-    int32_t quiet;     /* the width of the quiet zone in modules, 0 to 16: 4 by default */
+    int32_t quiet;     /* the width of the quiet zone in modules, 0 to 16: 4 by default, and 2
+                        * around a Micro symbol */
     int32_t module_mm; /* of SVG, PNG and EPS: a module in hundredths of a millimetre, 5 to 1000 */
     int32_t dpi;       /* of PNG, not beside module_mm: the pixels in an inch, 50 to 2400 */
     int32_t inverted;  /* of text: if it is not 0, the light pixels are filled, for a dark screen */

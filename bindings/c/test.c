@@ -494,7 +494,8 @@ int main(void) {
                                    test_picture_room,   test_picture_pointers,
                                    test_settings,       test_picture_allocations,
                                    test_check,          test_check_pointers,
-                                   test_check_memory,   test_wrong_setting};
+                                   test_check_memory,   test_wrong_setting,
+                                   test_quiet_zones};
     int passed = 0, failed = 0;
     /* What a row prints is not lost where the next call ends the program. */
     setbuf(stdout, NULL);

@@ -69,6 +69,34 @@ static void test_picture_room(void) {
     EXPECT(hello_as(PBM, &small) == SICKLESPAN_OK && is_bitmap());
 }
 
+/* The quiet zone of a Micro symbol has 2 modules (ISO/IEC 18004, "Quiet zone"). */
+static void test_quiet_zones(void) {
+    enum { PBM = SICKLESPAN_FORMAT_PBM };
+    const struct {
+        const char *digits, *start;
+        size_t length;
+    } symbols[] = {{"12345", "P4\n15 15\n", 9 + 15 * 2},
+                   {"12345678901234567890123456789012345", "P4\n21 21\n", 9 + 21 * 3}};
+    const sicklespan_settings zone = {1, -1, -1, -1, 0, -1, -1};
+    for (size_t i = 0; i < 2; i++) {
+        const char *const digits = symbols[i].digits;
+        EXPECT(sicklespan_micro(digits, strlen(digits), SICKLESPAN_LEVEL_L, hello, 441, &shape) ==
+               SICKLESPAN_OK);
+        const int32_t width = shape.width;
+        EXPECT(picture(hello, width, PBM, &zone, modules, GREATEST, &picture_length) ==
+               SICKLESPAN_OK);
+        EXPECT(picture_length == symbols[i].length && memcmp(modules, symbols[i].start, 9) == 0);
+        EXPECT(picture(hello, width, PBM, &small, modules, GREATEST, &picture_length) ==
+                   SICKLESPAN_OK &&
+               memcmp(modules, width == 11 ? "P4\n19 19\n" : "P4\n25 25\n", 9) == 0);
+        EXPECT(picture(hello, width, PBM, NULL, modules, GREATEST, &picture_length) ==
+                   SICKLESPAN_OK &&
+               memcmp(modules, width == 11 ? "P4\n120 120\n" : "P4\n168 168\n", 11) == 0);
+    }
+    draw_hello();
+    EXPECT(hello_as(PBM, &zone) == SICKLESPAN_OK && is_bitmap());
+}
+
 static void test_picture_pointers(void) {
     enum { PBM = SICKLESPAN_FORMAT_PBM };
     size_t *const length = &picture_length;

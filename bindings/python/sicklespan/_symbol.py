@@ -119,15 +119,16 @@ class Symbol:
     def _zone(self, border: Optional[int]) -> int:
         return self.default_border_size if border is None else _setting("border", border)
 
-    def picture(self, kind: str, *, scale: int = 1, border: Optional[int] = None,
+    def picture(self, kind: str, *, scale: Optional[int] = None, border: Optional[int] = None,
                 module_mm: Optional[float] = None, dpi: Optional[int] = None,
                 inverted: bool = False, at: Optional[Tuple[int, int]] = None) -> bytes:
         """A picture, which is svg, png, pbm, eps, escpos, zpl or terminal.
 
-        A module has `scale` pixels, and the quiet zone `border` modules. A module of svg, png and
-        eps is `module_mm` millimetres wide, to the nearest hundredth; or a png has `dpi` pixels in
-        an inch. With `inverted` the light modules of text are filled, for a dark screen. The upper
-        left corner of a zpl label is `at` these dots.
+        A module has `scale` pixels, 8 by default and 1 of text, and the quiet zone `border` modules,
+        4 by default and 2 around a Micro symbol. A module of svg, png and eps is `module_mm`
+        millimetres wide, to the nearest hundredth; or a png has `dpi` pixels in an inch. With
+        `inverted` the light modules of text are filled, for a dark screen. The upper left corner of
+        a zpl label is `at` these dots.
         """
         if kind not in _FORMATS:
             raise InvalidFormatError(f"a picture is {', '.join(_FORMATS)}, and not {kind!r}")
@@ -146,31 +147,31 @@ class Symbol:
         check_picture(status, _FORMATS[kind], asked)
         return ctypes.string_at(out, length.value)
 
-    def svg(self, *, scale: int = 1, border: Optional[int] = None,
+    def svg(self, *, scale: Optional[int] = None, border: Optional[int] = None,
             module_mm: Optional[float] = None) -> str:
         """The picture as SVG."""
         return self.picture("svg", scale=scale, border=border, module_mm=module_mm).decode()
 
-    def png(self, *, scale: int = 1, border: Optional[int] = None,
+    def png(self, *, scale: Optional[int] = None, border: Optional[int] = None,
             module_mm: Optional[float] = None, dpi: Optional[int] = None) -> bytes:
         """The picture as a PNG file."""
         return self.picture("png", scale=scale, border=border, module_mm=module_mm, dpi=dpi)
 
-    def svg_data_uri(self, *, scale: int = 1, border: Optional[int] = None) -> str:
+    def svg_data_uri(self, *, scale: Optional[int] = None, border: Optional[int] = None) -> str:
         """The picture as SVG, in an address for the `src` of an image."""
         return "data:image/svg+xml;charset=utf-8," + quote(self.svg(scale=scale, border=border))
 
-    def png_data_uri(self, *, scale: int = 1, border: Optional[int] = None) -> str:
+    def png_data_uri(self, *, scale: Optional[int] = None, border: Optional[int] = None) -> str:
         """The picture as a PNG file, in an address for the `src` of an image."""
         data = base64.b64encode(self.png(scale=scale, border=border))
         return "data:image/png;base64," + data.decode()
 
-    def _text(self, scale: int, border: Optional[int]) -> bytes:
-        rows = self.matrix_iter(scale, border)
+    def _text(self, scale: Optional[int], border: Optional[int]) -> bytes:
+        rows = self.matrix_iter(1 if scale is None else scale, border)
         return "".join("".join(".#"[pixel] for pixel in row) + "\n" for row in rows).encode()
 
     def save(self, out: Union[str, "os.PathLike[str]", BinaryIO], kind: Optional[str] = None, *,
-             scale: int = 1, border: Optional[int] = None, module_mm: Optional[float] = None,
+             scale: Optional[int] = None, border: Optional[int] = None, module_mm: Optional[float] = None,
              dpi: Optional[int] = None, at: Optional[Tuple[int, int]] = None) -> None:
         """Writes a picture to a file, as its ending or `kind` says, or to a stream, as `kind` says.
 

@@ -251,11 +251,15 @@ class Pictures(unittest.TestCase):
         drawn = [(int(x) + i, int(y)) for x, y, n in runs for i in range(int(n))]
         self.assertEqual((len(drawn), set(drawn)), (len(dark), dark))
         self.assertIn('width="9.57mm"', symbol.svg(module_mm=0.33))
+        # A module has 8 pixels by default, and the quiet zone 4 modules, or 2 round a Micro symbol.
+        self.assertIn('width="232" height="232"', symbol.svg())
+        self.assertIn('width="120" height="120"', sicklespan.micro("12345").svg())
 
     def test_png(self):
         symbol = sicklespan.micro("1")
-        for scale, border in ((1, None), (3, 0), (2, 5)):
-            rows = list(symbol.matrix_iter(scale, border))
+        # A module has 8 pixels by default.
+        for scale, border in ((None, None), (1, None), (3, 0), (2, 5)):
+            rows = list(symbol.matrix_iter(scale or 8, border))
             file = symbol.png(scale=scale, border=border, dpi=300)
             self.assertEqual(file[:8], b"\x89PNG\r\n\x1a\n")
             chunks, data = {}, file[8:]
@@ -278,14 +282,15 @@ class Pictures(unittest.TestCase):
 
     def test_formats(self):
         symbol = sicklespan.make("hello", "L", boost_error=False)
-        bitmap = symbol.picture("pbm")
+        bitmap = symbol.picture("pbm", scale=1)
         self.assertEqual(bitmap[:9], b"P4\n29 29\n")
         bits = "".join(f"{byte:08b}" for byte in bitmap[9:])
         rows = ["".join("01"[pixel] for pixel in row) + "000" for row in symbol.matrix_iter()]
         self.assertEqual(bits, "".join(rows))
         self.assertEqual(symbol.picture("eps")[:24], b"%!PS-Adobe-3.0 EPSF-3.0\n")
-        self.assertEqual(symbol.picture("escpos")[:8], b"\x1dv0\0\x04\0\x1d\0")
-        self.assertEqual(symbol.picture("zpl", at=(20, 30))[:27], b"^XA\n^FO20,30^GFA,116,116,4,")
+        self.assertEqual(symbol.picture("escpos", scale=1)[:8], b"\x1dv0\0\x04\0\x1d\0")
+        label = symbol.picture("zpl", scale=1, at=(20, 30))
+        self.assertEqual(label[:27], b"^XA\n^FO20,30^GFA,116,116,4,")
         self.assertEqual(symbol.picture("terminal", inverted=True).decode()[:29], "\u2588" * 29)
         self.assertEqual(len(symbol.picture("pbm", scale=64)), 13 + 232 * 8 * 232)
         for kind, settings in (
