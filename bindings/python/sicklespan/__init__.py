@@ -16,7 +16,7 @@ from ._errors import (
     SicklespanError, UnknownIdentifierError, ValueTooLongError, WrongCheckDigitError,
     WrongLengthError)
 from ._library import __version__
-from ._make import elements, gs1, make, micro, sequence
+from ._make import elements, gs1, make, make_micro, make_qr, make_sequence, micro, sequence
 from ._symbol import Symbol
 
 __all__ = [
@@ -25,4 +25,4 @@ __all__ = [
     "InvalidPartCountError", "InvalidSettingError", "InvalidTextError", "InvalidVersionsError",
     "NoElementsError", "OutOfMemoryError", "SicklespanError", "Symbol", "UnknownIdentifierError",
     "ValueTooLongError", "WrongCheckDigitError", "WrongLengthError", "__version__", "elements",
-    "gs1", "make", "micro", "sequence"]
+    "gs1", "make", "make_micro", "make_qr", "make_sequence", "micro", "sequence"]

@@ -5,8 +5,8 @@ import operator
 from typing import Callable, List, Optional, Sequence, Union
 
 from ._errors import (
-    BYTES, ELEMENTS, GS1, MICRO, TEXT, InvalidCutsError, InvalidLevelError, InvalidTextError,
-    InvalidVersionsError, check, check_data)
+    BYTES, ELEMENTS, GS1, MICRO, TEXT, DataTooLongError, InvalidCutsError, InvalidLevelError,
+    InvalidPartCountError, InvalidTextError, InvalidVersionsError, check, check_data)
 from ._library import Options, Shape, library
 from ._symbol import LEVELS, Symbol
 
@@ -45,7 +45,9 @@ def _data(content: Content) -> bytes:
     return bytes(content)
 
 
-def _number(level: str) -> int:
+def _number(level: Optional[str], usual: str = "M") -> int:
+    if level is None:
+        level = usual
     if not isinstance(level, str):
         raise _type_error("error", "one of L, M, Q and H", level)
     number = LEVELS.find(level.upper()) if len(level) == 1 else -1
@@ -81,7 +83,7 @@ def _drawn(content: int, data: bytes, options: Options) -> Symbol:
     return Symbol(ctypes.string_at(modules, shape.width ** 2), shape)
 
 
-def _options(error: str, version: Optional[int], min_version: int, max_version: int,
+def _options(error: Optional[str], version: Optional[int], min_version: int, max_version: int,
              boost_error: bool) -> Options:
     least, most = _version("min_version", min_version), _version("max_version", max_version)
     if version is not None:
@@ -92,22 +94,45 @@ def _options(error: str, version: Optional[int], min_version: int, max_version: 
     return Options(_number(error), least, most, bool(boost_error))
 
 
-def make(content: Content, error: str = "M", version: Optional[int] = None, *,
-         min_version: int = 1, max_version: int = 40, boost_error: bool = True) -> Symbol:
+def _is_utf8(content: Content) -> bool:
+    """Whether it is a text of which a symbol is to say that it is UTF-8."""
+    return isinstance(content, str) and not content.isascii()
+
+
+def make(content: Content, error: Optional[str] = None, version: Optional[int] = None, *,
+         min_version: int = 1, max_version: int = 40, boost_error: bool = True,
+         micro: Optional[bool] = False) -> Symbol:
     """The best symbol of a text or of bytes.
 
-    `error` is the level, L, M, Q or H. With `boost_error` it is the least level: the symbol has the
-    greatest one at which it is no larger. It is the smallest symbol in the versions from
-    `min_version` to `max_version`, or has exactly `version`.
+    `error` is the level, L, M, Q or H, and M if it is None. With `boost_error` it is the least
+    level: the symbol has the greatest one at which it is no larger. It is the smallest symbol in
+    the versions from `min_version` to `max_version`, or has exactly `version`. With `micro` None it
+    is a Micro symbol if one can be it: if no versions are asked for, the content fits one at the
+    level, and is no text beyond ASCII. With `micro` True it is one, or an error.
 
     ASCII is encoded as it is. Any other text is encoded in UTF-8, and the symbol says so.
     """
-    options, data = _options(error, version, min_version, max_version, boost_error), _data(content)
-    is_text = isinstance(content, str) and not content.isascii()
-    return _drawn(TEXT if is_text else BYTES, data, options)
+    options = _options(error, version, min_version, max_version, boost_error)
+    is_any = version is None and (min_version, max_version) == (1, 40)
+    if micro and not is_any:
+        raise InvalidVersionsError("a Micro symbol has no version from 1 to 40")
+    if micro is not False and is_any:
+        try:
+            return make_micro(content, LEVELS[options.level], boost_error=boost_error)
+        except (DataTooLongError, InvalidLevelError, InvalidTextError):
+            if micro:
+                raise
+    data = _data(content)
+    return _drawn(TEXT if _is_utf8(content) else BYTES, data, options)
 
 
-def gs1(content: str, error: str = "M", version: Optional[int] = None, *, min_version: int = 1,
+def make_qr(content: Content, error: Optional[str] = None, version: Optional[int] = None, *,
+            boost_error: bool = True) -> Symbol:
+    """What `make` returns, which is no Micro symbol."""
+    return make(content, error, version, boost_error=boost_error)
+
+
+def gs1(content: str, error: Optional[str] = None, version: Optional[int] = None, *, min_version: int = 1,
         max_version: int = 40, boost_error: bool = True) -> Symbol:
     """The best symbol of GS1 elements as people write them: `(01)09506000134352(10)ABC123`.
 
@@ -119,7 +144,7 @@ def gs1(content: str, error: str = "M", version: Optional[int] = None, *, min_ve
     return _drawn(GS1, _text("content", content), options)
 
 
-def elements(content: Union[bytes, bytearray, memoryview], error: str = "M",
+def elements(content: Union[bytes, bytearray, memoryview], error: Optional[str] = None,
              version: Optional[int] = None, *, min_version: int = 1, max_version: int = 40,
              boost_error: bool = True) -> Symbol:
     """The best symbol of GS1 elements as readers find them, with the byte 1D (hex) between two."""
@@ -127,13 +152,31 @@ def elements(content: Union[bytes, bytearray, memoryview], error: str = "M",
     return _drawn(ELEMENTS, _bytes("content", content), options)
 
 
-def micro(content: Content, error: str = "L") -> Symbol:
-    """The best Micro symbol of a text or of bytes, in M1 to M4, at level L, M or Q.
+def micro(content: Content, error: Optional[str] = None) -> Symbol:
+    """The best Micro symbol of ASCII text or of bytes, in M1 to M4, at level L, M or Q.
 
-    A text is encoded in UTF-8, which no Micro symbol says: readers may show other characters than
-    those that are not ASCII.
+    The level is L if it is None. No Micro symbol says in which character set it is: another text is
+    an `InvalidTextError`, and of bytes that are not ASCII readers may show other characters.
     """
-    return _drawn(MICRO, _data(content), Options(_number(error), 1, 40, False))
+    data = _data(content)
+    if _is_utf8(content):
+        raise InvalidTextError("a Micro symbol does not say that a text is UTF-8: pass its bytes")
+    return _drawn(MICRO, data, Options(_number(error, "L"), 1, 40, False))
+
+
+def make_micro(content: Content, error: Optional[str] = None, *,
+               boost_error: bool = True) -> Symbol:
+    """What `micro` returns, with `boost_error` at the greatest level at which it is no larger."""
+    symbol = micro(content, error)
+    for level in LEVELS[LEVELS.index(symbol.level) + 1:-1] if boost_error else "":
+        try:
+            stronger = micro(content, level)
+        except DataTooLongError:
+            break
+        if stronger.width > symbol.width:
+            break
+        symbol = stronger
+    return symbol
 
 
 def _best_cuts(call: Callable[..., int], data: bytes, level: int, limit: int) -> List[int]:
@@ -154,8 +197,8 @@ def _places(cuts: Sequence[int], length: int) -> List[int]:
     return places
 
 
-def sequence(content: Content, cuts: Optional[Sequence[int]] = None, error: str = "M", *,
-             max_version: int = 40) -> List[Symbol]:
+def sequence(content: Content, cuts: Optional[Sequence[int]] = None, error: Optional[str] = None,
+             *, max_version: int = 40) -> List[Symbol]:
     """The symbols that carry a message together (Structured Append), in versions up to a greatest.
 
     Part i ends before byte `cuts[i]`, and the last one at the end of the message. Where no cuts are
@@ -164,7 +207,7 @@ def sequence(content: Content, cuts: Optional[Sequence[int]] = None, error: str 
     Text is encoded as `make` does it. The cuts of text that is not ASCII count the bytes of its
     UTF-8, and each is between two characters.
     """
-    is_text, data = isinstance(content, str) and not content.isascii(), _data(content)
+    is_text, data = _is_utf8(content), _data(content)
     level, limit = _number(error), _version("max_version", max_version)
     if cuts is None:
         find = library.sicklespan_text_cuts if is_text else library.sicklespan_cuts
@@ -183,3 +226,27 @@ def sequence(content: Content, cuts: Optional[Sequence[int]] = None, error: str 
         symbols.append(Symbol(modules.raw[start:start + size], shape))
         start += size
     return symbols
+
+
+def _even_cuts(content: Content, count: int) -> List[int]:
+    """The bytes at which the content is cut into parts that differ by one character at most."""
+    places = [i * len(content) // count for i in range(1, count)]
+    if not isinstance(content, str):
+        return places
+    return [len(content[:place].encode()) for place in places]
+
+
+def make_sequence(content: Content, error: Optional[str] = None, *,
+                  symbol_count: Optional[int] = None, max_version: int = 40) -> List[Symbol]:
+    """What `sequence` returns, in so many symbols: the parts are about as long as each other."""
+    data = _data(content)
+    if symbol_count is None:
+        return sequence(content, None, error, max_version=max_version)
+    try:
+        count = operator.index(symbol_count)
+    except TypeError:
+        raise _type_error("symbol_count", "a number from 2 to 16", symbol_count) from None
+    if not 2 <= count <= 16:
+        raise InvalidPartCountError(f"symbol_count is 2 to 16, and not {count}")
+    whole = content if isinstance(content, str) else data
+    return sequence(content, _even_cuts(whole, count), error, max_version=max_version)

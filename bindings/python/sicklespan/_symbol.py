@@ -2,10 +2,16 @@
 
 import base64
 import ctypes
+import io
 import math
 import operator
 import os
-from typing import BinaryIO, Iterator, Optional, Tuple, Union
+import pathlib
+import sys
+import tempfile
+import threading
+import webbrowser
+from typing import IO, Any, Iterator, Optional, Tuple, Union
 from urllib.parse import quote
 
 from ._errors import InvalidFormatError, InvalidSettingError, check_picture
@@ -112,9 +118,23 @@ class Symbol:
             yield from (line for _ in range(scale))
         yield from (bytes(side) for _ in range(scale * zone))
 
-    def terminal(self, border: Optional[int] = None) -> str:
-        """Two rows a line, in half blocks. Dark modules are printed in the colour of the text."""
-        return self.picture("terminal", border=border).decode()[:-1]
+    def terminal(self, out: Union[None, str, "os.PathLike[str]", IO[Any]] = None,
+                 border: Optional[int] = None) -> None:
+        """Prints it, or writes it to a file or a stream: two rows a line, in half blocks.
+
+        Dark modules are printed in the colour of the text. `str` gives the same text.
+        """
+        self.save(sys.stdout if out is None else out, "terminal", border=border)
+
+    def show(self, delete_after: Optional[float] = 20, scale: int = 10,
+             border: Optional[int] = None) -> None:
+        """Shows a PNG file, which is removed after some seconds, by what the system has for it."""
+        with tempfile.NamedTemporaryFile("wb", suffix=".png", delete=False) as it:
+            it.write(self.png(scale=scale, border=border))
+        webbrowser.open(pathlib.Path(it.name).as_uri())
+        if delete_after is not None:
+            timer = threading.Timer(delete_after, os.unlink, (it.name,))
+            timer.start()
 
     def _zone(self, border: Optional[int]) -> int:
         return self.default_border_size if border is None else _setting("border", border)
@@ -152,6 +172,12 @@ class Symbol:
         """The picture as SVG."""
         return self.picture("svg", scale=scale, border=border, module_mm=module_mm).decode()
 
+    def svg_inline(self, *, scale: Optional[int] = None, border: Optional[int] = None,
+                   module_mm: Optional[float] = None) -> str:
+        """The picture as SVG within a page of HTML, without the name space."""
+        text = self.svg(scale=scale, border=border, module_mm=module_mm)
+        return text.replace(' xmlns="http://www.w3.org/2000/svg"', "", 1).rstrip("\n")
+
     def png(self, *, scale: Optional[int] = None, border: Optional[int] = None,
             module_mm: Optional[float] = None, dpi: Optional[int] = None) -> bytes:
         """The picture as a PNG file."""
@@ -168,14 +194,15 @@ class Symbol:
 
     def _text(self, scale: Optional[int], border: Optional[int]) -> bytes:
         rows = self.matrix_iter(1 if scale is None else scale, border)
-        return "".join("".join(".#"[pixel] for pixel in row) + "\n" for row in rows).encode()
+        return "".join("".join("01"[pixel] for pixel in row) + "\n" for row in rows).encode()
 
-    def save(self, out: Union[str, "os.PathLike[str]", BinaryIO], kind: Optional[str] = None, *,
+    def save(self, out: Union[str, "os.PathLike[str]", IO[Any]], kind: Optional[str] = None, *,
              scale: Optional[int] = None, border: Optional[int] = None, module_mm: Optional[float] = None,
              dpi: Optional[int] = None, at: Optional[Tuple[int, int]] = None) -> None:
         """Writes a picture to a file, as its ending or `kind` says, or to a stream, as `kind` says.
 
-        It is a picture of `picture`, or txt: a line of # and . for each row of modules.
+        It is a picture of `picture`, or txt: a line of 1 (dark) and 0 for each row of modules. A
+        stream is one of bytes, or for txt, svg, eps, zpl and terminal one of text.
         """
         named = isinstance(out, (str, os.PathLike))
         ending = os.path.splitext(os.fspath(out))[1] if named else ""  # type: ignore[arg-type]
@@ -192,11 +219,15 @@ class Symbol:
         if isinstance(out, (str, os.PathLike)):
             with open(out, "wb") as it:
                 it.write(data)
-        else:
+        elif not isinstance(out, io.TextIOBase):
             out.write(data)
+        elif kind in ("txt", "svg", "eps", "zpl", "terminal"):
+            out.write(data.decode())
+        else:
+            raise TypeError(f"out is a stream of bytes for {kind}, and not one of text")
 
     def __str__(self) -> str:
-        return self.terminal()
+        return self.picture("terminal").decode()[:-1]
 
     def __repr__(self) -> str:
         return f"<sicklespan.Symbol {self.designator}, mask {self._mask}>"

@@ -7,6 +7,7 @@ library, where the package does not contain it.
 """
 
 import base64
+import contextlib
 import io
 import os
 import re
@@ -14,9 +15,12 @@ import struct
 import sys
 import tempfile
 import threading
+import time
 import unittest
 import urllib.parse
+import urllib.request
 import zlib
+from unittest import mock
 
 HERE = os.path.dirname(os.path.abspath(__file__))
 if "SICKLESPAN_LIBRARY" in os.environ:
@@ -94,7 +98,8 @@ class Symbols(unittest.TestCase):
         wrong = (("content", lambda: sicklespan.make(123)),
                  ("content", lambda: sicklespan.gs1(b"(10)A")),
                  ("content", lambda: sicklespan.elements("10A")),
-                 ("error", lambda: sicklespan.make("a", None)),
+                 ("error", lambda: sicklespan.make("a", 1)),
+                 ("symbol_count", lambda: sicklespan.make_sequence("abc", symbol_count="2")),
                  ("version", lambda: sicklespan.make("a", version="M1")),
                  ("max_version", lambda: sicklespan.sequence("a", [0], max_version=2.5)),
                  ("cuts", lambda: sicklespan.sequence("a", ["0"])),
@@ -146,6 +151,10 @@ class Symbols(unittest.TestCase):
         self.assertEqual((symbol.version, symbol.level, symbol.mask), ("M1", "L", 2))
         self.assertEqual((symbol.width, symbol.is_micro), (11, True))
         self.assertEqual(symbol.default_border_size, 2)
+        # No Micro symbol says that it is UTF-8.
+        with self.assertRaises(sicklespan.InvalidTextError):
+            sicklespan.micro("\u00e9")
+        self.assertEqual(sicklespan.micro("\u00e9".encode()).version, "M3")
         with self.assertRaises(sicklespan.InvalidLevelError) as raised:
             sicklespan.micro("12345", "H")
         self.assertEqual(str(raised.exception),
@@ -193,6 +202,45 @@ class Symbols(unittest.TestCase):
         with self.assertRaises(sicklespan.DataTooLongError):
             sicklespan.sequence("é" * 17, error="H", max_version=1)
 
+    def test_names_of_segno(self):
+        # M3 holds 23 digits at L and 18 at M, M4 35, 30 and 21 at L, M and Q; M1 has L alone.
+        for count, error, designator in ((5, None, "M1-L"), (6, None, "M2-M"), (9, "L", "M2-L"),
+                                         (18, None, "M3-M"), (19, None, "M3-L"),
+                                         (21, "M", "M4-Q"), (22, "L", "M3-L"), (30, "L", "M4-M"),
+                                         (31, "L", "M4-L")):
+            self.assertEqual(sicklespan.make_micro("1" * count, error).designator, designator)
+        self.assertEqual(sicklespan.make_micro("1" * 6, boost_error=False).designator, "M2-L")
+        with self.assertRaises(sicklespan.DataTooLongError):
+            sicklespan.make_micro("1" * 36)
+
+        self.assertFalse(sicklespan.make("1").is_micro)
+        self.assertEqual(sicklespan.make("1", None), sicklespan.make("1", "M"))
+        self.assertEqual(sicklespan.make_qr("1", "Q", 3), sicklespan.make("1", "Q", 3))
+        self.assertEqual(sicklespan.make("12345", "L", micro=None).designator, "M1-L")
+        self.assertEqual(sicklespan.make("1" * 36, "L", micro=None), sicklespan.make("1" * 36, "L"))
+        for content, error, more in (("\u00e9", "L", {}), ("1", "H", {}), ("1", "L", {"version": 1}),
+                                     ("1", "L", {"min_version": 2})):
+            self.assertEqual(sicklespan.make(content, error, micro=None, **more),
+                             sicklespan.make(content, error, **more))
+        for content, options, error in (
+                ("1" * 36, {}, sicklespan.DataTooLongError),
+                ("1", {"error": "H"}, sicklespan.InvalidLevelError),
+                ("\u00e9", {}, sicklespan.InvalidTextError),
+                ("1", {"version": 1}, sicklespan.InvalidVersionsError)):
+            with self.assertRaises(error):
+                sicklespan.make(content, micro=True, **options)
+
+    def test_sequences_in_so_many(self):
+        symbols = sicklespan.make_sequence("abcdefghij", symbol_count=4)
+        self.assertEqual(symbols, sicklespan.sequence("abcdefghij", [2, 5, 7]))
+        self.assertEqual(sicklespan.make_sequence("\u00e9" * 5, "L", symbol_count=2),
+                         sicklespan.sequence("\u00e9" * 5, [4], "L"))
+        self.assertEqual(sicklespan.make_sequence("one and two", "H", max_version=1),
+                         sicklespan.sequence("one and two", error="H", max_version=1))
+        for count in (0, 1, 17, -1, 2 ** 64 + 2):
+            with self.assertRaises(sicklespan.InvalidPartCountError):
+                sicklespan.make_sequence("abc", symbol_count=count)
+
     def test_threads(self):
         wanted, drawn = sicklespan.make("threads"), []
         threads = [threading.Thread(target=lambda: drawn.append(sicklespan.make("threads")))
@@ -216,7 +264,9 @@ class Pictures(unittest.TestCase):
             symbol.symbol_size(1, -1)
 
     def test_terminal(self):
-        lines = sicklespan.micro("1").terminal(border=0).split("\n")
+        out = io.StringIO()
+        sicklespan.micro("1").terminal(out, border=0)
+        lines = out.getvalue().splitlines()
         self.assertEqual([len(line) for line in lines], [11] * 6)
         # The upper left finder pattern: a ring of seven modules, and a square of three.
         self.assertEqual([line[:7] for line in lines[:4]],
@@ -224,6 +274,28 @@ class Pictures(unittest.TestCase):
                           "\u2588 \u2588\u2588\u2588 \u2588",
                           "\u2588 \u2580\u2580\u2580 \u2588",
                           "\u2580" * 7])
+        shown = io.StringIO()
+        with contextlib.redirect_stdout(shown):
+            self.assertIsNone(sicklespan.micro("1").terminal())
+        self.assertEqual(shown.getvalue(), str(sicklespan.micro("1")) + "\n")
+        self.assertEqual([len(line) for line in shown.getvalue().splitlines()], [15] * 8)
+
+    def test_show(self):
+        seen = []
+        with mock.patch("webbrowser.open", lambda address: seen.append(address)):
+            sicklespan.micro("1").show(delete_after=None, scale=3, border=1)
+            sicklespan.micro("1").show(delete_after=0.01)
+        for address, scale, border in ((seen[0], 3, 1), (seen[1], 10, 2)):
+            path = urllib.request.url2pathname(urllib.parse.urlsplit(address).path)
+            if scale == 3:
+                with open(path, "rb") as it:
+                    self.assertEqual(it.read(), sicklespan.micro("1").png(scale=3, border=1))
+                os.unlink(path)
+            for _ in range(1000):
+                if not os.path.exists(path):
+                    break
+                time.sleep(0.01)
+            self.assertFalse(os.path.exists(path))
 
     def test_save(self):
         symbol = sicklespan.make("hello", "L", boost_error=False)
@@ -231,7 +303,20 @@ class Pictures(unittest.TestCase):
             path = os.path.join(folder, "hello.txt")
             symbol.save(path, border=0)
             with open(path, encoding="ascii") as it:
-                self.assertEqual(it.read(), read("crates/qrtext/stdout"))
+                rows = it.read()
+        self.assertEqual(rows, read("crates/qrtext/stdout").replace("#", "1").replace(".", "0"))
+        text = io.StringIO()
+        symbol.save(text, "txt")
+        # A quiet zone of 4 modules.
+        self.assertEqual([row[4:25] for row in text.getvalue().split("\n")[4:25]], rows.split())
+        self.assertEqual([len(row) for row in text.getvalue().splitlines()], [29] * 29)
+        for kind in ("svg", "eps", "zpl", "terminal"):
+            text = io.StringIO()
+            symbol.save(text, kind)
+            self.assertEqual(text.getvalue().encode(), symbol.picture(kind))
+        with self.assertRaises(TypeError) as raised:
+            symbol.save(io.StringIO(), "png")
+        self.assertTrue(str(raised.exception).startswith("out"))
         out = io.BytesIO()
         symbol.save(out, "svg", scale=2)
         self.assertEqual(out.getvalue().decode(), symbol.svg(scale=2))
@@ -312,6 +397,12 @@ class Pictures(unittest.TestCase):
         uri = symbol.svg_data_uri(scale=2, border=1)
         self.assertTrue(uri.startswith("data:image/svg+xml;charset=utf-8,%3C"))
         self.assertEqual(urllib.parse.unquote(uri.split(",", 1)[1]), symbol.svg(scale=2, border=1))
+        # The start of a picture within HTML needs no name space.
+        inline = symbol.svg_inline(scale=2)
+        self.assertTrue(inline.startswith("<svg ") and inline.endswith("</svg>"))
+        self.assertNotIn("xmlns", inline)
+        self.assertEqual(len(symbol.svg(scale=2).rstrip()) - len(inline),
+                         len(' xmlns="http://www.w3.org/2000/svg"'))
         uri = symbol.png_data_uri(scale=3)
         self.assertTrue(uri.startswith("data:image/png;base64,"))
         self.assertEqual(base64.b64decode(uri.split(",", 1)[1]), symbol.png(scale=3))
