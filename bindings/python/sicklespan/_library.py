@@ -6,6 +6,7 @@ this file, which a wheel has, else the one that the system finds.
 
 import ctypes
 import os
+import platform
 from ctypes import POINTER, c_bool, c_char_p, c_int8, c_int32, c_size_t
 
 
@@ -31,9 +32,15 @@ class Settings(ctypes.Structure):
 
 
 def _opened() -> ctypes.CDLL:
-    named = os.environ.get("SICKLESPAN_LIBRARY")
     beside = os.path.join(os.path.dirname(os.path.abspath(__file__)), "libsicklespan.so.0")
-    return ctypes.CDLL(named or (beside if os.path.exists(beside) else "libsicklespan.so.0"))
+    usual = beside if os.path.exists(beside) else "libsicklespan.so.0"
+    name = os.environ.get("SICKLESPAN_LIBRARY") or usual
+    try:
+        return ctypes.CDLL(name)
+    except OSError as error:
+        here = f"{platform.system()} on {platform.machine()}"
+        raise ImportError(f"sicklespan needs its library, which is for Linux on x86-64 with glibc; "
+                          f"this is {here}, where {name} is not found or not taken: {error}") from error
 
 
 def _declare(name: str, result: object, *arguments: object) -> None:
