@@ -319,9 +319,8 @@ const char *sicklespan_status_text(int32_t status);
 const char *sicklespan_version(void);
 
 /*
- * The names of version 0.3, which the next version has no more. sicklespan_symbol is
- * sicklespan_bytes with a level, in the versions 1 to 40; sicklespan_micro_symbol is
- * sicklespan_micro.
+ * The names of version 0.3, which version 0.5.0 has no more. sicklespan_symbol is sicklespan_bytes
+ * with a level, in the versions 1 to 40; sicklespan_micro_symbol is sicklespan_micro.
  */
 #define SICKLESPAN_DONE          SICKLESPAN_OK
 #define SICKLESPAN_GREATEST_SIZE SICKLESPAN_MAX_SIZE
