@@ -39,8 +39,9 @@ def _opened() -> ctypes.CDLL:
         return ctypes.CDLL(name)
     except OSError as error:
         here = f"{platform.system()} on {platform.machine()}"
-        raise ImportError(f"sicklespan needs its library, which is for Linux on x86-64 with glibc; "
-                          f"this is {here}, where {name} is not found or not taken: {error}") from error
+        raise ImportError(
+            "sicklespan needs its library, which is for Linux on x86-64 with glibc; this is "
+            f"{here}, where {name} is not found or not taken: {error}") from error
 
 
 def _declare(name: str, result: object, *arguments: object) -> None:

@@ -132,8 +132,8 @@ def make_qr(content: Content, error: Optional[str] = None, version: Optional[int
     return make(content, error, version, boost_error=boost_error)
 
 
-def gs1(content: str, error: Optional[str] = None, version: Optional[int] = None, *, min_version: int = 1,
-        max_version: int = 40, boost_error: bool = True) -> Symbol:
+def gs1(content: str, error: Optional[str] = None, version: Optional[int] = None, *,
+        min_version: int = 1, max_version: int = 40, boost_error: bool = True) -> Symbol:
     """The best symbol of GS1 elements as people write them: `(01)09506000134352(10)ABC123`.
 
     Tested are the number of an identifier's digits by its first two, the characters, the predefined

@@ -144,11 +144,11 @@ class Symbol:
                 inverted: bool = False, at: Optional[Tuple[int, int]] = None) -> bytes:
         """A picture, which is svg, png, pbm, eps, escpos, zpl or terminal.
 
-        A module has `scale` pixels, 8 by default and 1 of text, and the quiet zone `border` modules,
-        4 by default and 2 around a Micro symbol. A module of svg, png and eps is `module_mm`
-        millimetres wide, to the nearest hundredth; or a png has `dpi` pixels in an inch. With
-        `inverted` the light modules of text are filled, for a dark screen. The upper left corner of
-        a zpl label is `at` these dots.
+        A module has `scale` pixels (8 by default, and 1 of text), and the quiet zone `border`
+        modules (4 by default, and 2 around a Micro symbol). A module of svg, png and eps is
+        `module_mm` millimetres wide, to the nearest hundredth; or a png has `dpi` pixels in an
+        inch. With `inverted` the light modules of text are filled, for a dark screen. The upper
+        left corner of a zpl label is `at` these dots.
         """
         if kind not in _FORMATS:
             raise InvalidFormatError(f"a picture is {', '.join(_FORMATS)}, and not {kind!r}")
@@ -197,8 +197,9 @@ class Symbol:
         return "".join("".join("01"[pixel] for pixel in row) + "\n" for row in rows).encode()
 
     def save(self, out: Union[str, "os.PathLike[str]", IO[Any]], kind: Optional[str] = None, *,
-             scale: Optional[int] = None, border: Optional[int] = None, module_mm: Optional[float] = None,
-             dpi: Optional[int] = None, at: Optional[Tuple[int, int]] = None) -> None:
+             scale: Optional[int] = None, border: Optional[int] = None,
+             module_mm: Optional[float] = None, dpi: Optional[int] = None,
+             at: Optional[Tuple[int, int]] = None) -> None:
         """Writes a picture to a file, as its ending or `kind` says, or to a stream, as `kind` says.
 
         It is a picture of `picture`, or txt: a line of 1 (dark) and 0 for each row of modules. A

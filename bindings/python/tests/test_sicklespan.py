@@ -218,8 +218,8 @@ class Symbols(unittest.TestCase):
         self.assertEqual(sicklespan.make_qr("1", "Q", 3), sicklespan.make("1", "Q", 3))
         self.assertEqual(sicklespan.make("12345", "L", micro=None).designator, "M1-L")
         self.assertEqual(sicklespan.make("1" * 36, "L", micro=None), sicklespan.make("1" * 36, "L"))
-        for content, error, more in (("\u00e9", "L", {}), ("1", "H", {}), ("1", "L", {"version": 1}),
-                                     ("1", "L", {"min_version": 2})):
+        for content, error, more in (("\u00e9", "L", {}), ("1", "H", {}),
+                                     ("1", "L", {"version": 1}), ("1", "L", {"min_version": 2})):
             self.assertEqual(sicklespan.make(content, error, micro=None, **more),
                              sicklespan.make(content, error, **more))
         for content, options, error in (

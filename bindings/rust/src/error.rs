@@ -2,7 +2,8 @@
 use crate::ffi::{self, Content};
 use std::fmt;
 
-/// Why there is no symbol, or no picture. Its text is that of the library, with what the fields say.
+/// Why there is no symbol, or no picture. Its text is that of the library, with what its fields
+/// say.
 ///
 /// ```
 /// use sicklespan::{Error, Level, Options, Symbol};
