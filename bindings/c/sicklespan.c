@@ -120,6 +120,23 @@ int32_t sicklespan_text(const char *text, size_t length, const sicklespan_option
     return asked(qrcode_c_text, text, length, options, modules, room, shape);
 }
 
+static bool is_ascii(const uint8_t *bytes, size_t length) {
+    for (size_t i = 0; i < length; i++) {
+        if (bytes[i] >= 0x80) return false;
+    }
+    return true;
+}
+
+int32_t sicklespan_auto(const void *data, size_t length, const sicklespan_options *options,
+                        uint8_t *modules, size_t room, sicklespan_shape *shape) {
+    int32_t status = SICKLESPAN_INVALID_TEXT;
+    if (is_span((struct span){data, length}) && !is_ascii(data, length)) {
+        status = sicklespan_text(data, length, options, modules, room, shape);
+    }
+    if (status != SICKLESPAN_INVALID_TEXT) return status;
+    return sicklespan_bytes(data, length, options, modules, room, shape);
+}
+
 int32_t sicklespan_elements(const void *elements, size_t length, const sicklespan_options *options,
                             uint8_t *modules, size_t room, sicklespan_shape *shape) {
     return asked(qrcode_c_elements, elements, length, options, modules, room, shape);
@@ -142,6 +159,7 @@ static int32_t tried(int32_t content, const void *data, size_t length,
     case SICKLESPAN_CONTENT_GS1: return sicklespan_gs1(data, length, options, NULL, 0, &shape);
     case SICKLESPAN_CONTENT_MICRO:
         return sicklespan_micro(data, length, options->level, NULL, 0, &shape);
+    case SICKLESPAN_CONTENT_AUTO: return sicklespan_auto(data, length, options, NULL, 0, &shape);
     default: return SICKLESPAN_INVALID_CONTENT;
     }
 }
@@ -188,12 +206,17 @@ int32_t sicklespan_check(int32_t content, const void *data, size_t length,
         return SICKLESPAN_OK;
     }
     if (!is_of_data(status)) return status;
+    /* What is no text is cut anywhere. */
+    const bool is_text =
+        content == SICKLESPAN_CONTENT_AUTO &&
+        tried(SICKLESPAN_CONTENT_TEXT, data, length, options) != SICKLESPAN_INVALID_TEXT;
+    const int32_t cut = is_text ? SICKLESPAN_CONTENT_TEXT : content;
     /* The first `low` bytes are good, and the first `high` ones are not. No symbol holds the
      * elements of 16384 bytes, nor that many bytes. */
     const bool is_long = status == SICKLESPAN_DATA_TOO_LONG;
     size_t low = 0, high = is_long ? least(length, 16384) : length;
     while (high - low > 1) {
-        const size_t middle = low + (high - low) / 2, end = cut_up_to(content, data, middle);
+        const size_t middle = low + (high - low) / 2, end = cut_up_to(cut, data, middle);
         const int32_t found =
             end > 0 ? tried(content, data, end, options) : SICKLESPAN_SHORT_BUFFER;
         if (found == SICKLESPAN_OUT_OF_MEMORY) return found;
@@ -203,7 +226,7 @@ int32_t sicklespan_check(int32_t content, const void *data, size_t length,
             high = middle;
         }
     }
-    *good = low > 0 ? cut_up_to(content, data, low) : 0;
+    *good = low > 0 ? cut_up_to(cut, data, low) : 0;
     return status;
 }
 

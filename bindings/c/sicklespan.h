@@ -55,7 +55,7 @@ enum sicklespan_status {
     SICKLESPAN_INVALID_WIDTH = 20,      /* no symbol has the width */
     SICKLESPAN_INVALID_FORMAT = 21,     /* the format is not 0 to 6 */
     SICKLESPAN_INVALID_SETTING = 22,    /* a setting is out of its bounds, or not of the format */
-    SICKLESPAN_INVALID_CONTENT = 23     /* the content is not 0 to 4 */
+    SICKLESPAN_INVALID_CONTENT = 23     /* the content is not 0 to 5 */
 };
 
 /* What is asked of a symbol beside its data: its level, the versions that it may have, and whether
@@ -112,6 +112,14 @@ int32_t sicklespan_bytes(const void *bytes, size_t length, const sicklespan_opti
                          uint8_t *modules, size_t room, sicklespan_shape *shape);
 
 /*
+ * The best symbol of what people write: of UTF-8 that is not all ASCII that of sicklespan_text, and
+ * of all else, ASCII too, that of sicklespan_bytes. `qrlabel` and the package for Python do the
+ * same. The statuses are those of sicklespan_bytes.
+ */
+int32_t sicklespan_auto(const void *data, size_t length, const sicklespan_options *options,
+                        uint8_t *modules, size_t room, sicklespan_shape *shape);
+
+/*
  * The same of a text in UTF-8, which the symbol says (ECI 26), so that readers need not guess its
  * script. This takes 12 bits: ASCII is read alike without it, by sicklespan_bytes. `length` counts
  * bytes.
@@ -162,7 +170,8 @@ enum sicklespan_content {
     SICKLESPAN_CONTENT_TEXT = 1,     /* sicklespan_text */
     SICKLESPAN_CONTENT_ELEMENTS = 2, /* sicklespan_elements */
     SICKLESPAN_CONTENT_GS1 = 3,      /* sicklespan_gs1 */
-    SICKLESPAN_CONTENT_MICRO = 4     /* sicklespan_micro, with the level of the options */
+    SICKLESPAN_CONTENT_MICRO = 4,    /* sicklespan_micro, with the level of the options */
+    SICKLESPAN_CONTENT_AUTO = 5      /* sicklespan_auto */
 };
 
 /*

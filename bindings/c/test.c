@@ -495,7 +495,7 @@ int main(void) {
                                    test_settings,       test_picture_allocations,
                                    test_check,          test_check_pointers,
                                    test_check_memory,   test_wrong_setting,
-                                   test_quiet_zones};
+                                   test_quiet_zones,    test_auto};
     int passed = 0, failed = 0;
     /* What a row prints is not lost where the next call ends the program. */
     setbuf(stdout, NULL);

@@ -35,6 +35,11 @@ static void test_check(void) {
     EXPECT_GOOD(TEXT, "aaa\xe3\x81\x93z", H, DATA_TOO_LONG, 6);
     EXPECT_GOOD(TEXT, "aaaa\xe3\x81\x93", H, DATA_TOO_LONG, 4);
     EXPECT_GOOD(TEXT, "aaaa\xf0\x9f\x98\x80", H, DATA_TOO_LONG, 4);
+    /* What is ASCII up to a cut has no designator there. What is no text is cut anywhere. */
+    EXPECT_GOOD(AUTO, "aaaaaaaa", H, DATA_TOO_LONG, 7);
+    EXPECT_GOOD(AUTO, "aaaaaaa\xc3\xa9", H, DATA_TOO_LONG, 7);
+    EXPECT_GOOD(AUTO, "aaaaa\xc3\xa9", H, DATA_TOO_LONG, 5);
+    EXPECT_GOOD(AUTO, "zzzzzz\xc3zz", H, DATA_TOO_LONG, 7);
     /* M4 holds 15, 13 and 9 bytes at L, M and Q. */
     EXPECT_GOOD(MICRO, "aaaaaaaaaaaaaaaaaaaaaaaa", L, DATA_TOO_LONG, 15);
     EXPECT_GOOD(MICRO, "aaaaaaaaaaaaaaaaaaaaaaaa", M, DATA_TOO_LONG, 13);
@@ -81,7 +86,7 @@ static void test_check(void) {
 
 static void test_check_pointers(void) {
     const sicklespan_options no_level = {4, 1, 40, 0}, no_range = {0, 2, 1, 0};
-    for (int32_t content = 0; content <= 4; content++) {
+    for (int32_t content = 0; content <= 5; content++) {
         const bool is_gs1 = content == SICKLESPAN_CONTENT_GS1;
         EXPECT(check(content, NULL, 0, NULL) == (is_gs1 ? SICKLESPAN_NO_ELEMENTS : SICKLESPAN_OK) &&
                good_bytes == 0);
@@ -90,7 +95,7 @@ static void test_check_pointers(void) {
     }
     EXPECT(check(SICKLESPAN_CONTENT_TEXT, "a", 1, &no_range) == SICKLESPAN_INVALID_VERSIONS &&
            good_bytes == 88);
-    const int32_t no_contents[] = {-1, 5, 256, INT32_MIN, INT32_MAX};
+    const int32_t no_contents[] = {-1, 6, 256, INT32_MIN, INT32_MAX};
     for (size_t i = 0; i < sizeof no_contents / sizeof *no_contents; i++) {
         EXPECT(check(no_contents[i], "a", 1, NULL) == SICKLESPAN_INVALID_CONTENT &&
                good_bytes == 88);

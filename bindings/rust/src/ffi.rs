@@ -46,11 +46,20 @@ pub enum Content {
     Elements = 2,
     Gs1 = 3,
     Micro = 4,
+    Auto = 5,
 }
 
 #[link(name = "sicklespan", kind = "static")]
 extern "C" {
     fn sicklespan_bytes(
+        data: *const u8,
+        length: usize,
+        options: *const Options,
+        modules: *mut u8,
+        room: usize,
+        shape: *mut Shape,
+    ) -> i32;
+    fn sicklespan_auto(
         data: *const u8,
         length: usize,
         options: *const Options,
@@ -166,6 +175,7 @@ pub fn symbol(
 ) -> i32 {
     let call = match content {
         Content::Bytes | Content::Micro => sicklespan_bytes,
+        Content::Auto => sicklespan_auto,
         Content::Text => sicklespan_text,
         Content::Elements => sicklespan_elements,
         Content::Gs1 => sicklespan_gs1,

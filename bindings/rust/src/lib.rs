@@ -99,6 +99,22 @@ impl Symbol {
         Symbol::bytes_with(bytes, &Options::new(level))
     }
 
+    /// Returns the best symbol of a text at a level: of ASCII that of `new`, and of other text that
+    /// of `text`, as `qrlabel` and the package for Python do it.
+    ///
+    /// ```
+    /// # use sicklespan::{Level, Symbol};
+    /// assert_eq!(Symbol::auto("hello", Level::M), Symbol::new(b"hello", Level::M));
+    /// assert_eq!(Symbol::auto("Grüße", Level::M), Symbol::text("Grüße", Level::M));
+    /// ```
+    ///
+    /// # Errors
+    ///
+    /// As `new`.
+    pub fn auto(text: &str, level: Level) -> Result<Symbol, Error> {
+        Symbol::auto_with(text, &Options::new(level))
+    }
+
     /// Returns the best symbol of a text at a level, which says that it is in UTF-8 (ECI 26), so
     /// that readers need not guess its script. This takes 12 bits: ASCII is read alike without it,
     /// by `new`.
@@ -154,6 +170,15 @@ impl Symbol {
     /// `InvalidVersions`; then as `new`, for the versions of the options.
     pub fn bytes_with(bytes: &[u8], options: &Options) -> Result<Symbol, Error> {
         Symbol::asked(ffi::Content::Bytes, bytes, options)
+    }
+
+    /// Returns the symbol of a text that the options ask for, as `auto` says.
+    ///
+    /// # Errors
+    ///
+    /// `InvalidVersions`; then as `auto`.
+    pub fn auto_with(text: &str, options: &Options) -> Result<Symbol, Error> {
+        Symbol::asked(ffi::Content::Auto, text.as_bytes(), options)
     }
 
     /// Returns the symbol of a text that the options ask for, as `text` says.

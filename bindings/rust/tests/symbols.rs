@@ -102,6 +102,8 @@ fn tells_how_many_are_too_many() {
     // A character is not cut.
     assert_eq!(Symbol::text_with(&format!("a{}", "é".repeat(8)), &first), Err(too_long(2)));
     assert_eq!(Symbol::micro(&[b'a'; 20], Level::L), Err(too_long(5)));
+    assert_eq!(Symbol::auto_with(&"a".repeat(20), &first), Err(too_long(3)));
+    assert_eq!(Symbol::auto_with(&"é".repeat(10), &first), Err(too_long(4)));
     assert_eq!(PART_TOO_LONG.to_string(), "the data are too long");
 }
 
