@@ -15,7 +15,7 @@
 #include <stddef.h>
 #include <stdint.h>
 
-#define SICKLESPAN_VERSION "0.3.0"
+#define SICKLESPAN_VERSION "0.4.0"
 
 #ifdef __cplusplus
 extern "C" {

@@ -149,7 +149,7 @@ fn shows_help(rt: HostRuntime) -> Result<(), QrError> {
     let rows: [(&[&str], &str); 3] = [
         (&["--help"], "usage: qrlabel [OPTIONS] [TEXT]\n"),
         (&["-s", "99", "-h"], "usage: qrlabel [OPTIONS] [TEXT]\n"),
-        (&["-V", "-l", "X"], "qrlabel 0.3.0\n"),
+        (&["-V", "-l", "X"], "qrlabel 0.4.0\n"),
     ];
     for (words, beginning) in rows {
         let answer = ran(rt.alloc(), words, b"hello");
