@@ -8,7 +8,7 @@ ghost use Rattle.qrcode_render.specs.Shown.{shown};
 
 use crate::draw_options::DrawOptions;
 use crate::eps::eps;
-use crate::escpos::escpos;
+use crate::escpos::ticket;
 use crate::format::Format;
 use crate::options::RenderOptions;
 use crate::pbm::pbm;
@@ -16,7 +16,7 @@ use crate::picture::Picture;
 use crate::png_file::png;
 use crate::svg::svg_document;
 use crate::terminal::terminal;
-use crate::zpl::zpl;
+use crate::zpl::label;
 use qrcode_core::symbol::Symbol;
 use qrcode_core::traits::ModuleSource;
 use std::alloc::{AllocError, Global};
@@ -63,8 +63,8 @@ pub(crate) fn draw_picture(
         Format::Png => png(alloc, picture, pixels_per_metre(options)),
         Format::Pbm => pbm(alloc, picture),
         Format::Eps => Ok(eps(alloc, picture, options.module_mm)?.into_bytes()),
-        Format::EscPos => escpos(alloc, picture),
-        Format::Zpl => zpl(alloc, picture, options.at),
+        Format::EscPos => ticket(alloc, picture, options.feed, options.cut),
+        Format::Zpl => label(alloc, picture, options.at, options.copies),
     }
 }
 

@@ -35,6 +35,8 @@ pub mod picture;
 pub mod png_file;
 #[cfg(test)]
 mod png_tests;
+#[cfg(test)]
+mod printer_tests;
 pub mod renderers;
 pub mod settings;
 pub mod svg;
