@@ -10,12 +10,12 @@ use Rattle.qrcode_render.specs.declared.format.Format.TheVariants.{EscPos, Zpl}
 use Rattle.qrcode_render.specs.Bitmaps.{bitmap_of}
 use Rattle.qrcode_render.specs.Eps.{eps_text}
 use Rattle.qrcode_render.specs.EscPos.{ticket_text}
+use Rattle.qrcode_render.specs.Labels.{IsLabel}
 use Rattle.qrcode_render.specs.Paths.{svg_document}
 use Rattle.qrcode_render.specs.Pictures.{Picture, picture}
 use Rattle.qrcode_render.specs.PngPixels.{png_pixels}
 use Rattle.qrcode_render.specs.Terminals.{terminal_text}
 use Rattle.qrcode_render.specs.Resolutions.{per_metre}
-use Rattle.qrcode_render.specs.Zpl.{label_text}
 
 -- The bytes are those of the picture in a format, with what the options say beside the format, the
 -- scale and the quiet zone. Of PNG they are any bytes in which a reader finds the pixels.
@@ -27,7 +27,7 @@ IsPictureAs Png o p bytes =
 IsPictureAs Pbm o p bytes = bytes ≡ bitmap_of p
 IsPictureAs Eps o p bytes = bytes ≡ eps_text o.module_mm p
 IsPictureAs EscPos o p bytes = bytes ≡ ticket_text o.feed o.cut p
-IsPictureAs Zpl o p bytes = bytes ≡ label_text o.at o.copies p
+IsPictureAs Zpl o p bytes = IsLabel o.compressed o.at o.copies p bytes
 
 -- The bytes show the grid as the options say.
 abbrev pub IsPictureOf : DrawOptions → Grid → List ℕ → Type 0

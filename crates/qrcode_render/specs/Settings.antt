@@ -13,7 +13,8 @@ use Rattle.qrcode_render.specs.declared.settings.Setting.TheVariants.{Inverted, 
 use Rattle.qrcode_render.specs.declared.settings.Setting.TheVariants.{Copies, Compressed, Feed, Cut}
 use Rattle.qrcode_render.specs.declared.settings.Settings.{Settings}
 use Rattle.qrcode_render.specs.Formats.{can_be_inverted, has_dots, has_millimetres, has_position}
-use Rattle.qrcode_render.specs.Formats.{has_title, has_copies, can_be_compressed, has_feed, can_be_cut}
+use Rattle.qrcode_render.specs.Formats.{has_title, has_copies, has_feed, can_be_compressed}
+use Rattle.qrcode_render.specs.Formats.{can_be_cut}
 use Rattle.qrcode_render.specs.Xml.{is_xml_text}
 
 -- A number that may be given: it is within its bounds, and the format has it.

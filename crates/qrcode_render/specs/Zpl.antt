@@ -48,6 +48,10 @@ nth_first p n = n * field_rows p
 abbrev pub nth_count : Picture → ℕ → ℕ
 nth_count p n = min (pixel_height p - nth_first p n) (field_rows p)
 
+-- The digits of field n.
+abbrev pub nth_digits : Picture → ℕ → List ℕ
+nth_digits p n = row_digits p (nth_first p n) (nth_count p n)
+
 -- Field n.
 abbrev pub nth_field : Picture → ℕ × ℕ → ℕ → List ℕ
 nth_field p at n = field p at (nth_first p n) (nth_count p n)

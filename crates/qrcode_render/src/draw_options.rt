@@ -8,7 +8,8 @@ ghost use Rattle.qrcode_render.specs.Formats.{has_copies, has_feed};
 ghost use Rattle.qrcode_render.specs.declared.bounds.TheConstants.{MIN_SCALE, MAX_SCALE, MAX_QUIET};
 ghost use Rattle.qrcode_render.specs.declared.bounds.TheConstants.{MIN_MODULE_MM, MAX_MODULE_MM};
 ghost use Rattle.qrcode_render.specs.declared.bounds.TheConstants.{MIN_DPI, MAX_DPI, MAX_AT};
-ghost use Rattle.qrcode_render.specs.declared.bounds.TheConstants.{MIN_COPIES, MAX_COPIES, MAX_FEED};
+ghost use Rattle.qrcode_render.specs.declared.bounds.TheConstants.{MIN_COPIES, MAX_COPIES};
+ghost use Rattle.qrcode_render.specs.declared.bounds.TheConstants.{MAX_FEED};
 
 use crate::bounds::{
     MAX_AT, MAX_COPIES, MAX_DPI, MAX_FEED, MAX_MODULE_MM, MAX_QUIET, MAX_SCALE, MIN_COPIES,
@@ -81,24 +82,19 @@ impl<'a> DrawOptions<'a> {
         ensures refused { IfErr result
             (λ setting. invalid_setting format settings.now ≡ Some setting) }
     {
-        let Settings {
-            scale,
-            quiet,
-            module_mm,
-            dpi,
-            inverted,
-            title,
-            at,
-            ..
-        } = *settings;
+        let scale = settings.scale;
+        let quiet = settings.quiet;
+        let module_mm = settings.module_mm;
+        let dpi = settings.dpi;
+        let inverted = settings.inverted;
+        let title = settings.title;
+        let at = settings.at;
         let lone_dpi = format.has_dots() && module_mm.is_none();
         require(allows(true, MIN_SCALE, MAX_SCALE, scale), Setting::Scale)?;
         require(allows(true, 0, MAX_QUIET, quiet), Setting::Quiet)?;
         let millimetres = format.has_millimetres();
-        require(
-            allows(millimetres, MIN_MODULE_MM, MAX_MODULE_MM, module_mm),
-            Setting::ModuleMm,
-        )?;
+        let sized = allows(millimetres, MIN_MODULE_MM, MAX_MODULE_MM, module_mm);
+        require(sized, Setting::ModuleMm)?;
         require(allows(lone_dpi, MIN_DPI, MAX_DPI, dpi), Setting::Dpi)?;
         require(!inverted || format.can_be_inverted(), Setting::Inverted)?;
         require(allows_title(format.has_title(), title), Setting::Title)?;

@@ -18,6 +18,9 @@
 
 mod bitmap;
 pub mod bounds;
+mod compressed;
+#[cfg(test)]
+mod compressed_tests;
 pub mod draw_options;
 mod drawing;
 pub mod eps;

@@ -1,5 +1,5 @@
-//! Tests of what printers alone are asked, with bytes that are written by hand from the documents of
-//! the makers.
+//! Tests of what printers alone are asked, with bytes that are written by hand from the documents
+//! of the makers.
 use crate::draw_options::DrawOptions;
 use crate::drawing::draw;
 use crate::escpos::ticket;

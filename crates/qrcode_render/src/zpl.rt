@@ -1,15 +1,20 @@
 //! Pictures as labels of ZPL II, for label printers.
-ghost use Rattle.std.specs.Prelude.{◌≡◌, ◌+◌, ◌*◌, ◌<◌, ◌≤◌, ◌++◌, IfOk, OnOk, Some, flat_map, length};
+ghost use Rattle.std.specs.Prelude.{◌≡◌, ◌+◌, ◌*◌, ◌<◌, ◌≤◌, ◌++◌, IfOk, OnOk, Some};
+ghost use Rattle.std.specs.Prelude.{flat_map, length};
 ghost use Rattle.qrcode_render.specs.Bitmaps.{rows_from};
 ghost use Rattle.std.specs.String.{string_bytes};
 ghost use Rattle.qrcode_render.specs.declared.bounds.TheConstants.{FIELD_BYTES, MAX_AT, MAX_PIXELS};
+ghost use Rattle.qrcode_render.specs.Encoded.{AddsPiece};
+ghost use Rattle.qrcode_render.specs.Labels.{IsCompressedField, IsCompressedLabel};
 ghost use Rattle.qrcode_render.specs.Pictures.{pixel_height};
 ghost use Rattle.qrcode_render.specs.Shown.{shown};
 ghost use Rattle.qrcode_render.specs.Zpl.{field, field_head, hex_pair, hex_digit, zpl_text};
-ghost use Rattle.qrcode_render.specs.Zpl.{copies_command, field_count, field_rows, label_end, label_text};
+ghost use Rattle.qrcode_render.specs.Zpl.{copies_command, field_count, field_rows, label_end};
+ghost use Rattle.qrcode_render.specs.Zpl.{label_text, nth_first};
 
 use crate::bitmap::{write_row, zeros};
 use crate::bounds::FIELD_BYTES;
+use crate::compressed::push_data;
 use crate::picture::Picture;
 use std::alloc::{AllocError, Global};
 
@@ -60,6 +65,53 @@ pub fn label(
     }
     push_end(alloc, &mut bytes, copies)?;
     Ok(bytes)
+}
+
+/// Returns the picture as `label` does, with compressed data (the "Alternative Data Compression
+/// Scheme" of the ZPL II guide). It fails only for lack of memory.
+#[tactic(auto, using(crate::proofs::BandLemmas::fields))]
+pub fn compressed_label(
+    alloc: Global,
+    picture: &Picture,
+    at: (usize, usize),
+    copies: Option<usize>,
+) -> Result<Vec<u8>, AllocError>
+    requires { at.1 ≤ MAX_AT }
+    ensures { IfOk result (λ bytes.
+        IsCompressedLabel at copies (shown picture.now) bytes.items) }
+{
+    let fields = field_count(picture);
+    let mut bytes = Vec::new(alloc);
+    bytes.extend_from_slice(b"^XA\n")?;
+    for n in 0..fields {
+        push_compressed_field(alloc, &mut bytes, picture, at, n)?;
+    }
+    push_end(alloc, &mut bytes, copies)?;
+    Ok(bytes)
+}
+
+/// Appends field n with compressed data.
+fn push_compressed_field(
+    alloc: Global,
+    bytes: &mut Vec<u8>,
+    picture: &Picture,
+    at: (usize, usize),
+    n: usize,
+) -> Result<(), AllocError>
+    requires place { at.1 ≤ MAX_AT }
+    requires inside { nth_first (shown picture.now) n < pixel_height (shown picture.now) }
+    ensures { OnOk result (AddsPiece (IsCompressedField (shown picture.now) at n)
+        bytes.old.items bytes.new.items) }
+{
+    let length = picture.row_length();
+    let rows = field_rows(picture);
+    let first = n * rows;
+    let count = (picture.height() - first).min(rows);
+    let top = first + at.1;
+    let head = field_head(alloc, at.0, top, length * count, length)?;
+    bytes.extend_from_slice(head.as_bytes())?;
+    push_data(alloc, bytes, picture, first, count)?;
+    bytes.extend_from_slice(b"^FS\n")
 }
 
 /// Returns the number of rows of pixels in a field: as many as the printer takes in one.
@@ -170,7 +222,7 @@ fn push_digits(
 
 /// Writes the hexadecimal digits of some bytes.
 #[tactic(auto, using(crate::proofs::BandLemmas::digits))]
-fn write_hex(content: &[u8], digits: &mut [u8])
+pub(crate) fn write_hex(content: &[u8], digits: &mut [u8])
     requires { length digits.old ≡ 2 * length content.now }
     ensures { digits.new ≡ flat_map hex_pair content.now }
 {

@@ -25,9 +25,9 @@ returns-in_err-require_printable-clause-refused c =
     let dots : c.if-has_dots.lone_dpi ≡ (has_dots format && is_none s.module_mm) = grind (arith, common_steps) in
     let inverted : (not s.inverted || can_be_inverted format) ≡ true = grind (arith, common_steps) in
     let millimetres : allows (has_millimetres format) 5 1000 s.module_mm ≡ true =
-    sym (c.allows-3.ensures ∙ ap (λ (b : Bool). allows b 5 1000 s.module_mm) c.has_millimetres-millimetres.ensures) ∙ c.in_ok-require-3.ensures.valid in
+    sym (c.allows-sized.ensures ∙ ap (λ (b : Bool). allows b 5 1000 s.module_mm) c.has_millimetres-millimetres.ensures) ∙ c.in_ok-require-3.ensures.valid in
     let dpi : allows (has_dots format && is_none s.module_mm) 50 2400 s.dpi ≡ true =
-    sym (c.allows-4.ensures ∙ ap (λ (b : Bool). allows b 50 2400 s.dpi) dots) ∙ c.in_ok-require-4.ensures.valid in
+    sym (c.allows-3.ensures ∙ ap (λ (b : Bool). allows b 50 2400 s.dpi) dots) ∙ c.in_ok-require-4.ensures.valid in
     let title : allows_title (has_title format) (option_copied s.title) ≡ true =
     sym (c.allows_title.ensures ∙ ap (λ (b : Bool). allows_title b (option_copied s.title)) c.has_title.ensures) ∙ c.in_ok-require-6.ensures.valid in
     let place : allows_position (has_position format) s.at ≡ true =
