@@ -24,13 +24,12 @@ static CELLS: [Color; 6] = [
     Color::Light,
 ];
 
-/// Returns the label of a grid at a position.
+/// Returns the label of a grid, at column 20 and row 30.
 fn printed(
     alloc: Global,
     cells: &[Color],
     columns: usize,
     options: RenderOptions,
-    at: (usize, usize),
 ) -> Result<Vec<u8>, PluginError> {
     let Some(view) = ModuleView::new_rect(cells, columns, cells.len() / columns.max(1)) else {
         return Err(PluginError::InvalidModuleGrid);
@@ -38,7 +37,7 @@ fn printed(
     let Some(picture) = Picture::of_grid(&view, options) else {
         return Err(PluginError::InvalidModuleGrid);
     };
-    Ok(compressed_label(alloc, &picture, at, None)?)
+    Ok(compressed_label(alloc, &picture, (20, 30), None)?)
 }
 
 /// Returns a row of modules, from the lengths of its runs: dark, light, and so on.
@@ -61,19 +60,11 @@ fn row(alloc: Global, lengths: &[usize]) -> Result<Vec<Color>, PluginError> {
 #[test]
 fn compresses_small_labels(rt: HostRuntime) -> Result<(), PluginError> {
     let alloc = rt.alloc();
-    let label = printed(alloc, &CELLS, 3, RenderOptions::new(alloc, 1, 1)?, (20, 30))?;
-    let expected = b"^XA
-^FO20,30^GFA,4,4,1,,5,6,,^FS
-^XZ
-"
-        .as_slice();
+    let label = printed(alloc, &CELLS, 3, RenderOptions::new(alloc, 1, 1)?)?;
+    let expected = b"^XA\n^FO20,30^GFA,4,4,1,,5,6,,^FS\n^XZ\n".as_slice();
     assert_eq!(rt; label.as_slice(), expected);
-    let label = printed(alloc, &CELLS, 3, RenderOptions::new(alloc, 2, 1)?, (0, 0))?;
-    let expected = b"^XA
-^FO0,0^GFA,16,16,2,,:H3,:3C,:,:^FS
-^XZ
-"
-        .as_slice();
+    let label = printed(alloc, &CELLS, 3, RenderOptions::new(alloc, 2, 1)?)?;
+    let expected = b"^XA\n^FO20,30^GFA,16,16,2,,:H3,:3C,:,:^FS\n^XZ\n".as_slice();
     assert_eq!(rt; label.as_slice(), expected);
     Ok(())
 }
@@ -83,12 +74,8 @@ fn compresses_small_labels(rt: HostRuntime) -> Result<(), PluginError> {
 fn counts_digits(rt: HostRuntime) -> Result<(), PluginError> {
     let alloc = rt.alloc();
     let cells = row(alloc, &[19, 20, 39, 1, 40, 2, 55])?;
-    let label = printed(alloc, &cells, 176, RenderOptions::new(alloc, 4, 0)?, (0, 0))?;
-    let expected = b"^XA
-^FO0,0^GFA,352,352,88,YFg0gYF0hFH0!:::^FS
-^XZ
-"
-        .as_slice();
+    let label = printed(alloc, &cells, 176, RenderOptions::new(alloc, 4, 0)?)?;
+    let expected = b"^XA\n^FO20,30^GFA,352,352,88,YFg0gYF0hFH0!:::^FS\n^XZ\n".as_slice();
     assert_eq!(rt; label.as_slice(), expected);
     Ok(())
 }
@@ -98,26 +85,12 @@ fn counts_digits(rt: HostRuntime) -> Result<(), PluginError> {
 fn counts_many_digits(rt: HostRuntime) -> Result<(), PluginError> {
     let alloc = rt.alloc();
     let cells = row(alloc, &[25, 25, 26, 1, 50, 1])?;
-    let label = printed(
-        alloc,
-        &cells,
-        128,
-        RenderOptions::new(alloc, 64, 0)?,
-        (0, 0),
-    )?;
-    let head = b"^XA
-^FO0,0^GFA,65536,65536,1024,zFz0zVFV0zzF,:::::::"
-        .as_slice();
+    let label = printed(alloc, &cells, 128, RenderOptions::new(alloc, 64, 0)?)?;
+    let head = b"^XA\n^FO20,30^GFA,65536,65536,1024,zFz0zVFV0zzF,:::::::".as_slice();
     assert!(rt; label.starts_with(head));
-    assert!(rt;
-        label.ends_with(
-            b"::::^FS
-^XZ
-"
-        )
-    );
+    assert!(rt; label.ends_with(b"::::^FS\n^XZ\n"));
     // 64 rows: 13 characters for the first, and one for each other.
-    assert_eq!(rt; label.len(), 32 + 13 + 63 + 8);
+    assert_eq!(rt; label.len(), 34 + 13 + 63 + 8);
     Ok(())
 }
 
@@ -126,27 +99,12 @@ fn counts_many_digits(rt: HostRuntime) -> Result<(), PluginError> {
 #[test]
 fn begins_fields_anew(rt: HostRuntime) -> Result<(), PluginError> {
     let alloc = rt.alloc();
-    let label = printed(
-        alloc,
-        &CELLS,
-        3,
-        RenderOptions::new(alloc, 64, 16)?,
-        (20, 30),
-    )?;
-    let first = b"^XA
-^FO20,30^GFA,99960,99960,280,,::::"
-        .as_slice();
+    let label = printed(alloc, &CELLS, 3, RenderOptions::new(alloc, 64, 16)?)?;
+    let first = b"^XA\n^FO20,30^GFA,99960,99960,280,,::::".as_slice();
     assert!(rt; label.starts_with(first));
-    let around = b"^XA
-^FO20,30^GFA,99960,99960,280,"
-        .as_slice();
+    let around = b"^XA\n^FO20,30^GFA,99960,99960,280,".as_slice();
     let second = label.get(around.len() + 357..).unwrap_or(&[]);
-    assert!(rt;
-        second.starts_with(
-            b"^FS
-^FO20,387^GFA,99960,99960,280,,::::"
-        )
-    );
+    assert!(rt; second.starts_with(b"^FS\n^FO20,387^GFA,99960,99960,280,,::::"));
     Ok(())
 }
 
@@ -162,18 +120,9 @@ fn compresses_symbols(rt: HostRuntime) -> Result<(), PluginError> {
     };
     let options = DrawOptions::new(alloc, Format::Zpl, &compressed).expect(&rt, "options");
     let bytes = draw(alloc, &symbol, &options)?;
-    let head = b"^XA
-^FO0,0^GFA,6728,6728,29,,:::::::,:::::::,:::::::,:::::::N0TF"
-        .as_slice();
+    let head = b"^XA\n^FO0,0^GFA,6728,6728,29,,:::::::,:::::::,:::::::,:::::::N0TF".as_slice();
     assert!(rt; bytes.starts_with(head));
-    assert!(rt;
-        bytes.ends_with(
-            b",:::::::^FS
-^PQ2
-^XZ
-"
-        )
-    );
+    assert!(rt; bytes.ends_with(b",:::::::^FS\n^PQ2\n^XZ\n"));
     let picture = Picture::of_symbol(&symbol, RenderOptions::new(alloc, 8, 4)?);
     assert!(rt; bytes.len() < label(alloc, &picture, (0, 0), None)?.len() / 8);
     Ok(())
