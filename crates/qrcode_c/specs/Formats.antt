@@ -1,5 +1,5 @@
 -- The format and the settings of a picture, as a caller in C gives them.
-use Rattle.std.specs.Prelude.{◌≡◌, ◌≢◌, ◌↔◌, ℕ, ℤ, pos, negsuc, true, Option, Some, None, unwrap_or}
+use Rattle.std.specs.Prelude.{◌≡◌, ◌≢◌, ◌↔◌, ℕ, ℤ, pos, negsuc, true, false, Option, Some, None, unwrap_or}
 use Rattle.qrcode_render.specs.declared.format.Format.{Format}
 use Rattle.qrcode_render.specs.declared.format.Format.TheVariants.{Terminal, Svg, Png, Pbm, Eps}
 use Rattle.qrcode_render.specs.declared.format.Format.TheVariants.{EscPos, Zpl}
@@ -31,7 +31,8 @@ corner None None = None
 corner (Some x) y = Some (x, unwrap_or y 0)
 corner None (Some y) = Some (0, y)
 
--- The numbers of the caller mean these settings, which have no title.
+-- The numbers of the caller mean these settings, which have no title, and nothing that is asked of
+-- printers alone.
 pub record MeansSettings (asked : PictureSettings) (settings : Settings) : Type 0 where
   pub scale_is : settings.scale ≡ given asked.scale
   pub quiet_is : settings.quiet ≡ given asked.quiet
@@ -40,3 +41,7 @@ pub record MeansSettings (asked : PictureSettings) (settings : Settings) : Type 
   pub inverted_is : (settings.inverted ≡ true) ↔ (asked.inverted ≢ pos 0)
   pub title_is : settings.title ≡ None
   pub at_is : settings.at ≡ corner (given asked.at_x) (given asked.at_y)
+  pub copies_is : settings.copies ≡ None
+  pub compressed_is : settings.compressed ≡ false
+  pub feed_is : settings.feed ≡ None
+  pub cut_is : settings.cut ≡ false

@@ -81,7 +81,11 @@ fn setting_refusal(setting: Setting) -> Refusal
         | Setting::Dpi
         | Setting::Inverted
         | Setting::Title
-        | Setting::At => Refusal::InvalidSetting,
+        | Setting::At
+        | Setting::Copies
+        | Setting::Compressed
+        | Setting::Feed
+        | Setting::Cut => Refusal::InvalidSetting,
     }
 }
 

@@ -55,6 +55,10 @@ pub fn settings_of(asked: &PictureSettings) -> Settings<'_>
         inverted: is_set(asked.inverted),
         title: None,
         at: corner(given(asked.at_x), given(asked.at_y)),
+        copies: None,
+        compressed: false,
+        feed: None,
+        cut: false,
     }
 }
 

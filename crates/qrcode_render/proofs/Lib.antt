@@ -14,3 +14,5 @@ pub mod RowRuns
 pub mod TextLemmas
 pub mod CoverLemmas
 pub mod XmlLemmas
+pub mod ReadingLemmas
+pub mod FieldLemmas

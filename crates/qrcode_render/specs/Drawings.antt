@@ -9,13 +9,13 @@ use Rattle.qrcode_render.specs.declared.format.Format.TheVariants.{Terminal, Svg
 use Rattle.qrcode_render.specs.declared.format.Format.TheVariants.{EscPos, Zpl}
 use Rattle.qrcode_render.specs.Bitmaps.{bitmap_of}
 use Rattle.qrcode_render.specs.Eps.{eps_text}
-use Rattle.qrcode_render.specs.EscPos.{escpos_text}
+use Rattle.qrcode_render.specs.EscPos.{ticket_text}
+use Rattle.qrcode_render.specs.Labels.{IsLabel}
 use Rattle.qrcode_render.specs.Paths.{svg_document}
 use Rattle.qrcode_render.specs.Pictures.{Picture, picture}
 use Rattle.qrcode_render.specs.PngPixels.{png_pixels}
 use Rattle.qrcode_render.specs.Terminals.{terminal_text}
 use Rattle.qrcode_render.specs.Resolutions.{per_metre}
-use Rattle.qrcode_render.specs.Zpl.{zpl_text}
 
 -- The bytes are those of the picture in a format, with what the options say beside the format, the
 -- scale and the quiet zone. Of PNG they are any bytes in which a reader finds the pixels.
@@ -26,8 +26,8 @@ IsPictureAs Png o p bytes =
     read_png bytes ≡ Some (png_pixels (per_metre o.scale o.module_mm o.dpi) p)
 IsPictureAs Pbm o p bytes = bytes ≡ bitmap_of p
 IsPictureAs Eps o p bytes = bytes ≡ eps_text o.module_mm p
-IsPictureAs EscPos o p bytes = bytes ≡ escpos_text p
-IsPictureAs Zpl o p bytes = bytes ≡ zpl_text o.at p
+IsPictureAs EscPos o p bytes = bytes ≡ ticket_text o.feed o.cut p
+IsPictureAs Zpl o p bytes = IsLabel o.compressed o.at o.copies p bytes
 
 -- The bytes show the grid as the options say.
 abbrev pub IsPictureOf : DrawOptions → Grid → List ℕ → Type 0

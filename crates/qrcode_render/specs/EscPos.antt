@@ -1,6 +1,8 @@
 -- A picture as raster images of ESC/POS, for ticket printers (Epson, "ESC/POS Command Reference":
--- `GS v 0`). An image prints where the paper is, and moves it on, so that images follow each other.
+-- `GS v 0`, `ESC d`, `GS V`). An image prints where the paper is, and moves it on, so that images
+-- follow each other.
 use Rattle.std.specs.Prelude.{ℕ, ◌+◌, ◌-◌, ◌*◌, ◌/◌, ◌%◌, min, List, [], ◌∷◌, ◌++◌, flat_map}
+use Rattle.std.specs.Prelude.{Bool, true, false, Option, Some, None}
 use Rattle.std.specs.List.{range_with_len}
 use Rattle.qrcode_render.specs.declared.bounds.TheConstants.{BAND_ROWS}
 use Rattle.qrcode_render.specs.Pictures.{Picture, pixel_height}
@@ -30,3 +32,17 @@ first_bands p count = flat_map (band p) (range_with_len 0 count)
 -- The picture in bands.
 abbrev pub escpos_text : Picture → List ℕ
 escpos_text p = first_bands p ((pixel_height p + (BAND_ROWS - 1)) / BAND_ROWS)
+
+-- The command that moves the paper by so many lines: `ESC d`.
+abbrev pub feed_command : Option ℕ → List ℕ
+feed_command None = []
+feed_command (Some lines) = 0x1B ∷ 0x64 ∷ lines ∷ []
+
+-- The command that moves the paper to the cutter, and cuts it up to one point: `GS V`, 66, 0.
+abbrev pub cut_command : Bool → List ℕ
+cut_command false = []
+cut_command true = 0x1D ∷ 0x56 ∷ 66 ∷ 0 ∷ []
+
+-- The picture, and then the commands for the paper.
+abbrev pub ticket_text : (feed : Option ℕ) → (cut : Bool) → Picture → List ℕ
+ticket_text feed cut p = escpos_text p ++ (feed_command feed ++ cut_command cut)

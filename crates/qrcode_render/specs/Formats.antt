@@ -1,7 +1,8 @@
 -- The formats of pictures, and what each of them can be asked for.
 use Rattle.std.specs.Prelude.{ℕ, Bool, true, false}
 use Rattle.qrcode_render.specs.declared.format.Format.{Format}
-use Rattle.qrcode_render.specs.declared.format.Format.TheVariants.{Terminal, Svg, Png, Eps, Zpl}
+use Rattle.qrcode_render.specs.declared.format.Format.TheVariants.{Terminal, Svg, Png, Eps}
+use Rattle.qrcode_render.specs.declared.format.Format.TheVariants.{EscPos, Zpl}
 use Rattle.qrcode_render.specs.declared.bounds.TheConstants.{IMAGE_SCALE, TEXT_SCALE}
 
 -- The default width of a module in pixels.
@@ -35,3 +36,23 @@ has_title _ = false
 abbrev pub has_position : Format → Bool
 has_position Zpl = true
 has_position _ = false
+
+-- The printer can be told how many labels it prints.
+abbrev pub has_copies : Format → Bool
+has_copies Zpl = true
+has_copies _ = false
+
+-- The data can be compressed.
+abbrev pub can_be_compressed : Format → Bool
+can_be_compressed Zpl = true
+can_be_compressed _ = false
+
+-- The paper can be moved after the picture.
+abbrev pub has_feed : Format → Bool
+has_feed EscPos = true
+has_feed _ = false
+
+-- The paper can be cut after the picture.
+abbrev pub can_be_cut : Format → Bool
+can_be_cut EscPos = true
+can_be_cut _ = false

@@ -17,6 +17,9 @@ pub mod Settings
 pub mod Made
 pub mod EscPos
 pub mod Zpl
+pub mod Compressed
+pub mod Encoded
+pub mod Labels
 pub mod PngPixels
 pub mod Resolutions
 pub mod Drawings

@@ -17,3 +17,7 @@ pub record IsMadeOf (format : Format) (s : Settings) (options : DrawOptions) : T
   pub inverted_is : options.inverted ≡ s.inverted
   pub title_is : option_copied options.title ≡ option_copied s.title
   pub at_is : options.at ≡ unwrap_or s.at (0, 0)
+  pub copies_is : options.copies ≡ s.copies
+  pub compressed_is : options.compressed ≡ s.compressed
+  pub feed_is : options.feed ≡ s.feed
+  pub cut_is : options.cut ≡ s.cut

@@ -5,13 +5,16 @@ use Rattle.std.specs.Option.{option_copied}
 use Rattle.qrcode_render.specs.declared.bounds.TheConstants.{MIN_SCALE, MAX_SCALE, MAX_QUIET}
 use Rattle.qrcode_render.specs.declared.bounds.TheConstants.{MIN_MODULE_MM, MAX_MODULE_MM}
 use Rattle.qrcode_render.specs.declared.bounds.TheConstants.{MIN_DPI, MAX_DPI, MAX_AT}
+use Rattle.qrcode_render.specs.declared.bounds.TheConstants.{MIN_COPIES, MAX_COPIES, MAX_FEED}
 use Rattle.qrcode_render.specs.declared.format.Format.{Format}
 use Rattle.qrcode_render.specs.declared.settings.Setting.{Setting}
 use Rattle.qrcode_render.specs.declared.settings.Setting.TheVariants.{Scale, Quiet, ModuleMm, Dpi}
 use Rattle.qrcode_render.specs.declared.settings.Setting.TheVariants.{Inverted, Title, At}
+use Rattle.qrcode_render.specs.declared.settings.Setting.TheVariants.{Copies, Compressed, Feed, Cut}
 use Rattle.qrcode_render.specs.declared.settings.Settings.{Settings}
 use Rattle.qrcode_render.specs.Formats.{can_be_inverted, has_dots, has_millimetres, has_position}
-use Rattle.qrcode_render.specs.Formats.{has_title}
+use Rattle.qrcode_render.specs.Formats.{has_title, has_copies, has_feed, can_be_compressed}
+use Rattle.qrcode_render.specs.Formats.{can_be_cut}
 use Rattle.qrcode_render.specs.Xml.{is_xml_text}
 
 -- A number that may be given: it is within its bounds, and the format has it.
@@ -38,6 +41,19 @@ setting_word Dpi = codes "dpi"
 setting_word Inverted = codes "inverted"
 setting_word Title = codes "title"
 setting_word At = codes "at"
+setting_word Copies = codes "copies"
+setting_word Compressed = codes "compressed"
+setting_word Feed = codes "feed"
+setting_word Cut = codes "cut"
+
+-- Whether each setting for printers is valid in a format.
+abbrev pub printer_tests : Format → Settings → List (Setting × Bool)
+printer_tests format s =
+    (Copies, allows (has_copies format) MIN_COPIES MAX_COPIES s.copies)
+    ∷ (Compressed, not s.compressed || can_be_compressed format)
+    ∷ (Feed, allows (has_feed format) 0 MAX_FEED s.feed)
+    ∷ (Cut, not s.cut || can_be_cut format)
+    ∷ []
 
 -- Whether each setting is valid in a format. A resolution in dots per inch is not given beside a
 -- size in millimetres.
@@ -50,7 +66,7 @@ setting_tests format s =
     ∷ (Inverted, not s.inverted || can_be_inverted format)
     ∷ (Title, allows_title (has_title format) (option_copied s.title))
     ∷ (At, allows_position (has_position format) s.at)
-    ∷ []
+    ∷ printer_tests format s
 
 -- The first setting whose test fails.
 abbrev pub first_failed : List (Setting × Bool) → Option Setting

@@ -1,7 +1,7 @@
 -- A picture as a label of ZPL II, for label printers (Zebra, "ZPL II Programming Guide": `^XA`,
--- `^FO`, `^GF`, `^FS`, `^XZ`). Labels follow each other.
+-- `^FO`, `^GF`, `^FS`, `^PQ`, `^XZ`). Labels follow each other.
 use Rattle.std.specs.Prelude.{ℕ, ◌+◌, ◌-◌, ◌*◌, ◌/◌, ◌%◌, min, nat_lt, if◌then◌else◌}
-use Rattle.std.specs.Prelude.{List, [], ◌∷◌, ◌++◌, flat_map, codes, decimal}
+use Rattle.std.specs.Prelude.{List, [], ◌∷◌, ◌++◌, flat_map, codes, decimal, Option, Some, None}
 use Rattle.std.specs.List.{range_with_len}
 use Rattle.qrcode_render.specs.declared.bounds.TheConstants.{FIELD_BYTES}
 use Rattle.qrcode_render.specs.Pictures.{Picture, pixel_height}
@@ -22,27 +22,62 @@ field_head x y bytes row =
     codes "^FO" ++ (decimal x ++ (codes "," ++ (decimal y ++ (codes "^GFA," ++ (decimal bytes ++
     (codes "," ++ (decimal bytes ++ (codes "," ++ (decimal row ++ codes ",")))))))))
 
--- The field of `count` rows of the picture, from row `first` on. The picture is at this position.
-unfoldable pub field : Picture → (at : ℕ × ℕ) → (first count : ℕ) → List ℕ
-field p at first count =
+-- The digits of `count` rows of the picture, from row `first` on.
+abbrev pub row_digits : Picture → (first count : ℕ) → List ℕ
+row_digits p first count = flat_map hex_pair (rows_from p first count)
+
+-- The field of these rows with this content. The picture is at this position.
+abbrev pub field_of : Picture → (at : ℕ × ℕ) → (first count : ℕ) → (content : List ℕ) → List ℕ
+field_of p at first count content =
     field_head at.0 (at.1 + first) (row_length p * count) (row_length p)
-    ++ (flat_map hex_pair (rows_from p first count) ++ codes "^FS\n")
+    ++ (content ++ codes "^FS\n")
+
+-- The field of these rows with their digits.
+unfoldable pub field : Picture → (at : ℕ × ℕ) → (first count : ℕ) → List ℕ
+field p at first count = field_of p at first count (row_digits p first count)
 
 -- The number of rows in a field: as many as the printer takes in one.
 abbrev pub field_rows : Picture → ℕ
 field_rows p = FIELD_BYTES / row_length p
 
--- Field n: the next rows, or those that are left.
+-- The first row of field n.
+abbrev pub nth_first : Picture → ℕ → ℕ
+nth_first p n = n * field_rows p
+
+-- The number of rows of field n: the next ones, or those that are left.
+abbrev pub nth_count : Picture → ℕ → ℕ
+nth_count p n = min (pixel_height p - nth_first p n) (field_rows p)
+
+-- The digits of field n.
+abbrev pub nth_digits : Picture → ℕ → List ℕ
+nth_digits p n = row_digits p (nth_first p n) (nth_count p n)
+
+-- Field n.
 abbrev pub nth_field : Picture → ℕ × ℕ → ℕ → List ℕ
-nth_field p at n =
-    let first = n * field_rows p in field p at first (min (pixel_height p - first) (field_rows p))
+nth_field p at n = field p at (nth_first p n) (nth_count p n)
 
 -- The first fields, from the top.
 unfoldable pub first_fields : Picture → ℕ × ℕ → ℕ → List ℕ
 first_fields p at count = flat_map (nth_field p at) (range_with_len 0 count)
 
--- The label: all fields, one below the other.
+-- The number of fields.
+abbrev pub field_count : Picture → ℕ
+field_count p = (pixel_height p + (field_rows p - 1)) / field_rows p
+
+-- The command that says how many labels are printed.
+abbrev pub copies_command : Option ℕ → List ℕ
+copies_command None = []
+copies_command (Some copies) = codes "^PQ" ++ (decimal copies ++ codes "\n")
+
+-- The end of a label, after its number of copies.
+abbrev pub label_end : Option ℕ → List ℕ
+label_end copies = copies_command copies ++ codes "^XZ\n"
+
+-- The label: all fields, one below the other, and how many copies are printed.
+abbrev pub label_text : ℕ × ℕ → Option ℕ → Picture → List ℕ
+label_text at copies p =
+    codes "^XA\n" ++ (first_fields p at (field_count p) ++ label_end copies)
+
+-- The label that says nothing of copies.
 abbrev pub zpl_text : ℕ × ℕ → Picture → List ℕ
-zpl_text at p =
-    codes "^XA\n" ++
-    (first_fields p at ((pixel_height p + (field_rows p - 1)) / field_rows p) ++ codes "^XZ\n")
+zpl_text at p = label_text at None p

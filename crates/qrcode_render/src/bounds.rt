@@ -54,3 +54,12 @@ pub const MAX_DPI: usize = 2_400;
 /// The greatest position of a picture on a label, in dots. The lowest row of the largest picture is
 /// then within the 32,000 dots of `^FO`.
 pub const MAX_AT: usize = 18_000;
+
+/// The least number of labels that a printer prints.
+pub const MIN_COPIES: usize = 1;
+
+/// The greatest number of labels that a printer prints: that of `^PQ` of ZPL II.
+pub const MAX_COPIES: usize = 99_999_999;
+
+/// The greatest number of lines that the paper is moved: that of `ESC d` of ESC/POS.
+pub const MAX_FEED: usize = 255;

@@ -1,14 +1,19 @@
 //! The options of a picture in a format, made of settings and tested once.
 ghost use Rattle.std.specs.Prelude.{◌≡◌, ◌≤◌};
-ghost use Rattle.std.specs.Prelude.{true, false, OnOk, OnErr, IfErr};
+ghost use Rattle.std.specs.Prelude.{true, false, Some, None, OnOk, OnErr, IfErr};
 ghost use Rattle.std.specs.Option.{ForSome, option_copied};
 ghost use Rattle.qrcode_render.specs.Settings.{allows, allows_title, allows_position};
+ghost use Rattle.qrcode_render.specs.Settings.{first_failed, printer_tests};
+ghost use Rattle.qrcode_render.specs.Formats.{has_copies, has_feed};
 ghost use Rattle.qrcode_render.specs.declared.bounds.TheConstants.{MIN_SCALE, MAX_SCALE, MAX_QUIET};
 ghost use Rattle.qrcode_render.specs.declared.bounds.TheConstants.{MIN_MODULE_MM, MAX_MODULE_MM};
 ghost use Rattle.qrcode_render.specs.declared.bounds.TheConstants.{MIN_DPI, MAX_DPI, MAX_AT};
+ghost use Rattle.qrcode_render.specs.declared.bounds.TheConstants.{MIN_COPIES, MAX_COPIES};
+ghost use Rattle.qrcode_render.specs.declared.bounds.TheConstants.{MAX_FEED};
 
 use crate::bounds::{
-    MAX_AT, MAX_DPI, MAX_MODULE_MM, MAX_QUIET, MAX_SCALE, MIN_DPI, MIN_MODULE_MM, MIN_SCALE, QUIET,
+    MAX_AT, MAX_COPIES, MAX_DPI, MAX_FEED, MAX_MODULE_MM, MAX_QUIET, MAX_SCALE, MIN_COPIES,
+    MIN_DPI, MIN_MODULE_MM, MIN_SCALE, QUIET,
 };
 use crate::format::Format;
 use crate::settings::{Setting, Settings};
@@ -34,6 +39,14 @@ pub struct DrawOptions<'a> {
     pub title: Option<&'a str>,
     /// The position of the upper left corner in dots.
     pub at: (usize, usize),
+    /// The number of labels that the printer prints.
+    pub copies: Option<usize>,
+    /// Whether the data are compressed.
+    pub compressed: bool,
+    /// The number of lines that the paper is moved after the picture.
+    pub feed: Option<usize>,
+    /// Whether the paper is cut after the picture.
+    pub cut: bool,
     ghost scaled: { MIN_SCALE ≤ scale },
     ghost small_scale: { scale ≤ MAX_SCALE },
     ghost small_zone: { quiet ≤ MAX_QUIET },
@@ -43,6 +56,9 @@ pub struct DrawOptions<'a> {
     ghost few_dots: { ForSome dpi (λ n. n ≤ MAX_DPI) },
     ghost far_right: { at.0 ≤ MAX_AT },
     ghost far_down: { at.1 ≤ MAX_AT },
+    ghost some_copies: { ForSome copies (λ n. MIN_COPIES ≤ n) },
+    ghost few_copies: { ForSome copies (λ n. n ≤ MAX_COPIES) },
+    ghost few_lines: { ForSome feed (λ n. n ≤ MAX_FEED) },
 }
 
 impl<'a> DrawOptions<'a> {
@@ -66,27 +82,24 @@ impl<'a> DrawOptions<'a> {
         ensures refused { IfErr result
             (λ setting. invalid_setting format settings.now ≡ Some setting) }
     {
-        let Settings {
-            scale,
-            quiet,
-            module_mm,
-            dpi,
-            inverted,
-            title,
-            at,
-        } = *settings;
+        let scale = settings.scale;
+        let quiet = settings.quiet;
+        let module_mm = settings.module_mm;
+        let dpi = settings.dpi;
+        let inverted = settings.inverted;
+        let title = settings.title;
+        let at = settings.at;
         let lone_dpi = format.has_dots() && module_mm.is_none();
         require(allows(true, MIN_SCALE, MAX_SCALE, scale), Setting::Scale)?;
         require(allows(true, 0, MAX_QUIET, quiet), Setting::Quiet)?;
         let millimetres = format.has_millimetres();
-        require(
-            allows(millimetres, MIN_MODULE_MM, MAX_MODULE_MM, module_mm),
-            Setting::ModuleMm,
-        )?;
+        let sized = allows(millimetres, MIN_MODULE_MM, MAX_MODULE_MM, module_mm);
+        require(sized, Setting::ModuleMm)?;
         require(allows(lone_dpi, MIN_DPI, MAX_DPI, dpi), Setting::Dpi)?;
         require(!inverted || format.can_be_inverted(), Setting::Inverted)?;
         require(allows_title(format.has_title(), title), Setting::Title)?;
         require(allows_position(format.has_position(), at), Setting::At)?;
+        require_printable(format, settings)?;
         Ok(DrawOptions {
             format,
             scale: scale.unwrap_or(format.default_scale()),
@@ -96,8 +109,34 @@ impl<'a> DrawOptions<'a> {
             inverted,
             title,
             at: at.unwrap_or((0, 0)),
+            copies: settings.copies,
+            compressed: settings.compressed,
+            feed: settings.feed,
+            cut: settings.cut,
         })
     }
+}
+
+/// Fails with the first setting for printers that is not valid.
+fn require_printable(format: Format, settings: &Settings) -> Result<(), Setting>
+    ensures valid { OnOk result (first_failed (printer_tests format settings.now) ≡ None) }
+    ensures copies { OnOk result
+        (allows (has_copies format) MIN_COPIES MAX_COPIES settings.now.copies ≡ true) }
+    ensures feed { OnOk result (allows (has_feed format) 0 MAX_FEED settings.now.feed ≡ true) }
+    ensures refused { IfErr result (λ setting.
+        first_failed (printer_tests format settings.now) ≡ Some setting) }
+{
+    let copies = allows(format.has_copies(), MIN_COPIES, MAX_COPIES, settings.copies);
+    require(copies, Setting::Copies)?;
+    require(
+        !settings.compressed || format.can_be_compressed(),
+        Setting::Compressed,
+    )?;
+    require(
+        allows(format.has_feed(), 0, MAX_FEED, settings.feed),
+        Setting::Feed,
+    )?;
+    require(!settings.cut || format.can_be_cut(), Setting::Cut)
 }
 
 /// Fails with a setting that is not valid.

@@ -2,13 +2,14 @@
 ghost use Rattle.std.specs.Prelude.{◌≡◌, ◌<◌, ◌≤◌, ◌^◌, ◌↔◌, IfOk, IfSome, IsSome, OnOk};
 ghost use Rattle.qrcode_core.specs.Drawn.{drawn_grid};
 ghost use Rattle.qrcode_render.specs.Drawings.{IsPictureOf, IsPictureAs};
+ghost use Rattle.qrcode_render.specs.Labels.{IsLabel};
 ghost use Rattle.qrcode_render.specs.Pictures.{IsDrawable};
 ghost use Rattle.qrcode_render.specs.Resolutions.{nearest, per_metre};
 ghost use Rattle.qrcode_render.specs.Shown.{shown};
 
 use crate::draw_options::DrawOptions;
 use crate::eps::eps;
-use crate::escpos::escpos;
+use crate::escpos::ticket;
 use crate::format::Format;
 use crate::options::RenderOptions;
 use crate::pbm::pbm;
@@ -16,7 +17,7 @@ use crate::picture::Picture;
 use crate::png_file::png;
 use crate::svg::svg_document;
 use crate::terminal::terminal;
-use crate::zpl::zpl;
+use crate::zpl::{compressed_label, label};
 use qrcode_core::symbol::Symbol;
 use qrcode_core::traits::ModuleSource;
 use std::alloc::{AllocError, Global};
@@ -63,8 +64,20 @@ pub(crate) fn draw_picture(
         Format::Png => png(alloc, picture, pixels_per_metre(options)),
         Format::Pbm => pbm(alloc, picture),
         Format::Eps => Ok(eps(alloc, picture, options.module_mm)?.into_bytes()),
-        Format::EscPos => escpos(alloc, picture),
-        Format::Zpl => zpl(alloc, picture, options.at),
+        Format::EscPos => ticket(alloc, picture, options.feed, options.cut),
+        Format::Zpl => zpl(alloc, picture, options),
+    }
+}
+
+/// Returns the label of the options.
+fn zpl(alloc: Global, picture: &Picture, options: &DrawOptions) -> Result<Vec<u8>, AllocError>
+    ensures { IfOk result (λ bytes. IsLabel options.now.compressed options.now.at
+        options.now.copies (shown picture.now) bytes.items) }
+{
+    if options.compressed {
+        compressed_label(alloc, picture, options.at, options.copies)
+    } else {
+        label(alloc, picture, options.at, options.copies)
     }
 }
 

@@ -1,7 +1,9 @@
 //! Pictures as raster images of ESC/POS, for ticket printers.
 ghost use Rattle.std.specs.Prelude.{◌≡◌, ◌*◌, ◌<◌, ◌≤◌, ◌++◌, IfOk, OnOk};
-ghost use Rattle.qrcode_render.specs.declared.bounds.TheConstants.{BAND_ROWS};
+ghost use Rattle.std.specs.Option.{ForSome};
+ghost use Rattle.qrcode_render.specs.declared.bounds.TheConstants.{BAND_ROWS, MAX_FEED};
 ghost use Rattle.qrcode_render.specs.EscPos.{band, escpos_text, two_bytes};
+ghost use Rattle.qrcode_render.specs.EscPos.{cut_command, feed_command, ticket_text};
 ghost use Rattle.qrcode_render.specs.Pictures.{pixel_height};
 ghost use Rattle.qrcode_render.specs.Shown.{shown};
 
@@ -9,6 +11,9 @@ use crate::bitmap::push_rows_from;
 use crate::bounds::BAND_ROWS;
 use crate::picture::Picture;
 use std::alloc::{AllocError, Global};
+
+/// The most bytes of the commands after a picture.
+const AROUND: usize = 7;
 
 /// Returns the picture as raster images of ESC/POS (`GS v 0`), for a ticket printer: bands of at
 /// most `BAND_ROWS` rows of pixels, one below the other. It fails only for lack of memory.
@@ -18,11 +23,52 @@ pub fn escpos(alloc: Global, picture: &Picture) -> Result<Vec<u8>, AllocError>
 {
     let height = picture.height();
     let bands = height.div_ceil(BAND_ROWS);
-    let mut bytes = Vec::with_capacity(alloc, 8 * bands + picture.row_length() * height)?;
+    let room = 8 * bands + picture.row_length() * height + AROUND;
+    let mut bytes = Vec::with_capacity(alloc, room)?;
     for n in 0..bands {
         push_band(alloc, &mut bytes, picture, n)?;
     }
     Ok(bytes)
+}
+
+/// Returns the picture as `escpos` does, and then the commands that move the paper by this many
+/// lines (`ESC d`), and that cut it (`GS V`), if they are asked for. It fails only for lack of
+/// memory.
+pub fn ticket(
+    alloc: Global,
+    picture: &Picture,
+    feed: Option<usize>,
+    cut: bool,
+) -> Result<Vec<u8>, AllocError>
+    requires { ForSome feed (λ n. n ≤ MAX_FEED) }
+    ensures { IfOk result (λ bytes. bytes.items ≡ ticket_text feed cut (shown picture.now)) }
+{
+    let mut bytes = escpos(alloc, picture)?;
+    push_feed(&mut bytes, feed)?;
+    push_cut(&mut bytes, cut)?;
+    Ok(bytes)
+}
+
+/// Appends the command that moves the paper, if it is asked for.
+fn push_feed(bytes: &mut Vec<u8>, feed: Option<usize>) -> Result<(), AllocError>
+    requires { ForSome feed (λ n. n ≤ MAX_FEED) }
+    ensures { OnOk result (bytes.new.items ≡ bytes.old.items ++ feed_command feed) }
+{
+    match feed {
+        Some(lines) => bytes.extend_from_slice(&[0x1B, b'd', lines as u8]),
+        None => Ok(()),
+    }
+}
+
+/// Appends the command that cuts the paper, if it is asked for.
+fn push_cut(bytes: &mut Vec<u8>, cut: bool) -> Result<(), AllocError>
+    ensures { OnOk result (bytes.new.items ≡ bytes.old.items ++ cut_command cut) }
+{
+    if cut {
+        bytes.extend_from_slice(b"\x1DVB\0")
+    } else {
+        Ok(())
+    }
 }
 
 /// Appends band n.

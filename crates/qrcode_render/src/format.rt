@@ -2,6 +2,7 @@
 ghost use Rattle.std.specs.Prelude.{◌≡◌};
 ghost use Rattle.qrcode_render.specs.Formats.{can_be_inverted, default_scale, has_millimetres};
 ghost use Rattle.qrcode_render.specs.Formats.{has_dots, has_position, has_title};
+ghost use Rattle.qrcode_render.specs.Formats.{can_be_compressed, can_be_cut, has_copies, has_feed};
 
 use crate::bounds::{IMAGE_SCALE, TEXT_SCALE};
 
@@ -68,5 +69,33 @@ impl Format {
         ensures { result ≡ has_position self }
     {
         matches!(self, Format::Zpl)
+    }
+
+    /// Whether the printer can be told how many labels it prints.
+    pub fn has_copies(self) -> bool
+        ensures { result ≡ has_copies self }
+    {
+        matches!(self, Format::Zpl)
+    }
+
+    /// Whether the data can be compressed.
+    pub fn can_be_compressed(self) -> bool
+        ensures { result ≡ can_be_compressed self }
+    {
+        matches!(self, Format::Zpl)
+    }
+
+    /// Whether the paper can be moved after the picture.
+    pub fn has_feed(self) -> bool
+        ensures { result ≡ has_feed self }
+    {
+        matches!(self, Format::EscPos)
+    }
+
+    /// Whether the paper can be cut after the picture.
+    pub fn can_be_cut(self) -> bool
+        ensures { result ≡ can_be_cut self }
+    {
+        matches!(self, Format::EscPos)
     }
 }

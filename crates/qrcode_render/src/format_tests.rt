@@ -202,7 +202,7 @@ fn draws_grids(rt: HostRuntime) -> Result<(), PluginError> {
 }
 
 /// Whether the settings are rejected in this format, since one of them is wrong.
-fn rejects(alloc: Global, format: Format, settings: &Settings, wrong: Setting) -> bool {
+pub(crate) fn rejects(alloc: Global, format: Format, settings: &Settings, wrong: Setting) -> bool {
     match DrawOptions::new(alloc, format, settings) {
         Ok(_) => false,
         Err(setting) => setting == wrong,
@@ -266,6 +266,10 @@ fn names_the_first_setting(rt: HostRuntime) -> Result<(), PluginError> {
         inverted: true,
         title: Some("a"),
         at: Some((0, 0)),
+        copies: Some(0),
+        compressed: true,
+        feed: Some(256),
+        cut: true,
     };
     assert!(rt; rejects(alloc, Format::Pbm, &many, Setting::Scale));
     let many = Settings {
@@ -285,6 +289,25 @@ fn names_the_first_setting(rt: HostRuntime) -> Result<(), PluginError> {
         ..many
     };
     assert!(rt; rejects(alloc, Format::Pbm, &many, Setting::Title));
+    let many = Settings {
+        title: None,
+        ..many
+    };
+    assert!(rt; rejects(alloc, Format::Pbm, &many, Setting::At));
+    let many = Settings { at: None, ..many };
+    assert!(rt; rejects(alloc, Format::Pbm, &many, Setting::Copies));
+    let many = Settings {
+        copies: None,
+        ..many
+    };
+    assert!(rt; rejects(alloc, Format::Pbm, &many, Setting::Compressed));
+    let many = Settings {
+        compressed: false,
+        ..many
+    };
+    assert!(rt; rejects(alloc, Format::Pbm, &many, Setting::Feed));
+    let many = Settings { feed: None, ..many };
+    assert!(rt; rejects(alloc, Format::Pbm, &many, Setting::Cut));
     Ok(())
 }
 
@@ -299,6 +322,10 @@ fn names_settings(rt: HostRuntime) -> Result<(), PluginError> {
         (Setting::Inverted, "inverted"),
         (Setting::Title, "title"),
         (Setting::At, "at"),
+        (Setting::Copies, "copies"),
+        (Setting::Compressed, "compressed"),
+        (Setting::Feed, "feed"),
+        (Setting::Cut, "cut"),
     ];
     for (setting, name) in names {
         assert_eq!(rt; setting.name(), name);

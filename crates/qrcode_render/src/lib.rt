@@ -18,6 +18,9 @@
 
 mod bitmap;
 pub mod bounds;
+mod compressed;
+#[cfg(test)]
+mod compressed_tests;
 pub mod draw_options;
 mod drawing;
 pub mod eps;
@@ -35,6 +38,8 @@ pub mod picture;
 pub mod png_file;
 #[cfg(test)]
 mod png_tests;
+#[cfg(test)]
+mod printer_tests;
 pub mod renderers;
 pub mod settings;
 pub mod svg;

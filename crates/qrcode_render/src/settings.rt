@@ -20,6 +20,14 @@ pub struct Settings<'a> {
     pub title: Option<&'a str>,
     /// The position of the upper left corner on the label in dots, each 0 to 18,000: of ZPL.
     pub at: Option<(usize, usize)>,
+    /// The number of labels that the printer prints, 1 to 99,999,999: of ZPL.
+    pub copies: Option<usize>,
+    /// Whether the data are compressed: of ZPL.
+    pub compressed: bool,
+    /// The number of lines that the paper is moved after the picture, 0 to 255: of ESC/POS.
+    pub feed: Option<usize>,
+    /// Whether the paper is cut after the picture: of ESC/POS.
+    pub cut: bool,
 }
 
 /// A field of `Settings`.
@@ -39,6 +47,14 @@ pub enum Setting {
     Title,
     /// The field `at`.
     At,
+    /// The field `copies`.
+    Copies,
+    /// The field `compressed`.
+    Compressed,
+    /// The field `feed`.
+    Feed,
+    /// The field `cut`.
+    Cut,
 }
 
 impl Setting {
@@ -54,6 +70,10 @@ impl Setting {
             Setting::Inverted => "inverted",
             Setting::Title => "title",
             Setting::At => "at",
+            Setting::Copies => "copies",
+            Setting::Compressed => "compressed",
+            Setting::Feed => "feed",
+            Setting::Cut => "cut",
         }
     }
 }

@@ -1,32 +1,55 @@
 //! Pictures as labels of ZPL II, for label printers.
-ghost use Rattle.std.specs.Prelude.{◌≡◌, ◌+◌, ◌*◌, ◌<◌, ◌≤◌, ◌++◌, IfOk, OnOk, flat_map, length};
+ghost use Rattle.std.specs.Prelude.{◌≡◌, ◌+◌, ◌*◌, ◌<◌, ◌≤◌, ◌++◌, IfOk, OnOk, Some};
+ghost use Rattle.std.specs.Prelude.{flat_map, length};
 ghost use Rattle.qrcode_render.specs.Bitmaps.{rows_from};
 ghost use Rattle.std.specs.String.{string_bytes};
 ghost use Rattle.qrcode_render.specs.declared.bounds.TheConstants.{FIELD_BYTES, MAX_AT, MAX_PIXELS};
+ghost use Rattle.qrcode_render.specs.Encoded.{AddsPiece};
+ghost use Rattle.qrcode_render.specs.Labels.{IsCompressedField, IsCompressedLabel};
 ghost use Rattle.qrcode_render.specs.Pictures.{pixel_height};
 ghost use Rattle.qrcode_render.specs.Shown.{shown};
 ghost use Rattle.qrcode_render.specs.Zpl.{field, field_head, hex_pair, hex_digit, zpl_text};
+ghost use Rattle.qrcode_render.specs.Zpl.{copies_command, field_count, field_rows, label_end};
+ghost use Rattle.qrcode_render.specs.Zpl.{label_text, nth_first};
 
 use crate::bitmap::{write_row, zeros};
 use crate::bounds::FIELD_BYTES;
+use crate::compressed::push_data;
 use crate::picture::Picture;
 use std::alloc::{AllocError, Global};
 
 /// The most bytes around the data of a field.
 const MOST_AROUND: usize = 64;
 
+/// The most bytes before and after the fields.
+const MOST_END: usize = 32;
+
 /// Returns the picture as a label of ZPL II (`^GF`), for a label printer, with its upper left
 /// corner at this position in dots. Its rows are in fields of at most `FIELD_BYTES` bytes, one
 /// below the other. It fails only for lack of memory.
-#[tactic(auto, using(crate::proofs::BandLemmas::fields))]
 pub fn zpl(alloc: Global, picture: &Picture, at: (usize, usize)) -> Result<Vec<u8>, AllocError>
     requires { at.1 ≤ MAX_AT }
     ensures { IfOk result (λ bytes. bytes.items ≡ zpl_text at (shown picture.now)) }
 {
+    label(alloc, picture, at, None)
+}
+
+/// Returns the picture as `zpl` does, with the number of labels that the printer prints (`^PQ`), if
+/// it is given. It fails only for lack of memory.
+#[tactic(auto, using(crate::proofs::BandLemmas::fields))]
+pub fn label(
+    alloc: Global,
+    picture: &Picture,
+    at: (usize, usize),
+    copies: Option<usize>,
+) -> Result<Vec<u8>, AllocError>
+    requires { at.1 ≤ MAX_AT }
+    ensures { IfOk result (λ bytes. bytes.items ≡ label_text at copies (shown picture.now)) }
+{
     let height = picture.height();
-    let rows = FIELD_BYTES / picture.row_length();
-    let fields = height.div_ceil(rows);
-    let room = 2 * picture.row_length() * height + MOST_AROUND * fields + 8;
+    let rows = field_rows(picture);
+    let fields = field_count(picture);
+    let room = 2 * picture.row_length() * height + MOST_AROUND * fields + MOST_END;
     let mut bytes = Vec::with_capacity(alloc, room)?;
     bytes.extend_from_slice(b"^XA\n")?;
     for n in 0..fields {
@@ -40,8 +63,98 @@ pub fn zpl(alloc: Global, picture: &Picture, at: (usize, usize)) -> Result<Vec<u
             (height - first).min(rows),
         )?;
     }
-    bytes.extend_from_slice(b"^XZ\n")?;
+    push_end(alloc, &mut bytes, copies)?;
     Ok(bytes)
+}
+
+/// Returns the picture as `label` does, with compressed data (the "Alternative Data Compression
+/// Scheme" of the ZPL II guide). It fails only for lack of memory.
+#[tactic(auto, using(crate::proofs::BandLemmas::fields))]
+pub fn compressed_label(
+    alloc: Global,
+    picture: &Picture,
+    at: (usize, usize),
+    copies: Option<usize>,
+) -> Result<Vec<u8>, AllocError>
+    requires { at.1 ≤ MAX_AT }
+    ensures { IfOk result (λ bytes.
+        IsCompressedLabel at copies (shown picture.now) bytes.items) }
+{
+    let fields = field_count(picture);
+    let mut bytes = Vec::new(alloc);
+    bytes.extend_from_slice(b"^XA\n")?;
+    for n in 0..fields {
+        push_compressed_field(alloc, &mut bytes, picture, at, n)?;
+    }
+    push_end(alloc, &mut bytes, copies)?;
+    Ok(bytes)
+}
+
+/// Appends field n with compressed data.
+fn push_compressed_field(
+    alloc: Global,
+    bytes: &mut Vec<u8>,
+    picture: &Picture,
+    at: (usize, usize),
+    n: usize,
+) -> Result<(), AllocError>
+    requires place { at.1 ≤ MAX_AT }
+    requires inside { nth_first (shown picture.now) n < pixel_height (shown picture.now) }
+    ensures { OnOk result (AddsPiece (IsCompressedField (shown picture.now) at n)
+        bytes.old.items bytes.new.items) }
+{
+    let length = picture.row_length();
+    let rows = field_rows(picture);
+    let first = n * rows;
+    let count = (picture.height() - first).min(rows);
+    let top = first + at.1;
+    let head = field_head(alloc, at.0, top, length * count, length)?;
+    bytes.extend_from_slice(head.as_bytes())?;
+    push_data(alloc, bytes, picture, first, count)?;
+    bytes.extend_from_slice(b"^FS\n")
+}
+
+/// Returns the number of rows of pixels in a field: as many as the printer takes in one.
+fn field_rows(picture: &Picture) -> usize
+    ensures exact { result ≡ field_rows (shown picture.now) }
+    ensures some { 0 < result }
+{
+    FIELD_BYTES / picture.row_length()
+}
+
+/// Returns the number of fields.
+fn field_count(picture: &Picture) -> usize
+    ensures { result ≡ field_count (shown picture.now) }
+{
+    picture.height().div_ceil(field_rows(picture))
+}
+
+/// Appends the end of a label, after its number of copies.
+fn push_end(alloc: Global, bytes: &mut Vec<u8>, copies: Option<usize>) -> Result<(), AllocError>
+    ensures { OnOk result (bytes.new.items ≡ bytes.old.items ++ label_end copies) }
+{
+    push_copies(alloc, bytes, copies)?;
+    bytes.extend_from_slice(b"^XZ\n")
+}
+
+/// Appends the command that says how many labels are printed, if that is given.
+fn push_copies(alloc: Global, bytes: &mut Vec<u8>, copies: Option<usize>) -> Result<(), AllocError>
+    ensures { OnOk result (bytes.new.items ≡ bytes.old.items ++ copies_command copies) }
+{
+    match copies {
+        Some(copies) => {
+            let command = copies_command(alloc, copies)?;
+            bytes.extend_from_slice(command.as_bytes())
+        }
+        None => Ok(()),
+    }
+}
+
+/// Returns the command that says how many labels are printed.
+fn copies_command(alloc: Global, copies: usize) -> Result<String, AllocError>
+    ensures { IfOk result (λ text. string_bytes text ≡ copies_command (Some copies)) }
+{
+    format!(in alloc; "^PQ{copies}\n")
 }
 
 /// Appends the field of some rows of pixels, from one on.
@@ -109,7 +222,7 @@ fn push_digits(
 
 /// Writes the hexadecimal digits of some bytes.
 #[tactic(auto, using(crate::proofs::BandLemmas::digits))]
-fn write_hex(content: &[u8], digits: &mut [u8])
+pub(crate) fn write_hex(content: &[u8], digits: &mut [u8])
     requires { length digits.old ≡ 2 * length content.now }
     ensures { digits.new ≡ flat_map hex_pair content.now }
 {

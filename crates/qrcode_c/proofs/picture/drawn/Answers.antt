@@ -19,6 +19,10 @@ returns-in-Ok-draw_square-clause-shown c =
           inverted_is = c.settings_of-settings.ensures.inverted_is;
           title_is = c.settings_of-settings.ensures.title_is;
           at_is = c.settings_of-settings.ensures.at_is;
+          copies_is = c.settings_of-settings.ensures.copies_is;
+          compressed_is = c.settings_of-settings.ensures.compressed_is;
+          feed_is = c.settings_of-settings.ensures.feed_is;
+          cut_is = c.settings_of-settings.ensures.cut_is;
         };
         true_of = record {
           options = c.in-Ok.options;

@@ -2,7 +2,7 @@
 use Rattle.std.proofs.Common.{◌≡◌, ◌++◌}
 use Rattle.std.specs.Prelude.{codes}
 use Rattle.qrcode_render.specs.{Zpl.first_fields, Shown.shown}
-use Rattle.qrcode_render.proofs.zpl.zpl.Given as goal
+use Rattle.qrcode_render.proofs.zpl.label.Given as goal
 
 abbrev pub invariant-loop-n : goal.invariant-loop-n
 invariant-loop-n l = l.bytes.items ≡ codes "^XA\n" ++ first_fields (shown l.picture) l.at l.n
