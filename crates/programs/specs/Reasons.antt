@@ -1,6 +1,7 @@
 -- Why the system did not do something: the words for it, and the line of a program.
 use Rattle.std.specs.Prelude.{ℕ, Bool, true, false, if◌then◌else◌, Option, Some, unwrap_or}
 use Rattle.std.specs.Prelude.{List, [], ◌∷◌, ◌++◌, codes}
+use Rattle.programs.specs.declared.reasons.TheConstants.{CLOSED_PIPE}
 use Rattle.std.specs.declared.io.ErrorKind.{ErrorKind}
 use Rattle.std.specs.declared.io.ErrorKind.TheVariants.{NotFound, PermissionDenied, BrokenPipe}
 use Rattle.std.specs.declared.io.ErrorKind.TheVariants.{AlreadyExists, WouldBlock}
@@ -60,4 +61,4 @@ device_report program what name reason =
 
 -- The exit status then. Of a closed pipe it is that of a program which SIGPIPE ended, in a shell.
 abbrev pub device_status : Option ErrorKind → ℕ
-device_status reason = if is_closed_pipe reason then 141 else 1
+device_status reason = if is_closed_pipe reason then CLOSED_PIPE else 1

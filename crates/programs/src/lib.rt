@@ -38,7 +38,7 @@ mod tests;
 pub use devices::{FromReader, FromWriter, Sink, Source};
 pub use files::{WholeFile, put_file};
 pub use lines::{read_line, skip_line};
-pub use reasons::{reason_text, report_device};
+pub use reasons::{CLOSED_PIPE, is_closed_pipe, reason_text, report_device};
 pub use reports::{report, write_line};
 pub use runs::{Program, draw, run};
 

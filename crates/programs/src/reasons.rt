@@ -8,7 +8,7 @@ use crate::{Fault, Sink, write_line};
 use std::io::ErrorKind;
 
 /// The status that a shell gives a program which SIGPIPE ended.
-const CLOSED_PIPE: u8 = 141;
+pub const CLOSED_PIPE: u8 = 141;
 
 /// Writes what could not be done with the file or the device of a name, and why, as one line after
 /// the program's name, without an allocation, and returns the status 1. The line is
@@ -51,7 +51,7 @@ fn write_device<E: Sink>(
 }
 
 /// Whether a pipe was written to that nobody reads from any more.
-fn is_closed_pipe(reason: Option<ErrorKind>) -> bool
+pub fn is_closed_pipe(reason: Option<ErrorKind>) -> bool
     ensures { result ≡ is_closed_pipe reason }
 {
     matches!(reason, Some(ErrorKind::BrokenPipe))

@@ -15,8 +15,13 @@ use Rattle.programs.proofs.DeviceLemmas.{Appends-append, Appends-none, Writes-st
 use Rattle.qrcode_render.specs.declared.draw_options.DrawOptions.{DrawOptions}
 use Rattle.qrlabel.specs.declared.command.Label.{Label}
 use Rattle.programs.specs.declared.Fault.TheVariants.{Symbol, Read, Write}
-use Rattle.qrlabel.specs.declared.stop.{Stop.Stop, Stop.TheVariants.Fault, Stop.TheVariants.Elements, Stop.TheVariants.Empty, Stop.TheVariants.NotAscii}
-use Rattle.qrlabel.specs.Lines.{Made, Place, GiveEach, AreLabels, WritesEach, WritesSome, DrawsBefore, BreaksAt, IsEnded, StopsNext, WritesUntil, joined, drawing_in, all_drawn, left_out}
+use Rattle.qrlabel.specs.declared.stop.{Stop.Stop, Stop.TheVariants.Fault, Stop.TheVariants.Elements, Stop.TheVariants.Empty}
+use Rattle.qrlabel.specs.declared.stop.{Stop.TheVariants.NotAscii, Stop.TheVariants.TooLong}
+use Rattle.qrlabel.specs.Lines.{Made, Place, GiveEach, AreLabels, WritesEach, WritesSome, DrawsBefore, BreaksAt, IsEnded, StopsNext}
+use Rattle.qrlabel.specs.Lines.{WritesUntil, joined, drawing_in, all_drawn, left_out}
+use Rattle.std.specs.declared.io.ErrorKind.{ErrorKind}
+use Rattle.qrlabel.specs.declared.stop.LineStop.{LineStop}
+use Rattle.qrlabel.specs.{Stops.end_report, Stops.stop_status, Runs.lines_reported, Runs.lines_status, Runs.last_number}
 use Rattle.qrlabel.specs.{Stops.numbered_line, Labels.IsLabelStop, Lines.IsLeftOut, Reports.Reports, MadeOf.made_of}
 use Rattle.std.specs.Prelude.{Vec, IfOk, IfErr, OnOk, IsOk}
 use Rattle.std.specs.declared.alloc.Global.{Global}
@@ -69,26 +74,26 @@ all_drawn-append (Err s ∷ ds) e = refl
 pub DrawsBefore-none : (label : Label) (options : DrawOptions) (a : Option (List ℕ)) (place : Place) → place.whole [] →
     DrawsBefore label options true label.first a a place
 DrawsBefore-none label options a place none =
-    record { mades = []; labels = record { lines = []; read = ReadsLines-none a; shown = tt }; counted = omega arith; every_is = refl; written = none }
+    record { results = []; labels = record { lines = []; read = ReadsLines-none a; shown = tt }; counted = omega arith; every_is = refl; written = none }
 
 -- and one line more
 pub DrawsBefore-more : (label : Label) (options : DrawOptions) (every all : Bool) (n : ℕ) (a b c : Option (List ℕ)) (old new : Place) (d : Made) →
     DrawsBefore label options every n a b old → AreLabels label options b c (d ∷ []) → all ≡ (every && is_ok d) →
     ((ds : List Made) → n ≡ length ds + label.first → old.whole ds → new.whole (ds ++ d ∷ [])) → DrawsBefore label options all (n + 1) a c new
 DrawsBefore-more label options every all n a b c old new d h k is more = record {
-  mades = h.mades ++ d ∷ [];
-  labels = AreLabels-append label options a b c h.mades (d ∷ []) h.labels k;
-  counted = omega (arith, h.counted, length-append h.mades (d ∷ []));
-  every_is = is ∙ ap (λ e. e && is_ok d) h.every_is ∙ sym (all_drawn-append h.mades d);
-  written = more h.mades h.counted h.written;
+  results = h.results ++ d ∷ [];
+  labels = AreLabels-append label options a b c h.results (d ∷ []) h.labels k;
+  counted = omega (arith, h.counted, length-append h.results (d ∷ []));
+  every_is = is ∙ ap (λ e. e && is_ok d) h.every_is ∙ sym (all_drawn-append h.results d);
+  written = more h.results h.counted h.written;
 }
 
 -- there was no line more
 pub DrawsBefore-ended : (label : Label) (options : DrawOptions) (every : Bool) (n : ℕ) (a b c : Option (List ℕ)) (place : Place) →
     DrawsBefore label options every n a b place → IsEnded b c → DrawsBefore label options every n a c place
 DrawsBefore-ended label options every n a b c place h k = record {
-  mades = h.mades;
-  labels = rw (append-nil h.mades) at (AreLabels-append label options a b c h.mades [] h.labels (record { lines = []; read = k.read; shown = tt }));
+  results = h.results;
+  labels = rw (append-nil h.results) at (AreLabels-append label options a b c h.results [] h.labels (record { lines = []; read = k.read; shown = tt }));
   counted = h.counted;
   every_is = h.every_is;
   written = h.written;
@@ -99,11 +104,11 @@ pub BreaksAt-next : (label : Label) (options : DrawOptions) (every : Bool) (n : 
     DrawsBefore label options every n r.left s.left old →
     AreLabels label options s.left t.left (Ok d ∷ []) → ((ds : List Made) → old.whole ds → new.broken ds d) → BreaksAt label options n (input r t) new
 BreaksAt-next label options every n r s t old new d h k breaks = record {
-  mades = h.mades;
+  results = h.results;
   next = d;
-  labels = AreLabels-append label options r.left s.left t.left h.mades (Ok d ∷ []) h.labels k;
+  labels = AreLabels-append label options r.left s.left t.left h.results (Ok d ∷ []) h.labels k;
   counted = h.counted;
-  broken = breaks h.mades h.written;
+  broken = breaks h.results h.written;
 }
 
 -- there is no label of the next line
@@ -115,6 +120,7 @@ writes_until label options every n q r s place (Fault (Symbol e)) h k = record {
 writes_until label options every n q r s place (Elements e) h k = record { left = r.left; every = every; drawn = h; stopped = k }
 writes_until label options every n q r s place Empty h k = record { left = r.left; every = every; drawn = h; stopped = k }
 writes_until label options every n q r s place NotAscii h k = record { left = r.left; every = every; drawn = h; stopped = k }
+writes_until label options every n q r s place (TooLong t) h k = record { left = r.left; every = every; drawn = h; stopped = k }
 
 pub never_write : (label : Label) (a b : Option (List ℕ)) (stop : Stop) → StopsNext label a b stop → stop ≢ Fault Write
 never_write label a b stop k e = rw e at k
@@ -237,7 +243,7 @@ left_out_short label options a b line stop (inr h) short is = absurd (omega (ari
 
 long_stop : (label : Label) (part line : List ℕ) (stop : Stop) → LONGEST_DATA < length part → LONGEST_DATA < length line →
     IsLabelStop label part stop → IsLabelStop label line stop
-long_stop label part line stop long longer (inl h) = inl (longer, h.1)
+long_stop label part line stop long longer (inl h) = inl (record { many = longer; too_long = h.too_long; is_too_long = h.is_too_long; stop_is = h.stop_is })
 long_stop label part line stop long longer (inr h) = absurd (omega (arith, long, h.short))
 
 pub left_out_long : (label : Label) (options : DrawOptions) (a b c : Option (List ℕ)) (part : List ℕ) (stop : Stop) →
@@ -306,14 +312,52 @@ folder_fails label options every m r s t name e f g a b c n made stop h k ok sam
 
 pub said_at_end : (f : Bool) (b c : SinkState) (line : List ℕ) → b.failed ≡ f → (b.failed ≡ true → c ≡ b) →
     (b.failed ≡ false → Writes (output b c) line) → Writes (output b c) line
-said_at_end true b c line is silent told = rw (silent is) (record {
+said_at_end true b c line is silent said = rw (silent is) (record {
   beginning = record { count = 0; appends = Appends-none b.written };
   whole = λ sound. absurd (cc);
 })
-said_at_end false b c line is silent told = told is
+said_at_end false b c line is silent said = said is
 
 pub nothing_said : (e : SinkState) → Writes (output e e) []
 nothing_said e = record { beginning = record { count = 0; appends = Appends-none e.written }; whole = λ sound. Appends-none e.written }
+
+-- the name of the output is said of a write alone
+said_of : (source target other : List ℕ) (not_read not_written : Option ErrorKind) (number : ℕ) (stop : Stop) →
+    (stop ≡ Fault Write → target ≡ other) →
+    end_report (record { source = source; not_read = not_read; target = target; not_written = not_written }) (record { number = number; stop = stop })
+    ≡ end_report (record { source = source; not_read = not_read; target = other; not_written = not_written }) (record { number = number; stop = stop })
+said_of source target other not_read not_written number (Fault Read) same = refl
+said_of source target other not_read not_written number (Fault Write) same = rw (same refl) refl
+said_of source target other not_read not_written number (Fault (Symbol e)) same = refl
+said_of source target other not_read not_written number (Elements e) same = refl
+said_of source target other not_read not_written number Empty same = refl
+said_of source target other not_read not_written number NotAscii same = refl
+said_of source target other not_read not_written number (TooLong t) same = refl
+
+pub lines_said : (source target : List ℕ) (name : ℕ → List ℕ) (not_read not_written : Option ErrorKind) (outcome : Result Bool LineStop) →
+    IfErr outcome (λ at. at.stop ≡ Fault Write → target ≡ name at.number) →
+    lines_reported (record { source = source; not_read = not_read; target = target; not_written = not_written }) outcome
+    ≡ lines_reported (record { source = source; not_read = not_read; target = name (last_number outcome); not_written = not_written }) outcome
+lines_said source target name not_read not_written (Ok every) same = refl
+lines_said source target name not_read not_written (Err at) same =
+    said_of source target (name at.number) not_read not_written at.number at.stop same
+
+status_of : (source target other : List ℕ) (not_read not_written : Option ErrorKind) (stop : Stop) →
+    stop_status (record { source = source; not_read = not_read; target = target; not_written = not_written }) stop
+    ≡ stop_status (record { source = source; not_read = not_read; target = other; not_written = not_written }) stop
+status_of source target other not_read not_written (Fault Read) = refl
+status_of source target other not_read not_written (Fault Write) = refl
+status_of source target other not_read not_written (Fault (Symbol e)) = refl
+status_of source target other not_read not_written (Elements e) = refl
+status_of source target other not_read not_written Empty = refl
+status_of source target other not_read not_written NotAscii = refl
+status_of source target other not_read not_written (TooLong t) = refl
+
+pub lines_status-same : (source target other : List ℕ) (not_read not_written : Option ErrorKind) (outcome : Result Bool LineStop) →
+    lines_status (record { source = source; not_read = not_read; target = target; not_written = not_written }) outcome
+    ≡ lines_status (record { source = source; not_read = not_read; target = other; not_written = not_written }) outcome
+lines_status-same source target other not_read not_written (Ok every) = refl
+lines_status-same source target other not_read not_written (Err at) = status_of source target other not_read not_written at.stop
 
 -- ---- Why there is no label
 
@@ -331,7 +375,7 @@ neither Micro options bytes fault is h = grind (arith, is, h)
 neither MicroBytes options bytes fault is h = grind (arith, is, h)
 
 no_device : (label : Label) (bytes : List ℕ) (fault : FaultOf) → (fault ≡ Read) ⊎ (fault ≡ Write) → IsLabelStop label bytes (Fault fault) → ⊥
-no_device label bytes fault is (inl h) = grind (arith, is, h.1)
+no_device label bytes fault is (inl h) = grind (arith, is, h.stop_is)
 no_device label bytes fault is (inr h) = grind (arith, is, h.stopped, neither label.content label.symbol h.content fault is)
 
 -- nothing was written where there is no label
@@ -347,6 +391,8 @@ writes_none label options r s w bytes (Elements e) read is sound whole =
 writes_none label options r s w bytes Empty read is sound whole =
     record { writes = ((λ other. record { bytes = bytes; read = read; stopped = is }), keeps w.written); read = grind (arith, sound); write = grind (arith, whole) }
 writes_none label options r s w bytes NotAscii read is sound whole =
+    record { writes = ((λ other. record { bytes = bytes; read = read; stopped = is }), keeps w.written); read = grind (arith, sound); write = grind (arith, whole) }
+writes_none label options r s w bytes (TooLong t) read is sound whole =
     record { writes = ((λ other. record { bytes = bytes; read = read; stopped = is }), keeps w.written); read = grind (arith, sound); write = grind (arith, whole) }
 
 pub ruleset drawn = (DrawsBefore-none, DrawsBefore-ended, stream_none, folder_none)

@@ -28,6 +28,10 @@ wishes_of s = record {
   inverted = s.inverted;
   title = option_copied s.title;
   at = s.at;
+  copies = s.copies;
+  compressed = s.compressed;
+  feed = s.feed;
+  cut = s.cut;
 }
 
 abbrev pub settings_outcome : Result Settings Misuse → Result Wishes Wrong
@@ -54,6 +58,9 @@ label_of drawn = record {
   portion = portion_of drawn.portion;
   first = drawn.first;
   keeps_going = drawn.keeps_going;
+  source = drawn.source.now;
+  target = drawn.target.now;
+  colored = drawn.colored;
 }
 
 abbrev pub label_outcome : Result Drawn Misuse → Result Label Wrong

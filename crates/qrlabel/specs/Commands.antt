@@ -1,5 +1,6 @@
 -- What the values of the options ask for: help, the version, or a label.
-use Rattle.std.specs.Prelude.{ℕ, ◌-◌, ◌*◌, ◌/◌, nat_le, ℤ, pos, nat_abs, Bool, true, false, ◌&&◌, not, if◌then◌else◌, codes}
+use Rattle.std.specs.Prelude.{ℕ, ◌-◌, ◌*◌, ◌/◌, nat_le, ℤ, pos, nat_abs, Bool, true, false, ◌&&◌, not}
+use Rattle.std.specs.Prelude.{if◌then◌else◌, codes}
 use Rattle.std.specs.Prelude.{List, [], ◌∷◌, length, drop, map, Option, None, Some, option_and_then, unwrap_or, is_some}
 use Rattle.std.specs.Prelude.{Result, Ok, Err}
 use Rattle.std.specs.Char.{to_ascii_lowercase}
@@ -11,6 +12,7 @@ use Rattle.qrcode_render.specs.declared.bounds.TheConstants.{MICRO_QUIET, MIN_SC
 use Rattle.qrcode_render.specs.declared.bounds.TheConstants.{MIN_DPI, MAX_DPI, MIN_MODULE_MM, MAX_MODULE_MM}
 use Rattle.qrcode_render.specs.declared.format.Format.{Format as FormatOf}
 use Rattle.qrcode_render.specs.declared.format.Format.TheVariants.{Terminal, Svg, Png, Pbm, Eps, EscPos, Zpl}
+use Rattle.qrlabel.specs.declared.command.TheConstants.{MAX_FIRST}
 use Rattle.qrlabel.specs.declared.command.Content.{Content as ContentOf}
 use Rattle.qrlabel.specs.declared.command.Content.TheVariants.{Auto, Text as TextOf, Bytes, Gs1, Micro, MicroBytes}
 use Rattle.qrlabel.specs.declared.words.Name.{Name}
@@ -19,6 +21,7 @@ use Rattle.qrlabel.specs.declared.words.Name.TheVariants.{MinVersion, MaxVersion
 use Rattle.qrlabel.specs.declared.words.Name.TheVariants.{ModuleMm, Dpi, Inverted, Title, At, Read}
 use Rattle.qrlabel.specs.declared.words.Name.TheVariants.{Output, AllowEmpty, Help, Version, Lines}
 use Rattle.qrlabel.specs.declared.words.Name.TheVariants.{First, KeepGoing, KeepNewline}
+use Rattle.qrlabel.specs.declared.words.Name.TheVariants.{Copies, Compressed, Feed, Cut}
 use Rattle.qrlabel.specs.Names.{Numbering, numbering_in}
 use Rattle.qrlabel.specs.Numbers.{number_in, hundredths_in, place_in, halves}
 use Rattle.qrlabel.specs.Words.{among, Values, value_of, file_of, is_given, Wrong, invalid}
@@ -132,6 +135,10 @@ pub record Wishes : Type 0 where
   pub inverted : Bool
   pub title : Option (List ℕ)
   pub at : Option (ℕ × ℕ)
+  pub copies : Option ℕ
+  pub compressed : Bool
+  pub feed : Option ℕ
+  pub cut : Bool
 
 abbrev pub settings_asked : Values → Result Wishes Wrong
 settings_asked values = do
@@ -140,6 +147,8 @@ settings_asked values = do
   module_mm ← module_asked values
   dpi ← number_asked Dpi values
   at ← place_asked values
+  copies ← number_asked Copies values
+  feed ← number_asked Feed values
   Ok (record {
     scale = scale;
     quiet = quiet;
@@ -148,6 +157,10 @@ settings_asked values = do
     inverted = is_given values Inverted;
     title = value_of values Title;
     at = at;
+    copies = copies;
+    compressed = is_given values Compressed;
+    feed = feed;
+    cut = is_given values Cut;
   })
 
 -- The least version is at most the greatest.
@@ -177,11 +190,12 @@ abbrev pub is_png : FormatOf → Bool
 is_png Png = true
 is_png _ = false
 
--- The whole dots of a module of a size, in hundredths of a millimetre, at a resolution in dots of an
--- inch, which is 25.4 mm.
+-- A number of dots that a module can have.
 abbrev pub scale_of : ℕ → Result ℕ Wrong
 scale_of dots = if nat_le MIN_SCALE dots && nat_le dots MAX_SCALE then Ok dots else Err (invalid ModuleMm)
 
+-- The whole dots of a module of a size, in hundredths of a millimetre, at a resolution in dots of an
+-- inch, which is 25.4 mm.
 abbrev pub dots_asked : ℕ → ℕ → Result ℕ Wrong
 dots_asked module_mm dpi =
     if not (nat_le MIN_DPI dpi && nat_le dpi MAX_DPI) then Err (invalid Dpi)
@@ -189,8 +203,8 @@ dots_asked module_mm dpi =
     else scale_of (module_mm * dpi / 2540))
 
 -- The scale that a size and a resolution give, where they are given for a format of dots.
-abbrev pub printed : FormatOf → ℕ → ℕ → Wishes → Result Wishes Wrong
-printed format module_mm dpi wishes =
+abbrev pub with_dots : FormatOf → ℕ → ℕ → Wishes → Result Wishes Wrong
+with_dots format module_mm dpi wishes =
     if not (has_dots format) then Ok wishes
     else (if is_some wishes.scale then Err (invalid Scale)
     else (dots_asked module_mm dpi >>= (λ dots. Ok (record wishes {
@@ -202,7 +216,7 @@ printed format module_mm dpi wishes =
 abbrev pub in_dots : FormatOf → Wishes → Result Wishes Wrong
 in_dots format wishes =
     elim wishes.module_mm [
-      | Some module_mm ↦ elim wishes.dpi [ Some dpi ↦ printed format module_mm dpi wishes | None ↦ Ok wishes ]
+      | Some module_mm ↦ elim wishes.dpi [ Some dpi ↦ with_dots format module_mm dpi wishes | None ↦ Ok wishes ]
       | None ↦ Ok wishes
     ]
 
@@ -282,7 +296,7 @@ terminal_asked on_terminal format values =
 abbrev pub first_in : Values → List ℕ → Option ℕ
 first_in values word =
     elim (number_in word) [
-      | Some n ↦ (if nat_le n 1000000000 && is_given values Lines then Some n else None)
+      | Some n ↦ (if nat_le n MAX_FIRST && is_given values Lines then Some n else None)
       | None ↦ None
     ]
 
@@ -307,9 +321,20 @@ abbrev pub trims_asked : ContentOf → Values → Bool
 trims_asked content values =
     is_trimmed content && (not (is_given values Text) && not (is_given values KeepNewline))
 
+abbrev pub is_terminal : FormatOf → Bool
+is_terminal Terminal = true
+is_terminal _ = false
+
+-- A text is drawn on a terminal in colors of its own, unless it is to be inverted, or the words name
+-- the output.
+abbrev pub colored_asked : Bool → FormatOf → Values → Bool
+colored_asked on_terminal format values =
+    on_terminal && (is_terminal format && (not (is_given values Output) && not (is_given values Inverted)))
+
 -- A label: what its symbol says, how the symbol is chosen, its picture, whether an input with no
 -- bytes is drawn, whether a text is trimmed, what of the input the label shows, the number of the
--- first line, and whether a line that has no label is left out.
+-- first line, whether a line that has no label is left out, how errors call the input and the
+-- output, and whether a text for a terminal has colors of its own.
 pub record Label : Type 0 where
   pub content : ContentOf
   pub symbol : SymbolOptions
@@ -320,6 +345,9 @@ pub record Label : Type 0 where
   pub portion : Portion
   pub first : ℕ
   pub keeps_going : Bool
+  pub source : List ℕ
+  pub target : List ℕ
+  pub colored : Bool
 
 abbrev pub label_asked : Bool → Values → Result Label Wrong
 label_asked on_terminal values = do
@@ -343,6 +371,9 @@ label_asked on_terminal values = do
     portion = portion;
     first = first;
     keeps_going = keeps_going;
+    source = unwrap_or (file_of values Read) (codes "standard input");
+    target = unwrap_or (file_of values Output) (codes "standard output");
+    colored = colored_asked on_terminal format values;
   })
 
 -- What the words ask for.

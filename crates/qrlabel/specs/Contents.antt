@@ -19,6 +19,7 @@ use Rattle.qrcode_core.specs.declared.types.Color.{Color}
 use Rattle.qrcode_core.specs.declared.types.EcLevel.{EcLevel}
 use Rattle.qrcode_core.specs.declared.types.errors.QrError.{QrError}
 use Rattle.qrcode_core.specs.declared.types.errors.QrError.TheVariants.{DataTooLong, InvalidCharacter}
+use Rattle.qrlabel.specs.Faults.{IsFaultIn, IsWrittenAt, IsFoundAt}
 use Rattle.qrlabel.specs.declared.command.Content.{Content}
 use Rattle.qrlabel.specs.declared.command.Content.TheVariants.{Auto, Text, Bytes, Gs1, Micro, MicroBytes}
 use Rattle.qrlabel.specs.declared.stop.Stop.{Stop}
@@ -101,7 +102,8 @@ pub record IsBracketedSymbol (options : SymbolOptions) (bytes : List ℕ) (grid 
   pub asked : IsAsAsked options (front_of None ElementsFront) elements grid
 
 abbrev pub IsBracketedStop : SymbolOptions → List ℕ → Stop → Type 0
-IsBracketedStop options bytes (Elements error) = IsUtf8 bytes × IsRefusedText bytes error
+IsBracketedStop options bytes (Elements at) =
+    IsUtf8 bytes × IsRefusedText bytes at.error × IsFaultIn (IsWrittenAt bytes at.error) at
 IsBracketedStop options bytes (Fault (Symbol error)) =
     IsNoUtf8 bytes error
     ⊎ ((elements : List ℕ) × FindsOnly elements (written_elements bytes)
@@ -114,7 +116,8 @@ pub record IsStringSymbol (options : SymbolOptions) (bytes : List ℕ) (grid : L
   pub asked : IsAsAsked options (front_of None ElementsFront) bytes grid
 
 abbrev pub IsStringStop : SymbolOptions → List ℕ → Stop → Type 0
-IsStringStop options bytes (Elements error) = IsRefusedString bytes error
+IsStringStop options bytes (Elements at) =
+    IsRefusedString bytes at.error × IsFaultIn (IsFoundAt bytes at.error) at
 IsStringStop options bytes (Fault (Symbol error)) =
     AreFaultless bytes × IsElementsOptionsRefusal options (front_of None ElementsFront) bytes error
 IsStringStop options bytes _ = ⊥

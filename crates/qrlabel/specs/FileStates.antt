@@ -1,11 +1,13 @@
 -- Files by their names.
 use Rattle.std.specs.Prelude.{◌≡◌, ℕ, ⊤, Bool, Option, None, Some, List, ◌++◌}
+use Rattle.std.specs.declared.io.ErrorKind.{ErrorKind}
 
 -- A place for files: the names and the contents of those that were written, in their order, where
--- they are known, and whether writing failed.
+-- they are known, whether writing failed, and why it did.
 pub record FilesState : Type 0 where
   pub files : Option (List (List ℕ × List ℕ))
   pub failed : Bool
+  pub reason : Option ErrorKind
 
 -- These files were written.
 abbrev pub AddsFiles : Option (List (List ℕ × List ℕ)) → Option (List (List ℕ × List ℕ)) →

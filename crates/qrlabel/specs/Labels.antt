@@ -1,15 +1,19 @@
 -- A label: the picture of the symbol of some bytes.
-use Rattle.std.specs.Prelude.{◌≡◌, ◌≢◌, ◌⊎◌, ◌<◌, ◌≤◌, ℕ, false, List, [], length}
+use Rattle.std.specs.Prelude.{◌≡◌, ◌≢◌, ◌⊎◌, ◌<◌, ◌≤◌, ℕ, Bool, true, false, if◌then◌else◌, List, [], length}
 use Rattle.programs.specs.declared.Fault.TheVariants.{Symbol}
+use Rattle.qrcode_base.specs.declared.types.Color.{Color}
 use Rattle.qrcode_core.specs.Drawn.{DrawnSymbol, drawn_grid}
 use Rattle.qrcode_base.specs.declared.symbols.TheConstants.{LONGEST_DATA}
 use Rattle.qrcode_core.specs.declared.types.errors.QrError.TheVariants.{OutOfMemory, DataTooLong}
 use Rattle.qrcode_render.specs.Drawings.{IsPictureOf}
 use Rattle.qrcode_render.specs.declared.draw_options.DrawOptions.{DrawOptions}
+use Rattle.qrlabel.specs.Colors.{in_colors}
 use Rattle.qrlabel.specs.Contents.{IsContent, IsSymbolAs, IsStopAs}
+use Rattle.qrlabel.specs.Rooms.{IsTooLongAs, IsTooLongForAny}
 use Rattle.qrlabel.specs.declared.command.Label.{Label}
 use Rattle.qrlabel.specs.declared.stop.Stop.{Stop}
-use Rattle.qrlabel.specs.declared.stop.Stop.TheVariants.{Fault, Empty}
+use Rattle.qrlabel.specs.declared.stop.Stop.TheVariants.{Fault, Empty, TooLong}
+use Rattle.qrlabel.specs.declared.stop.TooLong.{TooLong as TooLongOf}
 
 -- No bytes are drawn only if the label says so.
 abbrev pub IsLabelData : Label → List ℕ → Type 0
@@ -22,14 +26,30 @@ pub record ShowsLabel (label : Label) (options : DrawOptions) (bytes drawing : L
   pub data_is : IsLabelData label content
   pub symbol : DrawnSymbol
   pub is_symbol : IsSymbolAs label.content label.symbol content symbol.modules
-  pub drawn : IsPictureOf options (drawn_grid symbol) drawing
+  pub picture : List ℕ
+  pub drawn : IsPictureOf options (drawn_grid symbol) picture
+  pub drawing_is : drawing ≡ (if label.colored then in_colors picture else picture)
+
+-- There is a symbol, and memory ran out when it was drawn.
+abbrev pub IsNotDrawn : Label → List ℕ → Stop → Type 0
+IsNotDrawn label content stop =
+    (stop ≡ Fault (Symbol OutOfMemory))
+    × ((grid : List Color) × IsSymbolAs label.content label.symbol content grid)
+
+-- The data are too long for a symbol.
+abbrev pub is_too_long : Stop → Bool
+is_too_long (Fault (Symbol DataTooLong)) = true
+is_too_long _ = false
 
 -- Why there is no label of a content: it is empty, there is no symbol, or memory ran out.
 abbrev pub IsContentStop : Label → List ℕ → Stop → Type 0
 IsContentStop label content Empty = (content ≡ []) × (label.allow_empty ≡ false)
+IsContentStop label content (TooLong long) =
+    IsLabelData label content × IsTooLongAs label content long
+    × IsStopAs label.content label.symbol content (Fault (Symbol DataTooLong))
 IsContentStop label content stop =
-    IsLabelData label content
-    × ((stop ≡ Fault (Symbol OutOfMemory)) ⊎ IsStopAs label.content label.symbol content stop)
+    IsLabelData label content × (is_too_long stop ≡ false)
+    × (IsNotDrawn label content stop ⊎ IsStopAs label.content label.symbol content stop)
 
 -- There is no label of some content of the bytes, for this reason.
 pub record IsRefusedContent (label : Label) (bytes : List ℕ) (stop : Stop) : Type 0 where
@@ -38,7 +58,13 @@ pub record IsRefusedContent (label : Label) (bytes : List ℕ) (stop : Stop) : T
   pub content_is : IsContent label.trims bytes content
   pub stopped : IsContentStop label content stop
 
+-- There are more bytes than any symbol holds.
+pub record IsManyBytes (label : Label) (bytes : List ℕ) (stop : Stop) : Type 0 where
+  pub many : LONGEST_DATA < length bytes
+  pub too_long : TooLongOf
+  pub is_too_long : IsTooLongForAny label too_long
+  pub stop_is : stop ≡ TooLong too_long
+
 -- Why there is no label of the bytes: they are more than 7089, or there is none of their content.
 abbrev pub IsLabelStop : Label → List ℕ → Stop → Type 0
-IsLabelStop label bytes stop =
-    ((LONGEST_DATA < length bytes) × (stop ≡ Fault (Symbol DataTooLong))) ⊎ IsRefusedContent label bytes stop
+IsLabelStop label bytes stop = IsManyBytes label bytes stop ⊎ IsRefusedContent label bytes stop

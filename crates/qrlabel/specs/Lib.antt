@@ -1,8 +1,11 @@
 pub mod Asked
+pub mod Colors
 pub mod Commands
 pub mod Contents
+pub mod Faults
 pub mod FileStates
 pub mod Folders
+pub mod GivenElements
 pub mod Help
 pub mod Labels
 pub mod Lines
@@ -12,6 +15,7 @@ pub mod Names
 pub mod Numbers
 pub mod Placed
 pub mod Reports
+pub mod Rooms
 pub mod Runs
 pub mod Said
 pub mod Settings

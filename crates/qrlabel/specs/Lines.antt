@@ -2,6 +2,7 @@
 use Rattle.std.specs.Prelude.{◌≡◌, ◌≢◌, ◌↔◌, ◌+◌, ℕ, ⊤, Bool, true, false, Option, Result, Ok, Err, is_ok}
 use Rattle.std.specs.Prelude.{List, [], ◌∷◌, ◌++◌, length, take, flat_map, IsTrue, IsErrOf}
 use Rattle.std.specs.List.{list_all}
+use Rattle.std.specs.declared.io.ErrorKind.{ErrorKind}
 use Rattle.gs1.specs.declared.error.Gs1Error.{Gs1Error}
 use Rattle.gs1.specs.declared.error.Gs1Error.TheVariants.{OutOfMemory as NoMemory}
 use Rattle.std.specs.Io.KnownBytes.{Appends, IsAtEnd}
@@ -24,7 +25,7 @@ use Rattle.qrlabel.specs.Stops.{numbered_line}
 abbrev pub Made : Type 0
 Made = Result (List ℕ) Stop
 
--- Whether the line is the reason, and not a device or a lack of memory.
+-- An error other than a lack of memory.
 abbrev pub is_of_symbol : QrError → Bool
 is_of_symbol OutOfMemory = false
 is_of_symbol _ = true
@@ -33,10 +34,11 @@ abbrev pub is_of_elements : Gs1Error → Bool
 is_of_elements NoMemory = false
 is_of_elements _ = true
 
+-- Whether the line is the reason, and not a device or a lack of memory.
 abbrev pub is_of_line : Stop → Bool
 is_of_line (Fault (Symbol error)) = is_of_symbol error
 is_of_line (Fault fault) = false
-is_of_line (Elements error) = is_of_elements error
+is_of_line (Elements at) = is_of_elements at.error
 is_of_line _ = true
 
 -- A line that has no label is left out, if this is asked for.
@@ -52,25 +54,26 @@ GivesLine label options line (Err stop) = IsLeftOut label line stop
 -- One thing comes of each line, and nothing else.
 abbrev pub GiveEach : (List ℕ → Made → Type 0) → List (List ℕ) → List Made → Type 0
 GiveEach gives [] [] = ⊤
-GiveEach gives (line ∷ lines) (made ∷ mades) = gives line made × GiveEach gives lines mades
+GiveEach gives (line ∷ lines) (made ∷ results) = gives line made × GiveEach gives lines results
 GiveEach gives _ _ = ⊥
 
 -- These come of the lines that were read, one of each, in their order.
 pub record AreLabels (label : Label) (options : DrawOptions) (before after : Option (List ℕ))
-    (mades : List Made) : Type 0 where
+    (results : List Made) : Type 0 where
   pub lines : List (List ℕ)
   pub read : ReadsLines before after lines
-  pub shown : GiveEach (GivesLine label options) lines mades
+  pub shown : GiveEach (GivesLine label options) lines results
 
 -- ---- Where labels go
 
 -- What is known of a place for labels: that these, and no others, were written there, and the lines
 -- that were left out reported; that this was so, and the next label was not written, or not whole;
--- and whether writing there failed.
+-- whether writing there failed, and why it did.
 pub record Place : Type 1 where
   pub whole : List Made → Type 0
   pub broken : List Made → List ℕ → Type 0
   pub failed : Bool
+  pub reason : Option ErrorKind
 
 -- One drawing after the other.
 abbrev pub drawing_in : Made → List ℕ
@@ -78,47 +81,48 @@ drawing_in (Ok drawing) = drawing
 drawing_in (Err stop) = []
 
 abbrev pub joined : List Made → List ℕ
-joined mades = flat_map drawing_in mades
+joined results = flat_map drawing_in results
 
 -- A line for each that is left out, with its number; the first line of the input has number n.
 abbrev pub left_out : ℕ → List Made → List ℕ
 left_out n [] = []
-left_out n (Ok drawing ∷ mades) = left_out (n + 1) mades
-left_out n (Err stop ∷ mades) = numbered_line (record { number = n; stop = stop }) ++ left_out (n + 1) mades
+left_out n (Ok drawing ∷ results) = left_out (n + 1) results
+left_out n (Err stop ∷ results) = numbered_line (record { number = n; stop = stop }) ++ left_out (n + 1) results
 
 -- The labels were written one after the other, and flushed. If there are none, nothing was.
-pub record WritesEach (output : Output) (mades : List Made) : Type 0 where
-  pub appends : Appends output.before output.after (joined mades)
-  pub flushed : joined mades ≢ [] → output.flushed ≡ output.after
+pub record WritesEach (output : Output) (results : List Made) : Type 0 where
+  pub appends : Appends output.before output.after (joined results)
+  pub flushed : joined results ≢ [] → output.flushed ≡ output.after
 
 -- The labels were written, and a beginning of the next.
-pub record WritesSome (output : Output) (mades : List Made) (next : List ℕ) : Type 0 where
+pub record WritesSome (output : Output) (results : List Made) (next : List ℕ) : Type 0 where
   pub count : ℕ
-  pub appends : Appends output.before output.after (joined mades ++ take count next)
+  pub appends : Appends output.before output.after (joined results ++ take count next)
 
 -- One output for all labels.
 abbrev pub stream : Output → ℕ → Output → Place
 stream output first errors = record {
-  whole = λ mades. WritesEach output mades × Writes errors (left_out first mades);
-  broken = λ mades next. WritesSome output mades next × Writes errors (left_out first mades);
+  whole = λ results. WritesEach output results × Writes errors (left_out first results);
+  broken = λ results next. WritesSome output results next × Writes errors (left_out first results);
   failed = output.failed;
+  reason = output.reason;
 }
 
 -- ---- What is drawn of an input
 
 -- Whether there is a label of each line.
 abbrev pub all_drawn : List Made → Bool
-all_drawn mades = list_all is_ok mades
+all_drawn results = list_all is_ok results
 
 -- The labels of the lines before the line of this number were written, of each if `every` is true.
 -- `left` is what was left to read after these lines.
 pub record DrawsBefore (label : Label) (options : DrawOptions) (every : Bool) (number : ℕ)
     (before left : Option (List ℕ)) (place : Place) : Type 0 where
-  pub mades : List Made
-  pub labels : AreLabels label options before left mades
-  pub counted : number ≡ length mades + label.first
-  pub every_is : every ≡ all_drawn mades
-  pub written : place.whole mades
+  pub results : List Made
+  pub labels : AreLabels label options before left results
+  pub counted : number ≡ length results + label.first
+  pub every_is : every ≡ all_drawn results
+  pub written : place.whole results
 
 -- The labels of all lines were written.
 pub record DrawsLines (label : Label) (options : DrawOptions) (every : Bool) (input : Input)
@@ -140,11 +144,11 @@ pub record StopsAtLine (label : Label) (options : DrawOptions) (number : ℕ)
 -- as a whole.
 pub record BreaksAt (label : Label) (options : DrawOptions) (number : ℕ) (input : Input)
     (place : Place) : Type 0 where
-  pub mades : List Made
+  pub results : List Made
   pub next : List ℕ
-  pub labels : AreLabels label options input.before input.after (mades ++ Ok next ∷ [])
-  pub counted : number ≡ length mades + label.first
-  pub broken : place.broken mades next
+  pub labels : AreLabels label options input.before input.after (results ++ Ok next ∷ [])
+  pub counted : number ≡ length results + label.first
+  pub broken : place.broken results next
 
 -- The line that was read has no label, for this reason.
 pub record StopsLine (label : Label) (stop : Stop) (before after : Option (List ℕ)) : Type 0 where

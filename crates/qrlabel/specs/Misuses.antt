@@ -6,6 +6,7 @@ use Rattle.qrlabel.specs.declared.words.Name.TheVariants.{MinVersion, MaxVersion
 use Rattle.qrlabel.specs.declared.words.Name.TheVariants.{ModuleMm, Dpi, Inverted, Title, At, Read}
 use Rattle.qrlabel.specs.declared.words.Name.TheVariants.{Output, AllowEmpty, Help, Version, Lines}
 use Rattle.qrlabel.specs.declared.words.Name.TheVariants.{First, KeepGoing, KeepNewline}
+use Rattle.qrlabel.specs.declared.words.Name.TheVariants.{Copies, Compressed, Feed, Cut}
 use Rattle.qrlabel.specs.Words.{Wrong, unknown, no_value, second_text, invalid}
 use Rattle.qrlabel.specs.Words.{needs_stream, needs_file}
 
@@ -34,6 +35,10 @@ option_word Lines = codes "--lines"
 option_word First = codes "--first"
 option_word KeepGoing = codes "--keep-going"
 option_word KeepNewline = codes "--keep-newline"
+option_word Copies = codes "--copies"
+option_word Compressed = codes "--compressed"
+option_word Feed = codes "--feed"
+option_word Cut = codes "--cut"
 
 -- What the size of a module can be.
 abbrev pub module_text : List ℕ
@@ -67,6 +72,10 @@ values_text Output = output_text
 values_text Lines = codes "not with a text"
 values_text First = codes "0 to 1000000000, with --lines"
 values_text KeepGoing = codes "with --lines"
+values_text Copies = codes "1 to 99999999, for zpl"
+values_text Compressed = codes "for zpl"
+values_text Feed = codes "0 to 255, for escpos"
+values_text Cut = codes "for escpos"
 values_text _ = []
 
 -- Where help is, on a line of its own.

@@ -1,10 +1,11 @@
 -- What the program reads and writes, and its exit status.
 use Rattle.std.specs.Prelude.{◌≡◌, ◌≢◌, ◌⊎◌, ◌+◌, ◌↔◌, ℕ, Bool, List, [], Result, Ok, Err, None, Some}
-use Rattle.std.specs.Prelude.{IsTrue, IsErrOf, is_err, codes, if◌then◌else◌}
+use Rattle.std.specs.Prelude.{IsTrue, IsFalse, IsErrOf, Option, codes, if◌then◌else◌}
+use Rattle.std.specs.declared.io.ErrorKind.{ErrorKind}
 use Rattle.std.specs.Io.KnownBytes.{Keeps}
 use Rattle.programs.specs.Devices.{Input, Output, Writes, ReadsEnough, ReadsWithin}
-use Rattle.programs.specs.Outcome.{WritesDrawing, BeginsDrawing, exit_status, report}
-use Rattle.programs.specs.declared.Fault.{Fault as FaultOf}
+use Rattle.programs.specs.Outcome.{WritesDrawing, BeginsDrawing}
+use Rattle.programs.specs.Reasons.{device_report, device_status}
 use Rattle.programs.specs.declared.Fault.TheVariants.{Symbol, Read, Write}
 use Rattle.qrcode_base.specs.declared.symbols.TheConstants.{LONGEST_DATA}
 use Rattle.qrcode_core.specs.declared.types.errors.QrError.TheVariants.{OutOfMemory}
@@ -18,10 +19,10 @@ use Rattle.qrlabel.specs.Help.{help_text, version_line}
 use Rattle.qrlabel.specs.Labels.{ShowsLabel, IsLabelStop}
 use Rattle.qrlabel.specs.Lines.{IsLinesOutcome, Place, stream}
 use Rattle.qrlabel.specs.Misuses.{wrong_line}
-use Rattle.qrlabel.specs.Names.{Numbering}
+use Rattle.qrlabel.specs.Names.{Numbering, numbered}
 use Rattle.qrlabel.specs.Placed.{numbering_of}
 use Rattle.qrlabel.specs.Settings.{setting_option}
-use Rattle.qrlabel.specs.Stops.{stop_line, numbered_line}
+use Rattle.qrlabel.specs.Stops.{Devices, stop_report, end_report, stop_status}
 use Rattle.qrlabel.specs.Words.{Wrong, invalid}
 use Rattle.qrlabel.specs.declared.command.Label.{Label}
 use Rattle.qrlabel.specs.declared.run.TheConstants.{LEFT_OUT}
@@ -57,14 +58,23 @@ pub record IsLabelOutcome (label : Label) (options : DrawOptions) (input : Input
   pub read : IsErrOf outcome (Fault Read) ↔ IsTrue input.failed
   pub write : IsErrOf outcome (Fault Write) ↔ IsTrue output.failed
 
--- The exit status, and what is written on standard error.
-abbrev pub label_status : Result (Unit {0}) Stop → ℕ
-label_status (Ok done) = 0
-label_status (Err stop) = 1
+-- The devices of a label, and why they failed, if they did. The output has this name.
+abbrev pub devices_in : Label → Input → List ℕ → Option ErrorKind → Devices
+devices_in label input target not_written = record {
+  source = label.source.now;
+  not_read = input.reason;
+  target = target;
+  not_written = not_written;
+}
 
-abbrev pub reported : Result (Unit {0}) Stop → List ℕ
-reported (Ok done) = []
-reported (Err stop) = stop_line (codes "qrlabel") stop
+-- The exit status, and what is written on standard error.
+abbrev pub label_status : Devices → Result (Unit {0}) Stop → ℕ
+label_status devices (Ok done) = 0
+label_status devices (Err stop) = stop_status devices stop
+
+abbrev pub reported : Devices → Result (Unit {0}) Stop → List ℕ
+reported devices (Ok done) = []
+reported devices (Err stop) = stop_report (codes "qrlabel") devices stop
 
 -- The label was drawn, and the status and the line on standard error are those of the outcome. At
 -- most one byte more was read than the longest data has.
@@ -73,19 +83,24 @@ pub record ServesLabel (label : Label) (options : DrawOptions) (input : Input) (
   pub outcome : Result (Unit {0}) Stop
   pub is_outcome : IsLabelOutcome label options input output outcome
   pub within : ReadsWithin (LONGEST_DATA + 1) input
-  pub status_is : status ≡ label_status outcome
-  pub reports : Writes errors (reported outcome)
+  pub status_is : status ≡ label_status (devices_in label input label.target.now output.reason) outcome
+  pub reports : Writes errors (reported (devices_in label input label.target.now output.reason) outcome)
 
 -- ---- Lines
 
 -- The exit status, and what is written on standard error.
-abbrev pub lines_status : Result Bool LineStop → ℕ
-lines_status (Ok every) = if every then 0 else LEFT_OUT
-lines_status (Err at) = 1
+abbrev pub lines_status : Devices → Result Bool LineStop → ℕ
+lines_status devices (Ok every) = if every then 0 else LEFT_OUT
+lines_status devices (Err at) = stop_status devices at.stop
 
-abbrev pub lines_reported : Result Bool LineStop → List ℕ
-lines_reported (Ok every) = []
-lines_reported (Err at) = numbered_line at
+abbrev pub lines_reported : Devices → Result Bool LineStop → List ℕ
+lines_reported devices (Ok every) = []
+lines_reported devices (Err at) = end_report devices at
+
+-- The number of the line at which the labels end, if they do.
+abbrev pub last_number : Result Bool LineStop → ℕ
+last_number (Ok every) = 0
+last_number (Err at) = at.number
 
 -- What was written after this.
 abbrev pub later : Output → Output → Output
@@ -97,17 +112,23 @@ later first all = record {
   reason = all.reason;
 }
 
+-- The devices of the labels of lines. The label of a line is written to the output of this name.
+abbrev pub devices_at : Label → Input → Place → (ℕ → List ℕ) → Result Bool LineStop → Devices
+devices_at label input place target outcome =
+    devices_in label input (target (last_number outcome)) place.reason
+
 -- The labels of the lines were drawn, and the status and the last line on standard error are those
 -- of the outcome. Before this line come those of the lines that were left out.
 pub record ServesLines (label : Label) (options : DrawOptions) (input : Input) (place : Output → Place)
-    (errors : Output) (status : ℕ) : Type 0 where
+    (target : ℕ → List ℕ) (errors : Output) (status : ℕ) : Type 0 where
   pub outcome : Result Bool LineStop
   pub said : Output
   pub begins : said.before ≡ errors.before
   pub sound : IsTrue said.failed → IsTrue errors.failed
   pub is_outcome : IsLinesOutcome label options input (place said) outcome
-  pub status_is : status ≡ lines_status outcome
-  pub reports : Writes (later said errors) (lines_reported outcome)
+  pub status_is : status ≡ lines_status (devices_at label input (place said) target outcome) outcome
+  pub reports :
+      Writes (later said errors) (lines_reported (devices_at label input (place said) target outcome) outcome)
 
 -- ---- The whole program
 
@@ -117,14 +138,18 @@ pub record Misused (wrong : Wrong) (kept : Type 0) (errors : Output) (status : �
   pub untouched : kept
   pub reports : Writes errors (wrong_line wrong)
 
+-- What is written on standard error of the output.
+abbrev pub output_report : Output → List ℕ
+output_report output =
+    if output.failed then device_report (codes "qrlabel") (codes "write") (codes "standard output") output.reason
+    else []
+
 -- A text was written and flushed, or writing failed.
 pub record Shows (text : List ℕ) (output errors : Output) (status : ℕ) : Type 0 where
-  pub outcome : Result (Unit {0}) FaultOf
   pub writes : Writes output text
-  pub flushed : status ≡ 0 → output.flushed ≡ output.after
-  pub failure : output.failed ≡ is_err outcome
-  pub status_is : status ≡ exit_status outcome
-  pub reports : Writes errors (report (codes "qrlabel") outcome)
+  pub flushed : IsFalse output.failed → output.flushed ≡ output.after
+  pub status_is : status ≡ (if output.failed then device_status output.reason else 0)
+  pub reports : Writes errors (output_report output)
 
 -- The files of labels, by the number of the first line, the name, and what is said of lines that
 -- are left out.
@@ -136,9 +161,10 @@ abbrev pub ServesPortion : Portion → Label → DrawOptions → Input → Outpu
 ServesPortion Whole label options input output files errors status =
     ServesLabel label options input output errors status
 ServesPortion Lines label options input output files errors status =
-    ServesLines label options input (stream output label.first) errors status
+    ServesLines label options input (stream output label.first) (λ number. label.target.now) errors status
 ServesPortion (Files name) label options input output files errors status =
-    ServesLines label options input (files label.first (numbering_of name)) errors status
+    ServesLines label options input (files label.first (numbering_of name)) (numbered (numbering_of name)) errors
+    status
 
 -- The label was drawn with the options that its settings ask for.
 pub record DrawsAsAsked (label : Label) (input : Input) (output : Output) (files : Places)

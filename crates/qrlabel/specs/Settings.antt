@@ -6,9 +6,12 @@ use Rattle.qrcode_render.specs.declared.settings.Setting.TheVariants.{ModuleMm a
 use Rattle.qrcode_render.specs.declared.settings.Setting.TheVariants.{Dpi as DpiOf}
 use Rattle.qrcode_render.specs.declared.settings.Setting.TheVariants.{Inverted as InvertedOf}
 use Rattle.qrcode_render.specs.declared.settings.Setting.TheVariants.{Title as TitleOf, At as AtOf}
+use Rattle.qrcode_render.specs.declared.settings.Setting.TheVariants.{Copies as CopiesOf}
+use Rattle.qrcode_render.specs.declared.settings.Setting.TheVariants.{Compressed as CompressedOf}
+use Rattle.qrcode_render.specs.declared.settings.Setting.TheVariants.{Feed as FeedOf, Cut as CutOf}
 use Rattle.qrlabel.specs.declared.words.Name.{Name}
 use Rattle.qrlabel.specs.declared.words.Name.TheVariants.{Scale, Quiet, ModuleMm, Dpi, Inverted}
-use Rattle.qrlabel.specs.declared.words.Name.TheVariants.{Title, At}
+use Rattle.qrlabel.specs.declared.words.Name.TheVariants.{Title, At, Copies, Compressed, Feed, Cut}
 
 -- The option that gives a setting.
 abbrev pub setting_option : Setting → Name
@@ -19,3 +22,7 @@ setting_option DpiOf = Dpi
 setting_option InvertedOf = Inverted
 setting_option TitleOf = Title
 setting_option AtOf = At
+setting_option CopiesOf = Copies
+setting_option CompressedOf = Compressed
+setting_option FeedOf = Feed
+setting_option CutOf = Cut

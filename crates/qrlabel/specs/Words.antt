@@ -4,12 +4,14 @@ use Rattle.std.specs.Prelude.{List, [], ◌∷◌, length, take, drop, slice_ind
 use Rattle.std.specs.Prelude.{Option, None, Some, is_some, option_and_then, Result, Ok, Err}
 use Rattle.std.specs.Str.{bytes_eq}
 use Rattle.qrlabel.specs.Numbers.{halves}
+use Rattle.qrlabel.specs.declared.words.TheConstants.{COUNT}
 use Rattle.qrlabel.specs.declared.words.Name.{Name}
 use Rattle.qrlabel.specs.declared.words.Name.TheVariants.{Text, Format, Content, Level, Strongest}
 use Rattle.qrlabel.specs.declared.words.Name.TheVariants.{MinVersion, MaxVersion, Scale, Quiet}
 use Rattle.qrlabel.specs.declared.words.Name.TheVariants.{ModuleMm, Dpi, Inverted, Title, At, Read}
 use Rattle.qrlabel.specs.declared.words.Name.TheVariants.{Output, AllowEmpty, Help, Version, Lines}
 use Rattle.qrlabel.specs.declared.words.Name.TheVariants.{First, KeepGoing, KeepNewline}
+use Rattle.qrlabel.specs.declared.words.Name.TheVariants.{Copies, Compressed, Feed, Cut}
 
 -- What a table has for a word.
 abbrev pub among : {A : Type 0} → List (List ℕ × A) → List ℕ → Option A
@@ -39,6 +41,10 @@ names =
     ∷ (codes "--first", First)
     ∷ (codes "-k", KeepGoing) ∷ (codes "--keep-going", KeepGoing)
     ∷ (codes "--keep-newline", KeepNewline)
+    ∷ (codes "--copies", Copies)
+    ∷ (codes "--compressed", Compressed)
+    ∷ (codes "--feed", Feed)
+    ∷ (codes "--cut", Cut)
     ∷ (codes "--allow-empty", AllowEmpty)
     ∷ (codes "-h", Help) ∷ (codes "--help", Help)
     ∷ (codes "-V", Version) ∷ (codes "--version", Version)
@@ -74,6 +80,10 @@ option_number Lines = 19
 option_number First = 20
 option_number KeepGoing = 21
 option_number KeepNewline = 22
+option_number Copies = 23
+option_number Compressed = 24
+option_number Feed = 25
+option_number Cut = 26
 
 -- Whether the next word is the value of the option.
 abbrev pub takes_value : Name → Bool
@@ -83,6 +93,8 @@ takes_value Lines = false
 takes_value AllowEmpty = false
 takes_value KeepGoing = false
 takes_value KeepNewline = false
+takes_value Compressed = false
+takes_value Cut = false
 takes_value Help = false
 takes_value Version = false
 takes_value _ = true
@@ -224,4 +236,4 @@ words_ended (Err wrong) = Err wrong
 
 -- What words say.
 unfoldable pub values_in : List (List ℕ) → Result Values Wrong
-values_in words = words_ended (read_words (ready (replicate 23 None)) words)
+values_in words = words_ended (read_words (ready (replicate COUNT None)) words)

@@ -2,7 +2,7 @@
 //!
 //! 1. Read each option by its value (`level_of`, `content_of`, `format_of`, ..).
 //! 2. Put them together (`label_of`, `command_of`).
-ghost use Rattle.std.specs.Prelude.{◌≡◌, option_map};
+ghost use Rattle.std.specs.Prelude.{◌≡◌, option_map, unwrap_or};
 ghost use Rattle.qrlabel.specs.Said.{said};
 ghost use Rattle.qrlabel.specs.Commands.{found_or};
 ghost use Rattle.qrlabel.specs.Commands.{level_asked, content_asked, format_asked, version_asked};
@@ -10,7 +10,8 @@ ghost use Rattle.qrlabel.specs.Commands.{symbol_asked, micro_asked, is_micro, is
 ghost use Rattle.qrlabel.specs.Commands.{first_asked, keeps_going_asked, trims_asked};
 ghost use Rattle.qrlabel.specs.Commands.{has_percent, is_text, terminal_asked};
 ghost use Rattle.qrlabel.specs.Commands.{is_stream, numbered_output, portion_asked};
-ghost use Rattle.qrlabel.specs.Commands.{label_asked, command_asked};
+ghost use Rattle.qrlabel.specs.Commands.{colored_asked, label_asked, command_asked};
+ghost use Rattle.qrlabel.specs.Words.{file_of};
 ghost use Rattle.qrlabel.specs.Asked.{outcome, portion_outcome, label_outcome, command_outcome};
 ghost use Rattle.qrlabel.specs.Placed.{numbering_of};
 
@@ -67,10 +68,16 @@ pub struct Label<'a> {
     pub first: usize,
     /// Whether a line that has no label is left out.
     pub keeps_going: bool,
+    /// How errors call the input.
+    pub source: &'a str,
+    /// How errors call the output, if it is one for all labels.
+    pub target: &'a str,
+    /// Whether a text for a terminal has colors of its own.
+    pub colored: bool,
 }
 
 /// The greatest number of a first line.
-const MAX_FIRST: usize = 1_000_000_000;
+pub const MAX_FIRST: usize = 1_000_000_000;
 
 /// What the words ask for.
 #[derive(Clone, Copy, Debug, PartialEq, Eq)]
@@ -300,6 +307,27 @@ fn trims_of<'a>(values: &Values<'a>, content: Content) -> bool
     is_trimmed(content) && !values.has(Name::Text) && !values.has(Name::KeepNewline)
 }
 
+/// Whether a text is drawn in colors of its own: on a terminal, unless it is to be inverted, or the
+/// words name the output.
+fn colored_of<'a>(values: &Values<'a>, on_terminal: bool, format: Format) -> bool
+    ensures { result ≡ colored_asked on_terminal format (said values.now) }
+{
+    on_terminal
+        && format == Format::Terminal
+        && !values.has(Name::Output)
+        && !values.has(Name::Inverted)
+}
+
+/// Returns how errors call the file that an option gives, or the device in its place.
+fn device_name<'a>(values: &Values<'a>, name: Name, device: &'a str) -> &'a str
+    ensures { result.now ≡ unwrap_or (file_of (said values.now) name) device.now }
+{
+    match values.file(name) {
+        Some(path) => path,
+        None => device,
+    }
+}
+
 /// Returns the label.
 fn label_of<'a>(values: &Values<'a>, on_terminal: bool) -> Result<Label<'a>, Misuse<'a>>
     ensures { label_outcome result ≡ label_asked on_terminal (said values.now) }
@@ -323,6 +351,9 @@ fn label_of<'a>(values: &Values<'a>, on_terminal: bool) -> Result<Label<'a>, Mis
         portion,
         first,
         keeps_going,
+        source: device_name(values, Name::Read, "standard input"),
+        target: device_name(values, Name::Output, "standard output"),
+        colored: colored_of(values, on_terminal, format),
     })
 }
 

@@ -10,6 +10,7 @@ ghost use Rattle.qrlabel.specs.Contents.{IsMicroText, IsMicroTextStop, IsStringS
 ghost use Rattle.std.specs.Io.BufRead.{strip_last};
 
 use crate::command::Content;
+use crate::element::{read_stop, written_stop};
 use crate::stop::Stop;
 use gs1::{check_element_string, element_string};
 use qrcode_base::symbols::LONGEST_DATA;
@@ -45,7 +46,7 @@ pub fn content_symbol(
 }
 
 /// Whether all bytes are ASCII.
-fn is_ascii(bytes: &[u8]) -> bool
+pub fn is_ascii(bytes: &[u8]) -> bool
     ensures { result ≡ is_ascii bytes.now }
 {
     bytes.iter().all(|byte| *byte < 128)
@@ -53,7 +54,7 @@ fn is_ascii(bytes: &[u8]) -> bool
 
 /// Returns the bytes as a text. It fails with `InvalidCharacter` at the first byte that is not
 /// UTF-8.
-fn utf8_of(bytes: &[u8]) -> QrResult<&str>
+pub fn utf8_of(bytes: &[u8]) -> QrResult<&str>
     ensures text { IfOk result (λ text. text.now ≡ bytes.now) }
     ensures utf8 { OnOk result (IsUtf8 bytes.now) }
     ensures refused { IfErr result (IsNoUtf8 bytes.now) }
@@ -174,7 +175,7 @@ fn string_symbol(alloc: Global, options: &SymbolOptions, bytes: &[u8]) -> Result
 {
     match check_element_string(bytes) {
         Ok(()) => Ok(Symbol::elements_with(alloc, bytes, options)?),
-        Err(error) => Err(Stop::Elements(error)),
+        Err(error) => Err(Stop::Elements(read_stop(error, bytes))),
     }
 }
 
@@ -188,6 +189,6 @@ fn bracketed_symbol(alloc: Global, options: &SymbolOptions, bytes: &[u8]) -> Res
     let text = utf8_of(bytes)?;
     match element_string(alloc, text) {
         Ok(elements) => Ok(Symbol::elements_with(alloc, &elements, options)?),
-        Err(error) => Err(Stop::Elements(error)),
+        Err(error) => Err(Stop::Elements(written_stop(error, bytes))),
     }
 }

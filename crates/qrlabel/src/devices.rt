@@ -135,8 +135,8 @@ fn run_from<R: Source, W: Sink, E: Sink>(
     )
 }
 
-/// Draws into a file, which has the label when it is whole. What is not a regular file is written as
-/// it is.
+/// Draws into a file, which has the label when it is whole. What is not a regular file is written
+/// as it is.
 fn into_file<E: Sink>(rt: &HostRuntime, values: &Values, path: &str, errors: &mut E) -> u8
     requires { IsFalse (E.state errors.old).failed }
 {

@@ -45,6 +45,10 @@ Picture:
       --inverted        for light text on a dark screen (terminal)
       --title TITLE     title of the picture (svg)
       --at X,Y          position on the label in dots, 0 to 18000 (zpl)
+      --copies N        how often the printer prints it, 1 to 99999999 (zpl)
+      --compressed      write it in compressed fields (zpl)
+      --feed N          lines of paper to feed after it, 0 to 255 (escpos)
+      --cut             cut the paper after it (escpos)
 
   -h, --help            show this text
   -V, --version         show the version

@@ -55,7 +55,12 @@ fn stops_at_a_line(rt: HostRuntime) -> Result<(), QrError> {
         ),
         (b"\r\na\n", 2, 0, "line 1: empty input, see --allow-empty"),
         (b"a\nb", 0, 2, ""),
-        (&long, 9, 2, "line 3: data too long to encode"),
+        (
+            &long,
+            9,
+            2,
+            "line 3: data too long: more than 7089 bytes, which no symbol holds",
+        ),
     ];
     for (input, unread, labels, line) in rows {
         let answer = ran(rt.alloc(), &EACH, input);
@@ -106,7 +111,8 @@ fn begins_labels(rt: HostRuntime) {
         Err(_) => 2,
     };
     assert_eq!(rt; status, 1);
-    assert!(rt; said.as_slice() == b"qrlabel: line 3: write failed\n".as_slice());
+    let line = "qrlabel: line 3: cannot write standard output: input or output error\n";
+    assert_eq!(rt; said.as_slice(), line.as_bytes());
     assert!(rt; whole.label.starts_with(&room));
 }
 
@@ -149,12 +155,14 @@ fn names_files(rt: HostRuntime) -> Result<(), QrError> {
     Ok(())
 }
 
-/// Where a file can't be written, those before it are there, and the error has the number.
+/// Where a file can't be written, those before it are there, and the error has the number, the name
+/// and the reason.
 #[test]
 fn stops_at_a_file(rt: HostRuntime) {
     let answer = ran(rt.alloc(), &["--lines", "-o", "%d.png"], b"a\nb\nc\nd\n");
     assert_eq!(rt; answer.status, 1);
-    assert!(rt; answer.said.as_slice() == b"qrlabel: line 4: write failed\n".as_slice());
+    let line = "qrlabel: line 4: cannot write 4.png: no space left on device\n";
+    assert_eq!(rt; answer.said.as_slice(), line.as_bytes());
     assert!(rt; answer.files.names.as_str() == "1.png\n2.png\n3.png\n");
 }
 
@@ -169,8 +177,10 @@ fn leaves_lines_out(rt: HostRuntime) -> Result<(), QrError> {
     let words = ["--lines", "-k", "--first", "7", "-f", "pbm", "-s", "1"];
     let answer = ran(rt.alloc(), &words, &input);
     let drawn = ran(rt.alloc(), &EACH, b"a\nb\nhello\n");
-    let said =
-        "qrlabel: line 8: empty input, see --allow-empty\nqrlabel: line 10: data too long to encode\n";
+    let said = "\
+qrlabel: line 8: empty input, see --allow-empty
+qrlabel: line 10: data too long: more than 7089 bytes, which no symbol holds
+";
     assert_eq!(rt; answer.status, LEFT_OUT);
     assert_eq!(rt; answer.unread, 0);
     assert_eq!(rt; answer.said.as_slice(), said.as_bytes());
@@ -202,6 +212,7 @@ fn stops_at_a_file_that_fails(rt: HostRuntime) {
     let words = ["--lines", "-k", "-o", "%d.png"];
     let answer = ran(rt.alloc(), &words, b"a\nb\nc\nd\ne\n");
     assert_eq!(rt; answer.status, 1);
-    assert!(rt; answer.said.as_slice() == b"qrlabel: line 4: write failed\n".as_slice());
+    let line = "qrlabel: line 4: cannot write 4.png: no space left on device\n";
+    assert_eq!(rt; answer.said.as_slice(), line.as_bytes());
     assert!(rt; answer.files.names.as_str() == "1.png\n2.png\n3.png\n");
 }

@@ -31,8 +31,8 @@ fn is_of_line(stop: Stop) -> bool
     match stop {
         Stop::Fault(Fault::Symbol(error)) => error != QrError::OutOfMemory,
         Stop::Fault(Fault::Read | Fault::Write) => false,
-        Stop::Elements(error) => error != Gs1Error::OutOfMemory,
-        Stop::Empty | Stop::NotAscii => true,
+        Stop::Elements(at) => at.error != Gs1Error::OutOfMemory,
+        Stop::Empty | Stop::NotAscii | Stop::TooLong(_) => true,
     }
 }
 
@@ -70,8 +70,8 @@ pub fn next_made<R: Source>(
     }
 }
 
-/// Writes the label of the line of this number, and flushes, or reports why the line is left out. It
-/// returns whether there is a label, and fails if the writer failed.
+/// Writes the label of the line of this number, and flushes, or reports why the line is left out.
+/// It returns whether there is a label, and fails if the writer failed.
 fn write_made<W: Sink, E: Sink>(
     made: Made,
     number: usize,

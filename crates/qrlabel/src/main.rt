@@ -3,15 +3,17 @@
 //! 1. Read the words (`words`), and find out what they ask for (`command`, `choices`, `settings`,
 //!    `numbers`).
 //! 2. Open the devices that they name (`devices`).
-//! 3. Make the symbol of the input (`content`) or of each of its lines (`lines`), and write its
-//!    picture (`label`, `run`), by the crate `qrcode_render`.
-//! 4. Say what went wrong, if something did (`misuse`, `report`).
+//! 3. Make the symbol of the input (`content`, `element`) or of each of its lines (`lines`), and
+//!    write its picture (`label`, `colors`, `run`), by the crate `qrcode_render`.
+//! 4. Say what went wrong, if something did (`misuse`, `report`, `room`).
 #![tactic(auto)]
 
 mod choices;
+mod colors;
 mod command;
 mod content;
 mod devices;
+mod element;
 mod files;
 mod folder;
 mod help;
@@ -24,6 +26,7 @@ mod names;
 mod numbers;
 mod progress;
 mod report;
+mod room;
 mod run;
 mod settings;
 mod stop;

@@ -84,6 +84,10 @@ fn option_word(name: Name) -> &'static str
         Name::First => "--first",
         Name::KeepGoing => "--keep-going",
         Name::KeepNewline => "--keep-newline",
+        Name::Copies => "--copies",
+        Name::Compressed => "--compressed",
+        Name::Feed => "--feed",
+        Name::Cut => "--cut",
     }
 }
 
@@ -110,6 +114,10 @@ fn values_text(name: Name) -> &'static str
         Name::Lines => "not with a text",
         Name::First => "0 to 1000000000, with --lines",
         Name::KeepGoing => "with --lines",
+        Name::Copies => "1 to 99999999, for zpl",
+        Name::Compressed => "for zpl",
+        Name::Feed => "0 to 255, for escpos",
+        Name::Cut => "for escpos",
         Name::Text | Name::AllowEmpty | Name::KeepNewline => "",
         Name::Help | Name::Version => "",
     }

@@ -1,12 +1,12 @@
 //! Names of files with a number in them.
-ghost use Rattle.std.specs.Prelude.{◌≡◌, ◌++◌, replicate, IfOk, OnOk};
+ghost use Rattle.std.specs.Prelude.{◌≡◌, ◌++◌, replicate, OnOk};
 ghost use Rattle.std.specs.Option.{option_map};
 ghost use Rattle.std.specs.String.{string_bytes};
 ghost use Rattle.qrlabel.specs.Names.{width_in, numbering_in, numbered};
 ghost use Rattle.qrlabel.specs.Placed.{numbering_of};
 
 use itoa::Buffer;
-use std::alloc::{AllocError, Global};
+use std::alloc::AllocError;
 
 /// A name with the place of a number.
 #[derive(Clone, Copy, Debug, PartialEq, Eq)]
@@ -58,16 +58,16 @@ fn push_zeros(text: &mut String, count: usize) -> Result<(), AllocError>
     Ok(())
 }
 
-/// Returns the name with this number, before whose digits are zeros where they are too few.
-pub fn numbered(alloc: Global, name: &Numbering, number: usize) -> Result<String, AllocError>
-    ensures { IfOk result (λ text. string_bytes text ≡ numbered (numbering_of name.now) number) }
+/// Makes a text the name with this number, before whose digits are zeros where they are too few. It
+/// fails only for lack of memory.
+pub fn write_numbered(text: &mut String, name: &Numbering, number: usize) -> Result<(), AllocError>
+    ensures { OnOk result (string_bytes text.new ≡ numbered (numbering_of name.now) number) }
 {
     let mut buffer = Buffer::new();
     let digits = buffer.format(number);
-    let mut text = String::new(alloc);
+    text.clear();
     text.push_str(name.before)?;
-    push_zeros(&mut text, name.width.saturating_sub(digits.len()))?;
+    push_zeros(text, name.width.saturating_sub(digits.len()))?;
     text.push_str(digits)?;
-    text.push_str(name.after)?;
-    Ok(text)
+    text.push_str(name.after)
 }

@@ -74,9 +74,15 @@ impl<W: Sink, E: Sink> Sink for Counting<W, E> {
 impl<F: Files, E: Sink> Files for Counting<F, E> {
     ghost state = { λ s. F.state s.labels };
 
+    ghost reason_of_failure = { λ s. F.reason_of_failure s.labels };
+
     fn put(&mut self, name: &str, content: &[u8]) -> bool {
         let is_put = self.labels.put(name, content);
         self.count_one();
         is_put
+    }
+
+    fn reason(&self) -> Option<ErrorKind> {
+        self.labels.reason()
     }
 }

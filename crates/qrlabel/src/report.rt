@@ -1,47 +1,153 @@
 //! Why there is no label, as a line on standard error.
 ghost use Rattle.std.specs.Prelude.{◌≡◌, IsTrue, IsFalse};
 ghost use Rattle.programs.specs.Devices.{output, Writes};
-ghost use Rattle.qrlabel.specs.Stops.{element_number, element_text, stop_line, element_line};
-ghost use Rattle.qrlabel.specs.Stops.{numbered_line};
+ghost use Rattle.qrlabel.specs.Placed.{devices_of};
+ghost use Rattle.qrlabel.specs.Stops.{digit_text, element_text, stop_line, element_line};
+ghost use Rattle.qrlabel.specs.Stops.{numbered_line, is_silent, stop_status, stop_report};
+ghost use Rattle.qrlabel.specs.Stops.{is_silent_fault, fault_status, fault_report};
+ghost use Rattle.qrlabel.specs.Stops.{end_report, long_line, room_line, unless_zero, level_piece};
+ghost use Rattle.qrlabel.specs.Stops.{version_number, fits_piece};
 
-use crate::stop::{LineStop, Stop};
+use crate::element::element_number;
+use crate::stop::{Devices, ElementStop, LineStop, Stop, TooLong};
 use gs1::Gs1Error;
 use itoa::Buffer;
-use programs::{Fault, Sink, report, write_all, write_line};
+use programs::{
+    CLOSED_PIPE, Fault, Sink, is_closed_pipe, report, report_device, write_all, write_line,
+};
+use qrcode_base::symbols::LONGEST_DATA;
+use qrcode_core::types::{EcLevel, Version};
 
 /// Text in a Micro symbol.
 const NOT_ASCII: &str = "a Micro symbol has no text beyond ASCII, see -c micro-bytes";
 
-/// Writes why there is no label, as one line after a name, and returns the status 1.
+/// More bytes than any symbol holds.
+const TOO_MANY: &str = "data too long: more than 7089 bytes, which no symbol holds";
+
+/// What the check digit should be comes after it.
+const WOULD_BE: &str = "; the check digit would be ";
+
+/// Writes why there is no label, as one line after a name.
 #[tactic(auto, unfolding(crate::specs::Stops::stop_line))]
-pub fn report_stop<E: Sink>(errors: &mut E, name: &str, stop: Stop) -> u8
-    requires sound { IsFalse (E.state errors.old).failed }
-    ensures status { result ≡ 1 }
-    ensures reported { Writes (output (E.state errors.old) (E.state errors.new))
-        (stop_line name.now stop) }
+fn write_stop<E: Sink>(errors: &mut E, name: &str, stop: Stop)
+    requires { IsFalse (E.state errors.old).failed }
+    ensures { Writes (output (E.state errors.old) (E.state errors.new)) (stop_line name.now stop) }
 {
     let _ = match stop {
-        Stop::Fault(fault) => return report(errors, name, fault),
-        Stop::Elements(error) => write_element(errors, name, error),
+        Stop::Fault(fault) => {
+            let _ = report(errors, name, fault);
+            return;
+        }
+        Stop::Elements(at) => write_element(errors, name, at),
         Stop::Empty => write_line(errors, name, &["empty input, see --allow-empty"]),
         Stop::NotAscii => write_line(errors, name, &[NOT_ASCII]),
+        Stop::TooLong(long) => write_too_long(errors, name, long),
     };
-    1
 }
 
-/// Writes why there is no label of a line of the input, as one line with the number, and returns
-/// the status 1.
-pub fn report_line<E: Sink>(errors: &mut E, at: LineStop) -> u8
+/// Writes why there is no label, as one line after a name, and returns the exit status. Of a device
+/// the line has the name and the reason; of a pipe that nobody reads from any more nothing is
+/// written.
+pub fn report_stop<E: Sink>(errors: &mut E, name: &str, devices: &Devices, stop: Stop) -> u8
     requires sound { IsFalse (E.state errors.old).failed }
+    ensures status { result ≡ stop_status (devices_of devices.now) stop }
+    ensures reported { Writes (output (E.state errors.old) (E.state errors.new))
+        (stop_report name.now (devices_of devices.now) stop) }
+{
+    match stop {
+        Stop::Fault(fault) => report_fault(errors, name, devices, fault),
+        Stop::Elements(_) | Stop::Empty | Stop::NotAscii | Stop::TooLong(_) => {
+            write_stop(errors, name, stop);
+            1
+        }
+    }
+}
+
+/// Writes why there is no label as `report_stop` does.
+fn report_fault<E: Sink>(errors: &mut E, name: &str, devices: &Devices, fault: Fault) -> u8
+    requires sound { IsFalse (E.state errors.old).failed }
+    ensures status { result ≡ fault_status (devices_of devices.now) fault }
+    ensures reported { Writes (output (E.state errors.old) (E.state errors.new))
+        (fault_report name.now (devices_of devices.now) fault) }
+{
+    let Devices {
+        source,
+        not_read,
+        target,
+        not_written,
+    } = *devices;
+    match fault {
+        Fault::Read => report_device(errors, name, "read", source, not_read),
+        Fault::Write => report_device(errors, name, "write", target, not_written),
+        Fault::Symbol(_) => report(errors, name, fault),
+    }
+}
+
+/// Whether nothing is written of it: a pipe was closed.
+fn is_silent(devices: &Devices, stop: Stop) -> bool
+    ensures { result ≡ is_silent (devices_of devices.now) stop }
+{
+    match stop {
+        Stop::Fault(fault) => is_silent_fault(devices, fault),
+        Stop::Elements(_) | Stop::Empty | Stop::NotAscii | Stop::TooLong(_) => false,
+    }
+}
+
+/// Whether nothing is written of a fault.
+fn is_silent_fault(devices: &Devices, fault: Fault) -> bool
+    ensures { result ≡ is_silent_fault (devices_of devices.now) fault }
+{
+    match fault {
+        Fault::Read => is_closed_pipe(devices.not_read),
+        Fault::Write => is_closed_pipe(devices.not_written),
+        Fault::Symbol(_) => false,
+    }
+}
+
+/// Writes why the labels end at a line of the input, as one line with the number, and returns the
+/// exit status.
+fn report_line<E: Sink>(errors: &mut E, devices: &Devices, at: LineStop) -> u8
+    requires sound { IsFalse (E.state errors.old).failed }
+    requires said { IsFalse (is_silent (devices_of devices.now) at.stop) }
     ensures status { result ≡ 1 }
     ensures reported { Writes (output (E.state errors.old) (E.state errors.new))
-        (numbered_line at) }
+        (end_report (devices_of devices.now) at) }
 {
     if write_all(errors, b"qrlabel: line ").is_err() {
         return 1;
     }
     let mut buffer = Buffer::new();
-    report_stop(errors, buffer.format(at.number), at.stop)
+    report_stop(errors, buffer.format(at.number), devices, at.stop)
+}
+
+/// Writes why the labels end at a line of the input, as one line with the number, if the sink has
+/// not failed, and returns the exit status.
+pub fn report_end<E: Sink>(errors: &mut E, devices: &Devices, at: LineStop) -> u8
+    ensures status { result ≡ stop_status (devices_of devices.now) at.stop }
+    ensures silent { IsTrue (E.state errors.old).failed → errors.new ≡ errors.old }
+    ensures reported { IsFalse (E.state errors.old).failed →
+        Writes (output (E.state errors.old) (E.state errors.new))
+        (end_report (devices_of devices.now) at) }
+{
+    if is_silent(devices, at.stop) {
+        CLOSED_PIPE
+    } else if errors.failed() {
+        1
+    } else {
+        report_line(errors, devices, at)
+    }
+}
+
+/// Writes why a line of the input is left out, as one line with the number.
+fn write_left_out<E: Sink>(errors: &mut E, at: LineStop)
+    requires { IsFalse (E.state errors.old).failed }
+    ensures { Writes (output (E.state errors.old) (E.state errors.new)) (numbered_line at) }
+{
+    if write_all(errors, b"qrlabel: line ").is_err() {
+        return;
+    }
+    let mut buffer = Buffer::new();
+    write_stop(errors, buffer.format(at.number), at.stop);
 }
 
 /// Writes why a line of the input is left out, if the sink has not failed.
@@ -51,41 +157,150 @@ pub fn report_left_out<E: Sink>(errors: &mut E, at: LineStop)
         Writes (output (E.state errors.old) (E.state errors.new)) (numbered_line at) }
 {
     if !errors.failed() {
-        let _ = report_line(errors, at);
+        write_left_out(errors, at);
     }
 }
 
-/// Writes the line of a text that gives no elements. Elements are counted from 1.
+/// Writes the line of a text that gives no elements: the element by its identifier and its number,
+/// counted from 1, what is wrong, and what would be right.
 #[tactic(auto, unfolding(crate::specs::Stops::element_line))]
-fn write_element<E: Sink>(errors: &mut E, name: &str, error: Gs1Error) -> Result<(), Fault>
+fn write_element<E: Sink>(errors: &mut E, name: &str, at: ElementStop) -> Result<(), Fault>
     requires { IsFalse (E.state errors.old).failed }
-    ensures { Writes (output (E.state errors.old) (E.state errors.new))
-        (element_line name.now error) }
+    ensures { Writes (output (E.state errors.old) (E.state errors.new)) (element_line name.now at) }
 {
-    let text = element_text(error);
-    match element_number(error) {
+    let text = element_text(at.error);
+    match element_number(at.error) {
         Some(number) => {
             let mut buffer = Buffer::new();
             let number = buffer.format(number.saturating_add(1));
-            write_line(errors, name, &["element ", number, ": ", text])
+            write_line(
+                errors,
+                name,
+                &[
+                    unless_zero(at.identifier[0], "("),
+                    digit_text(at.identifier[0]),
+                    digit_text(at.identifier[1]),
+                    digit_text(at.identifier[2]),
+                    digit_text(at.identifier[3]),
+                    unless_zero(at.identifier[0], "), "),
+                    "element ",
+                    number,
+                    ": ",
+                    text,
+                    unless_zero(at.digit, WOULD_BE),
+                    digit_text(at.digit),
+                ],
+            )
         }
         None => write_line(errors, name, &[text]),
     }
 }
 
-/// Returns the number of the element at fault, counted from 0, if it is one element's.
-fn element_number(error: Gs1Error) -> Option<usize>
-    ensures { result ≡ element_number error }
+/// Returns a text, or none if a byte is 0.
+fn unless_zero(byte: u8, text: &'static str) -> &'static str
+    ensures { result.now ≡ unless_zero byte text.now }
 {
-    match error {
-        Gs1Error::InvalidIdentifier { element } => Some(element),
-        Gs1Error::UnknownIdentifier { element } => Some(element),
-        Gs1Error::EmptyValue { element } => Some(element),
-        Gs1Error::ValueTooLong { element } => Some(element),
-        Gs1Error::InvalidCharacter { element, .. } => Some(element),
-        Gs1Error::WrongLength { element } => Some(element),
-        Gs1Error::WrongCheckDigit { element } => Some(element),
-        Gs1Error::NoElements | Gs1Error::OutOfMemory => None,
+    if byte == 0 { "" } else { text }
+}
+
+/// Writes the line of a content that is too long.
+#[tactic(auto, unfolding(crate::specs::Stops::long_line))]
+fn write_too_long<E: Sink>(errors: &mut E, name: &str, long: TooLong) -> Result<(), Fault>
+    requires { IsFalse (E.state errors.old).failed }
+    ensures { Writes (output (E.state errors.old) (E.state errors.new)) (long_line name.now long) }
+{
+    if long.length > LONGEST_DATA {
+        write_line(errors, name, &[TOO_MANY])
+    } else {
+        write_room(errors, name, long)
+    }
+}
+
+/// Writes the line of a content that is too long at its level: its length, and how much there is
+/// room for.
+#[tactic(auto, unfolding(crate::specs::Stops::room_line))]
+fn write_room<E: Sink>(errors: &mut E, name: &str, long: TooLong) -> Result<(), Fault>
+    requires { IsFalse (E.state errors.old).failed }
+    ensures { Writes (output (E.state errors.old) (E.state errors.new)) (room_line name.now long) }
+{
+    let (mut length, mut version) = (Buffer::new(), Buffer::new());
+    let (mut bytes, mut digits) = (Buffer::new(), Buffer::new());
+    write_line(
+        errors,
+        name,
+        &[
+            "data too long: ",
+            length.format(long.length),
+            level_text(long.level, long.version),
+            version.format(version_number(long.version)),
+            " has room for ",
+            bytes.format(long.bytes),
+            " bytes or ",
+            digits.format(long.digits),
+            fits_text(long.fits),
+        ],
+    )
+}
+
+/// Returns what stands between the length and the number of the greatest version.
+fn level_text(level: EcLevel, version: Version) -> &'static str
+    ensures { result.now ≡ level_piece level version }
+{
+    match version {
+        Version::Normal(_) => match level {
+            EcLevel::L => " bytes, and level L up to version ",
+            EcLevel::M => " bytes, and level M up to version ",
+            EcLevel::Q => " bytes, and level Q up to version ",
+            EcLevel::H => " bytes, and level H up to version ",
+        },
+        Version::Micro(_) => match level {
+            EcLevel::L => " bytes, and level L up to version M",
+            EcLevel::M => " bytes, and level M up to version M",
+            EcLevel::Q => " bytes, and level Q up to version M",
+            EcLevel::H => " bytes, and level H up to version M",
+        },
+    }
+}
+
+/// Returns the number of a version.
+fn version_number(version: Version) -> u16
+    ensures { result ≡ version_number version }
+{
+    match version {
+        Version::Normal(number) => number.unsigned_abs(),
+        Version::Micro(number) => number.unsigned_abs(),
+    }
+}
+
+/// Returns what stands after the number of digits: the level at which a content fits, if any.
+fn fits_text(fits: Option<EcLevel>) -> &'static str
+    ensures { result.now ≡ fits_piece fits }
+{
+    match fits {
+        None => " digits",
+        Some(EcLevel::L) => " digits; it fits level L",
+        Some(EcLevel::M) => " digits; it fits level M",
+        Some(EcLevel::Q) => " digits; it fits level Q",
+        Some(EcLevel::H) => " digits; it fits level H",
+    }
+}
+
+/// Returns a digit as a text; of another byte there is none.
+fn digit_text(byte: u8) -> &'static str
+    ensures { result.now ≡ digit_text byte }
+{
+    match byte {
+        b'0' => "0",
+        b'1' => "1",
+        b'2' => "2",
+        b'3' => "3",
+        b'4' => "4",
+        b'5' => "5",
+        b'6' => "6",
+        b'7' => "7",
+        b'8' => "8",
+        b'9' => "9",
+        _ => "",
     }
 }
 

@@ -9,7 +9,10 @@ ghost use Rattle.qrlabel.specs.Commands.{command_asked};
 ghost use Rattle.qrlabel.specs.Misuses.{wrong_line};
 ghost use Rattle.qrlabel.specs.Folders.{folder};
 ghost use Rattle.qrlabel.specs.Runs.{IsLabelOutcome, ServesLabel, ServesPortion};
-ghost use Rattle.qrlabel.specs.Runs.{lines_status, lines_reported};
+ghost use Rattle.qrlabel.specs.Lines.{stream};
+ghost use Rattle.qrlabel.specs.Names.{numbered};
+ghost use Rattle.qrlabel.specs.Placed.{devices_of, numbering_of};
+ghost use Rattle.qrlabel.specs.Runs.{ServesLines, lines_status, lines_reported};
 ghost use Rattle.qrlabel.specs.Runs.{Shows, RunsLabel, Runs};
 ghost use Rattle.qrlabel.specs.Said.{said, wrong_of};
 ghost use Rattle.qrlabel.specs.Settings.{setting_option};
@@ -21,10 +24,11 @@ use crate::help::{help_text, version_text};
 use crate::label::label_bytes;
 use crate::lines::draw_lines;
 use crate::misuse::write_misuse;
-use crate::report::{report_left_out, report_stop};
-use crate::stop::{LineStop, Stop};
+use crate::names::Numbering;
+use crate::report::{report_end, report_stop};
+use crate::stop::{Devices, LineStop, Stop};
 use crate::words::{Misuse, Name, Values};
-use programs::{Sink, Source, read_all, report, write_all};
+use programs::{Sink, Source, read_all, report_device, write_all};
 use qrcode_render::{DrawOptions, Setting};
 use std::alloc::Global;
 
@@ -55,7 +59,7 @@ fn draw_label<R: Source, W: Sink>(
 }
 
 /// Draws the label of the whole input, and returns the exit status: 0 if it was written, 1 if it
-/// was not, which one line on `errors` explains.
+/// was not, which one line on `errors` explains, and 141 without a line if a pipe was closed.
 fn serve_label<R: Source, W: Sink, E: Sink>(
     alloc: Global,
     label: &Label,
@@ -74,7 +78,15 @@ fn serve_label<R: Source, W: Sink, E: Sink>(
 {
     match draw_label(alloc, label, options, reader, writer) {
         Ok(()) => 0,
-        Err(stop) => report_stop(errors, "qrlabel", stop),
+        Err(stop) => {
+            let devices = Devices {
+                source: label.source,
+                not_read: reader.reason(),
+                target: label.target,
+                not_written: writer.reason(),
+            };
+            report_stop(errors, "qrlabel", &devices, stop)
+        }
     }
 }
 
@@ -83,24 +95,80 @@ pub const LEFT_OUT: u8 = 3;
 
 /// Returns the exit status for the labels of lines: 0 if there is one of each, `LEFT_OUT` if there
 /// is one of each line that is not left out. If they end at a line, a line on `errors` says why.
-fn lines_status<E: Sink>(errors: &mut E, outcome: Result<bool, LineStop>) -> u8
-    ensures status { result ≡ lines_status outcome }
+fn lines_status<E: Sink>(errors: &mut E, devices: &Devices, outcome: Result<bool, LineStop>) -> u8
+    ensures status { result ≡ lines_status (devices_of devices.now) outcome }
     ensures reported { Writes (output (E.state errors.old) (E.state errors.new))
-        (lines_reported outcome) }
+        (lines_reported (devices_of devices.now) outcome) }
     ensures failed { IsTrue (E.state errors.old).failed → IsTrue (E.state errors.new).failed }
 {
     match outcome {
         Ok(true) => 0,
         Ok(false) => LEFT_OUT,
-        Err(at) => {
-            report_left_out(errors, at);
-            1
-        }
+        Err(at) => report_end(errors, devices, at),
     }
 }
 
+/// Draws the labels of the lines of the input in one output, and returns the exit status.
+fn serve_lines<R: Source, W: Sink, E: Sink>(
+    alloc: Global,
+    label: &Label,
+    options: &DrawOptions,
+    reader: &mut R,
+    writer: &mut W,
+    errors: &mut E,
+) -> u8
+    requires reader_sound { IsFalse (R.state reader.old).failed }
+    requires writer_sound { IsFalse (W.state writer.old).failed }
+    ensures { ServesLines label.now options.now
+        (input (R.state reader.old) (R.state reader.new))
+        (stream (output (W.state writer.old) (W.state writer.new)) label.now.first)
+        (λ number. label.now.target.now)
+        (output (E.state errors.old) (E.state errors.new)) result }
+{
+    let outcome = draw_lines(alloc, label, options, reader, writer, errors);
+    let devices = Devices {
+        source: label.source,
+        not_read: reader.reason(),
+        target: label.target,
+        not_written: writer.reason(),
+    };
+    lines_status(errors, &devices, outcome)
+}
+
+/// Draws each label of a line of the input in a file of its own, and returns the exit status.
+fn serve_files<R: Source, F: Files, E: Sink>(
+    alloc: Global,
+    label: &Label,
+    options: &DrawOptions,
+    name: &Numbering,
+    reader: &mut R,
+    files: &mut F,
+    errors: &mut E,
+) -> u8
+    requires reader_sound { IsFalse (R.state reader.old).failed }
+    requires files_sound { IsFalse (F.state files.old).failed }
+    ensures { ServesLines label.now options.now
+        (input (R.state reader.old) (R.state reader.new))
+        (folder (F.state files.old) (F.state files.new) label.now.first (numbering_of name.now))
+        (numbered (numbering_of name.now))
+        (output (E.state errors.old) (E.state errors.new)) result }
+{
+    let mut path = String::new(alloc);
+    let outcome = draw_files(
+        alloc, label, options, name, &mut path, reader, files, errors,
+    );
+    let devices = Devices {
+        source: label.source,
+        not_read: reader.reason(),
+        target: path.as_str(),
+        not_written: files.reason(),
+    };
+    lines_status(errors, &devices, outcome)
+}
+
 /// Draws the label of the whole input or those of its lines, and returns the exit status: 0 if all
-/// labels were written, 1 if they were not, which one line on `errors` explains.
+/// labels were written, 1 if they were not, which one line on `errors` explains, and 141 without a
+/// line if a pipe was closed.
 fn serve<R: Source, W: Sink, F: Files, E: Sink>(
     alloc: Global,
     label: &Label,
@@ -122,14 +190,8 @@ fn serve<R: Source, W: Sink, F: Files, E: Sink>(
 {
     match label.portion {
         Portion::Whole => serve_label(alloc, label, options, reader, writer, errors),
-        Portion::Lines => {
-            let outcome = draw_lines(alloc, label, options, reader, writer, errors);
-            lines_status(errors, outcome)
-        }
-        Portion::Files(name) => {
-            let outcome = draw_files(alloc, label, options, &name, reader, files, errors);
-            lines_status(errors, outcome)
-        }
+        Portion::Lines => serve_lines(alloc, label, options, reader, writer, errors),
+        Portion::Files(name) => serve_files(alloc, label, options, &name, reader, files, errors),
     }
 }
 
@@ -153,7 +215,13 @@ fn show<W: Sink, E: Sink>(text: &str, writer: &mut W, errors: &mut E) -> u8
 {
     match write_all(writer, text.as_bytes()) {
         Ok(()) => 0,
-        Err(fault) => report(errors, "qrlabel", fault),
+        Err(_) => report_device(
+            errors,
+            "qrlabel",
+            "write",
+            "standard output",
+            writer.reason(),
+        ),
     }
 }
 
@@ -169,6 +237,10 @@ fn setting_option(setting: Setting) -> Name
         Setting::Inverted => Name::Inverted,
         Setting::Title => Name::Title,
         Setting::At => Name::At,
+        Setting::Copies => Name::Copies,
+        Setting::Compressed => Name::Compressed,
+        Setting::Feed => Name::Feed,
+        Setting::Cut => Name::Cut,
     }
 }
 
@@ -210,7 +282,8 @@ fn run_label<R: Source, W: Sink, F: Files, E: Sink>(
 }
 
 /// Does what the words ask for, and returns the exit status: 0 if all was written, 1 after an
-/// error, 2 if the words are wrong, and `LEFT_OUT`. An error of `errors` itself is ignored.
+/// error, 2 if the words are wrong, 141 if a pipe was closed, and `LEFT_OUT`. An error of `errors`
+/// itself is ignored.
 pub fn run<R: Source, W: Sink, F: Files, E: Sink>(
     alloc: Global,
     values: &Values,

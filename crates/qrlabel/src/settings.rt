@@ -65,6 +65,10 @@ pub fn settings_of<'a>(values: &Values<'a>) -> Result<Settings<'a>, Misuse<'a>>
         inverted: values.has(Name::Inverted),
         title: values.get(Name::Title),
         at: place(values)?,
+        copies: number(values, Name::Copies)?,
+        compressed: values.has(Name::Compressed),
+        feed: number(values, Name::Feed)?,
+        cut: values.has(Name::Cut),
     })
 }
 

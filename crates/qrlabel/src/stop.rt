@@ -6,8 +6,9 @@ ghost use Rattle.qrcode_core.specs.declared.types.errors.QrError.TheVariants.{Ou
 
 use gs1::Gs1Error;
 use programs::Fault;
-use qrcode_core::types::QrError;
+use qrcode_core::types::{EcLevel, QrError, Version};
 use std::alloc::AllocError;
+use std::io::ErrorKind;
 
 /// Why there is no label.
 #[derive(Clone, Copy, Debug, PartialEq, Eq)]
@@ -15,11 +16,41 @@ pub enum Stop {
     /// An error of the symbol's call, or of a device.
     Fault(Fault),
     /// The text gives no GS1 elements.
-    Elements(Gs1Error),
+    Elements(ElementStop),
     /// The input has no bytes.
     Empty,
     /// The text is not ASCII, and a Micro QR symbol has no designator for it.
     NotAscii,
+    /// The content is too long.
+    TooLong(TooLong),
+}
+
+/// What is wrong with GS1 elements, and which of them it is.
+#[derive(Clone, Copy, Debug, PartialEq, Eq)]
+pub struct ElementStop {
+    pub error: Gs1Error,
+    /// The digits of the identifier in ASCII, and zeros after them. There are only zeros if it is
+    /// not two to four digits, or the error is not one element's.
+    pub identifier: [u8; 4],
+    /// The check digit that the value should end with in ASCII, if it ends with a wrong one; else
+    /// 0.
+    pub digit: u8,
+}
+
+/// A content that is too long for a symbol.
+#[derive(Clone, Copy, Debug, PartialEq, Eq)]
+pub struct TooLong {
+    /// The number of its bytes; if it is more than 7089, there may be more of them.
+    pub length: usize,
+    /// The greatest version that the symbol could have.
+    pub version: Version,
+    /// Its level.
+    pub level: EcLevel,
+    /// How many bytes, and how many digits, one segment has room for.
+    pub bytes: usize,
+    pub digits: usize,
+    /// The greatest lower level at which there is a symbol, if it was found.
+    pub fits: Option<EcLevel>,
 }
 
 impl From<Fault> for Stop {
@@ -51,4 +82,17 @@ impl From<AllocError> for Stop {
 pub struct LineStop {
     pub number: usize,
     pub stop: Stop,
+}
+
+/// The devices of a label, as errors call them, and why they failed, if they did.
+#[derive(Clone, Copy, Debug, PartialEq, Eq)]
+pub struct Devices<'a> {
+    /// The name of the input.
+    pub source: &'a str,
+    /// Why reading failed.
+    pub not_read: Option<ErrorKind>,
+    /// The name of the output.
+    pub target: &'a str,
+    /// Why writing failed.
+    pub not_written: Option<ErrorKind>,
 }

@@ -1,8 +1,9 @@
 //! Files that tests look at.
-ghost use Rattle.std.specs.Prelude.{◌≡◌, IsFalse, None};
+ghost use Rattle.std.specs.Prelude.{◌≡◌, None, is_some, refl};
 
 use crate::files::Files;
 use std::alloc::Global;
+use std::io::ErrorKind;
 
 /// A place for files, which keeps the names and the contents, one after the other.
 #[derive(Drop)]
@@ -12,25 +13,27 @@ pub struct Kept {
     pub contents: Vec<u8>,
     /// How many more files there is room for.
     pub room: usize,
-    has_failed: bool,
+    reason: Option<ErrorKind>,
 }
 
 impl Kept {
     /// Returns no files yet, and room for three.
     pub fn new(alloc: Global) -> Kept
-        ensures { IsFalse result.has_failed }
+        ensures { result.reason ≡ None }
     {
         Kept {
             names: String::new(alloc),
             contents: Vec::new(alloc),
             room: 3,
-            has_failed: false,
+            reason: None,
         }
     }
 }
 
 impl Files for Kept {
-    ghost state = { λ s. record { files = None; failed = s.has_failed } };
+    ghost state = { λ s. record { files = None; failed = is_some s.reason; reason = s.reason } };
+
+    ghost reason_of_failure = { λ s. refl };
 
     fn put(&mut self, name: &str, content: &[u8]) -> bool {
         let is_put = self.room > 0
@@ -40,7 +43,15 @@ impl Files for Kept {
         if is_put {
             self.room -= 1;
         }
-        self.has_failed = !is_put;
+        self.reason = if is_put {
+            None
+        } else {
+            Some(ErrorKind::StorageFull)
+        };
         is_put
+    }
+
+    fn reason(&self) -> Option<ErrorKind> {
+        self.reason
     }
 }

@@ -287,12 +287,13 @@ fn inverts_text(rt: HostRuntime) -> Result<(), QrError> {
     Ok(())
 }
 
-/// Inputs of which there is no label, and the line that says why. At level L version 40 holds 2952
-/// bytes after the designator of UTF-8, and the check digit of 9506000134352 is 2.
+/// Inputs of which there is no label, and the line that says why. How much there is room for is in
+/// table 7 of ISO/IEC 18004:2006; at level L version 40 holds 2952 bytes after the designator of
+/// UTF-8, which takes 12 of the 23648 bits. The check digit of 9506000134352 is 2.
 #[test]
 fn reports_errors(rt: HostRuntime) -> Result<(), QrError> {
     let many = [0xFF; 7090];
-    let rows: [(&str, &[u8], &str); 17] = [
+    let rows: [(&str, &[u8], &str); 18] = [
         (
             "text",
             b"caf\xE9",
@@ -303,14 +304,31 @@ fn reports_errors(rt: HostRuntime) -> Result<(), QrError> {
             b"a\xE3\x81",
             "invalid character byte 0xe3 at position 1",
         ),
-        ("text", &[b'a'; 2953], "data too long to encode"),
+        (
+            "text",
+            &[b'a'; 2953],
+            "data too long: 2953 bytes, and level L up to version 40 has room for 2952 bytes or 7085 digits",
+        ),
+        (
+            "bytes",
+            &[b'a'; 2954],
+            "data too long: 2954 bytes, and level L up to version 40 has room for 2953 bytes or 7089 digits",
+        ),
         (
             "text",
             &many[1..],
             "invalid character byte 0xff at position 0",
         ),
-        ("auto", &many, "data too long to encode"),
-        ("micro", &[b'a'; 16], "data too long to encode"),
+        (
+            "auto",
+            &many,
+            "data too long: more than 7089 bytes, which no symbol holds",
+        ),
+        (
+            "micro",
+            &[b'a'; 16],
+            "data too long: 16 bytes, and level L up to version M4 has room for 15 bytes or 35 digits",
+        ),
         (
             "micro",
             "倉庫".as_bytes(),
@@ -321,9 +339,13 @@ fn reports_errors(rt: HostRuntime) -> Result<(), QrError> {
         (
             "gs1",
             b"10AB|C",
-            "element 1: a character of the value is not allowed there",
+            "(10), element 1: a character of the value is not allowed there",
         ),
-        ("gs1", b"0109506000134353", "element 1: wrong check digit"),
+        (
+            "gs1",
+            b"0109506000134353",
+            "(01), element 1: wrong check digit; the check digit would be 2",
+        ),
         (
             "gs1",
             b"0109506000134352(10)AB",
@@ -339,13 +361,17 @@ fn reports_errors(rt: HostRuntime) -> Result<(), QrError> {
             b"010950600013435205A",
             "element 2: unknown identifier",
         ),
-        ("gs1", b"(01)09506000134351", "element 1: wrong check digit"),
+        (
+            "gs1",
+            b"(01)09506000134351",
+            "(01), element 1: wrong check digit; the check digit would be 2",
+        ),
         (
             "gs1",
             b"(10)A(01)1",
-            "element 2: the length of the value is wrong",
+            "(01), element 2: the length of the value is wrong",
         ),
-        ("gs1", b"(10)", "element 1: the value is empty"),
+        ("gs1", b"(10)", "(10), element 1: the value is empty"),
     ];
     for (content, bytes, line) in rows {
         let answer = ran(rt.alloc(), &["-l", "L", "-c", content], bytes);
@@ -357,6 +383,81 @@ fn reports_errors(rt: HostRuntime) -> Result<(), QrError> {
     let empty = ran(rt.alloc(), &["--allow-empty"], b"");
     assert_eq!(rt; empty.status, 0);
     assert!(rt; empty.label.starts_with(b"<svg "));
+    Ok(())
+}
+
+/// Each row has words, and the bytes with which the picture ends: `^PQ` of ZPL, `ESC d` and
+/// `GS V 66 0` of ESC/POS, as the makers' manuals have them.
+#[test]
+fn asks_printers(rt: HostRuntime) -> Result<(), QrError> {
+    let rows: [(&[&str], &[u8]); 5] = [
+        (
+            &["-f", "zpl", "--copies", "99999999"],
+            b"^FS\n^PQ99999999\n^XZ\n",
+        ),
+        (&["-f", "zpl"], b"^FS\n^XZ\n"),
+        (&["-f", "escpos", "--feed=255"], b"\x1Bd\xFF"),
+        (&["-f", "escpos", "--cut"], b"\x1DVB\0"),
+        (
+            &["-f", "escpos", "--cut", "--feed", "0"],
+            b"\x1Bd\0\x1DVB\0",
+        ),
+    ];
+    for (words, end) in rows {
+        let answer = ran(rt.alloc(), words, b"hello");
+        assert_eq!(rt; answer.status, 0, "{words:?}");
+        assert!(rt; answer.label.ends_with(end), "{words:?}");
+    }
+    let plain = ran(rt.alloc(), &["-f", "zpl"], b"hello");
+    let compressed = ran(rt.alloc(), &["-f", "zpl", "--compressed"], b"hello");
+    assert_eq!(rt; compressed.status, 0);
+    assert!(rt; compressed.label.len() < plain.label.len() / 8);
+    Ok(())
+}
+
+/// Each row has the level, the greatest version, a number of bytes that are too many, and how much
+/// there is room for and which level they fit, by table 7 of ISO/IEC 18004:2006.
+#[test]
+fn says_at_which_level_it_fits(rt: HostRuntime) -> Result<(), QrError> {
+    let bytes = [b'a'; 2954];
+    let rows: [(&str, &str, usize, &str); 7] = [
+        (
+            "H",
+            "40",
+            1274,
+            "1273 bytes or 3057 digits; it fits level Q",
+        ),
+        (
+            "H",
+            "40",
+            1664,
+            "1273 bytes or 3057 digits; it fits level M",
+        ),
+        (
+            "H",
+            "40",
+            2953,
+            "1273 bytes or 3057 digits; it fits level L",
+        ),
+        ("H", "40", 2954, "1273 bytes or 3057 digits"),
+        (
+            "Q",
+            "40",
+            2331,
+            "1663 bytes or 3993 digits; it fits level M",
+        ),
+        ("M", "5", 106, "84 bytes or 202 digits; it fits level L"),
+        ("H", "9", 99, "98 bytes or 235 digits; it fits level Q"),
+    ];
+    for (level, version, length, room) in rows {
+        let words = ["-c", "bytes", "-l", level, "--max-version", version];
+        let answer = ran(rt.alloc(), &words, &bytes[..length]);
+        let whole = format!(in rt.alloc();
+            "qrlabel: data too long: {length} bytes, and level {level} up to version {version} has room for {room}\n"
+        )?;
+        assert_eq!(rt; answer.status, 1, "{length}");
+        assert_eq!(rt; answer.said.as_slice(), whole.as_bytes(), "{length}");
+    }
     Ok(())
 }
 

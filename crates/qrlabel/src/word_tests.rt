@@ -18,7 +18,7 @@ with --dpi for png, zpl and escpos, 1 to 64 whole dots";
 /// Each row has words that are wrong, and what is written about them. Nothing is read or drawn.
 #[test]
 fn names_what_is_wrong(rt: HostRuntime) -> Result<(), QrError> {
-    let rows: [(&[&str], &str); 46] = [
+    let rows: [(&[&str], &str); 54] = [
         (&["--foo"], "no option --foo"),
         (&["-x"], "no option -x"),
         (&["-s"], "no value after --scale"),
@@ -54,6 +54,35 @@ fn names_what_is_wrong(rt: HostRuntime) -> Result<(), QrError> {
             "invalid --first: 0 to 1000000000, with --lines",
         ),
         (&["-k"], "invalid --keep-going: with --lines"),
+        (
+            &["-f", "zpl", "--copies", "0"],
+            "invalid --copies: 1 to 99999999, for zpl",
+        ),
+        (
+            &["-f", "zpl", "--copies", "100000000"],
+            "invalid --copies: 1 to 99999999, for zpl",
+        ),
+        (
+            &["-f", "escpos", "--copies", "2"],
+            "invalid --copies: 1 to 99999999, for zpl",
+        ),
+        (
+            &["-f", "pbm", "--compressed"],
+            "invalid --compressed: for zpl",
+        ),
+        (
+            &["-f", "escpos", "--feed", "256"],
+            "invalid --feed: 0 to 255, for escpos",
+        ),
+        (
+            &["-f", "escpos", "--feed", "x"],
+            "invalid --feed: 0 to 255, for escpos",
+        ),
+        (
+            &["-f", "zpl", "--feed", "1"],
+            "invalid --feed: 0 to 255, for escpos",
+        ),
+        (&["-f", "zpl", "--cut"], "invalid --cut: for escpos"),
         (
             &["-c", "mikro"],
             "invalid --content: auto, text, bytes, gs1, micro or micro-bytes",

@@ -33,6 +33,10 @@ pub enum Name {
     First,
     KeepGoing,
     KeepNewline,
+    Copies,
+    Compressed,
+    Feed,
+    Cut,
 }
 
 /// Returns the option that a word names. After `--` come texts.
@@ -60,6 +64,10 @@ fn named(word: &str) -> Option<Name>
         "--first" => Some(Name::First),
         "-k" | "--keep-going" => Some(Name::KeepGoing),
         "--keep-newline" => Some(Name::KeepNewline),
+        "--copies" => Some(Name::Copies),
+        "--compressed" => Some(Name::Compressed),
+        "--feed" => Some(Name::Feed),
+        "--cut" => Some(Name::Cut),
         "--allow-empty" => Some(Name::AllowEmpty),
         "-h" | "--help" => Some(Name::Help),
         "-V" | "--version" => Some(Name::Version),
@@ -75,6 +83,7 @@ fn takes_value(name: Name) -> bool
     match name {
         Name::Strongest | Name::Inverted | Name::Lines | Name::AllowEmpty => false,
         Name::KeepGoing | Name::KeepNewline | Name::Help | Name::Version => false,
+        Name::Compressed | Name::Cut => false,
         _ => true,
     }
 }
@@ -90,7 +99,7 @@ fn is_text(name: Name) -> bool
 }
 
 /// The number of options.
-pub const COUNT: usize = 23;
+pub const COUNT: usize = 27;
 
 /// What is wrong with the words.
 #[derive(Clone, Copy, Debug, PartialEq, Eq)]

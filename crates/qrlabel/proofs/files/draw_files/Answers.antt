@@ -5,8 +5,8 @@ use Rattle.qrlabel.specs.{Folders.folder, Placed.numbering_of, MadeOf.made_of}
 use Rattle.qrlabel.proofs.LabelLemmas.{writes_until, never_write, DrawsBefore-none, DrawsBefore-more, DrawsBefore-ended, folder_none, folder_step, folder_fails, drawn_is}
 use Rattle.qrlabel.proofs.files.draw_files.Goals as goal
 
-pub returns-in-Ok-None : goal.returns-in-Ok-None
-returns-in-Ok-None g c = record {
+pub returns-in-Ok-None-clause-outcome : goal.returns-in-Ok-None-clause-outcome
+returns-in-Ok-None-clause-outcome g c = record {
   writes = record {
     number = c.lines.number;
     drawn = DrawsBefore-ended _ _ _ c.lines.number _ _ _ _ c.lines.invariant.drawn (rw (c.in-Ok-None.field-0-is) at c.in-Ok-None.ensures.made);
@@ -16,8 +16,8 @@ returns-in-Ok-None g c = record {
   write = grind (arith, c.lines.invariant.files_sound);
 }
 
-pub returns-in-Err : goal.returns-in-Err
-returns-in-Err g c = record {
+pub returns-in-Err-clause-outcome : goal.returns-in-Err-clause-outcome
+returns-in-Err-clause-outcome g c = record {
   writes = writes_until _ _ _ c.lines.number (g.R.Source.state c.args.reader.now) (g.R.Source.state c.lines.reader) (g.R.Source.state c.next_made.new.reader)
       _ c.in-Err.stop
       c.lines.invariant.drawn c.in-Err.ensures.refused;
@@ -56,8 +56,8 @@ lines-preserved g c =
       files_sound = ensures.sound;
     }
 
-pub returns-in-Err-put_made : goal.returns-in-Err-put_made
-returns-in-Err-put_made g c =
+pub returns-in-Err-put_made-clause-outcome : goal.returns-in-Err-put_made-clause-outcome
+returns-in-Err-put_made-clause-outcome g c =
     let name = numbering_of c.args.name.now in
     let e = g.F.Files.state c.args.files.now in
     let f = g.F.Files.state c.lines.files in

@@ -6,5 +6,5 @@ use Rattle.qrlabel.proofs.run.lines_status.Goals as goal
 pub returns-in-Err-clause-reported : goal.returns-in-Err-clause-reported
 returns-in-Err-clause-reported g c =
     let e = g.E.Sink.state in
-    rw (c.in-Err.is) (said_at_end _ (e c.args.errors.now) (e c.report_left_out.new.errors) _ refl
-    (λ failed. ap e (c.report_left_out.ensures.silent failed)) c.report_left_out.ensures.reported)
+    rw (c.in-Err.is) (said_at_end _ (e c.args.errors.now) (e c.report_end.new.errors) _ refl
+    (λ failed. ap e (c.report_end.ensures.silent failed)) c.report_end.ensures.reported)
