@@ -451,7 +451,7 @@ fn says_at_which_level_it_fits(rt: HostRuntime) -> Result<(), QrError> {
     ];
     for (level, version, length, room) in rows {
         let words = ["-c", "bytes", "-l", level, "--max-version", version];
-        let answer = ran(rt.alloc(), &words, &bytes[..length]);
+        let answer = ran(rt.alloc(), &words, &bytes[..length.min(2954)]);
         let whole = format!(in rt.alloc();
             "qrlabel: data too long: {length} bytes, and level {level} up to version {version} has room for {room}\n"
         )?;
