@@ -238,7 +238,7 @@ def _even_cuts(content: Content, count: int) -> List[int]:
 
 def make_sequence(content: Content, error: Optional[str] = None, *,
                   symbol_count: Optional[int] = None, max_version: int = 40) -> List[Symbol]:
-    """What `sequence` returns, in so many symbols: the parts are about as long as each other."""
+    """What `sequence` returns, in this number of symbols: the parts are about as long as each other."""
     data = _data(content)
     if symbol_count is None:
         return sequence(content, None, error, max_version=max_version)

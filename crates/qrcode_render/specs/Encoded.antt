@@ -9,7 +9,7 @@ pub record AddsPiece (P : List ℕ → Type 0) (old new : List ℕ) : Type 0 whe
   pub is : new ≡ old ++ added
   pub holds : P added
 
--- So many pieces of a list, one after the other, and what holds of each by its number.
+-- This number of pieces of a list, one after the other, and what holds of each by its number.
 abbrev pub ArePieces : (P : ℕ → List ℕ → Type 0) → (count : ℕ) → List ℕ → Type 0
 ArePieces P zero pieces = pieces ≡ []
 ArePieces P (suc n) pieces =

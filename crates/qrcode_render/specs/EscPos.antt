@@ -33,7 +33,7 @@ first_bands p count = flat_map (band p) (range_with_len 0 count)
 abbrev pub escpos_text : Picture → List ℕ
 escpos_text p = first_bands p ((pixel_height p + (BAND_ROWS - 1)) / BAND_ROWS)
 
--- The command that moves the paper by so many lines: `ESC d`.
+-- The command that moves the paper by a number of lines: `ESC d`.
 abbrev pub feed_command : Option ℕ → List ℕ
 feed_command None = []
 feed_command (Some lines) = 0x1B ∷ 0x64 ∷ lines ∷ []

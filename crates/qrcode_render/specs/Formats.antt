@@ -37,7 +37,7 @@ abbrev pub has_position : Format → Bool
 has_position Zpl = true
 has_position _ = false
 
--- The printer can be told how many labels it prints.
+-- A label of the format has a number of copies.
 abbrev pub has_copies : Format → Bool
 has_copies Zpl = true
 has_copies _ = false

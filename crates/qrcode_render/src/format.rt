@@ -71,7 +71,7 @@ impl Format {
         matches!(self, Format::Zpl)
     }
 
-    /// Whether the printer can be told how many labels it prints.
+    /// Whether a label of the format has a number of copies.
     pub fn has_copies(self) -> bool
         ensures { result ≡ has_copies self }
     {

@@ -39,8 +39,8 @@ abbrev pub characters_room : Version → EcLevel → Mode → ℕ → ℕ
 characters_room version level mode front =
     unwrap_or (capacity version level) 0 - (front + (indicator_width version + count_width version mode))
 
--- So many bytes (8 bits each) and digits (10 bits for three, 7 for two, 4 for one) fit one segment
--- (ISO/IEC 18004:2006, "Data encodation").
+-- The bytes (8 bits each) and the digits (10 bits for three, 7 for two, 4 for one) for which one
+-- segment has room (ISO/IEC 18004:2006, "Data encodation").
 abbrev pub bytes_room : Version → EcLevel → ℕ → ℕ
 bytes_room version level front = characters_room version level Byte front / 8
 

@@ -49,7 +49,7 @@ fn characters_room(version: Version, level: EcLevel, mode: Mode, front: usize) -
     capacity.saturating_sub(front + (version.mode_bits_count() + mode.length_bits_count(version)))
 }
 
-/// Returns how many digits so many bits hold: three in ten, two in seven, one in four.
+/// Returns how many digits a number of bits holds: three in ten, two in seven, one in four.
 fn digits_in(bits: usize) -> usize
     ensures { result ≡ digits_in bits }
 {
