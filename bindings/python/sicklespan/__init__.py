@@ -3,7 +3,7 @@
     >>> import sicklespan
     >>> symbol = sicklespan.make("hello")
     >>> symbol.version, symbol.level, symbol.mask
-    (1, 'H', 6)
+    (1, 'H', 5)
     >>> symbol.save("hello.svg")
 
 The functions return a `Symbol` or raise an error below `SicklespanError`.

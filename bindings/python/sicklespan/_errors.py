@@ -44,7 +44,7 @@ class InvalidCutsError(SicklespanError):
 
 
 class InvalidTextError(SicklespanError):
-    """The text has a lone surrogate, which UTF-8 does not have."""
+    """The text has a lone surrogate, which UTF-8 does not have, or is beyond ASCII for Micro."""
 
 
 class ElementError(SicklespanError):

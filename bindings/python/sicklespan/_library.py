@@ -45,7 +45,10 @@ def _opened() -> ctypes.CDLL:
 
 
 def _declare(name: str, result: object, *arguments: object) -> None:
-    function = getattr(library, name)
+    try:
+        function = getattr(library, name)
+    except AttributeError as error:
+        raise ImportError(f"the library has no {name}, so it is another one: {error}") from error
     function.restype, function.argtypes = result, arguments
 
 

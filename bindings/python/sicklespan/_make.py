@@ -118,7 +118,7 @@ def make(content: Content, error: Optional[str] = None, version: Optional[int] =
         raise InvalidVersionsError("a Micro symbol has no version from 1 to 40")
     if micro is not False and is_any:
         try:
-            return make_micro(content, LEVELS[options.level], boost_error=boost_error)
+            return make_micro(content, error, boost_error=boost_error)
         except (DataTooLongError, InvalidLevelError, InvalidTextError):
             if micro:
                 raise
@@ -147,7 +147,10 @@ def gs1(content: str, error: Optional[str] = None, version: Optional[int] = None
 def elements(content: Union[bytes, bytearray, memoryview], error: Optional[str] = None,
              version: Optional[int] = None, *, min_version: int = 1, max_version: int = 40,
              boost_error: bool = True) -> Symbol:
-    """The best symbol of GS1 elements as readers find them, with the byte 1D (hex) between two."""
+    """The best symbol of GS1 elements as readers find them, with the byte 1D (hex) between two.
+
+    Tested are the characters and the separators, and not the identifiers and the values.
+    """
     options = _options(error, version, min_version, max_version, boost_error)
     return _drawn(ELEMENTS, _bytes("content", content), options)
 

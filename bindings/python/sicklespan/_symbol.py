@@ -41,9 +41,26 @@ def _hundredths(module_mm: Optional[float]) -> Optional[int]:
         return None
     if not isinstance(module_mm, (int, float)):
         raise TypeError(f"module_mm is a number, and not {type(module_mm).__name__}")
-    if not math.isfinite(module_mm):
+    if not math.isfinite(module_mm) or module_mm < 0:
         raise InvalidSettingError(f"module_mm is not {module_mm}", "module_mm")
     return round(100 * module_mm)
+
+
+def _dots(at: Optional[Tuple[int, int]]) -> Tuple[Optional[int], Optional[int]]:
+    """The two numbers of a place."""
+    if at is None:
+        return None, None
+    if not isinstance(at, (tuple, list)) or len(at) != 2:
+        raise TypeError(f"at is two numbers, and not {at!r}")
+    return at[0], at[1]
+
+
+def _pixels(name: str, number: int, least: int, most: int) -> int:
+    """A setting of rows that are made here, within the bounds of pictures."""
+    whole = _setting(name, number)
+    if not least <= whole <= most:
+        raise InvalidSettingError(f"{name} is {least} to {most}, and not {whole}", name)
+    return whole
 
 
 class Symbol:
@@ -104,12 +121,14 @@ class Symbol:
 
     def symbol_size(self, scale: int = 1, border: Optional[int] = None) -> Tuple[int, int]:
         """The width and the height of a picture."""
-        side = scale * (self._width + 2 * self._zone(border))
+        side = _pixels("scale", scale, 1, 64) * (self._width + 2 * self._few(border))
         return side, side
 
     def matrix_iter(self, scale: int = 1, border: Optional[int] = None) -> Iterator[bytes]:
         """The rows of a picture with its quiet zone, a byte for each pixel: 1 is dark."""
-        zone = self._zone(border)
+        return self._rows(_pixels("scale", scale, 1, 64), self._few(border))
+
+    def _rows(self, scale: int, zone: int) -> Iterator[bytes]:
         side = scale * (self._width + 2 * zone)
         yield from (bytes(side) for _ in range(scale * zone))
         for row in self.matrix:
@@ -139,6 +158,9 @@ class Symbol:
     def _zone(self, border: Optional[int]) -> int:
         return self.default_border_size if border is None else _setting("border", border)
 
+    def _few(self, border: Optional[int]) -> int:
+        return _pixels("border", self._zone(border), 0, 16)
+
     def picture(self, kind: str, *, scale: Optional[int] = None, border: Optional[int] = None,
                 module_mm: Optional[float] = None, dpi: Optional[int] = None,
                 inverted: bool = False, at: Optional[Tuple[int, int]] = None) -> bytes:
@@ -150,9 +172,11 @@ class Symbol:
         inch. With `inverted` the light modules of text are filled, for a dark screen. The upper
         left corner of a zpl label is `at` these dots.
         """
+        if not isinstance(kind, str):
+            raise TypeError(f"kind is a str, and not {type(kind).__name__}")
         if kind not in _FORMATS:
             raise InvalidFormatError(f"a picture is {', '.join(_FORMATS)}, and not {kind!r}")
-        x, y = at if at is not None else (None, None)
+        x, y = _dots(at)
         asked = Settings(
             _setting("scale", scale), self._zone(border),
             _setting("module_mm", _hundredths(module_mm)), _setting("dpi", dpi), bool(inverted),
@@ -206,6 +230,10 @@ class Symbol:
         stream is one of bytes, or for txt, svg, eps, zpl and terminal one of text.
         """
         named = isinstance(out, (str, os.PathLike))
+        if not named and not hasattr(out, "write"):
+            raise TypeError(f"out is a path or a stream, and not {type(out).__name__}")
+        if kind is not None and not isinstance(kind, str):
+            raise TypeError(f"kind is a str, and not {type(kind).__name__}")
         ending = os.path.splitext(os.fspath(out))[1] if named else ""  # type: ignore[arg-type]
         kind = (kind or ending.lstrip(".")).lower()
         if kind != "txt" and kind not in _FORMATS:
@@ -213,6 +241,9 @@ class Symbol:
             given = f"{kind!r} is none" if kind else "none is given"
             raise InvalidFormatError(f"the kind of a picture is {kinds}; {given}")
         if kind == "txt":
+            for name, given in (("module_mm", module_mm), ("dpi", dpi), ("at", at)):
+                if given is not None:
+                    raise InvalidSettingError(f"{name} is no setting of txt", name)
             data = self._text(scale, border)
         else:
             data = self.picture(kind, scale=scale, border=border, module_mm=module_mm, dpi=dpi,

@@ -200,6 +200,8 @@ class Symbols(unittest.TestCase):
         self.assertEqual(sicklespan.make("1", None), sicklespan.make("1", "M"))
         self.assertEqual(sicklespan.make_qr("1", "Q", 3), sicklespan.make("1", "Q", 3))
         self.assertEqual(sicklespan.make("12345", "L", micro=None).designator, "M1-L")
+        self.assertEqual(sicklespan.make("12345", micro=True).designator, "M1-L")
+        self.assertEqual(sicklespan.make("12345", "M", micro=None).designator, "M2-M")
         self.assertEqual(sicklespan.make("1" * 36, "L", micro=None), sicklespan.make("1" * 36, "L"))
         for content, error, more in (("\u00e9", "L", {}), ("1", "H", {}),
                                      ("1", "L", {"version": 1}), ("1", "L", {"min_version": 2})):

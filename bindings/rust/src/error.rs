@@ -160,7 +160,7 @@ impl fmt::Display for Error {
         match self {
             Error::DataTooLong { too_many: Some(1) } => write!(f, "{text}, by 1 byte"),
             Error::DataTooLong { too_many: Some(count) } => write!(f, "{text}, by {count} bytes"),
-            Error::InvalidCharacter { place } => write!(f, "{text}, at byte {place}"),
+            Error::InvalidCharacter { place } => write!(f, "{text}, at byte {place} or in the element there"),
             Error::InvalidIdentifier { element }
             | Error::UnknownIdentifier { element }
             | Error::EmptyValue { element }

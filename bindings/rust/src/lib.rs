@@ -209,7 +209,8 @@ impl Symbol {
     }
 
     /// Returns the best Micro symbol of some bytes, in the smallest of M1 to M4 into which they
-    /// fit.
+    /// fit. It does not say in which character set they are: of bytes that are not ASCII readers
+    /// may show other characters.
     ///
     /// ```
     /// # use sicklespan::{Error, Level, Symbol, Version};

@@ -267,7 +267,7 @@ fn draws_elements() {
         (
             "(21)A(10)a b",
             Error::InvalidCharacter { place: 5 },
-            "a character is none of a GS1 element, at byte 5",
+            "a character is none of a GS1 element, at byte 5 or in the element there",
         ),
         (
             "(21)A(10)B(01)1",

@@ -12,11 +12,11 @@ use Rattle.gs1.specs.declared.error.Gs1Error.TheVariants.{NoElements}
 use Rattle.gs1.proofs.Faults.{neither, readable}
 
 -- An element in brackets.
-abbrev in_brackets : Element → List ℕ
+abbrev pub in_brackets : Element → List ℕ
 in_brackets e = 0x28 ∷ e.identifier ++ 0x29 ∷ e.value
 
 -- An element with a value has a closing bracket.
-bracketed_part : (part : List ℕ) → 0 < length (element_of part).value → in_brackets (element_of part) ≡ 0x28 ∷ part
+pub bracketed_part : (part : List ℕ) → 0 < length (element_of part).value → in_brackets (element_of part) ≡ 0x28 ∷ part
 bracketed_part part some =
     let within : position_or_len is_closing part < length part =
     omega (arith, length-drop (position_or_len is_closing part + 1) part) in
@@ -39,7 +39,7 @@ bracketed_parts number (part ∷ parts) none =
     ap (λ a. P a (flat_map in_brackets (map element_of parts))) first ∙ ap (P (0x28 ∷ part)) others
 
 -- The parts between opening brackets, each behind its bracket, are the text.
-joined_parts : (text : List ℕ) → flat_map (λ part. 0x28 ∷ part) (slice_split is_opening text) ≡ 0x28 ∷ text
+pub joined_parts : (text : List ℕ) → flat_map (λ part. 0x28 ∷ part) (slice_split is_opening text) ≡ 0x28 ∷ text
 joined_parts [] = refl
 joined_parts (c ∷ text) =
     elim (is_opening c) as (λ b. is_opening c ≡ b →

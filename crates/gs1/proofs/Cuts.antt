@@ -31,7 +31,7 @@ faultless_more number at (x ∷ xs) e count none here =
     rw split.0 others
 
 -- Where nothing is left, the reader has found all.
-finds_all : (bytes : List ℕ) (elements : List Element) → FindsBefore bytes elements [] → Finds bytes elements
+pub finds_all : (bytes : List ℕ) (elements : List Element) → FindsBefore bytes elements [] → Finds bytes elements
 finds_all bytes [] found = found
 finds_all bytes (e ∷ elements) found = (found.0, finds_all (behind_first bytes) elements found.1)
 

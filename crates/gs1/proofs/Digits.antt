@@ -62,3 +62,14 @@ right_digit value sum digit sum_is e =
       only = λ other decimal right. completes_alone sum digit other e decimal
           (let s : (sum + (other - 0x30)) % 10 ≡ 0 = rw (← with_digit other) (eqb-true _ 0 right) in s);
     }
+
+-- The sum is that with 0 in the last place, and the last digit.
+pub sum_with_last : (xs : List ℕ) →
+    weighted_sum xs ≡ weighted_sum (with_last xs 0x30) + (get_or xs (length xs - 1) 0 - 0x30)
+sum_with_last [] = refl
+sum_with_last (x ∷ xs) = sum_before_last (x ∷ xs) (omega arith)
+
+-- The check digit of each value is right.
+pub right_digits : (value : List ℕ) →
+    IsRightDigit value (0x30 + (10 - weighted_sum (with_last value 0x30) % 10) % 10)
+right_digits value = right_digit value (weighted_sum (with_last value 0x30)) _ refl refl

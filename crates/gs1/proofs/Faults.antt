@@ -24,11 +24,11 @@ unfolding identifier_fault
 identifier_tests number identifier e = grind (arith, common_steps)
 
 -- A test of two parts holds of both.
-both : (a b : Bool) → (a && b) ≡ true → (a ≡ true) × (b ≡ true)
+pub both : (a b : Bool) → (a && b) ≡ true → (a ≡ true) × (b ≡ true)
 both true b e = (refl, e)
 both false b e = absurd (let h : false ≡ true = e in cc)
 
-known_length : (o : Option ℕ) (n : ℕ) → unwrap_or o 0 ≡ n → 2 ≤ n → o ≡ Some n
+pub known_length : (o : Option ℕ) (n : ℕ) → unwrap_or o 0 ≡ n → 2 ≤ n → o ≡ Some n
 known_length None n e long = absurd (omega arith)
 known_length (Some m) n e long = ap Some e
 
@@ -36,7 +36,7 @@ long_enough : (n : ℕ) → is_within 2 4 n ≡ true → 2 ≤ n
 long_enough n e = grind (arith, common_steps)
 
 -- Digits are characters of values.
-digit_encodable : (c : ℕ) → is_decimal_digit c ≡ true → is_encodable c ≡ true
+pub digit_encodable : (c : ℕ) → is_decimal_digit c ≡ true → is_encodable c ≡ true
 digit_encodable c e = grind (arith, common_steps)
 
 value_encodable : (is_digits : Bool) (c : ℕ) → is_value_character is_digits c ≡ true → is_encodable c ≡ true
@@ -44,7 +44,7 @@ value_encodable true c e = digit_encodable c e
 value_encodable false c e = e
 
 -- Where no character is refused, all are allowed.
-all_allowed : (p : ℕ → Bool) (xs : List ℕ) → position (λ c. not (p c)) xs ≡ None → AllPass p xs
+pub all_allowed : (p : ℕ → Bool) (xs : List ℕ) → position (λ c. not (p c)) xs ≡ None → AllPass p xs
 all_allowed p xs e = λ k d within.
     let whole : position_or_len (λ c. not (p c)) xs ≡ length xs = none_found (λ c. not (p c)) xs e in
     passes (p (get_or xs k d)) (fails_before_first (λ c. not (p c)) xs k d (omega arith))

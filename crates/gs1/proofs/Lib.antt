@@ -12,3 +12,12 @@ pub mod Cuts
 pub mod Refusals
 pub mod Written
 pub mod Outcomes
+pub mod Escapes
+pub mod KeySums
+pub mod Errors
+pub mod Sizes
+pub mod Allowed
+pub mod AllowedStrings
+pub mod Refused
+pub mod Conflicts
+pub mod Scans

@@ -1,4 +1,12 @@
 pub mod Identifiers
+pub mod Codes
+pub mod Checks
+pub mod Keys
+pub mod Table
 pub mod Elements
+pub mod Values
 pub mod Reader
 pub mod Strings
+pub mod Checked
+pub mod Together
+pub mod Read

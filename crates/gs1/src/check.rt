@@ -58,7 +58,7 @@ fn check_identifier(element: usize, identifier: &[u8]) -> Result<(), Gs1Error>
 }
 
 /// Returns whether an identifier has two to four digits.
-fn is_identifier(identifier: &[u8]) -> bool
+pub(crate) fn is_identifier(identifier: &[u8]) -> bool
     ensures { result ≡ is_identifier identifier.now }
 {
     2 <= identifier.len() && identifier.len() <= 4 && are_digits(identifier)

@@ -96,7 +96,7 @@ pub(crate) fn are_digits(bytes: &[u8]) -> bool
 
 /// Returns the sum of digits with the weights 1 and 3 in turn from the right.
 #[tactic(auto, using(crate::proofs::Digits::weighted_sum_more))]
-fn weighted_sum(digits: &[u8]) -> usize
+pub(crate) fn weighted_sum(digits: &[u8]) -> usize
     requires { length digits.now < 2 ^ 16 }
     ensures { result ≡ weighted_sum digits.now }
 {

@@ -1,4 +1,5 @@
 //! Laws: facts about element strings. Each function has no body; its contract is the fact.
+ghost use Rattle.gs1.specs.Keys.{HaveRightDigits};
 ghost use Rattle.gs1.specs.Reader.{HaveOneList, HaveStringsApart};
 ghost use Rattle.gs1.specs.Strings.{HaveOneOutcome};
 
@@ -15,4 +16,9 @@ pub fn have_strings_apart()
 /// No element string is both taken and refused, and none is refused by two errors.
 pub fn have_one_outcome()
     ensures { HaveOneOutcome }
+{}
+
+/// The check digit that a refusal names is right, and no other is.
+pub fn have_right_digits()
+    ensures { HaveRightDigits }
 {}

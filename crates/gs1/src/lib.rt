@@ -14,18 +14,40 @@ ghost use Rattle.gs1.specs.Reader.{FindsOnly, AreSymbolData};
 ghost use Rattle.qrcode_bits.specs.Contents.{AreElements};
 
 mod check;
+mod checked;
+#[cfg(test)]
+mod checked_tests;
+mod checks;
+mod codes;
+mod dates;
 mod error;
 mod identifiers;
+mod keys;
 pub mod laws;
+mod read;
+#[cfg(test)]
+mod read_tests;
+mod reason;
+mod refusal;
 mod strings;
+mod table;
 #[cfg(test)]
 mod tests;
+mod together;
+#[cfg(test)]
+mod together_tests;
+mod values;
 mod write;
 
+pub use checked::{check_element_values, checked_element_string};
 pub use error::Gs1Error;
 pub use identifiers::right_check_digit;
+pub use read::{brackets, elements_of};
+pub use reason::Reason;
+pub use refusal::CheckError;
 use std::alloc::Global;
 pub use strings::{Element, check_element_string, read_element, written_element};
+pub use together::{TogetherError, check_together};
 
 /// Returns the element string of a text such as `(01)09506000134352(10)ABC123`: the elements one
 /// after the other, each identifier and its value, with the separator 1D (hex) behind each whose

@@ -128,7 +128,7 @@ fn no_element_fault(element: usize, bytes: &[u8]) -> Gs1Error
 }
 
 /// Returns the element with which bytes begin.
-fn first_element<'a>(bytes: &'a [u8]) -> Option<Element<'a>>
+pub(crate) fn first_element<'a>(bytes: &'a [u8]) -> Option<Element<'a>>
     ensures begins { IfSome result (λ e. BeginsWith bytes.now
         (record { identifier = e.identifier.now; value = e.value.now })) }
     ensures none { IfNone result (BeginsWithNone bytes.now) }
@@ -151,7 +151,7 @@ fn first_text(bytes: &[u8]) -> &[u8]
 }
 
 /// Returns the bytes after the first element and its separator.
-fn behind_first(bytes: &[u8]) -> &[u8]
+pub(crate) fn behind_first(bytes: &[u8]) -> &[u8]
     ensures { result.now ≡ behind_first bytes.now }
 {
     match predefined_length(bytes) {

@@ -9,12 +9,12 @@
 //! ```
 #![tactic(auto)]
 
-ghost use Rattle.std.specs.Prelude.{◌≡◌, ℕ, ◌+◌, ◌≤◌, ◌↔◌, ◌⊎◌, List, length, map, Some};
+ghost use Rattle.std.specs.Prelude.{◌≡◌, ℕ, ◌+◌, ◌^◌, ◌<◌, ◌≤◌, ◌↔◌, ◌⊎◌, List, length, map, Some};
 ghost use Rattle.std.specs.Prelude.{IsTrue, IsFalse, IfOk, IfErr, OnOk, IsErrOf, is_err};
 ghost use Rattle.std.specs.String.{string_bytes};
 ghost use Rattle.qrcode_base.specs.declared.symbols.TheConstants.{LONGEST_DATA};
 ghost use Rattle.qrcode_base.specs.declared.types.errors.QrError.TheVariants.{OutOfMemory};
-ghost use Rattle.programs.specs.Devices.{input, output, ReadsEnough, ReadsWithin, Writes};
+ghost use Rattle.programs.specs.Devices.{input, output, ReadsEnough, ReadsUpTo, ReadsWithin, Writes};
 ghost use Rattle.programs.specs.Outcome.{fault_text};
 ghost use Rattle.programs.specs.declared.Fault.TheVariants.{Symbol};
 
@@ -113,12 +113,8 @@ impl From<QrError> for Fault {
     }
 }
 
-/// A number of bytes that no symbol holds.
-const TOO_MANY: usize = LONGEST_DATA + 1;
-
 /// Reads to the end, or until there are 7090 bytes, which no symbol holds. It fails with `Read` if
 /// the reader failed, and with `OutOfMemory`.
-#[tactic(auto, using(crate::proofs::DeviceLemmas::reading))]
 pub fn read_all<R: Source>(alloc: Global, reader: &mut R) -> Result<Vec<u8>, Fault>
     requires { IsFalse (R.state reader.old).failed }
     ensures read { IfOk result (λ bytes.
@@ -128,10 +124,26 @@ pub fn read_all<R: Source>(alloc: Global, reader: &mut R) -> Result<Vec<u8>, Fau
     ensures failure { IsErrOf result Fault.Read ↔ IsTrue (R.state reader.new).failed }
     ensures fault { IfErr result (λ e. (e ≡ Fault.Read) ⊎ (e ≡ Fault.Symbol QrError.OutOfMemory)) }
 {
+    read_up_to(alloc, LONGEST_DATA, reader)
+}
+
+/// Reads to the end, or until there is one byte more than `most`. It fails with `Read` if the
+/// reader failed, and with `OutOfMemory`.
+#[tactic(auto, using(crate::proofs::DeviceLemmas::reading))]
+pub fn read_up_to<R: Source>(alloc: Global, most: usize, reader: &mut R) -> Result<Vec<u8>, Fault>
+    requires sound { IsFalse (R.state reader.old).failed }
+    requires bound { most < 2 ^ 32 }
+    ensures read { IfOk result (λ bytes.
+        ReadsUpTo most (input (R.state reader.old) (R.state reader.new)) bytes.items) }
+    ensures within { ReadsWithin (most + 1) (input (R.state reader.old) (R.state reader.new)) }
+    ensures failure { IsErrOf result Fault.Read ↔ IsTrue (R.state reader.new).failed }
+    ensures fault { IfErr result (λ e. (e ≡ Fault.Read) ⊎ (e ≡ Fault.Symbol QrError.OutOfMemory)) }
+{
     let mut bytes = Vec::new(alloc);
     let mut buf = [0u8; 512];
-    'reading: while bytes.len() < TOO_MANY {
-        let room = buf.len().min(TOO_MANY - bytes.len());
+    let too_many = most + 1;
+    'reading: while bytes.len() < too_many {
+        let room = buf.len().min(too_many - bytes.len());
         let Some(n) = reader.pull(&mut buf[..room]) else {
             return Err(Fault::Read);
         };

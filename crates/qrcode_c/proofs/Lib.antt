@@ -2,3 +2,4 @@ mod Writing
 mod Answering
 mod CoreErrors
 mod Widths
+pub mod PictureLemmas

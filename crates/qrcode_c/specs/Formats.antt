@@ -3,6 +3,7 @@ use Rattle.std.specs.Prelude.{◌≡◌, ◌≢◌, ◌↔◌, ℕ, ℤ, pos, ne
 use Rattle.qrcode_render.specs.declared.format.Format.{Format}
 use Rattle.qrcode_render.specs.declared.format.Format.TheVariants.{Terminal, Svg, Png, Pbm, Eps}
 use Rattle.qrcode_render.specs.declared.format.Format.TheVariants.{EscPos, Zpl}
+use Rattle.qrcode_render.specs.Colors.{no_colors}
 use Rattle.qrcode_render.specs.declared.settings.Settings.{Settings}
 use Rattle.qrcode_c.specs.declared.settings.PictureSettings.{PictureSettings}
 
@@ -45,3 +46,5 @@ pub record MeansSettings (asked : PictureSettings) (settings : Settings) : Type 
   pub compressed_is : settings.compressed ≡ false
   pub feed_is : settings.feed ≡ None
   pub cut_is : settings.cut ≡ false
+  pub colors_are : settings.colors ≡ no_colors
+  pub any_colors_is : settings.any_colors ≡ false

@@ -85,7 +85,10 @@ fn setting_refusal(setting: Setting) -> Refusal
         | Setting::Copies
         | Setting::Compressed
         | Setting::Feed
-        | Setting::Cut => Refusal::InvalidSetting,
+        | Setting::Cut
+        | Setting::Dark
+        | Setting::Light
+        | Setting::AnyColors => Refusal::InvalidSetting,
     }
 }
 

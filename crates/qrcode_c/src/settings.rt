@@ -3,6 +3,7 @@ ghost use Rattle.std.specs.Prelude.{◌≡◌, IfSome, IfNone};
 ghost use Rattle.qrcode_c.specs.Formats.{format_argument, given, corner, IsNoFormat, MeansSettings};
 
 use crate::options::is_set;
+use qrcode_render::colors::NO_COLORS;
 use qrcode_render::{Format, Settings};
 
 /// The settings of a picture, which may be any numbers; the call checks them. A number below 0
@@ -59,6 +60,8 @@ pub fn settings_of(asked: &PictureSettings) -> Settings<'_>
         compressed: false,
         feed: None,
         cut: false,
+        colors: NO_COLORS,
+        any_colors: false,
     }
 }
 

@@ -14,5 +14,7 @@ pub mod RowRuns
 pub mod TextLemmas
 pub mod CoverLemmas
 pub mod XmlLemmas
+pub mod StringLemmas
 pub mod ReadingLemmas
 pub mod FieldLemmas
+pub mod LightLemmas

@@ -32,6 +32,13 @@ four_pieces a b c d = simp append_assoc
 pub five_pieces : {A : Type 0} (a b c d e : List A) → (((a ++ b) ++ c) ++ d) ++ e ≡ a ++ (b ++ (c ++ (d ++ e)))
 five_pieces a b c d e = simp append_assoc
 
+-- six pieces, and seven
+pub six_pieces : {A : Type 0} (a b c d e f : List A) → ((((a ++ b) ++ c) ++ d) ++ e) ++ f ≡ a ++ (b ++ (c ++ (d ++ (e ++ f))))
+six_pieces a b c d e f = simp append_assoc
+
+pub seven_pieces : {A : Type 0} (a b c d e f g : List A) → (((((a ++ b) ++ c) ++ d) ++ e) ++ f) ++ g ≡ a ++ (b ++ (c ++ (d ++ (e ++ (f ++ g)))))
+seven_pieces a b c d e f g = simp append_assoc
+
 -- equal values
 pub equal_values : {A : Type 0} (f : ℕ → A) (a n : ℕ) → ((k : ℕ) → k < n → f (a + k) ≡ f a) → map f (range_with_len a n) ≡ replicate n (f a)
 equal_values f a zero same = refl

@@ -8,12 +8,12 @@ use Rattle.qrcode_render.specs.declared.format.Format.{Format}
 use Rattle.qrcode_render.specs.declared.format.Format.TheVariants.{Terminal, Svg, Png, Pbm, Eps}
 use Rattle.qrcode_render.specs.declared.format.Format.TheVariants.{EscPos, Zpl}
 use Rattle.qrcode_render.specs.Bitmaps.{bitmap_of}
-use Rattle.qrcode_render.specs.Eps.{eps_text}
+use Rattle.qrcode_render.specs.Eps.{eps_document}
 use Rattle.qrcode_render.specs.EscPos.{ticket_text}
 use Rattle.qrcode_render.specs.Labels.{IsLabel}
-use Rattle.qrcode_render.specs.Paths.{svg_document}
+use Rattle.qrcode_render.specs.Paths.{svg_colored}
 use Rattle.qrcode_render.specs.Pictures.{Picture, picture}
-use Rattle.qrcode_render.specs.PngPixels.{png_pixels}
+use Rattle.qrcode_render.specs.PngPixels.{png_file}
 use Rattle.qrcode_render.specs.Terminals.{terminal_text}
 use Rattle.qrcode_render.specs.Resolutions.{per_metre}
 
@@ -21,11 +21,12 @@ use Rattle.qrcode_render.specs.Resolutions.{per_metre}
 -- scale and the quiet zone. Of PNG they are any bytes in which a reader finds the pixels.
 abbrev pub IsPictureAs : Format → DrawOptions → Picture → List ℕ → Type 0
 IsPictureAs Terminal o p bytes = bytes ≡ terminal_text o.inverted p
-IsPictureAs Svg o p bytes = bytes ≡ svg_document o.module_mm (option_copied o.title) p
+IsPictureAs Svg o p bytes = bytes ≡ svg_colored o.module_mm (option_copied o.title) o.colors p
 IsPictureAs Png o p bytes =
-    read_png bytes ≡ Some (png_pixels (per_metre o.scale o.module_mm o.dpi) p)
+    read_png bytes
+    ≡ Some (png_file (per_metre o.scale o.module_mm o.dpi) (option_copied o.title) o.colors p)
 IsPictureAs Pbm o p bytes = bytes ≡ bitmap_of p
-IsPictureAs Eps o p bytes = bytes ≡ eps_text o.module_mm p
+IsPictureAs Eps o p bytes = bytes ≡ eps_document o.module_mm (option_copied o.title) o.colors p
 IsPictureAs EscPos o p bytes = bytes ≡ ticket_text o.feed o.cut p
 IsPictureAs Zpl o p bytes = IsLabel o.compressed o.at o.copies p bytes
 

@@ -1,9 +1,16 @@
 -- A picture as Encapsulated PostScript (Adobe, "Encapsulated PostScript File Format Specification",
 -- version 3.0): a light background, and on it one path with a rectangle for each run of dark
 -- modules in a row.
-use Rattle.std.specs.Prelude.{ℕ, ◌+◌, ◌*◌, ◌/◌, Option, None, Some, List, ◌++◌, codes, decimal}
+use Rattle.std.specs.Prelude.{ℕ, ◌+◌, ◌*◌, ◌/◌, ◌%◌, Option, None, Some, List, [], ◌++◌, codes}
+use Rattle.std.specs.Prelude.{decimal}
+use Rattle.qrcode_render.specs.Colors.{no_colors}
+use Rattle.qrcode_render.specs.declared.colors.Colors.{Colors}
+use Rattle.qrcode_render.specs.declared.colors.Ground.{Ground}
+use Rattle.qrcode_render.specs.declared.colors.Ground.TheVariants.{Color, Transparent}
+use Rattle.qrcode_render.specs.declared.colors.Rgb.{Rgb}
 use Rattle.qrcode_render.specs.Pictures.{Picture, columns_of, rows_of}
 use Rattle.qrcode_render.specs.Paths.{path}
+use Rattle.qrcode_render.specs.PostScript.{string_text}
 
 -- The width of a module in points, of which an inch has 72: the scale, or the size that is given in
 -- hundredths of a millimetre.
@@ -16,29 +23,97 @@ abbrev pub box_side : Option ℕ → (scale modules : ℕ) → ℕ
 box_side None scale modules = modules * scale
 box_side (Some module_mm) scale modules = (modules * module_mm * 18 + 634) / 635
 
--- The comments, up to the end of the sides of the bounding box.
+-- Thousandths, as a decimal number.
+unfoldable pub thousandths : ℕ → List ℕ
+thousandths n =
+    decimal (n / 1000) ++ (codes "." ++ (decimal (n / 100 % 10) ++ (decimal (n / 10 % 10)
+    ++ decimal (n % 10))))
+
+-- A side of the picture in points, where the size of a module is given: the least whole number of
+-- thousandths that is not less than the side.
+abbrev pub exact_side : (module_mm modules : ℕ) → List ℕ
+exact_side module_mm modules = thousandths ((modules * module_mm * 18000 + 634) / 635)
+
+-- The comments, up to the sides of the bounding box.
 unfoldable pub eps_head : (width height : ℕ) → List ℕ
 eps_head width height =
     codes "%!PS-Adobe-3.0 EPSF-3.0\n%%BoundingBox: 0 0 " ++ (decimal width ++ (codes " " ++
-    (decimal height ++ codes "\n%%LanguageLevel: 2\n%%EndComments\n")))
+    (decimal height ++ codes "\n")))
 
--- The procedure that adds a rectangle to the path; the units, which are modules, the rows counted
--- from the top; and the light background.
-unfoldable pub eps_setup : (points : List ℕ) → (columns rows : ℕ) → List ℕ
-eps_setup points columns rows =
-    codes "/r{moveto dup 0 rlineto 0 1 rlineto neg 0 rlineto closepath}bind def\n" ++ (points ++
-    (codes " dup scale 0 " ++ (decimal rows ++ (codes " translate 1 -1 scale\n1 setgray 0 0 " ++
-    (decimal columns ++ (codes " " ++ (decimal rows ++ codes " rectfill 0 setgray\n")))))))
+unfoldable pub exact_line : (width height : List ℕ) → List ℕ
+exact_line width height =
+    codes "%%HiResBoundingBox: 0 0 " ++ (width ++ (codes " " ++ (height ++ codes "\n")))
+
+-- The sides of the picture, which are no whole points where the size of a module is given.
+abbrev pub exact_comment : Option ℕ → (columns rows : ℕ) → List ℕ
+exact_comment None columns rows = []
+exact_comment (Some module_mm) columns rows =
+    exact_line (exact_side module_mm columns) (exact_side module_mm rows)
+
+-- Both.
+abbrev pub eps_comments : Option ℕ → (scale columns rows : ℕ) → List ℕ
+eps_comments module_mm scale columns rows =
+    eps_head (box_side module_mm scale columns) (box_side module_mm scale rows)
+    ++ exact_comment module_mm columns rows
+
+-- The title, if there is one (Adobe, "PostScript Language Document Structuring Conventions",
+-- version 3.0), as a string.
+abbrev pub title_comment : Option (List ℕ) → List ℕ
+title_comment None = []
+title_comment (Some title) = codes "%%Title: (" ++ (string_text title ++ codes ")\n")
+
+-- The end of the comments; the procedure that adds a rectangle to the path; and the units, which
+-- are modules, the rows counted from the top.
+unfoldable pub eps_setup : (points : List ℕ) → (rows : ℕ) → List ℕ
+eps_setup points rows =
+    codes "%%LanguageLevel: 2\n%%EndComments\n"
+    ++ (codes "/r{moveto dup 0 rlineto 0 1 rlineto neg 0 rlineto closepath}bind def\n" ++ (points ++
+    (codes " dup scale 0 " ++ (decimal rows ++ codes " translate 1 -1 scale\n"))))
+
+-- A colour as PostScript has it.
+unfoldable pub ps_color : Rgb → List ℕ
+ps_color c =
+    decimal c.red ++ (codes " 255 div " ++ (decimal c.green ++ (codes " 255 div " ++
+    (decimal c.blue ++ codes " 255 div setrgbcolor"))))
+
+-- The rectangle of the ground.
+unfoldable pub eps_fill : (color : List ℕ) → (columns rows : ℕ) → List ℕ
+eps_fill color columns rows =
+    color ++ (codes " 0 0 " ++ (decimal columns ++ (codes " " ++ (decimal rows
+    ++ codes " rectfill "))))
+
+-- The ground, white if none is given. If it is transparent there is nothing.
+abbrev pub eps_ground : Option Ground → (columns rows : ℕ) → List ℕ
+eps_ground None columns rows = eps_fill (codes "1 setgray") columns rows
+eps_ground (Some Transparent) columns rows = []
+eps_ground (Some (Color color)) columns rows = eps_fill (ps_color color) columns rows
+
+-- The colour of the path, black if none is given.
+abbrev pub eps_ink : Option Rgb → List ℕ
+eps_ink None = codes "0 setgray\n"
+eps_ink (Some color) = ps_color color ++ codes "\n"
 
 -- The rectangle that covers `length` modules from column x of row y on.
 unfoldable pub eps_rectangle : ℕ → ℕ → ℕ → List ℕ
 eps_rectangle x y length =
     decimal length ++ (codes " " ++ (decimal x ++ (codes " " ++ (decimal y ++ codes " r\n"))))
 
--- The document of a picture, with the size of a module in hundredths of a millimetre if it
--- is given.
+-- The end of the document.
+abbrev pub eps_end : List ℕ
+eps_end = codes "fill\nshowpage\n%%EOF\n"
+
+-- The document of a picture, with the size of a module in hundredths of a millimetre, with a title
+-- and with colours, if they are given.
+abbrev pub eps_document : (module_mm : Option ℕ) → (title : Option (List ℕ)) → Colors → Picture →
+    List ℕ
+eps_document module_mm title colors p =
+    eps_comments module_mm p.scale (columns_of p) (rows_of p)
+    ++ (title_comment title
+    ++ (eps_setup (module_points module_mm p.scale) (rows_of p)
+    ++ (eps_ground colors.light (columns_of p) (rows_of p)
+    ++ (eps_ink colors.dark ++ (path eps_rectangle p (rows_of p) ++ eps_end)))))
+
+-- The document of a picture in black on white, with the size of a module if it is given, and no
+-- title.
 abbrev pub eps_text : Option ℕ → Picture → List ℕ
-eps_text module_mm p =
-    eps_head (box_side module_mm p.scale (columns_of p)) (box_side module_mm p.scale (rows_of p))
-    ++ (eps_setup (module_points module_mm p.scale) (columns_of p) (rows_of p)
-    ++ (path eps_rectangle p (rows_of p) ++ codes "fill\nshowpage\n%%EOF\n"))
+eps_text module_mm p = eps_document module_mm None no_colors p

@@ -30,7 +30,16 @@ has_dots _ = false
 -- The picture has a title.
 abbrev pub has_title : Format → Bool
 has_title Svg = true
+has_title Png = true
+has_title Eps = true
 has_title _ = false
+
+-- The picture has colours.
+abbrev pub has_colors : Format → Bool
+has_colors Svg = true
+has_colors Png = true
+has_colors Eps = true
+has_colors _ = false
 
 -- The picture has a position on what is printed.
 abbrev pub has_position : Format → Bool

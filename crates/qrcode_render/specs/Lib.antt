@@ -5,6 +5,7 @@ pub mod Bitmaps
 pub mod Terminals
 pub mod Xml
 pub mod Paths
+pub mod PostScript
 pub mod Eps
 pub mod Pens
 pub mod Numbers
@@ -22,5 +23,7 @@ pub mod Encoded
 pub mod Labels
 pub mod PngPixels
 pub mod Resolutions
+pub mod Colors
+pub mod ColorWords
 pub mod Drawings
 pub mod Asked

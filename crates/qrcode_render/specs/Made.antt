@@ -21,3 +21,4 @@ pub record IsMadeOf (format : Format) (s : Settings) (options : DrawOptions) : T
   pub compressed_is : options.compressed ≡ s.compressed
   pub feed_is : options.feed ≡ s.feed
   pub cut_is : options.cut ≡ s.cut
+  pub colors_are : options.colors ≡ s.colors

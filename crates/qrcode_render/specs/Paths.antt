@@ -1,11 +1,18 @@
 -- A picture as one path: a rectangle for each run of dark modules in a row. And a picture as SVG
 -- (Scalable Vector Graphics 1.1): a light background, and on it this path.
-use Rattle.std.specs.Prelude.{ℕ, ◌-◌, ◌*◌, ◌/◌, ◌%◌, Option, None, Some, Bool, if◌then◌else◌, ◌==◌, ◌&&◌, ◌||◌, not}
+use Rattle.std.specs.Prelude.{ℕ, ◌-◌, ◌*◌, ◌/◌, ◌%◌, Option, None, Some, Bool, if◌then◌else◌, ◌==◌}
+use Rattle.std.specs.Prelude.{◌&&◌, ◌||◌, not}
 use Rattle.std.specs.Prelude.{List, [], ◌++◌, map, drop, flat_map, codes, decimal}
 use Rattle.std.specs.List.{range_with_len, prefix_len}
 use Rattle.qrcode_render.specs.Pictures.{Picture, columns_of, rows_of, pixel_width, pixel_height}
 use Rattle.qrcode_render.specs.Pictures.{is_dark_module}
+use Rattle.qrcode_render.specs.Colors.{no_colors}
+use Rattle.qrcode_render.specs.Zpl.{hex_pair}
 use Rattle.qrcode_render.specs.Xml.{xml_text}
+use Rattle.qrcode_render.specs.declared.colors.Colors.{Colors}
+use Rattle.qrcode_render.specs.declared.colors.Ground.{Ground}
+use Rattle.qrcode_render.specs.declared.colors.Ground.TheVariants.{Color, Transparent}
+use Rattle.qrcode_render.specs.declared.colors.Rgb.{Rgb}
 
 -- Whether a run begins in column x of row y: the module is dark, and the one to its left is not.
 abbrev pub begins_run : Picture → ℕ → ℕ → Bool
@@ -63,25 +70,50 @@ abbrev pub title_element : Option (List ℕ) → List ℕ
 title_element None = []
 title_element (Some title) = codes "<title>" ++ (xml_text title ++ codes "</title>\n")
 
--- The light background, and the path up to its data.
-unfoldable pub background : (columns rows : ℕ) → List ℕ
-background columns rows =
+-- A colour as SVG has it.
+unfoldable pub hex_color : Rgb → List ℕ
+hex_color c = codes "#" ++ (hex_pair c.red ++ (hex_pair c.green ++ hex_pair c.blue))
+
+-- The colour of the path, black if none is given.
+abbrev pub stroke : Option Rgb → List ℕ
+stroke None = codes "#000"
+stroke (Some color) = hex_color color
+
+-- The rectangle of the ground.
+unfoldable pub background : (color : List ℕ) → (columns rows : ℕ) → List ℕ
+background color columns rows =
     codes "<rect width=\"" ++ (decimal columns ++ (codes "\" height=\"" ++ (decimal rows ++
-    (codes "\" fill=\"#fff\"/>\n<path stroke=\"#000\" transform=\"translate(0,.5)\""
-    ++ codes " shape-rendering=\"crispEdges\" d=\""))))
+    (codes "\" fill=\"" ++ (color ++ codes "\"/>\n")))))
+
+-- The ground, white if none is given. If it is transparent there is nothing.
+abbrev pub svg_ground : Option Ground → (columns rows : ℕ) → List ℕ
+svg_ground None columns rows = background (codes "#fff") columns rows
+svg_ground (Some Transparent) columns rows = []
+svg_ground (Some (Color color)) columns rows = background (hex_color color) columns rows
+
+-- The path up to its data.
+unfoldable pub path_start : (color : List ℕ) → List ℕ
+path_start color =
+    codes "<path stroke=\"" ++ (color ++ (codes "\" transform=\"translate(0,.5)\""
+    ++ codes " shape-rendering=\"crispEdges\" d=\""))
 
 -- The end of the document.
 abbrev pub closing : List ℕ
 closing = codes "\"/>\n</svg>\n"
 
--- The document of a picture, with the size of a module in hundredths of a millimetre and with a
--- title, if they are given.
-abbrev pub svg_document : (module_mm : Option ℕ) → (title : Option (List ℕ)) → Picture → List ℕ
-svg_document module_mm title p =
+-- The document of a picture, with the size of a module in hundredths of a millimetre, with a title
+-- and with colours, if they are given.
+abbrev pub svg_colored : (module_mm : Option ℕ) → (title : Option (List ℕ)) → Colors → Picture →
+    List ℕ
+svg_colored module_mm title colors p =
     svg_tag (svg_side module_mm (columns_of p) (pixel_width p))
     (svg_side module_mm (rows_of p) (pixel_height p)) (columns_of p) (rows_of p)
-    ++ (title_element title ++ (background (columns_of p) (rows_of p)
-    ++ (path rectangle p (rows_of p) ++ closing)))
+    ++ (title_element title ++ (svg_ground colors.light (columns_of p) (rows_of p)
+    ++ (path_start (stroke colors.dark) ++ (path rectangle p (rows_of p) ++ closing))))
+
+-- The same in black on white.
+abbrev pub svg_document : (module_mm : Option ℕ) → (title : Option (List ℕ)) → Picture → List ℕ
+svg_document module_mm title p = svg_colored module_mm title no_colors p
 
 -- The document of a picture, with neither.
 abbrev pub svg_text : Picture → List ℕ

@@ -55,6 +55,14 @@ pub const MAX_DPI: usize = 2_400;
 /// then within the 32,000 dots of `^FO`.
 pub const MAX_AT: usize = 18_000;
 
+/// The greatest number of bytes of the title of a PNG file. Readers bound the length of a text too:
+/// libpng by 8 million bytes.
+pub const MAX_PNG_TITLE: usize = 1_000_000;
+
+/// The greatest number of characters that the title takes in the comment `%%Title` of EPS, whose
+/// line has at most 255: `laws::strings_are_read` says how they are written.
+pub const MAX_PS_TITLE: usize = 244;
+
 /// The least number of labels that a printer prints.
 pub const MIN_COPIES: usize = 1;
 

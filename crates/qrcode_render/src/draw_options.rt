@@ -1,10 +1,11 @@
 //! The options of a picture in a format, made of settings and tested once.
-ghost use Rattle.std.specs.Prelude.{◌≡◌, ◌≤◌};
+ghost use Rattle.std.specs.Prelude.{◌≡◌, ◌≤◌, ◌&&◌};
 ghost use Rattle.std.specs.Prelude.{true, false, Some, None, OnOk, OnErr, IfErr};
 ghost use Rattle.std.specs.Option.{ForSome, option_copied};
 ghost use Rattle.qrcode_render.specs.Settings.{allows, allows_title, allows_position};
-ghost use Rattle.qrcode_render.specs.Settings.{first_failed, printer_tests};
-ghost use Rattle.qrcode_render.specs.Formats.{has_copies, has_feed};
+ghost use Rattle.qrcode_render.specs.Settings.{first_failed, has_room, printer_tests};
+ghost use Rattle.qrcode_render.specs.Settings.{allows_colors, color_tests};
+ghost use Rattle.qrcode_render.specs.Formats.{has_copies, has_feed, has_title};
 ghost use Rattle.qrcode_render.specs.declared.bounds.TheConstants.{MIN_SCALE, MAX_SCALE, MAX_QUIET};
 ghost use Rattle.qrcode_render.specs.declared.bounds.TheConstants.{MIN_MODULE_MM, MAX_MODULE_MM};
 ghost use Rattle.qrcode_render.specs.declared.bounds.TheConstants.{MIN_DPI, MAX_DPI, MAX_AT};
@@ -12,10 +13,12 @@ ghost use Rattle.qrcode_render.specs.declared.bounds.TheConstants.{MIN_COPIES, M
 ghost use Rattle.qrcode_render.specs.declared.bounds.TheConstants.{MAX_FEED};
 
 use crate::bounds::{
-    MAX_AT, MAX_COPIES, MAX_DPI, MAX_FEED, MAX_MODULE_MM, MAX_QUIET, MAX_SCALE, MIN_COPIES,
-    MIN_DPI, MIN_MODULE_MM, MIN_SCALE, QUIET,
+    MAX_AT, MAX_COPIES, MAX_DPI, MAX_FEED, MAX_MODULE_MM, MAX_PNG_TITLE, MAX_QUIET, MAX_SCALE,
+    MIN_COPIES, MIN_DPI, MIN_MODULE_MM, MIN_SCALE, QUIET,
 };
+use crate::colors::Colors;
 use crate::format::Format;
+use crate::postscript::is_short;
 use crate::settings::{Setting, Settings};
 use crate::xml::is_xml_text;
 use std::alloc::Global;
@@ -47,6 +50,8 @@ pub struct DrawOptions<'a> {
     pub feed: Option<usize>,
     /// Whether the paper is cut after the picture.
     pub cut: bool,
+    /// The colours of the dark modules and of the ground.
+    pub colors: Colors,
     ghost scaled: { MIN_SCALE ≤ scale },
     ghost small_scale: { scale ≤ MAX_SCALE },
     ghost small_zone: { quiet ≤ MAX_QUIET },
@@ -82,8 +87,7 @@ impl<'a> DrawOptions<'a> {
         ensures refused { IfErr result
             (λ setting. invalid_setting format settings.now ≡ Some setting) }
     {
-        let scale = settings.scale;
-        let quiet = settings.quiet;
+        let (scale, quiet) = (settings.scale, settings.quiet);
         let module_mm = settings.module_mm;
         let dpi = settings.dpi;
         let inverted = settings.inverted;
@@ -97,9 +101,10 @@ impl<'a> DrawOptions<'a> {
         require(sized, Setting::ModuleMm)?;
         require(allows(lone_dpi, MIN_DPI, MAX_DPI, dpi), Setting::Dpi)?;
         require(!inverted || format.can_be_inverted(), Setting::Inverted)?;
-        require(allows_title(format.has_title(), title), Setting::Title)?;
+        require(allows_title(format, title), Setting::Title)?;
         require(allows_position(format.has_position(), at), Setting::At)?;
         require_printable(format, settings)?;
+        require_colored(format, settings)?;
         Ok(DrawOptions {
             format,
             scale: scale.unwrap_or(format.default_scale()),
@@ -113,6 +118,7 @@ impl<'a> DrawOptions<'a> {
             compressed: settings.compressed,
             feed: settings.feed,
             cut: settings.cut,
+            colors: settings.colors,
         })
     }
 }
@@ -139,6 +145,34 @@ fn require_printable(format: Format, settings: &Settings) -> Result<(), Setting>
     require(!settings.cut || format.can_be_cut(), Setting::Cut)
 }
 
+/// Fails with the first setting for colours that is not valid.
+fn require_colored(format: Format, settings: &Settings) -> Result<(), Setting>
+    ensures valid { OnOk result (first_failed (color_tests format settings.now) ≡ None) }
+    ensures refused { IfErr result (λ setting.
+        first_failed (color_tests format settings.now) ≡ Some setting) }
+{
+    let colors = settings.colors;
+    let allowed = allows_colors(format, settings);
+    let dark_allowed = if colors.light.is_some() {
+        format.has_colors()
+    } else {
+        allowed
+    };
+    require(colors.dark.is_none() || dark_allowed, Setting::Dark)?;
+    require(colors.light.is_none() || allowed, Setting::Light)?;
+    require(
+        !settings.any_colors || format.has_colors(),
+        Setting::AnyColors,
+    )
+}
+
+/// Whether colours may be given, and these.
+fn allows_colors(format: Format, settings: &Settings) -> bool
+    ensures { result ≡ allows_colors format settings.now }
+{
+    format.has_colors() && (settings.any_colors || settings.colors.are_readable())
+}
+
 /// Fails with a setting that is not valid.
 fn require(valid: bool, setting: Setting) -> Result<(), Setting>
     ensures valid { OnOk result (valid ≡ true) }
@@ -158,13 +192,26 @@ fn allows(has: bool, least: usize, most: usize, number: Option<usize>) -> bool
     }
 }
 
-/// Whether a title may be given: XML allows its characters, and the format has one.
-fn allows_title(has: bool, title: Option<&str>) -> bool
-    ensures { result ≡ allows_title has (option_copied title.entry) }
+/// Whether a title may be given: the format has one, XML allows its characters, and there is room
+/// for it.
+fn allows_title(format: Format, title: Option<&str>) -> bool
+    ensures { result ≡ (allows_title (has_title format) (option_copied title.entry)
+        && has_room format (option_copied title.entry)) }
 {
     match title {
-        Some(title) => has && is_xml_text(title),
+        Some(title) => format.has_title() && is_xml_text(title) && has_room(format, title),
         None => true,
+    }
+}
+
+/// Whether the format has room for a title.
+fn has_room(format: Format, title: &str) -> bool
+    ensures { result ≡ has_room format (Some title.now) }
+{
+    match format {
+        Format::Png => title.len() <= MAX_PNG_TITLE,
+        Format::Eps => is_short(title),
+        _ => true,
     }
 }
 

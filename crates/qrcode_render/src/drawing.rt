@@ -8,14 +8,14 @@ ghost use Rattle.qrcode_render.specs.Resolutions.{nearest, per_metre};
 ghost use Rattle.qrcode_render.specs.Shown.{shown};
 
 use crate::draw_options::DrawOptions;
-use crate::eps::eps;
+use crate::eps::eps_document;
 use crate::escpos::ticket;
 use crate::format::Format;
 use crate::options::RenderOptions;
 use crate::pbm::pbm;
 use crate::picture::Picture;
-use crate::png_file::png;
-use crate::svg::svg_document;
+use crate::png_file::png_file;
+use crate::svg::svg_colored;
 use crate::terminal::terminal;
 use crate::zpl::{compressed_label, label};
 use qrcode_core::symbol::Symbol;
@@ -59,11 +59,18 @@ pub(crate) fn draw_picture(
     match options.format {
         Format::Terminal => Ok(terminal(alloc, picture, options.inverted)?.into_bytes()),
         Format::Svg => {
-            Ok(svg_document(alloc, picture, options.module_mm, options.title)?.into_bytes())
+            let (module_mm, title) = (options.module_mm, options.title);
+            Ok(svg_colored(alloc, picture, module_mm, title, options.colors)?.into_bytes())
         }
-        Format::Png => png(alloc, picture, pixels_per_metre(options)),
+        Format::Png => {
+            let per_metre = pixels_per_metre(options);
+            png_file(alloc, picture, per_metre, options.title, options.colors)
+        }
         Format::Pbm => pbm(alloc, picture),
-        Format::Eps => Ok(eps(alloc, picture, options.module_mm)?.into_bytes()),
+        Format::Eps => {
+            let (module_mm, title) = (options.module_mm, options.title);
+            Ok(eps_document(alloc, picture, module_mm, title, options.colors)?.into_bytes())
+        }
         Format::EscPos => ticket(alloc, picture, options.feed, options.cut),
         Format::Zpl => zpl(alloc, picture, options),
     }

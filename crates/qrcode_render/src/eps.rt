@@ -1,15 +1,20 @@
 //! Pictures as Encapsulated PostScript.
-ghost use Rattle.std.specs.Prelude.{◌≡◌, ◌≤◌, IfOk};
-ghost use Rattle.std.specs.Option.{ForSome};
+ghost use Rattle.std.specs.Prelude.{◌≡◌, ◌≤◌, ◌++◌, None, Some, IfOk, OnOk};
+ghost use Rattle.std.specs.Option.{ForSome, option_copied};
 ghost use Rattle.std.specs.String.{string_bytes};
 ghost use Rattle.qrcode_render.specs.declared.bounds.TheConstants.{MAX_COLUMNS, MAX_MODULE_MM};
 ghost use Rattle.qrcode_render.specs.declared.bounds.TheConstants.{MAX_SCALE};
-ghost use Rattle.qrcode_render.specs.Eps.{box_side, eps_head, eps_setup, eps_text, module_points};
+ghost use Rattle.qrcode_render.specs.Eps.{box_side, eps_document, eps_head, eps_setup, eps_text};
+ghost use Rattle.qrcode_render.specs.Eps.{eps_fill, eps_ground, eps_ink, ps_color};
+ghost use Rattle.qrcode_render.specs.Eps.{eps_comments, exact_comment, exact_line, exact_side};
+ghost use Rattle.qrcode_render.specs.Eps.{module_points, title_comment};
 ghost use Rattle.qrcode_render.specs.Shown.{shown};
 
+use crate::colors::{Colors, Ground, NO_COLORS, Rgb};
 use crate::path::push_path;
 use crate::pen::Pen;
 use crate::picture::Picture;
+use crate::postscript::push_string;
 use std::alloc::{AllocError, Global};
 
 /// Returns the picture as Encapsulated PostScript: a light background, and one path with a
@@ -19,18 +24,121 @@ pub fn eps(alloc: Global, picture: &Picture, module_mm: Option<usize>) -> Result
     requires { ForSome module_mm (λ n. n ≤ MAX_MODULE_MM) }
     ensures { IfOk result (λ text. string_bytes text ≡ eps_text module_mm (shown picture.now)) }
 {
+    eps_document(alloc, picture, module_mm, None, NO_COLORS)
+}
+
+/// Returns the picture as Encapsulated PostScript, with the width of a module in hundredths of a
+/// millimetre, with a title and with colours, if they are given. A reader of PostScript finds
+/// exactly the bytes of the title (`laws::strings_are_read`). A transparent ground is no
+/// background. It fails only for lack of memory.
+pub fn eps_document(
+    alloc: Global,
+    picture: &Picture,
+    module_mm: Option<usize>,
+    title: Option<&str>,
+    colors: Colors,
+) -> Result<String, AllocError>
+    requires { ForSome module_mm (λ n. n ≤ MAX_MODULE_MM) }
+    ensures { IfOk result (λ text. string_bytes text ≡
+        eps_document module_mm (option_copied title.entry) colors (shown picture.now)) }
+{
     let (columns, rows, scale) = (picture.columns(), picture.rows(), picture.scale());
+    let mut text = comments(alloc, module_mm, scale, columns, rows)?;
+    push_title(&mut text, title)?;
+    let points = module_points(alloc, module_mm, scale)?;
+    let setup = setup(alloc, &points, rows)?;
+    text.push_str(setup.as_str())?;
+    let ground = ground(alloc, colors.light, columns, rows)?;
+    text.push_str(ground.as_str())?;
+    let ink = ink(alloc, colors.dark)?;
+    text.push_str(ink.as_str())?;
+    push_path(&mut text, picture, Pen::Eps)?;
+    text.push_str("fill\nshowpage\n%%EOF\n")?;
+    Ok(text)
+}
+
+/// Returns the comments up to the sides of the picture.
+fn comments(
+    alloc: Global,
+    module_mm: Option<usize>,
+    scale: usize,
+    columns: usize,
+    rows: usize,
+) -> Result<String, AllocError>
+    requires small { ForSome module_mm (λ n. n ≤ MAX_MODULE_MM) }
+    requires small_scale { scale ≤ MAX_SCALE }
+    requires few_columns { columns ≤ MAX_COLUMNS }
+    requires few_rows { rows ≤ MAX_COLUMNS }
+    ensures { IfOk result (λ text.
+        string_bytes text ≡ eps_comments module_mm scale columns rows) }
+{
     let (width, height) = (
         box_side(module_mm, scale, columns),
         box_side(module_mm, scale, rows),
     );
-    let points = module_points(alloc, module_mm, scale)?;
     let mut text = head(alloc, width, height)?;
-    let setup = setup(alloc, &points, columns, rows)?;
-    text.push_str(setup.as_str())?;
-    push_path(&mut text, picture, Pen::Eps)?;
-    text.push_str("fill\nshowpage\n%%EOF\n")?;
+    if let Some(module_mm) = module_mm {
+        push_exact(alloc, &mut text, module_mm, columns, rows)?;
+    }
     Ok(text)
+}
+
+/// Appends the sides of the picture, by the size of a module.
+fn push_exact(
+    alloc: Global,
+    text: &mut String,
+    module_mm: usize,
+    columns: usize,
+    rows: usize,
+) -> Result<(), AllocError>
+    requires small { module_mm ≤ MAX_MODULE_MM }
+    requires few_columns { columns ≤ MAX_COLUMNS }
+    requires few_rows { rows ≤ MAX_COLUMNS }
+    ensures { OnOk result (string_bytes text.new ≡
+        string_bytes text.old ++ exact_comment (Some module_mm) columns rows) }
+{
+    let width = exact_side(alloc, module_mm, columns)?;
+    let height = exact_side(alloc, module_mm, rows)?;
+    let line = exact_line(alloc, width.as_str(), height.as_str())?;
+    text.push_str(line.as_str())
+}
+
+/// Returns the comment that has the sides of the picture.
+#[tactic(auto, unfolding(crate::specs::Eps::exact_line))]
+fn exact_line(alloc: Global, width: &str, height: &str) -> Result<String, AllocError>
+    ensures { IfOk result (λ text. string_bytes text ≡ exact_line width.now height.now) }
+{
+    format!(in alloc; "%%HiResBoundingBox: 0 0 {width} {height}\n")
+}
+
+/// Returns a side of the picture in points, rounded up to thousandths.
+#[tactic(auto, unfolding(crate::specs::Eps::thousandths))]
+fn exact_side(alloc: Global, module_mm: usize, modules: usize) -> Result<String, AllocError>
+    requires small { module_mm ≤ MAX_MODULE_MM }
+    requires few { modules ≤ MAX_COLUMNS }
+    ensures { IfOk result (λ text. string_bytes text ≡ exact_side module_mm modules) }
+{
+    let side = (modules * module_mm * 18_000).div_ceil(635);
+    let (whole, tenths, hundredths, rest) = (
+        side / 1000,
+        side / 100 % 10,
+        side / 10 % 10,
+        side % 10,
+    );
+    format!(in alloc; "{whole}.{tenths}{hundredths}{rest}")
+}
+
+/// Appends the title, if there is one.
+fn push_title(text: &mut String, title: Option<&str>) -> Result<(), AllocError>
+    ensures { OnOk result (string_bytes text.new ≡
+        string_bytes text.old ++ title_comment (option_copied title.entry)) }
+{
+    if let Some(title) = title {
+        text.push_str("%%Title: (")?;
+        push_string(text, title)?;
+        text.push_str(")\n")?;
+    }
+    Ok(())
 }
 
 /// Returns a side of the bounding box in points.
@@ -60,7 +168,7 @@ fn module_points(
     }
 }
 
-/// Returns the comments at the head.
+/// Returns the comments at the head, with the sides of the bounding box.
 #[tactic(auto, unfolding(crate::specs::Eps::eps_head))]
 fn head(alloc: Global, width: usize, height: usize) -> Result<String, AllocError>
     ensures { IfOk result (λ text. string_bytes text ≡ eps_head width height) }
@@ -68,21 +176,70 @@ fn head(alloc: Global, width: usize, height: usize) -> Result<String, AllocError
     format!(in alloc;
         "%!PS-Adobe-3.0 EPSF-3.0
 %%BoundingBox: 0 0 {width} {height}
-%%LanguageLevel: 2
-%%EndComments
 "
     )
 }
 
-/// Returns the procedure, the units and the background.
+/// Returns the ground: nothing, or a background.
+fn ground(
+    alloc: Global,
+    light: Option<Ground>,
+    columns: usize,
+    rows: usize,
+) -> Result<String, AllocError>
+    ensures { IfOk result (λ text. string_bytes text ≡ eps_ground light columns rows) }
+{
+    match light {
+        None => fill(alloc, "1 setgray", columns, rows),
+        Some(Ground::Transparent) => Ok(String::new(alloc)),
+        Some(Ground::Color(color)) => {
+            let color = ps_color(alloc, color)?;
+            fill(alloc, &color, columns, rows)
+        }
+    }
+}
+
+/// Returns the rectangle of the ground.
+#[tactic(auto, unfolding(crate::specs::Eps::eps_fill))]
+fn fill(alloc: Global, color: &str, columns: usize, rows: usize) -> Result<String, AllocError>
+    ensures { IfOk result (λ text. string_bytes text ≡ eps_fill color.now columns rows) }
+{
+    format!(in alloc; "{color} 0 0 {columns} {rows} rectfill ")
+}
+
+/// Returns the colour of the path.
+fn ink(alloc: Global, dark: Option<Rgb>) -> Result<String, AllocError>
+    ensures { IfOk result (λ text. string_bytes text ≡ eps_ink dark) }
+{
+    match dark {
+        None => String::from_str(alloc, "0 setgray\n"),
+        Some(color) => {
+            let mut text = ps_color(alloc, color)?;
+            text.push_str("\n")?;
+            Ok(text)
+        }
+    }
+}
+
+/// Returns a colour as PostScript has it.
+#[tactic(auto, unfolding(crate::specs::Eps::ps_color))]
+fn ps_color(alloc: Global, color: Rgb) -> Result<String, AllocError>
+    ensures { IfOk result (λ text. string_bytes text ≡ ps_color color) }
+{
+    let (red, green, blue) = (color.red, color.green, color.blue);
+    format!(in alloc; "{red} 255 div {green} 255 div {blue} 255 div setrgbcolor")
+}
+
+/// Returns the end of the comments, the procedure and the units.
 #[tactic(auto, unfolding(crate::specs::Eps::eps_setup))]
-fn setup(alloc: Global, points: &str, columns: usize, rows: usize) -> Result<String, AllocError>
-    ensures { IfOk result (λ text. string_bytes text ≡ eps_setup points.now columns rows) }
+fn setup(alloc: Global, points: &str, rows: usize) -> Result<String, AllocError>
+    ensures { IfOk result (λ text. string_bytes text ≡ eps_setup points.now rows) }
 {
     format!(in alloc;
-        "/r{{moveto dup 0 rlineto 0 1 rlineto neg 0 rlineto closepath}}bind def
+        "%%LanguageLevel: 2
+%%EndComments
+/r{{moveto dup 0 rlineto 0 1 rlineto neg 0 rlineto closepath}}bind def
 {points} dup scale 0 {rows} translate 1 -1 scale
-1 setgray 0 0 {columns} {rows} rectfill 0 setgray
 "
     )
 }

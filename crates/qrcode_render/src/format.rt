@@ -1,7 +1,7 @@
 //! The formats of pictures, and what each of them can be asked for.
 ghost use Rattle.std.specs.Prelude.{◌≡◌};
 ghost use Rattle.qrcode_render.specs.Formats.{can_be_inverted, default_scale, has_millimetres};
-ghost use Rattle.qrcode_render.specs.Formats.{has_dots, has_position, has_title};
+ghost use Rattle.qrcode_render.specs.Formats.{has_colors, has_dots, has_position, has_title};
 ghost use Rattle.qrcode_render.specs.Formats.{can_be_compressed, can_be_cut, has_copies, has_feed};
 
 use crate::bounds::{IMAGE_SCALE, TEXT_SCALE};
@@ -61,7 +61,14 @@ impl Format {
     pub fn has_title(self) -> bool
         ensures { result ≡ has_title self }
     {
-        matches!(self, Format::Svg)
+        matches!(self, Format::Svg | Format::Png | Format::Eps)
+    }
+
+    /// Whether the picture can have colours.
+    pub fn has_colors(self) -> bool
+        ensures { result ≡ has_colors self }
+    {
+        matches!(self, Format::Svg | Format::Png | Format::Eps)
     }
 
     /// Whether the picture has a position on what is printed.

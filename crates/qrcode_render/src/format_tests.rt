@@ -1,4 +1,5 @@
 //! Tests of formats on small grids, written by hand from the documents of the formats.
+use crate::colors::NO_COLORS;
 use crate::draw_options::DrawOptions;
 use crate::drawing::{draw, draw_grid};
 use crate::eps::eps;
@@ -142,9 +143,10 @@ const TITLED: &str =
 "##;
 
 /// The same in points: a module of 0.33 mm has 33 * 18 / 635 points, and the sides have 27.2 and
-/// 26.2 points.
+/// 26.2 points: 27.12756 and 26.19213, which are rounded up.
 const POSTSCRIPT: &str = "%!PS-Adobe-3.0 EPSF-3.0
 %%BoundingBox: 0 0 28 27
+%%HiResBoundingBox: 0 0 27.128 26.193
 %%LanguageLevel: 2
 %%EndComments
 /r{moveto dup 0 rlineto 0 1 rlineto neg 0 rlineto closepath}bind def
@@ -270,6 +272,8 @@ fn names_the_first_setting(rt: HostRuntime) -> Result<(), PluginError> {
         compressed: true,
         feed: Some(256),
         cut: true,
+        colors: NO_COLORS,
+        any_colors: true,
     };
     assert!(rt; rejects(alloc, Format::Pbm, &many, Setting::Scale));
     let many = Settings {
@@ -308,28 +312,8 @@ fn names_the_first_setting(rt: HostRuntime) -> Result<(), PluginError> {
     assert!(rt; rejects(alloc, Format::Pbm, &many, Setting::Feed));
     let many = Settings { feed: None, ..many };
     assert!(rt; rejects(alloc, Format::Pbm, &many, Setting::Cut));
-    Ok(())
-}
-
-/// A setting has the name of its field.
-#[test]
-fn names_settings(rt: HostRuntime) -> Result<(), PluginError> {
-    let names = [
-        (Setting::Scale, "scale"),
-        (Setting::Quiet, "quiet"),
-        (Setting::ModuleMm, "module_mm"),
-        (Setting::Dpi, "dpi"),
-        (Setting::Inverted, "inverted"),
-        (Setting::Title, "title"),
-        (Setting::At, "at"),
-        (Setting::Copies, "copies"),
-        (Setting::Compressed, "compressed"),
-        (Setting::Feed, "feed"),
-        (Setting::Cut, "cut"),
-    ];
-    for (setting, name) in names {
-        assert_eq!(rt; setting.name(), name);
-    }
+    let many = Settings { cut: false, ..many };
+    assert!(rt; rejects(alloc, Format::Pbm, &many, Setting::AnyColors));
     Ok(())
 }
 
@@ -359,7 +343,9 @@ fn draws_symbols(rt: HostRuntime) -> Result<(), PluginError> {
     let bytes = drawn_as(alloc, &symbol, Format::Pbm, &none)?;
     assert!(rt; bytes.starts_with(b"P4\n232 232\n"));
     let bytes = drawn_as(alloc, &symbol, Format::Eps, &none)?;
-    assert!(rt; bytes.starts_with(b"%!PS-Adobe-3.0 EPSF-3.0\n%%BoundingBox: 0 0 232 232\n"));
+    let head = b"%!PS-Adobe-3.0 EPSF-3.0\n%%BoundingBox: 0 0 232 232\n\
+        %%LanguageLevel: 2\n%%EndComments\n";
+    assert!(rt; bytes.starts_with(head));
     let bytes = drawn_as(alloc, &symbol, Format::EscPos, &none)?;
     assert!(rt; bytes.starts_with(b"\x1D\x76\x30\x00\x1D\x00\xE8\x00"));
     let bytes = drawn_as(alloc, &symbol, Format::Zpl, &none)?;

@@ -18,6 +18,10 @@
 
 mod bitmap;
 pub mod bounds;
+#[cfg(test)]
+mod color_tests;
+mod color_words;
+pub mod colors;
 mod compressed;
 #[cfg(test)]
 mod compressed_tests;
@@ -38,6 +42,7 @@ pub mod picture;
 pub mod png_file;
 #[cfg(test)]
 mod png_tests;
+mod postscript;
 #[cfg(test)]
 mod printer_tests;
 pub mod renderers;
@@ -46,9 +51,12 @@ pub mod svg;
 pub mod terminal;
 #[cfg(test)]
 mod tests;
+#[cfg(test)]
+mod title_tests;
 mod xml;
 pub mod zpl;
 
+pub use colors::{Colors, Ground, Rgb};
 pub use draw_options::DrawOptions;
 pub use drawing::{draw, draw_grid};
 pub use format::Format;

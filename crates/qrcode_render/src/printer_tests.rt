@@ -176,3 +176,28 @@ fn draws_for_printers(rt: HostRuntime) -> Result<(), PluginError> {
     assert!(rt; bytes.ends_with(b"\x00\x00\x1B\x64\x06\x1D\x56\x42\x00"));
     Ok(())
 }
+
+/// A setting has the name of its field.
+#[test]
+fn names_settings(rt: HostRuntime) -> Result<(), PluginError> {
+    let names = [
+        (Setting::Scale, "scale"),
+        (Setting::Quiet, "quiet"),
+        (Setting::ModuleMm, "module_mm"),
+        (Setting::Dpi, "dpi"),
+        (Setting::Inverted, "inverted"),
+        (Setting::Title, "title"),
+        (Setting::At, "at"),
+        (Setting::Copies, "copies"),
+        (Setting::Compressed, "compressed"),
+        (Setting::Feed, "feed"),
+        (Setting::Cut, "cut"),
+        (Setting::Dark, "dark"),
+        (Setting::Light, "light"),
+        (Setting::AnyColors, "any_colors"),
+    ];
+    for (setting, name) in names {
+        assert_eq!(rt; setting.name(), name);
+    }
+    Ok(())
+}

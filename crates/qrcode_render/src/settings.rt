@@ -2,6 +2,8 @@
 ghost use Rattle.std.specs.Prelude.{◌≡◌};
 ghost use Rattle.qrcode_render.specs.Settings.{setting_word};
 
+use crate::colors::Colors;
+
 /// The settings of a picture, of which `DrawOptions::new` makes the options of a format. `None` is
 /// the default, and the default of all is `Settings::default()`.
 #[derive(Clone, Copy, Debug, Default, PartialEq, Eq)]
@@ -16,7 +18,9 @@ pub struct Settings<'a> {
     pub dpi: Option<usize>,
     /// Whether the light pixels are filled, for a dark screen: of `Terminal`.
     pub inverted: bool,
-    /// The title, a text of the characters that XML 1.0 allows: of SVG.
+    /// The title, a text of the characters that XML 1.0 allows: of SVG; of PNG, if it has at most
+    /// 1,000,000 bytes; and of EPS, if it takes at most 244 characters there, where a character
+    /// that is none of ASCII takes 8 to 16.
     pub title: Option<&'a str>,
     /// The position of the upper left corner on the label in dots, each 0 to 18,000: of ZPL.
     pub at: Option<(usize, usize)>,
@@ -28,6 +32,11 @@ pub struct Settings<'a> {
     pub feed: Option<usize>,
     /// Whether the paper is cut after the picture: of ESC/POS.
     pub cut: bool,
+    /// The colours of the dark modules and of the ground, which a reader is to tell apart
+    /// (`Colors::are_readable`): of SVG, PNG and EPS.
+    pub colors: Colors,
+    /// Whether the colours may be any: of the same.
+    pub any_colors: bool,
 }
 
 /// A field of `Settings`.
@@ -55,6 +64,12 @@ pub enum Setting {
     Feed,
     /// The field `cut`.
     Cut,
+    /// The field `dark` of `colors`.
+    Dark,
+    /// The field `light` of `colors`.
+    Light,
+    /// The field `any_colors`.
+    AnyColors,
 }
 
 impl Setting {
@@ -74,6 +89,9 @@ impl Setting {
             Setting::Compressed => "compressed",
             Setting::Feed => "feed",
             Setting::Cut => "cut",
+            Setting::Dark => "dark",
+            Setting::Light => "light",
+            Setting::AnyColors => "any_colors",
         }
     }
 }

@@ -1,12 +1,16 @@
 //! Pictures as SVG: a light background, and one path with a line for each run of dark modules.
-ghost use Rattle.std.specs.Prelude.{◌≡◌, ◌≤◌, ◌++◌, None, IfOk, OnOk};
+ghost use Rattle.std.specs.Prelude.{◌≡◌, ◌<◌, ◌≤◌, ◌++◌, [], ◌∷◌, None, IfOk, OnOk};
 ghost use Rattle.std.specs.Option.{ForSome, option_copied};
 ghost use Rattle.std.specs.String.{string_bytes};
 ghost use Rattle.qrcode_render.specs.declared.bounds.TheConstants.{MAX_COLUMNS, MAX_MODULE_MM};
-ghost use Rattle.qrcode_render.specs.Paths.{background, millimetres, svg_document, svg_side, svg_tag};
+ghost use Rattle.qrcode_render.specs.Paths.{background, hex_color, millimetres, path_start, stroke};
+ghost use Rattle.qrcode_render.specs.Paths.{svg_colored, svg_document, svg_ground, svg_side};
+ghost use Rattle.qrcode_render.specs.Paths.{svg_tag};
 ghost use Rattle.qrcode_render.specs.Paths.{svg_text, title_element};
 ghost use Rattle.qrcode_render.specs.Shown.{shown};
+ghost use Rattle.qrcode_render.specs.Zpl.{hex_digit, hex_pair};
 
+use crate::colors::{Colors, Ground, NO_COLORS, Rgb};
 use crate::path::push_path;
 use crate::pen::Pen;
 use crate::picture::Picture;
@@ -35,13 +39,31 @@ pub fn svg_document(
     ensures { IfOk result (λ text. string_bytes text ≡
         svg_document module_mm (option_copied title.entry) (shown picture.now)) }
 {
+    svg_colored(alloc, picture, module_mm, title, NO_COLORS)
+}
+
+/// Returns the picture as `svg_document` has it, with the path and the background in colours, if
+/// they are given. A transparent ground is no background. It fails only for lack of memory.
+pub fn svg_colored(
+    alloc: Global,
+    picture: &Picture,
+    module_mm: Option<usize>,
+    title: Option<&str>,
+    colors: Colors,
+) -> Result<String, AllocError>
+    requires { ForSome module_mm (λ n. n ≤ MAX_MODULE_MM) }
+    ensures { IfOk result (λ text. string_bytes text ≡
+        svg_colored module_mm (option_copied title.entry) colors (shown picture.now)) }
+{
     let (columns, rows) = (picture.columns(), picture.rows());
     let width = side(alloc, module_mm, columns, picture.width())?;
     let height = side(alloc, module_mm, rows, picture.height())?;
     let mut text = tag(alloc, &width, &height, columns, rows)?;
     push_title(&mut text, title)?;
-    let background = background(alloc, columns, rows)?;
-    text.push_str(background.as_str())?;
+    let ground = ground(alloc, colors.light, columns, rows)?;
+    text.push_str(ground.as_str())?;
+    let start = path_start(alloc, colors.dark)?;
+    text.push_str(start.as_str())?;
     push_path(&mut text, picture, Pen::Svg)?;
     text.push_str("\"/>\n</svg>\n")?;
     Ok(text)
@@ -98,13 +120,88 @@ fn push_title(text: &mut String, title: Option<&str>) -> Result<(), AllocError>
     Ok(())
 }
 
-/// Returns the light background, and the path up to its data.
+/// Returns the ground: nothing, or a background.
+fn ground(
+    alloc: Global,
+    light: Option<Ground>,
+    columns: usize,
+    rows: usize,
+) -> Result<String, AllocError>
+    ensures { IfOk result (λ text. string_bytes text ≡ svg_ground light columns rows) }
+{
+    match light {
+        None => background(alloc, "#fff", columns, rows),
+        Some(Ground::Transparent) => Ok(String::new(alloc)),
+        Some(Ground::Color(color)) => {
+            let color = hex_color(alloc, color)?;
+            background(alloc, &color, columns, rows)
+        }
+    }
+}
+
+/// Returns the rectangle of the ground.
 #[tactic(auto, unfolding(crate::specs::Paths::background))]
-fn background(alloc: Global, columns: usize, rows: usize) -> Result<String, AllocError>
-    ensures { IfOk result (λ text. string_bytes text ≡ background columns rows) }
+fn background(alloc: Global, color: &str, columns: usize, rows: usize) -> Result<String, AllocError>
+    ensures { IfOk result (λ text. string_bytes text ≡ background color.now columns rows) }
 {
     format!(in alloc;
-        r##"<rect width="{columns}" height="{rows}" fill="#fff"/>
-<path stroke="#000" transform="translate(0,.5)" shape-rendering="crispEdges" d=""##
+        r##"<rect width="{columns}" height="{rows}" fill="{color}"/>
+"##
     )
+}
+
+/// Returns the path up to its data.
+fn path_start(alloc: Global, dark: Option<Rgb>) -> Result<String, AllocError>
+    ensures { IfOk result (λ text. string_bytes text ≡ path_start (stroke dark)) }
+{
+    match dark {
+        None => path_of(alloc, "#000"),
+        Some(color) => {
+            let color = hex_color(alloc, color)?;
+            path_of(alloc, &color)
+        }
+    }
+}
+
+/// Returns the path of a colour up to its data.
+#[tactic(auto, unfolding(crate::specs::Paths::path_start))]
+fn path_of(alloc: Global, color: &str) -> Result<String, AllocError>
+    ensures { IfOk result (λ text. string_bytes text ≡ path_start color.now) }
+{
+    format!(in alloc;
+        r##"<path stroke="{color}" transform="translate(0,.5)" shape-rendering="crispEdges" d=""##
+    )
+}
+
+/// Returns a colour as SVG has it.
+#[tactic(auto, unfolding(crate::specs::Paths::hex_color))]
+fn hex_color(alloc: Global, color: Rgb) -> Result<String, AllocError>
+    ensures { IfOk result (λ text. string_bytes text ≡ hex_color color) }
+{
+    let mut text = String::from_str(alloc, "#")?;
+    push_byte(&mut text, color.red)?;
+    push_byte(&mut text, color.green)?;
+    push_byte(&mut text, color.blue)?;
+    Ok(text)
+}
+
+/// Appends the two hexadecimal digits of a byte.
+fn push_byte(text: &mut String, byte: u8) -> Result<(), AllocError>
+    ensures { OnOk result (string_bytes text.new ≡ string_bytes text.old ++ hex_pair byte) }
+{
+    push_digit(text, byte / 16)?;
+    push_digit(text, byte % 16)
+}
+
+/// Appends a hexadecimal digit.
+fn push_digit(text: &mut String, digit: u8) -> Result<(), AllocError>
+    requires { digit < 16 }
+    ensures { OnOk result
+        (string_bytes text.new ≡ string_bytes text.old ++ (hex_digit digit ∷ [])) }
+{
+    if digit < 10 {
+        text.push(char::from(b'0' + digit))
+    } else {
+        text.push(char::from(b'A' + (digit - 10)))
+    }
 }

@@ -3,9 +3,8 @@ use Rattle.std.proofs.Common.{◌≡◌, ◌≢◌, ◌+◌, ◌≤◌, ℕ, Boo
 use Rattle.std.proofs.Common.{◌<◌, ◌⊎◌, inl, inr, true, false, refl, sym, ap, ◌∙◌, arith, subst}
 use Rattle.std.specs.Prelude.{Result, Ok, Err, is_ok}
 use Rattle.std.proofs.lemmas.Grind.{flat_map-append}
-use Rattle.std.specs.Io.KnownBytes.{Keeps}
 use Rattle.std.specs.Io.BufRead.{drop_through, DropsThrough}
-use Rattle.programs.specs.Devices.{SourceState, SinkState, Writes, ReadsEnough, input, output}
+use Rattle.programs.specs.Devices.{SourceState, SinkState, Writes, input, output}
 use Rattle.programs.specs.Lines.{FirstLines, ReadsLines, ReadsLine, BeginsLine}
 use Rattle.programs.proofs.LineLemmas.{long_line, begins_more}
 use Rattle.programs.specs.declared.Fault.{Fault as FaultOf}
@@ -16,7 +15,7 @@ use Rattle.qrcode_render.specs.declared.draw_options.DrawOptions.{DrawOptions}
 use Rattle.qrlabel.specs.declared.command.Label.{Label}
 use Rattle.programs.specs.declared.Fault.TheVariants.{Symbol, Read, Write}
 use Rattle.qrlabel.specs.declared.stop.{Stop.Stop, Stop.TheVariants.Fault, Stop.TheVariants.Elements, Stop.TheVariants.Empty}
-use Rattle.qrlabel.specs.declared.stop.{Stop.TheVariants.NotAscii, Stop.TheVariants.TooLong}
+use Rattle.qrlabel.specs.declared.stop.{Stop.TheVariants.NotAscii, Stop.TheVariants.TooLong, Stop.TheVariants.TooManyParts}
 use Rattle.qrlabel.specs.Lines.{Made, Place, GiveEach, AreLabels, WritesEach, WritesSome, DrawsBefore, BreaksAt, IsEnded, StopsNext}
 use Rattle.qrlabel.specs.Lines.{WritesUntil, joined, drawing_in, all_drawn, left_out}
 use Rattle.std.specs.declared.io.ErrorKind.{ErrorKind}
@@ -25,10 +24,7 @@ use Rattle.qrlabel.specs.{Stops.end_report, Stops.stop_status, Runs.lines_report
 use Rattle.qrlabel.specs.{Stops.numbered_line, Labels.IsLabelStop, Lines.IsLeftOut, Reports.Reports, MadeOf.made_of}
 use Rattle.std.specs.Prelude.{Vec, IfOk, IfErr, OnOk, IsOk}
 use Rattle.std.specs.declared.alloc.Global.{Global}
-use Rattle.qrlabel.specs.{Lines.stream, Folders.folder, Contents.IsStopAs, Runs.IsLabelOutcome}
-use Rattle.qrlabel.specs.declared.command.Content.{Content}
-use Rattle.qrlabel.specs.declared.command.Content.TheVariants.{Auto, Text, Bytes, Gs1, Micro, MicroBytes}
-use Rattle.qrcode_core.specs.declared.options.SymbolOptions.{SymbolOptions}
+use Rattle.qrlabel.specs.{Lines.stream, Folders.folder}
 use Rattle.qrlabel.specs.{Names.Numbering, Names.numbered, FileStates.FilesState, FileStates.AddsFiles, Folders.files_of}
 
 FirstLines-append : (xs ys zs : List ℕ) (ls ms : List (List ℕ)) → FirstLines xs ls ys → FirstLines ys ms zs → FirstLines xs (ls ++ ms) zs
@@ -121,6 +117,7 @@ writes_until label options every n q r s place (Elements e) h k = record { left 
 writes_until label options every n q r s place Empty h k = record { left = r.left; every = every; drawn = h; stopped = k }
 writes_until label options every n q r s place NotAscii h k = record { left = r.left; every = every; drawn = h; stopped = k }
 writes_until label options every n q r s place (TooLong t) h k = record { left = r.left; every = every; drawn = h; stopped = k }
+writes_until label options every n q r s place TooManyParts h k = record { left = r.left; every = every; drawn = h; stopped = k }
 
 pub never_write : (label : Label) (a b : Option (List ℕ)) (stop : Stop) → StopsNext label a b stop → stop ≢ Fault Write
 never_write label a b stop k e = rw e at k
@@ -333,6 +330,7 @@ said_of source target other not_read not_written number (Elements e) same = refl
 said_of source target other not_read not_written number Empty same = refl
 said_of source target other not_read not_written number NotAscii same = refl
 said_of source target other not_read not_written number (TooLong t) same = refl
+said_of source target other not_read not_written number TooManyParts same = refl
 
 pub lines_said : (source target : List ℕ) (name : ℕ → List ℕ) (not_read not_written : Option ErrorKind) (outcome : Result Bool LineStop) →
     IfErr outcome (λ at. at.stop ≡ Fault Write → target ≡ name at.number) →
@@ -352,47 +350,12 @@ status_of source target other not_read not_written (Elements e) = refl
 status_of source target other not_read not_written Empty = refl
 status_of source target other not_read not_written NotAscii = refl
 status_of source target other not_read not_written (TooLong t) = refl
+status_of source target other not_read not_written TooManyParts = refl
 
 pub lines_status-same : (source target other : List ℕ) (not_read not_written : Option ErrorKind) (outcome : Result Bool LineStop) →
     lines_status (record { source = source; not_read = not_read; target = target; not_written = not_written }) outcome
     ≡ lines_status (record { source = source; not_read = not_read; target = other; not_written = not_written }) outcome
 lines_status-same source target other not_read not_written (Ok every) = refl
 lines_status-same source target other not_read not_written (Err at) = status_of source target other not_read not_written at.stop
-
--- ---- Why there is no label
-
-keeps : (a : Option (List ℕ)) → Keeps a a
-keeps None = tt
-keeps (Some xs) = refl
-
-neither : (content : Content) (options : SymbolOptions) (bytes : List ℕ) (fault : FaultOf) → (fault ≡ Read) ⊎ (fault ≡ Write) →
-    IsStopAs content options bytes (Fault fault) → ⊥
-neither Auto options bytes fault is h = grind (arith, is, h)
-neither Text options bytes fault is h = grind (arith, is, h)
-neither Bytes options bytes fault is h = grind (arith, is, h)
-neither Gs1 options bytes fault is h = grind (arith, is, h)
-neither Micro options bytes fault is h = grind (arith, is, h)
-neither MicroBytes options bytes fault is h = grind (arith, is, h)
-
-no_device : (label : Label) (bytes : List ℕ) (fault : FaultOf) → (fault ≡ Read) ⊎ (fault ≡ Write) → IsLabelStop label bytes (Fault fault) → ⊥
-no_device label bytes fault is (inl h) = grind (arith, is, h.stop_is)
-no_device label bytes fault is (inr h) = grind (arith, is, h.stopped, neither label.content label.symbol h.content fault is)
-
--- nothing was written where there is no label
-pub writes_none : (label : Label) (options : DrawOptions) (r s : SourceState) (w : SinkState) (bytes : List ℕ) (stop : Stop) →
-    ReadsEnough (input r s) bytes → IsLabelStop label bytes stop → s.failed ≡ false → w.failed ≡ false →
-    IsLabelOutcome label options (input r s) (output w w) (Err stop)
-writes_none label options r s w bytes (Fault Read) read is sound whole = absurd (no_device label bytes Read (inl refl) is)
-writes_none label options r s w bytes (Fault Write) read is sound whole = absurd (no_device label bytes Write (inr refl) is)
-writes_none label options r s w bytes (Fault (Symbol e)) read is sound whole =
-    record { writes = ((λ other. record { bytes = bytes; read = read; stopped = is }), keeps w.written); read = grind (arith, sound); write = grind (arith, whole) }
-writes_none label options r s w bytes (Elements e) read is sound whole =
-    record { writes = ((λ other. record { bytes = bytes; read = read; stopped = is }), keeps w.written); read = grind (arith, sound); write = grind (arith, whole) }
-writes_none label options r s w bytes Empty read is sound whole =
-    record { writes = ((λ other. record { bytes = bytes; read = read; stopped = is }), keeps w.written); read = grind (arith, sound); write = grind (arith, whole) }
-writes_none label options r s w bytes NotAscii read is sound whole =
-    record { writes = ((λ other. record { bytes = bytes; read = read; stopped = is }), keeps w.written); read = grind (arith, sound); write = grind (arith, whole) }
-writes_none label options r s w bytes (TooLong t) read is sound whole =
-    record { writes = ((λ other. record { bytes = bytes; read = read; stopped = is }), keeps w.written); read = grind (arith, sound); write = grind (arith, whole) }
 
 pub ruleset drawn = (DrawsBefore-none, DrawsBefore-ended, stream_none, folder_none)

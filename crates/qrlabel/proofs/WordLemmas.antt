@@ -5,7 +5,7 @@ use Rattle.std.specs.Prelude.{Option, Some, None, MatchOption, set, get_or}
 use Rattle.std.specs.Option.{option_copied}
 use Rattle.std.specs.Prelude.{Ok, Err}
 use Rattle.std.specs.Char.{to_ascii_lowercase}
-use Rattle.qrlabel.specs.Commands.{has_ending}
+use Rattle.qrlabel.specs.Choices.{has_ending}
 use Rattle.std.specs.Str.Pattern.{StripsPrefix, FindsTextPrefix, LacksTextAt}
 use Rattle.qrlabel.specs.Words.{Scan, Wrong, read_word, read_words, rest_after}
 use Rattle.std.proofs.lemmas.Slice.Eq.{bytes_eq-Decides}

@@ -7,8 +7,8 @@ use Rattle.qrlabel.specs.declared.command.Command.TheVariants.{Help, Version, La
 use Rattle.qrlabel.specs.declared.command.Label.{Label as Drawn}
 use Rattle.qrlabel.specs.declared.words.Misuse.{Misuse}
 use Rattle.qrlabel.specs.declared.command.Portion.{Portion as Shown}
-use Rattle.qrlabel.specs.declared.command.Portion.TheVariants.{Whole, Lines, Files}
-use Rattle.qrlabel.specs.Commands.{Wishes, Portion, whole, lines, files, Label, Command}
+use Rattle.qrlabel.specs.declared.command.Portion.TheVariants.{Whole, Lines, Files, Split, Parts}
+use Rattle.qrlabel.specs.Commands.{Wishes, Portion, whole, lines, files, split, parts, Label, Command}
 use Rattle.qrlabel.specs.Commands.{asks_help, asks_version, asks_label}
 use Rattle.qrlabel.specs.Placed.{numbering_of}
 use Rattle.qrlabel.specs.Said.{wrong_of}
@@ -32,6 +32,8 @@ wishes_of s = record {
   compressed = s.compressed;
   feed = s.feed;
   cut = s.cut;
+  colors = s.colors;
+  any_colors = s.any_colors;
 }
 
 abbrev pub settings_outcome : Result Settings Misuse → Result Wishes Wrong
@@ -42,6 +44,8 @@ abbrev pub portion_of : Shown → Portion
 portion_of Whole = whole
 portion_of Lines = lines
 portion_of (Files name) = files (numbering_of name)
+portion_of Split = split
+portion_of (Parts name) = parts (numbering_of name)
 
 abbrev pub portion_outcome : Result Shown Misuse → Result Portion Wrong
 portion_outcome (Ok shown) = Ok (portion_of shown)
@@ -61,6 +65,9 @@ label_of drawn = record {
   source = drawn.source.now;
   target = drawn.target.now;
   colored = drawn.colored;
+  turn = drawn.turn;
+  tells = drawn.tells;
+  dpi = drawn.dpi;
 }
 
 abbrev pub label_outcome : Result Drawn Misuse → Result Label Wrong

@@ -1,30 +1,39 @@
 -- What the values of the options ask for: help, the version, or a label.
-use Rattle.std.specs.Prelude.{ℕ, ◌-◌, ◌*◌, ◌/◌, nat_le, ℤ, pos, nat_abs, Bool, true, false, ◌&&◌, not}
+use Rattle.std.specs.Prelude.{ℕ, ◌*◌, ◌/◌, nat_le, ℤ, pos, nat_abs, Bool, true, false, ◌&&◌, ◌||◌, not}
 use Rattle.std.specs.Prelude.{if◌then◌else◌, codes}
-use Rattle.std.specs.Prelude.{List, [], ◌∷◌, length, drop, map, Option, None, Some, option_and_then, unwrap_or, is_some}
+use Rattle.std.specs.Prelude.{List, Option, None, Some, option_and_then, unwrap_or, is_some}
 use Rattle.std.specs.Prelude.{Result, Ok, Err}
-use Rattle.std.specs.Char.{to_ascii_lowercase}
-use Rattle.std.specs.Str.{bytes_eq}
 use Rattle.qrcode_core.specs.declared.options.SymbolOptions.{SymbolOptions}
 use Rattle.qrcode_core.specs.declared.types.EcLevel.{EcLevel}
-use Rattle.qrcode_core.specs.declared.types.EcLevel.TheVariants.{L, M, Q, H}
+use Rattle.qrcode_core.specs.declared.types.EcLevel.TheVariants.{M, H}
 use Rattle.qrcode_render.specs.declared.bounds.TheConstants.{MICRO_QUIET, MIN_SCALE, MAX_SCALE}
 use Rattle.qrcode_render.specs.declared.bounds.TheConstants.{MIN_DPI, MAX_DPI, MIN_MODULE_MM, MAX_MODULE_MM}
+use Rattle.qrcode_render.specs.ColorWords.{word_color, ground_word}
+use Rattle.qrcode_render.specs.declared.colors.Colors.{Colors}
+use Rattle.qrcode_render.specs.declared.colors.Ground.{Ground}
+use Rattle.qrcode_render.specs.declared.colors.Rgb.{Rgb}
 use Rattle.qrcode_render.specs.declared.format.Format.{Format as FormatOf}
-use Rattle.qrcode_render.specs.declared.format.Format.TheVariants.{Terminal, Svg, Png, Pbm, Eps, EscPos, Zpl}
+use Rattle.qrcode_render.specs.declared.format.Format.TheVariants.{Terminal, Svg}
 use Rattle.qrlabel.specs.declared.command.TheConstants.{MAX_FIRST}
 use Rattle.qrlabel.specs.declared.command.Content.{Content as ContentOf}
-use Rattle.qrlabel.specs.declared.command.Content.TheVariants.{Auto, Text as TextOf, Bytes, Gs1, Micro, MicroBytes}
+use Rattle.qrlabel.specs.declared.command.Content.TheVariants.{Auto, Bytes, MicroBytes}
 use Rattle.qrlabel.specs.declared.words.Name.{Name}
 use Rattle.qrlabel.specs.declared.words.Name.TheVariants.{Text, Format, Content, Level, Strongest}
 use Rattle.qrlabel.specs.declared.words.Name.TheVariants.{MinVersion, MaxVersion, Scale, Quiet}
 use Rattle.qrlabel.specs.declared.words.Name.TheVariants.{ModuleMm, Dpi, Inverted, Title, At, Read}
 use Rattle.qrlabel.specs.declared.words.Name.TheVariants.{Output, AllowEmpty, Help, Version, Lines}
 use Rattle.qrlabel.specs.declared.words.Name.TheVariants.{First, KeepGoing, KeepNewline}
-use Rattle.qrlabel.specs.declared.words.Name.TheVariants.{Copies, Compressed, Feed, Cut}
+use Rattle.qrlabel.specs.declared.command.Tells.{Tells}
+use Rattle.qrlabel.specs.declared.command.Tells.TheVariants.{Nothing, Beside, Alone}
+use Rattle.qrlabel.specs.declared.command.Turn.{Turn}
+use Rattle.qrlabel.specs.declared.command.Turn.TheVariants.{Upright}
+use Rattle.qrlabel.specs.declared.words.Name.TheVariants.{Copies, Compressed, Feed, Cut, Split, Rotate}
+use Rattle.qrlabel.specs.declared.words.Name.TheVariants.{Verbose, Info, Dark, Light, AnyColors}
+use Rattle.qrlabel.specs.Choices.{level_named, content_named, turn_named, format_named, format_of_ending}
+use Rattle.qrlabel.specs.Choices.{is_micro, has_dots, is_png, is_stream, can_be_split, is_text, is_terminal}
 use Rattle.qrlabel.specs.Names.{Numbering, numbering_in}
 use Rattle.qrlabel.specs.Numbers.{number_in, hundredths_in, place_in, halves}
-use Rattle.qrlabel.specs.Words.{among, Values, value_of, file_of, is_given, Wrong, invalid}
+use Rattle.qrlabel.specs.Words.{Values, value_of, file_of, is_given, Wrong, invalid}
 use Rattle.qrlabel.specs.Words.{needs_stream, needs_file}
 
 infixl 20 ◌>>=◌
@@ -32,39 +41,6 @@ infixl 20 ◌>>=◌
 abbrev pub ◌>>=◌ : {A B : Type 0} → Result A Wrong → (A → Result B Wrong) → Result B Wrong
 (Ok a) >>= more = more a
 (Err wrong) >>= more = Err wrong
-
--- ---- The words of levels, contents and formats
-
-abbrev pub level_named : List ℕ → Option EcLevel
-level_named =
-    among ((codes "L", L) ∷ (codes "l", L) ∷ (codes "M", M) ∷ (codes "m", M) ∷ (codes "Q", Q) ∷ (codes "q", Q)
-    ∷ (codes "H", H) ∷ (codes "h", H) ∷ [])
-
-abbrev pub content_named : List ℕ → Option ContentOf
-content_named =
-    among ((codes "auto", Auto) ∷ (codes "text", TextOf) ∷ (codes "bytes", Bytes) ∷ (codes "gs1", Gs1)
-    ∷ (codes "micro", Micro) ∷ (codes "micro-bytes", MicroBytes) ∷ [])
-
-abbrev pub format_named : List ℕ → Option FormatOf
-format_named =
-    among ((codes "terminal", Terminal) ∷ (codes "svg", Svg) ∷ (codes "png", Png) ∷ (codes "pbm", Pbm)
-    ∷ (codes "eps", Eps) ∷ (codes "escpos", EscPos) ∷ (codes "zpl", Zpl) ∷ [])
-
--- Whether a name has this ending, in capital or small letters.
-unfoldable pub has_ending : List ℕ → List ℕ → Bool
-has_ending name ending =
-    bytes_eq (map to_ascii_lowercase (drop (length name - length ending) name)) (map to_ascii_lowercase ending)
-
--- What a table has for the ending of a name.
-abbrev pub by_ending : {A : Type 0} → List (List ℕ × A) → List ℕ → Option A
-by_ending [] name = None
-by_ending (entry ∷ entries) name =
-    elim (has_ending name entry.0) [ true ↦ Some entry.1 | false ↦ by_ending entries name ]
-
-abbrev pub format_of_ending : List ℕ → Option FormatOf
-format_of_ending =
-    by_ending ((codes ".txt", Terminal) ∷ (codes ".svg", Svg) ∷ (codes ".png", Png) ∷ (codes ".pbm", Pbm)
-    ∷ (codes ".eps", Eps) ∷ (codes ".escpos", EscPos) ∷ (codes ".zpl", Zpl) ∷ [])
 
 -- ---- What each option asks for
 
@@ -93,6 +69,17 @@ level_asked = asked_or level_named M Level
 
 abbrev pub content_asked : Values → Result ContentOf Wrong
 content_asked = asked_or content_named Auto Content
+
+abbrev pub turn_asked : Values → Result Turn Wrong
+turn_asked = asked_or turn_named Upright Rotate
+
+-- What is told of symbols alone is written to standard output. Beside labels it is written to
+-- standard error, where lines that are left out are reported.
+abbrev pub tells_asked : Values → Result Tells Wrong
+tells_asked values =
+    if is_given values Info then (if is_some (file_of values Output) then Err (invalid Info) else Ok Alone)
+    else (if not (is_given values Verbose) then Ok Nothing
+    else (if is_given values Lines then Err (invalid Verbose) else Ok Beside))
 
 -- The format: that of its name, or of the ending of the output's name; else text for a terminal if
 -- the output is one, and SVG if not.
@@ -124,6 +111,13 @@ module_asked = asked hundredths_in ModuleMm
 abbrev pub place_asked : Values → Result (Option (ℕ × ℕ)) Wrong
 place_asked = asked place_in At
 
+-- The color of the dark modules, and the ground.
+abbrev pub dark_asked : Values → Result (Option Rgb) Wrong
+dark_asked = asked word_color Dark
+
+abbrev pub light_asked : Values → Result (Option Ground) Wrong
+light_asked = asked ground_word Light
+
 -- ---- The picture, the symbol and the label
 
 -- What is asked of a picture.
@@ -139,6 +133,8 @@ pub record Wishes : Type 0 where
   pub compressed : Bool
   pub feed : Option ℕ
   pub cut : Bool
+  pub colors : Colors
+  pub any_colors : Bool
 
 abbrev pub settings_asked : Values → Result Wishes Wrong
 settings_asked values = do
@@ -149,6 +145,8 @@ settings_asked values = do
   at ← place_asked values
   copies ← number_asked Copies values
   feed ← number_asked Feed values
+  dark ← dark_asked values
+  light ← light_asked values
   Ok (record {
     scale = scale;
     quiet = quiet;
@@ -161,6 +159,8 @@ settings_asked values = do
     compressed = is_given values Compressed;
     feed = feed;
     cut = is_given values Cut;
+    colors = record { dark = dark; light = light };
+    any_colors = is_given values AnyColors;
   })
 
 -- The least version is at most the greatest.
@@ -168,27 +168,10 @@ abbrev pub ranged : SymbolOptions → Result SymbolOptions Wrong
 ranged options =
     if nat_le (nat_abs options.min_version) (nat_abs options.max_version) then Ok options else Err (invalid MaxVersion)
 
--- Whether the symbol is a Micro QR symbol.
-abbrev pub is_micro : ContentOf → Bool
-is_micro Micro = true
-is_micro MicroBytes = true
-is_micro _ = false
-
 -- The quiet zone of a Micro symbol is narrower, if no width is given.
 abbrev pub zoned : ContentOf → Wishes → Wishes
 zoned content wishes =
     if is_micro content then record wishes { quiet = Some (unwrap_or wishes.quiet MICRO_QUIET) } else wishes
-
--- Whether a printer or a screen draws a format in dots.
-abbrev pub has_dots : FormatOf → Bool
-has_dots Png = true
-has_dots EscPos = true
-has_dots Zpl = true
-has_dots _ = false
-
-abbrev pub is_png : FormatOf → Bool
-is_png Png = true
-is_png _ = false
 
 -- A number of dots that a module can have.
 abbrev pub scale_of : ℕ → Result ℕ Wrong
@@ -242,20 +225,14 @@ micro_asked content level values =
     else (if is_given values MinVersion then Err (invalid MinVersion)
     else (if is_given values MaxVersion then Err (invalid MaxVersion) else Ok tt))))
 
--- Whether pictures of a format can follow each other in one output.
-abbrev pub is_stream : FormatOf → Bool
-is_stream Terminal = true
-is_stream Pbm = true
-is_stream EscPos = true
-is_stream Zpl = true
-is_stream _ = false
-
--- What of the input a label shows: one shows all of it, or each shows a line, in one output for all
--- or in a file of its own.
+-- What of the input a label shows: one shows all of it, or each shows a line, or as many as it takes
+-- show all of it together. There is one output for all, or a file of its own for each.
 pub data Portion : Type 0 where
   whole : Portion
   lines : Portion
   files : Numbering → Portion
+  split : Portion
+  parts : Numbering → Portion
 
 -- The name of the output, if it has a number in it.
 abbrev pub numbered_output : Values → Option Numbering
@@ -265,32 +242,43 @@ numbered_output values = option_and_then numbering_in (value_of values Output)
 abbrev pub has_percent : Values → Bool
 has_percent values = is_some (option_and_then (halves 37) (value_of values Output))
 
+-- Whether labels can follow each other: what is told of symbols always can.
+abbrev pub can_follow : FormatOf → Values → Bool
+can_follow format values = is_stream format || is_given values Info
+
 -- The pictures follow each other, if they can. A percent sign is that of a number only.
-abbrev pub stream_asked : FormatOf → Values → Result Portion Wrong
-stream_asked format values =
+abbrev pub stream_asked : Portion → FormatOf → Values → Result Portion Wrong
+stream_asked portion format values =
     if has_percent values then Err (invalid Output)
-    else (if is_stream format then Ok lines else Err needs_stream)
+    else (if can_follow format values then Ok portion else Err needs_stream)
 
--- Lines are those of an input, and not of a text. Each has a file if the output's name has a
--- number, which it has for lines only; else their pictures follow each other.
-abbrev pub portion_asked : FormatOf → Values → Result Portion Wrong
-portion_asked format values =
-    if not (is_given values Lines) then
-    (if is_some (numbered_output values) then Err (invalid Output) else Ok whole)
-    else (if is_given values Text then Err (invalid Lines)
-    else elim (numbered_output values) [ Some name ↦ Ok (files name) | None ↦ stream_asked format values ])
+-- Symbols that carry a message together have the level and the greatest version that are asked for.
+-- Each has a file if the output's name has a number; else their pictures follow each other.
+abbrev pub split_asked : ContentOf → FormatOf → Values → Result Portion Wrong
+split_asked content format values =
+    if is_given values Lines || (is_given values Strongest || is_given values MinVersion) then Err (invalid Split)
+    else (if not (can_be_split content) then Err (invalid Split)
+    else elim (numbered_output values) [ Some name ↦ Ok (parts name) | None ↦ stream_asked split format values ])
 
--- Whether pictures of a format are a text.
-abbrev pub is_text : FormatOf → Bool
-is_text Png = false
-is_text Pbm = false
-is_text EscPos = false
-is_text _ = true
+-- Lines are those of an input, and not of a text. Each has a file if the output's name has a number;
+-- else their pictures follow each other.
+abbrev pub lines_asked : FormatOf → Values → Result Portion Wrong
+lines_asked format values =
+    if is_given values Text then Err (invalid Lines)
+    else elim (numbered_output values) [ Some name ↦ Ok (files name) | None ↦ stream_asked lines format values ]
+
+-- One label, the name of whose output has no number, unless more are asked for.
+abbrev pub portion_asked : ContentOf → FormatOf → Values → Result Portion Wrong
+portion_asked content format values =
+    if is_given values Split then split_asked content format values
+    else (if is_given values Lines then lines_asked format values
+    else (if is_some (numbered_output values) then Err (invalid Output) else Ok whole))
 
 -- No bytes but a text are written on a terminal, unless the words name the output.
 abbrev pub terminal_asked : Bool → FormatOf → Values → Result (Unit {0}) Wrong
 terminal_asked on_terminal format values =
-    if on_terminal && (not (is_text format) && not (is_given values Output)) then Err needs_file else Ok tt
+    if on_terminal && (not (is_text format) && (not (is_given values Output) && not (is_given values Info)))
+    then Err needs_file else Ok tt
 
 -- The number of the first line.
 abbrev pub first_in : Values → List ℕ → Option ℕ
@@ -321,10 +309,6 @@ abbrev pub trims_asked : ContentOf → Values → Bool
 trims_asked content values =
     is_trimmed content && (not (is_given values Text) && not (is_given values KeepNewline))
 
-abbrev pub is_terminal : FormatOf → Bool
-is_terminal Terminal = true
-is_terminal _ = false
-
 -- A text is drawn on a terminal in colors of its own, unless it is to be inverted, or the words name
 -- the output.
 abbrev pub colored_asked : Bool → FormatOf → Values → Bool
@@ -334,7 +318,8 @@ colored_asked on_terminal format values =
 -- A label: what its symbol says, how the symbol is chosen, its picture, whether an input with no
 -- bytes is drawn, whether a text is trimmed, what of the input the label shows, the number of the
 -- first line, whether a line that has no label is left out, how errors call the input and the
--- output, and whether a text for a terminal has colors of its own.
+-- output, whether a text for a terminal has colors of its own, by how much the symbol is turned,
+-- whether it is told of, and the dots of an inch.
 pub record Label : Type 0 where
   pub content : ContentOf
   pub symbol : SymbolOptions
@@ -348,6 +333,9 @@ pub record Label : Type 0 where
   pub source : List ℕ
   pub target : List ℕ
   pub colored : Bool
+  pub turn : Turn
+  pub tells : Tells
+  pub dpi : Option ℕ
 
 abbrev pub label_asked : Bool → Values → Result Label Wrong
 label_asked on_terminal values = do
@@ -356,9 +344,11 @@ label_asked on_terminal values = do
   micro ← micro_asked content symbol.level values
   format ← format_asked on_terminal values
   text ← terminal_asked on_terminal format values
-  portion ← portion_asked format values
+  portion ← portion_asked content format values
   first ← first_asked values
   keeps_going ← keeps_going_asked values
+  turn ← turn_asked values
+  tells ← tells_asked values
   given ← settings_asked values
   wishes ← in_dots format given
   Ok (record {
@@ -374,6 +364,9 @@ label_asked on_terminal values = do
     source = unwrap_or (file_of values Read) (codes "standard input");
     target = unwrap_or (file_of values Output) (codes "standard output");
     colored = colored_asked on_terminal format values;
+    turn = turn;
+    tells = tells;
+    dpi = given.dpi;
   })
 
 -- What the words ask for.

@@ -5,9 +5,9 @@ use Rattle.gs1.specs.Elements.{Element, written_elements}
 use Rattle.gs1.specs.Identifiers.{is_decimal_digit, IsRightDigit, AreFewDigits}
 use Rattle.gs1.specs.Strings.{FindsAt, FindsNoneAt}
 use Rattle.gs1.specs.declared.error.Gs1Error.{Gs1Error}
-use Rattle.gs1.specs.declared.error.Gs1Error.TheVariants.{NoElements, InvalidIdentifier, UnknownIdentifier}
+use Rattle.gs1.specs.declared.error.Gs1Error.TheVariants.{InvalidIdentifier, UnknownIdentifier}
 use Rattle.gs1.specs.declared.error.Gs1Error.TheVariants.{EmptyValue, ValueTooLong, InvalidCharacter}
-use Rattle.gs1.specs.declared.error.Gs1Error.TheVariants.{WrongLength, WrongCheckDigit, OutOfMemory}
+use Rattle.gs1.specs.declared.error.Gs1Error.TheVariants.{WrongLength, WrongCheckDigit}
 use Rattle.qrlabel.specs.declared.stop.ElementStop.{ElementStop}
 
 -- The number of the element at fault, counted from 0, if it is one element's.

@@ -1,5 +1,6 @@
 -- A label: the picture of the symbol of some bytes.
-use Rattle.std.specs.Prelude.{◌≡◌, ◌≢◌, ◌⊎◌, ◌<◌, ◌≤◌, ℕ, Bool, true, false, if◌then◌else◌, List, [], length}
+use Rattle.std.specs.Prelude.{◌≡◌, ◌≢◌, ◌⊎◌, ◌<◌, ◌≤◌, ℕ, Bool}
+use Rattle.std.specs.Prelude.{true, false, if◌then◌else◌, List, [], length, Option, Some}
 use Rattle.programs.specs.declared.Fault.TheVariants.{Symbol}
 use Rattle.qrcode_base.specs.declared.types.Color.{Color}
 use Rattle.qrcode_core.specs.Drawn.{DrawnSymbol, drawn_grid}
@@ -10,6 +11,10 @@ use Rattle.qrcode_render.specs.declared.draw_options.DrawOptions.{DrawOptions}
 use Rattle.qrlabel.specs.Colors.{in_colors}
 use Rattle.qrlabel.specs.Contents.{IsContent, IsSymbolAs, IsStopAs}
 use Rattle.qrlabel.specs.Rooms.{IsTooLongAs, IsTooLongForAny}
+use Rattle.qrlabel.specs.Tells.{TellsSymbol}
+use Rattle.qrlabel.specs.Turns.{turned}
+use Rattle.qrlabel.specs.declared.command.Tells.{Tells}
+use Rattle.qrlabel.specs.declared.command.Tells.TheVariants.{Beside, Alone}
 use Rattle.qrlabel.specs.declared.command.Label.{Label}
 use Rattle.qrlabel.specs.declared.stop.Stop.{Stop}
 use Rattle.qrlabel.specs.declared.stop.Stop.TheVariants.{Fault, Empty, TooLong}
@@ -19,6 +24,24 @@ use Rattle.qrlabel.specs.declared.stop.TooLong.{TooLong as TooLongOf}
 abbrev pub IsLabelData : Label → List ℕ → Type 0
 IsLabelData label bytes = bytes ≡ [] → label.allow_empty ≢ false
 
+-- The drawing is the picture of a symbol, which is turned as the label says.
+pub record IsSymbolPicture (label : Label) (options : DrawOptions) (symbol : DrawnSymbol) (drawing : List ℕ) :
+    Type 0 where
+  pub picture : List ℕ
+  pub drawn : IsPictureOf options (turned label.turn (drawn_grid symbol)) picture
+  pub drawing_is : drawing ≡ (if label.colored then in_colors picture else picture)
+
+abbrev pub is_alone : Tells → Bool
+is_alone Alone = true
+is_alone _ = false
+
+-- The drawing shows a symbol, or is what is told of it; `content` is given if the symbol has all of
+-- it.
+abbrev pub ShowsSymbol : Label → DrawOptions → Option (List ℕ) → DrawnSymbol → List ℕ → Type 0
+ShowsSymbol label options content symbol drawing =
+    ((is_alone label.tells ≡ true) × TellsSymbol label options content symbol drawing)
+    ⊎ ((is_alone label.tells ≡ false) × IsSymbolPicture label options symbol drawing)
+
 -- The drawing shows the symbol of the bytes, or of what of them is content.
 pub record ShowsLabel (label : Label) (options : DrawOptions) (bytes drawing : List ℕ) : Type 0 where
   pub content : List ℕ
@@ -26,9 +49,7 @@ pub record ShowsLabel (label : Label) (options : DrawOptions) (bytes drawing : L
   pub data_is : IsLabelData label content
   pub symbol : DrawnSymbol
   pub is_symbol : IsSymbolAs label.content label.symbol content symbol.modules
-  pub picture : List ℕ
-  pub drawn : IsPictureOf options (drawn_grid symbol) picture
-  pub drawing_is : drawing ≡ (if label.colored then in_colors picture else picture)
+  pub shown : ShowsSymbol label options (Some content) symbol drawing
 
 -- There is a symbol, and memory ran out when it was drawn.
 abbrev pub IsNotDrawn : Label → List ℕ → Stop → Type 0
@@ -64,6 +85,20 @@ pub record IsManyBytes (label : Label) (bytes : List ℕ) (stop : Stop) : Type 0
   pub too_long : TooLongOf
   pub is_too_long : IsTooLongForAny label too_long
   pub stop_is : stop ≡ TooLong too_long
+
+-- The same label, of which the symbol is told of alone.
+abbrev pub telling : Label → Label
+telling label = record label { tells = Alone }
+
+abbrev pub is_beside : Tells → Bool
+is_beside Beside = true
+is_beside _ = false
+
+-- What is told beside a drawing: what the telling label shows of the same bytes, if it is asked for.
+abbrev pub IsSaid : Label → (Label → List ℕ → List ℕ → Type 0) → List ℕ → List ℕ → Type 0
+IsSaid label shows bytes said =
+    ((is_beside label.tells ≡ true) × shows (telling label) bytes said)
+    ⊎ ((is_beside label.tells ≡ false) × (said ≡ []))
 
 -- Why there is no label of the bytes: they are more than 7089, or there is none of their content.
 abbrev pub IsLabelStop : Label → List ℕ → Stop → Type 0

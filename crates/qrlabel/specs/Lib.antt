@@ -1,4 +1,5 @@
 pub mod Asked
+pub mod Choices
 pub mod Colors
 pub mod Commands
 pub mod Contents
@@ -13,6 +14,7 @@ pub mod MadeOf
 pub mod Misuses
 pub mod Names
 pub mod Numbers
+pub mod Parts
 pub mod Placed
 pub mod Reports
 pub mod Rooms
@@ -20,4 +22,6 @@ pub mod Runs
 pub mod Said
 pub mod Settings
 pub mod Stops
+pub mod Tells
+pub mod Turns
 pub mod Words

@@ -6,7 +6,8 @@ use Rattle.qrlabel.specs.declared.words.Name.TheVariants.{MinVersion, MaxVersion
 use Rattle.qrlabel.specs.declared.words.Name.TheVariants.{ModuleMm, Dpi, Inverted, Title, At, Read}
 use Rattle.qrlabel.specs.declared.words.Name.TheVariants.{Output, AllowEmpty, Help, Version, Lines}
 use Rattle.qrlabel.specs.declared.words.Name.TheVariants.{First, KeepGoing, KeepNewline}
-use Rattle.qrlabel.specs.declared.words.Name.TheVariants.{Copies, Compressed, Feed, Cut}
+use Rattle.qrlabel.specs.declared.words.Name.TheVariants.{Copies, Compressed, Feed, Cut, Split, Rotate}
+use Rattle.qrlabel.specs.declared.words.Name.TheVariants.{Verbose, Info, Dark, Light, AnyColors}
 use Rattle.qrlabel.specs.Words.{Wrong, unknown, no_value, second_text, invalid}
 use Rattle.qrlabel.specs.Words.{needs_stream, needs_file}
 
@@ -39,6 +40,13 @@ option_word Copies = codes "--copies"
 option_word Compressed = codes "--compressed"
 option_word Feed = codes "--feed"
 option_word Cut = codes "--cut"
+option_word Split = codes "--split"
+option_word Rotate = codes "--rotate"
+option_word Verbose = codes "--verbose"
+option_word Info = codes "--info"
+option_word Dark = codes "--dark"
+option_word Light = codes "--light"
+option_word AnyColors = codes "--any-colors"
 
 -- What the size of a module can be.
 abbrev pub module_text : List ℕ
@@ -50,7 +58,18 @@ module_text =
 abbrev pub output_text : List ℕ
 output_text =
     codes "with -f any name, else one that ends with .txt, .svg, .png, .pbm, .eps, .escpos or .zpl; "
-    ++ codes "for --lines alone with a number, %d or %0Nd, N from 1 to 9"
+    ++ codes "for --lines and --split alone with a number, %d or %0Nd, N from 1 to 9"
+
+-- Where a message can't be spread over several symbols.
+abbrev pub split_text : List ℕ
+split_text = codes "not with --lines, --strongest, --min-version, or -c gs1, micro or micro-bytes"
+
+-- What the colors of a picture can be.
+abbrev pub dark_text : List ℕ
+dark_text = codes "#rrggbb or one of CSS's sixteen names, for svg, png and eps; lighter colors need --any-colors"
+
+abbrev pub light_text : List ℕ
+light_text = codes "as --dark, or transparent; in a contrast of 3 at least, unless --any-colors is given"
 
 -- What the value of an option can be, and where the option can't be given.
 abbrev pub values_text : Name → List ℕ
@@ -65,7 +84,7 @@ values_text Quiet = codes "0 to 16"
 values_text ModuleMm = module_text
 values_text Dpi = codes "50 to 2400, for png; with --module-mm for zpl and escpos, too"
 values_text Inverted = codes "for terminal"
-values_text Title = codes "a text without control characters, for svg"
+values_text Title = codes "a text without control characters, for svg, png and eps"
 values_text At = codes "X,Y, each 0 to 18000, for zpl"
 values_text Read = codes "not with a text"
 values_text Output = output_text
@@ -76,16 +95,24 @@ values_text Copies = codes "1 to 99999999, for zpl"
 values_text Compressed = codes "for zpl"
 values_text Feed = codes "0 to 255, for escpos"
 values_text Cut = codes "for escpos"
+values_text Split = split_text
+values_text Rotate = codes "0, 90, 180 or 270"
+values_text Verbose = codes "not with --lines, see --info"
+values_text Info = codes "not with the name of an output"
+values_text Dark = dark_text
+values_text Light = light_text
+values_text AnyColors = codes "for svg, png and eps"
 values_text _ = []
 
 -- Where help is, on a line of its own.
 abbrev pub advice : List ℕ
 advice = codes "\ntry qrlabel --help"
 
--- What the labels of lines need, and what bytes that are no text need on a terminal.
+-- What the labels of lines, or of the parts of a message, need, and what bytes that are no text need
+-- on a terminal.
 abbrev pub needs_stream_text : List ℕ
 needs_stream_text =
-    codes "--lines needs -f terminal, pbm, escpos or zpl, or files as in -o label-%05d.png"
+    codes "--lines and --split need -f terminal, pbm, escpos or zpl, or files as in -o label-%05d.png"
 
 abbrev pub needs_file_text : List ℕ
 needs_file_text = codes "png, pbm and escpos are not for a terminal: give -o FILE, or -o -"

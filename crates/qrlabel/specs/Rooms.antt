@@ -1,5 +1,6 @@
 -- Why a content is too long for a symbol, and at which level it is not.
-use Rattle.std.specs.Prelude.{◌≡◌, ◌<◌, ◌⊎◌, false, pos, ℕ, ◌+◌, ◌-◌, ◌*◌, ◌/◌, ◌%◌, nat_lt, if◌then◌else◌, unwrap_or}
+use Rattle.std.specs.Prelude.{◌≡◌, ◌<◌, ◌⊎◌, Bool, false, pos, ℕ}
+use Rattle.std.specs.Prelude.{◌+◌, ◌-◌, ◌*◌, ◌/◌, ◌%◌, nat_lt, if◌then◌else◌, unwrap_or}
 use Rattle.std.specs.Prelude.{List, [], ◌∷◌, length, Option, Some, None}
 use Rattle.qrcode_base.specs.Modes.{indicator_width, count_width}
 use Rattle.qrcode_base.specs.Symbols.{capacity}
@@ -12,12 +13,14 @@ use Rattle.qrcode_base.specs.declared.types.Mode.TheVariants.{Numeric, Byte}
 use Rattle.qrcode_base.specs.declared.types.Version.{Version}
 use Rattle.qrcode_base.specs.declared.types.Version.TheVariants.{Normal, Micro as MicroVersion}
 use Rattle.qrcode_core.specs.declared.options.SymbolOptions.{SymbolOptions}
-use Rattle.qrlabel.specs.Commands.{is_micro}
+use Rattle.qrlabel.specs.Choices.{is_micro, can_be_split}
 use Rattle.qrlabel.specs.Contents.{IsSymbolAs, IsStopAs, IsPlain, is_ascii}
 use Rattle.qrlabel.specs.declared.command.Content.{Content}
-use Rattle.qrlabel.specs.declared.command.Content.TheVariants.{Auto, Text, Bytes, Gs1, Micro, MicroBytes}
+use Rattle.qrlabel.specs.declared.command.Content.TheVariants.{Auto, Text, Gs1}
 use Rattle.std.specs.Str.{IsUtf8}
 use Rattle.qrlabel.specs.declared.command.Label.{Label}
+use Rattle.qrlabel.specs.declared.command.Portion.{Portion}
+use Rattle.qrlabel.specs.declared.command.Portion.TheVariants.{Whole}
 use Rattle.qrlabel.specs.declared.stop.Stop.{Stop}
 use Rattle.qrlabel.specs.declared.stop.TooLong.{TooLong}
 
@@ -85,8 +88,18 @@ IsFirstFitting label content (level ∷ levels) found =
 
 -- ---- Too long
 
+-- The labels of several symbols may stand for a label of the whole input, if they can carry its
+-- content together.
+abbrev pub splits_portion : Portion → Content → Bool
+splits_portion Whole content = can_be_split content
+splits_portion _ content = false
+
+abbrev pub proposes_split : Label → Bool
+proposes_split label = splits_portion label.portion label.content
+
 -- A content is too long for the label's symbol: its length, the greatest version and the level, how
--- much there is room for, and the greatest lower level at which there is a symbol.
+-- much there is room for, the greatest lower level at which there is a symbol, and whether several
+-- symbols can carry it.
 pub record IsTooLongAs (label : Label) (content : List ℕ) (long : TooLong) : Type 0 where
   pub length_is : long.length ≡ length content
   pub version_is : long.version ≡ greatest_version label
@@ -96,6 +109,7 @@ pub record IsTooLongAs (label : Label) (content : List ℕ) (long : TooLong) : T
   pub bytes_are : long.bytes ≡ bytes_room long.version long.level front
   pub digits_are : long.digits ≡ digits_room long.version long.level front
   pub fits : IsFirstFitting label content (lower_levels label.symbol.level) long.fits
+  pub splits : long.can_be_split ≡ proposes_split label
 
 -- There are more bytes than any symbol holds.
 pub record IsTooLongForAny (label : Label) (long : TooLong) : Type 0 where
@@ -103,3 +117,4 @@ pub record IsTooLongForAny (label : Label) (long : TooLong) : Type 0 where
   pub version_is : long.version ≡ greatest_version label
   pub level_is : long.level ≡ label.symbol.level
   pub fits : long.fits ≡ None
+  pub splits : long.can_be_split ≡ proposes_split label

@@ -3,7 +3,7 @@ use Rattle.std.specs.Prelude.{◌≡◌, ◌≢◌, ◌⊎◌, ◌+◌, ◌↔�
 use Rattle.std.specs.Prelude.{IsTrue, IsFalse, IsErrOf, Option, codes, if◌then◌else◌}
 use Rattle.std.specs.declared.io.ErrorKind.{ErrorKind}
 use Rattle.std.specs.Io.KnownBytes.{Keeps}
-use Rattle.programs.specs.Devices.{Input, Output, Writes, ReadsEnough, ReadsWithin}
+use Rattle.programs.specs.Devices.{Input, Output, Writes, ReadsAll, ReadsUpTo, ReadsWithin}
 use Rattle.programs.specs.Outcome.{WritesDrawing, BeginsDrawing}
 use Rattle.programs.specs.Reasons.{device_report, device_status}
 use Rattle.programs.specs.declared.Fault.TheVariants.{Symbol, Read, Write}
@@ -16,45 +16,75 @@ use Rattle.qrcode_render.specs.declared.settings.Setting.{Setting}
 use Rattle.qrlabel.specs.Asked.{label_of}
 use Rattle.qrlabel.specs.Commands.{Command, asks_help, asks_version, asks_label}
 use Rattle.qrlabel.specs.Help.{help_text, version_line}
-use Rattle.qrlabel.specs.Labels.{ShowsLabel, IsLabelStop}
-use Rattle.qrlabel.specs.Lines.{IsLinesOutcome, Place, stream}
+use Rattle.qrlabel.specs.FileStates.{FilesState, AddsFiles}
+use Rattle.qrlabel.specs.Folders.{folder, part_files, PutsSome}
+use Rattle.qrlabel.specs.Labels.{ShowsLabel, IsLabelStop, IsSaid}
+use Rattle.qrlabel.specs.Lines.{IsLinesOutcome, Made, Place, stream}
 use Rattle.qrlabel.specs.Misuses.{wrong_line}
 use Rattle.qrlabel.specs.Names.{Numbering, numbered}
+use Rattle.qrlabel.specs.Parts.{ShowMessage, ShowsMessage, IsMessageStop}
 use Rattle.qrlabel.specs.Placed.{numbering_of}
 use Rattle.qrlabel.specs.Settings.{setting_option}
 use Rattle.qrlabel.specs.Stops.{Devices, stop_report, end_report, stop_status}
 use Rattle.qrlabel.specs.Words.{Wrong, invalid}
 use Rattle.qrlabel.specs.declared.command.Label.{Label}
+use Rattle.qrlabel.specs.declared.parts.TheConstants.{LONGEST_MESSAGE}
 use Rattle.qrlabel.specs.declared.run.TheConstants.{LEFT_OUT}
 use Rattle.qrlabel.specs.declared.command.Portion.{Portion}
-use Rattle.qrlabel.specs.declared.command.Portion.TheVariants.{Whole, Lines, Files}
+use Rattle.qrlabel.specs.declared.command.Portion.TheVariants.{Whole, Lines, Files as FilesOf, Split, Parts}
 use Rattle.qrlabel.specs.declared.stop.LineStop.{LineStop}
 use Rattle.qrlabel.specs.declared.stop.Stop.{Stop}
 use Rattle.qrlabel.specs.declared.stop.Stop.TheVariants.{Fault}
 
--- There is no label of the bytes that were read, for this reason.
-pub record IsStopped (label : Label) (stop : Stop) (input : Input) : Type 0 where
-  pub bytes : List ℕ
-  pub read : ReadsEnough input bytes
-  pub stopped : IsLabelStop label bytes stop
+-- What is drawn of the whole input: which drawing shows which bytes, what is said of them beside it,
+-- why there is none of some bytes, and how many bytes a drawing can show.
+pub record Drawer : Type 1 where
+  pub shows : List ℕ → List ℕ → Type 0
+  pub says : List ℕ → List ℕ → Type 0
+  pub stops : List ℕ → Stop → Type 0
+  pub most : ℕ
 
--- What is written for an outcome. On success the label of all that was there to be read, and it was
--- flushed. Where reading failed, or there is no label, nothing. Where writing failed, a beginning
--- of the label.
-abbrev pub WritesLabelOutcome : Label → DrawOptions → Input → Output → Result (Unit {0}) Stop → Type 0
-WritesLabelOutcome label options input output (Ok done) = WritesDrawing (ShowsLabel label options) input output
-WritesLabelOutcome label options input output (Err (Fault Read)) = Keeps output.before output.after
-WritesLabelOutcome label options input output (Err (Fault Write)) =
-    BeginsDrawing (ShowsLabel label options) input output
-WritesLabelOutcome label options input output (Err stop) =
-    (stop ≢ Fault (Symbol OutOfMemory) → IsStopped label stop input)
+-- One label.
+abbrev pub one_of : Label → DrawOptions → Drawer
+one_of label options = record {
+  shows = ShowsLabel label options;
+  says = IsSaid label (λ told. ShowsLabel told options);
+  stops = IsLabelStop label;
+  most = LONGEST_DATA;
+}
+
+-- The labels of the symbols that carry the input together, one after the other.
+abbrev pub parts_of : Label → DrawOptions → Drawer
+parts_of label options = record {
+  shows = ShowsMessage label options;
+  says = IsSaid label (λ told. ShowsMessage told options);
+  stops = IsMessageStop label;
+  most = LONGEST_MESSAGE;
+}
+
+-- There is no drawing of the bytes that were read, for this reason.
+pub record IsStopped (drawer : Drawer) (stop : Stop) (input : Input) : Type 0 where
+  pub bytes : List ℕ
+  pub read : ReadsUpTo drawer.most input bytes
+  pub stopped : drawer.stops bytes stop
+
+-- What is written for an outcome. On success the drawing of all that was there to be read, and it
+-- was flushed; the outcome has what is said of it. Where reading failed, or there is no drawing,
+-- nothing. Where writing failed, a beginning of the drawing.
+abbrev pub WritesLabelOutcome : Drawer → Input → Output → Made → Type 0
+WritesLabelOutcome drawer input output (Ok said) =
+    WritesDrawing (λ bytes drawing. drawer.shows bytes drawing × drawer.says bytes said) input output
+WritesLabelOutcome drawer input output (Err (Fault Read)) = Keeps output.before output.after
+WritesLabelOutcome drawer input output (Err (Fault Write)) = BeginsDrawing drawer.shows input output
+WritesLabelOutcome drawer input output (Err stop) =
+    (stop ≢ Fault (Symbol OutOfMemory) → IsStopped drawer stop input)
     × Keeps output.before output.after
 
--- The outcome of a label: what was written, and that the error is `Read` exactly if reading failed,
--- and `Write` exactly if writing failed.
-pub record IsLabelOutcome (label : Label) (options : DrawOptions) (input : Input) (output : Output)
-    (outcome : Result (Unit {0}) Stop) : Type 0 where
-  pub writes : WritesLabelOutcome label options input output outcome
+-- The outcome of a drawing: what was written, and that the error is `Read` exactly if reading
+-- failed, and `Write` exactly if writing failed.
+pub record IsLabelOutcome (drawer : Drawer) (input : Input) (output : Output)
+    (outcome : Made) : Type 0 where
+  pub writes : WritesLabelOutcome drawer input output outcome
   pub read : IsErrOf outcome (Fault Read) ↔ IsTrue input.failed
   pub write : IsErrOf outcome (Fault Write) ↔ IsTrue output.failed
 
@@ -68,23 +98,72 @@ devices_in label input target not_written = record {
 }
 
 -- The exit status, and what is written on standard error.
-abbrev pub label_status : Devices → Result (Unit {0}) Stop → ℕ
-label_status devices (Ok done) = 0
+abbrev pub label_status : Devices → Made → ℕ
+label_status devices (Ok said) = 0
 label_status devices (Err stop) = stop_status devices stop
 
-abbrev pub reported : Devices → Result (Unit {0}) Stop → List ℕ
-reported devices (Ok done) = []
-reported devices (Err stop) = stop_report (codes "qrlabel") devices stop
+abbrev pub label_report : Devices → Made → List ℕ
+label_report devices (Ok said) = said
+label_report devices (Err stop) = stop_report (codes "qrlabel") devices stop
 
--- The label was drawn, and the status and the line on standard error are those of the outcome. At
--- most one byte more was read than the longest data has.
-pub record ServesLabel (label : Label) (options : DrawOptions) (input : Input) (output errors : Output)
+-- The input was drawn, and the status and the line on standard error are those of the outcome. At
+-- most one byte more was read than a drawing can show.
+pub record ServesLabel (drawer : Drawer) (label : Label) (input : Input) (output errors : Output)
     (status : ℕ) : Type 0 where
-  pub outcome : Result (Unit {0}) Stop
-  pub is_outcome : IsLabelOutcome label options input output outcome
-  pub within : ReadsWithin (LONGEST_DATA + 1) input
+  pub outcome : Made
+  pub is_outcome : IsLabelOutcome drawer input output outcome
+  pub within : ReadsWithin (drawer.most + 1) input
   pub status_is : status ≡ label_status (devices_in label input label.target.now output.reason) outcome
-  pub reports : Writes errors (reported (devices_in label input label.target.now output.reason) outcome)
+  pub reports : Writes errors (label_report (devices_in label input label.target.now output.reason) outcome)
+
+-- ---- Parts in files
+
+-- The drawings show all that was there to be read, and this is said of it.
+pub record AreDrawings (label : Label) (options : DrawOptions) (input : Input)
+    (drawings : List (List ℕ)) (said : List ℕ) : Type 0 where
+  pub bytes : List ℕ
+  pub read : ReadsAll input bytes
+  pub shown : ShowMessage label options bytes drawings
+  pub says : IsSaid label (λ told. ShowsMessage told options) bytes said
+
+-- Files of some drawings were written, and the next was not.
+abbrev pub PutsBeginning : Label → DrawOptions → Input → (old new : FilesState) → Numbering → List ℕ → Stop → Type 0
+PutsBeginning label options input old new name path stop =
+    (drawings : List (List ℕ)) × (said : List ℕ) × AreDrawings label options input drawings said
+    × PutsSome name drawings old new stop path
+
+-- The files that are written for an outcome. On success one for each symbol, with its number from 1
+-- on. Where reading failed, or there are no symbols, none. Where writing failed, or memory ran out
+-- for a name, those of the symbols before.
+abbrev pub PutsOutcome : Label → DrawOptions → Input → (old new : FilesState) → Numbering → List ℕ → Made → Type 0
+PutsOutcome label options input old new name path (Ok said) =
+    (drawings : List (List ℕ)) × AreDrawings label options input drawings said
+    × AddsFiles old.files new.files (part_files name 1 drawings)
+PutsOutcome label options input old new name path (Err (Fault Read)) = AddsFiles old.files new.files []
+PutsOutcome label options input old new name path (Err (Fault Write)) =
+    PutsBeginning label options input old new name path (Fault Write)
+PutsOutcome label options input old new name path (Err stop) =
+    ((stop ≢ Fault (Symbol OutOfMemory) → IsStopped (parts_of label options) stop input)
+    × AddsFiles old.files new.files [])
+    ⊎ PutsBeginning label options input old new name path stop
+
+-- The same, and that the error is `Read` exactly if reading failed, and `Write` exactly if writing
+-- failed. The path is the name of the file that could not be written.
+pub record IsPartsOutcome (label : Label) (options : DrawOptions) (input : Input) (old new : FilesState)
+    (name : Numbering) (path : List ℕ) (outcome : Made) : Type 0 where
+  pub puts : PutsOutcome label options input old new name path outcome
+  pub read : IsErrOf outcome (Fault Read) ↔ IsTrue input.failed
+  pub write : IsErrOf outcome (Fault Write) ↔ IsTrue new.failed
+
+-- The files were written, and the status and the line on standard error are those of the outcome.
+pub record ServesParts (label : Label) (options : DrawOptions) (input : Input) (old new : FilesState)
+    (name : Numbering) (errors : Output) (status : ℕ) : Type 0 where
+  pub outcome : Made
+  pub path : List ℕ
+  pub is_outcome : IsPartsOutcome label options input old new name path outcome
+  pub within : ReadsWithin (LONGEST_MESSAGE + 1) input
+  pub status_is : status ≡ label_status (devices_in label input path new.reason) outcome
+  pub reports : Writes errors (label_report (devices_in label input path new.reason) outcome)
 
 -- ---- Lines
 
@@ -151,23 +230,28 @@ pub record Shows (text : List ℕ) (output errors : Output) (status : ℕ) : Typ
   pub status_is : status ≡ (if output.failed then device_status output.reason else 0)
   pub reports : Writes errors (output_report output)
 
--- The files of labels, by the number of the first line, the name, and what is said of lines that
--- are left out.
-abbrev pub Places : Type 1
-Places = ℕ → Numbering → Output → Place
+-- The place for files before and after.
+pub record Files : Type 0 where
+  pub old : FilesState
+  pub new : FilesState
 
--- The label of the whole input was drawn, or those of its lines: in one output, or each in a file.
-abbrev pub ServesPortion : Portion → Label → DrawOptions → Input → Output → Places → Output → ℕ → Type 0
+-- The label of the whole input was drawn, or those of its lines, or of the symbols that carry it
+-- together: in one output, or each in a file.
+abbrev pub ServesPortion : Portion → Label → DrawOptions → Input → Output → Files → Output → ℕ → Type 0
 ServesPortion Whole label options input output files errors status =
-    ServesLabel label options input output errors status
+    ServesLabel (one_of label options) label input output errors status
 ServesPortion Lines label options input output files errors status =
     ServesLines label options input (stream output label.first) (λ number. label.target.now) errors status
-ServesPortion (Files name) label options input output files errors status =
-    ServesLines label options input (files label.first (numbering_of name)) (numbered (numbering_of name)) errors
-    status
+ServesPortion (FilesOf name) label options input output files errors status =
+    ServesLines label options input (folder files.old files.new label.first (numbering_of name))
+    (numbered (numbering_of name)) errors status
+ServesPortion Split label options input output files errors status =
+    ServesLabel (parts_of label options) label input output errors status
+ServesPortion (Parts name) label options input output files errors status =
+    ServesParts label options input files.old files.new (numbering_of name) errors status
 
 -- The label was drawn with the options that its settings ask for.
-pub record DrawsAsAsked (label : Label) (input : Input) (output : Output) (files : Places)
+pub record DrawsAsAsked (label : Label) (input : Input) (output : Output) (files : Files)
     (errors : Output) (status : ℕ) : Type 0 where
   pub options : DrawOptions
   pub valid : invalid_setting label.format label.settings ≡ None
@@ -176,14 +260,14 @@ pub record DrawsAsAsked (label : Label) (input : Input) (output : Output) (files
 
 -- The first setting that is not valid is wrong, and this needs no memory; if all are valid, the
 -- label is drawn.
-abbrev pub RunsLabel : Label → (kept : Type 0) → Input → Output → Places → Output → ℕ → Type 0
+abbrev pub RunsLabel : Label → (kept : Type 0) → Input → Output → Files → Output → ℕ → Type 0
 RunsLabel label kept input output files errors status =
     DrawsAsAsked label input output files errors status
     ⊎ ((setting : Setting) × (invalid_setting label.format label.settings ≡ Some setting)
     × Misused (invalid (setting_option setting)) kept errors status)
 
 -- What the program does for what the words ask for.
-abbrev pub Runs : Result Command Wrong → (kept : Type 0) → Input → Output → Places → Output → ℕ → Type 0
+abbrev pub Runs : Result Command Wrong → (kept : Type 0) → Input → Output → Files → Output → ℕ → Type 0
 Runs (Err wrong) kept input output files errors status = Misused wrong kept errors status
 Runs (Ok asks_help) kept input output files errors status = Shows help_text output errors status
 Runs (Ok asks_version) kept input output files errors status = Shows version_line output errors status

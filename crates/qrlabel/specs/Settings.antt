@@ -9,9 +9,13 @@ use Rattle.qrcode_render.specs.declared.settings.Setting.TheVariants.{Title as T
 use Rattle.qrcode_render.specs.declared.settings.Setting.TheVariants.{Copies as CopiesOf}
 use Rattle.qrcode_render.specs.declared.settings.Setting.TheVariants.{Compressed as CompressedOf}
 use Rattle.qrcode_render.specs.declared.settings.Setting.TheVariants.{Feed as FeedOf, Cut as CutOf}
+use Rattle.qrcode_render.specs.declared.settings.Setting.TheVariants.{Dark as DarkOf}
+use Rattle.qrcode_render.specs.declared.settings.Setting.TheVariants.{Light as LightOf}
+use Rattle.qrcode_render.specs.declared.settings.Setting.TheVariants.{AnyColors as AnyColorsOf}
 use Rattle.qrlabel.specs.declared.words.Name.{Name}
 use Rattle.qrlabel.specs.declared.words.Name.TheVariants.{Scale, Quiet, ModuleMm, Dpi, Inverted}
 use Rattle.qrlabel.specs.declared.words.Name.TheVariants.{Title, At, Copies, Compressed, Feed, Cut}
+use Rattle.qrlabel.specs.declared.words.Name.TheVariants.{Dark, Light, AnyColors}
 
 -- The option that gives a setting.
 abbrev pub setting_option : Setting → Name
@@ -26,3 +30,6 @@ setting_option CopiesOf = Copies
 setting_option CompressedOf = Compressed
 setting_option FeedOf = Feed
 setting_option CutOf = Cut
+setting_option DarkOf = Dark
+setting_option LightOf = Light
+setting_option AnyColorsOf = AnyColors

@@ -16,7 +16,7 @@ use Rattle.qrlabel.specs.Faults.{element_number}
 use Rattle.qrlabel.specs.declared.stop.ElementStop.{ElementStop}
 use Rattle.qrlabel.specs.declared.stop.LineStop.{LineStop}
 use Rattle.qrlabel.specs.declared.stop.Stop.{Stop}
-use Rattle.qrlabel.specs.declared.stop.Stop.TheVariants.{Fault, Elements, Empty, NotAscii, TooLong}
+use Rattle.qrlabel.specs.declared.stop.Stop.TheVariants.{Fault, Elements, Empty, NotAscii, TooLong, TooManyParts}
 use Rattle.qrlabel.specs.declared.stop.TooLong.{TooLong as TooLongOf}
 use Rattle.qrcode_base.specs.Names.{level_text}
 use Rattle.qrcode_base.specs.declared.symbols.TheConstants.{LONGEST_DATA}
@@ -29,7 +29,7 @@ abbrev pub element_text : Gs1Error → List ℕ
 element_text NoElements = codes "there is no element"
 element_text (InvalidIdentifier element) = codes "the identifier is cut short, or not two to four digits"
 element_text (UnknownIdentifier element) = codes "unknown identifier"
-element_text (EmptyValue element) = codes "the value is empty"
+element_text (EmptyValue element) = codes "the value is empty, or a bracket is not closed"
 element_text (ValueTooLong element) = codes "the value has more than 90 characters"
 element_text (InvalidCharacter element position byte) =
     codes "a character of the value is not allowed there"
@@ -88,17 +88,32 @@ abbrev pub fits_piece : Option EcLevel → List ℕ
 fits_piece None = codes " digits"
 fits_piece (Some level) = codes " digits; it fits level " ++ level_text level
 
+-- Several symbols can carry the content together.
+abbrev pub split_piece : Bool → List ℕ
+split_piece splits = if splits then codes "; see --split" else []
+
+abbrev pub rest_piece : Option EcLevel → Bool → List ℕ
+rest_piece fits splits = fits_piece fits ++ split_piece splits
+
+-- More bytes than any symbol holds.
+abbrev pub many_text : Bool → List ℕ
+many_text splits = codes "data too long: more than 7089 bytes, which no symbol holds" ++ split_piece splits
+
+-- More bytes than the symbols of a sequence hold.
+abbrev pub parts_text : List ℕ
+parts_text = codes "data too long: no 16 symbols hold it at this level up to --max-version"
+
 -- The line of a content that is too long.
 unfoldable pub room_line : List ℕ → TooLongOf → List ℕ
 room_line name long =
     line_of name (codes "data too long: " ∷ decimal long.length ∷ level_piece long.level long.version
     ∷ decimal (version_number long.version) ∷ codes " has room for " ∷ decimal long.bytes
-    ∷ codes " bytes or " ∷ decimal long.digits ∷ fits_piece long.fits ∷ [])
+    ∷ codes " bytes or " ∷ decimal long.digits ∷ rest_piece long.fits long.can_be_split ∷ [])
 
 unfoldable pub long_line : List ℕ → TooLongOf → List ℕ
 long_line name long =
     if nat_lt LONGEST_DATA long.length
-    then line_of name (codes "data too long: more than 7089 bytes, which no symbol holds" ∷ [])
+    then line_of name (many_text long.can_be_split ∷ [])
     else room_line name long
 
 -- The line that says why there is no label.
@@ -108,6 +123,7 @@ stop_line name (Elements at) = element_line name at
 stop_line name Empty = line_of name (codes "empty input, see --allow-empty" ∷ [])
 stop_line name NotAscii = line_of name (not_ascii_text ∷ [])
 stop_line name (TooLong long) = long_line name long
+stop_line name TooManyParts = line_of name (parts_text ∷ [])
 
 -- The same of a line of the input, with its number.
 abbrev pub numbered_line : LineStop → List ℕ

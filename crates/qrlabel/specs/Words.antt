@@ -11,7 +11,8 @@ use Rattle.qrlabel.specs.declared.words.Name.TheVariants.{MinVersion, MaxVersion
 use Rattle.qrlabel.specs.declared.words.Name.TheVariants.{ModuleMm, Dpi, Inverted, Title, At, Read}
 use Rattle.qrlabel.specs.declared.words.Name.TheVariants.{Output, AllowEmpty, Help, Version, Lines}
 use Rattle.qrlabel.specs.declared.words.Name.TheVariants.{First, KeepGoing, KeepNewline}
-use Rattle.qrlabel.specs.declared.words.Name.TheVariants.{Copies, Compressed, Feed, Cut}
+use Rattle.qrlabel.specs.declared.words.Name.TheVariants.{Copies, Compressed, Feed, Cut, Split, Rotate}
+use Rattle.qrlabel.specs.declared.words.Name.TheVariants.{Verbose, Info, Dark, Light, AnyColors}
 
 -- What a table has for a word.
 abbrev pub among : {A : Type 0} → List (List ℕ × A) → List ℕ → Option A
@@ -28,32 +29,47 @@ names =
     ∷ (codes "--strongest", Strongest)
     ∷ (codes "--min-version", MinVersion)
     ∷ (codes "--max-version", MaxVersion)
-    ∷ (codes "-s", Scale) ∷ (codes "--scale", Scale)
-    ∷ (codes "-q", Quiet) ∷ (codes "--quiet", Quiet)
-    ∷ (codes "--module-mm", ModuleMm)
-    ∷ (codes "--dpi", Dpi)
-    ∷ (codes "--inverted", Inverted)
-    ∷ (codes "--title", Title)
-    ∷ (codes "--at", At)
     ∷ (codes "-r", Read) ∷ (codes "--read", Read)
     ∷ (codes "-o", Output) ∷ (codes "--output", Output)
     ∷ (codes "--lines", Lines)
     ∷ (codes "--first", First)
     ∷ (codes "-k", KeepGoing) ∷ (codes "--keep-going", KeepGoing)
     ∷ (codes "--keep-newline", KeepNewline)
-    ∷ (codes "--copies", Copies)
-    ∷ (codes "--compressed", Compressed)
-    ∷ (codes "--feed", Feed)
-    ∷ (codes "--cut", Cut)
+    ∷ (codes "--split", Split)
+    ∷ (codes "-v", Verbose) ∷ (codes "--verbose", Verbose)
+    ∷ (codes "--info", Info)
     ∷ (codes "--allow-empty", AllowEmpty)
     ∷ (codes "-h", Help) ∷ (codes "--help", Help)
     ∷ (codes "-V", Version) ∷ (codes "--version", Version)
     ∷ (codes "--", Text)
     ∷ []
 
+-- Those of pictures.
+abbrev pub picture_names : List (List ℕ × Name)
+picture_names =
+    (codes "-s", Scale) ∷ (codes "--scale", Scale)
+    ∷ (codes "-q", Quiet) ∷ (codes "--quiet", Quiet)
+    ∷ (codes "--module-mm", ModuleMm)
+    ∷ (codes "--dpi", Dpi)
+    ∷ (codes "--inverted", Inverted)
+    ∷ (codes "--title", Title)
+    ∷ (codes "--at", At)
+    ∷ (codes "--copies", Copies)
+    ∷ (codes "--compressed", Compressed)
+    ∷ (codes "--feed", Feed)
+    ∷ (codes "--cut", Cut)
+    ∷ (codes "--rotate", Rotate)
+    ∷ (codes "--dark", Dark)
+    ∷ (codes "--light", Light)
+    ∷ (codes "--any-colors", AnyColors)
+    ∷ []
+
+unfoldable pub picture_named : List ℕ → Option Name
+picture_named word = among picture_names word
+
 -- The option that a word names.
 unfoldable pub named : List ℕ → Option Name
-named word = among names word
+named word = elim (among names word) [ Some name ↦ Some name | None ↦ picture_named word ]
 
 -- The number of an option: its place among the values.
 abbrev pub option_number : Name → ℕ
@@ -84,6 +100,13 @@ option_number Copies = 23
 option_number Compressed = 24
 option_number Feed = 25
 option_number Cut = 26
+option_number Split = 27
+option_number Rotate = 28
+option_number Verbose = 29
+option_number Info = 30
+option_number Dark = 31
+option_number Light = 32
+option_number AnyColors = 33
 
 -- Whether the next word is the value of the option.
 abbrev pub takes_value : Name → Bool
@@ -95,6 +118,10 @@ takes_value KeepGoing = false
 takes_value KeepNewline = false
 takes_value Compressed = false
 takes_value Cut = false
+takes_value Split = false
+takes_value Verbose = false
+takes_value Info = false
+takes_value AnyColors = false
 takes_value Help = false
 takes_value Version = false
 takes_value _ = true

@@ -1,9 +1,9 @@
 //! Levels, contents and formats by their names.
 ghost use Rattle.std.specs.Prelude.{◌≡◌};
-ghost use Rattle.qrlabel.specs.Commands.{level_named, content_named, format_named, has_ending};
-ghost use Rattle.qrlabel.specs.Commands.{format_of_ending};
+ghost use Rattle.qrlabel.specs.Choices.{level_named, content_named, format_named, has_ending};
+ghost use Rattle.qrlabel.specs.Choices.{format_of_ending, turn_named};
 
-use crate::command::Content;
+use crate::command::{Content, Turn};
 use qrcode_core::types::EcLevel;
 use qrcode_render::Format;
 
@@ -31,6 +31,19 @@ pub fn content_named(word: &str) -> Option<Content>
         "gs1" => Some(Content::Gs1),
         "micro" => Some(Content::Micro),
         "micro-bytes" => Some(Content::MicroBytes),
+        _ => None,
+    }
+}
+
+/// Returns the turn of so many degrees.
+pub fn turn_named(word: &str) -> Option<Turn>
+    ensures { result ≡ turn_named word.now }
+{
+    match word {
+        "0" => Some(Turn::Upright),
+        "90" => Some(Turn::Right),
+        "180" => Some(Turn::Over),
+        "270" => Some(Turn::Left),
         _ => None,
     }
 }

@@ -2,22 +2,22 @@
 //!
 //! 1. Read each option by its value (`level_of`, `content_of`, `format_of`, ..).
 //! 2. Put them together (`label_of`, `command_of`).
-ghost use Rattle.std.specs.Prelude.{◌≡◌, option_map, unwrap_or};
+ghost use Rattle.std.specs.Prelude.{◌≡◌, unwrap_or};
 ghost use Rattle.qrlabel.specs.Said.{said};
 ghost use Rattle.qrlabel.specs.Commands.{found_or};
 ghost use Rattle.qrlabel.specs.Commands.{level_asked, content_asked, format_asked, version_asked};
-ghost use Rattle.qrlabel.specs.Commands.{symbol_asked, micro_asked, is_micro, is_trimmed};
+ghost use Rattle.qrlabel.specs.Commands.{symbol_asked, micro_asked, is_trimmed};
+ghost use Rattle.qrlabel.specs.Choices.{is_micro};
 ghost use Rattle.qrlabel.specs.Commands.{first_asked, keeps_going_asked, trims_asked};
-ghost use Rattle.qrlabel.specs.Commands.{has_percent, is_text, terminal_asked};
-ghost use Rattle.qrlabel.specs.Commands.{is_stream, numbered_output, portion_asked};
+ghost use Rattle.qrlabel.specs.Commands.{turn_asked};
 ghost use Rattle.qrlabel.specs.Commands.{colored_asked, label_asked, command_asked};
 ghost use Rattle.qrlabel.specs.Words.{file_of};
-ghost use Rattle.qrlabel.specs.Asked.{outcome, portion_outcome, label_outcome, command_outcome};
-ghost use Rattle.qrlabel.specs.Placed.{numbering_of};
+ghost use Rattle.qrlabel.specs.Asked.{outcome, label_outcome, command_outcome};
 
-use crate::choices::{content_named, format_named, format_of_ending, level_named};
-use crate::names::{Numbering, numbering_in};
+use crate::choices::{content_named, format_named, format_of_ending, level_named, turn_named};
+use crate::names::Numbering;
 use crate::numbers::number_in;
+use crate::portion::{check_terminal, portion_of, tells_of};
 use crate::settings::{in_dots, settings_of, zoned};
 use crate::words::{Misuse, Name, Values};
 use qrcode_core::options::SymbolOptions;
@@ -50,6 +50,34 @@ pub enum Portion<'a> {
     Lines,
     /// A label shows each line, and each has a file of its own.
     Files(Numbering<'a>),
+    /// As many labels as it takes show all of it, and they have one output.
+    Split,
+    /// As many labels as it takes show all of it, and each has a file of its own.
+    Parts(Numbering<'a>),
+}
+
+/// By how much a symbol is turned, clockwise.
+#[derive(Clone, Copy, Debug, PartialEq, Eq)]
+pub enum Turn {
+    /// Not at all.
+    Upright,
+    /// By 90 degrees.
+    Right,
+    /// By 180 degrees.
+    Over,
+    /// By 270 degrees.
+    Left,
+}
+
+/// Whether a symbol's version, level, mask, segments and size are told.
+#[derive(Clone, Copy, Debug, PartialEq, Eq)]
+pub enum Tells {
+    /// They are not.
+    Nothing,
+    /// They are, on standard error, and the symbol is drawn.
+    Beside,
+    /// They are, and nothing is drawn.
+    Alone,
 }
 
 /// A label: what its symbol says, how the symbol is chosen, and its picture.
@@ -74,6 +102,12 @@ pub struct Label<'a> {
     pub target: &'a str,
     /// Whether a text for a terminal has colors of its own.
     pub colored: bool,
+    /// By how much the symbol is turned.
+    pub turn: Turn,
+    /// Whether its symbol is drawn, or told of.
+    pub tells: Tells,
+    /// The dots of an inch, if they are given.
+    pub dpi: Option<usize>,
 }
 
 /// The greatest number of a first line.
@@ -114,6 +148,16 @@ fn content_of<'a>(values: &Values<'a>) -> Result<Content, Misuse<'a>>
     match values.get(Name::Content) {
         Some(word) => found(content_named(word), Name::Content),
         None => Ok(Content::Auto),
+    }
+}
+
+/// Returns the turn, or `Upright`.
+fn turn_of<'a>(values: &Values<'a>) -> Result<Turn, Misuse<'a>>
+    ensures { outcome result ≡ turn_asked (said values.now) }
+{
+    match values.get(Name::Rotate) {
+        Some(word) => found(turn_named(word), Name::Rotate),
+        None => Ok(Turn::Upright),
     }
 }
 
@@ -191,81 +235,6 @@ fn check_micro<'a>(values: &Values<'a>, content: Content, level: EcLevel) -> Res
     }
 }
 
-/// Whether pictures of the format can follow each other in one output.
-fn is_stream(format: Format) -> bool
-    ensures { result ≡ is_stream format }
-{
-    match format {
-        Format::Terminal | Format::Pbm | Format::EscPos | Format::Zpl => true,
-        Format::Svg | Format::Png | Format::Eps => false,
-    }
-}
-
-/// Returns the name of the output as one with a number in it, if it is one.
-fn numbered_output<'a>(values: &Values<'a>) -> Option<Numbering<'a>>
-    ensures { option_map numbering_of result ≡ numbered_output (said values.now) }
-{
-    numbering_in(values.get(Name::Output)?)
-}
-
-/// Whether the name of the output has a percent sign.
-fn has_percent<'a>(values: &Values<'a>) -> bool
-    ensures { result ≡ has_percent (said values.now) }
-{
-    match values.get(Name::Output) {
-        Some(name) => name.split_once('%').is_some(),
-        None => false,
-    }
-}
-
-/// Returns what of the input a label shows. Lines are those of an input, and not of a text. Each
-/// has a file if the output's name has a number, else their pictures follow each other.
-fn portion_of<'a>(values: &Values<'a>, format: Format) -> Result<Portion<'a>, Misuse<'a>>
-    ensures { portion_outcome result ≡ portion_asked format (said values.now) }
-{
-    let numbered = numbered_output(values);
-    if !values.has(Name::Lines) {
-        return match numbered {
-            Some(_) => Err(Misuse::Invalid(Name::Output)),
-            None => Ok(Portion::Whole),
-        };
-    }
-    if values.has(Name::Text) {
-        return Err(Misuse::Invalid(Name::Lines));
-    }
-    match numbered {
-        Some(name) => Ok(Portion::Files(name)),
-        None if has_percent(values) => Err(Misuse::Invalid(Name::Output)),
-        None if is_stream(format) => Ok(Portion::Lines),
-        None => Err(Misuse::NeedsStream),
-    }
-}
-
-/// Whether pictures of the format are a text.
-fn is_text(format: Format) -> bool
-    ensures { result ≡ is_text format }
-{
-    match format {
-        Format::Terminal | Format::Svg | Format::Eps | Format::Zpl => true,
-        Format::Png | Format::Pbm | Format::EscPos => false,
-    }
-}
-
-/// Checks that no bytes but a text are written on a terminal, unless the words name the output.
-fn check_terminal<'a>(
-    values: &Values<'a>,
-    on_terminal: bool,
-    format: Format,
-) -> Result<(), Misuse<'a>>
-    ensures { outcome result ≡ terminal_asked on_terminal format (said values.now) }
-{
-    if on_terminal && !is_text(format) && !values.has(Name::Output) {
-        Err(Misuse::NeedsFile)
-    } else {
-        Ok(())
-    }
-}
-
 /// Whether a text of this content has no byte order mark and no newline at its end. Bytes are
 /// drawn as they are.
 fn is_trimmed(content: Content) -> bool
@@ -337,9 +306,11 @@ fn label_of<'a>(values: &Values<'a>, on_terminal: bool) -> Result<Label<'a>, Mis
     check_micro(values, content, symbol.level)?;
     let format = format_of(values, on_terminal)?;
     check_terminal(values, on_terminal, format)?;
-    let portion = portion_of(values, format)?;
+    let portion = portion_of(values, content, format)?;
     let first = first_of(values)?;
     let keeps_going = keeps_going_of(values)?;
+    let turn = turn_of(values)?;
+    let tells = tells_of(values)?;
     let settings = settings_of(values)?;
     Ok(Label {
         content,
@@ -354,6 +325,9 @@ fn label_of<'a>(values: &Values<'a>, on_terminal: bool) -> Result<Label<'a>, Mis
         source: device_name(values, Name::Read, "standard input"),
         target: device_name(values, Name::Output, "standard output"),
         colored: colored_of(values, on_terminal, format),
+        turn,
+        tells,
+        dpi: settings.dpi,
     })
 }
 

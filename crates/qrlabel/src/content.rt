@@ -149,7 +149,7 @@ fn micro_symbol(alloc: Global, level: EcLevel, bytes: &[u8]) -> Result<Symbol, S
 }
 
 /// Whether the bytes begin with an opening bracket.
-fn is_bracketed(bytes: &[u8]) -> bool
+pub fn is_bracketed(bytes: &[u8]) -> bool
     ensures { result ≡ is_bracketed bytes.now }
 {
     !bytes.is_empty() && bytes[0] == b'('

@@ -34,9 +34,14 @@ fn run_command<E: Sink>(rt: &HostRuntime, values: &Values, errors: &mut E) -> u8
     let mut writer = counting(rt, FromWriter::new(stdout), on_terminal);
     match (command_of(values, on_terminal), values.file(Name::Output)) {
         (Err(misuse), _) => misused(errors, misuse),
-        (Ok(Command::Label(label)), Some(path)) if !matches!(label.portion, Portion::Files(_)) => {
-            into_file(rt, values, path, errors)
-        }
+        (Ok(Command::Label(label)), Some(path)) => match label.portion {
+            Portion::Whole | Portion::Lines | Portion::Split => {
+                into_file(rt, values, path, errors)
+            }
+            Portion::Files(_) | Portion::Parts(_) => {
+                from_input(rt, values, on_terminal, &mut writer, errors)
+            }
+        },
         (Ok(_), _) => from_input(rt, values, on_terminal, &mut writer, errors),
     }
 }

@@ -19,6 +19,8 @@ Input and output:
       --first N         number of the first line, 0 to 1000000000; default: 1
   -k, --keep-going      leave out lines that can't be labels, and report each
       --keep-newline    keep the newline at the end of a text that is read
+      --split           as many labels as it takes, at most 16, where one can't hold
+                        the input; formats and names of files as for --lines
       --allow-empty     draw an input or a line without any bytes, too
       --                words after it are no options: TEXT may begin with '-'
 
@@ -42,14 +44,21 @@ Picture:
                         png, zpl, escpos: as many whole dots as fit)
       --dpi N           dots an inch, 50 to 2400 (png; with --module-mm also zpl,
                         escpos)
+      --rotate DEGREES  turn the symbol clockwise: 0, 90, 180 or 270; default: 0
       --inverted        for light text on a dark screen (terminal)
-      --title TITLE     title of the picture (svg)
+      --title TITLE     title of the picture (svg, png, eps)
+      --dark COLOR      #rrggbb or one of CSS's sixteen names (svg, png, eps)
+      --light COLOR     the same, or transparent; default: black on white
+      --any-colors      take colors that readers may not tell apart
       --at X,Y          position on the label in dots, 0 to 18000 (zpl)
       --copies N        how often the printer prints it, 1 to 99999999 (zpl)
       --compressed      write it in compressed fields (zpl)
       --feed N          lines of paper to feed after it, 0 to 255 (escpos)
       --cut             cut the paper after it (escpos)
 
+      --info            tell version, level, mask, segments and size of the symbol on
+                        standard output, and draw nothing
+  -v, --verbose         draw, and tell them on standard error
   -h, --help            show this text
   -V, --version         show the version
 

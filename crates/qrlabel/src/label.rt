@@ -1,18 +1,24 @@
 //! From bytes to the label of their symbol.
 ghost use Rattle.std.specs.Prelude.{◌≡◌, ◌≤◌, length, IfOk, IfErr, OnOk};
+ghost use Rattle.std.specs.Option.{option_copied};
 ghost use Rattle.qrcode_base.specs.declared.symbols.TheConstants.{LONGEST_DATA};
-ghost use Rattle.qrlabel.specs.Labels.{ShowsLabel, IsLabelStop, is_too_long};
+ghost use Rattle.qrlabel.specs.Labels.{ShowsLabel, ShowsSymbol, IsSymbolPicture, IsLabelStop, is_too_long};
+ghost use Rattle.qrlabel.specs.Labels.{IsSaid, telling};
+ghost use Rattle.qrlabel.specs.Tells.{TellsNot};
 
 use crate::colors::in_colors;
-use crate::command::Label;
+use crate::command::{Label, Tells};
 use crate::content::{content_of, content_symbol};
+use crate::info::symbol_text;
 use crate::room::{too_long_at_level, too_long_for_any};
 use crate::stop::Stop;
+use crate::turned::draw_turned;
 use programs::Fault;
 use qrcode_base::symbols::LONGEST_DATA;
+use qrcode_core::symbol::Symbol;
 use qrcode_core::types::QrError;
-use qrcode_render::{DrawOptions, draw};
-use std::alloc::Global;
+use qrcode_render::DrawOptions;
+use std::alloc::{AllocError, Global};
 
 /// Returns the label of the bytes: the picture of the symbol of their content. It fails with
 /// `TooLong` where there are more than 7089 bytes, with `Empty` where there is no content and the
@@ -43,19 +49,80 @@ pub fn label_bytes(
         }
         Err(stop) => return Err(stop),
     };
-    let picture = draw(alloc, &symbol, options)?;
+    symbol_label(alloc, label, options, Some(content), &symbol)
+}
+
+/// Returns what the label shows of a symbol: what is told of it, or its picture. The content is
+/// given if the symbol has all of it. It fails as `symbol_text` does.
+pub fn symbol_label(
+    alloc: Global,
+    label: &Label,
+    options: &DrawOptions,
+    content: Option<&[u8]>,
+    symbol: &Symbol,
+) -> Result<Vec<u8>, Stop>
+    ensures shown { IfOk result (λ drawing. ShowsSymbol label.now options.now
+        (option_copied content.entry) symbol.now drawing.items) }
+    ensures refused { IfErr result (TellsNot label.now (option_copied content.entry)) }
+{
+    if label.tells == Tells::Alone {
+        return symbol_text(alloc, label, options, content, symbol);
+    }
+    Ok(symbol_picture(alloc, label, options, symbol)?)
+}
+
+/// Returns the picture of a symbol, turned and colored as the label says. It fails only for lack of
+/// memory.
+fn symbol_picture(
+    alloc: Global,
+    label: &Label,
+    options: &DrawOptions,
+    symbol: &Symbol,
+) -> Result<Vec<u8>, AllocError>
+    ensures { IfOk result (λ drawing.
+        IsSymbolPicture label.now options.now symbol.now drawing.items) }
+{
+    let picture = draw_turned(alloc, symbol, label.turn, options)?;
     if label.colored {
-        return Ok(in_colors(alloc, &picture)?);
+        return in_colors(alloc, &picture);
     }
     Ok(picture)
 }
 
+/// Returns the same label, of which the symbol is told of alone.
+pub fn telling<'a>(label: &Label<'a>) -> Label<'a>
+    ensures { result ≡ telling label.now }
+{
+    let mut told = *label;
+    told.tells = Tells::Alone;
+    told
+}
+
+/// Returns what is told beside the label of the bytes: nothing, unless it is asked for. It fails as
+/// `label_bytes` does.
+pub fn said_bytes(
+    alloc: Global,
+    label: &Label,
+    options: &DrawOptions,
+    bytes: &[u8],
+) -> Result<Vec<u8>, Stop>
+    ensures said { IfOk result (λ said. IsSaid label.now (λ told. ShowsLabel told options.now)
+        bytes.now said.items) }
+    ensures refused { IfErr result (IsLabelStop label.now bytes.now) }
+{
+    if label.tells == Tells::Beside {
+        return label_bytes(alloc, &telling(label), options, bytes);
+    }
+    Ok(Vec::new(alloc))
+}
+
 /// Whether the data are too long for a symbol.
-fn is_too_long(stop: Stop) -> bool
+pub fn is_too_long(stop: Stop) -> bool
     ensures { result ≡ is_too_long stop }
 {
     match stop {
         Stop::Fault(fault) => fault == Fault::Symbol(QrError::DataTooLong),
-        Stop::Elements(_) | Stop::Empty | Stop::NotAscii | Stop::TooLong(_) => false,
+        Stop::Elements(_) | Stop::Empty | Stop::NotAscii => false,
+        Stop::TooLong(_) | Stop::TooManyParts => false,
     }
 }

@@ -32,7 +32,7 @@ fn is_of_line(stop: Stop) -> bool
         Stop::Fault(Fault::Symbol(error)) => error != QrError::OutOfMemory,
         Stop::Fault(Fault::Read | Fault::Write) => false,
         Stop::Elements(at) => at.error != Gs1Error::OutOfMemory,
-        Stop::Empty | Stop::NotAscii | Stop::TooLong(_) => true,
+        Stop::Empty | Stop::NotAscii | Stop::TooLong(_) | Stop::TooManyParts => true,
     }
 }
 

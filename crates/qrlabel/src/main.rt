@@ -17,6 +17,7 @@ mod element;
 mod files;
 mod folder;
 mod help;
+mod info;
 mod label;
 #[cfg(test)]
 mod line_tests;
@@ -24,6 +25,11 @@ mod lines;
 mod misuse;
 mod names;
 mod numbers;
+mod part_files;
+#[cfg(test)]
+mod part_tests;
+mod parts;
+mod portion;
 mod progress;
 mod report;
 mod room;
@@ -34,6 +40,8 @@ mod stop;
 mod test_files;
 #[cfg(test)]
 mod tests;
+mod turned;
+mod whole;
 #[cfg(test)]
 mod word_tests;
 mod words;

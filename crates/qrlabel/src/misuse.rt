@@ -18,11 +18,23 @@ with --dpi for png, zpl and escpos, 1 to 64 whole dots";
 /// What the name of the output can be.
 const OUTPUT: &str = "\
 with -f any name, else one that ends with .txt, .svg, .png, .pbm, .eps, .escpos or .zpl; \
-for --lines alone with a number, %d or %0Nd, N from 1 to 9";
+for --lines and --split alone with a number, %d or %0Nd, N from 1 to 9";
 
-/// What the labels of lines need.
+/// What the labels of lines, or of the parts of a message, need.
 const NEEDS_STREAM: &str = "\
---lines needs -f terminal, pbm, escpos or zpl, or files as in -o label-%05d.png";
+--lines and --split need -f terminal, pbm, escpos or zpl, or files as in -o label-%05d.png";
+
+/// Where a message can't be spread over several symbols.
+const SPLIT: &str = "\
+not with --lines, --strongest, --min-version, or -c gs1, micro or micro-bytes";
+
+/// What the color of dark modules can be.
+const DARK: &str =
+    "#rrggbb or one of CSS's sixteen names, for svg, png and eps; lighter colors need --any-colors";
+
+/// What the ground can be.
+const LIGHT: &str =
+    "as --dark, or transparent; in a contrast of 3 at least, unless --any-colors is given";
 
 /// What bytes that are no text need on a terminal.
 const NEEDS_FILE: &str = "png, pbm and escpos are not for a terminal: give -o FILE, or -o -";
@@ -88,6 +100,13 @@ fn option_word(name: Name) -> &'static str
         Name::Compressed => "--compressed",
         Name::Feed => "--feed",
         Name::Cut => "--cut",
+        Name::Split => "--split",
+        Name::Rotate => "--rotate",
+        Name::Verbose => "--verbose",
+        Name::Info => "--info",
+        Name::Dark => "--dark",
+        Name::Light => "--light",
+        Name::AnyColors => "--any-colors",
     }
 }
 
@@ -107,7 +126,7 @@ fn values_text(name: Name) -> &'static str
         Name::ModuleMm => MODULE,
         Name::Dpi => "50 to 2400, for png; with --module-mm for zpl and escpos, too",
         Name::Inverted => "for terminal",
-        Name::Title => "a text without control characters, for svg",
+        Name::Title => "a text without control characters, for svg, png and eps",
         Name::At => "X,Y, each 0 to 18000, for zpl",
         Name::Read => "not with a text",
         Name::Output => OUTPUT,
@@ -118,6 +137,13 @@ fn values_text(name: Name) -> &'static str
         Name::Compressed => "for zpl",
         Name::Feed => "0 to 255, for escpos",
         Name::Cut => "for escpos",
+        Name::Split => SPLIT,
+        Name::Rotate => "0, 90, 180 or 270",
+        Name::Verbose => "not with --lines, see --info",
+        Name::Info => "not with the name of an output",
+        Name::Dark => DARK,
+        Name::Light => LIGHT,
+        Name::AnyColors => "for svg, png and eps",
         Name::Text | Name::AllowEmpty | Name::KeepNewline => "",
         Name::Help | Name::Version => "",
     }

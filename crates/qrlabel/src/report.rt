@@ -1,12 +1,12 @@
 //! Why there is no label, as a line on standard error.
-ghost use Rattle.std.specs.Prelude.{◌≡◌, IsTrue, IsFalse};
+ghost use Rattle.std.specs.Prelude.{◌≡◌, IsTrue, IsFalse, true};
 ghost use Rattle.programs.specs.Devices.{output, Writes};
 ghost use Rattle.qrlabel.specs.Placed.{devices_of};
 ghost use Rattle.qrlabel.specs.Stops.{digit_text, element_text, stop_line, element_line};
 ghost use Rattle.qrlabel.specs.Stops.{numbered_line, is_silent, stop_status, stop_report};
 ghost use Rattle.qrlabel.specs.Stops.{is_silent_fault, fault_status, fault_report};
 ghost use Rattle.qrlabel.specs.Stops.{end_report, long_line, room_line, unless_zero, level_piece};
-ghost use Rattle.qrlabel.specs.Stops.{version_number, fits_piece};
+ghost use Rattle.qrlabel.specs.Stops.{version_number, fits_piece, rest_piece, many_text};
 
 use crate::element::element_number;
 use crate::stop::{Devices, ElementStop, LineStop, Stop, TooLong};
@@ -23,6 +23,14 @@ const NOT_ASCII: &str = "a Micro symbol has no text beyond ASCII, see -c micro-b
 
 /// More bytes than any symbol holds.
 const TOO_MANY: &str = "data too long: more than 7089 bytes, which no symbol holds";
+
+/// The same, where several symbols can carry them together.
+const TOO_MANY_FOR_ONE: &str =
+    "data too long: more than 7089 bytes, which no symbol holds; see --split";
+
+/// More bytes than the symbols of a sequence hold.
+const TOO_MANY_PARTS: &str =
+    "data too long: no 16 symbols hold it at this level up to --max-version";
 
 /// What the check digit should be comes after it.
 const WOULD_BE: &str = "; the check digit would be ";
@@ -42,6 +50,7 @@ fn write_stop<E: Sink>(errors: &mut E, name: &str, stop: Stop)
         Stop::Empty => write_line(errors, name, &["empty input, see --allow-empty"]),
         Stop::NotAscii => write_line(errors, name, &[NOT_ASCII]),
         Stop::TooLong(long) => write_too_long(errors, name, long),
+        Stop::TooManyParts => write_line(errors, name, &[TOO_MANY_PARTS]),
     };
 }
 
@@ -56,10 +65,11 @@ pub fn report_stop<E: Sink>(errors: &mut E, name: &str, devices: &Devices, stop:
 {
     match stop {
         Stop::Fault(fault) => report_fault(errors, name, devices, fault),
-        Stop::Elements(_) | Stop::Empty | Stop::NotAscii | Stop::TooLong(_) => {
-            write_stop(errors, name, stop);
-            1
-        }
+        Stop::Elements(_) | Stop::Empty | Stop::NotAscii | Stop::TooLong(_) | Stop::TooManyParts =>
+            {
+                write_stop(errors, name, stop);
+                1
+            }
     }
 }
 
@@ -89,7 +99,8 @@ fn is_silent(devices: &Devices, stop: Stop) -> bool
 {
     match stop {
         Stop::Fault(fault) => is_silent_fault(devices, fault),
-        Stop::Elements(_) | Stop::Empty | Stop::NotAscii | Stop::TooLong(_) => false,
+        Stop::Elements(_) | Stop::Empty | Stop::NotAscii => false,
+        Stop::TooLong(_) | Stop::TooManyParts => false,
     }
 }
 
@@ -210,7 +221,7 @@ fn write_too_long<E: Sink>(errors: &mut E, name: &str, long: TooLong) -> Result<
     ensures { Writes (output (E.state errors.old) (E.state errors.new)) (long_line name.now long) }
 {
     if long.length > LONGEST_DATA {
-        write_line(errors, name, &[TOO_MANY])
+        write_line(errors, name, &[many_text(long.can_be_split)])
     } else {
         write_room(errors, name, long)
     }
@@ -237,7 +248,7 @@ fn write_room<E: Sink>(errors: &mut E, name: &str, long: TooLong) -> Result<(), 
             bytes.format(long.bytes),
             " bytes or ",
             digits.format(long.digits),
-            fits_text(long.fits),
+            rest_text(long.fits, long.can_be_split),
         ],
     )
 }
@@ -269,6 +280,38 @@ fn version_number(version: Version) -> u16
     match version {
         Version::Normal(number) => number.unsigned_abs(),
         Version::Micro(number) => number.unsigned_abs(),
+    }
+}
+
+/// Returns that there are more bytes than any symbol holds.
+fn many_text(splits: bool) -> &'static str
+    ensures { result.now ≡ many_text splits }
+{
+    if splits { TOO_MANY_FOR_ONE } else { TOO_MANY }
+}
+
+/// Returns what stands after the number of digits: the level at which a content fits, if any, and
+/// whether several symbols can carry it.
+fn rest_text(fits: Option<EcLevel>, splits: bool) -> &'static str
+    ensures { result.now ≡ rest_piece fits splits }
+{
+    if splits {
+        split_text(fits)
+    } else {
+        fits_text(fits)
+    }
+}
+
+/// Returns what stands after the number of digits, where several symbols can carry the content.
+fn split_text(fits: Option<EcLevel>) -> &'static str
+    ensures { result.now ≡ rest_piece fits true }
+{
+    match fits {
+        None => " digits; see --split",
+        Some(EcLevel::L) => " digits; it fits level L; see --split",
+        Some(EcLevel::M) => " digits; it fits level M; see --split",
+        Some(EcLevel::Q) => " digits; it fits level Q; see --split",
+        Some(EcLevel::H) => " digits; it fits level H; see --split",
     }
 }
 
@@ -313,7 +356,7 @@ fn element_text(error: Gs1Error) -> &'static str
         Gs1Error::InvalidIdentifier { .. } =>
             "the identifier is cut short, or not two to four digits",
         Gs1Error::UnknownIdentifier { .. } => "unknown identifier",
-        Gs1Error::EmptyValue { .. } => "the value is empty",
+        Gs1Error::EmptyValue { .. } => "the value is empty, or a bracket is not closed",
         Gs1Error::ValueTooLong { .. } => "the value has more than 90 characters",
         Gs1Error::InvalidCharacter { .. } => "a character of the value is not allowed there",
         Gs1Error::WrongLength { .. } => "the length of the value is wrong",

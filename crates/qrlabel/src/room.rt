@@ -3,13 +3,15 @@ ghost use Rattle.std.specs.Prelude.{◌≡◌, ◌<◌, ◌≤◌, IsTrue, IsFal
 ghost use Rattle.qrcode_base.specs.declared.symbols.TheConstants.{LONGEST_DATA};
 ghost use Rattle.qrlabel.specs.Rooms.{characters_room, bytes_room, digits_in, digits_room};
 ghost use Rattle.qrlabel.specs.Rooms.{IsFrontWidth, greatest_version, lower_levels};
+ghost use Rattle.qrlabel.specs.Rooms.{proposes_split};
 ghost use Rattle.qrlabel.specs.Rooms.{FitsAt, StopsAtLevel};
 ghost use Rattle.qrlabel.specs.Rooms.{IsFirstFitting, IsTooLongAs, IsTooLongForAny};
 ghost use Rattle.qrcode_base.specs.Symbols.{HasMicroNumber};
 ghost use Rattle.qrcode_core.specs.declared.types.EcLevel.TheVariants.{M, Q, H};
 
-use crate::command::{Content, Label, is_micro};
+use crate::command::{Content, Label, Portion, is_micro};
 use crate::content::{content_symbol, is_ascii, utf8_of};
+use crate::portion::can_be_split;
 use crate::stop::TooLong;
 use qrcode_bits::bits::data_capacity_bits;
 use qrcode_core::types::{EcLevel, Mode, Version};
@@ -73,6 +75,17 @@ fn greatest_version(label: &Label) -> Version
     }
 }
 
+/// Whether the labels of several symbols may stand for the label: it is one of the whole input, and
+/// of a content that they can carry together.
+fn proposes_split(label: &Label) -> bool
+    ensures { result ≡ proposes_split label.now }
+{
+    match label.portion {
+        Portion::Whole => can_be_split(label.content),
+        _ => false,
+    }
+}
+
 /// Returns that a content of this length is too long, and how much there is room for after a front
 /// of this width.
 fn too_long(label: &Label, length: usize, front: usize, fits: Option<EcLevel>) -> TooLong
@@ -83,6 +96,7 @@ fn too_long(label: &Label, length: usize, front: usize, fits: Option<EcLevel>) -
     ensures bytes_are { result.bytes ≡ bytes_room result.version result.level front }
     ensures digits_are { result.digits ≡ digits_room result.version result.level front }
     ensures fits { result.fits ≡ fits }
+    ensures splits { result.can_be_split ≡ proposes_split label.now }
 {
     let (version, level) = (greatest_version(label), label.symbol.level);
     TooLong {
@@ -92,6 +106,7 @@ fn too_long(label: &Label, length: usize, front: usize, fits: Option<EcLevel>) -
         bytes: characters_room(version, level, Mode::Byte, front) / 8,
         digits: digits_in(characters_room(version, level, Mode::Numeric, front)),
         fits,
+        can_be_split: proposes_split(label),
     }
 }
 

@@ -1,14 +1,14 @@
 //! From what the words say to the exit status.
 //!
 //! 1. Find out what is asked for (`command_of`).
-//! 2. Write the help or the version (`show`), or draw labels (`run_label`).
-ghost use Rattle.std.specs.Prelude.{◌≡◌, ◌+◌, IsTrue, IsFalse};
-ghost use Rattle.qrcode_base.specs.declared.symbols.TheConstants.{LONGEST_DATA};
-ghost use Rattle.programs.specs.Devices.{input, output, ReadsWithin, Writes};
+//! 2. Write the help or the version (`show`), or draw labels (`run_label`): those of lines, or those
+//!    of the whole input (`whole`).
+ghost use Rattle.std.specs.Prelude.{◌≡◌, IsTrue, IsFalse};
+ghost use Rattle.programs.specs.Devices.{input, output, Writes};
 ghost use Rattle.qrlabel.specs.Commands.{command_asked};
 ghost use Rattle.qrlabel.specs.Misuses.{wrong_line};
 ghost use Rattle.qrlabel.specs.Folders.{folder};
-ghost use Rattle.qrlabel.specs.Runs.{IsLabelOutcome, ServesLabel, ServesPortion};
+ghost use Rattle.qrlabel.specs.Runs.{ServesPortion};
 ghost use Rattle.qrlabel.specs.Lines.{stream};
 ghost use Rattle.qrlabel.specs.Names.{numbered};
 ghost use Rattle.qrlabel.specs.Placed.{devices_of, numbering_of};
@@ -21,74 +21,16 @@ ghost use Rattle.qrlabel.specs.Words.{invalid};
 use crate::command::{Command, Label, Portion, command_of};
 use crate::files::{Files, draw_files};
 use crate::help::{help_text, version_text};
-use crate::label::label_bytes;
 use crate::lines::draw_lines;
 use crate::misuse::write_misuse;
 use crate::names::Numbering;
-use crate::report::{report_end, report_stop};
-use crate::stop::{Devices, LineStop, Stop};
+use crate::report::report_end;
+use crate::stop::{Devices, LineStop};
+use crate::whole::{serve_label, serve_message, serve_parts};
 use crate::words::{Misuse, Name, Values};
-use programs::{Sink, Source, read_all, report_device, write_all};
+use programs::{Sink, Source, report_device, write_all};
 use qrcode_render::{DrawOptions, Setting};
 use std::alloc::Global;
-
-/// Reads to the end, writes the label of all bytes that were read, and flushes. Of more than 7089
-/// bytes, which no symbol holds, it reads 7090.
-fn draw_label<R: Source, W: Sink>(
-    alloc: Global,
-    label: &Label,
-    options: &DrawOptions,
-    reader: &mut R,
-    writer: &mut W,
-) -> Result<(), Stop>
-    requires reader_sound { IsFalse (R.state reader.old).failed }
-    requires writer_sound { IsFalse (W.state writer.old).failed }
-    ensures outcome { IsLabelOutcome label.now options.now
-        (input (R.state reader.old) (R.state reader.new))
-        (output (W.state writer.old) (W.state writer.new)) result }
-    ensures within { ReadsWithin (LONGEST_DATA + 1)
-        (input (R.state reader.old) (R.state reader.new)) }
-{
-    let bytes = read_all(alloc, reader)?;
-    let drawing = match label_bytes(alloc, label, options, &bytes) {
-        Ok(drawing) => drawing,
-        Err(stop) => return Err(stop),
-    };
-    write_all(writer, &drawing)?;
-    Ok(())
-}
-
-/// Draws the label of the whole input, and returns the exit status: 0 if it was written, 1 if it
-/// was not, which one line on `errors` explains, and 141 without a line if a pipe was closed.
-fn serve_label<R: Source, W: Sink, E: Sink>(
-    alloc: Global,
-    label: &Label,
-    options: &DrawOptions,
-    reader: &mut R,
-    writer: &mut W,
-    errors: &mut E,
-) -> u8
-    requires reader_sound { IsFalse (R.state reader.old).failed }
-    requires writer_sound { IsFalse (W.state writer.old).failed }
-    requires errors_sound { IsFalse (E.state errors.old).failed }
-    ensures served { ServesLabel label.now options.now
-        (input (R.state reader.old) (R.state reader.new))
-        (output (W.state writer.old) (W.state writer.new))
-        (output (E.state errors.old) (E.state errors.new)) result }
-{
-    match draw_label(alloc, label, options, reader, writer) {
-        Ok(()) => 0,
-        Err(stop) => {
-            let devices = Devices {
-                source: label.source,
-                not_read: reader.reason(),
-                target: label.target,
-                not_written: writer.reason(),
-            };
-            report_stop(errors, "qrlabel", &devices, stop)
-        }
-    }
-}
 
 /// The status where lines were left out, and the labels of all others were written.
 pub const LEFT_OUT: u8 = 3;
@@ -185,13 +127,15 @@ fn serve<R: Source, W: Sink, F: Files, E: Sink>(
     ensures served { ServesPortion label.now.portion label.now options.now
         (input (R.state reader.old) (R.state reader.new))
         (output (W.state writer.old) (W.state writer.new))
-        (folder (F.state files.old) (F.state files.new))
+        (record { old = F.state files.old; new = F.state files.new })
         (output (E.state errors.old) (E.state errors.new)) result }
 {
     match label.portion {
         Portion::Whole => serve_label(alloc, label, options, reader, writer, errors),
         Portion::Lines => serve_lines(alloc, label, options, reader, writer, errors),
         Portion::Files(name) => serve_files(alloc, label, options, &name, reader, files, errors),
+        Portion::Split => serve_message(alloc, label, options, reader, writer, errors),
+        Portion::Parts(name) => serve_parts(alloc, label, options, &name, reader, files, errors),
     }
 }
 
@@ -241,6 +185,9 @@ fn setting_option(setting: Setting) -> Name
         Setting::Compressed => Name::Compressed,
         Setting::Feed => Name::Feed,
         Setting::Cut => Name::Cut,
+        Setting::Dark => Name::Dark,
+        Setting::Light => Name::Light,
+        Setting::AnyColors => Name::AnyColors,
     }
 }
 
@@ -272,7 +219,7 @@ fn run_label<R: Source, W: Sink, F: Files, E: Sink>(
         ((reader.new ≡ reader.old) × (writer.new ≡ writer.old) × (files.new ≡ files.old))
         (input (R.state reader.old) (R.state reader.new))
         (output (W.state writer.old) (W.state writer.new))
-        (folder (F.state files.old) (F.state files.new))
+        (record { old = F.state files.old; new = F.state files.new })
         (output (E.state errors.old) (E.state errors.new)) result }
 {
     match DrawOptions::new(alloc, label.format, &label.settings) {
@@ -301,7 +248,7 @@ pub fn run<R: Source, W: Sink, F: Files, E: Sink>(
         ((reader.new ≡ reader.old) × (writer.new ≡ writer.old) × (files.new ≡ files.old))
         (input (R.state reader.old) (R.state reader.new))
         (output (W.state writer.old) (W.state writer.new))
-        (folder (F.state files.old) (F.state files.new))
+        (record { old = F.state files.old; new = F.state files.new })
         (output (E.state errors.old) (E.state errors.new)) result }
 {
     match command_of(values, on_terminal) {

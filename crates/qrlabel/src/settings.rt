@@ -3,7 +3,9 @@ ghost use Rattle.std.specs.Prelude.{◌≡◌};
 ghost use Rattle.qrlabel.specs.Said.{said};
 ghost use Rattle.qrlabel.specs.Asked.{outcome, settings_outcome, wishes_of};
 ghost use Rattle.qrlabel.specs.Commands.{number_asked, module_asked, place_asked, settings_asked};
-ghost use Rattle.qrlabel.specs.Commands.{some_found, zoned, has_dots, dots_asked, in_dots};
+ghost use Rattle.qrlabel.specs.Commands.{dark_asked, light_asked};
+ghost use Rattle.qrlabel.specs.Commands.{some_found, zoned, dots_asked, in_dots};
+ghost use Rattle.qrlabel.specs.Choices.{has_dots};
 
 use crate::command::{Content, is_micro};
 use crate::numbers::{hundredths_in, number_in, place_in};
@@ -11,7 +13,7 @@ use crate::words::{Misuse, Name, Values};
 use qrcode_render::bounds::{
     MAX_DPI, MAX_MODULE_MM, MAX_SCALE, MICRO_QUIET, MIN_DPI, MIN_MODULE_MM, MIN_SCALE,
 };
-use qrcode_render::{Format, Settings};
+use qrcode_render::{Colors, Format, Ground, Rgb, Settings};
 
 /// Returns what was found for an option that is given, or `Invalid` with its name.
 fn some_found<'a, T>(thing: Option<T>, name: Name) -> Result<Option<T>, Misuse<'a>>
@@ -53,6 +55,26 @@ fn place<'a>(values: &Values<'a>) -> Result<Option<(usize, usize)>, Misuse<'a>>
     }
 }
 
+/// Returns the color of the dark modules, if it is given.
+fn dark<'a>(values: &Values<'a>) -> Result<Option<Rgb>, Misuse<'a>>
+    ensures { outcome result ≡ dark_asked (said values.now) }
+{
+    match values.get(Name::Dark) {
+        Some(word) => some_found(Rgb::of_word(word), Name::Dark),
+        None => Ok(None),
+    }
+}
+
+/// Returns the ground, if it is given.
+fn light<'a>(values: &Values<'a>) -> Result<Option<Ground>, Misuse<'a>>
+    ensures { outcome result ≡ light_asked (said values.now) }
+{
+    match values.get(Name::Light) {
+        Some(word) => some_found(Ground::of_word(word), Name::Light),
+        None => Ok(None),
+    }
+}
+
 /// Returns the settings of the picture.
 pub fn settings_of<'a>(values: &Values<'a>) -> Result<Settings<'a>, Misuse<'a>>
     ensures { settings_outcome result ≡ settings_asked (said values.now) }
@@ -69,6 +91,11 @@ pub fn settings_of<'a>(values: &Values<'a>) -> Result<Settings<'a>, Misuse<'a>>
         compressed: values.has(Name::Compressed),
         feed: number(values, Name::Feed)?,
         cut: values.has(Name::Cut),
+        colors: Colors {
+            dark: dark(values)?,
+            light: light(values)?,
+        },
+        any_colors: values.has(Name::AnyColors),
     })
 }
 

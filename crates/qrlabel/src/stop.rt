@@ -21,8 +21,10 @@ pub enum Stop {
     Empty,
     /// The text is not ASCII, and a Micro QR symbol has no designator for it.
     NotAscii,
-    /// The content is too long.
+    /// The content is too long for a symbol.
     TooLong(TooLong),
+    /// The message is too long for the 16 symbols of a sequence.
+    TooManyParts,
 }
 
 /// What is wrong with GS1 elements, and which of them it is.
@@ -51,6 +53,8 @@ pub struct TooLong {
     pub digits: usize,
     /// The greatest lower level at which there is a symbol, if it was found.
     pub fits: Option<EcLevel>,
+    /// Whether the labels of several symbols may stand for its label.
+    pub can_be_split: bool,
 }
 
 impl From<Fault> for Stop {

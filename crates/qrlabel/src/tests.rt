@@ -307,12 +307,12 @@ fn reports_errors(rt: HostRuntime) -> Result<(), QrError> {
         (
             "text",
             &[b'a'; 2953],
-            "data too long: 2953 bytes, and level L up to version 40 has room for 2952 bytes or 7085 digits",
+            "data too long: 2953 bytes, and level L up to version 40 has room for 2952 bytes or 7085 digits; see --split",
         ),
         (
             "bytes",
             &[b'a'; 2954],
-            "data too long: 2954 bytes, and level L up to version 40 has room for 2953 bytes or 7089 digits",
+            "data too long: 2954 bytes, and level L up to version 40 has room for 2953 bytes or 7089 digits; see --split",
         ),
         (
             "text",
@@ -322,7 +322,7 @@ fn reports_errors(rt: HostRuntime) -> Result<(), QrError> {
         (
             "auto",
             &many,
-            "data too long: more than 7089 bytes, which no symbol holds",
+            "data too long: more than 7089 bytes, which no symbol holds; see --split",
         ),
         (
             "micro",
@@ -371,7 +371,11 @@ fn reports_errors(rt: HostRuntime) -> Result<(), QrError> {
             b"(10)A(01)1",
             "(01), element 2: the length of the value is wrong",
         ),
-        ("gs1", b"(10)", "(10), element 1: the value is empty"),
+        (
+            "gs1",
+            b"(10)",
+            "(10), element 1: the value is empty, or a bracket is not closed",
+        ),
     ];
     for (content, bytes, line) in rows {
         let answer = ran(rt.alloc(), &["-l", "L", "-c", content], bytes);
@@ -453,7 +457,7 @@ fn says_at_which_level_it_fits(rt: HostRuntime) -> Result<(), QrError> {
         let words = ["-c", "bytes", "-l", level, "--max-version", version];
         let answer = ran(rt.alloc(), &words, &bytes[..length.min(2954)]);
         let whole = format!(in rt.alloc();
-            "qrlabel: data too long: {length} bytes, and level {level} up to version {version} has room for {room}\n"
+            "qrlabel: data too long: {length} bytes, and level {level} up to version {version} has room for {room}; see --split\n"
         )?;
         assert_eq!(rt; answer.status, 1, "{length}");
         assert_eq!(rt; answer.said.as_slice(), whole.as_bytes(), "{length}");

@@ -6,7 +6,7 @@ use qrcode_core::types::QrError;
 const OUTPUT: &str = "\
 invalid --output: with -f any name, else one that ends with \
 .txt, .svg, .png, .pbm, .eps, .escpos or .zpl; \
-for --lines alone with a number, %d or %0Nd, N from 1 to 9";
+for --lines and --split alone with a number, %d or %0Nd, N from 1 to 9";
 
 /// What is said of a scale and of a size that are wrong.
 const SCALE: &str = "invalid --scale: 1 to 64, and not with both --module-mm and --dpi";
@@ -15,10 +15,21 @@ const MODULE: &str = "\
 invalid --module-mm: 0.05 to 10, at most two decimals, for svg, png and eps; \
 with --dpi for png, zpl and escpos, 1 to 64 whole dots";
 
+/// What colors can be.
+const DARK: &str =
+    "invalid --dark: #rrggbb or one of CSS's sixteen names, for svg, png and eps; lighter colors need --any-colors";
+
+const LIGHT: &str =
+    "invalid --light: as --dark, or transparent; in a contrast of 3 at least, unless --any-colors is given";
+
+/// What `--split` does not go with.
+const SPLIT: &str = "invalid --split: \
+not with --lines, --strongest, --min-version, or -c gs1, micro or micro-bytes";
+
 /// Each row has words that are wrong, and what is written about them. Nothing is read or drawn.
 #[test]
 fn names_what_is_wrong(rt: HostRuntime) -> Result<(), QrError> {
-    let rows: [(&[&str], &str); 54] = [
+    let rows: [(&[&str], &str); 69] = [
         (&["--foo"], "no option --foo"),
         (&["-x"], "no option -x"),
         (&["-s"], "no value after --scale"),
@@ -133,7 +144,7 @@ fn names_what_is_wrong(rt: HostRuntime) -> Result<(), QrError> {
         ),
         (
             &["-f", "pbm", "--title", "x"],
-            "invalid --title: a text without control characters, for svg",
+            "invalid --title: a text without control characters, for svg, png and eps",
         ),
         (
             &["-c", "micro", "--strongest"],
@@ -150,7 +161,7 @@ fn names_what_is_wrong(rt: HostRuntime) -> Result<(), QrError> {
         (&["-r", "a", "b"], "invalid --read: not with a text"),
         (
             &["--lines"],
-            "--lines needs -f terminal, pbm, escpos or zpl, or files as in -o label-%05d.png",
+            "--lines and --split need -f terminal, pbm, escpos or zpl, or files as in -o label-%05d.png",
         ),
         (
             &["--lines", "-f", "zpl", "b"],
@@ -159,6 +170,33 @@ fn names_what_is_wrong(rt: HostRuntime) -> Result<(), QrError> {
         (
             &["-c", "micro-bytes", "--strongest"],
             "invalid --strongest: not for a Micro symbol",
+        ),
+        (
+            &["--split"],
+            "--lines and --split need -f terminal, pbm, escpos or zpl, or files as in -o label-%05d.png",
+        ),
+        (&["--split", "--lines", "-f", "zpl"], SPLIT),
+        (&["--split", "--strongest", "-f", "zpl"], SPLIT),
+        (&["--split", "--min-version=2", "-f", "zpl"], SPLIT),
+        (&["--split", "-f", "zpl", "-c", "gs1"], SPLIT),
+        (&["--split", "-f", "zpl", "-c", "micro"], SPLIT),
+        (&["--rotate", "45"], "invalid --rotate: 0, 90, 180 or 270"),
+        (
+            &["-v", "--lines", "-f", "zpl"],
+            "invalid --verbose: not with --lines, see --info",
+        ),
+        (&["-f", "png", "--dark", "Red"], DARK),
+        (&["-f", "pbm", "--dark", "red"], DARK),
+        (&["-f", "png", "--dark", "yellow"], DARK),
+        (&["-f", "png", "--light", "#12345"], LIGHT),
+        (&["-f", "png", "--light", "navy"], LIGHT),
+        (
+            &["-f", "zpl", "--any-colors"],
+            "invalid --any-colors: for svg, png and eps",
+        ),
+        (
+            &["--info", "-o", "a.png"],
+            "invalid --info: not with the name of an output",
         ),
     ];
     for (words, line) in rows {

@@ -1,7 +1,7 @@
 //! The words of the command line: options with their values, and the text.
 ghost use Rattle.std.specs.Prelude.{◌≡◌, ◌<◌, map, option_map};
 ghost use Rattle.std.specs.Option.{option_copied};
-ghost use Rattle.qrlabel.specs.Words.{named, takes_value, is_text, looks_like_option};
+ghost use Rattle.qrlabel.specs.Words.{named, picture_named, takes_value, is_text, looks_like_option};
 ghost use Rattle.qrlabel.specs.Words.{option_number, value_of, file_of};
 ghost use Rattle.qrlabel.specs.Words.{with, is_given, assigned, rest_after, joined_value, parted};
 ghost use Rattle.qrlabel.specs.Words.{read_as_text, read_plain, read_name, read_word, values_in};
@@ -37,6 +37,13 @@ pub enum Name {
     Compressed,
     Feed,
     Cut,
+    Split,
+    Rotate,
+    Verbose,
+    Info,
+    Dark,
+    Light,
+    AnyColors,
 }
 
 /// Returns the option that a word names. After `--` come texts.
@@ -51,6 +58,29 @@ fn named(word: &str) -> Option<Name>
         "--strongest" => Some(Name::Strongest),
         "--min-version" => Some(Name::MinVersion),
         "--max-version" => Some(Name::MaxVersion),
+        "-r" | "--read" => Some(Name::Read),
+        "-o" | "--output" => Some(Name::Output),
+        "--lines" => Some(Name::Lines),
+        "--first" => Some(Name::First),
+        "-k" | "--keep-going" => Some(Name::KeepGoing),
+        "--keep-newline" => Some(Name::KeepNewline),
+        "--split" => Some(Name::Split),
+        "-v" | "--verbose" => Some(Name::Verbose),
+        "--info" => Some(Name::Info),
+        "--allow-empty" => Some(Name::AllowEmpty),
+        "-h" | "--help" => Some(Name::Help),
+        "-V" | "--version" => Some(Name::Version),
+        "--" => Some(Name::Text),
+        _ => picture_named(word),
+    }
+}
+
+/// Returns the option of a picture that a word names.
+#[tactic(auto, unfolding(crate::specs::Words::picture_named))]
+fn picture_named(word: &str) -> Option<Name>
+    ensures { result ≡ picture_named word.now }
+{
+    match word {
         "-s" | "--scale" => Some(Name::Scale),
         "-q" | "--quiet" => Some(Name::Quiet),
         "--module-mm" => Some(Name::ModuleMm),
@@ -58,20 +88,14 @@ fn named(word: &str) -> Option<Name>
         "--inverted" => Some(Name::Inverted),
         "--title" => Some(Name::Title),
         "--at" => Some(Name::At),
-        "-r" | "--read" => Some(Name::Read),
-        "-o" | "--output" => Some(Name::Output),
-        "--lines" => Some(Name::Lines),
-        "--first" => Some(Name::First),
-        "-k" | "--keep-going" => Some(Name::KeepGoing),
-        "--keep-newline" => Some(Name::KeepNewline),
         "--copies" => Some(Name::Copies),
         "--compressed" => Some(Name::Compressed),
         "--feed" => Some(Name::Feed),
         "--cut" => Some(Name::Cut),
-        "--allow-empty" => Some(Name::AllowEmpty),
-        "-h" | "--help" => Some(Name::Help),
-        "-V" | "--version" => Some(Name::Version),
-        "--" => Some(Name::Text),
+        "--rotate" => Some(Name::Rotate),
+        "--dark" => Some(Name::Dark),
+        "--light" => Some(Name::Light),
+        "--any-colors" => Some(Name::AnyColors),
         _ => None,
     }
 }
@@ -83,7 +107,8 @@ fn takes_value(name: Name) -> bool
     match name {
         Name::Strongest | Name::Inverted | Name::Lines | Name::AllowEmpty => false,
         Name::KeepGoing | Name::KeepNewline | Name::Help | Name::Version => false,
-        Name::Compressed | Name::Cut => false,
+        Name::Compressed | Name::Cut | Name::Split => false,
+        Name::Verbose | Name::Info | Name::AnyColors => false,
         _ => true,
     }
 }
@@ -99,7 +124,7 @@ fn is_text(name: Name) -> bool
 }
 
 /// The number of options.
-pub const COUNT: usize = 27;
+pub const COUNT: usize = 34;
 
 /// What is wrong with the words.
 #[derive(Clone, Copy, Debug, PartialEq, Eq)]
@@ -112,7 +137,7 @@ pub enum Misuse<'a> {
     SecondText(&'a str),
     /// The option has a value that it can't have, or does not go with the others.
     Invalid(Name),
-    /// The labels of lines can't follow each other in this format.
+    /// The labels of lines or parts can't follow each other in this format.
     NeedsStream,
     /// Bytes that are no text would be written on a terminal.
     NeedsFile,

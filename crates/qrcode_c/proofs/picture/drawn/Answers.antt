@@ -23,6 +23,8 @@ returns-in-Ok-draw_square-clause-shown c =
           compressed_is = c.settings_of-settings.ensures.compressed_is;
           feed_is = c.settings_of-settings.ensures.feed_is;
           cut_is = c.settings_of-settings.ensures.cut_is;
+          colors_are = c.settings_of-settings.ensures.colors_are;
+          any_colors_is = c.settings_of-settings.ensures.any_colors_is;
         };
         true_of = record {
           options = c.in-Ok.options;

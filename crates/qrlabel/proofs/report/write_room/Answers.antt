@@ -12,5 +12,5 @@ returns g c =
       c.version_number.ensures,
       c.format-3.ensures.text,
       c.format-4.ensures.text,
-      c.fits_text.ensures,
+      c.rest_text.ensures,
     ) at c.write_line.ensures

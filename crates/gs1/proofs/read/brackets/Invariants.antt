@@ -1,0 +1,8 @@
+use Rattle.std.proofs.Common.{◌≡◌, map, take}
+use Rattle.gs1.specs.Elements.{bracketed}
+use Rattle.gs1.proofs.read.brackets.Given as goal
+
+abbrev pub invariant-loop-element : goal.invariant-loop-element
+invariant-loop-element l =
+    l.text.items ≡ bracketed
+    (map (λ e. record { identifier = e.identifier.now; value = e.value.now }) (take l.element-index l.elements))

@@ -1,0 +1,20 @@
+use Rattle.std.proofs.Common.{sym}
+use Rattle.std.proofs.lemmas.Result.{err_from_is_err_and}
+use Rattle.gs1.proofs.Parts.{count_behind}
+use Rattle.gs1.proofs.Errors.{error_here, error_behind}
+use Rattle.gs1.proofs.values.check_elements.Goals as goal
+
+pub returns-in_err-check_part : goal.returns-in_err-check_part
+returns-in_err-check_part c =
+    let p = err_from_is_err_and c.from_residual.result c.from_residual.ensures.1 in
+    rw (p.1, p.2) (error_here _ _ _ _ _ c.first_of-end.ensures.place c.first_of-end.ensures.within
+    (sym c.in_err-check_part.ensures) c.loop-rest.invariant.0)
+
+pub loop-rest-preserved : goal.loop-rest-preserved
+loop-rest-preserved c = (
+  error_behind _ _ _ _ _ c.first_of-end.ensures.place
+      c.first_of-end.ensures.within c.if-end-rest.false (sym c.in_ok-check_part.ensures)
+      c.behind-rest.ensures c.loop-rest.invariant.0,
+  count_behind _ _ _ _ _
+      c.first_of-end.ensures.within c.if-end-rest.false c.behind-rest.ensures c.loop-rest.invariant.1,
+)

@@ -1,0 +1,17 @@
+-- What a scanner gives.
+use Rattle.std.specs.Prelude.{ℕ, ◌==◌, ◌&&◌, if◌then◌else◌, List, drop, slice_index}
+use Rattle.gs1.specs.Checked.{AreAllowedElements, IsRefusedStringByTable}
+use Rattle.gs1.specs.declared.refusal.CheckError.{CheckError}
+use Rattle.gs1.specs.declared.refusal.CheckError.TheVariants.{OutOfMemory}
+
+-- The bytes without `]Q3` in front, the symbology identifier of a QR Code symbol with FNC1 in the
+-- first position (ISO/IEC 18004:2006, section 7.4.9, and ISO/IEC 15424).
+unfoldable pub scanned : List ℕ → List ℕ
+scanned bytes =
+    if (slice_index bytes 0 == 0x5d) && (slice_index bytes 1 == 0x51) && (slice_index bytes 2 == 0x33)
+    then drop 3 bytes else bytes
+
+-- When each error is returned: out of memory only where the table allows each element.
+abbrev pub IsRefusedScan : List ℕ → CheckError → Type 0
+IsRefusedScan bytes OutOfMemory = AreAllowedElements bytes
+IsRefusedScan bytes error = IsRefusedStringByTable bytes error

@@ -1,0 +1,270 @@
+//! Which elements have to stand together, and which may not.
+ghost use Rattle.std.specs.Prelude.{◌≡◌, ◌+◌, ◌≤◌, length};
+ghost use Rattle.std.specs.Result.{result_err};
+ghost use Rattle.std.specs.List.{list_any};
+ghost use Rattle.gs1.specs.Identifiers.{is_within};
+ghost use Rattle.gs1.specs.Elements.{element_of, elements_behind};
+ghost use Rattle.gs1.specs.Values.{number_of};
+ghost use Rattle.gs1.specs.Together.{needed, needed_by_short, needed_by_long, also_needed};
+ghost use Rattle.gs1.specs.Together.{barred, is_among, first_among};
+ghost use Rattle.gs1.specs.Together.{missing_fault, barred_fault, element_conflict};
+ghost use Rattle.gs1.specs.Together.{first_conflict, text_conflict};
+
+use crate::check::{behind, first_of};
+use crate::values::number_of;
+use thiserror::Error;
+
+/// The most bytes that write elements which a symbol holds: 7089 digits, in elements of three,
+/// each with two brackets.
+const LONGEST_TEXT: usize = 11815;
+
+/// Why elements may not stand together. Elements are counted from 0; `identifier` is the number
+/// that the digits of the identifier write.
+#[derive(Clone, Copy, Debug, PartialEq, Eq, Error)]
+pub enum TogetherError {
+    /// The text has more than 11815 bytes, which no symbol holds.
+    #[error("the text has more than 11815 bytes")]
+    TextTooLong,
+    /// An element that has to stand beside this one is missing.
+    #[error("element {element} ({identifier:02}): an element that it needs is missing")]
+    MissingElement {
+        element: usize,
+        identifier: usize,
+    },
+    /// Another element may not stand beside this one.
+    #[error("element {element} ({identifier:02}): element {other} may not stand beside it")]
+    ConflictingElement {
+        element: usize,
+        identifier: usize,
+        other: usize,
+    },
+}
+
+/// Returns the ranges of identifiers of which one has to stand beside this one, if any.
+#[tactic(auto, unfolding(crate::specs::Together::needed))]
+fn needed(number: usize) -> &'static [(usize, usize)]
+    ensures { result.now ≡ needed number }
+{
+    if number < 1000 {
+        return needed_by_short(number);
+    }
+    needed_by_long(number)
+}
+
+/// Returns the same for an identifier of two or three digits.
+#[tactic(auto, unfolding(crate::specs::Together::needed_by_short))]
+fn needed_by_short(number: usize) -> &'static [(usize, usize)]
+    ensures { result.now ≡ needed_by_short number }
+{
+    match number {
+        2 => &[(37, 37)],
+        10 | 11 | 13 | 15 | 16 | 20 => &[(1, 3), (8006, 8006), (8026, 8026)],
+        12 | 415 => &[(8020, 8020)],
+        17 => &[(1, 3), (255, 255), (8006, 8006), (8026, 8026)],
+        21 => &[(1, 1), (3, 3), (8006, 8006)],
+        22 | 235 | 243 => &[(1, 1)],
+        30 => &[(1, 2)],
+        37 | 403 => &[(0, 0)],
+        240..=242 | 422..=427 | 710..=716 => &[(1, 3), (8006, 8006), (8026, 8026)],
+        250 | 251 => &[(1, 1), (8006, 8006)],
+        254 => &[(414, 414)],
+        _ => &[],
+    }
+}
+
+/// Returns the same for an identifier of four digits.
+#[tactic(auto, unfolding(crate::specs::Together::needed_by_long))]
+fn needed_by_long(number: usize) -> &'static [(usize, usize)]
+    ensures { result.now ≡ needed_by_long number }
+{
+    match number {
+        3100..=3699 => &[(0, 3), (8006, 8006), (8026, 8026)],
+        3900..=3909 => &[(255, 255), (8020, 8020)],
+        3910..=3919 => &[(8020, 8020)],
+        3920..=3939 | 8001 | 8200 => &[(1, 1)],
+        3940..=3943 | 8111 => &[(255, 255)],
+        4300..=4326 => &[(0, 0)],
+        7001..=7011 | 8008 => &[(1, 3), (8006, 8006), (8026, 8026)],
+        7020..=7022 => &[(1, 1), (8006, 8006)],
+        7230..=7239 => &[(1, 1), (8004, 8004)],
+        8005 => &[(1, 2)],
+        8011 => &[(8010, 8010)],
+        8019 => &[(8017, 8018)],
+        8020 => &[(415, 415)],
+        _ => &[],
+    }
+}
+
+/// Returns further ranges of identifiers of which one has to stand beside this one, if any.
+#[tactic(auto, unfolding(crate::specs::Together::also_needed))]
+fn also_needed(number: usize) -> &'static [(usize, usize)]
+    ensures { result.now ≡ also_needed number }
+{
+    match number {
+        37 => &[(2, 2), (8026, 8026)],
+        250 => &[(21, 21)],
+        427 => &[(422, 422)],
+        3920..=3939 => &[(30, 30), (3100, 3299), (3500, 3699)],
+        7004 => &[(10, 10)],
+        7022 => &[(7021, 7021)],
+        _ => &[],
+    }
+}
+
+/// Returns the ranges of identifiers that may not stand beside this one.
+#[tactic(auto, unfolding(crate::specs::Together::barred))]
+fn barred(number: usize) -> &'static [(usize, usize)]
+    ensures { result.now ≡ barred number }
+{
+    match number {
+        1 => &[(2, 2), (37, 37), (255, 255)],
+        2 => &[(1, 1), (3, 3), (255, 255)],
+        3 => &[(2, 2)],
+        21 => &[(235, 235)],
+        235 => &[(21, 21)],
+        255 => &[(1, 2), (415, 415), (8006, 8006), (8020, 8020), (8026, 8026)],
+        420 => &[(421, 421)],
+        421 => &[(420, 420), (4307, 4307)],
+        422..=425 => &[(426, 426)],
+        426 => &[(422, 425)],
+        3900..=3909 => &[(3910, 3919)],
+        3910..=3919 => &[(3900, 3909)],
+        3920..=3929 => &[(3930, 3939)],
+        3930..=3939 => &[(3920, 3929)],
+        _ => &[],
+    }
+}
+
+/// Returns whether a number is in one of the ranges.
+fn is_among(ranges: &[(usize, usize)], number: usize) -> bool
+    ensures { result ≡ is_among ranges.now number }
+{
+    ranges
+        .iter()
+        .any(|range| range.0 <= number && number <= range.1)
+}
+
+/// Returns the first of the elements, written behind a first opening bracket, whose identifier is
+/// in one of the ranges.
+fn first_among(ranges: &[(usize, usize)], text: &[u8]) -> Option<usize>
+    ensures { result ≡ first_among ranges.now 0 (elements_behind text.now) }
+{
+    let mut rest = text;
+    let mut element = 0;
+    loop {
+        let end = first_of(rest, b'(');
+        let part = &rest[..end];
+        if has_among(ranges, part) {
+            return Some(element);
+        }
+        if end == rest.len() {
+            return None;
+        }
+        rest = behind(rest, end);
+        element += 1;
+    }
+}
+
+/// Returns the number of the identifier of an element that is written between opening brackets.
+fn number_at(part: &[u8]) -> usize
+    ensures { result ≡ number_of (element_of part.now).identifier }
+{
+    number_of(&part[..first_of(part, b')')])
+}
+
+/// Returns whether the identifier of such an element is in one of the ranges.
+fn has_among(ranges: &[(usize, usize)], part: &[u8]) -> bool
+    ensures { result ≡ is_among ranges.now (number_of (element_of part.now).identifier) }
+{
+    is_among(ranges, number_at(part))
+}
+
+/// Checks that an element of these ranges, if there are any, is among those of a text.
+fn check_needed(
+    ranges: &[(usize, usize)],
+    text: &[u8],
+    element: usize,
+    identifier: usize,
+) -> Result<(), TogetherError>
+    ensures { result_err result
+        ≡ missing_fault ranges.now (elements_behind text.now) element identifier }
+{
+    if ranges.is_empty() || first_among(ranges, text).is_some() {
+        return Ok(());
+    }
+    Err(TogetherError::MissingElement {
+        element,
+        identifier,
+    })
+}
+
+/// Checks that no element of these ranges is among those of a text.
+fn check_barred(
+    ranges: &[(usize, usize)],
+    text: &[u8],
+    element: usize,
+    identifier: usize,
+) -> Result<(), TogetherError>
+    ensures { result_err result
+        ≡ barred_fault ranges.now (elements_behind text.now) element identifier }
+{
+    match first_among(ranges, text) {
+        Some(other) => Err(TogetherError::ConflictingElement {
+            element,
+            identifier,
+            other,
+        }),
+        None => Ok(()),
+    }
+}
+
+/// Checks what has to stand, and what may not stand, beside an element.
+fn check_beside(text: &[u8], element: usize, part: &[u8]) -> Result<(), TogetherError>
+    ensures { result_err result ≡ element_conflict (elements_behind text.now) element
+        (number_of (element_of part.now).identifier) }
+{
+    let number = number_at(part);
+    check_needed(needed(number), text, element, number)?;
+    check_needed(also_needed(number), text, element, number)?;
+    check_barred(barred(number), text, element, number)
+}
+
+/// Checks the elements that are written behind a first opening bracket.
+#[tactic(auto, using(crate::proofs::Conflicts::conflict_last))]
+fn check_all(text: &[u8]) -> Result<(), TogetherError>
+    ensures { result_err result
+        ≡ first_conflict (elements_behind text.now) 0 (elements_behind text.now) }
+{
+    let mut rest = text;
+    let mut element = 0;
+    loop {
+        let end = first_of(rest, b'(');
+        let part = &rest[..end];
+        check_beside(text, element, part)?;
+        if end == rest.len() {
+            return Ok(());
+        }
+        rest = behind(rest, end);
+        element += 1;
+    }
+}
+
+/// Checks which elements of a text such as `(02)09506000134352(37)20(00)106141412345678908` stand
+/// together: beside each stand those that it needs, and none that it excludes (GS1 General
+/// Specifications, release 24 of 2024, "Mandatory associations" and "Invalid pairs"). The text is
+/// cut as `written_element` does; identifiers that are not assigned need and exclude none.
+///
+/// # Errors
+///
+/// `TextTooLong` if the text has more than 11815 bytes. Else the first fault of the first element
+/// that has one: `MissingElement` if none of those that it needs is there, and
+/// `ConflictingElement`, with the number of the first that it excludes.
+pub fn check_together(text: &str) -> Result<(), TogetherError>
+    ensures { result_err result ≡ text_conflict text.now }
+{
+    let text = text.as_bytes();
+    if LONGEST_TEXT < text.len() {
+        return Err(TogetherError::TextTooLong);
+    }
+    check_all(behind(text, 0))
+}

@@ -1,0 +1,17 @@
+-- The picture is written, or the buffer is too short for it.
+use Rattle.std.proofs.Common.{w32, arith}
+use Rattle.std.proofs.lemmas.Int.{to_z-of_z}
+use Rattle.qrcode_c.proofs.PictureLemmas.{held, refused}
+use Rattle.qrcode_c.proofs.picture.write_picture.Goals as goal
+
+pub returns-clause-held : goal.returns-clause-held
+returns-clause-held c =
+    held c.write.result c.args.modules.now c.args.width c.args.format c.args.settings.now c.args.buffer.now c.write.new.buffer
+    c.in_ok-bytes.bytes.items c.deref.result.now c.len.result (rw (to_z-of_z w32 c.args.format c.ranges.format) at c.in_ok-bytes.ensures.shown)
+    (omega (arith, c.len.ensures, c.in_ok-bytes.bytes.ok)) c.deref.ensures.value c.write.ensures.written
+
+pub returns-clause-refused : goal.returns-clause-refused
+returns-clause-refused c =
+    refused c.write.result c.args.modules.now c.args.width c.args.format c.args.settings.now c.args.buffer.now
+    c.in_ok-bytes.bytes.items c.deref.result.now c.len.result (rw (to_z-of_z w32 c.args.format c.ranges.format) at c.in_ok-bytes.ensures.shown)
+    (omega (arith, c.len.ensures, c.in_ok-bytes.bytes.ok)) c.deref.ensures.value c.write.ensures.short c.write.ensures.room

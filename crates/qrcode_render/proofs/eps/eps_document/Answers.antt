@@ -1,0 +1,38 @@
+-- The pieces of the document, one after the other.
+use Rattle.std.proofs.Common.{◌≡◌, ◌++◌, ◌∙◌}
+use Rattle.std.specs.String.{string_bytes}
+use Rattle.std.specs.Option.{option_copied}
+use Rattle.qrcode_render.specs.{Pictures.columns_of, Pictures.rows_of, Paths.path, Shown.shown}
+use Rattle.qrcode_render.specs.Eps.{module_points, eps_comments, eps_setup, eps_rectangle, eps_end, eps_ground, eps_ink, title_comment}
+use Rattle.qrcode_render.proofs.Ranges.{seven_pieces}
+use Rattle.qrcode_render.proofs.eps.eps_document.Goals as goal
+
+pub returns : goal.returns
+returns c =
+    let p = shown c.args.picture.now in
+    let mm = c.args.module_mm in
+    let head = eps_comments mm p.scale (columns_of p) (rows_of p) in
+    let title = title_comment (option_copied c.args.title) in
+    let setup = eps_setup (module_points mm p.scale) (rows_of p) in
+    let ground = eps_ground c.args.colors.light (columns_of p) (rows_of p) in
+    let ink = eps_ink c.args.colors.dark in
+    let runs = path eps_rectangle p (rows_of p) in
+    let pieces : string_bytes c.push_str-4.new.self ≡ (((((head ++ title) ++ setup) ++ ground) ++ ink) ++ runs) ++ eps_end =
+    cc (
+      c.in_ok-text.ensures,
+      c.in_ok-push_title.ensures,
+      c.in_ok-points.ensures,
+      c.in_ok-setup.ensures,
+      c.in_ok-push_str.ensures.bytes,
+      c.in_ok-ground.ensures,
+      c.in_ok-push_str-2.ensures.bytes,
+      c.in_ok-ink.ensures,
+      c.in_ok-push_str-3.ensures.bytes,
+      c.in_ok-push_path.ensures,
+      c.in_ok-push_str-4.ensures.bytes,
+      c.as_str.ensures.value,
+      c.as_str-2.ensures.value,
+      c.as_str-3.ensures.value,
+      c.deref.ensures,
+    ) in
+    pieces ∙ seven_pieces head title setup ground ink runs eps_end

@@ -1,0 +1,234 @@
+-- Why there is no label, and that nothing was written then.
+use Rattle.std.proofs.Common.{◌≡◌, ◌≢◌, ◌⊎◌, ◌≤◌, ℕ, Option, Some, None, List, length, inl, inr, true, false, refl, arith}
+use Rattle.std.specs.Prelude.{Result, Ok, Err, IfOk, IfErr}
+use Rattle.std.specs.Io.KnownBytes.{Keeps}
+use Rattle.programs.proofs.DeviceLemmas.{ReadsAll-short}
+use Rattle.programs.specs.Devices.{SourceState, SinkState, ReadsUpTo, Writes, input, output}
+use Rattle.programs.specs.declared.Fault.{Fault as FaultOf}
+use Rattle.programs.specs.declared.Fault.TheVariants.{Symbol, Read, Write}
+use Rattle.qrcode_core.specs.declared.options.SymbolOptions.{SymbolOptions}
+use Rattle.qrcode_base.specs.declared.symbols.TheConstants.{LONGEST_DATA}
+use Rattle.qrcode_core.specs.declared.types.Color.{Color}
+use Rattle.qrcode_core.specs.declared.types.errors.QrError.{QrError}
+use Rattle.qrcode_core.specs.declared.types.errors.QrError.TheVariants.{OutOfMemory, DataTooLong, InvalidVersion}
+use Rattle.qrcode_core.specs.declared.types.errors.QrError.TheVariants.{UnsupportedCharacterSet, InvalidEciDesignator}
+use Rattle.qrcode_core.specs.declared.types.errors.QrError.TheVariants.{InvalidCharacter, InvalidStructuredAppend}
+use Rattle.qrcode_core.specs.declared.types.errors.QrError.TheVariants.{InvalidResourceLimits, RenderSizeExceeded}
+use Rattle.qrcode_core.specs.declared.types.errors.QrError.TheVariants.{EncodingTimeout, InvalidDataLength}
+use Rattle.qrlabel.specs.declared.command.Content.{Content}
+use Rattle.qrlabel.specs.declared.command.Content.TheVariants.{Auto, Text, Bytes, Gs1, Micro, MicroBytes}
+use Rattle.qrlabel.specs.declared.command.Label.{Label}
+use Rattle.qrlabel.specs.declared.stop.{Stop.Stop, Stop.TheVariants.Fault, Stop.TheVariants.Elements, Stop.TheVariants.Empty}
+use Rattle.qrlabel.specs.declared.stop.{Stop.TheVariants.NotAscii, Stop.TheVariants.TooLong, Stop.TheVariants.TooManyParts}
+use Rattle.qrlabel.specs.declared.stop.TooLong.{TooLong as TooLongOf}
+use Rattle.qrlabel.specs.{Contents.IsStopAs, Contents.IsSymbolAs, Contents.IsNoUtf8, Contents.is_bracketed}
+use Rattle.qrlabel.specs.{Labels.IsLabelStop, Labels.IsLabelData, Labels.IsContentStop, Labels.is_too_long, Labels.telling}
+use Rattle.qrlabel.specs.{Parts.IsMessageStop, Rooms.IsTooLongAs, Rooms.IsTooLongForAny}
+use Rattle.qrlabel.specs.{Parts.IsOtherStop, Runs.Drawer, Runs.IsLabelOutcome}
+use Rattle.qrlabel.specs.{Tells.TellsNot, Tells.HasNoData, Tells.AreNoElements}
+
+keeps : (a : Option (List ℕ)) → Keeps a a
+keeps None = tt
+keeps (Some xs) = refl
+
+pub neither : (content : Content) (options : SymbolOptions) (bytes : List ℕ) (fault : FaultOf) → (fault ≡ Read) ⊎ (fault ≡ Write) →
+    IsStopAs content options bytes (Fault fault) → ⊥
+neither Auto options bytes fault is h = grind (arith, is, h)
+neither Text options bytes fault is h = grind (arith, is, h)
+neither Bytes options bytes fault is h = grind (arith, is, h)
+neither Gs1 options bytes fault is h = grind (arith, is, h)
+neither Micro options bytes fault is h = grind (arith, is, h)
+neither MicroBytes options bytes fault is h = grind (arith, is, h)
+
+pub no_device : (label : Label) (bytes : List ℕ) (fault : FaultOf) → (fault ≡ Read) ⊎ (fault ≡ Write) → IsLabelStop label bytes (Fault fault) → ⊥
+no_device label bytes fault is (inl h) = grind (arith, is, h.stop_is)
+no_device label bytes fault is (inr h) = grind (arith, is, h.stopped, neither label.content label.symbol h.content fault is)
+
+-- nothing was written where there is no drawing
+pub writes_none : (drawer : Drawer) (r s : SourceState) (w : SinkState) (bytes : List ℕ) (stop : Stop) →
+    ((fault : FaultOf) → (fault ≡ Read) ⊎ (fault ≡ Write) → drawer.stops bytes (Fault fault) → ⊥) →
+    ReadsUpTo drawer.most (input r s) bytes → drawer.stops bytes stop → s.failed ≡ false → w.failed ≡ false →
+    IsLabelOutcome drawer (input r s) (output w w) (Err stop)
+writes_none drawer r s w bytes (Fault Read) no_device read is sound whole = absurd (no_device Read (inl refl) is)
+writes_none drawer r s w bytes (Fault Write) no_device read is sound whole = absurd (no_device Write (inr refl) is)
+writes_none drawer r s w bytes (Fault (Symbol e)) no_device read is sound whole =
+    record { writes = ((λ other. record { bytes = bytes; read = read; stopped = is }), keeps w.written); read = grind (arith, sound); write = grind (arith, whole) }
+writes_none drawer r s w bytes (Elements e) no_device read is sound whole =
+    record { writes = ((λ other. record { bytes = bytes; read = read; stopped = is }), keeps w.written); read = grind (arith, sound); write = grind (arith, whole) }
+writes_none drawer r s w bytes Empty no_device read is sound whole =
+    record { writes = ((λ other. record { bytes = bytes; read = read; stopped = is }), keeps w.written); read = grind (arith, sound); write = grind (arith, whole) }
+writes_none drawer r s w bytes NotAscii no_device read is sound whole =
+    record { writes = ((λ other. record { bytes = bytes; read = read; stopped = is }), keeps w.written); read = grind (arith, sound); write = grind (arith, whole) }
+writes_none drawer r s w bytes (TooLong t) no_device read is sound whole =
+    record { writes = ((λ other. record { bytes = bytes; read = read; stopped = is }), keeps w.written); read = grind (arith, sound); write = grind (arith, whole) }
+writes_none drawer r s w bytes TooManyParts no_device read is sound whole =
+    record { writes = ((λ other. record { bytes = bytes; read = read; stopped = is }), keeps w.written); read = grind (arith, sound); write = grind (arith, whole) }
+
+-- ---- Nothing is told of a content
+
+-- an error of bytes that are no text is not their length
+no_utf8_short : (bytes : List ℕ) (e : QrError) → IsNoUtf8 bytes e → is_too_long (Fault (Symbol e)) ≡ false
+no_utf8_short bytes (InvalidCharacter position byte) h = refl
+no_utf8_short bytes DataTooLong h = absurd h
+no_utf8_short bytes (InvalidVersion version level) h = absurd h
+no_utf8_short bytes UnsupportedCharacterSet h = absurd h
+no_utf8_short bytes (InvalidEciDesignator value) h = absurd h
+no_utf8_short bytes (InvalidStructuredAppend value) h = absurd h
+no_utf8_short bytes InvalidResourceLimits h = absurd h
+no_utf8_short bytes (RenderSizeExceeded w h mw mh) is = absurd is
+no_utf8_short bytes EncodingTimeout h = absurd h
+no_utf8_short bytes (InvalidDataLength expected actual) h = absurd h
+no_utf8_short bytes OutOfMemory h = absurd h
+
+-- no content has this reason and a symbol
+abbrev pub IsReason : Content → SymbolOptions → List ℕ → Stop → Type 0
+IsReason content options bytes stop =
+    (is_too_long stop ≡ false) × IsStopAs content options bytes stop × (stop ≢ Empty) × ((t : TooLongOf) → stop ≢ TooLong t)
+
+no_elements : (options : SymbolOptions) (bytes : List ℕ) (stop : Stop) → length bytes ≤ LONGEST_DATA → is_bracketed bytes ≡ true → AreNoElements bytes stop →
+    IsReason Gs1 options bytes stop
+no_elements options bytes (Elements at) short bracketed h =
+    (refl, inr (short, inl (bracketed, h)), (λ e. grind (arith, e)), (λ t e. grind (arith, e)))
+no_elements options bytes (Fault (Symbol e)) short bracketed h =
+    (no_utf8_short bytes e h, inr (short, inl (bracketed, inl h)), (λ e. grind (arith, e)), (λ t e. grind (arith, e)))
+no_elements options bytes (Fault Read) short bracketed h = absurd h
+no_elements options bytes (Fault Write) short bracketed h = absurd h
+no_elements options bytes Empty short bracketed h = absurd h
+no_elements options bytes NotAscii short bracketed h = absurd h
+no_elements options bytes (TooLong t) short bracketed h = absurd h
+no_elements options bytes TooManyParts short bracketed h = absurd h
+
+has_no_data : (content : Content) (options : SymbolOptions) (bytes : List ℕ) (stop : Stop) → length bytes ≤ LONGEST_DATA → HasNoData content bytes stop →
+    IsReason content options bytes stop
+has_no_data Gs1 options bytes stop short h = no_elements options bytes stop short h.0 h.1
+has_no_data Auto options bytes stop short h = absurd h
+has_no_data Text options bytes stop short h = absurd h
+has_no_data Bytes options bytes stop short h = absurd h
+has_no_data Micro options bytes stop short h = absurd h
+has_no_data MicroBytes options bytes stop short h = absurd h
+
+content_stop : (label : Label) (content : List ℕ) (stop : Stop) → IsLabelData label content → (is_too_long stop ≡ false) →
+    IsStopAs label.content label.symbol content stop → (stop ≢ Empty) → ((t : TooLongOf) → stop ≢ TooLong t) → IsContentStop label content stop
+content_stop label content (Fault fault) some short is not_empty not_long = (some, short, inr is)
+content_stop label content (Elements at) some short is not_empty not_long = (some, short, inr is)
+content_stop label content NotAscii some short is not_empty not_long = (some, short, inr is)
+content_stop label content TooManyParts some short is not_empty not_long = (some, short, inr is)
+content_stop label content Empty some short is not_empty not_long = absurd (not_empty refl)
+content_stop label content (TooLong t) some short is not_empty not_long = absurd (not_long t refl)
+
+pub not_told : (label : Label) (content : List ℕ) (stop : Stop) (grid : List Color) → length content ≤ LONGEST_DATA → IsLabelData label content →
+    IsSymbolAs label.content label.symbol content grid → TellsNot label (Some content) stop → IsContentStop label content stop
+not_told label content stop grid short some is (inl h) = rw h (some, refl, inl (refl, (grid, is)))
+not_told label content stop grid short some is (inr h) =
+    let reason = has_no_data label.content label.symbol content stop short h in
+    content_stop label content stop some reason.0 reason.1 reason.2 reason.3
+
+-- the same of a message
+pub message_not_told : (label : Label) (content : List ℕ) (stop : Stop) (grid : List Color) → length content ≤ LONGEST_DATA →
+    IsSymbolAs label.content label.symbol content grid → TellsNot label (Some content) stop → IsOtherStop label content stop
+message_not_told label content stop grid short is (inl h) = rw h (refl, inl (refl, (grid, is)))
+message_not_told label content stop grid short is (inr h) =
+    let reason = has_no_data label.content label.symbol content stop short h in (reason.0, inr reason.1)
+
+-- ---- The telling label
+
+told_long_any : (label : Label) (t : TooLongOf) → IsTooLongForAny (telling label) t → IsTooLongForAny label t
+told_long_any label t h = record { many = h.many; version_is = h.version_is; level_is = h.level_is; fits = h.fits; splits = h.splits }
+
+told_long : (label : Label) (content : List ℕ) (t : TooLongOf) → IsTooLongAs (telling label) content t → IsTooLongAs label content t
+told_long label content t h = record {
+  length_is = h.length_is;
+  version_is = h.version_is;
+  level_is = h.level_is;
+  front = h.front;
+  front_is = h.front_is;
+  bytes_are = h.bytes_are;
+  digits_are = h.digits_are;
+  fits = h.fits;
+  splits = h.splits;
+}
+
+told_content : (label : Label) (content : List ℕ) (stop : Stop) → IsContentStop (telling label) content stop → IsContentStop label content stop
+told_content label content (Fault fault) h = h
+told_content label content (Elements at) h = h
+told_content label content Empty h = h
+told_content label content NotAscii h = h
+told_content label content TooManyParts h = h
+told_content label content (TooLong t) h = (h.0, told_long label content t h.1, h.2)
+
+pub told_stop : (label : Label) (bytes : List ℕ) (stop : Stop) → IsLabelStop (telling label) bytes stop → IsLabelStop label bytes stop
+told_stop label bytes stop (inl h) =
+    inl (record { many = h.many; too_long = h.too_long; is_too_long = told_long_any label h.too_long h.is_too_long; stop_is = h.stop_is })
+told_stop label bytes stop (inr h) =
+    inr (record { short = h.short; content = h.content; content_is = h.content_is; stopped = told_content label h.content stop h.stopped })
+
+pub told_message : (label : Label) (bytes : List ℕ) (stop : Stop) → IsMessageStop (telling label) bytes stop → IsMessageStop label bytes stop
+told_message label bytes stop (inl h) = inl h
+told_message label bytes stop (inr h) = inr (record { short = h.short; content = h.content; content_is = h.content_is; stopped = h.stopped })
+
+-- ---- Results
+
+pub if_err : {A E : Type 0} (P Q : E → Type 0) (r : Result A E) → ((e : E) → P e → Q e) → IfErr r P → IfErr r Q
+if_err P Q (Ok a) more h = tt
+if_err P Q (Err e) more h = more e h
+
+pub if_ok : {A E : Type 0} (P Q : A → Type 0) (r : Result A E) → ((a : A) → P a → Q a) → IfOk r P → IfOk r Q
+if_ok P Q (Ok a) more h = more a h
+if_ok P Q (Err e) more h = tt
+
+pub too_long_is : (content : Content) (options : SymbolOptions) (bytes : List ℕ) (stop : Stop) → is_too_long stop ≡ true → IsStopAs content options bytes stop →
+    IsStopAs content options bytes (Fault (Symbol DataTooLong))
+too_long_is content options bytes (Fault (Symbol DataTooLong)) is h = h
+too_long_is content options bytes (Fault (Symbol (InvalidVersion version level))) is h = grind (arith, is)
+too_long_is content options bytes (Fault (Symbol UnsupportedCharacterSet)) is h = grind (arith, is)
+too_long_is content options bytes (Fault (Symbol (InvalidEciDesignator value))) is h = grind (arith, is)
+too_long_is content options bytes (Fault (Symbol (InvalidCharacter position byte))) is h = grind (arith, is)
+too_long_is content options bytes (Fault (Symbol (InvalidStructuredAppend value))) is h = grind (arith, is)
+too_long_is content options bytes (Fault (Symbol InvalidResourceLimits)) is h = grind (arith, is)
+too_long_is content options bytes (Fault (Symbol (RenderSizeExceeded w l mw ml))) is h = grind (arith, is)
+too_long_is content options bytes (Fault (Symbol EncodingTimeout)) is h = grind (arith, is)
+too_long_is content options bytes (Fault (Symbol (InvalidDataLength expected actual))) is h = grind (arith, is)
+too_long_is content options bytes (Fault (Symbol OutOfMemory)) is h = grind (arith, is)
+too_long_is content options bytes (Fault Read) is h = grind (arith, is)
+too_long_is content options bytes (Fault Write) is h = grind (arith, is)
+too_long_is content options bytes (Elements at) is h = grind (arith, is)
+too_long_is content options bytes Empty is h = grind (arith, is)
+too_long_is content options bytes NotAscii is h = grind (arith, is)
+too_long_is content options bytes (TooLong t) is h = grind (arith, is)
+too_long_is content options bytes TooManyParts is h = grind (arith, is)
+
+-- nothing was written where memory ran out, or there is no drawing
+pub writes_none_or : (drawer : Drawer) (r s : SourceState) (w : SinkState) (bytes : List ℕ) (stop : Stop) →
+    ((fault : FaultOf) → (fault ≡ Read) ⊎ (fault ≡ Write) → drawer.stops bytes (Fault fault) → ⊥) →
+    ReadsUpTo drawer.most (input r s) bytes → (stop ≡ Fault (Symbol OutOfMemory)) ⊎ drawer.stops bytes stop → s.failed ≡ false → w.failed ≡ false →
+    IsLabelOutcome drawer (input r s) (output w w) (Err stop)
+writes_none_or drawer r s w bytes stop no_device read (inl memory) sound whole =
+    rw memory (record { writes = ((λ other. absurd (other refl)), keeps w.written); read = grind (arith, sound); write = grind (arith, whole) })
+writes_none_or drawer r s w bytes stop no_device read (inr is) sound whole = writes_none drawer r s w bytes stop no_device read is sound whole
+
+-- all was written, or a beginning
+pub writes_all : (drawer : Drawer) (r s : SourceState) (v w : SinkState) (bytes drawing said : List ℕ) → ReadsUpTo drawer.most (input r s) bytes → length bytes ≤ drawer.most →
+    drawer.shows bytes drawing → drawer.says bytes said → Writes (output v w) drawing → w.flushed ≡ w.written → s.failed ≡ false → w.failed ≡ false →
+    IsLabelOutcome drawer (input r s) (output v w) (Ok said)
+writes_all drawer r s v w bytes drawing said read short shows says writes flushed sound whole = record {
+  writes = record {
+    drawing = drawing;
+    is_drawing = record { bytes = bytes; read = ReadsAll-short drawer.most (input r s) bytes read short; shown = (shows, says) };
+    appends = writes.whole whole;
+    flushed = flushed;
+  };
+  read = grind (arith, sound);
+  write = grind (arith, whole);
+}
+
+pub writes_some : (drawer : Drawer) (r s : SourceState) (v w : SinkState) (bytes drawing : List ℕ) → ReadsUpTo drawer.most (input r s) bytes → length bytes ≤ drawer.most →
+    drawer.shows bytes drawing → Writes (output v w) drawing → s.failed ≡ false → w.failed ≡ true → IsLabelOutcome drawer (input r s) (output v w) (Err (Fault Write))
+writes_some drawer r s v w bytes drawing read short shows writes sound failed = record {
+  writes = record {
+    drawing = drawing;
+    is_drawing = record { bytes = bytes; read = ReadsAll-short drawer.most (input r s) bytes read short; shown = shows };
+    beginning = writes.beginning;
+  };
+  read = grind (arith, sound);
+  write = grind (arith, failed);
+}

@@ -1,0 +1,155 @@
+//! What of the input labels show, and where they are written.
+ghost use Rattle.std.specs.Prelude.{◌≡◌, option_map};
+ghost use Rattle.qrlabel.specs.Asked.{outcome, portion_outcome};
+ghost use Rattle.qrlabel.specs.Choices.{can_be_split, is_stream, is_text};
+ghost use Rattle.qrlabel.specs.Commands.{can_follow, has_percent, numbered_output};
+ghost use Rattle.qrlabel.specs.Commands.{portion_asked, split_asked, tells_asked, terminal_asked};
+ghost use Rattle.qrlabel.specs.Placed.{numbering_of};
+ghost use Rattle.qrlabel.specs.Said.{said};
+
+use crate::command::{Content, Portion, Tells};
+use crate::names::{Numbering, numbering_in};
+use crate::words::{Misuse, Name, Values};
+use qrcode_render::Format;
+
+/// Whether pictures of the format can follow each other in one output.
+fn is_stream(format: Format) -> bool
+    ensures { result ≡ is_stream format }
+{
+    match format {
+        Format::Terminal | Format::Pbm | Format::EscPos | Format::Zpl => true,
+        Format::Svg | Format::Png | Format::Eps => false,
+    }
+}
+
+/// Returns the name of the output as one with a number in it, if it is one.
+fn numbered_output<'a>(values: &Values<'a>) -> Option<Numbering<'a>>
+    ensures { option_map numbering_of result ≡ numbered_output (said values.now) }
+{
+    numbering_in(values.get(Name::Output)?)
+}
+
+/// Whether the name of the output has a percent sign.
+fn has_percent<'a>(values: &Values<'a>) -> bool
+    ensures { result ≡ has_percent (said values.now) }
+{
+    match values.get(Name::Output) {
+        Some(name) => name.split_once('%').is_some(),
+        None => false,
+    }
+}
+
+/// Returns whether the symbol is told of.
+pub fn tells_of<'a>(values: &Values<'a>) -> Result<Tells, Misuse<'a>>
+    ensures { outcome result ≡ tells_asked (said values.now) }
+{
+    if values.has(Name::Info) {
+        return match values.file(Name::Output) {
+            Some(_) => Err(Misuse::Invalid(Name::Info)),
+            None => Ok(Tells::Alone),
+        };
+    }
+    if !values.has(Name::Verbose) {
+        Ok(Tells::Nothing)
+    } else if values.has(Name::Lines) {
+        Err(Misuse::Invalid(Name::Verbose))
+    } else {
+        Ok(Tells::Beside)
+    }
+}
+
+/// Whether labels can follow each other in one output: what is told of symbols always can.
+fn can_follow<'a>(values: &Values<'a>, format: Format) -> bool
+    ensures { result ≡ can_follow format (said values.now) }
+{
+    is_stream(format) || values.has(Name::Info)
+}
+
+/// Whether a message of this content can be spread over several symbols.
+pub fn can_be_split(content: Content) -> bool
+    ensures { result ≡ can_be_split content }
+{
+    match content {
+        Content::Auto | Content::Text | Content::Bytes => true,
+        Content::Gs1 | Content::Micro | Content::MicroBytes => false,
+    }
+}
+
+/// Returns that as many labels as it takes show the input. Each has a file if the output's name has
+/// a number, else their pictures follow each other.
+fn split_of<'a>(
+    values: &Values<'a>,
+    content: Content,
+    format: Format,
+) -> Result<Portion<'a>, Misuse<'a>>
+    ensures { portion_outcome result ≡ split_asked content format (said values.now) }
+{
+    if values.has(Name::Lines) || values.has(Name::Strongest) || values.has(Name::MinVersion) {
+        return Err(Misuse::Invalid(Name::Split));
+    }
+    if !can_be_split(content) {
+        return Err(Misuse::Invalid(Name::Split));
+    }
+    match numbered_output(values) {
+        Some(name) => Ok(Portion::Parts(name)),
+        None if has_percent(values) => Err(Misuse::Invalid(Name::Output)),
+        None if can_follow(values, format) => Ok(Portion::Split),
+        None => Err(Misuse::NeedsStream),
+    }
+}
+
+/// Returns what of the input a label shows. Lines are those of an input, and not of a text. Each
+/// has a file if the output's name has a number, else their pictures follow each other.
+pub fn portion_of<'a>(
+    values: &Values<'a>,
+    content: Content,
+    format: Format,
+) -> Result<Portion<'a>, Misuse<'a>>
+    ensures { portion_outcome result ≡ portion_asked content format (said values.now) }
+{
+    if values.has(Name::Split) {
+        return split_of(values, content, format);
+    }
+    let numbered = numbered_output(values);
+    if !values.has(Name::Lines) {
+        return match numbered {
+            Some(_) => Err(Misuse::Invalid(Name::Output)),
+            None => Ok(Portion::Whole),
+        };
+    }
+    if values.has(Name::Text) {
+        return Err(Misuse::Invalid(Name::Lines));
+    }
+    match numbered {
+        Some(name) => Ok(Portion::Files(name)),
+        None if has_percent(values) => Err(Misuse::Invalid(Name::Output)),
+        None if can_follow(values, format) => Ok(Portion::Lines),
+        None => Err(Misuse::NeedsStream),
+    }
+}
+
+/// Whether pictures of the format are a text.
+fn is_text(format: Format) -> bool
+    ensures { result ≡ is_text format }
+{
+    match format {
+        Format::Terminal | Format::Svg | Format::Eps | Format::Zpl => true,
+        Format::Png | Format::Pbm | Format::EscPos => false,
+    }
+}
+
+/// Checks that no bytes but a text are written on a terminal, unless the words name the output.
+pub fn check_terminal<'a>(
+    values: &Values<'a>,
+    on_terminal: bool,
+    format: Format,
+) -> Result<(), Misuse<'a>>
+    ensures { outcome result ≡ terminal_asked on_terminal format (said values.now) }
+{
+    let told = values.has(Name::Info);
+    if on_terminal && !is_text(format) && !values.has(Name::Output) && !told {
+        Err(Misuse::NeedsFile)
+    } else {
+        Ok(())
+    }
+}
