@@ -1,4 +1,4 @@
--- How light the colours of sRGB are, and which of them a reader tells apart (W3C, "Web Content
+-- How light the colours of sRGB are, and which of them a reader can distinguish (W3C, "Web Content
 -- Accessibility Guidelines", version 2.1, "relative luminance" and "contrast ratio").
 use Rattle.std.specs.Prelude.{◌≡◌, ℕ, ◌+◌, ◌-◌, ◌*◌, ◌^◌, ◌<◌, ◌==◌, Bool, true, ◌&&◌, nat_le}
 use Rattle.std.specs.Prelude.{nat_lt}
@@ -48,7 +48,7 @@ light_color colors = ground_color colors.light
 abbrev pub no_colors : Colors
 no_colors = record { dark = None; light = None }
 
--- A reader tells the dark modules from the ground.
+-- A reader can distinguish the dark modules from the ground.
 abbrev pub are_readable : Colors → Bool
 are_readable colors = is_readable (dark_color colors) (light_color colors)
 

@@ -89,8 +89,8 @@ setting_tests format s =
     ∷ (At, allows_position (has_position format) s.at)
     ∷ printer_tests format s
 
--- Colours that may be given: the format has colours, and a reader tells these apart, or may be
--- asked to do without. Where they are too near, it is the ground that is wrong, if one is given.
+-- Colours that may be given: the format has colours, and a reader can distinguish these, or any are
+-- allowed. Where they are too near, it is the ground that is wrong, if one is given.
 abbrev pub allows_colors : Format → Settings → Bool
 allows_colors format s = has_colors format && (s.any_colors || are_readable s.colors)
 

@@ -79,9 +79,9 @@ pub(crate) static LIGHT: [u32; 256] = [
 ];
 
 impl Colors {
-    /// Whether a reader tells the dark modules from the ground: the ground is lighter, and the
-    /// contrast ratio of WCAG 2.1 between them is 3 at least. A transparent ground is taken to
-    /// be white.
+    /// Whether a reader can distinguish the dark modules from the ground: the ground is lighter,
+    /// and the contrast ratio of WCAG 2.1 between them is 3 at least. A transparent ground is
+    /// taken to be white.
     pub fn are_readable(self) -> bool
         ensures { result ≡ are_readable self }
     {

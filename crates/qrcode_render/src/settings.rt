@@ -32,8 +32,8 @@ pub struct Settings<'a> {
     pub feed: Option<usize>,
     /// Whether the paper is cut after the picture: of ESC/POS.
     pub cut: bool,
-    /// The colours of the dark modules and of the ground, which a reader is to tell apart
-    /// (`Colors::are_readable`): of SVG, PNG and EPS.
+    /// The colours of the dark modules and of the ground, which a reader must be able to
+    /// distinguish (`Colors::are_readable`): of SVG, PNG and EPS.
     pub colors: Colors,
     /// Whether the colours may be any: of the same.
     pub any_colors: bool,
