@@ -18,3 +18,5 @@ pub mod StringLemmas
 pub mod ReadingLemmas
 pub mod FieldLemmas
 pub mod LightLemmas
+pub mod NumeralLemmas
+pub mod ConfigLemmas

@@ -1,9 +1,12 @@
 -- The bytes of a picture in the format of its options.
-use Rattle.std.specs.Prelude.{◌≡◌, ℕ, List, Some}
+use Rattle.std.specs.Prelude.{◌≡◌, ℕ, Bool, true, false, List, Some}
 use Rattle.std.specs.Option.{option_copied}
+use Rattle.std.specs.String.{string_bytes}
 use Rattle.png.specs.Png.{read_png}
 use Rattle.qrcode_core.specs.Grids.{Grid}
 use Rattle.qrcode_render.specs.declared.draw_options.DrawOptions.{DrawOptions}
+use Rattle.qrcode_render.specs.declared.drawing.Drawn.{Drawn}
+use Rattle.qrcode_render.specs.declared.drawing.Drawn.TheVariants.{Text, Bytes}
 use Rattle.qrcode_render.specs.declared.format.Format.{Format}
 use Rattle.qrcode_render.specs.declared.format.Format.TheVariants.{Terminal, Svg, Png, Pbm, Eps}
 use Rattle.qrcode_render.specs.declared.format.Format.TheVariants.{EscPos, Zpl}
@@ -33,3 +36,13 @@ IsPictureAs Zpl o p bytes = IsLabel o.compressed o.at o.copies p bytes
 -- The bytes show the grid as the options say.
 abbrev pub IsPictureOf : DrawOptions → Grid → List ℕ → Type 0
 IsPictureOf o grid bytes = IsPictureAs o.format o (picture grid o.scale o.quiet) bytes
+
+-- The bytes of a picture in a format.
+abbrev pub drawn_bytes : Drawn → List ℕ
+drawn_bytes (Text text) = string_bytes text
+drawn_bytes (Bytes bytes) = bytes.items
+
+-- The picture is text.
+abbrev pub is_drawn_text : Drawn → Bool
+is_drawn_text (Text text) = true
+is_drawn_text (Bytes bytes) = false

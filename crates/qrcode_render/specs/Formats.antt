@@ -4,11 +4,22 @@ use Rattle.qrcode_render.specs.declared.format.Format.{Format}
 use Rattle.qrcode_render.specs.declared.format.Format.TheVariants.{Terminal, Svg, Png, Eps}
 use Rattle.qrcode_render.specs.declared.format.Format.TheVariants.{EscPos, Zpl}
 use Rattle.qrcode_render.specs.declared.bounds.TheConstants.{IMAGE_SCALE, TEXT_SCALE}
+use Rattle.qrcode_render.specs.declared.settings.Setting.{Setting}
+use Rattle.qrcode_render.specs.declared.settings.Setting.TheVariants.{Scale, Quiet, ModuleMm, Dpi}
+use Rattle.qrcode_render.specs.declared.settings.Setting.TheVariants.{Inverted, Title, At}
+use Rattle.qrcode_render.specs.declared.settings.Setting.TheVariants.{Copies, Compressed, Feed, Cut}
 
 -- The default width of a module in pixels.
 abbrev pub default_scale : Format → ℕ
 default_scale Terminal = TEXT_SCALE
 default_scale _ = IMAGE_SCALE
+
+-- Pictures of the format are text.
+abbrev pub is_text_format : Format → Bool
+is_text_format Terminal = true
+is_text_format Svg = true
+is_text_format Eps = true
+is_text_format _ = false
 
 -- The light pixels can be filled, for a dark screen.
 abbrev pub can_be_inverted : Format → Bool
@@ -65,3 +76,18 @@ has_feed _ = false
 abbrev pub can_be_cut : Format → Bool
 can_be_cut EscPos = true
 can_be_cut _ = false
+
+-- The format has a setting.
+abbrev pub has_setting : Format → Setting → Bool
+has_setting format Scale = true
+has_setting format Quiet = true
+has_setting format ModuleMm = has_millimetres format
+has_setting format Dpi = has_dots format
+has_setting format Inverted = can_be_inverted format
+has_setting format Title = has_title format
+has_setting format At = has_position format
+has_setting format Copies = has_copies format
+has_setting format Compressed = can_be_compressed format
+has_setting format Feed = has_feed format
+has_setting format Cut = can_be_cut format
+has_setting format _ = has_colors format

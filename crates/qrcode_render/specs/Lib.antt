@@ -27,3 +27,5 @@ pub mod Colors
 pub mod ColorWords
 pub mod Drawings
 pub mod Asked
+pub mod OptionWords
+pub mod Configs

@@ -2,6 +2,8 @@
 ghost use Rattle.std.specs.Prelude.{◌≡◌, ◌<◌, ◌≤◌, ◌^◌, ◌↔◌, IfOk, IfSome, IsSome, OnOk};
 ghost use Rattle.qrcode_core.specs.Drawn.{drawn_grid};
 ghost use Rattle.qrcode_render.specs.Drawings.{IsPictureOf, IsPictureAs};
+ghost use Rattle.qrcode_render.specs.Drawings.{drawn_bytes, is_drawn_text};
+ghost use Rattle.qrcode_render.specs.Formats.{is_text_format};
 ghost use Rattle.qrcode_render.specs.Labels.{IsLabel};
 ghost use Rattle.qrcode_render.specs.Pictures.{IsDrawable};
 ghost use Rattle.qrcode_render.specs.Resolutions.{nearest, per_metre};
@@ -47,8 +49,17 @@ pub fn draw_grid<S: ModuleSource>(
     Ok(Some(draw_picture(alloc, &picture, options)?))
 }
 
-/// Returns the picture in the format of the options.
-pub(crate) fn draw_picture(
+/// A picture in a format.
+#[derive(Debug, Drop)]
+pub(crate) enum Drawn {
+    /// A picture in a format that is text.
+    Text(String),
+    /// A picture in a format that is bytes.
+    Bytes(Vec<u8>),
+}
+
+/// Returns the bytes of the picture in the format of the options.
+fn draw_picture(
     alloc: Global,
     picture: &Picture,
     options: &DrawOptions,
@@ -56,23 +67,45 @@ pub(crate) fn draw_picture(
     ensures { IfOk result (λ bytes.
         IsPictureAs options.now.format options.now (shown picture.now) bytes.items) }
 {
+    match draw_as(alloc, picture, options)? {
+        Drawn::Text(text) => Ok(text.into_bytes()),
+        Drawn::Bytes(bytes) => Ok(bytes),
+    }
+}
+
+/// Returns the picture in the format of the options.
+pub(crate) fn draw_as(
+    alloc: Global,
+    picture: &Picture,
+    options: &DrawOptions,
+) -> Result<Drawn, AllocError>
+    ensures shown { IfOk result (λ drawn.
+        IsPictureAs options.now.format options.now (shown picture.now) (drawn_bytes drawn)) }
+    ensures text { IfOk result (λ drawn. is_drawn_text drawn ≡ is_text_format options.now.format) }
+{
     match options.format {
-        Format::Terminal => Ok(terminal(alloc, picture, options.inverted)?.into_bytes()),
+        Format::Terminal => Ok(Drawn::Text(terminal(alloc, picture, options.inverted)?)),
         Format::Svg => {
             let (module_mm, title) = (options.module_mm, options.title);
-            Ok(svg_colored(alloc, picture, module_mm, title, options.colors)?.into_bytes())
+            let text = svg_colored(alloc, picture, module_mm, title, options.colors)?;
+            Ok(Drawn::Text(text))
         }
         Format::Png => {
             let per_metre = pixels_per_metre(options);
-            png_file(alloc, picture, per_metre, options.title, options.colors)
+            let bytes = png_file(alloc, picture, per_metre, options.title, options.colors)?;
+            Ok(Drawn::Bytes(bytes))
         }
-        Format::Pbm => pbm(alloc, picture),
+        Format::Pbm => Ok(Drawn::Bytes(pbm(alloc, picture)?)),
         Format::Eps => {
             let (module_mm, title) = (options.module_mm, options.title);
-            Ok(eps_document(alloc, picture, module_mm, title, options.colors)?.into_bytes())
+            let text = eps_document(alloc, picture, module_mm, title, options.colors)?;
+            Ok(Drawn::Text(text))
         }
-        Format::EscPos => ticket(alloc, picture, options.feed, options.cut),
-        Format::Zpl => zpl(alloc, picture, options),
+        Format::EscPos => {
+            let bytes = ticket(alloc, picture, options.feed, options.cut)?;
+            Ok(Drawn::Bytes(bytes))
+        }
+        Format::Zpl => Ok(Drawn::Bytes(zpl(alloc, picture, options)?)),
     }
 }
 

@@ -3,8 +3,10 @@ ghost use Rattle.std.specs.Prelude.{◌≡◌};
 ghost use Rattle.qrcode_render.specs.Formats.{can_be_inverted, default_scale, has_millimetres};
 ghost use Rattle.qrcode_render.specs.Formats.{has_colors, has_dots, has_position, has_title};
 ghost use Rattle.qrcode_render.specs.Formats.{can_be_compressed, can_be_cut, has_copies, has_feed};
+ghost use Rattle.qrcode_render.specs.Formats.{has_setting};
 
 use crate::bounds::{IMAGE_SCALE, TEXT_SCALE};
+use crate::settings::Setting;
 
 /// A format of pictures.
 #[derive(Clone, Copy, Debug, PartialEq, Eq)]
@@ -104,5 +106,23 @@ impl Format {
         ensures { result ≡ can_be_cut self }
     {
         matches!(self, Format::EscPos)
+    }
+    /// Whether the format has a setting. It has `scale` and `quiet` always.
+    pub fn has(self, setting: Setting) -> bool
+        ensures { result ≡ has_setting self setting }
+    {
+        match setting {
+            Setting::Scale | Setting::Quiet => true,
+            Setting::ModuleMm => self.has_millimetres(),
+            Setting::Dpi => self.has_dots(),
+            Setting::Inverted => self.can_be_inverted(),
+            Setting::Title => self.has_title(),
+            Setting::At => self.has_position(),
+            Setting::Copies => self.has_copies(),
+            Setting::Compressed => self.can_be_compressed(),
+            Setting::Feed => self.has_feed(),
+            Setting::Cut => self.can_be_cut(),
+            Setting::Dark | Setting::Light | Setting::AnyColors => self.has_colors(),
+        }
     }
 }

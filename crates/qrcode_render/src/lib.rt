@@ -25,6 +25,9 @@ pub mod colors;
 mod compressed;
 #[cfg(test)]
 mod compressed_tests;
+pub mod config;
+#[cfg(test)]
+mod config_tests;
 pub mod draw_options;
 mod drawing;
 pub mod eps;
@@ -34,6 +37,7 @@ pub mod format;
 mod format_tests;
 pub mod laws;
 mod numbers;
+pub mod option_words;
 pub mod options;
 mod path;
 pub mod pbm;

@@ -1,31 +1,19 @@
 //! The renderers `Svg`, `Png`, `Pbm`, `Eps`, `EscPos`, `Zpl` and `Terminal`, for a registry.
 //!
-//! Each takes the options `scale`, the width of a module in pixels, and `quiet`, the width of the
-//! quiet zone in modules. `Terminal` takes `inverted` too, `true` for a dark screen. An option that
-//! is invalid, or that another renderer alone takes, is `InvalidConfig` with the name of the
-//! option. A grid without modules, or of more than `MAX_MODULES` columns or
-//! rows, is `RenderFailed`.
-ghost use Rattle.std.specs.Prelude.{◌≡◌, codes, IfOk, IfErr, OnOk};
-ghost use Rattle.qrcode_core.specs.Plugins.{render_options, at_key};
-ghost use Rattle.qrcode_render.specs.Options.{Asks, AsksFlag, IsOptionRefusal};
-ghost use Rattle.qrcode_render.specs.Rendered.{IsRendererRefusal, Renders, Validates};
-ghost use Rattle.qrcode_render.specs.Rendered.{IsNoImageOption, IsNoTextOption};
-ghost use Rattle.qrcode_render.specs.Rendered.{AsksForImage, AsksForText};
-ghost use Rattle.qrcode_render.specs.Rendered.{ShowsBitmap, ShowsEps, ShowsEscPos, ShowsPng};
-ghost use Rattle.qrcode_render.specs.Rendered.{ShowsSvg, ShowsTerminal, ShowsZpl};
-ghost use Rattle.qrcode_render.specs.declared.bounds.TheConstants.{IMAGE_SCALE, TEXT_SCALE};
+//! Each takes the options that its `Format` has (`Format::has`), by the names of the settings, with
+//! texts that `config` describes, and returns what `draw` does. It fails with `InvalidConfig` and
+//! the name of an option that `DrawOptions::of_config` rejects; else with `RenderFailed` for a grid
+//! without modules, or of more than `MAX_MODULES` columns or rows; else for lack of memory only.
+//! Options of other names are left alone.
+ghost use Rattle.qrcode_render.specs.Drawings.{drawn_bytes, is_drawn_text};
+ghost use Rattle.qrcode_render.specs.Rendered.{IsOutput, IsRendererRefusal, Renders, Validates};
+ghost use Rattle.qrcode_render.specs.declared.format.Format.{Format};
 
-use crate::bounds::{IMAGE_SCALE, MAX_MODULES, TEXT_SCALE};
-use crate::eps::eps;
-use crate::escpos::escpos;
-use crate::options::{RenderOptions, flag, invalid_option};
-use crate::pbm::pbm;
+use crate::bounds::MAX_MODULES;
+use crate::draw_options::DrawOptions;
+use crate::drawing::{Drawn, draw_as, shape};
+use crate::format::Format;
 use crate::picture::Picture;
-use crate::png_file::png;
-use crate::settings::Setting;
-use crate::svg::svg;
-use crate::terminal::terminal;
-use crate::zpl::zpl;
 use qrcode_core::plugin::{DynRenderer, PluginError, RenderConfig, RenderOutput};
 use qrcode_core::traits::ModuleSource;
 use std::alloc::Global;
@@ -54,8 +42,8 @@ pub struct Eps;
 #[derive(Debug, Drop)]
 pub struct EscPos;
 
-/// A renderer of labels of ZPL II, as bytes, at the upper left corner of the label. A module is 8
-/// pixels wide, unless the option `scale` is given.
+/// A renderer of labels of ZPL II, as bytes. A module is 8 pixels wide, unless the option `scale`
+/// is given, and the picture is at the upper left corner of the label, unless the option `at` is.
 #[derive(Debug, Drop)]
 pub struct Zpl;
 
@@ -65,9 +53,9 @@ pub struct Zpl;
 pub struct Terminal;
 
 impl DynRenderer for Svg {
-    ghost renders = { λ _. Renders IMAGE_SCALE ShowsSvg IsNoImageOption };
+    ghost renders = { λ _. Renders Format.Svg };
 
-    ghost validates = { λ _. Validates IMAGE_SCALE AsksForImage IsNoImageOption };
+    ghost validates = { λ _. Validates Format.Svg };
 
     fn render(
         &self,
@@ -75,23 +63,18 @@ impl DynRenderer for Svg {
         code: &dyn ModuleSource,
         config: &RenderConfig,
     ) -> Result<RenderOutput, PluginError> {
-        let options = image_options(alloc, config)?;
-        match Picture::of_grid(code, options) {
-            Some(picture) => Ok(RenderOutput::Text(svg(alloc, &picture)?)),
-            None => Err(too_large(alloc)),
-        }
+        render_as(alloc, Format::Svg, code, config)
     }
 
     fn validate_config(&self, alloc: Global, config: &RenderConfig) -> Result<(), PluginError> {
-        image_options(alloc, config)?;
-        Ok(())
+        validate_as(alloc, Format::Svg, config)
     }
 }
 
 impl DynRenderer for Pbm {
-    ghost renders = { λ _. Renders IMAGE_SCALE ShowsBitmap IsNoImageOption };
+    ghost renders = { λ _. Renders Format.Pbm };
 
-    ghost validates = { λ _. Validates IMAGE_SCALE AsksForImage IsNoImageOption };
+    ghost validates = { λ _. Validates Format.Pbm };
 
     fn render(
         &self,
@@ -99,23 +82,18 @@ impl DynRenderer for Pbm {
         code: &dyn ModuleSource,
         config: &RenderConfig,
     ) -> Result<RenderOutput, PluginError> {
-        let options = image_options(alloc, config)?;
-        match Picture::of_grid(code, options) {
-            Some(picture) => Ok(RenderOutput::Bytes(pbm(alloc, &picture)?)),
-            None => Err(too_large(alloc)),
-        }
+        render_as(alloc, Format::Pbm, code, config)
     }
 
     fn validate_config(&self, alloc: Global, config: &RenderConfig) -> Result<(), PluginError> {
-        image_options(alloc, config)?;
-        Ok(())
+        validate_as(alloc, Format::Pbm, config)
     }
 }
 
 impl DynRenderer for Png {
-    ghost renders = { λ _. Renders IMAGE_SCALE ShowsPng IsNoImageOption };
+    ghost renders = { λ _. Renders Format.Png };
 
-    ghost validates = { λ _. Validates IMAGE_SCALE AsksForImage IsNoImageOption };
+    ghost validates = { λ _. Validates Format.Png };
 
     fn render(
         &self,
@@ -123,23 +101,18 @@ impl DynRenderer for Png {
         code: &dyn ModuleSource,
         config: &RenderConfig,
     ) -> Result<RenderOutput, PluginError> {
-        let options = image_options(alloc, config)?;
-        match Picture::of_grid(code, options) {
-            Some(picture) => Ok(RenderOutput::Bytes(png(alloc, &picture, None)?)),
-            None => Err(too_large(alloc)),
-        }
+        render_as(alloc, Format::Png, code, config)
     }
 
     fn validate_config(&self, alloc: Global, config: &RenderConfig) -> Result<(), PluginError> {
-        image_options(alloc, config)?;
-        Ok(())
+        validate_as(alloc, Format::Png, config)
     }
 }
 
 impl DynRenderer for Eps {
-    ghost renders = { λ _. Renders IMAGE_SCALE ShowsEps IsNoImageOption };
+    ghost renders = { λ _. Renders Format.Eps };
 
-    ghost validates = { λ _. Validates IMAGE_SCALE AsksForImage IsNoImageOption };
+    ghost validates = { λ _. Validates Format.Eps };
 
     fn render(
         &self,
@@ -147,23 +120,18 @@ impl DynRenderer for Eps {
         code: &dyn ModuleSource,
         config: &RenderConfig,
     ) -> Result<RenderOutput, PluginError> {
-        let options = image_options(alloc, config)?;
-        match Picture::of_grid(code, options) {
-            Some(picture) => Ok(RenderOutput::Text(eps(alloc, &picture, None)?)),
-            None => Err(too_large(alloc)),
-        }
+        render_as(alloc, Format::Eps, code, config)
     }
 
     fn validate_config(&self, alloc: Global, config: &RenderConfig) -> Result<(), PluginError> {
-        image_options(alloc, config)?;
-        Ok(())
+        validate_as(alloc, Format::Eps, config)
     }
 }
 
 impl DynRenderer for EscPos {
-    ghost renders = { λ _. Renders IMAGE_SCALE ShowsEscPos IsNoImageOption };
+    ghost renders = { λ _. Renders Format.EscPos };
 
-    ghost validates = { λ _. Validates IMAGE_SCALE AsksForImage IsNoImageOption };
+    ghost validates = { λ _. Validates Format.EscPos };
 
     fn render(
         &self,
@@ -171,23 +139,18 @@ impl DynRenderer for EscPos {
         code: &dyn ModuleSource,
         config: &RenderConfig,
     ) -> Result<RenderOutput, PluginError> {
-        let options = image_options(alloc, config)?;
-        match Picture::of_grid(code, options) {
-            Some(picture) => Ok(RenderOutput::Bytes(escpos(alloc, &picture)?)),
-            None => Err(too_large(alloc)),
-        }
+        render_as(alloc, Format::EscPos, code, config)
     }
 
     fn validate_config(&self, alloc: Global, config: &RenderConfig) -> Result<(), PluginError> {
-        image_options(alloc, config)?;
-        Ok(())
+        validate_as(alloc, Format::EscPos, config)
     }
 }
 
 impl DynRenderer for Zpl {
-    ghost renders = { λ _. Renders IMAGE_SCALE ShowsZpl IsNoImageOption };
+    ghost renders = { λ _. Renders Format.Zpl };
 
-    ghost validates = { λ _. Validates IMAGE_SCALE AsksForImage IsNoImageOption };
+    ghost validates = { λ _. Validates Format.Zpl };
 
     fn render(
         &self,
@@ -195,23 +158,18 @@ impl DynRenderer for Zpl {
         code: &dyn ModuleSource,
         config: &RenderConfig,
     ) -> Result<RenderOutput, PluginError> {
-        let options = image_options(alloc, config)?;
-        match Picture::of_grid(code, options) {
-            Some(picture) => Ok(RenderOutput::Bytes(zpl(alloc, &picture, (0, 0))?)),
-            None => Err(too_large(alloc)),
-        }
+        render_as(alloc, Format::Zpl, code, config)
     }
 
     fn validate_config(&self, alloc: Global, config: &RenderConfig) -> Result<(), PluginError> {
-        image_options(alloc, config)?;
-        Ok(())
+        validate_as(alloc, Format::Zpl, config)
     }
 }
 
 impl DynRenderer for Terminal {
-    ghost renders = { λ _. Renders TEXT_SCALE ShowsTerminal IsNoTextOption };
+    ghost renders = { λ _. Renders Format.Terminal };
 
-    ghost validates = { λ _. Validates TEXT_SCALE AsksForText IsNoTextOption };
+    ghost validates = { λ _. Validates Format.Terminal };
 
     fn render(
         &self,
@@ -219,47 +177,45 @@ impl DynRenderer for Terminal {
         code: &dyn ModuleSource,
         config: &RenderConfig,
     ) -> Result<RenderOutput, PluginError> {
-        let (options, inverted) = text_options(alloc, config)?;
-        match Picture::of_grid(code, options) {
-            Some(picture) => Ok(RenderOutput::Text(terminal(alloc, &picture, inverted)?)),
-            None => Err(too_large(alloc)),
-        }
+        render_as(alloc, Format::Terminal, code, config)
     }
 
     fn validate_config(&self, alloc: Global, config: &RenderConfig) -> Result<(), PluginError> {
-        text_options(alloc, config)?;
-        Ok(())
+        validate_as(alloc, Format::Terminal, config)
     }
 }
 
-/// Returns the options of an image, which cannot be inverted.
-fn image_options(alloc: Global, config: &RenderConfig) -> Result<RenderOptions, PluginError>
-    ensures asked { IfOk result (λ options.
-        Asks IMAGE_SCALE (render_options config.now) options.scale options.quiet) }
-    ensures plain { OnOk result (AsksForImage (render_options config.now)) }
-    ensures refused { IfErr result
-        (IsOptionRefusal (IsNoImageOption (render_options config.now))) }
+/// Returns the picture of a grid in a format, as a configuration asks for it.
+fn render_as(
+    alloc: Global,
+    format: Format,
+    code: &dyn ModuleSource,
+    config: &RenderConfig,
+) -> Result<RenderOutput, PluginError>
+    ensures { Renders format (grid code.now) config.now result }
 {
-    let options = RenderOptions::of_config(alloc, config, IMAGE_SCALE)?;
-    if config.option("inverted").is_some() {
-        return Err(invalid_option(alloc, Setting::Inverted));
+    let options = DrawOptions::of_config(alloc, format, config)?;
+    match Picture::of_grid(code, shape(&options)) {
+        Some(picture) => Ok(output_of(draw_as(alloc, &picture, &options)?)),
+        None => Err(too_large(alloc)),
     }
-    Ok(options)
 }
 
-/// Returns the options of text, and whether it is inverted.
-fn text_options(alloc: Global, config: &RenderConfig) -> Result<(RenderOptions, bool), PluginError>
-    ensures asked { IfOk result (λ r.
-        Asks TEXT_SCALE (render_options config.now) r.0.scale r.0.quiet) }
-    ensures inverted { IfOk result (λ r.
-        AsksFlag (at_key (render_options config.now) (codes "inverted")) r.1) }
-    ensures refused { IfErr result
-        (IsOptionRefusal (IsNoTextOption (render_options config.now))) }
+/// Returns whether a renderer of a format accepts a configuration.
+fn validate_as(alloc: Global, format: Format, config: &RenderConfig) -> Result<(), PluginError>
+    ensures { Validates format config.now result }
 {
-    let options = RenderOptions::of_config(alloc, config, TEXT_SCALE)?;
-    match flag(config, "inverted") {
-        Some(inverted) => Ok((options, inverted)),
-        None => Err(invalid_option(alloc, Setting::Inverted)),
+    DrawOptions::of_config(alloc, format, config)?;
+    Ok(())
+}
+
+/// Returns a picture as the output of a renderer.
+fn output_of(drawn: Drawn) -> RenderOutput
+    ensures { IsOutput (is_drawn_text drawn) (drawn_bytes drawn) result }
+{
+    match drawn {
+        Drawn::Text(text) => RenderOutput::Text(text),
+        Drawn::Bytes(bytes) => RenderOutput::Bytes(bytes),
     }
 }
 

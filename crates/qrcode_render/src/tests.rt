@@ -8,7 +8,7 @@ use qrcode_core::types::Color;
 use std::alloc::Global;
 
 /// Three columns and two rows: dark, light, dark; dark, dark, light.
-const CELLS: [Color; 6] = [
+pub(crate) const CELLS: [Color; 6] = [
     Color::Dark,
     Color::Light,
     Color::Dark,
@@ -18,7 +18,7 @@ const CELLS: [Color; 6] = [
 ];
 
 /// Returns the output of a renderer for some columns and rows of modules, with these options.
-fn drawn(
+pub(crate) fn drawn(
     alloc: Global,
     renderer: &dyn DynRenderer,
     cells: &[Color],
@@ -36,7 +36,7 @@ fn drawn(
 }
 
 /// Returns the bytes of an output.
-fn bytes_of(output: &RenderOutput) -> &[u8] {
+pub(crate) fn bytes_of(output: &RenderOutput) -> &[u8] {
     match output {
         RenderOutput::Text(text) => text.as_bytes(),
         RenderOutput::Bytes(bytes) => bytes,
@@ -117,7 +117,7 @@ fn draws_svg(rt: HostRuntime) -> Result<(), PluginError> {
 }
 
 /// Whether the result is `InvalidConfig` with this name.
-fn names<T>(answer: &Result<T, PluginError>, name: &str) -> bool {
+pub(crate) fn names<T>(answer: &Result<T, PluginError>, name: &str) -> bool {
     match answer {
         Err(PluginError::InvalidConfig(what)) => what.as_str() == name,
         _ => false,

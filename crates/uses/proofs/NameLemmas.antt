@@ -7,7 +7,7 @@ use Rattle.qrcode_core.specs.Registries.{Registered, nothing_registered, with_re
 use Rattle.qrcode_core.specs.{declared.plugin.config.RenderConfig.RenderConfig, declared.plugin.error.PluginError.PluginError}
 use Rattle.qrcode_core.specs.{declared.plugin.error.PluginError.TheVariants.InvalidConfig, declared.plugin.error.PluginError.TheVariants.OutOfMemory}
 use Rattle.qrcode_core.specs.{declared.plugin.output.RenderOutput.RenderOutput, Grids.Grid, Plugins.TextMap, Plugins.at_key, Plugins.text_cmp}
-use Rattle.qrcode_render.specs.{Pictures.Picture, Rendered.Renders, Rendered.Validates}
+use Rattle.qrcode_render.specs.{declared.format.Format.Format, Rendered.Renders, Rendered.Validates}
 
 -- the three, in the order of their names
 abbrev pub three : {V : Type 0} → (svg pbm terminal : V) → TextMap V
@@ -51,18 +51,15 @@ pub nothing_there : {A : Type 0} {F : A → Type 0} (m n : TextMap (DynBox A Glo
 nothing_there m n name Q same none h = rw (same, none) at h
 
 -- a configuration that `validate_config` rejects is rejected by the renderer
-refused_alike : (default : ℕ) (Shows : TextMap (List ℕ) → Picture → RenderOutput → Type 0) (Accepts : TextMap (List ℕ) → Type 0)
-    (Invalid : TextMap (List ℕ) → List ℕ → Type 0) (grid : Grid) (config : RenderConfig) (error : PluginError)
-    → Validates default Accepts Invalid config (Err error) → Renders default Shows Invalid grid config (Err error)
-refused_alike default Shows Accepts Invalid grid config (InvalidConfig s) h = h
-refused_alike default Shows Accepts Invalid grid config OutOfMemory h = tt
-refused_alike default Shows Accepts Invalid grid config other h = absurd h
+refused_alike : (format : Format) (grid : Grid) (config : RenderConfig) (error : PluginError) → Validates format config (Err error) →
+    Renders format grid config (Err error)
+refused_alike format grid config (InvalidConfig s) h = h
+refused_alike format grid config OutOfMemory h = tt
+refused_alike format grid config other h = absurd h
 
 -- the result for a name, where the renderer draws or its `validate_config` fails
-pub drawn_by_name : (default : ℕ) (Shows : TextMap (List ℕ) → Picture → RenderOutput → Type 0) (Accepts : TextMap (List ℕ) → Type 0)
-    (Invalid : TextMap (List ℕ) → List ℕ → Type 0) (grid : Grid) (config : RenderConfig) (answer : Result RenderOutput PluginError)
-    → Renders default Shows Invalid grid config answer ⊎ ((error : PluginError) × (answer ≡ Err error) × Validates default Accepts Invalid config (Err error))
-    → Renders default Shows Invalid grid config answer
-drawn_by_name default Shows Accepts Invalid grid config answer (inl drawn) = drawn
-drawn_by_name default Shows Accepts Invalid grid config answer (inr (error, is, refused)) =
-    rw is (refused_alike default Shows Accepts Invalid grid config error refused)
+pub drawn_by_name : (format : Format) (grid : Grid) (config : RenderConfig) (answer : Result RenderOutput PluginError)
+    → Renders format grid config answer ⊎ ((error : PluginError) × (answer ≡ Err error) × Validates format config (Err error))
+    → Renders format grid config answer
+drawn_by_name format grid config answer (inl drawn) = drawn
+drawn_by_name format grid config answer (inr (error, is, refused)) = rw is (refused_alike format grid config error refused)
