@@ -99,7 +99,7 @@ fn names_what_does_not_stand_together(rt: HostRuntime) {
     }
 }
 
-/// Returns what is said of an element of this identifier with a value of this many characters.
+/// Returns the error of an element of this identifier whose value has this length.
 fn of_length(alloc: Global, length: usize) -> Option<TogetherError> {
     let mut text = String::from_str(alloc, "(91)").ok()?;
     for _ in 0..length {
