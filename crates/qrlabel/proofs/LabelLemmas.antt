@@ -203,7 +203,7 @@ files_more name n (Ok d ∷ ds) e =
 files_more name n (Err s ∷ ds) e =
     files_more name (n + 1) ds e ∙ ap (λ m. files_of name (n + 1) ds ++ files_of name m (e ∷ [])) (omega arith)
 
-adds_append : (a b c : Option (List (List ℕ × List ℕ))) (fs gs : List (List ℕ × List ℕ)) → AddsFiles a b fs → AddsFiles b c gs → AddsFiles a c (fs ++ gs)
+pub adds_append : (a b c : Option (List (List ℕ × List ℕ))) (fs gs : List (List ℕ × List ℕ)) → AddsFiles a b fs → AddsFiles b c gs → AddsFiles a c (fs ++ gs)
 adds_append a b c fs gs h k = grind (arith, append_assoc)
 
 pub folder_none : (name : Numbering) (f : FilesState) (e : SinkState) (n : ℕ) →

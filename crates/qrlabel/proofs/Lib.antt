@@ -1,6 +1,5 @@
+pub mod DetailsLemmas
 pub mod LabelLemmas
-pub mod NumberLemmas
 pub mod PartLemmas
 pub mod StopLemmas
-pub mod TellLemmas
 pub mod WordLemmas

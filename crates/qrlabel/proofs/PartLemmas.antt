@@ -1,5 +1,5 @@
 -- The labels of the symbols that carry a message together.
-use Rattle.std.proofs.Common.{◌≡◌, ◌+◌, ◌<◌, ◌⊎◌, ℕ, Option, None, List, [], ◌∷◌, ◌++◌, length, take, get_or, append-nil, append_assoc}
+use Rattle.std.proofs.Common.{◌≡◌, ◌+◌, ◌<◌, ◌⊎◌, ℕ, Option, None, List, [], ◌∷◌, ◌++◌, length, take, get_or, append-nil}
 use Rattle.std.proofs.Common.{inl, inr, true, false, refl, ap, ◌∙◌, arith, subst}
 use Rattle.std.specs.Prelude.{Err, Vec, map, vec_items, nat_abs}
 use Rattle.std.specs.Str.{IsUtf8}
@@ -26,6 +26,7 @@ use Rattle.qrlabel.specs.{Labels.ShowsSymbol, Names.Numbering, Names.numbered, P
 use Rattle.qrlabel.specs.{Parts.IsEmptyStop, Parts.IsOtherStop, Parts.IsSequenceStop, Labels.IsLabelData}
 use Rattle.qrlabel.specs.{Runs.AreDrawings, Runs.IsPartsOutcome}
 use Rattle.qrlabel.proofs.StopLemmas.{neither}
+use Rattle.qrlabel.proofs.LabelLemmas.{adds_append}
 
 -- a symbol more is shown
 pub ShowEach-more : (label : Label) (options : DrawOptions) (symbols : List DrawnSymbol) (drawings : List (List ℕ)) (s : DrawnSymbol) (d : List ℕ) →
@@ -43,9 +44,6 @@ part_files-more name n [] d = ap (λ m. (numbered name m, d) ∷ []) (omega arit
 part_files-more name n (x ∷ xs) d =
     ap (λ rest. (numbered name n, x) ∷ rest)
     (part_files-more name (n + 1) xs d ∙ ap (λ m. part_files name (n + 1) xs ++ (numbered name m, d) ∷ []) (omega arith))
-
-adds_append : (a b c : Option (List (List ℕ × List ℕ))) (fs gs : List (List ℕ × List ℕ)) → AddsFiles a b fs → AddsFiles b c gs → AddsFiles a c (fs ++ gs)
-adds_append a b c fs gs h k = grind (arith, append_assoc)
 
 pub adds_none : (a : Option (List (List ℕ × List ℕ))) → AddsFiles a a []
 adds_none a = grind (arith, append-nil)
@@ -86,7 +84,7 @@ no_device_content label content fault is (inr (some, inl (short, inl h))) = grin
 no_device_content label content fault is (inr (some, inl (short, inr h))) = neither label.content label.symbol content fault is h
 no_device_content label content fault is (inr (some, inr (long, inl h))) = grind (arith, is, h.0)
 no_device_content label content fault is (inr (some, inr (long, inr (inl h)))) = grind (arith, h.0)
-no_device_content label content fault is (inr (some, inr (long, inr (inr (error, same, h))))) = grind (arith, is, same)
+no_device_content label content fault is (inr (some, inr (long, inr (inr (other, (error, same, h)))))) = grind (arith, is, same)
 
 pub no_device_message : (label : Label) (bytes : List ℕ) (fault : FaultOf) → (fault ≡ Read) ⊎ (fault ≡ Write) → IsMessageStop label bytes (Fault fault) → ⊥
 no_device_message label bytes fault is (inl h) = grind (arith, h.0)
@@ -112,14 +110,14 @@ puts_none label options r s f name path bytes TooManyParts read is sound whole =
     record { puts = inl ((λ other. record { bytes = bytes; read = read; stopped = is }), adds_none f.files); read = grind (arith, sound); write = grind (arith, whole) }
 
 -- files of some drawings were written
-pub puts_some : (label : Label) (options : DrawOptions) (r s : SourceState) (f e : FilesState) (name : Numbering) (path : List ℕ) (ds : List (List ℕ)) (said : List ℕ) (stop : Stop) →
-    AreDrawings label options (input r s) ds said → PutsSome name ds f e stop path → s.failed ≡ false →
+pub puts_some : (label : Label) (options : DrawOptions) (r s : SourceState) (f e : FilesState) (name : Numbering) (path : List ℕ) (ds : List (List ℕ)) (details : List ℕ) (stop : Stop) →
+    AreDrawings label options (input r s) ds details → PutsSome name ds f e stop path → s.failed ≡ false →
     ((stop ≡ Fault Write) × (e.failed ≡ true)) ⊎ ((stop ≡ Fault (Symbol OutOfMemory)) × (e.failed ≡ false)) →
     IsPartsOutcome label options (input r s) f e name path (Err stop)
-puts_some label options r s f e name path ds said stop are some sound (inl why) =
-    rw (why.0) (record { puts = (ds, said, are, rw (why.0) at some); read = grind (arith, sound); write = grind (arith, why.1) })
-puts_some label options r s f e name path ds said stop are some sound (inr why) =
-    rw (why.0) (record { puts = inr (ds, said, are, rw (why.0) at some); read = grind (arith, sound); write = grind (arith, why.1) })
+puts_some label options r s f e name path ds details stop are some sound (inl why) =
+    rw (why.0) (record { puts = (ds, details, are, rw (why.0) at some); read = grind (arith, sound); write = grind (arith, why.1) })
+puts_some label options r s f e name path ds details stop are some sound (inr why) =
+    rw (why.0) (record { puts = inr (ds, details, are, rw (why.0) at some); read = grind (arith, sound); write = grind (arith, why.1) })
 
 -- ---- Lists of what programs hold
 
@@ -163,7 +161,7 @@ puts_none_or label options r s f name path bytes stop read (inl memory) sound wh
     rw memory (record { puts = inl ((λ other. absurd (other refl)), adds_none f.files); read = grind (arith, sound); write = grind (arith, whole) })
 puts_none_or label options r s f name path bytes stop read (inr is) sound whole = puts_none label options r s f name path bytes stop read is sound whole
 
-pub puts_first : (label : Label) (options : DrawOptions) (r s : SourceState) (f e : FilesState) (name : Numbering) (path : List ℕ) (ds : List (List ℕ)) (said : List ℕ) (stop : Stop) →
-    AreDrawings label options (input r s) ds said → PutsSome name ds f e stop path → s.failed ≡ false → IsPartsOutcome label options (input r s) f e name path (Err stop)
-puts_first label options r s f e name path ds said stop are some sound =
-    puts_some label options r s f e name path ds said stop are some sound (elim some.why [ inl why ↦ inl (why.0, why.1) | inr why ↦ inr why ])
+pub puts_first : (label : Label) (options : DrawOptions) (r s : SourceState) (f e : FilesState) (name : Numbering) (path : List ℕ) (ds : List (List ℕ)) (details : List ℕ) (stop : Stop) →
+    AreDrawings label options (input r s) ds details → PutsSome name ds f e stop path → s.failed ≡ false → IsPartsOutcome label options (input r s) f e name path (Err stop)
+puts_first label options r s f e name path ds details stop are some sound =
+    puts_some label options r s f e name path ds details stop are some sound (elim some.why [ inl why ↦ inl (why.0, why.1) | inr why ↦ inr why ])

@@ -22,10 +22,10 @@ use Rattle.qrlabel.specs.declared.stop.{Stop.Stop, Stop.TheVariants.Fault, Stop.
 use Rattle.qrlabel.specs.declared.stop.{Stop.TheVariants.NotAscii, Stop.TheVariants.TooLong, Stop.TheVariants.TooManyParts}
 use Rattle.qrlabel.specs.declared.stop.TooLong.{TooLong as TooLongOf}
 use Rattle.qrlabel.specs.{Contents.IsStopAs, Contents.IsSymbolAs, Contents.IsNoUtf8, Contents.is_bracketed}
-use Rattle.qrlabel.specs.{Labels.IsLabelStop, Labels.IsLabelData, Labels.IsContentStop, Labels.is_too_long, Labels.telling}
+use Rattle.qrlabel.specs.{Labels.IsLabelStop, Labels.IsLabelData, Labels.IsContentStop, Labels.is_too_long, Labels.details_label}
 use Rattle.qrlabel.specs.{Parts.IsMessageStop, Rooms.IsTooLongAs, Rooms.IsTooLongForAny}
 use Rattle.qrlabel.specs.{Parts.IsOtherStop, Runs.Drawer, Runs.IsLabelOutcome}
-use Rattle.qrlabel.specs.{Tells.TellsNot, Tells.HasNoData, Tells.AreNoElements}
+use Rattle.qrlabel.specs.{Details.IsDetailsStop, Details.HasNoData, Details.AreNoElements}
 
 keeps : (a : Option (List ℕ)) → Keeps a a
 keeps None = tt
@@ -64,7 +64,7 @@ writes_none drawer r s w bytes (TooLong t) no_device read is sound whole =
 writes_none drawer r s w bytes TooManyParts no_device read is sound whole =
     record { writes = ((λ other. record { bytes = bytes; read = read; stopped = is }), keeps w.written); read = grind (arith, sound); write = grind (arith, whole) }
 
--- ---- Nothing is told of a content
+-- ---- There are no details of a content
 
 -- an error of bytes that are no text is not their length
 no_utf8_short : (bytes : List ℕ) (e : QrError) → IsNoUtf8 bytes e → is_too_long (Fault (Symbol e)) ≡ false
@@ -116,27 +116,27 @@ content_stop label content TooManyParts some short is not_empty not_long = (some
 content_stop label content Empty some short is not_empty not_long = absurd (not_empty refl)
 content_stop label content (TooLong t) some short is not_empty not_long = absurd (not_long t refl)
 
-pub not_told : (label : Label) (content : List ℕ) (stop : Stop) (grid : List Color) → length content ≤ LONGEST_DATA → IsLabelData label content →
-    IsSymbolAs label.content label.symbol content grid → TellsNot label (Some content) stop → IsContentStop label content stop
-not_told label content stop grid short some is (inl h) = rw h (some, refl, inl (refl, (grid, is)))
-not_told label content stop grid short some is (inr h) =
+pub no_details : (label : Label) (content : List ℕ) (stop : Stop) (grid : List Color) → length content ≤ LONGEST_DATA → IsLabelData label content →
+    IsSymbolAs label.content label.symbol content grid → IsDetailsStop label (Some content) stop → IsContentStop label content stop
+no_details label content stop grid short some is (inl h) = rw h (some, refl, inl (refl, (grid, is)))
+no_details label content stop grid short some is (inr h) =
     let reason = has_no_data label.content label.symbol content stop short h in
     content_stop label content stop some reason.0 reason.1 reason.2 reason.3
 
 -- the same of a message
-pub message_not_told : (label : Label) (content : List ℕ) (stop : Stop) (grid : List Color) → length content ≤ LONGEST_DATA →
-    IsSymbolAs label.content label.symbol content grid → TellsNot label (Some content) stop → IsOtherStop label content stop
-message_not_told label content stop grid short is (inl h) = rw h (refl, inl (refl, (grid, is)))
-message_not_told label content stop grid short is (inr h) =
+pub message_no_details : (label : Label) (content : List ℕ) (stop : Stop) (grid : List Color) → length content ≤ LONGEST_DATA →
+    IsSymbolAs label.content label.symbol content grid → IsDetailsStop label (Some content) stop → IsOtherStop label content stop
+message_no_details label content stop grid short is (inl h) = rw h (refl, inl (refl, (grid, is)))
+message_no_details label content stop grid short is (inr h) =
     let reason = has_no_data label.content label.symbol content stop short h in (reason.0, inr reason.1)
 
--- ---- The telling label
+-- ---- The details_label label
 
-told_long_any : (label : Label) (t : TooLongOf) → IsTooLongForAny (telling label) t → IsTooLongForAny label t
-told_long_any label t h = record { many = h.many; version_is = h.version_is; level_is = h.level_is; fits = h.fits; splits = h.splits }
+details_long_any : (label : Label) (t : TooLongOf) → IsTooLongForAny (details_label label) t → IsTooLongForAny label t
+details_long_any label t h = record { many = h.many; version_is = h.version_is; level_is = h.level_is; fits = h.fits; splits = h.splits }
 
-told_long : (label : Label) (content : List ℕ) (t : TooLongOf) → IsTooLongAs (telling label) content t → IsTooLongAs label content t
-told_long label content t h = record {
+details_long : (label : Label) (content : List ℕ) (t : TooLongOf) → IsTooLongAs (details_label label) content t → IsTooLongAs label content t
+details_long label content t h = record {
   length_is = h.length_is;
   version_is = h.version_is;
   level_is = h.level_is;
@@ -148,23 +148,23 @@ told_long label content t h = record {
   splits = h.splits;
 }
 
-told_content : (label : Label) (content : List ℕ) (stop : Stop) → IsContentStop (telling label) content stop → IsContentStop label content stop
-told_content label content (Fault fault) h = h
-told_content label content (Elements at) h = h
-told_content label content Empty h = h
-told_content label content NotAscii h = h
-told_content label content TooManyParts h = h
-told_content label content (TooLong t) h = (h.0, told_long label content t h.1, h.2)
+details_content : (label : Label) (content : List ℕ) (stop : Stop) → IsContentStop (details_label label) content stop → IsContentStop label content stop
+details_content label content (Fault fault) h = h
+details_content label content (Elements at) h = h
+details_content label content Empty h = h
+details_content label content NotAscii h = h
+details_content label content TooManyParts h = h
+details_content label content (TooLong t) h = (h.0, details_long label content t h.1, h.2)
 
-pub told_stop : (label : Label) (bytes : List ℕ) (stop : Stop) → IsLabelStop (telling label) bytes stop → IsLabelStop label bytes stop
-told_stop label bytes stop (inl h) =
-    inl (record { many = h.many; too_long = h.too_long; is_too_long = told_long_any label h.too_long h.is_too_long; stop_is = h.stop_is })
-told_stop label bytes stop (inr h) =
-    inr (record { short = h.short; content = h.content; content_is = h.content_is; stopped = told_content label h.content stop h.stopped })
+pub details_stop : (label : Label) (bytes : List ℕ) (stop : Stop) → IsLabelStop (details_label label) bytes stop → IsLabelStop label bytes stop
+details_stop label bytes stop (inl h) =
+    inl (record { many = h.many; too_long = h.too_long; is_too_long = details_long_any label h.too_long h.is_too_long; stop_is = h.stop_is })
+details_stop label bytes stop (inr h) =
+    inr (record { short = h.short; content = h.content; content_is = h.content_is; stopped = details_content label h.content stop h.stopped })
 
-pub told_message : (label : Label) (bytes : List ℕ) (stop : Stop) → IsMessageStop (telling label) bytes stop → IsMessageStop label bytes stop
-told_message label bytes stop (inl h) = inl h
-told_message label bytes stop (inr h) = inr (record { short = h.short; content = h.content; content_is = h.content_is; stopped = h.stopped })
+pub details_stop_message : (label : Label) (bytes : List ℕ) (stop : Stop) → IsMessageStop (details_label label) bytes stop → IsMessageStop label bytes stop
+details_stop_message label bytes stop (inl h) = inl h
+details_stop_message label bytes stop (inr h) = inr (record { short = h.short; content = h.content; content_is = h.content_is; stopped = h.stopped })
 
 -- ---- Results
 
@@ -207,13 +207,13 @@ writes_none_or drawer r s w bytes stop no_device read (inl memory) sound whole =
 writes_none_or drawer r s w bytes stop no_device read (inr is) sound whole = writes_none drawer r s w bytes stop no_device read is sound whole
 
 -- all was written, or a beginning
-pub writes_all : (drawer : Drawer) (r s : SourceState) (v w : SinkState) (bytes drawing said : List ℕ) → ReadsUpTo drawer.most (input r s) bytes → length bytes ≤ drawer.most →
-    drawer.shows bytes drawing → drawer.says bytes said → Writes (output v w) drawing → w.flushed ≡ w.written → s.failed ≡ false → w.failed ≡ false →
-    IsLabelOutcome drawer (input r s) (output v w) (Ok said)
-writes_all drawer r s v w bytes drawing said read short shows says writes flushed sound whole = record {
+pub writes_all : (drawer : Drawer) (r s : SourceState) (v w : SinkState) (bytes drawing details : List ℕ) → ReadsUpTo drawer.most (input r s) bytes → length bytes ≤ drawer.most →
+    drawer.shows bytes drawing → drawer.details bytes details → Writes (output v w) drawing → w.flushed ≡ w.written → s.failed ≡ false → w.failed ≡ false →
+    IsLabelOutcome drawer (input r s) (output v w) (Ok details)
+writes_all drawer r s v w bytes drawing details read short shows are writes flushed sound whole = record {
   writes = record {
     drawing = drawing;
-    is_drawing = record { bytes = bytes; read = ReadsAll-short drawer.most (input r s) bytes read short; shown = (shows, says) };
+    is_drawing = record { bytes = bytes; read = ReadsAll-short drawer.most (input r s) bytes read short; shown = (shows, are) };
     appends = writes.whole whole;
     flushed = flushed;
   };

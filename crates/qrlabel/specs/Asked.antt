@@ -66,7 +66,7 @@ label_of drawn = record {
   target = drawn.target.now;
   colored = drawn.colored;
   turn = drawn.turn;
-  tells = drawn.tells;
+  details = drawn.details;
   dpi = drawn.dpi;
 }
 

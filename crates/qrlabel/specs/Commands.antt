@@ -23,8 +23,8 @@ use Rattle.qrlabel.specs.declared.words.Name.TheVariants.{MinVersion, MaxVersion
 use Rattle.qrlabel.specs.declared.words.Name.TheVariants.{ModuleMm, Dpi, Inverted, Title, At, Read}
 use Rattle.qrlabel.specs.declared.words.Name.TheVariants.{Output, AllowEmpty, Help, Version, Lines}
 use Rattle.qrlabel.specs.declared.words.Name.TheVariants.{First, KeepGoing, KeepNewline}
-use Rattle.qrlabel.specs.declared.command.Tells.{Tells}
-use Rattle.qrlabel.specs.declared.command.Tells.TheVariants.{Nothing, Beside, Alone}
+use Rattle.qrlabel.specs.declared.command.Details.{Details}
+use Rattle.qrlabel.specs.declared.command.Details.TheVariants.{Nothing, Beside, Alone}
 use Rattle.qrlabel.specs.declared.command.Turn.{Turn}
 use Rattle.qrlabel.specs.declared.command.Turn.TheVariants.{Upright}
 use Rattle.qrlabel.specs.declared.words.Name.TheVariants.{Copies, Compressed, Feed, Cut, Split, Rotate}
@@ -32,7 +32,7 @@ use Rattle.qrlabel.specs.declared.words.Name.TheVariants.{Verbose, Info, Dark, L
 use Rattle.qrlabel.specs.Choices.{level_named, content_named, turn_named, format_named, format_of_ending}
 use Rattle.qrlabel.specs.Choices.{is_micro, has_dots, is_png, is_stream, can_be_split, is_text, is_terminal}
 use Rattle.qrlabel.specs.Names.{Numbering, numbering_in}
-use Rattle.qrlabel.specs.Numbers.{number_in, hundredths_in, place_in, halves}
+use Rattle.qrcode_render.specs.OptionWords.{word_number, word_hundredths, word_position, parts_at}
 use Rattle.qrlabel.specs.Words.{Values, value_of, file_of, is_given, Wrong, invalid}
 use Rattle.qrlabel.specs.Words.{needs_stream, needs_file}
 
@@ -73,10 +73,10 @@ content_asked = asked_or content_named Auto Content
 abbrev pub turn_asked : Values → Result Turn Wrong
 turn_asked = asked_or turn_named Upright Rotate
 
--- What is told of symbols alone is written to standard output. Beside labels it is written to
--- standard error, where lines that are left out are reported.
-abbrev pub tells_asked : Values → Result Tells Wrong
-tells_asked values =
+-- The details alone are written to standard output. Beside labels they are written to standard
+-- error, where lines that are left out are reported.
+abbrev pub details_asked : Values → Result Details Wrong
+details_asked values =
     if is_given values Info then (if is_some (file_of values Output) then Err (invalid Info) else Ok Alone)
     else (if not (is_given values Verbose) then Ok Nothing
     else (if is_given values Lines then Err (invalid Verbose) else Ok Beside))
@@ -96,20 +96,20 @@ format_asked on_terminal values =
 -- The number of a Normal version.
 abbrev pub version_in : List ℕ → Option ℤ
 version_in word =
-    elim (number_in word) [ Some n ↦ (if nat_le 1 n && nat_le n 40 then Some (pos n) else None) | None ↦ None ]
+    elim (word_number word) [ Some n ↦ (if nat_le 1 n && nat_le n 40 then Some (pos n) else None) | None ↦ None ]
 
 abbrev pub version_asked : Name → ℤ → Values → Result ℤ Wrong
 version_asked name default = asked_or version_in default name
 
 abbrev pub number_asked : Name → Values → Result (Option ℕ) Wrong
-number_asked = asked number_in
+number_asked = asked word_number
 
 -- The size of a module in hundredths of a millimetre.
 abbrev pub module_asked : Values → Result (Option ℕ) Wrong
-module_asked = asked hundredths_in ModuleMm
+module_asked = asked word_hundredths ModuleMm
 
 abbrev pub place_asked : Values → Result (Option (ℕ × ℕ)) Wrong
-place_asked = asked place_in At
+place_asked = asked word_position At
 
 -- The color of the dark modules, and the ground.
 abbrev pub dark_asked : Values → Result (Option Rgb) Wrong
@@ -240,9 +240,9 @@ numbered_output values = option_and_then numbering_in (value_of values Output)
 
 -- Whether the name of the output has a percent sign.
 abbrev pub has_percent : Values → Bool
-has_percent values = is_some (option_and_then (halves 37) (value_of values Output))
+has_percent values = is_some (option_and_then (parts_at 37) (value_of values Output))
 
--- Whether labels can follow each other: what is told of symbols always can.
+-- Whether labels can follow each other: the details of symbols always can.
 abbrev pub can_follow : FormatOf → Values → Bool
 can_follow format values = is_stream format || is_given values Info
 
@@ -283,7 +283,7 @@ terminal_asked on_terminal format values =
 -- The number of the first line.
 abbrev pub first_in : Values → List ℕ → Option ℕ
 first_in values word =
-    elim (number_in word) [
+    elim (word_number word) [
       | Some n ↦ (if nat_le n MAX_FIRST && is_given values Lines then Some n else None)
       | None ↦ None
     ]
@@ -319,7 +319,7 @@ colored_asked on_terminal format values =
 -- bytes is drawn, whether a text is trimmed, what of the input the label shows, the number of the
 -- first line, whether a line that has no label is left out, how errors call the input and the
 -- output, whether a text for a terminal has colors of its own, by how much the symbol is turned,
--- whether it is told of, and the dots of an inch.
+-- whether its details are written, and the dots of an inch.
 pub record Label : Type 0 where
   pub content : ContentOf
   pub symbol : SymbolOptions
@@ -334,7 +334,7 @@ pub record Label : Type 0 where
   pub target : List ℕ
   pub colored : Bool
   pub turn : Turn
-  pub tells : Tells
+  pub details : Details
   pub dpi : Option ℕ
 
 abbrev pub label_asked : Bool → Values → Result Label Wrong
@@ -348,7 +348,7 @@ label_asked on_terminal values = do
   first ← first_asked values
   keeps_going ← keeps_going_asked values
   turn ← turn_asked values
-  tells ← tells_asked values
+  details ← details_asked values
   given ← settings_asked values
   wishes ← in_dots format given
   Ok (record {
@@ -365,7 +365,7 @@ label_asked on_terminal values = do
     target = unwrap_or (file_of values Output) (codes "standard output");
     colored = colored_asked on_terminal format values;
     turn = turn;
-    tells = tells;
+    details = details;
     dpi = given.dpi;
   })
 

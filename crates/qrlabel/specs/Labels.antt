@@ -11,10 +11,10 @@ use Rattle.qrcode_render.specs.declared.draw_options.DrawOptions.{DrawOptions}
 use Rattle.qrlabel.specs.Colors.{in_colors}
 use Rattle.qrlabel.specs.Contents.{IsContent, IsSymbolAs, IsStopAs}
 use Rattle.qrlabel.specs.Rooms.{IsTooLongAs, IsTooLongForAny}
-use Rattle.qrlabel.specs.Tells.{TellsSymbol}
+use Rattle.qrlabel.specs.Details.{AreDetails}
 use Rattle.qrlabel.specs.Turns.{turned}
-use Rattle.qrlabel.specs.declared.command.Tells.{Tells}
-use Rattle.qrlabel.specs.declared.command.Tells.TheVariants.{Beside, Alone}
+use Rattle.qrlabel.specs.declared.command.Details.{Details}
+use Rattle.qrlabel.specs.declared.command.Details.TheVariants.{Beside, Alone}
 use Rattle.qrlabel.specs.declared.command.Label.{Label}
 use Rattle.qrlabel.specs.declared.stop.Stop.{Stop}
 use Rattle.qrlabel.specs.declared.stop.Stop.TheVariants.{Fault, Empty, TooLong}
@@ -31,16 +31,16 @@ pub record IsSymbolPicture (label : Label) (options : DrawOptions) (symbol : Dra
   pub drawn : IsPictureOf options (turned label.turn (drawn_grid symbol)) picture
   pub drawing_is : drawing ≡ (if label.colored then in_colors picture else picture)
 
-abbrev pub is_alone : Tells → Bool
+abbrev pub is_alone : Details → Bool
 is_alone Alone = true
 is_alone _ = false
 
--- The drawing shows a symbol, or is what is told of it; `content` is given if the symbol has all of
+-- The drawing shows a symbol, or is its details; `content` is given if the symbol has all of
 -- it.
 abbrev pub ShowsSymbol : Label → DrawOptions → Option (List ℕ) → DrawnSymbol → List ℕ → Type 0
 ShowsSymbol label options content symbol drawing =
-    ((is_alone label.tells ≡ true) × TellsSymbol label options content symbol drawing)
-    ⊎ ((is_alone label.tells ≡ false) × IsSymbolPicture label options symbol drawing)
+    ((is_alone label.details ≡ true) × AreDetails label options content symbol drawing)
+    ⊎ ((is_alone label.details ≡ false) × IsSymbolPicture label options symbol drawing)
 
 -- The drawing shows the symbol of the bytes, or of what of them is content.
 pub record ShowsLabel (label : Label) (options : DrawOptions) (bytes drawing : List ℕ) : Type 0 where
@@ -86,19 +86,19 @@ pub record IsManyBytes (label : Label) (bytes : List ℕ) (stop : Stop) : Type 0
   pub is_too_long : IsTooLongForAny label too_long
   pub stop_is : stop ≡ TooLong too_long
 
--- The same label, of which the symbol is told of alone.
-abbrev pub telling : Label → Label
-telling label = record label { tells = Alone }
+-- The same label, which shows the details of its symbol alone.
+abbrev pub details_label : Label → Label
+details_label label = record label { details = Alone }
 
-abbrev pub is_beside : Tells → Bool
+abbrev pub is_beside : Details → Bool
 is_beside Beside = true
 is_beside _ = false
 
--- What is told beside a drawing: what the telling label shows of the same bytes, if it is asked for.
-abbrev pub IsSaid : Label → (Label → List ℕ → List ℕ → Type 0) → List ℕ → List ℕ → Type 0
-IsSaid label shows bytes said =
-    ((is_beside label.tells ≡ true) × shows (telling label) bytes said)
-    ⊎ ((is_beside label.tells ≡ false) × (said ≡ []))
+-- The details beside a drawing: those of the same bytes, if they are asked for, else nothing.
+abbrev pub AreDetailsBeside : Label → (Label → List ℕ → List ℕ → Type 0) → List ℕ → List ℕ → Type 0
+AreDetailsBeside label shows bytes details =
+    ((is_beside label.details ≡ true) × shows (details_label label) bytes details)
+    ⊎ ((is_beside label.details ≡ false) × (details ≡ []))
 
 -- Why there is no label of the bytes: they are more than 7089, or there is none of their content.
 abbrev pub IsLabelStop : Label → List ℕ → Stop → Type 0

@@ -3,6 +3,7 @@ pub mod Choices
 pub mod Colors
 pub mod Commands
 pub mod Contents
+pub mod Details
 pub mod Faults
 pub mod FileStates
 pub mod Folders
@@ -13,7 +14,6 @@ pub mod Lines
 pub mod MadeOf
 pub mod Misuses
 pub mod Names
-pub mod Numbers
 pub mod Parts
 pub mod Placed
 pub mod Reports
@@ -22,6 +22,5 @@ pub mod Runs
 pub mod Said
 pub mod Settings
 pub mod Stops
-pub mod Tells
 pub mod Turns
 pub mod Words

@@ -112,8 +112,9 @@ AreNotDrawn label content stop =
 abbrev pub IsPartsStop : Label → List ℕ → Stop → Type 0
 IsPartsStop label content stop =
     ((stop ≡ TooManyParts) × IsSequenceFaultAs label.content label.symbol content DataTooLong)
-    ⊎ ((error : QrError) × (stop ≡ Fault (Symbol error))
-    × IsSequenceFaultAs label.content label.symbol content error)
+    ⊎ ((is_too_long stop ≡ false)
+    × ((error : QrError) × (stop ≡ Fault (Symbol error))
+    × IsSequenceFaultAs label.content label.symbol content error))
 
 -- No symbol holds the content, and no symbols together, or memory ran out.
 abbrev pub IsSequenceStop : Label → List ℕ → Stop → Type 0

@@ -18,7 +18,7 @@ use Rattle.qrlabel.specs.Commands.{Command, asks_help, asks_version, asks_label}
 use Rattle.qrlabel.specs.Help.{help_text, version_line}
 use Rattle.qrlabel.specs.FileStates.{FilesState, AddsFiles}
 use Rattle.qrlabel.specs.Folders.{folder, part_files, PutsSome}
-use Rattle.qrlabel.specs.Labels.{ShowsLabel, IsLabelStop, IsSaid}
+use Rattle.qrlabel.specs.Labels.{ShowsLabel, IsLabelStop, AreDetailsBeside}
 use Rattle.qrlabel.specs.Lines.{IsLinesOutcome, Made, Place, stream}
 use Rattle.qrlabel.specs.Misuses.{wrong_line}
 use Rattle.qrlabel.specs.Names.{Numbering, numbered}
@@ -36,11 +36,11 @@ use Rattle.qrlabel.specs.declared.stop.LineStop.{LineStop}
 use Rattle.qrlabel.specs.declared.stop.Stop.{Stop}
 use Rattle.qrlabel.specs.declared.stop.Stop.TheVariants.{Fault}
 
--- What is drawn of the whole input: which drawing shows which bytes, what is said of them beside it,
+-- What is drawn of the whole input: which drawing shows which bytes, which details stand beside it,
 -- why there is none of some bytes, and how many bytes a drawing can show.
 pub record Drawer : Type 1 where
   pub shows : List ℕ → List ℕ → Type 0
-  pub says : List ℕ → List ℕ → Type 0
+  pub details : List ℕ → List ℕ → Type 0
   pub stops : List ℕ → Stop → Type 0
   pub most : ℕ
 
@@ -48,16 +48,16 @@ pub record Drawer : Type 1 where
 abbrev pub one_of : Label → DrawOptions → Drawer
 one_of label options = record {
   shows = ShowsLabel label options;
-  says = IsSaid label (λ told. ShowsLabel told options);
+  details = AreDetailsBeside label (λ other. ShowsLabel other options);
   stops = IsLabelStop label;
   most = LONGEST_DATA;
 }
 
 -- The labels of the symbols that carry the input together, one after the other.
-abbrev pub parts_of : Label → DrawOptions → Drawer
-parts_of label options = record {
+abbrev pub message_of : Label → DrawOptions → Drawer
+message_of label options = record {
   shows = ShowsMessage label options;
-  says = IsSaid label (λ told. ShowsMessage told options);
+  details = AreDetailsBeside label (λ other. ShowsMessage other options);
   stops = IsMessageStop label;
   most = LONGEST_MESSAGE;
 }
@@ -69,11 +69,11 @@ pub record IsStopped (drawer : Drawer) (stop : Stop) (input : Input) : Type 0 wh
   pub stopped : drawer.stops bytes stop
 
 -- What is written for an outcome. On success the drawing of all that was there to be read, and it
--- was flushed; the outcome has what is said of it. Where reading failed, or there is no drawing,
+-- was flushed; the outcome has the details. Where reading failed, or there is no drawing,
 -- nothing. Where writing failed, a beginning of the drawing.
 abbrev pub WritesLabelOutcome : Drawer → Input → Output → Made → Type 0
-WritesLabelOutcome drawer input output (Ok said) =
-    WritesDrawing (λ bytes drawing. drawer.shows bytes drawing × drawer.says bytes said) input output
+WritesLabelOutcome drawer input output (Ok details) =
+    WritesDrawing (λ bytes drawing. drawer.shows bytes drawing × drawer.details bytes details) input output
 WritesLabelOutcome drawer input output (Err (Fault Read)) = Keeps output.before output.after
 WritesLabelOutcome drawer input output (Err (Fault Write)) = BeginsDrawing drawer.shows input output
 WritesLabelOutcome drawer input output (Err stop) =
@@ -99,11 +99,11 @@ devices_in label input target not_written = record {
 
 -- The exit status, and what is written on standard error.
 abbrev pub label_status : Devices → Made → ℕ
-label_status devices (Ok said) = 0
+label_status devices (Ok details) = 0
 label_status devices (Err stop) = stop_status devices stop
 
 abbrev pub label_report : Devices → Made → List ℕ
-label_report devices (Ok said) = said
+label_report devices (Ok details) = details
 label_report devices (Err stop) = stop_report (codes "qrlabel") devices stop
 
 -- The input was drawn, and the status and the line on standard error are those of the outcome. At
@@ -118,32 +118,32 @@ pub record ServesLabel (drawer : Drawer) (label : Label) (input : Input) (output
 
 -- ---- Parts in files
 
--- The drawings show all that was there to be read, and this is said of it.
+-- The drawings show all that was there to be read, and these are their details.
 pub record AreDrawings (label : Label) (options : DrawOptions) (input : Input)
-    (drawings : List (List ℕ)) (said : List ℕ) : Type 0 where
+    (drawings : List (List ℕ)) (details : List ℕ) : Type 0 where
   pub bytes : List ℕ
   pub read : ReadsAll input bytes
   pub shown : ShowMessage label options bytes drawings
-  pub says : IsSaid label (λ told. ShowsMessage told options) bytes said
+  pub are_details : AreDetailsBeside label (λ other. ShowsMessage other options) bytes details
 
 -- Files of some drawings were written, and the next was not.
 abbrev pub PutsBeginning : Label → DrawOptions → Input → (old new : FilesState) → Numbering → List ℕ → Stop → Type 0
 PutsBeginning label options input old new name path stop =
-    (drawings : List (List ℕ)) × (said : List ℕ) × AreDrawings label options input drawings said
+    (drawings : List (List ℕ)) × (details : List ℕ) × AreDrawings label options input drawings details
     × PutsSome name drawings old new stop path
 
 -- The files that are written for an outcome. On success one for each symbol, with its number from 1
 -- on. Where reading failed, or there are no symbols, none. Where writing failed, or memory ran out
 -- for a name, those of the symbols before.
 abbrev pub PutsOutcome : Label → DrawOptions → Input → (old new : FilesState) → Numbering → List ℕ → Made → Type 0
-PutsOutcome label options input old new name path (Ok said) =
-    (drawings : List (List ℕ)) × AreDrawings label options input drawings said
+PutsOutcome label options input old new name path (Ok details) =
+    (drawings : List (List ℕ)) × AreDrawings label options input drawings details
     × AddsFiles old.files new.files (part_files name 1 drawings)
 PutsOutcome label options input old new name path (Err (Fault Read)) = AddsFiles old.files new.files []
 PutsOutcome label options input old new name path (Err (Fault Write)) =
     PutsBeginning label options input old new name path (Fault Write)
 PutsOutcome label options input old new name path (Err stop) =
-    ((stop ≢ Fault (Symbol OutOfMemory) → IsStopped (parts_of label options) stop input)
+    ((stop ≢ Fault (Symbol OutOfMemory) → IsStopped (message_of label options) stop input)
     × AddsFiles old.files new.files [])
     ⊎ PutsBeginning label options input old new name path stop
 
@@ -246,7 +246,7 @@ ServesPortion (FilesOf name) label options input output files errors status =
     ServesLines label options input (folder files.old files.new label.first (numbering_of name))
     (numbered (numbering_of name)) errors status
 ServesPortion Split label options input output files errors status =
-    ServesLabel (parts_of label options) label input output errors status
+    ServesLabel (message_of label options) label input output errors status
 ServesPortion (Parts name) label options input output files errors status =
     ServesParts label options input files.old files.new (numbering_of name) errors status
 

@@ -37,7 +37,7 @@ element_text (WrongLength element) = codes "the length of the value is wrong"
 element_text (WrongCheckDigit element) = codes "wrong check digit"
 element_text OutOfMemory = codes "out of memory"
 
--- A line after a name: that of the program, or one that tells of what the line is.
+-- A line after a name: that of the program, or one that details of what the line is.
 abbrev pub line_of : List ℕ → List (List ℕ) → List ℕ
 line_of name pieces = name ++ (codes ": " ++ (flat_map (λ piece. piece) pieces ++ 10 ∷ []))
 

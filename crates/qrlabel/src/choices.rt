@@ -35,7 +35,7 @@ pub fn content_named(word: &str) -> Option<Content>
     }
 }
 
-/// Returns the turn of so many degrees.
+/// Returns the turn by a number of degrees.
 pub fn turn_named(word: &str) -> Option<Turn>
     ensures { result ≡ turn_named word.now }
 {

@@ -16,8 +16,8 @@ ghost use Rattle.qrlabel.specs.Asked.{outcome, label_outcome, command_outcome};
 
 use crate::choices::{content_named, format_named, format_of_ending, level_named, turn_named};
 use crate::names::Numbering;
-use crate::numbers::number_in;
-use crate::portion::{check_terminal, portion_of, tells_of};
+use qrcode_render::option_words::number_of_word;
+use crate::portion::{check_terminal, details_of, portion_of};
 use crate::settings::{in_dots, settings_of, zoned};
 use crate::words::{Misuse, Name, Values};
 use qrcode_core::options::SymbolOptions;
@@ -69,9 +69,9 @@ pub enum Turn {
     Left,
 }
 
-/// Whether a symbol's version, level, mask, segments and size are told.
+/// Where the details of a symbol are written: version, level, mask, segments and size.
 #[derive(Clone, Copy, Debug, PartialEq, Eq)]
-pub enum Tells {
+pub enum Details {
     /// They are not.
     Nothing,
     /// They are, on standard error, and the symbol is drawn.
@@ -104,8 +104,8 @@ pub struct Label<'a> {
     pub colored: bool,
     /// By how much the symbol is turned.
     pub turn: Turn,
-    /// Whether its symbol is drawn, or told of.
-    pub tells: Tells,
+    /// Where the details of its symbol are written.
+    pub details: Details,
     /// The dots of an inch, if they are given.
     pub dpi: Option<usize>,
 }
@@ -179,7 +179,7 @@ fn version<'a>(values: &Values<'a>, name: Name, default: i16) -> Result<i16, Mis
     ensures { outcome result ≡ version_asked name default (said values.now) }
 {
     match values.get(name) {
-        Some(word) => match number_in(word) {
+        Some(word) => match number_of_word(word) {
             Some(n) if 1 <= n && n <= 40 => Ok(n as i16),
             _ => Err(Misuse::Invalid(name)),
         },
@@ -251,7 +251,7 @@ fn first_of<'a>(values: &Values<'a>) -> Result<usize, Misuse<'a>>
     ensures { outcome result ≡ first_asked (said values.now) }
 {
     match values.get(Name::First) {
-        Some(word) => match number_in(word) {
+        Some(word) => match number_of_word(word) {
             Some(n) if n <= MAX_FIRST && values.has(Name::Lines) => Ok(n),
             _ => Err(Misuse::Invalid(Name::First)),
         },
@@ -310,7 +310,7 @@ fn label_of<'a>(values: &Values<'a>, on_terminal: bool) -> Result<Label<'a>, Mis
     let first = first_of(values)?;
     let keeps_going = keeps_going_of(values)?;
     let turn = turn_of(values)?;
-    let tells = tells_of(values)?;
+    let details = details_of(values)?;
     let settings = settings_of(values)?;
     Ok(Label {
         content,
@@ -326,7 +326,7 @@ fn label_of<'a>(values: &Values<'a>, on_terminal: bool) -> Result<Label<'a>, Mis
         target: device_name(values, Name::Output, "standard output"),
         colored: colored_of(values, on_terminal, format),
         turn,
-        tells,
+        details,
         dpi: settings.dpi,
     })
 }

@@ -56,9 +56,9 @@ Picture:
       --feed N          lines of paper to feed after it, 0 to 255 (escpos)
       --cut             cut the paper after it (escpos)
 
-      --info            tell version, level, mask, segments and size of the symbol on
+      --info            print version, level, mask, segments and size of the symbol on
                         standard output, and draw nothing
-  -v, --verbose         draw, and tell them on standard error
+  -v, --verbose         draw, and print them on standard error
   -h, --help            show this text
   -V, --version         show the version
 

@@ -3,13 +3,13 @@ ghost use Rattle.std.specs.Prelude.{◌≡◌, ◌≤◌, length, IfOk, IfErr, O
 ghost use Rattle.std.specs.Option.{option_copied};
 ghost use Rattle.qrcode_base.specs.declared.symbols.TheConstants.{LONGEST_DATA};
 ghost use Rattle.qrlabel.specs.Labels.{ShowsLabel, ShowsSymbol, IsSymbolPicture, IsLabelStop, is_too_long};
-ghost use Rattle.qrlabel.specs.Labels.{IsSaid, telling};
-ghost use Rattle.qrlabel.specs.Tells.{TellsNot};
+ghost use Rattle.qrlabel.specs.Labels.{AreDetailsBeside, details_label};
+ghost use Rattle.qrlabel.specs.Details.{IsDetailsStop};
 
 use crate::colors::in_colors;
-use crate::command::{Label, Tells};
+use crate::command::{Details, Label};
 use crate::content::{content_of, content_symbol};
-use crate::info::symbol_text;
+use crate::details::symbol_text;
 use crate::room::{too_long_at_level, too_long_for_any};
 use crate::stop::Stop;
 use crate::turned::draw_turned;
@@ -52,7 +52,7 @@ pub fn label_bytes(
     symbol_label(alloc, label, options, Some(content), &symbol)
 }
 
-/// Returns what the label shows of a symbol: what is told of it, or its picture. The content is
+/// Returns what the label shows of a symbol: its details, or its picture. The content is
 /// given if the symbol has all of it. It fails as `symbol_text` does.
 pub fn symbol_label(
     alloc: Global,
@@ -63,9 +63,9 @@ pub fn symbol_label(
 ) -> Result<Vec<u8>, Stop>
     ensures shown { IfOk result (λ drawing. ShowsSymbol label.now options.now
         (option_copied content.entry) symbol.now drawing.items) }
-    ensures refused { IfErr result (TellsNot label.now (option_copied content.entry)) }
+    ensures refused { IfErr result (IsDetailsStop label.now (option_copied content.entry)) }
 {
-    if label.tells == Tells::Alone {
+    if label.details == Details::Alone {
         return symbol_text(alloc, label, options, content, symbol);
     }
     Ok(symbol_picture(alloc, label, options, symbol)?)
@@ -89,29 +89,29 @@ fn symbol_picture(
     Ok(picture)
 }
 
-/// Returns the same label, of which the symbol is told of alone.
-pub fn telling<'a>(label: &Label<'a>) -> Label<'a>
-    ensures { result ≡ telling label.now }
+/// Returns the same label, which shows the details of its symbol alone.
+pub fn details_label<'a>(label: &Label<'a>) -> Label<'a>
+    ensures { result ≡ details_label label.now }
 {
-    let mut told = *label;
-    told.tells = Tells::Alone;
-    told
+    let mut alone = *label;
+    alone.details = Details::Alone;
+    alone
 }
 
-/// Returns what is told beside the label of the bytes: nothing, unless it is asked for. It fails as
+/// Returns the details beside the label of the bytes: none, unless they are asked for. It fails as
 /// `label_bytes` does.
-pub fn said_bytes(
+pub fn details_bytes(
     alloc: Global,
     label: &Label,
     options: &DrawOptions,
     bytes: &[u8],
 ) -> Result<Vec<u8>, Stop>
-    ensures said { IfOk result (λ said. IsSaid label.now (λ told. ShowsLabel told options.now)
-        bytes.now said.items) }
+    ensures details { IfOk result (λ details. AreDetailsBeside label.now
+        (λ other. ShowsLabel other options.now) bytes.now details.items) }
     ensures refused { IfErr result (IsLabelStop label.now bytes.now) }
 {
-    if label.tells == Tells::Beside {
-        return label_bytes(alloc, &telling(label), options, bytes);
+    if label.details == Details::Beside {
+        return label_bytes(alloc, &details_label(label), options, bytes);
     }
     Ok(Vec::new(alloc))
 }

@@ -1,7 +1,7 @@
 //! `qrlabel` draws the symbol of a text, a file or its input as a picture.
 //!
-//! 1. Read the words (`words`), and find out what they ask for (`command`, `choices`, `settings`,
-//!    `numbers`).
+//! 1. Read the words (`words`), and find out what they ask for (`command`, `choices`,
+//!    `settings`).
 //! 2. Open the devices that they name (`devices`).
 //! 3. Make the symbol of the input (`content`, `element`) or of each of its lines (`lines`), and
 //!    write its picture (`label`, `colors`, `run`), by the crate `qrcode_render`.
@@ -12,19 +12,18 @@ mod choices;
 mod colors;
 mod command;
 mod content;
+mod details;
 mod devices;
 mod element;
 mod files;
 mod folder;
 mod help;
-mod info;
 mod label;
 #[cfg(test)]
 mod line_tests;
 mod lines;
 mod misuse;
 mod names;
-mod numbers;
 mod part_files;
 #[cfg(test)]
 mod part_tests;

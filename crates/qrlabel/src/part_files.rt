@@ -18,7 +18,7 @@ use crate::command::Label;
 use crate::files::Files;
 use crate::lines::Made;
 use crate::names::{Numbering, write_numbered};
-use crate::parts::{LONGEST_MESSAGE, message_labels, said_message};
+use crate::parts::{LONGEST_MESSAGE, details_message, message_labels};
 use crate::stop::Stop;
 use programs::{Fault, Source, read_up_to};
 use qrcode_core::types::QrError;
@@ -104,12 +104,12 @@ pub fn put_message<R: Source, F: Files>(
         Ok(drawings) => drawings,
         Err(stop) => return Err(stop),
     };
-    let said = match said_message(alloc, label, options, &bytes) {
-        Ok(said) => said,
+    let details = match details_message(alloc, label, options, &bytes) {
+        Ok(details) => details,
         Err(stop) => return Err(stop),
     };
     match put_parts(&drawings, name, path, files) {
-        Ok(()) => Ok(said),
+        Ok(()) => Ok(details),
         Err(stop) => Err(stop),
     }
 }

@@ -1,4 +1,4 @@
-//! Tests of messages that several symbols carry, of turned symbols, and of what is told of symbols.
+//! Tests of messages that several symbols carry, of turned symbols, and of the details of symbols.
 use crate::tests::ran;
 use qrcode_core::types::QrError;
 
@@ -142,10 +142,10 @@ fn turns_symbols(rt: HostRuntime) -> Result<(), QrError> {
     Ok(())
 }
 
-/// What is told of a symbol. Versions and segments are computed by hand from ISO/IEC 18004:2006,
+/// The details of a symbol. Versions and segments are computed by hand from ISO/IEC 18004:2006,
 /// "Data encodation"; the masks are those that the Rust crate `qrcode-core` 2.2.0 chooses.
 #[test]
-fn tells_of_symbols(rt: HostRuntime) -> Result<(), QrError> {
+fn details_of_symbols(rt: HostRuntime) -> Result<(), QrError> {
     let rows: [(&[&str], &[u8], &str); 9] = [
         (
             &[],
@@ -216,21 +216,21 @@ fn tells_of_symbols(rt: HostRuntime) -> Result<(), QrError> {
     Ok(())
 }
 
-/// Lines and parts are told of one after the other, whatever the format, and an error is as it is
+/// The details of lines and parts follow each other, whatever the format, and an error is as it is
 /// for a label.
 #[test]
-fn tells_of_each(rt: HostRuntime) -> Result<(), QrError> {
+fn details_of_each(rt: HostRuntime) -> Result<(), QrError> {
     let lines = ran(
         rt.alloc(),
         &["--info", "--lines", "-f", "png"],
         b"hello\n0123456789\n",
     );
-    let told = "\
+    let details = "\
 version 1, level M, mask 7, segments byte 5, 21 modules
 version 1, level M, mask 0, segments numeric 10, 21 modules
 ";
     assert_eq!(rt; lines.status, 0);
-    assert_eq!(rt; lines.label.as_slice(), told.as_bytes());
+    assert_eq!(rt; lines.label.as_slice(), details.as_bytes());
     let words = ["-v", "--split", "-lL", "--max-version=1", "-fpbm", "-s1"];
     let parts = ran(rt.alloc(), &words, &[b'a'; 18]);
     assert_eq!(rt; parts.label.len(), 2 * BITMAP);

@@ -6,16 +6,16 @@ ghost use Rattle.qrcode_core.specs.Drawn.{modules_of};
 ghost use Rattle.qrlabel.specs.Parts.{IsSequenceOf, IsSequenceFault, IsTextSequence, IsTextFault};
 ghost use Rattle.qrlabel.specs.Parts.{IsSequenceAs, IsSequenceFaultAs, ShowEach, ShowMessage};
 ghost use Rattle.qrlabel.specs.Parts.{AreLabelsTogether, ShowsMessage};
-ghost use Rattle.qrlabel.specs.Labels.{ShowsSymbol, IsSaid};
-ghost use Rattle.qrlabel.specs.Tells.{TellsNot};
+ghost use Rattle.qrlabel.specs.Labels.{ShowsSymbol, AreDetailsBeside};
+ghost use Rattle.qrlabel.specs.Details.{IsDetailsStop};
 ghost use Rattle.programs.specs.declared.Fault.TheVariants.{Symbol as SymbolFault};
 ghost use Rattle.qrcode_core.specs.declared.types.errors.QrError.TheVariants.{OutOfMemory};
 ghost use Rattle.qrlabel.specs.declared.stop.Stop.TheVariants.{Fault as FaultStop};
 ghost use Rattle.qrlabel.specs.Parts.{AreNotDrawn, IsPartsStop, IsMessageStop, all_drawings};
 
-use crate::command::{Content, Label, Tells};
+use crate::command::{Content, Details, Label};
 use crate::content::{content_of, content_symbol, is_ascii, utf8_of};
-use crate::label::{is_too_long, symbol_label, telling};
+use crate::label::{details_label, is_too_long, symbol_label};
 use crate::stop::Stop;
 use qrcode_base::symbols::LONGEST_DATA;
 use qrcode_core::options::SymbolOptions;
@@ -161,7 +161,7 @@ fn one_label(
     ensures shown { IfOk result (λ drawings. (drawing : List ℕ)
         × (map vec_items drawings.items ≡ drawing ∷ [])
         × ShowsSymbol label.now options.now (Some content.now) symbol.now drawing) }
-    ensures refused { IfErr result (TellsNot label.now (Some content.now)) }
+    ensures refused { IfErr result (IsDetailsStop label.now (Some content.now)) }
 {
     let drawing = symbol_label(alloc, label, options, Some(content), symbol)?;
     let mut drawings = Vec::new(alloc);
@@ -188,21 +188,21 @@ pub fn message_text(
     }
 }
 
-/// Returns what is told beside the labels of a message: nothing, unless it is asked for. It fails
+/// Returns the details beside the labels of a message: none, unless they are asked for. It fails
 /// as `message_labels` does, and with `OutOfMemory`.
-pub fn said_message(
+pub fn details_message(
     alloc: Global,
     label: &Label,
     options: &DrawOptions,
     bytes: &[u8],
 ) -> Result<Vec<u8>, Stop>
-    ensures said { IfOk result (λ said. IsSaid label.now (λ told. ShowsMessage told options.now)
-        bytes.now said.items) }
+    ensures details { IfOk result (λ details. AreDetailsBeside label.now
+        (λ other. ShowsMessage other options.now) bytes.now details.items) }
     ensures refused { IfErr result (λ stop. (stop ≡ FaultStop (SymbolFault OutOfMemory))
         ⊎ IsMessageStop label.now bytes.now stop) }
 {
-    if label.tells == Tells::Beside {
-        return message_text(alloc, &telling(label), options, bytes);
+    if label.details == Details::Beside {
+        return message_text(alloc, &details_label(label), options, bytes);
     }
     Ok(Vec::new(alloc))
 }

@@ -3,11 +3,11 @@ ghost use Rattle.std.specs.Prelude.{◌≡◌, option_map};
 ghost use Rattle.qrlabel.specs.Asked.{outcome, portion_outcome};
 ghost use Rattle.qrlabel.specs.Choices.{can_be_split, is_stream, is_text};
 ghost use Rattle.qrlabel.specs.Commands.{can_follow, has_percent, numbered_output};
-ghost use Rattle.qrlabel.specs.Commands.{portion_asked, split_asked, tells_asked, terminal_asked};
+ghost use Rattle.qrlabel.specs.Commands.{portion_asked, split_asked, details_asked, terminal_asked};
 ghost use Rattle.qrlabel.specs.Placed.{numbering_of};
 ghost use Rattle.qrlabel.specs.Said.{said};
 
-use crate::command::{Content, Portion, Tells};
+use crate::command::{Content, Details, Portion};
 use crate::names::{Numbering, numbering_in};
 use crate::words::{Misuse, Name, Values};
 use qrcode_render::Format;
@@ -39,26 +39,26 @@ fn has_percent<'a>(values: &Values<'a>) -> bool
     }
 }
 
-/// Returns whether the symbol is told of.
-pub fn tells_of<'a>(values: &Values<'a>) -> Result<Tells, Misuse<'a>>
-    ensures { outcome result ≡ tells_asked (said values.now) }
+/// Returns where the details of the symbol are written.
+pub fn details_of<'a>(values: &Values<'a>) -> Result<Details, Misuse<'a>>
+    ensures { outcome result ≡ details_asked (said values.now) }
 {
     if values.has(Name::Info) {
         return match values.file(Name::Output) {
             Some(_) => Err(Misuse::Invalid(Name::Info)),
-            None => Ok(Tells::Alone),
+            None => Ok(Details::Alone),
         };
     }
     if !values.has(Name::Verbose) {
-        Ok(Tells::Nothing)
+        Ok(Details::Nothing)
     } else if values.has(Name::Lines) {
         Err(Misuse::Invalid(Name::Verbose))
     } else {
-        Ok(Tells::Beside)
+        Ok(Details::Beside)
     }
 }
 
-/// Whether labels can follow each other in one output: what is told of symbols always can.
+/// Whether labels can follow each other in one output: the details of symbols always can.
 fn can_follow<'a>(values: &Values<'a>, format: Format) -> bool
     ensures { result ≡ can_follow format (said values.now) }
 {
@@ -146,8 +146,8 @@ pub fn check_terminal<'a>(
 ) -> Result<(), Misuse<'a>>
     ensures { outcome result ≡ terminal_asked on_terminal format (said values.now) }
 {
-    let told = values.has(Name::Info);
-    if on_terminal && !is_text(format) && !values.has(Name::Output) && !told {
+    let has_info = values.has(Name::Info);
+    if on_terminal && !is_text(format) && !values.has(Name::Output) && !has_info {
         Err(Misuse::NeedsFile)
     } else {
         Ok(())

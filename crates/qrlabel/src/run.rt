@@ -1,8 +1,8 @@
 //! From what the words say to the exit status.
 //!
 //! 1. Find out what is asked for (`command_of`).
-//! 2. Write the help or the version (`show`), or draw labels (`run_label`): those of lines, or those
-//!    of the whole input (`whole`).
+//! 2. Write the help or the version (`show`), or draw labels (`run_label`): those of lines, or
+//!    those of the whole input (`whole`).
 ghost use Rattle.std.specs.Prelude.{◌≡◌, IsTrue, IsFalse};
 ghost use Rattle.programs.specs.Devices.{input, output, Writes};
 ghost use Rattle.qrlabel.specs.Commands.{command_asked};

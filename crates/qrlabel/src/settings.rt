@@ -8,7 +8,7 @@ ghost use Rattle.qrlabel.specs.Commands.{some_found, zoned, dots_asked, in_dots}
 ghost use Rattle.qrlabel.specs.Choices.{has_dots};
 
 use crate::command::{Content, is_micro};
-use crate::numbers::{hundredths_in, number_in, place_in};
+use qrcode_render::option_words::{hundredths_of_word, number_of_word, position_of_word};
 use crate::words::{Misuse, Name, Values};
 use qrcode_render::bounds::{
     MAX_DPI, MAX_MODULE_MM, MAX_SCALE, MICRO_QUIET, MIN_DPI, MIN_MODULE_MM, MIN_SCALE,
@@ -30,7 +30,7 @@ fn number<'a>(values: &Values<'a>, name: Name) -> Result<Option<usize>, Misuse<'
     ensures { outcome result ≡ number_asked name (said values.now) }
 {
     match values.get(name) {
-        Some(word) => some_found(number_in(word), name),
+        Some(word) => some_found(number_of_word(word), name),
         None => Ok(None),
     }
 }
@@ -40,7 +40,7 @@ fn module_mm<'a>(values: &Values<'a>) -> Result<Option<usize>, Misuse<'a>>
     ensures { outcome result ≡ module_asked (said values.now) }
 {
     match values.get(Name::ModuleMm) {
-        Some(word) => some_found(hundredths_in(word), Name::ModuleMm),
+        Some(word) => some_found(hundredths_of_word(word), Name::ModuleMm),
         None => Ok(None),
     }
 }
@@ -50,7 +50,7 @@ fn place<'a>(values: &Values<'a>) -> Result<Option<(usize, usize)>, Misuse<'a>>
     ensures { outcome result ≡ place_asked (said values.now) }
 {
     match values.get(Name::At) {
-        Some(word) => some_found(place_in(word), Name::At),
+        Some(word) => some_found(position_of_word(word), Name::At),
         None => Ok(None),
     }
 }

@@ -4,17 +4,17 @@ ghost use Rattle.qrcode_base.specs.declared.symbols.TheConstants.{LONGEST_DATA};
 ghost use Rattle.programs.specs.Devices.{input, output, ReadsWithin, Writes};
 ghost use Rattle.qrlabel.specs.MadeOf.{made_of};
 ghost use Rattle.qrlabel.specs.Placed.{devices_of, numbering_of};
-ghost use Rattle.qrlabel.specs.Runs.{one_of, parts_of, IsLabelOutcome, ServesLabel, ServesParts};
+ghost use Rattle.qrlabel.specs.Runs.{one_of, message_of, IsLabelOutcome, ServesLabel, ServesParts};
 ghost use Rattle.qrlabel.specs.Runs.{label_status, label_report};
 ghost use Rattle.qrlabel.specs.declared.parts.TheConstants.{LONGEST_MESSAGE};
 
 use crate::command::Label;
 use crate::files::Files;
-use crate::label::{label_bytes, said_bytes};
+use crate::label::{details_bytes, label_bytes};
 use crate::lines::Made;
 use crate::names::Numbering;
 use crate::part_files::put_message;
-use crate::parts::{LONGEST_MESSAGE, message_text, said_message};
+use crate::parts::{LONGEST_MESSAGE, details_message, message_text};
 use crate::report::report_stop;
 use crate::stop::{Devices, Stop};
 use programs::{Sink, Source, read_all, read_up_to, write_all};
@@ -43,12 +43,12 @@ fn draw_label<R: Source, W: Sink>(
         Ok(drawing) => drawing,
         Err(stop) => return Err(stop),
     };
-    let said = match said_bytes(alloc, label, options, &bytes) {
-        Ok(said) => said,
+    let details = match details_bytes(alloc, label, options, &bytes) {
+        Ok(details) => details,
         Err(stop) => return Err(stop),
     };
     write_all(writer, &drawing)?;
-    Ok(said)
+    Ok(details)
 }
 
 /// Reads to the end, writes the labels of the symbols that carry all bytes together, one after the
@@ -62,7 +62,7 @@ fn draw_message<R: Source, W: Sink>(
 ) -> Made
     requires reader_sound { IsFalse (R.state reader.old).failed }
     requires writer_sound { IsFalse (W.state writer.old).failed }
-    ensures outcome { IsLabelOutcome (parts_of label.now options.now)
+    ensures outcome { IsLabelOutcome (message_of label.now options.now)
         (input (R.state reader.old) (R.state reader.new))
         (output (W.state writer.old) (W.state writer.new)) (made_of result) }
     ensures within { ReadsWithin (LONGEST_MESSAGE + 1)
@@ -73,17 +73,17 @@ fn draw_message<R: Source, W: Sink>(
         Ok(drawing) => drawing,
         Err(stop) => return Err(stop),
     };
-    let said = match said_message(alloc, label, options, &bytes) {
-        Ok(said) => said,
+    let details = match details_message(alloc, label, options, &bytes) {
+        Ok(details) => details,
         Err(stop) => return Err(stop),
     };
     match write_all(writer, &drawing) {
-        Ok(()) => Ok(said),
+        Ok(()) => Ok(details),
         Err(fault) => Err(Stop::from(fault)),
     }
 }
 
-/// Returns the exit status of an outcome: 0 on success, after what is said was written on `errors`,
+/// Returns the exit status of an outcome: 0 on success, after the details were written on `errors`,
 /// else 1, and a line on `errors` says why, or 141 without a line if a pipe was closed.
 fn label_status<E: Sink>(errors: &mut E, devices: &Devices, outcome: Made) -> u8
     requires sound { IsFalse (E.state errors.old).failed }
@@ -92,8 +92,8 @@ fn label_status<E: Sink>(errors: &mut E, devices: &Devices, outcome: Made) -> u8
         (label_report (devices_of devices.now) (made_of outcome)) }
 {
     match outcome {
-        Ok(said) => {
-            let _ = write_all(errors, &said);
+        Ok(details) => {
+            let _ = write_all(errors, &details);
             0
         }
         Err(stop) => report_stop(errors, "qrlabel", devices, stop),
@@ -140,7 +140,7 @@ pub fn serve_message<R: Source, W: Sink, E: Sink>(
     requires reader_sound { IsFalse (R.state reader.old).failed }
     requires writer_sound { IsFalse (W.state writer.old).failed }
     requires errors_sound { IsFalse (E.state errors.old).failed }
-    ensures { ServesLabel (parts_of label.now options.now) label.now
+    ensures { ServesLabel (message_of label.now options.now) label.now
         (input (R.state reader.old) (R.state reader.new))
         (output (W.state writer.old) (W.state writer.new))
         (output (E.state errors.old) (E.state errors.new)) result }

@@ -2,13 +2,13 @@
 use crate::tests::ran;
 use qrcode_core::types::QrError;
 
-/// What is said of the name of an output that is wrong.
+/// The line for the name of an output that is wrong.
 const OUTPUT: &str = "\
 invalid --output: with -f any name, else one that ends with \
 .txt, .svg, .png, .pbm, .eps, .escpos or .zpl; \
 for --lines and --split alone with a number, %d or %0Nd, N from 1 to 9";
 
-/// What is said of a scale and of a size that are wrong.
+/// The lines for a scale and a size that are wrong.
 const SCALE: &str = "invalid --scale: 1 to 64, and not with both --module-mm and --dpi";
 
 const MODULE: &str = "\

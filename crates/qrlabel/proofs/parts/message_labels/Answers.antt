@@ -3,8 +3,8 @@ use Rattle.std.proofs.Common.{◌≤◌, ◌⊎◌, inl, inr, rules, length}
 use Rattle.std.specs.Prelude.{Some, map, vec_items}
 use Rattle.qrlabel.specs.declared.parts.TheConstants.{LONGEST_MESSAGE}
 use Rattle.qrlabel.specs.{Labels.IsLabelData, Parts.AreLabelsTogether, Parts.AreNotDrawn, Parts.IsPartsStop, Parts.IsMessageStop, Parts.ShowMessage}
-use Rattle.qrlabel.specs.Tells.{TellsNot}
-use Rattle.qrlabel.proofs.StopLemmas.{if_err, if_ok, message_not_told, too_long_is}
+use Rattle.qrlabel.specs.Details.{IsDetailsStop}
+use Rattle.qrlabel.proofs.StopLemmas.{if_err, if_ok, message_no_details, too_long_is}
 use Rattle.qrlabel.proofs.parts.message_labels.Goals as goal
 
 pub returns-in-Ok-clause-refused : goal.returns-in-Ok-clause-refused
@@ -13,11 +13,11 @@ returns-in-Ok-clause-refused c =
     let content = c.content_of-content.result.now in
     let some : IsLabelData label content = search rules in
     let short : length c.args.bytes.now ≤ LONGEST_MESSAGE = search rules in
-    if_err (TellsNot label (Some content)) (IsMessageStop label c.args.bytes.now) c.one_label.result (λ stop told. inr (record {
+    if_err (IsDetailsStop label (Some content)) (IsMessageStop label c.args.bytes.now) c.one_label.result (λ stop is. inr (record {
       short = short;
       content = content;
       content_is = c.content_of-content.ensures.content;
-      stopped = inr (some, inl (message_not_told label content stop _ c.in-Ok.ensures.limit c.in-Ok.ensures.symbol told));
+      stopped = inr (some, inl (message_no_details label content stop _ c.in-Ok.ensures.limit c.in-Ok.ensures.symbol is));
     })) c.one_label.ensures.refused
 
 pub returns-in-Err-clause-shown : goal.returns-in-Err-clause-shown

@@ -1,4 +1,4 @@
--- The last line is said, if the sink has not failed.
+-- The last line is written, if the sink has not failed.
 use Rattle.std.proofs.Common.{ap, refl}
 use Rattle.qrlabel.proofs.LabelLemmas.{said_at_end}
 use Rattle.qrlabel.proofs.run.lines_status.Goals as goal

@@ -10,8 +10,8 @@ returns-in-Err-clause-outcome g c =
     (g.W.Sink.state c.args.writer.now) c.in_ok-bytes.bytes.items c.in-Err.stop (no_device c.args.label.now c.in_ok-bytes.bytes.items)
     c.in_ok-bytes.ensures.read (rw (c.deref.ensures.value) at c.in-Err.ensures.refused) (grind (arith, c.in_ok-bytes.ensures.failure)) (search rules)
 
-pub returns-in-Err-said_bytes-clause-outcome : goal.returns-in-Err-said_bytes-clause-outcome
-returns-in-Err-said_bytes-clause-outcome g c =
+pub returns-in-Err-details_bytes-clause-outcome : goal.returns-in-Err-details_bytes-clause-outcome
+returns-in-Err-details_bytes-clause-outcome g c =
     writes_none (one_of c.args.label.now c.args.options.now) (g.R.Source.state c.args.reader.now) (g.R.Source.state c.read_all.new.reader)
-    (g.W.Sink.state c.args.writer.now) c.in_ok-bytes.bytes.items c.in-Err-said_bytes.stop (no_device c.args.label.now c.in_ok-bytes.bytes.items)
-    c.in_ok-bytes.ensures.read (rw (c.deref-2.ensures.value) at c.in-Err-said_bytes.ensures.refused) (grind (arith, c.in_ok-bytes.ensures.failure)) (search rules)
+    (g.W.Sink.state c.args.writer.now) c.in_ok-bytes.bytes.items c.in-Err-details_bytes.stop (no_device c.args.label.now c.in_ok-bytes.bytes.items)
+    c.in_ok-bytes.ensures.read (rw (c.deref-2.ensures.value) at c.in-Err-details_bytes.ensures.refused) (grind (arith, c.in_ok-bytes.ensures.failure)) (search rules)

@@ -1,4 +1,4 @@
--- What is told of a symbol.
+-- The details of a symbol: version, level, mask, segments and size.
 use Rattle.std.specs.Prelude.{◌≡◌, ◌⊎◌, ℕ, ◌+◌, ◌-◌, ◌*◌, ◌/◌, ◌%◌, nat_abs, nat_le, ◌&&◌, false, true, if◌then◌else◌}
 use Rattle.std.specs.Prelude.{List, [], ◌∷◌, ◌++◌, Option, Some, None, codes, decimal, flat_map, unwrap_or}
 use Rattle.std.specs.Str.{IsUtf8}
@@ -69,8 +69,8 @@ abbrev pub count_of : Mode → ℕ → ℕ
 count_of Kanji n = n / 2
 count_of mode n = n
 
-abbrev pub segment_piece : Segment → List ℕ
-segment_piece s = mode_piece s.mode ++ decimal (count_of s.mode (s.end - s.begin))
+abbrev pub segment_text : Segment → List ℕ
+segment_text s = mode_piece s.mode ++ decimal (count_of s.mode (s.end - s.begin))
 
 abbrev pub version_piece : Version → List ℕ
 version_piece (Normal n) = codes "version " ++ decimal (nat_abs n)
@@ -89,11 +89,11 @@ head_text symbol =
 
 -- The modes of the segments, with their numbers of characters.
 abbrev pub segments_text : List Segment → List ℕ
-segments_text plan = codes ", segments" ++ flat_map segment_piece plan
+segments_text plan = codes ", segments" ++ flat_map segment_text plan
 
--- The width of a symbol without its quiet zone, in hundredths of a millimetre, if it is known: by the
--- size of a module, or by its dots and the dots of an inch, which is 25.4 mm. It is the nearest whole
--- number.
+-- The width of a symbol without its quiet zone, in hundredths of a millimetre, if it is known: by
+-- the size of a module, or by its dots and the dots of an inch, which is 25.4 mm. It is the nearest
+-- whole number.
 abbrev pub nearest_to : ℕ → ℕ → ℕ
 nearest_to dividend divisor = (2 * dividend + divisor) / (2 * divisor)
 
@@ -102,38 +102,38 @@ width_of_dots modules scale None = None
 width_of_dots modules scale (Some dpi) =
     if nat_le 1 dpi && nat_le dpi MAX_DPI then Some (nearest_to (modules * scale * 2540) dpi) else None
 
-abbrev pub width_in : ℕ → Label → DrawOptions → Option ℕ
-width_in modules label options =
+abbrev pub physical_width : ℕ → Label → DrawOptions → Option ℕ
+physical_width modules label options =
     elim options.module_mm [ Some wide ↦ Some (modules * wide) | None ↦ width_of_dots modules options.scale label.dpi ]
 
 -- Hundredths of a millimetre.
-abbrev pub millimetres : ℕ → List ℕ
-millimetres n = decimal (n / 100) ++ (codes "." ++ (decimal (n / 10 % 10) ++ decimal (n % 10)))
+abbrev pub millimetres_text : ℕ → List ℕ
+millimetres_text n = decimal (n / 100) ++ (codes "." ++ (decimal (n / 10 % 10) ++ decimal (n % 10)))
 
 abbrev pub width_piece : Option ℕ → List ℕ
 width_piece None = []
-width_piece (Some n) = codes ", " ++ (millimetres n ++ codes " mm")
+width_piece (Some n) = codes ", " ++ (millimetres_text n ++ codes " mm")
 
 abbrev pub size_text : Label → DrawOptions → DrawnSymbol → List ℕ
 size_text label options symbol =
     codes ", " ++ (decimal (drawn_grid symbol).columns ++ (codes " modules"
-    ++ (width_piece (width_in (drawn_grid symbol).columns label options) ++ 10 ∷ [])))
+    ++ (width_piece (physical_width (drawn_grid symbol).columns label options) ++ 10 ∷ [])))
 
 -- The segments of a content in a version.
-abbrev pub TellsPlan : Content → List ℕ → Version → List ℕ → Type 0
-TellsPlan content bytes version text =
+abbrev pub IsPlanText : Content → List ℕ → Version → List ℕ → Type 0
+IsPlanText content bytes version text =
     (plan : List Segment) × IsPlanAs content bytes version plan × (text ≡ segments_text plan)
 
 -- The same, if there is such a version, as that of every symbol is.
-abbrev pub TellsKnownPlan : Content → List ℕ → Version → List ℕ → Type 0
-TellsKnownPlan content bytes version text =
-    (HasMicroNumber version × TellsPlan content bytes version text)
+abbrev pub IsKnownPlanText : Content → List ℕ → Version → List ℕ → Type 0
+IsKnownPlanText content bytes version text =
+    (HasMicroNumber version × IsPlanText content bytes version text)
     ⊎ ((HasMicroNumber version → ⊥) × (text ≡ []))
 
 -- The segments of a content, of which the symbol has all.
-abbrev pub TellsSegments : Label → Option (List ℕ) → DrawnSymbol → List ℕ → Type 0
-TellsSegments label None symbol text = text ≡ []
-TellsSegments label (Some content) symbol text = TellsKnownPlan label.content content symbol.version text
+abbrev pub IsSegmentsText : Label → Option (List ℕ) → DrawnSymbol → List ℕ → Type 0
+IsSegmentsText label None symbol text = text ≡ []
+IsSegmentsText label (Some content) symbol text = IsKnownPlanText label.content content symbol.version text
 
 -- Bytes that begin with a bracket are no elements.
 abbrev pub AreNoElements : List ℕ → Stop → Type 0
@@ -147,17 +147,17 @@ abbrev pub HasNoData : Content → List ℕ → Stop → Type 0
 HasNoData Gs1 bytes stop = (is_bracketed bytes ≡ true) × AreNoElements bytes stop
 HasNoData content bytes stop = ⊥
 
--- Nothing is told of a content: memory ran out, or it has no segments.
-abbrev pub TellsNotOf : Content → List ℕ → Stop → Type 0
-TellsNotOf content bytes stop = (stop ≡ Fault (Symbol OutOfMemory)) ⊎ HasNoData content bytes stop
+-- There are no details of a content: memory ran out, or it has no segments.
+abbrev pub IsDetailsStopOf : Content → List ℕ → Stop → Type 0
+IsDetailsStopOf content bytes stop = (stop ≡ Fault (Symbol OutOfMemory)) ⊎ HasNoData content bytes stop
 
-abbrev pub TellsNot : Label → Option (List ℕ) → Stop → Type 0
-TellsNot label None stop = stop ≡ Fault (Symbol OutOfMemory)
-TellsNot label (Some content) stop = TellsNotOf label.content content stop
+abbrev pub IsDetailsStop : Label → Option (List ℕ) → Stop → Type 0
+IsDetailsStop label None stop = stop ≡ Fault (Symbol OutOfMemory)
+IsDetailsStop label (Some content) stop = IsDetailsStopOf label.content content stop
 
--- What is told of a symbol: its segments, too, where it has all of a content.
-pub record TellsSymbol (label : Label) (options : DrawOptions) (content : Option (List ℕ)) (symbol : DrawnSymbol)
+-- The details of a symbol: its segments, too, where it has all of a content.
+pub record AreDetails (label : Label) (options : DrawOptions) (content : Option (List ℕ)) (symbol : DrawnSymbol)
     (text : List ℕ) : Type 0 where
   pub segments : List ℕ
-  pub are_segments : TellsSegments label content symbol segments
+  pub are_segments : IsSegmentsText label content symbol segments
   pub text_is : text ≡ head_text symbol ++ (segments ++ size_text label options symbol)

@@ -4,9 +4,9 @@ use Rattle.std.proofs.lemmas.{Grind.common_steps, List.take_all}
 use Rattle.std.specs.String.{string_bytes}
 use Rattle.qrcode_bits.specs.{Contents.parsed_byte, Parsing.parsed, Plans.IsChosenPlan}
 use Rattle.qrcode_bits.specs.declared.optimize.Segment.{Segment}
-use Rattle.qrlabel.specs.Tells.{segments_text}
-use Rattle.qrlabel.proofs.TellLemmas.{parsed_each}
-use Rattle.qrlabel.proofs.info.push_data.Goals as goal
+use Rattle.qrlabel.specs.Details.{segments_text}
+use Rattle.qrlabel.proofs.DetailsLemmas.{parsed_each}
+use Rattle.qrlabel.proofs.details.push_data.Goals as goal
 
 pub returns-clause-plan : goal.returns-clause-plan
 returns-clause-plan c =

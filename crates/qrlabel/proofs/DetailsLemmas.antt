@@ -1,4 +1,4 @@
--- What is told of the segments of a content.
+-- The segments of a content.
 use Rattle.std.proofs.Common.{◌≡◌, ℕ, List, map, refl}
 use Rattle.qrcode_bits.specs.Contents.{parsed_byte, parsed_bytes}
 use Rattle.qrcode_bits.specs.declared.bits.front.Content.{Content as FrontContent}

@@ -1,4 +1,4 @@
-//! What is told of a symbol: its version, level and mask, the modes of its segments, and its size.
+//! The details of a symbol: its version, level and mask, the modes of its segments, and its size.
 ghost use Rattle.std.specs.Prelude.{◌≡◌, ◌↔◌, true, false, IsTrue, ℕ, ◌++◌, ◌<◌, ◌≤◌, ◌^◌};
 ghost use Rattle.std.specs.Prelude.{List, length, map, decimal, OnOk, IfOk, IfErr, Some};
 ghost use Rattle.std.specs.Option.{option_copied};
@@ -9,11 +9,11 @@ ghost use Rattle.qrcode_bits.specs.Parsing.{parsed};
 ghost use Rattle.qrcode_bits.specs.Plans.{IsChosenPlan};
 ghost use Rattle.qrcode_bits.specs.declared.optimize.Segment.{Segment};
 ghost use Rattle.qrcode_core.specs.Drawn.{drawn_grid};
-ghost use Rattle.qrlabel.specs.Tells.{IsPlanIn, AreDataAs, mode_piece, count_of};
-ghost use Rattle.qrlabel.specs.Tells.{segment_piece, version_piece, mask_number, head_text};
-ghost use Rattle.qrlabel.specs.Tells.{segments_text, nearest_to, width_of_dots, width_in};
-ghost use Rattle.qrlabel.specs.Tells.{millimetres, width_piece, size_text, TellsSymbol};
-ghost use Rattle.qrlabel.specs.Tells.{TellsNot, TellsNotOf, TellsKnownPlan, TellsPlan};
+ghost use Rattle.qrlabel.specs.Details.{IsPlanIn, AreDataAs, mode_piece, count_of};
+ghost use Rattle.qrlabel.specs.Details.{segment_text, version_piece, mask_number, head_text};
+ghost use Rattle.qrlabel.specs.Details.{segments_text, nearest_to, width_of_dots, physical_width};
+ghost use Rattle.qrlabel.specs.Details.{millimetres_text, width_piece, size_text, AreDetails};
+ghost use Rattle.qrlabel.specs.Details.{IsDetailsStop, IsDetailsStopOf, IsKnownPlanText, IsPlanText};
 ghost use Rattle.qrlabel.specs.Contents.{is_bracketed};
 ghost use Rattle.qrcode_base.specs.Names.{level_text};
 
@@ -33,7 +33,7 @@ use qrcode_render::DrawOptions;
 use qrcode_render::bounds::MAX_DPI;
 use std::alloc::{AllocError, Global};
 
-/// Returns what is told of a symbol. Its segments are those of the content, if it is given: the
+/// Returns the details of a symbol. Its segments are those of the content, if it is given: the
 /// symbol has all of it. It fails with the stop of elements, and for lack of memory.
 pub fn symbol_text(
     alloc: Global,
@@ -42,9 +42,9 @@ pub fn symbol_text(
     content: Option<&[u8]>,
     symbol: &Symbol,
 ) -> Result<Vec<u8>, Stop>
-    ensures told { IfOk result (λ text. TellsSymbol label.now options.now
+    ensures details { IfOk result (λ text. AreDetails label.now options.now
         (option_copied content.entry) symbol.now text.items) }
-    ensures refused { IfErr result (TellsNot label.now (option_copied content.entry)) }
+    ensures refused { IfErr result (IsDetailsStop label.now (option_copied content.entry)) }
 {
     let mut text = String::new(alloc);
     push_head(&mut text, symbol)?;
@@ -131,7 +131,7 @@ fn mode_piece(mode: Mode) -> &'static str
     }
 }
 
-/// Returns how many characters so many bytes are.
+/// Returns the number of characters that `n` bytes of a mode are.
 fn count_of(mode: Mode, n: usize) -> usize
     ensures { result ≡ count_of mode n }
 {
@@ -144,7 +144,7 @@ fn count_of(mode: Mode, n: usize) -> usize
 /// Appends a segment: its mode, and its number of characters.
 fn push_segment(text: &mut String, segment: Segment) -> Result<(), AllocError>
     ensures { OnOk result
-        (string_bytes text.new ≡ string_bytes text.old ++ segment_piece segment) }
+        (string_bytes text.new ≡ string_bytes text.old ++ segment_text segment) }
 {
     text.push_str(mode_piece(segment.mode))?;
     let bytes = segment.end.saturating_sub(segment.begin);
@@ -241,9 +241,10 @@ fn push_segments(
     bytes: &[u8],
     version: Version,
 ) -> Result<(), Stop>
-    ensures told { OnOk result ((told : List ℕ) × TellsKnownPlan content bytes.now version told
-        × (string_bytes text.new ≡ string_bytes text.old ++ told)) }
-    ensures refused { IfErr result (TellsNotOf content bytes.now) }
+    ensures details { OnOk result ((piece : List ℕ)
+        × IsKnownPlanText content bytes.now version piece
+        × (string_bytes text.new ≡ string_bytes text.old ++ piece)) }
+    ensures refused { IfErr result (IsDetailsStopOf content bytes.now) }
 {
     if !exists(version) {
         return Ok(());
@@ -277,9 +278,9 @@ fn push_bracketed(
 ) -> Result<(), Stop>
     requires micro { HasMicroNumber version }
     requires bracketed { is_bracketed bytes.now ≡ true }
-    ensures told { OnOk result ((told : List ℕ) × TellsPlan Content.Gs1 bytes.now version told
-        × (string_bytes text.new ≡ string_bytes text.old ++ told)) }
-    ensures refused { IfErr result (TellsNotOf Content.Gs1 bytes.now) }
+    ensures details { OnOk result ((piece : List ℕ) × IsPlanText Content.Gs1 bytes.now version piece
+        × (string_bytes text.new ≡ string_bytes text.old ++ piece)) }
+    ensures refused { IfErr result (IsDetailsStopOf Content.Gs1 bytes.now) }
 {
     let written = utf8_of(bytes)?;
     match element_string(alloc, written) {
@@ -298,7 +299,7 @@ fn nearest_to(dividend: usize, divisor: usize) -> usize
     (2 * dividend + divisor) / (2 * divisor)
 }
 
-/// Returns the width of modules of so many dots, in hundredths of a millimetre, if the dots of an
+/// Returns the width of modules of `scale` dots, in hundredths of a millimetre, if the dots of an
 /// inch are known.
 fn width_of_dots(modules: usize, scale: usize, dpi: Option<usize>) -> Option<usize>
     requires modules { modules ≤ 177 }
@@ -313,9 +314,9 @@ fn width_of_dots(modules: usize, scale: usize, dpi: Option<usize>) -> Option<usi
 }
 
 /// Returns the width of a symbol in hundredths of a millimetre, if it is known.
-fn width_in(modules: usize, label: &Label, options: &DrawOptions) -> Option<usize>
+fn physical_width(modules: usize, label: &Label, options: &DrawOptions) -> Option<usize>
     requires { modules ≤ 177 }
-    ensures { result ≡ width_in modules label.now options.now }
+    ensures { result ≡ physical_width modules label.now options.now }
 {
     match options.module_mm {
         Some(module) => Some(modules * module),
@@ -325,7 +326,7 @@ fn width_in(modules: usize, label: &Label, options: &DrawOptions) -> Option<usiz
 
 /// Appends hundredths of a millimetre as millimetres.
 fn push_millimetres(text: &mut String, n: usize) -> Result<(), AllocError>
-    ensures { OnOk result (string_bytes text.new ≡ string_bytes text.old ++ millimetres n) }
+    ensures { OnOk result (string_bytes text.new ≡ string_bytes text.old ++ millimetres_text n) }
 {
     push_number(text, n / 100)?;
     text.push_str(".")?;
@@ -359,6 +360,6 @@ fn push_size(
     text.push_str(", ")?;
     push_number(text, modules)?;
     text.push_str(" modules")?;
-    push_width(text, width_in(modules, label, options))?;
+    push_width(text, physical_width(modules, label, options))?;
     text.push_str("\n")
 }
