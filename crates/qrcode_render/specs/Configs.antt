@@ -79,7 +79,7 @@ pub record IsReadFrom (options : TextMap (List ℕ)) (s : Settings) : Type 0 whe
   pub any_colors_is : s.any_colors ≡ flag_at options AnyColors
 
 -- The options ask for these settings, which the format has and which are within their bounds.
-pub record AsksFor (format : Format) (options : TextMap (List ℕ)) (s : Settings) : Type 0 where
+pub record AsksSettings (format : Format) (options : TextMap (List ℕ)) (s : Settings) : Type 0 where
   pub right : wrong_option format options ≡ None
   pub read : IsReadFrom options s
   pub valid : invalid_setting format s ≡ None
@@ -88,7 +88,7 @@ pub record AsksFor (format : Format) (options : TextMap (List ℕ)) (s : Setting
 pub record IsMadeFrom (format : Format) (options : TextMap (List ℕ)) (o : DrawOptions)
     : Type 0 where
   pub settings : Settings
-  pub asked : AsksFor format options settings
+  pub asked : AsksSettings format options settings
   pub made : IsMadeOf format settings o
 
 -- An option is refused: it is the first that is wrong; or none is, and it is the first that is not

@@ -1,7 +1,7 @@
 -- Values of options as words: numbers, sizes in millimetres, positions and flags.
 use Rattle.std.specs.Prelude.{ℕ, ◌-◌, ◌+◌, ◌*◌, ◌^◌, nat_lt, nat_le, ◌==◌, Bool, true, false, ◌&&◌}
-use Rattle.std.specs.Prelude.{if◌then◌else◌, bytes_eq, codes}
-use Rattle.std.specs.Prelude.{List, [], ◌∷◌, length, Option, None, Some, option_map, option_and_then}
+use Rattle.std.specs.Prelude.{if◌then◌else◌, bytes_eq, codes, option_map, option_and_then}
+use Rattle.std.specs.Prelude.{List, [], ◌∷◌, length, Option, None, Some}
 use Rattle.std.specs.List.{list_all, position_or_len, before_first, after_first}
 use Rattle.std.specs.Char.{digit_value}
 use Rattle.std.specs.Str.Parse.{digits_value, without_leading_plus}
@@ -39,8 +39,8 @@ with_hundredths (Some whole) (Some more) =
 with_hundredths _ _ = None
 
 -- What stands before and after the first byte of this value, if there is one.
-abbrev pub parts_at : ℕ → List ℕ → Option (List ℕ × List ℕ)
-parts_at c word =
+abbrev pub around_first : ℕ → List ℕ → Option (List ℕ × List ℕ)
+around_first c word =
     if position_or_len (λ b. b == c) word == length word then None
     else Some (before_first (λ b. b == c) word, after_first (λ b. b == c) word)
 
@@ -48,7 +48,7 @@ parts_at c word =
 -- after it.
 abbrev pub word_hundredths : List ℕ → Option ℕ
 word_hundredths word =
-    elim (parts_at 46 word) [
+    elim (around_first 46 word) [
       | Some parts ↦ with_hundredths (word_number parts.0) (fraction_hundredths parts.1)
       | None ↦ with_hundredths (word_number word) (Some 0)
     ]
@@ -57,7 +57,7 @@ word_hundredths word =
 abbrev pub word_position : List ℕ → Option (ℕ × ℕ)
 word_position word =
     option_and_then (λ parts. option_and_then (λ x. option_map (λ y. (x, y))
-    (word_number parts.1)) (word_number parts.0)) (parts_at 44 word)
+    (word_number parts.1)) (word_number parts.0)) (around_first 44 word)
 
 -- The value of a flag.
 abbrev pub word_flag : List ℕ → Option Bool

@@ -13,7 +13,7 @@ use Rattle.qrcode_core.specs.Grids.{Grid}
 use Rattle.qrcode_render.specs.declared.format.Format.{Format}
 use Rattle.qrcode_render.specs.declared.settings.Settings.{Settings}
 use Rattle.qrcode_render.specs.Asked.{ShowsAsAsked}
-use Rattle.qrcode_render.specs.Configs.{AsksFor, RefusesName}
+use Rattle.qrcode_render.specs.Configs.{AsksSettings, RefusesName}
 use Rattle.qrcode_render.specs.Formats.{is_text_format}
 use Rattle.qrcode_render.specs.Pictures.{IsDrawable}
 
@@ -27,7 +27,7 @@ IsOutput _ _ _ = ⊥
 pub record DrawsGrid (format : Format) (grid : Grid) (config : RenderConfig)
     (output : RenderOutput) : Type 0 where
   pub settings : Settings
-  pub asked : AsksFor format (render_options config) settings
+  pub asked : AsksSettings format (render_options config) settings
   pub drawable : IsDrawable grid
   pub bytes : List ℕ
   pub has_bytes : IsOutput (is_text_format format) bytes output
@@ -44,7 +44,8 @@ IsRendererRefusal Invalid impossible _ = ⊥
 
 -- The configuration asks for settings that the format has and that are within their bounds.
 abbrev pub IsAccepted : Format → RenderConfig → Type 0
-IsAccepted format config = (settings : Settings) × AsksFor format (render_options config) settings
+IsAccepted format config =
+    (settings : Settings) × AsksSettings format (render_options config) settings
 
 -- The results of a renderer of a format: the output, or the error that an option is refused; or,
 -- where none is, that the grid has no modules or is too large.

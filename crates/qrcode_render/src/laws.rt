@@ -20,8 +20,8 @@ pub fn strings_are_read()
     ensures { StringsAreRead }
 {}
 
-/// The light of each value of a channel, from which the contrast is computed, is the nearest
-/// millionth.
+/// The light of each value of a channel, from which the contrast of two colours is computed, is the
+/// nearest millionth.
 pub fn light_is_nearest()
     ensures { LightIsNearest }
 {}

@@ -1,8 +1,9 @@
 //! Values of options as words: numbers, sizes in millimetres, positions and flags. `Rgb::of_word`
 //! and `Ground::of_word` read colours.
 ghost use Rattle.std.specs.Prelude.{◌≡◌};
-ghost use Rattle.qrcode_render.specs.OptionWords.{word_flag, word_hundredths, word_number, word_position};
-ghost use Rattle.qrcode_render.specs.OptionWords.{decimal_digit, fraction_hundredths, with_hundredths};
+ghost use Rattle.qrcode_render.specs.OptionWords.{word_flag, word_hundredths, word_number};
+ghost use Rattle.qrcode_render.specs.OptionWords.{word_position, decimal_digit};
+ghost use Rattle.qrcode_render.specs.OptionWords.{fraction_hundredths, with_hundredths};
 
 /// Returns the number that decimal digits write, with or without a plus sign before them. Returns
 /// `None` for another word, and for a number of 2^64 and more.
