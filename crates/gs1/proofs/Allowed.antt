@@ -33,7 +33,7 @@ not_wrong false place reason e = refl
 at_least : (m n : ℕ) → nat_lt m n ≡ false → n ≤ m
 at_least m n e = grind (arith, common_steps)
 
-none_mapped : {X Y : Type 0} (f : X → Y) (o : Option X) → option_map f o ≡ None → o ≡ None
+pub none_mapped : {X Y : Type 0} (f : X → Y) (o : Option X) → option_map f o ≡ None → o ≡ None
 none_mapped f None e = refl
 none_mapped f (Some x) e = absurd (let h : Some (f x) ≡ None = e in cc)
 
@@ -124,7 +124,7 @@ exact_length (Optional characters least greatest check ∷ rest) size value some
 -- ---- Elements
 
 -- The tests of an identifier.
-identifier_tests : (number : ℕ) (identifier : List ℕ) → identifier_error number identifier ≡ None →
+pub identifier_tests : (number : ℕ) (identifier : List ℕ) → identifier_error number identifier ≡ None →
     (is_identifier identifier ≡ true) × (is_assigned identifier ≡ true)
 unfolding identifier_error
 identifier_tests number identifier e = passed (is_identifier identifier) (is_assigned identifier) _ _ e
@@ -185,3 +185,10 @@ all_readable number [] none = tt
 all_readable number (e ∷ elements) none =
     let split = neither (element_error number e) (first_error (number + 1) elements) none in
     ((readable number e split.0).0, all_readable (number + 1) elements split.1)
+
+-- The value of an element that the table allows has characters of the set.
+pub allowed_value : (number : ℕ) (e : Element) → element_error number e ≡ None → AllPass is_encodable e.value
+unfolding element_error
+allowed_value number e none =
+    let split = neither (identifier_error number e.identifier) _ none in
+    value_encodable (components (number_of e.identifier)) 0 e.value (value_tests number e.identifier e.value split.1).1

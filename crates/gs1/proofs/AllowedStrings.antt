@@ -32,7 +32,7 @@ bracketed_parts number (part ∷ parts) none =
     ap (λ a. P a (flat_map in_brackets (map element_of parts))) first ∙ ap (P (0x28 ∷ part)) others
 
 -- An allowed text begins with an opening bracket, and its elements are allowed.
-text_tests : (text : List ℕ) → text_error text ≡ None →
+pub text_tests : (text : List ℕ) → text_error text ≡ None →
     (is_opening (slice_index text 0) ≡ true) × (first_error 0 (written_elements text) ≡ None)
 text_tests text none =
     elim (is_opening (slice_index text 0)) as (λ b. cond b (first_error 0 (written_elements text)) (Some NoElements) ≡ None →

@@ -21,3 +21,10 @@ pub mod AllowedStrings
 pub mod Refused
 pub mod Conflicts
 pub mod Scans
+pub mod Percents
+pub mod Rules
+pub mod LinkCuts
+pub mod LinkElements
+pub mod LinkTexts
+pub mod LinkReads
+pub mod LinkWhole

@@ -10,3 +10,6 @@ pub mod Strings
 pub mod Checked
 pub mod Together
 pub mod Read
+pub mod Percent
+pub mod Links
+pub mod LinkReader

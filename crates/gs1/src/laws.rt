@@ -1,5 +1,6 @@
 //! Laws: facts about element strings. Each function has no body; its contract is the fact.
 ghost use Rattle.gs1.specs.Keys.{HaveRightDigits};
+ghost use Rattle.gs1.specs.Percent.{HaveOneText};
 ghost use Rattle.gs1.specs.Reader.{HaveOneList, HaveStringsApart};
 ghost use Rattle.gs1.specs.Strings.{HaveOneOutcome};
 
@@ -21,4 +22,10 @@ pub fn have_one_outcome()
 /// The check digit that a refusal names is right, and no other is.
 pub fn have_right_digits()
     ensures { HaveRightDigits }
+{}
+
+/// Bytes that are written with percent-escapes are read as the same bytes, and no text is read as
+/// two.
+pub fn have_one_text()
+    ensures { HaveOneText }
 {}

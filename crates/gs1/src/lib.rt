@@ -24,6 +24,12 @@ mod error;
 mod identifiers;
 mod keys;
 pub mod laws;
+mod link;
+mod link_error;
+mod link_rules;
+#[cfg(test)]
+mod link_tests;
+mod percent;
 mod read;
 #[cfg(test)]
 mod read_tests;
@@ -42,6 +48,9 @@ mod write;
 pub use checked::{check_element_values, checked_element_string};
 pub use error::Gs1Error;
 pub use identifiers::right_check_digit;
+pub use link::digital_link;
+pub use link_error::LinkError;
+pub use percent::{PercentError, percent_decoded, percent_escaped};
 pub use read::{brackets, elements_of};
 pub use reason::Reason;
 pub use refusal::CheckError;

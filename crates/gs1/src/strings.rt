@@ -95,7 +95,7 @@ pub fn written_element<'a>(text: &'a [u8], number: usize) -> Option<Element<'a>>
 }
 
 /// Returns the element that is written between two opening brackets.
-fn element_of<'a>(part: &'a [u8]) -> Element<'a>
+pub(crate) fn element_of<'a>(part: &'a [u8]) -> Element<'a>
     ensures { element_of part.now
         ≡ record { identifier = result.identifier.now; value = result.value.now } }
 {

@@ -16,7 +16,7 @@ use thiserror::Error;
 
 /// The most bytes that write elements which a symbol holds: 7089 digits, in elements of three,
 /// each with two brackets.
-const LONGEST_TEXT: usize = 11815;
+pub(crate) const LONGEST_TEXT: usize = 11815;
 
 /// Why elements may not stand together. Elements are counted from 0; `identifier` is the number
 /// that the digits of the identifier write.
@@ -136,7 +136,7 @@ fn barred(number: usize) -> &'static [(usize, usize)]
 }
 
 /// Returns whether a number is in one of the ranges.
-fn is_among(ranges: &[(usize, usize)], number: usize) -> bool
+pub(crate) fn is_among(ranges: &[(usize, usize)], number: usize) -> bool
     ensures { result ≡ is_among ranges.now number }
 {
     ranges
@@ -146,7 +146,7 @@ fn is_among(ranges: &[(usize, usize)], number: usize) -> bool
 
 /// Returns the first of the elements, written behind a first opening bracket, whose identifier is
 /// in one of the ranges.
-fn first_among(ranges: &[(usize, usize)], text: &[u8]) -> Option<usize>
+pub(crate) fn first_among(ranges: &[(usize, usize)], text: &[u8]) -> Option<usize>
     ensures { result ≡ first_among ranges.now 0 (elements_behind text.now) }
 {
     let mut rest = text;
@@ -166,7 +166,7 @@ fn first_among(ranges: &[(usize, usize)], text: &[u8]) -> Option<usize>
 }
 
 /// Returns the number of the identifier of an element that is written between opening brackets.
-fn number_at(part: &[u8]) -> usize
+pub(crate) fn number_at(part: &[u8]) -> usize
     ensures { result ≡ number_of (element_of part.now).identifier }
 {
     number_of(&part[..first_of(part, b')')])
