@@ -47,7 +47,7 @@ any_place m n e none =
 encodable_small : (c : ℕ) → is_encodable c ≡ true → c < 256
 encodable_small c e = grind (arith, common_steps)
 
-linkable : (n : ℕ) (e : Element) → element_error n e ≡ None → IsLinkable e
+pub linkable : (n : ℕ) (e : Element) → element_error n e ≡ None → IsLinkable e
 unfolding element_error
 linkable n e none =
     let split = neither (identifier_error n e.identifier) _ none in
@@ -231,7 +231,7 @@ filtered p test (e ∷ elements) none =
     neither_true true b e = absurd (let h : true ≡ false = e in cc)
     neither_true false b e = (refl, e)
 
-alone : (place n : ℕ) (later : List Element) → repeated_fault place n later ≡ None → place_of n later ≡ None
+pub alone : (place n : ℕ) (later : List Element) → repeated_fault place n later ≡ None → place_of n later ≡ None
 unfolding repeated_fault
 alone place n later none = nothing (place_of n later) _ none
   where

@@ -1,6 +1,6 @@
 -- The link of a text without a fault is read as its elements.
 use Rattle.std.proofs.Common.{◌≡◌, ℕ, Bool, true, false, cond, List, [], ◌∷◌, ◌++◌, length, ◌+◌, refl, ap, sym, subst, ◌∙◌}
-use Rattle.std.specs.Prelude.{All, Option, None, Some, if◌then◌else◌, nat_lt, is_some, ◌&&◌, ◌==◌, not}
+use Rattle.std.specs.Prelude.{All, Contains, Option, None, Some, if◌then◌else◌, nat_lt, is_some, ◌&&◌, ◌==◌, not}
 use Rattle.std.specs.Option.{option_or, option_map, option_to_list}
 use Rattle.std.specs.List.{list_any}
 use Rattle.std.proofs.lemmas.List.Elements.{All-cons, All-append, All-weaker, All-filter}
@@ -23,6 +23,7 @@ use Rattle.gs1.proofs.AllowedStrings.{text_tests}
 use Rattle.gs1.proofs.LinkElements.{IsLinkable, all_linkable, among_of, holds_of, qualifying, all_qualifying}
 use Rattle.gs1.proofs.LinkElements.{all_attributes, no_twins, some_key, key_order}
 use Rattle.gs1.proofs.LinkReads.{has_parts}
+use Rattle.gs1.proofs.LinkKept.{all_kept}
 
 elements_read : (domain : List ℕ) (elements : List Element) → is_domain domain ≡ true → first_error 0 elements ≡ None →
     key_fault elements ≡ None → first_rule_fault (order elements) 0 elements ≡ None →
@@ -53,6 +54,16 @@ elements_read domain elements is table some_one rules =
             (All-append IsLinkable (key.0 ∷ qualifying (order elements) elements) (query_elements elements) good_path good_query);
       };
     }
+
+-- No element of the text is lost.
+pub elements_kept : (text domain : List ℕ) → link_error text domain ≡ None →
+    All (Contains (linked (written_elements text))) (written_elements text)
+elements_kept text domain none =
+    let first = neither (length_fault text) _ none in
+    let second = neither (option_map (λ error. Elements error) (text_error text)) _ first.1 in
+    let third = neither (domain_fault domain) (elements_fault (written_elements text)) second.1 in
+    let rules = neither (key_fault (written_elements text)) _ third.1 in
+    all_kept (written_elements text) rules.1
 
 right_domain : (domain : List ℕ) → domain_fault domain ≡ None → is_domain domain ≡ true
 unfolding domain_fault

@@ -1,5 +1,5 @@
 //! GS1 Digital Link: links of elements.
-ghost use Rattle.std.specs.Prelude.{◌≡◌, ◌∷◌, ◌++◌, List, None, IfOk, OnOk, IfErr};
+ghost use Rattle.std.specs.Prelude.{◌≡◌, ◌∷◌, ◌++◌, List, None, All, Contains, IfOk, OnOk, IfErr};
 ghost use Rattle.std.specs.List.{flat_map, filter, list_all};
 ghost use Rattle.std.specs.Option.{option_to_list, option_map};
 ghost use Rattle.std.specs.Result.{result_err};
@@ -45,6 +45,10 @@ pub fn digital_link(alloc: Global, text: &str, domain: &str) -> Result<Vec<u8>, 
     ensures written { IfOk result (λ link. link.items
         ≡ link_of domain.now (written_elements text.now)) }
     ensures read { IfOk result (λ link. ReadsLink link.items (linked (written_elements text.now))) }
+    // None of the elements is lost.
+    ensures kept { OnOk result (All (Contains (linked (written_elements text.now)))
+        (written_elements text.now)) }
+
     ensures faultless { OnOk result (link_error text.now domain.now ≡ None) }
     ensures refused { IfErr result (IsRefusedLink text.now domain.now) }
 {
