@@ -1,15 +1,15 @@
 -- No element of a text without a fault is lost in its link.
-use Rattle.std.proofs.Common.{◌≡◌, ℕ, zero, suc, ◌+◌, ◌<◌, ◌≤◌, Bool, true, false, cond, not, List, [], ◌∷◌, ◌++◌}
-use Rattle.std.proofs.Common.{length, get_or, refl, arith, ap, sym, subst, ◌∙◌}
-use Rattle.std.specs.Prelude.{All, Contains, Option, None, Some, is_some, ◌&&◌, ◌==◌, if◌then◌else◌, slice_get}
-use Rattle.std.specs.List.{flat_map, filter, list_any}
-use Rattle.std.specs.Option.{option_or, option_and_then, option_to_list}
+use Rattle.std.proofs.Common.{◌≡◌, ℕ, zero, suc, ◌+◌, ◌<◌, Bool, true, false, cond, not, List, [], ◌∷◌}
+use Rattle.std.proofs.Common.{get_or, refl, arith, ap, sym, subst, ◌∙◌}
+use Rattle.std.specs.Prelude.{All, Contains, Option, None, Some, is_some, ◌&&◌, ◌||◌, ◌==◌, if◌then◌else◌, slice_get}
+use Rattle.std.specs.List.{list_any}
+use Rattle.std.specs.Option.{option_and_then, option_to_list}
 use Rattle.std.proofs.lemmas.Grind.{common_steps}
 use Rattle.std.proofs.lemmas.Option.{slice_get-get_or}
 use Rattle.std.proofs.lemmas.List.Elements.{Contains-append_left, Contains-append_right}
 use Rattle.gs1.specs.Elements.{Element}
 use Rattle.gs1.specs.Together.{is_among, first_among}
-use Rattle.gs1.specs.Links.{keys, qualifiers, number, is_attribute, place_of, element_with, key_of, order}
+use Rattle.gs1.specs.Links.{keys, qualifiers, number, is_attribute, element_with, primary_key, qualifier_order}
 use Rattle.gs1.specs.Links.{path_elements, query_elements, linked, qualifier_fault, second_key_fault}
 use Rattle.gs1.specs.Links.{repeated_fault, later_fault, first_rule_fault}
 use Rattle.gs1.specs.declared.link_error.LinkError.{LinkError}
@@ -168,30 +168,34 @@ in_query (x ∷ elements) (suc k) e at is =
 same_range : (n : ℕ) → is_among ((n, n) ∷ []) n ≡ true
 same_range n = grind (arith, common_steps)
 
-kept_at : (elements : List Element) (k : ℕ) (e : Element) → first_rule_fault (order elements) 0 elements ≡ None →
+zero_more : (k : ℕ) → 0 + k ≡ k
+zero_more k = omega arith
+
+kept_at : (elements : List Element) (k : ℕ) (e : Element) → first_rule_fault (qualifier_order elements) 0 elements ≡ None →
     slice_get elements k ≡ Some e → Contains (linked elements) e
 kept_at elements k e rules at =
     elim (is_among keys (number e)) as (λ b. is_among keys (number e) ≡ b → Contains (linked elements) e) [
       | true ↦ λ key.
-          (let first : first_among keys 0 elements ≡ Some (0 + k) =
-          first_at keys 0 k elements e at key (λ j x less there. (apart (order elements) 0 elements j k x e rules less there at).not_keys key) in
-          let is : key_of elements ≡ Some e =
+          (let first : first_among keys 0 elements ≡ Some k = subst (λ m. first_among keys 0 elements ≡ Some m) (zero_more k)
+          (first_at keys 0 k elements e at key (λ j x less there. (apart (qualifier_order elements) 0 elements j k x e rules less there at).not_keys key)) in
+          let is : primary_key elements ≡ Some e =
           ap (λ o. option_and_then (λ place. slice_get elements place) o) first ∙ at in
           Contains-append_left (path_elements elements) (query_elements elements) e
-          (Contains-append_left (option_to_list (key_of elements)) (qualifying (order elements) elements) e
+          (Contains-append_left (option_to_list (primary_key elements)) (qualifying (qualifier_order elements) elements) e
           (subst (λ o. Contains (option_to_list o) e) (sym is) (itself e))))
       | false ↦ λ no_key. elim (is_among qualifiers (number e)) as (λ b. is_among qualifiers (number e) ≡ b → Contains (linked elements) e) [
         | true ↦ λ qualifier.
-            (let right = right_qualifier (order elements) 0 elements k e rules at in
-            let any = in_order_of (order elements) right.0 (number e) right.1 qualifier in
-            let first : first_among ((number e, number e) ∷ []) 0 elements ≡ Some (0 + k) =
-            first_at ((number e, number e) ∷ []) 0 k elements e at (same_range (number e))
-            (λ j x less there. (apart (order elements) 0 elements j k x e rules less there at).numbers) in
+            (let right = right_qualifier (qualifier_order elements) 0 elements k e rules at in
+            let any = in_order_of (qualifier_order elements) right.0 (number e) right.1 qualifier in
+            let first : first_among ((number e, number e) ∷ []) 0 elements ≡ Some k =
+            subst (λ m. first_among ((number e, number e) ∷ []) 0 elements ≡ Some m) (zero_more k)
+            (first_at ((number e, number e) ∷ []) 0 k elements e at (same_range (number e))
+            (λ j x less there. (apart (qualifier_order elements) 0 elements j k x e rules less there at).numbers)) in
             let is : element_with (number e) elements ≡ Some e =
             ap (λ o. option_and_then (λ place. slice_get elements place) o) first ∙ at in
             Contains-append_left (path_elements elements) (query_elements elements) e
-            (Contains-append_right (option_to_list (key_of elements)) (qualifying (order elements) elements) e
-            (in_path elements (order elements) (number e) e is any)))
+            (Contains-append_right (option_to_list (primary_key elements)) (qualifying (qualifier_order elements) elements) e
+            (in_path elements (qualifier_order elements) (number e) e is any)))
         | false ↦ λ no_qualifier.
             Contains-append_right (path_elements elements) (query_elements elements) e
             (in_query elements k e at (rw (no_key, no_qualifier) refl))
@@ -199,7 +203,7 @@ kept_at elements k e rules at =
     ] refl
 
 -- Each element of the text is in its link.
-pub all_kept : (elements : List Element) → first_rule_fault (order elements) 0 elements ≡ None →
+pub all_kept : (elements : List Element) → first_rule_fault (qualifier_order elements) 0 elements ≡ None →
     All (Contains (linked elements)) elements
 all_kept elements rules k d within =
     kept_at elements k (get_or elements k d) rules (slice_get-get_or elements k d within)

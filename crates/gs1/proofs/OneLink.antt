@@ -6,8 +6,7 @@ use Rattle.std.specs.List.{slice_split, before_first, after_first, list_all}
 use Rattle.std.proofs.lemmas.Grind.{common_steps}
 use Rattle.std.proofs.lemmas.Bool.{cases_lt}
 use Rattle.std.proofs.lemmas.List.{drop_at, drop-drop}
-use Rattle.std.proofs.lemmas.List.Elements.{All-nil, All-cons, All-head, All-tail, All-append, All-weaker, All-drop}
-use Rattle.std.proofs.lemmas.List.Sums.{AllPass-from_list_all}
+use Rattle.std.proofs.lemmas.List.Elements.{All-head, All-tail, All-weaker, All-drop}
 use Rattle.gs1.specs.Identifiers.{is_decimal_digit}
 use Rattle.gs1.specs.Elements.{Element}
 use Rattle.gs1.specs.Values.{element_error}
@@ -15,7 +14,7 @@ use Rattle.gs1.specs.Together.{is_among}
 use Rattle.gs1.specs.Percent.{ReadsAs}
 use Rattle.gs1.specs.Links.{keys, number, order_of, https}
 use Rattle.gs1.specs.LinkReader.{http, is_slash, is_question, query_parts, ReadsPath, ReadsQuery, follows}
-use Rattle.gs1.specs.LinkReader.{HasParts, AreLinked, ReadsLink, HaveOneReading}
+use Rattle.gs1.specs.LinkReader.{AreLinked, LinksHaveOneReading}
 use Rattle.gs1.proofs.Faults.{both}
 use Rattle.gs1.proofs.Percents.{one_text}
 use Rattle.gs1.proofs.LinkCuts.{IsFree, before_at, after_at}
@@ -25,7 +24,7 @@ use Rattle.gs1.proofs.LinkElements.{IsLinkable, linkable}
 
 https_apart : (first second : List ℕ) → https ++ first ≡ http ++ second → ⊥
 https_apart first second e =
-    let fifth : 0x73 ≡ 0x3a = ap (λ l. slice_index l 4) e in absurd (omega arith)
+    let fifth : (λ (n : ℕ). n) 0x73 ≡ 0x3a = ap (λ l. slice_index l 4) e in omega (arith, fifth)
 
 -- Nothing but the rest can stand behind a scheme.
 pub same_rest : (link first second : List ℕ) → (link ≡ https ++ first) ⊎ (link ≡ http ++ first) →
@@ -259,7 +258,7 @@ query_linkable key qualifying query linked =
     (subst (All (λ e. element_error 0 e ≡ None)) (drop_at (key ∷ qualifying) query (length (key ∷ qualifying)) refl)
     (All-drop (λ e. element_error 0 e ≡ None) (length (key ∷ qualifying)) (key ∷ qualifying ++ query) linked.allowed))
 
-pub one_reading : HaveOneReading
+pub one_reading : LinksHaveOneReading
 one_reading link first second a b =
     let rests = same_rest link a.parts.rest b.parts.rest a.parts.scheme_is b.parts.scheme_is in
     let whole : a.parts.domain ∷ (a.parts.stem ++ a.parts.segments) ≡ b.parts.domain ∷ (b.parts.stem ++ b.parts.segments) =

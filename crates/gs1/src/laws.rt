@@ -1,6 +1,6 @@
 //! Laws: facts about element strings. Each function has no body; its contract is the fact.
 ghost use Rattle.gs1.specs.Keys.{HaveRightDigits};
-ghost use Rattle.gs1.specs.LinkReader.{HaveOneReading};
+ghost use Rattle.gs1.specs.LinkReader.{LinksHaveOneReading};
 ghost use Rattle.gs1.specs.Percent.{HaveOneText};
 ghost use Rattle.gs1.specs.Reader.{HaveOneList, HaveStringsApart};
 ghost use Rattle.gs1.specs.Strings.{HaveOneOutcome};
@@ -33,5 +33,5 @@ pub fn have_one_text()
 
 /// No link is read as two lists of elements.
 pub fn have_one_reading()
-    ensures { HaveOneReading }
+    ensures { LinksHaveOneReading }
 {}
