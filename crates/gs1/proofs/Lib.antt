@@ -27,4 +27,6 @@ pub mod LinkCuts
 pub mod LinkElements
 pub mod LinkTexts
 pub mod LinkReads
+pub mod LinkKept
 pub mod LinkWhole
+pub mod OneLink

@@ -1,10 +1,10 @@
 -- How the text of a link is cut: into its path and its query, its segments and its parts.
-use Rattle.std.proofs.Common.{◌≡◌, ℕ, ◌+◌, ◌<◌, Bool, true, false, cond, not, suc, List, [], ◌∷◌, ◌++◌}
-use Rattle.std.proofs.Common.{length, take, drop, map, refl, arith, ap, sym, subst, ◌∙◌, append_assoc, length-append}
+use Rattle.std.proofs.Common.{◌≡◌, ℕ, ◌+◌, ◌<◌, Bool, true, false, suc, List, [], ◌∷◌, ◌++◌}
+use Rattle.std.proofs.Common.{length, take, drop, refl, arith, ap, sym, ◌∙◌, append_assoc, length-append}
 use Rattle.std.specs.Prelude.{All}
 use Rattle.std.specs.List.{slice_split, position_or_len, before_first, after_first, flat_map}
 use Rattle.std.proofs.lemmas.List.{take_at, drop_at, drop_all, append-nil}
-use Rattle.std.proofs.lemmas.List.Elements.{All-head, All-tail, All-append, All-cons}
+use Rattle.std.proofs.lemmas.List.Elements.{All-head, All-tail}
 use Rattle.std.proofs.lemmas.List.Splits.{slice_split_none, slice_split_at}
 
 -- No element of the list passes the test.

@@ -1,23 +1,23 @@
 -- Elements of links: what the table says of their bytes, and which stand in the path and the query.
-use Rattle.std.proofs.Common.{◌≡◌, ◌≢◌, ℕ, ◌+◌, ◌<◌, ◌≤◌, Bool, true, false, cond, not, suc, List, [], ◌∷◌, ◌++◌}
-use Rattle.std.proofs.Common.{length, map, refl, arith, ap, sym, subst, ◌∙◌, inl, inr, add-one}
-use Rattle.std.specs.Prelude.{All, Option, None, Some, is_some, ◌&&◌, ◌||◌, ◌==◌, ◌⊎◌, if◌then◌else◌, slice_get, unwrap_or}
+use Rattle.std.proofs.Common.{◌≡◌, ℕ, ◌+◌, ◌<◌, Bool, true, false, cond, List, [], ◌∷◌, ◌++◌}
+use Rattle.std.proofs.Common.{map, refl, arith, ap, sym, subst, ◌∙◌, inl, inr, add-one}
+use Rattle.std.specs.Prelude.{All, Option, None, Some, is_some, ◌||◌, ◌==◌, ◌⊎◌, if◌then◌else◌, slice_get, unwrap_or}
 use Rattle.std.specs.List.{flat_map, filter, list_all, list_any}
-use Rattle.std.specs.Option.{option_or, option_map, option_and_then, option_to_list}
+use Rattle.std.specs.Option.{option_map, option_and_then, option_to_list}
 use Rattle.std.proofs.lemmas.Grind.{common_steps}
-use Rattle.std.proofs.lemmas.List.Elements.{All-nil, All-cons, All-head, All-tail, All-append, All-weaker, All-filter}
+use Rattle.std.proofs.lemmas.List.Elements.{All-nil, All-cons, All-weaker}
 use Rattle.std.proofs.lemmas.List.Sums.{AllPass-from_list_all}
 use Rattle.std.proofs.lemmas.Option.{get_or_from_slice_get, slice_get_within}
-use Rattle.gs1.specs.Identifiers.{is_decimal_digit, is_encodable, is_within}
-use Rattle.gs1.specs.Elements.{Element, is_identifier}
-use Rattle.gs1.specs.Values.{element_error, first_error, identifier_error, value_error, is_assigned}
+use Rattle.gs1.specs.Identifiers.{is_decimal_digit, is_encodable}
+use Rattle.gs1.specs.Elements.{Element}
+use Rattle.gs1.specs.Values.{element_error, first_error, identifier_error, value_error}
 use Rattle.gs1.specs.Together.{is_among, first_among}
-use Rattle.gs1.specs.Links.{keys, number, is_attribute, order_of, second_set, place_of, element_with}
-use Rattle.gs1.specs.Links.{key_of, order_for, order, query_elements, first_rule_fault, key_fault}
+use Rattle.gs1.specs.Links.{keys, number, is_attribute, order_of, second_set, place_with, element_with}
+use Rattle.gs1.specs.Links.{primary_key, order_for, qualifier_order, query_elements, first_rule_fault, no_key_fault}
 use Rattle.gs1.specs.Links.{qualifier_fault, later_fault, second_key_fault, repeated_fault}
 use Rattle.gs1.specs.LinkReader.{follows, has_twins}
 use Rattle.gs1.specs.declared.link_error.LinkError.{LinkError}
-use Rattle.gs1.specs.declared.link_error.LinkError.TheVariants.{RepeatedElement, NoKey}
+use Rattle.gs1.specs.declared.link_error.LinkError.TheVariants.{NoKey}
 use Rattle.gs1.proofs.Faults.{neither, both}
 use Rattle.gs1.proofs.Allowed.{identifier_tests, none_mapped, allowed_value}
 
@@ -47,7 +47,7 @@ any_place m n e none =
 encodable_small : (c : ℕ) → is_encodable c ≡ true → c < 256
 encodable_small c e = grind (arith, common_steps)
 
-linkable : (n : ℕ) (e : Element) → element_error n e ≡ None → IsLinkable e
+pub linkable : (n : ℕ) (e : Element) → element_error n e ≡ None → IsLinkable e
 unfolding element_error
 linkable n e none =
     let split = neither (identifier_error n e.identifier) _ none in
@@ -231,9 +231,9 @@ filtered p test (e ∷ elements) none =
     neither_true true b e = absurd (let h : true ≡ false = e in cc)
     neither_true false b e = (refl, e)
 
-alone : (place n : ℕ) (later : List Element) → repeated_fault place n later ≡ None → place_of n later ≡ None
+pub alone : (place n : ℕ) (later : List Element) → repeated_fault place n later ≡ None → place_with n later ≡ None
 unfolding repeated_fault
-alone place n later none = nothing (place_of n later) _ none
+alone place n later none = nothing (place_with n later) _ none
   where
     nothing : (o : Option ℕ) (x : LinkError) → (if is_some o then Some x else None) ≡ None → o ≡ None
     nothing None x e = refl
@@ -255,8 +255,8 @@ no_twins order place (e ∷ elements) none =
 
 -- ---- The key
 
-pub some_key : (elements : List Element) → key_fault elements ≡ None → (e : Element) × (key_of elements ≡ Some e)
-unfolding key_fault
+pub some_key : (elements : List Element) → no_key_fault elements ≡ None → (e : Element) × (primary_key elements ≡ Some e)
+unfolding no_key_fault
 some_key elements none =
     elim (first_among keys 0 elements) as (λ o. first_among keys 0 elements ≡ o → (if is_some o then None else Some NoKey) ≡ None →
     (e : Element) × (option_and_then (λ place. slice_get elements place) o ≡ Some e)) [
@@ -267,15 +267,15 @@ some_key elements none =
           (there.2.element, ap (slice_get elements) same ∙ there.2.here))
     ] refl none
 
-pub key_order : (elements : List Element) (key : Element) → key_of elements ≡ Some key →
-    (follows (map number (qualifying (order elements) elements)) (order_of (number key) false) ≡ true)
-    ⊎ (follows (map number (qualifying (order elements) elements)) (order_of (number key) true) ≡ true)
+pub key_order : (elements : List Element) (key : Element) → primary_key elements ≡ Some key →
+    (follows (map number (qualifying (qualifier_order elements) elements)) (order_of (number key) false) ≡ true)
+    ⊎ (follows (map number (qualifying (qualifier_order elements) elements)) (order_of (number key) true) ≡ true)
 key_order elements key is =
-    let same : order elements ≡ order_for elements (number key) = ap (λ o. order_for elements (unwrap_or (option_map number o) 0)) is in
-    let follow = in_order elements (order elements) in
-    elim (is_some (place_of (second_set (number key)) elements)) as (λ b. order elements ≡ order_of (number key) b →
-    (follows (map number (qualifying (order elements) elements)) (order_of (number key) false) ≡ true)
-    ⊎ (follows (map number (qualifying (order elements) elements)) (order_of (number key) true) ≡ true)) [
-      | true ↦ λ e. inr (let P : List ℕ → Type 0 = λ o. follows (map number (qualifying (order elements) elements)) o ≡ true in subst P e follow)
-      | false ↦ λ e. inl (let P : List ℕ → Type 0 = λ o. follows (map number (qualifying (order elements) elements)) o ≡ true in subst P e follow)
+    let same : qualifier_order elements ≡ order_for elements (number key) = ap (λ o. order_for elements (unwrap_or (option_map number o) 0)) is in
+    let follow = in_order elements (qualifier_order elements) in
+    elim (is_some (place_with (second_set (number key)) elements)) as (λ b. qualifier_order elements ≡ order_of (number key) b →
+    (follows (map number (qualifying (qualifier_order elements) elements)) (order_of (number key) false) ≡ true)
+    ⊎ (follows (map number (qualifying (qualifier_order elements) elements)) (order_of (number key) true) ≡ true)) [
+      | true ↦ λ e. inr (let P : List ℕ → Type 0 = λ o. follows (map number (qualifying (qualifier_order elements) elements)) o ≡ true in subst P e follow)
+      | false ↦ λ e. inl (let P : List ℕ → Type 0 = λ o. follows (map number (qualifying (qualifier_order elements) elements)) o ≡ true in subst P e follow)
     ] same

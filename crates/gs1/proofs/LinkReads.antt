@@ -1,7 +1,7 @@
 -- A reader of links finds in the link of elements these elements.
-use Rattle.std.proofs.Common.{◌≡◌, ℕ, ◌+◌, ◌<◌, Bool, true, false, cond, List, [], ◌∷◌, ◌++◌, length, map}
-use Rattle.std.proofs.Common.{refl, arith, ap, sym, subst, ◌∙◌, append_assoc, inl, inr, length-append, ◌/◌, ◌%◌}
-use Rattle.std.specs.Prelude.{All, None, ◌&&◌, ◌||◌, ◌==◌}
+use Rattle.std.proofs.Common.{◌≡◌, ℕ, ◌<◌, Bool, true, false, cond, List, [], ◌∷◌, ◌++◌, length}
+use Rattle.std.proofs.Common.{refl, arith, ap, sym, subst, ◌∙◌, append_assoc, inl, length-append, ◌/◌, ◌%◌}
+use Rattle.std.specs.Prelude.{All, ◌||◌, ◌==◌}
 use Rattle.std.specs.List.{slice_split, before_first, after_first, flat_map, list_all}
 use Rattle.std.proofs.lemmas.Grind.{common_steps}
 use Rattle.std.proofs.lemmas.List.{append-nil}
@@ -9,7 +9,7 @@ use Rattle.std.proofs.lemmas.List.Elements.{All-nil, All-cons, All-head, All-tai
 use Rattle.std.proofs.lemmas.List.Sums.{AllPass-from_list_all, list_all-from_AllPass}
 use Rattle.gs1.specs.Identifiers.{is_decimal_digit}
 use Rattle.gs1.specs.Elements.{Element}
-use Rattle.gs1.specs.Percent.{is_unreserved, capital_digit, escape, escaped, ReadsAs}
+use Rattle.gs1.specs.Percent.{is_unreserved, capital_digit, byte_escape, percent_text}
 use Rattle.gs1.specs.Links.{path_text, query_text, is_domain, is_domain_character, https}
 use Rattle.gs1.specs.LinkReader.{is_slash, is_question, is_ampersand, is_link_character, query_parts}
 use Rattle.gs1.specs.LinkReader.{ReadsPath, ReadsQuery, HasParts}
@@ -51,8 +51,8 @@ plain_no_ampersand c e = grind (arith, common_steps)
 plain_in_links : (c : ℕ) → is_plain c ≡ true → is_link_character c ≡ true
 plain_in_links c e = grind (arith, common_steps)
 
-plain_escape : (c : ℕ) → c < 256 → ArePlain (escape c)
-unfolding escape
+plain_escape : (c : ℕ) → c < 256 → ArePlain (byte_escape c)
+unfolding byte_escape
 plain_escape c small =
     elim (is_unreserved c) as (λ b. is_unreserved c ≡ b →
     ArePlain (cond b (c ∷ []) (0x25 ∷ capital_digit (c / 16) ∷ capital_digit (c % 16) ∷ []))) [
@@ -64,17 +64,17 @@ plain_escape c small =
           (All-nil (λ x. is_plain x ≡ true))))
     ] refl
 
-plain_escaped : (bytes : List ℕ) → All (λ c. c < 256) bytes → ArePlain (escaped bytes)
+plain_escaped : (bytes : List ℕ) → All (λ c. c < 256) bytes → ArePlain (percent_text bytes)
 plain_escaped [] small = All-nil (λ x. is_plain x ≡ true)
 plain_escaped (c ∷ bytes) small =
-    All-append (λ x. is_plain x ≡ true) (escape c) (escaped bytes)
+    All-append (λ x. is_plain x ≡ true) (byte_escape c) (percent_text bytes)
     (plain_escape c (All-head (λ x. x < 256) c bytes small)) (plain_escaped bytes (All-tail (λ x. x < 256) c bytes small))
 
 plain_identifier : (e : Element) → IsLinkable e → ArePlain e.identifier
 plain_identifier e good =
     All-weaker (λ c. is_decimal_digit c ≡ true) (λ c. is_plain c ≡ true) digit_plain e.identifier good.digits
 
-plain_value : (e : Element) → IsLinkable e → ArePlain (escaped e.value)
+plain_value : (e : Element) → IsLinkable e → ArePlain (percent_text e.value)
 plain_value e good = plain_escaped e.value good.small
 
 plain_domain : (domain : List ℕ) → is_domain domain ≡ true → ArePlain domain
@@ -92,12 +92,12 @@ without p fails xs plain = All-weaker (λ c. is_plain c ≡ true) (λ c. p c ≡
 
 abbrev pieces_of : List Element → List (List ℕ)
 pieces_of [] = []
-pieces_of (e ∷ elements) = e.identifier ∷ escaped e.value ∷ pieces_of elements
+pieces_of (e ∷ elements) = e.identifier ∷ percent_text e.value ∷ pieces_of elements
 
 path_pieces : (elements : List Element) → flat_map path_text elements ≡ flat_map (λ piece. 0x2f ∷ piece) (pieces_of elements)
 path_pieces [] = refl
 path_pieces (e ∷ elements) =
-    let text : List ℕ = 0x2f ∷ escaped e.value in
+    let text : List ℕ = 0x2f ∷ percent_text e.value in
     ap (λ xs. 0x2f ∷ xs) (append_assoc e.identifier text (flat_map path_text elements))
     ∙ ap (λ xs. 0x2f ∷ (e.identifier ++ (text ++ xs))) (path_pieces elements)
 
@@ -106,14 +106,14 @@ free_pieces [] good = tt
 free_pieces (e ∷ elements) good =
     let first = All-head IsLinkable e elements good in (
       without is_slash plain_no_slash e.identifier (plain_identifier e first),
-      (without is_slash plain_no_slash (escaped e.value) (plain_value e first), free_pieces elements (All-tail IsLinkable e elements good)),
+      (without is_slash plain_no_slash (percent_text e.value) (plain_value e first), free_pieces elements (All-tail IsLinkable e elements good)),
     )
 
 reads_path : (elements : List Element) → All IsLinkable elements → ReadsPath (pieces_of elements) elements
 reads_path [] good = refl
 reads_path (e ∷ elements) good =
     let first = All-head IsLinkable e elements good in
-    (escaped e.value, pieces_of elements, refl, escaped_read e.value first.small, reads_path elements (All-tail IsLinkable e elements good))
+    (percent_text e.value, pieces_of elements, refl, escaped_read e.value first.small, reads_path elements (All-tail IsLinkable e elements good))
 
 -- A fact of plain characters, and of the slash, holds along the path.
 along_path : (P : ℕ → Type 0) → ((c : ℕ) → is_plain c ≡ true → P c) → P 0x2f → (elements : List Element) →
@@ -123,28 +123,28 @@ along_path P plain slash (e ∷ elements) good =
     let first = All-head IsLinkable e elements good in
     let below = along_path P plain slash elements (All-tail IsLinkable e elements good) in
     let name = All-weaker (λ c. is_plain c ≡ true) P plain e.identifier (plain_identifier e first) in
-    let value = All-weaker (λ c. is_plain c ≡ true) P plain (escaped e.value) (plain_value e first) in
+    let value = All-weaker (λ c. is_plain c ≡ true) P plain (percent_text e.value) (plain_value e first) in
     All-append P (path_text e) (flat_map path_text elements)
-    (All-cons P 0x2f (e.identifier ++ 0x2f ∷ escaped e.value) slash
-    (All-append P e.identifier (0x2f ∷ escaped e.value) name (All-cons P 0x2f (escaped e.value) slash value))) below
+    (All-cons P 0x2f (e.identifier ++ 0x2f ∷ percent_text e.value) slash
+    (All-append P e.identifier (0x2f ∷ percent_text e.value) name (All-cons P 0x2f (percent_text e.value) slash value))) below
 
 -- ---- The query
 
 abbrev parts_of : List Element → List (List ℕ)
 parts_of [] = []
-parts_of (e ∷ elements) = (e.identifier ++ 0x3d ∷ escaped e.value) ∷ parts_of elements
+parts_of (e ∷ elements) = (e.identifier ++ 0x3d ∷ percent_text e.value) ∷ parts_of elements
 
 query_pieces : (elements : List Element) → query_text 0x26 elements ≡ flat_map (λ piece. 0x26 ∷ piece) (parts_of elements)
 query_pieces [] = refl
 query_pieces (e ∷ elements) =
-    ap (λ xs. 0x26 ∷ ((e.identifier ++ 0x3d ∷ escaped e.value) ++ xs)) (query_pieces elements)
+    ap (λ xs. 0x26 ∷ ((e.identifier ++ 0x3d ∷ percent_text e.value) ++ xs)) (query_pieces elements)
 
-free_part : (e : Element) → IsLinkable e → IsFree is_ampersand (e.identifier ++ 0x3d ∷ escaped e.value)
+free_part : (e : Element) → IsLinkable e → IsFree is_ampersand (e.identifier ++ 0x3d ∷ percent_text e.value)
 free_part e good =
-    All-append (λ c. is_ampersand c ≡ false) e.identifier (0x3d ∷ escaped e.value)
+    All-append (λ c. is_ampersand c ≡ false) e.identifier (0x3d ∷ percent_text e.value)
     (without is_ampersand plain_no_ampersand e.identifier (plain_identifier e good))
-    (All-cons (λ c. is_ampersand c ≡ false) 0x3d (escaped e.value) refl
-    (without is_ampersand plain_no_ampersand (escaped e.value) (plain_value e good)))
+    (All-cons (λ c. is_ampersand c ≡ false) 0x3d (percent_text e.value) refl
+    (without is_ampersand plain_no_ampersand (percent_text e.value) (plain_value e good)))
 
 free_parts : (elements : List Element) → All IsLinkable elements → AreFree is_ampersand (parts_of elements)
 free_parts [] good = tt
@@ -155,7 +155,7 @@ reads_query : (elements : List Element) → All IsLinkable elements → ReadsQue
 reads_query [] good = refl
 reads_query (e ∷ elements) good =
     let first = All-head IsLinkable e elements good in
-    (escaped e.value, parts_of elements, refl, escaped_read e.value first.small, reads_query elements (All-tail IsLinkable e elements good))
+    (percent_text e.value, parts_of elements, refl, escaped_read e.value first.small, reads_query elements (All-tail IsLinkable e elements good))
 
 along_query : (P : ℕ → Type 0) → ((c : ℕ) → is_plain c ≡ true → P c) → P 0x26 → P 0x3d → (separator : ℕ) → P separator →
     (elements : List Element) → All IsLinkable elements → All P (query_text separator elements)
@@ -164,10 +164,10 @@ along_query P plain ampersand equals separator here (e ∷ elements) good =
     let first = All-head IsLinkable e elements good in
     let below = along_query P plain ampersand equals 0x26 ampersand elements (All-tail IsLinkable e elements good) in
     let name = All-weaker (λ c. is_plain c ≡ true) P plain e.identifier (plain_identifier e first) in
-    let value = All-weaker (λ c. is_plain c ≡ true) P plain (escaped e.value) (plain_value e first) in
-    All-append P (separator ∷ (e.identifier ++ 0x3d ∷ escaped e.value)) (query_text 0x26 elements)
-    (All-cons P separator (e.identifier ++ 0x3d ∷ escaped e.value) here
-    (All-append P e.identifier (0x3d ∷ escaped e.value) name (All-cons P 0x3d (escaped e.value) equals value))) below
+    let value = All-weaker (λ c. is_plain c ≡ true) P plain (percent_text e.value) (plain_value e first) in
+    All-append P (separator ∷ (e.identifier ++ 0x3d ∷ percent_text e.value)) (query_text 0x26 elements)
+    (All-cons P separator (e.identifier ++ 0x3d ∷ percent_text e.value) here
+    (All-append P e.identifier (0x3d ∷ percent_text e.value) name (All-cons P 0x3d (percent_text e.value) equals value))) below
 
 -- ---- The link
 
@@ -194,9 +194,9 @@ cut_at front [] free good =
       query_is = rw whole (rw (after_free is_question front free) refl);
     }
 cut_at front (e ∷ query) free good =
-    let part : List ℕ = e.identifier ++ 0x3d ∷ escaped e.value in
+    let part : List ℕ = e.identifier ++ 0x3d ∷ percent_text e.value in
     let back : List ℕ = part ++ query_text 0x26 query in
-    let some : 0 < length back = omega (arith, length-append part (query_text 0x26 query), length-append e.identifier (0x3d ∷ escaped e.value)) in
+    let some : 0 < length back = omega (arith, length-append part (query_text 0x26 query), length-append e.identifier (0x3d ∷ percent_text e.value)) in
     let pieces : query_parts back ≡ part ∷ parts_of query =
     parts_some back some ∙ ap (λ xs. slice_split is_ampersand (part ++ xs)) (query_pieces query)
     ∙ split_pieces is_ampersand 0x26 refl part (parts_of query) (free_part e (All-head IsLinkable e query good))

@@ -1,12 +1,12 @@
 -- The parts of a link as its writer puts them one after the other.
-use Rattle.std.proofs.Common.{◌≡◌, ℕ, ◌+◌, ◌<◌, ◌≤◌, List, [], ◌∷◌, ◌++◌, length, take, drop, map}
+use Rattle.std.proofs.Common.{◌≡◌, ℕ, ◌+◌, ◌<◌, ◌≤◌, List, [], ◌∷◌, ◌++◌, length, take, drop}
 use Rattle.std.proofs.Common.{refl, arith, ap, sym, ◌∙◌, append_assoc}
 use Rattle.std.specs.List.{position_or_len, flat_map}
 use Rattle.std.specs.Option.{option_to_list}
 use Rattle.std.proofs.lemmas.List.{take_all, append-nil}
 use Rattle.std.proofs.lemmas.List.Concat.{flat_map-append}
 use Rattle.gs1.specs.Elements.{Element, element_of, is_opening, elements_behind}
-use Rattle.gs1.specs.Links.{path_text, query_text, query_elements, path_elements, key_of, element_with, order}
+use Rattle.gs1.specs.Links.{path_text, query_text, query_elements, path_elements, primary_key, element_with, qualifier_order}
 use Rattle.gs1.proofs.Parts.{elements_more, elements_last}
 
 -- Behind the last element.
@@ -38,12 +38,12 @@ flat_map_twice f g (x ∷ xs) =
     flat_map-append f (g x) (flat_map g xs) ∙ ap (λ ys. flat_map f (g x) ++ ys) (flat_map_twice f g xs)
 
 -- The key and the qualifiers.
-pub path_end : (elements : List Element) (numbers old new : List ℕ) (k : ℕ) → numbers ≡ order elements →
-    length numbers ≤ k → new ≡ old ++ flat_map path_text (option_to_list (key_of elements))
+pub path_end : (elements : List Element) (numbers old new : List ℕ) (k : ℕ) → numbers ≡ qualifier_order elements →
+    length numbers ≤ k → new ≡ old ++ flat_map path_text (option_to_list (primary_key elements))
     ++ flat_map (λ n. flat_map path_text (option_to_list (element_with n elements))) (take k numbers) →
     new ≡ old ++ flat_map path_text (path_elements elements)
 path_end elements numbers old new k is long written =
-    let key : List Element = option_to_list (key_of elements) in
+    let key : List Element = option_to_list (primary_key elements) in
     let rest = λ (n : ℕ). option_to_list (element_with n elements) in
     written ∙ ap (λ ns. old ++ flat_map path_text key ++ flat_map (λ n. flat_map path_text (rest n)) ns) (take_all k numbers long)
     ∙ append_assoc old (flat_map path_text key) (flat_map (λ n. flat_map path_text (rest n)) numbers)

@@ -1,14 +1,13 @@
 -- Percent-escapes: what is written is read, and no text is read as two.
-use Rattle.std.proofs.Common.{◌≡◌, ℕ, ◌+◌, ◌*◌, ◌/◌, ◌%◌, ◌<◌, Bool, true, false, cond, List, [], ◌∷◌, ◌++◌}
+use Rattle.std.proofs.Common.{◌≡◌, ℕ, ◌+◌, ◌*◌, ◌/◌, ◌%◌, ◌<◌, true, false, cond, List, [], ◌∷◌, ◌++◌}
 use Rattle.std.proofs.Common.{length, drop, refl, arith, ap, sym, subst, ◌∙◌, length-drop}
-use Rattle.std.specs.Prelude.{◌≢◌, ◌&&◌, All, slice_index}
+use Rattle.std.specs.Prelude.{◌≢◌, All, slice_index}
 use Rattle.std.proofs.lemmas.Grind.{common_steps}
 use Rattle.std.proofs.lemmas.List.Elements.{All-head, All-tail}
 use Rattle.gs1.specs.Checks.{is_hexadecimal}
-use Rattle.gs1.specs.Percent.{is_unreserved, capital_digit, escape, escaped, stands_for_itself}
+use Rattle.gs1.specs.Percent.{is_unreserved, capital_digit, byte_escape, percent_text, stands_for_itself}
 use Rattle.gs1.specs.Percent.{hexadecimal_value, is_percent, begins_with_byte, first_byte, after_byte}
 use Rattle.gs1.specs.Percent.{ReadsAs, ReadsBefore, HaveOneText}
-use Rattle.gs1.proofs.Faults.{both}
 
 -- ---- The writer and the reader
 
@@ -47,8 +46,8 @@ escape_then high low rest h l = record {
   after = refl;
 }
 
-pub escape_read : (c : ℕ) (rest : List ℕ) → c < 256 → IsByteThen (escape c ++ rest) c rest
-unfolding escape
+pub escape_read : (c : ℕ) (rest : List ℕ) → c < 256 → IsByteThen (byte_escape c ++ rest) c rest
+unfolding byte_escape
 escape_read c rest small =
     elim (is_unreserved c) as (λ b. is_unreserved c ≡ b →
     IsByteThen (cond b (c ∷ []) (0x25 ∷ capital_digit (c / 16) ∷ capital_digit (c % 16) ∷ []) ++ rest) c rest) [
@@ -59,10 +58,10 @@ escape_read c rest small =
           subst P whole (escape_then (c / 16) (c % 16) rest (omega arith) (omega arith)))
     ] refl
 
-pub escaped_read : (bytes : List ℕ) → All (λ byte. byte < 256) bytes → ReadsAs (escaped bytes) bytes
+pub escaped_read : (bytes : List ℕ) → All (λ byte. byte < 256) bytes → ReadsAs (percent_text bytes) bytes
 escaped_read [] all = refl
 escaped_read (c ∷ bytes) all =
-    let here = escape_read c (escaped bytes) (All-head (λ byte. byte < 256) c bytes all) in
+    let here = escape_read c (percent_text bytes) (All-head (λ byte. byte < 256) c bytes all) in
     let P : List ℕ → Type 0 = λ text. ReadsAs text bytes in
     (here.begins, here.is, subst P (sym here.after) (escaped_read bytes (All-tail (λ byte. byte < 256) c bytes all)))
 

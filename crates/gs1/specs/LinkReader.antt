@@ -1,6 +1,6 @@
 -- What a reader of links finds in one (GS1 Digital Link Standard: URI Syntax, release 1.4,
 -- "Uncompressed GS1 Digital Link URI").
-use Rattle.std.specs.Prelude.{◌≡◌, ◌⊎◌, ℕ, Bool, true, false, ◌==◌, ◌||◌, not, if◌then◌else◌}
+use Rattle.std.specs.Prelude.{◌≡◌, ◌⊎◌, ℕ, Bool, true, false, ◌==◌, ◌||◌, if◌then◌else◌}
 use Rattle.std.specs.Prelude.{List, [], ◌∷◌, ◌++◌, length, map, None, All}
 use Rattle.std.specs.List.{slice_split, before_first, after_first, list_all, list_any}
 use Rattle.gs1.specs.Elements.{Element}
@@ -90,6 +90,6 @@ pub record ReadsLink (link : List ℕ) (elements : List Element) : Type 0 where
   pub linked : AreLinked key qualifying query
 
 -- No link is read as two lists of elements.
-abbrev pub HaveOneReading : Type 0
-HaveOneReading = (link : List ℕ) (first second : List Element) →
+abbrev pub LinksHaveOneReading : Type 0
+LinksHaveOneReading = (link : List ℕ) (first second : List Element) →
     ReadsLink link first → ReadsLink link second → first ≡ second

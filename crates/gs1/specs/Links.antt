@@ -1,6 +1,6 @@
 -- Links of elements: which elements a link may have, where they stand in it, and its text (GS1
 -- Digital Link Standard: URI Syntax, release 1.4).
-use Rattle.std.specs.Prelude.{◌≡◌, ℕ, ◌+◌, Bool, true, ◌==◌, ◌&&◌, ◌||◌, not, nat_lt, if◌then◌else◌}
+use Rattle.std.specs.Prelude.{◌≡◌, ℕ, ◌+◌, Bool, ◌==◌, ◌&&◌, ◌||◌, not, nat_lt, if◌then◌else◌}
 use Rattle.std.specs.Prelude.{List, [], ◌∷◌, ◌++◌, length, Option, None, Some, is_some, unwrap_or}
 use Rattle.std.specs.Prelude.{slice_get}
 use Rattle.std.specs.List.{position_or_len, before_first, after_first, flat_map, filter, list_all, list_any}
@@ -9,7 +9,7 @@ use Rattle.gs1.specs.Identifiers.{is_within, is_decimal_digit}
 use Rattle.gs1.specs.Elements.{Element, written_elements}
 use Rattle.gs1.specs.Values.{number_of, text_error}
 use Rattle.gs1.specs.Together.{is_among, first_among}
-use Rattle.gs1.specs.Percent.{escaped}
+use Rattle.gs1.specs.Percent.{percent_text}
 use Rattle.gs1.specs.declared.link_error.LinkError.{LinkError}
 use Rattle.gs1.specs.declared.link_error.LinkError.TheVariants.{TextTooLong, Elements, WrongDomain}
 use Rattle.gs1.specs.declared.link_error.LinkError.TheVariants.{NoKey, SecondKey, WrongQualifier}
@@ -52,31 +52,31 @@ abbrev pub second_set : ℕ → ℕ
 second_set key = if key == 1 then 235 else 7040
 
 -- The place of the first element of this identifier, and this element.
-abbrev pub place_of : ℕ → List Element → Option ℕ
-place_of n elements = first_among ((n, n) ∷ []) 0 elements
+abbrev pub place_with : ℕ → List Element → Option ℕ
+place_with n elements = first_among ((n, n) ∷ []) 0 elements
 
 abbrev pub element_with : ℕ → List Element → Option Element
 element_with n elements =
-    option_and_then (λ place. slice_get elements place) (place_of n elements)
+    option_and_then (λ place. slice_get elements place) (place_with n elements)
 
 -- The first key, and the qualifiers that may stand beside it, in their order.
-abbrev pub key_of : List Element → Option Element
-key_of elements =
+abbrev pub primary_key : List Element → Option Element
+primary_key elements =
     option_and_then (λ place. slice_get elements place) (first_among keys 0 elements)
 
 abbrev pub order_for : List Element → ℕ → List ℕ
-order_for elements key = order_of key (is_some (place_of (second_set key) elements))
+order_for elements key = order_of key (is_some (place_with (second_set key) elements))
 
-abbrev pub order : List Element → List ℕ
-order elements = order_for elements (unwrap_or (option_map number (key_of elements)) 0)
+abbrev pub qualifier_order : List Element → List ℕ
+qualifier_order elements = order_for elements (unwrap_or (option_map number (primary_key elements)) 0)
 
 -- ---- The text
 
 -- The elements of the path: the key and the qualifiers in their order.
 abbrev pub path_elements : List Element → List Element
 path_elements elements =
-    option_to_list (key_of elements)
-    ++ flat_map (λ n. option_to_list (element_with n elements)) (order elements)
+    option_to_list (primary_key elements)
+    ++ flat_map (λ n. option_to_list (element_with n elements)) (qualifier_order elements)
 
 -- The elements of the query, in the order in which they are given.
 abbrev pub query_elements : List Element → List Element
@@ -91,12 +91,12 @@ abbrev pub https : List ℕ
 https = 0x68 ∷ 0x74 ∷ 0x74 ∷ 0x70 ∷ 0x73 ∷ 0x3a ∷ 0x2f ∷ 0x2f ∷ []
 
 abbrev pub path_text : Element → List ℕ
-path_text e = 0x2f ∷ e.identifier ++ 0x2f ∷ escaped e.value
+path_text e = 0x2f ∷ e.identifier ++ 0x2f ∷ percent_text e.value
 
 abbrev pub query_text : ℕ → List Element → List ℕ
 query_text separator [] = []
 query_text separator (e ∷ elements) =
-    separator ∷ e.identifier ++ 0x3d ∷ escaped e.value ++ query_text 0x26 elements
+    separator ∷ e.identifier ++ 0x3d ∷ percent_text e.value ++ query_text 0x26 elements
 
 -- The link of elements: `https://DOMAIN/KEY/VALUE/QUALIFIER/VALUE?ATTRIBUTE=VALUE&ATTRIBUTE=VALUE`
 -- ("Uncompressed GS1 Digital Link URI").
@@ -140,7 +140,7 @@ second_key_fault place n later =
 -- An identifier that stands once more after this element.
 unfoldable pub repeated_fault : ℕ → ℕ → List Element → Option LinkError
 repeated_fault place n later =
-    if is_some (place_of n later) then Some (RepeatedElement place n) else None
+    if is_some (place_with n later) then Some (RepeatedElement place n) else None
 
 abbrev pub later_fault : ℕ → ℕ → List Element → Option LinkError
 later_fault place n later =
@@ -153,23 +153,23 @@ first_rule_fault order place (e ∷ later) =
     option_or (qualifier_fault order place (number e))
     (option_or (later_fault place (number e) later) (first_rule_fault order (place + 1) later))
 
-unfoldable pub key_fault : List Element → Option LinkError
-key_fault elements = if is_some (first_among keys 0 elements) then None else Some NoKey
+unfoldable pub no_key_fault : List Element → Option LinkError
+no_key_fault elements = if is_some (first_among keys 0 elements) then None else Some NoKey
 
 unfoldable pub domain_fault : List ℕ → Option LinkError
 domain_fault domain = if is_domain domain then None else Some WrongDomain
 
 abbrev pub elements_fault : List Element → Option LinkError
 elements_fault elements =
-    option_or (key_fault elements) (first_rule_fault (order elements) 0 elements)
+    option_or (no_key_fault elements) (first_rule_fault (qualifier_order elements) 0 elements)
 
-unfoldable pub length_fault : List ℕ → Option LinkError
-length_fault text = if nat_lt 11815 (length text) then Some TextTooLong else None
+unfoldable pub text_length_fault : List ℕ → Option LinkError
+text_length_fault text = if nat_lt 11815 (length text) then Some TextTooLong else None
 
 -- The first fault of a text and a domain.
 abbrev pub link_error : List ℕ → List ℕ → Option LinkError
 link_error text domain =
-    option_or (length_fault text)
+    option_or (text_length_fault text)
     (option_or (option_map (λ error. Elements error) (text_error text))
     (option_or (domain_fault domain) (elements_fault (written_elements text))))
 

@@ -21,13 +21,13 @@ abbrev pub capital_digit : ℕ → ℕ
 capital_digit n = if nat_lt n 10 then 0x30 + n else 0x37 + n
 
 -- A byte as it is written: itself, or a percent sign and two digits (RFC 3986, section 2.1).
-unfoldable pub escape : ℕ → List ℕ
-escape c =
+unfoldable pub byte_escape : ℕ → List ℕ
+byte_escape c =
     if is_unreserved c then c ∷ []
     else 0x25 ∷ capital_digit (c / 16) ∷ capital_digit (c % 16) ∷ []
 
-abbrev pub escaped : List ℕ → List ℕ
-escaped bytes = flat_map escape bytes
+abbrev pub percent_text : List ℕ → List ℕ
+percent_text bytes = flat_map byte_escape bytes
 
 -- ---- The reader
 
@@ -89,6 +89,6 @@ IsRefusedEscapes text OutOfMemory = IsReadableText text
 
 -- What is written is read as the same bytes, and no text is read as two.
 pub record HaveOneText : Type 0 where
-  pub back : (bytes : List ℕ) → All (λ byte. byte < 256) bytes → ReadsAs (escaped bytes) bytes
+  pub back : (bytes : List ℕ) → All (λ byte. byte < 256) bytes → ReadsAs (percent_text bytes) bytes
   pub alone : (text first second : List ℕ) → ReadsAs text first → ReadsAs text second →
       first ≡ second

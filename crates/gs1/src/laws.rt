@@ -1,5 +1,6 @@
 //! Laws: facts about element strings. Each function has no body; its contract is the fact.
 ghost use Rattle.gs1.specs.Keys.{HaveRightDigits};
+ghost use Rattle.gs1.specs.LinkReader.{LinksHaveOneReading};
 ghost use Rattle.gs1.specs.Percent.{HaveOneText};
 ghost use Rattle.gs1.specs.Reader.{HaveOneList, HaveStringsApart};
 ghost use Rattle.gs1.specs.Strings.{HaveOneOutcome};
@@ -28,4 +29,9 @@ pub fn have_right_digits()
 /// two.
 pub fn have_one_text()
     ensures { HaveOneText }
+{}
+
+/// No link is read as two lists of elements.
+pub fn have_one_reading()
+    ensures { LinksHaveOneReading }
 {}

@@ -1,20 +1,20 @@
 //! GS1 Digital Link: links of elements.
-ghost use Rattle.std.specs.Prelude.{◌≡◌, ◌∷◌, ◌++◌, List, None, IfOk, OnOk, IfErr};
+ghost use Rattle.std.specs.Prelude.{◌≡◌, ◌∷◌, ◌++◌, List, None, All, Contains, IfOk, OnOk, IfErr};
 ghost use Rattle.std.specs.List.{flat_map, filter, list_all};
 ghost use Rattle.std.specs.Option.{option_to_list, option_map};
 ghost use Rattle.std.specs.Result.{result_err};
 ghost use Rattle.gs1.specs.Elements.{Element as SpecElement, element_of, elements_behind};
 ghost use Rattle.gs1.specs.Elements.{written_elements};
 ghost use Rattle.gs1.specs.Values.{text_error};
-ghost use Rattle.gs1.specs.Links.{is_domain_character, is_domain, domain_fault, length_fault};
+ghost use Rattle.gs1.specs.Links.{is_domain_character, is_domain, domain_fault, text_length_fault};
 ghost use Rattle.gs1.specs.Links.{link_error, IsRefusedLink, link_of, linked, path_text, query_text};
-ghost use Rattle.gs1.specs.Links.{path_elements, query_elements, key_of, element_with, is_attribute};
+ghost use Rattle.gs1.specs.Links.{path_elements, query_elements, primary_key, element_with, is_attribute};
 ghost use Rattle.gs1.specs.LinkReader.{ReadsLink};
 
 use crate::check::{behind, first_of};
 use crate::identifiers::are_digits;
 use crate::link_error::LinkError;
-use crate::link_rules::{check_elements, element_with, is_attribute, key_of, order};
+use crate::link_rules::{check_elements, element_with, is_attribute, primary_key, qualifier_order};
 use crate::percent::push_escaped;
 use crate::strings::{Element, element_of};
 use crate::together::LONGEST_TEXT;
@@ -45,6 +45,10 @@ pub fn digital_link(alloc: Global, text: &str, domain: &str) -> Result<Vec<u8>, 
     ensures written { IfOk result (λ link. link.items
         ≡ link_of domain.now (written_elements text.now)) }
     ensures read { IfOk result (λ link. ReadsLink link.items (linked (written_elements text.now))) }
+    // None of the elements is lost.
+    ensures kept { OnOk result (All (Contains (linked (written_elements text.now)))
+        (written_elements text.now)) }
+
     ensures faultless { OnOk result (link_error text.now domain.now ≡ None) }
     ensures refused { IfErr result (IsRefusedLink text.now domain.now) }
 {
@@ -66,9 +70,9 @@ fn check_link(text: &[u8], domain: &[u8]) -> Result<(), LinkError>
 }
 
 /// Checks the length of a text.
-#[tactic(auto, unfolding(crate::specs::Links::length_fault))]
+#[tactic(auto, unfolding(crate::specs::Links::text_length_fault))]
 fn check_length(text: &[u8]) -> Result<(), LinkError>
-    ensures { result_err result ≡ length_fault text.now }
+    ensures { result_err result ≡ text_length_fault text.now }
 {
     if LONGEST_TEXT < text.len() {
         return Err(LinkError::TextTooLong);
@@ -78,7 +82,8 @@ fn check_length(text: &[u8]) -> Result<(), LinkError>
 
 /// Checks the elements of a text by the table.
 fn check_values(text: &[u8]) -> Result<(), LinkError>
-    ensures { result_err result ≡ option_map (λ error. LinkError.Elements error) (text_error text.now) }
+    ensures { result_err result
+        ≡ option_map (λ error. LinkError.Elements error) (text_error text.now) }
 {
     match check_text(text) {
         Ok(()) => Ok(()),
@@ -135,7 +140,7 @@ fn push_path(link: &mut Vec<u8>, text: &[u8]) -> Result<(), AllocError>
         ≡ link.old.items ++ flat_map path_text (path_elements (written_elements text.now))) }
 {
     push_key(link, text)?;
-    let order = order(text);
+    let order = qualifier_order(text);
     for number in order {
         push_qualifier(link, *number, text)?;
     }
@@ -145,9 +150,9 @@ fn push_path(link: &mut Vec<u8>, text: &[u8]) -> Result<(), AllocError>
 /// Appends the key.
 fn push_key(link: &mut Vec<u8>, text: &[u8]) -> Result<(), AllocError>
     ensures { OnOk result (link.new.items ≡ link.old.items
-        ++ flat_map path_text (option_to_list (key_of (written_elements text.now)))) }
+        ++ flat_map path_text (option_to_list (primary_key (written_elements text.now)))) }
 {
-    match key_of(text) {
+    match primary_key(text) {
         Some(key) => push_segments(link, key.identifier, key.value),
         None => Ok(()),
     }

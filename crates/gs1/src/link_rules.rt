@@ -3,9 +3,9 @@ ghost use Rattle.std.specs.Prelude.{◌≡◌, None, Some, IfNone, IfSome, unwra
 ghost use Rattle.std.specs.Option.{option_map};
 ghost use Rattle.std.specs.Result.{result_err};
 ghost use Rattle.gs1.specs.Elements.{element_of, elements_behind, written_elements};
-ghost use Rattle.gs1.specs.Links.{keys, qualifiers, order_of, second_set, element_with, key_of, order};
+ghost use Rattle.gs1.specs.Links.{keys, qualifiers, order_of, second_set, element_with, primary_key, qualifier_order};
 ghost use Rattle.gs1.specs.Links.{number, qualifier_fault, second_key_fault, repeated_fault};
-ghost use Rattle.gs1.specs.Links.{later_fault, first_rule_fault, key_fault, elements_fault};
+ghost use Rattle.gs1.specs.Links.{later_fault, first_rule_fault, no_key_fault, elements_fault};
 ghost use Rattle.gs1.specs.Links.{is_attribute};
 
 use crate::check::{behind, first_of};
@@ -91,10 +91,10 @@ pub(crate) fn element_with<'a>(number: usize, text: &'a [u8]) -> Option<Element<
 }
 
 /// Returns the first primary key of a text.
-pub(crate) fn key_of<'a>(text: &'a [u8]) -> Option<Element<'a>>
-    ensures some { IfSome result (λ e. key_of (written_elements text.now)
+pub(crate) fn primary_key<'a>(text: &'a [u8]) -> Option<Element<'a>>
+    ensures some { IfSome result (λ e. primary_key (written_elements text.now)
         ≡ Some (record { identifier = e.identifier.now; value = e.value.now })) }
-    ensures none { IfNone result (key_of (written_elements text.now) ≡ None) }
+    ensures none { IfNone result (primary_key (written_elements text.now) ≡ None) }
 {
     let place = first_among(keys(), behind(text, 0))?;
     written_element(text, place)
@@ -102,17 +102,17 @@ pub(crate) fn key_of<'a>(text: &'a [u8]) -> Option<Element<'a>>
 
 /// Returns the number of the identifier of the first primary key, or 0.
 fn key_number(text: &[u8]) -> usize
-    ensures { result ≡ unwrap_or (option_map number (key_of (written_elements text.now))) 0 }
+    ensures { result ≡ unwrap_or (option_map number (primary_key (written_elements text.now))) 0 }
 {
-    match key_of(text) {
+    match primary_key(text) {
         Some(key) => number_of(key.identifier),
         None => 0,
     }
 }
 
 /// Returns the qualifiers that may stand in the link of a text, in their order.
-pub(crate) fn order(text: &[u8]) -> &'static [usize]
-    ensures { result.now ≡ order (written_elements text.now) }
+pub(crate) fn qualifier_order(text: &[u8]) -> &'static [usize]
+    ensures { result.now ≡ qualifier_order (written_elements text.now) }
 {
     let key = key_number(text);
     let second = second_set(key);
@@ -173,9 +173,9 @@ fn check_rules(order: &[usize], text: &[u8]) -> Result<(), LinkError>
 }
 
 /// Checks that an element is a primary key.
-#[tactic(auto, unfolding(crate::specs::Links::key_fault))]
+#[tactic(auto, unfolding(crate::specs::Links::no_key_fault))]
 fn check_key(text: &[u8]) -> Result<(), LinkError>
-    ensures { result_err result ≡ key_fault (elements_behind text.now) }
+    ensures { result_err result ≡ no_key_fault (elements_behind text.now) }
 {
     if first_among(keys(), text).is_none() {
         return Err(LinkError::NoKey);
@@ -188,5 +188,5 @@ pub(crate) fn check_elements(text: &[u8]) -> Result<(), LinkError>
     ensures { result_err result ≡ elements_fault (written_elements text.now) }
 {
     check_key(behind(text, 0))?;
-    check_rules(order(text), behind(text, 0))
+    check_rules(qualifier_order(text), behind(text, 0))
 }

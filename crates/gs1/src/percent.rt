@@ -2,7 +2,7 @@
 ghost use Rattle.std.specs.Prelude.{◌≡◌, ◌<◌, ◌+◌, ◌*◌, ◌&&◌, ◌++◌, true, false};
 ghost use Rattle.std.specs.Prelude.{IfOk, OnOk, IfErr, IfNone, IfSome};
 ghost use Rattle.gs1.specs.Checks.{is_hexadecimal};
-ghost use Rattle.gs1.specs.Percent.{is_unreserved, capital_digit, escape, escaped};
+ghost use Rattle.gs1.specs.Percent.{is_unreserved, capital_digit, byte_escape, percent_text};
 ghost use Rattle.gs1.specs.Percent.{stands_for_itself, hexadecimal_value, begins_with_byte};
 ghost use Rattle.gs1.specs.Percent.{first_byte, after_byte, ReadsAs, IsReadableText};
 ghost use Rattle.gs1.specs.Percent.{IsUnreadableText, IsRefusedEscapes};
@@ -44,7 +44,7 @@ impl<T: Drop> From<AllocFailed<T>> for PercentError {
 /// Returns bytes with percent-escapes: letters, digits and `-._~` as they are, and each other byte
 /// as a percent sign and two hexadecimal digits with capital letters (RFC 3986, section 2).
 pub fn percent_escaped(alloc: Global, bytes: &[u8]) -> Result<Vec<u8>, AllocError>
-    ensures written { IfOk result (λ text. text.items ≡ escaped bytes.now) }
+    ensures written { IfOk result (λ text. text.items ≡ percent_text bytes.now) }
     ensures read { IfOk result (λ text. ReadsAs text.items bytes.now) }
 {
     let mut text = Vec::new(alloc);
@@ -81,7 +81,7 @@ pub fn percent_decoded(alloc: Global, text: &[u8]) -> Result<Vec<u8>, PercentErr
 
 /// Appends bytes with percent-escapes.
 pub(crate) fn push_escaped(text: &mut Vec<u8>, bytes: &[u8]) -> Result<(), AllocError>
-    ensures { OnOk result (text.new.items ≡ text.old.items ++ escaped bytes.now) }
+    ensures { OnOk result (text.new.items ≡ text.old.items ++ percent_text bytes.now) }
 {
     for byte in bytes {
         push_escape(text, *byte)?;
@@ -90,9 +90,9 @@ pub(crate) fn push_escaped(text: &mut Vec<u8>, bytes: &[u8]) -> Result<(), Alloc
 }
 
 /// Appends a byte, with an escape if it needs one.
-#[tactic(auto, unfolding(crate::specs::Percent::escape))]
+#[tactic(auto, unfolding(crate::specs::Percent::byte_escape))]
 fn push_escape(text: &mut Vec<u8>, byte: u8) -> Result<(), AllocError>
-    ensures { OnOk result (text.new.items ≡ text.old.items ++ escape byte) }
+    ensures { OnOk result (text.new.items ≡ text.old.items ++ byte_escape byte) }
 {
     if is_unreserved(byte) {
         text.push(byte)?;

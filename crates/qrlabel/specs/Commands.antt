@@ -32,7 +32,7 @@ use Rattle.qrlabel.specs.declared.words.Name.TheVariants.{Verbose, Info, Dark, L
 use Rattle.qrlabel.specs.Choices.{level_named, content_named, turn_named, format_named, format_of_ending}
 use Rattle.qrlabel.specs.Choices.{is_micro, has_dots, is_png, is_stream, can_be_split, is_text, is_terminal}
 use Rattle.qrlabel.specs.Names.{Numbering, numbering_in}
-use Rattle.qrcode_render.specs.OptionWords.{word_number, word_hundredths, word_position, parts_at}
+use Rattle.qrcode_render.specs.OptionWords.{word_number, word_hundredths, word_position, around_first}
 use Rattle.qrlabel.specs.Words.{Values, value_of, file_of, is_given, Wrong, invalid}
 use Rattle.qrlabel.specs.Words.{needs_stream, needs_file}
 
@@ -240,7 +240,7 @@ numbered_output values = option_and_then numbering_in (value_of values Output)
 
 -- Whether the name of the output has a percent sign.
 abbrev pub has_percent : Values → Bool
-has_percent values = is_some (option_and_then (parts_at 37) (value_of values Output))
+has_percent values = is_some (option_and_then (around_first 37) (value_of values Output))
 
 -- Whether labels can follow each other: the details of symbols always can.
 abbrev pub can_follow : FormatOf → Values → Bool

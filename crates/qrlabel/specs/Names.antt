@@ -1,7 +1,7 @@
 -- Names of files with a number in them.
 use Rattle.std.specs.Prelude.{ℕ, ◌-◌, nat_le, ◌==◌, ◌&&◌, if◌then◌else◌, decimal, replicate}
 use Rattle.std.specs.Prelude.{List, [], ◌∷◌, ◌++◌, length, Option, None, Some, is_some, option_map, option_and_then}
-use Rattle.qrcode_render.specs.OptionWords.{parts_at}
+use Rattle.qrcode_render.specs.OptionWords.{around_first}
 
 -- A name with the place of a number: what is before the number, how many digits it has at least,
 -- and what is after it.
@@ -19,12 +19,12 @@ width_in _ = None
 -- The place of the number is written `%d` or `%0Nd`, and there is no other `%`.
 abbrev pub numbering_with : List ℕ → List ℕ → List ℕ → Option Numbering
 numbering_with before digits after =
-    if is_some (parts_at 37 after) then None
+    if is_some (around_first 37 after) then None
     else option_map (λ width. record { before = before; width = width; after = after }) (width_in digits)
 
 abbrev pub numbering_in : List ℕ → Option Numbering
 numbering_in name = option_and_then
-    (λ parts. option_and_then (λ more. numbering_with parts.0 more.0 more.1) (parts_at 100 parts.1)) (parts_at 37 name)
+    (λ parts. option_and_then (λ more. numbering_with parts.0 more.0 more.1) (around_first 100 parts.1)) (around_first 37 name)
 
 -- The name with this number in its place, with zeros before its digits where they are too few.
 abbrev pub numbered : Numbering → ℕ → List ℕ

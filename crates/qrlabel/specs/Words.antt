@@ -3,7 +3,7 @@ use Rattle.std.specs.Prelude.{ℕ, ◌==◌, nat_lt, Bool, true, false, ◌&&◌
 use Rattle.std.specs.Prelude.{List, [], ◌∷◌, length, take, drop, slice_index, get_or, set, replicate}
 use Rattle.std.specs.Prelude.{Option, None, Some, is_some, option_and_then, Result, Ok, Err}
 use Rattle.std.specs.Str.{bytes_eq}
-use Rattle.qrcode_render.specs.OptionWords.{parts_at}
+use Rattle.qrcode_render.specs.OptionWords.{around_first}
 use Rattle.qrlabel.specs.declared.words.TheConstants.{COUNT}
 use Rattle.qrlabel.specs.declared.words.Name.{Name}
 use Rattle.qrlabel.specs.declared.words.Name.TheVariants.{Text, Format, Content, Level, Strongest}
@@ -141,7 +141,7 @@ assigned_to (Some name) value = if takes_value name && not (is_text name) then S
 assigned_to None value = None
 
 abbrev pub assigned : List ℕ → Option (Name × List ℕ)
-assigned word = option_and_then (λ parts. assigned_to (named parts.0) parts.1) (parts_at 61 word)
+assigned word = option_and_then (λ parts. assigned_to (named parts.0) parts.1) (around_first 61 word)
 
 -- What comes after the start of a word, if it starts so.
 unfoldable pub rest_after : List ℕ → List ℕ → Option (List ℕ)

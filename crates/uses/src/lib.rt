@@ -7,6 +7,7 @@ pub mod elements;
 pub mod grids;
 pub mod labels;
 pub mod lines;
+pub mod links;
 pub mod pictures;
 pub mod plans;
 pub mod registries;

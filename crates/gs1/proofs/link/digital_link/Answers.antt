@@ -2,7 +2,7 @@ use Rattle.std.proofs.Common.{◌≡◌, sym}
 use Rattle.std.specs.Prelude.{None}
 use Rattle.std.proofs.lemmas.Result.{err_from_is_err_and}
 use Rattle.gs1.specs.Links.{link_error}
-use Rattle.gs1.proofs.LinkWhole.{link_read, refused_link}
+use Rattle.gs1.proofs.LinkWhole.{link_read, elements_kept, refused_link}
 use Rattle.gs1.proofs.link.digital_link.Goals as goal
 
 pub returns-in_err-check_link-clause-refused : goal.returns-in_err-check_link-clause-refused
@@ -17,3 +17,9 @@ returns-clause-read c =
     rw (← c.as_bytes-text.ensures.value, ← c.as_bytes-domain.ensures.value) (sym c.in_ok-check_link.ensures) in
     link_read c.args.text.now c.args.domain.now c.in_ok-link.link.items none
     (rw (← c.as_bytes-text.ensures.value, ← c.as_bytes-domain.ensures.value) c.in_ok-link.ensures)
+
+pub returns-clause-kept : goal.returns-clause-kept
+returns-clause-kept c =
+    let none : link_error c.args.text.now c.args.domain.now ≡ None =
+    rw (← c.as_bytes-text.ensures.value, ← c.as_bytes-domain.ensures.value) (sym c.in_ok-check_link.ensures) in
+    elements_kept c.args.text.now c.args.domain.now none

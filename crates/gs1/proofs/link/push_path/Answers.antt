@@ -3,4 +3,4 @@ use Rattle.gs1.proofs.LinkTexts.{path_end}
 use Rattle.gs1.proofs.link.push_path.Goals as goal
 
 pub returns : goal.returns
-returns c = path_end (written_elements c.args.text.now) _ c.args.link.now.items _ _ c.order-order.ensures c.loop-number-test.false c.loop-number.invariant
+returns c = path_end (written_elements c.args.text.now) _ c.args.link.now.items _ _ c.qualifier_order-order.ensures c.loop-number-test.false c.loop-number.invariant
