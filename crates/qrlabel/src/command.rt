@@ -16,12 +16,12 @@ ghost use Rattle.qrlabel.specs.Asked.{outcome, label_outcome, command_outcome};
 
 use crate::choices::{content_named, format_named, format_of_ending, level_named, turn_named};
 use crate::names::Numbering;
-use qrcode_render::option_words::number_of_word;
 use crate::portion::{check_terminal, details_of, portion_of};
 use crate::settings::{in_dots, settings_of, zoned};
 use crate::words::{Misuse, Name, Values};
 use qrcode_core::options::SymbolOptions;
 use qrcode_core::types::EcLevel;
+use qrcode_render::option_words::number_of_word;
 use qrcode_render::{Format, Settings};
 
 /// What a symbol says.

@@ -8,11 +8,11 @@ ghost use Rattle.qrlabel.specs.Commands.{some_found, zoned, dots_asked, in_dots}
 ghost use Rattle.qrlabel.specs.Choices.{has_dots};
 
 use crate::command::{Content, is_micro};
-use qrcode_render::option_words::{hundredths_of_word, number_of_word, position_of_word};
 use crate::words::{Misuse, Name, Values};
 use qrcode_render::bounds::{
     MAX_DPI, MAX_MODULE_MM, MAX_SCALE, MICRO_QUIET, MIN_DPI, MIN_MODULE_MM, MIN_SCALE,
 };
+use qrcode_render::option_words::{hundredths_of_word, number_of_word, position_of_word};
 use qrcode_render::{Colors, Format, Ground, Rgb, Settings};
 
 /// Returns what was found for an option that is given, or `Invalid` with its name.
