@@ -17,6 +17,22 @@ int32_t qrcode_c_elements(const uint8_t *elements, size_t length, const sicklesp
                           uint8_t *modules, size_t room, sicklespan_shape *shape);
 int32_t qrcode_c_gs1(const uint8_t *text, size_t length, const sicklespan_options *options,
                      uint8_t *modules, size_t room, sicklespan_shape *shape);
+int32_t qrcode_c_gs1_unchecked(const uint8_t *text, size_t length,
+                               const sicklespan_options *options, uint8_t *modules, size_t room,
+                               sicklespan_shape *shape);
+int32_t qrcode_c_link(const uint8_t *text, size_t length, const uint8_t *domain,
+                      size_t domain_length, const sicklespan_options *options, uint8_t *modules,
+                      size_t room, sicklespan_shape *shape);
+int32_t qrcode_c_link_text(const uint8_t *text, size_t length, const uint8_t *domain,
+                           size_t domain_length, uint8_t *link, size_t room, size_t *size);
+/* The reason is a number from 1, or 0 where it is that of the status. */
+struct element_fault {
+    size_t element, character;
+    int32_t identifier, reason;
+};
+int32_t qrcode_c_gs1_fault(const uint8_t *text, size_t length, struct element_fault *fault);
+int32_t qrcode_c_link_fault(const uint8_t *text, size_t length, const uint8_t *domain,
+                            size_t domain_length, struct element_fault *fault);
 int32_t qrcode_c_part_symbol(const uint8_t *message, size_t length, const size_t *cuts,
                              size_t cut_count, int32_t level, int32_t max_version, size_t index,
                              uint8_t *modules, size_t room, sicklespan_shape *shape);
@@ -147,6 +163,102 @@ int32_t sicklespan_gs1(const char *text, size_t length, const sicklespan_options
     return asked(qrcode_c_gs1, text, length, options, modules, room, shape);
 }
 
+int32_t sicklespan_gs1_unchecked(const char *text, size_t length, const sicklespan_options *options,
+                                 uint8_t *modules, size_t room, sicklespan_shape *shape) {
+    return asked(qrcode_c_gs1_unchecked, text, length, options, modules, room, shape);
+}
+
+/* What is wrong with a value, by the number of the reason. */
+static const char *const reasons[] = {
+    NULL,
+    "the value is too short",
+    "the value is too long",
+    "a character that is not allowed there",
+    "wrong check digit",
+    "wrong pair of check characters",
+    "the key begins with no GS1 Company Prefix",
+    "no such month",
+    "no such day",
+    "no such hour",
+    "no such minute",
+    "no such second",
+    "no such country",
+    "no such currency",
+    "neither 0 nor 1",
+    "no piece of this total",
+    "no direction of winding",
+    "not zero",
+    "only zeros",
+    "a zero before other digits",
+    "a percent sign without two hexadecimal digits",
+    "no such latitude",
+    "no such longitude",
+    "not a minus sign",
+    "no such media type",
+    "no such sex",
+    "no place in a sequence",
+    "wrong bank account number",
+    "no importer index",
+};
+
+/* Writes where a fault is, and what it is by its reason or by the status. */
+static int32_t told(int32_t status, struct element_fault found, sicklespan_fault *fault) {
+    const bool is_of_status = found.reason == 0 || status == SICKLESPAN_EMPTY_VALUE;
+    const char *const reason =
+        is_of_status ? sicklespan_status_text(status) : reasons[found.reason];
+    *fault = (sicklespan_fault){found.element, found.character, found.identifier, reason};
+    return status;
+}
+
+static const struct element_fault no_place = {0, 0, -1, 0};
+
+/* What stands for a null text. */
+static const uint8_t *text_at(const void *text) { return text != NULL ? text : &nowhere; }
+
+int32_t sicklespan_gs1_fault(const char *text, size_t length, sicklespan_fault *fault) {
+    struct span input = {text, length}, none = {NULL, 0}, place = {fault, sizeof *fault};
+    if (!are_good(input, none, none, place)) return SICKLESPAN_INVALID_POINTER;
+    struct element_fault found = no_place;
+    const int32_t status = qrcode_c_gs1_fault(text_at(text), length, &found);
+    return told(status, found, fault);
+}
+
+int32_t sicklespan_link(const char *text, size_t length, const char *domain, size_t domain_length,
+                        const sicklespan_options *options, uint8_t *modules, size_t room,
+                        sicklespan_shape *shape) {
+    if (options == NULL) options = &usual;
+    room = least(room, SICKLESPAN_MAX_SIZE);
+    struct span input = {text, length}, host = {domain, domain_length};
+    struct span wish = {options, sizeof *options}, drawn_to = {modules, room};
+    struct span about = {shape, sizeof *shape};
+    if (!are_good(input, wish, drawn_to, about)) return SICKLESPAN_INVALID_POINTER;
+    if (!are_good(host, wish, drawn_to, about)) return SICKLESPAN_INVALID_POINTER;
+    uint8_t *const to = modules == NULL ? (uint8_t *)&nowhere : modules;
+    return qrcode_c_link(text_at(text), length, text_at(domain), domain_length, options, to, room,
+                         shape);
+}
+
+int32_t sicklespan_link_text(const char *text, size_t length, const char *domain,
+                             size_t domain_length, char *link, size_t room, size_t *size) {
+    struct span input = {text, length}, host = {domain, domain_length};
+    struct span written = {link, room}, number = {size, sizeof *size};
+    if (!are_good(input, host, written, number)) return SICKLESPAN_INVALID_POINTER;
+    uint8_t *const to = link == NULL ? (uint8_t *)&nowhere : (uint8_t *)link;
+    return qrcode_c_link_text(text_at(text), length, text_at(domain), domain_length, to, room,
+                              size);
+}
+
+int32_t sicklespan_link_fault(const char *text, size_t length, const char *domain,
+                              size_t domain_length, sicklespan_fault *fault) {
+    struct span input = {text, length}, host = {domain, domain_length};
+    struct span none = {NULL, 0}, place = {fault, sizeof *fault};
+    if (!are_good(input, host, none, place)) return SICKLESPAN_INVALID_POINTER;
+    struct element_fault found = no_place;
+    const int32_t status =
+        qrcode_c_link_fault(text_at(text), length, text_at(domain), domain_length, &found);
+    return told(status, found, fault);
+}
+
 /* What a call returns; SICKLESPAN_SHORT_BUFFER stands for success, as there is no room. */
 static int32_t tried(int32_t content, const void *data, size_t length,
                      const sicklespan_options *options) {
@@ -157,6 +269,8 @@ static int32_t tried(int32_t content, const void *data, size_t length,
     case SICKLESPAN_CONTENT_ELEMENTS:
         return sicklespan_elements(data, length, options, NULL, 0, &shape);
     case SICKLESPAN_CONTENT_GS1: return sicklespan_gs1(data, length, options, NULL, 0, &shape);
+    case SICKLESPAN_CONTENT_GS1_UNCHECKED:
+        return sicklespan_gs1_unchecked(data, length, options, NULL, 0, &shape);
     case SICKLESPAN_CONTENT_MICRO:
         return sicklespan_micro(data, length, options->level, NULL, 0, &shape);
     case SICKLESPAN_CONTENT_AUTO: return sicklespan_auto(data, length, options, NULL, 0, &shape);
@@ -182,7 +296,7 @@ static size_t cut_up_to(int32_t content, const uint8_t *data, size_t place) {
     if (content == SICKLESPAN_CONTENT_ELEMENTS) {
         while (place > 0 && data[place - 1] == 0x1d) place--;
     }
-    if (content == SICKLESPAN_CONTENT_GS1) {
+    if (content == SICKLESPAN_CONTENT_GS1 || content == SICKLESPAN_CONTENT_GS1_UNCHECKED) {
         while (place > 0 && data[place] != '(') place--;
     }
     return place;
@@ -191,6 +305,7 @@ static size_t cut_up_to(int32_t content, const uint8_t *data, size_t place) {
 /* Whether a status finds a fault in the data, which their first bytes need not have. */
 static bool is_of_data(int32_t status) {
     return status == SICKLESPAN_DATA_TOO_LONG || status == SICKLESPAN_INVALID_TEXT ||
+           status == SICKLESPAN_WRONG_VALUE ||
            (status >= SICKLESPAN_INVALID_CHARACTER && status <= SICKLESPAN_WRONG_CHECK_DIGIT);
 }
 
@@ -378,13 +493,20 @@ const char *sicklespan_status_text(int32_t status) {
         return "an identifier is not two to four digits in brackets";
     case SICKLESPAN_UNKNOWN_IDENTIFIER: return "an identifier is unknown";
     case SICKLESPAN_EMPTY_VALUE: return "a value is empty, or a bracket is not closed";
-    case SICKLESPAN_VALUE_TOO_LONG: return "a value has more than 90 characters";
+    case SICKLESPAN_VALUE_TOO_LONG: return "a value is too long";
     case SICKLESPAN_WRONG_LENGTH: return "the length of a value is wrong";
     case SICKLESPAN_WRONG_CHECK_DIGIT: return "a check digit is wrong";
     case SICKLESPAN_INVALID_WIDTH: return "no symbol has the width";
     case SICKLESPAN_INVALID_FORMAT: return "there is no such format";
     case SICKLESPAN_INVALID_SETTING: return "a setting is out of bounds, or not of the format";
     case SICKLESPAN_INVALID_CONTENT: return "there is no such content";
+    case SICKLESPAN_WRONG_VALUE: return "a value is none that its identifier allows";
+    case SICKLESPAN_WRONG_DOMAIN: return "the domain is no host name, with a port or without";
+    case SICKLESPAN_NO_KEY: return "no element is the key of a link, as (01), (00) or (414) are";
+    case SICKLESPAN_SECOND_KEY: return "a link has one key, and there is another";
+    case SICKLESPAN_WRONG_QUALIFIER:
+        return "an element qualifies another key than that of the link";
+    case SICKLESPAN_REPEATED_ELEMENT: return "an identifier stands twice in a link";
     default: return "unknown status";
     }
 }

@@ -47,15 +47,22 @@ enum sicklespan_status {
     SICKLESPAN_INVALID_CHARACTER = 12,  /* a byte is no character of a GS1 element */
     SICKLESPAN_NO_ELEMENTS = 13,        /* the text does not begin with a bracketed identifier */
     SICKLESPAN_INVALID_IDENTIFIER = 14, /* an identifier is not two to four digits in brackets */
-    SICKLESPAN_UNKNOWN_IDENTIFIER = 15, /* no identifier begins so, or it has another length */
+    SICKLESPAN_UNKNOWN_IDENTIFIER = 15, /* an identifier is not assigned */
     SICKLESPAN_EMPTY_VALUE = 16,        /* an element has no value, or no bracket before it */
-    SICKLESPAN_VALUE_TOO_LONG = 17,     /* a value has more than 90 characters */
-    SICKLESPAN_WRONG_LENGTH = 18,       /* a value has another length than the predefined one */
-    SICKLESPAN_WRONG_CHECK_DIGIT = 19,  /* a value does not end with its check digit */
+    SICKLESPAN_VALUE_TOO_LONG = 17,     /* a value has more characters than it may have */
+    SICKLESPAN_WRONG_LENGTH = 18,       /* a value is too short, or has another length than one
+                                         * that is fixed */
+    SICKLESPAN_WRONG_CHECK_DIGIT = 19,  /* a check digit, or a pair of check characters, is wrong */
     SICKLESPAN_INVALID_WIDTH = 20,      /* no symbol has the width */
-    SICKLESPAN_INVALID_FORMAT = 21,     /* the format is not 0 to 6 */
+    SICKLESPAN_INVALID_FORMAT = 21,     /* the format is not 0 to 7 */
     SICKLESPAN_INVALID_SETTING = 22,    /* a setting is out of its bounds, or not of the format */
-    SICKLESPAN_INVALID_CONTENT = 23     /* the content is not 0 to 5 */
+    SICKLESPAN_INVALID_CONTENT = 23,    /* the content is not 0 to 6 */
+    SICKLESPAN_WRONG_VALUE = 24,        /* a value is wrong in another way: no such date, say */
+    SICKLESPAN_WRONG_DOMAIN = 25,       /* the domain is no host name, with a port or without */
+    SICKLESPAN_NO_KEY = 26,             /* no element is the key of a link, as (01) or (00) are */
+    SICKLESPAN_SECOND_KEY = 27,         /* an element is a key of links, and another after it */
+    SICKLESPAN_WRONG_QUALIFIER = 28,    /* an element qualifies another key than that of the link */
+    SICKLESPAN_REPEATED_ELEMENT = 29    /* an identifier stands twice in a link */
 };
 
 /* What is asked of a symbol beside its data: its level, the versions that it may have, and whether
@@ -139,19 +146,86 @@ int32_t sicklespan_elements(const void *elements, size_t length, const sicklespa
                             uint8_t *modules, size_t room, sicklespan_shape *shape);
 
 /*
- * The same of elements as people write them: "(01)09506000134352(10)ABC123". Tested are the number
- * of an identifier's digits by its first two, the characters, the predefined lengths (identifiers
- * that begin with 00 to 04, 11 to 20, 31 to 36 or 41), and the check digits of 00, 01, 02 and 410
- * to 417. What else GS1 says of a value, its greatest length, say, or a date, is not. A value has
- * no `(`, with which the next identifier begins.
+ * The same of elements as people write them: "(01)09506000134352(10)ABC123". Each element is tested
+ * by the table of identifiers of the GS1 General Specifications, release 24 (January 2024): its
+ * identifier is assigned, and its value has the length, the characters, the check digit, the date,
+ * the country and what else the table asks for. Whether elements may stand together is not tested.
+ * A value has no `(`, with which the next identifier begins.
  *
  * After SICKLESPAN_INVALID_VERSIONS: SICKLESPAN_INVALID_TEXT, SICKLESPAN_NO_ELEMENTS, and of the
- * first element that has a fault SICKLESPAN_INVALID_IDENTIFIER, SICKLESPAN_UNKNOWN_IDENTIFIER,
- * SICKLESPAN_EMPTY_VALUE, SICKLESPAN_VALUE_TOO_LONG, SICKLESPAN_INVALID_CHARACTER,
- * SICKLESPAN_WRONG_LENGTH, SICKLESPAN_WRONG_CHECK_DIGIT.
+ * first element that has a fault the first of SICKLESPAN_INVALID_IDENTIFIER,
+ * SICKLESPAN_UNKNOWN_IDENTIFIER and, of its value from the left, SICKLESPAN_EMPTY_VALUE,
+ * SICKLESPAN_WRONG_LENGTH (it ends too early), SICKLESPAN_INVALID_CHARACTER,
+ * SICKLESPAN_WRONG_CHECK_DIGIT, SICKLESPAN_WRONG_VALUE, SICKLESPAN_VALUE_TOO_LONG.
  */
 int32_t sicklespan_gs1(const char *text, size_t length, const sicklespan_options *options,
                        uint8_t *modules, size_t room, sicklespan_shape *shape);
+
+/*
+ * The same, for identifiers that are newer than the table: elements are tested for what a reader
+ * needs alone. That is the number of an identifier's digits by its first two, the characters, the
+ * predefined lengths (identifiers that begin with 00 to 04, 11 to 20, 31 to 36 or 41), and the
+ * check digits of 00, 01, 02 and 410 to 417. What else GS1 says of a value, its greatest length,
+ * say, or a date, is not tested.
+ *
+ * After SICKLESPAN_INVALID_VERSIONS: SICKLESPAN_INVALID_TEXT, SICKLESPAN_NO_ELEMENTS, and of the
+ * first element that has a fault SICKLESPAN_INVALID_IDENTIFIER, SICKLESPAN_UNKNOWN_IDENTIFIER,
+ * SICKLESPAN_EMPTY_VALUE, SICKLESPAN_VALUE_TOO_LONG (more than 90 characters),
+ * SICKLESPAN_INVALID_CHARACTER, SICKLESPAN_WRONG_LENGTH, SICKLESPAN_WRONG_CHECK_DIGIT.
+ */
+int32_t sicklespan_gs1_unchecked(const char *text, size_t length, const sicklespan_options *options,
+                                 uint8_t *modules, size_t room, sicklespan_shape *shape);
+
+/* Where elements as people write them have a fault. */
+typedef struct sicklespan_fault {
+    size_t element;     /* the number of the element, from 1; 0 where it is none of an element */
+    size_t character;   /* the character of its value, from 1; 0 where it is none of a value */
+    int32_t identifier; /* its identifier as a number, 1 of "(01)"; -1 where it is not known */
+    const char *reason; /* what is wrong, in a few words; the text is static, and never null */
+} sicklespan_fault;
+
+/*
+ * What sicklespan_gs1 finds in elements, and where: it returns the status of the first fault, or
+ * SICKLESPAN_OK, and writes the fault.
+ *
+ * SICKLESPAN_INVALID_POINTER as above, of `fault`, with which nothing is written; the statuses of
+ * sicklespan_gs1 for a fault of the text; SICKLESPAN_OUT_OF_MEMORY.
+ */
+int32_t sicklespan_gs1_fault(const char *text, size_t length, sicklespan_fault *fault);
+
+/*
+ * The symbol of the GS1 Digital Link of elements as people write them, as sicklespan_bytes draws
+ * it: of "(17)261231(10)ABC(01)09506000134352" and the domain "id.gs1.org" that of
+ * "https://id.gs1.org/01/09506000134352/10/ABC?17=261231". The key comes first, then its
+ * qualifiers, and the other elements as a query. The elements are tested as sicklespan_gs1 does it.
+ * The domain is a host name of letters, digits, `-` and `.`, with a port or without.
+ *
+ * After SICKLESPAN_INVALID_VERSIONS: SICKLESPAN_INVALID_TEXT, SICKLESPAN_DATA_TOO_LONG (a text of
+ * more than 11815 bytes), those of sicklespan_gs1 for a fault of the elements,
+ * SICKLESPAN_WRONG_DOMAIN, SICKLESPAN_NO_KEY, and of the first element that has a fault
+ * SICKLESPAN_WRONG_QUALIFIER, SICKLESPAN_SECOND_KEY, SICKLESPAN_REPEATED_ELEMENT.
+ */
+int32_t sicklespan_link(const char *text, size_t length, const char *domain, size_t domain_length,
+                        const sicklespan_options *options, uint8_t *modules, size_t room,
+                        sicklespan_shape *shape);
+
+/*
+ * The link itself. It is written to `link`, which has `room` bytes, and the number of its bytes to
+ * `size`; the bytes after it keep their values, and it ends with no 0. On an error nothing is
+ * written, except that a SICKLESPAN_SHORT_BUFFER writes `size`: a call with the room 0 asks how
+ * much a second one needs.
+ *
+ * SICKLESPAN_INVALID_POINTER as above, of the `room` bytes of `link` and of `size`; the statuses of
+ * sicklespan_link for a fault of the text and the domain; SICKLESPAN_OUT_OF_MEMORY,
+ * SICKLESPAN_SHORT_BUFFER.
+ */
+int32_t sicklespan_link_text(const char *text, size_t length, const char *domain,
+                             size_t domain_length, char *link, size_t room, size_t *size);
+
+/* What sicklespan_link finds in elements and a domain, and where, as sicklespan_gs1_fault says it
+ * of sicklespan_gs1. */
+int32_t sicklespan_link_fault(const char *text, size_t length, const char *domain,
+                              size_t domain_length, sicklespan_fault *fault);
 
 /*
  * The best Micro symbol of some bytes at a level, in M1 to M4. None of them has level H, which is
@@ -166,16 +240,17 @@ int32_t sicklespan_micro(const void *bytes, size_t length, int32_t level, uint8_
 
 /* What data are, by the call that takes them. */
 enum sicklespan_content {
-    SICKLESPAN_CONTENT_BYTES = 0,    /* sicklespan_bytes */
-    SICKLESPAN_CONTENT_TEXT = 1,     /* sicklespan_text */
-    SICKLESPAN_CONTENT_ELEMENTS = 2, /* sicklespan_elements */
-    SICKLESPAN_CONTENT_GS1 = 3,      /* sicklespan_gs1 */
-    SICKLESPAN_CONTENT_MICRO = 4,    /* sicklespan_micro, with the level of the options */
-    SICKLESPAN_CONTENT_AUTO = 5      /* sicklespan_auto */
+    SICKLESPAN_CONTENT_BYTES = 0,        /* sicklespan_bytes */
+    SICKLESPAN_CONTENT_TEXT = 1,         /* sicklespan_text */
+    SICKLESPAN_CONTENT_ELEMENTS = 2,     /* sicklespan_elements */
+    SICKLESPAN_CONTENT_GS1 = 3,          /* sicklespan_gs1 */
+    SICKLESPAN_CONTENT_MICRO = 4,        /* sicklespan_micro, with the level of the options */
+    SICKLESPAN_CONTENT_AUTO = 5,         /* sicklespan_auto */
+    SICKLESPAN_CONTENT_GS1_UNCHECKED = 6 /* sicklespan_gs1_unchecked */
 };
 
 /*
- * What one of the calls above returns for some data where there is room enough, and how many of
+ * What the call of a content returns for some data where there is room enough, and how many of
  * their first bytes are good. Of SICKLESPAN_OK these are all. After SICKLESPAN_DATA_TOO_LONG
  * `length - *good` bytes are too many: the call takes the first `*good` ones, and no more of them
  * up to the next place where they may be cut. Of the statuses that find a fault in the data, the
@@ -265,7 +340,8 @@ enum sicklespan_format {
     SICKLESPAN_FORMAT_PBM = 3,    /* a portable bitmap, in its binary form (P4 of Netpbm) */
     SICKLESPAN_FORMAT_EPS = 4,    /* Encapsulated PostScript */
     SICKLESPAN_FORMAT_ESCPOS = 5, /* raster images of ESC/POS (GS v 0), for ticket printers */
-    SICKLESPAN_FORMAT_ZPL = 6     /* a label of ZPL II (^GF), for label printers */
+    SICKLESPAN_FORMAT_ZPL = 6,    /* a label of ZPL II (^GF), for label printers */
+    SICKLESPAN_FORMAT_PDF = 7     /* a document of PDF 1.4, of one page as large as the picture */
 };
 
 /* What is asked of a picture. A number below 0 stands for the default, but for `inverted`. */
@@ -273,7 +349,8 @@ typedef struct sicklespan_settings {
     int32_t scale;     /* the width of a module in pixels, 1 to 64: 8 by default, and 1 of text */
     int32_t quiet;     /* the width of the quiet zone in modules, 0 to 16: 4 by default, and 2
                         * around a Micro symbol */
-    int32_t module_mm; /* of SVG, PNG and EPS: a module in hundredths of a millimetre, 5 to 1000 */
+    int32_t module_mm; /* of SVG, PNG, EPS and PDF: a module in hundredths of a millimetre, 5 to
+                        * 1000 */
     int32_t dpi;       /* of PNG, not beside module_mm: the pixels in an inch, 50 to 2400 */
     int32_t inverted;  /* of text: if it is not 0, the light pixels are filled, for a dark screen */
     int32_t at_x;      /* of ZPL: the column of the upper left corner in dots, 0 to 18000 */

@@ -125,6 +125,31 @@ SEES_ASKED(qrcode_c_bytes)
 SEES_ASKED(qrcode_c_text)
 SEES_ASKED(qrcode_c_elements)
 SEES_ASKED(qrcode_c_gs1)
+SEES_ASKED(qrcode_c_gs1_unchecked)
+
+int32_t __real_qrcode_c_link(const uint8_t *, size_t, const uint8_t *, size_t,
+                             const sicklespan_options *, uint8_t *, size_t, sicklespan_shape *);
+
+int32_t __wrap_qrcode_c_link(const uint8_t *text, size_t length, const uint8_t *domain,
+                             size_t domain_length, const sicklespan_options *options, uint8_t *out,
+                             size_t room, sicklespan_shape *to) {
+    EXPECT_SLICE(text, length);
+    EXPECT_SLICE(domain, domain_length);
+    EXPECT_SLICE(options, 1);
+    EXPECT_SLICE(out, room);
+    return __real_qrcode_c_link(text, length, domain, domain_length, options, out, room, to);
+}
+
+int32_t __real_qrcode_c_link_text(const uint8_t *, size_t, const uint8_t *, size_t, uint8_t *,
+                                  size_t, size_t *);
+
+int32_t __wrap_qrcode_c_link_text(const uint8_t *text, size_t length, const uint8_t *domain,
+                                  size_t domain_length, uint8_t *link, size_t room, size_t *size) {
+    EXPECT_SLICE(text, length);
+    EXPECT_SLICE(domain, domain_length);
+    EXPECT_SLICE(link, room);
+    return __real_qrcode_c_link_text(text, length, domain, domain_length, link, room, size);
+}
 
 int32_t __real_qrcode_c_part_symbol(const uint8_t *, size_t, const size_t *, size_t, int32_t,
                                     int32_t, size_t, uint8_t *, size_t, sicklespan_shape *);
@@ -414,13 +439,19 @@ static void test_words(void) {
         [SICKLESPAN_INVALID_IDENTIFIER] = "an identifier is not two to four digits in brackets",
         [SICKLESPAN_UNKNOWN_IDENTIFIER] = "an identifier is unknown",
         [SICKLESPAN_EMPTY_VALUE] = "a value is empty, or a bracket is not closed",
-        [SICKLESPAN_VALUE_TOO_LONG] = "a value has more than 90 characters",
+        [SICKLESPAN_VALUE_TOO_LONG] = "a value is too long",
         [SICKLESPAN_WRONG_LENGTH] = "the length of a value is wrong",
         [SICKLESPAN_WRONG_CHECK_DIGIT] = "a check digit is wrong",
         [SICKLESPAN_INVALID_WIDTH] = "no symbol has the width",
         [SICKLESPAN_INVALID_FORMAT] = "there is no such format",
         [SICKLESPAN_INVALID_SETTING] = "a setting is out of bounds, or not of the format",
         [SICKLESPAN_INVALID_CONTENT] = "there is no such content",
+        [SICKLESPAN_WRONG_VALUE] = "a value is none that its identifier allows",
+        [SICKLESPAN_WRONG_DOMAIN] = "the domain is no host name, with a port or without",
+        [SICKLESPAN_NO_KEY] = "no element is the key of a link, as (01), (00) or (414) are",
+        [SICKLESPAN_SECOND_KEY] = "a link has one key, and there is another",
+        [SICKLESPAN_WRONG_QUALIFIER] = "an element qualifies another key than that of the link",
+        [SICKLESPAN_REPEATED_ELEMENT] = "an identifier stands twice in a link",
         "unknown status",
     };
     for (int32_t status = 0; status < (int32_t)(sizeof texts / sizeof *texts); status++) {
@@ -479,6 +510,7 @@ static void test_allocations(void) {
 
 #include "test_asked.h"
 #include "test_check.h"
+#include "test_gs1.h"
 #include "test_picture.h"
 
 int main(void) {
@@ -495,7 +527,10 @@ int main(void) {
                                    test_settings,       test_picture_allocations,
                                    test_check,          test_check_pointers,
                                    test_check_memory,   test_wrong_setting,
-                                   test_quiet_zones,    test_auto};
+                                   test_quiet_zones,    test_auto,
+                                   test_table,          test_faults,
+                                   test_reasons,        test_links,
+                                   test_link_pointers};
     int passed = 0, failed = 0;
     /* What a row prints is not lost where the next call ends the program. */
     setbuf(stdout, NULL);

@@ -35,6 +35,12 @@ static int32_t of_gs1(const void *data, size_t length, const sicklespan_options 
     return sicklespan_gs1(data, length, options, out, room, to);
 }
 
+static int32_t of_gs1_unchecked(const void *data, size_t length, const sicklespan_options *options,
+                                uint8_t *out, size_t room, void *to) {
+    clear();
+    return sicklespan_gs1_unchecked(data, length, options, out, room, to);
+}
+
 static const sicklespan_options usual_options = SICKLESPAN_OPTIONS_INIT;
 
 /* A call with the whole buffer. */
@@ -43,8 +49,8 @@ static int32_t asked(asked_call *call, const char *text, const sicklespan_option
 }
 
 static void test_asked_pointers(void) {
-    asked_call *const calls[] = {of_bytes, of_text, of_elements, of_gs1, of_auto};
-    const char *const data[] = {"hello", "hello", "10ABC", "(10)ABC", "h\xc3\xa9llo"};
+    asked_call *const calls[] = {of_bytes, of_text, of_elements, of_gs1, of_auto, of_gs1_unchecked};
+    const char *const data[] = {"hello", "hello", "10ABC", "(10)ABC", "h\xc3\xa9llo", "(4399)ABC"};
     static uint8_t drawn[441];
     for (size_t i = 0; i < sizeof calls / sizeof *calls; i++) {
         asked_call *const call = calls[i];
@@ -53,8 +59,9 @@ static void test_asked_pointers(void) {
         EXPECT(is_refused(call(data[i], (size_t)PTRDIFF_MAX + 1, NULL, modules, 441, &shape)));
         EXPECT(is_refused(call(data[i], length, NULL, NULL, 441, &shape)));
         EXPECT(is_refused(call(data[i], length, NULL, modules, 441, NULL)));
+        const bool is_gs1 = call == of_gs1 || call == of_gs1_unchecked;
         EXPECT(call(NULL, 0, NULL, NULL, 0, &shape) ==
-                   (call == of_gs1 ? SICKLESPAN_NO_ELEMENTS : SICKLESPAN_SHORT_BUFFER) &&
+                   (is_gs1 ? SICKLESPAN_NO_ELEMENTS : SICKLESPAN_SHORT_BUFFER) &&
                is_kept_from(0));
         EXPECT(call(data[i], length, NULL, NULL, 0, &shape) == SICKLESPAN_SHORT_BUFFER &&
                is_kept_from(0));
@@ -166,11 +173,16 @@ static void test_contents(void) {
                   {"(10)\xff", SICKLESPAN_INVALID_TEXT}};
     for (size_t i = 0; i < sizeof faults / sizeof *faults; i++) {
         EXPECT(asked(of_gs1, faults[i].text, NULL) == faults[i].status && is_kept_from(0));
+        EXPECT(asked(of_gs1_unchecked, faults[i].text, NULL) == faults[i].status &&
+               is_kept_from(0));
     }
     char text[96] = "(10)";
     memset(text + 4, 'A', 91);
-    EXPECT(asked(of_gs1, text, NULL) == SICKLESPAN_VALUE_TOO_LONG && is_kept_from(0));
+    EXPECT(asked(of_gs1_unchecked, text, NULL) == SICKLESPAN_VALUE_TOO_LONG && is_kept_from(0));
     text[94] = 0;
+    EXPECT(asked(of_gs1_unchecked, text, NULL) == SICKLESPAN_OK);
+    EXPECT(asked(of_gs1, text, NULL) == SICKLESPAN_VALUE_TOO_LONG && is_kept_from(0));
+    text[24] = 0;
     EXPECT(asked(of_gs1, text, NULL) == SICKLESPAN_OK);
 }
 

@@ -71,6 +71,10 @@ static void test_check(void) {
     EXPECT_GOOD(GS1, "(10)ABC(01)1", L, WRONG_LENGTH, 7);
     EXPECT_GOOD(GS1, "(10)a b", L, INVALID_CHARACTER, 0);
     EXPECT_GOOD(GS1, "(10)A(10)\xff", L, INVALID_TEXT, 5);
+    EXPECT_GOOD(GS1, "(10)ABC(21)D(17)261331", L, WRONG_VALUE, 12);
+    EXPECT_GOOD(GS1_UNCHECKED, "(10)ABC(21)D(17)261331", L, OK, 22);
+    EXPECT_GOOD(GS1_UNCHECKED, "(4399)ABCDEF(21)XYZ", H, DATA_TOO_LONG, 12);
+    EXPECT_GOOD(GS1_UNCHECKED, "(4399)ABCDEFGHIJKL(21)X", H, DATA_TOO_LONG, 0);
 
     static char many[20006];
     memset(many, 'a', 20000);
@@ -86,8 +90,9 @@ static void test_check(void) {
 
 static void test_check_pointers(void) {
     const sicklespan_options no_level = {4, 1, 40, 0}, no_range = {0, 2, 1, 0};
-    for (int32_t content = 0; content <= 5; content++) {
-        const bool is_gs1 = content == SICKLESPAN_CONTENT_GS1;
+    for (int32_t content = 0; content <= 6; content++) {
+        const bool is_gs1 =
+            content == SICKLESPAN_CONTENT_GS1 || content == SICKLESPAN_CONTENT_GS1_UNCHECKED;
         EXPECT(check(content, NULL, 0, NULL) == (is_gs1 ? SICKLESPAN_NO_ELEMENTS : SICKLESPAN_OK) &&
                good_bytes == 0);
         EXPECT(check(content, NULL, 1, NULL) == SICKLESPAN_INVALID_POINTER && good_bytes == 88);
@@ -95,7 +100,7 @@ static void test_check_pointers(void) {
     }
     EXPECT(check(SICKLESPAN_CONTENT_TEXT, "a", 1, &no_range) == SICKLESPAN_INVALID_VERSIONS &&
            good_bytes == 88);
-    const int32_t no_contents[] = {-1, 6, 256, INT32_MIN, INT32_MAX};
+    const int32_t no_contents[] = {-1, 7, 256, INT32_MIN, INT32_MAX};
     for (size_t i = 0; i < sizeof no_contents / sizeof *no_contents; i++) {
         EXPECT(check(no_contents[i], "a", 1, NULL) == SICKLESPAN_INVALID_CONTENT &&
                good_bytes == 88);
@@ -165,5 +170,5 @@ static void test_wrong_setting(void) {
     EXPECT_WRONG(ZPL, "at_x", -1, -1, -1, -1, 0, 18001, -1);
     EXPECT_WRONG(ZPL, "at_y", -1, -1, -1, -1, 0, 18000, INT32_MAX);
     EXPECT_WRONG(EPS, "at_y", -1, -1, -1, -1, 0, -1, 3);
-    EXPECT(sicklespan_wrong_setting(7, &(sicklespan_settings){0, 0, 0, 0, 0, 0, 0}) == NULL);
+    EXPECT(sicklespan_wrong_setting(8, &(sicklespan_settings){0, 0, 0, 0, 0, 0, 0}) == NULL);
 }

@@ -114,7 +114,7 @@ static void test_picture_pointers(void) {
                    SICKLESPAN_INVALID_WIDTH &&
                is_blank());
     }
-    const int32_t no_formats[] = {-1, 7, 256, INT32_MIN, INT32_MAX};
+    const int32_t no_formats[] = {-1, 8, 256, INT32_MIN, INT32_MAX};
     const sicklespan_settings none = {0, -1, -1, -1, 0, -1, -1};
     for (size_t i = 0; i < sizeof no_formats / sizeof *no_formats; i++) {
         EXPECT(hello_as(no_formats[i], &none) == SICKLESPAN_INVALID_FORMAT && is_blank());

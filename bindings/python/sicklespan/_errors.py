@@ -6,7 +6,7 @@ An argument of a type that a call does not take is a TypeError that names the pa
 import ctypes
 from typing import Dict, Optional, Type
 
-from ._library import Options, Settings, library
+from ._library import Fault, Options, Settings, library
 
 
 class SicklespanError(ValueError):
@@ -17,7 +17,7 @@ class DataTooLongError(SicklespanError):
     """The data fit no symbol that was asked for.
 
     `too_many` is the number of bytes that are too many: without the last ones, up to the next place
-    where they may be cut, the data fit. It is None of the parts of a sequence.
+    where they may be cut, the data fit. It is None of the parts of a sequence, and of a link.
     """
 
     too_many: Optional[int] = None
@@ -48,16 +48,25 @@ class InvalidTextError(SicklespanError):
 
 
 class ElementError(SicklespanError):
-    """An element of a GS1 text has a fault. `element` is its number, from 1."""
+    """An element of a GS1 text has a fault.
+
+    `element` is its number, from 1, `identifier` its identifier as a number, 1 of `(01)`, where it
+    is known, `character` the one of its value that is at fault, from 1, if it is one of a value,
+    and `reason` what is wrong, in a few words. Of unchecked elements only `element` and `reason`
+    are known.
+    """
 
     element: Optional[int] = None
+    identifier: Optional[int] = None
+    character: Optional[int] = None
+    reason: Optional[str] = None
 
 
 class InvalidCharacterError(ElementError):
-    """A character is none of a GS1 element.
+    """A character is none that stands at this place of a GS1 element.
 
-    Of bytes as readers find them, `place` is that of the byte, from 0; of a text in brackets
-    `element` is the number of the element. The other one is None.
+    Of bytes as readers find them, `place` is that of the byte, from 0, and the others are None; of
+    a text in brackets it is None.
     """
 
     place: Optional[int] = None
@@ -72,7 +81,7 @@ class InvalidIdentifierError(ElementError):
 
 
 class UnknownIdentifierError(ElementError):
-    """No identifier begins so, or those that do have another number of digits."""
+    """An identifier is not assigned."""
 
 
 class EmptyValueError(ElementError):
@@ -80,15 +89,39 @@ class EmptyValueError(ElementError):
 
 
 class ValueTooLongError(ElementError):
-    """A value has more than 90 characters."""
+    """A value has more characters than it may have."""
 
 
 class WrongLengthError(ElementError):
-    """A value has another length than the predefined one of its identifier."""
+    """A value is too short, or has another length than one that is fixed."""
 
 
 class WrongCheckDigitError(ElementError):
-    """A value does not end with its check digit."""
+    """A check digit, or a pair of check characters, is wrong."""
+
+
+class WrongValueError(ElementError):
+    """A value is wrong in another way: no such date, say."""
+
+
+class WrongDomainError(SicklespanError):
+    """The domain of a link is no host name, with a port or without."""
+
+
+class NoKeyError(SicklespanError):
+    """No element is the key of a link, as (01), (00) or (414) are."""
+
+
+class SecondKeyError(ElementError):
+    """An element is a key of links, and there is another after it."""
+
+
+class WrongQualifierError(ElementError):
+    """An element qualifies another key than that of the link."""
+
+
+class RepeatedElementError(ElementError):
+    """The identifier of an element of a link stands once more after it."""
 
 
 class InvalidFormatError(SicklespanError):
@@ -128,11 +161,17 @@ ERRORS: Dict[int, Type[SicklespanError]] = {
     19: WrongCheckDigitError,
     21: InvalidFormatError,
     22: InvalidSettingError,
+    24: WrongValueError,
+    25: WrongDomainError,
+    26: NoKeyError,
+    27: SecondKeyError,
+    28: WrongQualifierError,
+    29: RepeatedElementError,
 }
 
 
 # The numbers of `sicklespan_content`.
-BYTES, TEXT, ELEMENTS, GS1, MICRO = range(5)
+BYTES, TEXT, ELEMENTS, GS1, MICRO, _AUTO, GS1_UNCHECKED = range(7)
 # The names of settings that have another one in the library.
 _NAMES = {"quiet": "border", "at_x": "at", "at_y": "at"}
 
@@ -147,29 +186,57 @@ def check(status: int) -> None:
         raise ERRORS.get(status, SicklespanError)(_text(status))
 
 
+def _element_error(status: int, fault: Fault) -> SicklespanError:
+    """The error of a status, with the fault that comes with it."""
+    error = ERRORS.get(status, SicklespanError)
+    if fault.element == 0:
+        return error(_text(status))
+    known = f" ({fault.identifier:02})" if fault.identifier >= 0 else ""
+    within = f", character {fault.character}" if fault.character else ""
+    reason = fault.reason.decode()
+    found = error(f"element {fault.element}{known}{within}: {reason}")
+    assert isinstance(found, ElementError)
+    found.element, found.reason = int(fault.element), reason
+    found.identifier = int(fault.identifier) if known else None
+    found.character = int(fault.character) if within else None
+    return found
+
+
+def check_link(status: int, text: bytes, domain: bytes) -> None:
+    """Raises the error of a status of a link."""
+    if not (12 <= status <= 19 or 24 <= status <= 29):
+        return check(status)
+    fault = Fault()
+    raise _element_error(library.sicklespan_link_fault(
+        text, len(text), domain, len(domain), ctypes.byref(fault)), fault)
+
+
 def check_data(status: int, content: int, data: bytes, options: Options) -> None:
     """Raises the error of a status of a call with data, and says of how many of them it is."""
-    if status != 1 and not 12 <= status <= 19:
+    if status not in (1, 24) and not 12 <= status <= 19:
         return check(status)
+    fault = Fault()
+    if content == GS1 and status != 1:
+        raise _element_error(
+            library.sicklespan_gs1_fault(data, len(data), ctypes.byref(fault)), fault)
     good, text = ctypes.c_size_t(), _text(status)
     check_again = library.sicklespan_check(content, data, len(data), ctypes.byref(options),
                                            ctypes.byref(good))
     if check_again != status:
         # The status of the data is the same, unless there is no memory now.
         return check(check_again)
-    error = ERRORS[status](text)
-    if isinstance(error, DataTooLongError):
+    if status == 1:
         count = len(data) - good.value
-        error = DataTooLongError(f"{text}, by {count} byte{'s' * (count > 1)}")
-        error.too_many = count
-    elif isinstance(error, InvalidCharacterError) and content == ELEMENTS:
+        too_long = DataTooLongError(f"{text}, by {count} byte{'s' * (count > 1)}")
+        too_long.too_many = count
+        raise too_long
+    if status == 12 and content == ELEMENTS:
         error = InvalidCharacterError(f"{text}, at byte {good.value}")
         error.place = good.value
-    elif isinstance(error, ElementError):
-        number = data.count(b"(", 0, good.value) + 1
-        error = type(error)(f"element {number}: {text}")
-        error.element = number
-    raise error
+        raise error
+    if status != 13:
+        fault = Fault(data.count(b"(", 0, good.value) + 1, 0, -1, text.encode())
+    raise _element_error(status, fault)
 
 
 def check_picture(status: int, kind: int, settings: Settings) -> None:

@@ -31,6 +31,13 @@ class Settings(ctypes.Structure):
         "scale", "quiet", "module_mm", "dpi", "inverted", "at_x", "at_y")]
 
 
+class Fault(ctypes.Structure):
+    """`sicklespan_fault`."""
+
+    _fields_ = [("element", c_size_t), ("character", c_size_t), ("identifier", c_int32),
+                ("reason", c_char_p)]
+
+
 def _opened() -> ctypes.CDLL:
     beside = os.path.join(os.path.dirname(os.path.abspath(__file__)), "libsicklespan.so.0")
     usual = beside if os.path.exists(beside) else "libsicklespan.so.0"
@@ -54,8 +61,14 @@ def _declare(name: str, result: object, *arguments: object) -> None:
 
 library = _opened()
 _AT_THE_END = (c_char_p, c_size_t, POINTER(Shape))
-for _name in ("sicklespan_bytes", "sicklespan_text", "sicklespan_elements", "sicklespan_gs1"):
+for _name in ("sicklespan_bytes", "sicklespan_text", "sicklespan_elements", "sicklespan_gs1",
+              "sicklespan_gs1_unchecked"):
     _declare(_name, c_int32, c_char_p, c_size_t, POINTER(Options), *_AT_THE_END)
+_declare("sicklespan_gs1_fault", c_int32, c_char_p, c_size_t, POINTER(Fault))
+_LINK = (c_char_p, c_size_t, c_char_p, c_size_t)
+_declare("sicklespan_link", c_int32, *_LINK, POINTER(Options), *_AT_THE_END)
+_declare("sicklespan_link_text", c_int32, *_LINK, c_char_p, c_size_t, POINTER(c_size_t))
+_declare("sicklespan_link_fault", c_int32, *_LINK, POINTER(Fault))
 _declare("sicklespan_micro", c_int32, c_char_p, c_size_t, c_int32, *_AT_THE_END)
 for _name in ("sicklespan_sequence", "sicklespan_text_sequence"):
     _declare(_name, c_int32, c_char_p, c_size_t, POINTER(c_size_t), c_size_t, c_int32, c_int32,

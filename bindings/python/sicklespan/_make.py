@@ -5,12 +5,14 @@ import operator
 from typing import Callable, List, Optional, Sequence, Union
 
 from ._errors import (
-    BYTES, ELEMENTS, GS1, MICRO, TEXT, DataTooLongError, InvalidCutsError, InvalidLevelError,
-    InvalidPartCountError, InvalidTextError, InvalidVersionsError, check, check_data)
+    BYTES, ELEMENTS, GS1, GS1_UNCHECKED, MICRO, TEXT, DataTooLongError, InvalidCutsError,
+    InvalidLevelError, InvalidPartCountError, InvalidTextError, InvalidVersionsError, check,
+    check_data, check_link)
 from ._library import Options, Shape, library
 from ._symbol import LEVELS, Symbol
 
 _SIZE = 177 * 177
+_SHORT_BUFFER = 8
 
 # What a symbol is made of.
 Content = Union[str, bytes, bytearray, memoryview]
@@ -68,7 +70,8 @@ def _version(name: str, number: int) -> int:
 
 
 _CALLS = {BYTES: library.sicklespan_bytes, TEXT: library.sicklespan_text,
-          ELEMENTS: library.sicklespan_elements, GS1: library.sicklespan_gs1}
+          ELEMENTS: library.sicklespan_elements, GS1: library.sicklespan_gs1,
+          GS1_UNCHECKED: library.sicklespan_gs1_unchecked}
 
 
 def _drawn(content: int, data: bytes, options: Options) -> Symbol:
@@ -136,12 +139,56 @@ def gs1(content: str, error: Optional[str] = None, version: Optional[int] = None
         min_version: int = 1, max_version: int = 40, boost_error: bool = True) -> Symbol:
     """The best symbol of GS1 elements as people write them: `(01)09506000134352(10)ABC123`.
 
-    Tested are the number of an identifier's digits by its first two, the characters, the predefined
-    lengths, and the check digits of 00, 01, 02 and 410 to 417. What else GS1 says of a value, its
-    greatest length, say, or a date, is not.
+    Each element is tested by the table of identifiers of the GS1 General Specifications, release 24
+    (January 2024): its identifier is assigned, and its value has the length, the characters, the
+    check digit, the date, the country and what else the table asks for. Whether elements may stand
+    together is not tested.
     """
     options = _options(error, version, min_version, max_version, boost_error)
     return _drawn(GS1, _text("content", content), options)
+
+
+def gs1_unchecked(content: str, error: Optional[str] = None, version: Optional[int] = None, *,
+                  min_version: int = 1, max_version: int = 40, boost_error: bool = True) -> Symbol:
+    """What `gs1` returns, for identifiers that are newer than its table.
+
+    Elements are tested for what a reader needs alone. That is the number of an identifier's digits
+    by its first two, the characters, the predefined lengths (identifiers that begin with 00 to 04,
+    11 to 20, 31 to 36 or 41), and the check digits of 00, 01, 02 and 410 to 417. What else GS1 says
+    of a value, its greatest length, say, or a date, is not tested.
+    """
+    options = _options(error, version, min_version, max_version, boost_error)
+    return _drawn(GS1_UNCHECKED, _text("content", content), options)
+
+
+def link(content: str, domain: str, error: Optional[str] = None, version: Optional[int] = None, *,
+         min_version: int = 1, max_version: int = 40, boost_error: bool = True) -> Symbol:
+    """The best symbol of the GS1 Digital Link of elements, which `link_text` returns."""
+    options = _options(error, version, min_version, max_version, boost_error)
+    text, host = _text("content", content), _text("domain", domain)
+    modules, shape = ctypes.create_string_buffer(_SIZE), Shape()
+    status = library.sicklespan_link(text, len(text), host, len(host), ctypes.byref(options),
+                                     modules, _SIZE, ctypes.byref(shape))
+    check_link(status, text, host)
+    return Symbol(ctypes.string_at(modules, shape.width ** 2), shape)
+
+
+def link_text(content: str, domain: str) -> str:
+    """The GS1 Digital Link of elements as people write them, at a domain.
+
+    The key comes first, then its qualifiers, and the other elements as a query. The elements are
+    tested as `gs1` does it. The domain is a host name of letters, digits, `-` and `.`, with a port
+    or without.
+    """
+    text, host = _text("content", content), _text("domain", domain)
+    room, size, status = 1 << 10, ctypes.c_size_t(), _SHORT_BUFFER
+    while status == _SHORT_BUFFER:
+        room = max(room, size.value)
+        out = ctypes.create_string_buffer(room)
+        status = library.sicklespan_link_text(text, len(text), host, len(host), out, room,
+                                              ctypes.byref(size))
+    check_link(status, text, host)
+    return ctypes.string_at(out, size.value).decode()
 
 
 def elements(content: Union[bytes, bytearray, memoryview], error: Optional[str] = None,

@@ -18,7 +18,7 @@ from ._errors import InvalidFormatError, InvalidSettingError, check_picture
 from ._library import Settings, Shape, library
 
 LEVELS = "LMQH"
-_FORMATS = {"terminal": 0, "svg": 1, "png": 2, "pbm": 3, "eps": 4, "escpos": 5, "zpl": 6}
+_FORMATS = {"terminal": 0, "svg": 1, "png": 2, "pbm": 3, "eps": 4, "escpos": 5, "zpl": 6, "pdf": 7}
 _SHORT_BUFFER = 8
 
 
@@ -164,10 +164,10 @@ class Symbol:
     def picture(self, kind: str, *, scale: Optional[int] = None, border: Optional[int] = None,
                 module_mm: Optional[float] = None, dpi: Optional[int] = None,
                 inverted: bool = False, at: Optional[Tuple[int, int]] = None) -> bytes:
-        """A picture, which is svg, png, pbm, eps, escpos, zpl or terminal.
+        """A picture, which is svg, png, pbm, eps, pdf, escpos, zpl or terminal.
 
         A module has `scale` pixels (8 by default, and 1 of text), and the quiet zone `border`
-        modules (4 by default, and 2 around a Micro symbol). A module of svg, png and eps is
+        modules (4 by default, and 2 around a Micro symbol). A module of svg, png, eps and pdf is
         `module_mm` millimetres wide, to the nearest hundredth; or a png has `dpi` pixels in an
         inch. With `inverted` the light modules of text are filled, for a dark screen. The upper
         left corner of a zpl label is `at` these dots.

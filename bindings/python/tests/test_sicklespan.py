@@ -117,16 +117,66 @@ class Symbols(unittest.TestCase):
                 with self.assertRaises(error) as raised:
                     sicklespan.gs1(f"(21)A(17)261231{text}")
                 self.assertEqual(raised.exception.element, 3)
+                self.assertTrue(str(raised.exception).startswith("element 3"))
+                with self.assertRaises(error) as raised:
+                    sicklespan.gs1_unchecked(f"(21)A(17)261231{text}")
+                self.assertEqual(raised.exception.element, 3)
                 self.assertTrue(str(raised.exception).startswith("element 3: "))
         with self.assertRaises(sicklespan.EmptyValueError) as raised:
             sicklespan.gs1("(10")
-        self.assertEqual(str(raised.exception),
-                         "element 1: a value is empty, or a bracket is not closed")
+        self.assertEqual(
+            str(raised.exception),
+            "element 1 (10), character 1: a value is empty, or a bracket is not closed")
         # The value ends where a bracket is.
         with self.assertRaises(sicklespan.InvalidIdentifierError) as raised:
             sicklespan.gs1("(10)a(b")
         self.assertEqual(str(raised.exception),
                          "element 2: an identifier is not two to four digits in brackets")
+
+    def test_elements_by_the_table(self):
+        # What the table of identifiers refuses, and a reader of elements does not need.
+        long, unknown = "the value is too long", "an identifier is unknown"
+        rows = (("(10)ABCDEFGHIJKLMNOPQRSTUVWXYZ1234", "ValueTooLong", 10, 21, long),
+                ("(21)ABCDEFGHIJKLMNOPQRSTU", "ValueTooLong", 21, 21, long),
+                ("(37)ABC", "InvalidCharacter", 37, 1, "a character that is not allowed there"),
+                ("(30)123456789", "ValueTooLong", 30, 9, long),
+                ("(8003)09506000134353", "WrongCheckDigit", 8003, 14, "wrong check digit"),
+                ("(253)9506000134353", "WrongCheckDigit", 253, 13, "wrong check digit"),
+                ("(7003)2612", "WrongLength", 7003, 5, "the value is too short"),
+                ("(17)261331", "WrongValue", 17, 3, "no such month"),
+                ("(4399)x", "UnknownIdentifier", 4399, None, unknown),
+                ("(8099)x", "UnknownIdentifier", 8099, None, unknown),
+                ("(249)x", "UnknownIdentifier", 249, None, unknown),
+                ("(7299)a", "UnknownIdentifier", 7299, None, unknown))
+        for text, error, identifier, character, reason in rows:
+            with self.assertRaises(getattr(sicklespan, f"{error}Error")) as raised:
+                sicklespan.gs1(f"(99)A{text}")
+            it = raised.exception
+            self.assertEqual((it.element, it.identifier, it.character, it.reason),
+                             (2, identifier, character, reason))
+            sicklespan.gs1_unchecked(f"(99)A{text}")
+        self.assertEqual(str(it), "element 2 (7299): an identifier is unknown")
+
+    def test_links(self):
+        text = "(17)261231(10)A/B(01)09506000134352"
+        link = "https://id.gs1.org/01/09506000134352/10/A%2FB?17=261231"
+        self.assertEqual(sicklespan.link_text(text, "id.gs1.org"), link)
+        self.assertEqual(sicklespan.link(text, "id.gs1.org"), sicklespan.make(link))
+        many = "(01)09506000134352" + "".join(f"({n})" + "/" * 90 for n in range(91, 100))
+        self.assertEqual(len(sicklespan.link_text(many, "a.b")), 29 + 9 * (4 + 270))
+        faults = (("(01)09506000134353", "a.b", "WrongCheckDigit"),
+                  ("(01)09506000134352", "a/b", "WrongDomain"), ("(10)A", "a.b", "NoKey"),
+                  ("(01)09506000134352(00)106141412345678908", "a.b", "SecondKey"),
+                  ("(00)106141412345678908(10)A", "a.b", "WrongQualifier"),
+                  ("(10)A(01)09506000134352(10)A", "a.b", "RepeatedElement"))
+        for text, domain, error in faults:
+            for call in (sicklespan.link, sicklespan.link_text):
+                with self.assertRaises(getattr(sicklespan, f"{error}Error")) as raised:
+                    call(text, domain)
+        self.assertEqual((raised.exception.element, raised.exception.identifier), (1, 10))
+        with self.assertRaises(sicklespan.DataTooLongError) as raised:
+            sicklespan.link("(01)09506000134352", "a.b", version=1)
+        self.assertIsNone(raised.exception.too_many)
 
     def test_micro(self):
         # Worked by hand from the steps of the standard.

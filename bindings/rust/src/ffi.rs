@@ -35,6 +35,21 @@ pub struct Settings {
     pub at_y: i32,
 }
 
+/// `sicklespan_fault`.
+#[repr(C)]
+pub struct Fault {
+    pub element: usize,
+    pub character: usize,
+    pub identifier: i32,
+    pub reason: *const c_char,
+}
+
+impl Fault {
+    /// What a call writes over.
+    const NONE: Fault =
+        Fault { element: 0, character: 0, identifier: -1, reason: std::ptr::null() };
+}
+
 /// `SICKLESPAN_SHORT_BUFFER`.
 pub const SHORT_BUFFER: i32 = 8;
 
@@ -47,6 +62,7 @@ pub enum Content {
     Gs1 = 3,
     Micro = 4,
     Auto = 5,
+    Gs1Unchecked = 6,
 }
 
 #[link(name = "sicklespan", kind = "static")]
@@ -90,6 +106,41 @@ extern "C" {
         modules: *mut u8,
         room: usize,
         shape: *mut Shape,
+    ) -> i32;
+    fn sicklespan_gs1_unchecked(
+        data: *const u8,
+        length: usize,
+        options: *const Options,
+        modules: *mut u8,
+        room: usize,
+        shape: *mut Shape,
+    ) -> i32;
+    fn sicklespan_gs1_fault(text: *const u8, length: usize, fault: *mut Fault) -> i32;
+    fn sicklespan_link(
+        text: *const u8,
+        length: usize,
+        domain: *const u8,
+        domain_length: usize,
+        options: *const Options,
+        modules: *mut u8,
+        room: usize,
+        shape: *mut Shape,
+    ) -> i32;
+    fn sicklespan_link_text(
+        text: *const u8,
+        length: usize,
+        domain: *const u8,
+        domain_length: usize,
+        link: *mut u8,
+        room: usize,
+        size: *mut usize,
+    ) -> i32;
+    fn sicklespan_link_fault(
+        text: *const u8,
+        length: usize,
+        domain: *const u8,
+        domain_length: usize,
+        fault: *mut Fault,
     ) -> i32;
     fn sicklespan_micro(
         bytes: *const u8,
@@ -179,8 +230,59 @@ pub fn symbol(
         Content::Text => sicklespan_text,
         Content::Elements => sicklespan_elements,
         Content::Gs1 => sicklespan_gs1,
+        Content::Gs1Unchecked => sicklespan_gs1_unchecked,
     };
     unsafe { call(data.as_ptr(), data.len(), options, modules.as_mut_ptr(), modules.len(), shape) }
+}
+
+pub fn link(
+    text: &[u8],
+    domain: &[u8],
+    options: &Options,
+    modules: &mut [u8],
+    shape: &mut Shape,
+) -> i32 {
+    unsafe {
+        sicklespan_link(
+            text.as_ptr(),
+            text.len(),
+            domain.as_ptr(),
+            domain.len(),
+            options,
+            modules.as_mut_ptr(),
+            modules.len(),
+            shape,
+        )
+    }
+}
+
+pub fn link_text(text: &[u8], domain: &[u8], link: &mut [u8], size: &mut usize) -> i32 {
+    unsafe {
+        sicklespan_link_text(
+            text.as_ptr(),
+            text.len(),
+            domain.as_ptr(),
+            domain.len(),
+            link.as_mut_ptr(),
+            link.len(),
+            size,
+        )
+    }
+}
+
+/// The status of elements, and where their first fault is.
+pub fn gs1_fault(text: &[u8]) -> (i32, Fault) {
+    let mut fault = Fault::NONE;
+    let status = unsafe { sicklespan_gs1_fault(text.as_ptr(), text.len(), &mut fault) };
+    (status, fault)
+}
+
+/// The status of elements and a domain, and where their first fault is.
+pub fn link_fault(text: &[u8], domain: &[u8]) -> (i32, Fault) {
+    let mut fault = Fault::NONE;
+    let (at, host) = (text.as_ptr(), domain.as_ptr());
+    let status = unsafe { sicklespan_link_fault(at, text.len(), host, domain.len(), &mut fault) };
+    (status, fault)
 }
 
 pub fn micro(bytes: &[u8], level: i32, modules: &mut [u8], shape: &mut Shape) -> i32 {
@@ -285,11 +387,7 @@ pub fn check(content: Content, data: &[u8], options: &Options) -> (i32, usize) {
 
 /// The name of the setting that is wrong; it is static and ASCII.
 pub fn wrong_setting(format: i32, settings: &Settings) -> &'static str {
-    let name = unsafe { sicklespan_wrong_setting(format, settings) };
-    if name.is_null() {
-        return "";
-    }
-    unsafe { CStr::from_ptr(name) }.to_str().unwrap_or("")
+    static_text(unsafe { sicklespan_wrong_setting(format, settings) })
 }
 
 pub fn greatest_size() -> usize {
@@ -304,6 +402,14 @@ pub fn version_of_width(width: usize) -> i32 {
 pub fn status_text(status: i32) -> &'static str {
     let text = unsafe { CStr::from_ptr(sicklespan_status_text(status)) };
     text.to_str().unwrap_or("")
+}
+
+/// A text that is static and ASCII, or empty for a null pointer; the calls above give no other.
+pub fn static_text(text: *const c_char) -> &'static str {
+    if text.is_null() {
+        return "";
+    }
+    unsafe { CStr::from_ptr(text) }.to_str().unwrap_or("")
 }
 
 /// The version of the library; it is static and ASCII.

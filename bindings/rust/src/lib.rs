@@ -1,5 +1,6 @@
-//! QR and Micro QR symbols by a library that is proved: the smallest symbol that holds the bytes,
-//! in the fewest bits, under the best mask.
+//! QR and Micro QR symbols by a library that is proved. The data are cut into runs of digits,
+//! capital letters, Kanji pairs and other bytes. In whichever way neighbouring runs are written
+//! together, none fits a smaller symbol or takes fewer bits. The mask is the first of least penalty.
 //!
 //! ```
 //! use sicklespan::{Level, Symbol, Version};
@@ -17,11 +18,13 @@ use std::fmt;
 mod cuts;
 mod error;
 mod ffi;
+mod links;
 mod options;
 mod picture;
 
 pub use cuts::{best_cuts, best_text_cuts};
-pub use error::Error;
+pub use error::{Error, Fault};
+pub use links::link_text;
 pub use options::Options;
 pub use picture::{Format, Settings};
 
@@ -143,24 +146,71 @@ impl Symbol {
         Symbol::elements_with(elements, &Options::new(level))
     }
 
-    /// Returns the best symbol of GS1 elements as people write them.
+    /// Returns the best symbol of GS1 elements as people write them. Each element is tested by the
+    /// table of identifiers of the GS1 General Specifications, release 24 (January 2024): its
+    /// identifier is assigned, and its value has the length, the characters, the check digit, the
+    /// date, the country and what else the table asks for. Whether elements may stand together is
+    /// not tested.
     ///
     /// ```
     /// # use sicklespan::{Error, Level, Symbol};
     /// let written = Symbol::gs1("(01)09506000134352(10)ABC123", Level::M)?;
     /// assert_eq!(written, Symbol::elements(b"010950600013435210ABC123", Level::M)?);
     /// let error = Symbol::gs1("(01)09506000134353", Level::M).unwrap_err();
-    /// assert_eq!(error, Error::WrongCheckDigit { element: 1 });
+    /// assert_eq!(error.to_string(), "element 1 (01), character 14: wrong check digit");
+    /// # Ok::<(), Error>(())
+    /// ```
+    ///
+    /// # Errors
+    ///
+    /// `NoElements`, else of the first element that has a fault the first of `InvalidIdentifier`,
+    /// `UnknownIdentifier` and, of its value from the left, `EmptyValue`, `WrongLength` (it ends
+    /// too early), `WrongCharacter`, `WrongCheckDigit`, `WrongValue`, `ValueTooLong`; then as
+    /// `new`.
+    pub fn gs1(text: &str, level: Level) -> Result<Symbol, Error> {
+        Symbol::gs1_with(text, &Options::new(level))
+    }
+
+    /// Returns the best symbol of GS1 elements as people write them, for identifiers that are newer
+    /// than the table of `gs1`: elements are tested for what a reader needs alone. That is the
+    /// number of an identifier's digits by its first two, the characters, the predefined lengths
+    /// (identifiers that begin with 00 to 04, 11 to 20, 31 to 36 or 41), and the check digits of
+    /// 00, 01, 02 and 410 to 417. What else GS1 says of a value, its greatest length, say, or a
+    /// date, is not tested.
+    ///
+    /// ```
+    /// # use sicklespan::{Error, Level, Symbol};
+    /// assert!(matches!(Symbol::gs1("(4399)x", Level::M), Err(Error::UnknownIdentifier(_))));
+    /// assert_eq!(Symbol::gs1_unchecked("(4399)x", Level::M)?.width(), 21);
     /// # Ok::<(), Error>(())
     /// ```
     ///
     /// # Errors
     ///
     /// `NoElements`, else of the first element that has a fault `InvalidIdentifier`,
-    /// `UnknownIdentifier`, `EmptyValue`, `ValueTooLong`, `InvalidCharacter`, `WrongLength` or
-    /// `WrongCheckDigit`; then as `new`.
-    pub fn gs1(text: &str, level: Level) -> Result<Symbol, Error> {
-        Symbol::gs1_with(text, &Options::new(level))
+    /// `UnknownIdentifier`, `EmptyValue`, `ValueTooLong` (more than 90 characters),
+    /// `WrongCharacter`, `WrongLength` or `WrongCheckDigit`; then as `new`.
+    pub fn gs1_unchecked(text: &str, level: Level) -> Result<Symbol, Error> {
+        Symbol::gs1_unchecked_with(text, &Options::new(level))
+    }
+
+    /// Returns the best symbol of the GS1 Digital Link of elements as people write them, which
+    /// `link_text` returns.
+    ///
+    /// ```
+    /// # use sicklespan::{link_text, Error, Level, Symbol};
+    /// let text = "(17)261231(10)ABC(01)09506000134352";
+    /// let link = link_text(text, "id.gs1.org")?;
+    /// let symbol = Symbol::link(text, "id.gs1.org", Level::M)?;
+    /// assert_eq!(symbol, Symbol::new(link.as_bytes(), Level::M)?);
+    /// # Ok::<(), Error>(())
+    /// ```
+    ///
+    /// # Errors
+    ///
+    /// As `link_text`; then as `new`.
+    pub fn link(text: &str, domain: &str, level: Level) -> Result<Symbol, Error> {
+        Symbol::link_with(text, domain, &Options::new(level))
     }
 
     /// Returns the symbol of some bytes that the options ask for.
@@ -206,6 +256,30 @@ impl Symbol {
     /// `InvalidVersions`; then as `gs1`.
     pub fn gs1_with(text: &str, options: &Options) -> Result<Symbol, Error> {
         Symbol::asked(ffi::Content::Gs1, text.as_bytes(), options)
+    }
+
+    /// Returns the symbol of GS1 elements that the options ask for, as `gs1_unchecked` says.
+    ///
+    /// # Errors
+    ///
+    /// `InvalidVersions`; then as `gs1_unchecked`.
+    pub fn gs1_unchecked_with(text: &str, options: &Options) -> Result<Symbol, Error> {
+        Symbol::asked(ffi::Content::Gs1Unchecked, text.as_bytes(), options)
+    }
+
+    /// Returns the symbol of the GS1 Digital Link of elements that the options ask for.
+    ///
+    /// # Errors
+    ///
+    /// `InvalidVersions`; then as `link`.
+    pub fn link_with(text: &str, domain: &str, options: &Options) -> Result<Symbol, Error> {
+        let mut bytes = vec![0; ffi::greatest_size()];
+        let mut shape = ffi::Shape::default();
+        let (numbers, host) = (options.numbers(), domain.as_bytes());
+        match ffi::link(text.as_bytes(), host, &numbers, &mut bytes, &mut shape) {
+            0 => Ok(Symbol::of(&bytes[..(shape.width * shape.width) as usize], &shape)),
+            status => Err(Error::of_link(status, text, domain)),
+        }
     }
 
     /// Returns the best Micro symbol of some bytes, in the smallest of M1 to M4 into which they

@@ -22,6 +22,8 @@ pub enum Format {
     EscPos = 5,
     /// A label of ZPL II (`^GF`), for label printers.
     Zpl = 6,
+    /// Portable Document Format (PDF 1.4), of one page as large as the picture.
+    Pdf = 7,
 }
 
 /// What is asked of a picture. By default a module has 8 pixels, and one in text; the quiet zone
@@ -64,7 +66,7 @@ impl Settings {
     }
 
     /// Returns the same settings with the width of a module in hundredths of a millimetre, 5 to
-    /// 1000: of SVG, PNG and EPS.
+    /// 1000: of SVG, PNG, EPS and PDF.
     pub fn module_mm(self, hundredths: u16) -> Settings {
         Settings { module_mm: Some(hundredths), ..self }
     }

@@ -2,7 +2,8 @@
 //! original crate.
 use answers::Answer;
 use sicklespan::{
-    best_cuts, best_text_cuts, Error, Format, Level, Options, Settings, Symbol, Version,
+    best_cuts, best_text_cuts, link_text, Error, Fault, Format, Level, Options, Settings, Symbol,
+    Version,
 };
 
 mod answers;
@@ -241,47 +242,111 @@ fn draws_elements() {
     let options = Options::new(Level::Q).min_version(4);
     assert_eq!(Symbol::elements_with(bytes, &options).unwrap().version(), Version::Normal(4));
     assert_eq!(Symbol::elements(b"10A B", Level::Q), Err(Error::InvalidCharacter { place: 3 }));
-    let too_long = format!("(10){}", "A".repeat(91));
-    for (text, error, said) in [
-        ("10ABC", Error::NoElements, "the text does not begin with a bracketed identifier"),
+    assert_eq!(Symbol::gs1("10ABC", Level::Q), Err(Error::NoElements));
+    let error = Error::InvalidCharacter { place: 3 };
+    assert_eq!(error.to_string(), "a character is none of a GS1 element, at byte 3");
+}
+
+/// What is said of elements that are refused, and of them unchecked.
+#[test]
+fn refuses_elements() {
+    for (text, said, unchecked) in [
         (
             "(1)2",
-            Error::InvalidIdentifier { element: 1 },
+            "element 1: an identifier is not two to four digits in brackets",
             "element 1: an identifier is not two to four digits in brackets",
         ),
         (
             "(21)A(05)2",
-            Error::UnknownIdentifier { element: 2 },
+            "element 2 (05): an identifier is unknown",
             "element 2: an identifier is unknown",
         ),
         (
             "(10",
-            Error::EmptyValue { element: 1 },
+            "element 1 (10), character 1: a value is empty, or a bracket is not closed",
             "element 1: a value is empty, or a bracket is not closed",
         ),
         (
-            &too_long,
-            Error::ValueTooLong { element: 1 },
-            "element 1: a value has more than 90 characters",
-        ),
-        (
             "(21)A(10)a b",
-            Error::InvalidCharacter { place: 5 },
-            "a character is none of a GS1 element, at byte 5 or in the element there",
+            "element 2 (10), character 2: a character that is not allowed there",
+            "element 2: a character is none of a GS1 element",
         ),
         (
             "(21)A(10)B(01)1",
-            Error::WrongLength { element: 3 },
+            "element 3 (01), character 2: the value is too short",
             "element 3: the length of a value is wrong",
         ),
         (
             "(01)09506000134353(10)A",
-            Error::WrongCheckDigit { element: 1 },
+            "element 1 (01), character 14: wrong check digit",
             "element 1: a check digit is wrong",
         ),
     ] {
-        assert_eq!(error.to_string(), said);
-        assert_eq!(Symbol::gs1(text, Level::Q), Err(error));
+        assert_eq!(Symbol::gs1(text, Level::Q).unwrap_err().to_string(), said);
+        assert_eq!(Symbol::gs1_unchecked(text, Level::Q).unwrap_err().to_string(), unchecked);
+    }
+}
+
+/// What the table of identifiers refuses, and a reader of elements does not need.
+#[test]
+fn refuses_elements_by_the_table() {
+    let fault = |identifier, character, reason| Fault {
+        element: 2,
+        identifier: Some(identifier),
+        character,
+        reason,
+    };
+    let long = |identifier, character| fault(identifier, Some(character), "the value is too long");
+    let unknown = |number| fault(number, None, "an identifier is unknown");
+    let digit = |number, character| fault(number, Some(character), "wrong check digit");
+    let character = fault(37, Some(1), "a character that is not allowed there");
+    for (text, error) in [
+        ("(10)ABCDEFGHIJKLMNOPQRSTUVWXYZ1234", Error::ValueTooLong(long(10, 21))),
+        ("(21)ABCDEFGHIJKLMNOPQRSTU", Error::ValueTooLong(long(21, 21))),
+        ("(37)ABC", Error::WrongCharacter(character)),
+        ("(30)123456789", Error::ValueTooLong(long(30, 9))),
+        ("(8003)09506000134353", Error::WrongCheckDigit(digit(8003, 14))),
+        ("(253)9506000134353", Error::WrongCheckDigit(digit(253, 13))),
+        ("(7003)2612", Error::WrongLength(fault(7003, Some(5), "the value is too short"))),
+        ("(17)261331", Error::WrongValue(fault(17, Some(3), "no such month"))),
+        ("(4399)x", Error::UnknownIdentifier(unknown(4399))),
+        ("(8099)x", Error::UnknownIdentifier(unknown(8099))),
+        ("(249)x", Error::UnknownIdentifier(unknown(249))),
+        ("(7299)a", Error::UnknownIdentifier(unknown(7299))),
+    ] {
+        let text = format!("(99)A{text}");
+        assert_eq!(Symbol::gs1(&text, Level::M), Err(error));
+        assert!(Symbol::gs1_unchecked(&text, Level::M).is_ok());
+    }
+}
+
+#[test]
+fn draws_links() {
+    let text = "(17)261231(10)A/B(01)09506000134352";
+    let link = "https://id.gs1.org/01/09506000134352/10/A%2FB?17=261231";
+    assert_eq!(link_text(text, "id.gs1.org").as_deref(), Ok(link));
+    assert_eq!(Symbol::link(text, "id.gs1.org", Level::Q), Symbol::new(link.as_bytes(), Level::Q));
+    let options = Options::new(Level::L).max_version(1);
+    assert_eq!(
+        Symbol::link_with(text, "id.gs1.org", &options),
+        Err(Error::DataTooLong { too_many: None })
+    );
+    assert_eq!(link_text("(01)09506000134352", "a/b"), Err(Error::WrongDomain));
+    assert_eq!(link_text("(10)A", "a.b"), Err(Error::NoKey));
+    for (text, said) in [
+        ("(01)09506000134353", "element 1 (01), character 14: wrong check digit"),
+        (
+            "(01)09506000134352(00)106141412345678908",
+            "element 1: a link has one key, and there is another",
+        ),
+        (
+            "(00)106141412345678908(10)A",
+            "element 2 (10): an element qualifies another key than that of the link",
+        ),
+        ("(10)A(01)09506000134352(10)A", "element 1 (10): an identifier stands twice in a link"),
+    ] {
+        assert_eq!(link_text(text, "a.b").unwrap_err().to_string(), said);
+        assert_eq!(Symbol::link(text, "a.b", Level::M).unwrap_err().to_string(), said);
     }
 }
 

@@ -26,7 +26,7 @@ use Rattle.gs1.proofs.Faults.{neither, both, known_length, digit_encodable, all_
 use Rattle.gs1.proofs.Reading.{IsReadable, AllReadable}
 use Rattle.gs1.proofs.Sizes.{is_exact, exact}
 
-not_wrong : (b : Bool) (place : ℕ) (reason : Reason) → fault_if b place reason ≡ None → b ≡ false
+pub not_wrong : (b : Bool) (place : ℕ) (reason : Reason) → fault_if b place reason ≡ None → b ≡ false
 not_wrong true place reason e = absurd (let h : Some (let f : Fault = record { place = place; reason = reason } in f) ≡ None = e in cc)
 not_wrong false place reason e = refl
 
@@ -135,7 +135,7 @@ identifier_tests number identifier e = passed (is_identifier identifier) (is_ass
     passed true false x y e = absurd (let h : Some x ≡ None = e in cc)
     passed false b x y e = absurd (let h : Some y ≡ None = e in cc)
 
-value_tests : (number : ℕ) (identifier value : List ℕ) → value_error number identifier value ≡ None →
+pub value_tests : (number : ℕ) (identifier value : List ℕ) → value_error number identifier value ≡ None →
     (0 < length value) × (value_fault (components (number_of identifier)) 0 value ≡ None)
 unfolding value_error
 value_tests number identifier value e =

@@ -30,3 +30,11 @@ pub mod LinkReads
 pub mod LinkKept
 pub mod LinkWhole
 pub mod OneLink
+pub mod LinkValues
+pub mod LinkLoops
+pub mod LinkLengths
+pub mod LinkReadBack
+pub mod LinkStems
+pub mod LinkQueries
+pub mod LinkOutcomes
+pub mod LinkFronts

@@ -38,7 +38,7 @@ any_value : (m n : ℕ) (identifier value : List ℕ) → value_error m identifi
 unfolding value_error
 any_value m n identifier value none = let e = none_mapped _ _ none in rw e refl
 
-any_place : (m n : ℕ) (e : Element) → element_error m e ≡ None → element_error n e ≡ None
+pub any_place : (m n : ℕ) (e : Element) → element_error m e ≡ None → element_error n e ≡ None
 unfolding element_error
 any_place m n e none =
     let split = neither (identifier_error m e.identifier) _ none in

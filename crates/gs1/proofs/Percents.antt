@@ -65,7 +65,7 @@ escaped_read (c ∷ bytes) all =
     let P : List ℕ → Type 0 = λ text. ReadsAs text bytes in
     (here.begins, here.is, subst P (sym here.after) (escaped_read bytes (All-tail (λ byte. byte < 256) c bytes all)))
 
-no_byte : (text : List ℕ) → text ≡ [] → begins_with_byte text ≡ true → ⊥
+pub no_byte : (text : List ℕ) → text ≡ [] → begins_with_byte text ≡ true → ⊥
 unfolding begins_with_byte
 no_byte [] none e = let h : false ≡ true = e in cc
 no_byte (c ∷ text) none e = let h : c ∷ text ≡ [] = none in cc

@@ -36,7 +36,8 @@ element_of part = record {
 unfoldable pub elements_behind : List ℕ → List Element
 elements_behind text = map element_of (slice_split is_opening text)
 
--- The elements that a text writes, such as `(01)09506000134352(10)ABC`.
+-- The elements that a text writes, such as `(01)09506000134352(10)ABC`. Example: `(10)A(21)7`
+-- writes 10 with A, and 21 with 7.
 abbrev pub written_elements : List ℕ → List Element
 written_elements text = elements_behind (drop 1 text)
 

@@ -15,7 +15,7 @@ use Rattle.gs1.specs.declared.reason.Fault.{Fault}
 abbrev pub right_digit : List ℕ → ℕ
 right_digit value = (10 - weighted_sum (with_last value 0x30) % 10) % 10
 
--- It alone makes the check digit right.
+-- The check digit that a refusal names is right in the last place of the value, and no other is.
 abbrev pub HaveRightDigits : Type 0
 HaveRightDigits = (value : List ℕ) → IsRightDigit value (0x30 + right_digit value)
 

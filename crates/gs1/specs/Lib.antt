@@ -13,3 +13,4 @@ pub mod Read
 pub mod Percent
 pub mod Links
 pub mod LinkReader
+pub mod LinkFaults

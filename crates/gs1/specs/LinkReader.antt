@@ -80,7 +80,8 @@ pub record AreLinked (key : Element) (qualifying query : List Element) : Type 0 
   pub once : has_twins query ≡ false
   pub allowed : All (λ e. element_error 0 e ≡ None) (key ∷ qualifying ++ query)
 
--- A reader finds these elements in the link: the key, its qualifiers and the rest.
+-- A reader finds these elements in the link: the key, its qualifiers and the rest. Example: in
+-- `http://a.example/b/01/09506000134352?17=261231` it finds 01 and 17.
 pub record ReadsLink (link : List ℕ) (elements : List Element) : Type 0 where
   pub key : Element
   pub qualifying : List Element

@@ -82,7 +82,8 @@ path_elements elements =
 abbrev pub query_elements : List Element → List Element
 query_elements elements = filter is_attribute elements
 
--- The elements of a link in the order in which it has them.
+-- The elements of a link in the order in which it has them. Example: of
+-- `(17)261231(10)A(01)09506000134352` these are 01, 10 and 17.
 abbrev pub linked : List Element → List Element
 linked elements = path_elements elements ++ query_elements elements
 

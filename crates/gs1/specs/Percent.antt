@@ -26,6 +26,8 @@ byte_escape c =
     if is_unreserved c then c ∷ []
     else 0x25 ∷ capital_digit (c / 16) ∷ capital_digit (c % 16) ∷ []
 
+-- Bytes with percent-escapes: letters, digits and `-._~` as they are, others as a percent sign and
+-- two capital hexadecimal digits (RFC 3986, section 2).
 abbrev pub percent_text : List ℕ → List ℕ
 percent_text bytes = flat_map byte_escape bytes
 
@@ -62,7 +64,7 @@ first_byte text =
 unfoldable pub after_byte : List ℕ → List ℕ
 after_byte text = if is_percent (slice_index text 0) then drop 3 text else drop 1 text
 
--- A reader finds these bytes in the text.
+-- A reader finds these bytes in the text. Example: `a%2fb` is read as `a/b`.
 abbrev pub ReadsAs : List ℕ → List ℕ → Type 0
 ReadsAs text [] = text ≡ []
 ReadsAs text (byte ∷ bytes) =

@@ -39,7 +39,8 @@ Finds bytes [] = bytes ≡ []
 Finds bytes (element ∷ elements) =
     BeginsWith bytes element × Finds (behind_first bytes) elements
 
--- A reader finds these elements in the bytes, and no others.
+-- A reader finds these elements in the bytes, and no others. Example: in `10A`, 1D (hex), `217` it
+-- finds 10 with A, and 21 with 7.
 pub record FindsOnly (bytes : List ℕ) (elements : List Element) : Type 0 where
   pub found : Finds bytes elements
   pub only : (others : List Element) → Finds bytes others → others ≡ elements

@@ -70,7 +70,8 @@ pub record IsFirstFault (bytes : List ℕ) (fault : Gs1Error) : Type 0 where
   pub more : rest ≢ []
   pub here : BeginsWithFault (length before) rest fault
 
--- When each error is returned. No memory is asked for.
+-- When each error is returned. No memory is asked for. Example: in `0109506000134352(10)AB` a
+-- reader finds 01, and then `(10)AB`, which begins with no two digits.
 abbrev pub IsRefusedString : List ℕ → Gs1Error → Type 0
 IsRefusedString bytes NoElements = bytes ≡ []
 IsRefusedString bytes OutOfMemory = ⊥

@@ -178,7 +178,8 @@ components_of_other n =
     else []))))))))))
 
 -- The components of the values of an identifier, given as a number. An identifier without
--- components is not assigned.
+-- components is not assigned. Example: of 8003 a zero, 13 digits of which the last is the check
+-- digit, and up to 16 characters that may be left out.
 unfoldable pub components : ℕ → List Component
 components n =
     if is_within 0 99 n then components_of_two n

@@ -122,6 +122,7 @@ first_conflict all number (e ∷ elements) =
     (first_conflict all (number + 1) elements)
 
 -- The fault of a text: it is longer than any whose elements a symbol holds, or an element has one.
+-- Example: a count (37) needs a logistic unit (00) and what it counts (02 or 8026).
 abbrev pub text_conflict : List ℕ → Option TogetherError
 text_conflict text =
     if nat_lt 11815 (length text) then Some TextTooLong

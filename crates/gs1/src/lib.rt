@@ -15,8 +15,6 @@ ghost use Rattle.qrcode_bits.specs.Contents.{AreElements};
 
 mod check;
 mod checked;
-#[cfg(test)]
-mod checked_tests;
 mod checks;
 mod codes;
 mod dates;
@@ -26,30 +24,26 @@ mod keys;
 pub mod laws;
 mod link;
 mod link_error;
+mod link_parts;
+mod link_read;
 mod link_rules;
-#[cfg(test)]
-mod link_tests;
+mod link_values;
 mod percent;
 mod read;
-#[cfg(test)]
-mod read_tests;
 mod reason;
 mod refusal;
 mod strings;
 mod table;
-#[cfg(test)]
-mod tests;
 mod together;
-#[cfg(test)]
-mod together_tests;
 mod values;
 mod write;
 
 pub use checked::{check_element_values, checked_element_string};
 pub use error::Gs1Error;
 pub use identifiers::right_check_digit;
-pub use link::digital_link;
-pub use link_error::LinkError;
+pub use link::{digital_link, is_domain};
+pub use link_error::{LinkError, LinkReadError};
+pub use link_read::{LinkElement, elements_of_link};
 pub use percent::{PercentError, percent_decoded, percent_escaped};
 pub use read::{brackets, elements_of};
 pub use reason::Reason;

@@ -102,9 +102,10 @@ fn check_domain(domain: &[u8]) -> Result<(), LinkError>
     Ok(())
 }
 
-/// Returns whether a text is a host name, with a port or without.
+/// Returns whether a text can be the domain of a link: a host name of letters, digits, `-` and `.`,
+/// with a port or without.
 #[tactic(auto, unfolding(crate::specs::Links::is_domain))]
-pub(crate) fn is_domain(domain: &[u8]) -> bool
+pub fn is_domain(domain: &[u8]) -> bool
     ensures { result ≡ is_domain domain.now }
 {
     let colon = first_of(domain, b':');

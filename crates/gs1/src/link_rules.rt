@@ -1,5 +1,5 @@
 //! Which elements a link may have, and where they stand in it.
-ghost use Rattle.std.specs.Prelude.{◌≡◌, None, Some, IfNone, IfSome, unwrap_or};
+ghost use Rattle.std.specs.Prelude.{◌≡◌, ◌&&◌, not, None, Some, IfNone, IfSome, unwrap_or};
 ghost use Rattle.std.specs.Option.{option_map};
 ghost use Rattle.std.specs.Result.{result_err};
 ghost use Rattle.gs1.specs.Elements.{element_of, elements_behind, written_elements};
@@ -7,6 +7,7 @@ ghost use Rattle.gs1.specs.Links.{keys, qualifiers, order_of, second_set, elemen
 ghost use Rattle.gs1.specs.Links.{number, qualifier_fault, second_key_fault, repeated_fault};
 ghost use Rattle.gs1.specs.Links.{later_fault, first_rule_fault, no_key_fault, elements_fault};
 ghost use Rattle.gs1.specs.Links.{is_attribute};
+ghost use Rattle.gs1.specs.Together.{is_among};
 
 use crate::check::{behind, first_of};
 use crate::link_error::LinkError;
@@ -48,17 +49,30 @@ fn qualifiers() -> &'static [(usize, usize)]
     ]
 }
 
+/// Returns whether an identifier is a primary key.
+pub(crate) fn is_key(number: usize) -> bool
+    ensures { result ≡ is_among keys number }
+{
+    is_among(keys(), number)
+}
+
+/// Returns whether an identifier is neither a primary key nor a qualifier.
+pub(crate) fn is_attribute_number(number: usize) -> bool
+    ensures { result ≡ (not (is_among keys number) && not (is_among qualifiers number)) }
+{
+    !is_among(keys(), number) && !is_among(qualifiers(), number)
+}
+
 /// Returns whether an element that is written between opening brackets stands in the query.
 pub(crate) fn is_attribute(part: &[u8]) -> bool
     ensures { result ≡ is_attribute (element_of part.now) }
 {
-    let number = number_at(part);
-    !is_among(keys(), number) && !is_among(qualifiers(), number)
+    is_attribute_number(number_at(part))
 }
 
 /// Returns the qualifiers of a key in the order of the path, of the first or of the second set.
 #[tactic(auto, unfolding(crate::specs::Links::order_of))]
-fn order_of(key: usize, second: bool) -> &'static [usize]
+pub(crate) fn order_of(key: usize, second: bool) -> &'static [usize]
     ensures { result.now ≡ order_of key second }
 {
     match key {

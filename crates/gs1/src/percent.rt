@@ -137,7 +137,7 @@ fn decoded_length(text: &[u8]) -> Option<usize>
 
 /// Returns the byte with which a text begins.
 #[tactic(auto, unfolding(crate::specs::Percent::begins_with_byte, crate::specs::Percent::first_byte))]
-fn first_byte(text: &[u8]) -> Option<u8>
+pub(crate) fn first_byte(text: &[u8]) -> Option<u8>
     ensures some { IfSome result (λ byte. (begins_with_byte text.now ≡ true)
         × (first_byte text.now ≡ byte)) }
     ensures none { IfNone result (begins_with_byte text.now ≡ false) }
@@ -175,7 +175,7 @@ fn hexadecimal_value(digit: u8) -> Option<u8>
 }
 
 /// Returns whether a character of a path or of a query stands for itself.
-fn stands_for_itself(byte: u8) -> bool
+pub(crate) fn stands_for_itself(byte: u8) -> bool
     ensures { result ≡ stands_for_itself byte }
 {
     matches!(
@@ -186,7 +186,7 @@ fn stands_for_itself(byte: u8) -> bool
 
 /// Returns the text after the byte with which it begins.
 #[tactic(auto, unfolding(crate::specs::Percent::after_byte))]
-fn after_byte(text: &[u8]) -> &[u8]
+pub(crate) fn after_byte(text: &[u8]) -> &[u8]
     ensures { result.now ≡ after_byte text.now }
 {
     match text {

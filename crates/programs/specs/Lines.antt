@@ -11,7 +11,7 @@ FirstLines bytes [] rest = bytes ≡ rest
 FirstLines bytes (line ∷ lines) rest =
     (bytes ≢ []) × (line ≡ first_line bytes) × FirstLines (drop_through 10 bytes) lines rest
 
--- These lines were read.
+-- These lines were read, as `BufRead::lines` of std gives them.
 abbrev pub ReadsLines : Option (List ℕ) → Option (List ℕ) → List (List ℕ) → Type 0
 ReadsLines None after lines = ⊤
 ReadsLines (Some bytes) None lines = ⊥
@@ -32,7 +32,7 @@ pub record ReadsShortLine (before after : Option (List ℕ)) (line : List ℕ) :
   pub read : ReadsLines before after (line ∷ [])
   pub short : length line ≤ LONGEST_DATA + 1
 
--- This line was read, or so much of it.
+-- This line was read, or two bytes more of it than a symbol holds, whatever follows.
 abbrev pub ReadsLine : Option (List ℕ) → Option (List ℕ) → List ℕ → Type 0
 ReadsLine before after line = ReadsShortLine before after line ⊎ ReadsTooMuch before after line
 

@@ -25,7 +25,7 @@ HasContent (Micro n) content = ⊥
 
 -- The bits that name the content: before a text the ECI indicator 7 in four bits, and the
 -- designator 26, which is UTF-8, in eight; before elements the indicator of FNC1 in the first
--- position, which is 5; none before bytes.
+-- position, which is 5; none before bytes. Example: a text begins with 0111 00011010.
 abbrev pub content_bits : Content → List Bool
 content_bits Bytes = []
 content_bits Text = number_bits 4 7 ++ number_bits 8 26
@@ -36,10 +36,11 @@ abbrev pub AreAllowed : Content → List Piece → Type 0
 AreAllowed Bytes pieces = Unit {0}
 AreAllowed content pieces = All (λ piece. piece.mode ≢ Kanji) pieces
 
--- The separator of elements, 1D (hex), and the character `%`.
+-- The separator of elements, 1D (hex).
 abbrev pub separator : ℕ
 separator = 0x1d
 
+-- The character `%`, as which the Alphanumeric mode writes the separator.
 abbrev pub percent : ℕ
 percent = 0x25
 
@@ -52,7 +53,8 @@ unescaped (a ∷ b ∷ rest) =
     if a == percent then (if b == percent then percent ∷ unescaped rest else separator ∷ unescaped (b ∷ rest))
     else a ∷ unescaped (b ∷ rest)
 
--- The data of a piece: its text, unescaped in an Alphanumeric piece of elements.
+-- The data of a piece: its text, unescaped in an Alphanumeric piece of elements. Example:
+-- `10AB%21%%` in elements is `10AB`, 1D (hex), `21%`.
 abbrev pub piece_data : Content → Piece → List ℕ
 piece_data Elements piece = elim piece.mode [ Alphanumeric ↦ unescaped piece.text | _ ↦ piece.text ]
 piece_data content piece = piece.text
@@ -61,7 +63,8 @@ piece_data content piece = piece.text
 
 -- The byte as which a byte is parsed. In a text no pairs of Shift JIS are looked for: bytes from 80
 -- (hex) on are parsed as 0, which only the Byte mode has. In elements a separator is parsed as `%`,
--- as which the Alphanumeric mode writes it, and the character `%` as 0.
+-- as which the Alphanumeric mode writes it, and the character `%` as 0. Example: of `10AB`, 1D
+-- (hex), `21` all is Alphanumeric.
 abbrev pub parsed_byte : Content → ℕ → ℕ
 parsed_byte Bytes byte = byte
 parsed_byte Text byte = if nat_lt byte 0x80 then byte else 0
@@ -103,7 +106,8 @@ IsElementByte bytes place =
     ⊎ ((byte ≡ separator) × (0 < place) × (place + 1 < length bytes)
     × (slice_index_or bytes (place - 1) 0 ≢ separator))
 
--- The bytes are elements, one after the other, with a separator between two where one is needed.
+-- The bytes are elements: each is one of the 82 characters of GS1, or a separator between two
+-- elements, which is neither first nor last, and not after another.
 abbrev pub AreElements : List ℕ → Type 0
 AreElements bytes = (place : ℕ) → place < length bytes → IsElementByte bytes place
 
@@ -113,7 +117,8 @@ pub record IsFirstNoElement (bytes : List ℕ) (place byte : ℕ) : Type 0 where
   pub before : (earlier : ℕ) → earlier < place → IsElementByte bytes earlier
   pub here : IsElementByte bytes place → ⊥
 
--- The bytes may be data of the content.
+-- The bytes may be data of the content: any bytes, any text, but only elements as `AreElements` has
+-- them.
 abbrev pub AreDataOf : Content → List ℕ → Type 0
 AreDataOf Bytes bytes = Unit {0}
 AreDataOf Text bytes = Unit {0}

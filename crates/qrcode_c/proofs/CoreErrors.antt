@@ -1,23 +1,27 @@
 -- An error of the library, and the error of the call that stands for it.
-use Rattle.std.specs.Prelude.{◌≡◌, ◌+◌, ◌≤◌, ℕ, ℤ, List, length, Option, Some, None, IsSome}
+use Rattle.std.specs.Prelude.{◌≡◌, ◌+◌, ◌≤◌, ℕ, ℤ, Bool, List, length, Option, Some, None, IsSome}
 use Rattle.std.specs.Str.{IsUtf8}
-use Rattle.std.proofs.Common.{subst, refl}
+use Rattle.std.proofs.Common.{subst, refl, inr}
 use Rattle.std.proofs.lemmas.Option.{slice_get_within}
 use Rattle.qrcode_base.specs.declared.types.EcLevel.{EcLevel}
 use Rattle.qrcode_base.specs.declared.types.errors.QrError.{QrError}
 use Rattle.qrcode_base.specs.declared.types.errors.QrError.TheVariants as core
 use Rattle.qrcode_base.specs.Symbols.{IsNormalNumber}
 use Rattle.qrcode_bits.specs.Contents.{AreElements, IsFirstNoElement}
-use Rattle.qrcode_bits.specs.Frame.{Front, front_of}
+use Rattle.qrcode_bits.specs.Frame.{Front, front_of, no_front}
 use Rattle.qrcode_bits.specs.declared.bits.front.Content.{Content}
 use Rattle.qrcode_bits.specs.declared.bits.front.Content.TheVariants.{Bytes, Text, Elements}
 use Rattle.qrcode_core.specs.Options.{HasVersions, IsOptionsRefusal, IsElementsOptionsRefusal}
 use Rattle.qrcode_core.specs.Sequence.{IsSequenceRefusal}
 use Rattle.qrcode_core.specs.declared.options.SymbolOptions.{SymbolOptions}
-use Rattle.gs1.specs.Elements.{text_fault, written_elements}
+use Rattle.gs1.specs.Elements.{written_elements}
+use Rattle.gs1.specs.LinkReader.{ReadsLink}
+use Rattle.gs1.specs.Links.{link_of, linked}
 use Rattle.gs1.specs.Reader.{FindsOnly}
-use Rattle.qrcode_c.specs.Asking.{AsksFor, Means, WritesElements}
-use Rattle.qrcode_c.specs.Asking.{IsAskedTextRefusal, IsAskedElementsRefusal, IsWrittenRefusal}
+use Rattle.qrcode_c.specs.Asking.{AsksFor, Means}
+use Rattle.qrcode_c.specs.Asking.{IsAskedTextRefusal, IsAskedElementsRefusal}
+use Rattle.qrcode_c.specs.Linked.{HasLink, IsLinkedRefusal, link_fault}
+use Rattle.qrcode_c.specs.Written.{WritesElements, IsWrittenRefusal, written_fault}
 use Rattle.qrcode_c.specs.Levels.{level_argument}
 use Rattle.qrcode_c.specs.Refusals.{IsAsked, IsPartRefusal}
 use Rattle.qrcode_c.specs.Spread.{AreValid, IsSpreadStatus}
@@ -54,7 +58,7 @@ sequence_known content message cuts level limit other normal refused = absurd re
 -- ---- What the error of the call says
 
 -- The options of the caller, of which the fact is true.
-abbrev asked_for : (asked : Options) (options : SymbolOptions) (fact : SymbolOptions → Type 0) → Means asked options → HasVersions options →
+abbrev pub asked_for : (asked : Options) (options : SymbolOptions) (fact : SymbolOptions → Type 0) → Means asked options → HasVersions options →
     fact options → AsksFor asked fact
 asked_for asked options fact means versions holds = record { options = options; means = means; versions = versions; true_of = holds }
 
@@ -86,22 +90,37 @@ elements_refused elements asked options room (core.OutOfMemory) refusal means ve
 elements_refused elements asked options room (core.InvalidResourceLimits) refusal means versions refused stands = absurd (refused versions)
 elements_refused elements asked options room other refusal means versions refused stands = absurd refused.1.1
 
-pub written_refused : (text elements : List ℕ) (asked : Options) (options : SymbolOptions) (room : ℕ) (error : QrError) (refusal : Refusal) →
-    Means asked options → HasVersions options → text_fault text ≡ None → FindsOnly elements (written_elements text) → AreElements elements →
-    IsElementsOptionsRefusal options (front_of None Elements) elements error → status_error error ≡ Some refusal →
-    IsWrittenRefusal text asked room refusal
-written_refused text elements asked options room (core.InvalidCharacter place byte) refusal means versions faultless found are refused stands =
+pub written_refused : (by_table : Bool) (text elements : List ℕ) (asked : Options) (options : SymbolOptions) (room : ℕ) (error : QrError)
+    (refusal : Refusal) → Means asked options → HasVersions options → written_fault by_table text ≡ None → FindsOnly elements (written_elements text) →
+    AreElements elements → IsElementsOptionsRefusal options (front_of None Elements) elements error → status_error error ≡ Some refusal →
+    IsWrittenRefusal by_table text asked room refusal
+written_refused by_table text elements asked options room (core.InvalidCharacter place byte) refusal means versions faultless found are refused stands =
     absurd (refused.1.here (are place (slice_get_within elements _ _ refused.1.byte_is)))
-written_refused text elements asked options room (core.DataTooLong) refusal means versions faultless found are refused stands =
+written_refused by_table text elements asked options room (core.DataTooLong) refusal means versions faultless found are refused stands =
     let same : call.DataTooLong ≡ refusal = cc in
-    subst (IsWrittenRefusal text asked room) same
-    record { elements = elements; found = found; true_of = asked_for asked options _ means versions refused.1 }
-written_refused text elements asked options room (core.OutOfMemory) refusal means versions faultless found are refused stands =
+    subst (IsWrittenRefusal by_table text asked room) same
+    record { elements = elements; faultless = faultless; found = found; true_of = asked_for asked options _ means versions refused.1 }
+written_refused by_table text elements asked options room (core.OutOfMemory) refusal means versions faultless found are refused stands =
     let same : call.OutOfMemory ≡ refusal = cc in
-    subst (IsWrittenRefusal text asked room) same (asked_for asked options _ means versions faultless)
-written_refused text elements asked options room (core.InvalidResourceLimits) refusal means versions faultless found are refused stands =
+    subst (IsWrittenRefusal by_table text asked room) same (asked_for asked options _ means versions faultless)
+written_refused by_table text elements asked options room (core.InvalidResourceLimits) refusal means versions faultless found are refused stands =
     absurd (refused versions)
-written_refused text elements asked options room other refusal means versions faultless found are refused stands = absurd refused.1.1
+written_refused by_table text elements asked options room other refusal means versions faultless found are refused stands = absurd refused.1.1
+
+pub linked_refused : (text domain link : List ℕ) (asked : Options) (options : SymbolOptions) (room : ℕ) (error : QrError) (refusal : Refusal) →
+    Means asked options → HasVersions options → link_fault text domain ≡ None → link ≡ link_of domain (written_elements text) →
+    ReadsLink link (linked (written_elements text)) → IsOptionsRefusal options no_front link error → status_error error ≡ Some refusal →
+    IsLinkedRefusal text domain asked room refusal
+linked_refused text domain link asked options room (core.DataTooLong) refusal means versions faultless is reads refused stands =
+    let same : call.DataTooLong ≡ refusal = cc in
+    subst (IsLinkedRefusal text domain asked room) same (inr
+    record { link = link; faultless = faultless; link_is = is; reads = reads; true_of = asked_for asked options _ means versions refused })
+linked_refused text domain link asked options room (core.OutOfMemory) refusal means versions faultless is reads refused stands =
+    let same : call.OutOfMemory ≡ refusal = cc in
+    subst (IsLinkedRefusal text domain asked room) same (asked_for asked options _ means versions faultless)
+linked_refused text domain link asked options room (core.InvalidResourceLimits) refusal means versions faultless is reads refused stands =
+    absurd (refused versions)
+linked_refused text domain link asked options room other refusal means versions faultless is reads refused stands = absurd refused.1
 
 pub part_refused : (message cuts : List ℕ) (level : EcLevel) (number limit : ℤ) (index room : ℕ) (error : QrError) (refusal : Refusal) →
     number ≡ level_argument level → IsAsked message cuts limit index → IsSequenceRefusal Bytes message cuts level limit error →

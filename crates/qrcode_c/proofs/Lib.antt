@@ -1,5 +1,7 @@
 mod Writing
 mod Answering
 mod CoreErrors
+mod LinkMemory
+mod FirstFaults
 mod Widths
 pub mod PictureLemmas

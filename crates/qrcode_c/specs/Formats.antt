@@ -2,7 +2,7 @@
 use Rattle.std.specs.Prelude.{◌≡◌, ◌≢◌, ◌↔◌, ℕ, ℤ, pos, negsuc, true, false, Option, Some, None, unwrap_or}
 use Rattle.qrcode_render.specs.declared.format.Format.{Format}
 use Rattle.qrcode_render.specs.declared.format.Format.TheVariants.{Terminal, Svg, Png, Pbm, Eps}
-use Rattle.qrcode_render.specs.declared.format.Format.TheVariants.{EscPos, Zpl}
+use Rattle.qrcode_render.specs.declared.format.Format.TheVariants.{EscPos, Zpl, Pdf}
 use Rattle.qrcode_render.specs.Colors.{no_colors}
 use Rattle.qrcode_render.specs.declared.settings.Settings.{Settings}
 use Rattle.qrcode_c.specs.declared.settings.PictureSettings.{PictureSettings}
@@ -16,6 +16,7 @@ format_argument Pbm = pos 3
 format_argument Eps = pos 4
 format_argument EscPos = pos 5
 format_argument Zpl = pos 6
+format_argument Pdf = pos 7
 
 -- The number is not that of a format.
 abbrev pub IsNoFormat : ℤ → Type 0

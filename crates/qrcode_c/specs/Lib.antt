@@ -2,6 +2,9 @@ pub mod Levels
 pub mod Shapes
 pub mod Statuses
 pub mod Asking
+pub mod Faults
+pub mod Written
+pub mod Linked
 pub mod Holding
 pub mod Refusals
 pub mod Cuts

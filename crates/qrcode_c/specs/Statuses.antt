@@ -14,6 +14,9 @@ use Rattle.qrcode_c.specs.declared.refusal.Refusal.TheVariants.{UnknownIdentifie
 use Rattle.qrcode_c.specs.declared.refusal.Refusal.TheVariants.{ValueTooLong, WrongLength}
 use Rattle.qrcode_c.specs.declared.refusal.Refusal.TheVariants.{WrongCheckDigit, InvalidWidth}
 use Rattle.qrcode_c.specs.declared.refusal.Refusal.TheVariants.{InvalidFormat, InvalidSetting}
+use Rattle.qrcode_c.specs.declared.refusal.Refusal.TheVariants.{WrongValue, WrongDomain, NoKey}
+use Rattle.qrcode_c.specs.declared.refusal.Refusal.TheVariants.{SecondKey, WrongQualifier}
+use Rattle.qrcode_c.specs.declared.refusal.Refusal.TheVariants.{RepeatedElement}
 
 -- The number of an error, which is the status of the call.
 abbrev pub status_of : Refusal → ℤ
@@ -38,6 +41,12 @@ status_of WrongCheckDigit = pos 19
 status_of InvalidWidth = pos 20
 status_of InvalidFormat = pos 21
 status_of InvalidSetting = pos 22
+status_of WrongValue = pos 24
+status_of WrongDomain = pos 25
+status_of NoKey = pos 26
+status_of SecondKey = pos 27
+status_of WrongQualifier = pos 28
+status_of RepeatedElement = pos 29
 
 -- The error that stands for one of the library. Of the library's calls behind those of C, none has
 -- another error, since what these would speak of is tested before.

@@ -8,14 +8,12 @@ ghost use Rattle.qrcode_bits.specs.Contents.{AreElements};
 ghost use Rattle.qrcode_bits.specs.Frame.{front_of, no_front};
 ghost use Rattle.qrcode_bits.specs.declared.bits.front.Content.TheVariants.{Elements, Text};
 ghost use Rattle.qrcode_c.specs.Asking.{IsAskedRefusal, IsAskedTextRefusal, IsAskedElementsRefusal};
-ghost use Rattle.qrcode_c.specs.Asking.{IsWrittenRefusal, WritesElements, refusal_for};
 ghost use Rattle.qrcode_c.specs.Holding.{HoldsAsked};
 
 use crate::drawing::write;
 use crate::options::{Options, options_of};
 use crate::refusal::{Refusal, core_refusal};
 use crate::shape::Shape;
-use gs1::{Gs1Error, element_string};
 use qrcode_core::symbol::Symbol;
 use std::alloc::Global;
 
@@ -81,50 +79,5 @@ pub fn elements_symbol(
     match Symbol::elements_with(alloc, elements, &checked) {
         Ok(symbol) => write(&symbol, modules),
         Err(error) => Err(core_refusal(error)),
-    }
-}
-
-/// Writes the symbol of GS1 elements, written as people write them, that the options ask for, and
-/// returns its shape.
-pub fn written_symbol(
-    alloc: Global,
-    text: &[u8],
-    options: &Options,
-    modules: &mut [u8],
-) -> Result<Shape, Refusal>
-    ensures held { IfOk result (λ shape. WritesElements text.now (λ elements.
-        HoldsAsked (front_of None Elements) elements options.now modules.old modules.new shape)) }
-    ensures refused { IfErr result
-        (IsWrittenRefusal text.now options.now (length modules.old)) }
-    ensures kept { OnErr result (modules.new ≡ modules.old) }
-{
-    let checked = options_of(options)?;
-    let Ok(text) = str::from_utf8(text) else {
-        return Err(Refusal::InvalidText);
-    };
-    let elements = match element_string(alloc, text) {
-        Ok(elements) => elements,
-        Err(error) => return Err(refusal_of(error)),
-    };
-    match Symbol::elements_with(alloc, &elements, &checked) {
-        Ok(symbol) => write(&symbol, modules),
-        Err(error) => Err(core_refusal(error)),
-    }
-}
-
-/// Returns the error that tells a fault of a text of elements.
-fn refusal_of(error: Gs1Error) -> Refusal
-    ensures { result ≡ refusal_for error }
-{
-    match error {
-        Gs1Error::NoElements => Refusal::NoElements,
-        Gs1Error::InvalidIdentifier { .. } => Refusal::InvalidIdentifier,
-        Gs1Error::UnknownIdentifier { .. } => Refusal::UnknownIdentifier,
-        Gs1Error::EmptyValue { .. } => Refusal::EmptyValue,
-        Gs1Error::ValueTooLong { .. } => Refusal::ValueTooLong,
-        Gs1Error::InvalidCharacter { .. } => Refusal::InvalidCharacter,
-        Gs1Error::WrongLength { .. } => Refusal::WrongLength,
-        Gs1Error::WrongCheckDigit { .. } => Refusal::WrongCheckDigit,
-        Gs1Error::OutOfMemory => Refusal::OutOfMemory,
     }
 }

@@ -15,7 +15,6 @@ ghost use Rattle.qrcode_core.specs.Headline.{IsBestSymbol, IsBestMicroSymbol};
 ghost use Rattle.qrcode_base.specs.declared.types.Version.{Version};
 ghost use Rattle.qrcode_base.specs.Symbols.{IsVersion, width_of};
 ghost use Rattle.qrcode_c.specs.Asking.{IsAskedRefusal, IsAskedTextRefusal, IsAskedElementsRefusal};
-ghost use Rattle.qrcode_c.specs.Asking.{IsWrittenRefusal, WritesElements};
 ghost use Rattle.qrcode_c.specs.Holding.{HoldsAsked, HoldsBest};
 ghost use Rattle.qrcode_c.specs.Pictures.{HoldsPicture, IsPictureRefusal};
 ghost use Rattle.qrcode_c.specs.Statuses.{status_of};
@@ -23,6 +22,11 @@ ghost use Rattle.qrcode_c.specs.Refusals.{IsStatusOf};
 ghost use Rattle.qrcode_c.specs.Refusals.{IsSymbolRefusal, IsMicroRefusal};
 ghost use Rattle.qrcode_c.specs.Shapes.{IsNumberAtWidth};
 
+pub use elements::{
+    qrcode_c_gs1, qrcode_c_gs1_fault, qrcode_c_gs1_unchecked, qrcode_c_link, qrcode_c_link_fault,
+    qrcode_c_link_text,
+};
+pub use faults::ElementFault;
 pub use options::Options;
 use qrcode_core::types::Version;
 pub use refusal::Refusal;
@@ -37,6 +41,11 @@ use std::alloc::Global;
 mod asking;
 mod cuts;
 mod drawing;
+#[cfg(test)]
+mod element_tests;
+mod elements;
+mod faults;
+mod linked;
 mod options;
 mod picture;
 mod refusal;
@@ -48,6 +57,7 @@ mod shape;
 mod spread;
 #[cfg(test)]
 mod tests;
+mod written;
 
 /// The status of success. Each other status is the number of a `Refusal`.
 pub const DONE: i32 = 0;
@@ -171,39 +181,6 @@ pub extern "C" fn qrcode_c_elements(
     }
 }
 
-/// Writes the symbol of GS1 elements that are written as people write them, such as
-/// `(01)09506000134352(10)ABC123`, as `qrcode_c_elements` does.
-///
-/// # Errors
-///
-/// As `qrcode_c_bytes` has them; but after the versions the text is tested, and the status is, in
-/// this order: `InvalidText`; `NoElements`; and of the first element that has a fault
-/// `InvalidIdentifier`, `UnknownIdentifier`, `EmptyValue`, `ValueTooLong`, `InvalidCharacter`,
-/// `WrongLength`, `WrongCheckDigit`.
-#[unsafe(no_mangle)]
-pub extern "C" fn qrcode_c_gs1(
-    alloc: Global,
-    text: &[u8],
-    options: &Options,
-    modules: &mut [u8],
-    shape: &mut Shape,
-) -> i32
-    ensures done { result ≡ DONE → WritesElements text.now (λ elements.
-        HoldsAsked (front_of None Elements) elements options.now modules.old modules.new
-        shape.new) }
-    ensures refused { result ≢ DONE →
-        IsStatusOf (IsWrittenRefusal text.now options.now (length modules.old)) result }
-    ensures kept { result ≢ DONE → (modules.new ≡ modules.old) × (shape.new ≡ shape.old) }
-{
-    match asking::written_symbol(alloc, text, options, modules) {
-        Ok(drawn) => {
-            *shape = drawn;
-            DONE
-        }
-        Err(refusal) => refusal.status(),
-    }
-}
-
 /// Writes the best Micro symbol of the bytes at a level, as `qrcode_c_symbol` does, in the versions
 /// M1 to M4. Level H, which none of them has, is `InvalidLevel`.
 #[unsafe(no_mangle)]
@@ -231,7 +208,7 @@ pub extern "C" fn qrcode_c_micro_symbol(
 
 /// Writes the picture of a symbol in a format, and the number of its bytes. The modules are those
 /// of the symbol, row by row: 0 for a light one, and any other number for a dark one. The formats
-/// have the numbers 0 to 6 in the order of `Format`. The bytes of `buffer` after the picture keep
+/// have the numbers 0 to 7 in the order of `Format`. The bytes of `buffer` after the picture keep
 /// their values. Returns `DONE`.
 ///
 /// # Errors

@@ -38,7 +38,7 @@ pub fn write_picture(
 {
     let bytes = drawn(alloc, modules, width, format, settings)?;
     *size = bytes.len();
-    write(&bytes, buffer)
+    write_bytes(&bytes, buffer)
 }
 
 /// Returns the picture of some modules, as it is asked for.
@@ -146,7 +146,7 @@ fn color_of(byte: u8) -> Color
 }
 
 /// Writes bytes to the start of a buffer, if there is room for them.
-fn write(bytes: &[u8], buffer: &mut [u8]) -> Result<(), Refusal>
+pub fn write_bytes(bytes: &[u8], buffer: &mut [u8]) -> Result<(), Refusal>
     ensures written { OnOk result (buffer.new ≡ bytes.now ++ drop (length bytes.now) buffer.old) }
     ensures short { IfErr result (λ refusal. refusal ≡ Refusal.ShortBuffer) }
     ensures room { OnErr result (length buffer.old < length bytes.now) }

@@ -38,11 +38,11 @@ pub enum Refusal {
     UnknownIdentifier = 15,
     /// An element has no value.
     EmptyValue = 16,
-    /// A value has more than 90 characters.
+    /// A value has more characters than its identifier allows, or unchecked more than 90.
     ValueTooLong = 17,
-    /// An element has another length than its identifier wants.
+    /// A value ends too early, or unchecked it has another length than the predefined one.
     WrongLength = 18,
-    /// A value ends with another digit than its check digit.
+    /// A check digit, or a pair of check characters, is another.
     WrongCheckDigit = 19,
     /// No symbol has the width, or its modules are another number.
     InvalidWidth = 20,
@@ -50,6 +50,19 @@ pub enum Refusal {
     InvalidFormat = 21,
     /// A setting is out of its bounds, or the format does not have it.
     InvalidSetting = 22,
+    // 23 is that of a content, in `sicklespan.c`.
+    /// A value is none that its identifier allows for another reason: a date, a country, ..
+    WrongValue = 24,
+    /// The domain of a link is no host name, with a port or without.
+    WrongDomain = 25,
+    /// No element is the key of a link.
+    NoKey = 26,
+    /// An element is the key of a link, and there is another after it.
+    SecondKey = 27,
+    /// An element qualifies another key than that of the link.
+    WrongQualifier = 28,
+    /// The identifier of an element of a link stands once more after it.
+    RepeatedElement = 29,
 }
 
 impl Refusal {

@@ -15,7 +15,8 @@ pub struct PictureSettings {
     pub scale: i32,
     /// The width of the quiet zone in modules: 0 to 16.
     pub quiet: i32,
-    /// The width of a module in hundredths of a millimetre, 5 to 1,000: of SVG, PNG and EPS.
+    /// The width of a module in hundredths of a millimetre, 5 to 1,000: of SVG, PNG, EPS and
+    /// PDF.
     pub module_mm: i32,
     /// The number of pixels in an inch, 50 to 2,400: of PNG, and not beside `module_mm`.
     pub dpi: i32,
@@ -27,7 +28,7 @@ pub struct PictureSettings {
     pub at_y: i32,
 }
 
-/// Returns the format of a number, 0 to 6.
+/// Returns the format of a number, 0 to 7.
 pub fn format_of(number: i32) -> Option<Format>
     ensures format { IfSome result (λ format. number ≡ format_argument format) }
     ensures none { IfNone result (IsNoFormat number) }
@@ -40,6 +41,7 @@ pub fn format_of(number: i32) -> Option<Format>
         4 => Some(Format::Eps),
         5 => Some(Format::EscPos),
         6 => Some(Format::Zpl),
+        7 => Some(Format::Pdf),
         _ => None,
     }
 }

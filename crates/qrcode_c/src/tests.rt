@@ -1,9 +1,9 @@
 //! Tests of each exported function, where memory is ample.
 use crate::{
     DONE, Options, PictureSettings, Shape, qrcode_c_bytes, qrcode_c_cuts, qrcode_c_elements,
-    qrcode_c_greatest_size, qrcode_c_gs1, qrcode_c_micro_symbol, qrcode_c_part_symbol,
-    qrcode_c_picture, qrcode_c_sequence, qrcode_c_symbol, qrcode_c_text, qrcode_c_text_cuts,
-    qrcode_c_text_sequence, qrcode_c_version_of_width,
+    qrcode_c_greatest_size, qrcode_c_gs1, qrcode_c_gs1_unchecked, qrcode_c_micro_symbol,
+    qrcode_c_part_symbol, qrcode_c_picture, qrcode_c_sequence, qrcode_c_symbol, qrcode_c_text,
+    qrcode_c_text_cuts, qrcode_c_text_sequence, qrcode_c_version_of_width,
 };
 use std::alloc::Global;
 
@@ -12,7 +12,7 @@ use std::alloc::Global;
 /// version holds.
 static MANY: [u8; 7089] = [b'a'; 7089];
 
-const BLANK: Shape = Shape {
+pub const BLANK: Shape = Shape {
     width: 0,
     version: 0,
     mask: 0,
@@ -82,7 +82,7 @@ fn draws_a_part(rt: HostRuntime) {
     assert_eq!(rt; status, 7);
 }
 
-const USUAL: Options = Options {
+pub const USUAL: Options = Options {
     level: 0,
     min_version: 1,
     max_version: 40,
@@ -121,17 +121,9 @@ fn draws_elements(rt: HostRuntime) {
     let status = qrcode_c_gs1(rt.alloc(), text, &USUAL, &mut written, &mut shape);
     assert_eq!(rt; status, DONE);
     assert!(rt; written == modules);
-}
-
-/// Returns the status of `qrcode_c_gs1` if it writes nothing.
-fn refused_gs1(alloc: Global, text: &[u8]) -> Option<i32> {
-    let (mut modules, mut shape) = ([7; 122], BLANK);
-    let status = qrcode_c_gs1(alloc, text, &USUAL, &mut modules, &mut shape);
-    if modules == [7; 122] && shape == BLANK {
-        Some(status)
-    } else {
-        None
-    }
+    // No identifier 4399 is assigned.
+    let status = qrcode_c_gs1_unchecked(rt.alloc(), b"(4399)x", &USUAL, &mut written, &mut shape);
+    assert_eq!(rt; (status, shape.version), (DONE, 1));
 }
 
 #[test]
@@ -255,24 +247,12 @@ fn refused_picture(
 fn refuses_pictures(rt: HostRuntime) {
     assert_eq!(rt; refused_picture(rt.alloc(), 12, 3, &SMALL), Some(20));
     assert_eq!(rt; refused_picture(rt.alloc(), 13, 3, &SMALL), Some(20));
-    assert_eq!(rt; refused_picture(rt.alloc(), 11, 7, &SMALL), Some(21));
+    assert_eq!(rt; refused_picture(rt.alloc(), 11, 8, &SMALL), Some(21));
     assert_eq!(rt; refused_picture(rt.alloc(), 11, -1, &SMALL), Some(21));
     let sized = PictureSettings { dpi: 300, ..SMALL };
     assert_eq!(rt; refused_picture(rt.alloc(), 11, 3, &sized), Some(22));
     let large = PictureSettings { scale: 65, ..SMALL };
     assert_eq!(rt; refused_picture(rt.alloc(), 11, 3, &large), Some(22));
-}
-
-#[test]
-fn refuses_elements(rt: HostRuntime) {
-    assert_eq!(rt; refused_gs1(rt.alloc(), b"(10)\xff"), Some(10));
-    assert_eq!(rt; refused_gs1(rt.alloc(), b"10"), Some(13));
-    assert_eq!(rt; refused_gs1(rt.alloc(), b"(1)2"), Some(14));
-    assert_eq!(rt; refused_gs1(rt.alloc(), b"(05)2"), Some(15));
-    assert_eq!(rt; refused_gs1(rt.alloc(), b"(10)"), Some(16));
-    assert_eq!(rt; refused_gs1(rt.alloc(), b"(10)a b"), Some(12));
-    assert_eq!(rt; refused_gs1(rt.alloc(), b"(01)1"), Some(18));
-    assert_eq!(rt; refused_gs1(rt.alloc(), b"(01)09506000134353"), Some(19));
 }
 
 #[test]

@@ -28,7 +28,8 @@ AreFittingCuts content message level limit from (cut ∷ cuts) =
     × (IsPartTooLong content message level limit from cut → ⊥)
     × AreFittingCuts content message level limit cut cuts
 
--- The cuts make at most 16 parts that fit, and no cuts make fewer parts that fit.
+-- The cuts make at most 16 parts that fit, and no cuts make fewer parts that fit. Example: 31
+-- letters `a` in version 1 at level L are cut at 15 and 30.
 pub record AreBestCuts (content : Content) (message : List ℕ) (level : EcLevel) (limit : ℕ)
     (cuts : List ℕ) : Type 0 where
   pub fitting : AreFittingCuts content message level limit 0 cuts

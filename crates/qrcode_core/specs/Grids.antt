@@ -24,7 +24,7 @@ HasAllRows g = g.rows * g.columns ≤ length g.cells
 abbrev pub IsFull : Grid → Type 0
 IsFull g = length g.cells ≡ g.rows * g.columns
 
--- The colour in column x of row y, both counted from 0.
+-- The colour in column x of row y, both counted from 0: element y * columns + x of the list.
 abbrev pub color_at : Grid → ℕ → ℕ → Option Color
 color_at g x y = slice_get g.cells (y * g.columns + x)
 

@@ -118,7 +118,7 @@ IsFarFromOthers grid r f =
     (n < distance (codeword_block n sizes f.carries.interleaved f.carries.correction block)
     (codeword_block n sizes g.carries.interleaved g.carries.correction block))
 
--- This holds of every grid that can be read.
+-- Every grid that can be read is far from the grids that are read as other bytes.
 abbrev pub HaveDistance : Type 0
 HaveDistance = (grid : List Color) (r : Reading) (f : Reads grid r) → IsFarFromOthers grid r f
 
@@ -210,7 +210,7 @@ pub record IsBestUpTo (front : Front) (bytes : List ℕ) (level : EcLevel) (limi
 abbrev pub IsBestSymbol : List ℕ → EcLevel → List Color → Type 0
 IsBestSymbol bytes level grid = IsBest normal no_front bytes level grid
 
--- The best Micro symbol.
+-- The best Micro symbol of some bytes.
 abbrev pub IsBestMicroSymbol : List ℕ → EcLevel → List Color → Type 0
 IsBestMicroSymbol bytes level grid = IsBest micro no_front bytes level grid
 
@@ -243,7 +243,7 @@ IsRefusal bytes level DataTooLong = IsTooLong bytes level
 IsRefusal bytes level OutOfMemory = length bytes ≤ LONGEST_DATA
 IsRefusal bytes level other = ⊥
 
--- The errors of `Symbol::text`, in the same order.
+-- The errors of `Symbol::text`, and when each is returned, as of `symbol`.
 abbrev pub IsTextRefusal : List ℕ → EcLevel → QrError → Type 0
 IsTextRefusal text level DataTooLong = IsTooLongAfter (front_of None Text) text level
 IsTextRefusal text level OutOfMemory = length text ≤ LONGEST_DATA
@@ -280,7 +280,7 @@ printed_rows =
     (codes ".#.#...##.." ++
     codes "####.....##")))))))))
 
--- The grid of the printed symbol.
+-- The grid of the printed symbol, of the digits 12345 in M1.
 abbrev pub printed : List Color
 printed = map printed_color printed_rows
 

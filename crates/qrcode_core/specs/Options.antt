@@ -60,13 +60,15 @@ IsStrongestOrBest true front bytes level least limit grid =
 IsStrongestOrBest false front bytes level least limit grid =
     IsBestInRange front bytes level least limit grid
 
--- The symbol that the options ask for.
+-- The symbol that the options ask for: the best one at their level in the smallest version from
+-- their least to their greatest; or, if it is to be the strongest, at the greatest level at which
+-- it is no larger.
 abbrev pub IsAsAsked : SymbolOptions → Front → List ℕ → List Color → Type 0
 IsAsAsked options front bytes grid =
     IsStrongestOrBest options.strongest front bytes options.level (nat_abs options.min_version)
     (nat_abs options.max_version) grid
 
--- The versions of the options are a range.
+-- The versions of the options are a range within 1 to 40.
 abbrev pub HasVersions : SymbolOptions → Type 0
 HasVersions options = IsVersionRange options.min_version options.max_version
 
@@ -75,7 +77,7 @@ abbrev pub IsOptionsRefusal : SymbolOptions → Front → List ℕ → QrError �
 IsOptionsRefusal options front bytes error =
     IsRangeRefused front bytes options.level options.min_version options.max_version error
 
--- The same for elements: after the versions, the bytes are checked.
+-- The same for elements: after the versions, the bytes are checked to be elements.
 abbrev pub IsElementsOptionsRefusal : SymbolOptions → Front → List ℕ → QrError → Type 0
 IsElementsOptionsRefusal options front elements InvalidResourceLimits = HasVersions options → ⊥
 IsElementsOptionsRefusal options front elements (InvalidCharacter place byte) =

@@ -87,7 +87,7 @@ abbrev pub object_at : {A : Type 0} {F : A → Type 0}
     → TextMap (DynBox A Global F) → List ℕ → Option ((i : A) × F i)
 object_at m key = option_map object_in (at_key m key)
 
--- The contents of a `PluginRegistry`.
+-- The contents of a `PluginRegistry`: three ordered maps and a list.
 abbrev pub registered : {A B C : Type 0} {F : A → Type 0} {G : B → Type 0} {H : C → Type 0}
     → PluginRegistry A B C F G H
     → Registered (DynBox A Global F) (DynBox B Global G) (DynBox C Global H)

@@ -66,7 +66,8 @@ parts_from start [] message = drop start message ∷ []
 parts_from start (cut ∷ cuts) message =
     slice_range message start cut ∷ parts_from cut cuts message
 
--- The parts of a whole message.
+-- The parts of a whole message: from its start to the first cut, from each cut to the next, and
+-- from the last to the end. A part may be empty.
 abbrev pub parts_at : List ℕ → List ℕ → List (List ℕ)
 parts_at cuts message = parts_from 0 cuts message
 
@@ -99,7 +100,8 @@ IsPartTooLongAt content message cuts level limit index =
     FitsNone normal (20 + length (content_bits content))
     (parsed_bytes content (slice_index_or (parts_at cuts message) index [])) level limit
 
--- Some part is too long.
+-- Some part is too long: no plan of it fits any version up to the limit, after the 20 bits of its
+-- header and those of the content.
 abbrev pub IsSomePartTooLong : Content → List ℕ → List ℕ → EcLevel → ℕ → Type 0
 IsSomePartTooLong content message cuts level limit =
     (i : ℕ) × (i < length cuts + 1) × IsPartTooLongAt content message cuts level limit i
@@ -112,8 +114,9 @@ IsTotalRefusal total limit (InvalidStructuredAppend value) =
     IsNormalNumber limit × (IsTotal total → ⊥) × (value ≡ min total 255)
 IsTotalRefusal total limit other = ⊥
 
--- The errors of `symbol_sequence`, and when each is returned. The greatest version and the number
--- of symbols are checked first. `OutOfMemory` says only that both were valid.
+-- The errors of `symbol_sequence`, and when each is returned, in this order: the greatest version
+-- is outside 1 to 40; the number of symbols is not 2 to 16, which the error has, or 255; some part
+-- is too long. `OutOfMemory` says only that the first two do not hold.
 abbrev pub IsSequenceRefusal : Content → List ℕ → List ℕ → EcLevel → ℤ → QrError → Type 0
 IsSequenceRefusal content message cuts level limit DataTooLong =
     IsNormalNumber limit × IsTotal (length cuts + 1)

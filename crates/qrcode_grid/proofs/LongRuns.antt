@@ -77,68 +77,68 @@ runs_by_alikes [] = refl
 runs_by_alikes (c ∷ cs) = cc (same_byte c, total-first (run_penalty (c ∷ cs)) (length cs), later_runs c cs, counted c cs)
 
 -- whether the module at a place has the colour of the next one in the line
-abbrev pub edge : List ℕ → ℕ → Bool
-edge [] i = false
-edge (c ∷ []) i = false
-edge (c ∷ d ∷ ds) zero = c == d
-edge (c ∷ d ∷ ds) (suc i) = edge (d ∷ ds) i
+abbrev pub twin : List ℕ → ℕ → Bool
+twin [] i = false
+twin (c ∷ []) i = false
+twin (c ∷ d ∷ ds) zero = c == d
+twin (c ∷ d ∷ ds) (suc i) = twin (d ∷ ds) i
 
 -- whether each of n modules from an index on has the colour of the next
-abbrev edges : ℕ → List ℕ → ℕ → Bool
-edges zero line i = true
-edges (suc n) line i = edge line i && edges n line (suc i)
+abbrev twins : ℕ → List ℕ → ℕ → Bool
+twins zero line i = true
+twins (suc n) line i = twin line i && twins n line (suc i)
 
-edge_later : (c : ℕ) (cs : List ℕ) (i : ℕ) → edge (c ∷ cs) (suc i) ≡ edge cs i
-edge_later c cs i = grind arith
+twin_later : (c : ℕ) (cs : List ℕ) (i : ℕ) → twin (c ∷ cs) (suc i) ≡ twin cs i
+twin_later c cs i = grind arith
 
-edges_later : (n c : ℕ) (cs : List ℕ) (i : ℕ) → edges n (c ∷ cs) (suc i) ≡ edges n cs i
-edges_later zero c cs i = refl
-edges_later (suc n) c cs i = ap (λ t. t && edges n (c ∷ cs) (suc (suc i))) (edge_later c cs i) ∙ ap (λ t. edge cs i && t) (edges_later n c cs (suc i))
+twins_later : (n c : ℕ) (cs : List ℕ) (i : ℕ) → twins n (c ∷ cs) (suc i) ≡ twins n cs i
+twins_later zero c cs i = refl
+twins_later (suc n) c cs i = ap (λ t. t && twins n (c ∷ cs) (suc (suc i))) (twin_later c cs i) ∙ ap (λ t. twin cs i && t) (twins_later n c cs (suc i))
 
-first_edges : (n c : ℕ) (cs : List ℕ) → nat_le n (prefix_len (λ d. c == d) cs) ≡ edges n (c ∷ cs) 0
-first_edges zero c cs = grind arith
-first_edges (suc n) c [] = grind arith
-first_edges (suc n) c (d ∷ ds) = grind (arith, common_steps, eqb_tells, first_edges n d ds, edges_later n c (d ∷ ds) 0)
+first_twins : (n c : ℕ) (cs : List ℕ) → nat_le n (prefix_len (λ d. c == d) cs) ≡ twins n (c ∷ cs) 0
+first_twins zero c cs = grind arith
+first_twins (suc n) c [] = grind arith
+first_twins (suc n) c (d ∷ ds) = grind (arith, common_steps, eqb_tells, first_twins n d ds, twins_later n c (d ∷ ds) 0)
 
-by_places : (n : ℕ) (line : List ℕ) → alikes n line ≡ count_below (edges n line) (length line)
+by_places : (n : ℕ) (line : List ℕ) → alikes n line ≡ count_below (twins n line) (length line)
 by_places n [] = refl
 by_places n (c ∷ cs) =
     let line = c ∷ cs in
-    let later = total-cong (λ k. cond (edges n line (suc k)) 1 0) (λ k. cond (edges n cs k) 1 0) (length cs)
-    (λ k l. ap (λ b. cond b 1 0) (edges_later n c cs k)) in
-    ap (λ b. cond b 1 0 + alikes n cs) (first_edges n c cs)
-    ∙ ap (λ t. cond (edges n line 0) 1 0 + t) (by_places n cs ∙ sym later)
-    ∙ sym (total-first (λ k. cond (edges n line k) 1 0) (length cs))
+    let later = total-cong (λ k. cond (twins n line (suc k)) 1 0) (λ k. cond (twins n cs k) 1 0) (length cs)
+    (λ k l. ap (λ b. cond b 1 0) (twins_later n c cs k)) in
+    ap (λ b. cond b 1 0 + alikes n cs) (first_twins n c cs)
+    ∙ ap (λ t. cond (twins n line 0) 1 0 + t) (by_places n cs ∙ sym later)
+    ∙ sym (total-first (λ k. cond (twins n line k) 1 0) (length cs))
 
--- an edge lies between two modules of the line
-pub edge_within : (line : List ℕ) (i : ℕ) → i + 1 < length line → edge line i ≡ (get_or line i 0 == get_or line (i + 1) 0)
-edge_within [] i h = absurd (omega (arith, h))
-edge_within (c ∷ []) i h = absurd (omega (arith, h))
-edge_within (c ∷ d ∷ ds) zero h = refl
-edge_within (c ∷ d ∷ ds) (suc i) h = grind (arith, edge_within (d ∷ ds) i (omega (arith, h)))
+-- an twin lies between two modules of the line
+pub twin_within : (line : List ℕ) (i : ℕ) → i + 1 < length line → twin line i ≡ (get_or line i 0 == get_or line (i + 1) 0)
+twin_within [] i h = absurd (omega (arith, h))
+twin_within (c ∷ []) i h = absurd (omega (arith, h))
+twin_within (c ∷ d ∷ ds) zero h = refl
+twin_within (c ∷ d ∷ ds) (suc i) h = grind (arith, twin_within (d ∷ ds) i (omega (arith, h)))
 
-pub edge_past : (line : List ℕ) (i : ℕ) → length line ≤ i + 1 → edge line i ≡ false
-edge_past [] i h = refl
-edge_past (c ∷ []) i h = refl
-edge_past (c ∷ d ∷ ds) zero h = absurd (omega (arith, h))
-edge_past (c ∷ d ∷ ds) (suc i) h = edge_past (d ∷ ds) i (omega (arith, h))
+pub twin_past : (line : List ℕ) (i : ℕ) → length line ≤ i + 1 → twin line i ≡ false
+twin_past [] i h = refl
+twin_past (c ∷ []) i h = refl
+twin_past (c ∷ d ∷ ds) zero h = absurd (omega (arith, h))
+twin_past (c ∷ d ∷ ds) (suc i) h = twin_past (d ∷ ds) i (omega (arith, h))
 
--- five and six modules of one colour, by their edges
+-- five and six modules of one colour, by their twins
 abbrev pub five_of : List ℕ → ℕ → Bool
-five_of line i = edge line i && edge line (i + 1) && edge line (i + 2) && edge line (i + 3)
+five_of line i = twin line i && twin line (i + 1) && twin line (i + 2) && twin line (i + 3)
 
 abbrev pub six_of : List ℕ → ℕ → Bool
-six_of line i = five_of line i && edge line (i + 4)
+six_of line i = five_of line i && twin line (i + 4)
 
-four_edges : (line : List ℕ) (i : ℕ) → edges 4 line i ≡ five_of line i
-four_edges line i = grind (arith, common_steps)
+four_twins : (line : List ℕ) (i : ℕ) → twins 4 line i ≡ five_of line i
+four_twins line i = grind (arith, common_steps)
 
-five_edges : (line : List ℕ) (i : ℕ) → edges 5 line i ≡ six_of line i
-five_edges line i = grind (arith, common_steps)
+five_twins : (line : List ℕ) (i : ℕ) → twins 5 line i ≡ six_of line i
+five_twins line i = grind (arith, common_steps)
 
 -- what the runs of a line count, by its places
 pub runs_are : (line : List ℕ) → runs_penalty line + 2 * count_below (six_of line) (length line) ≡ 3 * count_below (five_of line) (length line)
 runs_are line =
-    let fives = total-cong (λ k. cond (edges 4 line k) 1 0) (λ k. cond (five_of line k) 1 0) (length line) (λ k l. ap (λ b. cond b 1 0) (four_edges line k)) in
-    let sixes = total-cong (λ k. cond (edges 5 line k) 1 0) (λ k. cond (six_of line k) 1 0) (length line) (λ k l. ap (λ b. cond b 1 0) (five_edges line k)) in
+    let fives = total-cong (λ k. cond (twins 4 line k) 1 0) (λ k. cond (five_of line k) 1 0) (length line) (λ k l. ap (λ b. cond b 1 0) (four_twins line k)) in
+    let sixes = total-cong (λ k. cond (twins 5 line k) 1 0) (λ k. cond (six_of line k) 1 0) (length line) (λ k l. ap (λ b. cond b 1 0) (five_twins line k)) in
     omega (arith, by_runs line, runs_by_alikes line, by_places 4 line, by_places 5 line, fives, sixes)

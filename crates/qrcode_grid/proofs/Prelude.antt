@@ -50,7 +50,7 @@ pub use Rattle.qrcode_grid.specs.Regions.{alignment_at, alignment_coordinate, al
 pub use Rattle.qrcode_grid.specs.Regions.{differing_digits, digit_at, digit_color, finder, format_code, format_first, format_micro, format_second}
 pub use Rattle.qrcode_grid.specs.Regions.{functional_color, is_functional_cell, map_cells, near, regions, ring, sum_below}
 pub use Rattle.qrcode_grid.specs.Regions.{timing, version_copies, version_digit, version_word, written}
-pub use Rattle.qrcode_grid.specs.Scoring.{AreEdges, IsPadded, Marks, cell, code_of, has, has_finder, has_five, has_six, has_square, count_in_planes}
+pub use Rattle.qrcode_grid.specs.Scoring.{AreTwins, IsPadded, Marks, cell, code_of, has, has_finder, has_five, has_six, has_square, count_in_planes}
 pub use Rattle.qrcode_grid.specs.Scoring.{is_dark_byte}
 pub use Rattle.qrcode_grid.specs.Scoring.{is_quiet, is_same, masked_code, pattern_of, places, plane, stride, tallied}
 unfoldable pub use Rattle.qrcode_grid.specs.Scoring.{bit_count}

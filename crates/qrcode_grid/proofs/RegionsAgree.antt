@@ -111,7 +111,7 @@ normal_apart w x y v wide l m = (
   ),
 )
 
--- they lie in strips along the edges, and there no alignment pattern meets them: computed
+-- they lie in strips along the twins, and there no alignment pattern meets them: computed
 mid_row : (w x y : ℕ) (v : Bool) → 21 ≤ w → 9 ≤ x → x + 11 < w → any (finder_tests w x y ++ word_tests w v x y) ≡ false
 mid_row w x y v wide a b = grind (arith, nat_tests)
 

@@ -83,24 +83,24 @@ cell step cells k i = slice_index cells (k + i * step)
 abbrev pub is_same : ℕ → List ℕ → ℕ → ℕ → Bool
 is_same step cells k i = cell step cells k i == cell step cells k (i + 1)
 
--- The edges are 1 where a module of the first columns and rows has the same colour as the module
+-- The twins are 1 where a module of the first columns and rows has the same colour as the module
 -- one step further, and 0 elsewhere.
-pub record AreEdges (w step columns rows : ℕ) (padded edges : List ℕ) : Type 0 where
-  pub same : (x y : ℕ) → x < columns → y < rows → slice_index edges (y * stride w + x) ≡
+pub record AreTwins (w step columns rows : ℕ) (padded twins : List ℕ) : Type 0 where
+  pub same : (x y : ℕ) → x < columns → y < rows → slice_index twins (y * stride w + x) ≡
       (if is_same step padded (4 * stride w + (y * stride w + x)) 0 then 1 else 0)
   pub beside : (x y : ℕ) → columns ≤ x → x < stride w → y < rows →
-      slice_index edges (y * stride w + x) ≡ 0
-  pub below : (k : ℕ) → rows * stride w ≤ k → slice_index edges k ≡ 0
+      slice_index twins (y * stride w + x) ≡ 0
+  pub below : (k : ℕ) → rows * stride w ≤ k → slice_index twins k ≡ 0
 
--- Whether five modules of one colour begin at index k, by their edges.
+-- Whether five modules of one colour begin at index k, by their twins.
 abbrev pub has_five : ℕ → List ℕ → ℕ → Bool
-has_five step edges k =
-    cell step edges k 0 == 1 && cell step edges k 1 == 1 && cell step edges k 2 == 1 &&
-    cell step edges k 3 == 1
+has_five step twins k =
+    cell step twins k 0 == 1 && cell step twins k 1 == 1 && cell step twins k 2 == 1 &&
+    cell step twins k 3 == 1
 
 -- Whether six modules of one colour begin at index k.
 abbrev pub has_six : ℕ → List ℕ → ℕ → Bool
-has_six step edges k = has_five step edges k && cell step edges k 4 == 1
+has_six step twins k = has_five step twins k && cell step twins k 4 == 1
 
 -- Whether four light modules begin i steps after index k.
 abbrev pub is_quiet : ℕ → List ℕ → ℕ → ℕ → Bool
@@ -117,24 +117,24 @@ has_finder step cells k =
     cell step cells k 10 == 1) &&
     (is_quiet step cells k 0 || is_quiet step cells k 11)
 
--- Whether a square of one colour begins at index k, by the edges along its two rows.
+-- Whether a square of one colour begins at index k, by the twins along its two rows.
 abbrev pub has_square : ℕ → List ℕ → List ℕ → ℕ → Bool
-has_square s padded edges k = cell s edges k 0 == 1 && cell s edges k 1 == 1 && is_same s padded k 4
+has_square s padded twins k = cell s twins k 0 == 1 && cell s twins k 1 == 1 && is_same s padded k 4
 
 -- Whether place k of a grid of width w has the feature.
 abbrev pub has : Feature → ℕ → ℕ → List ℕ → List ℕ → ℕ → Bool
-has Finder w step padded edges k = has_finder step padded (k + 4 * (stride w - step))
-has Square w step padded edges k = has_square (stride w) padded edges k
-has Dark w step padded edges k = cell (stride w) padded k 4 == 1
+has Finder w step padded twins k = has_finder step padded (k + 4 * (stride w - step))
+has Square w step padded twins k = has_square (stride w) padded twins k
+has Dark w step padded twins k = cell (stride w) padded k 4 == 1
 
--- The penalty of all lines of one direction, by the edges in it. A run of n modules, where n is at
+-- The penalty of all lines of one direction, by the twins in it. A run of n modules, where n is at
 -- least 5, begins five equal modules at n - 4 places and six at n - 5, so that 3 for each five, and
 -- 2 less for each six, is its penalty n - 2. A finder-like pattern counts 40.
 abbrev pub lines_penalty : ℕ → ℕ → List ℕ → List ℕ → ℕ
-lines_penalty w step padded edges =
+lines_penalty w step padded twins =
     let count : (ℕ → Bool) → ℕ = λ test. count_below test (places w) in
-    3 * count (has_five step edges) - 2 * count (has_six step edges) +
-    40 * count (has Finder w step padded edges)
+    3 * count (has_five step twins) - 2 * count (has_six step twins) +
+    40 * count (has Finder w step padded twins)
 
 -- The code of a module: 1 if it is dark, and 2 more if a mask may invert it.
 abbrev pub code_of : Module → ℕ

@@ -15,6 +15,9 @@ pub mod TextLemmas
 pub mod CoverLemmas
 pub mod XmlLemmas
 pub mod StringLemmas
+pub mod PdfTextLemmas
+pub mod PdfLemmas
+pub mod PdfTableLemmas
 pub mod ReadingLemmas
 pub mod FieldLemmas
 pub mod LightLemmas

@@ -12,10 +12,11 @@ use Rattle.std.proofs.lemmas.Str.{IsUtf8-append, IsUtf8-from_ascii, IsUtf8-nil}
 use Rattle.std.proofs.lemmas.Str.Ascii.{IsAscii-cons, IsAscii-nil}
 use Rattle.qrcode_render.specs.declared.numbers.TheConstants.{NUMBERS}
 use Rattle.qrcode_render.specs.declared.pen.Pen.{Pen}
-use Rattle.qrcode_render.specs.declared.pen.Pen.TheVariants.{Svg, Eps}
+use Rattle.qrcode_render.specs.declared.pen.Pen.TheVariants.{Svg, Eps, Pdf}
 use Rattle.qrcode_render.specs.Numbers.{word_text}
 use Rattle.qrcode_render.specs.Eps.{eps_rectangle}
 use Rattle.qrcode_render.specs.Paths.{begins_run, dark_run_length, rectangle, row_path, run_at}
+use Rattle.qrcode_render.specs.Pdf.{pdf_rectangle}
 use Rattle.qrcode_render.specs.Pens.{rectangle_by}
 use Rattle.qrcode_render.specs.Pictures.{Picture, columns_of}
 use Rattle.qrcode_render.proofs.PathLemmas.{row_path_more, run_room}
@@ -95,7 +96,7 @@ number_behind_utf8 : (n : ℕ) (text : List ℕ) → n < 2 ^ 64 → IsUtf8 text 
 number_behind_utf8 n text small rest = IsUtf8-append (decimal n) text (decimal_utf8 n small) rest
 
 rectangle_utf8 : (pen : Pen) (x y n : ℕ) → x < 2 ^ 64 → y < 2 ^ 64 → n < 2 ^ 64 → IsUtf8 (rectangle_by pen x y n)
-unfolding rectangle eps_rectangle
+unfolding rectangle eps_rectangle pdf_rectangle
 rectangle_utf8 Svg x y n column row long =
     behind_utf8 77 _ (lit< tt) (number_behind_utf8 x _ column
     (behind_utf8 32 _ (lit< tt) (number_behind_utf8 y _ row (behind_utf8 104 _ (lit< tt) (decimal_utf8 n long)))))
@@ -103,6 +104,11 @@ rectangle_utf8 Eps x y n column row long =
     number_behind_utf8 n _ long (behind_utf8 32 _ (lit< tt) (number_behind_utf8 x _ column
     (behind_utf8 32 _ (lit< tt) (number_behind_utf8 y _ row
     (behind_utf8 32 _ (lit< tt) (behind_utf8 114 _ (lit< tt) (behind_utf8 10 [] (lit< tt) IsUtf8-nil)))))))
+rectangle_utf8 Pdf x y n column row long =
+    number_behind_utf8 x _ column (behind_utf8 32 _ (lit< tt) (number_behind_utf8 y _ row
+    (behind_utf8 32 _ (lit< tt) (number_behind_utf8 n _ long
+    (behind_utf8 32 _ (lit< tt) (behind_utf8 49 _ (lit< tt) (behind_utf8 32 _ (lit< tt) (behind_utf8 114 _ (lit< tt)
+    (behind_utf8 101 _ (lit< tt) (behind_utf8 10 [] (lit< tt) IsUtf8-nil))))))))))
 
 chosen_utf8 : (begins : Bool) (text : List ℕ) → IsUtf8 text → IsUtf8 (if begins then text else [])
 chosen_utf8 true text is = is

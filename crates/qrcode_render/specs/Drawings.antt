@@ -1,5 +1,5 @@
 -- The bytes of a picture in the format of its options.
-use Rattle.std.specs.Prelude.{◌≡◌, ℕ, Bool, true, false, List, Some}
+use Rattle.std.specs.Prelude.{◌≡◌, ℕ, Bool, true, false, List, [], ◌∷◌, Some}
 use Rattle.std.specs.Option.{option_copied}
 use Rattle.std.specs.String.{string_bytes}
 use Rattle.png.specs.Png.{read_png}
@@ -9,12 +9,13 @@ use Rattle.qrcode_render.specs.declared.drawing.Drawn.{Drawn}
 use Rattle.qrcode_render.specs.declared.drawing.Drawn.TheVariants.{Text, Bytes}
 use Rattle.qrcode_render.specs.declared.format.Format.{Format}
 use Rattle.qrcode_render.specs.declared.format.Format.TheVariants.{Terminal, Svg, Png, Pbm, Eps}
-use Rattle.qrcode_render.specs.declared.format.Format.TheVariants.{EscPos, Zpl}
+use Rattle.qrcode_render.specs.declared.format.Format.TheVariants.{EscPos, Zpl, Pdf}
 use Rattle.qrcode_render.specs.Bitmaps.{bitmap_of}
 use Rattle.qrcode_render.specs.Eps.{eps_document}
 use Rattle.qrcode_render.specs.EscPos.{ticket_text}
 use Rattle.qrcode_render.specs.Labels.{IsLabel}
 use Rattle.qrcode_render.specs.Paths.{svg_colored}
+use Rattle.qrcode_render.specs.Pdf.{PdfPage, pdf_document, pdf_page}
 use Rattle.qrcode_render.specs.Pictures.{Picture, picture}
 use Rattle.qrcode_render.specs.PngPixels.{png_file}
 use Rattle.qrcode_render.specs.Terminals.{terminal_text}
@@ -32,10 +33,16 @@ IsPictureAs Pbm o p bytes = bytes ≡ bitmap_of p
 IsPictureAs Eps o p bytes = bytes ≡ eps_document o.module_mm (option_copied o.title) o.colors p
 IsPictureAs EscPos o p bytes = bytes ≡ ticket_text o.feed o.cut p
 IsPictureAs Zpl o p bytes = IsLabel o.compressed o.at o.copies p bytes
+IsPictureAs Pdf o p bytes =
+    bytes ≡ pdf_document (option_copied o.title) (pdf_page o.module_mm o.colors p ∷ [])
 
 -- The bytes show the grid as the options say.
 abbrev pub IsPictureOf : DrawOptions → Grid → List ℕ → Type 0
 IsPictureOf o grid bytes = IsPictureAs o.format o (picture grid o.scale o.quiet) bytes
+
+-- The page of a grid in a document, as the options say.
+abbrev pub page_as : DrawOptions → Grid → PdfPage
+page_as o grid = pdf_page o.module_mm o.colors (picture grid o.scale o.quiet)
 
 -- The bytes of a picture in a format.
 abbrev pub drawn_bytes : Drawn → List ℕ

@@ -2,7 +2,7 @@
 use Rattle.std.specs.Prelude.{ℕ, Bool, true, false}
 use Rattle.qrcode_render.specs.declared.format.Format.{Format}
 use Rattle.qrcode_render.specs.declared.format.Format.TheVariants.{Terminal, Svg, Png, Eps}
-use Rattle.qrcode_render.specs.declared.format.Format.TheVariants.{EscPos, Zpl}
+use Rattle.qrcode_render.specs.declared.format.Format.TheVariants.{Pbm, EscPos, Zpl, Pdf}
 use Rattle.qrcode_render.specs.declared.bounds.TheConstants.{IMAGE_SCALE, TEXT_SCALE}
 use Rattle.qrcode_render.specs.declared.settings.Setting.{Setting}
 use Rattle.qrcode_render.specs.declared.settings.Setting.TheVariants.{Scale, Quiet, ModuleMm, Dpi}
@@ -31,6 +31,7 @@ abbrev pub has_millimetres : Format → Bool
 has_millimetres Svg = true
 has_millimetres Png = true
 has_millimetres Eps = true
+has_millimetres Pdf = true
 has_millimetres _ = false
 
 -- A pixel has a size, as a number of dots per inch.
@@ -43,6 +44,7 @@ abbrev pub has_title : Format → Bool
 has_title Svg = true
 has_title Png = true
 has_title Eps = true
+has_title Pdf = true
 has_title _ = false
 
 -- The picture has colours.
@@ -50,6 +52,7 @@ abbrev pub has_colors : Format → Bool
 has_colors Svg = true
 has_colors Png = true
 has_colors Eps = true
+has_colors Pdf = true
 has_colors _ = false
 
 -- The picture has a position on what is printed.
@@ -76,6 +79,22 @@ has_feed _ = false
 abbrev pub can_be_cut : Format → Bool
 can_be_cut EscPos = true
 can_be_cut _ = false
+
+-- Pictures can follow each other in one output.
+abbrev pub is_stream : Format → Bool
+is_stream Terminal = true
+is_stream Pbm = true
+is_stream EscPos = true
+is_stream Zpl = true
+is_stream _ = false
+
+-- A picture is a text, which a terminal can show.
+abbrev pub can_be_shown : Format → Bool
+can_be_shown Terminal = true
+can_be_shown Svg = true
+can_be_shown Eps = true
+can_be_shown Zpl = true
+can_be_shown _ = false
 
 -- The format has a setting.
 abbrev pub has_setting : Format → Setting → Bool

@@ -7,6 +7,10 @@ pub mod Xml
 pub mod Paths
 pub mod PostScript
 pub mod Eps
+pub mod PdfFile
+pub mod Pdf
+pub mod PdfPages
+pub mod PdfWritten
 pub mod Pens
 pub mod Numbers
 pub mod Runs

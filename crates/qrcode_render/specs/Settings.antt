@@ -7,9 +7,10 @@ use Rattle.qrcode_render.specs.declared.bounds.TheConstants.{MIN_SCALE, MAX_SCAL
 use Rattle.qrcode_render.specs.declared.bounds.TheConstants.{MIN_MODULE_MM, MAX_MODULE_MM}
 use Rattle.qrcode_render.specs.declared.bounds.TheConstants.{MIN_DPI, MAX_DPI, MAX_AT}
 use Rattle.qrcode_render.specs.declared.bounds.TheConstants.{MIN_COPIES, MAX_COPIES, MAX_FEED}
-use Rattle.qrcode_render.specs.declared.bounds.TheConstants.{MAX_PNG_TITLE, MAX_PS_TITLE}
+use Rattle.qrcode_render.specs.declared.bounds.TheConstants.{MAX_PDF_TITLE, MAX_PNG_TITLE}
+use Rattle.qrcode_render.specs.declared.bounds.TheConstants.{MAX_PS_TITLE}
 use Rattle.qrcode_render.specs.declared.format.Format.{Format}
-use Rattle.qrcode_render.specs.declared.format.Format.TheVariants.{Png, Eps}
+use Rattle.qrcode_render.specs.declared.format.Format.TheVariants.{Png, Eps, Pdf}
 use Rattle.qrcode_render.specs.declared.settings.Setting.{Setting}
 use Rattle.qrcode_render.specs.declared.settings.Setting.TheVariants.{Scale, Quiet, ModuleMm, Dpi}
 use Rattle.qrcode_render.specs.declared.settings.Setting.TheVariants.{Inverted, Title, At}
@@ -34,11 +35,12 @@ abbrev pub allows_title : (has : Bool) → Option (List ℕ) → Bool
 allows_title has None = true
 allows_title has (Some title) = has && is_xml_text title
 
--- A title that the format has room for: in a chunk of PNG that readers take, and in a line of the
--- comments of EPS.
+-- A title that the format has room for: in a chunk of PNG that readers take, in a line of the
+-- comments of EPS, and in a text string of PDF.
 abbrev pub has_room : Format → Option (List ℕ) → Bool
 has_room Png (Some title) = nat_le (length title) MAX_PNG_TITLE
 has_room Eps (Some title) = nat_le (length (string_text title)) MAX_PS_TITLE
+has_room Pdf (Some title) = nat_le (length title) MAX_PDF_TITLE
 has_room _ _ = true
 
 -- A position that may be given: it is within its bounds, and the format has one.

@@ -63,6 +63,13 @@ pub const MAX_PNG_TITLE: usize = 1_000_000;
 /// line has at most 255: `laws::strings_are_read` says how they are written.
 pub const MAX_PS_TITLE: usize = 244;
 
+/// The greatest number of bytes of the title of a PDF document.
+pub const MAX_PDF_TITLE: usize = 1_000_000;
+
+/// The greatest number of bytes of a PDF document up to its last page: the table of its objects has
+/// ten digits for where each of them begins.
+pub const MAX_PDF: usize = 9_999_999_999;
+
 /// The least number of labels that a printer prints.
 pub const MIN_COPIES: usize = 1;
 

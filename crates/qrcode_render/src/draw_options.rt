@@ -13,8 +13,8 @@ ghost use Rattle.qrcode_render.specs.declared.bounds.TheConstants.{MIN_COPIES, M
 ghost use Rattle.qrcode_render.specs.declared.bounds.TheConstants.{MAX_FEED};
 
 use crate::bounds::{
-    MAX_AT, MAX_COPIES, MAX_DPI, MAX_FEED, MAX_MODULE_MM, MAX_PNG_TITLE, MAX_QUIET, MAX_SCALE,
-    MIN_COPIES, MIN_DPI, MIN_MODULE_MM, MIN_SCALE, QUIET,
+    MAX_AT, MAX_COPIES, MAX_DPI, MAX_FEED, MAX_MODULE_MM, MAX_PDF_TITLE, MAX_PNG_TITLE, MAX_QUIET,
+    MAX_SCALE, MIN_COPIES, MIN_DPI, MIN_MODULE_MM, MIN_SCALE, QUIET,
 };
 use crate::colors::Colors;
 use crate::format::Format;
@@ -211,6 +211,7 @@ fn has_room(format: Format, title: &str) -> bool
     match format {
         Format::Png => title.len() <= MAX_PNG_TITLE,
         Format::Eps => is_short(title),
+        Format::Pdf => title.len() <= MAX_PDF_TITLE,
         _ => true,
     }
 }

@@ -1,10 +1,12 @@
 //! Symbols and grids in the format of their options, in one call.
-ghost use Rattle.std.specs.Prelude.{◌≡◌, ◌<◌, ◌≤◌, ◌^◌, ◌↔◌, IfOk, IfSome, IsSome, OnOk};
+ghost use Rattle.std.specs.Prelude.{◌≡◌, ◌<◌, ◌≤◌, ◌^◌, ◌↔◌, [], ◌∷◌, IfOk, IfSome, IsSome, OnOk};
+ghost use Rattle.std.specs.Option.{option_copied};
 ghost use Rattle.qrcode_core.specs.Drawn.{drawn_grid};
 ghost use Rattle.qrcode_render.specs.Drawings.{IsPictureOf, IsPictureAs};
 ghost use Rattle.qrcode_render.specs.Drawings.{drawn_bytes, is_drawn_text};
 ghost use Rattle.qrcode_render.specs.Formats.{is_text_format};
 ghost use Rattle.qrcode_render.specs.Labels.{IsLabel};
+ghost use Rattle.qrcode_render.specs.Pdf.{pdf_document, pdf_page};
 ghost use Rattle.qrcode_render.specs.Pictures.{IsDrawable};
 ghost use Rattle.qrcode_render.specs.Resolutions.{nearest, per_metre};
 ghost use Rattle.qrcode_render.specs.Shown.{shown};
@@ -15,6 +17,7 @@ use crate::escpos::ticket;
 use crate::format::Format;
 use crate::options::RenderOptions;
 use crate::pbm::pbm;
+use crate::pdf::pdf_document;
 use crate::picture::Picture;
 use crate::png_file::png_file;
 use crate::svg::svg_colored;
@@ -106,6 +109,7 @@ pub(crate) fn draw_as(
             Ok(Drawn::Bytes(bytes))
         }
         Format::Zpl => Ok(Drawn::Bytes(zpl(alloc, picture, options)?)),
+        Format::Pdf => Ok(Drawn::Bytes(pdf(alloc, picture, options)?)),
     }
 }
 
@@ -119,6 +123,15 @@ fn zpl(alloc: Global, picture: &Picture, options: &DrawOptions) -> Result<Vec<u8
     } else {
         label(alloc, picture, options.at, options.copies)
     }
+}
+
+/// Returns the document of the options.
+fn pdf(alloc: Global, picture: &Picture, options: &DrawOptions) -> Result<Vec<u8>, AllocError>
+    ensures { IfOk result (λ bytes. bytes.items ≡ pdf_document (option_copied options.now.title)
+        (pdf_page options.now.module_mm options.now.colors (shown picture.now) ∷ [])) }
+{
+    let (module_mm, title) = (options.module_mm, options.title);
+    pdf_document(alloc, picture, module_mm, title, options.colors)
 }
 
 /// Returns the scale and the quiet zone of the options.

@@ -7,7 +7,7 @@ ghost use Rattle.qrcode_render.specs.declared.bounds.TheConstants.{MAX_SCALE};
 ghost use Rattle.qrcode_render.specs.Eps.{box_side, eps_document, eps_head, eps_setup, eps_text};
 ghost use Rattle.qrcode_render.specs.Eps.{eps_fill, eps_ground, eps_ink, ps_color};
 ghost use Rattle.qrcode_render.specs.Eps.{eps_comments, exact_comment, exact_line, exact_side};
-ghost use Rattle.qrcode_render.specs.Eps.{module_points, title_comment};
+ghost use Rattle.qrcode_render.specs.Eps.{module_points, thousandths, title_comment};
 ghost use Rattle.qrcode_render.specs.Shown.{shown};
 
 use crate::colors::{Colors, Ground, NO_COLORS, Rgb};
@@ -112,19 +112,24 @@ fn exact_line(alloc: Global, width: &str, height: &str) -> Result<String, AllocE
 }
 
 /// Returns a side of the picture in points, rounded up to thousandths.
-#[tactic(auto, unfolding(crate::specs::Eps::thousandths))]
-fn exact_side(alloc: Global, module_mm: usize, modules: usize) -> Result<String, AllocError>
+pub(crate) fn exact_side(
+    alloc: Global,
+    module_mm: usize,
+    modules: usize,
+) -> Result<String, AllocError>
     requires small { module_mm ≤ MAX_MODULE_MM }
     requires few { modules ≤ MAX_COLUMNS }
     ensures { IfOk result (λ text. string_bytes text ≡ exact_side module_mm modules) }
 {
-    let side = (modules * module_mm * 18_000).div_ceil(635);
-    let (whole, tenths, hundredths, rest) = (
-        side / 1000,
-        side / 100 % 10,
-        side / 10 % 10,
-        side % 10,
-    );
+    thousandths(alloc, (modules * module_mm * 18_000).div_ceil(635))
+}
+
+/// Returns thousandths as a decimal number.
+#[tactic(auto, unfolding(crate::specs::Eps::thousandths))]
+pub(crate) fn thousandths(alloc: Global, n: usize) -> Result<String, AllocError>
+    ensures { IfOk result (λ text. string_bytes text ≡ thousandths n) }
+{
+    let (whole, tenths, hundredths, rest) = (n / 1000, n / 100 % 10, n / 10 % 10, n % 10);
     format!(in alloc; "{whole}.{tenths}{hundredths}{rest}")
 }
 

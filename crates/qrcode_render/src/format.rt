@@ -3,7 +3,7 @@ ghost use Rattle.std.specs.Prelude.{◌≡◌};
 ghost use Rattle.qrcode_render.specs.Formats.{can_be_inverted, default_scale, has_millimetres};
 ghost use Rattle.qrcode_render.specs.Formats.{has_colors, has_dots, has_position, has_title};
 ghost use Rattle.qrcode_render.specs.Formats.{can_be_compressed, can_be_cut, has_copies, has_feed};
-ghost use Rattle.qrcode_render.specs.Formats.{has_setting};
+ghost use Rattle.qrcode_render.specs.Formats.{can_be_shown, has_setting, is_stream};
 
 use crate::bounds::{IMAGE_SCALE, TEXT_SCALE};
 use crate::settings::Setting;
@@ -25,6 +25,8 @@ pub enum Format {
     EscPos,
     /// A label of ZPL II (`^GF`), for label printers.
     Zpl,
+    /// Portable Document Format (ISO 32000-1, PDF 1.4), a page as large as the picture.
+    Pdf,
 }
 
 impl Format {
@@ -49,7 +51,7 @@ impl Format {
     pub fn has_millimetres(self) -> bool
         ensures { result ≡ has_millimetres self }
     {
-        matches!(self, Format::Svg | Format::Png | Format::Eps)
+        matches!(self, Format::Svg | Format::Png | Format::Eps | Format::Pdf)
     }
 
     /// Whether the size of a pixel can be given in dots per inch.
@@ -63,14 +65,14 @@ impl Format {
     pub fn has_title(self) -> bool
         ensures { result ≡ has_title self }
     {
-        matches!(self, Format::Svg | Format::Png | Format::Eps)
+        matches!(self, Format::Svg | Format::Png | Format::Eps | Format::Pdf)
     }
 
     /// Whether the picture can have colours.
     pub fn has_colors(self) -> bool
         ensures { result ≡ has_colors self }
     {
-        matches!(self, Format::Svg | Format::Png | Format::Eps)
+        matches!(self, Format::Svg | Format::Png | Format::Eps | Format::Pdf)
     }
 
     /// Whether the picture has a position on what is printed.
@@ -107,6 +109,27 @@ impl Format {
     {
         matches!(self, Format::EscPos)
     }
+
+    /// Whether pictures can follow each other in one output, as labels that are printed do.
+    pub fn is_stream(self) -> bool
+        ensures { result ≡ is_stream self }
+    {
+        match self {
+            Format::Terminal | Format::Pbm | Format::EscPos | Format::Zpl => true,
+            Format::Svg | Format::Png | Format::Eps | Format::Pdf => false,
+        }
+    }
+
+    /// Whether a picture is a text, which a terminal can show.
+    pub fn can_be_shown(self) -> bool
+        ensures { result ≡ can_be_shown self }
+    {
+        match self {
+            Format::Terminal | Format::Svg | Format::Eps | Format::Zpl => true,
+            Format::Png | Format::Pbm | Format::EscPos | Format::Pdf => false,
+        }
+    }
+
     /// Whether the format has a setting. It has `scale` and `quiet` always.
     pub fn has(self, setting: Setting) -> bool
         ensures { result ≡ has_setting self setting }

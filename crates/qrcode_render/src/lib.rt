@@ -1,5 +1,5 @@
-//! Pictures of QR codes: SVG, PNG, EPS, portable bitmaps and text for a terminal, and ESC/POS and
-//! ZPL for ticket and label printers.
+//! Pictures of QR codes: SVG, PNG, EPS, PDF, portable bitmaps and text for a terminal, and ESC/POS
+//! and ZPL for ticket and label printers.
 //!
 //! 1. Fill in what the picture is to be like (`settings`).
 //! 2. Make the options of a format from it, which are tested once (`draw_options`). The error is
@@ -18,45 +18,33 @@
 
 mod bitmap;
 pub mod bounds;
-#[cfg(test)]
-mod color_tests;
 mod color_words;
 pub mod colors;
 mod compressed;
-#[cfg(test)]
-mod compressed_tests;
 pub mod config;
-#[cfg(test)]
-mod config_tests;
 pub mod draw_options;
 mod drawing;
 pub mod eps;
 pub mod escpos;
 pub mod format;
-#[cfg(test)]
-mod format_tests;
 pub mod laws;
 mod numbers;
 pub mod option_words;
 pub mod options;
 mod path;
 pub mod pbm;
+pub mod pdf;
+mod pdf_page;
+pub mod pdf_pages;
+mod pdf_text;
 mod pen;
 pub mod picture;
 pub mod png_file;
-#[cfg(test)]
-mod png_tests;
 mod postscript;
-#[cfg(test)]
-mod printer_tests;
 pub mod renderers;
 pub mod settings;
 pub mod svg;
 pub mod terminal;
-#[cfg(test)]
-mod tests;
-#[cfg(test)]
-mod title_tests;
 mod xml;
 pub mod zpl;
 
@@ -65,6 +53,7 @@ pub use draw_options::DrawOptions;
 pub use drawing::{draw, draw_grid};
 pub use format::Format;
 pub use options::RenderOptions;
+pub use pdf_pages::{PdfError, PdfPages};
 pub use picture::Picture;
-pub use renderers::{Eps, EscPos, Pbm, Png, Svg, Terminal, Zpl};
+pub use renderers::{Eps, EscPos, Pbm, Pdf, Png, Svg, Terminal, Zpl};
 pub use settings::{Setting, Settings};

@@ -1,12 +1,13 @@
 //! A picture as one path: a rectangle for each run of dark modules in a row.
 ghost use Rattle.std.specs.Prelude.{◌≡◌, ◌+◌, ◌*◌, ◌/◌, ◌≤◌, ◌<◌, ◌++◌, [], ◌∷◌, OnOk};
-ghost use Rattle.std.specs.Prelude.{ℕ, decimal, length, slice_index, take};
+ghost use Rattle.std.specs.Prelude.{ℕ, codes, decimal, length, slice_index, take};
 ghost use Rattle.std.specs.Str.{IsUtf8};
 ghost use Rattle.std.specs.String.{string_bytes};
 ghost use Rattle.qrcode_render.specs.declared.bounds.TheConstants.{MAX_COLUMNS};
 ghost use Rattle.qrcode_render.specs.Numbers.{word_text};
 ghost use Rattle.qrcode_render.specs.Paths.{path, row_path};
 ghost use Rattle.qrcode_render.specs.Runs.{EndsRun};
+ghost use Rattle.qrcode_render.specs.Pdf.{pdf_rectangle};
 ghost use Rattle.qrcode_render.specs.Pens.{rectangle_by};
 ghost use Rattle.qrcode_render.specs.Pictures.{columns_of, rows_of};
 ghost use Rattle.qrcode_render.specs.Shown.{shown};
@@ -16,8 +17,8 @@ use crate::pen::Pen;
 use crate::picture::{Picture, ROOM};
 use std::alloc::AllocError;
 
-/// Room for the rectangles of a row: none has more than 16 bytes.
-const LINE: usize = 16 * ROOM;
+/// Room for the rectangles of a row: none has more than 17 bytes.
+const LINE: usize = 17 * ROOM;
 
 /// Appends the rectangles of all rows.
 #[tactic(auto, using(crate::proofs::PathLemmas::paths))]
@@ -41,7 +42,7 @@ fn push_row(
     line: &mut [u8],
 ) -> Result<(), AllocError>
     requires low { y ≤ MAX_COLUMNS }
-    requires room { 16 * columns_of (shown picture.now) ≤ length line.old }
+    requires room { 17 * columns_of (shown picture.now) ≤ length line.old }
     ensures { OnOk result (string_bytes text.new ≡ string_bytes text.old
         ++ row_path (rectangle_by pen) (shown picture.now) y (columns_of (shown picture.now))) }
 {
@@ -58,7 +59,7 @@ fn push_row(
 /// Writes the rectangles of a row, and returns where they end.
 fn write_row(line: &mut [u8], picture: &Picture, pen: Pen, y: usize) -> usize
     requires low { y ≤ MAX_COLUMNS }
-    requires room { 16 * columns_of (shown picture.now) ≤ length line.old }
+    requires room { 17 * columns_of (shown picture.now) ≤ length line.old }
     ensures text { take result line.new
         ≡ row_path (rectangle_by pen) (shown picture.now) y (columns_of (shown picture.now)) }
     ensures utf8 { IsUtf8 (take result line.new) }
@@ -118,13 +119,13 @@ fn write_rectangle(
     at: (usize, usize),
     count: usize,
 ) -> usize
-    requires room { start + 16 ≤ length line.old }
+    requires room { start + 17 ≤ length line.old }
     requires column { at.0 ≤ MAX_COLUMNS }
     requires row { at.1 ≤ MAX_COLUMNS }
     requires few { count ≤ MAX_COLUMNS }
     ensures text { take result line.new
         ≡ take start line.old ++ rectangle_by pen at.0 at.1 count }
-    ensures within { result ≤ start + 16 }
+    ensures within { result ≤ start + 17 }
 {
     match pen {
         Pen::Svg => {
@@ -145,7 +146,40 @@ fn write_rectangle(
             let end = write_byte(line, end, b'r');
             write_byte(line, end, b'\n')
         }
+        Pen::Pdf => write_pdf_rectangle(line, start, at, count),
     }
+}
+
+/// Writes the rectangle of PDF of some modules of a row, and returns where it ends.
+#[tactic(auto, unfolding(crate::specs::Pdf::pdf_rectangle))]
+fn write_pdf_rectangle(line: &mut [u8], start: usize, at: (usize, usize), count: usize) -> usize
+    requires room { start + 17 ≤ length line.old }
+    requires column { at.0 ≤ MAX_COLUMNS }
+    requires row { at.1 ≤ MAX_COLUMNS }
+    requires few { count ≤ MAX_COLUMNS }
+    ensures text { take result line.new ≡ take start line.old ++ pdf_rectangle at.0 at.1 count }
+    ensures within { result ≤ start + 17 }
+{
+    let end = write_number(line, start, at.0);
+    let end = write_byte(line, end, b' ');
+    let end = write_number(line, end, at.1);
+    let end = write_byte(line, end, b' ');
+    let end = write_number(line, end, count);
+    write_height(line, end)
+}
+
+/// Writes the height of a rectangle of PDF and its operator, and returns where they end.
+fn write_height(line: &mut [u8], start: usize) -> usize
+    requires { start + 6 ≤ length line.old }
+    ensures text { take result line.new ≡ take start line.old ++ codes " 1 re\n" }
+    ensures next { result ≡ start + 6 }
+{
+    let end = write_byte(line, start, b' ');
+    let end = write_byte(line, end, b'1');
+    let end = write_byte(line, end, b' ');
+    let end = write_byte(line, end, b'r');
+    let end = write_byte(line, end, b'e');
+    write_byte(line, end, b'\n')
 }
 
 /// Writes a byte, and returns where it ends.

@@ -5,4 +5,5 @@
 pub(crate) enum Pen {
     Svg,
     Eps,
+    Pdf,
 }

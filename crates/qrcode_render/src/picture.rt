@@ -117,10 +117,7 @@ impl<'a> Picture<'a> {
     }
 
     /// Returns the picture of a grid of a type that the caller knows, as `of_grid` does.
-    pub(crate) fn of_source<S: ModuleSource>(
-        code: &'a S,
-        options: RenderOptions,
-    ) -> Option<Picture<'a>>
+    pub fn of_source<S: ModuleSource>(code: &'a S, options: RenderOptions) -> Option<Picture<'a>>
         ensures shown { IfSome result (λ drawn.
             shown drawn ≡ picture (S.grid code.now) options.scale options.quiet) }
         ensures small { IsSome result ↔ IsDrawable (S.grid code.now) }

@@ -1,4 +1,4 @@
-//! The renderers `Svg`, `Png`, `Pbm`, `Eps`, `EscPos`, `Zpl` and `Terminal`, for a registry.
+//! The renderers `Svg`, `Png`, `Pbm`, `Eps`, `EscPos`, `Zpl`, `Pdf` and `Terminal`, for a registry.
 //!
 //! Each takes the options that its `Format` has (`Format::has`), by the names of the settings, with
 //! texts that `config` describes, and returns what `draw` does. It fails with `InvalidConfig` and
@@ -46,6 +46,11 @@ pub struct EscPos;
 /// is given, and the picture is at the upper left corner of the label, unless the option `at` is.
 #[derive(Debug, Drop)]
 pub struct Zpl;
+
+/// A renderer of PDF documents of one page, as bytes. A module is 8 points wide, unless the option
+/// `scale` is given.
+#[derive(Debug, Drop)]
+pub struct Pdf;
 
 /// A renderer of text for a terminal, with two rows of pixels in a line. A module is one pixel
 /// wide, unless the option `scale` is given.
@@ -163,6 +168,25 @@ impl DynRenderer for Zpl {
 
     fn validate_config(&self, alloc: Global, config: &RenderConfig) -> Result<(), PluginError> {
         validate_as(alloc, Format::Zpl, config)
+    }
+}
+
+impl DynRenderer for Pdf {
+    ghost renders = { λ _. Renders Format.Pdf };
+
+    ghost validates = { λ _. Validates Format.Pdf };
+
+    fn render(
+        &self,
+        alloc: Global,
+        code: &dyn ModuleSource,
+        config: &RenderConfig,
+    ) -> Result<RenderOutput, PluginError> {
+        render_as(alloc, Format::Pdf, code, config)
+    }
+
+    fn validate_config(&self, alloc: Global, config: &RenderConfig) -> Result<(), PluginError> {
+        validate_as(alloc, Format::Pdf, config)
     }
 }
 

@@ -12,15 +12,16 @@ pub struct Settings<'a> {
     pub scale: Option<usize>,
     /// The width of the quiet zone in modules, 0 to 16.
     pub quiet: Option<usize>,
-    /// The width of a module in hundredths of a millimetre, 5 to 1,000: of SVG, PNG and EPS.
+    /// The width of a module in hundredths of a millimetre, 5 to 1,000: of SVG, PNG, EPS and
+    /// PDF.
     pub module_mm: Option<usize>,
     /// The number of pixels in an inch, 50 to 2,400: of PNG, and not beside `module_mm`.
     pub dpi: Option<usize>,
     /// Whether the light pixels are filled, for a dark screen: of `Terminal`.
     pub inverted: bool,
-    /// The title, a text of the characters that XML 1.0 allows: of SVG; of PNG, if it has at most
-    /// 1,000,000 bytes; and of EPS, if it takes at most 244 characters there, where a character
-    /// that is none of ASCII takes 8 to 16.
+    /// The title, a text of the characters that XML 1.0 allows: of SVG; of PNG and PDF, if it has
+    /// at most 1,000,000 bytes; and of EPS, if it takes at most 244 characters there, where a
+    /// character that is none of ASCII takes 8 to 16.
     pub title: Option<&'a str>,
     /// The position of the upper left corner on the label in dots, each 0 to 18,000: of ZPL.
     pub at: Option<(usize, usize)>,
@@ -33,7 +34,7 @@ pub struct Settings<'a> {
     /// Whether the paper is cut after the picture: of ESC/POS.
     pub cut: bool,
     /// The colours of the dark modules and of the ground, which a reader must be able to
-    /// distinguish (`Colors::are_readable`): of SVG, PNG and EPS.
+    /// distinguish (`Colors::are_readable`): of SVG, PNG, EPS and PDF.
     pub colors: Colors,
     /// Whether the colours may be any: of the same.
     pub any_colors: bool,

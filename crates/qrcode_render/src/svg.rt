@@ -186,7 +186,7 @@ fn hex_color(alloc: Global, color: Rgb) -> Result<String, AllocError>
 }
 
 /// Appends the two hexadecimal digits of a byte.
-fn push_byte(text: &mut String, byte: u8) -> Result<(), AllocError>
+pub(crate) fn push_byte(text: &mut String, byte: u8) -> Result<(), AllocError>
     ensures { OnOk result (string_bytes text.new ≡ string_bytes text.old ++ hex_pair byte) }
 {
     push_digit(text, byte / 16)?;

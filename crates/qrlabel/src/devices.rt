@@ -4,11 +4,10 @@
 //! is given.
 ghost use Rattle.std.specs.Prelude.{◌≡◌, IsFalse};
 
-use crate::command::{Command, Portion, command_of};
 use crate::folder::Folder;
 use crate::progress::Counting;
-use crate::run::{LEFT_OUT, misused, run};
-use crate::words::{Name, Values};
+use label_words::{Command, Name, Portion, Values, command_of};
+use labels::{LEFT_OUT, misused, run};
 use programs::{Fault, FromReader, FromWriter, Sink, Source, WholeFile, report, report_device};
 use std::alloc::AllocError;
 use std::fs::File;

@@ -1,7 +1,7 @@
 //! The files of the process.
 ghost use Rattle.std.specs.Prelude.{◌≡◌, None, is_some, refl};
 
-use crate::files::Files;
+use labels::Files;
 use programs::put_file;
 use std::io::ErrorKind;
 

@@ -1,53 +1,17 @@
 //! `qrlabel` draws the symbol of a text, a file or its input as a picture.
 //!
-//! 1. Read the words (`words`), and find out what they ask for (`command`, `choices`,
-//!    `settings`).
-//! 2. Open the devices that they name (`devices`).
-//! 3. Make the symbol of the input (`content`, `element`) or of each of its lines (`lines`), and
-//!    write its picture (`label`, `colors`, `run`), by the crate `qrcode_render`.
-//! 4. Say what went wrong, if something did (`misuse`, `report`, `room`).
+//! 1. Read the words, and find out what they ask for (crate `label_words`).
+//! 2. Open the devices that they name (`devices`, with files in `folder` and `progress`).
+//! 3. Draw the labels, and say what went wrong, if something did (crate `labels`).
 #![tactic(auto)]
 
-mod choices;
-mod colors;
-mod command;
-mod content;
-mod details;
 mod devices;
-mod element;
-mod files;
 mod folder;
-mod help;
-mod label;
-#[cfg(test)]
-mod line_tests;
-mod lines;
-mod misuse;
-mod names;
-mod part_files;
-#[cfg(test)]
-mod part_tests;
-mod parts;
-mod portion;
 mod progress;
-mod report;
-mod room;
-mod run;
-mod settings;
-mod stop;
-#[cfg(test)]
-mod test_files;
-#[cfg(test)]
-mod tests;
-mod turned;
-mod whole;
-#[cfg(test)]
-mod word_tests;
-mod words;
 
 use crate::devices::run_on_devices;
-use crate::run::misused;
-use crate::words::read_words;
+use label_words::read_words;
+use labels::misused;
 use programs::{FromWriter, lent_words, report, valid_arguments, write_line};
 use std::process::ExitCode;
 

@@ -1,8 +1,8 @@
 //! The number of labels, written while they are drawn.
 ghost use Rattle.std.specs.Prelude.{◌≡◌};
 
-use crate::files::Files;
 use itoa::Buffer;
+use labels::Files;
 use programs::{Sink, write_all};
 use std::io::ErrorKind;
 
@@ -19,7 +19,7 @@ pub struct Counting<W, E> {
 }
 
 impl<W, E: Sink> Counting<W, E> {
-    /// Returns a place for labels that, if numbers are shown, writes them on the second.
+    /// Passes labels on to `labels`, and prints every hundredth count on `numbers` if `is_shown`.
     pub fn new(labels: W, numbers: E, is_shown: bool) -> Counting<W, E>
         ensures { result.labels ≡ labels }
     {

@@ -178,9 +178,9 @@ fn sixths(mode: Mode) -> usize
     }
 }
 
-/// Returns whether some bytes are plainly too many for the capacity of a version, so that no plan
-/// need be sought: no mode takes fewer than ten bits for three bytes, and no plan takes fewer bits
-/// for a byte than the mode of its segment does.
+/// A quick test: returns `true` only if no plan of the bytes fits the version. No mode takes fewer
+/// than ten bits for three bytes, and no plan takes fewer bits for a byte than the mode of its
+/// segment does.
 fn is_too_heavy(
     bytes: &[u8],
     segments: &[Segment],

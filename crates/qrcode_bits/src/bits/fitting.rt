@@ -148,8 +148,8 @@ fn fitting_between(
 
 /// Returns two numbers of bytes, the first less than the second: up to the first, whole units of
 /// the data fit some version of at most `max_version` after the front, and from the second on they
-/// do not. No units end between the two. Data are parsed as their content wants it, and their units
-/// with them.
+/// do not. No units end between the two. Texts and elements are parsed by `parsed_bytes`; units are
+/// those of the parsed bytes.
 ///
 /// Fails with `OutOfMemory` if an allocation fails.
 pub fn fitting_range(

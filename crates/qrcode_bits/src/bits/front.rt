@@ -1,4 +1,4 @@
-//! What a symbol says before its data: the header of a sequence, and what the data are (ISO/IEC
+//! The headers before the data: Structured Append, and ECI or FNC1 by what the data are (ISO/IEC
 //! 18004:2006, "Structured Append", "Extended Channel Interpretation (ECI) mode" and "FNC1 mode").
 //!
 //! ```text
@@ -65,7 +65,8 @@ impl SequenceHeader {
     }
 }
 
-/// What a symbol says before its data: a header if it is one of a sequence, and the content.
+/// The headers before the data: Structured Append if it is a symbol of a sequence, and ECI or FNC1
+/// by the content.
 #[derive(Drop)]
 pub struct Front {
     header: Option<SequenceHeader>,

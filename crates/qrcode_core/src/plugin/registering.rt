@@ -48,7 +48,7 @@ impl PluginRegistry {
             with_registration (registered self.old) (renderer_of name.now renderer)) }
         ensures replaced { IfOk result (λ old.
             old ≡ at_key (registered self.old).renderers name.now) }
-        ensures refused { OnErr result (registered self.new ≡ registered self.old) }
+        ensures unchanged { OnErr result (registered self.new ≡ registered self.old) }
         ensures memory { IsOkUnless result OutOfMemory }
     {
         let key = String::from_str(self.alloc, name)?;
@@ -67,7 +67,7 @@ impl PluginRegistry {
             with_registration (registered self.old) (encoder_of name.now encoder)) }
         ensures replaced { IfOk result (λ old.
             old ≡ at_key (registered self.old).encoders name.now) }
-        ensures refused { OnErr result (registered self.new ≡ registered self.old) }
+        ensures unchanged { OnErr result (registered self.new ≡ registered self.old) }
         ensures memory { IsOkUnless result OutOfMemory }
     {
         let key = String::from_str(self.alloc, name)?;
@@ -83,7 +83,7 @@ impl PluginRegistry {
     ) -> Result<(), PluginError>
         ensures ok { OnOk result (registered self.new ≡
             with_registration (registered self.old) (postprocessor_of postprocessor)) }
-        ensures refused { OnErr result (registered self.new ≡ registered self.old) }
+        ensures unchanged { OnErr result (registered self.new ≡ registered self.old) }
         ensures memory { IsOkUnless result OutOfMemory }
     {
         self.postprocessors.push(postprocessor)?;
@@ -114,7 +114,7 @@ impl PluginRegistry {
             with_registration (registered self.old) (renderer_of (string_bytes name) renderer)) }
         ensures replaced { IfOk result (λ old.
             old ≡ at_key (registered self.old).renderers (string_bytes name)) }
-        ensures refused { OnErr result (registered self.new ≡ registered self.old) }
+        ensures unchanged { OnErr result (registered self.new ≡ registered self.old) }
         ensures memory { IsOkUnless result OutOfMemory }
     {
         let replaced = self.renderers.insert(name, renderer)?;
@@ -157,7 +157,7 @@ impl PluginRegistry {
             with_registration (registered self.old) (encoder_of (string_bytes name) encoder)) }
         ensures replaced { IfOk result (λ old.
             old ≡ at_key (registered self.old).encoders (string_bytes name)) }
-        ensures refused { OnErr result (registered self.new ≡ registered self.old) }
+        ensures unchanged { OnErr result (registered self.new ≡ registered self.old) }
         ensures memory { IsOkUnless result OutOfMemory }
     {
         let replaced = self.encoders.insert(name, encoder)?;

@@ -180,7 +180,7 @@ impl Cell {
     }
 }
 
-/// Writes a module that was lent into its place. Whoever then draws over the cells reads it again.
+/// Writes the lent module back. Whoever then draws over the cells reads it again.
 #[inline(always)]
 pub fn settle(cells: &mut [Cell], lent: usize, slot: Module)
     requires within { lent < length cells.old }

@@ -44,7 +44,7 @@ impl Canvas {
     /// place, because the penalties are counted over the list of modules.
     ///
     /// The scratch list has four parts: the candidates, twelve rows of mask conditions, the
-    /// candidates within light modules, and the edges. The last two have 14 more rows than the grid
+    /// candidates within light modules, and the twins. The last two have 14 more rows than the grid
     /// and 256 more bytes, because counting reads whole blocks of 256. A long list reserves 400 KB,
     /// of which only the used part is touched. Otherwise glibc would give memory back to the system
     /// after each symbol: it does so where more than 128 KB are free at the end of the heap, and

@@ -2,7 +2,7 @@
 //! bit m of a byte is the colour in candidate m (1 is dark).
 //!
 //! 1. Write the eight candidates (`masks`).
-//! 2. For each direction, mark the edges between modules of one colour (`lists`).
+//! 2. For each direction, mark the twins: modules that have the colour of the next (`lists`).
 //! 3. Count runs, finder-like patterns, squares and dark modules in all candidates (`counting`),
 //!    and add up their penalties.
 ghost use Rattle.std.specs.Prelude.{◌≡◌, ℕ, ◌+◌, ◌*◌, ◌<◌, ◌≤◌, length, map, slice_index, take};
@@ -21,30 +21,30 @@ mod planes;
 use crate::canvas::cells::Cell;
 use crate::canvas::masks::write_candidates;
 use crate::canvas::scoring::counting::{count, count_runs};
-use crate::canvas::scoring::lists::{Feature, write_edges, write_padded};
+use crate::canvas::scoring::lists::{Feature, write_padded, write_twins};
 use qrcode_base::types::{Color, Version};
 
-/// Returns the penalty of the rows or of the columns in each candidate, from their edges. A run
-/// begins one place more with five equal modules than with six, and one five less at each end. The
-/// function is instantiated once per direction so that the compiler knows that the step of rows
-/// is 1.
+/// Returns the penalty of the rows or of the columns in each candidate. A run of n >= 5 modules has
+/// n - 4 fives and n - 5 sixes, so that three points for a five and two less for a six are n - 2, the
+/// points of the standard. The function is instantiated once per direction so that the compiler
+/// knows that the step of rows is 1.
 #[inline(never)]
 fn penalties_of_lines<const ROWS: bool>(
     width: usize,
     step: usize,
     padded: &[u8],
-    edges: &[u8],
+    twins: &[u8],
 ) -> [usize; 8]
     requires wide { width ≤ 177 }
     requires step { step ≡ (if ROWS then 1 else width + 4) }
     requires padded { length padded.now ≡ list_length width }
-    requires edges { length edges.now ≡ list_length width }
+    requires twins { length twins.now ≡ list_length width }
     ensures is { (m : ℕ) → m < 8 →
-        slice_index result m ≡ lines_penalty width step (plane m padded.now) (plane m edges.now) }
+        slice_index result m ≡ lines_penalty width step (plane m padded.now) (plane m twins.now) }
     ensures small { (m : ℕ) → m < 8 → slice_index result m ≤ 2000000 }
 {
-    let (fives, sixes) = count_runs(width, step, edges);
-    let finders = count(Feature::Finder, width, step, padded, edges);
+    let (fives, sixes) = count_runs(width, step, twins);
+    let finders = count(Feature::Finder, width, step, padded, twins);
     let mut penalties = [0; 8];
     for m in 0..8 {
         penalties[m] = 3 * fives[m] - 2 * sixes[m] + 40 * finders[m];
@@ -52,31 +52,31 @@ fn penalties_of_lines<const ROWS: bool>(
     penalties
 }
 
-/// Returns the penalties of eight candidates of a Normal symbol. `padded` and `edges` are scratch
+/// Returns the penalties of eight candidates of a Normal symbol. `padded` and `twins` are scratch
 /// lists of zeros.
 #[inline(never)]
 pub fn penalties_of_normal(
     width: usize,
     grid: &[u8],
     padded: &mut [u8],
-    edges: &mut [u8],
+    twins: &mut [u8],
 ) -> [usize; 8]
     requires wide { (16 ≤ width) × (width ≤ 177) }
     requires square { length grid.now ≡ width * width }
     requires padded { length padded.old ≡ list_length width }
-    requires edges { length edges.old ≡ list_length width }
+    requires twins { length twins.old ≡ list_length width }
     requires light { (k : ℕ) → slice_index padded.old k ≡ 0 }
-    requires none { (k : ℕ) → slice_index edges.old k ≡ 0 }
+    requires none { (k : ℕ) → slice_index twins.old k ≡ 0 }
     ensures { (m : ℕ) → m < 8 → slice_index result m ≡ normal_penalty width (plane m grid.now) }
 {
     let stride = width + 4;
     write_padded(width, grid, padded);
-    write_edges(width, stride, width, width - 1, padded, edges);
-    let columns = penalties_of_lines::<false>(width, stride, padded, edges);
-    write_edges(width, 1, width - 1, width, padded, edges);
-    let rows = penalties_of_lines::<true>(width, 1, padded, edges);
-    let squares = count(Feature::Square, width, 1, padded, edges);
-    let darks = count(Feature::Dark, width, 1, padded, edges);
+    write_twins(width, stride, width, width - 1, padded, twins);
+    let columns = penalties_of_lines::<false>(width, stride, padded, twins);
+    write_twins(width, 1, width - 1, width, padded, twins);
+    let rows = penalties_of_lines::<true>(width, 1, padded, twins);
+    let squares = count(Feature::Square, width, 1, padded, twins);
+    let darks = count(Feature::Dark, width, 1, padded, twins);
     let mut penalties = [0; 8];
     for m in 0..8 {
         let balance = (200 * darks[m] / (width * width)).abs_diff(100);
@@ -130,10 +130,10 @@ pub fn penalties_of(
 {
     let (grid, rest) = scratch.split_at_mut(width * width);
     let (stripes, lists) = rest.split_at_mut(12 * width + 6);
-    let (padded, edges) = lists.split_at_mut(lists.len() / 2);
+    let (padded, twins) = lists.split_at_mut(lists.len() / 2);
     write_candidates(modules, version, width, words, stripes, grid);
     match version {
-        Version::Normal(_) => penalties_of_normal(width, grid, padded, edges),
+        Version::Normal(_) => penalties_of_normal(width, grid, padded, twins),
         Version::Micro(_) => penalties_of_micro(width, grid),
     }
 }

@@ -6,12 +6,12 @@ use Rattle.qrcode_c.proofs.picture.write_picture.Goals as goal
 
 pub returns-clause-held : goal.returns-clause-held
 returns-clause-held c =
-    held c.write.result c.args.modules.now c.args.width c.args.format c.args.settings.now c.args.buffer.now c.write.new.buffer
+    held c.write_bytes.result c.args.modules.now c.args.width c.args.format c.args.settings.now c.args.buffer.now c.write_bytes.new.buffer
     c.in_ok-bytes.bytes.items c.deref.result.now c.len.result (rw (to_z-of_z w32 c.args.format c.ranges.format) at c.in_ok-bytes.ensures.shown)
-    (omega (arith, c.len.ensures, c.in_ok-bytes.bytes.ok)) c.deref.ensures.value c.write.ensures.written
+    (omega (arith, c.len.ensures, c.in_ok-bytes.bytes.ok)) c.deref.ensures.value c.write_bytes.ensures.written
 
 pub returns-clause-refused : goal.returns-clause-refused
 returns-clause-refused c =
-    refused c.write.result c.args.modules.now c.args.width c.args.format c.args.settings.now c.args.buffer.now
+    refused c.write_bytes.result c.args.modules.now c.args.width c.args.format c.args.settings.now c.args.buffer.now
     c.in_ok-bytes.bytes.items c.deref.result.now c.len.result (rw (to_z-of_z w32 c.args.format c.ranges.format) at c.in_ok-bytes.ensures.shown)
-    (omega (arith, c.len.ensures, c.in_ok-bytes.bytes.ok)) c.deref.ensures.value c.write.ensures.short c.write.ensures.room
+    (omega (arith, c.len.ensures, c.in_ok-bytes.bytes.ok)) c.deref.ensures.value c.write_bytes.ensures.short c.write_bytes.ensures.room

@@ -116,20 +116,20 @@ pub fn totals(tally: Tally) -> [usize; 8]
 
 /// Returns the number of places with a feature, in each candidate.
 #[inline(always)]
-pub fn count(feature: Feature, width: usize, step: usize, padded: &[u8], edges: &[u8]) -> [usize; 8]
+pub fn count(feature: Feature, width: usize, step: usize, padded: &[u8], twins: &[u8]) -> [usize; 8]
     requires wide { width ≤ 177 }
     requires step { step ≤ width + 4 }
     requires padded { length padded.now ≡ list_length width }
-    requires edges { length edges.now ≡ list_length width }
+    requires twins { length twins.now ≡ list_length width }
     ensures is { (m : ℕ) → m < 8 → slice_index result m ≡ count_below
-        (has feature width step (plane m padded.now) (plane m edges.now)) (places width) }
+        (has feature width step (plane m padded.now) (plane m twins.now)) (places width) }
     ensures small { (m : ℕ) → m < 8 → slice_index result m ≤ 40000 }
 {
     let mut rows = [u8x16::splat(0); 16];
     let mut tally = no_bits();
     for chunk in 0..(width * (width + 4) + 255) / 256 {
         for i in 0..16 {
-            rows[i] = places_of(feature, width, step, padded, edges, 256 * chunk + 16 * i);
+            rows[i] = places_of(feature, width, step, padded, twins, 256 * chunk + 16 * i);
         }
         tally = add_rows(tally, &rows);
     }
@@ -139,14 +139,14 @@ pub fn count(feature: Feature, width: usize, step: usize, padded: &[u8], edges: 
 /// Returns the number of places at which five modules of one colour begin, and at which six begin,
 /// in each candidate.
 #[inline(always)]
-pub fn count_runs(width: usize, step: usize, edges: &[u8]) -> ([usize; 8], [usize; 8])
+pub fn count_runs(width: usize, step: usize, twins: &[u8]) -> ([usize; 8], [usize; 8])
     requires wide { width ≤ 177 }
     requires step { step ≤ width + 4 }
-    requires edges { length edges.now ≡ list_length width }
+    requires twins { length twins.now ≡ list_length width }
     ensures fives { (m : ℕ) → m < 8 →
-        slice_index result.0 m ≡ count_below (has_five step (plane m edges.now)) (places width) }
+        slice_index result.0 m ≡ count_below (has_five step (plane m twins.now)) (places width) }
     ensures sixes { (m : ℕ) → m < 8 →
-        slice_index result.1 m ≡ count_below (has_six step (plane m edges.now)) (places width) }
+        slice_index result.1 m ≡ count_below (has_six step (plane m twins.now)) (places width) }
     ensures fewer { (m : ℕ) → m < 8 → slice_index result.1 m ≤ slice_index result.0 m }
     ensures small { (m : ℕ) → m < 8 → slice_index result.0 m ≤ 40000 }
 {
@@ -158,12 +158,12 @@ pub fn count_runs(width: usize, step: usize, edges: &[u8]) -> ([usize; 8], [usiz
     for chunk in 0..(width * (width + 4) + 255) / 256 {
         for i in 0..16 {
             let at = 256 * chunk + 16 * i;
-            let begun = dark(edges, step, at, 0)
-                & dark(edges, step, at, 1)
-                & dark(edges, step, at, 2)
-                & dark(edges, step, at, 3);
+            let begun = dark(twins, step, at, 0)
+                & dark(twins, step, at, 1)
+                & dark(twins, step, at, 2)
+                & dark(twins, step, at, 3);
             five[i] = begun;
-            six[i] = begun & dark(edges, step, at, 4);
+            six[i] = begun & dark(twins, step, at, 4);
         }
         fives = add_rows(fives, &five);
         sixes = add_rows(sixes, &six);

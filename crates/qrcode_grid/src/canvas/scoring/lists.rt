@@ -1,12 +1,12 @@
 //! The lists in which the penalties are counted, and tests of sixteen neighbouring places in eight
 //! candidates at once.
 //!
-//! The padded list is the grid within light modules, and the edges mark where a module and the next
+//! The padded list is the grid within light modules, and the twins mark where a module and the next
 //! one in a direction have the same colour. Row y of both lists begins at y times the stride, which
 //! is the width plus four, and the grid begins four rows down in the padded list.
 ghost use Rattle.std.specs.Prelude.{◌≡◌, if◌then◌else◌, ℕ, ◌+◌, ◌*◌, ◌<◌, ◌≤◌, length, slice_index, ◌==◌};
 ghost use Rattle.std.specs.Int.{bit_at};
-ghost use Rattle.qrcode_grid.specs.Scoring.{AreEdges, IsPadded, is_same, list_length, plane, stride, Marks, cell, has};
+ghost use Rattle.qrcode_grid.specs.Scoring.{AreTwins, IsPadded, is_same, list_length, plane, stride, Marks, cell, has};
 ghost use Rattle.qrcode_grid.specs.Scoring.{has_finder, has_five, has_six, has_square, is_quiet};
 
 use std::simd::prelude::*;
@@ -29,35 +29,35 @@ pub fn write_padded(width: usize, grid: &[u8], padded: &mut [u8])
 /// Writes which modules of the first `columns` columns and `rows` rows have the same colour as the
 /// module one step further, sixteen places at a time, and zeros to the right of them and below.
 #[inline(always)]
-pub fn write_edges(
+pub fn write_twins(
     width: usize,
     step: usize,
     columns: usize,
     rows: usize,
     padded: &[u8],
-    edges: &mut [u8],
+    twins: &mut [u8],
 )
     requires wide { (16 ≤ width) × (width ≤ 177) }
     requires step { step ≤ width + 4 }
     requires columns { columns ≤ width }
     requires rows { rows ≤ width }
     requires padded { length padded.now ≡ list_length width }
-    requires edges { length edges.old ≡ list_length width }
-    requires none { (k : ℕ) → rows * stride width ≤ k → slice_index edges.old k ≡ 0 }
-    ensures edges { (m : ℕ) → m < 8 →
-        AreEdges width step columns rows (plane m padded.now) (plane m edges.new) }
-    ensures none { (k : ℕ) → rows * stride width ≤ k → slice_index edges.new k ≡ 0 }
+    requires twins { length twins.old ≡ list_length width }
+    requires none { (k : ℕ) → rows * stride width ≤ k → slice_index twins.old k ≡ 0 }
+    ensures twins { (m : ℕ) → m < 8 →
+        AreTwins width step columns rows (plane m padded.now) (plane m twins.new) }
+    ensures none { (k : ℕ) → rows * stride width ≤ k → slice_index twins.new k ≡ 0 }
 {
     let stride = width + 4;
     let count = rows * stride;
     for part in 0..(count + 15) / 16 {
         let lanes = equal_to_next(padded, step, 4 * stride + 16 * part, 0);
-        lanes.copy_to_slice(&mut edges[16 * part..16 * part + 16]);
+        lanes.copy_to_slice(&mut twins[16 * part..16 * part + 16]);
     }
-    u8x16::splat(0).copy_to_slice(&mut edges[count..count + 16]);
+    u8x16::splat(0).copy_to_slice(&mut twins[count..count + 16]);
     for y in 0..rows {
         for x in columns..stride {
-            edges[y * stride + x] = 0;
+            twins[y * stride + x] = 0;
         }
     }
 }
@@ -113,16 +113,16 @@ pub fn places_of(
     width: usize,
     step: usize,
     padded: &[u8],
-    edges: &[u8],
+    twins: &[u8],
     at: usize,
 ) -> u8x16
     requires wide { width ≤ 177 }
     requires step { step ≤ width + 4 }
     requires padded { length padded.now ≡ list_length width }
-    requires edges { length edges.now ≡ list_length width }
+    requires twins { length twins.now ≡ list_length width }
     requires within { at < width * (width + 4) + 240 }
     ensures { Marks result (λ m j.
-        has feature width step (plane m padded.now) (plane m edges.now) (at + j)) }
+        has feature width step (plane m padded.now) (plane m twins.now) (at + j)) }
 {
     let stride = width + 4;
     match feature {
@@ -146,10 +146,10 @@ pub fn places_of(
                 & light(padded, step, at, 14);
             pattern & (before | after)
         }
-        // Both rows have an edge here, and the modules one below the other have the same colour.
+        // Both rows have a twin here, and the modules one below the other have the same colour.
         Feature::Square => {
-            dark(edges, stride, at, 0)
-                & dark(edges, stride, at, 1)
+            dark(twins, stride, at, 0)
+                & dark(twins, stride, at, 1)
                 & equal_to_next(padded, stride, at, 4)
         }
         Feature::Dark => dark(padded, stride, at, 4),

@@ -6,7 +6,7 @@ use Rattle.qrcode_render.proofs.path.write_row.Given as goal
 abbrev pub invariant-runs : goal.invariant-runs
 invariant-runs l = record {
   inside : l.x ≤ columns_of (shown l.picture);
-  room : l.end ≤ 16 * l.x;
+  room : l.end ≤ 17 * l.x;
   dark : l.x < columns_of (shown l.picture) → is_dark_module (shown l.picture) l.x l.y ≡ true;
   begins : l.x < columns_of (shown l.picture) → begins_run (shown l.picture) l.x l.y ≡ true;
   text : take l.end l.line ≡ row_path (rectangle_by l.pen) (shown l.picture) l.y l.x;

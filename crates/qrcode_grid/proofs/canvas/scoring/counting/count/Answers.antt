@@ -5,7 +5,7 @@ use Rattle.qrcode_grid.proofs.canvas.scoring.counting.count.Goals as goal
 pub loop-chunk-preserved : goal.loop-chunk-preserved
 loop-chunk-preserved c =
     let from = 256 * c.loop-chunk.chunk in let a = c.args in
-    let test = λ (m : ℕ). has a.feature a.width a.step (plane m a.padded.now) (plane m a.edges.now) in
+    let test = λ (m : ℕ). has a.feature a.width a.step (plane m a.padded.now) (plane m a.twins.now) in
     let end : from + 16 * 16 ≡ 256 * (c.loop-chunk.chunk + 1) = omega arith in
     record {
       size = c.loop-i.invariant.size;

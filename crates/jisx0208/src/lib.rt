@@ -1,0 +1,86 @@
+//! The characters of JIS X 0208, as the Kanji mode of a QR code writes them
+//! (ISO/IEC 18004:2006, "Kanji mode").
+//!
+//! A character is a number of 13 bits there, which comes from its two bytes in Shift JIS. The
+//! characters are those on which the tables of all vendors agree.
+#![tactic(auto)]
+
+ghost use Rattle.std.specs.Prelude.{◌≡◌, ℕ, IfSome, IsSome, Some, true};
+ghost use Rattle.jisx0208.specs.Characters.{character_in, character_of, is_kanji_pair};
+ghost use Rattle.jisx0208.specs.Characters.{kanji_number, HaveOneNumber};
+ghost use Rattle.jisx0208.specs.Search.{candidate_of, number_in};
+
+mod characters;
+mod numbers;
+mod places;
+#[cfg(test)]
+mod tests;
+
+use characters::CHARACTERS;
+use numbers::NUMBERS;
+use places::PLACES;
+
+/// Returns the character with a number of the Kanji mode, or `None` if there is none.
+#[tactic(auto, unfolding(crate::specs::Characters::character_of))]
+pub fn char_of(kanji: u16) -> Option<char>
+    ensures { result ≡ character_of kanji }
+{
+    character_in(&CHARACTERS, kanji)
+}
+
+/// Returns the number of a character in the Kanji mode, or `None` if it has none.
+#[tactic(auto, using(crate::proofs::Table::is_candidate))]
+pub fn kanji_of(c: char) -> Option<u16>
+    ensures right { IfSome result (λ kanji. character_of kanji ≡ Some c) }
+    ensures found { (kanji : ℕ) → character_of kanji ≡ Some c → result ≡ Some kanji }
+{
+    let kanji = candidate(c);
+    if char_of(kanji) == Some(c) {
+        Some(kanji)
+    } else {
+        None
+    }
+}
+
+/// Returns the two bytes in Shift JIS of the character with a number of the Kanji mode.
+pub fn shift_jis_of(kanji: u16) -> (u8, u8)
+    requires { IsSome (character_of kanji) }
+    ensures pair { is_kanji_pair result.0 result.1 ≡ true }
+    ensures number { kanji_number result.0 result.1 ≡ kanji }
+{
+    let row = kanji / 0xc0;
+    let lead = if row < 31 { 0x81 + row } else { 0xc1 + row };
+    (lead as u8, 0x40 + (kanji % 0xc0) as u8)
+}
+
+/// No character has two numbers.
+#[tactic(auto, using(crate::proofs::Table::one_number))]
+pub fn have_one_number()
+    ensures { HaveOneNumber }
+{}
+
+/// Returns the only number that a code point may have.
+#[tactic(auto, unfolding(crate::specs::Search::candidate_of))]
+fn candidate(c: char) -> u16
+    ensures { result ≡ candidate_of c }
+{
+    number_in(&PLACES, &NUMBERS, c as u32)
+}
+
+/// Returns the character at a place of a table, in which a space stands where there is none.
+#[tactic(auto, unfolding(crate::specs::Characters::character_in))]
+fn character_in(table: &[char], number: u16) -> Option<char>
+    ensures { result ≡ character_in table.now number }
+{
+    let c = *table.get(usize::from(number))?;
+    if c == ' ' { None } else { Some(c) }
+}
+
+/// Returns the number at the place of a code point, or 0 if there is none.
+fn number_in(places: &[u16], numbers: &[u16], c: u32) -> u16
+    ensures { result ≡ number_in places.now numbers.now c }
+{
+    let place = places.get((c / 16) as usize).copied().unwrap_or(0);
+    let at = usize::from(place) + (c % 16) as usize;
+    numbers.get(at).copied().unwrap_or(0)
+}

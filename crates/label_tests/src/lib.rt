@@ -1,0 +1,16 @@
+//! Tests of what `qrlabel` does with words and devices (`label_words`, `labels`). They are in a crate
+//! of their own so that the gate proves the tested crates only once.
+#![tactic(auto)]
+
+#[cfg(test)]
+mod gs1_tests;
+#[cfg(test)]
+mod label_tests;
+#[cfg(test)]
+mod line_tests;
+#[cfg(test)]
+mod part_tests;
+#[cfg(test)]
+mod test_files;
+#[cfg(test)]
+mod word_tests;

@@ -1,0 +1,10 @@
+pub mod Asked
+pub mod Choices
+pub mod Commands
+pub mod Help
+pub mod Misuses
+pub mod Names
+pub mod Numberings
+pub mod Said
+pub mod Settings
+pub mod Words

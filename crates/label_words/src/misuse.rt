@@ -1,0 +1,153 @@
+//! What is wrong with the words, as a line on standard error.
+ghost use Rattle.std.specs.Prelude.{◌≡◌, ◌++◌, ◌∷◌, [], codes, IsFalse};
+ghost use Rattle.programs.specs.Devices.{output, Writes};
+ghost use Rattle.label_words.specs.Misuses.{option_word, values_text, wrong_line};
+ghost use Rattle.label_words.specs.Said.{wrong_of};
+
+use crate::words::{Misuse, Name};
+use programs::{Fault, Sink, write_line};
+
+/// The second line.
+const ADVICE: &str = "\ntry qrlabel --help";
+
+/// What the size of a module can be.
+const MODULE: &str = "\
+0.05 to 10, at most two decimals, for svg, png, eps and pdf; \
+with --dpi for png, zpl and escpos, 1 to 64 whole dots";
+
+/// What the name of the output can be.
+const OUTPUT: &str = "\
+with -f any name, else one that ends with .txt, .svg, .png, .pbm, .eps, .pdf, .escpos or .zpl; \
+for --lines and --split alone with a number, %d or %0Nd, N from 1 to 9";
+
+/// What the labels of lines, or of the parts of a message, need.
+const NEEDS_STREAM: &str = "\
+--lines and --split need -f terminal, pbm, escpos or zpl, or --lines -f pdf, \
+or files as in -o label-%05d.png";
+
+/// Where a message can't be spread over several symbols.
+const SPLIT: &str = "\
+not with --lines, --strongest, --min-version, or -c gs1, gs1-unchecked, link, micro or micro-bytes";
+
+/// What the color of dark modules can be.
+const DARK: &str =
+    "#rrggbb or one of CSS's sixteen names, for svg, png, eps and pdf; lighter colors need --any-colors";
+
+/// What the ground can be.
+const LIGHT: &str =
+    "as --dark, or transparent; in a contrast of 3 at least, unless --any-colors is given";
+
+/// What bytes that are no text need on a terminal.
+const NEEDS_FILE: &str = "png, pbm, pdf and escpos are not for a terminal: give -o FILE, or -o -";
+
+/// Writes what is wrong with the words, and where help is. It fails with `Write` if the
+/// sink failed.
+pub fn write_misuse<E: Sink>(errors: &mut E, misuse: Misuse) -> Result<(), Fault>
+    requires { IsFalse (E.state errors.old).failed }
+    ensures { Writes (output (E.state errors.old) (E.state errors.new))
+        (wrong_line (wrong_of misuse.entry)) }
+{
+    match misuse {
+        Misuse::Unknown(word) => write_line(errors, "qrlabel", &["no option ", word, ADVICE]),
+        Misuse::NoValue(name) => {
+            let option = option_word(name);
+            write_line(errors, "qrlabel", &["no value after ", option, ADVICE])
+        }
+        Misuse::SecondText(word) => {
+            write_line(errors, "qrlabel", &["more than one text: ", word, ADVICE])
+        }
+        Misuse::Invalid(name) => {
+            let (option, values) = (option_word(name), values_text(name));
+            write_line(
+                errors,
+                "qrlabel",
+                &["invalid ", option, ": ", values, ADVICE],
+            )
+        }
+        Misuse::NeedsStream => write_line(errors, "qrlabel", &[NEEDS_STREAM, ADVICE]),
+        Misuse::NeedsFile => write_line(errors, "qrlabel", &[NEEDS_FILE, ADVICE]),
+    }
+}
+
+/// Returns the word of an option.
+fn option_word(name: Name) -> &'static str
+    ensures { result.now ≡ option_word name }
+{
+    match name {
+        Name::Text => "--",
+        Name::Format => "--format",
+        Name::Content => "--content",
+        Name::Level => "--level",
+        Name::Strongest => "--strongest",
+        Name::MinVersion => "--min-version",
+        Name::MaxVersion => "--max-version",
+        Name::Scale => "--scale",
+        Name::Quiet => "--quiet",
+        Name::ModuleMm => "--module-mm",
+        Name::Dpi => "--dpi",
+        Name::Inverted => "--inverted",
+        Name::Title => "--title",
+        Name::At => "--at",
+        Name::Read => "--read",
+        Name::Output => "--output",
+        Name::AllowEmpty => "--allow-empty",
+        Name::Help => "--help",
+        Name::Version => "--version",
+        Name::Lines => "--lines",
+        Name::First => "--first",
+        Name::KeepGoing => "--keep-going",
+        Name::KeepNewline => "--keep-newline",
+        Name::Copies => "--copies",
+        Name::Compressed => "--compressed",
+        Name::Feed => "--feed",
+        Name::Cut => "--cut",
+        Name::Split => "--split",
+        Name::Rotate => "--rotate",
+        Name::Verbose => "--verbose",
+        Name::Info => "--info",
+        Name::Dark => "--dark",
+        Name::Light => "--light",
+        Name::AnyColors => "--any-colors",
+        Name::Domain => "--domain",
+    }
+}
+
+/// Returns what the value of an option can be, and where the option can't be given.
+fn values_text(name: Name) -> &'static str
+    ensures { result.now ≡ values_text name }
+{
+    match name {
+        Name::Format => "terminal, svg, png, pbm, eps, pdf, escpos or zpl",
+        Name::Content => "auto, text, bytes, gs1, gs1-unchecked, link, micro or micro-bytes",
+        Name::Level => "L, M, Q or H; for a Micro symbol L, M or Q",
+        Name::Domain => "a host name, with a port or without, and with -c link",
+        Name::Strongest => "not for a Micro symbol",
+        Name::MinVersion => "1 to 40, not for a Micro symbol",
+        Name::MaxVersion => "1 to 40, at least --min-version, not for a Micro symbol",
+        Name::Scale => "1 to 64, and not with both --module-mm and --dpi",
+        Name::Quiet => "0 to 16",
+        Name::ModuleMm => MODULE,
+        Name::Dpi => "50 to 2400, for png; with --module-mm for zpl and escpos, too",
+        Name::Inverted => "for terminal",
+        Name::Title => "a text without control characters, for svg, png, eps and pdf",
+        Name::At => "X,Y, each 0 to 18000, for zpl",
+        Name::Read => "not with a text",
+        Name::Output => OUTPUT,
+        Name::Lines => "not with a text",
+        Name::First => "0 to 1000000000, with --lines",
+        Name::KeepGoing => "with --lines",
+        Name::Copies => "1 to 99999999, for zpl",
+        Name::Compressed => "for zpl",
+        Name::Feed => "0 to 255, for escpos",
+        Name::Cut => "for escpos",
+        Name::Split => SPLIT,
+        Name::Rotate => "0, 90, 180 or 270",
+        Name::Verbose => "not with --lines, see --info",
+        Name::Info => "not with the name of an output",
+        Name::Dark => DARK,
+        Name::Light => LIGHT,
+        Name::AnyColors => "for svg, png, eps and pdf",
+        Name::Text | Name::AllowEmpty | Name::KeepNewline => "",
+        Name::Help | Name::Version => "",
+    }
+}

@@ -1,0 +1,39 @@
+-- The line is left out, and its rest was read, or reading failed there.
+use Rattle.std.proofs.Common.{arith, rules}
+use Rattle.programs.specs.Lines.{ReadsLine}
+use Rattle.labels.specs.Lines.{IsLeftOut}
+use Rattle.labels.proofs.LabelLemmas.{left_out_short, left_out_long, stops_long, stops_at}
+use Rattle.labels.proofs.lines.next_made.Goals.{then-len+in_ok-skip_line-in-Err, else-len}
+use Rattle.labels.proofs.lines.next_made.Goals as goal
+
+pub returns-after-len-clause-made : goal.returns-after-len-clause-made
+returns-after-len-clause-made g c =
+    let a = (g.R.Source.state c.args.reader.now).left in
+    let b = (g.R.Source.state c.read_line.new.reader).left in
+    let line = c.read_line.new.line.items in
+    let read : ReadsLine a b line = search rules in
+    let out : IsLeftOut c.args.label.now line c.in-Err.stop = record {
+      asked = search rules;
+      stopped = rw (c.deref.ensures.value) at c.in-Err.ensures.refused;
+      of_line = search rules;
+    } in
+    elim c.if-len.branch [
+      | then-len+in_ok-skip_line-in-Err w ↦ rw (w.reader-is) (left_out_long _ _ a b _ line c.in-Err.stop read (search rules) (search rules) out)
+      | else-len w ↦ rw (w.reader-is) (left_out_short _ _ a b line c.in-Err.stop read (search rules) out)
+    ]
+
+pub returns-in_err-skip_line-in-Err-clause-refused : goal.returns-in_err-skip_line-in-Err-clause-refused
+returns-in_err-skip_line-in-Err-clause-refused g c =
+    let a = (g.R.Source.state c.args.reader.now).left in
+    let b = (g.R.Source.state c.read_line.new.reader).left in
+    let line = c.read_line.new.line.items in
+    let read : ReadsLine a b line = search rules in
+    grind (arith, stops_long c.args.label.now a b (g.R.Source.state c.skip_line.new.reader).left line c.in_err-skip_line-in-Err.field-0.0 read)
+
+pub returns-in-Err-2-clause-refused : goal.returns-in-Err-2-clause-refused
+returns-in-Err-2-clause-refused g c =
+    let a = (g.R.Source.state c.args.reader.now).left in
+    let b = (g.R.Source.state c.read_line.new.reader).left in
+    let line = c.read_line.new.line.items in
+    let read : ReadsLine a b line = search rules in
+    stops_at c.args.label.now a b line c.in-Err.stop read (rw (c.deref.ensures.value) at c.in-Err.ensures.refused) (search rules)

@@ -1,0 +1,20 @@
+-- The pieces of a line on standard error.
+use Rattle.std.specs.Prelude.{ℕ, ◌+◌, ◌-◌, ◌^◌, ◌==◌, min, List, [], ◌∷◌, ◌++◌, codes, flat_map}
+use Rattle.std.specs.Prelude.{if◌then◌else◌}
+use Rattle.gs1.specs.Identifiers.{is_decimal_digit}
+
+-- A line after a name: that of the program, or one that details of what the line is.
+abbrev pub line_of : List ℕ → List (List ℕ) → List ℕ
+line_of name pieces = name ++ (codes ": " ++ (flat_map (λ piece. piece) pieces ++ 10 ∷ []))
+
+-- The number of an element, counted from 1, as far as 64 bits go.
+abbrev pub counted : ℕ → ℕ
+counted n = min (n + 1) (2 ^ 64 - 1)
+
+-- A digit as a text; of another byte there is none.
+abbrev pub digit_text : ℕ → List ℕ
+digit_text byte = if is_decimal_digit byte then byte ∷ [] else []
+
+-- A text, or none if a byte is 0: what stands around the identifier of an element, if it is known.
+abbrev pub unless_zero : ℕ → List ℕ → List ℕ
+unless_zero byte text = if byte == 0 then [] else text

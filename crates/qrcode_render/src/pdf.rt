@@ -1,0 +1,52 @@
+//! Pictures as documents of PDF (ISO 32000-1, PDF 1.4), of one page that is as large as the
+//! picture.
+ghost use Rattle.std.specs.Prelude.{◌≡◌, ◌≤◌, [], ◌∷◌, None, IfOk};
+ghost use Rattle.std.specs.Option.{ForSome, option_copied};
+ghost use Rattle.qrcode_render.specs.declared.bounds.TheConstants.{MAX_MODULE_MM};
+ghost use Rattle.qrcode_render.specs.Colors.{no_colors};
+ghost use Rattle.qrcode_render.specs.Pdf.{pdf_document, pdf_page};
+ghost use Rattle.qrcode_render.specs.Shown.{shown};
+
+use crate::colors::{Colors, NO_COLORS};
+use crate::pdf_page::draw_page;
+use crate::pdf_text::{push_end, push_page, start_text};
+use crate::picture::Picture;
+use std::alloc::{AllocError, Global};
+
+/// Returns the picture as a PDF document of one page: a light background, and one path with a
+/// rectangle for each run of dark modules in a row. A module is `scale` points wide, or has the
+/// width in hundredths of a millimetre that is given. It fails only for lack of memory.
+pub fn pdf(
+    alloc: Global,
+    picture: &Picture,
+    module_mm: Option<usize>,
+) -> Result<Vec<u8>, AllocError>
+    requires { ForSome module_mm (λ n. n ≤ MAX_MODULE_MM) }
+    ensures { IfOk result (λ bytes. bytes.items
+        ≡ pdf_document None (pdf_page module_mm no_colors (shown picture.now) ∷ [])) }
+{
+    pdf_document(alloc, picture, module_mm, None, NO_COLORS)
+}
+
+/// Returns the picture as a PDF document of one page, with the width of a module in hundredths of a
+/// millimetre, with a title and with colours, if they are given. A transparent ground is no
+/// background. It fails only for lack of memory.
+pub fn pdf_document(
+    alloc: Global,
+    picture: &Picture,
+    module_mm: Option<usize>,
+    title: Option<&str>,
+    colors: Colors,
+) -> Result<Vec<u8>, AllocError>
+    requires { ForSome module_mm (λ n. n ≤ MAX_MODULE_MM) }
+    ensures { IfOk result (λ bytes. bytes.items ≡ pdf_document (option_copied title.entry)
+        (pdf_page module_mm colors (shown picture.now) ∷ [])) }
+{
+    let page = draw_page(alloc, picture, module_mm, colors)?;
+    let mut bytes = start_text(alloc, title)?;
+    let start = bytes.len();
+    let first = push_page(alloc, &mut bytes, 4, &page)?;
+    let size = bytes.len();
+    push_end(alloc, &mut bytes, size, &[start, start + first])?;
+    Ok(bytes)
+}

@@ -1,0 +1,165 @@
+//! Pictures as content streams of PDF.
+ghost use Rattle.std.specs.Prelude.{◌≡◌, ◌≤◌, ◌++◌, IfOk};
+ghost use Rattle.std.specs.Option.{ForSome};
+ghost use Rattle.std.specs.String.{string_bytes};
+ghost use Rattle.qrcode_render.specs.declared.bounds.TheConstants.{MAX_COLUMNS, MAX_MODULE_MM};
+ghost use Rattle.qrcode_render.specs.declared.bounds.TheConstants.{MAX_SCALE};
+ghost use Rattle.qrcode_render.specs.Pdf.{color_part, millionths, module_width, page_side};
+ghost use Rattle.qrcode_render.specs.Pdf.{pdf_color, pdf_fill, pdf_ground, pdf_ink, pdf_units};
+ghost use Rattle.qrcode_render.specs.Pdf.{pdf_page};
+ghost use Rattle.qrcode_render.specs.PdfPages.{page_of};
+ghost use Rattle.qrcode_render.specs.Shown.{shown};
+
+use crate::colors::{Colors, Ground, Rgb};
+use crate::eps::{exact_side, thousandths};
+use crate::path::push_path;
+use crate::pen::Pen;
+use crate::picture::Picture;
+use std::alloc::{AllocError, Global};
+
+/// A page: its sides in points, and what its content stream has.
+#[derive(Debug, Drop)]
+pub(crate) struct Page {
+    pub width: String,
+    pub height: String,
+    pub content: String,
+}
+
+/// Returns the page of a picture, with the width of a module in hundredths of a millimetre and with
+/// colours, if they are given.
+pub(crate) fn draw_page(
+    alloc: Global,
+    picture: &Picture,
+    module_mm: Option<usize>,
+    colors: Colors,
+) -> Result<Page, AllocError>
+    requires { ForSome module_mm (λ n. n ≤ MAX_MODULE_MM) }
+    ensures { IfOk result (λ page. page_of page ≡ pdf_page module_mm colors (shown picture.now)) }
+{
+    let scale = picture.scale();
+    let width = page_side(alloc, module_mm, scale, picture.columns())?;
+    let height = page_side(alloc, module_mm, scale, picture.rows())?;
+    let mut content = ground(alloc, colors.light, &width, &height)?;
+    let ink = ink(alloc, colors.dark)?;
+    content.push_str(ink.as_str())?;
+    let unit = module_width(alloc, module_mm, scale)?;
+    let units = units(alloc, &unit, &height)?;
+    content.push_str(units.as_str())?;
+    push_path(&mut content, picture, Pen::Pdf)?;
+    content.push_str("f")?;
+    Ok(Page {
+        width,
+        height,
+        content,
+    })
+}
+
+/// Returns a side of the page in points.
+fn page_side(
+    alloc: Global,
+    module_mm: Option<usize>,
+    scale: usize,
+    modules: usize,
+) -> Result<String, AllocError>
+    requires small { ForSome module_mm (λ n. n ≤ MAX_MODULE_MM) }
+    requires small_scale { scale ≤ MAX_SCALE }
+    requires few { modules ≤ MAX_COLUMNS }
+    ensures { IfOk result (λ text. string_bytes text ≡ page_side module_mm scale modules) }
+{
+    match module_mm {
+        Some(module_mm) => exact_side(alloc, module_mm, modules),
+        None => {
+            let side = modules * scale;
+            format!(in alloc; "{side}")
+        }
+    }
+}
+
+/// Returns the width of a module in points.
+fn module_width(alloc: Global, module_mm: Option<usize>, scale: usize) -> Result<String, AllocError>
+    requires { ForSome module_mm (λ n. n ≤ MAX_MODULE_MM) }
+    ensures { IfOk result (λ text. string_bytes text ≡ module_width module_mm scale) }
+{
+    match module_mm {
+        Some(module_mm) => millionths(alloc, (2 * (module_mm * 18_000_000) + 635) / 1270),
+        None => format!(in alloc; "{scale}"),
+    }
+}
+
+/// Returns millionths as a decimal number.
+#[tactic(auto, unfolding(crate::specs::Pdf::millionths))]
+fn millionths(alloc: Global, n: usize) -> Result<String, AllocError>
+    ensures { IfOk result (λ text. string_bytes text ≡ millionths n) }
+{
+    let (whole, a, b) = (n / 1_000_000, n / 100_000 % 10, n / 10_000 % 10);
+    let (c, d, e, f) = (n / 1000 % 10, n / 100 % 10, n / 10 % 10, n % 10);
+    format!(in alloc; "{whole}.{a}{b}{c}{d}{e}{f}")
+}
+
+/// Returns the ground: nothing, or a background.
+fn ground(
+    alloc: Global,
+    light: Option<Ground>,
+    width: &str,
+    height: &str,
+) -> Result<String, AllocError>
+    ensures { IfOk result (λ text. string_bytes text ≡ pdf_ground light width.now height.now) }
+{
+    match light {
+        None => fill(alloc, "1 g", width, height),
+        Some(Ground::Transparent) => Ok(String::new(alloc)),
+        Some(Ground::Color(color)) => {
+            let color = pdf_color(alloc, color)?;
+            fill(alloc, &color, width, height)
+        }
+    }
+}
+
+/// Returns the rectangle of the ground.
+#[tactic(auto, unfolding(crate::specs::Pdf::pdf_fill))]
+fn fill(alloc: Global, color: &str, width: &str, height: &str) -> Result<String, AllocError>
+    ensures { IfOk result (λ text.
+        string_bytes text ≡ pdf_fill color.now width.now height.now) }
+{
+    format!(in alloc; "{color} 0 0 {width} {height} re f\n")
+}
+
+/// Returns the colour of the path.
+fn ink(alloc: Global, dark: Option<Rgb>) -> Result<String, AllocError>
+    ensures { IfOk result (λ text. string_bytes text ≡ pdf_ink dark) }
+{
+    match dark {
+        None => String::from_str(alloc, "0 g\n"),
+        Some(color) => {
+            let mut text = pdf_color(alloc, color)?;
+            text.push_str("\n")?;
+            Ok(text)
+        }
+    }
+}
+
+/// Returns a colour.
+#[tactic(auto, unfolding(crate::specs::Pdf::pdf_color))]
+fn pdf_color(alloc: Global, color: Rgb) -> Result<String, AllocError>
+    ensures { IfOk result (λ text. string_bytes text ≡ pdf_color color) }
+{
+    let red = color_part(alloc, color.red)?;
+    let green = color_part(alloc, color.green)?;
+    let blue = color_part(alloc, color.blue)?;
+    format!(in alloc; "{red} {green} {blue} rg")
+}
+
+/// Returns a part of a colour as its share of 255, to the nearest thousandth.
+fn color_part(alloc: Global, value: u8) -> Result<String, AllocError>
+    ensures { IfOk result (λ text. string_bytes text ≡ color_part value) }
+{
+    thousandths(alloc, (2 * (1000 * usize::from(value)) + 255) / 510)
+}
+
+/// Returns the units, which are modules, the rows counted from the top.
+#[tactic(auto, unfolding(crate::specs::Pdf::pdf_units))]
+fn units(alloc: Global, unit: &str, height: &str) -> Result<String, AllocError>
+    ensures { IfOk result (λ text. string_bytes text ≡ pdf_units unit.now height.now) }
+{
+    format!(in alloc; "{unit} 0 0 -{unit} 0 {height} cm\n")
+}

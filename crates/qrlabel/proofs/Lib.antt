@@ -1,5 +1,0 @@
-pub mod DetailsLemmas
-pub mod LabelLemmas
-pub mod PartLemmas
-pub mod StopLemmas
-pub mod WordLemmas

@@ -1,0 +1,22 @@
+//! Tests of pictures (`qrcode_render`) by its public calls. They are in a crate of their own so that
+//! the gate proves the tested crate only once.
+#![tactic(auto)]
+
+#[cfg(test)]
+mod color_tests;
+#[cfg(test)]
+mod compressed_tests;
+#[cfg(test)]
+mod config_tests;
+#[cfg(test)]
+mod format_tests;
+#[cfg(test)]
+mod pdf_tests;
+#[cfg(test)]
+mod png_tests;
+#[cfg(test)]
+mod printer_tests;
+#[cfg(test)]
+mod renderer_tests;
+#[cfg(test)]
+mod title_tests;
