@@ -1,121 +1,110 @@
 //! Tests of labels of GS1 elements and of their links.
-use crate::label_tests::ran;
-use qrcode_core::types::QrError;
+use crate::served::{draw_alike, ran, reports};
 
 /// Inputs that the table of identifiers does not allow, and the line that says why. The check digit
 /// of 0950600013435 is 2, that of 950600013435 also, and 13 is no month.
+static ERRORS: [(&str, &str); 15] = [
+    (
+        "hello",
+        "element 1: the identifier is cut short, or not two to four digits",
+    ),
+    (
+        "0109506000134352(10)AB",
+        "element 2: the identifier is cut short, or not two to four digits",
+    ),
+    ("010950600013435205A", "(05), element 2: unknown identifier"),
+    ("(4399)A", "(4399), element 1: unknown identifier"),
+    ("(10)A(8099)1", "(8099), element 2: unknown identifier"),
+    (
+        "0109506000134353",
+        "(01), element 1, character 14: wrong check digit; the check digit would be 2",
+    ),
+    (
+        "(253)9506000134355",
+        "(253), element 1, character 13: wrong check digit; the check digit would be 2",
+    ),
+    (
+        "(10)A(01)1",
+        "(01), element 2, character 2: the value is too short",
+    ),
+    (
+        "(10)",
+        "(10), element 1, character 1: the value is too short",
+    ),
+    (
+        "(10)123456789012345678901",
+        "(10), element 1, character 21: the value is too long",
+    ),
+    (
+        "(37)ABC",
+        "(37), element 1, character 1: a character that is not allowed there",
+    ),
+    (
+        "10AB|C",
+        "(10), element 1, character 3: a character that is not allowed there",
+    ),
+    ("(17)261301", "(17), element 1, character 3: no such month"),
+    (
+        "(7003)2612",
+        "(7003), element 1, character 5: the value is too short",
+    ),
+    (
+        "no brackets",
+        "element 1: the identifier is cut short, or not two to four digits",
+    ),
+];
+
 #[test]
-fn refuses_by_the_table(rt: HostRuntime) -> Result<(), QrError> {
-    let rows: [(&str, &str); 15] = [
-        (
-            "hello",
-            "element 1: the identifier is cut short, or not two to four digits",
-        ),
-        (
-            "0109506000134352(10)AB",
-            "element 2: the identifier is cut short, or not two to four digits",
-        ),
-        ("010950600013435205A", "(05), element 2: unknown identifier"),
-        ("(4399)A", "(4399), element 1: unknown identifier"),
-        ("(10)A(8099)1", "(8099), element 2: unknown identifier"),
-        (
-            "0109506000134353",
-            "(01), element 1, character 14: wrong check digit; the check digit would be 2",
-        ),
-        (
-            "(253)9506000134355",
-            "(253), element 1, character 13: wrong check digit; the check digit would be 2",
-        ),
-        (
-            "(10)A(01)1",
-            "(01), element 2, character 2: the value is too short",
-        ),
-        (
-            "(10)",
-            "(10), element 1, character 1: the value is too short",
-        ),
-        (
-            "(10)123456789012345678901",
-            "(10), element 1, character 21: the value is too long",
-        ),
-        (
-            "(37)ABC",
-            "(37), element 1, character 1: a character that is not allowed there",
-        ),
-        (
-            "10AB|C",
-            "(10), element 1, character 3: a character that is not allowed there",
-        ),
-        ("(17)261301", "(17), element 1, character 3: no such month"),
-        (
-            "(7003)2612",
-            "(7003), element 1, character 5: the value is too short",
-        ),
-        (
-            "no brackets",
-            "element 1: the identifier is cut short, or not two to four digits",
-        ),
-    ];
-    for (text, line) in rows {
-        let answer = ran(rt.alloc(), &["-c", "gs1"], text.as_bytes());
-        let whole = format!(in rt.alloc(); "qrlabel: {line}\n")?;
-        assert_eq!(rt; answer.status, 1, "{line}");
-        assert_eq!(rt; answer.said.as_slice(), whole.as_bytes(), "{line}");
-        assert_eq!(rt; answer.label.len(), 0, "{line}");
+fn refuses_by_the_table(rt: HostRuntime) {
+    for (text, line) in ERRORS.iter() {
+        assert!(rt;
+            reports(rt.alloc(), &["-c", "gs1"], text.as_bytes(), line),
+            "{line}"
+        );
     }
-    Ok(())
 }
+
+static CHECKED: [&str; 4] = ["-f", "pbm", "-c", "gs1"];
+
+static UNCHECKED: [&str; 4] = ["-f", "pbm", "-c", "gs1-unchecked"];
 
 /// What the table does not have is drawn without its check, as the element string that it is.
 #[test]
 fn draws_unchecked_elements(rt: HostRuntime) {
-    let (checked, unchecked) = (
-        ["-f", "pbm", "-c", "gs1"],
-        ["-f", "pbm", "-c", "gs1-unchecked"],
-    );
-    let refused = ran(rt.alloc(), &checked, b"(4399)A");
-    assert_eq!(rt; refused.status, 1);
-    let written = ran(rt.alloc(), &unchecked, b"(4399)A(10)B");
-    let string = ran(rt.alloc(), &unchecked, b"4399A\x1D10B");
-    assert_eq!(rt; written.status, 0);
-    assert_eq!(rt; written.label.as_slice(), string.label.as_slice());
+    let alloc = rt.alloc();
+    assert!(rt; ran(alloc, &CHECKED, b"(4399)A").status == 1);
+    let string = b"4399A\x1D10B";
+    assert!(rt; draw_alike(alloc, &UNCHECKED, b"(4399)A(10)B", &UNCHECKED, string));
     let both = b"(01)09506000134352(10)ABC";
-    let other = ran(rt.alloc(), &checked, both);
-    assert_eq!(rt; other.status, 0);
-    assert_eq!(rt;
-        other.label.as_slice(),
-        ran(rt.alloc(), &unchecked, both).label.as_slice()
-    );
+    assert!(rt; draw_alike(alloc, &CHECKED, both, &UNCHECKED, both));
 }
 
 /// Links are drawn as the bytes that they are. The first is an example of the GS1 Digital Link
 /// Standard: URI Syntax.
+static LINKS: [(&[&str], &[u8], &[u8]); 3] = [
+    (
+        &["-f", "pbm", "-c", "link"],
+        b"(01)09506000134352(10)ABC1(21)12345(17)180426\n",
+        b"https://id.gs1.org/01/09506000134352/10/ABC1/21/12345?17=180426",
+    ),
+    (
+        &["-f", "pbm", "-c", "link", "--domain", "example.com:8080"],
+        b"(17)261231(01)09506000134352",
+        b"https://example.com:8080/01/09506000134352?17=261231",
+    ),
+    (
+        &["-f", "pbm", "-c", "link", "--domain=x"],
+        b"(414)9506000134352(254)32a/b",
+        b"https://x/414/9506000134352/254/32a%2Fb",
+    ),
+];
+
 #[test]
 fn draws_links(rt: HostRuntime) {
-    let rows: [(&[&str], &[u8], &[u8]); 3] = [
-        (
-            &["-f", "pbm", "-c", "link"],
-            b"(01)09506000134352(10)ABC1(21)12345(17)180426\n",
-            b"https://id.gs1.org/01/09506000134352/10/ABC1/21/12345?17=180426",
-        ),
-        (
-            &["-f", "pbm", "-c", "link", "--domain", "example.com:8080"],
-            b"(17)261231(01)09506000134352",
-            b"https://example.com:8080/01/09506000134352?17=261231",
-        ),
-        (
-            &["-f", "pbm", "-c", "link", "--domain=x"],
-            b"(414)9506000134352(254)32a/b",
-            b"https://x/414/9506000134352/254/32a%2Fb",
-        ),
-    ];
-    for (words, elements, link) in rows {
-        let answer = ran(rt.alloc(), words, elements);
-        let bytes = ran(rt.alloc(), &["-f", "pbm", "-c", "bytes"], link);
-        assert_eq!(rt; answer.status, 0, "{words:?}");
-        assert_eq!(rt;
-            answer.label.as_slice(),
-            bytes.label.as_slice(),
+    let bytes = ["-f", "pbm", "-c", "bytes"];
+    for (words, elements, link) in LINKS.iter() {
+        assert!(rt;
+            draw_alike(rt.alloc(), words, elements, &bytes, link),
             "{words:?}"
         );
     }
@@ -124,7 +113,7 @@ fn draws_links(rt: HostRuntime) {
         &["--info", "-c", "link", "--domain", "X"],
         b"(01)09506000134352",
     );
-    assert_eq!(rt; details.status, 0);
+    assert!(rt; details.status == 0);
     // `https` takes 52 bits, `://X/01/` 57 and the digits 61, in a version with room for 224.
     assert!(rt;
         details.label.ends_with(b", segments byte 5 alphanumeric 8 numeric 14, 25 modules\n")
@@ -132,71 +121,62 @@ fn draws_links(rt: HostRuntime) {
 }
 
 /// Elements of which there is no link, and the line that says why.
+static REFUSED: [(&[u8], &str); 7] = [
+    (b"", "empty input, see --allow-empty"),
+    (b"caf\xE9", "invalid character byte 0xe9 at position 3"),
+    (
+        b"0109506000134352",
+        "no elements, which are written as in (01)09506000134352",
+    ),
+    (
+        b"(01)09506000134351",
+        "(01), element 1, character 14: wrong check digit; the check digit would be 2",
+    ),
+    (
+        b"(10)A",
+        "no element is the key of a link, as (01), (00) or (414) are",
+    ),
+    (
+        b"(01)09506000134352(254)A",
+        "(254), element 2: no qualifier of the link's key, or not beside another one",
+    ),
+    (
+        b"(01)09506000134352(17)261231(17)261231",
+        "(17), element 2: the identifier stands once more after it",
+    ),
+];
+
 #[test]
-fn refuses_links(rt: HostRuntime) -> Result<(), QrError> {
-    let rows: [(&[&str], &[u8], &str); 7] = [
-        (&["-c", "link"], b"", "empty input, see --allow-empty"),
-        (
-            &["-c", "link"],
-            b"caf\xE9",
-            "invalid character byte 0xe9 at position 3",
-        ),
-        (
-            &["-c", "link"],
-            b"0109506000134352",
-            "no elements, which are written as in (01)09506000134352",
-        ),
-        (
-            &["-c", "link"],
-            b"(01)09506000134351",
-            "(01), element 1, character 14: wrong check digit; the check digit would be 2",
-        ),
-        (
-            &["-c", "link"],
-            b"(10)A",
-            "no element is the key of a link, as (01), (00) or (414) are",
-        ),
-        (
-            &["-c", "link"],
-            b"(01)09506000134352(254)A",
-            "(254), element 2: no qualifier of the link's key, or not beside another one",
-        ),
-        (
-            &["-c", "link"],
-            b"(01)09506000134352(17)261231(17)261231",
-            "(17), element 2: the identifier stands once more after it",
-        ),
-    ];
-    for (words, elements, line) in rows {
-        let answer = ran(rt.alloc(), words, elements);
-        let whole = format!(in rt.alloc(); "qrlabel: {line}\n")?;
-        assert_eq!(rt; answer.status, 1, "{line}");
-        assert_eq!(rt; answer.said.as_slice(), whole.as_bytes(), "{line}");
+fn refuses_links(rt: HostRuntime) {
+    for (elements, line) in REFUSED.iter() {
+        assert!(rt;
+            reports(rt.alloc(), &["-c", "link"], elements, line),
+            "{line}"
+        );
     }
     let keys = ran(
         rt.alloc(),
         &["-c", "link"],
         b"(01)09506000134352(8010)9506000A1",
     );
-    let second = "qrlabel: element 1: a link has one key, and there is another after this one\n";
-    assert_eq!(rt; keys.said.as_slice(), second.as_bytes());
-    Ok(())
+    let line = "element 1: a link has one key, and there is another after this one";
+    assert!(rt; keys.has_reported(1, line));
 }
 
 /// A domain is a host name, with a port or without, and only links have one.
+static DOMAINS: [&[&str]; 4] = [
+    &["--domain", "a.org", "hello"],
+    &["-c", "link", "--domain", "a/b", "(01)09506000134352"],
+    &["-c", "link", "--domain=", "(01)09506000134352"],
+    &["-c", "link", "--domain", "a.org:", "(01)09506000134352"],
+];
+
 #[test]
 fn names_wrong_domains(rt: HostRuntime) {
-    let rows: [&[&str]; 4] = [
-        &["--domain", "a.org", "hello"],
-        &["-c", "link", "--domain", "a/b", "(01)09506000134352"],
-        &["-c", "link", "--domain=", "(01)09506000134352"],
-        &["-c", "link", "--domain", "a.org:", "(01)09506000134352"],
-    ];
     let line =
         b"qrlabel: invalid --domain: a host name, with a port or without, and with -c link\n";
-    for words in rows {
+    for words in DOMAINS.iter() {
         let answer = ran(rt.alloc(), words, b"");
-        assert_eq!(rt; answer.status, 2);
-        assert!(rt; answer.said.starts_with(line));
+        assert!(rt; answer.status == 2 && answer.said.starts_with(line));
     }
 }

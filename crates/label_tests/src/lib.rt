@@ -11,6 +11,8 @@ mod line_tests;
 #[cfg(test)]
 mod part_tests;
 #[cfg(test)]
+mod served;
+#[cfg(test)]
 mod test_files;
 #[cfg(test)]
 mod word_tests;

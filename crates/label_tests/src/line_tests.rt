@@ -1,5 +1,5 @@
 //! Tests of labels of lines.
-use crate::label_tests::ran;
+use crate::served::{ran, reports};
 use crate::test_files::Kept;
 use label_words::read_words;
 use labels::{LEFT_OUT, run};
@@ -39,40 +39,32 @@ fn draws_lines(rt: HostRuntime) {
     assert!(rt; are_drawn(alloc, b"a\rb\r\r\n", &["a\rb\r"]));
 }
 
+/// Whether a run stops at a line after so many labels, of 125 bytes each, leaves so many bytes
+/// unread, and reports this.
+fn stops(alloc: Global, input: &[u8], unread: usize, labels: usize, line: &str) -> bool {
+    let answer = ran(alloc, &EACH, input);
+    answer.has_said(1, line)
+        && answer.label.len() == labels.saturating_mul(9 + 4 * 29)
+        && answer.unread == unread
+}
+
 /// Inputs with a line that has no label, how many bytes are left unread, and what is written about
-/// it. The labels of the lines before it, of 125 bytes each, are written.
+/// it. The labels of the lines before it are written.
 #[test]
 fn stops_at_a_line(rt: HostRuntime) -> Result<(), QrError> {
-    let mut long = Vec::new(rt.alloc());
+    let alloc = rt.alloc();
+    let mut long = Vec::new(alloc);
     long.extend_from_slice(b"a\nb\n")?;
     long.resize(4 + 7091 + 9, b'x')?;
-    let rows: [(&[u8], usize, usize, &str); 4] = [
-        (
-            b"a\nb\n\nc\n",
-            2,
-            2,
-            "line 3: empty input, see --allow-empty",
-        ),
-        (b"\r\na\n", 2, 0, "line 1: empty input, see --allow-empty"),
-        (b"a\nb", 0, 2, ""),
-        (
-            &long,
-            9,
-            2,
-            "line 3: data too long: more than 7089 bytes, which no symbol holds",
-        ),
-    ];
-    for (input, unread, labels, line) in rows {
-        let answer = ran(rt.alloc(), &EACH, input);
-        let whole = match line {
-            "" => format!(in rt.alloc(); "")?,
-            line => format!(in rt.alloc(); "qrlabel: {line}\n")?,
-        };
-        assert_eq!(rt; answer.said.as_slice(), whole.as_bytes());
-        assert_eq!(rt; answer.status == 0, line.is_empty());
-        assert_eq!(rt; answer.label.len(), labels * (9 + 4 * 29));
-        assert_eq!(rt; answer.unread, unread);
-    }
+    let empty = "qrlabel: line 3: empty input, see --allow-empty\n";
+    assert!(rt; stops(alloc, b"a\nb\n\nc\n", 2, 2, empty));
+    let empty = "qrlabel: line 1: empty input, see --allow-empty\n";
+    assert!(rt; stops(alloc, b"\r\na\n", 2, 0, empty));
+    let line = "\
+qrlabel: line 3: data too long: more than 7089 bytes, which no symbol holds\n";
+    assert!(rt; stops(alloc, &long, 9, 2, line));
+    let whole = ran(alloc, &EACH, b"a\nb");
+    assert!(rt; whole.has_length(2 * (9 + 4 * 29)) && whole.unread == 0);
     Ok(())
 }
 
@@ -89,26 +81,20 @@ fn count(text: &[u8], bytes: &[u8]) -> usize {
 fn draws_pages(rt: HostRuntime) {
     let words = ["--lines", "-k", "-f", "pdf", "--rotate", "90"];
     let answer = ran(rt.alloc(), &words, b"a\n\nhello\nb\n");
-    assert_eq!(rt; answer.status, LEFT_OUT);
     let line = "qrlabel: line 2: empty input, see --allow-empty\n";
-    assert_eq!(rt; answer.said.as_slice(), line.as_bytes());
+    assert!(rt; answer.has_said(LEFT_OUT, line));
     assert!(rt; answer.label.starts_with(b"%PDF-1.4\n"));
     assert!(rt; answer.label.ends_with(b"\n%%EOF\n"));
-    assert_eq!(rt; count(&answer.label, b"<</Type/Page/"), 3);
-    assert_eq!(rt;
-        count(&answer.label, b"/Kids[4 0 R 6 0 R 8 0 R ]/Count 3>>"),
-        1
-    );
-    assert_eq!(rt; ran(rt.alloc(), &words, b"\n").label.len(), 0);
+    assert!(rt; count(&answer.label, b"<</Type/Page/") == 3);
+    assert!(rt; count(&answer.label, b"/Kids[4 0 R 6 0 R 8 0 R ]/Count 3>>") == 1);
+    assert!(rt; ran(rt.alloc(), &words, b"\n").label.is_empty());
 }
 
 /// A line without any bytes is drawn if the words say so.
 #[test]
 fn draws_an_empty_line(rt: HostRuntime) {
     let words = ["--lines", "--allow-empty", "-f", "pbm", "-s", "1"];
-    let answer = ran(rt.alloc(), &words, b"a\n\nb\n");
-    assert_eq!(rt; answer.status, 0);
-    assert_eq!(rt; answer.label.len(), 3 * (9 + 4 * 29));
+    assert!(rt; ran(rt.alloc(), &words, b"a\n\nb\n").has_length(3 * (9 + 4 * 29)));
 }
 
 /// Where a write fails, what is written is a beginning of the labels.
@@ -136,9 +122,8 @@ fn begins_labels(rt: HostRuntime) {
         }
         Err(_) => 2,
     };
-    assert_eq!(rt; status, 1);
     let line = "qrlabel: line 3: cannot write standard output: input or output error\n";
-    assert_eq!(rt; said.as_slice(), line.as_bytes());
+    assert!(rt; status == 1 && said.as_slice() == line.as_bytes());
     assert!(rt; whole.label.starts_with(&room));
 }
 
@@ -149,47 +134,55 @@ fn draws_into_files(rt: HostRuntime) {
     let answer = ran(rt.alloc(), &["--lines", "-o", name], b"a\nhello\r\nb");
     let (a, hello) = (ran(rt.alloc(), &png, b"a"), ran(rt.alloc(), &png, b"hello"));
     let b = ran(rt.alloc(), &png, b"b");
-    let names = "label-00001.png\nlabel-00002.png\nlabel-00003.png\n";
-    assert_eq!(rt; answer.status, 0);
-    assert_eq!(rt; answer.label.len(), 0);
-    assert!(rt; answer.files.names.as_str() == names);
+    assert!(rt; answer.status == 0 && answer.label.is_empty());
+    assert!(rt; answer.has_files("label-00001.png\nlabel-00002.png\nlabel-00003.png\n"));
     let rest = answer.files.contents.as_slice();
     assert!(rt; rest.starts_with(&a.label) && rest.ends_with(&b.label));
     assert!(rt; rest[a.label.len()..].starts_with(&hello.label));
-    assert_eq!(rt;
-        rest.len(),
-        a.label.len() + hello.label.len() + b.label.len()
-    );
+    assert!(rt; rest.len() == a.label.len() + hello.label.len() + b.label.len());
 }
 
 /// Each row has a name with a number, and what is written of two lines; the second has no label.
+static NAMES: [(&str, &str); 6] = [
+    ("%d.svg", "1.svg\n"),
+    ("a%01d.zpl", "a1.zpl\n"),
+    ("a-%09d.pbm", "a-000000001.pbm\n"),
+    ("d/d%02d.d.png", "d/d01.d.png\n"),
+    ("a%5d.svg", ""),
+    ("%d%d.svg", ""),
+];
+
 #[test]
-fn names_files(rt: HostRuntime) -> Result<(), QrError> {
-    let rows: [(&str, &str); 6] = [
-        ("%d.svg", "1.svg\n"),
-        ("a%01d.zpl", "a1.zpl\n"),
-        ("a-%09d.pbm", "a-000000001.pbm\n"),
-        ("d/d%02d.d.png", "d/d01.d.png\n"),
-        ("a%5d.svg", ""),
-        ("%d%d.svg", ""),
-    ];
-    for (name, names) in rows {
+fn names_files(rt: HostRuntime) {
+    for (name, names) in NAMES.iter() {
         let answer = ran(rt.alloc(), &["--lines", "-o", name], b"a\n\n");
-        assert_eq!(rt; answer.status, if names == "" { 2 } else { 1 }, "{name}");
-        assert!(rt; answer.files.names.as_str() == names, "{name}");
+        let status = if names.is_empty() { 2 } else { 1 };
+        assert!(rt;
+            answer.status == status && answer.has_files(names),
+            "{name}"
+        );
     }
-    Ok(())
+}
+
+/// Whether a run writes three files, and reports that there is no room for the fourth.
+fn fills_the_disk(alloc: Global, words: &[&str], input: &[u8]) -> bool {
+    let answer = ran(alloc, words, input);
+    answer.has_files("1.png\n2.png\n3.png\n")
+        && answer.has_reported(1, "line 4: cannot write 4.png: no space left on device")
 }
 
 /// Where a file can't be written, those before it are there, and the error has the number, the name
 /// and the reason.
 #[test]
 fn stops_at_a_file(rt: HostRuntime) {
-    let answer = ran(rt.alloc(), &["--lines", "-o", "%d.png"], b"a\nb\nc\nd\n");
-    assert_eq!(rt; answer.status, 1);
-    let line = "qrlabel: line 4: cannot write 4.png: no space left on device\n";
-    assert_eq!(rt; answer.said.as_slice(), line.as_bytes());
-    assert!(rt; answer.files.names.as_str() == "1.png\n2.png\n3.png\n");
+    assert!(rt; fills_the_disk(rt.alloc(), &["--lines", "-o", "%d.png"], b"a\nb\nc\nd\n"));
+}
+
+/// Lines that follow a write error are not drawn, also where lines are left out.
+#[test]
+fn stops_at_a_file_that_fails(rt: HostRuntime) {
+    let words = ["--lines", "-k", "-o", "%d.png"];
+    assert!(rt; fills_the_disk(rt.alloc(), &words, b"a\nb\nc\nd\ne\n"));
 }
 
 /// With `-k` a line that has no label is left out, to its end if it is long, and reported with its
@@ -207,11 +200,8 @@ fn leaves_lines_out(rt: HostRuntime) -> Result<(), QrError> {
 qrlabel: line 8: empty input, see --allow-empty
 qrlabel: line 10: data too long: more than 7089 bytes, which no symbol holds
 ";
-    assert_eq!(rt; answer.status, LEFT_OUT);
-    assert_eq!(rt; answer.unread, 0);
-    assert_eq!(rt; answer.said.as_slice(), said.as_bytes());
-    assert_eq!(rt; drawn.status, 0);
-    assert!(rt; answer.label.as_slice() == drawn.label.as_slice());
+    assert!(rt; answer.has_said(LEFT_OUT, said) && answer.unread == 0);
+    assert!(rt; drawn.has_written(&answer.label));
     Ok(())
 }
 
@@ -221,24 +211,16 @@ qrlabel: line 10: data too long: more than 7089 bytes, which no symbol holds
 fn numbers_from_the_first(rt: HostRuntime) {
     let words = ["--lines", "--first", "98", "-k", "-o", "a-%03d.svg"];
     let answer = ran(rt.alloc(), &words, b"a\n\nb\n");
-    assert_eq!(rt; answer.status, LEFT_OUT);
-    assert!(rt; answer.files.names.as_str() == "a-098.svg\na-100.svg\n");
+    assert!(rt; answer.has_files("a-098.svg\na-100.svg\n"));
+    let line = "qrlabel: line 99: empty input, see --allow-empty\n";
+    assert!(rt; answer.has_said(LEFT_OUT, line));
+    let stopped = ["--lines", "--first", "0", "-f", "zpl"];
     assert!(rt;
-        answer.said.as_slice() == b"qrlabel: line 99: empty input, see --allow-empty\n".as_slice()
+        reports(
+            rt.alloc(),
+            &stopped,
+            b"\n",
+            "line 0: empty input, see --allow-empty"
+        )
     );
-    let stopped = ran(rt.alloc(), &["--lines", "--first", "0", "-f", "zpl"], b"\n");
-    assert!(rt;
-        stopped.said.as_slice() == b"qrlabel: line 0: empty input, see --allow-empty\n".as_slice()
-    );
-}
-
-/// Lines that follow a write error are not drawn, also where lines are left out.
-#[test]
-fn stops_at_a_file_that_fails(rt: HostRuntime) {
-    let words = ["--lines", "-k", "-o", "%d.png"];
-    let answer = ran(rt.alloc(), &words, b"a\nb\nc\nd\ne\n");
-    assert_eq!(rt; answer.status, 1);
-    let line = "qrlabel: line 4: cannot write 4.png: no space left on device\n";
-    assert_eq!(rt; answer.said.as_slice(), line.as_bytes());
-    assert!(rt; answer.files.names.as_str() == "1.png\n2.png\n3.png\n");
 }

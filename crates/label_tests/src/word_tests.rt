@@ -1,5 +1,5 @@
 //! Tests of words that are wrong, of help and of the version.
-use crate::label_tests::ran;
+use crate::served::ran;
 use qrcode_core::types::QrError;
 use std::alloc::Global;
 use std::process::Abort;
@@ -207,11 +207,11 @@ static WRONG_VALUES: [(&[&str], &str); 35] = [
 fn are_named(rt: &impl Abort, alloc: Global, rows: &[(&[&str], &str)]) -> Result<(), QrError> {
     for (words, line) in rows {
         let answer = ran(alloc, words, b"hello");
-        let whole = format!(in alloc; "qrlabel: {line}\ntry qrlabel --help\n")?;
-        assert_eq!(rt; answer.status, 2, "{words:?}");
-        assert_eq!(rt; answer.said.as_slice(), whole.as_bytes(), "{words:?}");
-        assert_eq!(rt; answer.label.len(), 0, "{words:?}");
-        assert_eq!(rt; answer.unread, 5, "{words:?}");
+        let whole = format!(in alloc; "{line}\ntry qrlabel --help")?;
+        assert!(rt;
+            answer.has_reported(2, &whole) && answer.unread == 5,
+            "{words:?}"
+        );
     }
     Ok(())
 }
@@ -227,18 +227,17 @@ fn names_wrong_values(rt: HostRuntime) -> Result<(), QrError> {
 }
 
 /// Help and the version come first, whatever else is asked for.
+static HELPS: [(&[&str], &str); 3] = [
+    (&["--help"], "usage: qrlabel [OPTIONS] [TEXT]\n"),
+    (&["-s", "99", "-h"], "usage: qrlabel [OPTIONS] [TEXT]\n"),
+    (&["-V", "-l", "X"], "qrlabel 0.4.0\n"),
+];
+
 #[test]
-fn shows_help(rt: HostRuntime) -> Result<(), QrError> {
-    let rows: [(&[&str], &str); 3] = [
-        (&["--help"], "usage: qrlabel [OPTIONS] [TEXT]\n"),
-        (&["-s", "99", "-h"], "usage: qrlabel [OPTIONS] [TEXT]\n"),
-        (&["-V", "-l", "X"], "qrlabel 0.4.0\n"),
-    ];
-    for (words, beginning) in rows {
+fn shows_help(rt: HostRuntime) {
+    for (words, beginning) in HELPS.iter() {
         let answer = ran(rt.alloc(), words, b"hello");
-        assert_eq!(rt; answer.status, 0, "{words:?}");
+        assert!(rt; answer.status == 0 && answer.unread == 5, "{words:?}");
         assert!(rt; answer.label.starts_with(beginning.as_bytes()), "{words:?}");
-        assert_eq!(rt; answer.unread, 5, "{words:?}");
     }
-    Ok(())
 }
