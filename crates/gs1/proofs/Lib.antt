@@ -20,3 +20,4 @@ pub mod AllowedStrings
 pub mod Refused
 pub mod Conflicts
 pub mod Scans
+pub mod Lengths

@@ -8,7 +8,6 @@ pub mod LinkWhole
 pub mod OneLink
 pub mod LinkValues
 pub mod LinkLoops
-pub mod LinkLengths
 pub mod LinkReadBack
 pub mod LinkStems
 pub mod LinkQueries

@@ -19,7 +19,7 @@ use Rattle.gs1.proofs.Faults.{neither}
 use Rattle.gs1.proofs.Allowed.{none_mapped}
 use Rattle.gs1_links.proofs.LinkValues.{reads_decoded, decoded_reads}
 use Rattle.gs1_links.proofs.LinkElements.{linkable, any_place}
-use Rattle.gs1_links.proofs.LinkLengths.{short_value}
+use Rattle.gs1.proofs.Lengths.{short_value}
 
 -- ---- One element
 
