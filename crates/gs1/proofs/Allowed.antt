@@ -8,7 +8,8 @@ use Rattle.std.proofs.lemmas.Grind.{common_steps}
 use Rattle.std.proofs.lemmas.List.{take-append-drop, length-drop}
 use Rattle.std.proofs.lemmas.List.Elements.{All-append, All-weaker}
 use Rattle.std.proofs.lemmas.List.Sums.{AllPass-from_list_all}
-use Rattle.gs1.specs.Identifiers.{is_within, is_decimal_digit, is_encodable, identifier_length}
+use Rattle.gs1.specs.Identifiers.{is_encodable, identifier_length}
+use Rattle.gs1_base.specs.Characters.{is_within, is_decimal_digit}
 use Rattle.gs1.specs.Elements.{Element, is_identifier}
 use Rattle.gs1.specs.Checks.{fault_if}
 use Rattle.gs1.specs.Table.{components}

@@ -1,7 +1,7 @@
 -- Elements that a reader finds one after the other.
-use Rattle.std.proofs.Common.{◌≡◌, ℕ, ◌+◌, ◌<◌, ◌≤◌, Bool, true, false, List, [], ◌∷◌, ◌++◌, length}
-use Rattle.std.proofs.Common.{refl, arith, ap, sym, subst}
-use Rattle.std.specs.Prelude.{None, Some, ◌≢◌, ◌==◌}
+use Rattle.std.proofs.Common.{◌≡◌, ℕ, ◌+◌, ◌<◌, ◌≤◌, List, [], ◌∷◌, ◌++◌, length}
+use Rattle.std.proofs.Common.{refl, arith, sym, subst}
+use Rattle.std.specs.Prelude.{None, Some, ◌≢◌}
 use Rattle.std.proofs.lemmas.List.{length-drop}
 use Rattle.std.proofs.lemmas.Grind.{common_steps}
 use Rattle.gs1.specs.Identifiers.{predefined_length, predefined_length_of}
@@ -78,14 +78,3 @@ shorter bytes some =
       | Some n ↦ λ is. omega (arith, length-drop n bytes, some_length bytes n is)
       | None ↦ λ is. grind (arith, length-drop)
     ] refl
-
--- What the test for no bytes says.
-pub some_left : (bytes : List ℕ) (b : Bool) → b ≡ (length bytes == 0) → b ≡ false → 0 < length bytes
-some_left bytes b e is = grind (arith, common_steps)
-
-pub none_left : (bytes : List ℕ) (b : Bool) → b ≡ (length bytes == 0) → b ≡ true → bytes ≡ []
-none_left [] b e is = refl
-none_left (x ∷ bytes) b e is = absurd (let some : 0 < length bytes + 1 = omega arith in grind (arith, common_steps))
-
-pub some_bytes : (bytes : List ℕ) → 0 < length bytes → bytes ≢ []
-some_bytes bytes some none = absurd (let size : length bytes ≡ 0 = ap length none in omega arith)

@@ -5,7 +5,8 @@ use Rattle.std.specs.Prelude.{◌==◌, if◌then◌else◌}
 use Rattle.std.proofs.lemmas.List.{drop_more, length-drop, take_more, take_all}
 use Rattle.std.proofs.lemmas.Bool.{eqb-true}
 use Rattle.std.proofs.lemmas.Grind.{common_steps}
-use Rattle.gs1.specs.Identifiers.{weighted_sum, with_last, is_decimal_digit, IsRightDigit}
+use Rattle.gs1.specs.Identifiers.{weighted_sum, with_last, IsRightDigit}
+use Rattle.gs1_base.specs.Characters.{is_decimal_digit}
 
 -- What the digit at a place adds.
 pub weighted_sum_more : (xs : List ℕ) (i : ℕ) → i < length xs →

@@ -7,7 +7,8 @@ use Rattle.std.specs.List.{position_or_len, AllPass, list_all}
 use Rattle.std.proofs.lemmas.Grind.{common_steps}
 use Rattle.std.proofs.lemmas.List.Elements.{All-append, All-weaker}
 use Rattle.std.proofs.lemmas.List.Sums.{AllPass-from_list_all, fails_before_first, prefix_len-le-length}
-use Rattle.gs1.specs.Identifiers.{is_within, is_decimal_digit, is_encodable, identifier_length, predefined_length}
+use Rattle.gs1.specs.Identifiers.{is_encodable, identifier_length, predefined_length}
+use Rattle.gs1_base.specs.Characters.{is_within, is_decimal_digit}
 use Rattle.gs1.specs.Elements.{Element, first_fault, fault_of, identifier_fault, length_fault}
 use Rattle.gs1.specs.Elements.{character_fault, digits_fault, is_identifier, is_value_character}
 use Rattle.gs1.proofs.Reading.{IsReadable, AllReadable}

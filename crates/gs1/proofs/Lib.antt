@@ -1,4 +1,3 @@
-pub mod Places
 pub mod Digits
 pub mod Parts
 pub mod Reading
@@ -21,20 +20,4 @@ pub mod AllowedStrings
 pub mod Refused
 pub mod Conflicts
 pub mod Scans
-pub mod Percents
-pub mod Rules
-pub mod LinkCuts
-pub mod LinkElements
-pub mod LinkTexts
-pub mod LinkReads
-pub mod LinkKept
-pub mod LinkWhole
-pub mod OneLink
-pub mod LinkValues
-pub mod LinkLoops
-pub mod LinkLengths
-pub mod LinkReadBack
-pub mod LinkStems
-pub mod LinkQueries
-pub mod LinkOutcomes
-pub mod LinkFronts
+pub mod Lengths

@@ -6,7 +6,8 @@ use Rattle.std.specs.Option.{option_and_then}
 use Rattle.std.specs.List.{list_all}
 use Rattle.std.proofs.lemmas.Grind.{common_steps}
 use Rattle.std.proofs.lemmas.List.Sums.{AllPass-from_list_all}
-use Rattle.gs1.specs.Identifiers.{is_within, is_decimal_digit, identifier_length, predefined_length}
+use Rattle.gs1.specs.Identifiers.{identifier_length, predefined_length}
+use Rattle.gs1_base.specs.Characters.{is_within, is_decimal_digit}
 use Rattle.gs1.specs.Identifiers.{prefix, predefined_length_of, identifier_length_of}
 use Rattle.gs1.specs.Checks.{two_digits, decimal_at}
 use Rattle.gs1.specs.Table.{components, components_of_two, components_of_three, components_of_measure, is_measure}

@@ -5,7 +5,7 @@ use Rattle.std.specs.Prelude.{nat_le, nat_lt, if◌then◌else◌, List, [], ◌
 use Rattle.std.specs.Prelude.{slice_index, Option, None, Some}
 use Rattle.std.specs.List.{list_all}
 use Rattle.std.specs.Option.{option_or}
-use Rattle.gs1.specs.Identifiers.{is_within, is_decimal_digit}
+use Rattle.gs1_base.specs.Characters.{is_within, is_decimal_digit, is_hexadecimal}
 use Rattle.gs1.specs.Codes.{is_country, is_country_letters, is_currency}
 use Rattle.gs1.specs.declared.reason.Reason.{Reason}
 use Rattle.gs1.specs.declared.reason.Reason.TheVariants.{NoCompanyPrefix, WrongMonth, WrongDay}
@@ -170,9 +170,6 @@ key_fault place piece =
     (option_or (fault_if (not (is_digit_at piece 1)) (place + 1) NoCompanyPrefix)
     (option_or (fault_if (not (is_digit_at piece 2)) (place + 2) NoCompanyPrefix)
     (fault_if (not (is_digit_at piece 3)) (place + 3) NoCompanyPrefix)))
-
-abbrev pub is_hexadecimal : ℕ → Bool
-is_hexadecimal c = is_decimal_digit c || is_within 0x41 0x46 c || is_within 0x61 0x66 c
 
 -- A percent sign without two hexadecimal digits behind it.
 abbrev pub is_wrong_escape : List ℕ → Bool

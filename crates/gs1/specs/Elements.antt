@@ -4,7 +4,8 @@ use Rattle.std.specs.Prelude.{◌≡◌, ℕ, ◌+◌, Bool, ◌==◌, ◌&&◌,
 use Rattle.std.specs.Prelude.{length, drop, map, position, slice_index, Option, None, Some, unwrap_or, is_some}
 use Rattle.std.specs.List.{slice_split, before_first, after_first, flat_map, list_all}
 use Rattle.std.specs.Option.{option_or, option_map}
-use Rattle.gs1.specs.Identifiers.{is_within, is_decimal_digit, is_encodable, identifier_length}
+use Rattle.gs1.specs.Identifiers.{is_encodable, identifier_length}
+use Rattle.gs1_base.specs.Characters.{is_within, is_decimal_digit}
 use Rattle.gs1.specs.Identifiers.{predefined_length, has_check_digit, has_right_check_digit}
 use Rattle.gs1.specs.declared.error.Gs1Error.{Gs1Error}
 use Rattle.gs1.specs.declared.error.Gs1Error.TheVariants.{NoElements, InvalidIdentifier, UnknownIdentifier}

@@ -1,16 +1,11 @@
 -- GS1 Application Identifiers: how many digits they have, which elements have a predefined length,
 -- which characters and which check digit (GS1 General Specifications). Bytes are numbers.
-use Rattle.std.specs.Prelude.{◌≡◌, ℕ, ◌+◌, ◌-◌, ◌*◌, ◌%◌, ◌<◌, ◌^◌, Bool, true, ◌==◌, ◌&&◌, ◌||◌, nat_le}
+use Rattle.std.specs.Prelude.{◌≡◌, ℕ, ◌+◌, ◌-◌, ◌*◌, ◌%◌, ◌<◌, ◌^◌, Bool, true, ◌==◌, ◌&&◌, ◌||◌}
 use Rattle.std.specs.Prelude.{if◌then◌else◌, List, [], ◌∷◌, ◌++◌, length, take, slice_index}
 use Rattle.std.specs.Prelude.{Option, None, Some}
 use Rattle.std.specs.Option.{option_and_then}
 use Rattle.std.specs.List.{list_all}
-
-abbrev pub is_within : ℕ → ℕ → ℕ → Bool
-is_within low high n = nat_le low n && nat_le n high
-
-abbrev pub is_decimal_digit : ℕ → Bool
-is_decimal_digit c = is_within 0x30 0x39 c
+use Rattle.gs1_base.specs.Characters.{is_within, is_decimal_digit}
 
 -- The number that the first two bytes write, if they are digits.
 unfoldable pub prefix : List ℕ → Option ℕ

@@ -3,7 +3,8 @@ use Rattle.std.specs.Prelude.{ℕ, ◌+◌, ◌-◌, ◌*◌, ◌/◌, ◌%◌, 
 use Rattle.std.specs.Prelude.{if◌then◌else◌, List, [], ◌∷◌, length, take, drop, slice_index}
 use Rattle.std.specs.Prelude.{Option}
 use Rattle.std.specs.Option.{option_or}
-use Rattle.gs1.specs.Identifiers.{is_within, is_decimal_digit, weighted_sum, with_last}
+use Rattle.gs1.specs.Identifiers.{weighted_sum, with_last}
+use Rattle.gs1_base.specs.Characters.{is_within, is_decimal_digit}
 use Rattle.gs1.specs.Identifiers.{has_right_check_digit, IsRightDigit}
 use Rattle.gs1.specs.Checks.{fault_if, is_digit_at, key_fault, letters_fault}
 use Rattle.gs1.specs.declared.reason.Reason.TheVariants.{WrongCheckDigit, WrongCheckPair, WrongIban}

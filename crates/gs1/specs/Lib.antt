@@ -10,7 +10,3 @@ pub mod Strings
 pub mod Checked
 pub mod Together
 pub mod Read
-pub mod Percent
-pub mod Links
-pub mod LinkReader
-pub mod LinkFaults

@@ -2,7 +2,7 @@
 -- Specifications, release 24 of 2024, "GS1 Application Identifiers in numerical order").
 use Rattle.std.specs.Prelude.{ℕ, ◌/◌, ◌%◌, Bool, true, false, ◌==◌, ◌&&◌, ◌||◌, nat_le}
 use Rattle.std.specs.Prelude.{if◌then◌else◌, List, [], ◌∷◌}
-use Rattle.gs1.specs.Identifiers.{is_within}
+use Rattle.gs1_base.specs.Characters.{is_within}
 use Rattle.gs1.specs.declared.table.Characters.{Characters}
 use Rattle.gs1.specs.declared.table.Characters.TheVariants.{Digits, Set82, Set39, Base64, Capitals}
 use Rattle.gs1.specs.declared.table.Check.{Check}

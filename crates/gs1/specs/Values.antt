@@ -4,7 +4,8 @@ use Rattle.std.specs.Prelude.{◌≡◌, ℕ, ◌+◌, ◌*◌, Bool, ◌==◌, 
 use Rattle.std.specs.Prelude.{if◌then◌else◌, List, [], ◌∷◌, length, take, drop, position}
 use Rattle.std.specs.Prelude.{slice_index, Option, None, Some, unwrap_or}
 use Rattle.std.specs.Option.{option_or, option_map}
-use Rattle.gs1.specs.Identifiers.{is_within, is_decimal_digit, is_encodable, identifier_length}
+use Rattle.gs1.specs.Identifiers.{is_encodable, identifier_length}
+use Rattle.gs1_base.specs.Characters.{is_within, is_decimal_digit}
 use Rattle.gs1.specs.Checks.{fault_if, two_digits, decimal_at, date_fault, long_date_fault, hour_fault}
 use Rattle.gs1.specs.Checks.{hour_minute_fault, minute_fault, second_fault, country_fault}
 use Rattle.gs1.specs.Checks.{country_or_any_fault, letters_fault, currency_fault, flag_fault}

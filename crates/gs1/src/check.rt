@@ -2,46 +2,20 @@
 ghost use Rattle.std.specs.Prelude.{◌≡◌, ◌+◌, ◌≤◌, ◌==◌, length, drop, position, not};
 ghost use Rattle.std.specs.List.{position_or_len, list_all};
 ghost use Rattle.std.specs.Result.{result_err};
-ghost use Rattle.gs1.specs.Identifiers.{is_decimal_digit};
+ghost use Rattle.gs1_base.specs.Characters.{is_decimal_digit};
 ghost use Rattle.gs1.specs.Elements.{is_identifier, identifier_fault, length_fault, character_fault};
 ghost use Rattle.gs1.specs.Elements.{digits_fault, is_value_character, element_of, fault_of};
 ghost use Rattle.gs1.specs.Elements.{elements_behind, first_fault, text_fault};
 
 use crate::error::Gs1Error;
 use crate::identifiers::{
-    are_digits, has_check_digit, has_right_check_digit, identifier_length, is_encodable,
-    predefined_length,
+    has_check_digit, has_right_check_digit, identifier_length, is_encodable, predefined_length,
 };
+use gs1_base::characters::are_digits;
+use gs1_base::cuts::{behind, first_of};
 
 /// The greatest length of a value.
 const LONGEST_VALUE: usize = 90;
-
-/// Returns the position of the first byte of this value, if there is one.
-fn position_of(bytes: &[u8], value: u8) -> Option<usize>
-    ensures { result ≡ position (λ c. c == value) bytes.now }
-{
-    bytes.iter().position(|byte| *byte == value)
-}
-
-/// Returns the position of the first byte of this value, or the length.
-#[tactic(auto, using(crate::proofs::Places::place_or_length))]
-pub(crate) fn first_of(bytes: &[u8], value: u8) -> usize
-    ensures place { result ≡ position_or_len (λ c. c == value) bytes.now }
-    ensures within { result ≤ length bytes.now }
-{
-    position_of(bytes, value).unwrap_or(bytes.len())
-}
-
-/// Returns what stands after a position, or nothing.
-pub(crate) fn behind(bytes: &[u8], position: usize) -> &[u8]
-    ensures { result.now ≡ drop (position + 1) bytes.now }
-{
-    if position < bytes.len() {
-        &bytes[position + 1..]
-    } else {
-        &[]
-    }
-}
 
 /// Checks the identifier of an element.
 #[tactic(auto, unfolding(crate::specs::Elements::identifier_fault))]
@@ -58,7 +32,7 @@ fn check_identifier(element: usize, identifier: &[u8]) -> Result<(), Gs1Error>
 }
 
 /// Returns whether an identifier has two to four digits.
-pub(crate) fn is_identifier(identifier: &[u8]) -> bool
+pub fn is_identifier(identifier: &[u8]) -> bool
     ensures { result ≡ is_identifier identifier.now }
 {
     2 <= identifier.len() && identifier.len() <= 4 && are_digits(identifier)

@@ -7,13 +7,13 @@ ghost use Rattle.gs1.specs.Checked.{AreAllowedElements, IsRefusedStringByTable, 
 ghost use Rattle.gs1.specs.Checked.{BeginsWithError, no_element_error};
 ghost use Rattle.qrcode_bits.specs.Contents.{AreElements};
 
-use crate::check::behind;
 use crate::dates::two_digits;
 use crate::identifiers::{identifier_length, prefix};
 use crate::refusal::CheckError;
 use crate::strings::{behind_first, first_element};
 use crate::values::{check_element, check_text};
 use crate::write::string_of;
+use gs1_base::cuts::behind;
 use std::alloc::Global;
 
 /// Returns the element string of a text such as `(01)09506000134352(10)ABC123`, as

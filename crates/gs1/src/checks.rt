@@ -7,19 +7,13 @@ ghost use Rattle.gs1.specs.Checks.{currency_fault, flag_fault, piece_count_fault
 ghost use Rattle.gs1.specs.Checks.{zero_fault, nonzero_fault, leading_zero_fault, are_zeros};
 ghost use Rattle.gs1.specs.Checks.{coordinate_fault, minus_fault, media_fault, sex_fault};
 ghost use Rattle.gs1.specs.Checks.{sequence_fault, importer_fault, is_importer, key_fault};
-ghost use Rattle.gs1.specs.Checks.{escapes_fault, is_wrong_escape, is_hexadecimal, is_digit_at};
+ghost use Rattle.gs1.specs.Checks.{escapes_fault, is_wrong_escape, is_digit_at};
+ghost use Rattle.gs1_base.specs.Characters.{is_hexadecimal};
 
-use crate::check::behind;
 use crate::codes::{is_country, is_country_letters, is_currency};
 use crate::dates::{decimal_at, two_digits};
 use crate::reason::{Fault, Reason, fault_if};
-
-/// Returns the byte at a place, or 0.
-pub(crate) fn byte(piece: &[u8], place: usize) -> u8
-    ensures { result ≡ slice_index piece.now place }
-{
-    piece.get(place).copied().unwrap_or(0)
-}
+use gs1_base::cuts::{behind, byte};
 
 /// Returns the number that three digits write.
 fn three_digits(piece: &[u8]) -> usize

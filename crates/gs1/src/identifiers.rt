@@ -4,7 +4,10 @@ ghost use Rattle.std.specs.List.{list_all};
 ghost use Rattle.gs1.specs.Identifiers.{prefix, identifier_length_of, predefined_length_of};
 ghost use Rattle.gs1.specs.Identifiers.{identifier_length, predefined_length, is_encodable};
 ghost use Rattle.gs1.specs.Identifiers.{has_check_digit, has_right_check_digit, weighted_sum};
-ghost use Rattle.gs1.specs.Identifiers.{is_decimal_digit, IsRightDigit, AreFewDigits};
+ghost use Rattle.gs1.specs.Identifiers.{IsRightDigit, AreFewDigits};
+ghost use Rattle.gs1_base.specs.Characters.{is_decimal_digit};
+
+use gs1_base::characters::are_digits;
 
 /// The least number of digits that is too great for a check digit.
 const FEW_DIGITS: usize = 0x1_0000;
@@ -85,13 +88,6 @@ pub(crate) fn has_check_digit(identifier: &[u8]) -> bool
         identifier,
         [b'0', b'0'..=b'2', ..] | [b'4', b'1', b'0'..=b'7', ..]
     )
-}
-
-/// Returns whether all bytes are digits.
-pub(crate) fn are_digits(bytes: &[u8]) -> bool
-    ensures { result ≡ list_all is_decimal_digit bytes.now }
-{
-    bytes.iter().all(|digit| matches!(digit, b'0'..=b'9'))
 }
 
 /// Returns the sum of digits with the weights 1 and 3 in turn from the right.

@@ -4,11 +4,11 @@ ghost use Rattle.std.specs.Result.{result_err};
 ghost use Rattle.gs1.specs.Keys.{right_digit, check_digit_fault, character_value, pair_sum};
 ghost use Rattle.gs1.specs.Keys.{pair_fault, model_fault, remainder_more, remainder, iban_fault};
 
-use crate::check::behind;
-use crate::checks::{byte, check_key, check_letters, is_digit_at};
+use crate::checks::{check_key, check_letters, is_digit_at};
 use crate::dates::decimal_at;
 use crate::identifiers::{has_right_check_digit, weighted_sum};
 use crate::reason::{Fault, Reason, fault_if};
+use gs1_base::cuts::{behind, byte};
 
 /// The weights of a pair of check characters, from the right.
 static PRIMES: [u8; 23] = [

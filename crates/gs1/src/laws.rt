@@ -1,8 +1,5 @@
 //! Laws: facts about element strings. Each function has no body; its contract is the fact.
 ghost use Rattle.gs1.specs.Keys.{HaveRightDigits};
-ghost use Rattle.gs1.specs.LinkFaults.{LinksAreReadBack, LinksAreReadOrRefused};
-ghost use Rattle.gs1.specs.LinkReader.{LinksHaveOneReading};
-ghost use Rattle.gs1.specs.Percent.{HaveOneText};
 ghost use Rattle.gs1.specs.Reader.{HaveOneList, HaveStringsApart};
 ghost use Rattle.gs1.specs.Strings.{HaveOneOutcome};
 
@@ -24,26 +21,4 @@ pub fn have_one_outcome()
 /// The check digit that a refusal names is right, and no other is.
 pub fn have_right_digits()
     ensures { HaveRightDigits }
-{}
-
-/// Bytes that are written with percent-escapes are read as the same bytes, and no text is read as
-/// two.
-pub fn have_one_text()
-    ensures { HaveOneText }
-{}
-
-/// No link is read as two lists of elements.
-pub fn have_one_reading()
-    ensures { LinksHaveOneReading }
-{}
-
-/// A reader finds elements in the links without a fault, and in no others.
-pub fn are_read_or_refused()
-    ensures { LinksAreReadOrRefused }
-{}
-
-/// The link of a text is read as the elements of the text, in the order of the link, and as no
-/// others.
-pub fn are_read_back()
-    ensures { LinksAreReadBack }
 {}

@@ -5,7 +5,8 @@
 //! // `bytes` are those of "010950600013435210ABC123", the separator 1D (hex) and "217".
 //! ```
 //!
-//! `check_element_string` checks element strings that come without brackets.
+//! `check_element_string` checks element strings that come without brackets. The modules `check`,
+//! `strings`, `together` and `values` have what links (`gs1_links`) are made by.
 #![tactic(auto)]
 
 ghost use Rattle.std.specs.Prelude.{◌≡◌, None, IfOk, OnOk, IfErr};
@@ -13,7 +14,7 @@ ghost use Rattle.gs1.specs.Elements.{written_elements, bracketed, text_fault, Is
 ghost use Rattle.gs1.specs.Reader.{FindsOnly, AreSymbolData};
 ghost use Rattle.qrcode_bits.specs.Contents.{AreElements};
 
-mod check;
+pub mod check;
 mod checked;
 mod checks;
 mod codes;
@@ -22,29 +23,19 @@ mod error;
 mod identifiers;
 mod keys;
 pub mod laws;
-mod link;
-mod link_error;
-mod link_parts;
-mod link_read;
-mod link_rules;
-mod link_values;
-mod percent;
 mod read;
 mod reason;
 mod refusal;
-mod strings;
+pub mod strings;
 mod table;
-mod together;
-mod values;
+pub mod together;
+pub mod values;
 mod write;
 
 pub use checked::{check_element_values, checked_element_string};
 pub use error::Gs1Error;
+use gs1_base::cuts::behind;
 pub use identifiers::right_check_digit;
-pub use link::{digital_link, is_domain};
-pub use link_error::{LinkError, LinkReadError};
-pub use link_read::{LinkElement, elements_of_link};
-pub use percent::{PercentError, percent_decoded, percent_escaped};
 pub use read::{brackets, elements_of};
 pub use reason::Reason;
 pub use refusal::CheckError;
@@ -82,6 +73,6 @@ pub fn element_string(alloc: Global, text: &str) -> Result<Vec<u8>, Gs1Error>
 {
     let text = text.as_bytes();
     check::check_text(text)?;
-    let bytes = write::string_of(alloc, check::behind(text, 0))?;
+    let bytes = write::string_of(alloc, behind(text, 0))?;
     Ok(bytes)
 }

@@ -7,10 +7,11 @@ ghost use Rattle.gs1.specs.Strings.{FindsAt, FindsNoneAt, AreFaultless, IsRefuse
 ghost use Rattle.gs1.specs.Strings.{BeginsWithNone, BeginsWithFault, no_element_fault};
 ghost use Rattle.gs1.specs.Strings.{IsSoundFirst};
 
-use crate::check::{behind, check_parts, first_of};
+use crate::check::check_parts;
 use crate::error::Gs1Error;
 use crate::identifiers::{identifier_length, predefined_length, prefix};
 use crate::write::GROUP_SEPARATOR;
+use gs1_base::cuts::{behind, first_of};
 
 /// An element as it stands in a text or in an element string: its identifier and its value.
 #[derive(Clone, Copy, Debug, PartialEq, Eq)]
@@ -95,7 +96,7 @@ pub fn written_element<'a>(text: &'a [u8], number: usize) -> Option<Element<'a>>
 }
 
 /// Returns the element that is written between two opening brackets.
-pub(crate) fn element_of<'a>(part: &'a [u8]) -> Element<'a>
+pub fn element_of<'a>(part: &'a [u8]) -> Element<'a>
     ensures { element_of part.now
         ≡ record { identifier = result.identifier.now; value = result.value.now } }
 {

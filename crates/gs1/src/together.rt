@@ -2,7 +2,7 @@
 ghost use Rattle.std.specs.Prelude.{◌≡◌, ◌+◌, ◌≤◌, length};
 ghost use Rattle.std.specs.Result.{result_err};
 ghost use Rattle.std.specs.List.{list_any};
-ghost use Rattle.gs1.specs.Identifiers.{is_within};
+ghost use Rattle.gs1_base.specs.Characters.{is_within};
 ghost use Rattle.gs1.specs.Elements.{element_of, elements_behind};
 ghost use Rattle.gs1.specs.Values.{number_of};
 ghost use Rattle.gs1.specs.Together.{needed, needed_by_short, needed_by_long, also_needed};
@@ -10,13 +10,13 @@ ghost use Rattle.gs1.specs.Together.{barred, is_among, first_among};
 ghost use Rattle.gs1.specs.Together.{missing_fault, barred_fault, element_conflict};
 ghost use Rattle.gs1.specs.Together.{first_conflict, text_conflict};
 
-use crate::check::{behind, first_of};
 use crate::values::number_of;
+use gs1_base::cuts::{behind, first_of};
 use thiserror::Error;
 
 /// The most bytes that write elements which a symbol holds: 7089 digits, in elements of three,
 /// each with two brackets.
-pub(crate) const LONGEST_TEXT: usize = 11815;
+pub const LONGEST_TEXT: usize = 11815;
 
 /// Why elements may not stand together. Elements are counted from 0; `identifier` is the number
 /// that the digits of the identifier write.
@@ -136,7 +136,7 @@ fn barred(number: usize) -> &'static [(usize, usize)]
 }
 
 /// Returns whether a number is in one of the ranges.
-pub(crate) fn is_among(ranges: &[(usize, usize)], number: usize) -> bool
+pub fn is_among(ranges: &[(usize, usize)], number: usize) -> bool
     ensures { result ≡ is_among ranges.now number }
 {
     ranges
@@ -146,7 +146,7 @@ pub(crate) fn is_among(ranges: &[(usize, usize)], number: usize) -> bool
 
 /// Returns the first of the elements, written behind a first opening bracket, whose identifier is
 /// in one of the ranges.
-pub(crate) fn first_among(ranges: &[(usize, usize)], text: &[u8]) -> Option<usize>
+pub fn first_among(ranges: &[(usize, usize)], text: &[u8]) -> Option<usize>
     ensures { result ≡ first_among ranges.now 0 (elements_behind text.now) }
 {
     let mut rest = text;
@@ -166,7 +166,7 @@ pub(crate) fn first_among(ranges: &[(usize, usize)], text: &[u8]) -> Option<usiz
 }
 
 /// Returns the number of the identifier of an element that is written between opening brackets.
-pub(crate) fn number_at(part: &[u8]) -> usize
+pub fn number_at(part: &[u8]) -> usize
     ensures { result ≡ number_of (element_of part.now).identifier }
 {
     number_of(&part[..first_of(part, b')')])

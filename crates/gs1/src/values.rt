@@ -9,7 +9,7 @@ ghost use Rattle.gs1.specs.Values.{value_fault, number_of, is_assigned, identifi
 ghost use Rattle.gs1.specs.Values.{value_error, element_error, first_error, text_error};
 ghost use Rattle.gs1.specs.Elements.{element_of, elements_behind};
 
-use crate::check::{behind, first_of, is_identifier};
+use crate::check::is_identifier;
 use crate::checks::{
     check_coordinate, check_country, check_country_or_any, check_currency, check_escapes,
     check_flag, check_importer, check_key, check_leading_zero, check_letters, check_media,
@@ -25,6 +25,7 @@ use crate::keys::{check_digit, check_iban, check_model};
 use crate::reason::{Fault, Reason, fault_if};
 use crate::refusal::CheckError;
 use crate::table::{Characters, Check, Component, components};
+use gs1_base::cuts::{behind, first_of};
 
 /// Returns whether a component may have a character.
 fn is_allowed(characters: Characters, c: u8) -> bool
@@ -134,7 +135,7 @@ fn check_value(components: &[Component], value: &[u8]) -> Result<(), Fault>
 }
 
 /// Returns the number that the digits of an identifier write.
-pub(crate) fn number_of(identifier: &[u8]) -> usize
+pub fn number_of(identifier: &[u8]) -> usize
     ensures { result ≡ number_of identifier.now }
 {
     match identifier.len() {
@@ -198,11 +199,7 @@ fn check_value_of(element: usize, identifier: &[u8], value: &[u8]) -> Result<(),
 
 /// Checks an element of this identifier and value.
 #[tactic(auto, unfolding(crate::specs::Values::element_error))]
-pub(crate) fn check_element(
-    element: usize,
-    identifier: &[u8],
-    value: &[u8],
-) -> Result<(), CheckError>
+pub fn check_element(element: usize, identifier: &[u8], value: &[u8]) -> Result<(), CheckError>
     ensures { result_err result
         ≡ element_error element (record { identifier = identifier.now; value = value.now }) }
 {
@@ -238,7 +235,7 @@ fn check_elements(text: &[u8]) -> Result<(), CheckError>
 }
 
 /// Checks a text.
-pub(crate) fn check_text(text: &[u8]) -> Result<(), CheckError>
+pub fn check_text(text: &[u8]) -> Result<(), CheckError>
     ensures { result_err result ≡ text_error text.now }
 {
     if first_of(text, b'(') != 0 || text.is_empty() {

@@ -3,8 +3,8 @@ ghost use Rattle.std.specs.Prelude.{◌≡◌, ◌++◌, IfOk, OnOk};
 ghost use Rattle.gs1.specs.Elements.{elements_behind};
 ghost use Rattle.gs1.specs.Reader.{string_of, separator_behind};
 
-use crate::check::{behind, first_of};
 use crate::identifiers::predefined_length;
+use gs1_base::cuts::{behind, first_of};
 use std::alloc::{AllocError, Global};
 
 /// The byte as which readers give FNC1 between two elements.

@@ -1,5 +1,5 @@
-//! Tests of GS1 element strings and links (`gs1`) by its public calls. They are in a crate of their
-//! own so that the gate proves the tested crate only once.
+//! Tests of GS1 element strings (`gs1`) and links (`gs1_links`) by their public calls. They are in
+//! a crate of their own so that the gate proves the tested crates only once.
 #![tactic(auto)]
 
 #[cfg(test)]

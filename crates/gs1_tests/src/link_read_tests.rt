@@ -1,5 +1,6 @@
 //! Elements of links.
-use gs1::{CheckError, LinkElement, LinkReadError, Reason, digital_link, elements_of_link};
+use gs1::{CheckError, Reason};
+use gs1_links::{LinkElement, LinkReadError, digital_link, elements_of_link};
 use std::alloc::Global;
 
 /// Appends an element as `(01)..`.

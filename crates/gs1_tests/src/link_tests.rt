@@ -1,7 +1,6 @@
 //! Links of elements.
-use gs1::{
-    CheckError, LinkError, PercentError, Reason, digital_link, percent_decoded, percent_escaped,
-};
+use gs1::{CheckError, Reason};
+use gs1_links::{LinkError, PercentError, digital_link, percent_decoded, percent_escaped};
 use std::alloc::Global;
 
 /// Texts, domains and links. The first two are examples of the standard, as remembered.

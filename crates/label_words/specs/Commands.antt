@@ -25,7 +25,7 @@ use Rattle.label_words.specs.declared.words.Name.TheVariants.{Copies, Compressed
 use Rattle.label_words.specs.declared.words.Name.TheVariants.{Verbose, Info, Dark, Light, AnyColors, Domain}
 use Rattle.label_words.specs.Choices.{level_named, content_named, turn_named, format_named, format_of_ending}
 use Rattle.label_words.specs.Choices.{is_link, is_micro, has_dots, is_png, is_pdf, can_be_split, is_terminal}
-use Rattle.gs1.specs.Links.{is_domain}
+use Rattle.gs1_base.specs.Domains.{is_domain}
 use Rattle.label_words.specs.Names.{Numbering, numbering_in}
 use Rattle.qrcode_render.specs.Formats.{can_be_shown, is_stream}
 use Rattle.qrcode_render.specs.OptionWords.{word_number, word_hundredths, word_position, around_first}

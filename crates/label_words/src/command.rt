@@ -19,7 +19,7 @@ use crate::names::Numbering;
 use crate::portion::{check_terminal, details_of, portion_of};
 use crate::settings::{in_dots, settings_of, zoned};
 use crate::words::{Misuse, Name, Values};
-use gs1::is_domain;
+use gs1_base::domain::is_domain;
 use qrcode_core::options::SymbolOptions;
 use qrcode_core::types::EcLevel;
 use qrcode_render::option_words::number_of_word;

@@ -6,8 +6,8 @@ use Rattle.std.specs.Io.BufRead.{ends_with_byte, strip_last}
 use Rattle.std.specs.Str.{IsUtf8, IsValidUpTo}
 use Rattle.gs1.specs.Checked.{AreAllowedElements, IsRefusedStringByTable}
 use Rattle.gs1.specs.Elements.{written_elements, text_fault, IsRefusedText}
-use Rattle.gs1.specs.LinkReader.{ReadsLink}
-use Rattle.gs1.specs.Links.{link_of, link_error, IsRefusedLink, linked}
+use Rattle.gs1_links.specs.LinkReader.{ReadsLink}
+use Rattle.gs1_links.specs.Links.{link_of, link_error, IsRefusedLink, linked}
 use Rattle.gs1.specs.Reader.{FindsOnly}
 use Rattle.gs1.specs.Strings.{AreFaultless, IsRefusedString}
 use Rattle.gs1.specs.Values.{text_error, IsRefusedByTable}

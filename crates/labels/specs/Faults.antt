@@ -2,7 +2,8 @@
 use Rattle.std.specs.Prelude.{◌≡◌, ◌⊎◌, ℕ, ⊤, List, [], ◌∷◌, if◌then◌else◌, slice_get, Option, None, Some}
 use Rattle.std.specs.List.{list_all}
 use Rattle.gs1.specs.Elements.{Element, written_elements}
-use Rattle.gs1.specs.Identifiers.{is_decimal_digit, IsRightDigit, AreFewDigits}
+use Rattle.gs1_base.specs.Characters.{is_decimal_digit}
+use Rattle.gs1.specs.Identifiers.{IsRightDigit, AreFewDigits}
 use Rattle.gs1.specs.Strings.{FindsAt, FindsNoneAt}
 use Rattle.gs1.specs.declared.error.Gs1Error.{Gs1Error}
 use Rattle.gs1.specs.declared.error.Gs1Error.TheVariants.{InvalidIdentifier, UnknownIdentifier}

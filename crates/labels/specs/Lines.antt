@@ -5,8 +5,8 @@ use Rattle.std.specs.List.{list_all}
 use Rattle.std.specs.declared.io.ErrorKind.{ErrorKind}
 use Rattle.gs1.specs.declared.error.Gs1Error.{Gs1Error}
 use Rattle.gs1.specs.declared.error.Gs1Error.TheVariants.{OutOfMemory as NoMemory}
-use Rattle.gs1.specs.declared.link_error.LinkError.{LinkError}
-use Rattle.gs1.specs.declared.link_error.LinkError.TheVariants.{OutOfMemory as NoSpace}
+use Rattle.gs1_links.specs.declared.link_error.LinkError.{LinkError}
+use Rattle.gs1_links.specs.declared.link_error.LinkError.TheVariants.{OutOfMemory as NoSpace}
 use Rattle.gs1.specs.declared.refusal.CheckError.{CheckError}
 use Rattle.gs1.specs.declared.refusal.CheckError.TheVariants.{OutOfMemory as NoRoom}
 use Rattle.std.specs.Io.KnownBytes.{Appends, IsAtEnd}

@@ -1,7 +1,7 @@
 -- The pieces of a line on standard error.
 use Rattle.std.specs.Prelude.{ℕ, ◌+◌, ◌-◌, ◌^◌, ◌==◌, min, List, [], ◌∷◌, ◌++◌, codes, flat_map}
 use Rattle.std.specs.Prelude.{if◌then◌else◌}
-use Rattle.gs1.specs.Identifiers.{is_decimal_digit}
+use Rattle.gs1_base.specs.Characters.{is_decimal_digit}
 
 -- A line after a name: that of the program, or one that details of what the line is.
 abbrev pub line_of : List ℕ → List (List ℕ) → List ℕ

@@ -1,11 +1,11 @@
 -- Why the table of identifiers does not allow GS1 elements, or why there is no link of them, as a
 -- line.
 use Rattle.std.specs.Prelude.{ℕ, ◌+◌, nat_lt, List, [], ◌∷◌, codes, decimal, if◌then◌else◌}
-use Rattle.gs1.specs.declared.link_error.LinkError.{LinkError}
-use Rattle.gs1.specs.declared.link_error.LinkError.TheVariants.{TextTooLong, Elements, WrongDomain}
-use Rattle.gs1.specs.declared.link_error.LinkError.TheVariants.{NoKey, SecondKey, WrongQualifier}
-use Rattle.gs1.specs.declared.link_error.LinkError.TheVariants.{RepeatedElement}
-use Rattle.gs1.specs.declared.link_error.LinkError.TheVariants.{OutOfMemory as NoMemory}
+use Rattle.gs1_links.specs.declared.link_error.LinkError.{LinkError}
+use Rattle.gs1_links.specs.declared.link_error.LinkError.TheVariants.{TextTooLong, Elements, WrongDomain}
+use Rattle.gs1_links.specs.declared.link_error.LinkError.TheVariants.{NoKey, SecondKey, WrongQualifier}
+use Rattle.gs1_links.specs.declared.link_error.LinkError.TheVariants.{RepeatedElement}
+use Rattle.gs1_links.specs.declared.link_error.LinkError.TheVariants.{OutOfMemory as NoMemory}
 use Rattle.gs1.specs.declared.reason.Reason.{Reason}
 use Rattle.gs1.specs.declared.reason.Reason.TheVariants.{TooShort, TooLong, WrongCharacter}
 use Rattle.gs1.specs.declared.reason.Reason.TheVariants.{WrongCheckDigit, WrongCheckPair}

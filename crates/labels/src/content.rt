@@ -13,10 +13,8 @@ ghost use Rattle.std.specs.Io.BufRead.{strip_last};
 
 use crate::element::{read_stop, written_stop};
 use crate::stop::Stop;
-use gs1::{
-    check_element_string, check_element_values, checked_element_string, digital_link,
-    element_string,
-};
+use gs1::{check_element_string, check_element_values, checked_element_string, element_string};
+use gs1_links::digital_link;
 use label_words::Content;
 use qrcode_base::symbols::LONGEST_DATA;
 use qrcode_core::options::SymbolOptions;

@@ -1,14 +1,15 @@
 //! Why the table of identifiers does not allow GS1 elements, or why there is no link of them, as a
 //! line on standard error.
 ghost use Rattle.std.specs.Prelude.{◌≡◌, IsFalse};
-ghost use Rattle.gs1.specs.declared.link_error.LinkError.TheVariants.{SecondKey};
+ghost use Rattle.gs1_links.specs.declared.link_error.LinkError.TheVariants.{SecondKey};
 ghost use Rattle.gs1.specs.declared.refusal.CheckError.TheVariants.{InvalidIdentifier, WrongValue};
 ghost use Rattle.programs.specs.Devices.{output, Writes};
 ghost use Rattle.labels.specs.Refusals.{refusal_line, opening_text, reason_text, right_digit};
 ghost use Rattle.labels.specs.Refusals.{at_element, no_link_line};
 
 use crate::pieces::{NO_ELEMENTS, WOULD_BE, digit_text, unless_zero};
-use gs1::{CheckError, LinkError, Reason};
+use gs1::{CheckError, Reason};
+use gs1_links::LinkError;
 use itoa::Buffer;
 use programs::{Fault, Sink, write_line};
 

@@ -15,8 +15,8 @@ use Rattle.qrcode_core.specs.Options.{HasVersions, IsOptionsRefusal, IsElementsO
 use Rattle.qrcode_core.specs.Sequence.{IsSequenceRefusal}
 use Rattle.qrcode_core.specs.declared.options.SymbolOptions.{SymbolOptions}
 use Rattle.gs1.specs.Elements.{written_elements}
-use Rattle.gs1.specs.LinkReader.{ReadsLink}
-use Rattle.gs1.specs.Links.{link_of, linked}
+use Rattle.gs1_links.specs.LinkReader.{ReadsLink}
+use Rattle.gs1_links.specs.Links.{link_of, linked}
 use Rattle.gs1.specs.Reader.{FindsOnly}
 use Rattle.qrcode_c.specs.Asking.{AsksFor, Means}
 use Rattle.qrcode_c.specs.Asking.{IsAskedTextRefusal, IsAskedElementsRefusal}

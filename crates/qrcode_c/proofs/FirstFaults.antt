@@ -4,13 +4,13 @@ use Rattle.std.specs.Prelude.{◌<◌, ◌++◌, length, drop, Result, Ok, Err, 
 use Rattle.std.specs.Prelude.{ℕ, Bool, true, false, List, Option, Some, None, ◌==◌, if◌then◌else◌}
 use Rattle.std.specs.Option.{option_map}
 use Rattle.gs1.specs.Elements.{text_fault, written_elements}
-use Rattle.gs1.specs.LinkReader.{ReadsLink}
-use Rattle.gs1.specs.Links.{link_error, link_of, linked, IsRefusedLink}
+use Rattle.gs1_links.specs.LinkReader.{ReadsLink}
+use Rattle.gs1_links.specs.Links.{link_error, link_of, linked, IsRefusedLink}
 use Rattle.gs1.specs.Values.{text_error}
 use Rattle.gs1.specs.declared.error.Gs1Error.{Gs1Error}
 use Rattle.gs1.specs.declared.error.Gs1Error.TheVariants as fault
-use Rattle.gs1.specs.declared.link_error.LinkError.{LinkError}
-use Rattle.gs1.specs.declared.link_error.LinkError.TheVariants as link
+use Rattle.gs1_links.specs.declared.link_error.LinkError.{LinkError}
+use Rattle.gs1_links.specs.declared.link_error.LinkError.TheVariants as link
 use Rattle.gs1.specs.declared.reason.Reason.{Reason}
 use Rattle.gs1.specs.declared.reason.Reason.TheVariants as reason
 use Rattle.gs1.specs.declared.refusal.CheckError.{CheckError}

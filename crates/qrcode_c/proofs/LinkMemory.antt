@@ -1,7 +1,7 @@
 -- Why there is no link is never that an allocation failed, and no domain is a text that is not UTF-8.
 use Rattle.std.proofs.Common.{◌≡◌, ◌∙◌, refl, sym, ap, arith}
 use Rattle.std.specs.Prelude.{ℕ, ◌+◌, ◌<◌, Bool, true, false, not, List, [], ◌∷◌, length, All, Option, Some, None, if◌then◌else◌}
-use Rattle.gs1.specs.Identifiers.{is_decimal_digit}
+use Rattle.gs1_base.specs.Characters.{is_decimal_digit}
 use Rattle.std.specs.Prelude.{◌&&◌, ◌||◌, ◌==◌, nat_lt, is_some, Result, Ok, Err, IfOk, OnOk, IfErr}
 use Rattle.std.specs.Option.{option_or, option_map}
 use Rattle.std.specs.List.{list_any, list_all, before_first, after_first, position_or_len}
@@ -11,18 +11,19 @@ use Rattle.std.proofs.lemmas.Str.{IsUtf8-from_ascii}
 use Rattle.std.proofs.lemmas.Str.Ascii.{IsAscii-from_all}
 use Rattle.std.proofs.lemmas.List.Elements.{All-cons, All-nil}
 use Rattle.gs1.specs.Elements.{Element, written_elements}
-use Rattle.gs1.specs.Links.{is_colon}
-use Rattle.gs1.specs.Links.{keys, qualifiers, number, is_domain, is_domain_character, domain_fault, text_length_fault, no_key_fault}
-use Rattle.gs1.specs.Links.{qualifier_fault, second_key_fault, repeated_fault, later_fault, place_with}
-use Rattle.gs1.specs.Links.{first_rule_fault, elements_fault, qualifier_order, link_error, IsRefusedLink}
+use Rattle.gs1_base.specs.Domains.{is_colon}
+use Rattle.gs1_base.specs.Domains.{is_domain, is_domain_character}
+use Rattle.gs1_links.specs.Links.{keys, qualifiers, number, domain_fault, text_length_fault, no_key_fault}
+use Rattle.gs1_links.specs.Links.{qualifier_fault, second_key_fault, repeated_fault, later_fault, place_with}
+use Rattle.gs1_links.specs.Links.{first_rule_fault, elements_fault, qualifier_order, link_error, IsRefusedLink}
 use Rattle.gs1.specs.Together.{is_among, first_among}
 use Rattle.gs1.specs.Values.{text_error}
 use Rattle.gs1.specs.declared.refusal.CheckError.{CheckError}
 use Rattle.gs1.specs.declared.refusal.CheckError.TheVariants.{OutOfMemory as NoMemory}
-use Rattle.gs1.specs.declared.link_error.LinkError.{LinkError}
-use Rattle.gs1.specs.declared.link_error.LinkError.TheVariants.{Elements, WrongDomain, TextTooLong}
-use Rattle.gs1.specs.declared.link_error.LinkError.TheVariants.{NoKey, SecondKey, WrongQualifier}
-use Rattle.gs1.specs.declared.link_error.LinkError.TheVariants.{RepeatedElement, OutOfMemory}
+use Rattle.gs1_links.specs.declared.link_error.LinkError.{LinkError}
+use Rattle.gs1_links.specs.declared.link_error.LinkError.TheVariants.{Elements, WrongDomain, TextTooLong}
+use Rattle.gs1_links.specs.declared.link_error.LinkError.TheVariants.{NoKey, SecondKey, WrongQualifier}
+use Rattle.gs1_links.specs.declared.link_error.LinkError.TheVariants.{RepeatedElement, OutOfMemory}
 use Rattle.gs1.proofs.Refused.{refused_text}
 
 -- ---- Memory

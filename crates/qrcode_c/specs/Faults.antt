@@ -3,8 +3,8 @@ use Rattle.std.specs.Prelude.{◌≡◌, ℕ, ℤ, pos, negsuc, ◌+◌, ◌-◌
 use Rattle.std.specs.Prelude.{Some, if◌then◌else◌}
 use Rattle.gs1.specs.declared.error.Gs1Error.{Gs1Error}
 use Rattle.gs1.specs.declared.error.Gs1Error.TheVariants as fault
-use Rattle.gs1.specs.declared.link_error.LinkError.{LinkError}
-use Rattle.gs1.specs.declared.link_error.LinkError.TheVariants as link
+use Rattle.gs1_links.specs.declared.link_error.LinkError.{LinkError}
+use Rattle.gs1_links.specs.declared.link_error.LinkError.TheVariants as link
 use Rattle.gs1.specs.declared.reason.Reason.{Reason}
 use Rattle.gs1.specs.declared.reason.Reason.TheVariants as reason
 use Rattle.gs1.specs.declared.refusal.CheckError.{CheckError}

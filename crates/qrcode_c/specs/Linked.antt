@@ -4,9 +4,9 @@ use Rattle.std.specs.Option.{option_map}
 use Rattle.std.specs.Str.{IsUtf8}
 use Rattle.qrcode_bits.specs.Frame.{no_front}
 use Rattle.gs1.specs.Elements.{written_elements}
-use Rattle.gs1.specs.LinkReader.{ReadsLink}
-use Rattle.gs1.specs.Links.{link_error, link_of, linked}
-use Rattle.gs1.specs.declared.link_error.LinkError.{LinkError}
+use Rattle.gs1_links.specs.LinkReader.{ReadsLink}
+use Rattle.gs1_links.specs.Links.{link_error, link_of, linked}
+use Rattle.gs1_links.specs.declared.link_error.LinkError.{LinkError}
 use Rattle.qrcode_c.specs.declared.faults.ElementFault.{ElementFault}
 use Rattle.qrcode_c.specs.declared.options.Options.{Options}
 use Rattle.qrcode_c.specs.declared.refusal.Refusal.{Refusal}

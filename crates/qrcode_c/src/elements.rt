@@ -105,7 +105,7 @@ pub extern "C" fn qrcode_c_gs1_fault(alloc: Global, text: &[u8], fault: &mut Ele
 }
 
 /// Writes the symbol of the GS1 Digital Link of elements that are written as people write them, at
-/// a domain, as `qrcode_c_bytes` does (`digital_link` of `gs1`).
+/// a domain, as `qrcode_c_bytes` does (`digital_link` of `gs1_links`).
 ///
 /// # Errors
 ///

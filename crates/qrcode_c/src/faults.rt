@@ -5,7 +5,8 @@ ghost use Rattle.qrcode_c.specs.Faults.{counted, identifier_argument, reason_arg
 ghost use Rattle.qrcode_c.specs.Faults.{at_element, place_of, link_place_of};
 
 use crate::refusal::Refusal;
-use gs1::{CheckError, Gs1Error, LinkError, Reason};
+use gs1::{CheckError, Gs1Error, Reason};
+use gs1_links::LinkError;
 
 /// Where the fault of a text of elements is, and its reason.
 #[repr(C)]

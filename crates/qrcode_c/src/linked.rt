@@ -6,8 +6,8 @@
 //!    the link itself.
 ghost use Rattle.std.specs.Prelude.{◌≡◌, ◌≢◌, None, length, OnErr, OnOk, IfOk, IfErr};
 ghost use Rattle.gs1.specs.Elements.{written_elements};
-ghost use Rattle.gs1.specs.LinkReader.{ReadsLink};
-ghost use Rattle.gs1.specs.Links.{link_error, link_of, linked, IsRefusedLink};
+ghost use Rattle.gs1_links.specs.LinkReader.{ReadsLink};
+ghost use Rattle.gs1_links.specs.Links.{link_error, link_of, linked, IsRefusedLink};
 ghost use Rattle.qrcode_bits.specs.Frame.{no_front};
 ghost use Rattle.qrcode_c.specs.Holding.{HoldsAsked};
 ghost use Rattle.qrcode_c.specs.Linked.{link_fault, HasLink, IsLinkedRefusal, HoldsLink};
@@ -19,7 +19,7 @@ use crate::options::{Options, options_of};
 use crate::picture::write_bytes;
 use crate::refusal::{Refusal, core_refusal};
 use crate::shape::Shape;
-use gs1::{LinkError, digital_link};
+use gs1_links::{LinkError, digital_link};
 use qrcode_core::symbol::Symbol;
 use std::alloc::Global;
 

@@ -1,11 +1,11 @@
-//! Symbols of links of GS1 elements, by `gs1` and `qrcode_core`.
+//! Symbols of links of GS1 elements, by `gs1_links` and `qrcode_core`.
 ghost use Rattle.std.specs.Prelude.{ℕ, List, IfOk};
 ghost use Rattle.gs1.specs.Elements.{written_elements};
-ghost use Rattle.gs1.specs.Links.{linked};
-ghost use Rattle.gs1.specs.LinkReader.{ReadsLink};
+ghost use Rattle.gs1_links.specs.Links.{linked};
+ghost use Rattle.gs1_links.specs.LinkReader.{ReadsLink};
 ghost use Rattle.qrcode_core.specs.Headline.{IsBestSymbol};
 
-use gs1::{LinkError, digital_link};
+use gs1_links::{LinkError, digital_link};
 use qrcode_core::symbol::Symbol;
 use qrcode_core::types::{EcLevel, QrError};
 use std::alloc::Global;

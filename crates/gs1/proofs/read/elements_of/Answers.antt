@@ -1,6 +1,7 @@
 use Rattle.std.proofs.Common.{subst}
 use Rattle.gs1.specs.Checked.{AreAllowedElements}
-use Rattle.gs1.proofs.Cuts.{shorter, some_left, none_left, some_bytes}
+use Rattle.gs1.proofs.Cuts.{shorter}
+use Rattle.gs1_base.proofs.Lists.{some_left, none_left, some_bytes}
 use Rattle.gs1.proofs.Scans.{never_none, all_found, pushed}
 use Rattle.gs1.proofs.read.elements_of.Goals as goal
 

@@ -1,7 +1,8 @@
 use Rattle.std.proofs.Common.{◌++◌, ◌∷◌, [], List, ℕ, arith, subst, length-append}
 use Rattle.std.proofs.lemmas.Result.{err_from_is_err_and}
 use Rattle.gs1.specs.Strings.{FindsBefore}
-use Rattle.gs1.proofs.Cuts.{before_more, faultless_more, faultless, shorter, some_left, none_left, some_bytes}
+use Rattle.gs1.proofs.Cuts.{before_more, faultless_more, faultless, shorter}
+use Rattle.gs1_base.proofs.Lists.{some_left, none_left, some_bytes}
 use Rattle.gs1.proofs.Refusals.{refused_by, no_memory}
 use Rattle.gs1.proofs.strings.check_element_string.Goals as goal
 

@@ -1,5 +1,0 @@
-use Rattle.gs1.proofs.LinkOutcomes.{read_or_refused}
-use Rattle.gs1.proofs.laws.are_read_or_refused.Goals as goal
-
-pub returns : goal.returns
-returns c = read_or_refused

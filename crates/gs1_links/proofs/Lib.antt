@@ -1,0 +1,15 @@
+pub mod Rules
+pub mod LinkCuts
+pub mod LinkElements
+pub mod LinkTexts
+pub mod LinkReads
+pub mod LinkKept
+pub mod LinkWhole
+pub mod OneLink
+pub mod LinkValues
+pub mod LinkLoops
+pub mod LinkReadBack
+pub mod LinkStems
+pub mod LinkQueries
+pub mod LinkOutcomes
+pub mod LinkFronts

@@ -1,0 +1,3 @@
+pub mod Links
+pub mod LinkReader
+pub mod LinkFaults

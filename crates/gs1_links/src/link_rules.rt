@@ -1,0 +1,206 @@
+//! Which elements a link may have, and where they stand in it.
+ghost use Rattle.std.specs.Prelude.{◌≡◌, ◌&&◌, not, None, Some, IfNone, IfSome, unwrap_or};
+ghost use Rattle.std.specs.Option.{option_map};
+ghost use Rattle.std.specs.Result.{result_err};
+ghost use Rattle.gs1.specs.Elements.{element_of, elements_behind, written_elements};
+ghost use Rattle.gs1_links.specs.Links.{keys, qualifiers, order_of, second_set, element_with, primary_key, qualifier_order};
+ghost use Rattle.gs1_links.specs.Links.{number, qualifier_fault, second_key_fault, repeated_fault};
+ghost use Rattle.gs1_links.specs.Links.{later_fault, first_rule_fault, no_key_fault, elements_fault};
+ghost use Rattle.gs1_links.specs.Links.{is_attribute};
+ghost use Rattle.gs1.specs.Together.{is_among};
+
+use crate::link_error::LinkError;
+use gs1::strings::{Element, written_element};
+use gs1::together::{first_among, is_among, number_at};
+use gs1::values::number_of;
+use gs1_base::cuts::{behind, first_of};
+
+/// Returns the ranges of the primary keys.
+fn keys() -> &'static [(usize, usize)]
+    ensures { result.now ≡ keys }
+{
+    &[
+        (0, 1),
+        (253, 253),
+        (255, 255),
+        (401, 402),
+        (414, 415),
+        (417, 417),
+        (8003, 8004),
+        (8006, 8006),
+        (8010, 8010),
+        (8013, 8013),
+        (8017, 8018),
+    ]
+}
+
+/// Returns the ranges of the qualifiers of keys.
+fn qualifiers() -> &'static [(usize, usize)]
+    ensures { result.now ≡ qualifiers }
+{
+    &[
+        (10, 10),
+        (21, 22),
+        (235, 235),
+        (254, 254),
+        (7040, 7040),
+        (8011, 8011),
+        (8019, 8020),
+    ]
+}
+
+/// Returns whether an identifier is a primary key.
+pub(crate) fn is_key(number: usize) -> bool
+    ensures { result ≡ is_among keys number }
+{
+    is_among(keys(), number)
+}
+
+/// Returns whether an identifier is neither a primary key nor a qualifier.
+pub(crate) fn is_attribute_number(number: usize) -> bool
+    ensures { result ≡ (not (is_among keys number) && not (is_among qualifiers number)) }
+{
+    !is_among(keys(), number) && !is_among(qualifiers(), number)
+}
+
+/// Returns whether an element that is written between opening brackets stands in the query.
+pub(crate) fn is_attribute(part: &[u8]) -> bool
+    ensures { result ≡ is_attribute (element_of part.now) }
+{
+    is_attribute_number(number_at(part))
+}
+
+/// Returns the qualifiers of a key in the order of the path, of the first or of the second set.
+#[tactic(auto, unfolding(crate::specs::Links::order_of))]
+pub(crate) fn order_of(key: usize, second: bool) -> &'static [usize]
+    ensures { result.now ≡ order_of key second }
+{
+    match key {
+        1 if second => &[235],
+        1 | 8006 => &[22, 10, 21],
+        414 if !second => &[254],
+        414 | 417 | 8004 => &[7040],
+        415 => &[8020],
+        8010 => &[8011],
+        8017 | 8018 => &[8019],
+        _ => &[],
+    }
+}
+
+/// Returns the qualifier of the second set of a key.
+fn second_set(key: usize) -> usize
+    ensures { result ≡ second_set key }
+{
+    if key == 1 { 235 } else { 7040 }
+}
+
+/// Returns the first element of a text with this identifier.
+pub(crate) fn element_with<'a>(number: usize, text: &'a [u8]) -> Option<Element<'a>>
+    ensures some { IfSome result (λ e. element_with number (written_elements text.now)
+        ≡ Some (record { identifier = e.identifier.now; value = e.value.now })) }
+    ensures none { IfNone result (element_with number (written_elements text.now) ≡ None) }
+{
+    let place = first_among(&[(number, number)], behind(text, 0))?;
+    written_element(text, place)
+}
+
+/// Returns the first primary key of a text.
+pub(crate) fn primary_key<'a>(text: &'a [u8]) -> Option<Element<'a>>
+    ensures some { IfSome result (λ e. primary_key (written_elements text.now)
+        ≡ Some (record { identifier = e.identifier.now; value = e.value.now })) }
+    ensures none { IfNone result (primary_key (written_elements text.now) ≡ None) }
+{
+    let place = first_among(keys(), behind(text, 0))?;
+    written_element(text, place)
+}
+
+/// Returns the number of the identifier of the first primary key, or 0.
+fn key_number(text: &[u8]) -> usize
+    ensures { result ≡ unwrap_or (option_map number (primary_key (written_elements text.now))) 0 }
+{
+    match primary_key(text) {
+        Some(key) => number_of(key.identifier),
+        None => 0,
+    }
+}
+
+/// Returns the qualifiers that may stand in the link of a text, in their order.
+pub(crate) fn qualifier_order(text: &[u8]) -> &'static [usize]
+    ensures { result.now ≡ qualifier_order (written_elements text.now) }
+{
+    let key = key_number(text);
+    let second = second_set(key);
+    order_of(
+        key,
+        first_among(&[(second, second)], behind(text, 0)).is_some(),
+    )
+}
+
+/// Checks that an element is no qualifier of another key.
+#[tactic(auto, unfolding(crate::specs::Links::qualifier_fault))]
+fn check_qualifier(order: &[usize], element: usize, identifier: usize) -> Result<(), LinkError>
+    ensures { result_err result ≡ qualifier_fault order.now element identifier }
+{
+    if is_among(qualifiers(), identifier) && !order.contains(&identifier) {
+        return Err(LinkError::WrongQualifier {
+            element,
+            identifier,
+        });
+    }
+    Ok(())
+}
+
+/// Checks that no second key, and no element with the same identifier, is among those later.
+#[tactic(auto, unfolding(crate::specs::Links::second_key_fault, crate::specs::Links::repeated_fault))]
+fn check_later(element: usize, identifier: usize, later: &[u8]) -> Result<(), LinkError>
+    ensures { result_err result ≡ later_fault element identifier (elements_behind later.now) }
+{
+    if is_among(keys(), identifier) && first_among(keys(), later).is_some() {
+        return Err(LinkError::SecondKey { element });
+    }
+    if first_among(&[(identifier, identifier)], later).is_some() {
+        return Err(LinkError::RepeatedElement {
+            element,
+            identifier,
+        });
+    }
+    Ok(())
+}
+
+/// Checks the elements that are written behind a first opening bracket.
+fn check_rules(order: &[usize], text: &[u8]) -> Result<(), LinkError>
+    ensures { result_err result ≡ first_rule_fault order.now 0 (elements_behind text.now) }
+{
+    let mut rest = text;
+    let mut element = 0;
+    loop {
+        let end = first_of(rest, b'(');
+        let identifier = number_at(&rest[..end]);
+        check_qualifier(order, element, identifier)?;
+        if end == rest.len() {
+            return Ok(());
+        }
+        rest = behind(rest, end);
+        check_later(element, identifier, rest)?;
+        element += 1;
+    }
+}
+
+/// Checks that an element is a primary key.
+#[tactic(auto, unfolding(crate::specs::Links::no_key_fault))]
+fn check_key(text: &[u8]) -> Result<(), LinkError>
+    ensures { result_err result ≡ no_key_fault (elements_behind text.now) }
+{
+    if first_among(keys(), text).is_none() {
+        return Err(LinkError::NoKey);
+    }
+    Ok(())
+}
+
+/// Checks that the elements of a text make a link.
+pub(crate) fn check_elements(text: &[u8]) -> Result<(), LinkError>
+    ensures { result_err result ≡ elements_fault (written_elements text.now) }
+{
+    check_key(behind(text, 0))?;
+    check_rules(qualifier_order(text), behind(text, 0))
+}
