@@ -23,7 +23,7 @@ use Rattle.std.specs.declared.io.ErrorKind.{ErrorKind}
 use Rattle.labels.specs.declared.stop.LineStop.{LineStop}
 use Rattle.labels.specs.{Stops.end_report, Stops.stop_status, Runs.lines_reported, Runs.lines_status, Runs.last_number}
 use Rattle.labels.specs.{Stops.numbered_line, Lines.IsLeftOut, Reports.Reports, MadeOf.made_of}
-use Rattle.single_label.specs.{Labels.IsLabelStop}
+use Rattle.single_label.specs.Labels.{IsLabelStop}
 use Rattle.std.specs.Prelude.{Vec, IfOk, IfErr, OnOk, IsOk}
 use Rattle.std.specs.declared.alloc.Global.{Global}
 use Rattle.labels.specs.{Lines.stream, Folders.folder}

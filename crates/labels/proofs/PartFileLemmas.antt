@@ -14,7 +14,7 @@ use Rattle.single_label.specs.declared.stop.{Stop.Stop, Stop.TheVariants.Fault, 
 use Rattle.single_label.specs.declared.stop.{Stop.TheVariants.NotAscii, Stop.TheVariants.TooLong, Stop.TheVariants.TooManyParts, Stop.TheVariants.TooManyPages}
 use Rattle.labels.specs.{FileStates.FilesState, FileStates.AddsFiles, Folders.part_files, Folders.PutsSome}
 use Rattle.label_words.specs.Names.{Numbering, numbered}
-use Rattle.single_label.specs.{Parts.IsMessageStop}
+use Rattle.single_label.specs.Parts.{IsMessageStop}
 use Rattle.labels.specs.{Runs.AreDrawings, Runs.IsPartsOutcome}
 use Rattle.single_label.proofs.PartLemmas.{no_device_message}
 use Rattle.labels.proofs.LabelLemmas.{adds_append}

@@ -20,7 +20,8 @@ use Rattle.single_label.specs.Labels.{ShowsLabel, IsLabelStop}
 use Rattle.label_words.specs.declared.command.Label.{Label}
 use Rattle.labels.specs.declared.stop.LineStop.{LineStop}
 use Rattle.single_label.specs.declared.stop.Stop.{Stop}
-use Rattle.single_label.specs.declared.stop.Stop.TheVariants.{Fault, Elements, NotAllowed, NoLink, TooManyPages}
+use Rattle.single_label.specs.declared.stop.Stop.TheVariants.{Fault, Elements, NotAllowed, NoLink}
+use Rattle.single_label.specs.declared.stop.Stop.TheVariants.{TooManyPages}
 use Rattle.labels.specs.Stops.{numbered_line}
 
 -- ---- Labels in their order

@@ -17,7 +17,8 @@ use Rattle.labels.specs.Refusals.{refusal_line, no_link_line}
 use Rattle.single_label.specs.declared.stop.ElementStop.{ElementStop}
 use Rattle.labels.specs.declared.stop.LineStop.{LineStop}
 use Rattle.single_label.specs.declared.stop.Stop.{Stop}
-use Rattle.single_label.specs.declared.stop.Stop.TheVariants.{Fault, Elements, NotAllowed, NoLink, Empty, NotAscii, TooLong}
+use Rattle.single_label.specs.declared.stop.Stop.TheVariants.{Fault, Elements, NotAllowed, NoLink}
+use Rattle.single_label.specs.declared.stop.Stop.TheVariants.{Empty, NotAscii, TooLong}
 use Rattle.single_label.specs.declared.stop.Stop.TheVariants.{TooManyParts, TooManyPages}
 use Rattle.single_label.specs.declared.stop.TooLong.{TooLong as TooLongOf}
 use Rattle.qrcode_base.specs.Names.{level_text}

@@ -16,7 +16,8 @@ ghost use Rattle.labels.specs.Lines.{IsLinesOutcome};
 ghost use Rattle.single_label.specs.Pages.{are_pages, page_of};
 ghost use Rattle.labels.specs.Reports.{Reports};
 ghost use Rattle.labels.specs.Stops.{numbered_line};
-ghost use Rattle.single_label.specs.declared.stop.Stop.TheVariants.{Fault as FaultStop, TooManyPages};
+ghost use Rattle.single_label.specs.declared.stop.Stop.TheVariants.{Fault as FaultStop};
+ghost use Rattle.single_label.specs.declared.stop.Stop.TheVariants.{TooManyPages};
 
 use crate::lines::next_made;
 use crate::report::report_left_out;

@@ -16,7 +16,7 @@ use Rattle.programs.specs.declared.Fault.TheVariants.{Read, Write}
 use Rattle.qrcode_core.specs.Drawn.{DrawnSymbol}
 use Rattle.qrcode_render.specs.declared.draw_options.DrawOptions.{DrawOptions}
 use Rattle.label_words.specs.declared.command.Label.{Label}
-use Rattle.single_label.specs.declared.stop.{Stop.TheVariants.Fault}
+use Rattle.single_label.specs.declared.stop.Stop.TheVariants.{Fault}
 use Rattle.single_label.specs.{Labels.ShowsSymbol, Parts.ShowEach, Parts.IsMessageStop, Parts.all_drawings}
 use Rattle.single_label.specs.{Parts.IsEmptyStop, Parts.IsOtherStop, Parts.IsSequenceStop, Labels.IsLabelData}
 use Rattle.single_label.proofs.StopLemmas.{neither}

@@ -20,8 +20,7 @@ use Rattle.single_label.specs.declared.stop.{Stop.TheVariants.NotAscii, Stop.The
 use Rattle.single_label.specs.declared.stop.TooLong.{TooLong as TooLongOf}
 use Rattle.single_label.specs.{Contents.IsStopAs, Contents.IsSymbolAs, Contents.IsNoUtf8, Contents.is_bracketed, Contents.AreNotWritten, Contents.IsLink, Contents.IsLinkStop}
 use Rattle.single_label.specs.{Labels.IsLabelStop, Labels.IsLabelData, Labels.IsContentStop, Labels.IsTextStop, Labels.is_too_long, Labels.details_label}
-use Rattle.single_label.specs.{Parts.IsMessageStop, Rooms.IsTooLongAs, Rooms.IsTooLongForAny}
-use Rattle.single_label.specs.{Parts.IsOtherStop}
+use Rattle.single_label.specs.{Parts.IsMessageStop, Parts.IsOtherStop, Rooms.IsTooLongAs, Rooms.IsTooLongForAny}
 use Rattle.label_words.specs.Choices.{gs1_content, is_link}
 use Rattle.single_label.specs.{Details.IsDetailsStop, Details.HasNoData, Labels.IsSaid}
 

@@ -28,7 +28,8 @@ use Rattle.label_words.specs.declared.command.Content.{Content}
 use Rattle.label_words.specs.declared.command.Content.TheVariants.{Auto, Text, Bytes, Gs1, UncheckedGs1, Link, Micro}
 use Rattle.label_words.specs.declared.command.Content.TheVariants.{MicroBytes}
 use Rattle.single_label.specs.declared.stop.Stop.{Stop}
-use Rattle.single_label.specs.declared.stop.Stop.TheVariants.{Fault, Elements, NotAllowed, NoLink, NotAscii}
+use Rattle.single_label.specs.declared.stop.Stop.TheVariants.{Fault, Elements, NotAllowed, NoLink}
+use Rattle.single_label.specs.declared.stop.Stop.TheVariants.{NotAscii}
 
 -- Whether all bytes are ASCII.
 abbrev pub is_ascii : List ℕ → Bool

@@ -2,13 +2,14 @@
 ghost use Rattle.std.specs.Prelude.{◌≡◌, ◌≢◌, ◌≤◌, [], length, IfOk, IfErr, OnOk};
 ghost use Rattle.std.specs.Str.{IsUtf8};
 ghost use Rattle.qrcode_base.specs.declared.symbols.TheConstants.{LONGEST_DATA};
-ghost use Rattle.single_label.specs.Contents.{is_ascii, is_bracketed, IsText, IsAutoSymbol, IsGs1Symbol};
-ghost use Rattle.single_label.specs.Contents.{IsNoUtf8, IsUtf8Refusal, IsAutoRefusal, IsGs1Stop};
-ghost use Rattle.single_label.specs.Contents.{IsBracketedSymbol, IsBracketedStop, IsSymbolAs, IsStopAs};
-ghost use Rattle.single_label.specs.Contents.{AreWritten, AreNotWritten, AreSound, AreNotSound};
-ghost use Rattle.single_label.specs.Contents.{IsLink, IsLinkStop};
+ghost use Rattle.single_label.specs.Contents.{is_ascii, is_bracketed, IsText, IsAutoSymbol};
+ghost use Rattle.single_label.specs.Contents.{IsGs1Symbol, IsNoUtf8, IsUtf8Refusal, IsAutoRefusal};
+ghost use Rattle.single_label.specs.Contents.{IsGs1Stop, IsBracketedSymbol, IsBracketedStop};
+ghost use Rattle.single_label.specs.Contents.{IsSymbolAs, IsStopAs, AreWritten, AreNotWritten};
+ghost use Rattle.single_label.specs.Contents.{AreSound, AreNotSound, IsLink, IsLinkStop};
 ghost use Rattle.single_label.specs.Contents.{without_mark, without_newline, IsContent};
-ghost use Rattle.single_label.specs.Contents.{IsMicroText, IsMicroTextStop, IsStringSymbol, IsStringStop};
+ghost use Rattle.single_label.specs.Contents.{IsMicroText, IsMicroTextStop};
+ghost use Rattle.single_label.specs.Contents.{IsStringSymbol, IsStringStop};
 ghost use Rattle.std.specs.Io.BufRead.{strip_last};
 
 use crate::element::{read_stop, written_stop};

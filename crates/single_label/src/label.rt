@@ -2,8 +2,8 @@
 ghost use Rattle.std.specs.Prelude.{◌≡◌, ◌≢◌, ◌≤◌, ◌⊎◌, ℕ, List, [], length, IfOk, IfErr, OnOk};
 ghost use Rattle.std.specs.Option.{option_copied};
 ghost use Rattle.qrcode_base.specs.declared.symbols.TheConstants.{LONGEST_DATA};
-ghost use Rattle.single_label.specs.Labels.{ShowsLabel, ShowsSymbol, IsSymbolPicture, IsLabelStop, is_too_long};
-ghost use Rattle.single_label.specs.Labels.{AreDetailsBeside, details_label};
+ghost use Rattle.single_label.specs.Labels.{ShowsLabel, ShowsSymbol, IsSymbolPicture, IsLabelStop};
+ghost use Rattle.single_label.specs.Labels.{is_too_long, AreDetailsBeside, details_label};
 ghost use Rattle.single_label.specs.Labels.{ShowsContent, IsLabelData, IsContentStop};
 ghost use Rattle.single_label.specs.Contents.{IsLink, IsLinkStop};
 ghost use Rattle.single_label.specs.Details.{IsDetailsStop};

@@ -3,9 +3,9 @@
 ghost use Rattle.std.specs.Prelude.{◌≡◌, ◌⊎◌, ◌≤◌, ℕ, List, [], ◌∷◌, length, map, vec_items, Some, IfOk, IfErr, OnOk};
 ghost use Rattle.qrcode_bits.specs.declared.bits.front.Content.TheVariants.{Bytes};
 ghost use Rattle.qrcode_core.specs.Drawn.{modules_of};
-ghost use Rattle.single_label.specs.Parts.{IsSequenceOf, IsSequenceFault, IsTextSequence, IsTextFault};
-ghost use Rattle.single_label.specs.Parts.{IsSequenceAs, IsSequenceFaultAs, ShowEach, ShowMessage};
-ghost use Rattle.single_label.specs.Parts.{AreLabelsTogether, ShowsMessage};
+ghost use Rattle.single_label.specs.Parts.{IsSequenceOf, IsSequenceFault, IsTextSequence};
+ghost use Rattle.single_label.specs.Parts.{IsTextFault, IsSequenceAs, IsSequenceFaultAs, ShowEach};
+ghost use Rattle.single_label.specs.Parts.{ShowMessage, AreLabelsTogether, ShowsMessage};
 ghost use Rattle.single_label.specs.Labels.{ShowsSymbol, AreDetailsBeside};
 ghost use Rattle.single_label.specs.Details.{IsDetailsStop};
 ghost use Rattle.programs.specs.declared.Fault.TheVariants.{Symbol as SymbolFault};

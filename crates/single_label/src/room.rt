@@ -3,9 +3,8 @@ ghost use Rattle.std.specs.Prelude.{◌≡◌, ◌<◌, ◌≤◌, IsTrue, IsFal
 ghost use Rattle.qrcode_base.specs.declared.symbols.TheConstants.{LONGEST_DATA};
 ghost use Rattle.single_label.specs.Rooms.{characters_room, bytes_room, digits_in, digits_room};
 ghost use Rattle.single_label.specs.Rooms.{IsFrontWidth, greatest_version, lower_levels};
-ghost use Rattle.single_label.specs.Rooms.{proposes_split};
-ghost use Rattle.single_label.specs.Rooms.{FitsAt, StopsAtLevel};
-ghost use Rattle.single_label.specs.Rooms.{IsFirstFitting, IsTooLongAs, IsTooLongForAny};
+ghost use Rattle.single_label.specs.Rooms.{proposes_split, FitsAt, StopsAtLevel, IsFirstFitting};
+ghost use Rattle.single_label.specs.Rooms.{IsTooLongAs, IsTooLongForAny};
 ghost use Rattle.qrcode_base.specs.Symbols.{HasMicroNumber};
 ghost use Rattle.qrcode_core.specs.declared.types.EcLevel.TheVariants.{M, Q, H};
 
