@@ -10,7 +10,7 @@ use Rattle.qrcode_render.specs.Pdf.{PdfPage, pdf_document}
 use Rattle.qrcode_render.specs.PdfWritten.{PdfWritten, IsWritten, after_page, next_page, next_pages, pdf_end, pdf_start, started}
 use Rattle.qrcode_render.specs.declared.bounds.TheConstants.{MAX_PDF}
 use Rattle.qrcode_render.specs.declared.draw_options.DrawOptions.{DrawOptions}
-use Rattle.single_label.specs.{Pages.are_pages, Pages.page_alone}
+use Rattle.single_label.specs.Pages.{page_alone}
 use Rattle.labels.specs.Documents.{ArePages, IsWrittenSoFar, WritesSoFar, WritesPages, WritesDocument, WritesSomePages, WritesNoEnd, HasNoRoom}
 use Rattle.labels.specs.Documents.{document, document_text, label_in, pages_text}
 use Rattle.labels.specs.Lines.{Made, Place, AreLabels, DrawsBefore, FillsAt, left_out, place_of}
