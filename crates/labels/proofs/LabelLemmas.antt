@@ -14,15 +14,16 @@ use Rattle.programs.proofs.DeviceLemmas.{Appends-append, Appends-none, Writes-st
 use Rattle.qrcode_render.specs.declared.draw_options.DrawOptions.{DrawOptions}
 use Rattle.label_words.specs.declared.command.Label.{Label}
 use Rattle.programs.specs.declared.Fault.TheVariants.{Symbol, Read, Write}
-use Rattle.labels.specs.declared.stop.{Stop.Stop, Stop.TheVariants.Fault, Stop.TheVariants.Elements, Stop.TheVariants.NotAllowed, Stop.TheVariants.NoLink, Stop.TheVariants.Empty}
-use Rattle.labels.specs.declared.stop.{Stop.TheVariants.NotAscii, Stop.TheVariants.TooLong, Stop.TheVariants.TooManyParts, Stop.TheVariants.TooManyPages}
+use Rattle.single_label.specs.declared.stop.{Stop.Stop, Stop.TheVariants.Fault, Stop.TheVariants.Elements, Stop.TheVariants.NotAllowed, Stop.TheVariants.NoLink, Stop.TheVariants.Empty}
+use Rattle.single_label.specs.declared.stop.{Stop.TheVariants.NotAscii, Stop.TheVariants.TooLong, Stop.TheVariants.TooManyParts, Stop.TheVariants.TooManyPages}
 use Rattle.labels.specs.Lines.{Made, Place, GiveEach, AreLabels, WritesEach, WritesSome, DrawsBefore, BreaksAt, IsEnded, StopsNext}
 use Rattle.labels.specs.Lines.{WritesUntil, joined, drawing_in, all_drawn, left_out, is_of_line}
-use Rattle.labels.proofs.StopLemmas.{no_device, no_page}
+use Rattle.single_label.proofs.StopLemmas.{no_device, no_page}
 use Rattle.std.specs.declared.io.ErrorKind.{ErrorKind}
 use Rattle.labels.specs.declared.stop.LineStop.{LineStop}
 use Rattle.labels.specs.{Stops.end_report, Stops.stop_status, Runs.lines_reported, Runs.lines_status, Runs.last_number}
-use Rattle.labels.specs.{Stops.numbered_line, Labels.IsLabelStop, Lines.IsLeftOut, Reports.Reports, MadeOf.made_of}
+use Rattle.labels.specs.{Stops.numbered_line, Lines.IsLeftOut, Reports.Reports, MadeOf.made_of}
+use Rattle.single_label.specs.Labels.{IsLabelStop}
 use Rattle.std.specs.Prelude.{Vec, IfOk, IfErr, OnOk, IsOk}
 use Rattle.std.specs.declared.alloc.Global.{Global}
 use Rattle.labels.specs.{Lines.stream, Folders.folder}

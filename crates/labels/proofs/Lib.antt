@@ -1,6 +1,5 @@
-pub mod DetailsLemmas
 pub mod LabelLemmas
+pub mod OutcomeLemmas
 pub mod PageLemmas
 pub mod PageOutcomes
-pub mod PartLemmas
-pub mod StopLemmas
+pub mod PartFileLemmas

@@ -1,47 +1,23 @@
 -- Labels that are pages of a document.
 use Rattle.std.proofs.Common.{◌≡◌, ◌≢◌, ◌+◌, ◌<◌, ◌∷◌, ◌++◌, ◌∙◌, ℕ, Bool, Option, List, [], length, take, append-nil, append_assoc}
-use Rattle.std.proofs.Common.{inr, true, false, refl, sym, ap, subst, arith}
+use Rattle.std.proofs.Common.{true, false, refl, sym, ap, subst, arith}
 use Rattle.std.specs.Prelude.{Ok, Err, flat_map}
-use Rattle.std.specs.Option.{option_copied}
 use Rattle.std.proofs.lemmas.{Grind.flat_map-append, List.map-append}
 use Rattle.programs.specs.Devices.{SourceState, SinkState, Writes, input, output}
 use Rattle.programs.proofs.DeviceLemmas.{Appends-append, Appends-none}
-use Rattle.qrcode_core.specs.Drawn.{DrawnSymbol}
 use Rattle.qrcode_render.proofs.PdfLemmas.{writes_document}
 use Rattle.qrcode_render.specs.Pdf.{PdfPage, pdf_document}
 use Rattle.qrcode_render.specs.PdfWritten.{PdfWritten, IsWritten, after_page, next_page, next_pages, pdf_end, pdf_start, started}
 use Rattle.qrcode_render.specs.declared.bounds.TheConstants.{MAX_PDF}
 use Rattle.qrcode_render.specs.declared.draw_options.DrawOptions.{DrawOptions}
-use Rattle.qrcode_render.specs.declared.format.Format.{Format}
-use Rattle.qrcode_render.specs.declared.format.Format.TheVariants.{Pdf}
-use Rattle.label_words.specs.Choices.{is_pdf}
-use Rattle.labels.specs.{Labels.ShowsSymbol, Labels.is_alone, Pages.are_pages, Pages.page_alone, Pages.page_of}
+use Rattle.single_label.specs.Pages.{page_alone}
 use Rattle.labels.specs.Documents.{ArePages, IsWrittenSoFar, WritesSoFar, WritesPages, WritesDocument, WritesSomePages, WritesNoEnd, HasNoRoom}
 use Rattle.labels.specs.Documents.{document, document_text, label_in, pages_text}
 use Rattle.labels.specs.Lines.{Made, Place, AreLabels, DrawsBefore, FillsAt, left_out, place_of}
 use Rattle.labels.proofs.LabelLemmas.{AreLabels-append, said_drawn, said_more, said_none}
 use Rattle.labels.specs.{Stops.numbered_line}
 use Rattle.label_words.specs.declared.command.Label.{Label}
-use Rattle.labels.specs.declared.stop.Stop.{Stop}
-
-pdf_is : (format : Format) → is_pdf format ≡ true → format ≡ Pdf
-pdf_is format is = grind (arith, is)
-
--- the document of a page alone is the label
-pub shows_page : (label : Label) (options : DrawOptions) (content : Option (List ℕ)) (symbol : DrawnSymbol) → are_pages label options ≡ true →
-    ShowsSymbol label options content symbol (page_alone (option_copied options.title) (page_of label options symbol))
-shows_page label options content symbol is =
-    let format : options.format ≡ Pdf = pdf_is options.format (grind (arith, is)) in
-    let drawn : is_alone label.details ≡ false = grind (arith, is) in
-    let plain : label.colored ≡ false = grind (arith, is) in
-    inr (
-      drawn,
-      record {
-        picture = page_alone (option_copied options.title) (page_of label options symbol);
-        drawn = rw format refl;
-        drawing_is = rw plain refl;
-      },
-    )
+use Rattle.single_label.specs.declared.stop.Stop.{Stop}
 
 -- ---- Pages one after the other
 

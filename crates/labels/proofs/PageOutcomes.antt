@@ -9,7 +9,7 @@ use Rattle.qrcode_render.specs.Pdf.{PdfPage}
 use Rattle.qrcode_render.specs.PdfWritten.{PdfWritten, after_page, next_page, pdf_end}
 use Rattle.qrcode_render.specs.declared.bounds.TheConstants.{MAX_PDF}
 use Rattle.qrcode_render.specs.declared.draw_options.DrawOptions.{DrawOptions}
-use Rattle.labels.specs.{Pages.page_alone, Pages.page_of}
+use Rattle.single_label.specs.{Pages.page_alone, Pages.page_of}
 use Rattle.labels.specs.Documents.{IsNextPage, IsNoPage}
 use Rattle.labels.specs.Documents.{document}
 use Rattle.labels.specs.Lines.{Made, AreLabels, DrawsBefore, IsEnded, IsLinesOutcome, StopsNext, place_of}
@@ -17,11 +17,11 @@ use Rattle.labels.proofs.LabelLemmas.{BreaksAt-next, DrawsBefore-none, DrawsBefo
 use Rattle.labels.proofs.LabelLemmas.{writes_until, never_write}
 use Rattle.programs.specs.declared.Fault.TheVariants.{Symbol, Read, Write}
 use Rattle.qrcode_core.specs.declared.types.errors.QrError.TheVariants.{OutOfMemory}
-use Rattle.labels.specs.declared.stop.Stop.TheVariants.{Fault, TooManyPages}
+use Rattle.single_label.specs.declared.stop.Stop.TheVariants.{Fault, TooManyPages}
 use Rattle.labels.specs.{MadeOf.made_as, Reports.Reports, Stops.numbered_line}
-use Rattle.labels.specs.declared.shown.PageSymbol.{PageSymbol}
+use Rattle.single_label.specs.declared.shown.PageSymbol.{PageSymbol}
 use Rattle.label_words.specs.declared.command.Label.{Label}
-use Rattle.labels.specs.declared.stop.Stop.{Stop}
+use Rattle.single_label.specs.declared.stop.Stop.{Stop}
 use Rattle.labels.proofs.PageLemmas.{so_far, so_far_place, pages_step, pages_left_out, pages_break, fills_at}
 use Rattle.labels.proofs.PageLemmas.{pages_so_far, ends_empty, ends_written, ends_torn}
 

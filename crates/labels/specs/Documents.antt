@@ -8,9 +8,9 @@ use Rattle.qrcode_render.specs.declared.bounds.TheConstants.{MAX_PDF}
 use Rattle.labels.specs.Lines.{Made, Place, left_out}
 use Rattle.programs.specs.declared.Fault.TheVariants.{Symbol, Write}
 use Rattle.qrcode_core.specs.declared.types.errors.QrError.TheVariants.{OutOfMemory}
-use Rattle.labels.specs.Pages.{page_alone}
-use Rattle.labels.specs.declared.stop.Stop.{Stop}
-use Rattle.labels.specs.declared.stop.Stop.TheVariants.{Fault, TooManyPages}
+use Rattle.single_label.specs.Pages.{page_alone}
+use Rattle.single_label.specs.declared.stop.Stop.{Stop}
+use Rattle.single_label.specs.declared.stop.Stop.TheVariants.{Fault, TooManyPages}
 
 -- The label that came of a line, if there is one.
 abbrev pub label_in : Made → List (List ℕ)

@@ -6,8 +6,8 @@ use Rattle.programs.specs.Devices.{Output, Writes}
 use Rattle.labels.specs.Lines.{Made, Place, left_out}
 use Rattle.label_words.specs.Names.{Numbering, numbered}
 use Rattle.labels.specs.FileStates.{FilesState, AddsFiles}
-use Rattle.labels.specs.declared.stop.Stop.{Stop}
-use Rattle.labels.specs.declared.stop.Stop.TheVariants.{Fault}
+use Rattle.single_label.specs.declared.stop.Stop.{Stop}
+use Rattle.single_label.specs.declared.stop.Stop.TheVariants.{Fault}
 
 -- Each label in the file that has the number of its line, from this number on.
 abbrev pub files_of : Numbering → ℕ → List Made → List (List ℕ × List ℕ)

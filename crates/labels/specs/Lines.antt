@@ -16,11 +16,12 @@ use Rattle.programs.specs.declared.Fault.TheVariants.{Symbol, Read, Write}
 use Rattle.qrcode_core.specs.declared.types.errors.QrError.{QrError}
 use Rattle.qrcode_core.specs.declared.types.errors.QrError.TheVariants.{OutOfMemory}
 use Rattle.qrcode_render.specs.declared.draw_options.DrawOptions.{DrawOptions}
-use Rattle.labels.specs.Labels.{ShowsLabel, IsLabelStop}
+use Rattle.single_label.specs.Labels.{ShowsLabel, IsLabelStop}
 use Rattle.label_words.specs.declared.command.Label.{Label}
 use Rattle.labels.specs.declared.stop.LineStop.{LineStop}
-use Rattle.labels.specs.declared.stop.Stop.{Stop}
-use Rattle.labels.specs.declared.stop.Stop.TheVariants.{Fault, Elements, NotAllowed, NoLink, TooManyPages}
+use Rattle.single_label.specs.declared.stop.Stop.{Stop}
+use Rattle.single_label.specs.declared.stop.Stop.TheVariants.{Fault, Elements, NotAllowed, NoLink}
+use Rattle.single_label.specs.declared.stop.Stop.TheVariants.{TooManyPages}
 use Rattle.labels.specs.Stops.{numbered_line}
 
 -- ---- Labels in their order

@@ -2,7 +2,7 @@
 use Rattle.std.specs.Prelude.{ℕ, List, Result, Ok, Err, Vec}
 use Rattle.std.specs.declared.alloc.Global.{Global}
 use Rattle.labels.specs.Lines.{Made}
-use Rattle.labels.specs.declared.stop.Stop.{Stop}
+use Rattle.single_label.specs.declared.stop.Stop.{Stop}
 
 -- What came of a line, where a thing stands for the drawing.
 abbrev pub made_as : {A : Type 0} → (A → List ℕ) → Result A Stop → Made

@@ -20,24 +20,24 @@ use Rattle.label_words.specs.Help.{help_text, version_line}
 use Rattle.labels.specs.FileStates.{FilesState, AddsFiles}
 use Rattle.labels.specs.Documents.{document}
 use Rattle.labels.specs.Folders.{folder, part_files, PutsSome}
-use Rattle.labels.specs.Labels.{ShowsLabel, IsLabelStop, AreDetailsBeside}
+use Rattle.single_label.specs.Labels.{ShowsLabel, IsLabelStop, AreDetailsBeside}
 use Rattle.labels.specs.Lines.{IsLinesOutcome, Made, Place, stream}
 use Rattle.label_words.specs.Misuses.{wrong_line}
 use Rattle.label_words.specs.Names.{Numbering, numbered}
-use Rattle.labels.specs.Pages.{are_pages}
-use Rattle.labels.specs.Parts.{ShowMessage, ShowsMessage, IsMessageStop}
+use Rattle.single_label.specs.Pages.{are_pages}
+use Rattle.single_label.specs.Parts.{ShowMessage, ShowsMessage, IsMessageStop}
 use Rattle.label_words.specs.Numberings.{numbering_of}
 use Rattle.label_words.specs.Settings.{setting_option}
 use Rattle.labels.specs.Stops.{Devices, stop_report, end_report, stop_status}
 use Rattle.label_words.specs.Words.{Wrong, invalid}
 use Rattle.label_words.specs.declared.command.Label.{Label}
-use Rattle.labels.specs.declared.parts.TheConstants.{LONGEST_MESSAGE}
+use Rattle.single_label.specs.declared.parts.TheConstants.{LONGEST_MESSAGE}
 use Rattle.labels.specs.declared.runs.TheConstants.{LEFT_OUT}
 use Rattle.label_words.specs.declared.command.Portion.{Portion}
 use Rattle.label_words.specs.declared.command.Portion.TheVariants.{Whole, Lines, Files as FilesOf, Split, Parts}
 use Rattle.labels.specs.declared.stop.LineStop.{LineStop}
-use Rattle.labels.specs.declared.stop.Stop.{Stop}
-use Rattle.labels.specs.declared.stop.Stop.TheVariants.{Fault}
+use Rattle.single_label.specs.declared.stop.Stop.{Stop}
+use Rattle.single_label.specs.declared.stop.Stop.TheVariants.{Fault}
 
 -- What is drawn of the whole input: which drawing shows which bytes, which details stand beside it,
 -- why there is none of some bytes, and how many bytes a drawing can show.

@@ -11,15 +11,16 @@ use Rattle.programs.specs.Reasons.{device_report, is_closed_pipe}
 use Rattle.programs.specs.declared.Fault.{Fault as FaultOf}
 use Rattle.programs.specs.declared.Fault.TheVariants.{Read, Write}
 use Rattle.programs.specs.declared.reasons.TheConstants.{CLOSED_PIPE}
-use Rattle.labels.specs.Faults.{element_number}
+use Rattle.single_label.specs.Faults.{element_number}
 use Rattle.labels.specs.Pieces.{line_of, counted, digit_text, unless_zero}
 use Rattle.labels.specs.Refusals.{refusal_line, no_link_line}
-use Rattle.labels.specs.declared.stop.ElementStop.{ElementStop}
+use Rattle.single_label.specs.declared.stop.ElementStop.{ElementStop}
 use Rattle.labels.specs.declared.stop.LineStop.{LineStop}
-use Rattle.labels.specs.declared.stop.Stop.{Stop}
-use Rattle.labels.specs.declared.stop.Stop.TheVariants.{Fault, Elements, NotAllowed, NoLink, Empty, NotAscii, TooLong}
-use Rattle.labels.specs.declared.stop.Stop.TheVariants.{TooManyParts, TooManyPages}
-use Rattle.labels.specs.declared.stop.TooLong.{TooLong as TooLongOf}
+use Rattle.single_label.specs.declared.stop.Stop.{Stop}
+use Rattle.single_label.specs.declared.stop.Stop.TheVariants.{Fault, Elements, NotAllowed, NoLink}
+use Rattle.single_label.specs.declared.stop.Stop.TheVariants.{Empty, NotAscii, TooLong}
+use Rattle.single_label.specs.declared.stop.Stop.TheVariants.{TooManyParts, TooManyPages}
+use Rattle.single_label.specs.declared.stop.TooLong.{TooLong as TooLongOf}
 use Rattle.qrcode_base.specs.Names.{level_text}
 use Rattle.qrcode_base.specs.declared.symbols.TheConstants.{LONGEST_DATA}
 use Rattle.qrcode_base.specs.declared.types.EcLevel.{EcLevel}

@@ -13,20 +13,20 @@ ghost use Rattle.qrcode_render.specs.PdfWritten.{after_page, next_page, pdf_end}
 ghost use Rattle.qrcode_render.specs.declared.bounds.TheConstants.{MAX_PDF};
 ghost use Rattle.labels.specs.Documents.{IsNextPage, IsNoPage, IsWrittenSoFar, document};
 ghost use Rattle.labels.specs.Lines.{IsLinesOutcome};
-ghost use Rattle.labels.specs.Pages.{are_pages, page_of};
+ghost use Rattle.single_label.specs.Pages.{are_pages, page_of};
 ghost use Rattle.labels.specs.Reports.{Reports};
 ghost use Rattle.labels.specs.Stops.{numbered_line};
-ghost use Rattle.labels.specs.declared.stop.Stop.TheVariants.{Fault as FaultStop, TooManyPages};
+ghost use Rattle.single_label.specs.declared.stop.Stop.TheVariants.{Fault as FaultStop};
+ghost use Rattle.single_label.specs.declared.stop.Stop.TheVariants.{TooManyPages};
 
 use crate::lines::next_made;
 use crate::report::report_left_out;
-use crate::shown::PageSymbol;
-use crate::stop::{LineStop, Stop};
-use crate::turned::page_turned;
+use crate::stop::LineStop;
 use label_words::Label;
 use programs::{Fault, Sink, Source, write_all};
 use qrcode_core::types::QrError;
 use qrcode_render::{DrawOptions, PdfError, PdfPages};
+use single_label::{PageSymbol, Stop, page_turned};
 use std::alloc::{AllocError, Global};
 
 /// A document that is written page by page.

@@ -12,15 +12,16 @@ ghost use Rattle.label_words.specs.Names.{numbered};
 ghost use Rattle.label_words.specs.Numberings.{numbering_of};
 ghost use Rattle.labels.specs.Reports.{Reports};
 ghost use Rattle.labels.specs.Stops.{numbered_line};
-ghost use Rattle.labels.specs.declared.stop.Stop.TheVariants.{Fault as FaultStop};
+ghost use Rattle.single_label.specs.declared.stop.Stop.TheVariants.{Fault as FaultStop};
 
 use crate::lines::{Made, next_made};
 use crate::report::report_left_out;
-use crate::stop::{LineStop, Stop};
+use crate::stop::LineStop;
 use label_words::{Label, Numbering, write_numbered};
 use programs::{Fault, Sink, Source};
 use qrcode_core::types::QrError;
 use qrcode_render::DrawOptions;
+use single_label::Stop;
 use std::alloc::Global;
 use std::io::ErrorKind;
 

@@ -3,24 +3,22 @@ ghost use Rattle.std.specs.Prelude.{◌≡◌, ◌↔◌, [], ◌∷◌, IsTrue,
 ghost use Rattle.std.specs.Prelude.{MatchOption, OnOk, IsOk, is_ok};
 ghost use Rattle.programs.specs.Devices.{input, output, Writes};
 ghost use Rattle.programs.specs.declared.Fault.TheVariants.{Read, Write};
-ghost use Rattle.labels.specs.declared.stop.Stop.TheVariants.{Fault as FaultStop};
+ghost use Rattle.single_label.specs.declared.stop.Stop.TheVariants.{Fault as FaultStop};
 ghost use Rattle.labels.specs.Lines.{IsLinesOutcome, AreLabels, IsEnded, StopsNext, stream};
 ghost use Rattle.labels.specs.Lines.{is_of_line};
 ghost use Rattle.labels.specs.MadeOf.{made_as};
 ghost use Rattle.labels.specs.Reports.{Reports};
 ghost use Rattle.labels.specs.Stops.{numbered_line};
 
-use crate::label::label_bytes;
 use crate::report::report_left_out;
-use crate::shown::Shown;
-use crate::stop::{LineStop, Stop};
-use gs1::{CheckError, Gs1Error};
-use gs1_links::LinkError;
+use crate::stop::LineStop;
+use gs1::{CheckError, Gs1Error, LinkError};
 use label_words::Label;
 use programs::{Fault, Sink, Source, read_line, skip_line, write_all};
 use qrcode_base::symbols::LONGEST_DATA;
 use qrcode_core::types::QrError;
 use qrcode_render::DrawOptions;
+use single_label::{Shown, Stop, label_bytes};
 use std::alloc::Global;
 
 /// What comes of a line: its label, or the reason why it has none.

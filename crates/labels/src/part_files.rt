@@ -11,17 +11,16 @@ ghost use Rattle.labels.specs.MadeOf.{made_of};
 ghost use Rattle.label_words.specs.Names.{numbered};
 ghost use Rattle.label_words.specs.Numberings.{numbering_of};
 ghost use Rattle.labels.specs.Runs.{IsPartsOutcome};
-ghost use Rattle.labels.specs.declared.parts.TheConstants.{LONGEST_MESSAGE};
-ghost use Rattle.labels.specs.declared.stop.Stop.TheVariants.{Fault as FaultStop};
+ghost use Rattle.single_label.specs.declared.parts.TheConstants.{LONGEST_MESSAGE};
+ghost use Rattle.single_label.specs.declared.stop.Stop.TheVariants.{Fault as FaultStop};
 
 use crate::files::Files;
 use crate::lines::Made;
-use crate::parts::{LONGEST_MESSAGE, details_message, message_labels};
-use crate::stop::Stop;
 use label_words::{Label, Numbering, write_numbered};
 use programs::{Fault, Source, read_up_to};
 use qrcode_core::types::QrError;
 use qrcode_render::DrawOptions;
+use single_label::{LONGEST_MESSAGE, Stop, details_message, message_labels};
 use std::alloc::Global;
 
 /// Writes a drawing into the file of this number. It fails if the file could not be written, whose

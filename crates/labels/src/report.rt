@@ -8,10 +8,9 @@ ghost use Rattle.labels.specs.Stops.{is_silent_fault, fault_status, fault_report
 ghost use Rattle.labels.specs.Stops.{end_report, long_line, room_line, level_piece};
 ghost use Rattle.labels.specs.Stops.{version_number, fits_piece, rest_piece, many_text};
 
-use crate::element::element_number;
 use crate::pieces::{NO_ELEMENTS, WOULD_BE, digit_text, unless_zero};
 use crate::refusal::{write_no_link, write_refusal};
-use crate::stop::{Devices, ElementStop, LineStop, Stop, TooLong};
+use crate::stop::{Devices, LineStop};
 use gs1::Gs1Error;
 use itoa::Buffer;
 use programs::{
@@ -19,6 +18,7 @@ use programs::{
 };
 use qrcode_base::symbols::LONGEST_DATA;
 use qrcode_core::types::{EcLevel, Version};
+use single_label::{ElementStop, Stop, TooLong, element_number};
 
 /// Text in a Micro symbol.
 const NOT_ASCII: &str = "a Micro symbol has no text beyond ASCII, see -c micro-bytes";

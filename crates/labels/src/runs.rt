@@ -13,7 +13,7 @@ ghost use Rattle.labels.specs.Folders.{folder};
 ghost use Rattle.labels.specs.Runs.{ServesPortion};
 ghost use Rattle.labels.specs.Lines.{stream};
 ghost use Rattle.label_words.specs.Names.{numbered};
-ghost use Rattle.labels.specs.Pages.{are_pages};
+ghost use Rattle.single_label.specs.Pages.{are_pages};
 ghost use Rattle.label_words.specs.Numberings.{numbering_of};
 ghost use Rattle.labels.specs.Placed.{devices_of};
 ghost use Rattle.labels.specs.Runs.{ServesLines, lines_status, lines_reported};
@@ -26,7 +26,6 @@ use crate::document::draw_pages;
 use crate::files::{Files, draw_files};
 use crate::lines::draw_lines;
 use crate::report::report_end;
-use crate::shown::are_pages;
 use crate::stop::{Devices, LineStop};
 use crate::whole::{serve_label, serve_message, serve_parts};
 use label_words::{
@@ -35,6 +34,7 @@ use label_words::{
 };
 use programs::{Sink, Source, report_device, write_all};
 use qrcode_render::{DrawOptions, Setting};
+use single_label::are_pages;
 use std::alloc::Global;
 
 /// The status where lines were left out, and the labels of all others were written.

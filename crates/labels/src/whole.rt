@@ -7,18 +7,19 @@ ghost use Rattle.label_words.specs.Numberings.{numbering_of};
 ghost use Rattle.labels.specs.Placed.{devices_of};
 ghost use Rattle.labels.specs.Runs.{one_of, message_of, IsLabelOutcome, ServesLabel, ServesParts};
 ghost use Rattle.labels.specs.Runs.{label_status, label_report};
-ghost use Rattle.labels.specs.declared.parts.TheConstants.{LONGEST_MESSAGE};
+ghost use Rattle.single_label.specs.declared.parts.TheConstants.{LONGEST_MESSAGE};
 
 use crate::files::Files;
-use crate::label::{details_bytes, label_bytes};
 use crate::lines::Made;
 use crate::part_files::put_message;
-use crate::parts::{LONGEST_MESSAGE, details_message, message_text};
 use crate::report::report_stop;
-use crate::stop::{Devices, Stop};
+use crate::stop::Devices;
 use label_words::{Label, Numbering};
 use programs::{Sink, Source, read_all, read_up_to, write_all};
 use qrcode_render::DrawOptions;
+use single_label::{
+    LONGEST_MESSAGE, Stop, details_bytes, details_message, label_bytes, message_text,
+};
 use std::alloc::Global;
 
 /// Reads to the end, writes the label of all bytes that were read, and flushes. Of more than 7089

@@ -4,10 +4,10 @@ use Rattle.std.specs.Prelude.{map, vec_items}
 use Rattle.std.specs.String.{string_bytes}
 use Rattle.programs.specs.Devices.{input}
 use Rattle.programs.proofs.DeviceLemmas.{ReadsAll-short}
-use Rattle.labels.specs.declared.parts.TheConstants.{LONGEST_MESSAGE}
+use Rattle.single_label.specs.declared.parts.TheConstants.{LONGEST_MESSAGE}
 use Rattle.label_words.specs.Numberings.{numbering_of}
 use Rattle.labels.specs.Runs.{AreDrawings}
-use Rattle.labels.proofs.PartLemmas.{puts_none, puts_none_or, puts_first}
+use Rattle.labels.proofs.PartFileLemmas.{puts_none, puts_none_or, puts_first}
 use Rattle.labels.proofs.part_files.put_message.Goals as goal
 
 pub returns-in-Err-clause-outcome : goal.returns-in-Err-clause-outcome

@@ -3,7 +3,7 @@ use Rattle.std.proofs.Common.{◌≡◌, ◌<◌, [], arith, rules, length, get_
 use Rattle.std.proofs.lemmas.Grind.{common_steps}
 use Rattle.std.specs.Prelude.{map, vec_items}
 use Rattle.label_words.specs.Numberings.{numbering_of}
-use Rattle.labels.proofs.PartLemmas.{parts_more, parts_stopped, item_at}
+use Rattle.labels.proofs.PartFileLemmas.{parts_more, parts_stopped, item_at}
 use Rattle.labels.proofs.part_files.put_parts.Goals as goal
 
 pub parts-preserved : goal.parts-preserved

@@ -1,7 +1,8 @@
 -- There is no label of what was read.
 use Rattle.std.proofs.Common.{arith, rules}
 use Rattle.labels.specs.Runs.{one_of}
-use Rattle.labels.proofs.StopLemmas.{no_device, writes_none}
+use Rattle.single_label.proofs.StopLemmas.{no_device}
+use Rattle.labels.proofs.OutcomeLemmas.{writes_none}
 use Rattle.labels.proofs.whole.draw_label.Goals as goal
 
 pub returns-in-Err-clause-outcome : goal.returns-in-Err-clause-outcome

@@ -1,7 +1,8 @@
 -- There are no labels of what was read.
 use Rattle.std.proofs.Common.{arith, rules}
 use Rattle.labels.specs.Runs.{message_of}
-use Rattle.labels.proofs.{PartLemmas.no_device_message, StopLemmas.writes_none_or, StopLemmas.writes_all, StopLemmas.writes_some}
+use Rattle.single_label.proofs.PartLemmas.{no_device_message}
+use Rattle.labels.proofs.OutcomeLemmas.{writes_none_or, writes_all, writes_some}
 use Rattle.labels.proofs.whole.draw_message.Goals as goal
 
 pub returns-in-Err-clause-outcome : goal.returns-in-Err-clause-outcome

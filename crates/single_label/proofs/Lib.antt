@@ -1,0 +1,4 @@
+pub mod DetailsLemmas
+pub mod PartLemmas
+pub mod ShownLemmas
+pub mod StopLemmas

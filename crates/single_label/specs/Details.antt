@@ -1,0 +1,162 @@
+-- The details of a symbol: version, level, mask, segments and size.
+use Rattle.std.specs.Prelude.{◌≡◌, ◌⊎◌, ℕ, Bool, ◌+◌, ◌-◌, ◌*◌, ◌/◌, ◌%◌, nat_abs, nat_le, ◌&&◌}
+use Rattle.std.specs.Prelude.{false, true, if◌then◌else◌}
+use Rattle.std.specs.Prelude.{List, [], ◌∷◌, ◌++◌, Option, Some, None, codes, decimal, flat_map, unwrap_or}
+use Rattle.std.specs.Str.{IsUtf8}
+use Rattle.programs.specs.declared.Fault.TheVariants.{Symbol}
+use Rattle.qrcode_base.specs.Names.{level_text}
+use Rattle.qrcode_base.specs.Symbols.{HasMicroNumber}
+use Rattle.qrcode_bits.specs.Contents.{parsed_bytes}
+use Rattle.qrcode_bits.specs.Parsing.{parsed}
+use Rattle.qrcode_bits.specs.Plans.{IsChosenPlan}
+use Rattle.qrcode_bits.specs.declared.bits.front.Content.{Content as FrontContent}
+use Rattle.qrcode_bits.specs.declared.bits.front.Content.TheVariants.{Bytes as BytesFront}
+use Rattle.qrcode_bits.specs.declared.bits.front.Content.TheVariants.{Text as TextFront, Elements as ElementsFront}
+use Rattle.qrcode_bits.specs.declared.optimize.Segment.{Segment}
+use Rattle.qrcode_core.specs.Drawn.{DrawnSymbol, drawn_grid}
+use Rattle.qrcode_core.specs.declared.types.Mode.{Mode}
+use Rattle.qrcode_core.specs.declared.types.Mode.TheVariants.{Numeric, Alphanumeric, Byte, Kanji}
+use Rattle.qrcode_core.specs.declared.types.errors.QrError.TheVariants.{OutOfMemory}
+use Rattle.qrcode_core.specs.declared.types.Version.{Version}
+use Rattle.qrcode_core.specs.declared.types.Version.TheVariants.{Normal, Micro as MicroVersion}
+use Rattle.qrcode_grid.specs.Masks.{normal_number, micro_number}
+use Rattle.qrcode_grid.specs.declared.canvas.MaskPattern.{MaskPattern}
+use Rattle.qrcode_render.specs.declared.bounds.TheConstants.{MAX_DPI}
+use Rattle.qrcode_render.specs.declared.draw_options.DrawOptions.{DrawOptions}
+use Rattle.single_label.specs.Contents.{IsPlain, is_ascii, is_bracketed, AreWritten, AreNotWritten}
+use Rattle.label_words.specs.declared.command.Content.{Content}
+use Rattle.label_words.specs.declared.command.Content.TheVariants.{Auto, Text, Gs1, UncheckedGs1}
+use Rattle.label_words.specs.declared.command.Label.{Label}
+use Rattle.single_label.specs.declared.stop.Stop.{Stop}
+use Rattle.single_label.specs.declared.stop.Stop.TheVariants.{Fault}
+
+-- ---- Segments
+
+-- The plan by which data of a kind are cut into segments, as `Symbol` cuts them.
+abbrev pub IsPlanIn : FrontContent → List ℕ → Version → List Segment → Type 0
+IsPlanIn front encoded version plan = IsChosenPlan (parsed (parsed_bytes front encoded)) version plan
+
+-- The element string of elements, which are bracketed or are one.
+abbrev pub AreElementsData : (checks : Bool) → List ℕ → FrontContent → List ℕ → Type 0
+AreElementsData checks bytes front encoded =
+    (front ≡ ElementsFront) × (((is_bracketed bytes ≡ true) × AreWritten checks bytes encoded)
+    ⊎ ((is_bracketed bytes ≡ false) × (encoded ≡ bytes)))
+
+-- The data of a content, and their kind.
+abbrev pub AreDataAs : Content → List ℕ → FrontContent → List ℕ → Type 0
+AreDataAs Auto bytes front encoded =
+    (encoded ≡ bytes) × ((IsPlain bytes × (front ≡ BytesFront))
+    ⊎ ((is_ascii bytes ≡ false) × IsUtf8 bytes × (front ≡ TextFront)))
+AreDataAs Text bytes front encoded = (encoded ≡ bytes) × (front ≡ TextFront)
+AreDataAs Gs1 bytes front encoded = AreElementsData true bytes front encoded
+AreDataAs UncheckedGs1 bytes front encoded = AreElementsData false bytes front encoded
+AreDataAs other bytes front encoded = (encoded ≡ bytes) × (front ≡ BytesFront)
+
+-- The segments of the symbol of a content.
+pub record IsPlanAs (content : Content) (bytes : List ℕ) (version : Version) (plan : List Segment) : Type 0 where
+  pub front : FrontContent
+  pub encoded : List ℕ
+  pub are_data : AreDataAs content bytes front encoded
+  pub chosen : IsPlanIn front encoded version plan
+
+-- ---- The text
+
+abbrev pub mode_piece : Mode → List ℕ
+mode_piece Numeric = codes " numeric "
+mode_piece Alphanumeric = codes " alphanumeric "
+mode_piece Byte = codes " byte "
+mode_piece Kanji = codes " kanji "
+
+-- The number of characters: two bytes are one of the Kanji mode.
+abbrev pub count_of : Mode → ℕ → ℕ
+count_of Kanji n = n / 2
+count_of mode n = n
+
+abbrev pub segment_text : Segment → List ℕ
+segment_text s = mode_piece s.mode ++ decimal (count_of s.mode (s.end - s.begin))
+
+abbrev pub version_piece : Version → List ℕ
+version_piece (Normal n) = codes "version " ++ decimal (nat_abs n)
+version_piece (MicroVersion n) = codes "version M" ++ decimal (nat_abs n)
+
+-- The reference of the data mask pattern (ISO/IEC 18004:2006, table 10).
+abbrev pub mask_number : Version → MaskPattern → ℕ
+mask_number (Normal n) mask = normal_number mask
+mask_number (MicroVersion n) mask = unwrap_or (micro_number mask) 0
+
+-- Version, level and mask.
+abbrev pub head_text : DrawnSymbol → List ℕ
+head_text symbol =
+    version_piece symbol.version ++ (codes ", level " ++ (level_text symbol.level
+    ++ (codes ", mask " ++ decimal (mask_number symbol.version symbol.mask))))
+
+-- The modes of the segments, with their numbers of characters.
+abbrev pub segments_text : List Segment → List ℕ
+segments_text plan = codes ", segments" ++ flat_map segment_text plan
+
+-- The width of a symbol without its quiet zone, in hundredths of a millimetre, if it is known: by
+-- the size of a module, or by its dots and the dots of an inch, which is 25.4 mm. It is the nearest
+-- whole number.
+abbrev pub nearest_to : ℕ → ℕ → ℕ
+nearest_to dividend divisor = (2 * dividend + divisor) / (2 * divisor)
+
+abbrev pub width_of_dots : ℕ → ℕ → Option ℕ → Option ℕ
+width_of_dots modules scale None = None
+width_of_dots modules scale (Some dpi) =
+    if nat_le 1 dpi && nat_le dpi MAX_DPI then Some (nearest_to (modules * scale * 2540) dpi) else None
+
+abbrev pub physical_width : ℕ → Label → DrawOptions → Option ℕ
+physical_width modules label options =
+    elim options.module_mm [ Some wide ↦ Some (modules * wide) | None ↦ width_of_dots modules options.scale label.dpi ]
+
+-- Hundredths of a millimetre.
+abbrev pub millimetres_text : ℕ → List ℕ
+millimetres_text n = decimal (n / 100) ++ (codes "." ++ (decimal (n / 10 % 10) ++ decimal (n % 10)))
+
+abbrev pub width_piece : Option ℕ → List ℕ
+width_piece None = []
+width_piece (Some n) = codes ", " ++ (millimetres_text n ++ codes " mm")
+
+abbrev pub size_text : Label → DrawOptions → DrawnSymbol → List ℕ
+size_text label options symbol =
+    codes ", " ++ (decimal (drawn_grid symbol).columns ++ (codes " modules"
+    ++ (width_piece (physical_width (drawn_grid symbol).columns label options) ++ 10 ∷ [])))
+
+-- The segments of a content in a version.
+abbrev pub IsPlanText : Content → List ℕ → Version → List ℕ → Type 0
+IsPlanText content bytes version text =
+    (plan : List Segment) × IsPlanAs content bytes version plan × (text ≡ segments_text plan)
+
+-- The same, if there is such a version, as that of every symbol is.
+abbrev pub IsKnownPlanText : Content → List ℕ → Version → List ℕ → Type 0
+IsKnownPlanText content bytes version text =
+    (HasMicroNumber version × IsPlanText content bytes version text)
+    ⊎ ((HasMicroNumber version → ⊥) × (text ≡ []))
+
+-- The segments of a content, of which the symbol has all.
+abbrev pub IsSegmentsText : Label → Option (List ℕ) → DrawnSymbol → List ℕ → Type 0
+IsSegmentsText label None symbol text = text ≡ []
+IsSegmentsText label (Some content) symbol text = IsKnownPlanText label.content content symbol.version text
+
+-- There are no segments of a content: bytes that begin with a bracket are no elements.
+abbrev pub HasNoData : Content → List ℕ → Stop → Type 0
+HasNoData Gs1 bytes stop = (is_bracketed bytes ≡ true) × AreNotWritten true bytes stop
+HasNoData UncheckedGs1 bytes stop = (is_bracketed bytes ≡ true) × AreNotWritten false bytes stop
+HasNoData content bytes stop = ⊥
+
+-- There are no details of a content: memory ran out, or it has no segments.
+abbrev pub IsDetailsStopOf : Content → List ℕ → Stop → Type 0
+IsDetailsStopOf content bytes stop = (stop ≡ Fault (Symbol OutOfMemory)) ⊎ HasNoData content bytes stop
+
+-- Why there are no details of a symbol: memory ran out, or there are none of its content.
+abbrev pub IsDetailsStop : Label → Option (List ℕ) → Stop → Type 0
+IsDetailsStop label None stop = stop ≡ Fault (Symbol OutOfMemory)
+IsDetailsStop label (Some content) stop = IsDetailsStopOf label.content content stop
+
+-- The details of a symbol: its segments, too, where it has all of a content. Example: 21 modules of
+-- 0.5 mm are 10.50 mm wide.
+pub record AreDetails (label : Label) (options : DrawOptions) (content : Option (List ℕ)) (symbol : DrawnSymbol)
+    (text : List ℕ) : Type 0 where
+  pub segments : List ℕ
+  pub are_segments : IsSegmentsText label content symbol segments
+  pub text_is : text ≡ head_text symbol ++ (segments ++ size_text label options symbol)

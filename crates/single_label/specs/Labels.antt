@@ -1,0 +1,129 @@
+-- A label: the picture of the symbol of some bytes.
+use Rattle.std.specs.Prelude.{◌≡◌, ◌≢◌, ◌⊎◌, ◌<◌, ◌≤◌, ℕ, Bool}
+use Rattle.std.specs.Prelude.{true, false, if◌then◌else◌, List, [], length, Option, Some}
+use Rattle.programs.specs.declared.Fault.TheVariants.{Symbol}
+use Rattle.qrcode_base.specs.declared.types.Color.{Color}
+use Rattle.qrcode_core.specs.Drawn.{DrawnSymbol, drawn_grid}
+use Rattle.qrcode_base.specs.declared.symbols.TheConstants.{LONGEST_DATA}
+use Rattle.qrcode_core.specs.declared.types.errors.QrError.TheVariants.{OutOfMemory, DataTooLong}
+use Rattle.qrcode_render.specs.Drawings.{IsPictureOf}
+use Rattle.qrcode_render.specs.declared.draw_options.DrawOptions.{DrawOptions}
+use Rattle.single_label.specs.Colors.{in_colors}
+use Rattle.label_words.specs.Choices.{is_link}
+use Rattle.single_label.specs.Contents.{IsContent, IsSymbolAs, IsStopAs, IsLink, IsLinkStop}
+use Rattle.single_label.specs.Rooms.{IsTooLongAs, IsTooLongForAny}
+use Rattle.single_label.specs.Details.{AreDetails}
+use Rattle.single_label.specs.Turns.{turned}
+use Rattle.label_words.specs.declared.command.Details.{Details}
+use Rattle.label_words.specs.declared.command.Details.TheVariants.{Beside, Alone}
+use Rattle.label_words.specs.declared.command.Label.{Label}
+use Rattle.single_label.specs.declared.stop.Stop.{Stop}
+use Rattle.single_label.specs.declared.stop.Stop.TheVariants.{Fault, Empty, TooLong}
+use Rattle.single_label.specs.declared.stop.TooLong.{TooLong as TooLongOf}
+
+-- No bytes are drawn only if the label says so.
+abbrev pub IsLabelData : Label → List ℕ → Type 0
+IsLabelData label bytes = bytes ≡ [] → label.allow_empty ≢ false
+
+-- The drawing is the picture of a symbol, which is turned as the label says.
+pub record IsSymbolPicture (label : Label) (options : DrawOptions) (symbol : DrawnSymbol) (drawing : List ℕ) :
+    Type 0 where
+  pub picture : List ℕ
+  pub drawn : IsPictureOf options (turned label.turn (drawn_grid symbol)) picture
+  pub drawing_is : drawing ≡ (if label.colored then in_colors picture else picture)
+
+abbrev pub is_alone : Details → Bool
+is_alone Alone = true
+is_alone _ = false
+
+-- The drawing shows a symbol, or is its details; `content` is given if the symbol has all of
+-- it.
+abbrev pub ShowsSymbol : Label → DrawOptions → Option (List ℕ) → DrawnSymbol → List ℕ → Type 0
+ShowsSymbol label options content symbol drawing =
+    ((is_alone label.details ≡ true) × AreDetails label options content symbol drawing)
+    ⊎ ((is_alone label.details ≡ false) × IsSymbolPicture label options symbol drawing)
+
+-- The drawing shows the symbol of a content.
+pub record ShowsContent (label : Label) (options : DrawOptions) (content drawing : List ℕ) : Type 0 where
+  pub symbol : DrawnSymbol
+  pub is_symbol : IsSymbolAs label.content label.symbol content symbol.modules
+  pub shown : ShowsSymbol label options (Some content) symbol drawing
+
+-- What a symbol says of the text or the bytes that are drawn: them, or the link of the elements that
+-- they write.
+abbrev pub IsSaid : Label → List ℕ → List ℕ → Type 0
+IsSaid label text content =
+    ((is_link label.content ≡ false) × (content ≡ text))
+    ⊎ ((is_link label.content ≡ true) × IsLink label.domain.now text content)
+
+-- The drawing shows the symbol of the bytes, or of what of them is content, or of the link of the
+-- elements that this writes.
+pub record ShowsLabel (label : Label) (options : DrawOptions) (bytes drawing : List ℕ) : Type 0 where
+  pub text : List ℕ
+  pub text_is : IsContent label.trims bytes text
+  pub data_is : IsLabelData label text
+  pub content : List ℕ
+  pub said : IsSaid label text content
+  pub drawn : ShowsContent label options content drawing
+
+-- There is a symbol, and memory ran out when it was drawn.
+abbrev pub IsNotDrawn : Label → List ℕ → Stop → Type 0
+IsNotDrawn label content stop =
+    (stop ≡ Fault (Symbol OutOfMemory))
+    × ((grid : List Color) × IsSymbolAs label.content label.symbol content grid)
+
+-- The data are too long for a symbol.
+abbrev pub is_too_long : Stop → Bool
+is_too_long (Fault (Symbol DataTooLong)) = true
+is_too_long _ = false
+
+-- Why there is no label of a content: it is empty, there is no symbol, or memory ran out.
+abbrev pub IsContentStop : Label → List ℕ → Stop → Type 0
+IsContentStop label content Empty = (content ≡ []) × (label.allow_empty ≡ false)
+IsContentStop label content (TooLong long) =
+    IsLabelData label content × IsTooLongAs label content long
+    × IsStopAs label.content label.symbol content (Fault (Symbol DataTooLong))
+IsContentStop label content stop =
+    IsLabelData label content × (is_too_long stop ≡ false)
+    × (IsNotDrawn label content stop ⊎ IsStopAs label.content label.symbol content stop)
+
+-- There is no label of a text, for this reason: it is empty, there is no link of the elements that
+-- it writes, or there is no label of what the symbol says of it.
+abbrev pub IsTextStop : Label → List ℕ → Stop → Type 0
+IsTextStop label text stop =
+    ((stop ≡ Empty) × (text ≡ []) × (label.allow_empty ≡ false))
+    ⊎ (IsLabelData label text
+    × (((is_link label.content ≡ true) × IsLinkStop label.domain.now text stop)
+    ⊎ ((content : List ℕ) × IsSaid label text content × IsContentStop label content stop)))
+
+-- There is no label of some content of the bytes, for this reason.
+pub record IsRefusedContent (label : Label) (bytes : List ℕ) (stop : Stop) : Type 0 where
+  pub short : length bytes ≤ LONGEST_DATA
+  pub text : List ℕ
+  pub text_is : IsContent label.trims bytes text
+  pub stopped : IsTextStop label text stop
+
+-- There are more bytes than any symbol holds.
+pub record IsManyBytes (label : Label) (bytes : List ℕ) (stop : Stop) : Type 0 where
+  pub many : LONGEST_DATA < length bytes
+  pub too_long : TooLongOf
+  pub is_too_long : IsTooLongForAny label too_long
+  pub stop_is : stop ≡ TooLong too_long
+
+-- The same label, which shows the details of its symbol alone.
+abbrev pub details_label : Label → Label
+details_label label = record label { details = Alone }
+
+abbrev pub is_beside : Details → Bool
+is_beside Beside = true
+is_beside _ = false
+
+-- The details beside a drawing: those of the same bytes, if they are asked for, else nothing.
+abbrev pub AreDetailsBeside : Label → (Label → List ℕ → List ℕ → Type 0) → List ℕ → List ℕ → Type 0
+AreDetailsBeside label shows bytes details =
+    ((is_beside label.details ≡ true) × shows (details_label label) bytes details)
+    ⊎ ((is_beside label.details ≡ false) × (details ≡ []))
+
+-- Why there is no label of the bytes: they are more than 7089, or there is none of their content.
+abbrev pub IsLabelStop : Label → List ℕ → Stop → Type 0
+IsLabelStop label bytes stop = IsManyBytes label bytes stop ⊎ IsRefusedContent label bytes stop

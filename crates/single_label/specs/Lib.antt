@@ -1,0 +1,10 @@
+pub mod Colors
+pub mod Contents
+pub mod Details
+pub mod Faults
+pub mod GivenElements
+pub mod Labels
+pub mod Pages
+pub mod Parts
+pub mod Rooms
+pub mod Turns

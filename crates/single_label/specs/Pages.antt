@@ -1,0 +1,23 @@
+-- The label of a symbol as a page of a document.
+use Rattle.std.specs.Prelude.{ℕ, Bool, ◌&&◌, not, List, [], ◌∷◌, Option}
+use Rattle.qrcode_core.specs.Drawn.{DrawnSymbol, drawn_grid}
+use Rattle.qrcode_render.specs.Drawings.{page_as}
+use Rattle.qrcode_render.specs.Pdf.{PdfPage, pdf_document}
+use Rattle.qrcode_render.specs.declared.draw_options.DrawOptions.{DrawOptions}
+use Rattle.label_words.specs.Choices.{is_pdf}
+use Rattle.single_label.specs.Labels.{is_alone}
+use Rattle.single_label.specs.Turns.{turned}
+use Rattle.label_words.specs.declared.command.Label.{Label}
+
+-- Whether labels are pages: they are drawn as PDF. Details alone are text, and so is what a
+-- terminal shows in colors of its own.
+abbrev pub are_pages : Label → DrawOptions → Bool
+are_pages label options = is_pdf options.format && (not (is_alone label.details) && not label.colored)
+
+-- The page of a symbol, which is turned as the label says.
+abbrev pub page_of : Label → DrawOptions → DrawnSymbol → PdfPage
+page_of label options symbol = page_as options (turned label.turn (drawn_grid symbol))
+
+-- The document that has this page alone.
+abbrev pub page_alone : (title : Option (List ℕ)) → PdfPage → List ℕ
+page_alone title page = pdf_document title (page ∷ [])

@@ -1,0 +1,173 @@
+//! From bytes to the label of their symbol.
+ghost use Rattle.std.specs.Prelude.{◌≡◌, ◌≢◌, ◌≤◌, ◌⊎◌, ℕ, List, [], length, IfOk, IfErr, OnOk};
+ghost use Rattle.std.specs.Option.{option_copied};
+ghost use Rattle.qrcode_base.specs.declared.symbols.TheConstants.{LONGEST_DATA};
+ghost use Rattle.single_label.specs.Labels.{ShowsLabel, ShowsSymbol, IsSymbolPicture, IsLabelStop};
+ghost use Rattle.single_label.specs.Labels.{is_too_long, AreDetailsBeside, details_label};
+ghost use Rattle.single_label.specs.Labels.{ShowsContent, IsLabelData, IsContentStop};
+ghost use Rattle.single_label.specs.Contents.{IsLink, IsLinkStop};
+ghost use Rattle.single_label.specs.Details.{IsDetailsStop};
+
+use crate::colors::in_colors;
+use crate::content::{content_of, content_symbol, link_of};
+use crate::details::symbol_text;
+use crate::room::{too_long_at_level, too_long_for_any};
+use crate::shown::Shown;
+use crate::stop::Stop;
+use crate::turned::draw_turned;
+use label_words::{Content, Details, Label};
+use programs::Fault;
+use qrcode_base::symbols::LONGEST_DATA;
+use qrcode_core::symbol::Symbol;
+use qrcode_core::types::QrError;
+use qrcode_render::DrawOptions;
+use std::alloc::{AllocError, Global};
+
+/// Returns the label of the bytes: what it shows of the symbol of their content, or of the link of
+/// the elements that this writes. It fails with `TooLong` where there are more than 7089 bytes,
+/// with `Empty` where there is no content and the label is not to be drawn then, and else as
+/// `link_label` or `content_label` does.
+pub fn label_bytes<S: Shown>(
+    alloc: Global,
+    label: &Label,
+    options: &DrawOptions,
+    bytes: &[u8],
+) -> Result<S, Stop>
+    requires { S.allowed label.now options.now }
+    ensures drawn { IfOk result (λ shown. ShowsLabel label.now options.now bytes.now
+        (S.drawing label.now options.now shown)) }
+    ensures limit { OnOk result (length bytes.now ≤ LONGEST_DATA) }
+    ensures refused { IfErr result (IsLabelStop label.now bytes.now) }
+{
+    if bytes.len() > LONGEST_DATA {
+        return Err(Stop::TooLong(too_long_for_any(label, bytes)));
+    }
+    let content = content_of(label.trims, bytes);
+    if content.is_empty() && !label.allow_empty {
+        return Err(Stop::Empty);
+    }
+    if label.content == Content::Link {
+        return link_label(alloc, label, options, content);
+    }
+    content_label(alloc, label, options, content)
+}
+
+/// Returns the label of the link of bracketed elements. It fails as `link_of` does, and then as
+/// `content_label`.
+fn link_label<S: Shown>(
+    alloc: Global,
+    label: &Label,
+    options: &DrawOptions,
+    elements: &[u8],
+) -> Result<S, Stop>
+    requires { S.allowed label.now options.now }
+    ensures shown { IfOk result (λ shown. (link : List ℕ)
+        × IsLink label.now.domain.now elements.now link × (link ≢ [])
+        × ShowsContent label.now options.now link (S.drawing label.now options.now shown)) }
+    ensures refused { IfErr result (λ stop. IsLinkStop label.now.domain.now elements.now stop
+        ⊎ ((link : List ℕ) × IsLink label.now.domain.now elements.now link × (link ≢ [])
+        × IsContentStop label.now link stop)) }
+{
+    let link = link_of(alloc, label.domain, elements)?;
+    content_label(alloc, label, options, &link)
+}
+
+/// Returns the label of a content: what it shows of its symbol. It fails as `content_symbol`, but
+/// with `TooLong` in place of `DataTooLong`, and then as `symbol_text`.
+fn content_label<S: Shown>(
+    alloc: Global,
+    label: &Label,
+    options: &DrawOptions,
+    content: &[u8],
+) -> Result<S, Stop>
+    requires data { IsLabelData label.now content.now }
+    requires allowed { S.allowed label.now options.now }
+    ensures shown { IfOk result (λ shown. ShowsContent label.now options.now content.now
+        (S.drawing label.now options.now shown)) }
+    ensures refused { IfErr result (IsContentStop label.now content.now) }
+{
+    let symbol = match content_symbol(alloc, label.content, &label.symbol, content) {
+        Ok(symbol) => symbol,
+        Err(stop) if is_too_long(stop) => {
+            return Err(Stop::TooLong(too_long_at_level(alloc, label, content)));
+        }
+        Err(stop) => return Err(stop),
+    };
+    S::of_symbol(alloc, label, options, Some(content), symbol)
+}
+
+/// Returns what the label shows of a symbol: its details, or its picture. The content is
+/// given if the symbol has all of it. It fails as `symbol_text` does.
+pub fn symbol_label(
+    alloc: Global,
+    label: &Label,
+    options: &DrawOptions,
+    content: Option<&[u8]>,
+    symbol: &Symbol,
+) -> Result<Vec<u8>, Stop>
+    ensures shown { IfOk result (λ drawing. ShowsSymbol label.now options.now
+        (option_copied content.entry) symbol.now drawing.items) }
+    ensures refused { IfErr result (IsDetailsStop label.now (option_copied content.entry)) }
+{
+    if label.details == Details::Alone {
+        return symbol_text(alloc, label, options, content, symbol);
+    }
+    Ok(symbol_picture(alloc, label, options, symbol)?)
+}
+
+/// Returns the picture of a symbol, turned and colored as the label says. It fails only for lack of
+/// memory.
+fn symbol_picture(
+    alloc: Global,
+    label: &Label,
+    options: &DrawOptions,
+    symbol: &Symbol,
+) -> Result<Vec<u8>, AllocError>
+    ensures { IfOk result (λ drawing.
+        IsSymbolPicture label.now options.now symbol.now drawing.items) }
+{
+    let picture = draw_turned(alloc, symbol, label.turn, options)?;
+    if label.colored {
+        return in_colors(alloc, &picture);
+    }
+    Ok(picture)
+}
+
+/// Returns the same label, which shows the details of its symbol alone.
+pub fn details_label<'a>(label: &Label<'a>) -> Label<'a>
+    ensures { result ≡ details_label label.now }
+{
+    let mut alone = *label;
+    alone.details = Details::Alone;
+    alone
+}
+
+/// Returns the details beside the label of the bytes: none, unless they are asked for. It fails as
+/// `label_bytes` does.
+pub fn details_bytes(
+    alloc: Global,
+    label: &Label,
+    options: &DrawOptions,
+    bytes: &[u8],
+) -> Result<Vec<u8>, Stop>
+    ensures details { IfOk result (λ details. AreDetailsBeside label.now
+        (λ other. ShowsLabel other options.now) bytes.now details.items) }
+    ensures refused { IfErr result (IsLabelStop label.now bytes.now) }
+{
+    if label.details == Details::Beside {
+        return label_bytes(alloc, &details_label(label), options, bytes);
+    }
+    Ok(Vec::new(alloc))
+}
+
+/// Whether the data are too long for a symbol.
+pub fn is_too_long(stop: Stop) -> bool
+    ensures { result ≡ is_too_long stop }
+{
+    match stop {
+        Stop::Fault(fault) => fault == Fault::Symbol(QrError::DataTooLong),
+        Stop::Elements(_) | Stop::NotAllowed(_) | Stop::NoLink(_) => false,
+        Stop::Empty | Stop::NotAscii | Stop::TooLong(_) => false,
+        Stop::TooManyParts | Stop::TooManyPages => false,
+    }
+}

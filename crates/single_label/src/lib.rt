@@ -1,0 +1,30 @@
+//! A label of `qrlabel`: from its input and what the words ask for to its bytes.
+//!
+//! 1. Make the symbol of the content of the input (`content`, `element`), or the symbols that carry
+//!    it together (`parts`).
+//! 2. Draw it (`label`, `colors`, `turned`), write its details (`details`), or make it a page of a
+//!    document (`shown`, `turned`).
+//! 3. Where there is no label, say why (`stop`), and how much there is room for (`room`).
+//!
+//! ```text
+//! let label = label_bytes::<Vec<u8>>(alloc, &label, &options, &bytes)?;
+//! ```
+#![tactic(auto)]
+
+mod colors;
+mod content;
+mod details;
+mod element;
+mod label;
+mod parts;
+mod room;
+mod shown;
+mod stop;
+mod turned;
+
+pub use element::element_number;
+pub use label::{details_bytes, label_bytes};
+pub use parts::{LONGEST_MESSAGE, details_message, message_labels, message_text};
+pub use shown::{PageSymbol, Shown, are_pages};
+pub use stop::{ElementStop, Stop, TooLong};
+pub use turned::page_turned;

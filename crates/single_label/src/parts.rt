@@ -1,0 +1,220 @@
+//! From a message to the labels of the symbols that carry it together (ISO/IEC 18004:2006,
+//! "Structured Append").
+ghost use Rattle.std.specs.Prelude.{◌≡◌, ◌⊎◌, ◌≤◌, ℕ, List, [], ◌∷◌, length, map, vec_items, Some, IfOk, IfErr, OnOk};
+ghost use Rattle.qrcode_bits.specs.declared.bits.front.Content.TheVariants.{Bytes};
+ghost use Rattle.qrcode_core.specs.Drawn.{modules_of};
+ghost use Rattle.single_label.specs.Parts.{IsSequenceOf, IsSequenceFault, IsTextSequence};
+ghost use Rattle.single_label.specs.Parts.{IsTextFault, IsSequenceAs, IsSequenceFaultAs, ShowEach};
+ghost use Rattle.single_label.specs.Parts.{ShowMessage, AreLabelsTogether, ShowsMessage};
+ghost use Rattle.single_label.specs.Labels.{ShowsSymbol, AreDetailsBeside};
+ghost use Rattle.single_label.specs.Details.{IsDetailsStop};
+ghost use Rattle.programs.specs.declared.Fault.TheVariants.{Symbol as SymbolFault};
+ghost use Rattle.qrcode_core.specs.declared.types.errors.QrError.TheVariants.{OutOfMemory};
+ghost use Rattle.single_label.specs.declared.stop.Stop.TheVariants.{Fault as FaultStop};
+ghost use Rattle.single_label.specs.Parts.{AreNotDrawn, IsPartsStop, IsMessageStop, all_drawings};
+
+use crate::content::{content_of, content_symbol, is_ascii, utf8_of};
+use crate::label::{details_label, is_too_long, symbol_label};
+use crate::stop::Stop;
+use label_words::{Content, Details, Label};
+use qrcode_base::symbols::LONGEST_DATA;
+use qrcode_core::options::SymbolOptions;
+use qrcode_core::symbol::{Symbol, best_cuts, best_text_cuts};
+use qrcode_core::types::{QrError, QrResult};
+use qrcode_render::DrawOptions;
+use std::alloc::{AllocError, Global};
+
+/// No sequence of symbols holds more bytes: it has at most 16.
+pub const LONGEST_MESSAGE: usize = 16 * LONGEST_DATA;
+
+/// Returns the symbols of the fewest parts of a message of bytes, as the options ask for them. It
+/// fails with `DataTooLong` if 16 symbols do not hold it, and with `OutOfMemory`.
+fn bytes_sequence(alloc: Global, options: &SymbolOptions, bytes: &[u8]) -> QrResult<Vec<Symbol>>
+    ensures symbols { IfOk result (λ symbols.
+        IsSequenceOf Bytes options.now bytes.now (map modules_of symbols.items)) }
+    ensures refused { IfErr result (IsSequenceFault Bytes options.now bytes.now) }
+{
+    let cuts = best_cuts(alloc, bytes, options.level, options.max_version)?;
+    Symbol::sequence(alloc, bytes, &cuts, options.level, options.max_version)
+}
+
+/// Returns the symbols of the fewest parts of a text, as `bytes_sequence` does of bytes. It fails
+/// as `utf8_of` does, and then as `bytes_sequence`.
+fn text_sequence(alloc: Global, options: &SymbolOptions, bytes: &[u8]) -> QrResult<Vec<Symbol>>
+    ensures symbols { IfOk result (λ symbols.
+        IsTextSequence options.now bytes.now (map modules_of symbols.items)) }
+    ensures refused { IfErr result (IsTextFault options.now bytes.now) }
+{
+    let text = utf8_of(bytes)?;
+    let cuts = best_text_cuts(alloc, text, options.level, options.max_version)?;
+    Symbol::text_sequence(alloc, text, &cuts, options.level, options.max_version)
+}
+
+/// Returns the symbols of the fewest parts of a message, as those of text, if the bytes are UTF-8
+/// and not ASCII, else of bytes.
+fn auto_sequence(alloc: Global, options: &SymbolOptions, bytes: &[u8]) -> QrResult<Vec<Symbol>>
+    ensures symbols { IfOk result (λ symbols.
+        IsSequenceAs Content.Auto options.now bytes.now (map modules_of symbols.items)) }
+    ensures refused { IfErr result (IsSequenceFaultAs Content.Auto options.now bytes.now) }
+{
+    if is_ascii(bytes) || utf8_of(bytes).is_err() {
+        return bytes_sequence(alloc, options, bytes);
+    }
+    text_sequence(alloc, options, bytes)
+}
+
+/// Returns the symbols of the fewest parts of a message, by what it is. There are none of elements,
+/// and no Micro symbols.
+fn sequence_symbols(
+    alloc: Global,
+    content: Content,
+    options: &SymbolOptions,
+    bytes: &[u8],
+) -> QrResult<Vec<Symbol>>
+    ensures symbols { IfOk result (λ symbols.
+        IsSequenceAs content options.now bytes.now (map modules_of symbols.items)) }
+    ensures refused { IfErr result (IsSequenceFaultAs content options.now bytes.now) }
+{
+    match content {
+        Content::Auto => auto_sequence(alloc, options, bytes),
+        Content::Text => text_sequence(alloc, options, bytes),
+        Content::Bytes => bytes_sequence(alloc, options, bytes),
+        Content::Gs1 | Content::UncheckedGs1 | Content::Link => Err(QrError::DataTooLong),
+        Content::Micro | Content::MicroBytes => Err(QrError::DataTooLong),
+    }
+}
+
+/// Returns the label of each symbol, in their order. It fails only for lack of memory.
+fn labels_of(
+    alloc: Global,
+    label: &Label,
+    options: &DrawOptions,
+    symbols: &[Symbol],
+) -> Result<Vec<Vec<u8>>, Stop>
+    ensures shown { IfOk result (λ drawings.
+        ShowEach label.now options.now symbols.now (map vec_items drawings.items)) }
+    ensures memory { IfErr result (λ stop. stop ≡ FaultStop (SymbolFault OutOfMemory)) }
+{
+    let mut drawings = Vec::new(alloc);
+    for symbol in symbols {
+        let drawing = symbol_label(alloc, label, options, None, symbol)?;
+        drawings.push(drawing).map_err(AllocError::from)?;
+    }
+    Ok(drawings)
+}
+
+/// Returns the labels of the symbols of the fewest parts of a content.
+fn sequence_labels(
+    alloc: Global,
+    label: &Label,
+    options: &DrawOptions,
+    content: &[u8],
+) -> Result<Vec<Vec<u8>>, Stop>
+    ensures shown { IfOk result (λ drawings. AreLabelsTogether label.now options.now content.now
+        (map vec_items drawings.items)) }
+    ensures refused { IfErr result (λ stop. AreNotDrawn label.now content.now stop
+        ⊎ IsPartsStop label.now content.now stop) }
+{
+    match sequence_symbols(alloc, label.content, &label.symbol, content) {
+        Ok(symbols) => labels_of(alloc, label, options, &symbols),
+        Err(QrError::DataTooLong) => Err(Stop::TooManyParts),
+        Err(error) => Err(Stop::from(error)),
+    }
+}
+
+/// Returns the labels of a message: one, if a symbol holds its content, or those of the fewest
+/// symbols that carry it together. It fails with `TooManyParts` where 16 symbols do not hold it,
+/// with `Empty` where there is no content and the label is not to be drawn then, and else as
+/// `content_symbol` does.
+pub fn message_labels(
+    alloc: Global,
+    label: &Label,
+    options: &DrawOptions,
+    bytes: &[u8],
+) -> Result<Vec<Vec<u8>>, Stop>
+    ensures shown { IfOk result (λ drawings. ShowMessage label.now options.now bytes.now
+        (map vec_items drawings.items)) }
+    ensures limit { OnOk result (length bytes.now ≤ LONGEST_MESSAGE) }
+    ensures refused { IfErr result (IsMessageStop label.now bytes.now) }
+{
+    if bytes.len() > LONGEST_MESSAGE {
+        return Err(Stop::TooManyParts);
+    }
+    let content = content_of(label.trims, bytes);
+    if content.is_empty() && !label.allow_empty {
+        return Err(Stop::Empty);
+    }
+    match content_symbol(alloc, label.content, &label.symbol, content) {
+        Ok(symbol) => one_label(alloc, label, options, content, &symbol),
+        Err(stop) if is_too_long(stop) => sequence_labels(alloc, label, options, content),
+        Err(stop) => Err(stop),
+    }
+}
+
+/// Returns the label of one symbol.
+fn one_label(
+    alloc: Global,
+    label: &Label,
+    options: &DrawOptions,
+    content: &[u8],
+    symbol: &Symbol,
+) -> Result<Vec<Vec<u8>>, Stop>
+    ensures shown { IfOk result (λ drawings. (drawing : List ℕ)
+        × (map vec_items drawings.items ≡ drawing ∷ [])
+        × ShowsSymbol label.now options.now (Some content.now) symbol.now drawing) }
+    ensures refused { IfErr result (IsDetailsStop label.now (Some content.now)) }
+{
+    let drawing = symbol_label(alloc, label, options, Some(content), symbol)?;
+    let mut drawings = Vec::new(alloc);
+    drawings.push(drawing).map_err(AllocError::from)?;
+    Ok(drawings)
+}
+
+/// Returns the labels of a message, one after the other. It fails as `message_labels` does, and with
+/// `OutOfMemory`.
+pub fn message_text(
+    alloc: Global,
+    label: &Label,
+    options: &DrawOptions,
+    bytes: &[u8],
+) -> Result<Vec<u8>, Stop>
+    ensures shown { IfOk result (λ text. ShowsMessage label.now options.now bytes.now text.items) }
+    ensures limit { OnOk result (length bytes.now ≤ LONGEST_MESSAGE) }
+    ensures refused { IfErr result (λ stop. (stop ≡ FaultStop (SymbolFault OutOfMemory))
+        ⊎ IsMessageStop label.now bytes.now stop) }
+{
+    match message_labels(alloc, label, options, bytes) {
+        Ok(drawings) => Ok(all_drawings(alloc, &drawings)?),
+        Err(stop) => Err(stop),
+    }
+}
+
+/// Returns the details beside the labels of a message: none, unless they are asked for. It fails
+/// as `message_labels` does, and with `OutOfMemory`.
+pub fn details_message(
+    alloc: Global,
+    label: &Label,
+    options: &DrawOptions,
+    bytes: &[u8],
+) -> Result<Vec<u8>, Stop>
+    ensures details { IfOk result (λ details. AreDetailsBeside label.now
+        (λ other. ShowsMessage other options.now) bytes.now details.items) }
+    ensures refused { IfErr result (λ stop. (stop ≡ FaultStop (SymbolFault OutOfMemory))
+        ⊎ IsMessageStop label.now bytes.now stop) }
+{
+    if label.details == Details::Beside {
+        return message_text(alloc, &details_label(label), options, bytes);
+    }
+    Ok(Vec::new(alloc))
+}
+
+/// Returns the drawings one after the other. It fails only for lack of memory.
+fn all_drawings(alloc: Global, drawings: &[Vec<u8>]) -> Result<Vec<u8>, AllocError>
+    ensures { IfOk result (λ all. all.items ≡ all_drawings (map vec_items drawings.now)) }
+{
+    let mut all = Vec::new(alloc);
+    for drawing in drawings {
+        all.extend_from_slice(drawing)?;
+    }
+    Ok(all)
+}
