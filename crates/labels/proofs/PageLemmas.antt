@@ -10,10 +10,10 @@ use Rattle.qrcode_core.specs.Drawn.{DrawnSymbol}
 use Rattle.qrcode_render.proofs.PdfLemmas.{writes_document}
 use Rattle.qrcode_render.specs.Pdf.{PdfPage, pdf_document}
 use Rattle.qrcode_render.specs.PdfWritten.{PdfWritten, IsWritten, after_page, next_page, next_pages, pdf_end, pdf_start, started}
-use Rattle.qrcode_render.specs.declared.bounds.TheConstants.{MAX_PDF}
-use Rattle.qrcode_render.specs.declared.draw_options.DrawOptions.{DrawOptions}
-use Rattle.qrcode_render.specs.declared.format.Format.{Format}
-use Rattle.qrcode_render.specs.declared.format.Format.TheVariants.{Pdf}
+use Rattle.picture_settings.specs.declared.bounds.TheConstants.{MAX_PDF}
+use Rattle.picture_settings.specs.declared.draw_options.DrawOptions.{DrawOptions}
+use Rattle.picture_settings.specs.declared.format.Format.{Format}
+use Rattle.picture_settings.specs.declared.format.Format.TheVariants.{Pdf}
 use Rattle.label_words.specs.Choices.{is_pdf}
 use Rattle.labels.specs.{Labels.ShowsSymbol, Labels.is_alone, Pages.are_pages, Pages.page_alone, Pages.page_of}
 use Rattle.labels.specs.Documents.{ArePages, IsWrittenSoFar, WritesSoFar, WritesPages, WritesDocument, WritesSomePages, WritesNoEnd, HasNoRoom}

@@ -13,7 +13,7 @@ use Rattle.qrcode_core.specs.declared.options.SymbolOptions.{SymbolOptions}
 use Rattle.qrcode_core.specs.declared.types.Color.{Color}
 use Rattle.qrcode_core.specs.declared.types.errors.QrError.{QrError}
 use Rattle.qrcode_core.specs.declared.types.errors.QrError.TheVariants.{OutOfMemory, DataTooLong}
-use Rattle.qrcode_render.specs.declared.draw_options.DrawOptions.{DrawOptions}
+use Rattle.picture_settings.specs.declared.draw_options.DrawOptions.{DrawOptions}
 use Rattle.labels.specs.Contents.{IsContent, IsPlain, is_ascii, IsNoUtf8, IsSymbolAs, IsStopAs}
 use Rattle.labels.specs.Labels.{IsLabelData, IsNotDrawn, ShowsSymbol, is_too_long}
 use Rattle.label_words.specs.declared.command.Content.{Content}
