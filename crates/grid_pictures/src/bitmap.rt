@@ -14,11 +14,7 @@ use std::alloc::{AllocError, Global};
 
 /// Appends all rows of pixels. Those of one row of modules are equal.
 #[tactic(auto, using(crate::proofs::BitmapLemmas::rows))]
-pub fn push_rows(
-    alloc: Global,
-    bytes: &mut Vec<u8>,
-    picture: &Picture,
-) -> Result<(), AllocError>
+pub fn push_rows(alloc: Global, bytes: &mut Vec<u8>, picture: &Picture) -> Result<(), AllocError>
     ensures { OnOk result
         (bytes.new.items ≡ bytes.old.items
         ++ first_rows (shown picture.now) (pixel_height (shown picture.now))) }

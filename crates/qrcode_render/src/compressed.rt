@@ -12,9 +12,9 @@ ghost use Rattle.qrcode_render.specs.Compressed.{Compresses, is_hex_digit, repea
 ghost use Rattle.qrcode_render.specs.Encoded.{AddsPiece, EndsRow, SaysCount, SaysDigits, SaysRow};
 ghost use Rattle.qrcode_render.specs.Zpl.{hex_pair, row_digits};
 
+use crate::zpl::write_hex;
 use grid_pictures::bitmap::{write_row, zeros};
 use grid_pictures::picture::Picture;
-use crate::zpl::write_hex;
 use std::alloc::{AllocError, Global};
 
 /// Appends the compressed digits of some rows of pixels, from one on. Those of one row of modules

@@ -10,10 +10,10 @@ ghost use Rattle.qrcode_render.specs.Eps.{eps_fill, eps_ground, eps_ink, ps_colo
 ghost use Rattle.qrcode_render.specs.Eps.{eps_comments, exact_comment, exact_line, exact_side};
 ghost use Rattle.qrcode_render.specs.Eps.{module_points, thousandths, title_comment};
 
-use picture_settings::colors::{Colors, Ground, NO_COLORS, Rgb};
 use grid_pictures::path::push_path;
 use grid_pictures::pen::Pen;
 use grid_pictures::picture::Picture;
+use picture_settings::colors::{Colors, Ground, NO_COLORS, Rgb};
 use picture_settings::postscript::push_string;
 use std::alloc::{AllocError, Global};
 

@@ -8,8 +8,8 @@ ghost use Rattle.qrcode_render.specs.EscPos.{band, escpos_text, two_bytes};
 ghost use Rattle.qrcode_render.specs.EscPos.{cut_command, feed_command, ticket_text};
 
 use grid_pictures::bitmap::push_rows_from;
-use picture_settings::bounds::BAND_ROWS;
 use grid_pictures::picture::Picture;
+use picture_settings::bounds::BAND_ROWS;
 use std::alloc::{AllocError, Global};
 
 /// The most bytes of the commands after a picture.

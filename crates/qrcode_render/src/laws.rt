@@ -2,8 +2,8 @@
 ghost use Rattle.qrcode_render.specs.PdfWritten.{EntriesFindObjects, PagesMakeDocument};
 ghost use Rattle.qrcode_render.specs.PdfWritten.{WritesDocument};
 
-pub use picture_settings::laws::{light_is_nearest, strings_are_read, texts_are_read};
 pub use grid_pictures::laws::rectangles_cover_dark_modules;
+pub use picture_settings::laws::{light_is_nearest, strings_are_read, texts_are_read};
 
 /// The start of a PDF document, each of its pages and its end, one after the other, are the
 /// document of these pages.

@@ -31,17 +31,16 @@ pub mod renderers;
 pub mod svg;
 pub mod zpl;
 
-pub use picture_settings::{
-    bounds, colors, config, draw_options, format, option_words, options, settings,
-};
-pub use grid_pictures::{picture, terminal};
-
 pub use drawing::{draw, draw_grid};
+pub use grid_pictures::picture::Picture;
+pub use grid_pictures::{picture, terminal};
 pub use pdf_pages::{PdfError, PdfPages};
 pub use picture_settings::colors::{Colors, Ground, Rgb};
 pub use picture_settings::draw_options::DrawOptions;
 pub use picture_settings::format::Format;
 pub use picture_settings::options::RenderOptions;
 pub use picture_settings::settings::{Setting, Settings};
-pub use grid_pictures::picture::Picture;
+pub use picture_settings::{
+    bounds, colors, config, draw_options, format, option_words, options, settings,
+};
 pub use renderers::{Eps, EscPos, Pbm, Pdf, Png, Svg, Terminal, Zpl};

@@ -10,11 +10,11 @@ ghost use Rattle.qrcode_render.specs.Pdf.{pdf_color, pdf_fill, pdf_ground, pdf_i
 ghost use Rattle.qrcode_render.specs.Pdf.{pdf_page};
 ghost use Rattle.qrcode_render.specs.PdfPages.{page_of};
 
-use picture_settings::colors::{Colors, Ground, Rgb};
 use crate::eps::{exact_side, thousandths};
 use grid_pictures::path::push_path;
 use grid_pictures::pen::Pen;
 use grid_pictures::picture::Picture;
+use picture_settings::colors::{Colors, Ground, Rgb};
 use std::alloc::{AllocError, Global};
 
 /// A page: its sides in points, and what its content stream has.

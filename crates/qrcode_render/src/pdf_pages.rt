@@ -22,13 +22,13 @@ ghost use Rattle.qrcode_render.specs.Pdf.{pdf_page};
 ghost use Rattle.qrcode_render.specs.PdfWritten.{PdfWritten, after_page, next_page, pdf_end};
 ghost use Rattle.qrcode_render.specs.PdfWritten.{pdf_start, started};
 
-use picture_settings::bounds::MAX_PDF;
-use picture_settings::colors::Colors;
-use picture_settings::draw_options::DrawOptions;
 use crate::drawing::shape;
 use crate::pdf_page::draw_page;
 use crate::pdf_text::{push_end, push_page, start_text};
 use grid_pictures::picture::Picture;
+use picture_settings::bounds::MAX_PDF;
+use picture_settings::colors::Colors;
+use picture_settings::draw_options::DrawOptions;
 use qrcode_core::symbol::Symbol;
 use std::alloc::{AllocError, Global};
 use std::marker::Model;

@@ -9,11 +9,11 @@ ghost use Rattle.picture_settings.specs.declared.format.Format.{Format};
 ghost use Rattle.qrcode_render.specs.Drawings.{drawn_bytes, is_drawn_text};
 ghost use Rattle.qrcode_render.specs.Rendered.{IsOutput, IsRendererRefusal, Renders, Validates};
 
+use crate::drawing::{Drawn, draw_as, shape};
+use grid_pictures::picture::Picture;
 use picture_settings::bounds::MAX_MODULES;
 use picture_settings::draw_options::DrawOptions;
-use crate::drawing::{Drawn, draw_as, shape};
 use picture_settings::format::Format;
-use grid_pictures::picture::Picture;
 use qrcode_core::plugin::{DynRenderer, PluginError, RenderConfig, RenderOutput};
 use qrcode_core::traits::ModuleSource;
 use std::alloc::Global;

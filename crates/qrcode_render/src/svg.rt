@@ -10,10 +10,10 @@ ghost use Rattle.qrcode_render.specs.Svg.{svg_tag};
 ghost use Rattle.qrcode_render.specs.Svg.{svg_text, title_element};
 ghost use Rattle.qrcode_render.specs.Zpl.{hex_digit, hex_pair};
 
-use picture_settings::colors::{Colors, Ground, NO_COLORS, Rgb};
 use grid_pictures::path::push_path;
 use grid_pictures::pen::Pen;
 use grid_pictures::picture::Picture;
+use picture_settings::colors::{Colors, Ground, NO_COLORS, Rgb};
 use picture_settings::xml::push_escaped;
 use std::alloc::{AllocError, Global};
 

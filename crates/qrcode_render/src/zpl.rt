@@ -13,10 +13,10 @@ ghost use Rattle.qrcode_render.specs.Zpl.{field, field_head, hex_pair, hex_digit
 ghost use Rattle.qrcode_render.specs.Zpl.{copies_command, field_count, field_rows, label_end};
 ghost use Rattle.qrcode_render.specs.Zpl.{label_text, nth_first};
 
-use grid_pictures::bitmap::{write_row, zeros};
-use picture_settings::bounds::FIELD_BYTES;
 use crate::compressed::push_data;
+use grid_pictures::bitmap::{write_row, zeros};
 use grid_pictures::picture::Picture;
+use picture_settings::bounds::FIELD_BYTES;
 use std::alloc::{AllocError, Global};
 
 /// The most bytes around the data of a field.
