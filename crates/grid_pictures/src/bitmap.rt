@@ -12,7 +12,8 @@ ghost use Rattle.grid_pictures.specs.Shown.{shown};
 use crate::picture::{Picture, ROOM, Row};
 use std::alloc::{AllocError, Global};
 
-/// Appends all rows of pixels. Those of one row of modules are equal.
+/// Appends all rows of pixels. Those of one row of modules are equal. It fails only for lack of
+/// memory.
 #[tactic(auto, using(crate::proofs::BitmapLemmas::rows))]
 pub fn push_rows(alloc: Global, bytes: &mut Vec<u8>, picture: &Picture) -> Result<(), AllocError>
     ensures { OnOk result
@@ -30,7 +31,7 @@ pub fn push_rows(alloc: Global, bytes: &mut Vec<u8>, picture: &Picture) -> Resul
     Ok(())
 }
 
-/// Appends some rows of pixels, from one on.
+/// Appends some rows of pixels, from one on. It fails only for lack of memory.
 #[tactic(auto, using(crate::proofs::BitmapLemmas::rows_after))]
 pub fn push_rows_from(
     alloc: Global,
@@ -54,7 +55,7 @@ pub fn push_rows_from(
     Ok(())
 }
 
-/// Returns this many zeros, which are light pixels.
+/// Returns this many zeros, which are light pixels. It fails only for lack of memory.
 pub fn zeros(alloc: Global, count: usize) -> Result<Vec<u8>, AllocError>
     ensures light { IfOk result (λ bytes. bytes.items ≡ replicate count 0) }
     ensures long { IfOk result (λ bytes. length bytes.items ≡ count) }

@@ -19,7 +19,8 @@ use std::alloc::AllocError;
 /// Room for the rectangles of a row: none has more than 17 bytes.
 const LINE: usize = 17 * ROOM;
 
-/// Appends the rectangles of all rows.
+/// Appends the rectangles of all rows, as the format of the pen has them. It fails only for lack of
+/// memory.
 #[tactic(auto, using(crate::proofs::PathLemmas::paths))]
 pub fn push_path(text: &mut String, picture: &Picture, pen: Pen) -> Result<(), AllocError>
     ensures { OnOk result (string_bytes text.new ≡ string_bytes text.old
