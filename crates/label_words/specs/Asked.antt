@@ -2,7 +2,7 @@
 use Rattle.std.specs.Prelude.{ℕ, List, Result, Ok, Err}
 use denote.Ref.{Bor}
 use Rattle.std.specs.Option.{option_copied}
-use Rattle.qrcode_render.specs.declared.settings.Settings.{Settings}
+use Rattle.picture_settings.specs.declared.settings.Settings.{Settings}
 use Rattle.label_words.specs.declared.command.Command.{Command as Given}
 use Rattle.label_words.specs.declared.command.Command.TheVariants.{Help, Version, Label as LabelGiven}
 use Rattle.label_words.specs.declared.command.Label.{Label as Drawn}

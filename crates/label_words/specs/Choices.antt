@@ -4,8 +4,8 @@ use Rattle.std.specs.Char.{to_ascii_lowercase}
 use Rattle.std.specs.Str.{bytes_eq}
 use Rattle.qrcode_core.specs.declared.types.EcLevel.{EcLevel}
 use Rattle.qrcode_core.specs.declared.types.EcLevel.TheVariants.{L, M, Q, H}
-use Rattle.qrcode_render.specs.declared.format.Format.{Format as FormatOf}
-use Rattle.qrcode_render.specs.declared.format.Format.TheVariants.{Terminal, Svg, Png, Pbm, Eps, EscPos, Zpl, Pdf}
+use Rattle.picture_settings.specs.declared.format.Format.{Format as FormatOf}
+use Rattle.picture_settings.specs.declared.format.Format.TheVariants.{Terminal, Svg, Png, Pbm, Eps, EscPos, Zpl, Pdf}
 use Rattle.label_words.specs.Words.{among}
 use Rattle.label_words.specs.declared.command.Content.{Content as ContentOf}
 use Rattle.label_words.specs.declared.command.Content.TheVariants.{Auto, Text as TextOf, Bytes, Gs1}

@@ -4,12 +4,12 @@ use Rattle.std.specs.Prelude.{if◌then◌else◌, codes, Result, Ok, Err}
 use Rattle.std.specs.Prelude.{List, Option, None, Some, option_and_then, unwrap_or, is_some}
 use Rattle.qrcode_core.specs.declared.options.SymbolOptions.{SymbolOptions}
 use Rattle.qrcode_core.specs.declared.types.EcLevel.{EcLevel, TheVariants.M, TheVariants.H}
-use Rattle.qrcode_render.specs.declared.bounds.TheConstants.{MICRO_QUIET, MIN_SCALE, MAX_SCALE}
-use Rattle.qrcode_render.specs.declared.bounds.TheConstants.{MIN_DPI, MAX_DPI, MIN_MODULE_MM, MAX_MODULE_MM}
-use Rattle.qrcode_render.specs.ColorWords.{word_color, ground_word}
-use Rattle.qrcode_render.specs.declared.colors.{Colors.Colors, Ground.Ground, Rgb.Rgb}
-use Rattle.qrcode_render.specs.declared.format.Format.{Format as FormatOf}
-use Rattle.qrcode_render.specs.declared.format.Format.TheVariants.{Terminal, Svg}
+use Rattle.picture_settings.specs.declared.bounds.TheConstants.{MICRO_QUIET, MIN_SCALE, MAX_SCALE}
+use Rattle.picture_settings.specs.declared.bounds.TheConstants.{MIN_DPI, MAX_DPI, MIN_MODULE_MM, MAX_MODULE_MM}
+use Rattle.picture_settings.specs.ColorWords.{word_color, ground_word}
+use Rattle.picture_settings.specs.declared.colors.{Colors.Colors, Ground.Ground, Rgb.Rgb}
+use Rattle.picture_settings.specs.declared.format.Format.{Format as FormatOf}
+use Rattle.picture_settings.specs.declared.format.Format.TheVariants.{Terminal, Svg}
 use Rattle.label_words.specs.declared.command.TheConstants.{MAX_FIRST}
 use Rattle.label_words.specs.declared.command.Content.{Content as ContentOf}
 use Rattle.label_words.specs.declared.command.Content.TheVariants.{Auto, Bytes, MicroBytes}
@@ -27,8 +27,8 @@ use Rattle.label_words.specs.Choices.{level_named, content_named, turn_named, fo
 use Rattle.label_words.specs.Choices.{is_link, is_micro, has_dots, is_png, is_pdf, can_be_split, is_terminal}
 use Rattle.gs1_base.specs.Domains.{is_domain}
 use Rattle.label_words.specs.Names.{Numbering, numbering_in}
-use Rattle.qrcode_render.specs.Formats.{can_be_shown, is_stream}
-use Rattle.qrcode_render.specs.OptionWords.{word_number, word_hundredths, word_position, around_first}
+use Rattle.picture_settings.specs.Formats.{can_be_shown, is_stream}
+use Rattle.picture_settings.specs.OptionWords.{word_number, word_hundredths, word_position, around_first}
 use Rattle.label_words.specs.Words.{Values, value_of, file_of, is_given, Wrong, invalid}
 use Rattle.label_words.specs.Words.{needs_stream, needs_file}
 

@@ -1,7 +1,7 @@
 -- Names of files with a number in them.
 use Rattle.std.specs.Prelude.{ℕ, ◌-◌, nat_le, ◌==◌, ◌&&◌, if◌then◌else◌, decimal, replicate}
 use Rattle.std.specs.Prelude.{List, [], ◌∷◌, ◌++◌, length, Option, None, Some, is_some, option_map, option_and_then}
-use Rattle.qrcode_render.specs.OptionWords.{around_first}
+use Rattle.picture_settings.specs.OptionWords.{around_first}
 
 -- A name with the place of a number: what is before the number, how many digits it has at least,
 -- and what is after it.

@@ -1,17 +1,17 @@
 -- The options of the command line that give the settings of a picture.
-use Rattle.qrcode_render.specs.declared.settings.Setting.{Setting}
-use Rattle.qrcode_render.specs.declared.settings.Setting.TheVariants.{Scale as ScaleOf}
-use Rattle.qrcode_render.specs.declared.settings.Setting.TheVariants.{Quiet as QuietOf}
-use Rattle.qrcode_render.specs.declared.settings.Setting.TheVariants.{ModuleMm as ModuleOf}
-use Rattle.qrcode_render.specs.declared.settings.Setting.TheVariants.{Dpi as DpiOf}
-use Rattle.qrcode_render.specs.declared.settings.Setting.TheVariants.{Inverted as InvertedOf}
-use Rattle.qrcode_render.specs.declared.settings.Setting.TheVariants.{Title as TitleOf, At as AtOf}
-use Rattle.qrcode_render.specs.declared.settings.Setting.TheVariants.{Copies as CopiesOf}
-use Rattle.qrcode_render.specs.declared.settings.Setting.TheVariants.{Compressed as CompressedOf}
-use Rattle.qrcode_render.specs.declared.settings.Setting.TheVariants.{Feed as FeedOf, Cut as CutOf}
-use Rattle.qrcode_render.specs.declared.settings.Setting.TheVariants.{Dark as DarkOf}
-use Rattle.qrcode_render.specs.declared.settings.Setting.TheVariants.{Light as LightOf}
-use Rattle.qrcode_render.specs.declared.settings.Setting.TheVariants.{AnyColors as AnyColorsOf}
+use Rattle.picture_settings.specs.declared.settings.Setting.{Setting}
+use Rattle.picture_settings.specs.declared.settings.Setting.TheVariants.{Scale as ScaleOf}
+use Rattle.picture_settings.specs.declared.settings.Setting.TheVariants.{Quiet as QuietOf}
+use Rattle.picture_settings.specs.declared.settings.Setting.TheVariants.{ModuleMm as ModuleOf}
+use Rattle.picture_settings.specs.declared.settings.Setting.TheVariants.{Dpi as DpiOf}
+use Rattle.picture_settings.specs.declared.settings.Setting.TheVariants.{Inverted as InvertedOf}
+use Rattle.picture_settings.specs.declared.settings.Setting.TheVariants.{Title as TitleOf, At as AtOf}
+use Rattle.picture_settings.specs.declared.settings.Setting.TheVariants.{Copies as CopiesOf}
+use Rattle.picture_settings.specs.declared.settings.Setting.TheVariants.{Compressed as CompressedOf}
+use Rattle.picture_settings.specs.declared.settings.Setting.TheVariants.{Feed as FeedOf, Cut as CutOf}
+use Rattle.picture_settings.specs.declared.settings.Setting.TheVariants.{Dark as DarkOf}
+use Rattle.picture_settings.specs.declared.settings.Setting.TheVariants.{Light as LightOf}
+use Rattle.picture_settings.specs.declared.settings.Setting.TheVariants.{AnyColors as AnyColorsOf}
 use Rattle.label_words.specs.declared.words.Name.{Name}
 use Rattle.label_words.specs.declared.words.Name.TheVariants.{Scale, Quiet, ModuleMm, Dpi, Inverted}
 use Rattle.label_words.specs.declared.words.Name.TheVariants.{Title, At, Copies, Compressed, Feed, Cut}

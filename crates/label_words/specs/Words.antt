@@ -3,7 +3,7 @@ use Rattle.std.specs.Prelude.{ℕ, ◌==◌, nat_lt, Bool, true, false, ◌&&◌
 use Rattle.std.specs.Prelude.{List, [], ◌∷◌, length, take, drop, slice_index, get_or, set, replicate}
 use Rattle.std.specs.Prelude.{Option, None, Some, is_some, option_and_then, Result, Ok, Err}
 use Rattle.std.specs.Str.{bytes_eq}
-use Rattle.qrcode_render.specs.OptionWords.{around_first}
+use Rattle.picture_settings.specs.OptionWords.{around_first}
 use Rattle.label_words.specs.declared.words.TheConstants.{COUNT}
 use Rattle.label_words.specs.declared.words.Name.{Name}
 use Rattle.label_words.specs.declared.words.Name.TheVariants.{Text, Format, Content, Level, Strongest}

@@ -8,8 +8,8 @@ use Rattle.programs.proofs.DeviceLemmas.{Appends-append, Appends-none}
 use Rattle.qrcode_render.proofs.PdfLemmas.{writes_document}
 use Rattle.qrcode_render.specs.Pdf.{PdfPage, pdf_document}
 use Rattle.qrcode_render.specs.PdfWritten.{PdfWritten, IsWritten, after_page, next_page, next_pages, pdf_end, pdf_start, started}
-use Rattle.qrcode_render.specs.declared.bounds.TheConstants.{MAX_PDF}
-use Rattle.qrcode_render.specs.declared.draw_options.DrawOptions.{DrawOptions}
+use Rattle.picture_settings.specs.declared.bounds.TheConstants.{MAX_PDF}
+use Rattle.picture_settings.specs.declared.draw_options.DrawOptions.{DrawOptions}
 use Rattle.single_label.specs.Pages.{page_alone}
 use Rattle.labels.specs.Documents.{ArePages, IsWrittenSoFar, WritesSoFar, WritesPages, WritesDocument, WritesSomePages, WritesNoEnd, HasNoRoom}
 use Rattle.labels.specs.Documents.{document, document_text, label_in, pages_text}

@@ -7,8 +7,8 @@ use Rattle.programs.specs.Devices.{SourceState, SinkState, Writes, input, output
 use Rattle.programs.proofs.DeviceLemmas.{Appends-none}
 use Rattle.qrcode_render.specs.Pdf.{PdfPage}
 use Rattle.qrcode_render.specs.PdfWritten.{PdfWritten, after_page, next_page, pdf_end}
-use Rattle.qrcode_render.specs.declared.bounds.TheConstants.{MAX_PDF}
-use Rattle.qrcode_render.specs.declared.draw_options.DrawOptions.{DrawOptions}
+use Rattle.picture_settings.specs.declared.bounds.TheConstants.{MAX_PDF}
+use Rattle.picture_settings.specs.declared.draw_options.DrawOptions.{DrawOptions}
 use Rattle.single_label.specs.{Pages.page_alone, Pages.page_of}
 use Rattle.labels.specs.Documents.{IsNextPage, IsNoPage}
 use Rattle.labels.specs.Documents.{document}

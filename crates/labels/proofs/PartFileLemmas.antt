@@ -7,7 +7,7 @@ use Rattle.std.proofs.lemmas.{Grind.common_steps, List.take_more}
 use Rattle.programs.specs.Devices.{SourceState, ReadsUpTo, input}
 use Rattle.programs.specs.declared.Fault.TheVariants.{Symbol, Read, Write}
 use Rattle.qrcode_core.specs.declared.types.errors.QrError.TheVariants.{OutOfMemory}
-use Rattle.qrcode_render.specs.declared.draw_options.DrawOptions.{DrawOptions}
+use Rattle.picture_settings.specs.declared.draw_options.DrawOptions.{DrawOptions}
 use Rattle.label_words.specs.declared.command.Label.{Label}
 use Rattle.single_label.specs.declared.parts.TheConstants.{LONGEST_MESSAGE}
 use Rattle.single_label.specs.declared.stop.{Stop.Stop, Stop.TheVariants.Fault, Stop.TheVariants.Elements, Stop.TheVariants.NotAllowed, Stop.TheVariants.NoLink, Stop.TheVariants.Empty}

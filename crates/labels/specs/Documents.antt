@@ -4,7 +4,7 @@ use Rattle.std.specs.Io.KnownBytes.{Appends}
 use Rattle.programs.specs.Devices.{Output, SinkState, Writes, output}
 use Rattle.qrcode_render.specs.Pdf.{PdfPage, pdf_document}
 use Rattle.qrcode_render.specs.PdfWritten.{PdfWritten, IsWritten, after_page, after_pages, next_page, next_pages, pdf_start, started}
-use Rattle.qrcode_render.specs.declared.bounds.TheConstants.{MAX_PDF}
+use Rattle.picture_settings.specs.declared.bounds.TheConstants.{MAX_PDF}
 use Rattle.labels.specs.Lines.{Made, Place, left_out}
 use Rattle.programs.specs.declared.Fault.TheVariants.{Symbol, Write}
 use Rattle.qrcode_core.specs.declared.types.errors.QrError.TheVariants.{OutOfMemory}

@@ -15,7 +15,7 @@ use Rattle.programs.specs.Lines.{ReadsLine, ReadsLines, BeginsLine}
 use Rattle.programs.specs.declared.Fault.TheVariants.{Symbol, Read, Write}
 use Rattle.qrcode_core.specs.declared.types.errors.QrError.{QrError}
 use Rattle.qrcode_core.specs.declared.types.errors.QrError.TheVariants.{OutOfMemory}
-use Rattle.qrcode_render.specs.declared.draw_options.DrawOptions.{DrawOptions}
+use Rattle.picture_settings.specs.declared.draw_options.DrawOptions.{DrawOptions}
 use Rattle.single_label.specs.Labels.{ShowsLabel, IsLabelStop}
 use Rattle.label_words.specs.declared.command.Label.{Label}
 use Rattle.labels.specs.declared.stop.LineStop.{LineStop}

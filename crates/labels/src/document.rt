@@ -10,7 +10,7 @@ ghost use Rattle.programs.specs.Devices.{input, output, Writes};
 ghost use Rattle.programs.specs.declared.Fault.TheVariants.{Symbol as SymbolFault, Write};
 ghost use Rattle.qrcode_core.specs.declared.types.errors.QrError.TheVariants.{OutOfMemory};
 ghost use Rattle.qrcode_render.specs.PdfWritten.{after_page, next_page, pdf_end};
-ghost use Rattle.qrcode_render.specs.declared.bounds.TheConstants.{MAX_PDF};
+ghost use Rattle.picture_settings.specs.declared.bounds.TheConstants.{MAX_PDF};
 ghost use Rattle.labels.specs.Documents.{IsNextPage, IsNoPage, IsWrittenSoFar, document};
 ghost use Rattle.labels.specs.Lines.{IsLinesOutcome};
 ghost use Rattle.single_label.specs.Pages.{are_pages, page_of};

@@ -12,7 +12,8 @@ ghost use Rattle.labels.specs.Stops.{numbered_line};
 
 use crate::report::report_left_out;
 use crate::stop::LineStop;
-use gs1::{CheckError, Gs1Error, LinkError};
+use gs1::{CheckError, Gs1Error};
+use gs1_links::LinkError;
 use label_words::Label;
 use programs::{Fault, Sink, Source, read_line, skip_line, write_all};
 use qrcode_base::symbols::LONGEST_DATA;

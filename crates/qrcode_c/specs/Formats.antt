@@ -1,10 +1,10 @@
 -- The format and the settings of a picture, as a caller in C gives them.
 use Rattle.std.specs.Prelude.{◌≡◌, ◌≢◌, ◌↔◌, ℕ, ℤ, pos, negsuc, true, false, Option, Some, None, unwrap_or}
-use Rattle.qrcode_render.specs.declared.format.Format.{Format}
-use Rattle.qrcode_render.specs.declared.format.Format.TheVariants.{Terminal, Svg, Png, Pbm, Eps}
-use Rattle.qrcode_render.specs.declared.format.Format.TheVariants.{EscPos, Zpl, Pdf}
-use Rattle.qrcode_render.specs.Colors.{no_colors}
-use Rattle.qrcode_render.specs.declared.settings.Settings.{Settings}
+use Rattle.picture_settings.specs.declared.format.Format.{Format}
+use Rattle.picture_settings.specs.declared.format.Format.TheVariants.{Terminal, Svg, Png, Pbm, Eps}
+use Rattle.picture_settings.specs.declared.format.Format.TheVariants.{EscPos, Zpl, Pdf}
+use Rattle.picture_settings.specs.Colors.{no_colors}
+use Rattle.picture_settings.specs.declared.settings.Settings.{Settings}
 use Rattle.qrcode_c.specs.declared.settings.PictureSettings.{PictureSettings}
 
 -- The number of a format.

@@ -5,10 +5,10 @@ use Rattle.qrcode_base.specs.declared.types.Color.TheVariants.{Light, Dark}
 use Rattle.qrcode_base.specs.declared.types.Version.{Version}
 use Rattle.qrcode_base.specs.Symbols.{IsVersion, width_of}
 use Rattle.qrcode_core.specs.Grids.{Grid, grid_of}
-use Rattle.qrcode_render.specs.declared.format.Format.{Format}
-use Rattle.qrcode_render.specs.declared.settings.Settings.{Settings}
+use Rattle.picture_settings.specs.declared.format.Format.{Format}
+use Rattle.picture_settings.specs.declared.settings.Settings.{Settings}
 use Rattle.qrcode_render.specs.Asked.{ShowsAsAsked}
-use Rattle.qrcode_render.specs.Settings.{invalid_setting}
+use Rattle.picture_settings.specs.Settings.{invalid_setting}
 use Rattle.qrcode_c.specs.declared.refusal.Refusal.{Refusal}
 use Rattle.qrcode_c.specs.declared.refusal.Refusal.TheVariants.{OutOfMemory, ShortBuffer}
 use Rattle.qrcode_c.specs.declared.refusal.Refusal.TheVariants.{InvalidWidth, InvalidFormat}

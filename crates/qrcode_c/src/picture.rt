@@ -8,7 +8,7 @@ ghost use Rattle.qrcode_c.specs.Pictures.{color_of, grid_of_bytes, IsSymbolSquar
 ghost use Rattle.qrcode_c.specs.Pictures.{HoldsPicture, IsAskedPicture};
 ghost use Rattle.qrcode_c.specs.Pictures.{IsDrawRefusal, IsPictureRefusal};
 ghost use Rattle.qrcode_render.specs.Drawings.{IsPictureOf};
-ghost use Rattle.qrcode_render.specs.declared.bounds.TheConstants.{MAX_MODULES};
+ghost use Rattle.picture_settings.specs.declared.bounds.TheConstants.{MAX_MODULES};
 
 use crate::refusal::Refusal;
 use crate::settings::{PictureSettings, format_of, settings_of};

@@ -5,12 +5,12 @@ use Rattle.std.specs.Prelude.{flat_map, min}
 use Rattle.std.proofs.lemmas.{Nat.div-mul-add, Nat.div-add-mod', Bool.cases_lt}
 use Rattle.std.proofs.Math.Nat.{div-mul-le_self}
 use Rattle.std.proofs.lemmas.{Nat.le-div, Grind.common_steps, Grind.flat_map-append}
-use Rattle.qrcode_render.specs.Bitmaps.{bitmap_row, rows_from}
+use Rattle.picture_settings.proofs.Ranges.{flat_map_range}
+use Rattle.grid_pictures.specs.Bitmaps.{bitmap_row, rows_from}
+use Rattle.grid_pictures.specs.Pictures.{Picture}
+use Rattle.grid_pictures.proofs.BitmapLemmas.{rows_none, rows_one}
 use Rattle.qrcode_render.specs.EscPos.{band, first_bands}
 use Rattle.qrcode_render.specs.Zpl.{hex_pair, nth_field, first_fields}
-use Rattle.qrcode_render.specs.Pictures.{Picture}
-use Rattle.qrcode_render.proofs.BitmapLemmas.{rows_none, rows_one}
-use Rattle.qrcode_render.proofs.Ranges.{flat_map_range}
 
 pub bands_none : (p : Picture) → first_bands p 0 ≡ []
 unfolding first_bands

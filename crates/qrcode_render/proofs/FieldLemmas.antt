@@ -7,13 +7,13 @@ use Rattle.std.proofs.lemmas.List.Elements.{All-append, All-cons, All-nil}
 use Rattle.std.specs.List.{range_with_len}
 use Rattle.std.specs.Prelude.{map}
 use Rattle.std.proofs.lemmas.List.FromFn.{get_or-map-range_with_len, length-map-range_with_len}
-use Rattle.qrcode_render.specs.Bitmaps.{bitmap_row, pixel_byte, row_length}
+use Rattle.grid_pictures.specs.Bitmaps.{bitmap_row, pixel_byte, row_length}
+use Rattle.grid_pictures.specs.Pictures.{Picture, is_dark_pixel}
+use Rattle.grid_pictures.proofs.BitmapLemmas.{spelled_below, row_long, row_next, rows_none}
 use Rattle.qrcode_render.specs.Compressed.{Compresses, is_hex_digit}
 use Rattle.qrcode_render.specs.Encoded.{ArePieces, SaysRow, SaysRows}
-use Rattle.qrcode_render.specs.Pictures.{Picture, is_dark_pixel}
 use Rattle.qrcode_render.specs.Zpl.{hex_digit, hex_pair, row_digits}
 use Rattle.qrcode_render.proofs.BandLemmas.{digits_row}
-use Rattle.qrcode_render.proofs.BitmapLemmas.{spelled_below, row_long, row_next, rows_none}
 use Rattle.qrcode_render.proofs.ReadingLemmas.{compresses, no_rows, one_row, says_row_above}
 
 hex : (d : ℕ) → d < 16 → is_hex_digit (hex_digit d) ≡ true

@@ -3,9 +3,9 @@ use Rattle.std.proofs.Common.{◌≡◌, ℕ, ◌+◌, ◌-◌, ◌*◌, ◌<◌
 use Rattle.std.proofs.lemmas.Grind.{flat_map-append}
 use Rattle.std.proofs.lemmas.List.{take_more}
 use Rattle.std.specs.Fmt.{digits}
+use Rattle.picture_settings.proofs.Ranges.{flat_map_range}
 use Rattle.qrcode_render.specs.Pdf.{catalog, hex_unit, page_references, utf16_text, utf16_units}
 use Rattle.qrcode_render.specs.PdfFile.{pdf_header, pdf_object, table_entry}
-use Rattle.qrcode_render.proofs.Ranges.{flat_map_range}
 
 pub characters_none : utf16_text [] ≡ []
 unfolding utf16_text

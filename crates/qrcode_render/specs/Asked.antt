@@ -1,12 +1,12 @@
 -- The picture of a grid in a format, as settings ask for it.
 use Rattle.std.specs.Prelude.{◌≡◌, ℕ, List, None}
 use Rattle.qrcode_core.specs.Grids.{Grid}
-use Rattle.qrcode_render.specs.declared.draw_options.DrawOptions.{DrawOptions}
-use Rattle.qrcode_render.specs.declared.format.Format.{Format}
-use Rattle.qrcode_render.specs.declared.settings.Settings.{Settings}
+use Rattle.picture_settings.specs.declared.draw_options.DrawOptions.{DrawOptions}
+use Rattle.picture_settings.specs.declared.format.Format.{Format}
+use Rattle.picture_settings.specs.declared.settings.Settings.{Settings}
+use Rattle.picture_settings.specs.Made.{IsMadeOf}
+use Rattle.picture_settings.specs.Settings.{invalid_setting}
 use Rattle.qrcode_render.specs.Drawings.{IsPictureOf}
-use Rattle.qrcode_render.specs.Made.{IsMadeOf}
-use Rattle.qrcode_render.specs.Settings.{invalid_setting}
 
 -- The bytes show the grid as the settings ask: all of these are valid, and the bytes are those of
 -- the options that are made of them.

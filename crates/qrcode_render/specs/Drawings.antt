@@ -4,22 +4,22 @@ use Rattle.std.specs.Option.{option_copied}
 use Rattle.std.specs.String.{string_bytes}
 use Rattle.png.specs.Png.{read_png}
 use Rattle.qrcode_core.specs.Grids.{Grid}
-use Rattle.qrcode_render.specs.declared.draw_options.DrawOptions.{DrawOptions}
+use Rattle.picture_settings.specs.declared.draw_options.DrawOptions.{DrawOptions}
+use Rattle.picture_settings.specs.declared.format.Format.{Format}
+use Rattle.picture_settings.specs.declared.format.Format.TheVariants.{Terminal, Svg, Png, Pbm, Eps}
+use Rattle.picture_settings.specs.declared.format.Format.TheVariants.{EscPos, Zpl, Pdf}
+use Rattle.picture_settings.specs.Resolutions.{per_metre}
+use Rattle.grid_pictures.specs.Bitmaps.{bitmap_of}
+use Rattle.grid_pictures.specs.Pictures.{Picture, picture}
+use Rattle.grid_pictures.specs.Terminals.{terminal_text}
 use Rattle.qrcode_render.specs.declared.drawing.Drawn.{Drawn}
 use Rattle.qrcode_render.specs.declared.drawing.Drawn.TheVariants.{Text, Bytes}
-use Rattle.qrcode_render.specs.declared.format.Format.{Format}
-use Rattle.qrcode_render.specs.declared.format.Format.TheVariants.{Terminal, Svg, Png, Pbm, Eps}
-use Rattle.qrcode_render.specs.declared.format.Format.TheVariants.{EscPos, Zpl, Pdf}
-use Rattle.qrcode_render.specs.Bitmaps.{bitmap_of}
 use Rattle.qrcode_render.specs.Eps.{eps_document}
 use Rattle.qrcode_render.specs.EscPos.{ticket_text}
 use Rattle.qrcode_render.specs.Labels.{IsLabel}
-use Rattle.qrcode_render.specs.Paths.{svg_colored}
+use Rattle.qrcode_render.specs.Svg.{svg_colored}
 use Rattle.qrcode_render.specs.Pdf.{PdfPage, pdf_document, pdf_page}
-use Rattle.qrcode_render.specs.Pictures.{Picture, picture}
 use Rattle.qrcode_render.specs.PngPixels.{png_file}
-use Rattle.qrcode_render.specs.Terminals.{terminal_text}
-use Rattle.qrcode_render.specs.Resolutions.{per_metre}
 
 -- The bytes are those of the picture in a format, with what the options say beside the format, the
 -- scale and the quiet zone. Of PNG they are any bytes in which a reader finds the pixels.

@@ -3,14 +3,15 @@
 -- modules in a row.
 use Rattle.std.specs.Prelude.{ℕ, ◌+◌, ◌*◌, ◌/◌, ◌%◌, Option, None, Some, List, [], ◌++◌, codes}
 use Rattle.std.specs.Prelude.{decimal}
-use Rattle.qrcode_render.specs.Colors.{no_colors}
-use Rattle.qrcode_render.specs.declared.colors.Colors.{Colors}
-use Rattle.qrcode_render.specs.declared.colors.Ground.{Ground}
-use Rattle.qrcode_render.specs.declared.colors.Ground.TheVariants.{Color, Transparent}
-use Rattle.qrcode_render.specs.declared.colors.Rgb.{Rgb}
-use Rattle.qrcode_render.specs.Pictures.{Picture, columns_of, rows_of}
-use Rattle.qrcode_render.specs.Paths.{path}
-use Rattle.qrcode_render.specs.PostScript.{string_text}
+use Rattle.picture_settings.specs.Colors.{no_colors}
+use Rattle.picture_settings.specs.declared.colors.Colors.{Colors}
+use Rattle.picture_settings.specs.declared.colors.Ground.{Ground}
+use Rattle.picture_settings.specs.declared.colors.Ground.TheVariants.{Color, Transparent}
+use Rattle.picture_settings.specs.declared.colors.Rgb.{Rgb}
+use Rattle.picture_settings.specs.PostScript.{string_text}
+use Rattle.grid_pictures.specs.Pictures.{Picture, columns_of, rows_of}
+use Rattle.grid_pictures.specs.Paths.{path}
+use Rattle.grid_pictures.specs.Pens.{eps_rectangle}
 
 -- The width of a module in points, of which an inch has 72: the scale, or the size that is given in
 -- hundredths of a millimetre.
@@ -92,11 +93,6 @@ eps_ground (Some (Color color)) columns rows = eps_fill (ps_color color) columns
 abbrev pub eps_ink : Option Rgb → List ℕ
 eps_ink None = codes "0 setgray\n"
 eps_ink (Some color) = ps_color color ++ codes "\n"
-
--- The rectangle that covers `length` modules from column x of row y on.
-unfoldable pub eps_rectangle : ℕ → ℕ → ℕ → List ℕ
-eps_rectangle x y length =
-    decimal length ++ (codes " " ++ (decimal x ++ (codes " " ++ (decimal y ++ codes " r\n"))))
 
 -- The end of the document.
 abbrev pub eps_end : List ℕ

@@ -4,9 +4,9 @@
 use Rattle.std.specs.Prelude.{ℕ, ◌+◌, ◌-◌, ◌*◌, ◌/◌, ◌%◌, min, List, [], ◌∷◌, ◌++◌, flat_map}
 use Rattle.std.specs.Prelude.{Bool, true, false, Option, Some, None}
 use Rattle.std.specs.List.{range_with_len}
-use Rattle.qrcode_render.specs.declared.bounds.TheConstants.{BAND_ROWS}
-use Rattle.qrcode_render.specs.Pictures.{Picture, pixel_height}
-use Rattle.qrcode_render.specs.Bitmaps.{row_length, rows_from}
+use Rattle.picture_settings.specs.declared.bounds.TheConstants.{BAND_ROWS}
+use Rattle.grid_pictures.specs.Pictures.{Picture, pixel_height}
+use Rattle.grid_pictures.specs.Bitmaps.{row_length, rows_from}
 
 -- A number in two bytes, the lower first.
 abbrev pub two_bytes : ℕ → List ℕ

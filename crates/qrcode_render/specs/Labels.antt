@@ -1,9 +1,9 @@
 -- Labels of ZPL II as they are asked for: with their data as they are, or compressed.
 use Rattle.std.specs.Prelude.{◌≡◌, ℕ, ◌*◌, Bool, true, false, List, ◌++◌, codes, Option}
-use Rattle.qrcode_render.specs.Bitmaps.{row_length}
+use Rattle.grid_pictures.specs.Bitmaps.{row_length}
+use Rattle.grid_pictures.specs.Pictures.{Picture}
 use Rattle.qrcode_render.specs.Compressed.{Compresses}
 use Rattle.qrcode_render.specs.Encoded.{ArePieces}
-use Rattle.qrcode_render.specs.Pictures.{Picture}
 use Rattle.qrcode_render.specs.Zpl.{field_count, field_of, label_end, label_text}
 use Rattle.qrcode_render.specs.Zpl.{nth_count, nth_digits, nth_first}
 

@@ -5,15 +5,16 @@ use Rattle.std.specs.Prelude.{ℕ, ◌+◌, ◌-◌, ◌*◌, ◌/◌, ◌%◌, 
 use Rattle.std.specs.Prelude.{List, [], ◌∷◌, ◌++◌, length, flat_map, chars, codes, decimal}
 use Rattle.std.specs.Prelude.{Option, None, Some}
 use Rattle.std.specs.List.{range_with_len}
-use Rattle.qrcode_render.specs.declared.colors.Colors.{Colors}
-use Rattle.qrcode_render.specs.declared.colors.Ground.{Ground}
-use Rattle.qrcode_render.specs.declared.colors.Ground.TheVariants.{Color, Transparent}
-use Rattle.qrcode_render.specs.declared.colors.Rgb.{Rgb}
+use Rattle.picture_settings.specs.declared.colors.Colors.{Colors}
+use Rattle.picture_settings.specs.declared.colors.Ground.{Ground}
+use Rattle.picture_settings.specs.declared.colors.Ground.TheVariants.{Color, Transparent}
+use Rattle.picture_settings.specs.declared.colors.Rgb.{Rgb}
+use Rattle.picture_settings.specs.Resolutions.{nearest}
+use Rattle.grid_pictures.specs.Paths.{path}
+use Rattle.grid_pictures.specs.Pens.{pdf_rectangle}
+use Rattle.grid_pictures.specs.Pictures.{Picture, columns_of, rows_of}
 use Rattle.qrcode_render.specs.Eps.{exact_side, thousandths}
-use Rattle.qrcode_render.specs.Paths.{path}
 use Rattle.qrcode_render.specs.PdfFile.{pdf_file}
-use Rattle.qrcode_render.specs.Pictures.{Picture, columns_of, rows_of}
-use Rattle.qrcode_render.specs.Resolutions.{nearest}
 use Rattle.qrcode_render.specs.Zpl.{hex_pair}
 
 -- ---- The document (7.7, "Document Structure")
@@ -148,11 +149,6 @@ pdf_ink (Some color) = pdf_color color ++ codes "\n"
 unfoldable pub pdf_units : (unit height : List ℕ) → List ℕ
 pdf_units unit height =
     unit ++ (codes " 0 0 -" ++ (unit ++ (codes " 0 " ++ (height ++ codes " cm\n"))))
-
--- The rectangle that covers `length` modules from column x of row y on.
-unfoldable pub pdf_rectangle : ℕ → ℕ → ℕ → List ℕ
-pdf_rectangle x y length =
-    decimal x ++ (codes " " ++ (decimal y ++ (codes " " ++ (decimal length ++ codes " 1 re\n"))))
 
 -- The content stream of a picture on a page with these sides.
 abbrev pub picture_content : (module_mm : Option ℕ) → Colors → Picture →

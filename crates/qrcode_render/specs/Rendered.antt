@@ -10,12 +10,12 @@ use Rattle.qrcode_core.specs.declared.plugin.output.RenderOutput.{RenderOutput}
 use Rattle.qrcode_core.specs.declared.plugin.output.RenderOutput.TheVariants.{Text, Bytes}
 use Rattle.qrcode_core.specs.Plugins.{render_options}
 use Rattle.qrcode_core.specs.Grids.{Grid}
-use Rattle.qrcode_render.specs.declared.format.Format.{Format}
-use Rattle.qrcode_render.specs.declared.settings.Settings.{Settings}
+use Rattle.picture_settings.specs.declared.format.Format.{Format}
+use Rattle.picture_settings.specs.declared.settings.Settings.{Settings}
+use Rattle.picture_settings.specs.Configs.{AsksSettings, RefusesName}
+use Rattle.picture_settings.specs.Formats.{is_text_format}
+use Rattle.grid_pictures.specs.Pictures.{IsDrawable}
 use Rattle.qrcode_render.specs.Asked.{ShowsAsAsked}
-use Rattle.qrcode_render.specs.Configs.{AsksSettings, RefusesName}
-use Rattle.qrcode_render.specs.Formats.{is_text_format}
-use Rattle.qrcode_render.specs.Pictures.{IsDrawable}
 
 -- The output has these bytes, as a text or as bytes.
 abbrev pub IsOutput : (is_text : Bool) → List ℕ → RenderOutput → Type 0

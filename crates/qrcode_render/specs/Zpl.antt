@@ -3,9 +3,9 @@
 use Rattle.std.specs.Prelude.{ℕ, ◌+◌, ◌-◌, ◌*◌, ◌/◌, ◌%◌, min, nat_lt, if◌then◌else◌}
 use Rattle.std.specs.Prelude.{List, [], ◌∷◌, ◌++◌, flat_map, codes, decimal, Option, Some, None}
 use Rattle.std.specs.List.{range_with_len}
-use Rattle.qrcode_render.specs.declared.bounds.TheConstants.{FIELD_BYTES}
-use Rattle.qrcode_render.specs.Pictures.{Picture, pixel_height}
-use Rattle.qrcode_render.specs.Bitmaps.{row_length, rows_from}
+use Rattle.picture_settings.specs.declared.bounds.TheConstants.{FIELD_BYTES}
+use Rattle.grid_pictures.specs.Pictures.{Picture, pixel_height}
+use Rattle.grid_pictures.specs.Bitmaps.{row_length, rows_from}
 
 -- A hexadecimal digit.
 abbrev pub hex_digit : ℕ → ℕ

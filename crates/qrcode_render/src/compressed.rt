@@ -5,16 +5,16 @@
 //! same row of modules as the one above.
 ghost use Rattle.std.specs.Prelude.{◌≡◌, ◌≢◌, ◌↔◌, ℕ, ◌+◌, ◌*◌, ◌%◌, ◌<◌, ◌≤◌, List, true};
 ghost use Rattle.std.specs.Prelude.{All, IsTrue, OnOk, flat_map, length, replicate, slice_index};
-ghost use Rattle.qrcode_render.specs.declared.bounds.TheConstants.{MAX_PIXELS};
-ghost use Rattle.qrcode_render.specs.Bitmaps.{bitmap_row, row_length};
+ghost use Rattle.picture_settings.specs.declared.bounds.TheConstants.{MAX_PIXELS};
+ghost use Rattle.grid_pictures.specs.Bitmaps.{bitmap_row, row_length};
+ghost use Rattle.grid_pictures.specs.Shown.{shown};
 ghost use Rattle.qrcode_render.specs.Compressed.{Compresses, is_hex_digit, repeat_count};
 ghost use Rattle.qrcode_render.specs.Encoded.{AddsPiece, EndsRow, SaysCount, SaysDigits, SaysRow};
-ghost use Rattle.qrcode_render.specs.Shown.{shown};
 ghost use Rattle.qrcode_render.specs.Zpl.{hex_pair, row_digits};
 
-use crate::bitmap::{write_row, zeros};
-use crate::picture::Picture;
 use crate::zpl::write_hex;
+use grid_pictures::bitmap::{write_row, zeros};
+use grid_pictures::picture::Picture;
 use std::alloc::{AllocError, Global};
 
 /// Appends the compressed digits of some rows of pixels, from one on. Those of one row of modules

@@ -2,19 +2,19 @@
 ghost use Rattle.std.specs.Prelude.{◌≡◌, ◌≤◌, ◌++◌, None, Some, IfOk, OnOk};
 ghost use Rattle.std.specs.Option.{ForSome, option_copied};
 ghost use Rattle.std.specs.String.{string_bytes};
-ghost use Rattle.qrcode_render.specs.declared.bounds.TheConstants.{MAX_COLUMNS, MAX_MODULE_MM};
-ghost use Rattle.qrcode_render.specs.declared.bounds.TheConstants.{MAX_SCALE};
+ghost use Rattle.picture_settings.specs.declared.bounds.TheConstants.{MAX_COLUMNS, MAX_MODULE_MM};
+ghost use Rattle.picture_settings.specs.declared.bounds.TheConstants.{MAX_SCALE};
+ghost use Rattle.grid_pictures.specs.Shown.{shown};
 ghost use Rattle.qrcode_render.specs.Eps.{box_side, eps_document, eps_head, eps_setup, eps_text};
 ghost use Rattle.qrcode_render.specs.Eps.{eps_fill, eps_ground, eps_ink, ps_color};
 ghost use Rattle.qrcode_render.specs.Eps.{eps_comments, exact_comment, exact_line, exact_side};
 ghost use Rattle.qrcode_render.specs.Eps.{module_points, thousandths, title_comment};
-ghost use Rattle.qrcode_render.specs.Shown.{shown};
 
-use crate::colors::{Colors, Ground, NO_COLORS, Rgb};
-use crate::path::push_path;
-use crate::pen::Pen;
-use crate::picture::Picture;
-use crate::postscript::push_string;
+use grid_pictures::path::push_path;
+use grid_pictures::pen::Pen;
+use grid_pictures::picture::Picture;
+use picture_settings::colors::{Colors, Ground, NO_COLORS, Rgb};
+use picture_settings::postscript::push_string;
 use std::alloc::{AllocError, Global};
 
 /// Returns the picture as Encapsulated PostScript: a light background, and one path with a

@@ -1,15 +1,15 @@
 //! Pictures as raster images of ESC/POS, for ticket printers.
 ghost use Rattle.std.specs.Prelude.{◌≡◌, ◌*◌, ◌<◌, ◌≤◌, ◌++◌, IfOk, OnOk};
 ghost use Rattle.std.specs.Option.{ForSome};
-ghost use Rattle.qrcode_render.specs.declared.bounds.TheConstants.{BAND_ROWS, MAX_FEED};
+ghost use Rattle.picture_settings.specs.declared.bounds.TheConstants.{BAND_ROWS, MAX_FEED};
+ghost use Rattle.grid_pictures.specs.Pictures.{pixel_height};
+ghost use Rattle.grid_pictures.specs.Shown.{shown};
 ghost use Rattle.qrcode_render.specs.EscPos.{band, escpos_text, two_bytes};
 ghost use Rattle.qrcode_render.specs.EscPos.{cut_command, feed_command, ticket_text};
-ghost use Rattle.qrcode_render.specs.Pictures.{pixel_height};
-ghost use Rattle.qrcode_render.specs.Shown.{shown};
 
-use crate::bitmap::push_rows_from;
-use crate::bounds::BAND_ROWS;
-use crate::picture::Picture;
+use grid_pictures::bitmap::push_rows_from;
+use grid_pictures::picture::Picture;
+use picture_settings::bounds::BAND_ROWS;
 use std::alloc::{AllocError, Global};
 
 /// The most bytes of the commands after a picture.

@@ -16,44 +16,31 @@
 //! of `qrcode_core`, by the options of a `RenderConfig`.
 #![tactic(auto)]
 
-mod bitmap;
-pub mod bounds;
-mod color_words;
-pub mod colors;
 mod compressed;
-pub mod config;
-pub mod draw_options;
 mod drawing;
 pub mod eps;
 pub mod escpos;
-pub mod format;
 pub mod laws;
-mod numbers;
-pub mod option_words;
-pub mod options;
-mod path;
 pub mod pbm;
 pub mod pdf;
 mod pdf_page;
 pub mod pdf_pages;
 mod pdf_text;
-mod pen;
-pub mod picture;
 pub mod png_file;
-mod postscript;
 pub mod renderers;
-pub mod settings;
 pub mod svg;
-pub mod terminal;
-mod xml;
 pub mod zpl;
 
-pub use colors::{Colors, Ground, Rgb};
-pub use draw_options::DrawOptions;
 pub use drawing::{draw, draw_grid};
-pub use format::Format;
-pub use options::RenderOptions;
+pub use grid_pictures::picture::Picture;
+pub use grid_pictures::{picture, terminal};
 pub use pdf_pages::{PdfError, PdfPages};
-pub use picture::Picture;
+pub use picture_settings::colors::{Colors, Ground, Rgb};
+pub use picture_settings::draw_options::DrawOptions;
+pub use picture_settings::format::Format;
+pub use picture_settings::options::RenderOptions;
+pub use picture_settings::settings::{Setting, Settings};
+pub use picture_settings::{
+    bounds, colors, config, draw_options, format, option_words, options, settings,
+};
 pub use renderers::{Eps, EscPos, Pbm, Pdf, Png, Svg, Terminal, Zpl};
-pub use settings::{Setting, Settings};

@@ -1,11 +1,11 @@
 //! Pictures as portable bitmaps: the header, then the rows of pixels.
 ghost use Rattle.std.specs.Prelude.{◌≡◌, IfOk};
 ghost use Rattle.std.specs.String.{string_bytes};
-ghost use Rattle.qrcode_render.specs.Bitmaps.{bitmap_of, header};
-ghost use Rattle.qrcode_render.specs.Shown.{shown};
+ghost use Rattle.grid_pictures.specs.Bitmaps.{bitmap_of, header};
+ghost use Rattle.grid_pictures.specs.Shown.{shown};
 
-use crate::bitmap::push_rows;
-use crate::picture::Picture;
+use grid_pictures::bitmap::push_rows;
+use grid_pictures::picture::Picture;
 use std::alloc::{AllocError, Global};
 
 /// Returns the picture as a portable bitmap, in its binary form (`P4` of Netpbm). It fails only for
@@ -22,7 +22,7 @@ pub fn pbm(alloc: Global, picture: &Picture) -> Result<Vec<u8>, AllocError>
 }
 
 /// Appends the header: `P4`, the width and the height.
-#[tactic(auto, unfolding(crate::specs::Bitmaps::header))]
+#[tactic(auto, unfolding(grid_pictures::specs::Bitmaps::header))]
 fn header(alloc: Global, width: usize, height: usize) -> Result<String, AllocError>
     ensures { IfOk result (λ text. string_bytes text ≡ header width height) }
 {

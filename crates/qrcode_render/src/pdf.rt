@@ -2,15 +2,15 @@
 //! picture.
 ghost use Rattle.std.specs.Prelude.{◌≡◌, ◌≤◌, [], ◌∷◌, None, IfOk};
 ghost use Rattle.std.specs.Option.{ForSome, option_copied};
-ghost use Rattle.qrcode_render.specs.declared.bounds.TheConstants.{MAX_MODULE_MM};
-ghost use Rattle.qrcode_render.specs.Colors.{no_colors};
+ghost use Rattle.picture_settings.specs.declared.bounds.TheConstants.{MAX_MODULE_MM};
+ghost use Rattle.picture_settings.specs.Colors.{no_colors};
+ghost use Rattle.grid_pictures.specs.Shown.{shown};
 ghost use Rattle.qrcode_render.specs.Pdf.{pdf_document, pdf_page};
-ghost use Rattle.qrcode_render.specs.Shown.{shown};
 
-use crate::colors::{Colors, NO_COLORS};
 use crate::pdf_page::draw_page;
 use crate::pdf_text::{push_end, push_page, start_text};
-use crate::picture::Picture;
+use grid_pictures::picture::Picture;
+use picture_settings::colors::{Colors, NO_COLORS};
 use std::alloc::{AllocError, Global};
 
 /// Returns the picture as a PDF document of one page: a light background, and one path with a

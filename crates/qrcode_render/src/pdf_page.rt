@@ -2,19 +2,19 @@
 ghost use Rattle.std.specs.Prelude.{◌≡◌, ◌≤◌, ◌++◌, IfOk};
 ghost use Rattle.std.specs.Option.{ForSome};
 ghost use Rattle.std.specs.String.{string_bytes};
-ghost use Rattle.qrcode_render.specs.declared.bounds.TheConstants.{MAX_COLUMNS, MAX_MODULE_MM};
-ghost use Rattle.qrcode_render.specs.declared.bounds.TheConstants.{MAX_SCALE};
+ghost use Rattle.picture_settings.specs.declared.bounds.TheConstants.{MAX_COLUMNS, MAX_MODULE_MM};
+ghost use Rattle.picture_settings.specs.declared.bounds.TheConstants.{MAX_SCALE};
+ghost use Rattle.grid_pictures.specs.Shown.{shown};
 ghost use Rattle.qrcode_render.specs.Pdf.{color_part, millionths, module_width, page_side};
 ghost use Rattle.qrcode_render.specs.Pdf.{pdf_color, pdf_fill, pdf_ground, pdf_ink, pdf_units};
 ghost use Rattle.qrcode_render.specs.Pdf.{pdf_page};
 ghost use Rattle.qrcode_render.specs.PdfPages.{page_of};
-ghost use Rattle.qrcode_render.specs.Shown.{shown};
 
-use crate::colors::{Colors, Ground, Rgb};
 use crate::eps::{exact_side, thousandths};
-use crate::path::push_path;
-use crate::pen::Pen;
-use crate::picture::Picture;
+use grid_pictures::path::push_path;
+use grid_pictures::pen::Pen;
+use grid_pictures::picture::Picture;
+use picture_settings::colors::{Colors, Ground, Rgb};
 use std::alloc::{AllocError, Global};
 
 /// A page: its sides in points, and what its content stream has.

@@ -14,21 +14,21 @@
 ghost use Rattle.std.specs.Prelude.{◌≡◌, ◌<◌, ◌≤◌, ◌^◌, ◌++◌, [], ◌∷◌, IfOk, OnErr, OnOk, Err};
 ghost use Rattle.std.specs.Option.{ForSome, option_copied};
 ghost use Rattle.qrcode_core.specs.Drawn.{drawn_grid};
-ghost use Rattle.qrcode_render.specs.declared.bounds.TheConstants.{MAX_MODULE_MM, MAX_PDF};
+ghost use Rattle.picture_settings.specs.declared.bounds.TheConstants.{MAX_MODULE_MM, MAX_PDF};
+ghost use Rattle.grid_pictures.specs.Shown.{shown};
 ghost use Rattle.qrcode_render.specs.declared.pdf_pages.PdfError.TheVariants.{OutOfMemory};
 ghost use Rattle.qrcode_render.specs.Drawings.{page_as};
 ghost use Rattle.qrcode_render.specs.Pdf.{pdf_page};
 ghost use Rattle.qrcode_render.specs.PdfWritten.{PdfWritten, after_page, next_page, pdf_end};
 ghost use Rattle.qrcode_render.specs.PdfWritten.{pdf_start, started};
-ghost use Rattle.qrcode_render.specs.Shown.{shown};
 
-use crate::bounds::MAX_PDF;
-use crate::colors::Colors;
-use crate::draw_options::DrawOptions;
 use crate::drawing::shape;
 use crate::pdf_page::draw_page;
 use crate::pdf_text::{push_end, push_page, start_text};
-use crate::picture::Picture;
+use grid_pictures::picture::Picture;
+use picture_settings::bounds::MAX_PDF;
+use picture_settings::colors::Colors;
+use picture_settings::draw_options::DrawOptions;
 use qrcode_core::symbol::Symbol;
 use std::alloc::{AllocError, Global};
 use std::marker::Model;

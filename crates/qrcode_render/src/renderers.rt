@@ -5,15 +5,15 @@
 //! the name of an option that `DrawOptions::of_config` rejects; else with `RenderFailed` for a grid
 //! without modules, or of more than `MAX_MODULES` columns or rows; else for lack of memory only.
 //! Options of other names are left alone.
+ghost use Rattle.picture_settings.specs.declared.format.Format.{Format};
 ghost use Rattle.qrcode_render.specs.Drawings.{drawn_bytes, is_drawn_text};
 ghost use Rattle.qrcode_render.specs.Rendered.{IsOutput, IsRendererRefusal, Renders, Validates};
-ghost use Rattle.qrcode_render.specs.declared.format.Format.{Format};
 
-use crate::bounds::MAX_MODULES;
-use crate::draw_options::DrawOptions;
 use crate::drawing::{Drawn, draw_as, shape};
-use crate::format::Format;
-use crate::picture::Picture;
+use grid_pictures::picture::Picture;
+use picture_settings::bounds::MAX_MODULES;
+use picture_settings::draw_options::DrawOptions;
+use picture_settings::format::Format;
 use qrcode_core::plugin::{DynRenderer, PluginError, RenderConfig, RenderOutput};
 use qrcode_core::traits::ModuleSource;
 use std::alloc::Global;

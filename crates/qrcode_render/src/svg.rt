@@ -2,19 +2,19 @@
 ghost use Rattle.std.specs.Prelude.{◌≡◌, ◌<◌, ◌≤◌, ◌++◌, [], ◌∷◌, None, IfOk, OnOk};
 ghost use Rattle.std.specs.Option.{ForSome, option_copied};
 ghost use Rattle.std.specs.String.{string_bytes};
-ghost use Rattle.qrcode_render.specs.declared.bounds.TheConstants.{MAX_COLUMNS, MAX_MODULE_MM};
-ghost use Rattle.qrcode_render.specs.Paths.{background, hex_color, millimetres, path_start, stroke};
-ghost use Rattle.qrcode_render.specs.Paths.{svg_colored, svg_document, svg_ground, svg_side};
-ghost use Rattle.qrcode_render.specs.Paths.{svg_tag};
-ghost use Rattle.qrcode_render.specs.Paths.{svg_text, title_element};
-ghost use Rattle.qrcode_render.specs.Shown.{shown};
+ghost use Rattle.picture_settings.specs.declared.bounds.TheConstants.{MAX_COLUMNS, MAX_MODULE_MM};
+ghost use Rattle.grid_pictures.specs.Shown.{shown};
+ghost use Rattle.qrcode_render.specs.Svg.{background, hex_color, millimetres, path_start, stroke};
+ghost use Rattle.qrcode_render.specs.Svg.{svg_colored, svg_document, svg_ground, svg_side};
+ghost use Rattle.qrcode_render.specs.Svg.{svg_tag};
+ghost use Rattle.qrcode_render.specs.Svg.{svg_text, title_element};
 ghost use Rattle.qrcode_render.specs.Zpl.{hex_digit, hex_pair};
 
-use crate::colors::{Colors, Ground, NO_COLORS, Rgb};
-use crate::path::push_path;
-use crate::pen::Pen;
-use crate::picture::Picture;
-use crate::xml::push_escaped;
+use grid_pictures::path::push_path;
+use grid_pictures::pen::Pen;
+use grid_pictures::picture::Picture;
+use picture_settings::colors::{Colors, Ground, NO_COLORS, Rgb};
+use picture_settings::xml::push_escaped;
 use std::alloc::{AllocError, Global};
 
 /// Returns the picture as SVG, with its size in pixels and no title: a light background, and one
@@ -70,7 +70,7 @@ pub fn svg_colored(
 }
 
 /// Returns a side of the picture, in pixels or in millimetres.
-#[tactic(auto, unfolding(crate::specs::Paths::millimetres))]
+#[tactic(auto, unfolding(crate::specs::Svg::millimetres))]
 fn side(
     alloc: Global,
     module_mm: Option<usize>,
@@ -90,7 +90,7 @@ fn side(
 }
 
 /// Returns the first tag.
-#[tactic(auto, unfolding(crate::specs::Paths::svg_tag))]
+#[tactic(auto, unfolding(crate::specs::Svg::svg_tag))]
 fn tag(
     alloc: Global,
     width: &str,
@@ -140,7 +140,7 @@ fn ground(
 }
 
 /// Returns the rectangle of the ground.
-#[tactic(auto, unfolding(crate::specs::Paths::background))]
+#[tactic(auto, unfolding(crate::specs::Svg::background))]
 fn background(alloc: Global, color: &str, columns: usize, rows: usize) -> Result<String, AllocError>
     ensures { IfOk result (λ text. string_bytes text ≡ background color.now columns rows) }
 {
@@ -164,7 +164,7 @@ fn path_start(alloc: Global, dark: Option<Rgb>) -> Result<String, AllocError>
 }
 
 /// Returns the path of a colour up to its data.
-#[tactic(auto, unfolding(crate::specs::Paths::path_start))]
+#[tactic(auto, unfolding(crate::specs::Svg::path_start))]
 fn path_of(alloc: Global, color: &str) -> Result<String, AllocError>
     ensures { IfOk result (λ text. string_bytes text ≡ path_start color.now) }
 {
@@ -174,7 +174,7 @@ fn path_of(alloc: Global, color: &str) -> Result<String, AllocError>
 }
 
 /// Returns a colour as SVG has it.
-#[tactic(auto, unfolding(crate::specs::Paths::hex_color))]
+#[tactic(auto, unfolding(crate::specs::Svg::hex_color))]
 fn hex_color(alloc: Global, color: Rgb) -> Result<String, AllocError>
     ensures { IfOk result (λ text. string_bytes text ≡ hex_color color) }
 {

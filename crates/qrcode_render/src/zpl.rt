@@ -1,21 +1,22 @@
 //! Pictures as labels of ZPL II, for label printers.
 ghost use Rattle.std.specs.Prelude.{◌≡◌, ◌+◌, ◌*◌, ◌<◌, ◌≤◌, ◌++◌, IfOk, OnOk, Some};
 ghost use Rattle.std.specs.Prelude.{flat_map, length};
-ghost use Rattle.qrcode_render.specs.Bitmaps.{rows_from};
+ghost use Rattle.grid_pictures.specs.Bitmaps.{rows_from};
 ghost use Rattle.std.specs.String.{string_bytes};
-ghost use Rattle.qrcode_render.specs.declared.bounds.TheConstants.{FIELD_BYTES, MAX_AT, MAX_PIXELS};
+ghost use Rattle.picture_settings.specs.declared.bounds.TheConstants.{FIELD_BYTES, MAX_AT};
+ghost use Rattle.picture_settings.specs.declared.bounds.TheConstants.{MAX_PIXELS};
+ghost use Rattle.grid_pictures.specs.Pictures.{pixel_height};
+ghost use Rattle.grid_pictures.specs.Shown.{shown};
 ghost use Rattle.qrcode_render.specs.Encoded.{AddsPiece};
 ghost use Rattle.qrcode_render.specs.Labels.{IsCompressedField, IsCompressedLabel};
-ghost use Rattle.qrcode_render.specs.Pictures.{pixel_height};
-ghost use Rattle.qrcode_render.specs.Shown.{shown};
 ghost use Rattle.qrcode_render.specs.Zpl.{field, field_head, hex_pair, hex_digit, zpl_text};
 ghost use Rattle.qrcode_render.specs.Zpl.{copies_command, field_count, field_rows, label_end};
 ghost use Rattle.qrcode_render.specs.Zpl.{label_text, nth_first};
 
-use crate::bitmap::{write_row, zeros};
-use crate::bounds::FIELD_BYTES;
 use crate::compressed::push_data;
-use crate::picture::Picture;
+use grid_pictures::bitmap::{write_row, zeros};
+use grid_pictures::picture::Picture;
+use picture_settings::bounds::FIELD_BYTES;
 use std::alloc::{AllocError, Global};
 
 /// The most bytes around the data of a field.

@@ -3,7 +3,7 @@
 //! and, at a whole number of pixels a module, exactly the dark modules.
 ghost use Rattle.std.specs.Prelude.{◌≤◌};
 ghost use Rattle.std.specs.Option.{ForSome};
-ghost use Rattle.qrcode_render.specs.declared.bounds.TheConstants.{MAX_MODULE_MM};
+ghost use Rattle.picture_settings.specs.declared.bounds.TheConstants.{MAX_MODULE_MM};
 
 use crate::format_tests::rejects;
 use crate::renderer_tests::{CELLS, bytes_of, drawn};

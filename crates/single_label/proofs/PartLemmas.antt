@@ -14,7 +14,7 @@ use Rattle.std.proofs.lemmas.{Grind.common_steps, Grind.flat_map-append, List.ta
 use Rattle.programs.specs.declared.Fault.{Fault as FaultOf}
 use Rattle.programs.specs.declared.Fault.TheVariants.{Read, Write}
 use Rattle.qrcode_core.specs.Drawn.{DrawnSymbol}
-use Rattle.qrcode_render.specs.declared.draw_options.DrawOptions.{DrawOptions}
+use Rattle.picture_settings.specs.declared.draw_options.DrawOptions.{DrawOptions}
 use Rattle.label_words.specs.declared.command.Label.{Label}
 use Rattle.single_label.specs.declared.stop.Stop.TheVariants.{Fault}
 use Rattle.single_label.specs.{Labels.ShowsSymbol, Parts.ShowEach, Parts.IsMessageStop, Parts.all_drawings}

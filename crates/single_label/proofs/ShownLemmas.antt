@@ -3,9 +3,9 @@ use Rattle.std.proofs.Common.{◌≡◌, ℕ, Option, List}
 use Rattle.std.proofs.Common.{inr, true, false, refl, arith}
 use Rattle.std.specs.Option.{option_copied}
 use Rattle.qrcode_core.specs.Drawn.{DrawnSymbol}
-use Rattle.qrcode_render.specs.declared.draw_options.DrawOptions.{DrawOptions}
-use Rattle.qrcode_render.specs.declared.format.Format.{Format}
-use Rattle.qrcode_render.specs.declared.format.Format.TheVariants.{Pdf}
+use Rattle.picture_settings.specs.declared.draw_options.DrawOptions.{DrawOptions}
+use Rattle.picture_settings.specs.declared.format.Format.{Format}
+use Rattle.picture_settings.specs.declared.format.Format.TheVariants.{Pdf}
 use Rattle.label_words.specs.Choices.{is_pdf}
 use Rattle.single_label.specs.{Labels.ShowsSymbol, Labels.is_alone, Pages.are_pages, Pages.page_alone, Pages.page_of}
 use Rattle.label_words.specs.declared.command.Label.{Label}

@@ -21,8 +21,8 @@ use Rattle.qrcode_core.specs.declared.types.Version.{Version}
 use Rattle.qrcode_core.specs.declared.types.Version.TheVariants.{Normal, Micro as MicroVersion}
 use Rattle.qrcode_grid.specs.Masks.{normal_number, micro_number}
 use Rattle.qrcode_grid.specs.declared.canvas.MaskPattern.{MaskPattern}
-use Rattle.qrcode_render.specs.declared.bounds.TheConstants.{MAX_DPI}
-use Rattle.qrcode_render.specs.declared.draw_options.DrawOptions.{DrawOptions}
+use Rattle.picture_settings.specs.declared.bounds.TheConstants.{MAX_DPI}
+use Rattle.picture_settings.specs.declared.draw_options.DrawOptions.{DrawOptions}
 use Rattle.single_label.specs.Contents.{IsPlain, is_ascii, is_bracketed, AreWritten, AreNotWritten}
 use Rattle.label_words.specs.declared.command.Content.{Content}
 use Rattle.label_words.specs.declared.command.Content.TheVariants.{Auto, Text, Gs1, UncheckedGs1}

@@ -7,7 +7,7 @@ use Rattle.qrcode_core.specs.Drawn.{DrawnSymbol, drawn_grid}
 use Rattle.qrcode_base.specs.declared.symbols.TheConstants.{LONGEST_DATA}
 use Rattle.qrcode_core.specs.declared.types.errors.QrError.TheVariants.{OutOfMemory, DataTooLong}
 use Rattle.qrcode_render.specs.Drawings.{IsPictureOf}
-use Rattle.qrcode_render.specs.declared.draw_options.DrawOptions.{DrawOptions}
+use Rattle.picture_settings.specs.declared.draw_options.DrawOptions.{DrawOptions}
 use Rattle.single_label.specs.Colors.{in_colors}
 use Rattle.label_words.specs.Choices.{is_link}
 use Rattle.single_label.specs.Contents.{IsContent, IsSymbolAs, IsStopAs, IsLink, IsLinkStop}

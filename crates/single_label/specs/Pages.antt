@@ -3,7 +3,7 @@ use Rattle.std.specs.Prelude.{ℕ, Bool, ◌&&◌, not, List, [], ◌∷◌, Opt
 use Rattle.qrcode_core.specs.Drawn.{DrawnSymbol, drawn_grid}
 use Rattle.qrcode_render.specs.Drawings.{page_as}
 use Rattle.qrcode_render.specs.Pdf.{PdfPage, pdf_document}
-use Rattle.qrcode_render.specs.declared.draw_options.DrawOptions.{DrawOptions}
+use Rattle.picture_settings.specs.declared.draw_options.DrawOptions.{DrawOptions}
 use Rattle.label_words.specs.Choices.{is_pdf}
 use Rattle.single_label.specs.Labels.{is_alone}
 use Rattle.single_label.specs.Turns.{turned}

@@ -13,7 +13,7 @@ use Rattle.qrcode_core.specs.declared.options.SymbolOptions.{SymbolOptions}
 use Rattle.qrcode_core.specs.declared.types.Color.{Color}
 use Rattle.qrcode_core.specs.declared.types.errors.QrError.{QrError}
 use Rattle.qrcode_core.specs.declared.types.errors.QrError.TheVariants.{OutOfMemory, DataTooLong}
-use Rattle.qrcode_render.specs.declared.draw_options.DrawOptions.{DrawOptions}
+use Rattle.picture_settings.specs.declared.draw_options.DrawOptions.{DrawOptions}
 use Rattle.single_label.specs.Contents.{IsContent, IsPlain, is_ascii, IsNoUtf8, IsSymbolAs}
 use Rattle.single_label.specs.Contents.{IsStopAs}
 use Rattle.single_label.specs.Labels.{IsLabelData, IsNotDrawn, ShowsSymbol, is_too_long}

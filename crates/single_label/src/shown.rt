@@ -1,7 +1,7 @@
 //! What a label shows of a symbol: its picture or its details, or its page in a document.
 ghost use Rattle.std.specs.Prelude.{◌≡◌, ℕ, ⊤, List, Option, true, IfOk, IfErr};
 ghost use Rattle.std.specs.Option.{option_copied};
-ghost use Rattle.qrcode_render.specs.declared.draw_options.DrawOptions.{DrawOptions};
+ghost use Rattle.picture_settings.specs.declared.draw_options.DrawOptions.{DrawOptions};
 ghost use Rattle.single_label.specs.Details.{IsDetailsStop};
 ghost use Rattle.single_label.specs.Labels.{ShowsSymbol};
 ghost use Rattle.single_label.specs.Pages.{are_pages, page_alone, page_of};

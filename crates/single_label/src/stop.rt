@@ -4,7 +4,8 @@ ghost use Rattle.single_label.specs.declared.stop.Stop.TheVariants.{Fault as Fau
 ghost use Rattle.programs.specs.declared.Fault.TheVariants.{Symbol};
 ghost use Rattle.qrcode_core.specs.declared.types.errors.QrError.TheVariants.{OutOfMemory};
 
-use gs1::{CheckError, Gs1Error, LinkError};
+use gs1::{CheckError, Gs1Error};
+use gs1_links::LinkError;
 use programs::Fault;
 use qrcode_core::types::{EcLevel, QrError, Version};
 use std::alloc::AllocError;

@@ -6,9 +6,9 @@ ghost use Rattle.qrcode_core.specs.Drawn.{drawn_grid};
 ghost use Rattle.qrcode_core.specs.Views.{view_grid};
 ghost use Rattle.qrcode_render.specs.Drawings.{IsPictureOf, page_as};
 ghost use Rattle.qrcode_render.specs.PdfWritten.{after_page, next_page};
-ghost use Rattle.qrcode_render.specs.Pictures.{IsDrawable, picture};
-ghost use Rattle.qrcode_render.specs.Shown.{shown};
-ghost use Rattle.qrcode_render.specs.declared.bounds.TheConstants.{MAX_PDF};
+ghost use Rattle.grid_pictures.specs.Pictures.{IsDrawable, picture};
+ghost use Rattle.grid_pictures.specs.Shown.{shown};
+ghost use Rattle.picture_settings.specs.declared.bounds.TheConstants.{MAX_PDF};
 ghost use Rattle.single_label.specs.Turns.{source_of, seen_row, turned};
 
 use label_words::Turn;

@@ -3,7 +3,7 @@ ghost use Rattle.std.specs.Prelude.{◌≡◌, Err, Some, None, IfOk};
 ghost use Rattle.std.specs.String.{string_bytes};
 ghost use Rattle.qrcode_core.specs.Drawn.{drawn_grid};
 ghost use Rattle.qrcode_render.specs.Asked.{ShowsAsAsked};
-ghost use Rattle.qrcode_render.specs.Paths.{svg_text};
+ghost use Rattle.qrcode_render.specs.Svg.{svg_text};
 ghost use Rattle.qrcode_render.specs.Pictures.{picture};
 ghost use Rattle.qrcode_render.specs.Settings.{invalid_setting};
 ghost use Rattle.qrcode_render.specs.declared.settings.Setting.{Setting};

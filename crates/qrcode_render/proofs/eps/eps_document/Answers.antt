@@ -2,9 +2,10 @@
 use Rattle.std.proofs.Common.{◌≡◌, ◌++◌, ◌∙◌}
 use Rattle.std.specs.String.{string_bytes}
 use Rattle.std.specs.Option.{option_copied}
-use Rattle.qrcode_render.specs.{Pictures.columns_of, Pictures.rows_of, Paths.path, Shown.shown}
-use Rattle.qrcode_render.specs.Eps.{module_points, eps_comments, eps_setup, eps_rectangle, eps_end, eps_ground, eps_ink, title_comment}
-use Rattle.qrcode_render.proofs.Ranges.{seven_pieces}
+use Rattle.picture_settings.proofs.Ranges.{seven_pieces}
+use Rattle.grid_pictures.specs.{Pictures.columns_of, Pictures.rows_of, Paths.path, Shown.shown}
+use Rattle.grid_pictures.specs.Pens.{eps_rectangle}
+use Rattle.qrcode_render.specs.Eps.{module_points, eps_comments, eps_setup, eps_end, eps_ground, eps_ink, title_comment}
 use Rattle.qrcode_render.proofs.eps.eps_document.Goals as goal
 
 pub returns : goal.returns

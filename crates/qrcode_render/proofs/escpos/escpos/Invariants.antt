@@ -1,6 +1,7 @@
 -- The bands so far.
 use Rattle.std.proofs.Common.{◌≡◌}
-use Rattle.qrcode_render.specs.{EscPos.first_bands, Shown.shown}
+use Rattle.grid_pictures.specs.Shown.{shown}
+use Rattle.qrcode_render.specs.EscPos.{first_bands}
 use Rattle.qrcode_render.proofs.escpos.escpos.Given as goal
 
 abbrev pub invariant-loop-n : goal.invariant-loop-n

@@ -4,9 +4,9 @@ use Rattle.std.specs.String.{string_bytes}
 use Rattle.std.proofs.lemmas.List.{map-id}
 use Rattle.std.proofs.lemmas.Iterator.{YieldsList-from_chars}
 use Rattle.std.proofs.lemmas.Iterator.Consumers.{YieldsList-end}
+use Rattle.picture_settings.proofs.Ranges.{joined}
 use Rattle.qrcode_render.specs.Pdf.{hex_unit, utf16_text, utf16_units}
 use Rattle.qrcode_render.proofs.PdfTextLemmas.{characters_more, characters_none}
-use Rattle.qrcode_render.proofs.Ranges.{joined}
 use Rattle.qrcode_render.proofs.pdf_text.push_characters.Goals as goal
 
 pub loop-c-init : goal.loop-c-init

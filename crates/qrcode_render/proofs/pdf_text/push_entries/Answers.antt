@@ -1,8 +1,8 @@
 -- One entry more.
 use Rattle.std.proofs.Common.{◌++◌, ◌∙◌, ap, flat_map, get_or, take}
+use Rattle.picture_settings.proofs.Ranges.{joined}
 use Rattle.qrcode_render.specs.PdfFile.{table_entry}
 use Rattle.qrcode_render.proofs.PdfTextLemmas.{entries_more}
-use Rattle.qrcode_render.proofs.Ranges.{joined}
 use Rattle.qrcode_render.proofs.pdf_text.push_entries.Goals as goal
 
 pub loop-i-preserved : goal.loop-i-preserved

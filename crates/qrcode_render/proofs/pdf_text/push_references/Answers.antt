@@ -1,9 +1,9 @@
 -- One reference more.
 use Rattle.std.proofs.Common.{◌++◌, ◌∙◌, ◌+◌, ◌*◌, ap, sym, append-nil, codes, decimal}
 use Rattle.std.specs.String.{string_bytes}
+use Rattle.picture_settings.proofs.Ranges.{joined}
 use Rattle.qrcode_render.specs.Pdf.{page_references}
 use Rattle.qrcode_render.proofs.PdfTextLemmas.{references_more, references_none}
-use Rattle.qrcode_render.proofs.Ranges.{joined}
 use Rattle.qrcode_render.proofs.pdf_text.push_references.Goals as goal
 
 pub loop-n-init : goal.loop-n-init

@@ -1,10 +1,10 @@
 -- The output has the bytes of the picture, which are those of the settings that are asked for.
 use Rattle.std.proofs.Common.{◌≡◌, Bool, refl, subst, rules}
+use Rattle.picture_settings.specs.Formats.{is_text_format}
+use Rattle.grid_pictures.specs.Pictures.{Picture, picture}
+use Rattle.grid_pictures.specs.Shown.{shown}
 use Rattle.qrcode_render.specs.Drawings.{IsPictureAs, drawn_bytes, is_drawn_text}
-use Rattle.qrcode_render.specs.Formats.{is_text_format}
-use Rattle.qrcode_render.specs.Pictures.{Picture, picture}
 use Rattle.qrcode_render.specs.Rendered.{IsOutput}
-use Rattle.qrcode_render.specs.Shown.{shown}
 use Rattle.qrcode_render.proofs.renderers.render_as.Goals as goal
 
 pub returns-in_ok-draw_as-in-Some : goal.returns-in_ok-draw_as-in-Some

@@ -2,9 +2,10 @@
 use Rattle.std.proofs.Common.{◌≡◌, ◌++◌, ◌∙◌}
 use Rattle.std.specs.String.{string_bytes}
 use Rattle.std.specs.Option.{option_copied}
-use Rattle.qrcode_render.specs.{Pictures.columns_of, Pictures.rows_of, Pictures.pixel_width, Pictures.pixel_height, Shown.shown}
-use Rattle.qrcode_render.specs.Paths.{path, rectangle, svg_side, svg_tag, title_element, svg_ground, path_start, stroke, closing}
-use Rattle.qrcode_render.proofs.Ranges.{six_pieces}
+use Rattle.picture_settings.proofs.Ranges.{six_pieces}
+use Rattle.grid_pictures.specs.{Pictures.columns_of, Pictures.rows_of, Pictures.pixel_width, Pictures.pixel_height, Shown.shown}
+use Rattle.grid_pictures.specs.{Paths.path, Pens.rectangle}
+use Rattle.qrcode_render.specs.Svg.{svg_side, svg_tag, title_element, svg_ground, path_start, stroke, closing}
 use Rattle.qrcode_render.proofs.svg.svg_colored.Goals as goal
 
 pub returns : goal.returns

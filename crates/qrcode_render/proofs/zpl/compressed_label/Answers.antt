@@ -1,7 +1,8 @@
 -- One field more.
 use Rattle.std.proofs.Common.{◌+◌}
 use Rattle.std.specs.Prelude.{codes}
-use Rattle.qrcode_render.specs.{Encoded.ArePieces, Labels.IsCompressedField, Shown.shown}
+use Rattle.grid_pictures.specs.Shown.{shown}
+use Rattle.qrcode_render.specs.{Encoded.ArePieces, Labels.IsCompressedField}
 use Rattle.qrcode_render.proofs.FieldLemmas.{one_piece}
 use Rattle.qrcode_render.proofs.ReadingLemmas.{adds_both}
 use Rattle.qrcode_render.proofs.zpl.compressed_label.Goals as goal

@@ -1,7 +1,8 @@
 -- All fields, and the end of the label.
 use Rattle.std.proofs.Common.{◌≡◌, ◌++◌, ◌∙◌, ap, arith}
 use Rattle.std.specs.Prelude.{codes}
-use Rattle.qrcode_render.specs.{Shown.shown, Zpl.field_count, Zpl.first_fields, Zpl.label_end}
+use Rattle.grid_pictures.specs.Shown.{shown}
+use Rattle.qrcode_render.specs.Zpl.{field_count, first_fields, label_end}
 use Rattle.qrcode_render.proofs.zpl.label.Goals as goal
 
 pub returns : goal.returns

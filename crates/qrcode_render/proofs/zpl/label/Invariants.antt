@@ -1,7 +1,8 @@
 -- The fields so far.
 use Rattle.std.proofs.Common.{◌≡◌, ◌++◌}
 use Rattle.std.specs.Prelude.{codes}
-use Rattle.qrcode_render.specs.{Zpl.first_fields, Shown.shown}
+use Rattle.grid_pictures.specs.Shown.{shown}
+use Rattle.qrcode_render.specs.Zpl.{first_fields}
 use Rattle.qrcode_render.proofs.zpl.label.Given as goal
 
 abbrev pub invariant-loop-n : goal.invariant-loop-n

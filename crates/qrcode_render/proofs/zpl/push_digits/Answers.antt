@@ -2,8 +2,11 @@
 use Rattle.std.proofs.Common.{◌≡◌, ◌-◌, ◌*◌, ◌++◌, ◌∙◌, length, ap, sym, arith}
 use Rattle.std.specs.Prelude.{flat_map}
 use Rattle.std.proofs.lemmas.List.{with_items_is}
-use Rattle.qrcode_render.{specs.Shown.shown, specs.Bitmaps.rows_from, specs.Bitmaps.bitmap_row, specs.Bitmaps.row_length, specs.Zpl.hex_pair}
-use Rattle.qrcode_render.proofs.{BandLemmas.digits_row, BitmapLemmas.row_next, Ranges.joined}
+use Rattle.picture_settings.proofs.Ranges.{joined}
+use Rattle.grid_pictures.specs.{Shown.shown, Bitmaps.rows_from, Bitmaps.bitmap_row, Bitmaps.row_length}
+use Rattle.grid_pictures.proofs.BitmapLemmas.{row_next}
+use Rattle.qrcode_render.specs.Zpl.{hex_pair}
+use Rattle.qrcode_render.proofs.BandLemmas.{digits_row}
 use Rattle.qrcode_render.proofs.zpl.push_digits.Goals as goal
 use Rattle.qrcode_render.proofs.zpl.push_digits.Goals.{then-y-first, else-y-first+else-y-scale-eq0}
 

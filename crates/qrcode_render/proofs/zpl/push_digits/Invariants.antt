@@ -2,7 +2,8 @@
 -- in the same row of modules.
 use Rattle.std.proofs.Common.{◌≡◌, ◌≢◌, ◌-◌, ◌*◌, ◌%◌, ◌++◌, length}
 use Rattle.std.specs.Prelude.{flat_map}
-use Rattle.qrcode_render.specs.{Bitmaps.bitmap_row, Bitmaps.row_length, Bitmaps.rows_from, Shown.shown, Zpl.hex_pair}
+use Rattle.grid_pictures.specs.{Bitmaps.bitmap_row, Bitmaps.row_length, Bitmaps.rows_from, Shown.shown}
+use Rattle.qrcode_render.specs.Zpl.{hex_pair}
 use Rattle.qrcode_render.proofs.zpl.push_digits.Given as goal
 
 abbrev pub invariant-loop-y : goal.invariant-loop-y

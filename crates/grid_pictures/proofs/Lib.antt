@@ -1,0 +1,11 @@
+pub mod RowLemmas
+pub mod BitmapLemmas
+pub mod PackedLemmas
+pub mod WordLemmas
+pub mod RunLemmas
+pub mod TerminalLemmas
+pub mod PathLemmas
+pub mod RunEnds
+pub mod RowRuns
+pub mod TextLemmas
+pub mod CoverLemmas

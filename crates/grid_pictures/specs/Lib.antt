@@ -1,0 +1,10 @@
+pub mod Pictures
+pub mod Shown
+pub mod Rows
+pub mod Bitmaps
+pub mod Terminals
+pub mod Paths
+pub mod Pens
+pub mod Numbers
+pub mod Runs
+pub mod Covered

@@ -1,0 +1,18 @@
+//! The picture of a grid: its pixels as bits and as text for a terminal, and its path of lines.
+//!
+//! 1. A `Picture` is a borrowed grid with its scale and its quiet zone (`picture`).
+//! 2. `bitmap` writes its rows of pixels as bits, and `terminal` as half blocks.
+//! 3. `path` writes a rectangle for each run of dark modules in a row, as the format of a `Pen`
+//!    has it.
+//!
+//! `qrcode_render` makes files and documents of these, and hands out `picture` and `terminal` under
+//! its own name.
+#![tactic(auto)]
+
+pub mod bitmap;
+pub mod laws;
+mod numbers;
+pub mod path;
+pub mod pen;
+pub mod picture;
+pub mod terminal;

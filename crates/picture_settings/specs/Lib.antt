@@ -1,0 +1,11 @@
+pub mod Xml
+pub mod PostScript
+pub mod Options
+pub mod Formats
+pub mod Settings
+pub mod Made
+pub mod Resolutions
+pub mod Colors
+pub mod ColorWords
+pub mod OptionWords
+pub mod Configs

@@ -1,6 +1,0 @@
--- The law of rectangles.
-use Rattle.qrcode_render.proofs.CoverLemmas.{covers_dark_modules}
-use Rattle.qrcode_render.proofs.laws.rectangles_cover_dark_modules.Goals as goal
-
-pub returns : goal.returns
-returns c = covers_dark_modules

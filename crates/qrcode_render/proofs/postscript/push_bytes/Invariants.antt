@@ -1,8 +1,0 @@
--- The bytes so far were added.
-use Rattle.std.proofs.Common.{◌≡◌, ◌++◌, take}
-use Rattle.std.specs.String.{string_bytes}
-use Rattle.qrcode_render.specs.PostScript.{string_text}
-use Rattle.qrcode_render.proofs.postscript.push_bytes.Given as goal
-
-abbrev pub invariant-loop-i : goal.invariant-loop-i
-invariant-loop-i l = string_bytes l.out ≡ string_bytes l.initial.out ++ string_text (take l.i l.bytes)

@@ -1,9 +1,0 @@
-//! The formats that a path is written for.
-
-/// A format that a path is written for.
-#[derive(Clone, Copy, Debug, PartialEq, Eq)]
-pub(crate) enum Pen {
-    Svg,
-    Eps,
-    Pdf,
-}
