@@ -89,34 +89,32 @@ showpage
 
 /// The path and the background have their colours.
 #[test]
-fn draws_colors(rt: HostRuntime) -> Result<(), PluginError> {
+fn draws_colors(rt: HostRuntime) {
     let alloc = rt.alloc();
-    let options = RenderOptions::new(alloc, 1, 1)?;
-    let Some(view) = ModuleView::new_rect(&CELLS, 3, 2) else {
-        return Err(PluginError::InvalidModuleGrid);
-    };
-    let Some(picture) = Picture::of_grid(&view, options) else {
-        return Err(PluginError::InvalidModuleGrid);
-    };
-    let text = svg_colored(alloc, &picture, None, None, PAINTED)?;
+    let options = RenderOptions::new(alloc, 1, 1).expect(&rt, "a result");
+    let view = ModuleView::new_rect(&CELLS, 3, 2).expect(&rt, "a view");
+    let picture = Picture::of_grid(&view, options).expect(&rt, "a picture");
+    let text = svg_colored(alloc, &picture, None, None, PAINTED).expect(&rt, "a result");
     assert_eq!(rt; text.as_str(), SVG);
-    let text = svg_colored(alloc, &picture, None, None, CLEAR)?;
+    let text = svg_colored(alloc, &picture, None, None, CLEAR).expect(&rt, "a result");
     assert_eq!(rt; text.as_str(), CLEAR_SVG);
-    let text = eps_document(alloc, &picture, None, None, PAINTED)?;
+    let text = eps_document(alloc, &picture, None, None, PAINTED).expect(&rt, "a result");
     assert!(rt; text.as_str().ends_with(EPS));
-    let text = eps_document(alloc, &picture, None, None, CLEAR)?;
+    let text = eps_document(alloc, &picture, None, None, CLEAR).expect(&rt, "a result");
     assert!(rt; text.as_str().ends_with(CLEAR_EPS));
-    Ok(())
 }
 
 /// The palette has the dark colour first, since a dark pixel is 0, and the alphas follow it
 /// (ISO/IEC 15948, 11.2.3 and 11.3.2.1). Without colours the data follow the header of 33 bytes.
 #[test]
-fn draws_palettes(rt: HostRuntime) -> Result<(), PluginError> {
+fn draws_palettes(rt: HostRuntime) {
     let alloc = rt.alloc();
     let symbol = Symbol::new(alloc, b"hello", EcLevel::M).expect(&rt, "a symbol");
-    let picture = Picture::of_symbol(&symbol, RenderOptions::new(alloc, 1, 4)?);
-    let file = png_file(alloc, &picture, None, None, PAINTED)?;
+    let picture = Picture::of_symbol(
+        &symbol,
+        RenderOptions::new(alloc, 1, 4).expect(&rt, "a result"),
+    );
+    let file = png_file(alloc, &picture, None, None, PAINTED).expect(&rt, "a result");
     let chunks = file.get(33..).unwrap_or(&[]);
     assert!(rt; chunks.starts_with(b"\0\0\0\x06PLTE\x1A\x2B\x5C\xFF\xF5\xCC"));
     assert!(rt; chunks.get(22..26) == Some(b"IDAT".as_slice()));
@@ -125,13 +123,12 @@ fn draws_palettes(rt: HostRuntime) -> Result<(), PluginError> {
         ..Settings::default()
     };
     let options = DrawOptions::new(alloc, Format::Png, &settings).expect(&rt, "options");
-    let file = draw(alloc, &symbol, &options)?;
+    let file = draw(alloc, &symbol, &options).expect(&rt, "a result");
     let chunks = file.get(33..).unwrap_or(&[]);
     assert!(rt; chunks.starts_with(b"\0\0\0\x06PLTE\0\0\0\xFF\xFF\xFF"));
     assert!(rt; chunks.get(18..28) == Some(b"\0\0\0\x02tRNS\xFF\0".as_slice()));
-    let file = png_file(alloc, &picture, None, None, NO_COLORS)?;
+    let file = png_file(alloc, &picture, None, None, NO_COLORS).expect(&rt, "a result");
     assert!(rt; file.get(37..41) == Some(b"IDAT".as_slice()));
-    Ok(())
 }
 
 /// Returns the settings with these colours.
@@ -155,7 +152,7 @@ fn grey(value: u8) -> Rgb {
 /// On white, #949494 has a contrast of 3.03, and #959595 one of 2.99; blue has one of 2.44 to
 /// black.
 #[test]
-fn tests_contrasts(rt: HostRuntime) -> Result<(), PluginError> {
+fn tests_contrasts(rt: HostRuntime) {
     let alloc = rt.alloc();
     let near = Some(grey(0x95));
     let far = colored(Some(grey(0x94)), None, false);
@@ -182,12 +179,11 @@ fn tests_contrasts(rt: HostRuntime) -> Result<(), PluginError> {
     let black = Some(Ground::Color(BLACK));
     let exchanged = colored(Some(WHITE), black, false);
     assert!(rt; rejects(alloc, Format::Png, &exchanged, Setting::Light));
-    Ok(())
 }
 
 /// Of the formats, SVG, PNG, EPS and PDF have colours.
 #[test]
-fn tests_formats_of_colors(rt: HostRuntime) -> Result<(), PluginError> {
+fn tests_formats_of_colors(rt: HostRuntime) {
     let alloc = rt.alloc();
     let dark = colored(Some(BLUE), None, false);
     let clear = colored(None, Some(Ground::Transparent), false);
@@ -202,30 +198,30 @@ fn tests_formats_of_colors(rt: HostRuntime) -> Result<(), PluginError> {
         assert!(rt; DrawOptions::new(alloc, format, &clear).is_ok());
         assert!(rt; DrawOptions::new(alloc, format, &any).is_ok());
     }
-    Ok(())
 }
 
 /// The names and the digits of CSS.
+static NO_COLOR_WORDS: [&str; 8] = [
+    "",
+    "#",
+    "#12345",
+    "#1234567",
+    "#12345g",
+    "1234567",
+    "Black",
+    "transparent",
+];
+
 #[test]
-fn reads_words(rt: HostRuntime) -> Result<(), PluginError> {
-    assert_eq!(rt; Rgb::of_word("#1A2b5c"), Some(BLUE));
-    assert_eq!(rt; Rgb::of_word("white"), Some(WHITE));
-    assert_eq!(rt; Rgb::of_word("gray"), Some(grey(128)));
-    assert_eq!(rt; Rgb::of_word("#808080"), Some(grey(128)));
-    for word in [
-        "",
-        "#",
-        "#12345",
-        "#1234567",
-        "#12345g",
-        "1234567",
-        "Black",
-        "transparent",
-    ] {
-        assert_eq!(rt; Rgb::of_word(word), None);
+fn reads_words(rt: HostRuntime) {
+    assert!(rt; Rgb::of_word("#1A2b5c") == Some(BLUE));
+    assert!(rt; Rgb::of_word("white") == Some(WHITE));
+    assert!(rt; Rgb::of_word("gray") == Some(grey(128)));
+    assert!(rt; Rgb::of_word("#808080") == Some(grey(128)));
+    for word in NO_COLOR_WORDS.iter() {
+        assert!(rt; Rgb::of_word(word).is_none(), "{word}");
     }
-    assert_eq!(rt; Ground::of_word("transparent"), Some(Ground::Transparent));
-    assert_eq!(rt; Ground::of_word("white"), Some(Ground::Color(WHITE)));
-    assert_eq!(rt; Ground::of_word("clear"), None);
-    Ok(())
+    assert!(rt; Ground::of_word("transparent") == Some(Ground::Transparent));
+    assert!(rt; Ground::of_word("white") == Some(Ground::Color(WHITE)));
+    assert!(rt; Ground::of_word("clear").is_none());
 }

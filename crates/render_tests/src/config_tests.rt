@@ -1,6 +1,6 @@
 //! Tests of the options of a configuration: each renderer with all that its format has, with texts
 //! that are written by hand from the documents of the formats, and options that are rejected.
-use crate::renderer_tests::{CELLS, bytes_of, drawn, names};
+use crate::renderer_tests::{CELLS, drawn, draws, draws_at, names, rejects_by};
 use qrcode_core::plugin::{DynRenderer, PluginError, RenderConfig};
 use qrcode_core::types::Color;
 use qrcode_render::config::settings_of_config;
@@ -40,7 +40,7 @@ showpage
 
 /// SVG and EPS take sizes in millimetres, titles and colours.
 #[test]
-fn draws_all_options_of_svg_and_eps(rt: HostRuntime) -> Result<(), PluginError> {
+fn draws_all_options_of_svg_and_eps(rt: HostRuntime) {
     let alloc = rt.alloc();
     let options = [
         ("scale", "2"),
@@ -51,8 +51,7 @@ fn draws_all_options_of_svg_and_eps(rt: HostRuntime) -> Result<(), PluginError> 
         ("light", "#fff5cc"),
         ("any_colors", "false"),
     ];
-    let output = drawn(alloc, &Svg, &CELLS, (3, 2), &options)?;
-    assert_eq!(rt; bytes_of(&output), SVG.as_bytes());
+    assert!(rt; draws(alloc, &Svg, &CELLS, (3, 2), &options, SVG.as_bytes()));
     let options = [
         ("scale", "2"),
         ("quiet", "13"),
@@ -62,15 +61,13 @@ fn draws_all_options_of_svg_and_eps(rt: HostRuntime) -> Result<(), PluginError> 
         ("light", "#fff5cc"),
         ("any_colors", "true"),
     ];
-    let output = drawn(alloc, &Eps, &CELLS, (3, 2), &options)?;
-    assert_eq!(rt; bytes_of(&output), EPS.as_bytes());
-    Ok(())
+    assert!(rt; draws(alloc, &Eps, &CELLS, (3, 2), &options, EPS.as_bytes()));
 }
 
 /// After the header of 33 bytes, PNG has the palette in 18 bytes, the resolution in 21 (300 dots in
 /// an inch are 11,811 in a metre) and the title.
 #[test]
-fn draws_all_options_of_png(rt: HostRuntime) -> Result<(), PluginError> {
+fn draws_all_options_of_png(rt: HostRuntime) {
     let alloc = rt.alloc();
     let options = [
         ("scale", "2"),
@@ -81,25 +78,21 @@ fn draws_all_options_of_png(rt: HostRuntime) -> Result<(), PluginError> {
         ("light", "#fff5cc"),
         ("any_colors", "false"),
     ];
-    let output = drawn(alloc, &Png, &CELLS, (3, 2), &options)?;
-    let bytes = bytes_of(&output);
-    assert!(rt; bytes.get(16..24) == Some(b"\0\0\0\x0A\0\0\0\x08".as_slice()));
-    let chunks = bytes.get(33..).unwrap_or(&[]);
-    assert!(rt; chunks.starts_with(b"\0\0\0\x06PLTE\x1A\x2B\x5C\xFF\xF5\xCC"));
-    let chunks = bytes.get(51..).unwrap_or(&[]);
-    assert!(rt; chunks.starts_with(b"\0\0\0\x09pHYs\0\0\x2E\x23\0\0\x2E\x23\x01"));
-    let chunks = bytes.get(72..).unwrap_or(&[]);
-    assert!(rt; chunks.starts_with(b"\0\0\0\x10iTXtTitle\0\0\0\0\0T\xC3\xBCr 5"));
+    assert!(rt; draws_at(alloc, &Png, &options, 16, b"\0\0\0\x0A\0\0\0\x08"));
+    let palette = b"\0\0\0\x06PLTE\x1A\x2B\x5C\xFF\xF5\xCC";
+    assert!(rt; draws_at(alloc, &Png, &options, 33, palette));
+    let resolution = b"\0\0\0\x09pHYs\0\0\x2E\x23\0\0\x2E\x23\x01";
+    assert!(rt; draws_at(alloc, &Png, &options, 51, resolution));
+    let title = b"\0\0\0\x10iTXtTitle\0\0\0\0\0T\xC3\xBCr 5";
+    assert!(rt; draws_at(alloc, &Png, &options, 72, title));
     // 8 pixels in 0.5 mm are 16,000 in a metre.
-    let output = drawn(alloc, &Png, &CELLS, (3, 2), &[("module_mm", "0.5")])?;
-    let chunks = bytes_of(&output).get(33..).unwrap_or(&[]);
-    assert!(rt; chunks.starts_with(b"\0\0\0\x09pHYs\0\0\x3E\x80"));
-    Ok(())
+    let options = [("module_mm", "0.5")];
+    assert!(rt; draws_at(alloc, &Png, &options, 33, b"\0\0\0\x09pHYs\0\0\x3E\x80"));
 }
 
 /// Labels have a position, copies and compressed data; paper is moved and cut.
 #[test]
-fn draws_all_options_of_printers(rt: HostRuntime) -> Result<(), PluginError> {
+fn draws_all_options_of_printers(rt: HostRuntime) {
     let alloc = rt.alloc();
     let options = [
         ("scale", "2"),
@@ -108,28 +101,24 @@ fn draws_all_options_of_printers(rt: HostRuntime) -> Result<(), PluginError> {
         ("copies", "50"),
         ("compressed", "true"),
     ];
-    let output = drawn(alloc, &Zpl, &CELLS, (3, 2), &options)?;
     let expected = b"^XA\n^FO20,30^GFA,16,16,2,,:H3,:3C,:,:^FS\n^PQ50\n^XZ\n".as_slice();
-    assert_eq!(rt; bytes_of(&output), expected);
+    assert!(rt; draws(alloc, &Zpl, &CELLS, (3, 2), &options, expected));
     let options = [
         ("scale", "1"),
         ("quiet", "1"),
         ("feed", "3"),
         ("cut", "true"),
     ];
-    let output = drawn(alloc, &EscPos, &CELLS, (3, 2), &options)?;
     let expected = b"\x1D\x76\x30\x00\x01\x00\x04\x00\x00\x50\x60\x00\x1B\x64\x03\x1D\x56\x42\x00";
-    assert_eq!(rt; bytes_of(&output), expected.as_slice());
+    assert!(rt; draws(alloc, &EscPos, &CELLS, (3, 2), &options, expected));
     let options = [
         ("scale", "1"),
         ("quiet", "1"),
         ("feed", "0"),
         ("cut", "false"),
     ];
-    let output = drawn(alloc, &EscPos, &CELLS, (3, 2), &options)?;
     let expected = b"\x1D\x76\x30\x00\x01\x00\x04\x00\x00\x50\x60\x00\x1B\x64\x00";
-    assert_eq!(rt; bytes_of(&output), expected.as_slice());
-    Ok(())
+    assert!(rt; draws(alloc, &EscPos, &CELLS, (3, 2), &options, expected));
 }
 
 /// An option for each setting that not all formats have, at the default of a flag.
@@ -170,19 +159,18 @@ fn takes_just(
 
 /// No renderer takes an option of another format, even at its default.
 #[test]
-fn rejects_options_of_other_formats(rt: HostRuntime) -> Result<(), PluginError> {
+fn rejects_options_of_other_formats(rt: HostRuntime) {
     let alloc = rt.alloc();
     let colors = ["module_mm", "title", "dark", "light", "any_colors"];
-    assert!(rt; takes_just(alloc, &Svg, &colors)?);
-    assert!(rt; takes_just(alloc, &Eps, &colors)?);
-    assert!(rt; takes_just(alloc, &Pdf, &colors)?);
+    assert!(rt; takes_just(alloc, &Svg, &colors).expect(&rt, "a result"));
+    assert!(rt; takes_just(alloc, &Eps, &colors).expect(&rt, "a result"));
+    assert!(rt; takes_just(alloc, &Pdf, &colors).expect(&rt, "a result"));
     let png = ["module_mm", "dpi", "title", "dark", "light", "any_colors"];
-    assert!(rt; takes_just(alloc, &Png, &png)?);
-    assert!(rt; takes_just(alloc, &Pbm, &[])?);
-    assert!(rt; takes_just(alloc, &EscPos, &["feed", "cut"])?);
-    assert!(rt; takes_just(alloc, &Zpl, &["at", "copies", "compressed"])?);
-    assert!(rt; takes_just(alloc, &Terminal, &["inverted"])?);
-    Ok(())
+    assert!(rt; takes_just(alloc, &Png, &png).expect(&rt, "a result"));
+    assert!(rt; takes_just(alloc, &Pbm, &[]).expect(&rt, "a result"));
+    assert!(rt; takes_just(alloc, &EscPos, &["feed", "cut"]).expect(&rt, "a result"));
+    assert!(rt; takes_just(alloc, &Zpl, &["at", "copies", "compressed"]).expect(&rt, "a result"));
+    assert!(rt; takes_just(alloc, &Terminal, &["inverted"]).expect(&rt, "a result"));
 }
 
 /// Texts that are no values.
@@ -238,10 +226,7 @@ fn rejects_each(
         if !names(&renderer.validate_config(alloc, &config), key) {
             return Ok(false);
         }
-        if !names(
-            &drawn(alloc, renderer, &CELLS, (3, 2), &[(key, value)]),
-            key,
-        ) {
+        if !rejects_by(alloc, renderer, &CELLS, (3, 2), &[(key, value)], key) {
             return Ok(false);
         }
     }
@@ -251,78 +236,77 @@ fn rejects_each(
 /// A text that is no value and a value that is out of bounds are rejected by the option's name, in
 /// formats that have the option and in others.
 #[test]
-fn rejects_invalid_options(rt: HostRuntime) -> Result<(), PluginError> {
+fn rejects_invalid_options(rt: HostRuntime) {
     let alloc = rt.alloc();
     let options: [&[(&str, &str)]; 2] = [&UNREADABLE, &OUTSIDE];
     for options in options {
-        assert!(rt; rejects_each(alloc, &Svg, options)?);
-        assert!(rt; rejects_each(alloc, &Png, options)?);
-        assert!(rt; rejects_each(alloc, &Pbm, options)?);
-        assert!(rt; rejects_each(alloc, &Eps, options)?);
-        assert!(rt; rejects_each(alloc, &EscPos, options)?);
-        assert!(rt; rejects_each(alloc, &Zpl, options)?);
-        assert!(rt; rejects_each(alloc, &Pdf, options)?);
-        assert!(rt; rejects_each(alloc, &Terminal, options)?);
+        assert!(rt; rejects_each(alloc, &Svg, options).expect(&rt, "a result"));
+        assert!(rt; rejects_each(alloc, &Png, options).expect(&rt, "a result"));
+        assert!(rt; rejects_each(alloc, &Pbm, options).expect(&rt, "a result"));
+        assert!(rt; rejects_each(alloc, &Eps, options).expect(&rt, "a result"));
+        assert!(rt; rejects_each(alloc, &EscPos, options).expect(&rt, "a result"));
+        assert!(rt; rejects_each(alloc, &Zpl, options).expect(&rt, "a result"));
+        assert!(rt; rejects_each(alloc, &Pdf, options).expect(&rt, "a result"));
+        assert!(rt; rejects_each(alloc, &Terminal, options).expect(&rt, "a result"));
     }
-    Ok(())
 }
 
 /// Of several options that are invalid, those come first that are no values or that the format does
 /// not have, in the order of `Settings`; and all before the grid.
 #[test]
-fn names_the_first_option(rt: HostRuntime) -> Result<(), PluginError> {
+fn names_the_first_option(rt: HostRuntime) {
     let alloc = rt.alloc();
     let cells = [Color::Dark; 178];
     let sides = (178, 1);
     let options = [("cut", "false"), ("quiet", "x"), ("scale", "x")];
-    assert!(rt; names(&drawn(alloc, &Svg, &cells, sides, &options), "scale"));
+    assert!(rt; rejects_by(alloc, &Svg, &cells, sides, &options, "scale"));
     let options = [("cut", "false"), ("quiet", "x"), ("scale", "0")];
-    assert!(rt; names(&drawn(alloc, &Svg, &cells, sides, &options), "quiet"));
+    assert!(rt; rejects_by(alloc, &Svg, &cells, sides, &options, "quiet"));
     let options = [("cut", "false"), ("quiet", "17"), ("scale", "0")];
-    assert!(rt; names(&drawn(alloc, &Svg, &cells, sides, &options), "cut"));
+    assert!(rt; rejects_by(alloc, &Svg, &cells, sides, &options, "cut"));
     let options = [("quiet", "17"), ("scale", "0")];
-    assert!(rt; names(&drawn(alloc, &Svg, &cells, sides, &options), "scale"));
+    assert!(rt; rejects_by(alloc, &Svg, &cells, sides, &options, "scale"));
     let options = [("module_mm", "0.5"), ("dpi", "300")];
-    assert!(rt; names(&drawn(alloc, &Png, &cells, sides, &options), "dpi"));
+    assert!(rt; rejects_by(alloc, &Png, &cells, sides, &options, "dpi"));
     let result = drawn(alloc, &Svg, &cells, sides, &[("other", "x")]);
     assert!(rt; matches!(result, Err(PluginError::RenderFailed(_))));
-    Ok(())
 }
 
 /// The settings and the options of a configuration.
 #[test]
-fn reads_configurations(rt: HostRuntime) -> Result<(), PluginError> {
+fn reads_configurations(rt: HostRuntime) {
     let alloc = rt.alloc();
-    let config = RenderConfig::new(alloc).with_option("at", "20,30")?;
-    let config = config.with_option("copies", "+7")?;
+    let config = RenderConfig::new(alloc)
+        .with_option("at", "20,30")
+        .expect(&rt, "a result");
+    let config = config.with_option("copies", "+7").expect(&rt, "a result");
     let settings = settings_of_config(Format::Zpl, &config).expect(&rt, "settings");
     assert!(rt; (settings.at, settings.copies) == (Some((20, 30)), Some(7)));
-    let options = DrawOptions::of_config(alloc, Format::Zpl, &config)?;
+    let options = DrawOptions::of_config(alloc, Format::Zpl, &config).expect(&rt, "a result");
     assert!(rt; (options.at, options.copies) == ((20, 30), Some(7)));
     assert!(rt; settings_of_config(Format::Svg, &config).err() == Some(Setting::At));
     assert!(rt; Format::Zpl.has(Setting::At) && !Format::Svg.has(Setting::At));
-    Ok(())
 }
 
 /// The words of values.
+static SIZES: [(&str, Option<usize>); 8] = [
+    ("0.5", Some(50)),
+    ("0.05", Some(5)),
+    ("10", Some(1_000)),
+    ("1000.99", Some(100_099)),
+    ("1001", None),
+    ("1.", None),
+    ("1.2.3", None),
+    ("1.x", None),
+];
+
 #[test]
-fn reads_option_words(rt: HostRuntime) -> Result<(), PluginError> {
+fn reads_option_words(rt: HostRuntime) {
     assert!(rt; number_of_word("0") == Some(0) && number_of_word("+12") == Some(12));
     assert!(rt; number_of_word("").is_none() && number_of_word("1 ").is_none());
     assert!(rt; position_of_word("0,18000") == Some((0, 18_000)));
     assert!(rt; flag_of_word("true") == Some(true) && flag_of_word("false") == Some(false));
-    let sizes = [
-        ("0.5", Some(50)),
-        ("0.05", Some(5)),
-        ("10", Some(1_000)),
-        ("1000.99", Some(100_099)),
-        ("1001", None),
-        ("1.", None),
-        ("1.2.3", None),
-        ("1.x", None),
-    ];
-    for (word, hundredths) in sizes {
-        assert!(rt; hundredths_of_word(word) == hundredths, "{word}");
+    for (word, hundredths) in SIZES.iter() {
+        assert!(rt; hundredths_of_word(word) == *hundredths, "{word}");
     }
-    Ok(())
 }

@@ -51,41 +51,46 @@ fn printed(
 /// two bytes with the lower first, and the rows. Rows are 00000, 01010, 01100, 00000, then
 /// light pixels.
 #[test]
-fn prints_raster_images(rt: HostRuntime) -> Result<(), PluginError> {
+fn prints_raster_images(rt: HostRuntime) {
     let alloc = rt.alloc();
     let expected = b"\x1D\x76\x30\x00\x01\x00\x04\x00\x00\x50\x60\x00";
     assert_eq!(rt;
-        printed(alloc, false, 1, 1)?.as_slice(),
+        printed(alloc, false, 1, 1)
+            .expect(&rt, "a result")
+            .as_slice(),
         expected.as_slice()
     );
 
     // 64 pixels a module: 24 bytes a row, and 128 rows, the last of which is 128 dark pixels.
-    let bytes = printed(alloc, false, 64, 0)?;
+    let bytes = printed(alloc, false, 64, 0).expect(&rt, "a result");
     assert_eq!(rt; bytes.len(), 8 + 24 * 128);
     assert!(rt; bytes.starts_with(b"\x1D\x76\x30\x00\x18\x00\x80\x00\xFF"));
 
     // 6 rows of 64 pixels: a band of 255 rows, and one of 129.
-    let bytes = printed(alloc, false, 64, 2)?;
+    let bytes = printed(alloc, false, 64, 2).expect(&rt, "a result");
     assert_eq!(rt; bytes.len(), 8 + 56 * 255 + 8 + 56 * 129);
     let second = bytes.as_slice().get(8 + 56 * 255..).unwrap_or(&[]);
     assert!(rt; second.starts_with(b"\x1D\x76\x30\x00\x38\x00\x81\x00\x00"));
-    Ok(())
 }
 
 /// The same rows in hexadecimal, 4 bytes of them, at column 20 and row 30.
 #[test]
-fn prints_small_labels(rt: HostRuntime) -> Result<(), PluginError> {
+fn prints_small_labels(rt: HostRuntime) {
     let alloc = rt.alloc();
     let expected = b"^XA\n^FO20,30^GFA,4,4,1,00506000^FS\n^XZ\n";
-    assert_eq!(rt; printed(alloc, true, 1, 1)?.as_slice(), expected.as_slice());
+    assert_eq!(rt;
+        printed(alloc, true, 1, 1)
+            .expect(&rt, "a result")
+            .as_slice(),
+        expected.as_slice()
+    );
 
     // 280 bytes a row: 357 rows are 99,960 bytes, and the next field begins at row 30 + 357.
-    let label = printed(alloc, true, 64, 16)?;
+    let label = printed(alloc, true, 64, 16).expect(&rt, "a result");
     let first = b"^XA\n^FO20,30^GFA,99960,99960,280,".as_slice();
     assert!(rt; label.starts_with(first));
     let second = label.get(first.len() + 2 * 99960..).unwrap_or(&[]);
     assert!(rt; second.starts_with(b"^FS\n^FO20,387^GFA,99960,99960,280,"));
-    Ok(())
 }
 
 /// The graphic in the description of `~DG` of the ZPL II guide, whose rows `^GF` has too: 80
@@ -109,25 +114,26 @@ fn is_dark_sample(x: usize, y: usize) -> bool {
 }
 
 #[test]
-fn prints_the_sample_label(rt: HostRuntime) -> Result<(), PluginError> {
+fn prints_the_sample_label(rt: HostRuntime) {
     let alloc = rt.alloc();
     let mut cells = Vec::new(alloc);
     for y in 0..8 {
         for x in 0..80 {
             let dark = is_dark_sample(x, y);
-            cells.push(if dark { Color::Dark } else { Color::Light })?;
+            cells
+                .push(if dark { Color::Dark } else { Color::Light })
+                .expect(&rt, "a result");
         }
     }
-    let options = RenderOptions::new(alloc, 1, 0)?;
+    let options = RenderOptions::new(alloc, 1, 0).expect(&rt, "a result");
     let label = match ModuleView::new_rect(&cells, 80, 8) {
         Some(view) => match Picture::of_grid(&view, options) {
-            Some(picture) => zpl(alloc, &picture, (0, 0))?,
+            Some(picture) => zpl(alloc, &picture, (0, 0)).expect(&rt, "a result"),
             None => Vec::new(alloc),
         },
         None => Vec::new(alloc),
     };
     assert_eq!(rt; label.as_slice(), SAMPLE);
-    Ok(())
 }
 
 /// The document of 29 columns, which are 9.57 mm wide if a module has 0.33 mm, with a title.
@@ -159,26 +165,21 @@ showpage
 
 /// Sizes are exact decimals, and a title is escaped.
 #[test]
-fn draws_sizes(rt: HostRuntime) -> Result<(), PluginError> {
+fn draws_sizes(rt: HostRuntime) {
     let alloc = rt.alloc();
-    let options = RenderOptions::new(alloc, 8, 13)?;
-    let Some(view) = ModuleView::new_rect(&CELLS, 3, 2) else {
-        return Err(PluginError::InvalidModuleGrid);
-    };
-    let Some(picture) = Picture::of_grid(&view, options) else {
-        return Err(PluginError::InvalidModuleGrid);
-    };
+    let options = RenderOptions::new(alloc, 8, 13).expect(&rt, "a result");
+    let view = ModuleView::new_rect(&CELLS, 3, 2).expect(&rt, "a view");
+    let picture = Picture::of_grid(&view, options).expect(&rt, "a picture");
     let title = "<5 & \"6\"> 'é'\r";
-    let text = svg_document(alloc, &picture, Some(33), Some(title))?;
+    let text = svg_document(alloc, &picture, Some(33), Some(title)).expect(&rt, "a result");
     assert_eq!(rt; text.as_str(), TITLED);
-    let text = eps(alloc, &picture, Some(33))?;
+    let text = eps(alloc, &picture, Some(33)).expect(&rt, "a result");
     assert_eq!(rt; text.as_str(), POSTSCRIPT);
-    Ok(())
 }
 
 /// A grid of another size than a symbol's has no picture.
 #[test]
-fn draws_grids(rt: HostRuntime) -> Result<(), PluginError> {
+fn draws_grids(rt: HostRuntime) {
     let alloc = rt.alloc();
     let settings = Settings {
         scale: Some(1),
@@ -186,18 +187,17 @@ fn draws_grids(rt: HostRuntime) -> Result<(), PluginError> {
         ..Settings::default()
     };
     let options = DrawOptions::new(alloc, Format::Pbm, &settings).expect(&rt, "options");
-    let Some(view) = ModuleView::new_rect(&CELLS, 3, 2) else {
-        return Err(PluginError::InvalidModuleGrid);
-    };
-    match draw_grid(alloc, &view, &options)? {
-        Some(bytes) => assert_eq!(rt; bytes.as_slice(), b"P4\n5 4\n\x00\x50\x60\x00".as_slice()),
-        None => return Err(PluginError::InvalidModuleGrid),
-    }
-    let Some(wide) = ModuleView::new_rect(&WIDE, 178, 1) else {
-        return Err(PluginError::InvalidModuleGrid);
-    };
-    assert!(rt; draw_grid(alloc, &wide, &options)?.is_none());
-    Ok(())
+    let view = ModuleView::new_rect(&CELLS, 3, 2).expect(&rt, "a view");
+    let bytes = draw_grid(alloc, &view, &options)
+        .expect(&rt, "a result")
+        .expect(&rt, "a picture");
+    assert!(rt; bytes.as_slice() == b"P4\n5 4\n\x00\x50\x60\x00".as_slice());
+    let wide = ModuleView::new_rect(&WIDE, 178, 1).expect(&rt, "a wide");
+    assert!(rt;
+        draw_grid(alloc, &wide, &options)
+            .expect(&rt, "a result")
+            .is_none()
+    );
 }
 
 /// Whether the settings are rejected in this format, since one of them is wrong.
@@ -210,7 +210,7 @@ pub(crate) fn rejects(alloc: Global, format: Format, settings: &Settings, wrong:
 
 /// The settings of a format are within their bounds, and no other format has them.
 #[test]
-fn tests_settings(rt: HostRuntime) -> Result<(), PluginError> {
+fn tests_settings(rt: HostRuntime) {
     let alloc = rt.alloc();
     let none = Settings::default();
     let options = DrawOptions::new(alloc, Format::Terminal, &none).expect(&rt, "options");
@@ -250,12 +250,11 @@ fn tests_settings(rt: HostRuntime) -> Result<(), PluginError> {
     };
     assert!(rt; rejects(alloc, Format::Pbm, &inverted, Setting::Inverted));
     assert!(rt; DrawOptions::new(alloc, Format::Terminal, &inverted).is_ok());
-    Ok(())
 }
 
 /// Of two wrong settings the one that comes first in `Settings` is named.
 #[test]
-fn names_the_first_setting(rt: HostRuntime) -> Result<(), PluginError> {
+fn names_the_first_setting(rt: HostRuntime) {
     let alloc = rt.alloc();
     let many = Settings {
         scale: Some(0),
@@ -311,7 +310,6 @@ fn names_the_first_setting(rt: HostRuntime) -> Result<(), PluginError> {
     assert!(rt; rejects(alloc, Format::Pbm, &many, Setting::Cut));
     let many = Settings { cut: false, ..many };
     assert!(rt; rejects(alloc, Format::Pbm, &many, Setting::AnyColors));
-    Ok(())
 }
 
 /// Returns the bytes of a symbol in a format.
@@ -329,31 +327,30 @@ fn drawn_as(
 
 /// A symbol of 21 modules is drawn in each format, with 8 pixels a module and 4 modules around it.
 #[test]
-fn draws_symbols(rt: HostRuntime) -> Result<(), PluginError> {
+fn draws_symbols(rt: HostRuntime) {
     let alloc = rt.alloc();
     let symbol = Symbol::new(alloc, b"hello", EcLevel::M).expect(&rt, "a symbol");
     let none = Settings::default();
-    let bytes = drawn_as(alloc, &symbol, Format::Terminal, &none)?;
+    let bytes = drawn_as(alloc, &symbol, Format::Terminal, &none).expect(&rt, "a result");
     assert!(rt; bytes.starts_with(b"     "));
-    let bytes = drawn_as(alloc, &symbol, Format::Svg, &none)?;
+    let bytes = drawn_as(alloc, &symbol, Format::Svg, &none).expect(&rt, "a result");
     assert!(rt; bytes.starts_with(b"<svg xmlns="));
-    let bytes = drawn_as(alloc, &symbol, Format::Pbm, &none)?;
+    let bytes = drawn_as(alloc, &symbol, Format::Pbm, &none).expect(&rt, "a result");
     assert!(rt; bytes.starts_with(b"P4\n232 232\n"));
-    let bytes = drawn_as(alloc, &symbol, Format::Eps, &none)?;
+    let bytes = drawn_as(alloc, &symbol, Format::Eps, &none).expect(&rt, "a result");
     let head = b"%!PS-Adobe-3.0 EPSF-3.0\n%%BoundingBox: 0 0 232 232\n\
         %%LanguageLevel: 2\n%%EndComments\n";
     assert!(rt; bytes.starts_with(head));
-    let bytes = drawn_as(alloc, &symbol, Format::EscPos, &none)?;
+    let bytes = drawn_as(alloc, &symbol, Format::EscPos, &none).expect(&rt, "a result");
     assert!(rt; bytes.starts_with(b"\x1D\x76\x30\x00\x1D\x00\xE8\x00"));
-    let bytes = drawn_as(alloc, &symbol, Format::Zpl, &none)?;
+    let bytes = drawn_as(alloc, &symbol, Format::Zpl, &none).expect(&rt, "a result");
     assert!(rt; bytes.starts_with(b"^XA\n^FO0,0^GFA,6728,6728,29,"));
-    Ok(())
 }
 
 /// The numbers of pixels in a metre: 300 dots in an inch are 11,811, and 8 pixels in 0.5 mm are
 /// 16,000.
 #[test]
-fn says_resolutions(rt: HostRuntime) -> Result<(), PluginError> {
+fn says_resolutions(rt: HostRuntime) {
     let alloc = rt.alloc();
     let symbol = Symbol::new(alloc, b"hello", EcLevel::M).expect(&rt, "a symbol");
     let none = Settings::default();
@@ -361,15 +358,14 @@ fn says_resolutions(rt: HostRuntime) -> Result<(), PluginError> {
         dpi: Some(300),
         ..none
     };
-    let bytes = drawn_as(alloc, &symbol, Format::Png, &dpi)?;
+    let bytes = drawn_as(alloc, &symbol, Format::Png, &dpi).expect(&rt, "a result");
     let density = bytes.get(37..).unwrap_or(&[]);
     assert!(rt; density.starts_with(b"pHYs\x00\x00\x2E\x23"));
     let module_mm = Settings {
         module_mm: Some(50),
         ..none
     };
-    let bytes = drawn_as(alloc, &symbol, Format::Png, &module_mm)?;
+    let bytes = drawn_as(alloc, &symbol, Format::Png, &module_mm).expect(&rt, "a result");
     let density = bytes.get(37..).unwrap_or(&[]);
     assert!(rt; density.starts_with(b"pHYs\x00\x00\x3E\x80"));
-    Ok(())
 }

@@ -6,7 +6,7 @@ ghost use Rattle.std.specs.Option.{ForSome};
 ghost use Rattle.picture_settings.specs.declared.bounds.TheConstants.{MAX_MODULE_MM};
 
 use crate::format_tests::rejects;
-use crate::renderer_tests::{CELLS, bytes_of, drawn};
+use crate::renderer_tests::{CELLS, draws};
 use qrcode_core::plugin::PluginError;
 use qrcode_core::symbol::Symbol;
 use qrcode_core::traits::ModuleView;
@@ -123,7 +123,7 @@ startxref
 
 /// The renderer takes a size in millimetres, a title and colours.
 #[test]
-fn draws_all_options_of_pdf(rt: HostRuntime) -> Result<(), PluginError> {
+fn draws_all_options_of_pdf(rt: HostRuntime) {
     let alloc = rt.alloc();
     let options = [
         ("scale", "2"),
@@ -134,9 +134,7 @@ fn draws_all_options_of_pdf(rt: HostRuntime) -> Result<(), PluginError> {
         ("light", "#fff5cc"),
         ("any_colors", "false"),
     ];
-    let output = drawn(alloc, &Pdf, &CELLS, (3, 2), &options)?;
-    assert_eq!(rt; bytes_of(&output), ONE);
-    Ok(())
+    assert!(rt; draws(alloc, &Pdf, &CELLS, (3, 2), &options, ONE));
 }
 
 /// Appends a page of the cells with 13 modules around them.
@@ -163,18 +161,19 @@ fn add(
 
 /// The start, the pages and the end are the document.
 #[test]
-fn draws_pages(rt: HostRuntime) -> Result<(), PluginError> {
+fn draws_pages(rt: HostRuntime) {
     let alloc = rt.alloc();
     let clear = Colors {
         dark: Some(BLACK),
         light: Some(Ground::Transparent),
     };
-    let (mut pages, mut bytes) = PdfPages::start(alloc, None)?;
-    add(alloc, &mut bytes, &mut pages, None, NO_COLORS)?;
-    add(alloc, &mut bytes, &mut pages, Some(50), clear)?;
-    bytes.extend_from_slice(&pages.end(alloc)?)?;
+    let (mut pages, mut bytes) = PdfPages::start(alloc, None).expect(&rt, "a result");
+    add(alloc, &mut bytes, &mut pages, None, NO_COLORS).expect(&rt, "a result");
+    add(alloc, &mut bytes, &mut pages, Some(50), clear).expect(&rt, "a result");
+    bytes
+        .extend_from_slice(&pages.end(alloc).expect(&rt, "a result"))
+        .expect(&rt, "a result");
     assert_eq!(rt; bytes.as_slice(), TWO);
-    Ok(())
 }
 
 /// Returns the document of a symbol, whose page is added.
@@ -188,39 +187,40 @@ fn paged(alloc: Global, symbol: &Symbol, options: &DrawOptions) -> Result<Vec<u8
 /// A symbol of 21 modules, with 4 around it, is 232 points wide, and a page that is added is the
 /// one that is drawn.
 #[test]
-fn draws_symbols_as_pdf(rt: HostRuntime) -> Result<(), PluginError> {
+fn draws_symbols_as_pdf(rt: HostRuntime) {
     let alloc = rt.alloc();
     let symbol = Symbol::new(alloc, b"hello", EcLevel::M).expect(&rt, "a symbol");
     let none = Settings::default();
     let options = DrawOptions::new(alloc, Format::Pdf, &none).expect(&rt, "options");
-    let bytes = draw(alloc, &symbol, &options)?;
+    let bytes = draw(alloc, &symbol, &options).expect(&rt, "a result");
     let page = bytes.get(80..).unwrap_or(&[]);
     assert!(rt;
         page.starts_with(
             b"4 0 obj\n<</Type/Page/Parent 2 0 R/MediaBox[0 0 232 232]/Contents 5 0 R>>\n"
         )
     );
-    let picture = Picture::of_symbol(&symbol, RenderOptions::new(alloc, 8, 4)?);
-    assert!(rt; pdf(alloc, &picture, None)? == bytes);
+    let picture = Picture::of_symbol(
+        &symbol,
+        RenderOptions::new(alloc, 8, 4).expect(&rt, "a result"),
+    );
+    assert!(rt; pdf(alloc, &picture, None).expect(&rt, "a result") == bytes);
     let pages = paged(alloc, &symbol, &options).expect(&rt, "pages");
     assert!(rt; pages == bytes);
-    Ok(())
 }
 
 /// A title has at most a million bytes.
 #[test]
-fn tests_titles_of_pdf(rt: HostRuntime) -> Result<(), AllocError> {
+fn tests_titles_of_pdf(rt: HostRuntime) {
     let alloc = rt.alloc();
-    let mut title = String::with_capacity(alloc, MAX_PDF_TITLE + 1)?;
+    let mut title = String::with_capacity(alloc, MAX_PDF_TITLE + 1).expect(&rt, "a result");
     for _ in 0..MAX_PDF_TITLE {
-        title.push('a')?;
+        title.push('a').expect(&rt, "a result");
     }
     let titled = |title| Settings {
         title: Some(title),
         ..Settings::default()
     };
     assert!(rt; DrawOptions::new(alloc, Format::Pdf, &titled(&title)).is_ok());
-    title.push('a')?;
+    title.push('a').expect(&rt, "a result");
     assert!(rt; rejects(alloc, Format::Pdf, &titled(&title), Setting::Title));
-    Ok(())
 }

@@ -31,7 +31,7 @@ const OTHERS: [Format; 6] = [
 
 /// `^PQ` is of ZPL alone, and takes 1 to 99,999,999.
 #[test]
-fn tests_copies(rt: HostRuntime) -> Result<(), PluginError> {
+fn tests_copies(rt: HostRuntime) {
     let alloc = rt.alloc();
     let copies = |n: usize| Settings {
         copies: Some(n),
@@ -47,12 +47,11 @@ fn tests_copies(rt: HostRuntime) -> Result<(), PluginError> {
         let options = DrawOptions::new(alloc, Format::Zpl, &copies(n)).expect(&rt, "options");
         assert_eq!(rt; options.copies, Some(n));
     }
-    Ok(())
 }
 
 /// `ESC d` is of ESC/POS alone, and takes 0 to 255.
 #[test]
-fn tests_feeds(rt: HostRuntime) -> Result<(), PluginError> {
+fn tests_feeds(rt: HostRuntime) {
     let alloc = rt.alloc();
     let feed = |n: usize| Settings {
         feed: Some(n),
@@ -67,12 +66,11 @@ fn tests_feeds(rt: HostRuntime) -> Result<(), PluginError> {
         let options = DrawOptions::new(alloc, Format::EscPos, &feed(n)).expect(&rt, "options");
         assert_eq!(rt; options.feed, Some(n));
     }
-    Ok(())
 }
 
 /// Data are compressed in ZPL alone, and paper is cut by ESC/POS alone.
 #[test]
-fn tests_flags(rt: HostRuntime) -> Result<(), PluginError> {
+fn tests_flags(rt: HostRuntime) {
     let alloc = rt.alloc();
     let compressed = Settings {
         compressed: true,
@@ -92,21 +90,16 @@ fn tests_flags(rt: HostRuntime) -> Result<(), PluginError> {
     assert_eq!(rt; (options.compressed, options.copies), (true, None));
     let options = DrawOptions::new(alloc, Format::EscPos, &cut).expect(&rt, "options");
     assert_eq!(rt; (options.cut, options.feed), (true, None));
-    Ok(())
 }
 
 /// By the pages of `ESC d` (1B 64, the lines) and `GS V` (1D 56, 66, 0): the image of 4 rows, then
 /// the feed, then the cut.
 #[test]
-fn moves_and_cuts_paper(rt: HostRuntime) -> Result<(), PluginError> {
+fn moves_and_cuts_paper(rt: HostRuntime) {
     let alloc = rt.alloc();
-    let options = RenderOptions::new(alloc, 1, 1)?;
-    let Some(view) = ModuleView::new_rect(&CELLS, 3, 2) else {
-        return Err(PluginError::InvalidModuleGrid);
-    };
-    let Some(picture) = Picture::of_grid(&view, options) else {
-        return Err(PluginError::InvalidModuleGrid);
-    };
+    let options = RenderOptions::new(alloc, 1, 1).expect(&rt, "a result");
+    let view = ModuleView::new_rect(&CELLS, 3, 2).expect(&rt, "a view");
+    let picture = Picture::of_grid(&view, options).expect(&rt, "a picture");
     let image = b"\x1D\x76\x30\x00\x01\x00\x04\x00\x00\x50\x60\x00".as_slice();
     let cases = [
         (None, false, b"".as_slice()),
@@ -116,24 +109,19 @@ fn moves_and_cuts_paper(rt: HostRuntime) -> Result<(), PluginError> {
         (Some(3), true, b"\x1B\x64\x03\x1D\x56\x42\x00".as_slice()),
     ];
     for (feed, cut, commands) in cases {
-        let bytes = ticket(alloc, &picture, feed, cut)?;
+        let bytes = ticket(alloc, &picture, feed, cut).expect(&rt, "a result");
         assert!(rt; bytes.starts_with(image));
         assert_eq!(rt; bytes.as_slice().get(12..).unwrap_or(&[]), commands);
     }
-    Ok(())
 }
 
 /// By the page of `^PQ`: the number of labels, directly before `^XZ`.
 #[test]
-fn prints_copies(rt: HostRuntime) -> Result<(), PluginError> {
+fn prints_copies(rt: HostRuntime) {
     let alloc = rt.alloc();
-    let options = RenderOptions::new(alloc, 1, 1)?;
-    let Some(view) = ModuleView::new_rect(&CELLS, 3, 2) else {
-        return Err(PluginError::InvalidModuleGrid);
-    };
-    let Some(picture) = Picture::of_grid(&view, options) else {
-        return Err(PluginError::InvalidModuleGrid);
-    };
+    let options = RenderOptions::new(alloc, 1, 1).expect(&rt, "a result");
+    let view = ModuleView::new_rect(&CELLS, 3, 2).expect(&rt, "a view");
+    let picture = Picture::of_grid(&view, options).expect(&rt, "a picture");
     let field = b"^XA\n^FO20,30^GFA,4,4,1,00506000^FS\n".as_slice();
     let cases = [
         (None, b"^XZ\n".as_slice()),
@@ -141,16 +129,15 @@ fn prints_copies(rt: HostRuntime) -> Result<(), PluginError> {
         (Some(99_999_999), b"^PQ99999999\n^XZ\n".as_slice()),
     ];
     for (copies, end) in cases {
-        let bytes = label(alloc, &picture, (20, 30), copies)?;
+        let bytes = label(alloc, &picture, (20, 30), copies).expect(&rt, "a result");
         assert!(rt; bytes.starts_with(field));
         assert_eq!(rt; bytes.as_slice().get(field.len()..).unwrap_or(&[]), end);
     }
-    Ok(())
 }
 
 /// Symbols are drawn with what printers are asked.
 #[test]
-fn draws_for_printers(rt: HostRuntime) -> Result<(), PluginError> {
+fn draws_for_printers(rt: HostRuntime) {
     let alloc = rt.alloc();
     let symbol = Symbol::new(alloc, b"hello", EcLevel::M).expect(&rt, "a symbol");
     let copies = Settings {
@@ -158,7 +145,7 @@ fn draws_for_printers(rt: HostRuntime) -> Result<(), PluginError> {
         ..Settings::default()
     };
     let options = DrawOptions::new(alloc, Format::Zpl, &copies).expect(&rt, "options");
-    let bytes = draw(alloc, &symbol, &options)?;
+    let bytes = draw(alloc, &symbol, &options).expect(&rt, "a result");
     assert!(rt; bytes.starts_with(b"^XA\n^FO0,0^GFA,6728,6728,29,000000"));
     assert!(rt; bytes.ends_with(b"000000^FS\n^PQ50\n^XZ\n"));
     let paper = Settings {
@@ -167,15 +154,14 @@ fn draws_for_printers(rt: HostRuntime) -> Result<(), PluginError> {
         ..Settings::default()
     };
     let options = DrawOptions::new(alloc, Format::EscPos, &paper).expect(&rt, "options");
-    let bytes = draw(alloc, &symbol, &options)?;
+    let bytes = draw(alloc, &symbol, &options).expect(&rt, "a result");
     assert!(rt; bytes.starts_with(b"\x1D\x76\x30\x00\x1D\x00\xE8\x00"));
     assert!(rt; bytes.ends_with(b"\x00\x00\x1B\x64\x06\x1D\x56\x42\x00"));
-    Ok(())
 }
 
 /// A setting has the name of its field.
 #[test]
-fn names_settings(rt: HostRuntime) -> Result<(), PluginError> {
+fn names_settings(rt: HostRuntime) {
     let names = [
         (Setting::Scale, "scale"),
         (Setting::Quiet, "quiet"),
@@ -195,5 +181,4 @@ fn names_settings(rt: HostRuntime) -> Result<(), PluginError> {
     for (setting, name) in names {
         assert_eq!(rt; setting.name(), name);
     }
-    Ok(())
 }
