@@ -1,13 +1,13 @@
 -- The objects of a PDF document, page by page, and where each of them begins.
-use Rattle.std.proofs.Common.{◌≡◌, ℕ, zero, suc, ◌+◌, ◌*◌, ◌/◌, ◌<◌, ◌≤◌, ◌≢◌, ◌++◌, ◌==◌, Bool, List, [], ◌∷◌, length, map, drop}
-use Rattle.std.proofs.Common.{refl, sym, ap, subst, inl, inr, ◌∙◌, arith, append-nil, append_assoc, length-append, drop_at, Option, codes, flat_map}
+use Rattle.std.proofs.Common.{◌≡◌, ℕ, suc, ◌+◌, ◌*◌, ◌/◌, ◌<◌, ◌≤◌, ◌≢◌, ◌++◌, List, [], ◌∷◌, length, map}
+use Rattle.std.proofs.Common.{refl, sym, ap, ◌∙◌, arith, append-nil, append_assoc, length-append, Option, flat_map}
 use Rattle.std.specs.List.{range_with_len}
-use Rattle.std.proofs.lemmas.Bool.{eq-eqb, ne_eqb, cases_lt}
+use Rattle.std.proofs.lemmas.Bool.{eq-eqb, ne_eqb}
 use Rattle.std.proofs.lemmas.Grind.{flat_map-append, fold-append}
 use Rattle.std.proofs.lemmas.List.Folds.{flat_map-map}
 use Rattle.std.proofs.lemmas.List.FromFn.{length-map-range_with_len}
 use Rattle.qrcode_render.specs.Pdf.{PdfPage, catalog, information, page_content, page_objects, page_tree, pdf_document, pdf_objects, stream_content}
-use Rattle.qrcode_render.specs.PdfFile.{object_head, object_offset, objects_before, objects_text, pdf_file, pdf_header, pdf_object, pdf_trailer, table_entry, table_head}
+use Rattle.qrcode_render.specs.PdfFile.{object_offset, objects_before, objects_text, pdf_file, pdf_header, pdf_object, pdf_trailer, table_entry, table_head}
 use Rattle.qrcode_render.specs.PdfWritten.{PdfWritten, after_page, after_pages, next_number, next_page, next_pages, page_object, page_text, pdf_end, pdf_start, started, IsWritten, PagesMakeDocument, WritesDocument}
 
 abbrev pub Objects : Type 0
