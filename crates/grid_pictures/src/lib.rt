@@ -5,8 +5,7 @@
 //! 3. `path` writes a rectangle for each run of dark modules in a row, as the format of a `Pen`
 //!    has it.
 //!
-//! `qrcode_render` makes files and documents of these, and hands out `picture` and `terminal` under
-//! its own name.
+//! `qrcode_render` makes files and documents of these, and re-exports `picture` and `terminal`.
 #![tactic(auto)]
 
 pub mod bitmap;

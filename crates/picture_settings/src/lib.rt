@@ -4,7 +4,7 @@
 //! A caller fills in `Settings` (`settings`), or has them read from the texts of a configuration
 //! (`config`, by the words of `option_words`). `DrawOptions` (`draw_options`) are the options of a
 //! format that are made of them, tested once. `xml` and `postscript` write the title, as they count
-//! it. `qrcode_render` draws by these options and hands out all of this under its own name.
+//! it. `qrcode_render` draws by these options, and re-exports all that callers need.
 #![tactic(auto)]
 
 pub mod bounds;
