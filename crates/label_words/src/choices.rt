@@ -4,8 +4,8 @@ ghost use Rattle.label_words.specs.Choices.{level_named, content_named, format_n
 ghost use Rattle.label_words.specs.Choices.{format_of_ending, turn_named};
 
 use crate::command::{Content, Turn};
+use picture_settings::format::Format;
 use qrcode_core::types::EcLevel;
-use qrcode_render::Format;
 
 /// Returns the level of a name.
 pub fn level_named(word: &str) -> Option<EcLevel>

@@ -20,10 +20,11 @@ use crate::portion::{check_terminal, details_of, portion_of};
 use crate::settings::{in_dots, settings_of, zoned};
 use crate::words::{Misuse, Name, Values};
 use gs1_base::domain::is_domain;
+use picture_settings::format::Format;
+use picture_settings::option_words::number_of_word;
+use picture_settings::settings::Settings;
 use qrcode_core::options::SymbolOptions;
 use qrcode_core::types::EcLevel;
-use qrcode_render::option_words::number_of_word;
-use qrcode_render::{Format, Settings};
 
 /// What a symbol says.
 #[derive(Clone, Copy, Debug, PartialEq, Eq)]

@@ -10,7 +10,7 @@ ghost use Rattle.label_words.specs.Said.{said};
 use crate::command::{Content, Details, Portion};
 use crate::names::{Numbering, numbering_in};
 use crate::words::{Misuse, Name, Values};
-use qrcode_render::Format;
+use picture_settings::format::Format;
 
 /// Returns the name of the output as one with a number in it, if it is one.
 fn numbered_output<'a>(values: &Values<'a>) -> Option<Numbering<'a>>

@@ -9,11 +9,13 @@ ghost use Rattle.label_words.specs.Choices.{has_dots};
 
 use crate::command::{Content, is_micro};
 use crate::words::{Misuse, Name, Values};
-use qrcode_render::bounds::{
+use picture_settings::bounds::{
     MAX_DPI, MAX_MODULE_MM, MAX_SCALE, MICRO_QUIET, MIN_DPI, MIN_MODULE_MM, MIN_SCALE,
 };
-use qrcode_render::option_words::{hundredths_of_word, number_of_word, position_of_word};
-use qrcode_render::{Colors, Format, Ground, Rgb, Settings};
+use picture_settings::colors::{Colors, Ground, Rgb};
+use picture_settings::format::Format;
+use picture_settings::option_words::{hundredths_of_word, number_of_word, position_of_word};
+use picture_settings::settings::Settings;
 
 /// Returns what was found for an option that is given, or `Invalid` with its name.
 fn some_found<'a, T>(thing: Option<T>, name: Name) -> Result<Option<T>, Misuse<'a>>
