@@ -39,8 +39,8 @@ fn draws_lines(rt: HostRuntime) {
     assert!(rt; are_drawn(alloc, b"a\rb\r\r\n", &["a\rb\r"]));
 }
 
-/// Whether a run stops at a line after so many labels, of 125 bytes each, leaves so many bytes
-/// unread, and reports this.
+/// Whether a run stops at a line after `labels` labels, of 125 bytes each, leaves `unread` bytes,
+/// and reports `line`.
 fn stops(alloc: Global, input: &[u8], unread: usize, labels: usize, line: &str) -> bool {
     let answer = ran(alloc, &EACH, input);
     answer.has_said(1, line)

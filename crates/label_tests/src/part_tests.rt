@@ -104,7 +104,7 @@ fn moved(degrees: &str, x: usize, y: usize) -> (usize, usize) {
     }
 }
 
-/// Whether a bitmap is another one turned by so many degrees.
+/// Whether a bitmap is another one, turned clockwise by `degrees`.
 fn is_turned(degrees: &str, upright: &[u8], turned: &[u8]) -> bool {
     (0..441_usize).all(|place| {
         let (x, y) = (place % 21, place / 21);

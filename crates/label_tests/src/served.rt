@@ -18,7 +18,7 @@ pub struct Served {
 }
 
 impl Served {
-    /// Whether it ended with 0, wrote so many bytes, and reported nothing.
+    /// Whether it ended with 0, wrote `length` bytes, and reported nothing.
     pub fn has_length(&self, length: usize) -> bool {
         self.status == 0 && self.label.len() == length && self.said.is_empty()
     }
