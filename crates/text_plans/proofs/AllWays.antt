@@ -1,0 +1,236 @@
+-- The least of the three ways is the least of all parts.
+use Rattle.std.proofs.Common.{◌≡◌, ℕ, ◌+◌, ◌*◌, ◌/◌, ◌≤◌, ◌<◌, Bool, true, false, ◌||◌, ◌⊎◌, inl, inr, List, [], ◌∷◌, length, refl, ap, sym, ◌∙◌, subst, arith}
+use Rattle.std.specs.Prelude.{Option, None, Some, All}
+use Rattle.std.proofs.lemmas.Bool.{cond-true}
+use Rattle.std.proofs.lemmas.Grind.{common_steps}
+use Rattle.std.proofs.lemmas.List.Elements.{All-head, All-tail}
+use Rattle.qrcode_base.specs.declared.types.Mode.{Mode}
+use Rattle.qrcode_base.specs.declared.types.Mode.TheVariants.{Numeric, Alphanumeric, Byte, Kanji}
+use Rattle.qrcode_base.specs.declared.types.Version.{Version}
+use Rattle.qrcode_base.specs.declared.types.Version.TheVariants.{Normal, Micro}
+use Rattle.text_reading.specs.Bytes.{ascii_character, common_character}
+use Rattle.text_reading.specs.Reading.{Part, designator, segment, is_known, is_plain, has_kanji, joined, read_parts, read_segment, is_shift_jis, IsReadAs}
+use Rattle.text_reading.specs.Reading.{each_of, read_bytes, read_kanji}
+use Rattle.text_plans.specs.Costs.{HasPart, bits_of_part, bits_of_parts, AreTextParts, AreLeast}
+use Rattle.text_plans.specs.Lanes.{AreAllFacts, force_of}
+use Rattle.text_plans.specs.Tables.{IsWeighed}
+use Rattle.text_plans.specs.Ways.{AreRules, weight_of}
+use Rattle.text_plans.specs.declared.facts.Facts.{Facts}
+use Rattle.text_plans.specs.declared.row.TheConstants.{BIT, LIMIT}
+use Rattle.text_plans.specs.declared.rules.Rules.{Rules}
+use Rattle.text_plans.proofs.Appends.{put_split, put_both}
+use Rattle.text_plans.proofs.Begins.{if_list}
+use Rattle.text_plans.proofs.Bounds.{Suits, parts_bound, joined_is, if_parts}
+use Rattle.text_plans.proofs.Rows.{entry}
+
+-- ---- What is read more strictly is read
+
+common_is : (byte c : ℕ) → common_character byte ≡ Some c → ascii_character byte ≡ Some c
+common_is byte c h = grind (arith, common_steps)
+
+each_more : (f g : ℕ → Option ℕ) → ((byte c : ℕ) → f byte ≡ Some c → g byte ≡ Some c) → (bytes text : List ℕ) →
+    each_of f bytes ≡ Some text → each_of g bytes ≡ Some text
+unfolding each_of
+each_more f g more [] text h = h
+each_more f g more (byte ∷ bytes) text h =
+    let w = put_split (f byte) (each_of f bytes) text h in
+    rw w.4 (put_both (g byte) (each_of g bytes) w.0 w.1 (more byte w.0 w.2) (each_more f g more bytes w.1 w.3))
+
+bytes_more : (mixed had : Bool) (force : Option ℕ) (bytes text : List ℕ) → (had ≡ true → mixed ≡ true) →
+    read_bytes mixed force bytes ≡ Some text → read_bytes had force bytes ≡ Some text
+unfolding read_bytes
+bytes_more true true None bytes text order h = h
+bytes_more true false None bytes text order h = each_more common_character ascii_character common_is bytes text h
+bytes_more false true None bytes text order h = absurd (let e : false ≡ true = order refl in cc)
+bytes_more false false None bytes text order h = h
+bytes_more mixed had (Some number) bytes text order h = h
+
+segment_more : (plain bare mixed had : Bool) (force : Option ℕ) (mode : Mode) (bytes text : List ℕ) → (plain ≡ true → bare ≡ true) →
+    (had ≡ true → mixed ≡ true) → read_segment plain mixed force mode bytes ≡ Some text → read_segment bare had force mode bytes ≡ Some text
+unfolding read_segment
+segment_more plain bare mixed had force Numeric bytes text p m h = h
+segment_more plain bare mixed had force Alphanumeric bytes text p m h = h
+segment_more plain bare mixed had force Byte bytes text p m h = bytes_more mixed had force bytes text m h
+segment_more plain bare mixed had force Kanji bytes text p m h =
+    let w = if_list (plain || is_shift_jis force) (read_kanji bytes) text h in
+    let allowed : (bare || is_shift_jis force) ≡ true = either plain bare (is_shift_jis force) p w.0 in
+    cond-true (bare || is_shift_jis force) (read_kanji bytes) None allowed ∙ w.1
+  where
+    either : (a b s : Bool) → (a ≡ true → b ≡ true) → (a || s) ≡ true → (b || s) ≡ true
+    either a true s order h = refl
+    either true false s order h = absurd (let e : false ≡ true = order refl in cc)
+    either false false s order h = h
+
+parts_more : (plain bare mixed had : Bool) → (plain ≡ true → bare ≡ true) → (had ≡ true → mixed ≡ true) →
+    (force : Option ℕ) (parts : List Part) (text : List ℕ) →
+    read_parts plain mixed force parts ≡ Some text → read_parts bare had force parts ≡ Some text
+unfolding read_parts
+parts_more plain bare mixed had p m force [] text h = h
+parts_more plain bare mixed had p m force (designator number ∷ parts) text h =
+    let w = if_parts (is_known number) (read_parts plain mixed (Some number) parts) text h in
+    cond-true (is_known number) (read_parts bare had (Some number) parts) None w.0 ∙ parts_more plain bare mixed had p m (Some number) parts text w.1
+parts_more plain bare mixed had p m force (segment mode bytes ∷ parts) text h =
+    let w = joined_is (read_segment plain mixed force mode bytes) (read_parts plain mixed force parts) text h in
+    let first = segment_more plain bare mixed had force mode bytes w.0 p m w.2 in
+    let later = parts_more plain bare mixed had p m force parts w.1 w.3 in
+    grind (arith, first, later, w.4)
+
+-- Parts that are written in a way are read as the text.
+pub reads_so : (plain mixed : Bool) (parts : List Part) (text : List ℕ) → read_parts plain mixed None parts ≡ Some text →
+    (plain ≡ true → is_plain parts ≡ true) → (has_kanji parts ≡ true → mixed ≡ true) → IsReadAs parts text
+reads_so plain mixed parts text h p m = parts_more plain (is_plain parts) mixed (has_kanji parts) p m None parts text h
+
+-- ---- Each list of parts is written in one of the ways
+
+module _ (version : Version) (plain mixed : Bool) (rules : Rules) (are : AreRules version plain mixed rules) where
+  suits_plain : (parts : List Part) → is_plain parts ≡ true → plain ≡ true → Suits rules rules.start parts
+  unfolding is_plain
+  suits_plain [] h e = tt
+  suits_plain (designator number ∷ parts) h e = absurd (cc)
+  suits_plain (segment mode bytes ∷ parts) h e = (λ k. are.lanes.kanji_plain e, suits_plain parts h e)
+
+  suits_unmixed : (parts : List Part) (lane : ℕ) → has_kanji parts ≡ false → plain ≡ false → All (HasPart version) parts → Suits rules lane parts
+  unfolding has_kanji
+  suits_unmixed [] lane h e had = tt
+  suits_unmixed (designator number ∷ parts) lane h e had = (
+    are.designator_is number e (All-head (HasPart version) (designator number) parts had),
+    λ to is. suits_unmixed parts to h e (All-tail (HasPart version) (designator number) parts had),
+  )
+  suits_unmixed (segment Numeric bytes ∷ parts) lane h e had =
+      (λ k. absurd (cc), suits_unmixed parts lane h e (All-tail (HasPart version) (segment Numeric bytes) parts had))
+  suits_unmixed (segment Alphanumeric bytes ∷ parts) lane h e had =
+      (λ k. absurd (cc), suits_unmixed parts lane h e (All-tail (HasPart version) (segment Alphanumeric bytes) parts had))
+  suits_unmixed (segment Byte bytes ∷ parts) lane h e had =
+      (λ k. absurd (cc), suits_unmixed parts lane h e (All-tail (HasPart version) (segment Byte bytes) parts had))
+  suits_unmixed (segment Kanji bytes ∷ parts) lane h e had = absurd (cc)
+
+  shift_jis_lane : (lane : ℕ) → is_shift_jis (force_of lane) ≡ true → 13 ≡ lane
+  unfolding force_of
+  shift_jis_lane lane h = grind (arith, common_steps)
+
+  kanji_read : (lane : ℕ) (mode : Mode) (bytes text : List ℕ) → read_segment false mixed (force_of lane) mode bytes ≡ Some text → mode ≡ Kanji → 13 ≡ lane
+  unfolding read_segment
+  kanji_read lane Numeric bytes text h e = absurd (cc)
+  kanji_read lane Alphanumeric bytes text h e = absurd (cc)
+  kanji_read lane Byte bytes text h e = absurd (cc)
+  kanji_read lane Kanji bytes text h e = shift_jis_lane lane (if_list (is_shift_jis (force_of lane)) (read_kanji bytes) text h).0
+
+  suits_mixed : (parts : List Part) (lane : ℕ) (text : List ℕ) → plain ≡ false → mixed ≡ true → All (HasPart version) parts →
+      read_parts false mixed (force_of lane) parts ≡ Some text → Suits rules lane parts
+  unfolding read_parts
+  suits_mixed [] lane text e m had h = tt
+  suits_mixed (designator number ∷ parts) lane text e m had h = (
+    are.designator_is number e (All-head (HasPart version) (designator number) parts had),
+    λ to is. suits_mixed parts to text e m (All-tail (HasPart version) (designator number) parts had)
+        (subst (λ (force : Option ℕ). read_parts false mixed force parts ≡ Some text) (sym is)
+        (if_parts (is_known number) (read_parts false mixed (Some number) parts) text h).1),
+  )
+  suits_mixed (segment mode bytes ∷ parts) lane text e m had h =
+      let w = joined_is (read_segment false mixed (force_of lane) mode bytes) (read_parts false mixed (force_of lane) parts) text h in (
+        λ k. are.lanes.kanji_mixed e m ∙ kanji_read lane mode bytes w.0 w.2 k,
+        suits_mixed parts lane w.1 e m (All-tail (HasPart version) (segment mode bytes) parts had) w.3,
+      )
+
+  -- What is looked for weighs no more.
+  bound : (parts : List Part) (text : List ℕ) (all : List Facts) → AreAllFacts text all → All (HasPart version) parts → Suits rules rules.start parts →
+      read_parts plain mixed None parts ≡ Some text → (entry rules all rules.start).fresh ≤ weight_of version parts
+  bound parts text all known had suits h =
+      parts_bound plain mixed rules version are.headers parts rules.start text all are.lanes.suits are.lanes.inside known had suits
+      (subst (λ (force : Option ℕ). read_parts plain mixed force parts ≡ Some text) (sym are.lanes.no_force) h)
+
+joined_more : (x y z : Option (List ℕ)) (text : List ℕ) → joined x y ≡ Some text → ((t : List ℕ) → y ≡ Some t → z ≡ Some t) →
+    joined x z ≡ Some text
+joined_more x y z text h more =
+    let w = joined_is x y text h in
+    let later = more w.1 w.3 in
+    grind (arith, w.2, w.4, later)
+
+-- Without Kanji segments it is all one whether there are designators.
+no_kanji_read : (parts : List Part) (text : List ℕ) (force : Option ℕ) → is_plain parts ≡ true → has_kanji parts ≡ false →
+    read_parts true false force parts ≡ Some text → read_parts false false force parts ≡ Some text
+unfolding read_parts is_plain has_kanji read_segment
+no_kanji_read [] text force p k h = h
+no_kanji_read (designator number ∷ parts) text force p k h = absurd (cc)
+no_kanji_read (segment Kanji bytes ∷ parts) text force p k h = absurd (cc)
+no_kanji_read (segment Numeric bytes ∷ parts) text force p k h =
+    joined_more _ _ _ text h (λ t e. no_kanji_read parts t force p k e)
+no_kanji_read (segment Alphanumeric bytes ∷ parts) text force p k h =
+    joined_more _ _ _ text h (λ t e. no_kanji_read parts t force p k e)
+no_kanji_read (segment Byte bytes ∷ parts) text force p k h =
+    joined_more _ _ _ text h (λ t e. no_kanji_read parts t force p k e)
+
+-- The least weight of a way.
+abbrev pub least_of : Rules → List Facts → ℕ
+least_of rules all = (entry rules all rules.start).fresh
+
+module _ (version : Version) (bare unmixed mixed : Rules) (b : AreRules version true true bare) (u : AreRules version false false unmixed) (m : AreRules version false true mixed) where
+  by_flags : (parts : List Part) (text : List ℕ) (all : List Facts) (plain kanji : Bool) → AreAllFacts text all → All (HasPart version) parts →
+      is_plain parts ≡ plain → has_kanji parts ≡ kanji → read_parts plain kanji None parts ≡ Some text →
+      (least_of bare all ≤ weight_of version parts) ⊎ ((least_of unmixed all ≤ weight_of version parts) ⊎ (least_of mixed all ≤ weight_of version parts))
+  by_flags parts text all true true known had p k h = inl (bound version true true bare b parts text all known had (suits_plain version true true bare b parts p refl) h)
+  by_flags parts text all true false known had p k h =
+      inr (inl (bound version false false unmixed u parts text all known had
+      (suits_unmixed version false false unmixed u parts unmixed.start k refl had) (no_kanji_read parts text None p k h)))
+  by_flags parts text all false false known had p k h =
+      inr (inl (bound version false false unmixed u parts text all known had (suits_unmixed version false false unmixed u parts unmixed.start k refl had) h))
+  by_flags parts text all false true known had p k h =
+      inr (inr (bound version false true mixed m parts text all known had
+      (suits_mixed version false true mixed m parts mixed.start text refl refl had
+      (subst (λ (force : Option ℕ). read_parts false true force parts ≡ Some text) (sym m.lanes.no_force) h)) h))
+
+  -- One of the three ways weighs no more than any parts.
+  pub one_of : (parts : List Part) (text : List ℕ) (all : List Facts) → AreAllFacts text all → AreTextParts version text parts →
+      (least_of bare all ≤ weight_of version parts) ⊎ ((least_of unmixed all ≤ weight_of version parts) ⊎ (least_of mixed all ≤ weight_of version parts))
+  one_of parts text all known h = by_flags parts text all (is_plain parts) (has_kanji parts) known h.had refl refl h.read
+
+-- ---- Bits and parts of a weight
+
+part_some : (version : Version) (part : Part) → HasPart version part → 1 ≤ bits_of_part version part
+part_some version (designator number) h = omega arith
+part_some (Normal n) (segment mode bytes) h = omega arith
+part_some (Micro n) (segment Numeric bytes) h = omega arith
+part_some (Micro n) (segment Alphanumeric bytes) h = omega arith
+part_some (Micro n) (segment Byte bytes) h = omega arith
+part_some (Micro n) (segment Kanji bytes) h = grind (arith, common_steps, h.0)
+
+-- Each part has a bit.
+pub parts_some : (version : Version) (parts : List Part) → All (HasPart version) parts → length parts ≤ bits_of_parts version parts
+parts_some version [] h = omega arith
+parts_some version (part ∷ parts) h =
+    omega (arith, part_some version part (All-head (HasPart version) part parts h), parts_some version parts (All-tail (HasPart version) part parts h))
+
+small_bits : (b l c k : ℕ) → l ≤ b → k ≤ c → BIT * b + l < LIMIT → BIT * b + l ≤ BIT * c + k → b ≤ c
+small_bits b l c k lb kc small h = omega arith
+
+pub least_parts : (version : Version) (text : List ℕ) (parts : List Part) → AreTextParts version text parts → weight_of version parts < LIMIT →
+    ((others : List Part) → AreTextParts version text others → weight_of version parts ≤ weight_of version others) → AreLeast version text parts
+least_parts version text parts h small least = record {
+  written = h;
+  bits = λ others w.
+      small_bits (bits_of_parts version parts) (length parts) (bits_of_parts version others) (length others) (parts_some version parts h.had)
+      (parts_some version others w.had) small (least others w);
+  fewest = λ others w e. let weight = least others w in omega arith;
+}
+
+-- A weight at the limit is that of many bits.
+pub many_bits : (version : Version) (text : List ℕ) (parts : List Part) → AreTextParts version text parts → LIMIT ≤ weight_of version parts →
+    32768 ≤ bits_of_parts version parts
+many_bits version text parts h limit = omega (arith, parts_some version parts h.had)
+
+quotient : (b l : ℕ) → l ≤ b → BIT * b + l < LIMIT → (BIT * b + l) / BIT ≡ b
+quotient b l h small = omega arith
+
+-- A plan of the least weight, and its bits.
+pub weighed_least : (version : Version) (plain mixed : Bool) (text : List ℕ) (weight : ℕ) (parts : List Part) →
+    IsWeighed version plain mixed text weight parts → weight < LIMIT →
+    ((others : List Part) → AreTextParts version text others → weight ≤ weight_of version others) →
+    AreLeast version text parts × (weight / BIT ≡ bits_of_parts version parts)
+weighed_least version plain mixed text weight parts h small least =
+    let written : AreTextParts version text parts = record {
+      read = reads_so plain mixed parts text h.read h.plain_is h.mixed_is;
+      had = h.had;
+    } in (
+      least_parts version text parts written (omega (arith, h.weight_is)) (λ others w. omega (arith, h.weight_is, least others w)),
+      ap (λ (n : ℕ). n / BIT) (sym h.weight_is)
+          ∙ quotient (bits_of_parts version parts) (length parts) (parts_some version parts h.had) (omega (arith, h.weight_is)),
+    )

@@ -1,0 +1,14 @@
+pub mod Fronts
+pub mod Weights
+pub mod Begins
+pub mod Rows
+pub mod Bounds
+pub mod Sizes
+pub mod Appends
+pub mod Drafts
+pub mod Choosing
+pub mod Adding
+pub mod Steps
+pub mod Headers
+pub mod AllWays
+pub mod Walking

@@ -1,0 +1,158 @@
+-- A plan is written character by character.
+use Rattle.std.proofs.Common.{◌≡◌, ℕ, zero, suc, ◌+◌, ◌≤◌, ◌<◌, Bool, true, false, List, [], ◌∷◌, ◌++◌, length, get_or, take, drop, drop-cons, refl, ap, sym, ◌∙◌, subst, arith, Option, None, Some}
+use Rattle.std.proofs.lemmas.Grind.{common_steps}
+use Rattle.std.proofs.lemmas.List.{take_more}
+use Rattle.qrcode_base.specs.declared.types.Mode.{Mode}
+use Rattle.qrcode_base.specs.declared.types.Version.{Version}
+use Rattle.std.proofs.lemmas.List.Elements.{All-nil}
+use Rattle.qrcode_base.specs.declared.types.Mode.TheVariants.{Numeric, Alphanumeric, Byte, Kanji}
+use Rattle.text_plans.specs.Costs.{HasPart}
+use Rattle.text_reading.specs.Reading.{has_kanji, is_plain, read_parts}
+use Rattle.text_plans.specs.Choices.{IsCharStep, lane_after, open_value, step_value}
+use Rattle.text_plans.specs.Lanes.{AreAllFacts, AreFacts, force_of}
+use Rattle.text_plans.specs.Plan.{Written, all_parts}
+use Rattle.text_plans.specs.Search.{lane_before, no_rest, rests_of, switch_least}
+use Rattle.text_plans.specs.Tables.{IsWeighed, first_weight}
+use Rattle.text_plans.specs.Ways.{AreRules, weight_of}
+use Rattle.text_plans.specs.declared.facts.Facts.{Facts}
+use Rattle.text_plans.specs.declared.row.Rest.{Rest}
+use Rattle.text_plans.specs.declared.row.TheConstants.{LIMIT}
+use Rattle.text_plans.specs.declared.rules.Rules.{Rules}
+use Rattle.text_plans.proofs.Rows.{entry, entry_end, entry_step}
+use Rattle.text_plans.proofs.Steps.{AreComplete, IsDraft, OpenReads, all_complete, force_after, step}
+
+-- ---- The facts of a text
+
+pub facts_long : (chars : List ℕ) (all : List Facts) → AreAllFacts chars all → length chars ≡ length all
+facts_long [] [] h = refl
+facts_long [] (f ∷ all) h = absurd h
+facts_long (c ∷ chars) [] h = absurd h
+facts_long (c ∷ chars) (f ∷ all) h = ap suc (facts_long chars all h.1)
+
+pub facts_at : (chars : List ℕ) (all : List Facts) (k d : ℕ) (e : Facts) → AreAllFacts chars all → k < length all →
+    AreFacts (get_or chars k d) (get_or all k e)
+facts_at [] [] k d e h inside = absurd (omega arith)
+facts_at [] (f ∷ all) k d e h inside = absurd h
+facts_at (c ∷ chars) [] k d e h inside = absurd h
+facts_at (c ∷ chars) (f ∷ all) zero d e h inside = h.0
+facts_at (c ∷ chars) (f ∷ all) (suc k) d e h inside = facts_at chars all k d e h.1 (omega arith)
+
+pub facts_more : (chars next : List ℕ) (all more : List Facts) (c : ℕ) (f : Facts) → AreAllFacts chars all → AreFacts c f →
+    next ≡ chars ++ c ∷ [] → more ≡ all ++ f ∷ [] → AreAllFacts next more
+facts_more chars next all more c f h is n m = rw n (rw m (appended chars all h))
+  where
+    appended : (chars : List ℕ) (all : List Facts) → AreAllFacts chars all → AreAllFacts (chars ++ c ∷ []) (all ++ f ∷ [])
+    appended [] [] h = (is, tt)
+    appended [] (g ∷ all) h = absurd h
+    appended (d ∷ chars) [] h = absurd h
+    appended (d ∷ chars) (g ∷ all) h = (h.0, appended chars all h.1)
+
+no_value : (mode : Option Mode) (count : ℕ) → open_value no_rest mode count ≡ 0
+no_value None count = refl
+no_value (Some Numeric) count = grind (arith, common_steps)
+no_value (Some Alphanumeric) count = grind (arith, common_steps)
+no_value (Some Byte) count = refl
+no_value (Some Kanji) count = refl
+
+empty_complete : (version : Version) (plain mixed : Bool) (rules : Rules) → AreRules version plain mixed rules →
+    AreComplete version plain mixed rules.start [] []
+unfolding read_parts force_after is_plain has_kanji
+empty_complete version plain mixed rules are = record {
+  inside = are.lanes.inside;
+  suits = are.lanes.suits;
+  read = refl;
+  force = sym are.lanes.no_force;
+  had = All-nil (HasPart version);
+  plain_is = λ e. refl;
+  mixed_is = λ e. absurd (let no : false ≡ true = e in cc);
+}
+
+module _ (version : Version) (plain mixed : Bool) (rules : Rules) (are : AreRules version plain mixed rules) where
+  -- A plan of the first characters.
+  pub record IsWalked (chars : List ℕ) (all : List Facts) (k lane : ℕ) (written : Written) : Type 0 where
+    pub draft : IsDraft version plain mixed lane written (take k chars)
+    pub weight : weight_of version (all_parts written) + open_value (entry rules (drop k all) lane) written.mode (length written.bytes)
+        ≡ first_weight rules all
+
+  -- What is no segment has no bytes.
+  pub none_open : (chars : List ℕ) (all : List Facts) (k lane : ℕ) (written : Written) → IsWalked chars all k lane written →
+      written.mode ≡ None → written.bytes ≡ []
+  none_open chars all k lane written h is =
+      (subst (λ (m : Option Mode). OpenReads version plain mixed (force_of lane) m written.bytes h.draft.opened) is h.draft.open_reads).0
+
+  before_is : (all : List Facts) (k lane : ℕ) (d : Facts) (row : List Rest) → k < length all → lane < 16 → row ≡ rests_of rules (drop (k + 1) all) →
+      lane_before rules (get_or all k d) (switch_least rules (get_or all k d) row 14) lane (get_or row lane no_rest) ≡ entry rules (drop k all) lane
+  before_is all k lane d row inside low is =
+      let more : drop k all ≡ get_or all k d ∷ drop (k + 1) all =
+      let next : suc k ≡ k + 1 = omega arith in drop-cons all k d inside ∙ ap (λ (m : ℕ). get_or all k d ∷ drop m all) next in
+      rw is (sym (ap (λ (x : List Facts). entry rules x lane) more ∙ entry_step rules (get_or all k d) (drop (k + 1) all) lane low))
+
+  -- The value of what follows is small.
+  pub value_small : (chars : List ℕ) (all : List Facts) (k lane : ℕ) (written : Written) → IsWalked chars all k lane written →
+      first_weight rules all < LIMIT → open_value (entry rules (drop k all) lane) written.mode (length written.bytes) < LIMIT
+  value_small chars all k lane written h small = omega (arith, h.weight)
+
+  pub step_small : (chars : List ℕ) (all : List Facts) (k lane : ℕ) (d : Facts) (row : List Rest) (old : Written) →
+      IsWalked chars all k lane old → first_weight rules all < LIMIT → k < length all → row ≡ rests_of rules (drop (k + 1) all) →
+      step_value rules (get_or all k d) row lane old < LIMIT
+  step_small chars all k lane d row old h small inside is =
+      let value = ap (λ (rest : Rest). open_value rest old.mode (length old.bytes)) (before_is all k lane d row inside h.draft.complete.inside is) in
+      omega (arith, value, value_small chars all k lane old h small)
+
+  pub walk_more : (chars : List ℕ) (all : List Facts) (k lane d : ℕ) (e : Facts) (row : List Rest) (old new : Written) (after : ℕ) →
+      AreAllFacts chars all → IsWalked chars all k lane old → first_weight rules all < LIMIT → k < length all →
+      row ≡ rests_of rules (drop (k + 1) all) → IsCharStep rules (get_or all k e) row lane (get_or chars k d) old new after →
+      IsWalked chars all (k + 1) after new
+  walk_more chars all k lane d e row old new after known h small inside is made =
+      let value = ap (λ (rest : Rest). open_value rest old.mode (length old.bytes)) (before_is all k lane e row inside h.draft.complete.inside is) in
+      let below = value_small chars all k lane old h small in
+      let kept = step version plain mixed rules are (get_or all k e) row (get_or chars k d) lane made.choice old new (take k chars) h.draft made.possible made.makes
+      (omega (arith, made.weight, value, below)) in
+      let within : k < length chars = omega (arith, facts_long chars all known) in
+      subst (λ (n : ℕ). IsWalked chars all (k + 1) n new) (sym made.after_is) (record {
+        draft = subst (λ (t : List ℕ). IsDraft version plain mixed (lane_after lane made.choice) new t) (sym (take_more chars k d within)) kept.0;
+        weight = omega (
+          arith,
+          kept.1,
+          h.weight,
+          made.weight,
+          value,
+          ap (λ (r : List Rest). open_value (get_or r (lane_after lane made.choice) no_rest) new.mode (length new.bytes)) is,
+        );
+      })
+
+  -- Before the first character.
+  pub walk_first : (chars : List ℕ) (all : List Facts) (written : Written) → written.parts ≡ [] → written.mode ≡ None → written.bytes ≡ [] →
+      IsWalked chars all 0 rules.start written
+  walk_first chars all written parts mode bytes =
+      let none : Written = record { parts = []; mode = None; bytes = [] } in
+      let e : none ≡ written = grind (arith, parts, mode, bytes) in
+      subst (λ (w : Written). IsWalked chars all 0 rules.start w) e (record {
+        draft = record {
+          before = [];
+          opened = [];
+          complete = empty_complete version plain mixed rules are;
+          open_reads = (refl, refl);
+          text_is = grind (arith, common_steps);
+        };
+        weight = grind (arith, common_steps);
+      })
+
+  -- After the last one.
+  pub walked : (chars : List ℕ) (all : List Facts) (k lane : ℕ) (written : Written) → AreAllFacts chars all → IsWalked chars all k lane written →
+      length all ≤ k → IsWeighed version plain mixed chars (first_weight rules all) (all_parts written)
+  walked chars all k lane written known h past =
+      let complete = all_complete version plain mixed lane written (take k chars) h.draft in
+      let whole : take k chars ≡ chars = grind (arith, common_steps, facts_long chars all known) in
+      let rest : drop k all ≡ [] = grind (arith, common_steps) in
+      let nothing : open_value (entry rules (drop k all) lane) written.mode (length written.bytes) ≡ 0 =
+      ap (λ (x : List Facts). open_value (entry rules x lane) written.mode (length written.bytes)) rest
+      ∙ ap (λ (r : Rest). open_value r written.mode (length written.bytes)) (entry_end rules lane complete.inside)
+      ∙ no_value written.mode (length written.bytes) in
+      record {
+        read = complete.read ∙ ap (λ (x : List ℕ). Some x) whole;
+        had = complete.had;
+        plain_is = complete.plain_is;
+        mixed_is = complete.mixed_is;
+        weight_is = omega (arith, h.weight, nothing);
+      }

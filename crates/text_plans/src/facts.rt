@@ -1,0 +1,117 @@
+//! What is so of a character, wherever it stands.
+
+ghost use Rattle.std.specs.Prelude.{◌≡◌, ◌≢◌, ◌<◌, ℕ, IfSome, Some, true};
+ghost use Rattle.qrcode_base.specs.Characters.{is_alphanumeric};
+ghost use Rattle.text_reading.specs.Bytes.{common_character};
+ghost use Rattle.text_reading.specs.Reading.{pair_character};
+ghost use Rattle.text_plans.specs.Lanes.{IsSize, AreFacts, single_character};
+
+use crate::lanes::designator_of;
+use qrcode_base::characters::is_alphanumeric;
+use text_reading::{byte_of, pair_of};
+
+/// Whether a character is a digit, an Alphanumeric character, or a pair of the Kanji mode, and its
+/// number of bytes in each lane, 0 if it has none there.
+#[derive(Clone, Copy)]
+pub struct Facts {
+    pub digit: bool,
+    pub alphanumeric: bool,
+    pub pair: bool,
+    pub sizes: [u8; 16],
+}
+
+/// Returns the single byte of a character in a lane, if there is one. A character of the lane of
+/// UTF-8 has none.
+#[tactic(auto, unfolding(crate::specs::Lanes::single_character))]
+pub fn single_in(c: char, lane: usize) -> Option<u8>
+    requires inside { lane < 16 }
+    requires single { lane ≢ 14 }
+    ensures right { IfSome result (λ byte. single_character lane byte ≡ Some c) }
+    ensures found { (byte : ℕ) → single_character lane byte ≡ Some c → result ≡ Some byte }
+{
+    if lane == 15 {
+        common_byte(c)
+    } else {
+        byte_of(c, designator_of(lane))
+    }
+}
+
+/// Returns the byte of a character in ASCII that is the same in JIS X 0201.
+fn common_byte(c: char) -> Option<u8>
+    ensures right { IfSome result (λ byte. common_character byte ≡ Some c) }
+    ensures found { (byte : ℕ) → common_character byte ≡ Some c → result ≡ Some byte }
+{
+    if c < '\u{80}' && c != '\\' && c != '~' {
+        Some(c as u8)
+    } else {
+        None
+    }
+}
+
+/// Returns the number of bytes of a character in a lane, 0 if it has none.
+fn size_in(c: char, lane: usize) -> u8
+    requires { lane < 16 }
+    ensures { IsSize lane c result }
+{
+    if lane == 13 {
+        return size_in_shift_jis(c);
+    }
+    if lane == 14 {
+        return c.len_utf8() as u8;
+    }
+    match single_in(c, lane) {
+        Some(_) => 1,
+        None => 0,
+    }
+}
+
+/// Returns the number of bytes of a character in Shift JIS, 0 if it has none.
+fn size_in_shift_jis(c: char) -> u8
+    ensures { IsSize 13 c result }
+{
+    match byte_of(c, Some(20)) {
+        Some(_) => 1,
+        None => match pair_of(c) {
+            Some(_) => 2,
+            None => 0,
+        },
+    }
+}
+
+/// Returns what is so of a character.
+pub fn facts_of(c: char) -> Facts
+    ensures { AreFacts c result }
+{
+    let mut sizes = [0; 16];
+    for lane in 0..16 {
+        sizes[lane] = size_in(c, lane);
+    }
+    Facts {
+        digit: '0' <= c && c <= '9',
+        alphanumeric: is_sign(c),
+        pair: is_pair(c),
+        sizes,
+    }
+}
+
+/// Returns whether a character is one of the Alphanumeric mode.
+fn is_sign(c: char) -> bool
+    ensures { result ≡ is_alphanumeric c }
+{
+    if c < '\u{80}' {
+        is_alphanumeric(c as u8)
+    } else {
+        false
+    }
+}
+
+/// Returns whether a character is a pair of the Kanji mode.
+fn is_pair(c: char) -> bool
+    ensures pair { (lead trail : ℕ) → pair_character lead trail ≡ Some c → result ≡ true }
+    ensures paired { result ≡ true → (pair : ℕ × ℕ) × (pair_character pair.0 pair.1 ≡ Some c) }
+{
+    match pair_of(c) {
+        Some(_) => true,
+        None => false,
+    }
+}

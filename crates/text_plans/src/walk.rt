@@ -1,0 +1,194 @@
+//! The least plan, written from the first character on by the weights of what follows each.
+
+ghost use Rattle.std.specs.Prelude.{◌≡◌, ◌<◌, ◌≤◌, ℕ, length, get_or, Some, None, OnOk, IfOk, []};
+ghost use Rattle.text_plans.specs.Lanes.{AreFacts, AreAllFacts};
+ghost use Rattle.text_plans.specs.Plan.{plan_parts};
+ghost use Rattle.text_plans.specs.Ways.{AreRulesOf};
+ghost use Rattle.text_plans.specs.Tables.{AreRowsOf, IsPlanOf, first_weight};
+ghost use Rattle.text_plans.specs.Search.{go_on, can_write, lane_before, no_rest, switch_least};
+ghost use Rattle.text_plans.specs.Choices.{choice_weight, open_value, open_weight};
+ghost use Rattle.text_plans.specs.Choices.{CanBe, IsCharStep, Makes, lane_after, step_value};
+
+use crate::facts::Facts;
+use crate::lanes::designator_of;
+use crate::plan::{Draft, TextPlan};
+use crate::push::push_char;
+use crate::row::{LIMIT, Rest, begin, go_on, least_switch};
+use crate::rules::Rules;
+use qrcode_base::types::Mode;
+use std::alloc::{AllocError, Global};
+
+/// How a character is written: in the open segment, as the first of a segment, or as the first of a
+/// segment after the designator of a lane.
+#[derive(Clone, Copy)]
+pub enum Choice {
+    GoOn,
+    Begin(Mode),
+    Change(usize, Mode),
+}
+
+/// Returns the weight of a character that goes on with a segment of a mode and a number of bytes.
+fn going_on(rules: &Rules, facts: &Facts, lane: usize, rest: &Rest, mode: Mode, count: usize) -> u32
+    requires { lane < 16 }
+    ensures { result ≡ go_on rules.now facts.now lane rest.now mode count }
+{
+    let size = facts.sizes[lane];
+    match mode {
+        Mode::Numeric => match count % 3 {
+            0 => go_on(facts.digit, 4, rest.digits1),
+            1 => go_on(facts.digit, 3, rest.digits2),
+            _ => go_on(facts.digit, 3, rest.digits0),
+        },
+        Mode::Alphanumeric => {
+            if count % 2 == 0 {
+                go_on(facts.alphanumeric, 6, rest.signs1)
+            } else {
+                go_on(facts.alphanumeric, 5, rest.signs0)
+            }
+        }
+        Mode::Byte => go_on(size != 0, 8 * u64::from(size), rest.byte),
+        Mode::Kanji => go_on(facts.pair && rules.kanji_lane == lane, 13, rest.kanji),
+    }
+}
+
+/// Returns the weight of a character that goes on with the open segment, the limit if there is
+/// none.
+fn opened_weight(
+    rules: &Rules,
+    facts: &Facts,
+    lane: usize,
+    rest: &Rest,
+    opened: Option<Mode>,
+    count: usize,
+) -> u32
+    requires { lane < 16 }
+    ensures { result ≡ open_weight rules.now facts.now lane rest.now opened count }
+{
+    match opened {
+        Some(mode) => going_on(rules, facts, lane, rest, mode, count),
+        None => LIMIT,
+    }
+}
+
+/// Returns how a character is written, by what follows it in each lane, in a lane in which a
+/// segment of a mode and a number of bytes may be open.
+#[tactic(auto, using(crate::proofs::Choosing::value_is, crate::proofs::Choosing::go_possible, crate::proofs::Choosing::begin_possible))]
+fn choice_of(
+    rules: &Rules,
+    facts: &Facts,
+    row: &[Rest],
+    lane: usize,
+    opened: Option<Mode>,
+    count: usize,
+) -> Choice
+    requires lane { lane < 16 }
+    requires row { length row.now ≡ 16 }
+    ensures right { let before = lane_before rules.now facts.now
+        (switch_least rules.now facts.now row.now 14)
+        lane (get_or row.now lane no_rest) in
+        open_value before opened count < LIMIT →
+        choice_weight rules.now facts.now row.now lane opened count result
+        ≡ open_value before opened count }
+    ensures possible { choice_weight rules.now facts.now row.now lane opened count result < LIMIT →
+        CanBe rules.now facts.now lane opened result }
+{
+    let rest = &row[lane];
+    let (begin_weight, begin_mode) = begin(rules, facts, lane, rest);
+    let change = least_switch(rules, facts, row);
+    let onward = opened_weight(rules, facts, lane, rest, opened, count);
+    if onward <= begin_weight && onward <= change.weight {
+        Choice::GoOn
+    } else if begin_weight <= change.weight {
+        Choice::Begin(begin_mode)
+    } else {
+        Choice::Change(change.lane, change.mode)
+    }
+}
+
+/// Writes a character as it was chosen, and returns the lane after it.
+fn write_char(
+    draft: &mut Draft,
+    choice: Choice,
+    c: char,
+    facts: &Facts,
+    lane: usize,
+    rules: &Rules,
+) -> Result<usize, AllocError>
+    requires lane { lane < 16 }
+    requires known { AreFacts c facts.now }
+    requires possible { CanBe rules.now facts.now lane draft.old.mode choice }
+    requires sound { draft.old.mode ≡ None → draft.old.bytes ≡ [] }
+    ensures lane { IfOk result (λ after. after ≡ lane_after lane choice) }
+    ensures made { OnOk result (Makes facts.now lane c choice draft.old draft.new) }
+{
+    match choice {
+        Choice::GoOn => {
+            if let Some(mode) = draft.mode() {
+                push_char(draft, c, facts, mode, lane, rules)?;
+            }
+            Ok(lane)
+        }
+        Choice::Begin(mode) => {
+            draft.close()?;
+            draft.begin_segment(mode);
+            push_char(draft, c, facts, mode, lane, rules)?;
+            Ok(lane)
+        }
+        Choice::Change(to, mode) => {
+            draft.close()?;
+            if let Some(number) = designator_of(to) {
+                draft.designate(number)?;
+            }
+            draft.begin_segment(mode);
+            push_char(draft, c, facts, mode, to, rules)?;
+            Ok(to)
+        }
+    }
+}
+
+/// Writes a character, by what follows it in each lane, and returns the lane after it.
+fn write_next(
+    draft: &mut Draft,
+    rules: &Rules,
+    facts: &Facts,
+    row: &[Rest],
+    lane: usize,
+    c: char,
+) -> Result<usize, AllocError>
+    requires lane { lane < 16 }
+    requires row { length row.now ≡ 16 }
+    requires known { AreFacts c facts.now }
+    requires sound { draft.old.mode ≡ None → draft.old.bytes ≡ [] }
+    requires small { step_value rules.now facts.now row.now lane draft.old < LIMIT }
+    ensures { IfOk result (λ after.
+        IsCharStep rules.now facts.now row.now lane c draft.old draft.new after) }
+{
+    let choice = choice_of(rules, facts, row, lane, draft.mode(), draft.count());
+    let after = write_char(draft, choice, c, facts, lane, rules)?;
+    Ok(after)
+}
+
+/// Returns a plan of the least weight of a text in a way, by what follows each of its characters.
+pub fn plan_of(
+    alloc: Global,
+    rules: &Rules,
+    chars: &[char],
+    all: &[Facts],
+    rows: &[[Rest; 16]],
+) -> Result<TextPlan, AllocError>
+    requires known { AreAllFacts chars.now all.now }
+    requires rules { AreRulesOf rules.now }
+    requires rows { AreRowsOf rules.now all.now rows.now }
+    requires small { first_weight rules.now all.now < LIMIT }
+    ensures { IfOk result (λ plan. IsPlanOf rules.now chars.now
+        (first_weight rules.now all.now) (plan_parts plan)) }
+{
+    let mut draft = Draft::new(alloc);
+    let mut lane = rules.start;
+    for k in 0..all.len() {
+        let row = &rows[all.len() - 1 - k];
+        lane = write_next(&mut draft, rules, &all[k], row, lane, chars[k])?;
+    }
+    draft.close()?;
+    Ok(draft.finish())
+}
