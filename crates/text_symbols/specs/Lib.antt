@@ -1,0 +1,4 @@
+pub mod TextFrames
+pub mod TextChoices
+pub mod TextHeadline
+pub mod MicroTexts

@@ -1,0 +1,14 @@
+//! Tests of `text_plans` and `text_symbols`: worked rows, read back by `plain_reader`, and calls
+//! whose allocations fail (`tools/refuse-growth`).
+#![tactic(auto)]
+
+#[cfg(test)]
+mod grids;
+#[cfg(test)]
+mod plan_tests;
+#[cfg(test)]
+mod refused_growth;
+#[cfg(test)]
+mod rows;
+#[cfg(test)]
+mod text_tests;
