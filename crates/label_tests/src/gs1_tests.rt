@@ -231,13 +231,13 @@ fn writes_elements_below_the_symbol(rt: HostRuntime) {
     for (content, input, line) in HRI.iter() {
         assert!(rt; adds_line(rt.alloc(), content, input, line), "{content}");
     }
-    let words = ["-f", "svg", "--rotate", "90", "-c", "gs1", "--hri", "(10)A"];
-    let label = ran(rt.alloc(), &words, b"");
+    let words = ["-f", "svg", "--rotate", "90", "-c", "gs1", "--hri"];
+    let label = ran(rt.alloc(), &words, b"(01)09506000134352(10)A");
     assert!(rt; label.status == 0);
     assert!(rt;
         label
             .label
-            .ends_with(b" fill=\"#000\">(10)A</text>\n</svg>\n")
+            .ends_with(b" fill=\"#000\">(01)09506000134352(10)A</text>\n</svg>\n")
     );
 }
 
