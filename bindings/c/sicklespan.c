@@ -507,8 +507,6 @@ const char *sicklespan_status_text(int32_t status) {
     case SICKLESPAN_WRONG_QUALIFIER:
         return "an element qualifies another key than that of the link";
     case SICKLESPAN_REPEATED_ELEMENT: return "an identifier stands twice in a link";
-    case SICKLESPAN_MISSING_ELEMENT: return "an element that has to stand beside it is missing";
-    case SICKLESPAN_CONFLICTING_ELEMENT: return "an element may not stand beside another one";
     default: return "unknown status";
     }
 }

@@ -62,9 +62,7 @@ enum sicklespan_status {
     SICKLESPAN_NO_KEY = 26,             /* no element is the key of a link, as (01) or (00) are */
     SICKLESPAN_SECOND_KEY = 27,         /* an element is a key of links, and another after it */
     SICKLESPAN_WRONG_QUALIFIER = 28,    /* an element qualifies another key than that of the link */
-    SICKLESPAN_REPEATED_ELEMENT = 29,   /* an identifier stands twice in a link */
-    SICKLESPAN_MISSING_ELEMENT = 30,    /* an element needs one that is not in the link */
-    SICKLESPAN_CONFLICTING_ELEMENT = 31 /* an element may not stand beside another in the link */
+    SICKLESPAN_REPEATED_ELEMENT = 29    /* an identifier stands twice in a link */
 };
 
 /* What is asked of a symbol beside its data: its level, the versions that it may have, and whether
@@ -205,8 +203,7 @@ int32_t sicklespan_gs1_fault(const char *text, size_t length, sicklespan_fault *
  * After SICKLESPAN_INVALID_VERSIONS: SICKLESPAN_INVALID_TEXT, SICKLESPAN_DATA_TOO_LONG (a text of
  * more than 11815 bytes), those of sicklespan_gs1 for a fault of the elements,
  * SICKLESPAN_WRONG_DOMAIN, SICKLESPAN_NO_KEY, and of the first element that has a fault
- * SICKLESPAN_WRONG_QUALIFIER, SICKLESPAN_SECOND_KEY, SICKLESPAN_REPEATED_ELEMENT; and of the first
- * that may not stand beside the others SICKLESPAN_MISSING_ELEMENT, SICKLESPAN_CONFLICTING_ELEMENT.
+ * SICKLESPAN_WRONG_QUALIFIER, SICKLESPAN_SECOND_KEY, SICKLESPAN_REPEATED_ELEMENT.
  */
 int32_t sicklespan_link(const char *text, size_t length, const char *domain, size_t domain_length,
                         const sicklespan_options *options, uint8_t *modules, size_t room,

@@ -452,8 +452,6 @@ static void test_words(void) {
         [SICKLESPAN_SECOND_KEY] = "a link has one key, and there is another",
         [SICKLESPAN_WRONG_QUALIFIER] = "an element qualifies another key than that of the link",
         [SICKLESPAN_REPEATED_ELEMENT] = "an identifier stands twice in a link",
-        [SICKLESPAN_MISSING_ELEMENT] = "an element that has to stand beside it is missing",
-        [SICKLESPAN_CONFLICTING_ELEMENT] = "an element may not stand beside another one",
         "unknown status",
     };
     for (int32_t status = 0; status < (int32_t)(sizeof texts / sizeof *texts); status++) {

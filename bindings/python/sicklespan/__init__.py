@@ -10,12 +10,12 @@ The functions return a `Symbol` or raise an error below `SicklespanError`.
 """
 
 from ._errors import (
-    ConflictingElementError, DataTooLongError, ElementError, EmptyValueError, InvalidCharacterError,
-    InvalidCutsError, InvalidFormatError, InvalidIdentifierError, InvalidLevelError,
-    InvalidPartCountError, InvalidSettingError, InvalidTextError, InvalidVersionsError,
-    MissingElementError, NoElementsError, NoKeyError, OutOfMemoryError, RepeatedElementError,
-    SecondKeyError, SicklespanError, UnknownIdentifierError, ValueTooLongError,
-    WrongCheckDigitError, WrongDomainError, WrongLengthError, WrongQualifierError, WrongValueError)
+    DataTooLongError, ElementError, EmptyValueError, InvalidCharacterError, InvalidCutsError,
+    InvalidFormatError, InvalidIdentifierError, InvalidLevelError, InvalidPartCountError,
+    InvalidSettingError, InvalidTextError, InvalidVersionsError, NoElementsError, NoKeyError,
+    OutOfMemoryError, RepeatedElementError, SecondKeyError, SicklespanError, UnknownIdentifierError,
+    ValueTooLongError, WrongCheckDigitError, WrongDomainError, WrongLengthError,
+    WrongQualifierError, WrongValueError)
 from ._library import __version__
 from ._make import (
     elements, gs1, gs1_unchecked, link, link_text, make, make_micro, make_qr, make_sequence, micro,
@@ -23,10 +23,10 @@ from ._make import (
 from ._symbol import Symbol
 
 __all__ = [
-    "ConflictingElementError", "DataTooLongError", "ElementError", "EmptyValueError",
-    "InvalidCharacterError", "InvalidCutsError", "InvalidFormatError", "InvalidIdentifierError",
-    "InvalidLevelError", "InvalidPartCountError", "InvalidSettingError", "InvalidTextError",
-    "InvalidVersionsError", "MissingElementError", "NoElementsError", "NoKeyError", "OutOfMemoryError", "RepeatedElementError", "SecondKeyError",
+    "DataTooLongError", "ElementError", "EmptyValueError", "InvalidCharacterError",
+    "InvalidCutsError", "InvalidFormatError", "InvalidIdentifierError", "InvalidLevelError",
+    "InvalidPartCountError", "InvalidSettingError", "InvalidTextError", "InvalidVersionsError",
+    "NoElementsError", "NoKeyError", "OutOfMemoryError", "RepeatedElementError", "SecondKeyError",
     "SicklespanError", "Symbol", "UnknownIdentifierError", "ValueTooLongError",
     "WrongCheckDigitError", "WrongDomainError", "WrongLengthError", "WrongQualifierError",
     "WrongValueError", "__version__", "elements", "gs1", "gs1_unchecked", "link", "link_text",

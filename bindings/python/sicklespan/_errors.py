@@ -124,14 +124,6 @@ class RepeatedElementError(ElementError):
     """The identifier of an element of a link stands once more after it."""
 
 
-class MissingElementError(ElementError):
-    """An element needs one that is not in the link."""
-
-
-class ConflictingElementError(ElementError):
-    """An element may not stand beside another one of the link."""
-
-
 class InvalidFormatError(SicklespanError):
     """There is no such format of pictures, or a stream is given and no format."""
 
@@ -175,8 +167,6 @@ ERRORS: Dict[int, Type[SicklespanError]] = {
     27: SecondKeyError,
     28: WrongQualifierError,
     29: RepeatedElementError,
-    30: MissingElementError,
-    31: ConflictingElementError,
 }
 
 
@@ -214,7 +204,7 @@ def _element_error(status: int, fault: Fault) -> SicklespanError:
 
 def check_link(status: int, text: bytes, domain: bytes) -> None:
     """Raises the error of a status of a link."""
-    if not (12 <= status <= 19 or 24 <= status <= 31):
+    if not (12 <= status <= 19 or 24 <= status <= 29):
         return check(status)
     fault = Fault()
     raise _element_error(library.sicklespan_link_fault(

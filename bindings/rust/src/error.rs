@@ -110,10 +110,6 @@ pub enum Error {
     WrongQualifier(Fault),
     /// The identifier of an element stands once more after it.
     RepeatedElement(Fault),
-    /// An element needs one that is not in the link.
-    MissingElement(Fault),
-    /// An element may not stand beside another one of the link.
-    ConflictingElement(Fault),
     /// A setting of a picture is out of its bounds, or the format does not have it.
     InvalidSetting {
         /// The name of the setting, which is that of its method in `Settings`.
@@ -148,8 +144,6 @@ impl Error {
             27 => Error::SecondKey(fault),
             28 => Error::WrongQualifier(fault),
             29 => Error::RepeatedElement(fault),
-            30 => Error::MissingElement(fault),
-            31 => Error::ConflictingElement(fault),
             _ => unreachable!("a status that a slice of full size can have"),
         }
     }
@@ -188,7 +182,7 @@ impl Error {
 
     /// The error of a status of a link.
     pub(crate) fn of_link(status: i32, text: &str, domain: &str) -> Error {
-        if (12..=19).contains(&status) || (24..=31).contains(&status) {
+        if (12..=19).contains(&status) || (24..=29).contains(&status) {
             return Error::of_fault(ffi::link_fault(text.as_bytes(), domain.as_bytes()));
         }
         Error::of(status)
@@ -221,9 +215,7 @@ impl Error {
             | Error::WrongValue(fault)
             | Error::SecondKey(fault)
             | Error::WrongQualifier(fault)
-            | Error::RepeatedElement(fault)
-            | Error::MissingElement(fault)
-            | Error::ConflictingElement(fault) => Some(fault),
+            | Error::RepeatedElement(fault) => Some(fault),
             _ => None,
         }
     }
@@ -253,8 +245,6 @@ impl Error {
             Error::SecondKey(_) => 27,
             Error::WrongQualifier(_) => 28,
             Error::RepeatedElement(_) => 29,
-            Error::MissingElement(_) => 30,
-            Error::ConflictingElement(_) => 31,
         }
     }
 }

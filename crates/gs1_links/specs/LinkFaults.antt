@@ -8,20 +8,18 @@ use Rattle.std.specs.List.{slice_split, position_or_len, before_first, after_fir
 use Rattle.std.specs.Option.{option_or, option_map}
 use Rattle.gs1.specs.Elements.{Element, is_identifier, written_elements}
 use Rattle.gs1.specs.Values.{number_of, element_error}
-use Rattle.gs1.specs.Together.{is_among, first_conflict}
+use Rattle.gs1.specs.Together.{is_among}
 use Rattle.gs1_base.specs.Percent.{begins_with_byte, first_byte, after_byte}
 use Rattle.gs1_base.specs.Domains.{is_domain}
 use Rattle.gs1_links.specs.Links.{keys, number, order_of, is_attribute, link_error, link_of}
 use Rattle.gs1_links.specs.Links.{linked}
-use Rattle.gs1_links.specs.LinkReader.{is_slash, is_question, is_ampersand, is_link_character}
-use Rattle.gs1_links.specs.LinkReader.{query_parts, ReadsLink}
+use Rattle.gs1_links.specs.LinkReader.{is_slash, is_question, is_link_character, query_parts, ReadsLink}
 use Rattle.gs1_links.specs.declared.link_error.LinkReadError.{LinkReadError}
 use Rattle.gs1_links.specs.declared.link_error.LinkReadError.TheVariants.{WrongScheme, WrongCharacter}
 use Rattle.gs1_links.specs.declared.link_error.LinkReadError.TheVariants.{WrongDomain, NoKey, NoEqualsSign}
 use Rattle.gs1_links.specs.declared.link_error.LinkReadError.TheVariants.{WrongEscape, ValueTooLong, Elements}
 use Rattle.gs1_links.specs.declared.link_error.LinkReadError.TheVariants.{WrongQualifier, WrongAttribute}
-use Rattle.gs1_links.specs.declared.link_error.LinkReadError.TheVariants.{RepeatedElement, Together}
-use Rattle.gs1_links.specs.declared.link_error.LinkReadError.TheVariants.{OutOfMemory}
+use Rattle.gs1_links.specs.declared.link_error.LinkReadError.TheVariants.{RepeatedElement, OutOfMemory}
 
 -- ---- Values
 
@@ -214,39 +212,19 @@ path_pairs link = pairs (unwrap_or (path_of link) [])
 abbrev pub query_parts_of : List ℕ → List (List ℕ)
 query_parts_of link = query_parts (query_of link)
 
--- The elements that are left of a path and of a query.
-abbrev pub elements_left : Option (List ℕ) → Option (List ℕ) → List Element
-elements_left path query =
-    map decoded_element (pairs (parts_left is_slash path))
-    ++ map (λ part. decoded_element (part_element part)) (parts_left is_ampersand query)
-
--- The elements of a path, from the key on, and of a query.
-abbrev pub elements_in : List ℕ → List ℕ → List Element
-elements_in path query =
-    map decoded_element (pairs (slice_split is_slash path))
-    ++ map (λ part. decoded_element (part_element part)) (query_parts query)
-
--- The elements of a link whose parts have no fault.
-abbrev pub link_elements : List ℕ → List Element
-link_elements link =
-    map decoded_element (path_pairs link)
-    ++ map (λ part. decoded_element (part_element part)) (query_parts_of link)
-
--- The first fault of elements that may not stand together.
-unfoldable pub together_fault : List Element → Option LinkReadError
-together_fault elements = option_map (λ error. Together error) (first_conflict elements 0 elements)
-
--- The first fault of the parts of a link. The elements are counted from the key on.
-abbrev pub parts_fault : List ℕ → Option LinkReadError
-parts_fault link =
+-- The first fault of a link. The elements are counted from the key on.
+abbrev pub reading_fault : List ℕ → Option LinkReadError
+reading_fault link =
     option_or (front_fault link)
     (option_or (path_fault (path_pairs link))
     (option_or (query_fault (length (path_pairs link)) (query_parts_of link))
     (twins_fault (length (path_pairs link)) (query_parts_of link))))
 
--- The first fault of a link: of its parts, or of its elements together.
-abbrev pub reading_fault : List ℕ → Option LinkReadError
-reading_fault link = option_or (parts_fault link) (together_fault (link_elements link))
+-- The elements of a link without a fault.
+abbrev pub link_elements : List ℕ → List Element
+link_elements link =
+    map decoded_element (path_pairs link)
+    ++ map (λ part. decoded_element (part_element part)) (query_parts_of link)
 
 -- When each error is returned: it is the first fault, or out of memory where there is none.
 abbrev pub IsRefusedReading : List ℕ → LinkReadError → Type 0

@@ -7,7 +7,7 @@ ghost use Rattle.gs1.specs.Elements.{Element as SpecElement, element_of, element
 ghost use Rattle.gs1.specs.Elements.{written_elements};
 ghost use Rattle.gs1.specs.Values.{text_error};
 ghost use Rattle.gs1_base.specs.Domains.{is_domain_character, is_domain};
-ghost use Rattle.gs1_links.specs.Links.{domain_fault, text_length_fault, together_fault};
+ghost use Rattle.gs1_links.specs.Links.{domain_fault, text_length_fault};
 ghost use Rattle.gs1_links.specs.Links.{link_error, IsRefusedLink, link_of, linked, path_text, query_text};
 ghost use Rattle.gs1_links.specs.Links.{path_elements, query_elements, primary_key, element_with, is_attribute};
 ghost use Rattle.gs1_links.specs.LinkReader.{ReadsLink};
@@ -15,7 +15,7 @@ ghost use Rattle.gs1_links.specs.LinkReader.{ReadsLink};
 use crate::link_error::LinkError;
 use crate::link_rules::{check_elements, element_with, is_attribute, primary_key, qualifier_order};
 use gs1::strings::{Element, element_of};
-use gs1::together::{LONGEST_TEXT, check_all};
+use gs1::together::LONGEST_TEXT;
 use gs1::values::check_text;
 use gs1_base::cuts::{behind, first_of};
 use gs1_base::domain::is_domain;
@@ -40,9 +40,8 @@ use std::alloc::{AllocError, Global};
 /// if the domain is none. `NoKey` if no element is a primary key. Else the fault of the first
 /// element that has one: `WrongQualifier` if it qualifies keys, but not the key of this link, or
 /// not beside another qualifier; `SecondKey` if it is a primary key with another one after it;
-/// `RepeatedElement` if its identifier stands once more after it. Else `Together` with the error of
-/// `check_together` if the elements may not stand together. `OutOfMemory` if there is no fault and
-/// an allocation failed.
+/// `RepeatedElement` if its identifier stands once more after it. `OutOfMemory` if there is no
+/// fault and an allocation failed.
 pub fn digital_link(alloc: Global, text: &str, domain: &str) -> Result<Vec<u8>, LinkError>
     ensures written { IfOk result (λ link. link.items
         ≡ link_of domain.now (written_elements text.now)) }
@@ -68,8 +67,7 @@ fn check_link(text: &[u8], domain: &[u8]) -> Result<(), LinkError>
     check_length(text)?;
     check_values(text)?;
     check_domain(domain)?;
-    check_elements(text)?;
-    check_together(text)
+    check_elements(text)
 }
 
 /// Checks the length of a text.
@@ -103,17 +101,6 @@ fn check_domain(domain: &[u8]) -> Result<(), LinkError>
         return Err(LinkError::WrongDomain);
     }
     Ok(())
-}
-
-/// Checks that the elements of a text may stand together.
-#[tactic(auto, unfolding(crate::specs::Links::together_fault))]
-fn check_together(text: &[u8]) -> Result<(), LinkError>
-    ensures { result_err result ≡ together_fault (written_elements text.now) }
-{
-    match check_all(behind(text, 0)) {
-        Ok(()) => Ok(()),
-        Err(error) => Err(LinkError::Together(error)),
-    }
 }
 
 /// Returns the link of the elements of a text.

@@ -17,7 +17,6 @@ ghost use Rattle.gs1_links.specs.LinkFaults.{reading_fault, IsRefusedReading};
 use crate::link_error::LinkReadError;
 use crate::link_parts::{cut_at, cut_link, next_pair};
 use crate::link_rules::{is_attribute_number, order_of};
-use crate::link_together::{check_together, part_element, query_left};
 use crate::link_values::{check_written, decoded};
 use gs1::strings::Element;
 use gs1::values::number_of;
@@ -48,11 +47,10 @@ pub struct LinkElement<'a> {
 /// `WrongCharacter` (the first byte that no path and no query has, such as the `#` of a fragment);
 /// `WrongDomain`; `NoKey` if no segment is the identifier of a primary key with an odd number of
 /// segments after it; the fault of the first element that has one; `RepeatedElement` for the first
-/// element of the query whose identifier stands there once more; `Together` with the error of
-/// `check_together` if the elements may not stand together. An element is checked in this order:
-/// `NoEqualsSign` (in the query), `WrongEscape`, `ValueTooLong` (over 90 characters), `Elements`
-/// with the error of `checked_element_string`, `WrongQualifier` (in the path) and `WrongAttribute`
-/// (in the query). `OutOfMemory` if there is no fault and an allocation failed.
+/// element of the query whose identifier stands there once more. An element is checked in this
+/// order: `NoEqualsSign` (in the query), `WrongEscape`, `ValueTooLong` (over 90 characters),
+/// `Elements` with the error of `checked_element_string`, `WrongQualifier` (in the path) and
+/// `WrongAttribute` (in the query). `OutOfMemory` if there is no fault and an allocation failed.
 pub fn elements_of_link<'a>(
     alloc: Global,
     link: &'a [u8],
@@ -67,7 +65,6 @@ pub fn elements_of_link<'a>(
     let query = query_left(parts.query);
     check_query(count, query)?;
     check_twins(count, query)?;
-    check_together(parts)?;
     let mut elements = Vec::new(alloc);
     push_path(alloc, &mut elements, parts.path)?;
     push_query(alloc, &mut elements, query)?;
@@ -147,6 +144,30 @@ fn check_path(path: &[u8]) -> Result<usize, LinkReadError>
     };
     check_written(0, key.identifier, key.text)?;
     check_qualifiers(number_of(key.identifier), key.rest)
+}
+
+/// Returns the query, if it is not empty.
+fn query_left<'a>(query: &'a [u8]) -> Option<&'a [u8]>
+    ensures parts { parts_left is_ampersand (option_map (λ t. t.now) result)
+        ≡ query_parts query.now }
+    ensures size { option_map_or (λ t. length t.now + 1) result 0 ≤ length query.now + 1 }
+{
+    if query.is_empty() {
+        return None;
+    }
+    Some(query)
+}
+
+/// Returns the element of a part of a query, its value escaped.
+fn part_element<'a>(part: &'a [u8]) -> Element<'a>
+    ensures { part_element part.now
+        ≡ record { identifier = result.identifier.now; value = result.value.now } }
+{
+    let end = first_of(part, b'=');
+    Element {
+        identifier: &part[..end],
+        value: behind(part, end),
+    }
 }
 
 /// Checks that a part of a query has an equals sign.

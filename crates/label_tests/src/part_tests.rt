@@ -172,8 +172,7 @@ static DETAILS: [(&[&str], &[u8], &str); 9] = [
     (
         &["-c", "gs1"],
         b"(01)09506000134352(10)ABC",
-        "version 1, level M, mask 3, segments numeric 18 alphanumeric 3, 21 modules\n\
-            as a link: version 3",
+        "version 1, level M, mask 3, segments numeric 18 alphanumeric 3, 21 modules",
     ),
     (
         &["-c", "micro", "-lL"],

@@ -9,8 +9,7 @@ use Rattle.label_words.specs.declared.command.Label.{Label as Drawn}
 use Rattle.label_words.specs.declared.words.Misuse.{Misuse}
 use Rattle.label_words.specs.declared.command.Portion.{Portion as Shown}
 use Rattle.label_words.specs.declared.command.Portion.TheVariants.{Whole, Lines, Files, Split, Parts}
-use Rattle.label_words.specs.Commands.{Wishes, Label, Command}
-use Rattle.label_words.specs.Portions.{Portion, whole, lines, files, split, parts}
+use Rattle.label_words.specs.Commands.{Wishes, Portion, whole, lines, files, split, parts, Label, Command}
 use Rattle.label_words.specs.Commands.{asks_help, asks_version, asks_label}
 use Rattle.label_words.specs.Numberings.{numbering_of}
 use Rattle.label_words.specs.Said.{wrong_of}
@@ -34,7 +33,6 @@ wishes_of s = record {
   dpi = s.dpi;
   inverted = s.inverted;
   title = option_copied s.title;
-  caption = option_copied s.caption;
   at = s.at;
   copies = s.copies;
   compressed = s.compressed;
@@ -79,7 +77,6 @@ label_of drawn = record {
   turn = drawn.turn;
   details = drawn.details;
   dpi = drawn.dpi;
-  hri = drawn.hri;
 }
 
 abbrev pub label_outcome : Result Drawn Misuse → Result Label Wrong

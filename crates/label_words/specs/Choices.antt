@@ -71,13 +71,6 @@ abbrev pub is_link : ContentOf → Bool
 is_link Link = true
 is_link _ = false
 
--- Whether it is of GS1 elements: them, or the link of them.
-abbrev pub has_elements : ContentOf → Bool
-has_elements Gs1 = true
-has_elements UncheckedGs1 = true
-has_elements Link = true
-has_elements _ = false
-
 -- GS1 elements, which the table of identifiers checks, or does not.
 abbrev pub gs1_content : (checks : Bool) → ContentOf
 gs1_content true = Gs1

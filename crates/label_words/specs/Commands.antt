@@ -20,15 +20,17 @@ use Rattle.label_words.specs.declared.words.Name.TheVariants.{ModuleMm, Dpi, Inv
 use Rattle.label_words.specs.declared.words.Name.TheVariants.{Output, AllowEmpty, Help, Version, Lines}
 use Rattle.label_words.specs.declared.words.Name.TheVariants.{First, KeepGoing, KeepNewline}
 use Rattle.label_words.specs.declared.command.{Details.Details, Turn.Turn, Turn.TheVariants.Upright}
-use Rattle.label_words.specs.declared.words.Name.TheVariants.{Copies, Compressed, Feed, Cut, Rotate}
-use Rattle.label_words.specs.declared.words.Name.TheVariants.{Dark, Light, AnyColors, Domain, Hri}
+use Rattle.label_words.specs.declared.command.Details.TheVariants.{Nothing, Beside, Alone}
+use Rattle.label_words.specs.declared.words.Name.TheVariants.{Copies, Compressed, Feed, Cut, Split, Rotate}
+use Rattle.label_words.specs.declared.words.Name.TheVariants.{Verbose, Info, Dark, Light, AnyColors, Domain}
 use Rattle.label_words.specs.Choices.{level_named, content_named, turn_named, format_named, format_of_ending}
-use Rattle.label_words.specs.Choices.{is_link, is_micro, has_dots, has_elements, is_png, is_terminal}
+use Rattle.label_words.specs.Choices.{is_link, is_micro, has_dots, is_png, is_pdf, can_be_split, is_terminal}
 use Rattle.gs1_base.specs.Domains.{is_domain}
-use Rattle.label_words.specs.Portions.{Portion, portion_asked, terminal_asked, details_asked}
-use Rattle.picture_settings.specs.Formats.{has_caption}
-use Rattle.picture_settings.specs.OptionWords.{word_number, word_hundredths, word_position}
+use Rattle.label_words.specs.Names.{Numbering, numbering_in}
+use Rattle.picture_settings.specs.Formats.{can_be_shown, is_stream}
+use Rattle.picture_settings.specs.OptionWords.{word_number, word_hundredths, word_position, around_first}
 use Rattle.label_words.specs.Words.{Values, value_of, file_of, is_given, Wrong, invalid}
+use Rattle.label_words.specs.Words.{needs_stream, needs_file}
 
 infixl 20 ◌>>=◌
 -- One thing after another, up to the first that is wrong.
@@ -75,6 +77,14 @@ domain_asked content values =
 
 abbrev pub turn_asked : Values → Result Turn Wrong
 turn_asked = asked_or turn_named Upright Rotate
+
+-- The details alone are written to standard output. Beside labels they are written to standard
+-- error, where lines that are left out are reported.
+abbrev pub details_asked : Values → Result Details Wrong
+details_asked values =
+    if is_given values Info then (if is_some (file_of values Output) then Err (invalid Info) else Ok Alone)
+    else (if not (is_given values Verbose) then Ok Nothing
+    else (if is_given values Lines then Err (invalid Verbose) else Ok Beside))
 
 -- The format: that of its name, or of the ending of the output's name; else text for a terminal if
 -- the output is one, and SVG if not.
@@ -123,7 +133,6 @@ pub record Wishes : Type 0 where
   pub dpi : Option ℕ
   pub inverted : Bool
   pub title : Option (List ℕ)
-  pub caption : Option (List ℕ)
   pub at : Option (ℕ × ℕ)
   pub copies : Option ℕ
   pub compressed : Bool
@@ -151,7 +160,6 @@ settings_asked values = do
     dpi = dpi;
     inverted = is_given values Inverted;
     title = value_of values Title;
-    caption = None;
     at = at;
     copies = copies;
     compressed = is_given values Compressed;
@@ -225,6 +233,66 @@ micro_asked content level values =
     else (if is_given values MinVersion then Err (invalid MinVersion)
     else (if is_given values MaxVersion then Err (invalid MaxVersion) else Ok tt))))
 
+-- What of the input a label shows: one shows all of it, or each shows a line, or as many as it takes
+-- show all of it together. There is one output for all, or a file of its own for each.
+pub data Portion : Type 0 where
+  whole : Portion
+  lines : Portion
+  files : Numbering → Portion
+  split : Portion
+  parts : Numbering → Portion
+
+-- The name of the output, if it has a number in it.
+abbrev pub numbered_output : Values → Option Numbering
+numbered_output values = option_and_then numbering_in (value_of values Output)
+
+-- Whether the name of the output has a percent sign.
+abbrev pub has_percent : Values → Bool
+has_percent values = is_some (option_and_then (around_first 37) (value_of values Output))
+
+-- Whether labels can follow each other: the details of symbols always can.
+abbrev pub can_follow : FormatOf → Values → Bool
+can_follow format values = is_stream format || is_given values Info
+
+-- Whether the labels of lines can: they can be the pages of a document, too.
+abbrev pub lines_can_follow : FormatOf → Values → Bool
+lines_can_follow format values = is_pdf format || can_follow format values
+
+-- The pictures follow each other, if they can. A percent sign is that of a number only.
+abbrev pub stream_asked : Portion → (can_follow : Bool) → Values → Result Portion Wrong
+stream_asked portion can_follow values =
+    if has_percent values then Err (invalid Output)
+    else (if can_follow then Ok portion else Err needs_stream)
+
+-- Symbols that carry a message together have the level and the greatest version that are asked for.
+-- Each has a file if the output's name has a number; else their pictures follow each other.
+abbrev pub split_asked : ContentOf → FormatOf → Values → Result Portion Wrong
+split_asked content format values =
+    if is_given values Lines || (is_given values Strongest || is_given values MinVersion) then Err (invalid Split)
+    else (if not (can_be_split content) then Err (invalid Split)
+    else elim (numbered_output values) [ Some name ↦ Ok (parts name) | None ↦ stream_asked split (can_follow format values) values ])
+
+-- Lines are those of an input, and not of a text. Each has a file if the output's name has a number;
+-- else their pictures follow each other.
+abbrev pub lines_asked : FormatOf → Values → Result Portion Wrong
+lines_asked format values =
+    if is_given values Text then Err (invalid Lines)
+    else elim (numbered_output values)
+    [ Some name ↦ Ok (files name) | None ↦ stream_asked lines (lines_can_follow format values) values ]
+
+-- One label, the name of whose output has no number, unless more are asked for.
+abbrev pub portion_asked : ContentOf → FormatOf → Values → Result Portion Wrong
+portion_asked content format values =
+    if is_given values Split then split_asked content format values
+    else (if is_given values Lines then lines_asked format values
+    else (if is_some (numbered_output values) then Err (invalid Output) else Ok whole))
+
+-- No bytes but a text are written on a terminal, unless the words name the output.
+abbrev pub terminal_asked : Bool → FormatOf → Values → Result (Unit {0}) Wrong
+terminal_asked on_terminal format values =
+    if on_terminal && (not (can_be_shown format) && (not (is_given values Output) && not (is_given values Info)))
+    then Err needs_file else Ok tt
+
 -- The number of the first line.
 abbrev pub first_in : Values → List ℕ → Option ℕ
 first_in values word =
@@ -241,13 +309,6 @@ abbrev pub keeps_going_asked : Values → Result Bool Wrong
 keeps_going_asked values =
     if is_given values KeepGoing && not (is_given values Lines) then Err (invalid KeepGoing)
     else Ok (is_given values KeepGoing)
-
--- Whether the elements are written below the symbol: those of GS1 elements or of a link, in a format
--- that has a text there.
-abbrev pub hri_asked : ContentOf → FormatOf → Values → Result Bool Wrong
-hri_asked content format values =
-    if is_given values Hri && not (has_elements content && has_caption format) then Err (invalid Hri)
-    else Ok (is_given values Hri)
 
 -- Whether a text of a content has no byte order mark and no newline at its end. Bytes are drawn as
 -- they are.
@@ -271,8 +332,7 @@ colored_asked on_terminal format values =
 -- whether an input with no bytes is drawn, whether a text is trimmed, what of the input the label
 -- shows, the number of the first line, whether a line that has no label is left out, how errors
 -- call the input and the output, whether a text for a terminal has colors of its own, by how much
--- the symbol is turned, whether its details are written, the dots of an inch, and whether the
--- elements are written below the symbol.
+-- the symbol is turned, whether its details are written, and the dots of an inch.
 pub record Label : Type 0 where
   pub content : ContentOf
   pub domain : List ℕ
@@ -290,7 +350,6 @@ pub record Label : Type 0 where
   pub turn : Turn
   pub details : Details
   pub dpi : Option ℕ
-  pub hri : Bool
 
 abbrev pub label_asked : Bool → Values → Result Label Wrong
 label_asked on_terminal values = do
@@ -305,7 +364,6 @@ label_asked on_terminal values = do
   keeps_going ← keeps_going_asked values
   turn ← turn_asked values
   details ← details_asked values
-  hri ← hri_asked content format values
   given ← settings_asked values
   wishes ← in_dots format given
   Ok (record {
@@ -325,7 +383,6 @@ label_asked on_terminal values = do
     turn = turn;
     details = details;
     dpi = given.dpi;
-    hri = hri;
   })
 
 -- What the words ask for.

@@ -5,7 +5,6 @@ pub mod Help
 pub mod Misuses
 pub mod Names
 pub mod Numberings
-pub mod Portions
 pub mod Said
 pub mod Settings
 pub mod Words

@@ -12,7 +12,7 @@ use Rattle.label_words.specs.declared.words.Name.TheVariants.{ModuleMm, Dpi, Inv
 use Rattle.label_words.specs.declared.words.Name.TheVariants.{Output, AllowEmpty, Help, Version, Lines}
 use Rattle.label_words.specs.declared.words.Name.TheVariants.{First, KeepGoing, KeepNewline}
 use Rattle.label_words.specs.declared.words.Name.TheVariants.{Copies, Compressed, Feed, Cut, Split, Rotate}
-use Rattle.label_words.specs.declared.words.Name.TheVariants.{Verbose, Info, Dark, Light, AnyColors, Domain, Hri}
+use Rattle.label_words.specs.declared.words.Name.TheVariants.{Verbose, Info, Dark, Light, AnyColors, Domain}
 
 -- What a table has for a word.
 abbrev pub among : {A : Type 0} → List (List ℕ × A) → List ℕ → Option A
@@ -63,7 +63,6 @@ picture_names =
     ∷ (codes "--dark", Dark)
     ∷ (codes "--light", Light)
     ∷ (codes "--any-colors", AnyColors)
-    ∷ (codes "--hri", Hri)
     ∷ []
 
 unfoldable pub picture_named : List ℕ → Option Name
@@ -110,7 +109,6 @@ option_number Dark = 31
 option_number Light = 32
 option_number AnyColors = 33
 option_number Domain = 34
-option_number Hri = 35
 
 -- Whether the next word is the value of the option.
 abbrev pub takes_value : Name → Bool
@@ -126,7 +124,6 @@ takes_value Split = false
 takes_value Verbose = false
 takes_value Info = false
 takes_value AnyColors = false
-takes_value Hri = false
 takes_value Help = false
 takes_value Version = false
 takes_value _ = true

@@ -17,7 +17,7 @@ ghost use Rattle.label_words.specs.Asked.{outcome, text_outcome, label_outcome, 
 use crate::choices::{content_named, format_named, format_of_ending, level_named, turn_named};
 use crate::names::Numbering;
 use crate::portion::{check_terminal, details_of, portion_of};
-use crate::settings::{hri_of, in_dots, settings_of, zoned};
+use crate::settings::{in_dots, settings_of, zoned};
 use crate::words::{Misuse, Name, Values};
 use gs1_base::domain::is_domain;
 use picture_settings::format::Format;
@@ -116,8 +116,6 @@ pub struct Label<'a> {
     pub details: Details,
     /// The dots of an inch, if they are given.
     pub dpi: Option<usize>,
-    /// Whether the elements are written below the symbol.
-    pub hri: bool,
 }
 
 /// The domain of a link for which the words give none, the resolver of GS1.
@@ -339,7 +337,6 @@ fn label_of<'a>(values: &Values<'a>, on_terminal: bool) -> Result<Label<'a>, Mis
     let keeps_going = keeps_going_of(values)?;
     let turn = turn_of(values)?;
     let details = details_of(values)?;
-    let hri = hri_of(values, content, format)?;
     let settings = settings_of(values)?;
     Ok(Label {
         content,
@@ -358,7 +355,6 @@ fn label_of<'a>(values: &Values<'a>, on_terminal: bool) -> Result<Label<'a>, Mis
         turn,
         details,
         dpi: settings.dpi,
-        hri,
     })
 }
 

@@ -55,8 +55,6 @@ Picture:
       --dark COLOR      #rrggbb or one of CSS's sixteen names (svg, png, eps, pdf)
       --light COLOR     the same, or transparent; default: black on white
       --any-colors      take colors that readers may not tell apart
-      --hri             write the elements below it, as (01)09506000134352(10)ABC (svg,
-                        eps, zpl, terminal; with -c gs1, gs1-unchecked, link)
       --at X,Y          position on the label in dots, 0 to 18000 (zpl)
       --copies N        how often the printer prints it, 1 to 99999999 (zpl)
       --compressed      write it in compressed fields (zpl)
@@ -64,8 +62,7 @@ Picture:
       --cut             cut the paper after it (escpos)
 
       --info            print version, level, mask, segments and size of the symbol on
-                        standard output, and draw nothing; of GS1 elements also the
-                        version of their link, and of a link that of its elements
+                        standard output, and draw nothing
   -v, --verbose         draw, and print them on standard error
   -h, --help            show this text
   -V, --version         show the version

@@ -45,7 +45,6 @@ pub enum Name {
     Light,
     AnyColors,
     Domain,
-    Hri,
 }
 
 /// Returns the option that a word names. After `--` come texts.
@@ -99,7 +98,6 @@ fn picture_named(word: &str) -> Option<Name>
         "--dark" => Some(Name::Dark),
         "--light" => Some(Name::Light),
         "--any-colors" => Some(Name::AnyColors),
-        "--hri" => Some(Name::Hri),
         _ => None,
     }
 }
@@ -112,7 +110,7 @@ fn takes_value(name: Name) -> bool
         Name::Strongest | Name::Inverted | Name::Lines | Name::AllowEmpty => false,
         Name::KeepGoing | Name::KeepNewline | Name::Help | Name::Version => false,
         Name::Compressed | Name::Cut | Name::Split => false,
-        Name::Verbose | Name::Info | Name::AnyColors | Name::Hri => false,
+        Name::Verbose | Name::Info | Name::AnyColors => false,
         _ => true,
     }
 }
@@ -128,7 +126,7 @@ fn is_text(name: Name) -> bool
 }
 
 /// The number of options.
-pub const COUNT: usize = 36;
+pub const COUNT: usize = 35;
 
 /// What is wrong with the words.
 #[derive(Clone, Copy, Debug, PartialEq, Eq)]

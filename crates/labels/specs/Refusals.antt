@@ -4,7 +4,7 @@ use Rattle.std.specs.Prelude.{ℕ, ◌+◌, nat_lt, List, [], ◌∷◌, codes, 
 use Rattle.gs1_links.specs.declared.link_error.LinkError.{LinkError}
 use Rattle.gs1_links.specs.declared.link_error.LinkError.TheVariants.{TextTooLong, Elements, WrongDomain}
 use Rattle.gs1_links.specs.declared.link_error.LinkError.TheVariants.{NoKey, SecondKey, WrongQualifier}
-use Rattle.gs1_links.specs.declared.link_error.LinkError.TheVariants.{RepeatedElement, Together}
+use Rattle.gs1_links.specs.declared.link_error.LinkError.TheVariants.{RepeatedElement}
 use Rattle.gs1_links.specs.declared.link_error.LinkError.TheVariants.{OutOfMemory as NoMemory}
 use Rattle.gs1.specs.declared.reason.Reason.{Reason}
 use Rattle.gs1.specs.declared.reason.Reason.TheVariants.{TooShort, TooLong, WrongCharacter}
@@ -20,9 +20,6 @@ use Rattle.gs1.specs.declared.reason.Reason.TheVariants.{WrongIban, WrongImporte
 use Rattle.gs1.specs.declared.refusal.CheckError.{CheckError}
 use Rattle.gs1.specs.declared.refusal.CheckError.TheVariants.{NoElements, InvalidIdentifier}
 use Rattle.gs1.specs.declared.refusal.CheckError.TheVariants.{UnknownIdentifier, WrongValue, OutOfMemory}
-use Rattle.gs1.specs.declared.together.TogetherError.{TogetherError}
-use Rattle.gs1.specs.declared.together.TogetherError.TheVariants.{MissingElement, ConflictingElement}
-use Rattle.gs1.specs.declared.together.TogetherError.TheVariants.{TextTooLong as LongText}
 use Rattle.labels.specs.Pieces.{line_of, counted, digit_text, unless_zero}
 
 -- What is wrong with a value.
@@ -89,17 +86,6 @@ refusal_line name (WrongValue element identifier place reason) =
     ∷ digit_text (right_digit reason) ∷ [])
 refusal_line name OutOfMemory = line_of name (codes "out of memory" ∷ [])
 
--- The line of elements that may not stand together. Example: `(37), element 2: an element that has
--- to stand beside it is missing`.
-abbrev pub apart_line : List ℕ → TogetherError → List ℕ
-apart_line name LongText = line_of name (codes "more than 11815 bytes of elements" ∷ [])
-apart_line name (MissingElement element identifier) =
-    at_element name element identifier (codes ": an element that has to stand beside it is missing")
-apart_line name (ConflictingElement element identifier other) =
-    line_of name (opening_text identifier ∷ decimal identifier ∷ codes "), element "
-    ∷ decimal (counted element) ∷ codes ": element " ∷ decimal (counted other)
-    ∷ codes " may not stand beside it" ∷ [])
-
 -- The line of elements of which there is no link.
 unfoldable pub no_link_line : List ℕ → LinkError → List ℕ
 no_link_line name TextTooLong = line_of name (codes "more than 11815 bytes of elements" ∷ [])
@@ -115,5 +101,4 @@ no_link_line name (WrongQualifier element identifier) =
     at_element name element identifier (codes ": no qualifier of the link's key, or not beside another one")
 no_link_line name (RepeatedElement element identifier) =
     at_element name element identifier (codes ": the identifier stands once more after it")
-no_link_line name (Together error) = apart_line name error
 no_link_line name NoMemory = line_of name (codes "out of memory" ∷ [])

@@ -3,13 +3,12 @@
 ghost use Rattle.std.specs.Prelude.{◌≡◌, IsFalse};
 ghost use Rattle.gs1_links.specs.declared.link_error.LinkError.TheVariants.{SecondKey};
 ghost use Rattle.gs1.specs.declared.refusal.CheckError.TheVariants.{InvalidIdentifier, WrongValue};
-ghost use Rattle.gs1.specs.declared.together.TogetherError.TheVariants.{ConflictingElement};
 ghost use Rattle.programs.specs.Devices.{output, Writes};
 ghost use Rattle.labels.specs.Refusals.{refusal_line, opening_text, reason_text, right_digit};
-ghost use Rattle.labels.specs.Refusals.{at_element, no_link_line, apart_line};
+ghost use Rattle.labels.specs.Refusals.{at_element, no_link_line};
 
 use crate::pieces::{NO_ELEMENTS, WOULD_BE, digit_text, unless_zero};
-use gs1::{CheckError, Reason, TogetherError};
+use gs1::{CheckError, Reason};
 use gs1_links::LinkError;
 use itoa::Buffer;
 use programs::{Fault, Sink, write_line};
@@ -20,11 +19,6 @@ const UNKNOWN: &str = ": unknown identifier";
 const NO_QUALIFIER: &str = ": no qualifier of the link's key, or not beside another one";
 
 const REPEATED: &str = ": the identifier stands once more after it";
-
-const MISSING: &str = ": an element that has to stand beside it is missing";
-
-/// What is wrong with a text of elements.
-const LONG_TEXT: &str = "more than 11815 bytes of elements";
 
 /// What is wrong with a domain, or with all elements.
 const WRONG_DOMAIN: &str = "the domain of a link is a host name, with a port or without";
@@ -103,7 +97,7 @@ pub fn write_no_link<E: Sink>(errors: &mut E, name: &str, error: LinkError) -> R
         (no_link_line name.now error) }
 {
     match error {
-        LinkError::TextTooLong => write_line(errors, name, &[LONG_TEXT]),
+        LinkError::TextTooLong => write_line(errors, name, &["more than 11815 bytes of elements"]),
         LinkError::Elements(error) => write_refusal(errors, name, error),
         LinkError::WrongDomain => write_line(errors, name, &[WRONG_DOMAIN]),
         LinkError::NoKey => write_line(errors, name, &[NO_KEY]),
@@ -116,57 +110,8 @@ pub fn write_no_link<E: Sink>(errors: &mut E, name: &str, error: LinkError) -> R
             element,
             identifier,
         } => write_element_line(errors, name, (element, identifier), REPEATED),
-        LinkError::Together(error) => write_apart(errors, name, error),
         LinkError::OutOfMemory => write_line(errors, name, &["out of memory"]),
     }
-}
-
-/// Writes the line of elements that may not stand together.
-fn write_apart<E: Sink>(errors: &mut E, name: &str, error: TogetherError) -> Result<(), Fault>
-    requires { IsFalse (E.state errors.old).failed }
-    ensures { Writes (output (E.state errors.old) (E.state errors.new))
-        (apart_line name.now error) }
-{
-    match error {
-        TogetherError::TextTooLong => write_line(errors, name, &[LONG_TEXT]),
-        TogetherError::MissingElement {
-            element,
-            identifier,
-        } => write_element_line(errors, name, (element, identifier), MISSING),
-        TogetherError::ConflictingElement {
-            element,
-            identifier,
-            other,
-        } => write_conflict(errors, name, (element, identifier), other),
-    }
-}
-
-/// Writes the line of an element beside which another one may not stand.
-fn write_conflict<E: Sink>(
-    errors: &mut E,
-    name: &str,
-    at: (usize, usize),
-    other: usize,
-) -> Result<(), Fault>
-    requires { IsFalse (E.state errors.old).failed }
-    ensures { Writes (output (E.state errors.old) (E.state errors.new))
-        (apart_line name.now (ConflictingElement at.0 at.1 other)) }
-{
-    let (element, identifier) = at;
-    let (mut digits, mut number, mut last) = (Buffer::new(), Buffer::new(), Buffer::new());
-    write_line(
-        errors,
-        name,
-        &[
-            opening_text(identifier),
-            digits.format(identifier),
-            "), element ",
-            number.format(element.saturating_add(1)),
-            ": element ",
-            last.format(other.saturating_add(1)),
-            " may not stand beside it",
-        ],
-    )
 }
 
 /// Writes the line of a key after which there is another.

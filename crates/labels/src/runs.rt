@@ -218,7 +218,6 @@ fn setting_option(setting: Setting) -> Name
         Setting::Dpi => Name::Dpi,
         Setting::Inverted => Name::Inverted,
         Setting::Title => Name::Title,
-        Setting::Caption => Name::Hri,
         Setting::At => Name::At,
         Setting::Copies => Name::Copies,
         Setting::Compressed => Name::Compressed,

@@ -16,7 +16,6 @@ pub record IsMadeOf (format : Format) (s : Settings) (options : DrawOptions) : T
   pub dpi_is : options.dpi ≡ s.dpi
   pub inverted_is : options.inverted ≡ s.inverted
   pub title_is : option_copied options.title ≡ option_copied s.title
-  pub caption_is : option_copied options.caption ≡ option_copied s.caption
   pub at_is : options.at ≡ unwrap_or s.at (0, 0)
   pub copies_is : options.copies ≡ s.copies
   pub compressed_is : options.compressed ≡ s.compressed

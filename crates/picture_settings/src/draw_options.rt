@@ -1,13 +1,11 @@
 //! The options of a picture in a format, made of settings and tested once.
 ghost use Rattle.std.specs.Prelude.{◌≡◌, ◌≤◌, ◌&&◌};
 ghost use Rattle.std.specs.Prelude.{true, false, Some, None, OnOk, OnErr, IfErr};
-ghost use Rattle.std.specs.List.{list_all};
 ghost use Rattle.std.specs.Option.{ForSome, option_copied};
 ghost use Rattle.picture_settings.specs.Settings.{allows, allows_title, allows_position};
-ghost use Rattle.picture_settings.specs.Settings.{allows_caption, is_printed};
 ghost use Rattle.picture_settings.specs.Settings.{first_failed, has_room, printer_tests};
 ghost use Rattle.picture_settings.specs.Settings.{allows_colors, color_tests};
-ghost use Rattle.picture_settings.specs.Formats.{has_caption, has_copies, has_feed, has_title};
+ghost use Rattle.picture_settings.specs.Formats.{has_copies, has_feed, has_title};
 ghost use Rattle.picture_settings.specs.declared.bounds.TheConstants.{MIN_SCALE, MAX_SCALE};
 ghost use Rattle.picture_settings.specs.declared.bounds.TheConstants.{MAX_QUIET, MIN_MODULE_MM};
 ghost use Rattle.picture_settings.specs.declared.bounds.TheConstants.{MAX_MODULE_MM, MIN_DPI};
@@ -42,8 +40,6 @@ pub struct DrawOptions<'a> {
     pub inverted: bool,
     /// The title.
     pub title: Option<&'a str>,
-    /// The text below the picture.
-    pub caption: Option<&'a str>,
     /// The position of the upper left corner in dots.
     pub at: (usize, usize),
     /// The number of labels that the printer prints.
@@ -94,7 +90,9 @@ impl<'a> DrawOptions<'a> {
         let (scale, quiet) = (settings.scale, settings.quiet);
         let module_mm = settings.module_mm;
         let dpi = settings.dpi;
-        let (inverted, title, at) = (settings.inverted, settings.title, settings.at);
+        let inverted = settings.inverted;
+        let title = settings.title;
+        let at = settings.at;
         let lone_dpi = format.has_dots() && module_mm.is_none();
         require(allows(true, MIN_SCALE, MAX_SCALE, scale), Setting::Scale)?;
         require(allows(true, 0, MAX_QUIET, quiet), Setting::Quiet)?;
@@ -104,7 +102,6 @@ impl<'a> DrawOptions<'a> {
         require(allows(lone_dpi, MIN_DPI, MAX_DPI, dpi), Setting::Dpi)?;
         require(!inverted || format.can_be_inverted(), Setting::Inverted)?;
         require(allows_title(format, title), Setting::Title)?;
-        require(allows_caption(format, settings.caption), Setting::Caption)?;
         require(allows_position(format.has_position(), at), Setting::At)?;
         require_printable(format, settings)?;
         require_colored(format, settings)?;
@@ -116,7 +113,6 @@ impl<'a> DrawOptions<'a> {
             dpi,
             inverted,
             title,
-            caption: settings.caption,
             at: at.unwrap_or((0, 0)),
             copies: settings.copies,
             compressed: settings.compressed,
@@ -218,24 +214,6 @@ fn has_room(format: Format, title: &str) -> bool
         Format::Pdf => title.len() <= MAX_PDF_TITLE,
         _ => true,
     }
-}
-
-/// Whether a text below the picture may be given: the format has one, there is a character, and
-/// all characters are printed.
-fn allows_caption(format: Format, caption: Option<&str>) -> bool
-    ensures { result ≡ allows_caption (has_caption format) (option_copied caption.entry) }
-{
-    match caption {
-        Some(text) => format.has_caption() && !text.is_empty() && all_printed(text.as_bytes()),
-        None => true,
-    }
-}
-
-/// Whether all characters are printed.
-fn all_printed(text: &[u8]) -> bool
-    ensures { result ≡ list_all is_printed text.now }
-{
-    text.iter().all(|c| matches!(*c, b' '..=b'~'))
 }
 
 /// Whether a position may be given: it is within its bounds, and the format has one.

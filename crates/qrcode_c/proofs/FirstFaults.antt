@@ -14,13 +14,11 @@ use Rattle.gs1_links.specs.declared.link_error.LinkError.TheVariants as link
 use Rattle.gs1.specs.declared.reason.Reason.{Reason}
 use Rattle.gs1.specs.declared.reason.Reason.TheVariants as reason
 use Rattle.gs1.specs.declared.refusal.CheckError.{CheckError}
-use Rattle.gs1.specs.declared.together.TogetherError.{TogetherError}
-use Rattle.gs1.specs.declared.together.TogetherError.TheVariants as together
 use Rattle.gs1.specs.declared.refusal.CheckError.TheVariants as table
 use Rattle.qrcode_core.specs.Options.{HasVersions}
 use Rattle.qrcode_core.specs.declared.options.SymbolOptions.{SymbolOptions}
 use Rattle.qrcode_c.specs.Asking.{Means}
-use Rattle.qrcode_c.specs.Faults.{refusal_for, value_refusal, table_refusal, together_refusal, link_refusal, IsFaultRefusal, link_place_of}
+use Rattle.qrcode_c.specs.Faults.{refusal_for, value_refusal, table_refusal, link_refusal, IsFaultRefusal, link_place_of}
 use Rattle.qrcode_c.specs.Linked.{link_fault, HasLink, HoldsLink, IsLinkedRefusal, IsLinkTextRefusal, IsNoLinkRefusal}
 use Rattle.qrcode_c.specs.Written.{written_fault, IsWrittenRefusal}
 use Rattle.qrcode_c.specs.declared.options.Options.{Options}
@@ -91,11 +89,6 @@ early_of : (refusal : Refusal) → is_other refusal ≡ false → is_early refus
 early_of (call.DataTooLong) other = refl
 early_of refusal other = other
 
-together_early : (error : TogetherError) → is_early (together_refusal error) ≡ false
-together_early (together.TextTooLong) = refl
-together_early (together.MissingElement element identifier) = refl
-together_early (together.ConflictingElement element identifier other) = refl
-
 link_early : (error : LinkError) → is_early (link_refusal error) ≡ false
 link_early (link.TextTooLong) = refl
 link_early (link.Elements error) = early_of (table_refusal error) (table_other error)
@@ -104,7 +97,6 @@ link_early (link.NoKey) = refl
 link_early (link.SecondKey element) = refl
 link_early (link.WrongQualifier element identifier) = refl
 link_early (link.RepeatedElement element identifier) = refl
-link_early (link.Together error) = together_early error
 link_early (link.OutOfMemory) = refl
 
 mapped : {X : Type 0} (f : X → Refusal) (test : Refusal → Bool) (x : Option X) (refusal : Refusal) →
@@ -138,12 +130,6 @@ elements_fault text domain (table.WrongValue element identifier place why) refus
     told _ (value_refusal place why) (value_no_memory place why) (ap (option_map link_refusal) refused)
 elements_fault text domain (table.OutOfMemory) refused = absurd (no_memory text domain refused)
 
-together_fault_of : (text domain : List ℕ) (error : TogetherError) → link_error text domain ≡ Some (link.Together error) →
-    IsFaultRefusal (link_fault text domain) (together_refusal error)
-together_fault_of text domain (together.TextTooLong) refused = ap (option_map link_refusal) refused
-together_fault_of text domain (together.MissingElement element identifier) refused = ap (option_map link_refusal) refused
-together_fault_of text domain (together.ConflictingElement element identifier other) refused = ap (option_map link_refusal) refused
-
 pub no_link : (text domain : List ℕ) (error : LinkError) → IsRefusedLink text domain error → IsFaultRefusal (link_fault text domain) (link_refusal error)
 no_link text domain (link.TextTooLong) refused = ap (option_map link_refusal) refused
 no_link text domain (link.Elements error) refused = elements_fault text domain error refused
@@ -152,7 +138,6 @@ no_link text domain (link.NoKey) refused = ap (option_map link_refusal) refused
 no_link text domain (link.SecondKey element) refused = ap (option_map link_refusal) refused
 no_link text domain (link.WrongQualifier element identifier) refused = ap (option_map link_refusal) refused
 no_link text domain (link.RepeatedElement element identifier) refused = ap (option_map link_refusal) refused
-no_link text domain (link.Together error) refused = together_fault_of text domain error refused
 no_link text domain (link.OutOfMemory) refused = ap (option_map link_refusal) refused
 
 -- The error of a call that tells the first fault, behind the options.
@@ -217,7 +202,6 @@ link_place text domain (link.NoKey) found refused is = same_link_place (link_err
 link_place text domain (link.SecondKey element) found refused is = same_link_place (link_error text domain) _ found refused is
 link_place text domain (link.WrongQualifier element identifier) found refused is = same_link_place (link_error text domain) _ found refused is
 link_place text domain (link.RepeatedElement element identifier) found refused is = same_link_place (link_error text domain) _ found refused is
-link_place text domain (link.Together error) found refused is = same_link_place (link_error text domain) _ found refused is
 
 -- ---- A link in a buffer
 

@@ -9,8 +9,6 @@ use Rattle.gs1.specs.declared.reason.Reason.{Reason}
 use Rattle.gs1.specs.declared.reason.Reason.TheVariants as reason
 use Rattle.gs1.specs.declared.refusal.CheckError.{CheckError}
 use Rattle.gs1.specs.declared.refusal.CheckError.TheVariants as table
-use Rattle.gs1.specs.declared.together.TogetherError.{TogetherError}
-use Rattle.gs1.specs.declared.together.TogetherError.TheVariants as together
 use Rattle.qrcode_c.specs.declared.faults.ElementFault.{ElementFault}
 use Rattle.qrcode_c.specs.declared.refusal.Refusal.{Refusal}
 use Rattle.qrcode_c.specs.declared.refusal.Refusal.TheVariants.{DataTooLong, OutOfMemory}
@@ -21,7 +19,6 @@ use Rattle.qrcode_c.specs.declared.refusal.Refusal.TheVariants.{ValueTooLong, Wr
 use Rattle.qrcode_c.specs.declared.refusal.Refusal.TheVariants.{WrongCheckDigit, WrongValue}
 use Rattle.qrcode_c.specs.declared.refusal.Refusal.TheVariants.{WrongDomain, NoKey, SecondKey}
 use Rattle.qrcode_c.specs.declared.refusal.Refusal.TheVariants.{WrongQualifier, RepeatedElement}
-use Rattle.qrcode_c.specs.declared.refusal.Refusal.TheVariants.{MissingElement, ConflictingElement}
 
 -- ---- The errors
 
@@ -55,12 +52,6 @@ table_refusal (table.UnknownIdentifier element identifier) = UnknownIdentifier
 table_refusal (table.WrongValue element identifier place why) = value_refusal place why
 table_refusal (table.OutOfMemory) = OutOfMemory
 
--- The error that tells why elements may not stand together.
-abbrev pub together_refusal : TogetherError → Refusal
-together_refusal (together.TextTooLong) = DataTooLong
-together_refusal (together.MissingElement element identifier) = MissingElement
-together_refusal (together.ConflictingElement element identifier other) = ConflictingElement
-
 -- The error that tells why there is no link.
 abbrev pub link_refusal : LinkError → Refusal
 link_refusal (link.TextTooLong) = DataTooLong
@@ -70,7 +61,6 @@ link_refusal (link.NoKey) = NoKey
 link_refusal (link.SecondKey element) = SecondKey
 link_refusal (link.WrongQualifier element identifier) = WrongQualifier
 link_refusal (link.RepeatedElement element identifier) = RepeatedElement
-link_refusal (link.Together error) = together_refusal error
 link_refusal (link.OutOfMemory) = OutOfMemory
 
 -- When each error of a first fault is returned: out of memory only where there is none.
@@ -142,14 +132,6 @@ place_of (table.WrongValue element identifier place why) =
     }
 place_of other = nowhere
 
--- Where the element is that may not stand beside the others.
-abbrev pub together_place_of : TogetherError → ElementFault
-together_place_of (together.MissingElement element identifier) =
-    at_element element (identifier_argument identifier)
-together_place_of (together.ConflictingElement element identifier other) =
-    at_element element (identifier_argument identifier)
-together_place_of other = nowhere
-
 -- Where the fault is for which there is no link.
 abbrev pub link_place_of : LinkError → ElementFault
 link_place_of (link.Elements error) = place_of error
@@ -158,5 +140,4 @@ link_place_of (link.WrongQualifier element identifier) =
     at_element element (identifier_argument identifier)
 link_place_of (link.RepeatedElement element identifier) =
     at_element element (identifier_argument identifier)
-link_place_of (link.Together error) = together_place_of error
 link_place_of other = nowhere

@@ -17,7 +17,6 @@ use Rattle.qrcode_c.specs.declared.refusal.Refusal.TheVariants.{InvalidFormat, I
 use Rattle.qrcode_c.specs.declared.refusal.Refusal.TheVariants.{WrongValue, WrongDomain, NoKey}
 use Rattle.qrcode_c.specs.declared.refusal.Refusal.TheVariants.{SecondKey, WrongQualifier}
 use Rattle.qrcode_c.specs.declared.refusal.Refusal.TheVariants.{RepeatedElement}
-use Rattle.qrcode_c.specs.declared.refusal.Refusal.TheVariants.{MissingElement, ConflictingElement}
 
 -- The number of an error, which is the status of the call.
 abbrev pub status_of : Refusal → ℤ
@@ -48,8 +47,6 @@ status_of NoKey = pos 26
 status_of SecondKey = pos 27
 status_of WrongQualifier = pos 28
 status_of RepeatedElement = pos 29
-status_of MissingElement = pos 30
-status_of ConflictingElement = pos 31
 
 -- The error that stands for one of the library. Of the library's calls behind those of C, none has
 -- another error, since what these would speak of is tested before.

@@ -81,7 +81,6 @@ fn setting_refusal(setting: Setting) -> Refusal
         | Setting::Dpi
         | Setting::Inverted
         | Setting::Title
-        | Setting::Caption
         | Setting::At
         | Setting::Copies
         | Setting::Compressed

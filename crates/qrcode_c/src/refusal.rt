@@ -63,10 +63,6 @@ pub enum Refusal {
     WrongQualifier = 28,
     /// The identifier of an element of a link stands once more after it.
     RepeatedElement = 29,
-    /// An element that has to stand beside one of a link is missing.
-    MissingElement = 30,
-    /// An element of a link may not stand beside another one.
-    ConflictingElement = 31,
 }
 
 impl Refusal {

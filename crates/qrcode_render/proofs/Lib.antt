@@ -1,5 +1,4 @@
 pub mod BandLemmas
-pub mod CaptionLemmas
 pub mod PixelLemmas
 pub mod PdfTextLemmas
 pub mod PdfLemmas

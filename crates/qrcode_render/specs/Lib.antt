@@ -19,7 +19,6 @@ pub use Rattle.grid_pictures.specs.Pens
 pub use Rattle.grid_pictures.specs.Numbers
 pub use Rattle.grid_pictures.specs.Runs
 pub use Rattle.grid_pictures.specs.Covered
-pub mod Captions
 pub mod Svg
 pub mod Eps
 pub mod PdfFile

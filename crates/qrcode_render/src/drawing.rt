@@ -11,15 +11,15 @@ ghost use Rattle.qrcode_render.specs.Drawings.{drawn_bytes, is_drawn_text};
 ghost use Rattle.qrcode_render.specs.Labels.{IsLabel};
 ghost use Rattle.qrcode_render.specs.Pdf.{pdf_document, pdf_page};
 
-use crate::caption::{Texts, terminal_captioned};
-use crate::eps::eps_captioned;
+use crate::eps::eps_document;
 use crate::escpos::ticket;
 use crate::pbm::pbm;
 use crate::pdf::pdf_document;
 use crate::png_file::png_file;
-use crate::svg::svg_captioned;
-use crate::zpl::{compressed_captioned, label_captioned};
+use crate::svg::svg_colored;
+use crate::zpl::{compressed_label, label};
 use grid_pictures::picture::Picture;
+use grid_pictures::terminal::terminal;
 use picture_settings::draw_options::DrawOptions;
 use picture_settings::format::Format;
 use picture_settings::options::RenderOptions;
@@ -87,14 +87,10 @@ pub(crate) fn draw_as(
     ensures text { IfOk result (λ drawn. is_drawn_text drawn ≡ is_text_format options.now.format) }
 {
     match options.format {
-        Format::Terminal => {
-            let (inverted, caption) = (options.inverted, options.caption);
-            let text = terminal_captioned(alloc, picture, inverted, caption)?;
-            Ok(Drawn::Text(text))
-        }
+        Format::Terminal => Ok(Drawn::Text(terminal(alloc, picture, options.inverted)?)),
         Format::Svg => {
-            let (module_mm, texts) = (options.module_mm, texts(options));
-            let text = svg_captioned(alloc, picture, module_mm, texts, options.colors)?;
+            let (module_mm, title) = (options.module_mm, options.title);
+            let text = svg_colored(alloc, picture, module_mm, title, options.colors)?;
             Ok(Drawn::Text(text))
         }
         Format::Png => {
@@ -104,8 +100,8 @@ pub(crate) fn draw_as(
         }
         Format::Pbm => Ok(Drawn::Bytes(pbm(alloc, picture)?)),
         Format::Eps => {
-            let (module_mm, texts) = (options.module_mm, texts(options));
-            let text = eps_captioned(alloc, picture, module_mm, texts, options.colors)?;
+            let (module_mm, title) = (options.module_mm, options.title);
+            let text = eps_document(alloc, picture, module_mm, title, options.colors)?;
             Ok(Drawn::Text(text))
         }
         Format::EscPos => {
@@ -117,27 +113,15 @@ pub(crate) fn draw_as(
     }
 }
 
-/// Returns the texts of the options.
-fn texts<'a>(options: &DrawOptions<'a>) -> Texts<'a>
-    ensures title { option_copied result.title ≡ option_copied options.now.title }
-    ensures caption { option_copied result.caption ≡ option_copied options.now.caption }
-{
-    Texts {
-        title: options.title,
-        caption: options.caption,
-    }
-}
-
 /// Returns the label of the options.
 fn zpl(alloc: Global, picture: &Picture, options: &DrawOptions) -> Result<Vec<u8>, AllocError>
     ensures { IfOk result (λ bytes. IsLabel options.now.compressed options.now.at
-        (option_copied options.now.caption) options.now.copies (shown picture.now) bytes.items) }
+        options.now.copies (shown picture.now) bytes.items) }
 {
-    let caption = options.caption;
     if options.compressed {
-        compressed_captioned(alloc, picture, options.at, caption, options.copies)
+        compressed_label(alloc, picture, options.at, options.copies)
     } else {
-        label_captioned(alloc, picture, options.at, caption, options.copies)
+        label(alloc, picture, options.at, options.copies)
     }
 }
 

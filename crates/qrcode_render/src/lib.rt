@@ -16,7 +16,6 @@
 //! of `qrcode_core`, by the options of a `RenderConfig`.
 #![tactic(auto)]
 
-pub mod caption;
 mod compressed;
 mod drawing;
 pub mod eps;

@@ -3,8 +3,6 @@
 #![tactic(auto)]
 
 #[cfg(test)]
-mod caption_tests;
-#[cfg(test)]
 mod color_tests;
 #[cfg(test)]
 mod compressed_tests;

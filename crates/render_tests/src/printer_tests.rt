@@ -169,7 +169,6 @@ fn names_settings(rt: HostRuntime) {
         (Setting::Dpi, "dpi"),
         (Setting::Inverted, "inverted"),
         (Setting::Title, "title"),
-        (Setting::Caption, "caption"),
         (Setting::At, "at"),
         (Setting::Copies, "copies"),
         (Setting::Compressed, "compressed"),

@@ -1,4 +1,3 @@
-pub mod CaptionLemmas
 pub mod DetailsLemmas
 pub mod PartLemmas
 pub mod ShownLemmas

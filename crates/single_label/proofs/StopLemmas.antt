@@ -19,7 +19,7 @@ use Rattle.single_label.specs.declared.stop.{Stop.Stop, Stop.TheVariants.Fault, 
 use Rattle.single_label.specs.declared.stop.{Stop.TheVariants.NotAscii, Stop.TheVariants.TooLong, Stop.TheVariants.TooManyParts, Stop.TheVariants.TooManyPages}
 use Rattle.single_label.specs.declared.stop.TooLong.{TooLong as TooLongOf}
 use Rattle.single_label.specs.{Contents.IsStopAs, Contents.IsSymbolAs, Contents.IsNoUtf8, Contents.is_bracketed, Contents.AreNotWritten, Contents.IsLink, Contents.IsLinkStop}
-use Rattle.single_label.specs.{Labels.IsLabelStop, Labels.IsLabelData, Labels.IsContentStop, Labels.IsTextStop, Contents.is_too_long, Labels.details_label}
+use Rattle.single_label.specs.{Labels.IsLabelStop, Labels.IsLabelData, Labels.IsContentStop, Labels.IsTextStop, Labels.is_too_long, Labels.details_label}
 use Rattle.single_label.specs.{Parts.IsMessageStop, Parts.IsOtherStop, Rooms.IsTooLongAs, Rooms.IsTooLongForAny}
 use Rattle.label_words.specs.Choices.{gs1_content, is_link}
 use Rattle.single_label.specs.{Details.IsDetailsStop, Details.HasNoData, Labels.IsSaid}

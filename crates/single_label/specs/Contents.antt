@@ -22,7 +22,7 @@ use Rattle.qrcode_core.specs.declared.options.SymbolOptions.{SymbolOptions}
 use Rattle.qrcode_core.specs.declared.types.Color.{Color}
 use Rattle.qrcode_core.specs.declared.types.EcLevel.{EcLevel}
 use Rattle.qrcode_core.specs.declared.types.errors.QrError.{QrError}
-use Rattle.qrcode_core.specs.declared.types.errors.QrError.TheVariants.{DataTooLong, InvalidCharacter, OutOfMemory}
+use Rattle.qrcode_core.specs.declared.types.errors.QrError.TheVariants.{DataTooLong, InvalidCharacter}
 use Rattle.single_label.specs.Faults.{IsFaultIn, IsWrittenAt, IsFoundAt}
 use Rattle.label_words.specs.declared.command.Content.{Content}
 use Rattle.label_words.specs.declared.command.Content.TheVariants.{Auto, Text, Bytes, Gs1, UncheckedGs1, Link, Micro}
@@ -194,16 +194,6 @@ IsMicroTextStop level bytes (Fault (Symbol error)) =
 IsMicroTextStop level bytes _ = ⊥
 
 -- ---- Any content
-
--- The data are too long for a symbol.
-abbrev pub is_too_long : Stop → Bool
-is_too_long (Fault (Symbol DataTooLong)) = true
-is_too_long _ = false
-
--- Memory ran out.
-abbrev pub is_memory : Stop → Bool
-is_memory (Fault (Symbol OutOfMemory)) = true
-is_memory _ = false
 
 -- The symbol is that of the bytes, at the level and in the versions of the options. For a link they
 -- are the link.

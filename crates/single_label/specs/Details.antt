@@ -25,11 +25,8 @@ use Rattle.picture_settings.specs.declared.bounds.TheConstants.{MAX_DPI}
 use Rattle.picture_settings.specs.declared.draw_options.DrawOptions.{DrawOptions}
 use Rattle.single_label.specs.Contents.{IsPlain, is_ascii, is_bracketed, AreWritten, AreNotWritten}
 use Rattle.label_words.specs.declared.command.Content.{Content}
-use Rattle.label_words.specs.declared.command.Content.TheVariants.{Auto, Text, Gs1, UncheckedGs1, Link}
+use Rattle.label_words.specs.declared.command.Content.TheVariants.{Auto, Text, Gs1, UncheckedGs1}
 use Rattle.label_words.specs.declared.command.Label.{Label}
-use Rattle.single_label.specs.OtherWays.{IsLinkOutcome, IsElementsOutcome}
-use Rattle.single_label.specs.declared.other_way.Outcome.{Outcome}
-use Rattle.single_label.specs.declared.other_way.Outcome.TheVariants.{Drawn, TooLong, Nothing}
 use Rattle.single_label.specs.declared.stop.Stop.{Stop}
 use Rattle.single_label.specs.declared.stop.Stop.TheVariants.{Fault}
 
@@ -151,49 +148,15 @@ HasNoData content bytes stop = ⊥
 abbrev pub IsDetailsStopOf : Content → List ℕ → Stop → Type 0
 IsDetailsStopOf content bytes stop = (stop ≡ Fault (Symbol OutOfMemory)) ⊎ HasNoData content bytes stop
 
--- ---- The other way
-
-abbrev pub outcome_text : Outcome → List ℕ
-outcome_text (Drawn version) = version_piece version ++ codes "\n"
-outcome_text TooLong = codes "too long\n"
-outcome_text Nothing = codes "none\n"
-
--- What is said of elements as a link, and of a link as elements.
-abbrev pub IsAsLinkText : Label → List ℕ → List ℕ → Type 0
-IsAsLinkText label elements text =
-    (outcome : Outcome) × IsLinkOutcome label elements outcome
-    × (text ≡ codes "as a link: " ++ outcome_text outcome)
-
-abbrev pub IsAsElementsText : Label → List ℕ → List ℕ → Type 0
-IsAsElementsText label link text =
-    (outcome : Outcome) × IsElementsOutcome label link outcome
-    × (text ≡ codes "as elements: " ++ outcome_text outcome)
-
--- What the details of a content say of the other way.
-abbrev pub IsOtherText : Label → Content → List ℕ → List ℕ → Type 0
-IsOtherText label Gs1 content text = IsAsLinkText label content text
-IsOtherText label UncheckedGs1 content text = IsAsLinkText label content text
-IsOtherText label Link content text = IsAsElementsText label content text
-IsOtherText label other content text = text ≡ []
-
--- The same of a content, of which the symbol has all.
-abbrev pub IsOtherWayText : Label → Option (List ℕ) → List ℕ → Type 0
-IsOtherWayText label None text = text ≡ []
-IsOtherWayText label (Some content) text = IsOtherText label label.content content text
-
--- ---- No details
-
 -- Why there are no details of a symbol: memory ran out, or there are none of its content.
 abbrev pub IsDetailsStop : Label → Option (List ℕ) → Stop → Type 0
 IsDetailsStop label None stop = stop ≡ Fault (Symbol OutOfMemory)
 IsDetailsStop label (Some content) stop = IsDetailsStopOf label.content content stop
 
--- The details of a symbol: its segments, too, and what the other way is, where it has all of a
--- content. Example: 21 modules of 0.5 mm are 10.50 mm wide.
+-- The details of a symbol: its segments, too, where it has all of a content. Example: 21 modules of
+-- 0.5 mm are 10.50 mm wide.
 pub record AreDetails (label : Label) (options : DrawOptions) (content : Option (List ℕ)) (symbol : DrawnSymbol)
     (text : List ℕ) : Type 0 where
   pub segments : List ℕ
   pub are_segments : IsSegmentsText label content symbol segments
-  pub other : List ℕ
-  pub other_is : IsOtherWayText label content other
-  pub text_is : text ≡ head_text symbol ++ (segments ++ (size_text label options symbol ++ other))
+  pub text_is : text ≡ head_text symbol ++ (segments ++ size_text label options symbol)

@@ -16,8 +16,7 @@ use Rattle.qrcode_core.specs.declared.types.errors.QrError.TheVariants.{OutOfMem
 use Rattle.picture_settings.specs.declared.draw_options.DrawOptions.{DrawOptions}
 use Rattle.single_label.specs.Contents.{IsContent, IsPlain, is_ascii, IsNoUtf8, IsSymbolAs}
 use Rattle.single_label.specs.Contents.{IsStopAs}
-use Rattle.single_label.specs.Labels.{IsLabelData, IsNotDrawn, ShowsSymbol}
-use Rattle.single_label.specs.Contents.{is_too_long}
+use Rattle.single_label.specs.Labels.{IsLabelData, IsNotDrawn, ShowsSymbol, is_too_long}
 use Rattle.label_words.specs.declared.command.Content.{Content}
 use Rattle.label_words.specs.declared.command.Content.TheVariants.{Auto, Text, Bytes}
 use Rattle.label_words.specs.declared.command.Label.{Label}
@@ -72,7 +71,7 @@ IsSequenceFaultAs other options message error = error ≡ DataTooLong
 abbrev pub ShowEach : Label → DrawOptions → List DrawnSymbol → List (List ℕ) → Type 0
 ShowEach label options [] [] = ⊤
 ShowEach label options (symbol ∷ symbols) (drawing ∷ drawings) =
-    ShowsSymbol label options None None symbol drawing × ShowEach label options symbols drawings
+    ShowsSymbol label options None symbol drawing × ShowEach label options symbols drawings
 ShowEach label options _ _ = ⊥
 
 -- One symbol holds the content.
@@ -81,7 +80,7 @@ pub record IsOneLabel (label : Label) (options : DrawOptions) (content : List �
   pub symbol : DrawnSymbol
   pub is_symbol : IsSymbolAs label.content label.symbol content symbol.modules
   pub drawing : List ℕ
-  pub shown : ShowsSymbol label options (Some content) None symbol drawing
+  pub shown : ShowsSymbol label options (Some content) symbol drawing
   pub drawings_are : drawings ≡ drawing ∷ []
 
 -- The drawings show symbols that carry the content together.

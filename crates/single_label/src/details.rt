@@ -14,14 +14,13 @@ ghost use Rattle.single_label.specs.Details.{segment_text, version_piece, mask_n
 ghost use Rattle.single_label.specs.Details.{segments_text, nearest_to, width_of_dots};
 ghost use Rattle.single_label.specs.Details.{physical_width, millimetres_text, width_piece};
 ghost use Rattle.single_label.specs.Details.{size_text, AreDetails, IsDetailsStop, IsDetailsStopOf};
-ghost use Rattle.single_label.specs.Details.{IsKnownPlanText, IsPlanText, IsSegmentsText};
+ghost use Rattle.single_label.specs.Details.{IsKnownPlanText, IsPlanText};
 ghost use Rattle.label_words.specs.Choices.{gs1_content};
 ghost use Rattle.single_label.specs.Contents.{is_bracketed};
 ghost use Rattle.qrcode_base.specs.Names.{level_text};
 
 use crate::content::{is_ascii, is_bracketed, utf8_of, written_string};
 use crate::element::written_stop;
-use crate::other_way::push_other_way;
 use crate::stop::Stop;
 use itoa::Buffer;
 use label_words::{Content, Label};
@@ -50,29 +49,11 @@ pub fn symbol_text(
 {
     let mut text = String::new(alloc);
     push_head(&mut text, symbol)?;
-    push_known_segments(alloc, &mut text, label, content, symbol)?;
-    push_size(&mut text, label, options, symbol)?;
-    push_other_way(alloc, &mut text, label, content)?;
-    Ok(text.into_bytes())
-}
-
-/// Appends the segments of a content, if it is given.
-fn push_known_segments(
-    alloc: Global,
-    text: &mut String,
-    label: &Label,
-    content: Option<&[u8]>,
-    symbol: &Symbol,
-) -> Result<(), Stop>
-    ensures details { OnOk result ((segments : List ℕ)
-        × IsSegmentsText label.now (option_copied content.entry) symbol.now segments
-        × (string_bytes text.new ≡ string_bytes text.old ++ segments)) }
-    ensures refused { IfErr result (IsDetailsStop label.now (option_copied content.entry)) }
-{
-    match content {
-        Some(bytes) => push_segments(alloc, text, label.content, bytes, symbol.version()),
-        None => Ok(()),
+    if let Some(bytes) = content {
+        push_segments(alloc, &mut text, label.content, bytes, symbol.version())?;
     }
+    push_size(&mut text, label, options, symbol)?;
+    Ok(text.into_bytes())
 }
 
 /// Appends a number in decimal.
@@ -84,7 +65,7 @@ fn push_number(text: &mut String, n: usize) -> Result<(), AllocError>
 }
 
 /// Appends a version.
-pub(crate) fn push_version(text: &mut String, version: Version) -> Result<(), AllocError>
+fn push_version(text: &mut String, version: Version) -> Result<(), AllocError>
     ensures { OnOk result
         (string_bytes text.new ≡ string_bytes text.old ++ version_piece version) }
 {

@@ -15,7 +15,6 @@ ghost use Rattle.single_label.specs.Parts.{AreNotDrawn, IsPartsStop, IsMessageSt
 
 use crate::content::{content_of, content_symbol, is_ascii, utf8_of};
 use crate::label::{details_label, is_too_long, symbol_label};
-use crate::shown::Said;
 use crate::stop::Stop;
 use label_words::{Content, Details, Label};
 use qrcode_base::symbols::LONGEST_DATA;
@@ -96,13 +95,9 @@ fn labels_of(
         ShowEach label.now options.now symbols.now (map vec_items drawings.items)) }
     ensures memory { IfErr result (λ stop. stop ≡ FaultStop (SymbolFault OutOfMemory)) }
 {
-    let said = Said {
-        content: None,
-        caption: None,
-    };
     let mut drawings = Vec::new(alloc);
     for symbol in symbols {
-        let drawing = symbol_label(alloc, label, options, said, symbol)?;
+        let drawing = symbol_label(alloc, label, options, None, symbol)?;
         drawings.push(drawing).map_err(AllocError::from)?;
     }
     Ok(drawings)
@@ -166,14 +161,10 @@ fn one_label(
 ) -> Result<Vec<Vec<u8>>, Stop>
     ensures shown { IfOk result (λ drawings. (drawing : List ℕ)
         × (map vec_items drawings.items ≡ drawing ∷ [])
-        × ShowsSymbol label.now options.now (Some content.now) None symbol.now drawing) }
+        × ShowsSymbol label.now options.now (Some content.now) symbol.now drawing) }
     ensures refused { IfErr result (IsDetailsStop label.now (Some content.now)) }
 {
-    let said = Said {
-        content: Some(content),
-        caption: None,
-    };
-    let drawing = symbol_label(alloc, label, options, said, symbol)?;
+    let drawing = symbol_label(alloc, label, options, Some(content), symbol)?;
     let mut drawings = Vec::new(alloc);
     drawings.push(drawing).map_err(AllocError::from)?;
     Ok(drawings)

@@ -14,15 +14,6 @@ use qrcode_core::symbol::Symbol;
 use qrcode_render::{DrawOptions, Format};
 use std::alloc::Global;
 
-/// What a symbol says, and what is written below it.
-#[derive(Clone, Copy, Debug, PartialEq, Eq)]
-pub struct Said<'a> {
-    /// The content, if the symbol has all of it.
-    pub content: Option<&'a [u8]>,
-    /// The text below the picture of the symbol, if there is one.
-    pub caption: Option<&'a str>,
-}
-
 /// What stands for a label until it is written. `drawing` is the label, and `allowed` says of which
 /// labels there is such a thing.
 pub trait Shown {
@@ -30,20 +21,20 @@ pub trait Shown {
 
     ghost drawing: { Label → DrawOptions → Self → List ℕ };
 
-    /// Returns what the label shows of a symbol. It fails as `symbol_label` does.
+    /// Returns what the label shows of a symbol. The content is given if the symbol has all of it.
+    /// It fails as `symbol_label` does.
     fn of_symbol(
         alloc: Global,
         label: &Label,
         options: &DrawOptions,
-        said: Said<'_>,
+        content: Option<&[u8]>,
         symbol: Symbol,
     ) -> Result<Self, Stop>
         requires { allowed label.now options.now }
         ensures shown { IfOk result (λ shown. ShowsSymbol label.now options.now
-            (option_copied said.entry.content) (option_copied said.entry.caption) symbol
-            (drawing label.now options.now shown)) }
+            (option_copied content.entry) symbol (drawing label.now options.now shown)) }
         ensures refused { IfErr result
-            (IsDetailsStop label.now (option_copied said.entry.content)) };
+            (IsDetailsStop label.now (option_copied content.entry)) };
 }
 
 /// The bytes of the label.
@@ -56,10 +47,10 @@ impl Shown for Vec<u8> {
         alloc: Global,
         label: &Label,
         options: &DrawOptions,
-        said: Said<'_>,
+        content: Option<&[u8]>,
         symbol: Symbol,
     ) -> Result<Vec<u8>, Stop> {
-        symbol_label(alloc, label, options, said, &symbol)
+        symbol_label(alloc, label, options, content, &symbol)
     }
 }
 
@@ -80,7 +71,7 @@ impl Shown for PageSymbol {
         _alloc: Global,
         _label: &Label,
         _options: &DrawOptions,
-        _said: Said<'_>,
+        _content: Option<&[u8]>,
         symbol: Symbol,
     ) -> Result<PageSymbol, Stop> {
         Ok(PageSymbol { symbol })

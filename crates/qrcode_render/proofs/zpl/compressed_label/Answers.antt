@@ -5,7 +5,7 @@ use Rattle.grid_pictures.specs.Shown.{shown}
 use Rattle.qrcode_render.specs.{Encoded.ArePieces, Labels.IsCompressedField}
 use Rattle.qrcode_render.proofs.FieldLemmas.{one_piece}
 use Rattle.qrcode_render.proofs.ReadingLemmas.{adds_both}
-use Rattle.qrcode_render.proofs.zpl.compressed_captioned.Goals as goal
+use Rattle.qrcode_render.proofs.zpl.compressed_label.Goals as goal
 
 pub loop-n-preserved : goal.loop-n-preserved
 loop-n-preserved c =
