@@ -13,6 +13,11 @@ int32_t qrcode_c_bytes(const uint8_t *bytes, size_t length, const sicklespan_opt
                        uint8_t *modules, size_t room, sicklespan_shape *shape);
 int32_t qrcode_c_text(const uint8_t *text, size_t length, const sicklespan_options *options,
                       uint8_t *modules, size_t room, sicklespan_shape *shape);
+int32_t qrcode_c_smallest_text(const uint8_t *text, size_t length,
+                               const sicklespan_options *options, uint8_t *modules, size_t room,
+                               sicklespan_shape *shape);
+int32_t qrcode_c_micro_text(const uint8_t *text, size_t length, int32_t level, uint8_t *modules,
+                            size_t room, sicklespan_shape *shape);
 int32_t qrcode_c_elements(const uint8_t *elements, size_t length, const sicklespan_options *options,
                           uint8_t *modules, size_t room, sicklespan_shape *shape);
 int32_t qrcode_c_gs1(const uint8_t *text, size_t length, const sicklespan_options *options,
@@ -103,6 +108,11 @@ int32_t sicklespan_micro(const void *bytes, size_t length, int32_t level, uint8_
     return drawn(qrcode_c_micro_symbol, bytes, length, level, modules, room, shape);
 }
 
+int32_t sicklespan_micro_text(const char *text, size_t length, int32_t level, uint8_t *modules,
+                              size_t room, sicklespan_shape *shape) {
+    return drawn(qrcode_c_micro_text, (const uint8_t *)text, length, level, modules, room, shape);
+}
+
 int32_t sicklespan_micro_symbol(const uint8_t *bytes, size_t length, int32_t level,
                                 uint8_t *modules, size_t room, sicklespan_shape *shape) {
     return sicklespan_micro(bytes, length, level, modules, room, shape);
@@ -136,6 +146,11 @@ int32_t sicklespan_text(const char *text, size_t length, const sicklespan_option
     return asked(qrcode_c_text, text, length, options, modules, room, shape);
 }
 
+int32_t sicklespan_smallest_text(const char *text, size_t length, const sicklespan_options *options,
+                                 uint8_t *modules, size_t room, sicklespan_shape *shape) {
+    return asked(qrcode_c_smallest_text, text, length, options, modules, room, shape);
+}
+
 static bool is_ascii(const uint8_t *bytes, size_t length) {
     for (size_t i = 0; i < length; i++) {
         if (bytes[i] >= 0x80) return false;
@@ -147,7 +162,7 @@ int32_t sicklespan_auto(const void *data, size_t length, const sicklespan_option
                         uint8_t *modules, size_t room, sicklespan_shape *shape) {
     int32_t status = SICKLESPAN_INVALID_TEXT;
     if (is_span((struct span){data, length}) && !is_ascii(data, length)) {
-        status = sicklespan_text(data, length, options, modules, room, shape);
+        status = sicklespan_smallest_text(data, length, options, modules, room, shape);
     }
     if (status != SICKLESPAN_INVALID_TEXT) return status;
     return sicklespan_bytes(data, length, options, modules, room, shape);
@@ -274,6 +289,10 @@ static int32_t tried(int32_t content, const void *data, size_t length,
     case SICKLESPAN_CONTENT_MICRO:
         return sicklespan_micro(data, length, options->level, NULL, 0, &shape);
     case SICKLESPAN_CONTENT_AUTO: return sicklespan_auto(data, length, options, NULL, 0, &shape);
+    case SICKLESPAN_CONTENT_SMALLEST_TEXT:
+        return sicklespan_smallest_text(data, length, options, NULL, 0, &shape);
+    case SICKLESPAN_CONTENT_MICRO_TEXT:
+        return sicklespan_micro_text(data, length, options->level, NULL, 0, &shape);
     default: return SICKLESPAN_INVALID_CONTENT;
     }
 }
@@ -290,9 +309,15 @@ static size_t end_of_characters(const uint8_t *text, size_t place) {
     return place;
 }
 
+/* Whether data are cut between two characters of UTF-8. */
+static bool are_characters(int32_t content) {
+    return content == SICKLESPAN_CONTENT_TEXT || content == SICKLESPAN_CONTENT_SMALLEST_TEXT ||
+           content == SICKLESPAN_CONTENT_MICRO_TEXT;
+}
+
 /* The last place at which data may be cut, up to one that is before their end. */
 static size_t cut_up_to(int32_t content, const uint8_t *data, size_t place) {
-    if (content == SICKLESPAN_CONTENT_TEXT) return end_of_characters(data, place);
+    if (are_characters(content)) return end_of_characters(data, place);
     if (content == SICKLESPAN_CONTENT_ELEMENTS) {
         while (place > 0 && data[place - 1] == 0x1d) place--;
     }
@@ -305,7 +330,7 @@ static size_t cut_up_to(int32_t content, const uint8_t *data, size_t place) {
 /* Whether a status finds a fault in the data, which their first bytes need not have. */
 static bool is_of_data(int32_t status) {
     return status == SICKLESPAN_DATA_TOO_LONG || status == SICKLESPAN_INVALID_TEXT ||
-           status == SICKLESPAN_WRONG_VALUE ||
+           status == SICKLESPAN_WRONG_VALUE || status == SICKLESPAN_UNWRITABLE_TEXT ||
            (status >= SICKLESPAN_INVALID_CHARACTER && status <= SICKLESPAN_WRONG_CHECK_DIGIT);
 }
 
@@ -507,6 +532,9 @@ const char *sicklespan_status_text(int32_t status) {
     case SICKLESPAN_WRONG_QUALIFIER:
         return "an element qualifies another key than that of the link";
     case SICKLESPAN_REPEATED_ELEMENT: return "an identifier stands twice in a link";
+    case SICKLESPAN_MISSING_ELEMENT: return "an element that has to stand beside it is missing";
+    case SICKLESPAN_CONFLICTING_ELEMENT: return "an element may not stand beside another one";
+    case SICKLESPAN_UNWRITABLE_TEXT: return "no Micro symbol is read as the text";
     default: return "unknown status";
     }
 }

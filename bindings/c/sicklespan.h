@@ -56,13 +56,16 @@ enum sicklespan_status {
     SICKLESPAN_INVALID_WIDTH = 20,      /* no symbol has the width */
     SICKLESPAN_INVALID_FORMAT = 21,     /* the format is not 0 to 7 */
     SICKLESPAN_INVALID_SETTING = 22,    /* a setting is out of its bounds, or not of the format */
-    SICKLESPAN_INVALID_CONTENT = 23,    /* the content is not 0 to 6 */
+    SICKLESPAN_INVALID_CONTENT = 23,    /* the content is not 0 to 8 */
     SICKLESPAN_WRONG_VALUE = 24,        /* a value is wrong in another way: no such date, say */
     SICKLESPAN_WRONG_DOMAIN = 25,       /* the domain is no host name, with a port or without */
     SICKLESPAN_NO_KEY = 26,             /* no element is the key of a link, as (01) or (00) are */
     SICKLESPAN_SECOND_KEY = 27,         /* an element is a key of links, and another after it */
     SICKLESPAN_WRONG_QUALIFIER = 28,    /* an element qualifies another key than that of the link */
-    SICKLESPAN_REPEATED_ELEMENT = 29    /* an identifier stands twice in a link */
+    SICKLESPAN_REPEATED_ELEMENT = 29,   /* an identifier stands twice in a link */
+    SICKLESPAN_MISSING_ELEMENT = 30,    /* an element needs one that is not in the link */
+    SICKLESPAN_CONFLICTING_ELEMENT = 31, /* an element may not stand beside another in the link */
+    SICKLESPAN_UNWRITABLE_TEXT = 32      /* no Micro symbol is read as the text */
 };
 
 /* What is asked of a symbol beside its data: its level, the versions that it may have, and whether
@@ -109,7 +112,9 @@ typedef struct sicklespan_shape {
 /*
  * The best symbol of some bytes at the level of the options: in the smallest of their versions into
  * which the bytes fit, in the fewest bits, under the best mask. With `strongest` it is the best one
- * at the greatest level at which it is no larger. The bytes may be any, also none.
+ * at the greatest level at which it is no larger. The bytes may be any, also none. The symbol does
+ * not say which characters they are, and pairs of them go in the Kanji mode: where they are UTF-8
+ * beyond ASCII, readers may show other characters.
  *
  * SICKLESPAN_INVALID_LEVEL, SICKLESPAN_INVALID_VERSIONS, SICKLESPAN_DATA_TOO_LONG (exactly where
  * they fit no version up to the greatest at the level), SICKLESPAN_OUT_OF_MEMORY,
@@ -119,17 +124,30 @@ int32_t sicklespan_bytes(const void *bytes, size_t length, const sicklespan_opti
                          uint8_t *modules, size_t room, sicklespan_shape *shape);
 
 /*
- * The best symbol of what people write: of UTF-8 that is not all ASCII that of sicklespan_text, and
- * of all else, ASCII too, that of sicklespan_bytes. `qrlabel` and the package for Python do the
- * same. The statuses are those of sicklespan_bytes.
+ * The best symbol of what people write: of UTF-8 that is not all ASCII that of
+ * sicklespan_smallest_text, and of all else, ASCII too, that of sicklespan_bytes. `qrlabel` and the
+ * package for Python do the same. The statuses are those of sicklespan_bytes.
  */
 int32_t sicklespan_auto(const void *data, size_t length, const sicklespan_options *options,
                         uint8_t *modules, size_t room, sicklespan_shape *shape);
 
 /*
- * The same of a text in UTF-8, which the symbol says (ECI 26), so that readers need not guess its
- * script. This takes 12 bits: ASCII is read alike without it, by sicklespan_bytes. `length` counts
- * bytes.
+ * The smallest symbol of a text, whose `length` bytes are UTF-8: in the modes, and after the ECI
+ * designators of ISO/IEC 8859, Shift JIS and UTF-8, that take the fewest bits. A reader that
+ * follows the standard finds the text in it, and no symbol that is read as the text, at the level,
+ * is smaller. Level, versions and `strongest` are as of sicklespan_bytes.
+ *
+ * SICKLESPAN_INVALID_LEVEL, SICKLESPAN_INVALID_VERSIONS, SICKLESPAN_INVALID_TEXT,
+ * SICKLESPAN_DATA_TOO_LONG (exactly where nothing that is read as the text fits a version up to the
+ * greatest at the level), SICKLESPAN_OUT_OF_MEMORY, SICKLESPAN_SHORT_BUFFER.
+ */
+int32_t sicklespan_smallest_text(const char *text, size_t length, const sicklespan_options *options,
+                                 uint8_t *modules, size_t room, sicklespan_shape *shape);
+
+/*
+ * What sicklespan_bytes draws, of a text in UTF-8, which the symbol says (ECI 26), so that readers
+ * need not guess its script: for readers that know no other designator. This takes 12 bits: ASCII
+ * is read alike without it, by sicklespan_bytes. `length` counts bytes.
  *
  * After SICKLESPAN_INVALID_VERSIONS: SICKLESPAN_INVALID_TEXT.
  */
@@ -203,7 +221,8 @@ int32_t sicklespan_gs1_fault(const char *text, size_t length, sicklespan_fault *
  * After SICKLESPAN_INVALID_VERSIONS: SICKLESPAN_INVALID_TEXT, SICKLESPAN_DATA_TOO_LONG (a text of
  * more than 11815 bytes), those of sicklespan_gs1 for a fault of the elements,
  * SICKLESPAN_WRONG_DOMAIN, SICKLESPAN_NO_KEY, and of the first element that has a fault
- * SICKLESPAN_WRONG_QUALIFIER, SICKLESPAN_SECOND_KEY, SICKLESPAN_REPEATED_ELEMENT.
+ * SICKLESPAN_WRONG_QUALIFIER, SICKLESPAN_SECOND_KEY, SICKLESPAN_REPEATED_ELEMENT; and of the first
+ * that may not stand beside the others SICKLESPAN_MISSING_ELEMENT, SICKLESPAN_CONFLICTING_ELEMENT.
  */
 int32_t sicklespan_link(const char *text, size_t length, const char *domain, size_t domain_length,
                         const sicklespan_options *options, uint8_t *modules, size_t room,
@@ -238,15 +257,29 @@ int32_t sicklespan_link_fault(const char *text, size_t length, const char *domai
 int32_t sicklespan_micro(const void *bytes, size_t length, int32_t level, uint8_t *modules,
                          size_t room, sicklespan_shape *shape);
 
+/*
+ * The smallest Micro symbol of a text, whose `length` bytes are UTF-8. It has no ECI designators:
+ * its characters are those of ASCII alone, or those of the Kanji mode and of ASCII but `\` and `~`,
+ * for which some readers show other signs there. Every other text is SICKLESPAN_UNWRITABLE_TEXT.
+ *
+ * SICKLESPAN_INVALID_LEVEL, SICKLESPAN_INVALID_TEXT, SICKLESPAN_UNWRITABLE_TEXT (exactly where no
+ * Micro symbol is read as the text), SICKLESPAN_DATA_TOO_LONG (exactly where nothing that is read
+ * as it fits any of M1 to M4 at the level), SICKLESPAN_OUT_OF_MEMORY, SICKLESPAN_SHORT_BUFFER.
+ */
+int32_t sicklespan_micro_text(const char *text, size_t length, int32_t level, uint8_t *modules,
+                              size_t room, sicklespan_shape *shape);
+
 /* What data are, by the call that takes them. */
 enum sicklespan_content {
-    SICKLESPAN_CONTENT_BYTES = 0,        /* sicklespan_bytes */
-    SICKLESPAN_CONTENT_TEXT = 1,         /* sicklespan_text */
-    SICKLESPAN_CONTENT_ELEMENTS = 2,     /* sicklespan_elements */
-    SICKLESPAN_CONTENT_GS1 = 3,          /* sicklespan_gs1 */
-    SICKLESPAN_CONTENT_MICRO = 4,        /* sicklespan_micro, with the level of the options */
-    SICKLESPAN_CONTENT_AUTO = 5,         /* sicklespan_auto */
-    SICKLESPAN_CONTENT_GS1_UNCHECKED = 6 /* sicklespan_gs1_unchecked */
+    SICKLESPAN_CONTENT_BYTES = 0,         /* sicklespan_bytes */
+    SICKLESPAN_CONTENT_TEXT = 1,          /* sicklespan_text */
+    SICKLESPAN_CONTENT_ELEMENTS = 2,      /* sicklespan_elements */
+    SICKLESPAN_CONTENT_GS1 = 3,           /* sicklespan_gs1 */
+    SICKLESPAN_CONTENT_MICRO = 4,         /* sicklespan_micro, with the level of the options */
+    SICKLESPAN_CONTENT_AUTO = 5,          /* sicklespan_auto */
+    SICKLESPAN_CONTENT_GS1_UNCHECKED = 6, /* sicklespan_gs1_unchecked */
+    SICKLESPAN_CONTENT_SMALLEST_TEXT = 7, /* sicklespan_smallest_text */
+    SICKLESPAN_CONTENT_MICRO_TEXT = 8     /* sicklespan_micro_text, with the level of the options */
 };
 
 /*
@@ -261,8 +294,8 @@ enum sicklespan_content {
  * log2(n) times.
  *
  * SICKLESPAN_INVALID_POINTER as above, of `good`; SICKLESPAN_INVALID_CONTENT, and the statuses of
- * the call. Only with SICKLESPAN_OK, SICKLESPAN_DATA_TOO_LONG, SICKLESPAN_INVALID_TEXT and those of
- * GS1 elements is `good` written.
+ * the call. Only with SICKLESPAN_OK, SICKLESPAN_DATA_TOO_LONG, SICKLESPAN_INVALID_TEXT,
+ * SICKLESPAN_UNWRITABLE_TEXT and those of GS1 elements is `good` written.
  */
 int32_t sicklespan_check(int32_t content, const void *data, size_t length,
                          const sicklespan_options *options, size_t *good);

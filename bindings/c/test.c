@@ -123,6 +123,7 @@ int32_t __wrap_qrcode_c_picture(const uint8_t *grid, size_t size, size_t width, 
 
 SEES_ASKED(qrcode_c_bytes)
 SEES_ASKED(qrcode_c_text)
+SEES_ASKED(qrcode_c_smallest_text)
 SEES_ASKED(qrcode_c_elements)
 SEES_ASKED(qrcode_c_gs1)
 SEES_ASKED(qrcode_c_gs1_unchecked)
@@ -166,6 +167,16 @@ int32_t __wrap_qrcode_c_micro_symbol(const uint8_t *bytes, size_t length, int32_
     EXPECT_SLICE(bytes, length);
     EXPECT_SLICE(out, room);
     return __real_qrcode_c_micro_symbol(bytes, length, level, out, room, to);
+}
+
+int32_t __real_qrcode_c_micro_text(const uint8_t *, size_t, int32_t, uint8_t *, size_t,
+                                   sicklespan_shape *);
+
+int32_t __wrap_qrcode_c_micro_text(const uint8_t *text, size_t length, int32_t level, uint8_t *out,
+                                   size_t room, sicklespan_shape *to) {
+    EXPECT_SLICE(text, length);
+    EXPECT_SLICE(out, room);
+    return __real_qrcode_c_micro_text(text, length, level, out, room, to);
 }
 
 int32_t __wrap_qrcode_c_part_symbol(const uint8_t *message, size_t length, const size_t *cuts,
@@ -452,6 +463,9 @@ static void test_words(void) {
         [SICKLESPAN_SECOND_KEY] = "a link has one key, and there is another",
         [SICKLESPAN_WRONG_QUALIFIER] = "an element qualifies another key than that of the link",
         [SICKLESPAN_REPEATED_ELEMENT] = "an identifier stands twice in a link",
+        [SICKLESPAN_MISSING_ELEMENT] = "an element that has to stand beside it is missing",
+        [SICKLESPAN_CONFLICTING_ELEMENT] = "an element may not stand beside another one",
+        [SICKLESPAN_UNWRITABLE_TEXT] = "no Micro symbol is read as the text",
         "unknown status",
     };
     for (int32_t status = 0; status < (int32_t)(sizeof texts / sizeof *texts); status++) {
@@ -512,6 +526,7 @@ static void test_allocations(void) {
 #include "test_check.h"
 #include "test_gs1.h"
 #include "test_picture.h"
+#include "test_texts.h"
 
 int main(void) {
     void (*const tests[])(void) = {test_pointers,       test_overlaps,
@@ -530,7 +545,8 @@ int main(void) {
                                    test_quiet_zones,    test_auto,
                                    test_table,          test_faults,
                                    test_reasons,        test_links,
-                                   test_link_pointers};
+                                   test_link_pointers,  test_smallest_text,
+                                   test_micro_text,     test_text_allocations};
     int passed = 0, failed = 0;
     /* What a row prints is not lost where the next call ends the program. */
     setbuf(stdout, NULL);

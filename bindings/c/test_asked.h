@@ -17,6 +17,12 @@ static int32_t of_text(const void *data, size_t length, const sicklespan_options
     return sicklespan_text(data, length, options, out, room, to);
 }
 
+static int32_t of_smallest_text(const void *data, size_t length, const sicklespan_options *options,
+                                uint8_t *out, size_t room, void *to) {
+    clear();
+    return sicklespan_smallest_text(data, length, options, out, room, to);
+}
+
 static int32_t of_auto(const void *data, size_t length, const sicklespan_options *options,
                        uint8_t *out, size_t room, void *to) {
     clear();
@@ -49,8 +55,10 @@ static int32_t asked(asked_call *call, const char *text, const sicklespan_option
 }
 
 static void test_asked_pointers(void) {
-    asked_call *const calls[] = {of_bytes, of_text, of_elements, of_gs1, of_auto, of_gs1_unchecked};
-    const char *const data[] = {"hello", "hello", "10ABC", "(10)ABC", "h\xc3\xa9llo", "(4399)ABC"};
+    asked_call *const calls[] = {of_bytes, of_text,          of_elements,     of_gs1,
+                                 of_auto,  of_gs1_unchecked, of_smallest_text};
+    const char *const data[] = {"hello",        "hello",     "10ABC",       "(10)ABC",
+                                "h\xc3\xa9llo", "(4399)ABC", "\xe6\x9d\xb1"};
     static uint8_t drawn[441];
     for (size_t i = 0; i < sizeof calls / sizeof *calls; i++) {
         asked_call *const call = calls[i];
@@ -186,27 +194,34 @@ static void test_contents(void) {
     EXPECT(asked(of_gs1, text, NULL) == SICKLESPAN_OK);
 }
 
-/* Which call a text is left to, by the modules that it draws. */
+/* Which call a text is left to, by the modules that it draws. Two plans of the second row take 72
+ * bits, and sicklespan_smallest_text draws the other one. */
 static void test_auto(void) {
     static uint8_t drawn[441];
     const struct {
         const char *data;
         asked_call *as;
-    } rows[] = {{"hello", of_bytes},       {"\x7f", of_bytes},  {"gr\xc3\xbc\xc3\x9f", of_text},
-                {"\xe3\x81\x93", of_text}, {"a\xc3", of_bytes}, {"\x80", of_bytes}};
+    } rows[] = {{"hello", of_bytes},
+                {"6089:AB\x7f", of_bytes},
+                {"gr\xc3\xbc\xc3\x9f", of_smallest_text},
+                {"\xe3\x81\x93", of_smallest_text},
+                {"a\xc3", of_bytes},
+                {"\x80", of_bytes}};
     const sicklespan_options first = {SICKLESPAN_LEVEL_L, 1, 1, 0};
     for (size_t i = 0; i < sizeof rows / sizeof *rows; i++) {
         EXPECT(asked(rows[i].as, rows[i].data, &first) == SICKLESPAN_OK);
         memcpy(drawn, modules, sizeof drawn);
         EXPECT(asked(of_auto, rows[i].data, &first) == SICKLESPAN_OK && is_kept_from(441));
         EXPECT(memcmp(drawn, modules, sizeof drawn) == 0);
-        EXPECT(asked(rows[i].as == of_text ? of_bytes : of_text, rows[i].data, &first) !=
-                   SICKLESPAN_OK ||
+        EXPECT(asked(of_text, rows[i].data, &first) != SICKLESPAN_OK ||
+               memcmp(drawn, modules, sizeof drawn) != 0);
+        EXPECT(rows[i].as == of_bytes || asked(of_bytes, rows[i].data, &first) != SICKLESPAN_OK ||
                memcmp(drawn, modules, sizeof drawn) != 0);
     }
-    /* Version 1 holds 17 bytes, and 16 of a text. */
+    /* Version 1 holds 17 bytes, and 16 characters after the designator of a part of ISO 8859. */
     EXPECT(asked(of_auto, "aaaaaaaaaaaaaaaaa", &first) == SICKLESPAN_OK);
-    EXPECT(asked(of_auto, "aaaaaaaaaaaaaaa\xc3\xa9", &first) == SICKLESPAN_DATA_TOO_LONG);
+    EXPECT(asked(of_auto, "aaaaaaaaaaaaaaa\xc3\xa9", &first) == SICKLESPAN_OK);
+    EXPECT(asked(of_auto, "aaaaaaaaaaaaaaaa\xc3\xa9", &first) == SICKLESPAN_DATA_TOO_LONG);
     EXPECT(asked(of_auto, "aaaaaaaaaaaaaaaa\xc3", &first) == SICKLESPAN_OK);
 }
 

@@ -23,6 +23,11 @@ static void expect_good(int32_t content, const char *data, int32_t level, int32_
     expect_good(SICKLESPAN_CONTENT_##content, data, SICKLESPAN_LEVEL_##level, SICKLESPAN_##status, \
                 good, __LINE__)
 
+/* Five characters of the Kanji mode, six of Latin letters, and one of neither. */
+#define KANJI_5 "\xe5\xb8\x82\xe5\x8c\x97\xe5\x89\x8d\xe5\x80\x89\xe6\x9d\xb1"
+#define LATIN_6 "\xc3\xa9\xc3\xa9\xc3\xa9\xc3\xa9\xc3\xa9\xc3\xa9"
+#define EMOJI   "\xf0\x9f\x98\x80"
+
 static void test_check(void) {
     /* Version 1 holds 17 and 7 bytes at L and H, and one less after the 12 bits of UTF-8. */
     EXPECT_GOOD(BYTES, "aaaaaaaaaaaaaaaaa", L, OK, 17);
@@ -38,8 +43,26 @@ static void test_check(void) {
     /* What is ASCII up to a cut has no designator there. What is no text is cut anywhere. */
     EXPECT_GOOD(AUTO, "aaaaaaaa", H, DATA_TOO_LONG, 7);
     EXPECT_GOOD(AUTO, "aaaaaaa\xc3\xa9", H, DATA_TOO_LONG, 7);
-    EXPECT_GOOD(AUTO, "aaaaa\xc3\xa9", H, DATA_TOO_LONG, 5);
+    EXPECT_GOOD(AUTO, "aaaaaa\xc3\xa9", H, DATA_TOO_LONG, 6);
+    EXPECT_GOOD(AUTO, "aaaaa\xc3\xa9", H, OK, 7);
     EXPECT_GOOD(AUTO, "zzzzzz\xc3zz", H, DATA_TOO_LONG, 7);
+    /* Of 72 bits at H four Kanji take 64, six characters of ISO 8859 take all, and of three emoji
+     * one fits in UTF-8. */
+    EXPECT_GOOD(SMALLEST_TEXT, KANJI_5, H, DATA_TOO_LONG, 12);
+    EXPECT_GOOD(SMALLEST_TEXT, LATIN_6, H, OK, 12);
+    EXPECT_GOOD(SMALLEST_TEXT, LATIN_6 "\xc3\xa9", H, DATA_TOO_LONG, 12);
+    EXPECT_GOOD(SMALLEST_TEXT, EMOJI EMOJI EMOJI, H, DATA_TOO_LONG, 4);
+    EXPECT_GOOD(SMALLEST_TEXT, "aaaaaaaa", H, DATA_TOO_LONG, 7);
+    /* M4 holds 128, 112 and 80 bits at L, M and Q, of which 7 come before the Kanji, and each has
+     * 13. */
+    EXPECT_GOOD(MICRO_TEXT, KANJI_5 "\xe6\x9d\xb1" KANJI_5, L, DATA_TOO_LONG, 27);
+    EXPECT_GOOD(MICRO_TEXT, KANJI_5 KANJI_5, M, DATA_TOO_LONG, 24);
+    EXPECT_GOOD(MICRO_TEXT, KANJI_5 KANJI_5, Q, DATA_TOO_LONG, 15);
+    EXPECT_GOOD(MICRO_TEXT, KANJI_5, Q, OK, 15);
+    EXPECT_GOOD(MICRO_TEXT, "a", H, INVALID_LEVEL, 88);
+    EXPECT_GOOD(MICRO_TEXT, "aaa\xc3\xa9" KANJI_5, L, UNWRITABLE_TEXT, 3);
+    EXPECT_GOOD(MICRO_TEXT, "~" KANJI_5, L, UNWRITABLE_TEXT, 1);
+    EXPECT_GOOD(MICRO_TEXT, KANJI_5 KANJI_5 "~", L, UNWRITABLE_TEXT, 30);
     /* M4 holds 15, 13 and 9 bytes at L, M and Q. */
     EXPECT_GOOD(MICRO, "aaaaaaaaaaaaaaaaaaaaaaaa", L, DATA_TOO_LONG, 15);
     EXPECT_GOOD(MICRO, "aaaaaaaaaaaaaaaaaaaaaaaa", M, DATA_TOO_LONG, 13);
@@ -61,6 +84,8 @@ static void test_check(void) {
     EXPECT_GOOD(TEXT, "\xc3\xa9\xff", L, INVALID_TEXT, 2);
     EXPECT_GOOD(TEXT, "\xe3\x81\x93\xe3\x81z", L, INVALID_TEXT, 3);
     EXPECT_GOOD(TEXT, "aaaaaaaaaaaaaaaaaaaaaaaaaaaaa\xff", L, INVALID_TEXT, 29);
+    EXPECT_GOOD(SMALLEST_TEXT, "\xe3\x81\x93\xe3\x81z", L, INVALID_TEXT, 3);
+    EXPECT_GOOD(MICRO_TEXT, "\xe3\x81\x93\xe3\x81z", L, INVALID_TEXT, 3);
     EXPECT_GOOD(ELEMENTS, "10A B", L, INVALID_CHARACTER, 3);
     EXPECT_GOOD(ELEMENTS, "10A\x1d", L, INVALID_CHARACTER, 3);
     EXPECT_GOOD(GS1, "10ABC", L, NO_ELEMENTS, 0);
@@ -90,7 +115,7 @@ static void test_check(void) {
 
 static void test_check_pointers(void) {
     const sicklespan_options no_level = {4, 1, 40, 0}, no_range = {0, 2, 1, 0};
-    for (int32_t content = 0; content <= 6; content++) {
+    for (int32_t content = 0; content <= 8; content++) {
         const bool is_gs1 =
             content == SICKLESPAN_CONTENT_GS1 || content == SICKLESPAN_CONTENT_GS1_UNCHECKED;
         EXPECT(check(content, NULL, 0, NULL) == (is_gs1 ? SICKLESPAN_NO_ELEMENTS : SICKLESPAN_OK) &&
@@ -100,7 +125,7 @@ static void test_check_pointers(void) {
     }
     EXPECT(check(SICKLESPAN_CONTENT_TEXT, "a", 1, &no_range) == SICKLESPAN_INVALID_VERSIONS &&
            good_bytes == 88);
-    const int32_t no_contents[] = {-1, 7, 256, INT32_MIN, INT32_MAX};
+    const int32_t no_contents[] = {-1, 9, 256, INT32_MIN, INT32_MAX};
     for (size_t i = 0; i < sizeof no_contents / sizeof *no_contents; i++) {
         EXPECT(check(no_contents[i], "a", 1, NULL) == SICKLESPAN_INVALID_CONTENT &&
                good_bytes == 88);

@@ -156,6 +156,9 @@ static void test_links(void) {
                 {"(01)09506000134352(00)106141412345678908", host, SICKLESPAN_SECOND_KEY, 1, -1},
                 {"(00)106141412345678908(10)A", host, SICKLESPAN_WRONG_QUALIFIER, 2, 10},
                 {"(10)A(01)09506000134352(10)A", host, SICKLESPAN_REPEATED_ELEMENT, 1, 10},
+                {"(01)09506000134352(3922)2172", host, SICKLESPAN_MISSING_ELEMENT, 2, 3922},
+                {"(00)106141412345678908(420)1(421)0361", host, SICKLESPAN_CONFLICTING_ELEMENT, 2,
+                 420},
                 {"(01)09506000134352(10)\xff", host, SICKLESPAN_INVALID_TEXT, 0, -1},
                 {"(01)09506000134352", "a.b:80", SICKLESPAN_OK, 0, -1}};
     for (size_t i = 0; i < sizeof rows / sizeof *rows; i++) {

@@ -10,24 +10,26 @@ The functions return a `Symbol` or raise an error below `SicklespanError`.
 """
 
 from ._errors import (
-    DataTooLongError, ElementError, EmptyValueError, InvalidCharacterError, InvalidCutsError,
-    InvalidFormatError, InvalidIdentifierError, InvalidLevelError, InvalidPartCountError,
-    InvalidSettingError, InvalidTextError, InvalidVersionsError, NoElementsError, NoKeyError,
-    OutOfMemoryError, RepeatedElementError, SecondKeyError, SicklespanError, UnknownIdentifierError,
+    ConflictingElementError, DataTooLongError, ElementError, EmptyValueError, InvalidCharacterError,
+    InvalidCutsError, InvalidFormatError, InvalidIdentifierError, InvalidLevelError,
+    InvalidPartCountError, InvalidSettingError, InvalidTextError, InvalidVersionsError,
+    MissingElementError, NoElementsError, NoKeyError, OutOfMemoryError, RepeatedElementError,
+    SecondKeyError, SicklespanError, UnknownIdentifierError, UnwritableTextError,
     ValueTooLongError, WrongCheckDigitError, WrongDomainError, WrongLengthError,
     WrongQualifierError, WrongValueError)
 from ._library import __version__
 from ._make import (
     elements, gs1, gs1_unchecked, link, link_text, make, make_micro, make_qr, make_sequence, micro,
-    sequence)
+    sequence, text)
 from ._symbol import Symbol
 
 __all__ = [
-    "DataTooLongError", "ElementError", "EmptyValueError", "InvalidCharacterError",
-    "InvalidCutsError", "InvalidFormatError", "InvalidIdentifierError", "InvalidLevelError",
-    "InvalidPartCountError", "InvalidSettingError", "InvalidTextError", "InvalidVersionsError",
-    "NoElementsError", "NoKeyError", "OutOfMemoryError", "RepeatedElementError", "SecondKeyError",
-    "SicklespanError", "Symbol", "UnknownIdentifierError", "ValueTooLongError",
-    "WrongCheckDigitError", "WrongDomainError", "WrongLengthError", "WrongQualifierError",
-    "WrongValueError", "__version__", "elements", "gs1", "gs1_unchecked", "link", "link_text",
-    "make", "make_micro", "make_qr", "make_sequence", "micro", "sequence"]
+    "ConflictingElementError", "DataTooLongError", "ElementError", "EmptyValueError",
+    "InvalidCharacterError", "InvalidCutsError", "InvalidFormatError", "InvalidIdentifierError",
+    "InvalidLevelError", "InvalidPartCountError", "InvalidSettingError", "InvalidTextError",
+    "InvalidVersionsError", "MissingElementError", "NoElementsError", "NoKeyError",
+    "OutOfMemoryError", "RepeatedElementError", "SecondKeyError", "SicklespanError", "Symbol",
+    "UnknownIdentifierError", "UnwritableTextError", "ValueTooLongError", "WrongCheckDigitError",
+    "WrongDomainError", "WrongLengthError", "WrongQualifierError", "WrongValueError", "__version__",
+    "elements", "gs1", "gs1_unchecked", "link", "link_text", "make", "make_micro", "make_qr",
+    "make_sequence", "micro", "sequence", "text"]

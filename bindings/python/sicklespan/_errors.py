@@ -44,7 +44,17 @@ class InvalidCutsError(SicklespanError):
 
 
 class InvalidTextError(SicklespanError):
-    """The text has a lone surrogate, which UTF-8 does not have, or is beyond ASCII for Micro."""
+    """The text has a lone surrogate, which UTF-8 does not have."""
+
+
+class UnwritableTextError(InvalidTextError):
+    """No Micro symbol is read as the text.
+
+    `place` is that of the first character that a Micro symbol cannot have after those before it,
+    from 0.
+    """
+
+    place: Optional[int] = None
 
 
 class ElementError(SicklespanError):
@@ -124,6 +134,14 @@ class RepeatedElementError(ElementError):
     """The identifier of an element of a link stands once more after it."""
 
 
+class MissingElementError(ElementError):
+    """An element needs one that is not in the link."""
+
+
+class ConflictingElementError(ElementError):
+    """An element may not stand beside another one of the link."""
+
+
 class InvalidFormatError(SicklespanError):
     """There is no such format of pictures, or a stream is given and no format."""
 
@@ -167,11 +185,14 @@ ERRORS: Dict[int, Type[SicklespanError]] = {
     27: SecondKeyError,
     28: WrongQualifierError,
     29: RepeatedElementError,
+    30: MissingElementError,
+    31: ConflictingElementError,
+    32: UnwritableTextError,
 }
 
 
 # The numbers of `sicklespan_content`.
-BYTES, TEXT, ELEMENTS, GS1, MICRO, _AUTO, GS1_UNCHECKED = range(7)
+BYTES, TEXT, ELEMENTS, GS1, MICRO, _AUTO, GS1_UNCHECKED, SMALLEST_TEXT, MICRO_TEXT = range(9)
 # The names of settings that have another one in the library.
 _NAMES = {"quiet": "border", "at_x": "at", "at_y": "at"}
 
@@ -204,7 +225,7 @@ def _element_error(status: int, fault: Fault) -> SicklespanError:
 
 def check_link(status: int, text: bytes, domain: bytes) -> None:
     """Raises the error of a status of a link."""
-    if not (12 <= status <= 19 or 24 <= status <= 29):
+    if not (12 <= status <= 19 or 24 <= status <= 31):
         return check(status)
     fault = Fault()
     raise _element_error(library.sicklespan_link_fault(
@@ -213,7 +234,7 @@ def check_link(status: int, text: bytes, domain: bytes) -> None:
 
 def check_data(status: int, content: int, data: bytes, options: Options) -> None:
     """Raises the error of a status of a call with data, and says of how many of them it is."""
-    if status not in (1, 24) and not 12 <= status <= 19:
+    if status not in (1, 24, 32) and not 12 <= status <= 19:
         return check(status)
     fault = Fault()
     if content == GS1 and status != 1:
@@ -230,6 +251,11 @@ def check_data(status: int, content: int, data: bytes, options: Options) -> None
         too_long = DataTooLongError(f"{text}, by {count} byte{'s' * (count > 1)}")
         too_long.too_many = count
         raise too_long
+    if status == 32:
+        place = len(data[:good.value].decode())
+        unwritable = UnwritableTextError(f"{text}, at character {place}")
+        unwritable.place = place
+        raise unwritable
     if status == 12 and content == ELEMENTS:
         error = InvalidCharacterError(f"{text}, at byte {good.value}")
         error.place = good.value

@@ -61,15 +61,16 @@ def _declare(name: str, result: object, *arguments: object) -> None:
 
 library = _opened()
 _AT_THE_END = (c_char_p, c_size_t, POINTER(Shape))
-for _name in ("sicklespan_bytes", "sicklespan_text", "sicklespan_elements", "sicklespan_gs1",
-              "sicklespan_gs1_unchecked"):
+for _name in ("sicklespan_bytes", "sicklespan_text", "sicklespan_smallest_text",
+              "sicklespan_elements", "sicklespan_gs1", "sicklespan_gs1_unchecked"):
     _declare(_name, c_int32, c_char_p, c_size_t, POINTER(Options), *_AT_THE_END)
 _declare("sicklespan_gs1_fault", c_int32, c_char_p, c_size_t, POINTER(Fault))
 _LINK = (c_char_p, c_size_t, c_char_p, c_size_t)
 _declare("sicklespan_link", c_int32, *_LINK, POINTER(Options), *_AT_THE_END)
 _declare("sicklespan_link_text", c_int32, *_LINK, c_char_p, c_size_t, POINTER(c_size_t))
 _declare("sicklespan_link_fault", c_int32, *_LINK, POINTER(Fault))
-_declare("sicklespan_micro", c_int32, c_char_p, c_size_t, c_int32, *_AT_THE_END)
+for _name in ("sicklespan_micro", "sicklespan_micro_text"):
+    _declare(_name, c_int32, c_char_p, c_size_t, c_int32, *_AT_THE_END)
 for _name in ("sicklespan_sequence", "sicklespan_text_sequence"):
     _declare(_name, c_int32, c_char_p, c_size_t, POINTER(c_size_t), c_size_t, c_int32, c_int32,
              *_AT_THE_END)

@@ -5,9 +5,9 @@ import operator
 from typing import Callable, List, Optional, Sequence, Union
 
 from ._errors import (
-    BYTES, ELEMENTS, GS1, GS1_UNCHECKED, MICRO, TEXT, DataTooLongError, InvalidCutsError,
-    InvalidLevelError, InvalidPartCountError, InvalidTextError, InvalidVersionsError, check,
-    check_data, check_link)
+    BYTES, ELEMENTS, GS1, GS1_UNCHECKED, MICRO, MICRO_TEXT, SMALLEST_TEXT, TEXT, DataTooLongError,
+    InvalidCutsError, InvalidLevelError, InvalidPartCountError, InvalidTextError,
+    InvalidVersionsError, check, check_data, check_link)
 from ._library import Options, Shape, library
 from ._symbol import LEVELS, Symbol
 
@@ -70,16 +70,18 @@ def _version(name: str, number: int) -> int:
 
 
 _CALLS = {BYTES: library.sicklespan_bytes, TEXT: library.sicklespan_text,
+          SMALLEST_TEXT: library.sicklespan_smallest_text,
           ELEMENTS: library.sicklespan_elements, GS1: library.sicklespan_gs1,
           GS1_UNCHECKED: library.sicklespan_gs1_unchecked}
+_MICRO_CALLS = {MICRO: library.sicklespan_micro, MICRO_TEXT: library.sicklespan_micro_text}
 
 
 def _drawn(content: int, data: bytes, options: Options) -> Symbol:
     """What a call of the library draws."""
     modules, shape = ctypes.create_string_buffer(_SIZE), Shape()
     rest = (modules, _SIZE, ctypes.byref(shape))
-    if content == MICRO:
-        status = library.sicklespan_micro(data, len(data), options.level, *rest)
+    if content in _MICRO_CALLS:
+        status = _MICRO_CALLS[content](data, len(data), options.level, *rest)
     else:
         status = _CALLS[content](data, len(data), ctypes.byref(options), *rest)
     check_data(status, content, data, options)
@@ -97,8 +99,8 @@ def _options(error: Optional[str], version: Optional[int], min_version: int, max
     return Options(_number(error), least, most, bool(boost_error))
 
 
-def _is_utf8(content: Content) -> bool:
-    """Whether it is a text of which a symbol is to say that it is UTF-8."""
+def _is_beyond_ascii(content: Content) -> bool:
+    """Whether it is a text that has other characters than ASCII has."""
     return isinstance(content, str) and not content.isascii()
 
 
@@ -110,10 +112,14 @@ def make(content: Content, error: Optional[str] = None, version: Optional[int] =
     `error` is the level, L, M, Q or H, and M if it is None. With `boost_error` it is the least
     level: the symbol has the greatest one at which it is no larger. It is the smallest symbol in
     the versions from `min_version` to `max_version`, or has exactly `version`. With `micro` None it
-    is a Micro symbol if one can be it: if no versions are asked for, the content fits one at the
-    level, and is no text beyond ASCII. With `micro` True it is one, or an error.
+    is a Micro symbol if one can be it: if no versions are asked for, and one that is read as the
+    content fits at the level. With `micro` True it is one, or an error.
 
-    ASCII is encoded as it is. Any other text is encoded in UTF-8, and the symbol says so.
+    ASCII is encoded as it is. Any other text is written in the modes, and after the ECI designators
+    of ISO/IEC 8859, Shift JIS and UTF-8, that take the fewest bits: no symbol that is read as the
+    text is smaller. `text` writes UTF-8. The symbol of bytes does not say which characters they
+    are, and pairs of them go in the Kanji mode: where they are UTF-8 beyond ASCII, readers may show
+    other characters.
     """
     options = _options(error, version, min_version, max_version, boost_error)
     is_any = version is None and (min_version, max_version) == (1, 40)
@@ -126,7 +132,18 @@ def make(content: Content, error: Optional[str] = None, version: Optional[int] =
             if micro:
                 raise
     data = _data(content)
-    return _drawn(TEXT if _is_utf8(content) else BYTES, data, options)
+    return _drawn(SMALLEST_TEXT if _is_beyond_ascii(content) else BYTES, data, options)
+
+
+def text(content: str, error: Optional[str] = None, version: Optional[int] = None, *,
+         min_version: int = 1, max_version: int = 40, boost_error: bool = True) -> Symbol:
+    """The best symbol of a text in UTF-8, which the symbol says (ECI 26).
+
+    It is for readers that know no other designator. This takes 12 bits: ASCII is read alike without
+    it, by `make`.
+    """
+    options = _options(error, version, min_version, max_version, boost_error)
+    return _drawn(TEXT, _text("content", content), options)
 
 
 def make_qr(content: Content, error: Optional[str] = None, version: Optional[int] = None, *,
@@ -203,15 +220,16 @@ def elements(content: Union[bytes, bytearray, memoryview], error: Optional[str] 
 
 
 def micro(content: Content, error: Optional[str] = None) -> Symbol:
-    """The best Micro symbol of ASCII text or of bytes, in M1 to M4, at level L, M or Q.
+    """The best Micro symbol of a text or of bytes, in M1 to M4, at level L, M or Q.
 
-    The level is L if it is None. No Micro symbol says in which character set it is: another text is
-    an `InvalidTextError`, and of bytes that are not ASCII readers may show other characters.
+    The level is L if it is None. No Micro symbol says in which character set it is. The characters
+    of a text are those of ASCII alone, or those of the Kanji mode and of ASCII but `\\` and `~`:
+    another text is an `UnwritableTextError`. Of bytes that are not ASCII readers may show other
+    characters.
     """
     data = _data(content)
-    if _is_utf8(content):
-        raise InvalidTextError("a Micro symbol does not say that a text is UTF-8: pass its bytes")
-    return _drawn(MICRO, data, Options(_number(error, "L"), 1, 40, False))
+    kind = MICRO_TEXT if _is_beyond_ascii(content) else MICRO
+    return _drawn(kind, data, Options(_number(error, "L"), 1, 40, False))
 
 
 def make_micro(content: Content, error: Optional[str] = None, *,
@@ -254,10 +272,10 @@ def sequence(content: Content, cuts: Optional[Sequence[int]] = None, error: Opti
     Part i ends before byte `cuts[i]`, and the last one at the end of the message. Where no cuts are
     given, the symbols are as few as can be; if one is enough, it is no part of a sequence.
 
-    Text is encoded as `make` does it. The cuts of text that is not ASCII count the bytes of its
-    UTF-8, and each is between two characters.
+    Text that is not ASCII is encoded in UTF-8, and each symbol says so. Its cuts count the bytes of
+    its UTF-8, and each is between two characters.
     """
-    is_text, data = _is_utf8(content), _data(content)
+    is_text, data = _is_beyond_ascii(content), _data(content)
     level, limit = _number(error), _version("max_version", max_version)
     if cuts is None:
         find = library.sicklespan_text_cuts if is_text else library.sicklespan_cuts

@@ -46,7 +46,7 @@ class Symbols(unittest.TestCase):
         with self.assertRaises(sicklespan.DataTooLongError):
             sicklespan.make(b"a" * 2954, "L")
         for content, most, text in ((b"a" * 18, 1, "by 1 byte"), (b"a" * 30, 13, "by 13 bytes"),
-                                    ("\u00e9" * 10, 4, "by 4 bytes")):
+                                    ("\u00e9" * 18, 4, "by 4 bytes")):
             with self.assertRaises(sicklespan.DataTooLongError) as raised:
                 sicklespan.make(content, "L", max_version=1)
             self.assertEqual(raised.exception.too_many, most)
@@ -64,14 +64,36 @@ class Symbols(unittest.TestCase):
 
     def test_texts(self):
         # Version 1 holds 17 bytes at L, and one less after the 12 bits of the ECI designator.
-        self.assertEqual(sicklespan.make("\u00fc" * 7 + "abc", "L").version, 2)
-        self.assertEqual(sicklespan.make("\u00fc" * 7 + "ab", "L").version, 1)
+        self.assertEqual(sicklespan.text("\u00fc" * 7 + "abc", "L").version, 2)
+        self.assertEqual(sicklespan.text("\u00fc" * 7 + "ab", "L").version, 1)
         self.assertEqual(sicklespan.make(("\u00fc" * 7 + "abc").encode(), "L").version, 1)
         self.assertEqual(sicklespan.make("", "L").version, 1)
-        for make in (sicklespan.make, sicklespan.gs1, sicklespan.micro, sicklespan.sequence):
+        # After a designator of ISO 8859 each of its characters is one byte.
+        self.assertEqual(sicklespan.make("\u00fc" * 16, "L").version, 1)
+        self.assertEqual(sicklespan.make("\u00fc" * 17, "L").version, 2)
+        for make in (sicklespan.make, sicklespan.text, sicklespan.gs1, sicklespan.micro,
+                     sicklespan.sequence):
             with self.assertRaises(sicklespan.InvalidTextError) as raised:
                 make("(10)a\ud800")
             self.assertIn("5", str(raised.exception))
+
+    def test_smallest_texts(self):
+        # At M version 1 holds 128 bits, of which 12 come before Kanji of 13 bits, and 24 before the
+        # bytes of a part of ISO 8859 or of UTF-8.
+        for content, least, of_utf8 in (
+                ("\u5e02\u5317\u524d\u5009\u6771", 1, 2), ("Gr\u00fc\u00dfe an K\u00f6ln", 1, 2),
+                ("Gr\u00fc\u00dfe aus K\u00f6ln", 2, 2),
+                ("\u039e\u03b5\u03c3\u03ba\u03b5\u03c0\u03ac\u03b6\u03c9", 1, 2),
+                ("\U0001f600 OK \U0001f600", 1, 1)):
+            symbol = sicklespan.make(content, "M", boost_error=False)
+            self.assertEqual(symbol.version, least)
+            self.assertEqual(sicklespan.text(content, "M", boost_error=False).version, of_utf8)
+        # It holds 104 and 72 bits at Q and H.
+        symbol = sicklespan.make("\u5e02\u5317\u524d\u5009\u6771")
+        self.assertEqual(symbol.designator, "1-Q")
+        with self.assertRaises(sicklespan.DataTooLongError) as raised:
+            sicklespan.make("\u5e02\u5317\u524d\u5009\u6771", "H", version=1)
+        self.assertEqual(raised.exception.too_many, 3)
 
     def test_types(self):
         self.assertEqual(sicklespan.make(bytearray(b"hello")), sicklespan.make(b"hello"))
@@ -81,6 +103,7 @@ class Symbols(unittest.TestCase):
         wrong = (("content", lambda: sicklespan.make(123)),
                  ("content", lambda: sicklespan.gs1(b"(10)A")),
                  ("content", lambda: sicklespan.elements("10A")),
+                 ("content", lambda: sicklespan.text(b"a")),
                  ("error", lambda: sicklespan.make("a", 1)),
                  ("symbol_count", lambda: sicklespan.make_sequence("abc", symbol_count="2")),
                  ("version", lambda: sicklespan.make("a", version="M1")),
@@ -168,6 +191,8 @@ class Symbols(unittest.TestCase):
                   ("(01)09506000134352", "a/b", "WrongDomain"), ("(10)A", "a.b", "NoKey"),
                   ("(01)09506000134352(00)106141412345678908", "a.b", "SecondKey"),
                   ("(00)106141412345678908(10)A", "a.b", "WrongQualifier"),
+                  ("(01)09506000134352(3922)2172", "a.b", "MissingElement"),
+                  ("(00)106141412345678908(420)1(421)0361", "a.b", "ConflictingElement"),
                   ("(10)A(01)09506000134352(10)A", "a.b", "RepeatedElement"))
         for text, domain, error in faults:
             for call in (sicklespan.link, sicklespan.link_text):
@@ -184,9 +209,19 @@ class Symbols(unittest.TestCase):
         self.assertEqual((symbol.version, symbol.level, symbol.mask), ("M1", "L", 2))
         self.assertEqual((symbol.width, symbol.is_micro), (11, True))
         self.assertEqual(symbol.default_border_size, 2)
-        # No Micro symbol says that it is UTF-8.
-        with self.assertRaises(sicklespan.InvalidTextError):
-            sicklespan.micro("\u00e9")
+        # M3 and M4 hold 84 and 128 bits at L; five Kanji take 2 + 3 + 65, and nine 3 + 4 + 117.
+        self.assertEqual(sicklespan.micro("\u5e02\u5317\u524d\u5009\u6771").version, "M3")
+        self.assertEqual(sicklespan.micro("\u6771" * 9).version, "M4")
+        with self.assertRaises(sicklespan.DataTooLongError) as raised:
+            sicklespan.micro("\u6771" * 10)
+        self.assertEqual(raised.exception.too_many, 3)
+        for content, place in (("\u00e9", 0), ("\u6771\u00e9", 1), ("\u6771\u6771~", 2)):
+            with self.assertRaises(sicklespan.UnwritableTextError) as raised:
+                sicklespan.micro(content)
+            self.assertIsInstance(raised.exception, sicklespan.InvalidTextError)
+            self.assertEqual(raised.exception.place, place)
+            self.assertEqual(str(raised.exception),
+                             f"no Micro symbol is read as the text, at character {place}")
         self.assertEqual(sicklespan.micro("\u00e9".encode()).version, "M3")
         with self.assertRaises(sicklespan.InvalidLevelError) as raised:
             sicklespan.micro("12345", "H")
@@ -260,7 +295,7 @@ class Symbols(unittest.TestCase):
         for content, options, error in (
                 ("1" * 36, {}, sicklespan.DataTooLongError),
                 ("1", {"error": "H"}, sicklespan.InvalidLevelError),
-                ("\u00e9", {}, sicklespan.InvalidTextError),
+                ("\u00e9", {}, sicklespan.UnwritableTextError),
                 ("1", {"version": 1}, sicklespan.InvalidVersionsError)):
             with self.assertRaises(error):
                 sicklespan.make(content, micro=True, **options)

@@ -82,6 +82,12 @@ pub enum Error {
         /// The place of the byte, from 0.
         place: usize,
     },
+    /// No Micro symbol is read as the text.
+    UnwritableText {
+        /// The place of the first character that a Micro symbol cannot have after those before it,
+        /// in bytes from 0.
+        place: usize,
+    },
     /// The text does not begin with a bracketed identifier.
     NoElements,
     /// An identifier is not two to four digits in brackets.
@@ -110,6 +116,10 @@ pub enum Error {
     WrongQualifier(Fault),
     /// The identifier of an element stands once more after it.
     RepeatedElement(Fault),
+    /// An element needs one that is not in the link.
+    MissingElement(Fault),
+    /// An element may not stand beside another one of the link.
+    ConflictingElement(Fault),
     /// A setting of a picture is out of its bounds, or the format does not have it.
     InvalidSetting {
         /// The name of the setting, which is that of its method in `Settings`.
@@ -144,6 +154,8 @@ impl Error {
             27 => Error::SecondKey(fault),
             28 => Error::WrongQualifier(fault),
             29 => Error::RepeatedElement(fault),
+            30 => Error::MissingElement(fault),
+            31 => Error::ConflictingElement(fault),
             _ => unreachable!("a status that a slice of full size can have"),
         }
     }
@@ -161,7 +173,7 @@ impl Error {
         data: &[u8],
         options: &ffi::Options,
     ) -> Error {
-        if status != 1 && status != 24 && !(12..=19).contains(&status) {
+        if ![1, 24, 32].contains(&status) && !(12..=19).contains(&status) {
             return Error::of(status);
         }
         if content == Content::Gs1 && status != 1 {
@@ -172,6 +184,7 @@ impl Error {
         match found {
             1 => Error::DataTooLong { too_many: Some(data.len() - good) },
             12 if content == Content::Elements => Error::InvalidCharacter { place: good },
+            32 => Error::UnwritableText { place: good },
             _ => {
                 let element = data[..good].iter().filter(|byte| **byte == b'(').count() + 1;
                 let reason = ffi::status_text(found);
@@ -182,7 +195,7 @@ impl Error {
 
     /// The error of a status of a link.
     pub(crate) fn of_link(status: i32, text: &str, domain: &str) -> Error {
-        if (12..=19).contains(&status) || (24..=29).contains(&status) {
+        if (12..=19).contains(&status) || (24..=31).contains(&status) {
             return Error::of_fault(ffi::link_fault(text.as_bytes(), domain.as_bytes()));
         }
         Error::of(status)
@@ -215,7 +228,9 @@ impl Error {
             | Error::WrongValue(fault)
             | Error::SecondKey(fault)
             | Error::WrongQualifier(fault)
-            | Error::RepeatedElement(fault) => Some(fault),
+            | Error::RepeatedElement(fault)
+            | Error::MissingElement(fault)
+            | Error::ConflictingElement(fault) => Some(fault),
             _ => None,
         }
     }
@@ -245,6 +260,9 @@ impl Error {
             Error::SecondKey(_) => 27,
             Error::WrongQualifier(_) => 28,
             Error::RepeatedElement(_) => 29,
+            Error::MissingElement(_) => 30,
+            Error::ConflictingElement(_) => 31,
+            Error::UnwritableText { .. } => 32,
         }
     }
 }
@@ -258,7 +276,9 @@ impl fmt::Display for Error {
         match self {
             Error::DataTooLong { too_many: Some(1) } => write!(f, "{text}, by 1 byte"),
             Error::DataTooLong { too_many: Some(count) } => write!(f, "{text}, by {count} bytes"),
-            Error::InvalidCharacter { place } => write!(f, "{text}, at byte {place}"),
+            Error::InvalidCharacter { place } | Error::UnwritableText { place } => {
+                write!(f, "{text}, at byte {place}")
+            }
             Error::InvalidSetting { name } => write!(f, "{text}: {name}"),
             _ => f.write_str(text),
         }

@@ -63,6 +63,8 @@ pub enum Content {
     Micro = 4,
     Auto = 5,
     Gs1Unchecked = 6,
+    SmallestText = 7,
+    MicroText = 8,
 }
 
 #[link(name = "sicklespan", kind = "static")]
@@ -84,6 +86,14 @@ extern "C" {
         shape: *mut Shape,
     ) -> i32;
     fn sicklespan_text(
+        data: *const u8,
+        length: usize,
+        options: *const Options,
+        modules: *mut u8,
+        room: usize,
+        shape: *mut Shape,
+    ) -> i32;
+    fn sicklespan_smallest_text(
         data: *const u8,
         length: usize,
         options: *const Options,
@@ -144,6 +154,14 @@ extern "C" {
     ) -> i32;
     fn sicklespan_micro(
         bytes: *const u8,
+        length: usize,
+        level: i32,
+        modules: *mut u8,
+        room: usize,
+        shape: *mut Shape,
+    ) -> i32;
+    fn sicklespan_micro_text(
+        text: *const u8,
         length: usize,
         level: i32,
         modules: *mut u8,
@@ -225,9 +243,10 @@ pub fn symbol(
     shape: &mut Shape,
 ) -> i32 {
     let call = match content {
-        Content::Bytes | Content::Micro => sicklespan_bytes,
+        Content::Bytes | Content::Micro | Content::MicroText => sicklespan_bytes,
         Content::Auto => sicklespan_auto,
         Content::Text => sicklespan_text,
+        Content::SmallestText => sicklespan_smallest_text,
         Content::Elements => sicklespan_elements,
         Content::Gs1 => sicklespan_gs1,
         Content::Gs1Unchecked => sicklespan_gs1_unchecked,
@@ -285,17 +304,19 @@ pub fn link_fault(text: &[u8], domain: &[u8]) -> (i32, Fault) {
     (status, fault)
 }
 
-pub fn micro(bytes: &[u8], level: i32, modules: &mut [u8], shape: &mut Shape) -> i32 {
-    unsafe {
-        sicklespan_micro(
-            bytes.as_ptr(),
-            bytes.len(),
-            level,
-            modules.as_mut_ptr(),
-            modules.len(),
-            shape,
-        )
-    }
+/// The content is one of a Micro symbol: bytes or a text.
+pub fn micro(
+    content: Content,
+    data: &[u8],
+    level: i32,
+    modules: &mut [u8],
+    shape: &mut Shape,
+) -> i32 {
+    let call = match content {
+        Content::MicroText => sicklespan_micro_text,
+        _ => sicklespan_micro,
+    };
+    unsafe { call(data.as_ptr(), data.len(), level, modules.as_mut_ptr(), modules.len(), shape) }
 }
 
 /// There is a shape for each part, and the content is bytes or a text.

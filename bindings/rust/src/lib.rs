@@ -93,7 +93,8 @@ pub struct Symbol {
 
 impl Symbol {
     /// Returns the best symbol of some bytes at a level, in the smallest of the versions 1 to 40
-    /// into which they fit.
+    /// into which they fit. It does not say which characters they are, and pairs of them go in the
+    /// Kanji mode: where they are UTF-8 beyond ASCII, readers may show other characters.
     ///
     /// # Errors
     ///
@@ -103,12 +104,12 @@ impl Symbol {
     }
 
     /// Returns the best symbol of a text at a level: of ASCII that of `new`, and of other text that
-    /// of `text`, as `qrlabel` and the package for Python do it.
+    /// of `smallest_text`, as `qrlabel` and the package for Python do it.
     ///
     /// ```
     /// # use sicklespan::{Level, Symbol};
     /// assert_eq!(Symbol::auto("hello", Level::M), Symbol::new(b"hello", Level::M));
-    /// assert_eq!(Symbol::auto("Grüße", Level::M), Symbol::text("Grüße", Level::M));
+    /// assert_eq!(Symbol::auto("Grüße", Level::M), Symbol::smallest_text("Grüße", Level::M));
     /// ```
     ///
     /// # Errors
@@ -118,9 +119,30 @@ impl Symbol {
         Symbol::auto_with(text, &Options::new(level))
     }
 
+    /// Returns the smallest symbol of a text at a level: in the modes, and after the ECI
+    /// designators of ISO/IEC 8859, Shift JIS and UTF-8, that take the fewest bits. A reader that
+    /// follows the standard finds the text in it, and no symbol that is read as the text, at the
+    /// level, is smaller.
+    ///
+    /// ```
+    /// # use sicklespan::{Level, Symbol, Version};
+    /// let text = "\u{5e02}\u{5317}\u{524d}\u{5009}\u{6771}";
+    /// assert_eq!(Symbol::smallest_text(text, Level::M)?.version(), Version::Normal(1));
+    /// assert_eq!(Symbol::text(text, Level::M)?.version(), Version::Normal(2));
+    /// # Ok::<(), sicklespan::Error>(())
+    /// ```
+    ///
+    /// # Errors
+    ///
+    /// `DataTooLong` exactly where nothing that is read as the text fits a version at the level;
+    /// `OutOfMemory`.
+    pub fn smallest_text(text: &str, level: Level) -> Result<Symbol, Error> {
+        Symbol::smallest_text_with(text, &Options::new(level))
+    }
+
     /// Returns the best symbol of a text at a level, which says that it is in UTF-8 (ECI 26), so
-    /// that readers need not guess its script. This takes 12 bits: ASCII is read alike without it,
-    /// by `new`.
+    /// that readers need not guess its script: for readers that know no other designator. This
+    /// takes 12 bits: ASCII is read alike without it, by `new`.
     ///
     /// ```
     /// # use sicklespan::{Level, Symbol};
@@ -231,6 +253,15 @@ impl Symbol {
         Symbol::asked(ffi::Content::Auto, text.as_bytes(), options)
     }
 
+    /// Returns the symbol of a text that the options ask for, as `smallest_text` says.
+    ///
+    /// # Errors
+    ///
+    /// `InvalidVersions`; then as `smallest_text`, for the versions of the options.
+    pub fn smallest_text_with(text: &str, options: &Options) -> Result<Symbol, Error> {
+        Symbol::asked(ffi::Content::SmallestText, text.as_bytes(), options)
+    }
+
     /// Returns the symbol of a text that the options ask for, as `text` says.
     ///
     /// # Errors
@@ -298,10 +329,29 @@ impl Symbol {
     /// `InvalidLevel` for level H; then `DataTooLong` exactly where they fit none of them, and
     /// `OutOfMemory`.
     pub fn micro(bytes: &[u8], level: Level) -> Result<Symbol, Error> {
-        let options = Options::new(level).numbers();
-        Symbol::drawn(ffi::Content::Micro, bytes, &options, |modules, shape| {
-            ffi::micro(bytes, level as i32, modules, shape)
-        })
+        Symbol::drawn_micro(ffi::Content::Micro, bytes, level)
+    }
+
+    /// Returns the smallest Micro symbol of a text. It has no ECI designators: its characters are
+    /// those of ASCII alone, or those of the Kanji mode and of ASCII but `\` and `~`, for which
+    /// some readers show other signs there.
+    ///
+    /// ```
+    /// # use sicklespan::{Error, Level, Symbol, Version};
+    /// let text = "\u{5e02}\u{5317}\u{524d}\u{5009}\u{6771}";
+    /// assert_eq!(Symbol::micro_text(text, Level::L)?.version(), Version::Micro(3));
+    /// let error = Error::UnwritableText { place: 3 };
+    /// assert_eq!(Symbol::micro_text("caf\u{e9}", Level::L), Err(error));
+    /// # Ok::<(), Error>(())
+    /// ```
+    ///
+    /// # Errors
+    ///
+    /// `InvalidLevel` for level H; then `UnwritableText` exactly where no Micro symbol is read as
+    /// the text; then `DataTooLong` exactly where nothing that is read as it fits any of M1 to M4
+    /// at the level, and `OutOfMemory`.
+    pub fn micro_text(text: &str, level: Level) -> Result<Symbol, Error> {
+        Symbol::drawn_micro(ffi::Content::MicroText, text.as_bytes(), level)
     }
 
     /// Returns the 2 to 16 symbols that carry a message together (Structured Append), each in a
@@ -423,6 +473,14 @@ impl Symbol {
         let options = options.numbers();
         Symbol::drawn(content, data, &options, |modules, shape| {
             ffi::symbol(content, data, &options, modules, shape)
+        })
+    }
+
+    /// The Micro symbol of bytes or of a text.
+    fn drawn_micro(content: ffi::Content, data: &[u8], level: Level) -> Result<Symbol, Error> {
+        let options = Options::new(level).numbers();
+        Symbol::drawn(content, data, &options, |modules, shape| {
+            ffi::micro(content, data, level as i32, modules, shape)
         })
     }
 

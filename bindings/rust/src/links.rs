@@ -18,7 +18,8 @@ use crate::ffi;
 ///
 /// `DataTooLong` for a text of more than 11815 bytes; those of `Symbol::gs1` for a fault of the
 /// elements; `WrongDomain`; `NoKey`; of the first element that has a fault `WrongQualifier`,
-/// `SecondKey` or `RepeatedElement`; `OutOfMemory`.
+/// `SecondKey` or `RepeatedElement`; of the first that may not stand beside the others
+/// `MissingElement` or `ConflictingElement`; `OutOfMemory`.
 pub fn link_text(text: &str, domain: &str) -> Result<String, Error> {
     let (at, host) = (text.as_bytes(), domain.as_bytes());
     let mut size = 0;

@@ -104,8 +104,58 @@ fn tells_how_many_are_too_many() {
     assert_eq!(Symbol::text_with(&format!("a{}", "é".repeat(8)), &first), Err(too_long(2)));
     assert_eq!(Symbol::micro(&[b'a'; 20], Level::L), Err(too_long(5)));
     assert_eq!(Symbol::auto_with(&"a".repeat(20), &first), Err(too_long(3)));
-    assert_eq!(Symbol::auto_with(&"é".repeat(10), &first), Err(too_long(4)));
+    // After a designator of ISO 8859, 16 characters: some characters of two bytes are too many.
+    assert_eq!(Symbol::auto_with(&"é".repeat(18), &first), Err(too_long(4)));
     assert_eq!(PART_TOO_LONG.to_string(), "the data are too long");
+}
+
+/// Texts beyond ASCII, with the version at level M and in UTF-8: version 1 holds 128 bits, of which
+/// 12 come before Kanji of 13 bits, and 24 before the bytes of a part of ISO/IEC 8859 or of UTF-8.
+const TEXTS: [(&str, u8, u8); 5] = [
+    ("市北前倉東", 1, 2),
+    ("Grüße an Köln", 1, 2),
+    ("Grüße aus Köln", 2, 2),
+    ("Ξεσκεπάζω την ψυχοφθόρα", 2, 4),
+    ("😀 OK 😀", 1, 1),
+];
+
+#[test]
+fn draws_smallest_texts() {
+    for (text, least, of_utf8) in TEXTS {
+        let symbol = Symbol::smallest_text(text, Level::M).unwrap();
+        assert_eq!(symbol.version(), Version::Normal(least), "{text}");
+        assert_eq!(Symbol::auto(text, Level::M), Ok(symbol));
+        let symbol = Symbol::text(text, Level::M).unwrap();
+        assert_eq!(symbol.version(), Version::Normal(of_utf8), "{text}");
+    }
+    // Version 1 holds 104 and 72 bits at Q and H, and five Kanji take 77.
+    let strongest = Options::new(Level::L).strongest();
+    let symbol = Symbol::smallest_text_with(TEXTS[0].0, &strongest).unwrap();
+    assert_eq!((symbol.version(), symbol.level()), (Version::Normal(1), Level::Q));
+    let first = Options::new(Level::H).max_version(1);
+    assert_eq!(Symbol::smallest_text_with(TEXTS[0].0, &first), Err(too_long(3)));
+    let no_versions = Options::new(Level::H).max_version(0);
+    let error = Symbol::smallest_text_with(TEXTS[0].0, &no_versions);
+    assert_eq!(error, Err(Error::InvalidVersions));
+}
+
+#[test]
+fn draws_micro_texts() {
+    // M3 holds 84 and 68 bits at L and M, of which five Kanji take 2 + 3 + 65.
+    for (level, number) in [(Level::L, 3), (Level::M, 4), (Level::Q, 4)] {
+        let symbol = Symbol::micro_text("市北前倉東", level).unwrap();
+        assert_eq!((symbol.version(), symbol.level()), (Version::Micro(number), level));
+    }
+    assert_eq!(Symbol::micro_text("12345", Level::L), Symbol::micro(b"12345", Level::L));
+    assert_eq!(Symbol::micro_text("é", Level::H), Err(Error::InvalidLevel));
+    for (text, place) in [("é", 0), ("東é", 3), ("東~", 3), ("~東", 1), ("東😀", 3)] {
+        let error = Symbol::micro_text(text, Level::L).unwrap_err();
+        assert_eq!(error, Error::UnwritableText { place }, "{text}");
+        let said = format!("no Micro symbol is read as the text, at byte {place}");
+        assert_eq!(error.to_string(), said);
+    }
+    // Nine Kanji take 3 + 4 + 117 of the 128 bits of M4.
+    assert_eq!(Symbol::micro_text(&"東".repeat(11), Level::L), Err(too_long(6)));
 }
 
 fn said(what: &str) -> String {

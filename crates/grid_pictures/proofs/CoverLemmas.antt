@@ -2,7 +2,7 @@
 use Rattle.std.proofs.Common.{◌≡◌, ℕ, zero, suc, ◌+◌, ◌-◌, ◌<◌, ◌≤◌, true, false, refl, arith, inl, inr}
 use Rattle.std.proofs.lemmas.Bool.{true_from_ne_false, cases_lt, cases_Bool, Decides.nat_tests}
 use Rattle.grid_pictures.{specs.Pictures.Picture, specs.Pictures.columns_of, specs.Pictures.is_dark_module, specs.Paths.begins_run, specs.Paths.dark_run_length}
-use Rattle.grid_pictures.{specs.Covered.Covers, specs.Covered.CoversDarkModules, proofs.PathLemmas.run_dark, proofs.PathLemmas.run_light}
+use Rattle.grid_pictures.{specs.PathLaws.Covers, specs.PathLaws.CoversDarkModules, proofs.PathLemmas.run_dark, proofs.PathLemmas.run_light}
 use Rattle.grid_pictures.{proofs.PathLemmas.run_end}
 
 -- a run of some modules begins within the row, and with a dark module

@@ -1,5 +1,5 @@
 pub mod Pictures
-pub mod Shown
+pub mod Picture
 pub mod Rows
 pub mod Bitmaps
 pub mod Terminals
@@ -7,4 +7,4 @@ pub mod Paths
 pub mod Pens
 pub mod Numbers
 pub mod Runs
-pub mod Covered
+pub mod PathLaws

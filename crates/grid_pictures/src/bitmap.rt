@@ -7,13 +7,13 @@ ghost use Rattle.grid_pictures.specs.Bitmaps.{bitmap_row, bits_number, first_row
 ghost use Rattle.grid_pictures.specs.Bitmaps.{rows_from};
 ghost use Rattle.grid_pictures.specs.Pictures.{pixel_height};
 ghost use Rattle.grid_pictures.specs.Rows.{dark_byte, is_dark_at};
-ghost use Rattle.grid_pictures.specs.Shown.{shown};
+ghost use Rattle.grid_pictures.specs.Picture.{shown};
 
 use crate::picture::{Picture, ROOM, Row};
 use std::alloc::{AllocError, Global};
 
-/// Appends all rows of pixels. Those of one row of modules are equal. It fails only for lack of
-/// memory.
+/// Appends all rows of pixels. Those of one row of modules are equal. It fails only for lack
+/// of memory.
 #[tactic(auto, using(crate::proofs::BitmapLemmas::rows))]
 pub fn push_rows(alloc: Global, bytes: &mut Vec<u8>, picture: &Picture) -> Result<(), AllocError>
     ensures { OnOk result

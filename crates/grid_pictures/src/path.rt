@@ -9,7 +9,7 @@ ghost use Rattle.grid_pictures.specs.Paths.{path, row_path};
 ghost use Rattle.grid_pictures.specs.Runs.{EndsRun};
 ghost use Rattle.grid_pictures.specs.Pens.{pdf_rectangle, rectangle_by};
 ghost use Rattle.grid_pictures.specs.Pictures.{columns_of, rows_of};
-ghost use Rattle.grid_pictures.specs.Shown.{shown};
+ghost use Rattle.grid_pictures.specs.Picture.{shown};
 
 use crate::numbers::NUMBERS;
 use crate::pen::Pen;
@@ -19,8 +19,8 @@ use std::alloc::AllocError;
 /// Room for the rectangles of a row: none has more than 17 bytes.
 const LINE: usize = 17 * ROOM;
 
-/// Appends the rectangles of all rows, as the format of the pen has them. It fails only for lack of
-/// memory.
+/// Appends the rectangles of all rows, as the format of the pen has them. It fails only for lack
+/// of memory.
 #[tactic(auto, using(crate::proofs::PathLemmas::paths))]
 pub fn push_path(text: &mut String, picture: &Picture, pen: Pen) -> Result<(), AllocError>
     ensures { OnOk result (string_bytes text.new ≡ string_bytes text.old

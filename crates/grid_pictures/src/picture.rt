@@ -87,12 +87,12 @@ impl<'a> Row<'a> {
 }
 
 impl<'a> Picture<'a> {
-    ghost use Rattle.qrcode_core.specs.Drawn.{drawn_grid};
+    ghost use Rattle.qrcode_core.specs.Symbol.{drawn_grid};
     ghost use Rattle.qrcode_core.specs.Grids.{grid_of, HasAllRows};
     ghost use Rattle.grid_pictures.specs.Pictures.{picture, IsDrawable};
     ghost use Rattle.grid_pictures.specs.Bitmaps.{row_length};
     ghost use Rattle.grid_pictures.specs.Rows.{is_dark_at};
-    ghost use Rattle.grid_pictures.specs.Shown.{shown};
+    ghost use Rattle.grid_pictures.specs.Picture.{shown};
 
     /// Returns the picture of a symbol.
     pub fn of_symbol(symbol: &'a Symbol, options: RenderOptions) -> Picture<'a>

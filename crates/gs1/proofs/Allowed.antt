@@ -13,7 +13,7 @@ use Rattle.gs1_base.specs.Characters.{is_within, is_decimal_digit}
 use Rattle.gs1.specs.Elements.{Element, is_identifier}
 use Rattle.gs1.specs.Checks.{fault_if}
 use Rattle.gs1.specs.Table.{components}
-use Rattle.gs1.specs.Values.{is_allowed, wrong_character, piece_fault, value_fault, number_of}
+use Rattle.gs1.specs.Values.{is_allowed, wrong_character, piece_fault, value_fault, number_of_identifier}
 use Rattle.gs1.specs.Values.{is_assigned, identifier_error, value_error, element_error, first_error}
 use Rattle.gs1.specs.declared.reason.Fault.{Fault}
 use Rattle.gs1.specs.declared.reason.Reason.{Reason}
@@ -137,10 +137,10 @@ identifier_tests number identifier e = passed (is_identifier identifier) (is_ass
     passed false b x y e = absurd (let h : Some y ≡ None = e in cc)
 
 pub value_tests : (number : ℕ) (identifier value : List ℕ) → value_error number identifier value ≡ None →
-    (0 < length value) × (value_fault (components (number_of identifier)) 0 value ≡ None)
+    (0 < length value) × (value_fault (components (number_of_identifier identifier)) 0 value ≡ None)
 unfolding value_error
 value_tests number identifier value e =
-    let none = none_mapped _ (option_or (fault_if (length value == 0) 0 TooShort) (value_fault (components (number_of identifier)) 0 value)) e in
+    let none = none_mapped _ (option_or (fault_if (length value == 0) 0 TooShort) (value_fault (components (number_of_identifier identifier)) 0 value)) e in
     let split = neither (fault_if (length value == 0) 0 TooShort) _ none in
     (some (length value) (not_wrong _ 0 TooShort split.0), split.1)
   where
@@ -171,11 +171,11 @@ readable number e none =
         long = long.0;
         known = known;
         size = λ n is. (let rest : length e.value ≡ n - length e.identifier =
-            exact_length (components (number_of e.identifier)) (n - length e.identifier) e.value
+            exact_length (components (number_of_identifier e.identifier)) (n - length e.identifier) e.value
             (some_components _ assigned.1) (exact e.identifier n parts.1 long.0 long.1 known is) value.1 in
             omega (arith, length-append e.identifier e.value, value.0));
         encodable = All-append (λ c. is_encodable c ≡ true) e.identifier e.value digits
-            (value_encodable (components (number_of e.identifier)) 0 e.value value.1);
+            (value_encodable (components (number_of_identifier e.identifier)) 0 e.value value.1);
       },
       value.0,
     )
@@ -192,4 +192,4 @@ pub allowed_value : (number : ℕ) (e : Element) → element_error number e ≡ 
 unfolding element_error
 allowed_value number e none =
     let split = neither (identifier_error number e.identifier) _ none in
-    value_encodable (components (number_of e.identifier)) 0 e.value (value_tests number e.identifier e.value split.1).1
+    value_encodable (components (number_of_identifier e.identifier)) 0 e.value (value_tests number e.identifier e.value split.1).1

@@ -8,7 +8,7 @@ use Rattle.gs1_base.specs.Characters.{is_within}
 use Rattle.gs1.specs.Elements.{Element}
 use Rattle.gs1.specs.Table.{is_measure, components, components_of_two, components_of_three, components_of_measure, components_of_transport}
 use Rattle.gs1.specs.Table.{components_of_meat, components_of_person, components_of_item, components_of_other, greatest_of}
-use Rattle.gs1.specs.Values.{value_fault, piece_fault, element_error, identifier_error, number_of}
+use Rattle.gs1.specs.Values.{value_fault, piece_fault, element_error, identifier_error, number_of_identifier}
 use Rattle.gs1.specs.declared.reason.Reason.TheVariants.{TooLong}
 use Rattle.gs1.specs.declared.table.Component.{Component}
 use Rattle.gs1.proofs.Faults.{neither}
@@ -171,6 +171,6 @@ unfolding element_error
 short_value number e none =
     let split = neither (identifier_error number e.identifier) _ none in
     let value = value_tests number e.identifier e.value split.1 in
-    let within = within_total (components (number_of e.identifier)) 0 e.value value.1 in
-    let most = at_most (total (components (number_of e.identifier))) 90 (all_fit (number_of e.identifier)) in
+    let within = within_total (components (number_of_identifier e.identifier)) 0 e.value value.1 in
+    let most = at_most (total (components (number_of_identifier e.identifier))) 90 (all_fit (number_of_identifier e.identifier)) in
     omega (arith, within, most)

@@ -20,4 +20,5 @@ pub mod AllowedStrings
 pub mod Refused
 pub mod Conflicts
 pub mod Scans
+pub mod Ascii
 pub mod Lengths

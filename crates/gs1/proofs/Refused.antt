@@ -8,7 +8,7 @@ use Rattle.gs1.specs.Checks.{two_digits}
 use Rattle.gs1.specs.Elements.{Element, written_elements}
 use Rattle.gs1.specs.Strings.{FindsBefore}
 use Rattle.gs1.specs.Values.{identifier_error, value_error, element_error, first_error, text_error, IsRefusedByTable}
-use Rattle.gs1.specs.Values.{is_assigned, number_of}
+use Rattle.gs1.specs.Values.{is_assigned, number_of_identifier}
 use Rattle.gs1.specs.Elements.{is_identifier}
 use Rattle.gs1.specs.Checked.{BeginsWithError, IsFirstError, IsRefusedStringByTable, no_element_error}
 use Rattle.gs1.specs.declared.reason.Fault.{Fault}
@@ -24,8 +24,8 @@ identifier_other : (number : ℕ) (identifier : List ℕ) → IsOther (identifie
 unfolding identifier_error
 identifier_other number identifier =
     elim (is_identifier identifier) as (λ a. IsOther (cond a (cond (is_assigned identifier) None
-    (Some (UnknownIdentifier number (number_of identifier)))) (Some (InvalidIdentifier number)))) [
-      | true ↦ elim (is_assigned identifier) as (λ b. IsOther (cond b None (Some (UnknownIdentifier number (number_of identifier))))) [
+    (Some (UnknownIdentifier number (number_of_identifier identifier)))) (Some (InvalidIdentifier number)))) [
+      | true ↦ elim (is_assigned identifier) as (λ b. IsOther (cond b None (Some (UnknownIdentifier number (number_of_identifier identifier))))) [
         | true ↦ (λ e. cc, λ e. cc)
         | false ↦ (λ e. cc, λ e. cc)
       ]
@@ -42,7 +42,7 @@ mapped_other number identifier (Some f) = (
 
 value_other : (number : ℕ) (identifier value : List ℕ) → IsOther (value_error number identifier value)
 unfolding value_error
-value_other number identifier value = mapped_other number (number_of identifier) _
+value_other number identifier value = mapped_other number (number_of_identifier identifier) _
 
 or_other : (a b : Option CheckError) → IsOther a → IsOther b → IsOther (option_or a b)
 or_other None b first second = second

@@ -6,7 +6,10 @@ use Rattle.gs1.specs.Elements.{Element}
 use Rattle.gs1.specs.Reader.{Finds, FindsOnly, BeginsWith, behind_first}
 use Rattle.gs1.specs.Strings.{FindsBefore, BeginsWithNone}
 use Rattle.gs1.specs.Checked.{AreAllowedElements, IsRefusedStringByTable}
-use Rattle.gs1.specs.Read.{IsRefusedScan}
+use Rattle.gs1.specs.Elements.{bracketed}
+use Rattle.gs1.specs.Read.{IsRefusedScan, WritesFirst}
+use Rattle.gs1.proofs.Cuts.{shorter}
+use Rattle.std.proofs.Common.{◌<◌, length, arith, refl, ap}
 use Rattle.gs1.specs.declared.refusal.CheckError.{CheckError}
 use Rattle.gs1.specs.declared.refusal.CheckError.TheVariants.{NoElements, InvalidIdentifier, UnknownIdentifier}
 use Rattle.gs1.specs.declared.refusal.CheckError.TheVariants.{WrongValue, OutOfMemory}
@@ -51,3 +54,23 @@ pub pushed : {X : Type 0} (f : X → Element) (bytes : List ℕ) (items longer :
     BeginsWith rest (f x) → FindsBefore bytes (map f longer) next
 pushed f bytes items longer x rest next longer_is next_is found begins =
     rw (longer_is, next_is, map-append f items (x ∷ [])) (before_more bytes (map f items) rest (f x) found begins)
+
+-- What is left behind an element is shorter.
+pub begun_shorter : (bytes next : List ℕ) (e : Element) → next ≡ behind_first bytes → BeginsWith bytes e → length next < length bytes
+begun_shorter [] next e is begins = absurd (none_first e begins)
+begun_shorter (x ∷ bytes) next e is begins = rw is (shorter (x ∷ bytes) (let some : 0 < length (x ∷ bytes) = omega arith in some))
+
+not_empty : (x : ℕ) (xs : List ℕ) → (x ∷ xs ≡ []) → ⊥
+not_empty x xs e = cc
+
+-- Where a reader finds elements and no others, the text writes all of them.
+pub writes_all : (bytes text : List ℕ) (all : List Element) → Finds bytes all → WritesFirst bytes text → text ≡ bracketed all
+writes_all bytes text all found w =
+    let ends : w.rest ≡ [] = empty w.rest (λ more. some_first bytes all w.elements w.rest found w.found more w.none) in
+    let P : List ℕ → Type 0 = λ r. FindsBefore bytes w.elements r in
+    let finds : Finds bytes w.elements = finds_all bytes w.elements (subst P ends w.found) in
+    w.text_is ∙ ap bracketed (one_list bytes w.elements all finds found)
+  where
+    empty : (xs : List ℕ) → (xs ≢ [] → ⊥) → xs ≡ []
+    empty [] some = refl
+    empty (x ∷ xs) some = absurd (some (not_empty x xs))

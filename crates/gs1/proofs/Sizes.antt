@@ -11,7 +11,7 @@ use Rattle.gs1_base.specs.Characters.{is_within, is_decimal_digit}
 use Rattle.gs1.specs.Identifiers.{prefix, predefined_length_of, identifier_length_of}
 use Rattle.gs1.specs.Checks.{two_digits, decimal_at}
 use Rattle.gs1.specs.Table.{components, components_of_two, components_of_three, components_of_measure, is_measure}
-use Rattle.gs1.specs.Values.{number_of}
+use Rattle.gs1.specs.Values.{number_of_identifier}
 use Rattle.gs1.specs.declared.table.Component.{Component}
 use Rattle.gs1.specs.declared.table.Component.TheVariants.{Needed, Optional}
 
@@ -134,7 +134,7 @@ two_three_four (suc (suc (suc (suc (suc n))))) low high = absurd (omega arith)
 -- The values of an identifier whose elements have a predefined length have the length that is left.
 pub exact : (xs : List ℕ) (n : ℕ) → list_all is_decimal_digit xs ≡ true → 2 ≤ length xs → length xs ≤ 4 →
     identifier_length xs ≡ Some (length xs) → predefined_length xs ≡ Some n →
-    is_exact (n - length xs) (components (number_of xs)) ≡ true
+    is_exact (n - length xs) (components (number_of_identifier xs)) ≡ true
 exact xs n digits long short known size =
     let p = prefix_is xs digits long in
     let known_of : identifier_length_of (two_digits xs 0) ≡ Some (length xs) =

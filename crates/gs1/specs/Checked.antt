@@ -1,5 +1,5 @@
--- Element strings without brackets, by the table: which a check accepts, and the first fault of the
--- others.
+-- Element strings without brackets, by the table: which a check accepts, and the first fault of
+-- the others.
 use Rattle.std.specs.Prelude.{◌≡◌, ◌≢◌, ◌⊎◌, ℕ, ◌&&◌, if◌then◌else◌, List, [], length}
 use Rattle.std.specs.Prelude.{Some, None, is_some, is_none}
 use Rattle.gs1.specs.Identifiers.{prefix, identifier_length}

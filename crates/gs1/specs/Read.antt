@@ -1,5 +1,7 @@
 -- What a scanner gives.
-use Rattle.std.specs.Prelude.{ℕ, ◌==◌, ◌&&◌, if◌then◌else◌, List, drop, slice_index}
+use Rattle.std.specs.Prelude.{◌≡◌, ℕ, ◌==◌, ◌&&◌, if◌then◌else◌, List, drop, slice_index}
+use Rattle.gs1.specs.Elements.{Element, bracketed}
+use Rattle.gs1.specs.Strings.{FindsBefore, BeginsWithNone}
 use Rattle.gs1.specs.Checked.{AreAllowedElements, IsRefusedStringByTable}
 use Rattle.gs1.specs.declared.refusal.CheckError.{CheckError}
 use Rattle.gs1.specs.declared.refusal.CheckError.TheVariants.{OutOfMemory}
@@ -15,3 +17,12 @@ scanned bytes =
 abbrev pub IsRefusedScan : List ℕ → CheckError → Type 0
 IsRefusedScan bytes OutOfMemory = AreAllowedElements bytes
 IsRefusedScan bytes error = IsRefusedStringByTable bytes error
+
+-- The text writes the elements that a reader finds first in the bytes, and what is left begins
+-- with none.
+pub record WritesFirst (bytes text : List ℕ) : Type 0 where
+  pub elements : List Element
+  pub rest : List ℕ
+  pub found : FindsBefore bytes elements rest
+  pub none : BeginsWithNone rest
+  pub text_is : text ≡ bracketed elements

@@ -7,7 +7,7 @@ use Rattle.std.specs.List.{list_any}
 use Rattle.std.specs.Option.{option_or, option_map}
 use Rattle.gs1_base.specs.Characters.{is_within}
 use Rattle.gs1.specs.Elements.{Element, written_elements}
-use Rattle.gs1.specs.Values.{number_of}
+use Rattle.gs1.specs.Values.{number_of_identifier}
 use Rattle.gs1.specs.declared.together.TogetherError.{TogetherError}
 use Rattle.gs1.specs.declared.together.TogetherError.TheVariants.{TextTooLong, MissingElement}
 use Rattle.gs1.specs.declared.together.TogetherError.TheVariants.{ConflictingElement}
@@ -93,7 +93,7 @@ is_among ranges number = list_any (λ range. is_within range.0 range.1 number) r
 abbrev pub first_among : List (ℕ × ℕ) → ℕ → List Element → Option ℕ
 first_among ranges number [] = None
 first_among ranges number (e ∷ elements) =
-    if is_among ranges (number_of e.identifier) then Some number
+    if is_among ranges (number_of_identifier e.identifier) then Some number
     else first_among ranges (number + 1) elements
 
 -- Of the ranges that an element of this number and identifier needs, no element is there.
@@ -118,7 +118,7 @@ element_conflict all number identifier =
 abbrev pub first_conflict : List Element → ℕ → List Element → Option TogetherError
 first_conflict all number [] = None
 first_conflict all number (e ∷ elements) =
-    option_or (element_conflict all number (number_of e.identifier))
+    option_or (element_conflict all number (number_of_identifier e.identifier))
     (first_conflict all (number + 1) elements)
 
 -- The fault of a text: it is longer than any whose elements a symbol holds, or an element has one.

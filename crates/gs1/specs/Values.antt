@@ -110,8 +110,8 @@ value_fault (component ∷ rest) place value =
 -- ---- Elements
 
 -- The number that the two to four digits of an identifier write.
-abbrev pub number_of : List ℕ → ℕ
-number_of identifier =
+abbrev pub number_of_identifier : List ℕ → ℕ
+number_of_identifier identifier =
     if length identifier == 2 then two_digits identifier 0
     else (if length identifier == 3 then 10 * two_digits identifier 0 + decimal_at identifier 2
     else 100 * two_digits identifier 0 + two_digits identifier 2)
@@ -120,21 +120,21 @@ number_of identifier =
 abbrev pub is_assigned : List ℕ → Bool
 is_assigned identifier =
     (unwrap_or (identifier_length identifier) 0 == length identifier)
-    && not (length (components (number_of identifier)) == 0)
+    && not (length (components (number_of_identifier identifier)) == 0)
 
 unfoldable pub identifier_error : ℕ → List ℕ → Option CheckError
 identifier_error number identifier =
     if is_identifier identifier
     then (if is_assigned identifier then None
-    else Some (UnknownIdentifier number (number_of identifier)))
+    else Some (UnknownIdentifier number (number_of_identifier identifier)))
     else Some (InvalidIdentifier number)
 
 -- A value has at least one character.
 unfoldable pub value_error : ℕ → List ℕ → List ℕ → Option CheckError
 value_error number identifier value =
-    option_map (λ fault. WrongValue number (number_of identifier) fault.place fault.reason)
+    option_map (λ fault. WrongValue number (number_of_identifier identifier) fault.place fault.reason)
     (option_or (fault_if (length value == 0) 0 TooShort)
-    (value_fault (components (number_of identifier)) 0 value))
+    (value_fault (components (number_of_identifier identifier)) 0 value))
 
 -- The first fault of the element of this number.
 unfoldable pub element_error : ℕ → Element → Option CheckError

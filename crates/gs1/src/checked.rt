@@ -29,8 +29,8 @@ use std::alloc::Global;
 /// digits), `UnknownIdentifier` (the table does not have it) and `WrongValue`, whose reason is the
 /// first fault of the value from the left. A component is checked in this order: its length
 /// (`TooShort`), its characters (`WrongCharacter`), and what else it has to satisfy; characters
-/// after the last component are `TooLong`. `OutOfMemory` if the text has no fault and an allocation
-/// failed.
+/// after the last component are `TooLong`. `OutOfMemory` if the text has no fault and an
+/// allocation failed.
 pub fn checked_element_string(alloc: Global, text: &str) -> Result<Vec<u8>, CheckError>
     // The text writes the elements, and a reader finds them.
     ensures written { OnOk result (bracketed (written_elements text.now) ≡ text.now) }
@@ -40,7 +40,7 @@ pub fn checked_element_string(alloc: Global, text: &str) -> Result<Vec<u8>, Chec
     ensures elements { IfOk result (λ bytes. AreElements bytes.items) }
 
     ensures allowed { OnOk result (text_error text.now ≡ None) }
-    ensures refused { IfErr result (IsRefusedByTable text.now) }
+    ensures refusal { IfErr result (IsRefusedByTable text.now) }
 {
     let text = text.as_bytes();
     check_text(text)?;
@@ -60,7 +60,7 @@ pub fn checked_element_string(alloc: Global, text: &str) -> Result<Vec<u8>, Chec
 /// `checked_element_string`. Nothing is allocated, so `OutOfMemory` is never returned.
 pub fn check_element_values(bytes: &[u8]) -> Result<(), CheckError>
     ensures allowed { OnOk result (AreAllowedElements bytes.now) }
-    ensures refused { IfErr result (IsRefusedStringByTable bytes.now) }
+    ensures refusal { IfErr result (IsRefusedStringByTable bytes.now) }
     // Nothing is allocated.
     ensures memory { result ≡ Err CheckError.OutOfMemory → ⊥ }
 {

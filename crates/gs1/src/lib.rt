@@ -36,7 +36,7 @@ pub use checked::{check_element_values, checked_element_string};
 pub use error::Gs1Error;
 use gs1_base::cuts::behind;
 pub use identifiers::right_check_digit;
-pub use read::{brackets, elements_of};
+pub use read::{brackets, elements_of, string_brackets};
 pub use reason::Reason;
 pub use refusal::CheckError;
 use std::alloc::Global;
@@ -69,7 +69,7 @@ pub fn element_string(alloc: Global, text: &str) -> Result<Vec<u8>, Gs1Error>
     ensures elements { IfOk result (λ bytes. AreElements bytes.items) }
 
     ensures faultless { OnOk result (text_fault text.now ≡ None) }
-    ensures refused { IfErr result (IsRefusedText text.now) }
+    ensures refusal { IfErr result (IsRefusedText text.now) }
 {
     let text = text.as_bytes();
     check::check_text(text)?;

@@ -3,7 +3,7 @@ ghost use Rattle.std.specs.Prelude.{◌≡◌, ◌++◌, ◌∷◌, map, IfOk, O
 ghost use Rattle.gs1.specs.Elements.{bracketed};
 ghost use Rattle.gs1.specs.Reader.{FindsOnly};
 ghost use Rattle.gs1.specs.Checked.{AreAllowedElements};
-ghost use Rattle.gs1.specs.Read.{scanned, IsRefusedScan};
+ghost use Rattle.gs1.specs.Read.{scanned, IsRefusedScan, WritesFirst};
 
 use crate::checked::check_element_values;
 use crate::refusal::CheckError;
@@ -34,7 +34,7 @@ pub fn elements_of<'a>(alloc: Global, bytes: &'a [u8]) -> Result<Vec<Element<'a>
     ensures found { IfOk result (λ elements. FindsOnly (scanned bytes.now)
         (map (λ e. record { identifier = e.identifier.now; value = e.value.now }) elements.items)) }
     ensures allowed { OnOk result (AreAllowedElements (scanned bytes.now)) }
-    ensures refused { IfErr result (IsRefusedScan (scanned bytes.now)) }
+    ensures refusal { IfErr result (IsRefusedScan (scanned bytes.now)) }
 {
     let mut rest = scanned(bytes);
     check_element_values(rest)?;
@@ -61,6 +61,21 @@ pub fn brackets<'a>(alloc: Global, elements: &[Element<'a>]) -> Result<Vec<u8>, 
         push_brackets(&mut text, element.identifier, element.value)?;
     }
     Ok(text)
+}
+
+/// Returns the text that writes the elements which a reader finds first in an element string, each
+/// identifier in brackets: all of them, unless the bytes that are left begin with no element. The
+/// elements are not checked.
+pub fn string_brackets(alloc: Global, bytes: &[u8]) -> Result<Vec<u8>, AllocError>
+    ensures { IfOk result (λ text. WritesFirst bytes.now text.items) }
+{
+    let mut elements = Vec::new(alloc);
+    let mut rest = bytes;
+    while let Some(first) = first_element(rest) {
+        elements.push(first)?;
+        rest = behind_first(rest);
+    }
+    brackets(alloc, elements.as_slice())
 }
 
 /// Appends an element in brackets.

@@ -41,7 +41,7 @@ pub struct Element<'a> {
 /// so `OutOfMemory` is never returned.
 pub fn check_element_string(bytes: &[u8]) -> Result<(), Gs1Error>
     ensures faultless { OnOk result (AreFaultless bytes.now) }
-    ensures refused { IfErr result (IsRefusedString bytes.now) }
+    ensures refusal { IfErr result (IsRefusedString bytes.now) }
     // Nothing is allocated.
     ensures memory { result ≡ Err Gs1Error.OutOfMemory → ⊥ }
 {
@@ -140,8 +140,8 @@ pub(crate) fn first_element<'a>(bytes: &'a [u8]) -> Option<Element<'a>>
     Some(Element { identifier, value })
 }
 
-/// Returns the bytes of the first element: as many as are predefined, or those before the first
-/// separator.
+/// Returns the bytes of the first element: as many as are predefined, or those before the
+/// first separator.
 fn first_text(bytes: &[u8]) -> &[u8]
     ensures { result.now ≡ first_text bytes.now }
 {

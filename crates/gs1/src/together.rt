@@ -4,7 +4,7 @@ ghost use Rattle.std.specs.Result.{result_err};
 ghost use Rattle.std.specs.List.{list_any};
 ghost use Rattle.gs1_base.specs.Characters.{is_within};
 ghost use Rattle.gs1.specs.Elements.{element_of, elements_behind};
-ghost use Rattle.gs1.specs.Values.{number_of};
+ghost use Rattle.gs1.specs.Values.{number_of_identifier};
 ghost use Rattle.gs1.specs.Together.{needed, needed_by_short, needed_by_long, also_needed};
 ghost use Rattle.gs1.specs.Together.{barred, is_among, first_among};
 ghost use Rattle.gs1.specs.Together.{missing_fault, barred_fault, element_conflict};
@@ -165,31 +165,55 @@ pub fn first_among(ranges: &[(usize, usize)], text: &[u8]) -> Option<usize>
     }
 }
 
+/// Elements, the first of which in ranges of identifiers can be found.
+pub trait ElementList {
+    ghost use Rattle.std.specs.Prelude.{List};
+    ghost use Rattle.gs1.specs.Elements.{Element as SpecElement};
+
+    ghost elements: { Self → List SpecElement };
+
+    /// Returns the number of the first element whose identifier is in one of the ranges.
+    fn first_among(&self, ranges: &[(usize, usize)]) -> Option<usize>
+        ensures { result ≡ first_among ranges.now 0 (elements self.now) };
+}
+
+/// The elements that are written behind a first opening bracket.
+#[derive(Clone, Copy)]
+struct WrittenBehind<'a>(&'a [u8]);
+
+impl<'a> ElementList for WrittenBehind<'a> {
+    ghost elements = { λ text. elements_behind text.0.now };
+
+    fn first_among(&self, ranges: &[(usize, usize)]) -> Option<usize> {
+        first_among(ranges, self.0)
+    }
+}
+
 /// Returns the number of the identifier of an element that is written between opening brackets.
 pub fn number_at(part: &[u8]) -> usize
-    ensures { result ≡ number_of (element_of part.now).identifier }
+    ensures { result ≡ number_of_identifier (element_of part.now).identifier }
 {
     number_of(&part[..first_of(part, b')')])
 }
 
 /// Returns whether the identifier of such an element is in one of the ranges.
 fn has_among(ranges: &[(usize, usize)], part: &[u8]) -> bool
-    ensures { result ≡ is_among ranges.now (number_of (element_of part.now).identifier) }
+    ensures { result ≡ is_among ranges.now (number_of_identifier (element_of part.now).identifier) }
 {
     is_among(ranges, number_at(part))
 }
 
-/// Checks that an element of these ranges, if there are any, is among those of a text.
-fn check_needed(
+/// Checks that an element of these ranges, if there are any, is among all.
+fn check_needed<E: ElementList>(
     ranges: &[(usize, usize)],
-    text: &[u8],
+    all: &E,
     element: usize,
     identifier: usize,
 ) -> Result<(), TogetherError>
     ensures { result_err result
-        ≡ missing_fault ranges.now (elements_behind text.now) element identifier }
+        ≡ missing_fault ranges.now (E.elements all.now) element identifier }
 {
-    if ranges.is_empty() || first_among(ranges, text).is_some() {
+    if ranges.is_empty() || all.first_among(ranges).is_some() {
         return Ok(());
     }
     Err(TogetherError::MissingElement {
@@ -198,17 +222,17 @@ fn check_needed(
     })
 }
 
-/// Checks that no element of these ranges is among those of a text.
-fn check_barred(
+/// Checks that no element of these ranges is among all.
+fn check_barred<E: ElementList>(
     ranges: &[(usize, usize)],
-    text: &[u8],
+    all: &E,
     element: usize,
     identifier: usize,
 ) -> Result<(), TogetherError>
     ensures { result_err result
-        ≡ barred_fault ranges.now (elements_behind text.now) element identifier }
+        ≡ barred_fault ranges.now (E.elements all.now) element identifier }
 {
-    match first_among(ranges, text) {
+    match all.first_among(ranges) {
         Some(other) => Err(TogetherError::ConflictingElement {
             element,
             identifier,
@@ -218,20 +242,30 @@ fn check_barred(
     }
 }
 
-/// Checks what has to stand, and what may not stand, beside an element.
-fn check_beside(text: &[u8], element: usize, part: &[u8]) -> Result<(), TogetherError>
-    ensures { result_err result ≡ element_conflict (elements_behind text.now) element
-        (number_of (element_of part.now).identifier) }
+/// Checks what has to stand, and what may not stand, beside an element of this identifier.
+pub fn check_beside<E: ElementList>(
+    all: &E,
+    element: usize,
+    identifier: usize,
+) -> Result<(), TogetherError>
+    ensures { result_err result ≡ element_conflict (E.elements all.now) element identifier }
 {
-    let number = number_at(part);
-    check_needed(needed(number), text, element, number)?;
-    check_needed(also_needed(number), text, element, number)?;
-    check_barred(barred(number), text, element, number)
+    check_needed(needed(identifier), all, element, identifier)?;
+    check_needed(also_needed(identifier), all, element, identifier)?;
+    check_barred(barred(identifier), all, element, identifier)
+}
+
+/// Checks what has to stand, and what may not stand, beside an element of a text.
+fn check_part(text: &[u8], element: usize, part: &[u8]) -> Result<(), TogetherError>
+    ensures { result_err result ≡ element_conflict (elements_behind text.now) element
+        (number_of_identifier (element_of part.now).identifier) }
+{
+    check_beside(&WrittenBehind(text), element, number_at(part))
 }
 
 /// Checks the elements that are written behind a first opening bracket.
 #[tactic(auto, using(crate::proofs::Conflicts::conflict_last))]
-fn check_all(text: &[u8]) -> Result<(), TogetherError>
+pub fn check_all(text: &[u8]) -> Result<(), TogetherError>
     ensures { result_err result
         ≡ first_conflict (elements_behind text.now) 0 (elements_behind text.now) }
 {
@@ -240,7 +274,7 @@ fn check_all(text: &[u8]) -> Result<(), TogetherError>
     loop {
         let end = first_of(rest, b'(');
         let part = &rest[..end];
-        check_beside(text, element, part)?;
+        check_part(text, element, part)?;
         if end == rest.len() {
             return Ok(());
         }

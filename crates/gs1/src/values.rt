@@ -5,7 +5,7 @@ ghost use Rattle.gs1.specs.Checks.{fault_if};
 ghost use Rattle.gs1.specs.Table.{components};
 ghost use Rattle.std.specs.Result.{result_err};
 ghost use Rattle.gs1.specs.Values.{is_allowed, wrong_character, check_fault, piece_fault};
-ghost use Rattle.gs1.specs.Values.{value_fault, number_of, is_assigned, identifier_error};
+ghost use Rattle.gs1.specs.Values.{value_fault, number_of_identifier, is_assigned, identifier_error};
 ghost use Rattle.gs1.specs.Values.{value_error, element_error, first_error, text_error};
 ghost use Rattle.gs1.specs.Elements.{element_of, elements_behind};
 
@@ -136,7 +136,7 @@ fn check_value(components: &[Component], value: &[u8]) -> Result<(), Fault>
 
 /// Returns the number that the digits of an identifier write.
 pub fn number_of(identifier: &[u8]) -> usize
-    ensures { result ≡ number_of identifier.now }
+    ensures { result ≡ number_of_identifier identifier.now }
 {
     match identifier.len() {
         2 => two_digits(identifier, 0),

@@ -1,5 +1,5 @@
--- Bytes written with percent-escapes, and what a reader finds in such a text (RFC 3986, sections 2.1
--- to 2.3).
+-- Bytes written with percent-escapes, and what a reader finds in such a text (RFC 3986, sections
+-- 2.1 to 2.3).
 use Rattle.std.specs.Prelude.{◌≡◌, ℕ, ◌+◌, ◌-◌, ◌*◌, ◌/◌, ◌%◌, ◌<◌, Bool, true, ◌==◌, ◌&&◌, ◌||◌}
 use Rattle.std.specs.Prelude.{nat_lt, if◌then◌else◌, List, [], ◌∷◌, drop, slice_index, All}
 use Rattle.std.specs.List.{flat_map}

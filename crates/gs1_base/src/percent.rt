@@ -57,12 +57,12 @@ pub fn percent_escaped(alloc: Global, bytes: &[u8]) -> Result<Vec<u8>, AllocErro
 ///
 /// # Errors
 ///
-/// `WrongCharacter` if the text has another character (`#`, a space, a byte beyond ASCII), or a
-/// percent sign without two hexadecimal digits. `OutOfMemory` if it has none and an allocation
-/// failed.
+/// `WrongCharacter` if the text has another character (`#`, a space, a byte beyond ASCII), or
+/// a percent sign without two hexadecimal digits. `OutOfMemory` if it has none and an
+/// allocation failed.
 pub fn percent_decoded(alloc: Global, text: &[u8]) -> Result<Vec<u8>, PercentError>
     ensures read { IfOk result (λ bytes. ReadsAs text.now bytes.items) }
-    ensures refused { IfErr result (IsRefusedEscapes text.now) }
+    ensures refusal { IfErr result (IsRefusedEscapes text.now) }
 {
     let Some(length) = decoded_length(text) else {
         return Err(PercentError::WrongCharacter);

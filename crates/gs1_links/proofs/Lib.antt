@@ -4,6 +4,7 @@ pub mod LinkElements
 pub mod LinkTexts
 pub mod LinkReads
 pub mod LinkKept
+pub mod LinkTogether
 pub mod LinkWhole
 pub mod OneLink
 pub mod LinkValues

@@ -9,8 +9,8 @@ use Rattle.std.proofs.lemmas.List.Sums.{fails_before_first}
 use Rattle.std.proofs.lemmas.List.Splits.{slice_split_first, slice_split_none}
 use Rattle.gs1_base.specs.Domains.{is_domain}
 use Rattle.gs1_links.specs.LinkReader.{is_slash, is_question}
-use Rattle.gs1_links.specs.LinkFaults.{path_in, after_scheme, scheme_fault, character_fault, rest_of, front_of, domain_fault, path_of}
-use Rattle.gs1_links.specs.LinkFaults.{key_fault, front_fault}
+use Rattle.gs1_links.specs.LinkFaults.{path_in, after_scheme, scheme_fault, link_character_fault, rest_of, before_query, link_domain_fault, path_of}
+use Rattle.gs1_links.specs.LinkFaults.{link_key_fault, front_fault}
 use Rattle.gs1_links.specs.declared.link_error.LinkReadError.TheVariants.{WrongDomain, NoKey}
 use Rattle.gs1_links.proofs.OneLink.{same_first}
 
@@ -28,8 +28,8 @@ split_first xs =
 -- The scheme and the characters are right, and the domain and the path are these.
 pub record IsFront (link front : List ℕ) (left : List (List ℕ)) : Type 0 where
   pub scheme : scheme_fault link ≡ None
-  pub characters : character_fault link ≡ None
-  pub domain : before_first is_slash (front_of link) ≡ front
+  pub characters : link_character_fault link ≡ None
+  pub domain : before_first is_slash (before_query link) ≡ front
   pub path : path_of link ≡ path_in left
 
 scheme_right : (link rest : List ℕ) → Some rest ≡ after_scheme link → scheme_fault link ≡ None
@@ -37,35 +37,35 @@ unfolding scheme_fault
 scheme_right link rest is = rw (sym is) refl
 
 pub front_of_link : (link rest front : List ℕ) (left : List (List ℕ)) (end : ℕ) → Some rest ≡ after_scheme link →
-    None ≡ character_fault link → end ≡ position_or_len is_question rest →
+    None ≡ link_character_fault link → end ≡ position_or_len is_question rest →
     slice_split is_slash (take end rest) ≡ front ∷ left → IsFront link front left
 front_of_link link rest front left end scheme characters at cut =
     let rest_is : rest_of link ≡ rest = ap (λ o. unwrap_or o []) (sym scheme) in
-    let front_is : front_of link ≡ take end rest =
+    let front_is : before_query link ≡ take end rest =
     ap (before_first is_question) rest_is ∙ ap (λ n. take n rest) (sym at) in
-    let whole : slice_split is_slash (front_of link) ≡ front ∷ left = ap (slice_split is_slash) front_is ∙ cut in
+    let whole : slice_split is_slash (before_query link) ≡ front ∷ left = ap (slice_split is_slash) front_is ∙ cut in
     record {
       scheme = scheme_right link rest scheme;
       characters = sym characters;
-      domain = same_first (before_first is_slash (front_of link)) front (drop 1 (slice_split is_slash (front_of link))) left
-          (sym (split_first (front_of link)) ∙ whole);
+      domain = same_first (before_first is_slash (before_query link)) front (drop 1 (slice_split is_slash (before_query link))) left
+          (sym (split_first (before_query link)) ∙ whole);
       path = ap (λ xs. path_in (drop 1 xs)) whole;
     }
 
-domain_wrong : (link : List ℕ) → is_domain (before_first is_slash (front_of link)) ≡ false → domain_fault link ≡ Some WrongDomain
-unfolding domain_fault
+domain_wrong : (link : List ℕ) → is_domain (before_first is_slash (before_query link)) ≡ false → link_domain_fault link ≡ Some WrongDomain
+unfolding link_domain_fault
 domain_wrong link e = rw e refl
 
-domain_right : (link : List ℕ) → is_domain (before_first is_slash (front_of link)) ≡ true → domain_fault link ≡ None
-unfolding domain_fault
+domain_right : (link : List ℕ) → is_domain (before_first is_slash (before_query link)) ≡ true → link_domain_fault link ≡ None
+unfolding link_domain_fault
 domain_right link e = rw e refl
 
-key_wrong : (link : List ℕ) → path_of link ≡ None → key_fault link ≡ Some NoKey
-unfolding key_fault
+key_wrong : (link : List ℕ) → path_of link ≡ None → link_key_fault link ≡ Some NoKey
+unfolding link_key_fault
 key_wrong link e = rw e refl
 
-key_right : (link : List ℕ) (path : List (List ℕ)) → path_of link ≡ Some path → key_fault link ≡ None
-unfolding key_fault
+key_right : (link : List ℕ) (path : List (List ℕ)) → path_of link ≡ Some path → link_key_fault link ≡ None
+unfolding link_key_fault
 key_right link path e = rw e refl
 
 pub wrong_domain : (link front : List ℕ) (left : List (List ℕ)) → IsFront link front left → is_domain front ≡ false →

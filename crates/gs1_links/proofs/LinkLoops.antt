@@ -14,7 +14,7 @@ use Rattle.gs1.specs.Elements.{Element}
 use Rattle.gs1_links.specs.Links.{number}
 use Rattle.gs1_links.specs.LinkFaults.{written_fault, order_fault, qualifiers_fault}
 use Rattle.gs1_links.specs.declared.link_error.LinkReadError.{LinkReadError}
-use Rattle.gs1_links.specs.LinkFaults.{path_in, is_key_text, decoded, is_readable}
+use Rattle.gs1_links.specs.LinkFaults.{path_in, is_key_text, decoded, is_readable_link}
 use Rattle.gs1_base.specs.Percent.{begins_with_byte, first_byte, after_byte}
 use Rattle.gs1_links.proofs.LinkValues.{shorter, decoded_more, decoded_end, readable_more, readable_end}
 use Rattle.std.proofs.lemmas.List.{append-nil}
@@ -98,7 +98,7 @@ after_none p xs is =
 
 -- One byte more is counted.
 pub record IsCounted (n : ℕ) (rest text : List ℕ) : Type 0 where
-  pub readable : is_readable rest ≡ is_readable text
+  pub readable : is_readable_link rest ≡ is_readable_link text
   pub count : n + length (decoded rest) ≡ length (decoded text)
   pub within : n + length rest ≤ length text
 
@@ -142,12 +142,12 @@ count_start text = record {
 
 -- What the count says where no byte is left to read.
 pub length_none : (n : ℕ) (rest text : List ℕ) → begins_with_byte rest ≡ false → (length rest == 0) ≡ false →
-    IsCounted n rest text → None ≡ (if is_readable text then Some (length (decoded text)) else None)
+    IsCounted n rest text → None ≡ (if is_readable_link text then Some (length (decoded text)) else None)
 length_none n rest text none some counted =
     rw (sym counted.readable ∙ readable_end rest none ∙ some) refl
 
 pub length_some : (n : ℕ) (rest text : List ℕ) → begins_with_byte rest ≡ false → (length rest == 0) ≡ true →
-    IsCounted n rest text → Some n ≡ (if is_readable text then Some (length (decoded text)) else None)
+    IsCounted n rest text → Some n ≡ (if is_readable_link text then Some (length (decoded text)) else None)
 length_some n rest text none empty counted =
     let zero_left : length (decoded rest) ≡ 0 = ap length (decoded_end rest none) in
     let all : n ≡ length (decoded text) = omega (arith, zero_left, counted.count) in

@@ -11,24 +11,26 @@ use Rattle.std.proofs.Common.{get_or}
 use Rattle.std.proofs.lemmas.List.Elements.{All-nil, All-cons, All-head, All-tail, All-append, All-take}
 use Rattle.std.proofs.lemmas.List.Sums.{list_all-from_AllPass, AllPass-from_list_all}
 use Rattle.gs1.specs.Elements.{Element, written_elements}
-use Rattle.gs1.specs.Values.{element_error, identifier_error, number_of}
-use Rattle.gs1.specs.Together.{is_among}
+use Rattle.gs1.specs.Values.{element_error, identifier_error, number_of_identifier}
+use Rattle.gs1.specs.Together.{is_among, first_conflict}
 use Rattle.gs1_base.specs.Domains.{is_domain}
 use Rattle.gs1_links.specs.Links.{keys, number, order_of, https, link_of, linked}
 use Rattle.gs1_links.specs.LinkReader.{http, is_slash, is_question, is_link_character, query_parts, ReadsPath, has_twins}
 use Rattle.gs1_links.specs.LinkReader.{ReadsLink}
 use Rattle.gs1_links.specs.LinkFaults.{decoded_element, written_fault, is_key_text, path_in, pairs, qualifiers_fault, path_fault}
 use Rattle.gs1_links.specs.LinkFaults.{begins_http, goes_on_secure, goes_on_plain}
-use Rattle.gs1_links.specs.LinkFaults.{query_fault, twins_fault, after_scheme, scheme_fault, character_fault, rest_of, front_of, query_of}
-use Rattle.gs1_links.specs.LinkFaults.{domain_fault, path_of, key_fault, front_fault, path_pairs, query_parts_of, reading_fault, link_elements}
+use Rattle.gs1_links.specs.LinkFaults.{query_fault, twins_fault, after_scheme, scheme_fault, link_character_fault, rest_of, before_query, query_of}
+use Rattle.gs1_links.specs.LinkFaults.{link_domain_fault, path_of, link_key_fault, front_fault, path_pairs, query_parts_of, reading_fault, link_elements}
+use Rattle.gs1_links.specs.LinkFaults.{parts_fault, link_together_fault, elements_in}
 use Rattle.gs1_links.specs.LinkFaults.{LinksAreReadOrRefused, LinksAreReadBack}
-use Rattle.gs1_links.specs.declared.link_error.LinkReadError.TheVariants.{WrongScheme, WrongCharacter, WrongDomain, NoKey}
+use Rattle.gs1_links.specs.declared.link_error.LinkReadError.TheVariants.{WrongScheme, WrongCharacter, WrongDomain, NoKey, Together}
 use Rattle.gs1.proofs.Faults.{both, neither, all_allowed}
 use Rattle.gs1.proofs.Allowed.{none_mapped, identifier_tests}
 use Rattle.gs1_links.proofs.OneLink.{same_first, qualifying_no_keys, query_linkable, one_reading}
 use Rattle.gs1_links.proofs.LinkWhole.{link_read}
 use Rattle.gs1_links.proofs.LinkReadBack.{IsSoundWritten, sound_written, written_none, path_reads, sound_qualifiers, qualifiers_none, FollowsOne}
 use Rattle.gs1_links.proofs.LinkFronts.{split_first}
+use Rattle.gs1_links.proofs.LinkTogether.{numbers_same, together_numbers, read_numbers}
 use Rattle.gs1_links.proofs.LinkStems.{found_path, path_is}
 use Rattle.gs1_links.proofs.LinkQueries.{read_part, sound_parts, parts_are, query_none, no_twins, twins_none}
 
@@ -121,14 +123,14 @@ none_scheme : (link rest : List ℕ) → after_scheme link ≡ Some rest → sch
 unfolding scheme_fault
 none_scheme link rest e = rw e refl
 
-characters_are : (link : List ℕ) → character_fault link ≡ None → list_all is_link_character link ≡ true
-unfolding character_fault
+characters_are : (link : List ℕ) → link_character_fault link ≡ None → list_all is_link_character link ≡ true
+unfolding link_character_fault
 characters_are link e =
     list_all-from_AllPass is_link_character link
     (all_allowed is_link_character link (none_mapped (λ place. WrongCharacter place) (position (λ c. not (is_link_character c)) link) e))
 
-none_characters : (link : List ℕ) → list_all is_link_character link ≡ true → character_fault link ≡ None
-unfolding character_fault
+none_characters : (link : List ℕ) → list_all is_link_character link ≡ true → link_character_fault link ≡ None
+unfolding link_character_fault
 none_characters link all =
     ap (option_map (λ place. WrongCharacter place)) (nowhere (position (λ c. not (is_link_character c)) link) refl)
   where
@@ -142,30 +144,26 @@ none_characters link all =
         let f = position-Some (λ c. not (is_link_character c)) link i 0 e in
         absurd (opposite (is_link_character (get_or link i 0)) (AllPass-from_list_all is_link_character link all i 0 f.0) f.1)
 
-domain_none : (link : List ℕ) → domain_fault link ≡ None → is_domain (before_first is_slash (front_of link)) ≡ true
-unfolding domain_fault
-domain_none link e = some_is (is_domain (before_first is_slash (front_of link))) WrongDomain e
+domain_none : (link : List ℕ) → link_domain_fault link ≡ None → is_domain (before_first is_slash (before_query link)) ≡ true
+unfolding link_domain_fault
+domain_none link e = some_is (is_domain (before_first is_slash (before_query link))) WrongDomain e
 
-none_domain : (link : List ℕ) → is_domain (before_first is_slash (front_of link)) ≡ true → domain_fault link ≡ None
-unfolding domain_fault
+none_domain : (link : List ℕ) → is_domain (before_first is_slash (before_query link)) ≡ true → link_domain_fault link ≡ None
+unfolding link_domain_fault
 none_domain link e = rw e refl
 
-key_none : (link : List ℕ) → key_fault link ≡ None → is_some (path_of link) ≡ true
-unfolding key_fault
+key_none : (link : List ℕ) → link_key_fault link ≡ None → is_some (path_of link) ≡ true
+unfolding link_key_fault
 key_none link e = some_is (is_some (path_of link)) NoKey e
 
-none_key : (link : List ℕ) (path : List (List ℕ)) → path_of link ≡ Some path → key_fault link ≡ None
-unfolding key_fault
+none_key : (link : List ℕ) (path : List (List ℕ)) → path_of link ≡ Some path → link_key_fault link ≡ None
+unfolding link_key_fault
 none_key link path e = rw e refl
 
 or_none : {X : Type 0} (a b : Option X) → a ≡ None → b ≡ None → option_or a b ≡ None
 or_none a b first second = rw first second
 
 -- ---- A link without a fault is read
-
-numbers_same : (elements : List Element) → map number (map decoded_element elements) ≡ map number elements
-numbers_same [] = refl
-numbers_same (e ∷ elements) = ap (λ ns. number e ∷ ns) (numbers_same elements)
 
 decoded_allowed : (elements : List Element) → All IsSoundWritten elements →
     All (λ e. element_error 0 e ≡ None) (map decoded_element elements)
@@ -176,6 +174,9 @@ decoded_allowed (e ∷ elements) good =
 
 whole_even : (n : ℕ) → (suc n % 2 == 1) ≡ true → (suc (suc n) % 2 == 0) ≡ true
 whole_even n e = grind (arith, common_steps)
+
+abbrev StandTogether : List Element → Type 0
+StandTogether elements = first_conflict elements 0 elements ≡ None
 
 -- The link has these parts, and no fault in them.
 record IsSoundLink (link rest : List ℕ) (stem : List (List ℕ)) (i t : List ℕ) (more : List (List ℕ)) : Type 0 where
@@ -189,6 +190,7 @@ record IsSoundLink (link rest : List ℕ) (stem : List (List ℕ)) (i t : List �
   path : path_fault (pairs (i ∷ t ∷ more)) ≡ None
   query : query_fault (length (pairs (i ∷ t ∷ more))) (query_parts (after_first is_question rest)) ≡ None
   twins : twins_fault (length (pairs (i ∷ t ∷ more))) (query_parts (after_first is_question rest)) ≡ None
+  together : StandTogether (map decoded_element (pairs (i ∷ t ∷ more)) ++ map read_part (query_parts (after_first is_question rest)))
 
 sound_read : (link rest : List ℕ) (stem : List (List ℕ)) (i t : List ℕ) (more : List (List ℕ)) → IsSoundLink link rest stem i t more →
     ReadsLink link (map decoded_element (pairs (i ∷ t ∷ more)) ++ map read_part (query_parts (after_first is_question rest)))
@@ -220,12 +222,13 @@ sound_read link rest stem i t more sound =
         characters = sound.characters;
       };
       linked = record {
-        key_is = (both _ (is_among keys (number_of i)) sound.is_key).1;
+        key_is = (both _ (is_among keys (number_of_identifier i)) sound.is_key).1;
         ordered = subst F (sym (numbers_same (pairs more))) quals.1;
         attributes = query.attributes;
         once = no_twins count parts sound.twins;
         allowed = All-cons P (decoded_element key) (map decoded_element (pairs more) ++ map read_part parts) good.allowed
             (All-append P (map decoded_element (pairs more)) (map read_part parts) (decoded_allowed (pairs more) quals.0) query.allowed);
+        together = sound.together;
       };
     }
 
@@ -238,23 +241,32 @@ abbrev elements_by : List ℕ → Option (List (List ℕ)) → List Element
 elements_by link path =
     map decoded_element (pairs (unwrap_or path [])) ++ map read_part (query_parts (after_first is_question (rest_of link)))
 
+no_together : (elements : List Element) → link_together_fault elements ≡ None → StandTogether elements
+unfolding link_together_fault
+no_together elements none = none_mapped (λ error. Together error) (first_conflict elements 0 elements) none
+
+together_none : (elements : List Element) → StandTogether elements → link_together_fault elements ≡ None
+unfolding link_together_fault
+together_none elements none = ap (option_map (λ error. Together error)) none
+
 pub link_reads : (link : List ℕ) → reading_fault link ≡ None → ReadsLink link (link_elements link)
 link_reads link none =
-    let s1 = neither (front_fault link) _ none in
+    let s0 = neither (parts_fault link) (link_together_fault (link_elements link)) none in
+    let s1 = neither (front_fault link) _ s0.0 in
     let s2 = neither (path_fault (path_pairs link)) _ s1.1 in
     let s3 = neither (query_fault (length (path_pairs link)) (query_parts_of link)) _ s2.1 in
     let f1 = neither (scheme_fault link) _ s1.0 in
-    let f2 = neither (character_fault link) _ f1.1 in
-    let f3 = neither (domain_fault link) (key_fault link) f2.1 in
+    let f2 = neither (link_character_fault link) _ f1.1 in
+    let f3 = neither (link_domain_fault link) (link_key_fault link) f2.1 in
     let scheme = found_some (after_scheme link) (scheme_none link f1.0) in
     let path = found_some (path_of link) (key_none link f3.1) in
-    let is = path_is (drop 1 (slice_split is_slash (front_of link))) path.0 path.1 in
+    let is = path_is (drop 1 (slice_split is_slash (before_query link))) path.0 path.1 in
     let tail = some_tail is.rest is.odd in
     let begins : path.0 ≡ is.identifier ∷ tail.0 ∷ tail.1 = is.begins ∙ ap (λ xs. is.identifier ∷ xs) tail.2 in
     let rest : rest_of link ≡ scheme.0 = ap (λ o. unwrap_or o []) scheme.1 in
     let pairs_are : path_of link ≡ Some (is.identifier ∷ tail.0 ∷ tail.1) = path.1 ∙ ap Some begins in
     let N : Option (List (List ℕ)) → ℕ = λ o. length (pairs (unwrap_or o [])) in
-    let joined : drop 1 (slice_split is_slash (front_of link)) ≡ is.stem ++ (is.identifier ∷ tail.0 ∷ tail.1) =
+    let joined : drop 1 (slice_split is_slash (before_query link)) ≡ is.stem ++ (is.identifier ∷ tail.0 ∷ tail.1) =
     is.joined ∙ ap (λ xs. is.stem ++ xs) begins in
     let Q : Option (List (List ℕ)) → Type 0 = λ o. path_fault (pairs (unwrap_or o [])) ≡ None in
     let R : Option (List (List ℕ)) → Type 0 = λ o. query_fault (N o) (query_parts_of link) ≡ None in
@@ -264,12 +276,14 @@ link_reads link none =
           subst T (sym rest) (scheme_is link scheme.0 scheme.1));
       characters = characters_are link f2.0;
       domain = domain_none link f3.0;
-      cut = split_first (front_of link) ∙ ap (λ xs. before_first is_slash (front_of link) ∷ xs) joined;
+      cut = split_first (before_query link) ∙ ap (λ xs. before_first is_slash (before_query link) ∷ xs) joined;
       is_key = is.is_key;
       odd = (let T : List (List ℕ) → Type 0 = λ xs. (length xs % 2 == 1) ≡ true in subst T tail.2 is.odd);
       path = subst Q pairs_are s2.0;
       query = subst R pairs_are s3.0;
       twins = subst S pairs_are s3.1;
+      together = (let T : Option (List (List ℕ)) → Type 0 = λ o. StandTogether (elements_by link o) in
+          subst T pairs_are (no_together (link_elements link) s0.1));
     } in
     let T : Option (List (List ℕ)) → Type 0 = λ o. ReadsLink link (elements_by link o) in
     subst T (sym pairs_are) (sound_read link (rest_of link) is.stem is.identifier tail.0 tail.1 sound)
@@ -302,11 +316,11 @@ read_has_no_fault link elements rd =
     (All-take P (length (rd.key ∷ rd.qualifying)) (rd.key ∷ rd.qualifying ++ rd.query) rd.linked.allowed) in
     let scheme = after_is link rd.parts.rest rd.parts.scheme_is in
     let rest : rest_of link ≡ rd.parts.rest = ap (λ o. unwrap_or o []) scheme in
-    let whole : slice_split is_slash (front_of link) ≡ rd.parts.domain ∷ (rd.parts.stem ++ rd.parts.segments) =
+    let whole : slice_split is_slash (before_query link) ≡ rd.parts.domain ∷ (rd.parts.stem ++ rd.parts.segments) =
     ap (λ r. slice_split is_slash (before_first is_question r)) rest ∙ rd.parts.cut in
-    let domain : before_first is_slash (front_of link) ≡ rd.parts.domain =
-    same_first (before_first is_slash (front_of link)) rd.parts.domain (drop 1 (slice_split is_slash (front_of link)))
-    (rd.parts.stem ++ rd.parts.segments) (sym (split_first (front_of link)) ∙ whole) in
+    let domain : before_first is_slash (before_query link) ≡ rd.parts.domain =
+    same_first (before_first is_slash (before_query link)) rd.parts.domain (drop 1 (slice_split is_slash (before_query link)))
+    (rd.parts.stem ++ rd.parts.segments) (sym (split_first (before_query link)) ∙ whole) in
     let found : path_of link ≡ Some rd.parts.segments =
     ap (λ xs. path_in (drop 1 xs)) whole
     ∙ found_path rd.parts.stem rd.parts.segments rd.key rd.qualifying rd.parts.path_is
@@ -318,10 +332,10 @@ read_has_no_fault link elements rd =
     let linkable = query_linkable rd.key rd.qualifying rd.query rd.linked in
     let count : ℕ = length (path_pairs link) in
     let parts : List (List ℕ) = query_parts (after_first is_question rd.parts.rest) in
-    or_none (front_fault link) _
+    or_none (parts_fault link) (link_together_fault (link_elements link)) (or_none (front_fault link) _
     (or_none (scheme_fault link) _ (none_scheme link rd.parts.rest scheme)
-    (or_none (character_fault link) _ (none_characters link rd.parts.characters)
-    (or_none (domain_fault link) (key_fault link)
+    (or_none (link_character_fault link) _ (none_characters link rd.parts.characters)
+    (or_none (link_domain_fault link) (link_key_fault link)
     (none_domain link (subst (λ d. is_domain d ≡ true) (sym domain) rd.parts.domain_is))
     (none_key link rd.parts.segments found))))
     (or_none (path_fault (path_pairs link)) _
@@ -329,7 +343,10 @@ read_has_no_fault link elements rd =
     (or_none (query_fault count (query_parts_of link)) (twins_fault count (query_parts_of link))
     (ap (query_fault count) parts_are' ∙ query_none count parts rd.query rd.parts.query_is linkable rd.linked.attributes)
     (ap (twins_fault count) parts_are' ∙ twins_none count parts
-    (subst (λ es. has_twins es ≡ false) (sym (parts_are parts rd.query rd.parts.query_is linkable)) rd.linked.once))))
+    (subst (λ es. has_twins es ≡ false) (sym (parts_are parts rd.query rd.parts.query_is linkable)) rd.linked.once)))))
+    (together_none (link_elements link) (together_numbers (link_elements link) (rd.key ∷ rd.qualifying ++ rd.query)
+    (read_numbers link rd.parts.segments parts (rd.key ∷ rd.qualifying) rd.query pairs_are parts_are' rd.parts.path_is
+    (parts_are parts rd.query rd.parts.query_is linkable)) ∙ rd.linked.together))
 
 pub read_or_refused : LinksAreReadOrRefused
 read_or_refused = record { read = link_reads; refused = read_has_no_fault }
@@ -338,20 +355,25 @@ read_or_refused = record { read = link_reads; refused = read_has_no_fault }
 
 pub all_read : {X : Type 0} (f : X → Element) (link path query : List ℕ) (parts : List (List ℕ)) (count : ℕ) (none first all : List X) → None ≡ front_fault link → path_of link ≡ Some (slice_split is_slash path) → query ≡ query_of link →
     None ≡ path_fault (pairs (slice_split is_slash path)) → count ≡ length (pairs (slice_split is_slash path)) →
-    parts ≡ query_parts query → None ≡ query_fault count parts → None ≡ twins_fault count parts → none ≡ [] →
+    parts ≡ query_parts query → None ≡ query_fault count parts → None ≡ twins_fault count parts →
+    None ≡ link_together_fault (elements_in path query) → none ≡ [] →
     map f first ≡ map f none ++ map decoded_element (pairs (slice_split is_slash path)) →
     map f all ≡ map f first ++ map read_part parts → ReadsLink link (map f all)
-all_read f link path query parts count none first all front path_found query_is path_good count_is parts_is query_good twins_good none_is first_is all_is =
+all_read f link path query parts count none first all front path_found query_is path_good count_is parts_is query_good twins_good together_good none_is first_is all_is =
     let raws : List Element = pairs (slice_split is_slash path) in
     let pairs_are : path_pairs link ≡ raws = ap (λ o. pairs (unwrap_or o [])) path_found in
     let parts_are' : query_parts_of link ≡ parts = ap query_parts (sym query_is) ∙ sym parts_is in
     let count' : length (path_pairs link) ≡ count = ap length pairs_are ∙ sym count_is in
+    let raw_are : link_elements link ≡ elements_in path query =
+    ap (λ es. map decoded_element es ++ map read_part (query_parts_of link)) pairs_are
+    ∙ ap (λ q. map decoded_element raws ++ map read_part (query_parts q)) (sym query_is) in
     let good : reading_fault link ≡ None =
-    or_none (front_fault link) _ (sym front)
+    or_none (parts_fault link) (link_together_fault (link_elements link)) (or_none (front_fault link) _ (sym front)
     (or_none (path_fault (path_pairs link)) _ (ap path_fault pairs_are ∙ sym path_good)
     (or_none (query_fault (length (path_pairs link)) (query_parts_of link)) (twins_fault (length (path_pairs link)) (query_parts_of link))
     (ap (λ n. query_fault n (query_parts_of link)) count' ∙ ap (query_fault count) parts_are' ∙ sym query_good)
-    (ap (λ n. twins_fault n (query_parts_of link)) count' ∙ ap (twins_fault count) parts_are' ∙ sym twins_good))) in
+    (ap (λ n. twins_fault n (query_parts_of link)) count' ∙ ap (twins_fault count) parts_are' ∙ sym twins_good))))
+    (ap link_together_fault raw_are ∙ sym together_good) in
     let start : map f none ≡ [] = ap (map f) none_is in
     let elements : link_elements link ≡ map f all =
     ap (λ es. map decoded_element es ++ map read_part (query_parts_of link)) pairs_are

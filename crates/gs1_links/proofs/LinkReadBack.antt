@@ -11,7 +11,7 @@ use Rattle.gs1.specs.Values.{element_error}
 use Rattle.gs1_base.specs.Percent.{ReadsAs}
 use Rattle.gs1_links.specs.Links.{number}
 use Rattle.gs1_links.specs.LinkReader.{ReadsPath, follows}
-use Rattle.gs1_links.specs.LinkFaults.{decoded, is_readable, decoded_element, escaped_fault, written_fault, pairs}
+use Rattle.gs1_links.specs.LinkFaults.{decoded, is_readable_link, decoded_element, escaped_fault, written_fault, pairs}
 use Rattle.gs1_links.specs.LinkFaults.{order_fault, qualifiers_fault}
 use Rattle.gs1_links.specs.declared.link_error.LinkReadError.TheVariants.{WrongEscape, Elements, WrongQualifier}
 use Rattle.gs1.specs.declared.refusal.CheckError.{CheckError}
@@ -33,14 +33,14 @@ some_none false x e = refl
 
 -- What an element without a fault is.
 pub record IsSoundWritten (e : Element) : Type 0 where
-  pub readable : is_readable e.value ≡ true
+  pub readable : is_readable_link e.value ≡ true
   pub allowed : element_error 0 (decoded_element e) ≡ None
 
 pub sound_written : (place : ℕ) (e : Element) → written_fault place e ≡ None → IsSoundWritten e
 unfolding escaped_fault
 sound_written place e none =
     let split = neither (escaped_fault place e.value) _ none in
-    let text = if_none (is_readable e.value) (WrongEscape place) _ split.0 in
+    let text = if_none (is_readable_link e.value) (WrongEscape place) _ split.0 in
     let table = none_mapped (λ (error : CheckError). Elements error) (element_error place (decoded_element e)) split.1 in
     record { readable = text.0; allowed = (linkable place (decoded_element e) table).allowed }
 

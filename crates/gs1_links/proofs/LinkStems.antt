@@ -6,7 +6,7 @@ use Rattle.std.specs.List.{list_all}
 use Rattle.std.specs.Option.{option_or}
 use Rattle.std.proofs.lemmas.Grind.{common_steps}
 use Rattle.gs1.specs.Elements.{Element, is_identifier}
-use Rattle.gs1.specs.Values.{number_of}
+use Rattle.gs1.specs.Values.{number_of_identifier}
 use Rattle.gs1.specs.Together.{is_among}
 use Rattle.gs1_links.specs.Links.{keys, number}
 use Rattle.gs1_links.specs.LinkReader.{ReadsPath}
@@ -21,8 +21,8 @@ and_false : (a b : Bool) → b ≡ false → (a && b) ≡ false
 and_false true b e = e
 and_false false b e = refl
 
-not_key : (identifier : List ℕ) → no_key (number_of identifier) ≡ true → is_key_text identifier ≡ false
-not_key identifier none = and_false (is_identifier identifier) (is_among keys (number_of identifier)) (opposite (is_among keys (number_of identifier)) none)
+not_key : (identifier : List ℕ) → no_key (number_of_identifier identifier) ≡ true → is_key_text identifier ≡ false
+not_key identifier none = and_false (is_identifier identifier) (is_among keys (number_of_identifier identifier)) (opposite (is_among keys (number_of_identifier identifier)) none)
   where
     opposite : (b : Bool) → not b ≡ true → b ≡ false
     opposite true e = absurd (let h : false ≡ true = e in cc)

@@ -4,7 +4,7 @@ use Rattle.std.proofs.Common.{refl, arith, ap, sym, subst, ◌∙◌}
 use Rattle.std.specs.Prelude.{◌==◌}
 use Rattle.std.proofs.lemmas.Grind.{common_steps}
 use Rattle.gs1_base.specs.Percent.{begins_with_byte, first_byte, after_byte, ReadsAs}
-use Rattle.gs1_links.specs.LinkFaults.{bytes_within, is_readable_within, decoded, is_readable}
+use Rattle.gs1_links.specs.LinkFaults.{bytes_within, is_readable_within, decoded, is_readable_link}
 use Rattle.gs1_base.proofs.Percents.{after_shorter, no_byte}
 
 some_text : (text : List ℕ) → begins_with_byte text ≡ true → 0 < length text
@@ -72,22 +72,22 @@ unfolding decoded bytes_within
 decoded_end [] e = refl
 decoded_end (c ∷ text) e = rw e refl
 
-pub readable_more : (text : List ℕ) → begins_with_byte text ≡ true → is_readable text ≡ is_readable (after_byte text)
-unfolding is_readable is_readable_within
+pub readable_more : (text : List ℕ) → begins_with_byte text ≡ true → is_readable_link text ≡ is_readable_link (after_byte text)
+unfolding is_readable_link is_readable_within
 readable_more [] e = absurd (no_byte [] refl e)
 readable_more (c ∷ text) e =
     let short = shorter (c ∷ text) e in
     rw e (more_tests (length text) (length (after_byte (c ∷ text))) (after_byte (c ∷ text))
     (let h : length (after_byte (c ∷ text)) ≤ length text = omega arith in h) (omega arith))
 
-pub readable_end : (text : List ℕ) → begins_with_byte text ≡ false → is_readable text ≡ (length text == 0)
-unfolding is_readable is_readable_within
+pub readable_end : (text : List ℕ) → begins_with_byte text ≡ false → is_readable_link text ≡ (length text == 0)
+unfolding is_readable_link is_readable_within
 readable_end [] e = refl
 readable_end (c ∷ text) e = rw e refl
 
 -- What a reader finds is what is decoded.
-pub reads_decoded : (text bytes : List ℕ) → ReadsAs text bytes → (is_readable text ≡ true) × (decoded text ≡ bytes)
-unfolding is_readable is_readable_within decoded bytes_within
+pub reads_decoded : (text bytes : List ℕ) → ReadsAs text bytes → (is_readable_link text ≡ true) × (decoded text ≡ bytes)
+unfolding is_readable_link is_readable_within decoded bytes_within
 reads_decoded [] [] reads = (refl, refl)
 reads_decoded (c ∷ text) [] reads = absurd (let h : c ∷ text ≡ [] = reads in cc)
 reads_decoded text (x ∷ bytes) reads =
@@ -96,7 +96,7 @@ reads_decoded text (x ∷ bytes) reads =
       decoded_more text reads.0 ∙ ap (λ c. c ∷ decoded (after_byte text)) reads.1 ∙ ap (λ xs. x ∷ xs) below.1,
     )
 
-decoded_within : (n : ℕ) (text : List ℕ) → length text ≤ n → is_readable text ≡ true → ReadsAs text (decoded text)
+decoded_within : (n : ℕ) (text : List ℕ) → length text ≤ n → is_readable_link text ≡ true → ReadsAs text (decoded text)
 unfolding decoded bytes_within
 decoded_within zero [] few readable = refl
 decoded_within zero (c ∷ text) few readable = absurd (omega arith)
@@ -114,5 +114,5 @@ decoded_within (suc n) text few readable =
     ended [] none e = (let P : List ℕ → Type 0 = λ xs. ReadsAs [] xs in subst P (sym e) refl)
     ended (c ∷ text) none e = absurd (let some : 0 < length text + 1 = omega arith in grind (arith, common_steps))
 
-pub decoded_reads : (text : List ℕ) → is_readable text ≡ true → ReadsAs text (decoded text)
+pub decoded_reads : (text : List ℕ) → is_readable_link text ≡ true → ReadsAs text (decoded text)
 decoded_reads text readable = decoded_within (length text) text (omega arith) readable

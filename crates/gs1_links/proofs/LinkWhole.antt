@@ -3,21 +3,22 @@ use Rattle.std.proofs.Common.{◌≡◌, ℕ, Bool, true, false, List, [], ◌�
 use Rattle.std.specs.Prelude.{All, Contains, Option, None, Some, if◌then◌else◌, nat_lt, is_some, ◌&&◌, ◌==◌, not}
 use Rattle.std.specs.Option.{option_or, option_map, option_to_list}
 use Rattle.std.specs.List.{list_any}
-use Rattle.std.proofs.lemmas.List.Elements.{All-cons, All-append, All-weaker, All-filter}
+use Rattle.std.proofs.lemmas.List.Elements.{All-cons, All-append, All-weaker, All-filter, All-contains_itself}
 use Rattle.gs1.specs.Elements.{Element, written_elements}
 use Rattle.gs1.specs.Values.{element_error, first_error, text_error}
 use Rattle.gs1_base.specs.Domains.{is_domain}
 use Rattle.gs1_links.specs.Links.{keys, qualifiers, number, is_attribute, domain_fault, text_length_fault, no_key_fault}
 use Rattle.gs1_links.specs.Links.{qualifier_fault, second_key_fault, repeated_fault, later_fault, place_with}
 use Rattle.gs1_links.specs.Links.{first_rule_fault, elements_fault, qualifier_order, path_elements, query_elements}
-use Rattle.gs1_links.specs.Links.{linked, link_of, link_error, IsRefusedLink}
-use Rattle.gs1.specs.Together.{is_among, first_among}
+use Rattle.gs1_links.specs.Links.{linked, link_of, link_error, IsRefusedLink, together_fault, linking_fault}
+use Rattle.gs1.specs.Together.{is_among, first_among, first_conflict}
+use Rattle.gs1.specs.declared.together.TogetherError.{TogetherError}
 use Rattle.gs1_links.specs.LinkReader.{HasParts, ReadsLink}
 use Rattle.gs1.specs.declared.refusal.CheckError.{CheckError}
 use Rattle.gs1_links.specs.declared.link_error.LinkError.{LinkError}
 use Rattle.gs1_links.specs.declared.link_error.LinkError.TheVariants.{Elements, WrongDomain, TextTooLong}
 use Rattle.gs1_links.specs.declared.link_error.LinkError.TheVariants.{NoKey, SecondKey, WrongQualifier}
-use Rattle.gs1_links.specs.declared.link_error.LinkError.TheVariants.{RepeatedElement, OutOfMemory}
+use Rattle.gs1_links.specs.declared.link_error.LinkError.TheVariants.{RepeatedElement, Together, OutOfMemory}
 use Rattle.gs1.proofs.Faults.{neither}
 use Rattle.gs1.proofs.Allowed.{none_mapped}
 use Rattle.gs1.proofs.AllowedStrings.{text_tests}
@@ -25,11 +26,12 @@ use Rattle.gs1_links.proofs.LinkElements.{IsLinkable, all_linkable, among_of, ho
 use Rattle.gs1_links.proofs.LinkElements.{all_attributes, no_twins, some_key, key_order}
 use Rattle.gs1_links.proofs.LinkReads.{has_parts}
 use Rattle.gs1_links.proofs.LinkKept.{all_kept}
+use Rattle.gs1_links.proofs.LinkTogether.{together_same}
 
 elements_read : (domain : List ℕ) (elements : List Element) → is_domain domain ≡ true → first_error 0 elements ≡ None →
     no_key_fault elements ≡ None → first_rule_fault (qualifier_order elements) 0 elements ≡ None →
-    ReadsLink (link_of domain elements) (linked elements)
-elements_read domain elements is table some_one rules =
+    first_conflict elements 0 elements ≡ None → ReadsLink (link_of domain elements) (linked elements)
+elements_read domain elements is table some_one rules together =
     let good = all_linkable 0 elements table in
     let key = some_key elements some_one in
     let path_is : path_elements elements ≡ key.0 ∷ qualifying (qualifier_order elements) elements =
@@ -37,6 +39,16 @@ elements_read domain elements is table some_one rules =
     let good_path = All-cons IsLinkable key.0 (qualifying (qualifier_order elements) elements)
     (holds_of IsLinkable keys elements key.0 good key.1) (all_qualifying IsLinkable elements (qualifier_order elements) good) in
     let good_query = All-filter is_attribute IsLinkable elements good in
+    let self = All-contains_itself elements in
+    let all : List Element = key.0 ∷ qualifying (qualifier_order elements) elements ++ query_elements elements in
+    let within : All (Contains elements) all =
+    All-append (Contains elements) (key.0 ∷ qualifying (qualifier_order elements) elements) (query_elements elements)
+    (All-cons (Contains elements) key.0 (qualifying (qualifier_order elements) elements)
+    (holds_of (Contains elements) keys elements key.0 self key.1)
+    (all_qualifying (Contains elements) elements (qualifier_order elements) self))
+    (All-filter is_attribute (Contains elements) elements self) in
+    let kept : All (Contains all) elements =
+    subst (λ l. All (Contains l) elements) (ap (λ path. path ++ query_elements elements) path_is) (all_kept elements rules) in
     let P : List Element → Type 0 = λ path. HasParts (link_of domain elements) path (query_elements elements) in
     record {
       key = key.0;
@@ -53,6 +65,7 @@ elements_read domain elements is table some_one rules =
         allowed = All-weaker IsLinkable (λ e. element_error 0 e ≡ None) (λ e each. each.allowed)
             (key.0 ∷ qualifying (qualifier_order elements) elements ++ query_elements elements)
             (All-append IsLinkable (key.0 ∷ qualifying (qualifier_order elements) elements) (query_elements elements) good_path good_query);
+        together = together_same elements all (record { there = kept; back = within }) together;
       };
     }
 
@@ -62,8 +75,9 @@ pub elements_kept : (text domain : List ℕ) → link_error text domain ≡ None
 elements_kept text domain none =
     let first = neither (text_length_fault text) _ none in
     let second = neither (option_map (λ error. Elements error) (text_error text)) _ first.1 in
-    let third = neither (domain_fault domain) (elements_fault (written_elements text)) second.1 in
-    let rules = neither (no_key_fault (written_elements text)) _ third.1 in
+    let third = neither (domain_fault domain) (linking_fault (written_elements text)) second.1 in
+    let fourth = neither (elements_fault (written_elements text)) (together_fault (written_elements text)) third.1 in
+    let rules = neither (no_key_fault (written_elements text)) _ fourth.0 in
     all_kept (written_elements text) rules.1
 
 right_domain : (domain : List ℕ) → domain_fault domain ≡ None → is_domain domain ≡ true
@@ -74,15 +88,21 @@ right_domain domain none = right (is_domain domain) none
     right true e = refl
     right false e = absurd (let h : Some WrongDomain ≡ None = e in cc)
 
+stand_together : (elements : List Element) → together_fault elements ≡ None → first_conflict elements 0 elements ≡ None
+unfolding together_fault
+stand_together elements none = none_mapped (λ (error : TogetherError). Together error) (first_conflict elements 0 elements) none
+
 pub link_read : (text domain link : List ℕ) → link_error text domain ≡ None → link ≡ link_of domain (written_elements text) →
     ReadsLink link (linked (written_elements text))
 link_read text domain link none is =
     let first = neither (text_length_fault text) _ none in
     let second = neither (option_map (λ error. Elements error) (text_error text)) _ first.1 in
-    let third = neither (domain_fault domain) (elements_fault (written_elements text)) second.1 in
+    let third = neither (domain_fault domain) (linking_fault (written_elements text)) second.1 in
+    let fourth = neither (elements_fault (written_elements text)) (together_fault (written_elements text)) third.1 in
     let table = text_tests text (none_mapped (λ (error : CheckError). Elements error) (text_error text) second.0) in
-    let rules = neither (no_key_fault (written_elements text)) _ third.1 in
-    rw is (elements_read domain (written_elements text) (right_domain domain third.0) table.1 rules.0 rules.1)
+    let rules = neither (no_key_fault (written_elements text)) _ fourth.0 in
+    rw is (elements_read domain (written_elements text) (right_domain domain third.0) table.1 rules.0 rules.1
+    (stand_together (written_elements text) fourth.1))
 
 -- ---- Refusals
 
@@ -138,6 +158,14 @@ mapped_other : (error : Option CheckError) → IsOther (option_map (λ error. El
 mapped_other None = none_other
 mapped_other (Some error) = λ e. let h : Some (Elements error) ≡ Some OutOfMemory = e in cc
 
+together_other : (elements : List Element) → IsOther (together_fault elements)
+unfolding together_fault
+together_other elements = mapped (first_conflict elements 0 elements)
+  where
+    mapped : (error : Option TogetherError) → IsOther (option_map (λ error. Together error) error)
+    mapped None = none_other
+    mapped (Some error) = λ e. let h : Some (Together error) ≡ Some OutOfMemory = e in cc
+
 domain_other : (domain : List ℕ) → IsOther (domain_fault domain)
 unfolding domain_fault
 domain_other domain =
@@ -152,8 +180,9 @@ link_other : (text domain : List ℕ) → IsOther (link_error text domain)
 link_other text domain =
     or_other (text_length_fault text) _ (length_other text)
     (or_other (option_map (λ error. Elements error) (text_error text)) _ (mapped_other (text_error text))
-    (or_other (domain_fault domain) (elements_fault (written_elements text)) (domain_other domain)
-    (elements_other (written_elements text))))
+    (or_other (domain_fault domain) (linking_fault (written_elements text)) (domain_other domain)
+    (or_other (elements_fault (written_elements text)) (together_fault (written_elements text))
+    (elements_other (written_elements text)) (together_other (written_elements text)))))
 
 -- The fault of a text and a domain is why it is refused.
 pub refused_link : (text domain : List ℕ) (fault : LinkError) → link_error text domain ≡ Some fault →
@@ -166,3 +195,4 @@ refused_link text domain NoKey e = e
 refused_link text domain (SecondKey n) e = e
 refused_link text domain (WrongQualifier n i) e = e
 refused_link text domain (RepeatedElement n i) e = e
+refused_link text domain (Together error) e = e

@@ -7,19 +7,21 @@ use Rattle.std.specs.Prelude.{Option, None, Some, is_some, unwrap_or, zero, suc}
 use Rattle.std.specs.List.{slice_split, position_or_len, before_first, after_first, list_any}
 use Rattle.std.specs.Option.{option_or, option_map}
 use Rattle.gs1.specs.Elements.{Element, is_identifier, written_elements}
-use Rattle.gs1.specs.Values.{number_of, element_error}
-use Rattle.gs1.specs.Together.{is_among}
+use Rattle.gs1.specs.Values.{number_of_identifier, element_error}
+use Rattle.gs1.specs.Together.{is_among, first_conflict}
 use Rattle.gs1_base.specs.Percent.{begins_with_byte, first_byte, after_byte}
 use Rattle.gs1_base.specs.Domains.{is_domain}
 use Rattle.gs1_links.specs.Links.{keys, number, order_of, is_attribute, link_error, link_of}
 use Rattle.gs1_links.specs.Links.{linked}
-use Rattle.gs1_links.specs.LinkReader.{is_slash, is_question, is_link_character, query_parts, ReadsLink}
+use Rattle.gs1_links.specs.LinkReader.{is_slash, is_question, is_ampersand, is_link_character}
+use Rattle.gs1_links.specs.LinkReader.{query_parts, ReadsLink}
 use Rattle.gs1_links.specs.declared.link_error.LinkReadError.{LinkReadError}
 use Rattle.gs1_links.specs.declared.link_error.LinkReadError.TheVariants.{WrongScheme, WrongCharacter}
 use Rattle.gs1_links.specs.declared.link_error.LinkReadError.TheVariants.{WrongDomain, NoKey, NoEqualsSign}
 use Rattle.gs1_links.specs.declared.link_error.LinkReadError.TheVariants.{WrongEscape, ValueTooLong, Elements}
 use Rattle.gs1_links.specs.declared.link_error.LinkReadError.TheVariants.{WrongQualifier, WrongAttribute}
-use Rattle.gs1_links.specs.declared.link_error.LinkReadError.TheVariants.{RepeatedElement, OutOfMemory}
+use Rattle.gs1_links.specs.declared.link_error.LinkReadError.TheVariants.{RepeatedElement, Together}
+use Rattle.gs1_links.specs.declared.link_error.LinkReadError.TheVariants.{OutOfMemory}
 
 -- ---- Values
 
@@ -38,8 +40,8 @@ is_readable_within (suc n) text =
 unfoldable pub decoded : List ℕ → List ℕ
 decoded text = bytes_within (length text) text
 
-unfoldable pub is_readable : List ℕ → Bool
-is_readable text = is_readable_within (length text) text
+unfoldable pub is_readable_link : List ℕ → Bool
+is_readable_link text = is_readable_within (length text) text
 
 -- The element that an identifier and an escaped text write.
 abbrev pub decoded_element : Element → Element
@@ -48,7 +50,7 @@ decoded_element e = record { identifier = e.identifier; value = decoded e.value 
 -- The fault of an escaped text: an escape, or more than the 90 characters of the longest value.
 unfoldable pub escaped_fault : ℕ → List ℕ → Option LinkReadError
 escaped_fault place text =
-    if is_readable text
+    if is_readable_link text
     then (if nat_lt 90 (length (decoded text)) then Some (ValueTooLong place) else None)
     else Some (WrongEscape place)
 
@@ -61,12 +63,12 @@ written_fault place e =
 -- ---- The path
 
 -- What is left of a text behind a separator, cut at further ones.
-abbrev pub parts_left : (ℕ → Bool) → Option (List ℕ) → List (List ℕ)
-parts_left separates None = []
-parts_left separates (Some text) = slice_split separates text
+abbrev pub cut_parts : (ℕ → Bool) → Option (List ℕ) → List (List ℕ)
+cut_parts separates None = []
+cut_parts separates (Some text) = slice_split separates text
 
 abbrev pub is_key_text : List ℕ → Bool
-is_key_text segment = is_identifier segment && is_among keys (number_of segment)
+is_key_text segment = is_identifier segment && is_among keys (number_of_identifier segment)
 
 -- The segments from the key on: it is the last that is the identifier of a primary key and has an
 -- odd number of segments after it.
@@ -175,35 +177,35 @@ after_scheme link =
 unfoldable pub scheme_fault : List ℕ → Option LinkReadError
 scheme_fault link = if is_some (after_scheme link) then None else Some WrongScheme
 
-unfoldable pub character_fault : List ℕ → Option LinkReadError
-character_fault link =
+unfoldable pub link_character_fault : List ℕ → Option LinkReadError
+link_character_fault link =
     option_map (λ place. WrongCharacter place) (position (λ c. not (is_link_character c)) link)
 
 abbrev pub rest_of : List ℕ → List ℕ
 rest_of link = unwrap_or (after_scheme link) []
 
 -- The domain and the segments, before the query.
-abbrev pub front_of : List ℕ → List ℕ
-front_of link = before_first is_question (rest_of link)
+abbrev pub before_query : List ℕ → List ℕ
+before_query link = before_first is_question (rest_of link)
 
 abbrev pub query_of : List ℕ → List ℕ
 query_of link = after_first is_question (rest_of link)
 
-unfoldable pub domain_fault : List ℕ → Option LinkReadError
-domain_fault link =
-    if is_domain (before_first is_slash (front_of link)) then None else Some WrongDomain
+unfoldable pub link_domain_fault : List ℕ → Option LinkReadError
+link_domain_fault link =
+    if is_domain (before_first is_slash (before_query link)) then None else Some WrongDomain
 
 abbrev pub path_of : List ℕ → Option (List (List ℕ))
-path_of link = path_in (drop 1 (slice_split is_slash (front_of link)))
+path_of link = path_in (drop 1 (slice_split is_slash (before_query link)))
 
-unfoldable pub key_fault : List ℕ → Option LinkReadError
-key_fault link = if is_some (path_of link) then None else Some NoKey
+unfoldable pub link_key_fault : List ℕ → Option LinkReadError
+link_key_fault link = if is_some (path_of link) then None else Some NoKey
 
 -- The first fault before the elements are looked at.
 abbrev pub front_fault : List ℕ → Option LinkReadError
 front_fault link =
     option_or (scheme_fault link)
-    (option_or (character_fault link) (option_or (domain_fault link) (key_fault link)))
+    (option_or (link_character_fault link) (option_or (link_domain_fault link) (link_key_fault link)))
 
 -- The elements of the path, their values escaped, and the parts of the query.
 abbrev pub path_pairs : List ℕ → List Element
@@ -212,19 +214,39 @@ path_pairs link = pairs (unwrap_or (path_of link) [])
 abbrev pub query_parts_of : List ℕ → List (List ℕ)
 query_parts_of link = query_parts (query_of link)
 
--- The first fault of a link. The elements are counted from the key on.
-abbrev pub reading_fault : List ℕ → Option LinkReadError
-reading_fault link =
+-- The elements that are left of a path and of a query.
+abbrev pub elements_left : Option (List ℕ) → Option (List ℕ) → List Element
+elements_left path query =
+    map decoded_element (pairs (cut_parts is_slash path))
+    ++ map (λ part. decoded_element (part_element part)) (cut_parts is_ampersand query)
+
+-- The elements of a path, from the key on, and of a query.
+abbrev pub elements_in : List ℕ → List ℕ → List Element
+elements_in path query =
+    map decoded_element (pairs (slice_split is_slash path))
+    ++ map (λ part. decoded_element (part_element part)) (query_parts query)
+
+-- The elements of a link whose parts have no fault.
+abbrev pub link_elements : List ℕ → List Element
+link_elements link =
+    map decoded_element (path_pairs link)
+    ++ map (λ part. decoded_element (part_element part)) (query_parts_of link)
+
+-- The first fault of elements that may not stand together.
+unfoldable pub link_together_fault : List Element → Option LinkReadError
+link_together_fault elements = option_map (λ error. Together error) (first_conflict elements 0 elements)
+
+-- The first fault of the parts of a link. The elements are counted from the key on.
+abbrev pub parts_fault : List ℕ → Option LinkReadError
+parts_fault link =
     option_or (front_fault link)
     (option_or (path_fault (path_pairs link))
     (option_or (query_fault (length (path_pairs link)) (query_parts_of link))
     (twins_fault (length (path_pairs link)) (query_parts_of link))))
 
--- The elements of a link without a fault.
-abbrev pub link_elements : List ℕ → List Element
-link_elements link =
-    map decoded_element (path_pairs link)
-    ++ map (λ part. decoded_element (part_element part)) (query_parts_of link)
+-- The first fault of a link: of its parts, or of its elements together.
+abbrev pub reading_fault : List ℕ → Option LinkReadError
+reading_fault link = option_or (parts_fault link) (link_together_fault (link_elements link))
 
 -- When each error is returned: it is the first fault, or out of memory where there is none.
 abbrev pub IsRefusedReading : List ℕ → LinkReadError → Type 0

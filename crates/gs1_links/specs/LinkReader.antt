@@ -5,7 +5,7 @@ use Rattle.std.specs.Prelude.{List, [], ◌∷◌, ◌++◌, length, map, None, 
 use Rattle.std.specs.List.{slice_split, before_first, after_first, list_all, list_any}
 use Rattle.gs1.specs.Elements.{Element}
 use Rattle.gs1.specs.Values.{element_error}
-use Rattle.gs1.specs.Together.{is_among}
+use Rattle.gs1.specs.Together.{is_among, first_conflict}
 use Rattle.gs1_base.specs.Percent.{ReadsAs, stands_for_itself, is_percent}
 use Rattle.gs1_base.specs.Domains.{is_domain}
 use Rattle.gs1_links.specs.Links.{keys, number, order_of, is_attribute, https}
@@ -72,7 +72,7 @@ pub record HasParts (link : List ℕ) (path query : List Element) : Type 0 where
   pub characters : list_all is_link_character link ≡ true
 
 -- The elements that may stand so: a primary key, qualifiers of this key in their order, and others
--- that are neither, none of them twice. The table allows each.
+-- that are neither, none of them twice. The table allows each, and they may stand together.
 pub record AreLinked (key : Element) (qualifying query : List Element) : Type 0 where
   pub key_is : is_among keys (number key) ≡ true
   pub ordered : (follows (map number qualifying) (order_of (number key) false) ≡ true)
@@ -80,6 +80,7 @@ pub record AreLinked (key : Element) (qualifying query : List Element) : Type 0 
   pub attributes : list_all is_attribute query ≡ true
   pub once : has_twins query ≡ false
   pub allowed : All (λ e. element_error 0 e ≡ None) (key ∷ qualifying ++ query)
+  pub together : first_conflict (key ∷ qualifying ++ query) 0 (key ∷ qualifying ++ query) ≡ None
 
 -- A reader finds these elements in the link: the key, its qualifiers and the rest. Example: in
 -- `http://a.example/b/01/09506000134352?17=261231` it finds 01 and 17.

@@ -7,13 +7,13 @@ use Rattle.std.specs.List.{flat_map, filter, list_any}
 use Rattle.std.specs.Option.{option_or, option_map, option_and_then, option_to_list}
 use Rattle.gs1_base.specs.Domains.{is_domain}
 use Rattle.gs1.specs.Elements.{Element, written_elements}
-use Rattle.gs1.specs.Values.{number_of, text_error}
-use Rattle.gs1.specs.Together.{is_among, first_among}
+use Rattle.gs1.specs.Values.{number_of_identifier, text_error}
+use Rattle.gs1.specs.Together.{is_among, first_among, first_conflict}
 use Rattle.gs1_base.specs.Percent.{percent_text}
 use Rattle.gs1_links.specs.declared.link_error.LinkError.{LinkError}
 use Rattle.gs1_links.specs.declared.link_error.LinkError.TheVariants.{TextTooLong, Elements, WrongDomain}
 use Rattle.gs1_links.specs.declared.link_error.LinkError.TheVariants.{NoKey, SecondKey, WrongQualifier}
-use Rattle.gs1_links.specs.declared.link_error.LinkError.TheVariants.{RepeatedElement, OutOfMemory}
+use Rattle.gs1_links.specs.declared.link_error.LinkError.TheVariants.{RepeatedElement, Together, OutOfMemory}
 
 -- ---- Keys and qualifiers
 
@@ -29,7 +29,7 @@ qualifiers =
     (10, 10) ∷ (21, 22) ∷ (235, 235) ∷ (254, 254) ∷ (7040, 7040) ∷ (8011, 8011) ∷ (8019, 8020) ∷ []
 
 abbrev pub number : Element → ℕ
-number e = number_of e.identifier
+number e = number_of_identifier e.identifier
 
 abbrev pub is_attribute : Element → Bool
 is_attribute e = not (is_among keys (number e)) && not (is_among qualifiers (number e))
@@ -145,6 +145,14 @@ abbrev pub elements_fault : List Element → Option LinkError
 elements_fault elements =
     option_or (no_key_fault elements) (first_rule_fault (qualifier_order elements) 0 elements)
 
+-- The first fault of elements that may not stand together.
+unfoldable pub together_fault : List Element → Option LinkError
+together_fault elements = option_map (λ error. Together error) (first_conflict elements 0 elements)
+
+-- The elements make no link, or they may not stand together.
+abbrev pub linking_fault : List Element → Option LinkError
+linking_fault elements = option_or (elements_fault elements) (together_fault elements)
+
 unfoldable pub text_length_fault : List ℕ → Option LinkError
 text_length_fault text = if nat_lt 11815 (length text) then Some TextTooLong else None
 
@@ -153,7 +161,7 @@ abbrev pub link_error : List ℕ → List ℕ → Option LinkError
 link_error text domain =
     option_or (text_length_fault text)
     (option_or (option_map (λ error. Elements error) (text_error text))
-    (option_or (domain_fault domain) (elements_fault (written_elements text))))
+    (option_or (domain_fault domain) (linking_fault (written_elements text))))
 
 -- When each error is returned: out of memory only where there is no fault.
 abbrev pub IsRefusedLink : List ℕ → List ℕ → LinkError → Type 0

@@ -14,8 +14,8 @@ pub fn are_read_or_refused()
     ensures { LinksAreReadOrRefused }
 {}
 
-/// The link of a text is read as the elements of the text, in the order of the link, and as no
-/// others.
+/// The link of a text is read as the elements of the text, in the order of the link, and as
+/// no others.
 pub fn are_read_back()
     ensures { LinksAreReadBack }
 {}

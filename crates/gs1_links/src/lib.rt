@@ -9,8 +9,9 @@
 //!
 //! 1. Check the text by the table, and which elements it has (`link_rules`), and write the link
 //!    (`link`).
-//! 2. Cut a link into its parts (`link_parts`), check the values (`link_values`), and return the
-//!    elements (`link_read`), or the first fault (`link_error`).
+//! 2. Cut a link into its parts (`link_parts`), check the values (`link_values`) and which elements
+//!    stand together (`link_together`), and return the elements (`link_read`), or the first fault
+//!    (`link_error`).
 #![tactic(auto)]
 
 pub mod laws;
@@ -19,6 +20,7 @@ mod link_error;
 mod link_parts;
 mod link_read;
 mod link_rules;
+mod link_together;
 mod link_values;
 
 pub use gs1_base::domain::is_domain;

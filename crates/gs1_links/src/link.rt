@@ -7,7 +7,7 @@ ghost use Rattle.gs1.specs.Elements.{Element as SpecElement, element_of, element
 ghost use Rattle.gs1.specs.Elements.{written_elements};
 ghost use Rattle.gs1.specs.Values.{text_error};
 ghost use Rattle.gs1_base.specs.Domains.{is_domain_character, is_domain};
-ghost use Rattle.gs1_links.specs.Links.{domain_fault, text_length_fault};
+ghost use Rattle.gs1_links.specs.Links.{domain_fault, text_length_fault, together_fault};
 ghost use Rattle.gs1_links.specs.Links.{link_error, IsRefusedLink, link_of, linked, path_text, query_text};
 ghost use Rattle.gs1_links.specs.Links.{path_elements, query_elements, primary_key, element_with, is_attribute};
 ghost use Rattle.gs1_links.specs.LinkReader.{ReadsLink};
@@ -15,7 +15,7 @@ ghost use Rattle.gs1_links.specs.LinkReader.{ReadsLink};
 use crate::link_error::LinkError;
 use crate::link_rules::{check_elements, element_with, is_attribute, primary_key, qualifier_order};
 use gs1::strings::{Element, element_of};
-use gs1::together::LONGEST_TEXT;
+use gs1::together::{LONGEST_TEXT, check_all};
 use gs1::values::check_text;
 use gs1_base::cuts::{behind, first_of};
 use gs1_base::domain::is_domain;
@@ -29,9 +29,9 @@ use std::alloc::{AllocError, Global};
 /// letters, digits and `-._~` stand as they are, and each other character as a percent sign and two
 /// capital hexadecimal digits.
 ///
-/// The domain is a host name of letters, digits, `-` and `.`, with a colon and the digits of a port
-/// after it or without. A reader of links finds in the link these elements in this order, and no
-/// others.
+/// The domain is a host name of letters, digits, `-` and `.`, with a colon and the digits of a
+/// port after it or without. A reader of links finds in the link these elements in this order, and
+/// no others.
 ///
 /// # Errors
 ///
@@ -40,18 +40,19 @@ use std::alloc::{AllocError, Global};
 /// if the domain is none. `NoKey` if no element is a primary key. Else the fault of the first
 /// element that has one: `WrongQualifier` if it qualifies keys, but not the key of this link, or
 /// not beside another qualifier; `SecondKey` if it is a primary key with another one after it;
-/// `RepeatedElement` if its identifier stands once more after it. `OutOfMemory` if there is no
-/// fault and an allocation failed.
+/// `RepeatedElement` if its identifier stands once more after it. Else `Together` with the error of
+/// `check_together` if the elements may not stand together. `OutOfMemory` if there is no fault and
+/// an allocation failed.
 pub fn digital_link(alloc: Global, text: &str, domain: &str) -> Result<Vec<u8>, LinkError>
     ensures written { IfOk result (λ link. link.items
         ≡ link_of domain.now (written_elements text.now)) }
     ensures read { IfOk result (λ link. ReadsLink link.items (linked (written_elements text.now))) }
     // None of the elements is lost.
-    ensures kept { OnOk result (All (Contains (linked (written_elements text.now)))
+    ensures none_lost { OnOk result (All (Contains (linked (written_elements text.now)))
         (written_elements text.now)) }
 
     ensures faultless { OnOk result (link_error text.now domain.now ≡ None) }
-    ensures refused { IfErr result (IsRefusedLink text.now domain.now) }
+    ensures refusal { IfErr result (IsRefusedLink text.now domain.now) }
 {
     let text = text.as_bytes();
     let domain = domain.as_bytes();
@@ -67,7 +68,8 @@ fn check_link(text: &[u8], domain: &[u8]) -> Result<(), LinkError>
     check_length(text)?;
     check_values(text)?;
     check_domain(domain)?;
-    check_elements(text)
+    check_elements(text)?;
+    check_together(text)
 }
 
 /// Checks the length of a text.
@@ -101,6 +103,17 @@ fn check_domain(domain: &[u8]) -> Result<(), LinkError>
         return Err(LinkError::WrongDomain);
     }
     Ok(())
+}
+
+/// Checks that the elements of a text may stand together.
+#[tactic(auto, unfolding(crate::specs::Links::together_fault))]
+fn check_together(text: &[u8]) -> Result<(), LinkError>
+    ensures { result_err result ≡ together_fault (written_elements text.now) }
+{
+    match check_all(behind(text, 0)) {
+        Ok(()) => Ok(()),
+        Err(error) => Err(LinkError::Together(error)),
+    }
 }
 
 /// Returns the link of the elements of a text.

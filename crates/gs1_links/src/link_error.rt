@@ -1,7 +1,7 @@
 //! Why there is no link of elements, `LinkError`.
 ghost use Rattle.std.specs.Prelude.{◌≡◌};
 
-use gs1::CheckError;
+use gs1::{CheckError, TogetherError};
 use std::alloc::{AllocError, AllocFailed};
 use thiserror::Error;
 
@@ -30,6 +30,9 @@ pub enum LinkError {
     /// The identifier of this element stands once more after it.
     #[error("element {element} ({identifier:02}): the identifier stands once more after it")]
     RepeatedElement { element: usize, identifier: usize },
+    /// The elements may not stand together.
+    #[error("{0}")]
+    Together(TogetherError),
     /// An allocation failed.
     #[error("out of memory")]
     OutOfMemory,
@@ -92,6 +95,9 @@ pub enum LinkReadError {
     /// The identifier of this element stands once more after it.
     #[error("element {element} ({identifier:02}): the identifier stands once more after it")]
     RepeatedElement { element: usize, identifier: usize },
+    /// The elements may not stand together.
+    #[error("{0}")]
+    Together(TogetherError),
     /// An allocation failed.
     #[error("out of memory")]
     OutOfMemory,

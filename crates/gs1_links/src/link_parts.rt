@@ -6,8 +6,8 @@ ghost use Rattle.std.specs.List.{slice_split};
 ghost use Rattle.std.specs.Option.{option_map, option_map_or};
 ghost use Rattle.std.specs.Result.{result_err};
 ghost use Rattle.gs1_links.specs.LinkReader.{is_slash, is_question, is_link_character};
-ghost use Rattle.gs1_links.specs.LinkFaults.{parts_left, is_key_text, path_in, pairs, after_scheme};
-ghost use Rattle.gs1_links.specs.LinkFaults.{character_fault, front_fault, path_of, query_of};
+ghost use Rattle.gs1_links.specs.LinkFaults.{cut_parts, is_key_text, path_in, pairs, after_scheme};
+ghost use Rattle.gs1_links.specs.LinkFaults.{link_character_fault, front_fault, path_of, query_of};
 
 use crate::link_error::LinkReadError;
 use crate::link_rules::is_key;
@@ -27,7 +27,7 @@ pub(crate) struct Cut<'a> {
 /// Cuts a text at the first byte of this value.
 pub(crate) fn cut_at<'a>(text: &'a [u8], separator: u8) -> Cut<'a>
     ensures parts { slice_split (λ c. c == separator) text.now ≡ result.front.now
-        ∷ parts_left (λ c. c == separator) (option_map (λ t. t.now) result.rest) }
+        ∷ cut_parts (λ c. c == separator) (option_map (λ t. t.now) result.rest) }
     ensures size { option_map_or (λ t. length t.now + 1) result.rest 0 ≤ length text.now }
 {
     let end = first_of(text, separator);
@@ -52,13 +52,13 @@ pub(crate) struct Pair<'a> {
 /// Returns the next two segments.
 pub(crate) fn next_pair<'a>(path: Option<&'a [u8]>) -> Option<Pair<'a>>
     ensures some { IfSome result (λ pair.
-        pairs (parts_left is_slash (option_map (λ t. t.now) path.entry))
+        pairs (cut_parts is_slash (option_map (λ t. t.now) path.entry))
         ≡ record { identifier = pair.identifier.now; value = pair.text.now }
-        ∷ pairs (parts_left is_slash (option_map (λ t. t.now) pair.rest))) }
+        ∷ pairs (cut_parts is_slash (option_map (λ t. t.now) pair.rest))) }
     ensures size { IfSome result (λ pair. option_map_or (λ t. length t.now + 1) pair.rest 0 + 2
         ≤ option_map_or (λ t. length t.now + 1) path.entry 0) }
     ensures none { IfNone result
-        (pairs (parts_left is_slash (option_map (λ t. t.now) path.entry)) ≡ []) }
+        (pairs (cut_parts is_slash (option_map (λ t. t.now) path.entry)) ≡ []) }
 {
     let first = cut_at(path?, b'/');
     let second = cut_at(first.rest?, b'/');
@@ -79,7 +79,7 @@ fn is_key_text(segment: &[u8]) -> bool
 /// Returns whether an even number of segments is left.
 fn is_even(path: Option<&[u8]>) -> bool
     ensures { result
-        ≡ (length (parts_left is_slash (option_map (λ t. t.now) path.entry)) % 2 == 0) }
+        ≡ (length (cut_parts is_slash (option_map (λ t. t.now) path.entry)) % 2 == 0) }
 {
     let mut even = true;
     let mut rest = path;
@@ -103,7 +103,7 @@ fn found_or<'a>(is_found: bool, here: &'a [u8], before: Option<&'a [u8]>) -> Opt
 /// Returns the path from the key on.
 fn path_in<'a>(path: Option<&'a [u8]>) -> Option<&'a [u8]>
     ensures { option_map (λ t. slice_split is_slash t.now) result
-        ≡ path_in (parts_left is_slash (option_map (λ t. t.now) path.entry)) }
+        ≡ path_in (cut_parts is_slash (option_map (λ t. t.now) path.entry)) }
 {
     let mut found = None;
     let mut even = is_even(path);
@@ -156,9 +156,9 @@ fn wrong_character(link: &[u8]) -> Option<usize>
 }
 
 /// Checks the characters of a link.
-#[tactic(auto, unfolding(crate::specs::LinkFaults::character_fault))]
+#[tactic(auto, unfolding(crate::specs::LinkFaults::link_character_fault))]
 fn check_characters(link: &[u8]) -> Result<(), LinkReadError>
-    ensures { result_err result ≡ character_fault link.now }
+    ensures { result_err result ≡ link_character_fault link.now }
 {
     match wrong_character(link) {
         Some(place) => Err(LinkReadError::WrongCharacter { place }),

@@ -8,7 +8,7 @@ ghost use Rattle.std.specs.Result.{result_err};
 ghost use Rattle.gs1.specs.Elements.{Element as SpecElement};
 ghost use Rattle.gs1_links.specs.Links.{number, is_attribute, order_of};
 ghost use Rattle.gs1_links.specs.LinkReader.{is_slash, is_ampersand, query_parts, ReadsLink};
-ghost use Rattle.gs1_links.specs.LinkFaults.{parts_left, pairs, order_fault, path_fault, part_element};
+ghost use Rattle.gs1_links.specs.LinkFaults.{cut_parts, pairs, order_fault, path_fault, part_element};
 ghost use Rattle.gs1_links.specs.LinkFaults.{qualifiers_fault};
 ghost use Rattle.gs1_links.specs.LinkFaults.{part_fault, equals_fault, attribute_fault, query_fault};
 ghost use Rattle.gs1_links.specs.LinkFaults.{is_part_of, twin_fault, twins_fault, decoded_element};
@@ -17,6 +17,7 @@ ghost use Rattle.gs1_links.specs.LinkFaults.{reading_fault, IsRefusedReading};
 use crate::link_error::LinkReadError;
 use crate::link_parts::{cut_at, cut_link, next_pair};
 use crate::link_rules::{is_attribute_number, order_of};
+use crate::link_together::{check_together, part_element, query_left};
 use crate::link_values::{check_written, decoded};
 use gs1::strings::Element;
 use gs1::values::number_of;
@@ -47,10 +48,11 @@ pub struct LinkElement<'a> {
 /// `WrongCharacter` (the first byte that no path and no query has, such as the `#` of a fragment);
 /// `WrongDomain`; `NoKey` if no segment is the identifier of a primary key with an odd number of
 /// segments after it; the fault of the first element that has one; `RepeatedElement` for the first
-/// element of the query whose identifier stands there once more. An element is checked in this
-/// order: `NoEqualsSign` (in the query), `WrongEscape`, `ValueTooLong` (over 90 characters),
-/// `Elements` with the error of `checked_element_string`, `WrongQualifier` (in the path) and
-/// `WrongAttribute` (in the query). `OutOfMemory` if there is no fault and an allocation failed.
+/// element of the query whose identifier stands there once more; `Together` with the error of
+/// `check_together` if the elements may not stand together. An element is checked in this order:
+/// `NoEqualsSign` (in the query), `WrongEscape`, `ValueTooLong` (over 90 characters), `Elements`
+/// with the error of `checked_element_string`, `WrongQualifier` (in the path) and `WrongAttribute`
+/// (in the query). `OutOfMemory` if there is no fault and an allocation failed.
 pub fn elements_of_link<'a>(
     alloc: Global,
     link: &'a [u8],
@@ -58,13 +60,14 @@ pub fn elements_of_link<'a>(
     ensures read { IfOk result (λ elements. ReadsLink link.now (map
         (λ e. record { identifier = e.identifier.now; value = e.value.items }) elements.items)) }
     ensures faultless { OnOk result (reading_fault link.now ≡ None) }
-    ensures refused { IfErr result (IsRefusedReading link.now) }
+    ensures refusal { IfErr result (IsRefusedReading link.now) }
 {
     let parts = cut_link(link)?;
     let count = check_path(parts.path)?;
     let query = query_left(parts.query);
     check_query(count, query)?;
     check_twins(count, query)?;
+    check_together(parts)?;
     let mut elements = Vec::new(alloc);
     push_path(alloc, &mut elements, parts.path)?;
     push_query(alloc, &mut elements, query)?;
@@ -112,9 +115,9 @@ fn after_number(order: &'static [usize], number: usize) -> &'static [usize]
 fn check_qualifiers(key: usize, path: Option<&[u8]>) -> Result<usize, LinkReadError>
     requires { option_map_or (λ t. length t.now + 1) path 0 < 2 ^ 63 }
     ensures fault { result_err result ≡ qualifiers_fault (order_of key false) (order_of key true) 1
-        (pairs (parts_left is_slash (option_map (λ t. t.now) path.entry))) }
+        (pairs (cut_parts is_slash (option_map (λ t. t.now) path.entry))) }
     ensures count { IfOk result (λ n. n
-        ≡ 1 + length (pairs (parts_left is_slash (option_map (λ t. t.now) path.entry)))) }
+        ≡ 1 + length (pairs (cut_parts is_slash (option_map (λ t. t.now) path.entry)))) }
     ensures size { IfOk result (λ n. n ≤ 1 + option_map_or (λ t. length t.now + 1) path.entry 0) }
 {
     let mut first = order_of(key, false);
@@ -144,30 +147,6 @@ fn check_path(path: &[u8]) -> Result<usize, LinkReadError>
     };
     check_written(0, key.identifier, key.text)?;
     check_qualifiers(number_of(key.identifier), key.rest)
-}
-
-/// Returns the query, if it is not empty.
-fn query_left<'a>(query: &'a [u8]) -> Option<&'a [u8]>
-    ensures parts { parts_left is_ampersand (option_map (λ t. t.now) result)
-        ≡ query_parts query.now }
-    ensures size { option_map_or (λ t. length t.now + 1) result 0 ≤ length query.now + 1 }
-{
-    if query.is_empty() {
-        return None;
-    }
-    Some(query)
-}
-
-/// Returns the element of a part of a query, its value escaped.
-fn part_element<'a>(part: &'a [u8]) -> Element<'a>
-    ensures { part_element part.now
-        ≡ record { identifier = result.identifier.now; value = result.value.now } }
-{
-    let end = first_of(part, b'=');
-    Element {
-        identifier: &part[..end],
-        value: behind(part, end),
-    }
 }
 
 /// Checks that a part of a query has an equals sign.
@@ -212,7 +191,7 @@ fn check_query(first: usize, query: Option<&[u8]>) -> Result<(), LinkReadError>
     requires first { first < 2 ^ 63 }
     requires size { option_map_or (λ t. length t.now + 1) query 0 ≤ 2 ^ 63 }
     ensures { result_err result
-        ≡ query_fault first (parts_left is_ampersand (option_map (λ t. t.now) query.entry)) }
+        ≡ query_fault first (cut_parts is_ampersand (option_map (λ t. t.now) query.entry)) }
 {
     let mut rest = query;
     let mut element = first;
@@ -228,7 +207,7 @@ fn check_query(first: usize, query: Option<&[u8]>) -> Result<(), LinkReadError>
 /// Returns whether an identifier stands in a query.
 fn stands_in(identifier: usize, query: Option<&[u8]>) -> bool
     ensures { result ≡ list_any (is_part_of identifier)
-        (parts_left is_ampersand (option_map (λ t. t.now) query.entry)) }
+        (cut_parts is_ampersand (option_map (λ t. t.now) query.entry)) }
 {
     let mut rest = query;
     while let Some(text) = rest {
@@ -245,7 +224,7 @@ fn stands_in(identifier: usize, query: Option<&[u8]>) -> bool
 #[tactic(auto, unfolding(crate::specs::LinkFaults::twin_fault))]
 fn check_twin(element: usize, identifier: usize, rest: Option<&[u8]>) -> Result<(), LinkReadError>
     ensures { result_err result ≡ twin_fault element identifier
-        (parts_left is_ampersand (option_map (λ t. t.now) rest.entry)) }
+        (cut_parts is_ampersand (option_map (λ t. t.now) rest.entry)) }
 {
     if stands_in(identifier, rest) {
         return Err(LinkReadError::RepeatedElement {
@@ -261,7 +240,7 @@ fn check_twins(first: usize, query: Option<&[u8]>) -> Result<(), LinkReadError>
     requires first { first < 2 ^ 63 }
     requires size { option_map_or (λ t. length t.now + 1) query 0 ≤ 2 ^ 63 }
     ensures { result_err result
-        ≡ twins_fault first (parts_left is_ampersand (option_map (λ t. t.now) query.entry)) }
+        ≡ twins_fault first (cut_parts is_ampersand (option_map (λ t. t.now) query.entry)) }
 {
     let mut rest = query;
     let mut element = first;
@@ -336,7 +315,7 @@ fn push_query<'a>(
         ≡ map (λ e. record { identifier = e.identifier.now; value = e.value.items })
         elements.old.items
         ++ map (λ part. decoded_element (part_element part))
-        (parts_left is_ampersand (option_map (λ t. t.now) query.entry))) }
+        (cut_parts is_ampersand (option_map (λ t. t.now) query.entry))) }
 {
     let mut rest = query;
     while let Some(text) = rest {

@@ -3,7 +3,8 @@ ghost use Rattle.std.specs.Prelude.{◌≡◌, ◌&&◌, not, None, Some, IfNone
 ghost use Rattle.std.specs.Option.{option_map};
 ghost use Rattle.std.specs.Result.{result_err};
 ghost use Rattle.gs1.specs.Elements.{element_of, elements_behind, written_elements};
-ghost use Rattle.gs1_links.specs.Links.{keys, qualifiers, order_of, second_set, element_with, primary_key, qualifier_order};
+ghost use Rattle.gs1_links.specs.Links.{keys, qualifiers, order_of, second_set, element_with};
+ghost use Rattle.gs1_links.specs.Links.{primary_key, qualifier_order};
 ghost use Rattle.gs1_links.specs.Links.{number, qualifier_fault, second_key_fault, repeated_fault};
 ghost use Rattle.gs1_links.specs.Links.{later_fault, first_rule_fault, no_key_fault, elements_fault};
 ghost use Rattle.gs1_links.specs.Links.{is_attribute};

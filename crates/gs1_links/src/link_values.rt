@@ -5,7 +5,7 @@ ghost use Rattle.std.specs.Option.{option_map};
 ghost use Rattle.std.specs.Result.{result_err};
 ghost use Rattle.gs1_base.specs.Percent.{begins_with_byte};
 ghost use Rattle.gs1.specs.Values.{element_error};
-ghost use Rattle.gs1_links.specs.LinkFaults.{decoded, is_readable, escaped_fault, written_fault};
+ghost use Rattle.gs1_links.specs.LinkFaults.{decoded, is_readable_link, escaped_fault, written_fault};
 
 use crate::link_error::LinkReadError;
 use gs1::values::check_element;
@@ -25,7 +25,7 @@ fn begins_with_byte(text: &[u8]) -> bool
 /// Returns how many bytes an escaped text writes, if each can be read.
 fn decoded_length(text: &[u8]) -> Option<usize>
     ensures { result
-        ≡ if is_readable text.now then Some (length (decoded text.now)) else None }
+        ≡ if is_readable_link text.now then Some (length (decoded text.now)) else None }
 {
     let mut rest = text;
     let mut length = 0;

@@ -1,5 +1,5 @@
 //! Elements of links.
-use gs1::{CheckError, Reason};
+use gs1::{CheckError, Reason, TogetherError};
 use gs1_links::{LinkElement, LinkReadError, digital_link, elements_of_link};
 use std::alloc::Global;
 
@@ -158,7 +158,7 @@ static FAULTS: [(&str, LinkReadError); 18] = [
 ];
 
 /// Links whose elements have a fault.
-static ELEMENT_FAULTS: [(&str, LinkReadError); 13] = [
+static ELEMENT_FAULTS: [(&str, LinkReadError); 16] = [
     (
         "https://x/01/09506000134351",
         LinkReadError::Elements(CheckError::WrongValue {
@@ -243,7 +243,44 @@ static ELEMENT_FAULTS: [(&str, LinkReadError); 13] = [
         "https://x/01/09506000134352/10/ABCDEFGHIJABCDEFGHIJABCDEFGHIJABCDEFGHIJABCDEFGHIJABCDEFGHIJABCDEFGHIJABCDEFGHIJABCDEFGHIJK",
         LinkReadError::ValueTooLong { element: 1 },
     ),
+    // A price of a trade item of variable measure needs its measure, and a reference number the
+    // party that invoices.
+    (
+        "https://x/01/09506000134352?17=261231&3922=2172",
+        LinkReadError::Together(TogetherError::MissingElement {
+            element: 2,
+            identifier: 3922,
+        }),
+    ),
+    (
+        "https://x/415/9506000134352",
+        LinkReadError::Together(TogetherError::MissingElement {
+            element: 0,
+            identifier: 415,
+        }),
+    ),
+    // Other faults come first.
+    (
+        "https://x/00/106141412345678908?37=20&91=A&91=B",
+        LinkReadError::RepeatedElement {
+            element: 2,
+            identifier: 91,
+        },
+    ),
 ];
+
+#[test]
+fn prints_which_elements_are_apart(rt: HostRuntime) {
+    let link = b"https://x/00/106141412345678908?420=1&421=0361";
+    let error = elements_of_link(rt.alloc(), link).err();
+    let error = error.expect(&rt, "no error");
+    let text = format!(in rt.alloc(); "{error}").ok();
+    let text = text.expect(&rt, "no text");
+    assert_eq!(rt;
+        text.as_str(),
+        "element 1 (420): element 2 may not stand beside it"
+    );
+}
 
 #[test]
 fn refuses_wrong_links(rt: HostRuntime) {

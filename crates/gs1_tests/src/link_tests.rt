@@ -1,5 +1,5 @@
 //! Links of elements.
-use gs1::{CheckError, Reason};
+use gs1::{CheckError, Reason, TogetherError};
 use gs1_links::{LinkError, PercentError, digital_link, percent_decoded, percent_escaped};
 use std::alloc::Global;
 
@@ -97,7 +97,7 @@ fn writes_links(rt: HostRuntime) {
 }
 
 /// Texts and domains with a fault.
-static FAULTS: [(&str, &str, LinkError); 15] = [
+static FAULTS: [(&str, &str, LinkError); 19] = [
     ("", "", LinkError::Elements(CheckError::NoElements)),
     (
         "(01)09506000134351",
@@ -152,6 +152,42 @@ static FAULTS: [(&str, &str, LinkError); 15] = [
         LinkError::RepeatedElement {
             element: 1,
             identifier: 17,
+        },
+    ),
+    // A price of a trade item of variable measure needs its measure, and a count what it counts.
+    (
+        "(3922)2172(01)09506000134352",
+        "a",
+        LinkError::Together(TogetherError::MissingElement {
+            element: 0,
+            identifier: 3922,
+        }),
+    ),
+    (
+        "(00)106141412345678908(37)20",
+        "a",
+        LinkError::Together(TogetherError::MissingElement {
+            element: 1,
+            identifier: 37,
+        }),
+    ),
+    // There is one postal code.
+    (
+        "(420)1(00)106141412345678908(421)0361",
+        "a",
+        LinkError::Together(TogetherError::ConflictingElement {
+            element: 0,
+            identifier: 420,
+            other: 2,
+        }),
+    ),
+    // Other faults come first.
+    (
+        "(37)20(01)09506000134352(37)20",
+        "a",
+        LinkError::RepeatedElement {
+            element: 0,
+            identifier: 37,
         },
     ),
 ];

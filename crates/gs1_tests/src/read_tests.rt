@@ -1,5 +1,5 @@
 //! Elements of what scanners give.
-use gs1::{CheckError, Element, Reason, brackets, elements_of};
+use gs1::{CheckError, Element, Reason, brackets, elements_of, string_brackets};
 
 /// What scanners give, with the element of a number, or none if there are no more.
 static SCANS: [(&[u8], usize, Option<(&[u8], &[u8])>); 6] = [
@@ -69,6 +69,28 @@ fn writes_brackets(rt: HostRuntime) {
         let elements = elements_of(rt.alloc(), bytes).ok();
         let elements = elements.expect(&rt, "no elements");
         let written = brackets(rt.alloc(), elements.as_slice()).ok();
+        let written = written.expect(&rt, "no text");
+        assert_eq!(rt; written.as_slice(), text);
+    }
+}
+
+/// Element strings, and the elements that stand first in them in brackets. No identifier begins
+/// with 05, 4399 is not assigned, and the last value is too long.
+static STRINGS: [(&[u8], &[u8]); 5] = [
+    (
+        b"010950600013435210ABC\x1d217",
+        b"(01)09506000134352(10)ABC(21)7",
+    ),
+    (b"", b""),
+    (b"10A\x1d05B", b"(10)A"),
+    (b"4399A", b"(4399)A"),
+    (b"10123456789012345678901", b"(10)123456789012345678901"),
+];
+
+#[test]
+fn writes_brackets_of_strings(rt: HostRuntime) {
+    for (bytes, text) in STRINGS {
+        let written = string_brackets(rt.alloc(), bytes).ok();
         let written = written.expect(&rt, "no text");
         assert_eq!(rt; written.as_slice(), text);
     }

@@ -7,7 +7,7 @@ use Rattle.std.proofs.lemmas.Grind.{common_steps}
 use Rattle.jisx0208.specs.declared.characters.TheConstants.{CHARACTERS}
 use Rattle.jisx0208.specs.declared.numbers.TheConstants.{NUMBERS}
 use Rattle.jisx0208.specs.declared.places.TheConstants.{PLACES}
-use Rattle.jisx0208.specs.Characters.{character_in, character_of, is_kanji_pair, kanji_number, HaveOneNumber}
+use Rattle.jisx0208.specs.Characters.{character_in, character_of, is_shift_jis_pair, pair_number, HaveOneNumber}
 use Rattle.jisx0208.proofs.Tails.{tails, deep, deep_is}
 use Rattle.jisx0208.specs.Search.{candidate_of, number_in}
 
@@ -28,7 +28,7 @@ trail_of n = 0x40 + n % 192
 
 -- A number has two bytes.
 abbrev has_pair : ℕ → Bool
-has_pair n = nat_lt n 8064 && is_kanji_pair (lead_of n) (trail_of n)
+has_pair n = nat_lt n 8064 && is_shift_jis_pair (lead_of n) (trail_of n)
 
 -- Each character in a part of the table that begins at `n` has its number, and that two bytes.
 unfoldable all_found : List (List ℕ) → List (List ℕ) → ℕ → List ℕ → Bool
@@ -109,33 +109,33 @@ lead_low n lead low e = grind (arith, common_steps)
 lead_high : (n lead : ℕ) → 31 ≤ n / 192 → lead ≡ 0xc1 + n / 192 → lead ≡ lead_of n
 lead_high n lead low e = grind (arith, common_steps)
 
-number_low : (n lead trail : ℕ) → n / 192 < 31 → lead ≡ 0x81 + n / 192 → trail ≡ 0x40 + n % 192 → kanji_number lead trail ≡ n
-unfolding kanji_number
+number_low : (n lead trail : ℕ) → n / 192 < 31 → lead ≡ 0x81 + n / 192 → trail ≡ 0x40 + n % 192 → pair_number lead trail ≡ n
+unfolding pair_number
 number_low n lead trail low e f = grind arith
 
-number_high : (n lead trail : ℕ) → 31 ≤ n / 192 → lead ≡ 0xc1 + n / 192 → trail ≡ 0x40 + n % 192 → kanji_number lead trail ≡ n
-unfolding kanji_number
+number_high : (n lead trail : ℕ) → 31 ≤ n / 192 → lead ≡ 0xc1 + n / 192 → trail ≡ 0x40 + n % 192 → pair_number lead trail ≡ n
+unfolding pair_number
 number_high n lead trail low e f = grind arith
 
-pub paired : (n : ℕ) → is_some (character_of n) ≡ true → (n < 8064) × (is_kanji_pair (lead_of n) (trail_of n) ≡ true)
+pub paired : (n : ℕ) → is_some (character_of n) ≡ true → (n < 8064) × (is_shift_jis_pair (lead_of n) (trail_of n) ≡ true)
 paired n h = some_of (character_of n) refl h
   where
-    some_of : (o : Option ℕ) → character_of n ≡ o → is_some o ≡ true → (n < 8064) × (is_kanji_pair (lead_of n) (trail_of n) ≡ true)
+    some_of : (o : Option ℕ) → character_of n ≡ o → is_some o ≡ true → (n < 8064) × (is_shift_jis_pair (lead_of n) (trail_of n) ≡ true)
     some_of (Some c) e h =
-        let parts = and_parts (nat_lt n 8064) (is_kanji_pair (lead_of n) (trail_of n)) (of_number n c e).pair in
+        let parts = and_parts (nat_lt n 8064) (is_shift_jis_pair (lead_of n) (trail_of n)) (of_number n c e).pair in
         (ltb-true n 8064 parts.0, parts.1)
     some_of None e h = absurd (cc)
 
 -- The bytes of a number.
 pub record IsPairOf (n lead : ℕ) : Type 0 where
-  pub pair : is_kanji_pair lead (trail_of n) ≡ true
-  pub number : kanji_number lead (trail_of n) ≡ n
+  pub pair : is_shift_jis_pair lead (trail_of n) ≡ true
+  pub number : pair_number lead (trail_of n) ≡ n
 
 pub pair_low : (n lead : ℕ) → is_some (character_of n) ≡ true → n / 192 < 31 → lead ≡ 0x81 + n / 192 → IsPairOf n lead
 pair_low n lead h low e =
     let p = paired n h in
     record {
-      pair = subst (λ b. is_kanji_pair b (trail_of n) ≡ true) (sym (lead_low n lead low e)) p.1;
+      pair = subst (λ b. is_shift_jis_pair b (trail_of n) ≡ true) (sym (lead_low n lead low e)) p.1;
       number = number_low n lead (trail_of n) low e refl;
     }
 
@@ -143,6 +143,6 @@ pub pair_high : (n lead : ℕ) → is_some (character_of n) ≡ true → 31 ≤ 
 pair_high n lead h high e =
     let p = paired n h in
     record {
-      pair = subst (λ b. is_kanji_pair b (trail_of n) ≡ true) (sym (lead_high n lead high e)) p.1;
+      pair = subst (λ b. is_shift_jis_pair b (trail_of n) ≡ true) (sym (lead_high n lead high e)) p.1;
       number = number_high n lead (trail_of n) high e refl;
     }

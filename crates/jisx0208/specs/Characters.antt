@@ -3,20 +3,20 @@ use Rattle.std.specs.Prelude.{◌≡◌, ℕ, ◌+◌, ◌-◌, ◌*◌, ◌/◌
 use Rattle.std.specs.Prelude.{nat_lt, nat_le, Option, None, Some, List, get_or, if◌then◌else◌}
 use Rattle.jisx0208.specs.declared.characters.TheConstants.{CHARACTERS}
 
-abbrev pub is_between : ℕ → ℕ → ℕ → Bool
-is_between low high c = nat_le low c && nat_le c high
+abbrev pub is_in_range : ℕ → ℕ → ℕ → Bool
+is_in_range low high c = nat_le low c && nat_le c high
 
 -- Two bytes of Shift JIS that the Kanji mode takes: from 8140 to 9FFC, or from E040 to EBBF.
-abbrev pub is_kanji_pair : ℕ → ℕ → Bool
-is_kanji_pair lead trail =
-    (is_between 0x81 0x9f lead || is_between 0xe0 0xeb lead) &&
-    (is_between 0x40 0x7e trail || is_between 0x80 (if lead == 0xeb then 0xbf else 0xfc) trail)
+abbrev pub is_shift_jis_pair : ℕ → ℕ → Bool
+is_shift_jis_pair lead trail =
+    (is_in_range 0x81 0x9f lead || is_in_range 0xe0 0xeb lead) &&
+    (is_in_range 0x40 0x7e trail || is_in_range 0x80 (if lead == 0xeb then 0xbf else 0xfc) trail)
 
 -- The 13-bit number of a pair: subtract 8140 (hex), or C140 from E040 on, from its two bytes as one
 -- number; then multiply the high byte of the difference by C0 and add its low byte. Example: 93 5F
 -- (hex) is D9F.
-unfoldable pub kanji_number : ℕ → ℕ → ℕ
-kanji_number lead trail =
+unfoldable pub pair_number : ℕ → ℕ → ℕ
+pair_number lead trail =
     let code = 256 * lead + trail in
     let offset = if nat_lt code 0xe040 then code - 0x8140 else code - 0xc140 in
     offset / 256 * 0xc0 + offset % 256

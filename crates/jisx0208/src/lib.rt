@@ -6,8 +6,8 @@
 #![tactic(auto)]
 
 ghost use Rattle.std.specs.Prelude.{◌≡◌, ℕ, IfSome, IsSome, Some, true};
-ghost use Rattle.jisx0208.specs.Characters.{character_in, character_of, is_kanji_pair};
-ghost use Rattle.jisx0208.specs.Characters.{kanji_number, HaveOneNumber};
+ghost use Rattle.jisx0208.specs.Characters.{character_in, character_of, is_shift_jis_pair};
+ghost use Rattle.jisx0208.specs.Characters.{pair_number, HaveOneNumber};
 ghost use Rattle.jisx0208.specs.Search.{candidate_of, number_in};
 
 mod characters;
@@ -45,8 +45,8 @@ pub fn kanji_of(c: char) -> Option<u16>
 /// Returns the two bytes in Shift JIS of the character with a number of the Kanji mode.
 pub fn shift_jis_of(kanji: u16) -> (u8, u8)
     requires { IsSome (character_of kanji) }
-    ensures pair { is_kanji_pair result.0 result.1 ≡ true }
-    ensures number { kanji_number result.0 result.1 ≡ kanji }
+    ensures pair { is_shift_jis_pair result.0 result.1 ≡ true }
+    ensures number { pair_number result.0 result.1 ≡ kanji }
 {
     let row = kanji / 0xc0;
     let lead = if row < 31 { 0x81 + row } else { 0xc1 + row };

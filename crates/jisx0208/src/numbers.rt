@@ -1,8 +1,7 @@
 //! The numbers of characters, by place. Written by tools/jisx0208.
 
-/// The number at each place. A code point stands as far from the place of its group
-/// as it stands from the first of the group. What stands elsewhere belongs to other
-/// groups.
+/// The number at each place. A code point stands as far from the place of its group as it stands
+/// from the first of the group. What stands elsewhere belongs to other groups.
 #[rattlefmt::skip]
 pub static NUMBERS: [u16; 6976] = [
     576, 577, 578, 579, 580, 581, 583, 584, 585, 586, 587, 588, 589, 590, 591, 592, 593, 594, 595, 596, 597, 598, 599,

@@ -1,5 +1,6 @@
 //! Tests of labels of GS1 elements and of their links.
 use crate::served::{draw_alike, ran, reports};
+use std::alloc::Global;
 
 /// Inputs that the table of identifiers does not allow, and the line that says why. The check digit
 /// of 0950600013435 is 2, that of 950600013435 also, and 13 is no month.
@@ -116,12 +117,38 @@ fn draws_links(rt: HostRuntime) {
     assert!(rt; details.status == 0);
     // `https` takes 52 bits, `://X/01/` 57 and the digits 61, in a version with room for 224.
     assert!(rt;
-        details.label.ends_with(b", segments byte 5 alphanumeric 8 numeric 14, 25 modules\n")
+        details.label.ends_with(
+            b", segments byte 5 alphanumeric 8 numeric 14, 25 modules
+as elements: version 1\n"
+        )
     );
 }
 
+/// Elements, and how they come out as a link. The bits of the link of 01 are more than the 224 of
+/// version 2: 22 bytes take 188, and 14 digits 61.
+static OTHER_WAYS: [(&[u8], &[u8]); 4] = [
+    (b"(01)09506000134352", b" modules\nas a link: version 3\n"),
+    (b"0109506000134352", b" modules\nas a link: version 3\n"),
+    (b"(10)A", b" modules\nas a link: none\n"),
+    (b"10A", b" modules\nas a link: none\n"),
+];
+
+#[test]
+fn says_the_version_of_the_other_way(rt: HostRuntime) {
+    for (elements, end) in OTHER_WAYS.iter() {
+        let details = ran(rt.alloc(), &["--info", "-c", "gs1"], elements);
+        assert!(rt; details.status == 0 && details.label.ends_with(end));
+    }
+    let words = ["--info", "-c", "link", "--max-version", "2"];
+    let details = ran(rt.alloc(), &words, b"(01)09506000134352");
+    assert!(rt; details.status == 1);
+    let words = ["--info", "-c", "gs1", "--max-version", "2"];
+    let details = ran(rt.alloc(), &words, b"(01)09506000134352");
+    assert!(rt; details.label.ends_with(b" modules\nas a link: too long\n"));
+}
+
 /// Elements of which there is no link, and the line that says why.
-static REFUSED: [(&[u8], &str); 7] = [
+static REFUSED: [(&[u8], &str); 9] = [
     (b"", "empty input, see --allow-empty"),
     (b"caf\xE9", "invalid character byte 0xe9 at position 3"),
     (
@@ -144,6 +171,14 @@ static REFUSED: [(&[u8], &str); 7] = [
         b"(01)09506000134352(17)261231(17)261231",
         "(17), element 2: the identifier stands once more after it",
     ),
+    (
+        b"(3922)2172(01)09506000134352",
+        "(3922), element 1: an element that has to stand beside it is missing",
+    ),
+    (
+        b"(00)106141412345678908(420)1(421)0361",
+        "(420), element 2: element 3 may not stand beside it",
+    ),
 ];
 
 #[test]
@@ -161,6 +196,49 @@ fn refuses_links(rt: HostRuntime) {
     );
     let line = "element 1: a link has one key, and there is another after this one";
     assert!(rt; keys.has_reported(1, line));
+}
+
+/// Contents of elements, and the line that has them.
+static HRI: [(&str, &[u8], &[u8]); 5] = [
+    (
+        "gs1",
+        b"(01)09506000134352(10)ABC\n",
+        b"(01)09506000134352(10)ABC\n",
+    ),
+    (
+        "gs1",
+        b"010950600013435210ABC",
+        b"(01)09506000134352(10)ABC\n",
+    ),
+    ("gs1-unchecked", b"4399A\x1D10B", b"(4399)A(10)B\n"),
+    ("gs1-unchecked", b"(4399)A(10)B", b"(4399)A(10)B\n"),
+    (
+        "link",
+        b"(10)ABC(01)09506000134352",
+        b"(10)ABC(01)09506000134352\n",
+    ),
+];
+
+/// Whether `--hri` adds this line to a label, and nothing else.
+fn adds_line(alloc: Global, content: &str, input: &[u8], line: &[u8]) -> bool {
+    let plain = ran(alloc, &["-f", "terminal", "-c", content], input);
+    let more = ran(alloc, &["-f", "terminal", "--hri", "-c", content], input);
+    more.status == 0 && more.label.strip_prefix(plain.label.as_slice()) == Some(line)
+}
+
+#[test]
+fn writes_elements_below_the_symbol(rt: HostRuntime) {
+    for (content, input, line) in HRI.iter() {
+        assert!(rt; adds_line(rt.alloc(), content, input, line), "{content}");
+    }
+    let words = ["-f", "svg", "--rotate", "90", "-c", "gs1", "--hri"];
+    let label = ran(rt.alloc(), &words, b"(01)09506000134352(10)A");
+    assert!(rt; label.status == 0);
+    assert!(rt;
+        label
+            .label
+            .ends_with(b" fill=\"#000\">(01)09506000134352(10)A</text>\n</svg>\n")
+    );
 }
 
 /// A domain is a host name, with a port or without, and only links have one.

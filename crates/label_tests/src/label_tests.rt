@@ -67,32 +67,6 @@ fn takes_formats(rt: HostRuntime) {
     }
 }
 
-/// "ありがとう" at level L: the modules that the Rust crate `qrcode-core` 2.2.0 draws for the ECI
-/// designator 26 and one Byte segment in version 1. zbar reads them.
-const THANKS: &str = "\
-█▀▀▀▀▀█ ▄▄▄█▀ █▀▀▀▀▀█
-█ ███ █ ▀████ █ ███ █
-█ ▀▀▀ █ █▄ ▀  █ ▀▀▀ █
-▀▀▀▀▀▀▀ █▄█▄█ ▀▀▀▀▀▀▀
-█▀ ▀ ▄▀▀▄▄▀▄  ███ █▀▄
-█▄   ▄▀█ █  ▄█▄▄▀  ▄▄
-▀▀▀  ▀▀ ▄▀▀  ▀▄▄ █▄ ▀
-█▀▀▀▀▀█ ▀▀██▀▄ ▄▀█▀█▄
-█ ███ █ ▄▄▄▄▄▄▀ █▀█▀▄
-█ ▀▀▀ █ ▄  ▄█▄█▄▀▄▀▄█
-▀▀▀▀▀▀▀ ▀ ▀    ▀ ▀ ▀ 
-";
-
-/// Text that is not ASCII has the ECI designator of UTF-8, and is in one Byte segment.
-#[test]
-fn draws_utf8(rt: HostRuntime) {
-    let (alloc, text) = (rt.alloc(), "ありがとう".as_bytes());
-    let plain = ran(alloc, &["-f", "terminal", "-l", "L", "-q", "0"], text);
-    assert!(rt; plain.has_written(THANKS.as_bytes()));
-    let asked = ["-f", "terminal", "-l", "L", "-q", "0", "-c", "text"];
-    assert!(rt; ran(alloc, &asked, text).has_written(THANKS.as_bytes()));
-}
-
 static BITMAP: [&str; 2] = ["-f", "pbm"];
 
 static BYTES: [&str; 4] = ["-f", "pbm", "-c", "bytes"];
@@ -114,15 +88,16 @@ fn draw_apart(
     one.status == 0 && other.status == 0 && one.label.as_slice() != other.label.as_slice()
 }
 
-/// Bytes that are ASCII, or no UTF-8, are drawn as they are, and text that is neither as text,
-/// which ASCII is not. With `--strongest` 5 bytes have level H, at which version 1 holds 7.
+/// Bytes that are ASCII, or no UTF-8, are drawn as they are, and other text in fewer bits than as
+/// UTF-8. With `--strongest` 5 bytes have level H, at which version 1 holds 7.
 #[test]
 fn chooses_content_and_level(rt: HostRuntime) {
     let alloc = rt.alloc();
     assert!(rt; draw_alike(alloc, &BITMAP, b"hello", &BYTES, b"hello"));
     assert!(rt; draw_apart(alloc, &BITMAP, b"hello", &TEXT, b"hello"));
     assert!(rt; draw_alike(alloc, &BITMAP, b"caf\xE9", &BYTES, b"caf\xE9"));
-    assert!(rt; draw_alike(alloc, &BITMAP, b"Gr\xC3\xBC", &TEXT, b"Gr\xC3\xBC"));
+    assert!(rt; draw_apart(alloc, &BITMAP, b"Gr\xC3\xBC", &TEXT, b"Gr\xC3\xBC"));
+    assert!(rt; draw_apart(alloc, &BITMAP, b"Gr\xC3\xBC", &BYTES, b"Gr\xC3\xBC"));
     let (strongest, high) = (["-f", "pbm", "--strongest"], ["-f", "pbm", "-l", "H"]);
     assert!(rt; draw_alike(alloc, &strongest, b"hello", &high, b"hello"));
 }
@@ -226,32 +201,10 @@ fn draws_elements(rt: HostRuntime) {
     assert!(rt; draw_alike(rt.alloc(), &ELEMENTS, written, &ELEMENTS, elements));
 }
 
-/// Returns the character in which light and dark modules are exchanged.
-fn inverted(character: char) -> char {
-    match character {
-        '█' => ' ',
-        ' ' => '█',
-        '▀' => '▄',
-        '▄' => '▀',
-        other => other,
-    }
-}
-
-/// Only text for a terminal can be inverted: the other formats reject the option
-/// (`names_what_is_wrong`).
-#[test]
-fn inverts_text(rt: HostRuntime) {
-    let words = ["-f", "terminal", "-l", "L", "--inverted", "-q", "0"];
-    let answer = ran(rt.alloc(), &words, "ありがとう".as_bytes());
-    assert!(rt; answer.status == 0);
-    let text = str::from_utf8(&answer.label).unwrap_or("");
-    assert!(rt; text.chars().eq(THANKS.chars().map(inverted)));
-}
-
 /// Inputs of which there is no label, and the line that says why. How much there is room for is in
 /// table 7 of ISO/IEC 18004:2006; at level L version 40 holds 2952 bytes after the designator of
 /// UTF-8, which takes 12 of the 23648 bits. The check digit of 9506000134352 is 2.
-static ERRORS: [(&str, &[u8], &str); 18] = [
+static ERRORS: [(&str, &[u8], &str); 19] = [
     (
         "text",
         b"caf\xE9",
@@ -280,7 +233,7 @@ static ERRORS: [(&str, &[u8], &str); 18] = [
     (
         "auto",
         &[0xFF; 7090],
-        "data too long: more than 7089 bytes, which no symbol holds; see --split",
+        "data too long: more than 7089 bytes; see --split",
     ),
     (
         "micro",
@@ -289,8 +242,13 @@ static ERRORS: [(&str, &[u8], &str); 18] = [
     ),
     (
         "micro",
-        b"\xE5\x80\x89\xE5\xBA\xAB",
-        "a Micro symbol has no text beyond ASCII, see -c micro-bytes",
+        b"Gr\xC3\xBC",
+        "no Micro symbol is read as this text, see -c micro-bytes",
+    ),
+    (
+        "micro",
+        b"caf\xE9",
+        "no Micro symbol is read as this text, see -c micro-bytes",
     ),
     ("auto", b"\n", "empty input, see --allow-empty"),
     ("bytes", b"", "empty input, see --allow-empty"),

@@ -1,5 +1,5 @@
-//! Tests of what `qrlabel` does with words and devices (`label_words`, `labels`). They are in a crate
-//! of their own so that the gate proves the tested crates only once.
+//! Tests of what `qrlabel` does with words and devices (`label_words`, `labels`). They are in a
+//! crate of their own so that the gate proves the tested crates only once.
 #![tactic(auto)]
 
 #[cfg(test)]
@@ -14,5 +14,7 @@ mod part_tests;
 mod served;
 #[cfg(test)]
 mod test_files;
+#[cfg(test)]
+mod text_tests;
 #[cfg(test)]
 mod word_tests;

@@ -61,7 +61,7 @@ fn stops_at_a_line(rt: HostRuntime) -> Result<(), QrError> {
     let empty = "qrlabel: line 1: empty input, see --allow-empty\n";
     assert!(rt; stops(alloc, b"\r\na\n", 2, 0, empty));
     let line = "\
-qrlabel: line 3: data too long: more than 7089 bytes, which no symbol holds\n";
+qrlabel: line 3: data too long: more than 7089 bytes\n";
     assert!(rt; stops(alloc, &long, 9, 2, line));
     let whole = ran(alloc, &EACH, b"a\nb");
     assert!(rt; whole.has_length(2 * (9 + 4 * 29)) && whole.unread == 0);
@@ -198,7 +198,7 @@ fn leaves_lines_out(rt: HostRuntime) -> Result<(), QrError> {
     let drawn = ran(rt.alloc(), &EACH, b"a\nb\nhello\n");
     let said = "\
 qrlabel: line 8: empty input, see --allow-empty
-qrlabel: line 10: data too long: more than 7089 bytes, which no symbol holds
+qrlabel: line 10: data too long: more than 7089 bytes
 ";
     assert!(rt; answer.has_said(LEFT_OUT, said) && answer.unread == 0);
     assert!(rt; drawn.has_written(&answer.label));

@@ -64,8 +64,8 @@ static FILES: [&str; 9] = [
     "p-%02d",
 ];
 
-/// The files of the parts have the pictures that follow each other in one output. There is room for
-/// three.
+/// The files of the parts have the pictures that follow each other in one output. There is room
+/// for three.
 #[test]
 fn writes_files_of_parts(rt: HostRuntime) {
     let bytes = [b'a'; 46];
@@ -80,8 +80,8 @@ fn writes_files_of_parts(rt: HostRuntime) {
     assert!(rt; empty.has_reported(1, "empty input, see --allow-empty") && empty.has_files(""));
 }
 
-/// Whether the module in this column and row of a bitmap of 21 columns, without a quiet zone, is
-/// dark.
+/// Whether the module in this column and row of a bitmap of 21 columns, without a quiet zone,
+/// is dark.
 fn is_dark(bitmap: &[u8], column: usize, row: usize) -> bool {
     let place = row
         .saturating_mul(3)
@@ -133,7 +133,7 @@ fn turns_symbols(rt: HostRuntime) {
 
 /// The details of a symbol. Versions and segments are computed by hand from ISO/IEC 18004:2006,
 /// "Data encodation"; the masks are those that the Rust crate `qrcode-core` 2.2.0 chooses.
-static DETAILS: [(&[&str], &[u8], &str); 9] = [
+static DETAILS: [(&[&str], &[u8], &str); 10] = [
     (
         &[],
         b"hello",
@@ -162,6 +162,11 @@ static DETAILS: [(&[&str], &[u8], &str); 9] = [
     (
         &["-lL"],
         b"\xE3\x81\x82\xE3\x82\x8A\xE3\x81\x8C\xE3\x81\xA8\xE3\x81\x86",
+        "version 1, level L, mask 7, segments kanji 5, 21 modules",
+    ),
+    (
+        &["-lL", "-c", "text"],
+        b"\xE3\x81\x82\xE3\x82\x8A\xE3\x81\x8C\xE3\x81\xA8\xE3\x81\x86",
         "version 1, level L, mask 7, segments byte 15, 21 modules",
     ),
     (
@@ -172,7 +177,8 @@ static DETAILS: [(&[&str], &[u8], &str); 9] = [
     (
         &["-c", "gs1"],
         b"(01)09506000134352(10)ABC",
-        "version 1, level M, mask 3, segments numeric 18 alphanumeric 3, 21 modules",
+        "version 1, level M, mask 3, segments numeric 18 alphanumeric 3, 21 modules\n\
+            as a link: version 3",
     ),
     (
         &["-c", "micro", "-lL"],
@@ -182,7 +188,12 @@ static DETAILS: [(&[&str], &[u8], &str); 9] = [
 ];
 
 /// Whether these details of an input are written alone, and beside its label.
-fn has_details(alloc: Global, words: &[&str], bytes: &[u8], line: &str) -> Result<bool, QrError> {
+pub fn has_details(
+    alloc: Global,
+    words: &[&str],
+    bytes: &[u8],
+    line: &str,
+) -> Result<bool, QrError> {
     let details = format!(in alloc; "{line}\n")?;
     let mut asked: Vec<&str> = Vec::new(alloc);
     asked.push("--info")?;

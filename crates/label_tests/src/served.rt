@@ -1,5 +1,5 @@
-//! A run of the program, and what tests ask of it. What is compared stands in functions of a line or
-//! two, since each `assert_eq!` in a test makes its proof longer.
+//! A run of the program, and what tests ask of it. What is compared stands in functions of a line
+//! or two, since each `assert_eq!` in a test makes its proof longer.
 use crate::test_files::Kept;
 use label_words::read_words;
 use labels::{misused, run};

@@ -114,8 +114,11 @@ static WRONG_WORDS: [(&[&str], &str); 35] = [
     (&["--lines", "-o", "a%020d.zpl"], OUTPUT),
 ];
 
+const HRI: &str =
+    "invalid --hri: with -c gs1, gs1-unchecked or link, for terminal, svg, eps and zpl";
+
 /// The same of values of options.
-static WRONG_VALUES: [(&[&str], &str); 35] = [
+static WRONG_VALUES: [(&[&str], &str); 38] = [
     (&["--inverted"], "invalid --inverted: for terminal"),
     (
         &["--dpi", "300"],
@@ -155,6 +158,9 @@ static WRONG_VALUES: [(&[&str], &str); 35] = [
         &["-f", "pbm", "--title", "x"],
         "invalid --title: a text without control characters, for svg, png, eps and pdf",
     ),
+    (&["--hri", "hello"], HRI),
+    (&["--hri", "-c", "gs1", "-f", "png", "(10)A"], HRI),
+    (&["--hri", "-c", "link", "-o", "a.pdf", "(10)A"], HRI),
     (
         &["-c", "micro", "--strongest"],
         "invalid --strongest: not for a Micro symbol",

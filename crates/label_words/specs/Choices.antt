@@ -6,7 +6,7 @@ use Rattle.qrcode_core.specs.declared.types.EcLevel.{EcLevel}
 use Rattle.qrcode_core.specs.declared.types.EcLevel.TheVariants.{L, M, Q, H}
 use Rattle.picture_settings.specs.declared.format.Format.{Format as FormatOf}
 use Rattle.picture_settings.specs.declared.format.Format.TheVariants.{Terminal, Svg, Png, Pbm, Eps, EscPos, Zpl, Pdf}
-use Rattle.label_words.specs.Words.{among}
+use Rattle.label_words.specs.Words.{value_among}
 use Rattle.label_words.specs.declared.command.Content.{Content as ContentOf}
 use Rattle.label_words.specs.declared.command.Content.TheVariants.{Auto, Text as TextOf, Bytes, Gs1}
 use Rattle.label_words.specs.declared.command.Content.TheVariants.{UncheckedGs1, Link, Micro, MicroBytes}
@@ -18,25 +18,25 @@ use Rattle.label_words.specs.declared.command.Turn.TheVariants.{Upright, Right, 
 -- The level of a letter, in either case.
 abbrev pub level_named : List ℕ → Option EcLevel
 level_named =
-    among ((codes "L", L) ∷ (codes "l", L) ∷ (codes "M", M) ∷ (codes "m", M) ∷ (codes "Q", Q) ∷ (codes "q", Q)
+    value_among ((codes "L", L) ∷ (codes "l", L) ∷ (codes "M", M) ∷ (codes "m", M) ∷ (codes "Q", Q) ∷ (codes "q", Q)
     ∷ (codes "H", H) ∷ (codes "h", H) ∷ [])
 
 -- The content of a word.
 abbrev pub content_named : List ℕ → Option ContentOf
 content_named =
-    among ((codes "auto", Auto) ∷ (codes "text", TextOf) ∷ (codes "bytes", Bytes) ∷ (codes "gs1", Gs1)
+    value_among ((codes "auto", Auto) ∷ (codes "text", TextOf) ∷ (codes "bytes", Bytes) ∷ (codes "gs1", Gs1)
     ∷ (codes "gs1-unchecked", UncheckedGs1) ∷ (codes "link", Link) ∷ (codes "micro", Micro)
     ∷ (codes "micro-bytes", MicroBytes) ∷ [])
 
 -- The degrees by which a symbol is turned, clockwise.
 abbrev pub turn_named : List ℕ → Option Turn
 turn_named =
-    among ((codes "0", Upright) ∷ (codes "90", Right) ∷ (codes "180", Over) ∷ (codes "270", Left) ∷ [])
+    value_among ((codes "0", Upright) ∷ (codes "90", Right) ∷ (codes "180", Over) ∷ (codes "270", Left) ∷ [])
 
 -- The format of a word.
 abbrev pub format_named : List ℕ → Option FormatOf
 format_named =
-    among ((codes "terminal", Terminal) ∷ (codes "svg", Svg) ∷ (codes "png", Png) ∷ (codes "pbm", Pbm)
+    value_among ((codes "terminal", Terminal) ∷ (codes "svg", Svg) ∷ (codes "png", Png) ∷ (codes "pbm", Pbm)
     ∷ (codes "eps", Eps) ∷ (codes "escpos", EscPos) ∷ (codes "zpl", Zpl)
     ∷ (codes "pdf", Pdf) ∷ [])
 
@@ -61,15 +61,22 @@ format_of_ending =
 -- ---- Contents and formats
 
 -- Whether the symbol is a Micro QR symbol.
-abbrev pub is_micro : ContentOf → Bool
-is_micro Micro = true
-is_micro MicroBytes = true
-is_micro _ = false
+abbrev pub is_micro_content : ContentOf → Bool
+is_micro_content Micro = true
+is_micro_content MicroBytes = true
+is_micro_content _ = false
 
 -- Whether the symbol is that of a link.
 abbrev pub is_link : ContentOf → Bool
 is_link Link = true
 is_link _ = false
+
+-- Whether it is of GS1 elements: them, or the link of them.
+abbrev pub has_elements : ContentOf → Bool
+has_elements Gs1 = true
+has_elements UncheckedGs1 = true
+has_elements Link = true
+has_elements _ = false
 
 -- GS1 elements, which the table of identifiers checks, or does not.
 abbrev pub gs1_content : (checks : Bool) → ContentOf
@@ -77,11 +84,11 @@ gs1_content true = Gs1
 gs1_content false = UncheckedGs1
 
 -- Whether a printer or a screen draws a format in dots.
-abbrev pub has_dots : FormatOf → Bool
-has_dots Png = true
-has_dots EscPos = true
-has_dots Zpl = true
-has_dots _ = false
+abbrev pub is_drawn_in_dots : FormatOf → Bool
+is_drawn_in_dots Png = true
+is_drawn_in_dots EscPos = true
+is_drawn_in_dots Zpl = true
+is_drawn_in_dots _ = false
 
 abbrev pub is_png : FormatOf → Bool
 is_png Png = true

@@ -20,17 +20,15 @@ use Rattle.label_words.specs.declared.words.Name.TheVariants.{ModuleMm, Dpi, Inv
 use Rattle.label_words.specs.declared.words.Name.TheVariants.{Output, AllowEmpty, Help, Version, Lines}
 use Rattle.label_words.specs.declared.words.Name.TheVariants.{First, KeepGoing, KeepNewline}
 use Rattle.label_words.specs.declared.command.{Details.Details, Turn.Turn, Turn.TheVariants.Upright}
-use Rattle.label_words.specs.declared.command.Details.TheVariants.{Nothing, Beside, Alone}
-use Rattle.label_words.specs.declared.words.Name.TheVariants.{Copies, Compressed, Feed, Cut, Split, Rotate}
-use Rattle.label_words.specs.declared.words.Name.TheVariants.{Verbose, Info, Dark, Light, AnyColors, Domain}
+use Rattle.label_words.specs.declared.words.Name.TheVariants.{Copies, Compressed, Feed, Cut, Rotate}
+use Rattle.label_words.specs.declared.words.Name.TheVariants.{Dark, Light, AnyColors, Domain, Hri}
 use Rattle.label_words.specs.Choices.{level_named, content_named, turn_named, format_named, format_of_ending}
-use Rattle.label_words.specs.Choices.{is_link, is_micro, has_dots, is_png, is_pdf, can_be_split, is_terminal}
+use Rattle.label_words.specs.Choices.{is_link, is_micro_content, is_drawn_in_dots, has_elements, is_png, is_terminal}
 use Rattle.gs1_base.specs.Domains.{is_domain}
-use Rattle.label_words.specs.Names.{Numbering, numbering_in}
-use Rattle.picture_settings.specs.Formats.{can_be_shown, is_stream}
-use Rattle.picture_settings.specs.OptionWords.{word_number, word_hundredths, word_position, around_first}
+use Rattle.label_words.specs.Portions.{Portion, portion_asked, terminal_asked, details_asked}
+use Rattle.picture_settings.specs.Formats.{has_caption}
+use Rattle.picture_settings.specs.OptionWords.{word_number, word_hundredths, word_position}
 use Rattle.label_words.specs.Words.{Values, value_of, file_of, is_given, Wrong, invalid}
-use Rattle.label_words.specs.Words.{needs_stream, needs_file}
 
 infixl 20 ◌>>=◌
 -- One thing after another, up to the first that is wrong.
@@ -77,14 +75,6 @@ domain_asked content values =
 
 abbrev pub turn_asked : Values → Result Turn Wrong
 turn_asked = asked_or turn_named Upright Rotate
-
--- The details alone are written to standard output. Beside labels they are written to standard
--- error, where lines that are left out are reported.
-abbrev pub details_asked : Values → Result Details Wrong
-details_asked values =
-    if is_given values Info then (if is_some (file_of values Output) then Err (invalid Info) else Ok Alone)
-    else (if not (is_given values Verbose) then Ok Nothing
-    else (if is_given values Lines then Err (invalid Verbose) else Ok Beside))
 
 -- The format: that of its name, or of the ending of the output's name; else text for a terminal if
 -- the output is one, and SVG if not.
@@ -133,6 +123,7 @@ pub record Wishes : Type 0 where
   pub dpi : Option ℕ
   pub inverted : Bool
   pub title : Option (List ℕ)
+  pub caption : Option (List ℕ)
   pub at : Option (ℕ × ℕ)
   pub copies : Option ℕ
   pub compressed : Bool
@@ -160,6 +151,7 @@ settings_asked values = do
     dpi = dpi;
     inverted = is_given values Inverted;
     title = value_of values Title;
+    caption = None;
     at = at;
     copies = copies;
     compressed = is_given values Compressed;
@@ -177,14 +169,14 @@ ranged options =
 -- The quiet zone of a Micro symbol is narrower, if no width is given.
 abbrev pub zoned : ContentOf → Wishes → Wishes
 zoned content wishes =
-    if is_micro content then record wishes { quiet = Some (unwrap_or wishes.quiet MICRO_QUIET) } else wishes
+    if is_micro_content content then record wishes { quiet = Some (unwrap_or wishes.quiet MICRO_QUIET) } else wishes
 
 -- A number of dots that a module can have.
 abbrev pub scale_of : ℕ → Result ℕ Wrong
 scale_of dots = if nat_le MIN_SCALE dots && nat_le dots MAX_SCALE then Ok dots else Err (invalid ModuleMm)
 
--- The whole dots of a module of a size, in hundredths of a millimetre, at a resolution in dots of an
--- inch, which is 25.4 mm.
+-- The whole dots of a module of a size, in hundredths of a millimetre, at a resolution in dots of
+-- an inch, which is 25.4 mm.
 abbrev pub dots_asked : ℕ → ℕ → Result ℕ Wrong
 dots_asked module_mm dpi =
     if not (nat_le MIN_DPI dpi && nat_le dpi MAX_DPI) then Err (invalid Dpi)
@@ -194,7 +186,7 @@ dots_asked module_mm dpi =
 -- The scale that a size and a resolution give, where they are given for a format of dots.
 abbrev pub with_dots : FormatOf → ℕ → ℕ → Wishes → Result Wishes Wrong
 with_dots format module_mm dpi wishes =
-    if not (has_dots format) then Ok wishes
+    if not (is_drawn_in_dots format) then Ok wishes
     else (if is_some wishes.scale then Err (invalid Scale)
     else (dots_asked module_mm dpi >>= (λ dots. Ok (record wishes {
       scale = Some dots;
@@ -227,71 +219,11 @@ is_h _ = false
 -- No level or option is given that a Micro symbol does not have.
 abbrev pub micro_asked : ContentOf → EcLevel → Values → Result (Unit {0}) Wrong
 micro_asked content level values =
-    if not (is_micro content) then Ok tt
+    if not (is_micro_content content) then Ok tt
     else (if is_h level then Err (invalid Level)
     else (if is_given values Strongest then Err (invalid Strongest)
     else (if is_given values MinVersion then Err (invalid MinVersion)
     else (if is_given values MaxVersion then Err (invalid MaxVersion) else Ok tt))))
-
--- What of the input a label shows: one shows all of it, or each shows a line, or as many as it takes
--- show all of it together. There is one output for all, or a file of its own for each.
-pub data Portion : Type 0 where
-  whole : Portion
-  lines : Portion
-  files : Numbering → Portion
-  split : Portion
-  parts : Numbering → Portion
-
--- The name of the output, if it has a number in it.
-abbrev pub numbered_output : Values → Option Numbering
-numbered_output values = option_and_then numbering_in (value_of values Output)
-
--- Whether the name of the output has a percent sign.
-abbrev pub has_percent : Values → Bool
-has_percent values = is_some (option_and_then (around_first 37) (value_of values Output))
-
--- Whether labels can follow each other: the details of symbols always can.
-abbrev pub can_follow : FormatOf → Values → Bool
-can_follow format values = is_stream format || is_given values Info
-
--- Whether the labels of lines can: they can be the pages of a document, too.
-abbrev pub lines_can_follow : FormatOf → Values → Bool
-lines_can_follow format values = is_pdf format || can_follow format values
-
--- The pictures follow each other, if they can. A percent sign is that of a number only.
-abbrev pub stream_asked : Portion → (can_follow : Bool) → Values → Result Portion Wrong
-stream_asked portion can_follow values =
-    if has_percent values then Err (invalid Output)
-    else (if can_follow then Ok portion else Err needs_stream)
-
--- Symbols that carry a message together have the level and the greatest version that are asked for.
--- Each has a file if the output's name has a number; else their pictures follow each other.
-abbrev pub split_asked : ContentOf → FormatOf → Values → Result Portion Wrong
-split_asked content format values =
-    if is_given values Lines || (is_given values Strongest || is_given values MinVersion) then Err (invalid Split)
-    else (if not (can_be_split content) then Err (invalid Split)
-    else elim (numbered_output values) [ Some name ↦ Ok (parts name) | None ↦ stream_asked split (can_follow format values) values ])
-
--- Lines are those of an input, and not of a text. Each has a file if the output's name has a number;
--- else their pictures follow each other.
-abbrev pub lines_asked : FormatOf → Values → Result Portion Wrong
-lines_asked format values =
-    if is_given values Text then Err (invalid Lines)
-    else elim (numbered_output values)
-    [ Some name ↦ Ok (files name) | None ↦ stream_asked lines (lines_can_follow format values) values ]
-
--- One label, the name of whose output has no number, unless more are asked for.
-abbrev pub portion_asked : ContentOf → FormatOf → Values → Result Portion Wrong
-portion_asked content format values =
-    if is_given values Split then split_asked content format values
-    else (if is_given values Lines then lines_asked format values
-    else (if is_some (numbered_output values) then Err (invalid Output) else Ok whole))
-
--- No bytes but a text are written on a terminal, unless the words name the output.
-abbrev pub terminal_asked : Bool → FormatOf → Values → Result (Unit {0}) Wrong
-terminal_asked on_terminal format values =
-    if on_terminal && (not (can_be_shown format) && (not (is_given values Output) && not (is_given values Info)))
-    then Err needs_file else Ok tt
 
 -- The number of the first line.
 abbrev pub first_in : Values → List ℕ → Option ℕ
@@ -310,6 +242,13 @@ keeps_going_asked values =
     if is_given values KeepGoing && not (is_given values Lines) then Err (invalid KeepGoing)
     else Ok (is_given values KeepGoing)
 
+-- Whether the elements are written below the symbol: those of GS1 elements or of a link, in a
+-- format that has a text there.
+abbrev pub hri_asked : ContentOf → FormatOf → Values → Result Bool Wrong
+hri_asked content format values =
+    if is_given values Hri && not (has_elements content && has_caption format) then Err (invalid Hri)
+    else Ok (is_given values Hri)
+
 -- Whether a text of a content has no byte order mark and no newline at its end. Bytes are drawn as
 -- they are.
 abbrev pub is_trimmed : ContentOf → Bool
@@ -322,8 +261,8 @@ abbrev pub trims_asked : ContentOf → Values → Bool
 trims_asked content values =
     is_trimmed content && (not (is_given values Text) && not (is_given values KeepNewline))
 
--- A text is drawn on a terminal in colors of its own, unless it is to be inverted, or the words name
--- the output.
+-- A text is drawn on a terminal in colors of its own, unless it is to be inverted, or the words
+-- name the output.
 abbrev pub colored_asked : Bool → FormatOf → Values → Bool
 colored_asked on_terminal format values =
     on_terminal && (is_terminal format && (not (is_given values Output) && not (is_given values Inverted)))
@@ -332,7 +271,8 @@ colored_asked on_terminal format values =
 -- whether an input with no bytes is drawn, whether a text is trimmed, what of the input the label
 -- shows, the number of the first line, whether a line that has no label is left out, how errors
 -- call the input and the output, whether a text for a terminal has colors of its own, by how much
--- the symbol is turned, whether its details are written, and the dots of an inch.
+-- the symbol is turned, whether its details are written, the dots of an inch, and whether the
+-- elements are written below the symbol.
 pub record Label : Type 0 where
   pub content : ContentOf
   pub domain : List ℕ
@@ -350,6 +290,7 @@ pub record Label : Type 0 where
   pub turn : Turn
   pub details : Details
   pub dpi : Option ℕ
+  pub hri : Bool
 
 abbrev pub label_asked : Bool → Values → Result Label Wrong
 label_asked on_terminal values = do
@@ -364,6 +305,7 @@ label_asked on_terminal values = do
   keeps_going ← keeps_going_asked values
   turn ← turn_asked values
   details ← details_asked values
+  hri ← hri_asked content format values
   given ← settings_asked values
   wishes ← in_dots format given
   Ok (record {
@@ -383,6 +325,7 @@ label_asked on_terminal values = do
     turn = turn;
     details = details;
     dpi = given.dpi;
+    hri = hri;
   })
 
 -- What the words ask for.

@@ -1,10 +1,11 @@
-pub mod Asked
+pub mod CommandOutcomes
 pub mod Choices
 pub mod Commands
 pub mod Help
 pub mod Misuses
 pub mod Names
 pub mod Numberings
-pub mod Said
+pub mod Portions
+pub mod Values
 pub mod Settings
 pub mod Words

@@ -7,9 +7,29 @@ use Rattle.label_words.specs.declared.words.Name.TheVariants.{ModuleMm, Dpi, Inv
 use Rattle.label_words.specs.declared.words.Name.TheVariants.{Output, AllowEmpty, Help, Version, Lines}
 use Rattle.label_words.specs.declared.words.Name.TheVariants.{First, KeepGoing, KeepNewline}
 use Rattle.label_words.specs.declared.words.Name.TheVariants.{Copies, Compressed, Feed, Cut, Split, Rotate}
-use Rattle.label_words.specs.declared.words.Name.TheVariants.{Verbose, Info, Dark, Light, AnyColors, Domain}
+use Rattle.label_words.specs.declared.words.Name.TheVariants.{Verbose, Info, Dark, Light, AnyColors, Domain, Hri}
 use Rattle.label_words.specs.Words.{Wrong, unknown, no_value, second_text, invalid}
 use Rattle.label_words.specs.Words.{needs_stream, needs_file}
+
+-- The word of an option of a picture.
+abbrev pub picture_word : Name → List ℕ
+picture_word Scale = codes "--scale"
+picture_word Quiet = codes "--quiet"
+picture_word ModuleMm = codes "--module-mm"
+picture_word Dpi = codes "--dpi"
+picture_word Inverted = codes "--inverted"
+picture_word Title = codes "--title"
+picture_word At = codes "--at"
+picture_word Copies = codes "--copies"
+picture_word Compressed = codes "--compressed"
+picture_word Feed = codes "--feed"
+picture_word Cut = codes "--cut"
+picture_word Rotate = codes "--rotate"
+picture_word Dark = codes "--dark"
+picture_word Light = codes "--light"
+picture_word AnyColors = codes "--any-colors"
+picture_word Hri = codes "--hri"
+picture_word _ = []
 
 -- The word of an option.
 abbrev pub option_word : Name → List ℕ
@@ -20,13 +40,6 @@ option_word Level = codes "--level"
 option_word Strongest = codes "--strongest"
 option_word MinVersion = codes "--min-version"
 option_word MaxVersion = codes "--max-version"
-option_word Scale = codes "--scale"
-option_word Quiet = codes "--quiet"
-option_word ModuleMm = codes "--module-mm"
-option_word Dpi = codes "--dpi"
-option_word Inverted = codes "--inverted"
-option_word Title = codes "--title"
-option_word At = codes "--at"
 option_word Read = codes "--read"
 option_word Output = codes "--output"
 option_word AllowEmpty = codes "--allow-empty"
@@ -36,18 +49,11 @@ option_word Lines = codes "--lines"
 option_word First = codes "--first"
 option_word KeepGoing = codes "--keep-going"
 option_word KeepNewline = codes "--keep-newline"
-option_word Copies = codes "--copies"
-option_word Compressed = codes "--compressed"
-option_word Feed = codes "--feed"
-option_word Cut = codes "--cut"
 option_word Split = codes "--split"
-option_word Rotate = codes "--rotate"
 option_word Verbose = codes "--verbose"
 option_word Info = codes "--info"
-option_word Dark = codes "--dark"
-option_word Light = codes "--light"
-option_word AnyColors = codes "--any-colors"
 option_word Domain = codes "--domain"
+option_word name = picture_word name
 
 -- What the size of a module can be.
 abbrev pub module_text : List ℕ
@@ -106,14 +112,15 @@ values_text Info = codes "not with the name of an output"
 values_text Dark = dark_text
 values_text Light = light_text
 values_text AnyColors = codes "for svg, png, eps and pdf"
+values_text Hri = codes "with -c gs1, gs1-unchecked or link, for terminal, svg, eps and zpl"
 values_text _ = []
 
 -- Where help is, on a line of its own.
 abbrev pub advice : List ℕ
 advice = codes "\ntry qrlabel --help"
 
--- What the labels of lines, or of the parts of a message, need, and what bytes that are no text need
--- on a terminal.
+-- What the labels of lines, or of the parts of a message, need, and what bytes that are no text
+-- need on a terminal.
 abbrev pub needs_stream_text : List ℕ
 needs_stream_text =
     codes "--lines and --split need -f terminal, pbm, escpos or zpl, or --lines -f pdf, "

@@ -26,7 +26,8 @@ numbering_with before digits after =
 -- `label-00012.png` by `label-%05d.png`.
 abbrev pub numbering_in : List ℕ → Option Numbering
 numbering_in name = option_and_then
-    (λ parts. option_and_then (λ more. numbering_with parts.0 more.0 more.1) (around_first 100 parts.1)) (around_first 37 name)
+    (λ parts. option_and_then (λ more. numbering_with parts.0 more.0 more.1) (around_first 100 parts.1))
+    (around_first 37 name)
 
 -- The name with this number in its place, with zeros before its digits where they are too few.
 abbrev pub numbered : Numbering → ℕ → List ℕ

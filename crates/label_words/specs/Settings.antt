@@ -12,10 +12,11 @@ use Rattle.picture_settings.specs.declared.settings.Setting.TheVariants.{Feed as
 use Rattle.picture_settings.specs.declared.settings.Setting.TheVariants.{Dark as DarkOf}
 use Rattle.picture_settings.specs.declared.settings.Setting.TheVariants.{Light as LightOf}
 use Rattle.picture_settings.specs.declared.settings.Setting.TheVariants.{AnyColors as AnyColorsOf}
+use Rattle.picture_settings.specs.declared.settings.Setting.TheVariants.{Caption as CaptionOf}
 use Rattle.label_words.specs.declared.words.Name.{Name}
 use Rattle.label_words.specs.declared.words.Name.TheVariants.{Scale, Quiet, ModuleMm, Dpi, Inverted}
 use Rattle.label_words.specs.declared.words.Name.TheVariants.{Title, At, Copies, Compressed, Feed, Cut}
-use Rattle.label_words.specs.declared.words.Name.TheVariants.{Dark, Light, AnyColors}
+use Rattle.label_words.specs.declared.words.Name.TheVariants.{Dark, Light, AnyColors, Hri}
 
 -- The option that gives a setting.
 abbrev pub setting_option : Setting → Name
@@ -25,6 +26,7 @@ setting_option ModuleOf = ModuleMm
 setting_option DpiOf = Dpi
 setting_option InvertedOf = Inverted
 setting_option TitleOf = Title
+setting_option CaptionOf = Hri
 setting_option AtOf = At
 setting_option CopiesOf = Copies
 setting_option CompressedOf = Compressed

@@ -12,13 +12,13 @@ use Rattle.label_words.specs.declared.words.Name.TheVariants.{ModuleMm, Dpi, Inv
 use Rattle.label_words.specs.declared.words.Name.TheVariants.{Output, AllowEmpty, Help, Version, Lines}
 use Rattle.label_words.specs.declared.words.Name.TheVariants.{First, KeepGoing, KeepNewline}
 use Rattle.label_words.specs.declared.words.Name.TheVariants.{Copies, Compressed, Feed, Cut, Split, Rotate}
-use Rattle.label_words.specs.declared.words.Name.TheVariants.{Verbose, Info, Dark, Light, AnyColors, Domain}
+use Rattle.label_words.specs.declared.words.Name.TheVariants.{Verbose, Info, Dark, Light, AnyColors, Domain, Hri}
 
 -- What a table has for a word.
-abbrev pub among : {A : Type 0} → List (List ℕ × A) → List ℕ → Option A
-among [] word = None
-among (entry ∷ entries) word =
-    elim (bytes_eq word entry.0) [ true ↦ Some entry.1 | false ↦ among entries word ]
+abbrev pub value_among : {A : Type 0} → List (List ℕ × A) → List ℕ → Option A
+value_among [] word = None
+value_among (entry ∷ entries) word =
+    elim (bytes_eq word entry.0) [ true ↦ Some entry.1 | false ↦ value_among entries word ]
 
 -- The words of the options. After `--` come texts.
 abbrev pub names : List (List ℕ × Name)
@@ -63,14 +63,15 @@ picture_names =
     ∷ (codes "--dark", Dark)
     ∷ (codes "--light", Light)
     ∷ (codes "--any-colors", AnyColors)
+    ∷ (codes "--hri", Hri)
     ∷ []
 
 unfoldable pub picture_named : List ℕ → Option Name
-picture_named word = among picture_names word
+picture_named word = value_among picture_names word
 
 -- The option that a word names.
 unfoldable pub named : List ℕ → Option Name
-named word = elim (among names word) [ Some name ↦ Some name | None ↦ picture_named word ]
+named word = elim (value_among names word) [ Some name ↦ Some name | None ↦ picture_named word ]
 
 -- The number of an option: its place among the values.
 abbrev pub option_number : Name → ℕ
@@ -109,6 +110,7 @@ option_number Dark = 31
 option_number Light = 32
 option_number AnyColors = 33
 option_number Domain = 34
+option_number Hri = 35
 
 -- Whether the next word is the value of the option.
 abbrev pub takes_value : Name → Bool
@@ -124,6 +126,7 @@ takes_value Split = false
 takes_value Verbose = false
 takes_value Info = false
 takes_value AnyColors = false
+takes_value Hri = false
 takes_value Help = false
 takes_value Version = false
 takes_value _ = true

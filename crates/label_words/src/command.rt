@@ -3,21 +3,21 @@
 //! 1. Read each option by its value (`level_of`, `content_of`, `format_of`, ..).
 //! 2. Put them together (`label_of`, `command_of`).
 ghost use Rattle.std.specs.Prelude.{◌≡◌, unwrap_or};
-ghost use Rattle.label_words.specs.Said.{said};
+ghost use Rattle.label_words.specs.Values.{said};
 ghost use Rattle.label_words.specs.Commands.{found_or};
 ghost use Rattle.label_words.specs.Commands.{level_asked, content_asked, format_asked, version_asked};
 ghost use Rattle.label_words.specs.Commands.{symbol_asked, micro_asked, is_trimmed};
-ghost use Rattle.label_words.specs.Choices.{is_micro};
+ghost use Rattle.label_words.specs.Choices.{is_micro_content};
 ghost use Rattle.label_words.specs.Commands.{first_asked, keeps_going_asked, trims_asked};
 ghost use Rattle.label_words.specs.Commands.{turn_asked, domain_asked};
 ghost use Rattle.label_words.specs.Commands.{colored_asked, label_asked, command_asked};
 ghost use Rattle.label_words.specs.Words.{file_of};
-ghost use Rattle.label_words.specs.Asked.{outcome, text_outcome, label_outcome, command_outcome};
+ghost use Rattle.label_words.specs.CommandOutcomes.{outcome, text_outcome, label_outcome, command_outcome};
 
 use crate::choices::{content_named, format_named, format_of_ending, level_named, turn_named};
 use crate::names::Numbering;
 use crate::portion::{check_terminal, details_of, portion_of};
-use crate::settings::{in_dots, settings_of, zoned};
+use crate::settings::{hri_of, in_dots, settings_of, zoned};
 use crate::words::{Misuse, Name, Values};
 use gs1_base::domain::is_domain;
 use picture_settings::format::Format;
@@ -29,7 +29,7 @@ use qrcode_core::types::EcLevel;
 /// What a symbol says.
 #[derive(Clone, Copy, Debug, PartialEq, Eq)]
 pub enum Content {
-    /// Text, if the input is UTF-8 and not ASCII, else bytes.
+    /// The text in the fewest bits, if the input is UTF-8 and not ASCII, else bytes.
     Auto,
     /// Text in UTF-8, after its ECI designator.
     Text,
@@ -41,7 +41,7 @@ pub enum Content {
     UncheckedGs1,
     /// The GS1 Digital Link of bracketed elements.
     Link,
-    /// ASCII text in a Micro QR symbol, which has no designator for other text.
+    /// A text of ASCII or of ASCII and Kanji in a Micro QR symbol, which has no designators.
     Micro,
     /// Bytes as they are in a Micro QR symbol.
     MicroBytes,
@@ -116,6 +116,8 @@ pub struct Label<'a> {
     pub details: Details,
     /// The dots of an inch, if they are given.
     pub dpi: Option<usize>,
+    /// Whether the elements are written below the symbol.
+    pub hri: bool,
 }
 
 /// The domain of a link for which the words give none, the resolver of GS1.
@@ -218,7 +220,7 @@ fn symbol_of<'a>(values: &Values<'a>) -> Result<SymbolOptions, Misuse<'a>>
 
 /// Whether the symbol is a Micro QR symbol.
 pub fn is_micro(content: Content) -> bool
-    ensures { result ≡ is_micro content }
+    ensures { result ≡ is_micro_content content }
 {
     match content {
         Content::Micro | Content::MicroBytes => true,
@@ -337,6 +339,7 @@ fn label_of<'a>(values: &Values<'a>, on_terminal: bool) -> Result<Label<'a>, Mis
     let keeps_going = keeps_going_of(values)?;
     let turn = turn_of(values)?;
     let details = details_of(values)?;
+    let hri = hri_of(values, content, format)?;
     let settings = settings_of(values)?;
     Ok(Label {
         content,
@@ -355,6 +358,7 @@ fn label_of<'a>(values: &Values<'a>, on_terminal: bool) -> Result<Label<'a>, Mis
         turn,
         details,
         dpi: settings.dpi,
+        hri,
     })
 }
 

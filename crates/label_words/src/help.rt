@@ -28,10 +28,11 @@ Input and output:
 
 Content:
   -c, --content KIND    auto, text, bytes, gs1, gs1-unchecked, link, micro or
-                        micro-bytes; default: auto, which is text for UTF-8 that is
-                        not ASCII, else bytes; gs1 takes elements that the table of
-                        identifiers allows, link makes a GS1 Digital Link of them;
-                        micro is for ASCII text
+                        micro-bytes; default: auto, which is the smallest symbol of
+                        a text beyond ASCII in UTF-8, else bytes; text is in UTF-8;
+                        gs1 takes elements that the table of identifiers allows,
+                        link makes a GS1 Digital Link of them; micro is for ASCII
+                        and Kanji
       --domain DOMAIN   domain of the link; default: id.gs1.org
   -l, --level LEVEL     L, M, Q or H: about 7, 15, 25 or 30 percent can be
                         damaged; default: M; micro has no H
@@ -55,6 +56,8 @@ Picture:
       --dark COLOR      #rrggbb or one of CSS's sixteen names (svg, png, eps, pdf)
       --light COLOR     the same, or transparent; default: black on white
       --any-colors      take colors that readers may not tell apart
+      --hri             write the elements below it, as (01)09506000134352(10)ABC (svg,
+                        eps, zpl, terminal; with -c gs1, gs1-unchecked, link)
       --at X,Y          position on the label in dots, 0 to 18000 (zpl)
       --copies N        how often the printer prints it, 1 to 99999999 (zpl)
       --compressed      write it in compressed fields (zpl)
@@ -62,7 +65,8 @@ Picture:
       --cut             cut the paper after it (escpos)
 
       --info            print version, level, mask, segments and size of the symbol on
-                        standard output, and draw nothing
+                        standard output, and draw nothing; of GS1 elements also the
+                        version of their link, and of a link that of its elements
   -v, --verbose         draw, and print them on standard error
   -h, --help            show this text
   -V, --version         show the version

@@ -1,8 +1,8 @@
 //! What is wrong with the words, as a line on standard error.
 ghost use Rattle.std.specs.Prelude.{◌≡◌, ◌++◌, ◌∷◌, [], codes, IsFalse};
 ghost use Rattle.programs.specs.Devices.{output, Writes};
-ghost use Rattle.label_words.specs.Misuses.{option_word, values_text, wrong_line};
-ghost use Rattle.label_words.specs.Said.{wrong_of};
+ghost use Rattle.label_words.specs.Misuses.{picture_word, option_word, values_text, wrong_line};
+ghost use Rattle.label_words.specs.Values.{wrong_of};
 
 use crate::words::{Misuse, Name};
 use programs::{Fault, Sink, write_line};
@@ -81,13 +81,6 @@ fn option_word(name: Name) -> &'static str
         Name::Strongest => "--strongest",
         Name::MinVersion => "--min-version",
         Name::MaxVersion => "--max-version",
-        Name::Scale => "--scale",
-        Name::Quiet => "--quiet",
-        Name::ModuleMm => "--module-mm",
-        Name::Dpi => "--dpi",
-        Name::Inverted => "--inverted",
-        Name::Title => "--title",
-        Name::At => "--at",
         Name::Read => "--read",
         Name::Output => "--output",
         Name::AllowEmpty => "--allow-empty",
@@ -97,18 +90,36 @@ fn option_word(name: Name) -> &'static str
         Name::First => "--first",
         Name::KeepGoing => "--keep-going",
         Name::KeepNewline => "--keep-newline",
+        Name::Split => "--split",
+        Name::Verbose => "--verbose",
+        Name::Info => "--info",
+        Name::Domain => "--domain",
+        _ => picture_word(name),
+    }
+}
+
+/// Returns the word of an option of a picture.
+fn picture_word(name: Name) -> &'static str
+    ensures { result.now ≡ picture_word name }
+{
+    match name {
+        Name::Scale => "--scale",
+        Name::Quiet => "--quiet",
+        Name::ModuleMm => "--module-mm",
+        Name::Dpi => "--dpi",
+        Name::Inverted => "--inverted",
+        Name::Title => "--title",
+        Name::At => "--at",
         Name::Copies => "--copies",
         Name::Compressed => "--compressed",
         Name::Feed => "--feed",
         Name::Cut => "--cut",
-        Name::Split => "--split",
         Name::Rotate => "--rotate",
-        Name::Verbose => "--verbose",
-        Name::Info => "--info",
         Name::Dark => "--dark",
         Name::Light => "--light",
         Name::AnyColors => "--any-colors",
-        Name::Domain => "--domain",
+        Name::Hri => "--hri",
+        _ => "",
     }
 }
 
@@ -147,6 +158,7 @@ fn values_text(name: Name) -> &'static str
         Name::Dark => DARK,
         Name::Light => LIGHT,
         Name::AnyColors => "for svg, png, eps and pdf",
+        Name::Hri => "with -c gs1, gs1-unchecked or link, for terminal, svg, eps and zpl",
         Name::Text | Name::AllowEmpty | Name::KeepNewline => "",
         Name::Help | Name::Version => "",
     }

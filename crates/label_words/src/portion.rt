@@ -1,11 +1,11 @@
 //! What of the input labels show, and where they are written.
 ghost use Rattle.std.specs.Prelude.{◌≡◌, option_map};
-ghost use Rattle.label_words.specs.Asked.{outcome, portion_outcome};
+ghost use Rattle.label_words.specs.CommandOutcomes.{outcome, portion_outcome};
 ghost use Rattle.label_words.specs.Choices.{can_be_split};
-ghost use Rattle.label_words.specs.Commands.{can_follow, lines_can_follow, has_percent, numbered_output};
-ghost use Rattle.label_words.specs.Commands.{portion_asked, split_asked, details_asked, terminal_asked};
+ghost use Rattle.label_words.specs.Portions.{can_follow, lines_can_follow, has_percent, numbered_output};
+ghost use Rattle.label_words.specs.Portions.{portion_asked, split_asked, details_asked, terminal_asked};
 ghost use Rattle.label_words.specs.Numberings.{numbering_of};
-ghost use Rattle.label_words.specs.Said.{said};
+ghost use Rattle.label_words.specs.Values.{said};
 
 use crate::command::{Content, Details, Portion};
 use crate::names::{Numbering, numbering_in};

@@ -1,11 +1,11 @@
 //! The settings of a picture that the words ask for.
 ghost use Rattle.std.specs.Prelude.{◌≡◌};
-ghost use Rattle.label_words.specs.Said.{said};
-ghost use Rattle.label_words.specs.Asked.{outcome, settings_outcome, wishes_of};
+ghost use Rattle.label_words.specs.Values.{said};
+ghost use Rattle.label_words.specs.CommandOutcomes.{outcome, settings_outcome, wishes_of};
 ghost use Rattle.label_words.specs.Commands.{number_asked, module_asked, place_asked, settings_asked};
 ghost use Rattle.label_words.specs.Commands.{dark_asked, light_asked};
-ghost use Rattle.label_words.specs.Commands.{some_found, zoned, dots_asked, in_dots};
-ghost use Rattle.label_words.specs.Choices.{has_dots};
+ghost use Rattle.label_words.specs.Commands.{some_found, zoned, dots_asked, in_dots, hri_asked};
+ghost use Rattle.label_words.specs.Choices.{is_drawn_in_dots, has_elements};
 
 use crate::command::{Content, is_micro};
 use crate::words::{Misuse, Name, Values};
@@ -88,6 +88,7 @@ pub fn settings_of<'a>(values: &Values<'a>) -> Result<Settings<'a>, Misuse<'a>>
         dpi: number(values, Name::Dpi)?,
         inverted: values.has(Name::Inverted),
         title: values.get(Name::Title),
+        caption: None,
         at: place(values)?,
         copies: number(values, Name::Copies)?,
         compressed: values.has(Name::Compressed),
@@ -113,7 +114,7 @@ pub fn zoned<'a>(content: Content, mut settings: Settings<'a>) -> Settings<'a>
 
 /// Whether a printer or a screen draws the format in dots.
 fn has_dots(format: Format) -> bool
-    ensures { result ≡ has_dots format }
+    ensures { result ≡ is_drawn_in_dots format }
 {
     match format {
         Format::Png | Format::EscPos | Format::Zpl => true,
@@ -160,4 +161,26 @@ pub fn in_dots<'a>(format: Format, mut settings: Settings<'a>) -> Result<Setting
         settings.dpi = None;
     }
     Ok(settings)
+}
+
+/// Whether it is of GS1 elements: them, or the link of them.
+fn has_elements(content: Content) -> bool
+    ensures { result ≡ has_elements content }
+{
+    match content {
+        Content::Gs1 | Content::UncheckedGs1 | Content::Link => true,
+        Content::Auto | Content::Text | Content::Bytes => false,
+        Content::Micro | Content::MicroBytes => false,
+    }
+}
+
+/// Returns whether the elements are written below the symbol. The content has to be of elements,
+/// and the format to have a text there.
+pub fn hri_of<'a>(values: &Values<'a>, content: Content, format: Format) -> Result<bool, Misuse<'a>>
+    ensures { outcome result ≡ hri_asked content format (said values.now) }
+{
+    if values.has(Name::Hri) && !(has_elements(content) && format.has_caption()) {
+        return Err(Misuse::Invalid(Name::Hri));
+    }
+    Ok(values.has(Name::Hri))
 }

@@ -5,7 +5,7 @@ ghost use Rattle.label_words.specs.Words.{named, picture_named, takes_value, is_
 ghost use Rattle.label_words.specs.Words.{option_number, value_of, file_of};
 ghost use Rattle.label_words.specs.Words.{with, is_given, assigned, rest_after, joined_value, parted};
 ghost use Rattle.label_words.specs.Words.{read_as_text, read_plain, read_name, read_word, values_in};
-ghost use Rattle.label_words.specs.Said.{said, scan_of, scan_outcome, values_outcome, parted_of};
+ghost use Rattle.label_words.specs.Values.{said, scan_of, scan_outcome, values_outcome, parted_of};
 
 /// An option, or the text.
 #[derive(Clone, Copy, Debug, PartialEq, Eq)]
@@ -45,6 +45,7 @@ pub enum Name {
     Light,
     AnyColors,
     Domain,
+    Hri,
 }
 
 /// Returns the option that a word names. After `--` come texts.
@@ -98,6 +99,7 @@ fn picture_named(word: &str) -> Option<Name>
         "--dark" => Some(Name::Dark),
         "--light" => Some(Name::Light),
         "--any-colors" => Some(Name::AnyColors),
+        "--hri" => Some(Name::Hri),
         _ => None,
     }
 }
@@ -110,7 +112,7 @@ fn takes_value(name: Name) -> bool
         Name::Strongest | Name::Inverted | Name::Lines | Name::AllowEmpty => false,
         Name::KeepGoing | Name::KeepNewline | Name::Help | Name::Version => false,
         Name::Compressed | Name::Cut | Name::Split => false,
-        Name::Verbose | Name::Info | Name::AnyColors => false,
+        Name::Verbose | Name::Info | Name::AnyColors | Name::Hri => false,
         _ => true,
     }
 }
@@ -126,7 +128,7 @@ fn is_text(name: Name) -> bool
 }
 
 /// The number of options.
-pub const COUNT: usize = 35;
+pub const COUNT: usize = 36;
 
 /// What is wrong with the words.
 #[derive(Clone, Copy, Debug, PartialEq, Eq)]

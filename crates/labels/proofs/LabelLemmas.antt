@@ -15,14 +15,14 @@ use Rattle.picture_settings.specs.declared.draw_options.DrawOptions.{DrawOptions
 use Rattle.label_words.specs.declared.command.Label.{Label}
 use Rattle.programs.specs.declared.Fault.TheVariants.{Symbol, Read, Write}
 use Rattle.single_label.specs.declared.stop.{Stop.Stop, Stop.TheVariants.Fault, Stop.TheVariants.Elements, Stop.TheVariants.NotAllowed, Stop.TheVariants.NoLink, Stop.TheVariants.Empty}
-use Rattle.single_label.specs.declared.stop.{Stop.TheVariants.NotAscii, Stop.TheVariants.TooLong, Stop.TheVariants.TooManyParts, Stop.TheVariants.TooManyPages}
+use Rattle.single_label.specs.declared.stop.{Stop.TheVariants.NoMicroText, Stop.TheVariants.TooLong, Stop.TheVariants.TooManyParts, Stop.TheVariants.TooManyPages}
 use Rattle.labels.specs.Lines.{Made, Place, GiveEach, AreLabels, WritesEach, WritesSome, DrawsBefore, BreaksAt, IsEnded, StopsNext}
-use Rattle.labels.specs.Lines.{WritesUntil, joined, drawing_in, all_drawn, left_out, is_of_line}
+use Rattle.labels.specs.Lines.{WritesUntil, joined_labels, drawing_in, all_drawn, left_out, is_of_line}
 use Rattle.single_label.proofs.StopLemmas.{no_device, no_page}
 use Rattle.std.specs.declared.io.ErrorKind.{ErrorKind}
 use Rattle.labels.specs.declared.stop.LineStop.{LineStop}
 use Rattle.labels.specs.{Stops.end_report, Stops.stop_status, Runs.lines_reported, Runs.lines_status, Runs.last_number}
-use Rattle.labels.specs.{Stops.numbered_line, Lines.IsLeftOut, Reports.Reports, MadeOf.made_of}
+use Rattle.labels.specs.{Stops.numbered_line, Lines.IsLineLeftOut, Reports.Reports, Stop.made_of}
 use Rattle.single_label.specs.Labels.{IsLabelStop}
 use Rattle.std.specs.Prelude.{Vec, IfOk, IfErr, OnOk, IsOk}
 use Rattle.std.specs.declared.alloc.Global.{Global}
@@ -60,8 +60,8 @@ AreLabels-append label options a b c ds es h k = record {
   shown = GiveEach-append _ h.lines k.lines ds es h.shown k.shown;
 }
 
-joined-append : (ds : List Made) (e : Made) → joined (ds ++ e ∷ []) ≡ joined ds ++ drawing_in e
-joined-append ds e = flat_map-append drawing_in ds (e ∷ []) ∙ ap (λ rest. joined ds ++ rest) (append-nil (drawing_in e))
+joined-append : (ds : List Made) (e : Made) → joined_labels (ds ++ e ∷ []) ≡ joined_labels ds ++ drawing_in e
+joined-append ds e = flat_map-append drawing_in ds (e ∷ []) ∙ ap (λ rest. joined_labels ds ++ rest) (append-nil (drawing_in e))
 
 all_drawn-append : (ds : List Made) (e : Made) → all_drawn (ds ++ e ∷ []) ≡ (all_drawn ds && is_ok e)
 all_drawn-append [] (Ok d) = refl
@@ -131,7 +131,7 @@ writes_until label options every n q r s place (Elements e) h k = record { left 
 writes_until label options every n q r s place (NotAllowed error) h k = record { left = r.left; every = every; drawn = h; stopped = k }
 writes_until label options every n q r s place (NoLink error) h k = record { left = r.left; every = every; drawn = h; stopped = k }
 writes_until label options every n q r s place Empty h k = record { left = r.left; every = every; drawn = h; stopped = k }
-writes_until label options every n q r s place NotAscii h k = record { left = r.left; every = every; drawn = h; stopped = k }
+writes_until label options every n q r s place NoMicroText h k = record { left = r.left; every = every; drawn = h; stopped = k }
 writes_until label options every n q r s place (TooLong t) h k = record { left = r.left; every = every; drawn = h; stopped = k }
 writes_until label options every n q r s place TooManyParts h k = record { left = r.left; every = every; drawn = h; stopped = k }
 writes_until label options every n q r s place TooManyPages h k = absurd k
@@ -188,13 +188,13 @@ pub stream_step : (u v w a b c : SinkState) (m n : ℕ) (made : Result (Vec ℕ 
     WritesEach (output u w) (ds ++ made_of made ∷ []) × Writes (output a c) (left_out n (ds ++ made_of made ∷ []))
 stream_step u v w a b c m n (Ok d) written flushed sound out ds is h = (
   record {
-    appends = rw (joined-append ds (Ok d.items)) (Appends-append u.written v.written w.written (joined ds) d.items h.0.appends (written.1.whole sound));
+    appends = rw (joined-append ds (Ok d.items)) (Appends-append u.written v.written w.written (joined_labels ds) d.items h.0.appends (written.1.whole sound));
     flushed = λ some. flushed;
   },
   rw (written.0) (said_drawn a b n ds d.items h.1),
 )
 stream_step u v w a b c m n (Err s) written flushed sound out ds is h =
-    let same : joined (ds ++ Err s ∷ []) ≡ joined ds = joined-append ds (Err s) ∙ append-nil (joined ds) in (
+    let same : joined_labels (ds ++ Err s ∷ []) ≡ joined_labels ds = joined-append ds (Err s) ∙ append-nil (joined_labels ds) in (
       rw (out.0) (record { appends = rw same h.0.appends; flushed = λ some. h.0.flushed (rw same at some) }),
       said_more a b c m n ds s is h.1 out.1.silent out.1.said,
     )
@@ -204,7 +204,7 @@ pub stream_breaks : (u v w a b : SinkState) (n : ℕ) (d : List ℕ) → Writes 
 stream_breaks u v w a b n d writes ds h = (
   record {
     count = writes.beginning.count;
-    appends = Appends-append u.written v.written w.written (joined ds) (take writes.beginning.count d) h.0.appends writes.beginning.appends;
+    appends = Appends-append u.written v.written w.written (joined_labels ds) (take writes.beginning.count d) h.0.appends writes.beginning.appends;
   },
   h.1,
 )
@@ -251,7 +251,7 @@ folder_breaks name n e f g a b adds ds h =
 
 -- it was read whole, or more of it than a symbol holds, and its rest
 pub left_out_short : (label : Label) (options : DrawOptions) (a b : Option (List ℕ)) (line : List ℕ) (stop : Stop) →
-    ReadsLine a b line → length line ≤ LONGEST_DATA + 1 → IsLeftOut label line stop → AreLabels label options a b (Err stop ∷ [])
+    ReadsLine a b line → length line ≤ LONGEST_DATA + 1 → IsLineLeftOut label line stop → AreLabels label options a b (Err stop ∷ [])
 left_out_short label options a b line stop (inl h) short is = record { lines = line ∷ []; read = h.read; shown = (is, tt) }
 left_out_short label options a b line stop (inr h) short is = absurd (omega (arith, h.long, short))
 
@@ -261,7 +261,7 @@ long_stop label part line stop long longer (inl h) = inl (record { many = longer
 long_stop label part line stop long longer (inr h) = absurd (omega (arith, long, h.short))
 
 pub left_out_long : (label : Label) (options : DrawOptions) (a b c : Option (List ℕ)) (part : List ℕ) (stop : Stop) →
-    ReadsLine a b part → LONGEST_DATA + 1 < length part → DropsThrough b c 10 → IsLeftOut label part stop → AreLabels label options a c (Err stop ∷ [])
+    ReadsLine a b part → LONGEST_DATA + 1 < length part → DropsThrough b c 10 → IsLineLeftOut label part stop → AreLabels label options a c (Err stop ∷ [])
 left_out_long label options a b c part stop (inl h) long rest is = absurd (omega (arith, long, h.short))
 left_out_long label options a b c part stop (inr h) long rest is =
     let whole = long_line a b c part h rest in record {
@@ -297,7 +297,7 @@ stops_at label a b line (Elements e) read h k = λ other. record { line = line; 
 stops_at label a b line (NotAllowed e) read h k = λ other. record { line = line; read = read; stopped = h; not_left_out = k }
 stops_at label a b line (NoLink e) read h k = λ other. record { line = line; read = read; stopped = h; not_left_out = k }
 stops_at label a b line Empty read h k = λ other. record { line = line; read = read; stopped = h; not_left_out = k }
-stops_at label a b line NotAscii read h k = λ other. record { line = line; read = read; stopped = h; not_left_out = k }
+stops_at label a b line NoMicroText read h k = λ other. record { line = line; read = read; stopped = h; not_left_out = k }
 stops_at label a b line (TooLong t) read h k = λ other. record { line = line; read = read; stopped = h; not_left_out = k }
 stops_at label a b line TooManyParts read h k = λ other. record { line = line; read = read; stopped = h; not_left_out = k }
 stops_at label a b line TooManyPages read h k = absurd (no_page label line h)
@@ -362,7 +362,7 @@ said_of source target other not_read not_written number (Elements e) same = refl
 said_of source target other not_read not_written number (NotAllowed error) same = refl
 said_of source target other not_read not_written number (NoLink error) same = refl
 said_of source target other not_read not_written number Empty same = refl
-said_of source target other not_read not_written number NotAscii same = refl
+said_of source target other not_read not_written number NoMicroText same = refl
 said_of source target other not_read not_written number (TooLong t) same = refl
 said_of source target other not_read not_written number TooManyParts same = refl
 said_of source target other not_read not_written number TooManyPages same = refl
@@ -385,7 +385,7 @@ status_of source target other not_read not_written (Elements e) = refl
 status_of source target other not_read not_written (NotAllowed error) = refl
 status_of source target other not_read not_written (NoLink error) = refl
 status_of source target other not_read not_written Empty = refl
-status_of source target other not_read not_written NotAscii = refl
+status_of source target other not_read not_written NoMicroText = refl
 status_of source target other not_read not_written (TooLong t) = refl
 status_of source target other not_read not_written TooManyParts = refl
 status_of source target other not_read not_written TooManyPages = refl

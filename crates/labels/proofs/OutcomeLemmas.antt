@@ -8,7 +8,7 @@ use Rattle.programs.specs.declared.Fault.{Fault as FaultOf}
 use Rattle.programs.specs.declared.Fault.TheVariants.{Symbol, Read, Write}
 use Rattle.qrcode_core.specs.declared.types.errors.QrError.TheVariants.{OutOfMemory}
 use Rattle.single_label.specs.declared.stop.{Stop.Stop, Stop.TheVariants.Fault, Stop.TheVariants.Elements, Stop.TheVariants.NotAllowed, Stop.TheVariants.NoLink, Stop.TheVariants.Empty}
-use Rattle.single_label.specs.declared.stop.{Stop.TheVariants.NotAscii, Stop.TheVariants.TooLong, Stop.TheVariants.TooManyParts, Stop.TheVariants.TooManyPages}
+use Rattle.single_label.specs.declared.stop.{Stop.TheVariants.NoMicroText, Stop.TheVariants.TooLong, Stop.TheVariants.TooManyParts, Stop.TheVariants.TooManyPages}
 use Rattle.labels.specs.Runs.{Drawer, IsLabelOutcome}
 
 keeps : (a : Option (List ℕ)) → Keeps a a
@@ -32,7 +32,7 @@ writes_none drawer r s w bytes (NoLink error) no_device read is sound whole =
     record { writes = ((λ other. record { bytes = bytes; read = read; stopped = is }), keeps w.written); read = grind (arith, sound); write = grind (arith, whole) }
 writes_none drawer r s w bytes Empty no_device read is sound whole =
     record { writes = ((λ other. record { bytes = bytes; read = read; stopped = is }), keeps w.written); read = grind (arith, sound); write = grind (arith, whole) }
-writes_none drawer r s w bytes NotAscii no_device read is sound whole =
+writes_none drawer r s w bytes NoMicroText no_device read is sound whole =
     record { writes = ((λ other. record { bytes = bytes; read = read; stopped = is }), keeps w.written); read = grind (arith, sound); write = grind (arith, whole) }
 writes_none drawer r s w bytes (TooLong t) no_device read is sound whole =
     record { writes = ((λ other. record { bytes = bytes; read = read; stopped = is }), keeps w.written); read = grind (arith, sound); write = grind (arith, whole) }

@@ -7,13 +7,13 @@ use Rattle.programs.specs.Devices.{SourceState, SinkState, Writes, input, output
 use Rattle.programs.proofs.DeviceLemmas.{Appends-append, Appends-none}
 use Rattle.qrcode_render.proofs.PdfLemmas.{writes_document}
 use Rattle.qrcode_render.specs.Pdf.{PdfPage, pdf_document}
-use Rattle.qrcode_render.specs.PdfWritten.{PdfWritten, IsWritten, after_page, next_page, next_pages, pdf_end, pdf_start, started}
+use Rattle.qrcode_render.specs.PdfPagesWritten.{PdfWritten, IsWritten, after_page, next_page, next_pages, pdf_end, pdf_start, started}
 use Rattle.picture_settings.specs.declared.bounds.TheConstants.{MAX_PDF}
 use Rattle.picture_settings.specs.declared.draw_options.DrawOptions.{DrawOptions}
 use Rattle.single_label.specs.Pages.{page_alone}
-use Rattle.labels.specs.Documents.{ArePages, IsWrittenSoFar, WritesSoFar, WritesPages, WritesDocument, WritesSomePages, WritesNoEnd, HasNoRoom}
+use Rattle.labels.specs.Documents.{ArePages, IsWrittenSoFar, WritesSoFar, WritesPages, WritesLabelPages, WritesSomePages, WritesNoEnd, HasNoRoom}
 use Rattle.labels.specs.Documents.{document, document_text, label_in, pages_text}
-use Rattle.labels.specs.Lines.{Made, Place, AreLabels, DrawsBefore, FillsAt, left_out, place_of}
+use Rattle.labels.specs.Lines.{Made, Place, AreLabels, DrawsBefore, FillsAt, left_out, known_place}
 use Rattle.labels.proofs.LabelLemmas.{AreLabels-append, said_drawn, said_more, said_none}
 use Rattle.labels.specs.{Stops.numbered_line}
 use Rattle.label_words.specs.declared.command.Label.{Label}
@@ -95,7 +95,7 @@ so_far title w waiting u v a b first ds = WritesSoFar title w waiting (output u 
 
 abbrev pub so_far_place : (title : Option (List ℕ)) → PdfWritten → List ℕ → (u v a b : SinkState) → ℕ → Place
 so_far_place title w waiting u v a b first =
-    place_of (so_far title w waiting u v a b first) (document title (output u v) first (output a b))
+    known_place (so_far title w waiting u v a b first) (document title (output u v) first (output a b))
 
 pub pages_none : (title : Option (List ℕ)) (w : PdfWritten) (waiting : List ℕ) (u e : SinkState) (first : ℕ) → IsWrittenSoFar title [] w waiting →
     so_far title w waiting u u e e first []
@@ -196,7 +196,7 @@ pages_so_far title p waiting u v a b first ds h =
 
 -- there is no page
 pub ends_empty : (title : Option (List ℕ)) (p : PdfWritten) (waiting : List ℕ) (u v a b : SinkState) (first : ℕ) → waiting ≢ [] →
-    (ds : List Made) → so_far title p waiting u v a b first ds → WritesDocument title (output u v) ds × Writes (output a b) (left_out first ds)
+    (ds : List Made) → so_far title p waiting u v a b first ds → WritesLabelPages title (output u v) ds × Writes (output a b) (left_out first ds)
 ends_empty title p waiting u v a b first some ds h =
     let k = h.0 in
     let none = k.so_far.none some in
@@ -205,7 +205,7 @@ ends_empty title p waiting u v a b first some ds h =
 -- the end was written
 pub ends_written : (title : Option (List ℕ)) (p : PdfWritten) (waiting : List ℕ) (u v w a b : SinkState) (first : ℕ) → waiting ≡ [] →
     Writes (output v w) (pdf_end p) → w.failed ≡ false → w.flushed ≡ w.written →
-    (ds : List Made) → so_far title p waiting u v a b first ds → WritesDocument title (output u w) ds × Writes (output a b) (left_out first ds)
+    (ds : List Made) → so_far title p waiting u v a b first ds → WritesLabelPages title (output u w) ds × Writes (output a b) (left_out first ds)
 ends_written title p waiting u v w a b first none written sound flushed ds h =
     let k = h.0 in
     let some = k.so_far.some none in (

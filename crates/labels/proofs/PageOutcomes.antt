@@ -6,19 +6,19 @@ use Rattle.std.specs.Option.{option_copied}
 use Rattle.programs.specs.Devices.{SourceState, SinkState, Writes, input, output}
 use Rattle.programs.proofs.DeviceLemmas.{Appends-none}
 use Rattle.qrcode_render.specs.Pdf.{PdfPage}
-use Rattle.qrcode_render.specs.PdfWritten.{PdfWritten, after_page, next_page, pdf_end}
+use Rattle.qrcode_render.specs.PdfPagesWritten.{PdfWritten, after_page, next_page, pdf_end}
 use Rattle.picture_settings.specs.declared.bounds.TheConstants.{MAX_PDF}
 use Rattle.picture_settings.specs.declared.draw_options.DrawOptions.{DrawOptions}
-use Rattle.single_label.specs.{Pages.page_alone, Pages.page_of}
+use Rattle.single_label.specs.{Pages.page_alone, Pages.page_of_symbol}
 use Rattle.labels.specs.Documents.{IsNextPage, IsNoPage}
 use Rattle.labels.specs.Documents.{document}
-use Rattle.labels.specs.Lines.{Made, AreLabels, DrawsBefore, IsEnded, IsLinesOutcome, StopsNext, place_of}
+use Rattle.labels.specs.Lines.{Made, AreLabels, DrawsBefore, IsEnded, IsLinesOutcome, StopsNext, known_place}
 use Rattle.labels.proofs.LabelLemmas.{BreaksAt-next, DrawsBefore-none, DrawsBefore-there, DrawsBefore-ended, said_none}
 use Rattle.labels.proofs.LabelLemmas.{writes_until, never_write}
 use Rattle.programs.specs.declared.Fault.TheVariants.{Symbol, Read, Write}
 use Rattle.qrcode_core.specs.declared.types.errors.QrError.TheVariants.{OutOfMemory}
 use Rattle.single_label.specs.declared.stop.Stop.TheVariants.{Fault, TooManyPages}
-use Rattle.labels.specs.{MadeOf.made_as, Reports.Reports, Stops.numbered_line}
+use Rattle.labels.specs.{Stop.made_as, Reports.Reports, Stops.numbered_line}
 use Rattle.single_label.specs.declared.shown.PageSymbol.{PageSymbol}
 use Rattle.label_words.specs.declared.command.Label.{Label}
 use Rattle.single_label.specs.declared.stop.Stop.{Stop}
@@ -36,7 +36,7 @@ all_written label options every n r s t title p [] u v w a b h ended same writte
   writes = record {
     number = n;
     drawn = DrawsBefore-there label options every n r.left t.left (so_far_place title p [] u v a b label.first)
-        (place_of (document title (output u w) label.first (output a b)).ended (document title (output u w) label.first (output a b)))
+        (known_place (document title (output u w) label.first (output a b)).ended (document title (output u w) label.first (output a b)))
         (DrawsBefore-ended label options every n r.left s.left t.left (so_far_place title p [] u v a b label.first) h ended)
         (ends_written title p [] u v w a b label.first refl (written refl) sound (flushed refl));
     ended = ended.ended;
@@ -50,7 +50,7 @@ all_written label options every n r s t title p (x ∷ xs) u v w a b h ended sam
       writes = record {
         number = n;
         drawn = DrawsBefore-there label options every n r.left t.left (so_far_place title p (x ∷ xs) u v a b label.first)
-            (place_of (document title (output u v) label.first (output a b)).ended (document title (output u v) label.first (output a b)))
+            (known_place (document title (output u v) label.first (output a b)).ended (document title (output u v) label.first (output a b)))
             (DrawsBefore-ended label options every n r.left s.left t.left (so_far_place title p (x ∷ xs) u v a b label.first) h ended)
             (ends_empty title p (x ∷ xs) u v a b label.first some);
         ended = ended.ended;
@@ -112,7 +112,7 @@ end_not_written label options every n r s t title p waiting u v w a b stop h end
       writes = inr (record {
         every = every;
         drawn = DrawsBefore-there label options every n r.left t.left (so_far_place title p waiting u v a b label.first)
-            (place_of (document title (output u w) label.first (output a b)).torn (document title (output u w) label.first (output a b)))
+            (known_place (document title (output u w) label.first (output a b)).torn (document title (output u w) label.first (output a b)))
             (DrawsBefore-ended label options every n r.left s.left t.left (so_far_place title p waiting u v a b label.first) h ended)
             (ends_torn title p waiting u v w a b label.first none written);
         ended = ended.ended;
@@ -166,7 +166,7 @@ no_label label options every n r s t title p waiting u v a b stop h k failure so
 
 -- the label of a page's symbol
 abbrev pub alone : Label → DrawOptions → PageSymbol → List ℕ
-alone label options page = page_alone (option_copied options.title) (page_of label options page.symbol)
+alone label options page = page_alone (option_copied options.title) (page_of_symbol label options page.symbol)
 
 pub is_drawn : (label : Label) (options : DrawOptions) (made : Result PageSymbol Stop) → is_ok (made_as (alone label options) made) ≡ is_ok made
 is_drawn label options (Ok page) = refl
@@ -174,12 +174,12 @@ is_drawn label options (Err stop) = refl
 
 pub made_step : (label : Label) (options : DrawOptions) (p q : PdfWritten) (waiting rest : List ℕ) (u v w a b c : SinkState) (m first : ℕ)
     (made : Result PageSymbol Stop) →
-    IfOk made (λ page. IsNextPage v w (page_of label options page.symbol) p waiting q rest) → w.failed ≡ false → IfOk made (λ page. c ≡ b) →
+    IfOk made (λ page. IsNextPage v w (page_of_symbol label options page.symbol) p waiting q rest) → w.failed ≡ false → IfOk made (λ page. c ≡ b) →
     IfErr made (λ stop. (w ≡ v) × ((q ≡ p) × (rest ≡ waiting)) × Reports b c (numbered_line (record { number = m; stop = stop }))) →
     (ds : List Made) → m ≡ length ds + first → so_far (option_copied options.title) p waiting u v a b first ds →
     so_far (option_copied options.title) q rest u w a c first (ds ++ made_as (alone label options) made ∷ [])
 made_step label options p q waiting rest u v w a b c m first (Ok page) next sound same out ds is h =
-    rw same (pages_step (option_copied options.title) p q waiting rest (page_of label options page.symbol) u v w a b m first
+    rw same (pages_step (option_copied options.title) p q waiting rest (page_of_symbol label options page.symbol) u v w a b m first
     next.writes sound next.flushed next.next_is next.rest_is ds is h)
 made_step label options p q waiting rest u v w a b c m first (Err stop) next sound same out ds is h =
     rw (out.0, out.1.0, out.1.1) (pages_left_out (option_copied options.title) p waiting u v a b c m first stop out.2.silent out.2.said ds is h)
@@ -188,10 +188,10 @@ pub made_stops : (label : Label) (options : DrawOptions) (every : Bool) (n : ℕ
     (u v w a b c : SinkState) (made : Result PageSymbol Stop) (stop : Stop) →
     DrawsBefore label options every n r.left s.left (so_far_place (option_copied options.title) p waiting u v a b label.first) →
     AreLabels label options s.left t.left (made_as (alone label options) made ∷ []) → v.failed ≡ false → t.failed ≡ false → IsOk made →
-    IfOk made (λ page. c ≡ b) → IfOk made (λ page. IsNoPage v w (page_of label options page.symbol) p waiting stop) →
+    IfOk made (λ page. c ≡ b) → IfOk made (λ page. IsNoPage v w (page_of_symbol label options page.symbol) p waiting stop) →
     IsLinesOutcome label options (input r t) (document (option_copied options.title) (output u w) label.first (output a c))
     (Err (record { number = n; stop = stop }))
 made_stops label options every n r s t p waiting u v w a b c (Ok page) stop h k sound read ok same why =
-    rw same (page_not_written label options every n r s t (option_copied options.title) p waiting (page_of label options page.symbol) u v w a b stop
+    rw same (page_not_written label options every n r s t (option_copied options.title) p waiting (page_of_symbol label options page.symbol) u v w a b stop
     h k sound read why)
 made_stops label options every n r s t p waiting u v w a b c (Err e) stop h k sound read ok same why = absurd (grind (arith, ok))

@@ -11,7 +11,7 @@ use Rattle.picture_settings.specs.declared.draw_options.DrawOptions.{DrawOptions
 use Rattle.label_words.specs.declared.command.Label.{Label}
 use Rattle.single_label.specs.declared.parts.TheConstants.{LONGEST_MESSAGE}
 use Rattle.single_label.specs.declared.stop.{Stop.Stop, Stop.TheVariants.Fault, Stop.TheVariants.Elements, Stop.TheVariants.NotAllowed, Stop.TheVariants.NoLink, Stop.TheVariants.Empty}
-use Rattle.single_label.specs.declared.stop.{Stop.TheVariants.NotAscii, Stop.TheVariants.TooLong, Stop.TheVariants.TooManyParts, Stop.TheVariants.TooManyPages}
+use Rattle.single_label.specs.declared.stop.{Stop.TheVariants.NoMicroText, Stop.TheVariants.TooLong, Stop.TheVariants.TooManyParts, Stop.TheVariants.TooManyPages}
 use Rattle.labels.specs.{FileStates.FilesState, FileStates.AddsFiles, Folders.part_files, Folders.PutsSome}
 use Rattle.label_words.specs.Names.{Numbering, numbered}
 use Rattle.single_label.specs.Parts.{IsMessageStop}
@@ -71,7 +71,7 @@ puts_none label options r s f name path bytes (NoLink error) read is sound whole
     record { puts = inl ((λ other. record { bytes = bytes; read = read; stopped = is }), adds_none f.files); read = grind (arith, sound); write = grind (arith, whole) }
 puts_none label options r s f name path bytes Empty read is sound whole =
     record { puts = inl ((λ other. record { bytes = bytes; read = read; stopped = is }), adds_none f.files); read = grind (arith, sound); write = grind (arith, whole) }
-puts_none label options r s f name path bytes NotAscii read is sound whole =
+puts_none label options r s f name path bytes NoMicroText read is sound whole =
     record { puts = inl ((λ other. record { bytes = bytes; read = read; stopped = is }), adds_none f.files); read = grind (arith, sound); write = grind (arith, whole) }
 puts_none label options r s f name path bytes (TooLong t) read is sound whole =
     record { puts = inl ((λ other. record { bytes = bytes; read = read; stopped = is }), adds_none f.files); read = grind (arith, sound); write = grind (arith, whole) }

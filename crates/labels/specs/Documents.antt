@@ -3,7 +3,8 @@ use Rattle.std.specs.Prelude.{◌≡◌, ◌≢◌, ◌⊎◌, IsTrue, ℕ, ◌<
 use Rattle.std.specs.Io.KnownBytes.{Appends}
 use Rattle.programs.specs.Devices.{Output, SinkState, Writes, output}
 use Rattle.qrcode_render.specs.Pdf.{PdfPage, pdf_document}
-use Rattle.qrcode_render.specs.PdfWritten.{PdfWritten, IsWritten, after_page, after_pages, next_page, next_pages, pdf_start, started}
+use Rattle.qrcode_render.specs.PdfPagesWritten.{PdfWritten, IsWritten, after_page, after_pages}
+use Rattle.qrcode_render.specs.PdfPagesWritten.{next_page, next_pages, pdf_start, started}
 use Rattle.picture_settings.specs.declared.bounds.TheConstants.{MAX_PDF}
 use Rattle.labels.specs.Lines.{Made, Place, left_out}
 use Rattle.programs.specs.declared.Fault.TheVariants.{Symbol, Write}
@@ -39,7 +40,7 @@ pub record WritesPages (title : Option (List ℕ)) (output : Output) (results : 
   pub flushed : pages ≢ [] → output.flushed ≡ output.after
 
 -- The whole document of the labels was written, and flushed.
-pub record WritesDocument (title : Option (List ℕ)) (output : Output) (results : List Made) : Type 0 where
+pub record WritesLabelPages (title : Option (List ℕ)) (output : Output) (results : List Made) : Type 0 where
   pub pages : List PdfPage
   pub are_pages : ArePages title results pages
   pub appends : Appends output.before output.after (document_text title pages)
@@ -83,7 +84,7 @@ pub record HasNoRoom (title : Option (List ℕ)) (output : Output) (results : Li
 abbrev pub document : (title : Option (List ℕ)) → Output → ℕ → Output → Place
 document title output first errors = record {
   whole = λ results. WritesPages title output results × Writes errors (left_out first results);
-  ended = λ results. WritesDocument title output results × Writes errors (left_out first results);
+  ended = λ results. WritesLabelPages title output results × Writes errors (left_out first results);
   broken = λ results next. WritesSomePages title output results next × Writes errors (left_out first results);
   full = λ results next. HasNoRoom title output results next × Writes errors (left_out first results);
   torn = λ results. WritesNoEnd title output results × Writes errors (left_out first results);

@@ -2,9 +2,9 @@ pub mod Documents
 pub mod FileStates
 pub mod Folders
 pub mod Lines
-pub mod MadeOf
+pub mod Stop
 pub mod Pieces
-pub mod Placed
+pub mod Devices
 pub mod Refusals
 pub mod Reports
 pub mod Runs

@@ -58,14 +58,14 @@ is_of_line TooManyPages = false
 is_of_line _ = true
 
 -- A line that has no label is left out, if this is asked for.
-pub record IsLeftOut (label : Label) (line : List ℕ) (stop : Stop) : Type 0 where
+pub record IsLineLeftOut (label : Label) (line : List ℕ) (stop : Stop) : Type 0 where
   pub asked : label.keeps_going ≡ true
   pub stopped : IsLabelStop label line stop
   pub of_line : is_of_line stop ≡ true
 
 abbrev pub GivesLine : Label → DrawOptions → List ℕ → Made → Type 0
 GivesLine label options line (Ok drawing) = ShowsLabel label options line drawing
-GivesLine label options line (Err stop) = IsLeftOut label line stop
+GivesLine label options line (Err stop) = IsLineLeftOut label line stop
 
 -- One thing comes of each line, and nothing else.
 abbrev pub GiveEach : (List ℕ → Made → Type 0) → List (List ℕ) → List Made → Type 0
@@ -101,8 +101,8 @@ abbrev pub drawing_in : Made → List ℕ
 drawing_in (Ok drawing) = drawing
 drawing_in (Err stop) = []
 
-abbrev pub joined : List Made → List ℕ
-joined results = flat_map drawing_in results
+abbrev pub joined_labels : List Made → List ℕ
+joined_labels results = flat_map drawing_in results
 
 -- A line for each that is left out, with its number; the first line of the input has number n.
 abbrev pub left_out : ℕ → List Made → List ℕ
@@ -112,13 +112,13 @@ left_out n (Err stop ∷ results) = numbered_line (record { number = n; stop = s
 
 -- The labels were written one after the other, and flushed. If there are none, nothing was.
 pub record WritesEach (output : Output) (results : List Made) : Type 0 where
-  pub appends : Appends output.before output.after (joined results)
-  pub flushed : joined results ≢ [] → output.flushed ≡ output.after
+  pub appends : Appends output.before output.after (joined_labels results)
+  pub flushed : joined_labels results ≢ [] → output.flushed ≡ output.after
 
 -- The labels were written, and a beginning of the next.
 pub record WritesSome (output : Output) (results : List Made) (next : List ℕ) : Type 0 where
   pub count : ℕ
-  pub appends : Appends output.before output.after (joined results ++ take count next)
+  pub appends : Appends output.before output.after (joined_labels results ++ take count next)
 
 -- One output for all labels.
 abbrev pub stream : Output → ℕ → Output → Place
@@ -149,14 +149,14 @@ pub record DrawsBefore (label : Label) (options : DrawOptions) (every : Bool) (n
   pub written : place.whole results
 
 -- The place, where this is to be known of the labels that were written.
-abbrev pub place_of : (List Made → Type 0) → Place → Place
-place_of whole place = record place { whole = whole }
+abbrev pub known_place : (List Made → Type 0) → Place → Place
+known_place whole place = record place { whole = whole }
 
 -- The labels of all lines were written, and what comes after the last.
 pub record DrawsLines (label : Label) (options : DrawOptions) (every : Bool) (input : Input)
     (place : Place) : Type 0 where
   pub number : ℕ
-  pub drawn : DrawsBefore label options every number input.before input.after (place_of place.ended place)
+  pub drawn : DrawsBefore label options every number input.before input.after (known_place place.ended place)
   pub ended : IsAtEnd input.after
 
 -- The labels of the lines before the line of this number were written, and no more. `reads` says
@@ -178,8 +178,8 @@ pub record BreaksAt (label : Label) (options : DrawOptions) (number : ℕ) (inpu
   pub counted : number ≡ length results + label.first
   pub broken : place.broken results next
 
--- The labels of the lines before the line of this number were written, and there is no room for its
--- own.
+-- The labels of the lines before the line of this number were written, and there is no room for
+-- its own.
 pub record FillsAt (label : Label) (options : DrawOptions) (number : ℕ) (input : Input)
     (place : Place) : Type 0 where
   pub results : List Made
@@ -193,7 +193,7 @@ pub record FillsAt (label : Label) (options : DrawOptions) (number : ℕ) (input
 pub record TearsAt (label : Label) (options : DrawOptions) (number : ℕ) (input : Input)
     (place : Place) : Type 0 where
   pub every : Bool
-  pub drawn : DrawsBefore label options every number input.before input.after (place_of place.torn place)
+  pub drawn : DrawsBefore label options every number input.before input.after (known_place place.torn place)
   pub ended : IsAtEnd input.after
 
 -- The line that was read has no label, for this reason.
@@ -220,9 +220,9 @@ WritesUntil label options number stop input place =
     StopsAtLine label options number (StopsOrLacks label stop) input place
 
 -- What is written for an outcome. On success the labels of all lines, and the outcome says whether
--- none was left out. Where reading failed, or a line has no label and is not left out, the labels of
--- the lines before this one. Where writing failed, these, and of the next, or of what comes after the
--- last, no more than a beginning.
+-- none was left out. Where reading failed, or a line has no label and is not left out, the labels
+-- of the lines before this one. Where writing failed, these, and of the next, or of what comes
+-- after the last, no more than a beginning.
 abbrev pub WritesLinesOutcome : Label → DrawOptions → Input → Place → Result Bool LineStop → Type 0
 WritesLinesOutcome label options input place (Ok every) = DrawsLines label options every input place
 WritesLinesOutcome label options input place (Err at) =

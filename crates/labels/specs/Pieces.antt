@@ -8,8 +8,8 @@ abbrev pub line_of : List ℕ → List (List ℕ) → List ℕ
 line_of name pieces = name ++ (codes ": " ++ (flat_map (λ piece. piece) pieces ++ 10 ∷ []))
 
 -- The number of an element, counted from 1, as far as 64 bits go.
-abbrev pub counted : ℕ → ℕ
-counted n = min (n + 1) (2 ^ 64 - 1)
+abbrev pub counted_from_one : ℕ → ℕ
+counted_from_one n = min (n + 1) (2 ^ 64 - 1)
 
 -- A digit as a text; of another byte there is none.
 abbrev pub digit_text : ℕ → List ℕ

@@ -1,10 +1,10 @@
--- Why the table of identifiers does not allow GS1 elements, or why there is no link of them, as a
--- line.
+-- Why the table of identifiers does not allow GS1 elements, or why there is no link of them, as
+-- a line.
 use Rattle.std.specs.Prelude.{ℕ, ◌+◌, nat_lt, List, [], ◌∷◌, codes, decimal, if◌then◌else◌}
 use Rattle.gs1_links.specs.declared.link_error.LinkError.{LinkError}
 use Rattle.gs1_links.specs.declared.link_error.LinkError.TheVariants.{TextTooLong, Elements, WrongDomain}
 use Rattle.gs1_links.specs.declared.link_error.LinkError.TheVariants.{NoKey, SecondKey, WrongQualifier}
-use Rattle.gs1_links.specs.declared.link_error.LinkError.TheVariants.{RepeatedElement}
+use Rattle.gs1_links.specs.declared.link_error.LinkError.TheVariants.{RepeatedElement, Together}
 use Rattle.gs1_links.specs.declared.link_error.LinkError.TheVariants.{OutOfMemory as NoMemory}
 use Rattle.gs1.specs.declared.reason.Reason.{Reason}
 use Rattle.gs1.specs.declared.reason.Reason.TheVariants.{TooShort, TooLong, WrongCharacter}
@@ -20,53 +20,56 @@ use Rattle.gs1.specs.declared.reason.Reason.TheVariants.{WrongIban, WrongImporte
 use Rattle.gs1.specs.declared.refusal.CheckError.{CheckError}
 use Rattle.gs1.specs.declared.refusal.CheckError.TheVariants.{NoElements, InvalidIdentifier}
 use Rattle.gs1.specs.declared.refusal.CheckError.TheVariants.{UnknownIdentifier, WrongValue, OutOfMemory}
-use Rattle.labels.specs.Pieces.{line_of, counted, digit_text, unless_zero}
+use Rattle.gs1.specs.declared.together.TogetherError.{TogetherError}
+use Rattle.gs1.specs.declared.together.TogetherError.TheVariants.{MissingElement, ConflictingElement}
+use Rattle.gs1.specs.declared.together.TogetherError.TheVariants.{TextTooLong as LongText}
+use Rattle.labels.specs.Pieces.{line_of, counted_from_one, digit_text, unless_zero}
 
 -- What is wrong with a value.
-abbrev pub reason_text : Reason → List ℕ
-reason_text TooShort = codes "the value is too short"
-reason_text TooLong = codes "the value is too long"
-reason_text (WrongCharacter byte) = codes "a character that is not allowed there"
-reason_text (WrongCheckDigit right) = codes "wrong check digit"
-reason_text (WrongCheckPair first second) = codes "wrong pair of check characters"
-reason_text NoCompanyPrefix = codes "the key begins with no GS1 Company Prefix"
-reason_text WrongMonth = codes "no such month"
-reason_text WrongDay = codes "no such day"
-reason_text WrongHour = codes "no such hour"
-reason_text WrongMinute = codes "no such minute"
-reason_text WrongSecond = codes "no such second"
-reason_text WrongCountry = codes "no such country"
-reason_text WrongCurrency = codes "no such currency"
-reason_text WrongFlag = codes "neither 0 nor 1"
-reason_text WrongPiece = codes "no piece of this total"
-reason_text WrongWinding = codes "no direction of winding"
-reason_text NoZero = codes "not zero"
-reason_text OnlyZeros = codes "only zeros"
-reason_text LeadingZero = codes "a zero before other digits"
-reason_text WrongEscape = codes "a percent sign without two hexadecimal digits"
-reason_text WrongLatitude = codes "no such latitude"
-reason_text WrongLongitude = codes "no such longitude"
-reason_text NoMinus = codes "not a minus sign"
-reason_text WrongMedia = codes "no such media type"
-reason_text WrongSex = codes "no such sex"
-reason_text WrongSequence = codes "no place in a sequence"
-reason_text WrongIban = codes "wrong bank account number"
-reason_text WrongImporter = codes "no importer index"
+abbrev pub value_reason_text : Reason → List ℕ
+value_reason_text TooShort = codes "the value is too short"
+value_reason_text TooLong = codes "the value is too long"
+value_reason_text (WrongCharacter byte) = codes "a character that is not allowed there"
+value_reason_text (WrongCheckDigit right) = codes "wrong check digit"
+value_reason_text (WrongCheckPair first second) = codes "wrong pair of check characters"
+value_reason_text NoCompanyPrefix = codes "the key begins with no GS1 Company Prefix"
+value_reason_text WrongMonth = codes "no such month"
+value_reason_text WrongDay = codes "no such day"
+value_reason_text WrongHour = codes "no such hour"
+value_reason_text WrongMinute = codes "no such minute"
+value_reason_text WrongSecond = codes "no such second"
+value_reason_text WrongCountry = codes "no such country"
+value_reason_text WrongCurrency = codes "no such currency"
+value_reason_text WrongFlag = codes "neither 0 nor 1"
+value_reason_text WrongPiece = codes "no piece of this total"
+value_reason_text WrongWinding = codes "no direction of winding"
+value_reason_text NoZero = codes "not zero"
+value_reason_text OnlyZeros = codes "only zeros"
+value_reason_text LeadingZero = codes "a zero before other digits"
+value_reason_text WrongEscape = codes "a percent sign without two hexadecimal digits"
+value_reason_text WrongLatitude = codes "no such latitude"
+value_reason_text WrongLongitude = codes "no such longitude"
+value_reason_text NoMinus = codes "not a minus sign"
+value_reason_text WrongMedia = codes "no such media type"
+value_reason_text WrongSex = codes "no such sex"
+value_reason_text WrongSequence = codes "no place in a sequence"
+value_reason_text WrongIban = codes "wrong bank account number"
+value_reason_text WrongImporter = codes "no importer index"
 
 -- The check digit that would be right in ASCII, or 0 if another thing is wrong.
-abbrev pub right_digit : Reason → ℕ
-right_digit (WrongCheckDigit right) = if nat_lt right 10 then 48 + right else 0
-right_digit reason = 0
+abbrev pub right_digit_byte : Reason → ℕ
+right_digit_byte (WrongCheckDigit right) = if nat_lt right 10 then 48 + right else 0
+right_digit_byte reason = 0
 
 -- What stands before the number of an identifier, which has two digits at least.
 abbrev pub opening_text : ℕ → List ℕ
 opening_text identifier = if nat_lt identifier 10 then codes "(0" else codes "("
 
 -- The line of an element by its identifier and its number, and what is wrong with it.
-abbrev pub at_element : List ℕ → (element identifier : ℕ) → List ℕ → List ℕ
-at_element name element identifier text =
+abbrev pub element_fault_line : List ℕ → (element identifier : ℕ) → List ℕ → List ℕ
+element_fault_line name element identifier text =
     line_of name (opening_text identifier ∷ decimal identifier ∷ codes "), element "
-    ∷ decimal (counted element) ∷ text ∷ [])
+    ∷ decimal (counted_from_one element) ∷ text ∷ [])
 
 -- The line of elements that the table does not allow: the element by its identifier and its number,
 -- the character of its value, both counted from 1, what is wrong, and what would be right. Example:
@@ -74,17 +77,28 @@ at_element name element identifier text =
 unfoldable pub refusal_line : List ℕ → CheckError → List ℕ
 refusal_line name NoElements = line_of name (codes "no elements, which are written as in (01)09506000134352" ∷ [])
 refusal_line name (InvalidIdentifier element) =
-    line_of name (codes "element " ∷ decimal (counted element)
+    line_of name (codes "element " ∷ decimal (counted_from_one element)
     ∷ codes ": the identifier is cut short, or not two to four digits" ∷ [])
 refusal_line name (UnknownIdentifier element identifier) =
-    at_element name element identifier (codes ": unknown identifier")
+    element_fault_line name element identifier (codes ": unknown identifier")
 refusal_line name (WrongValue element identifier place reason) =
     line_of name (opening_text identifier ∷ decimal identifier ∷ codes "), element "
-    ∷ decimal (counted element) ∷ codes ", character " ∷ decimal (counted place) ∷ codes ": "
-    ∷ reason_text reason
-    ∷ unless_zero (right_digit reason) (codes "; the check digit would be ")
-    ∷ digit_text (right_digit reason) ∷ [])
+    ∷ decimal (counted_from_one element) ∷ codes ", character " ∷ decimal (counted_from_one place) ∷ codes ": "
+    ∷ value_reason_text reason
+    ∷ unless_zero (right_digit_byte reason) (codes "; the check digit would be ")
+    ∷ digit_text (right_digit_byte reason) ∷ [])
 refusal_line name OutOfMemory = line_of name (codes "out of memory" ∷ [])
+
+-- The line of elements that may not stand together. Example: `(37), element 2: an element that has
+-- to stand beside it is missing`.
+abbrev pub apart_line : List ℕ → TogetherError → List ℕ
+apart_line name LongText = line_of name (codes "more than 11815 bytes of elements" ∷ [])
+apart_line name (MissingElement element identifier) =
+    element_fault_line name element identifier (codes ": an element that has to stand beside it is missing")
+apart_line name (ConflictingElement element identifier other) =
+    line_of name (opening_text identifier ∷ decimal identifier ∷ codes "), element "
+    ∷ decimal (counted_from_one element) ∷ codes ": element " ∷ decimal (counted_from_one other)
+    ∷ codes " may not stand beside it" ∷ [])
 
 -- The line of elements of which there is no link.
 unfoldable pub no_link_line : List ℕ → LinkError → List ℕ
@@ -95,10 +109,11 @@ no_link_line name WrongDomain =
 no_link_line name NoKey =
     line_of name (codes "no element is the key of a link, as (01), (00) or (414) are" ∷ [])
 no_link_line name (SecondKey element) =
-    line_of name (codes "element " ∷ decimal (counted element)
+    line_of name (codes "element " ∷ decimal (counted_from_one element)
     ∷ codes ": a link has one key, and there is another after this one" ∷ [])
 no_link_line name (WrongQualifier element identifier) =
-    at_element name element identifier (codes ": no qualifier of the link's key, or not beside another one")
+    element_fault_line name element identifier (codes ": no qualifier of the link's key, or not beside another one")
 no_link_line name (RepeatedElement element identifier) =
-    at_element name element identifier (codes ": the identifier stands once more after it")
+    element_fault_line name element identifier (codes ": the identifier stands once more after it")
+no_link_line name (Together error) = apart_line name error
 no_link_line name NoMemory = line_of name (codes "out of memory" ∷ [])

@@ -10,11 +10,11 @@ use Rattle.programs.specs.Reasons.{device_report, device_status}
 use Rattle.programs.specs.declared.Fault.TheVariants.{Symbol, Read, Write}
 use Rattle.qrcode_base.specs.declared.symbols.TheConstants.{LONGEST_DATA}
 use Rattle.qrcode_core.specs.declared.types.errors.QrError.TheVariants.{OutOfMemory}
-use Rattle.picture_settings.specs.Made.{IsMadeOf}
+use Rattle.picture_settings.specs.DrawOptions.{IsMadeOf}
 use Rattle.picture_settings.specs.Settings.{invalid_setting}
 use Rattle.picture_settings.specs.declared.draw_options.DrawOptions.{DrawOptions}
 use Rattle.picture_settings.specs.declared.settings.Setting.{Setting}
-use Rattle.label_words.specs.Asked.{label_of}
+use Rattle.label_words.specs.CommandOutcomes.{label_of}
 use Rattle.label_words.specs.Commands.{Command, asks_help, asks_version, asks_label}
 use Rattle.label_words.specs.Help.{help_text, version_line}
 use Rattle.labels.specs.FileStates.{FilesState, AddsFiles}

@@ -12,14 +12,15 @@ use Rattle.programs.specs.declared.Fault.{Fault as FaultOf}
 use Rattle.programs.specs.declared.Fault.TheVariants.{Read, Write}
 use Rattle.programs.specs.declared.reasons.TheConstants.{CLOSED_PIPE}
 use Rattle.single_label.specs.Faults.{element_number}
-use Rattle.labels.specs.Pieces.{line_of, counted, digit_text, unless_zero}
+use Rattle.labels.specs.Pieces.{line_of, counted_from_one, digit_text, unless_zero}
 use Rattle.labels.specs.Refusals.{refusal_line, no_link_line}
 use Rattle.single_label.specs.declared.stop.ElementStop.{ElementStop}
 use Rattle.labels.specs.declared.stop.LineStop.{LineStop}
 use Rattle.single_label.specs.declared.stop.Stop.{Stop}
 use Rattle.single_label.specs.declared.stop.Stop.TheVariants.{Fault, Elements, NotAllowed, NoLink}
-use Rattle.single_label.specs.declared.stop.Stop.TheVariants.{Empty, NotAscii, TooLong}
+use Rattle.single_label.specs.declared.stop.Stop.TheVariants.{Empty, NoMicroText, TooLong}
 use Rattle.single_label.specs.declared.stop.Stop.TheVariants.{TooManyParts, TooManyPages}
+use Rattle.single_label.specs.declared.stop.TextLength.{TextLength}
 use Rattle.single_label.specs.declared.stop.TooLong.{TooLong as TooLongOf}
 use Rattle.qrcode_base.specs.Names.{level_text}
 use Rattle.qrcode_base.specs.declared.symbols.TheConstants.{LONGEST_DATA}
@@ -49,14 +50,14 @@ element_line name at =
           ∷ digit_text (slice_index at.identifier 0) ∷ digit_text (slice_index at.identifier 1)
           ∷ digit_text (slice_index at.identifier 2) ∷ digit_text (slice_index at.identifier 3)
           ∷ unless_zero (slice_index at.identifier 0) (codes "), ")
-          ∷ codes "element " ∷ decimal (counted n) ∷ codes ": " ∷ element_text at.error
+          ∷ codes "element " ∷ decimal (counted_from_one n) ∷ codes ": " ∷ element_text at.error
           ∷ unless_zero at.digit (codes "; the check digit would be ") ∷ digit_text at.digit ∷ [])
       | None ↦ line_of name (element_text at.error ∷ [])
     ]
 
--- Text in a Micro symbol.
-abbrev pub not_ascii_text : List ℕ
-not_ascii_text = codes "a Micro symbol has no text beyond ASCII, see -c micro-bytes"
+-- A text that no Micro symbol is read as.
+abbrev pub no_micro_text : List ℕ
+no_micro_text = codes "no Micro symbol is read as this text, see -c micro-bytes"
 
 -- The level and the greatest version that a symbol could have, as an error calls them.
 abbrev pub version_kind : Version → List ℕ
@@ -64,16 +65,16 @@ version_kind (Normal number) = codes " up to version "
 version_kind (Micro number) = codes " up to version M"
 
 abbrev pub level_piece : EcLevel → Version → List ℕ
-level_piece level version = codes " bytes, and level " ++ (level_text level ++ version_kind version)
+level_piece level version = codes ", and level " ++ (level_text level ++ version_kind version)
 
-abbrev pub version_number : Version → ℕ
-version_number (Normal number) = nat_abs number
-version_number (Micro number) = nat_abs number
+abbrev pub printed_version : Version → ℕ
+printed_version (Normal number) = nat_abs number
+printed_version (Micro number) = nat_abs number
 
 -- The lower level at which there is a symbol.
 abbrev pub fits_piece : Option EcLevel → List ℕ
-fits_piece None = codes " digits"
-fits_piece (Some level) = codes " digits; it fits level " ++ level_text level
+fits_piece None = []
+fits_piece (Some level) = codes "; it fits level " ++ level_text level
 
 -- Several symbols can carry the content together.
 abbrev pub split_piece : Bool → List ℕ
@@ -82,30 +83,39 @@ split_piece splits = if splits then codes "; see --split" else []
 abbrev pub rest_piece : Option EcLevel → Bool → List ℕ
 rest_piece fits splits = fits_piece fits ++ split_piece splits
 
--- More bytes than any symbol holds.
+-- More bytes than one label takes.
 abbrev pub many_text : Bool → List ℕ
-many_text splits = codes "data too long: more than 7089 bytes, which no symbol holds" ++ split_piece splits
+many_text splits = codes "data too long: more than 7089 bytes" ++ split_piece splits
 
 -- More bytes than the symbols of a sequence hold.
 abbrev pub parts_text : List ℕ
 parts_text = codes "data too long: no 16 symbols hold it at this level up to --max-version"
 
 -- More pages than a document has room for.
-abbrev pub pages_text : List ℕ
-pages_text = codes "no room for the page: a PDF document has at most 9999999999 bytes"
+abbrev pub no_room_text : List ℕ
+no_room_text = codes "no room for the page: a PDF document has at most 9999999999 bytes"
 
 -- The line of a content that is too long.
 unfoldable pub room_line : List ℕ → TooLongOf → List ℕ
 room_line name long =
-    line_of name (codes "data too long: " ∷ decimal long.length ∷ level_piece long.level long.version
-    ∷ decimal (version_number long.version) ∷ codes " has room for " ∷ decimal long.bytes
-    ∷ codes " bytes or " ∷ decimal long.digits ∷ rest_piece long.fits long.can_be_split ∷ [])
+    line_of name (codes "data too long: " ∷ decimal long.length ∷ codes " bytes"
+    ∷ level_piece long.level long.version ∷ decimal (printed_version long.version)
+    ∷ codes " has room for " ∷ decimal long.bytes ∷ codes " bytes or " ∷ decimal long.digits
+    ∷ codes " digits" ∷ rest_piece long.fits long.can_be_split ∷ [])
+
+-- The line of a text beyond ASCII that is too long, by the bits that it takes.
+unfoldable pub bits_line : List ℕ → TooLongOf → TextLength → List ℕ
+bits_line name long found =
+    line_of name (codes "data too long: " ∷ decimal found.bits ∷ codes " bits"
+    ∷ level_piece long.level long.version ∷ decimal (printed_version long.version)
+    ∷ codes " has room for " ∷ decimal found.room ∷ codes " bits"
+    ∷ rest_piece long.fits long.can_be_split ∷ [])
 
 unfoldable pub long_line : List ℕ → TooLongOf → List ℕ
 long_line name long =
     if nat_lt LONGEST_DATA long.length
     then line_of name (many_text long.can_be_split ∷ [])
-    else room_line name long
+    else elim long.text [ Some found ↦ bits_line name long found | None ↦ room_line name long ]
 
 -- The line that says why there is no label.
 unfoldable pub stop_line : List ℕ → Stop → List ℕ
@@ -114,10 +124,10 @@ stop_line name (Elements at) = element_line name at
 stop_line name (NotAllowed error) = refusal_line name error
 stop_line name (NoLink error) = no_link_line name error
 stop_line name Empty = line_of name (codes "empty input, see --allow-empty" ∷ [])
-stop_line name NotAscii = line_of name (not_ascii_text ∷ [])
+stop_line name NoMicroText = line_of name (no_micro_text ∷ [])
 stop_line name (TooLong long) = long_line name long
 stop_line name TooManyParts = line_of name (parts_text ∷ [])
-stop_line name TooManyPages = line_of name (pages_text ∷ [])
+stop_line name TooManyPages = line_of name (no_room_text ∷ [])
 
 -- The same of a line of the input, with its number.
 abbrev pub numbered_line : LineStop → List ℕ

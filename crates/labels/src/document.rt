@@ -9,11 +9,11 @@ ghost use Rattle.std.specs.Option.{option_copied};
 ghost use Rattle.programs.specs.Devices.{input, output, Writes};
 ghost use Rattle.programs.specs.declared.Fault.TheVariants.{Symbol as SymbolFault, Write};
 ghost use Rattle.qrcode_core.specs.declared.types.errors.QrError.TheVariants.{OutOfMemory};
-ghost use Rattle.qrcode_render.specs.PdfWritten.{after_page, next_page, pdf_end};
+ghost use Rattle.qrcode_render.specs.PdfPagesWritten.{after_page, next_page, pdf_end};
 ghost use Rattle.picture_settings.specs.declared.bounds.TheConstants.{MAX_PDF};
 ghost use Rattle.labels.specs.Documents.{IsNextPage, IsNoPage, IsWrittenSoFar, document};
 ghost use Rattle.labels.specs.Lines.{IsLinesOutcome};
-ghost use Rattle.single_label.specs.Pages.{are_pages, page_of};
+ghost use Rattle.single_label.specs.Pages.{are_pages, page_of_symbol};
 ghost use Rattle.labels.specs.Reports.{Reports};
 ghost use Rattle.labels.specs.Stops.{numbered_line};
 ghost use Rattle.single_label.specs.declared.stop.Stop.TheVariants.{Fault as FaultStop};
@@ -57,12 +57,12 @@ fn add_page(
     begun: &mut Document,
 ) -> Result<(), Stop>
     ensures page { OnOk result (begun.new.waiting.items ≡ begun.old.waiting.items
-        ++ next_page begun.old.pages (page_of label.now options.now page.now.symbol)) }
+        ++ next_page begun.old.pages (page_of_symbol label.now options.now page.now.symbol)) }
     ensures after { OnOk result (begun.new.pages
-        ≡ after_page begun.old.pages (page_of label.now options.now page.now.symbol)) }
-    ensures refused { IfErr result (λ stop. (stop ≡ FaultStop (SymbolFault OutOfMemory))
+        ≡ after_page begun.old.pages (page_of_symbol label.now options.now page.now.symbol)) }
+    ensures refusal { IfErr result (λ stop. (stop ≡ FaultStop (SymbolFault OutOfMemory))
         ⊎ ((stop ≡ TooManyPages) × (MAX_PDF < (after_page begun.old.pages
-        (page_of label.now options.now page.now.symbol)).size))) }
+        (page_of_symbol label.now options.now page.now.symbol)).size))) }
 {
     match page_turned(alloc, &page.symbol, label.turn, options, &mut begun.pages) {
         Ok(bytes) => Ok(begun.waiting.extend_from_slice(&bytes)?),
@@ -84,10 +84,10 @@ fn put_page<W: Sink>(
     requires { IsFalse (W.state writer.old).failed }
     ensures sound { OnOk result (IsFalse (W.state writer.new).failed) }
     ensures page { OnOk result (IsNextPage (W.state writer.old) (W.state writer.new)
-        (page_of label.now options.now page.now.symbol) begun.old.pages begun.old.waiting.items
-        begun.new.pages begun.new.waiting.items) }
+        (page_of_symbol label.now options.now page.now.symbol)
+        begun.old.pages begun.old.waiting.items begun.new.pages begun.new.waiting.items) }
     ensures broken { IfErr result (IsNoPage (W.state writer.old) (W.state writer.new)
-        (page_of label.now options.now page.now.symbol) begun.old.pages
+        (page_of_symbol label.now options.now page.now.symbol) begun.old.pages
         begun.old.waiting.items) }
 {
     match add_page(alloc, label, options, page, begun) {
@@ -145,7 +145,7 @@ fn write_page<W: Sink, E: Sink>(
     ensures drawn { IfOk result (λ is_drawn. is_drawn ≡ is_ok made) }
     ensures sound { OnOk result (IsFalse (W.state writer.new).failed) }
     ensures page { OnOk result (IfOk made (λ page. IsNextPage (W.state writer.old)
-        (W.state writer.new) (page_of label.now options.now page.symbol) begun.old.pages
+        (W.state writer.new) (page_of_symbol label.now options.now page.symbol) begun.old.pages
         begun.old.waiting.items begun.new.pages begun.new.waiting.items)) }
     ensures same { IfOk made (λ page. E.state errors.new ≡ E.state errors.old) }
     ensures left_out { IfErr made (λ stop. (W.state writer.new ≡ W.state writer.old)
@@ -155,7 +155,7 @@ fn write_page<W: Sink, E: Sink>(
         (numbered_line (record { number = number; stop = stop }))) }
     ensures broken { IfErr result (λ at. (at.number ≡ number) × IsOk made
         × IfOk made (λ page. IsNoPage (W.state writer.old) (W.state writer.new)
-        (page_of label.now options.now page.symbol) begun.old.pages begun.old.waiting.items
+        (page_of_symbol label.now options.now page.symbol) begun.old.pages begun.old.waiting.items
         at.stop)) }
 {
     match made {

@@ -69,7 +69,7 @@ fn put_made<F: Files, E: Sink>(
         × AddsFiles (F.state files.old).files (F.state files.new).files []
         × (((at.stop ≡ FaultStop Write) × IsTrue (F.state files.new).failed)
         ⊎ ((at.stop ≡ FaultStop (Symbol OutOfMemory)) × (F.state files.new ≡ F.state files.old)))) }
-    ensures named { IfErr result (λ at. at.stop ≡ FaultStop Write →
+    ensures numbered { IfErr result (λ at. at.stop ≡ FaultStop Write →
         string_bytes path.new ≡ numbered (numbering_of name.now) number) }
 {
     match made {
@@ -91,9 +91,9 @@ fn put_made<F: Files, E: Sink>(
     }
 }
 
-/// Writes the label of each line into a file of its own, whose name has the number of the line. It
-/// returns and fails as `draw_lines` does. `path` is the name of the file that could not be
-/// written.
+/// Writes the label of each line into a file of its own, whose name has the number of the
+/// line. It returns and fails as `draw_lines` does. `path` is the name of the file that could
+/// not be written.
 #[tactic(auto, using(crate::proofs::LabelLemmas::drawn))]
 pub fn draw_files<R: Source, F: Files, E: Sink>(
     alloc: Global,
@@ -111,7 +111,7 @@ pub fn draw_files<R: Source, F: Files, E: Sink>(
         (input (R.state reader.old) (R.state reader.new))
         (folder (F.state files.old) (F.state files.new) label.now.first (numbering_of name.now)
         (output (E.state errors.old) (E.state errors.new))) result }
-    ensures named { IfErr result (λ at. at.stop ≡ FaultStop Write →
+    ensures numbered { IfErr result (λ at. at.stop ≡ FaultStop Write →
         string_bytes path.new ≡ numbered (numbering_of name.now) at.number) }
 {
     let mut line = Vec::new(alloc);

@@ -6,7 +6,7 @@ ghost use Rattle.programs.specs.declared.Fault.TheVariants.{Read, Write};
 ghost use Rattle.single_label.specs.declared.stop.Stop.TheVariants.{Fault as FaultStop};
 ghost use Rattle.labels.specs.Lines.{IsLinesOutcome, AreLabels, IsEnded, StopsNext, stream};
 ghost use Rattle.labels.specs.Lines.{is_of_line};
-ghost use Rattle.labels.specs.MadeOf.{made_as};
+ghost use Rattle.labels.specs.Stop.{made_as};
 ghost use Rattle.labels.specs.Reports.{Reports};
 ghost use Rattle.labels.specs.Stops.{numbered_line};
 
@@ -35,7 +35,7 @@ fn is_of_line(stop: Stop) -> bool
         Stop::Elements(at) => at.error != Gs1Error::OutOfMemory,
         Stop::NotAllowed(error) => error != CheckError::OutOfMemory,
         Stop::NoLink(error) => error != LinkError::OutOfMemory,
-        Stop::Empty | Stop::NotAscii | Stop::TooLong(_) | Stop::TooManyParts => true,
+        Stop::Empty | Stop::NoMicroText | Stop::TooLong(_) | Stop::TooManyParts => true,
     }
 }
 
@@ -56,7 +56,7 @@ pub fn next_made<S: Shown, R: Source>(
         (λ made. AreLabels label.now options.now
         (R.state reader.old).left (R.state reader.new).left
         (made_as (S.drawing label.now options.now) made ∷ []))) }
-    ensures refused { IfErr result
+    ensures refusal { IfErr result
         (StopsNext label.now (R.state reader.old).left (R.state reader.new).left) }
     ensures failure { IsErrOf result (FaultStop Read) ↔ IsTrue (R.state reader.new).failed }
 {

@@ -7,7 +7,7 @@ ghost use Rattle.programs.specs.declared.Fault.TheVariants.{Symbol, Write};
 ghost use Rattle.qrcode_core.specs.declared.types.errors.QrError.TheVariants.{OutOfMemory};
 ghost use Rattle.labels.specs.FileStates.{AddsFiles};
 ghost use Rattle.labels.specs.Folders.{part_files, PutsSome};
-ghost use Rattle.labels.specs.MadeOf.{made_of};
+ghost use Rattle.labels.specs.Stop.{made_of};
 ghost use Rattle.label_words.specs.Names.{numbered};
 ghost use Rattle.label_words.specs.Numberings.{numbering_of};
 ghost use Rattle.labels.specs.Runs.{IsPartsOutcome};
@@ -64,7 +64,7 @@ fn put_parts<F: Files>(
     ensures sound { OnOk result (IsFalse (F.state files.new).failed) }
     ensures put { OnOk result (AddsFiles (F.state files.old).files (F.state files.new).files
         (part_files (numbering_of name.now) 1 (map vec_items drawings.now))) }
-    ensures some { IfErr result (λ stop. PutsSome (numbering_of name.now)
+    ensures begun { IfErr result (λ stop. PutsSome (numbering_of name.now)
         (map vec_items drawings.now) (F.state files.old) (F.state files.new) stop
         (string_bytes path.new)) }
 {

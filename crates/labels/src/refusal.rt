@@ -3,12 +3,13 @@
 ghost use Rattle.std.specs.Prelude.{◌≡◌, IsFalse};
 ghost use Rattle.gs1_links.specs.declared.link_error.LinkError.TheVariants.{SecondKey};
 ghost use Rattle.gs1.specs.declared.refusal.CheckError.TheVariants.{InvalidIdentifier, WrongValue};
+ghost use Rattle.gs1.specs.declared.together.TogetherError.TheVariants.{ConflictingElement};
 ghost use Rattle.programs.specs.Devices.{output, Writes};
-ghost use Rattle.labels.specs.Refusals.{refusal_line, opening_text, reason_text, right_digit};
-ghost use Rattle.labels.specs.Refusals.{at_element, no_link_line};
+ghost use Rattle.labels.specs.Refusals.{refusal_line, opening_text, value_reason_text, right_digit_byte};
+ghost use Rattle.labels.specs.Refusals.{element_fault_line, no_link_line, apart_line};
 
 use crate::pieces::{NO_ELEMENTS, WOULD_BE, digit_text, unless_zero};
-use gs1::{CheckError, Reason};
+use gs1::{CheckError, Reason, TogetherError};
 use gs1_links::LinkError;
 use itoa::Buffer;
 use programs::{Fault, Sink, write_line};
@@ -19,6 +20,11 @@ const UNKNOWN: &str = ": unknown identifier";
 const NO_QUALIFIER: &str = ": no qualifier of the link's key, or not beside another one";
 
 const REPEATED: &str = ": the identifier stands once more after it";
+
+const MISSING: &str = ": an element that has to stand beside it is missing";
+
+/// What is wrong with a text of elements.
+const LONG_TEXT: &str = "more than 11815 bytes of elements";
 
 /// What is wrong with a domain, or with all elements.
 const WRONG_DOMAIN: &str = "the domain of a link is a host name, with a port or without";
@@ -72,7 +78,7 @@ fn write_element_line<E: Sink>(
 ) -> Result<(), Fault>
     requires { IsFalse (E.state errors.old).failed }
     ensures { Writes (output (E.state errors.old) (E.state errors.new))
-        (at_element name.now at.0 at.1 text.now) }
+        (element_fault_line name.now at.0 at.1 text.now) }
 {
     let (element, identifier) = at;
     let (mut digits, mut number) = (Buffer::new(), Buffer::new());
@@ -97,7 +103,7 @@ pub fn write_no_link<E: Sink>(errors: &mut E, name: &str, error: LinkError) -> R
         (no_link_line name.now error) }
 {
     match error {
-        LinkError::TextTooLong => write_line(errors, name, &["more than 11815 bytes of elements"]),
+        LinkError::TextTooLong => write_line(errors, name, &[LONG_TEXT]),
         LinkError::Elements(error) => write_refusal(errors, name, error),
         LinkError::WrongDomain => write_line(errors, name, &[WRONG_DOMAIN]),
         LinkError::NoKey => write_line(errors, name, &[NO_KEY]),
@@ -110,8 +116,57 @@ pub fn write_no_link<E: Sink>(errors: &mut E, name: &str, error: LinkError) -> R
             element,
             identifier,
         } => write_element_line(errors, name, (element, identifier), REPEATED),
+        LinkError::Together(error) => write_apart(errors, name, error),
         LinkError::OutOfMemory => write_line(errors, name, &["out of memory"]),
     }
+}
+
+/// Writes the line of elements that may not stand together.
+fn write_apart<E: Sink>(errors: &mut E, name: &str, error: TogetherError) -> Result<(), Fault>
+    requires { IsFalse (E.state errors.old).failed }
+    ensures { Writes (output (E.state errors.old) (E.state errors.new))
+        (apart_line name.now error) }
+{
+    match error {
+        TogetherError::TextTooLong => write_line(errors, name, &[LONG_TEXT]),
+        TogetherError::MissingElement {
+            element,
+            identifier,
+        } => write_element_line(errors, name, (element, identifier), MISSING),
+        TogetherError::ConflictingElement {
+            element,
+            identifier,
+            other,
+        } => write_conflict(errors, name, (element, identifier), other),
+    }
+}
+
+/// Writes the line of an element beside which another one may not stand.
+fn write_conflict<E: Sink>(
+    errors: &mut E,
+    name: &str,
+    at: (usize, usize),
+    other: usize,
+) -> Result<(), Fault>
+    requires { IsFalse (E.state errors.old).failed }
+    ensures { Writes (output (E.state errors.old) (E.state errors.new))
+        (apart_line name.now (ConflictingElement at.0 at.1 other)) }
+{
+    let (element, identifier) = at;
+    let (mut digits, mut number, mut last) = (Buffer::new(), Buffer::new(), Buffer::new());
+    write_line(
+        errors,
+        name,
+        &[
+            opening_text(identifier),
+            digits.format(identifier),
+            "), element ",
+            number.format(element.saturating_add(1)),
+            ": element ",
+            last.format(other.saturating_add(1)),
+            " may not stand beside it",
+        ],
+    )
 }
 
 /// Writes the line of a key after which there is another.
@@ -127,8 +182,8 @@ fn write_second_key<E: Sink>(errors: &mut E, name: &str, element: usize) -> Resu
     write_line(errors, name, &["element ", number, text])
 }
 
-/// Writes the line of the element of a number and an identifier that has a fault at a place of its
-/// value.
+/// Writes the line of the element of a number and an identifier that has a fault at a place of
+/// its value.
 fn write_value<E: Sink>(
     errors: &mut E,
     name: &str,
@@ -169,7 +224,7 @@ fn opening_text(identifier: usize) -> &'static str
 
 /// Returns the check digit that would be right in ASCII, or 0 if another thing is wrong.
 fn right_digit(reason: Reason) -> u8
-    ensures { result ≡ right_digit reason }
+    ensures { result ≡ right_digit_byte reason }
 {
     match reason {
         Reason::WrongCheckDigit { right } if right < 10 => b'0' + right,
@@ -179,7 +234,7 @@ fn right_digit(reason: Reason) -> u8
 
 /// Returns what is wrong with a value.
 fn reason_text(reason: Reason) -> &'static str
-    ensures { result.now ≡ reason_text reason }
+    ensures { result.now ≡ value_reason_text reason }
 {
     match reason {
         Reason::TooShort => "the value is too short",

@@ -1,12 +1,12 @@
 //! Why there is no label, as a line on standard error.
 ghost use Rattle.std.specs.Prelude.{◌≡◌, IsTrue, IsFalse, true};
 ghost use Rattle.programs.specs.Devices.{output, Writes};
-ghost use Rattle.labels.specs.Placed.{devices_of};
+ghost use Rattle.labels.specs.Devices.{devices_of};
 ghost use Rattle.labels.specs.Stops.{element_text, stop_line, element_line};
 ghost use Rattle.labels.specs.Stops.{numbered_line, is_silent, stop_status, stop_report};
 ghost use Rattle.labels.specs.Stops.{is_silent_fault, fault_status, fault_report};
-ghost use Rattle.labels.specs.Stops.{end_report, long_line, room_line, level_piece};
-ghost use Rattle.labels.specs.Stops.{version_number, fits_piece, rest_piece, many_text};
+ghost use Rattle.labels.specs.Stops.{end_report, long_line, room_line, bits_line, level_piece};
+ghost use Rattle.labels.specs.Stops.{printed_version, fits_piece, rest_piece, many_text};
 
 use crate::pieces::{NO_ELEMENTS, WOULD_BE, digit_text, unless_zero};
 use crate::refusal::{write_no_link, write_refusal};
@@ -18,17 +18,16 @@ use programs::{
 };
 use qrcode_base::symbols::LONGEST_DATA;
 use qrcode_core::types::{EcLevel, Version};
-use single_label::{ElementStop, Stop, TooLong, element_number};
+use single_label::{ElementStop, Stop, TextLength, TooLong, element_number};
 
-/// Text in a Micro symbol.
-const NOT_ASCII: &str = "a Micro symbol has no text beyond ASCII, see -c micro-bytes";
+/// A text that no Micro symbol is read as.
+const NO_MICRO_TEXT: &str = "no Micro symbol is read as this text, see -c micro-bytes";
 
-/// More bytes than any symbol holds.
-const TOO_MANY: &str = "data too long: more than 7089 bytes, which no symbol holds";
+/// More bytes than one label takes.
+const TOO_MANY: &str = "data too long: more than 7089 bytes";
 
 /// The same, where several symbols can carry them together.
-const TOO_MANY_FOR_ONE: &str =
-    "data too long: more than 7089 bytes, which no symbol holds; see --split";
+const TOO_MANY_FOR_ONE: &str = "data too long: more than 7089 bytes; see --split";
 
 /// More bytes than the symbols of a sequence hold.
 const TOO_MANY_PARTS: &str =
@@ -52,16 +51,16 @@ fn write_stop<E: Sink>(errors: &mut E, name: &str, stop: Stop)
         Stop::NotAllowed(error) => write_refusal(errors, name, error),
         Stop::NoLink(error) => write_no_link(errors, name, error),
         Stop::Empty => write_line(errors, name, &["empty input, see --allow-empty"]),
-        Stop::NotAscii => write_line(errors, name, &[NOT_ASCII]),
+        Stop::NoMicroText => write_line(errors, name, &[NO_MICRO_TEXT]),
         Stop::TooLong(long) => write_too_long(errors, name, long),
         Stop::TooManyParts => write_line(errors, name, &[TOO_MANY_PARTS]),
         Stop::TooManyPages => write_line(errors, name, &[TOO_MANY_PAGES]),
     };
 }
 
-/// Writes why there is no label, as one line after a name, and returns the exit status. Of a device
-/// the line has the name and the reason; of a pipe that nobody reads from any more nothing is
-/// written.
+/// Writes why there is no label, as one line after a name, and returns the exit status. Of a
+/// device the line has the name and the reason; of a pipe that nobody reads from any more nothing
+/// is written.
 pub fn report_stop<E: Sink>(errors: &mut E, name: &str, devices: &Devices, stop: Stop) -> u8
     requires sound { IsFalse (E.state errors.old).failed }
     ensures status { result ≡ stop_status (devices_of devices.now) stop }
@@ -74,7 +73,7 @@ pub fn report_stop<E: Sink>(errors: &mut E, name: &str, devices: &Devices, stop:
             write_stop(errors, name, stop);
             1
         }
-        Stop::Empty | Stop::NotAscii | Stop::TooLong(_) => {
+        Stop::Empty | Stop::NoMicroText | Stop::TooLong(_) => {
             write_stop(errors, name, stop);
             1
         }
@@ -112,7 +111,7 @@ fn is_silent(devices: &Devices, stop: Stop) -> bool
     match stop {
         Stop::Fault(fault) => is_silent_fault(devices, fault),
         Stop::Elements(_) | Stop::NotAllowed(_) | Stop::NoLink(_) => false,
-        Stop::Empty | Stop::NotAscii | Stop::TooLong(_) => false,
+        Stop::Empty | Stop::NoMicroText | Stop::TooLong(_) => false,
         Stop::TooManyParts | Stop::TooManyPages => false,
     }
 }
@@ -227,10 +226,43 @@ fn write_too_long<E: Sink>(errors: &mut E, name: &str, long: TooLong) -> Result<
     ensures { Writes (output (E.state errors.old) (E.state errors.new)) (long_line name.now long) }
 {
     if long.length > LONGEST_DATA {
-        write_line(errors, name, &[many_text(long.can_be_split)])
-    } else {
-        write_room(errors, name, long)
+        return write_line(errors, name, &[many_text(long.can_be_split)]);
     }
+    match long.text {
+        Some(found) => write_bits(errors, name, long, found),
+        None => write_room(errors, name, long),
+    }
+}
+
+/// Writes the line of a text beyond ASCII that is too long at its level: the bits that it takes,
+/// and how many there is room for.
+#[tactic(auto, unfolding(crate::specs::Stops::bits_line))]
+fn write_bits<E: Sink>(
+    errors: &mut E,
+    name: &str,
+    long: TooLong,
+    found: TextLength,
+) -> Result<(), Fault>
+    requires { IsFalse (E.state errors.old).failed }
+    ensures { Writes (output (E.state errors.old) (E.state errors.new))
+        (bits_line name.now long found) }
+{
+    let (mut bits, mut version, mut room) = (Buffer::new(), Buffer::new(), Buffer::new());
+    write_line(
+        errors,
+        name,
+        &[
+            "data too long: ",
+            bits.format(found.bits),
+            " bits",
+            level_text(long.level, long.version),
+            version.format(version_number(long.version)),
+            " has room for ",
+            room.format(found.room),
+            " bits",
+            rest_text(long.fits, long.can_be_split),
+        ],
+    )
 }
 
 /// Writes the line of a content that is too long at its level: its length, and how much there is
@@ -248,12 +280,14 @@ fn write_room<E: Sink>(errors: &mut E, name: &str, long: TooLong) -> Result<(), 
         &[
             "data too long: ",
             length.format(long.length),
+            " bytes",
             level_text(long.level, long.version),
             version.format(version_number(long.version)),
             " has room for ",
             bytes.format(long.bytes),
             " bytes or ",
             digits.format(long.digits),
+            " digits",
             rest_text(long.fits, long.can_be_split),
         ],
     )
@@ -265,23 +299,23 @@ fn level_text(level: EcLevel, version: Version) -> &'static str
 {
     match version {
         Version::Normal(_) => match level {
-            EcLevel::L => " bytes, and level L up to version ",
-            EcLevel::M => " bytes, and level M up to version ",
-            EcLevel::Q => " bytes, and level Q up to version ",
-            EcLevel::H => " bytes, and level H up to version ",
+            EcLevel::L => ", and level L up to version ",
+            EcLevel::M => ", and level M up to version ",
+            EcLevel::Q => ", and level Q up to version ",
+            EcLevel::H => ", and level H up to version ",
         },
         Version::Micro(_) => match level {
-            EcLevel::L => " bytes, and level L up to version M",
-            EcLevel::M => " bytes, and level M up to version M",
-            EcLevel::Q => " bytes, and level Q up to version M",
-            EcLevel::H => " bytes, and level H up to version M",
+            EcLevel::L => ", and level L up to version M",
+            EcLevel::M => ", and level M up to version M",
+            EcLevel::Q => ", and level Q up to version M",
+            EcLevel::H => ", and level H up to version M",
         },
     }
 }
 
 /// Returns the number of a version.
 fn version_number(version: Version) -> u16
-    ensures { result ≡ version_number version }
+    ensures { result ≡ printed_version version }
 {
     match version {
         Version::Normal(number) => number.unsigned_abs(),
@@ -289,15 +323,15 @@ fn version_number(version: Version) -> u16
     }
 }
 
-/// Returns that there are more bytes than any symbol holds.
+/// Returns that there are more bytes than one label takes.
 fn many_text(splits: bool) -> &'static str
     ensures { result.now ≡ many_text splits }
 {
     if splits { TOO_MANY_FOR_ONE } else { TOO_MANY }
 }
 
-/// Returns what stands after the number of digits: the level at which a content fits, if any, and
-/// whether several symbols can carry it.
+/// Returns what stands after the room: the level at which a content fits, if any, and whether
+/// several symbols can carry it.
 fn rest_text(fits: Option<EcLevel>, splits: bool) -> &'static str
     ensures { result.now ≡ rest_piece fits splits }
 {
@@ -308,29 +342,29 @@ fn rest_text(fits: Option<EcLevel>, splits: bool) -> &'static str
     }
 }
 
-/// Returns what stands after the number of digits, where several symbols can carry the content.
+/// Returns what stands after the room, where several symbols can carry the content.
 fn split_text(fits: Option<EcLevel>) -> &'static str
     ensures { result.now ≡ rest_piece fits true }
 {
     match fits {
-        None => " digits; see --split",
-        Some(EcLevel::L) => " digits; it fits level L; see --split",
-        Some(EcLevel::M) => " digits; it fits level M; see --split",
-        Some(EcLevel::Q) => " digits; it fits level Q; see --split",
-        Some(EcLevel::H) => " digits; it fits level H; see --split",
+        None => "; see --split",
+        Some(EcLevel::L) => "; it fits level L; see --split",
+        Some(EcLevel::M) => "; it fits level M; see --split",
+        Some(EcLevel::Q) => "; it fits level Q; see --split",
+        Some(EcLevel::H) => "; it fits level H; see --split",
     }
 }
 
-/// Returns what stands after the number of digits: the level at which a content fits, if any.
+/// Returns what stands after the room: the level at which a content fits, if any.
 fn fits_text(fits: Option<EcLevel>) -> &'static str
     ensures { result.now ≡ fits_piece fits }
 {
     match fits {
-        None => " digits",
-        Some(EcLevel::L) => " digits; it fits level L",
-        Some(EcLevel::M) => " digits; it fits level M",
-        Some(EcLevel::Q) => " digits; it fits level Q",
-        Some(EcLevel::H) => " digits; it fits level H",
+        None => "",
+        Some(EcLevel::L) => "; it fits level L",
+        Some(EcLevel::M) => "; it fits level M",
+        Some(EcLevel::Q) => "; it fits level Q",
+        Some(EcLevel::H) => "; it fits level H",
     }
 }
 

@@ -15,10 +15,10 @@ ghost use Rattle.labels.specs.Lines.{stream};
 ghost use Rattle.label_words.specs.Names.{numbered};
 ghost use Rattle.single_label.specs.Pages.{are_pages};
 ghost use Rattle.label_words.specs.Numberings.{numbering_of};
-ghost use Rattle.labels.specs.Placed.{devices_of};
+ghost use Rattle.labels.specs.Devices.{devices_of};
 ghost use Rattle.labels.specs.Runs.{ServesLines, lines_status, lines_reported};
 ghost use Rattle.labels.specs.Runs.{Shows, RunsLabel, Runs};
-ghost use Rattle.label_words.specs.Said.{said, wrong_of};
+ghost use Rattle.label_words.specs.Values.{said, wrong_of};
 ghost use Rattle.label_words.specs.Settings.{setting_option};
 ghost use Rattle.label_words.specs.Words.{invalid};
 
@@ -82,8 +82,8 @@ fn serve_lines<R: Source, W: Sink, E: Sink>(
     lines_status(errors, &devices, outcome)
 }
 
-/// Draws the labels of the lines of the input as the pages of one document, and returns the exit
-/// status.
+/// Draws the labels of the lines of the input as the pages of one document, and returns the
+/// exit status.
 fn serve_pages<R: Source, W: Sink, E: Sink>(
     alloc: Global,
     label: &Label,
@@ -218,6 +218,7 @@ fn setting_option(setting: Setting) -> Name
         Setting::Dpi => Name::Dpi,
         Setting::Inverted => Name::Inverted,
         Setting::Title => Name::Title,
+        Setting::Caption => Name::Hri,
         Setting::At => Name::At,
         Setting::Copies => Name::Copies,
         Setting::Compressed => Name::Compressed,

@@ -2,9 +2,9 @@
 ghost use Rattle.std.specs.Prelude.{◌≡◌, ◌+◌, IsFalse};
 ghost use Rattle.qrcode_base.specs.declared.symbols.TheConstants.{LONGEST_DATA};
 ghost use Rattle.programs.specs.Devices.{input, output, ReadsWithin, Writes};
-ghost use Rattle.labels.specs.MadeOf.{made_of};
+ghost use Rattle.labels.specs.Stop.{made_of};
 ghost use Rattle.label_words.specs.Numberings.{numbering_of};
-ghost use Rattle.labels.specs.Placed.{devices_of};
+ghost use Rattle.labels.specs.Devices.{devices_of};
 ghost use Rattle.labels.specs.Runs.{one_of, message_of, IsLabelOutcome, ServesLabel, ServesParts};
 ghost use Rattle.labels.specs.Runs.{label_status, label_report};
 ghost use Rattle.single_label.specs.declared.parts.TheConstants.{LONGEST_MESSAGE};
@@ -23,7 +23,7 @@ use single_label::{
 use std::alloc::Global;
 
 /// Reads to the end, writes the label of all bytes that were read, and flushes. Of more than 7089
-/// bytes, which no symbol holds, it reads 7090.
+/// bytes, which are too long, it reads 7090.
 fn draw_label<R: Source, W: Sink>(
     alloc: Global,
     label: &Label,

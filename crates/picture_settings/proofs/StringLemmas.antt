@@ -7,7 +7,7 @@ use Rattle.std.proofs.lemmas.{Bool.ne_eqb, Grind.flat_map-append}
 use Rattle.std.proofs.lemmas.Bool.Decides.{nat_tests}
 use Rattle.std.proofs.lemmas.Bool.{le-leb}
 use Rattle.std.proofs.lemmas.List.{take_more}
-use Rattle.picture_settings.specs.PostScript.{string_escape, string_text, is_string_mark, is_octal, read_octal, read_byte, read_bytes, StringsAreRead}
+use Rattle.picture_settings.specs.PostScript.{string_escape, string_text, is_string_mark, is_octal, read_octal, read_byte, read_string_bytes, StringsAreRead}
 
 pub text_none : string_text [] ≡ []
 unfolding string_text
@@ -83,10 +83,10 @@ byte_read b rest byte = one_read b rest (grind (arith, nat_tests)) (is_string_ma
 
 -- a reader that has found a byte goes on after it
 goes_on : (n : ℕ) (text : List ℕ) (r : ℕ × List ℕ) → read_byte text ≡ Some r →
-    read_bytes (suc n) text ≡ option_map (λ found. r.0 ∷ found) (read_bytes n r.1)
-unfolding read_bytes
+    read_string_bytes (suc n) text ≡ option_map (λ found. r.0 ∷ found) (read_string_bytes n r.1)
+unfolding read_string_bytes
 goes_on n [] r found = cc
-goes_on n (c ∷ text) r found = rw (found, read_bytes) refl
+goes_on n (c ∷ text) r found = rw (found, read_string_bytes) refl
 
 both : (a b : Bool) → (a && b) ≡ true → (a ≡ true) × (b ≡ true)
 both true b holds = (refl, holds)
@@ -94,8 +94,8 @@ both false b holds = cc
 
 -- a reader finds some bytes
 bytes_read : (bytes : List ℕ) (n : ℕ) → list_all (λ b. nat_lt b 256) bytes ≡ true → length (string_text bytes) ≤ n →
-    read_bytes n (string_text bytes) ≡ Some bytes
-unfolding string_text read_bytes
+    read_string_bytes n (string_text bytes) ≡ Some bytes
+unfolding string_text read_string_bytes
 bytes_read [] zero allowed few = refl
 bytes_read [] (suc n) allowed few = refl
 bytes_read (b ∷ bytes) zero allowed few = absurd (omega (arith, some_written b, length-append (string_escape b) (string_text bytes)))

@@ -37,17 +37,17 @@ hex_value d =
     (if nat_le 97 d && nat_le d 102 then Some (d - 97 + 10) else None))
 
 -- The byte of two digits.
-abbrev pub hex_byte : (high low : ℕ) → Option ℕ
-hex_byte high low =
+abbrev pub byte_of_digits : (high low : ℕ) → Option ℕ
+byte_of_digits high low =
     option_and_then (λ a. option_map (λ b. 16 * a + b) (hex_value low)) (hex_value high)
 
 -- The colour of the six digits after the first character.
 abbrev pub six_digits : List ℕ → Option Rgb
 six_digits word =
     option_and_then (λ red. option_and_then (λ green. option_map (λ blue. rgb red green blue)
-    (hex_byte (get_or word 5 0) (get_or word 6 0)))
-    (hex_byte (get_or word 3 0) (get_or word 4 0)))
-    (hex_byte (get_or word 1 0) (get_or word 2 0))
+    (byte_of_digits (get_or word 5 0) (get_or word 6 0)))
+    (byte_of_digits (get_or word 3 0) (get_or word 4 0)))
+    (byte_of_digits (get_or word 1 0) (get_or word 2 0))
 
 -- A colour by a number sign and six digits (4.2.1, "RGB color values").
 abbrev pub digits_color : List ℕ → Option Rgb

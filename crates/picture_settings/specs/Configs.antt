@@ -11,11 +11,11 @@ use Rattle.picture_settings.specs.declared.settings.Setting.TheVariants.{Scale, 
 use Rattle.picture_settings.specs.declared.settings.Setting.TheVariants.{Dpi, Inverted, Title, At}
 use Rattle.picture_settings.specs.declared.settings.Setting.TheVariants.{Copies, Compressed, Feed}
 use Rattle.picture_settings.specs.declared.settings.Setting.TheVariants.{Cut, Dark, Light}
-use Rattle.picture_settings.specs.declared.settings.Setting.TheVariants.{AnyColors}
+use Rattle.picture_settings.specs.declared.settings.Setting.TheVariants.{AnyColors, Caption}
 use Rattle.picture_settings.specs.declared.settings.Settings.{Settings}
 use Rattle.picture_settings.specs.ColorWords.{word_color, ground_word}
 use Rattle.picture_settings.specs.Formats.{has_setting}
-use Rattle.picture_settings.specs.Made.{IsMadeOf}
+use Rattle.picture_settings.specs.DrawOptions.{IsMadeOf}
 use Rattle.picture_settings.specs.OptionWords.{word_flag, word_hundredths, word_number}
 use Rattle.picture_settings.specs.OptionWords.{word_position}
 use Rattle.picture_settings.specs.Settings.{invalid_setting, setting_word}
@@ -23,8 +23,8 @@ use Rattle.picture_settings.specs.Settings.{invalid_setting, setting_word}
 -- All settings, in the order of `Settings`.
 abbrev pub all_settings : List Setting
 all_settings =
-    Scale ∷ Quiet ∷ ModuleMm ∷ Dpi ∷ Inverted ∷ Title ∷ At ∷ Copies ∷ Compressed ∷ Feed ∷ Cut ∷ Dark
-    ∷ Light ∷ AnyColors ∷ []
+    Scale ∷ Quiet ∷ ModuleMm ∷ Dpi ∷ Inverted ∷ Title ∷ Caption ∷ At ∷ Copies ∷ Compressed ∷ Feed
+    ∷ Cut ∷ Dark ∷ Light ∷ AnyColors ∷ []
 
 -- The text of the option that has the name of a setting, if it is there.
 abbrev pub text_at : TextMap (List ℕ) → Setting → Option (List ℕ)
@@ -35,6 +35,7 @@ abbrev pub is_value : Setting → List ℕ → Bool
 is_value ModuleMm text = is_some (word_hundredths text)
 is_value Inverted text = is_some (word_flag text)
 is_value Title text = true
+is_value Caption text = true
 is_value At text = is_some (word_position text)
 is_value Compressed text = is_some (word_flag text)
 is_value Cut text = is_some (word_flag text)
@@ -71,6 +72,7 @@ pub record IsReadFrom (options : TextMap (List ℕ)) (s : Settings) : Type 0 whe
   pub dpi_is : s.dpi ≡ number_at options Dpi
   pub inverted_is : s.inverted ≡ flag_at options Inverted
   pub title_is : option_copied s.title ≡ text_at options Title
+  pub caption_is : option_copied s.caption ≡ text_at options Caption
   pub at_is : s.at ≡ option_and_then word_position (text_at options At)
   pub copies_is : s.copies ≡ number_at options Copies
   pub compressed_is : s.compressed ≡ flag_at options Compressed

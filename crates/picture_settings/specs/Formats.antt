@@ -8,7 +8,7 @@ use Rattle.picture_settings.specs.declared.settings.Setting.{Setting}
 use Rattle.picture_settings.specs.declared.settings.Setting.TheVariants.{Scale, Quiet, ModuleMm}
 use Rattle.picture_settings.specs.declared.settings.Setting.TheVariants.{Dpi, Inverted, Title, At}
 use Rattle.picture_settings.specs.declared.settings.Setting.TheVariants.{Copies, Compressed, Feed}
-use Rattle.picture_settings.specs.declared.settings.Setting.TheVariants.{Cut}
+use Rattle.picture_settings.specs.declared.settings.Setting.TheVariants.{Cut, Caption}
 
 -- The default width of a module in pixels.
 abbrev pub default_scale : Format → ℕ
@@ -47,6 +47,14 @@ has_title Png = true
 has_title Eps = true
 has_title Pdf = true
 has_title _ = false
+
+-- The picture has a text below it.
+abbrev pub has_caption : Format → Bool
+has_caption Terminal = true
+has_caption Svg = true
+has_caption Eps = true
+has_caption Zpl = true
+has_caption _ = false
 
 -- The picture has colours.
 abbrev pub has_colors : Format → Bool
@@ -105,6 +113,7 @@ has_setting format ModuleMm = has_millimetres format
 has_setting format Dpi = has_dots format
 has_setting format Inverted = can_be_inverted format
 has_setting format Title = has_title format
+has_setting format Caption = has_caption format
 has_setting format At = has_position format
 has_setting format Copies = has_copies format
 has_setting format Compressed = can_be_compressed format

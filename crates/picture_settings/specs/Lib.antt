@@ -3,7 +3,7 @@ pub mod PostScript
 pub mod Options
 pub mod Formats
 pub mod Settings
-pub mod Made
+pub mod DrawOptions
 pub mod Resolutions
 pub mod Colors
 pub mod ColorWords

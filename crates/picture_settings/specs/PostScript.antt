@@ -6,8 +6,8 @@ use Rattle.std.specs.Prelude.{nat_le, nat_lt, if◌then◌else◌, List, [], ◌
 use Rattle.std.specs.Prelude.{Option, None, Some, option_map}
 use Rattle.std.specs.List.{list_all}
 
--- A byte that ends a string, begins another in it, or begins an escape: a parenthesis, or a
--- backslash.
+-- A byte that ends a string, begins another in it, or begins an escape: a parenthesis, or
+-- a backslash.
 abbrev pub is_string_mark : ℕ → Bool
 is_string_mark b = (b == 40) || ((b == 41) || (b == 92))
 
@@ -46,18 +46,18 @@ read_byte (c ∷ text) =
     if c == 92 then read_escape text else (if is_string_mark c then None else Some (c, text))
 
 -- The bytes of a text in a string, at most n of them.
-unfoldable pub read_bytes : ℕ → List ℕ → Option (List ℕ)
-read_bytes _ [] = Some []
-read_bytes zero (c ∷ text) = None
-read_bytes (suc n) (c ∷ text) =
+unfoldable pub read_string_bytes : ℕ → List ℕ → Option (List ℕ)
+read_string_bytes _ [] = Some []
+read_string_bytes zero (c ∷ text) = None
+read_string_bytes (suc n) (c ∷ text) =
     elim (read_byte (c ∷ text)) [
       | None ↦ None
-      | Some r ↦ option_map (λ found. r.0 ∷ found) (read_bytes n r.1)
+      | Some r ↦ option_map (λ found. r.0 ∷ found) (read_string_bytes n r.1)
     ]
 
 -- The bytes that a reader finds in a string.
 abbrev pub read_string : List ℕ → Option (List ℕ)
-read_string text = read_bytes (length text) text
+read_string text = read_string_bytes (length text) text
 
 -- A law of titles: a reader finds exactly these bytes.
 abbrev pub StringsAreRead : Type 0

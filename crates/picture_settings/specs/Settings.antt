@@ -1,7 +1,9 @@
 -- The settings of a picture that a caller gives, and which of them are valid in a format.
-use Rattle.std.specs.Prelude.{ℕ, Bool, true, false, ◌&&◌, ◌||◌, not, nat_le, is_none, is_some}
+use Rattle.std.specs.Prelude.{ℕ, Bool, true, false, ◌&&◌, ◌||◌, ◌==◌, not, nat_le}
+use Rattle.std.specs.Prelude.{is_none, is_some}
 use Rattle.std.specs.Prelude.{if◌then◌else◌}
 use Rattle.std.specs.Prelude.{List, [], ◌∷◌, codes, length, Option, None, Some}
+use Rattle.std.specs.List.{list_all}
 use Rattle.std.specs.Option.{option_copied}
 use Rattle.picture_settings.specs.declared.bounds.TheConstants.{MIN_SCALE, MAX_SCALE, MAX_QUIET}
 use Rattle.picture_settings.specs.declared.bounds.TheConstants.{MIN_MODULE_MM, MAX_MODULE_MM}
@@ -16,13 +18,13 @@ use Rattle.picture_settings.specs.declared.settings.Setting.TheVariants.{Scale, 
 use Rattle.picture_settings.specs.declared.settings.Setting.TheVariants.{Dpi, Inverted, Title, At}
 use Rattle.picture_settings.specs.declared.settings.Setting.TheVariants.{Copies, Compressed, Feed}
 use Rattle.picture_settings.specs.declared.settings.Setting.TheVariants.{Cut, Dark, Light}
-use Rattle.picture_settings.specs.declared.settings.Setting.TheVariants.{AnyColors}
+use Rattle.picture_settings.specs.declared.settings.Setting.TheVariants.{AnyColors, Caption}
 use Rattle.picture_settings.specs.declared.settings.Settings.{Settings}
 use Rattle.picture_settings.specs.Colors.{are_readable}
 use Rattle.picture_settings.specs.Formats.{has_colors}
 use Rattle.picture_settings.specs.Formats.{can_be_inverted, has_dots, has_millimetres, has_position}
 use Rattle.picture_settings.specs.Formats.{has_title, has_copies, has_feed, can_be_compressed}
-use Rattle.picture_settings.specs.Formats.{can_be_cut}
+use Rattle.picture_settings.specs.Formats.{can_be_cut, has_caption}
 use Rattle.picture_settings.specs.PostScript.{string_text}
 use Rattle.picture_settings.specs.Xml.{is_xml_text}
 
@@ -44,6 +46,16 @@ has_room Eps (Some title) = nat_le (length (string_text title)) MAX_PS_TITLE
 has_room Pdf (Some title) = nat_le (length title) MAX_PDF_TITLE
 has_room _ _ = true
 
+-- A character of ASCII that is printed, a space among them.
+abbrev pub is_printed : ℕ → Bool
+is_printed c = nat_le 32 c && nat_le c 126
+
+-- A text below a picture that may be given: there is one, its characters are printed, and the
+-- format has one.
+abbrev pub allows_caption : (has : Bool) → Option (List ℕ) → Bool
+allows_caption has None = true
+allows_caption has (Some text) = has && (not (length text == 0) && list_all is_printed text)
+
 -- A position that may be given: it is within its bounds, and the format has one.
 abbrev pub allows_position : (has : Bool) → Option (ℕ × ℕ) → Bool
 allows_position has None = true
@@ -57,6 +69,7 @@ setting_word ModuleMm = codes "module_mm"
 setting_word Dpi = codes "dpi"
 setting_word Inverted = codes "inverted"
 setting_word Title = codes "title"
+setting_word Caption = codes "caption"
 setting_word At = codes "at"
 setting_word Copies = codes "copies"
 setting_word Compressed = codes "compressed"
@@ -89,6 +102,7 @@ setting_tests format s =
       allows_title (has_title format) (option_copied s.title)
           && has_room format (option_copied s.title),
     )
+    ∷ (Caption, allows_caption (has_caption format) (option_copied s.caption))
     ∷ (At, allows_position (has_position format) s.at)
     ∷ printer_tests format s
 

@@ -15,6 +15,12 @@ pub const MAX_MODULES: usize = 177;
 /// The greatest number of columns and of rows with the quiet zone.
 pub const MAX_COLUMNS: usize = MAX_MODULES + 2 * MAX_QUIET;
 
+/// The number of rows of modules that the text below a picture takes.
+pub const CAPTION_ROWS: usize = 4;
+
+/// The greatest number of rows with the quiet zone and the text below.
+pub const MAX_HIGH: usize = MAX_COLUMNS + CAPTION_ROWS;
+
 /// The greatest width and height of a picture in pixels.
 pub const MAX_PIXELS: usize = MAX_COLUMNS * MAX_SCALE;
 

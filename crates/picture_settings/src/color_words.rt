@@ -1,6 +1,6 @@
 //! Colours as words: `#rrggbb`, or a name of CSS.
 ghost use Rattle.std.specs.Prelude.{◌≡◌, ◌<◌, IfSome, Some};
-ghost use Rattle.picture_settings.specs.ColorWords.{digits_color, ground_word, hex_byte};
+ghost use Rattle.picture_settings.specs.ColorWords.{digits_color, ground_word, byte_of_digits};
 ghost use Rattle.picture_settings.specs.ColorWords.{hex_value, named_color, word_color};
 
 use crate::colors::{Ground, Rgb};
@@ -82,7 +82,7 @@ fn digits_color(word: &[u8]) -> Option<Rgb>
 
 /// Returns the byte of two hexadecimal digits.
 fn hex_byte(high: u8, low: u8) -> Option<u8>
-    ensures { result ≡ hex_byte high low }
+    ensures { result ≡ byte_of_digits high low }
 {
     let high = hex_value(high)?;
     let low = hex_value(low)?;

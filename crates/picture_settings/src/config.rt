@@ -3,7 +3,7 @@
 //! An option has the name of its setting (`Setting::name`). Its text is a decimal number; of
 //! `module_mm` millimetres, with at most two digits after a point; of `at` two numbers, `X,Y`; of
 //! `inverted`, `compressed`, `cut` and `any_colors` `true` or `false`; of `dark` and `light` a word
-//! that `Rgb::of_word` and `Ground::of_word` read; and of `title` the title itself.
+//! that `Rgb::of_word` and `Ground::of_word` read; and of `title` and `caption` the text itself.
 ghost use Rattle.std.specs.Prelude.{◌≡◌, option_and_then, None, Some, IfOk, IfErr, OnOk};
 ghost use Rattle.std.specs.Option.{option_copied};
 ghost use Rattle.qrcode_core.specs.Plugins.{render_options};
@@ -24,13 +24,14 @@ use qrcode_core::plugin::{PluginError, RenderConfig};
 use std::alloc::Global;
 
 /// All settings, in the order of `Settings`.
-static SETTINGS: [Setting; 14] = [
+static SETTINGS: [Setting; 15] = [
     Setting::Scale,
     Setting::Quiet,
     Setting::ModuleMm,
     Setting::Dpi,
     Setting::Inverted,
     Setting::Title,
+    Setting::Caption,
     Setting::At,
     Setting::Copies,
     Setting::Compressed,
@@ -58,7 +59,7 @@ impl<'a> DrawOptions<'a> {
         config: &'a RenderConfig,
     ) -> Result<DrawOptions<'a>, PluginError>
         ensures made { IfOk result (IsMadeFrom format (render_options config.now)) }
-        ensures refused { IfErr result
+        ensures refusal { IfErr result
             (IsOptionRefusal (RefusesName format (render_options config.now))) }
     {
         let settings = match settings_of_config(format, config) {
@@ -85,7 +86,7 @@ pub fn settings_of_config<'a>(
 ) -> Result<Settings<'a>, Setting>
     ensures read { IfOk result (IsReadFrom (render_options config.now)) }
     ensures right { OnOk result (wrong_option format (render_options config.now) ≡ None) }
-    ensures refused { IfErr result
+    ensures refusal { IfErr result
         (λ setting. wrong_option format (render_options config.now) ≡ Some setting) }
 {
     match wrong_option(format, config) {
@@ -105,6 +106,7 @@ fn settings_read(config: &RenderConfig) -> Settings<'_>
         dpi: number_at(config, Setting::Dpi),
         inverted: flag_at(config, Setting::Inverted),
         title: text_at(config, Setting::Title),
+        caption: text_at(config, Setting::Caption),
         at: position(config),
         copies: number_at(config, Setting::Copies),
         compressed: flag_at(config, Setting::Compressed),
@@ -152,7 +154,7 @@ fn is_value(setting: Setting, text: &str) -> bool
         Setting::Inverted | Setting::Compressed | Setting::Cut | Setting::AnyColors => {
             flag_of_word(text).is_some()
         }
-        Setting::Title => true,
+        Setting::Title | Setting::Caption => true,
         Setting::At => position_of_word(text).is_some(),
         Setting::Dark => Rgb::of_word(text).is_some(),
         Setting::Light => Ground::of_word(text).is_some(),

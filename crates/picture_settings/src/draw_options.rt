@@ -1,11 +1,13 @@
 //! The options of a picture in a format, made of settings and tested once.
 ghost use Rattle.std.specs.Prelude.{◌≡◌, ◌≤◌, ◌&&◌};
 ghost use Rattle.std.specs.Prelude.{true, false, Some, None, OnOk, OnErr, IfErr};
+ghost use Rattle.std.specs.List.{list_all};
 ghost use Rattle.std.specs.Option.{ForSome, option_copied};
 ghost use Rattle.picture_settings.specs.Settings.{allows, allows_title, allows_position};
+ghost use Rattle.picture_settings.specs.Settings.{allows_caption, is_printed};
 ghost use Rattle.picture_settings.specs.Settings.{first_failed, has_room, printer_tests};
 ghost use Rattle.picture_settings.specs.Settings.{allows_colors, color_tests};
-ghost use Rattle.picture_settings.specs.Formats.{has_copies, has_feed, has_title};
+ghost use Rattle.picture_settings.specs.Formats.{has_caption, has_copies, has_feed, has_title};
 ghost use Rattle.picture_settings.specs.declared.bounds.TheConstants.{MIN_SCALE, MAX_SCALE};
 ghost use Rattle.picture_settings.specs.declared.bounds.TheConstants.{MAX_QUIET, MIN_MODULE_MM};
 ghost use Rattle.picture_settings.specs.declared.bounds.TheConstants.{MAX_MODULE_MM, MIN_DPI};
@@ -40,6 +42,8 @@ pub struct DrawOptions<'a> {
     pub inverted: bool,
     /// The title.
     pub title: Option<&'a str>,
+    /// The text below the picture.
+    pub caption: Option<&'a str>,
     /// The position of the upper left corner in dots.
     pub at: (usize, usize),
     /// The number of labels that the printer prints.
@@ -68,7 +72,7 @@ pub struct DrawOptions<'a> {
 
 impl<'a> DrawOptions<'a> {
     ghost use Rattle.std.specs.Prelude.{Some, None, IfOk, IfErr, OnOk};
-    ghost use Rattle.picture_settings.specs.Made.{IsMadeOf};
+    ghost use Rattle.picture_settings.specs.DrawOptions.{IsMadeOf};
     ghost use Rattle.picture_settings.specs.Settings.{invalid_setting};
 
     /// Returns the options of a format that these settings ask for. Nothing is allocated.
@@ -84,15 +88,13 @@ impl<'a> DrawOptions<'a> {
     ) -> Result<DrawOptions<'a>, Setting>
         ensures made { IfOk result (λ options. IsMadeOf format settings.now options) }
         ensures valid { OnOk result (invalid_setting format settings.now ≡ None) }
-        ensures refused { IfErr result
+        ensures refusal { IfErr result
             (λ setting. invalid_setting format settings.now ≡ Some setting) }
     {
         let (scale, quiet) = (settings.scale, settings.quiet);
         let module_mm = settings.module_mm;
         let dpi = settings.dpi;
-        let inverted = settings.inverted;
-        let title = settings.title;
-        let at = settings.at;
+        let (inverted, title, at) = (settings.inverted, settings.title, settings.at);
         let lone_dpi = format.has_dots() && module_mm.is_none();
         require(allows(true, MIN_SCALE, MAX_SCALE, scale), Setting::Scale)?;
         require(allows(true, 0, MAX_QUIET, quiet), Setting::Quiet)?;
@@ -102,6 +104,7 @@ impl<'a> DrawOptions<'a> {
         require(allows(lone_dpi, MIN_DPI, MAX_DPI, dpi), Setting::Dpi)?;
         require(!inverted || format.can_be_inverted(), Setting::Inverted)?;
         require(allows_title(format, title), Setting::Title)?;
+        require(allows_caption(format, settings.caption), Setting::Caption)?;
         require(allows_position(format.has_position(), at), Setting::At)?;
         require_printable(format, settings)?;
         require_colored(format, settings)?;
@@ -113,6 +116,7 @@ impl<'a> DrawOptions<'a> {
             dpi,
             inverted,
             title,
+            caption: settings.caption,
             at: at.unwrap_or((0, 0)),
             copies: settings.copies,
             compressed: settings.compressed,
@@ -129,7 +133,7 @@ fn require_printable(format: Format, settings: &Settings) -> Result<(), Setting>
     ensures copies { OnOk result
         (allows (has_copies format) MIN_COPIES MAX_COPIES settings.now.copies ≡ true) }
     ensures feed { OnOk result (allows (has_feed format) 0 MAX_FEED settings.now.feed ≡ true) }
-    ensures refused { IfErr result (λ setting.
+    ensures refusal { IfErr result (λ setting.
         first_failed (printer_tests format settings.now) ≡ Some setting) }
 {
     let copies = allows(format.has_copies(), MIN_COPIES, MAX_COPIES, settings.copies);
@@ -148,7 +152,7 @@ fn require_printable(format: Format, settings: &Settings) -> Result<(), Setting>
 /// Fails with the first setting for colours that is not valid.
 fn require_colored(format: Format, settings: &Settings) -> Result<(), Setting>
     ensures valid { OnOk result (first_failed (color_tests format settings.now) ≡ None) }
-    ensures refused { IfErr result (λ setting.
+    ensures refusal { IfErr result (λ setting.
         first_failed (color_tests format settings.now) ≡ Some setting) }
 {
     let colors = settings.colors;
@@ -176,8 +180,8 @@ fn allows_colors(format: Format, settings: &Settings) -> bool
 /// Fails with a setting that is not valid.
 fn require(valid: bool, setting: Setting) -> Result<(), Setting>
     ensures valid { OnOk result (valid ≡ true) }
-    ensures failed { OnErr result (valid ≡ false) }
-    ensures same { IfErr result (λ failed. failed ≡ setting) }
+    ensures invalid { OnErr result (valid ≡ false) }
+    ensures setting { IfErr result (λ failed. failed ≡ setting) }
 {
     if valid { Ok(()) } else { Err(setting) }
 }
@@ -214,6 +218,24 @@ fn has_room(format: Format, title: &str) -> bool
         Format::Pdf => title.len() <= MAX_PDF_TITLE,
         _ => true,
     }
+}
+
+/// Whether a text below the picture may be given: the format has one, there is a character, and
+/// all characters are printed.
+fn allows_caption(format: Format, caption: Option<&str>) -> bool
+    ensures { result ≡ allows_caption (has_caption format) (option_copied caption.entry) }
+{
+    match caption {
+        Some(text) => format.has_caption() && !text.is_empty() && all_printed(text.as_bytes()),
+        None => true,
+    }
+}
+
+/// Whether all characters are printed.
+fn all_printed(text: &[u8]) -> bool
+    ensures { result ≡ list_all is_printed text.now }
+{
+    text.iter().all(|c| matches!(*c, b' '..=b'~'))
 }
 
 /// Whether a position may be given: it is within its bounds, and the format has one.

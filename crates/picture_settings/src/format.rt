@@ -2,6 +2,7 @@
 ghost use Rattle.std.specs.Prelude.{◌≡◌};
 ghost use Rattle.picture_settings.specs.Formats.{can_be_inverted, default_scale, has_millimetres};
 ghost use Rattle.picture_settings.specs.Formats.{has_colors, has_dots, has_position, has_title};
+ghost use Rattle.picture_settings.specs.Formats.{has_caption};
 ghost use Rattle.picture_settings.specs.Formats.{can_be_compressed, can_be_cut, has_copies};
 ghost use Rattle.picture_settings.specs.Formats.{has_feed, can_be_shown, has_setting, is_stream};
 
@@ -66,6 +67,16 @@ impl Format {
         ensures { result ≡ has_title self }
     {
         matches!(self, Format::Svg | Format::Png | Format::Eps | Format::Pdf)
+    }
+
+    /// Whether the picture can have a text below it.
+    pub fn has_caption(self) -> bool
+        ensures { result ≡ has_caption self }
+    {
+        matches!(
+            self,
+            Format::Terminal | Format::Svg | Format::Eps | Format::Zpl
+        )
     }
 
     /// Whether the picture can have colours.
@@ -140,6 +151,7 @@ impl Format {
             Setting::Dpi => self.has_dots(),
             Setting::Inverted => self.can_be_inverted(),
             Setting::Title => self.has_title(),
+            Setting::Caption => self.has_caption(),
             Setting::At => self.has_position(),
             Setting::Copies => self.has_copies(),
             Setting::Compressed => self.can_be_compressed(),

@@ -33,7 +33,7 @@ impl RenderOptions {
     pub fn new(alloc: Global, scale: usize, quiet: usize) -> Result<RenderOptions, PluginError>
         ensures scale { IfOk result (λ options. options.scale ≡ scale) }
         ensures quiet { IfOk result (λ options. options.quiet ≡ quiet) }
-        ensures refused { IfErr result (IsOptionRefusal (IsOutside scale quiet)) }
+        ensures refusal { IfErr result (IsOptionRefusal (IsOutside scale quiet)) }
     {
         if scale < MIN_SCALE || scale > MAX_SCALE {
             return Err(invalid_option(alloc, Setting::Scale));

@@ -8,8 +8,8 @@ ghost use Rattle.picture_settings.specs.declared.bounds.TheConstants.{MAX_PS_TIT
 use crate::bounds::MAX_PS_TITLE;
 use std::alloc::AllocError;
 
-/// Appends the bytes of a text as a string of PostScript has them. It fails only for lack of
-/// memory.
+/// Appends the bytes of a text as a string of PostScript has them. It fails only for lack
+/// of memory.
 pub fn push_string(out: &mut String, text: &str) -> Result<(), AllocError>
     ensures { OnOk result
         (string_bytes out.new ≡ string_bytes out.old ++ string_text text.now) }

@@ -23,6 +23,9 @@ pub struct Settings<'a> {
     /// at most 1,000,000 bytes; and of EPS, if it takes at most 244 characters there, where a
     /// character that is none of ASCII takes 8 to 16.
     pub title: Option<&'a str>,
+    /// The text below the picture, of at least one character and only such of ASCII as are
+    /// printed: of `Terminal`, SVG, EPS and ZPL.
+    pub caption: Option<&'a str>,
     /// The position of the upper left corner on the label in dots, each 0 to 18,000: of ZPL.
     pub at: Option<(usize, usize)>,
     /// The number of labels that the printer prints, 1 to 99,999,999: of ZPL.
@@ -55,6 +58,8 @@ pub enum Setting {
     Inverted,
     /// The field `title`.
     Title,
+    /// The field `caption`.
+    Caption,
     /// The field `at`.
     At,
     /// The field `copies`.
@@ -85,6 +90,7 @@ impl Setting {
             Setting::Dpi => "dpi",
             Setting::Inverted => "inverted",
             Setting::Title => "title",
+            Setting::Caption => "caption",
             Setting::At => "at",
             Setting::Copies => "copies",
             Setting::Compressed => "compressed",

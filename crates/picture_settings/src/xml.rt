@@ -19,8 +19,8 @@ pub(crate) fn is_xml_text(text: &str) -> bool
     text.chars().all(is_xml_character)
 }
 
-/// Appends the characters of a text as XML has them in an element. It fails only for lack of
-/// memory.
+/// Appends the characters of a text as XML has them in an element. It fails only for lack
+/// of memory.
 #[tactic(auto, using(crate::proofs::XmlLemmas::characters), unfolding(crate::specs::Xml::xml_text))]
 pub fn push_escaped(out: &mut String, text: &str) -> Result<(), AllocError>
     ensures { OnOk result (string_bytes out.new ≡ string_bytes out.old ++ xml_text text.now) }

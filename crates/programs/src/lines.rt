@@ -24,7 +24,7 @@ pub fn read_line<R: Source>(reader: &mut R, line: &mut Vec<u8>) -> Result<bool, 
     ensures none { result ≡ Ok false →
         ReadsLines (R.state reader.old).left (R.state reader.new).left []
         × IsAtEnd (R.state reader.new).left }
-    ensures part { OnErr result
+    ensures beginning { OnErr result
         (BeginsLine (R.state reader.old).left (R.state reader.new).left) }
     ensures failure { IsErrOf result Fault.Read ↔ IsTrue (R.state reader.new).failed }
     ensures fault { IfErr result (λ e. (e ≡ Fault.Read) ⊎ (e ≡ Fault.Symbol QrError.OutOfMemory)) }
@@ -52,7 +52,7 @@ pub fn skip_line<R: Source>(reader: &mut R) -> Result<(), Fault>
     requires { IsFalse (R.state reader.old).failed }
     ensures rest { OnOk result
         (DropsThrough (R.state reader.old).left (R.state reader.new).left 10) }
-    ensures part { OnErr result
+    ensures beginning { OnErr result
         (BeginsLine (R.state reader.old).left (R.state reader.new).left) }
     ensures failure { IsErrOf result Fault.Read ↔ IsTrue (R.state reader.new).failed }
     ensures fault { IfErr result (λ e. (e ≡ Fault.Read) ⊎ (e ≡ Fault.Symbol QrError.OutOfMemory)) }

@@ -51,7 +51,7 @@ pub trait Program: Copy {
     fn drawing(&self, alloc: Global, bytes: &[u8]) -> QrResult<Vec<u8>>
         ensures drawn { IfOk result (λ drawing. shows (request self.now) bytes.now drawing.items) }
         ensures limit { OnOk result (length bytes.now ≤ LONGEST_DATA) }
-        ensures refused { IfErr result (λ error.
+        ensures refusal { IfErr result (λ error.
             error ≢ QrError.OutOfMemory → refuses (request self.now) bytes.now error) };
 }
 

@@ -117,8 +117,8 @@ pub record IsFirstNoElement (bytes : List ℕ) (place byte : ℕ) : Type 0 where
   pub before : (earlier : ℕ) → earlier < place → IsElementByte bytes earlier
   pub here : IsElementByte bytes place → ⊥
 
--- The bytes may be data of the content: any bytes, any text, but only elements as `AreElements` has
--- them.
+-- The bytes may be data of the content: any bytes, any text, but only elements as `AreElements`
+-- has them.
 abbrev pub AreDataOf : Content → List ℕ → Type 0
 AreDataOf Bytes bytes = Unit {0}
 AreDataOf Text bytes = Unit {0}

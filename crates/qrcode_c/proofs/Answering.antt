@@ -5,10 +5,10 @@ use Rattle.std.proofs.lemmas.{Int.to_z-of_z, Int.ints}
 use Rattle.qrcode_base.specs.Symbols.{IsNormalNumber}
 use Rattle.std.proofs.lemmas.Result.{IfOk-weaker}
 use Rattle.qrcode_base.specs.declared.types.{Color.Color, EcLevel.EcLevel}
-use Rattle.qrcode_core.specs.{Drawn.DrawnSymbol, Drawn.TellsReading, Sequence.IsBestPart, Sequence.IsSomePartTooLong}
+use Rattle.qrcode_core.specs.{Symbol.DrawnSymbol, Symbol.TellsReading, Sequence.IsBestPart, Sequence.IsSomePartTooLong}
 use Rattle.qrcode_bits.specs.{Frame.IsTotal, declared.bits.front.Content.TheVariants.Bytes}
-use Rattle.qrcode_c.specs.{declared.refusal.Refusal.Refusal, declared.refusal.Refusal.TheVariants.ShortBuffer, declared.shape.Shape.Shape, Holding.Holds}
-use Rattle.qrcode_c.specs.{Holding.HoldsBest, Holding.HoldsPart, Refusals.IsPartSymbol, Levels.level_argument}
+use Rattle.qrcode_c.specs.{declared.refusal.Refusal.Refusal, declared.refusal.Refusal.TheVariants.ShortBuffer, declared.shape.Shape.Shape, Buffers.Holds}
+use Rattle.qrcode_c.specs.{Buffers.HoldsBest, Buffers.HoldsPart, Refusals.IsPartSymbol, Levels.level_argument}
 
 pub best_held : (best : EcLevel → List Color → Type 0) (level : EcLevel) (number : ℤ) (symbol : DrawnSymbol) (before after : List ℕ)
     (result : Result Shape Refusal) →

@@ -1,5 +1,5 @@
 -- An error of the library, and the error of the call that stands for it.
-use Rattle.std.specs.Prelude.{◌≡◌, ◌+◌, ◌≤◌, ℕ, ℤ, Bool, List, length, Option, Some, None, IsSome}
+use Rattle.std.specs.Prelude.{◌≡◌, ℕ, ℤ, Bool, List, Some, None, IsSome}
 use Rattle.std.specs.Str.{IsUtf8}
 use Rattle.std.proofs.Common.{subst, refl, inr}
 use Rattle.std.proofs.lemmas.Option.{slice_get_within}
@@ -7,7 +7,7 @@ use Rattle.qrcode_base.specs.declared.types.EcLevel.{EcLevel}
 use Rattle.qrcode_base.specs.declared.types.errors.QrError.{QrError}
 use Rattle.qrcode_base.specs.declared.types.errors.QrError.TheVariants as core
 use Rattle.qrcode_base.specs.Symbols.{IsNormalNumber}
-use Rattle.qrcode_bits.specs.Contents.{AreElements, IsFirstNoElement}
+use Rattle.qrcode_bits.specs.Contents.{AreElements}
 use Rattle.qrcode_bits.specs.Frame.{Front, front_of, no_front}
 use Rattle.qrcode_bits.specs.declared.bits.front.Content.{Content}
 use Rattle.qrcode_bits.specs.declared.bits.front.Content.TheVariants.{Bytes, Text, Elements}
@@ -20,8 +20,8 @@ use Rattle.gs1_links.specs.Links.{link_of, linked}
 use Rattle.gs1.specs.Reader.{FindsOnly}
 use Rattle.qrcode_c.specs.Asking.{AsksFor, Means}
 use Rattle.qrcode_c.specs.Asking.{IsAskedTextRefusal, IsAskedElementsRefusal}
-use Rattle.qrcode_c.specs.Linked.{HasLink, IsLinkedRefusal, link_fault}
-use Rattle.qrcode_c.specs.Written.{WritesElements, IsWrittenRefusal, written_fault}
+use Rattle.qrcode_c.specs.Linked.{IsLinkedRefusal, link_fault}
+use Rattle.qrcode_c.specs.Written.{IsWrittenRefusal, text_refusal}
 use Rattle.qrcode_c.specs.Levels.{level_argument}
 use Rattle.qrcode_c.specs.Refusals.{IsAsked, IsPartRefusal}
 use Rattle.qrcode_c.specs.Spread.{AreValid, IsSpreadStatus}
@@ -91,7 +91,7 @@ elements_refused elements asked options room (core.InvalidResourceLimits) refusa
 elements_refused elements asked options room other refusal means versions refused stands = absurd refused.1.1
 
 pub written_refused : (by_table : Bool) (text elements : List ℕ) (asked : Options) (options : SymbolOptions) (room : ℕ) (error : QrError)
-    (refusal : Refusal) → Means asked options → HasVersions options → written_fault by_table text ≡ None → FindsOnly elements (written_elements text) →
+    (refusal : Refusal) → Means asked options → HasVersions options → text_refusal by_table text ≡ None → FindsOnly elements (written_elements text) →
     AreElements elements → IsElementsOptionsRefusal options (front_of None Elements) elements error → status_error error ≡ Some refusal →
     IsWrittenRefusal by_table text asked room refusal
 written_refused by_table text elements asked options room (core.InvalidCharacter place byte) refusal means versions faultless found are refused stands =

@@ -14,13 +14,15 @@ use Rattle.gs1_links.specs.declared.link_error.LinkError.TheVariants as link
 use Rattle.gs1.specs.declared.reason.Reason.{Reason}
 use Rattle.gs1.specs.declared.reason.Reason.TheVariants as reason
 use Rattle.gs1.specs.declared.refusal.CheckError.{CheckError}
+use Rattle.gs1.specs.declared.together.TogetherError.{TogetherError}
+use Rattle.gs1.specs.declared.together.TogetherError.TheVariants as together
 use Rattle.gs1.specs.declared.refusal.CheckError.TheVariants as table
 use Rattle.qrcode_core.specs.Options.{HasVersions}
 use Rattle.qrcode_core.specs.declared.options.SymbolOptions.{SymbolOptions}
 use Rattle.qrcode_c.specs.Asking.{Means}
-use Rattle.qrcode_c.specs.Faults.{refusal_for, value_refusal, table_refusal, link_refusal, IsFaultRefusal, link_place_of}
+use Rattle.qrcode_c.specs.Faults.{refusal_for, value_refusal, table_refusal, together_refusal, link_refusal, IsFaultRefusal, link_place_of}
 use Rattle.qrcode_c.specs.Linked.{link_fault, HasLink, HoldsLink, IsLinkedRefusal, IsLinkTextRefusal, IsNoLinkRefusal}
-use Rattle.qrcode_c.specs.Written.{written_fault, IsWrittenRefusal}
+use Rattle.qrcode_c.specs.Written.{text_refusal, IsWrittenRefusal}
 use Rattle.qrcode_c.specs.declared.options.Options.{Options}
 use Rattle.qrcode_c.specs.declared.refusal.Refusal.{Refusal}
 use Rattle.qrcode_c.specs.declared.refusal.Refusal.TheVariants as call
@@ -89,6 +91,11 @@ early_of : (refusal : Refusal) → is_other refusal ≡ false → is_early refus
 early_of (call.DataTooLong) other = refl
 early_of refusal other = other
 
+together_early : (error : TogetherError) → is_early (together_refusal error) ≡ false
+together_early (together.TextTooLong) = refl
+together_early (together.MissingElement element identifier) = refl
+together_early (together.ConflictingElement element identifier other) = refl
+
 link_early : (error : LinkError) → is_early (link_refusal error) ≡ false
 link_early (link.TextTooLong) = refl
 link_early (link.Elements error) = early_of (table_refusal error) (table_other error)
@@ -97,6 +104,7 @@ link_early (link.NoKey) = refl
 link_early (link.SecondKey element) = refl
 link_early (link.WrongQualifier element identifier) = refl
 link_early (link.RepeatedElement element identifier) = refl
+link_early (link.Together error) = together_early error
 link_early (link.OutOfMemory) = refl
 
 mapped : {X : Type 0} (f : X → Refusal) (test : Refusal → Bool) (x : Option X) (refusal : Refusal) →
@@ -105,7 +113,7 @@ mapped f test None refusal all is = let h : None ≡ Some refusal = is in cc
 mapped f test (Some e) refusal all is =
     let h : Some (f e) ≡ Some refusal = is in let same : f e ≡ refusal = cc in subst (λ r. test r ≡ false) same (all e)
 
-written_other : (by_table : Bool) (text : List ℕ) (refusal : Refusal) → written_fault by_table text ≡ Some refusal → is_other refusal ≡ false
+written_other : (by_table : Bool) (text : List ℕ) (refusal : Refusal) → text_refusal by_table text ≡ Some refusal → is_other refusal ≡ false
 written_other true text refusal is = mapped table_refusal is_other (text_error text) refusal table_other is
 written_other false text refusal is = mapped refusal_for is_other (text_fault text) refusal reader_other is
 
@@ -130,6 +138,12 @@ elements_fault text domain (table.WrongValue element identifier place why) refus
     told _ (value_refusal place why) (value_no_memory place why) (ap (option_map link_refusal) refused)
 elements_fault text domain (table.OutOfMemory) refused = absurd (no_memory text domain refused)
 
+together_fault_of : (text domain : List ℕ) (error : TogetherError) → link_error text domain ≡ Some (link.Together error) →
+    IsFaultRefusal (link_fault text domain) (together_refusal error)
+together_fault_of text domain (together.TextTooLong) refused = ap (option_map link_refusal) refused
+together_fault_of text domain (together.MissingElement element identifier) refused = ap (option_map link_refusal) refused
+together_fault_of text domain (together.ConflictingElement element identifier other) refused = ap (option_map link_refusal) refused
+
 pub no_link : (text domain : List ℕ) (error : LinkError) → IsRefusedLink text domain error → IsFaultRefusal (link_fault text domain) (link_refusal error)
 no_link text domain (link.TextTooLong) refused = ap (option_map link_refusal) refused
 no_link text domain (link.Elements error) refused = elements_fault text domain error refused
@@ -138,11 +152,12 @@ no_link text domain (link.NoKey) refused = ap (option_map link_refusal) refused
 no_link text domain (link.SecondKey element) refused = ap (option_map link_refusal) refused
 no_link text domain (link.WrongQualifier element identifier) refused = ap (option_map link_refusal) refused
 no_link text domain (link.RepeatedElement element identifier) refused = ap (option_map link_refusal) refused
+no_link text domain (link.Together error) refused = together_fault_of text domain error refused
 no_link text domain (link.OutOfMemory) refused = ap (option_map link_refusal) refused
 
 -- The error of a call that tells the first fault, behind the options.
 pub written_failed : (by_table : Bool) (text : List ℕ) (asked : Options) (options : SymbolOptions) (room : ℕ) (refusal : Refusal) →
-    Means asked options → HasVersions options → IsFaultRefusal (written_fault by_table text) refusal → IsWrittenRefusal by_table text asked room refusal
+    Means asked options → HasVersions options → IsFaultRefusal (text_refusal by_table text) refusal → IsWrittenRefusal by_table text asked room refusal
 written_failed by_table text asked options room (call.InvalidLevel) means versions failed = absurd (never true refl (written_other by_table text _ failed))
 written_failed by_table text asked options room (call.InvalidVersions) means versions failed = absurd (never true refl (written_other by_table text _ failed))
 written_failed by_table text asked options room (call.InvalidText) means versions failed = absurd (never true refl (written_other by_table text _ failed))
@@ -202,6 +217,7 @@ link_place text domain (link.NoKey) found refused is = same_link_place (link_err
 link_place text domain (link.SecondKey element) found refused is = same_link_place (link_error text domain) _ found refused is
 link_place text domain (link.WrongQualifier element identifier) found refused is = same_link_place (link_error text domain) _ found refused is
 link_place text domain (link.RepeatedElement element identifier) found refused is = same_link_place (link_error text domain) _ found refused is
+link_place text domain (link.Together error) found refused is = same_link_place (link_error text domain) _ found refused is
 
 -- ---- A link in a buffer
 

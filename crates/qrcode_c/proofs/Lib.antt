@@ -1,6 +1,7 @@
 mod Writing
 mod Answering
 mod CoreErrors
+mod TextErrors
 mod LinkMemory
 mod FirstFaults
 mod Widths

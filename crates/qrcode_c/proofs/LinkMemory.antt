@@ -1,4 +1,5 @@
--- Why there is no link is never that an allocation failed, and no domain is a text that is not UTF-8.
+-- Why there is no link is never that an allocation failed, and no domain is a text that is
+-- not UTF-8.
 use Rattle.std.proofs.Common.{◌≡◌, ◌∙◌, refl, sym, ap, arith}
 use Rattle.std.specs.Prelude.{ℕ, ◌+◌, ◌<◌, Bool, true, false, not, List, [], ◌∷◌, length, All, Option, Some, None, if◌then◌else◌}
 use Rattle.gs1_base.specs.Characters.{is_decimal_digit}
@@ -16,6 +17,9 @@ use Rattle.gs1_base.specs.Domains.{is_domain, is_domain_character}
 use Rattle.gs1_links.specs.Links.{keys, qualifiers, number, domain_fault, text_length_fault, no_key_fault}
 use Rattle.gs1_links.specs.Links.{qualifier_fault, second_key_fault, repeated_fault, later_fault, place_with}
 use Rattle.gs1_links.specs.Links.{first_rule_fault, elements_fault, qualifier_order, link_error, IsRefusedLink}
+use Rattle.gs1_links.specs.Links.{together_fault, linking_fault}
+use Rattle.gs1.specs.Together.{first_conflict}
+use Rattle.gs1.specs.declared.together.TogetherError.{TogetherError}
 use Rattle.gs1.specs.Together.{is_among, first_among}
 use Rattle.gs1.specs.Values.{text_error}
 use Rattle.gs1.specs.declared.refusal.CheckError.{CheckError}
@@ -23,7 +27,7 @@ use Rattle.gs1.specs.declared.refusal.CheckError.TheVariants.{OutOfMemory as NoM
 use Rattle.gs1_links.specs.declared.link_error.LinkError.{LinkError}
 use Rattle.gs1_links.specs.declared.link_error.LinkError.TheVariants.{Elements, WrongDomain, TextTooLong}
 use Rattle.gs1_links.specs.declared.link_error.LinkError.TheVariants.{NoKey, SecondKey, WrongQualifier}
-use Rattle.gs1_links.specs.declared.link_error.LinkError.TheVariants.{RepeatedElement, OutOfMemory}
+use Rattle.gs1_links.specs.declared.link_error.LinkError.TheVariants.{RepeatedElement, Together, OutOfMemory}
 use Rattle.gs1.proofs.Refused.{refused_text}
 
 -- ---- Memory
@@ -76,6 +80,14 @@ elements_other elements =
     (unless_other (is_some (first_among keys 0 elements)) NoKey (λ e. let h : Some NoKey ≡ Some (Elements NoMemory) = e in cc))
     (rules_other (qualifier_order elements) 0 elements)
 
+together_other : (elements : List Element) → IsOther (together_fault elements)
+unfolding together_fault
+together_other elements = conflict_other (first_conflict elements 0 elements)
+  where
+    conflict_other : (error : Option TogetherError) → IsOther (option_map (λ error. Together error) error)
+    conflict_other None = none_other
+    conflict_other (Some error) = λ e. let h : Some (Together error) ≡ Some (Elements NoMemory) = e in cc
+
 mapped_other : (error : Option CheckError) → (error ≡ Some NoMemory → ⊥) → IsOther (option_map (λ error. Elements error) error)
 mapped_other None other = none_other
 mapped_other (Some error) other =
@@ -98,8 +110,9 @@ pub no_memory : (text domain : List ℕ) → IsOther (link_error text domain)
 no_memory text domain =
     or_other (text_length_fault text) _ (length_other text)
     (or_other (option_map (λ error. Elements error) (text_error text)) _ (mapped_other (text_error text) (text_other text))
-    (or_other (domain_fault domain) (elements_fault (written_elements text)) (domain_other domain)
-    (elements_other (written_elements text))))
+    (or_other (domain_fault domain) (linking_fault (written_elements text)) (domain_other domain)
+    (or_other (elements_fault (written_elements text)) (together_fault (written_elements text))
+    (elements_other (written_elements text)) (together_other (written_elements text)))))
 
 -- ---- Domains
 
@@ -150,7 +163,7 @@ nothing = refl
 pub as_nothing : (text domain : List ℕ) → (IsUtf8 domain → ⊥) → link_error text [] ≡ link_error text domain
 as_nothing text domain none =
     ap (λ fault. option_or (text_length_fault text) (option_or (option_map (λ error. Elements error) (text_error text))
-    (option_or fault (elements_fault (written_elements text))))) (nothing ∙ sym (no_text domain none))
+    (option_or fault (linking_fault (written_elements text))))) (nothing ∙ sym (no_text domain none))
 
 or_none : (a b : Option LinkError) → (b ≡ None → ⊥) → option_or a b ≡ None → ⊥
 or_none None b some none = some none
@@ -164,7 +177,7 @@ some_or (Some other) b fault is none = let h : Some other ≡ None = none in cc
 pub faulty : (text : List ℕ) → link_error text [] ≡ None → ⊥
 faulty text none =
     or_none (text_length_fault text) _ (or_none (option_map (λ error. Elements error) (text_error text)) _
-    (some_or (domain_fault []) (elements_fault (written_elements text)) WrongDomain nothing)) none
+    (some_or (domain_fault []) (linking_fault (written_elements text)) WrongDomain nothing)) none
 
 pub refused_as : (text first second : List ℕ) (error : LinkError) → link_error text first ≡ link_error text second →
     IsRefusedLink text first error → IsRefusedLink text second error
@@ -176,6 +189,7 @@ refused_as text first second (NoKey) same refused = sym same ∙ refused
 refused_as text first second (SecondKey n) same refused = sym same ∙ refused
 refused_as text first second (WrongQualifier n i) same refused = sym same ∙ refused
 refused_as text first second (RepeatedElement n i) same refused = sym same ∙ refused
+refused_as text first second (Together error) same refused = sym same ∙ refused
 
 -- What a call says of a link that there is not.
 pub none_written : {X : Type 0} (result : Result X LinkError) (text : List ℕ) (fact : X → Type 0) →

@@ -9,6 +9,8 @@ use Rattle.gs1.specs.declared.reason.Reason.{Reason}
 use Rattle.gs1.specs.declared.reason.Reason.TheVariants as reason
 use Rattle.gs1.specs.declared.refusal.CheckError.{CheckError}
 use Rattle.gs1.specs.declared.refusal.CheckError.TheVariants as table
+use Rattle.gs1.specs.declared.together.TogetherError.{TogetherError}
+use Rattle.gs1.specs.declared.together.TogetherError.TheVariants as together
 use Rattle.qrcode_c.specs.declared.faults.ElementFault.{ElementFault}
 use Rattle.qrcode_c.specs.declared.refusal.Refusal.{Refusal}
 use Rattle.qrcode_c.specs.declared.refusal.Refusal.TheVariants.{DataTooLong, OutOfMemory}
@@ -19,6 +21,7 @@ use Rattle.qrcode_c.specs.declared.refusal.Refusal.TheVariants.{ValueTooLong, Wr
 use Rattle.qrcode_c.specs.declared.refusal.Refusal.TheVariants.{WrongCheckDigit, WrongValue}
 use Rattle.qrcode_c.specs.declared.refusal.Refusal.TheVariants.{WrongDomain, NoKey, SecondKey}
 use Rattle.qrcode_c.specs.declared.refusal.Refusal.TheVariants.{WrongQualifier, RepeatedElement}
+use Rattle.qrcode_c.specs.declared.refusal.Refusal.TheVariants.{MissingElement, ConflictingElement}
 
 -- ---- The errors
 
@@ -34,8 +37,8 @@ refusal_for (fault.WrongLength element) = WrongLength
 refusal_for (fault.WrongCheckDigit element) = WrongCheckDigit
 refusal_for (fault.OutOfMemory) = OutOfMemory
 
--- The error that tells a fault at a place of a value. A value that ends at its first character is
--- empty.
+-- The error that tells a fault at a place of a value. A value that ends at its first character
+-- is empty.
 abbrev pub value_refusal : ℕ → Reason → Refusal
 value_refusal place (reason.TooShort) = if place == 0 then EmptyValue else WrongLength
 value_refusal place (reason.TooLong) = ValueTooLong
@@ -52,6 +55,12 @@ table_refusal (table.UnknownIdentifier element identifier) = UnknownIdentifier
 table_refusal (table.WrongValue element identifier place why) = value_refusal place why
 table_refusal (table.OutOfMemory) = OutOfMemory
 
+-- The error that tells why elements may not stand together.
+abbrev pub together_refusal : TogetherError → Refusal
+together_refusal (together.TextTooLong) = DataTooLong
+together_refusal (together.MissingElement element identifier) = MissingElement
+together_refusal (together.ConflictingElement element identifier other) = ConflictingElement
+
 -- The error that tells why there is no link.
 abbrev pub link_refusal : LinkError → Refusal
 link_refusal (link.TextTooLong) = DataTooLong
@@ -61,6 +70,7 @@ link_refusal (link.NoKey) = NoKey
 link_refusal (link.SecondKey element) = SecondKey
 link_refusal (link.WrongQualifier element identifier) = WrongQualifier
 link_refusal (link.RepeatedElement element identifier) = RepeatedElement
+link_refusal (link.Together error) = together_refusal error
 link_refusal (link.OutOfMemory) = OutOfMemory
 
 -- When each error of a first fault is returned: out of memory only where there is none.
@@ -119,25 +129,34 @@ at_element element identifier =
     record { element = counted element; character = 0; identifier = identifier; reason = pos 0 }
 
 -- Where a fault by the table of identifiers is, and its reason.
-abbrev pub place_of : CheckError → ElementFault
-place_of (table.InvalidIdentifier element) = at_element element (negsuc 0)
-place_of (table.UnknownIdentifier element identifier) =
+abbrev pub fault_place : CheckError → ElementFault
+fault_place (table.InvalidIdentifier element) = at_element element (negsuc 0)
+fault_place (table.UnknownIdentifier element identifier) =
     at_element element (identifier_argument identifier)
-place_of (table.WrongValue element identifier place why) =
+fault_place (table.WrongValue element identifier place why) =
     record {
       element = counted element;
       character = counted place;
       identifier = identifier_argument identifier;
       reason = reason_argument why;
     }
-place_of other = nowhere
+fault_place other = nowhere
+
+-- Where the element is that may not stand beside the others.
+abbrev pub together_place_of : TogetherError → ElementFault
+together_place_of (together.MissingElement element identifier) =
+    at_element element (identifier_argument identifier)
+together_place_of (together.ConflictingElement element identifier other) =
+    at_element element (identifier_argument identifier)
+together_place_of other = nowhere
 
 -- Where the fault is for which there is no link.
 abbrev pub link_place_of : LinkError → ElementFault
-link_place_of (link.Elements error) = place_of error
+link_place_of (link.Elements error) = fault_place error
 link_place_of (link.SecondKey element) = at_element element (negsuc 0)
 link_place_of (link.WrongQualifier element identifier) =
     at_element element (identifier_argument identifier)
 link_place_of (link.RepeatedElement element identifier) =
     at_element element (identifier_argument identifier)
+link_place_of (link.Together error) = together_place_of error
 link_place_of other = nowhere

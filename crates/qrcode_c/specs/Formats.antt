@@ -33,8 +33,8 @@ corner None None = None
 corner (Some x) y = Some (x, unwrap_or y 0)
 corner None (Some y) = Some (0, y)
 
--- The numbers of the caller mean these settings, which have no title, and nothing that is asked of
--- printers alone.
+-- The numbers of the caller mean these settings, which have no title and no text below the picture,
+-- and nothing that is asked of printers alone.
 pub record MeansSettings (asked : PictureSettings) (settings : Settings) : Type 0 where
   pub scale_is : settings.scale ≡ given asked.scale
   pub quiet_is : settings.quiet ≡ given asked.quiet
@@ -42,6 +42,7 @@ pub record MeansSettings (asked : PictureSettings) (settings : Settings) : Type 
   pub dpi_is : settings.dpi ≡ given asked.dpi
   pub inverted_is : (settings.inverted ≡ true) ↔ (asked.inverted ≢ pos 0)
   pub title_is : settings.title ≡ None
+  pub caption_is : settings.caption ≡ None
   pub at_is : settings.at ≡ corner (given asked.at_x) (given asked.at_y)
   pub copies_is : settings.copies ≡ None
   pub compressed_is : settings.compressed ≡ false

@@ -1,5 +1,5 @@
 -- The numbers of the levels for a caller in C.
-use Rattle.std.specs.Prelude.{◌≡◌, ◌≢◌, ℤ, pos}
+use Rattle.std.specs.Prelude.{◌≡◌, ◌≢◌, ◌⊎◌, ℤ, pos}
 use Rattle.qrcode_base.specs.declared.types.EcLevel.{EcLevel}
 use Rattle.qrcode_base.specs.declared.types.EcLevel.TheVariants.{L, M, Q, H}
 
@@ -17,3 +17,7 @@ AtLevel number fact = (level : EcLevel) × (number ≡ level_argument level) × 
 -- The number is not that of a level.
 abbrev pub IsNoLevel : ℤ → Type 0
 IsNoLevel number = (level : EcLevel) → number ≢ level_argument level
+
+-- The number is not that of a level of the Micro versions. None of them has level H.
+abbrev pub IsNoMicroLevel : ℤ → Type 0
+IsNoMicroLevel number = AtLevel number (λ level. level ≡ H) ⊎ IsNoLevel number

@@ -5,8 +5,9 @@ pub mod Asking
 pub mod Faults
 pub mod Written
 pub mod Linked
-pub mod Holding
+pub mod Buffers
 pub mod Refusals
+pub mod Texts
 pub mod Cuts
 pub mod Spread
 pub mod Formats

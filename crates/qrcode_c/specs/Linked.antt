@@ -44,8 +44,8 @@ IsLinkedRefusal text domain asked room ShortBuffer =
 IsLinkedRefusal text domain asked room refusal =
     AsksFor asked (λ options. IsFaultRefusal (link_fault text domain) refusal)
 
--- The first bytes of the buffer are the link, as many as are counted; the other bytes are
--- unchanged.
+-- The first bytes of the buffer are the link, as many as are counted; the other bytes
+-- are unchanged.
 abbrev pub HoldsLink : List ℕ → List ℕ → List ℕ → List ℕ → ℕ → Type 0
 HoldsLink text domain before after count =
     HasLink text domain (λ link.

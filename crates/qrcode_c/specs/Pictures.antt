@@ -7,7 +7,7 @@ use Rattle.qrcode_base.specs.Symbols.{IsVersion, width_of}
 use Rattle.qrcode_core.specs.Grids.{Grid, grid_of}
 use Rattle.picture_settings.specs.declared.format.Format.{Format}
 use Rattle.picture_settings.specs.declared.settings.Settings.{Settings}
-use Rattle.qrcode_render.specs.Asked.{ShowsAsAsked}
+use Rattle.qrcode_render.specs.SettingDrawings.{ShowsAsAsked}
 use Rattle.picture_settings.specs.Settings.{invalid_setting}
 use Rattle.qrcode_c.specs.declared.refusal.Refusal.{Refusal}
 use Rattle.qrcode_c.specs.declared.refusal.Refusal.TheVariants.{OutOfMemory, ShortBuffer}

@@ -8,7 +8,7 @@ use Rattle.qrcode_base.specs.declared.types.Color.{Color}
 use Rattle.qrcode_base.specs.declared.types.EcLevel.{EcLevel}
 use Rattle.qrcode_base.specs.declared.types.EcLevel.TheVariants.{H}
 use Rattle.qrcode_base.specs.Symbols.{IsNormalNumber}
-use Rattle.qrcode_core.specs.Drawn.{DrawnSymbol}
+use Rattle.qrcode_core.specs.Symbol.{DrawnSymbol}
 use Rattle.qrcode_core.specs.Headline.{IsBestSymbol, IsBestMicroSymbol, IsTooLong}
 use Rattle.qrcode_core.specs.Headline.{IsTooLongForMicro}
 use Rattle.qrcode_core.specs.Sequence.{IsBestPart, IsSomePartTooLong}
@@ -19,7 +19,7 @@ use Rattle.qrcode_c.specs.declared.refusal.Refusal.TheVariants.{InvalidLevel, In
 use Rattle.qrcode_c.specs.declared.refusal.Refusal.TheVariants.{InvalidMaxVersion, InvalidPartCount}
 use Rattle.qrcode_c.specs.declared.refusal.Refusal.TheVariants.{InvalidCuts}
 use Rattle.qrcode_c.specs.declared.refusal.Refusal.TheVariants.{InvalidIndex, ShortBuffer}
-use Rattle.qrcode_c.specs.Levels.{AtLevel, IsNoLevel}
+use Rattle.qrcode_c.specs.Levels.{AtLevel, IsNoLevel, IsNoMicroLevel}
 use Rattle.qrcode_c.specs.Statuses.{status_of}
 use Rattle.qrcode_bits.specs.declared.bits.front.Content.TheVariants.{Bytes}
 
@@ -49,11 +49,9 @@ IsSymbolRefusal bytes number room ShortBuffer =
     AtLevel number (λ level. IsAbove room (IsBestSymbol bytes level))
 IsSymbolRefusal bytes number room _ = ⊥
 
--- The errors of the call for a Micro symbol, and when each is returned. No Micro version has
--- level H.
+-- The errors of the call for a Micro symbol, and when each is returned.
 abbrev pub IsMicroRefusal : List ℕ → ℤ → ℕ → Refusal → Type 0
-IsMicroRefusal bytes number room InvalidLevel =
-    AtLevel number (λ level. level ≡ H) ⊎ IsNoLevel number
+IsMicroRefusal bytes number room InvalidLevel = IsNoMicroLevel number
 IsMicroRefusal bytes number room DataTooLong =
     AtLevel number (λ level. (level ≢ H) × IsTooLongForMicro bytes level)
 IsMicroRefusal bytes number room OutOfMemory =

@@ -5,7 +5,7 @@ use Rattle.qrcode_base.specs.declared.types.Version.TheVariants.{Normal, Micro}
 use Rattle.qrcode_base.specs.Symbols.{IsVersion, width_of, is_micro}
 use Rattle.qrcode_grid.specs.declared.canvas.MaskPattern.{MaskPattern}
 use Rattle.qrcode_grid.specs.Masks.{normal_number, micro_number}
-use Rattle.qrcode_core.specs.Drawn.{DrawnSymbol}
+use Rattle.qrcode_core.specs.Symbol.{DrawnSymbol}
 use Rattle.qrcode_c.specs.declared.shape.Shape.{Shape}
 use Rattle.qrcode_c.specs.Levels.{level_argument}
 

@@ -9,7 +9,7 @@ use Rattle.qrcode_bits.specs.Frame.{IsTotal}
 use Rattle.qrcode_bits.specs.Places.{IsCutPlace}
 use Rattle.qrcode_bits.specs.declared.bits.front.Content.{Content}
 use Rattle.qrcode_bits.specs.declared.bits.front.Content.TheVariants.{Text}
-use Rattle.qrcode_core.specs.Drawn.{DrawnSymbol, TellsReading, modules_of}
+use Rattle.qrcode_core.specs.Symbol.{DrawnSymbol, TellsReading, modules_of}
 use Rattle.qrcode_core.specs.Sequence.{AreBestSymbols, IsSomePartTooLong}
 use Rattle.qrcode_c.specs.declared.refusal.Refusal.{Refusal}
 use Rattle.qrcode_c.specs.declared.refusal.Refusal.TheVariants.{DataTooLong, OutOfMemory}

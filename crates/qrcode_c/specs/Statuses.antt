@@ -2,6 +2,8 @@
 use Rattle.std.specs.Prelude.{ℤ, pos, Option, Some, None}
 use Rattle.qrcode_base.specs.declared.types.errors.QrError.{QrError}
 use Rattle.qrcode_base.specs.declared.types.errors.QrError.TheVariants as core
+use Rattle.text_symbols.specs.declared.micro.MicroTextError.{MicroTextError}
+use Rattle.text_symbols.specs.declared.micro.MicroTextError.TheVariants.{Symbol, Unwritable}
 use Rattle.qrcode_c.specs.declared.refusal.Refusal.{Refusal}
 use Rattle.qrcode_c.specs.declared.refusal.Refusal.TheVariants.{DataTooLong, OutOfMemory}
 use Rattle.qrcode_c.specs.declared.refusal.Refusal.TheVariants.{InvalidLevel}
@@ -17,6 +19,8 @@ use Rattle.qrcode_c.specs.declared.refusal.Refusal.TheVariants.{InvalidFormat, I
 use Rattle.qrcode_c.specs.declared.refusal.Refusal.TheVariants.{WrongValue, WrongDomain, NoKey}
 use Rattle.qrcode_c.specs.declared.refusal.Refusal.TheVariants.{SecondKey, WrongQualifier}
 use Rattle.qrcode_c.specs.declared.refusal.Refusal.TheVariants.{RepeatedElement}
+use Rattle.qrcode_c.specs.declared.refusal.Refusal.TheVariants.{MissingElement, ConflictingElement}
+use Rattle.qrcode_c.specs.declared.refusal.Refusal.TheVariants.{UnwritableText}
 
 -- The number of an error, which is the status of the call.
 abbrev pub status_of : Refusal → ℤ
@@ -47,6 +51,9 @@ status_of NoKey = pos 26
 status_of SecondKey = pos 27
 status_of WrongQualifier = pos 28
 status_of RepeatedElement = pos 29
+status_of MissingElement = pos 30
+status_of ConflictingElement = pos 31
+status_of UnwritableText = pos 32
 
 -- The error that stands for one of the library. Of the library's calls behind those of C, none has
 -- another error, since what these would speak of is tested before.
@@ -57,3 +64,8 @@ status_error (core.InvalidCharacter position byte) = Some InvalidCharacter
 status_error (core.InvalidStructuredAppend value) = Some InvalidPartCount
 status_error (core.OutOfMemory) = Some OutOfMemory
 status_error other = None
+
+-- The error that stands for one of the Micro symbol of a text.
+abbrev pub micro_text_status : MicroTextError → Option Refusal
+micro_text_status Unwritable = Some UnwritableText
+micro_text_status (Symbol error) = status_error error

@@ -15,11 +15,11 @@ use Rattle.qrcode_c.specs.declared.refusal.Refusal.TheVariants.{DataTooLong, Sho
 use Rattle.qrcode_c.specs.declared.refusal.Refusal.TheVariants.{InvalidLevel, InvalidVersions}
 use Rattle.qrcode_c.specs.declared.refusal.Refusal.TheVariants.{InvalidText}
 use Rattle.qrcode_c.specs.Asking.{AsksFor, IsAskRefusal, IsAskedRefusal}
-use Rattle.qrcode_c.specs.Faults.{refusal_for, table_refusal, IsFaultRefusal, place_of}
+use Rattle.qrcode_c.specs.Faults.{refusal_for, table_refusal, IsFaultRefusal, fault_place}
 
 -- The first fault of a text: by the table of identifiers, or of what a reader needs.
-abbrev pub written_fault : Bool → List ℕ → Option Refusal
-written_fault by_table text =
+abbrev pub text_refusal : Bool → List ℕ → Option Refusal
+text_refusal by_table text =
     if by_table then option_map table_refusal (text_error text)
     else option_map refusal_for (text_fault text)
 
@@ -27,7 +27,7 @@ written_fault by_table text =
 -- of which the fact is true.
 pub record WritesElements (by_table : Bool) (text : List ℕ) (fact : List ℕ → Type 0) : Type 0 where
   pub elements : List ℕ
-  pub faultless : written_fault by_table text ≡ None
+  pub faultless : text_refusal by_table text ≡ None
   pub found : FindsOnly elements (written_elements text)
   pub true_of : fact elements
 
@@ -44,14 +44,14 @@ IsWrittenRefusal by_table text asked room ShortBuffer =
     WritesElements by_table text (λ elements.
     IsAskedRefusal (front_of None Elements) elements asked room ShortBuffer)
 IsWrittenRefusal by_table text asked room refusal =
-    AsksFor asked (λ options. IsFaultRefusal (written_fault by_table text) refusal)
+    AsksFor asked (λ options. IsFaultRefusal (text_refusal by_table text) refusal)
 
 -- The errors of the call that says where the first fault is: the text is not UTF-8, or the fault.
 abbrev pub IsTableRefusal : List ℕ → Refusal → Type 0
 IsTableRefusal text InvalidText = IsUtf8 text → ⊥
-IsTableRefusal text refusal = IsFaultRefusal (written_fault true text) refusal
+IsTableRefusal text refusal = IsFaultRefusal (text_refusal true text) refusal
 
 -- The place is that of the first fault of the text.
 abbrev pub TellsPlace : List ℕ → ElementFault → Type 0
 TellsPlace text place =
-    (error : CheckError) → IsUtf8 text → text_error text ≡ Some error → place ≡ place_of error
+    (error : CheckError) → IsUtf8 text → text_error text ≡ Some error → place ≡ fault_place error

@@ -8,7 +8,7 @@ ghost use Rattle.qrcode_bits.specs.Contents.{AreElements};
 ghost use Rattle.qrcode_bits.specs.Frame.{front_of, no_front};
 ghost use Rattle.qrcode_bits.specs.declared.bits.front.Content.TheVariants.{Elements, Text};
 ghost use Rattle.qrcode_c.specs.Asking.{IsAskedRefusal, IsAskedTextRefusal, IsAskedElementsRefusal};
-ghost use Rattle.qrcode_c.specs.Holding.{HoldsAsked};
+ghost use Rattle.qrcode_c.specs.Buffers.{HoldsAsked};
 
 use crate::drawing::write;
 use crate::options::{Options, options_of};
@@ -26,9 +26,9 @@ pub fn bytes_symbol(
 ) -> Result<Shape, Refusal>
     ensures held { IfOk result
         (HoldsAsked no_front bytes.now options.now modules.old modules.new) }
-    ensures refused { IfErr result
+    ensures refusal { IfErr result
         (IsAskedRefusal no_front bytes.now options.now (length modules.old)) }
-    ensures kept { OnErr result (modules.new ≡ modules.old) }
+    ensures unchanged { OnErr result (modules.new ≡ modules.old) }
 {
     let checked = options_of(options)?;
     match Symbol::bytes_with(alloc, bytes, &checked) {
@@ -47,9 +47,9 @@ pub fn text_symbol(
     ensures held { IfOk result
         (HoldsAsked (front_of None Text) text.now options.now modules.old modules.new) }
     ensures valid { OnOk result (IsUtf8 text.now) }
-    ensures refused { IfErr result
+    ensures refusal { IfErr result
         (IsAskedTextRefusal text.now options.now (length modules.old)) }
-    ensures kept { OnErr result (modules.new ≡ modules.old) }
+    ensures unchanged { OnErr result (modules.new ≡ modules.old) }
 {
     let checked = options_of(options)?;
     let Ok(text) = str::from_utf8(text) else {
@@ -71,9 +71,9 @@ pub fn elements_symbol(
     ensures held { IfOk result
         (HoldsAsked (front_of None Elements) elements.now options.now modules.old modules.new) }
     ensures valid { OnOk result (AreElements elements.now) }
-    ensures refused { IfErr result
+    ensures refusal { IfErr result
         (IsAskedElementsRefusal elements.now options.now (length modules.old)) }
-    ensures kept { OnErr result (modules.new ≡ modules.old) }
+    ensures unchanged { OnErr result (modules.new ≡ modules.old) }
 {
     let checked = options_of(options)?;
     match Symbol::elements_with(alloc, elements, &checked) {

@@ -21,9 +21,9 @@ pub fn cuts_of(
 ) -> Result<usize, Refusal>
     ensures held { IfOk result
         (HoldsCuts Bytes message.now level max_version cuts.old cuts.new) }
-    ensures refused { IfErr result
+    ensures refusal { IfErr result
         (IsCutsStatus Bytes message.now level max_version (length cuts.old)) }
-    ensures kept { OnErr result (cuts.new ≡ cuts.old) }
+    ensures unchanged { OnErr result (cuts.new ≡ cuts.old) }
 {
     let Some(level) = level_of(level) else {
         return Err(Refusal::InvalidLevel);
@@ -52,9 +52,9 @@ pub fn text_cuts_of(
     ensures held { IfOk result
         (HoldsCuts Text text.now level max_version cuts.old cuts.new) }
     ensures valid { OnOk result (IsUtf8 text.now) }
-    ensures refused { IfErr result (IsTextStatus text.now level
+    ensures refusal { IfErr result (IsTextStatus text.now level
         (IsCutsStatus Text text.now level max_version (length cuts.old))) }
-    ensures kept { OnErr result (cuts.new ≡ cuts.old) }
+    ensures unchanged { OnErr result (cuts.new ≡ cuts.old) }
 {
     let Some(_) = level_of(level) else {
         return Err(Refusal::InvalidLevel);
@@ -75,9 +75,9 @@ fn cuts_of_text(
 ) -> Result<usize, Refusal>
     ensures held { IfOk result
         (HoldsCuts Text text.now level max_version cuts.old cuts.new) }
-    ensures refused { IfErr result
+    ensures refusal { IfErr result
         (IsCutsStatus Text text.now level max_version (length cuts.old)) }
-    ensures kept { OnErr result (cuts.new ≡ cuts.old) }
+    ensures unchanged { OnErr result (cuts.new ≡ cuts.old) }
 {
     let Some(level) = level_of(level) else {
         return Err(Refusal::InvalidLevel);
@@ -98,8 +98,8 @@ fn cuts_of_text(
 /// Writes the cuts to the start of a buffer, and returns whether there was room for them.
 fn write_cuts(found: &[usize], cuts: &mut [usize]) -> bool
     ensures written { result ≡ true → cuts.new ≡ found.now ++ drop (length found.now) cuts.old }
-    ensures room { result ≡ false → length cuts.old < length found.now }
-    ensures kept { result ≡ false → cuts.new ≡ cuts.old }
+    ensures short_buffer { result ≡ false → length cuts.old < length found.now }
+    ensures unchanged { result ≡ false → cuts.new ≡ cuts.old }
 {
     if cuts.len() < found.len() {
         return false;

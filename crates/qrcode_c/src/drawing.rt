@@ -6,7 +6,7 @@ ghost use Rattle.std.specs.Prelude.{◌≡◌, ◌<◌, ◌≤◌, ◌++◌, len
 ghost use Rattle.std.specs.Prelude.{OnErr, IfOk, IfErr};
 ghost use Rattle.qrcode_core.specs.Headline.{IsBestSymbol, IsBestMicroSymbol};
 ghost use Rattle.qrcode_grid.specs.Penalty.{byte_of};
-ghost use Rattle.qrcode_c.specs.Holding.{Holds, HoldsBest, HoldsPart};
+ghost use Rattle.qrcode_c.specs.Buffers.{Holds, HoldsBest, HoldsPart};
 ghost use Rattle.qrcode_c.specs.Refusals.{IsSymbolRefusal, IsMicroRefusal, IsPartRefusal};
 
 use crate::options::{level_of, limit_of};
@@ -20,8 +20,8 @@ use std::alloc::Global;
 /// Writes the best symbol of the bytes, and returns its shape.
 pub fn symbol(alloc: Global, bytes: &[u8], level: i32, modules: &mut [u8]) -> Result<Shape, Refusal>
     ensures held { IfOk result (HoldsBest (IsBestSymbol bytes.now) level modules.old modules.new) }
-    ensures refused { IfErr result (IsSymbolRefusal bytes.now level (length modules.old)) }
-    ensures kept { OnErr result (modules.new ≡ modules.old) }
+    ensures refusal { IfErr result (IsSymbolRefusal bytes.now level (length modules.old)) }
+    ensures unchanged { OnErr result (modules.new ≡ modules.old) }
 {
     let Some(level) = level_of(level) else {
         return Err(Refusal::InvalidLevel);
@@ -41,8 +41,8 @@ pub fn micro_symbol(
 ) -> Result<Shape, Refusal>
     ensures held { IfOk result
         (HoldsBest (IsBestMicroSymbol bytes.now) level modules.old modules.new) }
-    ensures refused { IfErr result (IsMicroRefusal bytes.now level (length modules.old)) }
-    ensures kept { OnErr result (modules.new ≡ modules.old) }
+    ensures refusal { IfErr result (IsMicroRefusal bytes.now level (length modules.old)) }
+    ensures unchanged { OnErr result (modules.new ≡ modules.old) }
 {
     let Some(level) = level_of(level) else {
         return Err(Refusal::InvalidLevel);
@@ -66,9 +66,9 @@ pub fn part_symbol(
 ) -> Result<Shape, Refusal>
     ensures held { IfOk result
         (HoldsPart message.now cuts.now level max_version index modules.old modules.new) }
-    ensures refused { IfErr result
+    ensures refusal { IfErr result
         (IsPartRefusal message.now cuts.now level max_version index (length modules.old)) }
-    ensures kept { OnErr result (modules.new ≡ modules.old) }
+    ensures unchanged { OnErr result (modules.new ≡ modules.old) }
 {
     let Some(level) = level_of(level) else {
         return Err(Refusal::InvalidLevel);
@@ -92,8 +92,8 @@ pub fn part_symbol(
 pub fn write(symbol: &Symbol, modules: &mut [u8]) -> Result<Shape, Refusal>
     ensures held { IfOk result (Holds symbol.now modules.old modules.new) }
     ensures short { IfErr result (λ refusal. refusal ≡ Refusal.ShortBuffer) }
-    ensures room { OnErr result (length modules.old < length symbol.now.modules) }
-    ensures kept { OnErr result (modules.new ≡ modules.old) }
+    ensures short_buffer { OnErr result (length modules.old < length symbol.now.modules) }
+    ensures unchanged { OnErr result (modules.new ≡ modules.old) }
 {
     let colors = symbol.modules();
     if modules.len() < colors.len() {

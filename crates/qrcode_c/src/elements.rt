@@ -3,12 +3,12 @@ ghost use Rattle.std.specs.Prelude.{◌≡◌, ◌≢◌, length, None, true, fa
 ghost use Rattle.qrcode_bits.specs.Frame.{front_of, no_front};
 ghost use Rattle.qrcode_bits.specs.declared.bits.front.Content.TheVariants.{Elements};
 ghost use Rattle.qrcode_c.specs.declared.refusal.Refusal.{Refusal};
-ghost use Rattle.qrcode_c.specs.Holding.{HoldsAsked};
+ghost use Rattle.qrcode_c.specs.Buffers.{HoldsAsked};
 ghost use Rattle.qrcode_c.specs.Linked.{link_fault, HasLink, IsLinkedRefusal, HoldsLink};
 ghost use Rattle.qrcode_c.specs.Linked.{IsLinkTextRefusal, IsNoLinkRefusal, TellsLinkPlace};
 ghost use Rattle.qrcode_c.specs.Refusals.{IsStatusOf};
 ghost use Rattle.qrcode_c.specs.Statuses.{status_of};
-ghost use Rattle.qrcode_c.specs.Written.{written_fault, IsWrittenRefusal, WritesElements};
+ghost use Rattle.qrcode_c.specs.Written.{text_refusal, IsWrittenRefusal, WritesElements};
 ghost use Rattle.qrcode_c.specs.Written.{IsTableRefusal, TellsPlace};
 
 use crate::DONE;
@@ -40,9 +40,9 @@ pub extern "C" fn qrcode_c_gs1(
     ensures done { result ≡ DONE → WritesElements true text.now (λ elements.
         HoldsAsked (front_of None Elements) elements options.now modules.old modules.new
         shape.new) }
-    ensures refused { result ≢ DONE → IsStatusOf
+    ensures refusal { result ≢ DONE → IsStatusOf
         (IsWrittenRefusal true text.now options.now (length modules.old)) result }
-    ensures kept { result ≢ DONE → (modules.new ≡ modules.old) × (shape.new ≡ shape.old) }
+    ensures unchanged { result ≢ DONE → (modules.new ≡ modules.old) × (shape.new ≡ shape.old) }
 {
     match written_symbol(alloc, true, text, options, modules) {
         Ok(drawn) => {
@@ -72,9 +72,9 @@ pub extern "C" fn qrcode_c_gs1_unchecked(
     ensures done { result ≡ DONE → WritesElements false text.now (λ elements.
         HoldsAsked (front_of None Elements) elements options.now modules.old modules.new
         shape.new) }
-    ensures refused { result ≢ DONE → IsStatusOf
+    ensures refusal { result ≢ DONE → IsStatusOf
         (IsWrittenRefusal false text.now options.now (length modules.old)) result }
-    ensures kept { result ≢ DONE → (modules.new ≡ modules.old) × (shape.new ≡ shape.old) }
+    ensures unchanged { result ≢ DONE → (modules.new ≡ modules.old) × (shape.new ≡ shape.old) }
 {
     match written_symbol(alloc, false, text, options, modules) {
         Ok(drawn) => {
@@ -94,8 +94,8 @@ pub extern "C" fn qrcode_c_gs1_unchecked(
 /// there is none and an allocation failed.
 #[unsafe(no_mangle)]
 pub extern "C" fn qrcode_c_gs1_fault(alloc: Global, text: &[u8], fault: &mut ElementFault) -> i32
-    ensures done { result ≡ DONE → written_fault true text.now ≡ None }
-    ensures refused { result ≢ DONE → IsStatusOf (IsTableRefusal text.now) result }
+    ensures done { result ≡ DONE → text_refusal true text.now ≡ None }
+    ensures refusal { result ≢ DONE → IsStatusOf (IsTableRefusal text.now) result }
     ensures told { TellsPlace text.now fault.new }
 {
     match check_written(alloc, text, fault) {
@@ -124,9 +124,9 @@ pub extern "C" fn qrcode_c_link(
 ) -> i32
     ensures done { result ≡ DONE → HasLink text.now domain.now (λ link.
         HoldsAsked no_front link options.now modules.old modules.new shape.new) }
-    ensures refused { result ≢ DONE → IsStatusOf
+    ensures refusal { result ≢ DONE → IsStatusOf
         (IsLinkedRefusal text.now domain.now options.now (length modules.old)) result }
-    ensures kept { result ≢ DONE → (modules.new ≡ modules.old) × (shape.new ≡ shape.old) }
+    ensures unchanged { result ≢ DONE → (modules.new ≡ modules.old) × (shape.new ≡ shape.old) }
 {
     match linked_symbol(alloc, text, domain, options, modules) {
         Ok(drawn) => {
@@ -155,9 +155,9 @@ pub extern "C" fn qrcode_c_link_text(
 ) -> i32
     ensures done { result ≡ DONE →
         HoldsLink text.now domain.now buffer.old buffer.new size.new }
-    ensures refused { result ≢ DONE → IsStatusOf
+    ensures refusal { result ≢ DONE → IsStatusOf
         (IsLinkTextRefusal text.now domain.now (length buffer.old) size.new) result }
-    ensures kept { result ≢ DONE → buffer.new ≡ buffer.old }
+    ensures unchanged { result ≢ DONE → buffer.new ≡ buffer.old }
     ensures sized { result ≢ DONE → result ≢ status_of Refusal.ShortBuffer →
         size.new ≡ size.old }
 {
@@ -182,7 +182,7 @@ pub extern "C" fn qrcode_c_link_fault(
     fault: &mut ElementFault,
 ) -> i32
     ensures done { result ≡ DONE → link_fault text.now domain.now ≡ None }
-    ensures refused { result ≢ DONE → IsStatusOf (IsNoLinkRefusal text.now domain.now) result }
+    ensures refusal { result ≢ DONE → IsStatusOf (IsNoLinkRefusal text.now domain.now) result }
     ensures told { TellsLinkPlace text.now domain.now fault.new }
 {
     match check_link(alloc, text, domain, fault) {

@@ -2,10 +2,11 @@
 ghost use Rattle.std.specs.Prelude.{◌≡◌};
 ghost use Rattle.qrcode_c.specs.Faults.{refusal_for, value_refusal, table_refusal, link_refusal};
 ghost use Rattle.qrcode_c.specs.Faults.{counted, identifier_argument, reason_argument, nowhere};
-ghost use Rattle.qrcode_c.specs.Faults.{at_element, place_of, link_place_of};
+ghost use Rattle.qrcode_c.specs.Faults.{at_element, fault_place, link_place_of};
+ghost use Rattle.qrcode_c.specs.Faults.{together_refusal, together_place_of};
 
 use crate::refusal::Refusal;
-use gs1::{CheckError, Gs1Error, Reason};
+use gs1::{CheckError, Gs1Error, Reason, TogetherError};
 use gs1_links::LinkError;
 
 /// Where the fault of a text of elements is, and its reason.
@@ -72,6 +73,17 @@ pub fn table_refusal(error: CheckError) -> Refusal
     }
 }
 
+/// Returns the error that tells why elements may not stand together.
+fn together_refusal(error: TogetherError) -> Refusal
+    ensures { result ≡ together_refusal error }
+{
+    match error {
+        TogetherError::TextTooLong => Refusal::DataTooLong,
+        TogetherError::MissingElement { .. } => Refusal::MissingElement,
+        TogetherError::ConflictingElement { .. } => Refusal::ConflictingElement,
+    }
+}
+
 /// Returns the error that tells why there is no link.
 pub fn link_refusal(error: LinkError) -> Refusal
     ensures { result ≡ link_refusal error }
@@ -84,6 +96,7 @@ pub fn link_refusal(error: LinkError) -> Refusal
         LinkError::SecondKey { .. } => Refusal::SecondKey,
         LinkError::WrongQualifier { .. } => Refusal::WrongQualifier,
         LinkError::RepeatedElement { .. } => Refusal::RepeatedElement,
+        LinkError::Together(error) => together_refusal(error),
         LinkError::OutOfMemory => Refusal::OutOfMemory,
     }
 }
@@ -168,7 +181,7 @@ fn at_element(element: usize, identifier: i32) -> ElementFault
 
 /// Returns where a fault by the table of identifiers is.
 pub fn place_of(error: CheckError) -> ElementFault
-    ensures { result ≡ place_of error }
+    ensures { result ≡ fault_place error }
 {
     match error {
         CheckError::InvalidIdentifier { element } => at_element(element, -1),
@@ -191,6 +204,24 @@ pub fn place_of(error: CheckError) -> ElementFault
     }
 }
 
+/// Returns where the element is that may not stand beside the others.
+fn together_place_of(error: TogetherError) -> ElementFault
+    ensures { result ≡ together_place_of error }
+{
+    match error {
+        TogetherError::MissingElement {
+            element,
+            identifier,
+        } => at_element(element, identifier_number(identifier)),
+        TogetherError::ConflictingElement {
+            element,
+            identifier,
+            ..
+        } => at_element(element, identifier_number(identifier)),
+        TogetherError::TextTooLong => nowhere(),
+    }
+}
+
 /// Returns where the fault is for which there is no link.
 pub fn link_place_of(error: LinkError) -> ElementFault
     ensures { result ≡ link_place_of error }
@@ -206,6 +237,7 @@ pub fn link_place_of(error: LinkError) -> ElementFault
             element,
             identifier,
         } => at_element(element, identifier_number(identifier)),
+        LinkError::Together(error) => together_place_of(error),
         LinkError::TextTooLong | LinkError::WrongDomain => nowhere(),
         LinkError::NoKey | LinkError::OutOfMemory => nowhere(),
     }

@@ -15,7 +15,7 @@ ghost use Rattle.qrcode_core.specs.Headline.{IsBestSymbol, IsBestMicroSymbol};
 ghost use Rattle.qrcode_base.specs.declared.types.Version.{Version};
 ghost use Rattle.qrcode_base.specs.Symbols.{IsVersion, width_of};
 ghost use Rattle.qrcode_c.specs.Asking.{IsAskedRefusal, IsAskedTextRefusal, IsAskedElementsRefusal};
-ghost use Rattle.qrcode_c.specs.Holding.{HoldsAsked, HoldsBest};
+ghost use Rattle.qrcode_c.specs.Buffers.{HoldsAsked, HoldsBest};
 ghost use Rattle.qrcode_c.specs.Pictures.{HoldsPicture, IsPictureRefusal};
 ghost use Rattle.qrcode_c.specs.Statuses.{status_of};
 ghost use Rattle.qrcode_c.specs.Refusals.{IsStatusOf};
@@ -37,6 +37,7 @@ pub use sequences::{
 pub use settings::PictureSettings;
 pub use shape::Shape;
 use std::alloc::Global;
+pub use texts::{qrcode_c_micro_text, qrcode_c_smallest_text};
 
 mod asking;
 mod cuts;
@@ -54,9 +55,13 @@ mod refused_growth;
 mod sequences;
 mod settings;
 mod shape;
+mod smallest;
 mod spread;
 #[cfg(test)]
 mod tests;
+#[cfg(test)]
+mod text_tests;
+mod texts;
 mod written;
 
 /// The status of success. Each other status is the number of a `Refusal`.
@@ -81,9 +86,9 @@ pub extern "C" fn qrcode_c_symbol(
 ) -> i32
     ensures done { result ≡ DONE →
         HoldsBest (IsBestSymbol bytes.now) level modules.old modules.new shape.new }
-    ensures refused { result ≢ DONE →
+    ensures refusal { result ≢ DONE →
         IsStatusOf (IsSymbolRefusal bytes.now level (length modules.old)) result }
-    ensures kept { result ≢ DONE → (modules.new ≡ modules.old) × (shape.new ≡ shape.old) }
+    ensures unchanged { result ≢ DONE → (modules.new ≡ modules.old) × (shape.new ≡ shape.old) }
 {
     match drawing::symbol(alloc, bytes, level, modules) {
         Ok(drawn) => {
@@ -114,9 +119,9 @@ pub extern "C" fn qrcode_c_bytes(
 ) -> i32
     ensures done { result ≡ DONE →
         HoldsAsked no_front bytes.now options.now modules.old modules.new shape.new }
-    ensures refused { result ≢ DONE → IsStatusOf
+    ensures refusal { result ≢ DONE → IsStatusOf
         (IsAskedRefusal no_front bytes.now options.now (length modules.old)) result }
-    ensures kept { result ≢ DONE → (modules.new ≡ modules.old) × (shape.new ≡ shape.old) }
+    ensures unchanged { result ≢ DONE → (modules.new ≡ modules.old) × (shape.new ≡ shape.old) }
 {
     match asking::bytes_symbol(alloc, bytes, options, modules) {
         Ok(drawn) => {
@@ -141,9 +146,9 @@ pub extern "C" fn qrcode_c_text(
     ensures done { result ≡ DONE →
         HoldsAsked (front_of None Text) text.now options.now modules.old modules.new shape.new }
     ensures valid { result ≡ DONE → IsUtf8 text.now }
-    ensures refused { result ≢ DONE →
+    ensures refusal { result ≢ DONE →
         IsStatusOf (IsAskedTextRefusal text.now options.now (length modules.old)) result }
-    ensures kept { result ≢ DONE → (modules.new ≡ modules.old) × (shape.new ≡ shape.old) }
+    ensures unchanged { result ≢ DONE → (modules.new ≡ modules.old) × (shape.new ≡ shape.old) }
 {
     match asking::text_symbol(alloc, text, options, modules) {
         Ok(drawn) => {
@@ -168,9 +173,9 @@ pub extern "C" fn qrcode_c_elements(
     ensures done { result ≡ DONE → HoldsAsked (front_of None Elements) elements.now options.now
         modules.old modules.new shape.new }
     ensures valid { result ≡ DONE → AreElements elements.now }
-    ensures refused { result ≢ DONE →
+    ensures refusal { result ≢ DONE →
         IsStatusOf (IsAskedElementsRefusal elements.now options.now (length modules.old)) result }
-    ensures kept { result ≢ DONE → (modules.new ≡ modules.old) × (shape.new ≡ shape.old) }
+    ensures unchanged { result ≢ DONE → (modules.new ≡ modules.old) × (shape.new ≡ shape.old) }
 {
     match asking::elements_symbol(alloc, elements, options, modules) {
         Ok(drawn) => {
@@ -193,9 +198,9 @@ pub extern "C" fn qrcode_c_micro_symbol(
 ) -> i32
     ensures done { result ≡ DONE →
         HoldsBest (IsBestMicroSymbol bytes.now) level modules.old modules.new shape.new }
-    ensures refused { result ≢ DONE →
+    ensures refusal { result ≢ DONE →
         IsStatusOf (IsMicroRefusal bytes.now level (length modules.old)) result }
-    ensures kept { result ≢ DONE → (modules.new ≡ modules.old) × (shape.new ≡ shape.old) }
+    ensures unchanged { result ≢ DONE → (modules.new ≡ modules.old) × (shape.new ≡ shape.old) }
 {
     match drawing::micro_symbol(alloc, bytes, level, modules) {
         Ok(drawn) => {
@@ -229,9 +234,9 @@ pub extern "C" fn qrcode_c_picture(
 ) -> i32
     ensures done { result ≡ DONE → HoldsPicture modules.now width format settings.now
         buffer.old buffer.new size.new }
-    ensures refused { result ≢ DONE → IsStatusOf (IsPictureRefusal modules.now width format
+    ensures refusal { result ≢ DONE → IsStatusOf (IsPictureRefusal modules.now width format
         settings.now (length buffer.old) size.new) result }
-    ensures kept { result ≢ DONE → buffer.new ≡ buffer.old }
+    ensures unchanged { result ≢ DONE → buffer.new ≡ buffer.old }
     ensures sized { result ≢ DONE → result ≢ status_of Refusal.ShortBuffer →
         size.new ≡ size.old }
 {

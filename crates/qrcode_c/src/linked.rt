@@ -9,7 +9,7 @@ ghost use Rattle.gs1.specs.Elements.{written_elements};
 ghost use Rattle.gs1_links.specs.LinkReader.{ReadsLink};
 ghost use Rattle.gs1_links.specs.Links.{link_error, link_of, linked, IsRefusedLink};
 ghost use Rattle.qrcode_bits.specs.Frame.{no_front};
-ghost use Rattle.qrcode_c.specs.Holding.{HoldsAsked};
+ghost use Rattle.qrcode_c.specs.Buffers.{HoldsAsked};
 ghost use Rattle.qrcode_c.specs.Linked.{link_fault, HasLink, IsLinkedRefusal, HoldsLink};
 ghost use Rattle.qrcode_c.specs.Linked.{IsLinkTextRefusal, IsNoLinkRefusal, TellsLinkPlace};
 
@@ -33,9 +33,9 @@ pub fn linked_symbol(
 ) -> Result<Shape, Refusal>
     ensures held { IfOk result (λ shape. HasLink text.now domain.now (λ link.
         HoldsAsked no_front link options.now modules.old modules.new shape)) }
-    ensures refused { IfErr result
+    ensures refusal { IfErr result
         (IsLinkedRefusal text.now domain.now options.now (length modules.old)) }
-    ensures kept { OnErr result (modules.new ≡ modules.old) }
+    ensures unchanged { OnErr result (modules.new ≡ modules.old) }
 {
     let checked = options_of(options)?;
     let Ok(text) = str::from_utf8(text) else {
@@ -57,7 +57,7 @@ fn link_of(alloc: Global, text: &str, domain: &[u8]) -> Result<Vec<u8>, LinkErro
         ≡ link_of domain.now (written_elements text.now)) }
     ensures read { IfOk result (λ link. ReadsLink link.items (linked (written_elements text.now))) }
     ensures faultless { OnOk result (link_error text.now domain.now ≡ None) }
-    ensures refused { IfErr result (IsRefusedLink text.now domain.now) }
+    ensures refusal { IfErr result (IsRefusedLink text.now domain.now) }
 {
     // Neither bytes that are not UTF-8 nor an empty text are a domain.
     match str::from_utf8(domain) {
@@ -76,9 +76,9 @@ pub fn write_link(
     size: &mut usize,
 ) -> Result<(), Refusal>
     ensures held { OnOk result (HoldsLink text.now domain.now buffer.old buffer.new size.new) }
-    ensures refused { IfErr result
+    ensures refusal { IfErr result
         (IsLinkTextRefusal text.now domain.now (length buffer.old) size.new) }
-    ensures kept { OnErr result (buffer.new ≡ buffer.old) }
+    ensures unchanged { OnErr result (buffer.new ≡ buffer.old) }
     ensures sized { IfErr result (λ refusal.
         refusal ≢ Refusal.ShortBuffer → size.new ≡ size.old) }
 {
@@ -101,7 +101,7 @@ pub fn check_link(
     fault: &mut ElementFault,
 ) -> Result<(), Refusal>
     ensures faultless { OnOk result (link_fault text.now domain.now ≡ None) }
-    ensures refused { IfErr result (IsNoLinkRefusal text.now domain.now) }
+    ensures refusal { IfErr result (IsNoLinkRefusal text.now domain.now) }
     ensures told { TellsLinkPlace text.now domain.now fault.new }
 {
     let Ok(text) = str::from_utf8(text) else {

@@ -2,7 +2,7 @@
 ghost use Rattle.std.specs.Prelude.{◌≡◌, ◌≢◌, ◌↔◌, pos, true, IfOk, IfErr, IfSome, IfNone};
 ghost use Rattle.qrcode_base.specs.Symbols.{IsNormalNumber};
 ghost use Rattle.qrcode_core.specs.Options.{HasVersions};
-ghost use Rattle.qrcode_c.specs.Levels.{level_argument, IsNoLevel};
+ghost use Rattle.qrcode_c.specs.Levels.{level_argument, IsNoLevel, IsNoMicroLevel};
 ghost use Rattle.qrcode_c.specs.Asking.{Means, IsAskRefusal};
 
 use crate::refusal::Refusal;
@@ -32,7 +32,7 @@ pub struct Options {
 pub fn options_of(options: &Options) -> Result<SymbolOptions, Refusal>
     ensures means { IfOk result (Means options.now) }
     ensures range { IfOk result HasVersions }
-    ensures refused { IfErr result (IsAskRefusal options.now) }
+    ensures refusal { IfErr result (IsAskRefusal options.now) }
 {
     let Some(level) = level_of(options.level) else {
         return Err(Refusal::InvalidLevel);
@@ -75,6 +75,20 @@ pub fn level_of(number: i32) -> Option<EcLevel>
         2 => Some(EcLevel::Q),
         3 => Some(EcLevel::H),
         _ => None,
+    }
+}
+
+/// Returns the level of a number that Micro versions have, 0 to 2.
+pub fn micro_level_of(number: i32) -> Option<EcLevel>
+    ensures level { IfSome result (λ level. number ≡ level_argument level) }
+    ensures micro { IfSome result (λ level. level ≢ EcLevel.H) }
+    ensures none { IfNone result (IsNoMicroLevel number) }
+{
+    let level = level_of(number)?;
+    if level == EcLevel::H {
+        None
+    } else {
+        Some(level)
     }
 }
 

@@ -30,9 +30,9 @@ pub fn write_picture(
 ) -> Result<(), Refusal>
     ensures held { OnOk result (HoldsPicture modules.now width format settings.now
         buffer.old buffer.new size.new) }
-    ensures refused { IfErr result (IsPictureRefusal modules.now width format settings.now
+    ensures refusal { IfErr result (IsPictureRefusal modules.now width format settings.now
         (length buffer.old) size.new) }
-    ensures kept { OnErr result (buffer.new ≡ buffer.old) }
+    ensures unchanged { OnErr result (buffer.new ≡ buffer.old) }
     ensures sized { IfErr result (λ refusal.
         refusal ≢ Refusal.ShortBuffer → size.new ≡ size.old) }
 {
@@ -51,7 +51,7 @@ fn drawn(
 ) -> Result<Vec<u8>, Refusal>
     ensures shown { IfOk result (λ bytes.
         IsAskedPicture modules.now width format asked.now bytes.items) }
-    ensures refused { IfErr result (IsDrawRefusal modules.now width format asked.now) }
+    ensures refusal { IfErr result (IsDrawRefusal modules.now width format asked.now) }
 {
     if !is_square(modules.len(), width) {
         return Err(Refusal::InvalidWidth);
@@ -81,6 +81,7 @@ fn setting_refusal(setting: Setting) -> Refusal
         | Setting::Dpi
         | Setting::Inverted
         | Setting::Title
+        | Setting::Caption
         | Setting::At
         | Setting::Copies
         | Setting::Compressed
@@ -149,8 +150,8 @@ fn color_of(byte: u8) -> Color
 pub fn write_bytes(bytes: &[u8], buffer: &mut [u8]) -> Result<(), Refusal>
     ensures written { OnOk result (buffer.new ≡ bytes.now ++ drop (length bytes.now) buffer.old) }
     ensures short { IfErr result (λ refusal. refusal ≡ Refusal.ShortBuffer) }
-    ensures room { OnErr result (length buffer.old < length bytes.now) }
-    ensures kept { OnErr result (buffer.new ≡ buffer.old) }
+    ensures short_buffer { OnErr result (length buffer.old < length bytes.now) }
+    ensures unchanged { OnErr result (buffer.new ≡ buffer.old) }
 {
     if buffer.len() < bytes.len() {
         return Err(Refusal::ShortBuffer);

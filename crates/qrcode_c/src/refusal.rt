@@ -1,8 +1,9 @@
 //! The errors of a call.
 ghost use Rattle.std.specs.Prelude.{◌≡◌, Some, IsSome};
-ghost use Rattle.qrcode_c.specs.Statuses.{status_error, status_of};
+ghost use Rattle.qrcode_c.specs.Statuses.{micro_text_status, status_error, status_of};
 
 use qrcode_core::types::QrError;
+use text_symbols::MicroTextError;
 
 /// The errors of a call, with the numbers that the header has.
 #[derive(Clone, Copy, Debug, PartialEq, Eq)]
@@ -63,6 +64,12 @@ pub enum Refusal {
     WrongQualifier = 28,
     /// The identifier of an element of a link stands once more after it.
     RepeatedElement = 29,
+    /// An element that has to stand beside one of a link is missing.
+    MissingElement = 30,
+    /// An element of a link may not stand beside another one.
+    ConflictingElement = 31,
+    /// No Micro symbol is read as the text.
+    UnwritableText = 32,
 }
 
 impl Refusal {
@@ -91,5 +98,16 @@ pub fn core_refusal(error: QrError) -> Refusal
         | QrError::RenderSizeExceeded { .. }
         | QrError::EncodingTimeout
         | QrError::InvalidDataLength { .. } => unreachable!(),
+    }
+}
+
+/// Returns the error of a call for an error of the Micro symbol of a text.
+pub fn micro_text_refusal(error: MicroTextError) -> Refusal
+    requires { IsSome (micro_text_status error) }
+    ensures { micro_text_status error ≡ Some result }
+{
+    match error {
+        MicroTextError::Unwritable => Refusal::UnwritableText,
+        MicroTextError::Symbol(error) => core_refusal(error),
     }
 }

@@ -2,9 +2,9 @@
 ghost use Rattle.std.specs.Prelude.{◌≡◌, ◌≢◌, length, List};
 ghost use Rattle.std.specs.Str.{IsUtf8};
 ghost use Rattle.qrcode_bits.specs.declared.bits.front.Content.TheVariants.{Bytes, Text};
-ghost use Rattle.qrcode_core.specs.Drawn.{DrawnSymbol};
+ghost use Rattle.qrcode_core.specs.Symbol.{DrawnSymbol};
 ghost use Rattle.qrcode_c.specs.Cuts.{HoldsCuts, IsCutsStatus};
-ghost use Rattle.qrcode_c.specs.Holding.{HoldsPart};
+ghost use Rattle.qrcode_c.specs.Buffers.{HoldsPart};
 ghost use Rattle.qrcode_c.specs.Refusals.{IsStatusOf, IsPartRefusal, IsTextStatus};
 ghost use Rattle.qrcode_c.specs.Spread.{AreSpread, HoldsAll, IsSpreadStatus};
 
@@ -40,10 +40,10 @@ pub extern "C" fn qrcode_c_part_symbol(
 ) -> i32
     ensures done { result ≡ DONE →
         HoldsPart message.now cuts.now level max_version index modules.old modules.new shape.new }
-    ensures refused { result ≢ DONE →
+    ensures refusal { result ≢ DONE →
         IsStatusOf
         (IsPartRefusal message.now cuts.now level max_version index (length modules.old)) result }
-    ensures kept { result ≢ DONE → (modules.new ≡ modules.old) × (shape.new ≡ shape.old) }
+    ensures unchanged { result ≢ DONE → (modules.new ≡ modules.old) × (shape.new ≡ shape.old) }
 {
     match part_symbol(alloc, message, cuts, level, max_version, index, modules) {
         Ok(drawn) => {
@@ -77,9 +77,9 @@ pub extern "C" fn qrcode_c_sequence(
     ensures done { result ≡ DONE → (symbols : List DrawnSymbol)
         × AreSpread Bytes message.now cuts.now level max_version symbols
         × HoldsAll symbols modules.old modules.new shapes.old shapes.new }
-    ensures refused { result ≢ DONE → IsStatusOf (IsSpreadStatus Bytes message.now cuts.now level
+    ensures refusal { result ≢ DONE → IsStatusOf (IsSpreadStatus Bytes message.now cuts.now level
         max_version (length modules.old) (length shapes.old)) result }
-    ensures kept { result ≢ DONE → (modules.new ≡ modules.old) × (shapes.new ≡ shapes.old) }
+    ensures unchanged { result ≢ DONE → (modules.new ≡ modules.old) × (shapes.new ≡ shapes.old) }
 {
     match spread(alloc, message, cuts, level, max_version, modules, shapes) {
         Ok(()) => DONE,
@@ -105,10 +105,10 @@ pub extern "C" fn qrcode_c_text_sequence(
         × AreSpread Text text.now cuts.now level max_version symbols
         × HoldsAll symbols modules.old modules.new shapes.old shapes.new }
     ensures valid { result ≡ DONE → IsUtf8 text.now }
-    ensures refused { result ≢ DONE → IsStatusOf (IsTextStatus text.now level
+    ensures refusal { result ≢ DONE → IsStatusOf (IsTextStatus text.now level
         (IsSpreadStatus Text text.now cuts.now level max_version (length modules.old)
         (length shapes.old))) result }
-    ensures kept { result ≢ DONE → (modules.new ≡ modules.old) × (shapes.new ≡ shapes.old) }
+    ensures unchanged { result ≢ DONE → (modules.new ≡ modules.old) × (shapes.new ≡ shapes.old) }
 {
     match text_spread(alloc, text, cuts, level, max_version, modules, shapes) {
         Ok(()) => DONE,
@@ -137,9 +137,9 @@ pub extern "C" fn qrcode_c_cuts(
 ) -> i32
     ensures done { result ≡ DONE →
         HoldsCuts Bytes message.now level max_version cuts.old cuts.new count.new }
-    ensures refused { result ≢ DONE → IsStatusOf
+    ensures refusal { result ≢ DONE → IsStatusOf
         (IsCutsStatus Bytes message.now level max_version (length cuts.old)) result }
-    ensures kept { result ≢ DONE → (cuts.new ≡ cuts.old) × (count.new ≡ count.old) }
+    ensures unchanged { result ≢ DONE → (cuts.new ≡ cuts.old) × (count.new ≡ count.old) }
 {
     match cuts_of(alloc, message, level, max_version, cuts) {
         Ok(found) => {
@@ -165,9 +165,9 @@ pub extern "C" fn qrcode_c_text_cuts(
     ensures done { result ≡ DONE →
         HoldsCuts Text text.now level max_version cuts.old cuts.new count.new }
     ensures valid { result ≡ DONE → IsUtf8 text.now }
-    ensures refused { result ≢ DONE → IsStatusOf (IsTextStatus text.now level
+    ensures refusal { result ≢ DONE → IsStatusOf (IsTextStatus text.now level
         (IsCutsStatus Text text.now level max_version (length cuts.old))) result }
-    ensures kept { result ≢ DONE → (cuts.new ≡ cuts.old) × (count.new ≡ count.old) }
+    ensures unchanged { result ≢ DONE → (cuts.new ≡ cuts.old) × (count.new ≡ count.old) }
 {
     match text_cuts_of(alloc, text, level, max_version, cuts) {
         Ok(found) => {

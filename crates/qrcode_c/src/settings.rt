@@ -57,6 +57,7 @@ pub fn settings_of(asked: &PictureSettings) -> Settings<'_>
         dpi: given(asked.dpi),
         inverted: is_set(asked.inverted),
         title: None,
+        caption: None,
         at: corner(given(asked.at_x), given(asked.at_y)),
         copies: None,
         compressed: false,

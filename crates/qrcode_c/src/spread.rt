@@ -6,7 +6,7 @@ ghost use Rattle.std.specs.Prelude.{◌≡◌, ◌+◌, ◌<◌, ◌≤◌, ◌+
 ghost use Rattle.std.specs.Prelude.{drop, take, OnErr, OnOk, IfOk, IfErr};
 ghost use Rattle.std.specs.Str.{IsUtf8};
 ghost use Rattle.qrcode_bits.specs.declared.bits.front.Content.TheVariants.{Bytes, Text};
-ghost use Rattle.qrcode_core.specs.Drawn.{DrawnSymbol};
+ghost use Rattle.qrcode_core.specs.Symbol.{DrawnSymbol};
 ghost use Rattle.qrcode_grid.specs.Penalty.{byte_of};
 ghost use Rattle.qrcode_c.specs.Shapes.{shape_of};
 ghost use Rattle.qrcode_c.specs.Spread.{bytes_of_all, HoldsAll, AreSpread, IsNoRoom};
@@ -35,9 +35,9 @@ pub fn spread(
     ensures held { IfOk result (λ _. (symbols : List DrawnSymbol)
         × AreSpread Bytes message.now cuts.now level max_version symbols
         × HoldsAll symbols modules.old modules.new shapes.old shapes.new) }
-    ensures refused { IfErr result (IsSpreadStatus Bytes message.now cuts.now level max_version
+    ensures refusal { IfErr result (IsSpreadStatus Bytes message.now cuts.now level max_version
         (length modules.old) (length shapes.old)) }
-    ensures kept { OnErr result ((modules.new ≡ modules.old) × (shapes.new ≡ shapes.old)) }
+    ensures unchanged { OnErr result ((modules.new ≡ modules.old) × (shapes.new ≡ shapes.old)) }
 {
     let Some(level) = level_of(level) else {
         return Err(Refusal::InvalidLevel);
@@ -72,9 +72,9 @@ pub fn text_spread(
         × AreSpread Text text.now cuts.now level max_version symbols
         × HoldsAll symbols modules.old modules.new shapes.old shapes.new) }
     ensures valid { OnOk result (IsUtf8 text.now) }
-    ensures refused { IfErr result (IsTextStatus text.now level (IsSpreadStatus Text text.now
+    ensures refusal { IfErr result (IsTextStatus text.now level (IsSpreadStatus Text text.now
         cuts.now level max_version (length modules.old) (length shapes.old))) }
-    ensures kept { OnErr result ((modules.new ≡ modules.old) × (shapes.new ≡ shapes.old)) }
+    ensures unchanged { OnErr result ((modules.new ≡ modules.old) × (shapes.new ≡ shapes.old)) }
 {
     let Some(_) = level_of(level) else {
         return Err(Refusal::InvalidLevel);
@@ -98,9 +98,9 @@ fn spread_text(
     ensures held { IfOk result (λ _. (symbols : List DrawnSymbol)
         × AreSpread Text text.now cuts.now level max_version symbols
         × HoldsAll symbols modules.old modules.new shapes.old shapes.new) }
-    ensures refused { IfErr result (IsSpreadStatus Text text.now cuts.now level max_version
+    ensures refusal { IfErr result (IsSpreadStatus Text text.now cuts.now level max_version
         (length modules.old) (length shapes.old)) }
-    ensures kept { OnErr result ((modules.new ≡ modules.old) × (shapes.new ≡ shapes.old)) }
+    ensures unchanged { OnErr result ((modules.new ≡ modules.old) × (shapes.new ≡ shapes.old)) }
 {
     let Some(level) = level_of(level) else {
         return Err(Refusal::InvalidLevel);
@@ -126,9 +126,9 @@ fn spread_text(
 fn write_symbols(symbols: &[Symbol], modules: &mut [u8], shapes: &mut [Shape]) -> bool
     ensures held { result ≡ true →
         HoldsAll symbols.now modules.old modules.new shapes.old shapes.new }
-    ensures room { result ≡ false →
+    ensures short_buffer { result ≡ false →
         IsNoRoom (length modules.old) (length shapes.old) symbols.now }
-    ensures kept { result ≡ false → (modules.new ≡ modules.old) × (shapes.new ≡ shapes.old) }
+    ensures unchanged { result ≡ false → (modules.new ≡ modules.old) × (shapes.new ≡ shapes.old) }
 {
     if shapes.len() < symbols.len() {
         return false;

@@ -10,8 +10,8 @@ ghost use Rattle.qrcode_bits.specs.declared.bits.front.Content.TheVariants.{Elem
 ghost use Rattle.gs1.specs.Elements.{written_elements};
 ghost use Rattle.gs1.specs.Reader.{FindsOnly};
 ghost use Rattle.qrcode_c.specs.Faults.{IsFaultRefusal};
-ghost use Rattle.qrcode_c.specs.Holding.{HoldsAsked};
-ghost use Rattle.qrcode_c.specs.Written.{written_fault, IsWrittenRefusal, WritesElements};
+ghost use Rattle.qrcode_c.specs.Buffers.{HoldsAsked};
+ghost use Rattle.qrcode_c.specs.Written.{text_refusal, IsWrittenRefusal, WritesElements};
 ghost use Rattle.qrcode_c.specs.Written.{IsTableRefusal, TellsPlace};
 
 use crate::drawing::write;
@@ -34,9 +34,9 @@ pub fn written_symbol(
 ) -> Result<Shape, Refusal>
     ensures held { IfOk result (λ shape. WritesElements by_table text.now (λ elements.
         HoldsAsked (front_of None Elements) elements options.now modules.old modules.new shape)) }
-    ensures refused { IfErr result
+    ensures refusal { IfErr result
         (IsWrittenRefusal by_table text.now options.now (length modules.old)) }
-    ensures kept { OnErr result (modules.new ≡ modules.old) }
+    ensures unchanged { OnErr result (modules.new ≡ modules.old) }
 {
     let checked = options_of(options)?;
     let Ok(text) = str::from_utf8(text) else {
@@ -53,8 +53,8 @@ pub fn written_symbol(
 fn string_of(alloc: Global, by_table: bool, text: &str) -> Result<Vec<u8>, Refusal>
     ensures found { IfOk result (λ bytes. FindsOnly bytes.items (written_elements text.now)) }
     ensures elements { IfOk result (λ bytes. AreElements bytes.items) }
-    ensures faultless { OnOk result (written_fault by_table text.now ≡ None) }
-    ensures refused { IfErr result (IsFaultRefusal (written_fault by_table text.now)) }
+    ensures faultless { OnOk result (text_refusal by_table text.now ≡ None) }
+    ensures refusal { IfErr result (IsFaultRefusal (text_refusal by_table text.now)) }
 {
     if by_table {
         return match checked_element_string(alloc, text) {
@@ -70,8 +70,8 @@ fn string_of(alloc: Global, by_table: bool, text: &str) -> Result<Vec<u8>, Refus
 
 /// Checks a text by the table of identifiers, and writes where its first fault is.
 pub fn check_written(alloc: Global, text: &[u8], fault: &mut ElementFault) -> Result<(), Refusal>
-    ensures faultless { OnOk result (written_fault true text.now ≡ None) }
-    ensures refused { IfErr result (IsTableRefusal text.now) }
+    ensures faultless { OnOk result (text_refusal true text.now ≡ None) }
+    ensures refusal { IfErr result (IsTableRefusal text.now) }
     ensures told { TellsPlace text.now fault.new }
 {
     let Ok(text) = str::from_utf8(text) else {

@@ -29,7 +29,7 @@ pub use Rattle.qrcode_bits.specs.declared.bits.front.Content.{Content}
 pub use Rattle.qrcode_bits.specs.declared.bits.front.Content.TheVariants.{Bytes, Elements, Text}
 pub use Rattle.qrcode_bits.specs.Plans.{IsChoice, micro, normal, total_bits}
 pub use Rattle.qrcode_bits.specs.Stream.{Stream}
-pub use Rattle.qrcode_core.specs.Drawn.{DrawnSymbol, HoldsStream, TellsReading, modules_of}
+pub use Rattle.qrcode_core.specs.Symbol.{DrawnSymbol, HoldsStream, TellsReading, modules_of}
 pub use Rattle.qrcode_core.specs.Headline.{Carries, HaveDistance, HaveOneContent, HaveOneReading, IsBest, IsBestSymbol, IsRefusal, IsTooLong, Reading, Reads}
 pub use Rattle.qrcode_core.specs.Layers.{AreAllCodewords, AreBytesOf, FillsSymbol, IsDrawn, IsDrawnStream, IsEncoded}
 pub use Rattle.qrcode_core.specs.Limits.{IsBestWithin, IsBudget, IsLimitedRefusal, IsTooLongWithin}

@@ -1,5 +1,5 @@
 pub mod Headline
-pub mod Drawn
+pub mod Symbol
 pub mod Layers
 pub mod Sequence
 pub mod BestCuts
@@ -10,5 +10,5 @@ pub mod Views
 pub mod Limits
 pub mod Options
 pub mod Plugins
-pub mod LentModules
+pub mod ModuleGrid
 pub mod Registries

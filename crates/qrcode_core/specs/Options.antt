@@ -9,7 +9,7 @@ use Rattle.qrcode_bits.specs.Contents.{AreElements, IsFirstNoElement, parsed_byt
 use Rattle.qrcode_bits.specs.Frame.{Front, front_bits}
 use Rattle.qrcode_bits.specs.Plans.{normal_from, FitsNone}
 use Rattle.qrcode_bits.specs.Push.{IsVersionRange, IsRangeRefused}
-use Rattle.qrcode_core.specs.Drawn.{DrawnSymbol, TellsReading}
+use Rattle.qrcode_core.specs.Symbol.{DrawnSymbol, TellsReading}
 use Rattle.qrcode_core.specs.Headline.{IsBest}
 use Rattle.qrcode_core.specs.declared.options.SymbolOptions.{SymbolOptions}
 

@@ -64,7 +64,7 @@ impl ResourceLimits {
     /// with `InvalidResourceLimits`.
     pub fn validate(self) -> QrResult<()>
         ensures valid { IsOk result ↔ IsBudget self }
-        ensures refused { IsOkUnless result InvalidResourceLimits }
+        ensures refusal { IsOkUnless result InvalidResourceLimits }
     {
         let is_normal = match self.max_version {
             Version::Normal(n) => is_normal_number(n),

@@ -56,7 +56,7 @@ impl SymbolOptions {
         ensures greatest { IfOk result (λ options.
             limits.now.max_version ≡ Normal options.max_version) }
         ensures strongest { IfOk result (λ options. options.strongest ≡ false) }
-        ensures refused { IsOkUnless result InvalidResourceLimits }
+        ensures refusal { IsOkUnless result InvalidResourceLimits }
     {
         limits.validate()?;
         match limits.max_version {
@@ -93,7 +93,7 @@ impl SymbolOptions {
     /// Otherwise it fails with `InvalidResourceLimits`.
     pub fn validate(self) -> QrResult<()>
         ensures valid { IsOk result ↔ HasVersions self }
-        ensures refused { IsOkUnless result InvalidResourceLimits }
+        ensures refusal { IsOkUnless result InvalidResourceLimits }
     {
         let are_normal = is_normal_number(self.min_version) && is_normal_number(self.max_version);
         if are_normal && self.min_version <= self.max_version {

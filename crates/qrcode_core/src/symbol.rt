@@ -47,7 +47,7 @@ pub fn symbol(alloc: Global, bytes: &[u8], level: EcLevel) -> QrResult<Vec<Color
     ensures square { IfOk result (λ grid. (width : ℕ) × (length grid.items ≡ width * width)) }
     ensures fitting { OnOk result (IsTooLong bytes.now level → ⊥) }
     ensures limit { OnOk result (length bytes.now ≤ LONGEST_DATA) }
-    ensures refused { IfErr result (IsRefusal bytes.now level) }
+    ensures refusal { IfErr result (IsRefusal bytes.now level) }
 {
     Ok(Symbol::new(alloc, bytes, level)?.into_colors())
 }
@@ -66,7 +66,7 @@ pub fn symbol_micro(alloc: Global, bytes: &[u8], level: EcLevel) -> QrResult<Vec
     ensures square { IfOk result (λ grid. (width : ℕ) × (length grid.items ≡ width * width)) }
     ensures fitting { OnOk result (IsTooLongForMicro bytes.now level → ⊥) }
     ensures limit { OnOk result (length bytes.now ≤ LONGEST_DATA) }
-    ensures refused { IfErr result (IsMicroRefused bytes.now level) }
+    ensures refusal { IfErr result (IsMicroRefused bytes.now level) }
 {
     Ok(Symbol::micro(alloc, bytes, level)?.into_colors())
 }

@@ -11,7 +11,7 @@ use Rattle.grid_pictures.specs.Bitmaps.{bitmap_row, pixel_byte, row_length}
 use Rattle.grid_pictures.specs.Pictures.{Picture, is_dark_pixel}
 use Rattle.grid_pictures.proofs.BitmapLemmas.{spelled_below, row_long, row_next, rows_none}
 use Rattle.qrcode_render.specs.Compressed.{Compresses, is_hex_digit}
-use Rattle.qrcode_render.specs.Encoded.{ArePieces, SaysRow, SaysRows}
+use Rattle.qrcode_render.specs.CompressedData.{ArePieces, SaysRow, SaysRows}
 use Rattle.qrcode_render.specs.Zpl.{hex_digit, hex_pair, row_digits}
 use Rattle.qrcode_render.proofs.BandLemmas.{digits_row}
 use Rattle.qrcode_render.proofs.ReadingLemmas.{compresses, no_rows, one_row, says_row_above}
@@ -76,8 +76,8 @@ twice_long (b ∷ bytes) = omega (arith, length-append (hex_pair b) (flat_map he
 pub digits_long : (p : Picture) (y : ℕ) → length (digits_of p y) ≡ 2 * row_length p
 digits_long p y = omega (arith, twice_long (bitmap_row p y), row_long p y)
 
--- The characters say the rows of a field before y, the last of which is the row above, if there is
--- one.
+-- The characters say the rows of a field before y, the last of which is the row above, if there
+-- is one.
 pub record SaysField (p : Picture) (first y : ℕ) (characters : List ℕ) : Type 0 where
   pub above : List ℕ
   pub last : first < y → above ≡ digits_of p (y - 1)

@@ -1,4 +1,5 @@
 pub mod BandLemmas
+pub mod CaptionLemmas
 pub mod PixelLemmas
 pub mod PdfTextLemmas
 pub mod PdfLemmas

@@ -8,7 +8,7 @@ use Rattle.std.proofs.lemmas.List.Folds.{flat_map-map}
 use Rattle.std.proofs.lemmas.List.FromFn.{length-map-range_with_len}
 use Rattle.qrcode_render.specs.Pdf.{PdfPage, catalog, information, page_content, page_objects, page_tree, pdf_document, pdf_objects, stream_content}
 use Rattle.qrcode_render.specs.PdfFile.{object_offset, objects_before, objects_text, pdf_file, pdf_header, pdf_object, pdf_trailer, table_entry, table_head}
-use Rattle.qrcode_render.specs.PdfWritten.{PdfWritten, after_page, after_pages, next_number, next_page, next_pages, page_object, page_text, pdf_end, pdf_start, started, IsWritten, PagesMakeDocument, WritesDocument}
+use Rattle.qrcode_render.specs.PdfPagesWritten.{PdfWritten, after_page, after_pages, next_number, next_page, next_pages, page_object, page_text, pdf_end, pdf_start, started, IsWritten, PagesMakeDocument, WritesDocument}
 
 abbrev pub Objects : Type 0
 Objects = List (ℕ × List ℕ)

@@ -5,7 +5,7 @@ use Rattle.std.specs.List.{range_with_len}
 use Rattle.std.proofs.lemmas.Bool.{cases_lt}
 use Rattle.qrcode_render.specs.Pdf.{PdfPage, catalog, information, page_content, page_objects, page_tree, pdf_objects, stream_content}
 use Rattle.qrcode_render.specs.PdfFile.{object_head, object_offset, objects_before, objects_text, pdf_file, pdf_header, pdf_object, pdf_trailer, table_entry, table_head}
-use Rattle.qrcode_render.specs.PdfWritten.{EntriesFindObjects}
+use Rattle.qrcode_render.specs.PdfPagesWritten.{EntriesFindObjects}
 use Rattle.qrcode_render.proofs.PdfLemmas.{Objects, before_here, before_other}
 
 -- the text of objects has the one with this number behind those before it

@@ -9,13 +9,13 @@ use Rattle.std.proofs.lemmas.List.{length-replicate, take_more}
 use Rattle.std.proofs.lemmas.Grind.{replicate_next}
 use Rattle.std.proofs.Math.Seq.{take-length}
 use Rattle.std.specs.Prelude.{option_and_then}
-use Rattle.qrcode_render.specs.Compressed.{FieldReader, repeat_count, is_hex_digit, Compresses, expanded, nothing, whole_rows, in_row, after_row, with_digits, filled_up, row_again, read_character, read_next, read_characters}
-use Rattle.qrcode_render.specs.Encoded.{AddsPiece, EndsRow, SaysCount, SaysDigits, SaysRow, SaysRows}
+use Rattle.qrcode_render.specs.Compressed.{FieldReader, repeat_count, is_hex_digit, Compresses, expanded, nothing, whole_rows, in_row, after_row, with_digits, filled_up, row_again, read_field_character, read_next, read_field_characters}
+use Rattle.qrcode_render.specs.CompressedData.{AddsPiece, EndsRow, SaysCount, SaysDigits, SaysRow, SaysRows}
 
 -- what a reader finds in two pieces
-pub read_joined : (width : ℕ) (r : Option FieldReader) (a b : List ℕ) (s : Option FieldReader) → read_characters width r a ≡ s →
-    read_characters width r (a ++ b) ≡ read_characters width s b
-read_joined width r a b s e = fold-append (read_next width) r a b ∙ ap (λ t. read_characters width t b) e
+pub read_joined : (width : ℕ) (r : Option FieldReader) (a b : List ℕ) (s : Option FieldReader) → read_field_characters width r a ≡ s →
+    read_field_characters width r (a ++ b) ≡ read_field_characters width s b
+read_joined width r a b s e = fold-append (read_next width) r a b ∙ ap (λ t. read_field_characters width t b) e
 
 -- nothing was added
 pub adds_none : (P : List ℕ → Type 0) (bytes : List ℕ) → P [] → AddsPiece P bytes bytes
@@ -48,8 +48,8 @@ on_ok_as (Err e) P Q step holds = tt
 pub no_letter : SaysCount 0 []
 no_letter = record { read = λ width r. ap (λ (n : ℕ). Some (record r { count = n })) (omega arith); short = omega arith }
 
-read_letter : (width : ℕ) (r : FieldReader) (c k : ℕ) → repeat_count c ≡ k → 0 < k → read_character width r c ≡ Some (record r { count = r.count + k })
-unfolding read_character
+read_letter : (width : ℕ) (r : FieldReader) (c k : ℕ) → repeat_count c ≡ k → 0 < k → read_field_character width r c ≡ Some (record r { count = r.count + k })
+unfolding read_field_character
 read_letter width r c k counts some =
     let positive : nat_lt 0 (repeat_count c) ≡ true = grind (arith, nat_tests) in
     cond-true _ _ _ positive ∙ ap (λ (n : ℕ). Some (record r { count = r.count + n })) counts
@@ -99,8 +99,8 @@ pub counted_digits : (width : ℕ) (r : FieldReader) (n : ℕ) (digits : List �
 unfolding with_digits
 counted_digits width r n digits = refl
 
-read_digit : (width : ℕ) (r : FieldReader) (d : ℕ) → is_hex_digit d ≡ true → read_character width r d ≡ with_digits width r (replicate (max 1 r.count) d)
-unfolding read_character
+read_digit : (width : ℕ) (r : FieldReader) (d : ℕ) → is_hex_digit d ≡ true → read_field_character width r d ≡ with_digits width r (replicate (max 1 r.count) d)
+unfolding read_field_character
 read_digit width r d digit =
     let none : nat_lt 0 (repeat_count d) ≡ false = grind (arith, nat_tests) in
     cond-false _ _ _ none ∙ cond-true _ _ _ digit
@@ -157,9 +157,9 @@ pub ends_with_run : (b y : List ℕ) → SaysDigits b y → EndsRow b y
 ends_with_run b y says =
     record { read = λ width r none inside fits. says.read width r none inside (omega arith); short = says.short }
 
-read_fill : (width : ℕ) (r : FieldReader) (c d : ℕ) → nat_lt 0 (repeat_count c) ≡ false → is_hex_digit c ≡ false → read_character width r c ≡
+read_fill : (width : ℕ) (r : FieldReader) (c d : ℕ) → nat_lt 0 (repeat_count c) ≡ false → is_hex_digit c ≡ false → read_field_character width r c ≡
     (if c == 44 then filled_up width r 48 else (if c == 33 then filled_up width r 70 else (if c == 58 then row_again width r else None)))
-unfolding read_character
+unfolding read_field_character
 read_fill width r c d letter digit = cond-false _ _ _ letter ∙ cond-false _ _ _ digit
 
 fills : (width : ℕ) (r : FieldReader) (n d : ℕ) → r.count ≡ 0 → length r.row + n ≡ width → filled_up width r d ≡ with_digits width r (replicate n d)
@@ -272,7 +272,7 @@ pub one_row : (width : ℕ) (rows above row a b : List ℕ) → SaysRows width r
 one_row width rows above row a b before after long =
     record {
       read = read_joined width (Some nothing) a b _ before.read
-          ∙ (ap (λ w. read_characters w (Some (record { rows = rows; above = above; row = []; count = 0 })) b) (sym long)
+          ∙ (ap (λ w. read_field_characters w (Some (record { rows = rows; above = above; row = []; count = 0 })) b) (sym long)
           ∙ after.read (record { rows = rows; above = above; row = []; count = 0 }) refl refl refl);
       short = omega (arith, length-append {A = ℕ}, before.short, after.short);
     }

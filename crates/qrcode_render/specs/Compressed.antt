@@ -46,8 +46,8 @@ unfoldable pub filled_up : (width : ℕ) → FieldReader → (digit : ℕ) → O
 filled_up width r digit =
     if r.count == 0 then with_digits width r (replicate (width - length r.row) digit) else None
 
--- A reader that finds the row above once more, at the start of a row, with no repeat count before
--- it.
+-- A reader that finds the row above once more, at the start of a row, with no repeat count
+-- before it.
 unfoldable pub row_again : (width : ℕ) → FieldReader → Option FieldReader
 row_again width r =
     if (r.count == 0) && ((length r.row == 0) && nat_lt 0 (length r.above))
@@ -55,8 +55,8 @@ row_again width r =
 
 -- A reader after one character more: a letter of a repeat count, a digit, a comma (zeros), an
 -- exclamation mark (ones), or a colon (the row above).
-unfoldable pub read_character : (width : ℕ) → FieldReader → ℕ → Option FieldReader
-read_character width r c =
+unfoldable pub read_field_character : (width : ℕ) → FieldReader → ℕ → Option FieldReader
+read_field_character width r c =
     if nat_lt 0 (repeat_count c) then Some (record r { count = r.count + repeat_count c }) else
     (if is_hex_digit c then with_digits width r (replicate (max 1 r.count) c) else
     (if c == 44 then filled_up width r 48 else
@@ -66,11 +66,11 @@ read_character width r c =
 -- The same, if the characters before were read.
 abbrev pub read_next : (width : ℕ) → Option FieldReader → ℕ → Option FieldReader
 read_next width None c = None
-read_next width (Some r) c = read_character width r c
+read_next width (Some r) c = read_field_character width r c
 
 -- A reader after some characters.
-abbrev pub read_characters : (width : ℕ) → Option FieldReader → List ℕ → Option FieldReader
-read_characters width r characters = fold (read_next width) r characters
+abbrev pub read_field_characters : (width : ℕ) → Option FieldReader → List ℕ → Option FieldReader
+read_field_characters width r characters = fold (read_next width) r characters
 
 -- The digits of whole rows, if nothing is left over.
 abbrev pub whole_rows : FieldReader → Option (List ℕ)
@@ -79,10 +79,10 @@ whole_rows r = if (length r.row == 0) && (r.count == 0) then Some r.rows else No
 -- The digits that a reader finds in compressed data, in rows of this many digits.
 unfoldable pub expanded : (width : ℕ) → List ℕ → Option (List ℕ)
 expanded width characters =
-    option_and_then whole_rows (read_characters width (Some nothing) characters)
+    option_and_then whole_rows (read_field_characters width (Some nothing) characters)
 
--- The compressed form of some digits: a reader finds exactly these, and it is no longer than they
--- are.
+-- The compressed form of some digits: a reader finds exactly these, and it is no longer than
+-- they are.
 pub record Compresses (width : ℕ) (digits characters : List ℕ) : Type 0 where
   pub read : expanded width characters ≡ Some digits
   pub short : length characters ≤ length digits

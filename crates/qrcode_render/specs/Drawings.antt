@@ -11,28 +11,33 @@ use Rattle.picture_settings.specs.declared.format.Format.TheVariants.{EscPos, Zp
 use Rattle.picture_settings.specs.Resolutions.{per_metre}
 use Rattle.grid_pictures.specs.Bitmaps.{bitmap_of}
 use Rattle.grid_pictures.specs.Pictures.{Picture, picture}
-use Rattle.grid_pictures.specs.Terminals.{terminal_text}
 use Rattle.qrcode_render.specs.declared.drawing.Drawn.{Drawn}
 use Rattle.qrcode_render.specs.declared.drawing.Drawn.TheVariants.{Text, Bytes}
-use Rattle.qrcode_render.specs.Eps.{eps_document}
+use Rattle.qrcode_render.specs.Captions.{terminal_captioned}
+use Rattle.qrcode_render.specs.Eps.{eps_captioned}
 use Rattle.qrcode_render.specs.EscPos.{ticket_text}
 use Rattle.qrcode_render.specs.Labels.{IsLabel}
-use Rattle.qrcode_render.specs.Svg.{svg_colored}
+use Rattle.qrcode_render.specs.Svg.{svg_captioned}
 use Rattle.qrcode_render.specs.Pdf.{PdfPage, pdf_document, pdf_page}
 use Rattle.qrcode_render.specs.PngPixels.{png_file}
 
 -- The bytes are those of the picture in a format, with what the options say beside the format, the
 -- scale and the quiet zone. Of PNG they are any bytes in which a reader finds the pixels.
 abbrev pub IsPictureAs : Format → DrawOptions → Picture → List ℕ → Type 0
-IsPictureAs Terminal o p bytes = bytes ≡ terminal_text o.inverted p
-IsPictureAs Svg o p bytes = bytes ≡ svg_colored o.module_mm (option_copied o.title) o.colors p
+IsPictureAs Terminal o p bytes =
+    bytes ≡ terminal_captioned o.inverted (option_copied o.caption) p
+IsPictureAs Svg o p bytes =
+    bytes
+    ≡ svg_captioned o.module_mm (option_copied o.title) (option_copied o.caption) o.colors p
 IsPictureAs Png o p bytes =
     read_png bytes
     ≡ Some (png_file (per_metre o.scale o.module_mm o.dpi) (option_copied o.title) o.colors p)
 IsPictureAs Pbm o p bytes = bytes ≡ bitmap_of p
-IsPictureAs Eps o p bytes = bytes ≡ eps_document o.module_mm (option_copied o.title) o.colors p
+IsPictureAs Eps o p bytes =
+    bytes
+    ≡ eps_captioned o.module_mm (option_copied o.title) (option_copied o.caption) o.colors p
 IsPictureAs EscPos o p bytes = bytes ≡ ticket_text o.feed o.cut p
-IsPictureAs Zpl o p bytes = IsLabel o.compressed o.at o.copies p bytes
+IsPictureAs Zpl o p bytes = IsLabel o.compressed o.at (option_copied o.caption) o.copies p bytes
 IsPictureAs Pdf o p bytes =
     bytes ≡ pdf_document (option_copied o.title) (pdf_page o.module_mm o.colors p ∷ [])
 

@@ -12,6 +12,7 @@ use Rattle.picture_settings.specs.PostScript.{string_text}
 use Rattle.grid_pictures.specs.Pictures.{Picture, columns_of, rows_of}
 use Rattle.grid_pictures.specs.Paths.{path}
 use Rattle.grid_pictures.specs.Pens.{eps_rectangle}
+use Rattle.qrcode_render.specs.Captions.{high, hundredths, module_size}
 
 -- The width of a module in points, of which an inch has 72: the scale, or the size that is given in
 -- hundredths of a millimetre.
@@ -109,7 +110,39 @@ eps_document module_mm title colors p =
     ++ (eps_ground colors.light (columns_of p) (rows_of p)
     ++ (eps_ink colors.dark ++ (path eps_rectangle p (rows_of p) ++ eps_end)))))
 
--- The document of a picture in black on white, with the size of a module if it is given, and no
--- title.
+-- The text below the picture, in the middle of the last rows. The rows are counted from the top, so
+-- the font is turned over.
+unfoldable pub caption_start : (size : List ℕ) → List ℕ
+caption_start size =
+    codes "/Courier findfont[" ++ (size ++ (codes " 0 0 -" ++ (size ++
+    codes " 0 0]makefont setfont\n(")))
+
+unfoldable pub caption_end : (columns y : ℕ) → List ℕ
+caption_end columns y =
+    codes ")\ndup stringwidth pop " ++ (decimal columns ++ (codes " exch sub 2 div " ++
+    (decimal y ++ codes " moveto show\n")))
+
+abbrev pub eps_caption : (text : List ℕ) → Picture → List ℕ
+eps_caption text p =
+    caption_start (hundredths (module_size (columns_of p) text))
+    ++ (string_text text ++ caption_end (columns_of p) (rows_of p + 3))
+
+-- The end of the document, with this text, if it is given.
+abbrev pub eps_finish : (caption : Option (List ℕ)) → Picture → List ℕ
+eps_finish None p = eps_end
+eps_finish (Some text) p = codes "fill\n" ++ (eps_caption text p ++ codes "showpage\n%%EOF\n")
+
+-- The document of a picture, with a text below it, in rows of its own, if it is given.
+abbrev pub eps_captioned : Option ℕ → (title caption : Option (List ℕ)) → Colors → Picture →
+    List ℕ
+eps_captioned module_mm title caption colors p =
+    eps_comments module_mm p.scale (columns_of p) (high caption (rows_of p))
+    ++ (title_comment title
+    ++ (eps_setup (module_points module_mm p.scale) (high caption (rows_of p))
+    ++ (eps_ground colors.light (columns_of p) (high caption (rows_of p))
+    ++ (eps_ink colors.dark ++ (path eps_rectangle p (rows_of p) ++ eps_finish caption p)))))
+
+-- The document of a picture in black on white, with the size of a module if it is given, and
+-- no title.
 abbrev pub eps_text : Option ℕ → Picture → List ℕ
 eps_text module_mm p = eps_document module_mm None no_colors p

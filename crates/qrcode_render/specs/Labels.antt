@@ -3,8 +3,8 @@ use Rattle.std.specs.Prelude.{◌≡◌, ℕ, ◌*◌, Bool, true, false, List, 
 use Rattle.grid_pictures.specs.Bitmaps.{row_length}
 use Rattle.grid_pictures.specs.Pictures.{Picture}
 use Rattle.qrcode_render.specs.Compressed.{Compresses}
-use Rattle.qrcode_render.specs.Encoded.{ArePieces}
-use Rattle.qrcode_render.specs.Zpl.{field_count, field_of, label_end, label_text}
+use Rattle.qrcode_render.specs.CompressedData.{ArePieces}
+use Rattle.qrcode_render.specs.Zpl.{caption_field, field_count, field_of, label_captioned, label_end}
 use Rattle.qrcode_render.specs.Zpl.{nth_count, nth_digits, nth_first}
 
 -- Field n with compressed data. A reader finds the digits of its rows in them, and the numbers of
@@ -14,14 +14,16 @@ pub record IsCompressedField (p : Picture) (at : ℕ × ℕ) (n : ℕ) (field : 
   pub compressed : Compresses (2 * row_length p) (nth_digits p n) content
   pub is : field ≡ field_of p at (nth_first p n) (nth_count p n) content
 
--- The label of these fields, one below the other, and how many copies are printed.
-pub record IsCompressedLabel (at : ℕ × ℕ) (copies : Option ℕ) (p : Picture) (label : List ℕ)
-    : Type 0 where
+-- The label of these fields, one below the other, the text below them, if it is given, and how many
+-- copies are printed.
+pub record IsCompressedLabel (at : ℕ × ℕ) (caption : Option (List ℕ)) (copies : Option ℕ)
+    (p : Picture) (label : List ℕ) : Type 0 where
   pub fields : List ℕ
   pub each : ArePieces (IsCompressedField p at) (field_count p) fields
-  pub is : label ≡ codes "^XA\n" ++ (fields ++ label_end copies)
+  pub is : label ≡ codes "^XA\n" ++ (fields ++ (caption_field at caption p ++ label_end copies))
 
 -- The label, with data that are compressed or not.
-abbrev pub IsLabel : (compressed : Bool) → ℕ × ℕ → Option ℕ → Picture → List ℕ → Type 0
-IsLabel false at copies p label = label ≡ label_text at copies p
-IsLabel true at copies p label = IsCompressedLabel at copies p label
+abbrev pub IsLabel : (compressed : Bool) → ℕ × ℕ → (caption : Option (List ℕ)) → Option ℕ →
+    Picture → List ℕ → Type 0
+IsLabel false at caption copies p label = label ≡ label_captioned at caption copies p
+IsLabel true at caption copies p label = IsCompressedLabel at caption copies p label

@@ -113,8 +113,8 @@ abbrev pub module_width : (module_mm : Option ℕ) → (scale : ℕ) → List �
 module_width None scale = decimal scale
 module_width (Some module_mm) scale = millionths (nearest (module_mm * 18000000) 635)
 
--- A side of the page in points. Where the size of a module is given, it is rounded up to
--- thousandths.
+-- A side of the page in points. Where the size of a module is given, it is rounded up
+-- to thousandths.
 abbrev pub page_side : (module_mm : Option ℕ) → (scale modules : ℕ) → List ℕ
 page_side None scale modules = decimal (modules * scale)
 page_side (Some module_mm) scale modules = exact_side module_mm modules

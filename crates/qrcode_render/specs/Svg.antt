@@ -1,6 +1,6 @@
 -- A picture as SVG (Scalable Vector Graphics 1.1): a light background, and on it one path with a
 -- line for each run of dark modules in a row.
-use Rattle.std.specs.Prelude.{ℕ, ◌*◌, ◌/◌, ◌%◌, Option, None, Some}
+use Rattle.std.specs.Prelude.{ℕ, ◌+◌, ◌*◌, ◌/◌, ◌%◌, Option, None, Some}
 use Rattle.std.specs.Prelude.{List, [], ◌++◌, codes, decimal}
 use Rattle.picture_settings.specs.Colors.{no_colors}
 use Rattle.picture_settings.specs.Xml.{xml_text}
@@ -11,6 +11,7 @@ use Rattle.picture_settings.specs.declared.colors.Rgb.{Rgb}
 use Rattle.grid_pictures.specs.Paths.{path}
 use Rattle.grid_pictures.specs.Pens.{rectangle}
 use Rattle.grid_pictures.specs.Pictures.{Picture, columns_of, rows_of, pixel_width, pixel_height}
+use Rattle.qrcode_render.specs.Captions.{high, high_pixels, hundredths, module_size}
 use Rattle.qrcode_render.specs.Zpl.{hex_pair}
 
 -- Hundredths of a millimetre, as a decimal number of millimetres.
@@ -66,6 +67,37 @@ path_start color =
 -- The end of the document.
 abbrev pub closing : List ℕ
 closing = codes "\"/>\n</svg>\n"
+
+-- The text below the picture, in the middle of the last rows.
+unfoldable pub caption_tag : (y : ℕ) → (size color : List ℕ) → List ℕ
+caption_tag y size color =
+    codes "<text x=\"50%\" y=\"" ++ (decimal y
+    ++ (codes "\" text-anchor=\"middle\" font-family=\"monospace\" font-size=\"" ++ (size
+    ++ (codes "\" fill=\"" ++ (color ++ codes "\">")))))
+
+abbrev pub caption_element : (text : List ℕ) → Option Rgb → Picture → List ℕ
+caption_element text dark p =
+    caption_tag (rows_of p + 3) (hundredths (module_size (columns_of p) text)) (stroke dark)
+    ++ (xml_text text ++ codes "</text>\n")
+
+-- The end of the document, with this text, if it is given.
+abbrev pub svg_end : (caption : Option (List ℕ)) → Option Rgb → Picture → List ℕ
+svg_end None dark p = closing
+svg_end (Some text) dark p =
+    codes "\"/>\n" ++ (caption_element text dark p ++ codes "</svg>\n")
+
+-- The document of a picture, with the size of a module in hundredths of a millimetre, with a title,
+-- with a text below it and with colours, if they are given. The text has rows of its own.
+abbrev pub svg_captioned : (module_mm : Option ℕ) → (title caption : Option (List ℕ)) → Colors →
+    Picture → List ℕ
+svg_captioned module_mm title caption colors p =
+    svg_tag (svg_side module_mm (columns_of p) (pixel_width p))
+    (svg_side module_mm (high caption (rows_of p)) (high_pixels caption p)) (columns_of p)
+    (high caption (rows_of p))
+    ++ (title_element title
+    ++ (svg_ground colors.light (columns_of p) (high caption (rows_of p))
+    ++ (path_start (stroke colors.dark) ++ (path rectangle p (rows_of p)
+    ++ svg_end caption colors.dark p))))
 
 -- The document of a picture, with the size of a module in hundredths of a millimetre, with a title
 -- and with colours, if they are given.

@@ -1,11 +1,13 @@
 -- A picture as a label of ZPL II, for label printers (Zebra, "ZPL II Programming Guide": `^XA`,
 -- `^FO`, `^GF`, `^FS`, `^PQ`, `^XZ`). Labels follow each other.
-use Rattle.std.specs.Prelude.{ℕ, ◌+◌, ◌-◌, ◌*◌, ◌/◌, ◌%◌, min, nat_lt, if◌then◌else◌}
+use Rattle.std.specs.Prelude.{◌≡◌, ℕ, zero, suc, true, ◌+◌, ◌-◌, ◌*◌, ◌/◌, ◌%◌, ◌==◌, ◌&&◌, ◌||◌}
+use Rattle.std.specs.Prelude.{min, max, nat_lt, nat_le, if◌then◌else◌, length, option_map}
 use Rattle.std.specs.Prelude.{List, [], ◌∷◌, ◌++◌, flat_map, codes, decimal, Option, Some, None}
-use Rattle.std.specs.List.{range_with_len}
+use Rattle.std.specs.List.{range_with_len, list_all}
 use Rattle.picture_settings.specs.declared.bounds.TheConstants.{FIELD_BYTES}
-use Rattle.grid_pictures.specs.Pictures.{Picture, pixel_height}
+use Rattle.grid_pictures.specs.Pictures.{Picture, pixel_height, pixel_width}
 use Rattle.grid_pictures.specs.Bitmaps.{row_length, rows_from}
+use Rattle.qrcode_render.specs.Captions.{fitting}
 
 -- A hexadecimal digit.
 abbrev pub hex_digit : ℕ → ℕ
@@ -72,6 +74,85 @@ copies_command (Some copies) = codes "^PQ" ++ (decimal copies ++ codes "\n")
 -- The end of a label, after its number of copies.
 abbrev pub label_end : Option ℕ → List ℕ
 label_end copies = copies_command copies ++ codes "^XZ\n"
+
+-- A byte of a text: as it is, or, where it is a mark of a command or of such an escape, as an
+-- underscore and its hexadecimal digits (`^FH`).
+abbrev pub field_byte : ℕ → List ℕ
+field_byte c =
+    if (c == 0x5e) || ((c == 0x7e) || (c == 0x5f)) then 0x5f ∷ hex_pair c else c ∷ []
+
+unfoldable pub field_data : List ℕ → List ℕ
+field_data text = flat_map field_byte text
+
+-- The value of a hexadecimal digit.
+abbrev pub field_hex_value : ℕ → Option ℕ
+field_hex_value c =
+    if nat_le 48 c && nat_le c 57 then Some (c - 48)
+    else (if nat_le 65 c && nat_le c 70 then Some (c - 55) else None)
+
+-- A byte of two digits, and what follows it.
+abbrev pub joined_digits : Option ℕ → Option ℕ → List ℕ → Option (ℕ × List ℕ)
+joined_digits (Some a) (Some b) text = Some (16 * a + b, text)
+joined_digits _ _ text = None
+
+-- What an escape means, by what follows the underscore, and what follows it.
+abbrev pub read_digits : List ℕ → Option (ℕ × List ℕ)
+read_digits (a ∷ b ∷ text) = joined_digits (field_hex_value a) (field_hex_value b) text
+read_digits _ = None
+
+-- The first byte of a text in a field, and what follows it. A mark of a command ends the field.
+abbrev pub read_field_byte : List ℕ → Option (ℕ × List ℕ)
+read_field_byte [] = None
+read_field_byte (c ∷ text) =
+    if c == 0x5f then read_digits text
+    else (if (c == 0x5e) || (c == 0x7e) then None else Some (c, text))
+
+-- The bytes of a text in a field, at most n of them.
+unfoldable pub read_field_bytes : ℕ → List ℕ → Option (List ℕ)
+read_field_bytes _ [] = Some []
+read_field_bytes zero (c ∷ text) = None
+read_field_bytes (suc n) (c ∷ text) =
+    elim (read_field_byte (c ∷ text)) [
+      | None ↦ None
+      | Some r ↦ option_map (λ found. r.0 ∷ found) (read_field_bytes n r.1)
+    ]
+
+-- The bytes that a printer finds in a field of text.
+abbrev pub read_field : List ℕ → Option (List ℕ)
+read_field text = read_field_bytes (length text) text
+
+-- A law of texts below a picture: a printer finds exactly these bytes.
+abbrev pub FieldsAreRead : Type 0
+FieldsAreRead = (bytes : List ℕ) → list_all (λ b. nat_lt b 256) bytes ≡ true →
+    read_field (field_data bytes) ≡ Some bytes
+
+-- The head of a field of text, up to the text: the position of its upper left corner in dots, and
+-- the height and the width of its characters in the scalable font of the printer.
+unfoldable pub text_head : (x y height width : ℕ) → List ℕ
+text_head x y height width =
+    codes "^FO" ++ (decimal x ++ (codes "," ++ (decimal y ++ (codes "^A0N," ++ (decimal height ++
+    (codes "," ++ (decimal width ++ codes "^FH^FD")))))))
+
+-- The height and the width of characters, of which a printer draws none with fewer than 10 dots.
+abbrev pub text_height : Picture → ℕ
+text_height p = max (3 * p.scale) 10
+
+abbrev pub text_width : Picture → (text : List ℕ) → ℕ
+text_width p text = max (fitting (text_height p) (pixel_width p) text) 10
+
+-- The field of the text below the picture, if it is given.
+abbrev pub caption_field : (at : ℕ × ℕ) → (caption : Option (List ℕ)) → Picture → List ℕ
+caption_field at None p = []
+caption_field at (Some text) p =
+    text_head at.0 (at.1 + pixel_height p) (text_height p) (text_width p text)
+    ++ (field_data text ++ codes "^FS\n")
+
+-- The label: all fields, one below the other, the text below them, if it is given, and how many
+-- copies are printed.
+abbrev pub label_captioned : ℕ × ℕ → (caption : Option (List ℕ)) → Option ℕ → Picture → List ℕ
+label_captioned at caption copies p =
+    codes "^XA\n" ++ (first_fields p at (field_count p)
+    ++ (caption_field at caption p ++ label_end copies))
 
 -- The label: all fields, one below the other, and how many copies are printed.
 abbrev pub label_text : ℕ × ℕ → Option ℕ → Picture → List ℕ

@@ -7,9 +7,9 @@ ghost use Rattle.std.specs.Prelude.{◌≡◌, ◌≢◌, ◌↔◌, ℕ, ◌+�
 ghost use Rattle.std.specs.Prelude.{All, IsTrue, OnOk, flat_map, length, replicate, slice_index};
 ghost use Rattle.picture_settings.specs.declared.bounds.TheConstants.{MAX_PIXELS};
 ghost use Rattle.grid_pictures.specs.Bitmaps.{bitmap_row, row_length};
-ghost use Rattle.grid_pictures.specs.Shown.{shown};
+ghost use Rattle.grid_pictures.specs.Picture.{shown};
 ghost use Rattle.qrcode_render.specs.Compressed.{Compresses, is_hex_digit, repeat_count};
-ghost use Rattle.qrcode_render.specs.Encoded.{AddsPiece, EndsRow, SaysCount, SaysDigits, SaysRow};
+ghost use Rattle.qrcode_render.specs.CompressedData.{AddsPiece, EndsRow, SaysCount, SaysDigits, SaysRow};
 ghost use Rattle.qrcode_render.specs.Zpl.{hex_pair, row_digits};
 
 use crate::zpl::write_hex;
@@ -50,8 +50,8 @@ pub(crate) fn push_data(
     Ok(())
 }
 
-/// Whether a row of pixels is in the same row of modules as the one above, in a field from some row
-/// on.
+/// Whether a row of pixels is in the same row of modules as the one above, in a field from some
+/// row on.
 fn is_repeated(first: usize, y: usize, scale: usize) -> bool
     requires { 0 < scale }
     ensures { IsTrue result ↔ ((y ≢ first) × (y % scale ≢ 0)) }
@@ -59,8 +59,8 @@ fn is_repeated(first: usize, y: usize, scale: usize) -> bool
     y != first && y % scale != 0
 }
 
-/// Appends the compressed digits of a row of pixels, and leaves its bytes and its digits in the
-/// slices.
+/// Appends the compressed digits of a row of pixels, and leaves its bytes and its digits in
+/// the slices.
 fn push_new_row(
     bytes: &mut Vec<u8>,
     picture: &Picture,

@@ -1,25 +1,25 @@
 //! Symbols and grids in the format of their options, in one call.
 ghost use Rattle.std.specs.Prelude.{◌≡◌, ◌<◌, ◌≤◌, ◌^◌, ◌↔◌, [], ◌∷◌, IfOk, IfSome, IsSome, OnOk};
 ghost use Rattle.std.specs.Option.{option_copied};
-ghost use Rattle.qrcode_core.specs.Drawn.{drawn_grid};
+ghost use Rattle.qrcode_core.specs.Symbol.{drawn_grid};
 ghost use Rattle.picture_settings.specs.Formats.{is_text_format};
 ghost use Rattle.picture_settings.specs.Resolutions.{nearest, per_metre};
 ghost use Rattle.grid_pictures.specs.Pictures.{IsDrawable};
-ghost use Rattle.grid_pictures.specs.Shown.{shown};
+ghost use Rattle.grid_pictures.specs.Picture.{shown};
 ghost use Rattle.qrcode_render.specs.Drawings.{IsPictureOf, IsPictureAs};
 ghost use Rattle.qrcode_render.specs.Drawings.{drawn_bytes, is_drawn_text};
 ghost use Rattle.qrcode_render.specs.Labels.{IsLabel};
 ghost use Rattle.qrcode_render.specs.Pdf.{pdf_document, pdf_page};
 
-use crate::eps::eps_document;
+use crate::caption::{Texts, terminal_captioned};
+use crate::eps::eps_captioned;
 use crate::escpos::ticket;
 use crate::pbm::pbm;
 use crate::pdf::pdf_document;
 use crate::png_file::png_file;
-use crate::svg::svg_colored;
-use crate::zpl::{compressed_label, label};
+use crate::svg::svg_captioned;
+use crate::zpl::{compressed_captioned, label_captioned};
 use grid_pictures::picture::Picture;
-use grid_pictures::terminal::terminal;
 use picture_settings::draw_options::DrawOptions;
 use picture_settings::format::Format;
 use picture_settings::options::RenderOptions;
@@ -87,10 +87,14 @@ pub(crate) fn draw_as(
     ensures text { IfOk result (λ drawn. is_drawn_text drawn ≡ is_text_format options.now.format) }
 {
     match options.format {
-        Format::Terminal => Ok(Drawn::Text(terminal(alloc, picture, options.inverted)?)),
+        Format::Terminal => {
+            let (inverted, caption) = (options.inverted, options.caption);
+            let text = terminal_captioned(alloc, picture, inverted, caption)?;
+            Ok(Drawn::Text(text))
+        }
         Format::Svg => {
-            let (module_mm, title) = (options.module_mm, options.title);
-            let text = svg_colored(alloc, picture, module_mm, title, options.colors)?;
+            let (module_mm, texts) = (options.module_mm, texts(options));
+            let text = svg_captioned(alloc, picture, module_mm, texts, options.colors)?;
             Ok(Drawn::Text(text))
         }
         Format::Png => {
@@ -100,8 +104,8 @@ pub(crate) fn draw_as(
         }
         Format::Pbm => Ok(Drawn::Bytes(pbm(alloc, picture)?)),
         Format::Eps => {
-            let (module_mm, title) = (options.module_mm, options.title);
-            let text = eps_document(alloc, picture, module_mm, title, options.colors)?;
+            let (module_mm, texts) = (options.module_mm, texts(options));
+            let text = eps_captioned(alloc, picture, module_mm, texts, options.colors)?;
             Ok(Drawn::Text(text))
         }
         Format::EscPos => {
@@ -113,15 +117,27 @@ pub(crate) fn draw_as(
     }
 }
 
+/// Returns the texts of the options.
+fn texts<'a>(options: &DrawOptions<'a>) -> Texts<'a>
+    ensures title { option_copied result.title ≡ option_copied options.now.title }
+    ensures caption { option_copied result.caption ≡ option_copied options.now.caption }
+{
+    Texts {
+        title: options.title,
+        caption: options.caption,
+    }
+}
+
 /// Returns the label of the options.
 fn zpl(alloc: Global, picture: &Picture, options: &DrawOptions) -> Result<Vec<u8>, AllocError>
     ensures { IfOk result (λ bytes. IsLabel options.now.compressed options.now.at
-        options.now.copies (shown picture.now) bytes.items) }
+        (option_copied options.now.caption) options.now.copies (shown picture.now) bytes.items) }
 {
+    let caption = options.caption;
     if options.compressed {
-        compressed_label(alloc, picture, options.at, options.copies)
+        compressed_captioned(alloc, picture, options.at, caption, options.copies)
     } else {
-        label(alloc, picture, options.at, options.copies)
+        label_captioned(alloc, picture, options.at, caption, options.copies)
     }
 }
 

@@ -2,14 +2,17 @@
 ghost use Rattle.std.specs.Prelude.{◌≡◌, ◌≤◌, ◌++◌, None, Some, IfOk, OnOk};
 ghost use Rattle.std.specs.Option.{ForSome, option_copied};
 ghost use Rattle.std.specs.String.{string_bytes};
-ghost use Rattle.picture_settings.specs.declared.bounds.TheConstants.{MAX_COLUMNS, MAX_MODULE_MM};
+ghost use Rattle.picture_settings.specs.declared.bounds.TheConstants.{MAX_COLUMNS, MAX_HIGH, MAX_MODULE_MM};
 ghost use Rattle.picture_settings.specs.declared.bounds.TheConstants.{MAX_SCALE};
-ghost use Rattle.grid_pictures.specs.Shown.{shown};
+ghost use Rattle.grid_pictures.specs.Picture.{shown};
 ghost use Rattle.qrcode_render.specs.Eps.{box_side, eps_document, eps_head, eps_setup, eps_text};
 ghost use Rattle.qrcode_render.specs.Eps.{eps_fill, eps_ground, eps_ink, ps_color};
 ghost use Rattle.qrcode_render.specs.Eps.{eps_comments, exact_comment, exact_line, exact_side};
 ghost use Rattle.qrcode_render.specs.Eps.{module_points, thousandths, title_comment};
+ghost use Rattle.qrcode_render.specs.Eps.{caption_end, caption_start, eps_caption, eps_captioned};
+ghost use Rattle.qrcode_render.specs.Eps.{eps_finish};
 
+use crate::caption::{Texts, high, module_size};
 use grid_pictures::path::push_path;
 use grid_pictures::pen::Pen;
 use grid_pictures::picture::Picture;
@@ -42,9 +45,32 @@ pub fn eps_document(
     ensures { IfOk result (λ text. string_bytes text ≡
         eps_document module_mm (option_copied title.entry) colors (shown picture.now)) }
 {
-    let (columns, rows, scale) = (picture.columns(), picture.rows(), picture.scale());
+    let texts = Texts {
+        title,
+        caption: None,
+    };
+    eps_captioned(alloc, picture, module_mm, texts, colors)
+}
+
+/// Returns the picture as `eps_document` has it, with a text below it, in rows of its own, if it is
+/// given. It fails only for lack of memory.
+pub fn eps_captioned(
+    alloc: Global,
+    picture: &Picture,
+    module_mm: Option<usize>,
+    texts: Texts,
+    colors: Colors,
+) -> Result<String, AllocError>
+    requires { ForSome module_mm (λ n. n ≤ MAX_MODULE_MM) }
+    ensures { IfOk result (λ text. string_bytes text ≡
+        eps_captioned module_mm (option_copied texts.entry.title)
+        (option_copied texts.entry.caption) colors (shown picture.now)) }
+{
+    let caption = texts.caption;
+    let (columns, scale) = (picture.columns(), picture.scale());
+    let rows = high(caption, picture.rows());
     let mut text = comments(alloc, module_mm, scale, columns, rows)?;
-    push_title(&mut text, title)?;
+    push_title(&mut text, texts.title)?;
     let points = module_points(alloc, module_mm, scale)?;
     let setup = setup(alloc, &points, rows)?;
     text.push_str(setup.as_str())?;
@@ -53,8 +79,61 @@ pub fn eps_document(
     let ink = ink(alloc, colors.dark)?;
     text.push_str(ink.as_str())?;
     push_path(&mut text, picture, Pen::Eps)?;
-    text.push_str("fill\nshowpage\n%%EOF\n")?;
+    push_end(alloc, &mut text, picture, caption)?;
     Ok(text)
+}
+
+/// Appends the end of the document, with the text below the picture, if there is one.
+fn push_end(
+    alloc: Global,
+    text: &mut String,
+    picture: &Picture,
+    caption: Option<&str>,
+) -> Result<(), AllocError>
+    ensures { OnOk result (string_bytes text.new ≡ string_bytes text.old
+        ++ eps_finish (option_copied caption.entry) (shown picture.now)) }
+{
+    let Some(caption) = caption else {
+        return text.push_str("fill\nshowpage\n%%EOF\n");
+    };
+    text.push_str("fill\n")?;
+    push_caption(alloc, text, picture, caption)?;
+    text.push_str("showpage\n%%EOF\n")
+}
+
+/// Appends the text below the picture.
+fn push_caption(
+    alloc: Global,
+    text: &mut String,
+    picture: &Picture,
+    caption: &str,
+) -> Result<(), AllocError>
+    ensures { OnOk result (string_bytes text.new
+        ≡ string_bytes text.old ++ eps_caption caption.now (shown picture.now)) }
+{
+    let columns = picture.columns();
+    let size = module_size(alloc, columns, caption)?;
+    let start = caption_start(alloc, &size)?;
+    text.push_str(start.as_str())?;
+    push_string(text, caption)?;
+    let end = caption_end(alloc, columns, picture.rows() + 3)?;
+    text.push_str(end.as_str())
+}
+
+/// Returns what sets the font of the text below the picture, up to the text.
+#[tactic(auto, unfolding(crate::specs::Eps::caption_start))]
+fn caption_start(alloc: Global, size: &str) -> Result<String, AllocError>
+    ensures { IfOk result (λ text. string_bytes text ≡ caption_start size.now) }
+{
+    format!(in alloc; "/Courier findfont[{size} 0 0 -{size} 0 0]makefont setfont\n(")
+}
+
+/// Returns what shows the text, in the middle of these columns.
+#[tactic(auto, unfolding(crate::specs::Eps::caption_end))]
+fn caption_end(alloc: Global, columns: usize, y: usize) -> Result<String, AllocError>
+    ensures { IfOk result (λ text. string_bytes text ≡ caption_end columns y) }
+{
+    format!(in alloc; ")\ndup stringwidth pop {columns} exch sub 2 div {y} moveto show\n")
 }
 
 /// Returns the comments up to the sides of the picture.
@@ -68,7 +147,7 @@ fn comments(
     requires small { ForSome module_mm (λ n. n ≤ MAX_MODULE_MM) }
     requires small_scale { scale ≤ MAX_SCALE }
     requires few_columns { columns ≤ MAX_COLUMNS }
-    requires few_rows { rows ≤ MAX_COLUMNS }
+    requires few_rows { rows ≤ MAX_HIGH }
     ensures { IfOk result (λ text.
         string_bytes text ≡ eps_comments module_mm scale columns rows) }
 {
@@ -93,7 +172,7 @@ fn push_exact(
 ) -> Result<(), AllocError>
     requires small { module_mm ≤ MAX_MODULE_MM }
     requires few_columns { columns ≤ MAX_COLUMNS }
-    requires few_rows { rows ≤ MAX_COLUMNS }
+    requires few_rows { rows ≤ MAX_HIGH }
     ensures { OnOk result (string_bytes text.new ≡
         string_bytes text.old ++ exact_comment (Some module_mm) columns rows) }
 {
@@ -118,7 +197,7 @@ pub(crate) fn exact_side(
     modules: usize,
 ) -> Result<String, AllocError>
     requires small { module_mm ≤ MAX_MODULE_MM }
-    requires few { modules ≤ MAX_COLUMNS }
+    requires few { modules ≤ MAX_HIGH }
     ensures { IfOk result (λ text. string_bytes text ≡ exact_side module_mm modules) }
 {
     thousandths(alloc, (modules * module_mm * 18_000).div_ceil(635))
@@ -150,7 +229,7 @@ fn push_title(text: &mut String, title: Option<&str>) -> Result<(), AllocError>
 fn box_side(module_mm: Option<usize>, scale: usize, modules: usize) -> usize
     requires small { ForSome module_mm (λ n. n ≤ MAX_MODULE_MM) }
     requires small_scale { scale ≤ MAX_SCALE }
-    requires few { modules ≤ MAX_COLUMNS }
+    requires few { modules ≤ MAX_HIGH }
     ensures { result ≡ box_side module_mm scale modules }
 {
     match module_mm {

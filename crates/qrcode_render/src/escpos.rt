@@ -3,7 +3,7 @@ ghost use Rattle.std.specs.Prelude.{◌≡◌, ◌*◌, ◌<◌, ◌≤◌, ◌+
 ghost use Rattle.std.specs.Option.{ForSome};
 ghost use Rattle.picture_settings.specs.declared.bounds.TheConstants.{BAND_ROWS, MAX_FEED};
 ghost use Rattle.grid_pictures.specs.Pictures.{pixel_height};
-ghost use Rattle.grid_pictures.specs.Shown.{shown};
+ghost use Rattle.grid_pictures.specs.Picture.{shown};
 ghost use Rattle.qrcode_render.specs.EscPos.{band, escpos_text, two_bytes};
 ghost use Rattle.qrcode_render.specs.EscPos.{cut_command, feed_command, ticket_text};
 
@@ -31,9 +31,9 @@ pub fn escpos(alloc: Global, picture: &Picture) -> Result<Vec<u8>, AllocError>
     Ok(bytes)
 }
 
-/// Returns the picture as `escpos` does, and then the commands that move the paper by this many
-/// lines (`ESC d`), and that cut it (`GS V`), if they are asked for. It fails only for lack of
-/// memory.
+/// Returns the picture as `escpos` does, and then the commands that move the paper by this
+/// many lines (`ESC d`), and that cut it (`GS V`), if they are asked for. It fails only for
+/// lack of memory.
 pub fn ticket(
     alloc: Global,
     picture: &Picture,

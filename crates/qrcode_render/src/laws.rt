@@ -1,6 +1,7 @@
 //! Laws: facts about pictures. The function has no body; its contract is the fact.
-ghost use Rattle.qrcode_render.specs.PdfWritten.{EntriesFindObjects, PagesMakeDocument};
-ghost use Rattle.qrcode_render.specs.PdfWritten.{WritesDocument};
+ghost use Rattle.qrcode_render.specs.PdfPagesWritten.{EntriesFindObjects, PagesMakeDocument};
+ghost use Rattle.qrcode_render.specs.PdfPagesWritten.{WritesDocument};
+ghost use Rattle.qrcode_render.specs.Zpl.{FieldsAreRead};
 
 pub use grid_pictures::laws::rectangles_cover_dark_modules;
 pub use picture_settings::laws::{light_is_nearest, strings_are_read, texts_are_read};
@@ -21,4 +22,9 @@ pub fn writes_document()
 /// each begins where its entry in the table says.
 pub fn entries_find_objects()
     ensures { EntriesFindObjects }
+{}
+
+/// A printer finds exactly the bytes of a text below a picture of ZPL, whatever the text.
+pub fn fields_are_read()
+    ensures { FieldsAreRead }
 {}

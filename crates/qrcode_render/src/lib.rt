@@ -16,6 +16,7 @@
 //! of `qrcode_core`, by the options of a `RenderConfig`.
 #![tactic(auto)]
 
+pub mod caption;
 mod compressed;
 mod drawing;
 pub mod eps;

@@ -2,7 +2,7 @@
 ghost use Rattle.std.specs.Prelude.{◌≡◌, IfOk};
 ghost use Rattle.std.specs.String.{string_bytes};
 ghost use Rattle.grid_pictures.specs.Bitmaps.{bitmap_of, header};
-ghost use Rattle.grid_pictures.specs.Shown.{shown};
+ghost use Rattle.grid_pictures.specs.Picture.{shown};
 
 use grid_pictures::bitmap::push_rows;
 use grid_pictures::picture::Picture;

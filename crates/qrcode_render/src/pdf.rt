@@ -1,10 +1,10 @@
-//! Pictures as documents of PDF (ISO 32000-1, PDF 1.4), of one page that is as large as the
-//! picture.
+//! Pictures as documents of PDF (ISO 32000-1, PDF 1.4), of one page that is as large as
+//! the picture.
 ghost use Rattle.std.specs.Prelude.{◌≡◌, ◌≤◌, [], ◌∷◌, None, IfOk};
 ghost use Rattle.std.specs.Option.{ForSome, option_copied};
 ghost use Rattle.picture_settings.specs.declared.bounds.TheConstants.{MAX_MODULE_MM};
 ghost use Rattle.picture_settings.specs.Colors.{no_colors};
-ghost use Rattle.grid_pictures.specs.Shown.{shown};
+ghost use Rattle.grid_pictures.specs.Picture.{shown};
 ghost use Rattle.qrcode_render.specs.Pdf.{pdf_document, pdf_page};
 
 use crate::pdf_page::draw_page;

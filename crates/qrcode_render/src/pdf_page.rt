@@ -4,7 +4,7 @@ ghost use Rattle.std.specs.Option.{ForSome};
 ghost use Rattle.std.specs.String.{string_bytes};
 ghost use Rattle.picture_settings.specs.declared.bounds.TheConstants.{MAX_COLUMNS, MAX_MODULE_MM};
 ghost use Rattle.picture_settings.specs.declared.bounds.TheConstants.{MAX_SCALE};
-ghost use Rattle.grid_pictures.specs.Shown.{shown};
+ghost use Rattle.grid_pictures.specs.Picture.{shown};
 ghost use Rattle.qrcode_render.specs.Pdf.{color_part, millionths, module_width, page_side};
 ghost use Rattle.qrcode_render.specs.Pdf.{pdf_color, pdf_fill, pdf_ground, pdf_ink, pdf_units};
 ghost use Rattle.qrcode_render.specs.Pdf.{pdf_page};

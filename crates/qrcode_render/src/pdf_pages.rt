@@ -13,14 +13,14 @@
 //! (`laws::pages_make_document`). Two numbers a page are kept, and nothing else.
 ghost use Rattle.std.specs.Prelude.{◌≡◌, ◌<◌, ◌≤◌, ◌^◌, ◌++◌, [], ◌∷◌, IfOk, OnErr, OnOk, Err};
 ghost use Rattle.std.specs.Option.{ForSome, option_copied};
-ghost use Rattle.qrcode_core.specs.Drawn.{drawn_grid};
+ghost use Rattle.qrcode_core.specs.Symbol.{drawn_grid};
 ghost use Rattle.picture_settings.specs.declared.bounds.TheConstants.{MAX_MODULE_MM, MAX_PDF};
-ghost use Rattle.grid_pictures.specs.Shown.{shown};
+ghost use Rattle.grid_pictures.specs.Picture.{shown};
 ghost use Rattle.qrcode_render.specs.declared.pdf_pages.PdfError.TheVariants.{OutOfMemory};
 ghost use Rattle.qrcode_render.specs.Drawings.{page_as};
 ghost use Rattle.qrcode_render.specs.Pdf.{pdf_page};
-ghost use Rattle.qrcode_render.specs.PdfWritten.{PdfWritten, after_page, next_page, pdf_end};
-ghost use Rattle.qrcode_render.specs.PdfWritten.{pdf_start, started};
+ghost use Rattle.qrcode_render.specs.PdfPagesWritten.{PdfWritten, after_page, next_page, pdf_end};
+ghost use Rattle.qrcode_render.specs.PdfPagesWritten.{pdf_start, started};
 
 use crate::drawing::shape;
 use crate::pdf_page::draw_page;
@@ -50,8 +50,8 @@ impl From<AllocError> for PdfError {
     }
 }
 
-/// What is written of a document: how many bytes, and where each page and each content stream
-/// begins.
+/// What is written of a document: how many bytes, and where each page and each content
+/// stream begins.
 #[derive(Drop)]
 pub struct PdfPages {
     size: usize,
@@ -101,9 +101,9 @@ impl PdfPages {
         ensures after { OnOk result
             (self.new ≡ after_page self.old (page_as options.now (drawn_grid symbol.now))) }
         ensures fits { OnOk result (self.new.size ≤ MAX_PDF) }
-        ensures too_long { result ≡ Err PdfError.TooLong → MAX_PDF
+        ensures no_room { result ≡ Err PdfError.TooLong → MAX_PDF
             < (after_page self.old (page_as options.now (drawn_grid symbol.now))).size }
-        ensures same { OnErr result (self.new ≡ self.old) }
+        ensures unchanged { OnErr result (self.new ≡ self.old) }
     {
         let picture = Picture::of_symbol(symbol, shape(options));
         self.picture(alloc, &picture, options.module_mm, options.colors)
@@ -124,9 +124,9 @@ impl PdfPages {
         ensures after { OnOk result (self.new
             ≡ after_page self.old (pdf_page module_mm colors (shown picture.now))) }
         ensures fits { OnOk result (self.new.size ≤ MAX_PDF) }
-        ensures too_long { result ≡ Err PdfError.TooLong → MAX_PDF
+        ensures no_room { result ≡ Err PdfError.TooLong → MAX_PDF
             < (after_page self.old (pdf_page module_mm colors (shown picture.now))).size }
-        ensures same { OnErr result (self.new ≡ self.old) }
+        ensures unchanged { OnErr result (self.new ≡ self.old) }
     {
         let page = draw_page(alloc, picture, module_mm, colors)?;
         let mut bytes = Vec::new(alloc);

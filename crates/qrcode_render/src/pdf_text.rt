@@ -9,7 +9,7 @@ ghost use Rattle.qrcode_render.specs.Pdf.{stream_content, text_string, utf16_tex
 ghost use Rattle.qrcode_render.specs.PdfFile.{object_head, pdf_object, pdf_trailer, table_entry};
 ghost use Rattle.qrcode_render.specs.PdfFile.{table_head};
 ghost use Rattle.qrcode_render.specs.PdfPages.{page_of};
-ghost use Rattle.qrcode_render.specs.PdfWritten.{page_object, page_text, pdf_end, pdf_start};
+ghost use Rattle.qrcode_render.specs.PdfPagesWritten.{page_object, page_text, pdf_end, pdf_start};
 
 use crate::pdf_page::Page;
 use crate::svg::push_byte;

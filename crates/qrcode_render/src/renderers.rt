@@ -7,7 +7,7 @@
 //! Options of other names are left alone.
 ghost use Rattle.picture_settings.specs.declared.format.Format.{Format};
 ghost use Rattle.qrcode_render.specs.Drawings.{drawn_bytes, is_drawn_text};
-ghost use Rattle.qrcode_render.specs.Rendered.{IsOutput, IsRendererRefusal, Renders, Validates};
+ghost use Rattle.qrcode_render.specs.Renderers.{IsOutput, IsRendererRefusal, Renders, Validates};
 
 use crate::drawing::{Drawn, draw_as, shape};
 use grid_pictures::picture::Picture;

@@ -2,14 +2,16 @@
 ghost use Rattle.std.specs.Prelude.{◌≡◌, ◌<◌, ◌≤◌, ◌++◌, [], ◌∷◌, None, IfOk, OnOk};
 ghost use Rattle.std.specs.Option.{ForSome, option_copied};
 ghost use Rattle.std.specs.String.{string_bytes};
-ghost use Rattle.picture_settings.specs.declared.bounds.TheConstants.{MAX_COLUMNS, MAX_MODULE_MM};
-ghost use Rattle.grid_pictures.specs.Shown.{shown};
+ghost use Rattle.picture_settings.specs.declared.bounds.TheConstants.{MAX_HIGH, MAX_MODULE_MM};
+ghost use Rattle.grid_pictures.specs.Picture.{shown};
 ghost use Rattle.qrcode_render.specs.Svg.{background, hex_color, millimetres, path_start, stroke};
 ghost use Rattle.qrcode_render.specs.Svg.{svg_colored, svg_document, svg_ground, svg_side};
+ghost use Rattle.qrcode_render.specs.Svg.{caption_element, caption_tag, svg_captioned, svg_end};
 ghost use Rattle.qrcode_render.specs.Svg.{svg_tag};
 ghost use Rattle.qrcode_render.specs.Svg.{svg_text, title_element};
 ghost use Rattle.qrcode_render.specs.Zpl.{hex_digit, hex_pair};
 
+use crate::caption::{Texts, high, high_pixels, module_size};
 use grid_pictures::path::push_path;
 use grid_pictures::pen::Pen;
 use grid_pictures::picture::Picture;
@@ -55,18 +57,89 @@ pub fn svg_colored(
     ensures { IfOk result (λ text. string_bytes text ≡
         svg_colored module_mm (option_copied title.entry) colors (shown picture.now)) }
 {
-    let (columns, rows) = (picture.columns(), picture.rows());
+    let texts = Texts {
+        title,
+        caption: None,
+    };
+    svg_captioned(alloc, picture, module_mm, texts, colors)
+}
+
+/// Returns the picture as `svg_colored` has it, with a text below it, in rows of its own, if it is
+/// given. It fails only for lack of memory.
+pub fn svg_captioned(
+    alloc: Global,
+    picture: &Picture,
+    module_mm: Option<usize>,
+    texts: Texts,
+    colors: Colors,
+) -> Result<String, AllocError>
+    requires { ForSome module_mm (λ n. n ≤ MAX_MODULE_MM) }
+    ensures { IfOk result (λ text. string_bytes text ≡
+        svg_captioned module_mm (option_copied texts.entry.title)
+        (option_copied texts.entry.caption) colors (shown picture.now)) }
+{
+    let caption = texts.caption;
+    let columns = picture.columns();
+    let rows = high(caption, picture.rows());
     let width = side(alloc, module_mm, columns, picture.width())?;
-    let height = side(alloc, module_mm, rows, picture.height())?;
+    let height = side(alloc, module_mm, rows, high_pixels(caption, picture))?;
     let mut text = tag(alloc, &width, &height, columns, rows)?;
-    push_title(&mut text, title)?;
+    push_title(&mut text, texts.title)?;
     let ground = ground(alloc, colors.light, columns, rows)?;
     text.push_str(ground.as_str())?;
     let start = path_start(alloc, colors.dark)?;
     text.push_str(start.as_str())?;
     push_path(&mut text, picture, Pen::Svg)?;
-    text.push_str("\"/>\n</svg>\n")?;
+    push_end(alloc, &mut text, picture, caption, colors.dark)?;
     Ok(text)
+}
+
+/// Appends the end of the document, with the text below the picture, if there is one.
+fn push_end(
+    alloc: Global,
+    text: &mut String,
+    picture: &Picture,
+    caption: Option<&str>,
+    dark: Option<Rgb>,
+) -> Result<(), AllocError>
+    ensures { OnOk result (string_bytes text.new ≡ string_bytes text.old
+        ++ svg_end (option_copied caption.entry) dark (shown picture.now)) }
+{
+    let Some(caption) = caption else {
+        return text.push_str("\"/>\n</svg>\n");
+    };
+    text.push_str("\"/>\n")?;
+    push_caption(alloc, text, picture, caption, dark)?;
+    text.push_str("</svg>\n")
+}
+
+/// Appends the text below the picture.
+fn push_caption(
+    alloc: Global,
+    text: &mut String,
+    picture: &Picture,
+    caption: &str,
+    dark: Option<Rgb>,
+) -> Result<(), AllocError>
+    ensures { OnOk result (string_bytes text.new
+        ≡ string_bytes text.old ++ caption_element caption.now dark (shown picture.now)) }
+{
+    let size = module_size(alloc, picture.columns(), caption)?;
+    let color = stroke(alloc, dark)?;
+    let start = caption_tag(alloc, picture.rows() + 3, &size, &color)?;
+    text.push_str(start.as_str())?;
+    push_escaped(text, caption)?;
+    text.push_str("</text>\n")
+}
+
+/// Returns the first tag of the text below the picture.
+#[tactic(auto, unfolding(crate::specs::Svg::caption_tag))]
+fn caption_tag(alloc: Global, y: usize, size: &str, color: &str) -> Result<String, AllocError>
+    ensures { IfOk result (λ text. string_bytes text ≡ caption_tag y size.now color.now) }
+{
+    format!(in alloc;
+        r##"<text x="50%" y="{y}" text-anchor="middle" font-family="monospace" font-size="{size}" fill="{color}">"##
+    )
 }
 
 /// Returns a side of the picture, in pixels or in millimetres.
@@ -78,7 +151,7 @@ fn side(
     pixels: usize,
 ) -> Result<String, AllocError>
     requires small { ForSome module_mm (λ n. n ≤ MAX_MODULE_MM) }
-    requires few { modules ≤ MAX_COLUMNS }
+    requires few { modules ≤ MAX_HIGH }
     ensures { IfOk result (λ text. string_bytes text ≡ svg_side module_mm modules pixels) }
 {
     let Some(module_mm) = module_mm else {
@@ -154,12 +227,17 @@ fn background(alloc: Global, color: &str, columns: usize, rows: usize) -> Result
 fn path_start(alloc: Global, dark: Option<Rgb>) -> Result<String, AllocError>
     ensures { IfOk result (λ text. string_bytes text ≡ path_start (stroke dark)) }
 {
+    let color = stroke(alloc, dark)?;
+    path_of(alloc, &color)
+}
+
+/// Returns the colour of the path.
+fn stroke(alloc: Global, dark: Option<Rgb>) -> Result<String, AllocError>
+    ensures { IfOk result (λ text. string_bytes text ≡ stroke dark) }
+{
     match dark {
-        None => path_of(alloc, "#000"),
-        Some(color) => {
-            let color = hex_color(alloc, color)?;
-            path_of(alloc, &color)
-        }
+        None => String::from_str(alloc, "#000"),
+        Some(color) => hex_color(alloc, color),
     }
 }
 

@@ -1,18 +1,21 @@
 //! Pictures as labels of ZPL II, for label printers.
-ghost use Rattle.std.specs.Prelude.{◌≡◌, ◌+◌, ◌*◌, ◌<◌, ◌≤◌, ◌++◌, IfOk, OnOk, Some};
+ghost use Rattle.std.specs.Prelude.{◌≡◌, ◌+◌, ◌*◌, ◌<◌, ◌≤◌, ◌++◌, IfOk, OnOk, Some, None};
 ghost use Rattle.std.specs.Prelude.{flat_map, length};
+ghost use Rattle.std.specs.Option.{option_copied};
 ghost use Rattle.grid_pictures.specs.Bitmaps.{rows_from};
 ghost use Rattle.std.specs.String.{string_bytes};
 ghost use Rattle.picture_settings.specs.declared.bounds.TheConstants.{FIELD_BYTES, MAX_AT};
 ghost use Rattle.picture_settings.specs.declared.bounds.TheConstants.{MAX_PIXELS};
 ghost use Rattle.grid_pictures.specs.Pictures.{pixel_height};
-ghost use Rattle.grid_pictures.specs.Shown.{shown};
-ghost use Rattle.qrcode_render.specs.Encoded.{AddsPiece};
+ghost use Rattle.grid_pictures.specs.Picture.{shown};
+ghost use Rattle.qrcode_render.specs.CompressedData.{AddsPiece};
 ghost use Rattle.qrcode_render.specs.Labels.{IsCompressedField, IsCompressedLabel};
 ghost use Rattle.qrcode_render.specs.Zpl.{field, field_head, hex_pair, hex_digit, zpl_text};
 ghost use Rattle.qrcode_render.specs.Zpl.{copies_command, field_count, field_rows, label_end};
-ghost use Rattle.qrcode_render.specs.Zpl.{label_text, nth_first};
+ghost use Rattle.qrcode_render.specs.Zpl.{label_text, nth_first, caption_field, field_byte};
+ghost use Rattle.qrcode_render.specs.Zpl.{field_data, label_captioned, text_head};
 
+use crate::caption::fitting;
 use crate::compressed::push_data;
 use grid_pictures::bitmap::{write_row, zeros};
 use grid_pictures::picture::Picture;
@@ -37,7 +40,6 @@ pub fn zpl(alloc: Global, picture: &Picture, at: (usize, usize)) -> Result<Vec<u
 
 /// Returns the picture as `zpl` does, with the number of labels that the printer prints (`^PQ`), if
 /// it is given. It fails only for lack of memory.
-#[tactic(auto, using(crate::proofs::BandLemmas::fields))]
 pub fn label(
     alloc: Global,
     picture: &Picture,
@@ -46,6 +48,23 @@ pub fn label(
 ) -> Result<Vec<u8>, AllocError>
     requires { at.1 ≤ MAX_AT }
     ensures { IfOk result (λ bytes. bytes.items ≡ label_text at copies (shown picture.now)) }
+{
+    label_captioned(alloc, picture, at, None, copies)
+}
+
+/// Returns the picture as `label` does, with a text below it in the scalable font of the printer
+/// (`^A0`), if it is given. It fails only for lack of memory.
+#[tactic(auto, using(crate::proofs::BandLemmas::fields))]
+pub fn label_captioned(
+    alloc: Global,
+    picture: &Picture,
+    at: (usize, usize),
+    caption: Option<&str>,
+    copies: Option<usize>,
+) -> Result<Vec<u8>, AllocError>
+    requires { at.1 ≤ MAX_AT }
+    ensures { IfOk result (λ bytes. bytes.items
+        ≡ label_captioned at (option_copied caption.entry) copies (shown picture.now)) }
 {
     let height = picture.height();
     let rows = field_rows(picture);
@@ -64,13 +83,13 @@ pub fn label(
             (height - first).min(rows),
         )?;
     }
+    push_caption(alloc, &mut bytes, picture, at, caption)?;
     push_end(alloc, &mut bytes, copies)?;
     Ok(bytes)
 }
 
 /// Returns the picture as `label` does, with compressed data (the "Alternative Data Compression
 /// Scheme" of the ZPL II guide). It fails only for lack of memory.
-#[tactic(auto, using(crate::proofs::BandLemmas::fields))]
 pub fn compressed_label(
     alloc: Global,
     picture: &Picture,
@@ -79,7 +98,24 @@ pub fn compressed_label(
 ) -> Result<Vec<u8>, AllocError>
     requires { at.1 ≤ MAX_AT }
     ensures { IfOk result (λ bytes.
-        IsCompressedLabel at copies (shown picture.now) bytes.items) }
+        IsCompressedLabel at None copies (shown picture.now) bytes.items) }
+{
+    compressed_captioned(alloc, picture, at, None, copies)
+}
+
+/// Returns the picture as `label_captioned` does, with compressed data. It fails only for lack
+/// of memory.
+#[tactic(auto, using(crate::proofs::BandLemmas::fields))]
+pub fn compressed_captioned(
+    alloc: Global,
+    picture: &Picture,
+    at: (usize, usize),
+    caption: Option<&str>,
+    copies: Option<usize>,
+) -> Result<Vec<u8>, AllocError>
+    requires { at.1 ≤ MAX_AT }
+    ensures { IfOk result (λ bytes. IsCompressedLabel at (option_copied caption.entry) copies
+        (shown picture.now) bytes.items) }
 {
     let fields = field_count(picture);
     let mut bytes = Vec::new(alloc);
@@ -87,6 +123,7 @@ pub fn compressed_label(
     for n in 0..fields {
         push_compressed_field(alloc, &mut bytes, picture, at, n)?;
     }
+    push_caption(alloc, &mut bytes, picture, at, caption)?;
     push_end(alloc, &mut bytes, copies)?;
     Ok(bytes)
 }
@@ -128,6 +165,67 @@ fn field_count(picture: &Picture) -> usize
     ensures { result ≡ field_count (shown picture.now) }
 {
     picture.height().div_ceil(field_rows(picture))
+}
+
+/// Appends the field of the text below the picture, if there is one.
+fn push_caption(
+    alloc: Global,
+    bytes: &mut Vec<u8>,
+    picture: &Picture,
+    at: (usize, usize),
+    caption: Option<&str>,
+) -> Result<(), AllocError>
+    requires { at.1 ≤ MAX_AT }
+    ensures { OnOk result (bytes.new.items ≡ bytes.old.items
+        ++ caption_field at (option_copied caption.entry) (shown picture.now)) }
+{
+    let Some(text) = caption else {
+        return Ok(());
+    };
+    let height = (3 * picture.scale()).max(10);
+    let width = fitting(height, picture.width(), text).max(10);
+    let head = text_head(alloc, at.0, at.1 + picture.height(), height, width)?;
+    bytes.extend_from_slice(head.as_bytes())?;
+    push_text(bytes, text.as_bytes())?;
+    bytes.extend_from_slice(b"^FS\n")
+}
+
+/// Returns the head of a field of text, up to the text.
+#[tactic(auto, unfolding(crate::specs::Zpl::text_head))]
+fn text_head(
+    alloc: Global,
+    x: usize,
+    y: usize,
+    height: usize,
+    width: usize,
+) -> Result<String, AllocError>
+    ensures { IfOk result (λ text. string_bytes text ≡ text_head x y height width) }
+{
+    format!(in alloc; "^FO{x},{y}^A0N,{height},{width}^FH^FD")
+}
+
+/// Appends the bytes of a text as a field has them.
+#[tactic(auto, using(crate::proofs::CaptionLemmas::field_texts))]
+fn push_text(bytes: &mut Vec<u8>, text: &[u8]) -> Result<(), AllocError>
+    ensures { OnOk result (bytes.new.items ≡ bytes.old.items ++ field_data text.now) }
+{
+    for i in 0..text.len() {
+        push_byte(bytes, text[i])?;
+    }
+    Ok(())
+}
+
+/// Appends a byte of a text, by its hexadecimal digits if it is a mark of a command.
+fn push_byte(bytes: &mut Vec<u8>, byte: u8) -> Result<(), AllocError>
+    ensures { OnOk result (bytes.new.items ≡ bytes.old.items ++ field_byte byte) }
+{
+    if byte == b'^' || byte == b'~' || byte == b'_' {
+        bytes.push(b'_')?;
+        bytes.push(hex_digit(byte / 16))?;
+        bytes.push(hex_digit(byte % 16))?;
+        return Ok(());
+    }
+    Ok(bytes.push(byte)?)
 }
 
 /// Appends the end of a label, after its number of copies.

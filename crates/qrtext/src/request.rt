@@ -1,6 +1,6 @@
 //! What the arguments ask for, and its text.
 ghost use Rattle.std.specs.Prelude.{◌≡◌, map, IfOk, MatchOption};
-ghost use Rattle.qrcode_core.specs.Drawn.{drawn_grid};
+ghost use Rattle.qrcode_core.specs.Symbol.{drawn_grid};
 ghost use Rattle.programs.specs.Outcome.{AskForNone};
 ghost use Rattle.qrtext.specs.Drawing.{grid_text};
 ghost use Rattle.qrtext.specs.Words.{AskForText};

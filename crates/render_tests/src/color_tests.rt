@@ -149,8 +149,8 @@ fn grey(value: u8) -> Rgb {
     }
 }
 
-/// On white, #949494 has a contrast of 3.03, and #959595 one of 2.99; blue has one of 2.44 to
-/// black.
+/// On white, #949494 has a contrast of 3.03, and #959595 one of 2.99; blue has one of 2.44
+/// to black.
 #[test]
 fn tests_contrasts(rt: HostRuntime) {
     let alloc = rt.alloc();

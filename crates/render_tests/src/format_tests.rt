@@ -263,6 +263,7 @@ fn names_the_first_setting(rt: HostRuntime) {
         dpi: Some(49),
         inverted: true,
         title: Some("a"),
+        caption: Some("a"),
         at: Some((0, 0)),
         copies: Some(0),
         compressed: true,
@@ -291,6 +292,11 @@ fn names_the_first_setting(rt: HostRuntime) {
     assert!(rt; rejects(alloc, Format::Pbm, &many, Setting::Title));
     let many = Settings {
         title: None,
+        ..many
+    };
+    assert!(rt; rejects(alloc, Format::Pbm, &many, Setting::Caption));
+    let many = Settings {
+        caption: None,
         ..many
     };
     assert!(rt; rejects(alloc, Format::Pbm, &many, Setting::At));

@@ -169,6 +169,7 @@ fn names_settings(rt: HostRuntime) {
         (Setting::Dpi, "dpi"),
         (Setting::Inverted, "inverted"),
         (Setting::Title, "title"),
+        (Setting::Caption, "caption"),
         (Setting::At, "at"),
         (Setting::Copies, "copies"),
         (Setting::Compressed, "compressed"),

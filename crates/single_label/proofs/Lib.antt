@@ -1,3 +1,4 @@
+pub mod CaptionLemmas
 pub mod DetailsLemmas
 pub mod PartLemmas
 pub mod ShownLemmas

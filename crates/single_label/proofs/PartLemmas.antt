@@ -13,7 +13,7 @@ use Rattle.std.specs.declared.alloc.Global.{Global}
 use Rattle.std.proofs.lemmas.{Grind.common_steps, Grind.flat_map-append, List.take_more}
 use Rattle.programs.specs.declared.Fault.{Fault as FaultOf}
 use Rattle.programs.specs.declared.Fault.TheVariants.{Read, Write}
-use Rattle.qrcode_core.specs.Drawn.{DrawnSymbol}
+use Rattle.qrcode_core.specs.Symbol.{DrawnSymbol}
 use Rattle.picture_settings.specs.declared.draw_options.DrawOptions.{DrawOptions}
 use Rattle.label_words.specs.declared.command.Label.{Label}
 use Rattle.single_label.specs.declared.stop.Stop.TheVariants.{Fault}
@@ -23,7 +23,7 @@ use Rattle.single_label.proofs.StopLemmas.{neither}
 
 -- a symbol more is shown
 pub ShowEach-more : (label : Label) (options : DrawOptions) (symbols : List DrawnSymbol) (drawings : List (List ℕ)) (s : DrawnSymbol) (d : List ℕ) →
-    ShowEach label options symbols drawings → ShowsSymbol label options None s d → ShowEach label options (symbols ++ s ∷ []) (drawings ++ d ∷ [])
+    ShowEach label options symbols drawings → ShowsSymbol label options None None s d → ShowEach label options (symbols ++ s ∷ []) (drawings ++ d ∷ [])
 ShowEach-more label options [] [] s d h k = (k, tt)
 ShowEach-more label options (x ∷ xs) (y ∷ ys) s d h k = (h.0, ShowEach-more label options xs ys s d h.1 k)
 ShowEach-more label options [] (y ∷ ys) s d h k = absurd h
@@ -31,7 +31,7 @@ ShowEach-more label options (x ∷ xs) [] s d h k = absurd h
 
 -- a symbol more
 pub shown_more : (label : Label) (options : DrawOptions) (symbols : List DrawnSymbol) (i : ℕ) (d : DrawnSymbol) (vs : List (Vec ℕ Global)) (v : Vec ℕ Global) →
-    i < length symbols → ShowEach label options (take i symbols) (map vec_items vs) → ShowsSymbol label options None (get_or symbols i d) v.items →
+    i < length symbols → ShowEach label options (take i symbols) (map vec_items vs) → ShowsSymbol label options None None (get_or symbols i d) v.items →
     ShowEach label options (take (i + 1) symbols) (map vec_items (vs ++ v ∷ []))
 shown_more label options symbols i d vs v within h k =
     let more : map vec_items (vs ++ v ∷ []) ≡ map vec_items vs ++ v.items ∷ [] = grind (arith, common_steps) in

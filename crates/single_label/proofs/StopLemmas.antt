@@ -16,10 +16,10 @@ use Rattle.label_words.specs.declared.command.Content.{Content}
 use Rattle.label_words.specs.declared.command.Content.TheVariants.{Auto, Text, Bytes, Gs1, UncheckedGs1, Link, Micro, MicroBytes}
 use Rattle.label_words.specs.declared.command.Label.{Label}
 use Rattle.single_label.specs.declared.stop.{Stop.Stop, Stop.TheVariants.Fault, Stop.TheVariants.Elements, Stop.TheVariants.NotAllowed, Stop.TheVariants.NoLink, Stop.TheVariants.Empty}
-use Rattle.single_label.specs.declared.stop.{Stop.TheVariants.NotAscii, Stop.TheVariants.TooLong, Stop.TheVariants.TooManyParts, Stop.TheVariants.TooManyPages}
+use Rattle.single_label.specs.declared.stop.{Stop.TheVariants.NoMicroText, Stop.TheVariants.TooLong, Stop.TheVariants.TooManyParts, Stop.TheVariants.TooManyPages}
 use Rattle.single_label.specs.declared.stop.TooLong.{TooLong as TooLongOf}
 use Rattle.single_label.specs.{Contents.IsStopAs, Contents.IsSymbolAs, Contents.IsNoUtf8, Contents.is_bracketed, Contents.AreNotWritten, Contents.IsLink, Contents.IsLinkStop}
-use Rattle.single_label.specs.{Labels.IsLabelStop, Labels.IsLabelData, Labels.IsContentStop, Labels.IsTextStop, Labels.is_too_long, Labels.details_label}
+use Rattle.single_label.specs.{Labels.IsLabelStop, Labels.IsLabelData, Labels.IsContentStop, Labels.IsTextStop, Contents.is_too_long, Labels.details_label}
 use Rattle.single_label.specs.{Parts.IsMessageStop, Parts.IsOtherStop, Rooms.IsTooLongAs, Rooms.IsTooLongForAny}
 use Rattle.label_words.specs.Choices.{gs1_content, is_link}
 use Rattle.single_label.specs.{Details.IsDetailsStop, Details.HasNoData, Labels.IsSaid}
@@ -114,8 +114,8 @@ not_written true options bytes (Fault Write) short bracketed h = absurd h
 not_written false options bytes (Fault Write) short bracketed h = absurd h
 not_written true options bytes Empty short bracketed h = absurd h
 not_written false options bytes Empty short bracketed h = absurd h
-not_written true options bytes NotAscii short bracketed h = absurd h
-not_written false options bytes NotAscii short bracketed h = absurd h
+not_written true options bytes NoMicroText short bracketed h = absurd h
+not_written false options bytes NoMicroText short bracketed h = absurd h
 not_written true options bytes (TooLong t) short bracketed h = absurd h
 not_written false options bytes (TooLong t) short bracketed h = absurd h
 not_written true options bytes TooManyParts short bracketed h = absurd h
@@ -140,7 +140,7 @@ content_stop label content (Fault fault) some short is not_empty not_long = (som
 content_stop label content (Elements at) some short is not_empty not_long = (some, short, inr is)
 content_stop label content (NotAllowed error) some short is not_empty not_long = (some, short, inr is)
 content_stop label content (NoLink error) some short is not_empty not_long = (some, short, inr is)
-content_stop label content NotAscii some short is not_empty not_long = (some, short, inr is)
+content_stop label content NoMicroText some short is not_empty not_long = (some, short, inr is)
 content_stop label content TooManyParts some short is not_empty not_long = (some, short, inr is)
 content_stop label content TooManyPages some short is not_empty not_long = (some, short, inr is)
 content_stop label content Empty some short is not_empty not_long = absurd (not_empty refl)
@@ -163,7 +163,14 @@ message_no_details label content stop grid short is (inr h) =
 -- ---- The details_label label
 
 details_long_any : (label : Label) (t : TooLongOf) → IsTooLongForAny (details_label label) t → IsTooLongForAny label t
-details_long_any label t h = record { many = h.many; version_is = h.version_is; level_is = h.level_is; fits = h.fits; splits = h.splits }
+details_long_any label t h = record {
+  many = h.many;
+  version_is = h.version_is;
+  level_is = h.level_is;
+  fits = h.fits;
+  splits = h.splits;
+  text = h.text;
+}
 
 details_long : (label : Label) (content : List ℕ) (t : TooLongOf) → IsTooLongAs (details_label label) content t → IsTooLongAs label content t
 details_long label content t h = record {
@@ -176,6 +183,7 @@ details_long label content t h = record {
   digits_are = h.digits_are;
   fits = h.fits;
   splits = h.splits;
+  text = h.text;
 }
 
 details_content : (label : Label) (content : List ℕ) (stop : Stop) → IsContentStop (details_label label) content stop → IsContentStop label content stop
@@ -184,7 +192,7 @@ details_content label content (Elements at) h = h
 details_content label content (NotAllowed error) h = h
 details_content label content (NoLink error) h = h
 details_content label content Empty h = h
-details_content label content NotAscii h = h
+details_content label content NoMicroText h = h
 details_content label content TooManyParts h = h
 details_content label content TooManyPages h = h
 details_content label content (TooLong t) h = (h.0, details_long label content t h.1, h.2)
@@ -247,7 +255,7 @@ too_long_is content options bytes (Elements at) is h = grind (arith, is)
 too_long_is content options bytes (NotAllowed error) is h = grind (arith, is)
 too_long_is content options bytes (NoLink error) is h = grind (arith, is)
 too_long_is content options bytes Empty is h = grind (arith, is)
-too_long_is content options bytes NotAscii is h = grind (arith, is)
+too_long_is content options bytes NoMicroText is h = grind (arith, is)
 too_long_is content options bytes (TooLong t) is h = grind (arith, is)
 too_long_is content options bytes TooManyParts is h = grind (arith, is)
 too_long_is content options bytes TooManyPages is h = grind (arith, is)

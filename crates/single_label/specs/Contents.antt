@@ -1,6 +1,6 @@
 -- The symbol of a label, by what its bytes are.
 use Rattle.std.specs.Prelude.{◌≡◌, ◌⊎◌, ℕ, ◌<◌, ◌≤◌, nat_lt, ◌==◌, Bool, true, false, ◌&&◌, List, length}
-use Rattle.std.specs.Prelude.{slice_index, slice_get, drop, None, Some, if◌then◌else◌}
+use Rattle.std.specs.Prelude.{slice_index, slice_get, drop, None, Some, if◌then◌else◌, chars}
 use Rattle.std.specs.List.{list_all}
 use Rattle.std.specs.Io.BufRead.{ends_with_byte, strip_last}
 use Rattle.std.specs.Str.{IsUtf8, IsValidUpTo}
@@ -14,6 +14,7 @@ use Rattle.gs1.specs.Values.{text_error, IsRefusedByTable}
 use Rattle.programs.specs.declared.Fault.TheVariants.{Symbol}
 use Rattle.qrcode_base.specs.declared.symbols.TheConstants.{LONGEST_DATA}
 use Rattle.qrcode_bits.specs.Frame.{front_of, no_front}
+use Rattle.qrcode_bits.specs.Plans.{micro}
 use Rattle.qrcode_bits.specs.Push.{IsMicroRefused}
 use Rattle.qrcode_bits.specs.declared.bits.front.Content.TheVariants.{Text as TextFront, Elements as ElementsFront}
 use Rattle.qrcode_core.specs.Headline.{IsBestMicroSymbol}
@@ -22,18 +23,20 @@ use Rattle.qrcode_core.specs.declared.options.SymbolOptions.{SymbolOptions}
 use Rattle.qrcode_core.specs.declared.types.Color.{Color}
 use Rattle.qrcode_core.specs.declared.types.EcLevel.{EcLevel}
 use Rattle.qrcode_core.specs.declared.types.errors.QrError.{QrError}
-use Rattle.qrcode_core.specs.declared.types.errors.QrError.TheVariants.{DataTooLong, InvalidCharacter}
+use Rattle.qrcode_core.specs.declared.types.errors.QrError.TheVariants.{DataTooLong, InvalidCharacter, OutOfMemory}
 use Rattle.single_label.specs.Faults.{IsFaultIn, IsWrittenAt, IsFoundAt}
 use Rattle.label_words.specs.declared.command.Content.{Content}
 use Rattle.label_words.specs.declared.command.Content.TheVariants.{Auto, Text, Bytes, Gs1, UncheckedGs1, Link, Micro}
 use Rattle.label_words.specs.declared.command.Content.TheVariants.{MicroBytes}
 use Rattle.single_label.specs.declared.stop.Stop.{Stop}
 use Rattle.single_label.specs.declared.stop.Stop.TheVariants.{Fault, Elements, NotAllowed, NoLink}
-use Rattle.single_label.specs.declared.stop.Stop.TheVariants.{NotAscii}
+use Rattle.single_label.specs.declared.stop.Stop.TheVariants.{NoMicroText}
+use Rattle.text_symbols.specs.TextHeadline.{IsSmallestText, IsTextAsAsked, IsTextRefused, IsMicroTextRefused}
+use Rattle.text_symbols.specs.declared.micro.MicroTextError.TheVariants.{Unwritable, Symbol as SymbolError}
 
 -- Whether all bytes are ASCII.
-abbrev pub is_ascii : List ℕ → Bool
-is_ascii bytes = list_all (λ byte. nat_lt byte 128) bytes
+abbrev pub is_all_ascii : List ℕ → Bool
+is_all_ascii bytes = list_all (λ byte. nat_lt byte 128) bytes
 
 -- Whether the bytes begin with an opening bracket.
 abbrev pub is_bracketed : List ℕ → Bool
@@ -87,17 +90,23 @@ IsUtf8Refusal options bytes error =
 
 -- The bytes are drawn as they are, since they are ASCII or no UTF-8.
 abbrev pub IsPlain : List ℕ → Type 0
-IsPlain bytes = (is_ascii bytes ≡ true) ⊎ (IsUtf8 bytes → ⊥)
+IsPlain bytes = (is_all_ascii bytes ≡ true) ⊎ (IsUtf8 bytes → ⊥)
 
+-- The bytes are a text beyond ASCII, in UTF-8.
+abbrev pub IsBeyondAscii : List ℕ → Type 0
+IsBeyondAscii bytes = (is_all_ascii bytes ≡ false) × IsUtf8 bytes
+
+-- The symbol is that of the bytes, or the smallest that is read as the text.
 abbrev pub IsAutoSymbol : SymbolOptions → List ℕ → List Color → Type 0
 IsAutoSymbol options bytes grid =
     (IsPlain bytes × IsAsAsked options no_front bytes grid)
-    ⊎ ((is_ascii bytes ≡ false) × IsText options bytes grid)
+    ⊎ (IsBeyondAscii bytes × IsTextAsAsked options (chars bytes) grid)
 
+-- The errors: a text is too long exactly where nothing that is read as it fits.
 abbrev pub IsAutoRefusal : SymbolOptions → List ℕ → QrError → Type 0
 IsAutoRefusal options bytes error =
     (IsPlain bytes × IsOptionsRefusal options no_front bytes error)
-    ⊎ ((is_ascii bytes ≡ false) × IsUtf8 bytes × IsOptionsRefusal options (front_of None TextFront) bytes error)
+    ⊎ (IsBeyondAscii bytes × IsTextRefused options (chars bytes) error)
 
 -- ---- GS1 elements
 
@@ -106,8 +115,8 @@ abbrev pub IsErrorIn : (QrError → Type 0) → Stop → Type 0
 IsErrorIn refuses (Fault (Symbol error)) = refuses error
 IsErrorIn refuses _ = ⊥
 
--- A reader of element strings finds in the elements exactly those that the text writes; the table of
--- identifiers allows them, if they are checked by it, and else none has a fault.
+-- A reader of element strings finds in the elements exactly those that the text writes; the table
+-- of identifiers allows them, if they are checked by it, and else none has a fault.
 pub record AreWritten (checks : Bool) (bytes elements : List ℕ) : Type 0 where
   pub found : FindsOnly elements (written_elements bytes)
   pub faultless : checks ≡ false → text_fault bytes ≡ None
@@ -181,19 +190,37 @@ IsLinkStop domain text _ = ⊥
 
 -- ---- Micro QR symbols
 
--- A Micro symbol has no ECI designator (ISO/IEC 18004:2006, table 2): its text is ASCII.
+-- The bytes are a text in UTF-8, and the symbol is the smallest Micro symbol that is read as it.
 pub record IsMicroText (level : EcLevel) (bytes : List ℕ) (grid : List Color) : Type 0 where
-  pub ascii : is_ascii bytes ≡ true
-  pub best : IsBestMicroSymbol bytes level grid
+  pub text : IsUtf8 bytes
+  pub smallest : IsSmallestText micro (chars bytes) level grid
 
--- Why there is no Micro symbol of a text.
+-- Why there is no Micro symbol of a text. A Micro symbol has no ECI designator (ISO/IEC 18004:2006,
+-- table 2), so that none is read as most texts beyond ASCII.
 abbrev pub IsMicroTextStop : EcLevel → List ℕ → Stop → Type 0
-IsMicroTextStop level bytes NotAscii = is_ascii bytes ≡ false
+IsMicroTextStop level bytes NoMicroText =
+    (IsUtf8 bytes → ⊥) ⊎ (IsUtf8 bytes × IsMicroTextRefused level (chars bytes) Unwritable)
 IsMicroTextStop level bytes (Fault (Symbol error)) =
-    (is_ascii bytes ≡ true) × IsMicroRefused bytes level error
+    IsUtf8 bytes × IsMicroTextRefused level (chars bytes) (SymbolError error)
 IsMicroTextStop level bytes _ = ⊥
 
 -- ---- Any content
+
+-- The symbol of the content is the smallest that is read as its text.
+abbrev pub HasText : Content → List ℕ → Type 0
+HasText Auto bytes = IsBeyondAscii bytes
+HasText Micro bytes = IsUtf8 bytes
+HasText content bytes = ⊥
+
+-- The data are too long for a symbol.
+abbrev pub is_too_long : Stop → Bool
+is_too_long (Fault (Symbol DataTooLong)) = true
+is_too_long _ = false
+
+-- Memory ran out.
+abbrev pub is_memory : Stop → Bool
+is_memory (Fault (Symbol OutOfMemory)) = true
+is_memory _ = false
 
 -- The symbol is that of the bytes, at the level and in the versions of the options. For a link they
 -- are the link.

@@ -1,8 +1,8 @@
 -- The details of a symbol: version, level, mask, segments and size.
-use Rattle.std.specs.Prelude.{◌≡◌, ◌⊎◌, ℕ, Bool, ◌+◌, ◌-◌, ◌*◌, ◌/◌, ◌%◌, nat_abs, nat_le, ◌&&◌}
+use Rattle.std.specs.Prelude.{◌≡◌, ◌⊎◌, ◌≤◌, ℕ, Bool, ◌+◌, ◌-◌, ◌*◌, ◌/◌, ◌%◌, nat_abs, nat_le, ◌&&◌}
 use Rattle.std.specs.Prelude.{false, true, if◌then◌else◌}
 use Rattle.std.specs.Prelude.{List, [], ◌∷◌, ◌++◌, Option, Some, None, codes, decimal, flat_map, unwrap_or}
-use Rattle.std.specs.Str.{IsUtf8}
+use Rattle.std.specs.Prelude.{chars, length}
 use Rattle.programs.specs.declared.Fault.TheVariants.{Symbol}
 use Rattle.qrcode_base.specs.Names.{level_text}
 use Rattle.qrcode_base.specs.Symbols.{HasMicroNumber}
@@ -13,7 +13,7 @@ use Rattle.qrcode_bits.specs.declared.bits.front.Content.{Content as FrontConten
 use Rattle.qrcode_bits.specs.declared.bits.front.Content.TheVariants.{Bytes as BytesFront}
 use Rattle.qrcode_bits.specs.declared.bits.front.Content.TheVariants.{Text as TextFront, Elements as ElementsFront}
 use Rattle.qrcode_bits.specs.declared.optimize.Segment.{Segment}
-use Rattle.qrcode_core.specs.Drawn.{DrawnSymbol, drawn_grid}
+use Rattle.qrcode_core.specs.Symbol.{DrawnSymbol, drawn_grid}
 use Rattle.qrcode_core.specs.declared.types.Mode.{Mode}
 use Rattle.qrcode_core.specs.declared.types.Mode.TheVariants.{Numeric, Alphanumeric, Byte, Kanji}
 use Rattle.qrcode_core.specs.declared.types.errors.QrError.TheVariants.{OutOfMemory}
@@ -23,12 +23,17 @@ use Rattle.qrcode_grid.specs.Masks.{normal_number, micro_number}
 use Rattle.qrcode_grid.specs.declared.canvas.MaskPattern.{MaskPattern}
 use Rattle.picture_settings.specs.declared.bounds.TheConstants.{MAX_DPI}
 use Rattle.picture_settings.specs.declared.draw_options.DrawOptions.{DrawOptions}
-use Rattle.single_label.specs.Contents.{IsPlain, is_ascii, is_bracketed, AreWritten, AreNotWritten}
+use Rattle.single_label.specs.Contents.{HasText, is_bracketed, AreWritten, AreNotWritten}
 use Rattle.label_words.specs.declared.command.Content.{Content}
-use Rattle.label_words.specs.declared.command.Content.TheVariants.{Auto, Text, Gs1, UncheckedGs1}
+use Rattle.label_words.specs.declared.command.Content.TheVariants.{Text, Gs1, UncheckedGs1, Link}
 use Rattle.label_words.specs.declared.command.Label.{Label}
+use Rattle.single_label.specs.OtherWays.{IsLinkOutcome, IsElementsOutcome}
+use Rattle.single_label.specs.declared.other_way.Outcome.{Outcome}
+use Rattle.single_label.specs.declared.other_way.Outcome.TheVariants.{Drawn, TooLong, Nothing}
 use Rattle.single_label.specs.declared.stop.Stop.{Stop}
 use Rattle.single_label.specs.declared.stop.Stop.TheVariants.{Fault}
+use Rattle.text_plans.specs.Costs.{AreLeast, AreTextParts, bits_of_parts}
+use Rattle.text_reading.specs.Reading.{Part, designator, segment}
 
 -- ---- Segments
 
@@ -42,17 +47,14 @@ AreElementsData checks bytes front encoded =
     (front ≡ ElementsFront) × (((is_bracketed bytes ≡ true) × AreWritten checks bytes encoded)
     ⊎ ((is_bracketed bytes ≡ false) × (encoded ≡ bytes)))
 
--- The data of a content, and their kind.
+-- The data of a content, and their kind, if its symbol is not the smallest of its text.
 abbrev pub AreDataAs : Content → List ℕ → FrontContent → List ℕ → Type 0
-AreDataAs Auto bytes front encoded =
-    (encoded ≡ bytes) × ((IsPlain bytes × (front ≡ BytesFront))
-    ⊎ ((is_ascii bytes ≡ false) × IsUtf8 bytes × (front ≡ TextFront)))
 AreDataAs Text bytes front encoded = (encoded ≡ bytes) × (front ≡ TextFront)
 AreDataAs Gs1 bytes front encoded = AreElementsData true bytes front encoded
 AreDataAs UncheckedGs1 bytes front encoded = AreElementsData false bytes front encoded
 AreDataAs other bytes front encoded = (encoded ≡ bytes) × (front ≡ BytesFront)
 
--- The segments of the symbol of a content.
+-- The segments of the symbol of such a content.
 pub record IsPlanAs (content : Content) (bytes : List ℕ) (version : Version) (plan : List Segment) : Type 0 where
   pub front : FrontContent
   pub encoded : List ℕ
@@ -94,6 +96,15 @@ head_text symbol =
 abbrev pub segments_text : List Segment → List ℕ
 segments_text plan = codes ", segments" ++ flat_map segment_text plan
 
+-- The same of the parts of a text: the number of each ECI designator, too. Example:
+-- `, segments eci 7 byte 12`.
+abbrev pub part_piece : Part → List ℕ
+part_piece (designator number) = codes " eci " ++ decimal number
+part_piece (segment mode bytes) = mode_piece mode ++ decimal (count_of mode (length bytes))
+
+abbrev pub parts_piece : List Part → List ℕ
+parts_piece parts = codes ", segments" ++ flat_map part_piece parts
+
 -- The width of a symbol without its quiet zone, in hundredths of a millimetre, if it is known: by
 -- the size of a module, or by its dots and the dots of an inch, which is 25.4 mm. It is the nearest
 -- whole number.
@@ -122,10 +133,24 @@ size_text label options symbol =
     codes ", " ++ (decimal (drawn_grid symbol).columns ++ (codes " modules"
     ++ (width_piece (physical_width (drawn_grid symbol).columns label options) ++ 10 ∷ [])))
 
+-- The parts of a text in a version, which take the fewest bits there. Only where all take 32768
+-- bits or more, as in no version of its symbol, there is nothing.
+abbrev pub IsTextPlanText : Version → (said : List ℕ) → List ℕ → Type 0
+IsTextPlanText version said text =
+    ((parts : List Part) × AreLeast version said parts × (text ≡ parts_piece parts))
+    ⊎ (((others : List Part) → AreTextParts version said others → 32768 ≤ bits_of_parts version others)
+    × (text ≡ []))
+
+-- The segments of another content in a version.
+abbrev pub IsSegmentsPlan : Content → List ℕ → Version → List ℕ → Type 0
+IsSegmentsPlan content bytes version text =
+    (plan : List Segment) × IsPlanAs content bytes version plan × (text ≡ segments_text plan)
+
 -- The segments of a content in a version.
 abbrev pub IsPlanText : Content → List ℕ → Version → List ℕ → Type 0
 IsPlanText content bytes version text =
-    (plan : List Segment) × IsPlanAs content bytes version plan × (text ≡ segments_text plan)
+    (HasText content bytes × IsTextPlanText version (chars bytes) text)
+    ⊎ ((HasText content bytes → ⊥) × IsSegmentsPlan content bytes version text)
 
 -- The same, if there is such a version, as that of every symbol is.
 abbrev pub IsKnownPlanText : Content → List ℕ → Version → List ℕ → Type 0
@@ -148,15 +173,49 @@ HasNoData content bytes stop = ⊥
 abbrev pub IsDetailsStopOf : Content → List ℕ → Stop → Type 0
 IsDetailsStopOf content bytes stop = (stop ≡ Fault (Symbol OutOfMemory)) ⊎ HasNoData content bytes stop
 
+-- ---- The other way
+
+abbrev pub outcome_text : Outcome → List ℕ
+outcome_text (Drawn version) = version_piece version ++ codes "\n"
+outcome_text TooLong = codes "too long\n"
+outcome_text Nothing = codes "none\n"
+
+-- What is said of elements as a link, and of a link as elements.
+abbrev pub IsAsLinkText : Label → List ℕ → List ℕ → Type 0
+IsAsLinkText label elements text =
+    (outcome : Outcome) × IsLinkOutcome label elements outcome
+    × (text ≡ codes "as a link: " ++ outcome_text outcome)
+
+abbrev pub IsAsElementsText : Label → List ℕ → List ℕ → Type 0
+IsAsElementsText label link text =
+    (outcome : Outcome) × IsElementsOutcome label link outcome
+    × (text ≡ codes "as elements: " ++ outcome_text outcome)
+
+-- What the details of a content say of the other way.
+abbrev pub IsOtherText : Label → Content → List ℕ → List ℕ → Type 0
+IsOtherText label Gs1 content text = IsAsLinkText label content text
+IsOtherText label UncheckedGs1 content text = IsAsLinkText label content text
+IsOtherText label Link content text = IsAsElementsText label content text
+IsOtherText label other content text = text ≡ []
+
+-- The same of a content, of which the symbol has all.
+abbrev pub IsOtherWayText : Label → Option (List ℕ) → List ℕ → Type 0
+IsOtherWayText label None text = text ≡ []
+IsOtherWayText label (Some content) text = IsOtherText label label.content content text
+
+-- ---- No details
+
 -- Why there are no details of a symbol: memory ran out, or there are none of its content.
 abbrev pub IsDetailsStop : Label → Option (List ℕ) → Stop → Type 0
 IsDetailsStop label None stop = stop ≡ Fault (Symbol OutOfMemory)
 IsDetailsStop label (Some content) stop = IsDetailsStopOf label.content content stop
 
--- The details of a symbol: its segments, too, where it has all of a content. Example: 21 modules of
--- 0.5 mm are 10.50 mm wide.
+-- The details of a symbol: its segments, too, and what the other way is, where it has all of a
+-- content. Example: 21 modules of 0.5 mm are 10.50 mm wide.
 pub record AreDetails (label : Label) (options : DrawOptions) (content : Option (List ℕ)) (symbol : DrawnSymbol)
     (text : List ℕ) : Type 0 where
   pub segments : List ℕ
   pub are_segments : IsSegmentsText label content symbol segments
-  pub text_is : text ≡ head_text symbol ++ (segments ++ size_text label options symbol)
+  pub other : List ℕ
+  pub other_is : IsOtherWayText label content other
+  pub text_is : text ≡ head_text symbol ++ (segments ++ (size_text label options symbol ++ other))

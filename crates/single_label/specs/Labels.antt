@@ -1,16 +1,18 @@
 -- A label: the picture of the symbol of some bytes.
 use Rattle.std.specs.Prelude.{◌≡◌, ◌≢◌, ◌⊎◌, ◌<◌, ◌≤◌, ℕ, Bool}
-use Rattle.std.specs.Prelude.{true, false, if◌then◌else◌, List, [], length, Option, Some}
+use Rattle.std.specs.Prelude.{true, false, if◌then◌else◌, List, [], length, Option, None, Some}
+use Rattle.std.specs.Option.{option_copied}
 use Rattle.programs.specs.declared.Fault.TheVariants.{Symbol}
 use Rattle.qrcode_base.specs.declared.types.Color.{Color}
-use Rattle.qrcode_core.specs.Drawn.{DrawnSymbol, drawn_grid}
+use Rattle.qrcode_core.specs.Symbol.{DrawnSymbol, drawn_grid}
 use Rattle.qrcode_base.specs.declared.symbols.TheConstants.{LONGEST_DATA}
 use Rattle.qrcode_core.specs.declared.types.errors.QrError.TheVariants.{OutOfMemory, DataTooLong}
 use Rattle.qrcode_render.specs.Drawings.{IsPictureOf}
 use Rattle.picture_settings.specs.declared.draw_options.DrawOptions.{DrawOptions}
+use Rattle.single_label.specs.Captions.{IsCaption}
 use Rattle.single_label.specs.Colors.{in_colors}
 use Rattle.label_words.specs.Choices.{is_link}
-use Rattle.single_label.specs.Contents.{IsContent, IsSymbolAs, IsStopAs, IsLink, IsLinkStop}
+use Rattle.single_label.specs.Contents.{IsContent, IsSymbolAs, IsStopAs, IsLink, IsLinkStop, is_too_long}
 use Rattle.single_label.specs.Rooms.{IsTooLongAs, IsTooLongForAny}
 use Rattle.single_label.specs.Details.{AreDetails}
 use Rattle.single_label.specs.Turns.{turned}
@@ -25,32 +27,62 @@ use Rattle.single_label.specs.declared.stop.TooLong.{TooLong as TooLongOf}
 abbrev pub IsLabelData : Label → List ℕ → Type 0
 IsLabelData label bytes = bytes ≡ [] → label.allow_empty ≢ false
 
--- The drawing is the picture of a symbol, which is turned as the label says.
-pub record IsSymbolPicture (label : Label) (options : DrawOptions) (symbol : DrawnSymbol) (drawing : List ℕ) :
-    Type 0 where
+-- The options of a picture are the same, but for the text below it.
+pub record AreSameButText (options others : DrawOptions) : Type 0 where
+  pub format : others.format ≡ options.format
+  pub scale : others.scale ≡ options.scale
+  pub quiet : others.quiet ≡ options.quiet
+  pub module_mm : others.module_mm ≡ options.module_mm
+  pub dpi : others.dpi ≡ options.dpi
+  pub inverted : others.inverted ≡ options.inverted
+  pub title : others.title ≡ options.title
+  pub at : others.at ≡ options.at
+  pub copies : others.copies ≡ options.copies
+  pub compressed : others.compressed ≡ options.compressed
+  pub feed : others.feed ≡ options.feed
+  pub cut : others.cut ≡ options.cut
+  pub colors : others.colors ≡ options.colors
+
+-- The options of a picture with a text below it, if it is given.
+abbrev pub IsCaptioned : DrawOptions → (caption : Option (List ℕ)) → DrawOptions → Type 0
+IsCaptioned options None captioned = captioned ≡ options
+IsCaptioned options (Some text) captioned =
+    AreSameButText options captioned × (option_copied captioned.caption ≡ Some text)
+
+-- The drawing is the picture of a symbol, which is turned as the label says, with this text below
+-- it, if it is given.
+pub record IsSymbolPicture (label : Label) (options : DrawOptions) (caption : Option (List ℕ))
+    (symbol : DrawnSymbol) (drawing : List ℕ) : Type 0 where
+  pub captioned : DrawOptions
+  pub are_captioned : IsCaptioned options caption captioned
   pub picture : List ℕ
-  pub drawn : IsPictureOf options (turned label.turn (drawn_grid symbol)) picture
+  pub drawn : IsPictureOf captioned (turned label.turn (drawn_grid symbol)) picture
   pub drawing_is : drawing ≡ (if label.colored then in_colors picture else picture)
 
 abbrev pub is_alone : Details → Bool
 is_alone Alone = true
 is_alone _ = false
 
--- The drawing shows a symbol, or is its details; `content` is given if the symbol has all of
--- it.
-abbrev pub ShowsSymbol : Label → DrawOptions → Option (List ℕ) → DrawnSymbol → List ℕ → Type 0
-ShowsSymbol label options content symbol drawing =
+-- The drawing shows a symbol, with this text below it, if it is given, or is its details; `content`
+-- is given if the symbol has all of it.
+abbrev pub ShowsSymbol : Label → DrawOptions → (content caption : Option (List ℕ)) → DrawnSymbol →
+    List ℕ → Type 0
+ShowsSymbol label options content caption symbol drawing =
     ((is_alone label.details ≡ true) × AreDetails label options content symbol drawing)
-    ⊎ ((is_alone label.details ≡ false) × IsSymbolPicture label options symbol drawing)
+    ⊎ ((is_alone label.details ≡ false) × IsSymbolPicture label options caption symbol drawing)
 
--- The drawing shows the symbol of a content.
-pub record ShowsContent (label : Label) (options : DrawOptions) (content drawing : List ℕ) : Type 0 where
+-- The drawing shows the symbol of a content, with the elements of a text below it, if they are
+-- asked for. The content is the text, or the link of the elements that it writes.
+pub record ShowsContent (label : Label) (options : DrawOptions) (text content drawing : List ℕ) :
+    Type 0 where
   pub symbol : DrawnSymbol
   pub is_symbol : IsSymbolAs label.content label.symbol content symbol.modules
-  pub shown : ShowsSymbol label options (Some content) symbol drawing
+  pub caption : Option (List ℕ)
+  pub caption_is : IsCaption label text caption
+  pub shown : ShowsSymbol label options (Some content) caption symbol drawing
 
--- What a symbol says of the text or the bytes that are drawn: them, or the link of the elements that
--- they write.
+-- What a symbol says of the text or the bytes that are drawn: them, or the link of the elements
+-- that they write.
 abbrev pub IsSaid : Label → List ℕ → List ℕ → Type 0
 IsSaid label text content =
     ((is_link label.content ≡ false) × (content ≡ text))
@@ -64,18 +96,13 @@ pub record ShowsLabel (label : Label) (options : DrawOptions) (bytes drawing : L
   pub data_is : IsLabelData label text
   pub content : List ℕ
   pub said : IsSaid label text content
-  pub drawn : ShowsContent label options content drawing
+  pub drawn : ShowsContent label options text content drawing
 
 -- There is a symbol, and memory ran out when it was drawn.
 abbrev pub IsNotDrawn : Label → List ℕ → Stop → Type 0
 IsNotDrawn label content stop =
     (stop ≡ Fault (Symbol OutOfMemory))
     × ((grid : List Color) × IsSymbolAs label.content label.symbol content grid)
-
--- The data are too long for a symbol.
-abbrev pub is_too_long : Stop → Bool
-is_too_long (Fault (Symbol DataTooLong)) = true
-is_too_long _ = false
 
 -- Why there is no label of a content: it is empty, there is no symbol, or memory ran out.
 abbrev pub IsContentStop : Label → List ℕ → Stop → Type 0
@@ -103,7 +130,7 @@ pub record IsRefusedContent (label : Label) (bytes : List ℕ) (stop : Stop) : T
   pub text_is : IsContent label.trims bytes text
   pub stopped : IsTextStop label text stop
 
--- There are more bytes than any symbol holds.
+-- There are more bytes than one label takes.
 pub record IsManyBytes (label : Label) (bytes : List ℕ) (stop : Stop) : Type 0 where
   pub many : LONGEST_DATA < length bytes
   pub too_long : TooLongOf

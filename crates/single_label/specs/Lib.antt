@@ -1,9 +1,11 @@
 pub mod Colors
+pub mod Captions
 pub mod Contents
 pub mod Details
 pub mod Faults
-pub mod GivenElements
+pub mod Element
 pub mod Labels
+pub mod OtherWays
 pub mod Pages
 pub mod Parts
 pub mod Rooms

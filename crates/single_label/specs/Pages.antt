@@ -1,6 +1,6 @@
 -- The label of a symbol as a page of a document.
 use Rattle.std.specs.Prelude.{ℕ, Bool, ◌&&◌, not, List, [], ◌∷◌, Option}
-use Rattle.qrcode_core.specs.Drawn.{DrawnSymbol, drawn_grid}
+use Rattle.qrcode_core.specs.Symbol.{DrawnSymbol, drawn_grid}
 use Rattle.qrcode_render.specs.Drawings.{page_as}
 use Rattle.qrcode_render.specs.Pdf.{PdfPage, pdf_document}
 use Rattle.picture_settings.specs.declared.draw_options.DrawOptions.{DrawOptions}
@@ -15,8 +15,8 @@ abbrev pub are_pages : Label → DrawOptions → Bool
 are_pages label options = is_pdf options.format && (not (is_alone label.details) && not label.colored)
 
 -- The page of a symbol, which is turned as the label says.
-abbrev pub page_of : Label → DrawOptions → DrawnSymbol → PdfPage
-page_of label options symbol = page_as options (turned label.turn (drawn_grid symbol))
+abbrev pub page_of_symbol : Label → DrawOptions → DrawnSymbol → PdfPage
+page_of_symbol label options symbol = page_as options (turned label.turn (drawn_grid symbol))
 
 -- The document that has this page alone.
 abbrev pub page_alone : (title : Option (List ℕ)) → PdfPage → List ℕ

@@ -7,16 +7,17 @@ use Rattle.programs.specs.declared.Fault.TheVariants.{Symbol}
 use Rattle.qrcode_bits.specs.declared.bits.front.Content.{Content as FrontContent}
 use Rattle.qrcode_bits.specs.declared.bits.front.Content.TheVariants.{Bytes as BytesFront, Text as TextFront}
 use Rattle.qrcode_core.specs.BestCuts.{AreBestCuts, IsCutsRefusal}
-use Rattle.qrcode_core.specs.Drawn.{DrawnSymbol, modules_of}
+use Rattle.qrcode_core.specs.Symbol.{DrawnSymbol, modules_of}
 use Rattle.qrcode_core.specs.Sequence.{AreBestSymbols, IsSequenceRefusal}
 use Rattle.qrcode_core.specs.declared.options.SymbolOptions.{SymbolOptions}
 use Rattle.qrcode_core.specs.declared.types.Color.{Color}
 use Rattle.qrcode_core.specs.declared.types.errors.QrError.{QrError}
 use Rattle.qrcode_core.specs.declared.types.errors.QrError.TheVariants.{OutOfMemory, DataTooLong}
 use Rattle.picture_settings.specs.declared.draw_options.DrawOptions.{DrawOptions}
-use Rattle.single_label.specs.Contents.{IsContent, IsPlain, is_ascii, IsNoUtf8, IsSymbolAs}
+use Rattle.single_label.specs.Contents.{IsContent, IsPlain, is_all_ascii, IsNoUtf8, IsSymbolAs}
 use Rattle.single_label.specs.Contents.{IsStopAs}
-use Rattle.single_label.specs.Labels.{IsLabelData, IsNotDrawn, ShowsSymbol, is_too_long}
+use Rattle.single_label.specs.Labels.{IsLabelData, IsNotDrawn, ShowsSymbol}
+use Rattle.single_label.specs.Contents.{is_too_long}
 use Rattle.label_words.specs.declared.command.Content.{Content}
 use Rattle.label_words.specs.declared.command.Content.TheVariants.{Auto, Text, Bytes}
 use Rattle.label_words.specs.declared.command.Label.{Label}
@@ -52,7 +53,7 @@ IsTextFault options message error =
 abbrev pub IsSequenceAs : Content → SymbolOptions → List ℕ → List (List Color) → Type 0
 IsSequenceAs Auto options message grids =
     (IsPlain message × IsSequenceOf BytesFront options message grids)
-    ⊎ ((is_ascii message ≡ false) × IsTextSequence options message grids)
+    ⊎ ((is_all_ascii message ≡ false) × IsTextSequence options message grids)
 IsSequenceAs Text options message grids = IsTextSequence options message grids
 IsSequenceAs Bytes options message grids = IsSequenceOf BytesFront options message grids
 IsSequenceAs other options message grids = ⊥
@@ -60,7 +61,7 @@ IsSequenceAs other options message grids = ⊥
 abbrev pub IsSequenceFaultAs : Content → SymbolOptions → List ℕ → QrError → Type 0
 IsSequenceFaultAs Auto options message error =
     (IsPlain message × IsSequenceFault BytesFront options message error)
-    ⊎ ((is_ascii message ≡ false) × IsTextFault options message error)
+    ⊎ ((is_all_ascii message ≡ false) × IsTextFault options message error)
 IsSequenceFaultAs Text options message error = IsTextFault options message error
 IsSequenceFaultAs Bytes options message error = IsSequenceFault BytesFront options message error
 IsSequenceFaultAs other options message error = error ≡ DataTooLong
@@ -71,7 +72,7 @@ IsSequenceFaultAs other options message error = error ≡ DataTooLong
 abbrev pub ShowEach : Label → DrawOptions → List DrawnSymbol → List (List ℕ) → Type 0
 ShowEach label options [] [] = ⊤
 ShowEach label options (symbol ∷ symbols) (drawing ∷ drawings) =
-    ShowsSymbol label options None symbol drawing × ShowEach label options symbols drawings
+    ShowsSymbol label options None None symbol drawing × ShowEach label options symbols drawings
 ShowEach label options _ _ = ⊥
 
 -- One symbol holds the content.
@@ -80,7 +81,7 @@ pub record IsOneLabel (label : Label) (options : DrawOptions) (content : List �
   pub symbol : DrawnSymbol
   pub is_symbol : IsSymbolAs label.content label.symbol content symbol.modules
   pub drawing : List ℕ
-  pub shown : ShowsSymbol label options (Some content) symbol drawing
+  pub shown : ShowsSymbol label options (Some content) None symbol drawing
   pub drawings_are : drawings ≡ drawing ∷ []
 
 -- The drawings show symbols that carry the content together.
@@ -142,8 +143,8 @@ pub record IsRefusedMessage (label : Label) (bytes : List ℕ) (stop : Stop) : T
       IsEmptyStop label content stop
       ⊎ (IsLabelData label content × (IsOtherStop label content stop ⊎ IsSequenceStop label content stop))
 
--- Why there are no labels of a message: 16 symbols hold fewer bytes, or there are none of its
--- content.
+-- Why there are no labels of a message: 16 symbols hold fewer bytes, or there are none of
+-- its content.
 abbrev pub IsMessageStop : Label → List ℕ → Stop → Type 0
 IsMessageStop label bytes stop =
     ((stop ≡ TooManyParts) × (LONGEST_MESSAGE < length bytes)) ⊎ IsRefusedMessage label bytes stop

@@ -1,14 +1,14 @@
 //! From the bytes of the input to the symbol of a label.
-ghost use Rattle.std.specs.Prelude.{◌≡◌, ◌≢◌, ◌≤◌, [], length, IfOk, IfErr, OnOk};
+ghost use Rattle.std.specs.Prelude.{◌≡◌, ◌≢◌, ◌≤◌, [], length, IfOk, IfErr, OnOk, IfSome, IfNone};
 ghost use Rattle.std.specs.Str.{IsUtf8};
 ghost use Rattle.qrcode_base.specs.declared.symbols.TheConstants.{LONGEST_DATA};
-ghost use Rattle.single_label.specs.Contents.{is_ascii, is_bracketed, IsText, IsAutoSymbol};
+ghost use Rattle.single_label.specs.Contents.{is_all_ascii, is_bracketed, IsText, IsAutoSymbol};
 ghost use Rattle.single_label.specs.Contents.{IsGs1Symbol, IsNoUtf8, IsUtf8Refusal, IsAutoRefusal};
 ghost use Rattle.single_label.specs.Contents.{IsGs1Stop, IsBracketedSymbol, IsBracketedStop};
 ghost use Rattle.single_label.specs.Contents.{IsSymbolAs, IsStopAs, AreWritten, AreNotWritten};
 ghost use Rattle.single_label.specs.Contents.{AreSound, AreNotSound, IsLink, IsLinkStop};
 ghost use Rattle.single_label.specs.Contents.{without_mark, without_newline, IsContent};
-ghost use Rattle.single_label.specs.Contents.{IsMicroText, IsMicroTextStop};
+ghost use Rattle.single_label.specs.Contents.{IsMicroText, IsMicroTextStop, HasText};
 ghost use Rattle.single_label.specs.Contents.{IsStringSymbol, IsStringStop};
 ghost use Rattle.std.specs.Io.BufRead.{strip_last};
 
@@ -22,6 +22,7 @@ use qrcode_core::options::SymbolOptions;
 use qrcode_core::symbol::Symbol;
 use qrcode_core::types::{EcLevel, QrError, QrResult};
 use std::alloc::Global;
+use text_symbols::{MicroTextError, micro_text, smallest_text};
 
 /// Returns the symbol of the bytes, at the level and in the versions of the options. There is none
 /// of more than 7089 bytes. For `Link` the bytes are the link.
@@ -34,7 +35,7 @@ pub fn content_symbol(
     ensures symbol { IfOk result (λ symbol.
         IsSymbolAs content options.now bytes.now symbol.modules) }
     ensures limit { OnOk result (length bytes.now ≤ LONGEST_DATA) }
-    ensures refused { IfErr result (IsStopAs content options.now bytes.now) }
+    ensures refusal { IfErr result (IsStopAs content options.now bytes.now) }
 {
     if bytes.len() > LONGEST_DATA {
         return Err(Stop::from(QrError::DataTooLong));
@@ -52,7 +53,7 @@ pub fn content_symbol(
 
 /// Whether all bytes are ASCII.
 pub fn is_ascii(bytes: &[u8]) -> bool
-    ensures { result ≡ is_ascii bytes.now }
+    ensures { result ≡ is_all_ascii bytes.now }
 {
     bytes.iter().all(|byte| *byte < 128)
 }
@@ -62,7 +63,7 @@ pub fn is_ascii(bytes: &[u8]) -> bool
 pub fn utf8_of(bytes: &[u8]) -> QrResult<&str>
     ensures text { IfOk result (λ text. text.now ≡ bytes.now) }
     ensures utf8 { OnOk result (IsUtf8 bytes.now) }
-    ensures refused { IfErr result (IsNoUtf8 bytes.now) }
+    ensures refusal { IfErr result (IsNoUtf8 bytes.now) }
 {
     match str::from_utf8(bytes) {
         Ok(text) => Ok(text),
@@ -74,16 +75,34 @@ pub fn utf8_of(bytes: &[u8]) -> QrResult<&str>
     }
 }
 
-/// Returns the symbol of text, if the bytes are UTF-8 and not ASCII, else of bytes.
+/// Returns the text of a content whose symbol is the smallest of its text, if it is one.
+pub fn text_of(content: Content, bytes: &[u8]) -> Option<&str>
+    ensures text { IfSome result (λ text. text.now ≡ bytes.now) }
+    ensures some { IfSome result (λ text. HasText content bytes.now) }
+    ensures none { IfNone result (HasText content bytes.now → ⊥) }
+{
+    let is_text = match content {
+        Content::Auto => !is_ascii(bytes),
+        Content::Micro => true,
+        _ => false,
+    };
+    match utf8_of(bytes) {
+        Ok(text) if is_text => Some(text),
+        _ => None,
+    }
+}
+
+/// Returns the smallest symbol of the text if the bytes are UTF-8 and not ASCII, else that of bytes
+/// as they are.
 fn auto_symbol(alloc: Global, options: &SymbolOptions, bytes: &[u8]) -> QrResult<Symbol>
     ensures symbol { IfOk result (λ symbol. IsAutoSymbol options.now bytes.now symbol.modules) }
-    ensures refused { IfErr result (IsAutoRefusal options.now bytes.now) }
+    ensures refusal { IfErr result (IsAutoRefusal options.now bytes.now) }
 {
     if is_ascii(bytes) {
         return Symbol::bytes_with(alloc, bytes, options);
     }
     match utf8_of(bytes) {
-        Ok(text) => Symbol::text_with(alloc, text, options),
+        Ok(text) => smallest_text(alloc, text, options),
         Err(_) => Symbol::bytes_with(alloc, bytes, options),
     }
 }
@@ -92,7 +111,7 @@ fn auto_symbol(alloc: Global, options: &SymbolOptions, bytes: &[u8]) -> QrResult
 /// then as `Symbol::text_with`.
 fn text_symbol(alloc: Global, options: &SymbolOptions, bytes: &[u8]) -> QrResult<Symbol>
     ensures symbol { IfOk result (λ symbol. IsText options.now bytes.now symbol.modules) }
-    ensures refused { IfErr result (IsUtf8Refusal options.now bytes.now) }
+    ensures refusal { IfErr result (IsUtf8Refusal options.now bytes.now) }
 {
     let text = utf8_of(bytes)?;
     Symbol::text_with(alloc, text, options)
@@ -129,8 +148,8 @@ fn without_newline(bytes: &[u8]) -> &[u8]
     without_last(line, b'\r')
 }
 
-/// Returns what of the bytes is content: of a text that is trimmed, not its byte order mark and its
-/// newline.
+/// Returns what of the bytes is content: of a text that is trimmed, not its byte order mark and
+/// its newline.
 pub fn content_of(trims: bool, bytes: &[u8]) -> &[u8]
     ensures content { IsContent trims bytes.now result.now }
     ensures shorter { length result.now ≤ length bytes.now }
@@ -141,16 +160,20 @@ pub fn content_of(trims: bool, bytes: &[u8]) -> &[u8]
     bytes
 }
 
-/// Returns the Micro QR symbol of an ASCII text. It fails with `NotAscii` for another, and else as
-/// `Symbol::micro` does.
+/// Returns the smallest Micro QR symbol that is read as a text. It fails with `NoMicroText` where
+/// there is none, and for bytes that are no UTF-8, and else as `micro_text` does.
 fn micro_symbol(alloc: Global, level: EcLevel, bytes: &[u8]) -> Result<Symbol, Stop>
     ensures symbol { IfOk result (λ symbol. IsMicroText level bytes.now symbol.modules) }
-    ensures refused { IfErr result (IsMicroTextStop level bytes.now) }
+    ensures refusal { IfErr result (IsMicroTextStop level bytes.now) }
 {
-    if !is_ascii(bytes) {
-        return Err(Stop::NotAscii);
+    let Ok(text) = utf8_of(bytes) else {
+        return Err(Stop::NoMicroText);
+    };
+    match micro_text(alloc, text, level) {
+        Ok(symbol) => Ok(symbol),
+        Err(MicroTextError::Unwritable) => Err(Stop::NoMicroText),
+        Err(MicroTextError::Symbol(error)) => Err(Stop::from(error)),
     }
-    Ok(Symbol::micro(alloc, bytes, level)?)
 }
 
 /// Whether the bytes begin with an opening bracket.
@@ -170,7 +193,7 @@ fn gs1_symbol(
 ) -> Result<Symbol, Stop>
     ensures symbol { IfOk result (λ symbol.
         IsGs1Symbol checks options.now bytes.now symbol.modules) }
-    ensures refused { IfErr result (IsGs1Stop checks options.now bytes.now) }
+    ensures refusal { IfErr result (IsGs1Stop checks options.now bytes.now) }
 {
     if is_bracketed(bytes) {
         bracketed_symbol(alloc, checks, options, bytes)
@@ -182,7 +205,7 @@ fn gs1_symbol(
 /// Checks an element string, by the table or as `check_element_string` does.
 fn check_string(checks: bool, bytes: &[u8]) -> Result<(), Stop>
     ensures sound { OnOk result (AreSound checks bytes.now) }
-    ensures refused { IfErr result (AreNotSound checks bytes.now) }
+    ensures refusal { IfErr result (AreNotSound checks bytes.now) }
 {
     if checks {
         return match check_element_values(bytes) {
@@ -206,7 +229,7 @@ fn string_symbol(
 ) -> Result<Symbol, Stop>
     ensures symbol { IfOk result (λ symbol.
         IsStringSymbol checks options.now bytes.now symbol.modules) }
-    ensures refused { IfErr result (IsStringStop checks options.now bytes.now) }
+    ensures refusal { IfErr result (IsStringStop checks options.now bytes.now) }
 {
     check_string(checks, bytes)?;
     Ok(Symbol::elements_with(alloc, bytes, options)?)
@@ -216,7 +239,7 @@ fn string_symbol(
 /// `element_string` does. It fails as `utf8_of` does, and then as this check.
 pub fn written_string(alloc: Global, checks: bool, bytes: &[u8]) -> Result<Vec<u8>, Stop>
     ensures written { IfOk result (λ elements. AreWritten checks bytes.now elements.items) }
-    ensures refused { IfErr result (AreNotWritten checks bytes.now) }
+    ensures refusal { IfErr result (AreNotWritten checks bytes.now) }
 {
     let text = utf8_of(bytes)?;
     if checks {
@@ -241,7 +264,7 @@ fn bracketed_symbol(
 ) -> Result<Symbol, Stop>
     ensures symbol { IfOk result (λ symbol.
         IsBracketedSymbol checks options.now bytes.now symbol.modules) }
-    ensures refused { IfErr result (IsBracketedStop checks options.now bytes.now) }
+    ensures refusal { IfErr result (IsBracketedStop checks options.now bytes.now) }
 {
     let elements = written_string(alloc, checks, bytes)?;
     Ok(Symbol::elements_with(alloc, &elements, options)?)
@@ -251,7 +274,7 @@ fn bracketed_symbol(
 pub fn link_of(alloc: Global, domain: &str, bytes: &[u8]) -> Result<Vec<u8>, Stop>
     ensures link { IfOk result (λ link. IsLink domain.now bytes.now link.items) }
     ensures some { IfOk result (λ link. link.items ≢ []) }
-    ensures refused { IfErr result (IsLinkStop domain.now bytes.now) }
+    ensures refusal { IfErr result (IsLinkStop domain.now bytes.now) }
 {
     let text = utf8_of(bytes)?;
     match digital_link(alloc, text, domain) {

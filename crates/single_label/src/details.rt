@@ -8,20 +8,23 @@ ghost use Rattle.qrcode_bits.specs.Contents.{parsed_byte, parsed_bytes};
 ghost use Rattle.qrcode_bits.specs.Parsing.{parsed};
 ghost use Rattle.qrcode_bits.specs.Plans.{IsChosenPlan};
 ghost use Rattle.qrcode_bits.specs.declared.optimize.Segment.{Segment};
-ghost use Rattle.qrcode_core.specs.Drawn.{drawn_grid};
+ghost use Rattle.qrcode_core.specs.Symbol.{drawn_grid};
 ghost use Rattle.single_label.specs.Details.{IsPlanIn, AreDataAs, mode_piece, count_of};
 ghost use Rattle.single_label.specs.Details.{segment_text, version_piece, mask_number, head_text};
 ghost use Rattle.single_label.specs.Details.{segments_text, nearest_to, width_of_dots};
 ghost use Rattle.single_label.specs.Details.{physical_width, millimetres_text, width_piece};
 ghost use Rattle.single_label.specs.Details.{size_text, AreDetails, IsDetailsStop, IsDetailsStopOf};
-ghost use Rattle.single_label.specs.Details.{IsKnownPlanText, IsPlanText};
+ghost use Rattle.single_label.specs.Details.{IsKnownPlanText, IsPlanText, IsSegmentsPlan};
+ghost use Rattle.single_label.specs.Details.{IsSegmentsText};
 ghost use Rattle.label_words.specs.Choices.{gs1_content};
 ghost use Rattle.single_label.specs.Contents.{is_bracketed};
 ghost use Rattle.qrcode_base.specs.Names.{level_text};
 
-use crate::content::{is_ascii, is_bracketed, utf8_of, written_string};
+use crate::content::{is_bracketed, text_of, written_string};
 use crate::element::written_stop;
+use crate::other_way::push_other_way;
 use crate::stop::Stop;
+use crate::text_details::push_text;
 use itoa::Buffer;
 use label_words::{Content, Label};
 use qrcode_bits::bits::Content as Front;
@@ -45,19 +48,37 @@ pub fn symbol_text(
 ) -> Result<Vec<u8>, Stop>
     ensures details { IfOk result (λ text. AreDetails label.now options.now
         (option_copied content.entry) symbol.now text.items) }
-    ensures refused { IfErr result (IsDetailsStop label.now (option_copied content.entry)) }
+    ensures refusal { IfErr result (IsDetailsStop label.now (option_copied content.entry)) }
 {
     let mut text = String::new(alloc);
     push_head(&mut text, symbol)?;
-    if let Some(bytes) = content {
-        push_segments(alloc, &mut text, label.content, bytes, symbol.version())?;
-    }
+    push_known_segments(alloc, &mut text, label, content, symbol)?;
     push_size(&mut text, label, options, symbol)?;
+    push_other_way(alloc, &mut text, label, content)?;
     Ok(text.into_bytes())
 }
 
+/// Appends the segments of a content, if it is given.
+fn push_known_segments(
+    alloc: Global,
+    text: &mut String,
+    label: &Label,
+    content: Option<&[u8]>,
+    symbol: &Symbol,
+) -> Result<(), Stop>
+    ensures details { OnOk result ((segments : List ℕ)
+        × IsSegmentsText label.now (option_copied content.entry) symbol.now segments
+        × (string_bytes text.new ≡ string_bytes text.old ++ segments)) }
+    ensures refusal { IfErr result (IsDetailsStop label.now (option_copied content.entry)) }
+{
+    match content {
+        Some(bytes) => push_segments(alloc, text, label.content, bytes, symbol.version()),
+        None => Ok(()),
+    }
+}
+
 /// Appends a number in decimal.
-fn push_number(text: &mut String, n: usize) -> Result<(), AllocError>
+pub(crate) fn push_number(text: &mut String, n: usize) -> Result<(), AllocError>
     ensures { OnOk result (string_bytes text.new ≡ string_bytes text.old ++ decimal n) }
 {
     let mut buffer = Buffer::new();
@@ -65,7 +86,7 @@ fn push_number(text: &mut String, n: usize) -> Result<(), AllocError>
 }
 
 /// Appends a version.
-fn push_version(text: &mut String, version: Version) -> Result<(), AllocError>
+pub(crate) fn push_version(text: &mut String, version: Version) -> Result<(), AllocError>
     ensures { OnOk result
         (string_bytes text.new ≡ string_bytes text.old ++ version_piece version) }
 {
@@ -121,7 +142,7 @@ fn push_head(text: &mut String, symbol: &Symbol) -> Result<(), AllocError>
 }
 
 /// Returns the word of a mode.
-fn mode_piece(mode: Mode) -> &'static str
+pub(crate) fn mode_piece(mode: Mode) -> &'static str
     ensures { result.now ≡ mode_piece mode }
 {
     match mode {
@@ -133,7 +154,7 @@ fn mode_piece(mode: Mode) -> &'static str
 }
 
 /// Returns the number of characters that `n` bytes of a mode are.
-fn count_of(mode: Mode, n: usize) -> usize
+pub(crate) fn count_of(mode: Mode, n: usize) -> usize
     ensures { result ≡ count_of mode n }
 {
     match mode {
@@ -212,18 +233,6 @@ fn push_data(
     push_plan(alloc, text, &parsed, version)
 }
 
-/// Returns the kind of data as which bytes are drawn by themselves: text, if they are UTF-8 and not
-/// ASCII.
-fn auto_front(bytes: &[u8]) -> Front
-    ensures { AreDataAs Content.Auto bytes.now result bytes.now }
-{
-    if is_ascii(bytes) || utf8_of(bytes).is_err() {
-        Front::Bytes
-    } else {
-        Front::Text
-    }
-}
-
 /// Whether there is such a version, as that of every symbol is.
 fn exists(version: Version) -> bool
     ensures { IsTrue result ↔ HasMicroNumber version }
@@ -245,11 +254,31 @@ fn push_segments(
     ensures details { OnOk result ((piece : List ℕ)
         × IsKnownPlanText content bytes.now version piece
         × (string_bytes text.new ≡ string_bytes text.old ++ piece)) }
-    ensures refused { IfErr result (IsDetailsStopOf content bytes.now) }
+    ensures refusal { IfErr result (IsDetailsStopOf content bytes.now) }
 {
     if !exists(version) {
         return Ok(());
     }
+    match text_of(content, bytes) {
+        Some(said) => Ok(push_text(alloc, text, said, version)?),
+        None => push_plain(alloc, text, content, bytes, version),
+    }
+}
+
+/// Appends the segments of a content whose symbol is not the smallest of its text.
+fn push_plain(
+    alloc: Global,
+    text: &mut String,
+    content: Content,
+    bytes: &[u8],
+    version: Version,
+) -> Result<(), Stop>
+    requires { HasMicroNumber version }
+    ensures details { OnOk result ((piece : List ℕ)
+        × IsSegmentsPlan content bytes.now version piece
+        × (string_bytes text.new ≡ string_bytes text.old ++ piece)) }
+    ensures refusal { IfErr result (IsDetailsStopOf content bytes.now) }
+{
     if content == Content::Gs1 && is_bracketed(bytes) {
         return push_written(alloc, text, true, bytes, version);
     }
@@ -267,10 +296,9 @@ fn front_of(content: Content, bytes: &[u8]) -> Front
     ensures { AreDataAs content bytes.now result bytes.now }
 {
     match content {
-        Content::Auto => auto_front(bytes),
         Content::Text => Front::Text,
         Content::Gs1 | Content::UncheckedGs1 => Front::Elements,
-        Content::Bytes | Content::Link => Front::Bytes,
+        Content::Auto | Content::Bytes | Content::Link => Front::Bytes,
         Content::Micro | Content::MicroBytes => Front::Bytes,
     }
 }
@@ -286,9 +314,9 @@ fn push_written(
     requires micro { HasMicroNumber version }
     requires bracketed { is_bracketed bytes.now ≡ true }
     ensures details { OnOk result ((piece : List ℕ)
-        × IsPlanText (gs1_content checks) bytes.now version piece
+        × IsSegmentsPlan (gs1_content checks) bytes.now version piece
         × (string_bytes text.new ≡ string_bytes text.old ++ piece)) }
-    ensures refused { IfErr result (IsDetailsStopOf (gs1_content checks) bytes.now) }
+    ensures refusal { IfErr result (IsDetailsStopOf (gs1_content checks) bytes.now) }
 {
     let elements = written_string(alloc, checks, bytes)?;
     Ok(push_data(alloc, text, Front::Elements, &elements, version)?)

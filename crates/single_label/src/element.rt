@@ -2,7 +2,7 @@
 ghost use Rattle.std.specs.Prelude.{◌≡◌, Some, None};
 ghost use Rattle.single_label.specs.Faults.{element_number, digits_of, IsDigitFor, IsNamedBy};
 ghost use Rattle.single_label.specs.Faults.{IsWrittenAt, IsFoundAt, IsFaultIn};
-ghost use Rattle.single_label.specs.GivenElements.{given_element};
+ghost use Rattle.single_label.specs.Element.{given_element};
 
 use crate::stop::ElementStop;
 use gs1::{Element, Gs1Error, read_element, right_check_digit, written_element};

@@ -1,18 +1,22 @@
 //! From bytes to the label of their symbol.
-ghost use Rattle.std.specs.Prelude.{◌≡◌, ◌≢◌, ◌≤◌, ◌⊎◌, ℕ, List, [], length, IfOk, IfErr, OnOk};
+ghost use Rattle.std.specs.Prelude.{◌≡◌, ◌≢◌, ◌≤◌, ◌⊎◌, ℕ, List, [], length, true, IfOk, IfErr, OnOk};
 ghost use Rattle.std.specs.Option.{option_copied};
 ghost use Rattle.qrcode_base.specs.declared.symbols.TheConstants.{LONGEST_DATA};
 ghost use Rattle.single_label.specs.Labels.{ShowsLabel, ShowsSymbol, IsSymbolPicture, IsLabelStop};
-ghost use Rattle.single_label.specs.Labels.{is_too_long, AreDetailsBeside, details_label};
-ghost use Rattle.single_label.specs.Labels.{ShowsContent, IsLabelData, IsContentStop};
+ghost use Rattle.single_label.specs.Labels.{AreDetailsBeside, details_label};
+ghost use Rattle.single_label.specs.Contents.{is_too_long};
+ghost use Rattle.single_label.specs.Labels.{ShowsContent, IsLabelData, IsContentStop, IsCaptioned};
+ghost use Rattle.single_label.specs.Captions.{IsContentOf};
+ghost use Rattle.label_words.specs.Choices.{is_link};
 ghost use Rattle.single_label.specs.Contents.{IsLink, IsLinkStop};
 ghost use Rattle.single_label.specs.Details.{IsDetailsStop};
 
+use crate::caption::{caption_of, text_in};
 use crate::colors::in_colors;
 use crate::content::{content_of, content_symbol, link_of};
 use crate::details::symbol_text;
 use crate::room::{too_long_at_level, too_long_for_any};
-use crate::shown::Shown;
+use crate::shown::{Said, Shown};
 use crate::stop::Stop;
 use crate::turned::draw_turned;
 use label_words::{Content, Details, Label};
@@ -37,7 +41,7 @@ pub fn label_bytes<S: Shown>(
     ensures drawn { IfOk result (λ shown. ShowsLabel label.now options.now bytes.now
         (S.drawing label.now options.now shown)) }
     ensures limit { OnOk result (length bytes.now ≤ LONGEST_DATA) }
-    ensures refused { IfErr result (IsLabelStop label.now bytes.now) }
+    ensures refusal { IfErr result (IsLabelStop label.now bytes.now) }
 {
     if bytes.len() > LONGEST_DATA {
         return Err(Stop::TooLong(too_long_for_any(label, bytes)));
@@ -49,7 +53,7 @@ pub fn label_bytes<S: Shown>(
     if label.content == Content::Link {
         return link_label(alloc, label, options, content);
     }
-    content_label(alloc, label, options, content)
+    content_label(alloc, label, options, content, content)
 }
 
 /// Returns the label of the link of bracketed elements. It fails as `link_of` does, and then as
@@ -60,31 +64,36 @@ fn link_label<S: Shown>(
     options: &DrawOptions,
     elements: &[u8],
 ) -> Result<S, Stop>
-    requires { S.allowed label.now options.now }
+    requires allowed { S.allowed label.now options.now }
+    requires link { is_link label.now.content ≡ true }
     ensures shown { IfOk result (λ shown. (link : List ℕ)
         × IsLink label.now.domain.now elements.now link × (link ≢ [])
-        × ShowsContent label.now options.now link (S.drawing label.now options.now shown)) }
-    ensures refused { IfErr result (λ stop. IsLinkStop label.now.domain.now elements.now stop
+        × ShowsContent label.now options.now elements.now link
+        (S.drawing label.now options.now shown)) }
+    ensures refusal { IfErr result (λ stop. IsLinkStop label.now.domain.now elements.now stop
         ⊎ ((link : List ℕ) × IsLink label.now.domain.now elements.now link × (link ≢ [])
         × IsContentStop label.now link stop)) }
 {
     let link = link_of(alloc, label.domain, elements)?;
-    content_label(alloc, label, options, &link)
+    content_label(alloc, label, options, elements, &link)
 }
 
-/// Returns the label of a content: what it shows of its symbol. It fails as `content_symbol`, but
-/// with `TooLong` in place of `DataTooLong`, and then as `symbol_text`.
+/// Returns the label of a content, which is the text or the link of its elements: what it shows of
+/// its symbol. It fails as `content_symbol`, but with `TooLong` in place of `DataTooLong`, then as
+/// `caption_of`, and then as `symbol_text`.
 fn content_label<S: Shown>(
     alloc: Global,
     label: &Label,
     options: &DrawOptions,
+    text: &[u8],
     content: &[u8],
 ) -> Result<S, Stop>
     requires data { IsLabelData label.now content.now }
     requires allowed { S.allowed label.now options.now }
-    ensures shown { IfOk result (λ shown. ShowsContent label.now options.now content.now
+    requires said { IsContentOf label.now.content text.now content.now }
+    ensures shown { IfOk result (λ shown. ShowsContent label.now options.now text.now content.now
         (S.drawing label.now options.now shown)) }
-    ensures refused { IfErr result (IsContentStop label.now content.now) }
+    ensures refusal { IfErr result (IsContentStop label.now content.now) }
 {
     let symbol = match content_symbol(alloc, label.content, &label.symbol, content) {
         Ok(symbol) => symbol,
@@ -93,40 +102,60 @@ fn content_label<S: Shown>(
         }
         Err(stop) => return Err(stop),
     };
-    S::of_symbol(alloc, label, options, Some(content), symbol)
+    let caption = caption_of(alloc, label, text)?;
+    let said = Said {
+        content: Some(content),
+        caption: text_in(&caption),
+    };
+    S::of_symbol(alloc, label, options, said, symbol)
 }
 
-/// Returns what the label shows of a symbol: its details, or its picture. The content is
-/// given if the symbol has all of it. It fails as `symbol_text` does.
+/// Returns what the label shows of a symbol: its details, or its picture. It fails as
+/// `symbol_text` does.
 pub fn symbol_label(
     alloc: Global,
     label: &Label,
     options: &DrawOptions,
-    content: Option<&[u8]>,
+    said: Said<'_>,
     symbol: &Symbol,
 ) -> Result<Vec<u8>, Stop>
     ensures shown { IfOk result (λ drawing. ShowsSymbol label.now options.now
-        (option_copied content.entry) symbol.now drawing.items) }
-    ensures refused { IfErr result (IsDetailsStop label.now (option_copied content.entry)) }
+        (option_copied said.entry.content) (option_copied said.entry.caption) symbol.now
+        drawing.items) }
+    ensures refusal { IfErr result (IsDetailsStop label.now (option_copied said.entry.content)) }
 {
     if label.details == Details::Alone {
-        return symbol_text(alloc, label, options, content, symbol);
+        return symbol_text(alloc, label, options, said.content, symbol);
     }
-    Ok(symbol_picture(alloc, label, options, symbol)?)
+    Ok(symbol_picture(alloc, label, options, said.caption, symbol)?)
 }
 
-/// Returns the picture of a symbol, turned and colored as the label says. It fails only for lack of
-/// memory.
+/// Returns the options of a picture with a text below it, if it is given.
+fn captioned<'a>(options: &DrawOptions<'a>, caption: Option<&'a str>) -> DrawOptions<'a>
+    ensures { IsCaptioned options.now (option_copied caption.entry) result }
+{
+    let Some(text) = caption else {
+        return *options;
+    };
+    let mut captioned = *options;
+    captioned.caption = Some(text);
+    captioned
+}
+
+/// Returns the picture of a symbol, turned and colored as the label says, with a text below it, if
+/// it is given. It fails only for lack of memory.
 fn symbol_picture(
     alloc: Global,
     label: &Label,
     options: &DrawOptions,
+    caption: Option<&str>,
     symbol: &Symbol,
 ) -> Result<Vec<u8>, AllocError>
-    ensures { IfOk result (λ drawing.
-        IsSymbolPicture label.now options.now symbol.now drawing.items) }
+    ensures { IfOk result (λ drawing. IsSymbolPicture label.now options.now
+        (option_copied caption.entry) symbol.now drawing.items) }
 {
-    let picture = draw_turned(alloc, symbol, label.turn, options)?;
+    let options = captioned(options, caption);
+    let picture = draw_turned(alloc, symbol, label.turn, &options)?;
     if label.colored {
         return in_colors(alloc, &picture);
     }
@@ -152,7 +181,7 @@ pub fn details_bytes(
 ) -> Result<Vec<u8>, Stop>
     ensures details { IfOk result (λ details. AreDetailsBeside label.now
         (λ other. ShowsLabel other options.now) bytes.now details.items) }
-    ensures refused { IfErr result (IsLabelStop label.now bytes.now) }
+    ensures refusal { IfErr result (IsLabelStop label.now bytes.now) }
 {
     if label.details == Details::Beside {
         return label_bytes(alloc, &details_label(label), options, bytes);
@@ -167,7 +196,7 @@ pub fn is_too_long(stop: Stop) -> bool
     match stop {
         Stop::Fault(fault) => fault == Fault::Symbol(QrError::DataTooLong),
         Stop::Elements(_) | Stop::NotAllowed(_) | Stop::NoLink(_) => false,
-        Stop::Empty | Stop::NotAscii | Stop::TooLong(_) => false,
+        Stop::Empty | Stop::NoMicroText | Stop::TooLong(_) => false,
         Stop::TooManyParts | Stop::TooManyPages => false,
     }
 }

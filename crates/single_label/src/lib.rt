@@ -2,8 +2,10 @@
 //!
 //! 1. Make the symbol of the content of the input (`content`, `element`), or the symbols that carry
 //!    it together (`parts`).
-//! 2. Draw it (`label`, `colors`, `turned`), write its details (`details`), or make it a page of a
-//!    document (`shown`, `turned`).
+//! 2. Draw it (`label`, `colors`, `turned`), with its elements below it where they are asked for
+//!    (`caption`), write its details (`details`,
+//!    `text_details`), or make it a page of a document (`shown`,
+//!    `turned`).
 //! 3. Where there is no label, say why (`stop`), and how much there is room for (`room`).
 //!
 //! ```text
@@ -11,20 +13,23 @@
 //! ```
 #![tactic(auto)]
 
+mod caption;
 mod colors;
 mod content;
 mod details;
 mod element;
 mod label;
+mod other_way;
 mod parts;
 mod room;
 mod shown;
 mod stop;
+mod text_details;
 mod turned;
 
 pub use element::element_number;
 pub use label::{details_bytes, label_bytes};
 pub use parts::{LONGEST_MESSAGE, details_message, message_labels, message_text};
-pub use shown::{PageSymbol, Shown, are_pages};
-pub use stop::{ElementStop, Stop, TooLong};
+pub use shown::{PageSymbol, Said, Shown, are_pages};
+pub use stop::{ElementStop, Stop, TextLength, TooLong};
 pub use turned::page_turned;

@@ -2,7 +2,7 @@
 //! "Structured Append").
 ghost use Rattle.std.specs.Prelude.{◌≡◌, ◌⊎◌, ◌≤◌, ℕ, List, [], ◌∷◌, length, map, vec_items, Some, IfOk, IfErr, OnOk};
 ghost use Rattle.qrcode_bits.specs.declared.bits.front.Content.TheVariants.{Bytes};
-ghost use Rattle.qrcode_core.specs.Drawn.{modules_of};
+ghost use Rattle.qrcode_core.specs.Symbol.{modules_of};
 ghost use Rattle.single_label.specs.Parts.{IsSequenceOf, IsSequenceFault, IsTextSequence};
 ghost use Rattle.single_label.specs.Parts.{IsTextFault, IsSequenceAs, IsSequenceFaultAs, ShowEach};
 ghost use Rattle.single_label.specs.Parts.{ShowMessage, AreLabelsTogether, ShowsMessage};
@@ -15,6 +15,7 @@ ghost use Rattle.single_label.specs.Parts.{AreNotDrawn, IsPartsStop, IsMessageSt
 
 use crate::content::{content_of, content_symbol, is_ascii, utf8_of};
 use crate::label::{details_label, is_too_long, symbol_label};
+use crate::shown::Said;
 use crate::stop::Stop;
 use label_words::{Content, Details, Label};
 use qrcode_base::symbols::LONGEST_DATA;
@@ -32,7 +33,7 @@ pub const LONGEST_MESSAGE: usize = 16 * LONGEST_DATA;
 fn bytes_sequence(alloc: Global, options: &SymbolOptions, bytes: &[u8]) -> QrResult<Vec<Symbol>>
     ensures symbols { IfOk result (λ symbols.
         IsSequenceOf Bytes options.now bytes.now (map modules_of symbols.items)) }
-    ensures refused { IfErr result (IsSequenceFault Bytes options.now bytes.now) }
+    ensures refusal { IfErr result (IsSequenceFault Bytes options.now bytes.now) }
 {
     let cuts = best_cuts(alloc, bytes, options.level, options.max_version)?;
     Symbol::sequence(alloc, bytes, &cuts, options.level, options.max_version)
@@ -43,7 +44,7 @@ fn bytes_sequence(alloc: Global, options: &SymbolOptions, bytes: &[u8]) -> QrRes
 fn text_sequence(alloc: Global, options: &SymbolOptions, bytes: &[u8]) -> QrResult<Vec<Symbol>>
     ensures symbols { IfOk result (λ symbols.
         IsTextSequence options.now bytes.now (map modules_of symbols.items)) }
-    ensures refused { IfErr result (IsTextFault options.now bytes.now) }
+    ensures refusal { IfErr result (IsTextFault options.now bytes.now) }
 {
     let text = utf8_of(bytes)?;
     let cuts = best_text_cuts(alloc, text, options.level, options.max_version)?;
@@ -55,7 +56,7 @@ fn text_sequence(alloc: Global, options: &SymbolOptions, bytes: &[u8]) -> QrResu
 fn auto_sequence(alloc: Global, options: &SymbolOptions, bytes: &[u8]) -> QrResult<Vec<Symbol>>
     ensures symbols { IfOk result (λ symbols.
         IsSequenceAs Content.Auto options.now bytes.now (map modules_of symbols.items)) }
-    ensures refused { IfErr result (IsSequenceFaultAs Content.Auto options.now bytes.now) }
+    ensures refusal { IfErr result (IsSequenceFaultAs Content.Auto options.now bytes.now) }
 {
     if is_ascii(bytes) || utf8_of(bytes).is_err() {
         return bytes_sequence(alloc, options, bytes);
@@ -73,7 +74,7 @@ fn sequence_symbols(
 ) -> QrResult<Vec<Symbol>>
     ensures symbols { IfOk result (λ symbols.
         IsSequenceAs content options.now bytes.now (map modules_of symbols.items)) }
-    ensures refused { IfErr result (IsSequenceFaultAs content options.now bytes.now) }
+    ensures refusal { IfErr result (IsSequenceFaultAs content options.now bytes.now) }
 {
     match content {
         Content::Auto => auto_sequence(alloc, options, bytes),
@@ -95,9 +96,13 @@ fn labels_of(
         ShowEach label.now options.now symbols.now (map vec_items drawings.items)) }
     ensures memory { IfErr result (λ stop. stop ≡ FaultStop (SymbolFault OutOfMemory)) }
 {
+    let said = Said {
+        content: None,
+        caption: None,
+    };
     let mut drawings = Vec::new(alloc);
     for symbol in symbols {
-        let drawing = symbol_label(alloc, label, options, None, symbol)?;
+        let drawing = symbol_label(alloc, label, options, said, symbol)?;
         drawings.push(drawing).map_err(AllocError::from)?;
     }
     Ok(drawings)
@@ -112,7 +117,7 @@ fn sequence_labels(
 ) -> Result<Vec<Vec<u8>>, Stop>
     ensures shown { IfOk result (λ drawings. AreLabelsTogether label.now options.now content.now
         (map vec_items drawings.items)) }
-    ensures refused { IfErr result (λ stop. AreNotDrawn label.now content.now stop
+    ensures refusal { IfErr result (λ stop. AreNotDrawn label.now content.now stop
         ⊎ IsPartsStop label.now content.now stop) }
 {
     match sequence_symbols(alloc, label.content, &label.symbol, content) {
@@ -135,7 +140,7 @@ pub fn message_labels(
     ensures shown { IfOk result (λ drawings. ShowMessage label.now options.now bytes.now
         (map vec_items drawings.items)) }
     ensures limit { OnOk result (length bytes.now ≤ LONGEST_MESSAGE) }
-    ensures refused { IfErr result (IsMessageStop label.now bytes.now) }
+    ensures refusal { IfErr result (IsMessageStop label.now bytes.now) }
 {
     if bytes.len() > LONGEST_MESSAGE {
         return Err(Stop::TooManyParts);
@@ -161,17 +166,21 @@ fn one_label(
 ) -> Result<Vec<Vec<u8>>, Stop>
     ensures shown { IfOk result (λ drawings. (drawing : List ℕ)
         × (map vec_items drawings.items ≡ drawing ∷ [])
-        × ShowsSymbol label.now options.now (Some content.now) symbol.now drawing) }
-    ensures refused { IfErr result (IsDetailsStop label.now (Some content.now)) }
+        × ShowsSymbol label.now options.now (Some content.now) None symbol.now drawing) }
+    ensures refusal { IfErr result (IsDetailsStop label.now (Some content.now)) }
 {
-    let drawing = symbol_label(alloc, label, options, Some(content), symbol)?;
+    let said = Said {
+        content: Some(content),
+        caption: None,
+    };
+    let drawing = symbol_label(alloc, label, options, said, symbol)?;
     let mut drawings = Vec::new(alloc);
     drawings.push(drawing).map_err(AllocError::from)?;
     Ok(drawings)
 }
 
-/// Returns the labels of a message, one after the other. It fails as `message_labels` does, and with
-/// `OutOfMemory`.
+/// Returns the labels of a message, one after the other. It fails as `message_labels` does, and
+/// with `OutOfMemory`.
 pub fn message_text(
     alloc: Global,
     label: &Label,
@@ -180,7 +189,7 @@ pub fn message_text(
 ) -> Result<Vec<u8>, Stop>
     ensures shown { IfOk result (λ text. ShowsMessage label.now options.now bytes.now text.items) }
     ensures limit { OnOk result (length bytes.now ≤ LONGEST_MESSAGE) }
-    ensures refused { IfErr result (λ stop. (stop ≡ FaultStop (SymbolFault OutOfMemory))
+    ensures refusal { IfErr result (λ stop. (stop ≡ FaultStop (SymbolFault OutOfMemory))
         ⊎ IsMessageStop label.now bytes.now stop) }
 {
     match message_labels(alloc, label, options, bytes) {
@@ -199,7 +208,7 @@ pub fn details_message(
 ) -> Result<Vec<u8>, Stop>
     ensures details { IfOk result (λ details. AreDetailsBeside label.now
         (λ other. ShowsMessage other options.now) bytes.now details.items) }
-    ensures refused { IfErr result (λ stop. (stop ≡ FaultStop (SymbolFault OutOfMemory))
+    ensures refusal { IfErr result (λ stop. (stop ≡ FaultStop (SymbolFault OutOfMemory))
         ⊎ IsMessageStop label.now bytes.now stop) }
 {
     if label.details == Details::Beside {

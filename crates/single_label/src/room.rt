@@ -1,19 +1,21 @@
 //! How much there is room for, where a content is too long.
 ghost use Rattle.std.specs.Prelude.{◌≡◌, ◌<◌, ◌≤◌, IsTrue, IsFalse, length};
 ghost use Rattle.qrcode_base.specs.declared.symbols.TheConstants.{LONGEST_DATA};
-ghost use Rattle.single_label.specs.Rooms.{characters_room, bytes_room, digits_in, digits_room};
+ghost use Rattle.single_label.specs.Rooms.{bits_room, characters_room, bytes_room, digits_in};
+ghost use Rattle.single_label.specs.Rooms.{digits_room, IsLengthReported};
 ghost use Rattle.single_label.specs.Rooms.{IsFrontWidth, greatest_version, lower_levels};
 ghost use Rattle.single_label.specs.Rooms.{proposes_split, FitsAt, StopsAtLevel, IsFirstFitting};
 ghost use Rattle.single_label.specs.Rooms.{IsTooLongAs, IsTooLongForAny};
 ghost use Rattle.qrcode_base.specs.Symbols.{HasMicroNumber};
 ghost use Rattle.qrcode_core.specs.declared.types.EcLevel.TheVariants.{M, Q, H};
 
-use crate::content::{content_symbol, is_ascii, utf8_of};
-use crate::stop::TooLong;
+use crate::content::{content_symbol, is_ascii, text_of, utf8_of};
+use crate::stop::{TextLength, TooLong};
 use label_words::{Content, Label, Portion, can_be_split, is_micro};
 use qrcode_bits::bits::data_capacity_bits;
 use qrcode_core::types::{EcLevel, Mode, Version};
 use std::alloc::Global;
+use text_plans::least_plan;
 
 /// Returns how many bits stand before the segments: of a text the ECI designator of UTF-8, of GS1
 /// elements the indicator FNC1.
@@ -35,6 +37,16 @@ fn front_width(content: Content, bytes: &[u8]) -> usize
     }
 }
 
+/// Returns how many bits a version has room for at a level.
+fn bits_room(version: Version, level: EcLevel) -> usize
+    ensures { result ≡ bits_room version level }
+{
+    match data_capacity_bits(version, level) {
+        Ok(capacity) => capacity,
+        Err(_) => 0,
+    }
+}
+
 /// Returns how many bits the characters of one segment of a mode have in a version at a level,
 /// after a front of this width.
 fn characters_room(version: Version, level: EcLevel, mode: Mode, front: usize) -> usize
@@ -42,11 +54,9 @@ fn characters_room(version: Version, level: EcLevel, mode: Mode, front: usize) -
     requires narrow { front ≤ 12 }
     ensures { result ≡ characters_room version level mode front }
 {
-    let capacity = match data_capacity_bits(version, level) {
-        Ok(capacity) => capacity,
-        Err(_) => 0,
-    };
-    capacity.saturating_sub(front + (version.mode_bits_count() + mode.length_bits_count(version)))
+    bits_room(version, level).saturating_sub(
+        front + (version.mode_bits_count() + mode.length_bits_count(version)),
+    )
 }
 
 /// Returns how many digits a number of bits holds: three in ten, two in seven, one in four.
@@ -84,9 +94,34 @@ fn proposes_split(label: &Label) -> bool
     }
 }
 
+/// Returns the length of a text beyond ASCII of which the label would have the smallest symbol, if
+/// it is found: it takes less than 32768 bits.
+fn text_length(alloc: Global, label: &Label, content: &[u8]) -> Option<TextLength>
+    ensures { IsLengthReported label.now content.now result }
+{
+    if is_ascii(content) {
+        return None;
+    }
+    let (version, level) = (greatest_version(label), label.symbol.level);
+    let text = text_of(label.content, content)?;
+    match least_plan(alloc, text, version) {
+        Ok(Some((_, bits))) => {
+            let room = bits_room(version, level);
+            Some(TextLength { bits, room })
+        }
+        _ => None,
+    }
+}
+
 /// Returns that a content of this length is too long, and how much there is room for after a front
 /// of this width.
-fn too_long(label: &Label, length: usize, front: usize, fits: Option<EcLevel>) -> TooLong
+fn too_long(
+    label: &Label,
+    length: usize,
+    front: usize,
+    fits: Option<EcLevel>,
+    text: Option<TextLength>,
+) -> TooLong
     requires narrow { front ≤ 12 }
     ensures length_is { result.length ≡ length }
     ensures version_is { result.version ≡ greatest_version label.now }
@@ -95,6 +130,7 @@ fn too_long(label: &Label, length: usize, front: usize, fits: Option<EcLevel>) -
     ensures digits_are { result.digits ≡ digits_room result.version result.level front }
     ensures fits { result.fits ≡ fits }
     ensures splits { result.can_be_split ≡ proposes_split label.now }
+    ensures text { result.text ≡ text }
 {
     let (version, level) = (greatest_version(label), label.symbol.level);
     TooLong {
@@ -105,25 +141,27 @@ fn too_long(label: &Label, length: usize, front: usize, fits: Option<EcLevel>) -
         digits: digits_in(characters_room(version, level, Mode::Numeric, front)),
         fits,
         can_be_split: proposes_split(label),
+        text,
     }
 }
 
-/// Returns why there is no label of bytes of which there are more than any symbol holds.
+/// Returns why there is no label of more than 7089 bytes.
 pub fn too_long_for_any(label: &Label, bytes: &[u8]) -> TooLong
     requires { LONGEST_DATA < length bytes.now }
     ensures { IsTooLongForAny label.now result }
 {
-    too_long(label, bytes.len(), 0, None)
+    too_long(label, bytes.len(), 0, None, None)
 }
 
-/// Returns why there is no symbol of a content that is too long, and at which lower level there is
-/// one.
+/// Returns why there is no symbol of a content that is too long, and at which lower level there
+/// is one.
 pub fn too_long_at_level(alloc: Global, label: &Label, content: &[u8]) -> TooLong
     ensures { IsTooLongAs label.now content.now result }
 {
     let front = front_width(label.content, content);
     let fits = fitting_level(alloc, label, content);
-    too_long(label, content.len(), front, fits)
+    let text = text_length(alloc, label, content);
+    too_long(label, content.len(), front, fits, text)
 }
 
 /// Whether there is a symbol of a content at a level.

@@ -4,7 +4,7 @@ ghost use Rattle.std.specs.Option.{option_copied};
 ghost use Rattle.picture_settings.specs.declared.draw_options.DrawOptions.{DrawOptions};
 ghost use Rattle.single_label.specs.Details.{IsDetailsStop};
 ghost use Rattle.single_label.specs.Labels.{ShowsSymbol};
-ghost use Rattle.single_label.specs.Pages.{are_pages, page_alone, page_of};
+ghost use Rattle.single_label.specs.Pages.{are_pages, page_alone, page_of_symbol};
 ghost use Rattle.label_words.specs.declared.command.Label.{Label};
 
 use crate::label::symbol_label;
@@ -14,6 +14,15 @@ use qrcode_core::symbol::Symbol;
 use qrcode_render::{DrawOptions, Format};
 use std::alloc::Global;
 
+/// What a symbol says, and what is written below it.
+#[derive(Clone, Copy, Debug, PartialEq, Eq)]
+pub struct Said<'a> {
+    /// The content, if the symbol has all of it.
+    pub content: Option<&'a [u8]>,
+    /// The text below the picture of the symbol, if there is one.
+    pub caption: Option<&'a str>,
+}
+
 /// What stands for a label until it is written. `drawing` is the label, and `allowed` says of which
 /// labels there is such a thing.
 pub trait Shown {
@@ -21,20 +30,20 @@ pub trait Shown {
 
     ghost drawing: { Label → DrawOptions → Self → List ℕ };
 
-    /// Returns what the label shows of a symbol. The content is given if the symbol has all of it.
-    /// It fails as `symbol_label` does.
+    /// Returns what the label shows of a symbol. It fails as `symbol_label` does.
     fn of_symbol(
         alloc: Global,
         label: &Label,
         options: &DrawOptions,
-        content: Option<&[u8]>,
+        said: Said<'_>,
         symbol: Symbol,
     ) -> Result<Self, Stop>
         requires { allowed label.now options.now }
         ensures shown { IfOk result (λ shown. ShowsSymbol label.now options.now
-            (option_copied content.entry) symbol (drawing label.now options.now shown)) }
-        ensures refused { IfErr result
-            (IsDetailsStop label.now (option_copied content.entry)) };
+            (option_copied said.entry.content) (option_copied said.entry.caption) symbol
+            (drawing label.now options.now shown)) }
+        ensures refusal { IfErr result
+            (IsDetailsStop label.now (option_copied said.entry.content)) };
 }
 
 /// The bytes of the label.
@@ -47,10 +56,10 @@ impl Shown for Vec<u8> {
         alloc: Global,
         label: &Label,
         options: &DrawOptions,
-        content: Option<&[u8]>,
+        said: Said<'_>,
         symbol: Symbol,
     ) -> Result<Vec<u8>, Stop> {
-        symbol_label(alloc, label, options, content, &symbol)
+        symbol_label(alloc, label, options, said, &symbol)
     }
 }
 
@@ -65,13 +74,13 @@ impl Shown for PageSymbol {
     ghost allowed = { λ label options. are_pages label options ≡ true };
 
     ghost drawing = { λ label options page.
-        page_alone (option_copied options.title) (page_of label options page.symbol) };
+        page_alone (option_copied options.title) (page_of_symbol label options page.symbol) };
 
     fn of_symbol(
         _alloc: Global,
         _label: &Label,
         _options: &DrawOptions,
-        _content: Option<&[u8]>,
+        _said: Said<'_>,
         symbol: Symbol,
     ) -> Result<PageSymbol, Stop> {
         Ok(PageSymbol { symbol })

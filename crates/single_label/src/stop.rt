@@ -23,8 +23,8 @@ pub enum Stop {
     NoLink(LinkError),
     /// The input has no bytes.
     Empty,
-    /// The text is not ASCII, and a Micro QR symbol has no designator for it.
-    NotAscii,
+    /// No Micro QR symbol is read as the text: it has no ECI designators.
+    NoMicroText,
     /// The content is too long for a symbol.
     TooLong(TooLong),
     /// The message is too long for the 16 symbols of a sequence.
@@ -61,6 +61,17 @@ pub struct TooLong {
     pub fits: Option<EcLevel>,
     /// Whether the labels of several symbols may stand for its label.
     pub can_be_split: bool,
+    /// The length of a text beyond ASCII, if it was found.
+    pub text: Option<TextLength>,
+}
+
+/// The length of a text, which is written in the fewest bits.
+#[derive(Clone, Copy, Debug, PartialEq, Eq)]
+pub struct TextLength {
+    /// The bits that it takes in the greatest version that the symbol could have.
+    pub bits: usize,
+    /// The bits that this version has room for at the level.
+    pub room: usize,
 }
 
 impl From<Fault> for Stop {

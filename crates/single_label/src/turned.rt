@@ -2,12 +2,12 @@
 ghost use Rattle.std.specs.Prelude.{◌≡◌, ◌++◌, ◌*◌, ◌<◌, ◌↔◌, Err, IfOk, IfSome, IsSome, OnOk};
 ghost use Rattle.std.specs.Prelude.{flat_map, length};
 ghost use Rattle.std.specs.List.{range_with_len};
-ghost use Rattle.qrcode_core.specs.Drawn.{drawn_grid};
+ghost use Rattle.qrcode_core.specs.Symbol.{drawn_grid};
 ghost use Rattle.qrcode_core.specs.Views.{view_grid};
 ghost use Rattle.qrcode_render.specs.Drawings.{IsPictureOf, page_as};
-ghost use Rattle.qrcode_render.specs.PdfWritten.{after_page, next_page};
+ghost use Rattle.qrcode_render.specs.PdfPagesWritten.{after_page, next_page};
 ghost use Rattle.grid_pictures.specs.Pictures.{IsDrawable, picture};
-ghost use Rattle.grid_pictures.specs.Shown.{shown};
+ghost use Rattle.grid_pictures.specs.Picture.{shown};
 ghost use Rattle.picture_settings.specs.declared.bounds.TheConstants.{MAX_PDF};
 ghost use Rattle.single_label.specs.Turns.{source_of, seen_row, turned};
 
@@ -114,7 +114,7 @@ pub fn page_turned(
         ≡ next_page pages.old (page_as options.now (turned turn (drawn_grid symbol.now)))) }
     ensures after { OnOk result (pages.new
         ≡ after_page pages.old (page_as options.now (turned turn (drawn_grid symbol.now)))) }
-    ensures too_long { result ≡ Err PdfError.TooLong → MAX_PDF < (after_page pages.old
+    ensures no_room { result ≡ Err PdfError.TooLong → MAX_PDF < (after_page pages.old
         (page_as options.now (turned turn (drawn_grid symbol.now)))).size }
 {
     if turn == Turn::Upright {

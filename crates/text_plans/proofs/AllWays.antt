@@ -1,5 +1,5 @@
 -- The least of the three ways is the least of all parts.
-use Rattle.std.proofs.Common.{◌≡◌, ℕ, ◌+◌, ◌*◌, ◌/◌, ◌≤◌, ◌<◌, Bool, true, false, ◌||◌, ◌⊎◌, inl, inr, List, [], ◌∷◌, length, refl, ap, sym, ◌∙◌, subst, arith}
+use Rattle.std.proofs.Common.{◌≡◌, ℕ, ◌+◌, ◌*◌, ◌/◌, ◌≤◌, ◌<◌, Bool, true, false, ◌||◌, ◌⊎◌, inl, inr, List, [], ◌∷◌, ◌++◌, length, refl, ap, sym, ◌∙◌, subst, arith}
 use Rattle.std.specs.Prelude.{Option, None, Some, All}
 use Rattle.std.proofs.lemmas.Bool.{cond-true}
 use Rattle.std.proofs.lemmas.Grind.{common_steps}
@@ -9,18 +9,21 @@ use Rattle.qrcode_base.specs.declared.types.Mode.TheVariants.{Numeric, Alphanume
 use Rattle.qrcode_base.specs.declared.types.Version.{Version}
 use Rattle.qrcode_base.specs.declared.types.Version.TheVariants.{Normal, Micro}
 use Rattle.text_reading.specs.Bytes.{ascii_character, common_character}
-use Rattle.text_reading.specs.Reading.{Part, designator, segment, is_known, is_plain, has_kanji, joined, read_parts, read_segment, is_shift_jis, IsReadAs}
+use Rattle.text_reading.specs.Reading.{Part, designator, segment, is_known, has_no_designator, has_kanji, joined, read_parts, read_segment, is_shift_jis, IsReadAs}
 use Rattle.text_reading.specs.Reading.{each_of, read_bytes, read_kanji}
 use Rattle.text_plans.specs.Costs.{HasPart, bits_of_part, bits_of_parts, AreTextParts, AreLeast}
-use Rattle.text_plans.specs.Lanes.{AreAllFacts, force_of}
+use Rattle.text_plans.specs.Keeping.{TakesNoMore}
+use Rattle.text_plans.specs.Lanes.{AreAllFacts, AreFacts, force_of}
 use Rattle.text_plans.specs.Tables.{IsWeighed}
-use Rattle.text_plans.specs.Ways.{AreRules, weight_of}
+use Rattle.text_plans.specs.Ways.{AreRules, AreRulesOf, mixed_of, plain_of, weight_of}
 use Rattle.text_plans.specs.declared.facts.Facts.{Facts}
 use Rattle.text_plans.specs.declared.row.TheConstants.{BIT, LIMIT}
 use Rattle.text_plans.specs.declared.rules.Rules.{Rules}
+use Rattle.text_plans.specs.declared.rules.Way.{Way}
 use Rattle.text_plans.proofs.Appends.{put_split, put_both}
 use Rattle.text_plans.proofs.Begins.{if_list}
 use Rattle.text_plans.proofs.Bounds.{Suits, parts_bound, joined_is, if_parts}
+use Rattle.text_plans.proofs.Pairs.{IsNoPair, no_kanji}
 use Rattle.text_plans.proofs.Rows.{entry}
 
 -- ---- What is read more strictly is read
@@ -77,14 +80,14 @@ parts_more plain bare mixed had p m force (segment mode bytes ∷ parts) text h 
 
 -- Parts that are written in a way are read as the text.
 pub reads_so : (plain mixed : Bool) (parts : List Part) (text : List ℕ) → read_parts plain mixed None parts ≡ Some text →
-    (plain ≡ true → is_plain parts ≡ true) → (has_kanji parts ≡ true → mixed ≡ true) → IsReadAs parts text
-reads_so plain mixed parts text h p m = parts_more plain (is_plain parts) mixed (has_kanji parts) p m None parts text h
+    (plain ≡ true → has_no_designator parts ≡ true) → (has_kanji parts ≡ true → mixed ≡ true) → IsReadAs parts text
+reads_so plain mixed parts text h p m = parts_more plain (has_no_designator parts) mixed (has_kanji parts) p m None parts text h
 
 -- ---- Each list of parts is written in one of the ways
 
 module _ (version : Version) (plain mixed : Bool) (rules : Rules) (are : AreRules version plain mixed rules) where
-  suits_plain : (parts : List Part) → is_plain parts ≡ true → plain ≡ true → Suits rules rules.start parts
-  unfolding is_plain
+  suits_plain : (parts : List Part) → has_no_designator parts ≡ true → plain ≡ true → Suits rules rules.start parts
+  unfolding has_no_designator
   suits_plain [] h e = tt
   suits_plain (designator number ∷ parts) h e = absurd (cc)
   suits_plain (segment mode bytes ∷ parts) h e = (λ k. are.lanes.kanji_plain e, suits_plain parts h e)
@@ -104,11 +107,11 @@ module _ (version : Version) (plain mixed : Bool) (rules : Rules) (are : AreRule
       (λ k. absurd (cc), suits_unmixed parts lane h e (All-tail (HasPart version) (segment Byte bytes) parts had))
   suits_unmixed (segment Kanji bytes ∷ parts) lane h e had = absurd (cc)
 
-  shift_jis_lane : (lane : ℕ) → is_shift_jis (force_of lane) ≡ true → 13 ≡ lane
+  shift_jis_lane : (lane : ℕ) → is_shift_jis (force_of lane) ≡ true → 16 ≡ lane
   unfolding force_of
   shift_jis_lane lane h = grind (arith, common_steps)
 
-  kanji_read : (lane : ℕ) (mode : Mode) (bytes text : List ℕ) → read_segment false mixed (force_of lane) mode bytes ≡ Some text → mode ≡ Kanji → 13 ≡ lane
+  kanji_read : (lane : ℕ) (mode : Mode) (bytes text : List ℕ) → read_segment false mixed (force_of lane) mode bytes ≡ Some text → mode ≡ Kanji → 16 ≡ lane
   unfolding read_segment
   kanji_read lane Numeric bytes text h e = absurd (cc)
   kanji_read lane Alphanumeric bytes text h e = absurd (cc)
@@ -146,9 +149,9 @@ joined_more x y z text h more =
     grind (arith, w.2, w.4, later)
 
 -- Without Kanji segments it is all one whether there are designators.
-no_kanji_read : (parts : List Part) (text : List ℕ) (force : Option ℕ) → is_plain parts ≡ true → has_kanji parts ≡ false →
+no_kanji_read : (parts : List Part) (text : List ℕ) (force : Option ℕ) → has_no_designator parts ≡ true → has_kanji parts ≡ false →
     read_parts true false force parts ≡ Some text → read_parts false false force parts ≡ Some text
-unfolding read_parts is_plain has_kanji read_segment
+unfolding read_parts has_no_designator has_kanji read_segment
 no_kanji_read [] text force p k h = h
 no_kanji_read (designator number ∷ parts) text force p k h = absurd (cc)
 no_kanji_read (segment Kanji bytes ∷ parts) text force p k h = absurd (cc)
@@ -159,13 +162,94 @@ no_kanji_read (segment Alphanumeric bytes ∷ parts) text force p k h =
 no_kanji_read (segment Byte bytes ∷ parts) text force p k h =
     joined_more _ _ _ text h (λ t e. no_kanji_read parts t force p k e)
 
+-- ---- A text whose ASCII characters are the same in JIS X 0201
+
+-- What a character is in ASCII it is in JIS X 0201.
+abbrev IsAlike : ℕ → Type 0
+IsAlike c = (byte : ℕ) → ascii_character byte ≡ Some c → common_character byte ≡ Some c
+
+abbrev AreAlike : List ℕ → Type 0
+AreAlike [] = Unit {0}
+AreAlike (c ∷ cs) = IsAlike c × AreAlike cs
+
+alike_both : (front later : List ℕ) → AreAlike (front ++ later) → AreAlike front × AreAlike later
+alike_both [] later h = (tt, h)
+alike_both (c ∷ front) later h = let w = alike_both front later h.1 in ((h.0, w.0), w.1)
+
+ascii_read : (byte c : ℕ) → ascii_character byte ≡ Some c → read_bytes false (force_of 0) (byte ∷ []) ≡ Some (c ∷ [])
+unfolding read_bytes force_of each_of
+ascii_read byte c h = put_both (ascii_character byte) (Some []) c [] h refl
+
+common_read : (bytes : List ℕ) (c : ℕ) → read_bytes true (force_of 18) bytes ≡ Some (c ∷ []) → (byte : ℕ) × (common_character byte ≡ Some c)
+unfolding read_bytes force_of each_of
+common_read [] c h = absurd (cc)
+common_read (byte ∷ bytes) c h =
+    let w = put_split (common_character byte) (each_of common_character bytes) (c ∷ []) h in
+    let e : c ≡ w.0 = let l = w.4 in cc in (byte, w.2 ∙ ap (λ (x : ℕ). Some x) (sym e))
+
+one_byte : (byte other c : ℕ) → ascii_character byte ≡ Some c → common_character other ≡ Some c → common_character byte ≡ Some c
+one_byte byte other c h k = grind (arith, common_steps, h, k)
+
+char_alike : (c : ℕ) (f : Facts) → AreFacts c f → TakesNoMore 18 0 f.sizes → IsAlike c
+char_alike c f known more byte h =
+    let there = (known.sizes 0 (omega arith)).front false (λ e. refl, λ e. absurd (omega arith)) (byte ∷ []) [] (ascii_read byte c h) in
+    let w = (known.sizes 18 (omega arith)).some (more there.3).0 true (λ e. absurd (omega arith), λ e. refl) in
+    let common = common_read w.0 c w.2 in one_byte byte common.0 c h common.1
+
+text_alike : (text : List ℕ) (all : List Facts) → AreAllFacts text all → All (λ facts. TakesNoMore 18 0 facts.sizes) all → AreAlike text
+text_alike [] all known more = tt
+text_alike (c ∷ text) [] known more = absurd known
+text_alike (c ∷ text) (f ∷ all) known more = (
+  char_alike c f known.0 (All-head (λ (facts : Facts). TakesNoMore 18 0 facts.sizes) f all more),
+  text_alike text all known.1 (All-tail (λ (facts : Facts). TakesNoMore 18 0 facts.sizes) f all more),
+)
+
+each_alike : (bytes text : List ℕ) → AreAlike text → each_of ascii_character bytes ≡ Some text → each_of common_character bytes ≡ Some text
+unfolding each_of
+each_alike [] text alike h = h
+each_alike (byte ∷ bytes) text alike h =
+    let w = put_split (ascii_character byte) (each_of ascii_character bytes) text h in
+    let both = subst (λ (t : List ℕ). AreAlike t) w.4 alike in
+    rw w.4
+    (put_both (common_character byte) (each_of common_character bytes) w.0 w.1 (both.0 byte w.2) (each_alike bytes w.1 both.1 w.3))
+
+segment_alike : (force : Option ℕ) (mode : Mode) (bytes text : List ℕ) → AreAlike text →
+    read_segment false false force mode bytes ≡ Some text → read_segment false true force mode bytes ≡ Some text
+unfolding read_segment read_bytes
+segment_alike force Numeric bytes text alike h = h
+segment_alike force Alphanumeric bytes text alike h = h
+segment_alike None Byte bytes text alike h = each_alike bytes text alike h
+segment_alike (Some number) Byte bytes text alike h = h
+segment_alike force Kanji bytes text alike h = h
+
+parts_alike : (force : Option ℕ) (parts : List Part) (text : List ℕ) → AreAlike text →
+    read_parts false false force parts ≡ Some text → read_parts false true force parts ≡ Some text
+unfolding read_parts
+parts_alike force [] text alike h = h
+parts_alike force (designator number ∷ parts) text alike h =
+    let w = if_parts (is_known number) (read_parts false false (Some number) parts) text h in
+    cond-true (is_known number) (read_parts false true (Some number) parts) None w.0 ∙ parts_alike (Some number) parts text alike w.1
+parts_alike force (segment mode bytes ∷ parts) text alike h =
+    let w = joined_is (read_segment false false force mode bytes) (read_parts false false force parts) text h in
+    let both = alike_both w.0 w.1 (subst (λ (t : List ℕ). AreAlike t) w.4 alike) in
+    let first = segment_alike force mode bytes w.0 both.0 w.2 in
+    let later = parts_alike force parts w.1 both.1 w.3 in
+    grind (arith, first, later, w.4)
+
+-- Rules of a version and a way are those of theirs.
+pub as_way : (rules : Rules) (version : Version) (way : Way) → rules.version ≡ version → rules.way ≡ way → AreRulesOf rules →
+    AreRules version (plain_of way) (mixed_of way) rules
+as_way rules version way v w h =
+    subst (λ (x : Way). AreRules version (plain_of x) (mixed_of x) rules) w
+    (subst (λ (x : Version). AreRules x (plain_of rules.way) (mixed_of rules.way) rules) v h)
+
 -- The least weight of a way.
 abbrev pub least_of : Rules → List Facts → ℕ
 least_of rules all = (entry rules all rules.start).fresh
 
 module _ (version : Version) (bare unmixed mixed : Rules) (b : AreRules version true true bare) (u : AreRules version false false unmixed) (m : AreRules version false true mixed) where
   by_flags : (parts : List Part) (text : List ℕ) (all : List Facts) (plain kanji : Bool) → AreAllFacts text all → All (HasPart version) parts →
-      is_plain parts ≡ plain → has_kanji parts ≡ kanji → read_parts plain kanji None parts ≡ Some text →
+      has_no_designator parts ≡ plain → has_kanji parts ≡ kanji → read_parts plain kanji None parts ≡ Some text →
       (least_of bare all ≤ weight_of version parts) ⊎ ((least_of unmixed all ≤ weight_of version parts) ⊎ (least_of mixed all ≤ weight_of version parts))
   by_flags parts text all true true known had p k h = inl (bound version true true bare b parts text all known had (suits_plain version true true bare b parts p refl) h)
   by_flags parts text all true false known had p k h =
@@ -181,7 +265,47 @@ module _ (version : Version) (bare unmixed mixed : Rules) (b : AreRules version 
   -- One of the three ways weighs no more than any parts.
   pub one_of : (parts : List Part) (text : List ℕ) (all : List Facts) → AreAllFacts text all → AreTextParts version text parts →
       (least_of bare all ≤ weight_of version parts) ⊎ ((least_of unmixed all ≤ weight_of version parts) ⊎ (least_of mixed all ≤ weight_of version parts))
-  one_of parts text all known h = by_flags parts text all (is_plain parts) (has_kanji parts) known h.had refl refl h.read
+  one_of parts text all known h = by_flags parts text all (has_no_designator parts) (has_kanji parts) known h.had refl refl h.read
+
+module _ (version : Version) (bare mixed : Rules) (b : AreRules version true true bare) (m : AreRules version false true mixed) where
+  without_kanji : (parts : List Part) (text : List ℕ) (all : List Facts) → AreAllFacts text all → All (λ facts. TakesNoMore 18 0 facts.sizes) all →
+      All (HasPart version) parts → has_kanji parts ≡ false → read_parts false false None parts ≡ Some text → least_of mixed all ≤ weight_of version parts
+  without_kanji parts text all known alike had k h =
+      bound version false true mixed m parts text all known had (suits_unmixed version false true mixed m parts mixed.start k refl had)
+      (parts_alike None parts text (text_alike text all known alike) h)
+
+  by_two_flags : (parts : List Part) (text : List ℕ) (all : List Facts) (plain kanji : Bool) → AreAllFacts text all →
+      All (λ facts. TakesNoMore 18 0 facts.sizes) all → All (HasPart version) parts → has_no_designator parts ≡ plain → has_kanji parts ≡ kanji →
+      read_parts plain kanji None parts ≡ Some text → (least_of bare all ≤ weight_of version parts) ⊎ (least_of mixed all ≤ weight_of version parts)
+  by_two_flags parts text all true true known alike had p k h =
+      inl (bound version true true bare b parts text all known had (suits_plain version true true bare b parts p refl) h)
+  by_two_flags parts text all true false known alike had p k h = inr (without_kanji parts text all known alike had k (no_kanji_read parts text None p k h))
+  by_two_flags parts text all false false known alike had p k h = inr (without_kanji parts text all known alike had k h)
+  by_two_flags parts text all false true known alike had p k h =
+      inr (bound version false true mixed m parts text all known had
+      (suits_mixed version false true mixed m parts mixed.start text refl refl had
+      (subst (λ (force : Option ℕ). read_parts false true force parts ≡ Some text) (sym m.lanes.no_force) h)) h)
+
+  -- Where its ASCII characters are the same in JIS X 0201, one of two ways weighs no more than any parts.
+  pub one_of_two : (parts : List Part) (text : List ℕ) (all : List Facts) → AreAllFacts text all → All (λ facts. TakesNoMore 18 0 facts.sizes) all →
+      AreTextParts version text parts → (least_of bare all ≤ weight_of version parts) ⊎ (least_of mixed all ≤ weight_of version parts)
+  one_of_two parts text all known alike h = by_two_flags parts text all (has_no_designator parts) (has_kanji parts) known alike h.had refl refl h.read
+
+-- Without pairs it is the way without Kanji segments that weighs no more.
+pub of_no_pairs : (version : Version) (unmixed : Rules) → AreRules version false false unmixed → (parts : List Part) (text : List ℕ) (all : List Facts) →
+    AreAllFacts text all → All IsNoPair all → AreTextParts version text parts → least_of unmixed all ≤ weight_of version parts
+of_no_pairs version unmixed u parts text all known none h =
+    let k = no_kanji version (has_no_designator parts) (has_kanji parts) None parts text all known none h.had h.read in
+    let read = subst (λ (b : Bool). read_parts (has_no_designator parts) b None parts ≡ Some text) k h.read in
+    by_plain (has_no_designator parts) refl k read
+  where
+    by_plain : (plain : Bool) → has_no_designator parts ≡ plain → has_kanji parts ≡ false → read_parts plain false None parts ≡ Some text →
+        least_of unmixed all ≤ weight_of version parts
+    by_plain true p k read =
+        bound version false false unmixed u parts text all known h.had (suits_unmixed version false false unmixed u parts unmixed.start k refl h.had)
+        (no_kanji_read parts text None p k read)
+    by_plain false p k read =
+        bound version false false unmixed u parts text all known h.had (suits_unmixed version false false unmixed u parts unmixed.start k refl h.had) read
 
 -- ---- Bits and parts of a weight
 

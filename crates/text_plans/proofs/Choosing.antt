@@ -14,7 +14,7 @@ weight_small : (allowed : Bool) (weight : ℕ) → weight_if allowed weight ≤ 
 weight_small true weight = omega arith
 weight_small false weight = omega arith
 
-begin_small : (rules : Rules) (facts : Facts) (lane : ℕ) (rest : Rest) → begin_least rules facts lane rest ≤ LIMIT
+pub begin_small : (rules : Rules) (facts : Facts) (lane : ℕ) (rest : Rest) → begin_least rules facts lane rest ≤ LIMIT
 unfolding begin_least
 begin_small rules facts lane rest =
     let small : begin_in rules facts lane rest Kanji ≤ LIMIT = weight_small (can_write rules facts lane Kanji) _ in omega arith

@@ -1,15 +1,16 @@
 -- How many bytes a character has in a lane.
-use Rattle.std.proofs.Common.{◌≡◌, ◌≢◌, ℕ, ◌+◌, ◌≤◌, ◌<◌, Bool, true, false, ◌==◌, ◌⊎◌, inl, inr, List, [], ◌∷◌, ◌++◌, length, refl, ap, sym, ◌∙◌, subst, arith, length-append, ne_eqb, ltb-true, nat_lt}
+use Rattle.std.proofs.Common.{◌≡◌, ◌≢◌, ℕ, ◌+◌, ◌≤◌, ◌<◌, Bool, true, false, ◌==◌, ◌⊎◌, inl, inr, List, [], ◌∷◌, ◌++◌, length, get_or, replicate}
+use Rattle.std.proofs.Common.{refl, ap, sym, ◌∙◌, subst, arith, length-append, ne_eqb, ltb-true, nat_lt}
 use Rattle.std.specs.List.{list_all}
 use Rattle.std.specs.Prelude.{position, Option, None, Some, if◌then◌else◌, chars, encode_utf8, encode_utf8_all}
 use Rattle.std.specs.Char.{IsScalar, len_utf8}
 use Rattle.std.specs.Str.{is_utf8, IsUtf8, all_scalars}
 use Rattle.std.proofs.lemmas.Bool.{cond-true, cond-false, and_parts, cases_eq, cases_lt}
-use Rattle.std.proofs.lemmas.Str.{encodes-chars, scalars-chars, chars-encodes, IsUtf8-from_is_utf8, is_utf8-from_IsUtf8, length-encode, IsUtf8-encode, chars_past_char, chars-nil, len_utf8_bounds}
+use Rattle.std.proofs.lemmas.Str.{encodes-chars, scalars-chars, chars-encodes, IsUtf8-from_is_utf8, is_utf8-from_IsUtf8, length-encode, IsUtf8-encode, chars_past_char, chars-nil, len_utf8_ascii, len_utf8_bounds}
 use Rattle.std.proofs.lemmas.List.{append-nil}
 use Rattle.std.proofs.lemmas.Grind.{common_steps}
 use Rattle.qrcode_base.specs.Characters.{alphabet, is_alphanumeric, is_lead, is_between}
-use Rattle.text_reading.specs.Bytes.{common_character, shift_jis_character, character_of_byte}
+use Rattle.text_reading.specs.Bytes.{ascii_character, common_character, shift_jis_character, character_of_byte, is_part, part_character}
 use Rattle.text_reading.specs.Reading.{put, each_of, read_bytes, read_shift_jis, pair_character}
 use Rattle.text_plans.specs.Lanes.{IsSize, SuitsMixed, force_of, single_character}
 use Rattle.text_plans.proofs.Begins.{if_list}
@@ -91,7 +92,7 @@ shift_jis_front (byte ∷ next ∷ bytes) c cs h =
           inr (record { byte = byte; rest = next ∷ bytes; bytes_are = refl; single = p.0; read = p.1 })
     ]
 
-by_shift_jis : (mixed : Bool) (bytes : List ℕ) → read_bytes mixed (force_of 13) bytes ≡ read_shift_jis bytes
+by_shift_jis : (mixed : Bool) (bytes : List ℕ) → read_bytes mixed (force_of 16) bytes ≡ read_shift_jis bytes
 unfolding read_bytes force_of
 by_shift_jis mixed bytes = refl
 
@@ -108,14 +109,14 @@ pair_read lead trail c h =
     cond-true (is_lead lead) (put (pair_character lead trail) (Some [])) _ (pair_leads lead trail c h)
     ∙ ap (λ (x : Option ℕ). put x (Some [])) h
 
-pub kana_reads : (c byte : ℕ) → shift_jis_character byte ≡ Some c → (mixed : Bool) → read_bytes mixed (force_of 13) (byte ∷ []) ≡ Some (c ∷ [])
+pub kana_reads : (c byte : ℕ) → shift_jis_character byte ≡ Some c → (mixed : Bool) → read_bytes mixed (force_of 16) (byte ∷ []) ≡ Some (c ∷ [])
 kana_reads c byte h mixed = by_shift_jis mixed (byte ∷ []) ∙ kana_read byte c h
 
 pub pair_reads : (c lead trail : ℕ) → pair_character lead trail ≡ Some c → (mixed : Bool) →
-    read_bytes mixed (force_of 13) (lead ∷ trail ∷ []) ≡ Some (c ∷ [])
+    read_bytes mixed (force_of 16) (lead ∷ trail ∷ []) ≡ Some (c ∷ [])
 pair_reads c lead trail h mixed = by_shift_jis mixed (lead ∷ trail ∷ []) ∙ pair_read lead trail c h
 
-pub kana_size : (c byte : ℕ) → shift_jis_character byte ≡ Some c → IsSize 13 c 1
+pub kana_size : (c byte : ℕ) → shift_jis_character byte ≡ Some c → IsSize 16 c 1
 kana_size c byte h = record {
   some = λ e mixed suits. (byte ∷ [], refl, kana_reads c byte h mixed);
   front = λ mixed suits bytes cs read.
@@ -125,7 +126,7 @@ kana_size c byte h = record {
       ];
 }
 
-pub pair_size : (c lead trail : ℕ) → ((byte : ℕ) → shift_jis_character byte ≡ Some c → ⊥) → pair_character lead trail ≡ Some c → IsSize 13 c 2
+pub pair_size : (c lead trail : ℕ) → ((byte : ℕ) → shift_jis_character byte ≡ Some c → ⊥) → pair_character lead trail ≡ Some c → IsSize 16 c 2
 pair_size c lead trail none h = record {
   some = λ e mixed suits. (lead ∷ trail ∷ [], refl, pair_reads c lead trail h mixed);
   front = λ mixed suits bytes cs read.
@@ -136,7 +137,7 @@ pair_size c lead trail none h = record {
 }
 
 pub no_shift_jis : (c : ℕ) → ((byte : ℕ) → shift_jis_character byte ≡ Some c → ⊥) →
-    ((lead trail : ℕ) → pair_character lead trail ≡ Some c → ⊥) → IsSize 13 c 0
+    ((lead trail : ℕ) → pair_character lead trail ≡ Some c → ⊥) → IsSize 16 c 0
 no_shift_jis c none no_pair = record {
   some = λ e mixed suits. absurd (e refl);
   front = λ mixed suits bytes cs read.
@@ -148,7 +149,7 @@ no_shift_jis c none no_pair = record {
 
 -- ---- UTF-8
 
-by_utf8 : (mixed : Bool) (bytes : List ℕ) → read_bytes mixed (force_of 14) bytes ≡ (if is_utf8 bytes then Some (chars bytes) else None)
+by_utf8 : (mixed : Bool) (bytes : List ℕ) → read_bytes mixed (force_of 17) bytes ≡ (if is_utf8 bytes then Some (chars bytes) else None)
 unfolding read_bytes force_of
 by_utf8 mixed bytes = refl
 
@@ -164,7 +165,7 @@ one_scalar c h bytes e =
     cond-true (is_utf8 bytes) (Some (chars bytes)) None (is_utf8-from_IsUtf8 bytes good)
     ∙ ap (λ (x : List ℕ). Some x) (chars_past_char bytes [] c good (e ∙ sym (append-nil (encode_utf8 c))) ∙ ap (λ (x : List ℕ). c ∷ x) chars-nil)
 
-pub utf8_reads : (c : ℕ) → IsScalar c → (mixed : Bool) → read_bytes mixed (force_of 14) (encode_utf8 c) ≡ Some (c ∷ [])
+pub utf8_reads : (c : ℕ) → IsScalar c → (mixed : Bool) → read_bytes mixed (force_of 17) (encode_utf8 c) ≡ Some (c ∷ [])
 utf8_reads c h mixed = by_utf8 mixed (encode_utf8 c) ∙ one_scalar c h (encode_utf8 c) refl
 
 utf8_front : (bytes : List ℕ) (c : ℕ) (cs : List ℕ) → (if is_utf8 bytes then Some (chars bytes) else None) ≡ Some (c ∷ cs) →
@@ -176,7 +177,7 @@ utf8_front bytes c cs h =
     let scalars = subst (λ (x : List ℕ). all_scalars x ≡ true) e (scalars-chars bytes good) in
     (sym (encodes-chars bytes good) ∙ ap (λ (x : List ℕ). encode_utf8_all x) e, (and_parts _ _ scalars).1)
 
-pub utf8_size : (c : ℕ) → IsScalar c → IsSize 14 c (len_utf8 c)
+pub utf8_size : (c : ℕ) → IsScalar c → IsSize 17 c (len_utf8 c)
 utf8_size c h = record {
   some = λ e mixed suits. (encode_utf8 c, length-encode c, utf8_reads c h mixed);
   front = λ mixed suits bytes cs read.
@@ -202,39 +203,39 @@ first_single : IsSingle 0 (character_of_byte None)
 unfolding read_bytes force_of character_of_byte
 first_single mixed suits bytes = rw (suits.0 refl) refl
 
-last_single : IsSingle 15 common_character
+last_single : IsSingle 18 common_character
 unfolding read_bytes force_of
 last_single mixed suits bytes = rw (suits.1 refl) refl
 
-part_lane : (lane : ℕ) → 1 ≤ lane → lane ≤ 12 → (number : ℕ) × (force_of lane ≡ Some number) × ((number == 20) ≡ false) × ((number == 26) ≡ false)
+part_lane : (lane : ℕ) → 1 ≤ lane → lane ≤ 15 → (number : ℕ) × (force_of lane ≡ Some number) × ((number == 20) ≡ false) × ((number == 26) ≡ false)
 unfolding force_of
 part_lane lane low high = (
-  if is_between 1 5 lane then lane + 2 else (if lane == 6 then 9 else (if is_between 7 8 lane then lane + 4 else lane + 6)),
+  if is_between 1 11 lane then lane + 2 else lane + 3,
   grind (arith, common_steps),
   grind (arith, common_steps),
   grind (arith, common_steps),
 )
 
-is_last : (lane : ℕ) → lane ≡ 15 → single_character lane ≡ common_character
+is_last : (lane : ℕ) → lane ≡ 18 → single_character lane ≡ common_character
 unfolding single_character
 is_last lane h = rw h refl
 
-pub is_other : (lane : ℕ) → (lane == 15) ≡ false → single_character lane ≡ character_of_byte (force_of lane)
+pub is_other : (lane : ℕ) → (lane == 18) ≡ false → single_character lane ≡ character_of_byte (force_of lane)
 unfolding single_character
-is_other lane h = cond-false (lane == 15) common_character (character_of_byte (force_of lane)) h
+is_other lane h = cond-false (lane == 18) common_character (character_of_byte (force_of lane)) h
 
 first_force : force_of 0 ≡ None
 unfolding force_of
 first_force = refl
 
-pub single_lane : (lane : ℕ) → lane < 16 → lane ≢ 13 → lane ≢ 14 → IsSingle lane (single_character lane)
+pub single_lane : (lane : ℕ) → lane < 19 → lane ≢ 16 → lane ≢ 17 → IsSingle lane (single_character lane)
 single_lane lane inside a b =
-    elim (cases_eq lane 15) [
+    elim (cases_eq lane 18) [
       | inl last ↦
           subst (λ (f : ℕ → Option ℕ). IsSingle lane f) (sym (is_last lane last))
           (subst (λ (k : ℕ). IsSingle k common_character) (sym last) last_single)
       | inr differs ↦
-          let no : (lane == 15) ≡ false = ne_eqb lane 15 differs in
+          let no : (lane == 18) ≡ false = ne_eqb lane 18 differs in
           subst (λ (f : ℕ → Option ℕ). IsSingle lane f) (sym (is_other lane no))
           (elim (cases_lt lane 1) [
             | inl low ↦
@@ -247,7 +248,7 @@ single_lane lane inside a b =
           ])
     ]
   where
-    within : (k : ℕ) → k < 16 → k ≢ 13 → k ≢ 14 → (k == 15) ≡ false → k ≤ 12
+    within : (k : ℕ) → k < 19 → k ≢ 16 → k ≢ 17 → (k == 18) ≡ false → k ≤ 15
     within k inside a b other = grind (arith, common_steps)
 
 -- ---- The Alphanumeric mode has ASCII alone
@@ -264,10 +265,72 @@ pub no_sign : (c : ℕ) → 128 ≤ c → is_alphanumeric c ≡ false
 unfolding is_alphanumeric
 no_sign c far = rw (beyond alphabet c refl far) refl
 
+-- ---- The characters that all lanes have as one byte
+
+common_ascii : (byte c : ℕ) → common_character byte ≡ Some c → (byte ≡ c) × (c < 128) × (ascii_character c ≡ Some c)
+common_ascii byte c h = (grind (arith, common_steps), grind (arith, common_steps), grind (arith, common_steps))
+
+common_part : (number c : ℕ) → is_part number ≡ true → c < 128 → ascii_character c ≡ Some c → character_of_byte (Some number) c ≡ Some c
+unfolding character_of_byte part_character
+common_part number c part low h =
+    let none : is_between 0xa0 0xff c ≡ false = grind (arith, common_steps) in
+    cond-true (is_part number) (if is_between 0xa0 0xff c then _ else ascii_character c) _ part
+    ∙ cond-false (is_between 0xa0 0xff c) _ (ascii_character c) none ∙ h
+
+lane_part : (lane : ℕ) → 1 ≤ lane → lane ≤ 15 → (number : ℕ) × (force_of lane ≡ Some number) × (is_part number ≡ true)
+unfolding force_of
+lane_part lane low high = (
+  if is_between 1 11 lane then lane + 2 else lane + 3,
+  grind (arith, common_steps),
+  grind (arith, common_steps),
+)
+
+common_forced : (lane c : ℕ) → lane ≤ 15 → c < 128 → ascii_character c ≡ Some c → character_of_byte (force_of lane) c ≡ Some c
+unfolding character_of_byte
+common_forced lane c high low h =
+    elim (cases_lt lane 1) [
+      | inl first ↦
+          let e : 0 ≡ lane = omega arith in
+          subst (λ (k : ℕ). character_of_byte (force_of k) c ≡ Some c) e
+          (subst (λ (force : Option ℕ). character_of_byte force c ≡ Some c) (sym first_force) h)
+      | inr part ↦
+          let w = lane_part lane part high in
+          subst (λ (force : Option ℕ). character_of_byte force c ≡ Some c) (sym w.1) (common_part w.0 c w.2 low h)
+    ]
+
+pub common_size : (byte c : ℕ) → IsScalar c → common_character byte ≡ Some c → (lane : ℕ) → lane < 19 → IsSize lane c 1
+common_size byte c scalar h lane inside =
+    let w = common_ascii byte c h in
+    let same = subst (λ (b : ℕ). common_character b ≡ Some c) w.0 h in
+    elim (cases_eq lane 16) [
+      | inl kana ↦ subst (λ (k : ℕ). IsSize k c 1) (sym kana) (kana_size c c (grind (arith, common_steps, same, w.1)))
+      | inr a ↦
+          elim (cases_eq lane 17) [
+            | inl utf8 ↦
+                subst (λ (k : ℕ). IsSize k c 1) (sym utf8) (subst (λ (n : ℕ). IsSize 17 c n) (len_utf8_ascii c w.1) (utf8_size c scalar))
+            | inr b ↦ one_size lane (single_character lane) c c (single_lane lane inside a b) (read a b)
+          ]
+    ]
+  where
+    read : lane ≢ 16 → lane ≢ 17 → single_character lane c ≡ Some c
+    read a b =
+        let w = common_ascii byte c h in
+        elim (cases_eq lane 18) [
+          | inl last ↦ ap (λ (f : ℕ → Option ℕ). f c) (is_last lane last) ∙ subst (λ (x : ℕ). common_character x ≡ Some c) w.0 h
+          | inr differs ↦
+              ap (λ (f : ℕ → Option ℕ). f c) (is_other lane (ne_eqb lane 18 differs)) ∙ common_forced lane c (within inside a b differs) w.1 w.2
+        ]
+      where
+        within : lane < 19 → lane ≢ 16 → lane ≢ 17 → lane ≢ 18 → lane ≤ 15
+        within inside a b other = grind (arith, common_steps)
+
+pub ones : (one lane : ℕ) → lane < 19 → get_or (replicate 19 one) lane 0 ≡ one
+ones one lane inside = grind (arith, common_steps)
+
 -- ---- One size
 
 a_symbol : (lane : ℕ) → (mixed : Bool) × SuitsMixed mixed lane
-a_symbol lane = ((lane == 15), (λ e. grind (arith, common_steps), λ e. grind (arith, common_steps)))
+a_symbol lane = ((lane == 18), (λ e. grind (arith, common_steps), λ e. grind (arith, common_steps)))
 
 pub one_size_only : (lane c n m : ℕ) → IsSize lane c n → IsSize lane c m → n ≢ 0 → n ≡ m
 one_size_only lane c n m h k some =

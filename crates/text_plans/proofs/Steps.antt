@@ -11,7 +11,7 @@ use Rattle.qrcode_base.specs.declared.types.Mode.{Mode}
 use Rattle.qrcode_base.specs.declared.types.Mode.TheVariants.{Numeric, Alphanumeric, Byte, Kanji}
 use Rattle.qrcode_base.specs.declared.types.Version.{Version}
 use Rattle.qrcode_base.specs.declared.types.Version.TheVariants.{Normal, Micro}
-use Rattle.text_reading.specs.Reading.{Part, designator, segment, is_known, is_plain, has_kanji, joined, read_parts, read_segment}
+use Rattle.text_reading.specs.Reading.{Part, designator, segment, is_known, has_no_designator, has_kanji, joined, read_parts, read_segment}
 use Rattle.text_plans.specs.Choices.{AddsBytes, CanBe, Makes, choice_weight, lane_after, open_value, open_weight, segment_opened}
 use Rattle.text_plans.specs.Costs.{HasPart, bits_of_parts}
 use Rattle.text_plans.specs.Lanes.{SuitsMixed, force_of}
@@ -64,8 +64,8 @@ bits_append version (part ∷ parts) more = omega (arith, bits_append version pa
 pub weight_append : (version : Version) (parts more : List Part) → weight_of version (parts ++ more) ≡ weight_of version parts + weight_of version more
 weight_append version parts more = omega (arith, bits_append version parts more, length-append parts more)
 
-plain_append : (parts more : List Part) → is_plain parts ≡ true → is_plain more ≡ true → is_plain (parts ++ more) ≡ true
-unfolding is_plain
+plain_append : (parts more : List Part) → has_no_designator parts ≡ true → has_no_designator more ≡ true → has_no_designator (parts ++ more) ≡ true
+unfolding has_no_designator
 plain_append [] more h k = k
 plain_append (designator number ∷ parts) more h k = absurd (cc)
 plain_append (segment mode bytes ∷ parts) more h k = plain_append parts more h k
@@ -96,12 +96,12 @@ OpenReads version plain mixed force (Some mode) bytes text =
 
 -- Complete parts that are read as a text, up to a lane.
 pub record AreComplete (version : Version) (plain mixed : Bool) (lane : ℕ) (parts : List Part) (text : List ℕ) : Type 0 where
-  pub inside : lane < 16
+  pub inside : lane < 19
   pub suits : SuitsMixed mixed lane
   pub read : read_parts plain mixed None parts ≡ Some text
   pub force : force_after None parts ≡ force_of lane
   pub had : All (HasPart version) parts
-  pub plain_is : plain ≡ true → is_plain parts ≡ true
+  pub plain_is : plain ≡ true → has_no_designator parts ≡ true
   pub mixed_is : has_kanji parts ≡ true → mixed ≡ true
 
 -- A plan that is written up to here, and the text of it.
@@ -126,7 +126,7 @@ one_segment plain mixed force mode bytes text h =
 pub segment_after : (version : Version) (plain mixed : Bool) (lane : ℕ) (parts : List Part) (before : List ℕ) (mode : Mode) (bytes text : List ℕ) →
     AreComplete version plain mixed lane parts before → OpenReads version plain mixed (force_of lane) (Some mode) bytes text →
     AreComplete version plain mixed lane (parts ++ segment mode bytes ∷ []) (before ++ text)
-unfolding force_after is_plain
+unfolding force_after has_no_designator
 segment_after version plain mixed lane parts before mode bytes text h k = record {
   inside = h.inside;
   suits = h.suits;
@@ -154,15 +154,14 @@ all_complete version plain mixed lane written text h =
     subst (λ (t : List ℕ). AreComplete version plain mixed lane (all_parts written) t) (sym h.text_is)
     (by_mode version plain mixed lane written.parts written.mode written.bytes h.before h.opened h.complete h.open_reads)
 
-known_lane : (to number : ℕ) → 1 ≤ to → to ≤ 14 → force_of to ≡ Some number → is_known number ≡ true
+known_lane : (to number : ℕ) → 1 ≤ to → to ≤ 17 → force_of to ≡ Some number → is_known number ≡ true
 unfolding force_of
 known_lane to number low high h = grind (arith, common_steps)
 
-lane_force : (to : ℕ) → 1 ≤ to → to ≤ 14 → (number : ℕ) × (force_of to ≡ Some number)
+lane_force : (to : ℕ) → 1 ≤ to → to ≤ 17 → (number : ℕ) × (force_of to ≡ Some number)
 unfolding force_of
 lane_force to low high = (
-  if is_between 1 5 to then to + 2 else (if to == 6 then 9 else (if is_between 7 8 to then to + 4
-      else (if is_between 9 12 to then to + 6 else (if to == 13 then 20 else 26)))),
+  if is_between 1 11 to then to + 2 else (if is_between 12 15 to then to + 3 else (if to == 16 then 20 else 26)),
   grind (arith, common_steps),
 )
 
@@ -173,7 +172,7 @@ one_designator plain mixed force number h = cond-true (is_known number) (Some []
 
 -- A designator more.
 pub designated : (version : Version) (plain mixed : Bool) (lane : ℕ) (parts : List Part) (text : List ℕ) (to number : ℕ) →
-    AreComplete version plain mixed lane parts text → 1 ≤ to → to ≤ 14 → force_of to ≡ Some number →
+    AreComplete version plain mixed lane parts text → 1 ≤ to → to ≤ 17 → force_of to ≡ Some number →
     HasPart version (designator number) → plain ≡ false →
     AreComplete version plain mixed to (parts ++ designator number ∷ []) text
 unfolding force_after has_kanji

@@ -7,10 +7,11 @@ use Rattle.qrcode_base.specs.declared.types.Version.{Version}
 use Rattle.std.proofs.lemmas.List.Elements.{All-nil}
 use Rattle.qrcode_base.specs.declared.types.Mode.TheVariants.{Numeric, Alphanumeric, Byte, Kanji}
 use Rattle.text_plans.specs.Costs.{HasPart}
-use Rattle.text_reading.specs.Reading.{has_kanji, is_plain, read_parts}
-use Rattle.text_plans.specs.Choices.{IsCharStep, lane_after, open_value, step_value}
+use Rattle.text_reading.specs.Reading.{has_kanji, has_no_designator, read_parts}
+use Rattle.text_plans.specs.Choices.{CanBe, IsCharStep, lane_after, open_value}
 use Rattle.text_plans.specs.Lanes.{AreAllFacts, AreFacts, force_of}
 use Rattle.text_plans.specs.Plan.{Written, all_parts}
+use Rattle.text_plans.specs.Keeping.{IsKeptLane, IsRowOf, KeepsEnough, switch_kept}
 use Rattle.text_plans.specs.Search.{lane_before, no_rest, rests_of, switch_least}
 use Rattle.text_plans.specs.Tables.{IsWeighed, first_weight}
 use Rattle.text_plans.specs.Ways.{AreRules, weight_of}
@@ -18,6 +19,9 @@ use Rattle.text_plans.specs.declared.facts.Facts.{Facts}
 use Rattle.text_plans.specs.declared.row.Rest.{Rest}
 use Rattle.text_plans.specs.declared.row.TheConstants.{LIMIT}
 use Rattle.text_plans.specs.declared.rules.Rules.{Rules}
+use Rattle.text_plans.specs.declared.walk.Choice.{Choice}
+use Rattle.text_plans.specs.declared.walk.Choice.TheVariants.{GoOn, Begin, Change}
+use Rattle.text_plans.proofs.Kept.{enough_from, kept_is}
 use Rattle.text_plans.proofs.Rows.{entry, entry_end, entry_step}
 use Rattle.text_plans.proofs.Steps.{AreComplete, IsDraft, OpenReads, all_complete, force_after, step}
 
@@ -56,7 +60,7 @@ no_value (Some Kanji) count = refl
 
 empty_complete : (version : Version) (plain mixed : Bool) (rules : Rules) → AreRules version plain mixed rules →
     AreComplete version plain mixed rules.start [] []
-unfolding read_parts force_after is_plain has_kanji
+unfolding read_parts force_after has_no_designator has_kanji
 empty_complete version plain mixed rules are = record {
   inside = are.lanes.inside;
   suits = are.lanes.suits;
@@ -71,6 +75,7 @@ module _ (version : Version) (plain mixed : Bool) (rules : Rules) (are : AreRule
   -- A plan of the first characters.
   pub record IsWalked (chars : List ℕ) (all : List Facts) (k lane : ℕ) (written : Written) : Type 0 where
     pub draft : IsDraft version plain mixed lane written (take k chars)
+    pub kept : IsKeptLane rules.kept lane
     pub weight : weight_of version (all_parts written) + open_value (entry rules (drop k all) lane) written.mode (length written.bytes)
         ≡ first_weight rules all
 
@@ -80,51 +85,61 @@ module _ (version : Version) (plain mixed : Bool) (rules : Rules) (are : AreRule
   none_open chars all k lane written h is =
       (subst (λ (m : Option Mode). OpenReads version plain mixed (force_of lane) m written.bytes h.draft.opened) is h.draft.open_reads).0
 
-  before_is : (all : List Facts) (k lane : ℕ) (d : Facts) (row : List Rest) → k < length all → lane < 16 → row ≡ rests_of rules (drop (k + 1) all) →
-      lane_before rules (get_or all k d) (switch_least rules (get_or all k d) row 14) lane (get_or row lane no_rest) ≡ entry rules (drop k all) lane
-  before_is all k lane d row inside low is =
+  pub before_is : (all : List Facts) (k lane : ℕ) (d : Facts) (row : List Rest) → k < length all → lane < 19 → IsKeptLane rules.kept lane →
+      KeepsEnough rules all → IsRowOf rules (drop (k + 1) all) row →
+      lane_before rules (get_or all k d) (switch_kept rules (get_or all k d) row 17) lane (get_or row lane no_rest) ≡ entry rules (drop k all) lane
+  before_is all k lane d row inside low keeps enough is =
       let more : drop k all ≡ get_or all k d ∷ drop (k + 1) all =
       let next : suc k ≡ k + 1 = omega arith in drop-cons all k d inside ∙ ap (λ (m : ℕ). get_or all k d ∷ drop m all) next in
-      rw is (sym (ap (λ (x : List Facts). entry rules x lane) more ∙ entry_step rules (get_or all k d) (drop (k + 1) all) lane low))
+      let needed = subst (λ (x : List Facts). KeepsEnough rules x) more (enough_from rules all k enough) in
+      ap (λ (switched : ℕ). lane_before rules (get_or all k d) switched lane (get_or row lane no_rest))
+      (kept_is rules (get_or all k d) (drop (k + 1) all) row is needed)
+      ∙ ap (λ (rest : Rest). lane_before rules (get_or all k d) (switch_least rules (get_or all k d) (rests_of rules (drop (k + 1) all)) 17) lane rest)
+      (is.1 lane low keeps)
+      ∙ sym (ap (λ (x : List Facts). entry rules x lane) more ∙ entry_step rules (get_or all k d) (drop (k + 1) all) lane low)
+
+  -- A lane that is chosen is kept.
+  chosen_kept : (facts : Facts) (lane : ℕ) (opened : Option Mode) (choice : Choice) → IsKeptLane rules.kept lane → CanBe rules facts lane opened choice →
+      IsKeptLane rules.kept (lane_after lane choice)
+  chosen_kept facts lane opened GoOn keeps can = keeps
+  chosen_kept facts lane opened (Begin mode) keeps can = keeps
+  chosen_kept facts lane opened (Change to mode) keeps can = can.3
 
   -- The value of what follows is small.
   pub value_small : (chars : List ℕ) (all : List Facts) (k lane : ℕ) (written : Written) → IsWalked chars all k lane written →
       first_weight rules all < LIMIT → open_value (entry rules (drop k all) lane) written.mode (length written.bytes) < LIMIT
   value_small chars all k lane written h small = omega (arith, h.weight)
 
-  pub step_small : (chars : List ℕ) (all : List Facts) (k lane : ℕ) (d : Facts) (row : List Rest) (old : Written) →
-      IsWalked chars all k lane old → first_weight rules all < LIMIT → k < length all → row ≡ rests_of rules (drop (k + 1) all) →
-      step_value rules (get_or all k d) row lane old < LIMIT
-  step_small chars all k lane d row old h small inside is =
-      let value = ap (λ (rest : Rest). open_value rest old.mode (length old.bytes)) (before_is all k lane d row inside h.draft.complete.inside is) in
-      omega (arith, value, value_small chars all k lane old h small)
-
   pub walk_more : (chars : List ℕ) (all : List Facts) (k lane d : ℕ) (e : Facts) (row : List Rest) (old new : Written) (after : ℕ) →
-      AreAllFacts chars all → IsWalked chars all k lane old → first_weight rules all < LIMIT → k < length all →
-      row ≡ rests_of rules (drop (k + 1) all) → IsCharStep rules (get_or all k e) row lane (get_or chars k d) old new after →
+      AreAllFacts chars all → IsWalked chars all k lane old → first_weight rules all < LIMIT → k < length all → KeepsEnough rules all →
+      IsRowOf rules (drop (k + 1) all) row → IsCharStep rules (get_or all k e) row lane (get_or chars k d) old new after →
       IsWalked chars all (k + 1) after new
-  walk_more chars all k lane d e row old new after known h small inside is made =
-      let value = ap (λ (rest : Rest). open_value rest old.mode (length old.bytes)) (before_is all k lane e row inside h.draft.complete.inside is) in
+  walk_more chars all k lane d e row old new after known h small inside enough is made =
+      let value = ap (λ (rest : Rest). open_value rest old.mode (length old.bytes))
+      (before_is all k lane e row inside h.draft.complete.inside h.kept enough is) in
       let below = value_small chars all k lane old h small in
       let kept = step version plain mixed rules are (get_or all k e) row (get_or chars k d) lane made.choice old new (take k chars) h.draft made.possible made.makes
       (omega (arith, made.weight, value, below)) in
       let within : k < length chars = omega (arith, facts_long chars all known) in
+      let keeps = chosen_kept (get_or all k e) lane old.mode made.choice h.kept made.possible in
       subst (λ (n : ℕ). IsWalked chars all (k + 1) n new) (sym made.after_is) (record {
         draft = subst (λ (t : List ℕ). IsDraft version plain mixed (lane_after lane made.choice) new t) (sym (take_more chars k d within)) kept.0;
+        kept = keeps;
         weight = omega (
           arith,
           kept.1,
           h.weight,
           made.weight,
           value,
-          ap (λ (r : List Rest). open_value (get_or r (lane_after lane made.choice) no_rest) new.mode (length new.bytes)) is,
+          ap (λ (r : Rest). open_value r new.mode (length new.bytes))
+              (is.1 (lane_after lane made.choice) kept.0.complete.inside keeps),
         );
       })
 
   -- Before the first character.
-  pub walk_first : (chars : List ℕ) (all : List Facts) (written : Written) → written.parts ≡ [] → written.mode ≡ None → written.bytes ≡ [] →
+  pub walk_first : (chars : List ℕ) (all : List Facts) (written : Written) → KeepsEnough rules all → written.parts ≡ [] → written.mode ≡ None → written.bytes ≡ [] →
       IsWalked chars all 0 rules.start written
-  walk_first chars all written parts mode bytes =
+  walk_first chars all written enough parts mode bytes =
       let none : Written = record { parts = []; mode = None; bytes = [] } in
       let e : none ≡ written = grind (arith, parts, mode, bytes) in
       subst (λ (w : Written). IsWalked chars all 0 rules.start w) e (record {
@@ -135,6 +150,7 @@ module _ (version : Version) (plain mixed : Bool) (rules : Rules) (are : AreRule
           open_reads = (refl, refl);
           text_is = grind (arith, common_steps);
         };
+        kept = enough.0;
         weight = grind (arith, common_steps);
       })
 

@@ -1,5 +1,6 @@
 -- How a character is written, and what it weighs with what follows it. No promise rests on it.
-use Rattle.std.specs.Prelude.{◌≡◌, ℕ, ◌+◌, ◌≤◌, Bool, true, ◌||◌, List, [], ◌∷◌, ◌++◌, length, get_or, Option, Some, None}
+use Rattle.std.specs.Prelude.{◌≡◌, ℕ, ◌+◌, ◌≤◌, Bool, true, ◌||◌, List, [], ◌∷◌, ◌++◌, length}
+use Rattle.std.specs.Prelude.{get_or, Option, Some, None}
 use Rattle.qrcode_base.specs.declared.types.Mode.{Mode}
 use Rattle.qrcode_base.specs.declared.types.Mode.TheVariants.{Numeric, Alphanumeric, Byte, Kanji}
 use Rattle.text_reading.specs.Reading.{Part, designator, is_shift_jis, read_segment}
@@ -11,7 +12,8 @@ use Rattle.text_plans.specs.declared.row.TheConstants.{LIMIT}
 use Rattle.text_plans.specs.declared.rules.Rules.{Rules}
 use Rattle.text_plans.specs.declared.walk.Choice.{Choice}
 use Rattle.text_plans.specs.declared.walk.Choice.TheVariants.{GoOn, Begin, Change}
-use Rattle.text_plans.specs.Search.{begin_in, go_on, can_write, lane_before, no_rest, onward, switch_least, weight_if}
+use Rattle.text_plans.specs.Keeping.{IsKeptLane, switch_kept}
+use Rattle.text_plans.specs.Search.{begin_in, go_on, can_write, lane_before, no_rest, onward, weight_if}
 
 -- The least weight of what follows, by the mode and the number of bytes of the open segment.
 abbrev pub open_value : Rest → Option Mode → ℕ → ℕ
@@ -54,7 +56,7 @@ CanBe rules facts lane opened GoOn =
     (mode : Mode) × (opened ≡ Some mode) × (can_write rules facts lane mode ≡ true)
 CanBe rules facts lane opened (Begin mode) = can_write rules facts lane mode ≡ true
 CanBe rules facts lane opened (Change to mode) =
-    (1 ≤ to) × (to ≤ 14) × (can_write rules facts to mode ≡ true)
+    (1 ≤ to) × (to ≤ 17) × (can_write rules facts to mode ≡ true) × IsKeptLane rules.kept to
 
 -- The lane after a choice.
 abbrev pub lane_after : ℕ → Choice → ℕ
@@ -81,7 +83,7 @@ Makes facts lane c (Change to mode) old new =
 abbrev pub step_value : Rules → Facts → List Rest → ℕ → Written → ℕ
 step_value rules facts row lane written =
     open_value
-    (lane_before rules facts (switch_least rules facts row 14) lane (get_or row lane no_rest))
+    (lane_before rules facts (switch_kept rules facts row 17) lane (get_or row lane no_rest))
     written.mode (length written.bytes)
 
 -- A character is written by a choice that weighs no more than what follows from there on.

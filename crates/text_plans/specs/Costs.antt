@@ -1,5 +1,6 @@
 -- What the parts of a text take in a version, and the parts that take the least (ISO/IEC
--- 18004:2006, "Mode indicator", "Character count indicator", "Extended Channel Interpretation (ECI) mode").
+-- 18004:2006, "Mode indicator", "Character count indicator", "Extended Channel Interpretation
+-- (ECI) mode").
 use Rattle.std.specs.Prelude.{◌≡◌, ◌≢◌, ℕ, ◌+◌, ◌≤◌, List, [], ◌∷◌, length, All}
 use Rattle.qrcode_base.specs.declared.types.Version.{Version}
 use Rattle.qrcode_base.specs.declared.types.Version.TheVariants.{Normal, Micro}

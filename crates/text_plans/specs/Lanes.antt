@@ -1,30 +1,32 @@
 -- The lanes in which a text is written: each is what is in force for bytes, by a number. No promise
 -- rests on them.
 use Rattle.std.specs.Prelude.{◌≡◌, ◌≢◌, ℕ, ◌+◌, ◌≤◌, Bool, true, false, ◌==◌, List, ◌∷◌, [], length, get_or}
-use Rattle.std.specs.Prelude.{Option, None, Some, if◌then◌else◌, ◌<◌}
+use Rattle.std.specs.Prelude.{Option, None, Some, if◌then◌else◌, ◌<◌, nat_lt}
 use Rattle.qrcode_base.specs.Characters.{is_between, is_alphanumeric}
 use Rattle.text_reading.specs.Bytes.{character_of_byte, common_character}
 use Rattle.text_reading.specs.Reading.{pair_character, read_bytes}
 use Rattle.text_plans.specs.declared.facts.Facts.{Facts}
 
--- The designator of a lane. In the lanes 0 and 15 there is none: in a symbol without a Kanji
+-- The designator of a lane. In the lanes 0 and 18 there is none: in a symbol without a Kanji
 -- segment, and in one with such a segment.
 unfoldable pub force_of : ℕ → Option ℕ
 force_of lane =
-    if is_between 1 5 lane then Some (lane + 2)
-    else (if lane == 6 then Some 9
-    else (if is_between 7 8 lane then Some (lane + 4)
-    else (if is_between 9 12 lane then Some (lane + 6)
-    else (if lane == 13 then Some 20
-    else (if lane == 14 then Some 26 else None)))))
+    if is_between 1 11 lane then Some (lane + 2)
+    else (if is_between 12 15 lane then Some (lane + 3)
+    else (if lane == 16 then Some 20
+    else (if lane == 17 then Some 26 else None)))
 
--- The character of a single byte in a lane: in lane 15 ASCII that is the same in JIS X 0201.
+-- How far the designator of a part of ISO/IEC 8859 is from 3, by the lane less 1: 14 is none.
+abbrev pub column_of : ℕ → ℕ
+column_of part = if nat_lt part 11 then part else part + 1
+
+-- The character of a single byte in a lane: in lane 18 ASCII that is the same in JIS X 0201.
 unfoldable pub single_character : ℕ → ℕ → Option ℕ
-single_character lane = if lane == 15 then common_character else character_of_byte (force_of lane)
+single_character lane = if lane == 18 then common_character else character_of_byte (force_of lane)
 
 -- A lane is one of a symbol that has a Kanji segment, or of one that has none.
 abbrev pub SuitsMixed : Bool → ℕ → Type 0
-SuitsMixed mixed lane = (lane ≡ 0 → mixed ≡ false) × (lane ≡ 15 → mixed ≡ true)
+SuitsMixed mixed lane = (lane ≡ 0 → mixed ≡ false) × (lane ≡ 18 → mixed ≡ true)
 
 -- A character has this number of bytes in a lane, and none at all if it is 0.
 pub record IsSize (lane c size : ℕ) : Type 0 where
@@ -42,7 +44,7 @@ pub record AreFacts (c : ℕ) (facts : Facts) : Type 0 where
   pub alphanumeric : facts.alphanumeric ≡ is_alphanumeric c
   pub pair : (lead trail : ℕ) → pair_character lead trail ≡ Some c → facts.pair ≡ true
   pub paired : facts.pair ≡ true → (pair : ℕ × ℕ) × (pair_character pair.0 pair.1 ≡ Some c)
-  pub sizes : (lane : ℕ) → lane < 16 → IsSize lane c (get_or facts.sizes lane 0)
+  pub sizes : (lane : ℕ) → lane < 19 → IsSize lane c (get_or facts.sizes lane 0)
 
 -- The facts of each character of a text.
 abbrev pub AreAllFacts : List ℕ → List Facts → Type 0

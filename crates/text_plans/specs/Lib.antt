@@ -1,6 +1,7 @@
 pub mod Costs
 pub mod Lanes
 pub mod Search
+pub mod Keeping
 pub mod Switches
 pub mod Plan
 pub mod Choices

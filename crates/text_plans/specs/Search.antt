@@ -1,6 +1,6 @@
 -- How the least parts of a text are looked for: from the end of the text on, by the least weight of
 -- what follows each character. No promise rests on it.
-use Rattle.std.specs.Prelude.{ℕ, ◌+◌, ◌*◌, ◌%◌, Bool, true, false, ◌==◌, ◌&&◌, not, List, [], ◌∷◌}
+use Rattle.std.specs.Prelude.{◌≡◌, ℕ, ◌+◌, ◌*◌, ◌%◌, Bool, true, false, ◌==◌, ◌&&◌, not, List, [], ◌∷◌}
 use Rattle.std.specs.Prelude.{zero, suc, min, get_or, map, if◌then◌else◌}
 use Rattle.std.specs.List.{range_with_len}
 use Rattle.qrcode_base.specs.declared.types.Mode.{Mode}
@@ -21,6 +21,10 @@ can_write rules facts lane Numeric = facts.digit
 can_write rules facts lane Alphanumeric = facts.alphanumeric
 can_write rules facts lane Byte = not (get_or facts.sizes lane 0 == 0)
 can_write rules facts lane Kanji = facts.pair && (rules.kanji_lane == lane)
+
+-- A character can be written in no mode, in a lane.
+abbrev pub IsUnwritable : Rules → ℕ → Facts → Type 0
+IsUnwritable rules lane facts = (mode : Mode) → can_write rules facts lane mode ≡ false
 
 -- The weight of the header of a segment.
 abbrev pub header_weight : Rules → Mode → ℕ
@@ -104,10 +108,10 @@ lane_before rules facts switched lane rest =
 unfoldable pub row_before : Rules → Facts → List Rest → List Rest
 row_before rules facts row =
     map
-    (λ lane. lane_before rules facts (switch_least rules facts row 14) lane (get_or row lane no_rest))
-    (range_with_len 0 16)
+    (λ lane. lane_before rules facts (switch_least rules facts row 17) lane (get_or row lane no_rest))
+    (range_with_len 0 19)
 
 -- What follows before some characters, in all lanes.
 unfoldable pub rests_of : Rules → List Facts → List Rest
-rests_of rules [] = map (λ (lane : ℕ). no_rest) (range_with_len 0 16)
+rests_of rules [] = map (λ (lane : ℕ). no_rest) (range_with_len 0 19)
 rests_of rules (facts ∷ rest) = row_before rules facts (rests_of rules rest)

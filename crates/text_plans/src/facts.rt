@@ -1,14 +1,14 @@
 //! What is so of a character, wherever it stands.
 
-ghost use Rattle.std.specs.Prelude.{◌≡◌, ◌≢◌, ◌<◌, ℕ, IfSome, Some, true};
+ghost use Rattle.std.specs.Prelude.{◌≡◌, ◌≢◌, ◌<◌, ◌≤◌, ℕ, All, get_or, IfSome, Some, true, false};
 ghost use Rattle.qrcode_base.specs.Characters.{is_alphanumeric};
 ghost use Rattle.text_reading.specs.Bytes.{common_character};
 ghost use Rattle.text_reading.specs.Reading.{pair_character};
-ghost use Rattle.text_plans.specs.Lanes.{IsSize, AreFacts, single_character};
+ghost use Rattle.text_plans.specs.Lanes.{IsSize, AreFacts, column_of, single_character};
 
 use crate::lanes::designator_of;
 use qrcode_base::characters::is_alphanumeric;
-use text_reading::{byte_of, pair_of};
+use text_reading::{byte_of, pair_of, part_bytes};
 
 /// Whether a character is a digit, an Alphanumeric character, or a pair of the Kanji mode, and its
 /// number of bytes in each lane, 0 if it has none there.
@@ -17,19 +17,19 @@ pub struct Facts {
     pub digit: bool,
     pub alphanumeric: bool,
     pub pair: bool,
-    pub sizes: [u8; 16],
+    pub sizes: [u8; 19],
 }
 
 /// Returns the single byte of a character in a lane, if there is one. A character of the lane of
 /// UTF-8 has none.
 #[tactic(auto, unfolding(crate::specs::Lanes::single_character))]
 pub fn single_in(c: char, lane: usize) -> Option<u8>
-    requires inside { lane < 16 }
-    requires single { lane ≢ 14 }
+    requires inside { lane < 19 }
+    requires single { lane ≢ 17 }
     ensures right { IfSome result (λ byte. single_character lane byte ≡ Some c) }
     ensures found { (byte : ℕ) → single_character lane byte ≡ Some c → result ≡ Some byte }
 {
-    if lane == 15 {
+    if lane == 18 {
         common_byte(c)
     } else {
         byte_of(c, designator_of(lane))
@@ -50,13 +50,13 @@ fn common_byte(c: char) -> Option<u8>
 
 /// Returns the number of bytes of a character in a lane, 0 if it has none.
 fn size_in(c: char, lane: usize) -> u8
-    requires { lane < 16 }
+    requires { lane < 19 }
     ensures { IsSize lane c result }
 {
-    if lane == 13 {
+    if lane == 16 {
         return size_in_shift_jis(c);
     }
-    if lane == 14 {
+    if lane == 17 {
         return c.len_utf8() as u8;
     }
     match single_in(c, lane) {
@@ -67,7 +67,7 @@ fn size_in(c: char, lane: usize) -> u8
 
 /// Returns the number of bytes of a character in Shift JIS, 0 if it has none.
 fn size_in_shift_jis(c: char) -> u8
-    ensures { IsSize 13 c result }
+    ensures { IsSize 16 c result }
 {
     match byte_of(c, Some(20)) {
         Some(_) => 1,
@@ -78,19 +78,57 @@ fn size_in_shift_jis(c: char) -> u8
     }
 }
 
+/// Returns how far the designator of a part of ISO/IEC 8859 is from 3, by the number of the part's
+/// lane less 1.
+fn column_of(part: usize) -> usize
+    requires { part < 15 }
+    ensures { result ≡ column_of part }
+{
+    if part < 11 { part } else { part + 1 }
+}
+
+/// Returns the number of bytes in each lane of a character that is not ASCII.
+fn sizes_beyond_ascii(c: char) -> [u8; 19]
+    requires { 128 ≤ c }
+    ensures { (lane : ℕ) → lane < 19 → IsSize lane c (get_or result lane 0) }
+{
+    let bytes = part_bytes(c);
+    let mut sizes = [0; 19];
+    sizes[16] = size_in_shift_jis(c);
+    sizes[17] = c.len_utf8() as u8;
+    for part in 0..15 {
+        sizes[part + 1] = bytes[column_of(part)].min(1);
+    }
+    sizes
+}
+
+/// Returns the number of bytes of a character in each lane: 1 in all of them if it is ASCII that is
+/// the same in JIS X 0201.
+fn sizes_of(c: char) -> [u8; 19]
+    ensures { (lane : ℕ) → lane < 19 → IsSize lane c (get_or result lane 0) }
+{
+    if let Some(_) = common_byte(c) {
+        return [1; 19];
+    }
+    if c >= '\u{80}' {
+        return sizes_beyond_ascii(c);
+    }
+    let mut sizes = [0; 19];
+    for lane in 0..19 {
+        sizes[lane] = size_in(c, lane);
+    }
+    sizes
+}
+
 /// Returns what is so of a character.
 pub fn facts_of(c: char) -> Facts
     ensures { AreFacts c result }
 {
-    let mut sizes = [0; 16];
-    for lane in 0..16 {
-        sizes[lane] = size_in(c, lane);
-    }
     Facts {
         digit: '0' <= c && c <= '9',
         alphanumeric: is_sign(c),
         pair: is_pair(c),
-        sizes,
+        sizes: sizes_of(c),
     }
 }
 
@@ -114,4 +152,16 @@ fn is_pair(c: char) -> bool
         Some(_) => true,
         None => false,
     }
+}
+
+/// Returns whether a character of a text is a pair of the Kanji mode.
+pub fn has_pair(all: &[Facts]) -> bool
+    ensures { result ≡ false → All (λ facts. facts.pair ≡ false) all.now }
+{
+    for facts in all {
+        if facts.pair {
+            return true;
+        }
+    }
+    false
 }

@@ -4,6 +4,7 @@
 #![tactic(auto)]
 
 mod facts;
+mod keep;
 mod lanes;
 mod least;
 mod plan;

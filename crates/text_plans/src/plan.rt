@@ -11,7 +11,7 @@ use std::marker::Model;
 /// A part of a plan.
 #[derive(Clone, Copy, Debug, PartialEq, Eq)]
 pub enum PlanPart {
-    /// An ECI designator: 3 to 7, 9, 11, 12, 15 to 18, 20 or 26.
+    /// An ECI designator: 3 to 13, 15 to 18, 20 or 26.
     Designator(u32),
     /// A segment in a mode: the bytes of the plan from `begin` up to, not including, `end`. In the
     /// Kanji mode each character is two bytes of Shift JIS.
@@ -83,18 +83,19 @@ impl Model for Draft {
 }
 
 impl Draft {
-    /// Returns a plan with no part.
-    pub fn new(alloc: Global) -> Self
-        ensures parts { result.parts ≡ [] }
-        ensures mode { result.mode ≡ None }
-        ensures bytes { result.bytes ≡ [] }
+    /// Returns a plan with no part, and room for a number of bytes.
+    pub fn with_capacity(alloc: Global, bytes: usize) -> Result<Self, AllocError>
+        ensures parts { IfOk result (λ draft. draft.parts ≡ []) }
+        ensures mode { IfOk result (λ draft. draft.mode ≡ None) }
+        ensures bytes { IfOk result (λ draft. draft.bytes ≡ []) }
     {
-        Draft {
-            bytes: Vec::new(alloc),
+        let bytes = Vec::with_capacity(alloc, bytes)?;
+        Ok(Draft {
+            bytes,
             parts: Vec::new(alloc),
             mode: None,
             begin: 0,
-        }
+        })
     }
 
     /// Returns the mode of the open segment, if there is one.

@@ -33,10 +33,15 @@ pub struct Rules {
     pub kanji: u32,
     /// The weight of an ECI designator.
     pub designator: u32,
-    /// The lane in which a text begins: 0, or 15 if the symbol may have Kanji segments.
+    /// The lane in which a text begins: 0, or 18 if the symbol may have Kanji segments.
     pub start: usize,
-    /// The only lane in which a segment may be in the Kanji mode, 16 if there is none.
+    /// The only lane in which a segment may be in the Kanji mode, 19 if there is none.
     pub kanji_lane: usize,
+    /// The lanes that are looked at.
+    pub kept: [bool; 19],
+    /// Those of them that have designators, in their order, and how many they are.
+    pub lanes: [u8; 17],
+    pub count: usize,
 }
 
 /// Returns whether a version has a mode.
@@ -91,13 +96,13 @@ fn lanes_of(way: Way) -> (usize, usize)
     ensures { AreLanes (plain_of way) (mixed_of way) result.0 result.1 }
 {
     match way {
-        Way::Plain => (15, 15),
-        Way::Unmixed => (0, 16),
-        Way::Mixed => (15, 13),
+        Way::Plain => (18, 18),
+        Way::Unmixed => (0, 19),
+        Way::Mixed => (18, 16),
     }
 }
 
-/// Returns the rules of a version for a way.
+/// Returns the rules of a version for a way, that keep no lanes yet.
 pub fn rules_of(version: Version, way: Way) -> Rules
     requires { HasMicroNumber version }
     ensures version { result.version ≡ version }
@@ -115,5 +120,8 @@ pub fn rules_of(version: Version, way: Way) -> Rules
         designator: designator_weight(version, way),
         start,
         kanji_lane,
+        kept: [false; 19],
+        lanes: [0; 17],
+        count: 0,
     }
 }

@@ -5,7 +5,8 @@ ghost use Rattle.text_plans.specs.Lanes.{AreFacts, AreAllFacts};
 ghost use Rattle.text_plans.specs.Plan.{plan_parts};
 ghost use Rattle.text_plans.specs.Ways.{AreRulesOf};
 ghost use Rattle.text_plans.specs.Tables.{AreRowsOf, IsPlanOf, first_weight};
-ghost use Rattle.text_plans.specs.Search.{go_on, can_write, lane_before, no_rest, switch_least};
+ghost use Rattle.text_plans.specs.Keeping.{KeepsEnough, switch_kept};
+ghost use Rattle.text_plans.specs.Search.{go_on, can_write, lane_before, no_rest};
 ghost use Rattle.text_plans.specs.Choices.{choice_weight, open_value, open_weight};
 ghost use Rattle.text_plans.specs.Choices.{CanBe, IsCharStep, Makes, lane_after, step_value};
 
@@ -29,7 +30,7 @@ pub enum Choice {
 
 /// Returns the weight of a character that goes on with a segment of a mode and a number of bytes.
 fn going_on(rules: &Rules, facts: &Facts, lane: usize, rest: &Rest, mode: Mode, count: usize) -> u32
-    requires { lane < 16 }
+    requires { lane < 19 }
     ensures { result ≡ go_on rules.now facts.now lane rest.now mode count }
 {
     let size = facts.sizes[lane];
@@ -51,8 +52,8 @@ fn going_on(rules: &Rules, facts: &Facts, lane: usize, rest: &Rest, mode: Mode, 
     }
 }
 
-/// Returns the weight of a character that goes on with the open segment, the limit if there is
-/// none.
+/// Returns the weight of a character that goes on with the open segment, the limit if there
+/// is none.
 fn opened_weight(
     rules: &Rules,
     facts: &Facts,
@@ -61,7 +62,7 @@ fn opened_weight(
     opened: Option<Mode>,
     count: usize,
 ) -> u32
-    requires { lane < 16 }
+    requires { lane < 19 }
     ensures { result ≡ open_weight rules.now facts.now lane rest.now opened count }
 {
     match opened {
@@ -70,9 +71,33 @@ fn opened_weight(
     }
 }
 
+/// Returns the least weight of what follows, by the segment that is open.
+fn open_value(rest: &Rest, opened: Option<Mode>, count: usize) -> u32
+    ensures { result ≡ open_value rest.now opened count }
+{
+    match opened {
+        None => rest.fresh,
+        Some(Mode::Numeric) => match count % 3 {
+            0 => rest.digits0,
+            1 => rest.digits1,
+            _ => rest.digits2,
+        },
+        Some(Mode::Alphanumeric) => {
+            if count % 2 == 0 {
+                rest.signs0
+            } else {
+                rest.signs1
+            }
+        }
+        Some(Mode::Byte) => rest.byte,
+        Some(Mode::Kanji) => rest.kanji,
+    }
+}
+
 /// Returns how a character is written, by what follows it in each lane, in a lane in which a
-/// segment of a mode and a number of bytes may be open.
-#[tactic(auto, using(crate::proofs::Choosing::value_is, crate::proofs::Choosing::go_possible, crate::proofs::Choosing::begin_possible))]
+/// segment of a mode and a number of bytes may be open; `value` is the least weight of what follows
+/// from the character on.
+#[tactic(auto, using(crate::proofs::Choosing::value_is, crate::proofs::Choosing::go_possible))]
 fn choice_of(
     rules: &Rules,
     facts: &Facts,
@@ -80,29 +105,28 @@ fn choice_of(
     lane: usize,
     opened: Option<Mode>,
     count: usize,
+    value: u32,
 ) -> Choice
-    requires lane { lane < 16 }
-    requires row { length row.now ≡ 16 }
-    ensures right { let before = lane_before rules.now facts.now
-        (switch_least rules.now facts.now row.now 14)
-        lane (get_or row.now lane no_rest) in
-        open_value before opened count < LIMIT →
-        choice_weight rules.now facts.now row.now lane opened count result
-        ≡ open_value before opened count }
+    requires lane { lane < 19 }
+    requires row { length row.now ≡ 19 }
+    requires value { value ≡ open_value (lane_before rules.now facts.now
+        (switch_kept rules.now facts.now row.now 17)
+        lane (get_or row.now lane no_rest)) opened count }
+    ensures right { value < LIMIT →
+        choice_weight rules.now facts.now row.now lane opened count result ≡ value }
     ensures possible { choice_weight rules.now facts.now row.now lane opened count result < LIMIT →
         CanBe rules.now facts.now lane opened result }
 {
     let rest = &row[lane];
-    let (begin_weight, begin_mode) = begin(rules, facts, lane, rest);
-    let change = least_switch(rules, facts, row);
-    let onward = opened_weight(rules, facts, lane, rest, opened, count);
-    if onward <= begin_weight && onward <= change.weight {
-        Choice::GoOn
-    } else if begin_weight <= change.weight {
-        Choice::Begin(begin_mode)
-    } else {
-        Choice::Change(change.lane, change.mode)
+    if opened_weight(rules, facts, lane, rest, opened, count) <= value {
+        return Choice::GoOn;
     }
+    let (begin_weight, begin_mode) = begin(rules, facts, lane, rest);
+    if begin_weight <= value {
+        return Choice::Begin(begin_mode);
+    }
+    let change = least_switch(rules, facts, row);
+    Choice::Change(change.lane, change.mode)
 }
 
 /// Writes a character as it was chosen, and returns the lane after it.
@@ -114,7 +138,7 @@ fn write_char(
     lane: usize,
     rules: &Rules,
 ) -> Result<usize, AllocError>
-    requires lane { lane < 16 }
+    requires lane { lane < 19 }
     requires known { AreFacts c facts.now }
     requires possible { CanBe rules.now facts.now lane draft.old.mode choice }
     requires sound { draft.old.mode ≡ None → draft.old.bytes ≡ [] }
@@ -146,7 +170,8 @@ fn write_char(
     }
 }
 
-/// Writes a character, by what follows it in each lane, and returns the lane after it.
+/// Writes a character, by what follows it in each lane, and returns the lane after it; `value` is
+/// the least weight of what follows from the character on.
 fn write_next(
     draft: &mut Draft,
     rules: &Rules,
@@ -154,16 +179,18 @@ fn write_next(
     row: &[Rest],
     lane: usize,
     c: char,
+    value: u32,
 ) -> Result<usize, AllocError>
-    requires lane { lane < 16 }
-    requires row { length row.now ≡ 16 }
+    requires lane { lane < 19 }
+    requires row { length row.now ≡ 19 }
     requires known { AreFacts c facts.now }
     requires sound { draft.old.mode ≡ None → draft.old.bytes ≡ [] }
-    requires small { step_value rules.now facts.now row.now lane draft.old < LIMIT }
+    requires value { value ≡ step_value rules.now facts.now row.now lane draft.old }
+    requires small { value < LIMIT }
     ensures { IfOk result (λ after.
         IsCharStep rules.now facts.now row.now lane c draft.old draft.new after) }
 {
-    let choice = choice_of(rules, facts, row, lane, draft.mode(), draft.count());
+    let choice = choice_of(rules, facts, row, lane, draft.mode(), draft.count(), value);
     let after = write_char(draft, choice, c, facts, lane, rules)?;
     Ok(after)
 }
@@ -174,20 +201,22 @@ pub fn plan_of(
     rules: &Rules,
     chars: &[char],
     all: &[Facts],
-    rows: &[[Rest; 16]],
+    rows: &[[Rest; 19]],
 ) -> Result<TextPlan, AllocError>
     requires known { AreAllFacts chars.now all.now }
     requires rules { AreRulesOf rules.now }
+    requires enough { KeepsEnough rules.now all.now }
     requires rows { AreRowsOf rules.now all.now rows.now }
     requires small { first_weight rules.now all.now < LIMIT }
     ensures { IfOk result (λ plan. IsPlanOf rules.now chars.now
         (first_weight rules.now all.now) (plan_parts plan)) }
 {
-    let mut draft = Draft::new(alloc);
+    let mut draft = Draft::with_capacity(alloc, chars.len())?;
     let mut lane = rules.start;
     for k in 0..all.len() {
+        let value = open_value(&rows[all.len() - k][lane], draft.mode(), draft.count());
         let row = &rows[all.len() - 1 - k];
-        lane = write_next(&mut draft, rules, &all[k], row, lane, chars[k])?;
+        lane = write_next(&mut draft, rules, &all[k], row, lane, chars[k], value)?;
     }
     draft.close()?;
     Ok(draft.finish())

@@ -4,7 +4,7 @@ use Rattle.std.specs.Prelude.{Option, None, Some, if◌then◌else◌}
 use Rattle.std.proofs.lemmas.Bool.{cond-true}
 use Rattle.std.proofs.lemmas.Grind.{common_steps}
 use Rattle.jisx0208.specs.Characters.{character_of}
-use Rattle.jisx0208.specs.Characters.{kanji_number as jis_number, is_kanji_pair as is_jis_pair}
+use Rattle.jisx0208.specs.Characters.{pair_number as jis_number, is_shift_jis_pair as is_jis_pair}
 use Rattle.qrcode_base.specs.Characters.{is_kanji_pair, kanji_number}
 use Rattle.text_reading.specs.Reading.{pair_character}
 

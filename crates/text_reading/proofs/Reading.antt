@@ -5,14 +5,14 @@ use Rattle.std.specs.Str.{is_utf8, all_scalars}
 use Rattle.std.proofs.lemmas.Str.{chars-encodes, is_utf8-from_IsUtf8}
 use Rattle.std.proofs.lemmas.Bool.{cond-true}
 use Rattle.std.proofs.lemmas.List.{append-nil}
-use Rattle.text_reading.specs.Reading.{joined, has_kanji, is_plain, read_bytes, read_parts, read_segment}
+use Rattle.text_reading.specs.Reading.{joined, has_kanji, has_no_designator, read_bytes, read_parts, read_segment}
 use Rattle.text_reading.specs.Reading.{each_of, read_kanji, read_shift_jis}
-use Rattle.text_reading.specs.Reading.{HaveOneText, EachTextIsRead, ReadsExamples}
+use Rattle.text_reading.specs.Reading.{DataHaveOneText, EachTextIsRead, ReadsExamples}
 use Rattle.text_reading.specs.Bytes.{character_of_byte, part_character}
 use Rattle.jisx0208.specs.Characters.{character_of, character_in}
 use Rattle.qrcode_base.specs.Characters.{is_alphanumeric, kanji_number}
 
-pub one_text : HaveOneText
+pub one_text : DataHaveOneText
 one_text parts first second h k = let e : Some first ≡ Some second = sym h ∙ k in cc
 
 -- UTF-8 after its designator.
@@ -24,7 +24,7 @@ utf8_read text good =
     ∙ ap (λ (t : List ℕ). Some t) (chars-encodes text good)
 
 pub each_text : EachTextIsRead
-unfolding read_parts is_plain has_kanji read_segment
+unfolding read_parts has_no_designator has_kanji read_segment
 each_text text good =
     ap (λ (t : Option (List ℕ)). joined t (Some [])) (utf8_read text good) ∙ ap (λ (t : List ℕ). Some t) (append-nil text)
 
@@ -32,7 +32,7 @@ no_text : (text : List ℕ) → None ≡ Some text → ⊥
 no_text text h = cc
 
 pub examples : ReadsExamples
-unfolding read_parts is_plain has_kanji read_segment read_bytes read_kanji read_shift_jis each_of character_of character_in is_alphanumeric kanji_number character_of_byte part_character
+unfolding read_parts has_no_designator has_kanji read_segment read_bytes read_kanji read_shift_jis each_of character_of character_in is_alphanumeric kanji_number character_of_byte part_character
 examples = record {
   plain = refl;
   kanji = refl;

@@ -12,7 +12,7 @@ use Rattle.text_reading.specs.declared.codes.TheConstants.{CODES}
 use Rattle.text_reading.specs.declared.parts.TheConstants.{PARTS}
 use Rattle.text_reading.specs.declared.places.TheConstants.{PLACES}
 use Rattle.text_reading.specs.Bytes.{ascii_character, character_of_byte, common_character, is_part, part_character, shift_jis_character, HaveOneByte}
-use Rattle.text_reading.specs.Search.{byte_in, candidate_of}
+use Rattle.text_reading.specs.Search.{byte_in, byte_candidate_of}
 
 -- ---- The table, computed
 
@@ -20,7 +20,7 @@ use Rattle.text_reading.specs.Search.{byte_in, candidate_of}
 unfoldable is_found : List (List ℕ) → List (List ℕ) → ℕ → ℕ → Bool
 is_found places codes n c =
     let place = 16 * (deep places (c / 16) + c % 16) + n / 96 in
-    nat_le 0x80 c && (nat_lt c 9216 && (nat_lt place 6912 && (deep codes place == 0xa0 + n % 96)))
+    nat_le 0x80 c && (nat_lt c 9216 && (nat_lt place 9472 && (deep codes place == 0xa0 + n % 96)))
 
 -- So has each character in a part of the table that begins at `n`.
 unfoldable all_found : List (List ℕ) → List (List ℕ) → ℕ → List ℕ → Bool
@@ -28,7 +28,7 @@ all_found places codes n [] = true
 all_found places codes n (c ∷ cs) =
     cond (c == 0x20) true (is_found places codes n c) && all_found places codes (suc n) cs
 
-table_found : all_found (tails 9 PLACES) (tails 108 CODES) 0 PARTS ≡ true
+table_found : all_found (tails 9 PLACES) (tails 148 CODES) 0 PARTS ≡ true
 unfolding all_found is_found tails
 table_found = refl
 
@@ -54,41 +54,42 @@ record Found (n c : ℕ) : Type 0 where
   beyond : 0x80 ≤ c
   byte : get_or CODES (16 * (get_or PLACES (c / 16) 0 + c % 16) + n / 96) 0 ≡ 0xa0 + n % 96
 
-by_places : (places codes : List ℕ) (n c : ℕ) → is_found (tails 9 places) (tails 108 codes) n c ≡ true →
-    (0x80 ≤ c) × (get_or codes (16 * (get_or places (c / 16) 0 + c % 16) + n / 96) 0 ≡ 0xa0 + n % 96)
+by_places : (places codes : List ℕ) (n c : ℕ) → is_found (tails 9 places) (tails 148 codes) n c ≡ true →
+    (0x80 ≤ c) × (c < 9216) × (get_or codes (16 * (get_or places (c / 16) 0 + c % 16) + n / 96) 0 ≡ 0xa0 + n % 96)
 unfolding is_found
 by_places places codes n c h =
     let place = 16 * (deep (tails 9 places) (c / 16) + c % 16) + n / 96 in
-    let is = deep (tails 108 codes) place == 0xa0 + n % 96 in
-    let whole = and_parts (nat_le 0x80 c) (nat_lt c 9216 && (nat_lt place 6912 && is)) h in
-    let rest = and_parts (nat_lt c 9216) (nat_lt place 6912 && is) whole.1 in
-    let last = and_parts (nat_lt place 6912) is rest.1 in
+    let is = deep (tails 148 codes) place == 0xa0 + n % 96 in
+    let whole = and_parts (nat_le 0x80 c) (nat_lt c 9216 && (nat_lt place 9472 && is)) h in
+    let rest = and_parts (nat_lt c 9216) (nat_lt place 9472 && is) whole.1 in
+    let last = and_parts (nat_lt place 9472) is rest.1 in
     let low : c < 9216 = ltb-true c 9216 rest.0 in
     let first : deep (tails 9 places) (c / 16) ≡ get_or places (c / 16) 0 = deep_is 9 (c / 16) places (omega arith) in
-    let within : place < 6912 = ltb-true place 6912 last.0 in (
+    let within : place < 9472 = ltb-true place 9472 last.0 in (
       leb-true 0x80 c whole.0,
+      low,
       ap (λ k. get_or codes (16 * (k + c % 16) + n / 96) 0) (sym first)
-          ∙ sym (deep_is 108 place codes (omega arith)) ∙ eqb-true (deep (tails 108 codes) place) (0xa0 + n % 96) last.1,
+          ∙ sym (deep_is 148 place codes (omega arith)) ∙ eqb-true (deep (tails 148 codes) place) (0xa0 + n % 96) last.1,
     )
 
-found : (n c : ℕ) → character_in PARTS n ≡ Some c →
-    (0x80 ≤ c) × (get_or CODES (16 * (get_or PLACES (c / 16) 0 + c % 16) + n / 96) 0 ≡ 0xa0 + n % 96)
+pub found : (n c : ℕ) → character_in PARTS n ≡ Some c →
+    (0x80 ≤ c) × (c < 9216) × (get_or CODES (16 * (get_or PLACES (c / 16) 0 + c % 16) + n / 96) 0 ≡ 0xa0 + n % 96)
 found n c h =
     let at = at_number PARTS n c h in
     let e : 0 + n ≡ n = omega arith in
-    by_places PLACES CODES n c (subst (λ m. is_found (tails 9 PLACES) (tails 108 CODES) m c ≡ true) e
-    (stands (tails 9 PLACES) (tails 108 CODES) 0 PARTS n c table_found at.0 at.1))
+    by_places PLACES CODES n c (subst (λ m. is_found (tails 9 PLACES) (tails 148 CODES) m c ≡ true) e
+    (stands (tails 9 PLACES) (tails 148 CODES) 0 PARTS n c table_found at.0 at.1))
 
 -- ---- The byte of a character
 
 -- A character is looked up: ASCII is itself, and others have their byte.
-abbrev LooksUp : ℕ → ℕ → ℕ → Type 0
+abbrev pub LooksUp : ℕ → ℕ → ℕ → Type 0
 LooksUp looked byte c = ((c ≡ byte) × (c < 0x80)) ⊎ ((0x80 ≤ c) × (looked ≡ byte))
 
-ascii_is : (byte c : ℕ) → ascii_character byte ≡ Some c → (c ≡ byte) × (c < 0x80)
+pub ascii_is : (byte c : ℕ) → ascii_character byte ≡ Some c → (c ≡ byte) × (c < 0x80)
 ascii_is byte c h = grind (arith, common_steps)
 
-if_is : (b : Bool) (x y : Option ℕ) (c : ℕ) → (if b then x else y) ≡ Some c → ((b ≡ true) × (x ≡ Some c)) ⊎ ((b ≡ false) × (y ≡ Some c))
+pub if_is : (b : Bool) (x y : Option ℕ) (c : ℕ) → (if b then x else y) ≡ Some c → ((b ≡ true) × (x ≡ Some c)) ⊎ ((b ≡ false) × (y ≡ Some c))
 if_is true x y c h = inl (refl, h)
 if_is false x y c h = inr (refl, h)
 
@@ -99,9 +100,9 @@ in_part designator byte c low high h =
     let f = found n c h in
     let row : n / 96 ≡ designator - 3 = omega (arith, low, high) in
     let at : 0xa0 + n % 96 ≡ byte = omega (arith, low, high) in
-    (f.0, ap (λ k. get_or CODES (16 * (get_or PLACES (c / 16) 0 + c % 16) + k) 0) (sym row) ∙ f.1 ∙ at)
+    (f.0, ap (λ k. get_or CODES (16 * (get_or PLACES (c / 16) 0 + c % 16) + k) 0) (sym row) ∙ f.2 ∙ at)
 
-part_is : (designator byte c : ℕ) → part_character designator byte ≡ Some c → LooksUp (byte_in PLACES CODES designator c) byte c
+pub part_is : (designator byte c : ℕ) → part_character designator byte ≡ Some c → LooksUp (byte_in PLACES CODES designator c) byte c
 unfolding part_character
 part_is designator byte c h =
     elim (if_is (is_between 0xa0 0xff byte) (character_in PARTS (96 * (designator - 3) + (byte - 0xa0))) (ascii_character byte) c h) [
@@ -127,29 +128,29 @@ kana_is byte c h =
           ]
     ]
 
-low_candidate : (designator c : ℕ) → c < 0x80 → candidate_of (Some designator) c ≡ c
-unfolding candidate_of
+low_candidate : (designator c : ℕ) → c < 0x80 → byte_candidate_of (Some designator) c ≡ c
+unfolding byte_candidate_of
 low_candidate designator c h = cond-true (nat_lt c 0x80) c _ (lt-ltb c 0x80 h)
 
-kana_candidate : (designator c : ℕ) → 0x80 ≤ c → (designator == 20) ≡ true → candidate_of (Some designator) c ≡ (c - 0xfec0) % 256
-unfolding candidate_of
+kana_candidate : (designator c : ℕ) → 0x80 ≤ c → (designator == 20) ≡ true → byte_candidate_of (Some designator) c ≡ (c - 0xfec0) % 256
+unfolding byte_candidate_of
 kana_candidate designator c h e =
     cond-false (nat_lt c 0x80) c _ (le-ltb c 0x80 h) ∙ cond-true (designator == 20) ((c - 0xfec0) % 256) _ e
 
-part_candidate : (designator c : ℕ) → 0x80 ≤ c → (designator == 20) ≡ false → candidate_of (Some designator) c ≡ byte_in PLACES CODES designator c
-unfolding candidate_of
+part_candidate : (designator c : ℕ) → 0x80 ≤ c → (designator == 20) ≡ false → byte_candidate_of (Some designator) c ≡ byte_in PLACES CODES designator c
+unfolding byte_candidate_of
 part_candidate designator c h e =
     cond-false (nat_lt c 0x80) c _ (le-ltb c 0x80 h) ∙ cond-false (designator == 20) ((c - 0xfec0) % 256) _ e
 
-plain_candidate : (byte c : ℕ) → c ≡ byte → c < 0x80 → candidate_of None c ≡ byte
-unfolding candidate_of
+plain_candidate : (byte c : ℕ) → c ≡ byte → c < 0x80 → byte_candidate_of None c ≡ byte
+unfolding byte_candidate_of
 plain_candidate byte c e h = omega arith
 
 -- A part has not the designator of Shift JIS.
 no_part : (designator : ℕ) → is_part designator ≡ true → (designator == 20) ≡ false
 no_part designator h = grind (arith, common_steps)
 
-pub is_candidate : (designator : Option ℕ) (byte c : ℕ) → character_of_byte designator byte ≡ Some c → candidate_of designator c ≡ byte
+pub is_candidate : (designator : Option ℕ) (byte c : ℕ) → character_of_byte designator byte ≡ Some c → byte_candidate_of designator c ≡ byte
 unfolding character_of_byte
 is_candidate None byte c h = let a = ascii_is byte c h in plain_candidate byte c a.0 a.1
 is_candidate (Some designator) byte c h =

@@ -1,5 +1,5 @@
 -- What bytes mean as characters, by the ECI designator that is in force (AIM ECI assignments).
-use Rattle.std.specs.Prelude.{◌≡◌, ℕ, ◌+◌, ◌-◌, ◌*◌, Bool, ◌==◌, ◌||◌, nat_lt, Option, None, Some}
+use Rattle.std.specs.Prelude.{◌≡◌, ◌≢◌, ℕ, ◌+◌, ◌-◌, ◌*◌, Bool, ◌==◌, ◌||◌, nat_lt, Option, None, Some}
 use Rattle.std.specs.Prelude.{if◌then◌else◌}
 use Rattle.qrcode_base.specs.Characters.{is_between}
 use Rattle.jisx0208.specs.Characters.{character_in}
@@ -11,11 +11,9 @@ use Rattle.text_reading.specs.declared.parts.TheConstants.{PARTS}
 abbrev pub ascii_character : ℕ → Option ℕ
 ascii_character byte = if nat_lt byte 0x80 then Some byte else None
 
--- A designator of a part of ISO/IEC 8859: of the parts 1 to 5, 7, 9, 10 and 13 to 16.
+-- A designator of a part of ISO/IEC 8859: of the parts 1 to 11 and 13 to 16.
 abbrev pub is_part : ℕ → Bool
-is_part designator =
-    is_between 3 7 designator || (designator == 9) || is_between 11 12 designator ||
-    is_between 15 18 designator
+is_part designator = is_between 3 13 designator || is_between 15 18 designator
 
 -- The character of a byte in a part of ISO/IEC 8859: ASCII, and 96 characters from A0 by the table.
 unfoldable pub part_character : ℕ → ℕ → Option ℕ
@@ -24,8 +22,14 @@ part_character designator byte =
     then character_in PARTS (96 * (designator - 3) + (byte - 0xa0))
     else ascii_character byte
 
--- The character of a byte in ASCII and in JIS X 0201, where two bytes are a yen sign and an
--- overline.
+-- A byte is that of a character in the part of a designator, or 0 if the character has none there.
+pub record IsPartByte (designator c byte : ℕ) : Type 0 where
+  pub right : byte ≢ 0 → part_character designator byte ≡ Some c
+  pub found : (other : ℕ) → part_character designator other ≡ Some c →
+      (byte ≡ other) × (other ≢ 0)
+
+-- The character of a byte in ASCII and in JIS X 0201, where two bytes are a yen sign and
+-- an overline.
 abbrev pub common_character : ℕ → Option ℕ
 common_character byte =
     if (byte == 0x5c) || (byte == 0x7e) then None else ascii_character byte

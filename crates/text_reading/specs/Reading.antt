@@ -75,8 +75,8 @@ digit_character byte = if is_between 48 57 byte then Some byte else None
 abbrev pub alphanumeric_character : ℕ → Option ℕ
 alphanumeric_character byte = if is_alphanumeric byte then Some byte else None
 
--- A segment, where `plain` says that the symbol has no designator, and `mixed` that it has a Kanji
--- segment.
+-- A segment, where `plain` says that the symbol has no designator, and `mixed` that it has a
+-- Kanji segment.
 unfoldable pub read_segment : Bool → Bool → Option ℕ → Mode → List ℕ → Option (List ℕ)
 read_segment plain mixed force Numeric bytes = each_of digit_character bytes
 read_segment plain mixed force Alphanumeric bytes = each_of alphanumeric_character bytes
@@ -104,10 +104,10 @@ read_parts plain mixed force (segment mode bytes ∷ parts) =
     joined (read_segment plain mixed force mode bytes) (read_parts plain mixed force parts)
 
 -- No part is a designator.
-unfoldable pub is_plain : List Part → Bool
-is_plain [] = true
-is_plain (designator number ∷ parts) = false
-is_plain (segment mode bytes ∷ parts) = is_plain parts
+unfoldable pub has_no_designator : List Part → Bool
+has_no_designator [] = true
+has_no_designator (designator number ∷ parts) = false
+has_no_designator (segment mode bytes ∷ parts) = has_no_designator parts
 
 -- A part is a Kanji segment.
 unfoldable pub has_kanji : List Part → Bool
@@ -117,11 +117,12 @@ has_kanji (part ∷ parts) = has_kanji parts
 
 -- The data of a symbol are read as this text.
 abbrev pub IsReadAs : List Part → List ℕ → Type 0
-IsReadAs parts text = read_parts (is_plain parts) (has_kanji parts) None parts ≡ Some text
+IsReadAs parts text = read_parts (has_no_designator parts) (has_kanji parts) None parts ≡ Some text
 
--- Examples: each mode without a designator; the two of the standard in the Kanji mode; bytes by the
--- designators of parts 7 and 5 of ISO/IEC 8859 and of Shift JIS; and what is not read: a Kanji
--- segment after another designator than that of Shift JIS, and a byte that is not ASCII without one.
+-- Examples: each mode without a designator; the two of the standard in the Kanji mode; bytes by
+-- the designators of parts 7 and 5 of ISO/IEC 8859 and of Shift JIS; and what is not read: a
+-- Kanji segment after another designator than that of Shift JIS, and a byte that is not ASCII
+-- without one.
 pub record ReadsExamples : Type 0 where
   pub plain : IsReadAs
       (segment Numeric (codes "12") ∷ segment Alphanumeric (codes "A:") ∷ segment Byte (codes "a~")
@@ -140,8 +141,8 @@ pub record ReadsExamples : Type 0 where
   pub no_latin : (text : List ℕ) → IsReadAs (segment Byte (0xe9 ∷ []) ∷ []) text → ⊥
 
 -- No data are read as two texts.
-abbrev pub HaveOneText : Type 0
-HaveOneText =
+abbrev pub DataHaveOneText : Type 0
+DataHaveOneText =
     (parts : List Part) (first second : List ℕ) → IsReadAs parts first → IsReadAs parts second →
     first ≡ second
 

@@ -11,8 +11,8 @@ byte_in places codes designator c =
     get_or codes (16 * (get_or places (c / 16) 0 + c % 16) + (designator - 3)) 0
 
 -- The only byte that a code point may have by the designator in force.
-unfoldable pub candidate_of : Option ℕ → ℕ → ℕ
-candidate_of None c = c % 256
-candidate_of (Some designator) c =
+unfoldable pub byte_candidate_of : Option ℕ → ℕ → ℕ
+byte_candidate_of None c = c % 256
+byte_candidate_of (Some designator) c =
     if nat_lt c 0x80 then c
     else (if designator == 20 then (c - 0xfec0) % 256 else byte_in PLACES CODES designator c)

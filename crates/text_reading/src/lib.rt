@@ -2,13 +2,14 @@
 //! read as (ISO/IEC 18004:2006, "Extended Channel Interpretation (ECI) mode").
 #![tactic(auto)]
 
-ghost use Rattle.std.specs.Prelude.{◌≡◌, ◌<◌, ℕ, IfSome, Some, true};
+ghost use Rattle.std.specs.Prelude.{◌≡◌, ◌<◌, ◌≤◌, ◌+◌, ℕ, IfSome, Some, get_or, true};
 ghost use Rattle.jisx0208.specs.Characters.{character_in};
 ghost use Rattle.text_reading.specs.Bytes.{ascii_character, character_of_byte, is_part};
-ghost use Rattle.text_reading.specs.Bytes.{part_character, shift_jis_character, HaveOneByte};
-ghost use Rattle.text_reading.specs.Reading.{pair_character, EachTextIsRead, HaveOneText};
+ghost use Rattle.text_reading.specs.Bytes.{part_character, shift_jis_character};
+ghost use Rattle.text_reading.specs.Bytes.{HaveOneByte, IsPartByte};
+ghost use Rattle.text_reading.specs.Reading.{pair_character, EachTextIsRead, DataHaveOneText};
 ghost use Rattle.text_reading.specs.Reading.{ReadsExamples};
-ghost use Rattle.text_reading.specs.Search.{byte_in, candidate_of};
+ghost use Rattle.text_reading.specs.Search.{byte_in, byte_candidate_of};
 
 mod codes;
 mod parts;
@@ -21,11 +22,11 @@ use jisx0208::{kanji_of, shift_jis_of};
 use parts::PARTS;
 use places::PLACES;
 
-/// Returns whether a designator names a part of ISO/IEC 8859: 3 to 7, 9, 11, 12 and 15 to 18.
+/// Returns whether a designator names a part of ISO/IEC 8859: 3 to 13 and 15 to 18.
 pub fn is_part(designator: u32) -> bool
     ensures { result ≡ is_part designator }
 {
-    matches!(designator, 3..=7 | 9 | 11..=12 | 15..=18)
+    matches!(designator, 3..=13 | 15..=18)
 }
 
 /// Returns the character of a single byte by the designator in force, if the byte has one.
@@ -57,6 +58,42 @@ pub fn byte_of(c: char, designator: Option<u32>) -> Option<u8>
     }
 }
 
+/// Returns the bytes of a character by the designators from 3 to 18, that of designator 3 first:
+/// its byte in a part of ISO/IEC 8859, or 0 if it has none there; the character is not ASCII.
+pub fn part_bytes(c: char) -> [u8; 16]
+    requires { 0x80 ≤ c }
+    ensures { (column : ℕ) → column < 16 →
+        IsPartByte (column + 3) c (get_or result column 0) }
+{
+    if c >= '\u{2400}' {
+        return [0; 16];
+    }
+    let mut bytes = [0; 16];
+    for column in 0..16 {
+        bytes[column] = part_byte(c, column as u32 + 3);
+    }
+    bytes
+}
+
+/// Returns the byte of a character in a part of ISO/IEC 8859, or 0 if it has none there.
+fn part_byte(c: char, designator: u32) -> u8
+    requires beyond { 0x80 ≤ c }
+    requires from { 3 ≤ designator }
+    requires to { designator ≤ 18 }
+    ensures { IsPartByte designator c result }
+{
+    let byte = byte_in(&PLACES, &CODES, c as u32, designator);
+    if byte < 0xa0 {
+        return 0;
+    }
+    let column = (designator - 3) as usize;
+    if char_in(&PARTS, 96 * column + usize::from(byte - 0xa0)) == Some(c) {
+        byte
+    } else {
+        0
+    }
+}
+
 /// Returns the two bytes in Shift JIS that are a character in the Kanji mode, if there are any.
 pub fn pair_of(c: char) -> Option<(u8, u8)>
     ensures right { IfSome result (λ pair. pair_character pair.0 pair.1 ≡ Some c) }
@@ -76,7 +113,7 @@ pub fn have_one_byte()
 /// No data of a symbol are read as two texts.
 #[tactic(auto, using(crate::proofs::Reading::one_text))]
 pub fn have_one_text()
-    ensures { HaveOneText }
+    ensures { DataHaveOneText }
 {}
 
 /// Each text can be written: in UTF-8 after its designator.
@@ -139,9 +176,9 @@ fn shift_jis_char(byte: u8) -> Option<char>
 }
 
 /// Returns the only byte that a code point may have by the designator in force.
-#[tactic(auto, unfolding(crate::specs::Search::candidate_of))]
+#[tactic(auto, unfolding(crate::specs::Search::byte_candidate_of))]
 fn candidate(c: u32, designator: Option<u32>) -> u8
-    ensures { result ≡ candidate_of designator c }
+    ensures { result ≡ byte_candidate_of designator c }
 {
     match designator {
         None => (c % 256) as u8,

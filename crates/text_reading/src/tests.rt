@@ -1,8 +1,8 @@
 //! Characters of each part of ISO/IEC 8859, of Shift JIS and of JIS X 0208, and all parts by a sum.
-use crate::{byte_of, char_of_byte, is_part, pair_of};
+use crate::{byte_of, char_of_byte, is_part, pair_of, part_bytes};
 
-/// A designator, a byte and its character: of each part, the parts 1 to 5, 7, 9, 10 and 13 to 16.
-static PARTS: [(u32, u8, char); 26] = [
+/// A designator, a byte and its character: of each part, the parts 1 to 11 and 13 to 16.
+static PARTS: [(u32, u8, char); 32] = [
     (3, 0xa0, '\u{a0}'),
     (3, 0xe9, 'é'),
     (3, 0xff, 'ÿ'),
@@ -15,12 +15,18 @@ static PARTS: [(u32, u8, char); 26] = [
     (7, 0xb6, 'Ж'),
     (7, 0xef, 'я'),
     (7, 0xf0, '№'),
+    (8, 0xc7, 'ا'),
+    (8, 0xe5, 'م'),
     (9, 0xd9, 'Ω'),
     (9, 0xe1, 'α'),
+    (10, 0xe0, 'א'),
+    (10, 0xfa, 'ת'),
     (11, 0xdd, 'İ'),
     (11, 0xf0, 'ğ'),
     (12, 0xf0, 'ð'),
     (12, 0xff, 'ĸ'),
+    (13, 0xa1, 'ก'),
+    (13, 0xf9, '๙'),
     (15, 0xa5, '„'),
     (15, 0xfe, 'ž'),
     (16, 0xb8, 'ẁ'),
@@ -42,13 +48,29 @@ fn has_characters_of_parts(rt: HostRuntime) {
     }
 }
 
-/// Bytes with no character: controls, gaps of the parts 3 and 7, and those of part 7 of which its
-/// editions differ.
-static GAPS: [(u32, u8); 11] = [
+#[test]
+fn has_bytes_in_all_parts(rt: HostRuntime) {
+    for (designator, byte, c) in PARTS {
+        assert!(rt; c >= '\u{80}');
+        let bytes = part_bytes(c);
+        for column in 0..16 {
+            let number = column as u32 + 3;
+            assert!(rt; bytes[column] == byte_of(c, Some(number)).unwrap_or(0));
+            assert!(rt; number != designator || bytes[column] == byte);
+        }
+    }
+    assert!(rt; part_bytes('東') == [0; 16]);
+}
+
+/// Bytes with no character: controls, gaps of the parts 3, 6, 7, 8 and 11, and those of the parts 7
+/// and 8 of which editions differ.
+static GAPS: [(u32, u8); 19] = [
     (3, 0x80),
     (18, 0x9f),
     (5, 0xa5),
     (5, 0xf0),
+    (8, 0xa1),
+    (8, 0xdb),
     (9, 0xa1),
     (9, 0xa2),
     (9, 0xa4),
@@ -56,10 +78,16 @@ static GAPS: [(u32, u8); 11] = [
     (9, 0xaa),
     (9, 0xd2),
     (9, 0xff),
+    (10, 0xa1),
+    (10, 0xaf),
+    (10, 0xfd),
+    (10, 0xfe),
+    (13, 0xdb),
+    (13, 0xff),
 ];
 
 /// Designators of other sets, and numbers that are no designator.
-static OTHERS: [u32; 12] = [0, 2, 8, 10, 13, 14, 19, 21, 25, 27, 899, u32::MAX];
+static OTHERS: [u32; 9] = [0, 2, 14, 19, 21, 25, 27, 899, u32::MAX];
 
 #[test]
 fn has_gaps(rt: HostRuntime) {
@@ -113,9 +141,9 @@ fn has_ascii(rt: HostRuntime) {
 }
 
 /// How many characters all parts have, and a sum over them in their order, by iconv and by Python.
-const COUNT: u32 = 1137;
+const COUNT: u32 = 1333;
 
-const DIGEST: u32 = 2_595_603_634;
+const DIGEST: u32 = 3_004_756_650;
 
 #[test]
 fn has_all_characters(rt: HostRuntime) {

@@ -14,12 +14,12 @@ use Rattle.qrcode_bits.specs.Frame.{front_of}
 use Rattle.qrcode_bits.specs.Plans.{micro, normal, normal_from}
 use Rattle.qrcode_bits.specs.Stream.{Stream}
 use Rattle.qrcode_bits.specs.declared.bits.front.Content.TheVariants.{Text}
-use Rattle.qrcode_core.specs.Drawn.{DrawnSymbol, HoldsStream, IsStreamRefusal}
+use Rattle.qrcode_core.specs.Symbol.{DrawnSymbol, HoldsStream, IsStreamRefusal}
 use Rattle.qrcode_core.specs.Headline.{Reads, reading_of}
 use Rattle.qrcode_core.specs.Options.{HasVersions}
 use Rattle.qrcode_core.specs.declared.options.SymbolOptions.{SymbolOptions}
 use Rattle.qrcode_grid.specs.declared.canvas.MaskPattern.{MaskPattern}
-use Rattle.text_reading.specs.Reading.{Part, has_kanji, is_plain}
+use Rattle.text_reading.specs.Reading.{Part, has_kanji, has_no_designator}
 use Rattle.text_plans.specs.Costs.{AreLeast, AreTextParts, bits_of_parts}
 use Rattle.text_symbols.specs.TextChoices.{HasNoChoice, IsGreatestLevel, IsLevelAsked, IsMicroChoice, IsTextChoice}
 use Rattle.text_symbols.specs.TextFrames.{IsPartSpelled, NoPartsFit, NoVersionFits, PartsFit, part_spellings}
@@ -59,12 +59,12 @@ utf8_no_smaller kind bytes level grid other number bits mask utf8 best reads =
 
 spell : (v : Version) (l : EcLevel) (text : List ℕ) (parts : List Part) → PartsFit v l text parts →
     length (part_spellings v parts) ≡ bits_of_parts v parts
-spell v l text parts fits = length-parts v parts (parts_sound (is_plain parts) (has_kanji parts) None parts text fits.written.read).0
+spell v l text parts fits = length-parts v parts (parts_sound (has_no_designator parts) (has_kanji parts) None parts text fits.written.read).0
 
 -- Parts that fit can be spelled.
 pub fits_spelled : (v : Version) (l : EcLevel) (text : List ℕ) (parts : List Part) → PartsFit v l text parts → All (λ part. IsPartSpelled part v) parts
 fits_spelled v l text parts fits =
-    all_spelled v parts fits.written.had (parts_sound (is_plain parts) (has_kanji parts) None parts text fits.written.read).0
+    all_spelled v parts fits.written.had (parts_sound (has_no_designator parts) (has_kanji parts) None parts text fits.written.read).0
     (counted v l fits.limit parts fits.has_level fits.within)
 
 module _ (v : Version) (l : EcLevel) (text : List ℕ) (parts : List Part) (stream : Stream) (fits : PartsFit v l text parts)

@@ -1,5 +1,5 @@
--- The greatest level at which a version holds the least parts of a text: a greater level holds no
--- more.
+-- The greatest level at which a version holds the least parts of a text: a greater level holds
+-- no more.
 use Rattle.std.proofs.Common.{◌≡◌, ℕ, ◌+◌, ◌<◌, ◌≤◌, List, inl, inr, refl, subst, arith}
 use Rattle.std.proofs.lemmas.Bool.{cases_lt}
 use Rattle.qrcode_base.specs.Symbols.{column_of_level}

@@ -15,7 +15,7 @@ use Rattle.qrcode_base.specs.declared.types.Mode.TheVariants.{Numeric, Alphanume
 use Rattle.qrcode_base.specs.declared.types.Version.TheVariants.{Micro}
 use Rattle.text_reading.specs.Bytes.{ascii_character, common_character}
 use Rattle.text_reading.specs.Reading.{Part, designator, segment, joined, each_of, read_kanji, read_bytes, read_segment, read_parts}
-use Rattle.text_reading.specs.Reading.{alphanumeric_character, digit_character, has_kanji, is_plain, pair_character}
+use Rattle.text_reading.specs.Reading.{alphanumeric_character, digit_character, has_kanji, has_no_designator, pair_character}
 use Rattle.text_plans.specs.Costs.{HasPart}
 use Rattle.text_symbols.specs.MicroTexts.{IsAsciiCharacter, HasMicroParts, IsMixedCharacter}
 use Rattle.text_symbols.proofs.Valid.{joined_says, put_says, if_some, no_one, within}
@@ -122,8 +122,8 @@ ascii_parts (segment Byte bytes ∷ parts) text has none h =
 ascii_parts (segment Kanji bytes ∷ parts) text has none h = absurd (let e : true ≡ false = none in cc)
 
 -- A Micro symbol has no designators.
-plain_parts : (parts : List Part) → All (HasPart (Micro (pos 4))) parts → is_plain parts ≡ true
-unfolding is_plain
+plain_parts : (parts : List Part) → All (HasPart (Micro (pos 4))) parts → has_no_designator parts ≡ true
+unfolding has_no_designator
 plain_parts [] has = refl
 plain_parts (designator number ∷ parts) has = absurd (All-head (HasPart (Micro (pos 4))) (designator number) parts has)
 plain_parts (segment mode bytes ∷ parts) has = plain_parts parts (All-tail (HasPart (Micro (pos 4))) (segment mode bytes) parts has)
@@ -155,7 +155,7 @@ each_ascii (c ∷ text) h =
     ascii_from c h = grind (arith, common_steps)
 
 ascii_micro : (text : List ℕ) → All IsAsciiCharacter text → HasMicroParts text
-unfolding read_parts is_plain has_kanji read_segment read_bytes
+unfolding read_parts has_no_designator has_kanji read_segment read_bytes
 ascii_micro [] h = ([], record { read = refl; had = All-nil (HasPart (Micro (pos 4))) })
 ascii_micro (c ∷ text) h =
     let bytes = c ∷ text in (
@@ -168,13 +168,13 @@ ascii_micro (c ∷ text) h =
 
 -- Parts of single characters, which are read alike with Kanji segments and without.
 record AreSingle (parts : List Part) (text : List ℕ) : Type 0 where
-  plain : is_plain parts ≡ true
+  plain : has_no_designator parts ≡ true
   read : (mixed : Bool) → read_parts true mixed None parts ≡ Some text
   had : All (HasPart (Micro (pos 4))) parts
 
 single_common : (c : ℕ) (text : List ℕ) (parts : List Part) → common_character c ≡ Some c → AreSingle parts text →
     AreSingle (segment Byte (c ∷ []) ∷ parts) (c ∷ text)
-unfolding read_parts is_plain read_segment read_bytes each_of
+unfolding read_parts has_no_designator read_segment read_bytes each_of
 single_common c text parts h s = record {
   plain = s.plain;
   read = read_both;
@@ -190,7 +190,7 @@ single_common c text parts h s = record {
 
 single_pair : (c lead trail : ℕ) (text : List ℕ) (parts : List Part) → pair_character lead trail ≡ Some c → AreSingle parts text →
     AreSingle (segment Kanji (lead ∷ trail ∷ []) ∷ parts) (c ∷ text)
-unfolding read_parts is_plain read_segment read_kanji
+unfolding read_parts has_no_designator read_segment read_kanji
 single_pair c lead trail text parts h s = record {
   plain = s.plain;
   read = λ mixed. rw h (rw (s.read mixed) refl);
@@ -198,7 +198,7 @@ single_pair c lead trail text parts h s = record {
 }
 
 singles : (text : List ℕ) → All IsMixedCharacter text → (parts : List Part) × AreSingle parts text
-unfolding read_parts is_plain
+unfolding read_parts has_no_designator
 singles [] h = ([], record { plain = refl; read = λ mixed. refl; had = All-nil (HasPart (Micro (pos 4))) })
 singles (c ∷ text) h =
     let rest = singles text (All-tail IsMixedCharacter c text h) in

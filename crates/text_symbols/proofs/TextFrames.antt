@@ -1,5 +1,5 @@
--- Text frames: how long they are, which parts fit a version, and that bits are one in at most one
--- way.
+-- Text frames: how long they are, which parts fit a version, and that bits are one in at most
+-- one way.
 use Rattle.std.proofs.Common.{◌≡◌, ◌≢◌, ℕ, ℤ, ◌+◌, ◌-◌, ◌*◌, ◌<◌, ◌≤◌, Bool, List, [], ◌∷◌, ◌++◌, get_or, length, map, min, take}
 use Rattle.std.proofs.Common.{refl, sym, ap, subst, ◌∙◌, arith, append_assoc, length-append}
 use Rattle.std.specs.Prelude.{All, None, Some}
@@ -20,7 +20,7 @@ use Rattle.qrcode_bits.specs.Spelling.{IsSpellable, Piece, piece_of, spelling}
 use Rattle.qrcode_bits.proofs.Numbers.{length-number_bits, number_front, zero_front}
 use Rattle.qrcode_bits.proofs.Reading.{IsNumbered, length-spelling, not_ended, numbered, spelling_front}
 use Rattle.qrcode_bits.proofs.Segments.{length-character_bits}
-use Rattle.text_reading.specs.Reading.{Part, designator, segment, IsReadAs, has_kanji, is_plain}
+use Rattle.text_reading.specs.Reading.{Part, designator, segment, IsReadAs, has_kanji, has_no_designator}
 use Rattle.text_plans.specs.Costs.{HasPart, bits_of_part, bits_of_parts}
 use Rattle.text_symbols.specs.TextFrames.{IsCounted, IsPartSpelled, IsTextFrame, NoPartsFit, PartsFit, part_spelling, part_spellings}
 use Rattle.text_symbols.proofs.Valid.{IsSound, parts_characters, parts_sound}
@@ -96,7 +96,7 @@ parts_headed v header wide (segment mode bytes ∷ parts) some =
 pub frame_fits : {v : Version} {l : EcLevel} {text : List ℕ} {payload : ℕ} {bits : List Bool} → (f : IsTextFrame v l text payload bits) →
     PartsFit v l text f.parts × (payload ≡ bits_of_parts v f.parts)
 frame_fits {v = v} {text = text} f =
-    let sound = (parts_sound (is_plain f.parts) (has_kanji f.parts) None f.parts text f.written.read).0 in
+    let sound = (parts_sound (has_no_designator f.parts) (has_kanji f.parts) None f.parts text f.written.read).0 in
     let long = f.payload_is ∙ length-parts v f.parts sound in
     (record { written = f.written; limit = f.limit; has_level = f.limit_is; within = omega (arith, long, f.fits) }, long)
 
@@ -109,7 +109,7 @@ frame_of v l text parts fits = record {
   limit_is = fits.has_level;
   written = fits.written;
   counted = counted v l fits.limit parts fits.has_level fits.within;
-  payload_is = sym (length-parts v parts (parts_sound (is_plain parts) (has_kanji parts) None parts text fits.written.read).0);
+  payload_is = sym (length-parts v parts (parts_sound (has_no_designator parts) (has_kanji parts) None parts text fits.written.read).0);
   fits = fits.within;
   bits_are = refl;
 }
@@ -196,8 +196,8 @@ pub frame_one_text : (v : Version) (l : EcLevel) (s t : List ℕ) (n m : ℕ) (b
     (g : IsTextFrame v l t m bits) → (f.parts ≡ g.parts) × (s ≡ t) × (n ≡ m)
 frame_one_text v l s t n m bits f g =
     let limits : f.limit ≡ g.limit = same_Some f.limit g.limit (sym f.limit_is ∙ g.limit_is) in
-    let sf = (parts_sound (is_plain f.parts) (has_kanji f.parts) None f.parts s f.written.read).0 in
-    let sg = (parts_sound (is_plain g.parts) (has_kanji g.parts) None g.parts t g.written.read).0 in
+    let sf = (parts_sound (has_no_designator f.parts) (has_kanji f.parts) None f.parts s f.written.read).0 in
+    let sg = (parts_sound (has_no_designator g.parts) (has_kanji g.parts) None g.parts t g.written.read).0 in
     let second = subst (λ (k : ℕ). bits ≡ part_spellings v g.parts ++ tail v k m) (sym limits) g.bits_are in
     let parts = one_spelling v f.limit (numbered v l f.limit f.limit_is) 0 n m f.parts g.parts (all_spelled v f.parts f.written.had sf f.counted)
     (all_spelled v g.parts g.written.had sg g.counted) (omega (arith, f.payload_is)) (omega (arith, g.payload_is)) f.fits

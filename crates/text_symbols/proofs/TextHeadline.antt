@@ -9,7 +9,7 @@ use Rattle.qrcode_base.specs.declared.types.Color.{Color}
 use Rattle.qrcode_base.specs.declared.types.EcLevel.{EcLevel}
 use Rattle.qrcode_base.specs.declared.types.Version.{Version}
 use Rattle.qrcode_bits.specs.Frame.{tail}
-use Rattle.qrcode_core.specs.Drawn.{DrawnSymbol, IsSymbolOfBits}
+use Rattle.qrcode_core.specs.Symbol.{DrawnSymbol, IsSymbolOfBits}
 use Rattle.qrcode_core.proofs.Best.{carries_apart}
 use Rattle.qrcode_core.proofs.OneReading.{one_carried}
 unfoldable use Rattle.qrcode_grid.specs.Blocks.{AreApart}

@@ -26,7 +26,7 @@ use Rattle.qrcode_base.specs.Numbers.{number_bits}
 use Rattle.qrcode_bits.proofs.Numbers.{length-number_bits}
 use Rattle.qrcode_bits.proofs.Reading.{length-spelling}
 use Rattle.qrcode_bits.proofs.Segments.{length-character_bits}
-use Rattle.text_reading.specs.Reading.{Part, designator, segment, alphanumeric_character, digit_character, each_of, has_kanji, is_plain, joined, read_bytes}
+use Rattle.text_reading.specs.Reading.{Part, designator, segment, alphanumeric_character, digit_character, each_of, has_kanji, has_no_designator, joined, read_bytes}
 use Rattle.text_reading.specs.Reading.{read_parts, read_segment}
 use Rattle.text_plans.specs.Costs.{HasPart, bits_of_part, bits_of_parts}
 use Rattle.text_symbols.specs.TextFrames.{PartsFit}
@@ -47,7 +47,8 @@ NoByteFirst (designator number ∷ parts) = Unit {0}
 NoByteFirst (segment Byte bytes ∷ parts) = ⊥
 NoByteFirst (segment mode bytes ∷ parts) = Unit {0}
 
--- Segments, none of them empty or in the Kanji mode, of which no two neighbours are in the Byte mode.
+-- Segments, none of them empty or in the Kanji mode, of which no two neighbours are in the
+-- Byte mode.
 abbrev AreTextSegments : List Part → Type 0
 AreTextSegments [] = Unit {0}
 AreTextSegments (designator number ∷ parts) = ⊥
@@ -264,8 +265,8 @@ module _ (k : ℤ) where
 -- ---- Frames
 
 designator_read : (parts : List Part) → AreTextSegments parts → (bytes : List ℕ) → bytes_of parts ≡ bytes → IsUtf8 bytes →
-    read_parts (is_plain (designator 26 ∷ parts)) (has_kanji (designator 26 ∷ parts)) None (designator 26 ∷ parts) ≡ Some (chars bytes)
-unfolding read_parts is_plain has_kanji
+    read_parts (has_no_designator (designator 26 ∷ parts)) (has_kanji (designator 26 ∷ parts)) None (designator 26 ∷ parts) ≡ Some (chars bytes)
+unfolding read_parts has_no_designator has_kanji
 designator_read parts are bytes same utf8 =
     ap (λ (mixed : Bool). read_parts false mixed (Some 26) parts) (no_kanji parts are)
     ∙ (segments_read parts are (subst IsUtf8 (sym same) utf8) ∙ ap (λ (bs : List ℕ). Some (chars bs)) same)

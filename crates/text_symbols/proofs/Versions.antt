@@ -13,7 +13,7 @@ use Rattle.qrcode_base.specs.declared.types.Mode.TheVariants.{Numeric, Alphanume
 use Rattle.qrcode_bits.specs.Plans.{IsClass, micro, normal, normal_from}
 use Rattle.qrcode_bits.proofs.Reading.{numbered}
 use Rattle.qrcode_base.specs.Symbols.{IsMicroNumber, capacity}
-use Rattle.text_reading.specs.Reading.{Part, designator, segment, has_kanji, is_plain}
+use Rattle.text_reading.specs.Reading.{Part, designator, segment, has_kanji, has_no_designator}
 use Rattle.text_plans.specs.Costs.{AreLeast, AreTextParts, HasPart, bits_of_part, bits_of_parts}
 use Rattle.text_symbols.specs.TextChoices.{HoldsBits, IsFirstHolding, IsFittingChoice, IsMicroChoice, IsTextChoice, NoneFitBefore, NoneHoldsBefore}
 use Rattle.text_symbols.specs.TextFrames.{NoPartsFit, NoVersionFits, PartsFit}
@@ -93,8 +93,8 @@ module _ (least : ℕ) (text : List ℕ) (level : EcLevel) (first last : ℕ) (v
       let over = subst (λ (u : Version). (others : List Part) → AreTextParts u text others → 32768 ≤ bits_of_parts u others) is many in
       class_unfit least text level first last 32768 some class none over (last + 1) (omega arith) (none_holds_many 32768 level first (last + 1) (omega arith))
 
--- The parts that take the fewest bits in the last version of a class, in its first version that holds
--- them.
+-- The parts that take the fewest bits in the last version of a class, in its first version that
+-- holds them.
 pub class_chosen : (least : ℕ) (text : List ℕ) (level : EcLevel) (limit first last bits number : ℕ) (parts : List Part) (v : Version) → v ≡ normal last →
     1 ≤ least → least ≤ first → last ≤ limit → IsClass (first - 1) last → NoneFitBefore least text level first → AreLeast v text parts →
     bits ≡ bits_of_parts v parts → IsFirstHolding bits level first (last + 1) number →
@@ -152,7 +152,7 @@ most l n c known = grind (arith, capacity-held l n c known)
 -- No version holds a text of more than 7089 characters.
 pub long_unfit : (n : ℕ) (level : EcLevel) (text : List ℕ) → 7089 < length text → NoPartsFit (normal n) level text
 long_unfit n level text long parts w =
-    let short = (parts_sound (is_plain parts) (has_kanji parts) None parts text w.written.read).1 in
+    let short = (parts_sound (has_no_designator parts) (has_kanji parts) None parts text w.written.read).1 in
     let held = most level n w.limit w.has_level in
     elim (cases_lt n 27) [
       | inl early ↦ (let dense = parts_dense (normal n) parts in let few = held.1 early in absurd (omega (arith, short, long, dense, few, w.within)))
@@ -168,7 +168,7 @@ micro_most l n c few known = grind arith
 -- A Micro version holds at most 38 characters.
 pub long_micro : (n : ℕ) (level : EcLevel) (text : List ℕ) → n ≤ 4 → 38 < length text → NoPartsFit (micro n) level text
 long_micro n level text few long parts w =
-    let short = (parts_sound (is_plain parts) (has_kanji parts) None parts text w.written.read).1 in
+    let short = (parts_sound (has_no_designator parts) (has_kanji parts) None parts text w.written.read).1 in
     let held = micro_most level n w.limit few w.has_level in
     let dense = parts_dense (micro n) parts in
     absurd (omega (arith, short, long, dense, held, w.within))

@@ -65,8 +65,8 @@ pub record IsFittingChoice (version : Version) (text : List ℕ) (level : EcLeve
   pub are_least : AreLeast version text parts
   pub fits : PartsFit version level text parts
 
--- The smallest Micro version in which some parts fit, and the parts that take the fewest bits
--- there.
+-- The smallest Micro version in which some parts fit, and the parts that take the fewest
+-- bits there.
 pub record IsMicroChoice (text : List ℕ) (level : EcLevel) (number : ℕ) (parts : List Part)
     : Type 0 where
   pub version : IsMicroNumber (pos number)

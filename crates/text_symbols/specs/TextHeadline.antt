@@ -16,7 +16,7 @@ use Rattle.qrcode_base.specs.declared.types.errors.QrError.TheVariants.{InvalidR
 use Rattle.qrcode_base.specs.declared.types.errors.QrError.TheVariants.{InvalidVersion}
 use Rattle.qrcode_bits.specs.Plans.{micro, normal_from}
 use Rattle.qrcode_bits.specs.Frame.{tail}
-use Rattle.qrcode_core.specs.Drawn.{DrawnSymbol, IsSymbolOfBits}
+use Rattle.qrcode_core.specs.Symbol.{DrawnSymbol, IsSymbolOfBits}
 use Rattle.qrcode_core.specs.Headline.{Carries, HasBlocksApart}
 use Rattle.qrcode_core.specs.Options.{HasVersions}
 use Rattle.qrcode_core.specs.declared.options.SymbolOptions.{SymbolOptions}

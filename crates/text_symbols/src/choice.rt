@@ -106,7 +106,7 @@ pub fn chosen_plan(
         choice.number (plan_parts choice.plan)) }
     ensures bits { IfOk result (λ choice.
         choice.bits ≡ bits_of_parts (normal choice.number) (plan_parts choice.plan)) }
-    ensures refused { IfErr result (HasNoChoice (normal_from least) level (chars text.now)
+    ensures refusal { IfErr result (HasNoChoice (normal_from least) level (chars text.now)
         (limit - least)) }
 {
     let mut first = least;
@@ -152,14 +152,14 @@ fn fitting_micro(
     Ok(Some(Choice { plan, bits, number }))
 }
 
-/// Returns the least plan of a text in the smallest of M1 to M4 that has the level and in which it
-/// fits.
+/// Returns the least plan of a text in the smallest of M1 to M4 that has the level and in which
+/// it fits.
 ///
 /// It fails with `DataTooLong` exactly where nothing fits any of them, and with `OutOfMemory`.
 pub fn chosen_micro(alloc: Global, text: &str, level: EcLevel) -> QrResult<Choice>
     ensures chosen { IfOk result (λ choice.
         IsMicroChoice (chars text.now) level choice.number (plan_parts choice.plan)) }
-    ensures refused { IfErr result (HasNoChoice micro level (chars text.now) 4) }
+    ensures refusal { IfErr result (HasNoChoice micro level (chars text.now) 4) }
 {
     for smaller in 0..4_usize {
         if let Some(choice) = fitting_micro(alloc, text, level, smaller + 1)? {

@@ -1,5 +1,5 @@
-//! Laws: facts about grids that are read as texts. Each function has no body; its contract is the
-//! fact.
+//! Laws: facts about grids that are read as texts. Each function has no body; its contract is
+//! the fact.
 ghost use Rattle.std.specs.Prelude.{◌≡◌, ◌≤◌, ℕ, List, None, chars};
 ghost use Rattle.std.specs.Str.{IsUtf8};
 ghost use Rattle.qrcode_base.specs.declared.types.Color.{Color};

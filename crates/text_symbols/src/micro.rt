@@ -43,7 +43,7 @@ pub fn micro_text(alloc: Global, text: &str, level: EcLevel) -> Result<Symbol, M
     ensures smallest { IfOk result (λ symbol.
         IsSmallestText micro (chars text.now) level symbol.modules) }
     ensures reading { IfOk result TellsTextReading }
-    ensures refused { IfErr result (IsMicroTextRefused level (chars text.now)) }
+    ensures refusal { IfErr result (IsMicroTextRefused level (chars text.now)) }
 {
     if level == EcLevel::H {
         return Err(MicroTextError::Symbol(QrError::InvalidVersion {

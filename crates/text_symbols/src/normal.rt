@@ -28,7 +28,7 @@ fn versions_of(options: &SymbolOptions) -> QrResult<(usize, usize)>
     ensures range { IsOk result ↔ HasVersions options.now }
     ensures least { IfOk result (λ range. range.0 ≡ nat_abs options.now.min_version) }
     ensures greatest { IfOk result (λ range. range.1 ≡ nat_abs options.now.max_version) }
-    ensures refused { IsOkUnless result InvalidResourceLimits }
+    ensures refusal { IsOkUnless result InvalidResourceLimits }
 {
     options.validate()?;
     Ok((options.min_version as usize, options.max_version as usize))
@@ -68,7 +68,7 @@ pub fn smallest_text(alloc: Global, text: &str, options: &SymbolOptions) -> QrRe
     ensures reading { IfOk result TellsTextReading }
     ensures range { OnOk result (HasVersions options.now) }
     ensures limit { OnOk result (length (chars text.now) ≤ LONGEST_DATA) }
-    ensures refused { IfErr result (IsTextRefused options.now (chars text.now)) }
+    ensures refusal { IfErr result (IsTextRefused options.now (chars text.now)) }
 {
     let (least, limit) = versions_of(options)?;
     if char_count(text) > LONGEST_DATA {

@@ -7,7 +7,7 @@
 pub(crate) type Row = (&'static str, usize, usize, Option<u8>, &'static [u8]);
 
 /// Texts after at most one designator.
-pub(crate) static ROWS: [Row; 9] = [
+pub(crate) static ROWS: [Row; 12] = [
     // Kanji: 4 + 8 + 5 * 13.
     (
         "市北前倉東",
@@ -40,6 +40,18 @@ pub(crate) static ROWS: [Row; 9] = [
         Some(9),
         b"\xce\xe5\xf3\xea\xe5\xf0\xdc\xe6\xf9 \xf4\xe7\xed \xf8\xf5\xf7\xef\xf6\xe8\xfc\xf1\xe1",
     ),
+    // Arabic: 12 + 4 + 8 + 5 * 8.
+    ("مرحبا", 1, 64, Some(8), b"\xe5\xd1\xcd\xc8\xc7"),
+    // Hebrew: 12 + 4 + 8 + 9 * 8.
+    (
+        "שלום עולם",
+        1,
+        96,
+        Some(10),
+        b"\xf9\xec\xe5\xed \xf2\xe5\xec\xed",
+    ),
+    // Thai: 12 + 4 + 8 + 6 * 8.
+    ("สวัสดี", 1, 72, Some(13), b"\xca\xc7\xd1\xca\xb4\xd5"),
     // UTF-8: 12 + 4 + 8 + 12 * 8.
     (
         "\u{1f600} OK \u{1f600}",

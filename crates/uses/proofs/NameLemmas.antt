@@ -7,7 +7,7 @@ use Rattle.qrcode_core.specs.Registries.{Registered, nothing_registered, with_re
 use Rattle.qrcode_core.specs.{declared.plugin.config.RenderConfig.RenderConfig, declared.plugin.error.PluginError.PluginError}
 use Rattle.qrcode_core.specs.{declared.plugin.error.PluginError.TheVariants.InvalidConfig, declared.plugin.error.PluginError.TheVariants.OutOfMemory}
 use Rattle.qrcode_core.specs.{declared.plugin.output.RenderOutput.RenderOutput, Grids.Grid, Plugins.TextMap, Plugins.at_key, Plugins.text_cmp}
-use Rattle.qrcode_render.specs.{declared.format.Format.Format, Rendered.Renders, Rendered.Validates}
+use Rattle.qrcode_render.specs.{declared.format.Format.Format, Renderers.Renders, Renderers.Validates}
 
 -- the three, in the order of their names
 abbrev pub three : {V : Type 0} → (svg pbm terminal : V) → TextMap V

@@ -2,7 +2,7 @@
 ghost use Rattle.std.specs.Prelude.{◌≡◌, None, IfOk, IfErr};
 ghost use Rattle.qrcode_bits.specs.Frame.{front_of};
 ghost use Rattle.qrcode_bits.specs.declared.bits.front.Content.TheVariants.{Text};
-ghost use Rattle.qrcode_core.specs.Drawn.{TellsReading};
+ghost use Rattle.qrcode_core.specs.Symbol.{TellsReading};
 ghost use Rattle.qrcode_core.specs.Headline.{IsBestText, IsBestElements, IsElementsRefusal};
 ghost use Rattle.qrcode_core.specs.Options.{IsStrongest};
 
@@ -22,7 +22,7 @@ pub fn sign(alloc: Global, text: &str) -> QrResult<Symbol>
 /// Returns the symbol of GS1 elements at level Q.
 pub fn carton(alloc: Global, elements: &[u8]) -> QrResult<Symbol>
     ensures best { IfOk result (λ symbol. IsBestElements elements.now EcLevel.Q symbol.modules) }
-    ensures refused { IfErr result (IsElementsRefusal elements.now EcLevel.Q) }
+    ensures refusal { IfErr result (IsElementsRefusal elements.now EcLevel.Q) }
 {
     Symbol::elements(alloc, elements, EcLevel::Q)
 }

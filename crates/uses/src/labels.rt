@@ -1,6 +1,6 @@
 //! Labels with their version and mask, by `qrcode_core`.
 ghost use Rattle.std.specs.Prelude.{◌≡◌, ◌+◌, ◌*◌, ◌≤◌, IfOk, IfErr};
-ghost use Rattle.qrcode_core.specs.Drawn.{TellsReading, drawn_grid};
+ghost use Rattle.qrcode_core.specs.Symbol.{TellsReading, drawn_grid};
 ghost use Rattle.qrcode_core.specs.Headline.{IsBestSymbol};
 ghost use Rattle.qrcode_core.specs.Limits.{IsBestWithin, IsLimitedRefusal};
 
@@ -31,7 +31,7 @@ pub fn picture_width(symbol: &Symbol, scale: usize) -> usize
 pub fn small_label(alloc: Global, bytes: &[u8], limits: &ResourceLimits) -> QrResult<Symbol>
     ensures best { IfOk result (λ symbol.
         IsBestWithin limits.now bytes.now EcLevel.M symbol.modules) }
-    ensures refused { IfErr result (IsLimitedRefusal limits.now bytes.now EcLevel.M) }
+    ensures refusal { IfErr result (IsLimitedRefusal limits.now bytes.now EcLevel.M) }
 {
     Symbol::with_limits(alloc, bytes, EcLevel::M, limits)
 }

@@ -1,8 +1,8 @@
 //! The picture of a symbol, by `qrcode_render`.
 ghost use Rattle.std.specs.Prelude.{◌≡◌, Err, Some, None, IfOk};
 ghost use Rattle.std.specs.String.{string_bytes};
-ghost use Rattle.qrcode_core.specs.Drawn.{drawn_grid};
-ghost use Rattle.qrcode_render.specs.Asked.{ShowsAsAsked};
+ghost use Rattle.qrcode_core.specs.Symbol.{drawn_grid};
+ghost use Rattle.qrcode_render.specs.SettingDrawings.{ShowsAsAsked};
 ghost use Rattle.qrcode_render.specs.Svg.{svg_text};
 ghost use Rattle.qrcode_render.specs.Pictures.{picture};
 ghost use Rattle.qrcode_render.specs.Settings.{invalid_setting};

@@ -1,5 +1,5 @@
 //! A registry of the renderers of `qrcode_render`, and rendering by their names.
-ghost use Rattle.uses.specs.Named.{RendersByName};
+ghost use Rattle.uses.specs.Rendering.{RendersByName};
 
 use crate::registries::draw_by_name;
 use qrcode_core::plugin::{PluginError, PluginRegistry, RenderConfig, RenderOutput};

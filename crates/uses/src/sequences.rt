@@ -2,7 +2,7 @@
 ghost use Rattle.std.specs.Prelude.{ℕ, ◌/◌, ◌∷◌, [], List, length, map, vec_items, All, IfOk, IfSome};
 ghost use Rattle.qrcode_bits.specs.declared.bits.front.Content.TheVariants.{Bytes, Text};
 ghost use Rattle.qrcode_core.specs.BestCuts.{AreBestCuts};
-ghost use Rattle.qrcode_core.specs.Drawn.{TellsReading, modules_of};
+ghost use Rattle.qrcode_core.specs.Symbol.{TellsReading, modules_of};
 ghost use Rattle.qrcode_core.specs.Sequence.{AreBestSymbols};
 
 use qrcode_core::symbol::{Symbol, are_cuts, best_text_cuts, symbol_sequence};

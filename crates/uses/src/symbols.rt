@@ -9,7 +9,7 @@ use std::alloc::Global;
 /// Returns the modules of a label at level M.
 pub fn label(alloc: Global, bytes: &[u8]) -> QrResult<Vec<Color>>
     ensures best { IfOk result (λ grid. IsBestSymbol bytes.now EcLevel.M grid.items) }
-    ensures refused { IfErr result (IsRefusal bytes.now EcLevel.M) }
+    ensures refusal { IfErr result (IsRefusal bytes.now EcLevel.M) }
 {
     symbol(alloc, bytes, EcLevel::M)
 }

@@ -30,7 +30,7 @@ pub fn bits_of_digits(bytes: &[u8]) -> Option<usize>
 pub fn data_codewords(version: Version, ec_level: EcLevel) -> QrResult<usize>
     ensures codewords { IfOk result (λ n.
         option_map data_bytes (blocks_of version ec_level) ≡ Some n) }
-    ensures refused { IfErr result (λ e. e ≡ InvalidVersion version ec_level) }
+    ensures refusal { IfErr result (λ e. e ≡ InvalidVersion version ec_level) }
 {
     match block_layout(version, ec_level) {
         Some(layout) => Ok(layout.data_bytes()),

@@ -6,8 +6,8 @@ use Rattle.gs1.proofs.SymbolData.{are_elements}
 use Rattle.gs1.proofs.Whole.{finds_only, text_data, as_text}
 use Rattle.gs1.proofs.element_string.Goals as goal
 
-pub returns-in_err-check_text-clause-refused : goal.returns-in_err-check_text-clause-refused
-returns-in_err-check_text-clause-refused c =
+pub returns-in_err-check_text-clause-refusal : goal.returns-in_err-check_text-clause-refusal
+returns-in_err-check_text-clause-refusal c =
     let p = err_from_is_err_and c.from_residual.result c.from_residual.ensures.1 in
     rw (p.1, p.2) (refused_by c.args.text.now _
     (rw (← c.as_bytes-text.ensures.value) (sym c.in_err-check_text.ensures)))

@@ -134,7 +134,7 @@ fn fitting_between(
         FitsNot ahead (take place bytes.now) (normal number) level }
     ensures close { (place : ℕ) → IsUnitEnd bytes.now place → result.0 < place →
         place < result.1 → ⊥ }
-    ensures same { segments.new ≡ segments.old }
+    ensures unchanged { segments.new ≡ segments.old }
 {
     let version = Version::Normal(number as i16);
     let Ok(limit) = data_capacity_bits(version, level) else {

@@ -84,7 +84,7 @@ fn last_of_segment<S: AnyStart, L: Ledger>(
     requires groups { AreGroups S.FAR segments.old version (index + 1) (index + 1)
         (groups_of S.read S.FAR groups.now) }
     ensures units { AreLastUnits segments.old version limit result.0 result.1 }
-    ensures same { segments.new ≡ segments.old }
+    ensures unchanged { segments.new ≡ segments.old }
     ensures ticked { comparisons.new ≤ comparisons.old
         + 8 * ((segment_at segments.old index).end - (segment_at segments.old index).begin) }
 {
@@ -126,7 +126,7 @@ pub(super) fn last_units<S: AnyStart, L: Ledger>(
     ensures units { MatchOption result
         (bits_before segments.old version (length segments.old) ≤ limit)
         (λ places. AreLastUnits segments.old version limit places.0 places.1) }
-    ensures same { segments.new ≡ segments.old }
+    ensures unchanged { segments.new ≡ segments.old }
     ensures ticked { comparisons.new ≤ comparisons.old + 36 * length segments.old + 8 * S.FAR }
 {
     let mut groups = [S::none(); SLOTS];

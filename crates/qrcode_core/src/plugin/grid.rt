@@ -23,7 +23,7 @@ pub struct ModuleGrid {
 impl ModuleGrid {
     ghost use Rattle.std.specs.Borrow.{sem};
     ghost use Rattle.qrcode_core.specs.Plugins.{owned_grid};
-    ghost use Rattle.qrcode_core.specs.LentModules.{LendsModules};
+    ghost use Rattle.qrcode_core.specs.ModuleGrid.{LendsModules};
 
     /// Returns the grid of these modules, row after row. It fails with `InvalidModuleGrid` if a
     /// side is 0, or if the product of the sides is not the length of the list or does not fit
@@ -31,7 +31,7 @@ impl ModuleGrid {
     pub fn new(modules: Vec<Color>, width: usize, height: usize) -> Result<ModuleGrid, PluginError>
         ensures exact { IsOk result ↔ (0 < width × 0 < height × vec_len modules ≡ height * width) }
         ensures made { IfOk result (λ g. owned_grid g ≡ grid_of modules.items width height) }
-        ensures refused { IsOkUnless result InvalidModuleGrid }
+        ensures refusal { IsOkUnless result InvalidModuleGrid }
     {
         if width == 0 || height == 0 {
             return Err(PluginError::InvalidModuleGrid);

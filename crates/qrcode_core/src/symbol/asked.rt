@@ -11,7 +11,7 @@ ghost use Rattle.qrcode_bits.specs.Frame.{HasFront, front_of, no_front};
 ghost use Rattle.qrcode_bits.specs.Plans.{normal};
 ghost use Rattle.qrcode_bits.specs.Push.{IsRangeRefused, IsVersionRange};
 ghost use Rattle.qrcode_bits.specs.declared.bits.front.Content.TheVariants.{Elements, Text};
-ghost use Rattle.qrcode_core.specs.Drawn.{TellsReading};
+ghost use Rattle.qrcode_core.specs.Symbol.{TellsReading};
 ghost use Rattle.qrcode_core.specs.Options.{IsBestInRange, IsStronger, NoneStronger, IsAsAsked};
 ghost use Rattle.qrcode_core.specs.Options.{HasVersions};
 ghost use Rattle.qrcode_core.specs.Options.{IsOptionsRefusal, IsElementsOptionsRefusal};
@@ -39,7 +39,7 @@ fn symbol_in(
     ensures reading { IfOk result TellsReading }
     ensures range { OnOk result (IsVersionRange min_version max_version) }
     ensures limit { OnOk result (length bytes.now ≤ LONGEST_DATA) }
-    ensures refused { IfErr result
+    ensures refusal { IfErr result
         (IsRangeRefused front.now bytes.now level min_version max_version) }
 {
     let bits = encode_within(alloc, front, bytes, level, min_version, max_version)?;
@@ -107,7 +107,7 @@ fn symbol_as_asked(
     ensures reading { IfOk result TellsReading }
     ensures range { OnOk result (HasVersions options) }
     ensures limit { OnOk result (length bytes.now ≤ LONGEST_DATA) }
-    ensures refused { IfErr result (IsOptionsRefusal options front.now bytes.now) }
+    ensures refusal { IfErr result (IsOptionsRefusal options front.now bytes.now) }
 {
     let (least, most) = (options.min_version, options.max_version);
     let usual = symbol_in(alloc, front, bytes, options.level, least, most)?;
@@ -140,7 +140,7 @@ impl Symbol {
         ensures reading { IfOk result TellsReading }
         ensures range { OnOk result (HasVersions options.now) }
         ensures limit { OnOk result (length bytes.now ≤ LONGEST_DATA) }
-        ensures refused { IfErr result (IsOptionsRefusal options.now no_front bytes.now) }
+        ensures refusal { IfErr result (IsOptionsRefusal options.now no_front bytes.now) }
     {
         symbol_as_asked(alloc, &Front::new(Content::Bytes), bytes, *options)
     }
@@ -153,7 +153,7 @@ impl Symbol {
         ensures reading { IfOk result TellsReading }
         ensures range { OnOk result (HasVersions options.now) }
         ensures limit { OnOk result (length text.now ≤ LONGEST_DATA) }
-        ensures refused { IfErr result
+        ensures refusal { IfErr result
             (IsOptionsRefusal options.now (front_of None Text) text.now) }
     {
         symbol_as_asked(alloc, &Front::new(Content::Text), text.as_bytes(), *options)
@@ -173,7 +173,7 @@ impl Symbol {
         ensures valid { OnOk result (AreElements elements.now) }
         ensures range { OnOk result (HasVersions options.now) }
         ensures limit { OnOk result (length elements.now ≤ LONGEST_DATA) }
-        ensures refused { IfErr result
+        ensures refusal { IfErr result
             (IsElementsOptionsRefusal options.now (front_of None Elements) elements.now) }
     {
         options.validate()?;

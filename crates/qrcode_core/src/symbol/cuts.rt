@@ -52,7 +52,7 @@ pub fn best_cuts(
     ensures fitting { IfOk result (λ cuts.
         IsSomePartTooLong Bytes bytes.now cuts.items level (nat_abs max_version) → ⊥) }
     ensures limit { OnOk result (IsNormalNumber max_version) }
-    ensures refused { IfErr result (IsCutsRefusal Bytes bytes.now level max_version) }
+    ensures refusal { IfErr result (IsCutsRefusal Bytes bytes.now level max_version) }
 {
     longest_parts(alloc, Content::Bytes, bytes, level, max_version)
 }
@@ -73,7 +73,7 @@ pub fn best_text_cuts(
     ensures fitting { IfOk result (λ cuts.
         IsSomePartTooLong Text text.now cuts.items level (nat_abs max_version) → ⊥) }
     ensures limit { OnOk result (IsNormalNumber max_version) }
-    ensures refused { IfErr result (IsCutsRefusal Text text.now level max_version) }
+    ensures refusal { IfErr result (IsCutsRefusal Text text.now level max_version) }
 {
     longest_parts(alloc, Content::Text, text.as_bytes(), level, max_version)
 }
@@ -90,7 +90,7 @@ fn longest_parts(
     ensures best { IfOk result (λ cuts.
         AreBestCuts content bytes.now level (nat_abs max_version) cuts.items) }
     ensures limit { OnOk result (IsNormalNumber max_version) }
-    ensures refused { IfErr result (IsCutsRefusal content bytes.now level max_version) }
+    ensures refusal { IfErr result (IsCutsRefusal content bytes.now level max_version) }
 {
     if !is_normal_number(max_version) {
         return Err(QrError::InvalidResourceLimits);

@@ -4,7 +4,7 @@ ghost use Rattle.qrcode_base.specs.declared.symbols.TheConstants.{LONGEST_DATA};
 ghost use Rattle.qrcode_base.specs.Symbols.{IsVersion, width_of};
 ghost use Rattle.qrcode_core.specs.Limits.{IsBudget, IsBestWithin, IsTooLongWithin};
 ghost use Rattle.qrcode_core.specs.Limits.{IsLimitedRefusal};
-ghost use Rattle.qrcode_core.specs.Drawn.{TellsReading, drawn_grid, HoldsStream, IsStreamRefusal};
+ghost use Rattle.qrcode_core.specs.Symbol.{TellsReading, drawn_grid, HoldsStream, IsStreamRefusal};
 ghost use Rattle.qrcode_core.specs.Layers.{FillsSymbol, IsDrawnStream};
 ghost use Rattle.qrcode_core.specs.Headline.{IsBestSymbol, IsBestMicroSymbol, IsTooLong};
 ghost use Rattle.qrcode_core.specs.Headline.{IsTooLongForMicro, IsRefusal};
@@ -45,7 +45,7 @@ pub struct Symbol {
 impl Model for Symbol {
     ghost use Rattle.std.specs.Prelude.{◌≡◌, ◌*◌, length};
     ghost use Rattle.qrcode_base.specs.Symbols.{IsVersion, width_of};
-    ghost use Rattle.qrcode_core.specs.Drawn.{DrawnSymbol};
+    ghost use Rattle.qrcode_core.specs.Symbol.{DrawnSymbol};
 
     ghost Value = { DrawnSymbol };
 
@@ -74,7 +74,7 @@ impl Symbol {
         ensures reading { IfOk result TellsReading }
         ensures fitting { OnOk result (IsTooLong bytes.now level → ⊥) }
         ensures limit { OnOk result (length bytes.now ≤ LONGEST_DATA) }
-        ensures refused { IfErr result (IsRefusal bytes.now level) }
+        ensures refusal { IfErr result (IsRefusal bytes.now level) }
     {
         let bits = encode_auto(alloc, bytes, level)?;
         symbol_of(alloc, bits, level)
@@ -96,7 +96,7 @@ impl Symbol {
         ensures reading { IfOk result TellsReading }
         ensures fitting { OnOk result (IsTooLongAfter (front_of None Text) text.now level → ⊥) }
         ensures limit { OnOk result (length text.now ≤ LONGEST_DATA) }
-        ensures refused { IfErr result (IsTextRefusal text.now level) }
+        ensures refusal { IfErr result (IsTextRefusal text.now level) }
     {
         let front = Front::new(Content::Text);
         let bits = encode_front(alloc, &front, text.as_bytes(), level, 40)?;
@@ -122,7 +122,7 @@ impl Symbol {
         ensures fitting { OnOk result
             (IsTooLongAfter (front_of None Elements) elements.now level → ⊥) }
         ensures limit { OnOk result (length elements.now ≤ LONGEST_DATA) }
-        ensures refused { IfErr result (IsElementsRefusal elements.now level) }
+        ensures refusal { IfErr result (IsElementsRefusal elements.now level) }
     {
         if let Some((position, byte)) = first_no_element(elements) {
             return Err(QrError::InvalidCharacter { position, byte });
@@ -147,7 +147,7 @@ impl Symbol {
         ensures reading { IfOk result TellsReading }
         ensures fitting { OnOk result (IsTooLongForMicro bytes.now level → ⊥) }
         ensures limit { OnOk result (length bytes.now ≤ LONGEST_DATA) }
-        ensures refused { IfErr result (IsMicroRefused bytes.now level) }
+        ensures refusal { IfErr result (IsMicroRefused bytes.now level) }
     {
         let bits = encode_auto_micro(alloc, bytes, level)?;
         symbol_of(alloc, bits, level)
@@ -174,7 +174,7 @@ impl Symbol {
         ensures fitting { OnOk result (IsTooLongWithin limits.now bytes.now level → ⊥) }
         ensures budget { OnOk result (IsBudget limits.now) }
         ensures limit { OnOk result (length bytes.now ≤ LONGEST_DATA) }
-        ensures refused { IfErr result (IsLimitedRefusal limits.now bytes.now level) }
+        ensures refusal { IfErr result (IsLimitedRefusal limits.now bytes.now level) }
     {
         if limits.validate().is_err() {
             return Err(QrError::InvalidResourceLimits);
@@ -208,7 +208,7 @@ impl Symbol {
     pub fn with_bits(alloc: Global, mut bits: Bits, level: EcLevel) -> QrResult<Symbol>
         ensures holds { IfOk result (HoldsStream bits level) }
         ensures reading { IfOk result TellsReading }
-        ensures refused { IfErr result (IsStreamRefusal bits level) }
+        ensures refusal { IfErr result (IsStreamRefusal bits level) }
     {
         bits.push_terminator(level)?;
         symbol_of(alloc, bits, level)
@@ -256,7 +256,7 @@ impl Symbol {
 
 impl ModuleSource for Symbol {
     ghost use Rattle.std.specs.Prelude.{◌≤◌};
-    ghost use Rattle.qrcode_core.specs.Drawn.{drawn_grid};
+    ghost use Rattle.qrcode_core.specs.Symbol.{drawn_grid};
     ghost use Rattle.qrcode_core.specs.Grids.{HasAllRows, IsFull};
 
     ghost grid = { drawn_grid };
@@ -293,7 +293,7 @@ impl ModuleSource for Symbol {
 }
 
 impl QrSymbol for Symbol {
-    ghost use Rattle.qrcode_core.specs.Drawn.{drawn_version, drawn_level};
+    ghost use Rattle.qrcode_core.specs.Symbol.{drawn_version, drawn_level};
 
     ghost version_of = { drawn_version };
 

@@ -8,7 +8,7 @@ ghost use Rattle.std.specs.List.Sorted.{IsNonDecreasing};
 ghost use Rattle.qrcode_base.specs.Symbols.{IsNormalNumber};
 ghost use Rattle.qrcode_bits.specs.Frame.{IsTotal};
 ghost use Rattle.qrcode_bits.specs.declared.bits.front.Content.TheVariants.{Bytes};
-ghost use Rattle.qrcode_core.specs.Drawn.{TellsReading};
+ghost use Rattle.qrcode_core.specs.Symbol.{TellsReading};
 ghost use Rattle.qrcode_core.specs.Sequence.{IsBestPart, IsPartTooLongAt, IsSomePartTooLong};
 ghost use Rattle.qrcode_core.specs.Sequence.{IsSequenceRefusal};
 
@@ -40,7 +40,7 @@ impl Symbol {
             (nat_abs max_version) → ⊥) }
         ensures limit { OnOk result (IsNormalNumber max_version) }
         ensures total { OnOk result (IsTotal (length cuts.now + 1)) }
-        ensures refused { IfErr result
+        ensures refusal { IfErr result
             (IsSequenceRefusal Bytes bytes.now cuts.now level max_version) }
     {
         let total = total_of(cuts, max_version)?;
@@ -68,7 +68,7 @@ fn check_others(
     requires total { IsTotal (length cuts.now + 1) }
     ensures fitting { OnOk result ((other : ℕ) → other < length cuts.now + 1 → other ≢ index →
         IsPartTooLongAt Bytes bytes.now cuts.now level (nat_abs max_version) other → ⊥) }
-    ensures refused { IfErr result
+    ensures refusal { IfErr result
         (IsSequenceRefusal Bytes bytes.now cuts.now level max_version) }
 {
     for other in 0..cuts.len() + 1 {

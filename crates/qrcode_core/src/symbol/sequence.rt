@@ -14,7 +14,7 @@ ghost use Rattle.qrcode_bits.specs.declared.bits.front.Content.TheVariants.{Byte
 ghost use Rattle.qrcode_base.specs.Symbols.{IsNormalNumber};
 ghost use Rattle.qrcode_bits.specs.Frame.{HasFront, IsTotal};
 ghost use Rattle.qrcode_core.specs.Headline.{IsBestUpTo};
-ghost use Rattle.qrcode_core.specs.Drawn.{TellsReading, modules_of};
+ghost use Rattle.qrcode_core.specs.Symbol.{TellsReading, modules_of};
 ghost use Rattle.qrcode_core.specs.Sequence.{parity_of, parts_at, AreBestSymbols};
 ghost use Rattle.qrcode_core.specs.Sequence.{IsSomePartTooLong};
 ghost use Rattle.qrcode_core.specs.Sequence.{IsSequenceRefusal, IsTotalRefusal};
@@ -32,7 +32,7 @@ use std::alloc::Global;
 pub fn are_cuts(cuts: &[usize], length: usize) -> bool
     ensures ordered { IsTrue result → IsNonDecreasing cuts.now }
     ensures within { IsTrue result → All (λ cut. cut ≤ length) cuts.now }
-    ensures refused { IsNonDecreasing cuts.now → All (λ cut. cut ≤ length) cuts.now →
+    ensures taken { IsNonDecreasing cuts.now → All (λ cut. cut ≤ length) cuts.now →
         IsTrue result }
 {
     cuts.is_sorted() && cuts.iter().all(|cut| *cut <= length)
@@ -46,7 +46,7 @@ pub fn are_text_cuts(cuts: &[usize], text: &str) -> bool
     ensures ordered { IsTrue result → IsNonDecreasing cuts.now }
     ensures within { IsTrue result → All (λ cut. cut ≤ length text.now) cuts.now }
     ensures whole { IsTrue result → All (λ cut. IsCutPlace Text text.now cut) cuts.now }
-    ensures refused { IsNonDecreasing cuts.now →
+    ensures taken { IsNonDecreasing cuts.now →
         All (λ cut. IsCutPlace Text text.now cut) cuts.now → IsTrue result }
 {
     are_cuts(cuts, text.len())
@@ -75,7 +75,7 @@ impl Symbol {
         ensures fitting { OnOk result (IsSomePartTooLong Bytes bytes.now cuts.now level
             (nat_abs max_version) → ⊥) }
         ensures limit { OnOk result (IsNormalNumber max_version) }
-        ensures refused { IfErr result
+        ensures refusal { IfErr result
             (IsSequenceRefusal Bytes bytes.now cuts.now level max_version) }
     {
         symbols_of(alloc, Content::Bytes, bytes, cuts, level, max_version)
@@ -100,7 +100,7 @@ impl Symbol {
         ensures fitting { OnOk result (IsSomePartTooLong Text text.now cuts.now level
             (nat_abs max_version) → ⊥) }
         ensures limit { OnOk result (IsNormalNumber max_version) }
-        ensures refused { IfErr result
+        ensures refusal { IfErr result
             (IsSequenceRefusal Text text.now cuts.now level max_version) }
     {
         symbols_of(
@@ -133,7 +133,7 @@ fn symbols_of(
     ensures fitting { OnOk result (IsSomePartTooLong content bytes.now cuts.now level
         (nat_abs max_version) → ⊥) }
     ensures limit { OnOk result (IsNormalNumber max_version) }
-    ensures refused { IfErr result
+    ensures refusal { IfErr result
         (IsSequenceRefusal content bytes.now cuts.now level max_version) }
 {
     let total = total_of(cuts, max_version)?;
@@ -155,7 +155,7 @@ pub(crate) fn total_of(cuts: &[usize], max_version: i16) -> QrResult<u8>
     ensures total { IfOk result (λ total. total ≡ length cuts.now + 1) }
     ensures few { OnOk result (IsTotal (length cuts.now + 1)) }
     ensures limit { OnOk result (IsNormalNumber max_version) }
-    ensures refused { IfErr result (IsTotalRefusal (length cuts.now + 1) max_version) }
+    ensures refusal { IfErr result (IsTotalRefusal (length cuts.now + 1) max_version) }
 {
     if !is_normal_number(max_version) {
         return Err(QrError::InvalidResourceLimits);
@@ -197,7 +197,7 @@ pub fn symbol_sequence(
     ensures fitting { OnOk result (IsSomePartTooLong Bytes bytes.now cuts.now level
         (nat_abs max_version) → ⊥) }
     ensures limit { OnOk result (IsNormalNumber max_version) }
-    ensures refused { IfErr result
+    ensures refusal { IfErr result
         (IsSequenceRefusal Bytes bytes.now cuts.now level max_version) }
 {
     let symbols = Symbol::sequence(alloc, bytes, cuts, level, max_version)?;
@@ -253,7 +253,7 @@ pub(crate) fn part_symbol(
     ensures best { IfOk result (λ symbol.
         IsBestUpTo front.now part.now level (nat_abs max_version) symbol.modules) }
     ensures reading { IfOk result TellsReading }
-    ensures refused { IfErr result (IsFrontRefused front.now part.now level max_version) }
+    ensures refusal { IfErr result (IsFrontRefused front.now part.now level max_version) }
 {
     let bits = encode_front(alloc, front, part, level, max_version)?;
     symbol_of(alloc, bits, level)

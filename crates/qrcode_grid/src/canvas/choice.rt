@@ -57,7 +57,7 @@ impl Canvas {
         ensures penalties { IfOk result (λ r. r.1.items ≡ mask_penalties self.old) }
         ensures long { IfOk result (λ r. length self.old.modules ≤ length r.0.items) }
         ensures refusal { IfErr result (λ e. e ≡ QrError.OutOfMemory) }
-        ensures same { self.new ≡ self.old }
+        ensures unchanged { self.new ≡ self.old }
     {
         settle(&mut self.modules, self.lent, self.slot);
         let width = self.width;
@@ -99,7 +99,7 @@ impl Canvas {
             map byte_of (colors_of (with_mask r.0 self.old))) }
         ensures long { IfOk result (λ r. length self.old.modules ≤ length r.2.items) }
         ensures refusal { IfErr result (λ e. e ≡ QrError.OutOfMemory) }
-        ensures same { self.new ≡ self.old }
+        ensures unchanged { self.new ≡ self.old }
     {
         let (scratch, values) = self.candidates(alloc)?;
         let mut best = 0;

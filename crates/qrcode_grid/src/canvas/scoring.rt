@@ -25,8 +25,8 @@ use crate::canvas::scoring::lists::{Feature, write_padded, write_twins};
 use qrcode_base::types::{Color, Version};
 
 /// Returns the penalty of the rows or of the columns in each candidate. A run of n >= 5 modules has
-/// n - 4 fives and n - 5 sixes, so that three points for a five and two less for a six are n - 2, the
-/// points of the standard. The function is instantiated once per direction so that the compiler
+/// n - 4 fives and n - 5 sixes, so that three points for a five and two less for a six are n - 2,
+/// the points of the standard. The function is instantiated once per direction so that the compiler
 /// knows that the step of rows is 1.
 #[inline(never)]
 fn penalties_of_lines<const ROWS: bool>(

@@ -2,7 +2,7 @@
 use Rattle.std.proofs.Common.{◌+◌, ◌*◌, ◌++◌, ◌∙◌, ap, sym, arith}
 use Rattle.std.proofs.lemmas.List.{with_items_is}
 use Rattle.picture_settings.proofs.Ranges.{joined}
-use Rattle.grid_pictures.{specs.Shown.shown, specs.Bitmaps.first_rows, specs.Bitmaps.bitmap_row, proofs.BitmapLemmas.rows_copy}
+use Rattle.grid_pictures.{specs.Picture.shown, specs.Bitmaps.first_rows, specs.Bitmaps.bitmap_row, proofs.BitmapLemmas.rows_copy}
 use Rattle.grid_pictures.proofs.bitmap.push_rows.Goals as goal
 
 pub loop-copy-preserved : goal.loop-copy-preserved

@@ -1,6 +1,6 @@
 -- The rows of pixels so far were added.
 use Rattle.std.proofs.Common.{◌≡◌, ◌+◌, ◌*◌, ◌++◌, length}
-use Rattle.grid_pictures.specs.{Bitmaps.first_rows, Bitmaps.row_length, Shown.shown}
+use Rattle.grid_pictures.specs.{Bitmaps.first_rows, Bitmaps.row_length, Picture.shown}
 use Rattle.grid_pictures.proofs.bitmap.push_rows.Given as goal
 
 abbrev pub invariant-loop-row : goal.invariant-loop-row

@@ -2,7 +2,7 @@
 use Rattle.std.proofs.Common.{◌≡◌, ◌-◌, ◌++◌, ◌∙◌, length, ap, sym, arith}
 use Rattle.std.proofs.lemmas.List.{with_items_is}
 use Rattle.picture_settings.proofs.Ranges.{joined}
-use Rattle.grid_pictures.{specs.Shown.shown, specs.Bitmaps.rows_from, specs.Bitmaps.bitmap_row}
+use Rattle.grid_pictures.{specs.Picture.shown, specs.Bitmaps.rows_from, specs.Bitmaps.bitmap_row}
 use Rattle.grid_pictures.proofs.BitmapLemmas.{row_long, row_next, rows_one}
 use Rattle.grid_pictures.proofs.bitmap.push_rows_from.Goals as goal
 use Rattle.grid_pictures.proofs.bitmap.push_rows_from.Goals.{then-y-first, else-y-first+else-y-scale-eq0}

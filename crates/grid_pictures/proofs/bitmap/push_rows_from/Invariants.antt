@@ -1,7 +1,7 @@
 -- The rows so far were added, and the line is that of the next row, if that is in the same row
 -- of modules.
 use Rattle.std.proofs.Common.{◌≡◌, ◌≢◌, ◌-◌, ◌%◌, ◌++◌, length}
-use Rattle.grid_pictures.specs.{Bitmaps.bitmap_row, Bitmaps.row_length, Bitmaps.rows_from, Shown.shown}
+use Rattle.grid_pictures.specs.{Bitmaps.bitmap_row, Bitmaps.row_length, Bitmaps.rows_from, Picture.shown}
 use Rattle.grid_pictures.proofs.bitmap.push_rows_from.Given as goal
 
 abbrev pub invariant-loop-y : goal.invariant-loop-y

@@ -4,7 +4,7 @@ use Rattle.std.specs.Prelude.{min}
 use Rattle.std.specs.List.{range_with_len}
 use Rattle.std.proofs.Math.Nat.{mul-le-mul_right}
 use Rattle.std.proofs.lemmas.Bool.{cases_lt}
-use Rattle.grid_pictures.specs.{Bitmaps.pixel_byte, Rows.dark_byte, Shown.shown}
+use Rattle.grid_pictures.specs.{Bitmaps.pixel_byte, Rows.dark_byte, Picture.shown}
 use Rattle.grid_pictures.proofs.{BitmapLemmas.spelled, RunLemmas.picture_byte}
 use Rattle.grid_pictures.proofs.PackedLemmas.{byte_within, front_row, groups_end, kept_bytes, one_byte, pixel_of}
 use Rattle.grid_pictures.proofs.bitmap.write_narrow.Goals as goal

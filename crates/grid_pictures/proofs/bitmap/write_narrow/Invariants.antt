@@ -2,7 +2,7 @@
 use Rattle.std.proofs.Common.{◌≡◌, ◌+◌, ◌*◌, length, take, map}
 use Rattle.std.specs.Prelude.{min}
 use Rattle.std.specs.List.{range_with_len}
-use Rattle.grid_pictures.specs.{Bitmaps.pixel_byte, Shown.shown}
+use Rattle.grid_pictures.specs.{Bitmaps.pixel_byte, Picture.shown}
 use Rattle.grid_pictures.proofs.bitmap.write_narrow.Given as goal
 
 abbrev pub invariant-loop-group : goal.invariant-loop-group

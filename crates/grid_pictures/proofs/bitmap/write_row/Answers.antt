@@ -1,5 +1,5 @@
 use Rattle.std.proofs.Common.{◌≡◌, ◌/◌, length, ap, sym, ◌∙◌, arith}
-use Rattle.grid_pictures.{specs.Pictures.columns_of, specs.Pictures.is_dark_module, specs.Shown.shown}
+use Rattle.grid_pictures.{specs.Pictures.columns_of, specs.Pictures.is_dark_module, specs.Picture.shown}
 use Rattle.grid_pictures.proofs.BitmapLemmas.{columns_row, whole_row}
 use Rattle.grid_pictures.proofs.PackedLemmas.{light_pixels}
 use Rattle.grid_pictures.proofs.bitmap.write_row.Goals as goal

@@ -1,7 +1,7 @@
 -- One byte more, and all of them.
 use Rattle.std.proofs.Common.{◌≡◌, ◌+◌, ◌*◌, ◌<◌, ◌≤◌, ◌∙◌, length, take, get_or, refl, ap, sym, map, arith}
 use Rattle.std.specs.List.{range_with_len}
-use Rattle.grid_pictures.specs.{Bitmaps.pixel_byte, Bitmaps.row_length, Rows.dark_byte, Shown.shown}
+use Rattle.grid_pictures.specs.{Bitmaps.pixel_byte, Bitmaps.row_length, Rows.dark_byte, Picture.shown}
 use Rattle.grid_pictures.proofs.{RunLemmas.picture_byte}
 use Rattle.grid_pictures.proofs.PackedLemmas.{column_inside, module_at, one_byte, one_module, two_modules, whole_line}
 use Rattle.grid_pictures.proofs.bitmap.write_wide.Goals as goal

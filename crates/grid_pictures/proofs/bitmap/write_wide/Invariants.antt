@@ -1,7 +1,7 @@
 -- The bytes so far are the first of the row, and some pixels of the module at the column are left.
 use Rattle.std.proofs.Common.{◌≡◌, ◌+◌, ◌*◌, ◌≤◌, take, map}
 use Rattle.std.specs.List.{range_with_len}
-use Rattle.grid_pictures.specs.{Bitmaps.pixel_byte, Shown.shown}
+use Rattle.grid_pictures.specs.{Bitmaps.pixel_byte, Picture.shown}
 use Rattle.grid_pictures.proofs.bitmap.write_wide.Given as goal
 
 abbrev pub invariant-loop-place : goal.invariant-loop-place

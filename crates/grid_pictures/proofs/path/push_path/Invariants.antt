@@ -1,7 +1,7 @@
 -- The text has the rectangles of the rows so far.
 use Rattle.std.proofs.Common.{◌≡◌, ◌++◌}
 use Rattle.std.specs.String.{string_bytes}
-use Rattle.grid_pictures.specs.{Paths.path, Pens.rectangle_by, Shown.shown}
+use Rattle.grid_pictures.specs.{Paths.path, Pens.rectangle_by, Picture.shown}
 use Rattle.grid_pictures.proofs.path.push_path.Given as goal
 
 abbrev pub invariant-loop-y : goal.invariant-loop-y

@@ -4,7 +4,7 @@ use Rattle.std.specs.Prelude.{not, slice_index}
 use Rattle.std.specs.Str.{IsUtf8}
 use Rattle.std.proofs.lemmas.Bool.{le-ltb, lt-ltb}
 use Rattle.grid_pictures.specs.{Paths.begins_run, Paths.row_path, Pens.rectangle_by, Pictures.Picture, Pictures.columns_of, Pictures.is_dark_module}
-use Rattle.grid_pictures.specs.{Runs.EndsRun, Shown.shown}
+use Rattle.grid_pictures.specs.{Runs.EndsRun, Picture.shown}
 use Rattle.grid_pictures.proofs.PathLemmas.{dark_places, row_over_run}
 use Rattle.grid_pictures.proofs.RowRuns.{Begins, begins_at_once, begins_later, dark_run, first_run, next_run, nothing_dark}
 use Rattle.grid_pictures.proofs.RowLemmas.{none_first}

@@ -1,6 +1,6 @@
 -- The rectangles of the columns so far are written, and a run begins here.
 use Rattle.std.proofs.Common.{◌≡◌, ◌-◌, ◌*◌, ◌≤◌, ◌<◌, take, true}
-use Rattle.grid_pictures.specs.{Paths.begins_run, Paths.row_path, Pens.rectangle_by, Pictures.columns_of, Pictures.is_dark_module, Shown.shown}
+use Rattle.grid_pictures.specs.{Paths.begins_run, Paths.row_path, Pens.rectangle_by, Pictures.columns_of, Pictures.is_dark_module, Picture.shown}
 use Rattle.grid_pictures.proofs.path.write_row.Given as goal
 
 abbrev pub invariant-runs : goal.invariant-runs

@@ -3,7 +3,7 @@ use Rattle.std.proofs.Common.{Bool, ◌+◌, ◌*◌, ◌/◌, ◌∙◌, ap, ar
 use Rattle.std.specs.Prelude.{if◌then◌else◌, not}
 use Rattle.std.specs.{Prelude.flat_map, List.range_with_len, String.string_bytes}
 use Rattle.picture_settings.proofs.Ranges.{joined}
-use Rattle.grid_pictures.specs.{Shown.shown, Terminals.terminal_character}
+use Rattle.grid_pictures.specs.{Picture.shown, Terminals.terminal_character}
 use Rattle.grid_pictures.proofs.{PathLemmas.dark_places, TerminalLemmas.characters_copy}
 use Rattle.grid_pictures.proofs.terminal.push_line.Goals as goal
 

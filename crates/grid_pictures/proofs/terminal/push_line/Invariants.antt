@@ -1,7 +1,7 @@
 -- The characters so far were added.
 use Rattle.std.proofs.Common.{◌≡◌, ◌+◌, ◌*◌, ◌++◌}
 use Rattle.std.specs.{Prelude.flat_map, List.range_with_len, String.string_bytes}
-use Rattle.grid_pictures.specs.{Shown.shown, Terminals.terminal_character}
+use Rattle.grid_pictures.specs.{Picture.shown, Terminals.terminal_character}
 use Rattle.grid_pictures.proofs.terminal.push_line.Given as goal
 
 abbrev pub invariant-loop-column : goal.invariant-loop-column

@@ -7,8 +7,8 @@ use Rattle.gs1.proofs.Refusals.{refused_by, no_memory}
 use Rattle.gs1.proofs.strings.check_element_string.Goals as goal
 
 -- Why the bytes are refused.
-pub returns-in_err-check_first-clause-refused : goal.returns-in_err-check_first-clause-refused
-returns-in_err-check_first-clause-refused c =
+pub returns-in_err-check_first-clause-refusal : goal.returns-in_err-check_first-clause-refusal
+returns-in_err-check_first-clause-refusal c =
     let p = err_from_is_err_and c.from_residual.result c.from_residual.ensures.1 in
     let known = c.loop-rest.invariant.0 in
     rw (p.1, p.2) (refused_by c.args.bytes.now known.0 c.loop-rest.rest.now c.loop-rest.element _ known.1 known.2

@@ -3,14 +3,14 @@ use Rattle.std.specs.Prelude.{◌==◌}
 use Rattle.std.specs.List.{slice_split}
 use Rattle.std.specs.Option.{option_map, option_map_or, option_or}
 use Rattle.gs1_links.specs.LinkReader.{is_slash}
-use Rattle.gs1_links.specs.LinkFaults.{parts_left, path_in}
+use Rattle.gs1_links.specs.LinkFaults.{cut_parts, path_in}
 use Rattle.gs1_links.proofs.link_parts.path_in.Given as goal
 
 abbrev pub invariant-loop-rest : goal.invariant-loop-rest
 invariant-loop-rest l =
-    (option_or (path_in (parts_left is_slash (option_map (λ t. t.now) l.rest))) (option_map (λ t. slice_split is_slash t.now) l.found)
-    ≡ path_in (parts_left is_slash (option_map (λ t. t.now) l.path)))
-    × (l.even ≡ (length (parts_left is_slash (option_map (λ t. t.now) l.rest)) % 2 == 0))
+    (option_or (path_in (cut_parts is_slash (option_map (λ t. t.now) l.rest))) (option_map (λ t. slice_split is_slash t.now) l.found)
+    ≡ path_in (cut_parts is_slash (option_map (λ t. t.now) l.path)))
+    × (l.even ≡ (length (cut_parts is_slash (option_map (λ t. t.now) l.rest)) % 2 == 0))
 
 abbrev pub decreases-loop-rest : goal.decreases-loop-rest
 decreases-loop-rest l = option_map_or (λ t. length t.now + 1) l.rest 0

@@ -1,6 +1,6 @@
 -- Reading the words that are left goes on from what is read.
 use Rattle.std.proofs.Common.{◌≡◌, map, drop}
-use Rattle.label_words.specs.{Words.read_words, Said.scan_of}
+use Rattle.label_words.specs.{Words.read_words, Values.scan_of}
 use Rattle.label_words.proofs.words.read_words.Given as goal
 
 abbrev pub invariant-loop-word : goal.invariant-loop-word

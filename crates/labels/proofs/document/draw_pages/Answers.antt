@@ -1,7 +1,7 @@
 -- The next page was written, or not, or the line is left out, or there is none.
 use Rattle.std.proofs.Common.{◌&&◌, ◌∙◌, sym, arith, rules, ap}
 use Rattle.std.specs.Option.{option_copied}
-use Rattle.labels.specs.MadeOf.{made_as}
+use Rattle.labels.specs.Stop.{made_as}
 use Rattle.labels.proofs.LabelLemmas.{DrawsBefore-none, DrawsBefore-more}
 use Rattle.labels.proofs.PageLemmas.{pages_none, so_far_place}
 use Rattle.labels.proofs.PageOutcomes.{all_written, alone, end_not_written, is_drawn, made_step, made_stops, memory_out_at, no_label, nothing_yet}
@@ -45,7 +45,7 @@ returns-in-Err g c =
     no_label _ _ c.lines.every c.lines.number (g.R.Source.state c.args.reader.now) (g.R.Source.state c.lines.reader)
     (g.R.Source.state c.next_made.new.reader) _ c.lines.begun.pages c.lines.begun.waiting.items (g.W.Sink.state c.args.writer.now)
     (g.W.Sink.state c.lines.writer) (g.E.Sink.state c.args.errors.now) (g.E.Sink.state c.lines.errors)
-    c.in-Err.stop c.lines.invariant.drawn c.in-Err.ensures.refused (grind (arith, c.in-Err.ensures.failure)) c.lines.invariant.writer_sound
+    c.in-Err.stop c.lines.invariant.drawn c.in-Err.ensures.refusal (grind (arith, c.in-Err.ensures.failure)) c.lines.invariant.writer_sound
 
 pub lines-preserved : goal.lines-preserved
 lines-preserved g c =

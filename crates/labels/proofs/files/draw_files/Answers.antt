@@ -2,7 +2,7 @@
 use Rattle.std.proofs.Common.{◌&&◌, ◌∙◌, sym, arith, rules, ap}
 use Rattle.programs.specs.Devices.{output}
 use Rattle.label_words.specs.Numberings.{numbering_of}
-use Rattle.labels.specs.{Folders.folder, MadeOf.made_of}
+use Rattle.labels.specs.{Folders.folder, Stop.made_of}
 use Rattle.labels.proofs.LabelLemmas.{writes_until, never_write, DrawsBefore-none, DrawsBefore-more, DrawsBefore-ended, folder_none, folder_step, folder_fails, drawn_is}
 use Rattle.labels.proofs.files.draw_files.Goals as goal
 
@@ -21,9 +21,9 @@ pub returns-in-Err-clause-outcome : goal.returns-in-Err-clause-outcome
 returns-in-Err-clause-outcome g c = record {
   writes = writes_until _ _ _ c.lines.number (g.R.Source.state c.args.reader.now) (g.R.Source.state c.lines.reader) (g.R.Source.state c.next_made.new.reader)
       _ c.in-Err.stop
-      c.lines.invariant.drawn c.in-Err.ensures.refused;
+      c.lines.invariant.drawn c.in-Err.ensures.refusal;
   read = grind (arith, c.in-Err.ensures.failure);
-  write = grind (arith, c.lines.invariant.files_sound, never_write _ _ _ c.in-Err.stop c.in-Err.ensures.refused);
+  write = grind (arith, c.lines.invariant.files_sound, never_write _ _ _ c.in-Err.stop c.in-Err.ensures.refusal);
 }
 
 pub lines-init : goal.lines-init

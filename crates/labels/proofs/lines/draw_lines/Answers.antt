@@ -3,7 +3,7 @@ use Rattle.std.proofs.Common.{◌&&◌, ◌∙◌, inl, sym, arith, rules, ap}
 use Rattle.programs.specs.Devices.{output}
 use Rattle.labels.specs.Lines.{stream}
 use Rattle.labels.proofs.LabelLemmas.{writes_until, never_write, DrawsBefore-none, DrawsBefore-more, DrawsBefore-ended, stream_none, stream_step, stream_stops, drawn_is}
-use Rattle.labels.specs.MadeOf.{made_of}
+use Rattle.labels.specs.Stop.{made_of}
 use Rattle.labels.proofs.lines.draw_lines.Goals as goal
 
 pub returns-in-Ok-None : goal.returns-in-Ok-None
@@ -21,9 +21,9 @@ pub returns-in-Err : goal.returns-in-Err
 returns-in-Err g c = record {
   writes = writes_until _ _ _ c.lines.number (g.R.Source.state c.args.reader.now) (g.R.Source.state c.lines.reader) (g.R.Source.state c.next_made.new.reader)
       _ c.in-Err.stop
-      c.lines.invariant.drawn c.in-Err.ensures.refused;
+      c.lines.invariant.drawn c.in-Err.ensures.refusal;
   read = grind (arith, c.in-Err.ensures.failure);
-  write = grind (arith, c.lines.invariant.writer_sound, never_write _ _ _ c.in-Err.stop c.in-Err.ensures.refused);
+  write = grind (arith, c.lines.invariant.writer_sound, never_write _ _ _ c.in-Err.stop c.in-Err.ensures.refusal);
 }
 
 pub lines-init : goal.lines-init

@@ -1,7 +1,7 @@
 -- The line is left out, and its rest was read, or reading failed there.
 use Rattle.std.proofs.Common.{arith, rules}
 use Rattle.programs.specs.Lines.{ReadsLine}
-use Rattle.labels.specs.Lines.{IsLeftOut}
+use Rattle.labels.specs.Lines.{IsLineLeftOut}
 use Rattle.labels.proofs.LabelLemmas.{left_out_short, left_out_long, stops_long, stops_at}
 use Rattle.labels.proofs.lines.next_made.Goals.{then-len+in_ok-skip_line-in-Err, else-len}
 use Rattle.labels.proofs.lines.next_made.Goals as goal
@@ -12,9 +12,9 @@ returns-after-len-clause-made g c =
     let b = (g.R.Source.state c.read_line.new.reader).left in
     let line = c.read_line.new.line.items in
     let read : ReadsLine a b line = search rules in
-    let out : IsLeftOut c.args.label.now line c.in-Err.stop = record {
+    let out : IsLineLeftOut c.args.label.now line c.in-Err.stop = record {
       asked = search rules;
-      stopped = rw (c.deref.ensures.value) at c.in-Err.ensures.refused;
+      stopped = rw (c.deref.ensures.value) at c.in-Err.ensures.refusal;
       of_line = search rules;
     } in
     elim c.if-len.branch [
@@ -22,18 +22,18 @@ returns-after-len-clause-made g c =
       | else-len w ↦ rw (w.reader-is) (left_out_short _ _ a b line c.in-Err.stop read (search rules) out)
     ]
 
-pub returns-in_err-skip_line-in-Err-clause-refused : goal.returns-in_err-skip_line-in-Err-clause-refused
-returns-in_err-skip_line-in-Err-clause-refused g c =
+pub returns-in_err-skip_line-in-Err-clause-refusal : goal.returns-in_err-skip_line-in-Err-clause-refusal
+returns-in_err-skip_line-in-Err-clause-refusal g c =
     let a = (g.R.Source.state c.args.reader.now).left in
     let b = (g.R.Source.state c.read_line.new.reader).left in
     let line = c.read_line.new.line.items in
     let read : ReadsLine a b line = search rules in
     grind (arith, stops_long c.args.label.now a b (g.R.Source.state c.skip_line.new.reader).left line c.in_err-skip_line-in-Err.field-0.0 read)
 
-pub returns-in-Err-2-clause-refused : goal.returns-in-Err-2-clause-refused
-returns-in-Err-2-clause-refused g c =
+pub returns-in-Err-2-clause-refusal : goal.returns-in-Err-2-clause-refusal
+returns-in-Err-2-clause-refusal g c =
     let a = (g.R.Source.state c.args.reader.now).left in
     let b = (g.R.Source.state c.read_line.new.reader).left in
     let line = c.read_line.new.line.items in
     let read : ReadsLine a b line = search rules in
-    stops_at c.args.label.now a b line c.in-Err.stop read (rw (c.deref.ensures.value) at c.in-Err.ensures.refused) (search rules)
+    stops_at c.args.label.now a b line c.in-Err.stop read (rw (c.deref.ensures.value) at c.in-Err.ensures.refusal) (search rules)

@@ -14,13 +14,13 @@ pub returns-in-Err-clause-outcome : goal.returns-in-Err-clause-outcome
 returns-in-Err-clause-outcome g c =
     puts_none c.args.label.now c.args.options.now (g.R.Source.state c.args.reader.now) (g.R.Source.state c.read_up_to.new.reader)
     (g.F.Files.state c.args.files.now) (numbering_of c.args.name.now) (string_bytes c.args.path.now) c.in_ok-bytes.bytes.items c.in-Err.stop
-    c.in_ok-bytes.ensures.read (rw (c.deref.ensures.value) at c.in-Err.ensures.refused) (grind (arith, c.in_ok-bytes.ensures.failure)) (search rules)
+    c.in_ok-bytes.ensures.read (rw (c.deref.ensures.value) at c.in-Err.ensures.refusal) (grind (arith, c.in_ok-bytes.ensures.failure)) (search rules)
 
 pub returns-in-Err-details_message-clause-outcome : goal.returns-in-Err-details_message-clause-outcome
 returns-in-Err-details_message-clause-outcome g c =
     puts_none_or c.args.label.now c.args.options.now (g.R.Source.state c.args.reader.now) (g.R.Source.state c.read_up_to.new.reader)
     (g.F.Files.state c.args.files.now) (numbering_of c.args.name.now) (string_bytes c.args.path.now) c.in_ok-bytes.bytes.items c.in-Err-details_message.stop
-    c.in_ok-bytes.ensures.read (rw (c.deref-2.ensures.value) at c.in-Err-details_message.ensures.refused) (grind (arith, c.in_ok-bytes.ensures.failure)) (search rules)
+    c.in_ok-bytes.ensures.read (rw (c.deref-2.ensures.value) at c.in-Err-details_message.ensures.refusal) (grind (arith, c.in_ok-bytes.ensures.failure)) (search rules)
 
 pub returns-clause-outcome : goal.returns-clause-outcome
 returns-clause-outcome g c =
@@ -36,4 +36,4 @@ returns-clause-outcome g c =
     } in
     puts_first c.args.label.now c.args.options.now r s (g.F.Files.state c.args.files.now) (g.F.Files.state c.put_parts.new.files) (numbering_of c.args.name.now)
     (string_bytes c.put_parts.new.path) drawings c.in-Ok-details_message.details.items c.in-Err-put_parts.stop are
-    (rw (c.deref-3.ensures.value) at c.in-Err-put_parts.ensures.some) (grind (arith, c.in_ok-bytes.ensures.failure))
+    (rw (c.deref-3.ensures.value) at c.in-Err-put_parts.ensures.begun) (grind (arith, c.in_ok-bytes.ensures.failure))

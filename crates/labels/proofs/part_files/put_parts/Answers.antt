@@ -17,8 +17,8 @@ parts-preserved g c =
       sound = search rules;
     }
 
-pub returns-in-Err-clause-some : goal.returns-in-Err-clause-some
-returns-in-Err-clause-some g c =
+pub returns-in-Err-clause-begun : goal.returns-in-Err-clause-begun
+returns-in-Err-clause-begun g c =
     let vs = c.args.drawings.now in
     let within : c.parts.index < length (map vec_items vs) = grind (arith, common_steps) in
     parts_stopped (numbering_of c.args.name.now) (g.F.Files.state c.args.files.now) (g.F.Files.state c.parts.files) (g.F.Files.state c.put_part.new.files)

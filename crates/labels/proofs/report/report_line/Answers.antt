@@ -2,7 +2,7 @@
 use Rattle.std.proofs.Common.{codes, decimal, rules}
 use Rattle.programs.specs.Devices.{output}
 use Rattle.programs.proofs.DeviceLemmas.{Writes-stopped, Writes-next}
-use Rattle.labels.specs.{Placed.devices_of, Stops.stop_report}
+use Rattle.labels.specs.{Devices.devices_of, Stops.stop_report}
 use Rattle.labels.proofs.report.report_line.Goals as goal
 
 pub returns-then-is_err-clause-reported : goal.returns-then-is_err-clause-reported

@@ -15,7 +15,7 @@ pub returns-in-Err : goal.returns-in-Err
 returns-in-Err g c =
     inr (
       c.in-Err.setting,
-      c.in-Err.ensures.refused,
+      c.in-Err.ensures.refusal,
       record {
         status_is = c.wrong_setting.ensures.status;
         untouched = (refl, refl, refl);

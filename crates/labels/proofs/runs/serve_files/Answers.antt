@@ -25,6 +25,6 @@ returns g c =
       status_is = (rw (c.reason.ensures, c.reason-2.ensures) at c.lines_status.ensures.status)
           ∙ lines_status-same source c.as_str.result.now (name (last_number outcome)) read written outcome;
       reports = subst (λ line. Writes (output (e c.draw_files-outcome.new.errors) (e c.lines_status.new.errors)) line)
-          (lines_said source (string_bytes c.draw_files-outcome.new.path) name read written outcome c.draw_files-outcome.ensures.named)
+          (lines_said source (string_bytes c.draw_files-outcome.new.path) name read written outcome c.draw_files-outcome.ensures.numbered)
           (rw (c.reason.ensures, c.reason-2.ensures, c.as_str.ensures.value) at c.lines_status.ensures.reported);
     }

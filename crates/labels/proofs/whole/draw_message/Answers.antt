@@ -9,13 +9,13 @@ pub returns-in-Err-clause-outcome : goal.returns-in-Err-clause-outcome
 returns-in-Err-clause-outcome g c =
     writes_none_or (message_of c.args.label.now c.args.options.now) (g.R.Source.state c.args.reader.now) (g.R.Source.state c.read_up_to.new.reader)
     (g.W.Sink.state c.args.writer.now) c.in_ok-bytes.bytes.items c.in-Err.stop (no_device_message c.args.label.now c.in_ok-bytes.bytes.items)
-    c.in_ok-bytes.ensures.read (rw (c.deref.ensures.value) at c.in-Err.ensures.refused) (grind (arith, c.in_ok-bytes.ensures.failure)) (search rules)
+    c.in_ok-bytes.ensures.read (rw (c.deref.ensures.value) at c.in-Err.ensures.refusal) (grind (arith, c.in_ok-bytes.ensures.failure)) (search rules)
 
 pub returns-in-Err-details_message-clause-outcome : goal.returns-in-Err-details_message-clause-outcome
 returns-in-Err-details_message-clause-outcome g c =
     writes_none_or (message_of c.args.label.now c.args.options.now) (g.R.Source.state c.args.reader.now) (g.R.Source.state c.read_up_to.new.reader)
     (g.W.Sink.state c.args.writer.now) c.in_ok-bytes.bytes.items c.in-Err-details_message.stop (no_device_message c.args.label.now c.in_ok-bytes.bytes.items)
-    c.in_ok-bytes.ensures.read (rw (c.deref-2.ensures.value) at c.in-Err-details_message.ensures.refused) (grind (arith, c.in_ok-bytes.ensures.failure)) (search rules)
+    c.in_ok-bytes.ensures.read (rw (c.deref-2.ensures.value) at c.in-Err-details_message.ensures.refusal) (grind (arith, c.in_ok-bytes.ensures.failure)) (search rules)
 
 pub returns-in-Ok-write_all-clause-outcome : goal.returns-in-Ok-write_all-clause-outcome
 returns-in-Ok-write_all-clause-outcome g c =

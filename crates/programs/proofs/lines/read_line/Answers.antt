@@ -20,8 +20,8 @@ returns-then-byte-eq10-clause-line g c done =
       short = grind (arith, common_steps, strip_shorter 13 c.reading.line.items);
     }))
 
-pub returns-in_err-map_err-clause-part : goal.returns-in_err-map_err-clause-part
-returns-in_err-map_err-clause-part g c = on_err c.from_residual.result (record {
+pub returns-in_err-map_err-clause-beginning : goal.returns-in_err-map_err-clause-beginning
+returns-in_err-map_err-clause-beginning g c = on_err c.from_residual.result (record {
   part = c.reading.line.items ++ take c.in-Some.field-0 c.pull.new.buf;
   begins = part_more _ _ _ c.reading.line.items _ c.reading.invariant.part c.in-Some.ensures.bytes (grind (arith, common_steps));
 })

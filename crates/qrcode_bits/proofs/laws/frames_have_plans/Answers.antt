@@ -1,8 +1,8 @@
 use Rattle.qrcode_bits.proofs.FramePlans.{frame-plan, frame-smallest, frame-shortest}
 use Rattle.qrcode_bits.proofs.laws.frames_have_plans.Goals as goal
 
-pub returns-clause-kept : goal.returns-clause-kept
-returns-clause-kept c = frame-plan
+pub returns-clause-whole_units : goal.returns-clause-whole_units
+returns-clause-whole_units c = frame-plan
 
 pub returns-clause-smallest : goal.returns-clause-smallest
 returns-clause-smallest c = λ kind level front bytes limit number smaller payload plan bits apart choice frame.

@@ -12,8 +12,8 @@ returns-clause-least c = λ version pieces bits spellable kept least.
     let w = shortest version pieces spellable kept in
     omega (arith, least.least w.0 w.1, w.2)
 
-pub returns-clause-kept : goal.returns-clause-kept
-returns-clause-kept c = no_pair-kept
+pub returns-clause-whole_units : goal.returns-clause-whole_units
+returns-clause-whole_units c = no_pair-kept
 
 pub returns-clause-no_leads : goal.returns-clause-no_leads
 returns-clause-no_leads c = no_lead-no_pair

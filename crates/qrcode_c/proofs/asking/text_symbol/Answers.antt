@@ -9,10 +9,10 @@ pub core_refusal-requires : goal.core_refusal-requires
 core_refusal-requires c =
     let text = c.in-Ok.ensures.cases in
     options_known c.in_ok-checked.checked (front_of None Text) c.args.text.now c.in-Err.error c.in_ok-checked.ensures.range
-    (rw text.0 at c.in-Err.ensures.refused)
+    (rw text.0 at c.in-Err.ensures.refusal)
 
-pub returns-in-Err-clause-refused : goal.returns-in-Err-clause-refused
-returns-in-Err-clause-refused c =
+pub returns-in-Err-clause-refusal : goal.returns-in-Err-clause-refusal
+returns-in-Err-clause-refusal c =
     let text = c.in-Ok.ensures.cases in
     text_refused c.args.text.now c.args.options.now c.in_ok-checked.checked _ c.in-Err.error c.core_refusal.result
-    c.in_ok-checked.ensures.means c.in_ok-checked.ensures.range text.1 (rw text.0 at c.in-Err.ensures.refused) c.core_refusal.ensures
+    c.in_ok-checked.ensures.means c.in_ok-checked.ensures.range text.1 (rw text.0 at c.in-Err.ensures.refusal) c.core_refusal.ensures

@@ -11,8 +11,8 @@ returns-in-Ok-clause-held c =
     best_held (IsBestMicroSymbol c.args.bytes.now) c.in-Some.level c.args.level c.in-Ok.symbol c.args.modules.now _ c.write.result
     named c.in-Ok.ensures.best c.in-Ok.ensures.reading c.write.ensures.held
 
-pub returns-in-Ok-clause-refused : goal.returns-in-Ok-clause-refused
-returns-in-Ok-clause-refused c =
+pub returns-in-Ok-clause-refusal : goal.returns-in-Ok-clause-refusal
+returns-in-Ok-clause-refusal c =
     let named : c.args.level ≡ level_argument c.in-Some.level = sym (to_z-of_z w32 c.args.level c.ranges.level) ∙ c.in-Some.ensures.level in
-    short_refused _ _ c.write.result c.write.ensures.short c.write.ensures.room
+    short_refused _ _ c.write.result c.write.ensures.short c.write.ensures.short_buffer
     (λ less. (c.in-Some.level, named, (c.in-Ok.symbol.modules, c.in-Ok.ensures.best, less)))

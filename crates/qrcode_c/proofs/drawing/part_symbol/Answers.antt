@@ -18,14 +18,14 @@ returns-in-Ok-clause-held c =
     part_held c.args.message.now c.args.cuts.now c.in-Some.level c.args.level c.args.max_version c.args.index c.in-Ok.symbol c.args.modules.now _
     c.write.result named part c.in-Ok.ensures.reading c.write.ensures.held
 
-pub returns-in-Ok-clause-refused : goal.returns-in-Ok-clause-refused
-returns-in-Ok-clause-refused c =
+pub returns-in-Ok-clause-refusal : goal.returns-in-Ok-clause-refusal
+returns-in-Ok-clause-refusal c =
     let named : c.args.level ≡ level_argument c.in-Some.level = sym (to_z-of_z w32 c.args.level c.ranges.level) ∙ c.in-Some.ensures.level in
     let limited = c.in-Some-limit_of.ensures.limit in
     let same = same_limit c.args.max_version c.in-Some-limit_of.limit limited.0 (to_z-of_z w32 c.args.max_version c.ranges.max_version) limited.1 in
     let part = part_of c.args.message.now c.args.cuts.now c.in-Some.level c.args.max_version _ c.args.index c.in-Ok.symbol same c.in-Ok.ensures.total
     c.if-index-cuts.false c.in-Ok.ensures.best c.in-Ok.ensures.fitting in
-    short_refused _ _ c.write.result c.write.ensures.short c.write.ensures.room
+    short_refused _ _ c.write.result c.write.ensures.short c.write.ensures.short_buffer
     (λ less. (c.in-Some.level, named, record { symbol = c.in-Ok.symbol; is_symbol = part; above = less }))
 
 pub core_refusal-requires : goal.core_refusal-requires
@@ -34,16 +34,16 @@ core_refusal-requires c =
     let same = same_limit c.args.max_version c.in-Some-limit_of.limit limited.0 (to_z-of_z w32 c.args.max_version c.ranges.max_version) limited.1 in
     let normal : IsNormalNumber c.args.max_version = search rules in
     let refused = subst (λ (z : ℤ). IsSequenceRefusal Bytes c.args.message.now c.args.cuts.now c.in-Some.level z c.in-Err.error) same
-    c.in-Err.ensures.refused in
+    c.in-Err.ensures.refusal in
     sequence_known Bytes c.args.message.now c.args.cuts.now c.in-Some.level c.args.max_version c.in-Err.error normal refused
 
-pub returns-in-Err-clause-refused : goal.returns-in-Err-clause-refused
-returns-in-Err-clause-refused c =
+pub returns-in-Err-clause-refusal : goal.returns-in-Err-clause-refusal
+returns-in-Err-clause-refusal c =
     let named : c.args.level ≡ level_argument c.in-Some.level = sym (to_z-of_z w32 c.args.level c.ranges.level) ∙ c.in-Some.ensures.level in
     let limited = c.in-Some-limit_of.ensures.limit in
     let same = same_limit c.args.max_version c.in-Some-limit_of.limit limited.0 (to_z-of_z w32 c.args.max_version c.ranges.max_version) limited.1 in
     let refused = subst (λ (z : ℤ). IsSequenceRefusal Bytes c.args.message.now c.args.cuts.now c.in-Some.level z c.in-Err.error) same
-    c.in-Err.ensures.refused in
+    c.in-Err.ensures.refusal in
     let asked : IsAsked c.args.message.now c.args.cuts.now c.args.max_version c.args.index = search rules in
     part_refused c.args.message.now c.args.cuts.now c.in-Some.level c.args.level c.args.max_version c.args.index _ c.in-Err.error c.core_refusal.result
     named asked refused c.core_refusal.ensures

@@ -10,7 +10,7 @@ pub returns-in-Err-clause-faultless : goal.returns-in-Err-clause-faultless
 returns-in-Err-clause-faultless c =
     none_written c.digital_link-in-Err.result c.args.text.now _ c.digital_link-in-Err.ensures.faultless
 
-pub returns-in-Err-clause-refused : goal.returns-in-Err-clause-refused
-returns-in-Err-clause-refused c =
+pub returns-in-Err-clause-refusal : goal.returns-in-Err-clause-refusal
+returns-in-Err-clause-refusal c =
     refused_all c.digital_link-in-Err.result c.args.text.now c.args.domain.now (as_nothing c.args.text.now c.args.domain.now c.in-Err.ensures.cases.0)
-    c.digital_link-in-Err.ensures.refused
+    c.digital_link-in-Err.ensures.refusal

@@ -18,6 +18,7 @@ returns-in-Ok-draw_square-clause-shown c =
           dpi_is = c.settings_of-settings.ensures.dpi_is;
           inverted_is = c.settings_of-settings.ensures.inverted_is;
           title_is = c.settings_of-settings.ensures.title_is;
+          caption_is = c.settings_of-settings.ensures.caption_is;
           at_is = c.settings_of-settings.ensures.at_is;
           copies_is = c.settings_of-settings.ensures.copies_is;
           compressed_is = c.settings_of-settings.ensures.compressed_is;

@@ -10,8 +10,8 @@ returns-clause-held c =
     c.in_ok-bytes.bytes.items c.deref.result.now c.len.result (rw (to_z-of_z w32 c.args.format c.ranges.format) at c.in_ok-bytes.ensures.shown)
     (omega (arith, c.len.ensures, c.in_ok-bytes.bytes.ok)) c.deref.ensures.value c.write_bytes.ensures.written
 
-pub returns-clause-refused : goal.returns-clause-refused
-returns-clause-refused c =
+pub returns-clause-refusal : goal.returns-clause-refusal
+returns-clause-refusal c =
     refused c.write_bytes.result c.args.modules.now c.args.width c.args.format c.args.settings.now c.args.buffer.now
     c.in_ok-bytes.bytes.items c.deref.result.now c.len.result (rw (to_z-of_z w32 c.args.format c.ranges.format) at c.in_ok-bytes.ensures.shown)
-    (omega (arith, c.len.ensures, c.in_ok-bytes.bytes.ok)) c.deref.ensures.value c.write_bytes.ensures.short c.write_bytes.ensures.room
+    (omega (arith, c.len.ensures, c.in_ok-bytes.bytes.ok)) c.deref.ensures.value c.write_bytes.ensures.short c.write_bytes.ensures.short_buffer

@@ -5,11 +5,11 @@ use Rattle.qrcode_bits.specs.declared.bits.front.Content.TheVariants.{Bytes}
 use Rattle.qrcode_c.specs.{Spread.IsSpreadStatus, Statuses.status_of}
 use Rattle.qrcode_c.proofs.sequences.qrcode_c_sequence.Goals as goal
 
-pub returns-in-Err-clause-refused : goal.returns-in-Err-clause-refused
-returns-in-Err-clause-refused c = λ some.
+pub returns-in-Err-clause-refusal : goal.returns-in-Err-clause-refusal
+returns-in-Err-clause-refusal c = λ some.
     let named : to_z w32 (of_z w32 c.status.result) ≡ status_of c.in-Err.refusal = search (rules, to_z-of_z) in
     let level = subst (λ (z : ℤ). IsSpreadStatus Bytes c.args.message.now c.args.cuts.now z (to_z w32 (of_z w32 c.args.max_version))
-    (length c.args.modules.now) (length c.args.shapes.now) c.in-Err.refusal) (to_z-of_z w32 c.args.level c.ranges.level) c.in-Err.ensures.refused in
+    (length c.args.modules.now) (length c.args.shapes.now) c.in-Err.refusal) (to_z-of_z w32 c.args.level c.ranges.level) c.in-Err.ensures.refusal in
     let refused = subst (λ (z : ℤ). IsSpreadStatus Bytes c.args.message.now c.args.cuts.now c.args.level z
     (length c.args.modules.now) (length c.args.shapes.now) c.in-Err.refusal) (to_z-of_z w32 c.args.max_version c.ranges.max_version) level in
     (c.in-Err.refusal, named, refused)

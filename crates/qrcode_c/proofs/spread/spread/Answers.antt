@@ -15,16 +15,16 @@ core_refusal-requires c =
     let same = same_limit c.args.max_version c.in-Some-limit_of.limit limited.0 (to_z-of_z w32 c.args.max_version c.ranges.max_version) limited.1 in
     let normal : IsNormalNumber c.args.max_version = search rules in
     let refused = subst (λ (z : ℤ). IsSequenceRefusal Bytes c.args.message.now c.args.cuts.now c.in-Some.level z c.in-Err.error) same
-    c.in-Err.ensures.refused in
+    c.in-Err.ensures.refusal in
     sequence_known Bytes c.args.message.now c.args.cuts.now c.in-Some.level c.args.max_version c.in-Err.error normal refused
 
-pub returns-in-Err-clause-refused : goal.returns-in-Err-clause-refused
-returns-in-Err-clause-refused c =
+pub returns-in-Err-clause-refusal : goal.returns-in-Err-clause-refusal
+returns-in-Err-clause-refusal c =
     let named : c.args.level ≡ level_argument c.in-Some.level = sym (to_z-of_z w32 c.args.level c.ranges.level) ∙ c.in-Some.ensures.level in
     let limited = c.in-Some-limit_of.ensures.limit in
     let same = same_limit c.args.max_version c.in-Some-limit_of.limit limited.0 (to_z-of_z w32 c.args.max_version c.ranges.max_version) limited.1 in
     let refused = subst (λ (z : ℤ). IsSequenceRefusal Bytes c.args.message.now c.args.cuts.now c.in-Some.level z c.in-Err.error) same
-    c.in-Err.ensures.refused in
+    c.in-Err.ensures.refusal in
     let valid : AreValid Bytes c.args.message.now c.args.cuts.now c.args.max_version = search rules in
     spread_refused Bytes c.args.message.now c.args.cuts.now c.in-Some.level c.args.level c.args.max_version _ _ c.in-Err.error c.core_refusal.result
     named valid refused c.core_refusal.ensures

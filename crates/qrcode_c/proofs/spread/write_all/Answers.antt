@@ -1,6 +1,6 @@
 -- The modules and the shape of one symbol more.
 use Rattle.std.proofs.Common.{◌≡◌, ◌∙◌, ◌++◌, ◌+◌, sym, ap, map, take, drop, get_or, length, set, arith, add-one}
-use Rattle.qrcode_core.specs.Drawn.{DrawnSymbol}
+use Rattle.qrcode_core.specs.Symbol.{DrawnSymbol}
 use Rattle.qrcode_grid.specs.Penalty.{byte_of}
 use Rattle.qrcode_c.specs.Shapes.{shape_of}
 use Rattle.qrcode_c.specs.Spread.{bytes_of, bytes_of_all}

@@ -1,6 +1,6 @@
 -- One letter more.
 use Rattle.std.proofs.Common.{◌≡◌, ◌+◌, ◌-◌, ◌++◌, ◌∷◌, [], subst, arith}
-use Rattle.qrcode_render.specs.Encoded.{SaysCount}
+use Rattle.qrcode_render.specs.CompressedData.{SaysCount}
 use Rattle.qrcode_render.proofs.ReadingLemmas.{adds_more, one_letter}
 use Rattle.qrcode_render.proofs.compressed.push_count.Goals as goal
 

@@ -1,6 +1,6 @@
 -- The letters so far.
 use Rattle.std.proofs.Common.{◌-◌, ◌≤◌}
-use Rattle.qrcode_render.specs.Encoded.{AddsPiece, SaysCount}
+use Rattle.qrcode_render.specs.CompressedData.{AddsPiece, SaysCount}
 use Rattle.qrcode_render.proofs.compressed.push_count.Given as goal
 
 abbrev pub invariant-loop-left : goal.invariant-loop-left

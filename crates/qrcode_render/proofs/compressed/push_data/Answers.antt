@@ -1,8 +1,8 @@
 -- One row more, and all of them.
 use Rattle.std.proofs.Common.{◌≡◌, ◌≢◌, ◌+◌, ◌*◌, ◌%◌, ◌∙◌, ◌∷◌, [], List, ℕ, ap, sym, subst, length, rules, arith}
 use Rattle.std.proofs.lemmas.List.{with_items_is}
-use Rattle.grid_pictures.specs.{Bitmaps.row_length, Shown.shown}
-use Rattle.qrcode_render.specs.{Compressed.Compresses, Encoded.AddsPiece, Encoded.SaysRow, Zpl.row_digits}
+use Rattle.grid_pictures.specs.{Bitmaps.row_length, Picture.shown}
+use Rattle.qrcode_render.specs.{Compressed.Compresses, CompressedData.AddsPiece, CompressedData.SaysRow, Zpl.row_digits}
 use Rattle.qrcode_render.proofs.FieldLemmas.{SaysField, digits_of, field_again, field_none, field_row, field_whole}
 use Rattle.qrcode_render.proofs.ReadingLemmas.{adds_as, adds_both, adds_more, adds_none}
 use Rattle.qrcode_render.proofs.compressed.push_data.Goals as goal

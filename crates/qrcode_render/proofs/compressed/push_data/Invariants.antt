@@ -1,7 +1,7 @@
 -- The rows so far.
 use Rattle.std.proofs.Common.{◌≡◌, ◌*◌, length}
-use Rattle.grid_pictures.specs.{Bitmaps.row_length, Shown.shown}
-use Rattle.qrcode_render.specs.Encoded.{AddsPiece}
+use Rattle.grid_pictures.specs.{Bitmaps.row_length, Picture.shown}
+use Rattle.qrcode_render.specs.CompressedData.{AddsPiece}
 use Rattle.qrcode_render.proofs.FieldLemmas.{SaysField}
 use Rattle.qrcode_render.proofs.compressed.push_data.Given as goal
 

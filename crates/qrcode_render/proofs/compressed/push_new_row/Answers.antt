@@ -1,8 +1,8 @@
 -- The digits are those of the row.
 use Rattle.std.proofs.Common.{◌≡◌, ◌∙◌, List, ℕ, ap, subst, sym, true}
 use Rattle.std.specs.Prelude.{All, OnOk, flat_map}
-use Rattle.grid_pictures.specs.{Bitmaps.bitmap_row, Shown.shown}
-use Rattle.qrcode_render.specs.{Compressed.is_hex_digit, Encoded.AddsPiece, Encoded.SaysRow, Zpl.hex_pair}
+use Rattle.grid_pictures.specs.{Bitmaps.bitmap_row, Picture.shown}
+use Rattle.qrcode_render.specs.{Compressed.is_hex_digit, CompressedData.AddsPiece, CompressedData.SaysRow, Zpl.hex_pair}
 use Rattle.qrcode_render.proofs.FieldLemmas.{row_hexes}
 use Rattle.qrcode_render.proofs.compressed.push_new_row.Goals as goal
 

@@ -1,6 +1,6 @@
 -- A comma, an exclamation mark, or the digits.
 use Rattle.std.proofs.Common.{◌≡◌, ℕ, ◌∷◌, [], replicate, subst, arith}
-use Rattle.qrcode_render.specs.Encoded.{EndsRow}
+use Rattle.qrcode_render.specs.CompressedData.{EndsRow}
 use Rattle.qrcode_render.proofs.ReadingLemmas.{adds_piece, ends_with_ones, ends_with_zeros}
 use Rattle.qrcode_render.proofs.compressed.push_rest.Goals as goal
 

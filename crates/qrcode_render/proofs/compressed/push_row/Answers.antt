@@ -1,6 +1,6 @@
 -- One run more, and the end of the row.
 use Rattle.std.proofs.Common.{ℕ, ◌+◌, List, [], replicate, take, get_or, arith}
-use Rattle.qrcode_render.specs.Encoded.{EndsRow, SaysDigits, SaysRow}
+use Rattle.qrcode_render.specs.CompressedData.{EndsRow, SaysDigits, SaysRow}
 use Rattle.qrcode_render.proofs.ReadingLemmas.{adds_both, adds_none, no_digits, on_ok_as, says_last, says_next}
 use Rattle.qrcode_render.proofs.compressed.push_row.Goals as goal
 

@@ -1,6 +1,6 @@
 -- The digits so far, and the run that is next.
 use Rattle.std.proofs.Common.{◌≡◌, ℕ, ◌+◌, ◌-◌, ◌<◌, ◌≤◌, get_or, length, take}
-use Rattle.qrcode_render.specs.Encoded.{AddsPiece, SaysDigits}
+use Rattle.qrcode_render.specs.CompressedData.{AddsPiece, SaysDigits}
 use Rattle.qrcode_render.proofs.compressed.push_row.Given as goal
 
 abbrev pub invariant-loop-start : goal.invariant-loop-start

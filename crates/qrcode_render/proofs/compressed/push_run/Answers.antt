@@ -1,6 +1,6 @@
 -- The digit, after its number or alone.
 use Rattle.std.proofs.Common.{◌≡◌, ◌∷◌, [], replicate, subst, arith}
-use Rattle.qrcode_render.specs.Encoded.{SaysCount, SaysDigits}
+use Rattle.qrcode_render.specs.CompressedData.{SaysCount, SaysDigits}
 use Rattle.qrcode_render.proofs.ReadingLemmas.{adds_more, adds_piece, says_digit, says_run}
 use Rattle.qrcode_render.proofs.compressed.push_run.Goals as goal
 

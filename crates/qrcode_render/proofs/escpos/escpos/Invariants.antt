@@ -1,6 +1,6 @@
 -- The bands so far.
 use Rattle.std.proofs.Common.{◌≡◌}
-use Rattle.grid_pictures.specs.Shown.{shown}
+use Rattle.grid_pictures.specs.Picture.{shown}
 use Rattle.qrcode_render.specs.EscPos.{first_bands}
 use Rattle.qrcode_render.proofs.escpos.escpos.Given as goal
 

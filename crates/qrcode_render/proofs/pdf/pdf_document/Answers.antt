@@ -1,9 +1,9 @@
 -- The start, the page and the end are the document.
 use Rattle.std.proofs.Common.{◌≡◌, ◌+◌, ◌++◌, ◌∙◌, [], ◌∷◌, ap, length}
 use Rattle.std.specs.Option.{option_copied}
-use Rattle.grid_pictures.specs.Shown.{shown}
+use Rattle.grid_pictures.specs.Picture.{shown}
 use Rattle.qrcode_render.specs.Pdf.{pdf_page}
-use Rattle.qrcode_render.specs.PdfWritten.{page_object, page_text, pdf_end, pdf_start}
+use Rattle.qrcode_render.specs.PdfPagesWritten.{page_object, page_text, pdf_end, pdf_start}
 use Rattle.qrcode_render.proofs.PdfLemmas.{one_page}
 use Rattle.qrcode_render.proofs.pdf.pdf_document.Goals as goal
 

@@ -2,9 +2,9 @@
 use Rattle.std.proofs.Common.{◌≡◌, Bool, refl, subst, rules}
 use Rattle.picture_settings.specs.Formats.{is_text_format}
 use Rattle.grid_pictures.specs.Pictures.{Picture, picture}
-use Rattle.grid_pictures.specs.Shown.{shown}
+use Rattle.grid_pictures.specs.Picture.{shown}
 use Rattle.qrcode_render.specs.Drawings.{IsPictureAs, drawn_bytes, is_drawn_text}
-use Rattle.qrcode_render.specs.Rendered.{IsOutput}
+use Rattle.qrcode_render.specs.Renderers.{IsOutput}
 use Rattle.qrcode_render.proofs.renderers.render_as.Goals as goal
 
 pub returns-in_ok-draw_as-in-Some : goal.returns-in_ok-draw_as-in-Some

@@ -1,6 +1,6 @@
 -- The height in fields, rounded up.
 use Rattle.std.proofs.Common.{◌+◌, ◌-◌, ◌/◌, ◌∙◌, ap}
-use Rattle.grid_pictures.specs.{Pictures.pixel_height, Shown.shown}
+use Rattle.grid_pictures.specs.{Pictures.pixel_height, Picture.shown}
 use Rattle.qrcode_render.proofs.BandLemmas.{rounded_up}
 use Rattle.qrcode_render.proofs.zpl.field_count.Goals as goal
 

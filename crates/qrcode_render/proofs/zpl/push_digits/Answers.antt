@@ -3,7 +3,7 @@ use Rattle.std.proofs.Common.{◌≡◌, ◌-◌, ◌*◌, ◌++◌, ◌∙◌, 
 use Rattle.std.specs.Prelude.{flat_map}
 use Rattle.std.proofs.lemmas.List.{with_items_is}
 use Rattle.picture_settings.proofs.Ranges.{joined}
-use Rattle.grid_pictures.specs.{Shown.shown, Bitmaps.rows_from, Bitmaps.bitmap_row, Bitmaps.row_length}
+use Rattle.grid_pictures.specs.{Picture.shown, Bitmaps.rows_from, Bitmaps.bitmap_row, Bitmaps.row_length}
 use Rattle.grid_pictures.proofs.BitmapLemmas.{row_next}
 use Rattle.qrcode_render.specs.Zpl.{hex_pair}
 use Rattle.qrcode_render.proofs.BandLemmas.{digits_row}

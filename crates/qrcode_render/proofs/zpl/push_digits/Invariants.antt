@@ -2,7 +2,7 @@
 -- in the same row of modules.
 use Rattle.std.proofs.Common.{◌≡◌, ◌≢◌, ◌-◌, ◌*◌, ◌%◌, ◌++◌, length}
 use Rattle.std.specs.Prelude.{flat_map}
-use Rattle.grid_pictures.specs.{Bitmaps.bitmap_row, Bitmaps.row_length, Bitmaps.rows_from, Shown.shown}
+use Rattle.grid_pictures.specs.{Bitmaps.bitmap_row, Bitmaps.row_length, Bitmaps.rows_from, Picture.shown}
 use Rattle.qrcode_render.specs.Zpl.{hex_pair}
 use Rattle.qrcode_render.proofs.zpl.push_digits.Given as goal
 

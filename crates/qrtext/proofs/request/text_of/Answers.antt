@@ -1,7 +1,7 @@
 -- A row that is written gives a line.
 use Rattle.std.proofs.Common.{arith, ◌≡◌, ℕ, ◌+◌, ◌≤◌, List, [], ◌∷◌, ◌++◌, length, map, take, sym, ap}
 use Rattle.std.proofs.lemmas.Grind.{common_steps}
-use Rattle.qrcode_core.specs.{Drawn.drawn_grid, Grids.Grid, Grids.row_of}
+use Rattle.qrcode_core.specs.{Symbol.drawn_grid, Grids.Grid, Grids.row_of}
 use Rattle.qrtext.{specs.Drawing.text_lines, specs.Drawing.module_character, proofs.TextLemmas.lines_more}
 use Rattle.qrtext.proofs.request.text_of.Goals as goal
 

@@ -1,6 +1,6 @@
 -- The text has the lines of the first rows, and the first characters of the next row.
 use Rattle.std.proofs.Common.{◌≡◌, ◌++◌, map, take}
-use Rattle.qrcode_core.specs.{Drawn.drawn_grid, Grids.row_of}
+use Rattle.qrcode_core.specs.{Symbol.drawn_grid, Grids.row_of}
 use Rattle.qrtext.specs.Drawing.{text_lines, module_character}
 use Rattle.qrtext.proofs.request.text_of.Given as goal
 

@@ -2,8 +2,8 @@
 use Rattle.std.proofs.{Common.arith, lemmas.Option.slice_get-get_or}
 use Rattle.single_label.proofs.content.utf8_of.Goals as goal
 
-pub returns-in-Err-clause-refused : goal.returns-in-Err-clause-refused
-returns-in-Err-clause-refused c =
+pub returns-in-Err-clause-refusal : goal.returns-in-Err-clause-refusal
+returns-in-Err-clause-refusal c =
     let valid = c.in-Err.ensures.cases.1 in (
       c.in-Err.ensures.cases.0,
       record {

@@ -1,6 +1,6 @@
 -- The element is the one that was found.
 use Rattle.std.proofs.Common.{Some, sym}
-use Rattle.single_label.specs.GivenElements.{given_element}
+use Rattle.single_label.specs.Element.{given_element}
 use Rattle.single_label.proofs.element.written_stop.Goals as goal
 
 pub returns-in-Some-written_element-clause-named : goal.returns-in-Some-written_element-clause-named

@@ -6,8 +6,8 @@ use Rattle.single_label.specs.{Labels.IsLabelData, Labels.IsLabelStop}
 use Rattle.single_label.proofs.StopLemmas.{if_err, IsLinkOrContentStop, said_stop}
 use Rattle.single_label.proofs.label.label_bytes.Goals as goal
 
-pub returns-then-eq-clause-refused : goal.returns-then-eq-clause-refused
-returns-then-eq-clause-refused g c =
+pub returns-then-eq-clause-refusal : goal.returns-then-eq-clause-refusal
+returns-then-eq-clause-refusal g c =
     let label = c.args.label.now in
     let bytes = c.args.bytes.now in
     let text = c.content_of-content.result.now in
@@ -19,4 +19,4 @@ returns-then-eq-clause-refused g c =
       text = text;
       text_is = c.content_of-content.ensures.content;
       stopped = inr (some, said_stop label text stop is h);
-    })) c.link_label.ensures.refused
+    })) c.link_label.ensures.refusal

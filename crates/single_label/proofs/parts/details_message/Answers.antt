@@ -7,11 +7,11 @@ use Rattle.single_label.specs.declared.stop.Stop.TheVariants.{Fault}
 use Rattle.single_label.proofs.StopLemmas.{if_err, details_stop_message}
 use Rattle.single_label.proofs.parts.details_message.Goals as goal
 
-pub returns-then-eq-clause-refused : goal.returns-then-eq-clause-refused
-returns-then-eq-clause-refused c =
+pub returns-then-eq-clause-refusal : goal.returns-then-eq-clause-refusal
+returns-then-eq-clause-refusal c =
     let label = c.args.label.now in
     let bytes = c.args.bytes.now in
     if_err (λ stop. (stop ≡ Fault (Symbol OutOfMemory)) ⊎ IsMessageStop (details_label label) bytes stop)
     (λ stop. (stop ≡ Fault (Symbol OutOfMemory)) ⊎ IsMessageStop label bytes stop) c.message_text.result
     (λ stop h. elim h [ inl memory ↦ inl memory | inr is ↦ inr (details_stop_message label bytes stop is) ])
-    (rw (c.details_label.ensures) at c.message_text.ensures.refused)
+    (rw (c.details_label.ensures) at c.message_text.ensures.refusal)

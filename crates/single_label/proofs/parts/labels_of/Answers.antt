@@ -10,6 +10,6 @@ loop-symbol-preserved c =
     let i = c.loop-symbol.symbol-index in
     let more : c.push.new.self.items ≡ c.loop-symbol.drawings.items ++ c.in_ok-drawing.drawing ∷ [] = search rules in
     let within : i < length c.args.symbols.now = search rules in
-    let shown : ShowsSymbol c.args.label.now c.args.options.now None (get_or c.args.symbols.now i c.symbol-item.result) c.in_ok-drawing.drawing.items = search rules in
+    let shown : ShowsSymbol c.args.label.now c.args.options.now None None (get_or c.args.symbols.now i c.symbol-item.result) c.in_ok-drawing.drawing.items = search rules in
     rw more (shown_more c.args.label.now c.args.options.now c.args.symbols.now i c.symbol-item.result c.loop-symbol.drawings.items c.in_ok-drawing.drawing within
     c.loop-symbol.invariant shown)

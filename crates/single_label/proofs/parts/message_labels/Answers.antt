@@ -7,8 +7,8 @@ use Rattle.single_label.specs.Details.{IsDetailsStop}
 use Rattle.single_label.proofs.StopLemmas.{if_err, if_ok, message_no_details, too_long_is}
 use Rattle.single_label.proofs.parts.message_labels.Goals as goal
 
-pub returns-in-Ok-clause-refused : goal.returns-in-Ok-clause-refused
-returns-in-Ok-clause-refused c =
+pub returns-in-Ok-clause-refusal : goal.returns-in-Ok-clause-refusal
+returns-in-Ok-clause-refusal c =
     let label = c.args.label.now in
     let content = c.content_of-content.result.now in
     let some : IsLabelData label content = search rules in
@@ -18,14 +18,14 @@ returns-in-Ok-clause-refused c =
       content = content;
       content_is = c.content_of-content.ensures.content;
       stopped = inr (some, inl (message_no_details label content stop _ c.in-Ok.ensures.limit c.in-Ok.ensures.symbol is));
-    })) c.one_label.ensures.refused
+    })) c.one_label.ensures.refusal
 
 pub returns-in-Err-clause-shown : goal.returns-in-Err-clause-shown
 returns-in-Err-clause-shown c =
     let label = c.args.label.now in
     let content = c.content_of-content.result.now in
     let some : IsLabelData label content = search rules in
-    let long = too_long_is label.content label.symbol content c.in-Err.stop (search rules) c.in-Err.ensures.refused in
+    let long = too_long_is label.content label.symbol content c.in-Err.stop (search rules) c.in-Err.ensures.refusal in
     if_ok (λ drawings. AreLabelsTogether label c.args.options.now content (map vec_items drawings.items))
     (λ drawings. ShowMessage label c.args.options.now c.args.bytes.now (map vec_items drawings.items)) c.sequence_labels.result (λ drawings together. record {
       content = content;
@@ -34,17 +34,17 @@ returns-in-Err-clause-shown c =
       shown = inr (long, together);
     }) c.sequence_labels.ensures.shown
 
-pub returns-in-Err-clause-refused : goal.returns-in-Err-clause-refused
-returns-in-Err-clause-refused c =
+pub returns-in-Err-clause-refusal : goal.returns-in-Err-clause-refusal
+returns-in-Err-clause-refusal c =
     let label = c.args.label.now in
     let content = c.content_of-content.result.now in
     let some : IsLabelData label content = search rules in
     let short : length c.args.bytes.now ≤ LONGEST_MESSAGE = search rules in
-    let long = too_long_is label.content label.symbol content c.in-Err.stop (search rules) c.in-Err.ensures.refused in
+    let long = too_long_is label.content label.symbol content c.in-Err.stop (search rules) c.in-Err.ensures.refusal in
     if_err (λ stop. AreNotDrawn label content stop ⊎ IsPartsStop label content stop) (IsMessageStop label c.args.bytes.now) c.sequence_labels.result
     (λ stop none. inr (record {
       short = short;
       content = content;
       content_is = c.content_of-content.ensures.content;
       stopped = inr (some, inr (long, none));
-    })) c.sequence_labels.ensures.refused
+    })) c.sequence_labels.ensures.refusal

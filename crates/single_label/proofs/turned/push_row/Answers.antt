@@ -1,7 +1,7 @@
 -- One color more of the row.
 use Rattle.std.proofs.Common.{arith, append_assoc}
 use Rattle.std.proofs.lemmas.{Grind.common_steps, List.FromFn.map-range_with_len_more}
-use Rattle.qrcode_core.specs.Drawn.{drawn_grid}
+use Rattle.qrcode_core.specs.Symbol.{drawn_grid}
 use Rattle.single_label.specs.Turns.{seen_at}
 use Rattle.single_label.proofs.turned.push_row.Goals as goal
 

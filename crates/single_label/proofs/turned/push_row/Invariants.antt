@@ -1,7 +1,7 @@
 -- The colors so far are those of the row.
 use Rattle.std.proofs.Common.{◌≡◌, ◌++◌, map}
 use Rattle.std.specs.List.{range_with_len}
-use Rattle.qrcode_core.specs.Drawn.{drawn_grid}
+use Rattle.qrcode_core.specs.Symbol.{drawn_grid}
 use Rattle.single_label.specs.Turns.{seen_at}
 use Rattle.single_label.proofs.turned.push_row.Given as goal
 

@@ -2,7 +2,7 @@
 use Rattle.std.proofs.Common.{arith}
 use Rattle.std.proofs.lemmas.{Grind.common_steps, List.FromFn.length-map-range_with_len}
 use Rattle.programs.proofs.Ranges.{flat_map_range}
-use Rattle.qrcode_core.specs.Drawn.{drawn_grid}
+use Rattle.qrcode_core.specs.Symbol.{drawn_grid}
 use Rattle.single_label.specs.Turns.{seen_row, seen_at}
 use Rattle.single_label.proofs.turned.turned_colors.Goals as goal
 

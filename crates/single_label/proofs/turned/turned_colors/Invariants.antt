@@ -1,7 +1,7 @@
 -- The colors so far are those of the rows.
 use Rattle.std.proofs.Common.{◌≡◌, ◌*◌, length, flat_map}
 use Rattle.std.specs.List.{range_with_len}
-use Rattle.qrcode_core.specs.Drawn.{drawn_grid}
+use Rattle.qrcode_core.specs.Symbol.{drawn_grid}
 use Rattle.single_label.specs.Turns.{seen_row}
 use Rattle.single_label.proofs.turned.turned_colors.Given as goal
 

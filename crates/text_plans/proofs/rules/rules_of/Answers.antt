@@ -1,4 +1,5 @@
 -- Mode by mode.
+use Rattle.std.proofs.Common.{replicate, false}
 use Rattle.text_plans.specs.declared.rules.Rules.{Rules}
 use Rattle.text_plans.proofs.Headers.{four_headers, four_modes}
 use Rattle.text_plans.proofs.rules.rules_of.Goals as goal
@@ -14,6 +15,9 @@ returns-clause-rules c = let made : Rules = record {
   designator = c.designator_weight.result;
   start = c.lanes_of-start.result.0;
   kanji_lane = c.lanes_of-start.result.1;
+  kept = replicate 19 false;
+  lanes = replicate 17 0;
+  count = 0;
 } in record {
   headers = four_headers c.args.version made c.header_of.ensures.has c.header_of-2.ensures.has c.header_of-3.ensures.has c.header_of-4.ensures.has;
   modes = four_modes c.args.version made c.header_of.ensures.only c.header_of-2.ensures.only c.header_of-3.ensures.only c.header_of-4.ensures.only;

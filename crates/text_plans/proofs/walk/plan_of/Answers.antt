@@ -1,31 +1,53 @@
 -- Each character is written as the rows say.
 use Rattle.std.proofs.Common.{◌≡◌, ℕ, ◌+◌, ◌-◌, ◌≤◌, ◌<◌, List, length, drop, get_or, ap, sym, ◌∙◌, subst, arith, [], false}
+use Rattle.std.specs.Prelude.{Option}
+use Rattle.qrcode_base.specs.declared.types.Mode.{Mode}
 use Rattle.text_reading.specs.Reading.{Part}
-use Rattle.text_plans.specs.Choices.{IsCharStep}
+use Rattle.text_plans.specs.Choices.{IsCharStep, open_value}
 use Rattle.text_plans.specs.Lanes.{AreFacts}
-use Rattle.text_plans.specs.Search.{rests_of}
+use Rattle.text_plans.specs.Plan.{Written}
+use Rattle.text_plans.specs.Keeping.{IsKeptLane, IsRowOf}
+use Rattle.text_plans.specs.Search.{no_rest}
 use Rattle.text_plans.specs.Tables.{AreRowsOf, IsWeighed, first_weight}
 use Rattle.text_plans.specs.Ways.{mixed_of, plain_of}
 use Rattle.text_plans.specs.declared.facts.Facts.{Facts}
 use Rattle.text_plans.specs.declared.row.Rest.{Rest}
+use Rattle.text_plans.specs.declared.row.TheConstants.{LIMIT}
 use Rattle.text_plans.specs.declared.rules.Rules.{Rules}
-use Rattle.text_plans.proofs.Walking.{walk_first, walk_more, walked, none_open, step_small, facts_at, facts_long}
+use Rattle.text_plans.proofs.Rows.{entry}
+use Rattle.text_plans.proofs.Walking.{walk_first, walk_more, walked, before_is, none_open, value_small, facts_at, facts_long}
 use Rattle.text_plans.proofs.walk.plan_of.Goals as goal
 
 abbrev none : Facts
 none = record { digit = false; alphanumeric = false; pair = false; sizes = [] }
 
 row_at : (rules : Rules) (all : List Facts) (rows : List (List Rest)) (k : ℕ) → AreRowsOf rules all rows → k < length all →
-    get_or rows (length all - 1 - k) [] ≡ rests_of rules (drop (k + 1) all)
+    IsRowOf rules (drop (k + 1) all) (get_or rows (length all - 1 - k) [])
 row_at rules all rows k h inside =
     let within : length all - 1 - k ≤ length all = omega arith in
     let e : length all - (length all - 1 - k) ≡ k + 1 = omega arith in
-    h.1 (length all - 1 - k) within ∙ ap (λ (m : ℕ). rests_of rules (drop m all)) e
+    subst (λ (m : ℕ). IsRowOf rules (drop m all) (get_or rows (length all - 1 - k) [])) e (h.1 (length all - 1 - k) within)
+
+row_before_at : (rules : Rules) (all : List Facts) (rows : List (List Rest)) (k : ℕ) → AreRowsOf rules all rows → k < length all →
+    IsRowOf rules (drop k all) (get_or rows (length all - k) [])
+row_before_at rules all rows k h inside =
+    let within : length all - k ≤ length all = omega arith in
+    let e : length all - (length all - k) ≡ k = omega arith in
+    subst (λ (m : ℕ). IsRowOf rules (drop m all) (get_or rows (length all - k) [])) e (h.1 (length all - k) within)
+
+value_at : (rules : Rules) (all : List Facts) (rows : List (List Rest)) (k lane : ℕ) (written : Written) (opened : Option Mode) (count value : ℕ) →
+    AreRowsOf rules all rows → k < length all → lane < 19 → IsKeptLane rules.kept lane → opened ≡ written.mode → count ≡ length written.bytes →
+    value ≡ open_value (get_or (get_or rows (length all - k) []) lane no_rest) opened count →
+    value ≡ open_value (entry rules (drop k all) lane) written.mode (length written.bytes)
+value_at rules all rows k lane written opened count value h inside low keeps mode long is =
+    is ∙ ap (λ (rest : Rest). open_value rest opened count) ((row_before_at rules all rows k h inside).1 lane low keeps)
+    ∙ ap (λ (m : Option Mode). open_value (entry rules (drop k all) lane) m count) mode
+    ∙ ap (λ (n : ℕ). open_value (entry rules (drop k all) lane) written.mode n) long
 
 pub loop-k-init : goal.loop-k-init
 loop-k-init c = λ are.
     walk_first c.args.rules.now.version (plain_of c.args.rules.now.way) (mixed_of c.args.rules.now.way) c.args.rules.now are
-    c.args.chars.now c.args.all.now c.new-draft.result c.new-draft.ensures.parts c.new-draft.ensures.mode c.new-draft.ensures.bytes
+    c.args.chars.now c.args.all.now c.in_ok-draft.draft c.requires.enough c.in_ok-draft.ensures.parts c.in_ok-draft.ensures.mode c.in_ok-draft.ensures.bytes
 
 pub bounds-chars-k : goal.bounds-chars-k
 bounds-chars-k c = omega (arith, facts_long c.args.chars.now c.args.all.now c.requires.known)
@@ -43,19 +65,39 @@ write_next-requires-clause-sound c =
     none_open c.args.rules.now.version (plain_of c.args.rules.now.way) (mixed_of c.args.rules.now.way) c.args.rules.now c.requires.rules
     c.args.chars.now c.args.all.now c.loop-k.k c.loop-k.lane c.loop-k.draft (c.loop-k.invariant c.requires.rules)
 
+pub bounds-rows-lane : goal.bounds-rows-lane
+bounds-rows-lane c = (c.loop-k.invariant c.requires.rules).draft.complete.inside
+
+pub offset_bounds-rows-lane : goal.offset_bounds-rows-lane
+offset_bounds-rows-lane c = let inside = (c.loop-k.invariant c.requires.rules).draft.complete.inside in omega (arith, inside)
+
 pub write_next-requires-clause-small : goal.write_next-requires-clause-small
 write_next-requires-clause-small c =
-    step_small c.args.rules.now.version (plain_of c.args.rules.now.way) (mixed_of c.args.rules.now.way) c.args.rules.now c.requires.rules
-    c.args.chars.now c.args.all.now c.loop-k.k c.loop-k.lane none (get_or c.args.rows.now (length c.args.all.now - 1 - c.loop-k.k) []) c.loop-k.draft (c.loop-k.invariant c.requires.rules) c.requires.small
-    c.loop-k-test.true (row_at c.args.rules.now c.args.all.now c.args.rows.now c.loop-k.k c.requires.rows c.loop-k-test.true)
+    subst (λ (n : ℕ). n < LIMIT) (sym (value_at c.args.rules.now c.args.all.now c.args.rows.now c.loop-k.k c.loop-k.lane c.loop-k.draft
+    c.mode.result c.count.result c.open_value-value.result c.requires.rows c.loop-k-test.true
+    (c.loop-k.invariant c.requires.rules).draft.complete.inside (c.loop-k.invariant c.requires.rules).kept c.mode.ensures c.count.ensures c.open_value-value.ensures))
+    (value_small c.args.rules.now.version (plain_of c.args.rules.now.way) (mixed_of c.args.rules.now.way) c.args.rules.now c.requires.rules
+    c.args.chars.now c.args.all.now c.loop-k.k c.loop-k.lane c.loop-k.draft (c.loop-k.invariant c.requires.rules) c.requires.small)
+
+pub write_next-requires-clause-value : goal.write_next-requires-clause-value
+write_next-requires-clause-value c =
+    value_at c.args.rules.now c.args.all.now c.args.rows.now c.loop-k.k c.loop-k.lane c.loop-k.draft
+    c.mode.result c.count.result c.open_value-value.result c.requires.rows c.loop-k-test.true
+    (c.loop-k.invariant c.requires.rules).draft.complete.inside (c.loop-k.invariant c.requires.rules).kept c.mode.ensures c.count.ensures c.open_value-value.ensures
+    ∙ sym (ap (λ (rest : Rest). open_value rest c.loop-k.draft.mode (length c.loop-k.draft.bytes))
+    (before_is c.args.rules.now.version (plain_of c.args.rules.now.way) (mixed_of c.args.rules.now.way) c.args.rules.now c.requires.rules
+    c.args.all.now c.loop-k.k c.loop-k.lane none (get_or c.args.rows.now (length c.args.all.now - 1 - c.loop-k.k) []) c.loop-k-test.true
+    (c.loop-k.invariant c.requires.rules).draft.complete.inside (c.loop-k.invariant c.requires.rules).kept c.requires.enough
+    (row_at c.args.rules.now c.args.all.now c.args.rows.now c.loop-k.k c.requires.rows c.loop-k-test.true)))
 
 pub loop-k-preserved : goal.loop-k-preserved
 loop-k-preserved c = λ are.
     walk_more c.args.rules.now.version (plain_of c.args.rules.now.way) (mixed_of c.args.rules.now.way) c.args.rules.now are
     c.args.chars.now c.args.all.now c.loop-k.k c.loop-k.lane c.index-chars-k.result none (get_or c.args.rows.now (length c.args.all.now - 1 - c.loop-k.k) []) c.loop-k.draft c.write_next.new.draft c.in_ok-lane.lane
-    c.requires.known (c.loop-k.invariant are) c.requires.small c.loop-k-test.true
+    c.requires.known (c.loop-k.invariant are) c.requires.small c.loop-k-test.true c.requires.enough
     (row_at c.args.rules.now c.args.all.now c.args.rows.now c.loop-k.k c.requires.rows c.loop-k-test.true)
-    (subst (λ (x : ℕ). IsCharStep c.args.rules.now (get_or c.args.all.now c.loop-k.k none) (get_or c.args.rows.now (length c.args.all.now - 1 - c.loop-k.k) []) c.loop-k.lane x c.loop-k.draft c.write_next.new.draft c.in_ok-lane.lane)
+    (subst (λ (x : ℕ). IsCharStep c.args.rules.now (get_or c.args.all.now c.loop-k.k none)
+    (get_or c.args.rows.now (length c.args.all.now - 1 - c.loop-k.k) []) c.loop-k.lane x c.loop-k.draft c.write_next.new.draft c.in_ok-lane.lane)
     c.index-chars-k.is c.in_ok-lane.ensures)
 
 pub returns : goal.returns

@@ -12,5 +12,5 @@ pub loop-smaller-preserved : goal.loop-smaller-preserved
 loop-smaller-preserved c =
     none_more _ _ c.loop-smaller.smaller c.loop-smaller.invariant (rw c.in_default.is at c.in_ok-choice.ensures.none)
 
-pub returns-clause-refused : goal.returns-clause-refused
-returns-clause-refused c = λ n few. c.loop-smaller.invariant n (omega (arith, few, c.loop-smaller-test.false))
+pub returns-clause-refusal : goal.returns-clause-refusal
+returns-clause-refusal c = λ n few. c.loop-smaller.invariant n (omega (arith, few, c.loop-smaller-test.false))

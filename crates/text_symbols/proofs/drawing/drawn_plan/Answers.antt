@@ -14,4 +14,4 @@ returns-clause-holds c =
 pub returns-clause-memory : goal.returns-clause-memory
 returns-clause-memory c =
     IfErr-weaker c.with_bits.result _ _ (stream_refused c.args.version c.args.level c.requires.fits.0 _ c.in_ok-bits.bits c.requires.fits.1
-    c.in_ok-bits.ensures.bits c.in_ok-bits.ensures.version) c.with_bits.ensures.refused
+    c.in_ok-bits.ensures.bits c.in_ok-bits.ensures.version) c.with_bits.ensures.refusal

@@ -30,8 +30,8 @@ returns-in-Ok-drawn_plan-clause-reading c =
     (subst (λ (v : Version). HoldsParts (plan_parts c.in-Ok.choice.plan) v c.args.level c.in-Ok-drawn_plan.symbol)
     (micro_is c.in-Ok.choice.number (few_micro c.in-Ok.choice.number choice.version)) c.in-Ok-drawn_plan.ensures.holds)).1
 
-pub returns-then-char_count-gt-MOST_CHARACTERS-clause-refused : goal.returns-then-char_count-gt-MOST_CHARACTERS-clause-refused
-returns-then-char_count-gt-MOST_CHARACTERS-clause-refused c = (
+pub returns-then-char_count-gt-MOST_CHARACTERS-clause-refusal : goal.returns-then-char_count-gt-MOST_CHARACTERS-clause-refusal
+returns-then-char_count-gt-MOST_CHARACTERS-clause-refusal c = (
   λ h. let bad : false ≡ true = rw h at c.if-eq.ensures in absurd (cc),
   c.is_micro_text.ensures.0 c.if-not-is_micro_text.false,
   none_long_micro (chars c.args.text.now) c.args.level (omega (arith, c.char_count.ensures, c.if-char_count-gt-MOST_CHARACTERS.true)),

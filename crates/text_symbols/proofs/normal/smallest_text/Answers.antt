@@ -10,17 +10,17 @@ use Rattle.text_symbols.specs.TextHeadline.{HoldsParts}
 use Rattle.text_symbols.proofs.Found.{choice_refused, few_versions, level_fits, level_found, none_long}
 use Rattle.text_symbols.proofs.normal.smallest_text.Goals as goal
 
-pub returns-then-char_count-gt-LONGEST_DATA-clause-refused : goal.returns-then-char_count-gt-LONGEST_DATA-clause-refused
-returns-then-char_count-gt-LONGEST_DATA-clause-refused c =
+pub returns-then-char_count-gt-LONGEST_DATA-clause-refusal : goal.returns-then-char_count-gt-LONGEST_DATA-clause-refusal
+returns-then-char_count-gt-LONGEST_DATA-clause-refusal c =
     let range : HasVersions c.args.options.now = search (rules, c.in_ok-least.ensures.range.0) in
     (range, none_long _ _ _ _ (omega (arith, c.char_count.ensures, c.if-char_count-gt-LONGEST_DATA.true)))
 
-pub returns-in_err-choice-clause-refused : goal.returns-in_err-choice-clause-refused
-returns-in_err-choice-clause-refused c =
+pub returns-in_err-choice-clause-refusal : goal.returns-in_err-choice-clause-refusal
+returns-in_err-choice-clause-refusal c =
     let range : HasVersions c.args.options.now = search (rules, c.in_ok-least.ensures.range.0) in
     let p = err_from_is_err_and c.from_residual-in_err-choice.result c.from_residual-in_err-choice.ensures.1 in
     rw (p.1, p.2) (choice_refused c.args.options.now _ _ _ _ range c.in_ok-least.ensures.least c.in_ok-least.ensures.greatest
-    (omega (arith, c.char_count.ensures, c.if-char_count-gt-LONGEST_DATA.false)) c.in_err-choice.ensures.refused)
+    (omega (arith, c.char_count.ensures, c.if-char_count-gt-LONGEST_DATA.false)) c.in_err-choice.ensures.refusal)
 
 pub drawn_plan-requires-clause-fits : goal.drawn_plan-requires-clause-fits
 drawn_plan-requires-clause-fits c =

@@ -12,6 +12,6 @@ returns-clause-taken c = λ place byte same.
     let bytes = c.as_slice.result.now in
     let error : c.in-Err-elements.error ≡ InvalidCharacter place byte = cc in
     let P : QrError → Type 0 = λ e. IsElementsRefusal bytes Q e in
-    let first = subst P error c.in-Err-elements.ensures.refused in
+    let first = subst P error c.in-Err-elements.ensures.refusal in
     let are : AreElements bytes = rw c.as_slice.ensures.value c.in-Ok.ensures.elements in
     first.here (are place (slice_get_within bytes _ _ first.byte_is))

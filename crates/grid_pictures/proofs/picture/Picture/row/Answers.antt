@@ -1,5 +1,5 @@
 use Rattle.std.proofs.Common.{◌∙◌, sym, arith}
-use Rattle.grid_pictures.specs.{Shown.shown}
+use Rattle.grid_pictures.specs.{Picture.shown}
 use Rattle.grid_pictures.proofs.RowLemmas.{none_dark, row_dark, zone_before, zone_after}
 use Rattle.grid_pictures.proofs.picture.Picture.row.Goals as goal
 use Rattle.grid_pictures.proofs.picture.Picture.row.Goals.{then-row-quiet-via-then-row-quiet, then-row-quiet-via-else-row-quiet+then-row-quiet-2}

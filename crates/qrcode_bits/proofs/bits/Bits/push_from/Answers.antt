@@ -69,7 +69,7 @@ returns-in_err-push_data g c =
     rw gives (
       drawn.0 ++ x ∷ [],
       Yields-more g.I.Iterator.next_gives _ drawn.0 _ x c.next.new.self drawn.1 c.in-Some.ensures.steps,
-      stops c.args.self.now c.loop-segment.self c.push_data.new.self c.args.bytes.now drawn.0 x e drawn.2 c.in_err-push_data.ensures.refused
+      stops c.args.self.now c.loop-segment.self c.push_data.new.self c.args.bytes.now drawn.0 x e drawn.2 c.in_err-push_data.ensures.refusal
           c.in_err-push_data.ensures.unchanged,
     )
 

@@ -28,7 +28,7 @@ returns-in_err-push_text-clause-memory c =
     let spellable = subst (λ (p : Piece). IsSpellable c.loop-part.bits.version p) (sym own)
     (part_spellable _ _ _ _ _ _ c.loop-part.invariant.pushed c.loop-part-test.true) in
     let p = err_from_is_err_and c.from_residual-in_err-push_text.result c.from_residual-in_err-push_text.ensures.1 in
-    rw (p.1, p.2) (spellable_refused c.loop-part.bits _ _ spellable c.in_err-push_text.ensures.refused)
+    rw (p.1, p.2) (spellable_refused c.loop-part.bits _ _ spellable c.in_err-push_text.ensures.refusal)
 
 pub loop-part-preserved : goal.loop-part-preserved
 loop-part-preserved c =
@@ -45,7 +45,7 @@ returns-in_err-push_terminator-clause-memory c =
     let are = bytes_valid c.args.bytes.now (λ i. omega (arith, c.type_inv.bytes i)) in
     let p = err_from_is_err_and c.from_residual-in_err-push_terminator.result c.from_residual-in_err-push_terminator.ensures.1 in
     rw (p.1, p.2) (plan_end_refused _ _ are c.requires.suited _ _ _ _ c.requires.parsed c.requires.fits _
-    c.loop-part-test.false _ c.loop-part.invariant.pushed _ c.in_err-push_terminator.ensures.refused)
+    c.loop-part-test.false _ c.loop-part.invariant.pushed _ c.in_err-push_terminator.ensures.refusal)
 
 pub returns-clause-ok : goal.returns-clause-ok
 returns-clause-ok c =

@@ -11,7 +11,7 @@ loop-last-init c = record {
       c.as_slice-last-items.result.now (subst (λ (xs : List ℕ). AreCandidates 0 xs c.args.limit) (sym c.as_slice-last-items.ensures.value)
       c.candidates-candidates.ensures) c.fitting_between-sure.ensures.less c.fitting_between-sure.ensures.fits c.fitting_between-sure.ensures.unfit;
   close = c.fitting_between-sure.ensures.close;
-  same = grind (arith, common_steps, c.fitting_between-sure.ensures.same, c.in_ok-all.ensures.all);
+  same = grind (arith, common_steps, c.fitting_between-sure.ensures.unchanged, c.in_ok-all.ensures.all);
 }
 
 pub loop-last-preserved : goal.loop-last-preserved
@@ -22,7 +22,7 @@ loop-last-preserved c = elim c.if-not-holds_double.branch [
         w.fitting_between-fits.result.1 w.fitting_between-fits.ensures.less w.fitting_between-fits.ensures.fits w.fitting_between-fits.ensures.unfit;
     close = close_more c.args.bytes.now c.loop-last.sure c.loop-last.past w.fitting_between-fits.result.0 w.fitting_between-fits.result.1
         c.loop-last.invariant.close w.fitting_between-fits.ensures.close;
-    same = rw w.segments-is (w.fitting_between-fits.ensures.same ∙ c.loop-last.invariant.same);
+    same = rw w.segments-is (w.fitting_between-fits.ensures.unchanged ∙ c.loop-last.invariant.same);
   })
   | else-not-holds_double w ↦ rw (w.sure-is, w.past-is) (record {
     range = range_same c.args.ahead c.args.bytes.now c.args.level c.args.limit c.loop-last.sure c.loop-last.past c.loop-last.last-index

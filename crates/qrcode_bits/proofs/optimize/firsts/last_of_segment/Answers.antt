@@ -81,8 +81,8 @@ loop-high-preserved g c =
       ticked = omega (arith, known.ticked, c.last_step-last.ensures.ticked, c.loop-high-test.true);
     }
 
-pub returns-clause-same : goal.returns-clause-same
-returns-clause-same g c =
+pub returns-clause-unchanged : goal.returns-clause-unchanged
+returns-clause-unchanged g c =
     let segments = c.args.segments.now in
     let i = c.args.index in
     let inside = c.requires.inside in

@@ -15,7 +15,7 @@ pub returns-in-Some-clause-found : goal.returns-in-Some-clause-found
 returns-in-Some-clause-found t c =
     let first = short_number c.args.options.min_version c.requires.range.0 in
     let last = short_number c.args.number c.requires.range.1 in
-    let unfit = (rw (first, last, c.in-Err-DataTooLong.field-0-is) at c.in-Err-DataTooLong.ensures.refused).1 in
+    let unfit = (rw (first, last, c.in-Err-DataTooLong.field-0-is) at c.in-Err-DataTooLong.ensures.refusal).1 in
     IfOk-weaker c.stronger.result _ _ (λ found h. some_weaker found _ _ (λ symbol s.
     found_below _ _ _ c.args.level _ _ c.in-Some.next symbol c.in-Some.ensures.below unfit s) h) (rw last at c.stronger.ensures.found)
 
@@ -23,7 +23,7 @@ pub returns-in-Some-clause-none : goal.returns-in-Some-clause-none
 returns-in-Some-clause-none t c =
     let first = short_number c.args.options.min_version c.requires.range.0 in
     let last = short_number c.args.number c.requires.range.1 in
-    let unfit = (rw (first, last, c.in-Err-DataTooLong.field-0-is) at c.in-Err-DataTooLong.ensures.refused).1 in
+    let unfit = (rw (first, last, c.in-Err-DataTooLong.field-0-is) at c.in-Err-DataTooLong.ensures.refusal).1 in
     IfOk-weaker c.stronger.result _ _ (λ found h. none_weaker found _ _
     (none_below _ _ c.args.options.level c.args.level _ _ c.in-Some.next c.in-Some.ensures.below unfit c.args.options.level) h)
     (rw last at c.stronger.ensures.none)

@@ -25,8 +25,8 @@ stronger-requires-clause-range c =
     (rw (first, last) at c.in_ok-usual.ensures.range) is best.up_to in
     rw (small_number c.in-Normal.number _ is range.2) range.0
 
-pub returns-in_err-symbol-clause-refused : goal.returns-in_err-symbol-clause-refused
-returns-in_err-symbol-clause-refused c =
+pub returns-in_err-symbol-clause-refusal : goal.returns-in_err-symbol-clause-refusal
+returns-in_err-symbol-clause-refusal c =
     let first : to_z w16 (of_z w16 c.args.options.min_version) ≡ c.args.options.min_version = search (arith, rules, ints, to_z-of_z) in
     let last : to_z w16 (of_z w16 c.args.options.max_version) ≡ c.args.options.max_version = search (arith, rules, ints, to_z-of_z) in
     let short = subst (λ (n : ℕ). n ≤ 7089) (sym (length-parsed c.args.front.now.content c.args.bytes.now)) c.in_ok-usual.ensures.limit in

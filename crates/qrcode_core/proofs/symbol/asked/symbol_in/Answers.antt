@@ -25,7 +25,7 @@ returns c =
       reading = IfOk-weaker result _ _ (λ _ made. (best_of_stream are c.requires.suited code made).2) drawn;
       range = IfOk-weaker result _ _ (λ _ _. range) drawn;
       limit = IfOk-weaker result _ _ (λ _ _. short) drawn;
-      refused = only_memory result _ (
+      refusal = only_memory result _ (
         range,
         subst (λ (n : ℕ). n ≤ 7089) (sym (length-parsed c.args.front.now.content c.args.bytes.now)) short,
       ) c.symbol_of.ensures.memory;

@@ -10,8 +10,8 @@ loop-count-init c =
     rw (to_z-of_z w16 c.args.max_version c.ranges.max_version, c.new-cuts.ensures.items)
     (nothing_cut c.args.content c.args.bytes.now c.args.level (nat_abs c.args.max_version) c.requires.cut c.in_ok-places.places.items c.in_ok-places.ensures)
 
-pub returns-then-bytes-clause-refused : goal.returns-then-bytes-clause-refused
-returns-then-bytes-clause-refused c =
+pub returns-then-bytes-clause-refusal : goal.returns-then-bytes-clause-refusal
+returns-then-bytes-clause-refusal c =
     let same = to_z-of_z w16 c.args.max_version c.ranges.max_version in
     let normal = limit_of c.args.max_version _ _ same c.is_normal_number.ensures c.if-not-is_normal_number.false in
     let last : nat_abs c.args.max_version ≤ 40 = grind (arith, normal) in
@@ -30,8 +30,8 @@ returns-then-last-len-clause-best c =
     c.loop-count.count c.loop-count.cuts.items known found.from (rw c.deref.ensures.value at found.exists)
     (rw (same, c.deref.ensures.value) at found.fits) (rw (same, c.deref.ensures.value) at found.last) (omega (arith, c.loop-count-test.true)) end
 
-pub returns-then-last-first-clause-refused : goal.returns-then-last-first-clause-refused
-returns-then-last-first-clause-refused c =
+pub returns-then-last-first-clause-refusal : goal.returns-then-last-first-clause-refusal
+returns-then-last-first-clause-refusal c =
     let same = to_z-of_z w16 c.args.max_version c.ranges.max_version in
     let normal = limit_of c.args.max_version _ _ same c.is_normal_number.ensures c.if-not-is_normal_number.false in
     let known = rw same at c.loop-count.invariant in

@@ -5,8 +5,8 @@ use Rattle.qrcode_core.proofs.symbol.part.check_others.Goals as goal
 use Rattle.qrcode_core.proofs.symbol.part.check_others.Goals.{else-other-index-via-then-other-index+in_ok-part_fits+else-not-branch}
 use Rattle.qrcode_core.proofs.symbol.part.check_others.Goals.{else-other-index-via-else-other-index}
 
-pub returns-then-not-branch-clause-refused : goal.returns-then-not-branch-clause-refused
-returns-then-not-branch-clause-refused c =
+pub returns-then-not-branch-clause-refusal : goal.returns-then-not-branch-clause-refusal
+returns-then-not-branch-clause-refusal c =
     let same = to_z-of_z w16 c.args.max_version c.ranges.max_version in
     let long = rw (c.part_at-part.ensures, same) at c.in_ok-part_fits.ensures.too_long c.if-not-branch.true in
     (c.requires.limit, c.requires.total, (c.loop-other.other, omega arith, long))

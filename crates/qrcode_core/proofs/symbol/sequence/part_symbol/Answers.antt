@@ -21,7 +21,7 @@ returns c =
           let found = best_of_stream are c.requires.suited code made in
           record { best = found.0; up_to = omega (arith, found.1, ap nat_abs same) }) drawn;
       reading = IfOk-weaker result _ _ (λ _ made. (best_of_stream are c.requires.suited code made).2) drawn;
-      refused = only_memory result _ (
+      refusal = only_memory result _ (
         rw same at c.in_ok-bits.ensures.limit,
         subst (λ (n : ℕ). n ≤ 7089) (sym (length-parsed c.args.front.now.content c.args.part.now)) short,
       ) c.symbol_of.ensures.memory;

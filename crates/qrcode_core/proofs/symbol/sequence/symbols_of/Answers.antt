@@ -8,8 +8,8 @@ use mir.Syntax.{w16}
 use Rattle.qrcode_core.proofs.Sequences.{one_more, best_symbols, none_too_long, refused_part}
 use Rattle.qrcode_core.proofs.symbol.sequence.symbols_of.Goals as goal
 
-pub returns-in_err-symbol-clause-refused : goal.returns-in_err-symbol-clause-refused
-returns-in_err-symbol-clause-refused c =
+pub returns-in_err-symbol-clause-refusal : goal.returns-in_err-symbol-clause-refusal
+returns-in_err-symbol-clause-refusal c =
     let same = to_z-of_z w16 c.args.max_version c.ranges.max_version in
     let limit = rw same at c.in_ok-total.ensures.limit in
     let part = rw c.from.ensures at c.part_at-part.ensures in
@@ -17,11 +17,11 @@ returns-in_err-symbol-clause-refused c =
     (c.new-header.ensures ∙ ap (λ (p : ℕ). header_of (c.loop-index.index + 1) c.in_ok-total.total p) c.parity_of-parity.ensures) in
     let few = rw (← c.in_ok-total.ensures.total) at c.in_ok-total.ensures.few in
     let refused = refused_part c.args.content c.args.bytes.now c.args.cuts.now c.args.level c.args.max_version c.in_ok-total.total c.loop-index.index
-    _ c.in_err-symbol.field-0.0 limit few c.in_ok-total.ensures.total (omega arith) (rw (part, same, front) at c.in_err-symbol.ensures.refused) in
+    _ c.in_err-symbol.field-0.0 limit few c.in_ok-total.ensures.total (omega arith) (rw (part, same, front) at c.in_err-symbol.ensures.refusal) in
     grind (arith, common_steps, refused)
 
-pub returns-in_err-push-clause-refused : goal.returns-in_err-push-clause-refused
-returns-in_err-push-clause-refused c =
+pub returns-in_err-push-clause-refusal : goal.returns-in_err-push-clause-refusal
+returns-in_err-push-clause-refusal c =
     let same = to_z-of_z w16 c.args.max_version c.ranges.max_version in
     let limit = rw same at c.in_ok-total.ensures.limit in
     let few = c.in_ok-total.ensures.few in

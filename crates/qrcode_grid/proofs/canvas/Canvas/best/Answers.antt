@@ -6,7 +6,7 @@ use Rattle.qrcode_grid.proofs.canvas.Canvas.best.Goals as goal
 
 -- the masks that were read are those of the family, and there is one at the place
 family_is : (c : goal.After-drop-values) → c.family_of.result.now ≡ family c.args.self.now.version
-family_is c = c.family_of.ensures ∙ ap (λ (d : Drawing). family d.version) (c.self.view_is ∙ c.candidates.ensures.same)
+family_is c = c.family_of.ensures ∙ ap (λ (d : Drawing). family d.version) (c.self.view_is ∙ c.candidates.ensures.unchanged)
 
 size_is : (c : goal.After-drop-values) → length c.in_ok-scratch.values.items ≡ length (family c.args.self.now.version)
 size_is c = grind (arith, length-map)

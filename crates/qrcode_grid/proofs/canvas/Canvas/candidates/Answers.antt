@@ -56,22 +56,22 @@ returns-clause-candidates c =
     ∙ ap (λ ms. map byte_of (map color_of_module ms)) (masked_by_number v s.level p s.width _ c.deref.result.now _ c.self.invariant.1
     (c.format_words-words.ensures p f) settled))
 
-pub returns-in_err-scratch-clause-same : goal.returns-in_err-scratch-clause-same
-returns-in_err-scratch-clause-same c =
+pub returns-in_err-scratch-clause-unchanged : goal.returns-in_err-scratch-clause-unchanged
+returns-in_err-scratch-clause-unchanged c =
     still_lent _ _ _ c.settle.new.cells _ _ _ _ _ c.self.view_is (omega (arith, c.settle.auto.cells, c.deref_mut.ensures.len)) c.settle.ensures.written
     c.deref_mut.ensures.value
 
-pub returns-in_err-values-clause-same : goal.returns-in_err-values-clause-same
-returns-in_err-values-clause-same c =
+pub returns-in_err-values-clause-unchanged : goal.returns-in_err-values-clause-unchanged
+returns-in_err-values-clause-unchanged c =
     still_lent _ _ _ c.settle.new.cells _ _ _ _ _ c.self.view_is (omega (arith, c.settle.auto.cells, c.deref_mut.ensures.len)) c.settle.ensures.written
     c.deref_mut.ensures.value
 
-pub returns-in_err-push-clause-same : goal.returns-in_err-push-clause-same
-returns-in_err-push-clause-same c =
+pub returns-in_err-push-clause-unchanged : goal.returns-in_err-push-clause-unchanged
+returns-in_err-push-clause-unchanged c =
     still_lent _ _ _ c.settle.new.cells _ _ _ _ _ c.self.view_is (omega (arith, c.settle.auto.cells, c.deref_mut.ensures.len)) c.settle.ensures.written
     c.deref_mut.ensures.value
 
-pub returns-clause-same : goal.returns-clause-same
-returns-clause-same c =
+pub returns-clause-unchanged : goal.returns-clause-unchanged
+returns-clause-unchanged c =
     still_lent _ _ _ c.settle.new.cells _ _ _ _ _ c.self.view_is (omega (arith, c.settle.auto.cells, c.deref_mut.ensures.len)) c.settle.ensures.written
     c.deref_mut.ensures.value

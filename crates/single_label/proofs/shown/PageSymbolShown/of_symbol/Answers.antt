@@ -4,4 +4,5 @@ use Rattle.single_label.proofs.ShownLemmas.{shows_page}
 use Rattle.single_label.proofs.shown.PageSymbolShown.of_symbol.Goals as goal
 
 pub returns-clause-shown : goal.returns-clause-shown
-returns-clause-shown c = shows_page c.args._label.now c.args._options.now (option_copied c.args._content) c.args.symbol c.requires
+returns-clause-shown c =
+    shows_page c.args._label.now c.args._options.now (option_copied c.args._said.content) (option_copied c.args._said.caption) c.args.symbol c.requires

@@ -23,11 +23,11 @@ returns c =
       valid = IfOk-weaker result _ _ (λ _ _. suited) drawn;
       fitting = IfOk-weaker result _ _ (λ _ _. encoded_fits code) drawn;
       limit = IfOk-weaker result _ _ (λ _ _. short) drawn;
-      refused = only_memory result _ (suited, short) c.symbol_of.ensures.memory;
+      refusal = only_memory result _ (suited, short) c.symbol_of.ensures.memory;
     }
 
-pub returns-in_err-bits-clause-refused : goal.returns-in_err-bits-clause-refused
-returns-in_err-bits-clause-refused c =
+pub returns-in_err-bits-clause-refusal : goal.returns-in_err-bits-clause-refusal
+returns-in_err-bits-clause-refusal c =
     let why = elements_refused c.args.elements.now c.args.level c.in_err-bits.field-0.0 (rw c.in_default.is at c.first_no_element.ensures)
     (rw c.new-front.ensures at c.in_err-bits.ensures.err) in
     grind (arith, common_steps, why)

@@ -22,5 +22,5 @@ returns c =
       reading = IfOk-weaker result _ _ (λ _ made. (best_of_stream are tt code made).2) drawn;
       fitting = IfOk-weaker result _ _ (λ _ _ none. none code.number code.choice.up_to code.plan code.choice.fits) drawn;
       limit = IfOk-weaker result _ _ (λ _ _. short) drawn;
-      refused = only_memory result _ (some, short) c.symbol_of.ensures.memory;
+      refusal = only_memory result _ (some, short) c.symbol_of.ensures.memory;
     }

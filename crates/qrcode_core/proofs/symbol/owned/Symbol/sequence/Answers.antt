@@ -6,5 +6,5 @@ use Rattle.qrcode_core.proofs.symbol.owned.Symbol.sequence.Goals as goal
 pub returns-clause-fitting : goal.returns-clause-fitting
 returns-clause-fitting c = rw (to_z-of_z w16 c.args.max_version c.ranges.max_version) at c.symbols_of.ensures.fitting
 
-pub returns-clause-refused : goal.returns-clause-refused
-returns-clause-refused c = rw (to_z-of_z w16 c.args.max_version c.ranges.max_version) at c.symbols_of.ensures.refused
+pub returns-clause-refusal : goal.returns-clause-refusal
+returns-clause-refusal c = rw (to_z-of_z w16 c.args.max_version c.ranges.max_version) at c.symbols_of.ensures.refusal

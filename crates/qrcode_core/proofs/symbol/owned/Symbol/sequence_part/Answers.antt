@@ -8,9 +8,9 @@ use Rattle.qrcode_core.proofs.Sequences.{on_ok, none_of_all, refused_part}
 use mir.Syntax.{w16}
 use Rattle.qrcode_core.proofs.symbol.owned.Symbol.sequence_part.Goals as goal
 
-pub returns-in_err-check_others-clause-refused : goal.returns-in_err-check_others-clause-refused
-returns-in_err-check_others-clause-refused c =
-    let refused = rw (to_z-of_z w16 c.args.max_version c.ranges.max_version) at c.in_err-check_others.ensures.refused in
+pub returns-in_err-check_others-clause-refusal : goal.returns-in_err-check_others-clause-refusal
+returns-in_err-check_others-clause-refusal c =
+    let refused = rw (to_z-of_z w16 c.args.max_version c.ranges.max_version) at c.in_err-check_others.ensures.refusal in
     grind (arith, common_steps, refused)
 
 pub returns-clause-fitting : goal.returns-clause-fitting
@@ -23,8 +23,8 @@ returns-clause-fitting c =
     on_ok c.part_symbol.result (λ symbol best. none_of_all Bytes c.args.bytes.now c.args.cuts.now c.args.level (nat_abs c.args.max_version) c.args.index
     symbol.modules best (rw same at c.in_ok-check_others.ensures.fitting)) (rw (same, part, front) at c.part_symbol.ensures.best)
 
-pub returns-clause-refused : goal.returns-clause-refused
-returns-clause-refused c =
+pub returns-clause-refusal : goal.returns-clause-refusal
+returns-clause-refusal c =
     let same = to_z-of_z w16 c.args.max_version c.ranges.max_version in
     let part = c.part_at-part.ensures in
     let few = c.in_ok-total.ensures.few in
@@ -33,4 +33,4 @@ returns-clause-refused c =
     let limit = rw same at c.in_ok-total.ensures.limit in
     IfErr-weaker c.part_symbol.result _ _ (λ e why. refused_part Bytes c.args.bytes.now c.args.cuts.now c.args.level c.args.max_version
     (length c.args.cuts.now + 1) c.args.index _ e limit few (omega arith) (omega (arith, c.requires.exists)) why)
-    (rw (same, part, front) at c.part_symbol.ensures.refused)
+    (rw (same, part, front) at c.part_symbol.ensures.refusal)

@@ -21,11 +21,11 @@ returns c =
       reading = IfOk-weaker result _ _ (λ _ made. (best_of_stream are tt code made).2) drawn;
       fitting = IfOk-weaker result _ _ (λ _ _. encoded_fits code) drawn;
       limit = IfOk-weaker result _ _ (λ _ _. short) drawn;
-      refused = only_memory result _ short c.symbol_of.ensures.memory;
+      refusal = only_memory result _ short c.symbol_of.ensures.memory;
     }
 
-pub returns-in_err-bits-clause-refused : goal.returns-in_err-bits-clause-refused
-returns-in_err-bits-clause-refused c =
+pub returns-in_err-bits-clause-refusal : goal.returns-in_err-bits-clause-refusal
+returns-in_err-bits-clause-refusal c =
     let why = text_refused c.args.text.now c.args.level c.in_err-bits.field-0.0
     (rw (c.new-front.ensures, c.as_bytes.ensures.value) at c.in_err-bits.ensures.err) in
     grind (arith, common_steps, why)

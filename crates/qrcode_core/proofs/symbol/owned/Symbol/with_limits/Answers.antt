@@ -30,8 +30,8 @@ returns c =
       fitting = IfOk-weaker result _ _ (λ symbol made. fits_within limits c.args.bytes.now c.args.level symbol.modules short (within symbol made)) drawn;
       budget = IfOk-weaker result _ _ (λ _ _. budget) drawn;
       limit = IfOk-weaker result _ _ (λ _ _. few) drawn;
-      refused = only_memory result _ (budget, short, few) c.symbol_of.ensures.memory;
+      refusal = only_memory result _ (budget, short, few) c.symbol_of.ensures.memory;
     }
 
-pub returns-in_err-bits-clause-refused : goal.returns-in_err-bits-clause-refused
-returns-in_err-bits-clause-refused c = grind (arith, common_steps, limited_refusal c.args.limits.now c.args.bytes.now c.args.level, c.in_err-bits.ensures.err)
+pub returns-in_err-bits-clause-refusal : goal.returns-in_err-bits-clause-refusal
+returns-in_err-bits-clause-refusal c = grind (arith, common_steps, limited_refusal c.args.limits.now c.args.bytes.now c.args.level, c.in_err-bits.ensures.err)

@@ -1,8 +1,0 @@
--- The fields so far.
-use Rattle.std.specs.Prelude.{codes}
-use Rattle.grid_pictures.specs.Shown.{shown}
-use Rattle.qrcode_render.specs.{Encoded.AddsPiece, Encoded.ArePieces, Labels.IsCompressedField}
-use Rattle.qrcode_render.proofs.zpl.compressed_label.Given as goal
-
-abbrev pub invariant-loop-n : goal.invariant-loop-n
-invariant-loop-n l = AddsPiece (ArePieces (IsCompressedField (shown l.picture) l.at) l.n) (codes "^XA\n") l.bytes.items

@@ -1,7 +1,0 @@
-use Rattle.std.proofs.Common.{◌≡◌, ℕ, ◌<◌, get_or, length}
-use Rattle.text_plans.specs.Lanes.{IsSize}
-use Rattle.text_plans.proofs.facts.facts_of.Given as goal
-
-abbrev pub invariant-loop-lane : goal.invariant-loop-lane
-invariant-loop-lane l =
-    (length l.sizes ≡ 16) × ((k : ℕ) → k < l.lane → IsSize k l.c (get_or l.sizes k 0))
