@@ -28,7 +28,7 @@ pub struct Choice {
 }
 
 /// Returns the last version of the class of a version, or the limit if that is less.
-fn last_of_class(first: usize, limit: usize) -> usize
+pub fn last_of_class(first: usize, limit: usize) -> usize
     requires some { 1 ≤ first }
     requires order { first ≤ limit }
     requires last { limit ≤ 40 }
@@ -59,7 +59,7 @@ fn holds(bits: usize, number: usize, level: EcLevel) -> bool
 
 /// Returns the first version from one number on, and before another, that holds a number of bits at
 /// a level, if there is one.
-fn first_holding(bits: usize, level: EcLevel, first: usize, end: usize) -> Option<usize>
+pub fn first_holding(bits: usize, level: EcLevel, first: usize, end: usize) -> Option<usize>
     requires { end ≤ 41 }
     ensures found { IfSome result (IsFirstHolding bits level first end) }
     ensures none { IfNone result (NoneHoldsBefore bits level first end) }

@@ -6,12 +6,12 @@
 //! ```
 #![tactic(auto)]
 
-mod choice;
+pub mod choice;
 mod drawing;
 pub mod laws;
 pub mod micro;
 mod normal;
-mod pushing;
+pub mod pushing;
 mod writable;
 
 pub use micro::{MicroTextError, micro_text};

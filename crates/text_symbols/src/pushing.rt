@@ -11,7 +11,7 @@ use text_plans::{PlanPart, TextPlan};
 
 /// Pushes a part, whose segment is one of some bytes. It fails with `OutOfMemory`.
 #[tactic(auto, using(qrcode_bits::proofs::Pushes::spellable_refused))]
-fn push_part(bits: &mut Bits, bytes: &[u8], part: PlanPart) -> QrResult<()>
+pub fn push_part(bits: &mut Bits, bytes: &[u8], part: PlanPart) -> QrResult<()>
     requires lies { LiesWithin (length bytes.now) part }
     requires spelled { IsPartSpelled (part_of bytes.now part) bits.old.version }
     ensures ok { OnOk result (SpellsParts bits.old bits.new (part_of bytes.now part ∷ [])) }
