@@ -2,7 +2,7 @@
 use Rattle.std.proofs.Common.{◌≡◌, ◌≢◌, ℕ, zero, suc, ◌+◌, ◌≤◌, ◌<◌, ◌⊎◌, inl, inr, Bool, true, false, List, [], ◌∷◌, length, get_or, drop, min, refl, ap, sym, ◌∙◌, subst, arith}
 use Rattle.std.specs.Prelude.{All, if◌then◌else◌}
 use Rattle.std.proofs.Math.ListN.{set, length-set}
-use Rattle.std.proofs.lemmas.Bool.{cases_eq, cases_lt}
+use Rattle.std.proofs.lemmas.Bool.{cases_Bool, cases_eq, cases_lt}
 use Rattle.std.proofs.lemmas.Grind.{common_steps}
 use Rattle.std.proofs.lemmas.List.Elements.{All-head, All-tail, All-drop}
 use Rattle.qrcode_base.specs.declared.types.Mode.{Mode}
@@ -11,7 +11,7 @@ use Rattle.text_plans.specs.declared.facts.Facts.{Facts}
 use Rattle.text_plans.specs.declared.row.Rest.{Rest}
 use Rattle.text_plans.specs.declared.row.TheConstants.{LIMIT}
 use Rattle.text_plans.specs.declared.rules.Rules.{Rules}
-use Rattle.text_plans.specs.Keeping.{AreEnough, Covers, Dominates, IsKeptLane, IsRowOf, KeepsEnough, TakesNoMore, switch_kept}
+use Rattle.text_plans.specs.Keeping.{AreEnough, StandFor, Dominates, IsKeptLane, IsRowOf, KeepsEnough, TakesNoMore, switch_kept}
 use Rattle.text_plans.specs.Search.{begin_in, begin_least, can_write, go_on, lane_before, next_bits, no_rest, onward, rests_of, switch_least, weight_if}
 use Rattle.text_plans.proofs.Rows.{entry, entry_end, entry_step, fresh_is}
 use Rattle.text_plans.proofs.Weights.{onward_is}
@@ -279,7 +279,7 @@ left_out kept lane to all differs keeps h enough k low high =
     ]
 
 -- What is enough for some characters is so for all that these cover.
-pub enough_covered : (kept : List Bool) (some all : List Facts) → Covers some all → AreEnough kept 19 some → AreEnough kept 19 all
+pub enough_covered : (kept : List Bool) (some all : List Facts) → StandFor some all → AreEnough kept 19 some → AreEnough kept 19 all
 enough_covered kept some all covers enough lane low high =
     let w = enough lane low high in (
       w.0,
@@ -316,7 +316,7 @@ pub all_kept : (used : List Bool) (all : List Facts) → length used ≡ 19 →
     ((lane : ℕ) → lane < 19 → get_or used lane false ≡ false → All (λ facts. TakesNoMore 17 lane facts.sizes) all) →
     AreEnough (set (set (set used 0 false) 18 false) 17 true) 19 all
 all_kept used all long free lane low high =
-    elim (cases_bool (get_or used lane false)) [
+    elim (cases_Bool (get_or used lane false)) [
       | inl is ↦ (lane, stays lane low high is, itself 19 lane all low high)
       | inr differs ↦ (
         17,
@@ -342,7 +342,3 @@ all_kept used all long free lane low high =
               (set_other (set used 0 false) 18 lane false (λ e. absurd (omega (arith, e, high)))
               (set_other used 0 lane false (λ e. absurd (omega (arith, e, low))) is))
         ]
-
-    cases_bool : (b : Bool) → (b ≡ true) ⊎ (b ≡ false)
-    cases_bool true = inl refl
-    cases_bool false = inr refl

@@ -2,7 +2,7 @@
 use Rattle.std.proofs.Common.{◌≡◌, ℕ, zero, suc, ◌+◌, ◌≤◌, ◌<◌, ◌⊎◌, inl, inr, Bool, true, false, List, [], ◌∷◌, ◌++◌, length, length-append, get_or, take, min, refl, ap, sym, ◌∙◌, subst, arith}
 use Rattle.std.proofs.Math.ListN.{get_or-append, set}
 use Rattle.std.proofs.Math.Seq.{get_or-append_seam}
-use Rattle.std.proofs.lemmas.Bool.{cond-true, cond-false, cases_eq, cases_lt}
+use Rattle.std.proofs.lemmas.Bool.{cases_Bool, cases_eq, cases_lt, cond-false, cond-true}
 use Rattle.std.proofs.lemmas.Grind.{get_or-set_at}
 use Rattle.std.proofs.lemmas.List.{get_or-set_other, get_or-set_same, take_more_set}
 use Rattle.text_plans.specs.declared.facts.Facts.{Facts}
@@ -11,10 +11,6 @@ use Rattle.text_plans.specs.declared.row.TheConstants.{LIMIT}
 use Rattle.text_plans.specs.declared.rules.Rules.{Rules}
 use Rattle.text_plans.specs.Keeping.{IsKeptLane, kept_up_to, switch_kept}
 use Rattle.text_plans.specs.Search.{begin_least, no_rest, weight_if}
-
-cases_bool : (b : Bool) → (b ≡ true) ⊎ (b ≡ false)
-cases_bool true = inl refl
-cases_bool false = inr refl
 
 -- ---- One lane more
 
@@ -39,7 +35,7 @@ pub list_length : (kept : List Bool) (n : ℕ) → length (kept_up_to kept n) �
 list_length kept zero = rw (none_at_all kept) (omega arith)
 list_length kept (suc n) =
     let before = list_length kept n in
-    elim (cases_bool (get_or kept (suc n) false)) [
+    elim (cases_Bool (get_or kept (suc n) false)) [
       | inl is ↦ rw (one_more kept n is) (omega (arith, before, length_more (kept_up_to kept n) (suc n)))
       | inr left ↦ rw (none_more kept n left) (omega (arith, before))
     ]
@@ -59,7 +55,7 @@ pub list_within : (kept : List Bool) (n j : ℕ) → j < length (kept_up_to kept
 list_within kept zero j h =
     let none = ap (λ (x : List ℕ). length x) (none_at_all kept) in absurd (omega (arith, h, none))
 list_within kept (suc n) j h =
-    elim (cases_bool (get_or kept (suc n) false)) [
+    elim (cases_Bool (get_or kept (suc n) false)) [
       | inl is ↦
           let inside = subst (λ (x : List ℕ). j < length x) (one_more kept n is) h in
           rw (one_more kept n is)
@@ -74,7 +70,7 @@ pub list_kept : (kept : List Bool) (n j : ℕ) → j < length (kept_up_to kept n
 list_kept kept zero j h =
     let none = ap (λ (x : List ℕ). length x) (none_at_all kept) in absurd (omega (arith, h, none))
 list_kept kept (suc n) j h =
-    elim (cases_bool (get_or kept (suc n) false)) [
+    elim (cases_Bool (get_or kept (suc n) false)) [
       | inl is ↦
           rw (one_more kept n is)
           (at_end (λ (lane : ℕ). IsKeptLane kept lane) (kept_up_to kept n) (suc n) j (subst (λ (x : List ℕ). j < length x) (one_more kept n is) h)
@@ -88,7 +84,7 @@ pub list_ascends : (kept : List Bool) (n j k : ℕ) → j < k → k < length (ke
 list_ascends kept zero j k order h =
     let none = ap (λ (x : List ℕ). length x) (none_at_all kept) in absurd (omega (arith, h, none))
 list_ascends kept (suc n) j k order h =
-    elim (cases_bool (get_or kept (suc n) false)) [
+    elim (cases_Bool (get_or kept (suc n) false)) [
       | inl is ↦
           let inside = subst (λ (x : List ℕ). k < length x) (one_more kept n is) h in
           let low : j < length (kept_up_to kept n) = omega (arith, order, inside, length_more (kept_up_to kept n) (suc n)) in
@@ -111,7 +107,7 @@ list_has kept (suc n) lane low high keeps =
     elim (cases_lt lane (suc n)) [
       | inl before ↦
           let w = list_has kept n lane low (omega (arith, before)) keeps in
-          elim (cases_bool (get_or kept (suc n) false)) [
+          elim (cases_Bool (get_or kept (suc n) false)) [
             | inl is ↦ record {
               place = w.place;
               inside = rw (one_more kept n is) (omega (arith, w.inside, length_more (kept_up_to kept n) (suc n)));
@@ -154,7 +150,7 @@ module _ (rules : Rules) (f : Facts) (row : List Rest) where
   unfolding switch_kept
   over_is zero = rw (none_at_all rules.kept) refl
   over_is (suc n) =
-      elim (cases_bool (get_or rules.kept (suc n) false)) [
+      elim (cases_Bool (get_or rules.kept (suc n) false)) [
         | inl is ↦
             rw (one_more rules.kept n is)
             (over_more (kept_up_to rules.kept n) (suc n) ∙ ap (λ (w : ℕ). min w (weight_at (suc n))) (over_is n)

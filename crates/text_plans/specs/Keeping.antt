@@ -1,6 +1,7 @@
 -- The lanes that a search looks at: as many as the least parts of a text need. No promise rests
 -- on them.
-use Rattle.std.specs.Prelude.{◌≡◌, ◌≢◌, ℕ, ◌+◌, ◌≤◌, ◌<◌, ◌⊎◌, Bool, true, false, List, [], ◌∷◌, ◌++◌, All, length, get_or, take}
+use Rattle.std.specs.Prelude.{◌≡◌, ◌≢◌, ℕ, ◌+◌, ◌≤◌, ◌<◌, ◌⊎◌, Bool, true, false, List, [], ◌∷◌}
+use Rattle.std.specs.Prelude.{◌++◌, All, length, get_or, take}
 use Rattle.std.specs.Prelude.{zero, suc, min, if◌then◌else◌}
 use Rattle.text_plans.specs.declared.facts.Facts.{Facts}
 use Rattle.text_plans.specs.declared.row.Rest.{Rest}
@@ -18,9 +19,9 @@ TakesNoMore to lane sizes =
     get_or sizes lane 0 ≢ 0 →
     (get_or sizes to 0 ≢ 0) × (get_or sizes to 0 ≤ get_or sizes lane 0)
 
--- What takes no more by some characters takes no more by others.
-abbrev pub Covers : List Facts → List Facts → Type 0
-Covers some all =
+-- Some characters stand for others: what takes no more by these takes no more by those.
+abbrev pub StandFor : List Facts → List Facts → Type 0
+StandFor some all =
     (to lane : ℕ) → to < 19 → lane < 19 → All (λ facts. TakesNoMore to lane facts.sizes) some →
     All (λ facts. TakesNoMore to lane facts.sizes) all
 
@@ -51,8 +52,8 @@ pub record ListsLanes (rules : Rules) : Type 0 where
   pub counted : length (kept_up_to rules.kept 17) ≡ rules.count
   pub listed : take rules.count rules.lanes ≡ kept_up_to rules.kept 17
 
--- The rules list the lanes that they keep: the lane in which a text begins, and enough of the others, of which they need none
--- without designators.
+-- The rules list the lanes that they keep: the lane in which a text begins, and enough of the
+-- others, of which they need none without designators.
 abbrev pub KeepsEnough : Rules → List Facts → Type 0
 KeepsEnough rules all =
     IsKeptLane rules.kept rules.start

@@ -1,8 +1,9 @@
 //! The lanes that a search looks at: those that the least parts of a text may need.
 
-ghost use Rattle.std.specs.Prelude.{◌≡◌, ◌≢◌, ◌≤◌, ◌<◌, ◌⊎◌, ℕ, All, IfOk, replicate, true, false, length, get_or, take};
+ghost use Rattle.std.specs.Prelude.{◌≡◌, ◌≢◌, ◌≤◌, ◌<◌, ◌⊎◌, ℕ, All, IfOk, replicate, true, false};
+ghost use Rattle.std.specs.Prelude.{length, get_or, take};
 ghost use Rattle.text_plans.specs.Keeping.{AreEnough, Dominates, IsKeptLane, KeepsEnough};
-ghost use Rattle.text_plans.specs.Keeping.{Covers, TakesNoMore, kept_up_to};
+ghost use Rattle.text_plans.specs.Keeping.{StandFor, TakesNoMore, kept_up_to};
 ghost use Rattle.text_plans.specs.Ways.{AreRulesOf};
 
 use crate::facts::Facts;
@@ -96,7 +97,7 @@ fn is_new(facts: &Facts, last: &[u8; 19]) -> bool
 /// of bytes than 1 in some lane, and than the one before in some. It fails with `AllocError` if an
 /// allocation fails.
 pub fn telling(alloc: Global, all: &[Facts]) -> Result<Vec<Facts>, AllocError>
-    ensures { IfOk result (λ some. Covers some.items all.now) }
+    ensures { IfOk result (λ some. StandFor some.items all.now) }
 {
     let mut some = Vec::new(alloc);
     let mut last = [1; 19];

@@ -21,7 +21,8 @@ use Rattle.qrcode_core.specs.declared.options.SymbolOptions.{SymbolOptions}
 use Rattle.qrcode_grid.specs.declared.canvas.MaskPattern.{MaskPattern}
 use Rattle.text_reading.specs.Reading.{Part, has_kanji, has_no_designator}
 use Rattle.text_plans.specs.Costs.{AreLeast, AreTextParts, bits_of_parts}
-use Rattle.text_symbols.specs.TextChoices.{HasNoChoice, IsGreatestLevel, IsLevelAsked, IsMicroChoice, IsTextChoice}
+use Rattle.version_choices.specs.Holding.{IsGreatestLevel, IsLevelAsked}
+use Rattle.text_symbols.specs.TextChoices.{HasNoChoice, IsMicroChoice, IsTextChoice}
 use Rattle.text_symbols.specs.TextFrames.{IsPartSpelled, NoPartsFit, NoVersionFits, PartsFit, part_spellings}
 use Rattle.text_symbols.specs.TextHeadline.{HoldsParts, IsSmallestInRange, IsSmallestText, IsStrongestOrSmallest, IsStrongestText, IsTextRefused, NoGridReadsText}
 use Rattle.text_symbols.specs.TextHeadline.{TellsTextReading, TextReading}

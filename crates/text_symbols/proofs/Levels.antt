@@ -9,7 +9,8 @@ use Rattle.qrcode_bits.specs.Plans.{normal}
 use Rattle.qrcode_core.proofs.Strongest.{capacity-falls}
 use Rattle.text_reading.specs.Reading.{Part}
 use Rattle.text_plans.specs.Costs.{bits_of_parts}
-use Rattle.text_symbols.specs.TextChoices.{HoldsBits, IsGreatestLevel, IsTextChoice, NoneFitBefore}
+use Rattle.version_choices.specs.Holding.{HoldsBits, IsGreatestLevel}
+use Rattle.text_symbols.specs.TextChoices.{IsTextChoice, NoneFitBefore}
 use Rattle.text_symbols.specs.TextFrames.{PartsFit}
 
 -- what fits at a greater level fits at a lower one

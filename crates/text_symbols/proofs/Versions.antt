@@ -1,6 +1,6 @@
 -- The version that a text takes: parts take the same bits in each version of a class.
 use Rattle.std.proofs.Common.{◌≡◌, pos, Bool, false, ℕ, ◌+◌, ◌-◌, ◌<◌, ◌≤◌, List, [], ◌∷◌, length, inl, inr, refl, sym, ap, subst, ◌∙◌, arith}
-use Rattle.std.specs.Prelude.{◌↔◌, IsTrue, None, Some}
+use Rattle.std.specs.Prelude.{None, Some}
 use Rattle.std.proofs.lemmas.Bool.{cases_eq, cases_lt}
 use Rattle.std.proofs.lemmas.List.Elements.{All-weaker}
 use Rattle.std.proofs.lemmas.Option.{same_Some}
@@ -15,7 +15,8 @@ use Rattle.qrcode_bits.proofs.Reading.{numbered}
 use Rattle.qrcode_base.specs.Symbols.{IsMicroNumber, capacity}
 use Rattle.text_reading.specs.Reading.{Part, designator, segment, has_kanji, has_no_designator}
 use Rattle.text_plans.specs.Costs.{AreLeast, AreTextParts, HasPart, bits_of_part, bits_of_parts}
-use Rattle.text_symbols.specs.TextChoices.{HoldsBits, IsFirstHolding, IsFittingChoice, IsMicroChoice, IsTextChoice, NoneFitBefore, NoneHoldsBefore}
+use Rattle.version_choices.specs.Holding.{IsFirstHolding, NoneHoldsBefore}
+use Rattle.text_symbols.specs.TextChoices.{IsFittingChoice, IsMicroChoice, IsTextChoice, NoneFitBefore}
 use Rattle.text_symbols.specs.TextFrames.{NoPartsFit, NoVersionFits, PartsFit}
 use Rattle.text_symbols.proofs.TextFrames.{parts_dense, parts_headed}
 use Rattle.text_symbols.proofs.Valid.{parts_sound}
@@ -125,15 +126,6 @@ class_chosen least text level limit first last bits number parts v same some ord
   where
     turn : (a b : ℕ) → SameClass a b → SameClass b a
     turn a b q = grind arith
-
--- One version more that does not hold the bits.
-pub holds_more : (bits : ℕ) (level : EcLevel) (first number : ℕ) (b : Bool) → NoneHoldsBefore bits level first number → IsTrue b ↔ HoldsBits bits number level →
-    b ≡ false → NoneHoldsBefore bits level first (number + 1)
-holds_more bits level first number b none test off n from below held = elim (cases_lt n number) [
-  | inl early ↦ none n from early held
-  | inr late ↦ (let same : n ≡ number = omega (arith, late, below) in
-      let yes : IsTrue b = test.1 (subst (λ (k : ℕ). HoldsBits bits k level) same held) in absurd (cc))
-]
 
 -- What fits none of the versions of a range.
 pub none_in_range : (least : ℕ) (text : List ℕ) (level : EcLevel) (limit end : ℕ) → least ≤ limit → limit < end → NoneFitBefore least text level end →

@@ -2,22 +2,20 @@
 //!
 //! Parts take the same number of bits in each version of a class, so the least parts for the last
 //! version of a class are those of the class.
-ghost use Rattle.std.specs.Prelude.{◌≡◌, ◌+◌, ◌-◌, ◌<◌, ◌≤◌, ◌↔◌, IfErr, IfNone, IfOk};
-ghost use Rattle.std.specs.Prelude.{IfSome, IsTrue, chars, pos};
+ghost use Rattle.std.specs.Prelude.{◌≡◌, ◌-◌, ◌≤◌, IfErr, IfNone, IfOk, IfSome, chars, pos};
 ghost use Rattle.qrcode_base.specs.Symbols.{IsMicroNumber};
-ghost use Rattle.qrcode_bits.specs.Plans.{IsClass, micro, normal, normal_from};
+ghost use Rattle.qrcode_bits.specs.Plans.{micro, normal, normal_from};
 ghost use Rattle.text_plans.specs.Costs.{bits_of_parts};
 ghost use Rattle.text_plans.specs.Plan.{plan_parts};
-ghost use Rattle.text_symbols.specs.TextChoices.{HasNoChoice, HoldsBits, IsFirstHolding};
-ghost use Rattle.text_symbols.specs.TextChoices.{IsGreatestLevel};
-ghost use Rattle.text_symbols.specs.TextChoices.{IsFittingChoice, IsMicroChoice};
-ghost use Rattle.text_symbols.specs.TextChoices.{IsTextChoice, NoneHoldsBefore};
+ghost use Rattle.text_symbols.specs.TextChoices.{HasNoChoice, IsFittingChoice, IsMicroChoice};
+ghost use Rattle.text_symbols.specs.TextChoices.{IsTextChoice};
 ghost use Rattle.text_symbols.specs.TextFrames.{NoPartsFit};
 
 use qrcode_base::types::{EcLevel, QrError, QrResult, Version};
 use qrcode_bits::bits::data_capacity_bits;
 use std::alloc::Global;
 use text_plans::{TextPlan, least_plan};
+use version_choices::{first_holding, last_of_class};
 
 /// The plan of a text, how many bits it takes, and the number of its version.
 #[derive(Drop)]
@@ -25,67 +23,6 @@ pub struct Choice {
     pub plan: TextPlan,
     pub bits: usize,
     pub number: usize,
-}
-
-/// Returns the last version of the class of a version, or the limit if that is less.
-pub fn last_of_class(first: usize, limit: usize) -> usize
-    requires some { 1 ≤ first }
-    requires order { first ≤ limit }
-    requires last { limit ≤ 40 }
-    ensures class { IsClass (first - 1) result }
-    ensures from { first ≤ result }
-    ensures to { result ≤ limit }
-{
-    let end = if first <= 9 {
-        9
-    } else if first <= 26 {
-        26
-    } else {
-        40
-    };
-    end.min(limit)
-}
-
-/// Returns whether a version holds a number of bits at a level.
-fn holds(bits: usize, number: usize, level: EcLevel) -> bool
-    requires { number ≤ 40 }
-    ensures { IsTrue result ↔ HoldsBits bits number level }
-{
-    match data_capacity_bits(Version::Normal(number as i16), level) {
-        Ok(limit) => bits <= limit,
-        Err(_) => false,
-    }
-}
-
-/// Returns the first version from one number on, and before another, that holds a number of bits at
-/// a level, if there is one.
-pub fn first_holding(bits: usize, level: EcLevel, first: usize, end: usize) -> Option<usize>
-    requires { end ≤ 41 }
-    ensures found { IfSome result (IsFirstHolding bits level first end) }
-    ensures none { IfNone result (NoneHoldsBefore bits level first end) }
-{
-    for number in first..end {
-        if holds(bits, number, level) {
-            return Some(number);
-        }
-    }
-    None
-}
-
-/// Returns the greatest level at which a version holds a number of bits, or L.
-pub fn greatest_level(bits: usize, number: usize) -> EcLevel
-    requires { number ≤ 40 }
-    ensures { IsGreatestLevel bits number result }
-{
-    if holds(bits, number, EcLevel::H) {
-        EcLevel::H
-    } else if holds(bits, number, EcLevel::Q) {
-        EcLevel::Q
-    } else if holds(bits, number, EcLevel::M) {
-        EcLevel::M
-    } else {
-        EcLevel::L
-    }
 }
 
 /// Returns the least plan of a text in the smallest Normal version from a least one up to a

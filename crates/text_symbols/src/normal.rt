@@ -1,49 +1,23 @@
 //! The smallest Normal symbol of a text.
-ghost use Rattle.std.specs.Prelude.{◌≡◌, ◌↔◌, ◌≤◌, length, nat_abs, IfErr, IfOk, IsOk, OnOk};
-ghost use Rattle.std.specs.Prelude.{IsOkUnless, chars};
+ghost use Rattle.std.specs.Prelude.{◌≡◌, ◌≤◌, length, chars, IfErr, IfOk, OnOk};
 ghost use Rattle.qrcode_base.specs.declared.symbols.TheConstants.{LONGEST_DATA};
-ghost use Rattle.qrcode_base.specs.declared.types.errors.QrError.TheVariants.{InvalidResourceLimits};
 ghost use Rattle.qrcode_core.specs.Options.{HasVersions};
-ghost use Rattle.text_symbols.specs.TextChoices.{IsLevelAsked};
 ghost use Rattle.text_symbols.specs.TextHeadline.{IsTextAsAsked, IsTextRefused, TellsTextReading};
 
-use crate::choice::{chosen_plan, greatest_level};
+use crate::choice::chosen_plan;
 use crate::drawing::drawn_plan;
 use qrcode_base::symbols::LONGEST_DATA;
-use qrcode_base::types::{EcLevel, QrError, QrResult, Version};
+use qrcode_base::types::{QrError, QrResult, Version};
 use qrcode_core::SymbolOptions;
 use qrcode_core::symbol::Symbol;
 use std::alloc::Global;
+use version_choices::{level_of, versions_of};
 
 /// Returns the number of characters of a text.
 pub fn char_count(text: &str) -> usize
     ensures { result ≡ length (chars text.now) }
 {
     text.chars().count()
-}
-
-/// Returns the numbers of the least and the greatest version of options. It fails with
-/// `InvalidResourceLimits` for versions that `SymbolOptions::validate` rejects.
-fn versions_of(options: &SymbolOptions) -> QrResult<(usize, usize)>
-    ensures range { IsOk result ↔ HasVersions options.now }
-    ensures least { IfOk result (λ range. range.0 ≡ nat_abs options.now.min_version) }
-    ensures greatest { IfOk result (λ range. range.1 ≡ nat_abs options.now.max_version) }
-    ensures refusal { IsOkUnless result InvalidResourceLimits }
-{
-    options.validate()?;
-    Ok((options.min_version as usize, options.max_version as usize))
-}
-
-/// Returns the level of the symbol that options ask for, of a number of bits in a version.
-fn level_of(options: &SymbolOptions, bits: usize, number: usize) -> EcLevel
-    requires { number ≤ 40 }
-    ensures { IsLevelAsked options.now.strongest options.now.level bits number result }
-{
-    if options.strongest {
-        greatest_level(bits, number)
-    } else {
-        options.level
-    }
 }
 
 /// Returns the symbol of a text that the options ask for: the smallest one at their level in their

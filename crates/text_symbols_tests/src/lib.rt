@@ -1,7 +1,11 @@
-//! Tests of `text_plans` and `text_symbols`: worked rows, read back by `plain_reader`, and calls
-//! whose allocations fail (`tools/refuse-growth`).
+//! Tests of `text_plans`, `text_symbols`, `text_cuts`, `text_sequences` and `byte_symbols`: worked
+//! rows, read back by `plain_reader`, and calls whose allocations fail (`tools/refuse-growth`).
 #![tactic(auto)]
 
+#[cfg(test)]
+mod byte_tests;
+#[cfg(test)]
+mod cut_tests;
 #[cfg(test)]
 mod grids;
 #[cfg(test)]

@@ -5,6 +5,7 @@
 pub mod contents;
 pub mod elements;
 pub mod grids;
+pub mod keys;
 pub mod labels;
 pub mod lines;
 pub mod links;

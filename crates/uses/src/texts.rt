@@ -1,6 +1,10 @@
-//! The smallest symbol of a text, by `text_symbols`.
-ghost use Rattle.std.specs.Prelude.{◌⊎◌, chars, IfOk};
+//! The smallest symbols of a text, by `text_symbols`, `text_cuts` and `text_sequences`.
+ghost use Rattle.std.specs.Prelude.{◌⊎◌, ℕ, List, map, All, chars, IfOk};
 ghost use Rattle.qrcode_bits.specs.Plans.{micro};
+ghost use Rattle.qrcode_core.specs.Symbol.{modules_of};
+ghost use Rattle.text_cuts.specs.TextCuts.{AreBestTextCuts};
+ghost use Rattle.text_sequences.specs.TextMessages.{AreSmallestTextSymbols};
+ghost use Rattle.text_sequences.specs.TextPieces.{TellsPieceReading};
 ghost use Rattle.text_symbols.specs.TextHeadline.{IsSmallestInRange, IsSmallestText};
 ghost use Rattle.text_symbols.specs.TextHeadline.{TellsTextReading};
 
@@ -8,6 +12,8 @@ use qrcode_core::SymbolOptions;
 use qrcode_core::symbol::Symbol;
 use qrcode_core::types::{EcLevel, QrError, QrResult};
 use std::alloc::Global;
+use text_cuts::smallest_text_cuts;
+use text_sequences::smallest_text_sequence;
 use text_symbols::{MicroTextError, micro_text, smallest_text};
 
 /// Returns the symbol of a text at level M: the smallest Micro symbol, or the smallest Normal one
@@ -23,4 +29,16 @@ pub fn name_tag(alloc: Global, text: &str) -> QrResult<Symbol>
         Err(MicroTextError::Symbol(QrError::OutOfMemory)) => Err(QrError::OutOfMemory),
         Err(_) => smallest_text(alloc, text, &SymbolOptions::new(EcLevel::M)),
     }
+}
+
+/// Returns the symbols of a text that is too long for one, at level M, as few as can be, each the
+/// smallest of its part.
+pub fn leaflet(alloc: Global, text: &str) -> QrResult<Vec<Symbol>>
+    ensures fewest { IfOk result (λ symbols. (cuts : List ℕ)
+        × AreBestTextCuts text.now EcLevel.M 40 cuts
+        × AreSmallestTextSymbols text.now cuts EcLevel.M 40 (map modules_of symbols.items)) }
+    ensures reading { IfOk result (λ symbols. All TellsPieceReading symbols.items) }
+{
+    let cuts = smallest_text_cuts(alloc, text, EcLevel::M, 40)?;
+    smallest_text_sequence(alloc, text, &cuts, EcLevel::M, 40)
 }

@@ -5,7 +5,7 @@ use Rattle.std.proofs.Math.Seq.{get_or-append_seam}
 use Rattle.std.proofs.lemmas.Grind.{common_steps}
 use Rattle.std.proofs.lemmas.List.Elements.{All-more}
 use Rattle.text_plans.specs.declared.facts.Facts.{Facts}
-use Rattle.text_plans.specs.Keeping.{Covers, TakesNoMore}
+use Rattle.text_plans.specs.Keeping.{StandFor, TakesNoMore}
 use Rattle.text_plans.proofs.Sizes.{ones}
 use Rattle.text_plans.proofs.keep.telling.Goals as goal
 use Rattle.text_plans.proofs.keep.telling.Goals.{then-is_new+in_ok-push, else-is_new}
@@ -60,4 +60,4 @@ loop-facts-preserved c =
 pub returns : goal.returns
 returns c =
     let whole : take c.loop-facts.facts-index c.args.all.now ≡ c.args.all.now = grind (arith, common_steps) in
-    subst (λ (all : List Facts). Covers c.loop-facts.some.items all) whole c.loop-facts.invariant.0
+    subst (λ (all : List Facts). StandFor c.loop-facts.some.items all) whole c.loop-facts.invariant.0

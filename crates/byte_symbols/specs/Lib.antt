@@ -1,0 +1,3 @@
+pub mod BytePieces
+pub mod ByteChoices
+pub mod ByteHeadline

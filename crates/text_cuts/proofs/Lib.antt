@@ -1,0 +1,4 @@
+pub mod Splits
+pub mod Shorter
+pub mod Slices
+pub mod FewestCuts

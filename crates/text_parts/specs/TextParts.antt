@@ -1,0 +1,72 @@
+-- The version that a part of a text takes in a symbol of a sequence: the smallest in which some
+-- parts that are read as it fit after the header, which takes 20 bits (ISO/IEC 18004:2006,
+-- "Structured Append" and "Data analysis" of the encode procedure).
+use Rattle.std.specs.Prelude.{◌≡◌, ℕ, ◌+◌, ◌*◌, ◌<◌, ◌≤◌, List, [], Some, length, chars}
+use Rattle.std.specs.Prelude.{slice_index_or}
+use Rattle.qrcode_base.specs.Symbols.{capacity}
+use Rattle.qrcode_base.specs.declared.types.EcLevel.{EcLevel}
+use Rattle.qrcode_base.specs.declared.types.Version.{Version}
+use Rattle.qrcode_base.specs.declared.types.errors.QrError.{QrError}
+use Rattle.qrcode_base.specs.declared.types.errors.QrError.TheVariants.{DataTooLong, OutOfMemory}
+use Rattle.qrcode_bits.specs.Plans.{normal}
+use Rattle.qrcode_core.specs.Sequence.{parts_at}
+use Rattle.text_reading.specs.Reading.{Part}
+use Rattle.text_plans.specs.Costs.{AreLeast, AreTextParts, bits_of_parts}
+
+-- Parts that are read as a text fit a version at a level after the 20 bits of a header: the version
+-- has the level, can have the parts, and holds the bits of both.
+pub record PartsFitAfterHeader (version : Version) (level : EcLevel) (text : List ℕ)
+    (parts : List Part) : Type 0 where
+  pub written : AreTextParts version text parts
+  pub limit : ℕ
+  pub has_level : capacity version level ≡ Some limit
+  pub within : 20 + bits_of_parts version parts ≤ limit
+
+-- No parts that are read as the text fit the version after a header.
+abbrev pub NoPartsFitAfterHeader : Version → EcLevel → List ℕ → Type 0
+NoPartsFitAfterHeader version level text =
+    (parts : List Part) → PartsFitAfterHeader version level text parts → ⊥
+
+-- The text is too long for one symbol of a sequence: no parts that are read as it fit any version
+-- up to a limit after a header.
+abbrev pub IsTextPartTooLong : List ℕ → EcLevel → ℕ → Type 0
+IsTextPartTooLong text level limit =
+    (number : ℕ) → number ≤ limit → NoPartsFitAfterHeader (normal number) level text
+
+-- The smallest version up to a limit in which some parts fit after a header, and the parts that
+-- take the fewest bits there. Example: twelve letters `a` take 108 bits and with a header 128, the
+-- capacity of version 1 at level M; thirteen take version 2.
+pub record IsPartChoice (text : List ℕ) (level : EcLevel) (limit number : ℕ)
+    (parts : List Part) : Type 0 where
+  pub up_to : number ≤ limit
+  pub are_least : AreLeast (normal number) text parts
+  pub fits : PartsFitAfterHeader (normal number) level text parts
+  pub smallest : (smaller : ℕ) → smaller < number →
+      NoPartsFitAfterHeader (normal smaller) level text
+
+-- No version before a number has room for a header and so many characters: no mode takes fewer than
+-- ten bits for three characters.
+abbrev pub HaveNoRoomBefore : ℕ → ℕ → Type 0
+HaveNoRoomBefore end count =
+    (number limit : ℕ) (level : EcLevel) → number < end →
+    capacity (normal number) level ≡ Some limit → 3 * limit < 3 * 20 + 10 * count
+
+-- Why a text has no choice up to a limit: no parts that are read as it fit any of the versions
+-- after a header, or an allocation failed.
+abbrev pub HasNoPartChoice : List ℕ → EcLevel → ℕ → QrError → Type 0
+HasNoPartChoice text level limit DataTooLong = IsTextPartTooLong text level limit
+HasNoPartChoice text level limit OutOfMemory = Unit {0}
+HasNoPartChoice text level limit other = ⊥
+
+-- ---- The parts of a text
+
+-- The text of the part at an index of a text in UTF-8 that is cut at some places.
+abbrev pub text_of_part : List ℕ → List ℕ → ℕ → List ℕ
+text_of_part message cuts index = chars (slice_index_or (parts_at cuts message) index [])
+
+-- Some part is too long: nothing that is read as its text fits any version up to the limit after
+-- its header.
+abbrev pub IsSomeTextPartTooLong : List ℕ → List ℕ → EcLevel → ℕ → Type 0
+IsSomeTextPartTooLong message cuts level limit =
+    (i : ℕ) × (i < length cuts + 1)
+    × IsTextPartTooLong (text_of_part message cuts i) level limit

@@ -1,0 +1,93 @@
+//! The choice of the version of one part of a text that is spread over several symbols: the
+//! smallest in which it fits after the header of the sequence, in whichever way it is written.
+//!
+//! ```text
+//! let choice = chosen_part(alloc, "市北前倉東", EcLevel::M, 40)?;
+//! ```
+#![tactic(auto)]
+
+ghost use Rattle.std.specs.Prelude.{◌≡◌, ◌+◌, ◌≤◌, IfErr, IfNone, IfOk, IfSome, chars, length};
+ghost use Rattle.qrcode_bits.specs.Plans.{normal};
+ghost use Rattle.text_plans.specs.Costs.{bits_of_parts};
+ghost use Rattle.text_plans.specs.Plan.{plan_parts};
+ghost use Rattle.version_choices.specs.Holding.{IsFirstHolding, NoneHoldsBefore};
+ghost use Rattle.text_parts.specs.TextParts.{HasNoPartChoice, HaveNoRoomBefore, IsPartChoice};
+
+use qrcode_base::symbols::LONGEST_DATA;
+use qrcode_base::types::{EcLevel, QrError, QrResult, Version};
+use std::alloc::Global;
+use text_plans::least_plan;
+use text_symbols::choice::Choice;
+use version_choices::{first_holding, last_of_class};
+
+/// The bits of the header of a symbol of a sequence.
+const HEADER_BITS: usize = 20;
+
+/// Returns the number of characters of a text.
+fn char_count(text: &str) -> usize
+    ensures { result ≡ length (chars text.now) }
+{
+    text.chars().count()
+}
+
+/// Returns the first version of a class such that no version before it has room for a header and so
+/// many characters.
+fn first_with_room(count: usize) -> usize
+    ensures some { 1 ≤ result }
+    ensures none { HaveNoRoomBefore result count }
+{
+    // Version 9 holds 1856 bits, version 26 holds 10960.
+    if count > 3282 {
+        27
+    } else if count > 550 {
+        10
+    } else {
+        1
+    }
+}
+
+/// Returns the first version from one number on, and before another, that holds a header and a
+/// number of bits after it at a level, if there is one.
+fn first_holding_part(bits: usize, level: EcLevel, first: usize, end: usize) -> Option<usize>
+    requires { end ≤ 41 }
+    ensures found { IfSome result (IsFirstHolding (20 + bits) level first end) }
+    ensures none { IfNone result (NoneHoldsBefore (20 + bits) level first end) }
+{
+    first_holding(bits.saturating_add(HEADER_BITS), level, first, end)
+}
+
+/// Returns the least plan of a text in the smallest Normal version, up to a greatest one, in which
+/// it fits after the header of a symbol of a sequence (ISO/IEC 18004:2006, "Structured Append").
+/// The bits of the choice are those of the plan, without the header.
+///
+/// # Errors
+///
+/// It fails with `DataTooLong` exactly where nothing that is read as the text fits any of the
+/// versions after a header; more than 7089 characters fail without an allocation. It fails with
+/// `OutOfMemory` where an allocation failed.
+pub fn chosen_part(alloc: Global, text: &str, level: EcLevel, limit: usize) -> QrResult<Choice>
+    requires some { 1 ≤ limit }
+    requires last { limit ≤ 40 }
+    ensures chosen { IfOk result (λ choice. IsPartChoice (chars text.now) level limit
+        choice.number (plan_parts choice.plan)) }
+    ensures bits { IfOk result (λ choice.
+        choice.bits ≡ bits_of_parts (normal choice.number) (plan_parts choice.plan)) }
+    ensures refusal { IfErr result (HasNoPartChoice (chars text.now) level limit) }
+{
+    let count = char_count(text);
+    if count > LONGEST_DATA {
+        return Err(QrError::DataTooLong);
+    }
+    let mut first = first_with_room(count);
+    while first <= limit {
+        let last = last_of_class(first, limit);
+        let version = Version::Normal(last as i16);
+        if let Some((plan, bits)) = least_plan(alloc, text, version)? {
+            if let Some(number) = first_holding_part(bits, level, first, last + 1) {
+                return Ok(Choice { plan, bits, number });
+            }
+        }
+        first = last + 1;
+    }
+    Err(QrError::DataTooLong)
+}

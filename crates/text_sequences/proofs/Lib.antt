@@ -1,0 +1,5 @@
+pub mod PieceFrames
+pub mod TextPieces
+pub mod TextCuts
+pub mod TextMessages
+pub mod Utf8Pieces

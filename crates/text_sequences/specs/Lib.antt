@@ -1,0 +1,3 @@
+pub mod PieceFrames
+pub mod TextPieces
+pub mod TextMessages
