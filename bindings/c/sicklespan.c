@@ -11,6 +11,9 @@ int32_t qrcode_c_micro_symbol(const uint8_t *bytes, size_t length, int32_t level
                               size_t room, sicklespan_shape *shape);
 int32_t qrcode_c_bytes(const uint8_t *bytes, size_t length, const sicklespan_options *options,
                        uint8_t *modules, size_t room, sicklespan_shape *shape);
+int32_t qrcode_c_bytes_without_kanji(const uint8_t *bytes, size_t length,
+                                     const sicklespan_options *options, uint8_t *modules,
+                                     size_t room, sicklespan_shape *shape);
 int32_t qrcode_c_text(const uint8_t *text, size_t length, const sicklespan_options *options,
                       uint8_t *modules, size_t room, sicklespan_shape *shape);
 int32_t qrcode_c_smallest_text(const uint8_t *text, size_t length,
@@ -139,6 +142,12 @@ static int32_t asked(draw_asked *by, const void *data, size_t length,
 int32_t sicklespan_bytes(const void *bytes, size_t length, const sicklespan_options *options,
                          uint8_t *modules, size_t room, sicklespan_shape *shape) {
     return asked(qrcode_c_bytes, bytes, length, options, modules, room, shape);
+}
+
+int32_t sicklespan_bytes_without_kanji(const void *bytes, size_t length,
+                                       const sicklespan_options *options, uint8_t *modules,
+                                       size_t room, sicklespan_shape *shape) {
+    return asked(qrcode_c_bytes_without_kanji, bytes, length, options, modules, room, shape);
 }
 
 int32_t sicklespan_text(const char *text, size_t length, const sicklespan_options *options,
@@ -293,6 +302,8 @@ static int32_t tried(int32_t content, const void *data, size_t length,
         return sicklespan_smallest_text(data, length, options, NULL, 0, &shape);
     case SICKLESPAN_CONTENT_MICRO_TEXT:
         return sicklespan_micro_text(data, length, options->level, NULL, 0, &shape);
+    case SICKLESPAN_CONTENT_BYTES_WITHOUT_KANJI:
+        return sicklespan_bytes_without_kanji(data, length, options, NULL, 0, &shape);
     default: return SICKLESPAN_INVALID_CONTENT;
     }
 }

@@ -124,6 +124,15 @@ int32_t sicklespan_bytes(const void *bytes, size_t length, const sicklespan_opti
                          uint8_t *modules, size_t room, sicklespan_shape *shape);
 
 /*
+ * The smallest symbol of some bytes in which no segment is in the Kanji mode, for readers that show
+ * a pair of bytes in that mode as another character. Level, versions, `strongest` and statuses are
+ * as of sicklespan_bytes, of all ways to cut the bytes into segments of the other modes.
+ */
+int32_t sicklespan_bytes_without_kanji(const void *bytes, size_t length,
+                                       const sicklespan_options *options, uint8_t *modules,
+                                       size_t room, sicklespan_shape *shape);
+
+/*
  * The best symbol of what people write: of UTF-8 that is not all ASCII that of
  * sicklespan_smallest_text, and of all else, ASCII too, that of sicklespan_bytes. `qrlabel` and the
  * package for Python do the same. The statuses are those of sicklespan_bytes.
@@ -279,7 +288,8 @@ enum sicklespan_content {
     SICKLESPAN_CONTENT_AUTO = 5,          /* sicklespan_auto */
     SICKLESPAN_CONTENT_GS1_UNCHECKED = 6, /* sicklespan_gs1_unchecked */
     SICKLESPAN_CONTENT_SMALLEST_TEXT = 7, /* sicklespan_smallest_text */
-    SICKLESPAN_CONTENT_MICRO_TEXT = 8     /* sicklespan_micro_text, with the level of the options */
+    SICKLESPAN_CONTENT_MICRO_TEXT = 8,    /* sicklespan_micro_text, with the level of the options */
+    SICKLESPAN_CONTENT_BYTES_WITHOUT_KANJI = 9 /* sicklespan_bytes_without_kanji */
 };
 
 /*

@@ -122,6 +122,7 @@ int32_t __wrap_qrcode_c_picture(const uint8_t *grid, size_t size, size_t width, 
 }
 
 SEES_ASKED(qrcode_c_bytes)
+SEES_ASKED(qrcode_c_bytes_without_kanji)
 SEES_ASKED(qrcode_c_text)
 SEES_ASKED(qrcode_c_smallest_text)
 SEES_ASKED(qrcode_c_elements)
@@ -546,7 +547,8 @@ int main(void) {
                                    test_table,          test_faults,
                                    test_reasons,        test_links,
                                    test_link_pointers,  test_smallest_text,
-                                   test_micro_text,     test_text_allocations};
+                                   test_micro_text,     test_text_allocations,
+                                   test_without_kanji,  test_without_kanji_allocations};
     int passed = 0, failed = 0;
     /* What a row prints is not lost where the next call ends the program. */
     setbuf(stdout, NULL);

@@ -11,6 +11,13 @@ static int32_t of_bytes(const void *data, size_t length, const sicklespan_option
     return sicklespan_bytes(data, length, options, out, room, to);
 }
 
+static int32_t of_bytes_without_kanji(const void *data, size_t length,
+                                      const sicklespan_options *options, uint8_t *out, size_t room,
+                                      void *to) {
+    clear();
+    return sicklespan_bytes_without_kanji(data, length, options, out, room, to);
+}
+
 static int32_t of_text(const void *data, size_t length, const sicklespan_options *options,
                        uint8_t *out, size_t room, void *to) {
     clear();
@@ -55,10 +62,11 @@ static int32_t asked(asked_call *call, const char *text, const sicklespan_option
 }
 
 static void test_asked_pointers(void) {
-    asked_call *const calls[] = {of_bytes, of_text,          of_elements,     of_gs1,
-                                 of_auto,  of_gs1_unchecked, of_smallest_text};
-    const char *const data[] = {"hello",        "hello",     "10ABC",       "(10)ABC",
-                                "h\xc3\xa9llo", "(4399)ABC", "\xe6\x9d\xb1"};
+    asked_call *const calls[] = {
+        of_bytes, of_text,          of_elements,      of_gs1,
+        of_auto,  of_gs1_unchecked, of_smallest_text, of_bytes_without_kanji};
+    const char *const data[] = {"hello",        "hello",     "10ABC",        "(10)ABC",
+                                "h\xc3\xa9llo", "(4399)ABC", "\xe6\x9d\xb1", "\x93_"};
     static uint8_t drawn[441];
     for (size_t i = 0; i < sizeof calls / sizeof *calls; i++) {
         asked_call *const call = calls[i];

@@ -1,5 +1,5 @@
 /* SPDX-License-Identifier: MIT OR Apache-2.0 */
-/* The smallest symbols of texts, a part of test.c. */
+/* The smallest symbols of texts, and bytes without the Kanji mode, a part of test.c. */
 
 /* The versions at level M, by the tables of ISO/IEC 18004:2006: version 1 holds 128 bits, of which
  * 8 + 4 come before the Kanji, each of 13 bits, and 12 + 8 + 4 before the bytes of a part of
@@ -101,3 +101,56 @@ static void test_text_allocations(void) {
     fail_allocations(draw_smallest_text);
     fail_allocations(draw_micro_text);
 }
+
+/* Two bytes that are a pair of the Kanji mode, and four times them. */
+#define PAIR    "\x93_"
+#define PAIRS_4 PAIR PAIR PAIR PAIR
+
+/* Version 1 holds 152 bits at L and 72 at H, of which 4 + 8 come before the bytes, each of 8 bits,
+ * and before the pairs, each of 13. */
+static void test_without_kanji(void) {
+    static uint8_t drawn[441];
+    const sicklespan_options low = {SICKLESPAN_LEVEL_L, 1, 40, 0};
+    const sicklespan_options first = {SICKLESPAN_LEVEL_H, 1, 1, 0};
+    const sicklespan_options strongest = {SICKLESPAN_LEVEL_L, 1, 40, 1};
+    const struct {
+        const char *data;
+        int32_t version;
+    } rows[] = {{"", 1}, {PAIRS_4 PAIRS_4 "a", 1}, {PAIRS_4 PAIRS_4 PAIR, 2}, {"\xff\x80", 1}};
+    for (size_t i = 0; i < sizeof rows / sizeof *rows; i++) {
+        const size_t side = (size_t)(17 + 4 * rows[i].version);
+        EXPECT(asked(of_bytes_without_kanji, rows[i].data, &low) == SICKLESPAN_OK &&
+               is_kept_from(side * side) && shape.version == rows[i].version);
+    }
+    EXPECT(asked(of_bytes, PAIRS_4 PAIRS_4 PAIR, &low) == SICKLESPAN_OK && shape.version == 1);
+    EXPECT(asked(of_bytes, PAIRS_4, &first) == SICKLESPAN_OK);
+    EXPECT(asked(of_bytes_without_kanji, PAIRS_4, &first) == SICKLESPAN_DATA_TOO_LONG &&
+           is_kept_from(0));
+    EXPECT(asked(of_bytes_without_kanji, PAIR PAIR PAIR "a", &first) == SICKLESPAN_OK);
+    EXPECT(asked(of_bytes_without_kanji, PAIR PAIR PAIR "a", &strongest) == SICKLESPAN_OK &&
+           shape.version == 1 && shape.level == SICKLESPAN_LEVEL_H);
+    const char *const same[] = {"hello", "0123456789", "A1:B2", "\xc3\xa9\x80"};
+    for (size_t i = 0; i < sizeof same / sizeof *same; i++) {
+        EXPECT(asked(of_bytes, same[i], &low) == SICKLESPAN_OK && shape.version == 1);
+        memcpy(drawn, modules, sizeof drawn);
+        EXPECT(asked(of_bytes_without_kanji, same[i], &low) == SICKLESPAN_OK &&
+               memcmp(drawn, modules, sizeof drawn) == 0);
+    }
+    const sicklespan_options no_level = {4, 0, 40, 0}, no_versions = {0, 0, 40, 0};
+    EXPECT(asked(of_bytes_without_kanji, "a", &no_level) == SICKLESPAN_INVALID_LEVEL &&
+           is_kept_from(0));
+    EXPECT(asked(of_bytes_without_kanji, "a", &no_versions) == SICKLESPAN_INVALID_VERSIONS &&
+           is_kept_from(0));
+    EXPECT(of_bytes_without_kanji("a", 1, NULL, modules, 440, &shape) == SICKLESPAN_SHORT_BUFFER &&
+           is_kept_from(0));
+    size_t good = 0;
+    EXPECT(sicklespan_check(SICKLESPAN_CONTENT_BYTES_WITHOUT_KANJI, PAIRS_4, 8, &first, &good) ==
+               SICKLESPAN_DATA_TOO_LONG &&
+           good == 7);
+}
+
+static int32_t draw_without_kanji(void) {
+    return sicklespan_bytes_without_kanji(PAIRS_4 "a1234567", 16, NULL, modules, GREATEST, &shape);
+}
+
+static void test_without_kanji_allocations(void) { fail_allocations(draw_without_kanji); }

@@ -192,7 +192,8 @@ ERRORS: Dict[int, Type[SicklespanError]] = {
 
 
 # The numbers of `sicklespan_content`.
-BYTES, TEXT, ELEMENTS, GS1, MICRO, _AUTO, GS1_UNCHECKED, SMALLEST_TEXT, MICRO_TEXT = range(9)
+(BYTES, TEXT, ELEMENTS, GS1, MICRO, _AUTO, GS1_UNCHECKED, SMALLEST_TEXT, MICRO_TEXT,
+ BYTES_WITHOUT_KANJI) = range(10)
 # The names of settings that have another one in the library.
 _NAMES = {"quiet": "border", "at_x": "at", "at_y": "at"}
 

@@ -61,8 +61,9 @@ def _declare(name: str, result: object, *arguments: object) -> None:
 
 library = _opened()
 _AT_THE_END = (c_char_p, c_size_t, POINTER(Shape))
-for _name in ("sicklespan_bytes", "sicklespan_text", "sicklespan_smallest_text",
-              "sicklespan_elements", "sicklespan_gs1", "sicklespan_gs1_unchecked"):
+for _name in ("sicklespan_bytes", "sicklespan_bytes_without_kanji", "sicklespan_text",
+              "sicklespan_smallest_text", "sicklespan_elements", "sicklespan_gs1",
+              "sicklespan_gs1_unchecked"):
     _declare(_name, c_int32, c_char_p, c_size_t, POINTER(Options), *_AT_THE_END)
 _declare("sicklespan_gs1_fault", c_int32, c_char_p, c_size_t, POINTER(Fault))
 _LINK = (c_char_p, c_size_t, c_char_p, c_size_t)

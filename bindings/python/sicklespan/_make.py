@@ -5,9 +5,9 @@ import operator
 from typing import Callable, List, Optional, Sequence, Union
 
 from ._errors import (
-    BYTES, ELEMENTS, GS1, GS1_UNCHECKED, MICRO, MICRO_TEXT, SMALLEST_TEXT, TEXT, DataTooLongError,
-    InvalidCutsError, InvalidLevelError, InvalidPartCountError, InvalidTextError,
-    InvalidVersionsError, check, check_data, check_link)
+    BYTES, BYTES_WITHOUT_KANJI, ELEMENTS, GS1, GS1_UNCHECKED, MICRO, MICRO_TEXT, SMALLEST_TEXT,
+    TEXT, DataTooLongError, InvalidCutsError, InvalidLevelError, InvalidPartCountError,
+    InvalidTextError, InvalidVersionsError, check, check_data, check_link)
 from ._library import Options, Shape, library
 from ._symbol import LEVELS, Symbol
 
@@ -69,7 +69,9 @@ def _version(name: str, number: int) -> int:
     return whole
 
 
-_CALLS = {BYTES: library.sicklespan_bytes, TEXT: library.sicklespan_text,
+_CALLS = {BYTES: library.sicklespan_bytes,
+          BYTES_WITHOUT_KANJI: library.sicklespan_bytes_without_kanji,
+          TEXT: library.sicklespan_text,
           SMALLEST_TEXT: library.sicklespan_smallest_text,
           ELEMENTS: library.sicklespan_elements, GS1: library.sicklespan_gs1,
           GS1_UNCHECKED: library.sicklespan_gs1_unchecked}
@@ -106,7 +108,7 @@ def _is_beyond_ascii(content: Content) -> bool:
 
 def make(content: Content, error: Optional[str] = None, version: Optional[int] = None, *,
          min_version: int = 1, max_version: int = 40, boost_error: bool = True,
-         micro: Optional[bool] = False) -> Symbol:
+         micro: Optional[bool] = False, kanji: bool = True) -> Symbol:
     """The best symbol of a text or of bytes.
 
     `error` is the level, L, M, Q or H, and M if it is None. With `boost_error` it is the least
@@ -119,9 +121,13 @@ def make(content: Content, error: Optional[str] = None, version: Optional[int] =
     of ISO/IEC 8859, Shift JIS and UTF-8, that take the fewest bits: no symbol that is read as the
     text is smaller. `text` writes UTF-8. The symbol of bytes does not say which characters they
     are, and pairs of them go in the Kanji mode: where they are UTF-8 beyond ASCII, readers may show
-    other characters.
+    other characters. With `kanji` False none of them do: it is for bytes, and for no Micro symbol.
     """
     options = _options(error, version, min_version, max_version, boost_error)
+    if not kanji:
+        if micro:
+            raise ValueError("a Micro symbol has no form without the Kanji mode")
+        return _drawn(BYTES_WITHOUT_KANJI, _bytes("content", content), options)
     is_any = version is None and (min_version, max_version) == (1, 40)
     if micro and not is_any:
         raise InvalidVersionsError("a Micro symbol has no version from 1 to 40")

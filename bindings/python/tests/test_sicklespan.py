@@ -95,6 +95,25 @@ class Symbols(unittest.TestCase):
             sicklespan.make("\u5e02\u5317\u524d\u5009\u6771", "H", version=1)
         self.assertEqual(raised.exception.too_many, 3)
 
+    def test_bytes_without_kanji(self):
+        # Version 1 holds 152 bits at L, of which 12 come before the bytes of 8 bits, and before
+        # the pairs of the Kanji mode, of 13.
+        pairs = b"\x93_" * 9
+        self.assertEqual(sicklespan.make(pairs, "L").version, 1)
+        self.assertEqual(sicklespan.make(pairs, "L", kanji=False).version, 2)
+        self.assertEqual(sicklespan.make(pairs[:17], "L", kanji=False).version, 1)
+        # It holds 72 bits at H.
+        self.assertEqual(sicklespan.make(pairs[:7], kanji=False).designator, "1-H")
+        for data in (b"hello", b"0123456789", b"\xff\x80"):
+            self.assertEqual(sicklespan.make(data, kanji=False), sicklespan.make(data))
+        with self.assertRaises(sicklespan.DataTooLongError) as raised:
+            sicklespan.make(pairs[:8], "H", version=1, kanji=False)
+        self.assertEqual(raised.exception.too_many, 1)
+        with self.assertRaises(TypeError):
+            sicklespan.make("hello", kanji=False)
+        with self.assertRaises(ValueError):
+            sicklespan.make(b"hello", kanji=False, micro=True)
+
     def test_types(self):
         self.assertEqual(sicklespan.make(bytearray(b"hello")), sicklespan.make(b"hello"))
         self.assertEqual(sicklespan.make(memoryview(b"hello")), sicklespan.make(b"hello"))

@@ -65,11 +65,20 @@ pub enum Content {
     Gs1Unchecked = 6,
     SmallestText = 7,
     MicroText = 8,
+    BytesWithoutKanji = 9,
 }
 
 #[link(name = "sicklespan", kind = "static")]
 extern "C" {
     fn sicklespan_bytes(
+        data: *const u8,
+        length: usize,
+        options: *const Options,
+        modules: *mut u8,
+        room: usize,
+        shape: *mut Shape,
+    ) -> i32;
+    fn sicklespan_bytes_without_kanji(
         data: *const u8,
         length: usize,
         options: *const Options,
@@ -244,6 +253,7 @@ pub fn symbol(
 ) -> i32 {
     let call = match content {
         Content::Bytes | Content::Micro | Content::MicroText => sicklespan_bytes,
+        Content::BytesWithoutKanji => sicklespan_bytes_without_kanji,
         Content::Auto => sicklespan_auto,
         Content::Text => sicklespan_text,
         Content::SmallestText => sicklespan_smallest_text,

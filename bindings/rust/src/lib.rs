@@ -103,6 +103,23 @@ impl Symbol {
         Symbol::bytes_with(bytes, &Options::new(level))
     }
 
+    /// Returns the smallest symbol of some bytes at a level in which no segment is in the Kanji
+    /// mode, for readers that show a pair of bytes in that mode as another character.
+    ///
+    /// ```
+    /// # use sicklespan::{Level, Symbol};
+    /// let bytes = [0x93, 0x5f];
+    /// assert_ne!(Symbol::new(&bytes, Level::M), Symbol::bytes_without_kanji(&bytes, Level::M));
+    /// assert_eq!(Symbol::new(b"ab", Level::M), Symbol::bytes_without_kanji(b"ab", Level::M));
+    /// ```
+    ///
+    /// # Errors
+    ///
+    /// As `new`.
+    pub fn bytes_without_kanji(bytes: &[u8], level: Level) -> Result<Symbol, Error> {
+        Symbol::bytes_without_kanji_with(bytes, &Options::new(level))
+    }
+
     /// Returns the best symbol of a text at a level: of ASCII that of `new`, and of other text that
     /// of `smallest_text`, as `qrlabel` and the package for Python do it.
     ///
@@ -242,6 +259,16 @@ impl Symbol {
     /// `InvalidVersions`; then as `new`, for the versions of the options.
     pub fn bytes_with(bytes: &[u8], options: &Options) -> Result<Symbol, Error> {
         Symbol::asked(ffi::Content::Bytes, bytes, options)
+    }
+
+    /// Returns the symbol of some bytes without the Kanji mode that the options ask for, as
+    /// `bytes_without_kanji` says.
+    ///
+    /// # Errors
+    ///
+    /// As `bytes_with`.
+    pub fn bytes_without_kanji_with(bytes: &[u8], options: &Options) -> Result<Symbol, Error> {
+        Symbol::asked(ffi::Content::BytesWithoutKanji, bytes, options)
     }
 
     /// Returns the symbol of a text that the options ask for, as `auto` says.

@@ -140,6 +140,27 @@ fn draws_smallest_texts() {
 }
 
 #[test]
+fn draws_bytes_without_kanji() {
+    // Version 1 holds 152 bits at L and 72 at H, of which 12 come before the bytes, of 8 bits, and
+    // before the pairs of the Kanji mode, of 13.
+    let pairs = [0x93, 0x5f].repeat(9);
+    let version = |symbol: Result<Symbol, Error>| symbol.unwrap().version();
+    assert_eq!(version(Symbol::new(&pairs, Level::L)), Version::Normal(1));
+    assert_eq!(version(Symbol::bytes_without_kanji(&pairs, Level::L)), Version::Normal(2));
+    assert_eq!(version(Symbol::bytes_without_kanji(&pairs[..17], Level::L)), Version::Normal(1));
+    for data in ["hello", "0123456789", "é"] {
+        let symbol = Symbol::bytes_without_kanji(data.as_bytes(), Level::M);
+        assert_eq!(symbol, Symbol::new(data.as_bytes(), Level::M));
+    }
+    let first = Options::new(Level::H).max_version(1);
+    assert!(Symbol::bytes_with(&pairs[..8], &first).is_ok());
+    assert_eq!(Symbol::bytes_without_kanji_with(&pairs[..8], &first), Err(too_long(1)));
+    let strongest = Options::new(Level::L).strongest();
+    let symbol = Symbol::bytes_without_kanji_with(&pairs[..7], &strongest).unwrap();
+    assert_eq!((symbol.version(), symbol.level()), (Version::Normal(1), Level::H));
+}
+
+#[test]
 fn draws_micro_texts() {
     // M3 holds 84 and 68 bits at L and M, of which five Kanji take 2 + 3 + 65.
     for (level, number) in [(Level::L, 3), (Level::M, 4), (Level::Q, 4)] {

@@ -41,6 +41,28 @@ fn splits_messages(rt: HostRuntime) {
     assert!(rt; ran(rt.alloc(), &SMALL, &bytes).has_reported(1, TOO_LONG));
 }
 
+/// The parts of a text beyond ASCII are in the fewest bits: version 1 holds 10 Kanji, and 9 after a
+/// header, which take 20 + 4 + 8 + 9 * 13 bits.
+#[test]
+fn splits_texts(rt: HostRuntime) -> Result<(), QrError> {
+    let words = ["--split", "-lL", "--max-version=1", "-fpbm", "-s1"];
+    for (count, parts) in [(10_usize, 1_usize), (11, 2), (18, 2), (19, 3), (144, 16)] {
+        let mut text = Vec::new(rt.alloc());
+        for place in 0..count {
+            text.extend_from_slice("\u{6771}".as_bytes())?;
+        }
+        assert!(rt;
+            ran(rt.alloc(), &words, &text).has_length(parts.saturating_mul(BITMAP)),
+            "{count}"
+        );
+        if count == 144 {
+            text.extend_from_slice("\u{6771}".as_bytes())?;
+            assert!(rt; ran(rt.alloc(), &words, &text).has_reported(1, TOO_LONG));
+        }
+    }
+    Ok(())
+}
+
 /// More than 16 times 7089 bytes are not read to the end.
 #[test]
 fn reads_no_more_than_symbols_hold(rt: HostRuntime) -> Result<(), QrError> {

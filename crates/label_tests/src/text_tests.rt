@@ -1,6 +1,6 @@
 //! Tests of texts beyond ASCII, which are written in the fewest bits.
 use crate::part_tests::has_details;
-use crate::served::{ran, reports};
+use crate::served::{draw_alike, ran, reports};
 use qrcode_core::types::QrError;
 use std::alloc::Global;
 
@@ -195,4 +195,17 @@ fn says_how_many_bits(rt: HostRuntime) -> Result<(), QrError> {
         );
     }
     Ok(())
+}
+
+/// At level L version 1 has 21 modules a side and room for 152 bits, of which nine pairs take
+/// 12 + 117 in the Kanji mode, and 12 + 144 as bytes.
+#[test]
+fn draws_bytes_without_kanji(rt: HostRuntime) {
+    let words = ["-f", "pbm", "-l", "L", "-s", "1", "-q", "0", "-c", "bytes"];
+    let pairs = b"\x93_\x93_\x93_\x93_\x93_\x93_\x93_\x93_\x93_";
+    assert!(rt; ran(rt.alloc(), &words, pairs).has_length(9 + 3 * 21));
+    let without = ["-fpbm", "-lL", "-s1", "-q0", "-cbytes", "--no-kanji"];
+    assert!(rt; ran(rt.alloc(), &without, pairs).has_length(9 + 4 * 25));
+    assert!(rt; ran(rt.alloc(), &without, &pairs[1..]).has_length(9 + 3 * 21));
+    assert!(rt; draw_alike(rt.alloc(), &words, b"\xFF9A1", &without, b"\xFF9A1"));
 }

@@ -31,7 +31,8 @@ or files as in -o label-%05d.png";
 
 /// What `--split` does not go with.
 const SPLIT: &str = "invalid --split: \
-not with --lines, --strongest, --min-version, or -c gs1, gs1-unchecked, link, micro or micro-bytes";
+not with --lines, --strongest, --min-version, --no-kanji, or -c gs1, gs1-unchecked, link, micro \
+or micro-bytes";
 
 /// Each row has words that are wrong, and what is written about them. Nothing is read or drawn.
 static WRONG_WORDS: [(&[&str], &str); 35] = [
@@ -117,8 +118,10 @@ static WRONG_WORDS: [(&[&str], &str); 35] = [
 const HRI: &str =
     "invalid --hri: with -c gs1, gs1-unchecked or link, for terminal, svg, eps and zpl";
 
+const NO_KANJI: &str = "invalid --no-kanji: with -c bytes";
+
 /// The same of values of options.
-static WRONG_VALUES: [(&[&str], &str); 38] = [
+static WRONG_VALUES: [(&[&str], &str); 43] = [
     (&["--inverted"], "invalid --inverted: for terminal"),
     (
         &["--dpi", "300"],
@@ -182,6 +185,14 @@ static WRONG_VALUES: [(&[&str], &str); 38] = [
     (
         &["-c", "micro-bytes", "--strongest"],
         "invalid --strongest: not for a Micro symbol",
+    ),
+    (&["--no-kanji"], NO_KANJI),
+    (&["-c", "text", "--no-kanji"], NO_KANJI),
+    (&["-c", "micro-bytes", "--no-kanji"], NO_KANJI),
+    (&["-c", "gs1", "--no-kanji"], NO_KANJI),
+    (
+        &["--split", "-f", "zpl", "-c", "bytes", "--no-kanji"],
+        SPLIT,
     ),
     (&["--split"], STREAM),
     (&["--split", "-f", "pdf"], STREAM),

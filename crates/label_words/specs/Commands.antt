@@ -12,7 +12,7 @@ use Rattle.picture_settings.specs.declared.format.Format.{Format as FormatOf}
 use Rattle.picture_settings.specs.declared.format.Format.TheVariants.{Terminal, Svg}
 use Rattle.label_words.specs.declared.command.TheConstants.{MAX_FIRST}
 use Rattle.label_words.specs.declared.command.Content.{Content as ContentOf}
-use Rattle.label_words.specs.declared.command.Content.TheVariants.{Auto, Bytes, MicroBytes}
+use Rattle.label_words.specs.declared.command.Content.TheVariants.{Auto, Bytes, BytesWithoutKanji, MicroBytes}
 use Rattle.label_words.specs.declared.words.Name.{Name}
 use Rattle.label_words.specs.declared.words.Name.TheVariants.{Text, Format, Content, Level, Strongest}
 use Rattle.label_words.specs.declared.words.Name.TheVariants.{MinVersion, MaxVersion, Scale, Quiet}
@@ -21,7 +21,7 @@ use Rattle.label_words.specs.declared.words.Name.TheVariants.{Output, AllowEmpty
 use Rattle.label_words.specs.declared.words.Name.TheVariants.{First, KeepGoing, KeepNewline}
 use Rattle.label_words.specs.declared.command.{Details.Details, Turn.Turn, Turn.TheVariants.Upright}
 use Rattle.label_words.specs.declared.words.Name.TheVariants.{Copies, Compressed, Feed, Cut, Rotate}
-use Rattle.label_words.specs.declared.words.Name.TheVariants.{Dark, Light, AnyColors, Domain, Hri}
+use Rattle.label_words.specs.declared.words.Name.TheVariants.{Dark, Light, AnyColors, Domain, Hri, NoKanji}
 use Rattle.label_words.specs.Choices.{level_named, content_named, turn_named, format_named, format_of_ending}
 use Rattle.label_words.specs.Choices.{is_link, is_micro_content, is_drawn_in_dots, has_elements, is_png, is_terminal}
 use Rattle.gs1_base.specs.Domains.{is_domain}
@@ -61,8 +61,17 @@ asked meaning name values =
 abbrev pub level_asked : Values → Result EcLevel Wrong
 level_asked = asked_or level_named M Level
 
+abbrev pub kind_asked : Values → Result ContentOf Wrong
+kind_asked = asked_or content_named Auto Content
+
+-- The content that has no segment in the Kanji mode: of the contents bytes have such a form.
+abbrev pub without_kanji : ContentOf → Result ContentOf Wrong
+without_kanji Bytes = Ok BytesWithoutKanji
+without_kanji _ = Err (invalid NoKanji)
+
 abbrev pub content_asked : Values → Result ContentOf Wrong
-content_asked = asked_or content_named Auto Content
+content_asked values =
+    kind_asked values >>= (λ kind. if is_given values NoKanji then without_kanji kind else Ok kind)
 
 -- The domain of a link, a host name with a port or without, or that of the resolver of GS1. Other
 -- contents have none.
@@ -253,6 +262,7 @@ hri_asked content format values =
 -- they are.
 abbrev pub is_trimmed : ContentOf → Bool
 is_trimmed Bytes = false
+is_trimmed BytesWithoutKanji = false
 is_trimmed MicroBytes = false
 is_trimmed _ = true
 

@@ -33,6 +33,8 @@ help_lines =
     ∷ codes "                        gs1 takes elements that the table of identifiers allows,"
     ∷ codes "                        link makes a GS1 Digital Link of them; micro is for ASCII"
     ∷ codes "                        and Kanji"
+    ∷ codes "      --no-kanji        no pairs of bytes in the Kanji mode, which some readers show"
+    ∷ codes "                        as other characters (with -c bytes)"
     ∷ codes "      --domain DOMAIN   domain of the link; default: id.gs1.org"
     ∷ codes "  -l, --level LEVEL     L, M, Q or H: about 7, 15, 25 or 30 percent can be"
     ∷ codes "                        damaged; default: M; micro has no H"

@@ -7,7 +7,8 @@ use Rattle.label_words.specs.declared.words.Name.TheVariants.{ModuleMm, Dpi, Inv
 use Rattle.label_words.specs.declared.words.Name.TheVariants.{Output, AllowEmpty, Help, Version, Lines}
 use Rattle.label_words.specs.declared.words.Name.TheVariants.{First, KeepGoing, KeepNewline}
 use Rattle.label_words.specs.declared.words.Name.TheVariants.{Copies, Compressed, Feed, Cut, Split, Rotate}
-use Rattle.label_words.specs.declared.words.Name.TheVariants.{Verbose, Info, Dark, Light, AnyColors, Domain, Hri}
+use Rattle.label_words.specs.declared.words.Name.TheVariants.{Verbose, Info, Dark, Light, AnyColors, Domain}
+use Rattle.label_words.specs.declared.words.Name.TheVariants.{Hri, NoKanji}
 use Rattle.label_words.specs.Words.{Wrong, unknown, no_value, second_text, invalid}
 use Rattle.label_words.specs.Words.{needs_stream, needs_file}
 
@@ -53,6 +54,7 @@ option_word Split = codes "--split"
 option_word Verbose = codes "--verbose"
 option_word Info = codes "--info"
 option_word Domain = codes "--domain"
+option_word NoKanji = codes "--no-kanji"
 option_word name = picture_word name
 
 -- What the size of a module can be.
@@ -70,8 +72,8 @@ output_text =
 -- Where a message can't be spread over several symbols.
 abbrev pub split_text : List ℕ
 split_text =
-    codes "not with --lines, --strongest, --min-version, or -c gs1, gs1-unchecked, link, micro or "
-    ++ codes "micro-bytes"
+    codes "not with --lines, --strongest, --min-version, --no-kanji, or -c gs1, gs1-unchecked, link, micro "
+    ++ codes "or micro-bytes"
 
 -- What the colors of a picture can be.
 abbrev pub dark_text : List ℕ
@@ -113,6 +115,7 @@ values_text Dark = dark_text
 values_text Light = light_text
 values_text AnyColors = codes "for svg, png, eps and pdf"
 values_text Hri = codes "with -c gs1, gs1-unchecked or link, for terminal, svg, eps and zpl"
+values_text NoKanji = codes "with -c bytes"
 values_text _ = []
 
 -- Where help is, on a line of its own.

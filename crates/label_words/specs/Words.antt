@@ -12,7 +12,8 @@ use Rattle.label_words.specs.declared.words.Name.TheVariants.{ModuleMm, Dpi, Inv
 use Rattle.label_words.specs.declared.words.Name.TheVariants.{Output, AllowEmpty, Help, Version, Lines}
 use Rattle.label_words.specs.declared.words.Name.TheVariants.{First, KeepGoing, KeepNewline}
 use Rattle.label_words.specs.declared.words.Name.TheVariants.{Copies, Compressed, Feed, Cut, Split, Rotate}
-use Rattle.label_words.specs.declared.words.Name.TheVariants.{Verbose, Info, Dark, Light, AnyColors, Domain, Hri}
+use Rattle.label_words.specs.declared.words.Name.TheVariants.{Verbose, Info, Dark, Light, AnyColors, Domain}
+use Rattle.label_words.specs.declared.words.Name.TheVariants.{Hri, NoKanji}
 
 -- What a table has for a word.
 abbrev pub value_among : {A : Type 0} → List (List ℕ × A) → List ℕ → Option A
@@ -25,6 +26,7 @@ abbrev pub names : List (List ℕ × Name)
 names =
     (codes "-f", Format) ∷ (codes "--format", Format)
     ∷ (codes "-c", Content) ∷ (codes "--content", Content)
+    ∷ (codes "--no-kanji", NoKanji)
     ∷ (codes "--domain", Domain)
     ∷ (codes "-l", Level) ∷ (codes "--level", Level)
     ∷ (codes "--strongest", Strongest)
@@ -111,6 +113,7 @@ option_number Light = 32
 option_number AnyColors = 33
 option_number Domain = 34
 option_number Hri = 35
+option_number NoKanji = 36
 
 -- Whether the next word is the value of the option.
 abbrev pub takes_value : Name → Bool
@@ -127,6 +130,7 @@ takes_value Verbose = false
 takes_value Info = false
 takes_value AnyColors = false
 takes_value Hri = false
+takes_value NoKanji = false
 takes_value Help = false
 takes_value Version = false
 takes_value _ = true

@@ -5,7 +5,7 @@
 ghost use Rattle.std.specs.Prelude.{◌≡◌, unwrap_or};
 ghost use Rattle.label_words.specs.Values.{said};
 ghost use Rattle.label_words.specs.Commands.{found_or};
-ghost use Rattle.label_words.specs.Commands.{level_asked, content_asked, format_asked, version_asked};
+ghost use Rattle.label_words.specs.Commands.{level_asked, content_asked, kind_asked, format_asked, version_asked};
 ghost use Rattle.label_words.specs.Commands.{symbol_asked, micro_asked, is_trimmed};
 ghost use Rattle.label_words.specs.Choices.{is_micro_content};
 ghost use Rattle.label_words.specs.Commands.{first_asked, keeps_going_asked, trims_asked};
@@ -35,6 +35,8 @@ pub enum Content {
     Text,
     /// Bytes as they are.
     Bytes,
+    /// Bytes as they are, none of them in the Kanji mode.
+    BytesWithoutKanji,
     /// GS1 elements, bracketed or as an element string, that the table of identifiers allows.
     Gs1,
     /// The same, of which only what a reader needs is tested.
@@ -154,13 +156,25 @@ fn level_of<'a>(values: &Values<'a>) -> Result<EcLevel, Misuse<'a>>
     }
 }
 
-/// Returns the content, or `Auto`.
-fn content_of<'a>(values: &Values<'a>) -> Result<Content, Misuse<'a>>
-    ensures { outcome result ≡ content_asked (said values.now) }
+/// Returns the content by its name, or `Auto`.
+fn kind_of<'a>(values: &Values<'a>) -> Result<Content, Misuse<'a>>
+    ensures { outcome result ≡ kind_asked (said values.now) }
 {
     match values.get(Name::Content) {
         Some(word) => found(content_named(word), Name::Content),
         None => Ok(Content::Auto),
+    }
+}
+
+/// Returns the content. Of the contents bytes have a form without the Kanji mode.
+fn content_of<'a>(values: &Values<'a>) -> Result<Content, Misuse<'a>>
+    ensures { outcome result ≡ content_asked (said values.now) }
+{
+    let content = kind_of(values)?;
+    match content {
+        _ if !values.has(Name::NoKanji) => Ok(content),
+        Content::Bytes => Ok(Content::BytesWithoutKanji),
+        _ => Err(Misuse::Invalid(Name::NoKanji)),
     }
 }
 
@@ -224,7 +238,8 @@ pub fn is_micro(content: Content) -> bool
 {
     match content {
         Content::Micro | Content::MicroBytes => true,
-        Content::Auto | Content::Text | Content::Bytes => false,
+        Content::Auto | Content::Text => false,
+        Content::Bytes | Content::BytesWithoutKanji => false,
         Content::Gs1 | Content::UncheckedGs1 | Content::Link => false,
     }
 }
@@ -257,7 +272,7 @@ fn is_trimmed(content: Content) -> bool
     match content {
         Content::Auto | Content::Text | Content::Micro => true,
         Content::Gs1 | Content::UncheckedGs1 | Content::Link => true,
-        Content::Bytes | Content::MicroBytes => false,
+        Content::Bytes | Content::BytesWithoutKanji | Content::MicroBytes => false,
     }
 }
 

@@ -33,6 +33,8 @@ Content:
                         gs1 takes elements that the table of identifiers allows,
                         link makes a GS1 Digital Link of them; micro is for ASCII
                         and Kanji
+      --no-kanji        no pairs of bytes in the Kanji mode, which some readers show
+                        as other characters (with -c bytes)
       --domain DOMAIN   domain of the link; default: id.gs1.org
   -l, --level LEVEL     L, M, Q or H: about 7, 15, 25 or 30 percent can be
                         damaged; default: M; micro has no H

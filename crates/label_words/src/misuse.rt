@@ -27,7 +27,8 @@ or files as in -o label-%05d.png";
 
 /// Where a message can't be spread over several symbols.
 const SPLIT: &str = "\
-not with --lines, --strongest, --min-version, or -c gs1, gs1-unchecked, link, micro or micro-bytes";
+not with --lines, --strongest, --min-version, --no-kanji, or -c gs1, gs1-unchecked, link, micro \
+or micro-bytes";
 
 /// What the color of dark modules can be.
 const DARK: &str =
@@ -94,6 +95,7 @@ fn option_word(name: Name) -> &'static str
         Name::Verbose => "--verbose",
         Name::Info => "--info",
         Name::Domain => "--domain",
+        Name::NoKanji => "--no-kanji",
         _ => picture_word(name),
     }
 }
@@ -159,6 +161,7 @@ fn values_text(name: Name) -> &'static str
         Name::Light => LIGHT,
         Name::AnyColors => "for svg, png, eps and pdf",
         Name::Hri => "with -c gs1, gs1-unchecked or link, for terminal, svg, eps and zpl",
+        Name::NoKanji => "with -c bytes",
         Name::Text | Name::AllowEmpty | Name::KeepNewline => "",
         Name::Help | Name::Version => "",
     }

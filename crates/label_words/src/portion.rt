@@ -69,7 +69,7 @@ pub fn can_be_split(content: Content) -> bool
     match content {
         Content::Auto | Content::Text | Content::Bytes => true,
         Content::Gs1 | Content::UncheckedGs1 | Content::Link => false,
-        Content::Micro | Content::MicroBytes => false,
+        Content::BytesWithoutKanji | Content::Micro | Content::MicroBytes => false,
     }
 }
 

@@ -170,7 +170,7 @@ fn has_elements(content: Content) -> bool
     match content {
         Content::Gs1 | Content::UncheckedGs1 | Content::Link => true,
         Content::Auto | Content::Text | Content::Bytes => false,
-        Content::Micro | Content::MicroBytes => false,
+        Content::BytesWithoutKanji | Content::Micro | Content::MicroBytes => false,
     }
 }
 

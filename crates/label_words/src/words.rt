@@ -46,6 +46,7 @@ pub enum Name {
     AnyColors,
     Domain,
     Hri,
+    NoKanji,
 }
 
 /// Returns the option that a word names. After `--` come texts.
@@ -56,6 +57,7 @@ fn named(word: &str) -> Option<Name>
     match word {
         "-f" | "--format" => Some(Name::Format),
         "-c" | "--content" => Some(Name::Content),
+        "--no-kanji" => Some(Name::NoKanji),
         "--domain" => Some(Name::Domain),
         "-l" | "--level" => Some(Name::Level),
         "--strongest" => Some(Name::Strongest),
@@ -113,6 +115,7 @@ fn takes_value(name: Name) -> bool
         Name::KeepGoing | Name::KeepNewline | Name::Help | Name::Version => false,
         Name::Compressed | Name::Cut | Name::Split => false,
         Name::Verbose | Name::Info | Name::AnyColors | Name::Hri => false,
+        Name::NoKanji => false,
         _ => true,
     }
 }
@@ -128,7 +131,7 @@ fn is_text(name: Name) -> bool
 }
 
 /// The number of options.
-pub const COUNT: usize = 36;
+pub const COUNT: usize = 37;
 
 /// What is wrong with the words.
 #[derive(Clone, Copy, Debug, PartialEq, Eq)]

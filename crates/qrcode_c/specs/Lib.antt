@@ -2,6 +2,7 @@ pub mod Levels
 pub mod Shapes
 pub mod Statuses
 pub mod Asking
+pub mod BytesWithoutKanji
 pub mod Faults
 pub mod Written
 pub mod Linked

@@ -38,6 +38,7 @@ pub use settings::PictureSettings;
 pub use shape::Shape;
 use std::alloc::Global;
 pub use texts::{qrcode_c_micro_text, qrcode_c_smallest_text};
+pub use without_kanji::qrcode_c_bytes_without_kanji;
 
 mod asking;
 mod cuts;
@@ -62,6 +63,7 @@ mod tests;
 #[cfg(test)]
 mod text_tests;
 mod texts;
+mod without_kanji;
 mod written;
 
 /// The status of success. Each other status is the number of a `Refusal`.

@@ -15,7 +15,7 @@ use Rattle.qrcode_core.specs.declared.options.SymbolOptions.{SymbolOptions}
 use Rattle.qrcode_core.specs.declared.types.Color.{Color}
 use Rattle.label_words.specs.Choices.{is_link, has_elements}
 use Rattle.label_words.specs.declared.command.Content.{Content}
-use Rattle.label_words.specs.declared.command.Content.TheVariants.{Auto, Text, Bytes, Gs1, UncheckedGs1, Link, Micro}
+use Rattle.label_words.specs.declared.command.Content.TheVariants.{Auto, Text, Bytes, BytesWithoutKanji, Gs1, UncheckedGs1, Link, Micro}
 use Rattle.label_words.specs.declared.command.Content.TheVariants.{MicroBytes}
 use Rattle.single_label.specs.{Captions.IsSoundText, Captions.IsContentOf, Captions.is_written, Contents.IsSymbolAs, Contents.is_bracketed}
 use Rattle.single_label.specs.Contents.{IsNoUtf8}
@@ -64,6 +64,7 @@ symbol_text_sound : (content : Content) (options : SymbolOptions) (text : List �
 symbol_text_sound Auto options text grid none is = tt
 symbol_text_sound Text options text grid none is = tt
 symbol_text_sound Bytes options text grid none is = tt
+symbol_text_sound BytesWithoutKanji options text grid none is = tt
 symbol_text_sound Gs1 options text grid none (inl h) = λ plain. absurd (not_both (is_bracketed text) h.0 plain)
 symbol_text_sound Gs1 options text grid none (inr h) = λ plain. h.1.sound
 symbol_text_sound UncheckedGs1 options text grid none (inl h) = λ plain. absurd (not_both (is_bracketed text) h.0 plain)
@@ -77,6 +78,7 @@ link_sound Link text is utf8 = utf8
 link_sound Auto text is utf8 = absurd (not_both true refl (sym is))
 link_sound Text text is utf8 = absurd (not_both true refl (sym is))
 link_sound Bytes text is utf8 = absurd (not_both true refl (sym is))
+link_sound BytesWithoutKanji text is utf8 = absurd (not_both true refl (sym is))
 link_sound Gs1 text is utf8 = absurd (not_both true refl (sym is))
 link_sound UncheckedGs1 text is utf8 = absurd (not_both true refl (sym is))
 link_sound Micro text is utf8 = absurd (not_both true refl (sym is))
@@ -96,6 +98,7 @@ link_stop Link text said stop is (inr none) = absurd none
 link_stop Auto text said stop is (inr none) = absurd none
 link_stop Text text said stop is (inr none) = absurd none
 link_stop Bytes text said stop is (inr none) = absurd none
+link_stop BytesWithoutKanji text said stop is (inr none) = absurd none
 link_stop Gs1 text said stop is (inr none) = absurd (not_both true refl (sym is))
 link_stop UncheckedGs1 text said stop is (inr none) = absurd (not_both true refl (sym is))
 link_stop Micro text said stop is (inr none) = absurd none
@@ -117,6 +120,7 @@ string_sound Link text some plain sound = absurd (not_both true refl plain)
 string_sound Auto text some plain sound = absurd (not_both true refl (sym some))
 string_sound Text text some plain sound = absurd (not_both true refl (sym some))
 string_sound Bytes text some plain sound = absurd (not_both true refl (sym some))
+string_sound BytesWithoutKanji text some plain sound = absurd (not_both true refl (sym some))
 string_sound Micro text some plain sound = absurd (not_both true refl (sym some))
 string_sound MicroBytes text some plain sound = absurd (not_both true refl (sym some))
 
@@ -142,6 +146,7 @@ not_utf8 Link text e some written sound = λ wrong. absurd (really_no_utf8 text 
 not_utf8 Auto text e some written sound = λ wrong. absurd (not_both true refl (sym some))
 not_utf8 Text text e some written sound = λ wrong. absurd (not_both true refl (sym some))
 not_utf8 Bytes text e some written sound = λ wrong. absurd (not_both true refl (sym some))
+not_utf8 BytesWithoutKanji text e some written sound = λ wrong. absurd (not_both true refl (sym some))
 not_utf8 Micro text e some written sound = λ wrong. absurd (not_both true refl (sym some))
 not_utf8 MicroBytes text e some written sound = λ wrong. absurd (not_both true refl (sym some))
 

@@ -8,7 +8,9 @@ use Rattle.qrcode_bits.specs.declared.bits.front.Content.TheVariants.{Text as Te
 use Rattle.qrcode_core.specs.{BestCuts.AreBestCuts, Sequence.IsSequenceRefusal}
 use Rattle.qrcode_core.specs.declared.options.SymbolOptions.{SymbolOptions}
 use Rattle.qrcode_core.specs.declared.types.errors.QrError.{QrError}
-use Rattle.single_label.specs.{Parts.IsSequenceFault, Parts.IsTextFault}
+use Rattle.single_label.specs.{Parts.IsSequenceFault, Parts.IsSmallestSequenceFault, Parts.IsTextFault}
+use Rattle.text_cuts.specs.TextCuts.{AreBestTextCuts}
+use Rattle.text_sequences.specs.TextMessages.{IsTextSequenceRefusal}
 use Rattle.std.specs.declared.alloc.Global.{Global}
 use Rattle.std.proofs.lemmas.{Grind.common_steps, Grind.flat_map-append, List.take_more}
 use Rattle.programs.specs.declared.Fault.{Fault as FaultOf}
@@ -56,6 +58,11 @@ pub text_fault : (options : SymbolOptions) (message cuts : List ℕ) (e : QrErro
     AreBestCuts TextFront message options.level (nat_abs options.max_version) cuts →
     IsSequenceRefusal TextFront message cuts options.level options.max_version e → IsTextFault options message e
 text_fault options message cuts e text best h = inr (text, inr (cuts, best, h))
+
+pub smallest_fault : (options : SymbolOptions) (text cuts : List ℕ) (e : QrError) →
+    AreBestTextCuts text options.level (nat_abs options.max_version) cuts →
+    IsTextSequenceRefusal text cuts options.level options.max_version e → IsSmallestSequenceFault options text e
+smallest_fault options text cuts e best h = inr (cuts, best, h)
 
 -- ---- Why there are no labels
 

@@ -13,7 +13,7 @@ use Rattle.qrcode_core.specs.declared.types.errors.QrError.TheVariants.{InvalidC
 use Rattle.qrcode_core.specs.declared.types.errors.QrError.TheVariants.{InvalidResourceLimits, RenderSizeExceeded}
 use Rattle.qrcode_core.specs.declared.types.errors.QrError.TheVariants.{EncodingTimeout, InvalidDataLength}
 use Rattle.label_words.specs.declared.command.Content.{Content}
-use Rattle.label_words.specs.declared.command.Content.TheVariants.{Auto, Text, Bytes, Gs1, UncheckedGs1, Link, Micro, MicroBytes}
+use Rattle.label_words.specs.declared.command.Content.TheVariants.{Auto, Text, Bytes, BytesWithoutKanji, Gs1, UncheckedGs1, Link, Micro, MicroBytes}
 use Rattle.label_words.specs.declared.command.Label.{Label}
 use Rattle.single_label.specs.declared.stop.{Stop.Stop, Stop.TheVariants.Fault, Stop.TheVariants.Elements, Stop.TheVariants.NotAllowed, Stop.TheVariants.NoLink, Stop.TheVariants.Empty}
 use Rattle.single_label.specs.declared.stop.{Stop.TheVariants.NoMicroText, Stop.TheVariants.TooLong, Stop.TheVariants.TooManyParts, Stop.TheVariants.TooManyPages}
@@ -29,6 +29,7 @@ pub neither : (content : Content) (options : SymbolOptions) (bytes : List ℕ) (
 neither Auto options bytes fault is h = grind (arith, is, h)
 neither Text options bytes fault is h = grind (arith, is, h)
 neither Bytes options bytes fault is h = grind (arith, is, h)
+neither BytesWithoutKanji options bytes fault is h = grind (arith, is, h)
 neither Gs1 options bytes fault is h = grind (arith, is, h)
 neither UncheckedGs1 options bytes fault is h = grind (arith, is, h)
 neither Link options bytes fault is h = grind (arith, is, h)
@@ -55,6 +56,7 @@ no_page_of : (content : Content) (options : SymbolOptions) (bytes : List ℕ) �
 no_page_of Auto options bytes h = grind (arith, h)
 no_page_of Text options bytes h = grind (arith, h)
 no_page_of Bytes options bytes h = grind (arith, h)
+no_page_of BytesWithoutKanji options bytes h = grind (arith, h)
 no_page_of Gs1 options bytes h = grind (arith, h)
 no_page_of UncheckedGs1 options bytes h = grind (arith, h)
 no_page_of Link options bytes h = grind (arith, h)
@@ -131,6 +133,7 @@ has_no_data Link options bytes stop short h = absurd h
 has_no_data Auto options bytes stop short h = absurd h
 has_no_data Text options bytes stop short h = absurd h
 has_no_data Bytes options bytes stop short h = absurd h
+has_no_data BytesWithoutKanji options bytes stop short h = absurd h
 has_no_data Micro options bytes stop short h = absurd h
 has_no_data MicroBytes options bytes stop short h = absurd h
 

@@ -4,6 +4,7 @@ use Rattle.std.specs.Prelude.{slice_index, slice_get, drop, None, Some, if◌the
 use Rattle.std.specs.List.{list_all}
 use Rattle.std.specs.Io.BufRead.{ends_with_byte, strip_last}
 use Rattle.std.specs.Str.{IsUtf8, IsValidUpTo}
+use Rattle.byte_symbols.specs.ByteHeadline.{IsAsAskedWithoutKanji, IsRefusedWithoutKanji}
 use Rattle.gs1.specs.Checked.{AreAllowedElements, IsRefusedStringByTable}
 use Rattle.gs1.specs.Elements.{written_elements, text_fault, IsRefusedText}
 use Rattle.gs1_links.specs.LinkReader.{ReadsLink}
@@ -27,7 +28,7 @@ use Rattle.qrcode_core.specs.declared.types.errors.QrError.TheVariants.{DataTooL
 use Rattle.single_label.specs.Faults.{IsFaultIn, IsWrittenAt, IsFoundAt}
 use Rattle.label_words.specs.declared.command.Content.{Content}
 use Rattle.label_words.specs.declared.command.Content.TheVariants.{Auto, Text, Bytes, Gs1, UncheckedGs1, Link, Micro}
-use Rattle.label_words.specs.declared.command.Content.TheVariants.{MicroBytes}
+use Rattle.label_words.specs.declared.command.Content.TheVariants.{MicroBytes, BytesWithoutKanji}
 use Rattle.single_label.specs.declared.stop.Stop.{Stop}
 use Rattle.single_label.specs.declared.stop.Stop.TheVariants.{Fault, Elements, NotAllowed, NoLink}
 use Rattle.single_label.specs.declared.stop.Stop.TheVariants.{NoMicroText}
@@ -228,6 +229,7 @@ abbrev pub IsSymbolAs : Content → SymbolOptions → List ℕ → List Color �
 IsSymbolAs Auto options bytes grid = IsAutoSymbol options bytes grid
 IsSymbolAs Text options bytes grid = IsText options bytes grid
 IsSymbolAs Bytes options bytes grid = IsAsAsked options no_front bytes grid
+IsSymbolAs BytesWithoutKanji options bytes grid = IsAsAskedWithoutKanji options bytes grid
 IsSymbolAs Gs1 options bytes grid = IsGs1Symbol true options bytes grid
 IsSymbolAs UncheckedGs1 options bytes grid = IsGs1Symbol false options bytes grid
 IsSymbolAs Link options bytes grid = IsAsAsked options no_front bytes grid
@@ -238,6 +240,7 @@ abbrev pub IsShortStop : Content → SymbolOptions → List ℕ → Stop → Typ
 IsShortStop Auto options bytes = IsErrorIn (IsAutoRefusal options bytes)
 IsShortStop Text options bytes = IsErrorIn (IsUtf8Refusal options bytes)
 IsShortStop Bytes options bytes = IsErrorIn (IsOptionsRefusal options no_front bytes)
+IsShortStop BytesWithoutKanji options bytes = IsErrorIn (IsRefusedWithoutKanji options bytes)
 IsShortStop Gs1 options bytes = IsGs1Stop true options bytes
 IsShortStop UncheckedGs1 options bytes = IsGs1Stop false options bytes
 IsShortStop Link options bytes = IsErrorIn (IsOptionsRefusal options no_front bytes)

@@ -25,7 +25,7 @@ use Rattle.picture_settings.specs.declared.bounds.TheConstants.{MAX_DPI}
 use Rattle.picture_settings.specs.declared.draw_options.DrawOptions.{DrawOptions}
 use Rattle.single_label.specs.Contents.{HasText, is_bracketed, AreWritten, AreNotWritten}
 use Rattle.label_words.specs.declared.command.Content.{Content}
-use Rattle.label_words.specs.declared.command.Content.TheVariants.{Text, Gs1, UncheckedGs1, Link}
+use Rattle.label_words.specs.declared.command.Content.TheVariants.{Text, BytesWithoutKanji, Gs1, UncheckedGs1, Link}
 use Rattle.label_words.specs.declared.command.Label.{Label}
 use Rattle.single_label.specs.OtherWays.{IsLinkOutcome, IsElementsOutcome}
 use Rattle.single_label.specs.declared.other_way.Outcome.{Outcome}
@@ -47,9 +47,11 @@ AreElementsData checks bytes front encoded =
     (front ≡ ElementsFront) × (((is_bracketed bytes ≡ true) × AreWritten checks bytes encoded)
     ⊎ ((is_bracketed bytes ≡ false) × (encoded ≡ bytes)))
 
--- The data of a content, and their kind, if its symbol is not the smallest of its text.
+-- The data of a content, and their kind, if its symbol is not the smallest of its text. Bytes
+-- without the Kanji mode are cut as those of a text.
 abbrev pub AreDataAs : Content → List ℕ → FrontContent → List ℕ → Type 0
 AreDataAs Text bytes front encoded = (encoded ≡ bytes) × (front ≡ TextFront)
+AreDataAs BytesWithoutKanji bytes front encoded = (encoded ≡ bytes) × (front ≡ TextFront)
 AreDataAs Gs1 bytes front encoded = AreElementsData true bytes front encoded
 AreDataAs UncheckedGs1 bytes front encoded = AreElementsData false bytes front encoded
 AreDataAs other bytes front encoded = (encoded ≡ bytes) × (front ≡ BytesFront)

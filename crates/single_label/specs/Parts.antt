@@ -14,7 +14,7 @@ use Rattle.qrcode_core.specs.declared.types.Color.{Color}
 use Rattle.qrcode_core.specs.declared.types.errors.QrError.{QrError}
 use Rattle.qrcode_core.specs.declared.types.errors.QrError.TheVariants.{OutOfMemory, DataTooLong}
 use Rattle.picture_settings.specs.declared.draw_options.DrawOptions.{DrawOptions}
-use Rattle.single_label.specs.Contents.{IsContent, IsPlain, is_all_ascii, IsNoUtf8, IsSymbolAs}
+use Rattle.single_label.specs.Contents.{IsContent, IsPlain, IsBeyondAscii, IsNoUtf8, IsSymbolAs}
 use Rattle.single_label.specs.Contents.{IsStopAs}
 use Rattle.single_label.specs.Labels.{IsLabelData, IsNotDrawn, ShowsSymbol}
 use Rattle.single_label.specs.Contents.{is_too_long}
@@ -24,6 +24,8 @@ use Rattle.label_words.specs.declared.command.Label.{Label}
 use Rattle.single_label.specs.declared.parts.TheConstants.{LONGEST_MESSAGE}
 use Rattle.single_label.specs.declared.stop.Stop.{Stop}
 use Rattle.single_label.specs.declared.stop.Stop.TheVariants.{Fault, Empty, TooManyParts}
+use Rattle.text_cuts.specs.TextCuts.{AreBestTextCuts, IsTextCutsRefusal}
+use Rattle.text_sequences.specs.TextMessages.{AreSmallestTextSymbols, IsTextSequenceRefusal}
 
 -- ---- Several symbols
 
@@ -49,11 +51,25 @@ abbrev pub IsTextFault : SymbolOptions → List ℕ → QrError → Type 0
 IsTextFault options message error =
     IsNoUtf8 message error ⊎ (IsUtf8 message × IsSequenceFault TextFront options message error)
 
+-- The grids are the smallest symbols of the fewest parts of a text in UTF-8, in order. Each part is
+-- written in whichever way takes the fewest bits.
+pub record IsSmallestSequence (options : SymbolOptions) (text : List ℕ)
+    (grids : List (List Color)) : Type 0 where
+  pub cuts : List ℕ
+  pub fewest : AreBestTextCuts text options.level (nat_abs options.max_version) cuts
+  pub symbols : AreSmallestTextSymbols text cuts options.level (nat_abs options.max_version) grids
+
+abbrev pub IsSmallestSequenceFault : SymbolOptions → List ℕ → QrError → Type 0
+IsSmallestSequenceFault options text error =
+    IsTextCutsRefusal text options.level options.max_version error
+    ⊎ ((cuts : List ℕ) × AreBestTextCuts text options.level (nat_abs options.max_version) cuts
+    × IsTextSequenceRefusal text cuts options.level options.max_version error)
+
 -- The grids carry the message together, by what it is.
 abbrev pub IsSequenceAs : Content → SymbolOptions → List ℕ → List (List Color) → Type 0
 IsSequenceAs Auto options message grids =
     (IsPlain message × IsSequenceOf BytesFront options message grids)
-    ⊎ ((is_all_ascii message ≡ false) × IsTextSequence options message grids)
+    ⊎ (IsBeyondAscii message × IsSmallestSequence options message grids)
 IsSequenceAs Text options message grids = IsTextSequence options message grids
 IsSequenceAs Bytes options message grids = IsSequenceOf BytesFront options message grids
 IsSequenceAs other options message grids = ⊥
@@ -61,7 +77,7 @@ IsSequenceAs other options message grids = ⊥
 abbrev pub IsSequenceFaultAs : Content → SymbolOptions → List ℕ → QrError → Type 0
 IsSequenceFaultAs Auto options message error =
     (IsPlain message × IsSequenceFault BytesFront options message error)
-    ⊎ ((is_all_ascii message ≡ false) × IsTextFault options message error)
+    ⊎ (IsBeyondAscii message × IsSmallestSequenceFault options message error)
 IsSequenceFaultAs Text options message error = IsTextFault options message error
 IsSequenceFaultAs Bytes options message error = IsSequenceFault BytesFront options message error
 IsSequenceFaultAs other options message error = error ≡ DataTooLong

@@ -23,7 +23,8 @@ fn has_elements(content: Content) -> bool
 {
     match content {
         Content::Gs1 | Content::UncheckedGs1 | Content::Link => true,
-        Content::Auto | Content::Text | Content::Bytes => false,
+        Content::Auto | Content::Text => false,
+        Content::Bytes | Content::BytesWithoutKanji => false,
         Content::Micro | Content::MicroBytes => false,
     }
 }

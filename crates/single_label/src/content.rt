@@ -14,6 +14,7 @@ ghost use Rattle.std.specs.Io.BufRead.{strip_last};
 
 use crate::element::{read_stop, written_stop};
 use crate::stop::Stop;
+use byte_symbols::bytes_without_kanji;
 use gs1::{check_element_string, check_element_values, checked_element_string, element_string};
 use gs1_links::digital_link;
 use label_words::Content;
@@ -44,6 +45,7 @@ pub fn content_symbol(
         Content::Auto => Ok(auto_symbol(alloc, options, bytes)?),
         Content::Text => Ok(text_symbol(alloc, options, bytes)?),
         Content::Bytes | Content::Link => Ok(Symbol::bytes_with(alloc, bytes, options)?),
+        Content::BytesWithoutKanji => Ok(bytes_without_kanji(alloc, bytes, options)?),
         Content::Gs1 => gs1_symbol(alloc, true, options, bytes),
         Content::UncheckedGs1 => gs1_symbol(alloc, false, options, bytes),
         Content::Micro => micro_symbol(alloc, options.level, bytes),

@@ -290,13 +290,14 @@ fn push_plain(
 }
 
 /// Returns the kind of data that the bytes of a content are, if they are no bracketed elements.
+/// Bytes without the Kanji mode are cut as those of a text.
 fn front_of(content: Content, bytes: &[u8]) -> Front
     requires checked { content ≡ Content.Gs1 → is_bracketed bytes.now ≡ false }
     requires unchecked { content ≡ Content.UncheckedGs1 → is_bracketed bytes.now ≡ false }
     ensures { AreDataAs content bytes.now result bytes.now }
 {
     match content {
-        Content::Text => Front::Text,
+        Content::Text | Content::BytesWithoutKanji => Front::Text,
         Content::Gs1 | Content::UncheckedGs1 => Front::Elements,
         Content::Auto | Content::Bytes | Content::Link => Front::Bytes,
         Content::Micro | Content::MicroBytes => Front::Bytes,

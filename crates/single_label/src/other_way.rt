@@ -164,6 +164,7 @@ fn push_other(
         Content::Gs1 | Content::UncheckedGs1 => push_as_link(alloc, text, label, bytes),
         Content::Link => push_as_elements(alloc, text, label, bytes),
         Content::Auto | Content::Text | Content::Bytes => Ok(()),
+        Content::BytesWithoutKanji => Ok(()),
         Content::Micro | Content::MicroBytes => Ok(()),
     }
 }

@@ -4,6 +4,7 @@ ghost use Rattle.std.specs.Prelude.{◌≡◌, ◌⊎◌, ◌≤◌, ℕ, List, 
 ghost use Rattle.qrcode_bits.specs.declared.bits.front.Content.TheVariants.{Bytes};
 ghost use Rattle.qrcode_core.specs.Symbol.{modules_of};
 ghost use Rattle.single_label.specs.Parts.{IsSequenceOf, IsSequenceFault, IsTextSequence};
+ghost use Rattle.single_label.specs.Parts.{IsSmallestSequence, IsSmallestSequenceFault};
 ghost use Rattle.single_label.specs.Parts.{IsTextFault, IsSequenceAs, IsSequenceFaultAs, ShowEach};
 ghost use Rattle.single_label.specs.Parts.{ShowMessage, AreLabelsTogether, ShowsMessage};
 ghost use Rattle.single_label.specs.Labels.{ShowsSymbol, AreDetailsBeside};
@@ -24,6 +25,8 @@ use qrcode_core::symbol::{Symbol, best_cuts, best_text_cuts};
 use qrcode_core::types::{QrError, QrResult};
 use qrcode_render::DrawOptions;
 use std::alloc::{AllocError, Global};
+use text_cuts::smallest_text_cuts;
+use text_sequences::smallest_text_sequence;
 
 /// No sequence of symbols holds more bytes: it has at most 16.
 pub const LONGEST_MESSAGE: usize = 16 * LONGEST_DATA;
@@ -51,17 +54,31 @@ fn text_sequence(alloc: Global, options: &SymbolOptions, bytes: &[u8]) -> QrResu
     Symbol::text_sequence(alloc, text, &cuts, options.level, options.max_version)
 }
 
-/// Returns the symbols of the fewest parts of a message, as those of text, if the bytes are UTF-8
-/// and not ASCII, else of bytes.
+/// Returns the symbols of the fewest parts of a text that are read as it, each the smallest of its
+/// part. It fails as `bytes_sequence` does.
+fn smallest_sequence(alloc: Global, options: &SymbolOptions, text: &str) -> QrResult<Vec<Symbol>>
+    ensures symbols { IfOk result (λ symbols.
+        IsSmallestSequence options.now text.now (map modules_of symbols.items)) }
+    ensures refusal { IfErr result (IsSmallestSequenceFault options.now text.now) }
+{
+    let cuts = smallest_text_cuts(alloc, text, options.level, options.max_version)?;
+    smallest_text_sequence(alloc, text, &cuts, options.level, options.max_version)
+}
+
+/// Returns the symbols of the fewest parts of a message: the smallest of a text, if the bytes are
+/// UTF-8 and not ASCII, else those of bytes.
 fn auto_sequence(alloc: Global, options: &SymbolOptions, bytes: &[u8]) -> QrResult<Vec<Symbol>>
     ensures symbols { IfOk result (λ symbols.
         IsSequenceAs Content.Auto options.now bytes.now (map modules_of symbols.items)) }
     ensures refusal { IfErr result (IsSequenceFaultAs Content.Auto options.now bytes.now) }
 {
-    if is_ascii(bytes) || utf8_of(bytes).is_err() {
+    if is_ascii(bytes) {
         return bytes_sequence(alloc, options, bytes);
     }
-    text_sequence(alloc, options, bytes)
+    match utf8_of(bytes) {
+        Ok(text) => smallest_sequence(alloc, options, text),
+        Err(_) => bytes_sequence(alloc, options, bytes),
+    }
 }
 
 /// Returns the symbols of the fewest parts of a message, by what it is. There are none of elements,
@@ -81,6 +98,7 @@ fn sequence_symbols(
         Content::Text => text_sequence(alloc, options, bytes),
         Content::Bytes => bytes_sequence(alloc, options, bytes),
         Content::Gs1 | Content::UncheckedGs1 | Content::Link => Err(QrError::DataTooLong),
+        Content::BytesWithoutKanji => Err(QrError::DataTooLong),
         Content::Micro | Content::MicroBytes => Err(QrError::DataTooLong),
     }
 }

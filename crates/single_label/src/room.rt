@@ -33,7 +33,8 @@ fn front_width(content: Content, bytes: &[u8]) -> usize
         }
         Content::Text => 12,
         Content::Gs1 | Content::UncheckedGs1 => 4,
-        Content::Bytes | Content::Link | Content::Micro | Content::MicroBytes => 0,
+        Content::Bytes | Content::BytesWithoutKanji | Content::Link => 0,
+        Content::Micro | Content::MicroBytes => 0,
     }
 }
 
