@@ -115,7 +115,7 @@ static void test_check(void) {
 
 static void test_check_pointers(void) {
     const sicklespan_options no_level = {4, 1, 40, 0}, no_range = {0, 2, 1, 0};
-    for (int32_t content = 0; content <= 8; content++) {
+    for (int32_t content = 0; content <= 9; content++) {
         const bool is_gs1 =
             content == SICKLESPAN_CONTENT_GS1 || content == SICKLESPAN_CONTENT_GS1_UNCHECKED;
         EXPECT(check(content, NULL, 0, NULL) == (is_gs1 ? SICKLESPAN_NO_ELEMENTS : SICKLESPAN_OK) &&
@@ -125,7 +125,7 @@ static void test_check_pointers(void) {
     }
     EXPECT(check(SICKLESPAN_CONTENT_TEXT, "a", 1, &no_range) == SICKLESPAN_INVALID_VERSIONS &&
            good_bytes == 88);
-    const int32_t no_contents[] = {-1, 9, 256, INT32_MIN, INT32_MAX};
+    const int32_t no_contents[] = {-1, 10, 256, INT32_MIN, INT32_MAX};
     for (size_t i = 0; i < sizeof no_contents / sizeof *no_contents; i++) {
         EXPECT(check(no_contents[i], "a", 1, NULL) == SICKLESPAN_INVALID_CONTENT &&
                good_bytes == 88);
