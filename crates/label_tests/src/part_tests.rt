@@ -63,6 +63,19 @@ fn splits_texts(rt: HostRuntime) -> Result<(), QrError> {
     Ok(())
 }
 
+/// 2,400 letters of Thai have 7,200 bytes in UTF-8, and take 12 + 4 + 16 + 2400 * 8 bits: version 36
+/// has 161 modules a side and room for them.
+#[test]
+fn splits_no_text_that_a_symbol_holds(rt: HostRuntime) -> Result<(), QrError> {
+    let mut text = Vec::new(rt.alloc());
+    for place in 0..2400 {
+        text.extend_from_slice("\u{e2a}".as_bytes())?;
+    }
+    let answer = ran(rt.alloc(), &["--split", "-lL", "-fpbm", "-s1"], &text);
+    assert!(rt; answer.has_length(11 + 169 * 22));
+    Ok(())
+}
+
 /// More than 16 times 7089 bytes are not read to the end.
 #[test]
 fn reads_no_more_than_symbols_hold(rt: HostRuntime) -> Result<(), QrError> {

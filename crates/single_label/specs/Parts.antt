@@ -1,7 +1,7 @@
 -- A message in one symbol, or spread over several that carry it together (ISO/IEC 18004:2006,
 -- "Structured Append").
 use Rattle.std.specs.Prelude.{◌≡◌, ◌⊎◌, ◌<◌, ◌≤◌, ℕ, ⊤, nat_abs}
-use Rattle.std.specs.Prelude.{false, List, [], ◌∷◌, length, map, flat_map, None, Some}
+use Rattle.std.specs.Prelude.{false, List, [], ◌∷◌, length, map, flat_map, None, Some, chars}
 use Rattle.std.specs.Str.{IsUtf8}
 use Rattle.programs.specs.declared.Fault.TheVariants.{Symbol}
 use Rattle.qrcode_bits.specs.declared.bits.front.Content.{Content as FrontContent}
@@ -26,6 +26,7 @@ use Rattle.single_label.specs.declared.stop.Stop.{Stop}
 use Rattle.single_label.specs.declared.stop.Stop.TheVariants.{Fault, Empty, TooManyParts}
 use Rattle.text_cuts.specs.TextCuts.{AreBestTextCuts, IsTextCutsRefusal}
 use Rattle.text_sequences.specs.TextMessages.{AreSmallestTextSymbols, IsTextSequenceRefusal}
+use Rattle.text_symbols.specs.TextHeadline.{IsTextAsAsked, IsTextRefused}
 
 -- ---- Several symbols
 
@@ -65,11 +66,27 @@ IsSmallestSequenceFault options text error =
     ⊎ ((cuts : List ℕ) × AreBestTextCuts text options.level (nat_abs options.max_version) cuts
     × IsTextSequenceRefusal text cuts options.level options.max_version error)
 
+-- The smallest symbol of a text, if one holds it, else those of its fewest parts.
+pub record IsOneSmallest (options : SymbolOptions) (text : List ℕ) (grids : List (List Color)) :
+    Type 0 where
+  pub grid : List Color
+  pub grids_are : grids ≡ grid ∷ []
+  pub asked : IsTextAsAsked options (chars text) grid
+
+abbrev pub AreSmallestSymbols : SymbolOptions → List ℕ → List (List Color) → Type 0
+AreSmallestSymbols options text grids =
+    IsOneSmallest options text grids
+    ⊎ (IsTextRefused options (chars text) DataTooLong × IsSmallestSequence options text grids)
+
+abbrev pub AreNoSmallestSymbols : SymbolOptions → List ℕ → QrError → Type 0
+AreNoSmallestSymbols options text error =
+    IsTextRefused options (chars text) error ⊎ IsSmallestSequenceFault options text error
+
 -- The grids carry the message together, by what it is.
 abbrev pub IsSequenceAs : Content → SymbolOptions → List ℕ → List (List Color) → Type 0
 IsSequenceAs Auto options message grids =
     (IsPlain message × IsSequenceOf BytesFront options message grids)
-    ⊎ (IsBeyondAscii message × IsSmallestSequence options message grids)
+    ⊎ (IsBeyondAscii message × AreSmallestSymbols options message grids)
 IsSequenceAs Text options message grids = IsTextSequence options message grids
 IsSequenceAs Bytes options message grids = IsSequenceOf BytesFront options message grids
 IsSequenceAs other options message grids = ⊥
@@ -77,7 +94,7 @@ IsSequenceAs other options message grids = ⊥
 abbrev pub IsSequenceFaultAs : Content → SymbolOptions → List ℕ → QrError → Type 0
 IsSequenceFaultAs Auto options message error =
     (IsPlain message × IsSequenceFault BytesFront options message error)
-    ⊎ (IsBeyondAscii message × IsSmallestSequenceFault options message error)
+    ⊎ (IsBeyondAscii message × AreNoSmallestSymbols options message error)
 IsSequenceFaultAs Text options message error = IsTextFault options message error
 IsSequenceFaultAs Bytes options message error = IsSequenceFault BytesFront options message error
 IsSequenceFaultAs other options message error = error ≡ DataTooLong

@@ -5,6 +5,7 @@ ghost use Rattle.qrcode_bits.specs.declared.bits.front.Content.TheVariants.{Byte
 ghost use Rattle.qrcode_core.specs.Symbol.{modules_of};
 ghost use Rattle.single_label.specs.Parts.{IsSequenceOf, IsSequenceFault, IsTextSequence};
 ghost use Rattle.single_label.specs.Parts.{IsSmallestSequence, IsSmallestSequenceFault};
+ghost use Rattle.single_label.specs.Parts.{AreSmallestSymbols, AreNoSmallestSymbols};
 ghost use Rattle.single_label.specs.Parts.{IsTextFault, IsSequenceAs, IsSequenceFaultAs, ShowEach};
 ghost use Rattle.single_label.specs.Parts.{ShowMessage, AreLabelsTogether, ShowsMessage};
 ghost use Rattle.single_label.specs.Labels.{ShowsSymbol, AreDetailsBeside};
@@ -27,6 +28,7 @@ use qrcode_render::DrawOptions;
 use std::alloc::{AllocError, Global};
 use text_cuts::smallest_text_cuts;
 use text_sequences::smallest_text_sequence;
+use text_symbols::smallest_text;
 
 /// No sequence of symbols holds more bytes: it has at most 16.
 pub const LONGEST_MESSAGE: usize = 16 * LONGEST_DATA;
@@ -56,13 +58,39 @@ fn text_sequence(alloc: Global, options: &SymbolOptions, bytes: &[u8]) -> QrResu
 
 /// Returns the symbols of the fewest parts of a text that are read as it, each the smallest of its
 /// part. It fails as `bytes_sequence` does.
-fn smallest_sequence(alloc: Global, options: &SymbolOptions, text: &str) -> QrResult<Vec<Symbol>>
+fn smallest_parts(alloc: Global, options: &SymbolOptions, text: &str) -> QrResult<Vec<Symbol>>
     ensures symbols { IfOk result (λ symbols.
         IsSmallestSequence options.now text.now (map modules_of symbols.items)) }
     ensures refusal { IfErr result (IsSmallestSequenceFault options.now text.now) }
 {
     let cuts = smallest_text_cuts(alloc, text, options.level, options.max_version)?;
     smallest_text_sequence(alloc, text, &cuts, options.level, options.max_version)
+}
+
+/// Returns a list of one symbol. It fails with `OutOfMemory`.
+fn alone(alloc: Global, symbol: Symbol) -> QrResult<Vec<Symbol>>
+    ensures alone { IfOk result (λ symbols.
+        map modules_of symbols.items ≡ modules_of symbol ∷ []) }
+    ensures memory { IfErr result (λ e. e ≡ QrError.OutOfMemory) }
+{
+    let mut symbols = Vec::new(alloc);
+    symbols.push(symbol)?;
+    Ok(symbols)
+}
+
+/// Returns the smallest symbol of a text, or where none holds it those of its fewest parts. In UTF-8
+/// a text that a symbol holds may have more than 7089 bytes. It fails as `smallest_text` does, and
+/// then as `smallest_parts`.
+fn smallest_symbols(alloc: Global, options: &SymbolOptions, text: &str) -> QrResult<Vec<Symbol>>
+    ensures symbols { IfOk result (λ symbols.
+        AreSmallestSymbols options.now text.now (map modules_of symbols.items)) }
+    ensures refusal { IfErr result (AreNoSmallestSymbols options.now text.now) }
+{
+    match smallest_text(alloc, text, options) {
+        Ok(symbol) => alone(alloc, symbol),
+        Err(QrError::DataTooLong) => smallest_parts(alloc, options, text),
+        Err(error) => Err(error),
+    }
 }
 
 /// Returns the symbols of the fewest parts of a message: the smallest of a text, if the bytes are
@@ -76,7 +104,7 @@ fn auto_sequence(alloc: Global, options: &SymbolOptions, bytes: &[u8]) -> QrResu
         return bytes_sequence(alloc, options, bytes);
     }
     match utf8_of(bytes) {
-        Ok(text) => smallest_sequence(alloc, options, text),
+        Ok(text) => smallest_symbols(alloc, options, text),
         Err(_) => bytes_sequence(alloc, options, bytes),
     }
 }

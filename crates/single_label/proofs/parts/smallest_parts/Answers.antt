@@ -9,7 +9,7 @@ use Rattle.text_cuts.specs.TextCuts.{AreBestTextCuts}
 use Rattle.text_sequences.specs.TextMessages.{AreSmallestTextSymbols, IsTextSequenceRefusal}
 use Rattle.single_label.specs.Parts.{IsSmallestSequence, IsSmallestSequenceFault}
 use Rattle.single_label.proofs.{PartLemmas.smallest_fault, StopLemmas.if_err, StopLemmas.if_ok}
-use Rattle.single_label.proofs.parts.smallest_sequence.Goals as goal
+use Rattle.single_label.proofs.parts.smallest_parts.Goals as goal
 
 pub returns-clause-symbols : goal.returns-clause-symbols
 returns-clause-symbols c =
