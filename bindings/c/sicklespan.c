@@ -1,7 +1,9 @@
 /* SPDX-License-Identifier: MIT OR Apache-2.0 */
 /*
  * The border: what C can pass and a slice of Rattle cannot be (null, too long, overlapping) is
- * refused here. All else is done by the proved functions of crates/qrcode_c, which it calls.
+ * refused here, and the texts of the statuses stand here. What sicklespan_auto chooses, and what
+ * sicklespan_check and sicklespan_wrong_setting find, is found here by calls of the proved functions
+ * of crates/qrcode_c, which do all else.
  */
 #include "sicklespan.h"
 

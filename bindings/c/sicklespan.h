@@ -15,7 +15,7 @@
 #include <stddef.h>
 #include <stdint.h>
 
-#define SICKLESPAN_VERSION "0.4.0"
+#define SICKLESPAN_VERSION "0.5.0"
 
 #ifdef __cplusplus
 extern "C" {
@@ -448,7 +448,7 @@ const char *sicklespan_status_text(int32_t status);
 const char *sicklespan_version(void);
 
 /*
- * The names of version 0.3, which version 0.5.0 has no more. sicklespan_symbol is sicklespan_bytes
+ * Names of version 0.3, which libsicklespan.so.1 will not have. sicklespan_symbol is sicklespan_bytes
  * with a level, in the versions 1 to 40; sicklespan_micro_symbol is sicklespan_micro.
  */
 #define SICKLESPAN_DONE          SICKLESPAN_OK

@@ -3,7 +3,6 @@ use crate::digest::Digest;
 use crate::random::Random;
 use crate::words;
 use gs1::element_string;
-use programs::Fault;
 use qrcode_core::options::SymbolOptions;
 use qrcode_core::symbol::Symbol;
 use qrcode_core::types::{EcLevel, QrResult};

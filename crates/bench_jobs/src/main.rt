@@ -17,7 +17,7 @@ mod words;
 use crate::digest::Digest;
 use crate::random::Random;
 use programs::{Fault, arguments};
-use std::alloc::{AllocError, Global};
+use std::alloc::Global;
 use std::process::ExitCode;
 
 /// Runs the jobs that the arguments name.

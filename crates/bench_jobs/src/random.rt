@@ -1,5 +1,5 @@
 //! Numbers that look random, the same in each run.
-ghost use Rattle.std.specs.Prelude.{◌<◌, ◌≤◌, ◌^◌, length};
+ghost use Rattle.std.specs.Prelude.{◌<◌, ◌^◌, length};
 
 use std::alloc::AllocError;
 

@@ -1,5 +1,5 @@
 //! Inputs of real shape, in which nothing but the characters is random.
-ghost use Rattle.std.specs.Prelude.{◌<◌, ◌≤◌, ◌^◌, length};
+ghost use Rattle.std.specs.Prelude.{◌<◌, ◌^◌, length};
 
 use crate::random::Random;
 use std::alloc::{AllocError, Global};

@@ -1,5 +1,5 @@
 //! The symbol of segments.
-ghost use Rattle.std.specs.Prelude.{◌≡◌, [], ◌∷◌, ℕ, List, All, length, IfErr, IfOk, OnOk};
+ghost use Rattle.std.specs.Prelude.{◌≡◌, All, length, IfErr, IfOk, OnOk};
 ghost use Rattle.qrcode_base.specs.Symbols.{HasMicroNumber};
 ghost use Rattle.qrcode_bits.specs.Frame.{spellings};
 ghost use Rattle.qrcode_bits.specs.Push.{Spells};

@@ -1,6 +1,7 @@
 //! Tests of printed symbols, of the number of data cells, and of counts of modules by colour.
-ghost use Rattle.std.specs.Prelude.{◌≡◌, ◌<◌, ◌≤◌, IfOk};
+ghost use Rattle.std.specs.Prelude.{◌≡◌, ◌<◌, ◌≤◌, IfOk, pos};
 ghost use Rattle.qrcode_base.specs.Symbols.{IsSymbol, width_of};
+ghost use Rattle.qrcode_base.specs.declared.types.Version.TheVariants.{Micro, Normal};
 ghost use Rattle.qrcode_grid.specs.Penalty.{IsFirstLeastMask};
 
 mod plain;
@@ -19,7 +20,7 @@ use qrcode_grid::ec::construct_codewords;
 use std::alloc::Global;
 
 /// The symbol of the digits 12345, row by row.
-const PRINTED: [&str; 11] = [
+static PRINTED: [&str; 11] = [
     "#######.#.#",
     "#.....#.##.",
     "#.###.#.#..",
@@ -33,7 +34,7 @@ const PRINTED: [&str; 11] = [
     "####.....##",
 ];
 
-const LEVELS: [EcLevel; 4] = [EcLevel::L, EcLevel::M, EcLevel::Q, EcLevel::H];
+static LEVELS: [EcLevel; 4] = [EcLevel::L, EcLevel::M, EcLevel::Q, EcLevel::H];
 
 /// Returns the 44 versions.
 fn versions(alloc: Global) -> QrResult<Vec<Version>> {
@@ -103,6 +104,15 @@ fn draw(canvas: &mut Canvas, seed: u32)
     canvas.draw_data(&data, &data);
 }
 
+/// Returns a symbol of a version with codewords of a fixed sequence.
+fn drawn(alloc: Global, version: Version, seed: u32) -> QrResult<Canvas>
+    ensures { IfOk result (λ canvas. canvas.version ≡ version) }
+{
+    let mut canvas = new_canvas(alloc, version, EcLevel::L)?;
+    draw(&mut canvas, seed);
+    Ok(canvas)
+}
+
 /// Returns whether colours are those of the printed symbol.
 fn is_printed(colors: &[Color]) -> bool {
     let mut rest = colors.iter();
@@ -117,18 +127,26 @@ fn is_printed(colors: &[Color]) -> bool {
     rest.next().is_none()
 }
 
-#[test]
-fn draws_12345(rt: HostRuntime) -> QrResult<()> {
-    let alloc = rt.alloc();
+/// Returns a canvas with the codewords of the digits 12345, without a mask.
+fn digits(alloc: Global) -> QrResult<Canvas>
+    ensures { IfOk result (λ canvas. canvas.version ≡ Micro (pos 1)) }
+{
     let mut canvas = Canvas::new(alloc, Version::Micro(1), EcLevel::L)?;
     canvas.draw_all_functional_patterns();
     canvas.draw_data(&[0xA3, 0xDA, 0xD0], &[0x6E, 0xC7]);
-    let (best, pattern, score) = canvas.apply_best_mask_with_score(alloc)?;
-    assert!(rt; pattern == MaskPattern::Diamonds);
-    assert!(rt; score == 85);
-    let colors = best.into_colors(alloc)?;
-    assert!(rt; is_printed(&colors));
-    Ok(())
+    Ok(canvas)
+}
+
+/// Returns the colours, the mask and the score of the digits.
+fn masked_digits(alloc: Global) -> QrResult<(Vec<Color>, MaskPattern, u16)> {
+    let (best, pattern, score) = digits(alloc)?.apply_best_mask_with_score(alloc)?;
+    Ok((best.into_colors(alloc)?, pattern, score))
+}
+
+#[test]
+fn draws_12345(rt: HostRuntime) {
+    let (colors, pattern, score) = masked_digits(rt.alloc()).expect(&rt, "no symbol");
+    assert!(rt; is_printed(&colors) && pattern == MaskPattern::Diamonds && score == 85);
 }
 
 /// Returns the grid of some padded data.
@@ -147,38 +165,57 @@ fn grid(
 }
 
 #[test]
-fn draws_symbols(rt: HostRuntime) -> QrResult<()> {
-    let alloc = rt.alloc();
-    let (colors, pattern) = grid(alloc, &[0xA3, 0xDA, 0xD0], Version::Micro(1), EcLevel::L)?;
-    assert!(rt; pattern == MaskPattern::Diamonds);
-    assert!(rt; is_printed(&colors));
-    Ok(())
+fn draws_symbols(rt: HostRuntime) {
+    let drawn = grid(
+        rt.alloc(),
+        &[0xA3, 0xDA, 0xD0],
+        Version::Micro(1),
+        EcLevel::L,
+    );
+    let (colors, pattern) = drawn.expect(&rt, "no symbol");
+    assert!(rt; is_printed(&colors) && pattern == MaskPattern::Diamonds);
 }
 
-#[test]
-fn drops_bits_past_the_last_cell(rt: HostRuntime) -> QrResult<()> {
-    let alloc = rt.alloc();
-    let mut long = Canvas::new(alloc, Version::Normal(1), EcLevel::L)?;
-    draw(&mut long, 7);
+/// Returns a canvas of version 1 with as many codewords as it holds, from a fixed sequence.
+fn filled(alloc: Global) -> QrResult<Canvas>
+    ensures { IfOk result (λ canvas. canvas.version ≡ Normal (pos 1)) }
+{
     let mut data = [0; 26];
     let mut state = 7;
     for i in 0..26usize {
         state = next_random(state);
         data[i] = (state >> 24) as u8;
     }
-    let mut short = Canvas::new(alloc, Version::Normal(1), EcLevel::L)?;
-    short.draw_all_functional_patterns();
-    short.draw_data(&data, &[]);
+    let mut canvas = Canvas::new(alloc, Version::Normal(1), EcLevel::L)?;
+    canvas.draw_all_functional_patterns();
+    canvas.draw_data(&data, &[]);
+    Ok(canvas)
+}
+
+/// Returns how many cells of a canvas of version 1 have a bit, if another has the same modules.
+fn placed_alike(canvas: &Canvas, other: &Canvas) -> Option<usize>
+    requires one { canvas.now.version ≡ Normal (pos 1) }
+    requires other { other.now.version ≡ Normal (pos 1) }
+{
+    let version = Version::Normal(1);
     let mut placed = 0usize;
     for y in 0..21 {
         for x in 0..21 {
-            let module = module_at(&short, Version::Normal(1), x, y);
+            let module = module_at(canvas, version, x, y);
+            if module != module_at(other, version, x, y) {
+                return None;
+            }
             placed = placed.wrapping_add(usize::from(matches!(module, Module::Unmasked(_))));
-            assert!(rt; module == module_at(&long, Version::Normal(1), x, y));
         }
     }
-    assert!(rt; placed == 208);
-    Ok(())
+    Some(placed)
+}
+
+#[test]
+fn drops_bits_past_the_last_cell(rt: HostRuntime) {
+    let long = drawn(rt.alloc(), Version::Normal(1), 7).expect(&rt, "no canvas");
+    let short = filled(rt.alloc()).expect(&rt, "no canvas");
+    assert!(rt; placed_alike(&short, &long) == Some(208));
 }
 
 /// Returns how many cells of a version no codeword takes, and how many codeword bits are missing:
@@ -217,31 +254,42 @@ fn data_cells(alloc: Global, version: Version) -> QrResult<usize> {
     Ok(cells)
 }
 
-/// The codewords take all data cells of each grid except those left over.
-#[test]
-fn codewords_fit_the_grids(rt: HostRuntime) -> QrResult<()> {
-    let alloc = rt.alloc();
-    let mut symbols = 0usize;
-    for version in &versions(alloc)? {
-        let cells = data_cells(alloc, *version)?;
-        let (left, missing) = left_over(*version);
-        for level in LEVELS {
-            if let Some(layout) = block_layout(*version, level) {
-                symbols = symbols.wrapping_add(1);
-                let first = usize::from(layout.first_count);
-                let second = usize::from(layout.second_count);
-                let data = usize::from(layout.first_size) * first
-                    + usize::from(layout.second_size) * second;
-                let codewords = data + usize::from(layout.correction) * (first + second);
-                assert!(rt;
-                    cells.wrapping_add(missing) == codewords.wrapping_mul(8).wrapping_add(left),
-                    "{version:?}, {level:?}"
-                );
+/// Returns the number of codewords of a symbol, if there is one.
+fn codewords(version: Version, level: EcLevel) -> Option<usize> {
+    let layout = block_layout(version, level)?;
+    let first = usize::from(layout.first_count);
+    let second = usize::from(layout.second_count);
+    let data = usize::from(layout.first_size) * first + usize::from(layout.second_size) * second;
+    Some(data + usize::from(layout.correction) * (first + second))
+}
+
+/// Returns at how many levels a version has symbols, if at each of them the codewords take all of
+/// these data cells except those left over.
+fn fitting_levels(version: Version, cells: usize) -> Option<usize> {
+    let (left, missing) = left_over(version);
+    let mut levels = 0usize;
+    for level in LEVELS {
+        if let Some(count) = codewords(version, level) {
+            if cells.wrapping_add(missing) != count.wrapping_mul(8).wrapping_add(left) {
+                return None;
             }
+            levels = levels.wrapping_add(1);
         }
     }
+    Some(levels)
+}
+
+/// The codewords take all data cells of each grid except those left over.
+#[test]
+fn codewords_fit_the_grids(rt: HostRuntime) {
+    let mut symbols = 0usize;
+    for version in &versions(rt.alloc()).expect(&rt, "no versions") {
+        let cells = data_cells(rt.alloc(), *version).expect(&rt, "no canvas");
+        let levels = fitting_levels(*version, cells);
+        assert!(rt; levels.is_some(), "{version:?}");
+        symbols = symbols.wrapping_add(levels.unwrap_or(0));
+    }
     assert!(rt; symbols == 168);
-    Ok(())
 }
 
 #[test]
@@ -254,33 +302,25 @@ fn tells_functional_cells(rt: HostRuntime) {
 
 /// A negative coordinate counts from the far edge.
 #[test]
-fn counts_from_the_far_edge(rt: HostRuntime) -> QrResult<()> {
-    let mut canvas = Canvas::new(rt.alloc(), Version::Normal(1), EcLevel::L)?;
+fn counts_from_the_far_edge(rt: HostRuntime) {
+    let canvas = Canvas::new(rt.alloc(), Version::Normal(1), EcLevel::L);
+    let mut canvas = canvas.expect(&rt, "no canvas");
     canvas.put(-21, -21, Color::Dark);
     canvas.put(-1, -7, Color::Light);
     *canvas.get_mut(-2, 3) = Module::Unmasked(Color::Dark);
     assert!(rt; canvas.get(0, 0) == Module::Masked(Color::Dark));
-    for (x, y) in [(-1, -7), (20, -7), (-1, 14), (20, 14)] {
-        assert!(rt; canvas.get(x, y) == Module::Masked(Color::Light));
-    }
+    let light = Module::Masked(Color::Light);
+    assert!(rt; canvas.get(-1, -7) == light && canvas.get(20, -7) == light);
+    assert!(rt; canvas.get(-1, 14) == light && canvas.get(20, 14) == light);
     assert!(rt; canvas.get(19, -18) == Module::Unmasked(Color::Dark));
     assert!(rt; canvas.get(-7, -1) == Module::Empty);
-    Ok(())
 }
 
 #[test]
 fn masks_by_each_pattern(rt: HostRuntime) {
-    let at_origin = [
-        checkerboard(0, 0),
-        horizontal_lines(0, 0),
-        vertical_lines(0, 0),
-        diagonal_lines(0, 0),
-        large_checkerboard(0, 0),
-        fields(0, 0),
-        diamonds(0, 0),
-        meadow(0, 0),
-    ];
-    assert!(rt; at_origin.iter().all(|inverts| *inverts));
+    assert!(rt; checkerboard(0, 0) && horizontal_lines(0, 0) && vertical_lines(0, 0));
+    assert!(rt; diagonal_lines(0, 0) && large_checkerboard(0, 0) && fields(0, 0));
+    assert!(rt; diamonds(0, 0) && meadow(0, 0));
     assert!(rt; !checkerboard(1, 0) && !horizontal_lines(0, 1) && !vertical_lines(1, 0));
     assert!(rt; !diagonal_lines(1, 0) && !large_checkerboard(3, 0) && !fields(1, 1));
     assert!(rt; diamonds(1, 2) && !meadow(1, 0));
@@ -333,49 +373,54 @@ fn striped(alloc: Global, len: usize) -> QrResult<Vec<u8>> {
     Ok(bytes)
 }
 
+/// Lengths of such bytes, and how many of them are not 0.
+static STRIPES: [(usize, usize); 20] = [
+    (0, 0),
+    (1, 0),
+    (2, 1),
+    (15, 10),
+    (16, 10),
+    (17, 11),
+    (31, 20),
+    (32, 21),
+    (33, 22),
+    (63, 42),
+    (64, 42),
+    (65, 43),
+    (95, 63),
+    (96, 64),
+    (97, 64),
+    (255, 170),
+    (256, 170),
+    (257, 171),
+    (272, 181),
+    (31329, 20886),
+];
+
 #[test]
-fn counts_dark_bytes_around_the_lanes(rt: HostRuntime) -> QrResult<()> {
-    let alloc = rt.alloc();
+fn counts_dark_bytes_around_the_lanes(rt: HostRuntime) {
     assert!(rt; count_dark(&[0, 1, 2, 0, 255]) == 3);
-    for (len, want) in [
-        (0, 0),
-        (1, 0),
-        (2, 1),
-        (15, 10),
-        (16, 10),
-        (17, 11),
-        (31, 20),
-        (32, 21),
-        (33, 22),
-        (63, 42),
-        (64, 42),
-        (65, 43),
-        (95, 63),
-        (96, 64),
-        (97, 64),
-        (255, 170),
-        (256, 170),
-        (257, 171),
-        (272, 181),
-        (31329, 20886),
-    ] {
-        assert!(rt; count_dark(&striped(alloc, len)?) == want, "of {len}");
+    for (len, want) in STRIPES {
+        let bytes = striped(rt.alloc(), len).expect(&rt, "no bytes");
+        assert!(rt; count_dark(&bytes) == want, "of {len}");
     }
-    Ok(())
 }
+
+/// Versions, and how many modules their function patterns have.
+static FUNCTIONAL: [(Version, Option<usize>); 8] = [
+    (Version::Normal(1), Some(233)),
+    (Version::Normal(2), Some(266)),
+    (Version::Normal(7), Some(457)),
+    (Version::Normal(40), Some(1681)),
+    (Version::Micro(1), Some(85)),
+    (Version::Micro(4), Some(97)),
+    (Version::Normal(41), None),
+    (Version::Micro(0), None),
+];
 
 #[test]
 fn counts_functional_modules(rt: HostRuntime) {
-    for (version, want) in [
-        (Version::Normal(1), Some(233)),
-        (Version::Normal(2), Some(266)),
-        (Version::Normal(7), Some(457)),
-        (Version::Normal(40), Some(1681)),
-        (Version::Micro(1), Some(85)),
-        (Version::Micro(4), Some(97)),
-        (Version::Normal(41), None),
-        (Version::Micro(0), None),
-    ] {
+    for (version, want) in FUNCTIONAL {
         assert!(rt; functional_module_count(version) == want, "{version:?}");
     }
 }

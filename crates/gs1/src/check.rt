@@ -1,8 +1,6 @@
 //! The faults of a text, in the order in which they are looked for.
-ghost use Rattle.std.specs.Prelude.{◌≡◌, ◌+◌, ◌≤◌, ◌==◌, length, drop, position, not};
-ghost use Rattle.std.specs.List.{position_or_len, list_all};
+ghost use Rattle.std.specs.Prelude.{◌≡◌, ◌+◌, ◌≤◌, ◌==◌, length, position, not};
 ghost use Rattle.std.specs.Result.{result_err};
-ghost use Rattle.gs1_base.specs.Characters.{is_decimal_digit};
 ghost use Rattle.gs1.specs.Elements.{is_identifier, identifier_fault, length_fault, character_fault};
 ghost use Rattle.gs1.specs.Elements.{digits_fault, is_value_character, element_of, fault_of};
 ghost use Rattle.gs1.specs.Elements.{elements_behind, first_fault, text_fault};

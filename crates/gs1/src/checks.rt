@@ -1,6 +1,5 @@
 //! What components have to satisfy, but for dates.
-ghost use Rattle.std.specs.Prelude.{◌≡◌, ◌<◌, ◌≤◌, ◌+◌, ◌^◌, length, slice_index};
-ghost use Rattle.std.specs.List.{list_all, list_any};
+ghost use Rattle.std.specs.Prelude.{◌≡◌, ◌<◌, ◌+◌, ◌^◌};
 ghost use Rattle.std.specs.Result.{result_err};
 ghost use Rattle.gs1.specs.Checks.{three_digits, country_fault, country_or_any_fault, letters_fault};
 ghost use Rattle.gs1.specs.Checks.{currency_fault, flag_fault, piece_count_fault, winding_fault};

@@ -1,5 +1,5 @@
 //! Dates and times of values.
-ghost use Rattle.std.specs.Prelude.{◌≡◌, ◌<◌, ◌≤◌, ◌-◌, ◌*◌, ◌+◌, ◌^◌};
+ghost use Rattle.std.specs.Prelude.{◌≡◌, ◌<◌, ◌-◌, ◌*◌, ◌+◌, ◌^◌};
 ghost use Rattle.std.specs.Result.{result_err};
 ghost use Rattle.gs1.specs.Checks.{decimal_at, two_digits, days_of, is_leap};
 ghost use Rattle.gs1.specs.Checks.{month_day_fault, date_fault, long_date_fault, hour_fault};

@@ -1,11 +1,9 @@
 //! GS1 Application Identifiers: lengths, characters and check digits.
 ghost use Rattle.std.specs.Prelude.{◌≡◌, ◌↔◌, ◌+◌, ◌-◌, ◌%◌, ◌<◌, ◌^◌, length, IfSome, IsSome};
-ghost use Rattle.std.specs.List.{list_all};
 ghost use Rattle.gs1.specs.Identifiers.{prefix, identifier_length_of, predefined_length_of};
 ghost use Rattle.gs1.specs.Identifiers.{identifier_length, predefined_length, is_encodable};
 ghost use Rattle.gs1.specs.Identifiers.{has_check_digit, has_right_check_digit, weighted_sum};
 ghost use Rattle.gs1.specs.Identifiers.{IsRightDigit, AreFewDigits};
-ghost use Rattle.gs1_base.specs.Characters.{is_decimal_digit};
 
 use gs1_base::characters::are_digits;
 

@@ -1,5 +1,5 @@
 //! Element strings without brackets, cut as a reader cuts them.
-ghost use Rattle.std.specs.Prelude.{◌≡◌, ◌+◌, length, drop, Some, None, Err, IfSome, IfNone};
+ghost use Rattle.std.specs.Prelude.{◌≡◌, ◌+◌, length, Some, None, Err, IfSome, IfNone};
 ghost use Rattle.std.specs.Prelude.{OnOk, IfErr, slice_get};
 ghost use Rattle.gs1.specs.Elements.{element_of, written_elements};
 ghost use Rattle.gs1.specs.Reader.{BeginsWith, first_text, behind_first};

@@ -1,8 +1,6 @@
 //! Which elements have to stand together, and which may not.
-ghost use Rattle.std.specs.Prelude.{◌≡◌, ◌+◌, ◌≤◌, length};
+ghost use Rattle.std.specs.Prelude.{◌≡◌, ◌+◌};
 ghost use Rattle.std.specs.Result.{result_err};
-ghost use Rattle.std.specs.List.{list_any};
-ghost use Rattle.gs1_base.specs.Characters.{is_within};
 ghost use Rattle.gs1.specs.Elements.{element_of, elements_behind};
 ghost use Rattle.gs1.specs.Values.{number_of_identifier};
 ghost use Rattle.gs1.specs.Together.{needed, needed_by_short, needed_by_long, also_needed};

@@ -1,12 +1,12 @@
 //! GS1 Digital Link: links of elements.
 ghost use Rattle.std.specs.Prelude.{◌≡◌, ◌∷◌, ◌++◌, List, None, All, Contains, IfOk, OnOk, IfErr};
-ghost use Rattle.std.specs.List.{flat_map, filter, list_all};
+ghost use Rattle.std.specs.List.{flat_map, filter};
 ghost use Rattle.std.specs.Option.{option_to_list, option_map};
 ghost use Rattle.std.specs.Result.{result_err};
 ghost use Rattle.gs1.specs.Elements.{Element as SpecElement, element_of, elements_behind};
 ghost use Rattle.gs1.specs.Elements.{written_elements};
 ghost use Rattle.gs1.specs.Values.{text_error};
-ghost use Rattle.gs1_base.specs.Domains.{is_domain_character, is_domain};
+ghost use Rattle.gs1_base.specs.Domains.{is_domain};
 ghost use Rattle.gs1_links.specs.Links.{domain_fault, text_length_fault, together_fault};
 ghost use Rattle.gs1_links.specs.Links.{link_error, IsRefusedLink, link_of, linked, path_text, query_text};
 ghost use Rattle.gs1_links.specs.Links.{path_elements, query_elements, primary_key, element_with, is_attribute};
@@ -14,7 +14,7 @@ ghost use Rattle.gs1_links.specs.LinkReader.{ReadsLink};
 
 use crate::link_error::LinkError;
 use crate::link_rules::{check_elements, element_with, is_attribute, primary_key, qualifier_order};
-use gs1::strings::{Element, element_of};
+use gs1::strings::element_of;
 use gs1::together::{LONGEST_TEXT, check_all};
 use gs1::values::check_text;
 use gs1_base::cuts::{behind, first_of};

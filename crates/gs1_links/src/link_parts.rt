@@ -1,11 +1,11 @@
 //! How a link is cut: its domain, its path from the key on, and its query.
 ghost use Rattle.std.specs.Prelude.{◌≡◌, ◌∷◌, ◌+◌, ◌≤◌, ◌%◌, ◌==◌, ◌<◌, [], None, Some, length};
-ghost use Rattle.std.specs.Prelude.{IfOk, IfNone, IfSome, slice_index, position, not};
+ghost use Rattle.std.specs.Prelude.{IfOk, IfNone, IfSome, position, not};
 ghost use Rattle.std.specs.Prelude.{if◌then◌else◌};
 ghost use Rattle.std.specs.List.{slice_split};
 ghost use Rattle.std.specs.Option.{option_map, option_map_or};
 ghost use Rattle.std.specs.Result.{result_err};
-ghost use Rattle.gs1_links.specs.LinkReader.{is_slash, is_question, is_link_character};
+ghost use Rattle.gs1_links.specs.LinkReader.{is_slash, is_link_character};
 ghost use Rattle.gs1_links.specs.LinkFaults.{cut_parts, is_key_text, path_in, pairs, after_scheme};
 ghost use Rattle.gs1_links.specs.LinkFaults.{link_character_fault, front_fault, path_of, query_of};
 

@@ -5,9 +5,8 @@ ghost use Rattle.std.specs.Prelude.{IfOk, OnOk, IfErr, position};
 ghost use Rattle.std.specs.List.{slice_split, list_any, after_first};
 ghost use Rattle.std.specs.Option.{option_map, option_map_or};
 ghost use Rattle.std.specs.Result.{result_err};
-ghost use Rattle.gs1.specs.Elements.{Element as SpecElement};
-ghost use Rattle.gs1_links.specs.Links.{number, is_attribute, order_of};
-ghost use Rattle.gs1_links.specs.LinkReader.{is_slash, is_ampersand, query_parts, ReadsLink};
+ghost use Rattle.gs1_links.specs.Links.{number, order_of};
+ghost use Rattle.gs1_links.specs.LinkReader.{is_slash, is_ampersand, ReadsLink};
 ghost use Rattle.gs1_links.specs.LinkFaults.{cut_parts, pairs, order_fault, path_fault, part_element};
 ghost use Rattle.gs1_links.specs.LinkFaults.{qualifiers_fault};
 ghost use Rattle.gs1_links.specs.LinkFaults.{part_fault, equals_fault, attribute_fault, query_fault};
@@ -21,7 +20,7 @@ use crate::link_together::{check_together, part_element, query_left};
 use crate::link_values::{check_written, decoded};
 use gs1::strings::Element;
 use gs1::values::number_of;
-use gs1_base::cuts::{behind, first_of};
+use gs1_base::cuts::first_of;
 use std::alloc::{AllocError, Global};
 
 /// An element of a link: its identifier as it stands there, and its value without escapes.

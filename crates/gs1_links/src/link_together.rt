@@ -1,11 +1,10 @@
 //! Which elements of a link stand together.
-ghost use Rattle.std.specs.Prelude.{◌≡◌, ◌∷◌, ◌++◌, ◌+◌, ◌*◌, ◌≤◌, [], length};
+ghost use Rattle.std.specs.Prelude.{◌≡◌, ◌∷◌, ◌+◌, ◌*◌, ◌≤◌, [], length};
 ghost use Rattle.std.specs.Prelude.{IfNone, IfSome};
-ghost use Rattle.std.specs.List.{slice_split};
 ghost use Rattle.std.specs.Option.{option_map, option_map_or};
 ghost use Rattle.std.specs.Result.{result_err};
 ghost use Rattle.gs1.specs.Together.{first_among, first_conflict};
-ghost use Rattle.gs1_links.specs.LinkReader.{is_ampersand, is_slash, query_parts};
+ghost use Rattle.gs1_links.specs.LinkReader.{is_ampersand, query_parts};
 ghost use Rattle.gs1_links.specs.LinkFaults.{cut_parts, part_element, link_together_fault};
 ghost use Rattle.gs1_links.specs.LinkFaults.{decoded_element, elements_left, elements_in};
 

@@ -13,8 +13,6 @@ ghost use Rattle.jisx0208.specs.Search.{candidate_of, number_in};
 mod characters;
 mod numbers;
 mod places;
-#[cfg(test)]
-mod tests;
 
 use characters::CHARACTERS;
 use numbers::NUMBERS;

@@ -247,7 +247,7 @@ fn names_wrong_values(rt: HostRuntime) -> Result<(), QrError> {
 static HELPS: [(&[&str], &str); 3] = [
     (&["--help"], "usage: qrlabel [OPTIONS] [TEXT]\n"),
     (&["-s", "99", "-h"], "usage: qrlabel [OPTIONS] [TEXT]\n"),
-    (&["-V", "-l", "X"], "qrlabel 0.4.0\n"),
+    (&["-V", "-l", "X"], "qrlabel 0.5.0\n"),
 ];
 
 #[test]

@@ -91,4 +91,4 @@ help_text = flat_map (λ line. line ++ 10 ∷ []) help_lines
 
 -- The text of `--version`.
 abbrev pub version_line : List ℕ
-version_line = codes "qrlabel 0.4.0\n"
+version_line = codes "qrlabel 0.5.0\n"

@@ -97,5 +97,5 @@ pub fn help_text() -> &'static str
 pub fn version_text() -> &'static str
     ensures { result.now ≡ version_line }
 {
-    "qrlabel 0.4.0\n"
+    "qrlabel 0.5.0\n"
 }

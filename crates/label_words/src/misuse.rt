@@ -1,5 +1,5 @@
 //! What is wrong with the words, as a line on standard error.
-ghost use Rattle.std.specs.Prelude.{◌≡◌, ◌++◌, ◌∷◌, [], codes, IsFalse};
+ghost use Rattle.std.specs.Prelude.{◌≡◌, IsFalse};
 ghost use Rattle.programs.specs.Devices.{output, Writes};
 ghost use Rattle.label_words.specs.Misuses.{picture_word, option_word, values_text, wrong_line};
 ghost use Rattle.label_words.specs.Values.{wrong_of};

@@ -1,5 +1,5 @@
 //! The labels of the symbols that carry a message together, each in a file of its own.
-ghost use Rattle.std.specs.Prelude.{◌≡◌, ◌⊎◌, ◌+◌, ◌<◌, ◌^◌, [], ◌∷◌, map, vec_items, length};
+ghost use Rattle.std.specs.Prelude.{◌≡◌, ◌⊎◌, ◌+◌, ◌<◌, [], ◌∷◌, map, vec_items};
 ghost use Rattle.std.specs.Prelude.{IfErr, OnOk, IsTrue, IsFalse};
 ghost use Rattle.std.specs.String.{string_bytes};
 ghost use Rattle.programs.specs.Devices.{input, ReadsWithin};

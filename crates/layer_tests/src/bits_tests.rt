@@ -37,7 +37,7 @@ struct Careless;
 
 impl EncodingMode for Careless {
     ghost use Rattle.qrcode_base.specs.declared.types.Mode.TheVariants.{Numeric};
-    ghost use Rattle.std.specs.Prelude.{◌≡◌, None};
+    ghost use Rattle.std.specs.Prelude.{None};
 
     ghost MODE = { Numeric };
 
@@ -55,7 +55,7 @@ struct Stubborn;
 
 impl EncodingMode for Stubborn {
     ghost use Rattle.qrcode_base.specs.declared.types.Mode.TheVariants.{Byte};
-    ghost use Rattle.std.specs.Prelude.{◌≡◌, Some};
+    ghost use Rattle.std.specs.Prelude.{Some};
 
     ghost MODE = { Byte };
 

@@ -1,7 +1,7 @@
 //! Compares the chosen plan with the least number of bits over all ways to cut some bytes into
 //! pieces of any modes.
 
-ghost use Rattle.std.specs.Prelude.{◌<◌, ◌≤◌, length};
+ghost use Rattle.std.specs.Prelude.{◌<◌, length};
 ghost use Rattle.qrcode_base.specs.Symbols.{HasMicroNumber};
 
 use crate::optimize_tests::{bits_of, segment};

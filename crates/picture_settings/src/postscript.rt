@@ -1,5 +1,5 @@
 //! Strings of PostScript.
-ghost use Rattle.std.specs.Prelude.{◌≡◌, ◌<◌, ◌≤◌, ◌+◌, ◌*◌, ◌/◌, ◌%◌, ◌^◌, ◌++◌, [], ◌∷◌, OnOk};
+ghost use Rattle.std.specs.Prelude.{◌≡◌, ◌<◌, ◌≤◌, ◌+◌, ◌/◌, ◌%◌, ◌^◌, ◌++◌, [], ◌∷◌, OnOk};
 ghost use Rattle.std.specs.Prelude.{length, nat_le};
 ghost use Rattle.std.specs.String.{string_bytes};
 ghost use Rattle.picture_settings.specs.PostScript.{string_escape, string_text};

@@ -9,7 +9,7 @@
 //! ```
 #![tactic(auto)]
 
-ghost use Rattle.std.specs.Prelude.{◌≡◌, ℕ, ◌+◌, ◌^◌, ◌<◌, ◌≤◌, ◌↔◌, ◌⊎◌, List, length, map, Some};
+ghost use Rattle.std.specs.Prelude.{◌≡◌, ◌+◌, ◌^◌, ◌<◌, ◌↔◌, ◌⊎◌, map, Some};
 ghost use Rattle.std.specs.Prelude.{IsTrue, IsFalse, IfOk, IfErr, OnOk, IsErrOf, is_err};
 ghost use Rattle.std.specs.String.{string_bytes};
 ghost use Rattle.qrcode_base.specs.declared.symbols.TheConstants.{LONGEST_DATA};
@@ -25,15 +25,11 @@ use std::io::ErrorKind;
 use std::{env, fmt};
 
 mod devices;
-#[cfg(test)]
-mod file_tests;
 mod files;
 mod lines;
 mod reasons;
 mod reports;
 mod runs;
-#[cfg(test)]
-mod tests;
 
 pub use devices::{FromReader, FromWriter, Sink, Source};
 pub use files::{WholeFile, put_file};

@@ -1,9 +1,9 @@
 //! An error as one line, written piece by piece: it needs no memory, and its beginning was written
 //! even if the sink fails, of which `Display` says nothing.
-ghost use Rattle.std.specs.Prelude.{◌≡◌, ◌/◌, ◌%◌, ◌<◌, ℕ, [], ◌∷◌, ◌++◌, flat_map, codes, decimal};
+ghost use Rattle.std.specs.Prelude.{◌≡◌, ◌/◌, ◌%◌, ◌<◌, [], ◌∷◌, ◌++◌, flat_map, codes, decimal};
 ghost use Rattle.std.specs.Prelude.{IsFalse, is_err, false};
 ghost use Rattle.std.specs.Fmt.{digit_glyph, signed_decimal};
-ghost use Rattle.qrcode_base.specs.Names.{error_text, level_text};
+ghost use Rattle.qrcode_base.specs.Names.{level_text};
 ghost use Rattle.qrcode_base.specs.declared.types.errors.QrError.TheVariants.{InvalidCharacter};
 ghost use Rattle.qrcode_base.specs.declared.types.errors.QrError.TheVariants.{InvalidVersion};
 ghost use Rattle.qrcode_base.specs.declared.types.errors.QrError.TheVariants.{InvalidDataLength};

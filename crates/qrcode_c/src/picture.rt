@@ -2,13 +2,12 @@
 //!
 //! 1. Check the modules, the format and the settings.
 //! 2. Draw the picture, and write it to the buffer if there is room.
-ghost use Rattle.std.specs.Prelude.{◌≡◌, ◌≢◌, ◌<◌, ◌≤◌, ◌*◌, ◌++◌, true, false, length, map, drop};
+ghost use Rattle.std.specs.Prelude.{◌≡◌, ◌≢◌, ◌<◌, ◌*◌, ◌++◌, true, false, length, map, drop};
 ghost use Rattle.std.specs.Prelude.{OnErr, OnOk, IfOk, IfErr};
 ghost use Rattle.qrcode_c.specs.Pictures.{color_of, grid_of_bytes, IsSymbolSquare};
 ghost use Rattle.qrcode_c.specs.Pictures.{HoldsPicture, IsAskedPicture};
 ghost use Rattle.qrcode_c.specs.Pictures.{IsDrawRefusal, IsPictureRefusal};
 ghost use Rattle.qrcode_render.specs.Drawings.{IsPictureOf};
-ghost use Rattle.picture_settings.specs.declared.bounds.TheConstants.{MAX_MODULES};
 
 use crate::refusal::Refusal;
 use crate::settings::{PictureSettings, format_of, settings_of};

@@ -4,7 +4,7 @@
 //! let limits = ResourceLimits::new(1000, Version::Normal(10), DEFAULT_MAX_RENDER_SIZE);
 //! let symbol = Symbol::with_limits(alloc, bytes, EcLevel::M, &limits)?;
 //! ```
-ghost use Rattle.std.specs.Prelude.{◌≡◌, Some, None, pos, IsOk, ◌↔◌, IsOkUnless};
+ghost use Rattle.std.specs.Prelude.{◌≡◌, Some, None, IsOk, ◌↔◌, IsOkUnless};
 ghost use Rattle.qrcode_base.specs.declared.types.Version.TheVariants.{Normal};
 ghost use Rattle.qrcode_base.specs.declared.types.errors.QrError.TheVariants.{};
 ghost use Rattle.qrcode_base.specs.declared.types.errors.QrError.TheVariants.{InvalidResourceLimits};

@@ -10,7 +10,7 @@
 //! let config = RenderConfig::new(alloc).with_option("scale", "8")?;
 //! let output = registry.build_renderer("svg", &config)?.render(alloc, &view, &config)?;
 //! ```
-ghost use Rattle.std.specs.Prelude.{◌≡◌, ℕ, List, Result};
+ghost use Rattle.std.specs.Prelude.{ℕ, List, Result};
 ghost use Rattle.qrcode_core.specs.Grids.{Grid};
 ghost use Rattle.qrcode_core.specs.declared.plugin.config.EncodeConfig.{EncodeConfig};
 ghost use Rattle.qrcode_core.specs.declared.plugin.config.RenderConfig.{RenderConfig};

@@ -11,7 +11,7 @@
 //!
 //! The start, each page and the end, one after the other, are the document of these pages
 //! (`laws::pages_make_document`). Two numbers a page are kept, and nothing else.
-ghost use Rattle.std.specs.Prelude.{◌≡◌, ◌<◌, ◌≤◌, ◌^◌, ◌++◌, [], ◌∷◌, IfOk, OnErr, OnOk, Err};
+ghost use Rattle.std.specs.Prelude.{◌≡◌, ◌<◌, ◌≤◌, ◌^◌, IfOk, OnErr, OnOk, Err};
 ghost use Rattle.std.specs.Option.{ForSome, option_copied};
 ghost use Rattle.qrcode_core.specs.Symbol.{drawn_grid};
 ghost use Rattle.picture_settings.specs.declared.bounds.TheConstants.{MAX_MODULE_MM, MAX_PDF};

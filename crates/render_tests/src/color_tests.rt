@@ -1,7 +1,6 @@
 //! Tests of colours, by the documents of the formats; contrasts are those that the checker of
 //! WebAIM gives.
 use crate::format_tests::rejects;
-use qrcode_core::plugin::PluginError;
 use qrcode_core::symbol::Symbol;
 use qrcode_core::traits::ModuleView;
 use qrcode_core::types::{Color, EcLevel};

@@ -1,9 +1,11 @@
-//! Tests of pictures (`qrcode_render`) by its public calls. They are in a crate of their own so
-//! that the gate proves the tested crate only once.
+//! Tests of pictures (`qrcode_render`, `png`) by their public calls. They are in a crate of their own
+//! so that the gate proves the tested crates only once.
 #![tactic(auto)]
 
 #[cfg(test)]
 mod caption_tests;
+#[cfg(test)]
+mod chunk_tests;
 #[cfg(test)]
 mod color_tests;
 #[cfg(test)]

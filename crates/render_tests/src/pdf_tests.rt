@@ -18,7 +18,7 @@ use qrcode_render::{
     Colors, DrawOptions, Format, Ground, Pdf, PdfError, PdfPages, Picture, RenderOptions, Setting,
     Settings, draw,
 };
-use std::alloc::{AllocError, Global};
+use std::alloc::Global;
 
 /// 29 columns and 28 rows: a module of 0.33 mm is 0.935433 points wide. The characters of the title
 /// are one unit of UTF-16 each, but for the last one, which is two.

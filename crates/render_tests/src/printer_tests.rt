@@ -1,7 +1,6 @@
 //! Tests of what printers alone are asked, with bytes that are written by hand from the documents
 //! of the makers.
 use crate::format_tests::rejects;
-use qrcode_core::plugin::PluginError;
 use qrcode_core::symbol::Symbol;
 use qrcode_core::traits::ModuleView;
 use qrcode_core::types::{Color, EcLevel};

@@ -1,7 +1,6 @@
 //! Tests of the titles of PNG and EPS, by the pages of ISO/IEC 15948 and of the "PostScript
 //! Language Document Structuring Conventions".
 use crate::format_tests::rejects;
-use qrcode_core::plugin::PluginError;
 use qrcode_core::symbol::Symbol;
 use qrcode_core::types::{EcLevel, QrResult};
 use qrcode_render::bounds::{MAX_PNG_TITLE, MAX_PS_TITLE};

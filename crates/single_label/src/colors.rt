@@ -1,5 +1,5 @@
 //! Text for a terminal in colors of its own.
-ghost use Rattle.std.specs.Prelude.{◌≡◌, ◌++◌, IfOk, OnOk, flat_map, take};
+ghost use Rattle.std.specs.Prelude.{◌≡◌, ◌++◌, IfOk, OnOk};
 ghost use Rattle.single_label.specs.Colors.{in_colors, colored_byte};
 
 use std::alloc::{AllocError, Global};

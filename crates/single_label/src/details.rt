@@ -1,27 +1,25 @@
 //! The details of a symbol: its version, level and mask, the modes of its segments, and its size.
 ghost use Rattle.std.specs.Prelude.{◌≡◌, ◌↔◌, true, false, IsTrue, ℕ, ◌++◌, ◌<◌, ◌≤◌, ◌^◌};
-ghost use Rattle.std.specs.Prelude.{List, length, map, decimal, OnOk, IfOk, IfErr, Some};
+ghost use Rattle.std.specs.Prelude.{List, decimal, OnOk, IfOk, IfErr, Some};
 ghost use Rattle.std.specs.Option.{option_copied};
 ghost use Rattle.std.specs.String.{string_bytes};
 ghost use Rattle.qrcode_base.specs.Symbols.{HasMicroNumber};
-ghost use Rattle.qrcode_bits.specs.Contents.{parsed_byte, parsed_bytes};
+ghost use Rattle.qrcode_bits.specs.Contents.{parsed_byte};
 ghost use Rattle.qrcode_bits.specs.Parsing.{parsed};
 ghost use Rattle.qrcode_bits.specs.Plans.{IsChosenPlan};
 ghost use Rattle.qrcode_bits.specs.declared.optimize.Segment.{Segment};
-ghost use Rattle.qrcode_core.specs.Symbol.{drawn_grid};
 ghost use Rattle.single_label.specs.Details.{IsPlanIn, AreDataAs, mode_piece, count_of};
 ghost use Rattle.single_label.specs.Details.{segment_text, version_piece, mask_number, head_text};
 ghost use Rattle.single_label.specs.Details.{segments_text, nearest_to, width_of_dots};
 ghost use Rattle.single_label.specs.Details.{physical_width, millimetres_text, width_piece};
 ghost use Rattle.single_label.specs.Details.{size_text, AreDetails, IsDetailsStop, IsDetailsStopOf};
-ghost use Rattle.single_label.specs.Details.{IsKnownPlanText, IsPlanText, IsSegmentsPlan};
+ghost use Rattle.single_label.specs.Details.{IsKnownPlanText, IsSegmentsPlan};
 ghost use Rattle.single_label.specs.Details.{IsSegmentsText};
 ghost use Rattle.label_words.specs.Choices.{gs1_content};
 ghost use Rattle.single_label.specs.Contents.{is_bracketed};
 ghost use Rattle.qrcode_base.specs.Names.{level_text};
 
 use crate::content::{is_bracketed, text_of, written_string};
-use crate::element::written_stop;
 use crate::other_way::push_other_way;
 use crate::stop::Stop;
 use crate::text_details::push_text;

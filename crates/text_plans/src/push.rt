@@ -2,7 +2,7 @@
 
 ghost use Rattle.std.specs.Prelude.{◌≡◌, ◌≢◌, ◌<◌, true, get_or, OnOk};
 ghost use Rattle.text_plans.specs.Choices.{AddsBytes, char_size};
-ghost use Rattle.text_plans.specs.Lanes.{AreFacts, IsSize};
+ghost use Rattle.text_plans.specs.Lanes.{AreFacts};
 ghost use Rattle.text_plans.specs.Search.{can_write};
 ghost use Rattle.qrcode_base.specs.declared.types.Mode.TheVariants.{Numeric, Alphanumeric, Byte, Kanji};
 

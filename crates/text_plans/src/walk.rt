@@ -1,12 +1,12 @@
 //! The least plan, written from the first character on by the weights of what follows each.
 
-ghost use Rattle.std.specs.Prelude.{◌≡◌, ◌<◌, ◌≤◌, ℕ, length, get_or, Some, None, OnOk, IfOk, []};
+ghost use Rattle.std.specs.Prelude.{◌≡◌, ◌<◌, length, get_or, Some, None, OnOk, IfOk, []};
 ghost use Rattle.text_plans.specs.Lanes.{AreFacts, AreAllFacts};
 ghost use Rattle.text_plans.specs.Plan.{plan_parts};
 ghost use Rattle.text_plans.specs.Ways.{AreRulesOf};
 ghost use Rattle.text_plans.specs.Tables.{AreRowsOf, IsPlanOf, first_weight};
 ghost use Rattle.text_plans.specs.Keeping.{KeepsEnough, switch_kept};
-ghost use Rattle.text_plans.specs.Search.{go_on, can_write, lane_before, no_rest};
+ghost use Rattle.text_plans.specs.Search.{go_on, lane_before, no_rest};
 ghost use Rattle.text_plans.specs.Choices.{choice_weight, open_value, open_weight};
 ghost use Rattle.text_plans.specs.Choices.{CanBe, IsCharStep, Makes, lane_after, step_value};
 

@@ -14,8 +14,6 @@ ghost use Rattle.text_reading.specs.Search.{byte_in, byte_candidate_of};
 mod codes;
 mod parts;
 mod places;
-#[cfg(test)]
-mod tests;
 
 use codes::CODES;
 use jisx0208::{kanji_of, shift_jis_of};

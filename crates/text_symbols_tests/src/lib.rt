@@ -1,5 +1,6 @@
 //! Tests of `text_plans`, `text_symbols`, `text_cuts`, `text_sequences` and `byte_symbols`: worked
-//! rows, read back by `plain_reader`, and calls whose allocations fail (`tools/refuse-growth`).
+//! rows, read back by `plain_reader`, and calls whose allocations fail (`tools/refuse-growth`); and
+//! of the characters of `jisx0208` and `text_reading`.
 #![tactic(auto)]
 
 #[cfg(test)]
@@ -9,7 +10,11 @@ mod cut_tests;
 #[cfg(test)]
 mod grids;
 #[cfg(test)]
+mod kanji_tests;
+#[cfg(test)]
 mod plan_tests;
+#[cfg(test)]
+mod reading_tests;
 #[cfg(test)]
 mod refused_growth;
 #[cfg(test)]

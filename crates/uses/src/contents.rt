@@ -1,5 +1,5 @@
 //! Texts and GS1 elements, by `qrcode_core`.
-ghost use Rattle.std.specs.Prelude.{◌≡◌, None, IfOk, IfErr};
+ghost use Rattle.std.specs.Prelude.{None, IfOk, IfErr};
 ghost use Rattle.qrcode_bits.specs.Frame.{front_of};
 ghost use Rattle.qrcode_bits.specs.declared.bits.front.Content.TheVariants.{Text};
 ghost use Rattle.qrcode_core.specs.Symbol.{TellsReading};

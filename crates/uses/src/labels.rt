@@ -6,7 +6,7 @@ ghost use Rattle.qrcode_core.specs.Limits.{IsBestWithin, IsLimitedRefusal};
 
 use qrcode_core::limits::ResourceLimits;
 use qrcode_core::symbol::Symbol;
-use qrcode_core::traits::{ModuleSource, QrSymbol};
+use qrcode_core::traits::ModuleSource;
 use qrcode_core::types::{EcLevel, QrResult};
 use std::alloc::Global;
 

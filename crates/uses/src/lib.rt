@@ -17,7 +17,5 @@ pub mod sequences;
 pub mod streams;
 pub mod symbols;
 pub mod tables;
-#[cfg(test)]
-mod tests;
 pub mod texts;
 pub mod views;

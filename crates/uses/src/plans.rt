@@ -1,5 +1,5 @@
 //! A plan whose comparisons are counted, by `qrcode_bits`.
-ghost use Rattle.std.specs.Prelude.{◌≡◌, ◌*◌, ◌<◌, ◌≤◌, length, IfOk};
+ghost use Rattle.std.specs.Prelude.{◌≡◌, ◌<◌, ◌≤◌, length, IfOk};
 ghost use Rattle.qrcode_base.specs.Symbols.{HasMicroNumber};
 ghost use Rattle.qrcode_bits.specs.Plans.{HasLinearCosts, IsChosenPlan};
 

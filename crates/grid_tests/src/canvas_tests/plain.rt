@@ -7,7 +7,7 @@ use qrcode_grid::canvas::{Canvas, MaskPattern};
 use std::alloc::Global;
 
 /// The masks of a Normal symbol, in the order of their numbers.
-pub const NORMAL_MASKS: [MaskPattern; 8] = [
+pub static NORMAL_MASKS: [MaskPattern; 8] = [
     MaskPattern::Checkerboard,
     MaskPattern::HorizontalLines,
     MaskPattern::VerticalLines,
@@ -19,7 +19,7 @@ pub const NORMAL_MASKS: [MaskPattern; 8] = [
 ];
 
 /// The masks of a Micro symbol.
-pub const MICRO_MASKS: [MaskPattern; 4] = [
+pub static MICRO_MASKS: [MaskPattern; 4] = [
     MaskPattern::HorizontalLines,
     MaskPattern::LargeCheckerboard,
     MaskPattern::Diamonds,

@@ -7,7 +7,7 @@ ghost use Rattle.qrcode_grid.specs.Canvas.{IsCoordinate};
 
 use super::plain::{MICRO_MASKS, NORMAL_MASKS, plain_penalties};
 use super::tables::{ALL_DARK, DIGITS, MICRO_PRINTED, NEW, PAINTED, PRINTED, SYMBOLS, WRITTEN};
-use super::{LEVELS, draw, new_canvas, next_random, side, versions};
+use super::{LEVELS, digits, drawn, new_canvas, next_random, side, versions};
 use qrcode_base::types::{Color, EcLevel, QrResult, Version};
 use qrcode_grid::canvas::{Canvas, MaskPattern, Module};
 use std::alloc::Global;
@@ -78,7 +78,7 @@ fn write(canvas: &mut Canvas, x: i16, y: i16, way: u32)
 }
 
 /// How many modules in a row are written in the same way, by three bits of a number.
-const RUNS: [u32; 8] = [1, 1, 2, 3, 4, 5, 7, 40];
+static RUNS: [u32; 8] = [1, 1, 2, 3, 4, 5, 7, 40];
 
 /// Writes every module, row by row or column by column, in runs of one kind from a fixed sequence.
 fn fill(canvas: &mut Canvas, version: Version, seed: u32)
@@ -123,12 +123,21 @@ fn paint(canvas: &mut Canvas, version: Version, size: usize, first: usize)
     }
 }
 
-/// Returns a symbol of a version with codewords of a fixed sequence.
-fn drawn(alloc: Global, version: Version, seed: u32) -> QrResult<Canvas>
+/// Returns a canvas that `fill` has written.
+fn filled(alloc: Global, version: Version, seed: u32) -> QrResult<Canvas>
     ensures { IfOk result (λ canvas. canvas.version ≡ version) }
 {
     let mut canvas = new_canvas(alloc, version, EcLevel::L)?;
-    draw(&mut canvas, seed);
+    fill(&mut canvas, version, seed);
+    Ok(canvas)
+}
+
+/// Returns a canvas that `paint` has written.
+fn painted(alloc: Global, version: Version, size: usize, first: usize) -> QrResult<Canvas>
+    ensures { IfOk result (λ canvas. canvas.version ≡ version) }
+{
+    let mut canvas = new_canvas(alloc, version, EcLevel::L)?;
+    paint(&mut canvas, version, size, first);
     Ok(canvas)
 }
 
@@ -141,18 +150,22 @@ fn are_printed(counted: &[usize], printed: &[usize], more: usize) -> bool {
             .all(|pair| *pair.0 == more.wrapping_add(*pair.1))
 }
 
+/// Returns whether the penalties of a symbol are the printed ones plus `more`.
+fn has_printed(alloc: Global, version: Version, printed: &[usize], more: usize) -> QrResult<bool> {
+    let counted = drawn(alloc, version, 1)?.penalties(alloc)?;
+    Ok(are_printed(&counted, printed, more))
+}
+
 #[test]
-fn has_the_printed_penalties(rt: HostRuntime) -> QrResult<()> {
-    let alloc = rt.alloc();
+fn has_the_printed_penalties(rt: HostRuntime) {
     for (n, printed) in &PRINTED {
-        let counted = drawn(alloc, Version::Normal(*n), 1)?.penalties(alloc)?;
-        assert!(rt; are_printed(&counted, printed, 720), "version {n}");
+        let has = has_printed(rt.alloc(), Version::Normal(*n), printed, 720);
+        assert!(rt; has == Ok(true), "version {n}");
     }
     for (n, printed) in &MICRO_PRINTED {
-        let counted = drawn(alloc, Version::Micro(*n), 1)?.penalties(alloc)?;
-        assert!(rt; are_printed(&counted, printed, 0), "version M{n}");
+        let has = has_printed(rt.alloc(), Version::Micro(*n), printed, 0);
+        assert!(rt; has == Ok(true), "version M{n}");
     }
-    Ok(())
 }
 
 /// Returns a hash of some numbers, in order.
@@ -167,150 +180,163 @@ fn mixed(start: u32, values: &[usize]) -> u32 {
 /// The initial value of such a hash.
 const START: u32 = 2166136261;
 
+/// Returns whether the penalties of a canvas have this hash, and the best mask and its score are
+/// those of the first least one.
+fn has_mix(alloc: Global, canvas: &Canvas, version: Version, want: u32) -> QrResult<bool> {
+    let counted = canvas.penalties(alloc)?;
+    Ok(mixed(START, &counted) == want && is_chosen(alloc, canvas, version, &counted)?)
+}
+
 #[test]
-fn scores_symbols(rt: HostRuntime) -> QrResult<()> {
-    let alloc = rt.alloc();
-    for (version, want) in versions(alloc)?.iter().zip(SYMBOLS.iter()) {
-        let canvas = drawn(alloc, *version, 1)?;
-        let counted = canvas.penalties(alloc)?;
-        assert!(rt; mixed(START, &counted) == *want, "{version:?}");
+fn scores_symbols(rt: HostRuntime) {
+    let all = versions(rt.alloc()).expect(&rt, "no versions");
+    for (version, want) in all.iter().zip(SYMBOLS.iter()) {
+        let canvas = drawn(rt.alloc(), *version, 1).expect(&rt, "no canvas");
         assert!(rt;
-            is_chosen(alloc, &canvas, *version, &counted)?,
+            has_mix(rt.alloc(), &canvas, *version, *want) == Ok(true),
             "{version:?}"
         );
     }
-    Ok(())
 }
 
-#[test]
-fn scores_painted_canvases(rt: HostRuntime) -> QrResult<()> {
-    let alloc = rt.alloc();
-    for (version, want) in versions(alloc)?.iter().zip(PAINTED.iter()) {
-        let mut mix = START;
-        let mut canvas = new_canvas(alloc, *version, EcLevel::L)?;
-        for (size, first) in [(200, 0), (200, 1), (1, 0), (2, 1), (5, 1)] {
-            paint(&mut canvas, *version, size, first);
-            mix = mixed(mix, &canvas.penalties(alloc)?);
-        }
-        let new = new_canvas(alloc, *version, EcLevel::L)?;
-        mix = mixed(mix, &new.penalties(alloc)?);
-        assert!(rt; mix == *want, "{version:?}");
+/// How painted canvases begin: the sizes of the squares, and whether the corner is dark or light.
+static PAINTS: [(usize, usize); 5] = [(200, 0), (200, 1), (1, 0), (2, 1), (5, 1)];
+
+/// Returns the hash of a version's painted canvases, and of a new one.
+fn painted_mix(alloc: Global, version: Version) -> QrResult<u32> {
+    let mut mix = START;
+    for (size, first) in PAINTS {
+        mix = mixed(
+            mix,
+            &painted(alloc, version, size, first)?.penalties(alloc)?,
+        );
     }
-    Ok(())
+    let new = new_canvas(alloc, version, EcLevel::L)?;
+    Ok(mixed(mix, &new.penalties(alloc)?))
 }
 
 #[test]
-fn scores_written_canvases(rt: HostRuntime) -> QrResult<()> {
-    let alloc = rt.alloc();
+fn scores_painted_canvases(rt: HostRuntime) {
+    let all = versions(rt.alloc()).expect(&rt, "no versions");
+    for (version, want) in all.iter().zip(PAINTED.iter()) {
+        assert!(rt;
+            painted_mix(rt.alloc(), *version) == Ok(*want),
+            "{version:?}"
+        );
+    }
+}
+
+/// Returns the hash of a version's written canvases, of every 44th seed from the first one on, and
+/// how many there are.
+fn written_mix(alloc: Global, version: Version, first: u32) -> QrResult<(u32, usize)> {
+    let (mut mix, mut canvases) = (START, 0usize);
+    for seed in (first..200).step_by(44) {
+        mix = mixed(mix, &filled(alloc, version, seed)?.penalties(alloc)?);
+        canvases = canvases.wrapping_add(1);
+    }
+    Ok((mix, canvases))
+}
+
+#[test]
+fn scores_written_canvases(rt: HostRuntime) {
     let mut canvases = 0usize;
-    for ((i, version), want) in versions(alloc)?.iter().enumerate().zip(WRITTEN.iter()) {
-        let mut mix = START;
-        for seed in (i as u32..200).step_by(44) {
-            canvases = canvases.wrapping_add(1);
-            let mut canvas = new_canvas(alloc, *version, EcLevel::L)?;
-            fill(&mut canvas, *version, seed);
-            mix = mixed(mix, &canvas.penalties(alloc)?);
-        }
+    let all = versions(rt.alloc()).expect(&rt, "no versions");
+    for ((i, version), want) in all.iter().enumerate().zip(WRITTEN.iter()) {
+        let (mix, count) = written_mix(rt.alloc(), *version, i as u32).expect(&rt, "no canvas");
         assert!(rt; mix == *want, "{version:?}");
+        canvases = canvases.wrapping_add(count);
     }
     assert!(rt; canvases == 200);
-    Ok(())
+}
+
+/// Versions whose plain sums are soon computed.
+static SMALL: [Version; 6] = [
+    Version::Normal(1),
+    Version::Normal(2),
+    Version::Micro(1),
+    Version::Micro(2),
+    Version::Micro(3),
+    Version::Micro(4),
+];
+
+/// Returns whether the penalties of a symbol, and of four written canvases, are plain sums.
+fn are_scored(alloc: Global, version: Version) -> QrResult<bool> {
+    for seed in 0..4u32 {
+        if !is_scored(alloc, &filled(alloc, version, seed)?, version)? {
+            return Ok(false);
+        }
+    }
+    is_scored(alloc, &drawn(alloc, version, 1)?, version)
 }
 
 /// The penalties, the best mask and its score agree with plain sums, in small versions.
 #[test]
-fn scores_by_plain_sums(rt: HostRuntime) -> QrResult<()> {
-    let alloc = rt.alloc();
-    for version in [
-        Version::Normal(1),
-        Version::Normal(2),
-        Version::Micro(1),
-        Version::Micro(2),
-        Version::Micro(3),
-        Version::Micro(4),
-    ] {
-        assert!(rt;
-            is_scored(alloc, &drawn(alloc, version, 1)?, version)?,
-            "{version:?}"
-        );
-        for seed in 0..4u32 {
-            let mut canvas = new_canvas(alloc, version, EcLevel::L)?;
-            fill(&mut canvas, version, seed);
-            assert!(rt;
-                is_scored(alloc, &canvas, version)?,
-                "{version:?}, seed {seed}"
-            );
-        }
+fn scores_by_plain_sums(rt: HostRuntime) {
+    for version in SMALL {
+        assert!(rt; are_scored(rt.alloc(), version) == Ok(true), "{version:?}");
     }
-    Ok(())
 }
 
 /// In these Normal symbols the sums are below 720, so that the score is 0.
 #[test]
-fn scores_new_canvases(rt: HostRuntime) -> QrResult<()> {
-    let alloc = rt.alloc();
+fn scores_new_canvases(rt: HostRuntime) {
     let mut wanted = NEW.iter();
-    for version in &versions(alloc)? {
+    for version in &versions(rt.alloc()).expect(&rt, "no versions") {
         for level in LEVELS {
-            if let Ok(canvas) = new_canvas(alloc, *version, level) {
-                let counted = canvas.penalties(alloc)?;
-                let mix = mixed(START, &counted);
-                assert!(rt; wanted.next() == Some(&mix), "{version:?}, {level:?}");
-                assert!(rt;
-                    is_chosen(alloc, &canvas, *version, &counted)?,
-                    "{version:?}, {level:?}"
-                );
+            if let Ok(canvas) = new_canvas(rt.alloc(), *version, level) {
+                let want = wanted.next().copied().expect(&rt, "a row");
+                let has = has_mix(rt.alloc(), &canvas, *version, want);
+                assert!(rt; has == Ok(true), "{version:?}, {level:?}");
             }
         }
     }
     assert!(rt; wanted.next().is_none());
-    Ok(())
 }
 
 /// Returns the mask and the score of a canvas with every cell in one colour: dark for 0, light
 /// for 1.
 fn score_of_color(alloc: Global, version: Version, first: usize) -> QrResult<(MaskPattern, u16)> {
-    let mut canvas = new_canvas(alloc, version, EcLevel::L)?;
-    paint(&mut canvas, version, 200, first);
+    let canvas = painted(alloc, version, 200, first)?;
     let (_best, pattern, score) = canvas.apply_best_mask_with_score(alloc)?;
     Ok((pattern, score))
 }
 
+/// Versions whose cells are all in one colour, the mask and the score.
+static ONE_COLOR: [(Version, usize, MaskPattern, u16); 3] = [
+    (Version::Micro(1), 0, MaskPattern::HorizontalLines, 0),
+    (Version::Micro(1), 1, MaskPattern::HorizontalLines, 170),
+    (Version::Normal(40), 0, MaskPattern::Diamonds, 65535),
+];
+
 /// In M1 all masks have the same penalty, so that the first is chosen. In version 40 the least sum
 /// is that of Diamonds, and the score of every mask is 65535.
 #[test]
-fn scores_dark_and_light(rt: HostRuntime) -> QrResult<()> {
-    let alloc = rt.alloc();
-    for (version, first, mask, want) in [
-        (Version::Micro(1), 0, MaskPattern::HorizontalLines, 0),
-        (Version::Micro(1), 1, MaskPattern::HorizontalLines, 170),
-        (Version::Normal(40), 0, MaskPattern::Diamonds, 65535),
-    ] {
-        let (pattern, score) = score_of_color(alloc, version, first)?;
-        assert!(rt; score == want, "{version:?}");
-        assert!(rt; pattern == mask, "{version:?}");
+fn scores_dark_and_light(rt: HostRuntime) {
+    for (version, first, mask, want) in ONE_COLOR {
+        let score = score_of_color(rt.alloc(), version, first);
+        assert!(rt; score == Ok((mask, want)), "{version:?}");
     }
-    Ok(())
+}
+
+/// Returns whether the penalties of a canvas are these.
+fn has_penalties(alloc: Global, canvas: &Canvas, want: &[usize]) -> bool {
+    match canvas.penalties(alloc) {
+        Ok(counted) => counted.as_slice() == want,
+        Err(_) => false,
+    }
 }
 
 #[test]
-fn scores_all_dark(rt: HostRuntime) -> QrResult<()> {
-    let alloc = rt.alloc();
-    let mut canvas = new_canvas(alloc, Version::Normal(40), EcLevel::L)?;
-    paint(&mut canvas, Version::Normal(40), 200, 0);
-    assert!(rt; canvas.penalties(alloc)?.as_slice() == &ALL_DARK[..]);
+fn scores_all_dark(rt: HostRuntime) {
+    let canvas = painted(rt.alloc(), Version::Normal(40), 200, 0).expect(&rt, "no canvas");
+    assert!(rt; has_penalties(rt.alloc(), &canvas, &ALL_DARK));
     assert!(rt; first_of_least(&ALL_DARK) == MaskPattern::Diamonds as usize);
-    Ok(())
 }
 
 /// The four masks of the symbol of the digits 12345.
 #[test]
-fn scores_digits(rt: HostRuntime) -> QrResult<()> {
-    let alloc = rt.alloc();
-    let mut canvas = new_canvas(alloc, Version::Micro(1), EcLevel::L)?;
-    canvas.draw_all_functional_patterns();
-    canvas.draw_data(&[0xA3, 0xDA, 0xD0], &[0x6E, 0xC7]);
-    assert!(rt; canvas.penalties(alloc)?.as_slice() == &DIGITS[..]);
-    assert!(rt; is_chosen(alloc, &canvas, Version::Micro(1), &DIGITS)?);
-    Ok(())
+fn scores_digits(rt: HostRuntime) {
+    let canvas = digits(rt.alloc()).expect(&rt, "no canvas");
+    assert!(rt; has_penalties(rt.alloc(), &canvas, &DIGITS));
+    assert!(rt; is_chosen(rt.alloc(), &canvas, Version::Micro(1), &DIGITS) == Ok(true));
 }

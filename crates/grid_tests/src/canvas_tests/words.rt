@@ -3,6 +3,7 @@ ghost use Rattle.std.specs.Prelude.{◌≡◌, IfOk};
 
 use super::plain::{MICRO_MASKS, NORMAL_MASKS, apply};
 use super::{LEVELS, module_at, new_canvas, side};
+use qrcode_base::symbols::block_layout;
 use qrcode_base::types::{Color, EcLevel, QrResult, Version};
 use qrcode_grid::canvas::{Canvas, MaskPattern, Module};
 use std::alloc::Global;
@@ -42,7 +43,7 @@ fn close_pairs(words: &[u32], digits: u32) -> usize {
 
 /// The cells of the format word beside the first finder pattern (ISO/IEC 18004:2006,
 /// "Format information").
-const NORMAL_PLACES: [(usize, usize); 15] = [
+static NORMAL_PLACES: [(usize, usize); 15] = [
     (0, 8),
     (1, 8),
     (2, 8),
@@ -61,7 +62,7 @@ const NORMAL_PLACES: [(usize, usize); 15] = [
 ];
 
 /// Its cells in a Micro symbol.
-const MICRO_PLACES: [(usize, usize); 15] = [
+static MICRO_PLACES: [(usize, usize); 15] = [
     (1, 8),
     (2, 8),
     (3, 8),
@@ -96,27 +97,33 @@ fn push_words(
     Ok(())
 }
 
-#[test]
-fn format_words_are_far(rt: HostRuntime) -> QrResult<()> {
-    let alloc = rt.alloc();
-    let mut normal = Vec::new(alloc);
-    let mut micro = Vec::new(alloc);
+/// Returns the format words of the Normal symbols, by level and mask.
+fn normal_words(alloc: Global) -> QrResult<Vec<u32>> {
+    let mut words = Vec::new(alloc);
     for level in LEVELS {
         let version = Version::Normal(1);
         push_words(
             alloc,
-            &mut normal,
+            &mut words,
             version,
             level,
             &NORMAL_MASKS,
             &NORMAL_PLACES,
         )?;
+    }
+    Ok(words)
+}
+
+/// Returns the format words of the Micro symbols, by level, version and mask.
+fn micro_words(alloc: Global) -> QrResult<Vec<u32>> {
+    let mut words = Vec::new(alloc);
+    for level in LEVELS {
         for n in 1..5i16 {
             let version = Version::Micro(n);
-            if new_canvas(alloc, version, level).is_ok() {
+            if block_layout(version, level).is_some() {
                 push_words(
                     alloc,
-                    &mut micro,
+                    &mut words,
                     version,
                     level,
                     &MICRO_MASKS,
@@ -125,11 +132,17 @@ fn format_words_are_far(rt: HostRuntime) -> QrResult<()> {
             }
         }
     }
+    Ok(words)
+}
+
+#[test]
+fn format_words_are_far(rt: HostRuntime) {
+    let normal = normal_words(rt.alloc()).expect(&rt, "no words");
     assert!(rt; normal.len() == 32 && close_pairs(&normal, 7) == 0);
-    assert!(rt; micro.len() == 32 && close_pairs(&micro, 7) == 0);
     // Level M under mask number 5.
     assert!(rt; normal.get(13) == Some(&0x40CE));
-    Ok(())
+    let micro = micro_words(rt.alloc()).expect(&rt, "no words");
+    assert!(rt; micro.len() == 32 && close_pairs(&micro, 7) == 0);
 }
 
 /// Returns the version word of a canvas, from its lower left copy.
@@ -145,17 +158,21 @@ fn version_word(canvas: &Canvas, version: Version) -> u32
     word
 }
 
-#[test]
-fn version_words_are_far(rt: HostRuntime) -> QrResult<()> {
-    let alloc = rt.alloc();
+/// Returns the version words, from that of version 7 on.
+fn version_words(alloc: Global) -> QrResult<Vec<u32>> {
     let mut words = Vec::new(alloc);
     for n in 7..41i16 {
         let version = Version::Normal(n);
         words.push(version_word(&patterned(alloc, version, EcLevel::L)?, version))?;
     }
+    Ok(words)
+}
+
+#[test]
+fn version_words_are_far(rt: HostRuntime) {
+    let words = version_words(rt.alloc()).expect(&rt, "no words");
     assert!(rt; words.first() == Some(&0x07C94));
     assert!(rt; words.len() == 34 && close_pairs(&words, 8) == 0);
-    Ok(())
 }
 
 /// Returns whether an alignment pattern has its centre two columns and two rows after a cell.
@@ -207,30 +224,37 @@ fn are_pairs(centers: &[(usize, usize)], coordinates: &[usize]) -> bool {
     rest.next().is_none()
 }
 
+/// Returns whether the centres of a version are the pairs of some coordinates.
+fn has_pairs(alloc: Global, version: Version, coordinates: &[usize]) -> QrResult<bool> {
+    let centers = alignment_centers(alloc, version)?;
+    Ok(are_pairs(&centers, coordinates))
+}
+
+/// Versions, and how many alignment patterns they have.
+static PATTERNS: [(i16, usize); 13] = [
+    (1, 0),
+    (2, 1),
+    (6, 1),
+    (7, 6),
+    (13, 6),
+    (14, 13),
+    (20, 13),
+    (21, 22),
+    (27, 22),
+    (28, 33),
+    (34, 33),
+    (35, 46),
+    (40, 46),
+];
+
 #[test]
-fn has_the_alignment_centers(rt: HostRuntime) -> QrResult<()> {
-    let alloc = rt.alloc();
-    let seven = alignment_centers(alloc, Version::Normal(7))?;
-    assert!(rt; are_pairs(&seven, &[6, 22, 38]));
-    let thirty_two = alignment_centers(alloc, Version::Normal(32))?;
-    assert!(rt; are_pairs(&thirty_two, &[6, 34, 60, 86, 112, 138]));
-    for (n, want) in [
-        (1, 0),
-        (2, 1),
-        (6, 1),
-        (7, 6),
-        (13, 6),
-        (14, 13),
-        (20, 13),
-        (21, 22),
-        (27, 22),
-        (28, 33),
-        (34, 33),
-        (35, 46),
-        (40, 46),
-    ] {
-        let centers = alignment_centers(alloc, Version::Normal(n))?;
+fn has_the_alignment_centers(rt: HostRuntime) {
+    let seven = has_pairs(rt.alloc(), Version::Normal(7), &[6, 22, 38]);
+    let coordinates = [6, 34, 60, 86, 112, 138];
+    let thirty_two = has_pairs(rt.alloc(), Version::Normal(32), &coordinates);
+    assert!(rt; seven == Ok(true) && thirty_two == Ok(true));
+    for (n, want) in PATTERNS {
+        let centers = alignment_centers(rt.alloc(), Version::Normal(n)).expect(&rt, "no canvas");
         assert!(rt; centers.len() == want, "of {n}");
     }
-    Ok(())
 }

@@ -2,7 +2,7 @@
 
 use super::{Accepted, BYTES, DIGITS, M1, M3, M4, ONE, Push, Refused, all_hold, all_leave};
 use qrcode_base::types::{EcLevel, Mode, QrError, QrResult, Version};
-use qrcode_bits::bits::{Bits, EncodingModes, ExtendedMode};
+use qrcode_bits::bits::ExtendedMode;
 
 const M2: Version = Version::Micro(2);
 

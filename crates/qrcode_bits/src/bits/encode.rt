@@ -9,7 +9,7 @@
 //!
 //! `choice` finds the version and pushes the plan.
 
-ghost use Rattle.std.specs.Prelude.{◌-◌, length, nat_abs, Some, OnOk, IfOk, IfErr};
+ghost use Rattle.std.specs.Prelude.{◌-◌, nat_abs, Some, OnOk, IfOk, IfErr};
 ghost use Rattle.qrcode_bits.specs.Plans.{normal, normal_from, micro};
 ghost use Rattle.qrcode_bits.specs.Push.{IsEncoding, IsUnencodable, IsEncodingRefused};
 ghost use Rattle.qrcode_base.specs.Symbols.{IsNormalNumber};

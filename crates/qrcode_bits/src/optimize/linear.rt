@@ -11,7 +11,7 @@ ghost use Rattle.qrcode_base.specs.Symbols.{HasMicroNumber};
 ghost use Rattle.qrcode_base.specs.Modes.{data_bits, characters, join};
 ghost use Rattle.qrcode_bits.specs.Plans.{HasLinearCosts, IsChosenPlan, part};
 ghost use Rattle.qrcode_bits.specs.Optimizer.{bucket_mode, bucket_first, period, period_bits, mode_number};
-ghost use Rattle.qrcode_bits.specs.Optimizer.{slot_of, groups_of, found, KeepsBetter, Merges, Moves, Advances};
+ghost use Rattle.qrcode_bits.specs.Optimizer.{slot_of, groups_of, found, KeepsBetter, Moves, Advances};
 ghost use Rattle.qrcode_bits.specs.Optimizer.{AddsTo, Adds, IsBelow, AreHeaders, AreGroups, IsStep, AreSteps};
 ghost use Rattle.qrcode_bits.specs.Optimizer.{HasBucket, IsBetterOf};
 

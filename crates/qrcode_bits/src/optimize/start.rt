@@ -1,7 +1,7 @@
 //! Starts of the last part of a plan of short data, and the one function that compares two of them.
 
 ghost use Rattle.std.proofs.Common.{rules};
-ghost use Rattle.std.specs.Prelude.{◌≡◌, ◌+◌, ◌*◌, ◌-◌, ◌/◌, ◌%◌, ◌^◌, ◌<◌, ◌≤◌};
+ghost use Rattle.std.specs.Prelude.{◌+◌, ◌-◌, ◌%◌, ◌<◌};
 ghost use Rattle.qrcode_bits.specs.Optimizer.{start_of};
 
 use super::Comparisons;

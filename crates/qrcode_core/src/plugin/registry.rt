@@ -1,5 +1,5 @@
 //! The registry: what a caller registered, how it is looked up, and how postprocessors are run.
-ghost use Rattle.std.specs.Prelude.{◌≡◌, Ok, Err, IfSome, IfNone, MatchOption, MatchResult};
+ghost use Rattle.std.specs.Prelude.{◌≡◌, Ok, Err, IfSome, IfNone, MatchResult};
 ghost use Rattle.std.specs.Prelude.{IsErrAnd, IsOkAnd};
 ghost use Rattle.std.specs.List.Sorted.{IsStrictlySortedBy};
 ghost use Rattle.std.specs.Option.{option_copied};

@@ -2,7 +2,7 @@
 //!
 //! 1. Check that every other part of the message fits (`check_others`).
 //! 2. Make the best symbol of the part, with its header.
-ghost use Rattle.std.specs.Prelude.{◌≡◌, ◌≢◌, ◌+◌, ◌<◌, ◌≤◌, length, nat_abs};
+ghost use Rattle.std.specs.Prelude.{◌≢◌, ◌+◌, ◌<◌, ◌≤◌, length, nat_abs};
 ghost use Rattle.std.specs.Prelude.{ℕ, All, OnOk, IfOk, IfErr};
 ghost use Rattle.std.specs.List.Sorted.{IsNonDecreasing};
 ghost use Rattle.qrcode_base.specs.Symbols.{IsNormalNumber};

@@ -4,7 +4,7 @@
 //! 2. Make the best symbol of each part, with its header (`part_symbol`).
 ghost use Rattle.std.specs.Prelude.{◌≡◌, ◌+◌, ◌≤◌, [], length, map, nat_abs, slice_index_or, All};
 ghost use Rattle.std.specs.Prelude.{OnOk, IfOk, IfErr};
-ghost use Rattle.std.specs.Prelude.{ℕ, IsTrue, List, Some, vec_items};
+ghost use Rattle.std.specs.Prelude.{ℕ, IsTrue, List, vec_items};
 ghost use Rattle.std.specs.List.Sorted.{IsNonDecreasing};
 ghost use Rattle.qrcode_bits.specs.Contents.{AreDataOf};
 ghost use Rattle.qrcode_bits.specs.Places.{IsCutPlace};

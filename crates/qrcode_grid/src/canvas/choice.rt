@@ -1,10 +1,10 @@
 //! The choice of the first mask of least penalty, and the grid of a whole symbol.
-ghost use Rattle.std.specs.Prelude.{◌≡◌, ◌+◌, ◌*◌, ◌<◌, ◌≤◌, length, slice_get, Some, IfOk, IfErr};
+ghost use Rattle.std.specs.Prelude.{◌≡◌, ◌+◌, ◌*◌, ◌<◌, ◌≤◌, length, IfOk, IfErr};
 ghost use Rattle.qrcode_base.specs.Symbols.{IsSymbol, missing_bits};
 ghost use Rattle.qrcode_grid.specs.Counts.{codeword_count};
 ghost use Rattle.qrcode_grid.specs.Canvas.{CarriesCodewords};
 ghost use Rattle.qrcode_grid.specs.Masks.{family, IsOfFamily};
-ghost use Rattle.qrcode_grid.specs.Penalty.{score, IsFirstLeast, IsFirstLeastMask};
+ghost use Rattle.qrcode_grid.specs.Penalty.{score, IsFirstLeastMask};
 
 use crate::canvas::cells::settle;
 use crate::canvas::filling::repeated;
@@ -28,7 +28,7 @@ fn score_of(version: Version, penalty: usize) -> u16
 }
 
 impl Canvas {
-    ghost use Rattle.std.specs.Prelude.{◌≡◌, ◌*◌, ◌≤◌, IfOk, IfErr, length, map, slice_index, take};
+    ghost use Rattle.std.specs.Prelude.{◌≡◌, ◌*◌, ◌≤◌, IfOk, IfErr, length, map, take};
     ghost use Rattle.qrcode_base.specs.Symbols.{width_of};
     ghost use Rattle.qrcode_grid.specs.declared.canvas.MaskPattern.{MaskPattern};
     ghost use Rattle.qrcode_grid.specs.Penalty.{byte_of};

@@ -6,11 +6,11 @@
 //! 3. Count runs, finder-like patterns, squares and dark modules in all candidates (`counting`),
 //!    and add up their penalties.
 ghost use Rattle.std.specs.Prelude.{◌≡◌, ℕ, ◌+◌, ◌*◌, ◌<◌, ◌≤◌, length, map, slice_index, take};
-ghost use Rattle.std.specs.Prelude.{◌==◌, count_by, drop, if◌then◌else◌};
+ghost use Rattle.std.specs.Prelude.{◌==◌, if◌then◌else◌};
 ghost use Rattle.qrcode_base.specs.Symbols.{IsVersion, width_of};
 ghost use Rattle.qrcode_grid.specs.Canvas.{color_of_module};
 ghost use Rattle.qrcode_grid.specs.Penalty.{byte_of, penalty, micro_penalty};
-ghost use Rattle.qrcode_grid.specs.Penalty.{normal_penalty, column};
+ghost use Rattle.qrcode_grid.specs.Penalty.{normal_penalty};
 ghost use Rattle.qrcode_grid.specs.Masks.{masked_cells};
 ghost use Rattle.qrcode_grid.specs.Scoring.{lines_penalty, list_length, pattern_of, plane};
 

@@ -5,7 +5,7 @@
 //! 256 at a time.
 ghost use Rattle.std.specs.Prelude.{◌≡◌, ℕ, ◌+◌, ◌*◌, ◌<◌, ◌≤◌, [], length, slice_index, slice_index_or};
 ghost use Rattle.qrcode_grid.specs.Regions.{sum_below, count_below};
-ghost use Rattle.qrcode_grid.specs.Scoring.{bit_count, count_in_planes, tallied, Marks, plane, has, has_five, has_six};
+ghost use Rattle.qrcode_grid.specs.Scoring.{bit_count, tallied, plane, has, has_five, has_six};
 ghost use Rattle.qrcode_grid.specs.Scoring.{list_length, places};
 
 use crate::canvas::scoring::lists::{Feature, dark, places_of};

@@ -4,10 +4,8 @@
 //! The padded list is the grid within light modules, and the twins mark where a module and the next
 //! one in a direction have the same colour. Row y of both lists begins at y times the stride, which
 //! is the width plus four, and the grid begins four rows down in the padded list.
-ghost use Rattle.std.specs.Prelude.{◌≡◌, if◌then◌else◌, ℕ, ◌+◌, ◌*◌, ◌<◌, ◌≤◌, length, slice_index, ◌==◌};
-ghost use Rattle.std.specs.Int.{bit_at};
+ghost use Rattle.std.specs.Prelude.{◌≡◌, ℕ, ◌+◌, ◌*◌, ◌<◌, ◌≤◌, length, slice_index, ◌==◌};
 ghost use Rattle.qrcode_grid.specs.Scoring.{AreTwins, IsPadded, is_same, list_length, plane, stride, Marks, cell, has};
-ghost use Rattle.qrcode_grid.specs.Scoring.{has_finder, has_five, has_six, has_square, is_quiet};
 
 use std::simd::prelude::*;
 
