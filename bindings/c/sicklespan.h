@@ -147,7 +147,7 @@ int32_t sicklespan_auto(const void *data, size_t length, const sicklespan_option
  * is smaller. Level, versions and `strongest` are as of sicklespan_bytes.
  *
  * SICKLESPAN_INVALID_LEVEL, SICKLESPAN_INVALID_VERSIONS, SICKLESPAN_INVALID_TEXT,
- * SICKLESPAN_DATA_TOO_LONG (exactly where nothing that is read as the text fits a version up to the
+ * SICKLESPAN_DATA_TOO_LONG (only where nothing that is read as the text fits a version up to the
  * greatest at the level), SICKLESPAN_OUT_OF_MEMORY, SICKLESPAN_SHORT_BUFFER.
  */
 int32_t sicklespan_smallest_text(const char *text, size_t length, const sicklespan_options *options,
@@ -271,8 +271,8 @@ int32_t sicklespan_micro(const void *bytes, size_t length, int32_t level, uint8_
  * its characters are those of ASCII alone, or those of the Kanji mode and of ASCII but `\` and `~`,
  * for which some readers show other signs there. Every other text is SICKLESPAN_UNWRITABLE_TEXT.
  *
- * SICKLESPAN_INVALID_LEVEL, SICKLESPAN_INVALID_TEXT, SICKLESPAN_UNWRITABLE_TEXT (exactly where no
- * Micro symbol is read as the text), SICKLESPAN_DATA_TOO_LONG (exactly where nothing that is read
+ * SICKLESPAN_INVALID_LEVEL, SICKLESPAN_INVALID_TEXT, SICKLESPAN_UNWRITABLE_TEXT (only where no
+ * Micro symbol is read as the text), SICKLESPAN_DATA_TOO_LONG (only where nothing that is read
  * as it fits any of M1 to M4 at the level), SICKLESPAN_OUT_OF_MEMORY, SICKLESPAN_SHORT_BUFFER.
  */
 int32_t sicklespan_micro_text(const char *text, size_t length, int32_t level, uint8_t *modules,

@@ -151,7 +151,7 @@ impl Symbol {
     ///
     /// # Errors
     ///
-    /// `DataTooLong` exactly where nothing that is read as the text fits a version at the level;
+    /// `DataTooLong` only where nothing that is read as the text fits a version at the level;
     /// `OutOfMemory`.
     pub fn smallest_text(text: &str, level: Level) -> Result<Symbol, Error> {
         Symbol::smallest_text_with(text, &Options::new(level))
@@ -374,8 +374,8 @@ impl Symbol {
     ///
     /// # Errors
     ///
-    /// `InvalidLevel` for level H; then `UnwritableText` exactly where no Micro symbol is read as
-    /// the text; then `DataTooLong` exactly where nothing that is read as it fits any of M1 to M4
+    /// `InvalidLevel` for level H; then `UnwritableText` only where no Micro symbol is read as
+    /// the text; then `DataTooLong` only where nothing that is read as it fits any of M1 to M4
     /// at the level, and `OutOfMemory`.
     pub fn micro_text(text: &str, level: Level) -> Result<Symbol, Error> {
         Symbol::drawn_micro(ffi::Content::MicroText, text.as_bytes(), level)

@@ -50,7 +50,7 @@ fn least_plan(
 /// Returns the segments with the fewest bits in the smallest Normal version, from a least one up to
 /// a greatest one, in which some pieces of the bytes fit without the Kanji mode.
 ///
-/// It fails with `DataTooLong` exactly where none fit any of them, and with `OutOfMemory`.
+/// It fails with `DataTooLong` only where none fit any of them, and with `OutOfMemory`.
 pub fn chosen_plan(
     alloc: Global,
     bytes: &[u8],

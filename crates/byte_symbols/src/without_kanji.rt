@@ -27,7 +27,7 @@ use version_choices::{level_of, versions_of};
 /// # Errors
 ///
 /// It fails with `InvalidResourceLimits` for versions that `SymbolOptions::validate` rejects, then
-/// with `DataTooLong` exactly where the bytes do not fit the greatest version without the Kanji
+/// with `DataTooLong` only where the bytes do not fit the greatest version without the Kanji
 /// mode; more than 7089 bytes fail without an allocation. It fails with `OutOfMemory` where an
 /// allocation failed.
 pub fn bytes_without_kanji(alloc: Global, bytes: &[u8], options: &SymbolOptions) -> QrResult<Symbol>

@@ -18,7 +18,7 @@ use std::alloc::Global;
 /// # Errors
 ///
 /// On an error nothing is written. The status is, in this order: `InvalidLevel`; `InvalidVersions`;
-/// `InvalidText` where the bytes are not UTF-8; `DataTooLong` exactly where nothing that is read as
+/// `InvalidText` where the bytes are not UTF-8; `DataTooLong` only where nothing that is read as
 /// the text fits a version up to the greatest at the level; `OutOfMemory` where an allocation
 /// failed; `ShortBuffer`.
 #[unsafe(no_mangle)]
@@ -52,8 +52,8 @@ pub extern "C" fn qrcode_c_smallest_text(
 /// # Errors
 ///
 /// On an error nothing is written. The status is, in this order: `InvalidLevel`, also for level H;
-/// `InvalidText` where the bytes are not UTF-8; `UnwritableText` exactly where no Micro symbol is
-/// read as the text; `DataTooLong` exactly where nothing that is read as it fits any of the
+/// `InvalidText` where the bytes are not UTF-8; `UnwritableText` only where no Micro symbol is
+/// read as the text; `DataTooLong` only where nothing that is read as it fits any of the
 /// versions at the level; `OutOfMemory` where an allocation failed; `ShortBuffer`.
 #[unsafe(no_mangle)]
 pub extern "C" fn qrcode_c_micro_text(

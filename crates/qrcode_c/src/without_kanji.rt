@@ -19,7 +19,7 @@ use std::alloc::Global;
 /// # Errors
 ///
 /// On an error nothing is written. The status is, in this order: `InvalidLevel`; `InvalidVersions`;
-/// `DataTooLong` exactly where the bytes, in segments of the other modes, fit no version up to the
+/// `DataTooLong` only where the bytes, in segments of the other modes, fit no version up to the
 /// greatest at the level; `OutOfMemory` where an allocation failed; `ShortBuffer`.
 #[unsafe(no_mangle)]
 pub extern "C" fn qrcode_c_bytes_without_kanji(

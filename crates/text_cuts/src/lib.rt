@@ -48,7 +48,7 @@ const MOST_GUESSES: usize = 8;
 /// # Errors
 ///
 /// It fails with `InvalidResourceLimits` if `max_version` is outside 1 to 40. Then it fails with
-/// `DataTooLong` exactly where no cuts make at most 16 parts that fit; more than 16 times 7089
+/// `DataTooLong` only where no cuts make at most 16 parts that fit; more than 16 times 7089
 /// characters fail without an allocation. It fails with `OutOfMemory` where an allocation failed.
 pub fn smallest_text_cuts(
     alloc: Global,

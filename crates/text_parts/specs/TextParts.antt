@@ -4,6 +4,7 @@
 use Rattle.std.specs.Prelude.{◌≡◌, ℕ, ◌+◌, ◌*◌, ◌<◌, ◌≤◌, List, [], Some, length, chars}
 use Rattle.std.specs.Prelude.{slice_index_or}
 use Rattle.qrcode_base.specs.Symbols.{capacity}
+use Rattle.qrcode_base.specs.declared.symbols.TheConstants.{LONGEST_DATA}
 use Rattle.qrcode_base.specs.declared.types.EcLevel.{EcLevel}
 use Rattle.qrcode_base.specs.declared.types.Version.{Version}
 use Rattle.qrcode_base.specs.declared.types.errors.QrError.{QrError}
@@ -52,10 +53,10 @@ HaveNoRoomBefore end count =
     capacity (normal number) level ≡ Some limit → 3 * limit < 3 * 20 + 10 * count
 
 -- Why a text has no choice up to a limit: no parts that are read as it fit any of the versions
--- after a header, or an allocation failed.
+-- after a header, or an allocation failed, which it can only of at most 7089 characters.
 abbrev pub HasNoPartChoice : List ℕ → EcLevel → ℕ → QrError → Type 0
 HasNoPartChoice text level limit DataTooLong = IsTextPartTooLong text level limit
-HasNoPartChoice text level limit OutOfMemory = Unit {0}
+HasNoPartChoice text level limit OutOfMemory = length text ≤ LONGEST_DATA
 HasNoPartChoice text level limit other = ⊥
 
 -- ---- The parts of a text

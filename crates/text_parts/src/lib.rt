@@ -62,7 +62,7 @@ fn first_holding_part(bits: usize, level: EcLevel, first: usize, end: usize) -> 
 ///
 /// # Errors
 ///
-/// It fails with `DataTooLong` exactly where nothing that is read as the text fits any of the
+/// It fails with `DataTooLong` only where nothing that is read as the text fits any of the
 /// versions after a header; more than 7089 characters fail without an allocation. It fails with
 /// `OutOfMemory` where an allocation failed.
 pub fn chosen_part(alloc: Global, text: &str, level: EcLevel, limit: usize) -> QrResult<Choice>

@@ -100,7 +100,7 @@ fn drawn_piece(
 }
 
 /// Returns the smallest symbol of a part of a text after its header, in the versions up to a
-/// greatest one. It fails with `DataTooLong` exactly where nothing that is read as the part fits
+/// greatest one. It fails with `DataTooLong` only where nothing that is read as the part fits
 /// any of them after a header, and with `OutOfMemory`.
 pub(crate) fn part_symbol(
     alloc: Global,

@@ -37,7 +37,7 @@ use std::alloc::Global;
 ///
 /// It fails with `InvalidResourceLimits` if `max_version` is outside 1 to 40. Then it fails with
 /// `InvalidStructuredAppend` if the number of parts is not 2 to 16; the error holds that number, at
-/// most 255. Then it fails with `DataTooLong` exactly where nothing that is read as some part fits
+/// most 255. Then it fails with `DataTooLong` only where nothing that is read as some part fits
 /// any of the versions, and with `OutOfMemory` where an allocation failed. A call that fails
 /// returns no symbol.
 pub fn smallest_text_sequence(

@@ -28,7 +28,7 @@ pub struct Choice {
 /// Returns the least plan of a text in the smallest Normal version from a least one up to a
 /// greatest one in which it fits.
 ///
-/// It fails with `DataTooLong` exactly where nothing fits any of them, and with `OutOfMemory`.
+/// It fails with `DataTooLong` only where nothing fits any of them, and with `OutOfMemory`.
 pub fn chosen_plan(
     alloc: Global,
     text: &str,
@@ -92,7 +92,7 @@ fn fitting_micro(
 /// Returns the least plan of a text in the smallest of M1 to M4 that has the level and in which
 /// it fits.
 ///
-/// It fails with `DataTooLong` exactly where nothing fits any of them, and with `OutOfMemory`.
+/// It fails with `DataTooLong` only where nothing fits any of them, and with `OutOfMemory`.
 pub fn chosen_micro(alloc: Global, text: &str, level: EcLevel) -> QrResult<Choice>
     ensures chosen { IfOk result (λ choice.
         IsMicroChoice (chars text.now) level choice.number (plan_parts choice.plan)) }

@@ -36,8 +36,8 @@ const MOST_CHARACTERS: usize = 38;
 /// # Errors
 ///
 /// It fails with `Symbol(InvalidVersion)` and `Micro(4)` for level H, which no Micro version has;
-/// then with `Unwritable` exactly where no Micro symbol is read as the text; then with
-/// `Symbol(DataTooLong)` exactly where nothing fits any of the versions; more than 38 characters
+/// then with `Unwritable` only where no Micro symbol is read as the text; then with
+/// `Symbol(DataTooLong)` only where nothing fits any of the versions; more than 38 characters
 /// fail without an allocation. It fails with `Symbol(OutOfMemory)` where an allocation failed.
 pub fn micro_text(alloc: Global, text: &str, level: EcLevel) -> Result<Symbol, MicroTextError>
     ensures smallest { IfOk result (λ symbol.

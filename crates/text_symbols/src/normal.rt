@@ -33,7 +33,7 @@ pub fn char_count(text: &str) -> usize
 /// # Errors
 ///
 /// It fails with `InvalidResourceLimits` for versions that `SymbolOptions::validate` rejects, then
-/// with `DataTooLong` exactly where nothing that is read as the text fits the greatest version;
+/// with `DataTooLong` only where nothing that is read as the text fits the greatest version;
 /// more than 7089 characters fail without an allocation. It fails with `OutOfMemory` where an
 /// allocation failed.
 pub fn smallest_text(alloc: Global, text: &str, options: &SymbolOptions) -> QrResult<Symbol>

@@ -6,8 +6,8 @@
 //! 27 to 40, so that the plan for the last version of a class is that of the class.
 #![tactic(auto)]
 
-ghost use Rattle.std.specs.Prelude.{◌≡◌, ◌-◌, ◌≤◌, ◌↔◌, nat_abs, IfNone, IfOk, IfSome, IsOk, IsOkUnless};
-ghost use Rattle.std.specs.Prelude.{IsTrue};
+ghost use Rattle.std.specs.Prelude.{◌≡◌, ◌-◌, ◌≤◌, ◌↔◌, ◌⊎◌, nat_abs, IfNone, IfOk, IfSome, IsOk};
+ghost use Rattle.std.specs.Prelude.{IsOkUnless, IsTrue};
 ghost use Rattle.qrcode_base.specs.declared.types.errors.QrError.TheVariants.{InvalidResourceLimits};
 ghost use Rattle.qrcode_bits.specs.Plans.{IsClass};
 ghost use Rattle.qrcode_core.specs.Options.{HasVersions};
@@ -26,6 +26,7 @@ pub fn last_of_class(first: usize, limit: usize) -> usize
     ensures class { IsClass (first - 1) result }
     ensures from { first ≤ result }
     ensures to { result ≤ limit }
+    ensures last { (result ≡ limit) ⊎ ((result ≡ 9) ⊎ (result ≡ 26)) }
 {
     let end = if first <= 9 {
         9

@@ -8,25 +8,6 @@ use mir.Syntax.{w16}
 use Rattle.qrcode_core.proofs.Sequences.{one_more, best_symbols, none_too_long, refused_part}
 use Rattle.qrcode_core.proofs.symbol.sequence.symbols_of.Goals as goal
 
-pub returns-in_err-symbol-clause-refusal : goal.returns-in_err-symbol-clause-refusal
-returns-in_err-symbol-clause-refusal c =
-    let same = to_z-of_z w16 c.args.max_version c.ranges.max_version in
-    let limit = rw same at c.in_ok-total.ensures.limit in
-    let part = rw c.from.ensures at c.part_at-part.ensures in
-    let front = c.with_header-front.ensures ∙ ap (λ (h : Header). front_of (Some h) c.args.content)
-    (c.new-header.ensures ∙ ap (λ (p : ℕ). header_of (c.loop-index.index + 1) c.in_ok-total.total p) c.parity_of-parity.ensures) in
-    let few = rw (← c.in_ok-total.ensures.total) at c.in_ok-total.ensures.few in
-    let refused = refused_part c.args.content c.args.bytes.now c.args.cuts.now c.args.level c.args.max_version c.in_ok-total.total c.loop-index.index
-    _ c.in_err-symbol.field-0.0 limit few c.in_ok-total.ensures.total (omega arith) (rw (part, same, front) at c.in_err-symbol.ensures.refusal) in
-    grind (arith, common_steps, refused)
-
-pub returns-in_err-push-clause-refusal : goal.returns-in_err-push-clause-refusal
-returns-in_err-push-clause-refusal c =
-    let same = to_z-of_z w16 c.args.max_version c.ranges.max_version in
-    let limit = rw same at c.in_ok-total.ensures.limit in
-    let few = c.in_ok-total.ensures.few in
-    grind (arith, limit, few, c.in_err-push.ensures)
-
 pub loop-index-preserved : goal.loop-index-preserved
 loop-index-preserved c =
     let bytes = c.args.bytes.now in
@@ -45,6 +26,25 @@ loop-index-preserved c =
       reading = rw c.in_ok-push.ensures.items
           (All-push TellsReading before c.in_ok-symbol.field-0 c.loop-index.invariant.reading c.in_ok-symbol.ensures.reading);
     }
+
+pub returns-in_err-symbol-clause-refusal : goal.returns-in_err-symbol-clause-refusal
+returns-in_err-symbol-clause-refusal c =
+    let same = to_z-of_z w16 c.args.max_version c.ranges.max_version in
+    let limit = rw same at c.in_ok-total.ensures.limit in
+    let part = rw c.from.ensures at c.part_at-part.ensures in
+    let front = c.with_header-front.ensures ∙ ap (λ (h : Header). front_of (Some h) c.args.content)
+    (c.new-header.ensures ∙ ap (λ (p : ℕ). header_of (c.loop-index.index + 1) c.in_ok-total.total p) c.parity_of-parity.ensures) in
+    let few = rw (← c.in_ok-total.ensures.total) at c.in_ok-total.ensures.few in
+    let refused = refused_part c.args.content c.args.bytes.now c.args.cuts.now c.args.level c.args.max_version c.in_ok-total.total c.loop-index.index
+    _ c.in_err-symbol.field-0.0 limit few c.in_ok-total.ensures.total (omega arith) (rw (part, same, front) at c.in_err-symbol.ensures.refusal) in
+    grind (arith, common_steps, refused)
+
+pub returns-in_err-push-clause-refusal : goal.returns-in_err-push-clause-refusal
+returns-in_err-push-clause-refusal c =
+    let same = to_z-of_z w16 c.args.max_version c.ranges.max_version in
+    let limit = rw same at c.in_ok-total.ensures.limit in
+    let few = c.in_ok-total.ensures.few in
+    grind (arith, limit, few, c.in_err-push.ensures)
 
 pub returns-clause-best : goal.returns-clause-best
 returns-clause-best c =
