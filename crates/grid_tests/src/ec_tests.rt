@@ -171,6 +171,36 @@ fn raises_two(rt: HostRuntime) {
     }
 }
 
+/// The generators of 9 and of 11 correction bytes without their first coefficients, by the rule of
+/// ISO/IEC 18004:2006 (error correction codeword generation): no block of a symbol has as many. The
+/// last root of the first is 2^8, and in the products of the second powers add up to 2^255.
+static MULTIPLIED_OUT: [&[u8]; 2] = [
+    &[0xE2, 0xCF, 0x9E, 0xF5, 0xEB, 0xA4, 0xE8, 0xC5, 0x25],
+    &[
+        0xAC, 0x82, 0xA3, 0x32, 0x7B, 0xDB, 0xA2, 0xF8, 0x90, 0x74, 0xA0,
+    ],
+];
+
+/// Returns the value of x^9 and a remainder of it at 2^8 in the field, by doubling.
+fn value_at_last_root(remainder: &[u8]) -> u8 {
+    let mut value = 1u8;
+    for coefficient in remainder {
+        for _ in 0..8 {
+            value = double(value);
+        }
+        value ^= coefficient;
+    }
+    value
+}
+
+#[test]
+fn multiplies_generators_out(rt: HostRuntime) {
+    for want in MULTIPLIED_OUT {
+        assert!(rt; has_code(rt.alloc(), &[1], want));
+    }
+    assert_eq!(rt; value_at_last_root(MULTIPLIED_OUT[0]), 0);
+}
+
 /// Returns the error of some data, if there is one.
 fn refusal(alloc: Global, data: &[u8], version: Version, level: EcLevel) -> Option<QrError> {
     construct_codewords(alloc, data, version, level).err()

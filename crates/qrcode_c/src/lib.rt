@@ -43,25 +43,17 @@ pub use without_kanji::qrcode_c_bytes_without_kanji;
 mod asking;
 mod cuts;
 mod drawing;
-#[cfg(test)]
-mod element_tests;
 mod elements;
 mod faults;
 mod linked;
 mod options;
 mod picture;
 mod refusal;
-#[cfg(test)]
-mod refused_growth;
 mod sequences;
 mod settings;
 mod shape;
 mod smallest;
 mod spread;
-#[cfg(test)]
-mod tests;
-#[cfg(test)]
-mod text_tests;
 mod texts;
 mod without_kanji;
 mod written;

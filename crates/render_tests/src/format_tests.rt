@@ -229,6 +229,12 @@ fn tests_settings(rt: HostRuntime) {
         ..dpi
     };
     assert!(rt; rejects(alloc, Format::Png, &both, Setting::Dpi));
+}
+
+#[test]
+fn tests_sizes_and_titles(rt: HostRuntime) {
+    let alloc = rt.alloc();
+    let none = Settings::default();
     let thin = Settings {
         module_mm: Some(4),
         ..none
@@ -252,30 +258,32 @@ fn tests_settings(rt: HostRuntime) {
     assert!(rt; DrawOptions::new(alloc, Format::Terminal, &inverted).is_ok());
 }
 
+/// Settings of which each is wrong for a portable bitmap.
+const WRONG: Settings = Settings {
+    scale: Some(0),
+    quiet: Some(17),
+    module_mm: Some(4),
+    dpi: Some(49),
+    inverted: true,
+    title: Some("a"),
+    caption: Some("a"),
+    at: Some((0, 0)),
+    copies: Some(0),
+    compressed: true,
+    feed: Some(256),
+    cut: true,
+    colors: NO_COLORS,
+    any_colors: true,
+};
+
 /// Of two wrong settings the one that comes first in `Settings` is named.
 #[test]
 fn names_the_first_setting(rt: HostRuntime) {
     let alloc = rt.alloc();
-    let many = Settings {
-        scale: Some(0),
-        quiet: Some(17),
-        module_mm: Some(4),
-        dpi: Some(49),
-        inverted: true,
-        title: Some("a"),
-        caption: Some("a"),
-        at: Some((0, 0)),
-        copies: Some(0),
-        compressed: true,
-        feed: Some(256),
-        cut: true,
-        colors: NO_COLORS,
-        any_colors: true,
-    };
-    assert!(rt; rejects(alloc, Format::Pbm, &many, Setting::Scale));
+    assert!(rt; rejects(alloc, Format::Pbm, &WRONG, Setting::Scale));
     let many = Settings {
         scale: None,
-        ..many
+        ..WRONG
     };
     assert!(rt; rejects(alloc, Format::Pbm, &many, Setting::Quiet));
     let many = Settings {
@@ -295,9 +303,21 @@ fn names_the_first_setting(rt: HostRuntime) {
         ..many
     };
     assert!(rt; rejects(alloc, Format::Pbm, &many, Setting::Caption));
+}
+
+/// The settings of labels come after those of pictures.
+#[test]
+fn names_the_first_setting_of_labels(rt: HostRuntime) {
+    let alloc = rt.alloc();
     let many = Settings {
+        scale: None,
+        quiet: None,
+        module_mm: None,
+        dpi: None,
+        inverted: false,
+        title: None,
         caption: None,
-        ..many
+        ..WRONG
     };
     assert!(rt; rejects(alloc, Format::Pbm, &many, Setting::At));
     let many = Settings { at: None, ..many };

@@ -127,7 +127,12 @@ fn draws_text(rt: HostRuntime) {
             "█▀█▀█\n█▄▄██\n".as_bytes()
         )
     );
+}
 
+#[test]
+fn draws_text_of_odd_rows_and_larger_modules(rt: HostRuntime) {
+    let alloc = rt.alloc();
+    let inverted = [("quiet", "1"), ("inverted", "true")];
     // Three rows, and a light row below them.
     assert!(rt;
         draws(
