@@ -161,22 +161,23 @@ def name_of_proof(path):
 
 
 def goals_in(said, texts):
-    """The goals that a check leaves open, in its order."""
+    """The goals that a check leaves open, in its order. One that is told by the call or the tactic
+    with its own name in brackets comes by both names, its own first."""
     false = {(name_of_proof(path), name) for name, path in MAY_BE_FALSE.findall(said)}
     found = []
     for path, line, words in PLACE.findall(said):
-        name = re.search(r"`([^`]+)`", words)
+        names = [*re.findall(r"\(`([^`]+)`\)", words)[:1], *re.findall(r"`([^`]+)`", words)[:1]]
         is_open = words.startswith("error: ") or path.startswith("src/")
-        if not name or not is_open or GONE.match(f"{path}: {words}"):
+        if not names or not is_open or GONE.match(f"{path}: {words}"):
             continue
         if path.startswith("src/"):
             function = function_of_line(texts.get(path, ""), int(line))
         else:
             function = name_of_proof(path)
         said_of_it = ANSWER if path.startswith("proofs/") else SEARCHED
-        if ALLOWED in words or (function, name[1]) in false:
+        if ALLOWED in words or any((function, it) in false for it in names):
             said_of_it = FALSE
-        found.append(Goal(function, name[1], said_of_it))
+        found += [Goal(function, it, said_of_it) for it in dict.fromkeys(names)]
     return found
 
 
