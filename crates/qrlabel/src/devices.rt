@@ -2,7 +2,8 @@
 //!
 //! Which file has a name no contract can say: `run` has the contract, for the devices that it
 //! is given.
-ghost use Rattle.std.specs.Prelude.{◌≡◌, IsFalse};
+ghost use Rattle.std.specs.Prelude.{◌≡◌, ◌⊎◌, IsFalse};
+ghost use Rattle.labels.specs.declared.runs.TheConstants.{LEFT_OUT};
 
 use crate::folder::Folder;
 use crate::progress::Counting;
@@ -18,7 +19,15 @@ use std::io::{BufReader, ErrorKind, IsTerminal, Read, Stderr};
 pub fn run_on_devices<E: Sink>(rt: &HostRuntime, values: &Values, errors: &mut E) -> u8
     requires sound { IsFalse (E.state errors.old).failed }
 {
-    match run_command(rt, values, errors) {
+    exit_status(run_command(rt, values, errors))
+}
+
+/// Returns the exit status of the process: 1 if lines were left out, else the status of `run`.
+fn exit_status(status: u8) -> u8
+    ensures left_out { status ≡ LEFT_OUT → result ≡ 1 }
+    ensures same { (status ≡ LEFT_OUT → ⊥) → result ≡ status }
+{
+    match status {
         LEFT_OUT => 1,
         status => status,
     }
@@ -152,10 +161,27 @@ fn into_file<E: Sink>(rt: &HostRuntime, values: &Values, path: &str, errors: &mu
         let mut writer = counting(rt, FromWriter::new(whole.file()), false);
         from_input(rt, values, false, &mut writer, errors)
     };
+    close(whole, status, path, errors)
+}
+
+/// Ends a file after the status of `run`, and returns that status, or that of an error of the file.
+fn close<E: Sink>(whole: WholeFile, status: u8, path: &str, errors: &mut E) -> u8
+    ensures kept { (status ≡ 0 → ⊥) → (status ≡ LEFT_OUT → ⊥) → result ≡ status }
+    ensures done { result ≡ 0 → status ≡ 0 }
+{
     if status != 0 && status != LEFT_OUT {
         whole.discard();
         return status;
     }
+    finish(whole, status, path, errors)
+}
+
+/// Gives a file that is whole its name, and returns the status, or that of an error. No file gets
+/// its name after another status.
+fn finish<E: Sink>(whole: WholeFile, status: u8, path: &str, errors: &mut E) -> u8
+    requires whole { (status ≡ 0) ⊎ (status ≡ LEFT_OUT) }
+    ensures done { result ≡ 0 → status ≡ 0 }
+{
     match whole.finish() {
         Ok(()) => status,
         Err(_) if errors.failed() => 1,
