@@ -53,7 +53,7 @@ fn replaces_a_file(rt: HostRuntime) -> Result<(), Fail> {
     let path = go_to_new_folder(&rt, "replaces_a_file")?;
     assert_eq!(rt; put_file(&rt, "folder/new.txt", "drawer", b"first"), Ok(()));
     assert!(rt; has(&rt, "folder/new.txt", b"first"));
-    for bits in [0o600, 0o644, 0o755, 0o440] {
+    for bits in [0o600, 0o644, 0o755, 0o640] {
         fs::set_permissions(&rt, "folder/new.txt", fs::Permissions::from_mode(bits))?;
         assert_eq!(rt; put_file(&rt, "folder/new.txt", "drawer", b"next"), Ok(()));
         assert_eq!(rt; mode(&rt, "folder/new.txt"), Some(bits));

@@ -43,11 +43,12 @@ impl<'a> WholeFile<'a> {
     ///
     /// The part is `PROGRAM-PROCESS-N.part` in the folder of the file, and is new. If it replaces a
     /// file, it has its owner, its group and its permissions, as far as the system allows that.
-    /// Where the folder takes no part, a file that is there is written in place. What is not a
-    /// regular file, such as a device or a pipe, is written as it is.
+    /// A file that has other names (hard links), or whose folder takes no part, is written in place.
+    /// What is not a regular file, such as a device or a pipe, is written as it is, and so is an
+    /// open file by a name of its descriptor, such as `/dev/fd/3`, from its end on.
     ///
-    /// It fails with the reason that the system gives, with `AlreadyExists` after 100 names for the
-    /// part, and with `OutOfMemory`.
+    /// It fails with the reason that the system gives, as where a file is read-only, with
+    /// `AlreadyExists` after 100 names for the part, and with `OutOfMemory`.
     pub fn create(
         rt: &'a HostRuntime,
         path: &str,
@@ -61,12 +62,13 @@ impl<'a> WholeFile<'a> {
         &self.file
     }
 
-    /// Gives the file its new content. It fails with the reason that the system gives. Then the
-    /// file has the content that it had, unless it was written in place. No part is left.
+    /// Gives the file its new content, once the system has stored it. It fails with the reason that
+    /// the system gives. Then the file has the content that it had, unless it was written in place.
+    /// No part is left.
     pub fn finish(self) -> Result<(), ErrorKind> {
         let WholeFile { rt, file, place } = self;
         let result = match &place {
-            Place::Part { part, name } => rename(rt, part, name),
+            Place::Part { part, name } => store(rt, &file, part, name),
             Place::File => end_here(&file),
             Place::Device => Ok(()),
         };
@@ -111,8 +113,13 @@ fn fill(file: &File, content: &[u8]) -> io::Result<()> {
     writer.write_all(content)
 }
 
-/// Begins to write a device as it is, and a file or a new file whole.
+/// Begins to write a device or what is open already as it is, and a file or a new file whole.
 fn create<'a>(rt: &'a HostRuntime, path: &str, program: &str) -> io::Result<WholeFile<'a>> {
+    if is_descriptor(path) {
+        let file = File::options().append(true).open(rt, path)?;
+        let place = Place::Device;
+        return Ok(WholeFile { rt, file, place });
+    }
     let (file, place) = match fs::metadata(rt, path) {
         Ok(found) if found.is_file() => begin_replacing(rt, path, program, &found)?,
         Ok(_) => (open(rt, path)?, Place::Device),
@@ -126,20 +133,29 @@ fn create<'a>(rt: &'a HostRuntime, path: &str, program: &str) -> io::Result<Whol
     Ok(WholeFile { rt, file, place })
 }
 
-/// Begins to write a file that is there: to a part, or in place where there can be none.
+/// Whether a name is that of a descriptor, by which the system opens what it is open on.
+fn is_descriptor(path: &str) -> bool {
+    matches!(path, "/dev/stdin" | "/dev/stdout" | "/dev/stderr")
+        || path.starts_with("/dev/fd/")
+        || path.starts_with("/proc/self/fd/")
+}
+
+/// Begins to write a file that is there and can be written: to a part, or in place where it has
+/// other names, or there can be no part.
 fn begin_replacing(
     rt: &HostRuntime,
     path: &str,
     program: &str,
     old: &Metadata,
 ) -> io::Result<(File, Place)> {
+    let file = open(rt, path)?;
+    if old.nlink() > 1 {
+        return Ok((file, Place::File));
+    }
     match create_part_like(rt, path, program, old) {
         Ok(begun) => Ok(begun),
         Err(error) if is_final(error.kind()) => Err(error),
-        Err(error) => match open(rt, path) {
-            Ok(file) => Ok((file, Place::File)),
-            Err(_) => Err(error),
-        },
+        Err(_) => Ok((file, Place::File)),
     }
 }
 
@@ -248,6 +264,17 @@ fn part_path(
 {
     let part = format!(in alloc; "{program}-{process}-{n}.part")?;
     name.with_file_name(alloc, part.as_str())
+}
+
+/// Gives a part the name when the system has stored its content. If it can't, the part goes.
+fn store(rt: &HostRuntime, file: &File, part: &PathBuf, name: &PathBuf) -> io::Result<()> {
+    match file.sync_all() {
+        Ok(()) => rename(rt, part, name),
+        Err(error) => {
+            let _ = fs::remove_file(rt, part);
+            Err(error)
+        }
+    }
 }
 
 /// Gives a part the name. Where the system does not allow that, as for a file of its own mount, the

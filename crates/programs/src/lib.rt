@@ -24,6 +24,7 @@ use std::alloc::{AllocError, Global};
 use std::io::ErrorKind;
 use std::{env, fmt};
 
+mod descriptors;
 mod devices;
 mod files;
 mod lines;
@@ -31,6 +32,7 @@ mod reasons;
 mod reports;
 mod runs;
 
+pub use descriptors::held_descriptors;
 pub use devices::{FromReader, FromWriter, Sink, Source};
 pub use files::{WholeFile, put_file};
 pub use lines::{read_line, skip_line};

@@ -44,7 +44,7 @@ fn run_command<E: Sink>(rt: &HostRuntime, values: &Values, errors: &mut E) -> u8
         (Err(misuse), _) => misused(errors, misuse),
         (Ok(Command::Label(label)), Some(path)) => match label.portion {
             Portion::Whole | Portion::Lines | Portion::Split => {
-                into_file(rt, values, path, errors)
+                into_named(rt, values, path, &mut writer, errors)
             }
             Portion::Files(_) | Portion::Parts(_) => {
                 from_input(rt, values, on_terminal, &mut writer, errors)
@@ -146,6 +146,30 @@ fn run_from<R: Source, W: Sink, E: Sink>(
         &mut files,
         errors,
     )
+}
+
+/// Draws into what a name stands for: an output of the process, which is written from where it is,
+/// or a file.
+fn into_named<W: Sink, E: Sink>(
+    rt: &HostRuntime,
+    values: &Values,
+    path: &str,
+    stdout: &mut W,
+    errors: &mut E,
+) -> u8
+    requires stdout_sound { IsFalse (W.state stdout.old).failed }
+    requires errors_sound { IsFalse (E.state errors.old).failed }
+{
+    match path {
+        "/dev/stdout" | "/dev/fd/1" | "/proc/self/fd/1" => {
+            from_input(rt, values, false, stdout, errors)
+        }
+        "/dev/stderr" | "/dev/fd/2" | "/proc/self/fd/2" => {
+            let mut stderr = counting(rt, FromWriter::new(rt.stderr()), true);
+            from_input(rt, values, false, &mut stderr, errors)
+        }
+        _ => into_file(rt, values, path, errors),
+    }
 }
 
 /// Draws into a file, which has the label when it is whole. What is not a regular file is written
