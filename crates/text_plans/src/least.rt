@@ -44,8 +44,7 @@ fn facts_of_all(alloc: Global, chars: &[char]) -> Result<Vec<Facts>, AllocError>
     Ok(all)
 }
 
-/// Returns the rules with the lesser least weight of a text, and that weight; the first if they are
-/// the same.
+/// Returns the rules with the lesser least weight of a text, and that weight.
 fn lighter(first: (Rules, u32), second: (Rules, u32)) -> (Rules, u32)
     ensures less { result.1 ≤ first.1 }
     ensures also { result.1 ≤ second.1 }

@@ -72,8 +72,8 @@ fn begin_one(allowed: bool, header: u32, bits: u64, rest: u32) -> u32
     weight_if(allowed, u64::from(header) + (BIT * bits + u64::from(rest)))
 }
 
-/// Returns the least weight of what follows if a character begins a segment in a lane, and the mode
-/// of that segment: the first of those with that weight.
+/// Returns the least weight of what follows if a character begins a segment in a lane, and a mode
+/// of such a segment.
 #[tactic(auto, unfolding(crate::specs::Search::begin_least))]
 pub fn begin(rules: &Rules, facts: &Facts, lane: usize, rest: &Rest) -> (u32, Mode)
     requires { lane < 19 }
