@@ -467,6 +467,8 @@ static void test_words(void) {
         [SICKLESPAN_MISSING_ELEMENT] = "an element that has to stand beside it is missing",
         [SICKLESPAN_CONFLICTING_ELEMENT] = "an element may not stand beside another one",
         [SICKLESPAN_UNWRITABLE_TEXT] = "no Micro symbol is read as the text",
+        [SICKLESPAN_UNSUPPORTED_PROCESSOR] =
+            "the processor lacks x86-64-v2, which the library needs",
         "unknown status",
     };
     for (int32_t status = 0; status < (int32_t)(sizeof texts / sizeof *texts); status++) {
@@ -536,7 +538,7 @@ static void (*const tests[])(void) = {
     test_allocations, test_asked_pointers, test_asked_overlaps, test_options, test_contents,
     test_micro, test_asked_allocations, test_cuts, test_sequence, test_text_cuts,
     test_text_sequence, test_picture_room, test_picture_pointers, test_settings,
-    test_picture_allocations, test_check, test_check_pointers, test_check_memory,
+    test_picture_allocations, test_check, test_check_long, test_check_pointers, test_check_memory,
     test_wrong_setting, test_quiet_zones, test_auto, test_table, test_faults, test_reasons,
     test_links, test_link_pointers, test_smallest_text, test_micro_text, test_text_allocations,
     test_without_kanji, test_without_kanji_allocations, test_worked_symbols, test_worked_options,
