@@ -1,11 +1,20 @@
 /* SPDX-License-Identifier: MIT OR Apache-2.0 */
 /*
  * The border: what C can pass and a slice of Rattle cannot be (null, too long, overlapping) is
- * refused here, and the texts of the statuses stand here. What sicklespan_auto chooses, and what
- * sicklespan_check and sicklespan_wrong_setting find, is found here by calls of the proved functions
- * of crates/qrcode_c, which do all else.
+ * refused here, so is a processor that the proved functions cannot run on, and the texts of the
+ * statuses stand here. What sicklespan_auto chooses, and what sicklespan_check and
+ * sicklespan_wrong_setting find, is found here by calls of the proved functions of crates/qrcode_c,
+ * which do all else.
  */
 #include "sicklespan.h"
+
+#include <stdatomic.h>
+
+/* A test says here what another processor has. */
+#ifndef SICKLESPAN_CPUID
+#include <cpuid.h>
+#define SICKLESPAN_CPUID __get_cpuid
+#endif
 
 int32_t qrcode_c_symbol(const uint8_t *bytes, size_t length, int32_t level, uint8_t *modules,
                         size_t room, sicklespan_shape *shape);
@@ -63,6 +72,29 @@ int32_t qrcode_c_picture(const uint8_t *modules, size_t size, size_t width, int3
 size_t qrcode_c_greatest_size(void);
 int32_t qrcode_c_version_of_width(size_t width);
 
+/* Whether the processor has all of x86-64-v2, for which the proved functions are compiled. */
+static bool has_v2(void) {
+    /* SSE3, SSSE3, CMPXCHG16B, SSE4.1, SSE4.2 and POPCNT; LAHF and SAHF. */
+    const unsigned basic = 1u | 1u << 9 | 1u << 13 | 1u << 19 | 1u << 20 | 1u << 23, extended = 1;
+    unsigned a = 0, b = 0, c = 0, d = 0;
+    if (!SICKLESPAN_CPUID(1, &a, &b, &c, &d) || (c & basic) != basic) return false;
+    return SICKLESPAN_CPUID(0x80000001, &a, &b, &c, &d) && (c & extended) == extended;
+}
+
+enum { NOT_ASKED, IS_SUPPORTED, IS_UNSUPPORTED };
+static atomic_int processor = NOT_ASKED;
+
+/* Whether no proved function may be called. The processor is asked once; threads that ask at the
+ * same time find the same. */
+static bool is_unsupported(void) {
+    int found = atomic_load_explicit(&processor, memory_order_relaxed);
+    if (found == NOT_ASKED) {
+        found = has_v2() ? IS_SUPPORTED : IS_UNSUPPORTED;
+        atomic_store_explicit(&processor, found, memory_order_relaxed);
+    }
+    return found == IS_UNSUPPORTED;
+}
+
 /* A part of the caller's memory. */
 struct span {
     const void *at;
@@ -94,6 +126,7 @@ typedef int32_t draw(const uint8_t *, size_t, int32_t, uint8_t *, size_t, sickle
 
 static int32_t drawn(draw *by, const uint8_t *bytes, size_t length, int32_t level, uint8_t *modules,
                      size_t room, sicklespan_shape *shape) {
+    if (is_unsupported()) return SICKLESPAN_UNSUPPORTED_PROCESSOR;
     room = least(room, SICKLESPAN_MAX_SIZE);
     struct span none = {NULL, 0}, input = {bytes, length};
     struct span output = {modules, room}, about = {shape, sizeof *shape};
@@ -131,6 +164,7 @@ typedef int32_t draw_asked(const uint8_t *, size_t, const sicklespan_options *, 
 static int32_t asked(draw_asked *by, const void *data, size_t length,
                      const sicklespan_options *options, uint8_t *modules, size_t room,
                      sicklespan_shape *shape) {
+    if (is_unsupported()) return SICKLESPAN_UNSUPPORTED_PROCESSOR;
     room = least(room, SICKLESPAN_MAX_SIZE);
     if (options == NULL) options = &usual;
     struct span input = {data, length}, asks = {options, sizeof *options};
@@ -242,6 +276,7 @@ static const struct element_fault no_place = {0, 0, -1, 0};
 static const uint8_t *text_at(const void *text) { return text != NULL ? text : &nowhere; }
 
 int32_t sicklespan_gs1_fault(const char *text, size_t length, sicklespan_fault *fault) {
+    if (is_unsupported()) return SICKLESPAN_UNSUPPORTED_PROCESSOR;
     struct span input = {text, length}, none = {NULL, 0}, place = {fault, sizeof *fault};
     if (!are_good(input, none, none, place)) return SICKLESPAN_INVALID_POINTER;
     struct element_fault found = no_place;
@@ -252,6 +287,7 @@ int32_t sicklespan_gs1_fault(const char *text, size_t length, sicklespan_fault *
 int32_t sicklespan_link(const char *text, size_t length, const char *domain, size_t domain_length,
                         const sicklespan_options *options, uint8_t *modules, size_t room,
                         sicklespan_shape *shape) {
+    if (is_unsupported()) return SICKLESPAN_UNSUPPORTED_PROCESSOR;
     if (options == NULL) options = &usual;
     room = least(room, SICKLESPAN_MAX_SIZE);
     struct span input = {text, length}, host = {domain, domain_length};
@@ -266,6 +302,7 @@ int32_t sicklespan_link(const char *text, size_t length, const char *domain, siz
 
 int32_t sicklespan_link_text(const char *text, size_t length, const char *domain,
                              size_t domain_length, char *link, size_t room, size_t *size) {
+    if (is_unsupported()) return SICKLESPAN_UNSUPPORTED_PROCESSOR;
     struct span input = {text, length}, host = {domain, domain_length};
     struct span written = {link, room}, number = {size, sizeof *size};
     if (!are_good(input, host, written, number)) return SICKLESPAN_INVALID_POINTER;
@@ -276,6 +313,7 @@ int32_t sicklespan_link_text(const char *text, size_t length, const char *domain
 
 int32_t sicklespan_link_fault(const char *text, size_t length, const char *domain,
                               size_t domain_length, sicklespan_fault *fault) {
+    if (is_unsupported()) return SICKLESPAN_UNSUPPORTED_PROCESSOR;
     struct span input = {text, length}, host = {domain, domain_length};
     struct span none = {NULL, 0}, place = {fault, sizeof *fault};
     if (!are_good(input, host, none, place)) return SICKLESPAN_INVALID_POINTER;
@@ -349,6 +387,7 @@ static bool is_of_data(int32_t status) {
 
 int32_t sicklespan_check(int32_t content, const void *data, size_t length,
                          const sicklespan_options *options, size_t *good) {
+    if (is_unsupported()) return SICKLESPAN_UNSUPPORTED_PROCESSOR;
     if (options == NULL) options = &usual;
     struct span input = {data, length}, asks = {options, sizeof *options};
     struct span none = {NULL, 0}, number = {good, sizeof *good};
@@ -386,6 +425,7 @@ int32_t sicklespan_check(int32_t content, const void *data, size_t length,
 int32_t sicklespan_part_symbol(const void *message, size_t length, const size_t *cuts,
                                size_t cut_count, int32_t level, int32_t max_version, size_t index,
                                uint8_t *modules, size_t room, sicklespan_shape *shape) {
+    if (is_unsupported()) return SICKLESPAN_UNSUPPORTED_PROCESSOR;
     room = least(room, SICKLESPAN_MAX_SIZE);
     if (cut_count > PTRDIFF_MAX / sizeof *cuts) return SICKLESPAN_INVALID_POINTER;
     struct span input = {message, length}, at = {cuts, cut_count * sizeof *cuts};
@@ -404,6 +444,7 @@ typedef int32_t draw_all(const uint8_t *, size_t, const size_t *, size_t, int32_
 static int32_t spread(draw_all *by, const void *message, size_t length, const size_t *cuts,
                       size_t cut_count, int32_t level, int32_t max_version, uint8_t *modules,
                       size_t room, sicklespan_shape *shapes) {
+    if (is_unsupported()) return SICKLESPAN_UNSUPPORTED_PROCESSOR;
     const size_t most = PTRDIFF_MAX / sizeof *cuts;
     if (cut_count > most) return SICKLESPAN_INVALID_POINTER;
     /* With more parts than 16 nothing is written. */
@@ -436,6 +477,7 @@ typedef int32_t find_cuts(const uint8_t *, size_t, int32_t, int32_t, size_t *, s
 
 static int32_t found_cuts(find_cuts *by, const void *message, size_t length, int32_t level,
                           int32_t max_version, size_t *cuts, size_t room, size_t *count) {
+    if (is_unsupported()) return SICKLESPAN_UNSUPPORTED_PROCESSOR;
     const size_t most = least(room, SICKLESPAN_MAX_CUTS);
     struct span input = {message, length}, nothing = {NULL, 0};
     struct span found = {cuts, most * sizeof *cuts}, number = {count, sizeof *count};
@@ -466,6 +508,7 @@ static const sicklespan_settings plain = SICKLESPAN_SETTINGS_INIT;
 int32_t sicklespan_picture(const uint8_t *modules, int32_t width, int32_t format,
                            const sicklespan_settings *settings, void *picture, size_t room,
                            size_t *length) {
+    if (is_unsupported()) return SICKLESPAN_UNSUPPORTED_PROCESSOR;
     /* No symbol is wider, and of another width nothing is read. */
     const size_t side = sicklespan_version_of_width(width) != 0 ? (size_t)width : 0;
     const size_t size = side * side;
@@ -503,11 +546,11 @@ const char *sicklespan_wrong_setting(int32_t format, const sicklespan_settings *
     return NULL;
 }
 
-size_t sicklespan_greatest_size(void) { return qrcode_c_greatest_size(); }
+size_t sicklespan_greatest_size(void) { return is_unsupported() ? 0 : qrcode_c_greatest_size(); }
 
 int32_t sicklespan_version_of_width(int32_t width) {
     /* A number below 0 becomes one that is greater than every width. */
-    return qrcode_c_version_of_width((size_t)width);
+    return is_unsupported() ? 0 : qrcode_c_version_of_width((size_t)width);
 }
 
 const char *sicklespan_status_text(int32_t status) {
@@ -548,6 +591,8 @@ const char *sicklespan_status_text(int32_t status) {
     case SICKLESPAN_MISSING_ELEMENT: return "an element that has to stand beside it is missing";
     case SICKLESPAN_CONFLICTING_ELEMENT: return "an element may not stand beside another one";
     case SICKLESPAN_UNWRITABLE_TEXT: return "no Micro symbol is read as the text";
+    case SICKLESPAN_UNSUPPORTED_PROCESSOR:
+        return "the processor lacks x86-64-v2, which the library needs";
     default: return "unknown status";
     }
 }

@@ -6,7 +6,14 @@
  *
  * Each function may be called from several threads at once, on buffers of their own. It keeps
  * nothing: all memory that it takes by malloc is freed when it returns, and the caller owns every
- * buffer that it passes.
+ * buffer that it passes. Since it calls malloc, realloc and free, it is not to be called from a
+ * signal handler, nor from the forked child of a process with threads if malloc is not to be called
+ * there: the malloc of glibc may be. sicklespan_status_text and sicklespan_version may be called
+ * anywhere.
+ *
+ * The library needs a processor with x86-64-v2 (SSE4.2 and POPCNT, as processors have them since
+ * about 2009). On any other, each function that returns a status returns
+ * SICKLESPAN_UNSUPPORTED_PROCESSOR, before any other status, and writes nothing.
  */
 #ifndef SICKLESPAN_H
 #define SICKLESPAN_H
@@ -56,7 +63,7 @@ enum sicklespan_status {
     SICKLESPAN_INVALID_WIDTH = 20,      /* no symbol has the width */
     SICKLESPAN_INVALID_FORMAT = 21,     /* the format is not 0 to 7 */
     SICKLESPAN_INVALID_SETTING = 22,    /* a setting is out of its bounds, or not of the format */
-    SICKLESPAN_INVALID_CONTENT = 23,    /* the content is not 0 to 8 */
+    SICKLESPAN_INVALID_CONTENT = 23,    /* the content is not 0 to 9 */
     SICKLESPAN_WRONG_VALUE = 24,        /* a value is wrong in another way: no such date, say */
     SICKLESPAN_WRONG_DOMAIN = 25,       /* the domain is no host name, with a port or without */
     SICKLESPAN_NO_KEY = 26,             /* no element is the key of a link, as (01) or (00) are */
@@ -64,8 +71,9 @@ enum sicklespan_status {
     SICKLESPAN_WRONG_QUALIFIER = 28,    /* an element qualifies another key than that of the link */
     SICKLESPAN_REPEATED_ELEMENT = 29,   /* an identifier stands twice in a link */
     SICKLESPAN_MISSING_ELEMENT = 30,    /* an element needs one that is not in the link */
-    SICKLESPAN_CONFLICTING_ELEMENT = 31, /* an element may not stand beside another in the link */
-    SICKLESPAN_UNWRITABLE_TEXT = 32      /* no Micro symbol is read as the text */
+    SICKLESPAN_CONFLICTING_ELEMENT = 31,  /* an element may not stand beside another in the link */
+    SICKLESPAN_UNWRITABLE_TEXT = 32,      /* no Micro symbol is read as the text */
+    SICKLESPAN_UNSUPPORTED_PROCESSOR = 33 /* the processor lacks x86-64-v2; see above */
 };
 
 /* What is asked of a symbol beside its data: its level, the versions that it may have, and whether
@@ -433,11 +441,12 @@ int32_t sicklespan_picture(const uint8_t *modules, int32_t width, int32_t format
  */
 const char *sicklespan_wrong_setting(int32_t format, const sicklespan_settings *settings);
 
-/* SICKLESPAN_MAX_SIZE, for callers that do not read this file. */
+/* SICKLESPAN_MAX_SIZE, for callers that do not read this file; 0 on a processor without x86-64-v2.
+ */
 size_t sicklespan_greatest_size(void);
 
 /* The number of the version with this many modules a side: 1 to 40, or 1 to 4 for the widths 11 to
- * 17; else 0. */
+ * 17; else 0, and on a processor without x86-64-v2. */
 int32_t sicklespan_version_of_width(int32_t width);
 
 /* What a status says, in a few words. The text is static, and never null: other numbers are
@@ -448,8 +457,9 @@ const char *sicklespan_status_text(int32_t status);
 const char *sicklespan_version(void);
 
 /*
- * Names of version 0.3, which libsicklespan.so.1 will not have. sicklespan_symbol is sicklespan_bytes
- * with a level, in the versions 1 to 40; sicklespan_micro_symbol is sicklespan_micro.
+ * Names of version 0.3, which libsicklespan.so.1 will not have. sicklespan_symbol is
+ * sicklespan_bytes with a level, in the versions 1 to 40; sicklespan_micro_symbol is
+ * sicklespan_micro.
  */
 #define SICKLESPAN_DONE          SICKLESPAN_OK
 #define SICKLESPAN_GREATEST_SIZE SICKLESPAN_MAX_SIZE

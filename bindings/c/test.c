@@ -467,6 +467,8 @@ static void test_words(void) {
         [SICKLESPAN_MISSING_ELEMENT] = "an element that has to stand beside it is missing",
         [SICKLESPAN_CONFLICTING_ELEMENT] = "an element may not stand beside another one",
         [SICKLESPAN_UNWRITABLE_TEXT] = "no Micro symbol is read as the text",
+        [SICKLESPAN_UNSUPPORTED_PROCESSOR] =
+            "the processor lacks x86-64-v2, which the library needs",
         "unknown status",
     };
     for (int32_t status = 0; status < (int32_t)(sizeof texts / sizeof *texts); status++) {
@@ -528,27 +530,24 @@ static void test_allocations(void) {
 #include "test_gs1.h"
 #include "test_picture.h"
 #include "test_texts.h"
+#include "test_worked.h"
+
+/* clang-format off */
+static void (*const tests[])(void) = {
+    test_pointers, test_overlaps, test_neighbours, test_lengths, test_asks, test_room, test_words,
+    test_allocations, test_asked_pointers, test_asked_overlaps, test_options, test_contents,
+    test_micro, test_asked_allocations, test_cuts, test_sequence, test_text_cuts,
+    test_text_sequence, test_picture_room, test_picture_pointers, test_settings,
+    test_picture_allocations, test_check, test_check_long, test_check_pointers, test_check_memory,
+    test_wrong_setting, test_quiet_zones, test_auto, test_table, test_faults, test_reasons,
+    test_links, test_link_pointers, test_smallest_text, test_micro_text, test_text_allocations,
+    test_without_kanji, test_without_kanji_allocations, test_worked_symbols, test_worked_options,
+    test_worked_elements, test_worked_links, test_worked_sequences, test_worked_lengths,
+    test_worked_texts, test_worked_pictures, test_worked_settings,
+};
+/* clang-format on */
 
 int main(void) {
-    void (*const tests[])(void) = {test_pointers,       test_overlaps,
-                                   test_neighbours,     test_lengths,
-                                   test_asks,           test_room,
-                                   test_words,          test_allocations,
-                                   test_asked_pointers, test_asked_overlaps,
-                                   test_options,        test_contents,
-                                   test_micro,          test_asked_allocations,
-                                   test_cuts,           test_sequence,
-                                   test_text_cuts,      test_text_sequence,
-                                   test_picture_room,   test_picture_pointers,
-                                   test_settings,       test_picture_allocations,
-                                   test_check,          test_check_pointers,
-                                   test_check_memory,   test_wrong_setting,
-                                   test_quiet_zones,    test_auto,
-                                   test_table,          test_faults,
-                                   test_reasons,        test_links,
-                                   test_link_pointers,  test_smallest_text,
-                                   test_micro_text,     test_text_allocations,
-                                   test_without_kanji,  test_without_kanji_allocations};
     int passed = 0, failed = 0;
     /* What a row prints is not lost where the next call ends the program. */
     setbuf(stdout, NULL);

@@ -77,6 +77,13 @@ static void test_check(void) {
 
     /* The first fault, whether the data before it fit or not. */
     EXPECT_GOOD(TEXT, "ab\xff", L, INVALID_TEXT, 2);
+    /* The byte before the text is none of it. */
+    EXPECT(check(SICKLESPAN_CONTENT_TEXT,
+                 "\xf0"
+                 "ab\xff" +
+                     1,
+                 3, NULL) == SICKLESPAN_INVALID_TEXT &&
+           good_bytes == 2);
     EXPECT_GOOD(TEXT, "ab\x80\x80\x80\x80", L, INVALID_TEXT, 2);
     EXPECT_GOOD(TEXT, "\xe3\x81\x93\xe3\x81", L, INVALID_TEXT, 3);
     EXPECT_GOOD(TEXT, "\xf0\x9f\x98\x80\xff", L, INVALID_TEXT, 4);
@@ -100,7 +107,9 @@ static void test_check(void) {
     EXPECT_GOOD(GS1_UNCHECKED, "(10)ABC(21)D(17)261331", L, OK, 22);
     EXPECT_GOOD(GS1_UNCHECKED, "(4399)ABCDEF(21)XYZ", H, DATA_TOO_LONG, 12);
     EXPECT_GOOD(GS1_UNCHECKED, "(4399)ABCDEFGHIJKL(21)X", H, DATA_TOO_LONG, 0);
+}
 
+static void test_check_long(void) {
     static char many[20006];
     memset(many, 'a', 20000);
     EXPECT(check(SICKLESPAN_CONTENT_BYTES, many, 20000, NULL) == SICKLESPAN_DATA_TOO_LONG &&
@@ -108,6 +117,12 @@ static void test_check(void) {
     for (size_t i = 0; i < 20000; i++) many[i] = "(10)A"[i % 5];
     EXPECT(check(SICKLESPAN_CONTENT_GS1, many, 20000, NULL) == SICKLESPAN_DATA_TOO_LONG &&
            good_bytes % 5 == 0 && good_bytes < 16384);
+    /* After FNC1, version 40 holds 7087 digits at L, of which an element takes 4. */
+    const sicklespan_options low = {SICKLESPAN_LEVEL_L, 1, 40, 0};
+    for (size_t i = 0; i < 20000; i++) many[i] = "(20)12"[i % 6];
+    EXPECT(check(SICKLESPAN_CONTENT_GS1_UNCHECKED, many, 19998, &low) == SICKLESPAN_DATA_TOO_LONG &&
+           good_bytes == 7084 / 4 * 6);
+    for (size_t i = 0; i < 20000; i++) many[i] = "(10)A"[i % 5];
     memcpy(many + 20000, "(05)2", 6);
     EXPECT(check(SICKLESPAN_CONTENT_GS1, many, 20005, NULL) == SICKLESPAN_UNKNOWN_IDENTIFIER &&
            good_bytes == 20000);

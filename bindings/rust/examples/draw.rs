@@ -1,9 +1,9 @@
-//! Prints the symbol of a word at level L, `#` dark and `.` light:  draw WORD
+//! Prints the symbol of a text at level L, `#` dark and `.` light:  draw TEXT
 use sicklespan::{Level, Symbol};
 
 fn main() -> Result<(), Box<dyn std::error::Error>> {
-    let word = std::env::args().nth(1).ok_or("usage: draw WORD")?;
-    for row in Symbol::new(word.as_bytes(), Level::L)?.rows() {
+    let text = std::env::args().nth(1).ok_or("usage: draw TEXT")?;
+    for row in Symbol::new(&text, Level::L)?.rows() {
         println!("{}", row.iter().map(|dark| if *dark { '#' } else { '.' }).collect::<String>());
     }
     Ok(())

@@ -120,6 +120,8 @@ pub enum Error {
     MissingElement(Fault),
     /// An element may not stand beside another one of the link.
     ConflictingElement(Fault),
+    /// The processor lacks x86-64-v2, which the library needs.
+    UnsupportedProcessor,
     /// A setting of a picture is out of its bounds, or the format does not have it.
     InvalidSetting {
         /// The name of the setting, which is that of its method in `Settings`.
@@ -156,6 +158,7 @@ impl Error {
             29 => Error::RepeatedElement(fault),
             30 => Error::MissingElement(fault),
             31 => Error::ConflictingElement(fault),
+            33 => Error::UnsupportedProcessor,
             _ => unreachable!("a status that a slice of full size can have"),
         }
     }
@@ -263,6 +266,7 @@ impl Error {
             Error::MissingElement(_) => 30,
             Error::ConflictingElement(_) => 31,
             Error::UnwritableText { .. } => 32,
+            Error::UnsupportedProcessor => 33,
         }
     }
 }

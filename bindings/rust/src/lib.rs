@@ -5,15 +5,20 @@
 //! ```
 //! use sicklespan::{Level, Symbol, Version};
 //!
-//! let symbol = Symbol::new(b"hello", Level::L)?;
+//! let symbol = Symbol::new("Grüße", Level::L)?;
 //! assert_eq!((symbol.width(), symbol.version()), (21, Version::Normal(1)));
 //! println!("{symbol}");
 //! # Ok::<(), sicklespan::Error>(())
 //! ```
+//!
+//! A text is read as it was written, in any script: `Symbol::new` draws it. `Symbol::bytes` is for
+//! data that are no text.
+//!
+//! The crate needs a processor with x86-64-v2 (SSE4.2 and POPCNT, as processors have them since
+//! about 2009): on any other, each call returns `Error::UnsupportedProcessor`. Calls may be made
+//! from several threads at once, and not from a signal handler, since they call `malloc`.
 #![deny(unsafe_code)]
 #![warn(missing_docs)]
-
-use std::fmt;
 
 mod cuts;
 mod error;
@@ -21,6 +26,7 @@ mod ffi;
 mod links;
 mod options;
 mod picture;
+mod terminal;
 
 pub use cuts::{best_cuts, best_text_cuts};
 pub use error::{Error, Fault};
@@ -81,7 +87,7 @@ impl Version {
     }
 }
 
-/// A symbol, which does not change. It is written in half blocks, with its quiet zone.
+/// A symbol, which does not change. `Display` writes it for a terminal.
 #[derive(Clone, Debug, PartialEq, Eq, Hash)]
 pub struct Symbol {
     width: usize,
@@ -92,14 +98,42 @@ pub struct Symbol {
 }
 
 impl Symbol {
+    /// Returns the best symbol of a text at a level, in the smallest of the versions 1 to 40 into
+    /// which it fits: of ASCII that of `bytes`, and of other text that of `smallest_text`. `qrlabel`
+    /// and the package for Python do the same.
+    ///
+    /// ```
+    /// # use sicklespan::{Level, Symbol};
+    /// assert_eq!(Symbol::new("hello", Level::M), Symbol::bytes(b"hello", Level::M));
+    /// assert_eq!(Symbol::new("Grüße", Level::M), Symbol::smallest_text("Grüße", Level::M));
+    /// ```
+    ///
+    /// # Errors
+    ///
+    /// `DataTooLong` only where nothing that is read as the text fits a version at the level;
+    /// `OutOfMemory`.
+    pub fn new(text: &str, level: Level) -> Result<Symbol, Error> {
+        Symbol::auto(text, level)
+    }
+
+    /// Returns what `new` returns, by the name that the call has in C.
+    ///
+    /// # Errors
+    ///
+    /// As `new`.
+    pub fn auto(text: &str, level: Level) -> Result<Symbol, Error> {
+        Symbol::auto_with(text, &Options::new(level))
+    }
+
     /// Returns the best symbol of some bytes at a level, in the smallest of the versions 1 to 40
     /// into which they fit. It does not say which characters they are, and pairs of them go in the
-    /// Kanji mode: where they are UTF-8 beyond ASCII, readers may show other characters.
+    /// Kanji mode: where they are UTF-8 beyond ASCII, readers may show other characters. `new` is
+    /// for a text.
     ///
     /// # Errors
     ///
     /// `DataTooLong` exactly where they fit no version at the level; `OutOfMemory`.
-    pub fn new(bytes: &[u8], level: Level) -> Result<Symbol, Error> {
+    pub fn bytes(bytes: &[u8], level: Level) -> Result<Symbol, Error> {
         Symbol::bytes_with(bytes, &Options::new(level))
     }
 
@@ -109,31 +143,15 @@ impl Symbol {
     /// ```
     /// # use sicklespan::{Level, Symbol};
     /// let bytes = [0x93, 0x5f];
-    /// assert_ne!(Symbol::new(&bytes, Level::M), Symbol::bytes_without_kanji(&bytes, Level::M));
-    /// assert_eq!(Symbol::new(b"ab", Level::M), Symbol::bytes_without_kanji(b"ab", Level::M));
+    /// assert_ne!(Symbol::bytes(&bytes, Level::M), Symbol::bytes_without_kanji(&bytes, Level::M));
+    /// assert_eq!(Symbol::bytes(b"ab", Level::M), Symbol::bytes_without_kanji(b"ab", Level::M));
     /// ```
     ///
     /// # Errors
     ///
-    /// As `new`.
+    /// As `bytes`.
     pub fn bytes_without_kanji(bytes: &[u8], level: Level) -> Result<Symbol, Error> {
         Symbol::bytes_without_kanji_with(bytes, &Options::new(level))
-    }
-
-    /// Returns the best symbol of a text at a level: of ASCII that of `new`, and of other text that
-    /// of `smallest_text`, as `qrlabel` and the package for Python do it.
-    ///
-    /// ```
-    /// # use sicklespan::{Level, Symbol};
-    /// assert_eq!(Symbol::auto("hello", Level::M), Symbol::new(b"hello", Level::M));
-    /// assert_eq!(Symbol::auto("Grüße", Level::M), Symbol::smallest_text("Grüße", Level::M));
-    /// ```
-    ///
-    /// # Errors
-    ///
-    /// As `new`.
-    pub fn auto(text: &str, level: Level) -> Result<Symbol, Error> {
-        Symbol::auto_with(text, &Options::new(level))
     }
 
     /// Returns the smallest symbol of a text at a level: in the modes, and after the ECI
@@ -169,7 +187,7 @@ impl Symbol {
     ///
     /// # Errors
     ///
-    /// As `new`.
+    /// As `bytes`.
     pub fn text(text: &str, level: Level) -> Result<Symbol, Error> {
         Symbol::text_with(text, &Options::new(level))
     }
@@ -180,7 +198,7 @@ impl Symbol {
     /// # Errors
     ///
     /// `InvalidCharacter` if a byte is no character of an element, nor 1D between two; then as
-    /// `new`.
+    /// `bytes`.
     pub fn elements(elements: &[u8], level: Level) -> Result<Symbol, Error> {
         Symbol::elements_with(elements, &Options::new(level))
     }
@@ -205,7 +223,7 @@ impl Symbol {
     /// `NoElements`, else of the first element that has a fault the first of `InvalidIdentifier`,
     /// `UnknownIdentifier` and, of its value from the left, `EmptyValue`, `WrongLength` (it ends
     /// too early), `WrongCharacter`, `WrongCheckDigit`, `WrongValue`, `ValueTooLong`; then as
-    /// `new`.
+    /// `bytes`.
     pub fn gs1(text: &str, level: Level) -> Result<Symbol, Error> {
         Symbol::gs1_with(text, &Options::new(level))
     }
@@ -228,7 +246,7 @@ impl Symbol {
     ///
     /// `NoElements`, else of the first element that has a fault `InvalidIdentifier`,
     /// `UnknownIdentifier`, `EmptyValue`, `ValueTooLong` (more than 90 characters),
-    /// `WrongCharacter`, `WrongLength` or `WrongCheckDigit`; then as `new`.
+    /// `WrongCharacter`, `WrongLength` or `WrongCheckDigit`; then as `bytes`.
     pub fn gs1_unchecked(text: &str, level: Level) -> Result<Symbol, Error> {
         Symbol::gs1_unchecked_with(text, &Options::new(level))
     }
@@ -241,13 +259,13 @@ impl Symbol {
     /// let text = "(17)261231(10)ABC(01)09506000134352";
     /// let link = link_text(text, "id.gs1.org")?;
     /// let symbol = Symbol::link(text, "id.gs1.org", Level::M)?;
-    /// assert_eq!(symbol, Symbol::new(link.as_bytes(), Level::M)?);
+    /// assert_eq!(symbol, Symbol::new(&link, Level::M)?);
     /// # Ok::<(), Error>(())
     /// ```
     ///
     /// # Errors
     ///
-    /// As `link_text`; then as `new`.
+    /// As `link_text`; then as `bytes`.
     pub fn link(text: &str, domain: &str, level: Level) -> Result<Symbol, Error> {
         Symbol::link_with(text, domain, &Options::new(level))
     }
@@ -256,7 +274,7 @@ impl Symbol {
     ///
     /// # Errors
     ///
-    /// `InvalidVersions`; then as `new`, for the versions of the options.
+    /// `InvalidVersions`; then as `bytes`, for the versions of the options.
     pub fn bytes_with(bytes: &[u8], options: &Options) -> Result<Symbol, Error> {
         Symbol::asked(ffi::Content::Bytes, bytes, options)
     }
@@ -487,7 +505,7 @@ impl Symbol {
     ///
     /// ```
     /// # use sicklespan::{Level, Symbol};
-    /// let symbol = Symbol::new(b"hello", Level::L)?;
+    /// let symbol = Symbol::new("hello", Level::L)?;
     /// assert!(symbol.is_dark(20, 0) && !symbol.is_dark(21, 0));
     /// # Ok::<(), sicklespan::Error>(())
     /// ```
@@ -537,27 +555,5 @@ impl Symbol {
             mask: shape.mask as u8,
             modules: modules.iter().map(|byte| *byte == 1).collect(),
         }
-    }
-}
-
-impl fmt::Display for Symbol {
-    /// Two rows a line, dark modules in the colour of the text.
-    fn fmt(&self, f: &mut fmt::Formatter<'_>) -> fmt::Result {
-        let zone = if matches!(self.version, Version::Micro(_)) { 2 } else { 4 };
-        let side = self.width + 2 * zone;
-        // A place in the quiet zone above or to the left is far outside the symbol.
-        let is_dark = |x: usize, y: usize| self.is_dark(x.wrapping_sub(zone), y.wrapping_sub(zone));
-        for y in (0..side).step_by(2) {
-            for x in 0..side {
-                f.write_str(match (is_dark(x, y), is_dark(x, y + 1)) {
-                    (false, false) => " ",
-                    (true, false) => "\u{2580}",
-                    (false, true) => "\u{2584}",
-                    (true, true) => "\u{2588}",
-                })?;
-            }
-            f.write_str("\n")?;
-        }
-        Ok(())
     }
 }

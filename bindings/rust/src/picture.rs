@@ -32,7 +32,7 @@ pub enum Format {
 /// ```
 /// use sicklespan::{Error, Format, Level, Settings, Symbol};
 ///
-/// let symbol = Symbol::new(b"hello", Level::M)?;
+/// let symbol = Symbol::new("hello", Level::M)?;
 /// let label = symbol.picture(Format::Zpl, &Settings::new().scale(4).at(20, 30))?;
 /// assert!(label.starts_with(b"^XA\n^FO20,30^GFA,"));
 /// let error = symbol.picture(Format::Pbm, &Settings::new().dpi(300)).unwrap_err();
@@ -135,7 +135,7 @@ impl Symbol {
     ///
     /// ```
     /// # use sicklespan::{Level, Symbol};
-    /// assert!(Symbol::new(b"hello", Level::M)?.to_svg()?.starts_with("<svg "));
+    /// assert!(Symbol::new("hello", Level::M)?.to_svg()?.starts_with("<svg "));
     /// # Ok::<(), sicklespan::Error>(())
     /// ```
     ///

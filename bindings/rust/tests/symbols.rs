@@ -53,7 +53,7 @@ fn draws_all_versions_and_levels() {
         let mut least = 1;
         for (number, most) in (1..).zip(row) {
             for count in [least, most] {
-                let symbol = Symbol::new(&vec![b'a'; count], level).unwrap();
+                let symbol = Symbol::bytes(&vec![b'a'; count], level).unwrap();
                 let width = 17 + 4 * usize::from(number);
                 assert_eq!(symbol.version(), Version::Normal(number), "{count} bytes at {level:?}");
                 assert_eq!((symbol.width(), symbol.modules().len()), (width, width * width));
@@ -63,7 +63,7 @@ fn draws_all_versions_and_levels() {
             }
             least = most + 1;
         }
-        assert_eq!(Symbol::new(&vec![b'a'; least], level), Err(too_long(1)));
+        assert_eq!(Symbol::bytes(&vec![b'a'; least], level), Err(too_long(1)));
     }
 }
 
@@ -124,10 +124,13 @@ fn draws_smallest_texts() {
     for (text, least, of_utf8) in TEXTS {
         let symbol = Symbol::smallest_text(text, Level::M).unwrap();
         assert_eq!(symbol.version(), Version::Normal(least), "{text}");
+        assert_eq!(Symbol::new(text, Level::M).as_ref(), Ok(&symbol));
+        assert_ne!(Symbol::bytes(text.as_bytes(), Level::M).as_ref(), Ok(&symbol));
         assert_eq!(Symbol::auto(text, Level::M), Ok(symbol));
         let symbol = Symbol::text(text, Level::M).unwrap();
         assert_eq!(symbol.version(), Version::Normal(of_utf8), "{text}");
     }
+    assert_eq!(Symbol::new("hello", Level::M), Symbol::bytes(b"hello", Level::M));
     // Version 1 holds 104 and 72 bits at Q and H, and five Kanji take 77.
     let strongest = Options::new(Level::L).strongest();
     let symbol = Symbol::smallest_text_with(TEXTS[0].0, &strongest).unwrap();
@@ -145,12 +148,12 @@ fn draws_bytes_without_kanji() {
     // before the pairs of the Kanji mode, of 13.
     let pairs = [0x93, 0x5f].repeat(9);
     let version = |symbol: Result<Symbol, Error>| symbol.unwrap().version();
-    assert_eq!(version(Symbol::new(&pairs, Level::L)), Version::Normal(1));
+    assert_eq!(version(Symbol::bytes(&pairs, Level::L)), Version::Normal(1));
     assert_eq!(version(Symbol::bytes_without_kanji(&pairs, Level::L)), Version::Normal(2));
     assert_eq!(version(Symbol::bytes_without_kanji(&pairs[..17], Level::L)), Version::Normal(1));
     for data in ["hello", "0123456789", "é"] {
         let symbol = Symbol::bytes_without_kanji(data.as_bytes(), Level::M);
-        assert_eq!(symbol, Symbol::new(data.as_bytes(), Level::M));
+        assert_eq!(symbol, Symbol::bytes(data.as_bytes(), Level::M));
     }
     let first = Options::new(Level::H).max_version(1);
     assert!(Symbol::bytes_with(&pairs[..8], &first).is_ok());
@@ -218,7 +221,7 @@ fn answers_as_the_original() {
     for answer in answers::answers() {
         let (bytes, level) = (input(answer.kind, answer.count), LEVELS[answer.level]);
         let drawn =
-            if answer.micro { Symbol::micro(&bytes, level) } else { Symbol::new(&bytes, level) };
+            if answer.micro { Symbol::micro(&bytes, level) } else { Symbol::bytes(&bytes, level) };
         let got = match drawn {
             Ok(symbol) => (symbol.modules().len(), hash(symbol.modules())),
             Err(Error::DataTooLong { too_many: Some(_) }) => (1, 0),
@@ -287,7 +290,7 @@ fn draws_as_asked() {
         let bytes = vec![b'a'; count];
         let strongest = Symbol::bytes_with(&bytes, &Options::new(Level::L).strongest()).unwrap();
         assert_eq!((strongest.width(), strongest.level()), (21, level));
-        assert_eq!(Symbol::new(&bytes, level), Ok(strongest));
+        assert_eq!(Symbol::bytes(&bytes, level), Ok(strongest));
         let text = "a".repeat(count);
         assert_eq!(Symbol::text(&text, level).unwrap().version(), Version::Normal(2));
         assert_eq!(Symbol::text(&text[1..], level).unwrap().version(), Version::Normal(1));
@@ -309,7 +312,7 @@ fn draws_elements() {
     let symbol = Symbol::gs1("(10)ABC(01)09506000134352(21)7", Level::Q).unwrap();
     let bytes = b"10ABC\x1d0109506000134352217";
     assert_eq!(Symbol::elements(bytes, Level::Q), Ok(symbol.clone()));
-    assert_ne!(Symbol::new(bytes, Level::Q), Ok(symbol));
+    assert_ne!(Symbol::bytes(bytes, Level::Q), Ok(symbol));
     let options = Options::new(Level::Q).min_version(4);
     assert_eq!(Symbol::elements_with(bytes, &options).unwrap().version(), Version::Normal(4));
     assert_eq!(Symbol::elements(b"10A B", Level::Q), Err(Error::InvalidCharacter { place: 3 }));
@@ -396,7 +399,10 @@ fn draws_links() {
     let text = "(17)261231(10)A/B(01)09506000134352";
     let link = "https://id.gs1.org/01/09506000134352/10/A%2FB?17=261231";
     assert_eq!(link_text(text, "id.gs1.org").as_deref(), Ok(link));
-    assert_eq!(Symbol::link(text, "id.gs1.org", Level::Q), Symbol::new(link.as_bytes(), Level::Q));
+    assert_eq!(
+        Symbol::link(text, "id.gs1.org", Level::Q),
+        Symbol::bytes(link.as_bytes(), Level::Q)
+    );
     let options = Options::new(Level::L).max_version(1);
     assert_eq!(
         Symbol::link_with(text, "id.gs1.org", &options),
@@ -421,9 +427,15 @@ fn draws_links() {
     }
 }
 
+/// A text without the escape sequences that it has where standard output is a terminal.
+fn plain(symbol: &Symbol) -> String {
+    symbol.to_string().replace("\x1b[38;5;16;48;5;231m", "").replace("\x1b[0m", "")
+}
+
 #[test]
 fn prints_half_blocks() {
-    let text = Symbol::micro(b"1", Level::L).unwrap().to_string();
+    let symbol = Symbol::micro(b"1", Level::L).unwrap();
+    let text = plain(&symbol);
     let lines: Vec<&str> = text.lines().collect();
     assert_eq!(lines.len(), 8);
     assert!(lines.iter().all(|line| line.chars().count() == 15));
@@ -439,15 +451,25 @@ fn prints_half_blocks() {
         assert!(line.starts_with(start), "{line}");
     }
     assert_eq!((lines[0].trim(), lines[7].trim()), ("", ""));
+    // Where light is filled, no dark module is, nor anything below the last row.
+    let inverted = format!("{symbol:#}");
+    let opposite = |block: char| match block {
+        ' ' => '\u{2588}',
+        '\u{2580}' => '\u{2584}',
+        '\u{2584}' => '\u{2580}',
+        '\u{2588}' => ' ',
+        other => other,
+    };
+    assert_eq!(inverted, text.chars().map(opposite).collect::<String>());
 }
 
 /// The bits of a bitmap are the modules in a quiet zone, in rows of whole bytes (Netpbm, "pbm").
 #[test]
 fn draws_bitmaps() {
     for (symbol, zone) in [
-        (Symbol::new(b"hello", Level::M).unwrap(), 4),
+        (Symbol::new("hello", Level::M).unwrap(), 4),
         (Symbol::micro(b"12345", Level::L).unwrap(), 2),
-        (Symbol::new(&[7; 2953], Level::L).unwrap(), 4),
+        (Symbol::bytes(&[7; 2953], Level::L).unwrap(), 4),
     ] {
         let side = symbol.width() + 2 * zone;
         let bytes = symbol.picture(Format::Pbm, &Settings::new().scale(1)).unwrap();
@@ -466,11 +488,11 @@ fn draws_bitmaps() {
 
 #[test]
 fn draws_in_each_format() {
-    let symbol = Symbol::new(b"hello", Level::M).unwrap();
+    let symbol = Symbol::new("hello", Level::M).unwrap();
     let text = symbol.picture(Format::Terminal, &Settings::new()).unwrap();
-    assert_eq!(text, symbol.to_string().as_bytes());
+    assert_eq!(text, plain(&symbol).as_bytes());
     let inverted = symbol.picture(Format::Terminal, &Settings::new().inverted()).unwrap();
-    assert!(inverted.starts_with("\u{2588}".as_bytes()));
+    assert_eq!(inverted, format!("{symbol:#}").as_bytes());
     // 29 modules of 8 pixels, and of 0.33 mm.
     assert!(symbol.to_svg().unwrap().contains("width=\"232\" height=\"232\""));
     let sized = symbol.picture(Format::Svg, &Settings::new().module_mm(33)).unwrap();
@@ -517,7 +539,7 @@ fn errors_have_texts() {
 #[test]
 fn eight_threads_draw_the_same() {
     let inputs: Vec<Vec<u8>> = (0..6).map(|kind| input(kind, 40 + 90 * kind)).collect();
-    let draw = || inputs.iter().map(|bytes| Symbol::new(bytes, Level::M)).collect::<Vec<_>>();
+    let draw = || inputs.iter().map(|bytes| Symbol::bytes(bytes, Level::M)).collect::<Vec<_>>();
     let wanted = draw();
     std::thread::scope(|scope| {
         for _ in 0..8 {
