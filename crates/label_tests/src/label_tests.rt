@@ -142,20 +142,20 @@ fn trims_a_text(rt: HostRuntime) {
     assert!(rt; draw_alike(alloc, &ELEMENTS, b"(10)A\n", &ELEMENTS, b"(10)A"));
 }
 
-/// A size in millimetres and a resolution give the scale, in whole dots: of 0.5 mm 5 at 300 dots an
-/// inch (0.5 * 300 / 25.4 = 5.9), and 3 at 203 (4.0 - 0.004). PNG has the resolution, too.
+/// A size in millimetres and a resolution give the scale, in whole dots: of 0.5 mm 6 at 300 dots an
+/// inch (0.5 * 300 / 25.4 = 5.9), and 4 at 203 (4.0 - 0.004). PNG has the resolution, too.
 static DOTS: [(&[&str], &[&str]); 3] = [
     (
         &["-f", "zpl", "--module-mm", "0.5", "--dpi", "300"],
-        &["-f", "zpl", "-s", "5"],
+        &["-f", "zpl", "-s", "6"],
     ),
     (
         &["-f", "escpos", "--module-mm", "0.5", "--dpi", "203"],
-        &["-f", "escpos", "-s", "3"],
+        &["-f", "escpos", "-s", "4"],
     ),
     (
         &["-f", "png", "--module-mm", "0.5", "--dpi", "300"],
-        &["-f", "png", "-s", "5", "--dpi", "300"],
+        &["-f", "png", "-s", "6", "--dpi", "300"],
     ),
 ];
 

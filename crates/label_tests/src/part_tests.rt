@@ -187,7 +187,7 @@ static DETAILS: [(&[&str], &[u8], &str); 10] = [
     (
         &["-f", "zpl", "--module-mm", "0.5", "--dpi", "203"],
         b"hello",
-        "version 1, level M, mask 7, segments byte 5, 21 modules, 7.88 mm",
+        "version 1, level M, mask 7, segments byte 5, 21 modules, 10.51 mm",
     ),
     (
         &["-f", "png"],

@@ -130,7 +130,7 @@ static WRONG_VALUES: [(&[&str], &str); 43] = [
     (&["--module-mm", "0.04"], MODULE),
     (&["--module-mm", "0.333"], MODULE),
     (
-        &["-f", "zpl", "--module-mm", "0.05", "--dpi", "300"],
+        &["-f", "zpl", "--module-mm", "0.05", "--dpi", "203"],
         MODULE,
     ),
     (

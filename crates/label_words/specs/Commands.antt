@@ -184,13 +184,13 @@ zoned content wishes =
 abbrev pub scale_of : ℕ → Result ℕ Wrong
 scale_of dots = if nat_le MIN_SCALE dots && nat_le dots MAX_SCALE then Ok dots else Err (invalid ModuleMm)
 
--- The whole dots of a module of a size, in hundredths of a millimetre, at a resolution in dots of
--- an inch, which is 25.4 mm.
+-- The number of whole dots that is nearest to the size of a module, in hundredths of a millimetre,
+-- at a resolution in dots of an inch, which is 25.4 mm. A half is rounded up.
 abbrev pub dots_asked : ℕ → ℕ → Result ℕ Wrong
 dots_asked module_mm dpi =
     if not (nat_le MIN_DPI dpi && nat_le dpi MAX_DPI) then Err (invalid Dpi)
     else (if not (nat_le MIN_MODULE_MM module_mm && nat_le module_mm MAX_MODULE_MM) then Err (invalid ModuleMm)
-    else scale_of (module_mm * dpi / 2540))
+    else scale_of ((module_mm * dpi + 1270) / 2540))
 
 -- The scale that a size and a resolution give, where they are given for a format of dots.
 abbrev pub with_dots : FormatOf → ℕ → ℕ → Wishes → Result Wishes Wrong

@@ -49,7 +49,7 @@ help_lines =
     ∷ codes "  -s, --scale N         pixels a module, 1 to 64; default: 8, of terminal 1"
     ∷ codes "  -q, --quiet N         light margin in modules, 0 to 16; default: 4, of micro 2"
     ∷ codes "      --module-mm MM    size of a module, 0.05 to 10 (svg, png, eps, pdf; with --dpi"
-    ∷ codes "                        png, zpl, escpos: as many whole dots as fit)"
+    ∷ codes "                        png, zpl, escpos: the nearest whole dots)"
     ∷ codes "      --dpi N           dots an inch, 50 to 2400 (png; with --module-mm also zpl,"
     ∷ codes "                        escpos)"
     ∷ codes "      --rotate DEGREES  turn the symbol clockwise: 0, 90, 180 or 270; default: 0"

@@ -123,8 +123,8 @@ fn has_dots(format: Format) -> bool
     }
 }
 
-/// Returns how many whole dots a module of this size has, by its hundredths of a millimetre and the
-/// dots of an inch, which is 25.4 mm.
+/// Returns the number of whole dots that is nearest to the size of a module, by its hundredths of a
+/// millimetre and the dots of an inch, which is 25.4 mm.
 fn dots_of<'a>(module_mm: usize, dpi: usize) -> Result<usize, Misuse<'a>>
     ensures { outcome result ≡ dots_asked module_mm dpi }
 {
@@ -134,7 +134,7 @@ fn dots_of<'a>(module_mm: usize, dpi: usize) -> Result<usize, Misuse<'a>>
     if module_mm < MIN_MODULE_MM || MAX_MODULE_MM < module_mm {
         return Err(Misuse::Invalid(Name::ModuleMm));
     }
-    let dots = module_mm * dpi / 2540;
+    let dots = (module_mm * dpi + 1270) / 2540;
     if dots < MIN_SCALE || MAX_SCALE < dots {
         return Err(Misuse::Invalid(Name::ModuleMm));
     }
