@@ -141,8 +141,8 @@ int32_t sicklespan_bytes_without_kanji(const void *bytes, size_t length,
 
 /*
  * The best symbol of what people write: of UTF-8 that is not all ASCII that of
- * sicklespan_smallest_text, and of all else, ASCII too, that of sicklespan_bytes. `qrlabel` does the
- * same, and so do Symbol::new of Rust and, of a str, make of Python. The statuses are those of
+ * sicklespan_smallest_text, and of all else, ASCII too, that of sicklespan_bytes. `qrlabel` does
+ * the same, and so do Symbol::new of Rust and, of a str, make of Python. The statuses are those of
  * sicklespan_bytes.
  */
 int32_t sicklespan_auto(const void *data, size_t length, const sicklespan_options *options,
@@ -440,8 +440,8 @@ int32_t sicklespan_picture(const uint8_t *modules, int32_t width, int32_t format
 /*
  * The name of the first of the settings that is out of its bounds, or that the format does not
  * have: that of a member of sicklespan_settings, as "scale". The text is static. It is a null
- * pointer where sicklespan_picture does not return SICKLESPAN_INVALID_SETTING, and also for null
- * settings.
+ * pointer where sicklespan_picture of a symbol does not return SICKLESPAN_INVALID_SETTING, and also
+ * for null settings.
  */
 const char *sicklespan_wrong_setting(int32_t format, const sicklespan_settings *settings);
 
