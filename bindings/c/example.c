@@ -1,5 +1,5 @@
 /* SPDX-License-Identifier: MIT OR Apache-2.0 */
-/* Prints the symbol of a word at level L, `#` dark and `.` light:  example WORD */
+/* Prints the symbol of a text at level L, `#` dark and `.` light:  example TEXT */
 #include "sicklespan.h"
 
 #include <stdio.h>
@@ -7,7 +7,7 @@
 
 int main(int count, char **words) {
     if (count != 2) {
-        fputs("usage: example WORD\n", stderr);
+        fputs("usage: example TEXT\n", stderr);
         return 2;
     }
     static uint8_t modules[SICKLESPAN_MAX_SIZE];
@@ -15,7 +15,7 @@ int main(int count, char **words) {
     options.level = SICKLESPAN_LEVEL_L;
     sicklespan_shape shape;
     int32_t status =
-        sicklespan_bytes(words[1], strlen(words[1]), &options, modules, sizeof modules, &shape);
+        sicklespan_auto(words[1], strlen(words[1]), &options, modules, sizeof modules, &shape);
     if (status != SICKLESPAN_OK) {
         fprintf(stderr, "example: %s\n", sicklespan_status_text(status));
         return 1;

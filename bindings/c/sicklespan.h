@@ -6,10 +6,9 @@
  *
  * Each function may be called from several threads at once, on buffers of their own. It keeps
  * nothing: all memory that it takes by malloc is freed when it returns, and the caller owns every
- * buffer that it passes. Since it calls malloc, realloc and free, it is not to be called from a
- * signal handler, nor from the forked child of a process with threads if malloc is not to be called
- * there: the malloc of glibc may be. sicklespan_status_text and sicklespan_version may be called
- * anywhere.
+ * buffer that it passes. Since they call malloc, no functions but sicklespan_status_text and
+ * sicklespan_version may be called from a signal handler. In the child that a process with threads
+ * forks they may be called where malloc may be, as that of the GNU C library.
  *
  * The library needs a processor with x86-64-v2 (SSE4.2 and POPCNT, as processors have them since
  * about 2009). On any other, each function that returns a status returns
@@ -111,7 +110,7 @@ typedef struct sicklespan_shape {
  * after the symbol keep their values in either case.
  *
  * A pointer may be null where its length is 0, and so may `options`. They return
- * SICKLESPAN_INVALID_POINTER, before any other status, where another pointer or `shape` is null,
+ * SICKLESPAN_INVALID_POINTER, before the other statuses, where another pointer or `shape` is null,
  * where a length is above PTRDIFF_MAX, and where `shape` or the first SICKLESPAN_MAX_SIZE bytes of
  * `modules` overlap with something else that is passed. The other statuses are tested in the order
  * in which they are listed.
@@ -142,8 +141,9 @@ int32_t sicklespan_bytes_without_kanji(const void *bytes, size_t length,
 
 /*
  * The best symbol of what people write: of UTF-8 that is not all ASCII that of
- * sicklespan_smallest_text, and of all else, ASCII too, that of sicklespan_bytes. `qrlabel` and the
- * package for Python do the same. The statuses are those of sicklespan_bytes.
+ * sicklespan_smallest_text, and of all else, ASCII too, that of sicklespan_bytes. `qrlabel` does
+ * the same, and so do Symbol::new of Rust and, of a str, make of Python. The statuses are those of
+ * sicklespan_bytes.
  */
 int32_t sicklespan_auto(const void *data, size_t length, const sicklespan_options *options,
                         uint8_t *modules, size_t room, sicklespan_shape *shape);
@@ -152,7 +152,9 @@ int32_t sicklespan_auto(const void *data, size_t length, const sicklespan_option
  * The smallest symbol of a text, whose `length` bytes are UTF-8: in the modes, and after the ECI
  * designators of ISO/IEC 8859, Shift JIS and UTF-8, that take the fewest bits. A reader that
  * follows the standard finds the text in it, and no symbol that is read as the text, at the level,
- * is smaller. Level, versions and `strongest` are as of sicklespan_bytes.
+ * is smaller. Some readers also take ISO/IEC 8859-1 without a designator, pairs in the Kanji mode
+ * after one, or other character sets, such as Big5 and GB 18030: no use is made of these, with
+ * which a symbol may be smaller. Level, versions and `strongest` are as of sicklespan_bytes.
  *
  * SICKLESPAN_INVALID_LEVEL, SICKLESPAN_INVALID_VERSIONS, SICKLESPAN_INVALID_TEXT,
  * SICKLESPAN_DATA_TOO_LONG (only where nothing that is read as the text fits a version up to the
@@ -306,7 +308,9 @@ enum sicklespan_content {
  * `length - *good` bytes are too many: the call takes the first `*good` ones, and no more of them
  * up to the next place where they may be cut. Of the statuses that find a fault in the data, the
  * first one begins at the byte `*good`. Bytes may be cut anywhere, a text between two characters,
- * what people write of GS1 before an element; what readers find does not end with a separator.
+ * what people write of GS1 before an element; what readers find does not end with a separator. Of
+ * SICKLESPAN_CONTENT_AUTO more of the first bytes may fit than `*good`, if the data are no text,
+ * but a part of them is one.
  *
  * It takes the time of about 15 symbols, and for a fault in n bytes that of looking through them
  * log2(n) times.
@@ -436,8 +440,8 @@ int32_t sicklespan_picture(const uint8_t *modules, int32_t width, int32_t format
 /*
  * The name of the first of the settings that is out of its bounds, or that the format does not
  * have: that of a member of sicklespan_settings, as "scale". The text is static. It is a null
- * pointer where sicklespan_picture does not return SICKLESPAN_INVALID_SETTING, and also for null
- * settings.
+ * pointer where sicklespan_picture of a symbol does not return SICKLESPAN_INVALID_SETTING, and also
+ * for null settings.
  */
 const char *sicklespan_wrong_setting(int32_t format, const sicklespan_settings *settings);
 

@@ -1,7 +1,7 @@
 #!/usr/bin/env python3
-"""Prints the symbol of a word at level L, `#` dark and `.` light, through the shared object.
+"""Prints the symbol of a text at level L, `#` dark and `.` light, through the shared object.
 
-    example.py LIBRARY WORD
+    example.py LIBRARY TEXT
 """
 
 import ctypes
@@ -25,22 +25,23 @@ class Options(ctypes.Structure):
 def library(path):
     """The library, with the types of the functions that are called here."""
     it = ctypes.CDLL(path)
-    it.sicklespan_bytes.argtypes = [
+    it.sicklespan_auto.argtypes = [
         ctypes.c_char_p, ctypes.c_size_t, ctypes.POINTER(Options), ctypes.c_char_p, ctypes.c_size_t,
         ctypes.POINTER(Shape)]
-    it.sicklespan_bytes.restype = ctypes.c_int32
+    it.sicklespan_auto.restype = ctypes.c_int32
     it.sicklespan_greatest_size.restype = ctypes.c_size_t
     it.sicklespan_status_text.argtypes = [ctypes.c_int32]
     it.sicklespan_status_text.restype = ctypes.c_char_p
     return it
 
 
-def symbol(it, data, level):
-    """The rows of the best symbol of some bytes, each a list of 1 (dark) and 0."""
+def symbol(it, text, level):
+    """The rows of the best symbol of a text, each a list of 1 (dark) and 0."""
+    data = text.encode()
     room = it.sicklespan_greatest_size()
     modules, shape, options = ctypes.create_string_buffer(room), Shape(), Options(level, 1, 40, 0)
-    status = it.sicklespan_bytes(data, len(data), ctypes.byref(options), modules, room,
-                                 ctypes.byref(shape))
+    status = it.sicklespan_auto(data, len(data), ctypes.byref(options), modules, room,
+                                ctypes.byref(shape))
     if status != 0:
         raise ValueError(it.sicklespan_status_text(status).decode())
     width = shape.width
@@ -49,6 +50,6 @@ def symbol(it, data, level):
 
 if __name__ == "__main__":
     if len(sys.argv) != 3:
-        sys.exit("usage: example.py LIBRARY WORD")
-    for row in symbol(library(sys.argv[1]), sys.argv[2].encode(), 0):
+        sys.exit("usage: example.py LIBRARY TEXT")
+    for row in symbol(library(sys.argv[1]), sys.argv[2], 0):
         print("".join(".#"[module] for module in row))

@@ -6,17 +6,19 @@
     (1, 'H', 5)
     >>> symbol.save("hello.svg")
 
-The functions return a `Symbol` or raise an error below `SicklespanError`.
+The functions return a `Symbol` or raise an error below `SicklespanError`; an argument of a type
+that a function does not take is a TypeError. They may be called from several threads at once, and
+need a processor with x86-64-v2, without which the import is an ImportError.
 """
 
 from ._errors import (
     ConflictingElementError, DataTooLongError, ElementError, EmptyValueError, InvalidCharacterError,
     InvalidCutsError, InvalidFormatError, InvalidIdentifierError, InvalidLevelError,
-    InvalidPartCountError, InvalidSettingError, InvalidTextError, InvalidVersionsError,
-    MissingElementError, NoElementsError, NoKeyError, OutOfMemoryError, RepeatedElementError,
-    SecondKeyError, SicklespanError, UnknownIdentifierError, UnwritableTextError,
-    ValueTooLongError, WrongCheckDigitError, WrongDomainError, WrongLengthError,
-    WrongQualifierError, WrongValueError)
+    InvalidPartCountError, InvalidSettingError, InvalidSymbolError, InvalidTextError,
+    InvalidVersionsError, MissingElementError, NoElementsError, NoKeyError, OutOfMemoryError,
+    RepeatedElementError, SecondKeyError, SicklespanError, UnknownIdentifierError,
+    UnwritableTextError, ValueTooLongError, WrongCheckDigitError, WrongDomainError,
+    WrongLengthError, WrongQualifierError, WrongValueError)
 from ._library import __version__
 from ._make import (
     elements, gs1, gs1_unchecked, link, link_text, make, make_micro, make_qr, make_sequence, micro,
@@ -26,10 +28,10 @@ from ._symbol import Symbol
 __all__ = [
     "ConflictingElementError", "DataTooLongError", "ElementError", "EmptyValueError",
     "InvalidCharacterError", "InvalidCutsError", "InvalidFormatError", "InvalidIdentifierError",
-    "InvalidLevelError", "InvalidPartCountError", "InvalidSettingError", "InvalidTextError",
-    "InvalidVersionsError", "MissingElementError", "NoElementsError", "NoKeyError",
-    "OutOfMemoryError", "RepeatedElementError", "SecondKeyError", "SicklespanError", "Symbol",
-    "UnknownIdentifierError", "UnwritableTextError", "ValueTooLongError", "WrongCheckDigitError",
-    "WrongDomainError", "WrongLengthError", "WrongQualifierError", "WrongValueError", "__version__",
-    "elements", "gs1", "gs1_unchecked", "link", "link_text", "make", "make_micro", "make_qr",
-    "make_sequence", "micro", "sequence", "text"]
+    "InvalidLevelError", "InvalidPartCountError", "InvalidSettingError", "InvalidSymbolError",
+    "InvalidTextError", "InvalidVersionsError", "MissingElementError", "NoElementsError",
+    "NoKeyError", "OutOfMemoryError", "RepeatedElementError", "SecondKeyError", "SicklespanError",
+    "Symbol", "UnknownIdentifierError", "UnwritableTextError", "ValueTooLongError",
+    "WrongCheckDigitError", "WrongDomainError", "WrongLengthError", "WrongQualifierError",
+    "WrongValueError", "__version__", "elements", "gs1", "gs1_unchecked", "link", "link_text",
+    "make", "make_micro", "make_qr", "make_sequence", "micro", "sequence", "text"]

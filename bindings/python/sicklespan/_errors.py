@@ -35,6 +35,10 @@ class InvalidVersionsError(SicklespanError):
     """The versions are not 1 to 40, or the least is above the greatest."""
 
 
+class InvalidSymbolError(SicklespanError):
+    """Some modules are those of no symbol, or of another one than their shape says."""
+
+
 class InvalidPartCountError(SicklespanError):
     """The parts of a sequence are not 2 to 16."""
 
@@ -200,6 +204,14 @@ _NAMES = {"quiet": "border", "at_x": "at", "at_y": "at"}
 
 def _text(status: int) -> str:
     return str(library.sicklespan_status_text(status).decode())
+
+
+def shown(number: object) -> str:
+    """A number in a message; Python writes none of very many digits."""
+    try:
+        return str(number)
+    except ValueError:
+        return "a number of so many digits"
 
 
 def check(status: int) -> None:

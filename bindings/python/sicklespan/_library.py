@@ -85,5 +85,11 @@ _declare("sicklespan_check", c_int32, c_int32, c_char_p, c_size_t, POINTER(Optio
 _declare("sicklespan_wrong_setting", c_char_p, c_int32, POINTER(Settings))
 _declare("sicklespan_status_text", c_char_p, c_int32)
 _declare("sicklespan_version", c_char_p)
+_declare("sicklespan_greatest_size", c_size_t)
+_declare("sicklespan_version_of_width", c_int32, c_int32)
+if library.sicklespan_greatest_size() == 0:
+    raise ImportError(
+        "sicklespan needs a processor with x86-64-v2 (SSE4.2 and POPCNT, as processors have them "
+        f"since about 2009), and this one, {platform.processor() or platform.machine()}, lacks it")
 
 __version__: str = library.sicklespan_version().decode()

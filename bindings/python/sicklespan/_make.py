@@ -7,7 +7,7 @@ from typing import Callable, List, Optional, Sequence, Union
 from ._errors import (
     BYTES, BYTES_WITHOUT_KANJI, ELEMENTS, GS1, GS1_UNCHECKED, MICRO, MICRO_TEXT, SMALLEST_TEXT,
     TEXT, DataTooLongError, InvalidCutsError, InvalidLevelError, InvalidPartCountError,
-    InvalidTextError, InvalidVersionsError, check, check_data, check_link)
+    InvalidTextError, InvalidVersionsError, SicklespanError, check, check_data, check_link, shown)
 from ._library import Options, Shape, library
 from ._symbol import LEVELS, Symbol
 
@@ -32,7 +32,7 @@ def _text(name: str, content: str) -> bytes:
         raise InvalidTextError(f"{name} has a lone surrogate at {error.start}") from error
 
 
-def _bytes(name: str, content: Union[bytes, bytearray, memoryview]) -> bytes:
+def _bytes(name: str, content: Content) -> bytes:
     if not isinstance(content, (bytes, bytearray, memoryview)):
         raise _type_error(name, "bytes", content)
     return bytes(content)
@@ -65,7 +65,7 @@ def _version(name: str, number: int) -> int:
     except TypeError:
         raise _type_error(name, "a number from 1 to 40", number) from None
     if not 1 <= whole <= 40:
-        raise InvalidVersionsError(f"{name} is 1 to 40, and not {whole}")
+        raise InvalidVersionsError(f"{name} is 1 to 40, and not {shown(whole)}")
     return whole
 
 
@@ -109,7 +109,7 @@ def _is_beyond_ascii(content: Content) -> bool:
 def make(content: Content, error: Optional[str] = None, version: Optional[int] = None, *,
          min_version: int = 1, max_version: int = 40, boost_error: bool = True,
          micro: Optional[bool] = False, kanji: bool = True) -> Symbol:
-    """The best symbol of a text or of bytes.
+    """The best symbol of a text, of a str, or of bytes: those are for data that are no text.
 
     `error` is the level, L, M, Q or H, and M if it is None. With `boost_error` it is the least
     level: the symbol has the greatest one at which it is no larger. It is the smallest symbol in
@@ -117,16 +117,17 @@ def make(content: Content, error: Optional[str] = None, version: Optional[int] =
     is a Micro symbol if one can be it: if no versions are asked for, and one that is read as the
     content fits at the level. With `micro` True it is one, or an error.
 
-    ASCII is encoded as it is. Any other text is written in the modes, and after the ECI designators
-    of ISO/IEC 8859, Shift JIS and UTF-8, that take the fewest bits: no symbol that is read as the
-    text is smaller. `text` writes UTF-8. The symbol of bytes does not say which characters they
-    are, and pairs of them go in the Kanji mode: where they are UTF-8 beyond ASCII, readers may show
-    other characters. With `kanji` False none of them do: it is for bytes, and for no Micro symbol.
+    A text of ASCII is encoded as it is. Any other text is written in the modes, and after the ECI
+    designators of ISO/IEC 8859, Shift JIS and UTF-8, that take the fewest bits: no symbol that is
+    read as the text is smaller. `text` writes UTF-8. The symbol of bytes does not say which
+    characters they are, and pairs of them go in the Kanji mode: where they are UTF-8 beyond ASCII,
+    as `str.encode` returns, readers may show other characters. With `kanji` False none of them do:
+    it is for bytes, and for no Micro symbol, so that `micro` None makes none then.
     """
     options = _options(error, version, min_version, max_version, boost_error)
     if not kanji:
         if micro:
-            raise ValueError("a Micro symbol has no form without the Kanji mode")
+            raise SicklespanError("a Micro symbol has no form without the Kanji mode")
         return _drawn(BYTES_WITHOUT_KANJI, _bytes("content", content), options)
     is_any = version is None and (min_version, max_version) == (1, 40)
     if micro and not is_any:
@@ -267,7 +268,7 @@ def _places(cuts: Sequence[int], length: int) -> List[int]:
         raise _type_error("cuts", "a sequence of numbers", cuts) from None
     for cut in places:
         if not 0 <= cut <= length:
-            raise InvalidCutsError(f"a cut is 0 to {length}, and not {cut}")
+            raise InvalidCutsError(f"a cut is 0 to {length}, and not {shown(cut)}")
     return places
 
 
@@ -276,10 +277,12 @@ def sequence(content: Content, cuts: Optional[Sequence[int]] = None, error: Opti
     """The symbols that carry a message together (Structured Append), in versions up to a greatest.
 
     Part i ends before byte `cuts[i]`, and the last one at the end of the message. Where no cuts are
-    given, the symbols are as few as can be; if one is enough, it is no part of a sequence.
+    given, the symbols are as few as can be; if one after a header is enough, it is returned without
+    the header, as `make` returns it, and is no part of a sequence.
 
-    Text that is not ASCII is encoded in UTF-8, and each symbol says so. Its cuts count the bytes of
-    its UTF-8, and each is between two characters.
+    Text that is not ASCII is encoded in UTF-8, and each symbol says so: the symbols are the fewest
+    of those, and `make` may fit a text into one that is in several here. Its cuts count the bytes
+    of its UTF-8, and each is between two characters.
     """
     is_text, data = _is_beyond_ascii(content), _data(content)
     level, limit = _number(error), _version("max_version", max_version)
@@ -312,7 +315,7 @@ def _even_cuts(content: Content, count: int) -> List[int]:
 
 def make_sequence(content: Content, error: Optional[str] = None, *,
                   symbol_count: Optional[int] = None, max_version: int = 40) -> List[Symbol]:
-    """What `sequence` returns, in this number of symbols: the parts are about as long as each other."""
+    """What `sequence` returns, in this number of symbols, whose parts are about equally long."""
     data = _data(content)
     if symbol_count is None:
         return sequence(content, None, error, max_version=max_version)
@@ -321,6 +324,6 @@ def make_sequence(content: Content, error: Optional[str] = None, *,
     except TypeError:
         raise _type_error("symbol_count", "a number from 2 to 16", symbol_count) from None
     if not 2 <= count <= 16:
-        raise InvalidPartCountError(f"symbol_count is 2 to 16, and not {count}")
-    whole = content if isinstance(content, str) else data
+        raise InvalidPartCountError(f"symbol_count is 2 to 16, and not {shown(count)}")
+    whole: Content = content if isinstance(content, str) else data
     return sequence(content, _even_cuts(whole, count), error, max_version=max_version)

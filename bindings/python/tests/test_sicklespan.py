@@ -15,6 +15,7 @@ HERE = os.path.dirname(os.path.abspath(__file__))
 if "SICKLESPAN_LIBRARY" in os.environ:
     sys.path.insert(0, os.path.dirname(HERE))
 import sicklespan  # noqa: E402
+from test_arguments import Arguments  # noqa: E402,F401
 from test_pictures import Pictures, read  # noqa: E402,F401
 
 
@@ -111,8 +112,9 @@ class Symbols(unittest.TestCase):
         self.assertEqual(raised.exception.too_many, 1)
         with self.assertRaises(TypeError):
             sicklespan.make("hello", kanji=False)
-        with self.assertRaises(ValueError):
+        with self.assertRaises(sicklespan.SicklespanError):
             sicklespan.make(b"hello", kanji=False, micro=True)
+        self.assertFalse(sicklespan.make(b"1", kanji=False, micro=None).is_micro)
 
     def test_types(self):
         self.assertEqual(sicklespan.make(bytearray(b"hello")), sicklespan.make(b"hello"))

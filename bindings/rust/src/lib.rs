@@ -100,7 +100,7 @@ pub struct Symbol {
 impl Symbol {
     /// Returns the best symbol of a text at a level, in the smallest of the versions 1 to 40 into
     /// which it fits: of ASCII that of `bytes`, and of other text that of `smallest_text`. `qrlabel`
-    /// and the package for Python do the same.
+    /// does the same.
     ///
     /// ```
     /// # use sicklespan::{Level, Symbol};

@@ -534,6 +534,8 @@ fn errors_have_texts() {
         "a setting is out of bounds, or not of the format: dpi"
     );
     assert_eq!(Error::InvalidCuts.to_string(), "a cut is none of the message, or out of order");
+    let said = "the processor lacks x86-64-v2, which the library needs";
+    assert_eq!(Error::UnsupportedProcessor.to_string(), said);
 }
 
 #[test]
