@@ -100,7 +100,7 @@ class Arguments(unittest.TestCase):
                      lambda: sicklespan.make_sequence("abc", symbol_count=LONG)):
             with self.assertRaises(sicklespan.SicklespanError):
                 call()
-        self.assertIn('width="290mm"', symbol.svg(module_mm=10))
+        self.assertIn('width="290.00mm"', symbol.svg(module_mm=10))
         self.assertIn('width="1.45mm"', symbol.svg(module_mm=0.05))
 
     def test_arguments_of_other_types(self):
