@@ -10,9 +10,9 @@
  * sicklespan_version may be called from a signal handler. In the child that a process with threads
  * forks they may be called where malloc may be, as that of the GNU C library.
  *
- * The library needs a processor with x86-64-v2 (SSE4.2 and POPCNT, as processors have them since
- * about 2009). On any other, each function that returns a status returns
- * SICKLESPAN_UNSUPPORTED_PROCESSOR, before any other status, and writes nothing.
+ * The library needs a processor with x86-64-v2 (SSE4.2 and POPCNT; every one since about 2013). On
+ * any other, each function that returns a status returns SICKLESPAN_UNSUPPORTED_PROCESSOR, before
+ * any other status, and writes nothing.
  */
 #ifndef SICKLESPAN_H
 #define SICKLESPAN_H

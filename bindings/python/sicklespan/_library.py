@@ -89,7 +89,7 @@ _declare("sicklespan_greatest_size", c_size_t)
 _declare("sicklespan_version_of_width", c_int32, c_int32)
 if library.sicklespan_greatest_size() == 0:
     raise ImportError(
-        "sicklespan needs a processor with x86-64-v2 (SSE4.2 and POPCNT, as processors have them "
-        f"since about 2009), and this one, {platform.processor() or platform.machine()}, lacks it")
+        "sicklespan needs a processor with x86-64-v2 (SSE4.2 and POPCNT; every one since about "
+        "2013), and this one lacks it")
 
 __version__: str = library.sicklespan_version().decode()

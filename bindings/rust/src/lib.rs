@@ -14,9 +14,9 @@
 //! A text is read as it was written, in any script: `Symbol::new` draws it. `Symbol::bytes` is for
 //! data that are no text.
 //!
-//! The crate needs a processor with x86-64-v2 (SSE4.2 and POPCNT, as processors have them since
-//! about 2009): on any other, each call returns `Error::UnsupportedProcessor`. Calls may be made
-//! from several threads at once, and not from a signal handler, since they call `malloc`.
+//! The crate needs a processor with x86-64-v2 (SSE4.2 and POPCNT; every one since about 2013): on
+//! any other, each call returns `Error::UnsupportedProcessor`. Calls may be made from several
+//! threads at once, and not from a signal handler, since they call `malloc`.
 #![deny(unsafe_code)]
 #![warn(missing_docs)]
 
