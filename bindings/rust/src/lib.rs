@@ -20,19 +20,19 @@
 #![deny(unsafe_code)]
 #![warn(missing_docs)]
 
-mod cuts;
 mod error;
 mod ffi;
-mod links;
+mod gs1;
 mod options;
 mod picture;
+mod sequences;
 mod terminal;
 
-pub use cuts::{best_cuts, best_text_cuts};
 pub use error::{Error, Fault};
-pub use links::link_text;
+pub use gs1::link_text;
 pub use options::Options;
 pub use picture::{Format, Settings};
+pub use sequences::{best_cuts, best_text_cuts};
 
 /// The version of the library that is linked.
 ///
@@ -192,84 +192,6 @@ impl Symbol {
         Symbol::text_with(text, &Options::new(level))
     }
 
-    /// Returns the best symbol of GS1 elements at a level: identifiers with their values, with the
-    /// byte 1D (hex) after each whose length is not fixed, but the last.
-    ///
-    /// # Errors
-    ///
-    /// `InvalidCharacter` if a byte is no character of an element, nor 1D between two; then as
-    /// `bytes`.
-    pub fn elements(elements: &[u8], level: Level) -> Result<Symbol, Error> {
-        Symbol::elements_with(elements, &Options::new(level))
-    }
-
-    /// Returns the best symbol of GS1 elements as people write them. Each element is tested by the
-    /// table of identifiers of the GS1 General Specifications, release 24 (January 2024): its
-    /// identifier is assigned, and its value has the length, the characters, the check digit, the
-    /// date, the country and what else the table asks for. Whether elements may stand together is
-    /// not tested.
-    ///
-    /// ```
-    /// # use sicklespan::{Error, Level, Symbol};
-    /// let written = Symbol::gs1("(01)09506000134352(10)ABC123", Level::M)?;
-    /// assert_eq!(written, Symbol::elements(b"010950600013435210ABC123", Level::M)?);
-    /// let error = Symbol::gs1("(01)09506000134353", Level::M).unwrap_err();
-    /// assert_eq!(error.to_string(), "element 1 (01), character 14: wrong check digit");
-    /// # Ok::<(), Error>(())
-    /// ```
-    ///
-    /// # Errors
-    ///
-    /// `NoElements`, else of the first element that has a fault the first of `InvalidIdentifier`,
-    /// `UnknownIdentifier` and, of its value from the left, `EmptyValue`, `WrongLength` (it ends
-    /// too early), `WrongCharacter`, `WrongCheckDigit`, `WrongValue`, `ValueTooLong`; then as
-    /// `bytes`.
-    pub fn gs1(text: &str, level: Level) -> Result<Symbol, Error> {
-        Symbol::gs1_with(text, &Options::new(level))
-    }
-
-    /// Returns the best symbol of GS1 elements as people write them, for identifiers that are newer
-    /// than the table of `gs1`: elements are tested for what a reader needs alone. That is the
-    /// number of an identifier's digits by its first two, the characters, the predefined lengths
-    /// (identifiers that begin with 00 to 04, 11 to 20, 31 to 36 or 41), and the check digits of
-    /// 00, 01, 02 and 410 to 417. What else GS1 says of a value, its greatest length, say, or a
-    /// date, is not tested.
-    ///
-    /// ```
-    /// # use sicklespan::{Error, Level, Symbol};
-    /// assert!(matches!(Symbol::gs1("(4399)x", Level::M), Err(Error::UnknownIdentifier(_))));
-    /// assert_eq!(Symbol::gs1_unchecked("(4399)x", Level::M)?.width(), 21);
-    /// # Ok::<(), Error>(())
-    /// ```
-    ///
-    /// # Errors
-    ///
-    /// `NoElements`, else of the first element that has a fault `InvalidIdentifier`,
-    /// `UnknownIdentifier`, `EmptyValue`, `ValueTooLong` (more than 90 characters),
-    /// `WrongCharacter`, `WrongLength` or `WrongCheckDigit`; then as `bytes`.
-    pub fn gs1_unchecked(text: &str, level: Level) -> Result<Symbol, Error> {
-        Symbol::gs1_unchecked_with(text, &Options::new(level))
-    }
-
-    /// Returns the best symbol of the GS1 Digital Link of elements as people write them, which
-    /// `link_text` returns.
-    ///
-    /// ```
-    /// # use sicklespan::{link_text, Error, Level, Symbol};
-    /// let text = "(17)261231(10)ABC(01)09506000134352";
-    /// let link = link_text(text, "id.gs1.org")?;
-    /// let symbol = Symbol::link(text, "id.gs1.org", Level::M)?;
-    /// assert_eq!(symbol, Symbol::new(&link, Level::M)?);
-    /// # Ok::<(), Error>(())
-    /// ```
-    ///
-    /// # Errors
-    ///
-    /// As `link_text`; then as `bytes`.
-    pub fn link(text: &str, domain: &str, level: Level) -> Result<Symbol, Error> {
-        Symbol::link_with(text, domain, &Options::new(level))
-    }
-
     /// Returns the symbol of some bytes that the options ask for.
     ///
     /// # Errors
@@ -316,48 +238,6 @@ impl Symbol {
         Symbol::asked(ffi::Content::Text, text.as_bytes(), options)
     }
 
-    /// Returns the symbol of GS1 elements that the options ask for, as `elements` says.
-    ///
-    /// # Errors
-    ///
-    /// `InvalidVersions`; then as `elements`.
-    pub fn elements_with(elements: &[u8], options: &Options) -> Result<Symbol, Error> {
-        Symbol::asked(ffi::Content::Elements, elements, options)
-    }
-
-    /// Returns the symbol of GS1 elements as people write them that the options ask for.
-    ///
-    /// # Errors
-    ///
-    /// `InvalidVersions`; then as `gs1`.
-    pub fn gs1_with(text: &str, options: &Options) -> Result<Symbol, Error> {
-        Symbol::asked(ffi::Content::Gs1, text.as_bytes(), options)
-    }
-
-    /// Returns the symbol of GS1 elements that the options ask for, as `gs1_unchecked` says.
-    ///
-    /// # Errors
-    ///
-    /// `InvalidVersions`; then as `gs1_unchecked`.
-    pub fn gs1_unchecked_with(text: &str, options: &Options) -> Result<Symbol, Error> {
-        Symbol::asked(ffi::Content::Gs1Unchecked, text.as_bytes(), options)
-    }
-
-    /// Returns the symbol of the GS1 Digital Link of elements that the options ask for.
-    ///
-    /// # Errors
-    ///
-    /// `InvalidVersions`; then as `link`.
-    pub fn link_with(text: &str, domain: &str, options: &Options) -> Result<Symbol, Error> {
-        let mut bytes = vec![0; ffi::greatest_size()];
-        let mut shape = ffi::Shape::default();
-        let (numbers, host) = (options.numbers(), domain.as_bytes());
-        match ffi::link(text.as_bytes(), host, &numbers, &mut bytes, &mut shape) {
-            0 => Ok(Symbol::of(&bytes[..(shape.width * shape.width) as usize], &shape)),
-            status => Err(Error::of_link(status, text, domain)),
-        }
-    }
-
     /// Returns the best Micro symbol of some bytes, in the smallest of M1 to M4 into which they
     /// fit. It does not say in which character set they are: of bytes that are not ASCII readers
     /// may show other characters.
@@ -397,77 +277,6 @@ impl Symbol {
     /// at the level, and `OutOfMemory`.
     pub fn micro_text(text: &str, level: Level) -> Result<Symbol, Error> {
         Symbol::drawn_micro(ffi::Content::MicroText, text.as_bytes(), level)
-    }
-
-    /// Returns the 2 to 16 symbols that carry a message together (Structured Append), each in a
-    /// version up to the greatest. The parts lie between the start of the message, the cuts in
-    /// order, and its end.
-    ///
-    /// ```
-    /// # use sicklespan::{Error, Level, Symbol};
-    /// let symbols = Symbol::sequence(b"one and two", &[4, 8], Level::M, 40)?;
-    /// assert_eq!(symbols.len(), 3);
-    /// assert_eq!(Symbol::sequence(b"alone", &[], Level::M, 40), Err(Error::InvalidPartCount));
-    /// # Ok::<(), Error>(())
-    /// ```
-    ///
-    /// # Errors
-    ///
-    /// `InvalidCuts`, `InvalidMaxVersion`, `InvalidPartCount`, `DataTooLong` exactly where some
-    /// part fits none of the versions, and `OutOfMemory`.
-    pub fn sequence(
-        message: &[u8],
-        cuts: &[usize],
-        level: Level,
-        max_version: u8,
-    ) -> Result<Vec<Symbol>, Error> {
-        Symbol::parts(ffi::Content::Bytes, message, cuts, level, max_version)
-    }
-
-    /// Returns the 2 to 16 symbols that carry a text together, as `sequence` does. Each says that
-    /// it is UTF-8, and each cut is between two characters.
-    ///
-    /// ```
-    /// # use sicklespan::{Error, Level, Symbol};
-    /// assert_eq!(Symbol::text_sequence("éé", &[2], Level::M, 40)?.len(), 2);
-    /// assert_eq!(Symbol::text_sequence("éé", &[1], Level::M, 40), Err(Error::InvalidCuts));
-    /// # Ok::<(), Error>(())
-    /// ```
-    ///
-    /// # Errors
-    ///
-    /// As `sequence`.
-    pub fn text_sequence(
-        text: &str,
-        cuts: &[usize],
-        level: Level,
-        max_version: u8,
-    ) -> Result<Vec<Symbol>, Error> {
-        Symbol::parts(ffi::Content::Text, text.as_bytes(), cuts, level, max_version)
-    }
-
-    fn parts(
-        content: ffi::Content,
-        message: &[u8],
-        cuts: &[usize],
-        level: Level,
-        max_version: u8,
-    ) -> Result<Vec<Symbol>, Error> {
-        let mut shapes = vec![ffi::Shape::default(); cuts.len() + 1];
-        let width = 17 + 4 * usize::from(max_version.min(40));
-        let mut bytes = vec![0; shapes.len().min(16) * width * width];
-        let (level, limit) = (level as i32, max_version.into());
-        let status = ffi::sequence(content, message, cuts, level, limit, &mut bytes, &mut shapes);
-        if status != 0 {
-            return Err(Error::of(status));
-        }
-        let mut rest = &bytes[..];
-        let symbols = shapes.iter().map(|shape| {
-            let (modules, behind) = rest.split_at((shape.width * shape.width) as usize);
-            rest = behind;
-            Symbol::of(modules, shape)
-        });
-        Ok(symbols.collect())
     }
 
     /// Returns the number of modules on a side.
