@@ -27,7 +27,7 @@ def _text(name: str, content: str) -> bytes:
     if not isinstance(content, str):
         raise _type_error(name, "a str", content)
     try:
-        return content.encode()
+        return str.encode(content)
     except UnicodeEncodeError as error:
         raise InvalidTextError(f"{name} has a lone surrogate at {error.start}") from error
 

@@ -47,7 +47,7 @@ def _hundredths(module_mm: Optional[float]) -> Optional[int]:
         return None
     if not isinstance(module_mm, (int, float)):
         raise TypeError(f"module_mm is a number, and not {type(module_mm).__name__}")
-    # This is not so of what is no number either.
+    # NaN is within no bounds.
     if not 0.05 <= module_mm <= 10:
         raise InvalidSettingError(f"module_mm is 0.05 to 10, and not {shown(module_mm)}",
                                   "module_mm")
@@ -58,8 +58,10 @@ def _dots(at: Optional[Tuple[int, int]]) -> Tuple[Optional[int], Optional[int]]:
     """The two numbers of a place."""
     if at is None:
         return None, None
-    if not isinstance(at, (tuple, list)) or len(at) != 2 or None in at:
-        raise TypeError(f"at is two numbers, and not {type(at).__name__} of others")
+    if not isinstance(at, (tuple, list)):
+        raise TypeError(f"at is two numbers, and not {type(at).__name__}")
+    if len(at) != 2 or None in at:
+        raise TypeError(f"at is two numbers, and not {len(at)} or None")
     return at[0], at[1]
 
 
@@ -82,7 +84,7 @@ def _is_symbol(modules: bytes, shape: Shape) -> bool:
 
 
 def _takes_text(out: Any) -> bool:
-    """Whether a stream takes text, and not bytes; streams of bytes take none of them."""
+    """Whether a stream takes text, and not bytes: one that does not say so is given no bytes."""
     if isinstance(out, io.TextIOBase) or hasattr(out, "encoding"):
         return True
     if isinstance(out, io.IOBase):
@@ -147,6 +149,7 @@ class Symbol:
             raise TypeError(f"modules is bytes, and not {type(modules).__name__}")
         if not isinstance(shape, Shape):
             raise TypeError(f"shape is a Shape, and not {type(shape).__name__}")
+        modules = bytes(modules)
         if not _is_symbol(modules, shape):
             raise InvalidSymbolError(
                 f"{len(modules)} modules, which are not those of a symbol {shape.width} wide")

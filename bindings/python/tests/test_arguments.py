@@ -34,6 +34,13 @@ class Written:
         self.text += text
 
 
+class Long(bytes):
+    """Bytes that say that they are more."""
+
+    def __len__(self):
+        return 441
+
+
 class Path:
     """A path in bytes."""
 
@@ -68,6 +75,8 @@ class Arguments(unittest.TestCase):
                 sicklespan.Symbol(wrong, shape)
         with self.assertRaises(sicklespan.InvalidSymbolError):
             sicklespan.Symbol(b"\1" * 22 ** 2, Shape(22, 0, 0, False, 0))
+        with self.assertRaises(sicklespan.InvalidSymbolError):
+            sicklespan.Symbol(Long(b"\0"), shape)
         for name, call in (("modules", lambda: sicklespan.Symbol("0" * 441, shape)),
                            ("modules", lambda: sicklespan.Symbol(bytearray(modules), shape)),
                            ("shape", lambda: sicklespan.Symbol(modules, (21, 1, 0, False, 0)))):
