@@ -11,8 +11,8 @@
 //! # Ok::<(), sicklespan::Error>(())
 //! ```
 //!
-//! A text is read as it was written, in any script: `Symbol::new` draws it. `Symbol::bytes` is for
-//! data that are no text.
+//! `Symbol::new` is for what people write: a reader that follows the standard shows the text as it
+//! was written, in any script. `Symbol::bytes` is for data that are no text.
 //!
 //! The crate needs a processor with x86-64-v2 (SSE4.2 and POPCNT; every one since about 2013): on
 //! any other, each call returns `Error::UnsupportedProcessor`. Calls may be made from several
