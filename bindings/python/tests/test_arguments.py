@@ -54,13 +54,16 @@ class Arguments(unittest.TestCase):
         for wrong in (Shape(177, 40, 0, False, 0), Shape(-21, 1, 0, False, 0),
                       Shape(21, 2, 0, False, 0), Shape(21, 1, 8, False, 0),
                       Shape(21, 1, -1, False, 0), Shape(21, 1, 0, True, 0),
-                      Shape(21, 1, 0, False, 4), Shape(21, 1, 0, False, -1), Shape(0, 0, 0, False, 0)):
+                      Shape(21, 1, 0, False, 4), Shape(21, 1, 0, False, -1),
+                      Shape(0, 0, 0, False, 0)):
             with self.assertRaises(sicklespan.InvalidSymbolError):
                 sicklespan.Symbol(modules, wrong)
-        for wrong in (Shape(11, 1, 4, True, 0), Shape(11, 1, 0, True, 3), Shape(11, 1, 0, False, 0)):
+        for wrong in (Shape(11, 1, 4, True, 0), Shape(11, 1, 0, True, 3),
+                      Shape(11, 1, 0, False, 0)):
             with self.assertRaises(sicklespan.InvalidSymbolError):
                 sicklespan.Symbol(tiny, wrong)
-        for wrong in (b"\0", b"", modules[1:], modules + b"\0", b"\2" + modules[1:], b"\1" * 22 ** 2):
+        for wrong in (b"\0", b"", modules[1:], modules + b"\0", b"\2" + modules[1:],
+                      b"\1" * 22 ** 2):
             with self.assertRaises(sicklespan.InvalidSymbolError):
                 sicklespan.Symbol(wrong, shape)
         with self.assertRaises(sicklespan.InvalidSymbolError):
@@ -85,7 +88,8 @@ class Arguments(unittest.TestCase):
         symbol, huge = sicklespan.make("hello"), float("1.7e308")
         for call in (lambda: symbol.svg(module_mm=huge), lambda: symbol.svg(module_mm=10 ** 400),
                      lambda: symbol.svg(module_mm=LONG), lambda: symbol.svg(module_mm=-LONG),
-                     lambda: symbol.svg(module_mm=float("nan")), lambda: symbol.svg(module_mm=10.01),
+                     lambda: symbol.svg(module_mm=float("nan")),
+                     lambda: symbol.svg(module_mm=10.01),
                      lambda: symbol.svg(module_mm=0.04), lambda: symbol.svg(scale=LONG),
                      lambda: symbol.svg(border=-LONG), lambda: symbol.png(dpi=LONG),
                      lambda: symbol.symbol_size(scale=LONG),

@@ -1,6 +1,6 @@
 -- What the values of the options ask for: help, the version, or a label.
 use Rattle.std.specs.Prelude.{ℕ, ◌*◌, ◌/◌, nat_le, ℤ, pos, nat_abs, Bool, true, false, ◌&&◌, ◌||◌, not}
-use Rattle.std.specs.Prelude.{if◌then◌else◌, codes, Result, Ok, Err}
+use Rattle.std.specs.Prelude.{◌+◌, if◌then◌else◌, codes, Result, Ok, Err}
 use Rattle.std.specs.Prelude.{List, Option, None, Some, option_and_then, unwrap_or, is_some}
 use Rattle.qrcode_core.specs.declared.options.SymbolOptions.{SymbolOptions}
 use Rattle.qrcode_core.specs.declared.types.EcLevel.{EcLevel, TheVariants.M, TheVariants.H}

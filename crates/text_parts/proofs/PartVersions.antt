@@ -47,6 +47,14 @@ pub long_part : (text : List ℕ) (level : EcLevel) (limit : ℕ) → 7089 < len
 long_part text level limit long n few parts w =
     long_unfit n level text long parts (record { written = w.written; limit = w.limit; has_level = w.has_level; within = omega (arith, w.within) })
 
+-- A text that has a choice has at most 7089 characters.
+pub short_part : (text : List ℕ) (level : EcLevel) (limit number : ℕ) (parts : List Part) → IsPartChoice text level limit number parts →
+    length text ≤ 7089
+short_part text level limit number parts choice = elim (cases_lt 7089 (length text)) [
+  | inl long ↦ absurd (long_part text level limit long number choice.up_to parts choice.fits)
+  | inr short ↦ omega (arith, short)
+]
+
 -- ---- Sums that stop at the greatest number
 
 module _ (bits sum : ℕ) (level : EcLevel) (first end : ℕ) (is : sum ≡ min (bits + 20) (2 ^ 64 - 1)) where

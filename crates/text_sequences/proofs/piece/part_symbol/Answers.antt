@@ -1,10 +1,12 @@
 -- The symbol of the choice is the smallest.
 use Rattle.std.proofs.Common.{◌≤◌, arith, chars, subst, sym}
-use Rattle.std.proofs.lemmas.Result.{IfOk-weaker}
+use Rattle.std.proofs.lemmas.Result.{IfErr-weaker, IfOk-weaker}
+use Rattle.qrcode_base.specs.declared.types.errors.QrError.{QrError}
 use Rattle.qrcode_base.specs.declared.types.Version.{Version}
 use Rattle.qrcode_bits.proofs.Classes.{normal_is}
 use Rattle.text_plans.specs.Plan.{plan_parts}
-use Rattle.text_parts.specs.TextParts.{PartsFitAfterHeader}
+use Rattle.text_parts.specs.TextParts.{HasNoPartChoice, PartsFitAfterHeader}
+use Rattle.text_parts.proofs.PartVersions.{short_part}
 use Rattle.text_sequences.specs.TextPieces.{HoldsPiece}
 use Rattle.text_sequences.proofs.TextPieces.{smallest_piece}
 use Rattle.text_sequences.proofs.piece.part_symbol.Goals as goal
@@ -37,3 +39,11 @@ returns-clause-reading c =
     c.requires.header symbol (subst (λ (v : Version). HoldsPiece c.args.header.now (plan_parts c.in_ok-choice.choice.plan) v c.args.level symbol)
     (normal_is c.in_ok-choice.choice.number few) held)).1)
     c.drawn_piece.ensures.holds
+
+pub returns-clause-refusal : goal.returns-clause-refusal
+returns-clause-refusal c =
+    let text = chars c.args.part.now in
+    let short = short_part text c.args.level c.args.limit c.in_ok-choice.choice.number _ c.in_ok-choice.ensures.chosen in
+    IfErr-weaker c.drawn_piece.result _ _
+    (λ error memory. subst (λ (e : QrError). HasNoPartChoice text c.args.level c.args.limit e) (sym memory) short)
+    c.drawn_piece.ensures.memory
